@@ -1,25 +1,13 @@
 -- What an acknowledgement makes of a subflow: of its records, its windows and its state.
-use Rattle.std.proofs.Common.{◌≡◌, refl, sym, subst, ap, ◌∙◌, ℕ, ◌+◌, ◌-◌, ◌<◌, ◌≤◌, nat_lt, nat_le, Bool, true, false, not, if◌then◌else◌, List, [], ◌∷◌, ◌++◌, All, map, arith}
-use Rattle.std.proofs.lemmas.Bool.{le-ltb, lt-ltb, le-leb, eq-eqb}
-use Rattle.std.proofs.lemmas.List.{append-nil}
-use Rattle.std.proofs.lemmas.List.Elements.{All-tail}
-use Rattle.loss_recovery.specs.declared.windows.Congestion.{Congestion}
-use Rattle.loss_recovery.specs.Windows.{acknowledged, is_growth_linked}
-use Rattle.subflow_send.specs.declared.record.AckKind.{AckKind}
-use Rattle.subflow_send.specs.declared.record.AckKind.TheVariants.{New, Duplicate}
-use Rattle.subflow_send.specs.Records.{Record, SendState, Tile, end_of, span_of}
-use Rattle.subflow_send.specs.Rules.{is_unsent, uncovered, newly_acknowledged, ack_kind, after_acknowledge, sample_of}
+use Rattle.clean_finish.proofs.Words.{◌≡◌, refl, sym, subst, ap, ◌∙◌, ℕ, ◌+◌, ◌-◌, ◌<◌, ◌≤◌, nat_lt, Bool, true, false, not, if◌then◌else◌, List, [], ◌∷◌, ◌++◌}
+use Rattle.clean_finish.proofs.Words.{map, All, arith, nat_le, lt-ltb, le-ltb, le-leb, eq-eqb, append-nil, All-tail, AckKind, Duplicate, Record, SendState}
+use Rattle.clean_finish.proofs.Words.{Tile, span_of, is_unsent, uncovered, newly_acknowledged, ack_kind, after_acknowledge, sample_of, Congestion}
+use Rattle.clean_finish.proofs.Words.{is_growth_linked, State, EndState, after_fin_acked, after_new_ack, after_acknowledgement, after_ack_kind}
+use Rattle.clean_finish.proofs.Words.{acknowledged_grows, Setting, Sender, IsPiece, RecordsAre, IsOpen, Waits, WaitsSyn, WaitsNone, WaitsBytes}
+use Rattle.loss_recovery.specs.Windows.{acknowledged}
+use Rattle.subflow_send.specs.declared.record.AckKind.TheVariants.{New}
+use Rattle.subflow_send.specs.Records.{end_of}
 use Rattle.subflow_send.proofs.Covering.{Tile-uncovered}
-use Rattle.subflow_tcp.specs.declared.handshake.State.{State}
-use Rattle.subflow_tcp.specs.declared.handshake.State.TheVariants as states
-use Rattle.subflow_tcp.specs.State.{EndState}
-use Rattle.subflow_tcp.specs.States.{after_fin_acked}
-use Rattle.subflow_tcp.specs.Taking.{after_new_ack, after_ack_kind, after_acknowledgement}
-use Rattle.subflow_tcp.proofs.WindowGrowth.{acknowledged_grows}
-use Rattle.pace.specs.Lane.{Setting, Sender}
-use Rattle.clean_finish.specs.Machine.{IsPiece}
-use Rattle.clean_finish.specs.Shows.{IsOpen, RecordsAre, Waits}
-use Rattle.clean_finish.specs.Shows.Waits.{WaitsSyn, WaitsNone, WaitsBytes}
 
 -- ---- the kind of it
 
@@ -146,13 +134,13 @@ window_on payload window octets rtt c room most calm = up room (acknowledged_gro
 pub open_acked : (finished acked : Bool) (state : State) → (acked ≡ true → finished ≡ true) → IsOpen finished state
     → IsOpen finished (if acked then after_fin_acked state else state)
 open_acked finished false state sent is = is
-open_acked finished true states.FinWait1 sent is = by (sent refl)
+open_acked finished true State.FinWait1 sent is = by (sent refl)
   where
-    by : finished ≡ true → IsOpen finished states.FinWait2
+    by : finished ≡ true → IsOpen finished State.FinWait2
     by e = record { finish = ap not (sym e); closed = refl; half = refl; opening = refl; connected = refl }
-open_acked finished true states.Closing sent is = by (sent refl)
+open_acked finished true State.Closing sent is = by (sent refl)
   where
-    by : finished ≡ true → IsOpen finished states.TimeWait
+    by : finished ≡ true → IsOpen finished State.TimeWait
     by e = record { finish = ap not (sym e); closed = refl; half = refl; opening = refl; connected = refl }
-open_acked finished true states.Waiting sent is = is
+open_acked finished true State.Waiting sent is = is
 open_acked finished true _ sent is = is

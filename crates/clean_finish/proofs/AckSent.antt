@@ -1,26 +1,8 @@
 -- An end acknowledges a copy that it took, with the DSS.
-use Rattle.std.proofs.Common.{◌≡◌, refl, sym, subst, ap, ℕ, ◌+◌, ◌-◌, ◌≤◌, min, max, Bool, true, false, inl, inr, ⊎_elim, Option, None, List, [], ◌∷◌, ◌++◌, le_refl, arith}
-use Rattle.std.proofs.lemmas.Bool.{both_ways}
-use Rattle.sides.specs.declared.side.Side.{Side}
-use Rattle.sides.specs.declared.side.Side.TheVariants.{A}
-use Rattle.sides.specs.Side.{peer}
-use Rattle.link_model.specs.declared.flight.Flight.{Flight}
-use Rattle.path_agenda.specs.declared.duty.Duty.{Duty}
-use Rattle.path_agenda.specs.declared.duty.Duty.TheVariants as duties
-use Rattle.path_agenda.specs.declared.duty.SendDuty.TheVariants as send_duties
-use Rattle.path_agenda.specs.declared.duty.StepDuty.TheVariants as step_duties
-use Rattle.path_core.specs.Profile.{Profile}
-use Rattle.path_core.specs.Values.{Carried}
-use Rattle.actor_desk.specs.Words.{pick}
-use Rattle.pace.specs.Lane.{Setting, Lane, Stage, all_left}
-use Rattle.pace.specs.Going.{Going}
-use Rattle.pace.specs.Moves.{MaySay, MaySend}
-use Rattle.pace.specs.Moves.Move.{sends_none}
-use Rattle.clean_finish.specs.Segments.{Sent, Keys, copy_in, FliesAs}
-use Rattle.clean_finish.specs.Segments.Brings.{Acknowledges}
-use Rattle.clean_finish.specs.Shows.{Hand, brings_still, HeardIs, WayIs, last_told, row_seen}
-use Rattle.clean_finish.specs.Shows.IsToldEdge.{Same}
-use Rattle.clean_finish.specs.Running.{Has, Half, Facing, IsSetting, StageIs}
+use Rattle.clean_finish.proofs.Words.{◌≡◌, refl, sym, subst, ap, ℕ, ◌+◌, ◌-◌, ◌≤◌, min, max, Bool, true, false, inl, inr, ⊎_elim, Option, None, List, [], ◌∷◌}
+use Rattle.clean_finish.proofs.Words.{◌++◌, arith, le_refl, both_ways, Side, A, peer, Flight, Duty, SendDuty, StepDuty, pick, Profile, Carried, Setting, Lane}
+use Rattle.clean_finish.proofs.Words.{Stage, all_left, Going, MaySay, MaySend, sends_none, Hand, HeardIs, WayIs, last_told, row_seen, brings_still, Sent, Keys}
+use Rattle.clean_finish.proofs.Words.{copy_in, FliesAs, Acknowledges, Same, IsSetting, Facing, Half, Has, StageIs}
 use Rattle.clean_finish.proofs.Dropping.{differ, behind, behind_or, IsApart, stage_drops, settles_drop, begun_drops}
 use Rattle.clean_finish.proofs.Hands.{in_hand, way_done}
 use Rattle.clean_finish.proofs.Opened.{waiting_on}
@@ -32,15 +14,15 @@ use Rattle.clean_finish.proofs.ThirdSent.{paid_by}
 
 -- the side of an acknowledgement
 abbrev acks_for : Duty → Side
-acks_for (duties.Send (send_duties.Acknowledge q)) = q
+acks_for (Duty.Send (SendDuty.Acknowledge q)) = q
 acks_for _ = A
 
-pub same_acknowledge : {p q : Side} → duties.Send (send_duties.Acknowledge p) ≡ duties.Send (send_duties.Acknowledge q) → p ≡ q
+pub same_acknowledge : {p q : Side} → Duty.Send (SendDuty.Acknowledge p) ≡ Duty.Send (SendDuty.Acknowledge q) → p ≡ q
 same_acknowledge e = ap acks_for e
 
 -- the answer isn't owed any more
-pub acknowledged_drops : {ds : List Duty} {asked owes later : Bool} (s r : Side) {p : Stage} → StageIs s r (duties.Send (send_duties.Acknowledge r) ∷ ds) asked owes p
-    → Has (duties.Step step_duties.Events) ds → StageIs s r ds asked later (record (waiting_on p) { tell = false; update = false })
+pub acknowledged_drops : {ds : List Duty} {asked owes later : Bool} (s r : Side) {p : Stage} → StageIs s r (Duty.Send (SendDuty.Acknowledge r) ∷ ds) asked owes p
+    → Has (Duty.Step StepDuty.Events) ds → StageIs s r ds asked later (record (waiting_on p) { tell = false; update = false })
 acknowledged_drops {ds} s r is events = record {
   window = behind_or ds (differ refl) is.window;
   update = inl refl;
@@ -54,7 +36,7 @@ acknowledged_drops {ds} s r is events = record {
 module _ {s : Side} {keys : Keys} {k j : Setting} {c : Profile} {begun begun_back : Lane} {m n : Half} {clock until : ℕ} (ticks t u : ℕ)
     (k_is : IsSetting c ticks k) (j_is : IsSetting c ticks j)
     (going : Going k begun t all_left begun) (going_back : Going j begun_back u all_left begun_back)
-    {ds : List Duty} (h : Facing s keys k j c begun begun_back m n clock until (duties.Send (send_duties.Acknowledge s) ∷ ds))
+    {ds : List Duty} (h : Facing s keys k j c begun begun_back m n clock until (Duty.Send (SendDuty.Acknowledge s) ∷ ds))
   where
     abbrev pub ack : Sent
     ack = record {
@@ -148,7 +130,7 @@ module _ {s : Side} {keys : Keys} {k j : Setting} {c : Profile} {begun begun_bac
             up : {a b d : ℕ} → 1 ≤ a → min 1 a ≤ b → b ≤ d → 1 ≤ d
             up p q r = omega (arith, p, q, r)
 
-        pub others : IsApart s (peer s) (duties.Send (send_duties.Acknowledge s))
+        pub others : IsApart s (peer s) (Duty.Send (SendDuty.Acknowledge s))
         others = record {
           window = differ refl;
           update = differ refl;
@@ -160,7 +142,7 @@ module _ {s : Side} {keys : Keys} {k j : Setting} {c : Profile} {begun begun_bac
           ask = differ refl;
         }
 
-        module _ (events : Has (duties.Step step_duties.Events) ds) (fs gs : List (Flight Carried)) (f : Flight Carried) (flies : FliesAs c keys s f ack)
+        module _ (events : Has (Duty.Step StepDuty.Events) ds) (fs gs : List (Flight Carried)) (f : Flight Carried) (flies : FliesAs c keys s f ack)
             (more : fs ≡ m.flying ++ f ∷ []) (same_back : gs ≡ n.flying)
           where
             abbrev pub ack_sent : Facing s keys k j c begun begun_back (record m { end = end_after h ack h.out.shut; flying = fs })
@@ -177,10 +159,10 @@ module _ {s : Side} {keys : Keys} {k j : Setting} {c : Profile} {begun begun_bac
                 (sent_some ticks t u k_is j_is going going_back h still una answered, refl, refl)
                 (le_refl m.end.tcp.recv.edge) (le_refl m.end.tcp.recv.edge) (sym (same h.out.control_sent)) (sym (same h.out.keys_sent)) done
                 (room (lane ticks t u k_is j_is going going_back h).numbers.granted) (same_bytes h.out.granted nothing_waits) events
-                (stage_drops s (peer s) (duties.Send (send_duties.Acknowledge s)) ds n.end.treated.asked h.owes_back h.stage others h.stages)
+                (stage_drops s (peer s) (Duty.Send (SendDuty.Acknowledge s)) ds n.end.treated.asked h.owes_back h.stage others h.stages)
                 (acknowledged_drops (peer s) s h.stages_back events)
-                (settles_drop s (duties.Send (send_duties.Acknowledge s)) ds (end_after h ack h.out.shut) (differ refl) h.settles)
-                (settles_drop (peer s) (duties.Send (send_duties.Acknowledge s)) ds n.end (differ refl) h.settles_back)
+                (settles_drop s (Duty.Send (SendDuty.Acknowledge s)) ds (end_after h ack h.out.shut) (differ refl) h.settles)
+                (settles_drop (peer s) (Duty.Send (SendDuty.Acknowledge s)) ds n.end (differ refl) h.settles_back)
                 (subst (λ (x : ℕ). 1 ≤ x) (sym (same h.out.control_sent)) (sent_some ticks t u k_is j_is going going_back h still una answered))
-                (begun_drops (peer s) k h.back.sender h.out.receiver n.end (duties.Send (send_duties.Acknowledge s)) ds (differ refl) (λ is. differ refl) h.begins_back)
+                (begun_drops (peer s) k h.back.sender h.out.receiver n.end (Duty.Send (SendDuty.Acknowledge s)) ds (differ refl) (λ is. differ refl) h.begins_back)
                 (λ e b. absurd (both_ways false refl e))

@@ -1,25 +1,12 @@
 -- The Data ACK of a copy is told to the send book: its lane hears what is acknowledged, and of a copy that only acknowledges
 -- nothing is left to be taken.
-use Rattle.std.proofs.Common.{◌≡◌, refl, sym, subst, ap, ◌∙◌, ℕ, ◌+◌, ◌<◌, ◌≤◌, max, Bool, true, false, not, Option, List, ◌∷◌, ◌++◌, length, map, arith}
-use Rattle.std.proofs.lemmas.Bool.{both_ways}
-use Rattle.sides.specs.declared.side.Side.{Side}
-use Rattle.sides.specs.declared.side.Side.TheVariants.{A, B}
-use Rattle.sides.specs.Side.{peer}
-use Rattle.path_segments.specs.Laws.{window_told}
-use Rattle.send_book.specs.Steps.{is_future, fin_after, after_ack}
-use Rattle.path_agenda.specs.declared.duty.Duty.{Duty}
-use Rattle.path_core.specs.End.{PathEnd}
-use Rattle.path_core.specs.Profile.{Profile}
-use Rattle.path_core.specs.DataFin.{after_acked}
-use Rattle.path_core.specs.DssIn.{covered_by}
-use Rattle.pace.specs.Lane.{Setting, Telling, Lane, all_left}
-use Rattle.pace.specs.Rules.{hears_ack}
-use Rattle.pace.specs.Going.{Going}
-use Rattle.clean_finish.specs.Segments.{Sent, Keys, Brings, is_news, is_opening, shows_keys, octets_of, copy_in, dss_from, AcknowledgesAs, Follow, TellsAs}
-use Rattle.clean_finish.specs.Segments.Brings.{OpensSubflow, ShowsKeys, FirstPiece, Piece, Acknowledges, EndsStream, EndsSubflow}
-use Rattle.clean_finish.specs.Shows.{Hand, brings_in}
-use Rattle.clean_finish.specs.Running.{Bench, Half, Facing, IsBetween, IsSetting, MapsAs, TreatsCopy, kept_in, own_bench, other_bench}
-use Rattle.clean_finish.specs.Running.Treatment.{AfterOne, AfterTwo}
+use Rattle.clean_finish.proofs.Words.{◌≡◌, refl, sym, subst, ap, ◌∙◌, ℕ, ◌+◌, ◌<◌, ◌≤◌, max, Bool, true, false, not, Option, List, ◌∷◌, ◌++◌, length, map}
+use Rattle.clean_finish.proofs.Words.{arith, both_ways, Side, A, B, peer, fin_after, after_ack, is_future, window_told, Duty, Profile, PathEnd, after_acked}
+use Rattle.clean_finish.proofs.Words.{covered_by, Setting, Telling, Lane, all_left, Going, hears_ack, Hand, brings_in, Sent, Keys, Brings, shows_keys, copy_in}
+use Rattle.clean_finish.proofs.Words.{octets_of, TellsAs, AcknowledgesAs, Follow, dss_from, is_news, OpensSubflow, ShowsKeys, FirstPiece, Piece, Acknowledges}
+use Rattle.clean_finish.proofs.Words.{EndsStream, EndsSubflow, MapsAs, TreatsCopy, kept_in, own_bench, other_bench, IsSetting, Facing, Half, Bench, IsBetween}
+use Rattle.clean_finish.proofs.Words.{AfterOne, AfterTwo}
+use Rattle.clean_finish.specs.Segments.{is_opening}
 use Rattle.clean_finish.proofs.DataAcked.{data_acked, now}
 use Rattle.clean_finish.proofs.Dropping.{is_waited}
 use Rattle.clean_finish.proofs.EndPassing.{sent_some}
@@ -41,10 +28,7 @@ tells_edge : (least : ℕ) (s : Side) (window : ℕ) (t : Telling) (b : Brings) 
 tells_edge least s window t OpensSubflow e f is = absurd (both_ways _ e refl)
 tells_edge least s window t ShowsKeys e f is = absurd (both_ways _ f refl)
 tells_edge least s window t (FirstPiece octets) e f is = absurd (both_ways _ f refl)
-tells_edge least s window t (Piece octets) e f is = (is.0, few (one_dss s) is.2)
-tells_edge least s window t Acknowledges e f is = (is.0, few (one_dss s) is.2)
-tells_edge least s window t (EndsStream place) e f is = (is.0, few (one_dss s) is.2)
-tells_edge least s window t EndsSubflow e f is = (is.0, few (one_dss s) is.2)
+tells_edge least s window t _ e f is = (is.0, few (one_dss s) is.2)
 
 more : {x y : ℕ} (z : ℕ) → x ≤ y → x ≤ max y z
 more z less = omega (arith, less)

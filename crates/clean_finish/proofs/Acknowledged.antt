@@ -1,25 +1,11 @@
 -- What a segment in hand acknowledges is told to the send book, and heard by the lane.
-use Rattle.std.proofs.Common.{◌≡◌, refl, sym, subst, ap, ◌∙◌, ℕ, ◌+◌, ◌<◌, ◌≤◌, min, max, nat_lt, ◌||◌, Bool, true, false, if◌then◌else◌, ◌⊎◌, inl, inr, ⊎_elim, Option, None, List, ◌∷◌, ◌++◌, length, map, drop, replicate, arith}
-use Rattle.std.proofs.lemmas.Bool.{both_ways, cases_lt, le-ltb, ltb-false}
-use Rattle.sides.specs.declared.side.Side.{Side}
-use Rattle.sides.specs.Side.{peer}
-use Rattle.send_book.specs.State.{Sending as SendBook}
-use Rattle.send_book.specs.declared.mark.ByteMark.TheVariants.{Acked}
-use Rattle.send_book.specs.Steps.{is_future, fin_after, after_ack}
-use Rattle.path_agenda.specs.declared.duty.Duty.{Duty}
-use Rattle.path_core.specs.declared.modes.Modes.{Modes}
+use Rattle.clean_finish.proofs.Words.{◌≡◌, refl, sym, subst, ap, ◌∙◌, ℕ, ◌+◌, ◌<◌, ◌≤◌, min, max, nat_lt, Bool, true, false, ◌||◌, if◌then◌else◌, ◌⊎◌, inl, inr}
+use Rattle.clean_finish.proofs.Words.{⊎_elim, Option, None, List, ◌∷◌, ◌++◌, length, map, arith, drop, replicate, both_ways, cases_lt, le-ltb, ltb-false, Side}
+use Rattle.clean_finish.proofs.Words.{peer, fin_after, after_ack, is_future, SendBook, Acked, Duty, Profile, PathEnd, Modes, Treated, Setting, Copy, Lane}
+use Rattle.clean_finish.proofs.Words.{Sender, MayHearAck, is_acknowledged, goes_back, hears_ack, AreTaken, Hand, EndIs, WayIs, brings_still, brings_in}
+use Rattle.clean_finish.proofs.Words.{tells_in, BookIs, Sent, Keys, copy_in, Follow, low_after, control_after, keys_after, Facing, Half, StageIs, HasNotBegun}
+use Rattle.clean_finish.proofs.Words.{WriterIs}
 use Rattle.path_core.specs.Sending.{Sending}
-use Rattle.path_core.specs.Treated.{Treated}
-use Rattle.path_core.specs.End.{PathEnd}
-use Rattle.path_core.specs.Profile.{Profile}
-use Rattle.pace.specs.Lane.{Setting, Copy, Lane, Sender}
-use Rattle.pace.specs.Rules.{hears_ack}
-use Rattle.pace.specs.Moves.{MayHearAck}
-use Rattle.pace.specs.Moves.Move.{goes_back, is_acknowledged}
-use Rattle.clean_finish.specs.Segments.{Sent, Keys, copy_in, Follow, low_after, control_after, keys_after}
-use Rattle.clean_finish.specs.Shows.{AreTaken, Hand, brings_still, brings_in, tells_in, EndIs, BookIs, WayIs}
-use Rattle.clean_finish.specs.Writing.{WriterIs}
-use Rattle.clean_finish.specs.Running.{StageIs, HasNotBegun, Half, Facing}
 use Rattle.clean_finish.proofs.Books.{hears_as_lanes}
 use Rattle.clean_finish.proofs.Dropping.{is_waited, apart, behind, is_apart, stage_drops, settles_drop}
 use Rattle.clean_finish.proofs.Hands.{in_hand}
@@ -202,41 +188,22 @@ module _ {s : Side} {keys : Keys} {k j : Setting} {c : Profile} {begun begun_bac
           };
           way_back = way_back_after;
           apps = record {
-            writes = record {
-              numbers = writes_after;
-              over = h.apps.writes.over;
-            };
-            reads = record {
-              numbers = h.apps.reads.numbers;
-              received = h.apps.reads.received;
-              over = h.apps.reads.over;
-            };
+            writes = record { numbers = writes_after; over = h.apps.writes.over };
+            reads = record { numbers = h.apps.reads.numbers; received = h.apps.reads.received; over = h.apps.reads.over };
             receives = record {
               read = h.apps.receives.read;
               received = h.apps.receives.received;
               known = h.apps.receives.known;
               capacity = h.apps.receives.capacity;
             };
-            book = record {
-              edge = book_after.edge;
-              owner = book_after.owner;
-              marks = book_after.marks;
-              taken = book_after.taken;
-            };
+            book = record { edge = book_after.edge; owner = book_after.owner; marks = book_after.marks; taken = book_after.taken };
             room = h.apps.room;
             whole = h.apps.whole;
             fin = fin_heard;
           };
           apps_back = record {
-            writes = record {
-              numbers = h.apps_back.writes.numbers;
-              over = h.apps_back.writes.over;
-            };
-            reads = record {
-              numbers = h.apps_back.reads.numbers;
-              received = h.apps_back.reads.received;
-              over = h.apps_back.reads.over;
-            };
+            writes = record { numbers = h.apps_back.writes.numbers; over = h.apps_back.writes.over };
+            reads = record { numbers = h.apps_back.reads.numbers; received = h.apps_back.reads.received; over = h.apps_back.reads.over };
             receives = record {
               read = h.apps_back.receives.read;
               received = h.apps_back.receives.received;

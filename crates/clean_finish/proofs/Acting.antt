@@ -1,23 +1,11 @@
 -- A step of an application in both of its lanes: the one that it writes to, and the one that it reads from.
-use Rattle.std.proofs.Common.{◌≡◌, refl, sym, subst, ap, ◌∙◌, ℕ, ◌≤◌, Bool, true, false, not, ◌&&◌, if◌then◌else◌, List, [], ◌∷◌, length, arith}
-use Rattle.std.proofs.lemmas.Bool.{both_ways}
-use Rattle.reassembly_book.specs.State.{Arriving, received}
-use Rattle.reassembly_book.specs.Steps.{read_reply, after_read}
+use Rattle.clean_finish.proofs.Words.{◌≡◌, refl, sym, subst, ap, ◌∙◌, ℕ, ◌≤◌, Bool, true, false, not, ◌&&◌, if◌then◌else◌, List, [], ◌∷◌, length, arith}
+use Rattle.clean_finish.proofs.Words.{both_ways, Arriving, received, after_read, read_reply, after_write, after_close, write_reply, close_reply, is_nil, Reply}
+use Rattle.clean_finish.proofs.Words.{AppDuty, Write, Close, Read, End, AppState, app_takes, offered, app_settled, app_wrote, app_done, app_read, app_reads_on}
+use Rattle.clean_finish.proofs.Words.{bytes_in, Setting, Lane, Stage, Going, IsAppTurn, is_writing, WriterShows, WriterGoes, is_reading, ReaderIs, ReaderShows}
+use Rattle.clean_finish.proofs.Words.{ReaderGoes, Written, Closed, ReadAll}
 use Rattle.send_book.specs.State.{Sending}
-use Rattle.send_book.specs.Steps.{write_reply, after_write, close_reply, after_close}
-use Rattle.actor_desk.specs.declared.ask.Reply.{Reply}
-use Rattle.actor_desk.specs.declared.ask.Reply.TheVariants as replies
-use Rattle.actor_desk.specs.Words.{is_nil}
-use Rattle.stream_apps.specs.declared.duty.AppDuty.{AppDuty}
-use Rattle.stream_apps.specs.declared.duty.AppDuty.TheVariants.{Write, Close, Read, End}
-use Rattle.stream_apps.specs.Apps.{AppState}
-use Rattle.stream_apps.specs.AppSteps.{offered, app_takes, app_wrote, app_done, app_read, app_reads_on, bytes_in, app_settled}
-use Rattle.pace.specs.Lane.{Setting, Lane, Stage}
-use Rattle.pace.specs.Going.{Going}
-use Rattle.clean_finish.specs.Reading.{is_reading, ReaderIs, ReaderShows, ReaderGoes}
-use Rattle.clean_finish.specs.Writing.{is_writing, WriterShows, WriterGoes}
-use Rattle.clean_finish.specs.Running.{IsAppTurn}
-use Rattle.clean_finish.specs.Running.IsAppTurn.{Written, Closed, ReadAll, Ended}
+use Rattle.clean_finish.specs.Running.IsAppTurn.{Ended}
 use Rattle.clean_finish.proofs.Reading.{read_step, follows}
 use Rattle.clean_finish.proofs.Writing.{write_step, close_step}
 
@@ -73,7 +61,7 @@ module _ (k : Setting) (s : Lane) (t : ℕ) (p : Stage) (w : Lane) (j : Setting)
 
     pub acts_by_write : (a : AppState) (send : Sending) (b : Arriving) → WriterShows k w a send → ReaderShows j x a b
         → a.agenda ≡ Write ∷ Close ∷ Read ∷ End ∷ [] → 1 ≤ length a.rest → k.total ≤ 16777216
-        → Acts (app_takes (replies.Send (write_reply (offered a) send)) a) (after_write (offered a) send) b
+        → Acts (app_takes (Reply.Send (write_reply (offered a) send)) a) (after_write (offered a) send) b
     acts_by_write a send b writes reads at some small = record {
       writes = write_step k s t p w a send going writes at some small;
       reads = subst (λ (ds : List AppDuty). ReaderGoes j v q x (app_takes r (record a { agenda = ds })) b) (sym at)
@@ -84,7 +72,7 @@ module _ (k : Setting) (s : Lane) (t : ℕ) (p : Stage) (w : Lane) (j : Setting)
     }
       where
         r : Reply
-        r = replies.Send (write_reply (offered a) send)
+        r = Reply.Send (write_reply (offered a) send)
 
         same_but : {rest : List ℕ} {ds : List AppDuty} → ReaderIs j x.read x.data_fin_came x.got x.told_end a b
             → ReaderIs j x.read x.data_fin_came x.got x.told_end (record a { rest = rest; agenda = ds }) b
@@ -120,7 +108,7 @@ module _ (k : Setting) (s : Lane) (t : ℕ) (p : Stage) (w : Lane) (j : Setting)
 
     pub acts_by_close : (a : AppState) (send : Sending) (b : Arriving) → WriterShows k w a send → ReaderShows j x a b
         → a.agenda ≡ Close ∷ Read ∷ End ∷ [] → a.rest ≡ []
-        → Acts (app_takes (replies.Send (close_reply send)) a) (after_close send) b
+        → Acts (app_takes (Reply.Send (close_reply send)) a) (after_close send) b
     acts_by_close a send b writes reads at none = record {
       writes = close_step k s t p w a send going writes at none;
       reads = subst (λ (ds : List AppDuty). ReaderGoes j v q x (app_takes r (record a { agenda = ds })) b) (sym at)
@@ -130,7 +118,7 @@ module _ (k : Setting) (s : Lane) (t : ℕ) (p : Stage) (w : Lane) (j : Setting)
     }
       where
         r : Reply
-        r = replies.Send (close_reply send)
+        r = Reply.Send (close_reply send)
 
         closing : AppState
         closing = record (app_done (record a { agenda = Close ∷ Read ∷ End ∷ [] })) { closed = true }
@@ -175,7 +163,7 @@ module _ (k : Setting) (s : Lane) (t : ℕ) (p : Stage) (w : Lane) (j : Setting)
 
     pub acts_by_read : (a : AppState) (send : Sending) (b : Arriving) → WriterShows k w a send → ReaderShows j x a b
         → a.agenda ≡ Read ∷ End ∷ [] → a.told ≡ false
-        → Acts (app_takes (replies.Reassembly (read_reply 65536 b)) a) send (after_read 65536 b)
+        → Acts (app_takes (Reply.Reassembly (read_reply 65536 b)) a) send (after_read 65536 b)
     acts_by_read a send b writes reads at untold = record {
       writes = subst (λ (ds : List AppDuty). WriterGoes k s p w (app_takes r (record a { agenda = ds })) send) (sym at)
           (writes_on (app_reads_on (bytes_in r) a) (after a).told);
@@ -185,7 +173,7 @@ module _ (k : Setting) (s : Lane) (t : ℕ) (p : Stage) (w : Lane) (j : Setting)
     }
       where
         r : Reply
-        r = replies.Reassembly (read_reply 65536 b)
+        r = Reply.Reassembly (read_reply 65536 b)
 
         after : AppState → AppState
         after a' = app_read r a'
@@ -209,11 +197,11 @@ module _ (k : Setting) (s : Lane) (t : ℕ) (p : Stage) (w : Lane) (j : Setting)
         turn_is false told = ReadAll
 
     pub acts_by_end : (a : AppState) (send : Sending) (b : Arriving) → WriterShows k w a send → ReaderShows j x a b
-        → a.agenda ≡ End ∷ [] → Acts (app_takes replies.Done a) send b
+        → a.agenda ≡ End ∷ [] → Acts (app_takes Reply.Done a) send b
     acts_by_end a send b writes reads at = record {
-      writes = subst (λ (ds : List AppDuty). WriterGoes k s p w (app_takes replies.Done (record a { agenda = ds })) send) (sym at)
+      writes = subst (λ (ds : List AppDuty). WriterGoes k s p w (app_takes Reply.Done (record a { agenda = ds })) send) (sym at)
           (writes_no_more a send writes (ap is_writing at) a.count a.told [] refl);
-      reads = subst (λ (ds : List AppDuty). ReaderGoes j v q x (app_takes replies.Done (record a { agenda = ds })) b) (sym at) (record {
+      reads = subst (λ (ds : List AppDuty). ReaderGoes j v q x (app_takes Reply.Done (record a { agenda = ds })) b) (sym at) (record {
         reader = x.reader;
         count = 0;
         moves = (refl, refl);
@@ -223,5 +211,5 @@ module _ (k : Setting) (s : Lane) (t : ℕ) (p : Stage) (w : Lane) (j : Setting)
           over = reads.over ∙ ap (λ (es : List AppDuty). not (is_reading es)) at;
         };
       });
-      turn = subst (λ (ds : List AppDuty). IsAppTurn (app_takes replies.Done (record a { agenda = ds })).agenda) (sym at) Ended;
+      turn = subst (λ (ds : List AppDuty). IsAppTurn (app_takes Reply.Done (record a { agenda = ds })).agenda) (sym at) Ended;
     }

@@ -1,33 +1,15 @@
 -- The SYN/ACK arrives at A: the world from A's side, from the arrival to the first duty of its treatment.
-use Rattle.std.proofs.Common.{◌≡◌, refl, sym, subst, ap, ◌∙◌, ℕ, ◌+◌, ◌<◌, ◌≤◌, max, true, false, ◌⊎◌, inl, inr, ⊎_elim, Option, None, List, [], ◌∷◌, map, le_refl, arith}
-use Rattle.std.proofs.lemmas.Bool.{both_ways}
-use Rattle.sides.specs.declared.side.Side.TheVariants.{A, B}
-use Rattle.dss_mapping.specs.declared.kept.KeptMapping.{KeptMapping}
-use Rattle.link_model.specs.declared.flight.Flight.{Flight}
-use Rattle.subflow_tcp.specs.declared.segments.Outgoing.{Outgoing}
-use Rattle.path_agenda.specs.declared.duty.Duty.TheVariants as duties
-use Rattle.path_agenda.specs.declared.duty.AskDuty.TheVariants as ask_duties
-use Rattle.path_agenda.specs.declared.duty.SendDuty.TheVariants as send_duties
-use Rattle.path_agenda.specs.declared.duty.StepDuty.TheVariants as step_duties
-use Rattle.path_agenda.specs.Agenda.{syn_ack_came}
-use Rattle.path_core.specs.End.{PathEnd}
-use Rattle.path_core.specs.Profile.{Profile}
-use Rattle.path_core.specs.Values.{Carried}
-use Rattle.pace.specs.Lane.{Setting, Copy, Lane}
-use Rattle.pace.specs.Rules.{hears_data, rested}
-use Rattle.pace.specs.Moves.{MayHearData, IsBefore}
-use Rattle.pace.specs.Moves.Move.{goes_back, rests, hears}
-use Rattle.clean_finish.specs.Reading.{ReaderIs, end_known}
-use Rattle.clean_finish.specs.Segments.{Sent, Keys, copy_in}
-use Rattle.clean_finish.specs.Shows.{AreTaken, Hand, WayIs}
-use Rattle.clean_finish.specs.Running.{Has, StageIs, HasNotBegun, Half, Facing}
+use Rattle.clean_finish.proofs.Words.{◌≡◌, refl, sym, subst, ap, ◌∙◌, ℕ, ◌+◌, ◌<◌, ◌≤◌, max, true, false, ◌⊎◌, inl, inr, ⊎_elim, Option, None, List, [], ◌∷◌}
+use Rattle.clean_finish.proofs.Words.{map, arith, le_refl, both_ways, A, B, KeptMapping, Outgoing, Flight, Duty, SendDuty, StepDuty, AskDuty, syn_ack_came}
+use Rattle.clean_finish.proofs.Words.{Profile, Carried, PathEnd, Setting, Copy, Lane, IsBefore, MayHearData, hears, goes_back, rests, hears_data, rested}
+use Rattle.clean_finish.proofs.Words.{AreTaken, Hand, WayIs, Sent, Keys, copy_in, Facing, Half, Has, StageIs, HasNotBegun, end_known, ReaderIs}
 use Rattle.clean_finish.proofs.AnswerHeard.{answer_at, heard_own, end_after as heard_end}
 use Rattle.clean_finish.proofs.Hands.{in_hand, way_arrives, way_brought}
 use Rattle.clean_finish.proofs.Passing.{stands_then}
 use Rattle.clean_finish.proofs.SynArrived.{last, not_last, done, all_settled}
 
 module _ {keys : Keys} {k j : Setting} {c : Profile} {begun begun_back : Lane} {m n : Half} {clock until : ℕ}
-    (h : Facing A keys k j c begun begun_back m n clock until ((duties.Step step_duties.Events) ∷ duties.End ∷ []))
+    (h : Facing A keys k j c begun begun_back m n clock until ((Duty.Step StepDuty.Events) ∷ Duty.End ∷ []))
     (none_came : h.back.control_came ≡ 0) (none_keys : h.back.keys_came ≡ 0)
     (low : m.end.tcp.send.una ≡ 0) (sent_one : h.out.control_sent ≡ 1) (nothing_waits : h.waiting ≡ 0)
     (tick window edge : ℕ) (some : 1 ≤ edge) (one_edge : edge ≤ 1) (most_edge : edge ≤ m.end.tcp.send.nxt)
@@ -88,7 +70,7 @@ module _ {keys : Keys} {k j : Setting} {c : Profile} {begun begun_back : Lane} {
       asked = λ e. (⊎_elim (λ is. is) (λ there. absurd (never there)) h.stages_back.ask, no_more h.back.received, omega arith);
     }
       where
-        never : Has (duties.Ask (ask_duties.Window A)) last ⊎ (Has (duties.Ask (ask_duties.AckOut A)) last × (m.end.treated.asked ≡ true)) → ⊥
+        never : Has (Duty.Ask (AskDuty.Window A)) last ⊎ (Has (Duty.Ask (AskDuty.AckOut A)) last × (m.end.treated.asked ≡ true)) → ⊥
         never (inl there) = not_last refl refl there
         never (inr there) = not_last refl refl there.0
 
@@ -116,11 +98,11 @@ module _ {keys : Keys} {k j : Setting} {c : Profile} {begun begun_back : Lane} {
       ask = inl (⊎_elim (λ is. is) (λ there. absurd (never_asks there)) h.stages.ask);
     }
       where
-        never_tells : Has (duties.Send (send_duties.SynAck B)) last ⊎ (Has (duties.Send (send_duties.Acknowledge B)) last × (h.owes_back ≡ true)) → ⊥
+        never_tells : Has (Duty.Send (SendDuty.SynAck B)) last ⊎ (Has (Duty.Send (SendDuty.Acknowledge B)) last × (h.owes_back ≡ true)) → ⊥
         never_tells (inl there) = not_last refl refl there
         never_tells (inr there) = not_last refl refl there.0
 
-        never_asks : Has (duties.Ask (ask_duties.Window B)) last ⊎ (Has (duties.Ask (ask_duties.AckOut B)) last × (n.end.treated.asked ≡ true)) → ⊥
+        never_asks : Has (Duty.Ask (AskDuty.Window B)) last ⊎ (Has (Duty.Ask (AskDuty.AckOut B)) last × (n.end.treated.asked ≡ true)) → ⊥
         never_asks (inl there) = not_last refl refl there
         never_asks (inr there) = not_last refl refl there.0
 
@@ -193,15 +175,8 @@ module _ {keys : Keys} {k j : Setting} {c : Profile} {begun begun_back : Lane} {
       };
       way_back = way_after;
       apps = record {
-        writes = record {
-          numbers = h.apps.writes.numbers;
-          over = h.apps.writes.over;
-        };
-        reads = record {
-          numbers = h.apps.reads.numbers;
-          received = h.apps.reads.received;
-          over = h.apps.reads.over;
-        };
+        writes = record { numbers = h.apps.writes.numbers; over = h.apps.writes.over };
+        reads = record { numbers = h.apps.reads.numbers; received = h.apps.reads.received; over = h.apps.reads.over };
         receives = record {
           read = h.apps.receives.read;
           received = h.apps.receives.received;
@@ -219,10 +194,7 @@ module _ {keys : Keys} {k j : Setting} {c : Profile} {begun begun_back : Lane} {
         fin = h.apps.fin;
       };
       apps_back = record {
-        writes = record {
-          numbers = h.apps_back.writes.numbers;
-          over = h.apps_back.writes.over;
-        };
+        writes = record { numbers = h.apps_back.writes.numbers; over = h.apps_back.writes.over };
         reads = record {
           numbers = came_same h.apps_back.reads.numbers;
           received = plus_none h.back.received ∙ h.apps_back.reads.received;

@@ -1,38 +1,10 @@
 -- The step in which the SYN/ACK arrives at A.
-use Rattle.std.proofs.Common.{◌≡◌, refl, sym, subst, ap, ◌∙◌, ℕ, ◌+◌, ◌-◌, ◌^◌, ◌<◌, ◌≤◌, max, nat_lt, nat_le, Bool, true, false, inl, ⊎_elim, Option, Some, None, List, [], ◌∷◌, ◌++◌, map, arith}
-use Rattle.std.proofs.lemmas.Bool.{cases_lt, lt-ltb, le-leb}
-use Rattle.sides.specs.declared.side.Side.TheVariants.{A, B}
-use Rattle.link_model.specs.declared.flight.Flight.{Flight}
-use Rattle.link_model.specs.Laws.{going_to}
-use Rattle.link_model.specs.Steps.{due_of}
-use Rattle.path_segments.specs.Laws.{meant}
-use Rattle.path_segments.specs.Heard.{HeardSegment}
-use Rattle.subflow_tcp.specs.declared.handshake.State.{State}
-use Rattle.subflow_tcp.specs.declared.handshake.State.TheVariants.{SynSent}
-use Rattle.subflow_tcp.specs.declared.verdicts.Meaning.TheVariants as means
-use Rattle.subflow_tcp.specs.Judging.{meaning_of}
-use Rattle.subflow_tcp.specs.Segments.{Copy as SubflowCopy}
-use Rattle.subflow_tcp.specs.State.{EndState}
-use Rattle.actor_desk.specs.Desk.{SixBooks}
-use Rattle.stream_apps.specs.Apps.{AppState}
-use Rattle.path_agenda.specs.declared.duty.Duty.TheVariants as duties
-use Rattle.path_agenda.specs.declared.duty.StepDuty.TheVariants as step_duties
-use Rattle.path_agenda.specs.Agenda.{syn_ack_came}
-use Rattle.path_core.specs.Arrival.{copy_of, reset_for, copy_taken}
-use Rattle.path_core.specs.DssIn.{held_of}
-use Rattle.path_core.specs.End.{PathEnd}
-use Rattle.path_core.specs.Standing.{is_connected}
-use Rattle.path_core.specs.State.{PathState, goes_on}
-use Rattle.path_core.specs.Values.{Carried, values}
-use Rattle.world_laws.specs.Openings.{PathPlan, Start}
-use Rattle.pace.specs.Lane.{Setting, Copy, Lane, all_left}
-use Rattle.pace.specs.Lists.{In}
-use Rattle.pace.specs.Going.{Going}
-use Rattle.clean_finish.specs.Segments.{Sent, Keys, Brings, copy_in, said, CountsAs, TellsAs, Rise, edge_after}
-use Rattle.clean_finish.specs.Segments.Brings.{OpensSubflow}
-use Rattle.clean_finish.specs.Shows.{Hand, IsPhase, WayIs, tells_in}
-use Rattle.clean_finish.specs.Shows.IsPhase.{Opening, Listening, HalfOpen, Open}
-use Rattle.clean_finish.specs.Running.{Facing, half, IsSetting, Runs, keys_in}
+use Rattle.clean_finish.proofs.Words.{◌≡◌, refl, sym, subst, ap, ◌∙◌, ℕ, ◌+◌, ◌-◌, ◌<◌, ◌≤◌, max, nat_lt, Bool, true, false, inl, ⊎_elim, Option, None, List}
+use Rattle.clean_finish.proofs.Words.{[], ◌∷◌, ◌++◌, map, arith, Some, nat_le, ◌^◌, cases_lt, lt-ltb, le-leb, A, B, State, EndState, SynSent, Meaning}
+use Rattle.clean_finish.proofs.Words.{meaning_of, SubflowCopy, Flight, going_to, due_of, meant, HeardSegment, Duty, StepDuty, syn_ack_came, SixBooks, AppState}
+use Rattle.clean_finish.proofs.Words.{Carried, values, PathEnd, held_of, copy_of, reset_for, copy_taken, is_connected, PathState, goes_on, Setting, Copy, Lane}
+use Rattle.clean_finish.proofs.Words.{all_left, Going, In, PathPlan, Start, Hand, WayIs, IsPhase, tells_in, Sent, Keys, Brings, copy_in, CountsAs, TellsAs}
+use Rattle.clean_finish.proofs.Words.{Rise, edge_after, said, OpensSubflow, IsSetting, Runs, keys_in, Facing, half, Opening, Listening, HalfOpen, Open}
 use Rattle.clean_finish.proofs.AnswerArrived.{answer_arrived}
 use Rattle.clean_finish.proofs.AnswerHeard.{answer_at, acked, end_by, acked_is}
 use Rattle.clean_finish.proofs.ArrivesAtA.{copy, q, tick, moment, first, moved, link, Follows, follows, comes_as}
@@ -69,7 +41,7 @@ answer_shape x came keys_came least received brings low counts tells =
 -- an opening end accepts what acknowledges its SYN
 accepts : (c : SubflowCopy) (s : EndState) (acknowledged : ℕ) → s.state ≡ SynSent → nat_le (2 ^ 61) s.send.nxt ≡ false → nat_le (2 ^ 61) s.recv.edge ≡ false
     → c.acknowledged ≡ Some acknowledged → nat_lt 0 acknowledged ≡ true → nat_le acknowledged s.send.nxt ≡ true → c.rst ≡ false → c.syn ≡ true
-    → meaning_of c s ≡ means.Accepts acknowledged
+    → meaning_of c s ≡ Meaning.Accepts acknowledged
 accepts c s acknowledged state far far_edge is some most reset syn = rw (state, far, far_edge, is, some, most, reset, syn) refl
 
 -- the first of them isn't ahead of the last
@@ -107,7 +79,7 @@ module _ (start : Start) (plan : PathPlan) (k j : Setting) (s v : Lane) (t0 u0 :
           follow = follows start plan k j s v t0 u0 going going_back a b books p f others k_is j_is h early
 
           abbrev face : Facing A keys k j p.profile s v (half A a books now_before) (half B b books now_before) (tick start plan k j s v t0 u0 going going_back a b books p f others k_is j_is) p.until
-              ((duties.Step step_duties.Events) ∷ duties.End ∷ [])
+              ((Duty.Step StepDuty.Events) ∷ Duty.End ∷ [])
           face = moved start plan k j s v t0 u0 going going_back a b books p f others k_is j_is h early
 
           lane : Going k s t0 h.stage h.out
@@ -205,8 +177,8 @@ module _ (start : Start) (plan : PathPlan) (k j : Setting) (s v : Lane) (t0 u0 :
           most_edge : x.edge ≤ p.a.tcp.send.nxt
           most_edge = subst (λ (n : ℕ). x.edge ≤ n) (sym nxt) one_edge
 
-          meaning : meaning_of (copy_of (meant (said p.profile keys B x))) p.a.tcp ≡ means.Accepts x.edge
-          meaning = subst (λ (y : Sent). meaning_of (copy_of (meant (said p.profile keys B y))) p.a.tcp ≡ means.Accepts x.edge) (sym shape)
+          meaning : meaning_of (copy_of (meant (said p.profile keys B x))) p.a.tcp ≡ Meaning.Accepts x.edge
+          meaning = subst (λ (y : Sent). meaning_of (copy_of (meant (said p.profile keys B y))) p.a.tcp ≡ Meaning.Accepts x.edge) (sym shape)
               (accepts (copy_of heard) p.a.tcp x.edge state.1 (far nxt) (far own_edge) refl (lt-ltb 0 x.edge follow.acknowledges.some)
               (le-leb x.edge p.a.tcp.send.nxt most_edge) refl refl)
             where
@@ -292,7 +264,7 @@ module _ (start : Start) (plan : PathPlan) (k j : Setting) (s v : Lane) (t0 u0 :
 
           pub answer_comes : Relation (copy_taken values (due_of (copy start plan k j s v t0 u0 going going_back a b books p f others k_is j_is)) (q start plan k j s v t0 u0 going going_back a b books p f others k_is j_is))
           answer_comes =
-              subst Relation (sym (comes_as start plan k j s v t0 u0 going going_back a b books p f others k_is j_is h early (means.Accepts x.edge) meaning))
-              (subst (λ (y : Sent). Relation (heard_as A (meant (said p.profile keys B y)) (means.Accepts x.edge) now)) (sym shape)
+              subst Relation (sym (comes_as start plan k j s v t0 u0 going going_back a b books p f others k_is j_is h early (Meaning.Accepts x.edge) meaning))
+              (subst (λ (y : Sent). Relation (heard_as A (meant (said p.profile keys B y)) (Meaning.Accepts x.edge) now)) (sym shape)
               (subst (λ (y : EndState). Relation (goes_on A (end_of y) (syn_ack_came A) now)) (sym (acked_is face none state.0 sent_one h.treats.1 x.at
               h.back.received x.window x.edge refl follow.acknowledges.some one_edge most_edge (held_of p.profile A heard) (reset_for p.profile A heard))) taken))

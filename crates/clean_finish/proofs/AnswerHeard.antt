@@ -1,34 +1,10 @@
 -- The SYN/ACK arrives at A: the end.
-use Rattle.std.proofs.Common.{◌≡◌, refl, sym, ap, ◌∙◌, ℕ, ◌+◌, ◌-◌, ◌<◌, ◌≤◌, min, max, nat_lt, true, false, not, inr, Option, Some, List, [], arith}
-use Rattle.std.proofs.lemmas.Bool.{both_ways, and_parts}
-use Rattle.std.proofs.lemmas.List.Elements.{All-weaker}
-use Rattle.sides.specs.declared.side.Side.TheVariants.{A, B}
-use Rattle.dss_mapping.specs.declared.kept.KeptMapping.{KeptMapping}
-use Rattle.loss_recovery.specs.Timers.{heard as timing_heard, measured, rtt_told}
-use Rattle.path_segments.specs.Laws.{meant}
-use Rattle.path_segments.specs.Heard.{HeardSegment}
-use Rattle.subflow_send.specs.Rules.{newly_acknowledged, sample_of}
-use Rattle.subflow_tcp.specs.declared.dues.Due.{Due}
-use Rattle.subflow_tcp.specs.declared.handshake.State.TheVariants.{Established}
-use Rattle.subflow_tcp.specs.declared.segments.Outgoing.{Outgoing}
-use Rattle.subflow_tcp.specs.declared.verdicts.Meaning.TheVariants as means
-use Rattle.subflow_tcp.specs.Segments.{Copy as SubflowCopy}
-use Rattle.subflow_tcp.specs.State.{EndState}
-use Rattle.subflow_tcp.specs.Taking.{after_hearing, after_payload, after_new_ack, after_acknowledgement, after_telling, after_occupying, told_by_syn, is_fin_acked}
-use Rattle.subflow_tcp.proofs.WindowGrowth.{acknowledged_grows}
-use Rattle.path_agenda.specs.declared.duty.Duty.{Duty}
-use Rattle.path_core.specs.Arrival.{copy_of, copy_judged, treated_of, with_held}
-use Rattle.path_core.specs.OptionsIn.{items_of, hint_of}
-use Rattle.path_core.specs.End.{PathEnd}
-use Rattle.path_core.specs.Profile.{Profile}
-use Rattle.pace.specs.Lane.{Setting, Lane}
-use Rattle.pace.specs.Rules.{hears_data, rested}
-use Rattle.clean_finish.specs.Segments.{Sent, Keys, copy_in, said}
-use Rattle.clean_finish.specs.Segments.Brings.{OpensSubflow}
-use Rattle.clean_finish.specs.Shows.{Hand, EndIs, IsGranted, IsOpen, IsToldEdge, row_seen}
-use Rattle.clean_finish.specs.Shows.IsPhase.{Open}
-use Rattle.clean_finish.specs.Shows.IsToldEdge.{Same, Before}
-use Rattle.clean_finish.specs.Running.{Half, Facing}
+use Rattle.clean_finish.proofs.Words.{◌≡◌, refl, sym, ap, ◌∙◌, ℕ, ◌+◌, ◌-◌, ◌<◌, ◌≤◌, min, max, nat_lt, true, false, not, inr, Option, List, [], arith, Some}
+use Rattle.clean_finish.proofs.Words.{both_ways, and_parts, All-weaker, A, B, KeptMapping, newly_acknowledged, sample_of, timing_heard, measured, rtt_told}
+use Rattle.clean_finish.proofs.Words.{EndState, after_hearing, after_payload, after_new_ack, after_acknowledgement, after_telling, after_occupying, told_by_syn}
+use Rattle.clean_finish.proofs.Words.{is_fin_acked, acknowledged_grows, Outgoing, Established, Meaning, SubflowCopy, Due, meant, HeardSegment, Duty, Profile}
+use Rattle.clean_finish.proofs.Words.{PathEnd, copy_of, copy_judged, treated_of, with_held, hint_of, items_of, Setting, Lane, hears_data, rested, Hand, EndIs}
+use Rattle.clean_finish.proofs.Words.{IsGranted, row_seen, IsOpen, IsToldEdge, Sent, Keys, copy_in, said, OpensSubflow, Same, Before, Facing, Half, Open}
 use Rattle.clean_finish.proofs.AckNew.{acked_to, new_ack, records_acked, row_ends, window_on, open_acked}
 use Rattle.clean_finish.proofs.Machine.{stays_long}
 use Rattle.clean_finish.proofs.Spans.{spans_for}
@@ -94,9 +70,9 @@ module _ {keys : Keys} {k j : Setting} {c : Profile} {begun begun_back : Lane} {
 
     -- with what the acknowledgement makes of the subflow
     abbrev pub end_by : EndState → PathEnd
-    end_by s = record (with_held told heard (means.Accepts edge) m.end) {
+    end_by s = record (with_held told heard (Meaning.Accepts edge) m.end) {
       tcp = tcp_after s;
-      treated = treated_of (items_of false A heard) (means.Accepts edge) heard answer m.end.tcp;
+      treated = treated_of (items_of false A heard) (Meaning.Accepts edge) heard answer m.end.tcp;
     }
 
     abbrev pub end_after : PathEnd
@@ -109,7 +85,7 @@ module _ {keys : Keys} {k j : Setting} {c : Profile} {begun begun_back : Lane} {
     pub acked_is : after_acknowledgement edge clock opened ≡ acked
     acked_is = new_ack edge clock opened (above low some) most_edge
 
-    pub judged_is : copy_judged false told answer A clock heard (means.Accepts edge) m.end ≡ end_by (after_acknowledgement edge clock opened)
+    pub judged_is : copy_judged false told answer A clock heard (Meaning.Accepts edge) m.end ≡ end_by (after_acknowledgement edge clock opened)
     judged_is = refl
 
     pub came_some : {y : ℕ} → y ≡ 0 → 1 ≤ max y 1

@@ -1,32 +1,11 @@
 -- B sends the SYN/ACK.
-use Rattle.std.proofs.Common.{◌≡◌, refl, sym, subst, ap, ◌∙◌, ℕ, ◌+◌, ◌-◌, ◌==◌, ◌<◌, ◌≤◌, min, max, nat_lt, Bool, true, false, if◌then◌else◌, inl, inr, ⊎_elim, Option, None, List, [], ◌∷◌, ◌++◌, map, le_refl, arith}
-use Rattle.std.proofs.lemmas.Bool.{both_ways}
-use Rattle.std.proofs.lemmas.List.Elements.{All-weaker}
-use Rattle.sides.specs.declared.side.Side.TheVariants.{A, B}
-use Rattle.link_model.specs.declared.flight.Flight.{Flight}
-use Rattle.subflow_send.specs.Records.{Record, Tile, Follow, span_of}
-use Rattle.subflow_send.specs.Rules.{syn_record, after_resent}
-use Rattle.subflow_send.specs.Sendings.{never_sent}
-use Rattle.subflow_tcp.specs.declared.dues.Due.{Due}
-use Rattle.path_agenda.specs.declared.duty.Duty.{Duty}
-use Rattle.path_agenda.specs.declared.duty.Duty.TheVariants as duties
-use Rattle.path_agenda.specs.declared.duty.SendDuty.TheVariants as send_duties
-use Rattle.path_agenda.specs.declared.duty.StepDuty.TheVariants as step_duties
-use Rattle.path_core.specs.End.{PathEnd}
-use Rattle.path_core.specs.OptionsOut.{syn_ack_said}
-use Rattle.path_core.specs.Handover.{with_told}
-use Rattle.path_core.specs.Profile.{Profile}
-use Rattle.path_core.specs.Values.{Carried}
-use Rattle.pace.specs.Lane.{Setting, Lane, Stage, is_whole, all_left}
-use Rattle.pace.specs.Rules.{sent_by, said_by}
-use Rattle.pace.specs.Going.{Going, pending}
-use Rattle.pace.specs.Moves.{MaySay, MaySend}
-use Rattle.pace.specs.Moves.Move.{goes_back, sends_none, says}
-use Rattle.clean_finish.specs.Segments.{Sent, Keys, copy_in, said, FliesAs}
-use Rattle.clean_finish.specs.Segments.Brings.{OpensSubflow}
-use Rattle.clean_finish.specs.Shows.{AreTaken, Hand, EndIs, HeardIs, IsGranted, RecordsAre, WayIs, last_told, row_seen, brings_still}
-use Rattle.clean_finish.specs.Shows.IsToldEdge.{Same}
-use Rattle.clean_finish.specs.Running.{Has, Half, Facing, IsSetting, HasNotBegun, StageIs}
+use Rattle.clean_finish.proofs.Words.{◌≡◌, refl, sym, subst, ap, ◌∙◌, ℕ, ◌+◌, ◌-◌, ◌<◌, ◌≤◌, min, max, nat_lt, Bool, true, false, if◌then◌else◌, inl, inr}
+use Rattle.clean_finish.proofs.Words.{⊎_elim, Option, None, List, [], ◌∷◌, ◌++◌, map, arith, le_refl, ◌==◌, both_ways, All-weaker, A, B, Record, Tile, span_of}
+use Rattle.clean_finish.proofs.Words.{syn_record, after_resent, never_sent, Due, Flight, Duty, SendDuty, StepDuty, Profile, Carried, PathEnd, syn_ack_said}
+use Rattle.clean_finish.proofs.Words.{with_told, Setting, Lane, Stage, is_whole, all_left, Going, pending, MaySay, MaySend, says, sends_none, goes_back}
+use Rattle.clean_finish.proofs.Words.{said_by, sent_by, AreTaken, Hand, EndIs, HeardIs, IsGranted, RecordsAre, WayIs, last_told, row_seen, brings_still, Sent}
+use Rattle.clean_finish.proofs.Words.{Keys, copy_in, said, FliesAs, OpensSubflow, Same, IsSetting, Facing, Half, Has, StageIs, HasNotBegun}
+use Rattle.subflow_send.specs.Records.{Follow}
 use Rattle.clean_finish.proofs.Dropping.{differ, behind, behind_or, IsApart, stage_drops, settles_drop, begun_drops}
 use Rattle.clean_finish.proofs.Hands.{in_hand, way_done}
 use Rattle.clean_finish.proofs.Opened.{no_repeat, waiting_on, before_waiting, stage_waits}
@@ -76,7 +55,7 @@ syn_alone una nxt (r ∷ sent) tile = absurd (never tile.1 (low sent (span_of r)
         under : {x y : ℕ} → x < y → y ≤ 0 → x ≤ 0
         under less none = omega (arith, less, none)
 
-pub answered_drops : {ds : List Duty} {asked owes : Bool} {p : Stage} → StageIs A B (duties.Send (send_duties.SynAck B) ∷ ds) asked owes p
+pub answered_drops : {ds : List Duty} {asked owes : Bool} {p : Stage} → StageIs A B (Duty.Send (SendDuty.SynAck B) ∷ ds) asked owes p
     → StageIs A B ds asked owes (record p { tell = false })
 answered_drops {ds} is = record {
   window = behind_or ds (differ refl) is.window;
@@ -92,9 +71,9 @@ module _ {keys : Keys} {k j : Setting} {c : Profile} {begun begun_back : Lane} {
     (k_is : IsSetting c ticks k) (j_is : IsSetting c ticks j)
     (going : Going k begun t all_left begun) (going_back : Going j begun_back u all_left begun_back)
   where
-    module _ {ds : List Duty} (h : Facing B keys k j c begun begun_back m n clock until (duties.Send (send_duties.SynAck B) ∷ ds))
+    module _ {ds : List Duty} (h : Facing B keys k j c begun begun_back m n clock until (Duty.Send (SendDuty.SynAck B) ∷ ds))
         (unsent : h.out.control_sent ≡ 0) (came : h.back.control_came ≡ 1)
-        (none : HasNotBegun B j h.out.sender h.back.receiver m.end (duties.Send (send_duties.SynAck B) ∷ ds))
+        (none : HasNotBegun B j h.out.sender h.back.receiver m.end (Duty.Send (SendDuty.SynAck B) ∷ ds))
       where
         pub now : Going k begun t h.stage h.out
         now = now_out ticks t u k_is j_is going going_back h
@@ -243,7 +222,7 @@ module _ {keys : Keys} {k j : Setting} {c : Profile} {begun begun_back : Lane} {
         pub most_edge : {x : ℕ} (total : ℕ) → x ≡ 1 → x ≤ 1 + total + 0
         most_edge total is = omega (arith, is)
 
-        pub others : IsApart B A (duties.Send (send_duties.SynAck B))
+        pub others : IsApart B A (Duty.Send (SendDuty.SynAck B))
         others = record {
           window = differ refl;
           update = differ refl;
@@ -256,7 +235,7 @@ module _ {keys : Keys} {k j : Setting} {c : Profile} {begun begun_back : Lane} {
         }
 
         module _ (x : Sent) (hand : h.hand ≡ in_hand x false false) (rest : h.own.subflow.records.rest ≡ syn_record never_sent ∷ [])
-            (nothing_waits : h.waiting ≡ 0) (unowed : h.owes ≡ false) (buffer_is : m.end.receiving.window ≡ j.buffer) (events : Has (duties.Step step_duties.Events) ds)
+            (nothing_waits : h.waiting ≡ 0) (unowed : h.owes ≡ false) (buffer_is : m.end.receiving.window ≡ j.buffer) (events : Has (Duty.Step StepDuty.Events) ds)
             (fs gs : List (Flight Carried)) (f : Flight Carried) (flies : FliesAs c keys B f answer)
             (more : fs ≡ m.flying ++ f ∷ []) (same : gs ≡ n.flying)
           where
@@ -313,13 +292,7 @@ module _ {keys : Keys} {k j : Setting} {c : Profile} {begun begun_back : Lane} {
                   row = subst (λ (o : Option Hand). m.end.tcp.congestion.duplicates ≤ row_seen h.out.sender o) hand h.own.subflow.congestion.row;
                 };
                 come = record { edge = h.own.subflow.come.edge; window = h.own.subflow.come.window };
-                heard = record {
-                  told = heard.told;
-                  most = heard.most;
-                  end = heard.end;
-                  few = heard.few;
-                  some = heard.some;
-                };
+                heard = record { told = heard.told; most = heard.most; end = heard.end; few = heard.few; some = heard.some };
                 quiet = h.own.subflow.quiet;
                 begun = λ is. one_low h.out.control_sent came;
                 keyed = λ is one still. h.own.subflow.keyed is one (ap brings_still hand);
@@ -433,15 +406,8 @@ module _ {keys : Keys} {k j : Setting} {c : Profile} {begun begun_back : Lane} {
               way = way_after;
               way_back = way_back_after;
               apps = record {
-                writes = record {
-                  numbers = h.apps.writes.numbers;
-                  over = h.apps.writes.over;
-                };
-                reads = record {
-                  numbers = h.apps.reads.numbers;
-                  received = h.apps.reads.received;
-                  over = h.apps.reads.over;
-                };
+                writes = record { numbers = h.apps.writes.numbers; over = h.apps.writes.over };
+                reads = record { numbers = h.apps.reads.numbers; received = h.apps.reads.received; over = h.apps.reads.over };
                 receives = record {
                   read = h.apps.receives.read;
                   received = h.apps.receives.received;
@@ -459,10 +425,7 @@ module _ {keys : Keys} {k j : Setting} {c : Profile} {begun begun_back : Lane} {
                 fin = h.apps.fin;
               };
               apps_back = record {
-                writes = record {
-                  numbers = h.apps_back.writes.numbers;
-                  over = h.apps_back.writes.over;
-                };
+                writes = record { numbers = h.apps_back.writes.numbers; over = h.apps_back.writes.over };
                 reads = record {
                   numbers = h.apps_back.reads.numbers;
                   received = h.apps_back.reads.received;
@@ -485,16 +448,16 @@ module _ {keys : Keys} {k j : Setting} {c : Profile} {begun begun_back : Lane} {
                 fin = h.apps_back.fin;
               };
               stages = stage_waits B A ds n.end.treated.asked h.owes_back h.stage events
-                  (stage_drops B A (duties.Send (send_duties.SynAck B)) ds n.end.treated.asked h.owes_back h.stage others h.stages);
-              stages_back = answered_drops (stage_waits A B (duties.Send (send_duties.SynAck B) ∷ ds) m.end.treated.asked h.owes h.stage_back (inr events) h.stages_back);
+                  (stage_drops B A (Duty.Send (SendDuty.SynAck B)) ds n.end.treated.asked h.owes_back h.stage others h.stages);
+              stages_back = answered_drops (stage_waits A B (Duty.Send (SendDuty.SynAck B) ∷ ds) m.end.treated.asked h.owes h.stage_back (inr events) h.stages_back);
               control = h.control;
               control_back = h.control_back;
               turn = h.turn;
               turn_back = h.turn_back;
-              settles = settles_drop B (duties.Send (send_duties.SynAck B)) ds m.end (differ refl) h.settles;
-              settles_back = settles_drop A (duties.Send (send_duties.SynAck B)) ds n.end (differ refl) h.settles_back;
+              settles = settles_drop B (Duty.Send (SendDuty.SynAck B)) ds m.end (differ refl) h.settles;
+              settles_back = settles_drop A (Duty.Send (SendDuty.SynAck B)) ds n.end (differ refl) h.settles_back;
               begins = inl (one_more h.out.control_sent);
-              begins_back = begun_drops A k h.back.sender h.out.receiver n.end (duties.Send (send_duties.SynAck B)) ds (differ refl) (λ is. differ refl) h.begins_back;
+              begins_back = begun_drops A k h.back.sender h.out.receiver n.end (Duty.Send (SendDuty.SynAck B)) ds (differ refl) (λ is. differ refl) h.begins_back;
               owed = λ e b. absurd (both_ways _ unowed e);
               owed_back = h.owed_back;
             }

@@ -1,28 +1,9 @@
 -- The steps in which A treats the SYN/ACK, but for its answer: B's window is told, its key is kept, and the path lives.
-use Rattle.std.proofs.Common.{◌≡◌, refl, sym, subst, ap, ◌∙◌, ℕ, ◌+◌, ◌≤◌, min, max, nat_lt, Bool, true, false, ◌||◌, inl, inr, Option, Some, List, ◌∷◌, arith}
-use Rattle.std.proofs.lemmas.Bool.{both_ways, le-ltb}
-use Rattle.sides.specs.declared.side.Side.TheVariants.{A, B}
-use Rattle.subflow_tcp.specs.declared.handshake.State.{State}
-use Rattle.actor_desk.specs.Desk.{SixBooks, reply_of, after_ask}
-use Rattle.stream_apps.specs.Apps.{AppState}
-use Rattle.path_agenda.specs.declared.duty.Duty.{Duty}
-use Rattle.path_agenda.specs.declared.duty.Duty.TheVariants as duties
-use Rattle.path_agenda.specs.declared.duty.AskDuty.TheVariants as ask_duties
-use Rattle.path_agenda.specs.declared.duty.SendDuty.TheVariants as send_duties
-use Rattle.path_agenda.specs.Agenda.{emission}
-use Rattle.path_agenda.specs.Items.{key_heard}
-use Rattle.path_core.specs.MpCapable.{syn_window_ask, peer_key_ask, answered_peer_key, live_ask}
-use Rattle.path_core.specs.Standing.{is_connected}
-use Rattle.path_core.specs.State.{PathState, with_agenda}
-use Rattle.path_core.specs.Values.{Carried}
-use Rattle.world_laws.specs.Openings.{PathPlan, Start}
-use Rattle.pace.specs.Lane.{Setting, Telling, Lane, all_left}
-use Rattle.pace.specs.Going.{Going}
-use Rattle.clean_finish.specs.Machine.{seen_timer}
-use Rattle.clean_finish.specs.Segments.{Keys}
-use Rattle.clean_finish.specs.Shows.{IsPhase}
-use Rattle.clean_finish.specs.Shows.IsPhase.{Opening, Listening, HalfOpen, Open}
-use Rattle.clean_finish.specs.Running.{TreatsAnswered, other_bench, own_bench, IsSetting, Runs, keys_in}
+use Rattle.clean_finish.proofs.Words.{◌≡◌, refl, sym, subst, ap, ◌∙◌, ℕ, ◌+◌, ◌≤◌, min, max, nat_lt, Bool, true, false, ◌||◌, inl, inr, Option, List, ◌∷◌}
+use Rattle.clean_finish.proofs.Words.{arith, Some, both_ways, le-ltb, A, B, State, Duty, SendDuty, AskDuty, emission, key_heard, SixBooks, reply_of, after_ask}
+use Rattle.clean_finish.proofs.Words.{AppState, Carried, is_connected, PathState, with_agenda, syn_window_ask, peer_key_ask, answered_peer_key, live_ask}
+use Rattle.clean_finish.proofs.Words.{Setting, Telling, Lane, all_left, Going, PathPlan, Start, seen_timer, IsPhase, Keys, own_bench, other_bench, IsSetting}
+use Rattle.clean_finish.proofs.Words.{Runs, keys_in, TreatsAnswered, Opening, Listening, HalfOpen, Open}
 use Rattle.clean_finish.proofs.Acknowledged.{hears_on}
 use Rattle.clean_finish.proofs.Enlivened.{enlivened}
 use Rattle.clean_finish.proofs.Keyed.{keyed}
@@ -72,15 +53,15 @@ module _ (start : Start) (plan : PathPlan) (k j : Setting) (s v : Lane) (t0 u0 :
         abbrev answer_told : SixBooks
         answer_told = after_ask (syn_window_ask A p.a) books
 
-        hears_answer : Relation books (with_agenda (duties.Ask (ask_duties.SynAnswered A) ∷ duties.Ask (ask_duties.PeerKey A) ∷ duties.Ask (ask_duties.Live A) ∷ duties.Send (send_duties.Acknowledge A) ∷ emission A) p)
-            → Relation answer_told (with_agenda (duties.Ask (ask_duties.PeerKey A) ∷ duties.Ask (ask_duties.Live A) ∷ duties.Send (send_duties.Acknowledge A) ∷ emission A) p)
+        hears_answer : Relation books (with_agenda (Duty.Ask (AskDuty.SynAnswered A) ∷ Duty.Ask (AskDuty.PeerKey A) ∷ Duty.Ask (AskDuty.Live A) ∷ Duty.Send (SendDuty.Acknowledge A) ∷ emission A) p)
+            → Relation answer_told (with_agenda (Duty.Ask (AskDuty.PeerKey A) ∷ Duty.Ask (AskDuty.Live A) ∷ Duty.Send (SendDuty.Acknowledge A) ∷ emission A) p)
         hears_answer h =
             let t = h.treats in
             let x = t.0.sent in
             let next : x.telling.next ≡ 0 = ap (λ (y : Telling). y.next) t.0.seen in
             let seen : x.telling.seen ≡ 1 = ap (λ (y : Telling). y.seen) t.0.seen in
             let dss : x.telling.dss ≡ 0 = ap (λ (y : Telling). y.dss) t.0.seen in
-            let there = emits_three (duties.Ask (ask_duties.PeerKey A)) (duties.Ask (ask_duties.Live A)) (duties.Send (send_duties.Acknowledge A)) in
+            let there = emits_three (Duty.Ask (AskDuty.PeerKey A)) (Duty.Ask (AskDuty.Live A)) (Duty.Send (SendDuty.Acknowledge A)) in
             let up = established h.back.control_came p.a.tcp.send.una p.a.tcp.send.finished p.a.tcp.state h.own.subflow.phase t.0.came in
             let faces = hears_on h.faces refl there x false t.0.hand 0 p.a.tcp.congestion.told.window (none_future _) (omega arith) next (plus (t.0.edge refl))
             (λ less. h.own.timer ∙ ap (λ (b : Bool). seen_timer (b || p.a.sending.news) p.a.tcp.timing.timer) t.0.news)
@@ -141,22 +122,22 @@ module _ (start : Start) (plan : PathPlan) (k j : Setting) (s v : Lane) (t0 u0 :
             zero_max : {x y : ℕ} → x ≡ 0 → y ≡ 0 → max x y ≡ 0
             zero_max a b = omega (arith, a, b)
 
-        pub answers_syn_answered : Relation books (with_agenda (duties.Ask (ask_duties.SynAnswered A) ∷ ds) p) → Relation answer_told (with_agenda ds p)
+        pub answers_syn_answered : Relation books (with_agenda (Duty.Ask (AskDuty.SynAnswered A) ∷ ds) p) → Relation answer_told (with_agenda ds p)
         answers_syn_answered h =
             subst (λ (es : List Duty). Relation answer_told (with_agenda es p)) (sym h.treats.3)
-            (hears_answer (subst (λ (es : List Duty). Relation books (with_agenda (duties.Ask (ask_duties.SynAnswered A) ∷ es) p)) h.treats.3 h))
+            (hears_answer (subst (λ (es : List Duty). Relation books (with_agenda (Duty.Ask (AskDuty.SynAnswered A) ∷ es) p)) h.treats.3 h))
 
         -- ---- its key
 
-        keeps_key : Relation books (with_agenda (duties.Ask (ask_duties.PeerKey A) ∷ duties.Ask (ask_duties.Live A) ∷ duties.Send (send_duties.Acknowledge A) ∷ emission A) p)
-            → let q = with_agenda (duties.Ask (ask_duties.PeerKey A) ∷ duties.Ask (ask_duties.Live A) ∷ duties.Send (send_duties.Acknowledge A) ∷ emission A) p in
+        keeps_key : Relation books (with_agenda (Duty.Ask (AskDuty.PeerKey A) ∷ Duty.Ask (AskDuty.Live A) ∷ Duty.Send (SendDuty.Acknowledge A) ∷ emission A) p)
+            → let q = with_agenda (Duty.Ask (AskDuty.PeerKey A) ∷ Duty.Ask (AskDuty.Live A) ∷ Duty.Send (SendDuty.Acknowledge A) ∷ emission A) p in
             (o : Option ℕ) → o ≡ Some keys.b
             → Relation (after_ask (peer_key_ask A o q) books) (answered_peer_key A o (reply_of books (peer_key_ask A o q)) q)
         keeps_key h o is =
-            let q = with_agenda (duties.Ask (ask_duties.PeerKey A) ∷ duties.Ask (ask_duties.Live A) ∷ duties.Send (send_duties.Acknowledge A) ∷ emission A) p in
+            let q = with_agenda (Duty.Ask (AskDuty.PeerKey A) ∷ Duty.Ask (AskDuty.Live A) ∷ Duty.Send (SendDuty.Acknowledge A) ∷ emission A) p in
             let t = h.treats in
             let up = established h.back.control_came p.a.tcp.send.una p.a.tcp.send.finished p.a.tcp.state h.own.subflow.phase t.0.came in
-            let faces = keyed plan.delay t0 u0 k_is j_is going going_back h.faces (emits_two (duties.Ask (ask_duties.Live A)) (duties.Send (send_duties.Acknowledge A))) t.0.waiting
+            let faces = keyed plan.delay t0 u0 k_is j_is going going_back h.faces (emits_two (Duty.Ask (AskDuty.Live A)) (Duty.Send (SendDuty.Acknowledge A))) t.0.waiting
             (one t.0.sent_one) (one_came t.0.came) t.0.ready up.1 in
             subst (λ (w : Option ℕ). Relation (after_ask (peer_key_ask A w q) books) (answered_peer_key A w (reply_of books (peer_key_ask A w q)) q)) (sym is)
             (record {
@@ -205,25 +186,25 @@ module _ (start : Start) (plan : PathPlan) (k j : Setting) (s v : Lane) (t0 u0 :
             one_came : {x : ℕ} → x ≡ 1 → 1 ≤ min 1 x
             one_came is_one = omega (arith, is_one)
 
-        pub answers_peer_key : Relation books (with_agenda (duties.Ask (ask_duties.PeerKey A) ∷ ds) p)
-            → let q = with_agenda (duties.Ask (ask_duties.PeerKey A) ∷ ds) p in let o = key_heard p.a.treated.items in
+        pub answers_peer_key : Relation books (with_agenda (Duty.Ask (AskDuty.PeerKey A) ∷ ds) p)
+            → let q = with_agenda (Duty.Ask (AskDuty.PeerKey A) ∷ ds) p in let o = key_heard p.a.treated.items in
             Relation (after_ask (peer_key_ask A o q) books) (answered_peer_key A o (reply_of books (peer_key_ask A o q)) q)
         answers_peer_key h =
             let o = key_heard p.a.treated.items in
-            subst (λ (es : List Duty). let q = with_agenda (duties.Ask (ask_duties.PeerKey A) ∷ es) p in
+            subst (λ (es : List Duty). let q = with_agenda (Duty.Ask (AskDuty.PeerKey A) ∷ es) p in
             Relation (after_ask (peer_key_ask A o q) books) (answered_peer_key A o (reply_of books (peer_key_ask A o q)) q)) (sym h.treats.3)
-            (keeps_key (subst (λ (es : List Duty). Relation books (with_agenda (duties.Ask (ask_duties.PeerKey A) ∷ es) p)) h.treats.3 h) o (h.treats.0.key refl))
+            (keeps_key (subst (λ (es : List Duty). Relation books (with_agenda (Duty.Ask (AskDuty.PeerKey A) ∷ es) p)) h.treats.3 h) o (h.treats.0.key refl))
 
         -- ---- the path lives
 
         abbrev lives : SixBooks
         lives = after_ask (live_ask A p) books
 
-        enlivens : (h : Relation books (with_agenda (duties.Ask (ask_duties.Live A) ∷ duties.Send (send_duties.Acknowledge A) ∷ emission A) p))
-            → TreatsAnswered A keys (own_bench h.faces) (other_bench h.faces) (duties.Send (send_duties.Acknowledge A) ∷ emission A)
-            → Relation lives (with_agenda (duties.Send (send_duties.Acknowledge A) ∷ emission A) p)
+        enlivens : (h : Relation books (with_agenda (Duty.Ask (AskDuty.Live A) ∷ Duty.Send (SendDuty.Acknowledge A) ∷ emission A) p))
+            → TreatsAnswered A keys (own_bench h.faces) (other_bench h.faces) (Duty.Send (SendDuty.Acknowledge A) ∷ emission A)
+            → Relation lives (with_agenda (Duty.Send (SendDuty.Acknowledge A) ∷ emission A) p)
         enlivens h t =
-            let faces = enlivened (duties.Ask (ask_duties.Live A)) (duties.Send (send_duties.Acknowledge A) ∷ emission A) refl p.link.path p.a.modes.backup_heard h.path.number h.faces in
+            let faces = enlivened (Duty.Ask (AskDuty.Live A)) (Duty.Send (SendDuty.Acknowledge A) ∷ emission A) refl p.link.path p.a.modes.backup_heard h.path.number h.faces in
             record {
               path = record {
                 profile = h.path.profile;
@@ -265,9 +246,9 @@ module _ (start : Start) (plan : PathPlan) (k j : Setting) (s v : Lane) (t0 u0 :
             }
 
         -- where the SYN/ACK is treated
-        pub lives_on : (h : Relation books (with_agenda (duties.Ask (ask_duties.Live A) ∷ ds) p)) → TreatsAnswered A keys (own_bench h.faces) (other_bench h.faces) ds
+        pub lives_on : (h : Relation books (with_agenda (Duty.Ask (AskDuty.Live A) ∷ ds) p)) → TreatsAnswered A keys (own_bench h.faces) (other_bench h.faces) ds
             → Relation lives (with_agenda ds p)
         lives_on h t =
-            subst (λ (es : List Duty). (g : Relation books (with_agenda (duties.Ask (ask_duties.Live A) ∷ es) p))
+            subst (λ (es : List Duty). (g : Relation books (with_agenda (Duty.Ask (AskDuty.Live A) ∷ es) p))
             → TreatsAnswered A keys (own_bench g.faces) (other_bench g.faces) es → Relation lives (with_agenda es p))
             (sym t.3) enlivens h t

@@ -1,49 +1,15 @@
 -- Each duty that comes to something is answered, or never comes to it.
-use Rattle.std.proofs.Common.{◌≡◌, refl, sym, ap, ◌∙◌, ℕ, zero, suc, Bool, true, false, not, ◌&&◌, ◌||◌, ◌-◌, nat_lt, if◌then◌else◌, is_some, is_none, Option, Some, None, List, ◌∷◌, find}
-use Rattle.std.proofs.lemmas.Bool.{both_ways}
-use Rattle.sides.specs.declared.side.Side.{Side}
-use Rattle.sides.specs.declared.side.Side.TheVariants.{A, B}
-use Rattle.subflow_send.specs.Rules.{is_unsent}
-use Rattle.subflow_tcp.specs.declared.dues.Due.{Due}
-use Rattle.subflow_tcp.specs.declared.handshake.State.{State}
-use Rattle.subflow_tcp.specs.declared.handshake.State.TheVariants as states
-use Rattle.subflow_tcp.specs.Dues.{nothing_due}
-use Rattle.subflow_tcp.specs.State.{has_records}
-use Rattle.subflow_tcp.specs.States.{is_closed_to_segments, is_opening, is_waiting}
-use Rattle.actor_desk.specs.Desk.{SixBooks, reply_of, after_ask}
-use Rattle.actor_desk.specs.Words.{is_nil}
-use Rattle.stream_apps.specs.Apps.{AppState}
-use Rattle.path_agenda.specs.declared.duty.Duty.{Duty}
-use Rattle.path_agenda.specs.declared.duty.Duty.TheVariants as duties
-use Rattle.path_agenda.specs.declared.duty.AskDuty.{AskDuty}
-use Rattle.path_agenda.specs.declared.duty.AskDuty.TheVariants as ask_duties
-use Rattle.path_agenda.specs.declared.duty.SendDuty.{SendDuty}
-use Rattle.path_agenda.specs.declared.duty.SendDuty.TheVariants as send_duties
-use Rattle.path_agenda.specs.declared.duty.StepDuty.{StepDuty}
-use Rattle.path_agenda.specs.declared.duty.StepDuty.TheVariants as step_duties
-use Rattle.path_agenda.specs.declared.heard.Heard.{Heard}
+use Rattle.clean_finish.proofs.Words.{◌≡◌, refl, sym, ap, ◌∙◌, ℕ, ◌-◌, nat_lt, Bool, true, false, not, ◌&&◌, ◌||◌, if◌then◌else◌, Option, None, List, ◌∷◌, Some}
+use Rattle.clean_finish.proofs.Words.{suc, zero, is_some, find, is_none, both_ways, Side, A, B, is_unsent, State, has_records, is_closed_to_segments, Due}
+use Rattle.clean_finish.proofs.Words.{nothing_due, window_told, InfiniteMapping, fin_under, Duty, SendDuty, StepDuty, AskDuty, Heard, is_nil, SixBooks}
+use Rattle.clean_finish.proofs.Words.{reply_of, after_ask, AppState, Carried, values, PathEnd, place_passed, plain_fin, is_connected, may_note, PathState}
+use Rattle.clean_finish.proofs.Words.{with_agenda, stands, ask_for, answered, is_syn_due, fin_place, item_of, item_stands, Setting, Lane, all_left, Going}
+use Rattle.clean_finish.proofs.Words.{PathPlan, Start, IsPhase, IsMapping, NoticesAre, Keys, heard_by, IsSetting, Runs, keys_in, Opening, Listening, HalfOpen}
+use Rattle.clean_finish.proofs.Words.{Open}
+use Rattle.subflow_tcp.specs.States.{is_opening, is_waiting}
 use Rattle.path_agenda.specs.declared.notice.OwnNotice.{OwnNotice}
-use Rattle.path_segments.specs.Laws.{window_told}
 use Rattle.path_core.specs.Addresses.{is_note_due}
-use Rattle.path_core.specs.Duties.{stands, ask_for, answered}
-use Rattle.path_core.specs.Emission.{is_syn_due}
-use Rattle.path_store.specs.declared.infinite_mapping.InfiniteMapping.{InfiniteMapping}
-use Rattle.path_core.specs.End.{PathEnd}
-use Rattle.path_core.specs.Modes.{fin_place}
-use Rattle.path_store.specs.InfiniteMappings.{fin_under}
 use Rattle.path_core.specs.FastClose.{is_fast_close_due, is_silent, leaves_silently, resets_noted}
-use Rattle.path_core.specs.DataFin.{place_passed, plain_fin}
-use Rattle.path_core.specs.Standing.{is_connected, may_note}
-use Rattle.path_core.specs.State.{PathState, with_agenda}
-use Rattle.path_core.specs.Treating.{item_of, item_stands}
-use Rattle.path_core.specs.Values.{Carried, values}
-use Rattle.world_laws.specs.Openings.{PathPlan, Start}
-use Rattle.pace.specs.Lane.{Setting, Lane, all_left}
-use Rattle.pace.specs.Going.{Going}
-use Rattle.clean_finish.specs.Segments.{Keys}
-use Rattle.clean_finish.specs.Shows.{IsMapping, IsPhase, NoticesAre}
-use Rattle.clean_finish.specs.Shows.IsPhase.{Opening, Listening, HalfOpen, Open}
-use Rattle.clean_finish.specs.Running.{heard_by, IsSetting, Runs, keys_in}
 use Rattle.clean_finish.proofs.AnswerTreated.{answers_peer_key, answers_syn_answered}
 use Rattle.clean_finish.proofs.CopyKinds.{third_shows}
 use Rattle.clean_finish.proofs.DataAnswered.{data_a, data_b}
@@ -85,7 +51,7 @@ and_false false = refl
 
 -- an end that waits takes no segment
 waiting_is_closed : (state : State) → is_waiting state ≡ true → is_closed_to_segments state ≡ true
-waiting_is_closed states.Waiting e = refl
+waiting_is_closed State.Waiting e = refl
 waiting_is_closed _ e = never e
 
 none_waits : (q : Side) (came una : ℕ) (finished : Bool) (state : State) → IsPhase q came una finished state → is_waiting state ≡ true → ⊥
@@ -150,7 +116,7 @@ module _ (start : Start) (plan : PathPlan) (k j : Setting) (s v : Lane) (t0 u0 :
             Runs start plan k j s v a b (after_ask ask books) (answered values d (reply_of books ask) (with_agenda (d ∷ ds) p))
 
         -- A hears a DSS first
-        first_stays_a : (ds : List Duty) → Relation (with_agenda (duties.Step (step_duties.Heard A 0) ∷ ds) p) → item_stands (item_of 0 p.a) p.a ≡ false
+        first_stays_a : (ds : List Duty) → Relation (with_agenda (Duty.Step (StepDuty.Heard A 0) ∷ ds) p) → item_stands (item_of 0 p.a) p.a ≡ false
         first_stays_a ds h =
             let t = h.treats in
             let f = t.1 in
@@ -160,74 +126,74 @@ module _ (start : Start) (plan : PathPlan) (k j : Setting) (s v : Lane) (t0 u0 :
 
         -- ---- duties that ask
 
-        ask_answered : (d : AskDuty) (ds : List Duty) → Answered (duties.Ask d) ds
-        ask_answered ask_duties.JoinAgain ds on h =
+        ask_answered : (d : AskDuty) (ds : List Duty) → Answered (Duty.Ask d) ds
+        ask_answered AskDuty.JoinAgain ds on h =
             absurd (none_waits A h.faces.back.control_came p.a.tcp.send.una p.a.tcp.send.finished p.a.tcp.state h.faces.own.subflow.phase
             (first_true (is_waiting p.a.tcp.state) (is_none p.joined_at) on))
-        ask_answered (ask_duties.Window A) ds on h = window_a start plan k j s v t0 u0 going going_back a b books p ds k_is j_is h
-        ask_answered (ask_duties.Window B) ds on h = window_b start plan k j s v t0 u0 going going_back a b books p ds k_is j_is h
-        ask_answered (ask_duties.SynHeard A) ds on h = absurd (not_b h.treats.0.side)
-        ask_answered (ask_duties.SynHeard B) ds on h = answers_syn_heard start plan k j s v t0 u0 going going_back a b books p ds k_is j_is h
-        ask_answered (ask_duties.SynAnswered A) ds on h = answers_syn_answered start plan k j s v t0 u0 going going_back a b books p ds k_is j_is h
-        ask_answered (ask_duties.SynAnswered B) ds on h = absurd (not_a h.treats.0.side)
-        ask_answered (ask_duties.PlainHandshake A) ds on h = absurd (not_b h.treats.0.side)
-        ask_answered (ask_duties.PlainHandshake B) ds on h = absurd (both_ways _ (asks_capable start plan k j s v t0 u0 going going_back a b books p ds k_is j_is h) on)
-        ask_answered (ask_duties.PeerKey A) ds on h = answers_peer_key start plan k j s v t0 u0 going going_back a b books p ds k_is j_is h
-        ask_answered (ask_duties.PeerKey B) ds on h = absurd (not_a h.treats.0.side)
-        ask_answered (ask_duties.Opened A) ds on h = absurd (not_b (h.treats.1.keyed (third_shows h.treats.0 (sym h.treats.1.opened ∙ opened_is p.a on))))
-        ask_answered (ask_duties.Opened B) ds on h = answers_opened_b start plan k j s v t0 u0 going going_back a b books p k_is j_is ds on h
-        ask_answered (ask_duties.Live A) ds on h = answers_live_a start plan k j s v t0 u0 going going_back a b books p k_is j_is ds h
-        ask_answered (ask_duties.Live B) ds on h = answers_live_b start plan k j s v t0 u0 going going_back a b books p k_is j_is ds h
-        ask_answered (ask_duties.AckHeard A) ds on h = answers_ack_heard_a start plan k j s v t0 u0 going going_back a b books p k_is j_is ds h
-        ask_answered (ask_duties.AckHeard B) ds on h = answers_ack_heard_b start plan k j s v t0 u0 going going_back a b books p k_is j_is ds h
-        ask_answered (ask_duties.SubflowAck A) ds on h = absurd (both_ways _ (stays_subflow_ack_a start plan k j s v t0 u0 going going_back a b books p k_is j_is ds h) on)
-        ask_answered (ask_duties.SubflowAck B) ds on h = absurd (both_ways _ (stays_subflow_ack_b start plan k j s v t0 u0 going going_back a b books p k_is j_is ds h) on)
-        ask_answered (ask_duties.PlainData A) ds on h = absurd (both_ways _ (stays_plain_data_a start plan k j s v t0 u0 going going_back a b books p k_is j_is ds h) on)
-        ask_answered (ask_duties.PlainData B) ds on h = absurd (both_ways _ (stays_plain_data_b start plan k j s v t0 u0 going going_back a b books p k_is j_is ds h) on)
-        ask_answered (ask_duties.Edge A) ds on h = answers_edge_a start plan k j s v t0 u0 going going_back a b books p k_is j_is ds on h
-        ask_answered (ask_duties.Edge B) ds on h = answers_edge_b start plan k j s v t0 u0 going going_back a b books p k_is j_is ds on h
-        ask_answered (ask_duties.CheckFailed A) ds on h = absurd (both_ways _ (stays_right_a start plan k j s v t0 u0 going going_back a b books p k_is j_is ds h) on)
-        ask_answered (ask_duties.CheckFailed B) ds on h = absurd (both_ways _ (stays_right_b start plan k j s v t0 u0 going going_back a b books p k_is j_is ds h) on)
-        ask_answered (ask_duties.HeardFin A zero) ds on h = answers_heard_fin_a start plan k j s v t0 u0 going going_back a b books p k_is j_is ds on h
-        ask_answered (ask_duties.HeardFin B zero) ds on h = answers_heard_fin_b start plan k j s v t0 u0 going going_back a b books p k_is j_is ds on h
-        ask_answered (ask_duties.HeardFin A (suc zero)) ds on h = absurd (both_ways _ (ap (λ (o : Option ℕ). is_some o) (h.treats.0.1 0)) on)
-        ask_answered (ask_duties.HeardFin B (suc zero)) ds on h = absurd (both_ways _ (ap (λ (o : Option ℕ). is_some o) (h.treats.0.1 0)) on)
-        ask_answered (ask_duties.HeardFin A (suc (suc i))) ds on h = absurd (both_ways _ (ap (λ (o : Option ℕ). is_some o) (h.treats.0.1 (suc i))) on)
-        ask_answered (ask_duties.HeardFin B (suc (suc i))) ds on h = absurd (both_ways _ (ap (λ (o : Option ℕ). is_some o) (h.treats.0.1 (suc i))) on)
-        ask_answered (ask_duties.SubflowFin A) ds on h = absurd (both_ways _ (no_plain_fin p.a h.faces.own.modes.mapping) on)
-        ask_answered (ask_duties.SubflowFin B) ds on h = absurd (both_ways _ (no_plain_fin p.b h.faces.other.modes.mapping) on)
-        ask_answered (ask_duties.AckOut A) ds on h = answers_ack_out_a start plan k j s v t0 u0 going going_back a b books p k_is j_is ds h
-        ask_answered (ask_duties.AckOut B) ds on h = answers_ack_out_b start plan k j s v t0 u0 going going_back a b books p k_is j_is ds h
-        ask_answered (ask_duties.Rate A) ds on h = answers_rate_a start plan k j s v t0 u0 going going_back a b books p k_is j_is ds on h
-        ask_answered (ask_duties.Rate B) ds on h = answers_rate_b start plan k j s v t0 u0 going going_back a b books p k_is j_is ds on h
-        ask_answered (ask_duties.LeaveNoted A) ds on h = absurd (both_ways _ (no_leave p.a h.faces.own.notices) on)
-        ask_answered (ask_duties.LeaveNoted B) ds on h = absurd (both_ways _ (no_leave p.b h.faces.other.notices) on)
+        ask_answered (AskDuty.Window A) ds on h = window_a start plan k j s v t0 u0 going going_back a b books p ds k_is j_is h
+        ask_answered (AskDuty.Window B) ds on h = window_b start plan k j s v t0 u0 going going_back a b books p ds k_is j_is h
+        ask_answered (AskDuty.SynHeard A) ds on h = absurd (not_b h.treats.0.side)
+        ask_answered (AskDuty.SynHeard B) ds on h = answers_syn_heard start plan k j s v t0 u0 going going_back a b books p ds k_is j_is h
+        ask_answered (AskDuty.SynAnswered A) ds on h = answers_syn_answered start plan k j s v t0 u0 going going_back a b books p ds k_is j_is h
+        ask_answered (AskDuty.SynAnswered B) ds on h = absurd (not_a h.treats.0.side)
+        ask_answered (AskDuty.PlainHandshake A) ds on h = absurd (not_b h.treats.0.side)
+        ask_answered (AskDuty.PlainHandshake B) ds on h = absurd (both_ways _ (asks_capable start plan k j s v t0 u0 going going_back a b books p ds k_is j_is h) on)
+        ask_answered (AskDuty.PeerKey A) ds on h = answers_peer_key start plan k j s v t0 u0 going going_back a b books p ds k_is j_is h
+        ask_answered (AskDuty.PeerKey B) ds on h = absurd (not_a h.treats.0.side)
+        ask_answered (AskDuty.Opened A) ds on h = absurd (not_b (h.treats.1.keyed (third_shows h.treats.0 (sym h.treats.1.opened ∙ opened_is p.a on))))
+        ask_answered (AskDuty.Opened B) ds on h = answers_opened_b start plan k j s v t0 u0 going going_back a b books p k_is j_is ds on h
+        ask_answered (AskDuty.Live A) ds on h = answers_live_a start plan k j s v t0 u0 going going_back a b books p k_is j_is ds h
+        ask_answered (AskDuty.Live B) ds on h = answers_live_b start plan k j s v t0 u0 going going_back a b books p k_is j_is ds h
+        ask_answered (AskDuty.AckHeard A) ds on h = answers_ack_heard_a start plan k j s v t0 u0 going going_back a b books p k_is j_is ds h
+        ask_answered (AskDuty.AckHeard B) ds on h = answers_ack_heard_b start plan k j s v t0 u0 going going_back a b books p k_is j_is ds h
+        ask_answered (AskDuty.SubflowAck A) ds on h = absurd (both_ways _ (stays_subflow_ack_a start plan k j s v t0 u0 going going_back a b books p k_is j_is ds h) on)
+        ask_answered (AskDuty.SubflowAck B) ds on h = absurd (both_ways _ (stays_subflow_ack_b start plan k j s v t0 u0 going going_back a b books p k_is j_is ds h) on)
+        ask_answered (AskDuty.PlainData A) ds on h = absurd (both_ways _ (stays_plain_data_a start plan k j s v t0 u0 going going_back a b books p k_is j_is ds h) on)
+        ask_answered (AskDuty.PlainData B) ds on h = absurd (both_ways _ (stays_plain_data_b start plan k j s v t0 u0 going going_back a b books p k_is j_is ds h) on)
+        ask_answered (AskDuty.Edge A) ds on h = answers_edge_a start plan k j s v t0 u0 going going_back a b books p k_is j_is ds on h
+        ask_answered (AskDuty.Edge B) ds on h = answers_edge_b start plan k j s v t0 u0 going going_back a b books p k_is j_is ds on h
+        ask_answered (AskDuty.CheckFailed A) ds on h = absurd (both_ways _ (stays_right_a start plan k j s v t0 u0 going going_back a b books p k_is j_is ds h) on)
+        ask_answered (AskDuty.CheckFailed B) ds on h = absurd (both_ways _ (stays_right_b start plan k j s v t0 u0 going going_back a b books p k_is j_is ds h) on)
+        ask_answered (AskDuty.HeardFin A zero) ds on h = answers_heard_fin_a start plan k j s v t0 u0 going going_back a b books p k_is j_is ds on h
+        ask_answered (AskDuty.HeardFin B zero) ds on h = answers_heard_fin_b start plan k j s v t0 u0 going going_back a b books p k_is j_is ds on h
+        ask_answered (AskDuty.HeardFin A (suc zero)) ds on h = absurd (both_ways _ (ap (λ (o : Option ℕ). is_some o) (h.treats.0.1 0)) on)
+        ask_answered (AskDuty.HeardFin B (suc zero)) ds on h = absurd (both_ways _ (ap (λ (o : Option ℕ). is_some o) (h.treats.0.1 0)) on)
+        ask_answered (AskDuty.HeardFin A (suc (suc i))) ds on h = absurd (both_ways _ (ap (λ (o : Option ℕ). is_some o) (h.treats.0.1 (suc i))) on)
+        ask_answered (AskDuty.HeardFin B (suc (suc i))) ds on h = absurd (both_ways _ (ap (λ (o : Option ℕ). is_some o) (h.treats.0.1 (suc i))) on)
+        ask_answered (AskDuty.SubflowFin A) ds on h = absurd (both_ways _ (no_plain_fin p.a h.faces.own.modes.mapping) on)
+        ask_answered (AskDuty.SubflowFin B) ds on h = absurd (both_ways _ (no_plain_fin p.b h.faces.other.modes.mapping) on)
+        ask_answered (AskDuty.AckOut A) ds on h = answers_ack_out_a start plan k j s v t0 u0 going going_back a b books p k_is j_is ds h
+        ask_answered (AskDuty.AckOut B) ds on h = answers_ack_out_b start plan k j s v t0 u0 going going_back a b books p k_is j_is ds h
+        ask_answered (AskDuty.Rate A) ds on h = answers_rate_a start plan k j s v t0 u0 going going_back a b books p k_is j_is ds on h
+        ask_answered (AskDuty.Rate B) ds on h = answers_rate_b start plan k j s v t0 u0 going going_back a b books p k_is j_is ds on h
+        ask_answered (AskDuty.LeaveNoted A) ds on h = absurd (both_ways _ (no_leave p.a h.faces.own.notices) on)
+        ask_answered (AskDuty.LeaveNoted B) ds on h = absurd (both_ways _ (no_leave p.b h.faces.other.notices) on)
         ask_answered _ ds on h = absurd (both_ways _ refl h.treats.3)
 
         -- ---- duties that ask, send or take an event
 
-        step_answered : (d : StepDuty) (ds : List Duty) → Answered (duties.Step d) ds
-        step_answered (step_duties.Look A) ds on h = look_a start plan k j s v t0 u0 going going_back a b books p ds k_is j_is h
-        step_answered (step_duties.Look B) ds on h = look_b start plan k j s v t0 u0 going going_back a b books p ds k_is j_is h
-        step_answered (step_duties.Data A) ds on h = data_a start plan k j s v t0 u0 going going_back a b books p ds k_is j_is on h
-        step_answered (step_duties.Data B) ds on h = data_b start plan k j s v t0 u0 going going_back a b books p ds k_is j_is on h
-        step_answered step_duties.Events ds on h = answers_events start plan k j s v t0 u0 going going_back a b books p k_is j_is ds on h
-        step_answered (step_duties.Heard A zero) ds on h = absurd (both_ways _ (first_stays_a ds h) on)
-        step_answered (step_duties.Heard B zero) ds on h = answers_first_b start plan k j s v t0 u0 going going_back a b books p k_is j_is ds on h
-        step_answered (step_duties.Heard A (suc zero)) ds on h = answers_second_a start plan k j s v t0 u0 going going_back a b books p k_is j_is ds on h
-        step_answered (step_duties.Heard B (suc zero)) ds on h = answers_second_b start plan k j s v t0 u0 going going_back a b books p k_is j_is ds on h
-        step_answered (step_duties.Heard A (suc (suc zero))) ds on h = answers_last_a start plan k j s v t0 u0 going going_back a b books p k_is j_is ds on h
-        step_answered (step_duties.Heard B (suc (suc zero))) ds on h = answers_last_b start plan k j s v t0 u0 going going_back a b books p k_is j_is ds on h
-        step_answered (step_duties.Heard q (suc (suc (suc i)))) ds on h = absurd h.treats
-        step_answered (step_duties.PlainAck A) ds on h = absurd (both_ways _ (stays_plain_ack_a start plan k j s v t0 u0 going going_back a b books p k_is j_is ds h) on)
-        step_answered (step_duties.PlainAck B) ds on h = absurd (both_ways _ (stays_plain_ack_b start plan k j s v t0 u0 going going_back a b books p k_is j_is ds h) on)
-        step_answered (step_duties.Unmapped A) ds on h = absurd (both_ways _ (stays_mapped_a start plan k j s v t0 u0 going going_back a b books p k_is j_is ds h) on)
-        step_answered (step_duties.Unmapped B) ds on h = absurd (both_ways _ (stays_mapped_b start plan k j s v t0 u0 going going_back a b books p k_is j_is ds h) on)
+        step_answered : (d : StepDuty) (ds : List Duty) → Answered (Duty.Step d) ds
+        step_answered (StepDuty.Look A) ds on h = look_a start plan k j s v t0 u0 going going_back a b books p ds k_is j_is h
+        step_answered (StepDuty.Look B) ds on h = look_b start plan k j s v t0 u0 going going_back a b books p ds k_is j_is h
+        step_answered (StepDuty.Data A) ds on h = data_a start plan k j s v t0 u0 going going_back a b books p ds k_is j_is on h
+        step_answered (StepDuty.Data B) ds on h = data_b start plan k j s v t0 u0 going going_back a b books p ds k_is j_is on h
+        step_answered StepDuty.Events ds on h = answers_events start plan k j s v t0 u0 going going_back a b books p k_is j_is ds on h
+        step_answered (StepDuty.Heard A zero) ds on h = absurd (both_ways _ (first_stays_a ds h) on)
+        step_answered (StepDuty.Heard B zero) ds on h = answers_first_b start plan k j s v t0 u0 going going_back a b books p k_is j_is ds on h
+        step_answered (StepDuty.Heard A (suc zero)) ds on h = answers_second_a start plan k j s v t0 u0 going going_back a b books p k_is j_is ds on h
+        step_answered (StepDuty.Heard B (suc zero)) ds on h = answers_second_b start plan k j s v t0 u0 going going_back a b books p k_is j_is ds on h
+        step_answered (StepDuty.Heard A (suc (suc zero))) ds on h = answers_last_a start plan k j s v t0 u0 going going_back a b books p k_is j_is ds on h
+        step_answered (StepDuty.Heard B (suc (suc zero))) ds on h = answers_last_b start plan k j s v t0 u0 going going_back a b books p k_is j_is ds on h
+        step_answered (StepDuty.Heard q (suc (suc (suc i)))) ds on h = absurd h.treats
+        step_answered (StepDuty.PlainAck A) ds on h = absurd (both_ways _ (stays_plain_ack_a start plan k j s v t0 u0 going going_back a b books p k_is j_is ds h) on)
+        step_answered (StepDuty.PlainAck B) ds on h = absurd (both_ways _ (stays_plain_ack_b start plan k j s v t0 u0 going going_back a b books p k_is j_is ds h) on)
+        step_answered (StepDuty.Unmapped A) ds on h = absurd (both_ways _ (stays_mapped_a start plan k j s v t0 u0 going going_back a b books p k_is j_is ds h) on)
+        step_answered (StepDuty.Unmapped B) ds on h = absurd (both_ways _ (stays_mapped_b start plan k j s v t0 u0 going going_back a b books p k_is j_is ds h) on)
 
         -- ---- duties that send
 
         -- B's SYN goes out by its answer
-        syn_b_waits : (ds : List Duty) → Relation (with_agenda (duties.Send (send_duties.Syn B) ∷ ds) p) → is_syn_due p.b ≡ false
+        syn_b_waits : (ds : List Duty) → Relation (with_agenda (Duty.Send (SendDuty.Syn B) ∷ ds) p) → is_syn_due p.b ≡ false
         syn_b_waits ds h = ap (λ (x : Bool). x && is_some (find is_unsent p.b.tcp.send.records))
             (none_opens h.faces.out.control_came p.b.tcp.send.una p.b.tcp.send.finished p.b.tcp.state h.faces.other.subflow.phase)
 
@@ -235,37 +201,32 @@ module _ (start : Start) (plan : PathPlan) (k j : Setting) (s v : Lane) (t0 u0 :
         again_waits : (d : Due) (some owes : Bool) → d ≡ record nothing_due { ack = owes } → (d.first && some) ≡ false
         again_waits d some owes is = ap (λ (x : Due). x.first && some) is
 
-        send_answered : (d : SendDuty) (ds : List Duty) → Answered (duties.Send d) ds
-        send_answered (send_duties.Update A) ds on h = update_a start plan k j s v t0 u0 going going_back a b books p ds k_is j_is on h
-        send_answered (send_duties.Update B) ds on h = update_b start plan k j s v t0 u0 going going_back a b books p ds k_is j_is on h
-        send_answered (send_duties.Syn A) ds on h = syn_goes start plan k j s v t0 u0 going going_back a b books p ds k_is j_is on h
-        send_answered (send_duties.Syn B) ds on h = absurd (both_ways _ (syn_b_waits ds h) on)
-        send_answered (send_duties.FastClose A) ds on h = absurd (both_ways _ (no_fast_close p.a h.faces.own.notices) on)
-        send_answered (send_duties.FastClose B) ds on h = absurd (both_ways _ (no_fast_close p.b h.faces.other.notices) on)
-        send_answered (send_duties.Notice A) ds on h = absurd (both_ways _ (no_note p.a h.faces.own.notices) on)
-        send_answered (send_duties.Notice B) ds on h = absurd (both_ways _ (no_note p.b h.faces.other.notices) on)
-        send_answered (send_duties.DataFin A) ds on h = end_a start plan k j s v t0 u0 going going_back a b books p ds k_is j_is on h
-        send_answered (send_duties.DataFin B) ds on h = end_b start plan k j s v t0 u0 going going_back a b books p ds k_is j_is on h
-        send_answered (send_duties.Fin A) ds on h = fin_a start plan k j s v t0 u0 going going_back a b books p ds k_is j_is on h
-        send_answered (send_duties.Fin B) ds on h = fin_b start plan k j s v t0 u0 going going_back a b books p ds k_is j_is on h
-        send_answered (send_duties.SynAck A) ds on h = absurd (not_b h.treats.0.side)
-        send_answered (send_duties.SynAck B) ds on h = answers_syn_ack start plan k j s v t0 u0 going going_back a b books p ds k_is j_is h
-        send_answered (send_duties.Refuse q) ds on h = absurd (both_ways _ refl h.treats.3)
-        send_answered (send_duties.Acknowledge A) ds on h = answers_acknowledge_a start plan k j s v t0 u0 going going_back a b books p k_is j_is ds on h
-        send_answered (send_duties.Acknowledge B) ds on h = answers_acknowledge_b start plan k j s v t0 u0 going going_back a b books p k_is j_is ds on h
-        send_answered (send_duties.Again A) ds on h = absurd (both_ways _ (again_waits p.a.tcp.due (has_records p.a.tcp) h.faces.owes h.faces.own.subflow.due) on)
-        send_answered (send_duties.Again B) ds on h = absurd (both_ways _ (again_waits p.b.tcp.due (has_records p.b.tcp) h.faces.owes_back h.faces.other.subflow.due) on)
-        send_answered (send_duties.Answer q) ds on h = absurd (both_ways _ refl h.treats.3)
-        send_answered (send_duties.ResetAnswer q) ds on h = absurd (both_ways _ refl h.treats.3)
-        send_answered (send_duties.Resend q) ds on h = absurd (both_ways _ refl h.treats.3)
-        send_answered (send_duties.BreakReset q reason) ds on h = absurd (both_ways _ refl h.treats.3)
-        send_answered (send_duties.Reset q) ds on h = absurd (both_ways _ refl h.treats.3)
-        send_answered (send_duties.ResetNoted A) ds on h = absurd (both_ways _ (no_reset p.a h.faces.own.notices) on)
-        send_answered (send_duties.ResetNoted B) ds on h = absurd (both_ways _ (no_reset p.b h.faces.other.notices) on)
+        send_answered : (d : SendDuty) (ds : List Duty) → Answered (Duty.Send d) ds
+        send_answered (SendDuty.Update A) ds on h = update_a start plan k j s v t0 u0 going going_back a b books p ds k_is j_is on h
+        send_answered (SendDuty.Update B) ds on h = update_b start plan k j s v t0 u0 going going_back a b books p ds k_is j_is on h
+        send_answered (SendDuty.Syn A) ds on h = syn_goes start plan k j s v t0 u0 going going_back a b books p ds k_is j_is on h
+        send_answered (SendDuty.Syn B) ds on h = absurd (both_ways _ (syn_b_waits ds h) on)
+        send_answered (SendDuty.FastClose A) ds on h = absurd (both_ways _ (no_fast_close p.a h.faces.own.notices) on)
+        send_answered (SendDuty.FastClose B) ds on h = absurd (both_ways _ (no_fast_close p.b h.faces.other.notices) on)
+        send_answered (SendDuty.Notice A) ds on h = absurd (both_ways _ (no_note p.a h.faces.own.notices) on)
+        send_answered (SendDuty.Notice B) ds on h = absurd (both_ways _ (no_note p.b h.faces.other.notices) on)
+        send_answered (SendDuty.DataFin A) ds on h = end_a start plan k j s v t0 u0 going going_back a b books p ds k_is j_is on h
+        send_answered (SendDuty.DataFin B) ds on h = end_b start plan k j s v t0 u0 going going_back a b books p ds k_is j_is on h
+        send_answered (SendDuty.Fin A) ds on h = fin_a start plan k j s v t0 u0 going going_back a b books p ds k_is j_is on h
+        send_answered (SendDuty.Fin B) ds on h = fin_b start plan k j s v t0 u0 going going_back a b books p ds k_is j_is on h
+        send_answered (SendDuty.SynAck A) ds on h = absurd (not_b h.treats.0.side)
+        send_answered (SendDuty.SynAck B) ds on h = answers_syn_ack start plan k j s v t0 u0 going going_back a b books p ds k_is j_is h
+        send_answered (SendDuty.Acknowledge A) ds on h = answers_acknowledge_a start plan k j s v t0 u0 going going_back a b books p k_is j_is ds on h
+        send_answered (SendDuty.Acknowledge B) ds on h = answers_acknowledge_b start plan k j s v t0 u0 going going_back a b books p k_is j_is ds on h
+        send_answered (SendDuty.Again A) ds on h = absurd (both_ways _ (again_waits p.a.tcp.due (has_records p.a.tcp) h.faces.owes h.faces.own.subflow.due) on)
+        send_answered (SendDuty.Again B) ds on h = absurd (both_ways _ (again_waits p.b.tcp.due (has_records p.b.tcp) h.faces.owes_back h.faces.other.subflow.due) on)
+        send_answered (SendDuty.ResetNoted A) ds on h = absurd (both_ways _ (no_reset p.a h.faces.own.notices) on)
+        send_answered (SendDuty.ResetNoted B) ds on h = absurd (both_ways _ (no_reset p.b h.faces.other.notices) on)
+        send_answered _ ds on h = absurd (both_ways _ refl h.treats.3)
 
         pub duty_answered : (d : Duty) (ds : List Duty) → Answered d ds
-        duty_answered (duties.Ask d) ds on h = ask_answered d ds on h
-        duty_answered (duties.Step d) ds on h = step_answered d ds on h
-        duty_answered (duties.Send d) ds on h = send_answered d ds on h
-        duty_answered (duties.Silent d) ds on h = never on
-        duty_answered duties.End ds on h = ends start plan k j s v a b books p ds h
+        duty_answered (Duty.Ask d) ds on h = ask_answered d ds on h
+        duty_answered (Duty.Step d) ds on h = step_answered d ds on h
+        duty_answered (Duty.Send d) ds on h = send_answered d ds on h
+        duty_answered (Duty.Silent d) ds on h = never on
+        duty_answered Duty.End ds on h = ends start plan k j s v a b books p ds h

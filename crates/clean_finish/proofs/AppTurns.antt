@@ -1,17 +1,8 @@
 -- The turns of both applications of a lane begin.
-use Rattle.std.proofs.Common.{◌≡◌, ℕ, Bool, true, false, Option, None, Some, List, [], ◌∷◌}
-use Rattle.reassembly_book.specs.State.{Arriving, received}
+use Rattle.clean_finish.proofs.Words.{◌≡◌, ℕ, Bool, true, false, Option, None, List, [], ◌∷◌, Some, Arriving, received, AppState, app_next_round, Setting, Lane}
+use Rattle.clean_finish.proofs.Words.{all_left, Writer, Reader, Going, Moves, all_moves_going, IsAppTurn, WriterIs, WriterShows, ReaderIs, ReaderShows, Begun}
+use Rattle.clean_finish.proofs.Words.{Written, Closed, ReadAll}
 use Rattle.send_book.specs.State.{Sending}
-use Rattle.stream_apps.specs.Apps.{AppState}
-use Rattle.stream_apps.specs.AppSteps.{app_next_round}
-use Rattle.pace.specs.Lane.{Setting, Lane, Writer, Reader, all_left}
-use Rattle.pace.specs.Going.{Going}
-use Rattle.pace.specs.Rounds.{Moves}
-use Rattle.pace.proofs.Moving.{all_moves_going}
-use Rattle.clean_finish.specs.Reading.{ReaderIs, ReaderShows}
-use Rattle.clean_finish.specs.Running.{IsAppTurn}
-use Rattle.clean_finish.specs.Running.IsAppTurn.{Begun, Written, Closed, ReadAll}
-use Rattle.clean_finish.specs.Writing.{WriterIs, WriterShows}
 use Rattle.clean_finish.proofs.Moving.{more_than, moves_then}
 use Rattle.clean_finish.proofs.Reading.{reading_begins}
 use Rattle.clean_finish.proofs.Writing.{turn_begins}

@@ -1,38 +1,17 @@
 -- The relation goes on with each step of an application.
-use Rattle.std.proofs.Common.{◌+◌, ◌≡◌, refl, sym, subst, ap, ◌∙◌, ℕ, ◌≤◌, Bool, true, false, not, ◌||◌, if◌then◌else◌, is_some, List, [], ◌∷◌, ◌++◌, length, take, replicate, le_refl, length-append, length-take, arith, map, Some}
-use Rattle.std.proofs.lemmas.Bool.{and_parts, not-true, both_ways}
-use Rattle.std.proofs.lemmas.List.{length-replicate}
-use Rattle.sides.specs.declared.side.Side.{Side}
-use Rattle.sides.specs.declared.side.Side.TheVariants.{A, B}
-use Rattle.send_book.specs.declared.call.SendCall.TheVariants as send_calls
-use Rattle.send_book.specs.declared.mark.ByteMark.TheVariants.{Free}
-use Rattle.send_book.specs.Tried.{no_paths}
+use Rattle.clean_finish.proofs.Words.{◌≡◌, refl, sym, subst, ap, ◌∙◌, ℕ, ◌+◌, ◌≤◌, Bool, true, false, not, ◌||◌, if◌then◌else◌, List, [], ◌∷◌, ◌++◌, length}
+use Rattle.clean_finish.proofs.Words.{map, arith, Some, le_refl, is_some, replicate, take, length-take, both_ways, and_parts, not-true, length-replicate, Side}
+use Rattle.clean_finish.proofs.Words.{A, B, Arriving, filled, after_read, after_reading, ReassemblyCall, after_write, after_close, bytes_taken, Free, SendCall}
+use Rattle.clean_finish.proofs.Words.{no_paths, is_nil, SixBooks, Ask, books_in, after_entry, AppDuty, Write, Close, Read, End, FastClose, AbortSend}
+use Rattle.clean_finish.proofs.Words.{AbortReceive, app_ask, app_takes, offered, app_stands, Carried, Setting, Lane, all_left, Sender, Going, all_moves_going}
+use Rattle.clean_finish.proofs.Words.{PathPlan, Start, answer_to, Cast, Fare, after_a, after_b, BookIs, keys_in, Running, IsAppTurn, Begun, Written, Closed}
+use Rattle.clean_finish.proofs.Words.{ReadAll}
+use Rattle.std.proofs.Common.{length-append}
 use Rattle.send_book.specs.State.{Sending}
-use Rattle.send_book.specs.Steps.{bytes_taken, after_write, after_close}
-use Rattle.reassembly_book.specs.declared.call.ReassemblyCall.TheVariants as reassembly_calls
-use Rattle.reassembly_book.specs.State.{Arriving, filled}
-use Rattle.reassembly_book.specs.Steps.{after_read, after_reading}
-use Rattle.actor_desk.specs.declared.ask.Ask.{Ask}
-use Rattle.actor_desk.specs.declared.ask.Ask.TheVariants as asks
-use Rattle.actor_desk.specs.declared.ask.LocalStep.TheVariants as steps
-use Rattle.actor_desk.specs.Words.{is_nil}
-use Rattle.actor_desk.specs.Books.{books_in, after_entry}
-use Rattle.actor_desk.specs.Desk.{SixBooks}
-use Rattle.stream_apps.specs.declared.duty.AppDuty.{AppDuty}
-use Rattle.stream_apps.specs.declared.duty.AppDuty.TheVariants.{Write, Close, Read, End, FastClose, AbortSend, AbortReceive}
-use Rattle.stream_apps.specs.AppSteps.{offered, app_stands, app_ask, app_takes}
+use Rattle.actor_desk.specs.declared.ask.LocalStep.{LocalStep}
 use Rattle.stream_apps.specs.Turns.{FirstAppStands}
-use Rattle.path_core.specs.Values.{Carried}
-use Rattle.world_laws.specs.Openings.{PathPlan, Start}
-use Rattle.world_laws.specs.StampedBooks.{answer_to}
-use Rattle.world_laws.proofs.Worlds.Casts.{Cast, Fare, after_a, after_b}
 use Rattle.world_laws.proofs.Weaving.Journals.{books_after}
-use Rattle.pace.specs.Lane.{Setting, Lane, Sender, all_left}
-use Rattle.pace.specs.Going.{Going}
-use Rattle.pace.proofs.Moving.{all_moves_going}
-use Rattle.clean_finish.specs.Shows.{BookIs}
-use Rattle.clean_finish.specs.Running.{Running, IsAppTurn, keys_in}
-use Rattle.clean_finish.specs.Running.IsAppTurn.{Begun, Written, Closed, ReadAll, Ended}
+use Rattle.clean_finish.specs.Running.IsAppTurn.{Ended}
 use Rattle.clean_finish.proofs.TakenMarks.{taken_written}
 use Rattle.clean_finish.proofs.Acting.{Acts, acts_by_write, acts_by_close, acts_by_read, acts_by_end}
 use Rattle.clean_finish.proofs.Moving.{more_than, moves_then}
@@ -43,52 +22,34 @@ use Rattle.clean_finish.proofs.Whole.{read_whole}
 
 from_write : (es ds : List AppDuty) → IsAppTurn es → es ≡ Write ∷ ds → es ≡ Write ∷ Close ∷ Read ∷ End ∷ []
 from_write _ ds Begun e = refl
-from_write _ ds Written e = cc
-from_write _ ds Closed e = cc
-from_write _ ds ReadAll e = cc
-from_write _ ds Ended e = cc
+from_write _ ds _ e = cc
 
 from_close : (es ds : List AppDuty) → IsAppTurn es → es ≡ Close ∷ ds → es ≡ Close ∷ Read ∷ End ∷ []
-from_close _ ds Begun e = cc
 from_close _ ds Written e = refl
-from_close _ ds Closed e = cc
-from_close _ ds ReadAll e = cc
-from_close _ ds Ended e = cc
+from_close _ ds _ e = cc
 
 from_read : (es ds : List AppDuty) → IsAppTurn es → es ≡ Read ∷ ds → es ≡ Read ∷ End ∷ []
-from_read _ ds Begun e = cc
-from_read _ ds Written e = cc
 from_read _ ds Closed e = refl
-from_read _ ds ReadAll e = cc
-from_read _ ds Ended e = cc
+from_read _ ds _ e = cc
 
 -- no turn stops the connection
 abbrev is_stop : AppDuty → Bool
 is_stop FastClose = true
 is_stop AbortSend = true
 is_stop AbortReceive = true
-is_stop Write = false
-is_stop Close = false
-is_stop Read = false
-is_stop End = false
+is_stop _ = false
 
 abbrev first_stops : List AppDuty → Bool
 first_stops [] = false
 first_stops (d ∷ ds) = is_stop d
 
 no_stop : (es : List AppDuty) (d : AppDuty) (ds : List AppDuty) → IsAppTurn es → es ≡ d ∷ ds → is_stop d ≡ true → ⊥
-no_stop _ d ds Begun e stops = both_ways (is_stop d) (sym (ap first_stops e)) stops
-no_stop _ d ds Written e stops = both_ways (is_stop d) (sym (ap first_stops e)) stops
-no_stop _ d ds Closed e stops = both_ways (is_stop d) (sym (ap first_stops e)) stops
-no_stop _ d ds ReadAll e stops = both_ways (is_stop d) (sym (ap first_stops e)) stops
 no_stop _ d ds Ended e stops = cc
+no_stop _ d ds _ e stops = both_ways (is_stop d) (sym (ap first_stops e)) stops
 
 from_end : (es ds : List AppDuty) → IsAppTurn es → es ≡ End ∷ ds → es ≡ End ∷ []
-from_end _ ds Begun e = cc
-from_end _ ds Written e = cc
-from_end _ ds Closed e = cc
 from_end _ ds ReadAll e = refl
-from_end _ ds Ended e = cc
+from_end _ ds _ e = cc
 
 some_left : (xs : List ℕ) → not (is_nil xs) ≡ true → 1 ≤ length xs
 some_left [] e = cc
@@ -247,8 +208,8 @@ module _ (start : Start) (plan : PathPlan) (k j : Setting) (s v : Lane) (t0 u0 :
 
       act_write : Fare start t → (ds : List AppDuty) → t.a.agenda ≡ Write ∷ ds → Running start plan k j s v (after_a (app_ask Write t.a) t)
       act_write f ds at =
-          let ask = asks.Send A (send_calls.Write (offered t.a)) in
-          subst (λ (side : Side). Running start plan k j s v (after_a (asks.Send side (send_calls.Write (offered t.a))) t))
+          let ask = Ask.Send A (SendCall.Write (offered t.a)) in
+          subst (λ (side : Side). Running start plan k j s v (after_a (Ask.Send side (SendCall.Write (offered t.a))) t))
           (sym f.a.side_is) (acted ask (after_write (offered t.a) six.send_a) six.reassembly_a (books_after ask t.at_a.pass t.books)
           (acts_by_write k s t0 h.stage h.out j v u0 h.stage_back h.back now now_back t.a six.send_a six.reassembly_a h.apps.writes
           h.apps_back.reads (from_write t.a.agenda ds h.turn at) (some_left t.a.rest (stands Write ds f at)) small)
@@ -256,8 +217,8 @@ module _ (start : Start) (plan : PathPlan) (k j : Setting) (s v : Lane) (t0 u0 :
 
       act_close : Fare start t → (ds : List AppDuty) → t.a.agenda ≡ Close ∷ ds → Running start plan k j s v (after_a (app_ask Close t.a) t)
       act_close f ds at =
-          let ask = asks.Send A send_calls.Close in
-          subst (λ (side : Side). Running start plan k j s v (after_a (asks.Send side send_calls.Close) t)) (sym f.a.side_is)
+          let ask = Ask.Send A SendCall.Close in
+          subst (λ (side : Side). Running start plan k j s v (after_a (Ask.Send side SendCall.Close) t)) (sym f.a.side_is)
           (acted ask (after_close six.send_a) six.reassembly_a (books_after ask t.at_a.pass t.books)
           (acts_by_close k s t0 h.stage h.out j v u0 h.stage_back h.back now now_back t.a six.send_a six.reassembly_a h.apps.writes
           h.apps_back.reads (from_close t.a.agenda ds h.turn at)
@@ -266,8 +227,8 @@ module _ (start : Start) (plan : PathPlan) (k j : Setting) (s v : Lane) (t0 u0 :
 
       act_read : Fare start t → (ds : List AppDuty) → t.a.agenda ≡ Read ∷ ds → Running start plan k j s v (after_a (app_ask Read t.a) t)
       act_read f ds at =
-          let ask = asks.Reassembly A (reassembly_calls.Read 65536) in
-          subst (λ (side : Side). Running start plan k j s v (after_a (asks.Reassembly side (reassembly_calls.Read 65536)) t))
+          let ask = Ask.Reassembly A (ReassemblyCall.Read 65536) in
+          subst (λ (side : Side). Running start plan k j s v (after_a (Ask.Reassembly side (ReassemblyCall.Read 65536)) t))
           (sym f.a.side_is) (acted ask six.send_a (after_read 65536 six.reassembly_a) (books_after ask t.at_a.pass t.books)
           (acts_by_read k s t0 h.stage h.out j v u0 h.stage_back h.back now now_back t.a six.send_a six.reassembly_a h.apps.writes
           h.apps_back.reads (from_read t.a.agenda ds h.turn at) (not-true t.a.told (stands Read ds f at)))
@@ -275,7 +236,7 @@ module _ (start : Start) (plan : PathPlan) (k j : Setting) (s v : Lane) (t0 u0 :
           (read_whole 65536 six.reassembly_a h.apps_back.whole))
 
       act_end : (ds : List AppDuty) → t.a.agenda ≡ End ∷ ds → Running start plan k j s v (after_a (app_ask End t.a) t)
-      act_end ds at = acted (asks.Local steps.End) six.send_a six.reassembly_a refl
+      act_end ds at = acted (Ask.Local LocalStep.End) six.send_a six.reassembly_a refl
           (acts_by_end k s t0 h.stage h.out j v u0 h.stage_back h.back now now_back t.a six.send_a six.reassembly_a h.apps.writes
           h.apps_back.reads (from_end t.a.agenda ds h.turn at))
           (record { book = h.apps.book; more = le_refl _; fin = refl }) h.apps_back.receives.capacity h.apps_back.whole
@@ -334,11 +295,7 @@ module _ (start : Start) (plan : PathPlan) (k j : Setting) (s v : Lane) (t0 u0 :
             };
             apps_back = record {
               writes = acts.writes.shows;
-              reads = record {
-                numbers = h.apps_back.reads.numbers;
-                received = h.apps_back.reads.received;
-                over = h.apps_back.reads.over;
-              };
+              reads = record { numbers = h.apps_back.reads.numbers; received = h.apps_back.reads.received; over = h.apps_back.reads.over };
               receives = record {
                 read = h.apps_back.receives.read;
                 received = h.apps_back.receives.received;
@@ -372,8 +329,8 @@ module _ (start : Start) (plan : PathPlan) (k j : Setting) (s v : Lane) (t0 u0 :
 
       act_b_write : Fare start t → (ds : List AppDuty) → t.b.agenda ≡ Write ∷ ds → Running start plan k j s v (after_b (app_ask Write t.b) t)
       act_b_write f ds at =
-          let ask = asks.Send B (send_calls.Write (offered t.b)) in
-          subst (λ (side : Side). Running start plan k j s v (after_b (asks.Send side (send_calls.Write (offered t.b))) t))
+          let ask = Ask.Send B (SendCall.Write (offered t.b)) in
+          subst (λ (side : Side). Running start plan k j s v (after_b (Ask.Send side (SendCall.Write (offered t.b))) t))
           (sym f.b.side_is) (acted_back ask (after_write (offered t.b) six.send_b) six.reassembly_b (books_after ask t.at_b.pass t.books)
           (acts_by_write j v u0 h.stage_back h.back k s t0 h.stage h.out now_back now t.b six.send_b six.reassembly_b h.apps_back.writes
           h.apps.reads (from_write t.b.agenda ds h.turn_back at) (some_left t.b.rest (stands_b Write ds f at)) small_back)
@@ -381,8 +338,8 @@ module _ (start : Start) (plan : PathPlan) (k j : Setting) (s v : Lane) (t0 u0 :
 
       act_b_close : Fare start t → (ds : List AppDuty) → t.b.agenda ≡ Close ∷ ds → Running start plan k j s v (after_b (app_ask Close t.b) t)
       act_b_close f ds at =
-          let ask = asks.Send B send_calls.Close in
-          subst (λ (side : Side). Running start plan k j s v (after_b (asks.Send side send_calls.Close) t)) (sym f.b.side_is)
+          let ask = Ask.Send B SendCall.Close in
+          subst (λ (side : Side). Running start plan k j s v (after_b (Ask.Send side SendCall.Close) t)) (sym f.b.side_is)
           (acted_back ask (after_close six.send_b) six.reassembly_b (books_after ask t.at_b.pass t.books)
           (acts_by_close j v u0 h.stage_back h.back k s t0 h.stage h.out now_back now t.b six.send_b six.reassembly_b h.apps_back.writes
           h.apps.reads (from_close t.b.agenda ds h.turn_back at)
@@ -391,8 +348,8 @@ module _ (start : Start) (plan : PathPlan) (k j : Setting) (s v : Lane) (t0 u0 :
 
       act_b_read : Fare start t → (ds : List AppDuty) → t.b.agenda ≡ Read ∷ ds → Running start plan k j s v (after_b (app_ask Read t.b) t)
       act_b_read f ds at =
-          let ask = asks.Reassembly B (reassembly_calls.Read 65536) in
-          subst (λ (side : Side). Running start plan k j s v (after_b (asks.Reassembly side (reassembly_calls.Read 65536)) t))
+          let ask = Ask.Reassembly B (ReassemblyCall.Read 65536) in
+          subst (λ (side : Side). Running start plan k j s v (after_b (Ask.Reassembly side (ReassemblyCall.Read 65536)) t))
           (sym f.b.side_is) (acted_back ask six.send_b (after_read 65536 six.reassembly_b) (books_after ask t.at_b.pass t.books)
           (acts_by_read j v u0 h.stage_back h.back k s t0 h.stage h.out now_back now t.b six.send_b six.reassembly_b h.apps_back.writes
           h.apps.reads (from_read t.b.agenda ds h.turn_back at) (not-true t.b.told (stands_b Read ds f at)))
@@ -400,7 +357,7 @@ module _ (start : Start) (plan : PathPlan) (k j : Setting) (s v : Lane) (t0 u0 :
           (read_whole 65536 six.reassembly_b h.apps.whole))
 
       act_b_end : (ds : List AppDuty) → t.b.agenda ≡ End ∷ ds → Running start plan k j s v (after_b (app_ask End t.b) t)
-      act_b_end ds at = acted_back (asks.Local steps.End) six.send_b six.reassembly_b refl
+      act_b_end ds at = acted_back (Ask.Local LocalStep.End) six.send_b six.reassembly_b refl
           (acts_by_end j v u0 h.stage_back h.back k s t0 h.stage h.out now_back now t.b six.send_b six.reassembly_b h.apps_back.writes
           h.apps.reads (from_end t.b.agenda ds h.turn_back at))
           (record { book = h.apps_back.book; more = le_refl _; fin = refl }) h.apps.receives.capacity h.apps.whole

@@ -1,27 +1,9 @@
 -- A copy arrives at B: both lanes at its tick, as B sees them, and the segment that it carries.
-use Rattle.std.proofs.Common.{◌≡◌, refl, sym, subst, ap, ◌∙◌, ℕ, ◌+◌, ◌<◌, ◌≤◌, max, false, inl, Option, List, [], ◌∷◌, ◌++◌, map, arith}
-use Rattle.sides.specs.declared.side.Side.TheVariants.{A, B}
-use Rattle.link_model.specs.declared.flight.Flight.{Flight}
-use Rattle.link_model.specs.Laws.{going_to}
-use Rattle.link_model.specs.Steps.{due_of}
-use Rattle.path_segments.specs.Laws.{meant}
-use Rattle.subflow_tcp.specs.declared.verdicts.Meaning.{Meaning}
-use Rattle.subflow_tcp.specs.Judging.{meaning_of}
-use Rattle.actor_desk.specs.Desk.{SixBooks}
-use Rattle.stream_apps.specs.Apps.{AppState}
-use Rattle.path_agenda.specs.declared.duty.Duty.TheVariants as duties
-use Rattle.path_agenda.specs.declared.duty.StepDuty.TheVariants as step_duties
-use Rattle.path_core.specs.Arrival.{copy_of, copy_taken}
-use Rattle.path_core.specs.MpJoin.{is_joined}
-use Rattle.path_core.specs.State.{PathState}
-use Rattle.path_core.specs.Values.{Carried, values}
-use Rattle.world_laws.specs.Openings.{PathPlan, Start}
-use Rattle.pace.specs.Lane.{Setting, Copy, Lane, all_left}
-use Rattle.pace.specs.Going.{Going}
-use Rattle.pace.specs.Lists.{first_at}
-use Rattle.clean_finish.specs.Segments.{Sent, Keys, copy_in, said, CountsAs, TellsAs, AcknowledgesAs, ShowsFirst, BringsAs, Follow}
-use Rattle.clean_finish.specs.Shows.{Hand, brings_in}
-use Rattle.clean_finish.specs.Running.{Facing, half, IsSetting, Runs, keys_in, LinkIs}
+use Rattle.clean_finish.proofs.Words.{◌≡◌, refl, sym, subst, ap, ◌∙◌, ℕ, ◌+◌, ◌<◌, ◌≤◌, max, false, inl, Option, List, [], ◌∷◌, ◌++◌, map, arith, A, B, Meaning}
+use Rattle.clean_finish.proofs.Words.{meaning_of, Flight, going_to, due_of, meant, Duty, StepDuty, SixBooks, AppState, Carried, values, copy_of, copy_taken}
+use Rattle.clean_finish.proofs.Words.{PathState, is_joined, Setting, Copy, Lane, all_left, Going, first_at, PathPlan, Start, Hand, brings_in, Sent, Keys}
+use Rattle.clean_finish.proofs.Words.{BringsAs, copy_in, CountsAs, TellsAs, AcknowledgesAs, ShowsFirst, said, Follow, IsSetting, Runs, keys_in, Facing, half}
+use Rattle.clean_finish.proofs.Words.{LinkIs}
 use Rattle.clean_finish.proofs.Arriving.{AreFrom, way_from, FirstSent, first_sent, first_later, from_first, going_from, link_arrived}
 use Rattle.clean_finish.proofs.CopyTaken.{arrived, heard_as, taken_is, told_is}
 use Rattle.clean_finish.proofs.Moved.{moves_on}
@@ -42,7 +24,7 @@ module _ (start : Start) (plan : PathPlan) (k j : Setting) (s v : Lane) (t0 u0 :
 
         -- as it stands before
         abbrev pub q : PathState Carried
-        q = record p { link = record p.link { under_way = copy ∷ others }; agenda = (duties.Step step_duties.Events) ∷ duties.End ∷ [] }
+        q = record p { link = record p.link { under_way = copy ∷ others }; agenda = (Duty.Step StepDuty.Events) ∷ Duty.End ∷ [] }
 
         abbrev pub tick : ℕ
         tick = max p.clock f.tick
@@ -92,11 +74,11 @@ module _ (start : Start) (plan : PathPlan) (k j : Setting) (s v : Lane) (t0 u0 :
           here = way_from p.profile keys k j B h.back.sender h.back.receiver h.back.datas h.out.acks h.hand p.a.tcp.send.una p.b.tcp.recv.edge
               tick p.until (going_to A (copy ∷ others)) h.way_back h.treats.0.0.none (going_from tick A (copy ∷ others) all_from) (under before)
 
-          abbrev pub moved : Facing A keys k j p.profile s v (half A a books q) (half B b books q) tick p.until ((duties.Step step_duties.Events) ∷ duties.End ∷ [])
-          moved = moves_on ((duties.Step step_duties.Events) ∷ duties.End ∷ []) h.faces tick (inl refl) (up p.clock f.tick) before there.0 here.1 here.0 there.1
+          abbrev pub moved : Facing A keys k j p.profile s v (half A a books q) (half B b books q) tick p.until ((Duty.Step StepDuty.Events) ∷ Duty.End ∷ [])
+          moved = moves_on ((Duty.Step StepDuty.Events) ∷ Duty.End ∷ []) h.faces tick (inl refl) (up p.clock f.tick) before there.0 here.1 here.0 there.1
 
           -- as B sees it
-          abbrev pub faced : Facing B keys j k p.profile v s (half B b books q) (half A a books q) tick p.until ((duties.Step step_duties.Events) ∷ duties.End ∷ [])
+          abbrev pub faced : Facing B keys j k p.profile v s (half B b books q) (half A a books q) tick p.until ((Duty.Step StepDuty.Events) ∷ Duty.End ∷ [])
           faced = from_a keys k j s v a b books (record q { clock = tick }) moved
 
           pub link : LinkIs tick (record p.link { under_way = others })

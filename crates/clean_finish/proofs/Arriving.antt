@@ -1,22 +1,9 @@
 -- The copy that is first on its way arrives: the tick of it, and both lanes at that tick.
-use Rattle.std.proofs.Common.{◌≡◌, refl, sym, subst, ap, ◌∙◌, ℕ, ◌+◌, ◌≤◌, max, Bool, true, false, if◌then◌else◌, Option, None, List, [], ◌∷◌, ◌++◌, map, arith}
-use Rattle.std.specs.List.{AllByRecursion}
-use Rattle.sides.specs.declared.side.Side.{Side}
-use Rattle.sides.specs.declared.side.Side.TheVariants.{A, B}
-use Rattle.link_script.specs.Places.{same_side}
-use Rattle.link_model.specs.declared.flight.Flight.{Flight}
-use Rattle.link_model.specs.Laws.{going_to, WereSentBefore}
+use Rattle.clean_finish.proofs.Words.{◌≡◌, refl, sym, subst, ap, ◌∙◌, ℕ, ◌+◌, ◌≤◌, max, Bool, true, false, if◌then◌else◌, Option, None, List, [], ◌∷◌, ◌++◌}
+use Rattle.clean_finish.proofs.Words.{map, arith, AllByRecursion, Side, A, B, same_side, Flight, going_to, WereSentBefore, next_number, LinkState, earliest}
+use Rattle.clean_finish.proofs.Words.{Profile, Carried, Setting, Copy, Sender, Receiver, first_at, Timed, Hand, WayIs, brings_in, tells_in, Sent, Keys, copy_in}
+use Rattle.clean_finish.proofs.Words.{FliesAs, FlyAs, LinkIs}
 use Rattle.link_model.specs.Order.{AreInOrder}
-use Rattle.link_model.specs.State.{LinkState}
-use Rattle.link_model.specs.Steps.{next_number}
-use Rattle.link_model.proofs.Order.{earliest}
-use Rattle.path_core.specs.Profile.{Profile}
-use Rattle.path_core.specs.Values.{Carried}
-use Rattle.pace.specs.Lane.{Setting, Copy, Sender, Receiver}
-use Rattle.pace.specs.Lists.{first_at, Timed}
-use Rattle.clean_finish.specs.Segments.{Sent, Keys, copy_in, FliesAs, FlyAs}
-use Rattle.clean_finish.specs.Shows.{Hand, brings_in, tells_in, WayIs}
-use Rattle.clean_finish.specs.Running.{LinkIs}
 use Rattle.clean_finish.proofs.Waited.{some_late}
 
 abbrev pub AreFrom : ℕ → List (Flight Carried) → Type 0

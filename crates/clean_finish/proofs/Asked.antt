@@ -1,39 +1,21 @@
 -- The book is asked what is acknowledged, and for the window, as a turn begins.
-use Rattle.std.proofs.Common.{◌≡◌, refl, ap, ℕ, ◌+◌, ◌-◌, ◌≤◌, min, false, ◌⊎◌, inl, inr, List, ◌∷◌, arith}
-use Rattle.sides.specs.declared.side.Side.{Side}
-use Rattle.sides.specs.Side.{peer}
-use Rattle.path_segments.specs.Laws.{window_told}
-use Rattle.reassembly_book.specs.declared.call.ReassemblyReply.TheVariants as reassembly_replies
-use Rattle.reassembly_book.specs.Steps.{next_wanted, window}
-use Rattle.actor_desk.specs.declared.ask.Reply.TheVariants as replies
-use Rattle.path_agenda.specs.declared.duty.Duty.{Duty}
-use Rattle.path_agenda.specs.declared.duty.Duty.TheVariants as duties
-use Rattle.path_agenda.specs.declared.duty.AskDuty.TheVariants as ask_duties
-use Rattle.path_core.specs.End.{PathEnd}
-use Rattle.path_core.specs.Standing.{after_ack_out}
-use Rattle.path_core.specs.Profile.{Profile}
-use Rattle.pace.specs.Lane.{Setting, Lane, all_left}
-use Rattle.pace.specs.Rules.{asked_out}
-use Rattle.pace.specs.Going.{Going}
-use Rattle.pace.specs.Moves.Move.{asks as lane_asks}
-use Rattle.clean_finish.specs.Books.{AsksAsALane}
-use Rattle.clean_finish.specs.Segments.{Keys}
-use Rattle.clean_finish.specs.Shows.{EndIs, IsToldEdge}
-use Rattle.clean_finish.specs.Shows.IsToldEdge.{Same, Before}
-use Rattle.clean_finish.specs.Running.{Half, Facing, IsSetting, HasNotBegun}
+use Rattle.clean_finish.proofs.Words.{◌≡◌, refl, ap, ℕ, ◌+◌, ◌-◌, ◌≤◌, min, false, ◌⊎◌, inl, inr, List, ◌∷◌, arith, Side, peer, next_wanted, window}
+use Rattle.clean_finish.proofs.Words.{window_told, Duty, AskDuty, Reply, Profile, PathEnd, after_ack_out, Setting, Lane, all_left, Going, lane_asks, asked_out}
+use Rattle.clean_finish.proofs.Words.{EndIs, IsToldEdge, Keys, Same, Before, IsSetting, Facing, Half, HasNotBegun, AsksAsALane}
+use Rattle.reassembly_book.specs.declared.call.ReassemblyReply.{ReassemblyReply}
 use Rattle.clean_finish.proofs.Books.{asks_as_lanes}
 use Rattle.clean_finish.proofs.Dropping.{differ, behind, IsApart, stage_drops, window_drops, settles_drop, begun_drops}
 use Rattle.clean_finish.proofs.Passing.{side_of, stands_then, peer_is_other}
 use Rattle.clean_finish.proofs.Quiet.{now_back}
 
-pub same_window : {p q : Side} → duties.Ask (ask_duties.Window p) ≡ duties.Ask (ask_duties.Window q) → p ≡ q
+pub same_window : {p q : Side} → Duty.Ask (AskDuty.Window p) ≡ Duty.Ask (AskDuty.Window q) → p ≡ q
 same_window e = ap side_of e
 
 module _ {s : Side} {keys : Keys} {k j : Setting} {c : Profile} {begun begun_back : Lane} {m n : Half} {clock until : ℕ} (ticks t u : ℕ)
     (k_is : IsSetting c ticks k) (j_is : IsSetting c ticks j)
     (going : Going k begun t all_left begun) (going_back : Going j begun_back u all_left begun_back)
   where
-    module _ {ds : List Duty} (h : Facing s keys k j c begun begun_back m n clock until (duties.Ask (ask_duties.Window s) ∷ ds)) where
+    module _ {ds : List Duty} (h : Facing s keys k j c begun begun_back m n clock until (Duty.Ask (AskDuty.Window s) ∷ ds)) where
       back_now : Going j begun_back u h.stage_back h.back
       back_now = now_back ticks t u k_is j_is going going_back h
 
@@ -47,14 +29,14 @@ module _ {s : Side} {keys : Keys} {k j : Setting} {c : Profile} {begun begun_bac
       back_after = asked_out j limit h.back
 
       abbrev pub end_after : PathEnd
-      end_after = after_ack_out (replies.Reassembly (reassembly_replies.Ack (next_wanted m.arrived) (window m.arrived))) m.end
+      end_after = after_ack_out (Reply.Reassembly (ReassemblyReply.Ack (next_wanted m.arrived) (window m.arrived))) m.end
 
       told_after : IsToldEdge s j h.owes h.back.receiver m.end.receiving.told_edge
           → IsToldEdge s j h.owes back_after.receiver m.end.receiving.told_edge
       told_after (Same same) = Same same
       told_after (Before side none least full) = Before side none least full
 
-      pub others : IsApart s (peer s) (duties.Ask (ask_duties.Window s))
+      pub others : IsApart s (peer s) (Duty.Ask (AskDuty.Window s))
       others = record {
         window = λ e. peer_is_other s (same_window e);
         update = differ refl;
@@ -73,7 +55,7 @@ module _ {s : Side} {keys : Keys} {k j : Setting} {c : Profile} {begun begun_bac
           → read + capacity - came ≡ buffer
       whole fits is none same low = omega (arith, fits, is, none, same, low)
 
-      pub begun_after : (1 ≤ h.out.control_sent) ⊎ HasNotBegun s j h.out.sender h.back.receiver m.end (duties.Ask (ask_duties.Window s) ∷ ds)
+      pub begun_after : (1 ≤ h.out.control_sent) ⊎ HasNotBegun s j h.out.sender h.back.receiver m.end (Duty.Ask (AskDuty.Window s) ∷ ds)
           → (1 ≤ h.out.control_sent) ⊎ HasNotBegun s j h.out.sender back_after.receiver end_after ds
       begun_after (inl sent) = inl sent
       begun_after (inr none) = inr (record {
@@ -95,10 +77,7 @@ module _ {s : Side} {keys : Keys} {k j : Setting} {c : Profile} {begun begun_bac
           records = h.own.subflow.records;
           ahead = h.own.subflow.ahead;
           congestion = h.own.subflow.congestion;
-          come = record {
-            edge = h.own.subflow.come.edge;
-            window = h.own.subflow.come.window;
-          };
+          come = record { edge = h.own.subflow.come.edge; window = h.own.subflow.come.window };
           heard = h.own.subflow.heard;
           quiet = h.own.subflow.quiet;
           begun = h.own.subflow.begun;
@@ -185,15 +164,8 @@ module _ {s : Side} {keys : Keys} {k j : Setting} {c : Profile} {begun begun_bac
         };
         apps = h.apps;
         apps_back = record {
-          writes = record {
-            numbers = h.apps_back.writes.numbers;
-            over = h.apps_back.writes.over;
-          };
-          reads = record {
-            numbers = h.apps_back.reads.numbers;
-            received = h.apps_back.reads.received;
-            over = h.apps_back.reads.over;
-          };
+          writes = record { numbers = h.apps_back.writes.numbers; over = h.apps_back.writes.over };
+          reads = record { numbers = h.apps_back.reads.numbers; received = h.apps_back.reads.received; over = h.apps_back.reads.over };
           receives = record {
             read = h.apps_back.receives.read;
             received = h.apps_back.receives.received;
@@ -210,16 +182,16 @@ module _ {s : Side} {keys : Keys} {k j : Setting} {c : Profile} {begun begun_bac
           whole = h.apps_back.whole;
           fin = h.apps_back.fin;
         };
-        stages = stage_drops s (peer s) (duties.Ask (ask_duties.Window s)) ds n.end.treated.asked h.owes_back h.stage others h.stages;
-        stages_back = window_drops (peer s) s (duties.Ask (ask_duties.Window s)) ds m.end.treated.asked h.owes h.stage_back refl h.stages_back;
+        stages = stage_drops s (peer s) (Duty.Ask (AskDuty.Window s)) ds n.end.treated.asked h.owes_back h.stage others h.stages;
+        stages_back = window_drops (peer s) s (Duty.Ask (AskDuty.Window s)) ds m.end.treated.asked h.owes h.stage_back refl h.stages_back;
         control = h.control;
         control_back = h.control_back;
         turn = h.turn;
         turn_back = h.turn_back;
-        settles = settles_drop s (duties.Ask (ask_duties.Window s)) ds m.end (differ refl) h.settles;
-        settles_back = settles_drop (peer s) (duties.Ask (ask_duties.Window s)) ds n.end (differ refl) h.settles_back;
+        settles = settles_drop s (Duty.Ask (AskDuty.Window s)) ds m.end (differ refl) h.settles;
+        settles_back = settles_drop (peer s) (Duty.Ask (AskDuty.Window s)) ds n.end (differ refl) h.settles_back;
         begins = begun_after h.begins;
-        begins_back = begun_drops (peer s) k h.back.sender h.out.receiver n.end (duties.Ask (ask_duties.Window s)) ds (λ e. peer_is_other s (same_window e)) (λ is. differ refl) h.begins_back;
+        begins_back = begun_drops (peer s) k h.back.sender h.out.receiver n.end (Duty.Ask (AskDuty.Window s)) ds (λ e. peer_is_other s (same_window e)) (λ is. differ refl) h.begins_back;
         owed = h.owed;
         owed_back = h.owed_back;
       }

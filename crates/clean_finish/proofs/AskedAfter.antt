@@ -1,28 +1,8 @@
 -- The book is asked what is acknowledged, after what a copy brought.
-use Rattle.std.proofs.Common.{◌≡◌, refl, ap, ℕ, ◌+◌, ◌≤◌, Bool, false, inl, inr, ⊎_elim, List, ◌∷◌}
-use Rattle.std.proofs.lemmas.Bool.{both_ways}
-use Rattle.sides.specs.declared.side.Side.{Side}
-use Rattle.sides.specs.declared.side.Side.TheVariants.{A}
-use Rattle.sides.specs.Side.{peer}
-use Rattle.path_segments.specs.Laws.{window_told}
-use Rattle.reassembly_book.specs.declared.call.ReassemblyReply.TheVariants as reassembly_replies
-use Rattle.reassembly_book.specs.Steps.{next_wanted, window}
-use Rattle.actor_desk.specs.declared.ask.Reply.TheVariants as replies
-use Rattle.path_agenda.specs.declared.duty.Duty.{Duty}
-use Rattle.path_agenda.specs.declared.duty.Duty.TheVariants as duties
-use Rattle.path_agenda.specs.declared.duty.AskDuty.TheVariants as ask_duties
-use Rattle.path_core.specs.End.{PathEnd}
-use Rattle.path_core.specs.Standing.{after_ack_out}
-use Rattle.path_core.specs.Profile.{Profile}
-use Rattle.pace.specs.Lane.{Setting, Lane, Stage, all_left}
-use Rattle.pace.specs.Rules.{asked_out}
-use Rattle.pace.specs.Going.{Going}
-use Rattle.pace.specs.Moves.Move.{asks as lane_asks}
-use Rattle.clean_finish.specs.Books.{AsksAsALane}
-use Rattle.clean_finish.specs.Segments.{Keys}
-use Rattle.clean_finish.specs.Shows.{EndIs, IsToldEdge}
-use Rattle.clean_finish.specs.Shows.IsToldEdge.{Same, Before}
-use Rattle.clean_finish.specs.Running.{Half, Facing, IsSetting, StageIs}
+use Rattle.clean_finish.proofs.Words.{◌≡◌, refl, ap, ℕ, ◌+◌, ◌≤◌, Bool, false, inl, inr, ⊎_elim, List, ◌∷◌, both_ways, Side, A, peer, next_wanted, window}
+use Rattle.clean_finish.proofs.Words.{window_told, Duty, AskDuty, Reply, Profile, PathEnd, after_ack_out, Setting, Lane, Stage, all_left, Going, lane_asks}
+use Rattle.clean_finish.proofs.Words.{asked_out, EndIs, IsToldEdge, Keys, Same, Before, IsSetting, Facing, Half, StageIs, AsksAsALane}
+use Rattle.reassembly_book.specs.declared.call.ReassemblyReply.{ReassemblyReply}
 use Rattle.clean_finish.proofs.Books.{asks_as_lanes}
 use Rattle.clean_finish.proofs.Dropping.{differ, behind, behind_or, IsApart, stage_drops, settles_drop, begun_drops}
 use Rattle.clean_finish.proofs.Passing.{stands_then, peer_is_other}
@@ -30,14 +10,14 @@ use Rattle.clean_finish.proofs.Quiet.{now_back}
 
 -- the side of the question
 abbrev asks_for : Duty → Side
-asks_for (duties.Ask (ask_duties.AckOut q)) = q
+asks_for (Duty.Ask (AskDuty.AckOut q)) = q
 asks_for _ = A
 
-same_question : {p q : Side} → duties.Ask (ask_duties.AckOut p) ≡ duties.Ask (ask_duties.AckOut q) → p ≡ q
+same_question : {p q : Side} → Duty.Ask (AskDuty.AckOut p) ≡ Duty.Ask (AskDuty.AckOut q) → p ≡ q
 same_question e = ap asks_for e
 
 -- it was asked
-pub out_drops : (s r : Side) (d : Duty) (ds : List Duty) (asked owes : Bool) (p : Stage) → d ≡ duties.Ask (ask_duties.AckOut r)
+pub out_drops : (s r : Side) (d : Duty) (ds : List Duty) (asked owes : Bool) (p : Stage) → d ≡ Duty.Ask (AskDuty.AckOut r)
     → StageIs s r (d ∷ ds) asked owes p → StageIs s r ds false owes (record p { ask = false; window = false })
 out_drops s r d ds asked owes p at is = record {
   window = inl refl;
@@ -51,7 +31,7 @@ out_drops s r d ds asked owes p at is = record {
 
 -- nothing is to be asked
 pub unasked_drops : (s r : Side) (ds : List Duty) (asked owes : Bool) (p : Stage) → asked ≡ false
-    → StageIs s r (duties.Ask (ask_duties.AckOut r) ∷ ds) asked owes p → StageIs s r ds asked owes p
+    → StageIs s r (Duty.Ask (AskDuty.AckOut r) ∷ ds) asked owes p → StageIs s r ds asked owes p
 unasked_drops s r ds asked owes p none is = record {
   window = behind_or ds (differ refl) is.window;
   update = behind_or ds (differ refl) is.update;
@@ -65,7 +45,7 @@ unasked_drops s r ds asked owes p none is = record {
 module _ {s : Side} {keys : Keys} {k j : Setting} {c : Profile} {begun begun_back : Lane} {m n : Half} {clock until : ℕ} (ticks t u : ℕ)
     (k_is : IsSetting c ticks k) (j_is : IsSetting c ticks j)
     (going : Going k begun t all_left begun) (going_back : Going j begun_back u all_left begun_back)
-    {ds : List Duty} (h : Facing s keys k j c begun begun_back m n clock until (duties.Ask (ask_duties.AckOut s) ∷ ds))
+    {ds : List Duty} (h : Facing s keys k j c begun begun_back m n clock until (Duty.Ask (AskDuty.AckOut s) ∷ ds))
   where
     back_now : Going j begun_back u h.stage_back h.back
     back_now = now_back ticks t u k_is j_is going going_back h
@@ -80,7 +60,7 @@ module _ {s : Side} {keys : Keys} {k j : Setting} {c : Profile} {begun begun_bac
     back_after = asked_out j limit h.back
 
     abbrev pub end_after : PathEnd
-    end_after = after_ack_out (replies.Reassembly (reassembly_replies.Ack (next_wanted m.arrived) (window m.arrived))) m.end
+    end_after = after_ack_out (Reply.Reassembly (ReassemblyReply.Ack (next_wanted m.arrived) (window m.arrived))) m.end
 
     module _ (some_sent : 1 ≤ h.out.control_sent) where
       told_after : IsToldEdge s j h.owes h.back.receiver m.end.receiving.told_edge
@@ -88,7 +68,7 @@ module _ {s : Side} {keys : Keys} {k j : Setting} {c : Profile} {begun begun_bac
       told_after (Same same) = Same same
       told_after (Before side none least full) = Before side none least full
 
-      pub others : IsApart s (peer s) (duties.Ask (ask_duties.AckOut s))
+      pub others : IsApart s (peer s) (Duty.Ask (AskDuty.AckOut s))
       others = record {
         window = differ refl;
         update = differ refl;
@@ -130,10 +110,7 @@ module _ {s : Side} {keys : Keys} {k j : Setting} {c : Profile} {begun begun_bac
             steady = h.own.subflow.congestion.steady;
             row = h.own.subflow.congestion.row;
           };
-          come = record {
-            edge = h.own.subflow.come.edge;
-            window = h.own.subflow.come.window;
-          };
+          come = record { edge = h.own.subflow.come.edge; window = h.own.subflow.come.window };
           heard = record {
             told = h.own.subflow.heard.told;
             most = h.own.subflow.heard.most;
@@ -236,41 +213,22 @@ module _ {s : Side} {keys : Keys} {k j : Setting} {c : Profile} {begun begun_bac
           passed = h.way_back.passed;
         };
         apps = record {
-          writes = record {
-            numbers = h.apps.writes.numbers;
-            over = h.apps.writes.over;
-          };
-          reads = record {
-            numbers = h.apps.reads.numbers;
-            received = h.apps.reads.received;
-            over = h.apps.reads.over;
-          };
+          writes = record { numbers = h.apps.writes.numbers; over = h.apps.writes.over };
+          reads = record { numbers = h.apps.reads.numbers; received = h.apps.reads.received; over = h.apps.reads.over };
           receives = record {
             read = h.apps.receives.read;
             received = h.apps.receives.received;
             known = h.apps.receives.known;
             capacity = h.apps.receives.capacity;
           };
-          book = record {
-            edge = h.apps.book.edge;
-            owner = h.apps.book.owner;
-            marks = h.apps.book.marks;
-            taken = h.apps.book.taken;
-          };
+          book = record { edge = h.apps.book.edge; owner = h.apps.book.owner; marks = h.apps.book.marks; taken = h.apps.book.taken };
           room = h.apps.room;
           whole = h.apps.whole;
           fin = h.apps.fin;
         };
         apps_back = record {
-          writes = record {
-            numbers = h.apps_back.writes.numbers;
-            over = h.apps_back.writes.over;
-          };
-          reads = record {
-            numbers = h.apps_back.reads.numbers;
-            received = h.apps_back.reads.received;
-            over = h.apps_back.reads.over;
-          };
+          writes = record { numbers = h.apps_back.writes.numbers; over = h.apps_back.writes.over };
+          reads = record { numbers = h.apps_back.reads.numbers; received = h.apps_back.reads.received; over = h.apps_back.reads.over };
           receives = record {
             read = h.apps_back.receives.read;
             received = h.apps_back.receives.received;
@@ -287,16 +245,16 @@ module _ {s : Side} {keys : Keys} {k j : Setting} {c : Profile} {begun begun_bac
           whole = h.apps_back.whole;
           fin = h.apps_back.fin;
         };
-        stages = stage_drops s (peer s) (duties.Ask (ask_duties.AckOut s)) ds n.end.treated.asked h.owes_back h.stage others h.stages;
-        stages_back = out_drops (peer s) s (duties.Ask (ask_duties.AckOut s)) ds m.end.treated.asked h.owes h.stage_back refl h.stages_back;
+        stages = stage_drops s (peer s) (Duty.Ask (AskDuty.AckOut s)) ds n.end.treated.asked h.owes_back h.stage others h.stages;
+        stages_back = out_drops (peer s) s (Duty.Ask (AskDuty.AckOut s)) ds m.end.treated.asked h.owes h.stage_back refl h.stages_back;
         control = h.control;
         control_back = h.control_back;
         turn = h.turn;
         turn_back = h.turn_back;
-        settles = settles_drop s (duties.Ask (ask_duties.AckOut s)) ds m.end (differ refl) h.settles;
-        settles_back = settles_drop (peer s) (duties.Ask (ask_duties.AckOut s)) ds n.end (differ refl) h.settles_back;
+        settles = settles_drop s (Duty.Ask (AskDuty.AckOut s)) ds m.end (differ refl) h.settles;
+        settles_back = settles_drop (peer s) (Duty.Ask (AskDuty.AckOut s)) ds n.end (differ refl) h.settles_back;
         begins = inl some_sent;
-        begins_back = begun_drops (peer s) k h.back.sender h.out.receiver n.end (duties.Ask (ask_duties.AckOut s)) ds (differ refl) (λ is. differ refl) h.begins_back;
+        begins_back = begun_drops (peer s) k h.back.sender h.out.receiver n.end (Duty.Ask (AskDuty.AckOut s)) ds (differ refl) (λ is. differ refl) h.begins_back;
         owed = h.owed;
         owed_back = h.owed_back;
       }
@@ -324,16 +282,16 @@ module _ {s : Side} {keys : Keys} {k j : Setting} {c : Profile} {begun begun_bac
         way_back = h.way_back;
         apps = h.apps;
         apps_back = h.apps_back;
-        stages = stage_drops s (peer s) (duties.Ask (ask_duties.AckOut s)) ds n.end.treated.asked h.owes_back h.stage others h.stages;
+        stages = stage_drops s (peer s) (Duty.Ask (AskDuty.AckOut s)) ds n.end.treated.asked h.owes_back h.stage others h.stages;
         stages_back = unasked_drops (peer s) s ds m.end.treated.asked h.owes h.stage_back unasked h.stages_back;
         control = h.control;
         control_back = h.control_back;
         turn = h.turn;
         turn_back = h.turn_back;
-        settles = settles_drop s (duties.Ask (ask_duties.AckOut s)) ds m.end (differ refl) h.settles;
-        settles_back = settles_drop (peer s) (duties.Ask (ask_duties.AckOut s)) ds n.end (differ refl) h.settles_back;
+        settles = settles_drop s (Duty.Ask (AskDuty.AckOut s)) ds m.end (differ refl) h.settles;
+        settles_back = settles_drop (peer s) (Duty.Ask (AskDuty.AckOut s)) ds n.end (differ refl) h.settles_back;
         begins = inl some_sent;
-        begins_back = begun_drops (peer s) k h.back.sender h.out.receiver n.end (duties.Ask (ask_duties.AckOut s)) ds (differ refl) (λ is. differ refl) h.begins_back;
+        begins_back = begun_drops (peer s) k h.back.sender h.out.receiver n.end (Duty.Ask (AskDuty.AckOut s)) ds (differ refl) (λ is. differ refl) h.begins_back;
         owed = h.owed;
         owed_back = h.owed_back;
       }

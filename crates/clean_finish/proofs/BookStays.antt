@@ -1,9 +1,7 @@
 -- A Data ACK of nothing, whose window reaches no further than what is known, leaves the send book as it is.
-use Rattle.std.proofs.Common.{◌≡◌, ap, ◌∙◌, ℕ, ◌+◌, ◌≤◌, max, min, nat_lt, Bool, ◌||◌, if◌then◌else◌, ◌++◌, length, drop, replicate, arith}
-use Rattle.std.proofs.lemmas.Bool.{le-ltb}
+use Rattle.clean_finish.proofs.Words.{◌≡◌, ap, ◌∙◌, ℕ, ◌+◌, ◌≤◌, min, max, nat_lt, Bool, ◌||◌, if◌then◌else◌, ◌++◌, length, arith, drop, replicate, le-ltb}
+use Rattle.clean_finish.proofs.Words.{after_ack, Acked}
 use Rattle.send_book.specs.State.{Sending}
-use Rattle.send_book.specs.declared.mark.ByteMark.TheVariants.{Acked}
-use Rattle.send_book.specs.Steps.{after_ack}
 use Rattle.clean_finish.proofs.Cleared.{or_false}
 
 abbrev heard_book : ℕ → ℕ → Bool → Sending → Sending

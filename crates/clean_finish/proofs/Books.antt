@@ -1,17 +1,9 @@
 -- What the books answer to a path, beside the moves of its lanes.
-use Rattle.std.proofs.Common.{◌≡◌, sym, subst, ap, ◌∙◌, drop_of_length-le, ℕ, zero, suc, ◌+◌, ◌-◌, ◌≤◌, min, max, Bool, true, false, cond, if◌then◌else◌, ⊎_elim, Option, List, [], ◌∷◌, ◌++◌, length, drop, replicate, fold, le_refl, arith}
-use Rattle.std.proofs.lemmas.Bool.{cases_lt, cases_eq, eq-eqb, ne_eqb}
-use Rattle.reassembly_book.specs.State.{received}
-use Rattle.reassembly_book.specs.Steps.{is_end, next_wanted, window}
-use Rattle.send_book.specs.declared.mark.ByteMark.{ByteMark}
-use Rattle.send_book.specs.declared.mark.ByteMark.TheVariants.{Acked}
-use Rattle.send_book.specs.Marks.{is_acked}
-use Rattle.send_book.specs.State.{Sending, acked_len}
-use Rattle.send_book.specs.Steps.{fin_after}
-use Rattle.pace.specs.Lane.{data_ack}
-use Rattle.clean_finish.specs.Books.{AckOutAsksAsLanes, AckInHearsAsLanes}
-use Rattle.clean_finish.specs.Reading.{end_known}
-use Rattle.clean_finish.specs.Writing.{WriterIs}
+use Rattle.clean_finish.proofs.Words.{◌≡◌, sym, subst, ap, ◌∙◌, ℕ, ◌+◌, ◌-◌, ◌≤◌, min, max, Bool, true, false, cond, if◌then◌else◌, ⊎_elim, Option, List, []}
+use Rattle.clean_finish.proofs.Words.{◌∷◌, ◌++◌, length, arith, suc, le_refl, zero, drop, replicate, fold, drop_of_length-le, cases_lt, eq-eqb, ne_eqb}
+use Rattle.clean_finish.proofs.Words.{cases_eq, received, next_wanted, window, is_end, fin_after, acked_len, Acked, ByteMark, is_acked, data_ack, WriterIs}
+use Rattle.clean_finish.proofs.Words.{end_known, AckOutAsksAsLanes, AckInHearsAsLanes}
+use Rattle.send_book.specs.State.{Sending}
 
 -- one more where the end is known there
 one_at_end : (came total n : ℕ) → came ≤ 1 → n ≤ total
@@ -28,10 +20,7 @@ one_at_end (suc c) total n few within = ⊎_elim
     below apart = omega (arith, apart, within)
 
 pub asks_as_lanes : AckOutAsksAsLanes
-asks_as_lanes k w b h is = record {
-  next = next;
-  edge = record { least = omega (arith, next, is, h); most = omega (arith, next, is, h) };
-}
+asks_as_lanes k w b h is = record { next = next; edge = record { least = omega (arith, next, is, h); most = omega (arith, next, is, h) } }
   where
     one : (if is_end b.known_end (received b) then 1 else 0) ≡ min w.data_fin_came ((w.received + 1) - k.total)
     one = subst (λ (n : ℕ). (if is_end b.known_end n then 1 else 0) ≡ min w.data_fin_came ((w.received + 1) - k.total))

@@ -1,21 +1,8 @@
 -- The end that sends the bytes of a grant.
-use Rattle.std.proofs.Common.{◌≡◌, refl, sym, subst, ap, ◌∙◌, ℕ, ◌+◌, ◌-◌, ◌≤◌, min, max, nat_lt, Bool, true, false, None, List, [], ◌∷◌, length, arith}
-use Rattle.std.proofs.lemmas.List.Elements.{All-weaker}
-use Rattle.sides.specs.declared.side.Side.{Side}
-use Rattle.sides.specs.declared.side.Side.TheVariants.{A}
-use Rattle.subflow_tcp.specs.Dues.{nothing_due}
-use Rattle.subflow_send.specs.Records.{Record}
-use Rattle.subflow_send.specs.Rules.{is_unsent}
-use Rattle.subflow_tcp.specs.declared.segments.Occasion.TheVariants as to_send
-use Rattle.path_agenda.specs.declared.duty.Duty.{Duty}
-use Rattle.path_core.specs.End.{PathEnd}
-use Rattle.path_core.specs.Handover.{having_sent}
-use Rattle.path_core.specs.Profile.{Profile}
-use Rattle.actor_desk.specs.Words.{pick}
-use Rattle.pace.specs.Lane.{Setting, Lane}
-use Rattle.clean_finish.specs.Segments.{Sent, Keys, said, data_fin_of, octets_of}
-use Rattle.clean_finish.specs.Shows.{EndIs, HeardIs, IsGranted, IsToldEdge, last_told, row_seen, brings_still}
-use Rattle.clean_finish.specs.Running.{Half, Facing}
+use Rattle.clean_finish.proofs.Words.{◌≡◌, refl, sym, subst, ap, ◌∙◌, ℕ, ◌+◌, ◌-◌, ◌≤◌, min, max, nat_lt, Bool, true, false, None, List, [], ◌∷◌, length, arith}
+use Rattle.clean_finish.proofs.Words.{All-weaker, Side, A, Record, is_unsent, nothing_due, Occasion, Duty, pick, Profile, PathEnd, having_sent, Setting, Lane}
+use Rattle.clean_finish.proofs.Words.{EndIs, HeardIs, IsGranted, last_told, row_seen, brings_still, IsToldEdge, Sent, Keys, octets_of, said, data_fin_of}
+use Rattle.clean_finish.proofs.Words.{Facing, Half}
 use Rattle.clean_finish.proofs.Sendings.{out_after as sent_after, back_after as said_after}
 use Rattle.clean_finish.proofs.Sent.{sent_all}
 use Rattle.clean_finish.proofs.Spans.{spans_moved}
@@ -30,7 +17,7 @@ module _ {s : Side} {keys : Keys} {k j : Setting} {c : Profile} {begun begun_bac
     back_after = said_after h x false
 
     abbrev pub end_after : PathEnd
-    end_after = having_sent to_send.Unsent clock (said c keys s x) m.end
+    end_after = having_sent Occasion.Unsent clock (said c keys s x) m.end
 
     module _ (still : brings_still h.hand ≡ false) (unowed : h.owes ≡ false) (r : Record) (rest : h.own.subflow.records.rest ≡ r ∷ []) (unsent : is_unsent r ≡ true)
         (some : 1 ≤ h.waiting) (bytes : x.low + length (octets_of x.brings) ≡ h.out.granted + h.waiting) (none_fin : data_fin_of x.brings ≡ 0)
@@ -93,13 +80,7 @@ module _ {s : Side} {keys : Keys} {k j : Setting} {c : Profile} {begun begun_bac
               row = row;
             };
             come = record { edge = h.own.subflow.come.edge; window = h.own.subflow.come.window };
-            heard = record {
-              told = heard.told;
-              most = heard.most;
-              end = heard.end;
-              few = heard.few;
-              some = heard.some;
-            };
+            heard = record { told = heard.told; most = heard.most; end = heard.end; few = heard.few; some = heard.some };
             quiet = h.own.subflow.quiet;
             begun = λ is. subst (λ (n : ℕ). min 1 n ≤ h.back.control_came) (one ∙ sym one_sent) (h.own.subflow.begun is);
             keyed = λ is more b. h.own.subflow.keyed is more still;

@@ -1,31 +1,11 @@
 -- What a segment in hand brings is taken by its lane: keys, bytes, a DATA_FIN or a FIN.
-use Rattle.std.proofs.Common.{◌≡◌, refl, sym, subst, ap, ◌∙◌, ℕ, ◌+◌, ◌<◌, ◌≤◌, Bool, true, false, ◌||◌, ◌⊎◌, inl, inr, Option, Some, List, ◌∷◌, ◌++◌, length, map, arith}
-use Rattle.sides.specs.declared.side.Side.{Side}
-use Rattle.sides.specs.Side.{peer}
-use Rattle.reassembly_book.specs.State.{Arriving, filled}
-use Rattle.subflow_recv.specs.Receiving.{Receiving as SubflowReceiving}
-use Rattle.subflow_tcp.specs.declared.handshake.State.{State}
-use Rattle.path_agenda.specs.declared.duty.Duty.{Duty}
-use Rattle.path_agenda.specs.declared.duty.Duty.TheVariants as duties
-use Rattle.path_agenda.specs.declared.duty.AskDuty.TheVariants as ask_duties
-use Rattle.path_agenda.specs.declared.duty.SendDuty.TheVariants as send_duties
-use Rattle.path_agenda.specs.declared.duty.SilentDuty.TheVariants as silent_duties
-use Rattle.path_agenda.specs.declared.duty.StepDuty.TheVariants as step_duties
-use Rattle.path_core.specs.declared.modes.Modes.{Modes}
-use Rattle.path_core.specs.End.{PathEnd}
+use Rattle.clean_finish.proofs.Words.{◌≡◌, refl, sym, subst, ap, ◌∙◌, ℕ, ◌+◌, ◌<◌, ◌≤◌, Bool, true, false, ◌||◌, ◌⊎◌, inl, inr, Option, List, ◌∷◌, ◌++◌, length}
+use Rattle.clean_finish.proofs.Words.{map, arith, Some, Side, peer, Arriving, filled, SubflowReceiving, State, Duty, SendDuty, StepDuty, AskDuty, SilentDuty}
+use Rattle.clean_finish.proofs.Words.{Profile, PathEnd, Modes, Treated, Setting, Copy, Lane, Stage, MayHearData, hears, goes_back, hears_data, Hand, EndIs}
+use Rattle.clean_finish.proofs.Words.{brings_in, tells_in, Sent, Keys, copy_in, octets_of, Follow, data_fin_of, low_after, control_after, keys_after, Facing}
+use Rattle.clean_finish.proofs.Words.{Half, Has, StageIs, ReaderShows, ReceiverIs}
 use Rattle.path_core.specs.Sending.{Sending}
-use Rattle.path_core.specs.Treated.{Treated}
 use Rattle.path_store.specs.Receiving.{Receiving}
-use Rattle.path_core.specs.Profile.{Profile}
-use Rattle.pace.specs.Lane.{Setting, Copy, Lane, Stage}
-use Rattle.pace.specs.Rules.{hears_data}
-use Rattle.pace.specs.Moves.{MayHearData}
-use Rattle.pace.specs.Moves.Move.{goes_back, hears}
-use Rattle.clean_finish.specs.Books.{ReceiverIs}
-use Rattle.clean_finish.specs.Reading.{ReaderShows}
-use Rattle.clean_finish.specs.Segments.{Sent, Keys, copy_in, octets_of, data_fin_of, Follow, low_after, control_after, keys_after}
-use Rattle.clean_finish.specs.Shows.{Hand, brings_in, tells_in, EndIs}
-use Rattle.clean_finish.specs.Running.{Has, StageIs, Half, Facing}
 use Rattle.clean_finish.proofs.Dropping.{is_waited, apart, is_apart, stage_drops, settles_drop, begun_drops}
 use Rattle.clean_finish.proofs.Hands.{in_hand}
 use Rattle.clean_finish.proofs.Opened.{waiting_on, before_waiting}
@@ -47,11 +27,11 @@ module _ {s : Side} {keys : Keys} {k j : Setting} {c : Profile} {begun begun_bac
       abbrev pub end_after : PathEnd
       end_after = record m.end { tcp = record m.end.tcp { recv = r; state = state }; sending = v; receiving = w; modes = mo; treated = tr }
 
-      module _ (ask : Bool) (some_sent : 1 ≤ h.out.control_sent) (owes : h.owes ≡ true) (acknowledges : Has (duties.Send (send_duties.Acknowledge s)) ds)
-          (events : Has (duties.Step step_duties.Events) ds)
+      module _ (ask : Bool) (some_sent : 1 ≤ h.out.control_sent) (owes : h.owes ≡ true) (acknowledges : Has (Duty.Send (SendDuty.Acknowledge s)) ds)
+          (events : Has (Duty.Step StepDuty.Events) ds)
           (news : (x.low < x.low + length (octets_of x.brings)) ⊎ ((0 < data_fin_of x.brings) ⊎ ((h.back.control_came < x.control) ⊎ (h.back.keys_came < x.keys))))
           (asked : ask ≡ false → (h.stage_back.ask ≡ false) × (x.low + length (octets_of x.brings) ≤ x.low) × (data_fin_of x.brings ≤ 0))
-          (asks : (ask ≡ false) ⊎ (Has (duties.Ask (ask_duties.Window s)) ds ⊎ (Has (duties.Ask (ask_duties.AckOut s)) ds × (tr.asked ≡ true))))
+          (asks : (ask ≡ false) ⊎ (Has (Duty.Ask (AskDuty.Window s)) ds ⊎ (Has (Duty.Ask (AskDuty.AckOut s)) ds × (tr.asked ≡ true))))
           (received : back_after.received ≡ h.back.received + length (octets_of x.brings)) (control_is : back_after.control_came ≡ x.control)
           (shown_is : back_after.keys_came ≡ x.keys) (further : m.end.tcp.recv.edge ≤ r.edge)
           (own : EndIs s keys k j h.out.sender back_after.receiver (in_hand x false tells) h.owes h.waiting end_after)
@@ -139,36 +119,21 @@ module _ {s : Side} {keys : Keys} {k j : Setting} {c : Profile} {begun begun_bac
               passed = h.way_back.passed;
             };
             apps = record {
-              writes = record {
-                numbers = h.apps.writes.numbers;
-                over = h.apps.writes.over;
-              };
-              reads = record {
-                numbers = h.apps.reads.numbers;
-                received = h.apps.reads.received;
-                over = h.apps.reads.over;
-              };
+              writes = record { numbers = h.apps.writes.numbers; over = h.apps.writes.over };
+              reads = record { numbers = h.apps.reads.numbers; received = h.apps.reads.received; over = h.apps.reads.over };
               receives = record {
                 read = h.apps.receives.read;
                 received = h.apps.receives.received;
                 known = h.apps.receives.known;
                 capacity = h.apps.receives.capacity;
               };
-              book = record {
-                edge = h.apps.book.edge;
-                owner = h.apps.book.owner;
-                marks = h.apps.book.marks;
-                taken = h.apps.book.taken;
-              };
+              book = record { edge = h.apps.book.edge; owner = h.apps.book.owner; marks = h.apps.book.marks; taken = h.apps.book.taken };
               room = h.apps.room;
               whole = h.apps.whole;
               fin = h.apps.fin;
             };
             apps_back = record {
-              writes = record {
-                numbers = h.apps_back.writes.numbers;
-                over = h.apps_back.writes.over;
-              };
+              writes = record { numbers = h.apps_back.writes.numbers; over = h.apps_back.writes.over };
               reads = reads;
               receives = receives;
               book = record {
@@ -187,7 +152,7 @@ module _ {s : Side} {keys : Keys} {k j : Setting} {c : Profile} {begun begun_bac
             control_back = h.control_back;
             turn = h.turn;
             turn_back = h.turn_back;
-            settles = settles_drop s d ds end_after (apart refl free) (subst (λ (y : Bool). ((m.end.tcp.timing.news || y) ≡ false) ⊎ Has (duties.Silent (silent_duties.Timer s)) (d ∷ ds)) (sym settles) h.settles);
+            settles = settles_drop s d ds end_after (apart refl free) (subst (λ (y : Bool). ((m.end.tcp.timing.news || y) ≡ false) ⊎ Has (Duty.Silent (SilentDuty.Timer s)) (d ∷ ds)) (sym settles) h.settles);
             settles_back = settles_drop (peer s) d ds n.end (apart refl free) h.settles_back;
             begins = inl some_sent;
             begins_back = begun_drops (peer s) k h.back.sender h.out.receiver n.end d ds (apart refl free) (λ is. apart refl free) h.begins_back;

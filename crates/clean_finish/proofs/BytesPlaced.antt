@@ -1,10 +1,9 @@
 -- The reassembly book takes the bytes that come next.
-use Rattle.std.proofs.Common.{◌≡◌, refl, ap, ◌∙◌, ℕ, zero, suc, ◌+◌, ◌≤◌, nat_lt, Bool, true, false, ◌&&◌, if◌then◌else◌, is_some, Option, Some, None, List, [], ◌∷◌, ◌++◌, length, drop, map, replicate, arith}
-use Rattle.std.proofs.lemmas.Bool.{le-ltb}
+use Rattle.clean_finish.proofs.Words.{◌≡◌, refl, ap, ◌∙◌, ℕ, ◌+◌, ◌≤◌, nat_lt, Bool, true, false, ◌&&◌, if◌then◌else◌, Option, None, List, [], ◌∷◌, ◌++◌}
+use Rattle.clean_finish.proofs.Words.{length, map, arith, Some, suc, zero, is_some, drop, replicate, le-ltb, Arriving, filled, received, clash, reaches_past}
+use Rattle.clean_finish.proofs.Words.{edge, is_taken, places_after, after_place, end_known}
 use Rattle.std.proofs.lemmas.List.{length-append}
-use Rattle.reassembly_book.specs.State.{Arriving, filled, received}
-use Rattle.reassembly_book.specs.Steps.{by_place, merged, clash, reaches_past, edge, is_taken, places_after, after_place}
-use Rattle.clean_finish.specs.Reading.{end_known}
+use Rattle.reassembly_book.specs.Steps.{by_place, merged}
 use Rattle.clean_finish.proofs.Whole.{filled_some}
 
 -- behind what is there

@@ -1,38 +1,14 @@
 -- An end sends the bytes of a grant, with the DSS.
-use Rattle.std.proofs.Common.{◌≡◌, refl, sym, subst, ap, ◌∙◌, ℕ, ◌+◌, ◌<◌, ◌≤◌, ◌^◌, min, max, Bool, true, false, not, cond, inr, Option, Some, None, List, [], ◌∷◌, ◌++◌, length, le_refl, arith}
-use Rattle.std.proofs.lemmas.Bool.{both_ways}
-use Rattle.sides.specs.declared.side.Side.{Side}
-use Rattle.sides.specs.declared.side.Side.TheVariants.{A}
-use Rattle.sides.specs.Side.{peer}
-use Rattle.link_model.specs.declared.flight.Flight.{Flight}
+use Rattle.clean_finish.proofs.Words.{◌≡◌, refl, sym, subst, ap, ◌∙◌, ℕ, ◌+◌, ◌<◌, ◌≤◌, min, max, Bool, true, false, cond, not, inr, Option, None, List, []}
+use Rattle.clean_finish.proofs.Words.{◌∷◌, ◌++◌, length, arith, Some, le_refl, ◌^◌, both_ways, Side, A, peer, Record, is_unsent, Data, Flight, window_told, Dss}
+use Rattle.clean_finish.proofs.Words.{Duty, StepDuty, pick, is_nil, Profile, Carried, PathEnd, record_said, mapping_of, place_numbered, checksum_told}
+use Rattle.clean_finish.proofs.Words.{is_first_piece, Setting, Telling, Lane, all_left, Going, pending, MaySay, MaySend, sends_bytes, is_same, Hand, HeardIs}
+use Rattle.clean_finish.proofs.Words.{last_told, row_seen, brings_still, IsMapping, Sent, Keys, copy_in, said, FliesAs, Piece, Same, IsSetting, Facing, Half}
+use Rattle.clean_finish.proofs.Words.{Has}
 use Rattle.path_segments.specs.declared.segment.PathMapping.{PathMapping}
 use Rattle.path_segments.specs.declared.segment.PathMapping.TheVariants.{Bytes}
-use Rattle.path_segments.specs.declared.segment.PathOption.TheVariants.{Dss}
-use Rattle.path_segments.specs.Laws.{window_told}
-use Rattle.subflow_send.specs.declared.record.RecordKind.TheVariants.{Data}
-use Rattle.subflow_send.specs.Records.{Record}
-use Rattle.subflow_send.specs.Rules.{is_unsent}
 use Rattle.subflow_tcp.specs.States.{is_opening}
-use Rattle.path_agenda.specs.declared.duty.Duty.{Duty}
-use Rattle.path_agenda.specs.declared.duty.Duty.TheVariants as duties
-use Rattle.path_agenda.specs.declared.duty.StepDuty.TheVariants as step_duties
-use Rattle.path_core.specs.End.{PathEnd}
-use Rattle.path_core.specs.DssOut.{mapping_of, place_numbered, checksum_told, is_first_piece}
-use Rattle.path_core.specs.OptionsOut.{record_said}
-use Rattle.path_core.specs.Profile.{Profile}
-use Rattle.path_core.specs.Values.{Carried}
-use Rattle.actor_desk.specs.Words.{pick, is_nil}
 use Rattle.world_laws.proofs.Lanes.Doing.{place_is}
-use Rattle.pace.specs.Lane.{Setting, Telling, Lane, all_left}
-use Rattle.pace.specs.Rules.{is_same}
-use Rattle.pace.specs.Going.{Going, pending}
-use Rattle.pace.specs.Moves.{MaySay, MaySend}
-use Rattle.pace.specs.Moves.Move.{sends_bytes}
-use Rattle.clean_finish.specs.Segments.{Sent, Keys, copy_in, said, FliesAs}
-use Rattle.clean_finish.specs.Segments.Brings.{Piece}
-use Rattle.clean_finish.specs.Shows.{Hand, brings_still, HeardIs, IsMapping, last_told, row_seen}
-use Rattle.clean_finish.specs.Shows.IsToldEdge.{Same}
-use Rattle.clean_finish.specs.Running.{Has, Half, Facing, IsSetting}
 use Rattle.clean_finish.proofs.Bringing.{end_after, own_brought}
 use Rattle.clean_finish.proofs.EndSent.{ended_stays}
 use Rattle.clean_finish.proofs.Hands.{way_none}
@@ -87,7 +63,7 @@ no_duplicate t (x ∷ octets) again some = refl
 module _ {s : Side} {keys : Keys} {k j : Setting} {c : Profile} {begun begun_back : Lane} {m n : Half} {clock until : ℕ} (ticks t u : ℕ)
     (k_is : IsSetting c ticks k) (j_is : IsSetting c ticks j)
     (going : Going k begun t all_left begun) (going_back : Going j begun_back u all_left begun_back)
-    {ds : List Duty} (h : Facing s keys k j c begun begun_back m n clock until (duties.Step (step_duties.Data s) ∷ ds)) (r : Record)
+    {ds : List Duty} (h : Facing s keys k j c begun begun_back m n clock until (Duty.Step (StepDuty.Data s) ∷ ds)) (r : Record)
   where
     abbrev pub piece : Sent
     piece = piece_at (clock + ticks) h.out.granted h.out.control_sent h.out.keys_sent (all_told ticks t u k_is j_is going going_back h)
@@ -170,12 +146,12 @@ module _ {s : Side} {keys : Keys} {k j : Setting} {c : Profile} {begun begun_bac
         pub up_one : {x : ℕ} → x ≡ 1 → 1 ≤ max x x
         up_one is = omega (arith, is)
 
-        module _ (events : Has (duties.Step step_duties.Events) ds) (fs gs : List (Flight Carried)) (f : Flight Carried) (flies : FliesAs c keys s f piece)
+        module _ (events : Has (Duty.Step StepDuty.Events) ds) (fs gs : List (Flight Carried)) (f : Flight Carried) (flies : FliesAs c keys s f piece)
             (more : fs ≡ m.flying ++ f ∷ []) (same_back : gs ≡ n.flying)
           where
             abbrev pub piece_goes : Facing s keys k j c begun begun_back (record m { end = end_after h piece; flying = fs })
-                (record n { flying = gs }) clock until (duties.Step (step_duties.Data s) ∷ ds)
-            piece_goes = sent_off h piece false (duties.Step (step_duties.Data s) ∷ ds) (sends_bytes (copy_in piece) may_send) false false may_say
+                (record n { flying = gs }) clock until (Duty.Step (StepDuty.Data s) ∷ ds)
+            piece_goes = sent_off h piece false (Duty.Step (StepDuty.Data s) ∷ ds) (sends_bytes (copy_in piece) may_send) false false may_say
                 (end_after h piece) None false 0
                 (own_brought h piece still unowed r rest unsent (subst (λ (x : ℕ). 1 ≤ x) (sym waits) some) all_bytes refl one one
                 (subst (λ (x : ℕ). x ≤ pick s h.out.ready 0) (sym (same h.out.keys_sent)) h.own.modes.shown) (Same refl)

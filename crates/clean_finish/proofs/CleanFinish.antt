@@ -1,25 +1,16 @@
 -- Clean scripts finish.
-use Rattle.std.proofs.Common.{◌≡◌, refl, sym, subst, ap, ◌∙◌, ℕ, zero, suc, ◌+◌, ◌-◌, ◌≤◌, ◌⊎◌, inl, inr, Bool, true, false, ◌&&◌, if◌then◌else◌, Some, List, [], ◌∷◌, length, arith}
-use Rattle.link_script.specs.declared.script.PathLine.{PathLine}
+use Rattle.clean_finish.proofs.Words.{◌≡◌, refl, sym, subst, ap, ◌∙◌, ℕ, ◌+◌, ◌-◌, ◌≤◌, Bool, true, false, ◌&&◌, if◌then◌else◌, ◌⊎◌, inl, inr, List, [], ◌∷◌}
+use Rattle.clean_finish.proofs.Words.{length, arith, Some, suc, zero, PathLine, Carried, values, Setting, first_lane, PathPlan, Start, path_begins}
+use Rattle.clean_finish.proofs.Words.{opened_world, start_of, Cast, world_of, first_cast, outcome_of, WorldState, Turn, world_run, AreLawful, IsSetting}
+use Rattle.clean_finish.proofs.Words.{Running, enough, rounds_in, OfCleanRuns, CleanScriptsFinish, CleanScriptsGoOn, setting_of}
 use Rattle.link_script.specs.declared.script.Script.{Script}
 use Rattle.link_script.specs.Scripts.{HasRanges}
 use Rattle.path_core.specs.Octets.{octets}
-use Rattle.path_core.specs.Values.{Carried, values}
 use Rattle.world_laws.specs.declared.outcome.Outcome.{Outcome}
 use Rattle.world_laws.specs.declared.outcome.Outcome.TheVariants.{Going, Delivered}
-use Rattle.world_laws.specs.Openings.{PathPlan, Start, path_begins, opened_world, start_of}
-use Rattle.world_laws.specs.Outcomes.{outcome_of}
 use Rattle.world_laws.specs.Fresh.{shown_world}
-use Rattle.world_laws.specs.Worlds.{WorldState, Turn, world_run, AreLawful}
-use Rattle.world_laws.proofs.Worlds.Casts.{Cast, world_of, first_cast}
 use Rattle.world_laws.proofs.Promises.OfScripts.{scripts_are_shown_of_values}
-use Rattle.pace.specs.Lane.{Setting}
-use Rattle.pace.specs.Rules.{first_lane}
 use Rattle.pace.proofs.Beginning.{first_going}
-use Rattle.clean_finish.specs.Bound.{enough}
-use Rattle.clean_finish.specs.Finish.{rounds_in, OfCleanRuns, CleanScriptsFinish, CleanScriptsGoOn}
-use Rattle.clean_finish.specs.Laws.{setting_of}
-use Rattle.clean_finish.specs.Running.{IsSetting, Running}
 use Rattle.clean_finish.proofs.CourseGoes.{Stands, After, all_turns, both_told}
 use Rattle.clean_finish.proofs.First.{first_running}
 use Rattle.clean_finish.proofs.LanesFinish.{lanes_finish}

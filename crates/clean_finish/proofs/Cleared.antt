@@ -1,21 +1,7 @@
 -- A hears its first DSS: from then on it may use it.
-use Rattle.std.proofs.Common.{◌≡◌, refl, sym, ap, ◌∙◌, ℕ, ◌≤◌, min, Bool, true, false, ◌||◌, inl, inr, Option, Some, None, List, ◌∷◌, arith}
-use Rattle.std.proofs.lemmas.List.Elements.{All-weaker}
-use Rattle.sides.specs.declared.side.Side.TheVariants.{A, B}
-use Rattle.subflow_send.specs.Records.{Record}
-use Rattle.path_agenda.specs.declared.duty.Duty.{Duty}
-use Rattle.path_core.specs.End.{PathEnd}
-use Rattle.path_core.specs.Profile.{Profile}
-use Rattle.path_core.specs.DssIn.{after_dss}
-use Rattle.pace.specs.Lane.{Setting, Lane, all_left}
-use Rattle.pace.specs.Rules.{flagged}
-use Rattle.pace.specs.Going.{Going}
-use Rattle.pace.specs.Moves.{MayFlag}
-use Rattle.pace.specs.Moves.Move.{goes_back, flags}
-use Rattle.clean_finish.specs.Segments.{Keys}
-use Rattle.clean_finish.specs.Shows.{Hand, EndIs, HeardIs, IsGranted, Waits, last_told, row_seen}
-use Rattle.clean_finish.specs.Shows.Waits.{WaitsSyn, WaitsNone, WaitsBytes}
-use Rattle.clean_finish.specs.Running.{Half, Facing, IsSetting}
+use Rattle.clean_finish.proofs.Words.{◌≡◌, refl, sym, ap, ◌∙◌, ℕ, ◌≤◌, min, Bool, true, false, ◌||◌, inl, inr, Option, None, List, ◌∷◌, arith, Some, All-weaker}
+use Rattle.clean_finish.proofs.Words.{A, B, Record, Duty, Profile, PathEnd, after_dss, Setting, Lane, all_left, Going, MayFlag, flags, goes_back, flagged, Hand}
+use Rattle.clean_finish.proofs.Words.{EndIs, HeardIs, IsGranted, last_told, row_seen, Waits, WaitsSyn, WaitsNone, WaitsBytes, Keys, IsSetting, Facing, Half}
 use Rattle.clean_finish.proofs.Dropping.{is_waited, apart, is_apart, stage_drops, settles_drop, begun_drops}
 use Rattle.clean_finish.proofs.Passing.{stands_then}
 use Rattle.clean_finish.proofs.Quiet.{now_out}
@@ -116,10 +102,7 @@ module _ {keys : Keys} {k j : Setting} {c : Profile} {begun begun_back : Lane} {
           steady = h.own.subflow.congestion.steady;
           row = row_on h.hand h.own.subflow.congestion.row;
         };
-        come = record {
-          edge = h.own.subflow.come.edge;
-          window = h.own.subflow.come.window;
-        };
+        come = record { edge = h.own.subflow.come.edge; window = h.own.subflow.come.window };
         heard = heard_on h.hand h.own.subflow.heard;
         quiet = h.own.subflow.quiet;
         begun = h.own.subflow.begun;
@@ -218,41 +201,22 @@ module _ {keys : Keys} {k j : Setting} {c : Profile} {begun begun_back : Lane} {
         passed = h.way_back.passed;
       };
       apps = record {
-        writes = record {
-          numbers = h.apps.writes.numbers;
-          over = h.apps.writes.over;
-        };
-        reads = record {
-          numbers = h.apps.reads.numbers;
-          received = h.apps.reads.received;
-          over = h.apps.reads.over;
-        };
+        writes = record { numbers = h.apps.writes.numbers; over = h.apps.writes.over };
+        reads = record { numbers = h.apps.reads.numbers; received = h.apps.reads.received; over = h.apps.reads.over };
         receives = record {
           read = h.apps.receives.read;
           received = h.apps.receives.received;
           known = h.apps.receives.known;
           capacity = h.apps.receives.capacity;
         };
-        book = record {
-          edge = h.apps.book.edge;
-          owner = h.apps.book.owner;
-          marks = h.apps.book.marks;
-          taken = h.apps.book.taken;
-        };
+        book = record { edge = h.apps.book.edge; owner = h.apps.book.owner; marks = h.apps.book.marks; taken = h.apps.book.taken };
         room = h.apps.room;
         whole = h.apps.whole;
         fin = h.apps.fin;
       };
       apps_back = record {
-        writes = record {
-          numbers = h.apps_back.writes.numbers;
-          over = h.apps_back.writes.over;
-        };
-        reads = record {
-          numbers = h.apps_back.reads.numbers;
-          received = h.apps_back.reads.received;
-          over = h.apps_back.reads.over;
-        };
+        writes = record { numbers = h.apps_back.writes.numbers; over = h.apps_back.writes.over };
+        reads = record { numbers = h.apps_back.reads.numbers; received = h.apps_back.reads.received; over = h.apps_back.reads.over };
         receives = record {
           read = h.apps_back.receives.read;
           received = h.apps_back.receives.received;

@@ -1,28 +1,9 @@
 -- B hears both keys: from then on it may send bytes, and use the DSS.
-use Rattle.std.proofs.Common.{◌≡◌, refl, subst, ℕ, ◌+◌, ◌==◌, ◌<◌, ◌≤◌, min, Bool, true, false, if◌then◌else◌, inl, inr, Option, Some, None, List, ◌∷◌, arith}
-use Rattle.std.proofs.lemmas.Bool.{both_ways}
-use Rattle.std.proofs.lemmas.List.Elements.{All-weaker}
-use Rattle.sides.specs.declared.side.Side.{Side}
-use Rattle.sides.specs.declared.side.Side.TheVariants.{A, B}
-use Rattle.control_book.specs.Control.{Control}
-use Rattle.control_book.specs.Steps.{after_keys}
-use Rattle.fallback_state.specs.Modes.{is_identity}
-use Rattle.fallback_state.specs.Table.{stays}
+use Rattle.clean_finish.proofs.Words.{◌≡◌, refl, subst, ℕ, ◌+◌, ◌<◌, ◌≤◌, min, Bool, true, false, if◌then◌else◌, inl, inr, Option, None, List, ◌∷◌, arith, Some}
+use Rattle.clean_finish.proofs.Words.{◌==◌, both_ways, All-weaker, is_identity, stays, Side, A, B, Control, after_keys, Duty, AskDuty, Profile, PathEnd}
+use Rattle.clean_finish.proofs.Words.{is_connected, Setting, Lane, all_left, Going, MayFlag, flags, goes_back, flagged, AreTaken, Hand, EndIs, HeardIs}
+use Rattle.clean_finish.proofs.Words.{IsGranted, last_told, row_seen, ControlIs, Keys, IsSetting, Facing, Half}
 use Rattle.fallback_state.specs.declared.fall.Verdict.TheVariants.{Stay}
-use Rattle.path_agenda.specs.declared.duty.Duty.{Duty}
-use Rattle.path_agenda.specs.declared.duty.Duty.TheVariants as duties
-use Rattle.path_agenda.specs.declared.duty.AskDuty.TheVariants as ask_duties
-use Rattle.path_core.specs.End.{PathEnd}
-use Rattle.path_core.specs.Standing.{is_connected}
-use Rattle.path_core.specs.Profile.{Profile}
-use Rattle.pace.specs.Lane.{Setting, Lane, all_left}
-use Rattle.pace.specs.Rules.{flagged}
-use Rattle.pace.specs.Going.{Going}
-use Rattle.pace.specs.Moves.{MayFlag}
-use Rattle.pace.specs.Moves.Move.{goes_back, flags}
-use Rattle.clean_finish.specs.Segments.{Keys}
-use Rattle.clean_finish.specs.Shows.{AreTaken, ControlIs, Hand, EndIs, HeardIs, IsGranted, last_told, row_seen}
-use Rattle.clean_finish.specs.Running.{Half, Facing, IsSetting}
 use Rattle.clean_finish.proofs.AckNew.{records_same}
 use Rattle.clean_finish.proofs.Dropping.{apart, is_apart, stage_drops, settles_drop, begun_drops}
 use Rattle.clean_finish.proofs.Passing.{stands_then}
@@ -42,7 +23,7 @@ keys_noted s keys own other c is = by (own == c.keys.own) (is_identity c.fall.mo
 module _ {keys : Keys} {k j : Setting} {c : Profile} {begun begun_back : Lane} {m n : Half} {clock until : ℕ} (ticks t u : ℕ)
     (k_is : IsSetting c ticks k) (j_is : IsSetting c ticks j)
     (going : Going k begun t all_left begun) (going_back : Going j begun_back u all_left begun_back)
-    {ds : List Duty} (h : Facing B keys k j c begun begun_back m n clock until (duties.Ask (ask_duties.Opened B) ∷ ds)) (there : Emits B ds)
+    {ds : List Duty} (h : Facing B keys k j c begun begun_back m n clock until (Duty.Ask (AskDuty.Opened B) ∷ ds)) (there : Emits B ds)
     (nothing_waits : h.waiting ≡ 0) (sent : 1 ≤ h.out.control_sent) (came : 1 ≤ min 1 h.back.control_came) (unready : h.out.ready ≡ 0)
     (connected : is_connected m.end.tcp.state ≡ true)
   where
@@ -220,15 +201,8 @@ module _ {keys : Keys} {k j : Setting} {c : Profile} {begun begun_back : Lane} {
       };
       way_back = h.way_back;
       apps = record {
-        writes = record {
-          numbers = h.apps.writes.numbers;
-          over = h.apps.writes.over;
-        };
-        reads = record {
-          numbers = h.apps.reads.numbers;
-          received = h.apps.reads.received;
-          over = h.apps.reads.over;
-        };
+        writes = record { numbers = h.apps.writes.numbers; over = h.apps.writes.over };
+        reads = record { numbers = h.apps.reads.numbers; received = h.apps.reads.received; over = h.apps.reads.over };
         receives = record {
           read = h.apps.receives.read;
           received = h.apps.receives.received;
@@ -247,16 +221,16 @@ module _ {keys : Keys} {k j : Setting} {c : Profile} {begun begun_back : Lane} {
       };
       apps_back = h.apps_back;
       stages = stage_raised B A ds n.end.treated.asked h.owes_back h.stage there
-          (stage_drops B A (duties.Ask (ask_duties.Opened B)) ds n.end.treated.asked h.owes_back h.stage (is_apart B A (duties.Ask (ask_duties.Opened B)) refl) h.stages);
-      stages_back = stage_drops A B (duties.Ask (ask_duties.Opened B)) ds m.end.treated.asked h.owes h.stage_back (is_apart A B (duties.Ask (ask_duties.Opened B)) refl) h.stages_back;
+          (stage_drops B A (Duty.Ask (AskDuty.Opened B)) ds n.end.treated.asked h.owes_back h.stage (is_apart B A (Duty.Ask (AskDuty.Opened B)) refl) h.stages);
+      stages_back = stage_drops A B (Duty.Ask (AskDuty.Opened B)) ds m.end.treated.asked h.owes h.stage_back (is_apart A B (Duty.Ask (AskDuty.Opened B)) refl) h.stages_back;
       control = keys_noted B keys keys.b keys.a m.control h.control;
       control_back = h.control_back;
       turn = h.turn;
       turn_back = h.turn_back;
       settles = inr there.timer;
-      settles_back = settles_drop A (duties.Ask (ask_duties.Opened B)) ds n.end (apart refl refl) h.settles_back;
+      settles_back = settles_drop A (Duty.Ask (AskDuty.Opened B)) ds n.end (apart refl refl) h.settles_back;
       begins = inl sent;
-      begins_back = begun_drops A k h.back.sender h.out.receiver n.end (duties.Ask (ask_duties.Opened B)) ds (apart refl refl) (λ is. apart refl refl) h.begins_back;
+      begins_back = begun_drops A k h.back.sender h.out.receiver n.end (Duty.Ask (AskDuty.Opened B)) ds (apart refl refl) (λ is. apart refl refl) h.begins_back;
       owed = h.owed;
       owed_back = h.owed_back;
     }

@@ -1,27 +1,8 @@
 -- A copy that is taken arrives: the world from the side of the end that takes it, to the first duty of its treatment.
-use Rattle.std.proofs.Common.{◌≡◌, refl, sym, subst, ap, ◌∙◌, ℕ, zero, suc, ◌+◌, ◌≤◌, Bool, true, false, ◌⊎◌, inl, inr, ⊎_elim, None, List, [], ◌∷◌, arith}
-use Rattle.std.proofs.lemmas.Bool.{both_ways}
-use Rattle.sides.specs.declared.side.Side.{Side}
-use Rattle.sides.specs.Side.{peer}
-use Rattle.dss_mapping.specs.declared.kept.KeptMapping.{KeptMapping}
-use Rattle.link_model.specs.declared.flight.Flight.{Flight}
-use Rattle.subflow_recv.specs.Receiving.{Receiving}
-use Rattle.subflow_tcp.specs.declared.segments.Outgoing.{Outgoing}
-use Rattle.subflow_tcp.specs.State.{EndState}
-use Rattle.path_agenda.specs.declared.duty.Duty.{Duty}
-use Rattle.path_agenda.specs.declared.duty.Duty.TheVariants as duties
-use Rattle.path_agenda.specs.declared.duty.AskDuty.TheVariants as ask_duties
-use Rattle.path_agenda.specs.declared.duty.SendDuty.TheVariants as send_duties
-use Rattle.path_agenda.specs.declared.duty.SilentDuty.TheVariants as silent_duties
-use Rattle.path_agenda.specs.declared.duty.StepDuty.TheVariants as step_duties
-use Rattle.path_agenda.specs.Agenda.{heard_and, payload_came, copy_came}
-use Rattle.path_core.specs.Profile.{Profile}
-use Rattle.path_core.specs.Values.{Carried}
-use Rattle.pace.specs.Lane.{Setting, Lane, Stage}
-use Rattle.pace.specs.Moves.Move.{goes_back, rests}
-use Rattle.clean_finish.specs.Segments.{Sent, Keys}
-use Rattle.clean_finish.specs.Shows.{AreTaken, EndIs, WayIs}
-use Rattle.clean_finish.specs.Running.{Has, LaneStands, StageIs, Half, Facing}
+use Rattle.clean_finish.proofs.Words.{◌≡◌, refl, sym, subst, ap, ◌∙◌, ℕ, ◌+◌, ◌≤◌, Bool, true, false, ◌⊎◌, inl, inr, ⊎_elim, None, List, [], ◌∷◌, arith, suc}
+use Rattle.clean_finish.proofs.Words.{zero, both_ways, Side, peer, KeptMapping, Receiving, EndState, Outgoing, Flight, Duty, SendDuty, StepDuty, AskDuty}
+use Rattle.clean_finish.proofs.Words.{heard_and, payload_came, copy_came, SilentDuty, Profile, Carried, Setting, Lane, Stage, goes_back, rests, AreTaken, EndIs}
+use Rattle.clean_finish.proofs.Words.{WayIs, Sent, Keys, Facing, Half, Has, StageIs, LaneStands}
 use Rattle.clean_finish.proofs.CopyHeeded.{Heeds}
 use Rattle.clean_finish.proofs.Hands.{in_hand, way_arrives}
 use Rattle.clean_finish.proofs.Passing.{stands_then}
@@ -45,14 +26,14 @@ in_copy s d count there = inr (inr (behind_heard s d 0 count (payload_came s) th
 
 pub copy_emits : (s : Side) (count : ℕ) → Emits s (copy_came s count)
 copy_emits s count = record {
-  bytes = in_copy s (duties.Step (step_duties.Data s)) count (inr (inr (inr (inr (inr (inr (inr (inr (inr (inr (inr (inr (inr (inr (inr (inr (inr (inr (inr (inl refl))))))))))))))))))));
-  end = in_copy s (duties.Send (send_duties.DataFin s)) count (inr (inr (inr (inr (inr (inr (inr (inr (inr (inr (inr (inr (inr (inr (inr (inr (inr (inr (inr (inr (inl refl)))))))))))))))))))));
-  timer = in_copy s (duties.Silent (silent_duties.Timer s)) count (inr (inr (inr (inr (inr (inr (inr (inr (inr (inr (inr (inr (inr (inr (inr (inr (inr (inr (inr (inr (inr (inr (inl refl)))))))))))))))))))))));
-  events = in_copy s (duties.Step step_duties.Events) count (inr (inr (inr (inr (inr (inr (inr (inr (inr (inr (inr (inr (inr (inr (inr (inr (inr (inr (inr (inr (inr (inr (inr (inl refl))))))))))))))))))))))));
+  bytes = in_copy s (Duty.Step (StepDuty.Data s)) count (inr (inr (inr (inr (inr (inr (inr (inr (inr (inr (inr (inr (inr (inr (inr (inr (inr (inr (inr (inl refl))))))))))))))))))));
+  end = in_copy s (Duty.Send (SendDuty.DataFin s)) count (inr (inr (inr (inr (inr (inr (inr (inr (inr (inr (inr (inr (inr (inr (inr (inr (inr (inr (inr (inr (inl refl)))))))))))))))))))));
+  timer = in_copy s (Duty.Silent (SilentDuty.Timer s)) count (inr (inr (inr (inr (inr (inr (inr (inr (inr (inr (inr (inr (inr (inr (inr (inr (inr (inr (inr (inr (inr (inr (inl refl)))))))))))))))))))))));
+  events = in_copy s (Duty.Step StepDuty.Events) count (inr (inr (inr (inr (inr (inr (inr (inr (inr (inr (inr (inr (inr (inr (inr (inr (inr (inr (inr (inr (inr (inr (inr (inl refl))))))))))))))))))))))));
 }
 
 module _ {s : Side} {keys : Keys} {k j : Setting} {c : Profile} {begun begun_back : Lane} {m n : Half} {clock until : ℕ}
-    (h : Facing s keys k j c begun begun_back m n clock until ((duties.Step step_duties.Events) ∷ duties.End ∷ []))
+    (h : Facing s keys k j c begun begun_back m n clock until ((Duty.Step StepDuty.Events) ∷ Duty.End ∷ []))
     (x : Sent) (told : List KeptMapping) (answer : Outgoing) (y : EndState)
     (heed : Heeds k h.out.sender (rested_if (fresh h x told answer) h.out).sender x (held h x told answer) y)
     (edge : (held h x told answer).recv.edge ≡ m.end.tcp.recv.edge)
@@ -83,11 +64,11 @@ module _ {s : Side} {keys : Keys} {k j : Setting} {c : Profile} {begun begun_bac
       ask = inl (⊎_elim (λ is. is) (λ i. absurd (never_asks i)) h.stages.ask);
     }
       where
-        never_tells : Has (duties.Send (send_duties.SynAck (peer s))) last ⊎ (Has (duties.Send (send_duties.Acknowledge (peer s))) last × (h.owes_back ≡ true)) → ⊥
+        never_tells : Has (Duty.Send (SendDuty.SynAck (peer s))) last ⊎ (Has (Duty.Send (SendDuty.Acknowledge (peer s))) last × (h.owes_back ≡ true)) → ⊥
         never_tells (inl i) = not_last refl refl i
         never_tells (inr i) = not_last refl refl i.0
 
-        never_asks : Has (duties.Ask (ask_duties.Window (peer s))) last ⊎ (Has (duties.Ask (ask_duties.AckOut (peer s))) last × (n.end.treated.asked ≡ true)) → ⊥
+        never_asks : Has (Duty.Ask (AskDuty.Window (peer s))) last ⊎ (Has (Duty.Ask (AskDuty.AckOut (peer s))) last × (n.end.treated.asked ≡ true)) → ⊥
         never_asks (inl i) = not_last refl refl i
         never_asks (inr i) = not_last refl refl i.0
 
@@ -102,11 +83,11 @@ module _ {s : Side} {keys : Keys} {k j : Setting} {c : Profile} {begun begun_bac
       ask = inl (⊎_elim (λ is. is) (λ i. absurd (never_asks i)) h.stages_back.ask);
     }
       where
-        never_tells : Has (duties.Send (send_duties.SynAck s)) last ⊎ (Has (duties.Send (send_duties.Acknowledge s)) last × (h.owes ≡ true)) → ⊥
+        never_tells : Has (Duty.Send (SendDuty.SynAck s)) last ⊎ (Has (Duty.Send (SendDuty.Acknowledge s)) last × (h.owes ≡ true)) → ⊥
         never_tells (inl i) = not_last refl refl i
         never_tells (inr i) = not_last refl refl i.0
 
-        never_asks : Has (duties.Ask (ask_duties.Window s)) last ⊎ (Has (duties.Ask (ask_duties.AckOut s)) last × (m.end.treated.asked ≡ true)) → ⊥
+        never_asks : Has (Duty.Ask (AskDuty.Window s)) last ⊎ (Has (Duty.Ask (AskDuty.AckOut s)) last × (m.end.treated.asked ≡ true)) → ⊥
         never_asks (inl i) = not_last refl refl i
         never_asks (inr i) = not_last refl refl i.0
 
@@ -156,15 +137,8 @@ module _ {s : Side} {keys : Keys} {k j : Setting} {c : Profile} {begun begun_bac
       way = way_after;
       way_back = way_back_after;
       apps = record {
-        writes = record {
-          numbers = h.apps.writes.numbers;
-          over = h.apps.writes.over;
-        };
-        reads = record {
-          numbers = h.apps.reads.numbers;
-          received = h.apps.reads.received;
-          over = h.apps.reads.over;
-        };
+        writes = record { numbers = h.apps.writes.numbers; over = h.apps.writes.over };
+        reads = record { numbers = h.apps.reads.numbers; received = h.apps.reads.received; over = h.apps.reads.over };
         receives = record {
           read = h.apps.receives.read;
           received = h.apps.receives.received;

@@ -1,51 +1,20 @@
 -- A copy that is no SYN arrives: what its end knows of it, and the world from its side.
-use Rattle.std.proofs.Common.{◌≡◌, refl, sym, subst, ap, ◌∙◌, ℕ, ◌+◌, ◌-◌, ◌^◌, ◌<◌, ◌≤◌, min, nat_lt, nat_le, Bool, true, false, not, ◌&&◌, ◌||◌, if◌then◌else◌, ◌⊎◌, inl, inr, Option, Some, None, List, [], ◌∷◌, length, map, arith}
-use Rattle.std.specs.List.{list_any}
-use Rattle.std.proofs.lemmas.Bool.{both_ways, cases_lt, and_parts, lt-ltb, le-ltb, lt-leb}
-use Rattle.sides.specs.declared.side.Side.{Side}
-use Rattle.sides.specs.declared.side.Side.TheVariants.{A, B}
-use Rattle.sides.specs.Side.{peer}
-use Rattle.link_model.specs.declared.flight.Flight.{Flight}
-use Rattle.dss_mapping.specs.declared.kept.KeptMapping.{KeptMapping}
-use Rattle.dss_mapping.specs.Learning.{after_hold as after_hold_mappings}
-use Rattle.path_segments.specs.Laws.{window_told}
-use Rattle.subflow_tcp.specs.declared.handshake.State.TheVariants as states
-use Rattle.subflow_tcp.specs.declared.segments.Outgoing.{Outgoing}
-use Rattle.subflow_tcp.specs.declared.verdicts.Meaning.TheVariants as means
-use Rattle.subflow_send.specs.declared.record.AckKind.{AckKind}
-use Rattle.subflow_send.specs.declared.record.AckKind.TheVariants.{Duplicate}
-use Rattle.subflow_send.specs.Rules.{ack_kind}
-use Rattle.subflow_recv.specs.Receiving.{Receiving, after_hold}
+use Rattle.clean_finish.proofs.Words.{◌≡◌, refl, sym, subst, ap, ◌∙◌, ℕ, ◌+◌, ◌-◌, ◌<◌, ◌≤◌, min, nat_lt, Bool, true, false, not, ◌&&◌, ◌||◌, if◌then◌else◌}
+use Rattle.clean_finish.proofs.Words.{◌⊎◌, inl, inr, Option, None, List, [], ◌∷◌, length, map, arith, Some, nat_le, ◌^◌, both_ways, cases_lt, and_parts, lt-ltb}
+use Rattle.clean_finish.proofs.Words.{le-ltb, lt-leb, list_any, Side, A, B, peer, KeptMapping, after_hold_mappings, Receiving, after_hold, AckKind, Duplicate}
+use Rattle.clean_finish.proofs.Words.{ack_kind, State, EndState, is_half_open, after_telling, after_occupying, is_duplicate, is_empty, arrival_of}
+use Rattle.clean_finish.proofs.Words.{after_holding, Outgoing, Meaning, meaning_of, occupied, owing_ack, Flight, window_told, Duty, StepDuty, copy_came}
+use Rattle.clean_finish.proofs.Words.{place_in_first, wants_ack, Heard, pick, is_nil, Profile, Carried, held_of, copy_judged, after_copy, owing_if}
+use Rattle.clean_finish.proofs.Words.{is_connected, edge_held, has_data_ack, hint_of, is_plain_ack, octets_acked, is_joined, Setting, Telling, Copy, Lane}
+use Rattle.clean_finish.proofs.Words.{all_left, Going, Covers, may_tell, pending, is_same, Chain, In, repeated, Hand, EndIs, HeardIs, RecordsAre, WayIs}
+use Rattle.clean_finish.proofs.Words.{last_told, row_seen, brings_still, Sent, Keys, Brings, BringsAs, shows_keys, is_third, is_subflow_end, copy_in, octets_of}
+use Rattle.clean_finish.proofs.Words.{position_by, position_of, CountsAs, TellsAs, AcknowledgesAs, ShowsFirst, Rise, edge_after, OpensSubflow, ShowsKeys}
+use Rattle.clean_finish.proofs.Words.{FirstPiece, Piece, Acknowledges, EndsStream, EndsSubflow, TreatsCopy, count_in, heard_by, IsSetting, Facing, Half}
+use Rattle.clean_finish.proofs.Words.{IsBetween, AtFirst}
 use Rattle.subflow_tcp.specs.declared.verdicts.Arrival.TheVariants.{Took, Opened}
-use Rattle.subflow_tcp.specs.States.{is_half_open}
-use Rattle.subflow_tcp.specs.Segments.{occupied}
-use Rattle.subflow_tcp.specs.Dues.{owing_ack}
-use Rattle.subflow_tcp.specs.Judging.{meaning_of}
-use Rattle.subflow_tcp.specs.State.{EndState}
-use Rattle.subflow_tcp.specs.Taking.{arrival_of, is_empty, told_by, is_duplicate, after_holding, after_occupying, after_telling}
-use Rattle.actor_desk.specs.Words.{pick, is_nil}
-use Rattle.path_agenda.specs.declared.duty.Duty.TheVariants as duties
-use Rattle.path_agenda.specs.declared.duty.StepDuty.TheVariants as step_duties
-use Rattle.path_agenda.specs.Agenda.{copy_came}
-use Rattle.path_agenda.specs.Items.{place_in_first, wants_ack}
-use Rattle.path_agenda.specs.declared.heard.Heard.{Heard}
-use Rattle.path_core.specs.Arrival.{after_copy, copy_judged, owing_if}
-use Rattle.path_core.specs.OptionsIn.{edge_held, has_data_ack, hint_of, is_plain_ack, octets_acked}
-use Rattle.path_core.specs.DssIn.{held_of}
-use Rattle.path_core.specs.MpJoin.{is_joined}
-use Rattle.path_core.specs.Standing.{is_connected}
-use Rattle.path_core.specs.Profile.{Profile}
-use Rattle.path_core.specs.Values.{Carried}
-use Rattle.pace.specs.Lane.{Setting, Telling, Copy, Lane, all_left}
-use Rattle.pace.specs.Lists.{Chain, In, repeated}
+use Rattle.subflow_tcp.specs.Taking.{told_by}
 use Rattle.pace.proofs.Lists.{chain_le}
-use Rattle.pace.specs.Rules.{is_same}
-use Rattle.pace.specs.Going.{Going, Covers, may_tell, pending}
-use Rattle.clean_finish.specs.Segments.{Sent, Keys, Brings, BringsAs, shows_keys, is_third, is_opening, is_subflow_end, copy_in, octets_of, position_by, position_of, CountsAs, TellsAs, AcknowledgesAs, ShowsFirst, Rise, edge_after}
-use Rattle.clean_finish.specs.Segments.Brings.{OpensSubflow, ShowsKeys, FirstPiece, Piece, Acknowledges, EndsStream, EndsSubflow}
-use Rattle.clean_finish.specs.Shows.{Hand, EndIs, RecordsAre, brings_still, last_told, row_seen, HeardIs, WayIs}
-use Rattle.clean_finish.specs.Running.{Half, Facing, IsBetween, IsSetting, TreatsCopy, count_in, heard_by}
-use Rattle.clean_finish.specs.Running.Treatment.{AtFirst}
+use Rattle.clean_finish.specs.Segments.{is_opening}
 use Rattle.clean_finish.proofs.AckNew.{kind_same}
 use Rattle.clean_finish.proofs.AnswerComes.{edge_first}
 use Rattle.clean_finish.proofs.CopyArrived.{copy_arrived}
@@ -91,20 +60,15 @@ control_some : (control keys control_then keys_then : ℕ) (b : Brings) → is_o
 control_some control keys control_then keys_then OpensSubflow e is = absurd (both_ways _ e refl)
 control_some control keys control_then keys_then ShowsKeys e is = some_one is.1
 control_some control keys control_then keys_then (FirstPiece octets) e is = some_one is.1
-control_some control keys control_then keys_then (Piece octets) e is = some_same is.0 is.1
-control_some control keys control_then keys_then Acknowledges e is = some_same is.0 is.1
-control_some control keys control_then keys_then (EndsStream place) e is = some_same is.0 is.1
 control_some control keys control_then keys_then EndsSubflow e is = some_two is.1
+control_some control keys control_then keys_then _ e is = some_same is.0 is.1
 
 -- all but A's SYN acknowledge a SYN
 tells_seen : (least : ℕ) (s : Side) (window : ℕ) (t : Telling) (b : Brings) → is_opening b ≡ false → TellsAs least s window t b → 1 ≤ t.seen
 tells_seen least s window t OpensSubflow e is = absurd (both_ways _ e refl)
 tells_seen least s window t ShowsKeys e is = some_one is.2
 tells_seen least s window t (FirstPiece octets) e is = some_one is.2
-tells_seen least s window t (Piece octets) e is = is.1
-tells_seen least s window t Acknowledges e is = is.1
-tells_seen least s window t (EndsStream place) e is = is.1
-tells_seen least s window t EndsSubflow e is = is.1
+tells_seen least s window t _ e is = is.1
 
 -- it stands at the edge of what came
 at_edge : (x : Sent) (received control keys : ℕ) → is_opening x.brings ≡ false → x.low ≡ received → CountsAs control keys x.control x.keys x.brings
@@ -124,16 +88,14 @@ at_edge x received control keys opens low counts = by x.brings opens counts
     by OpensSubflow e is = absurd (both_ways _ e refl)
     by ShowsKeys e is = let o = one_of is.0 is.1 in next low o.0 o.1
     by (FirstPiece octets) e is = let o = one_of is.0 is.1 in next low o.0 o.1
-    by (Piece octets) e is = next low is.1 is.0
-    by Acknowledges e is = next low is.1 is.0
-    by (EndsStream place) e is = next low is.1 is.0
     by EndsSubflow e is = fin low is.0 is.1
+    by _ e is = next low is.1 is.0
 
 -- with keys that never came before, and what acknowledges no SYN
 module _ {s : Side} {keys : Keys} {k j : Setting} {c : Profile} {begun begun_back : Lane} {m n : Half} {clock until : ℕ} (ticks t u : ℕ)
     (k_is : IsSetting c ticks k) (j_is : IsSetting c ticks j)
     (going : Going k begun t all_left begun) (going_back : Going j begun_back u all_left begun_back)
-    (h : Facing s keys k j c begun begun_back m n clock until ((duties.Step step_duties.Events) ∷ duties.End ∷ []))
+    (h : Facing s keys k j c begun begun_back m n clock until ((Duty.Step StepDuty.Events) ∷ Duty.End ∷ []))
     (none : h.hand ≡ None) (unowed : h.owes ≡ false) (waiting : h.waiting ≡ 0) (answered : min 1 h.back.control_came ≤ h.out.control_sent)
     (f : Flight Carried) (fs : List (Flight Carried)) (x : Sent) (xs : List Sent)
     (w : WayIs c keys k j (peer s) h.back.sender h.back.receiver h.back.datas h.out.acks None m.end.tcp.send.una n.end.tcp.recv.edge (f ∷ fs))
@@ -190,7 +152,7 @@ module _ {s : Side} {keys : Keys} {k j : Setting} {c : Profile} {begun begun_bac
     far_edge = lt-leb (2 ^ 61) m.end.tcp.recv.edge (far_come h.own.subflow.come.edge lane_back.numbers.received
         (up_two lane_back.numbers.granted lane_back.numbers.written) lane_back.numbers.control h.other.subflow.records.control j_is.small)
 
-    pub meaning : meaning_of (copy h x told answer) m.end.tcp ≡ means.Taken (position_of x) x.edge
+    pub meaning : meaning_of (copy h x told answer) m.end.tcp ≡ Meaning.Taken (position_of x) x.edge
     meaning = taken_meant c keys (peer s) s x h.back.control_came m.end.tcp.send.una m.end.tcp.send.finished m.end.tcp h.own.subflow.phase came opens far far_edge
         (at_edge x h.back.received h.back.control_came h.back.keys_came opens low counts ∙ sym h.own.subflow.come.edge) high acknowledges.some
 
@@ -266,11 +228,9 @@ module _ {s : Side} {keys : Keys} {k j : Setting} {c : Profile} {begun begun_bac
                 key_sent = (lane_back.under_way.datas_are (copy_in x) (subst (λ (cs : List Copy). In (copy_in x) cs)
                     (sym (w.datas_are ∙ ap (λ (ys : List Sent). map copy_in ys) sent)) (inl refl))).2
     no_keys_again (Piece octets) is again empty e = refl
-    no_keys_again Acknowledges is again empty e = refl
-    no_keys_again (EndsStream place) is again empty e = refl
-    no_keys_again EndsSubflow is again empty e = refl
+    no_keys_again _ is again empty e = refl
 
-    pub unsent : m.end.tcp.state ≡ states.SynReceived → m.end.tcp.send.finished ≡ false
+    pub unsent : m.end.tcp.state ≡ State.SynReceived → m.end.tcp.send.finished ≡ false
     unsent is = h.own.subflow.records.finished ∙ by (cases_lt 1 h.out.control_sent)
       where
         by : (1 < h.out.control_sent) ⊎ (h.out.control_sent ≤ 1) → nat_lt 1 h.out.control_sent ≡ false
@@ -358,8 +318,8 @@ module _ {s : Side} {keys : Keys} {k j : Setting} {c : Profile} {begun begun_bac
         f fs xs w sent own
 
     -- and that is what the path makes of it
-    pub judged_is : copy_judged false told answer s clock (heard h x told answer) (means.Taken (position_of x) x.edge) m.end ≡ end_by h x told answer taken
-    judged_is = ap (λ (y : EndState). after_copy (items h x told answer) answer clock (heard h x told answer) (means.Taken (position_of x) x.edge)
+    pub judged_is : copy_judged false told answer s clock (heard h x told answer) (Meaning.Taken (position_of x) x.edge) m.end ≡ end_by h x told answer taken
+    judged_is = ap (λ (y : EndState). after_copy (items h x told answer) answer clock (heard h x told answer) (Meaning.Taken (position_of x) x.edge)
         (record m.end { tcp = y; receiving = record m.end.receiving { mappings = after_hold_mappings told m.end.receiving.mappings } })) (holds_is (is_nil (octets_of x.brings)))
         ∙ ap (λ (y : EndState). record (end_by h x told answer taken) { tcp = y })
         (owing_is (list_any wants_ack (items h x told answer)) (after_occupying (copy h x told answer)
@@ -462,7 +422,7 @@ module _ {s : Side} {keys : Keys} {k j : Setting} {c : Profile} {begun begun_bac
         edge_is = ap (λ (r : Receiving). r.edge) recv_is ∙ edge_kept (is_nil (octets_of x.brings))
 
         -- a copy with a Data ACK, or one that acknowledges no data for the first time
-        plain_ack : is_plain_ack (arrival_of (means.Taken (position_of x) x.edge) (hint_of (items h x told answer)) (copy h x told answer) (holds h x told answer))
+        plain_ack : is_plain_ack (arrival_of (Meaning.Taken (position_of x) x.edge) (hint_of (items h x told answer)) (copy h x told answer) (holds h x told answer))
             (heard h x told answer) ≡ false
         plain_ack = by (shows_keys x.brings) refl
           where
@@ -470,7 +430,7 @@ module _ {s : Side} {keys : Keys} {k j : Setting} {c : Profile} {begun begun_bac
             no_and true b e = ap not e
             no_and false b e = refl
 
-            by : (b : Bool) → shows_keys x.brings ≡ b → is_plain_ack (arrival_of (means.Taken (position_of x) x.edge) (hint_of (items h x told answer)) (copy h x told answer) (holds h x told answer))
+            by : (b : Bool) → shows_keys x.brings ≡ b → is_plain_ack (arrival_of (Meaning.Taken (position_of x) x.edge) (hint_of (items h x told answer)) (copy h x told answer) (holds h x told answer))
                 (heard h x told answer) ≡ false
             by false e = no_and _ _ (acks_data c keys (peer s) x x.brings opens e)
             by true e = ap (λ (n : ℕ). nat_lt 0 n && not (list_any has_data_ack (heard h x told answer).options)) (none_acked (is_third x.brings) refl)
@@ -487,13 +447,9 @@ module _ {s : Side} {keys : Keys} {k j : Setting} {c : Profile} {begun begun_bac
                     same p q r = omega (arith, p, q, r)
 
                     one_edge : (b : Brings) → shows_keys b ≡ true → is_third b ≡ false → BringsAs j.total x.low x.edge b → x.edge ≡ 1
-                    one_edge OpensSubflow e f is = absurd (both_ways false refl e)
                     one_edge ShowsKeys e f is = is
                     one_edge (FirstPiece octets) e f is = is.0
-                    one_edge (Piece octets) e f is = absurd (both_ways false refl e)
-                    one_edge Acknowledges e f is = absurd (both_ways false refl e)
-                    one_edge (EndsStream place) e f is = absurd (both_ways false refl e)
-                    one_edge EndsSubflow e f is = absurd (both_ways false refl e)
+                    one_edge _ e f is = absurd (both_ways false refl e)
 
         -- where a SYN or FIN is acknowledged for the first time, something new is
         rests_before : h.out.control_acked < x.telling.seen → (if fresh h x told answer then None else h.out.timer) ≡ None
@@ -550,7 +506,7 @@ module _ {s : Side} {keys : Keys} {k j : Setting} {c : Profile} {begun begun_bac
           fins = refl;
           asked = refl;
           plain_ack = plain_ack;
-          held_edge = ap (λ (n : ℕ). edge_held (means.Taken (position_of x) x.edge) (octets_of x.brings) n) (edge_kept (is_nil (octets_of x.brings)))
+          held_edge = ap (λ (n : ℕ). edge_held (Meaning.Taken (position_of x) x.edge) (octets_of x.brings) n) (edge_kept (is_nil (octets_of x.brings)))
               ∙ (held_at (position_of x) m.end.tcp.recv.edge x.edge (octets_of x.brings) pos_is
               ∙ ap (λ (n : ℕ). if is_nil (octets_of x.brings) then None else Some n) (sym edge_is));
           owes = ap (λ (ys : List Heard). list_any wants_ack ys || nat_lt 0 (occupied (copy h x told answer))) says

@@ -1,31 +1,9 @@
 -- The step in which a copy that is no SYN arrives at B.
-use Rattle.std.proofs.Common.{◌≡◌, refl, sym, subst, ap, ℕ, ◌<◌, ◌≤◌, min, false, None, List, [], ◌∷◌, length}
-use Rattle.sides.specs.declared.side.Side.TheVariants.{A, B}
-use Rattle.dss_mapping.specs.declared.kept.KeptMapping.{KeptMapping}
-use Rattle.link_model.specs.declared.flight.Flight.{Flight}
-use Rattle.link_model.specs.Laws.{going_to}
-use Rattle.link_model.specs.Steps.{due_of}
-use Rattle.path_segments.specs.Laws.{meant}
-use Rattle.subflow_tcp.specs.declared.segments.Outgoing.{Outgoing}
-use Rattle.subflow_tcp.specs.declared.verdicts.Meaning.TheVariants as means
-use Rattle.actor_desk.specs.Desk.{SixBooks}
-use Rattle.stream_apps.specs.Apps.{AppState}
-use Rattle.path_agenda.specs.declared.duty.Duty.TheVariants as duties
-use Rattle.path_agenda.specs.declared.duty.StepDuty.TheVariants as step_duties
-use Rattle.path_agenda.specs.declared.duty.AskDuty.TheVariants as ask_duties
-use Rattle.path_agenda.specs.Agenda.{copy_came, heard_and, payload_came}
-use Rattle.path_core.specs.DssIn.{held_of}
-use Rattle.path_core.specs.Arrival.{reset_for, copy_taken}
-use Rattle.path_core.specs.End.{PathEnd}
-use Rattle.path_core.specs.MpJoin.{is_joined}
-use Rattle.path_core.specs.State.{PathState, goes_on}
-use Rattle.path_core.specs.Values.{Carried, values}
-use Rattle.world_laws.specs.Openings.{PathPlan, Start}
-use Rattle.pace.specs.Lane.{Setting, Lane, all_left}
-use Rattle.pace.specs.Going.{Going}
-use Rattle.clean_finish.specs.Segments.{Sent, Keys, is_opening, position_of, said}
-use Rattle.clean_finish.specs.Shows.{WayIs}
-use Rattle.clean_finish.specs.Running.{Facing, half, IsSetting, Runs, keys_in}
+use Rattle.clean_finish.proofs.Words.{◌≡◌, refl, sym, subst, ap, ℕ, ◌<◌, ◌≤◌, min, false, None, List, [], ◌∷◌, length, A, B, KeptMapping, Outgoing, Meaning}
+use Rattle.clean_finish.proofs.Words.{Flight, going_to, due_of, meant, Duty, StepDuty, AskDuty, heard_and, payload_came, copy_came, SixBooks, AppState, Carried}
+use Rattle.clean_finish.proofs.Words.{values, PathEnd, held_of, reset_for, copy_taken, PathState, goes_on, is_joined, Setting, Lane, all_left, Going, PathPlan}
+use Rattle.clean_finish.proofs.Words.{Start, WayIs, Sent, Keys, position_of, said, IsSetting, Runs, keys_in, Facing, half}
+use Rattle.clean_finish.specs.Segments.{is_opening}
 use Rattle.clean_finish.proofs.ArrivesAtB.{copy, q, tick, moment, first, faced, link, Follows, follows, comes_as}
 use Rattle.clean_finish.proofs.CopyComes.{comes, count_is, judged_is, meaning, taken, treats}
 use Rattle.clean_finish.proofs.Hands.{way_none}
@@ -58,7 +36,7 @@ module _ (start : Start) (plan : PathPlan) (k j : Setting) (s v : Lane) (t0 u0 :
         Relation r = Runs start plan k j s v a b books r
 
         abbrev face : Facing B keys j k p.profile v s (half B b books now_before) (half A a books now_before) (tick start plan k j s v t0 u0 going going_back a b books p f others k_is j_is) p.until
-            ((duties.Step step_duties.Events) ∷ duties.End ∷ [])
+            ((Duty.Step StepDuty.Events) ∷ Duty.End ∷ [])
         face = faced start plan k j s v t0 u0 going going_back a b books p f others k_is j_is h early
 
         module _ (opens : is_opening x.brings ≡ false) where
@@ -124,7 +102,7 @@ module _ (start : Start) (plan : PathPlan) (k j : Setting) (s v : Lane) (t0 u0 :
                   (
                     h.treats.0.0,
                     h.treats.1,
-                    ap (λ (n : ℕ). duties.Ask (ask_duties.Live B) ∷ heard_and B 0 n (payload_came B))
+                    ap (λ (n : ℕ). Duty.Ask (AskDuty.Live B) ∷ heard_and B 0 n (payload_came B))
                         (count_is plan.delay u0 t0 j_is k_is going_back going face none unowed waiting answered (copy start plan k j s v t0 u0 going going_back a b books p f others k_is j_is) (going_to B others) x xs way sent opens follow.low follow.counts follow.tells
                         follow.acknowledges follow.shows told answer follow.brings h.treats.0.1 opens_first refl),
                   ),
@@ -133,7 +111,7 @@ module _ (start : Start) (plan : PathPlan) (k j : Setting) (s v : Lane) (t0 u0 :
 
           pub copy_comes : Relation (copy_taken values (due_of (copy start plan k j s v t0 u0 going going_back a b books p f others k_is j_is)) (q start plan k j s v t0 u0 going going_back a b books p f others k_is j_is))
           copy_comes =
-              subst Relation (sym (comes_as start plan k j s v t0 u0 going going_back a b books p f others k_is j_is h early (means.Taken (position_of x) x.edge)
+              subst Relation (sym (comes_as start plan k j s v t0 u0 going going_back a b books p f others k_is j_is h early (Meaning.Taken (position_of x) x.edge)
               (meaning plan.delay u0 t0 j_is k_is going_back going face none unowed waiting answered (copy start plan k j s v t0 u0 going going_back a b books p f others k_is j_is) (going_to B others) x xs way sent opens follow.low follow.counts
               follow.tells follow.acknowledges follow.shows told answer)))
               (subst (λ (e : PathEnd). Relation (goes_on B e (copy_came B count) now))

@@ -1,16 +1,7 @@
 -- A copy that needs no acknowledgement is done with.
-use Rattle.std.proofs.Common.{◌≡◌, refl, subst, ap, ℕ, ◌≤◌, Bool, false, inl, inr, ⊎_elim, Option, None, List, ◌∷◌}
-use Rattle.std.proofs.lemmas.Bool.{both_ways}
-use Rattle.sides.specs.declared.side.Side.{Side}
-use Rattle.sides.specs.Side.{peer}
-use Rattle.path_agenda.specs.declared.duty.Duty.{Duty}
-use Rattle.path_agenda.specs.declared.duty.Duty.TheVariants as duties
-use Rattle.path_agenda.specs.declared.duty.SendDuty.TheVariants as send_duties
-use Rattle.path_core.specs.Profile.{Profile}
-use Rattle.pace.specs.Lane.{Setting, Lane, Stage}
-use Rattle.clean_finish.specs.Segments.{Sent, Keys}
-use Rattle.clean_finish.specs.Shows.{Hand, brings_still, EndIs, HeardIs, WayIs, last_told, row_seen}
-use Rattle.clean_finish.specs.Running.{Half, Facing, StageIs}
+use Rattle.clean_finish.proofs.Words.{◌≡◌, refl, subst, ap, ℕ, ◌≤◌, Bool, false, inl, inr, ⊎_elim, Option, None, List, ◌∷◌, both_ways, Side, peer, Duty}
+use Rattle.clean_finish.proofs.Words.{SendDuty, Profile, Setting, Lane, Stage, Hand, EndIs, HeardIs, WayIs, last_told, row_seen, brings_still, Sent, Keys}
+use Rattle.clean_finish.proofs.Words.{Facing, Half, StageIs}
 use Rattle.clean_finish.proofs.AckSent.{same_acknowledge}
 use Rattle.clean_finish.proofs.Dropping.{differ, behind, behind_or, stage_drops, settles_drop, begun_drops}
 use Rattle.clean_finish.proofs.Hands.{in_hand, way_done}
@@ -18,7 +9,7 @@ use Rattle.clean_finish.proofs.Passing.{peer_is_other}
 
 -- nothing is owed
 pub unowed_drops : (s r : Side) (ds : List Duty) (asked owes : Bool) (p : Stage) → owes ≡ false
-    → StageIs s r (duties.Send (send_duties.Acknowledge r) ∷ ds) asked owes p → StageIs s r ds asked owes p
+    → StageIs s r (Duty.Send (SendDuty.Acknowledge r) ∷ ds) asked owes p → StageIs s r ds asked owes p
 unowed_drops s r ds asked owes p none is = record {
   window = behind_or ds (differ refl) is.window;
   update = behind_or ds (differ refl) is.update;
@@ -30,7 +21,7 @@ unowed_drops s r ds asked owes p none is = record {
 }
 
 module _ {s : Side} {keys : Keys} {k j : Setting} {c : Profile} {begun begun_back : Lane} {m n : Half} {clock until : ℕ} {ds : List Duty}
-    (h : Facing s keys k j c begun begun_back m n clock until (duties.Send (send_duties.Acknowledge s) ∷ ds)) (x : Sent)
+    (h : Facing s keys k j c begun begun_back m n clock until (Duty.Send (SendDuty.Acknowledge s) ∷ ds)) (x : Sent)
     (hand : h.hand ≡ in_hand x false false) (unowed : h.owes ≡ false)
   where
     pub own_done : EndIs s keys k j h.out.sender h.back.receiver None h.owes h.waiting m.end
@@ -63,10 +54,7 @@ module _ {s : Side} {keys : Keys} {k j : Setting} {c : Profile} {begun begun_bac
           steady = h.own.subflow.congestion.steady;
           row = subst (λ (o : Option Hand). m.end.tcp.congestion.duplicates ≤ row_seen h.out.sender o) hand h.own.subflow.congestion.row;
         };
-        come = record {
-          edge = h.own.subflow.come.edge;
-          window = h.own.subflow.come.window;
-        };
+        come = record { edge = h.own.subflow.come.edge; window = h.own.subflow.come.window };
         heard = subst (λ (o : Option Hand). HeardIs s k.total (last_told h.out.heard o) m.end.tcp) hand h.own.subflow.heard;
         quiet = h.own.subflow.quiet;
         begun = h.own.subflow.begun;
@@ -144,16 +132,16 @@ module _ {s : Side} {keys : Keys} {k j : Setting} {c : Profile} {begun begun_bac
           n.end.tcp.recv.edge n.flying) hand h.way_back);
       apps = h.apps;
       apps_back = h.apps_back;
-      stages = stage_drops s (peer s) (duties.Send (send_duties.Acknowledge s)) ds n.end.treated.asked h.owes_back h.stage (record { window = differ refl; update = differ refl; emit = differ refl; finish = differ refl; wait = differ refl; syn_ack = differ refl; acknowledge = λ e. peer_is_other s (same_acknowledge e); ask = differ refl }) h.stages;
+      stages = stage_drops s (peer s) (Duty.Send (SendDuty.Acknowledge s)) ds n.end.treated.asked h.owes_back h.stage (record { window = differ refl; update = differ refl; emit = differ refl; finish = differ refl; wait = differ refl; syn_ack = differ refl; acknowledge = λ e. peer_is_other s (same_acknowledge e); ask = differ refl }) h.stages;
       stages_back = unowed_drops (peer s) s ds m.end.treated.asked h.owes h.stage_back unowed h.stages_back;
       control = h.control;
       control_back = h.control_back;
       turn = h.turn;
       turn_back = h.turn_back;
-      settles = settles_drop s (duties.Send (send_duties.Acknowledge s)) ds m.end (differ refl) h.settles;
-      settles_back = settles_drop (peer s) (duties.Send (send_duties.Acknowledge s)) ds n.end (differ refl) h.settles_back;
-      begins = begun_drops s j h.out.sender h.back.receiver m.end (duties.Send (send_duties.Acknowledge s)) ds (differ refl) (λ is. differ refl) h.begins;
-      begins_back = begun_drops (peer s) k h.back.sender h.out.receiver n.end (duties.Send (send_duties.Acknowledge s)) ds (differ refl) (λ is. differ refl) h.begins_back;
+      settles = settles_drop s (Duty.Send (SendDuty.Acknowledge s)) ds m.end (differ refl) h.settles;
+      settles_back = settles_drop (peer s) (Duty.Send (SendDuty.Acknowledge s)) ds n.end (differ refl) h.settles_back;
+      begins = begun_drops s j h.out.sender h.back.receiver m.end (Duty.Send (SendDuty.Acknowledge s)) ds (differ refl) (λ is. differ refl) h.begins;
+      begins_back = begun_drops (peer s) k h.back.sender h.out.receiver n.end (Duty.Send (SendDuty.Acknowledge s)) ds (differ refl) (λ is. differ refl) h.begins_back;
       owed = λ e b. absurd (both_ways h.owes unowed e);
       owed_back = h.owed_back;
     }

@@ -1,27 +1,11 @@
 -- A copy that is taken, as the subflow of an end hears it: what it acknowledges, and how that goes with its lane.
-use Rattle.std.proofs.Common.{◌≡◌, refl, sym, subst, ap, ◌∙◌, ℕ, ◌+◌, ◌<◌, ◌≤◌, Bool, true, false, not, ◌&&◌, if◌then◌else◌, ⊎_elim, arith}
-use Rattle.std.proofs.lemmas.Bool.{both_ways, cases_lt, lt-ltb, and_parts}
-use Rattle.sides.specs.declared.side.Side.{Side}
-use Rattle.loss_recovery.specs.declared.windows.Congestion.{Congestion}
-use Rattle.loss_recovery.specs.declared.windows.Told.{Told}
-use Rattle.loss_recovery.specs.Timers.{measured, rtt_told}
-use Rattle.loss_recovery.specs.Windows.{duplicated, is_third}
-use Rattle.subflow_send.specs.declared.record.AckKind.{AckKind}
-use Rattle.subflow_send.specs.declared.record.AckKind.TheVariants.{New, Duplicate}
-use Rattle.subflow_send.specs.Rules.{newly_acknowledged, sample_of, ack_kind}
-use Rattle.subflow_tcp.specs.declared.handshake.State.{State}
-use Rattle.subflow_tcp.specs.declared.handshake.State.TheVariants as states
-use Rattle.subflow_tcp.specs.Segments.{Copy as SubflowCopy}
-use Rattle.subflow_tcp.specs.State.{EndState}
-use Rattle.subflow_tcp.specs.States.{after_handshake}
-use Rattle.subflow_tcp.specs.Taking.{after_new_ack, after_acknowledgement, after_row, after_duplicate, after_interruption, is_duplicate, is_fin_acked}
-use Rattle.subflow_tcp.proofs.WindowGrowth.{acknowledged_grows}
-use Rattle.pace.specs.Lane.{Setting, Sender}
-use Rattle.pace.specs.Rules.{is_same, repeats, next_row}
-use Rattle.clean_finish.specs.Machine.{IsLong}
-use Rattle.clean_finish.specs.Segments.{Sent, copy_in}
-use Rattle.clean_finish.specs.Shows.{IsOpen, IsPhase, RecordsAre}
-use Rattle.clean_finish.specs.Shows.IsPhase.{Opening, Listening, HalfOpen, Open}
+use Rattle.clean_finish.proofs.Words.{◌≡◌, refl, sym, subst, ap, ◌∙◌, ℕ, ◌+◌, ◌<◌, ◌≤◌, Bool, true, false, not, ◌&&◌, if◌then◌else◌, ⊎_elim, arith, both_ways}
+use Rattle.clean_finish.proofs.Words.{cases_lt, and_parts, lt-ltb, Side, AckKind, Duplicate, newly_acknowledged, ack_kind, sample_of, Congestion, duplicated}
+use Rattle.clean_finish.proofs.Words.{measured, rtt_told, Told, State, EndState, after_handshake, after_new_ack, after_acknowledgement, is_fin_acked}
+use Rattle.clean_finish.proofs.Words.{is_duplicate, after_row, after_duplicate, after_interruption, acknowledged_grows, SubflowCopy, Setting, Sender, repeats}
+use Rattle.clean_finish.proofs.Words.{is_same, next_row, IsLong, RecordsAre, IsPhase, IsOpen, Sent, copy_in, Opening, Listening, HalfOpen, Open}
+use Rattle.loss_recovery.specs.Windows.{is_third}
+use Rattle.subflow_send.specs.declared.record.AckKind.TheVariants.{New}
 use Rattle.clean_finish.proofs.AckNew.{acked_to, new_ack, same_ack, kind_new, kind_same, records_acked, records_same, window_on, open_acked}
 use Rattle.clean_finish.proofs.Machine.{stays_long}
 
@@ -29,11 +13,11 @@ use Rattle.clean_finish.proofs.Machine.{stays_long}
 
 -- a copy that is taken ends the handshake
 pub open_now : (state : State) (finished : Bool) → IsOpen finished state → after_handshake state ≡ state
-open_now states.SynReceived finished is = absurd (both_ways _ is.half refl)
+open_now State.SynReceived finished is = absurd (both_ways _ is.half refl)
 open_now _ finished is = refl
 
 pub open_after : (s : Side) (came una : ℕ) (finished : Bool) (state : State) → IsPhase s came una finished state → 1 ≤ came
-    → (state ≡ states.SynReceived → finished ≡ false) → IsOpen finished (after_handshake state)
+    → (state ≡ State.SynReceived → finished ≡ false) → IsOpen finished (after_handshake state)
 open_after s came una finished state (Opening side none low is) some unsent = absurd (omega (arith, none, some))
 open_after s came una finished state (Listening side none low is) some unsent = absurd (omega (arith, none, some))
 open_after s came una finished state (HalfOpen side one low is) some unsent =
@@ -108,9 +92,6 @@ module _ (k : Setting) (out later : Sender) (same_granted : later.granted ≡ ou
       news_is : heeded ≡ news
       news_is = ap (λ (kind : AckKind). after_row kind told c (after_acknowledgement x.edge now s)) (kind_new x.edge s.send less high)
           ∙ ap (λ (y : EndState). after_row (New (newly_acknowledged x.edge s.send)) told c y) (new_ack x.edge now s less high)
-
-      zero_low : {y : ℕ} (z : ℕ) → y ≡ 0 → y ≤ z
-      zero_low z is = omega (arith, is)
 
       not_same : {y z : ℕ} → y < z → z ≡ y → ⊥
       not_same a b = absurd (omega (arith, a, b))

@@ -1,24 +1,12 @@
 -- What holds of each kind of copy as it arrives in order.
-use Rattle.std.proofs.Common.{◌≡◌, refl, sym, subst, ap, ◌∙◌, ℕ, zero, suc, ◌+◌, ◌-◌, ◌<◌, ◌≤◌, nat_lt, nat_le, Bool, true, false, not, ◌&&◌, if◌then◌else◌, Option, Some, None, List, [], ◌∷◌, length, take, drop, map, arith}
-use Rattle.std.specs.List.{list_any}
-use Rattle.std.proofs.lemmas.Bool.{both_ways, lt-ltb, le-ltb, le-leb}
-use Rattle.sides.specs.declared.side.Side.{Side}
-use Rattle.sides.specs.declared.side.Side.TheVariants.{B}
-use Rattle.path_segments.specs.Laws.{meant}
-use Rattle.subflow_recv.specs.Receiving.{Receiving, after_hold, by_place, merged}
-use Rattle.subflow_tcp.specs.declared.handshake.State.{State}
-use Rattle.subflow_tcp.specs.declared.verdicts.Meaning.TheVariants as means
-use Rattle.subflow_tcp.specs.States.{is_half_open}
-use Rattle.subflow_tcp.specs.Taking.{first_fin}
-use Rattle.actor_desk.specs.Words.{is_nil}
-use Rattle.path_core.specs.OptionsIn.{edge_held, has_data_ack}
-use Rattle.path_core.specs.Standing.{is_connected}
-use Rattle.path_core.specs.Profile.{Profile}
-use Rattle.clean_finish.specs.Segments.{Sent, Keys, Brings, is_opening, is_subflow_end, shows_keys, is_third, is_piece, octets_of, said, CountsAs}
-use Rattle.clean_finish.specs.Segments.Brings.{OpensSubflow, ShowsKeys, FirstPiece, Piece, Acknowledges, EndsStream, EndsSubflow}
-use Rattle.clean_finish.specs.Shows.{IsPhase}
-use Rattle.clean_finish.specs.Shows.IsPhase.{Opening, Listening, HalfOpen, Open}
-use Rattle.clean_finish.specs.Running.{heard_by, count_in}
+use Rattle.clean_finish.proofs.Words.{◌≡◌, refl, sym, subst, ap, ◌∙◌, ℕ, ◌+◌, ◌-◌, ◌<◌, ◌≤◌, nat_lt, Bool, true, false, not, ◌&&◌, if◌then◌else◌, Option, None}
+use Rattle.clean_finish.proofs.Words.{List, [], ◌∷◌, length, map, arith, Some, suc, zero, nat_le, drop, take, both_ways, lt-ltb, le-ltb, le-leb, list_any, Side}
+use Rattle.clean_finish.proofs.Words.{B, Receiving, after_hold, State, is_half_open, first_fin, Meaning, meant, is_nil, Profile, is_connected, edge_held}
+use Rattle.clean_finish.proofs.Words.{has_data_ack, IsPhase, Sent, Keys, Brings, shows_keys, is_third, is_subflow_end, octets_of, CountsAs, said, is_piece}
+use Rattle.clean_finish.proofs.Words.{OpensSubflow, ShowsKeys, FirstPiece, Piece, Acknowledges, EndsStream, EndsSubflow, count_in, heard_by, Opening, Listening}
+use Rattle.clean_finish.proofs.Words.{HalfOpen, Open}
+use Rattle.subflow_recv.specs.Receiving.{by_place, merged}
+use Rattle.clean_finish.specs.Segments.{is_opening}
 use Rattle.clean_finish.proofs.CopySays.{drop_place}
 
 -- ---- keys
@@ -31,13 +19,9 @@ none_some is some = absurd (omega (arith, is, some))
 
 -- what shows the keys was sent with them
 pub keys_shown_by : (control keys control_then keys_then : ℕ) (b : Brings) → shows_keys b ≡ true → CountsAs control keys control_then keys_then b → 1 ≤ keys_then
-keys_shown_by control keys control_then keys_then OpensSubflow e is = absurd (both_ways false refl e)
 keys_shown_by control keys control_then keys_then ShowsKeys e is = one_of is.3
 keys_shown_by control keys control_then keys_then (FirstPiece octets) e is = one_of is.2
-keys_shown_by control keys control_then keys_then (Piece octets) e is = absurd (both_ways false refl e)
-keys_shown_by control keys control_then keys_then Acknowledges e is = absurd (both_ways false refl e)
-keys_shown_by control keys control_then keys_then (EndsStream place) e is = absurd (both_ways false refl e)
-keys_shown_by control keys control_then keys_then EndsSubflow e is = absurd (both_ways false refl e)
+keys_shown_by control keys control_then keys_then _ e is = absurd (both_ways false refl e)
 
 -- where no keys came before, what comes with them is the third segment
 pub first_keys : (control keys control_then keys_then : ℕ) (b : Brings) → is_opening b ≡ false → CountsAs control keys control_then keys_then b
@@ -45,19 +29,11 @@ pub first_keys : (control keys control_then keys_then : ℕ) (b : Brings) → is
 first_keys control keys control_then keys_then OpensSubflow e is none some = absurd (both_ways _ e refl)
 first_keys control keys control_then keys_then ShowsKeys e is none some = refl
 first_keys control keys control_then keys_then (FirstPiece octets) e is none some = absurd (none_some none (one_of is.4))
-first_keys control keys control_then keys_then (Piece octets) e is none some = absurd (none_some (is.2 ∙ none) some)
-first_keys control keys control_then keys_then Acknowledges e is none some = absurd (none_some (is.2 ∙ none) some)
-first_keys control keys control_then keys_then (EndsStream place) e is none some = absurd (none_some (is.2 ∙ none) some)
-first_keys control keys control_then keys_then EndsSubflow e is none some = absurd (none_some (is.2 ∙ none) some)
+first_keys control keys control_then keys_then _ e is none some = absurd (none_some (is.2 ∙ none) some)
 
 pub third_first : (control keys control_then keys_then : ℕ) (b : Brings) → is_third b ≡ true → CountsAs control keys control_then keys_then b → keys ≡ 0
-third_first control keys control_then keys_then OpensSubflow e is = absurd (both_ways false refl e)
 third_first control keys control_then keys_then ShowsKeys e is = is.2
-third_first control keys control_then keys_then (FirstPiece octets) e is = absurd (both_ways false refl e)
-third_first control keys control_then keys_then (Piece octets) e is = absurd (both_ways false refl e)
-third_first control keys control_then keys_then Acknowledges e is = absurd (both_ways false refl e)
-third_first control keys control_then keys_then (EndsStream place) e is = absurd (both_ways false refl e)
-third_first control keys control_then keys_then EndsSubflow e is = absurd (both_ways false refl e)
+third_first control keys control_then keys_then _ e is = absurd (both_ways false refl e)
 
 -- the others come behind it
 pub later_keys : (control keys control_then keys_then : ℕ) (b : Brings) → is_opening b ≡ false → is_third b ≡ false → CountsAs control keys control_then keys_then b
@@ -65,39 +41,22 @@ pub later_keys : (control keys control_then keys_then : ℕ) (b : Brings) → is
 later_keys control keys control_then keys_then OpensSubflow e f is some = absurd (both_ways _ e refl)
 later_keys control keys control_then keys_then ShowsKeys e f is some = absurd (both_ways _ f refl)
 later_keys control keys control_then keys_then (FirstPiece octets) e f is some = one_of is.4
-later_keys control keys control_then keys_then (Piece octets) e f is some = subst (λ (n : ℕ). 1 ≤ n) is.2 some
-later_keys control keys control_then keys_then Acknowledges e f is some = subst (λ (n : ℕ). 1 ≤ n) is.2 some
-later_keys control keys control_then keys_then (EndsStream place) e f is some = subst (λ (n : ℕ). 1 ≤ n) is.2 some
-later_keys control keys control_then keys_then EndsSubflow e f is some = subst (λ (n : ℕ). 1 ≤ n) is.2 some
+later_keys control keys control_then keys_then _ e f is some = subst (λ (n : ℕ). 1 ≤ n) is.2 some
 
 pub third_shows : (b : Brings) → is_third b ≡ true → shows_keys b ≡ true
-third_shows OpensSubflow e = absurd (both_ways false refl e)
 third_shows ShowsKeys e = refl
-third_shows (FirstPiece octets) e = absurd (both_ways false refl e)
-third_shows (Piece octets) e = absurd (both_ways false refl e)
-third_shows Acknowledges e = absurd (both_ways false refl e)
-third_shows (EndsStream place) e = absurd (both_ways false refl e)
-third_shows EndsSubflow e = absurd (both_ways false refl e)
+third_shows _ e = absurd (both_ways false refl e)
 
 -- bytes are some
 pub some_bytes : (control keys control_then keys_then : ℕ) (b : Brings) → is_piece b ≡ true → CountsAs control keys control_then keys_then b → 1 ≤ length (octets_of b)
-some_bytes control keys control_then keys_then OpensSubflow e is = absurd (both_ways false refl e)
-some_bytes control keys control_then keys_then ShowsKeys e is = absurd (both_ways false refl e)
 some_bytes control keys control_then keys_then (FirstPiece octets) e is = is.3
 some_bytes control keys control_then keys_then (Piece octets) e is = is.3
-some_bytes control keys control_then keys_then Acknowledges e is = absurd (both_ways false refl e)
-some_bytes control keys control_then keys_then (EndsStream place) e is = absurd (both_ways false refl e)
-some_bytes control keys control_then keys_then EndsSubflow e is = absurd (both_ways false refl e)
+some_bytes control keys control_then keys_then _ e is = absurd (both_ways false refl e)
 
 -- a FIN comes behind no other
 pub fin_once : (control keys control_then keys_then : ℕ) (b : Brings) → is_subflow_end b ≡ true → CountsAs control keys control_then keys_then b → control ≡ 1
-fin_once control keys control_then keys_then OpensSubflow e is = absurd (both_ways false refl e)
-fin_once control keys control_then keys_then ShowsKeys e is = absurd (both_ways false refl e)
-fin_once control keys control_then keys_then (FirstPiece octets) e is = absurd (both_ways false refl e)
-fin_once control keys control_then keys_then (Piece octets) e is = absurd (both_ways false refl e)
-fin_once control keys control_then keys_then Acknowledges e is = absurd (both_ways false refl e)
-fin_once control keys control_then keys_then (EndsStream place) e is = absurd (both_ways false refl e)
 fin_once control keys control_then keys_then EndsSubflow e is = is.0
+fin_once control keys control_then keys_then _ e is = absurd (both_ways false refl e)
 
 -- ---- the end that it opens
 
@@ -131,12 +90,7 @@ open_una s came una finished state (Open one high is) some half = high
 pub has_options : (c : Profile) (keys : Keys) (s : Side) (x : Sent) (b : Brings) → is_opening b ≡ false
     → not (is_nil (meant (said c keys s (record x { brings = b }))).options) ≡ true
 has_options c keys s x OpensSubflow e = absurd (both_ways _ e refl)
-has_options c keys s x ShowsKeys e = refl
-has_options c keys s x (FirstPiece octets) e = refl
-has_options c keys s x (Piece octets) e = refl
-has_options c keys s x Acknowledges e = refl
-has_options c keys s x (EndsStream place) e = refl
-has_options c keys s x EndsSubflow e = refl
+has_options c keys s x _ e = refl
 
 -- all but those with keys have a Data ACK
 pub acks_data : (c : Profile) (keys : Keys) (s : Side) (x : Sent) (b : Brings) → is_opening b ≡ false → shows_keys b ≡ false
@@ -144,25 +98,17 @@ pub acks_data : (c : Profile) (keys : Keys) (s : Side) (x : Sent) (b : Brings) �
 acks_data c keys s x OpensSubflow e f = absurd (both_ways _ e refl)
 acks_data c keys s x ShowsKeys e f = absurd (both_ways _ f refl)
 acks_data c keys s x (FirstPiece octets) e f = absurd (both_ways _ f refl)
-acks_data c keys s x (Piece octets) e f = refl
-acks_data c keys s x Acknowledges e f = refl
-acks_data c keys s x (EndsStream place) e f = refl
-acks_data c keys s x EndsSubflow e f = refl
+acks_data c keys s x _ e f = refl
 
 -- so many things
 pub length_heard : (keys : Keys) (next window : ℕ) (b : Brings) → length (heard_by keys next window b) ≡ count_in b
 length_heard keys next window OpensSubflow = refl
-length_heard keys next window ShowsKeys = refl
-length_heard keys next window (FirstPiece octets) = refl
-length_heard keys next window (Piece octets) = refl
-length_heard keys next window Acknowledges = refl
-length_heard keys next window (EndsStream place) = refl
-length_heard keys next window EndsSubflow = refl
+length_heard keys next window _ = refl
 
 -- ---- the payload
 
 pub held_at : (pos edge acknowledged : ℕ) (octets : List ℕ) → pos ≡ edge
-    → edge_held (means.Taken pos acknowledged) octets edge ≡ (if is_nil octets then None else Some edge)
+    → edge_held (Meaning.Taken pos acknowledged) octets edge ≡ (if is_nil octets then None else Some edge)
 held_at pos edge acknowledged [] at =
     ap (λ (b : Bool). if nat_le pos edge && b then Some edge else None) (le-ltb edge (pos + 0) (low at)) ∙ none (nat_le pos edge)
   where

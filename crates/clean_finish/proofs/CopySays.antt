@@ -1,28 +1,13 @@
 -- What a copy that is no SYN says to its end, which mapping it has, and whether it is to be acknowledged.
-use Rattle.std.proofs.Common.{◌≡◌, refl, sym, subst, ap, ◌∙◌, ℕ, zero, suc, ◌+◌, ◌^◌, ◌<◌, ◌≤◌, nat_lt, Bool, true, false, ◌||◌, if◌then◌else◌, unwrap_or, Option, Some, None, List, [], ◌∷◌, ◌++◌, length, drop, map, replicate, arith}
-use Rattle.std.specs.List.{list_any}
-use Rattle.std.proofs.lemmas.Bool.{both_ways, lt-ltb, le-leb}
-use Rattle.sides.specs.declared.side.Side.{Side}
-use Rattle.sides.specs.declared.side.Side.TheVariants.{A, B}
-use Rattle.sides.specs.Side.{peer}
-use Rattle.dss_mapping.specs.declared.kept.KeptMapping.{KeptMapping}
-use Rattle.path_segments.specs.Laws.{meant, window_told}
+use Rattle.clean_finish.proofs.Words.{◌≡◌, refl, sym, subst, ap, ◌∙◌, ℕ, ◌+◌, ◌<◌, ◌≤◌, nat_lt, Bool, true, false, ◌||◌, if◌then◌else◌, Option, None, List, []}
+use Rattle.clean_finish.proofs.Words.{◌∷◌, ◌++◌, length, map, arith, Some, suc, zero, drop, ◌^◌, replicate, unwrap_or, both_ways, lt-ltb, le-leb, list_any}
+use Rattle.clean_finish.proofs.Words.{Side, A, B, peer, KeptMapping, occupied, meant, window_told, wants_ack, Heard, is_nil, Profile, is_mapping, mapping_items}
+use Rattle.clean_finish.proofs.Words.{held_of, held_if, key_held, checksum_heard, kept_of, copy_of, items_of, is_joined, mapping_of, checksum_told}
+use Rattle.clean_finish.proofs.Words.{bare_mapping, checksum_in, Sent, Keys, Brings, BringsAs, shows_keys, octets_of, CountsAs, said, is_owed, OpensSubflow}
+use Rattle.clean_finish.proofs.Words.{ShowsKeys, FirstPiece, Piece, Acknowledges, EndsStream, EndsSubflow, heard_by, kept_in, kept_piece}
 use Rattle.subflow_recv.specs.Receiving.{by_place}
-use Rattle.subflow_tcp.specs.Segments.{occupied}
-use Rattle.actor_desk.specs.Words.{is_nil}
-use Rattle.path_agenda.specs.declared.heard.Heard.{Heard}
-use Rattle.path_agenda.specs.declared.heard.Heard.TheVariants as says
-use Rattle.path_agenda.specs.Items.{wants_ack}
 use Rattle.mptcp_options.specs.declared.capable.CapableKeys.TheVariants.{WithData}
-use Rattle.path_core.specs.Arrival.{copy_of}
-use Rattle.path_core.specs.OptionsIn.{items_of}
-use Rattle.path_core.specs.DssIn.{is_mapping, mapping_items, held_of, held_if, key_held, checksum_heard, kept_of}
-use Rattle.path_core.specs.MpJoin.{is_joined}
-use Rattle.path_core.specs.DssOut.{mapping_of, bare_mapping, checksum_in, checksum_told}
-use Rattle.path_core.specs.Profile.{Profile}
-use Rattle.clean_finish.specs.Segments.{Sent, Keys, Brings, is_opening, shows_keys, is_owed, octets_of, said, CountsAs, BringsAs}
-use Rattle.clean_finish.specs.Segments.Brings.{OpensSubflow, ShowsKeys, FirstPiece, Piece, Acknowledges, EndsStream, EndsSubflow}
-use Rattle.clean_finish.specs.Running.{heard_by, kept_piece, kept_in}
+use Rattle.clean_finish.specs.Segments.{is_opening}
 
 not_b : A ≡ B → ⊥
 not_b e = cc
@@ -53,8 +38,8 @@ module _ (c : Profile) (keys : Keys) (x : Sent) where
   says_are B ShowsKeys e key small one few own most is control keys_before counts = refl
   says_are A (FirstPiece octets) e key small one few own most is control keys_before counts = absurd (not_b (key refl))
   says_are B (FirstPiece octets) e key small one few own most is control keys_before counts =
-      ap (λ (b : Bool). says.Keys keys.b keys.a ∷ ((if b then mapping_items 0 1 (length octets) false else []) ++ [])) (lt-ltb 0 (length octets) counts.3)
-      ∙ ap (λ (b : Bool). says.Keys keys.b keys.a ∷ ((if b then says.Mapping false ∷ [] else []) ++ []))
+      ap (λ (b : Bool). Heard.Keys keys.b keys.a ∷ ((if b then mapping_items 0 1 (length octets) false else []) ++ [])) (lt-ltb 0 (length octets) counts.3)
+      ∙ ap (λ (b : Bool). Heard.Keys keys.b keys.a ∷ ((if b then Heard.Mapping false ∷ [] else []) ++ []))
       (fits_mapping 0 1 (length octets) (omega arith) (from_none x.low (length octets) few))
     where
       from_none : (l n : ℕ) → l + n ≤ 2 ^ 62 → 0 + n ≤ 2 ^ 62

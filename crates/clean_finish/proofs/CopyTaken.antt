@@ -1,23 +1,9 @@
 -- A copy is taken on a path of which no line speaks: the segment is heard as it was meant, by the end that it goes to.
-use Rattle.std.proofs.Common.{◌≡◌, sym, subst, ap, ◌∙◌, ℕ, max, Bool, false, if◌then◌else◌, Option, Some, List, [], ◌∷◌, length}
-use Rattle.sides.specs.declared.side.Side.{Side}
-use Rattle.sides.specs.declared.side.Side.TheVariants.{A, B}
-use Rattle.link_model.specs.declared.flight.Flight.{Flight}
-use Rattle.link_model.specs.State.{LinkState}
-use Rattle.link_model.specs.Steps.{due_of, arriving}
-use Rattle.path_segments.specs.Spelled.{PlainSegment}
-use Rattle.path_segments.specs.Laws.{meant}
-use Rattle.path_segments.specs.Heard.{HeardSegment}
-use Rattle.subflow_tcp.specs.declared.verdicts.Meaning.{Meaning}
-use Rattle.subflow_tcp.specs.Judging.{meaning_of}
-use Rattle.path_core.specs.Arrival.{copy_of, copy_judged, reset_for, template_by, template_of, heard_in, copy_heard, copy_taken, told_at}
-use Rattle.path_core.specs.DssIn.{held_of}
-use Rattle.path_core.specs.OptionsIn.{items_of, options_heard}
+use Rattle.clean_finish.proofs.Words.{◌≡◌, sym, subst, ap, ◌∙◌, ℕ, max, Bool, false, if◌then◌else◌, Option, List, [], ◌∷◌, length, Some, Side, A, B, Meaning}
+use Rattle.clean_finish.proofs.Words.{meaning_of, Flight, due_of, arriving, LinkState, meant, HeardSegment, PlainSegment, Carried, carried_by, values}
+use Rattle.clean_finish.proofs.Words.{as_arrived, held_of, copy_of, copy_judged, reset_for, template_by, template_of, heard_in, copy_heard, copy_taken, told_at}
+use Rattle.clean_finish.proofs.Words.{at_tick, PathState, end_at, goes_on, items_of, options_heard, is_joined, HeadArrives}
 use Rattle.path_core.specs.Judged.{judged_of, taken_as}
-use Rattle.path_core.specs.State.{at_tick, PathState, end_at, goes_on}
-use Rattle.path_core.specs.MpJoin.{is_joined}
-use Rattle.path_core.specs.Values.{Carried, carried_by, as_arrived, values}
-use Rattle.clean_finish.specs.Machine.{HeadArrives}
 use Rattle.clean_finish.proofs.Links.{head_arrives}
 
 -- the path at the tick of the arrival, without the copy

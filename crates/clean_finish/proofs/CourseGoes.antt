@@ -1,44 +1,23 @@
 -- From the opening on, in whatever order the steps of a round come, both lanes are a course of rounds.
-use Rattle.std.proofs.Common.{◌≡◌, refl, sym, subst, ap, ℕ, zero, suc, ◌+◌, ◌≤◌, true, ◌&&◌, None, Some, List, [], ◌∷◌, map, le_refl, arith}
-use Rattle.std.proofs.lemmas.Bool.{and_parts}
-use Rattle.std.specs.List.{slice_get}
-use Rattle.sides.specs.declared.side.Side.{Side}
-use Rattle.sides.specs.declared.side.Side.TheVariants.{A, B}
+use Rattle.clean_finish.proofs.Words.{◌≡◌, refl, sym, subst, ap, ℕ, ◌+◌, ◌≤◌, true, ◌&&◌, None, List, [], ◌∷◌, map, arith, Some, suc, le_refl, zero, and_parts}
+use Rattle.clean_finish.proofs.Words.{slice_get, Side, A, B, Duty, start_of_turn, is_nil, reassembly_of, books_in, AppDuty, AppState, app_ask, start_of_app}
+use Rattle.clean_finish.proofs.Words.{Carried, values, PathState, with_agenda, ask_for, answers, Setting, Lane, all_left, Going, opens_round, first_lane, Round}
+use Rattle.clean_finish.proofs.Words.{Linked, Course, all_moves_going, PathPlan, Start, path_begins, opened_world, answer_to, Walker, Cast, Fare, Every-put}
+use Rattle.clean_finish.proofs.Words.{world_of, walking, after_a, after_b, after_path, walked, walks_on, next_cast, first_cast, first_fare, walker_there}
+use Rattle.clean_finish.proofs.Words.{WorldState, Turn, note_of, all_over, greatest, world_step, end_round, world_run, AreLawful, Running, rounds_in}
 use Rattle.stream_lanes.specs.Words.{Every}
 use Rattle.stream_lanes.proofs.Lists.{in_map}
-use Rattle.actor_desk.specs.Books.{books_in}
-use Rattle.actor_desk.specs.Desk.{reassembly_of}
-use Rattle.actor_desk.specs.Words.{is_nil}
-use Rattle.stream_apps.specs.declared.duty.AppDuty.{AppDuty}
-use Rattle.stream_apps.specs.Apps.{AppState}
-use Rattle.stream_apps.specs.AppSteps.{app_ask, start_of_app}
 use Rattle.stream_apps.specs.Starts.{fast_close_of, untouched, first_app_turn}
-use Rattle.path_agenda.specs.Agenda.{start_of_turn}
-use Rattle.path_agenda.specs.declared.duty.Duty.{Duty}
-use Rattle.path_core.specs.Duties.{ask_for}
-use Rattle.path_core.specs.State.{PathState, with_agenda}
-use Rattle.path_core.specs.Steps.{answers}
 use Rattle.path_core.specs.Start.{waiting_path}
 use Rattle.path_core.specs.Turns.{IsSettled}
-use Rattle.path_core.specs.Values.{Carried, values}
-use Rattle.world_laws.specs.Openings.{PathPlan, Start, path_begins, opened_world}
-use Rattle.world_laws.specs.StampedBooks.{answer_to}
-use Rattle.world_laws.specs.Worlds.{WorldState, Turn, note_of, all_over, greatest, world_step, end_round, world_run, AreLawful}
 use Rattle.world_laws.proofs.Lanes.Applying.{settled_app}
-use Rattle.world_laws.proofs.Worlds.Casts.{Walker, Cast, Fare, Every-put, world_of, walking, after_a, after_b, after_path, walked, walks_on, next_cast, first_cast, first_fare, opened_is, walker_there}
+use Rattle.world_laws.proofs.Worlds.Casts.{opened_is}
 use Rattle.world_laws.proofs.Worlds.CastLifting.{Has, Stepwise, steps_have, ended_has}
 use Rattle.world_laws.proofs.Worlds.Settled.{settled_settled}
-use Rattle.pace.specs.Lane.{Setting, Lane, all_left}
-use Rattle.pace.specs.Rules.{first_lane, opens_round}
-use Rattle.pace.specs.Going.{Going}
-use Rattle.pace.specs.Rounds.{Round, Linked, Course}
 use Rattle.pace.specs.Ends.{Calm, calm_tick}
 use Rattle.pace.specs.Laws.{HasRanges}
 use Rattle.pace.proofs.Beginning.{first_going}
 use Rattle.pace.proofs.Calming.{calm_begins, first_rounds, later_rounds}
-use Rattle.pace.proofs.Moving.{all_moves_going}
-use Rattle.clean_finish.specs.Finish.{rounds_in}
-use Rattle.clean_finish.specs.Running.{Running}
 use Rattle.clean_finish.proofs.Applied.{act_a, act_b}
 use Rattle.clean_finish.proofs.NextRound.{linked, syn_sent, next_running}
 use Rattle.clean_finish.proofs.Onward.{DutiesGoOn}

@@ -1,28 +1,13 @@
 -- A Data ACK is heard: what it acknowledges of the own stream.
-use Rattle.std.proofs.Common.{◌≡◌, refl, sym, subst, ap, ◌∙◌, ℕ, ◌+◌, ◌-◌, ◌<◌, ◌≤◌, min, max, nat_lt, Bool, true, false, cond, not, ◌&&◌, ◌||◌, if◌then◌else◌, ◌⊎◌, inl, inr, ⊎_elim, Option, None, List, [], ◌∷◌, ◌++◌, length, map, filter, All, arith}
-use Rattle.std.specs.List.{list_any}
-use Rattle.std.proofs.lemmas.Bool.{cases_lt, lt-ltb, le-ltb, ltb-false}
-use Rattle.std.proofs.lemmas.List.Elements.{All-nil, All-cons, All-head, All-tail}
-use Rattle.subflow_tcp.specs.Segments.{one_if}
-use Rattle.sides.specs.declared.side.Side.{Side}
-use Rattle.send_book.specs.Steps.{is_future, fin_after, after_ack}
-use Rattle.subflow_send.specs.Records.{Record}
-use Rattle.path_agenda.specs.declared.duty.Duty.{Duty}
-use Rattle.path_store.specs.declared.granted_piece.GrantedPiece.{GrantedPiece}
-use Rattle.path_core.specs.End.{PathEnd}
+use Rattle.clean_finish.proofs.Words.{◌≡◌, refl, sym, subst, ap, ◌∙◌, ℕ, ◌+◌, ◌-◌, ◌<◌, ◌≤◌, min, max, nat_lt, Bool, true, false, cond, not, ◌&&◌, ◌||◌}
+use Rattle.clean_finish.proofs.Words.{if◌then◌else◌, ◌⊎◌, inl, inr, ⊎_elim, Option, None, List, [], ◌∷◌, ◌++◌, length, map, filter, All, arith, cases_lt}
+use Rattle.clean_finish.proofs.Words.{lt-ltb, le-ltb, ltb-false, All-nil, All-cons, All-head, All-tail, list_any, Side, fin_after, after_ack, is_future, Record}
+use Rattle.clean_finish.proofs.Words.{one_if, GrantedPiece, is_newly_heard, is_open, Duty, Profile, PathEnd, after_acked, is_data_fin_news, covered_by, Setting}
+use Rattle.clean_finish.proofs.Words.{Copy, Lane, all_left, Sender, Going, Covers, may_tell, In, seen_timer, Hand, EndIs, HeardIs, IsGranted, last_told}
+use Rattle.clean_finish.proofs.Words.{row_seen, brings_still, Waits, tells_in, AreSpans, WaitsSyn, WaitsNone, WaitsBytes, Sent, Keys, copy_in, AcknowledgesAs}
+use Rattle.clean_finish.proofs.Words.{IsSetting, Facing, Half}
 use Rattle.path_core.specs.Sending.{Sending}
-use Rattle.path_core.specs.Profile.{Profile}
-use Rattle.path_core.specs.DataFin.{after_acked, is_data_fin_news, is_news}
-use Rattle.path_store.specs.Granted.{is_newly_heard, is_open}
-use Rattle.path_core.specs.DssIn.{covered_by}
-use Rattle.pace.specs.Lane.{Setting, Copy, Lane, Sender, all_left}
-use Rattle.pace.specs.Lists.{In}
-use Rattle.pace.specs.Going.{Going, Covers, may_tell}
-use Rattle.clean_finish.specs.Machine.{seen_timer}
-use Rattle.clean_finish.specs.Segments.{Sent, Keys, AcknowledgesAs, copy_in}
-use Rattle.clean_finish.specs.Shows.{Hand, AreSpans, EndIs, HeardIs, IsGranted, Waits, brings_still, last_told, row_seen, tells_in}
-use Rattle.clean_finish.specs.Shows.Waits.{WaitsSyn, WaitsNone, WaitsBytes}
-use Rattle.clean_finish.specs.Running.{Half, Facing, IsSetting}
+use Rattle.path_core.specs.DataFin.{is_news}
 use Rattle.clean_finish.proofs.Acknowledged.{out_after as out_heard, hears_on}
 use Rattle.clean_finish.proofs.Dropping.{is_waited}
 use Rattle.clean_finish.proofs.Hands.{in_hand}
@@ -356,10 +341,7 @@ module _ {s : Side} {keys : Keys} {k j : Setting} {c : Profile} {begun begun_bac
                 steady = h.own.subflow.congestion.steady;
                 row = subst (λ (o : Option Hand). m.end.tcp.congestion.duplicates ≤ row_seen h.out.sender o) hand h.own.subflow.congestion.row;
               };
-              come = record {
-                edge = h.own.subflow.come.edge;
-                window = h.own.subflow.come.window;
-              };
+              come = record { edge = h.own.subflow.come.edge; window = h.own.subflow.come.window };
               heard = subst (λ (o : Option Hand). HeardIs s k.total (last_told h.out.heard o) m.end.tcp) hand h.own.subflow.heard;
               quiet = h.own.subflow.quiet;
               begun = h.own.subflow.begun;

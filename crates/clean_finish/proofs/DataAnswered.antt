@@ -1,46 +1,16 @@
 -- The steps in which an end asks for bytes and sends them.
-use Rattle.std.proofs.Common.{◌≡◌, refl, sym, subst, ap, ◌∙◌, ℕ, ◌+◌, ◌<◌, ◌≤◌, ◌^◌, ◌==◌, max, nat_le, nat_lt, if◌then◌else◌, Bool, true, false, not, ◌&&◌, ◌⊎◌, inl, inr, Option, Some, None, Result, Ok, Err, List, [], ◌∷◌, length, find, arith}
-use Rattle.std.proofs.lemmas.Bool.{both_ways, leb-true, lt-ltb, eqb-true}
-use Rattle.sides.specs.declared.side.Side.{Side}
-use Rattle.sides.specs.declared.side.Side.TheVariants.{A, B}
-use Rattle.link_model.specs.Laws.{plain_flight, going_to}
-use Rattle.link_model.specs.Steps.{after_send}
-use Rattle.path_segments.specs.Spelled.{PlainSegment}
+use Rattle.clean_finish.proofs.Words.{◌≡◌, refl, sym, subst, ap, ◌∙◌, ℕ, ◌+◌, ◌<◌, ◌≤◌, max, nat_lt, Bool, true, false, not, ◌&&◌, if◌then◌else◌, ◌⊎◌, inl, inr}
+use Rattle.clean_finish.proofs.Words.{Option, None, List, [], ◌∷◌, length, arith, Some, nat_le, ◌==◌, ◌^◌, find, Ok, Err, Result, both_ways, lt-ltb, leb-true}
+use Rattle.clean_finish.proofs.Words.{eqb-true, Side, A, B, decision, reply_by, given_by, SendCall, Why, Record, is_unsent, syn_record, never_sent, Data, State}
+use Rattle.clean_finish.proofs.Words.{is_closed_to_segments, one_if, Occasion, going_to, plain_flight, after_send, PlainSegment, Duty, StepDuty, Reply}
+use Rattle.clean_finish.proofs.Words.{SixBooks, reply_of, after_ask, Ask, AppState, Carried, carried_by, stripped, altered, values, is_shut, PathState}
+use Rattle.clean_finish.proofs.Words.{with_agenda, record_or_ack, having_sent, sent_on, first_unsent, fits, payload_size, data_stands, data_ask, grant_in}
+use Rattle.clean_finish.proofs.Words.{answered_grant, answered_data, mapping_of, is_first_piece, Setting, Lane, all_left, Sender, Going, PathPlan, Start}
+use Rattle.clean_finish.proofs.Words.{brings_still, IsPhase, Waits, WaitsSyn, WaitsNone, WaitsBytes, Keys, said, FliesAs, own_bench, other_bench, FacesOfB}
+use Rattle.clean_finish.proofs.Words.{IsSetting, Runs, keys_in, FacesOfA, Opening, Listening, HalfOpen, Open}
 use Rattle.send_book.specs.declared.call.Span.{Span}
-use Rattle.send_book.specs.declared.call.Why.{Why}
 use Rattle.send_book.specs.declared.call.Why.TheVariants.{Ended, NothingFree, WindowShut}
-use Rattle.send_book.specs.declared.call.SendCall.TheVariants as send_calls
-use Rattle.send_book.specs.Steps.{decision, reply_by, given_by}
-use Rattle.subflow_send.specs.declared.record.RecordKind.TheVariants.{Data}
-use Rattle.subflow_send.specs.Records.{Record}
-use Rattle.subflow_send.specs.Rules.{is_unsent, syn_record}
-use Rattle.subflow_send.specs.Sendings.{never_sent}
-use Rattle.subflow_tcp.specs.declared.handshake.State.{State}
-use Rattle.subflow_tcp.specs.declared.segments.Occasion.TheVariants as to_send
-use Rattle.subflow_tcp.specs.States.{is_opening, is_closed_to_segments}
-use Rattle.subflow_tcp.specs.Segments.{one_if}
-use Rattle.actor_desk.specs.declared.ask.Ask.TheVariants as asks
-use Rattle.actor_desk.specs.declared.ask.Reply.TheVariants as replies
-use Rattle.actor_desk.specs.Desk.{SixBooks, reply_of, after_ask}
-use Rattle.stream_apps.specs.Apps.{AppState}
-use Rattle.path_agenda.specs.declared.duty.Duty.{Duty}
-use Rattle.path_agenda.specs.declared.duty.Duty.TheVariants as duties
-use Rattle.path_agenda.specs.declared.duty.StepDuty.TheVariants as step_duties
-use Rattle.path_core.specs.Emission.{first_unsent, fits, payload_size, data_stands, data_ask, grant_in, answered_grant, answered_data}
-use Rattle.path_core.specs.Handover.{having_sent, sent_on}
-use Rattle.path_core.specs.DssOut.{mapping_of, is_first_piece}
-use Rattle.path_core.specs.OptionsOut.{record_or_ack}
-use Rattle.path_core.specs.State.{PathState, with_agenda}
-use Rattle.path_core.specs.DataFin.{is_shut}
-use Rattle.path_core.specs.Values.{Carried, carried_by, stripped, altered, values}
-use Rattle.world_laws.specs.Openings.{PathPlan, Start}
-use Rattle.pace.specs.Lane.{Setting, Lane, Sender, all_left}
-use Rattle.pace.specs.Going.{Going}
-use Rattle.clean_finish.specs.Segments.{Keys, said, FliesAs}
-use Rattle.clean_finish.specs.Shows.{brings_still, IsPhase, Waits}
-use Rattle.clean_finish.specs.Shows.IsPhase.{Opening, Listening, HalfOpen, Open}
-use Rattle.clean_finish.specs.Shows.Waits.{WaitsSyn, WaitsNone, WaitsBytes}
-use Rattle.clean_finish.specs.Running.{FacesOfA, FacesOfB, own_bench, other_bench, IsSetting, Runs, keys_in}
+use Rattle.subflow_tcp.specs.States.{is_opening}
 use Rattle.clean_finish.proofs.BytesSent.{piece_is, piece, piece_goes}
 use Rattle.clean_finish.proofs.Dropping.{differ}
 use Rattle.clean_finish.proofs.Emitted.{first_waits}
@@ -127,18 +97,18 @@ module _ (start : Start) (plan : PathPlan) (k j : Setting) (s v : Lane) (t0 u0 :
         Relation six q = Runs start plan k j s v a b six q
 
         abbrev at_data_a : PathState Carried
-        at_data_a = with_agenda (duties.Step (step_duties.Data A) ∷ ds) p
+        at_data_a = with_agenda (Duty.Step (StepDuty.Data A) ∷ ds) p
 
         abbrev sends_a : PlainSegment → PathState Carried
-        sends_a segment = sent_on values A segment (having_sent to_send.Unsent p.clock segment p.a) (duties.Step (step_duties.Data A) ∷ ds) at_data_a
+        sends_a segment = sent_on values A segment (having_sent Occasion.Unsent p.clock segment p.a) (Duty.Step (StepDuty.Data A) ∷ ds) at_data_a
 
         piece_a : (h : Relation books at_data_a) (r : Record) → IsWaiting h.out.sender h.own.subflow.records.rest h.waiting r
             → 1 ≤ p.a.tcp.send.una → first_unsent p.a ≡ Some r → is_first_piece A r p.a ≡ false → Relation books (sends_a (record_or_ack p.profile A (first_unsent p.a) p.a))
         piece_a h r w una found which =
             let t = h.treats in
             let view = h.faces in
-            let window = asked_before A (duties.Step (step_duties.Data A)) (differ refl) ds view.stage_back.window view.stages_back.window t.3.0 in
-            let ask = asks_no_more A (duties.Step (step_duties.Data A)) (differ refl) (differ refl) ds p.a.treated.asked view.stage_back.ask t.3.0 t.4 view.stages_back.ask in
+            let window = asked_before A (Duty.Step (StepDuty.Data A)) (differ refl) ds view.stage_back.window view.stages_back.window t.3.0 in
+            let ask = asks_no_more A (Duty.Step (StepDuty.Data A)) (differ refl) (differ refl) ds p.a.treated.asked view.stage_back.ask t.3.0 t.4 view.stages_back.ask in
             let mapping = t.2 (some_bytes w.waits w.some) r found in
             let ready : A ≡ A → 1 ≤ view.out.ready = λ is. view.own.sending.bytes (some_granted view.out.granted (some_bytes w.waits w.some)) in
             let x = piece plan.delay t0 u0 k_is j_is going going_back view r in
@@ -202,8 +172,8 @@ module _ (start : Start) (plan : PathPlan) (k j : Setting) (s v : Lane) (t0 u0 :
         first_a h r w una found which =
             let t = h.treats in
             let view = h.faces in
-            let window = asked_before A (duties.Step (step_duties.Data A)) (differ refl) ds view.stage_back.window view.stages_back.window t.3.0 in
-            let ask = asks_no_more A (duties.Step (step_duties.Data A)) (differ refl) (differ refl) ds p.a.treated.asked view.stage_back.ask t.3.0 t.4 view.stages_back.ask in
+            let window = asked_before A (Duty.Step (StepDuty.Data A)) (differ refl) ds view.stage_back.window view.stages_back.window t.3.0 in
+            let ask = asks_no_more A (Duty.Step (StepDuty.Data A)) (differ refl) (differ refl) ds p.a.treated.asked view.stage_back.ask t.3.0 t.4 view.stages_back.ask in
             let mapping = t.2 (some_bytes w.waits w.some) r found in
             let ready : A ≡ A → 1 ≤ view.out.ready = λ is. view.own.sending.bytes (some_granted view.out.granted (some_bytes w.waits w.some)) in
             let unclear : view.out.clear ≡ 0 = view.own.modes.clear ∙ clear_or p.a.modes.clear (first_parts true p.a.modes.clear (r.pos == 1) which) in
@@ -277,7 +247,7 @@ module _ (start : Start) (plan : PathPlan) (k j : Setting) (s v : Lane) (t0 u0 :
 
         abbrev asked_a : Result Span Why → PathState Carried
         asked_a decided =
-            let reply = replies.Send (reply_by decided books.send_a) in answered_grant A (grant_in reply) reply at_data_a
+            let reply = Reply.Send (reply_by decided books.send_a) in answered_grant A (grant_in reply) reply at_data_a
 
         module _ (h : Relation books at_data_a) (off : data_stands p.profile A p.a None ≡ true) (nothing_waits : h.waiting ≡ 0) where
           abbrev view_a : FacesOfA keys k j s v a b books at_data_a
@@ -393,7 +363,7 @@ module _ (start : Start) (plan : PathPlan) (k j : Setting) (s v : Lane) (t0 u0 :
 
           abbrev asks_a : ℕ → Bool → Type 0
           asks_a path standby =
-              let ask = asks.Send A (send_calls.Grant path (payload_size p.profile) standby) in
+              let ask = Ask.Send A (SendCall.Grant path (payload_size p.profile) standby) in
               Relation (after_ask ask books) (answered_grant A (grant_in (reply_of books ask)) (reply_of books ask) at_data_a)
 
           grants_a : asks_a p.link.path p.a.modes.standby
@@ -432,18 +402,18 @@ module _ (start : Start) (plan : PathPlan) (k j : Setting) (s v : Lane) (t0 u0 :
                 (record { alone = is; unsent = unsent; one = one; kind = kind; pos = pos; waits = waits; some = some; edge = edge }) (una_of r none) none)
 
         abbrev at_data_b : PathState Carried
-        at_data_b = with_agenda (duties.Step (step_duties.Data B) ∷ ds) p
+        at_data_b = with_agenda (Duty.Step (StepDuty.Data B) ∷ ds) p
 
         abbrev sends_b : PlainSegment → PathState Carried
-        sends_b segment = sent_on values B segment (having_sent to_send.Unsent p.clock segment p.b) (duties.Step (step_duties.Data B) ∷ ds) at_data_b
+        sends_b segment = sent_on values B segment (having_sent Occasion.Unsent p.clock segment p.b) (Duty.Step (StepDuty.Data B) ∷ ds) at_data_b
 
         piece_b : (h : Relation books at_data_b) (r : Record) → IsWaiting h.back.sender h.other.subflow.records.rest h.waiting_back r
             → 1 ≤ p.b.tcp.send.una → first_unsent p.b ≡ Some r → is_first_piece B r p.b ≡ false → Relation books (sends_b (record_or_ack p.profile B (first_unsent p.b) p.b))
         piece_b h r w una found which =
             let t = h.treats in
             let view = from_a keys k j s v a b books at_data_b h.faces in
-            let window = asked_before B (duties.Step (step_duties.Data B)) (differ refl) ds view.stage_back.window view.stages_back.window t.3.0 in
-            let ask = asks_no_more B (duties.Step (step_duties.Data B)) (differ refl) (differ refl) ds p.b.treated.asked view.stage_back.ask t.3.0 t.4 view.stages_back.ask in
+            let window = asked_before B (Duty.Step (StepDuty.Data B)) (differ refl) ds view.stage_back.window view.stages_back.window t.3.0 in
+            let ask = asks_no_more B (Duty.Step (StepDuty.Data B)) (differ refl) (differ refl) ds p.b.treated.asked view.stage_back.ask t.3.0 t.4 view.stages_back.ask in
             let mapping = t.2 (some_bytes w.waits w.some) r found in
             let ready : B ≡ A → 1 ≤ view.out.ready = λ is. view.own.sending.bytes (some_granted view.out.granted (some_bytes w.waits w.some)) in
             let x = piece plan.delay u0 t0 j_is k_is going_back going view r in
@@ -513,7 +483,7 @@ module _ (start : Start) (plan : PathPlan) (k j : Setting) (s v : Lane) (t0 u0 :
 
         abbrev asked_b : Result Span Why → PathState Carried
         asked_b decided =
-            let reply = replies.Send (reply_by decided books.send_b) in answered_grant B (grant_in reply) reply at_data_b
+            let reply = Reply.Send (reply_by decided books.send_b) in answered_grant B (grant_in reply) reply at_data_b
 
         module _ (h : Relation books at_data_b) (off : data_stands p.profile B p.b None ≡ true) (nothing_waits : h.waiting_back ≡ 0) where
           abbrev view_b : FacesOfB keys k j s v a b books at_data_b
@@ -629,7 +599,7 @@ module _ (start : Start) (plan : PathPlan) (k j : Setting) (s v : Lane) (t0 u0 :
 
           abbrev asks_b : ℕ → Bool → Type 0
           asks_b path standby =
-              let ask = asks.Send B (send_calls.Grant path (payload_size p.profile) standby) in
+              let ask = Ask.Send B (SendCall.Grant path (payload_size p.profile) standby) in
               Relation (after_ask ask books) (answered_grant B (grant_in (reply_of books ask)) (reply_of books ask) at_data_b)
 
           grants_b : asks_b p.link.path p.b.modes.standby

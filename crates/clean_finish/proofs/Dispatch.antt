@@ -1,9 +1,5 @@
 -- All duties of a path over a clean link go on.
-use Rattle.std.proofs.Common.{sym, subst}
-use Rattle.path_core.specs.Profile.{Profile}
-use Rattle.world_laws.specs.Openings.{PathPlan, Start, path_begins}
-use Rattle.pace.specs.Lane.{Setting}
-use Rattle.clean_finish.specs.Running.{IsSetting}
+use Rattle.clean_finish.proofs.Words.{sym, subst, Profile, Setting, PathPlan, Start, path_begins, IsSetting}
 use Rattle.clean_finish.proofs.AnswersDuties.{duty_answered}
 use Rattle.clean_finish.proofs.Onward.{DutiesGoOn}
 use Rattle.clean_finish.proofs.PassesDuties.{duty_passes}

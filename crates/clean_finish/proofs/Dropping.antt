@@ -1,30 +1,21 @@
 -- A duty that nothing waits for is left behind: all stays as it is.
-use Rattle.std.proofs.Common.{◌≡◌, refl, sym, ◌∙◌, ap, ℕ, ◌≤◌, ◌==◌, eq-eqb, Bool, true, false, ◌⊎◌, inl, inr, ⊎_elim, List, ◌∷◌}
-use Rattle.std.proofs.lemmas.Bool.{both_ways}
-use Rattle.sides.specs.declared.side.Side.{Side}
-use Rattle.sides.specs.declared.side.Side.TheVariants.{A}
-use Rattle.path_agenda.specs.declared.duty.Duty.{Duty}
-use Rattle.path_agenda.specs.declared.duty.Duty.TheVariants as duties
-use Rattle.path_agenda.specs.declared.duty.AskDuty.TheVariants as ask_duties
-use Rattle.path_agenda.specs.declared.duty.SendDuty.TheVariants as send_duties
-use Rattle.path_agenda.specs.declared.duty.SilentDuty.TheVariants as silent_duties
-use Rattle.path_agenda.specs.declared.duty.StepDuty.TheVariants as step_duties
-use Rattle.path_core.specs.End.{PathEnd}
-use Rattle.pace.specs.Lane.{Setting, Sender, Receiver, Stage}
-use Rattle.clean_finish.specs.Running.{Has, StageIs, IsSettledSoon, HasNotBegun}
+use Rattle.clean_finish.proofs.Words.{◌≡◌, refl, sym, ap, ◌∙◌, ℕ, ◌≤◌, Bool, true, false, ◌⊎◌, inl, inr, ⊎_elim, List, ◌∷◌, ◌==◌, both_ways, Side, A, Duty}
+use Rattle.clean_finish.proofs.Words.{SendDuty, StepDuty, AskDuty, SilentDuty, PathEnd, Setting, Stage, Sender, Receiver, Has, StageIs, HasNotBegun}
+use Rattle.clean_finish.proofs.Words.{IsSettledSoon}
+use Rattle.std.proofs.Common.{eq-eqb}
 
 -- something waits for these
 abbrev pub is_waited : Duty → Bool
-is_waited (duties.Ask (ask_duties.Window s)) = true
-is_waited (duties.Send (send_duties.Update s)) = true
-is_waited (duties.Send (send_duties.Syn s)) = true
-is_waited (duties.Step (step_duties.Data s)) = true
-is_waited (duties.Send (send_duties.DataFin s)) = true
-is_waited (duties.Silent (silent_duties.Timer s)) = true
-is_waited (duties.Step step_duties.Events) = true
-is_waited (duties.Send (send_duties.SynAck s)) = true
-is_waited (duties.Send (send_duties.Acknowledge s)) = true
-is_waited (duties.Ask (ask_duties.AckOut s)) = true
+is_waited (Duty.Ask (AskDuty.Window s)) = true
+is_waited (Duty.Send (SendDuty.Update s)) = true
+is_waited (Duty.Send (SendDuty.Syn s)) = true
+is_waited (Duty.Step (StepDuty.Data s)) = true
+is_waited (Duty.Send (SendDuty.DataFin s)) = true
+is_waited (Duty.Silent (SilentDuty.Timer s)) = true
+is_waited (Duty.Step StepDuty.Events) = true
+is_waited (Duty.Send (SendDuty.SynAck s)) = true
+is_waited (Duty.Send (SendDuty.Acknowledge s)) = true
+is_waited (Duty.Ask (AskDuty.AckOut s)) = true
 is_waited _ = false
 
 pub apart : {x d : Duty} → is_waited x ≡ true → is_waited d ≡ false → x ≡ d → ⊥
@@ -32,16 +23,16 @@ apart waited free same = both_ways _ (sym waited ∙ ap is_waited same ∙ free)
 
 -- the kinds of duties that are waited for
 abbrev pub kind : Duty → ℕ
-kind (duties.Ask (ask_duties.Window s)) = 1
-kind (duties.Send (send_duties.Update s)) = 2
-kind (duties.Send (send_duties.Syn s)) = 3
-kind (duties.Step (step_duties.Data s)) = 4
-kind (duties.Send (send_duties.DataFin s)) = 5
-kind (duties.Silent (silent_duties.Timer s)) = 6
-kind (duties.Step step_duties.Events) = 7
-kind (duties.Send (send_duties.SynAck s)) = 8
-kind (duties.Send (send_duties.Acknowledge s)) = 9
-kind (duties.Ask (ask_duties.AckOut s)) = 10
+kind (Duty.Ask (AskDuty.Window s)) = 1
+kind (Duty.Send (SendDuty.Update s)) = 2
+kind (Duty.Send (SendDuty.Syn s)) = 3
+kind (Duty.Step (StepDuty.Data s)) = 4
+kind (Duty.Send (SendDuty.DataFin s)) = 5
+kind (Duty.Silent (SilentDuty.Timer s)) = 6
+kind (Duty.Step StepDuty.Events) = 7
+kind (Duty.Send (SendDuty.SynAck s)) = 8
+kind (Duty.Send (SendDuty.Acknowledge s)) = 9
+kind (Duty.Ask (AskDuty.AckOut s)) = 10
 kind _ = 0
 
 pub differ : {x d : Duty} → (kind x == kind d) ≡ false → x ≡ d → ⊥
@@ -55,14 +46,14 @@ behind_or ds apart h = ⊎_elim (λ e. inl e) (λ i. inr (behind ds apart i)) h
 
 -- none of the duties that a stage waits for
 pub record IsApart (s r : Side) (d : Duty) : Type 0 where
-  pub window : duties.Ask (ask_duties.Window r) ≡ d → ⊥
-  pub update : duties.Send (send_duties.Update r) ≡ d → ⊥
-  pub emit : duties.Step (step_duties.Data s) ≡ d → ⊥
-  pub finish : duties.Send (send_duties.DataFin s) ≡ d → ⊥
-  pub wait : (duties.Step step_duties.Events) ≡ d → ⊥
-  pub syn_ack : duties.Send (send_duties.SynAck r) ≡ d → ⊥
-  pub acknowledge : duties.Send (send_duties.Acknowledge r) ≡ d → ⊥
-  pub ask : duties.Ask (ask_duties.AckOut r) ≡ d → ⊥
+  pub window : Duty.Ask (AskDuty.Window r) ≡ d → ⊥
+  pub update : Duty.Send (SendDuty.Update r) ≡ d → ⊥
+  pub emit : Duty.Step (StepDuty.Data s) ≡ d → ⊥
+  pub finish : Duty.Send (SendDuty.DataFin s) ≡ d → ⊥
+  pub wait : (Duty.Step StepDuty.Events) ≡ d → ⊥
+  pub syn_ack : Duty.Send (SendDuty.SynAck r) ≡ d → ⊥
+  pub acknowledge : Duty.Send (SendDuty.Acknowledge r) ≡ d → ⊥
+  pub ask : Duty.Ask (AskDuty.AckOut r) ≡ d → ⊥
 
 pub is_apart : (s r : Side) (d : Duty) → is_waited d ≡ false → IsApart s r d
 is_apart s r d free = record {
@@ -91,7 +82,7 @@ stage_drops s r d ds asked owes p apart is = record {
 }
 
 -- a stage without the flag of the duty
-pub window_drops : (s r : Side) (d : Duty) (ds : List Duty) (asked owes : Bool) (p : Stage) → d ≡ duties.Ask (ask_duties.Window r)
+pub window_drops : (s r : Side) (d : Duty) (ds : List Duty) (asked owes : Bool) (p : Stage) → d ≡ Duty.Ask (AskDuty.Window r)
     → StageIs s r (d ∷ ds) asked owes p → StageIs s r ds false owes (record p { ask = false; window = false })
 window_drops s r d ds asked owes p at is = record {
   window = inl refl;
@@ -103,7 +94,7 @@ window_drops s r d ds asked owes p at is = record {
   ask = inl refl;
 }
 
-pub update_drops : (s r : Side) (d : Duty) (ds : List Duty) (asked owes : Bool) (p : Stage) → d ≡ duties.Send (send_duties.Update r)
+pub update_drops : (s r : Side) (d : Duty) (ds : List Duty) (asked owes : Bool) (p : Stage) → d ≡ Duty.Send (SendDuty.Update r)
     → StageIs s r (d ∷ ds) asked owes p → StageIs s r ds asked owes (record p { update = false })
 update_drops s r d ds asked owes p at is = record {
   window = behind_or ds (λ e. cc) is.window;
@@ -115,7 +106,7 @@ update_drops s r d ds asked owes p at is = record {
   ask = ⊎_elim (λ e. inl e) (λ a. inr (⊎_elim (λ i. inl (behind ds (λ e. cc) i)) (λ i. inr (behind ds (λ e. cc) i.0, i.1)) a)) is.ask;
 }
 
-pub emit_drops : (s r : Side) (d : Duty) (ds : List Duty) (asked owes : Bool) (p : Stage) → d ≡ duties.Step (step_duties.Data s)
+pub emit_drops : (s r : Side) (d : Duty) (ds : List Duty) (asked owes : Bool) (p : Stage) → d ≡ Duty.Step (StepDuty.Data s)
     → StageIs s r (d ∷ ds) asked owes p → StageIs s r ds asked owes (record p { emit = false })
 emit_drops s r d ds asked owes p at is = record {
   window = behind_or ds (λ e. cc) is.window;
@@ -127,7 +118,7 @@ emit_drops s r d ds asked owes p at is = record {
   ask = ⊎_elim (λ e. inl e) (λ a. inr (⊎_elim (λ i. inl (behind ds (λ e. cc) i)) (λ i. inr (behind ds (λ e. cc) i.0, i.1)) a)) is.ask;
 }
 
-pub finish_drops : (s r : Side) (d : Duty) (ds : List Duty) (asked owes : Bool) (p : Stage) → d ≡ duties.Send (send_duties.DataFin s)
+pub finish_drops : (s r : Side) (d : Duty) (ds : List Duty) (asked owes : Bool) (p : Stage) → d ≡ Duty.Send (SendDuty.DataFin s)
     → StageIs s r (d ∷ ds) asked owes p → StageIs s r ds asked owes (record p { finish = false })
 finish_drops s r d ds asked owes p at is = record {
   window = behind_or ds (λ e. cc) is.window;
@@ -141,11 +132,11 @@ finish_drops s r d ds asked owes p at is = record {
 
 -- ---- what else waits
 
-pub settles_drop : (s : Side) (d : Duty) (ds : List Duty) (e : PathEnd) → (duties.Silent (silent_duties.Timer s) ≡ d → ⊥) → IsSettledSoon s (d ∷ ds) e → IsSettledSoon s ds e
+pub settles_drop : (s : Side) (d : Duty) (ds : List Duty) (e : PathEnd) → (Duty.Silent (SilentDuty.Timer s) ≡ d → ⊥) → IsSettledSoon s (d ∷ ds) e → IsSettledSoon s ds e
 settles_drop s d ds e apart h = ⊎_elim (λ is. inl is) (λ i. inr (behind ds apart i)) h
 
 pub begun_drops : {n : ℕ} (s : Side) (j : Setting) (out : Sender) (back : Receiver) (e : PathEnd) (d : Duty) (ds : List Duty)
-    → (duties.Ask (ask_duties.Window s) ≡ d → ⊥) → (s ≡ A → duties.Send (send_duties.Syn A) ≡ d → ⊥)
+    → (Duty.Ask (AskDuty.Window s) ≡ d → ⊥) → (s ≡ A → Duty.Send (SendDuty.Syn A) ≡ d → ⊥)
     → (1 ≤ n) ⊎ HasNotBegun s j out back e (d ∷ ds) → (1 ≤ n) ⊎ HasNotBegun s j out back e ds
 begun_drops s j out back e d ds window syn (inl sent) = inl sent
 begun_drops s j out back e d ds window syn (inr h) = inr (record {

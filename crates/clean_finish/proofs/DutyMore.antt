@@ -1,13 +1,6 @@
 -- Nothing changes where a duty more stands ahead.
-use Rattle.std.proofs.Common.{ℕ, ◌≤◌, Bool, ◌⊎◌, inl, inr, ⊎_elim, List, ◌∷◌}
-use Rattle.sides.specs.declared.side.Side.{Side}
-use Rattle.sides.specs.Side.{peer}
-use Rattle.path_agenda.specs.declared.duty.Duty.{Duty}
-use Rattle.path_core.specs.End.{PathEnd}
-use Rattle.path_core.specs.Profile.{Profile}
-use Rattle.pace.specs.Lane.{Setting, Lane, Sender, Receiver, Stage}
-use Rattle.clean_finish.specs.Segments.{Keys}
-use Rattle.clean_finish.specs.Running.{Has, StageIs, HasNotBegun, Half, Facing}
+use Rattle.clean_finish.proofs.Words.{ℕ, ◌≤◌, Bool, ◌⊎◌, inl, inr, ⊎_elim, List, ◌∷◌, Side, peer, Duty, Profile, PathEnd, Setting, Lane, Stage, Sender}
+use Rattle.clean_finish.proofs.Words.{Receiver, Keys, Facing, Half, Has, StageIs, HasNotBegun}
 
 pub or_more : {X : Type 0} {x : Duty} (d : Duty) (ds : List Duty) → X ⊎ Has x ds → X ⊎ Has x (d ∷ ds)
 or_more d ds (inl is) = inl is

@@ -1,41 +1,17 @@
 -- The steps in which the bytes of a copy are placed, or none is left to be placed.
-use Rattle.std.proofs.Common.{◌≡◌, refl, sym, subst, ap, ◌∙◌, ℕ, ◌+◌, ◌-◌, ◌≤◌, min, max, nat_lt, Bool, true, false, ◌&&◌, if◌then◌else◌, is_some, inl, inr, ⊎_elim, Option, Some, None, List, [], ◌∷◌, length, drop, map, arith}
-use Rattle.std.proofs.lemmas.Bool.{both_ways, le-ltb, ne_eqb}
-use Rattle.sides.specs.declared.side.Side.TheVariants.{A, B}
-use Rattle.dss_mapping.specs.declared.kept.KeptMapping.{KeptMapping}
-use Rattle.dss_mapping.specs.Mappings.{mapping_at}
-use Rattle.reassembly_book.specs.declared.call.ReassemblyCall.TheVariants as reassembly_calls
-use Rattle.reassembly_book.specs.declared.call.ReassemblyReply.TheVariants.{Beyond}
-use Rattle.reassembly_book.specs.State.{Arriving}
-use Rattle.reassembly_book.specs.Steps.{clash, edge, place_reply, placed_reply, reaches_past}
-use Rattle.subflow_tcp.specs.Judging.{is_at}
-use Rattle.actor_desk.specs.declared.ask.Ask.TheVariants as asks
-use Rattle.actor_desk.specs.declared.ask.Reply.TheVariants as replies
-use Rattle.actor_desk.specs.Desk.{SixBooks, reply_of, after_ask}
-use Rattle.actor_desk.specs.Words.{is_nil}
-use Rattle.stream_apps.specs.Apps.{AppState}
-use Rattle.path_agenda.specs.declared.duty.Duty.{Duty}
-use Rattle.path_agenda.specs.declared.duty.Duty.TheVariants as duties
-use Rattle.path_agenda.specs.declared.duty.AskDuty.TheVariants as ask_duties
-use Rattle.path_agenda.specs.declared.duty.StepDuty.TheVariants as step_duties
-use Rattle.fallback_state.specs.Modes.{reads_mappings}
-use Rattle.path_store.specs.declared.infinite_mapping.InfiniteMapping.{InfiniteMapping}
-use Rattle.path_store.specs.Passing.{Piece, some_piece}
-use Rattle.path_core.specs.Deliver.{after_check, failing_by, forgotten_by, infinite_piece, mapped_piece, mapping_here, next_piece, piece_by, plain_piece, answered_piece, is_placed, piece_ask}
-use Rattle.path_core.specs.End.{PathEnd}
-use Rattle.path_core.specs.Fallback.{check_failed_stands}
+use Rattle.clean_finish.proofs.Words.{◌≡◌, refl, sym, subst, ap, ◌∙◌, ℕ, ◌+◌, ◌-◌, ◌≤◌, min, max, nat_lt, Bool, true, false, ◌&&◌, if◌then◌else◌, inl, inr}
+use Rattle.clean_finish.proofs.Words.{⊎_elim, Option, None, List, [], ◌∷◌, length, map, arith, Some, is_some, drop, both_ways, le-ltb, ne_eqb, reads_mappings}
+use Rattle.clean_finish.proofs.Words.{A, B, Arriving, clash, reaches_past, edge, place_reply, placed_reply, ReassemblyCall, Beyond, KeptMapping, mapping_at}
+use Rattle.clean_finish.proofs.Words.{is_at, InfiniteMapping, some_piece, Duty, StepDuty, AskDuty, is_nil, Reply, SixBooks, reply_of, after_ask, Ask, AppState}
+use Rattle.clean_finish.proofs.Words.{Profile, Carried, PathEnd, PathState, with_agenda, with_end, after_check, failing_by, forgotten_by, infinite_piece}
+use Rattle.clean_finish.proofs.Words.{mapped_piece, mapping_here, next_piece, piece_by, plain_piece, answered_piece, is_placed, piece_ask, check_failed_stands}
+use Rattle.clean_finish.proofs.Words.{Setting, Lane, all_left, Going, PathPlan, Start, IsMapping, Sent, Keys, Brings, is_subflow_end, octets_of, CountsAs}
+use Rattle.clean_finish.proofs.Words.{data_fin_of, is_news, is_owed, FirstPiece, TreatsCopy, kept_in, own_bench, other_bench, IsSetting, Runs, keys_in}
+use Rattle.clean_finish.proofs.Words.{kept_piece, end_duties, place_duties, fin_in, AfterKeeping}
+use Rattle.path_store.specs.Passing.{Piece}
 use Rattle.path_store.specs.InfiniteMappings.{covers}
-use Rattle.path_core.specs.State.{PathState, with_agenda, with_end}
-use Rattle.path_core.specs.Profile.{Profile}
-use Rattle.path_core.specs.Values.{Carried}
-use Rattle.world_laws.specs.Openings.{PathPlan, Start}
-use Rattle.pace.specs.Lane.{Setting, Lane, all_left}
-use Rattle.pace.specs.Going.{Going}
-use Rattle.clean_finish.specs.Segments.{Sent, Keys, Brings, is_news, is_opening, is_owed, is_subflow_end, data_fin_of, octets_of, CountsAs}
-use Rattle.clean_finish.specs.Segments.Brings.{OpensSubflow, ShowsKeys, FirstPiece, Piece as Bytes, Acknowledges, EndsStream, EndsSubflow}
-use Rattle.clean_finish.specs.Running.{TreatsCopy, fin_in, kept_in, kept_piece, end_duties, place_duties, own_bench, other_bench, IsSetting, Runs, keys_in}
-use Rattle.clean_finish.specs.Running.Treatment.{AfterKeeping}
-use Rattle.clean_finish.specs.Shows.{IsMapping}
+use Rattle.clean_finish.specs.Segments.{is_opening}
+use Rattle.clean_finish.specs.Segments.Brings.{Piece as Bytes}
 use Rattle.clean_finish.proofs.BytesPlaced.{none_clashes, none_past}
 use Rattle.clean_finish.proofs.EndPassing.{end_mapped, sent_some, some_of}
 use Rattle.clean_finish.proofs.Hands.{in_hand}
@@ -56,26 +32,18 @@ record IsOfBytes (b : Brings) : Type 0 where
   fins : fin_in b ≡ []
 
 of_bytes : (b : Brings) → 1 ≤ length (octets_of b) → IsOfBytes b
-of_bytes OpensSubflow some = absurd (omega (arith, some))
-of_bytes ShowsKeys some = absurd (omega (arith, some))
 of_bytes (FirstPiece octets) some = record { news = refl; fin = refl; owed = refl; ends = refl; fins = refl }
 of_bytes (Bytes octets) some = record { news = refl; fin = refl; owed = refl; ends = refl; fins = refl }
-of_bytes Acknowledges some = absurd (omega (arith, some))
-of_bytes (EndsStream place) some = absurd (omega (arith, some))
-of_bytes EndsSubflow some = absurd (omega (arith, some))
+of_bytes _ some = absurd (omega (arith, some))
 
 one_of : {x : ℕ} → x ≡ 1 → 1 ≤ x
 one_of is = omega (arith, is)
 
 pub same_counts : (control keys control_then keys_then : ℕ) (b : Brings) → 1 ≤ length (octets_of b) → CountsAs control keys control_then keys_then b
     → (1 ≤ control) × (control_then ≡ control) × (keys_then ≡ keys)
-same_counts control keys control_then keys_then OpensSubflow some is = absurd (omega (arith, some))
-same_counts control keys control_then keys_then ShowsKeys some is = absurd (omega (arith, some))
 same_counts control keys control_then keys_then (FirstPiece octets) some is = (one_of is.0, is.1 ∙ sym is.0, is.2 ∙ sym is.4)
 same_counts control keys control_then keys_then (Bytes octets) some is = (is.0, is.1, is.2)
-same_counts control keys control_then keys_then Acknowledges some is = absurd (omega (arith, some))
-same_counts control keys control_then keys_then (EndsStream place) some is = absurd (omega (arith, some))
-same_counts control keys control_then keys_then EndsSubflow some is = absurd (omega (arith, some))
+same_counts control keys control_then keys_then _ some is = absurd (omega (arith, some))
 
 pub kept_some : {X : Type 0} (octets : List ℕ) (y : X) → 1 ≤ length octets → (if is_nil octets then [] else y ∷ []) ≡ y ∷ []
 kept_some octets y some = ap (λ (b : Bool). if b then [] else y ∷ []) (some_nil octets some)
@@ -93,10 +61,10 @@ few_fin {d} {e} r g less is =
 
 -- the book takes them
 placed_by : (bytes : List ℕ) (at : ℕ) (b : Arriving) → reaches_past (edge b) at bytes ≡ false → clash b.known_end at bytes ≡ None
-    → is_placed (replies.Reassembly (place_reply at bytes b)) ≡ true
+    → is_placed (Reply.Reassembly (place_reply at bytes b)) ≡ true
 placed_by bytes at b past none =
-    ap (λ (y : Bool). is_placed (replies.Reassembly (if y then Beyond (edge b) else placed_reply (clash b.known_end at bytes) at bytes b))) past
-    ∙ ap (λ (o : Option ℕ). is_placed (replies.Reassembly (placed_reply o at bytes b))) none
+    ap (λ (y : Bool). is_placed (Reply.Reassembly (if y then Beyond (edge b) else placed_reply (clash b.known_end at bytes) at bytes b))) past
+    ∙ ap (λ (o : Option ℕ). is_placed (Reply.Reassembly (placed_reply o at bytes b))) none
 
 -- without a mapping nothing is placed, no check fails, and nothing is forgotten
 here_none : (e : PathEnd) → IsMapping e.modes → e.receiving.mappings.live ≡ [] → mapping_here e ≡ None
@@ -199,7 +167,7 @@ module _ (start : Start) (plan : PathPlan) (k j : Setting) (s v : Lane) (t0 u0 :
                 (ap (λ (y : Bool). if y then None else mapping_at p.a.receiving.mappings p.a.tcp.recv.edge) (receives_mappings p.a.modes p.a.tcp.recv.edge mptcp)
                 ∙ here_is p.profile A x_a (octets_of x_a.brings) p.a.tcp some_a position_a places_a short_a near_a p.a.receiving.mappings f.maps.forgotten live_a)
 
-            puts_a : let x = f.sent in Relation (after_ask (asks.Reassembly A (reassembly_calls.Place x.low (octets_of x.brings))) books) (answered_piece A (Some (piece_by_a x)) true (with_agenda (place_duties A) p))
+            puts_a : let x = f.sent in Relation (after_ask (Ask.Reassembly A (ReassemblyCall.Place x.low (octets_of x.brings))) books) (answered_piece A (Some (piece_by_a x)) true (with_agenda (place_duties A) p))
             puts_a =
                 let x = f.sent in
                 let t = h.treats in
@@ -285,7 +253,7 @@ module _ (start : Start) (plan : PathPlan) (k j : Setting) (s v : Lane) (t0 u0 :
                 let view = h.faces in
                 let at = place_is plan.delay t0 u0 k_is j_is going going_back view x hand_a kind_a some_a in
                 subst (λ (o : Option Piece). Relation (after_ask (piece_ask A o) books) (answered_piece A o (is_placed (reply_of books (piece_ask A o))) (with_agenda (place_duties A) p))) (sym next_a)
-                (subst (λ (y : Bool). Relation (after_ask (asks.Reassembly A (reassembly_calls.Place x.low (octets_of x.brings))) books) (answered_piece A (Some (piece_by_a x)) y (with_agenda (place_duties A) p)))
+                (subst (λ (y : Bool). Relation (after_ask (Ask.Reassembly A (ReassemblyCall.Place x.low (octets_of x.brings))) books) (answered_piece A (Some (piece_by_a x)) y (with_agenda (place_duties A) p)))
                 (sym (placed_by (octets_of x.brings) x.low books.reassembly_a
                 (ap (λ (n : ℕ). reaches_past (edge books.reassembly_a) n (octets_of x.brings)) at
                 ∙ none_past books.reassembly_a (octets_of x.brings) view.apps_back.whole some_a view.back.data_fin_came j.total view.apps_back.receives.known
@@ -303,16 +271,16 @@ module _ (start : Start) (plan : PathPlan) (k j : Setting) (s v : Lane) (t0 u0 :
             (λ x. absurd (both_ways _ (ap (λ (o : Option Piece). is_some o) (next_none p.profile p.a (h.faces).own.modes.mapping (end_mapped A (own_bench h.faces) x.0).live)) on))
             h.treats.0
 
-        pub answers_edge_a : (ds : List Duty) → is_some (next_piece p.profile p.a) ≡ true → Relation books (with_agenda (duties.Ask (ask_duties.Edge A) ∷ ds) p)
-            → let q = with_agenda (duties.Ask (ask_duties.Edge A) ∷ ds) p in let o = next_piece p.profile p.a in
+        pub answers_edge_a : (ds : List Duty) → is_some (next_piece p.profile p.a) ≡ true → Relation books (with_agenda (Duty.Ask (AskDuty.Edge A) ∷ ds) p)
+            → let q = with_agenda (Duty.Ask (AskDuty.Edge A) ∷ ds) p in let o = next_piece p.profile p.a in
             Relation (after_ask (piece_ask A o) books) (answered_piece A o (is_placed (reply_of books (piece_ask A o))) q)
         answers_edge_a ds on h =
-            subst (λ (es : List Duty). let q = with_agenda (duties.Ask (ask_duties.Edge A) ∷ es) p in let o = next_piece p.profile p.a in
+            subst (λ (es : List Duty). let q = with_agenda (Duty.Ask (AskDuty.Edge A) ∷ es) p in let o = next_piece p.profile p.a in
             Relation (after_ask (piece_ask A o) books) (answered_piece A o (is_placed (reply_of books (piece_ask A o))) q)) (sym h.treats.1.2)
-            (edge_placed_a on (subst (λ (es : List Duty). Relation books (with_agenda (duties.Ask (ask_duties.Edge A) ∷ es) p)) h.treats.1.2 h))
+            (edge_placed_a on (subst (λ (es : List Duty). Relation books (with_agenda (Duty.Ask (AskDuty.Edge A) ∷ es) p)) h.treats.1.2 h))
 
         edge_passed_a : is_some (next_piece p.profile p.a) ≡ false → (h : Relation books (with_agenda (place_duties A) p))
-            → Relation books (with_agenda (duties.Ask (ask_duties.CheckFailed A) ∷ duties.Step (step_duties.Unmapped A) ∷ end_duties A) p)
+            → Relation books (with_agenda (Duty.Ask (AskDuty.CheckFailed A) ∷ Duty.Step (StepDuty.Unmapped A) ∷ end_duties A) p)
         edge_passed_a off h =
             let t = h.treats in
             ⊎_elim
@@ -320,38 +288,38 @@ module _ (start : Start) (plan : PathPlan) (k j : Setting) (s v : Lane) (t0 u0 :
             (λ x. record {
               path = h.path;
               link = h.link;
-              faces = free_drops (duties.Ask (ask_duties.Edge A)) (duties.Ask (ask_duties.CheckFailed A) ∷ duties.Step (step_duties.Unmapped A) ∷ end_duties A) refl h.faces;
+              faces = free_drops (Duty.Ask (AskDuty.Edge A)) (Duty.Ask (AskDuty.CheckFailed A) ∷ Duty.Step (StepDuty.Unmapped A) ∷ end_duties A) refl h.faces;
               treats = (x, (t.1.0, t.1.1, refl));
             })
             t.0
 
-        pub passes_edge_a : (ds : List Duty) → is_some (next_piece p.profile p.a) ≡ false → Relation books (with_agenda (duties.Ask (ask_duties.Edge A) ∷ ds) p)
+        pub passes_edge_a : (ds : List Duty) → is_some (next_piece p.profile p.a) ≡ false → Relation books (with_agenda (Duty.Ask (AskDuty.Edge A) ∷ ds) p)
             → Relation books (with_agenda ds p)
         passes_edge_a ds off h =
             subst (λ (es : List Duty). Relation books (with_agenda es p)) (sym h.treats.1.2)
-            (edge_passed_a off (subst (λ (es : List Duty). Relation books (with_agenda (duties.Ask (ask_duties.Edge A) ∷ es) p)) h.treats.1.2 h))
+            (edge_passed_a off (subst (λ (es : List Duty). Relation books (with_agenda (Duty.Ask (AskDuty.Edge A) ∷ es) p)) h.treats.1.2 h))
 
-        checked_a : (h : Relation books (with_agenda (duties.Ask (ask_duties.CheckFailed A) ∷ duties.Step (step_duties.Unmapped A) ∷ end_duties A) p))
-            → Relation books (with_agenda (duties.Step (step_duties.Unmapped A) ∷ end_duties A) (with_end A (after_check p.profile p.a) p))
+        checked_a : (h : Relation books (with_agenda (Duty.Ask (AskDuty.CheckFailed A) ∷ Duty.Step (StepDuty.Unmapped A) ∷ end_duties A) p))
+            → Relation books (with_agenda (Duty.Step (StepDuty.Unmapped A) ∷ end_duties A) (with_end A (after_check p.profile p.a) p))
         checked_a h =
             let t = h.treats in
-            subst (λ (e : PathEnd). Relation books (with_agenda (duties.Step (step_duties.Unmapped A) ∷ end_duties A) (with_end A e p)))
+            subst (λ (e : PathEnd). Relation books (with_agenda (Duty.Step (StepDuty.Unmapped A) ∷ end_duties A) (with_end A e p)))
             (sym (check_same p.profile p.a h.faces.own.modes.mapping (end_mapped A (own_bench h.faces) t.0.0).live))
             (record {
               path = h.path;
               link = h.link;
-              faces = free_drops (duties.Ask (ask_duties.CheckFailed A)) (duties.Step (step_duties.Unmapped A) ∷ end_duties A) refl h.faces;
+              faces = free_drops (Duty.Ask (AskDuty.CheckFailed A)) (Duty.Step (StepDuty.Unmapped A) ∷ end_duties A) refl h.faces;
               treats = (t.0, (t.1.0, t.1.1, refl));
             })
 
-        pub passes_checked_a : (ds : List Duty) → Relation books (with_agenda (duties.Ask (ask_duties.CheckFailed A) ∷ ds) p)
+        pub passes_checked_a : (ds : List Duty) → Relation books (with_agenda (Duty.Ask (AskDuty.CheckFailed A) ∷ ds) p)
             → Relation books (with_agenda ds (with_end A (after_check p.profile p.a) p))
         passes_checked_a ds h =
             subst (λ (es : List Duty). Relation books (with_agenda es (with_end A (after_check p.profile p.a) p))) (sym h.treats.1.2)
-            (checked_a (subst (λ (es : List Duty). Relation books (with_agenda (duties.Ask (ask_duties.CheckFailed A) ∷ es) p)) h.treats.1.2 h))
+            (checked_a (subst (λ (es : List Duty). Relation books (with_agenda (Duty.Ask (AskDuty.CheckFailed A) ∷ es) p)) h.treats.1.2 h))
 
         -- no check fails
-        pub stays_right_a : (ds : List Duty) → Relation books (with_agenda (duties.Ask (ask_duties.CheckFailed A) ∷ ds) p) → check_failed_stands p.profile p.a ≡ false
+        pub stays_right_a : (ds : List Duty) → Relation books (with_agenda (Duty.Ask (AskDuty.CheckFailed A) ∷ ds) p) → check_failed_stands p.profile p.a ≡ false
         stays_right_a ds h = none_fails p.profile p.a h.faces.own.modes.mapping (end_mapped A (own_bench h.faces) h.treats.0.0).live
 
         -- ---- at B
@@ -412,14 +380,14 @@ module _ (start : Start) (plan : PathPlan) (k j : Setting) (s v : Lane) (t0 u0 :
                 (ap (λ (y : Bool). if y then None else mapping_at p.b.receiving.mappings p.b.tcp.recv.edge) (receives_mappings p.b.modes p.b.tcp.recv.edge mptcp)
                 ∙ here_is p.profile B x_b (octets_of x_b.brings) p.b.tcp some_b position_b places_b short_b near_b p.b.receiving.mappings f.maps.forgotten live_b)
 
-            puts_b : let x = f.sent in Relation (after_ask (asks.Reassembly B (reassembly_calls.Place x.low (octets_of x.brings))) books) (answered_piece B (Some (piece_by_b x)) true (with_agenda (place_duties B) p))
+            puts_b : let x = f.sent in Relation (after_ask (Ask.Reassembly B (ReassemblyCall.Place x.low (octets_of x.brings))) books) (answered_piece B (Some (piece_by_b x)) true (with_agenda (place_duties B) p))
             puts_b =
                 let x = f.sent in
                 let t = h.treats in
                 let view = from_a keys k j s v a b books (with_agenda (place_duties B) p) h.faces in
                 let clear = f.clear.2 refl in
                 let up = open_when_ready plan.delay u0 t0 j_is k_is going_back going view (some_of clear view.own.modes.cleared) in
-                let faces = from_b keys k j s v a b (after_ask (asks.Reassembly B (reassembly_calls.Place x.low (octets_of x.brings))) books) (answered_piece B (Some (piece_by_b x)) true (with_agenda (place_duties B) p)) (placed plan.delay u0 t0 j_is k_is going_back going view x hand_b kind_b some_b bytes_b.fin up.0 up.1 clear
+                let faces = from_b keys k j s v a b (after_ask (Ask.Reassembly B (ReassemblyCall.Place x.low (octets_of x.brings))) books) (answered_piece B (Some (piece_by_b x)) true (with_agenda (place_duties B) p)) (placed plan.delay u0 t0 j_is k_is going_back going view x hand_b kind_b some_b bytes_b.fin up.0 up.1 clear
                 (sent_some count_b.0 f.answered) (f.owes ∙ (ap is_owed (sym f.brings) ∙ bytes_b.owed)) count_b.0 count_b.1
                 (λ is. keys_low count_b.2 (view.own.modes.both is).1) (same_keys count_b.2)
                 (inr (inr (inr (inr (inr (inr (inr (inr (inr (inl refl))))))))))
@@ -498,7 +466,7 @@ module _ (start : Start) (plan : PathPlan) (k j : Setting) (s v : Lane) (t0 u0 :
                 let view = from_a keys k j s v a b books (with_agenda (place_duties B) p) h.faces in
                 let at = place_is plan.delay u0 t0 j_is k_is going_back going view x hand_b kind_b some_b in
                 subst (λ (o : Option Piece). Relation (after_ask (piece_ask B o) books) (answered_piece B o (is_placed (reply_of books (piece_ask B o))) (with_agenda (place_duties B) p))) (sym next_b)
-                (subst (λ (y : Bool). Relation (after_ask (asks.Reassembly B (reassembly_calls.Place x.low (octets_of x.brings))) books) (answered_piece B (Some (piece_by_b x)) y (with_agenda (place_duties B) p)))
+                (subst (λ (y : Bool). Relation (after_ask (Ask.Reassembly B (ReassemblyCall.Place x.low (octets_of x.brings))) books) (answered_piece B (Some (piece_by_b x)) y (with_agenda (place_duties B) p)))
                 (sym (placed_by (octets_of x.brings) x.low books.reassembly_b
                 (ap (λ (n : ℕ). reaches_past (edge books.reassembly_b) n (octets_of x.brings)) at
                 ∙ none_past books.reassembly_b (octets_of x.brings) view.apps_back.whole some_b view.back.data_fin_came k.total view.apps_back.receives.known
@@ -516,16 +484,16 @@ module _ (start : Start) (plan : PathPlan) (k j : Setting) (s v : Lane) (t0 u0 :
             (λ x. absurd (both_ways _ (ap (λ (o : Option Piece). is_some o) (next_none p.profile p.b (from_a keys k j s v a b books (with_agenda (place_duties B) p) h.faces).own.modes.mapping (end_mapped B (other_bench h.faces) x.0).live)) on))
             h.treats.0
 
-        pub answers_edge_b : (ds : List Duty) → is_some (next_piece p.profile p.b) ≡ true → Relation books (with_agenda (duties.Ask (ask_duties.Edge B) ∷ ds) p)
-            → let q = with_agenda (duties.Ask (ask_duties.Edge B) ∷ ds) p in let o = next_piece p.profile p.b in
+        pub answers_edge_b : (ds : List Duty) → is_some (next_piece p.profile p.b) ≡ true → Relation books (with_agenda (Duty.Ask (AskDuty.Edge B) ∷ ds) p)
+            → let q = with_agenda (Duty.Ask (AskDuty.Edge B) ∷ ds) p in let o = next_piece p.profile p.b in
             Relation (after_ask (piece_ask B o) books) (answered_piece B o (is_placed (reply_of books (piece_ask B o))) q)
         answers_edge_b ds on h =
-            subst (λ (es : List Duty). let q = with_agenda (duties.Ask (ask_duties.Edge B) ∷ es) p in let o = next_piece p.profile p.b in
+            subst (λ (es : List Duty). let q = with_agenda (Duty.Ask (AskDuty.Edge B) ∷ es) p in let o = next_piece p.profile p.b in
             Relation (after_ask (piece_ask B o) books) (answered_piece B o (is_placed (reply_of books (piece_ask B o))) q)) (sym h.treats.1.2)
-            (edge_placed_b on (subst (λ (es : List Duty). Relation books (with_agenda (duties.Ask (ask_duties.Edge B) ∷ es) p)) h.treats.1.2 h))
+            (edge_placed_b on (subst (λ (es : List Duty). Relation books (with_agenda (Duty.Ask (AskDuty.Edge B) ∷ es) p)) h.treats.1.2 h))
 
         edge_passed_b : is_some (next_piece p.profile p.b) ≡ false → (h : Relation books (with_agenda (place_duties B) p))
-            → Relation books (with_agenda (duties.Ask (ask_duties.CheckFailed B) ∷ duties.Step (step_duties.Unmapped B) ∷ end_duties B) p)
+            → Relation books (with_agenda (Duty.Ask (AskDuty.CheckFailed B) ∷ Duty.Step (StepDuty.Unmapped B) ∷ end_duties B) p)
         edge_passed_b off h =
             let t = h.treats in
             ⊎_elim
@@ -533,36 +501,36 @@ module _ (start : Start) (plan : PathPlan) (k j : Setting) (s v : Lane) (t0 u0 :
             (λ x. record {
               path = h.path;
               link = h.link;
-              faces = free_drops (duties.Ask (ask_duties.Edge B)) (duties.Ask (ask_duties.CheckFailed B) ∷ duties.Step (step_duties.Unmapped B) ∷ end_duties B) refl h.faces;
+              faces = free_drops (Duty.Ask (AskDuty.Edge B)) (Duty.Ask (AskDuty.CheckFailed B) ∷ Duty.Step (StepDuty.Unmapped B) ∷ end_duties B) refl h.faces;
               treats = (x, (t.1.0, t.1.1, refl));
             })
             t.0
 
-        pub passes_edge_b : (ds : List Duty) → is_some (next_piece p.profile p.b) ≡ false → Relation books (with_agenda (duties.Ask (ask_duties.Edge B) ∷ ds) p)
+        pub passes_edge_b : (ds : List Duty) → is_some (next_piece p.profile p.b) ≡ false → Relation books (with_agenda (Duty.Ask (AskDuty.Edge B) ∷ ds) p)
             → Relation books (with_agenda ds p)
         passes_edge_b ds off h =
             subst (λ (es : List Duty). Relation books (with_agenda es p)) (sym h.treats.1.2)
-            (edge_passed_b off (subst (λ (es : List Duty). Relation books (with_agenda (duties.Ask (ask_duties.Edge B) ∷ es) p)) h.treats.1.2 h))
+            (edge_passed_b off (subst (λ (es : List Duty). Relation books (with_agenda (Duty.Ask (AskDuty.Edge B) ∷ es) p)) h.treats.1.2 h))
 
-        checked_b : (h : Relation books (with_agenda (duties.Ask (ask_duties.CheckFailed B) ∷ duties.Step (step_duties.Unmapped B) ∷ end_duties B) p))
-            → Relation books (with_agenda (duties.Step (step_duties.Unmapped B) ∷ end_duties B) (with_end B (after_check p.profile p.b) p))
+        checked_b : (h : Relation books (with_agenda (Duty.Ask (AskDuty.CheckFailed B) ∷ Duty.Step (StepDuty.Unmapped B) ∷ end_duties B) p))
+            → Relation books (with_agenda (Duty.Step (StepDuty.Unmapped B) ∷ end_duties B) (with_end B (after_check p.profile p.b) p))
         checked_b h =
             let t = h.treats in
-            subst (λ (e : PathEnd). Relation books (with_agenda (duties.Step (step_duties.Unmapped B) ∷ end_duties B) (with_end B e p)))
+            subst (λ (e : PathEnd). Relation books (with_agenda (Duty.Step (StepDuty.Unmapped B) ∷ end_duties B) (with_end B e p)))
             (sym (check_same p.profile p.b h.faces.other.modes.mapping (end_mapped B (other_bench h.faces) t.0.0).live))
             (record {
               path = h.path;
               link = h.link;
-              faces = free_drops (duties.Ask (ask_duties.CheckFailed B)) (duties.Step (step_duties.Unmapped B) ∷ end_duties B) refl h.faces;
+              faces = free_drops (Duty.Ask (AskDuty.CheckFailed B)) (Duty.Step (StepDuty.Unmapped B) ∷ end_duties B) refl h.faces;
               treats = (t.0, (t.1.0, t.1.1, refl));
             })
 
-        pub passes_checked_b : (ds : List Duty) → Relation books (with_agenda (duties.Ask (ask_duties.CheckFailed B) ∷ ds) p)
+        pub passes_checked_b : (ds : List Duty) → Relation books (with_agenda (Duty.Ask (AskDuty.CheckFailed B) ∷ ds) p)
             → Relation books (with_agenda ds (with_end B (after_check p.profile p.b) p))
         passes_checked_b ds h =
             subst (λ (es : List Duty). Relation books (with_agenda es (with_end B (after_check p.profile p.b) p))) (sym h.treats.1.2)
-            (checked_b (subst (λ (es : List Duty). Relation books (with_agenda (duties.Ask (ask_duties.CheckFailed B) ∷ es) p)) h.treats.1.2 h))
+            (checked_b (subst (λ (es : List Duty). Relation books (with_agenda (Duty.Ask (AskDuty.CheckFailed B) ∷ es) p)) h.treats.1.2 h))
 
         -- no check fails
-        pub stays_right_b : (ds : List Duty) → Relation books (with_agenda (duties.Ask (ask_duties.CheckFailed B) ∷ ds) p) → check_failed_stands p.profile p.b ≡ false
+        pub stays_right_b : (ds : List Duty) → Relation books (with_agenda (Duty.Ask (AskDuty.CheckFailed B) ∷ ds) p) → check_failed_stands p.profile p.b ≡ false
         stays_right_b ds h = none_fails p.profile p.b h.faces.other.modes.mapping (end_mapped B (other_bench h.faces) h.treats.0.0).live

@@ -1,25 +1,10 @@
 -- Where an end neither sends a record nor asks for bytes, what was written has no room in the windows, or its end is known.
-use Rattle.std.proofs.Common.{◌≡◌, refl, sym, subst, ap, ◌∙◌, ℕ, ◌+◌, ◌-◌, ◌^◌, ◌<◌, ◌≤◌, min, nat_le, Bool, true, false, not, ◌&&◌, ◌||◌, if◌then◌else◌, ◌⊎◌, inl, inr, ⊎_elim, Option, Some, None, List, [], ◌∷◌, ◌++◌, All, find, arith}
-use Rattle.std.proofs.lemmas.Bool.{both_ways, cases_lt, leb-false, leb-true, ltb-true, le-leb}
-use Rattle.std.proofs.lemmas.List.Elements.{All-head, All-tail}
-use Rattle.sides.specs.declared.side.Side.{Side}
-use Rattle.sides.specs.declared.side.Side.TheVariants.{A, B}
-use Rattle.subflow_send.specs.Records.{Record}
-use Rattle.subflow_send.specs.Rules.{is_unsent, flight}
+use Rattle.clean_finish.proofs.Words.{◌≡◌, refl, sym, subst, ap, ◌∙◌, ℕ, ◌+◌, ◌-◌, ◌<◌, ◌≤◌, min, Bool, true, false, not, ◌&&◌, ◌||◌, if◌then◌else◌, ◌⊎◌, inl}
+use Rattle.clean_finish.proofs.Words.{inr, ⊎_elim, Option, None, List, [], ◌∷◌, ◌++◌, All, arith, Some, nat_le, ◌^◌, find, both_ways, cases_lt, le-leb}
+use Rattle.clean_finish.proofs.Words.{ltb-true, leb-true, leb-false, All-head, All-tail, Side, A, B, Record, is_unsent, flight, is_at_limit, may_finish, one_if}
+use Rattle.clean_finish.proofs.Words.{Duty, Profile, first_unsent, payload_size, data_stands, may_send_data, Setting, Lane, all_left, Going, HasEmitted, IsOpen}
+use Rattle.clean_finish.proofs.Words.{Waits, WaitsSyn, WaitsNone, WaitsBytes, Keys, IsSetting, Facing, Half}
 use Rattle.subflow_tcp.specs.Sizes.{room}
-use Rattle.subflow_tcp.specs.State.{is_at_limit}
-use Rattle.subflow_tcp.specs.States.{may_finish}
-use Rattle.subflow_tcp.specs.Segments.{one_if}
-use Rattle.path_agenda.specs.declared.duty.Duty.{Duty}
-use Rattle.path_core.specs.Emission.{first_unsent, data_stands, may_send_data, payload_size}
-use Rattle.path_core.specs.Profile.{Profile}
-use Rattle.pace.specs.Lane.{Setting, Lane, all_left}
-use Rattle.pace.specs.Going.{Going}
-use Rattle.pace.specs.Moves.{HasEmitted}
-use Rattle.clean_finish.specs.Segments.{Keys}
-use Rattle.clean_finish.specs.Shows.{IsOpen, Waits}
-use Rattle.clean_finish.specs.Shows.Waits.{WaitsSyn, WaitsNone, WaitsBytes}
-use Rattle.clean_finish.specs.Running.{Half, Facing, IsSetting}
 use Rattle.clean_finish.proofs.Machine.{flights_are_small}
 use Rattle.clean_finish.proofs.Quiet.{now_out, now_back, open_when_ready, not_false}
 

@@ -1,25 +1,8 @@
 -- The steps in which an end sends its DATA_FIN.
-use Rattle.std.proofs.Common.{◌≡◌, refl, sym, subst, ap, ℕ, ◌+◌, ◌≤◌, max, true, List, ◌∷◌, arith}
-use Rattle.sides.specs.declared.side.Side.{Side}
-use Rattle.sides.specs.declared.side.Side.TheVariants.{A, B}
-use Rattle.link_model.specs.Laws.{plain_flight, going_to}
-use Rattle.link_model.specs.Steps.{after_send}
-use Rattle.path_segments.specs.Spelled.{PlainSegment}
-use Rattle.subflow_tcp.specs.declared.segments.Occasion.TheVariants as to_send
-use Rattle.actor_desk.specs.Desk.{SixBooks}
-use Rattle.stream_apps.specs.Apps.{AppState}
-use Rattle.path_agenda.specs.declared.duty.Duty.{Duty}
-use Rattle.path_agenda.specs.declared.duty.Duty.TheVariants as duties
-use Rattle.path_agenda.specs.declared.duty.SendDuty.TheVariants as send_duties
-use Rattle.path_core.specs.Handover.{having_sent, sent_on}
-use Rattle.path_core.specs.DataFin.{is_data_fin_due, with_data_fin_sent, answered_data_fin_sent}
-use Rattle.path_core.specs.State.{PathState, with_agenda}
-use Rattle.path_core.specs.Values.{Carried, carried_by, stripped, altered, values}
-use Rattle.world_laws.specs.Openings.{PathPlan, Start}
-use Rattle.pace.specs.Lane.{Setting, Lane, all_left}
-use Rattle.pace.specs.Going.{Going}
-use Rattle.clean_finish.specs.Segments.{Keys, said, FliesAs}
-use Rattle.clean_finish.specs.Running.{own_bench, other_bench, IsSetting, Runs, keys_in}
+use Rattle.clean_finish.proofs.Words.{◌≡◌, refl, sym, subst, ap, ℕ, ◌+◌, ◌≤◌, max, true, List, ◌∷◌, arith, Side, A, B, Occasion, going_to, plain_flight}
+use Rattle.clean_finish.proofs.Words.{after_send, PlainSegment, Duty, SendDuty, SixBooks, AppState, Carried, carried_by, stripped, altered, values}
+use Rattle.clean_finish.proofs.Words.{is_data_fin_due, with_data_fin_sent, answered_data_fin_sent, PathState, with_agenda, having_sent, sent_on, Setting, Lane}
+use Rattle.clean_finish.proofs.Words.{all_left, Going, PathPlan, Start, Keys, said, FliesAs, own_bench, other_bench, IsSetting, Runs, keys_in}
 use Rattle.clean_finish.proofs.Dropping.{differ}
 use Rattle.clean_finish.proofs.Linking.{carried_is, last_from_a, last_from_b, others_of_a, others_of_b, link_after_a, link_after_b}
 use Rattle.clean_finish.proofs.Plainly.{plain_on}
@@ -43,15 +26,15 @@ module _ (start : Start) (plan : PathPlan) (k j : Setting) (s v : Lane) (t0 u0 :
         Relation q = Runs start plan k j s v a b books q
 
         abbrev sends_a : PlainSegment → PathState Carried
-        sends_a segment = sent_on values A segment (record (having_sent to_send.Ack p.clock segment p.a) { sending = with_data_fin_sent p.a.sending }) ds (with_agenda (duties.Send (send_duties.DataFin A) ∷ ds) p)
+        sends_a segment = sent_on values A segment (record (having_sent Occasion.Ack p.clock segment p.a) { sending = with_data_fin_sent p.a.sending }) ds (with_agenda (Duty.Send (SendDuty.DataFin A) ∷ ds) p)
 
-        pub end_a : is_data_fin_due p.a ≡ true → Relation (with_agenda (duties.Send (send_duties.DataFin A) ∷ ds) p)
-            → Relation (answered_data_fin_sent values A (with_agenda (duties.Send (send_duties.DataFin A) ∷ ds) p))
+        pub end_a : is_data_fin_due p.a ≡ true → Relation (with_agenda (Duty.Send (SendDuty.DataFin A) ∷ ds) p)
+            → Relation (answered_data_fin_sent values A (with_agenda (Duty.Send (SendDuty.DataFin A) ∷ ds) p))
         end_a due h =
             let t = h.treats in
             let view = h.faces in
-            let window = asked_before A (duties.Send (send_duties.DataFin A)) (differ refl) ds view.stage_back.window view.stages_back.window t.4.0 in
-            let ask = asks_no_more A (duties.Send (send_duties.DataFin A)) (differ refl) (differ refl) ds p.a.treated.asked view.stage_back.ask t.4.0 t.5 view.stages_back.ask in
+            let window = asked_before A (Duty.Send (SendDuty.DataFin A)) (differ refl) ds view.stage_back.window view.stages_back.window t.4.0 in
+            let ask = asks_no_more A (Duty.Send (SendDuty.DataFin A)) (differ refl) (differ refl) ds p.a.treated.asked view.stage_back.ask t.4.0 t.5 view.stages_back.ask in
             let x = ending plan.delay t0 u0 k_is j_is going going_back view in
             let segment = said p.profile keys A x in
             let carried = carried_by p.profile.spelling A segment in
@@ -99,15 +82,15 @@ module _ (start : Start) (plan : PathPlan) (k j : Setting) (s v : Lane) (t0 u0 :
             })
 
         abbrev sends_b : PlainSegment → PathState Carried
-        sends_b segment = sent_on values B segment (record (having_sent to_send.Ack p.clock segment p.b) { sending = with_data_fin_sent p.b.sending }) ds (with_agenda (duties.Send (send_duties.DataFin B) ∷ ds) p)
+        sends_b segment = sent_on values B segment (record (having_sent Occasion.Ack p.clock segment p.b) { sending = with_data_fin_sent p.b.sending }) ds (with_agenda (Duty.Send (SendDuty.DataFin B) ∷ ds) p)
 
-        pub end_b : is_data_fin_due p.b ≡ true → Relation (with_agenda (duties.Send (send_duties.DataFin B) ∷ ds) p)
-            → Relation (answered_data_fin_sent values B (with_agenda (duties.Send (send_duties.DataFin B) ∷ ds) p))
+        pub end_b : is_data_fin_due p.b ≡ true → Relation (with_agenda (Duty.Send (SendDuty.DataFin B) ∷ ds) p)
+            → Relation (answered_data_fin_sent values B (with_agenda (Duty.Send (SendDuty.DataFin B) ∷ ds) p))
         end_b due h =
             let t = h.treats in
-            let view = from_a keys k j s v a b books (with_agenda (duties.Send (send_duties.DataFin B) ∷ ds) p) h.faces in
-            let window = asked_before B (duties.Send (send_duties.DataFin B)) (differ refl) ds view.stage_back.window view.stages_back.window t.4.0 in
-            let ask = asks_no_more B (duties.Send (send_duties.DataFin B)) (differ refl) (differ refl) ds p.b.treated.asked view.stage_back.ask t.4.0 t.5 view.stages_back.ask in
+            let view = from_a keys k j s v a b books (with_agenda (Duty.Send (SendDuty.DataFin B) ∷ ds) p) h.faces in
+            let window = asked_before B (Duty.Send (SendDuty.DataFin B)) (differ refl) ds view.stage_back.window view.stages_back.window t.4.0 in
+            let ask = asks_no_more B (Duty.Send (SendDuty.DataFin B)) (differ refl) (differ refl) ds p.b.treated.asked view.stage_back.ask t.4.0 t.5 view.stages_back.ask in
             let x = ending plan.delay u0 t0 j_is k_is going_back going view in
             let segment = said p.profile keys B x in
             let carried = carried_by p.profile.spelling B segment in

@@ -1,38 +1,11 @@
 -- An end sends its DATA_FIN, on an acknowledgement.
-use Rattle.std.proofs.Common.{◌≡◌, refl, sym, subst, ap, ◌∙◌, ℕ, zero, suc, ◌+◌, ◌-◌, ◌<◌, ◌≤◌, min, max, Bool, true, false, not, is_some, cond, ◌&&◌, inl, inr, ⊎_elim, Option, Some, None, List, [], ◌∷◌, ◌++◌, le_refl, arith}
-use Rattle.std.proofs.lemmas.Bool.{both_ways}
-use Rattle.sides.specs.declared.side.Side.{Side}
-use Rattle.sides.specs.declared.side.Side.TheVariants.{A, B}
-use Rattle.sides.specs.Side.{peer}
-use Rattle.link_model.specs.declared.flight.Flight.{Flight}
-use Rattle.path_segments.specs.Laws.{window_told}
-use Rattle.subflow_tcp.specs.declared.handshake.State.{State}
-use Rattle.subflow_tcp.specs.declared.handshake.State.TheVariants as states
-use Rattle.subflow_tcp.specs.States.{may_finish}
-use Rattle.subflow_tcp.specs.Segments.{one_if}
-use Rattle.path_agenda.specs.declared.duty.Duty.{Duty}
-use Rattle.path_agenda.specs.declared.duty.Duty.TheVariants as duties
-use Rattle.path_agenda.specs.declared.duty.SendDuty.TheVariants as send_duties
-use Rattle.path_agenda.specs.declared.duty.StepDuty.TheVariants as step_duties
-use Rattle.path_core.specs.End.{PathEnd}
-use Rattle.path_core.specs.Modes.{sends_plainly}
-use Rattle.path_core.specs.OptionsOut.{ack_said}
-use Rattle.path_core.specs.DataFin.{is_data_fin_due}
-use Rattle.path_core.specs.Standing.{is_connected}
-use Rattle.path_core.specs.Profile.{Profile}
-use Rattle.path_core.specs.Values.{Carried}
-use Rattle.actor_desk.specs.Words.{pick}
-use Rattle.pace.specs.Lane.{Setting, Telling, Copy, Lane, Stage, is_whole, all_left}
-use Rattle.pace.specs.Rules.{is_same, repeats}
-use Rattle.pace.specs.Going.{Going, pending}
-use Rattle.pace.specs.Moves.{MaySay, MaySend}
-use Rattle.pace.specs.Moves.Move.{sends_none}
-use Rattle.clean_finish.specs.Segments.{Sent, Keys, copy_in, dss_from, said, FliesAs, AcknowledgesAs}
-use Rattle.clean_finish.specs.Segments.Brings.{EndsStream}
-use Rattle.clean_finish.specs.Shows.{Hand, brings_still, HeardIs, IsPhase, last_told, row_seen}
-use Rattle.clean_finish.specs.Shows.IsPhase.{Opening, Listening, HalfOpen, Open}
-use Rattle.clean_finish.specs.Shows.IsToldEdge.{Same}
-use Rattle.clean_finish.specs.Running.{Has, Half, Facing, IsSetting, StageIs}
+use Rattle.clean_finish.proofs.Words.{◌≡◌, refl, sym, subst, ap, ◌∙◌, ℕ, ◌+◌, ◌-◌, ◌<◌, ◌≤◌, min, max, Bool, true, false, cond, not, ◌&&◌, inl, inr, ⊎_elim}
+use Rattle.clean_finish.proofs.Words.{Option, None, List, [], ◌∷◌, ◌++◌, arith, Some, suc, le_refl, zero, is_some, both_ways, Side, A, B, peer, State}
+use Rattle.clean_finish.proofs.Words.{may_finish, one_if, Flight, window_told, Duty, SendDuty, StepDuty, pick, Profile, Carried, PathEnd, is_data_fin_due}
+use Rattle.clean_finish.proofs.Words.{is_connected, ack_said, sends_plainly, Setting, Telling, Copy, Lane, Stage, is_whole, all_left, Going, pending, MaySay}
+use Rattle.clean_finish.proofs.Words.{MaySend, sends_none, repeats, is_same, Hand, HeardIs, last_told, row_seen, brings_still, IsPhase, Sent, Keys, copy_in}
+use Rattle.clean_finish.proofs.Words.{AcknowledgesAs, said, FliesAs, dss_from, EndsStream, Same, IsSetting, Facing, Half, Has, StageIs, end_known, Opening}
+use Rattle.clean_finish.proofs.Words.{Listening, HalfOpen, Open}
 use Rattle.clean_finish.proofs.Hands.{way_none}
 use Rattle.clean_finish.proofs.Opened.{waiting_on}
 use Rattle.clean_finish.proofs.Passing.{end_passes}
@@ -40,7 +13,6 @@ use Rattle.clean_finish.proofs.Quiet.{now_out, now_back, phase_is}
 use Rattle.clean_finish.proofs.Ending.{end_after, own_ended}
 use Rattle.clean_finish.proofs.Sendings.{same_bytes, sent_off}
 use Rattle.clean_finish.proofs.TakenMeant.{acknowledges_some}
-use Rattle.clean_finish.specs.Reading.{end_known}
 
 -- an acknowledgement with the DATA_FIN
 pub end_is : (c : Profile) (keys : Keys) (s : Side) (place : ℕ) (x : Sent) (e : PathEnd) → x.brings ≡ EndsStream place → e.modes.identity ≡ false
@@ -51,8 +23,8 @@ end_is c keys s place x e brings mptcp clear known next edge window told =
     rw (brings, mptcp, clear, known, next, acknowledges_some s (EndsStream place) x.edge refl, edge, window, told) refl
 
 pub finishes_open : (state : State) → may_finish state ≡ true → is_connected state ≡ true
-finishes_open states.Established e = refl
-finishes_open states.CloseWait e = refl
+finishes_open State.Established e = refl
+finishes_open State.CloseWait e = refl
 finishes_open _ e = absurd (both_ways _ refl e)
 
 -- why it is due
@@ -76,7 +48,7 @@ known_some : (n total : ℕ) → is_some (end_known n total) ≡ true → (1 ≤
 known_some zero total e = absurd (both_ways _ refl e)
 known_some (suc n) total e = (omega arith, refl)
 
-pub ended_stays : {ds : List Duty} {asked owes later : Bool} (s r : Side) {p : Stage} → Has (duties.Step step_duties.Events) ds → StageIs s r ds asked owes p
+pub ended_stays : {ds : List Duty} {asked owes later : Bool} (s r : Side) {p : Stage} → Has (Duty.Step StepDuty.Events) ds → StageIs s r ds asked owes p
     → StageIs s r ds asked later (record (waiting_on p) { tell = false; update = false })
 ended_stays {ds} s r events is = record {
   window = is.window;
@@ -100,7 +72,7 @@ few_repeats t x = by x.solid (is_same t x.telling)
 module _ {s : Side} {keys : Keys} {k j : Setting} {c : Profile} {begun begun_back : Lane} {m n : Half} {clock until : ℕ} (ticks t u : ℕ)
     (k_is : IsSetting c ticks k) (j_is : IsSetting c ticks j)
     (going : Going k begun t all_left begun) (going_back : Going j begun_back u all_left begun_back)
-    {ds : List Duty} (h : Facing s keys k j c begun begun_back m n clock until (duties.Send (send_duties.DataFin s) ∷ ds))
+    {ds : List Duty} (h : Facing s keys k j c begun begun_back m n clock until (Duty.Send (SendDuty.DataFin s) ∷ ds))
   where
     pub lane : Going k begun t h.stage h.out
     lane = now_out ticks t u k_is j_is going going_back h
@@ -332,12 +304,12 @@ module _ {s : Side} {keys : Keys} {k j : Setting} {c : Profile} {begun begun_bac
             up : {a b : ℕ} → a ≤ b → b ≤ 1 → a ≤ max h.out.data_fin_sent 1
             up p q = omega (arith, p, q)
 
-        module _ (events : Has (duties.Step step_duties.Events) ds) (fs gs : List (Flight Carried)) (f : Flight Carried) (flies : FliesAs c keys s f ending)
+        module _ (events : Has (Duty.Step StepDuty.Events) ds) (fs gs : List (Flight Carried)) (f : Flight Carried) (flies : FliesAs c keys s f ending)
             (more : fs ≡ m.flying ++ f ∷ []) (same : gs ≡ n.flying)
           where
             abbrev pub end_goes : Facing s keys k j c begun begun_back (record m { end = end_after h ending h.out.shut; flying = fs })
-                (record n { flying = gs }) clock until (duties.Send (send_duties.DataFin s) ∷ ds)
-            end_goes = sent_off h ending h.out.shut (duties.Send (send_duties.DataFin s) ∷ ds) (sends_none (copy_in ending) (same_low h.out.granted) may_send) false false may_say
+                (record n { flying = gs }) clock until (Duty.Send (SendDuty.DataFin s) ∷ ds)
+            end_goes = sent_off h ending h.out.shut (Duty.Send (SendDuty.DataFin s) ∷ ds) (sends_none (copy_in ending) (same_low h.out.granted) may_send) false false may_say
                 (end_after h ending h.out.shut) None false 0
                 (own_ended h ending h.out.shut None (ap brings_still none) nothing_waits sent_some refl refl refl refl unsent clear_one same_control
                 (subst (λ (x : ℕ). x ≤ pick s h.out.ready 0) (sym same_keys) h.own.modes.shown) (Same refl) least_told

@@ -1,17 +1,7 @@
 -- The path lives for the control book.
-use Rattle.std.proofs.Common.{◌≡◌, ap, ◌∙◌, ℕ, Bool, false, List, ◌∷◌}
-use Rattle.sides.specs.declared.side.Side.{Side}
-use Rattle.control_book.specs.declared.registry.PathState.{PathState as RegistryPath}
+use Rattle.clean_finish.proofs.Words.{◌≡◌, ap, ◌∙◌, ℕ, Bool, false, List, ◌∷◌, Side, Control, after_live, RegistryPath, with_phase, Duty, Profile, Setting}
+use Rattle.clean_finish.proofs.Words.{Lane, ControlIs, Keys, Facing, Half}
 use Rattle.control_book.specs.declared.registry.Phase.TheVariants.{Living}
-use Rattle.control_book.specs.Control.{Control}
-use Rattle.control_book.specs.Registry.{with_phase}
-use Rattle.control_book.specs.Steps.{after_live}
-use Rattle.path_agenda.specs.declared.duty.Duty.{Duty}
-use Rattle.path_core.specs.Profile.{Profile}
-use Rattle.pace.specs.Lane.{Setting, Lane}
-use Rattle.clean_finish.specs.Segments.{Keys}
-use Rattle.clean_finish.specs.Shows.{ControlIs}
-use Rattle.clean_finish.specs.Running.{Half, Facing}
 use Rattle.clean_finish.proofs.Dropping.{is_waited}
 use Rattle.clean_finish.proofs.Passing.{free_drops}
 

@@ -1,27 +1,10 @@
 -- The next event of a turn is answered: the copy that is first on its way arrives.
-use Rattle.std.proofs.Common.{◌≡◌, refl, sym, subst, ap, ◌∙◌, ℕ, ◌<◌, Bool, true, false, is_some, Option, Some, None, List, [], ◌∷◌}
-use Rattle.std.proofs.lemmas.Bool.{both_ways}
-use Rattle.sides.specs.declared.side.Side.{Side}
-use Rattle.sides.specs.declared.side.Side.TheVariants.{A, B}
-use Rattle.link_model.specs.declared.flight.Flight.{Flight}
-use Rattle.link_model.specs.Steps.{due_of}
-use Rattle.actor_desk.specs.Desk.{SixBooks, reply_of, after_ask}
-use Rattle.stream_apps.specs.Apps.{AppState}
-use Rattle.path_agenda.specs.declared.duty.Duty.{Duty}
-use Rattle.path_agenda.specs.declared.duty.Duty.TheVariants as duties
-use Rattle.path_agenda.specs.declared.duty.StepDuty.TheVariants as step_duties
-use Rattle.path_agenda.specs.Agenda.{rest_of_turn}
+use Rattle.clean_finish.proofs.Words.{◌≡◌, refl, sym, subst, ap, ◌∙◌, ℕ, ◌<◌, Bool, true, false, Option, None, List, [], ◌∷◌, Some, is_some, both_ways, Side, A}
+use Rattle.clean_finish.proofs.Words.{B, Flight, due_of, Duty, StepDuty, rest_of_turn, SixBooks, reply_of, after_ask, AppState, Carried, values, copy_taken}
+use Rattle.clean_finish.proofs.Words.{PathState, with_agenda, path_of, next_event, step_for, happens_if, Setting, Lane, all_left, Going, PathPlan, Start, Sent}
+use Rattle.clean_finish.proofs.Words.{Keys, Brings, OpensSubflow, IsSetting, Runs, keys_in}
 use Rattle.path_core.specs.declared.events.Event.{Event}
-use Rattle.path_core.specs.Events.{next_event, step_for, happens_if}
-use Rattle.path_core.specs.Arrival.{copy_taken}
-use Rattle.path_core.specs.State.{PathState, path_of, with_agenda}
-use Rattle.path_core.specs.Values.{Carried, values}
-use Rattle.world_laws.specs.Openings.{PathPlan, Start}
-use Rattle.pace.specs.Lane.{Setting, Lane, all_left}
-use Rattle.pace.specs.Going.{Going}
-use Rattle.clean_finish.specs.Segments.{Sent, Keys, Brings, is_opening}
-use Rattle.clean_finish.specs.Segments.Brings.{OpensSubflow, ShowsKeys, FirstPiece, Piece, Acknowledges, EndsStream, EndsSubflow}
-use Rattle.clean_finish.specs.Running.{IsSetting, Runs, keys_in}
+use Rattle.clean_finish.specs.Segments.{is_opening}
 use Rattle.clean_finish.proofs.AnswerComes.{answer_comes}
 use Rattle.clean_finish.proofs.ArrivesAtA.{first as first_a}
 use Rattle.clean_finish.proofs.ArrivesAtB.{first as first_b}
@@ -34,12 +17,7 @@ use Rattle.clean_finish.proofs.Turned.{from_a}
 
 opening_is : (b : Brings) → is_opening b ≡ true → b ≡ OpensSubflow
 opening_is OpensSubflow e = refl
-opening_is ShowsKeys e = absurd (both_ways _ refl e)
-opening_is (FirstPiece octets) e = absurd (both_ways _ refl e)
-opening_is (Piece octets) e = absurd (both_ways _ refl e)
-opening_is Acknowledges e = absurd (both_ways _ refl e)
-opening_is (EndsStream place) e = absurd (both_ways _ refl e)
-opening_is EndsSubflow e = absurd (both_ways _ refl e)
+opening_is _ e = absurd (both_ways _ refl e)
 
 abbrev to_a : Flight Carried → Flight Carried
 to_a f = record f { to = A }
@@ -119,18 +97,18 @@ module _ (start : Start) (plan : PathPlan) (k j : Setting) (s v : Lane) (t0 u0 :
         abbrev Answered : List Duty → Option Event → Type 0
         Answered ds o =
             let ask = step_for (path_of p) o in
-            Runs start plan k j s v a b (after_ask ask books) (happens_if values o (reply_of books ask) (with_agenda ((duties.Step step_duties.Events) ∷ ds) p))
+            Runs start plan k j s v a b (after_ask ask books) (happens_if values o (reply_of books ask) (with_agenda ((Duty.Step StepDuty.Events) ∷ ds) p))
 
-        happens : Relation (with_agenda rest_of_turn p) → (o : Option Event) → next_event p ≡ o → is_some o ≡ true → Answered (duties.End ∷ []) o
+        happens : Relation (with_agenda rest_of_turn p) → (o : Option Event) → next_event p ≡ o → is_some o ≡ true → Answered (Duty.End ∷ []) o
         happens h None is some = absurd (both_ways _ refl some)
         happens h (Some event) is some =
             let copy = next_is_copy p event h.path.joined h.path.lines
             (timer_late plan.delay t0 u0 k_is j_is going going_back h.faces)
             (timer_late plan.delay u0 t0 j_is k_is going_back going (from_a keys k j s v a b books (with_agenda rest_of_turn p) h.faces)) is in
-            subst (λ (e : Event). Answered (duties.End ∷ []) (Some e)) (sym copy.is)
+            subst (λ (e : Event). Answered (Duty.End ∷ []) (Some e)) (sym copy.is)
             (arrives copy.first copy.others copy.first.to refl copy.under_way copy.early h)
 
-        pub answers_events : (ds : List Duty) → is_some (next_event p) ≡ true → Relation (with_agenda ((duties.Step step_duties.Events) ∷ ds) p) → Answered ds (next_event p)
+        pub answers_events : (ds : List Duty) → is_some (next_event p) ≡ true → Relation (with_agenda ((Duty.Step StepDuty.Events) ∷ ds) p) → Answered ds (next_event p)
         answers_events ds some h =
             subst (λ (es : List Duty). Answered es (next_event p)) (sym h.treats.4)
-            (happens (subst (λ (es : List Duty). Relation (with_agenda ((duties.Step step_duties.Events) ∷ es) p)) h.treats.4 h) (next_event p) refl some)
+            (happens (subst (λ (es : List Duty). Relation (with_agenda ((Duty.Step StepDuty.Events) ∷ es) p)) h.treats.4 h) (next_event p) refl some)

@@ -1,15 +1,11 @@
 -- A connection of empty files goes on as lanes: all that happens comes in the first round, and the others bring
 -- nothing.
-use Rattle.std.proofs.Common.{◌≡◌, refl, ℕ, zero, suc, ◌+◌, ◌-◌, ◌<◌, min, ◌≤◌, nat_lt, nat_le, le_refl, true, false, inl, inr, None, List, [], ◌∷◌, arith}
-use Rattle.std.proofs.lemmas.Bool.{both_ways, leb-true, ltb-true}
-use Rattle.pace.specs.Lane.{Setting, Copy, Lane, Stage, data_ack, window_edge, all_left}
-use Rattle.pace.specs.Rules.{opens_round, first_lane, said_by, repeats}
-use Rattle.pace.specs.Lists.{first_at}
-use Rattle.pace.specs.Going.{pending}
-use Rattle.pace.specs.Moves.{Move, MaySay, MaySend, MayMove, MayHearAck, MayRefuse, MaySkip, HasEmitted, IsBefore}
-use Rattle.pace.specs.Moves.Move.{closes, ends_writing, ends_reading, asks, says, keeps_quiet, sends_none, is_refused, has_emitted, has_finished, waits_no_more, flags, moves, hears, skips, is_acknowledged, goes_back}
-use Rattle.pace.specs.Rounds.{Moves, Round, Linked, Course}
-use Rattle.clean_finish.specs.Laws.{setting_of, a_path}
+use Rattle.clean_finish.proofs.Words.{◌≡◌, refl, ℕ, ◌+◌, ◌-◌, ◌<◌, ◌≤◌, min, nat_lt, true, false, inl, inr, None, List, [], ◌∷◌, arith, suc, le_refl, zero}
+use Rattle.clean_finish.proofs.Words.{nat_le, both_ways, ltb-true, leb-true, Setting, Copy, Lane, Stage, all_left, data_ack, window_edge, pending, Move, MaySay}
+use Rattle.clean_finish.proofs.Words.{MaySend, MayMove, MayHearAck, MayRefuse, MaySkip, HasEmitted, IsBefore, closes, ends_writing, ends_reading, asks, says}
+use Rattle.clean_finish.proofs.Words.{keeps_quiet, sends_none, is_refused, has_emitted, has_finished, waits_no_more, flags, hears, skips, is_acknowledged}
+use Rattle.clean_finish.proofs.Words.{goes_back, opens_round, first_lane, said_by, repeats, first_at, Moves, Round, Linked, Course, setting_of, a_path}
+use Rattle.pace.specs.Moves.Move.{moves}
 use Rattle.clean_finish.proofs.Moving.{more_than, moves_then}
 
 abbrev k : Setting
@@ -200,15 +196,7 @@ may_skip first turn bytes data_fin control keys = record {
 }
 
 goes_on : {p : Stage} → IsBefore (record p { emit = true }) p
-goes_on = record {
-  ask = λ e. e;
-  tell = refl;
-  window = λ e. e;
-  update = λ e. e;
-  emit = no;
-  finish = λ e. e;
-  wait = λ e. e;
-}
+goes_on = record { ask = λ e. e; tell = refl; window = λ e. e; update = λ e. e; emit = no; finish = λ e. e; wait = λ e. e }
 
 -- ---- the first round
 
@@ -324,10 +312,6 @@ there_6 =
     let h = then h _ _ (has_finished (λ e. le refl)) in
     let h = then h _ _ (keeps_quiet (λ e. lt refl)) in
     then h _ _ (waits_no_more (le refl) (le refl))
-
--- the lane from A to B
-there : Here first all_left first
-there = then_all (then_all (then_all (then_all (then_all there_1 there_2) there_3) there_4) there_5) there_6
 
 -- the lane from A to B
 there_round : Round k first (still 1 0)
@@ -446,10 +430,6 @@ back_6 =
     let h = then h _ _ (has_finished (λ e. le refl)) in
     let h = then h _ _ (keeps_quiet (λ e. lt refl)) in
     then h _ _ (waits_no_more (le refl) (le refl))
-
--- the lane from B to A
-back : Here first all_left first
-back = then_all (then_all (then_all (then_all (then_all back_1 back_2) back_3) back_4) back_5) back_6
 
 -- the lane from B to A
 back_round : Round k first (still 0 0)

@@ -1,27 +1,8 @@
 -- The steps in which an end sends its FIN.
-use Rattle.std.proofs.Common.{◌≡◌, refl, sym, subst, ap, ℕ, ◌+◌, ◌≤◌, max, true, List, ◌∷◌, arith}
-use Rattle.sides.specs.declared.side.Side.{Side}
-use Rattle.sides.specs.declared.side.Side.TheVariants.{A, B}
-use Rattle.link_model.specs.Laws.{plain_flight, going_to}
-use Rattle.link_model.specs.Steps.{after_send}
-use Rattle.path_segments.specs.Spelled.{PlainSegment}
-use Rattle.subflow_tcp.specs.declared.segments.Occasion.TheVariants as to_send
-use Rattle.actor_desk.specs.Desk.{SixBooks}
-use Rattle.stream_apps.specs.Apps.{AppState}
-use Rattle.path_agenda.specs.declared.duty.Duty.{Duty}
-use Rattle.path_agenda.specs.declared.duty.Duty.TheVariants as duties
-use Rattle.path_agenda.specs.declared.duty.SendDuty.TheVariants as send_duties
-use Rattle.path_core.specs.Handover.{with_told, sent_on}
-use Rattle.subflow_tcp.specs.Closing.{after_finishing}
-use Rattle.subflow_tcp.specs.Emitting.{after_sending}
-use Rattle.path_core.specs.DataFin.{is_fin_due, answered_fin}
-use Rattle.path_core.specs.State.{PathState, with_agenda}
-use Rattle.path_core.specs.Values.{Carried, carried_by, stripped, altered, values}
-use Rattle.world_laws.specs.Openings.{PathPlan, Start}
-use Rattle.pace.specs.Lane.{Setting, Lane, all_left}
-use Rattle.pace.specs.Going.{Going}
-use Rattle.clean_finish.specs.Segments.{Keys, said, FliesAs}
-use Rattle.clean_finish.specs.Running.{own_bench, other_bench, IsSetting, Runs, keys_in}
+use Rattle.clean_finish.proofs.Words.{◌≡◌, refl, sym, subst, ap, ℕ, ◌+◌, ◌≤◌, max, true, List, ◌∷◌, arith, Side, A, B, Occasion, after_finishing, after_sending}
+use Rattle.clean_finish.proofs.Words.{going_to, plain_flight, after_send, PlainSegment, Duty, SendDuty, SixBooks, AppState, Carried, carried_by, stripped}
+use Rattle.clean_finish.proofs.Words.{altered, values, is_fin_due, answered_fin, PathState, with_agenda, sent_on, with_told, Setting, Lane, all_left, Going}
+use Rattle.clean_finish.proofs.Words.{PathPlan, Start, Keys, said, FliesAs, own_bench, other_bench, IsSetting, Runs, keys_in}
 use Rattle.clean_finish.proofs.Dropping.{differ}
 use Rattle.clean_finish.proofs.Linking.{carried_is, last_from_a, last_from_b, others_of_a, others_of_b, link_after_a, link_after_b}
 use Rattle.clean_finish.proofs.Plainly.{plain_on}
@@ -49,15 +30,15 @@ module _ (start : Start) (plan : PathPlan) (k j : Setting) (s v : Lane) (t0 u0 :
         Relation q = Runs start plan k j s v a b books q
 
         abbrev sends_a : PlainSegment → PathState Carried
-        sends_a segment = sent_on values A segment (record (with_told segment p.a) { tcp = after_sending to_send.Fin p.clock (after_finishing p.a.tcp) }) ds (with_agenda (duties.Send (send_duties.Fin A) ∷ ds) p)
+        sends_a segment = sent_on values A segment (record (with_told segment p.a) { tcp = after_sending Occasion.Fin p.clock (after_finishing p.a.tcp) }) ds (with_agenda (Duty.Send (SendDuty.Fin A) ∷ ds) p)
 
-        pub fin_a : is_fin_due p.a ≡ true → Relation (with_agenda (duties.Send (send_duties.Fin A) ∷ ds) p)
-            → Relation (answered_fin values A (with_agenda (duties.Send (send_duties.Fin A) ∷ ds) p))
+        pub fin_a : is_fin_due p.a ≡ true → Relation (with_agenda (Duty.Send (SendDuty.Fin A) ∷ ds) p)
+            → Relation (answered_fin values A (with_agenda (Duty.Send (SendDuty.Fin A) ∷ ds) p))
         fin_a due h =
             let t = h.treats in
             let view = h.faces in
-            let window = asked_before A (duties.Send (send_duties.Fin A)) (differ refl) ds view.stage_back.window view.stages_back.window t.4.0 in
-            let ask = asks_no_more A (duties.Send (send_duties.Fin A)) (differ refl) (differ refl) ds p.a.treated.asked view.stage_back.ask t.4.0 t.5 view.stages_back.ask in
+            let window = asked_before A (Duty.Send (SendDuty.Fin A)) (differ refl) ds view.stage_back.window view.stages_back.window t.4.0 in
+            let ask = asks_no_more A (Duty.Send (SendDuty.Fin A)) (differ refl) (differ refl) ds p.a.treated.asked view.stage_back.ask t.4.0 t.5 view.stages_back.ask in
             let x = finishing plan.delay t0 u0 k_is j_is going going_back view in
             let segment = said p.profile keys A x in
             let carried = carried_by p.profile.spelling A segment in
@@ -104,15 +85,15 @@ module _ (start : Start) (plan : PathPlan) (k j : Setting) (s v : Lane) (t0 u0 :
             })
 
         abbrev sends_b : PlainSegment → PathState Carried
-        sends_b segment = sent_on values B segment (record (with_told segment p.b) { tcp = after_sending to_send.Fin p.clock (after_finishing p.b.tcp) }) ds (with_agenda (duties.Send (send_duties.Fin B) ∷ ds) p)
+        sends_b segment = sent_on values B segment (record (with_told segment p.b) { tcp = after_sending Occasion.Fin p.clock (after_finishing p.b.tcp) }) ds (with_agenda (Duty.Send (SendDuty.Fin B) ∷ ds) p)
 
-        pub fin_b : is_fin_due p.b ≡ true → Relation (with_agenda (duties.Send (send_duties.Fin B) ∷ ds) p)
-            → Relation (answered_fin values B (with_agenda (duties.Send (send_duties.Fin B) ∷ ds) p))
+        pub fin_b : is_fin_due p.b ≡ true → Relation (with_agenda (Duty.Send (SendDuty.Fin B) ∷ ds) p)
+            → Relation (answered_fin values B (with_agenda (Duty.Send (SendDuty.Fin B) ∷ ds) p))
         fin_b due h =
             let t = h.treats in
-            let view = from_a keys k j s v a b books (with_agenda (duties.Send (send_duties.Fin B) ∷ ds) p) h.faces in
-            let window = asked_before B (duties.Send (send_duties.Fin B)) (differ refl) ds view.stage_back.window view.stages_back.window t.4.0 in
-            let ask = asks_no_more B (duties.Send (send_duties.Fin B)) (differ refl) (differ refl) ds p.b.treated.asked view.stage_back.ask t.4.0 t.5 view.stages_back.ask in
+            let view = from_a keys k j s v a b books (with_agenda (Duty.Send (SendDuty.Fin B) ∷ ds) p) h.faces in
+            let window = asked_before B (Duty.Send (SendDuty.Fin B)) (differ refl) ds view.stage_back.window view.stages_back.window t.4.0 in
+            let ask = asks_no_more B (Duty.Send (SendDuty.Fin B)) (differ refl) (differ refl) ds p.b.treated.asked view.stage_back.ask t.4.0 t.5 view.stages_back.ask in
             let x = finishing plan.delay u0 t0 j_is k_is going_back going view in
             let segment = said p.profile keys B x in
             let carried = carried_by p.profile.spelling B segment in

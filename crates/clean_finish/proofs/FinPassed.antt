@@ -1,42 +1,22 @@
 -- The receive edge moves over the FIN of the peer.
-use Rattle.std.proofs.Common.{◌≡◌, refl, sym, subst, ap, ◌∙◌, ℕ, ◌+◌, ◌-◌, ◌<◌, ◌≤◌, min, max, Bool, true, false, ◌⊎◌, inl, inr, Option, List, ◌∷◌, ◌++◌, length, arith}
-use Rattle.std.proofs.lemmas.Bool.{both_ways}
-use Rattle.sides.specs.declared.side.Side.{Side}
-use Rattle.sides.specs.declared.side.Side.TheVariants.{B}
-use Rattle.sides.specs.Side.{peer}
-use Rattle.subflow_recv.specs.Receiving.{after_pass}
-use Rattle.subflow_tcp.specs.declared.handshake.State.{State}
-use Rattle.subflow_tcp.specs.declared.handshake.State.TheVariants as states
-use Rattle.subflow_tcp.specs.States.{after_fin_passed}
-use Rattle.path_agenda.specs.declared.duty.Duty.{Duty}
-use Rattle.path_agenda.specs.declared.duty.Duty.TheVariants as duties
-use Rattle.path_agenda.specs.declared.duty.AskDuty.TheVariants as ask_duties
-use Rattle.path_agenda.specs.declared.duty.SendDuty.TheVariants as send_duties
-use Rattle.path_agenda.specs.declared.duty.SilentDuty.TheVariants as silent_duties
-use Rattle.path_agenda.specs.declared.duty.StepDuty.TheVariants as step_duties
-use Rattle.path_core.specs.End.{PathEnd}
-use Rattle.path_core.specs.Profile.{Profile}
-use Rattle.pace.specs.Lane.{Setting, Lane}
-use Rattle.clean_finish.specs.Books.{ReceiverIs}
-use Rattle.clean_finish.specs.Reading.{ReaderShows, ReaderIs, end_known}
-use Rattle.clean_finish.specs.Segments.{Sent, Keys, Brings, CountsAs, Follow, is_opening, octets_of, data_fin_of}
-use Rattle.clean_finish.specs.Segments.Brings.{EndsSubflow}
-use Rattle.clean_finish.specs.Shows.{Hand, brings_in, EndIs, HeardIs, IsOpen, IsToldEdge, last_told, row_seen}
-use Rattle.clean_finish.specs.Shows.IsPhase.{Open}
-use Rattle.clean_finish.specs.Shows.IsToldEdge.{Same, Before}
-use Rattle.clean_finish.specs.Running.{Has, Half, Facing}
+use Rattle.clean_finish.proofs.Words.{◌≡◌, refl, sym, subst, ap, ◌∙◌, ℕ, ◌+◌, ◌-◌, ◌<◌, ◌≤◌, min, max, Bool, true, false, ◌⊎◌, inl, inr, Option, List, ◌∷◌}
+use Rattle.clean_finish.proofs.Words.{◌++◌, length, arith, both_ways, Side, B, peer, after_pass, State, after_fin_passed, Duty, SendDuty, StepDuty, AskDuty}
+use Rattle.clean_finish.proofs.Words.{SilentDuty, Profile, PathEnd, Setting, Lane, Hand, EndIs, HeardIs, last_told, row_seen, brings_in, IsOpen, IsToldEdge}
+use Rattle.clean_finish.proofs.Words.{Sent, Keys, Brings, octets_of, CountsAs, Follow, data_fin_of, EndsSubflow, Same, Before, Facing, Half, Has, end_known}
+use Rattle.clean_finish.proofs.Words.{ReaderIs, ReaderShows, Open, ReceiverIs}
+use Rattle.clean_finish.specs.Segments.{is_opening}
 use Rattle.clean_finish.proofs.Brought.{back_after, brought, end_after}
 use Rattle.clean_finish.proofs.Hands.{in_hand}
 
 -- both SYNs stay acknowledged
 pub open_passed : (finished : Bool) (state : State) → IsOpen finished state → IsOpen finished (after_fin_passed state)
-open_passed finished states.Established is = record { finish = is.finish; closed = refl; half = refl; opening = refl; connected = refl }
-open_passed finished states.FinWait1 is = record { finish = is.finish; closed = refl; half = refl; opening = refl; connected = refl }
-open_passed finished states.FinWait2 is = record { finish = is.finish; closed = refl; half = refl; opening = refl; connected = refl }
+open_passed finished State.Established is = record { finish = is.finish; closed = refl; half = refl; opening = refl; connected = refl }
+open_passed finished State.FinWait1 is = record { finish = is.finish; closed = refl; half = refl; opening = refl; connected = refl }
+open_passed finished State.FinWait2 is = record { finish = is.finish; closed = refl; half = refl; opening = refl; connected = refl }
 open_passed finished _ is = is
 
 module _ {s : Side} {keys : Keys} {k j : Setting} {c : Profile} {begun begun_back : Lane} {m n : Half} {clock until : ℕ} {ds : List Duty}
-    (h : Facing s keys k j c begun begun_back m n clock until (duties.Silent (silent_duties.PassFin s) ∷ ds)) (x : Sent) (hand : h.hand ≡ in_hand x true false)
+    (h : Facing s keys k j c begun begun_back m n clock until (Duty.Silent (SilentDuty.PassFin s) ∷ ds)) (x : Sent) (hand : h.hand ≡ in_hand x true false)
     (brings : x.brings ≡ EndsSubflow)
   where
     pub follow : Follow k.least k.total j.total (peer s) h.back.received h.back.control_came h.back.keys_came (x ∷ h.way_back.sent)
@@ -146,10 +126,7 @@ module _ {s : Side} {keys : Keys} {k j : Setting} {c : Profile} {begun begun_bac
             steady = h.own.subflow.congestion.steady;
             row = subst (λ (o : Option Hand). m.end.tcp.congestion.duplicates ≤ row_seen h.out.sender o) hand h.own.subflow.congestion.row;
           };
-          come = record {
-            edge = edge_is h.own.subflow.come.edge received counts.0 counts.1;
-            window = h.own.subflow.come.window;
-          };
+          come = record { edge = edge_is h.own.subflow.come.edge received counts.0 counts.1; window = h.own.subflow.come.window };
           heard = record { told = heard_on.told; most = heard_on.most; end = heard_on.end; few = heard_on.few; some = heard_on.some };
           quiet = λ off. absurd (both_ways _ off open_now.connected);
           begun = λ is. up (h.own.subflow.begun is) (less_max h.back.control_came x.control);
@@ -257,9 +234,9 @@ module _ {s : Side} {keys : Keys} {k j : Setting} {c : Profile} {begun begun_bac
       pub further : (y : ℕ) → y ≤ y + 1
       further y = omega arith
 
-      module _ (some_sent : 1 ≤ h.out.control_sent) (owes : h.owes ≡ true) (acknowledges : Has (duties.Send (send_duties.Acknowledge s)) ds)
-          (events : Has (duties.Step step_duties.Events) ds)
-          (asks : (h.stage_back.ask ≡ false) ⊎ (Has (duties.Ask (ask_duties.Window s)) ds ⊎ (Has (duties.Ask (ask_duties.AckOut s)) ds × (m.end.treated.asked ≡ true))))
+      module _ (some_sent : 1 ≤ h.out.control_sent) (owes : h.owes ≡ true) (acknowledges : Has (Duty.Send (SendDuty.Acknowledge s)) ds)
+          (events : Has (Duty.Step StepDuty.Events) ds)
+          (asks : (h.stage_back.ask ≡ false) ⊎ (Has (Duty.Ask (AskDuty.Window s)) ds ⊎ (Has (Duty.Ask (AskDuty.AckOut s)) ds × (m.end.treated.asked ≡ true))))
         where
           abbrev pub fin_passed : Facing s keys k j c begun begun_back (record m { end = end_now }) n clock until ds
           fin_passed = brought h refl x false hand (after_pass m.end.tcp.recv) (after_fin_passed m.end.tcp.state) m.end.sending

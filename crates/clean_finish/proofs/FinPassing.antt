@@ -1,25 +1,9 @@
 -- The steps in which the receive edge moves over the peer's FIN, or stays.
-use Rattle.std.proofs.Common.{◌≡◌, refl, sym, subst, ap, ◌∙◌, ℕ, ◌+◌, ◌-◌, ◌^◌, ◌<◌, ◌≤◌, min, max, nat_lt, Bool, true, false, if◌then◌else◌, ◌&&◌, ◌⊎◌, inl, inr, ⊎_elim, Option, Some, None, List, [], ◌∷◌, arith}
-use Rattle.std.proofs.lemmas.Bool.{cases_lt, le-ltb, lt-ltb, eq-eqb, ne_eqb}
-use Rattle.sides.specs.declared.side.Side.TheVariants.{A, B}
-use Rattle.subflow_tcp.specs.Closing.{is_fin_next, after_passing_fin}
-use Rattle.subflow_tcp.specs.Judging.{is_at}
-use Rattle.subflow_tcp.specs.State.{EndState}
-use Rattle.actor_desk.specs.Desk.{SixBooks}
-use Rattle.stream_apps.specs.Apps.{AppState}
-use Rattle.path_agenda.specs.declared.duty.Duty.{Duty}
-use Rattle.path_agenda.specs.declared.duty.Duty.TheVariants as duties
-use Rattle.path_agenda.specs.declared.duty.AskDuty.TheVariants as ask_duties
-use Rattle.path_agenda.specs.declared.duty.SilentDuty.TheVariants as silent_duties
-use Rattle.path_core.specs.DataFin.{after_pass_fin}
-use Rattle.path_core.specs.State.{PathState, with_agenda, with_end}
-use Rattle.path_core.specs.Values.{Carried}
-use Rattle.world_laws.specs.Openings.{PathPlan, Start}
-use Rattle.pace.specs.Lane.{Setting, Lane, Receiver, all_left}
-use Rattle.pace.specs.Going.{Going}
-use Rattle.clean_finish.specs.Segments.{Keys}
-use Rattle.clean_finish.specs.Shows.{IsIdle, HasCome}
-use Rattle.clean_finish.specs.Running.{TreatsLast, TreatsFin, last_duties, own_bench, other_bench, IsSetting, Runs, keys_in}
+use Rattle.clean_finish.proofs.Words.{◌≡◌, refl, sym, subst, ap, ◌∙◌, ℕ, ◌+◌, ◌-◌, ◌<◌, ◌≤◌, min, max, nat_lt, Bool, true, false, ◌&&◌, if◌then◌else◌, ◌⊎◌, inl}
+use Rattle.clean_finish.proofs.Words.{inr, ⊎_elim, Option, None, List, ◌∷◌, arith, Some, ◌^◌, cases_lt, lt-ltb, le-ltb, eq-eqb, ne_eqb, A, B, EndState, is_at}
+use Rattle.clean_finish.proofs.Words.{is_fin_next, after_passing_fin, Duty, AskDuty, SilentDuty, SixBooks, AppState, Carried, after_pass_fin, PathState}
+use Rattle.clean_finish.proofs.Words.{with_agenda, with_end, Setting, Lane, all_left, Receiver, Going, PathPlan, Start, IsIdle, HasCome, Keys, own_bench}
+use Rattle.clean_finish.proofs.Words.{other_bench, IsSetting, Runs, keys_in, TreatsLast, TreatsFin, last_duties}
 use Rattle.clean_finish.proofs.Dropping.{apart, behind}
 use Rattle.clean_finish.proofs.FinPassed.{counts, fin_passed, received}
 use Rattle.clean_finish.proofs.Passing.{free_drops}
@@ -72,35 +56,35 @@ module _ (start : Start) (plan : PathPlan) (k j : Setting) (s v : Lane) (t0 u0 :
 
         -- ---- at A
 
-        passes_sub_a : Relation (with_agenda (duties.Ask (ask_duties.SubflowFin A) ∷ last_duties A) p) → Relation (with_agenda (last_duties A) p)
+        passes_sub_a : Relation (with_agenda (Duty.Ask (AskDuty.SubflowFin A) ∷ last_duties A) p) → Relation (with_agenda (last_duties A) p)
         passes_sub_a h =
             let t = h.treats in
             record {
               path = h.path;
               link = h.link;
-              faces = free_drops (duties.Ask (ask_duties.SubflowFin A)) (last_duties A) refl h.faces;
+              faces = free_drops (Duty.Ask (AskDuty.SubflowFin A)) (last_duties A) refl h.faces;
               treats = (t.0, t.1, t.2, refl);
             }
 
-        pub passes_subflow_fin_a : (ds : List Duty) → Relation (with_agenda (duties.Ask (ask_duties.SubflowFin A) ∷ ds) p) → Relation (with_agenda ds p)
+        pub passes_subflow_fin_a : (ds : List Duty) → Relation (with_agenda (Duty.Ask (AskDuty.SubflowFin A) ∷ ds) p) → Relation (with_agenda ds p)
         passes_subflow_fin_a ds h =
             subst (λ (es : List Duty). Relation (with_agenda es p)) (sym h.treats.3)
-            (passes_sub_a (subst (λ (es : List Duty). Relation (with_agenda (duties.Ask (ask_duties.SubflowFin A) ∷ es) p)) h.treats.3 h))
+            (passes_sub_a (subst (λ (es : List Duty). Relation (with_agenda (Duty.Ask (AskDuty.SubflowFin A) ∷ es) p)) h.treats.3 h))
 
         abbrev passed_a : Bool → PathState Carried
-        passed_a next = with_agenda (duties.Ask (ask_duties.SubflowFin A) ∷ last_duties A) (with_end A (record p.a { tcp = (if next then after_passing_fin p.a.tcp else p.a.tcp) }) p)
+        passed_a next = with_agenda (Duty.Ask (AskDuty.SubflowFin A) ∷ last_duties A) (with_end A (record p.a { tcp = (if next then after_passing_fin p.a.tcp else p.a.tcp) }) p)
 
-        stays_a : (h : Relation (with_agenda (duties.Silent (silent_duties.PassFin A) ∷ duties.Ask (ask_duties.SubflowFin A) ∷ last_duties A) p)) → TreatsLast A (own_bench h.faces) → Relation (passed_a false)
+        stays_a : (h : Relation (with_agenda (Duty.Silent (SilentDuty.PassFin A) ∷ Duty.Ask (AskDuty.SubflowFin A) ∷ last_duties A) p)) → TreatsLast A (own_bench h.faces) → Relation (passed_a false)
         stays_a h last =
             let t = h.treats in
             record {
               path = h.path;
               link = h.link;
-              faces = free_drops (duties.Silent (silent_duties.PassFin A)) (duties.Ask (ask_duties.SubflowFin A) ∷ last_duties A) refl h.faces;
+              faces = free_drops (Duty.Silent (SilentDuty.PassFin A)) (Duty.Ask (AskDuty.SubflowFin A) ∷ last_duties A) refl h.faces;
               treats = (last, t.1, t.2, refl);
             }
 
-        moves_a : (h : Relation (with_agenda (duties.Silent (silent_duties.PassFin A) ∷ duties.Ask (ask_duties.SubflowFin A) ∷ last_duties A) p)) → TreatsFin A (own_bench h.faces) → Relation (passed_a true)
+        moves_a : (h : Relation (with_agenda (Duty.Silent (SilentDuty.PassFin A) ∷ Duty.Ask (AskDuty.SubflowFin A) ∷ last_duties A) p)) → TreatsFin A (own_bench h.faces) → Relation (passed_a true)
         moves_a h f =
             let t = h.treats in
             let view = h.faces in
@@ -110,7 +94,7 @@ module _ (start : Start) (plan : PathPlan) (k j : Setting) (s v : Lane) (t0 u0 :
             let some = sent_some came f.answered in
             let faces = fin_passed view f.sent f.hand f.brings up.0 came f.clear up.1 some f.owes
             (inr (inr (inr (inl refl)))) (inr (inr (inr (inr (inr (emission_emits A).events)))))
-            (⊎_elim (λ none. inl none) (λ there. inr (⊎_elim (λ i. inl (behind (duties.Ask (ask_duties.SubflowFin A) ∷ last_duties A) (apart refl refl) i)) (λ i. inr (behind (duties.Ask (ask_duties.SubflowFin A) ∷ last_duties A) (apart refl refl) i.0, i.1)) there)) view.stages_back.ask) in
+            (⊎_elim (λ none. inl none) (λ there. inr (⊎_elim (λ i. inl (behind (Duty.Ask (AskDuty.SubflowFin A) ∷ last_duties A) (apart refl refl) i)) (λ i. inr (behind (Duty.Ask (AskDuty.SubflowFin A) ∷ last_duties A) (apart refl refl) i.0, i.1)) there)) view.stages_back.ask) in
             record {
               path = record {
                 profile = h.path.profile;
@@ -171,7 +155,7 @@ module _ (start : Start) (plan : PathPlan) (k j : Setting) (s v : Lane) (t0 u0 :
                 less : {d b : ℕ} → d ≡ 1 → b ≡ 2 → 1 < max d b
                 less p q = omega (arith, p, q)
 
-        passes_a : Relation (with_agenda (duties.Silent (silent_duties.PassFin A) ∷ duties.Ask (ask_duties.SubflowFin A) ∷ last_duties A) p) → Relation (with_agenda (duties.Ask (ask_duties.SubflowFin A) ∷ last_duties A) (with_end A (after_pass_fin p.a) p))
+        passes_a : Relation (with_agenda (Duty.Silent (SilentDuty.PassFin A) ∷ Duty.Ask (AskDuty.SubflowFin A) ∷ last_duties A) p) → Relation (with_agenda (Duty.Ask (AskDuty.SubflowFin A) ∷ last_duties A) (with_end A (after_pass_fin p.a) p))
         passes_a h =
             let view = h.faces in
             ⊎_elim
@@ -184,53 +168,53 @@ module _ (start : Start) (plan : PathPlan) (k j : Setting) (s v : Lane) (t0 u0 :
             few : {e r d g w total : ℕ} → e ≡ 1 + r + (d - 1) → r ≤ g → g ≤ w → w ≤ total → total ≤ 16777216 → d ≡ 1 → e < 2 ^ 62
             few at p q r z is = omega (arith, at, p, q, r, z, is)
 
-        pub passes_pass_fin_a : (ds : List Duty) → Relation (with_agenda (duties.Silent (silent_duties.PassFin A) ∷ ds) p)
+        pub passes_pass_fin_a : (ds : List Duty) → Relation (with_agenda (Duty.Silent (SilentDuty.PassFin A) ∷ ds) p)
             → Relation (with_agenda ds (with_end A (after_pass_fin p.a) p))
         passes_pass_fin_a ds h =
             subst (λ (es : List Duty). Relation (with_agenda es (with_end A (after_pass_fin p.a) p))) (sym h.treats.3)
-            (passes_a (subst (λ (es : List Duty). Relation (with_agenda (duties.Silent (silent_duties.PassFin A) ∷ es) p)) h.treats.3 h))
+            (passes_a (subst (λ (es : List Duty). Relation (with_agenda (Duty.Silent (SilentDuty.PassFin A) ∷ es) p)) h.treats.3 h))
 
         -- ---- at B
 
-        passes_sub_b : Relation (with_agenda (duties.Ask (ask_duties.SubflowFin B) ∷ last_duties B) p) → Relation (with_agenda (last_duties B) p)
+        passes_sub_b : Relation (with_agenda (Duty.Ask (AskDuty.SubflowFin B) ∷ last_duties B) p) → Relation (with_agenda (last_duties B) p)
         passes_sub_b h =
             let t = h.treats in
             record {
               path = h.path;
               link = h.link;
-              faces = free_drops (duties.Ask (ask_duties.SubflowFin B)) (last_duties B) refl h.faces;
+              faces = free_drops (Duty.Ask (AskDuty.SubflowFin B)) (last_duties B) refl h.faces;
               treats = (t.0, t.1, t.2, refl);
             }
 
-        pub passes_subflow_fin_b : (ds : List Duty) → Relation (with_agenda (duties.Ask (ask_duties.SubflowFin B) ∷ ds) p) → Relation (with_agenda ds p)
+        pub passes_subflow_fin_b : (ds : List Duty) → Relation (with_agenda (Duty.Ask (AskDuty.SubflowFin B) ∷ ds) p) → Relation (with_agenda ds p)
         passes_subflow_fin_b ds h =
             subst (λ (es : List Duty). Relation (with_agenda es p)) (sym h.treats.3)
-            (passes_sub_b (subst (λ (es : List Duty). Relation (with_agenda (duties.Ask (ask_duties.SubflowFin B) ∷ es) p)) h.treats.3 h))
+            (passes_sub_b (subst (λ (es : List Duty). Relation (with_agenda (Duty.Ask (AskDuty.SubflowFin B) ∷ es) p)) h.treats.3 h))
 
         abbrev passed_b : Bool → PathState Carried
-        passed_b next = with_agenda (duties.Ask (ask_duties.SubflowFin B) ∷ last_duties B) (with_end B (record p.b { tcp = (if next then after_passing_fin p.b.tcp else p.b.tcp) }) p)
+        passed_b next = with_agenda (Duty.Ask (AskDuty.SubflowFin B) ∷ last_duties B) (with_end B (record p.b { tcp = (if next then after_passing_fin p.b.tcp else p.b.tcp) }) p)
 
-        stays_b : (h : Relation (with_agenda (duties.Silent (silent_duties.PassFin B) ∷ duties.Ask (ask_duties.SubflowFin B) ∷ last_duties B) p)) → TreatsLast B (other_bench h.faces) → Relation (passed_b false)
+        stays_b : (h : Relation (with_agenda (Duty.Silent (SilentDuty.PassFin B) ∷ Duty.Ask (AskDuty.SubflowFin B) ∷ last_duties B) p)) → TreatsLast B (other_bench h.faces) → Relation (passed_b false)
         stays_b h last =
             let t = h.treats in
             record {
               path = h.path;
               link = h.link;
-              faces = free_drops (duties.Silent (silent_duties.PassFin B)) (duties.Ask (ask_duties.SubflowFin B) ∷ last_duties B) refl h.faces;
+              faces = free_drops (Duty.Silent (SilentDuty.PassFin B)) (Duty.Ask (AskDuty.SubflowFin B) ∷ last_duties B) refl h.faces;
               treats = (last, t.1, t.2, refl);
             }
 
-        moves_b : (h : Relation (with_agenda (duties.Silent (silent_duties.PassFin B) ∷ duties.Ask (ask_duties.SubflowFin B) ∷ last_duties B) p)) → TreatsFin B (other_bench h.faces) → Relation (passed_b true)
+        moves_b : (h : Relation (with_agenda (Duty.Silent (SilentDuty.PassFin B) ∷ Duty.Ask (AskDuty.SubflowFin B) ∷ last_duties B) p)) → TreatsFin B (other_bench h.faces) → Relation (passed_b true)
         moves_b h f =
             let t = h.treats in
-            let view = from_a keys k j s v a b books (with_agenda (duties.Silent (silent_duties.PassFin B) ∷ duties.Ask (ask_duties.SubflowFin B) ∷ last_duties B) p) h.faces in
+            let view = from_a keys k j s v a b books (with_agenda (Duty.Silent (SilentDuty.PassFin B) ∷ Duty.Ask (AskDuty.SubflowFin B) ∷ last_duties B) p) h.faces in
             let up = open_when_ready plan.delay u0 t0 j_is k_is going_back going view (some_of f.clear view.own.modes.cleared) in
             let come = counts view f.sent f.hand f.brings in
             let came = one come.0 in
             let some = sent_some came f.answered in
             let faces = from_b keys k j s v a b books (passed_b true) (fin_passed view f.sent f.hand f.brings up.0 came f.clear up.1 some f.owes
             (inr (inr (inr (inl refl)))) (inr (inr (inr (inr (inr (emission_emits B).events)))))
-            (⊎_elim (λ none. inl none) (λ there. inr (⊎_elim (λ i. inl (behind (duties.Ask (ask_duties.SubflowFin B) ∷ last_duties B) (apart refl refl) i)) (λ i. inr (behind (duties.Ask (ask_duties.SubflowFin B) ∷ last_duties B) (apart refl refl) i.0, i.1)) there)) view.stages_back.ask)) in
+            (⊎_elim (λ none. inl none) (λ there. inr (⊎_elim (λ i. inl (behind (Duty.Ask (AskDuty.SubflowFin B) ∷ last_duties B) (apart refl refl) i)) (λ i. inr (behind (Duty.Ask (AskDuty.SubflowFin B) ∷ last_duties B) (apart refl refl) i.0, i.1)) there)) view.stages_back.ask)) in
             record {
               path = record {
                 profile = h.path.profile;
@@ -291,9 +275,9 @@ module _ (start : Start) (plan : PathPlan) (k j : Setting) (s v : Lane) (t0 u0 :
                 less : {d b : ℕ} → d ≡ 1 → b ≡ 2 → 1 < max d b
                 less p q = omega (arith, p, q)
 
-        passes_b : Relation (with_agenda (duties.Silent (silent_duties.PassFin B) ∷ duties.Ask (ask_duties.SubflowFin B) ∷ last_duties B) p) → Relation (with_agenda (duties.Ask (ask_duties.SubflowFin B) ∷ last_duties B) (with_end B (after_pass_fin p.b) p))
+        passes_b : Relation (with_agenda (Duty.Silent (SilentDuty.PassFin B) ∷ Duty.Ask (AskDuty.SubflowFin B) ∷ last_duties B) p) → Relation (with_agenda (Duty.Ask (AskDuty.SubflowFin B) ∷ last_duties B) (with_end B (after_pass_fin p.b) p))
         passes_b h =
-            let view = from_a keys k j s v a b books (with_agenda (duties.Silent (silent_duties.PassFin B) ∷ duties.Ask (ask_duties.SubflowFin B) ∷ last_duties B) p) h.faces in
+            let view = from_a keys k j s v a b books (with_agenda (Duty.Silent (SilentDuty.PassFin B) ∷ Duty.Ask (AskDuty.SubflowFin B) ∷ last_duties B) p) h.faces in
             ⊎_elim
             (λ last. subst (λ (y : Bool). Relation (passed_b y)) (sym (not_there view.back.receiver p.b.tcp view.own.subflow.come last.idle)) (stays_b h last))
             (λ f. subst (λ (y : Bool). Relation (passed_b y))
@@ -304,8 +288,8 @@ module _ (start : Start) (plan : PathPlan) (k j : Setting) (s v : Lane) (t0 u0 :
             few : {e r d g w total : ℕ} → e ≡ 1 + r + (d - 1) → r ≤ g → g ≤ w → w ≤ total → total ≤ 16777216 → d ≡ 1 → e < 2 ^ 62
             few at p q r z is = omega (arith, at, p, q, r, z, is)
 
-        pub passes_pass_fin_b : (ds : List Duty) → Relation (with_agenda (duties.Silent (silent_duties.PassFin B) ∷ ds) p)
+        pub passes_pass_fin_b : (ds : List Duty) → Relation (with_agenda (Duty.Silent (SilentDuty.PassFin B) ∷ ds) p)
             → Relation (with_agenda ds (with_end B (after_pass_fin p.b) p))
         passes_pass_fin_b ds h =
             subst (λ (es : List Duty). Relation (with_agenda es (with_end B (after_pass_fin p.b) p))) (sym h.treats.3)
-            (passes_b (subst (λ (es : List Duty). Relation (with_agenda (duties.Silent (silent_duties.PassFin B) ∷ es) p)) h.treats.3 h))
+            (passes_b (subst (λ (es : List Duty). Relation (with_agenda (Duty.Silent (SilentDuty.PassFin B) ∷ es) p)) h.treats.3 h))

@@ -1,20 +1,11 @@
 -- The records of an end that sends its FIN.
-use Rattle.std.proofs.Common.{◌≡◌, refl, sym, subst, ap, ◌∙◌, ℕ, ◌+◌, ◌-◌, ◌≤◌, nat_lt, Bool, true, false, if◌then◌else◌, List, [], ◌∷◌, ◌++◌, All, map, arith}
-use Rattle.std.proofs.lemmas.Bool.{both_ways}
-use Rattle.std.proofs.lemmas.List.{append-nil}
-use Rattle.std.proofs.lemmas.List.Elements.{All-nil, All-cons, All-head, All-tail}
-use Rattle.subflow_send.specs.Records.{Record, SendState, Tile, span_of}
-use Rattle.subflow_send.specs.Rules.{is_unsent, is_fin, fin_record, fin_sent, after_finish, after_fin_sent}
-use Rattle.subflow_send.specs.Sendings.{never_sent, sent_again}
+use Rattle.clean_finish.proofs.Words.{◌≡◌, refl, sym, subst, ap, ◌∙◌, ℕ, ◌+◌, ◌-◌, ◌≤◌, nat_lt, Bool, true, false, if◌then◌else◌, List, [], ◌∷◌, ◌++◌, map, All}
+use Rattle.clean_finish.proofs.Words.{arith, both_ways, append-nil, All-nil, All-cons, All-head, All-tail, Record, SendState, Tile, span_of, is_unsent, is_fin}
+use Rattle.clean_finish.proofs.Words.{fin_record, fin_sent, after_fin_sent, never_sent, sent_again, State, EndState, Setting, Sender, IsPiece, RecordsAre}
+use Rattle.clean_finish.proofs.Words.{IsOpen, WaitsNone}
+use Rattle.subflow_send.specs.Rules.{after_finish}
 use Rattle.subflow_send.proofs.Whole.{Tile-push}
-use Rattle.subflow_tcp.specs.State.{EndState}
-use Rattle.subflow_tcp.specs.declared.handshake.State.{State}
-use Rattle.subflow_tcp.specs.declared.handshake.State.TheVariants as states
 use Rattle.subflow_tcp.specs.States as phases
-use Rattle.pace.specs.Lane.{Setting, Sender}
-use Rattle.clean_finish.specs.Machine.{IsPiece}
-use Rattle.clean_finish.specs.Shows.{IsOpen, RecordsAre}
-use Rattle.clean_finish.specs.Shows.Waits.{WaitsNone}
 use Rattle.clean_finish.proofs.AckNew.{records_sent}
 
 -- ---- each record
@@ -96,6 +87,6 @@ fin_pushed k out later waiting now tcp after h none one is granted control = rec
 -- ---- the state
 
 pub open_finished : (state : State) → phases.may_finish state ≡ true → IsOpen true (phases.after_finish state)
-open_finished states.Established e = record { finish = refl; closed = refl; half = refl; opening = refl; connected = refl }
-open_finished states.CloseWait e = record { finish = refl; closed = refl; half = refl; opening = refl; connected = refl }
+open_finished State.Established e = record { finish = refl; closed = refl; half = refl; opening = refl; connected = refl }
+open_finished State.CloseWait e = record { finish = refl; closed = refl; half = refl; opening = refl; connected = refl }
 open_finished _ e = absurd (both_ways _ refl e)

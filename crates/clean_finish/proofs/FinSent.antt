@@ -1,31 +1,9 @@
 -- An end sends its FIN, once its DATA_FIN is acknowledged and the peer's came.
-use Rattle.std.proofs.Common.{◌≡◌, refl, sym, subst, ap, ◌∙◌, ℕ, ◌+◌, ◌-◌, ◌<◌, ◌≤◌, min, max, Bool, true, false, not, if◌then◌else◌, ◌&&◌, ⊎_elim, Option, None, List, [], ◌∷◌, ◌++◌, le_refl, arith}
-use Rattle.std.proofs.lemmas.Bool.{both_ways, and_parts, ltb-true, ltb-false}
-use Rattle.sides.specs.declared.side.Side.{Side}
-use Rattle.sides.specs.declared.side.Side.TheVariants.{A}
-use Rattle.sides.specs.Side.{peer}
-use Rattle.link_model.specs.declared.flight.Flight.{Flight}
-use Rattle.subflow_tcp.specs.States.{may_finish}
-use Rattle.path_agenda.specs.declared.duty.Duty.{Duty}
-use Rattle.path_agenda.specs.declared.duty.Duty.TheVariants as duties
-use Rattle.path_agenda.specs.declared.duty.SendDuty.TheVariants as send_duties
-use Rattle.path_agenda.specs.declared.duty.StepDuty.TheVariants as step_duties
-use Rattle.path_core.specs.End.{PathEnd}
-use Rattle.path_core.specs.Modes.{sends_plainly}
-use Rattle.path_core.specs.OptionsOut.{fin_said}
-use Rattle.path_core.specs.DataFin.{is_all_granted, is_fin_due}
-use Rattle.path_core.specs.Profile.{Profile}
-use Rattle.path_core.specs.Values.{Carried}
-use Rattle.actor_desk.specs.Words.{pick}
-use Rattle.pace.specs.Lane.{Setting, Lane, all_left}
-use Rattle.pace.specs.Going.{Going, pending}
-use Rattle.pace.specs.Moves.{MaySay, MaySend}
-use Rattle.pace.specs.Moves.Move.{sends_none}
-use Rattle.clean_finish.specs.Segments.{Sent, Keys, copy_in, said, FliesAs}
-use Rattle.clean_finish.specs.Segments.Brings.{EndsSubflow}
-use Rattle.clean_finish.specs.Shows.{Hand, brings_still, HeardIs, IsMapping, IsOpen, last_told, row_seen}
-use Rattle.clean_finish.specs.Shows.IsToldEdge.{Same}
-use Rattle.clean_finish.specs.Running.{Has, Half, Facing, IsSetting}
+use Rattle.clean_finish.proofs.Words.{◌≡◌, refl, sym, subst, ap, ◌∙◌, ℕ, ◌+◌, ◌-◌, ◌<◌, ◌≤◌, min, max, Bool, true, false, not, ◌&&◌, if◌then◌else◌, ⊎_elim}
+use Rattle.clean_finish.proofs.Words.{Option, None, List, [], ◌∷◌, ◌++◌, arith, le_refl, both_ways, and_parts, ltb-false, ltb-true, Side, A, peer, may_finish}
+use Rattle.clean_finish.proofs.Words.{Flight, Duty, SendDuty, StepDuty, pick, Profile, Carried, PathEnd, is_fin_due, is_all_granted, fin_said, sends_plainly}
+use Rattle.clean_finish.proofs.Words.{Setting, Lane, all_left, Going, pending, MaySay, MaySend, sends_none, Hand, HeardIs, last_told, row_seen, brings_still}
+use Rattle.clean_finish.proofs.Words.{IsOpen, IsMapping, Sent, Keys, copy_in, said, FliesAs, EndsSubflow, Same, IsSetting, Facing, Half, Has}
 use Rattle.clean_finish.proofs.Dropping.{is_apart, stage_drops, settles_drop, begun_drops, apart}
 use Rattle.clean_finish.proofs.EndSent.{finishes_open, ended_stays}
 use Rattle.clean_finish.proofs.FinPushed.{open_finished}
@@ -52,7 +30,7 @@ is_not true e = absurd (both_ways _ refl e)
 module _ {s : Side} {keys : Keys} {k j : Setting} {c : Profile} {begun begun_back : Lane} {m n : Half} {clock until : ℕ} (ticks t u : ℕ)
     (k_is : IsSetting c ticks k) (j_is : IsSetting c ticks j)
     (going : Going k begun t all_left begun) (going_back : Going j begun_back u all_left begun_back)
-    {ds : List Duty} (h : Facing s keys k j c begun begun_back m n clock until (duties.Send (send_duties.Fin s) ∷ ds))
+    {ds : List Duty} (h : Facing s keys k j c begun begun_back m n clock until (Duty.Send (SendDuty.Fin s) ∷ ds))
   where
     abbrev pub finishing : Sent
     finishing = record {
@@ -190,7 +168,7 @@ module _ {s : Side} {keys : Keys} {k j : Setting} {c : Profile} {begun begun_bac
             up : {a b d : ℕ} → 1 ≤ a → min 1 a ≤ b → b ≤ d → 1 ≤ d
             up p q r = omega (arith, p, q, r)
 
-        module _ (events : Has (duties.Step step_duties.Events) ds) (fs gs : List (Flight Carried)) (f : Flight Carried) (flies : FliesAs c keys s f finishing)
+        module _ (events : Has (Duty.Step StepDuty.Events) ds) (fs gs : List (Flight Carried)) (f : Flight Carried) (flies : FliesAs c keys s f finishing)
             (more : fs ≡ m.flying ++ f ∷ []) (same : gs ≡ n.flying)
           where
             abbrev pub fin_goes : Facing s keys k j c begun begun_back (record m { end = end_after h finishing h.out.shut; flying = fs })
@@ -207,11 +185,11 @@ module _ {s : Side} {keys : Keys} {k j : Setting} {c : Profile} {begun begun_bac
                 (le_refl m.end.tcp.recv.edge) (le_refl m.end.tcp.recv.edge) two_sent (sym same_keys)
                 (way_none c keys k j (peer s) h.back.sender h.back.receiver h.back.datas h.out.acks m.end.tcp.send.una n.end.tcp.recv.edge h.hand none n.flying h.way_back)
                 (room (lane ticks t u k_is j_is going going_back h).numbers.granted) (same_bytes h.out.granted nothing_waits) events
-                (stage_drops s (peer s) (duties.Send (send_duties.Fin s)) ds n.end.treated.asked h.owes_back h.stage (is_apart s (peer s) (duties.Send (send_duties.Fin s)) refl) h.stages)
+                (stage_drops s (peer s) (Duty.Send (SendDuty.Fin s)) ds n.end.treated.asked h.owes_back h.stage (is_apart s (peer s) (Duty.Send (SendDuty.Fin s)) refl) h.stages)
                 (ended_stays (peer s) s events
-                (stage_drops (peer s) s (duties.Send (send_duties.Fin s)) ds m.end.treated.asked h.owes h.stage_back (is_apart (peer s) s (duties.Send (send_duties.Fin s)) refl) h.stages_back))
-                (settles_drop s (duties.Send (send_duties.Fin s)) ds (end_after h finishing h.out.shut) (apart refl refl) h.settles)
-                (settles_drop (peer s) (duties.Send (send_duties.Fin s)) ds n.end (apart refl refl) h.settles_back)
+                (stage_drops (peer s) s (Duty.Send (SendDuty.Fin s)) ds m.end.treated.asked h.owes h.stage_back (is_apart (peer s) s (Duty.Send (SendDuty.Fin s)) refl) h.stages_back))
+                (settles_drop s (Duty.Send (SendDuty.Fin s)) ds (end_after h finishing h.out.shut) (apart refl refl) h.settles)
+                (settles_drop (peer s) (Duty.Send (SendDuty.Fin s)) ds n.end (apart refl refl) h.settles_back)
                 (some h.out.control_sent)
-                (begun_drops (peer s) k h.back.sender h.out.receiver n.end (duties.Send (send_duties.Fin s)) ds (apart refl refl) (λ is. apart refl refl) h.begins_back)
+                (begun_drops (peer s) k h.back.sender h.out.receiver n.end (Duty.Send (SendDuty.Fin s)) ds (apart refl refl) (λ is. apart refl refl) h.begins_back)
                 (λ e b. absurd (both_ways false refl e))

@@ -1,28 +1,10 @@
 -- The peer's DATA_FIN is told to the reassembly book.
-use Rattle.std.proofs.Common.{◌≡◌, refl, sym, subst, ap, ◌∙◌, ℕ, suc, ◌+◌, ◌<◌, ◌≤◌, max, Bool, true, false, if◌then◌else◌, is_some, inl, inr, Option, Some, None, List, [], ◌∷◌, ◌++◌, length, map, arith}
-use Rattle.std.proofs.lemmas.Bool.{both_ways, le-ltb}
-use Rattle.sides.specs.declared.side.Side.{Side}
-use Rattle.sides.specs.declared.side.Side.TheVariants.{B}
-use Rattle.reassembly_book.specs.State.{Arriving, filled, top}
-use Rattle.reassembly_book.specs.Steps.{fin_clash, after_fin}
-use Rattle.path_agenda.specs.declared.duty.Duty.{Duty}
-use Rattle.path_agenda.specs.declared.duty.Duty.TheVariants as duties
-use Rattle.path_agenda.specs.declared.duty.AskDuty.TheVariants as ask_duties
-use Rattle.path_agenda.specs.declared.duty.SendDuty.TheVariants as send_duties
-use Rattle.path_agenda.specs.declared.duty.StepDuty.TheVariants as step_duties
-use Rattle.path_core.specs.End.{PathEnd}
-use Rattle.path_core.specs.Deliver.{having_asked}
-use Rattle.path_core.specs.DataFin.{with_peer_data_fin}
-use Rattle.path_core.specs.Profile.{Profile}
-use Rattle.pace.specs.Lane.{Setting, Copy, Lane, all_left}
-use Rattle.pace.specs.Lists.{data_fins}
-use Rattle.pace.specs.Going.{Going}
-use Rattle.clean_finish.specs.Books.{ReceiverIs}
-use Rattle.clean_finish.specs.Reading.{ReaderShows, end_known}
-use Rattle.clean_finish.specs.Segments.{Sent, Keys, Brings, copy_in, is_opening, octets_of, data_fin_of, BringsAs, CountsAs}
-use Rattle.clean_finish.specs.Segments.Brings.{EndsStream}
-use Rattle.clean_finish.specs.Shows.{Hand, brings_in, IsOpen}
-use Rattle.clean_finish.specs.Running.{Has, Half, Facing, IsSetting}
+use Rattle.clean_finish.proofs.Words.{◌≡◌, refl, sym, subst, ap, ◌∙◌, ℕ, ◌+◌, ◌<◌, ◌≤◌, max, Bool, true, false, if◌then◌else◌, inl, inr, Option, None, List, []}
+use Rattle.clean_finish.proofs.Words.{◌∷◌, ◌++◌, length, map, arith, Some, suc, is_some, both_ways, le-ltb, Side, B, Arriving, filled, top, fin_clash}
+use Rattle.clean_finish.proofs.Words.{after_fin, Duty, SendDuty, StepDuty, AskDuty, Profile, PathEnd, with_peer_data_fin, having_asked, Setting, Copy, Lane}
+use Rattle.clean_finish.proofs.Words.{all_left, Going, data_fins, Hand, brings_in, IsOpen, Sent, Keys, Brings, BringsAs, copy_in, octets_of, CountsAs}
+use Rattle.clean_finish.proofs.Words.{data_fin_of, EndsStream, IsSetting, Facing, Half, Has, end_known, ReaderShows, ReceiverIs}
+use Rattle.clean_finish.specs.Segments.{is_opening}
 use Rattle.clean_finish.proofs.Brought.{brought}
 use Rattle.clean_finish.proofs.Hands.{in_hand}
 use Rattle.clean_finish.proofs.Quiet.{now_back}
@@ -31,7 +13,7 @@ use Rattle.clean_finish.proofs.TakesIn.{follow, back_now, all_of, own_taken, con
 module _ {s : Side} {keys : Keys} {k j : Setting} {c : Profile} {begun begun_back : Lane} {m n : Half} {clock until : ℕ} (ticks t u : ℕ)
     (k_is : IsSetting c ticks k) (j_is : IsSetting c ticks j)
     (going : Going k begun t all_left begun) (going_back : Going j begun_back u all_left begun_back)
-    {ds : List Duty} (h : Facing s keys k j c begun begun_back m n clock until (duties.Ask (ask_duties.HeardFin s 0) ∷ ds))
+    {ds : List Duty} (h : Facing s keys k j c begun begun_back m n clock until (Duty.Ask (AskDuty.HeardFin s 0) ∷ ds))
     (x : Sent) (hand : h.hand ≡ in_hand x true false) (place : ℕ) (brings : x.brings ≡ EndsStream place)
   where
     pub lane : Going j begun_back u h.stage_back h.back
@@ -122,8 +104,8 @@ module _ {s : Side} {keys : Keys} {k j : Setting} {c : Profile} {begun begun_bac
     whole_after = subst (λ (b : Arriving). b.places ≡ map Some (filled b.places)) (sym arrived_is) h.apps_back.whole
 
     module _ (una : 1 ≤ m.end.tcp.send.una) (is_open : IsOpen m.end.tcp.send.finished m.end.tcp.state) (clear : 1 ≤ h.out.clear) (some_sent : 1 ≤ h.out.control_sent)
-        (owes : h.owes ≡ true) (acknowledges : Has (duties.Send (send_duties.Acknowledge s)) ds) (events : Has (duties.Step step_duties.Events) ds)
-        (asks : Has (duties.Ask (ask_duties.AckOut s)) ds)
+        (owes : h.owes ≡ true) (acknowledges : Has (Duty.Send (SendDuty.Acknowledge s)) ds) (events : Has (Duty.Step StepDuty.Events) ds)
+        (asks : Has (Duty.Ask (AskDuty.AckOut s)) ds)
       where
         abbrev pub end_after : PathEnd
         end_after = having_asked (with_peer_data_fin m.end)

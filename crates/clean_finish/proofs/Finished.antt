@@ -1,5 +1,5 @@
 -- Clean scripts finish, as all duties of a path keep the relation.
-use Rattle.clean_finish.specs.Finish.{CleanScriptsFinish, CleanScriptsGoOn}
+use Rattle.clean_finish.proofs.Words.{CleanScriptsFinish, CleanScriptsGoOn}
 use Rattle.clean_finish.proofs.CleanFinish as clean
 use Rattle.clean_finish.proofs.Dispatch.{duties_go_on}
 

@@ -1,23 +1,9 @@
 -- The end that sends its FIN.
-use Rattle.std.proofs.Common.{◌≡◌, refl, sym, subst, ap, ◌∙◌, ℕ, ◌+◌, ◌<◌, ◌≤◌, min, max, Bool, true, false, None, List, length, arith}
-use Rattle.std.proofs.lemmas.Bool.{both_ways}
-use Rattle.std.proofs.lemmas.List.Elements.{All-weaker}
-use Rattle.sides.specs.declared.side.Side.{Side}
-use Rattle.subflow_tcp.specs.Closing.{after_finishing}
-use Rattle.subflow_tcp.specs.Dues.{nothing_due}
-use Rattle.subflow_tcp.specs.Emitting.{after_sending}
+use Rattle.clean_finish.proofs.Words.{◌≡◌, refl, sym, subst, ap, ◌∙◌, ℕ, ◌+◌, ◌<◌, ◌≤◌, min, max, Bool, true, false, None, List, length, arith, both_ways}
+use Rattle.clean_finish.proofs.Words.{All-weaker, Side, nothing_due, Occasion, after_finishing, after_sending, Duty, pick, Profile, PathEnd, with_told, Setting}
+use Rattle.clean_finish.proofs.Words.{Lane, EndIs, HeardIs, IsGranted, last_told, row_seen, brings_still, IsOpen, IsToldEdge, Sent, Keys, octets_of, said}
+use Rattle.clean_finish.proofs.Words.{data_fin_of, Facing, Half, Open}
 use Rattle.subflow_tcp.specs.States.{after_finish}
-use Rattle.subflow_tcp.specs.declared.segments.Occasion.TheVariants as to_send
-use Rattle.path_agenda.specs.declared.duty.Duty.{Duty}
-use Rattle.path_core.specs.End.{PathEnd}
-use Rattle.path_core.specs.Handover.{with_told}
-use Rattle.path_core.specs.Profile.{Profile}
-use Rattle.actor_desk.specs.Words.{pick}
-use Rattle.pace.specs.Lane.{Setting, Lane}
-use Rattle.clean_finish.specs.Segments.{Sent, Keys, said, data_fin_of, octets_of}
-use Rattle.clean_finish.specs.Shows.{IsOpen, EndIs, HeardIs, IsGranted, IsToldEdge, last_told, row_seen, brings_still}
-use Rattle.clean_finish.specs.Shows.IsPhase.{Open}
-use Rattle.clean_finish.specs.Running.{Half, Facing}
 use Rattle.clean_finish.proofs.FinPushed.{fin_pushed}
 use Rattle.clean_finish.proofs.Sendings.{out_after as sent_after, back_after as said_after}
 use Rattle.clean_finish.proofs.Spans.{spans_for}
@@ -32,7 +18,7 @@ module _ {s : Side} {keys : Keys} {k j : Setting} {c : Profile} {begun begun_bac
     back_after = said_after h x shut
 
     abbrev pub end_after : PathEnd
-    end_after = record (with_told (said c keys s x) m.end) { tcp = after_sending to_send.Fin clock (after_finishing m.end.tcp) }
+    end_after = record (with_told (said c keys s x) m.end) { tcp = after_sending Occasion.Fin clock (after_finishing m.end.tcp) }
 
     module _ (still : brings_still h.hand ≡ false) (nothing_waits : h.waiting ≡ 0) (unowed : h.owes ≡ false) (same_shut : shut ≡ h.out.shut)
         (low : x.low ≡ h.out.granted) (none : length (octets_of x.brings) ≡ 0) (none_fin : data_fin_of x.brings ≡ 0) (one : h.out.control_sent ≡ 1)
@@ -93,13 +79,7 @@ module _ {s : Side} {keys : Keys} {k j : Setting} {c : Profile} {begun begun_bac
               row = row;
             };
             come = record { edge = h.own.subflow.come.edge; window = h.own.subflow.come.window };
-            heard = record {
-              told = heard.told;
-              most = heard.most;
-              end = heard.end;
-              few = heard.few;
-              some = heard.some;
-            };
+            heard = record { told = heard.told; most = heard.most; end = heard.end; few = heard.few; some = heard.some };
             quiet = λ off. absurd (both_ways _ off is_open.connected);
             begun = λ is. one_low out_after.control_sent came;
             keyed = λ is some b. h.own.subflow.keyed is some still;

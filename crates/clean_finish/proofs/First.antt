@@ -1,48 +1,19 @@
 -- The relation holds as the first round begins.
-use Rattle.std.proofs.Common.{◌≡◌, refl, sym, subst, ℕ, ◌+◌, ◌≤◌, Bool, true, false, inl, inr, None, List, [], ◌∷◌, length, arith}
+use Rattle.clean_finish.proofs.Words.{◌≡◌, refl, sym, subst, ℕ, ◌+◌, ◌≤◌, Bool, true, false, inl, inr, None, List, [], ◌∷◌, length, arith, both_ways, le-ltb}
+use Rattle.clean_finish.proofs.Words.{All-nil, All-cons, Side, A, B, withdrawals_on, new_control, no_withdrawals, opening_paths, Record, is_unsent, syn_record}
+use Rattle.clean_finish.proofs.Words.{never_sent, State, Listen, SynSent, start_of_turn, pick, tail_of, AppState, start_of_app, opening_end, Setting, Lane}
+use Rattle.clean_finish.proofs.Words.{all_left, Writer, Reader, Going, first_lane, Moves, all_moves_going, PathPlan, Start, first_cast, new_walker, IsPiece}
+use Rattle.clean_finish.proofs.Words.{EndIs, IsGranted, IsPhase, ControlIs, IsFree, WaitsSyn, Keys, Same, keys_in, Running, IsAppTurn, ArePlain, WriterShows}
+use Rattle.clean_finish.proofs.Words.{WriterGoes, ReaderShows, ReaderGoes, Begun, Written, Listening, Opens, Starts}
 use Rattle.std.specs.FinMap.{get-empty}
 use Rattle.std.specs.Ordering.{nat_cmp}
-use Rattle.std.proofs.lemmas.Bool.{both_ways, le-ltb}
-use Rattle.std.proofs.lemmas.List.Elements.{All-nil, All-cons}
-use Rattle.sides.specs.declared.side.Side.{Side}
-use Rattle.sides.specs.declared.side.Side.TheVariants.{A, B}
 use Rattle.reno_window.specs.Rules.{initial_window}
 use Rattle.send_book.specs.State as send_books
-use Rattle.subflow_send.specs.Records.{Record}
-use Rattle.subflow_send.specs.Rules.{is_unsent, syn_record}
-use Rattle.subflow_send.specs.Sendings.{never_sent}
-use Rattle.subflow_tcp.specs.declared.handshake.State.{State}
-use Rattle.subflow_tcp.specs.declared.handshake.State.TheVariants.{Listen, SynSent}
 use Rattle.subflow_tcp.specs.Opening.{new_end}
 use Rattle.reassembly_book.specs.State as reassembly_books
-use Rattle.actor_desk.specs.Words.{pick, tail_of}
 use Rattle.control_book.specs.declared.registry.Phase.TheVariants.{Opening}
 use Rattle.address_manager.specs.IdSet.{lowest, no_ids}
-use Rattle.control_book.specs.Control.{new_control, no_withdrawals, withdrawals_on}
-use Rattle.control_book.specs.Registry.{opening_paths}
-use Rattle.path_agenda.specs.Agenda.{start_of_turn}
-use Rattle.stream_apps.specs.Apps.{AppState}
-use Rattle.stream_apps.specs.AppSteps.{start_of_app}
 use Rattle.stream_apps.specs.Starts.{first_app_turn}
-use Rattle.path_core.specs.End.{opening_end}
-use Rattle.world_laws.specs.Openings.{PathPlan, Start}
-use Rattle.world_laws.proofs.Worlds.Casts.{first_cast, new_walker}
-use Rattle.pace.specs.Lane.{Setting, Lane, Writer, Reader, all_left}
-use Rattle.pace.specs.Rules.{first_lane}
-use Rattle.pace.specs.Going.{Going}
-use Rattle.pace.specs.Rounds.{Moves}
-use Rattle.pace.proofs.Moving.{all_moves_going}
-use Rattle.clean_finish.specs.Machine.{IsPiece}
-use Rattle.clean_finish.specs.Reading.{ReaderShows, ReaderGoes}
-use Rattle.clean_finish.specs.Segments.{Keys}
-use Rattle.clean_finish.specs.Writing.{WriterShows, WriterGoes}
-use Rattle.clean_finish.specs.Shows.{IsFree, EndIs, ControlIs, IsPhase, IsGranted}
-use Rattle.clean_finish.specs.Shows.IsPhase.{Opening as Opens, Listening}
-use Rattle.clean_finish.specs.Shows.Waits.{WaitsSyn}
-use Rattle.clean_finish.specs.Shows.IsToldEdge.{Same}
-use Rattle.clean_finish.specs.Shows.IsPlainMode.{Starts}
-use Rattle.clean_finish.specs.Running.{Running, IsAppTurn, ArePlain, keys_in}
-use Rattle.clean_finish.specs.Running.IsAppTurn.{Begun, Written}
 use Rattle.clean_finish.proofs.Moving.{more_than, moves_then}
 use Rattle.clean_finish.proofs.Writing.{turn_begins}
 use Rattle.clean_finish.proofs.Reading.{reading_begins}
@@ -256,14 +227,7 @@ module _ (start : Start) (plan : PathPlan) (k j : Setting) (a b t t' : ℕ)
       walker = new_walker one_path 0 plan;
       alone = refl;
       runs = record {
-        path = record {
-          profile = refl;
-          delay = refl;
-          number = refl;
-          unspoken = refl;
-          lines = refl;
-          joined = refl;
-        };
+        path = record { profile = refl; delay = refl; number = refl; unspoken = refl; lines = refl; joined = refl };
         link = record { order = tt; from_a = tt; from_b = tt };
         faces = record {
           out = with_apps a there.writes_by there.reads_by;

@@ -1,26 +1,9 @@
 -- B treats the first thing that a copy says: a DSS, or A's keys.
-use Rattle.std.proofs.Common.{◌≡◌, refl, sym, subst, ap, ◌∙◌, ℕ, ◌-◌, not, Bool, true, false, ◌⊎◌, inl, inr, ⊎_elim, Option, Some, List, ◌∷◌}
-use Rattle.std.proofs.lemmas.Bool.{both_ways}
-use Rattle.sides.specs.declared.side.Side.TheVariants.{B}
-use Rattle.path_segments.specs.Laws.{window_told}
-use Rattle.actor_desk.specs.Desk.{SixBooks, reply_of, after_ask}
-use Rattle.stream_apps.specs.Apps.{AppState}
-use Rattle.path_agenda.specs.Agenda.{heard_and, payload_came}
-use Rattle.path_agenda.specs.declared.duty.Duty.{Duty}
-use Rattle.path_agenda.specs.declared.duty.Duty.TheVariants as duties
-use Rattle.path_agenda.specs.declared.duty.StepDuty.TheVariants as step_duties
-use Rattle.path_agenda.specs.declared.heard.Heard.{Heard}
-use Rattle.path_agenda.specs.declared.heard.Heard.TheVariants as says
-use Rattle.path_core.specs.State.{PathState, with_agenda, with_end}
-use Rattle.path_core.specs.Treating.{answered_item, item_ask, item_of, item_passed, item_stands}
-use Rattle.path_core.specs.Values.{Carried, values}
-use Rattle.world_laws.specs.Openings.{PathPlan, Start}
-use Rattle.pace.specs.Lane.{Setting, Lane, all_left}
-use Rattle.pace.specs.Going.{Going}
-use Rattle.clean_finish.specs.Segments.{Keys, Brings, is_third, shows_keys}
-use Rattle.clean_finish.specs.Segments.Brings.{OpensSubflow, ShowsKeys, FirstPiece, Piece, Acknowledges, EndsStream, EndsSubflow}
-use Rattle.clean_finish.specs.Running.{Beside, TreatsCopy, count_in, heard_by, own_bench, other_bench, IsSetting, Runs, keys_in}
-use Rattle.clean_finish.specs.Running.Treatment.{AtFirst}
+use Rattle.clean_finish.proofs.Words.{◌≡◌, refl, sym, subst, ap, ◌∙◌, ℕ, ◌-◌, Bool, true, false, not, ◌⊎◌, inl, inr, ⊎_elim, Option, List, ◌∷◌, Some, both_ways}
+use Rattle.clean_finish.proofs.Words.{B, window_told, Duty, StepDuty, heard_and, payload_came, Heard, SixBooks, reply_of, after_ask, AppState, Carried, values}
+use Rattle.clean_finish.proofs.Words.{PathState, with_agenda, with_end, answered_item, item_ask, item_of, item_passed, item_stands, Setting, Lane, all_left}
+use Rattle.clean_finish.proofs.Words.{Going, PathPlan, Start, Keys, Brings, shows_keys, is_third, ShowsKeys, FirstPiece, Beside, TreatsCopy, count_in, heard_by}
+use Rattle.clean_finish.proofs.Words.{own_bench, other_bench, IsSetting, Runs, keys_in, AtFirst}
 use Rattle.clean_finish.proofs.HeardFirst.{passes_first_dss_b}
 use Rattle.clean_finish.proofs.HeardNext.{dss_first, item_is}
 use Rattle.clean_finish.proofs.KeysTold.{first_keys_told}
@@ -31,13 +14,9 @@ IsFirst b = (octets : List ℕ) × (b ≡ FirstPiece octets)
 
 -- the keys are shown by the third segment, or with the first bytes
 shown_by : (b : Brings) → shows_keys b ≡ true → (b ≡ ShowsKeys) ⊎ IsFirst b
-shown_by OpensSubflow e = absurd (both_ways false refl e)
 shown_by ShowsKeys e = inl refl
 shown_by (FirstPiece octets) e = inr (octets, refl)
-shown_by (Piece octets) e = absurd (both_ways false refl e)
-shown_by Acknowledges e = absurd (both_ways false refl e)
-shown_by (EndsStream place) e = absurd (both_ways false refl e)
-shown_by EndsSubflow e = absurd (both_ways false refl e)
+shown_by _ e = absurd (both_ways false refl e)
 
 module _ (start : Start) (plan : PathPlan) (k j : Setting) (s v : Lane) (t0 u0 : ℕ)
     (going : Going k s t0 all_left s) (going_back : Going j v u0 all_left v)
@@ -52,7 +31,7 @@ module _ (start : Start) (plan : PathPlan) (k j : Setting) (s v : Lane) (t0 u0 :
         Relation six q = Runs start plan k j s v a b six q
 
         abbrev d : Duty
-        d = duties.Step (step_duties.Heard B 0)
+        d = Duty.Step (StepDuty.Heard B 0)
 
         module _ (ds : List Duty) (h : Relation books (with_agenda (d ∷ ds) p)) where
           abbrev items_of : Brings → List Heard
@@ -69,10 +48,10 @@ module _ (start : Start) (plan : PathPlan) (k j : Setting) (s v : Lane) (t0 u0 :
             items_are : p.b.treated.items ≡ items_of what
             items_are = h.treats.1.items ∙ ap items_of is
 
-          third_item : h.treats.0 ≡ ShowsKeys → item_of 0 p.b ≡ Some (says.Keys keys.b keys.a)
+          third_item : h.treats.0 ≡ ShowsKeys → item_of 0 p.b ≡ Some (Heard.Keys keys.b keys.a)
           third_item is = item_is 0 p.b (items_of ShowsKeys) h.faces.other.modes.mapping.0 (items_are ShowsKeys is)
 
-          first_item : (octets : List ℕ) → h.treats.0 ≡ FirstPiece octets → item_of 0 p.b ≡ Some (says.Keys keys.b keys.a)
+          first_item : (octets : List ℕ) → h.treats.0 ≡ FirstPiece octets → item_of 0 p.b ≡ Some (Heard.Keys keys.b keys.a)
           first_item octets is = item_is 0 p.b (items_of (FirstPiece octets)) h.faces.other.modes.mapping.0 (items_are (FirstPiece octets) is)
 
           -- whether they were told

@@ -1,33 +1,11 @@
 -- A sends its first bytes before it heard a DSS: they show both keys again (RFC 8684, section 3.1).
-use Rattle.std.proofs.Common.{◌≡◌, refl, sym, subst, ap, ℕ, ◌+◌, ◌-◌, ◌<◌, ◌≤◌, min, max, true, false, inl, inr, Option, Some, None, List, [], ◌∷◌, ◌++◌, length, le_refl, arith}
-use Rattle.std.proofs.lemmas.Bool.{both_ways}
-use Rattle.sides.specs.declared.side.Side.TheVariants.{A, B}
-use Rattle.link_model.specs.declared.flight.Flight.{Flight}
-use Rattle.path_segments.specs.Laws.{window_told}
-use Rattle.subflow_send.specs.declared.record.RecordKind.TheVariants.{Data}
-use Rattle.subflow_send.specs.Records.{Record}
-use Rattle.subflow_send.specs.Rules.{is_unsent}
+use Rattle.clean_finish.proofs.Words.{◌≡◌, refl, sym, subst, ap, ℕ, ◌+◌, ◌-◌, ◌<◌, ◌≤◌, min, max, true, false, inl, inr, Option, None, List, [], ◌∷◌, ◌++◌}
+use Rattle.clean_finish.proofs.Words.{length, arith, Some, le_refl, both_ways, A, B, Record, is_unsent, Data, Flight, window_told, Capable, Duty, StepDuty}
+use Rattle.clean_finish.proofs.Words.{Profile, Carried, PathEnd, record_said, mapping_of, checksum_told, is_first_piece, Setting, Lane, is_whole, all_left}
+use Rattle.clean_finish.proofs.Words.{Going, pending, MaySay, MaySend, sends_bytes, is_same, Hand, HeardIs, last_told, row_seen, brings_still, IsMapping, Sent}
+use Rattle.clean_finish.proofs.Words.{Keys, copy_in, said, FliesAs, FirstPiece, Before, IsSetting, Facing, Half, Has}
 use Rattle.subflow_tcp.specs.States.{is_opening}
-use Rattle.path_agenda.specs.declared.duty.Duty.{Duty}
-use Rattle.path_agenda.specs.declared.duty.Duty.TheVariants as duties
-use Rattle.path_agenda.specs.declared.duty.StepDuty.TheVariants as step_duties
 use Rattle.mptcp_options.specs.declared.capable.CapableKeys.TheVariants.{WithData}
-use Rattle.path_segments.specs.declared.segment.PathOption.TheVariants.{Capable}
-use Rattle.path_core.specs.End.{PathEnd}
-use Rattle.path_core.specs.DssOut.{mapping_of, checksum_told, is_first_piece}
-use Rattle.path_core.specs.OptionsOut.{record_said}
-use Rattle.path_core.specs.Profile.{Profile}
-use Rattle.path_core.specs.Values.{Carried}
-use Rattle.pace.specs.Lane.{Setting, Lane, is_whole, all_left}
-use Rattle.pace.specs.Rules.{is_same}
-use Rattle.pace.specs.Going.{Going, pending}
-use Rattle.pace.specs.Moves.{MaySay, MaySend}
-use Rattle.pace.specs.Moves.Move.{sends_bytes}
-use Rattle.clean_finish.specs.Segments.{Sent, Keys, copy_in, said, FliesAs}
-use Rattle.clean_finish.specs.Segments.Brings.{FirstPiece}
-use Rattle.clean_finish.specs.Shows.{Hand, brings_still, HeardIs, IsMapping, last_told, row_seen}
-use Rattle.clean_finish.specs.Shows.IsToldEdge.{Before}
-use Rattle.clean_finish.specs.Running.{Has, Half, Facing, IsSetting}
 use Rattle.clean_finish.proofs.Bringing.{end_after, own_brought}
 use Rattle.clean_finish.proofs.BytesSent.{no_duplicate}
 use Rattle.clean_finish.proofs.EndSent.{ended_stays}
@@ -71,7 +49,7 @@ first_is c keys at low least r e mptcp first key own established kind pos mappin
 module _ {keys : Keys} {k j : Setting} {c : Profile} {begun begun_back : Lane} {m n : Half} {clock until : ℕ} (ticks t u : ℕ)
     (k_is : IsSetting c ticks k) (j_is : IsSetting c ticks j)
     (going : Going k begun t all_left begun) (going_back : Going j begun_back u all_left begun_back)
-    {ds : List Duty} (h : Facing A keys k j c begun begun_back m n clock until (duties.Step (step_duties.Data A) ∷ ds)) (r : Record)
+    {ds : List Duty} (h : Facing A keys k j c begun begun_back m n clock until (Duty.Step (StepDuty.Data A) ∷ ds)) (r : Record)
   where
     abbrev pub first : Sent
     first = first_at (clock + ticks) h.out.granted j.least m.end.receiving.window m.end.tcp.recv.edge r.piece
@@ -200,12 +178,12 @@ module _ {keys : Keys} {k j : Setting} {c : Profile} {begun begun_back : Lane} {
         pub edge_most : {e received_now d : ℕ} (total : ℕ) → e ≡ 1 + received_now + (d - 1) → received_now ≡ 0 → d ≤ 1 → e ≤ 1 + total + 0
         edge_most total is a b = omega (arith, is, a, b)
 
-        module _ (events : Has (duties.Step step_duties.Events) ds) (fs gs : List (Flight Carried)) (f : Flight Carried) (flies : FliesAs c keys A f first)
+        module _ (events : Has (Duty.Step StepDuty.Events) ds) (fs gs : List (Flight Carried)) (f : Flight Carried) (flies : FliesAs c keys A f first)
             (more : fs ≡ m.flying ++ f ∷ []) (same_back : gs ≡ n.flying)
           where
             abbrev pub first_goes : Facing A keys k j c begun begun_back (record m { end = end_after h first; flying = fs })
-                (record n { flying = gs }) clock until (duties.Step (step_duties.Data A) ∷ ds)
-            first_goes = sent_off h first false (duties.Step (step_duties.Data A) ∷ ds) (sends_bytes (copy_in first) may_send) false false may_say
+                (record n { flying = gs }) clock until (Duty.Step (StepDuty.Data A) ∷ ds)
+            first_goes = sent_off h first false (Duty.Step (StepDuty.Data A) ∷ ds) (sends_bytes (copy_in first) may_send) false false may_say
                 (end_after h first) None false 0
                 (own_brought h first still unowed r rest unsent (subst (λ (x : ℕ). 1 ≤ x) (sym waits) some) all_bytes refl one refl
                 (few_keys h.own.modes.shown ready) (Before refl (inl received) refl full) (under j.least)

@@ -1,12 +1,9 @@
 -- What the book of a stream that goes on one path decides to grant.
-use Rattle.std.proofs.Common.{◌≡◌, refl, sym, ap, ◌∙◌, ℕ, ◌+◌, ◌-◌, ◌<◌, ◌≤◌, ◌==◌, min, nat_lt, nat_le, Bool, true, false, cond, ◌&&◌, ◌||◌, if◌then◌else◌, Option, Some, None, Ok, Err, length, drop, position, arith}
-use Rattle.std.specs.List.{prefix_len}
-use Rattle.std.proofs.lemmas.Bool.{and_parts, eqb-true, ltb-true, ltb-false, leb-true, leb-false}
+use Rattle.clean_finish.proofs.Words.{◌≡◌, refl, sym, ap, ◌∙◌, ℕ, ◌+◌, ◌-◌, ◌<◌, ◌≤◌, min, nat_lt, Bool, true, false, cond, ◌&&◌, ◌||◌, if◌then◌else◌, Option}
+use Rattle.clean_finish.proofs.Words.{None, length, arith, Some, nat_le, drop, ◌==◌, Ok, Err, position, and_parts, ltb-false, ltb-true, leb-true, eqb-true}
+use Rattle.clean_finish.proofs.Words.{leb-false, prefix_len, is_for, first_free, run_len, span_at, decision, acked_len, is_free_for, AreTaken}
 use Rattle.send_book.specs.declared.call.Why.TheVariants.{Ended, NothingFree, WindowShut}
-use Rattle.send_book.specs.Marks.{is_free_for}
-use Rattle.send_book.specs.State.{Sending, acked_len}
-use Rattle.send_book.specs.Steps.{is_for, first_free, run_len, span_at, decision}
-use Rattle.clean_finish.specs.Shows.{AreTaken}
+use Rattle.send_book.specs.State.{Sending}
 use Rattle.clean_finish.proofs.TakenMarks.{next_free, free_behind, few_acked}
 
 -- Path 0 took so many bytes, and asks for `most` more.

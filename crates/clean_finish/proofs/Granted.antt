@@ -1,32 +1,14 @@
 -- A grant: the bytes wait to be sent.
-use Rattle.std.proofs.Common.{◌≡◌, refl, sym, subst, ap, ◌∙◌, ℕ, ◌+◌, ◌-◌, ◌<◌, ◌≤◌, min, Bool, true, if◌then◌else◌, inl, Some, List, [], ◌∷◌, ◌++◌, length, take, drop, map, sum_by, le_refl, arith}
-use Rattle.std.proofs.lemmas.Option.{same_Some}
+use Rattle.clean_finish.proofs.Words.{◌≡◌, refl, sym, subst, ap, ◌∙◌, ℕ, ◌+◌, ◌-◌, ◌<◌, ◌≤◌, min, Bool, true, if◌then◌else◌, inl, List, [], ◌∷◌, ◌++◌, length}
+use Rattle.clean_finish.proofs.Words.{map, arith, Some, le_refl, drop, take, sum_by, All-push, All-weaker, same_Some, Side, part_of, change_part, acked_len}
+use Rattle.clean_finish.proofs.Words.{SendBook, ByteMark, given, Record, Tile, span_of, is_unsent, acknowledged_in, octets_under_way, never_sent, Data, Duty}
+use Rattle.clean_finish.proofs.Words.{Profile, PathEnd, first_unsent, granted_at, with_piece, mapping_of, Setting, Lane, IsPiece, AreTaken, EndIs, IsGranted}
+use Rattle.clean_finish.proofs.Words.{RecordsAre, Waits, AreSpans, WaitsBytes, Keys, Facing, Half}
 use Rattle.std.proofs.lemmas.List.Sums.{sum_by-append}
 use Rattle.std.proofs.lemmas.List.{length-take, length-drop}
-use Rattle.std.proofs.lemmas.List.Elements.{All-weaker, All-push}
-use Rattle.sides.specs.declared.side.Side.{Side}
 use Rattle.send_book.specs.declared.call.Span.{Span}
-use Rattle.send_book.specs.declared.mark.ByteMark.{ByteMark}
-use Rattle.send_book.specs.Marks.{given}
-use Rattle.send_book.specs.State.{Sending as SendBook, acked_len}
-use Rattle.send_book.specs.Steps.{part_of, change_part}
-use Rattle.subflow_send.specs.declared.record.RecordKind.TheVariants.{Data}
-use Rattle.subflow_send.specs.Records.{Record, Tile, span_of}
-use Rattle.subflow_send.specs.Rules.{is_unsent, acknowledged_in, octets_under_way}
-use Rattle.subflow_send.specs.Sendings.{never_sent}
 use Rattle.subflow_send.proofs.Whole.{Tile-push}
 use Rattle.subflow_tcp.specs.Sizes.{room}
-use Rattle.path_agenda.specs.declared.duty.Duty.{Duty}
-use Rattle.path_core.specs.Emission.{first_unsent, granted_at, with_piece}
-use Rattle.path_core.specs.End.{PathEnd}
-use Rattle.path_core.specs.DssOut.{mapping_of}
-use Rattle.path_core.specs.Profile.{Profile}
-use Rattle.pace.specs.Lane.{Setting, Lane}
-use Rattle.clean_finish.specs.Machine.{IsPiece}
-use Rattle.clean_finish.specs.Segments.{Keys}
-use Rattle.clean_finish.specs.Shows.{AreTaken, EndIs, IsGranted, RecordsAre, Waits, AreSpans}
-use Rattle.clean_finish.specs.Shows.Waits.{WaitsBytes}
-use Rattle.clean_finish.specs.Running.{Half, Facing}
 use Rattle.clean_finish.proofs.AckNew.{records_sent}
 use Rattle.clean_finish.proofs.Emitted.{first_waits}
 use Rattle.clean_finish.proofs.TakenMarks.{granted_marks, taken_granted, granted_acked, granted_length}
@@ -193,10 +175,7 @@ module _ {s : Side} {keys : Keys} {k j : Setting} {c : Profile} {begun begun_bac
               steady = h.own.subflow.congestion.steady;
               row = h.own.subflow.congestion.row;
             };
-            come = record {
-              edge = h.own.subflow.come.edge;
-              window = h.own.subflow.come.window;
-            };
+            come = record { edge = h.own.subflow.come.edge; window = h.own.subflow.come.window };
             heard = record {
               told = h.own.subflow.heard.told;
               most = h.own.subflow.heard.most;
@@ -317,11 +296,7 @@ module _ {s : Side} {keys : Keys} {k j : Setting} {c : Profile} {begun begun_bac
               };
               over = h.apps.writes.over;
             };
-            reads = record {
-              numbers = h.apps.reads.numbers;
-              received = h.apps.reads.received;
-              over = h.apps.reads.over;
-            };
+            reads = record { numbers = h.apps.reads.numbers; received = h.apps.reads.received; over = h.apps.reads.over };
             receives = record {
               read = h.apps.receives.read;
               received = h.apps.receives.received;

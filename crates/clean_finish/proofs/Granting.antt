@@ -1,25 +1,9 @@
 -- An end asks for bytes: what it knows, and what the lane knows once they are refused.
-use Rattle.std.proofs.Common.{◌≡◌, refl, sym, subst, ap, ◌∙◌, ℕ, ◌+◌, ◌-◌, ◌<◌, ◌≤◌, min, nat_le, Bool, true, false, not, ◌&&◌, ◌||◌, ◌⊎◌, inr, ⊎_elim, List, ◌∷◌, length, le_refl, arith}
-use Rattle.std.proofs.lemmas.Bool.{both_ways, and_parts, leb-true, ltb-false}
-use Rattle.sides.specs.declared.side.Side.{Side}
-use Rattle.sides.specs.declared.side.Side.TheVariants.{A, B}
-use Rattle.send_book.specs.declared.call.Why.{Why}
+use Rattle.clean_finish.proofs.Words.{◌≡◌, refl, sym, subst, ap, ◌∙◌, ℕ, ◌+◌, ◌-◌, ◌<◌, ◌≤◌, min, Bool, true, false, not, ◌&&◌, ◌||◌, ◌⊎◌, inr, ⊎_elim, List}
+use Rattle.clean_finish.proofs.Words.{◌∷◌, length, arith, le_refl, nat_le, both_ways, and_parts, ltb-false, leb-true, Side, A, B, Why, is_at_limit, may_finish}
+use Rattle.clean_finish.proofs.Words.{one_if, Duty, StepDuty, Profile, is_shut, payload_size, may_send_data, may_ask, Setting, Lane, all_left, Going, MayRefuse}
+use Rattle.clean_finish.proofs.Words.{AreTaken, brings_still, IsOpen, Keys, IsSetting, Facing, Half}
 use Rattle.subflow_tcp.specs.Sizes.{room}
-use Rattle.subflow_tcp.specs.State.{is_at_limit}
-use Rattle.subflow_tcp.specs.States.{may_finish}
-use Rattle.subflow_tcp.specs.Segments.{one_if}
-use Rattle.path_agenda.specs.declared.duty.Duty.{Duty}
-use Rattle.path_agenda.specs.declared.duty.Duty.TheVariants as duties
-use Rattle.path_agenda.specs.declared.duty.StepDuty.TheVariants as step_duties
-use Rattle.path_core.specs.Emission.{payload_size, may_send_data, may_ask}
-use Rattle.path_core.specs.Profile.{Profile}
-use Rattle.path_core.specs.DataFin.{is_shut}
-use Rattle.pace.specs.Lane.{Setting, Lane, all_left}
-use Rattle.pace.specs.Going.{Going}
-use Rattle.pace.specs.Moves.{MayRefuse}
-use Rattle.clean_finish.specs.Segments.{Keys}
-use Rattle.clean_finish.specs.Shows.{brings_still, AreTaken, IsOpen}
-use Rattle.clean_finish.specs.Running.{Half, Facing, IsSetting}
 use Rattle.clean_finish.proofs.EndSent.{finishes_open}
 use Rattle.clean_finish.proofs.GrantDecided.{GrantIs, decided}
 use Rattle.clean_finish.proofs.Quiet.{phase_is}
@@ -33,7 +17,7 @@ is_not true e = absurd (both_ways _ refl e)
 module _ {s : Side} {keys : Keys} {k j : Setting} {c : Profile} {begun begun_back : Lane} {m n : Half} {clock until : ℕ} (ticks t u : ℕ)
     (k_is : IsSetting c ticks k) (j_is : IsSetting c ticks j)
     (going : Going k begun t all_left begun) (going_back : Going j begun_back u all_left begun_back)
-    {ds : List Duty} (h : Facing s keys k j c begun begun_back m n clock until (duties.Step (step_duties.Data s) ∷ ds))
+    {ds : List Duty} (h : Facing s keys k j c begun begun_back m n clock until (Duty.Step (StepDuty.Data s) ∷ ds))
     (off : may_ask c s m.end ≡ true) (still : brings_still h.hand ≡ false) (nothing_waits : h.waiting ≡ 0)
     (answered : min 1 h.back.control_came ≤ h.out.control_sent) (ready_a : s ≡ A → min 1 h.back.control_came ≤ h.out.ready)
   where

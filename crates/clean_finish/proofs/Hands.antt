@@ -1,13 +1,8 @@
 -- A segment from its arrival on: it comes into the hand of an end, is taken by the lane of what it brings and by that of what
 -- it acknowledges, and is done with.
-use Rattle.std.proofs.Common.{◌≡◌, refl, sym, subst, ap, ◌∙◌, ℕ, ◌+◌, ◌≤◌, Bool, true, false, Option, Some, None, List, [], ◌∷◌, ◌++◌, length, map, arith}
-use Rattle.sides.specs.declared.side.Side.{Side}
-use Rattle.link_model.specs.declared.flight.Flight.{Flight}
-use Rattle.path_core.specs.Profile.{Profile}
-use Rattle.path_core.specs.Values.{Carried}
-use Rattle.pace.specs.Lane.{Setting, Copy, Sender, Receiver}
-use Rattle.clean_finish.specs.Segments.{Sent, Keys, copy_in, octets_of, FlyAs, Follow, Rise, edge_after, low_after, control_after, keys_after}
-use Rattle.clean_finish.specs.Shows.{Hand, brings_in, tells_in, WayIs}
+use Rattle.clean_finish.proofs.Words.{◌≡◌, refl, sym, subst, ap, ◌∙◌, ℕ, ◌+◌, ◌≤◌, Bool, true, false, Option, None, List, [], ◌∷◌, ◌++◌, length, map, arith}
+use Rattle.clean_finish.proofs.Words.{Some, Side, Flight, Profile, Carried, Setting, Copy, Sender, Receiver, Hand, WayIs, brings_in, tells_in, Sent, Keys}
+use Rattle.clean_finish.proofs.Words.{copy_in, octets_of, Rise, edge_after, Follow, low_after, control_after, keys_after, FlyAs}
 
 pub up : {x y z : ℕ} → x ≤ y → y ≤ z → x ≤ z
 up a b = omega (arith, a, b)
@@ -73,40 +68,6 @@ module _ (c : Profile) (keys : Keys) (j k : Setting) (from : Side) (out : Sender
     low = ap (λ (n : ℕ). low_after n w.sent) received ∙ w.low;
     control = ap (λ (n : ℕ). control_after n w.sent) control ∙ w.control;
     keys_shown = ap (λ (n : ℕ). keys_after n w.sent) shown ∙ w.keys_shown;
-    rise = w.rise;
-    passed = w.passed;
-  }
-
-  -- the other lane takes what it acknowledges
-  abbrev pub way_told : (flying : List (Flight Carried)) (x : Sent)
-      (w : WayIs c keys j k from out other datas acks (in_hand x false true) una edge flying)
-      → WayIs c keys j k from out other datas (map copy_in w.sent) (in_hand x false false) una edge flying
-  way_told flying x w = record {
-    sent = w.sent;
-    flights = w.flights;
-    datas_are = w.datas_are;
-    acks_are = refl;
-    follow = w.follow;
-    low = w.low;
-    control = w.control;
-    keys_shown = w.keys_shown;
-    rise = w.rise;
-    passed = w.passed;
-  }
-
-  -- while it still brings something
-  abbrev pub way_told_first : (flying : List (Flight Carried)) (x : Sent)
-      (w : WayIs c keys j k from out other datas acks (in_hand x true true) una edge flying)
-      → WayIs c keys j k from out other datas (map copy_in w.sent) (in_hand x true false) una edge flying
-  way_told_first flying x w = record {
-    sent = w.sent;
-    flights = w.flights;
-    datas_are = w.datas_are;
-    acks_are = refl;
-    follow = w.follow;
-    low = w.low;
-    control = w.control;
-    keys_shown = w.keys_shown;
     rise = w.rise;
     passed = w.passed;
   }

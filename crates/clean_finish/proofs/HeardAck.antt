@@ -1,33 +1,10 @@
 -- The step in which a copy's Data ACK is told to the send book.
-use Rattle.std.proofs.Common.{◌≡◌, refl, sym, subst, ◌∙◌, ℕ, ◌-◌, min, nat_lt, Bool, true, false, if◌then◌else◌, Option, Some, List, ◌∷◌, length}
-use Rattle.sides.specs.declared.side.Side.TheVariants.{A, B}
-use Rattle.path_segments.specs.Laws.{window_told}
-use Rattle.send_book.specs.declared.call.SendCall.TheVariants as send_calls
+use Rattle.clean_finish.proofs.Words.{◌≡◌, refl, sym, subst, ◌∙◌, ℕ, ◌-◌, min, nat_lt, Bool, true, false, if◌then◌else◌, Option, List, ◌∷◌, length, Some, A, B}
+use Rattle.clean_finish.proofs.Words.{fin_after, acked_len, SendCall, window_told, Duty, StepDuty, AskDuty, heard_and, payload_came, Heard, Reply, SixBooks}
+use Rattle.clean_finish.proofs.Words.{reply_of, after_ask, Ask, AppState, Carried, values, PathEnd, answered_ack, PathState, goes_on, with_agenda}
+use Rattle.clean_finish.proofs.Words.{answered_item, item_ask, item_of, Setting, Lane, all_left, Going, PathPlan, Start, Keys, Brings, shows_keys, Beside}
+use Rattle.clean_finish.proofs.Words.{Treats, TreatsCopy, count_in, heard_by, own_bench, other_bench, IsSetting, Runs, keys_in, AfterOne}
 use Rattle.send_book.specs.declared.call.SendReply.TheVariants.{Acked, AckFuture}
-use Rattle.send_book.specs.State.{acked_len}
-use Rattle.send_book.specs.Steps.{fin_after}
-use Rattle.actor_desk.specs.declared.ask.Ask.TheVariants as asks
-use Rattle.actor_desk.specs.declared.ask.Reply.TheVariants as replies
-use Rattle.actor_desk.specs.Desk.{SixBooks, after_ask, reply_of}
-use Rattle.stream_apps.specs.Apps.{AppState}
-use Rattle.path_agenda.specs.Agenda.{heard_and, payload_came}
-use Rattle.path_agenda.specs.declared.duty.Duty.{Duty}
-use Rattle.path_agenda.specs.declared.duty.Duty.TheVariants as duties
-use Rattle.path_agenda.specs.declared.duty.AskDuty.TheVariants as ask_duties
-use Rattle.path_agenda.specs.declared.duty.StepDuty.TheVariants as step_duties
-use Rattle.path_agenda.specs.declared.heard.Heard.{Heard}
-use Rattle.path_agenda.specs.declared.heard.Heard.TheVariants as says
-use Rattle.path_core.specs.End.{PathEnd}
-use Rattle.path_core.specs.State.{PathState, goes_on, with_agenda}
-use Rattle.path_core.specs.DssIn.{answered_ack}
-use Rattle.path_core.specs.Treating.{answered_item, item_ask, item_of}
-use Rattle.path_core.specs.Values.{Carried, values}
-use Rattle.world_laws.specs.Openings.{PathPlan, Start}
-use Rattle.pace.specs.Lane.{Setting, Lane, all_left}
-use Rattle.pace.specs.Going.{Going}
-use Rattle.clean_finish.specs.Segments.{Keys, Brings, shows_keys}
-use Rattle.clean_finish.specs.Running.{Beside, Treats, TreatsCopy, count_in, heard_by, own_bench, other_bench, IsSetting, Runs, keys_in}
-use Rattle.clean_finish.specs.Running.Treatment.{AfterOne}
 use Rattle.clean_finish.proofs.AckTold.{ack_told, end_heard, not_ahead}
 use Rattle.clean_finish.proofs.DutyMore.{duty_more}
 use Rattle.clean_finish.proofs.HeardFirst.{no_third}
@@ -49,28 +26,28 @@ module _ (start : Start) (plan : PathPlan) (k j : Setting) (s v : Lane) (t0 u0 :
 
         -- ---- at A
 
-        module _ (ds : List Duty) (h : Relation books (with_agenda (duties.Step (step_duties.Heard A 1) ∷ ds) p)) (what : Brings)
+        module _ (ds : List Duty) (h : Relation books (with_agenda (Duty.Step (StepDuty.Heard A 1) ∷ ds) p)) (what : Brings)
             (f : TreatsCopy A keys AfterOne (shows_keys what) what (own_bench h.faces)) (none : shows_keys what ≡ false)
             (beside : Beside A (own_bench h.faces) (other_bench h.faces) ds (heard_and A 2 (count_in what - 2) (payload_came A)))
           where
             abbrev q_a : PathState Carried
-            q_a = with_agenda (duties.Step (step_duties.Heard A 1) ∷ ds) p
+            q_a = with_agenda (Duty.Step (StepDuty.Heard A 1) ∷ ds) p
 
             there_a : Emits A ds
             there_a = subst (λ (es : List Duty). Emits A es) (sym beside.2) (heard_emits A 2 (count_in what - 2))
 
-            pub second_a : item_of 1 p.a ≡ Some (says.DataAck f.sent.telling.next (window_told false f.sent.window))
+            pub second_a : item_of 1 p.a ≡ Some (Heard.DataAck f.sent.telling.next (window_told false f.sent.window))
             second_a = item_is 1 p.a (heard_by keys f.sent.telling.next (window_told false f.sent.window) what) h.faces.own.modes.mapping.0 f.items
                 ∙ ack_second keys f.sent.telling.next (window_told false f.sent.window) what f.kind none
 
             abbrev told_a : SixBooks
-            told_a = after_ask (asks.Send A (send_calls.AckIn f.sent.telling.next (window_told false f.sent.window))) books
+            told_a = after_ask (Ask.Send A (SendCall.AckIn f.sent.telling.next (window_told false f.sent.window))) books
 
             abbrev end_after_a : PathEnd
             end_after_a = end_heard plan.delay t0 u0 k_is j_is going going_back h.faces refl there_a f.sent
 
             -- what covers something is told to the control book next
-            acked_a : (covers : Bool) → Relation told_a (goes_on A end_after_a (if covers then duties.Ask (ask_duties.AckHeard A) ∷ ds else ds) q_a)
+            acked_a : (covers : Bool) → Relation told_a (goes_on A end_after_a (if covers then Duty.Ask (AskDuty.AckHeard A) ∷ ds else ds) q_a)
             acked_a true =
                 let t = ack_told plan.delay t0 u0 k_is j_is going going_back h.faces refl there_a what f none beside.0 beside.1 in
                 record {
@@ -83,7 +60,7 @@ module _ (start : Start) (plan : PathPlan) (k j : Setting) (s v : Lane) (t0 u0 :
                     joined = h.path.joined;
                   };
                   link = h.link;
-                  faces = duty_more (duties.Ask (ask_duties.AckHeard A)) ds t.0;
+                  faces = duty_more (Duty.Ask (AskDuty.AckHeard A)) ds t.0;
                   treats = (what, t.1, none, (t.2, t.3, beside.2));
                 }
             acked_a false =
@@ -106,34 +83,34 @@ module _ (start : Start) (plan : PathPlan) (k j : Setting) (s v : Lane) (t0 u0 :
             answers_ack_a =
                 let next = f.sent.telling.next in
                 subst (λ (o : Option Heard). Relation (after_ask (item_ask values A o q_a) books) (answered_item values A o (reply_of books (item_ask values A o q_a)) q_a)) (sym second_a)
-                (subst (λ (ahead : Bool). Relation told_a (answered_ack A next (replies.Send (if ahead then AckFuture (length books.send_a.written)
+                (subst (λ (ahead : Bool). Relation told_a (answered_ack A next (Reply.Send (if ahead then AckFuture (length books.send_a.written)
                 else Acked (min next (length books.send_a.written) - acked_len books.send_a.marks) (fin_after next books.send_a))) q_a))
                 (sym (not_ahead plan.delay t0 u0 k_is j_is going going_back h.faces refl there_a what f none)) (acked_a (nat_lt 0 next)))
 
         -- ---- at B
 
-        module _ (ds : List Duty) (h : Relation books (with_agenda (duties.Step (step_duties.Heard B 1) ∷ ds) p)) (what : Brings)
+        module _ (ds : List Duty) (h : Relation books (with_agenda (Duty.Step (StepDuty.Heard B 1) ∷ ds) p)) (what : Brings)
             (f : TreatsCopy B keys AfterOne (shows_keys what) what (other_bench h.faces)) (none : shows_keys what ≡ false)
             (beside : Beside B (own_bench h.faces) (other_bench h.faces) ds (heard_and B 2 (count_in what - 2) (payload_came B)))
           where
             abbrev q_b : PathState Carried
-            q_b = with_agenda (duties.Step (step_duties.Heard B 1) ∷ ds) p
+            q_b = with_agenda (Duty.Step (StepDuty.Heard B 1) ∷ ds) p
 
             there_b : Emits B ds
             there_b = subst (λ (es : List Duty). Emits B es) (sym beside.2) (heard_emits B 2 (count_in what - 2))
 
-            pub second_b : item_of 1 p.b ≡ Some (says.DataAck f.sent.telling.next (window_told false f.sent.window))
+            pub second_b : item_of 1 p.b ≡ Some (Heard.DataAck f.sent.telling.next (window_told false f.sent.window))
             second_b = item_is 1 p.b (heard_by keys f.sent.telling.next (window_told false f.sent.window) what) (from_a keys k j s v a b books q_b h.faces).own.modes.mapping.0 f.items
                 ∙ ack_second keys f.sent.telling.next (window_told false f.sent.window) what f.kind none
 
             abbrev told_b : SixBooks
-            told_b = after_ask (asks.Send B (send_calls.AckIn f.sent.telling.next (window_told false f.sent.window))) books
+            told_b = after_ask (Ask.Send B (SendCall.AckIn f.sent.telling.next (window_told false f.sent.window))) books
 
             abbrev end_after_b : PathEnd
             end_after_b = end_heard plan.delay u0 t0 j_is k_is going_back going (from_a keys k j s v a b books q_b h.faces) refl there_b f.sent
 
             -- what covers something is told to the control book next
-            acked_b : (covers : Bool) → Relation told_b (goes_on B end_after_b (if covers then duties.Ask (ask_duties.AckHeard B) ∷ ds else ds) q_b)
+            acked_b : (covers : Bool) → Relation told_b (goes_on B end_after_b (if covers then Duty.Ask (AskDuty.AckHeard B) ∷ ds else ds) q_b)
             acked_b true =
                 let t = ack_told plan.delay u0 t0 j_is k_is going_back going (from_a keys k j s v a b books q_b h.faces) refl there_b what f none beside.0 beside.1 in
                 record {
@@ -146,7 +123,7 @@ module _ (start : Start) (plan : PathPlan) (k j : Setting) (s v : Lane) (t0 u0 :
                     joined = h.path.joined;
                   };
                   link = h.link;
-                  faces = from_b keys k j s v a b told_b (goes_on B end_after_b (duties.Ask (ask_duties.AckHeard B) ∷ ds) q_b) (duty_more (duties.Ask (ask_duties.AckHeard B)) ds t.0);
+                  faces = from_b keys k j s v a b told_b (goes_on B end_after_b (Duty.Ask (AskDuty.AckHeard B) ∷ ds) q_b) (duty_more (Duty.Ask (AskDuty.AckHeard B)) ds t.0);
                   treats = (what, t.1, none, (t.2, t.3, beside.2));
                 }
             acked_b false =
@@ -169,6 +146,6 @@ module _ (start : Start) (plan : PathPlan) (k j : Setting) (s v : Lane) (t0 u0 :
             answers_ack_b =
                 let next = f.sent.telling.next in
                 subst (λ (o : Option Heard). Relation (after_ask (item_ask values B o q_b) books) (answered_item values B o (reply_of books (item_ask values B o q_b)) q_b)) (sym second_b)
-                (subst (λ (ahead : Bool). Relation told_b (answered_ack B next (replies.Send (if ahead then AckFuture (length books.send_b.written)
+                (subst (λ (ahead : Bool). Relation told_b (answered_ack B next (Reply.Send (if ahead then AckFuture (length books.send_b.written)
                 else Acked (min next (length books.send_b.written) - acked_len books.send_b.marks) (fin_after next books.send_b))) q_b))
                 (sym (not_ahead plan.delay u0 t0 j_is k_is going_back going (from_a keys k j s v a b books q_b h.faces) refl there_b what f none)) (acked_b (nat_lt 0 next)))

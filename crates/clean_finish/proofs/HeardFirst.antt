@@ -1,31 +1,10 @@
 -- The steps in which what a copy says is heard, up to its first thing.
-use Rattle.std.proofs.Common.{◌≡◌, refl, sym, subst, ap, ◌∙◌, ℕ, ◌-◌, ◌≤◌, min, Bool, true, false, not, ◌&&◌, ◌||◌, is_some, inr, ⊎_elim, Option, Some, List, ◌∷◌, arith}
-use Rattle.std.proofs.lemmas.Bool.{both_ways}
-use Rattle.sides.specs.declared.side.Side.{Side}
-use Rattle.sides.specs.declared.side.Side.TheVariants.{A, B}
-use Rattle.fallback_state.specs.Modes.{is_starting}
-use Rattle.actor_desk.specs.Desk.{SixBooks, after_ask}
-use Rattle.stream_apps.specs.Apps.{AppState}
-use Rattle.path_agenda.specs.declared.duty.Duty.{Duty}
-use Rattle.path_agenda.specs.declared.duty.Duty.TheVariants as duties
-use Rattle.path_agenda.specs.declared.duty.AskDuty.TheVariants as ask_duties
-use Rattle.path_agenda.specs.declared.duty.StepDuty.TheVariants as step_duties
-use Rattle.path_agenda.specs.declared.heard.Heard.{Heard}
-use Rattle.path_agenda.specs.declared.heard.Heard.TheVariants as says
-use Rattle.path_agenda.specs.Items.{keys_heard}
-use Rattle.path_core.specs.End.{PathEnd}
-use Rattle.path_core.specs.MpCapable.{is_opened_by_keys, is_opened_plainly, live_ask}
-use Rattle.path_core.specs.State.{PathState, with_agenda, with_end}
-use Rattle.path_core.specs.Treating.{item_of, item_passed, item_stands}
-use Rattle.path_core.specs.Values.{Carried}
-use Rattle.world_laws.specs.Openings.{PathPlan, Start}
-use Rattle.pace.specs.Lane.{Setting, Lane, all_left}
-use Rattle.pace.specs.Going.{Going}
-use Rattle.clean_finish.specs.Segments.{Keys, Brings, is_third, shows_keys}
-use Rattle.clean_finish.specs.Segments.Brings.{OpensSubflow, ShowsKeys, FirstPiece, Piece, Acknowledges, EndsStream, EndsSubflow}
-use Rattle.path_segments.specs.Laws.{window_told}
-use Rattle.clean_finish.specs.Running.{Bench, Treats, TreatsCopy, TreatsKeyed, count_in, heard_by, own_bench, other_bench, IsSetting, Runs, keys_in}
-use Rattle.clean_finish.specs.Running.Treatment.{AtFirst, AfterOne}
+use Rattle.clean_finish.proofs.Words.{◌≡◌, refl, sym, subst, ap, ◌∙◌, ℕ, ◌-◌, ◌≤◌, min, Bool, true, false, not, ◌&&◌, ◌||◌, inr, ⊎_elim, Option, List, ◌∷◌}
+use Rattle.clean_finish.proofs.Words.{arith, is_some, both_ways, is_starting, Side, A, B, window_told, Duty, StepDuty, AskDuty, keys_heard, Heard, SixBooks}
+use Rattle.clean_finish.proofs.Words.{after_ask, AppState, Carried, PathEnd, PathState, with_agenda, with_end, live_ask, is_opened_by_keys, is_opened_plainly}
+use Rattle.clean_finish.proofs.Words.{item_of, item_passed, Setting, Lane, all_left, Going, PathPlan, Start, Keys, Brings, shows_keys, is_third, OpensSubflow}
+use Rattle.clean_finish.proofs.Words.{ShowsKeys, FirstPiece, Piece, Acknowledges, EndsStream, EndsSubflow, Treats, TreatsCopy, count_in, heard_by, own_bench}
+use Rattle.clean_finish.proofs.Words.{other_bench, IsSetting, Runs, keys_in, Bench, TreatsKeyed, AtFirst, AfterOne}
 use Rattle.clean_finish.proofs.AnswerTreated.{lives_on}
 use Rattle.clean_finish.proofs.Cleared.{cleared, dss_at_a, dss_at_b}
 use Rattle.clean_finish.proofs.CopyKinds.{not_true, third_shows}
@@ -50,22 +29,9 @@ no_keys k key = not_true (shows_keys k) (λ e. not_b (key e))
 pub no_third : (k : Brings) → shows_keys k ≡ false → is_third k ≡ false
 no_third k none = not_true (is_third k) (λ e. both_ways _ none (third_shows k e))
 
--- a DSS is told to no book
-dss_passes : (o : Option Heard) (e : PathEnd) → o ≡ Some says.Dss → item_stands o e ≡ false
-dss_passes o e is = ap (λ (y : Option Heard). item_stands y e) is
-
 pub third_only : (k : Brings) → is_third k ≡ true → k ≡ ShowsKeys
-third_only OpensSubflow e = absurd (both_ways false refl e)
 third_only ShowsKeys e = refl
-third_only (FirstPiece octets) e = absurd (both_ways false refl e)
-third_only (Piece octets) e = absurd (both_ways false refl e)
-third_only Acknowledges e = absurd (both_ways false refl e)
-third_only (EndsStream place) e = absurd (both_ways false refl e)
-third_only EndsSubflow e = absurd (both_ways false refl e)
-
--- what opens by none of its things
-unopened : (e : PathEnd) → e.treated.opened ≡ false → (is_opened_by_keys e || is_opened_plainly e) ≡ false
-unopened e none = ap (λ (b : Bool). (b && is_some (keys_heard e.treated.items)) || (b && (not e.treated.has_option && is_starting e.modes.mode))) none
+third_only _ e = absurd (both_ways false refl e)
 
 opened_third : (keys : Keys) (next window : ℕ) (e : PathEnd) → e.treated.opened ≡ true → e.treated.items ≡ heard_by keys next window ShowsKeys
     → (is_opened_by_keys e || is_opened_plainly e) ≡ true
@@ -265,12 +231,12 @@ module _ (start : Start) (plan : PathPlan) (k j : Setting) (s v : Lane) (t0 u0 :
 
         -- ---- at A
 
-        pub passes_opened_a : (ds : List Duty) → (is_opened_by_keys p.a || is_opened_plainly p.a) ≡ false → Relation books (with_agenda (duties.Ask (ask_duties.Opened A) ∷ ds) p)
+        pub passes_opened_a : (ds : List Duty) → (is_opened_by_keys p.a || is_opened_plainly p.a) ≡ false → Relation books (with_agenda (Duty.Ask (AskDuty.Opened A) ∷ ds) p)
             → Relation books (with_agenda ds p)
         passes_opened_a ds off h =
             let t = h.treats in
             let f = t.1 in
-            let faces = free_drops (duties.Ask (ask_duties.Opened A)) ds refl h.faces in
+            let faces = free_drops (Duty.Ask (AskDuty.Opened A)) ds refl h.faces in
             record {
               path = h.path;
               link = h.link;
@@ -279,10 +245,10 @@ module _ (start : Start) (plan : PathPlan) (k j : Setting) (s v : Lane) (t0 u0 :
                   (inr (t.0, told_on A keys t.0 (own_bench faces) (not_true (is_third t.0) (λ third. absurd (not_b (f.keyed (third_shows t.0 third))))) f, (t.2.0, t.2.1, refl)));
             }
 
-        live_copy_a : (ds : List Duty) (h : Relation books (with_agenda (duties.Ask (ask_duties.Live A) ∷ ds) p)) → TreatsKeyed A keys (own_bench h.faces) (other_bench h.faces) ds
+        live_copy_a : (ds : List Duty) (h : Relation books (with_agenda (Duty.Ask (AskDuty.Live A) ∷ ds) p)) → TreatsKeyed A keys (own_bench h.faces) (other_bench h.faces) ds
             → Relation (after_ask (live_ask A p) books) (with_agenda ds p)
         live_copy_a ds h t =
-            let faces = enlivened (duties.Ask (ask_duties.Live A)) ds refl p.link.path p.a.modes.backup_heard h.path.number h.faces in
+            let faces = enlivened (Duty.Ask (AskDuty.Live A)) ds refl p.link.path p.a.modes.backup_heard h.path.number h.faces in
             record {
               path = record {
                 profile = h.path.profile;
@@ -298,10 +264,10 @@ module _ (start : Start) (plan : PathPlan) (k j : Setting) (s v : Lane) (t0 u0 :
                   (first_next A keys (own_bench faces) (other_bench faces) t.2.0 t.2.1 t.0 t.1);
             }
 
-        live_passed_a : (ds : List Duty) (h : Relation books (with_agenda (duties.Ask (ask_duties.Live A) ∷ ds) p)) → TreatsKeyed A keys (own_bench h.faces) (other_bench h.faces) ds
+        live_passed_a : (ds : List Duty) (h : Relation books (with_agenda (Duty.Ask (AskDuty.Live A) ∷ ds) p)) → TreatsKeyed A keys (own_bench h.faces) (other_bench h.faces) ds
             → Relation books (with_agenda ds p)
         live_passed_a ds h t =
-            let faces = free_drops (duties.Ask (ask_duties.Live A)) ds refl h.faces in
+            let faces = free_drops (Duty.Ask (AskDuty.Live A)) ds refl h.faces in
             record {
               path = h.path;
               link = h.link;
@@ -310,20 +276,20 @@ module _ (start : Start) (plan : PathPlan) (k j : Setting) (s v : Lane) (t0 u0 :
                   (first_next A keys (own_bench faces) (other_bench faces) t.2.0 t.2.1 t.0 t.1);
             }
 
-        pub answers_live_a : (ds : List Duty) → Relation books (with_agenda (duties.Ask (ask_duties.Live A) ∷ ds) p) → Relation (after_ask (live_ask A p) books) (with_agenda ds p)
+        pub answers_live_a : (ds : List Duty) → Relation books (with_agenda (Duty.Ask (AskDuty.Live A) ∷ ds) p) → Relation (after_ask (live_ask A p) books) (with_agenda ds p)
         answers_live_a ds h = ⊎_elim
             (λ t. lives_on start plan k j s v t0 u0 going going_back a b books p ds k_is j_is h t)
             (λ t. live_copy_a ds h t)
             h.treats
 
-        pub passes_live_a : (ds : List Duty) → p.a.treated.opened ≡ false → Relation books (with_agenda (duties.Ask (ask_duties.Live A) ∷ ds) p) → Relation books (with_agenda ds p)
+        pub passes_live_a : (ds : List Duty) → p.a.treated.opened ≡ false → Relation books (with_agenda (Duty.Ask (AskDuty.Live A) ∷ ds) p) → Relation books (with_agenda ds p)
         passes_live_a ds off h = ⊎_elim
             (λ t. absurd (both_ways _ off t.0.opened))
             (λ t. live_passed_a ds h t)
             h.treats
 
         -- its first thing is a DSS
-        pub passes_first_a : (ds : List Duty) → Relation books (with_agenda (duties.Step (step_duties.Heard A 0) ∷ ds) p) → Relation books (with_agenda ds (with_end A (item_passed A (item_of 0 p.a) p.a) p))
+        pub passes_first_a : (ds : List Duty) → Relation books (with_agenda (Duty.Step (StepDuty.Heard A 0) ∷ ds) p) → Relation books (with_agenda ds (with_end A (item_passed A (item_of 0 p.a) p.a) p))
         passes_first_a ds h =
             let t = h.treats in
             let f = t.1 in
@@ -354,10 +320,10 @@ module _ (start : Start) (plan : PathPlan) (k j : Setting) (s v : Lane) (t0 u0 :
             some_ready p q = omega (arith, p, q)
 
         -- the control book isn't told that a Data ACK was heard
-        pub passes_ack_heard_a : (ds : List Duty) → Relation books (with_agenda (duties.Ask (ask_duties.AckHeard A) ∷ ds) p) → Relation books (with_agenda ds p)
+        pub passes_ack_heard_a : (ds : List Duty) → Relation books (with_agenda (Duty.Ask (AskDuty.AckHeard A) ∷ ds) p) → Relation books (with_agenda ds p)
         passes_ack_heard_a ds h =
             let t = h.treats in
-            let faces = free_drops (duties.Ask (ask_duties.AckHeard A)) ds refl h.faces in
+            let faces = free_drops (Duty.Ask (AskDuty.AckHeard A)) ds refl h.faces in
             record {
               path = h.path;
               link = h.link;
@@ -368,12 +334,12 @@ module _ (start : Start) (plan : PathPlan) (k j : Setting) (s v : Lane) (t0 u0 :
 
         -- ---- at B
 
-        pub passes_opened_b : (ds : List Duty) → (is_opened_by_keys p.b || is_opened_plainly p.b) ≡ false → Relation books (with_agenda (duties.Ask (ask_duties.Opened B) ∷ ds) p)
+        pub passes_opened_b : (ds : List Duty) → (is_opened_by_keys p.b || is_opened_plainly p.b) ≡ false → Relation books (with_agenda (Duty.Ask (AskDuty.Opened B) ∷ ds) p)
             → Relation books (with_agenda ds p)
         passes_opened_b ds off h =
             let t = h.treats in
             let f = t.1 in
-            let faces = free_drops (duties.Ask (ask_duties.Opened B)) ds refl h.faces in
+            let faces = free_drops (Duty.Ask (AskDuty.Opened B)) ds refl h.faces in
             record {
               path = h.path;
               link = h.link;
@@ -382,10 +348,10 @@ module _ (start : Start) (plan : PathPlan) (k j : Setting) (s v : Lane) (t0 u0 :
                   (inr (t.0, told_on B keys t.0 (other_bench faces) (not_true (is_third t.0) (λ third. absurd (both_ways _ off (opened_third keys f.sent.telling.next (window_told false f.sent.window) p.b (f.opened ∙ third) (f.items ∙ ap (λ (y : Brings). heard_by keys f.sent.telling.next (window_told false f.sent.window) y) (third_only t.0 third)))))) f, (t.2.0, t.2.1, refl)));
             }
 
-        live_copy_b : (ds : List Duty) (h : Relation books (with_agenda (duties.Ask (ask_duties.Live B) ∷ ds) p)) → TreatsKeyed B keys (own_bench h.faces) (other_bench h.faces) ds
+        live_copy_b : (ds : List Duty) (h : Relation books (with_agenda (Duty.Ask (AskDuty.Live B) ∷ ds) p)) → TreatsKeyed B keys (own_bench h.faces) (other_bench h.faces) ds
             → Relation (after_ask (live_ask B p) books) (with_agenda ds p)
         live_copy_b ds h t =
-            let faces = from_b keys k j s v a b (after_ask (live_ask B p) books) (with_agenda ds p) (enlivened (duties.Ask (ask_duties.Live B)) ds refl p.link.path p.b.modes.backup_heard h.path.number (from_a keys k j s v a b books (with_agenda (duties.Ask (ask_duties.Live B) ∷ ds) p) h.faces)) in
+            let faces = from_b keys k j s v a b (after_ask (live_ask B p) books) (with_agenda ds p) (enlivened (Duty.Ask (AskDuty.Live B)) ds refl p.link.path p.b.modes.backup_heard h.path.number (from_a keys k j s v a b books (with_agenda (Duty.Ask (AskDuty.Live B) ∷ ds) p) h.faces)) in
             record {
               path = record {
                 profile = h.path.profile;
@@ -401,10 +367,10 @@ module _ (start : Start) (plan : PathPlan) (k j : Setting) (s v : Lane) (t0 u0 :
                   (first_next B keys (own_bench faces) (other_bench faces) t.2.0 t.2.1 t.0 t.1);
             }
 
-        live_passed_b : (ds : List Duty) (h : Relation books (with_agenda (duties.Ask (ask_duties.Live B) ∷ ds) p)) → TreatsKeyed B keys (own_bench h.faces) (other_bench h.faces) ds
+        live_passed_b : (ds : List Duty) (h : Relation books (with_agenda (Duty.Ask (AskDuty.Live B) ∷ ds) p)) → TreatsKeyed B keys (own_bench h.faces) (other_bench h.faces) ds
             → Relation books (with_agenda ds p)
         live_passed_b ds h t =
-            let faces = free_drops (duties.Ask (ask_duties.Live B)) ds refl h.faces in
+            let faces = free_drops (Duty.Ask (AskDuty.Live B)) ds refl h.faces in
             record {
               path = h.path;
               link = h.link;
@@ -413,25 +379,25 @@ module _ (start : Start) (plan : PathPlan) (k j : Setting) (s v : Lane) (t0 u0 :
                   (first_next B keys (own_bench faces) (other_bench faces) t.2.0 t.2.1 t.0 t.1);
             }
 
-        pub answers_live_b : (ds : List Duty) → Relation books (with_agenda (duties.Ask (ask_duties.Live B) ∷ ds) p) → Relation (after_ask (live_ask B p) books) (with_agenda ds p)
+        pub answers_live_b : (ds : List Duty) → Relation books (with_agenda (Duty.Ask (AskDuty.Live B) ∷ ds) p) → Relation (after_ask (live_ask B p) books) (with_agenda ds p)
         answers_live_b ds h = ⊎_elim
             (λ t. absurd (not_a t.0.side))
             (λ t. live_copy_b ds h t)
             h.treats
 
-        pub passes_live_b : (ds : List Duty) → p.b.treated.opened ≡ false → Relation books (with_agenda (duties.Ask (ask_duties.Live B) ∷ ds) p) → Relation books (with_agenda ds p)
+        pub passes_live_b : (ds : List Duty) → p.b.treated.opened ≡ false → Relation books (with_agenda (Duty.Ask (AskDuty.Live B) ∷ ds) p) → Relation books (with_agenda ds p)
         passes_live_b ds off h = ⊎_elim
             (λ t. absurd (not_a t.0.side))
             (λ t. live_passed_b ds h t)
             h.treats
 
         -- a copy that shows no keys: its first thing is a DSS, which changes nothing at B
-        pub passes_first_dss_b : (ds : List Duty) (h : Relation books (with_agenda (duties.Step (step_duties.Heard B 0) ∷ ds) p)) → shows_keys h.treats.0 ≡ false
+        pub passes_first_dss_b : (ds : List Duty) (h : Relation books (with_agenda (Duty.Step (StepDuty.Heard B 0) ∷ ds) p)) → shows_keys h.treats.0 ≡ false
             → Relation books (with_agenda ds (with_end B (item_passed B (item_of 0 p.b) p.b) p))
         passes_first_dss_b ds h none =
             let t = h.treats in
             let f = t.1 in
-            let faces = free_drops (duties.Step (step_duties.Heard B 0)) ds refl h.faces in
+            let faces = free_drops (Duty.Step (StepDuty.Heard B 0)) ds refl h.faces in
             subst (λ (o : Option Heard). Relation books (with_agenda ds (with_end B (item_passed B o p.b) p)))
             (sym (item_is 0 p.b (heard_by keys f.sent.telling.next (window_told false f.sent.window) t.0) h.faces.other.modes.mapping.0 f.items
             ∙ dss_first keys f.sent.telling.next (window_told false f.sent.window) t.0 f.kind none))
@@ -452,10 +418,10 @@ module _ (start : Start) (plan : PathPlan) (k j : Setting) (s v : Lane) (t0 u0 :
             }))
 
         -- the control book isn't told that a Data ACK was heard
-        pub passes_ack_heard_b : (ds : List Duty) → Relation books (with_agenda (duties.Ask (ask_duties.AckHeard B) ∷ ds) p) → Relation books (with_agenda ds p)
+        pub passes_ack_heard_b : (ds : List Duty) → Relation books (with_agenda (Duty.Ask (AskDuty.AckHeard B) ∷ ds) p) → Relation books (with_agenda ds p)
         passes_ack_heard_b ds h =
             let t = h.treats in
-            let faces = free_drops (duties.Ask (ask_duties.AckHeard B)) ds refl h.faces in
+            let faces = free_drops (Duty.Ask (AskDuty.AckHeard B)) ds refl h.faces in
             record {
               path = h.path;
               link = h.link;

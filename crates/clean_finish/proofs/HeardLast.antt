@@ -1,28 +1,9 @@
 -- The steps in which the third thing of a copy is heard: the mapping of its bytes, or its DATA_FIN.
-use Rattle.std.proofs.Common.{◌≡◌, refl, sym, subst, ℕ, ◌≤◌, true, false, Option, Some, List, ◌∷◌, length, arith}
-use Rattle.std.proofs.lemmas.Bool.{both_ways}
-use Rattle.sides.specs.declared.side.Side.TheVariants.{A, B}
-use Rattle.dss_mapping.specs.Mappings.{Mappings}
-use Rattle.path_segments.specs.Laws.{window_told}
-use Rattle.actor_desk.specs.Desk.{SixBooks, after_ask, reply_of}
-use Rattle.stream_apps.specs.Apps.{AppState}
-use Rattle.path_agenda.specs.Agenda.{payload_came}
-use Rattle.path_agenda.specs.declared.duty.Duty.{Duty}
-use Rattle.path_agenda.specs.declared.duty.Duty.TheVariants as duties
-use Rattle.path_agenda.specs.declared.duty.StepDuty.TheVariants as step_duties
-use Rattle.path_agenda.specs.declared.heard.Heard.{Heard}
-use Rattle.path_agenda.specs.declared.heard.Heard.TheVariants as says
-use Rattle.path_core.specs.declared.modes.Modes.{Modes}
-use Rattle.path_core.specs.State.{PathState, with_agenda, with_end}
-use Rattle.path_core.specs.Treating.{answered_item, item_ask, item_of, item_passed, item_stands}
-use Rattle.path_core.specs.Values.{Carried, values}
-use Rattle.world_laws.specs.Openings.{PathPlan, Start}
-use Rattle.pace.specs.Lane.{Setting, Lane, all_left}
-use Rattle.pace.specs.Going.{Going}
-use Rattle.clean_finish.specs.Segments.{Keys, Brings, octets_of, shows_keys}
-use Rattle.clean_finish.specs.Segments.Brings.{OpensSubflow, ShowsKeys, FirstPiece, Piece, Acknowledges, EndsStream, EndsSubflow}
-use Rattle.clean_finish.specs.Running.{Beside, MapsAs, Treats, TreatsCopy, count_in, heard_by, kept_in, own_bench, other_bench, FacesOfB, IsSetting, Runs, keys_in}
-use Rattle.clean_finish.specs.Running.Treatment.{AfterTwo}
+use Rattle.clean_finish.proofs.Words.{◌≡◌, refl, sym, subst, ℕ, ◌≤◌, true, false, Option, List, ◌∷◌, length, arith, Some, both_ways, A, B, Mappings}
+use Rattle.clean_finish.proofs.Words.{window_told, Duty, StepDuty, payload_came, Heard, SixBooks, reply_of, after_ask, AppState, Carried, values, Modes}
+use Rattle.clean_finish.proofs.Words.{PathState, with_agenda, with_end, answered_item, item_ask, item_of, item_passed, item_stands, Setting, Lane, all_left}
+use Rattle.clean_finish.proofs.Words.{Going, PathPlan, Start, Keys, Brings, shows_keys, octets_of, OpensSubflow, Piece, EndsStream, Beside, MapsAs, Treats}
+use Rattle.clean_finish.proofs.Words.{TreatsCopy, count_in, heard_by, kept_in, own_bench, other_bench, FacesOfB, IsSetting, Runs, keys_in, AfterTwo}
 use Rattle.clean_finish.proofs.EndPassing.{sent_some}
 use Rattle.clean_finish.proofs.HeardMapping.{end_passed_a, end_passed_b, end_told_a, end_told_b, mapping_passed_a, mapping_passed_b, mapping_told_a, mapping_told_b}
 use Rattle.clean_finish.proofs.HeardNext.{item_is}
@@ -43,9 +24,9 @@ module _ (start : Start) (plan : PathPlan) (k j : Setting) (s v : Lane) (t0 u0 :
 
         -- ---- at A
 
-        module _ (ds : List Duty) (h : Relation books (with_agenda (duties.Step (step_duties.Heard A 2) ∷ ds) p)) where
+        module _ (ds : List Duty) (h : Relation books (with_agenda (Duty.Step (StepDuty.Heard A 2) ∷ ds) p)) where
           abbrev q_a : PathState Carried
-          q_a = with_agenda (duties.Step (step_duties.Heard A 2) ∷ ds) p
+          q_a = with_agenda (Duty.Step (StepDuty.Heard A 2) ∷ ds) p
 
           module _ (octets : List ℕ) (f : TreatsCopy A keys AfterTwo false (Piece octets) (own_bench h.faces)) (beside : Beside A (own_bench h.faces) (other_bench h.faces) ds (payload_came A)) where
             some_a : 1 ≤ length (octets_of f.sent.brings)
@@ -65,7 +46,7 @@ module _ (start : Start) (plan : PathPlan) (k j : Setting) (s v : Lane) (t0 u0 :
                 subst (λ (es : List Duty). Treats keys (record (own_bench h.faces) { end = learned_end learned_a mo p.a }) (other_bench h.faces) es) (sym beside.2)
                 (Piece octets, piece_learned A keys (own_bench h.faces) octets f learned_a mo maps, (beside.0, beside.1, refl))
 
-            item_a : item_of 2 p.a ≡ Some (says.Mapping false)
+            item_a : item_of 2 p.a ≡ Some (Heard.Mapping false)
             item_a = item_is 2 p.a (heard_by keys f.sent.telling.next (window_told false f.sent.window) (Piece octets)) h.faces.own.modes.mapping.0 f.items
 
             told_a : let o = item_of 2 p.a in Relation (after_ask (item_ask values A o q_a) books) (answered_item values A o (reply_of books (item_ask values A o q_a)) q_a)
@@ -83,7 +64,7 @@ module _ (start : Start) (plan : PathPlan) (k j : Setting) (s v : Lane) (t0 u0 :
             behind_a mo = subst (λ (es : List Duty). Treats keys (record (own_bench h.faces) { end = ended_end place mo p.a }) (other_bench h.faces) es) (sym beside.2)
                 (EndsStream place, end_noted A keys (own_bench h.faces) place f mo, (beside.0, beside.1, refl))
 
-            end_item_a : item_of 2 p.a ≡ Some (says.DataFin place)
+            end_item_a : item_of 2 p.a ≡ Some (Heard.DataFin place)
             end_item_a = item_is 2 p.a (heard_by keys f.sent.telling.next (window_told false f.sent.window) (EndsStream place)) h.faces.own.modes.mapping.0 f.items
 
             ends_a : let o = item_of 2 p.a in Relation (after_ask (item_ask values A o q_a) books) (answered_item values A o (reply_of books (item_ask values A o q_a)) q_a)
@@ -99,37 +80,31 @@ module _ (start : Start) (plan : PathPlan) (k j : Setting) (s v : Lane) (t0 u0 :
           last_a : (what : Brings) → TreatsCopy A keys AfterTwo (shows_keys what) what (own_bench h.faces) → count_in what ≡ 3
               → Beside A (own_bench h.faces) (other_bench h.faces) ds (payload_came A) → let o = item_of 2 p.a in Relation (after_ask (item_ask values A o q_a) books) (answered_item values A o (reply_of books (item_ask values A o q_a)) q_a)
           last_a OpensSubflow f last beside = absurd (both_ways _ f.kind refl)
-          last_a ShowsKeys f last beside = absurd (omega (arith, last))
-          last_a (FirstPiece octets) f last beside = absurd (omega (arith, last))
           last_a (Piece octets) f last beside = told_a octets f beside
-          last_a Acknowledges f last beside = absurd (omega (arith, last))
           last_a (EndsStream place) f last beside = ends_a place f beside
-          last_a EndsSubflow f last beside = absurd (omega (arith, last))
+          last_a _ f last beside = absurd (omega (arith, last))
 
           last_passed_a : (what : Brings) → TreatsCopy A keys AfterTwo (shows_keys what) what (own_bench h.faces) → count_in what ≡ 3
               → Beside A (own_bench h.faces) (other_bench h.faces) ds (payload_came A) → Relation books (with_agenda ds (with_end A (item_passed A (item_of 2 p.a) p.a) p))
           last_passed_a OpensSubflow f last beside = absurd (both_ways _ f.kind refl)
-          last_passed_a ShowsKeys f last beside = absurd (omega (arith, last))
-          last_passed_a (FirstPiece octets) f last beside = absurd (omega (arith, last))
           last_passed_a (Piece octets) f last beside = passed_a octets f beside
-          last_passed_a Acknowledges f last beside = absurd (omega (arith, last))
           last_passed_a (EndsStream place) f last beside = end_passes_a place f beside
-          last_passed_a EndsSubflow f last beside = absurd (omega (arith, last))
+          last_passed_a _ f last beside = absurd (omega (arith, last))
 
-        pub answers_last_a : (ds : List Duty) → item_stands (item_of 2 p.a) p.a ≡ true → Relation books (with_agenda (duties.Step (step_duties.Heard A 2) ∷ ds) p)
-            → let q = with_agenda (duties.Step (step_duties.Heard A 2) ∷ ds) p in let o = item_of 2 p.a in let ask = item_ask values A o q in
+        pub answers_last_a : (ds : List Duty) → item_stands (item_of 2 p.a) p.a ≡ true → Relation books (with_agenda (Duty.Step (StepDuty.Heard A 2) ∷ ds) p)
+            → let q = with_agenda (Duty.Step (StepDuty.Heard A 2) ∷ ds) p in let o = item_of 2 p.a in let ask = item_ask values A o q in
             Relation (after_ask ask books) (answered_item values A o (reply_of books ask) q)
         answers_last_a ds on h = let t = h.treats in last_a ds h t.0 t.1 t.2 t.3
 
-        pub passes_last_a : (ds : List Duty) → item_stands (item_of 2 p.a) p.a ≡ false → Relation books (with_agenda (duties.Step (step_duties.Heard A 2) ∷ ds) p)
+        pub passes_last_a : (ds : List Duty) → item_stands (item_of 2 p.a) p.a ≡ false → Relation books (with_agenda (Duty.Step (StepDuty.Heard A 2) ∷ ds) p)
             → Relation books (with_agenda ds (with_end A (item_passed A (item_of 2 p.a) p.a) p))
         passes_last_a ds off h = let t = h.treats in last_passed_a ds h t.0 t.1 t.2 t.3
 
         -- ---- at B
 
-        module _ (ds : List Duty) (h : Relation books (with_agenda (duties.Step (step_duties.Heard B 2) ∷ ds) p)) where
+        module _ (ds : List Duty) (h : Relation books (with_agenda (Duty.Step (StepDuty.Heard B 2) ∷ ds) p)) where
           abbrev q_b : PathState Carried
-          q_b = with_agenda (duties.Step (step_duties.Heard B 2) ∷ ds) p
+          q_b = with_agenda (Duty.Step (StepDuty.Heard B 2) ∷ ds) p
 
           abbrev view_b : FacesOfB keys k j s v a b books q_b
           view_b = from_a keys k j s v a b books q_b h.faces
@@ -152,7 +127,7 @@ module _ (start : Start) (plan : PathPlan) (k j : Setting) (s v : Lane) (t0 u0 :
                 subst (λ (es : List Duty). Treats keys (own_bench h.faces) (record (other_bench h.faces) { end = learned_end learned_b mo p.b }) es) (sym beside.2)
                 (Piece octets, piece_learned B keys (other_bench h.faces) octets f learned_b mo maps, (beside.0, beside.1, refl))
 
-            item_b : item_of 2 p.b ≡ Some (says.Mapping false)
+            item_b : item_of 2 p.b ≡ Some (Heard.Mapping false)
             item_b = item_is 2 p.b (heard_by keys f.sent.telling.next (window_told false f.sent.window) (Piece octets)) view_b.own.modes.mapping.0 f.items
 
             told_b : let o = item_of 2 p.b in Relation (after_ask (item_ask values B o q_b) books) (answered_item values B o (reply_of books (item_ask values B o q_b)) q_b)
@@ -170,7 +145,7 @@ module _ (start : Start) (plan : PathPlan) (k j : Setting) (s v : Lane) (t0 u0 :
             behind_b mo = subst (λ (es : List Duty). Treats keys (own_bench h.faces) (record (other_bench h.faces) { end = ended_end place mo p.b }) es) (sym beside.2)
                 (EndsStream place, end_noted B keys (other_bench h.faces) place f mo, (beside.0, beside.1, refl))
 
-            end_item_b : item_of 2 p.b ≡ Some (says.DataFin place)
+            end_item_b : item_of 2 p.b ≡ Some (Heard.DataFin place)
             end_item_b = item_is 2 p.b (heard_by keys f.sent.telling.next (window_told false f.sent.window) (EndsStream place)) view_b.own.modes.mapping.0 f.items
 
             ends_b : let o = item_of 2 p.b in Relation (after_ask (item_ask values B o q_b) books) (answered_item values B o (reply_of books (item_ask values B o q_b)) q_b)
@@ -186,28 +161,22 @@ module _ (start : Start) (plan : PathPlan) (k j : Setting) (s v : Lane) (t0 u0 :
           last_b : (what : Brings) → TreatsCopy B keys AfterTwo (shows_keys what) what (other_bench h.faces) → count_in what ≡ 3
               → Beside B (own_bench h.faces) (other_bench h.faces) ds (payload_came B) → let o = item_of 2 p.b in Relation (after_ask (item_ask values B o q_b) books) (answered_item values B o (reply_of books (item_ask values B o q_b)) q_b)
           last_b OpensSubflow f last beside = absurd (both_ways _ f.kind refl)
-          last_b ShowsKeys f last beside = absurd (omega (arith, last))
-          last_b (FirstPiece octets) f last beside = absurd (omega (arith, last))
           last_b (Piece octets) f last beside = told_b octets f beside
-          last_b Acknowledges f last beside = absurd (omega (arith, last))
           last_b (EndsStream place) f last beside = ends_b place f beside
-          last_b EndsSubflow f last beside = absurd (omega (arith, last))
+          last_b _ f last beside = absurd (omega (arith, last))
 
           last_passed_b : (what : Brings) → TreatsCopy B keys AfterTwo (shows_keys what) what (other_bench h.faces) → count_in what ≡ 3
               → Beside B (own_bench h.faces) (other_bench h.faces) ds (payload_came B) → Relation books (with_agenda ds (with_end B (item_passed B (item_of 2 p.b) p.b) p))
           last_passed_b OpensSubflow f last beside = absurd (both_ways _ f.kind refl)
-          last_passed_b ShowsKeys f last beside = absurd (omega (arith, last))
-          last_passed_b (FirstPiece octets) f last beside = absurd (omega (arith, last))
           last_passed_b (Piece octets) f last beside = passed_b octets f beside
-          last_passed_b Acknowledges f last beside = absurd (omega (arith, last))
           last_passed_b (EndsStream place) f last beside = end_passes_b place f beside
-          last_passed_b EndsSubflow f last beside = absurd (omega (arith, last))
+          last_passed_b _ f last beside = absurd (omega (arith, last))
 
-        pub answers_last_b : (ds : List Duty) → item_stands (item_of 2 p.b) p.b ≡ true → Relation books (with_agenda (duties.Step (step_duties.Heard B 2) ∷ ds) p)
-            → let q = with_agenda (duties.Step (step_duties.Heard B 2) ∷ ds) p in let o = item_of 2 p.b in let ask = item_ask values B o q in
+        pub answers_last_b : (ds : List Duty) → item_stands (item_of 2 p.b) p.b ≡ true → Relation books (with_agenda (Duty.Step (StepDuty.Heard B 2) ∷ ds) p)
+            → let q = with_agenda (Duty.Step (StepDuty.Heard B 2) ∷ ds) p in let o = item_of 2 p.b in let ask = item_ask values B o q in
             Relation (after_ask ask books) (answered_item values B o (reply_of books ask) q)
         answers_last_b ds on h = let t = h.treats in last_b ds h t.0 t.1 t.2 t.3
 
-        pub passes_last_b : (ds : List Duty) → item_stands (item_of 2 p.b) p.b ≡ false → Relation books (with_agenda (duties.Step (step_duties.Heard B 2) ∷ ds) p)
+        pub passes_last_b : (ds : List Duty) → item_stands (item_of 2 p.b) p.b ≡ false → Relation books (with_agenda (Duty.Step (StepDuty.Heard B 2) ∷ ds) p)
             → Relation books (with_agenda ds (with_end B (item_passed B (item_of 2 p.b) p.b) p))
         passes_last_b ds off h = let t = h.treats in last_passed_b ds h t.0 t.1 t.2 t.3

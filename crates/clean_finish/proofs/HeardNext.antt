@@ -1,22 +1,10 @@
 -- What is treated next of a copy, once so much of it was heard.
-use Rattle.std.proofs.Common.{◌≡◌, refl, ap, ◌∙◌, ℕ, zero, suc, ◌+◌, ◌-◌, ◌≤◌, if◌then◌else◌, Bool, true, false, inr, Option, Some, None, List, [], arith}
-use Rattle.std.proofs.lemmas.Bool.{both_ways}
-use Rattle.sides.specs.declared.side.Side.{Side}
-use Rattle.sides.specs.Side.{peer}
-use Rattle.dss_mapping.specs.Mappings.{Mappings}
-use Rattle.actor_desk.specs.Words.{pick}
-use Rattle.path_agenda.specs.Agenda.{emission, heard_and, payload_came}
-use Rattle.path_agenda.specs.declared.duty.Duty.{Duty}
-use Rattle.path_agenda.specs.declared.heard.Heard.{Heard}
-use Rattle.path_agenda.specs.declared.heard.Heard.TheVariants as says
-use Rattle.path_store.specs.declared.mapped_data_fin.MappedDataFin.{MappedDataFin}
-use Rattle.path_core.specs.End.{PathEnd}
-use Rattle.path_core.specs.Treating.{item_of}
-use Rattle.path_core.specs.Choices.{item_at}
-use Rattle.clean_finish.specs.Segments.{Keys, Brings, is_opening, is_third, shows_keys}
-use Rattle.clean_finish.specs.Segments.Brings.{OpensSubflow, ShowsKeys, FirstPiece, Piece, Acknowledges, EndsStream, EndsSubflow}
-use Rattle.clean_finish.specs.Running.{Has, Bench, IsBetween, MapsAs, Treats, TreatsCopy, count_in, heard_by}
-use Rattle.clean_finish.specs.Running.Treatment.{AtFirst, AfterOne, AfterTwo, AfterAll}
+use Rattle.clean_finish.proofs.Words.{◌≡◌, refl, ap, ◌∙◌, ℕ, ◌+◌, ◌-◌, ◌≤◌, Bool, true, false, if◌then◌else◌, inr, Option, None, List, [], arith, Some, suc}
+use Rattle.clean_finish.proofs.Words.{zero, both_ways, Side, peer, Mappings, MappedDataFin, Duty, heard_and, payload_came, emission, Heard, pick, PathEnd}
+use Rattle.clean_finish.proofs.Words.{item_of, item_at, Keys, Brings, shows_keys, is_third, OpensSubflow, ShowsKeys, FirstPiece, Piece, Acknowledges}
+use Rattle.clean_finish.proofs.Words.{EndsStream, EndsSubflow, MapsAs, Treats, TreatsCopy, count_in, heard_by, Has, Bench, IsBetween, AtFirst, AfterOne}
+use Rattle.clean_finish.proofs.Words.{AfterTwo, AfterAll}
+use Rattle.clean_finish.specs.Segments.{is_opening}
 use Rattle.clean_finish.proofs.Raised.{Emits}
 use Rattle.clean_finish.proofs.Templates.{emission_emits}
 
@@ -42,23 +30,17 @@ heard_emits q from count = record {
 pub item_is : (i : ℕ) (e : PathEnd) (items : List Heard) → e.modes.identity ≡ false → e.treated.items ≡ items → item_of i e ≡ item_at i items
 item_is i e items mptcp is = ap (λ (b : Bool). if b then None else item_at i e.treated.items) mptcp ∙ ap (λ (xs : List Heard). item_at i xs) is
 
-pub dss_first : (keys : Keys) (next window : ℕ) (k : Brings) → is_opening k ≡ false → shows_keys k ≡ false → item_at 0 (heard_by keys next window k) ≡ Some says.Dss
+pub dss_first : (keys : Keys) (next window : ℕ) (k : Brings) → is_opening k ≡ false → shows_keys k ≡ false → item_at 0 (heard_by keys next window k) ≡ Some Heard.Dss
 dss_first keys next window OpensSubflow e f = absurd (both_ways _ e refl)
 dss_first keys next window ShowsKeys e f = absurd (both_ways _ f refl)
 dss_first keys next window (FirstPiece octets) e f = absurd (both_ways _ f refl)
-dss_first keys next window (Piece octets) e f = refl
-dss_first keys next window Acknowledges e f = refl
-dss_first keys next window (EndsStream place) e f = refl
-dss_first keys next window EndsSubflow e f = refl
+dss_first keys next window _ e f = refl
 
-pub ack_second : (keys : Keys) (next window : ℕ) (k : Brings) → is_opening k ≡ false → shows_keys k ≡ false → item_at 1 (heard_by keys next window k) ≡ Some (says.DataAck next window)
+pub ack_second : (keys : Keys) (next window : ℕ) (k : Brings) → is_opening k ≡ false → shows_keys k ≡ false → item_at 1 (heard_by keys next window k) ≡ Some (Heard.DataAck next window)
 ack_second keys next window OpensSubflow e f = absurd (both_ways _ e refl)
 ack_second keys next window ShowsKeys e f = absurd (both_ways _ f refl)
 ack_second keys next window (FirstPiece octets) e f = absurd (both_ways _ f refl)
-ack_second keys next window (Piece octets) e f = refl
-ack_second keys next window Acknowledges e f = refl
-ack_second keys next window (EndsStream place) e f = refl
-ack_second keys next window EndsSubflow e f = refl
+ack_second keys next window _ e f = refl
 
 -- ---- without bytes no mapping is learned
 
@@ -218,12 +200,10 @@ module _ (q : Side) (keys : Keys) (a b : Bench) where
   module _ (other : IsBetween (peer q) (pick q b a)) (none : (pick q b a).waiting ≡ 0) where
     pub first_next : (k : Brings) → TreatsCopy q keys AtFirst (is_third k) k x → Treats keys a b (heard_and q 0 (count_in k) (payload_came q))
     first_next OpensSubflow f = absurd (both_ways _ f.kind refl)
-    first_next ShowsKeys f = (ShowsKeys, f, (other, none, refl))
     first_next (FirstPiece octets) f = (FirstPiece octets, f, (other, none, refl))
     first_next (Piece octets) f = (Piece octets, f, (other, none, refl))
-    first_next Acknowledges f = (Acknowledges, f, (other, none, refl))
     first_next (EndsStream place) f = (EndsStream place, f, (other, none, refl))
-    first_next EndsSubflow f = (EndsSubflow, f, (other, none, refl))
+    first_next k f = (k, f, (other, none, refl))
 
     pub one_next : (k : Brings) → TreatsCopy q keys AfterOne (shows_keys k) k x → Treats keys a b (heard_and q 1 (count_in k - 1) (payload_came q))
     one_next OpensSubflow f = absurd (both_ways _ f.kind refl)

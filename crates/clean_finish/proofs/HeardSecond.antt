@@ -1,29 +1,10 @@
 -- The steps in which the second thing of a copy is heard: its Data ACK, or the mapping of the first bytes.
-use Rattle.std.proofs.Common.{◌≡◌, refl, sym, subst, ap, ◌∙◌, is_none, ℕ, ◌-◌, ◌≤◌, true, false, Option, Some, List, ◌∷◌, length, arith}
-use Rattle.std.proofs.lemmas.Bool.{both_ways}
-use Rattle.sides.specs.declared.side.Side.TheVariants.{A, B}
-use Rattle.dss_mapping.specs.Mappings.{Mappings}
-use Rattle.path_segments.specs.Laws.{window_told}
-use Rattle.actor_desk.specs.Desk.{SixBooks, after_ask, reply_of}
-use Rattle.stream_apps.specs.Apps.{AppState}
-use Rattle.path_agenda.specs.Agenda.{heard_and, payload_came}
-use Rattle.path_agenda.specs.declared.duty.Duty.{Duty}
-use Rattle.path_agenda.specs.declared.duty.Duty.TheVariants as duties
-use Rattle.path_agenda.specs.declared.duty.StepDuty.TheVariants as step_duties
-use Rattle.path_agenda.specs.declared.heard.Heard.{Heard}
-use Rattle.path_agenda.specs.declared.heard.Heard.TheVariants as says
-use Rattle.path_store.specs.declared.infinite_mapping.InfiniteMapping.{InfiniteMapping}
-use Rattle.path_core.specs.declared.modes.Modes.{Modes}
-use Rattle.path_core.specs.State.{PathState, with_agenda, with_end}
-use Rattle.path_core.specs.Treating.{answered_item, item_ask, item_of, item_passed, item_stands}
-use Rattle.path_core.specs.Values.{Carried, values}
-use Rattle.world_laws.specs.Openings.{PathPlan, Start}
-use Rattle.pace.specs.Lane.{Setting, Lane, all_left}
-use Rattle.pace.specs.Going.{Going}
-use Rattle.clean_finish.specs.Segments.{Keys, Brings, octets_of, shows_keys}
-use Rattle.clean_finish.specs.Segments.Brings.{OpensSubflow, ShowsKeys, FirstPiece, Piece, Acknowledges, EndsStream, EndsSubflow}
-use Rattle.clean_finish.specs.Running.{Beside, MapsAs, Treats, TreatsCopy, count_in, heard_by, kept_in, own_bench, other_bench, FacesOfB, IsSetting, Runs, keys_in}
-use Rattle.clean_finish.specs.Running.Treatment.{AfterOne}
+use Rattle.clean_finish.proofs.Words.{◌≡◌, refl, sym, subst, ap, ◌∙◌, ℕ, ◌-◌, ◌≤◌, true, false, Option, List, ◌∷◌, length, arith, Some, is_none, both_ways, A}
+use Rattle.clean_finish.proofs.Words.{B, Mappings, window_told, InfiniteMapping, Duty, StepDuty, heard_and, payload_came, Heard, SixBooks, reply_of, after_ask}
+use Rattle.clean_finish.proofs.Words.{AppState, Carried, values, Modes, PathState, with_agenda, with_end, answered_item, item_ask, item_of, item_passed}
+use Rattle.clean_finish.proofs.Words.{item_stands, Setting, Lane, all_left, Going, PathPlan, Start, Keys, Brings, shows_keys, octets_of, OpensSubflow}
+use Rattle.clean_finish.proofs.Words.{ShowsKeys, FirstPiece, Piece, Acknowledges, EndsStream, EndsSubflow, Beside, MapsAs, Treats, TreatsCopy, count_in}
+use Rattle.clean_finish.proofs.Words.{heard_by, kept_in, own_bench, other_bench, FacesOfB, IsSetting, Runs, keys_in, AfterOne}
 use Rattle.clean_finish.proofs.EndPassing.{sent_some}
 use Rattle.clean_finish.proofs.HeardAck.{answers_ack_a, answers_ack_b, second_a, second_b}
 use Rattle.clean_finish.proofs.HeardFirst.{no_keys}
@@ -46,9 +27,9 @@ module _ (start : Start) (plan : PathPlan) (k j : Setting) (s v : Lane) (t0 u0 :
 
         -- ---- at A
 
-        module _ (ds : List Duty) (h : Relation books (with_agenda (duties.Step (step_duties.Heard A 1) ∷ ds) p)) where
+        module _ (ds : List Duty) (h : Relation books (with_agenda (Duty.Step (StepDuty.Heard A 1) ∷ ds) p)) where
           abbrev q_a : PathState Carried
-          q_a = with_agenda (duties.Step (step_duties.Heard A 1) ∷ ds) p
+          q_a = with_agenda (Duty.Step (StepDuty.Heard A 1) ∷ ds) p
 
           second_acked : let o = item_of 1 p.a in Relation (after_ask (item_ask values A o q_a) books) (answered_item values A o (reply_of books (item_ask values A o q_a)) q_a)
           second_acked = let t = h.treats in answers_ack_a start plan k j s v t0 u0 going going_back a b books p k_is j_is ds h t.0 t.1 (no_keys t.0 t.1.keyed) t.3
@@ -61,9 +42,9 @@ module _ (start : Start) (plan : PathPlan) (k j : Setting) (s v : Lane) (t0 u0 :
 
         -- ---- at B
 
-        module _ (ds : List Duty) (h : Relation books (with_agenda (duties.Step (step_duties.Heard B 1) ∷ ds) p)) where
+        module _ (ds : List Duty) (h : Relation books (with_agenda (Duty.Step (StepDuty.Heard B 1) ∷ ds) p)) where
           abbrev q_b : PathState Carried
-          q_b = with_agenda (duties.Step (step_duties.Heard B 1) ∷ ds) p
+          q_b = with_agenda (Duty.Step (StepDuty.Heard B 1) ∷ ds) p
 
           abbrev view_b : FacesOfB keys k j s v a b books q_b
           view_b = from_a keys k j s v a b books q_b h.faces
@@ -87,7 +68,7 @@ module _ (start : Start) (plan : PathPlan) (k j : Setting) (s v : Lane) (t0 u0 :
                 (two_next B keys (own_bench h.faces) (record (other_bench h.faces) { end = learned_end learned_b mo p.b }) beside.0 beside.1 (FirstPiece octets) refl
                 (first_learned B keys (other_bench h.faces) octets f learned_b mo maps))
 
-            item_b : item_of 1 p.b ≡ Some (says.Mapping false)
+            item_b : item_of 1 p.b ≡ Some (Heard.Mapping false)
             item_b = item_is 1 p.b (heard_by keys f.sent.telling.next (window_told false f.sent.window) (FirstPiece octets)) view_b.own.modes.mapping.0 f.items
 
             told_b : let o = item_of 1 p.b in Relation (after_ask (item_ask values B o q_b) books) (answered_item values B o (reply_of books (item_ask values B o q_b)) q_b)
@@ -105,10 +86,7 @@ module _ (start : Start) (plan : PathPlan) (k j : Setting) (s v : Lane) (t0 u0 :
           answers_by OpensSubflow f some beside = absurd (both_ways _ f.kind refl)
           answers_by ShowsKeys f some beside = absurd (omega (arith, some))
           answers_by (FirstPiece octets) f some beside = told_b octets f beside
-          answers_by (Piece octets) f some beside = answers_ack_b start plan k j s v t0 u0 going going_back a b books p k_is j_is ds h (Piece octets) f refl beside
-          answers_by Acknowledges f some beside = answers_ack_b start plan k j s v t0 u0 going going_back a b books p k_is j_is ds h Acknowledges f refl beside
-          answers_by (EndsStream place) f some beside = answers_ack_b start plan k j s v t0 u0 going going_back a b books p k_is j_is ds h (EndsStream place) f refl beside
-          answers_by EndsSubflow f some beside = answers_ack_b start plan k j s v t0 u0 going going_back a b books p k_is j_is ds h EndsSubflow f refl beside
+          answers_by what f some beside = answers_ack_b start plan k j s v t0 u0 going going_back a b books p k_is j_is ds h what f refl beside
 
           -- a Data ACK is always told
           acks_by : (what : Brings) (f : TreatsCopy B keys AfterOne (shows_keys what) what (other_bench h.faces)) (none : shows_keys what ≡ false)
@@ -128,20 +106,20 @@ module _ (start : Start) (plan : PathPlan) (k j : Setting) (s v : Lane) (t0 u0 :
 
         -- ---- both
 
-        pub answers_second_a : (ds : List Duty) → item_stands (item_of 1 p.a) p.a ≡ true → Relation books (with_agenda (duties.Step (step_duties.Heard A 1) ∷ ds) p)
-            → let q = with_agenda (duties.Step (step_duties.Heard A 1) ∷ ds) p in let o = item_of 1 p.a in let ask = item_ask values A o q in
+        pub answers_second_a : (ds : List Duty) → item_stands (item_of 1 p.a) p.a ≡ true → Relation books (with_agenda (Duty.Step (StepDuty.Heard A 1) ∷ ds) p)
+            → let q = with_agenda (Duty.Step (StepDuty.Heard A 1) ∷ ds) p in let o = item_of 1 p.a in let ask = item_ask values A o q in
             Relation (after_ask ask books) (answered_item values A o (reply_of books ask) q)
         answers_second_a ds on h = second_acked ds h
 
-        pub passes_second_a : (ds : List Duty) → item_stands (item_of 1 p.a) p.a ≡ false → Relation books (with_agenda (duties.Step (step_duties.Heard A 1) ∷ ds) p)
+        pub passes_second_a : (ds : List Duty) → item_stands (item_of 1 p.a) p.a ≡ false → Relation books (with_agenda (Duty.Step (StepDuty.Heard A 1) ∷ ds) p)
             → Relation books (with_agenda ds (with_end A (item_passed A (item_of 1 p.a) p.a) p))
         passes_second_a ds off h = second_passed ds h off
 
-        pub answers_second_b : (ds : List Duty) → item_stands (item_of 1 p.b) p.b ≡ true → Relation books (with_agenda (duties.Step (step_duties.Heard B 1) ∷ ds) p)
-            → let q = with_agenda (duties.Step (step_duties.Heard B 1) ∷ ds) p in let o = item_of 1 p.b in let ask = item_ask values B o q in
+        pub answers_second_b : (ds : List Duty) → item_stands (item_of 1 p.b) p.b ≡ true → Relation books (with_agenda (Duty.Step (StepDuty.Heard B 1) ∷ ds) p)
+            → let q = with_agenda (Duty.Step (StepDuty.Heard B 1) ∷ ds) p in let o = item_of 1 p.b in let ask = item_ask values B o q in
             Relation (after_ask ask books) (answered_item values B o (reply_of books ask) q)
         answers_second_b ds on h = let t = h.treats in answers_by ds h t.0 t.1 t.2 t.3
 
-        pub passes_second_b : (ds : List Duty) → item_stands (item_of 1 p.b) p.b ≡ false → Relation books (with_agenda (duties.Step (step_duties.Heard B 1) ∷ ds) p)
+        pub passes_second_b : (ds : List Duty) → item_stands (item_of 1 p.b) p.b ≡ false → Relation books (with_agenda (Duty.Step (StepDuty.Heard B 1) ∷ ds) p)
             → Relation books (with_agenda ds (with_end B (item_passed B (item_of 1 p.b) p.b) p))
         passes_second_b ds off h = let t = h.treats in passes_by ds h off t.0 t.1 t.2 t.3

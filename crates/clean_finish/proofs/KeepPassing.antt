@@ -1,42 +1,14 @@
 -- What is passed of a copy behind all that it says: it has a Data ACK or none is new, and its payload is kept.
-use Rattle.std.proofs.Common.{◌≡◌, refl, sym, subst, ap, ◌∙◌, ℕ, ◌+◌, ◌-◌, ◌≤◌, nat_lt, nat_le, unwrap_or, Bool, true, false, not, ◌&&◌, ◌||◌, if◌then◌else◌, is_some, ◌⊎◌, inl, inr, Option, Some, None, List, [], ◌∷◌, length, map, arith}
-use Rattle.std.proofs.lemmas.Bool.{both_ways, le-ltb}
-use Rattle.sides.specs.declared.side.Side.{Side}
-use Rattle.sides.specs.declared.side.Side.TheVariants.{A, B}
-use Rattle.control_book.specs.Replies.{is_sure}
-use Rattle.fallback_state.specs.Modes.{is_starting}
-use Rattle.subflow_recv.specs.Receiving.{Receiving, after_keep_held, without_held}
-use Rattle.subflow_tcp.specs.Judging.{is_at}
-use Rattle.subflow_tcp.specs.State.{is_behind, is_fin_passed}
-use Rattle.subflow_tcp.specs.Taking.{after_dropping_held, after_keeping_held}
-use Rattle.subflow_tcp.specs.Segments.{one_if}
-use Rattle.actor_desk.specs.Desk.{SixBooks}
-use Rattle.actor_desk.specs.Words.{is_nil}
-use Rattle.stream_apps.specs.Apps.{AppState}
-use Rattle.path_agenda.specs.declared.duty.Duty.{Duty}
-use Rattle.path_agenda.specs.declared.duty.Duty.TheVariants as duties
-use Rattle.path_agenda.specs.declared.duty.AskDuty.TheVariants as ask_duties
-use Rattle.path_agenda.specs.declared.duty.SilentDuty.TheVariants as silent_duties
-use Rattle.path_agenda.specs.declared.duty.StepDuty.TheVariants as step_duties
-use Rattle.path_store.specs.declared.infinite_mapping.InfiniteMapping.{InfiniteMapping}
-use Rattle.path_core.specs.End.{PathEnd}
-use Rattle.path_core.specs.Modes.{acknowledged_under, sends_plainly}
-use Rattle.path_core.specs.MpJoin.{is_joined}
-use Rattle.path_core.specs.State.{PathState, with_agenda, with_end}
-use Rattle.path_core.specs.Profile.{Profile}
-use Rattle.path_core.specs.Deliver.{after_keep, is_dropped}
-use Rattle.path_core.specs.Fallback.{plain_ack_stands, plain_data_stands, subflow_ack_stands, with_plain_ack}
-use Rattle.path_core.specs.Values.{Carried}
-use Rattle.path_core.specs.Choices.{is_side_a}
+use Rattle.clean_finish.proofs.Words.{◌≡◌, refl, sym, subst, ap, ◌∙◌, ℕ, ◌+◌, ◌-◌, ◌≤◌, nat_lt, Bool, true, false, not, ◌&&◌, ◌||◌, if◌then◌else◌, ◌⊎◌, inl}
+use Rattle.clean_finish.proofs.Words.{inr, Option, None, List, [], ◌∷◌, length, map, arith, Some, is_some, nat_le, unwrap_or, both_ways, le-ltb, is_starting}
+use Rattle.clean_finish.proofs.Words.{Side, A, B, is_sure, Receiving, after_keep_held, without_held, is_behind, is_fin_passed, after_dropping_held}
+use Rattle.clean_finish.proofs.Words.{after_keeping_held, is_at, one_if, InfiniteMapping, Duty, StepDuty, AskDuty, SilentDuty, is_nil, SixBooks, AppState}
+use Rattle.clean_finish.proofs.Words.{Profile, Carried, PathEnd, PathState, with_agenda, with_end, sends_plainly, acknowledged_under, is_joined, after_keep}
+use Rattle.clean_finish.proofs.Words.{is_dropped, plain_ack_stands, plain_data_stands, subflow_ack_stands, with_plain_ack, is_side_a, Setting, Lane, all_left}
+use Rattle.clean_finish.proofs.Words.{Going, PathPlan, Start, IsMapping, NoneMapped, Keys, Brings, shows_keys, is_subflow_end, octets_of, is_news, OpensSubflow}
+use Rattle.clean_finish.proofs.Words.{ShowsKeys, FirstPiece, Piece, Acknowledges, EndsStream, EndsSubflow, TreatsCopy, kept_in, own_bench, other_bench}
+use Rattle.clean_finish.proofs.Words.{IsSetting, Runs, keys_in, Bench, place_duties, TreatsEnd, TreatsLast, TreatsBytes, IsLanded, AfterAll, AfterKeeping}
 use Rattle.path_store.specs.Counts.{one_more}
-use Rattle.world_laws.specs.Openings.{PathPlan, Start}
-use Rattle.pace.specs.Lane.{Setting, Lane, all_left}
-use Rattle.pace.specs.Going.{Going}
-use Rattle.clean_finish.specs.Segments.{Keys, Brings, is_news, is_subflow_end, octets_of, shows_keys}
-use Rattle.clean_finish.specs.Segments.Brings.{OpensSubflow, ShowsKeys, FirstPiece, Piece, Acknowledges, EndsStream, EndsSubflow}
-use Rattle.clean_finish.specs.Shows.{IsMapping, NoneMapped}
-use Rattle.clean_finish.specs.Running.{Bench, TreatsCopy, TreatsBytes, TreatsLast, TreatsEnd, IsLanded, place_duties, kept_in, own_bench, other_bench, IsSetting, Runs, keys_in}
-use Rattle.clean_finish.specs.Running.Treatment.{AfterAll, AfterKeeping}
 use Rattle.clean_finish.proofs.EndPassing.{sent_some}
 use Rattle.clean_finish.proofs.Hands.{in_hand}
 use Rattle.clean_finish.proofs.NoneBehind.{one_came}
@@ -267,22 +239,14 @@ module _ (q : Side) (keys : Keys) (x : Bench) where
 -- no FIN is passed before bytes
 fin_none : (b : Brings) (at : Option ℕ) (came received edge : ℕ) → 1 ≤ length (octets_of b) → came ≤ 1
     → at ≡ (if is_subflow_end b then Some edge else (if nat_lt 1 came then Some (received + 1) else None)) → at ≡ None
-fin_none OpensSubflow at came received edge some less is = absurd (omega (arith, some))
-fin_none ShowsKeys at came received edge some less is = absurd (omega (arith, some))
 fin_none (FirstPiece octets) at came received edge some less is = is ∙ ap (λ (y : Bool). if y then Some (received + 1) else None) (le-ltb 1 came less)
 fin_none (Piece octets) at came received edge some less is = is ∙ ap (λ (y : Bool). if y then Some (received + 1) else None) (le-ltb 1 came less)
-fin_none Acknowledges at came received edge some less is = absurd (omega (arith, some))
-fin_none (EndsStream place) at came received edge some less is = absurd (omega (arith, some))
-fin_none EndsSubflow at came received edge some less is = absurd (omega (arith, some))
+fin_none _ at came received edge some less is = absurd (omega (arith, some))
 
 of_news : (b : Brings) → 1 ≤ length (octets_of b) → is_news b ≡ true
-of_news OpensSubflow some = refl
 of_news ShowsKeys some = absurd (omega (arith, some))
-of_news (FirstPiece octets) some = refl
-of_news (Piece octets) some = refl
 of_news Acknowledges some = absurd (omega (arith, some))
-of_news (EndsStream place) some = refl
-of_news EndsSubflow some = refl
+of_news _ some = refl
 
 -- an end that may use the DSS says so
 pub clear_is : (n : ℕ) (b : Bool) → n ≡ one_if b → 1 ≤ n → b ≡ true
@@ -303,62 +267,62 @@ module _ (start : Start) (plan : PathPlan) (k j : Setting) (s v : Lane) (t0 u0 :
 
         -- ---- at A
 
-        subflow_ack_on_a : Relation books (with_agenda (duties.Ask (ask_duties.SubflowAck A) ∷ duties.Ask (ask_duties.PlainData A) ∷ duties.Silent (silent_duties.Keep A) ∷ place_duties A) p) → Relation books (with_agenda (duties.Ask (ask_duties.PlainData A) ∷ duties.Silent (silent_duties.Keep A) ∷ place_duties A) p)
+        subflow_ack_on_a : Relation books (with_agenda (Duty.Ask (AskDuty.SubflowAck A) ∷ Duty.Ask (AskDuty.PlainData A) ∷ Duty.Silent (SilentDuty.Keep A) ∷ place_duties A) p) → Relation books (with_agenda (Duty.Ask (AskDuty.PlainData A) ∷ Duty.Silent (SilentDuty.Keep A) ∷ place_duties A) p)
         subflow_ack_on_a h =
             let t = h.treats in
             record {
               path = h.path;
               link = h.link;
-              faces = free_drops (duties.Ask (ask_duties.SubflowAck A)) (duties.Ask (ask_duties.PlainData A) ∷ duties.Silent (silent_duties.Keep A) ∷ place_duties A) refl h.faces;
+              faces = free_drops (Duty.Ask (AskDuty.SubflowAck A)) (Duty.Ask (AskDuty.PlainData A) ∷ Duty.Silent (SilentDuty.Keep A) ∷ place_duties A) refl h.faces;
               treats = (t.0, t.1, (t.2.0, t.2.1, refl));
             }
 
-        pub passes_subflow_ack_a : (ds : List Duty) → Relation books (with_agenda (duties.Ask (ask_duties.SubflowAck A) ∷ ds) p) → Relation books (with_agenda ds p)
+        pub passes_subflow_ack_a : (ds : List Duty) → Relation books (with_agenda (Duty.Ask (AskDuty.SubflowAck A) ∷ ds) p) → Relation books (with_agenda ds p)
         passes_subflow_ack_a ds h =
             subst (λ (es : List Duty). Relation books (with_agenda es p)) (sym h.treats.2.2)
-            (subflow_ack_on_a (subst (λ (es : List Duty). Relation books (with_agenda (duties.Ask (ask_duties.SubflowAck A) ∷ es) p)) h.treats.2.2 h))
+            (subflow_ack_on_a (subst (λ (es : List Duty). Relation books (with_agenda (Duty.Ask (AskDuty.SubflowAck A) ∷ es) p)) h.treats.2.2 h))
 
-        plain_data_on_a : Relation books (with_agenda (duties.Ask (ask_duties.PlainData A) ∷ duties.Silent (silent_duties.Keep A) ∷ place_duties A) p) → Relation books (with_agenda (duties.Silent (silent_duties.Keep A) ∷ place_duties A) p)
+        plain_data_on_a : Relation books (with_agenda (Duty.Ask (AskDuty.PlainData A) ∷ Duty.Silent (SilentDuty.Keep A) ∷ place_duties A) p) → Relation books (with_agenda (Duty.Silent (SilentDuty.Keep A) ∷ place_duties A) p)
         plain_data_on_a h =
             let t = h.treats in
             record {
               path = h.path;
               link = h.link;
-              faces = free_drops (duties.Ask (ask_duties.PlainData A)) (duties.Silent (silent_duties.Keep A) ∷ place_duties A) refl h.faces;
+              faces = free_drops (Duty.Ask (AskDuty.PlainData A)) (Duty.Silent (SilentDuty.Keep A) ∷ place_duties A) refl h.faces;
               treats = (t.0, t.1, (t.2.0, t.2.1, refl));
             }
 
-        pub passes_plain_data_a : (ds : List Duty) → Relation books (with_agenda (duties.Ask (ask_duties.PlainData A) ∷ ds) p) → Relation books (with_agenda ds p)
+        pub passes_plain_data_a : (ds : List Duty) → Relation books (with_agenda (Duty.Ask (AskDuty.PlainData A) ∷ ds) p) → Relation books (with_agenda ds p)
         passes_plain_data_a ds h =
             subst (λ (es : List Duty). Relation books (with_agenda es p)) (sym h.treats.2.2)
-            (plain_data_on_a (subst (λ (es : List Duty). Relation books (with_agenda (duties.Ask (ask_duties.PlainData A) ∷ es) p)) h.treats.2.2 h))
+            (plain_data_on_a (subst (λ (es : List Duty). Relation books (with_agenda (Duty.Ask (AskDuty.PlainData A) ∷ es) p)) h.treats.2.2 h))
 
-        plain_ack_on_a : Relation books (with_agenda (duties.Step (step_duties.PlainAck A) ∷ duties.Ask (ask_duties.SubflowAck A) ∷ duties.Ask (ask_duties.PlainData A) ∷ duties.Silent (silent_duties.Keep A) ∷ place_duties A) p) → Relation books (with_agenda (duties.Ask (ask_duties.SubflowAck A) ∷ duties.Ask (ask_duties.PlainData A) ∷ duties.Silent (silent_duties.Keep A) ∷ place_duties A) (with_end A (with_plain_ack p.a) p))
+        plain_ack_on_a : Relation books (with_agenda (Duty.Step (StepDuty.PlainAck A) ∷ Duty.Ask (AskDuty.SubflowAck A) ∷ Duty.Ask (AskDuty.PlainData A) ∷ Duty.Silent (SilentDuty.Keep A) ∷ place_duties A) p) → Relation books (with_agenda (Duty.Ask (AskDuty.SubflowAck A) ∷ Duty.Ask (AskDuty.PlainData A) ∷ Duty.Silent (SilentDuty.Keep A) ∷ place_duties A) (with_end A (with_plain_ack p.a) p))
         plain_ack_on_a h =
             let t = h.treats in
-            subst (λ (e : PathEnd). Relation books (with_agenda (duties.Ask (ask_duties.SubflowAck A) ∷ duties.Ask (ask_duties.PlainData A) ∷ duties.Silent (silent_duties.Keep A) ∷ place_duties A) (with_end A e p))) (sym (plain_ack_same p.a t.1.plain_ack)) (record {
+            subst (λ (e : PathEnd). Relation books (with_agenda (Duty.Ask (AskDuty.SubflowAck A) ∷ Duty.Ask (AskDuty.PlainData A) ∷ Duty.Silent (SilentDuty.Keep A) ∷ place_duties A) (with_end A e p))) (sym (plain_ack_same p.a t.1.plain_ack)) (record {
               path = h.path;
               link = h.link;
-              faces = free_drops (duties.Step (step_duties.PlainAck A)) (duties.Ask (ask_duties.SubflowAck A) ∷ duties.Ask (ask_duties.PlainData A) ∷ duties.Silent (silent_duties.Keep A) ∷ place_duties A) refl h.faces;
+              faces = free_drops (Duty.Step (StepDuty.PlainAck A)) (Duty.Ask (AskDuty.SubflowAck A) ∷ Duty.Ask (AskDuty.PlainData A) ∷ Duty.Silent (SilentDuty.Keep A) ∷ place_duties A) refl h.faces;
               treats = (t.0, t.1, (t.2.0, t.2.1, refl));
             })
 
-        pub passes_plain_ack_a : (ds : List Duty) → Relation books (with_agenda (duties.Step (step_duties.PlainAck A) ∷ ds) p) → Relation books (with_agenda ds (with_end A (with_plain_ack p.a) p))
+        pub passes_plain_ack_a : (ds : List Duty) → Relation books (with_agenda (Duty.Step (StepDuty.PlainAck A) ∷ ds) p) → Relation books (with_agenda ds (with_end A (with_plain_ack p.a) p))
         passes_plain_ack_a ds h =
             subst (λ (es : List Duty). Relation books (with_agenda es (with_end A (with_plain_ack p.a) p))) (sym h.treats.2.2)
-            (plain_ack_on_a (subst (λ (es : List Duty). Relation books (with_agenda (duties.Step (step_duties.PlainAck A) ∷ es) p)) h.treats.2.2 h))
+            (plain_ack_on_a (subst (λ (es : List Duty). Relation books (with_agenda (Duty.Step (StepDuty.PlainAck A) ∷ es) p)) h.treats.2.2 h))
 
         -- they come to nothing
-        pub stays_plain_ack_a : (ds : List Duty) → Relation books (with_agenda (duties.Step (step_duties.PlainAck A) ∷ ds) p) → plain_ack_stands p.profile p.a ≡ false
+        pub stays_plain_ack_a : (ds : List Duty) → Relation books (with_agenda (Duty.Step (StepDuty.PlainAck A) ∷ ds) p) → plain_ack_stands p.profile p.a ≡ false
         stays_plain_ack_a ds h = no_plain_ack p.profile p.a h.treats.1.plain_ack
 
-        pub stays_subflow_ack_a : (ds : List Duty) → Relation books (with_agenda (duties.Ask (ask_duties.SubflowAck A) ∷ ds) p) → subflow_ack_stands p.a ≡ false
+        pub stays_subflow_ack_a : (ds : List Duty) → Relation books (with_agenda (Duty.Ask (AskDuty.SubflowAck A) ∷ ds) p) → subflow_ack_stands p.a ≡ false
         stays_subflow_ack_a ds h = no_subflow_ack p.a h.own.modes.mapping
 
-        pub stays_plain_data_a : (ds : List Duty) → Relation books (with_agenda (duties.Ask (ask_duties.PlainData A) ∷ ds) p) → plain_data_stands p.a ≡ false
+        pub stays_plain_data_a : (ds : List Duty) → Relation books (with_agenda (Duty.Ask (AskDuty.PlainData A) ∷ ds) p) → plain_data_stands p.a ≡ false
         stays_plain_data_a ds h = no_plain_data p.a h.treats.1.has_option
 
-        keep_on_a : Relation books (with_agenda (duties.Silent (silent_duties.Keep A) ∷ place_duties A) p) → Relation books (with_agenda (place_duties A) (with_end A (after_keep A p.a) p))
+        keep_on_a : Relation books (with_agenda (Duty.Silent (SilentDuty.Keep A) ∷ place_duties A) p) → Relation books (with_agenda (place_duties A) (with_end A (after_keep A p.a) p))
         keep_on_a h =
             let t = h.treats in
             let f = t.1 in
@@ -385,73 +349,73 @@ module _ (start : Start) (plan : PathPlan) (k j : Setting) (s v : Lane) (t0 u0 :
               treats = (rests A keys (own_bench h.faces) t.0 (shows_keys t.0) f none, (t.2.0, t.2.1, refl));
             })
 
-        pub passes_keep_a : (ds : List Duty) → Relation books (with_agenda (duties.Silent (silent_duties.Keep A) ∷ ds) p) → Relation books (with_agenda ds (with_end A (after_keep A p.a) p))
+        pub passes_keep_a : (ds : List Duty) → Relation books (with_agenda (Duty.Silent (SilentDuty.Keep A) ∷ ds) p) → Relation books (with_agenda ds (with_end A (after_keep A p.a) p))
         passes_keep_a ds h =
             subst (λ (es : List Duty). Relation books (with_agenda es (with_end A (after_keep A p.a) p))) (sym h.treats.2.2)
-            (keep_on_a (subst (λ (es : List Duty). Relation books (with_agenda (duties.Silent (silent_duties.Keep A) ∷ es) p)) h.treats.2.2 h))
+            (keep_on_a (subst (λ (es : List Duty). Relation books (with_agenda (Duty.Silent (SilentDuty.Keep A) ∷ es) p)) h.treats.2.2 h))
 
         -- ---- at B
 
-        subflow_ack_on_b : Relation books (with_agenda (duties.Ask (ask_duties.SubflowAck B) ∷ duties.Ask (ask_duties.PlainData B) ∷ duties.Silent (silent_duties.Keep B) ∷ place_duties B) p) → Relation books (with_agenda (duties.Ask (ask_duties.PlainData B) ∷ duties.Silent (silent_duties.Keep B) ∷ place_duties B) p)
+        subflow_ack_on_b : Relation books (with_agenda (Duty.Ask (AskDuty.SubflowAck B) ∷ Duty.Ask (AskDuty.PlainData B) ∷ Duty.Silent (SilentDuty.Keep B) ∷ place_duties B) p) → Relation books (with_agenda (Duty.Ask (AskDuty.PlainData B) ∷ Duty.Silent (SilentDuty.Keep B) ∷ place_duties B) p)
         subflow_ack_on_b h =
             let t = h.treats in
             record {
               path = h.path;
               link = h.link;
-              faces = free_drops (duties.Ask (ask_duties.SubflowAck B)) (duties.Ask (ask_duties.PlainData B) ∷ duties.Silent (silent_duties.Keep B) ∷ place_duties B) refl h.faces;
+              faces = free_drops (Duty.Ask (AskDuty.SubflowAck B)) (Duty.Ask (AskDuty.PlainData B) ∷ Duty.Silent (SilentDuty.Keep B) ∷ place_duties B) refl h.faces;
               treats = (t.0, t.1, (t.2.0, t.2.1, refl));
             }
 
-        pub passes_subflow_ack_b : (ds : List Duty) → Relation books (with_agenda (duties.Ask (ask_duties.SubflowAck B) ∷ ds) p) → Relation books (with_agenda ds p)
+        pub passes_subflow_ack_b : (ds : List Duty) → Relation books (with_agenda (Duty.Ask (AskDuty.SubflowAck B) ∷ ds) p) → Relation books (with_agenda ds p)
         passes_subflow_ack_b ds h =
             subst (λ (es : List Duty). Relation books (with_agenda es p)) (sym h.treats.2.2)
-            (subflow_ack_on_b (subst (λ (es : List Duty). Relation books (with_agenda (duties.Ask (ask_duties.SubflowAck B) ∷ es) p)) h.treats.2.2 h))
+            (subflow_ack_on_b (subst (λ (es : List Duty). Relation books (with_agenda (Duty.Ask (AskDuty.SubflowAck B) ∷ es) p)) h.treats.2.2 h))
 
-        plain_data_on_b : Relation books (with_agenda (duties.Ask (ask_duties.PlainData B) ∷ duties.Silent (silent_duties.Keep B) ∷ place_duties B) p) → Relation books (with_agenda (duties.Silent (silent_duties.Keep B) ∷ place_duties B) p)
+        plain_data_on_b : Relation books (with_agenda (Duty.Ask (AskDuty.PlainData B) ∷ Duty.Silent (SilentDuty.Keep B) ∷ place_duties B) p) → Relation books (with_agenda (Duty.Silent (SilentDuty.Keep B) ∷ place_duties B) p)
         plain_data_on_b h =
             let t = h.treats in
             record {
               path = h.path;
               link = h.link;
-              faces = free_drops (duties.Ask (ask_duties.PlainData B)) (duties.Silent (silent_duties.Keep B) ∷ place_duties B) refl h.faces;
+              faces = free_drops (Duty.Ask (AskDuty.PlainData B)) (Duty.Silent (SilentDuty.Keep B) ∷ place_duties B) refl h.faces;
               treats = (t.0, t.1, (t.2.0, t.2.1, refl));
             }
 
-        pub passes_plain_data_b : (ds : List Duty) → Relation books (with_agenda (duties.Ask (ask_duties.PlainData B) ∷ ds) p) → Relation books (with_agenda ds p)
+        pub passes_plain_data_b : (ds : List Duty) → Relation books (with_agenda (Duty.Ask (AskDuty.PlainData B) ∷ ds) p) → Relation books (with_agenda ds p)
         passes_plain_data_b ds h =
             subst (λ (es : List Duty). Relation books (with_agenda es p)) (sym h.treats.2.2)
-            (plain_data_on_b (subst (λ (es : List Duty). Relation books (with_agenda (duties.Ask (ask_duties.PlainData B) ∷ es) p)) h.treats.2.2 h))
+            (plain_data_on_b (subst (λ (es : List Duty). Relation books (with_agenda (Duty.Ask (AskDuty.PlainData B) ∷ es) p)) h.treats.2.2 h))
 
-        plain_ack_on_b : Relation books (with_agenda (duties.Step (step_duties.PlainAck B) ∷ duties.Ask (ask_duties.SubflowAck B) ∷ duties.Ask (ask_duties.PlainData B) ∷ duties.Silent (silent_duties.Keep B) ∷ place_duties B) p) → Relation books (with_agenda (duties.Ask (ask_duties.SubflowAck B) ∷ duties.Ask (ask_duties.PlainData B) ∷ duties.Silent (silent_duties.Keep B) ∷ place_duties B) (with_end B (with_plain_ack p.b) p))
+        plain_ack_on_b : Relation books (with_agenda (Duty.Step (StepDuty.PlainAck B) ∷ Duty.Ask (AskDuty.SubflowAck B) ∷ Duty.Ask (AskDuty.PlainData B) ∷ Duty.Silent (SilentDuty.Keep B) ∷ place_duties B) p) → Relation books (with_agenda (Duty.Ask (AskDuty.SubflowAck B) ∷ Duty.Ask (AskDuty.PlainData B) ∷ Duty.Silent (SilentDuty.Keep B) ∷ place_duties B) (with_end B (with_plain_ack p.b) p))
         plain_ack_on_b h =
             let t = h.treats in
-            subst (λ (e : PathEnd). Relation books (with_agenda (duties.Ask (ask_duties.SubflowAck B) ∷ duties.Ask (ask_duties.PlainData B) ∷ duties.Silent (silent_duties.Keep B) ∷ place_duties B) (with_end B e p))) (sym (plain_ack_same p.b t.1.plain_ack)) (record {
+            subst (λ (e : PathEnd). Relation books (with_agenda (Duty.Ask (AskDuty.SubflowAck B) ∷ Duty.Ask (AskDuty.PlainData B) ∷ Duty.Silent (SilentDuty.Keep B) ∷ place_duties B) (with_end B e p))) (sym (plain_ack_same p.b t.1.plain_ack)) (record {
               path = h.path;
               link = h.link;
-              faces = free_drops (duties.Step (step_duties.PlainAck B)) (duties.Ask (ask_duties.SubflowAck B) ∷ duties.Ask (ask_duties.PlainData B) ∷ duties.Silent (silent_duties.Keep B) ∷ place_duties B) refl h.faces;
+              faces = free_drops (Duty.Step (StepDuty.PlainAck B)) (Duty.Ask (AskDuty.SubflowAck B) ∷ Duty.Ask (AskDuty.PlainData B) ∷ Duty.Silent (SilentDuty.Keep B) ∷ place_duties B) refl h.faces;
               treats = (t.0, t.1, (t.2.0, t.2.1, refl));
             })
 
-        pub passes_plain_ack_b : (ds : List Duty) → Relation books (with_agenda (duties.Step (step_duties.PlainAck B) ∷ ds) p) → Relation books (with_agenda ds (with_end B (with_plain_ack p.b) p))
+        pub passes_plain_ack_b : (ds : List Duty) → Relation books (with_agenda (Duty.Step (StepDuty.PlainAck B) ∷ ds) p) → Relation books (with_agenda ds (with_end B (with_plain_ack p.b) p))
         passes_plain_ack_b ds h =
             subst (λ (es : List Duty). Relation books (with_agenda es (with_end B (with_plain_ack p.b) p))) (sym h.treats.2.2)
-            (plain_ack_on_b (subst (λ (es : List Duty). Relation books (with_agenda (duties.Step (step_duties.PlainAck B) ∷ es) p)) h.treats.2.2 h))
+            (plain_ack_on_b (subst (λ (es : List Duty). Relation books (with_agenda (Duty.Step (StepDuty.PlainAck B) ∷ es) p)) h.treats.2.2 h))
 
         -- they come to nothing
-        pub stays_plain_ack_b : (ds : List Duty) → Relation books (with_agenda (duties.Step (step_duties.PlainAck B) ∷ ds) p) → plain_ack_stands p.profile p.b ≡ false
+        pub stays_plain_ack_b : (ds : List Duty) → Relation books (with_agenda (Duty.Step (StepDuty.PlainAck B) ∷ ds) p) → plain_ack_stands p.profile p.b ≡ false
         stays_plain_ack_b ds h = no_plain_ack p.profile p.b h.treats.1.plain_ack
 
-        pub stays_subflow_ack_b : (ds : List Duty) → Relation books (with_agenda (duties.Ask (ask_duties.SubflowAck B) ∷ ds) p) → subflow_ack_stands p.b ≡ false
+        pub stays_subflow_ack_b : (ds : List Duty) → Relation books (with_agenda (Duty.Ask (AskDuty.SubflowAck B) ∷ ds) p) → subflow_ack_stands p.b ≡ false
         stays_subflow_ack_b ds h = no_subflow_ack p.b h.other.modes.mapping
 
-        pub stays_plain_data_b : (ds : List Duty) → Relation books (with_agenda (duties.Ask (ask_duties.PlainData B) ∷ ds) p) → plain_data_stands p.b ≡ false
+        pub stays_plain_data_b : (ds : List Duty) → Relation books (with_agenda (Duty.Ask (AskDuty.PlainData B) ∷ ds) p) → plain_data_stands p.b ≡ false
         stays_plain_data_b ds h = no_plain_data p.b h.treats.1.has_option
 
-        keep_on_b : Relation books (with_agenda (duties.Silent (silent_duties.Keep B) ∷ place_duties B) p) → Relation books (with_agenda (place_duties B) (with_end B (after_keep B p.b) p))
+        keep_on_b : Relation books (with_agenda (Duty.Silent (SilentDuty.Keep B) ∷ place_duties B) p) → Relation books (with_agenda (place_duties B) (with_end B (after_keep B p.b) p))
         keep_on_b h =
             let t = h.treats in
             let f = t.1 in
-            let view = from_a keys k j s v a b books (with_agenda (duties.Silent (silent_duties.Keep B) ∷ place_duties B) p) h.faces in
+            let view = from_a keys k j s v a b books (with_agenda (Duty.Silent (SilentDuty.Keep B) ∷ place_duties B) p) h.faces in
             let none : 1 ≤ length (octets_of t.0) → is_fin_passed p.b.tcp ≡ false = λ some. ap (λ (o : Option ℕ). is_behind o p.b.tcp.recv.edge)
             (fin_none t.0 p.b.tcp.fin_at view.back.control_came view.back.received p.b.tcp.recv.edge some
             (one_came plan.delay u0 t0 j_is k_is going_back going view f.sent false (f.hand ∙ ap (λ (y : Bool). in_hand f.sent y false) (of_news t.0 some)) (subst (λ (y : Brings). 1 ≤ length (octets_of y)) (sym f.brings) some)) f.fin) in
@@ -474,7 +438,7 @@ module _ (start : Start) (plan : PathPlan) (k j : Setting) (s v : Lane) (t0 u0 :
               treats = (rests B keys (other_bench h.faces) t.0 (shows_keys t.0) f none, (t.2.0, t.2.1, refl));
             })
 
-        pub passes_keep_b : (ds : List Duty) → Relation books (with_agenda (duties.Silent (silent_duties.Keep B) ∷ ds) p) → Relation books (with_agenda ds (with_end B (after_keep B p.b) p))
+        pub passes_keep_b : (ds : List Duty) → Relation books (with_agenda (Duty.Silent (SilentDuty.Keep B) ∷ ds) p) → Relation books (with_agenda ds (with_end B (after_keep B p.b) p))
         passes_keep_b ds h =
             subst (λ (es : List Duty). Relation books (with_agenda es (with_end B (after_keep B p.b) p))) (sym h.treats.2.2)
-            (keep_on_b (subst (λ (es : List Duty). Relation books (with_agenda (duties.Silent (silent_duties.Keep B) ∷ es) p)) h.treats.2.2 h))
+            (keep_on_b (subst (λ (es : List Duty). Relation books (with_agenda (Duty.Silent (SilentDuty.Keep B) ∷ es) p)) h.treats.2.2 h))

@@ -1,24 +1,7 @@
 -- A keeps B's key: from then on it may send bytes.
-use Rattle.std.proofs.Common.{◌≡◌, refl, subst, ℕ, ◌+◌, ◌<◌, ◌≤◌, min, true, inl, inr, Option, Some, None, List, ◌∷◌, arith}
-use Rattle.std.proofs.lemmas.Bool.{both_ways}
-use Rattle.std.proofs.lemmas.List.Elements.{All-weaker}
-use Rattle.sides.specs.declared.side.Side.TheVariants.{A, B}
-use Rattle.control_book.specs.Steps.{after_peer_key}
-use Rattle.path_agenda.specs.declared.duty.Duty.{Duty}
-use Rattle.path_agenda.specs.declared.duty.Duty.TheVariants as duties
-use Rattle.path_agenda.specs.declared.duty.AskDuty.TheVariants as ask_duties
-use Rattle.path_core.specs.End.{PathEnd}
-use Rattle.path_core.specs.MpCapable.{with_peer_key}
-use Rattle.path_core.specs.Standing.{is_connected}
-use Rattle.path_core.specs.Profile.{Profile}
-use Rattle.pace.specs.Lane.{Setting, Lane, all_left}
-use Rattle.pace.specs.Rules.{flagged}
-use Rattle.pace.specs.Going.{Going}
-use Rattle.pace.specs.Moves.{MayFlag}
-use Rattle.pace.specs.Moves.Move.{goes_back, flags}
-use Rattle.clean_finish.specs.Segments.{Keys}
-use Rattle.clean_finish.specs.Shows.{AreTaken, Hand, EndIs, HeardIs, IsGranted, last_told, row_seen}
-use Rattle.clean_finish.specs.Running.{Half, Facing, IsSetting}
+use Rattle.clean_finish.proofs.Words.{◌≡◌, refl, subst, ℕ, ◌+◌, ◌<◌, ◌≤◌, min, true, inl, inr, Option, None, List, ◌∷◌, arith, Some, both_ways, All-weaker, A}
+use Rattle.clean_finish.proofs.Words.{B, after_peer_key, Duty, AskDuty, Profile, PathEnd, is_connected, with_peer_key, Setting, Lane, all_left, Going, MayFlag}
+use Rattle.clean_finish.proofs.Words.{flags, goes_back, flagged, AreTaken, Hand, EndIs, HeardIs, IsGranted, last_told, row_seen, Keys, IsSetting, Facing, Half}
 use Rattle.clean_finish.proofs.AckNew.{records_same}
 use Rattle.clean_finish.proofs.Dropping.{apart, is_apart, stage_drops, settles_drop, begun_drops}
 use Rattle.clean_finish.proofs.Passing.{stands_then}
@@ -29,7 +12,7 @@ use Rattle.clean_finish.proofs.Spans.{spans_for}
 module _ {keys : Keys} {k j : Setting} {c : Profile} {begun begun_back : Lane} {m n : Half} {clock until : ℕ} (ticks t u : ℕ)
     (k_is : IsSetting c ticks k) (j_is : IsSetting c ticks j)
     (going : Going k begun t all_left begun) (going_back : Going j begun_back u all_left begun_back)
-    {ds : List Duty} (h : Facing A keys k j c begun begun_back m n clock until (duties.Ask (ask_duties.PeerKey A) ∷ ds)) (there : Emits A ds)
+    {ds : List Duty} (h : Facing A keys k j c begun begun_back m n clock until (Duty.Ask (AskDuty.PeerKey A) ∷ ds)) (there : Emits A ds)
     (nothing_waits : h.waiting ≡ 0) (sent : 1 ≤ h.out.control_sent) (came : 1 ≤ min 1 h.back.control_came) (unready : h.out.ready ≡ 0)
     (connected : is_connected m.end.tcp.state ≡ true)
   where
@@ -204,15 +187,8 @@ module _ {keys : Keys} {k j : Setting} {c : Profile} {begun begun_back : Lane} {
       };
       way_back = h.way_back;
       apps = record {
-        writes = record {
-          numbers = h.apps.writes.numbers;
-          over = h.apps.writes.over;
-        };
-        reads = record {
-          numbers = h.apps.reads.numbers;
-          received = h.apps.reads.received;
-          over = h.apps.reads.over;
-        };
+        writes = record { numbers = h.apps.writes.numbers; over = h.apps.writes.over };
+        reads = record { numbers = h.apps.reads.numbers; received = h.apps.reads.received; over = h.apps.reads.over };
         receives = record {
           read = h.apps.receives.read;
           received = h.apps.receives.received;
@@ -231,8 +207,8 @@ module _ {keys : Keys} {k j : Setting} {c : Profile} {begun begun_back : Lane} {
       };
       apps_back = h.apps_back;
       stages = stage_raised A B ds n.end.treated.asked h.owes_back h.stage there
-          (stage_drops A B (duties.Ask (ask_duties.PeerKey A)) ds n.end.treated.asked h.owes_back h.stage (is_apart A B (duties.Ask (ask_duties.PeerKey A)) refl) h.stages);
-      stages_back = stage_drops B A (duties.Ask (ask_duties.PeerKey A)) ds m.end.treated.asked h.owes h.stage_back (is_apart B A (duties.Ask (ask_duties.PeerKey A)) refl) h.stages_back;
+          (stage_drops A B (Duty.Ask (AskDuty.PeerKey A)) ds n.end.treated.asked h.owes_back h.stage (is_apart A B (Duty.Ask (AskDuty.PeerKey A)) refl) h.stages);
+      stages_back = stage_drops B A (Duty.Ask (AskDuty.PeerKey A)) ds m.end.treated.asked h.owes h.stage_back (is_apart B A (Duty.Ask (AskDuty.PeerKey A)) refl) h.stages_back;
       control = record {
         mode = h.control.mode;
         joined = h.control.joined;
@@ -248,9 +224,9 @@ module _ {keys : Keys} {k j : Setting} {c : Profile} {begun begun_back : Lane} {
       turn = h.turn;
       turn_back = h.turn_back;
       settles = inr there.timer;
-      settles_back = settles_drop B (duties.Ask (ask_duties.PeerKey A)) ds n.end (apart refl refl) h.settles_back;
+      settles_back = settles_drop B (Duty.Ask (AskDuty.PeerKey A)) ds n.end (apart refl refl) h.settles_back;
       begins = inl sent;
-      begins_back = begun_drops B k h.back.sender h.out.receiver n.end (duties.Ask (ask_duties.PeerKey A)) ds (apart refl refl) (λ is. apart refl refl) h.begins_back;
+      begins_back = begun_drops B k h.back.sender h.out.receiver n.end (Duty.Ask (AskDuty.PeerKey A)) ds (apart refl refl) (λ is. apart refl refl) h.begins_back;
       owed = h.owed;
       owed_back = h.owed_back;
     }

@@ -1,37 +1,13 @@
 -- B hears the first bytes, which show A's keys: they are told to the control book, and what the copy acknowledges is heard.
-use Rattle.std.proofs.Common.{◌≡◌, refl, sym, subst, ap, ℕ, ◌+◌, ◌==◌, ◌<◌, ◌≤◌, min, max, nat_lt, eq-eqb, Bool, true, false, if◌then◌else◌, Option, Some, None, List, ◌∷◌, ◌++◌, le_refl, arith}
-use Rattle.std.proofs.lemmas.Bool.{both_ways, le-ltb, lt-ltb}
-use Rattle.subflow_tcp.specs.Segments.{one_if}
-use Rattle.sides.specs.declared.side.Side.TheVariants.{A, B}
-use Rattle.control_book.specs.Steps.{after_keys as keys_in_book}
-use Rattle.control_book.specs.declared.call.ControlCall.TheVariants as control_calls
-use Rattle.control_book.specs.declared.call.ControlReply.TheVariants as control_replies
-use Rattle.send_book.specs.declared.call.SendCall.TheVariants as send_calls
-use Rattle.send_book.specs.State.{Sending as SendBook}
-use Rattle.actor_desk.specs.declared.ask.Ask.TheVariants as asks
-use Rattle.actor_desk.specs.declared.ask.Reply.TheVariants as replies
-use Rattle.actor_desk.specs.Desk.{SixBooks, reply_of, after_ask}
-use Rattle.stream_apps.specs.Apps.{AppState}
-use Rattle.path_agenda.specs.Agenda.{heard_and, payload_came}
-use Rattle.path_agenda.specs.declared.duty.Duty.{Duty}
-use Rattle.path_agenda.specs.declared.duty.Duty.TheVariants as duties
-use Rattle.path_agenda.specs.declared.duty.StepDuty.TheVariants as step_duties
-use Rattle.path_agenda.specs.declared.heard.Heard.TheVariants as says
+use Rattle.clean_finish.proofs.Words.{◌≡◌, refl, sym, subst, ap, ℕ, ◌+◌, ◌<◌, ◌≤◌, min, max, nat_lt, Bool, true, false, if◌then◌else◌, Option, None, List, ◌∷◌}
+use Rattle.clean_finish.proofs.Words.{◌++◌, arith, Some, le_refl, ◌==◌, both_ways, lt-ltb, le-ltb, A, B, keys_in_book, ControlReply, ControlCall, SendBook}
+use Rattle.clean_finish.proofs.Words.{SendCall, one_if, Duty, StepDuty, heard_and, payload_came, Heard, Reply, SixBooks, reply_of, after_ask, Ask, AppState}
+use Rattle.clean_finish.proofs.Words.{Carried, values, PathEnd, Modes, PathState, with_agenda, with_end, keys_ask, answered_item, Setting, Lane, all_left}
+use Rattle.clean_finish.proofs.Words.{Sender, Receiver, Going, PathPlan, Start, Hand, brings_in, ModesAre, Sent, Keys, Brings, TellsAs, Follow, FirstPiece}
+use Rattle.clean_finish.proofs.Words.{Beside, Treats, TreatsCopy, own_bench, other_bench, FacesOfB, IsSetting, Runs, keys_in, Bench, FacesOfA, AtFirst}
+use Rattle.clean_finish.proofs.Words.{AfterOne}
+use Rattle.std.proofs.Common.{eq-eqb}
 use Rattle.path_agenda.specs.declared.keys.KeyPair.{KeyPair}
-use Rattle.path_core.specs.declared.modes.Modes.{Modes}
-use Rattle.path_core.specs.End.{PathEnd}
-use Rattle.path_core.specs.MpCapable.{keys_ask}
-use Rattle.path_core.specs.State.{PathState, with_agenda, with_end}
-use Rattle.path_core.specs.Treating.{answered_item}
-use Rattle.path_core.specs.Values.{Carried, values}
-use Rattle.world_laws.specs.Openings.{PathPlan, Start}
-use Rattle.pace.specs.Lane.{Setting, Lane, Sender, Receiver, all_left}
-use Rattle.pace.specs.Going.{Going}
-use Rattle.clean_finish.specs.Segments.{Sent, Keys, Brings, Follow, TellsAs}
-use Rattle.clean_finish.specs.Segments.Brings.{FirstPiece}
-use Rattle.clean_finish.specs.Shows.{Hand, ModesAre, brings_in}
-use Rattle.clean_finish.specs.Running.{Bench, Beside, FacesOfA, FacesOfB, Treats, TreatsCopy, own_bench, other_bench, IsSetting, Runs, keys_in}
-use Rattle.clean_finish.specs.Running.Treatment.{AtFirst, AfterOne}
 use Rattle.clean_finish.proofs.Acknowledged.{hears_on}
 use Rattle.clean_finish.proofs.BookStays.{ack_of_nothing}
 use Rattle.clean_finish.proofs.Confirmed.{keys_noted}
@@ -147,7 +123,7 @@ module _ (start : Start) (plan : PathPlan) (k j : Setting) (s v : Lane) (t0 u0 :
         Relation six q = Runs start plan k j s v a b six q
 
         abbrev d : Duty
-        d = duties.Step (step_duties.Heard B 0)
+        d = Duty.Step (StepDuty.Heard B 0)
 
         abbrev both_keys : KeyPair
         both_keys = record { own = keys.b; peer = keys.a }
@@ -186,7 +162,7 @@ module _ (start : Start) (plan : PathPlan) (k j : Setting) (s v : Lane) (t0 u0 :
             end_told = record p.b { modes = record p.b.modes { peer_key = Some keys.a; clear = true }; treated = record p.b.treated { keys_told = true } }
 
             abbrev books_noted : SixBooks
-            books_noted = after_ask (asks.Control B (control_calls.Keys keys.b keys.a)) books
+            books_noted = after_ask (Ask.Control B (ControlCall.Keys keys.b keys.a)) books
 
             abbrev noted : FacesOfB keys k j s v a b books_noted (with_agenda ds (with_end B end_told p))
             noted = treated_on view refl (sent_some f.came f.answered) p.b.tcp.recv p.b.receiving.mappings p.b.receiving.mapped_data_fin
@@ -203,7 +179,7 @@ module _ (start : Start) (plan : PathPlan) (k j : Setting) (s v : Lane) (t0 u0 :
             there = subst (λ (es : List Duty). Emits B es) (sym beside.2) (heard_emits B 1 1)
 
             abbrev books_told : SixBooks
-            books_told = after_ask (asks.Send B (send_calls.AckIn 0 x.telling.edge)) books_noted
+            books_told = after_ask (Ask.Send B (SendCall.AckIn 0 x.telling.edge)) books_noted
 
             abbrev heard : FacesOfB keys k j s v a b books_told (with_agenda ds (with_end B end_told p))
             heard = hears_on more refl there x true hand 0 x.telling.edge (none_future _) (omega arith) tells.0 (plus_none x.telling.edge) f.rests
@@ -243,8 +219,8 @@ module _ (start : Start) (plan : PathPlan) (k j : Setting) (s v : Lane) (t0 u0 :
             own_key = eq-eqb keys.b books.control_b.keys.own (sym view.control.own_key)
 
             pub first_keys_told : let ask = keys_ask B (Some both_keys) in
-                Relation (after_ask ask books) (answered_item values B (Some (says.Keys keys.b keys.a)) (reply_of books ask) (with_agenda (d ∷ ds) p))
+                Relation (after_ask ask books) (answered_item values B (Some (Heard.Keys keys.b keys.a)) (reply_of books ask) (with_agenda (d ∷ ds) p))
             first_keys_told =
-                subst (λ (y : Bool). Relation books_noted (answered_item values B (Some (says.Keys keys.b keys.a))
-                (replies.Control (if y then control_replies.Noted else control_replies.KeysDiffer books.control_b.keys.own)) (with_agenda (d ∷ ds) p))) (sym own_key)
+                subst (λ (y : Bool). Relation books_noted (answered_item values B (Some (Heard.Keys keys.b keys.a))
+                (Reply.Control (if y then ControlReply.Noted else ControlReply.KeysDiffer books.control_b.keys.own)) (with_agenda (d ∷ ds) p))) (sym own_key)
                 (subst (λ (six : SixBooks). Relation six (with_agenda ds (with_end B end_told p))) books_same told)

@@ -1,11 +1,6 @@
 -- Lanes by the numbers of a clean script finish within the rounds that are enough.
-use Rattle.std.proofs.Common.{subst, max, List, [], All, arith}
-use Rattle.std.proofs.lemmas.List.Elements.{All-head}
-use Rattle.link_script.specs.declared.script.PathLine.{PathLine}
-use Rattle.link_script.specs.Scripts.{IsPath}
+use Rattle.clean_finish.proofs.Words.{subst, max, List, [], All, arith, All-head, PathLine, IsPath, segments, setting_of, CleanLanesFinish}
 use Rattle.pace.proofs.Telling.{courses_told}
-use Rattle.clean_finish.specs.Bound.{segments}
-use Rattle.clean_finish.specs.Laws.{CleanLanesFinish, setting_of}
 use Rattle.clean_finish.proofs.Ranges.{in_ranges, in_segments, in_more, bound_is}
 
 pub lanes_finish : CleanLanesFinish

@@ -1,32 +1,12 @@
 -- The last steps in which a copy is treated: what is acknowledged is asked, the congestion window grows, and an acknowledgement goes.
-use Rattle.std.proofs.Common.{◌≡◌, refl, sym, subst, ap, ◌∙◌, ℕ, ◌+◌, ◌≤◌, max, Bool, true, false, is_some, ◌⊎◌, inl, inr, ⊎_elim, Option, Some, None, List, [], ◌∷◌, arith}
-use Rattle.std.proofs.lemmas.Bool.{both_ways}
-use Rattle.sides.specs.declared.side.Side.{Side}
-use Rattle.sides.specs.declared.side.Side.TheVariants.{A, B}
-use Rattle.link_model.specs.Laws.{plain_flight, going_to}
-use Rattle.link_model.specs.Steps.{after_send}
+use Rattle.clean_finish.proofs.Words.{◌≡◌, refl, sym, subst, ap, ◌∙◌, ℕ, ◌+◌, ◌≤◌, max, Bool, true, false, ◌⊎◌, inl, inr, ⊎_elim, Option, None, List, [], ◌∷◌}
+use Rattle.clean_finish.proofs.Words.{arith, Some, is_some, both_ways, Side, A, B, Due, Occasion, going_to, plain_flight, after_send, PlainSegment, Duty}
+use Rattle.clean_finish.proofs.Words.{SendDuty, AskDuty, emission, SixBooks, reply_of, after_ask, AppState, Carried, carried_by, stripped, altered, values}
+use Rattle.clean_finish.proofs.Words.{ack_out_ask, answered_ack_out, acknowledges, PathState, with_agenda, having_sent, sent_on, Setting, Lane, all_left, Going}
+use Rattle.clean_finish.proofs.Words.{PathPlan, Start, brings_still, Keys, said, FliesAs, own_bench, other_bench, FacesOfB, IsSetting, Runs, keys_in, Has}
+use Rattle.clean_finish.proofs.Words.{FacesOfA, TreatsTaken}
 use Rattle.loss_recovery.specs.declared.windows.Pending.{Pending}
-use Rattle.path_segments.specs.Spelled.{PlainSegment}
-use Rattle.subflow_tcp.specs.declared.segments.Occasion.TheVariants as to_send
-use Rattle.subflow_tcp.specs.declared.dues.Due.{Due}
-use Rattle.actor_desk.specs.Desk.{SixBooks, reply_of, after_ask}
-use Rattle.stream_apps.specs.Apps.{AppState}
-use Rattle.path_agenda.specs.declared.duty.Duty.{Duty}
-use Rattle.path_agenda.specs.declared.duty.Duty.TheVariants as duties
-use Rattle.path_agenda.specs.declared.duty.AskDuty.TheVariants as ask_duties
-use Rattle.path_agenda.specs.declared.duty.SendDuty.TheVariants as send_duties
-use Rattle.path_agenda.specs.Agenda.{emission}
-use Rattle.path_core.specs.Handover.{having_sent, sent_on}
 use Rattle.path_core.specs.Rate.{rate_ask, answered_rate}
-use Rattle.path_core.specs.Standing.{ack_out_ask, answered_ack_out, acknowledges}
-use Rattle.path_core.specs.State.{PathState, with_agenda}
-use Rattle.path_core.specs.Values.{Carried, carried_by, stripped, altered, values}
-use Rattle.world_laws.specs.Openings.{PathPlan, Start}
-use Rattle.pace.specs.Lane.{Setting, Lane, all_left}
-use Rattle.pace.specs.Going.{Going}
-use Rattle.clean_finish.specs.Segments.{Keys, said, FliesAs}
-use Rattle.clean_finish.specs.Shows.{brings_still}
-use Rattle.clean_finish.specs.Running.{Has, FacesOfA, FacesOfB, TreatsTaken, own_bench, other_bench, IsSetting, Runs, keys_in}
 use Rattle.clean_finish.proofs.AckSent.{ack, ack_sent, next_is}
 use Rattle.clean_finish.proofs.AskedAfter.{asked_after, out_passes}
 use Rattle.clean_finish.proofs.CopyDone.{copy_done}
@@ -53,15 +33,15 @@ pub one_of : {x y : ℕ} → 1 ≤ x → x ≡ y → 1 ≤ y
 one_of p q = omega (arith, p, q)
 
 -- behind these duties the window isn't asked for
-none_asked : (q : Side) (d : Duty) → (duties.Ask (ask_duties.Window q) ≡ d → ⊥) → (b : Bool)
-    → (b ≡ false) ⊎ Has (duties.Ask (ask_duties.Window q)) (d ∷ duties.Send (send_duties.Again q) ∷ emission q) → b ≡ false
+none_asked : (q : Side) (d : Duty) → (Duty.Ask (AskDuty.Window q) ≡ d → ⊥) → (b : Bool)
+    → (b ≡ false) ⊎ Has (Duty.Ask (AskDuty.Window q)) (d ∷ Duty.Send (SendDuty.Again q) ∷ emission q) → b ≡ false
 none_asked q d apart b (inl is) = is
 none_asked q d apart b (inr (inl same)) = absurd (apart same)
 none_asked q d apart b (inr (inr (inl same))) = absurd (differ refl same)
 none_asked A d apart b (inr (inr (inr there))) = absurd (no_window A (emission A) refl there)
 none_asked B d apart b (inr (inr (inr there))) = absurd (no_window B (emission B) refl there)
 
-none_out : (q : Side) (ds : List Duty) → Has (duties.Ask (ask_duties.AckOut q)) (emission q) → ⊥
+none_out : (q : Side) (ds : List Duty) → Has (Duty.Ask (AskDuty.AckOut q)) (emission q) → ⊥
 none_out q ds (inl same) = differ refl same
 none_out q ds (inr (inl same)) = differ refl same
 none_out q ds (inr (inr (inl same))) = differ refl same
@@ -75,11 +55,11 @@ none_out q ds (inr (inr (inr (inr (inr (inr (inr (inr (inr never))))))))) = neve
 
 -- nor is what is acknowledged
 no_question : (q : Side) (asked b : Bool)
-    → (b ≡ false) ⊎ (Has (duties.Ask (ask_duties.Window q)) (duties.Send (send_duties.Acknowledge q) ∷ duties.Send (send_duties.Again q) ∷ emission q)
-    ⊎ (Has (duties.Ask (ask_duties.AckOut q)) (duties.Send (send_duties.Acknowledge q) ∷ duties.Send (send_duties.Again q) ∷ emission q) × (asked ≡ true)))
+    → (b ≡ false) ⊎ (Has (Duty.Ask (AskDuty.Window q)) (Duty.Send (SendDuty.Acknowledge q) ∷ Duty.Send (SendDuty.Again q) ∷ emission q)
+    ⊎ (Has (Duty.Ask (AskDuty.AckOut q)) (Duty.Send (SendDuty.Acknowledge q) ∷ Duty.Send (SendDuty.Again q) ∷ emission q) × (asked ≡ true)))
     → b ≡ false
 no_question q asked b (inl is) = is
-no_question q asked b (inr (inl there)) = none_asked q (duties.Send (send_duties.Acknowledge q)) (differ refl) b (inr there)
+no_question q asked b (inr (inl there)) = none_asked q (Duty.Send (SendDuty.Acknowledge q)) (differ refl) b (inr there)
 no_question q asked b (inr (inr (inl same, so))) = absurd (differ refl same)
 no_question q asked b (inr (inr (inr (inl same), so))) = absurd (differ refl same)
 no_question q asked b (inr (inr (inr (inr there), so))) = absurd (none_out q [] there)
@@ -101,12 +81,12 @@ module _ (start : Start) (plan : PathPlan) (k j : Setting) (s v : Lane) (t0 u0 :
         una_a : (es : List Duty) (h : FacesOfA keys k j s v a b books (with_agenda es p)) → 1 ≤ h.out.clear → 1 ≤ p.a.tcp.send.una
         una_a es h clear = (open_when_ready plan.delay t0 u0 k_is j_is going going_back h (some_of clear h.own.modes.cleared)).0
 
-        asks_out_a : Relation books (with_agenda (duties.Ask (ask_duties.AckOut A) ∷ duties.Ask (ask_duties.Rate A) ∷ duties.Send (send_duties.Acknowledge A) ∷ duties.Send (send_duties.Again A) ∷ emission A) p)
-            → Relation books (answered_ack_out A (reply_of books (ack_out_ask A)) (duties.Ask (ask_duties.Rate A) ∷ duties.Send (send_duties.Acknowledge A) ∷ duties.Send (send_duties.Again A) ∷ emission A) (with_agenda (duties.Ask (ask_duties.AckOut A) ∷ duties.Ask (ask_duties.Rate A) ∷ duties.Send (send_duties.Acknowledge A) ∷ duties.Send (send_duties.Again A) ∷ emission A) p))
+        asks_out_a : Relation books (with_agenda (Duty.Ask (AskDuty.AckOut A) ∷ Duty.Ask (AskDuty.Rate A) ∷ Duty.Send (SendDuty.Acknowledge A) ∷ Duty.Send (SendDuty.Again A) ∷ emission A) p)
+            → Relation books (answered_ack_out A (reply_of books (ack_out_ask A)) (Duty.Ask (AskDuty.Rate A) ∷ Duty.Send (SendDuty.Acknowledge A) ∷ Duty.Send (SendDuty.Again A) ∷ emission A) (with_agenda (Duty.Ask (AskDuty.AckOut A) ∷ Duty.Ask (AskDuty.Rate A) ∷ Duty.Send (SendDuty.Acknowledge A) ∷ Duty.Send (SendDuty.Again A) ∷ emission A) p))
         asks_out_a h =
             let t = h.treats in
             let view = h.faces in
-            let some = sent_some plan.delay t0 u0 k_is j_is going going_back view (ap brings_still t.0.hand) (una_a (duties.Ask (ask_duties.AckOut A) ∷ duties.Ask (ask_duties.Rate A) ∷ duties.Send (send_duties.Acknowledge A) ∷ duties.Send (send_duties.Again A) ∷ emission A) view t.0.clear) t.0.answered in
+            let some = sent_some plan.delay t0 u0 k_is j_is going going_back view (ap brings_still t.0.hand) (una_a (Duty.Ask (AskDuty.AckOut A) ∷ Duty.Ask (AskDuty.Rate A) ∷ Duty.Send (SendDuty.Acknowledge A) ∷ Duty.Send (SendDuty.Again A) ∷ emission A) view t.0.clear) t.0.answered in
             let faces = asked_after plan.delay t0 u0 k_is j_is going going_back view some in
             record {
               path = record {
@@ -138,17 +118,17 @@ module _ (start : Start) (plan : PathPlan) (k j : Setting) (s v : Lane) (t0 u0 :
               );
             }
 
-        pub answers_ack_out_a : (ds : List Duty) → Relation books (with_agenda (duties.Ask (ask_duties.AckOut A) ∷ ds) p)
-            → Relation books (answered_ack_out A (reply_of books (ack_out_ask A)) ds (with_agenda (duties.Ask (ask_duties.AckOut A) ∷ ds) p))
+        pub answers_ack_out_a : (ds : List Duty) → Relation books (with_agenda (Duty.Ask (AskDuty.AckOut A) ∷ ds) p)
+            → Relation books (answered_ack_out A (reply_of books (ack_out_ask A)) ds (with_agenda (Duty.Ask (AskDuty.AckOut A) ∷ ds) p))
         answers_ack_out_a ds h =
-            subst (λ (es : List Duty). Relation books (answered_ack_out A (reply_of books (ack_out_ask A)) es (with_agenda (duties.Ask (ask_duties.AckOut A) ∷ es) p)))
-            (sym h.treats.3) (asks_out_a (subst (λ (es : List Duty). Relation books (with_agenda (duties.Ask (ask_duties.AckOut A) ∷ es) p)) h.treats.3 h))
+            subst (λ (es : List Duty). Relation books (answered_ack_out A (reply_of books (ack_out_ask A)) es (with_agenda (Duty.Ask (AskDuty.AckOut A) ∷ es) p)))
+            (sym h.treats.3) (asks_out_a (subst (λ (es : List Duty). Relation books (with_agenda (Duty.Ask (AskDuty.AckOut A) ∷ es) p)) h.treats.3 h))
 
-        passes_out_a : p.a.treated.asked ≡ false → Relation books (with_agenda (duties.Ask (ask_duties.AckOut A) ∷ duties.Ask (ask_duties.Rate A) ∷ duties.Send (send_duties.Acknowledge A) ∷ duties.Send (send_duties.Again A) ∷ emission A) p) → Relation books (with_agenda (duties.Ask (ask_duties.Rate A) ∷ duties.Send (send_duties.Acknowledge A) ∷ duties.Send (send_duties.Again A) ∷ emission A) p)
+        passes_out_a : p.a.treated.asked ≡ false → Relation books (with_agenda (Duty.Ask (AskDuty.AckOut A) ∷ Duty.Ask (AskDuty.Rate A) ∷ Duty.Send (SendDuty.Acknowledge A) ∷ Duty.Send (SendDuty.Again A) ∷ emission A) p) → Relation books (with_agenda (Duty.Ask (AskDuty.Rate A) ∷ Duty.Send (SendDuty.Acknowledge A) ∷ Duty.Send (SendDuty.Again A) ∷ emission A) p)
         passes_out_a unasked h =
             let t = h.treats in
             let view = h.faces in
-            let some = sent_some plan.delay t0 u0 k_is j_is going going_back view (ap brings_still t.0.hand) (una_a (duties.Ask (ask_duties.AckOut A) ∷ duties.Ask (ask_duties.Rate A) ∷ duties.Send (send_duties.Acknowledge A) ∷ duties.Send (send_duties.Again A) ∷ emission A) view t.0.clear) t.0.answered in
+            let some = sent_some plan.delay t0 u0 k_is j_is going going_back view (ap brings_still t.0.hand) (una_a (Duty.Ask (AskDuty.AckOut A) ∷ Duty.Ask (AskDuty.Rate A) ∷ Duty.Send (SendDuty.Acknowledge A) ∷ Duty.Send (SendDuty.Again A) ∷ emission A) view t.0.clear) t.0.answered in
             let faces = out_passes plan.delay t0 u0 k_is j_is going going_back view some unasked in
             record {
               path = record {
@@ -180,27 +160,27 @@ module _ (start : Start) (plan : PathPlan) (k j : Setting) (s v : Lane) (t0 u0 :
               );
             }
 
-        pub passes_ack_out_a : (ds : List Duty) → p.a.treated.asked ≡ false → Relation books (with_agenda (duties.Ask (ask_duties.AckOut A) ∷ ds) p)
+        pub passes_ack_out_a : (ds : List Duty) → p.a.treated.asked ≡ false → Relation books (with_agenda (Duty.Ask (AskDuty.AckOut A) ∷ ds) p)
             → Relation books (with_agenda ds p)
         passes_ack_out_a ds unasked h =
             subst (λ (es : List Duty). Relation books (with_agenda es p)) (sym h.treats.3)
-            (passes_out_a unasked (subst (λ (es : List Duty). Relation books (with_agenda (duties.Ask (ask_duties.AckOut A) ∷ es) p)) h.treats.3 h))
+            (passes_out_a unasked (subst (λ (es : List Duty). Relation books (with_agenda (Duty.Ask (AskDuty.AckOut A) ∷ es) p)) h.treats.3 h))
 
         -- the growth
 
         abbrev RatedA : List Duty → Option Pending → Type 0
         RatedA ds o =
-            let q = with_agenda (duties.Ask (ask_duties.Rate A) ∷ ds) p in let ask = rate_ask A o q in
+            let q = with_agenda (Duty.Ask (AskDuty.Rate A) ∷ ds) p in let ask = rate_ask A o q in
             Relation (after_ask ask books) (answered_rate A (reply_of books ask) q)
 
-        rates_a : (o : Option Pending) → is_some o ≡ true → Relation books (with_agenda (duties.Ask (ask_duties.Rate A) ∷ duties.Send (send_duties.Acknowledge A) ∷ duties.Send (send_duties.Again A) ∷ emission A) p) → RatedA (duties.Send (send_duties.Acknowledge A) ∷ duties.Send (send_duties.Again A) ∷ emission A) o
+        rates_a : (o : Option Pending) → is_some o ≡ true → Relation books (with_agenda (Duty.Ask (AskDuty.Rate A) ∷ Duty.Send (SendDuty.Acknowledge A) ∷ Duty.Send (SendDuty.Again A) ∷ emission A) p) → RatedA (Duty.Send (SendDuty.Acknowledge A) ∷ Duty.Send (SendDuty.Again A) ∷ emission A) o
         rates_a None stands h = absurd (both_ways _ refl stands)
         rates_a (Some pending) stands h =
             let t = h.treats in
-            let q = with_agenda (duties.Ask (ask_duties.Rate A) ∷ duties.Send (send_duties.Acknowledge A) ∷ duties.Send (send_duties.Again A) ∷ emission A) p in
+            let q = with_agenda (Duty.Ask (AskDuty.Rate A) ∷ Duty.Send (SendDuty.Acknowledge A) ∷ Duty.Send (SendDuty.Again A) ∷ emission A) p in
             let ask = rate_ask A (Some pending) q in
             let view = h.faces in
-            let some = sent_some plan.delay t0 u0 k_is j_is going going_back view (ap brings_still t.0.hand) (una_a (duties.Ask (ask_duties.Rate A) ∷ duties.Send (send_duties.Acknowledge A) ∷ duties.Send (send_duties.Again A) ∷ emission A) view t.0.clear) t.0.answered in
+            let some = sent_some plan.delay t0 u0 k_is j_is going going_back view (ap brings_still t.0.hand) (una_a (Duty.Ask (AskDuty.Rate A) ∷ Duty.Send (SendDuty.Acknowledge A) ∷ Duty.Send (SendDuty.Again A) ∷ emission A) view t.0.clear) t.0.answered in
             let faces = rated view _ t.0.waiting some p.link.path _ _ h.path.number in
             record {
               path = record {
@@ -232,42 +212,42 @@ module _ (start : Start) (plan : PathPlan) (k j : Setting) (s v : Lane) (t0 u0 :
               );
             }
 
-        pub answers_rate_a : (ds : List Duty) → is_some p.a.tcp.congestion.pending ≡ true → Relation books (with_agenda (duties.Ask (ask_duties.Rate A) ∷ ds) p)
+        pub answers_rate_a : (ds : List Duty) → is_some p.a.tcp.congestion.pending ≡ true → Relation books (with_agenda (Duty.Ask (AskDuty.Rate A) ∷ ds) p)
             → RatedA ds p.a.tcp.congestion.pending
         answers_rate_a ds stands h =
             subst (λ (es : List Duty). RatedA es p.a.tcp.congestion.pending) (sym h.treats.3)
-            (rates_a p.a.tcp.congestion.pending stands (subst (λ (es : List Duty). Relation books (with_agenda (duties.Ask (ask_duties.Rate A) ∷ es) p)) h.treats.3 h))
+            (rates_a p.a.tcp.congestion.pending stands (subst (λ (es : List Duty). Relation books (with_agenda (Duty.Ask (AskDuty.Rate A) ∷ es) p)) h.treats.3 h))
 
-        passes_growth_a : Relation books (with_agenda (duties.Ask (ask_duties.Rate A) ∷ duties.Send (send_duties.Acknowledge A) ∷ duties.Send (send_duties.Again A) ∷ emission A) p) → Relation books (with_agenda (duties.Send (send_duties.Acknowledge A) ∷ duties.Send (send_duties.Again A) ∷ emission A) p)
+        passes_growth_a : Relation books (with_agenda (Duty.Ask (AskDuty.Rate A) ∷ Duty.Send (SendDuty.Acknowledge A) ∷ Duty.Send (SendDuty.Again A) ∷ emission A) p) → Relation books (with_agenda (Duty.Send (SendDuty.Acknowledge A) ∷ Duty.Send (SendDuty.Again A) ∷ emission A) p)
         passes_growth_a h =
             let t = h.treats in
             record {
               path = h.path;
               link = h.link;
-              faces = free_drops (duties.Ask (ask_duties.Rate A)) (duties.Send (send_duties.Acknowledge A) ∷ duties.Send (send_duties.Again A) ∷ emission A) refl h.faces;
+              faces = free_drops (Duty.Ask (AskDuty.Rate A)) (Duty.Send (SendDuty.Acknowledge A) ∷ Duty.Send (SendDuty.Again A) ∷ emission A) refl h.faces;
               treats = inr (t.0, t.1, t.2, refl);
             }
 
-        pub passes_rate_a : (ds : List Duty) → Relation books (with_agenda (duties.Ask (ask_duties.Rate A) ∷ ds) p) → Relation books (with_agenda ds p)
+        pub passes_rate_a : (ds : List Duty) → Relation books (with_agenda (Duty.Ask (AskDuty.Rate A) ∷ ds) p) → Relation books (with_agenda ds p)
         passes_rate_a ds h =
             subst (λ (es : List Duty). Relation books (with_agenda es p)) (sym h.treats.3)
-            (passes_growth_a (subst (λ (es : List Duty). Relation books (with_agenda (duties.Ask (ask_duties.Rate A) ∷ es) p)) h.treats.3 h))
+            (passes_growth_a (subst (λ (es : List Duty). Relation books (with_agenda (Duty.Ask (AskDuty.Rate A) ∷ es) p)) h.treats.3 h))
 
         -- the acknowledgement
 
         abbrev acks_a : PlainSegment → PathState Carried
-        acks_a segment = sent_on values A segment (having_sent to_send.Ack p.clock segment p.a) (duties.Send (send_duties.Again A) ∷ emission A) (with_agenda (duties.Send (send_duties.Acknowledge A) ∷ duties.Send (send_duties.Again A) ∷ emission A) p)
+        acks_a segment = sent_on values A segment (having_sent Occasion.Ack p.clock segment p.a) (Duty.Send (SendDuty.Again A) ∷ emission A) (with_agenda (Duty.Send (SendDuty.Acknowledge A) ∷ Duty.Send (SendDuty.Again A) ∷ emission A) p)
 
-        abbrev TakenA : (es : List Duty) → Relation books (with_agenda (duties.Send (send_duties.Acknowledge A) ∷ es) p) → Type 0
-        TakenA es h = TreatsTaken A (own_bench h.faces) (other_bench h.faces) es (duties.Send (send_duties.Again A) ∷ emission A)
+        abbrev TakenA : (es : List Duty) → Relation books (with_agenda (Duty.Send (SendDuty.Acknowledge A) ∷ es) p) → Type 0
+        TakenA es h = TreatsTaken A (own_bench h.faces) (other_bench h.faces) es (Duty.Send (SendDuty.Again A) ∷ emission A)
 
-        ack_goes_a : p.a.tcp.due.ack ≡ true → (h : Relation books (with_agenda (duties.Send (send_duties.Acknowledge A) ∷ duties.Send (send_duties.Again A) ∷ emission A) p)) → TakenA (duties.Send (send_duties.Again A) ∷ emission A) h
-            → Relation books (acknowledges values A (with_agenda (duties.Send (send_duties.Acknowledge A) ∷ duties.Send (send_duties.Again A) ∷ emission A) p))
+        ack_goes_a : p.a.tcp.due.ack ≡ true → (h : Relation books (with_agenda (Duty.Send (SendDuty.Acknowledge A) ∷ Duty.Send (SendDuty.Again A) ∷ emission A) p)) → TakenA (Duty.Send (SendDuty.Again A) ∷ emission A) h
+            → Relation books (acknowledges values A (with_agenda (Duty.Send (SendDuty.Acknowledge A) ∷ Duty.Send (SendDuty.Again A) ∷ emission A) p))
         ack_goes_a stands h t =
             let view = h.faces in
-            let una = una_a (duties.Send (send_duties.Acknowledge A) ∷ duties.Send (send_duties.Again A) ∷ emission A) view t.0.clear in
+            let una = una_a (Duty.Send (SendDuty.Acknowledge A) ∷ Duty.Send (SendDuty.Again A) ∷ emission A) view t.0.clear in
             let owes = sym (ap (λ (d : Due). d.ack) view.own.subflow.due) ∙ stands in
-            let window = none_asked A (duties.Send (send_duties.Acknowledge A)) (differ refl) view.stage_back.window view.stages_back.window in
+            let window = none_asked A (Duty.Send (SendDuty.Acknowledge A)) (differ refl) view.stage_back.window view.stages_back.window in
             let asks = no_question A p.a.treated.asked view.stage_back.ask view.stages_back.ask in
             let some = sent_some plan.delay t0 u0 k_is j_is going going_back view (ap brings_still t.0.hand) una t.0.answered in
             let x = ack plan.delay t0 u0 k_is j_is going going_back view in
@@ -299,7 +279,7 @@ module _ (start : Start) (plan : PathPlan) (k j : Setting) (s v : Lane) (t0 u0 :
               };
               link = link_after_a strip alter carried p.clock p.link h.path.unspoken h.link;
               faces = faces;
-              treats = plain_on keys (own_bench faces) (other_bench faces) (duties.Send (send_duties.Again A) ∷ emission A) (
+              treats = plain_on keys (own_bench faces) (other_bench faces) (Duty.Send (SendDuty.Again A) ∷ emission A) (
                 record {
                   none = refl;
                   idle = record { places = t.0.idle.places; incoming = t.0.idle.incoming; fin = t.0.idle.fin };
@@ -315,14 +295,14 @@ module _ (start : Start) (plan : PathPlan) (k j : Setting) (s v : Lane) (t0 u0 :
                   (refl, tt, emission_plain A);
             })
 
-        pub ack_answered_a : (ds : List Duty) → p.a.tcp.due.ack ≡ true → (h : Relation books (with_agenda (duties.Send (send_duties.Acknowledge A) ∷ ds) p)) → TakenA ds h
-            → Relation books (acknowledges values A (with_agenda (duties.Send (send_duties.Acknowledge A) ∷ ds) p))
+        pub ack_answered_a : (ds : List Duty) → p.a.tcp.due.ack ≡ true → (h : Relation books (with_agenda (Duty.Send (SendDuty.Acknowledge A) ∷ ds) p)) → TakenA ds h
+            → Relation books (acknowledges values A (with_agenda (Duty.Send (SendDuty.Acknowledge A) ∷ ds) p))
         ack_answered_a ds stands h t =
-            subst (λ (es : List Duty). (g : Relation books (with_agenda (duties.Send (send_duties.Acknowledge A) ∷ es) p)) → TakenA es g
-            → Relation books (acknowledges values A (with_agenda (duties.Send (send_duties.Acknowledge A) ∷ es) p)))
+            subst (λ (es : List Duty). (g : Relation books (with_agenda (Duty.Send (SendDuty.Acknowledge A) ∷ es) p)) → TakenA es g
+            → Relation books (acknowledges values A (with_agenda (Duty.Send (SendDuty.Acknowledge A) ∷ es) p)))
             (sym t.3) (ack_goes_a stands) h t
 
-        done_with_a : p.a.tcp.due.ack ≡ false → (h : Relation books (with_agenda (duties.Send (send_duties.Acknowledge A) ∷ duties.Send (send_duties.Again A) ∷ emission A) p)) → TakenA (duties.Send (send_duties.Again A) ∷ emission A) h → Relation books (with_agenda (duties.Send (send_duties.Again A) ∷ emission A) p)
+        done_with_a : p.a.tcp.due.ack ≡ false → (h : Relation books (with_agenda (Duty.Send (SendDuty.Acknowledge A) ∷ Duty.Send (SendDuty.Again A) ∷ emission A) p)) → TakenA (Duty.Send (SendDuty.Again A) ∷ emission A) h → Relation books (with_agenda (Duty.Send (SendDuty.Again A) ∷ emission A) p)
         done_with_a off h t =
             let view = h.faces in
             let unowed = sym (ap (λ (d : Due). d.ack) view.own.subflow.due) ∙ off in
@@ -331,7 +311,7 @@ module _ (start : Start) (plan : PathPlan) (k j : Setting) (s v : Lane) (t0 u0 :
               path = h.path;
               link = h.link;
               faces = faces;
-              treats = plain_on keys (own_bench faces) (other_bench faces) (duties.Send (send_duties.Again A) ∷ emission A) (
+              treats = plain_on keys (own_bench faces) (other_bench faces) (Duty.Send (SendDuty.Again A) ∷ emission A) (
                 record {
                   none = refl;
                   idle = record { places = t.0.idle.places; incoming = t.0.idle.incoming; fin = t.0.idle.fin };
@@ -346,10 +326,10 @@ module _ (start : Start) (plan : PathPlan) (k j : Setting) (s v : Lane) (t0 u0 :
               ) t.0.waiting t.2 (refl, tt, emission_plain A);
             }
 
-        pub ack_passed_a : (ds : List Duty) → p.a.tcp.due.ack ≡ false → (h : Relation books (with_agenda (duties.Send (send_duties.Acknowledge A) ∷ ds) p)) → TakenA ds h
+        pub ack_passed_a : (ds : List Duty) → p.a.tcp.due.ack ≡ false → (h : Relation books (with_agenda (Duty.Send (SendDuty.Acknowledge A) ∷ ds) p)) → TakenA ds h
             → Relation books (with_agenda ds p)
         ack_passed_a ds off h t =
-            subst (λ (es : List Duty). (g : Relation books (with_agenda (duties.Send (send_duties.Acknowledge A) ∷ es) p)) → TakenA es g → Relation books (with_agenda es p))
+            subst (λ (es : List Duty). (g : Relation books (with_agenda (Duty.Send (SendDuty.Acknowledge A) ∷ es) p)) → TakenA es g → Relation books (with_agenda es p))
             (sym t.3) (done_with_a off) h t
 
         -- ---- at B
@@ -357,13 +337,13 @@ module _ (start : Start) (plan : PathPlan) (k j : Setting) (s v : Lane) (t0 u0 :
         una_b : (es : List Duty) (h : FacesOfB keys k j s v a b books (with_agenda es p)) → 1 ≤ h.out.clear → 1 ≤ p.b.tcp.send.una
         una_b es h clear = (open_when_ready plan.delay u0 t0 j_is k_is going_back going h (some_of clear h.own.modes.cleared)).0
 
-        asks_out_b : Relation books (with_agenda (duties.Ask (ask_duties.AckOut B) ∷ duties.Ask (ask_duties.Rate B) ∷ duties.Send (send_duties.Acknowledge B) ∷ duties.Send (send_duties.Again B) ∷ emission B) p)
-            → Relation books (answered_ack_out B (reply_of books (ack_out_ask B)) (duties.Ask (ask_duties.Rate B) ∷ duties.Send (send_duties.Acknowledge B) ∷ duties.Send (send_duties.Again B) ∷ emission B) (with_agenda (duties.Ask (ask_duties.AckOut B) ∷ duties.Ask (ask_duties.Rate B) ∷ duties.Send (send_duties.Acknowledge B) ∷ duties.Send (send_duties.Again B) ∷ emission B) p))
+        asks_out_b : Relation books (with_agenda (Duty.Ask (AskDuty.AckOut B) ∷ Duty.Ask (AskDuty.Rate B) ∷ Duty.Send (SendDuty.Acknowledge B) ∷ Duty.Send (SendDuty.Again B) ∷ emission B) p)
+            → Relation books (answered_ack_out B (reply_of books (ack_out_ask B)) (Duty.Ask (AskDuty.Rate B) ∷ Duty.Send (SendDuty.Acknowledge B) ∷ Duty.Send (SendDuty.Again B) ∷ emission B) (with_agenda (Duty.Ask (AskDuty.AckOut B) ∷ Duty.Ask (AskDuty.Rate B) ∷ Duty.Send (SendDuty.Acknowledge B) ∷ Duty.Send (SendDuty.Again B) ∷ emission B) p))
         asks_out_b h =
             let t = h.treats in
-            let view = from_a keys k j s v a b books (with_agenda (duties.Ask (ask_duties.AckOut B) ∷ duties.Ask (ask_duties.Rate B) ∷ duties.Send (send_duties.Acknowledge B) ∷ duties.Send (send_duties.Again B) ∷ emission B) p) h.faces in
-            let some = sent_some plan.delay u0 t0 j_is k_is going_back going view (ap brings_still t.0.hand) (una_b (duties.Ask (ask_duties.AckOut B) ∷ duties.Ask (ask_duties.Rate B) ∷ duties.Send (send_duties.Acknowledge B) ∷ duties.Send (send_duties.Again B) ∷ emission B) view t.0.clear) t.0.answered in
-            let faces = from_b keys k j s v a b books (answered_ack_out B (reply_of books (ack_out_ask B)) (duties.Ask (ask_duties.Rate B) ∷ duties.Send (send_duties.Acknowledge B) ∷ duties.Send (send_duties.Again B) ∷ emission B) (with_agenda (duties.Ask (ask_duties.AckOut B) ∷ duties.Ask (ask_duties.Rate B) ∷ duties.Send (send_duties.Acknowledge B) ∷ duties.Send (send_duties.Again B) ∷ emission B) p)) (asked_after plan.delay u0 t0 j_is k_is going_back going view some) in
+            let view = from_a keys k j s v a b books (with_agenda (Duty.Ask (AskDuty.AckOut B) ∷ Duty.Ask (AskDuty.Rate B) ∷ Duty.Send (SendDuty.Acknowledge B) ∷ Duty.Send (SendDuty.Again B) ∷ emission B) p) h.faces in
+            let some = sent_some plan.delay u0 t0 j_is k_is going_back going view (ap brings_still t.0.hand) (una_b (Duty.Ask (AskDuty.AckOut B) ∷ Duty.Ask (AskDuty.Rate B) ∷ Duty.Send (SendDuty.Acknowledge B) ∷ Duty.Send (SendDuty.Again B) ∷ emission B) view t.0.clear) t.0.answered in
+            let faces = from_b keys k j s v a b books (answered_ack_out B (reply_of books (ack_out_ask B)) (Duty.Ask (AskDuty.Rate B) ∷ Duty.Send (SendDuty.Acknowledge B) ∷ Duty.Send (SendDuty.Again B) ∷ emission B) (with_agenda (Duty.Ask (AskDuty.AckOut B) ∷ Duty.Ask (AskDuty.Rate B) ∷ Duty.Send (SendDuty.Acknowledge B) ∷ Duty.Send (SendDuty.Again B) ∷ emission B) p)) (asked_after plan.delay u0 t0 j_is k_is going_back going view some) in
             record {
               path = record {
                 profile = h.path.profile;
@@ -394,18 +374,18 @@ module _ (start : Start) (plan : PathPlan) (k j : Setting) (s v : Lane) (t0 u0 :
               );
             }
 
-        pub answers_ack_out_b : (ds : List Duty) → Relation books (with_agenda (duties.Ask (ask_duties.AckOut B) ∷ ds) p)
-            → Relation books (answered_ack_out B (reply_of books (ack_out_ask B)) ds (with_agenda (duties.Ask (ask_duties.AckOut B) ∷ ds) p))
+        pub answers_ack_out_b : (ds : List Duty) → Relation books (with_agenda (Duty.Ask (AskDuty.AckOut B) ∷ ds) p)
+            → Relation books (answered_ack_out B (reply_of books (ack_out_ask B)) ds (with_agenda (Duty.Ask (AskDuty.AckOut B) ∷ ds) p))
         answers_ack_out_b ds h =
-            subst (λ (es : List Duty). Relation books (answered_ack_out B (reply_of books (ack_out_ask B)) es (with_agenda (duties.Ask (ask_duties.AckOut B) ∷ es) p)))
-            (sym h.treats.3) (asks_out_b (subst (λ (es : List Duty). Relation books (with_agenda (duties.Ask (ask_duties.AckOut B) ∷ es) p)) h.treats.3 h))
+            subst (λ (es : List Duty). Relation books (answered_ack_out B (reply_of books (ack_out_ask B)) es (with_agenda (Duty.Ask (AskDuty.AckOut B) ∷ es) p)))
+            (sym h.treats.3) (asks_out_b (subst (λ (es : List Duty). Relation books (with_agenda (Duty.Ask (AskDuty.AckOut B) ∷ es) p)) h.treats.3 h))
 
-        passes_out_b : p.b.treated.asked ≡ false → Relation books (with_agenda (duties.Ask (ask_duties.AckOut B) ∷ duties.Ask (ask_duties.Rate B) ∷ duties.Send (send_duties.Acknowledge B) ∷ duties.Send (send_duties.Again B) ∷ emission B) p) → Relation books (with_agenda (duties.Ask (ask_duties.Rate B) ∷ duties.Send (send_duties.Acknowledge B) ∷ duties.Send (send_duties.Again B) ∷ emission B) p)
+        passes_out_b : p.b.treated.asked ≡ false → Relation books (with_agenda (Duty.Ask (AskDuty.AckOut B) ∷ Duty.Ask (AskDuty.Rate B) ∷ Duty.Send (SendDuty.Acknowledge B) ∷ Duty.Send (SendDuty.Again B) ∷ emission B) p) → Relation books (with_agenda (Duty.Ask (AskDuty.Rate B) ∷ Duty.Send (SendDuty.Acknowledge B) ∷ Duty.Send (SendDuty.Again B) ∷ emission B) p)
         passes_out_b unasked h =
             let t = h.treats in
-            let view = from_a keys k j s v a b books (with_agenda (duties.Ask (ask_duties.AckOut B) ∷ duties.Ask (ask_duties.Rate B) ∷ duties.Send (send_duties.Acknowledge B) ∷ duties.Send (send_duties.Again B) ∷ emission B) p) h.faces in
-            let some = sent_some plan.delay u0 t0 j_is k_is going_back going view (ap brings_still t.0.hand) (una_b (duties.Ask (ask_duties.AckOut B) ∷ duties.Ask (ask_duties.Rate B) ∷ duties.Send (send_duties.Acknowledge B) ∷ duties.Send (send_duties.Again B) ∷ emission B) view t.0.clear) t.0.answered in
-            let faces = from_b keys k j s v a b books (with_agenda (duties.Ask (ask_duties.Rate B) ∷ duties.Send (send_duties.Acknowledge B) ∷ duties.Send (send_duties.Again B) ∷ emission B) p) (out_passes plan.delay u0 t0 j_is k_is going_back going view some unasked) in
+            let view = from_a keys k j s v a b books (with_agenda (Duty.Ask (AskDuty.AckOut B) ∷ Duty.Ask (AskDuty.Rate B) ∷ Duty.Send (SendDuty.Acknowledge B) ∷ Duty.Send (SendDuty.Again B) ∷ emission B) p) h.faces in
+            let some = sent_some plan.delay u0 t0 j_is k_is going_back going view (ap brings_still t.0.hand) (una_b (Duty.Ask (AskDuty.AckOut B) ∷ Duty.Ask (AskDuty.Rate B) ∷ Duty.Send (SendDuty.Acknowledge B) ∷ Duty.Send (SendDuty.Again B) ∷ emission B) view t.0.clear) t.0.answered in
+            let faces = from_b keys k j s v a b books (with_agenda (Duty.Ask (AskDuty.Rate B) ∷ Duty.Send (SendDuty.Acknowledge B) ∷ Duty.Send (SendDuty.Again B) ∷ emission B) p) (out_passes plan.delay u0 t0 j_is k_is going_back going view some unasked) in
             record {
               path = record {
                 profile = h.path.profile;
@@ -436,27 +416,27 @@ module _ (start : Start) (plan : PathPlan) (k j : Setting) (s v : Lane) (t0 u0 :
               );
             }
 
-        pub passes_ack_out_b : (ds : List Duty) → p.b.treated.asked ≡ false → Relation books (with_agenda (duties.Ask (ask_duties.AckOut B) ∷ ds) p)
+        pub passes_ack_out_b : (ds : List Duty) → p.b.treated.asked ≡ false → Relation books (with_agenda (Duty.Ask (AskDuty.AckOut B) ∷ ds) p)
             → Relation books (with_agenda ds p)
         passes_ack_out_b ds unasked h =
             subst (λ (es : List Duty). Relation books (with_agenda es p)) (sym h.treats.3)
-            (passes_out_b unasked (subst (λ (es : List Duty). Relation books (with_agenda (duties.Ask (ask_duties.AckOut B) ∷ es) p)) h.treats.3 h))
+            (passes_out_b unasked (subst (λ (es : List Duty). Relation books (with_agenda (Duty.Ask (AskDuty.AckOut B) ∷ es) p)) h.treats.3 h))
 
         -- the growth
 
         abbrev RatedB : List Duty → Option Pending → Type 0
         RatedB ds o =
-            let q = with_agenda (duties.Ask (ask_duties.Rate B) ∷ ds) p in let ask = rate_ask B o q in
+            let q = with_agenda (Duty.Ask (AskDuty.Rate B) ∷ ds) p in let ask = rate_ask B o q in
             Relation (after_ask ask books) (answered_rate B (reply_of books ask) q)
 
-        rates_b : (o : Option Pending) → is_some o ≡ true → Relation books (with_agenda (duties.Ask (ask_duties.Rate B) ∷ duties.Send (send_duties.Acknowledge B) ∷ duties.Send (send_duties.Again B) ∷ emission B) p) → RatedB (duties.Send (send_duties.Acknowledge B) ∷ duties.Send (send_duties.Again B) ∷ emission B) o
+        rates_b : (o : Option Pending) → is_some o ≡ true → Relation books (with_agenda (Duty.Ask (AskDuty.Rate B) ∷ Duty.Send (SendDuty.Acknowledge B) ∷ Duty.Send (SendDuty.Again B) ∷ emission B) p) → RatedB (Duty.Send (SendDuty.Acknowledge B) ∷ Duty.Send (SendDuty.Again B) ∷ emission B) o
         rates_b None stands h = absurd (both_ways _ refl stands)
         rates_b (Some pending) stands h =
             let t = h.treats in
-            let q = with_agenda (duties.Ask (ask_duties.Rate B) ∷ duties.Send (send_duties.Acknowledge B) ∷ duties.Send (send_duties.Again B) ∷ emission B) p in
+            let q = with_agenda (Duty.Ask (AskDuty.Rate B) ∷ Duty.Send (SendDuty.Acknowledge B) ∷ Duty.Send (SendDuty.Again B) ∷ emission B) p in
             let ask = rate_ask B (Some pending) q in
-            let view = from_a keys k j s v a b books (with_agenda (duties.Ask (ask_duties.Rate B) ∷ duties.Send (send_duties.Acknowledge B) ∷ duties.Send (send_duties.Again B) ∷ emission B) p) h.faces in
-            let some = sent_some plan.delay u0 t0 j_is k_is going_back going view (ap brings_still t.0.hand) (una_b (duties.Ask (ask_duties.Rate B) ∷ duties.Send (send_duties.Acknowledge B) ∷ duties.Send (send_duties.Again B) ∷ emission B) view t.0.clear) t.0.answered in
+            let view = from_a keys k j s v a b books (with_agenda (Duty.Ask (AskDuty.Rate B) ∷ Duty.Send (SendDuty.Acknowledge B) ∷ Duty.Send (SendDuty.Again B) ∷ emission B) p) h.faces in
+            let some = sent_some plan.delay u0 t0 j_is k_is going_back going view (ap brings_still t.0.hand) (una_b (Duty.Ask (AskDuty.Rate B) ∷ Duty.Send (SendDuty.Acknowledge B) ∷ Duty.Send (SendDuty.Again B) ∷ emission B) view t.0.clear) t.0.answered in
             let faces = from_b keys k j s v a b (after_ask ask books) (answered_rate B (reply_of books ask) q) (rated view _ t.0.waiting some p.link.path _ _ h.path.number) in
             record {
               path = record {
@@ -488,42 +468,42 @@ module _ (start : Start) (plan : PathPlan) (k j : Setting) (s v : Lane) (t0 u0 :
               );
             }
 
-        pub answers_rate_b : (ds : List Duty) → is_some p.b.tcp.congestion.pending ≡ true → Relation books (with_agenda (duties.Ask (ask_duties.Rate B) ∷ ds) p)
+        pub answers_rate_b : (ds : List Duty) → is_some p.b.tcp.congestion.pending ≡ true → Relation books (with_agenda (Duty.Ask (AskDuty.Rate B) ∷ ds) p)
             → RatedB ds p.b.tcp.congestion.pending
         answers_rate_b ds stands h =
             subst (λ (es : List Duty). RatedB es p.b.tcp.congestion.pending) (sym h.treats.3)
-            (rates_b p.b.tcp.congestion.pending stands (subst (λ (es : List Duty). Relation books (with_agenda (duties.Ask (ask_duties.Rate B) ∷ es) p)) h.treats.3 h))
+            (rates_b p.b.tcp.congestion.pending stands (subst (λ (es : List Duty). Relation books (with_agenda (Duty.Ask (AskDuty.Rate B) ∷ es) p)) h.treats.3 h))
 
-        passes_growth_b : Relation books (with_agenda (duties.Ask (ask_duties.Rate B) ∷ duties.Send (send_duties.Acknowledge B) ∷ duties.Send (send_duties.Again B) ∷ emission B) p) → Relation books (with_agenda (duties.Send (send_duties.Acknowledge B) ∷ duties.Send (send_duties.Again B) ∷ emission B) p)
+        passes_growth_b : Relation books (with_agenda (Duty.Ask (AskDuty.Rate B) ∷ Duty.Send (SendDuty.Acknowledge B) ∷ Duty.Send (SendDuty.Again B) ∷ emission B) p) → Relation books (with_agenda (Duty.Send (SendDuty.Acknowledge B) ∷ Duty.Send (SendDuty.Again B) ∷ emission B) p)
         passes_growth_b h =
             let t = h.treats in
             record {
               path = h.path;
               link = h.link;
-              faces = free_drops (duties.Ask (ask_duties.Rate B)) (duties.Send (send_duties.Acknowledge B) ∷ duties.Send (send_duties.Again B) ∷ emission B) refl h.faces;
+              faces = free_drops (Duty.Ask (AskDuty.Rate B)) (Duty.Send (SendDuty.Acknowledge B) ∷ Duty.Send (SendDuty.Again B) ∷ emission B) refl h.faces;
               treats = inr (t.0, t.1, t.2, refl);
             }
 
-        pub passes_rate_b : (ds : List Duty) → Relation books (with_agenda (duties.Ask (ask_duties.Rate B) ∷ ds) p) → Relation books (with_agenda ds p)
+        pub passes_rate_b : (ds : List Duty) → Relation books (with_agenda (Duty.Ask (AskDuty.Rate B) ∷ ds) p) → Relation books (with_agenda ds p)
         passes_rate_b ds h =
             subst (λ (es : List Duty). Relation books (with_agenda es p)) (sym h.treats.3)
-            (passes_growth_b (subst (λ (es : List Duty). Relation books (with_agenda (duties.Ask (ask_duties.Rate B) ∷ es) p)) h.treats.3 h))
+            (passes_growth_b (subst (λ (es : List Duty). Relation books (with_agenda (Duty.Ask (AskDuty.Rate B) ∷ es) p)) h.treats.3 h))
 
         -- the acknowledgement
 
         abbrev acks_b : PlainSegment → PathState Carried
-        acks_b segment = sent_on values B segment (having_sent to_send.Ack p.clock segment p.b) (duties.Send (send_duties.Again B) ∷ emission B) (with_agenda (duties.Send (send_duties.Acknowledge B) ∷ duties.Send (send_duties.Again B) ∷ emission B) p)
+        acks_b segment = sent_on values B segment (having_sent Occasion.Ack p.clock segment p.b) (Duty.Send (SendDuty.Again B) ∷ emission B) (with_agenda (Duty.Send (SendDuty.Acknowledge B) ∷ Duty.Send (SendDuty.Again B) ∷ emission B) p)
 
-        abbrev TakenB : (es : List Duty) → Relation books (with_agenda (duties.Send (send_duties.Acknowledge B) ∷ es) p) → Type 0
-        TakenB es h = TreatsTaken B (own_bench h.faces) (other_bench h.faces) es (duties.Send (send_duties.Again B) ∷ emission B)
+        abbrev TakenB : (es : List Duty) → Relation books (with_agenda (Duty.Send (SendDuty.Acknowledge B) ∷ es) p) → Type 0
+        TakenB es h = TreatsTaken B (own_bench h.faces) (other_bench h.faces) es (Duty.Send (SendDuty.Again B) ∷ emission B)
 
-        ack_goes_b : p.b.tcp.due.ack ≡ true → (h : Relation books (with_agenda (duties.Send (send_duties.Acknowledge B) ∷ duties.Send (send_duties.Again B) ∷ emission B) p)) → TakenB (duties.Send (send_duties.Again B) ∷ emission B) h
-            → Relation books (acknowledges values B (with_agenda (duties.Send (send_duties.Acknowledge B) ∷ duties.Send (send_duties.Again B) ∷ emission B) p))
+        ack_goes_b : p.b.tcp.due.ack ≡ true → (h : Relation books (with_agenda (Duty.Send (SendDuty.Acknowledge B) ∷ Duty.Send (SendDuty.Again B) ∷ emission B) p)) → TakenB (Duty.Send (SendDuty.Again B) ∷ emission B) h
+            → Relation books (acknowledges values B (with_agenda (Duty.Send (SendDuty.Acknowledge B) ∷ Duty.Send (SendDuty.Again B) ∷ emission B) p))
         ack_goes_b stands h t =
-            let view = from_a keys k j s v a b books (with_agenda (duties.Send (send_duties.Acknowledge B) ∷ duties.Send (send_duties.Again B) ∷ emission B) p) h.faces in
-            let una = una_b (duties.Send (send_duties.Acknowledge B) ∷ duties.Send (send_duties.Again B) ∷ emission B) view t.0.clear in
+            let view = from_a keys k j s v a b books (with_agenda (Duty.Send (SendDuty.Acknowledge B) ∷ Duty.Send (SendDuty.Again B) ∷ emission B) p) h.faces in
+            let una = una_b (Duty.Send (SendDuty.Acknowledge B) ∷ Duty.Send (SendDuty.Again B) ∷ emission B) view t.0.clear in
             let owes = sym (ap (λ (d : Due). d.ack) view.own.subflow.due) ∙ stands in
-            let window = none_asked B (duties.Send (send_duties.Acknowledge B)) (differ refl) view.stage_back.window view.stages_back.window in
+            let window = none_asked B (Duty.Send (SendDuty.Acknowledge B)) (differ refl) view.stage_back.window view.stages_back.window in
             let asks = no_question B p.b.treated.asked view.stage_back.ask view.stages_back.ask in
             let some = sent_some plan.delay u0 t0 j_is k_is going_back going view (ap brings_still t.0.hand) una t.0.answered in
             let x = ack plan.delay u0 t0 j_is k_is going_back going view in
@@ -555,7 +535,7 @@ module _ (start : Start) (plan : PathPlan) (k j : Setting) (s v : Lane) (t0 u0 :
               };
               link = link_after_b strip alter carried p.clock p.link h.path.unspoken h.link;
               faces = faces;
-              treats = plain_on keys (own_bench faces) (other_bench faces) (duties.Send (send_duties.Again B) ∷ emission B) (
+              treats = plain_on keys (own_bench faces) (other_bench faces) (Duty.Send (SendDuty.Again B) ∷ emission B) (
                 t.1,
                 record {
                   none = refl;
@@ -571,23 +551,23 @@ module _ (start : Start) (plan : PathPlan) (k j : Setting) (s v : Lane) (t0 u0 :
                   (refl, tt, emission_plain B);
             })
 
-        pub ack_answered_b : (ds : List Duty) → p.b.tcp.due.ack ≡ true → (h : Relation books (with_agenda (duties.Send (send_duties.Acknowledge B) ∷ ds) p)) → TakenB ds h
-            → Relation books (acknowledges values B (with_agenda (duties.Send (send_duties.Acknowledge B) ∷ ds) p))
+        pub ack_answered_b : (ds : List Duty) → p.b.tcp.due.ack ≡ true → (h : Relation books (with_agenda (Duty.Send (SendDuty.Acknowledge B) ∷ ds) p)) → TakenB ds h
+            → Relation books (acknowledges values B (with_agenda (Duty.Send (SendDuty.Acknowledge B) ∷ ds) p))
         ack_answered_b ds stands h t =
-            subst (λ (es : List Duty). (g : Relation books (with_agenda (duties.Send (send_duties.Acknowledge B) ∷ es) p)) → TakenB es g
-            → Relation books (acknowledges values B (with_agenda (duties.Send (send_duties.Acknowledge B) ∷ es) p)))
+            subst (λ (es : List Duty). (g : Relation books (with_agenda (Duty.Send (SendDuty.Acknowledge B) ∷ es) p)) → TakenB es g
+            → Relation books (acknowledges values B (with_agenda (Duty.Send (SendDuty.Acknowledge B) ∷ es) p)))
             (sym t.3) (ack_goes_b stands) h t
 
-        done_with_b : p.b.tcp.due.ack ≡ false → (h : Relation books (with_agenda (duties.Send (send_duties.Acknowledge B) ∷ duties.Send (send_duties.Again B) ∷ emission B) p)) → TakenB (duties.Send (send_duties.Again B) ∷ emission B) h → Relation books (with_agenda (duties.Send (send_duties.Again B) ∷ emission B) p)
+        done_with_b : p.b.tcp.due.ack ≡ false → (h : Relation books (with_agenda (Duty.Send (SendDuty.Acknowledge B) ∷ Duty.Send (SendDuty.Again B) ∷ emission B) p)) → TakenB (Duty.Send (SendDuty.Again B) ∷ emission B) h → Relation books (with_agenda (Duty.Send (SendDuty.Again B) ∷ emission B) p)
         done_with_b off h t =
-            let view = from_a keys k j s v a b books (with_agenda (duties.Send (send_duties.Acknowledge B) ∷ duties.Send (send_duties.Again B) ∷ emission B) p) h.faces in
+            let view = from_a keys k j s v a b books (with_agenda (Duty.Send (SendDuty.Acknowledge B) ∷ Duty.Send (SendDuty.Again B) ∷ emission B) p) h.faces in
             let unowed = sym (ap (λ (d : Due). d.ack) view.own.subflow.due) ∙ off in
-            let faces = from_b keys k j s v a b books (with_agenda (duties.Send (send_duties.Again B) ∷ emission B) p) (copy_done view t.0.sent t.0.hand unowed) in
+            let faces = from_b keys k j s v a b books (with_agenda (Duty.Send (SendDuty.Again B) ∷ emission B) p) (copy_done view t.0.sent t.0.hand unowed) in
             record {
               path = h.path;
               link = h.link;
               faces = faces;
-              treats = plain_on keys (own_bench faces) (other_bench faces) (duties.Send (send_duties.Again B) ∷ emission B) (
+              treats = plain_on keys (own_bench faces) (other_bench faces) (Duty.Send (SendDuty.Again B) ∷ emission B) (
                 t.1,
                 record {
                   none = refl;
@@ -602,32 +582,32 @@ module _ (start : Start) (plan : PathPlan) (k j : Setting) (s v : Lane) (t0 u0 :
               ) t.2 t.0.waiting (refl, tt, emission_plain B);
             }
 
-        pub ack_passed_b : (ds : List Duty) → p.b.tcp.due.ack ≡ false → (h : Relation books (with_agenda (duties.Send (send_duties.Acknowledge B) ∷ ds) p)) → TakenB ds h
+        pub ack_passed_b : (ds : List Duty) → p.b.tcp.due.ack ≡ false → (h : Relation books (with_agenda (Duty.Send (SendDuty.Acknowledge B) ∷ ds) p)) → TakenB ds h
             → Relation books (with_agenda ds p)
         ack_passed_b ds off h t =
-            subst (λ (es : List Duty). (g : Relation books (with_agenda (duties.Send (send_duties.Acknowledge B) ∷ es) p)) → TakenB es g → Relation books (with_agenda es p))
+            subst (λ (es : List Duty). (g : Relation books (with_agenda (Duty.Send (SendDuty.Acknowledge B) ∷ es) p)) → TakenB es g → Relation books (with_agenda es p))
             (sym t.3) (done_with_b off) h t
 
         -- ---- the acknowledgement answers the SYN/ACK, or a copy
 
-        pub answers_acknowledge_a : (ds : List Duty) → p.a.tcp.due.ack ≡ true → Relation books (with_agenda (duties.Send (send_duties.Acknowledge A) ∷ ds) p)
-            → Relation books (acknowledges values A (with_agenda (duties.Send (send_duties.Acknowledge A) ∷ ds) p))
+        pub answers_acknowledge_a : (ds : List Duty) → p.a.tcp.due.ack ≡ true → Relation books (with_agenda (Duty.Send (SendDuty.Acknowledge A) ∷ ds) p)
+            → Relation books (acknowledges values A (with_agenda (Duty.Send (SendDuty.Acknowledge A) ∷ ds) p))
         answers_acknowledge_a ds stands h =
             ⊎_elim (λ third. third_answered start plan k j s v t0 u0 going going_back a b books p ds k_is j_is h third) (λ taken. ack_answered_a ds stands h taken) h.treats
 
-        pub passes_acknowledge_a : (ds : List Duty) → p.a.tcp.due.ack ≡ false → Relation books (with_agenda (duties.Send (send_duties.Acknowledge A) ∷ ds) p)
+        pub passes_acknowledge_a : (ds : List Duty) → p.a.tcp.due.ack ≡ false → Relation books (with_agenda (Duty.Send (SendDuty.Acknowledge A) ∷ ds) p)
             → Relation books (with_agenda ds p)
         passes_acknowledge_a ds off h =
             ⊎_elim (λ third. absurd (both_ways _ off (ap (λ (d : Due). d.ack) h.own.subflow.due ∙ third.0.owes))) (λ taken. ack_passed_a ds off h taken) h.treats
 
-        pub answers_acknowledge_b : (ds : List Duty) → p.b.tcp.due.ack ≡ true → Relation books (with_agenda (duties.Send (send_duties.Acknowledge B) ∷ ds) p)
-            → Relation books (acknowledges values B (with_agenda (duties.Send (send_duties.Acknowledge B) ∷ ds) p))
+        pub answers_acknowledge_b : (ds : List Duty) → p.b.tcp.due.ack ≡ true → Relation books (with_agenda (Duty.Send (SendDuty.Acknowledge B) ∷ ds) p)
+            → Relation books (acknowledges values B (with_agenda (Duty.Send (SendDuty.Acknowledge B) ∷ ds) p))
         answers_acknowledge_b ds stands h = ⊎_elim (λ third. absurd (not_a third.0.side)) (λ taken. ack_answered_b ds stands h taken) h.treats
           where
             not_a : B ≡ A → ⊥
             not_a e = cc
 
-        pub passes_acknowledge_b : (ds : List Duty) → p.b.tcp.due.ack ≡ false → Relation books (with_agenda (duties.Send (send_duties.Acknowledge B) ∷ ds) p)
+        pub passes_acknowledge_b : (ds : List Duty) → p.b.tcp.due.ack ≡ false → Relation books (with_agenda (Duty.Send (SendDuty.Acknowledge B) ∷ ds) p)
             → Relation books (with_agenda ds p)
         passes_acknowledge_b ds off h = ⊎_elim (λ third. absurd (not_a third.0.side)) (λ taken. ack_passed_b ds off h taken) h.treats
           where

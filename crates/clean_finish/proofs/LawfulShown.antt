@@ -1,16 +1,13 @@
 -- Over octets the same turns are lawful as over segments as values, and the outcome is the same.
-use Rattle.std.proofs.Common.{◌≡◌, refl, sym, subst, ap, ◌∙◌, ℕ, zero, suc, Bool, not, ◌&&◌, List, [], ◌∷◌, ◌++◌, map}
-use Rattle.std.specs.List.{slice_get}
-use Rattle.sides.specs.declared.side.Side.TheVariants.{A, B}
+use Rattle.clean_finish.proofs.Words.{◌≡◌, refl, sym, subst, ap, ◌∙◌, ℕ, Bool, not, ◌&&◌, List, [], ◌∷◌, ◌++◌, map, suc, zero, slice_get, A, B, Carried, values}
+use Rattle.clean_finish.proofs.Words.{Start, opened_world, are_all_dead, is_no_live_path, notes_of, outcome_by, outcome_of, tells_abort, tells_end, was_told}
+use Rattle.clean_finish.proofs.Words.{WorldState, Turn, all_over, world_run, AreLawful, IsLawfulTurn}
 use Rattle.actor_desk.specs.declared.ask.Note.{Note}
 use Rattle.path_core.specs.Octets.{octets}
-use Rattle.path_core.specs.Values.{Carried, values}
 use Rattle.world_laws.specs.declared.member.Member.TheVariants.{App, Path}
 use Rattle.world_laws.specs.Actors.{Actor, ActorCrew, is_over}
 use Rattle.world_laws.specs.Fresh.{shown_member, shown_crew, shown_world}
-use Rattle.world_laws.specs.Openings.{Start, opened_world}
-use Rattle.world_laws.specs.Outcomes.{are_all_dead, is_no_live_path, notes_of, outcome_by, outcome_of, tells_abort, tells_end, was_told}
-use Rattle.world_laws.specs.Worlds.{WorldState, Turn, all_over, goes, world_run, IsLawfulTurn, AreLawful}
+use Rattle.world_laws.specs.Worlds.{goes}
 use Rattle.world_laws.proofs.Promises.OverOctets.{same_notes_of}
 use Rattle.world_laws.proofs.Weaving.WholeRounds.{run_append}
 

@@ -1,19 +1,11 @@
 -- A segment that is handed to a link on which nothing happens: it comes last on its way, and the other way stays.
-use Rattle.std.proofs.Common.{◌≡◌, refl, sym, subst, ap, ◌∙◌, ℕ, ◌+◌, false, List, [], ◌∷◌, ◌++◌, le_refl}
-use Rattle.std.specs.List.{AllByRecursion}
-use Rattle.sides.specs.declared.side.Side.{Side}
-use Rattle.sides.specs.declared.side.Side.TheVariants.{A, B}
-use Rattle.link_script.specs.declared.script.ScriptLine.{ScriptLine}
-use Rattle.link_model.specs.declared.flight.Flight.{Flight}
+use Rattle.clean_finish.proofs.Words.{◌≡◌, refl, sym, subst, ap, ◌∙◌, ℕ, ◌+◌, false, List, [], ◌∷◌, ◌++◌, le_refl, AllByRecursion, Side, A, B, ScriptLine}
+use Rattle.clean_finish.proofs.Words.{Flight, going_to, plain_flight, WereSentBefore, after_send, next_number, changed, LinkState, in_order_sent, Carried}
+use Rattle.clean_finish.proofs.Words.{LinkIs}
 use Rattle.link_model.specs.Fate.{is_stripped, is_altered}
-use Rattle.link_model.specs.Laws.{moves, going_to, plain_flight, WereSentBefore}
-use Rattle.link_model.specs.State.{LinkState}
-use Rattle.link_model.specs.Steps.{next_number, after_send, changed}
-use Rattle.link_model.proofs.Order.{in_order_sent}
+use Rattle.link_model.specs.Laws.{moves}
 use Rattle.link_model.proofs.Plain.{sent_last, sent_before_next}
-use Rattle.path_core.specs.Values.{Carried}
 use Rattle.clean_finish.specs.Machine.{copy_of}
-use Rattle.clean_finish.specs.Running.{LinkIs}
 use Rattle.clean_finish.proofs.Links.{going_with, sends_plainly}
 
 module _ (strip alter : Side → Carried → Carried) (carried : Carried) (now : ℕ) (link : LinkState Carried) (none : link.lines ≡ [])

@@ -1,14 +1,9 @@
 -- A link on which nothing happens.
-use Rattle.std.proofs.Common.{◌≡◌, refl, sym, ap, subst, ℕ, Bool, true, false, if◌then◌else◌, Option, Some, List, [], ◌∷◌, filter, find, position, eq-eqb, lt-ltb, length, suc, arith}
-use Rattle.sides.specs.declared.side.Side.{Side}
-use Rattle.sides.specs.declared.side.Side.TheVariants.{A, B}
-use Rattle.link_script.specs.declared.script.ScriptLine.{ScriptLine}
-use Rattle.link_script.specs.Places.{same_side}
-use Rattle.link_model.specs.declared.flight.Flight.{Flight}
-use Rattle.link_model.specs.State.{LinkState}
-use Rattle.link_model.specs.Steps.{without, is_due, due_of, with_flight, comes_before, after_send}
-use Rattle.link_model.specs.Laws.{going_to}
-use Rattle.clean_finish.specs.Machine.{HeadArrives, copy_of}
+use Rattle.clean_finish.proofs.Words.{◌≡◌, refl, sym, subst, ap, ℕ, Bool, true, false, if◌then◌else◌, Option, List, [], ◌∷◌, length, filter, arith, Some, suc}
+use Rattle.clean_finish.proofs.Words.{find, position, Side, A, B, same_side, ScriptLine, Flight, going_to, without, is_due, due_of, with_flight, comes_before}
+use Rattle.clean_finish.proofs.Words.{after_send, LinkState, HeadArrives}
+use Rattle.std.proofs.Common.{eq-eqb, lt-ltb}
+use Rattle.clean_finish.specs.Machine.{copy_of}
 
 find_head : {X : Type 0} (p : X → Bool) (x : X) (xs : List X) → p x ≡ true → find p (x ∷ xs) ≡ Some x
 find_head p x xs e = rw e refl

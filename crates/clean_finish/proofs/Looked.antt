@@ -1,33 +1,14 @@
 -- The control book tells how the side stands: with Multipath TCP, and no path beside this one.
-use Rattle.std.proofs.Common.{◌≡◌, refl, sym, subst, ap, ◌∙◌, ℕ, ◌≤◌, Bool, true, false, not, if◌then◌else◌, ◌&&◌, ◌||◌, ◌⊎◌, inl, inr, Option, None, List, ◌∷◌}
-use Rattle.std.specs.List.{list_any}
-use Rattle.sides.specs.declared.side.Side.{Side}
-use Rattle.sides.specs.Side.{peer}
+use Rattle.clean_finish.proofs.Words.{◌≡◌, refl, sym, subst, ap, ◌∙◌, ℕ, ◌≤◌, Bool, true, false, not, ◌&&◌, ◌||◌, if◌then◌else◌, ◌⊎◌, inl, inr, Option, None}
+use Rattle.clean_finish.proofs.Words.{List, ◌∷◌, list_any, Side, peer, Control, peer_or_zero, is_path, withdrawals_on, after_notice, book_looked}
+use Rattle.clean_finish.proofs.Words.{address_notice, announcement, carries, is_aborted, notice_on, look_reply, resets, RegistryPath, every_path, lowest_living}
+use Rattle.clean_finish.proofs.Words.{opening_paths, serves_beside, standby, state_of, is_dead, Duty, StepDuty, AskDuty, tail_of, Reply, Profile, PathEnd}
+use Rattle.clean_finish.proofs.Words.{may_note, after_look, Setting, Lane, EndIs, ControlIs, NoticesAre, IsPlainMode, Keys, Facing, Half, Has, HasNotBegun}
+use Rattle.clean_finish.proofs.Words.{Starts, IsSure}
 use Rattle.address_manager.specs.IdSet.{is_member, lowest}
 use Rattle.control_book.specs.declared.call.Notice.{Notice}
-use Rattle.control_book.specs.declared.call.Notice.TheVariants as notices
-use Rattle.control_book.specs.declared.registry.PathState.{PathState as RegistryPath}
-use Rattle.control_book.specs.Control.{Control, peer_or_zero, is_path, withdrawals_on}
-use Rattle.control_book.specs.Registry.{every_path, lowest_living, opening_paths, serves_beside, standby, state_of}
-use Rattle.control_book.specs.Replies.{address_notice, announcement, carries, is_aborted, notice_on, look_reply, resets}
-use Rattle.control_book.specs.Steps.{after_notice, after_look as book_looked}
-use Rattle.actor_desk.specs.declared.ask.Reply.TheVariants as replies
-use Rattle.actor_desk.specs.Words.{tail_of}
-use Rattle.path_agenda.specs.declared.duty.Duty.{Duty}
-use Rattle.path_agenda.specs.declared.duty.Duty.TheVariants as duties
-use Rattle.path_agenda.specs.declared.duty.AskDuty.TheVariants as ask_duties
-use Rattle.path_agenda.specs.declared.duty.StepDuty.TheVariants as step_duties
 use Rattle.fallback_state.specs.declared.fall.Mode.{Mode}
-use Rattle.subflow_tcp.specs.States.{is_dead}
-use Rattle.path_core.specs.End.{PathEnd}
 use Rattle.path_core.specs.Notices.{after_notice as after_noted}
-use Rattle.path_core.specs.Standing.{after_look, may_note}
-use Rattle.path_core.specs.Profile.{Profile}
-use Rattle.pace.specs.Lane.{Setting, Lane}
-use Rattle.clean_finish.specs.Segments.{Keys}
-use Rattle.clean_finish.specs.Shows.{IsPlainMode, NoticesAre, EndIs, ControlIs}
-use Rattle.clean_finish.specs.Shows.IsPlainMode.{Starts, IsSure}
-use Rattle.clean_finish.specs.Running.{Has, Half, Facing, HasNotBegun}
 use Rattle.clean_finish.proofs.Dropping.{differ, behind, is_apart, stage_drops, settles_drop, begun_drops}
 
 and_false : (a b : Bool) → b ≡ false → a && b ≡ false
@@ -50,10 +31,10 @@ plain_aborts mode (Starts is) = ap is_aborted is
 plain_aborts mode (IsSure is) = ap is_aborted is
 
 -- a book that nothing stops, and that has no address to tell, tells nothing
-pub nothing_noted : (s : Side) (keys : Keys) (c : Control) → ControlIs s keys c → notice_on c 0 ≡ notices.Nothing
+pub nothing_noted : (s : Side) (keys : Keys) (c : Control) → ControlIs s keys c → notice_on c 0 ≡ Notice.Nothing
 nothing_noted s keys c is =
-    ap (λ (b : Bool). if b then notices.Reset else (if carries c 0 then notices.Carrier (peer_or_zero c.keys.peer) else others)) stays
-    ∙ (ap (λ (b : Bool). if b then notices.Carrier (peer_or_zero c.keys.peer) else others) carried
+    ap (λ (b : Bool). if b then Notice.Reset else (if carries c 0 then Notice.Carrier (peer_or_zero c.keys.peer) else others)) stays
+    ∙ (ap (λ (b : Bool). if b then Notice.Carrier (peer_or_zero c.keys.peer) else others) carried
     ∙ (ap (λ (o : Option ℕ). address_notice o (lowest (withdrawals_on c.notices.withdrawals 0))) announced
     ∙ ap (λ (o : Option ℕ). address_notice None o) is.withdraws))
   where
@@ -77,14 +58,14 @@ nothing_noted s keys c is =
         by false = refl
 
 module _ {s : Side} {keys : Keys} {k j : Setting} {c : Profile} {begun begun_back : Lane} {m n : Half} {clock until : ℕ} where
-  module _ {ds : List Duty} (h : Facing s keys k j c begun begun_back m n clock until (duties.Step (step_duties.Look s) ∷ ds)) where
+  module _ {ds : List Duty} (h : Facing s keys k j c begun begun_back m n clock until (Duty.Step (StepDuty.Look s) ∷ ds)) where
     abbrev pub end_after : PathEnd
-    end_after = after_look (replies.Control (look_reply 0 m.control)) m.end
+    end_after = after_look (Reply.Control (look_reply 0 m.control)) m.end
 
     pub control_after : (b : Control) → ControlIs s keys b → ControlIs s keys (book_looked 0 b)
     control_after b is = subst (λ (n : Notice). ControlIs s keys (after_notice n 0 b)) (sym (nothing_noted s keys b is)) is
 
-    pub begun_after : (1 ≤ h.out.control_sent) ⊎ HasNotBegun s j h.out.sender h.back.receiver m.end (duties.Step (step_duties.Look s) ∷ ds)
+    pub begun_after : (1 ≤ h.out.control_sent) ⊎ HasNotBegun s j h.out.sender h.back.receiver m.end (Duty.Step (StepDuty.Look s) ∷ ds)
         → (1 ≤ h.out.control_sent) ⊎ HasNotBegun s j h.out.sender h.back.receiver end_after ds
     begun_after (inl sent) = inl sent
     begun_after (inr none) = inr (record {
@@ -98,7 +79,7 @@ module _ {s : Side} {keys : Keys} {k j : Setting} {c : Profile} {begun begun_bac
       syn = λ is. ((none.syn is).0, behind ds (differ refl) (none.syn is).1);
     })
       where
-        window_on : (m.end.receiving.window ≡ j.buffer) ⊎ Has (duties.Ask (ask_duties.Window s)) (duties.Step (step_duties.Look s) ∷ ds) → (m.end.receiving.window ≡ j.buffer) ⊎ Has (duties.Ask (ask_duties.Window s)) ds
+        window_on : (m.end.receiving.window ≡ j.buffer) ⊎ Has (Duty.Ask (AskDuty.Window s)) (Duty.Step (StepDuty.Look s) ∷ ds) → (m.end.receiving.window ≡ j.buffer) ⊎ Has (Duty.Ask (AskDuty.Window s)) ds
         window_on (inl is) = inl is
         window_on (inr there) = inr (behind ds (differ refl) there)
 
@@ -155,16 +136,16 @@ module _ {s : Side} {keys : Keys} {k j : Setting} {c : Profile} {begun begun_bac
       way_back = h.way_back;
       apps = h.apps;
       apps_back = h.apps_back;
-      stages = stage_drops s (peer s) (duties.Step (step_duties.Look s)) ds n.end.treated.asked h.owes_back h.stage (is_apart s (peer s) (duties.Step (step_duties.Look s)) refl) h.stages;
-      stages_back = stage_drops (peer s) s (duties.Step (step_duties.Look s)) ds m.end.treated.asked h.owes h.stage_back (is_apart (peer s) s (duties.Step (step_duties.Look s)) refl) h.stages_back;
+      stages = stage_drops s (peer s) (Duty.Step (StepDuty.Look s)) ds n.end.treated.asked h.owes_back h.stage (is_apart s (peer s) (Duty.Step (StepDuty.Look s)) refl) h.stages;
+      stages_back = stage_drops (peer s) s (Duty.Step (StepDuty.Look s)) ds m.end.treated.asked h.owes h.stage_back (is_apart (peer s) s (Duty.Step (StepDuty.Look s)) refl) h.stages_back;
       control = control_after m.control h.control;
       control_back = h.control_back;
       turn = h.turn;
       turn_back = h.turn_back;
-      settles = settles_drop s (duties.Step (step_duties.Look s)) ds m.end (differ refl) h.settles;
-      settles_back = settles_drop (peer s) (duties.Step (step_duties.Look s)) ds n.end (differ refl) h.settles_back;
+      settles = settles_drop s (Duty.Step (StepDuty.Look s)) ds m.end (differ refl) h.settles;
+      settles_back = settles_drop (peer s) (Duty.Step (StepDuty.Look s)) ds n.end (differ refl) h.settles_back;
       begins = begun_after h.begins;
-      begins_back = begun_drops (peer s) k h.back.sender h.out.receiver n.end (duties.Step (step_duties.Look s)) ds (differ refl) (λ is. differ refl) h.begins_back;
+      begins_back = begun_drops (peer s) k h.back.sender h.out.receiver n.end (Duty.Step (StepDuty.Look s)) ds (differ refl) (λ is. differ refl) h.begins_back;
       owed = h.owed;
       owed_back = h.owed_back;
     }

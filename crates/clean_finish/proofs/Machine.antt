@@ -1,13 +1,10 @@
 -- The timer of an end is settled as a lane's is, its timeout is a second or more, and its flight is small.
-use Rattle.std.proofs.Common.{◌≡◌, refl, ℕ, ◌+◌, ◌-◌, ◌<◌, ◌≤◌, Bool, true, false, cond, ◌||◌, if◌then◌else◌, is_none, Option, Some, None, List, [], ◌∷◌, length, map, All, sum_by, arith}
-use Rattle.std.proofs.lemmas.List.Elements.{All-head, All-tail}
+use Rattle.clean_finish.proofs.Words.{◌≡◌, refl, ℕ, ◌+◌, ◌-◌, ◌<◌, ◌≤◌, Bool, true, false, cond, ◌||◌, if◌then◌else◌, Option, None, List, [], ◌∷◌, length, map}
+use Rattle.clean_finish.proofs.Words.{All, arith, Some, is_none, sum_by, All-head, All-tail, Record, Tile, span_of, is_unsent, acknowledged_in}
+use Rattle.clean_finish.proofs.Words.{octets_under_way, measured, tick_or, seen_timer, SettlesAsALane, IsLong, StaysLong, IsPiece, FlightsAreSmall}
 use Rattle.std.proofs.lemmas.List.Sums.{sum_by-cons}
 use Rattle.loss_recovery.specs.declared.timers.Timing.{Timing}
-use Rattle.loss_recovery.specs.Timers.{measured}
-use Rattle.subflow_send.specs.Records.{Record, span_of, Follow, Tile}
-use Rattle.subflow_send.specs.Rules.{acknowledged_in, octets_under_way, is_unsent}
-use Rattle.pace.specs.Rules.{tick_or}
-use Rattle.clean_finish.specs.Machine.{seen_timer, SettlesAsALane, IsLong, StaysLong, IsPiece, FlightsAreSmall}
+use Rattle.subflow_send.specs.Records.{Follow}
 
 pub settles_as_a_lane : SettlesAsALane
 settles_as_a_lane reason restart now t = by reason (t.news || restart) t.timer

@@ -1,18 +1,9 @@
 -- An end in no fallback: mappings, Data ACKs and DATA_FINs count both ways, and no acknowledgement tells a failed check.
-use Rattle.std.proofs.Common.{◌≡◌, refl, ap, ◌∙◌, ℕ, ◌||◌, Bool, true, false, if◌then◌else◌, is_some, Option, Some, None, List, [], ◌∷◌}
-use Rattle.sides.specs.declared.side.Side.{Side}
+use Rattle.clean_finish.proofs.Words.{◌≡◌, refl, ap, ◌∙◌, ℕ, Bool, true, false, ◌||◌, if◌then◌else◌, Option, None, List, [], ◌∷◌, Some, is_some, Side, ack_at}
+use Rattle.clean_finish.proofs.Words.{Dss, InfiniteMapping, Profile, PathEnd, Modes, ack_said, opening_options, segment_of, receives_infinite, receives_plainly}
+use Rattle.clean_finish.proofs.Words.{sends_plainly, fail_beside, fail_options, IsMapping}
 use Rattle.path_segments.specs.Options.{PlainOption}
-use Rattle.path_segments.specs.declared.segment.PathOption.TheVariants.{Dss}
-use Rattle.subflow_tcp.specs.Emitting.{ack_at}
-use Rattle.path_store.specs.declared.infinite_mapping.InfiniteMapping.{InfiniteMapping}
-use Rattle.path_core.specs.declared.modes.Modes.{Modes}
-use Rattle.path_core.specs.End.{PathEnd}
-use Rattle.path_core.specs.Modes.{receives_infinite, receives_plainly, sends_plainly}
 use Rattle.path_store.specs.InfiniteMappings.{covers}
-use Rattle.path_core.specs.OptionsOut.{ack_said, opening_options, segment_of}
-use Rattle.path_core.specs.DssOut.{fail_beside, fail_options}
-use Rattle.path_core.specs.Profile.{Profile}
-use Rattle.clean_finish.specs.Shows.{IsMapping}
 
 pub sends_mappings : (m : Modes) → IsMapping m → sends_plainly m ≡ false
 sends_mappings m is = ap (λ (b : Bool). b || is_some m.own_infinite) is.0 ∙ ap (λ (o : Option InfiniteMapping). is_some o) is.1

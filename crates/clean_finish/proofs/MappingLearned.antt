@@ -1,20 +1,16 @@
 -- The first mapping that an end holds is learned: it begins at the receive edge, from which on none was known.
-use Rattle.std.proofs.Common.{◌≡◌, refl, ap, ◌∙◌, ℕ, zero, suc, ◌+◌, ◌-◌, ◌≤◌, Bool, false, ◌&&◌, if◌then◌else◌, is_some, Option, Some, None, List, [], ◌∷◌, ◌++◌, arith}
+use Rattle.clean_finish.proofs.Words.{◌≡◌, refl, ap, ◌∙◌, ℕ, ◌+◌, ◌-◌, ◌≤◌, Bool, false, ◌&&◌, if◌then◌else◌, Option, None, List, [], ◌∷◌, ◌++◌, arith, Some}
+use Rattle.clean_finish.proofs.Words.{suc, zero, is_some, option_or, KeptMapping, after_learn_held, all_covered, answer_by, clash_from, clash_of, clash_or}
+use Rattle.clean_finish.proofs.Words.{clashes_if, first_held, first_of, held_clashes, learn_of, learned_if, others_of, Mappings, after_learn, place_at, run_of}
+use Rattle.clean_finish.proofs.Words.{tail_at, data_fin_behind, MappedDataFin, PathEnd, with_learned}
 use Rattle.std.specs.FinMap.{get as place_of}
-use Rattle.std.specs.Option.{option_or}
-use Rattle.dss_mapping.specs.declared.kept.KeptMapping.{KeptMapping}
 use Rattle.dss_mapping.specs.declared.learn.Learn.{Learn}
 use Rattle.dss_mapping.specs.declared.learn.Learn.TheVariants.{New, Same}
 use Rattle.dss_mapping.specs.declared.run.Run.{Run}
-use Rattle.dss_mapping.specs.Learning.{after_learn_held, all_covered, answer_by, clash_from, clash_of, clash_or, clashes_if, first_held, first_of, held_clashes, learn_of, learned_if, others_of}
-use Rattle.dss_mapping.specs.Mappings.{Mappings, after_learn, octets_of, place_at, run_of, tail_at}
+use Rattle.dss_mapping.specs.Mappings.{octets_of}
 use Rattle.dss_mapping.specs.Places.{with_run}
 use Rattle.dss_mapping.specs.Runs.{place_in}
 use Rattle.dss_mapping.proofs.PlacesOf.{get-with_run, behind}
-use Rattle.path_store.specs.declared.mapped_data_fin.MappedDataFin.{MappedDataFin}
-use Rattle.path_core.specs.DssIn.{with_learned}
-use Rattle.path_store.specs.Receiving.{data_fin_behind}
-use Rattle.path_core.specs.End.{PathEnd}
 
 module _ (v : Mappings) (edge : ℕ) (beyond : (p : ℕ) → edge ≤ p → place_of v.places p ≡ None) (tail : v.tail ≡ None) where
   none_at : (p : ℕ) → edge ≤ p → place_at v p ≡ None

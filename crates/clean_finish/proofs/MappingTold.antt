@@ -1,35 +1,15 @@
 -- The mapping of a copy is learned, and the place of its DATA_FIN is noted, whether the control book is told of it or not.
-use Rattle.std.proofs.Common.{◌≡◌, refl, sym, subst, ap, ◌∙◌, ℕ, ◌+◌, ◌-◌, ◌^◌, ◌<◌, ◌≤◌, min, Bool, true, false, if◌then◌else◌, is_some, Option, Some, None, List, [], ◌∷◌, ◌++◌, length, arith}
-use Rattle.std.proofs.lemmas.Bool.{lt-ltb}
-use Rattle.sides.specs.declared.side.Side.{Side}
-use Rattle.sides.specs.Side.{peer}
-use Rattle.control_book.specs.Control.{Control}
-use Rattle.dss_mapping.specs.declared.kept.KeptMapping.{KeptMapping}
-use Rattle.dss_mapping.specs.Learning.{after_learn_held, held_clashes}
-use Rattle.dss_mapping.specs.Mappings.{Mappings, run_of}
+use Rattle.clean_finish.proofs.Words.{◌≡◌, refl, sym, subst, ap, ◌∙◌, ℕ, ◌+◌, ◌-◌, ◌<◌, ◌≤◌, min, Bool, true, false, if◌then◌else◌, Option, None, List, [], ◌∷◌}
+use Rattle.clean_finish.proofs.Words.{◌++◌, length, arith, Some, is_some, ◌^◌, lt-ltb, Side, peer, Control, KeptMapping, after_learn_held, held_clashes}
+use Rattle.clean_finish.proofs.Words.{Mappings, run_of, Duty, Heard, pick, Profile, Carried, values, PathEnd, answered_mapping, mapping_ask, with_learned}
+use Rattle.clean_finish.proofs.Words.{with_skipped, with_data_fin, Modes, PathState, end_at, goes_on, left, answered_heard, heard_passed, fins_and, mode_in}
+use Rattle.clean_finish.proofs.Words.{fell_ask, fell_duties, after_fell, Setting, Lane, all_left, Going, Hand, brings_in, ControlIs, ModesAre, Sent, Keys}
+use Rattle.clean_finish.proofs.Words.{octets_of, Follow, FirstPiece, Piece, EndsStream, MapsAs, TreatsCopy, kept_in, IsSetting, Facing, Half, Bench, kept_piece}
+use Rattle.clean_finish.proofs.Words.{AfterOne, AfterTwo, AfterAll}
 use Rattle.dss_mapping.specs.Places.{with_run}
-use Rattle.fallback_state.specs.declared.fall.Event.TheVariants as events
+use Rattle.fallback_state.specs.declared.fall.Event.{Event}
 use Rattle.fallback_state.specs.declared.fall.Fall.{Fall}
-use Rattle.actor_desk.specs.Words.{pick}
-use Rattle.path_agenda.specs.declared.duty.Duty.{Duty}
-use Rattle.path_agenda.specs.declared.heard.Heard.TheVariants as says
 use Rattle.path_core.specs.Breaking.{answered_break, break_ask}
-use Rattle.path_core.specs.declared.modes.Modes.{Modes}
-use Rattle.path_core.specs.Deliver.{fins_and}
-use Rattle.path_core.specs.DssIn.{with_learned, with_skipped, answered_mapping, mapping_ask, with_data_fin}
-use Rattle.path_core.specs.End.{PathEnd}
-use Rattle.path_core.specs.Fallback.{after_fell, fell_ask, fell_duties, mode_in}
-use Rattle.path_core.specs.State.{PathState, end_at, goes_on, left}
-use Rattle.path_core.specs.Profile.{Profile}
-use Rattle.path_core.specs.Treating.{answered_heard, heard_passed}
-use Rattle.path_core.specs.Values.{Carried, values}
-use Rattle.pace.specs.Lane.{Setting, Lane, all_left}
-use Rattle.pace.specs.Going.{Going}
-use Rattle.clean_finish.specs.Segments.{Sent, Keys, Follow, octets_of}
-use Rattle.clean_finish.specs.Segments.Brings.{FirstPiece, Piece, EndsStream}
-use Rattle.clean_finish.specs.Shows.{ControlIs, Hand, ModesAre, brings_in}
-use Rattle.clean_finish.specs.Running.{Bench, Half, Facing, IsSetting, MapsAs, TreatsCopy, kept_in, kept_piece}
-use Rattle.clean_finish.specs.Running.Treatment.{AfterOne, AfterTwo, AfterAll}
 use Rattle.clean_finish.proofs.Dropping.{is_waited}
 use Rattle.clean_finish.proofs.EdgePlacing.{all_few, at_position, kept_some, near_position, same_counts}
 use Rattle.clean_finish.proofs.FellOn.{fell_done, sign_reply}
@@ -43,8 +23,8 @@ use Rattle.clean_finish.proofs.TreatedOn.{treated_on}
 -- ---- what the reply makes of an end
 
 -- a mapping that is at odds with none is told
-pub told_ask : (s : Side) (p : PathState Carried) → held_clashes (end_at s p).receiving.mappings ≡ false → mapping_ask values s p ≡ fell_ask s events.MappingHeard p
-told_ask s p none = ap (λ (y : Bool). if y then break_ask values s 1 p else fell_ask s events.MappingHeard p) none
+pub told_ask : (s : Side) (p : PathState Carried) → held_clashes (end_at s p).receiving.mappings ≡ false → mapping_ask values s p ≡ fell_ask s Event.MappingHeard p
+told_ask s p none = ap (λ (y : Bool). if y then break_ask values s 1 p else fell_ask s Event.MappingHeard p) none
 
 abbrev pub learned_end : Mappings → Modes → PathEnd → PathEnd
 learned_end v mo e = record e { receiving = record e.receiving { mappings = v }; modes = mo }
@@ -57,14 +37,14 @@ told_now s fall p v kept none now held fin =
     let e = end_at s p in
     let r = sign_reply fall in
     ap (λ (y : Bool). if y then answered_break values s 1 r p
-    else goes_on s (with_learned (after_fell events.MappingHeard r e)) (fell_duties s r p) p) none
+    else goes_on s (with_learned (after_fell Event.MappingHeard r e)) (fell_duties s r p) p) none
     ∙ (ap (λ (es : List Duty). goes_on s (with_learned (record e { modes = mode_in r e.modes })) es p) (fell_done s fall p)
     ∙ ap (λ (y : PathEnd). goes_on s y (left p) p) (with_learned_is (record e { modes = mode_in r e.modes }) v kept now held fin))
 
 -- it is passed
 pub passed_now : (s : Side) (e : PathEnd) (v : Mappings) (kept : KeptMapping) → is_some e.modes.peer_key ≡ true
     → after_learn_held e.receiving.mappings ≡ v → e.receiving.mappings.held ≡ kept ∷ [] → kept.fin ≡ false
-    → heard_passed s (says.Mapping false) e ≡ learned_end v e.modes e
+    → heard_passed s (Heard.Mapping false) e ≡ learned_end v e.modes e
 passed_now s e v kept ready now held fin =
     ap (λ (y : Bool). if y then with_learned e else with_skipped e) ready ∙ with_learned_is e v kept now held fin
 
@@ -72,7 +52,7 @@ abbrev pub ended_end : ℕ → Modes → PathEnd → PathEnd
 ended_end place mo e = record e { modes = mo; treated = record e.treated { fins = place ∷ [] } }
 
 pub fin_now : (s : Side) (fall : Fall) (p : PathState Carried) (place : ℕ) → (end_at s p).treated.fins ≡ []
-    → answered_heard values s (says.DataFin place) (sign_reply fall) p
+    → answered_heard values s (Heard.DataFin place) (sign_reply fall) p
     ≡ goes_on s (ended_end place (mode_in (sign_reply fall) (end_at s p).modes) (end_at s p)) (left p) p
 fin_now s fall p place none =
     let e = end_at s p in
@@ -81,7 +61,7 @@ fin_now s fall p place none =
     ∙ ap (λ (fs : List ℕ). goes_on s (record e { modes = mo; treated = record e.treated { fins = fins_and (Some place) fs } }) (left p) p) none
 
 pub fin_passed : (s : Side) (e : PathEnd) (place : ℕ) → is_some e.modes.peer_key ≡ true → e.treated.fins ≡ []
-    → heard_passed s (says.DataFin place) e ≡ ended_end place e.modes e
+    → heard_passed s (Heard.DataFin place) e ≡ ended_end place e.modes e
 fin_passed s e place ready none =
     ap (λ (y : Bool). if y then with_data_fin place e else e) ready
     ∙ ap (λ (fs : List ℕ). record e { treated = record e.treated { fins = fins_and (Some place) fs } }) none

@@ -1,8 +1,6 @@
 -- The marks of a send book.
-use Rattle.std.proofs.Common.{◌≡◌, ℕ, ◌+◌, ◌-◌, min, List, ◌++◌, length, drop, replicate, arith}
-use Rattle.std.proofs.lemmas.List.{length-append, length-drop, length-replicate}
-use Rattle.send_book.specs.declared.mark.ByteMark.{ByteMark}
-use Rattle.send_book.specs.declared.mark.ByteMark.TheVariants.{Acked}
+use Rattle.clean_finish.proofs.Words.{◌≡◌, ℕ, ◌+◌, ◌-◌, min, List, ◌++◌, length, arith, drop, replicate, length-replicate, Acked, ByteMark}
+use Rattle.std.proofs.lemmas.List.{length-append, length-drop}
 
 -- acknowledging marks leaves their number
 pub ack_length : (n : ℕ) (marks : List ByteMark) → length (replicate (min n (length marks)) Acked ++ drop n marks) ≡ length marks

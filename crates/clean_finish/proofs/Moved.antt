@@ -1,18 +1,6 @@
 -- The clock goes on to the tick of the next arrival, in both lanes.
-use Rattle.std.proofs.Common.{◌≡◌, refl, sym, subst, ℕ, ◌<◌, ◌≤◌, List}
-use Rattle.sides.specs.declared.side.Side.{Side}
-use Rattle.sides.specs.Side.{peer}
-use Rattle.path_agenda.specs.declared.duty.Duty.{Duty}
-use Rattle.path_agenda.specs.declared.duty.Duty.TheVariants as duties
-use Rattle.path_agenda.specs.declared.duty.StepDuty.TheVariants as step_duties
-use Rattle.path_core.specs.Profile.{Profile}
-use Rattle.pace.specs.Lane.{Setting, Lane, Stage}
-use Rattle.pace.specs.Lists.{first_at}
-use Rattle.pace.specs.Rules.{moved_to}
-use Rattle.pace.specs.Moves.{MayMove}
-use Rattle.pace.specs.Moves.Move.{goes_back, moves as lane_moves}
-use Rattle.clean_finish.specs.Segments.{Keys}
-use Rattle.clean_finish.specs.Running.{Has, Half, Facing}
+use Rattle.clean_finish.proofs.Words.{◌≡◌, refl, sym, subst, ℕ, ◌<◌, ◌≤◌, List, Side, peer, Duty, StepDuty, Profile, Setting, Lane, Stage, MayMove, goes_back}
+use Rattle.clean_finish.proofs.Words.{lane_moves, moved_to, first_at, Keys, Facing, Half, Has}
 use Rattle.clean_finish.proofs.Opened.{waiting_on, before_waiting, stage_waits}
 use Rattle.clean_finish.proofs.Passing.{stands_then}
 
@@ -27,7 +15,7 @@ may_move p {clock} {until} {tick} w now later early datas acks = record {
 }
 
 module _ {s : Side} {keys : Keys} {k j : Setting} {c : Profile} {begun begun_back : Lane} {m n : Half} {clock until : ℕ} where
-  abbrev pub moves_on : (ds : List Duty) (h : Facing s keys k j c begun begun_back m n clock until ds) (tick : ℕ) → Has (duties.Step step_duties.Events) ds
+  abbrev pub moves_on : (ds : List Duty) (h : Facing s keys k j c begun begun_back m n clock until ds) (tick : ℕ) → Has (Duty.Step StepDuty.Events) ds
       → clock ≤ tick → tick < until → tick ≤ first_at until h.out.datas → tick ≤ first_at until h.out.acks
       → tick ≤ first_at until h.back.datas → tick ≤ first_at until h.back.acks
       → Facing s keys k j c begun begun_back m n tick until ds
@@ -54,41 +42,22 @@ module _ {s : Side} {keys : Keys} {k j : Setting} {c : Profile} {begun begun_bac
     way = h.way;
     way_back = h.way_back;
     apps = record {
-      writes = record {
-        numbers = h.apps.writes.numbers;
-        over = h.apps.writes.over;
-      };
-      reads = record {
-        numbers = h.apps.reads.numbers;
-        received = h.apps.reads.received;
-        over = h.apps.reads.over;
-      };
+      writes = record { numbers = h.apps.writes.numbers; over = h.apps.writes.over };
+      reads = record { numbers = h.apps.reads.numbers; received = h.apps.reads.received; over = h.apps.reads.over };
       receives = record {
         read = h.apps.receives.read;
         received = h.apps.receives.received;
         known = h.apps.receives.known;
         capacity = h.apps.receives.capacity;
       };
-      book = record {
-        edge = h.apps.book.edge;
-        owner = h.apps.book.owner;
-        marks = h.apps.book.marks;
-        taken = h.apps.book.taken;
-      };
+      book = record { edge = h.apps.book.edge; owner = h.apps.book.owner; marks = h.apps.book.marks; taken = h.apps.book.taken };
       room = h.apps.room;
       whole = h.apps.whole;
       fin = h.apps.fin;
     };
     apps_back = record {
-      writes = record {
-        numbers = h.apps_back.writes.numbers;
-        over = h.apps_back.writes.over;
-      };
-      reads = record {
-        numbers = h.apps_back.reads.numbers;
-        received = h.apps_back.reads.received;
-        over = h.apps_back.reads.over;
-      };
+      writes = record { numbers = h.apps_back.writes.numbers; over = h.apps_back.writes.over };
+      reads = record { numbers = h.apps_back.reads.numbers; received = h.apps_back.reads.received; over = h.apps_back.reads.over };
       receives = record {
         read = h.apps_back.receives.read;
         received = h.apps_back.receives.received;

@@ -1,7 +1,5 @@
 -- Moves of a lane, one list of them after another.
-use Rattle.std.proofs.Common.{subst, ℕ, zero, suc}
-use Rattle.pace.specs.Lane.{Setting, Lane, Stage}
-use Rattle.pace.specs.Rounds.{Moves}
+use Rattle.clean_finish.proofs.Words.{subst, ℕ, suc, zero, Setting, Lane, Stage, Moves}
 
 -- so many more: a sum that computes by the first number
 abbrev pub more_than : ℕ → ℕ → ℕ

@@ -1,19 +1,10 @@
 -- What happens next on a path of which no line speaks is the arrival of the copy that stands first, where no timer runs out
 -- in the round.
-use Rattle.std.proofs.Common.{◌≡◌, refl, sym, subst, ℕ, ◌<◌, ◌≤◌, nat_lt, nat_le, Bool, true, false, if◌then◌else◌, Option, Some, None, IfSome, List, [], ◌∷◌, arith}
-use Rattle.std.proofs.lemmas.Bool.{ltb-true}
-use Rattle.std.proofs.lemmas.Option.{same_Some}
-use Rattle.std.specs.Option.{option_and_then}
-use Rattle.sides.specs.declared.side.Side.{Side}
-use Rattle.sides.specs.declared.side.Side.TheVariants.{A, B}
-use Rattle.link_model.specs.declared.flight.Flight.{Flight}
-use Rattle.link_model.specs.Steps.{next_due, due_of}
+use Rattle.clean_finish.proofs.Words.{◌≡◌, refl, sym, subst, ℕ, ◌<◌, ◌≤◌, nat_lt, Bool, true, false, if◌then◌else◌, Option, None, List, [], ◌∷◌, arith, Some}
+use Rattle.clean_finish.proofs.Words.{nat_le, IfSome, ltb-true, same_Some, option_and_then, Side, A, B, Flight, due_of, next_due, Carried, PathState, tick_of}
+use Rattle.clean_finish.proofs.Words.{earlier, before, next_join, next_line, next_copy, next_event, next_fire}
 use Rattle.path_core.specs.declared.events.Event.{Event}
 use Rattle.path_core.specs.declared.events.Event.TheVariants.{Arrives}
-use Rattle.path_core.specs.Events.{tick_of, earlier, before, next_join, next_line, next_copy, next_event}
-use Rattle.path_core.specs.Timer.{next_fire}
-use Rattle.path_core.specs.State.{PathState}
-use Rattle.path_core.specs.Values.{Carried}
 
 -- the copy that arrives, and those behind it
 pub record IsCopy (p : PathState Carried) (event : Event) : Type 0 where

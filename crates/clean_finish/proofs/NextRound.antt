@@ -1,31 +1,9 @@
 -- Where each turn is over, the relation holds as the next round begins.
-use Rattle.std.proofs.Common.{◌≡◌, refl, subst, ap, ℕ, ◌+◌, ◌≤◌, min, ◌⊎◌, inl, inr, List, [], map, arith}
-use Rattle.std.proofs.lemmas.Bool.{both_ways}
-use Rattle.sides.specs.declared.side.Side.{Side}
-use Rattle.sides.specs.declared.side.Side.TheVariants.{A, B}
-use Rattle.link_model.specs.Laws.{going_to}
-use Rattle.link_model.specs.Steps.{next_number}
-use Rattle.actor_desk.specs.Books.{books_in}
-use Rattle.actor_desk.specs.Desk.{SixBooks}
-use Rattle.stream_apps.specs.Apps.{AppState}
-use Rattle.stream_apps.specs.AppSteps.{app_next_round}
-use Rattle.path_agenda.specs.Agenda.{start_of_turn}
-use Rattle.path_agenda.specs.declared.duty.Duty.{Duty}
-use Rattle.path_agenda.specs.declared.duty.Duty.TheVariants as duties
-use Rattle.path_agenda.specs.declared.duty.SendDuty.TheVariants as send_duties
-use Rattle.path_agenda.specs.declared.duty.SilentDuty.TheVariants as silent_duties
-use Rattle.path_core.specs.End.{PathEnd}
-use Rattle.path_core.specs.State.{PathState, with_agenda}
-use Rattle.path_core.specs.Steps.{next_round}
-use Rattle.path_core.specs.Values.{Carried}
-use Rattle.world_laws.specs.Openings.{PathPlan, Start}
-use Rattle.world_laws.specs.Worlds.{greatest}
-use Rattle.world_laws.proofs.Worlds.Casts.{Walker, Cast, world_of, walks_on, next_cast}
-use Rattle.pace.specs.Lane.{Setting, Lane, all_left}
-use Rattle.pace.specs.Rules.{opens_round}
-use Rattle.pace.specs.Going.{Going}
-use Rattle.pace.specs.Rounds.{Linked}
-use Rattle.clean_finish.specs.Running.{Has, IsSettledSoon, HasNotBegun, Treats, own_bench, other_bench, FacesOfA, Runs, Running, keys_in}
+use Rattle.clean_finish.proofs.Words.{◌≡◌, refl, subst, ap, ℕ, ◌+◌, ◌≤◌, min, ◌⊎◌, inl, inr, List, [], map, arith, both_ways, Side, A, B, going_to, next_number}
+use Rattle.clean_finish.proofs.Words.{Duty, SendDuty, start_of_turn, SilentDuty, SixBooks, books_in, AppState, app_next_round, Carried, PathEnd, PathState}
+use Rattle.clean_finish.proofs.Words.{with_agenda, next_round, Setting, Lane, all_left, Going, opens_round, Linked, PathPlan, Start, Walker, Cast, world_of}
+use Rattle.clean_finish.proofs.Words.{walks_on, next_cast, greatest, Treats, own_bench, other_bench, Runs, keys_in, Has, HasNotBegun, Running, FacesOfA}
+use Rattle.clean_finish.proofs.Words.{IsSettledSoon}
 use Rattle.clean_finish.proofs.AppTurns.{BothBegin, both_begin, turn_is}
 use Rattle.clean_finish.proofs.Arriving.{later}
 use Rattle.clean_finish.proofs.First.{first_plain}
@@ -36,7 +14,7 @@ none_among d ds over there = subst (λ (es : List Duty). Has d es) over there
 
 still_settled : (s : Side) (ds : List Duty) (e : PathEnd) → ds ≡ [] → IsSettledSoon s ds e → IsSettledSoon s start_of_turn e
 still_settled s ds e over (inl none) = inl none
-still_settled s ds e over (inr there) = absurd (none_among (duties.Silent (silent_duties.Timer s)) ds over there)
+still_settled s ds e over (inr there) = absurd (none_among (Duty.Silent (SilentDuty.Timer s)) ds over there)
 
 module _ (start : Start) (plan : PathPlan) (k j : Setting) (s v : Lane) (a b : AppState) (books : SixBooks) (p : PathState Carried)
     (h : Runs start plan k j s v a b books p) (over : p.agenda ≡ [])
@@ -66,7 +44,7 @@ module _ (start : Start) (plan : PathPlan) (k j : Setting) (s v : Lane) (a b : A
       where
         by : (1 ≤ h.out.control_sent) ⊎ HasNotBegun A j h.out.sender h.back.receiver p.a p.agenda → 1 ≤ h.out.control_sent
         by (inl one) = one
-        by (inr none) = absurd (none_among (duties.Send (send_duties.Syn A)) p.agenda over (none.syn refl).1)
+        by (inr none) = absurd (none_among (Duty.Send (SendDuty.Syn A)) p.agenda over (none.syn refl).1)
 
     abbrev w : Lane
     w = opens_round h.out

@@ -1,16 +1,8 @@
 -- No byte comes behind a FIN.
-use Rattle.std.proofs.Common.{◌≡◌, subst, ap, ◌∙◌, ℕ, ◌+◌, ◌<◌, ◌≤◌, min, true, ◌⊎◌, inl, inr, Option, List, ◌∷◌, ◌++◌, length, map, arith, Bool}
-use Rattle.std.proofs.lemmas.Bool.{cases_lt}
-use Rattle.sides.specs.declared.side.Side.{Side}
-use Rattle.path_agenda.specs.declared.duty.Duty.{Duty}
-use Rattle.path_core.specs.Profile.{Profile}
-use Rattle.pace.specs.Lane.{Setting, Copy, Lane, all_left}
-use Rattle.pace.specs.Lists.{Chain}
-use Rattle.pace.specs.Going.{Going}
+use Rattle.clean_finish.proofs.Words.{◌≡◌, subst, ap, ◌∙◌, ℕ, ◌+◌, ◌<◌, ◌≤◌, min, Bool, true, ◌⊎◌, inl, inr, Option, List, ◌∷◌, ◌++◌, length, map, arith}
+use Rattle.clean_finish.proofs.Words.{cases_lt, Side, Duty, Profile, Setting, Copy, Lane, all_left, Going, Chain, Hand, brings_in, Sent, Keys, copy_in}
+use Rattle.clean_finish.proofs.Words.{octets_of, IsSetting, Facing, Half}
 use Rattle.pace.proofs.Lists.{chain_le}
-use Rattle.clean_finish.specs.Segments.{Sent, Keys, copy_in, octets_of}
-use Rattle.clean_finish.specs.Shows.{Hand, brings_in}
-use Rattle.clean_finish.specs.Running.{Half, Facing, IsSetting}
 use Rattle.clean_finish.proofs.Hands.{in_hand}
 use Rattle.clean_finish.proofs.Quiet.{now_back}
 

@@ -1,8 +1,5 @@
 -- What has to be shown of the duties of the path, so that the relation goes on with each step of the world.
-use Rattle.std.proofs.Common.{ℕ}
-use Rattle.world_laws.specs.Openings.{PathPlan, Start}
-use Rattle.pace.specs.Lane.{Setting, Lane, all_left}
-use Rattle.pace.specs.Going.{Going}
+use Rattle.clean_finish.proofs.Words.{ℕ, Setting, Lane, all_left, Going, PathPlan, Start}
 use Rattle.clean_finish.proofs.Stepping.{Passes, Answers}
 
 -- In each round in which both lanes go on, duties that come to nothing are passed, and those that come to something are answered.

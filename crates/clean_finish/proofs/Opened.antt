@@ -1,34 +1,10 @@
 -- A sends its SYN.
-use Rattle.std.proofs.Common.{◌≡◌, refl, sym, subst, ◌∙◌, ℕ, ◌+◌, ◌-◌, ◌==◌, ◌≤◌, min, max, nat_lt, Bool, true, false, cond, ◌&&◌, inl, inr, Some, List, [], ◌∷◌, ◌++◌, arith}
-use Rattle.std.proofs.lemmas.Bool.{both_ways, ne_eqb}
-use Rattle.std.proofs.lemmas.List.Elements.{All-weaker}
-use Rattle.sides.specs.declared.side.Side.{Side}
-use Rattle.sides.specs.declared.side.Side.TheVariants.{A, B}
-use Rattle.link_model.specs.declared.flight.Flight.{Flight}
-use Rattle.subflow_tcp.specs.declared.handshake.State.TheVariants.{SynSent}
-use Rattle.subflow_send.specs.Rules.{syn_record}
-use Rattle.subflow_send.specs.Sendings.{never_sent}
-use Rattle.path_agenda.specs.declared.duty.Duty.{Duty}
-use Rattle.path_agenda.specs.declared.duty.Duty.TheVariants as duties
-use Rattle.path_agenda.specs.declared.duty.SendDuty.TheVariants as send_duties
-use Rattle.path_agenda.specs.declared.duty.StepDuty.TheVariants as step_duties
-use Rattle.subflow_tcp.specs.declared.segments.Occasion.TheVariants as to_send
-use Rattle.path_core.specs.Emission.{first_unsent}
-use Rattle.path_core.specs.Handover.{having_sent}
-use Rattle.path_core.specs.End.{PathEnd}
-use Rattle.path_core.specs.OptionsOut.{record_or_ack}
-use Rattle.path_core.specs.Profile.{Profile}
-use Rattle.path_core.specs.Values.{Carried}
-use Rattle.pace.specs.Lane.{Setting, Telling, Copy, Lane, Stage, is_whole, all_left}
-use Rattle.pace.specs.Rules.{sent_by, said_by, repeats}
-use Rattle.pace.specs.Going.{Going, pending}
-use Rattle.pace.specs.Moves.{MaySay, MaySend, IsBefore}
-use Rattle.pace.specs.Moves.Move.{goes_back, sends_none, says}
-use Rattle.clean_finish.specs.Segments.{Sent, Keys, copy_in, said, FliesAs}
-use Rattle.clean_finish.specs.Segments.Brings.{OpensSubflow}
-use Rattle.clean_finish.specs.Shows.{AreTaken, EndIs, IsGranted, WayIs}
-use Rattle.clean_finish.specs.Shows.IsToldEdge.{Same}
-use Rattle.clean_finish.specs.Running.{Has, Half, Facing, IsSetting, HasNotBegun, StageIs}
+use Rattle.clean_finish.proofs.Words.{◌≡◌, refl, sym, subst, ◌∙◌, ℕ, ◌+◌, ◌-◌, ◌≤◌, min, max, nat_lt, Bool, true, false, cond, ◌&&◌, inl, inr, List, [], ◌∷◌}
+use Rattle.clean_finish.proofs.Words.{◌++◌, arith, Some, ◌==◌, both_ways, ne_eqb, All-weaker, Side, A, B, syn_record, never_sent, SynSent, Occasion, Flight}
+use Rattle.clean_finish.proofs.Words.{Duty, SendDuty, StepDuty, Profile, Carried, PathEnd, record_or_ack, having_sent, first_unsent, Setting, Telling, Copy}
+use Rattle.clean_finish.proofs.Words.{Lane, Stage, is_whole, all_left, Going, pending, MaySay, MaySend, IsBefore, says, sends_none, goes_back, said_by, repeats}
+use Rattle.clean_finish.proofs.Words.{sent_by, AreTaken, EndIs, IsGranted, WayIs, Sent, Keys, copy_in, said, FliesAs, OpensSubflow, Same, IsSetting, Facing}
+use Rattle.clean_finish.proofs.Words.{Half, Has, StageIs, HasNotBegun}
 use Rattle.clean_finish.proofs.Dropping.{differ, IsApart, stage_drops, settles_drop, begun_drops}
 use Rattle.clean_finish.proofs.Passing.{stands_then}
 use Rattle.clean_finish.proofs.Quiet.{now_out, now_back}
@@ -80,7 +56,7 @@ before_waiting p = record {
   wait = λ e. absurd (both_ways _ e refl);
 }
 
-pub stage_waits : (s r : Side) (ds : List Duty) (asked owes : Bool) (p : Stage) → Has (duties.Step step_duties.Events) ds → StageIs s r ds asked owes p
+pub stage_waits : (s r : Side) (ds : List Duty) (asked owes : Bool) (p : Stage) → Has (Duty.Step StepDuty.Events) ds → StageIs s r ds asked owes p
     → StageIs s r ds asked owes (waiting_on p)
 stage_waits s r ds asked owes p events is = record {
   window = is.window;
@@ -96,8 +72,8 @@ module _ {keys : Keys} {k j : Setting} {c : Profile} {begun begun_back : Lane} {
     (k_is : IsSetting c ticks k) (j_is : IsSetting c ticks j)
     (going : Going k begun t all_left begun) (going_back : Going j begun_back u all_left begun_back)
   where
-    module _ {ds : List Duty} (h : Facing A keys k j c begun begun_back m n clock until (duties.Send (send_duties.Syn A) ∷ ds))
-        (unsent : h.out.control_sent ≡ 0) (none : HasNotBegun A j h.out.sender h.back.receiver m.end (duties.Send (send_duties.Syn A) ∷ ds))
+    module _ {ds : List Duty} (h : Facing A keys k j c begun begun_back m n clock until (Duty.Send (SendDuty.Syn A) ∷ ds))
+        (unsent : h.out.control_sent ≡ 0) (none : HasNotBegun A j h.out.sender h.back.receiver m.end (Duty.Send (SendDuty.Syn A) ∷ ds))
       where
         now : Going k begun t h.stage h.out
         now = now_out ticks t u k_is j_is going going_back h
@@ -191,7 +167,7 @@ module _ {keys : Keys} {k j : Setting} {c : Profile} {begun begun_back : Lane} {
 
         -- the end after it
         abbrev pub end_after : PathEnd
-        end_after = having_sent to_send.Unsent clock (said c keys A syn) m.end
+        end_after = having_sent Occasion.Unsent clock (said c keys A syn) m.end
 
         pub one_more : (x : ℕ) → 1 ≤ max x 1
         one_more x = omega arith
@@ -254,7 +230,7 @@ module _ {keys : Keys} {k j : Setting} {c : Profile} {begun begun_back : Lane} {
         keys_are : {x ready : ℕ} → x ≤ ready → ready ≡ 0 → 0 ≡ max x 0
         keys_are few is = omega (arith, few, is)
 
-        pub others : IsApart A B (duties.Send (send_duties.Syn A))
+        pub others : IsApart A B (Duty.Send (SendDuty.Syn A))
         others = record {
           window = differ refl;
           update = differ refl;
@@ -266,7 +242,7 @@ module _ {keys : Keys} {k j : Setting} {c : Profile} {begun begun_back : Lane} {
           ask = differ refl;
         }
 
-        pub others_back : IsApart B A (duties.Send (send_duties.Syn A))
+        pub others_back : IsApart B A (Duty.Send (SendDuty.Syn A))
         others_back = record {
           window = differ refl;
           update = differ refl;
@@ -279,7 +255,7 @@ module _ {keys : Keys} {k j : Setting} {c : Profile} {begun begun_back : Lane} {
         }
 
         module _ (rest : h.own.subflow.records.rest ≡ syn_record never_sent ∷ []) (nothing_waits : h.waiting ≡ 0)
-            (buffer_is : m.end.receiving.window ≡ j.buffer) (events : Has (duties.Step step_duties.Events) ds)
+            (buffer_is : m.end.receiving.window ≡ j.buffer) (events : Has (Duty.Step StepDuty.Events) ds)
             (fs gs : List (Flight Carried)) (f : Flight Carried) (flies : FliesAs c keys A f syn)
             (more : fs ≡ m.flying ++ f ∷ []) (same : gs ≡ n.flying)
           where
@@ -434,17 +410,17 @@ module _ {keys : Keys} {k j : Setting} {c : Profile} {begun begun_back : Lane} {
                 fin = h.apps_back.fin;
               };
               stages = stage_waits A B ds n.end.treated.asked h.owes_back h.stage events
-                  (stage_drops A B (duties.Send (send_duties.Syn A)) ds n.end.treated.asked h.owes_back h.stage others h.stages);
+                  (stage_drops A B (Duty.Send (SendDuty.Syn A)) ds n.end.treated.asked h.owes_back h.stage others h.stages);
               stages_back = stage_waits B A ds m.end.treated.asked h.owes h.stage_back events
-                  (stage_drops B A (duties.Send (send_duties.Syn A)) ds m.end.treated.asked h.owes h.stage_back others_back h.stages_back);
+                  (stage_drops B A (Duty.Send (SendDuty.Syn A)) ds m.end.treated.asked h.owes h.stage_back others_back h.stages_back);
               control = h.control;
               control_back = h.control_back;
               turn = h.turn;
               turn_back = h.turn_back;
-              settles = settles_drop A (duties.Send (send_duties.Syn A)) ds m.end (differ refl) h.settles;
-              settles_back = settles_drop B (duties.Send (send_duties.Syn A)) ds n.end (differ refl) h.settles_back;
+              settles = settles_drop A (Duty.Send (SendDuty.Syn A)) ds m.end (differ refl) h.settles;
+              settles_back = settles_drop B (Duty.Send (SendDuty.Syn A)) ds n.end (differ refl) h.settles_back;
               begins = inl (one_more h.out.control_sent);
-              begins_back = begun_drops B k h.back.sender h.out.receiver n.end (duties.Send (send_duties.Syn A)) ds (differ refl) (λ is. absurd (not_b is)) h.begins_back;
+              begins_back = begun_drops B k h.back.sender h.out.receiver n.end (Duty.Send (SendDuty.Syn A)) ds (differ refl) (λ is. absurd (not_b is)) h.begins_back;
               owed = h.owed;
               owed_back = h.owed_back;
             }

@@ -1,36 +1,13 @@
 -- B's SYN is acknowledged by the third segment, whose keys are told to the control book.
-use Rattle.std.proofs.Common.{◌≡◌, refl, sym, subst, ap, ◌∙◌, ℕ, ◌==◌, ◌<◌, ◌≤◌, min, eq-eqb, Bool, true, false, not, ◌&&◌, ◌||◌, if◌then◌else◌, is_some, inr, Option, Some, List, ◌∷◌, ◌++◌, le_refl, arith}
-use Rattle.std.proofs.lemmas.Bool.{both_ways}
-use Rattle.sides.specs.declared.side.Side.{Side}
-use Rattle.sides.specs.declared.side.Side.TheVariants.{A, B}
-use Rattle.control_book.specs.declared.call.ControlCall.TheVariants as control_calls
-use Rattle.control_book.specs.declared.call.ControlReply.TheVariants as control_replies
-use Rattle.fallback_state.specs.Modes.{is_starting}
-use Rattle.subflow_tcp.specs.declared.handshake.State.{State}
-use Rattle.actor_desk.specs.declared.ask.Ask.TheVariants as asks
-use Rattle.actor_desk.specs.declared.ask.Reply.TheVariants as replies
-use Rattle.actor_desk.specs.Desk.{SixBooks, reply_of, after_ask}
-use Rattle.stream_apps.specs.Apps.{AppState}
-use Rattle.path_agenda.specs.Agenda.{heard_and, payload_came}
-use Rattle.path_agenda.specs.declared.duty.Duty.{Duty}
-use Rattle.path_agenda.specs.declared.duty.Duty.TheVariants as duties
-use Rattle.path_agenda.specs.declared.duty.AskDuty.TheVariants as ask_duties
-use Rattle.path_agenda.specs.declared.heard.Heard.{Heard}
+use Rattle.clean_finish.proofs.Words.{◌≡◌, refl, sym, subst, ap, ◌∙◌, ℕ, ◌<◌, ◌≤◌, min, Bool, true, false, not, ◌&&◌, ◌||◌, if◌then◌else◌, inr, Option, List}
+use Rattle.clean_finish.proofs.Words.{◌∷◌, ◌++◌, arith, Some, le_refl, is_some, ◌==◌, both_ways, is_starting, Side, A, B, ControlReply, ControlCall, State}
+use Rattle.clean_finish.proofs.Words.{Duty, AskDuty, heard_and, payload_came, keys_heard, Heard, Reply, SixBooks, reply_of, after_ask, Ask, AppState, Carried}
+use Rattle.clean_finish.proofs.Words.{PathEnd, PathState, with_agenda, with_end, is_opened_by_keys, is_opened_plainly, answered_opened, opened_ask, Setting}
+use Rattle.clean_finish.proofs.Words.{Lane, all_left, Sender, Going, PathPlan, Start, Hand, brings_in, IsPhase, IsOpen, Sent, Keys, Brings, Follow, ShowsKeys}
+use Rattle.clean_finish.proofs.Words.{Beside, Treats, TreatsCopy, count_in, own_bench, other_bench, FacesOfB, IsSetting, Runs, keys_in, Bench, FacesOfA}
+use Rattle.clean_finish.proofs.Words.{AtFirst, Opening, Listening, HalfOpen, Open}
+use Rattle.std.proofs.Common.{eq-eqb}
 use Rattle.path_agenda.specs.declared.keys.KeyPair.{KeyPair}
-use Rattle.path_agenda.specs.Items.{keys_heard}
-use Rattle.path_core.specs.End.{PathEnd}
-use Rattle.path_core.specs.MpCapable.{answered_opened, is_opened_by_keys, is_opened_plainly, opened_ask}
-use Rattle.path_core.specs.State.{PathState, with_agenda, with_end}
-use Rattle.path_core.specs.Values.{Carried}
-use Rattle.world_laws.specs.Openings.{PathPlan, Start}
-use Rattle.pace.specs.Lane.{Setting, Lane, Sender, all_left}
-use Rattle.pace.specs.Going.{Going}
-use Rattle.clean_finish.specs.Segments.{Sent, Keys, Brings, Follow}
-use Rattle.clean_finish.specs.Segments.Brings.{ShowsKeys}
-use Rattle.clean_finish.specs.Shows.{Hand, IsOpen, IsPhase, brings_in}
-use Rattle.clean_finish.specs.Shows.IsPhase.{Opening, Listening, HalfOpen, Open}
-use Rattle.clean_finish.specs.Running.{Bench, Beside, FacesOfA, FacesOfB, Treats, TreatsCopy, count_in, own_bench, other_bench, IsSetting, Runs, keys_in}
-use Rattle.clean_finish.specs.Running.Treatment.{AtFirst}
 use Rattle.clean_finish.proofs.Confirmed.{confirmed}
 use Rattle.clean_finish.proofs.EndPassing.{sent_some}
 use Rattle.clean_finish.proofs.Hands.{in_hand}
@@ -118,13 +95,13 @@ module _ (start : Start) (plan : PathPlan) (k j : Setting) (s v : Lane) (t0 u0 :
         Relation six q = Runs start plan k j s v a b six q
 
         abbrev d : Duty
-        d = duties.Ask (ask_duties.Opened B)
+        d = Duty.Ask (AskDuty.Opened B)
 
         abbrev both_keys : KeyPair
         both_keys = record { own = keys.b; peer = keys.a }
 
         module _ (ds : List Duty) (h : Relation books (with_agenda (d ∷ ds) p)) (f : TreatsCopy B keys AtFirst false ShowsKeys (other_bench h.faces))
-            (beside : Beside B (own_bench h.faces) (other_bench h.faces) ds (duties.Ask (ask_duties.Live B) ∷ heard_and B 0 1 (payload_came B)))
+            (beside : Beside B (own_bench h.faces) (other_bench h.faces) ds (Duty.Ask (AskDuty.Live B) ∷ heard_and B 0 1 (payload_came B)))
           where
             abbrev x : Sent
             x = f.sent
@@ -157,7 +134,7 @@ module _ (start : Start) (plan : PathPlan) (k j : Setting) (s v : Lane) (t0 u0 :
             end_told = record p.b { modes = record p.b.modes { peer_key = Some keys.a; clear = true }; treated = record p.b.treated { keys_told = true } }
 
             abbrev books_noted : SixBooks
-            books_noted = after_ask (asks.Control B (control_calls.Keys keys.b keys.a)) books
+            books_noted = after_ask (Ask.Control B (ControlCall.Keys keys.b keys.a)) books
 
             abbrev told : FacesOfB keys k j s v a b books_noted (with_agenda ds (with_end B end_told p))
             told = confirmed plan.delay u0 t0 j_is k_is going_back going view there f.waiting (sent_some f.came f.answered) (some_min f.came)
@@ -198,7 +175,7 @@ module _ (start : Start) (plan : PathPlan) (k j : Setting) (s v : Lane) (t0 u0 :
                 subst (λ (o : Option KeyPair). let q = with_agenda (d ∷ ds) p in let ask = opened_ask B o q in
                 Relation (after_ask ask books) (answered_opened B o (reply_of books ask) q)) (sym keys_are)
                 (subst (λ (y : Bool). Relation books_noted (answered_opened B (Some both_keys)
-                (replies.Control (if y then control_replies.Noted else control_replies.KeysDiffer books.control_b.keys.own)) (with_agenda (d ∷ ds) p))) (sym own_key)
+                (Reply.Control (if y then ControlReply.Noted else ControlReply.KeysDiffer books.control_b.keys.own)) (with_agenda (d ∷ ds) p))) (sym own_key)
                 runs_on)
 
         pub answers_opened_b : (ds : List Duty) → (is_opened_by_keys p.b || is_opened_plainly p.b) ≡ true → Relation books (with_agenda (d ∷ ds) p)
@@ -208,4 +185,4 @@ module _ (start : Start) (plan : PathPlan) (k j : Setting) (s v : Lane) (t0 u0 :
             let t = h.treats in
             let is = third_only t.0 (sym t.1.opened ∙ opened_is p.b on) in
             third_told ds h (subst (λ (y : Brings). TreatsCopy B keys AtFirst false y (other_bench h.faces)) is t.1)
-            (subst (λ (y : Brings). Beside B (own_bench h.faces) (other_bench h.faces) ds (duties.Ask (ask_duties.Live B) ∷ heard_and B 0 (count_in y) (payload_came B))) is t.2)
+            (subst (λ (y : Brings). Beside B (own_bench h.faces) (other_bench h.faces) ds (Duty.Ask (AskDuty.Live B) ∷ heard_and B 0 (count_in y) (payload_came B))) is t.2)

@@ -1,22 +1,9 @@
 -- The outcome of a world that keeps the relation: delivered once both applications were told the end, and else it goes on.
-use Rattle.std.proofs.Common.{◌≡◌, refl, sym, ap, ◌∙◌, ℕ, ◌≤◌, Bool, true, false, ◌&&◌, if◌then◌else◌, List, map, arith}
-use Rattle.std.proofs.lemmas.Bool.{both_ways}
-use Rattle.sides.specs.declared.side.Side.{Side}
-use Rattle.sides.specs.declared.side.Side.TheVariants.{A}
-use Rattle.subflow_tcp.specs.declared.handshake.State.{State}
-use Rattle.subflow_tcp.specs.declared.handshake.State.TheVariants.{Dead}
-use Rattle.subflow_tcp.specs.States.{is_closed_to_segments, is_dead}
-use Rattle.subflow_tcp.specs.Segments.{one_if}
-use Rattle.path_core.specs.Events.{is_dead_or_listening}
-use Rattle.path_core.specs.Values.{Carried}
+use Rattle.clean_finish.proofs.Words.{◌≡◌, refl, sym, ap, ◌∙◌, ℕ, ◌≤◌, Bool, true, false, ◌&&◌, if◌then◌else◌, List, map, arith, both_ways, Side, A, State}
+use Rattle.clean_finish.proofs.Words.{is_closed_to_segments, is_dead, Dead, one_if, Carried, is_dead_or_listening, Setting, Lane, PathPlan, Start, Walker, Cast}
+use Rattle.clean_finish.proofs.Words.{world_of, walking, are_all_dead, outcome_by, outcome_of, tells_abort, tells_end, was_told, IsPhase, Running, Opening}
+use Rattle.clean_finish.proofs.Words.{Listening, HalfOpen, Open}
 use Rattle.world_laws.specs.declared.outcome.Outcome.TheVariants.{Going, Delivered}
-use Rattle.world_laws.specs.Openings.{PathPlan, Start}
-use Rattle.world_laws.specs.Outcomes.{are_all_dead, outcome_by, outcome_of, tells_abort, tells_end, was_told}
-use Rattle.world_laws.proofs.Worlds.Casts.{Walker, Cast, walking, world_of}
-use Rattle.pace.specs.Lane.{Setting, Lane}
-use Rattle.clean_finish.specs.Shows.{IsPhase}
-use Rattle.clean_finish.specs.Shows.IsPhase.{Opening, Listening, HalfOpen, Open}
-use Rattle.clean_finish.specs.Running.{Running}
 use Rattle.clean_finish.proofs.ReadersTold.{TellsAs}
 
 open_alive : (state : State) → is_closed_to_segments state ≡ false → is_dead state ≡ false

@@ -1,28 +1,7 @@
 -- Each duty that comes to nothing is passed.
-use Rattle.std.proofs.Common.{◌≡◌, refl, sym, subst, ap, ℕ, zero, suc, true, false, ◌||◌, is_some, Option, List, ◌∷◌}
-use Rattle.std.proofs.lemmas.Bool.{both_ways}
-use Rattle.sides.specs.declared.side.Side.TheVariants.{A, B}
-use Rattle.fallback_state.specs.Modes.{is_starting}
-use Rattle.actor_desk.specs.Desk.{SixBooks}
-use Rattle.stream_apps.specs.Apps.{AppState}
-use Rattle.path_agenda.specs.declared.duty.Duty.{Duty}
-use Rattle.path_agenda.specs.declared.duty.Duty.TheVariants as duties
-use Rattle.path_agenda.specs.declared.duty.AskDuty.{AskDuty}
-use Rattle.path_agenda.specs.declared.duty.AskDuty.TheVariants as ask_duties
-use Rattle.path_agenda.specs.declared.duty.SendDuty.{SendDuty}
-use Rattle.path_agenda.specs.declared.duty.SendDuty.TheVariants as send_duties
-use Rattle.path_agenda.specs.declared.duty.SilentDuty.{SilentDuty}
-use Rattle.path_agenda.specs.declared.duty.SilentDuty.TheVariants as silent_duties
-use Rattle.path_agenda.specs.declared.duty.StepDuty.{StepDuty}
-use Rattle.path_agenda.specs.declared.duty.StepDuty.TheVariants as step_duties
-use Rattle.path_core.specs.Duties.{stands, passed}
-use Rattle.path_core.specs.State.{PathState, with_agenda}
-use Rattle.path_core.specs.Values.{Carried}
-use Rattle.world_laws.specs.Openings.{PathPlan, Start}
-use Rattle.pace.specs.Lane.{Setting, Lane, all_left}
-use Rattle.pace.specs.Going.{Going}
-use Rattle.clean_finish.specs.Segments.{Keys}
-use Rattle.clean_finish.specs.Running.{fin_duties, IsSetting, Runs, keys_in}
+use Rattle.clean_finish.proofs.Words.{◌≡◌, refl, sym, subst, ap, ℕ, true, false, ◌||◌, Option, List, ◌∷◌, suc, zero, is_some, both_ways, is_starting, A, B}
+use Rattle.clean_finish.proofs.Words.{Duty, SendDuty, StepDuty, AskDuty, SilentDuty, SixBooks, AppState, Carried, PathState, with_agenda, stands, passed}
+use Rattle.clean_finish.proofs.Words.{Setting, Lane, all_left, Going, PathPlan, Start, Keys, IsSetting, Runs, keys_in, fin_duties}
 use Rattle.clean_finish.proofs.EdgePlacing.{passes_checked_a, passes_checked_b, passes_edge_a, passes_edge_b}
 use Rattle.clean_finish.proofs.EndPassing.{passes_fin_one_a, passes_fin_one_b, passes_heard_fin_a, passes_heard_fin_b, passes_unmapped_a, passes_unmapped_b}
 use Rattle.clean_finish.proofs.FinPassing.{passes_pass_fin_a, passes_pass_fin_b, passes_subflow_fin_a, passes_subflow_fin_b}
@@ -65,136 +44,130 @@ module _ (start : Start) (plan : PathPlan) (k j : Setting) (s v : Lane) (t0 u0 :
         Passed d ds = stands d p ≡ false → Relation (with_agenda (d ∷ ds) p) → Relation (with_agenda ds (passed d p))
 
         -- no third end of the stream is told
-        fin_late_a : (i : ℕ) → Relation (with_agenda (duties.Ask (ask_duties.HeardFin A (suc (suc i))) ∷ fin_duties A) p) → Relation (with_agenda (fin_duties A) p)
+        fin_late_a : (i : ℕ) → Relation (with_agenda (Duty.Ask (AskDuty.HeardFin A (suc (suc i))) ∷ fin_duties A) p) → Relation (with_agenda (fin_duties A) p)
         fin_late_a i h =
             let t = h.treats in
             record {
               path = h.path;
               link = h.link;
-              faces = free_drops (duties.Ask (ask_duties.HeardFin A (suc (suc i)))) (fin_duties A) refl h.faces;
+              faces = free_drops (Duty.Ask (AskDuty.HeardFin A (suc (suc i)))) (fin_duties A) refl h.faces;
               treats = (t.0.0, t.1.0, t.1.1, refl);
             }
 
-        passes_fin_late_a : (i : ℕ) (ds : List Duty) → Relation (with_agenda (duties.Ask (ask_duties.HeardFin A (suc (suc i))) ∷ ds) p) → Relation (with_agenda ds p)
+        passes_fin_late_a : (i : ℕ) (ds : List Duty) → Relation (with_agenda (Duty.Ask (AskDuty.HeardFin A (suc (suc i))) ∷ ds) p) → Relation (with_agenda ds p)
         passes_fin_late_a i ds h =
             subst (λ (es : List Duty). Relation (with_agenda es p)) (sym h.treats.1.2)
-            (fin_late_a i (subst (λ (es : List Duty). Relation (with_agenda (duties.Ask (ask_duties.HeardFin A (suc (suc i))) ∷ es) p)) h.treats.1.2 h))
+            (fin_late_a i (subst (λ (es : List Duty). Relation (with_agenda (Duty.Ask (AskDuty.HeardFin A (suc (suc i))) ∷ es) p)) h.treats.1.2 h))
 
-        fin_late_b : (i : ℕ) → Relation (with_agenda (duties.Ask (ask_duties.HeardFin B (suc (suc i))) ∷ fin_duties B) p) → Relation (with_agenda (fin_duties B) p)
+        fin_late_b : (i : ℕ) → Relation (with_agenda (Duty.Ask (AskDuty.HeardFin B (suc (suc i))) ∷ fin_duties B) p) → Relation (with_agenda (fin_duties B) p)
         fin_late_b i h =
             let t = h.treats in
             record {
               path = h.path;
               link = h.link;
-              faces = free_drops (duties.Ask (ask_duties.HeardFin B (suc (suc i)))) (fin_duties B) refl h.faces;
+              faces = free_drops (Duty.Ask (AskDuty.HeardFin B (suc (suc i)))) (fin_duties B) refl h.faces;
               treats = (t.0.0, t.1.0, t.1.1, refl);
             }
 
-        passes_fin_late_b : (i : ℕ) (ds : List Duty) → Relation (with_agenda (duties.Ask (ask_duties.HeardFin B (suc (suc i))) ∷ ds) p) → Relation (with_agenda ds p)
+        passes_fin_late_b : (i : ℕ) (ds : List Duty) → Relation (with_agenda (Duty.Ask (AskDuty.HeardFin B (suc (suc i))) ∷ ds) p) → Relation (with_agenda ds p)
         passes_fin_late_b i ds h =
             subst (λ (es : List Duty). Relation (with_agenda es p)) (sym h.treats.1.2)
-            (fin_late_b i (subst (λ (es : List Duty). Relation (with_agenda (duties.Ask (ask_duties.HeardFin B (suc (suc i))) ∷ es) p)) h.treats.1.2 h))
+            (fin_late_b i (subst (λ (es : List Duty). Relation (with_agenda (Duty.Ask (AskDuty.HeardFin B (suc (suc i))) ∷ es) p)) h.treats.1.2 h))
 
         -- ---- duties that ask
 
-        ask_passes : (d : AskDuty) (ds : List Duty) → Passed (duties.Ask d) ds
-        ask_passes ask_duties.JoinAgain ds off h = passes_join start plan k j s v t0 u0 going going_back a b books p ds k_is j_is h
-        ask_passes (ask_duties.Window q) ds off h = always off
-        ask_passes (ask_duties.SynHeard q) ds off h = always off
-        ask_passes (ask_duties.SynAnswered q) ds off h = always off
-        ask_passes (ask_duties.PlainHandshake A) ds off h = absurd (not_b h.treats.0.side)
-        ask_passes (ask_duties.PlainHandshake B) ds off h = passes_handshake start plan k j s v t0 u0 going going_back a b books p ds k_is j_is h
-        ask_passes (ask_duties.PeerKey A) ds off h =
+        ask_passes : (d : AskDuty) (ds : List Duty) → Passed (Duty.Ask d) ds
+        ask_passes AskDuty.JoinAgain ds off h = passes_join start plan k j s v t0 u0 going going_back a b books p ds k_is j_is h
+        ask_passes (AskDuty.Window q) ds off h = always off
+        ask_passes (AskDuty.SynHeard q) ds off h = always off
+        ask_passes (AskDuty.SynAnswered q) ds off h = always off
+        ask_passes (AskDuty.PlainHandshake A) ds off h = absurd (not_b h.treats.0.side)
+        ask_passes (AskDuty.PlainHandshake B) ds off h = passes_handshake start plan k j s v t0 u0 going going_back a b books p ds k_is j_is h
+        ask_passes (AskDuty.PeerKey A) ds off h =
             absurd (both_ways _ off (ap (λ (o : Option ℕ). is_some o || is_starting p.a.modes.mode) (h.treats.0.key refl)))
-        ask_passes (ask_duties.PeerKey B) ds off h = absurd (not_a h.treats.0.side)
-        ask_passes (ask_duties.JoinHeard q) ds off h = absurd (both_ways _ refl h.treats.3)
-        ask_passes (ask_duties.Opened A) ds off h = passes_opened_a start plan k j s v t0 u0 going going_back a b books p k_is j_is ds off h
-        ask_passes (ask_duties.Opened B) ds off h = passes_opened_b start plan k j s v t0 u0 going going_back a b books p k_is j_is ds off h
-        ask_passes (ask_duties.Live A) ds off h = passes_live_a start plan k j s v t0 u0 going going_back a b books p k_is j_is ds off h
-        ask_passes (ask_duties.Live B) ds off h = passes_live_b start plan k j s v t0 u0 going going_back a b books p k_is j_is ds off h
-        ask_passes (ask_duties.AckHeard A) ds off h = passes_ack_heard_a start plan k j s v t0 u0 going going_back a b books p k_is j_is ds h
-        ask_passes (ask_duties.AckHeard B) ds off h = passes_ack_heard_b start plan k j s v t0 u0 going going_back a b books p k_is j_is ds h
-        ask_passes (ask_duties.SubflowAck A) ds off h = passes_subflow_ack_a start plan k j s v t0 u0 going going_back a b books p k_is j_is ds h
-        ask_passes (ask_duties.SubflowAck B) ds off h = passes_subflow_ack_b start plan k j s v t0 u0 going going_back a b books p k_is j_is ds h
-        ask_passes (ask_duties.PlainData A) ds off h = passes_plain_data_a start plan k j s v t0 u0 going going_back a b books p k_is j_is ds h
-        ask_passes (ask_duties.PlainData B) ds off h = passes_plain_data_b start plan k j s v t0 u0 going going_back a b books p k_is j_is ds h
-        ask_passes (ask_duties.Edge A) ds off h = passes_edge_a start plan k j s v t0 u0 going going_back a b books p k_is j_is ds off h
-        ask_passes (ask_duties.Edge B) ds off h = passes_edge_b start plan k j s v t0 u0 going going_back a b books p k_is j_is ds off h
-        ask_passes (ask_duties.CheckFailed A) ds off h = passes_checked_a start plan k j s v t0 u0 going going_back a b books p k_is j_is ds h
-        ask_passes (ask_duties.CheckFailed B) ds off h = passes_checked_b start plan k j s v t0 u0 going going_back a b books p k_is j_is ds h
-        ask_passes (ask_duties.HeardFin A zero) ds off h = passes_heard_fin_a start plan k j s v t0 u0 going going_back a b books p k_is j_is ds off h
-        ask_passes (ask_duties.HeardFin B zero) ds off h = passes_heard_fin_b start plan k j s v t0 u0 going going_back a b books p k_is j_is ds off h
-        ask_passes (ask_duties.HeardFin A (suc zero)) ds off h = passes_fin_one_a start plan k j s v t0 u0 going going_back a b books p k_is j_is ds h
-        ask_passes (ask_duties.HeardFin B (suc zero)) ds off h = passes_fin_one_b start plan k j s v t0 u0 going going_back a b books p k_is j_is ds h
-        ask_passes (ask_duties.HeardFin A (suc (suc i))) ds off h = passes_fin_late_a i ds h
-        ask_passes (ask_duties.HeardFin B (suc (suc i))) ds off h = passes_fin_late_b i ds h
-        ask_passes (ask_duties.SubflowFin A) ds off h = passes_subflow_fin_a start plan k j s v t0 u0 going going_back a b books p k_is j_is ds h
-        ask_passes (ask_duties.SubflowFin B) ds off h = passes_subflow_fin_b start plan k j s v t0 u0 going going_back a b books p k_is j_is ds h
-        ask_passes (ask_duties.AckOut A) ds off h = passes_ack_out_a start plan k j s v t0 u0 going going_back a b books p k_is j_is ds off h
-        ask_passes (ask_duties.AckOut B) ds off h = passes_ack_out_b start plan k j s v t0 u0 going going_back a b books p k_is j_is ds off h
-        ask_passes (ask_duties.Rate A) ds off h = passes_rate_a start plan k j s v t0 u0 going going_back a b books p k_is j_is ds h
-        ask_passes (ask_duties.Rate B) ds off h = passes_rate_b start plan k j s v t0 u0 going going_back a b books p k_is j_is ds h
-        ask_passes (ask_duties.Return q) ds off h = absurd (both_ways _ refl h.treats.3)
-        ask_passes (ask_duties.LeaveNoted q) ds off h = passes_leave_noted start plan k j s v t0 u0 going going_back a b books p ds k_is j_is q h
+        ask_passes (AskDuty.PeerKey B) ds off h = absurd (not_a h.treats.0.side)
+        ask_passes (AskDuty.JoinHeard q) ds off h = absurd (both_ways _ refl h.treats.3)
+        ask_passes (AskDuty.Opened A) ds off h = passes_opened_a start plan k j s v t0 u0 going going_back a b books p k_is j_is ds off h
+        ask_passes (AskDuty.Opened B) ds off h = passes_opened_b start plan k j s v t0 u0 going going_back a b books p k_is j_is ds off h
+        ask_passes (AskDuty.Live A) ds off h = passes_live_a start plan k j s v t0 u0 going going_back a b books p k_is j_is ds off h
+        ask_passes (AskDuty.Live B) ds off h = passes_live_b start plan k j s v t0 u0 going going_back a b books p k_is j_is ds off h
+        ask_passes (AskDuty.AckHeard A) ds off h = passes_ack_heard_a start plan k j s v t0 u0 going going_back a b books p k_is j_is ds h
+        ask_passes (AskDuty.AckHeard B) ds off h = passes_ack_heard_b start plan k j s v t0 u0 going going_back a b books p k_is j_is ds h
+        ask_passes (AskDuty.SubflowAck A) ds off h = passes_subflow_ack_a start plan k j s v t0 u0 going going_back a b books p k_is j_is ds h
+        ask_passes (AskDuty.SubflowAck B) ds off h = passes_subflow_ack_b start plan k j s v t0 u0 going going_back a b books p k_is j_is ds h
+        ask_passes (AskDuty.PlainData A) ds off h = passes_plain_data_a start plan k j s v t0 u0 going going_back a b books p k_is j_is ds h
+        ask_passes (AskDuty.PlainData B) ds off h = passes_plain_data_b start plan k j s v t0 u0 going going_back a b books p k_is j_is ds h
+        ask_passes (AskDuty.Edge A) ds off h = passes_edge_a start plan k j s v t0 u0 going going_back a b books p k_is j_is ds off h
+        ask_passes (AskDuty.Edge B) ds off h = passes_edge_b start plan k j s v t0 u0 going going_back a b books p k_is j_is ds off h
+        ask_passes (AskDuty.CheckFailed A) ds off h = passes_checked_a start plan k j s v t0 u0 going going_back a b books p k_is j_is ds h
+        ask_passes (AskDuty.CheckFailed B) ds off h = passes_checked_b start plan k j s v t0 u0 going going_back a b books p k_is j_is ds h
+        ask_passes (AskDuty.HeardFin A zero) ds off h = passes_heard_fin_a start plan k j s v t0 u0 going going_back a b books p k_is j_is ds off h
+        ask_passes (AskDuty.HeardFin B zero) ds off h = passes_heard_fin_b start plan k j s v t0 u0 going going_back a b books p k_is j_is ds off h
+        ask_passes (AskDuty.HeardFin A (suc zero)) ds off h = passes_fin_one_a start plan k j s v t0 u0 going going_back a b books p k_is j_is ds h
+        ask_passes (AskDuty.HeardFin B (suc zero)) ds off h = passes_fin_one_b start plan k j s v t0 u0 going going_back a b books p k_is j_is ds h
+        ask_passes (AskDuty.HeardFin A (suc (suc i))) ds off h = passes_fin_late_a i ds h
+        ask_passes (AskDuty.HeardFin B (suc (suc i))) ds off h = passes_fin_late_b i ds h
+        ask_passes (AskDuty.SubflowFin A) ds off h = passes_subflow_fin_a start plan k j s v t0 u0 going going_back a b books p k_is j_is ds h
+        ask_passes (AskDuty.SubflowFin B) ds off h = passes_subflow_fin_b start plan k j s v t0 u0 going going_back a b books p k_is j_is ds h
+        ask_passes (AskDuty.AckOut A) ds off h = passes_ack_out_a start plan k j s v t0 u0 going going_back a b books p k_is j_is ds off h
+        ask_passes (AskDuty.AckOut B) ds off h = passes_ack_out_b start plan k j s v t0 u0 going going_back a b books p k_is j_is ds off h
+        ask_passes (AskDuty.Rate A) ds off h = passes_rate_a start plan k j s v t0 u0 going going_back a b books p k_is j_is ds h
+        ask_passes (AskDuty.Rate B) ds off h = passes_rate_b start plan k j s v t0 u0 going going_back a b books p k_is j_is ds h
+        ask_passes (AskDuty.Return q) ds off h = absurd (both_ways _ refl h.treats.3)
+        ask_passes (AskDuty.LeaveNoted q) ds off h = passes_leave_noted start plan k j s v t0 u0 going going_back a b books p ds k_is j_is q h
         ask_passes _ ds off h = always off
 
         -- ---- duties that ask, send or take an event
 
-        step_passes : (d : StepDuty) (ds : List Duty) → Passed (duties.Step d) ds
-        step_passes (step_duties.Look q) ds off h = always off
-        step_passes (step_duties.Data A) ds off h = passes_data_a start plan k j s v t0 u0 going going_back a b books p ds k_is j_is off h
-        step_passes (step_duties.Data B) ds off h = passes_data_b start plan k j s v t0 u0 going going_back a b books p ds k_is j_is off h
-        step_passes step_duties.Events ds off h = passes_events start plan k j s v a b books p ds off h
-        step_passes (step_duties.Heard A zero) ds off h = passes_first_a start plan k j s v t0 u0 going going_back a b books p k_is j_is ds h
-        step_passes (step_duties.Heard B zero) ds off h = passes_first_b start plan k j s v t0 u0 going going_back a b books p k_is j_is ds off h
-        step_passes (step_duties.Heard A (suc zero)) ds off h = passes_second_a start plan k j s v t0 u0 going going_back a b books p k_is j_is ds off h
-        step_passes (step_duties.Heard B (suc zero)) ds off h = passes_second_b start plan k j s v t0 u0 going going_back a b books p k_is j_is ds off h
-        step_passes (step_duties.Heard A (suc (suc zero))) ds off h = passes_last_a start plan k j s v t0 u0 going going_back a b books p k_is j_is ds off h
-        step_passes (step_duties.Heard B (suc (suc zero))) ds off h = passes_last_b start plan k j s v t0 u0 going going_back a b books p k_is j_is ds off h
-        step_passes (step_duties.Heard q (suc (suc (suc i)))) ds off h = absurd h.treats
-        step_passes (step_duties.PlainAck A) ds off h = passes_plain_ack_a start plan k j s v t0 u0 going going_back a b books p k_is j_is ds h
-        step_passes (step_duties.PlainAck B) ds off h = passes_plain_ack_b start plan k j s v t0 u0 going going_back a b books p k_is j_is ds h
-        step_passes (step_duties.Unmapped A) ds off h = passes_unmapped_a start plan k j s v t0 u0 going going_back a b books p k_is j_is ds h
-        step_passes (step_duties.Unmapped B) ds off h = passes_unmapped_b start plan k j s v t0 u0 going going_back a b books p k_is j_is ds h
+        step_passes : (d : StepDuty) (ds : List Duty) → Passed (Duty.Step d) ds
+        step_passes (StepDuty.Look q) ds off h = always off
+        step_passes (StepDuty.Data A) ds off h = passes_data_a start plan k j s v t0 u0 going going_back a b books p ds k_is j_is off h
+        step_passes (StepDuty.Data B) ds off h = passes_data_b start plan k j s v t0 u0 going going_back a b books p ds k_is j_is off h
+        step_passes StepDuty.Events ds off h = passes_events start plan k j s v a b books p ds off h
+        step_passes (StepDuty.Heard A zero) ds off h = passes_first_a start plan k j s v t0 u0 going going_back a b books p k_is j_is ds h
+        step_passes (StepDuty.Heard B zero) ds off h = passes_first_b start plan k j s v t0 u0 going going_back a b books p k_is j_is ds off h
+        step_passes (StepDuty.Heard A (suc zero)) ds off h = passes_second_a start plan k j s v t0 u0 going going_back a b books p k_is j_is ds off h
+        step_passes (StepDuty.Heard B (suc zero)) ds off h = passes_second_b start plan k j s v t0 u0 going going_back a b books p k_is j_is ds off h
+        step_passes (StepDuty.Heard A (suc (suc zero))) ds off h = passes_last_a start plan k j s v t0 u0 going going_back a b books p k_is j_is ds off h
+        step_passes (StepDuty.Heard B (suc (suc zero))) ds off h = passes_last_b start plan k j s v t0 u0 going going_back a b books p k_is j_is ds off h
+        step_passes (StepDuty.Heard q (suc (suc (suc i)))) ds off h = absurd h.treats
+        step_passes (StepDuty.PlainAck A) ds off h = passes_plain_ack_a start plan k j s v t0 u0 going going_back a b books p k_is j_is ds h
+        step_passes (StepDuty.PlainAck B) ds off h = passes_plain_ack_b start plan k j s v t0 u0 going going_back a b books p k_is j_is ds h
+        step_passes (StepDuty.Unmapped A) ds off h = passes_unmapped_a start plan k j s v t0 u0 going going_back a b books p k_is j_is ds h
+        step_passes (StepDuty.Unmapped B) ds off h = passes_unmapped_b start plan k j s v t0 u0 going going_back a b books p k_is j_is ds h
 
         -- ---- duties that send
 
-        send_passes : (d : SendDuty) (ds : List Duty) → Passed (duties.Send d) ds
-        send_passes (send_duties.Update A) ds off h = passes_update_a start plan k j s v t0 u0 going going_back a b books p ds k_is j_is off h
-        send_passes (send_duties.Update B) ds off h = passes_update_b start plan k j s v t0 u0 going going_back a b books p ds k_is j_is off h
-        send_passes (send_duties.Syn A) ds off h = passes_syn_a start plan k j s v a b books p ds off h
-        send_passes (send_duties.Syn B) ds off h = passes_syn_b start plan k j s v a b books p ds off h
-        send_passes (send_duties.FastClose q) ds off h = passes_fast_close start plan k j s v t0 u0 going going_back a b books p ds k_is j_is q h
-        send_passes (send_duties.Notice q) ds off h =
-            passes_free start plan k j s v t0 u0 going going_back a b books p ds k_is j_is (duties.Send (send_duties.Notice q)) refl (λ x y t. (t.0, t.1, t.2, t.5)) h
-        send_passes (send_duties.DataFin A) ds off h = passes_end_a start plan k j s v t0 u0 going going_back a b books p ds k_is j_is off h
-        send_passes (send_duties.DataFin B) ds off h = passes_end_b start plan k j s v t0 u0 going going_back a b books p ds k_is j_is off h
-        send_passes (send_duties.Fin q) ds off h = passes_fin start plan k j s v t0 u0 going going_back a b books p ds k_is j_is q h
-        send_passes (send_duties.SynAck q) ds off h = always off
-        send_passes (send_duties.Refuse q) ds off h = always off
-        send_passes (send_duties.Acknowledge A) ds off h = passes_acknowledge_a start plan k j s v t0 u0 going going_back a b books p k_is j_is ds off h
-        send_passes (send_duties.Acknowledge B) ds off h = passes_acknowledge_b start plan k j s v t0 u0 going going_back a b books p k_is j_is ds off h
-        send_passes (send_duties.Again q) ds off h = passes_again start plan k j s v t0 u0 going going_back a b books p ds k_is j_is q h
-        send_passes (send_duties.Answer q) ds off h = always off
-        send_passes (send_duties.ResetAnswer q) ds off h = always off
-        send_passes (send_duties.Resend q) ds off h = always off
-        send_passes (send_duties.BreakReset q reason) ds off h = always off
-        send_passes (send_duties.Reset q) ds off h = always off
-        send_passes (send_duties.ResetNoted q) ds off h = passes_reset_noted start plan k j s v t0 u0 going going_back a b books p ds k_is j_is q h
+        send_passes : (d : SendDuty) (ds : List Duty) → Passed (Duty.Send d) ds
+        send_passes (SendDuty.Update A) ds off h = passes_update_a start plan k j s v t0 u0 going going_back a b books p ds k_is j_is off h
+        send_passes (SendDuty.Update B) ds off h = passes_update_b start plan k j s v t0 u0 going going_back a b books p ds k_is j_is off h
+        send_passes (SendDuty.Syn A) ds off h = passes_syn_a start plan k j s v a b books p ds off h
+        send_passes (SendDuty.Syn B) ds off h = passes_syn_b start plan k j s v a b books p ds off h
+        send_passes (SendDuty.FastClose q) ds off h = passes_fast_close start plan k j s v t0 u0 going going_back a b books p ds k_is j_is q h
+        send_passes (SendDuty.Notice q) ds off h =
+            passes_free start plan k j s v t0 u0 going going_back a b books p ds k_is j_is (Duty.Send (SendDuty.Notice q)) refl (λ x y t. (t.0, t.1, t.2, t.5)) h
+        send_passes (SendDuty.DataFin A) ds off h = passes_end_a start plan k j s v t0 u0 going going_back a b books p ds k_is j_is off h
+        send_passes (SendDuty.DataFin B) ds off h = passes_end_b start plan k j s v t0 u0 going going_back a b books p ds k_is j_is off h
+        send_passes (SendDuty.Fin q) ds off h = passes_fin start plan k j s v t0 u0 going going_back a b books p ds k_is j_is q h
+        send_passes (SendDuty.Acknowledge A) ds off h = passes_acknowledge_a start plan k j s v t0 u0 going going_back a b books p k_is j_is ds off h
+        send_passes (SendDuty.Acknowledge B) ds off h = passes_acknowledge_b start plan k j s v t0 u0 going going_back a b books p k_is j_is ds off h
+        send_passes (SendDuty.Again q) ds off h = passes_again start plan k j s v t0 u0 going going_back a b books p ds k_is j_is q h
+        send_passes (SendDuty.ResetNoted q) ds off h = passes_reset_noted start plan k j s v t0 u0 going going_back a b books p ds k_is j_is q h
+        send_passes _ ds off h = always off
 
         -- ---- duties that are silent
 
-        silent_passes : (d : SilentDuty) (ds : List Duty) → Passed (duties.Silent d) ds
-        silent_passes (silent_duties.Timer A) ds off h = passes_timer_a start plan k j s v t0 u0 going going_back a b books p ds k_is j_is h
-        silent_passes (silent_duties.Timer B) ds off h = passes_timer_b start plan k j s v t0 u0 going going_back a b books p ds k_is j_is h
-        silent_passes (silent_duties.Keep A) ds off h = passes_keep_a start plan k j s v t0 u0 going going_back a b books p k_is j_is ds h
-        silent_passes (silent_duties.Keep B) ds off h = passes_keep_b start plan k j s v t0 u0 going going_back a b books p k_is j_is ds h
-        silent_passes (silent_duties.PassFin A) ds off h = passes_pass_fin_a start plan k j s v t0 u0 going going_back a b books p k_is j_is ds h
-        silent_passes (silent_duties.PassFin B) ds off h = passes_pass_fin_b start plan k j s v t0 u0 going going_back a b books p k_is j_is ds h
+        silent_passes : (d : SilentDuty) (ds : List Duty) → Passed (Duty.Silent d) ds
+        silent_passes (SilentDuty.Timer A) ds off h = passes_timer_a start plan k j s v t0 u0 going going_back a b books p ds k_is j_is h
+        silent_passes (SilentDuty.Timer B) ds off h = passes_timer_b start plan k j s v t0 u0 going going_back a b books p ds k_is j_is h
+        silent_passes (SilentDuty.Keep A) ds off h = passes_keep_a start plan k j s v t0 u0 going going_back a b books p k_is j_is ds h
+        silent_passes (SilentDuty.Keep B) ds off h = passes_keep_b start plan k j s v t0 u0 going going_back a b books p k_is j_is ds h
+        silent_passes (SilentDuty.PassFin A) ds off h = passes_pass_fin_a start plan k j s v t0 u0 going going_back a b books p k_is j_is ds h
+        silent_passes (SilentDuty.PassFin B) ds off h = passes_pass_fin_b start plan k j s v t0 u0 going going_back a b books p k_is j_is ds h
 
         pub duty_passes : (d : Duty) (ds : List Duty) → Passed d ds
-        duty_passes (duties.Ask d) ds off h = ask_passes d ds off h
-        duty_passes (duties.Step d) ds off h = step_passes d ds off h
-        duty_passes (duties.Send d) ds off h = send_passes d ds off h
-        duty_passes (duties.Silent d) ds off h = silent_passes d ds off h
-        duty_passes duties.End ds off h = always off
+        duty_passes (Duty.Ask d) ds off h = ask_passes d ds off h
+        duty_passes (Duty.Step d) ds off h = step_passes d ds off h
+        duty_passes (Duty.Send d) ds off h = send_passes d ds off h
+        duty_passes (Duty.Silent d) ds off h = silent_passes d ds off h
+        duty_passes Duty.End ds off h = always off

@@ -1,21 +1,7 @@
 -- Duties that come to nothing, from one side: what stays, and the move that a lane makes.
-use Rattle.std.proofs.Common.{◌≡◌, refl, ap, ℕ, suc, ◌+◌, ◌<◌, ◌≤◌, false, List, ◌∷◌}
-use Rattle.sides.specs.declared.side.Side.{Side}
-use Rattle.sides.specs.declared.side.Side.TheVariants.{A, B}
-use Rattle.sides.specs.Side.{peer}
-use Rattle.path_agenda.specs.declared.duty.Duty.{Duty}
-use Rattle.path_agenda.specs.declared.duty.Duty.TheVariants as duties
-use Rattle.path_agenda.specs.declared.duty.AskDuty.TheVariants as ask_duties
-use Rattle.path_agenda.specs.declared.duty.SendDuty.TheVariants as send_duties
-use Rattle.path_agenda.specs.declared.duty.StepDuty.TheVariants as step_duties
-use Rattle.path_core.specs.Profile.{Profile}
-use Rattle.pace.specs.Lane.{Setting, Lane, Stage, all_left}
-use Rattle.pace.specs.Going.{Going}
-use Rattle.pace.specs.Moves.{Move, HasEmitted}
-use Rattle.pace.specs.Moves.Move.{keeps_quiet, has_emitted, has_finished}
-use Rattle.pace.proofs.Moving.{all_moves_going}
-use Rattle.clean_finish.specs.Segments.{Keys}
-use Rattle.clean_finish.specs.Running.{LaneStands, Half, Facing}
+use Rattle.clean_finish.proofs.Words.{◌≡◌, refl, ap, ℕ, ◌+◌, ◌<◌, ◌≤◌, false, List, ◌∷◌, suc, Side, A, B, peer, Duty, SendDuty, StepDuty, AskDuty, Profile}
+use Rattle.clean_finish.proofs.Words.{Setting, Lane, Stage, all_left, Going, Move, HasEmitted, keeps_quiet, has_emitted, has_finished, all_moves_going, Keys}
+use Rattle.clean_finish.proofs.Words.{Facing, Half, LaneStands}
 use Rattle.clean_finish.proofs.Dropping.{is_waited, apart, differ, is_apart, stage_drops, update_drops, emit_drops, finish_drops, settles_drop, begun_drops}
 
 -- one move more
@@ -28,19 +14,19 @@ pub still_going : (k : Setting) (begun : Lane) (t : ℕ) (p : Stage) (w : Lane) 
 still_going k begun t p w going h = all_moves_going k begun t h.count all_left begun p w h.moves going
 
 abbrev pub side_of : Duty → Side
-side_of (duties.Ask (ask_duties.Window q)) = q
-side_of (duties.Send (send_duties.Update q)) = q
-side_of (duties.Step (step_duties.Data q)) = q
-side_of (duties.Send (send_duties.DataFin q)) = q
+side_of (Duty.Ask (AskDuty.Window q)) = q
+side_of (Duty.Send (SendDuty.Update q)) = q
+side_of (Duty.Step (StepDuty.Data q)) = q
+side_of (Duty.Send (SendDuty.DataFin q)) = q
 side_of _ = A
 
-pub same_update : {p q : Side} → duties.Send (send_duties.Update p) ≡ duties.Send (send_duties.Update q) → p ≡ q
+pub same_update : {p q : Side} → Duty.Send (SendDuty.Update p) ≡ Duty.Send (SendDuty.Update q) → p ≡ q
 same_update e = ap side_of e
 
-pub same_data : {p q : Side} → duties.Step (step_duties.Data p) ≡ duties.Step (step_duties.Data q) → p ≡ q
+pub same_data : {p q : Side} → Duty.Step (StepDuty.Data p) ≡ Duty.Step (StepDuty.Data q) → p ≡ q
 same_data e = ap side_of e
 
-pub same_end : {p q : Side} → duties.Send (send_duties.DataFin p) ≡ duties.Send (send_duties.DataFin q) → p ≡ q
+pub same_end : {p q : Side} → Duty.Send (SendDuty.DataFin p) ≡ Duty.Send (SendDuty.DataFin q) → p ≡ q
 same_end e = ap side_of e
 
 pub peer_is_other : (s : Side) → peer s ≡ s → ⊥
@@ -87,7 +73,7 @@ module _ {s : Side} {keys : Keys} {k j : Setting} {c : Profile} {begun begun_bac
   }
 
   -- no update of the window is due
-  abbrev pub update_passes : (ds : List Duty) → (h : Facing s keys k j c begun begun_back m n clock until (duties.Send (send_duties.Update s) ∷ ds))
+  abbrev pub update_passes : (ds : List Duty) → (h : Facing s keys k j c begun begun_back m n clock until (Duty.Send (SendDuty.Update s) ∷ ds))
       → (1 ≤ h.back.ready → begun_back.read + j.least < h.back.told.edge + 31 + j.threshold)
       → Facing s keys k j c begun begun_back m n clock until ds
   update_passes ds h quiet = record {
@@ -111,7 +97,7 @@ module _ {s : Side} {keys : Keys} {k j : Setting} {c : Profile} {begun begun_bac
     way_back = h.way_back;
     apps = h.apps;
     apps_back = h.apps_back;
-    stages = stage_drops s (peer s) (duties.Send (send_duties.Update s)) ds n.end.treated.asked h.owes_back h.stage (record {
+    stages = stage_drops s (peer s) (Duty.Send (SendDuty.Update s)) ds n.end.treated.asked h.owes_back h.stage (record {
       window = differ refl;
       update = λ e. absurd (peer_is_other s (same_update e));
       emit = differ refl;
@@ -121,21 +107,21 @@ module _ {s : Side} {keys : Keys} {k j : Setting} {c : Profile} {begun begun_bac
       acknowledge = differ refl;
       ask = differ refl;
     }) h.stages;
-    stages_back = update_drops (peer s) s (duties.Send (send_duties.Update s)) ds m.end.treated.asked h.owes h.stage_back refl h.stages_back;
+    stages_back = update_drops (peer s) s (Duty.Send (SendDuty.Update s)) ds m.end.treated.asked h.owes h.stage_back refl h.stages_back;
     control = h.control;
     control_back = h.control_back;
     turn = h.turn;
     turn_back = h.turn_back;
-    settles = settles_drop s (duties.Send (send_duties.Update s)) ds m.end (differ refl) h.settles;
-    settles_back = settles_drop (peer s) (duties.Send (send_duties.Update s)) ds n.end (differ refl) h.settles_back;
-    begins = begun_drops s j h.out.sender h.back.receiver m.end (duties.Send (send_duties.Update s)) ds (differ refl) (λ is. differ refl) h.begins;
-    begins_back = begun_drops (peer s) k h.back.sender h.out.receiver n.end (duties.Send (send_duties.Update s)) ds (differ refl) (λ is. differ refl) h.begins_back;
+    settles = settles_drop s (Duty.Send (SendDuty.Update s)) ds m.end (differ refl) h.settles;
+    settles_back = settles_drop (peer s) (Duty.Send (SendDuty.Update s)) ds n.end (differ refl) h.settles_back;
+    begins = begun_drops s j h.out.sender h.back.receiver m.end (Duty.Send (SendDuty.Update s)) ds (differ refl) (λ is. differ refl) h.begins;
+    begins_back = begun_drops (peer s) k h.back.sender h.out.receiver n.end (Duty.Send (SendDuty.Update s)) ds (differ refl) (λ is. differ refl) h.begins_back;
     owed = h.owed;
     owed_back = h.owed_back;
   }
 
   -- nothing more is asked for
-  abbrev pub data_passes : (ds : List Duty) → (h : Facing s keys k j c begun begun_back m n clock until (duties.Step (step_duties.Data s) ∷ ds))
+  abbrev pub data_passes : (ds : List Duty) → (h : Facing s keys k j c begun begun_back m n clock until (Duty.Step (StepDuty.Data s) ∷ ds))
       → HasEmitted k begun h.out.known h.out → Facing s keys k j c begun begun_back m n clock until ds
   data_passes ds h emitted = record {
     out = h.out;
@@ -158,8 +144,8 @@ module _ {s : Side} {keys : Keys} {k j : Setting} {c : Profile} {begun begun_bac
     way_back = h.way_back;
     apps = h.apps;
     apps_back = h.apps_back;
-    stages = emit_drops s (peer s) (duties.Step (step_duties.Data s)) ds n.end.treated.asked h.owes_back h.stage refl h.stages;
-    stages_back = stage_drops (peer s) s (duties.Step (step_duties.Data s)) ds m.end.treated.asked h.owes h.stage_back (record {
+    stages = emit_drops s (peer s) (Duty.Step (StepDuty.Data s)) ds n.end.treated.asked h.owes_back h.stage refl h.stages;
+    stages_back = stage_drops (peer s) s (Duty.Step (StepDuty.Data s)) ds m.end.treated.asked h.owes h.stage_back (record {
       window = differ refl;
       update = differ refl;
       emit = λ e. absurd (peer_is_other s (same_data e));
@@ -173,16 +159,16 @@ module _ {s : Side} {keys : Keys} {k j : Setting} {c : Profile} {begun begun_bac
     control_back = h.control_back;
     turn = h.turn;
     turn_back = h.turn_back;
-    settles = settles_drop s (duties.Step (step_duties.Data s)) ds m.end (differ refl) h.settles;
-    settles_back = settles_drop (peer s) (duties.Step (step_duties.Data s)) ds n.end (differ refl) h.settles_back;
-    begins = begun_drops s j h.out.sender h.back.receiver m.end (duties.Step (step_duties.Data s)) ds (differ refl) (λ is. differ refl) h.begins;
-    begins_back = begun_drops (peer s) k h.back.sender h.out.receiver n.end (duties.Step (step_duties.Data s)) ds (differ refl) (λ is. differ refl) h.begins_back;
+    settles = settles_drop s (Duty.Step (StepDuty.Data s)) ds m.end (differ refl) h.settles;
+    settles_back = settles_drop (peer s) (Duty.Step (StepDuty.Data s)) ds n.end (differ refl) h.settles_back;
+    begins = begun_drops s j h.out.sender h.back.receiver m.end (Duty.Step (StepDuty.Data s)) ds (differ refl) (λ is. differ refl) h.begins;
+    begins_back = begun_drops (peer s) k h.back.sender h.out.receiver n.end (Duty.Step (StepDuty.Data s)) ds (differ refl) (λ is. differ refl) h.begins_back;
     owed = h.owed;
     owed_back = h.owed_back;
   }
 
   -- no DATA_FIN is due
-  abbrev pub end_passes : (ds : List Duty) → (h : Facing s keys k j c begun begun_back m n clock until (duties.Send (send_duties.DataFin s) ∷ ds))
+  abbrev pub end_passes : (ds : List Duty) → (h : Facing s keys k j c begun begun_back m n clock until (Duty.Send (SendDuty.DataFin s) ∷ ds))
       → (1 ≤ h.out.clear → h.out.known ≤ h.out.data_fin_sent) → Facing s keys k j c begun begun_back m n clock until ds
   end_passes ds h finished = record {
     out = h.out;
@@ -205,8 +191,8 @@ module _ {s : Side} {keys : Keys} {k j : Setting} {c : Profile} {begun begun_bac
     way_back = h.way_back;
     apps = h.apps;
     apps_back = h.apps_back;
-    stages = finish_drops s (peer s) (duties.Send (send_duties.DataFin s)) ds n.end.treated.asked h.owes_back h.stage refl h.stages;
-    stages_back = stage_drops (peer s) s (duties.Send (send_duties.DataFin s)) ds m.end.treated.asked h.owes h.stage_back (record {
+    stages = finish_drops s (peer s) (Duty.Send (SendDuty.DataFin s)) ds n.end.treated.asked h.owes_back h.stage refl h.stages;
+    stages_back = stage_drops (peer s) s (Duty.Send (SendDuty.DataFin s)) ds m.end.treated.asked h.owes h.stage_back (record {
       window = differ refl;
       update = differ refl;
       emit = differ refl;
@@ -220,10 +206,10 @@ module _ {s : Side} {keys : Keys} {k j : Setting} {c : Profile} {begun begun_bac
     control_back = h.control_back;
     turn = h.turn;
     turn_back = h.turn_back;
-    settles = settles_drop s (duties.Send (send_duties.DataFin s)) ds m.end (differ refl) h.settles;
-    settles_back = settles_drop (peer s) (duties.Send (send_duties.DataFin s)) ds n.end (differ refl) h.settles_back;
-    begins = begun_drops s j h.out.sender h.back.receiver m.end (duties.Send (send_duties.DataFin s)) ds (differ refl) (λ is. differ refl) h.begins;
-    begins_back = begun_drops (peer s) k h.back.sender h.out.receiver n.end (duties.Send (send_duties.DataFin s)) ds (differ refl) (λ is. differ refl) h.begins_back;
+    settles = settles_drop s (Duty.Send (SendDuty.DataFin s)) ds m.end (differ refl) h.settles;
+    settles_back = settles_drop (peer s) (Duty.Send (SendDuty.DataFin s)) ds n.end (differ refl) h.settles_back;
+    begins = begun_drops s j h.out.sender h.back.receiver m.end (Duty.Send (SendDuty.DataFin s)) ds (differ refl) (λ is. differ refl) h.begins;
+    begins_back = begun_drops (peer s) k h.back.sender h.out.receiver n.end (Duty.Send (SendDuty.DataFin s)) ds (differ refl) (λ is. differ refl) h.begins_back;
     owed = h.owed;
     owed_back = h.owed_back;
   }

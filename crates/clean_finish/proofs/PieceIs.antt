@@ -1,21 +1,13 @@
 -- The bytes of a copy, once its mapping is learned and its payload is kept: they are the next ones to be placed.
-use Rattle.std.proofs.Common.{◌≡◌, refl, sym, ap, ◌∙◌, ℕ, ◌+◌, ◌-◌, ◌^◌, ◌<◌, ◌≤◌, min, nat_lt, Bool, true, false, ◌&&◌, if◌then◌else◌, Option, Some, None, List, [], ◌∷◌, length, take, drop, find, filter, map, arith}
-use Rattle.std.proofs.lemmas.Bool.{lt-ltb, le-ltb, le-leb, eq-eqb}
-use Rattle.sides.specs.declared.side.Side.{Side}
-use Rattle.sides.specs.Side.{peer}
-use Rattle.dss_mapping.specs.declared.kept.KeptMapping.{KeptMapping}
-use Rattle.dss_mapping.specs.Mappings.{Mappings, run_of, mapping_at, after_forget}
+use Rattle.clean_finish.proofs.Words.{◌≡◌, refl, sym, ap, ◌∙◌, ℕ, ◌+◌, ◌-◌, ◌<◌, ◌≤◌, min, nat_lt, Bool, true, false, ◌&&◌, if◌then◌else◌, Option, None, List}
+use Rattle.clean_finish.proofs.Words.{[], ◌∷◌, length, map, filter, arith, Some, drop, ◌^◌, take, find, lt-ltb, le-ltb, le-leb, eq-eqb, Side, peer, KeptMapping}
+use Rattle.clean_finish.proofs.Words.{Mappings, run_of, mapping_at, after_forget, EndState, some_piece, is_nil, Profile, bare_mapping, piece_by, piece_in}
+use Rattle.clean_finish.proofs.Words.{is_right, checked_piece, Sent, kept_piece}
 use Rattle.dss_mapping.specs.Runs.{covers}
 use Rattle.dss_checksum.specs.Checksum.{dss_checksum}
 use Rattle.subflow_recv.specs.Receiving.{filled}
-use Rattle.subflow_tcp.specs.State.{EndState}
-use Rattle.actor_desk.specs.Words.{is_nil}
-use Rattle.path_store.specs.Passing.{Piece, count_in, some_piece}
-use Rattle.path_core.specs.Deliver.{piece_in, is_whole, is_right, checked_piece, piece_by}
-use Rattle.path_core.specs.DssOut.{bare_mapping}
-use Rattle.path_core.specs.Profile.{Profile}
-use Rattle.clean_finish.specs.Segments.{Sent}
-use Rattle.clean_finish.specs.Running.{kept_piece}
+use Rattle.path_store.specs.Passing.{Piece, count_in}
+use Rattle.path_core.specs.Deliver.{is_whole}
 use Rattle.clean_finish.proofs.Whole.{filled_some}
 
 pub some_nil : (octets : List ℕ) → 1 ≤ length octets → is_nil octets ≡ false

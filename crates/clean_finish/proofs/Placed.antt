@@ -1,27 +1,10 @@
 -- The bytes of a copy are placed: their lane takes them.
-use Rattle.std.proofs.Common.{◌≡◌, refl, sym, subst, ap, ◌∙◌, ℕ, ◌+◌, ◌<◌, ◌≤◌, max, true, false, inl, inr, Some, List, ◌∷◌, ◌++◌, length, map, arith}
-use Rattle.std.proofs.lemmas.Bool.{both_ways}
-use Rattle.sides.specs.declared.side.Side.{Side}
-use Rattle.sides.specs.declared.side.Side.TheVariants.{B}
-use Rattle.reassembly_book.specs.State.{Arriving, filled, received}
-use Rattle.reassembly_book.specs.Steps.{edge, after_place}
-use Rattle.path_agenda.specs.declared.duty.Duty.{Duty}
-use Rattle.path_agenda.specs.declared.duty.Duty.TheVariants as duties
-use Rattle.path_agenda.specs.declared.duty.AskDuty.TheVariants as ask_duties
-use Rattle.path_agenda.specs.declared.duty.SendDuty.TheVariants as send_duties
-use Rattle.path_agenda.specs.declared.duty.StepDuty.TheVariants as step_duties
+use Rattle.clean_finish.proofs.Words.{◌≡◌, refl, sym, subst, ap, ◌∙◌, ℕ, ◌+◌, ◌<◌, ◌≤◌, max, true, false, inl, inr, List, ◌∷◌, ◌++◌, length, map, arith, Some}
+use Rattle.clean_finish.proofs.Words.{both_ways, Side, B, Arriving, filled, received, edge, after_place, Duty, SendDuty, StepDuty, AskDuty, Profile, PathEnd}
+use Rattle.clean_finish.proofs.Words.{having_asked, after_piece, Setting, Lane, all_left, Going, Chain, IsOpen, Sent, Keys, copy_in, octets_of, CountsAs}
+use Rattle.clean_finish.proofs.Words.{data_fin_of, IsSetting, Facing, Half, Has, end_known, ReaderShows, ReceiverIs}
 use Rattle.path_store.specs.Passing.{Piece}
-use Rattle.path_core.specs.Deliver.{after_piece, having_asked}
-use Rattle.path_core.specs.End.{PathEnd}
-use Rattle.path_core.specs.Profile.{Profile}
-use Rattle.pace.specs.Lane.{Setting, Lane, all_left}
-use Rattle.pace.specs.Lists.{Chain}
-use Rattle.pace.specs.Going.{Going}
-use Rattle.clean_finish.specs.Books.{ReceiverIs}
-use Rattle.clean_finish.specs.Reading.{ReaderShows, end_known}
-use Rattle.clean_finish.specs.Segments.{Sent, Keys, copy_in, is_opening, octets_of, data_fin_of, CountsAs}
-use Rattle.clean_finish.specs.Shows.{IsOpen}
-use Rattle.clean_finish.specs.Running.{Has, Half, Facing, IsSetting}
+use Rattle.clean_finish.specs.Segments.{is_opening}
 use Rattle.clean_finish.proofs.Brought.{brought}
 use Rattle.clean_finish.proofs.BytesPlaced.{placed_is, more_filled}
 use Rattle.clean_finish.proofs.DutyMore.{duty_more}
@@ -34,15 +17,15 @@ use Rattle.clean_finish.proofs.Whole.{whole_by}
 module _ {s : Side} {keys : Keys} {k j : Setting} {c : Profile} {begun begun_back : Lane} {m n : Half} {clock until : ℕ} (ticks t u : ℕ)
     (k_is : IsSetting c ticks k) (j_is : IsSetting c ticks j)
     (going : Going k begun t all_left begun) (going_back : Going j begun_back u all_left begun_back)
-    {ds : List Duty} (g : Facing s keys k j c begun begun_back m n clock until (duties.Ask (ask_duties.Edge s) ∷ ds))
+    {ds : List Duty} (g : Facing s keys k j c begun begun_back m n clock until (Duty.Ask (AskDuty.Edge s) ∷ ds))
     (x : Sent) (hand : g.hand ≡ in_hand x true false) (kind : is_opening x.brings ≡ false) (some : 1 ≤ length (octets_of x.brings))
   where
     pub lane : Going j begun_back u g.stage_back g.back
     lane = now_back ticks t u k_is j_is going going_back g
 
     -- the duty stays
-    abbrev pub h : Facing s keys k j c begun begun_back m n clock until (duties.Ask (ask_duties.Edge s) ∷ duties.Ask (ask_duties.Edge s) ∷ ds)
-    h = duty_more (duties.Ask (ask_duties.Edge s)) (duties.Ask (ask_duties.Edge s) ∷ ds) g
+    abbrev pub h : Facing s keys k j c begun begun_back m n clock until (Duty.Ask (AskDuty.Edge s) ∷ Duty.Ask (AskDuty.Edge s) ∷ ds)
+    h = duty_more (Duty.Ask (AskDuty.Edge s)) (Duty.Ask (AskDuty.Edge s) ∷ ds) g
 
     pub chain : Chain g.back.received (copy_in x ∷ map copy_in g.way_back.sent) g.back.granted
     chain = chain_behind ticks t u k_is j_is going going_back g x false hand
@@ -124,7 +107,7 @@ module _ {s : Side} {keys : Keys} {k j : Setting} {c : Profile} {begun begun_bac
       module _ (una : 1 ≤ m.end.tcp.send.una) (is_open : IsOpen m.end.tcp.send.finished m.end.tcp.state) (clear : 1 ≤ g.out.clear) (some_sent : 1 ≤ g.out.control_sent)
           (owes : g.owes ≡ true) (came : 1 ≤ g.back.control_came) (control : x.control ≡ g.back.control_came) (keys_low : s ≡ B → max g.back.keys_came x.keys ≤ g.out.ready)
           (shown_is : max g.back.keys_came x.keys ≡ x.keys)
-          (acknowledges : Has (duties.Send (send_duties.Acknowledge s)) ds) (events : Has (duties.Step step_duties.Events) ds) (asks : Has (duties.Ask (ask_duties.AckOut s)) ds)
+          (acknowledges : Has (Duty.Send (SendDuty.Acknowledge s)) ds) (events : Has (Duty.Step StepDuty.Events) ds) (asks : Has (Duty.Ask (AskDuty.AckOut s)) ds)
         where
           pub fin_same : max g.back.data_fin_came (data_fin_of x.brings) ≡ g.back.data_fin_came
           fin_same = same none
@@ -132,7 +115,7 @@ module _ {s : Side} {keys : Keys} {k j : Setting} {c : Profile} {begun begun_bac
               same : {a b : ℕ} → b ≡ 0 → max a b ≡ a
               same is = omega (arith, is)
 
-          abbrev pub placed : Facing s keys k j c begun begun_back (record m { end = end_after; arrived = arrived_after }) n clock until (duties.Ask (ask_duties.Edge s) ∷ ds)
+          abbrev pub placed : Facing s keys k j c begun begun_back (record m { end = end_after; arrived = arrived_after }) n clock until (Duty.Ask (AskDuty.Edge s) ∷ ds)
           placed = brought h refl x false hand end_after.tcp.recv m.end.tcp.state m.end.sending end_after.receiving m.end.modes end_after.treated arrived_after
               true some_sent owes (inr acknowledges) (inr events) (inl (more x.low some)) (λ e. absurd (both_ways true e refl)) (inr (inr (inr asks, refl)))
               (all_of h refl x hand kind) (control_is h refl x hand kind control) shown_is (further m.end.tcp.recv.edge (length (octets_of x.brings)))

@@ -1,30 +1,11 @@
 -- Why a duty comes to nothing: what the lane has to know of it.
-use Rattle.std.proofs.Common.{◌≡◌, refl, sym, ap, ◌∙◌, ℕ, zero, suc, ◌+◌, ◌-◌, ◌*◌, ◌<◌, ◌≤◌, min, Bool, true, false, not, ◌&&◌, ◌||◌, is_some, ◌⊎◌, inl, inr, ⊎_elim, List, [], ◌∷◌, arith}
-use Rattle.std.proofs.lemmas.Bool.{both_ways, cases_lt, leb-false, ltb-true}
-use Rattle.sides.specs.declared.side.Side.{Side}
-use Rattle.sides.specs.declared.side.Side.TheVariants.{A, B}
-use Rattle.link_script.specs.Places.{same_side}
-use Rattle.path_segments.specs.Laws.{window_told}
-use Rattle.subflow_tcp.specs.declared.handshake.State.{State}
-use Rattle.subflow_tcp.specs.States.{may_finish}
-use Rattle.subflow_tcp.specs.Segments.{one_if}
-use Rattle.path_agenda.specs.declared.duty.Duty.{Duty}
-use Rattle.path_agenda.specs.declared.duty.Duty.TheVariants as duties
-use Rattle.path_agenda.specs.declared.duty.AskDuty.TheVariants as ask_duties
-use Rattle.path_core.specs.DataFin.{is_data_fin_due}
-use Rattle.path_core.specs.Modes.{sends_plainly}
-use Rattle.path_core.specs.Standing.{is_connected, has_grown, is_update_due}
-use Rattle.path_core.specs.Profile.{Profile}
-use Rattle.pace.specs.Lane.{Setting, Lane, all_left}
-use Rattle.pace.specs.Going.{Going}
-use Rattle.clean_finish.specs.Segments.{Keys}
-use Rattle.clean_finish.specs.Shows.{IsOpen, IsPhase, IsToldEdge}
-use Rattle.clean_finish.specs.Shows.IsPhase.{Opening, Listening, HalfOpen, Open}
-use Rattle.clean_finish.specs.Shows.IsToldEdge.{Same, Before}
-use Rattle.clean_finish.specs.Running.{Has, Half, Facing, IsSetting, is_window, any_duty}
+use Rattle.clean_finish.proofs.Words.{◌≡◌, refl, sym, ap, ◌∙◌, ℕ, ◌+◌, ◌-◌, ◌<◌, ◌≤◌, min, Bool, true, false, not, ◌&&◌, ◌||◌, ◌⊎◌, inl, inr, ⊎_elim, List, []}
+use Rattle.clean_finish.proofs.Words.{◌∷◌, arith, suc, zero, is_some, ◌*◌, both_ways, cases_lt, ltb-true, leb-false, Side, A, B, same_side, State, may_finish}
+use Rattle.clean_finish.proofs.Words.{one_if, window_told, Duty, AskDuty, Profile, is_data_fin_due, is_connected, is_update_due, has_grown, sends_plainly}
+use Rattle.clean_finish.proofs.Words.{Setting, Lane, all_left, Going, IsPhase, IsOpen, IsToldEdge, Keys, Same, Before, IsSetting, Facing, Half, Has, any_duty}
+use Rattle.clean_finish.proofs.Words.{is_window, end_known, Opening, Listening, HalfOpen, Open}
 use Rattle.clean_finish.proofs.Mapped.{sends_mappings}
 use Rattle.clean_finish.proofs.Passing.{still_going}
-use Rattle.clean_finish.specs.Reading.{end_known}
 
 -- ---- words
 
@@ -47,8 +28,8 @@ finds is d has (x ∷ ds) there = ⊎_elim
 pub none_found : (is : Duty → Bool) (d : Duty) → is d ≡ true → (ds : List Duty) → any_duty is ds ≡ false → Has d ds → ⊥
 none_found is d has ds none there = both_ways _ none (finds is d has ds there)
 
-pub no_window : (s : Side) (ds : List Duty) → any_duty (is_window s) ds ≡ false → Has (duties.Ask (ask_duties.Window s)) ds → ⊥
-no_window s ds none there = none_found (is_window s) (duties.Ask (ask_duties.Window s)) (same_self s) ds none there
+pub no_window : (s : Side) (ds : List Duty) → any_duty (is_window s) ds ≡ false → Has (Duty.Ask (AskDuty.Window s)) ds → ⊥
+no_window s ds none there = none_found (is_window s) (Duty.Ask (AskDuty.Window s)) (same_self s) ds none there
 
 pub phase_is : (s : Side) (came una : ℕ) (finished : Bool) (state : State) → IsPhase s came una finished state
     → (is_connected state ≡ false) ⊎ ((1 ≤ una) × IsOpen finished state)

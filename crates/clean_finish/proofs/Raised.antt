@@ -1,15 +1,5 @@
 -- A stage goes back to all that follows an event: bytes and a DATA_FIN may be sent, and segments may arrive.
-use Rattle.std.proofs.Common.{refl, Bool, true, inr, List}
-use Rattle.std.proofs.lemmas.Bool.{both_ways}
-use Rattle.sides.specs.declared.side.Side.{Side}
-use Rattle.path_agenda.specs.declared.duty.Duty.{Duty}
-use Rattle.path_agenda.specs.declared.duty.Duty.TheVariants as duties
-use Rattle.path_agenda.specs.declared.duty.SendDuty.TheVariants as send_duties
-use Rattle.path_agenda.specs.declared.duty.SilentDuty.TheVariants as silent_duties
-use Rattle.path_agenda.specs.declared.duty.StepDuty.TheVariants as step_duties
-use Rattle.pace.specs.Lane.{Stage}
-use Rattle.pace.specs.Moves.{IsBefore}
-use Rattle.clean_finish.specs.Running.{Has, StageIs}
+use Rattle.clean_finish.proofs.Words.{refl, Bool, true, inr, List, both_ways, Side, Duty, SendDuty, StepDuty, SilentDuty, Stage, IsBefore, Has, StageIs}
 
 abbrev pub raised : Stage → Stage
 raised p = record p { emit = true; finish = true; wait = true }
@@ -27,10 +17,10 @@ before_raised p = record {
 
 -- the duties of an emission are ahead
 pub record Emits (s : Side) (ds : List Duty) : Type 0 where
-  pub bytes : Has (duties.Step (step_duties.Data s)) ds
-  pub end : Has (duties.Send (send_duties.DataFin s)) ds
-  pub timer : Has (duties.Silent (silent_duties.Timer s)) ds
-  pub events : Has (duties.Step step_duties.Events) ds
+  pub bytes : Has (Duty.Step (StepDuty.Data s)) ds
+  pub end : Has (Duty.Send (SendDuty.DataFin s)) ds
+  pub timer : Has (Duty.Silent (SilentDuty.Timer s)) ds
+  pub events : Has (Duty.Step StepDuty.Events) ds
 
 pub stage_raised : (s r : Side) (ds : List Duty) (asked owes : Bool) (p : Stage) → Emits s ds → StageIs s r ds asked owes p
     → StageIs s r ds asked owes (raised p)

@@ -1,13 +1,9 @@
 -- The numbers of a clean script are in the ranges that `pace` assumes, and the bound has room for its rounds.
-use Rattle.std.proofs.Common.{◌≡◌, subst, ℕ, ◌+◌, ◌-◌, ◌*◌, ◌/◌, ◌≤◌, min, List, [], ◌∷◌, Some, mul-le-mul_right, arith}
+use Rattle.clean_finish.proofs.Words.{◌≡◌, subst, ℕ, ◌+◌, ◌-◌, ◌≤◌, min, List, [], ◌∷◌, arith, Some, ◌*◌, ◌/◌, mul-le-mul_right, PathLine, IsInRange, IsPath}
+use Rattle.clean_finish.proofs.Words.{ScriptLine, payload_of, segments, bound_of, enough_on, setting_of}
 use Rattle.std.proofs.lemmas.Grind.{div_ceil_times}
-use Rattle.link_script.specs.declared.script.PathLine.{PathLine}
-use Rattle.link_script.specs.declared.script.ScriptLine.{ScriptLine}
 use Rattle.link_script.specs.Ranges.{buffers}
-use Rattle.link_script.specs.Scripts.{IsInRange, IsPath}
 use Rattle.pace.specs.Laws.{HasRanges}
-use Rattle.clean_finish.specs.Bound.{payload_of, segments, bound_of, enough_on}
-use Rattle.clean_finish.specs.Laws.{setting_of}
 
 pub in_ranges : (path : PathLine) (buffer length : ℕ) → IsPath path → IsInRange buffers buffer
     → HasRanges (setting_of path buffer length)

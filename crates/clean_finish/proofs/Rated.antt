@@ -1,26 +1,9 @@
 -- The congestion window grows by what the control book answers of all paths.
-use Rattle.std.proofs.Common.{◌≡◌, refl, sym, subst, ap, ◌∙◌, ℕ, ◌+◌, ◌≤◌, false, Option, Some, None, IfSome, inl, List, ◌∷◌, arith}
+use Rattle.clean_finish.proofs.Words.{◌≡◌, refl, sym, subst, ap, ◌∙◌, ℕ, ◌+◌, ◌≤◌, false, inl, Option, None, List, ◌∷◌, arith, Some, IfSome, Side, peer}
+use Rattle.clean_finish.proofs.Words.{Control, after_rate, RegistryPath, with_row, Congestion, grown_by, after_growth, Told, Grows, same_grows, ack_grows, Duty}
+use Rattle.clean_finish.proofs.Words.{AskDuty, Profile, PathEnd, Setting, Lane, EndIs, last_told, row_seen, ControlIs, Keys, dss_from, Facing, Half}
 use Rattle.linked_increase.specs.Places.{row_of}
-use Rattle.sides.specs.declared.side.Side.{Side}
-use Rattle.sides.specs.Side.{peer}
-use Rattle.control_book.specs.declared.registry.PathState.{PathState as RegistryPath}
-use Rattle.control_book.specs.Control.{Control}
-use Rattle.control_book.specs.Registry.{with_row}
-use Rattle.control_book.specs.Steps.{after_rate}
-use Rattle.loss_recovery.specs.declared.windows.Congestion.{Congestion}
 use Rattle.loss_recovery.specs.declared.windows.Pending.{Pending}
-use Rattle.loss_recovery.specs.declared.windows.Told.{Told}
-use Rattle.loss_recovery.specs.Windows.{grown_by, after_growth}
-use Rattle.subflow_tcp.proofs.WindowGrowth.{Grows, same_grows, ack_grows}
-use Rattle.path_agenda.specs.declared.duty.Duty.{Duty}
-use Rattle.path_agenda.specs.declared.duty.Duty.TheVariants as duties
-use Rattle.path_agenda.specs.declared.duty.AskDuty.TheVariants as ask_duties
-use Rattle.path_core.specs.End.{PathEnd}
-use Rattle.path_core.specs.Profile.{Profile}
-use Rattle.pace.specs.Lane.{Setting, Lane}
-use Rattle.clean_finish.specs.Segments.{Keys, dss_from}
-use Rattle.clean_finish.specs.Shows.{EndIs, ControlIs, last_told, row_seen}
-use Rattle.clean_finish.specs.Running.{Half, Facing}
 use Rattle.clean_finish.proofs.Passing.{free_drops}
 
 pub rated_on : (s : Side) (keys : Keys) (path window rtt : ℕ) (c : Control) → path ≡ 0 → ControlIs s keys c → ControlIs s keys (after_rate path window rtt c)
@@ -48,10 +31,10 @@ is_grown growth None c within calm = record { grows = same_grows c.reno within c
 is_grown growth (Some p) c within calm = record { grows = ack_grows p.acked growth c.reno within calm; duplicates = refl; told = refl }
 
 module _ {s : Side} {keys : Keys} {k j : Setting} {c : Profile} {begun begun_back : Lane} {m n : Half} {clock until : ℕ} {ds : List Duty}
-    (g : Facing s keys k j c begun begun_back m n clock until (duties.Ask (ask_duties.Rate s) ∷ ds)) (growth : ℕ)
+    (g : Facing s keys k j c begun begun_back m n clock until (Duty.Ask (AskDuty.Rate s) ∷ ds)) (growth : ℕ)
   where
     abbrev pub h : Facing s keys k j c begun begun_back m n clock until ds
-    h = free_drops (duties.Ask (ask_duties.Rate s)) ds refl g
+    h = free_drops (Duty.Ask (AskDuty.Rate s)) ds refl g
 
     abbrev pub end_after : PathEnd
     end_after = record m.end { tcp = record m.end.tcp { congestion = after_growth growth m.end.tcp.congestion } }
@@ -96,10 +79,7 @@ module _ {s : Side} {keys : Keys} {k j : Setting} {c : Profile} {begun begun_bac
             steady = grows.grows.calm;
             row = subst (λ (x : ℕ). x ≤ row_seen h.out.sender h.hand) (sym grows.duplicates) h.own.subflow.congestion.row;
           };
-          come = record {
-            edge = h.own.subflow.come.edge;
-            window = h.own.subflow.come.window;
-          };
+          come = record { edge = h.own.subflow.come.edge; window = h.own.subflow.come.window };
           heard = record {
             told = subst (λ (t : Told). IfSome t.place
                 (λ n. ((last_told h.out.heard h.hand).next ≡ n) × ((last_told h.out.heard h.hand).edge ≡ n + t.window) × (1 ≤ (last_told h.out.heard h.hand).seen)

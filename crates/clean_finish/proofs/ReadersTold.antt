@@ -1,19 +1,9 @@
 -- An application was told the end of its stream exactly by its own steps, and of no abort, where its book was never aborted.
-use Rattle.std.proofs.Common.{◌≡◌, refl, sym, subst, ap, ◌∙◌, ℕ, Bool, true, false, ◌||◌, if◌then◌else◌, Option, None, List, [], ◌∷◌, ◌++◌, take}
-use Rattle.std.proofs.lemmas.Bool.{or_from}
-use Rattle.reassembly_book.specs.declared.call.ReassemblyReply.TheVariants.{NoneYet}
-use Rattle.reassembly_book.specs.declared.call.ReassemblyReply.TheVariants.{End as TheEnd}
-use Rattle.reassembly_book.specs.State.{Arriving, filled}
-use Rattle.reassembly_book.specs.Steps.{is_end, bytes_reply, reading}
+use Rattle.clean_finish.proofs.Words.{◌≡◌, refl, sym, subst, ap, ◌∙◌, ℕ, Bool, true, false, ◌||◌, if◌then◌else◌, Option, None, List, [], ◌∷◌, ◌++◌, take}
+use Rattle.clean_finish.proofs.Words.{or_from, Arriving, filled, is_end, bytes_reply, reading, NoneYet, TheEnd, Reply, SixBooks, reply_of, reassembly_of}
+use Rattle.clean_finish.proofs.Words.{AppDuty, Read, FastClose, AppState, app_ask, app_answered, app_answers, app_settles_down, app_takes, app_next_round}
+use Rattle.clean_finish.proofs.Words.{fresh_turn, start_of_app, ends_in, tells_abort, tells_end, was_told, note_tells}
 use Rattle.actor_desk.specs.declared.ask.Note.{Note}
-use Rattle.actor_desk.specs.declared.ask.Reply.{Reply}
-use Rattle.actor_desk.specs.declared.ask.Reply.TheVariants as replies
-use Rattle.actor_desk.specs.Desk.{SixBooks, reassembly_of, reply_of}
-use Rattle.stream_apps.specs.declared.duty.AppDuty.{AppDuty}
-use Rattle.stream_apps.specs.declared.duty.AppDuty.TheVariants.{FastClose, AbortSend, AbortReceive, Write, Close, Read, End}
-use Rattle.stream_apps.specs.Apps.{AppState}
-use Rattle.stream_apps.specs.AppSteps.{app_ask, app_answered, app_answers, app_settles_down, app_takes, app_next_round, fresh_turn, start_of_app, ends_in}
-use Rattle.world_laws.specs.Outcomes.{note_tells, tells_end, tells_abort, was_told}
 use Rattle.world_laws.proofs.Lanes.Applying.{any_more, settled_app}
 
 pub record TellsAs (a : AppState) (notes : List Note) : Type 0 where
@@ -38,26 +28,20 @@ record IsRead (r : Reply) : Type 0 where
   ends : ends_in r ≡ tells_end r
   no_abort : tells_abort r ≡ false
 
-read_is : (b : Arriving) (bytes : List ℕ) → IsRead (replies.Reassembly (bytes_reply bytes b))
+read_is : (b : Arriving) (bytes : List ℕ) → IsRead (Reply.Reassembly (bytes_reply bytes b))
 read_is b [] = by (is_end b.known_end b.read)
   where
-    by : (over : Bool) → IsRead (replies.Reassembly (if over then TheEnd else NoneYet))
+    by : (over : Bool) → IsRead (Reply.Reassembly (if over then TheEnd else NoneYet))
     by true = record { ends = refl; no_abort = refl }
     by false = record { ends = refl; no_abort = refl }
 read_is b (x ∷ bytes) = record { ends = refl; no_abort = refl }
 
-reads : (b : Arriving) → b.aborted ≡ None → IsRead (replies.Reassembly (reading b.aborted 65536 b))
+reads : (b : Arriving) → b.aborted ≡ None → IsRead (Reply.Reassembly (reading b.aborted 65536 b))
 reads b none =
-    subst (λ (o : Option Bool). IsRead (replies.Reassembly (reading o 65536 b))) (sym none) (read_is b (take 65536 (filled b.places)))
+    subst (λ (o : Option Bool). IsRead (Reply.Reassembly (reading o 65536 b))) (sym none) (read_is b (take 65536 (filled b.places)))
 
 module _ (six : SixBooks) (a : AppState) (notes : List Note) (n : Note) (none : (reassembly_of a.side six).aborted ≡ None) (h : TellsAs a notes) where
   duty_tells : (d : AppDuty) → n.reply ≡ reply_of six (app_ask d a) → TellsAs (app_answered d (reply_of six (app_ask d a)) a) (notes ++ n ∷ [])
-  duty_tells FastClose is = quiet a _ notes n refl (ap tells_end is) (ap tells_abort is) h
-  duty_tells AbortSend is = quiet a _ notes n refl (ap tells_end is) (ap tells_abort is) h
-  duty_tells AbortReceive is = quiet a _ notes n refl (ap tells_end is) (ap tells_abort is) h
-  duty_tells Write is = quiet a _ notes n refl (ap tells_end is) (ap tells_abort is) h
-  duty_tells Close is = quiet a _ notes n refl (ap tells_end is) (ap tells_abort is) h
-  duty_tells End is = quiet a _ notes n refl (ap tells_end is) (ap tells_abort is) h
   duty_tells Read is =
       let r = reply_of six (app_ask Read a) in
       let read = reads (reassembly_of a.side six) none in
@@ -67,6 +51,7 @@ module _ (six : SixBooks) (a : AppState) (notes : List Note) (n : Note) (none : 
         unaborted = any_more (note_tells tells_abort) notes n
             ∙ or_from (was_told tells_abort notes) (tells_abort n.reply) h.unaborted (ap tells_abort is ∙ read.no_abort);
       }
+  duty_tells _ is = quiet a _ notes n refl (ap tells_end is) (ap tells_abort is) h
 
   -- a step of the application
   pub step_tells : (d : AppDuty) (ds : List AppDuty) → a.agenda ≡ d ∷ ds → n.reply ≡ reply_of six (app_ask d a)

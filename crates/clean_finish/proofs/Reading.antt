@@ -1,22 +1,9 @@
 -- An application that reads is moves of the lane that comes to it.
-use Rattle.std.proofs.Common.{◌≡◌, refl, sym, subst, ap, ◌∙◌, ℕ, zero, suc, ◌+◌, ◌≤◌, min, Bool, true, false, not, nat_lt, if◌then◌else◌, ◌⊎◌, inl, inr, ⊎_elim, List, [], ◌∷◌, length, take, drop, Option, None, Some, length-take, le_refl, arith}
-use Rattle.std.proofs.lemmas.Bool.{both_ways, cases_lt, ltb-false, eqb-true, eqb-false}
-use Rattle.subflow_tcp.specs.Segments.{one_if}
-use Rattle.reassembly_book.specs.declared.call.ReassemblyReply.TheVariants.{NoneYet}
-use Rattle.reassembly_book.specs.declared.call.ReassemblyReply.TheVariants.{End as TheEnd}
-use Rattle.reassembly_book.specs.State.{Arriving, received, filled}
-use Rattle.reassembly_book.specs.Steps.{is_end, bytes_reply, read_reply, after_read, after_reading}
-use Rattle.actor_desk.specs.declared.ask.Reply.TheVariants as replies
-use Rattle.stream_apps.specs.declared.duty.AppDuty.{AppDuty}
-use Rattle.stream_apps.specs.declared.duty.AppDuty.TheVariants.{Read, End}
-use Rattle.stream_apps.specs.Apps.{AppState}
-use Rattle.stream_apps.specs.AppSteps.{app_takes, app_settled, app_next_round}
-use Rattle.pace.specs.Lane.{Setting, Lane, Stage}
-use Rattle.pace.specs.Rules.{has_read}
-use Rattle.pace.specs.Going.{Going}
-use Rattle.pace.specs.Moves.{MayEndReading}
-use Rattle.pace.specs.Moves.Move.{reads, ends_reading}
-use Rattle.clean_finish.specs.Reading.{is_reading, end_known, ReaderIs, ReaderShows, ReaderGoes}
+use Rattle.clean_finish.proofs.Words.{◌≡◌, refl, sym, subst, ap, ◌∙◌, ℕ, ◌+◌, ◌≤◌, min, nat_lt, Bool, true, false, not, if◌then◌else◌, ◌⊎◌, inl, inr, ⊎_elim}
+use Rattle.clean_finish.proofs.Words.{Option, None, List, [], ◌∷◌, length, arith, Some, suc, le_refl, zero, drop, take, length-take, both_ways, cases_lt}
+use Rattle.clean_finish.proofs.Words.{ltb-false, eqb-true, eqb-false, Arriving, filled, received, after_read, after_reading, is_end, read_reply, bytes_reply}
+use Rattle.clean_finish.proofs.Words.{NoneYet, TheEnd, one_if, Reply, AppDuty, Read, End, AppState, app_takes, app_next_round, app_settled, Setting, Lane}
+use Rattle.clean_finish.proofs.Words.{Stage, Going, MayEndReading, ends_reading, reads, has_read, is_reading, end_known, ReaderIs, ReaderShows, ReaderGoes}
 
 filled_left : (n : ℕ) (places : List (Option ℕ)) → n ≤ length (filled places)
     → n + length (filled (drop n places)) ≡ length (filled places)
@@ -26,9 +13,6 @@ filled_left (suc n) (None ∷ places) within = absurd (omega (arith, within))
 filled_left (suc n) (Some byte ∷ places) within = omega (arith, filled_left n places (omega (arith, within)))
 
 module _ (k : Setting) (s : Lane) (t : ℕ) (p : Stage) (w : Lane) where
-  abbrev with_reader : ℕ → Lane
-  with_reader n = has_read n w
-
   -- the turn isn't over
   reads_on : (n : ℕ) (a : AppState) (b : Arriving)
       → ReaderIs k (w.read + n) w.data_fin_came (w.got + n) w.told_end a b → w.received ≡ received b
@@ -103,7 +87,7 @@ module _ (k : Setting) (s : Lane) (t : ℕ) (p : Stage) (w : Lane) where
 
     -- nothing is there to be read
     nothing : 0 ≡ n → (e : Bool) → e ≡ is_end b.known_end b.read
-        → ReaderGoes k s p w (app_takes (replies.Reassembly (if e then TheEnd else NoneYet))
+        → ReaderGoes k s p w (app_takes (Reply.Reassembly (if e then TheEnd else NoneYet))
         (record a { told = false; agenda = Read ∷ End ∷ [] }))
         (after_reading max b)
     nothing zero' true e =
@@ -131,11 +115,7 @@ module _ (k : Setting) (s : Lane) (t : ℕ) (p : Stage) (w : Lane) where
     -- bytes came: it reads on as long as it got less than a buffer
     bytes : (y : ℕ) (ys : List ℕ) → length (y ∷ ys) ≡ n → (less : Bool) → nat_lt (a.count + length (y ∷ ys)) a.buffer ≡ less
         → ReaderGoes k s p w (app_settled (if less then Read ∷ End ∷ [] else End ∷ [])
-        (record a {
-          told = false;
-          count = a.count + length (y ∷ ys);
-          agenda = (if less then Read ∷ End ∷ [] else End ∷ []);
-        }))
+        (record a { told = false; count = a.count + length (y ∷ ys); agenda = (if less then Read ∷ End ∷ [] else End ∷ []) }))
         (after_reading max b)
     bytes y ys size true e =
         reads_on n _ _ (numbers _ w.told_end false (Read ∷ End ∷ []) size none_told
@@ -150,12 +130,12 @@ module _ (k : Setting) (s : Lane) (t : ℕ) (p : Stage) (w : Lane) where
         })
 
     taken : (xs : List ℕ) → length xs ≡ n
-        → ReaderGoes k s p w (app_takes (replies.Reassembly (bytes_reply xs b))
+        → ReaderGoes k s p w (app_takes (Reply.Reassembly (bytes_reply xs b))
         (record a { told = false; agenda = Read ∷ End ∷ [] })) (after_reading max b)
     taken [] size = nothing size (is_end b.known_end b.read) refl
     taken (y ∷ ys) size = bytes y ys size (nat_lt (a.count + length (y ∷ ys)) a.buffer) refl
 
-    all_taken : ReaderGoes k s p w (app_takes (replies.Reassembly (bytes_reply (take max (filled b.places)) b))
+    all_taken : ReaderGoes k s p w (app_takes (Reply.Reassembly (bytes_reply (take max (filled b.places)) b))
         (record a { told = false; agenda = Read ∷ End ∷ [] }))
         (after_reading max b)
     all_taken = taken (take max (filled b.places)) (length-take max (filled b.places))
@@ -163,7 +143,7 @@ module _ (k : Setting) (s : Lane) (t : ℕ) (p : Stage) (w : Lane) where
   pub read_step : (a : AppState) (b : Arriving) → Going k s t p w → ReaderShows k w a b
       → a.agenda ≡ Read ∷ End ∷ [] → a.told ≡ false
       → (most : ℕ) → 1 ≤ most
-      → ReaderGoes k s p w (app_takes (replies.Reassembly (read_reply most b)) a) (after_read most b)
+      → ReaderGoes k s p w (app_takes (Reply.Reassembly (read_reply most b)) a) (after_read most b)
   read_step a b h shows at untold most some =
       subst (λ (ds : List AppDuty). Goes ds a.told b.aborted) (sym at)
       (subst (λ (t' : Bool). Goes (Read ∷ End ∷ []) t' b.aborted) (sym untold)
@@ -172,7 +152,7 @@ module _ (k : Setting) (s : Lane) (t : ℕ) (p : Stage) (w : Lane) where
     where
       Goes : List AppDuty → Bool → Option Bool → Type 0
       Goes ds t' ab =
-          ReaderGoes k s p w (app_takes (replies.Reassembly (read_reply most (record b { aborted = ab })))
+          ReaderGoes k s p w (app_takes (Reply.Reassembly (read_reply most (record b { aborted = ab })))
           (record a { told = t'; agenda = ds }))
           (after_read most (record b { aborted = ab }))
 

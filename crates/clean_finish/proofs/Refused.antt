@@ -1,32 +1,11 @@
 -- A refusal of a grant: nothing more is asked for.
-use Rattle.std.proofs.Common.{◌≡◌, refl, sym, ap, ◌∙◌, ℕ, ◌+◌, ◌≤◌, Bool, true, false, not, ◌&&◌, if◌then◌else◌, inl, inr, Option, Some, None, List, ◌∷◌, length, arith}
-use Rattle.std.proofs.lemmas.Bool.{both_ways}
-use Rattle.std.proofs.lemmas.List.Elements.{All-weaker}
-use Rattle.subflow_tcp.specs.Segments.{one_if}
-use Rattle.sides.specs.declared.side.Side.{Side}
-use Rattle.sides.specs.Side.{peer}
-use Rattle.subflow_send.specs.Records.{Record}
-use Rattle.send_book.specs.declared.call.Why.{Why}
+use Rattle.clean_finish.proofs.Words.{◌≡◌, refl, sym, ap, ◌∙◌, ℕ, ◌+◌, ◌≤◌, Bool, true, false, not, ◌&&◌, if◌then◌else◌, inl, inr, Option, None, List, ◌∷◌}
+use Rattle.clean_finish.proofs.Words.{length, arith, Some, both_ways, All-weaker, Side, peer, Why, Record, one_if, Duty, SendDuty, StepDuty, Profile, PathEnd}
+use Rattle.clean_finish.proofs.Words.{is_shut, after_refusal, told_last, Setting, Lane, Stage, MayRefuse, IsBefore, is_refused, goes_back, refused_by, EndIs}
+use Rattle.clean_finish.proofs.Words.{IsGranted, Waits, WaitsSyn, WaitsNone, WaitsBytes, Keys, Facing, Half, Has, StageIs, end_known}
 use Rattle.send_book.specs.Steps.{end_of}
-use Rattle.path_agenda.specs.declared.duty.Duty.{Duty}
-use Rattle.path_agenda.specs.declared.duty.Duty.TheVariants as duties
-use Rattle.path_agenda.specs.declared.duty.SendDuty.TheVariants as send_duties
-use Rattle.path_agenda.specs.declared.duty.StepDuty.TheVariants as step_duties
-use Rattle.path_core.specs.End.{PathEnd}
-use Rattle.path_core.specs.Profile.{Profile}
-use Rattle.path_core.specs.DataFin.{after_refusal, is_shut}
-use Rattle.path_core.specs.Choices.{told_last}
-use Rattle.pace.specs.Lane.{Setting, Lane, Stage}
-use Rattle.pace.specs.Rules.{refused_by}
-use Rattle.pace.specs.Moves.{MayRefuse, IsBefore}
-use Rattle.pace.specs.Moves.Move.{goes_back, is_refused}
-use Rattle.clean_finish.specs.Segments.{Keys}
-use Rattle.clean_finish.specs.Shows.{EndIs, IsGranted, Waits}
-use Rattle.clean_finish.specs.Shows.Waits.{WaitsSyn, WaitsNone, WaitsBytes}
-use Rattle.clean_finish.specs.Running.{Has, StageIs, Half, Facing}
 use Rattle.clean_finish.proofs.Dropping.{differ, IsApart, stage_drops, emit_drops, settles_drop, begun_drops}
 use Rattle.clean_finish.proofs.Passing.{stands_then, peer_is_other, same_data}
-use Rattle.clean_finish.specs.Reading.{end_known}
 
 pub before_finishing : (p : Stage) → IsBefore (record p { finish = true }) p
 before_finishing p = record {
@@ -39,7 +18,7 @@ before_finishing p = record {
   wait = λ e. e;
 }
 
-stage_finishes : (s r : Side) (ds : List Duty) (asked owes : Bool) (p : Stage) → Has (duties.Send (send_duties.DataFin s)) ds
+stage_finishes : (s r : Side) (ds : List Duty) (asked owes : Bool) (p : Stage) → Has (Duty.Send (SendDuty.DataFin s)) ds
     → StageIs s r ds asked owes p → StageIs s r ds asked owes (record p { finish = true })
 stage_finishes s r ds asked owes p there is = record {
   window = is.window;
@@ -52,7 +31,7 @@ stage_finishes s r ds asked owes p there is = record {
 }
 
 module _ {s : Side} {keys : Keys} {k j : Setting} {c : Profile} {begun begun_back : Lane} {m n : Half} {clock until : ℕ} {ds : List Duty}
-    (h : Facing s keys k j c begun begun_back m n clock until (duties.Step (step_duties.Data s) ∷ ds))
+    (h : Facing s keys k j c begun begun_back m n clock until (Duty.Step (StepDuty.Data s) ∷ ds))
   where
     abbrev pub finishing : Stage
     finishing = record h.stage { finish = true }
@@ -68,7 +47,7 @@ module _ {s : Side} {keys : Keys} {k j : Setting} {c : Profile} {begun begun_bac
       out_after = refused_by shut h.out.closed h.out
 
       module _ (nothing_waits : h.waiting ≡ 0) (some_sent : 1 ≤ h.out.control_sent) (more : h.out.known ≤ h.out.closed)
-          (may : MayRefuse k begun finishing shut h.out.closed h.out) (there : Has (duties.Send (send_duties.DataFin s)) ds)
+          (may : MayRefuse k begun finishing shut h.out.closed h.out) (there : Has (Duty.Send (SendDuty.DataFin s)) ds)
         where
           pub not_both : {x : ℕ} → x ≡ 0 → 1 ≤ x → ⊥
           not_both p q = absurd (omega (arith, p, q))
@@ -131,10 +110,7 @@ module _ {s : Side} {keys : Keys} {k j : Setting} {c : Profile} {begun begun_bac
                 steady = h.own.subflow.congestion.steady;
                 row = h.own.subflow.congestion.row;
               };
-              come = record {
-                edge = h.own.subflow.come.edge;
-                window = h.own.subflow.come.window;
-              };
+              come = record { edge = h.own.subflow.come.edge; window = h.own.subflow.come.window };
               heard = record {
                 told = h.own.subflow.heard.told;
                 most = h.own.subflow.heard.most;
@@ -200,7 +176,7 @@ module _ {s : Side} {keys : Keys} {k j : Setting} {c : Profile} {begun begun_bac
               waits_on (WaitsNone some) = WaitsNone some
               waits_on (WaitsBytes one r kind pos unsent some most edge) = WaitsBytes one r kind pos unsent some most edge
 
-          pub others : IsApart (peer s) s (duties.Step (step_duties.Data s))
+          pub others : IsApart (peer s) s (Duty.Step (StepDuty.Data s))
           others = record {
             window = differ refl;
             update = differ refl;
@@ -214,7 +190,7 @@ module _ {s : Side} {keys : Keys} {k j : Setting} {c : Profile} {begun begun_bac
 
           pub stage_after : StageIs s (peer s) ds n.end.treated.asked h.owes_back (record finishing { emit = false })
           stage_after = stage_finishes s (peer s) ds n.end.treated.asked h.owes_back (record h.stage { emit = false }) there
-              (emit_drops s (peer s) (duties.Step (step_duties.Data s)) ds n.end.treated.asked h.owes_back h.stage refl h.stages)
+              (emit_drops s (peer s) (Duty.Step (StepDuty.Data s)) ds n.end.treated.asked h.owes_back h.stage refl h.stages)
 
           abbrev pub refused_on : Facing s keys k j c begun begun_back (record m { end = end_after }) n clock until ds
           refused_on = record {
@@ -260,42 +236,30 @@ module _ {s : Side} {keys : Keys} {k j : Setting} {c : Profile} {begun begun_bac
               passed = h.way_back.passed;
             };
             apps = record {
-              writes = record {
-                numbers = h.apps.writes.numbers;
-                over = h.apps.writes.over;
-              };
-              reads = record {
-                numbers = h.apps.reads.numbers;
-                received = h.apps.reads.received;
-                over = h.apps.reads.over;
-              };
+              writes = record { numbers = h.apps.writes.numbers; over = h.apps.writes.over };
+              reads = record { numbers = h.apps.reads.numbers; received = h.apps.reads.received; over = h.apps.reads.over };
               receives = record {
                 read = h.apps.receives.read;
                 received = h.apps.receives.received;
                 known = h.apps.receives.known;
                 capacity = h.apps.receives.capacity;
               };
-              book = record {
-                edge = h.apps.book.edge;
-                owner = h.apps.book.owner;
-                marks = h.apps.book.marks;
-                taken = h.apps.book.taken;
-              };
+              book = record { edge = h.apps.book.edge; owner = h.apps.book.owner; marks = h.apps.book.marks; taken = h.apps.book.taken };
               room = h.apps.room;
               whole = h.apps.whole;
               fin = h.apps.fin;
             };
             apps_back = h.apps_back;
             stages = stage_after;
-            stages_back = stage_drops (peer s) s (duties.Step (step_duties.Data s)) ds m.end.treated.asked h.owes h.stage_back others h.stages_back;
+            stages_back = stage_drops (peer s) s (Duty.Step (StepDuty.Data s)) ds m.end.treated.asked h.owes h.stage_back others h.stages_back;
             control = h.control;
             control_back = h.control_back;
             turn = h.turn;
             turn_back = h.turn_back;
-            settles = settles_drop s (duties.Step (step_duties.Data s)) ds end_after (differ refl) h.settles;
-            settles_back = settles_drop (peer s) (duties.Step (step_duties.Data s)) ds n.end (differ refl) h.settles_back;
+            settles = settles_drop s (Duty.Step (StepDuty.Data s)) ds end_after (differ refl) h.settles;
+            settles_back = settles_drop (peer s) (Duty.Step (StepDuty.Data s)) ds n.end (differ refl) h.settles_back;
             begins = inl some_sent;
-            begins_back = begun_drops (peer s) k h.back.sender h.out.receiver n.end (duties.Step (step_duties.Data s)) ds (differ refl) (λ is. differ refl) h.begins_back;
+            begins_back = begun_drops (peer s) k h.back.sender h.out.receiver n.end (Duty.Step (StepDuty.Data s)) ds (differ refl) (λ is. differ refl) h.begins_back;
             owed = h.owed;
             owed_back = h.owed_back;
           }

@@ -1,17 +1,7 @@
 -- Where each turn is over, both lanes have gone through a whole round.
-use Rattle.std.proofs.Common.{◌≡◌, subst, ap, ◌∙◌, Bool, false, not, ◌⊎◌, ⊎_elim, List, []}
-use Rattle.sides.specs.declared.side.Side.{Side}
-use Rattle.sides.specs.declared.side.Side.TheVariants.{A, B}
-use Rattle.stream_apps.specs.declared.duty.AppDuty.{AppDuty}
-use Rattle.path_agenda.specs.declared.duty.Duty.{Duty}
-use Rattle.path_core.specs.Values.{Carried}
-use Rattle.world_laws.specs.Openings.{PathPlan, Start}
-use Rattle.world_laws.proofs.Worlds.Casts.{Cast}
-use Rattle.pace.specs.Lane.{Setting, Lane, Stage, all_left, none_left}
-use Rattle.pace.specs.Rounds.{Moves, Round}
-use Rattle.clean_finish.specs.Reading.{is_reading}
-use Rattle.clean_finish.specs.Writing.{is_writing}
-use Rattle.clean_finish.specs.Running.{StageIs, Running}
+use Rattle.clean_finish.proofs.Words.{◌≡◌, subst, ap, ◌∙◌, Bool, false, not, ◌⊎◌, ⊎_elim, List, [], Side, A, B, Duty, AppDuty, Carried, Setting, Lane, Stage}
+use Rattle.clean_finish.proofs.Words.{all_left, Moves, Round, PathPlan, Start, Cast, StageIs, Running, is_writing, is_reading}
+use Rattle.pace.specs.Lane.{none_left}
 
 done : {X : Type 0} {b : Bool} → (X → ⊥) → (b ≡ false) ⊎ X → b ≡ false
 done none h = ⊎_elim (λ e. e) (λ x. absurd (none x)) h

@@ -1,19 +1,7 @@
 -- The end that sends an acknowledgement, whatever that shows beside.
-use Rattle.std.proofs.Common.{◌≡◌, refl, sym, subst, ap, ◌∙◌, ℕ, ◌+◌, ◌≤◌, min, max, Bool, false, Option, List, length, arith}
-use Rattle.std.proofs.lemmas.List.Elements.{All-weaker}
-use Rattle.sides.specs.declared.side.Side.{Side}
-use Rattle.sides.specs.declared.side.Side.TheVariants.{A}
-use Rattle.subflow_tcp.specs.declared.dues.Due.{Due}
-use Rattle.subflow_tcp.specs.declared.segments.Occasion.TheVariants as to_send
-use Rattle.path_agenda.specs.declared.duty.Duty.{Duty}
-use Rattle.path_core.specs.End.{PathEnd}
-use Rattle.path_core.specs.Handover.{having_sent}
-use Rattle.path_core.specs.Profile.{Profile}
-use Rattle.actor_desk.specs.Words.{pick}
-use Rattle.pace.specs.Lane.{Setting, Lane}
-use Rattle.clean_finish.specs.Segments.{Sent, Keys, said, data_fin_of, octets_of}
-use Rattle.clean_finish.specs.Shows.{Hand, EndIs, HeardIs, IsGranted, IsToldEdge, last_told, row_seen, brings_still}
-use Rattle.clean_finish.specs.Running.{Half, Facing}
+use Rattle.clean_finish.proofs.Words.{◌≡◌, refl, sym, subst, ap, ◌∙◌, ℕ, ◌+◌, ◌≤◌, min, max, Bool, false, Option, List, length, arith, All-weaker, Side, A, Due}
+use Rattle.clean_finish.proofs.Words.{Occasion, Duty, pick, Profile, PathEnd, having_sent, Setting, Lane, Hand, EndIs, HeardIs, IsGranted, last_told, row_seen}
+use Rattle.clean_finish.proofs.Words.{brings_still, IsToldEdge, Sent, Keys, octets_of, said, data_fin_of, Facing, Half}
 use Rattle.clean_finish.proofs.AckNew.{records_same}
 use Rattle.clean_finish.proofs.Sendings.{out_after as sent_after, back_after as said_after}
 use Rattle.clean_finish.proofs.Spans.{spans_for}
@@ -28,7 +16,7 @@ module _ {s : Side} {keys : Keys} {k j : Setting} {c : Profile} {begun begun_bac
     back_after = said_after h x shut
 
     abbrev pub end_after : PathEnd
-    end_after = having_sent to_send.Ack clock (said c keys s x) m.end
+    end_after = having_sent Occasion.Ack clock (said c keys s x) m.end
 
     -- it has no bytes and no DATA_FIN
     module _ (hand : Option Hand) (still : brings_still h.hand ≡ false) (nothing_waits : h.waiting ≡ 0) (some : 1 ≤ h.out.control_sent) (same_shut : shut ≡ h.out.shut)
@@ -76,13 +64,7 @@ module _ {s : Side} {keys : Keys} {k j : Setting} {c : Profile} {begun begun_bac
               row = row;
             };
             come = record { edge = h.own.subflow.come.edge; window = h.own.subflow.come.window };
-            heard = record {
-              told = heard.told;
-              most = heard.most;
-              end = heard.end;
-              few = heard.few;
-              some = heard.some;
-            };
+            heard = record { told = heard.told; most = heard.most; end = heard.end; few = heard.few; some = heard.some };
             quiet = h.own.subflow.quiet;
             begun = λ is. subst (λ (n : ℕ). min 1 n ≤ h.back.control_came) (sym control) (h.own.subflow.begun is);
             keyed = λ is one b. h.own.subflow.keyed is one still;

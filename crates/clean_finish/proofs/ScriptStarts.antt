@@ -1,17 +1,11 @@
 -- The numbers with which a connection by a clean script begins.
-use Rattle.std.proofs.Common.{◌≡◌, refl, ap, ◌∙◌, ℕ, ◌+◌, ◌-◌, ◌*◌, ◌/◌, ◌≤◌, min, Bool, true, false, nat_le, if◌then◌else◌, List, [], ◌∷◌, Some, length, arith}
-use Rattle.std.proofs.lemmas.Bool.{leb-false}
-use Rattle.std.proofs.lemmas.List.Elements.{All-head}
-use Rattle.link_script.specs.declared.script.PathLine.{PathLine}
+use Rattle.clean_finish.proofs.Words.{◌≡◌, refl, ap, ◌∙◌, ℕ, ◌+◌, ◌-◌, ◌≤◌, min, Bool, true, false, if◌then◌else◌, List, [], ◌∷◌, length, arith, Some, nat_le}
+use Rattle.clean_finish.proofs.Words.{◌*◌, ◌/◌, leb-false, All-head, PathLine, IsPath, ScriptLine, PathPlan, Start, path_begins, start_of, plan_of, IsSetting}
+use Rattle.clean_finish.proofs.Words.{enough_on, setting_of}
 use Rattle.link_script.specs.declared.script.Script.{Script}
-use Rattle.link_script.specs.declared.script.ScriptLine.{ScriptLine}
-use Rattle.link_script.specs.Scripts.{HasRanges, IsPath}
+use Rattle.link_script.specs.Scripts.{HasRanges}
 use Rattle.reno_window.specs.Rules.{initial_window}
-use Rattle.world_laws.specs.Openings.{PathPlan, Start, path_begins, plan_of, start_of}
 use Rattle.world_laws.specs.PlainScripts.{IsShortScript}
-use Rattle.clean_finish.specs.Bound.{enough_on}
-use Rattle.clean_finish.specs.Laws.{setting_of}
-use Rattle.clean_finish.specs.Running.{IsSetting}
 use Rattle.clean_finish.proofs.Ranges.{in_ranges}
 
 -- where a bound is told there is one path, and no line

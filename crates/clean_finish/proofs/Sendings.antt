@@ -1,21 +1,8 @@
 -- An end sends a segment: both lanes and the link, whatever it brings.
-use Rattle.std.proofs.Common.{◌≡◌, refl, sym, subst, ℕ, ◌+◌, ◌≤◌, Bool, true, false, ◌⊎◌, inl, Option, List, [], ◌∷◌, ◌++◌, arith}
-use Rattle.sides.specs.declared.side.Side.{Side}
-use Rattle.sides.specs.Side.{peer}
-use Rattle.link_model.specs.declared.flight.Flight.{Flight}
-use Rattle.path_agenda.specs.declared.duty.Duty.{Duty}
-use Rattle.path_agenda.specs.declared.duty.Duty.TheVariants as duties
-use Rattle.path_agenda.specs.declared.duty.StepDuty.TheVariants as step_duties
-use Rattle.path_core.specs.End.{PathEnd}
-use Rattle.path_core.specs.Profile.{Profile}
-use Rattle.path_core.specs.Values.{Carried}
-use Rattle.pace.specs.Lane.{Setting, Lane}
-use Rattle.pace.specs.Rules.{sends, said_by}
-use Rattle.pace.specs.Moves.{Move, MaySay}
-use Rattle.pace.specs.Moves.Move.{goes_back, says}
-use Rattle.clean_finish.specs.Segments.{Sent, Keys, copy_in, FliesAs, CountsAs, TellsAs, AcknowledgesAs, ShowsFirst, BringsAs}
-use Rattle.clean_finish.specs.Shows.{Hand, brings_still, AreTaken, EndIs, WayIs}
-use Rattle.clean_finish.specs.Running.{Has, StageIs, IsSettledSoon, HasNotBegun, Half, Facing}
+use Rattle.clean_finish.proofs.Words.{◌≡◌, refl, sym, subst, ℕ, ◌+◌, ◌≤◌, Bool, true, false, ◌⊎◌, inl, Option, List, [], ◌∷◌, ◌++◌, arith, Side, peer, Flight}
+use Rattle.clean_finish.proofs.Words.{Duty, StepDuty, Profile, Carried, PathEnd, Setting, Lane, Move, MaySay, says, goes_back, said_by, sends, AreTaken, Hand}
+use Rattle.clean_finish.proofs.Words.{EndIs, WayIs, brings_still, Sent, Keys, BringsAs, copy_in, CountsAs, TellsAs, AcknowledgesAs, ShowsFirst, FliesAs, Facing}
+use Rattle.clean_finish.proofs.Words.{Half, Has, StageIs, HasNotBegun, IsSettledSoon}
 use Rattle.clean_finish.proofs.Opened.{waiting_on, before_waiting, stage_waits}
 use Rattle.clean_finish.proofs.Passing.{stands_then}
 use Rattle.clean_finish.proofs.Ways.{way_more}
@@ -48,7 +35,7 @@ module _ {s : Side} {keys : Keys} {k j : Setting} {c : Profile} {begun begun_bac
         (control : x.control ≡ out_after.control_sent) (shown : x.keys ≡ out_after.keys_sent)
         (other : WayIs c keys k j (peer s) h.back.sender h.back.receiver h.back.datas h.out.acks hand e.tcp.send.una n.end.tcp.recv.edge n.flying)
         -- what is left to be done
-        (room : out_after.granted + waiting ≤ h.out.written) (bytes : out_after.granted + waiting ≡ h.out.granted + h.waiting) (events : Has (duties.Step step_duties.Events) ds)
+        (room : out_after.granted + waiting ≤ h.out.written) (bytes : out_after.granted + waiting ≡ h.out.granted + h.waiting) (events : Has (Duty.Step StepDuty.Events) ds)
         (stages : StageIs s (peer s) ds n.end.treated.asked h.owes_back h.stage)
         (stages_back : StageIs (peer s) s ds e.treated.asked owes (record (waiting_on h.stage_back) { tell = tell; update = update }))
         (settles : IsSettledSoon s ds e) (settles_back : IsSettledSoon (peer s) ds n.end)
@@ -102,15 +89,8 @@ module _ {s : Side} {keys : Keys} {k j : Setting} {c : Profile} {begun begun_bac
           way = way_after;
           way_back = way_back_after;
           apps = record {
-            writes = record {
-              numbers = h.apps.writes.numbers;
-              over = h.apps.writes.over;
-            };
-            reads = record {
-              numbers = h.apps.reads.numbers;
-              received = h.apps.reads.received;
-              over = h.apps.reads.over;
-            };
+            writes = record { numbers = h.apps.writes.numbers; over = h.apps.writes.over };
+            reads = record { numbers = h.apps.reads.numbers; received = h.apps.reads.received; over = h.apps.reads.over };
             receives = record {
               read = h.apps.receives.read;
               received = h.apps.receives.received;
@@ -128,15 +108,8 @@ module _ {s : Side} {keys : Keys} {k j : Setting} {c : Profile} {begun begun_bac
             fin = h.apps.fin;
           };
           apps_back = record {
-            writes = record {
-              numbers = h.apps_back.writes.numbers;
-              over = h.apps_back.writes.over;
-            };
-            reads = record {
-              numbers = h.apps_back.reads.numbers;
-              received = h.apps_back.reads.received;
-              over = h.apps_back.reads.over;
-            };
+            writes = record { numbers = h.apps_back.writes.numbers; over = h.apps_back.writes.over };
+            reads = record { numbers = h.apps_back.reads.numbers; received = h.apps_back.reads.received; over = h.apps_back.reads.over };
             receives = record {
               read = h.apps_back.receives.read;
               received = h.apps_back.receives.received;

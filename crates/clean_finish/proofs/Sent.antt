@@ -1,15 +1,8 @@
 -- Of an end that sends what waits: its records, and what is known of them.
-use Rattle.std.proofs.Common.{◌≡◌, refl, sym, subst, ap, ◌∙◌, ℕ, ◌+◌, ◌-◌, ◌≤◌, nat_lt, Bool, true, false, if◌then◌else◌, List, [], ◌∷◌, ◌++◌, All, map, arith}
-use Rattle.std.proofs.lemmas.List.{append-nil}
-use Rattle.std.proofs.lemmas.List.Elements.{All-nil, All-cons, All-head, All-tail, All-push}
-use Rattle.subflow_send.specs.Records.{Record, Tile, span_of}
-use Rattle.subflow_send.specs.Rules.{is_unsent, after_sent, after_resent, first_sent, first_unsent_sent}
-use Rattle.subflow_send.specs.Sendings.{sent_again}
-use Rattle.subflow_tcp.specs.State.{EndState}
-use Rattle.pace.specs.Lane.{Setting, Sender}
-use Rattle.clean_finish.specs.Machine.{IsPiece}
-use Rattle.clean_finish.specs.Shows.{RecordsAre}
-use Rattle.clean_finish.specs.Shows.Waits.{WaitsNone}
+use Rattle.clean_finish.proofs.Words.{◌≡◌, refl, sym, subst, ap, ◌∙◌, ℕ, ◌+◌, ◌-◌, ◌≤◌, nat_lt, Bool, true, false, if◌then◌else◌, List, [], ◌∷◌, ◌++◌, map, All}
+use Rattle.clean_finish.proofs.Words.{arith, append-nil, All-nil, All-cons, All-head, All-tail, All-push, Record, Tile, span_of, is_unsent, after_resent}
+use Rattle.clean_finish.proofs.Words.{after_sent, first_unsent_sent, sent_again, EndState, Setting, Sender, IsPiece, RecordsAre, WaitsNone}
+use Rattle.subflow_send.specs.Rules.{first_sent}
 
 abbrev pub sent_now : ℕ → Record → Record
 sent_now now r = record r { sending = sent_again now r.sending }

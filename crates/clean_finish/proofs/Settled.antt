@@ -1,39 +1,14 @@
 -- The timer is settled: it runs for a reason of the lane.
-use Rattle.std.proofs.Common.{◌≡◌, refl, sym, subst, ap, ◌∙◌, ℕ, ◌+◌, ◌-◌, ◌<◌, ◌≤◌, min, cond, Bool, true, false, not, ◌&&◌, ◌||◌, ◌⊎◌, inl, inr, ⊎_elim, Option, Some, None, List, [], ◌∷◌, map, All, arith}
-use Rattle.std.proofs.lemmas.Bool.{both_ways, cases_lt, and_parts, ltb-false}
-use Rattle.std.proofs.lemmas.List.Elements.{All-head, All-weaker}
-use Rattle.sides.specs.declared.side.Side.{Side}
-use Rattle.sides.specs.declared.side.Side.TheVariants.{A, B}
-use Rattle.sides.specs.Side.{peer}
-use Rattle.link_script.specs.Places.{same_side}
-use Rattle.subflow_send.specs.Records.{Record, Tile, Follow, span_of}
-use Rattle.loss_recovery.specs.Timers.{timer_settled}
-use Rattle.subflow_tcp.specs.declared.handshake.State.{State}
+use Rattle.clean_finish.proofs.Words.{◌≡◌, refl, sym, subst, ap, ◌∙◌, ℕ, ◌+◌, ◌-◌, ◌<◌, ◌≤◌, min, Bool, true, false, cond, not, ◌&&◌, ◌||◌, ◌⊎◌, inl, inr}
+use Rattle.clean_finish.proofs.Words.{⊎_elim, Option, None, List, [], ◌∷◌, map, All, arith, Some, both_ways, cases_lt, and_parts, ltb-false, All-head}
+use Rattle.clean_finish.proofs.Words.{All-weaker, Side, A, peer, same_side, Record, Tile, span_of, timer_settled, State, has_records, is_some_record}
+use Rattle.clean_finish.proofs.Words.{is_closed_to_segments, one_if, GrantedPiece, is_all_acknowledged, Duty, SendDuty, SilentDuty, Profile, PathEnd}
+use Rattle.clean_finish.proofs.Words.{is_data_fin_owed, sends_plainly, after_timer, Setting, Lane, all_left, Sender, Going, Reason, lane_settles, tick_or}
+use Rattle.clean_finish.proofs.Words.{settled_by, seen_timer, IsLong, EndIs, IsGranted, IsPhase, Waits, WaitsSyn, WaitsNone, WaitsBytes, Keys, IsSetting}
+use Rattle.clean_finish.proofs.Words.{Facing, Half, HasNotBegun, any_duty, is_syn, Opening, Listening, HalfOpen, Open}
+use Rattle.subflow_send.specs.Records.{Follow}
 use Rattle.subflow_tcp.specs.Expiring.{is_timed}
-use Rattle.subflow_tcp.specs.State.{has_records, is_some_record}
-use Rattle.subflow_tcp.specs.States.{is_closed_to_segments}
-use Rattle.subflow_tcp.specs.Segments.{one_if}
-use Rattle.path_store.specs.Granted.{is_all_acknowledged}
-use Rattle.path_agenda.specs.declared.duty.Duty.{Duty}
-use Rattle.path_agenda.specs.declared.duty.Duty.TheVariants as duties
-use Rattle.path_agenda.specs.declared.duty.SendDuty.TheVariants as send_duties
-use Rattle.path_agenda.specs.declared.duty.SilentDuty.TheVariants as silent_duties
-use Rattle.path_store.specs.declared.granted_piece.GrantedPiece.{GrantedPiece}
-use Rattle.path_core.specs.DataFin.{is_waiting, is_data_fin_owed}
-use Rattle.path_core.specs.Timer.{after_timer}
-use Rattle.path_core.specs.End.{PathEnd}
-use Rattle.path_core.specs.Modes.{sends_plainly}
-use Rattle.path_core.specs.Profile.{Profile}
-use Rattle.pace.specs.Lane.{Setting, Lane, Sender, all_left}
-use Rattle.pace.specs.Rules.{tick_or, settled_by}
-use Rattle.pace.specs.Going.{Going, Reason}
-use Rattle.pace.specs.Moves.Move.{settles as lane_settles}
-use Rattle.clean_finish.specs.Machine.{IsLong, seen_timer}
-use Rattle.clean_finish.specs.Segments.{Keys}
-use Rattle.clean_finish.specs.Shows.{EndIs, IsPhase, IsGranted, Waits}
-use Rattle.clean_finish.specs.Shows.IsPhase.{Opening, Listening, HalfOpen, Open}
-use Rattle.clean_finish.specs.Shows.Waits.{WaitsSyn, WaitsNone, WaitsBytes}
-use Rattle.clean_finish.specs.Running.{Half, Facing, IsSetting, HasNotBegun, is_syn, any_duty}
+use Rattle.path_core.specs.DataFin.{is_waiting}
 use Rattle.clean_finish.proofs.Dropping.{differ, IsApart, stage_drops, settles_drop, begun_drops}
 use Rattle.clean_finish.proofs.Machine.{settles_as_a_lane}
 use Rattle.clean_finish.proofs.Passing.{stands_then, peer_is_other}
@@ -54,24 +29,16 @@ some_span out waiting [] some all = absurd (both_ways _ refl some)
 some_span out waiting (span ∷ spans) some all =
     let is = All-head (IsGranted out waiting) span spans all in omega (arith, is)
 
-one_of : (a b : Bool) → (a || b) ≡ true → (a ≡ true) ⊎ (b ≡ true)
-one_of true b e = inl refl
-one_of false b e = inr e
-
 not_true : (b : Bool) → not b ≡ true → b ≡ false
 not_true false e = refl
 not_true true e = absurd (both_ways _ refl e)
 
 abbrev side_of : Duty → Side
-side_of (duties.Silent (silent_duties.Timer q)) = q
+side_of (Duty.Silent (SilentDuty.Timer q)) = q
 side_of _ = A
 
-pub same_timer : {p q : Side} → duties.Silent (silent_duties.Timer p) ≡ duties.Silent (silent_duties.Timer q) → p ≡ q
+pub same_timer : {p q : Side} → Duty.Silent (SilentDuty.Timer p) ≡ Duty.Silent (SilentDuty.Timer q) → p ≡ q
 same_timer e = ap side_of e
-
-same_self : (q : Side) → same_side q q ≡ true
-same_self A = refl
-same_self B = refl
 
 -- bytes that aren't acknowledged
 bytes_reason : (k : Setting) (w : Lane) → w.acked < k.total → 1 ≤ w.ready → Reason k w
@@ -99,7 +66,7 @@ module _ {s : Side} {keys : Keys} {k j : Setting} {c : Profile} {begun begun_bac
     (k_is : IsSetting c ticks k) (j_is : IsSetting c ticks j)
     (going : Going k begun t all_left begun) (going_back : Going j begun_back u all_left begun_back)
   where
-    module _ {ds : List Duty} (h : Facing s keys k j c begun begun_back m n clock until (duties.Silent (silent_duties.Timer s) ∷ ds))
+    module _ {ds : List Duty} (h : Facing s keys k j c begun begun_back m n clock until (Duty.Silent (SilentDuty.Timer s) ∷ ds))
         (nothing_waits : h.waiting ≡ 0) (answered : min 1 h.back.control_came ≤ h.out.control_sent)
         (no_syn : any_duty (is_syn s) ds ≡ false)
       where
@@ -131,9 +98,9 @@ module _ {s : Side} {keys : Keys} {k j : Setting} {c : Profile} {begun begun_bac
 
             by : (came una : ℕ) (finished : Bool) (state : State) → IsPhase s came una finished state
                 → is_closed_to_segments state ≡ false → came ≡ 0
-                → HasNotBegun s j h.out.sender h.back.receiver m.end (duties.Silent (silent_duties.Timer s) ∷ ds) → ⊥
+                → HasNotBegun s j h.out.sender h.back.receiver m.end (Duty.Silent (SilentDuty.Timer s) ∷ ds) → ⊥
             by came una finished state (Opening side none low is) up zero_came not = ⊎_elim (λ e. absurd (differ refl e))
-                (λ there. none_found (is_syn s) (duties.Send (send_duties.Syn A)) (ap (λ (q : Side). same_side q A) side) ds no_syn there) (not.syn side).1
+                (λ there. none_found (is_syn s) (Duty.Send (SendDuty.Syn A)) (ap (λ (q : Side). same_side q A) side) ds no_syn there) (not.syn side).1
             by came una finished state (Listening side none low is) up zero_came not = both_ways _ up (ap is_closed_to_segments is)
             by came una finished state (HalfOpen side one low is) up zero_came not = one_zero one zero_came
             by came una finished state (Open some high is) up zero_came not = some_zero some zero_came
@@ -224,7 +191,7 @@ module _ {s : Side} {keys : Keys} {k j : Setting} {c : Profile} {begun begun_bac
             by _ _ (WaitsNone sent) = WaitsNone sent
             by _ _ (WaitsBytes sent r kind pos unsent some most edge) = WaitsBytes sent r kind pos unsent some most edge
 
-        pub others : IsApart s (peer s) (duties.Silent (silent_duties.Timer s))
+        pub others : IsApart s (peer s) (Duty.Silent (SilentDuty.Timer s))
         others = record {
           window = differ refl;
           update = differ refl;
@@ -236,7 +203,7 @@ module _ {s : Side} {keys : Keys} {k j : Setting} {c : Profile} {begun begun_bac
           ask = differ refl;
         }
 
-        pub others_back : IsApart (peer s) s (duties.Silent (silent_duties.Timer s))
+        pub others_back : IsApart (peer s) s (Duty.Silent (SilentDuty.Timer s))
         others_back = record {
           window = differ refl;
           update = differ refl;
@@ -301,10 +268,7 @@ module _ {s : Side} {keys : Keys} {k j : Setting} {c : Profile} {begun begun_bac
               steady = h.own.subflow.congestion.steady;
               row = h.own.subflow.congestion.row;
             };
-            come = record {
-              edge = h.own.subflow.come.edge;
-              window = h.own.subflow.come.window;
-            };
+            come = record { edge = h.own.subflow.come.edge; window = h.own.subflow.come.window };
             heard = record {
               told = h.own.subflow.heard.told;
               most = h.own.subflow.heard.most;
@@ -397,42 +361,30 @@ module _ {s : Side} {keys : Keys} {k j : Setting} {c : Profile} {begun begun_bac
           };
           way_back = h.way_back;
           apps = record {
-            writes = record {
-              numbers = h.apps.writes.numbers;
-              over = h.apps.writes.over;
-            };
-            reads = record {
-              numbers = h.apps.reads.numbers;
-              received = h.apps.reads.received;
-              over = h.apps.reads.over;
-            };
+            writes = record { numbers = h.apps.writes.numbers; over = h.apps.writes.over };
+            reads = record { numbers = h.apps.reads.numbers; received = h.apps.reads.received; over = h.apps.reads.over };
             receives = record {
               read = h.apps.receives.read;
               received = h.apps.receives.received;
               known = h.apps.receives.known;
               capacity = h.apps.receives.capacity;
             };
-            book = record {
-              edge = h.apps.book.edge;
-              owner = h.apps.book.owner;
-              marks = h.apps.book.marks;
-              taken = h.apps.book.taken;
-            };
+            book = record { edge = h.apps.book.edge; owner = h.apps.book.owner; marks = h.apps.book.marks; taken = h.apps.book.taken };
             room = h.apps.room;
             whole = h.apps.whole;
             fin = h.apps.fin;
           };
           apps_back = h.apps_back;
-          stages = stage_drops s (peer s) (duties.Silent (silent_duties.Timer s)) ds n.end.treated.asked h.owes_back h.stage others h.stages;
-          stages_back = stage_drops (peer s) s (duties.Silent (silent_duties.Timer s)) ds m.end.treated.asked h.owes h.stage_back others_back h.stages_back;
+          stages = stage_drops s (peer s) (Duty.Silent (SilentDuty.Timer s)) ds n.end.treated.asked h.owes_back h.stage others h.stages;
+          stages_back = stage_drops (peer s) s (Duty.Silent (SilentDuty.Timer s)) ds m.end.treated.asked h.owes h.stage_back others_back h.stages_back;
           control = h.control;
           control_back = h.control_back;
           turn = h.turn;
           turn_back = h.turn_back;
           settles = inl refl;
-          settles_back = settles_drop (peer s) (duties.Silent (silent_duties.Timer s)) ds n.end (λ e. peer_is_other s (same_timer e)) h.settles_back;
-          begins = begun_after (begun_drops s j h.out.sender h.back.receiver m.end (duties.Silent (silent_duties.Timer s)) ds (differ refl) (λ is. differ refl) h.begins);
-          begins_back = begun_drops (peer s) k h.back.sender h.out.receiver n.end (duties.Silent (silent_duties.Timer s)) ds (differ refl) (λ is. differ refl) h.begins_back;
+          settles_back = settles_drop (peer s) (Duty.Silent (SilentDuty.Timer s)) ds n.end (λ e. peer_is_other s (same_timer e)) h.settles_back;
+          begins = begun_after (begun_drops s j h.out.sender h.back.receiver m.end (Duty.Silent (SilentDuty.Timer s)) ds (differ refl) (λ is. differ refl) h.begins);
+          begins_back = begun_drops (peer s) k h.back.sender h.out.receiver n.end (Duty.Silent (SilentDuty.Timer s)) ds (differ refl) (λ is. differ refl) h.begins_back;
           owed = h.owed;
           owed_back = h.owed_back;
         }

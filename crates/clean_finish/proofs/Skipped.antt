@@ -1,27 +1,15 @@
 -- A copy that only acknowledges brings its lane nothing.
-use Rattle.std.proofs.Common.{◌≡◌, refl, sym, subst, ap, ◌∙◌, ℕ, ◌+◌, ◌≤◌, true, false, inl, Option, List, ◌∷◌, ◌++◌, length, map, arith, Bool}
-use Rattle.std.proofs.lemmas.Bool.{both_ways}
-use Rattle.sides.specs.declared.side.Side.{Side}
-use Rattle.sides.specs.declared.side.Side.TheVariants.{B}
-use Rattle.sides.specs.Side.{peer}
-use Rattle.path_agenda.specs.declared.duty.Duty.{Duty}
-use Rattle.path_agenda.specs.declared.duty.Duty.TheVariants as duties
-use Rattle.path_agenda.specs.declared.duty.StepDuty.TheVariants as step_duties
-use Rattle.path_core.specs.Profile.{Profile}
-use Rattle.pace.specs.Lane.{Setting, Copy, Lane}
-use Rattle.pace.specs.Rules.{skipped as lane_skipped}
-use Rattle.pace.specs.Moves.{MaySkip}
-use Rattle.pace.specs.Moves.Move.{goes_back, skips}
-use Rattle.clean_finish.specs.Segments.{Sent, Keys, Brings, copy_in, octets_of, data_fin_of, is_opening, CountsAs, Follow, low_after, control_after, keys_after}
-use Rattle.clean_finish.specs.Segments.Brings.{Acknowledges}
-use Rattle.clean_finish.specs.Shows.{Hand, brings_in, tells_in, EndIs, HeardIs, last_told, row_seen}
-use Rattle.clean_finish.specs.Running.{Has, Half, Facing}
+use Rattle.clean_finish.proofs.Words.{◌≡◌, refl, sym, subst, ap, ◌∙◌, ℕ, ◌+◌, ◌≤◌, Bool, true, false, inl, Option, List, ◌∷◌, ◌++◌, length, map, arith}
+use Rattle.clean_finish.proofs.Words.{both_ways, Side, B, peer, Duty, StepDuty, Profile, Setting, Copy, Lane, MaySkip, skips, goes_back, lane_skipped, Hand}
+use Rattle.clean_finish.proofs.Words.{EndIs, HeardIs, last_told, row_seen, brings_in, tells_in, Sent, Keys, Brings, copy_in, octets_of, CountsAs, Follow}
+use Rattle.clean_finish.proofs.Words.{data_fin_of, low_after, control_after, keys_after, Acknowledges, Facing, Half, Has}
+use Rattle.clean_finish.specs.Segments.{is_opening}
 use Rattle.clean_finish.proofs.Hands.{in_hand}
 use Rattle.clean_finish.proofs.Opened.{waiting_on, before_waiting, stage_waits}
 use Rattle.clean_finish.proofs.Passing.{stands_then}
 
 module _ {s : Side} {keys : Keys} {k j : Setting} {c : Profile} {begun begun_back : Lane} {m n : Half} {clock until : ℕ} {ds : List Duty}
-    (h : Facing s keys k j c begun begun_back m n clock until ds) (events : Has (duties.Step step_duties.Events) ds) (some_sent : 1 ≤ h.out.control_sent)
+    (h : Facing s keys k j c begun begun_back m n clock until ds) (events : Has (Duty.Step StepDuty.Events) ds) (some_sent : 1 ≤ h.out.control_sent)
     (x : Sent) (tells : Bool) (hand : h.hand ≡ in_hand x true tells) (brings : x.brings ≡ Acknowledges) (unowed : h.owes ≡ false)
   where
     abbrev pub rest : List Copy
@@ -94,10 +82,7 @@ module _ {s : Side} {keys : Keys} {k j : Setting} {c : Profile} {begun begun_bac
           steady = h.own.subflow.congestion.steady;
           row = subst (λ (o : Option Hand). m.end.tcp.congestion.duplicates ≤ row_seen h.out.sender o) hand h.own.subflow.congestion.row;
         };
-        come = record {
-          edge = h.own.subflow.come.edge;
-          window = h.own.subflow.come.window;
-        };
+        come = record { edge = h.own.subflow.come.edge; window = h.own.subflow.come.window };
         heard = subst (λ (o : Option Hand). HeardIs s k.total (last_told h.out.heard o) m.end.tcp) hand h.own.subflow.heard;
         quiet = h.own.subflow.quiet;
         begun = h.own.subflow.begun;
@@ -195,41 +180,22 @@ module _ {s : Side} {keys : Keys} {k j : Setting} {c : Profile} {begun begun_bac
         passed = h.way_back.passed;
       };
       apps = record {
-        writes = record {
-          numbers = h.apps.writes.numbers;
-          over = h.apps.writes.over;
-        };
-        reads = record {
-          numbers = h.apps.reads.numbers;
-          received = h.apps.reads.received;
-          over = h.apps.reads.over;
-        };
+        writes = record { numbers = h.apps.writes.numbers; over = h.apps.writes.over };
+        reads = record { numbers = h.apps.reads.numbers; received = h.apps.reads.received; over = h.apps.reads.over };
         receives = record {
           read = h.apps.receives.read;
           received = h.apps.receives.received;
           known = h.apps.receives.known;
           capacity = h.apps.receives.capacity;
         };
-        book = record {
-          edge = h.apps.book.edge;
-          owner = h.apps.book.owner;
-          marks = h.apps.book.marks;
-          taken = h.apps.book.taken;
-        };
+        book = record { edge = h.apps.book.edge; owner = h.apps.book.owner; marks = h.apps.book.marks; taken = h.apps.book.taken };
         room = h.apps.room;
         whole = h.apps.whole;
         fin = h.apps.fin;
       };
       apps_back = record {
-        writes = record {
-          numbers = h.apps_back.writes.numbers;
-          over = h.apps_back.writes.over;
-        };
-        reads = record {
-          numbers = h.apps_back.reads.numbers;
-          received = h.apps_back.reads.received;
-          over = h.apps_back.reads.over;
-        };
+        writes = record { numbers = h.apps_back.writes.numbers; over = h.apps_back.writes.over };
+        reads = record { numbers = h.apps_back.reads.numbers; received = h.apps_back.reads.received; over = h.apps_back.reads.over };
         receives = record {
           read = h.apps_back.receives.read;
           received = h.apps_back.receives.received;

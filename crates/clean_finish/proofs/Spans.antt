@@ -1,10 +1,6 @@
 -- The spans of what was granted and isn't acknowledged.
-use Rattle.std.proofs.Common.{◌≡◌, refl, sym, subst, ℕ, ◌+◌, ◌<◌, ◌≤◌, max, nat_lt, Bool, true, cond, ◌⊎◌, inl, inr, List, [], ◌∷◌, ◌++◌, filter, arith, ◌||◌}
-use Rattle.std.specs.List.{list_any}
-use Rattle.std.proofs.lemmas.Bool.{cases_lt, lt-ltb, le-ltb}
-use Rattle.path_store.specs.declared.granted_piece.GrantedPiece.{GrantedPiece}
-use Rattle.path_store.specs.Granted.{is_newly_heard, is_open}
-use Rattle.clean_finish.specs.Shows.{AreSpans}
+use Rattle.clean_finish.proofs.Words.{◌≡◌, refl, sym, subst, ℕ, ◌+◌, ◌<◌, ◌≤◌, max, nat_lt, Bool, true, cond, ◌||◌, ◌⊎◌, inl, inr, List, [], ◌∷◌, ◌++◌, filter}
+use Rattle.clean_finish.proofs.Words.{arith, cases_lt, lt-ltb, le-ltb, list_any, GrantedPiece, is_newly_heard, is_open, AreSpans}
 
 up : {a b d : ℕ} → a ≤ b → b ≤ d → a ≤ d
 up p q = omega (arith, p, q)

@@ -1,22 +1,10 @@
 -- A step of the path, from what its duties come to: the first one is answered, and those that come to nothing are passed.
-use Rattle.std.proofs.Common.{◌≡◌, refl, sym, subst, ap, ◌∙◌, ℕ, zero, suc, Bool, true, false, if◌then◌else◌, Some, List, [], ◌∷◌}
-use Rattle.std.proofs.lemmas.Option.{same_Some}
-use Rattle.std.specs.List.{slice_get}
-use Rattle.actor_desk.specs.Books.{books_in, after_entry}
-use Rattle.actor_desk.specs.Desk.{SixBooks, reply_of, after_ask}
-use Rattle.stream_apps.specs.Apps.{AppState}
-use Rattle.path_agenda.specs.declared.duty.Duty.{Duty}
-use Rattle.path_core.specs.Duties.{stands, ask_for, passed, answered}
-use Rattle.path_core.specs.State.{PathState, with_agenda}
-use Rattle.path_core.specs.Steps.{settled, answers}
+use Rattle.clean_finish.proofs.Words.{◌≡◌, refl, sym, subst, ap, ◌∙◌, ℕ, Bool, true, false, if◌then◌else◌, List, [], ◌∷◌, Some, suc, zero, slice_get, same_Some}
+use Rattle.clean_finish.proofs.Words.{Duty, SixBooks, reply_of, after_ask, books_in, after_entry, AppState, Carried, values, PathState, with_agenda, stands}
+use Rattle.clean_finish.proofs.Words.{ask_for, passed, answered, settled, answers, Setting, Lane, PathPlan, Start, answer_to, Walker, Cast, after_path, Runs}
+use Rattle.clean_finish.proofs.Words.{Running}
 use Rattle.path_core.specs.Turns.{FirstStands}
-use Rattle.path_core.specs.Values.{Carried, values}
-use Rattle.world_laws.specs.Openings.{PathPlan, Start}
-use Rattle.world_laws.specs.StampedBooks.{answer_to}
-use Rattle.world_laws.proofs.Worlds.Casts.{Walker, Cast, after_path}
 use Rattle.world_laws.proofs.Weaving.Journals.{books_after}
-use Rattle.pace.specs.Lane.{Setting, Lane}
-use Rattle.clean_finish.specs.Running.{Runs, Running}
 
 -- the one of a list
 alone_is : {X : Type 0} (xs : List X) (y x : X) (n : ℕ) → xs ≡ y ∷ [] → slice_get xs n ≡ Some x → (n ≡ 0) × (y ≡ x)

@@ -1,24 +1,9 @@
 -- A Data ACK that covers something is told to the control book, which is sure of Multipath TCP from then on.
-use Rattle.std.proofs.Common.{refl, sym, subst, ℕ, Bool, List, ◌∷◌}
-use Rattle.sides.specs.declared.side.Side.{Side}
-use Rattle.sides.specs.declared.side.Side.TheVariants.{A, B}
-use Rattle.fallback_state.specs.Table.{after_sure_sign}
-use Rattle.fallback_state.specs.declared.fall.Event.TheVariants as events
-use Rattle.actor_desk.specs.Desk.{SixBooks, reply_of, after_ask}
-use Rattle.stream_apps.specs.Apps.{AppState}
-use Rattle.path_agenda.specs.declared.duty.Duty.{Duty}
-use Rattle.path_agenda.specs.declared.duty.Duty.TheVariants as duties
-use Rattle.path_agenda.specs.declared.duty.AskDuty.TheVariants as ask_duties
-use Rattle.path_core.specs.declared.modes.Modes.{Modes}
-use Rattle.path_core.specs.End.{PathEnd}
-use Rattle.path_core.specs.Fallback.{answered_fell, fell_ask, mode_in}
-use Rattle.path_core.specs.State.{PathState, with_agenda, with_end}
-use Rattle.path_core.specs.Values.{Carried}
-use Rattle.world_laws.specs.Openings.{PathPlan, Start}
-use Rattle.pace.specs.Lane.{Setting, Lane, all_left}
-use Rattle.pace.specs.Going.{Going}
-use Rattle.clean_finish.specs.Segments.{Keys, Brings}
-use Rattle.clean_finish.specs.Running.{Bench, Treatment, Treats, TreatsCopy, own_bench, other_bench, IsSetting, Runs, keys_in}
+use Rattle.clean_finish.proofs.Words.{refl, sym, subst, ℕ, Bool, List, ◌∷◌, after_sure_sign, Side, A, B, Duty, AskDuty, SixBooks, reply_of, after_ask, AppState}
+use Rattle.clean_finish.proofs.Words.{Carried, PathEnd, Modes, PathState, with_agenda, with_end, mode_in, fell_ask, answered_fell, Setting, Lane, all_left}
+use Rattle.clean_finish.proofs.Words.{Going, PathPlan, Start, Keys, Brings, Treats, TreatsCopy, own_bench, other_bench, IsSetting, Runs, keys_in, Bench}
+use Rattle.clean_finish.proofs.Words.{Treatment}
+use Rattle.fallback_state.specs.declared.fall.Event.{Event}
 use Rattle.clean_finish.proofs.EndPassing.{sent_some}
 use Rattle.clean_finish.proofs.FellOn.{fell_control, fell_done, fell_modes, sign_reply}
 use Rattle.clean_finish.proofs.HeardFirst.{no_third}
@@ -82,9 +67,9 @@ module _ (start : Start) (plan : PathPlan) (k j : Setting) (s v : Lane) (t0 u0 :
         abbrev books_told_a : SixBooks
         books_told_a = record books { control_a = record books.control_a { fall = (after_sure_sign books.control_a.fall).0 } }
 
-        pub answers_ack_heard_a : (ds : List Duty) → Relation books (with_agenda (duties.Ask (ask_duties.AckHeard A) ∷ ds) p)
-            → let q = with_agenda (duties.Ask (ask_duties.AckHeard A) ∷ ds) p in let ask = fell_ask A events.AckHeard q in
-            Relation (after_ask ask books) (answered_fell A events.AckHeard (reply_of books ask) q)
+        pub answers_ack_heard_a : (ds : List Duty) → Relation books (with_agenda (Duty.Ask (AskDuty.AckHeard A) ∷ ds) p)
+            → let q = with_agenda (Duty.Ask (AskDuty.AckHeard A) ∷ ds) p in let ask = fell_ask A Event.AckHeard q in
+            Relation (after_ask ask books) (answered_fell A Event.AckHeard (reply_of books ask) q)
         answers_ack_heard_a ds h =
             let t = h.treats in
             let f = t.1 in
@@ -93,7 +78,7 @@ module _ (start : Start) (plan : PathPlan) (k j : Setting) (s v : Lane) (t0 u0 :
             (fell_modes A keys h.faces.out.sender h.faces.back.receiver books.control_a.fall p.a.modes h.faces.own.modes)
             (fell_control A keys books.control_a h.faces.control) in
             subst (λ (es : List Duty). Relation books_told_a (with_agenda es (with_end A end_told_a p)))
-            (sym (fell_done A books.control_a.fall (with_agenda (duties.Ask (ask_duties.AckHeard A) ∷ ds) p))) (record {
+            (sym (fell_done A books.control_a.fall (with_agenda (Duty.Ask (AskDuty.AckHeard A) ∷ ds) p))) (record {
               path = record {
                 profile = h.path.profile;
                 delay = h.path.delay;
@@ -117,20 +102,20 @@ module _ (start : Start) (plan : PathPlan) (k j : Setting) (s v : Lane) (t0 u0 :
         abbrev books_told_b : SixBooks
         books_told_b = record books { control_b = record books.control_b { fall = (after_sure_sign books.control_b.fall).0 } }
 
-        pub answers_ack_heard_b : (ds : List Duty) → Relation books (with_agenda (duties.Ask (ask_duties.AckHeard B) ∷ ds) p)
-            → let q = with_agenda (duties.Ask (ask_duties.AckHeard B) ∷ ds) p in let ask = fell_ask B events.AckHeard q in
-            Relation (after_ask ask books) (answered_fell B events.AckHeard (reply_of books ask) q)
+        pub answers_ack_heard_b : (ds : List Duty) → Relation books (with_agenda (Duty.Ask (AskDuty.AckHeard B) ∷ ds) p)
+            → let q = with_agenda (Duty.Ask (AskDuty.AckHeard B) ∷ ds) p in let ask = fell_ask B Event.AckHeard q in
+            Relation (after_ask ask books) (answered_fell B Event.AckHeard (reply_of books ask) q)
         answers_ack_heard_b ds h =
             let t = h.treats in
             let f = t.1 in
-            let view = from_a keys k j s v a b books (with_agenda (duties.Ask (ask_duties.AckHeard B) ∷ ds) p) h.faces in
+            let view = from_a keys k j s v a b books (with_agenda (Duty.Ask (AskDuty.AckHeard B) ∷ ds) p) h.faces in
             let faces = from_b keys k j s v a b books_told_b (with_agenda ds (with_end B end_told_b p))
             (treated_on view refl (sent_some f.came f.answered) p.b.tcp.recv p.b.receiving.mappings p.b.receiving.mapped_data_fin
             end_told_b.modes p.b.treated books_told_b.control_b refl refl refl
             (fell_modes B keys view.out.sender view.back.receiver books.control_b.fall p.b.modes view.own.modes)
             (fell_control B keys books.control_b view.control)) in
             subst (λ (es : List Duty). Relation books_told_b (with_agenda es (with_end B end_told_b p)))
-            (sym (fell_done B books.control_b.fall (with_agenda (duties.Ask (ask_duties.AckHeard B) ∷ ds) p))) (record {
+            (sym (fell_done B books.control_b.fall (with_agenda (Duty.Ask (AskDuty.AckHeard B) ∷ ds) p))) (record {
               path = record {
                 profile = h.path.profile;
                 delay = h.path.delay;

@@ -1,35 +1,10 @@
 -- The steps in which B treats A's SYN: its window is told, and the SYN/ACK goes.
-use Rattle.std.proofs.Common.{◌≡◌, refl, sym, subst, ap, ℕ, ◌+◌, ◌<◌, ◌≤◌, min, max, nat_lt, Bool, true, false, inl, inr, ⊎_elim, List, [], ◌∷◌, arith}
-use Rattle.std.proofs.lemmas.Bool.{le-ltb}
-use Rattle.sides.specs.declared.side.Side.{Side}
-use Rattle.sides.specs.declared.side.Side.TheVariants.{A, B}
-use Rattle.link_model.specs.Laws.{plain_flight, going_to}
-use Rattle.link_model.specs.Steps.{after_send}
-use Rattle.path_segments.specs.Spelled.{PlainSegment}
-use Rattle.subflow_send.specs.Records.{Record}
-use Rattle.subflow_send.specs.Rules.{syn_record}
-use Rattle.subflow_send.specs.Sendings.{never_sent}
-use Rattle.subflow_tcp.specs.declared.segments.Occasion.TheVariants as to_send
-use Rattle.actor_desk.specs.Desk.{SixBooks, after_ask}
-use Rattle.stream_apps.specs.Apps.{AppState}
-use Rattle.path_agenda.specs.declared.duty.Duty.{Duty}
-use Rattle.path_agenda.specs.declared.duty.Duty.TheVariants as duties
-use Rattle.path_agenda.specs.declared.duty.AskDuty.TheVariants as ask_duties
-use Rattle.path_agenda.specs.declared.duty.SendDuty.TheVariants as send_duties
-use Rattle.path_agenda.specs.declared.duty.StepDuty.TheVariants as step_duties
-use Rattle.path_agenda.specs.Agenda.{emission}
-use Rattle.path_core.specs.End.{PathEnd}
-use Rattle.path_core.specs.MpCapable.{syn_window_ask, answered_syn_ack, is_plain_syn}
-use Rattle.path_core.specs.Handover.{having_sent, sent_on}
-use Rattle.path_core.specs.State.{PathState, with_agenda}
-use Rattle.path_core.specs.Values.{Carried, carried_by, stripped, altered, values}
-use Rattle.world_laws.specs.Openings.{PathPlan, Start}
-use Rattle.pace.specs.Lane.{Setting, Telling, Lane, Sender, all_left}
-use Rattle.pace.specs.Going.{Going}
-use Rattle.clean_finish.specs.Segments.{Keys, said, FliesAs}
-use Rattle.clean_finish.specs.Shows.{Waits}
-use Rattle.clean_finish.specs.Shows.Waits.{WaitsSyn, WaitsNone, WaitsBytes}
-use Rattle.clean_finish.specs.Running.{Has, own_bench, other_bench, IsSetting, Runs, keys_in}
+use Rattle.clean_finish.proofs.Words.{◌≡◌, refl, sym, subst, ap, ℕ, ◌+◌, ◌<◌, ◌≤◌, min, max, nat_lt, Bool, true, false, inl, inr, ⊎_elim, List, [], ◌∷◌, arith}
+use Rattle.clean_finish.proofs.Words.{le-ltb, Side, A, B, Record, syn_record, never_sent, Occasion, going_to, plain_flight, after_send, PlainSegment, Duty}
+use Rattle.clean_finish.proofs.Words.{SendDuty, StepDuty, AskDuty, emission, SixBooks, after_ask, AppState, Carried, carried_by, stripped, altered, values}
+use Rattle.clean_finish.proofs.Words.{PathEnd, PathState, with_agenda, having_sent, sent_on, syn_window_ask, answered_syn_ack, is_plain_syn, Setting, Telling}
+use Rattle.clean_finish.proofs.Words.{Lane, all_left, Sender, Going, PathPlan, Start, Waits, WaitsSyn, WaitsNone, WaitsBytes, Keys, said, FliesAs, own_bench}
+use Rattle.clean_finish.proofs.Words.{other_bench, IsSetting, Runs, keys_in, Has}
 use Rattle.clean_finish.proofs.Acknowledged.{hears_on}
 use Rattle.clean_finish.proofs.AnswerSent.{syn_ack_is, answer, end_by, first_test, syn_ack_sent}
 use Rattle.clean_finish.proofs.Dropping.{differ}
@@ -76,17 +51,17 @@ module _ (start : Start) (plan : PathPlan) (k j : Setting) (s v : Lane) (t0 u0 :
 
         -- ---- its window
 
-        hears_syn : Relation books (with_agenda (duties.Ask (ask_duties.SynHeard B) ∷ duties.Ask (ask_duties.PlainHandshake B) ∷ duties.Send (send_duties.SynAck B) ∷ emission B) p)
-            → Relation syn_told (with_agenda (duties.Ask (ask_duties.PlainHandshake B) ∷ duties.Send (send_duties.SynAck B) ∷ emission B) p)
+        hears_syn : Relation books (with_agenda (Duty.Ask (AskDuty.SynHeard B) ∷ Duty.Ask (AskDuty.PlainHandshake B) ∷ Duty.Send (SendDuty.SynAck B) ∷ emission B) p)
+            → Relation syn_told (with_agenda (Duty.Ask (AskDuty.PlainHandshake B) ∷ Duty.Send (SendDuty.SynAck B) ∷ emission B) p)
         hears_syn h =
             let t = h.treats in
             let x = t.0.sent in
-            let back = from_a keys k j s v a b books (with_agenda (duties.Ask (ask_duties.SynHeard B) ∷ duties.Ask (ask_duties.PlainHandshake B) ∷ duties.Send (send_duties.SynAck B) ∷ emission B) p) h.faces in
+            let back = from_a keys k j s v a b books (with_agenda (Duty.Ask (AskDuty.SynHeard B) ∷ Duty.Ask (AskDuty.PlainHandshake B) ∷ Duty.Send (SendDuty.SynAck B) ∷ emission B) p) h.faces in
             let next : x.telling.next ≡ 0 = ap (λ (y : Telling). y.next) t.0.seen in
             let seen : x.telling.seen ≡ 0 = ap (λ (y : Telling). y.seen) t.0.seen in
             let dss : x.telling.dss ≡ 0 = ap (λ (y : Telling). y.dss) t.0.seen in
-            let there = emits_behind (duties.Ask (ask_duties.PlainHandshake B)) (duties.Send (send_duties.SynAck B)) in
-            let faces = from_b keys k j s v a b syn_told (with_agenda (duties.Ask (ask_duties.PlainHandshake B) ∷ duties.Send (send_duties.SynAck B) ∷ emission B) p)
+            let there = emits_behind (Duty.Ask (AskDuty.PlainHandshake B)) (Duty.Send (SendDuty.SynAck B)) in
+            let faces = from_b keys k j s v a b syn_told (with_agenda (Duty.Ask (AskDuty.PlainHandshake B) ∷ Duty.Send (SendDuty.SynAck B) ∷ emission B) p)
             (hears_on back refl there x false t.0.hand 0 p.b.tcp.congestion.told.window (none_future (_)) (omega arith) next (plus t.0.edge)
             (λ less. absurd (never less seen)) p.b.sending p.b.modes p.b.treated refl
             (told_own back refl there x false t.0.hand next dss (few seen) (low p.b.tcp.send.una seen))) in
@@ -142,43 +117,43 @@ module _ (start : Start) (plan : PathPlan) (k j : Setting) (s v : Lane) (t0 u0 :
             low : {x : ℕ} (y : ℕ) → x ≡ 0 → x ≤ y
             low y is = omega (arith, is)
 
-        pub answers_syn_heard : Relation books (with_agenda (duties.Ask (ask_duties.SynHeard B) ∷ ds) p) → Relation syn_told (with_agenda ds p)
+        pub answers_syn_heard : Relation books (with_agenda (Duty.Ask (AskDuty.SynHeard B) ∷ ds) p) → Relation syn_told (with_agenda ds p)
         answers_syn_heard h =
             subst (λ (es : List Duty). Relation syn_told (with_agenda es p)) (sym h.treats.3)
-            (hears_syn (subst (λ (es : List Duty). Relation books (with_agenda (duties.Ask (ask_duties.SynHeard B) ∷ es) p)) h.treats.3 h))
+            (hears_syn (subst (λ (es : List Duty). Relation books (with_agenda (Duty.Ask (AskDuty.SynHeard B) ∷ es) p)) h.treats.3 h))
 
         -- ---- it asks for Multipath TCP
 
-        pub asks_capable : Relation books (with_agenda (duties.Ask (ask_duties.PlainHandshake B) ∷ ds) p) → is_plain_syn p.b ≡ false
+        pub asks_capable : Relation books (with_agenda (Duty.Ask (AskDuty.PlainHandshake B) ∷ ds) p) → is_plain_syn p.b ≡ false
         asks_capable h = rw (h.other.modes.capable refl (one h.treats.0.came)) refl
           where
             one : {x : ℕ} → x ≡ 1 → 1 ≤ x
             one is = omega (arith, is)
 
-        pub passes_handshake : Relation books (with_agenda (duties.Ask (ask_duties.PlainHandshake B) ∷ ds) p) → Relation books (with_agenda ds p)
+        pub passes_handshake : Relation books (with_agenda (Duty.Ask (AskDuty.PlainHandshake B) ∷ ds) p) → Relation books (with_agenda ds p)
         passes_handshake h =
             subst (λ (es : List Duty). Relation books (with_agenda es p)) (sym h.treats.3)
-            (on (subst (λ (es : List Duty). Relation books (with_agenda (duties.Ask (ask_duties.PlainHandshake B) ∷ es) p)) h.treats.3 h))
+            (on (subst (λ (es : List Duty). Relation books (with_agenda (Duty.Ask (AskDuty.PlainHandshake B) ∷ es) p)) h.treats.3 h))
           where
-            on : Relation books (with_agenda (duties.Ask (ask_duties.PlainHandshake B) ∷ duties.Send (send_duties.SynAck B) ∷ emission B) p)
-                → Relation books (with_agenda (duties.Send (send_duties.SynAck B) ∷ emission B) p)
+            on : Relation books (with_agenda (Duty.Ask (AskDuty.PlainHandshake B) ∷ Duty.Send (SendDuty.SynAck B) ∷ emission B) p)
+                → Relation books (with_agenda (Duty.Send (SendDuty.SynAck B) ∷ emission B) p)
             on g = record {
               path = g.path;
               link = g.link;
-              faces = free_drops (duties.Ask (ask_duties.PlainHandshake B)) (duties.Send (send_duties.SynAck B) ∷ emission B) refl g.faces;
+              faces = free_drops (Duty.Ask (AskDuty.PlainHandshake B)) (Duty.Send (SendDuty.SynAck B) ∷ emission B) refl g.faces;
               treats = (g.treats.0, g.treats.1, g.treats.2, refl);
             }
 
         -- ---- the answer
 
         abbrev sends_off : PlainSegment → PathEnd → PathState Carried
-        sends_off segment e = sent_on values B segment e (emission B) (with_agenda (duties.Send (send_duties.SynAck B) ∷ emission B) p)
+        sends_off segment e = sent_on values B segment e (emission B) (with_agenda (Duty.Send (SendDuty.SynAck B) ∷ emission B) p)
 
-        answer_goes : Relation books (with_agenda (duties.Send (send_duties.SynAck B) ∷ emission B) p)
-            → Relation books (answered_syn_ack values B (with_agenda (duties.Send (send_duties.SynAck B) ∷ emission B) p))
+        answer_goes : Relation books (with_agenda (Duty.Send (SendDuty.SynAck B) ∷ emission B) p)
+            → Relation books (answered_syn_ack values B (with_agenda (Duty.Send (SendDuty.SynAck B) ∷ emission B) p))
         answer_goes h =
             let t = h.treats in
-            let back = from_a keys k j s v a b books (with_agenda (duties.Send (send_duties.SynAck B) ∷ emission B) p) h.faces in
+            let back = from_a keys k j s v a b books (with_agenda (Duty.Send (SendDuty.SynAck B) ∷ emission B) p) h.faces in
             let none = ⊎_elim (λ sent. absurd (not_both sent t.0.unsent)) (λ is. is) back.begins in
             let x = answer plan.delay u0 t0 j_is k_is going_back going back t.0.unsent t.0.came none in
             let segment = said p.profile keys B x in
@@ -187,7 +162,7 @@ module _ (start : Start) (plan : PathPlan) (k j : Setting) (s v : Lane) (t0 u0 :
             let alter : Side → Carried → Carried = λ side sent. altered sent in
             let rest = waits_syn j back.out.sender back.own.subflow.records.rest back.waiting back.own.subflow.records.waits t.0.unsent in
             let window = ⊎_elim (λ is. is) (λ there. absurd (no_window there)) none.window in
-            let events : Has (duties.Step step_duties.Events) (emission B) = inr (inr (inr (inr (inr (inr (inr (inl refl))))))) in
+            let events : Has (Duty.Step StepDuty.Events) (emission B) = inr (inr (inr (inr (inr (inr (inr (inl refl))))))) in
             let last = last_from_b strip alter carried p.clock p.link h.path.unspoken h.link in
             let others = others_of_b strip alter carried p.clock p.link h.path.unspoken h.link in
             let fs = going_to A (after_send strip alter B carried p.clock p.link).under_way in
@@ -198,7 +173,7 @@ module _ (start : Start) (plan : PathPlan) (k j : Setting) (s v : Lane) (t0 u0 :
             let faces = from_b keys k j s v a b books (sends_off segment (e true))
             (syn_ack_sent plan.delay u0 t0 j_is k_is going_back going back t.0.unsent t.0.came none t.0.sent t.0.hand rest t.0.waiting t.0.owes window events
             fs gs flight flies last others) in
-            subst (λ (sg : PlainSegment). Relation books (sends_off sg (having_sent to_send.SynAck p.clock sg p.b)))
+            subst (λ (sg : PlainSegment). Relation books (sends_off sg (having_sent Occasion.SynAck p.clock sg p.b)))
             (sym (syn_ack_is p.profile keys j (p.clock + plan.delay) p.b k_is.path (back.own.modes.capable refl (one t.0.came)) back.own.modes.mapping.0 back.own.modes.own_key))
             (subst (λ (first : Bool). Relation books (sends_off segment (e first)))
             (sym (first_test plan.delay u0 t0 j_is k_is going_back going back t.0.unsent t.0.came none t.0.sent t.0.hand rest t.0.waiting t.0.owes window events
@@ -238,7 +213,7 @@ module _ (start : Start) (plan : PathPlan) (k j : Setting) (s v : Lane) (t0 u0 :
             one_sent : {y : ℕ} (x : ℕ) → y ≡ 1 → min 1 y ≤ max x 1
             one_sent x is = omega (arith, is)
 
-            no_window : Has (duties.Ask (ask_duties.Window B)) (duties.Send (send_duties.SynAck B) ∷ emission B) → ⊥
+            no_window : Has (Duty.Ask (AskDuty.Window B)) (Duty.Send (SendDuty.SynAck B) ∷ emission B) → ⊥
             no_window (inl same) = differ refl same
             no_window (inr (inl same)) = differ refl same
             no_window (inr (inr (inl same))) = differ refl same
@@ -251,8 +226,8 @@ module _ (start : Start) (plan : PathPlan) (k j : Setting) (s v : Lane) (t0 u0 :
             no_window (inr (inr (inr (inr (inr (inr (inr (inr (inr (inl same)))))))))) = differ refl same
             no_window (inr (inr (inr (inr (inr (inr (inr (inr (inr (inr never)))))))))) = never
 
-        pub answers_syn_ack : Relation books (with_agenda (duties.Send (send_duties.SynAck B) ∷ ds) p)
-            → Relation books (answered_syn_ack values B (with_agenda (duties.Send (send_duties.SynAck B) ∷ ds) p))
+        pub answers_syn_ack : Relation books (with_agenda (Duty.Send (SendDuty.SynAck B) ∷ ds) p)
+            → Relation books (answered_syn_ack values B (with_agenda (Duty.Send (SendDuty.SynAck B) ∷ ds) p))
         answers_syn_ack h =
-            subst (λ (es : List Duty). Relation books (answered_syn_ack values B (with_agenda (duties.Send (send_duties.SynAck B) ∷ es) p))) (sym h.treats.3)
-            (answer_goes (subst (λ (es : List Duty). Relation books (with_agenda (duties.Send (send_duties.SynAck B) ∷ es) p)) h.treats.3 h))
+            subst (λ (es : List Duty). Relation books (answered_syn_ack values B (with_agenda (Duty.Send (SendDuty.SynAck B) ∷ es) p))) (sym h.treats.3)
+            (answer_goes (subst (λ (es : List Duty). Relation books (with_agenda (Duty.Send (SendDuty.SynAck B) ∷ es) p)) h.treats.3 h))

@@ -1,44 +1,22 @@
 -- The SYN arrives at B: the world from B's side, from the arrival to the first duty of its treatment.
-use Rattle.std.proofs.Common.{◌≡◌, refl, sym, subst, ap, ◌∙◌, ℕ, ◌+◌, ◌<◌, ◌≤◌, max, Bool, true, false, ◌⊎◌, inl, inr, ⊎_elim, ◌==◌, ◌||◌, Option, None, List, [], ◌∷◌, map, arith}
-use Rattle.std.proofs.lemmas.Bool.{both_ways}
-use Rattle.sides.specs.declared.side.Side.{Side}
-use Rattle.sides.specs.declared.side.Side.TheVariants.{A, B}
-use Rattle.dss_mapping.specs.declared.kept.KeptMapping.{KeptMapping}
-use Rattle.link_model.specs.declared.flight.Flight.{Flight}
-use Rattle.subflow_tcp.specs.declared.handshake.State.TheVariants.{Listen}
-use Rattle.subflow_tcp.specs.declared.segments.Outgoing.{Outgoing}
-use Rattle.path_agenda.specs.declared.duty.Duty.{Duty}
-use Rattle.path_agenda.specs.declared.duty.Duty.TheVariants as duties
-use Rattle.path_agenda.specs.declared.duty.AskDuty.TheVariants as ask_duties
-use Rattle.path_agenda.specs.declared.duty.SendDuty.TheVariants as send_duties
-use Rattle.path_agenda.specs.declared.duty.StepDuty.TheVariants as step_duties
-use Rattle.path_agenda.specs.Agenda.{syn_came}
-use Rattle.path_core.specs.End.{PathEnd}
-use Rattle.path_core.specs.Standing.{is_connected}
-use Rattle.path_core.specs.Profile.{Profile}
-use Rattle.path_core.specs.Values.{Carried}
-use Rattle.pace.specs.Lane.{Setting, Copy, Lane}
-use Rattle.pace.specs.Rules.{hears_data}
-use Rattle.pace.specs.Moves.{MayHearData, IsBefore}
-use Rattle.pace.specs.Moves.Move.{goes_back, hears}
-use Rattle.clean_finish.specs.Reading.{ReaderIs, end_known}
-use Rattle.clean_finish.specs.Segments.{Sent, Keys, copy_in}
-use Rattle.clean_finish.specs.Shows.{Hand, WayIs}
-use Rattle.clean_finish.specs.Running.{Has, StageIs, IsSettledSoon, HasNotBegun, Half, Facing}
+use Rattle.clean_finish.proofs.Words.{◌≡◌, refl, sym, subst, ap, ◌∙◌, ℕ, ◌+◌, ◌<◌, ◌≤◌, max, Bool, true, false, ◌||◌, ◌⊎◌, inl, inr, ⊎_elim, Option, None, List}
+use Rattle.clean_finish.proofs.Words.{[], ◌∷◌, map, arith, ◌==◌, both_ways, Side, A, B, KeptMapping, Outgoing, Listen, Flight, Duty, SendDuty, StepDuty}
+use Rattle.clean_finish.proofs.Words.{AskDuty, syn_came, Profile, Carried, PathEnd, is_connected, Setting, Copy, Lane, IsBefore, MayHearData, hears, goes_back}
+use Rattle.clean_finish.proofs.Words.{hears_data, Hand, WayIs, Sent, Keys, copy_in, Facing, Half, Has, StageIs, HasNotBegun, IsSettledSoon, end_known, ReaderIs}
 use Rattle.clean_finish.proofs.Dropping.{differ, kind}
 use Rattle.clean_finish.proofs.Hands.{in_hand, way_arrives, way_brought}
 use Rattle.clean_finish.proofs.Passing.{stands_then}
 use Rattle.clean_finish.proofs.SynHeard.{syn_at, heard_own, end_after as heard_end}
 
 abbrev pub last : List Duty
-last = (duties.Step step_duties.Events) ∷ duties.End ∷ []
+last = (Duty.Step StepDuty.Events) ∷ Duty.End ∷ []
 
-pub not_last : {d : Duty} → (kind d == kind (duties.Step step_duties.Events)) ≡ false → (kind d == kind duties.End) ≡ false → Has d last → ⊥
+pub not_last : {d : Duty} → (kind d == kind (Duty.Step StepDuty.Events)) ≡ false → (kind d == kind Duty.End) ≡ false → Has d last → ⊥
 not_last a b (inl e) = differ a e
 not_last a b (inr (inl e)) = differ b e
 not_last a b (inr (inr never)) = never
 
-pub done : {b : Bool} {d : Duty} → (kind d == kind (duties.Step step_duties.Events)) ≡ false → (kind d == kind duties.End) ≡ false → (b ≡ false) ⊎ Has d last → b ≡ false
+pub done : {b : Bool} {d : Duty} → (kind d == kind (Duty.Step StepDuty.Events)) ≡ false → (kind d == kind Duty.End) ≡ false → (b ≡ false) ⊎ Has d last → b ≡ false
 done x y (inl is) = is
 done x y (inr there) = absurd (not_last x y there)
 
@@ -47,7 +25,7 @@ all_settled s e (inl is) = is
 all_settled s e (inr there) = absurd (not_last refl refl there)
 
 module _ {keys : Keys} {k j : Setting} {c : Profile} {begun begun_back : Lane} {m n : Half} {clock until : ℕ}
-    (h : Facing B keys k j c begun begun_back m n clock until ((duties.Step step_duties.Events) ∷ duties.End ∷ []))
+    (h : Facing B keys k j c begun begun_back m n clock until ((Duty.Step StepDuty.Events) ∷ Duty.End ∷ []))
     (none : h.hand ≡ None) (none_came : h.back.control_came ≡ 0)
     (low : m.end.tcp.send.una ≡ 0) (listens : m.end.tcp.state ≡ Listen) (unsent : h.out.control_sent ≡ 0) (unrowed : h.out.row ≡ 0)
     (tick window edge : ℕ) (f : Flight Carried) (fs : List (Flight Carried)) (xs : List Sent)
@@ -113,7 +91,7 @@ module _ {keys : Keys} {k j : Setting} {c : Profile} {begun begun_back : Lane} {
       asked = λ e. (⊎_elim (λ is. is) (λ there. absurd (never there)) h.stages_back.ask, no_more h.back.received, omega arith);
     }
       where
-        never : Has (duties.Ask (ask_duties.Window B)) last ⊎ (Has (duties.Ask (ask_duties.AckOut B)) last × (m.end.treated.asked ≡ true)) → ⊥
+        never : Has (Duty.Ask (AskDuty.Window B)) last ⊎ (Has (Duty.Ask (AskDuty.AckOut B)) last × (m.end.treated.asked ≡ true)) → ⊥
         never (inl there) = not_last refl refl there
         never (inr there) = not_last refl refl there.0
 
@@ -141,11 +119,11 @@ module _ {keys : Keys} {k j : Setting} {c : Profile} {begun begun_back : Lane} {
       ask = inl (⊎_elim (λ is. is) (λ there. absurd (never_asks there)) h.stages.ask);
     }
       where
-        never_tells : Has (duties.Send (send_duties.SynAck A)) last ⊎ (Has (duties.Send (send_duties.Acknowledge A)) last × (h.owes_back ≡ true)) → ⊥
+        never_tells : Has (Duty.Send (SendDuty.SynAck A)) last ⊎ (Has (Duty.Send (SendDuty.Acknowledge A)) last × (h.owes_back ≡ true)) → ⊥
         never_tells (inl there) = not_last refl refl there
         never_tells (inr there) = not_last refl refl there.0
 
-        never_asks : Has (duties.Ask (ask_duties.Window A)) last ⊎ (Has (duties.Ask (ask_duties.AckOut A)) last × (n.end.treated.asked ≡ true)) → ⊥
+        never_asks : Has (Duty.Ask (AskDuty.Window A)) last ⊎ (Has (Duty.Ask (AskDuty.AckOut A)) last × (n.end.treated.asked ≡ true)) → ⊥
         never_asks (inl there) = not_last refl refl there
         never_asks (inr there) = not_last refl refl there.0
 
@@ -212,10 +190,7 @@ module _ {keys : Keys} {k j : Setting} {c : Profile} {begun begun_back : Lane} {
       way_back = way_after;
       apps = h.apps;
       apps_back = record {
-        writes = record {
-          numbers = h.apps_back.writes.numbers;
-          over = h.apps_back.writes.over;
-        };
+        writes = record { numbers = h.apps_back.writes.numbers; over = h.apps_back.writes.over };
         reads = record {
           numbers = came_same h.apps_back.reads.numbers;
           received = plus_none h.back.received ∙ h.apps_back.reads.received;

@@ -1,35 +1,10 @@
 -- The step in which A's SYN arrives at B.
-use Rattle.std.proofs.Common.{◌≡◌, refl, sym, subst, ap, ◌∙◌, ℕ, ◌+◌, ◌<◌, ◌≤◌, min, max, nat_lt, Bool, true, false, if◌then◌else◌, Option, Some, None, List, [], ◌∷◌, arith}
-use Rattle.sides.specs.declared.side.Side.TheVariants.{A, B}
-use Rattle.link_model.specs.declared.flight.Flight.{Flight}
-use Rattle.link_model.specs.Laws.{going_to}
-use Rattle.link_model.specs.Steps.{due_of}
-use Rattle.path_segments.specs.Laws.{meant}
-use Rattle.subflow_tcp.specs.declared.handshake.State.{State}
-use Rattle.subflow_tcp.specs.declared.handshake.State.TheVariants.{Listen}
-use Rattle.subflow_tcp.specs.declared.verdicts.Meaning.TheVariants as means
-use Rattle.subflow_tcp.specs.Judging.{is_syn_alone, meaning_of}
-use Rattle.subflow_tcp.specs.Segments.{Copy as SubflowCopy}
-use Rattle.subflow_tcp.specs.State.{EndState}
-use Rattle.subflow_tcp.specs.Taking.{first_fin}
-use Rattle.actor_desk.specs.Desk.{SixBooks}
-use Rattle.stream_apps.specs.Apps.{AppState}
-use Rattle.path_agenda.specs.declared.duty.Duty.{Duty}
-use Rattle.path_agenda.specs.declared.duty.Duty.TheVariants as duties
-use Rattle.path_agenda.specs.declared.duty.StepDuty.TheVariants as step_duties
-use Rattle.path_core.specs.Arrival.{copy_of, reset_for, copy_taken}
-use Rattle.path_core.specs.DssIn.{held_of}
-use Rattle.path_core.specs.State.{PathState}
-use Rattle.path_core.specs.Profile.{Profile}
-use Rattle.path_core.specs.Values.{Carried, values}
-use Rattle.world_laws.specs.Openings.{PathPlan, Start}
-use Rattle.pace.specs.Lane.{Setting, Lane, Receiver, all_left}
-use Rattle.pace.specs.Going.{Going}
-use Rattle.clean_finish.specs.Segments.{Sent, Keys, Brings, said, CountsAs, TellsAs}
-use Rattle.clean_finish.specs.Segments.Brings.{OpensSubflow}
-use Rattle.clean_finish.specs.Shows.{IsIdle, IsPhase}
-use Rattle.clean_finish.specs.Shows.IsPhase.{Opening, Listening, HalfOpen, Open}
-use Rattle.clean_finish.specs.Running.{Half, Facing, half, IsSetting, Runs, keys_in}
+use Rattle.clean_finish.proofs.Words.{◌≡◌, refl, sym, subst, ap, ◌∙◌, ℕ, ◌+◌, ◌<◌, ◌≤◌, min, max, nat_lt, Bool, true, false, if◌then◌else◌, Option, None, List}
+use Rattle.clean_finish.proofs.Words.{[], ◌∷◌, arith, Some, both_ways, A, B, State, EndState, first_fin, Listen, Meaning, meaning_of, is_syn_alone, SubflowCopy}
+use Rattle.clean_finish.proofs.Words.{Flight, going_to, due_of, meant, Duty, StepDuty, SixBooks, AppState, Profile, Carried, values, held_of, copy_of}
+use Rattle.clean_finish.proofs.Words.{reset_for, copy_taken, PathState, Setting, Lane, all_left, Receiver, Going, PathPlan, Start, IsPhase, IsIdle, Sent, Keys}
+use Rattle.clean_finish.proofs.Words.{Brings, CountsAs, TellsAs, said, OpensSubflow, IsSetting, Runs, keys_in, Facing, Half, half, Opening, Listening, HalfOpen}
+use Rattle.clean_finish.proofs.Words.{Open}
 use Rattle.clean_finish.proofs.ArrivesAtB.{copy, q, tick, moment, first, faced, link, Follows, follows, comes_as}
 use Rattle.clean_finish.proofs.CopyTaken.{heard_as}
 use Rattle.clean_finish.proofs.Hands.{way_none}
@@ -37,7 +12,6 @@ use Rattle.clean_finish.proofs.Quiet.{now_out}
 use Rattle.clean_finish.proofs.SynArrived.{syn_arrived}
 use Rattle.clean_finish.proofs.SynHeard.{syn_at}
 use Rattle.clean_finish.proofs.Turned.{from_b}
-use Rattle.std.proofs.lemmas.Bool.{both_ways}
 
 -- before the SYN comes B listens
 listens : (came una : ℕ) (finished : Bool) (state : State) → IsPhase B came una finished state → came ≡ 0 → (una ≡ 0) × (state ≡ Listen)
@@ -65,7 +39,7 @@ syn_shape x came keys_came least received brings low counts tells =
     by y low' control keys next edge seen dss a b e f g i l o = rw (a, b, e, f, g, i, l, o) refl
 
 -- a listening end is opened by a SYN
-listening_opens : (c : SubflowCopy) (s : EndState) → s.state ≡ Listen → is_syn_alone c ≡ true → meaning_of c s ≡ means.Opens
+listening_opens : (c : SubflowCopy) (s : EndState) → s.state ≡ Listen → is_syn_alone c ≡ true → meaning_of c s ≡ Meaning.Opens
 listening_opens c s state alone = rw (state, alone) refl
 
 -- nothing was heard at B that could repeat
@@ -133,15 +107,15 @@ module _ (start : Start) (plan : PathPlan) (k j : Setting) (s v : Lane) (t0 u0 :
         Relation r = Runs start plan k j s v a b books r
 
         abbrev face : Facing B keys j k p.profile v s (half B b books now_before) (half A a books now_before)
-            (tick start plan k j s v t0 u0 going going_back a b books p f others k_is j_is) p.until ((duties.Step step_duties.Events) ∷ duties.End ∷ [])
+            (tick start plan k j s v t0 u0 going going_back a b books p f others k_is j_is) p.until ((Duty.Step StepDuty.Events) ∷ Duty.End ∷ [])
         face = faced start plan k j s v t0 u0 going going_back a b books p f others k_is j_is h early
 
         pub syn_comes : x.brings ≡ OpensSubflow
             → Relation (copy_taken values (due_of (copy start plan k j s v t0 u0 going going_back a b books p f others k_is j_is))
             (q start plan k j s v t0 u0 going going_back a b books p f others k_is j_is))
         syn_comes brings =
-            subst Relation (sym (comes_as start plan k j s v t0 u0 going going_back a b books p f others k_is j_is h early means.Opens meaning))
-            (subst (λ (y : Sent). Relation (heard_as B (meant (said p.profile keys A y)) means.Opens now)) (sym shape) taken)
+            subst Relation (sym (comes_as start plan k j s v t0 u0 going going_back a b books p f others k_is j_is h early Meaning.Opens meaning))
+            (subst (λ (y : Sent). Relation (heard_as B (meant (said p.profile keys A y)) Meaning.Opens now)) (sym shape) taken)
           where
             follow : Follows start plan k j s v t0 u0 going going_back a b books p f others k_is j_is h early
             follow = follows start plan k j s v t0 u0 going going_back a b books p f others k_is j_is h early
@@ -164,15 +138,15 @@ module _ (start : Start) (plan : PathPlan) (k j : Setting) (s v : Lane) (t0 u0 :
                 at_most : {low own buffer : ℕ} → low ≡ min 65535 buffer → own ≡ buffer → min 65535 own ≤ low
                 at_most is same = omega (arith, is, same)
 
-            meaning : meaning_of (copy_of (meant (said p.profile keys A x))) p.b.tcp ≡ means.Opens
-            meaning = subst (λ (y : Sent). meaning_of (copy_of (meant (said p.profile keys A y))) p.b.tcp ≡ means.Opens) (sym shape)
+            meaning : meaning_of (copy_of (meant (said p.profile keys A x))) p.b.tcp ≡ Meaning.Opens
+            meaning = subst (λ (y : Sent). meaning_of (copy_of (meant (said p.profile keys A y))) p.b.tcp ≡ Meaning.Opens) (sym shape)
                 (listening_opens _ p.b.tcp state.1 refl)
 
-            taken : Relation (heard_as B (meant (said p.profile keys A syn)) means.Opens now)
+            taken : Relation (heard_as B (meant (said p.profile keys A syn)) Meaning.Opens now)
             taken =
                 let heard = meant (said p.profile keys A syn) in
                 let unsent = unsent_is plan.delay u0 t0 j_is k_is going_back going face none in
-                let faces = from_b keys k j s v a b books (heard_as B heard means.Opens now)
+                let faces = from_b keys k j s v a b books (heard_as B heard Meaning.Opens now)
                 (syn_arrived face h.treats.0.1.none none state.0 state.1 unsent (unrowed plan.delay u0 t0 j_is k_is going_back going face none)
                 x.at x.window x.edge (copy start plan k j s v t0 u0 going going_back a b books p f others k_is j_is) (going_to B others)
                 (first start plan k j s v t0 u0 going going_back a b books p f others k_is j_is h early).xs

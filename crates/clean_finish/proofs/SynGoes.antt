@@ -1,36 +1,11 @@
 -- The step in which A sends its SYN.
-use Rattle.std.proofs.Common.{◌≡◌, refl, sym, subst, ap, ◌∙◌, ℕ, ◌+◌, ◌≤◌, max, true, false, is_some, inl, inr, ⊎_elim, Some, List, [], ◌∷◌, find, arith}
-use Rattle.std.proofs.lemmas.Bool.{both_ways, and_parts}
-use Rattle.sides.specs.declared.side.Side.{Side}
-use Rattle.sides.specs.declared.side.Side.TheVariants.{A, B}
-use Rattle.link_model.specs.Laws.{plain_flight, going_to}
-use Rattle.link_model.specs.Steps.{after_send}
-use Rattle.path_segments.specs.Spelled.{PlainSegment}
-use Rattle.subflow_send.specs.Records.{Record}
-use Rattle.subflow_send.specs.Rules.{is_unsent, syn_record}
-use Rattle.subflow_send.specs.Sendings.{never_sent}
-use Rattle.subflow_tcp.specs.declared.handshake.State.{State}
-use Rattle.subflow_tcp.specs.declared.handshake.State.TheVariants as states
-use Rattle.subflow_tcp.specs.declared.segments.Occasion.TheVariants as to_send
+use Rattle.clean_finish.proofs.Words.{◌≡◌, refl, sym, subst, ap, ◌∙◌, ℕ, ◌+◌, ◌≤◌, max, true, false, inl, inr, ⊎_elim, List, [], ◌∷◌, arith, Some, is_some}
+use Rattle.clean_finish.proofs.Words.{find, both_ways, and_parts, Side, A, B, Record, is_unsent, syn_record, never_sent, State, Occasion, going_to}
+use Rattle.clean_finish.proofs.Words.{plain_flight, after_send, PlainSegment, Duty, SendDuty, AskDuty, SixBooks, AppState, Carried, carried_by, stripped}
+use Rattle.clean_finish.proofs.Words.{altered, values, is_connected, PathState, with_agenda, having_sent, sent_on, first_unsent, is_syn_due, answered_syn}
+use Rattle.clean_finish.proofs.Words.{Setting, Lane, all_left, Going, PathPlan, Start, Waits, WaitsSyn, WaitsNone, WaitsBytes, Keys, said, own_bench}
+use Rattle.clean_finish.proofs.Words.{other_bench, IsSetting, Runs, keys_in, Facing, Half, Has, HasNotBegun, any_duty, is_window}
 use Rattle.subflow_tcp.specs.States.{is_opening}
-use Rattle.actor_desk.specs.Desk.{SixBooks}
-use Rattle.stream_apps.specs.Apps.{AppState}
-use Rattle.path_agenda.specs.declared.duty.Duty.{Duty}
-use Rattle.path_agenda.specs.declared.duty.Duty.TheVariants as duties
-use Rattle.path_agenda.specs.declared.duty.AskDuty.TheVariants as ask_duties
-use Rattle.path_agenda.specs.declared.duty.SendDuty.TheVariants as send_duties
-use Rattle.path_core.specs.Emission.{first_unsent, is_syn_due, answered_syn}
-use Rattle.path_core.specs.Handover.{having_sent, sent_on}
-use Rattle.path_core.specs.Standing.{is_connected}
-use Rattle.path_core.specs.State.{PathState, with_agenda}
-use Rattle.path_core.specs.Values.{Carried, carried_by, stripped, altered, values}
-use Rattle.world_laws.specs.Openings.{PathPlan, Start}
-use Rattle.pace.specs.Lane.{Setting, Lane, all_left}
-use Rattle.pace.specs.Going.{Going}
-use Rattle.clean_finish.specs.Segments.{Keys, said}
-use Rattle.clean_finish.specs.Shows.{Waits}
-use Rattle.clean_finish.specs.Shows.Waits.{WaitsSyn, WaitsNone, WaitsBytes}
-use Rattle.clean_finish.specs.Running.{Has, Facing, Half, own_bench, other_bench, is_window, any_duty, IsSetting, HasNotBegun, Runs, keys_in}
 use Rattle.clean_finish.proofs.Dropping.{differ}
 use Rattle.clean_finish.proofs.Emitted.{first_waits}
 use Rattle.clean_finish.proofs.Linking.{carried_is, last_from_a, others_of_a, link_after_a}
@@ -38,18 +13,18 @@ use Rattle.clean_finish.proofs.Opened.{syn_is, syn, syn_sent}
 use Rattle.clean_finish.proofs.Plainly.{plain_on}
 use Rattle.clean_finish.proofs.Quiet.{no_window}
 
-opening_is : (state : State) → is_opening state ≡ true → (state ≡ states.SynSent) × (is_connected state ≡ false)
-opening_is states.SynSent e = (refl, refl)
+opening_is : (state : State) → is_opening state ≡ true → (state ≡ State.SynSent) × (is_connected state ≡ false)
+opening_is State.SynSent e = (refl, refl)
 opening_is _ e = absurd (both_ways _ refl e)
 
 -- what an end knows whose SYN is due
 module _ {keys : Keys} {k j : Setting} {begun begun_back : Lane} {m n : Half} {c : _} {clock until : ℕ} {ds : List Duty}
-    (h : Facing A keys k j c begun begun_back m n clock until (duties.Send (send_duties.Syn A) ∷ ds)) (due : is_syn_due m.end ≡ true)
+    (h : Facing A keys k j c begun begun_back m n clock until (Duty.Send (SendDuty.Syn A) ∷ ds)) (due : is_syn_due m.end ≡ true)
   where
     parts : (is_opening m.end.tcp.state ≡ true) × (is_some (first_unsent m.end) ≡ true)
     parts = and_parts (is_opening m.end.tcp.state) (is_some (first_unsent m.end)) due
 
-    pub state_is : m.end.tcp.state ≡ states.SynSent
+    pub state_is : m.end.tcp.state ≡ State.SynSent
     state_is = (opening_is m.end.tcp.state parts.0).0
 
     unready : h.out.ready ≡ 0
@@ -84,7 +59,7 @@ module _ {keys : Keys} {k j : Setting} {begun begun_back : Lane} {m n : Half} {c
     pub first_syn : first_unsent m.end ≡ Some (syn_record never_sent)
     first_syn = first_is ∙ ap (λ (rs : List Record). find is_unsent rs) unsent_is.rest
 
-    pub not_begun : HasNotBegun A j h.out.sender h.back.receiver m.end (duties.Send (send_duties.Syn A) ∷ ds)
+    pub not_begun : HasNotBegun A j h.out.sender h.back.receiver m.end (Duty.Send (SendDuty.Syn A) ∷ ds)
     not_begun = ⊎_elim (λ sent. absurd (not_both sent unsent_is.unsent)) (λ none. none) h.begins
       where
         not_both : {x : ℕ} → 1 ≤ x → x ≡ 0 → ⊥
@@ -103,10 +78,10 @@ module _ (start : Start) (plan : PathPlan) (k j : Setting) (s v : Lane) (t0 u0 :
         Relation q = Runs start plan k j s v a b books q
 
         abbrev sends_off : PlainSegment → PathState Carried
-        sends_off segment = sent_on values A segment (having_sent to_send.Unsent p.clock segment p.a) ds p
+        sends_off segment = sent_on values A segment (having_sent Occasion.Unsent p.clock segment p.a) ds p
 
-        pub syn_goes : is_syn_due p.a ≡ true → Relation (with_agenda (duties.Send (send_duties.Syn A) ∷ ds) p)
-            → Relation (answered_syn values A (with_agenda (duties.Send (send_duties.Syn A) ∷ ds) p))
+        pub syn_goes : is_syn_due p.a ≡ true → Relation (with_agenda (Duty.Send (SendDuty.Syn A) ∷ ds) p)
+            → Relation (answered_syn values A (with_agenda (Duty.Send (SendDuty.Syn A) ∷ ds) p))
         syn_goes due h =
             let know = unsent_is h.faces due in
             let none = not_begun h.faces due in
@@ -158,6 +133,6 @@ module _ (start : Start) (plan : PathPlan) (k j : Setting) (s v : Lane) (t0 u0 :
             up_zero : {x y : ℕ} → x ≤ y → x ≤ max y 0
             up_zero low = omega (arith, low)
 
-            window_first : Has (duties.Ask (ask_duties.Window A)) (duties.Send (send_duties.Syn A) ∷ ds) → any_duty (is_window A) ds ≡ false → ⊥
+            window_first : Has (Duty.Ask (AskDuty.Window A)) (Duty.Send (SendDuty.Syn A) ∷ ds) → any_duty (is_window A) ds ≡ false → ⊥
             window_first (inl same) none = absurd (differ refl same)
             window_first (inr there) none = no_window A ds none there

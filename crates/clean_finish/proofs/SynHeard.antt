@@ -1,24 +1,8 @@
 -- The SYN arrives at B, as B sees it: the end, and both lanes.
-use Rattle.std.proofs.Common.{◌≡◌, refl, subst, ap, ◌∙◌, ℕ, zero, suc, ◌+◌, ◌-◌, ◌≤◌, min, max, true, false, Option, Some, None, List, [], arith}
-use Rattle.sides.specs.declared.side.Side.TheVariants.{A, B}
-use Rattle.dss_mapping.specs.declared.kept.KeptMapping.{KeptMapping}
-use Rattle.path_segments.specs.Laws.{meant}
-use Rattle.subflow_tcp.specs.declared.handshake.State.TheVariants.{Listen}
-use Rattle.subflow_tcp.specs.declared.segments.Outgoing.{Outgoing}
-use Rattle.subflow_tcp.specs.declared.verdicts.Meaning.TheVariants as means
-use Rattle.path_agenda.specs.declared.duty.Duty.{Duty}
-use Rattle.path_core.specs.Arrival.{copy_judged}
-use Rattle.path_core.specs.End.{PathEnd}
-use Rattle.path_core.specs.Standing.{is_connected}
-use Rattle.path_core.specs.Profile.{Profile}
-use Rattle.pace.specs.Lane.{Setting, Lane}
-use Rattle.pace.specs.Rules.{hears_data, repeats, next_row}
-use Rattle.clean_finish.specs.Segments.{Sent, Keys, copy_in, said}
-use Rattle.clean_finish.specs.Segments.Brings.{OpensSubflow}
-use Rattle.clean_finish.specs.Shows.{Hand, row_seen, EndIs, IsToldEdge}
-use Rattle.clean_finish.specs.Shows.IsPhase.{HalfOpen}
-use Rattle.clean_finish.specs.Shows.IsToldEdge.{Same, Before}
-use Rattle.clean_finish.specs.Running.{Half, Facing}
+use Rattle.clean_finish.proofs.Words.{◌≡◌, refl, subst, ap, ◌∙◌, ℕ, ◌+◌, ◌-◌, ◌≤◌, min, max, true, false, Option, None, List, [], arith, Some, suc, zero, A, B}
+use Rattle.clean_finish.proofs.Words.{KeptMapping, Outgoing, Listen, Meaning, meant, Duty, Profile, PathEnd, copy_judged, is_connected, Setting, Lane, repeats}
+use Rattle.clean_finish.proofs.Words.{hears_data, next_row, Hand, EndIs, row_seen, IsToldEdge, Sent, Keys, copy_in, said, OpensSubflow, Same, Before, Facing}
+use Rattle.clean_finish.proofs.Words.{Half, HalfOpen}
 
 -- A's SYN with what varies of it
 abbrev pub syn_at : (at low window edge least : ℕ) → Sent
@@ -45,7 +29,7 @@ module _ {keys : Keys} {k j : Setting} {c : Profile} {begun begun_back : Lane} {
     hand_after = Some (record { sent = x; brings = false; tells = true })
 
     abbrev pub end_after : List KeptMapping → Outgoing → PathEnd
-    end_after told answer = copy_judged false told answer B clock (meant (said c keys A x)) means.Opens m.end
+    end_after told answer = copy_judged false told answer B clock (meant (said c keys A x)) Meaning.Opens m.end
 
     came_one : {y : ℕ} → y ≡ 0 → max y 1 ≡ 1
     came_one is = omega (arith, is)

@@ -1,31 +1,10 @@
 -- A SYN that was sent isn't sent again, and B's goes out by its answer; and the turn of a path ends.
-use Rattle.std.proofs.Common.{◌≡◌, refl, subst, ap, ◌∙◌, ℕ, ◌≤◌, Bool, true, false, ◌&&◌, is_some, ◌⊎◌, inl, inr, ⊎_elim, List, [], ◌∷◌, find, arith}
-use Rattle.std.proofs.lemmas.Bool.{both_ways, cases_lt}
-use Rattle.sides.specs.declared.side.Side.{Side}
-use Rattle.sides.specs.declared.side.Side.TheVariants.{A, B}
-use Rattle.sides.specs.Side.{peer}
-use Rattle.subflow_send.specs.Records.{Record}
-use Rattle.subflow_send.specs.Rules.{is_unsent}
-use Rattle.subflow_tcp.specs.declared.handshake.State.{State}
+use Rattle.clean_finish.proofs.Words.{◌≡◌, refl, subst, ap, ◌∙◌, ℕ, ◌≤◌, Bool, true, false, ◌&&◌, ◌⊎◌, inl, inr, ⊎_elim, List, [], ◌∷◌, arith, is_some, find}
+use Rattle.clean_finish.proofs.Words.{both_ways, cases_lt, Side, A, B, peer, Record, is_unsent, State, Duty, SendDuty, AskDuty, SixBooks, AppState, Profile}
+use Rattle.clean_finish.proofs.Words.{Carried, PathEnd, PathState, with_agenda, first_unsent, is_syn_due, Setting, Lane, Sender, Receiver, PathPlan, Start}
+use Rattle.clean_finish.proofs.Words.{IsPhase, Waits, WaitsSyn, WaitsNone, WaitsBytes, Keys, Runs, keys_in, Facing, Half, Has, HasNotBegun, Opening, Listening}
+use Rattle.clean_finish.proofs.Words.{HalfOpen, Open}
 use Rattle.subflow_tcp.specs.States.{is_opening}
-use Rattle.actor_desk.specs.Desk.{SixBooks}
-use Rattle.stream_apps.specs.Apps.{AppState}
-use Rattle.path_agenda.specs.declared.duty.Duty.{Duty}
-use Rattle.path_agenda.specs.declared.duty.Duty.TheVariants as duties
-use Rattle.path_agenda.specs.declared.duty.AskDuty.TheVariants as ask_duties
-use Rattle.path_agenda.specs.declared.duty.SendDuty.TheVariants as send_duties
-use Rattle.path_core.specs.Emission.{first_unsent, is_syn_due}
-use Rattle.path_core.specs.End.{PathEnd}
-use Rattle.path_core.specs.State.{PathState, with_agenda}
-use Rattle.path_core.specs.Profile.{Profile}
-use Rattle.path_core.specs.Values.{Carried}
-use Rattle.world_laws.specs.Openings.{PathPlan, Start}
-use Rattle.pace.specs.Lane.{Setting, Lane, Sender, Receiver}
-use Rattle.clean_finish.specs.Segments.{Keys}
-use Rattle.clean_finish.specs.Shows.{IsPhase, Waits}
-use Rattle.clean_finish.specs.Shows.IsPhase.{Opening, Listening, HalfOpen, Open}
-use Rattle.clean_finish.specs.Shows.Waits.{WaitsSyn, WaitsNone, WaitsBytes}
-use Rattle.clean_finish.specs.Running.{Has, Half, Facing, HasNotBegun, Runs, keys_in}
 use Rattle.clean_finish.proofs.Dropping.{differ, behind, IsApart, stage_drops, settles_drop}
 use Rattle.clean_finish.proofs.Emitted.{first_waits}
 use Rattle.clean_finish.proofs.Passing.{free_drops}
@@ -38,15 +17,15 @@ not_a e = cc
 not_b : A ≡ B → ⊥
 not_b e = cc
 
-syns_differ : duties.Send (send_duties.Syn A) ≡ duties.Send (send_duties.Syn B) → ⊥
+syns_differ : Duty.Send (SendDuty.Syn A) ≡ Duty.Send (SendDuty.Syn B) → ⊥
 syns_differ e = cc
 
-window_on : {x y : ℕ} (s q : Side) (ds : List Duty) → (x ≡ y) ⊎ Has (duties.Ask (ask_duties.Window s)) (duties.Send (send_duties.Syn q) ∷ ds) → (x ≡ y) ⊎ Has (duties.Ask (ask_duties.Window s)) ds
+window_on : {x y : ℕ} (s q : Side) (ds : List Duty) → (x ≡ y) ⊎ Has (Duty.Ask (AskDuty.Window s)) (Duty.Send (SendDuty.Syn q) ∷ ds) → (x ≡ y) ⊎ Has (Duty.Ask (AskDuty.Window s)) ds
 window_on s q ds (inl is) = inl is
 window_on s q ds (inr there) = inr (behind ds (differ refl) there)
 
 pub own_drops : {n : ℕ} (s : Side) (j : Setting) (out : Sender) (back : Receiver) (e : PathEnd) (ds : List Duty) → (s ≡ A → 1 ≤ n)
-    → (1 ≤ n) ⊎ HasNotBegun s j out back e (duties.Send (send_duties.Syn s) ∷ ds) → (1 ≤ n) ⊎ HasNotBegun s j out back e ds
+    → (1 ≤ n) ⊎ HasNotBegun s j out back e (Duty.Send (SendDuty.Syn s) ∷ ds) → (1 ≤ n) ⊎ HasNotBegun s j out back e ds
 own_drops s j out back e ds sent (inl already) = inl already
 own_drops A j out back e ds sent (inr none) = inl (sent refl)
 own_drops B j out back e ds sent (inr none) = inr (record {
@@ -61,7 +40,7 @@ own_drops B j out back e ds sent (inr none) = inr (record {
 })
 
 pub other_drops : {n : ℕ} (s : Side) (k : Setting) (out : Sender) (back : Receiver) (e : PathEnd) (ds : List Duty)
-    → (1 ≤ n) ⊎ HasNotBegun (peer s) k out back e (duties.Send (send_duties.Syn s) ∷ ds) → (1 ≤ n) ⊎ HasNotBegun (peer s) k out back e ds
+    → (1 ≤ n) ⊎ HasNotBegun (peer s) k out back e (Duty.Send (SendDuty.Syn s) ∷ ds) → (1 ≤ n) ⊎ HasNotBegun (peer s) k out back e ds
 other_drops s k out back e ds (inl already) = inl already
 other_drops A k out back e ds (inr none) = inr (record {
   ready = none.ready;
@@ -84,7 +63,7 @@ other_drops B k out back e ds (inr none) = inr (record {
   syn = λ is. ((none.syn is).0, behind ds syns_differ (none.syn is).1);
 })
 
-pub others : (s : Side) → IsApart s (peer s) (duties.Send (send_duties.Syn s))
+pub others : (s : Side) → IsApart s (peer s) (Duty.Send (SendDuty.Syn s))
 others s = record {
   window = differ refl;
   update = differ refl;
@@ -96,7 +75,7 @@ others s = record {
   ask = differ refl;
 }
 
-pub others_back : (s : Side) → IsApart (peer s) s (duties.Send (send_duties.Syn s))
+pub others_back : (s : Side) → IsApart (peer s) s (Duty.Send (SendDuty.Syn s))
 others_back s = record {
   window = differ refl;
   update = differ refl;
@@ -109,7 +88,7 @@ others_back s = record {
 }
 
 module _ {s : Side} {keys : Keys} {k j : Setting} {c : Profile} {begun begun_back : Lane} {m n : Half} {clock until : ℕ} where
-  abbrev pub syn_passes : (ds : List Duty) (h : Facing s keys k j c begun begun_back m n clock until (duties.Send (send_duties.Syn s) ∷ ds))
+  abbrev pub syn_passes : (ds : List Duty) (h : Facing s keys k j c begun begun_back m n clock until (Duty.Send (SendDuty.Syn s) ∷ ds))
       → (s ≡ A → 1 ≤ h.out.control_sent) → Facing s keys k j c begun begun_back m n clock until ds
   syn_passes ds h sent = record {
     out = h.out;
@@ -132,14 +111,14 @@ module _ {s : Side} {keys : Keys} {k j : Setting} {c : Profile} {begun begun_bac
     way_back = h.way_back;
     apps = h.apps;
     apps_back = h.apps_back;
-    stages = stage_drops s (peer s) (duties.Send (send_duties.Syn s)) ds n.end.treated.asked h.owes_back h.stage (others s) h.stages;
-    stages_back = stage_drops (peer s) s (duties.Send (send_duties.Syn s)) ds m.end.treated.asked h.owes h.stage_back (others_back s) h.stages_back;
+    stages = stage_drops s (peer s) (Duty.Send (SendDuty.Syn s)) ds n.end.treated.asked h.owes_back h.stage (others s) h.stages;
+    stages_back = stage_drops (peer s) s (Duty.Send (SendDuty.Syn s)) ds m.end.treated.asked h.owes h.stage_back (others_back s) h.stages_back;
     control = h.control;
     control_back = h.control_back;
     turn = h.turn;
     turn_back = h.turn_back;
-    settles = settles_drop s (duties.Send (send_duties.Syn s)) ds m.end (differ refl) h.settles;
-    settles_back = settles_drop (peer s) (duties.Send (send_duties.Syn s)) ds n.end (differ refl) h.settles_back;
+    settles = settles_drop s (Duty.Send (SendDuty.Syn s)) ds m.end (differ refl) h.settles;
+    settles_back = settles_drop (peer s) (Duty.Send (SendDuty.Syn s)) ds n.end (differ refl) h.settles_back;
     begins = own_drops s j h.out.sender h.back.receiver m.end ds sent h.begins;
     begins_back = other_drops s k h.back.sender h.out.receiver n.end ds h.begins_back;
     owed = h.owed;
@@ -148,7 +127,7 @@ module _ {s : Side} {keys : Keys} {k j : Setting} {c : Profile} {begun begun_bac
 
 -- A's isn't due once it was sent
 module _ {keys : Keys} {k j : Setting} {c : Profile} {begun begun_back : Lane} {m n : Half} {clock until : ℕ} {ds : List Duty}
-    (h : Facing A keys k j c begun begun_back m n clock until (duties.Send (send_duties.Syn A) ∷ ds)) (not_due : is_syn_due m.end ≡ false)
+    (h : Facing A keys k j c begun begun_back m n clock until (Duty.Send (SendDuty.Syn A) ∷ ds)) (not_due : is_syn_due m.end ≡ false)
   where
     not_both : {x : ℕ} → 1 ≤ x → x ≤ 0 → ⊥
     not_both one low = absurd (omega (arith, one, low))
@@ -192,7 +171,7 @@ module _ (start : Start) (plan : PathPlan) (k j : Setting) (s v : Lane) (a b : A
     abbrev Relation : List Duty → Type 0
     Relation es = Runs start plan k j s v a b books (with_agenda es p)
 
-    pub passes_syn_a : is_syn_due p.a ≡ false → Relation (duties.Send (send_duties.Syn A) ∷ ds) → Relation ds
+    pub passes_syn_a : is_syn_due p.a ≡ false → Relation (Duty.Send (SendDuty.Syn A) ∷ ds) → Relation ds
     passes_syn_a none h =
         let t = h.treats in
         record {
@@ -202,23 +181,23 @@ module _ (start : Start) (plan : PathPlan) (k j : Setting) (s v : Lane) (a b : A
           treats = plain_on keys _ _ ds t.0 t.1 t.2 t.5;
         }
 
-    pub passes_syn_b : is_syn_due p.b ≡ false → Relation (duties.Send (send_duties.Syn B) ∷ ds) → Relation ds
+    pub passes_syn_b : is_syn_due p.b ≡ false → Relation (Duty.Send (SendDuty.Syn B) ∷ ds) → Relation ds
     passes_syn_b none h =
         let t = h.treats in
         record {
           path = h.path;
           link = h.link;
-          faces = from_b keys k j s v a b books (with_agenda ds p) (syn_passes ds (from_a keys k j s v a b books (with_agenda (duties.Send (send_duties.Syn B) ∷ ds) p) h.faces) (λ is. absurd (not_a is)));
+          faces = from_b keys k j s v a b books (with_agenda ds p) (syn_passes ds (from_a keys k j s v a b books (with_agenda (Duty.Send (SendDuty.Syn B) ∷ ds) p) h.faces) (λ is. absurd (not_a is)));
           treats = plain_on keys _ _ ds t.0 t.1 t.2 t.5;
         }
 
     -- the end of the turn
-    pub ends : Relation (duties.End ∷ ds) → Relation []
+    pub ends : Relation (Duty.End ∷ ds) → Relation []
     ends h =
         let t = h.treats in
         subst (λ (es : List Duty). Relation es) t.4 (record {
           path = h.path;
           link = h.link;
-          faces = free_drops duties.End ds refl h.faces;
+          faces = free_drops Duty.End ds refl h.faces;
           treats = plain_on keys _ _ ds t.0 t.1 t.2 t.5;
         })

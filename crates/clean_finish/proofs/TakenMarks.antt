@@ -1,16 +1,8 @@
 -- The marks of a send book whose bytes go on one path: those that it took come first, and what a call makes of them.
-use Rattle.std.proofs.Common.{◌≡◌, refl, sym, ap, ◌∙◌, ℕ, zero, suc, ◌+◌, ◌-◌, ◌≤◌, min, Bool, true, false, cond, List, [], ◌∷◌, ◌++◌, length, take, drop, map, replicate, All, arith}
-use Rattle.std.specs.List.{position_or_len, prefix_len}
-use Rattle.std.proofs.lemmas.Bool.{both_ways}
-use Rattle.std.proofs.lemmas.List.Elements.{All-nil, All-cons, All-head, All-tail}
-use Rattle.subflow_tcp.specs.Segments.{one_if}
-use Rattle.send_book.specs.declared.mark.ByteMark.{ByteMark}
-use Rattle.send_book.specs.declared.mark.ByteMark.TheVariants.{Acked, Held, Free}
-use Rattle.send_book.specs.Marks.{is_acked, is_free_for, given}
-use Rattle.send_book.specs.State.{acked_len}
-use Rattle.send_book.specs.Tried.{no_paths}
+use Rattle.clean_finish.proofs.Words.{◌≡◌, refl, sym, ap, ◌∙◌, ℕ, ◌+◌, ◌-◌, ◌≤◌, min, Bool, true, false, cond, List, [], ◌∷◌, ◌++◌, length, map, All, arith}
+use Rattle.clean_finish.proofs.Words.{suc, zero, drop, replicate, take, both_ways, All-nil, All-cons, All-head, All-tail, position_or_len, prefix_len}
+use Rattle.clean_finish.proofs.Words.{acked_len, Acked, Held, Free, no_paths, ByteMark, is_acked, is_free_for, given, one_if, AreTaken, IsFree}
 use Rattle.send_book.proofs.RunMarks.{count_by-cons}
-use Rattle.clean_finish.specs.Shows.{IsFree, AreTaken}
 
 -- ---- more is written
 
@@ -48,11 +40,6 @@ not_acked : (m : ByteMark) → IsFree m → is_acked m ≡ false
 not_acked Acked free = absurd (both_ways _ refl free)
 not_acked (Held path tried) free = refl
 not_acked (Free tried) free = refl
-
-pub taken_within : (taken : ℕ) (marks : List ByteMark) → AreTaken taken marks → taken ≤ length marks
-taken_within zero marks h = omega arith
-taken_within (suc taken) [] h = absurd h
-taken_within (suc taken) (m ∷ marks) h = let less = taken_within taken marks h.1 in omega (arith, less)
 
 one_plus : (n : ℕ) → 1 + n ≡ suc n
 one_plus n = omega arith

@@ -1,29 +1,18 @@
 -- What comes behind a SYN in order is taken by the subflow.
-use Rattle.std.proofs.Common.{◌≡◌, refl, ap, ◌∙◌, ℕ, ◌+◌, ◌-◌, ◌^◌, ◌==◌, ◌<◌, ◌≤◌, nat_lt, nat_le, Bool, true, false, not, ◌&&◌, ◌||◌, if◌then◌else◌, Option, Some, length, arith}
-use Rattle.std.proofs.lemmas.Bool.{both_ways, le-ltb, lt-ltb, le-leb, ne_eqb}
-use Rattle.sides.specs.declared.side.Side.{Side}
-use Rattle.sides.specs.declared.side.Side.TheVariants.{A, B}
-use Rattle.path_segments.specs.Laws.{meant}
-use Rattle.subflow_tcp.specs.declared.handshake.State.{State}
-use Rattle.subflow_tcp.specs.declared.handshake.State.TheVariants as states
-use Rattle.subflow_tcp.specs.declared.verdicts.Meaning.TheVariants as means
-use Rattle.subflow_tcp.specs.Judging.{is_in_window, ends_in_window, is_at_right_edge, is_acceptable, is_repeated_syn, meaning_acknowledging, meaning_at, meaning_connected, meaning_of, meaning_outside, meaning_placed, meaning_within}
-use Rattle.subflow_tcp.specs.Segments.{Copy as SubflowCopy, occupied}
-use Rattle.subflow_tcp.specs.State.{EndState}
-use Rattle.subflow_tcp.specs.States.{is_half_open}
-use Rattle.path_core.specs.Arrival.{copy_of}
-use Rattle.path_core.specs.Profile.{Profile}
-use Rattle.clean_finish.specs.Segments.{Sent, Keys, Brings, is_opening, acknowledged_by, position_of, said}
-use Rattle.clean_finish.specs.Segments.Brings.{OpensSubflow, ShowsKeys, FirstPiece, Piece, Acknowledges, EndsStream, EndsSubflow}
-use Rattle.clean_finish.specs.Shows.{IsOpen, IsPhase}
-use Rattle.clean_finish.specs.Shows.IsPhase.{Opening, Listening, HalfOpen, Open}
+use Rattle.clean_finish.proofs.Words.{◌≡◌, refl, ap, ◌∙◌, ℕ, ◌+◌, ◌-◌, ◌<◌, ◌≤◌, nat_lt, Bool, true, false, not, ◌&&◌, ◌||◌, if◌then◌else◌, Option, length}
+use Rattle.clean_finish.proofs.Words.{arith, Some, nat_le, ◌==◌, ◌^◌, both_ways, lt-ltb, le-ltb, le-leb, ne_eqb, Side, A, B, State, EndState, is_half_open}
+use Rattle.clean_finish.proofs.Words.{Meaning, is_in_window, ends_in_window, is_at_right_edge, is_acceptable, is_repeated_syn, meaning_acknowledging}
+use Rattle.clean_finish.proofs.Words.{meaning_at, meaning_connected, meaning_of, meaning_outside, meaning_placed, meaning_within, SubflowCopy, occupied, meant}
+use Rattle.clean_finish.proofs.Words.{Profile, copy_of, IsPhase, IsOpen, Sent, Keys, Brings, position_of, said, acknowledged_by, OpensSubflow, ShowsKeys}
+use Rattle.clean_finish.proofs.Words.{FirstPiece, Piece, Acknowledges, EndsStream, EndsSubflow, Opening, Listening, HalfOpen, Open}
+use Rattle.clean_finish.specs.Segments.{is_opening}
 
 -- an end that heard a SYN judges by positions
 connected_open : (state : State) (finished : Bool) (c : SubflowCopy) (s : EndState) → IsOpen finished state → meaning_at state c s ≡ meaning_connected c s
-connected_open states.Waiting finished c s is = absurd (both_ways _ is.closed refl)
-connected_open states.Listen finished c s is = absurd (both_ways _ is.closed refl)
-connected_open states.SynSent finished c s is = absurd (both_ways _ is.opening refl)
-connected_open states.Dead finished c s is = absurd (both_ways _ is.closed refl)
+connected_open State.Waiting finished c s is = absurd (both_ways _ is.closed refl)
+connected_open State.Listen finished c s is = absurd (both_ways _ is.closed refl)
+connected_open State.SynSent finished c s is = absurd (both_ways _ is.opening refl)
+connected_open State.Dead finished c s is = absurd (both_ways _ is.closed refl)
 connected_open _ finished c s is = refl
 
 judges : (q : Side) (came una : ℕ) (finished : Bool) (state : State) (c : SubflowCopy) (s : EndState) → IsPhase q came una finished state → 1 ≤ came
@@ -49,20 +38,20 @@ at_edge edge c = ap (λ (b : Bool). b || (ends_in_window edge edge (occupied c) 
 -- a segment at the edge that acknowledges something sent is taken
 taken_there : (c : SubflowCopy) (s : EndState) (pos acknowledged : ℕ) → nat_le (2 ^ 61) s.send.nxt ≡ false → nat_le (2 ^ 61) s.recv.edge ≡ false
     → c.position ≡ Some pos → pos ≡ s.recv.edge → c.acknowledged ≡ Some acknowledged → c.syn ≡ false → c.rst ≡ false
-    → nat_lt s.send.nxt acknowledged ≡ false → (acknowledged == 0) ≡ false → meaning_connected c s ≡ means.Taken pos acknowledged
+    → nat_lt s.send.nxt acknowledged ≡ false → (acknowledged == 0) ≡ false → meaning_connected c s ≡ Meaning.Taken pos acknowledged
 taken_there c s pos acknowledged far far_edge position same is syn reset ahead some =
-    ap (λ (b : Bool). if b then means.Ignored else (if is_repeated_syn c s then means.RepeatedSyn else meaning_placed c.position c s)) (neither _ _ far far_edge)
-    ∙ (ap (λ (b : Bool). if b then means.RepeatedSyn else meaning_placed c.position c s) (no_syn (not s.numbers.opens) c.syn _ syn)
+    ap (λ (b : Bool). if b then Meaning.Ignored else (if is_repeated_syn c s then Meaning.RepeatedSyn else meaning_placed c.position c s)) (neither _ _ far far_edge)
+    ∙ (ap (λ (b : Bool). if b then Meaning.RepeatedSyn else meaning_placed c.position c s) (no_syn (not s.numbers.opens) c.syn _ syn)
     ∙ (ap (λ (o : Option ℕ). meaning_placed o c s) position
     ∙ (ap (λ (b : Bool). if b then meaning_within pos c s else meaning_outside c)
     (ap (λ (n : ℕ). is_acceptable s.recv.edge n c) same ∙ at_edge s.recv.edge c)
-    ∙ (ap (λ (b : Bool). if b then (if pos == s.recv.edge then means.Kills else means.Challenged)
-    else (if c.syn then means.Challenged else meaning_acknowledging c.acknowledged pos s)) reset
-    ∙ (ap (λ (b : Bool). if b then means.Challenged else meaning_acknowledging c.acknowledged pos s) syn
+    ∙ (ap (λ (b : Bool). if b then (if pos == s.recv.edge then Meaning.Kills else Meaning.Challenged)
+    else (if c.syn then Meaning.Challenged else meaning_acknowledging c.acknowledged pos s)) reset
+    ∙ (ap (λ (b : Bool). if b then Meaning.Challenged else meaning_acknowledging c.acknowledged pos s) syn
     ∙ (ap (λ (o : Option ℕ). meaning_acknowledging o pos s) is
-    ∙ (ap (λ (b : Bool). if b then means.Ahead
-    else (if is_half_open s.state && acknowledged == 0 then means.Unacknowledging else means.Taken pos acknowledged)) ahead
-    ∙ ap (λ (b : Bool). if b then means.Unacknowledging else means.Taken pos acknowledged) (not_zero (is_half_open s.state) _ some))))))))
+    ∙ (ap (λ (b : Bool). if b then Meaning.Ahead
+    else (if is_half_open s.state && acknowledged == 0 then Meaning.Unacknowledging else Meaning.Taken pos acknowledged)) ahead
+    ∙ ap (λ (b : Bool). if b then Meaning.Unacknowledging else Meaning.Taken pos acknowledged) (not_zero (is_half_open s.state) _ some))))))))
   where
     neither : (a b : Bool) → a ≡ false → b ≡ false → a || b ≡ false
     neither a b e f = rw (e, f) refl
@@ -94,7 +83,7 @@ acknowledges_some B EndsSubflow edge e = refl
 pub taken_meant : (c : Profile) (keys : Keys) (from q : Side) (x : Sent) (came una : ℕ) (finished : Bool) (s : EndState)
     → IsPhase q came una finished s.state → 1 ≤ came → is_opening x.brings ≡ false → nat_le (2 ^ 61) s.send.nxt ≡ false
     → nat_le (2 ^ 61) s.recv.edge ≡ false → position_of x ≡ s.recv.edge → x.edge ≤ s.send.nxt → 1 ≤ x.edge
-    → meaning_of (copy_of (meant (said c keys from x))) s ≡ means.Taken (position_of x) x.edge
+    → meaning_of (copy_of (meant (said c keys from x))) s ≡ Meaning.Taken (position_of x) x.edge
 taken_meant c keys from q x came una finished s phase some opens far far_edge at high one =
     judges q came una finished s.state (copy_of (meant (said c keys from x))) s phase some
     ∙ taken_there (copy_of (meant (said c keys from x))) s (position_of x) x.edge far far_edge refl at acknowledged opens refl

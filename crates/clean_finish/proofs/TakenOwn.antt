@@ -1,39 +1,13 @@
 -- A copy that is taken arrives at an end that had nothing in hand: the end.
-use Rattle.std.proofs.Common.{◌≡◌, refl, sym, subst, ap, ◌∙◌, ℕ, ◌+◌, ◌-◌, ◌≤◌, min, nat_lt, Bool, true, false, ◌||◌, if◌then◌else◌, inl, inr, None, IfSome, List, arith}
-use Rattle.std.specs.List.{list_any}
-use Rattle.std.proofs.lemmas.Bool.{both_ways, ltb-true, ltb-false}
-use Rattle.std.proofs.lemmas.List.Elements.{All-weaker}
-use Rattle.sides.specs.declared.side.Side.{Side}
-use Rattle.sides.specs.Side.{peer}
-use Rattle.dss_mapping.specs.declared.kept.KeptMapping.{KeptMapping}
+use Rattle.clean_finish.proofs.Words.{◌≡◌, refl, sym, subst, ap, ◌∙◌, ℕ, ◌+◌, ◌-◌, ◌≤◌, min, nat_lt, Bool, true, false, ◌||◌, if◌then◌else◌, inl, inr, None}
+use Rattle.clean_finish.proofs.Words.{List, arith, IfSome, both_ways, ltb-false, ltb-true, All-weaker, list_any, Side, peer, KeptMapping, Receiving, after_hold}
+use Rattle.clean_finish.proofs.Words.{timing_heard, EndState, after_hearing, after_payload, after_telling, after_occupying, after_established, Outgoing}
+use Rattle.clean_finish.proofs.Words.{Meaning, SubflowCopy, occupied, Due, nothing_due, owing_ack, meant, HeardSegment, Duty, place_in_first, wants_ack, Heard}
+use Rattle.clean_finish.proofs.Words.{is_nil, Profile, PathEnd, copy_of, treated_of, with_held, hint_of, items_of, Setting, Lane, seen_timer, EndIs, IsGranted}
+use Rattle.clean_finish.proofs.Words.{IsToldEdge, Sent, Keys, octets_of, position_of, AcknowledgesAs, said, dss_from, Same, Before, Facing, Half, Open}
 use Rattle.loss_recovery.specs.declared.timers.Timing.{Timing}
-use Rattle.loss_recovery.specs.Timers.{heard as timing_heard}
-use Rattle.path_segments.specs.Laws.{meant}
-use Rattle.path_segments.specs.Heard.{HeardSegment}
-use Rattle.subflow_recv.specs.Receiving.{Receiving, after_hold}
-use Rattle.subflow_tcp.specs.declared.dues.Due.{Due}
-use Rattle.subflow_tcp.specs.declared.segments.Outgoing.{Outgoing}
 use Rattle.subflow_tcp.specs.declared.spelling.Numbers.{Numbers}
-use Rattle.subflow_tcp.specs.declared.verdicts.Meaning.TheVariants as means
-use Rattle.subflow_tcp.specs.Dues.{nothing_due, owing_ack}
-use Rattle.subflow_tcp.specs.Segments.{Copy as SubflowCopy, occupied}
-use Rattle.subflow_tcp.specs.State.{EndState}
-use Rattle.subflow_tcp.specs.Taking.{after_hearing, after_payload, after_established, after_telling, after_occupying, told_by}
-use Rattle.actor_desk.specs.Words.{is_nil}
-use Rattle.path_agenda.specs.declared.duty.Duty.{Duty}
-use Rattle.path_agenda.specs.declared.heard.Heard.{Heard}
-use Rattle.path_agenda.specs.Items.{place_in_first, wants_ack}
-use Rattle.path_core.specs.Arrival.{copy_of, treated_of, with_held}
-use Rattle.path_core.specs.OptionsIn.{items_of, hint_of}
-use Rattle.path_core.specs.End.{PathEnd}
-use Rattle.path_core.specs.Profile.{Profile}
-use Rattle.pace.specs.Lane.{Setting, Lane}
-use Rattle.clean_finish.specs.Machine.{seen_timer}
-use Rattle.clean_finish.specs.Segments.{Sent, Keys, octets_of, dss_from, position_of, said, AcknowledgesAs}
-use Rattle.clean_finish.specs.Shows.{EndIs, IsGranted, IsToldEdge}
-use Rattle.clean_finish.specs.Shows.IsPhase.{Open}
-use Rattle.clean_finish.specs.Shows.IsToldEdge.{Same, Before}
-use Rattle.clean_finish.specs.Running.{Half, Facing}
+use Rattle.subflow_tcp.specs.Taking.{told_by}
 use Rattle.clean_finish.proofs.CopyHeeded.{Heeds}
 use Rattle.clean_finish.proofs.Hands.{in_hand}
 use Rattle.clean_finish.proofs.Spans.{spans_for}
@@ -75,9 +49,9 @@ module _ {s : Side} {keys : Keys} {k j : Setting} {c : Profile} {begun begun_bac
 
     -- with what the acknowledgement makes of the subflow
     abbrev pub end_by : EndState → PathEnd
-    end_by y = record (with_held told heard (means.Taken (position_of x) x.edge) m.end) {
+    end_by y = record (with_held told heard (Meaning.Taken (position_of x) x.edge) m.end) {
       tcp = tcp_after y;
-      treated = treated_of items (means.Taken (position_of x) x.edge) heard answer holds;
+      treated = treated_of items (Meaning.Taken (position_of x) x.edge) heard answer holds;
     }
 
     abbrev pub fresh : Bool

@@ -1,25 +1,11 @@
 -- What a copy that is taken tells, as the subflow compares it with the one before.
-use Rattle.std.proofs.Common.{◌≡◌, refl, sym, subst, ap, ◌∙◌, ℕ, ◌+◌, ◌-◌, ◌^◌, ◌==◌, ◌≤◌, nat_lt, Bool, true, false, not, ◌&&◌, if◌then◌else◌, ⊎_elim, Option, Some, None, IfSome, List, [], ◌∷◌, ◌++◌, length, arith}
-use Rattle.std.proofs.lemmas.Bool.{both_ways, cases_lt, and_parts, eqb-true, eq-eqb}
-use Rattle.sides.specs.declared.side.Side.{Side}
-use Rattle.sides.specs.declared.side.Side.TheVariants.{A, B}
-use Rattle.loss_recovery.specs.declared.windows.Told.{Told}
-use Rattle.loss_recovery.specs.Windows.{is_same_place, is_same_told}
-use Rattle.path_segments.specs.Laws.{meant, window_told}
-use Rattle.subflow_send.specs.declared.record.AckKind.TheVariants.{Duplicate}
-use Rattle.subflow_tcp.specs.Segments.{Copy as SubflowCopy}
-use Rattle.subflow_tcp.specs.State.{EndState, has_records}
-use Rattle.subflow_tcp.specs.Taking.{is_empty, is_duplicate}
-use Rattle.path_agenda.specs.declared.heard.Heard.{Heard}
-use Rattle.path_agenda.specs.declared.heard.Heard.TheVariants as says
-use Rattle.path_agenda.specs.Items.{place_in_first}
-use Rattle.path_core.specs.OptionsIn.{items_of}
-use Rattle.path_core.specs.DssIn.{is_mapping}
-use Rattle.path_core.specs.Profile.{Profile}
-use Rattle.pace.specs.Lane.{Telling, Sender}
-use Rattle.pace.specs.Rules.{is_same}
-use Rattle.clean_finish.specs.Segments.{Sent, Keys, Brings, shows_keys, is_opening, is_solid, is_subflow_end, octets_of, dss_from, said, TellsAs}
-use Rattle.clean_finish.specs.Segments.Brings.{OpensSubflow, ShowsKeys, FirstPiece, Piece, Acknowledges, EndsStream, EndsSubflow}
+use Rattle.clean_finish.proofs.Words.{◌≡◌, refl, sym, subst, ap, ◌∙◌, ℕ, ◌+◌, ◌-◌, ◌≤◌, nat_lt, Bool, true, false, not, ◌&&◌, if◌then◌else◌, ⊎_elim, Option}
+use Rattle.clean_finish.proofs.Words.{None, List, [], ◌∷◌, ◌++◌, length, arith, Some, ◌==◌, ◌^◌, IfSome, both_ways, cases_lt, and_parts, eq-eqb, eqb-true, Side}
+use Rattle.clean_finish.proofs.Words.{A, B, Duplicate, is_same_place, is_same_told, Told, EndState, has_records, is_duplicate, is_empty, SubflowCopy, meant}
+use Rattle.clean_finish.proofs.Words.{window_told, place_in_first, Heard, Profile, is_mapping, items_of, Telling, Sender, is_same, Sent, Keys, Brings}
+use Rattle.clean_finish.proofs.Words.{shows_keys, is_subflow_end, octets_of, TellsAs, said, dss_from, is_solid, OpensSubflow, ShowsKeys, FirstPiece, Piece}
+use Rattle.clean_finish.proofs.Words.{Acknowledges, EndsStream, EndsSubflow}
+use Rattle.clean_finish.specs.Segments.{is_opening}
 use Rattle.clean_finish.proofs.CopyHeeded.{Repeated}
 
 -- ---- what is empty and no FIN isn't solid
@@ -29,13 +15,10 @@ empty_nil [] e = refl
 empty_nil (octet ∷ octets) e = absurd (both_ways _ refl e)
 
 not_solid : (b : Brings) → is_empty (octets_of b) ≡ true → not (is_subflow_end b) ≡ true → is_solid b ≡ false
-not_solid OpensSubflow e f = refl
-not_solid ShowsKeys e f = refl
 not_solid (FirstPiece octets) e f = rw (empty_nil octets e) refl
 not_solid (Piece octets) e f = rw (empty_nil octets e) refl
-not_solid Acknowledges e f = refl
-not_solid (EndsStream place) e f = refl
 not_solid EndsSubflow e f = absurd (both_ways false refl f)
+not_solid _ e f = refl
 
 -- ---- what it tells, where it has a Data ACK
 
@@ -63,7 +46,7 @@ module _ (c : Profile) (keys : Keys) (s : Side) where
   place_first A x octets = refl
   place_first B x octets = by (nat_lt 0 (length octets)) (is_mapping 0 1 (length octets))
     where
-      by : (some b : Bool) → place_in_first (says.Keys keys.b keys.a ∷ ((if some then (if b then says.Mapping false ∷ [] else []) else []) ++ [])) ≡ None
+      by : (some b : Bool) → place_in_first (Heard.Keys keys.b keys.a ∷ ((if some then (if b then Heard.Mapping false ∷ [] else []) else []) ++ [])) ≡ None
       by true true = refl
       by true false = refl
       by false b = refl

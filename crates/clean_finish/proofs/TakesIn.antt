@@ -1,26 +1,10 @@
 -- The end once its lane has taken what a copy brings: keys, bytes or a DATA_FIN.
-use Rattle.std.proofs.Common.{◌≡◌, sym, subst, ap, ◌∙◌, ℕ, ◌+◌, ◌-◌, ◌≤◌, min, max, true, false, inr, Option, List, ◌∷◌, ◌++◌, length, arith}
-use Rattle.std.proofs.lemmas.Bool.{both_ways}
-use Rattle.subflow_tcp.specs.Segments.{one_if}
-use Rattle.sides.specs.declared.side.Side.{Side}
-use Rattle.sides.specs.declared.side.Side.TheVariants.{B}
-use Rattle.sides.specs.Side.{peer}
+use Rattle.clean_finish.proofs.Words.{◌≡◌, sym, subst, ap, ◌∙◌, ℕ, ◌+◌, ◌-◌, ◌≤◌, min, max, true, false, inr, Option, List, ◌∷◌, ◌++◌, length, arith, both_ways}
+use Rattle.clean_finish.proofs.Words.{Side, B, peer, Mappings, SubflowReceiving, one_if, MappedDataFin, Duty, Profile, PathEnd, Treated, Setting, Lane, Hand}
+use Rattle.clean_finish.proofs.Words.{EndIs, HeardIs, last_told, row_seen, brings_in, IsOpen, IsToldEdge, Sent, Keys, octets_of, Follow, data_fin_of, Same}
+use Rattle.clean_finish.proofs.Words.{Before, Facing, Half, end_known, ReaderIs, ReaderShows, Open, ReceiverIs}
 use Rattle.data_close.specs.declared.close_state.CloseState.{CloseState}
-use Rattle.dss_mapping.specs.Mappings.{Mappings}
-use Rattle.subflow_recv.specs.Receiving.{Receiving as SubflowReceiving}
-use Rattle.path_agenda.specs.declared.duty.Duty.{Duty}
-use Rattle.path_store.specs.declared.mapped_data_fin.MappedDataFin.{MappedDataFin}
-use Rattle.path_core.specs.End.{PathEnd}
-use Rattle.path_core.specs.Treated.{Treated}
-use Rattle.path_core.specs.Profile.{Profile}
-use Rattle.pace.specs.Lane.{Setting, Lane}
-use Rattle.clean_finish.specs.Books.{ReceiverIs}
-use Rattle.clean_finish.specs.Reading.{ReaderShows, ReaderIs, end_known}
-use Rattle.clean_finish.specs.Segments.{Sent, Keys, Follow, is_opening, octets_of, data_fin_of}
-use Rattle.clean_finish.specs.Shows.{Hand, brings_in, EndIs, HeardIs, IsOpen, IsToldEdge, last_told, row_seen}
-use Rattle.clean_finish.specs.Shows.IsPhase.{Open}
-use Rattle.clean_finish.specs.Shows.IsToldEdge.{Same, Before}
-use Rattle.clean_finish.specs.Running.{Half, Facing}
+use Rattle.clean_finish.specs.Segments.{is_opening}
 use Rattle.clean_finish.proofs.Brought.{back_after}
 use Rattle.clean_finish.proofs.Dropping.{is_waited}
 use Rattle.clean_finish.proofs.Hands.{in_hand}
@@ -210,11 +194,7 @@ module _ {s : Side} {keys : Keys} {k j : Setting} {c : Profile} {begun begun_bac
             low a is = omega (arith, is)
 
         pub reads_on : ReaderShows j back_now m.app m.arrived
-        reads_on = record {
-          numbers = numbers_on;
-          received = received ∙ h.apps_back.reads.received;
-          over = h.apps_back.reads.over;
-        }
+        reads_on = record { numbers = numbers_on; received = received ∙ h.apps_back.reads.received; over = h.apps_back.reads.over }
 
         pub receives_on : ReceiverIs j back_now m.arrived
         receives_on = record {

@@ -1,19 +1,7 @@
 -- What an end tells on each segment that has a DSS: all that came, and its window.
-use Rattle.std.proofs.Common.{◌≡◌, refl, sym, subst, ap, ◌∙◌, ℕ, ◌+◌, ◌-◌, ◌<◌, ◌≤◌, min, Bool, false, List, le_refl, arith}
-use Rattle.sides.specs.declared.side.Side.{Side}
-use Rattle.sides.specs.declared.side.Side.TheVariants.{A, B}
-use Rattle.sides.specs.Side.{peer}
-use Rattle.path_segments.specs.Laws.{window_told}
-use Rattle.subflow_tcp.specs.declared.handshake.State.{State}
-use Rattle.path_agenda.specs.declared.duty.Duty.{Duty}
-use Rattle.path_core.specs.Profile.{Profile}
-use Rattle.actor_desk.specs.Words.{pick}
-use Rattle.pace.specs.Lane.{Setting, Telling, Lane, data_ack, is_whole, all_left}
-use Rattle.pace.specs.Going.{Going, Covers, may_tell}
-use Rattle.clean_finish.specs.Segments.{Sent, Keys, dss_from, AcknowledgesAs}
-use Rattle.clean_finish.specs.Shows.{brings_still, IsPhase}
-use Rattle.clean_finish.specs.Shows.IsPhase.{Opening, Listening, HalfOpen, Open}
-use Rattle.clean_finish.specs.Running.{Half, Facing, IsSetting}
+use Rattle.clean_finish.proofs.Words.{◌≡◌, refl, sym, subst, ap, ◌∙◌, ℕ, ◌+◌, ◌-◌, ◌<◌, ◌≤◌, min, Bool, false, List, arith, le_refl, Side, A, B, peer, State}
+use Rattle.clean_finish.proofs.Words.{window_told, Duty, pick, Profile, Setting, Telling, Lane, is_whole, all_left, data_ack, Going, Covers, may_tell}
+use Rattle.clean_finish.proofs.Words.{brings_still, IsPhase, Sent, Keys, AcknowledgesAs, dss_from, IsSetting, Facing, Half, Opening, Listening, HalfOpen, Open}
 use Rattle.clean_finish.proofs.Quiet.{now_out, now_back}
 
 module _ {s : Side} {keys : Keys} {k j : Setting} {c : Profile} {begun begun_back : Lane} {m n : Half} {clock until : ℕ} (ticks t u : ℕ)

@@ -1,9 +1,5 @@
 -- What the templates of a turn have ahead.
-use Rattle.std.proofs.Common.{refl, inl, inr}
-use Rattle.sides.specs.declared.side.Side.{Side}
-use Rattle.sides.specs.declared.side.Side.TheVariants.{A, B}
-use Rattle.path_agenda.specs.Agenda.{emission}
-use Rattle.clean_finish.specs.Running.{ArePlain}
+use Rattle.clean_finish.proofs.Words.{refl, inl, inr, Side, A, B, emission, ArePlain}
 use Rattle.clean_finish.proofs.Raised.{Emits}
 
 -- an emission treats nothing

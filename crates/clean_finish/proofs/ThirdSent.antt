@@ -1,40 +1,12 @@
 -- A answers the SYN/ACK: its third segment shows both keys (RFC 8684, section 3.1).
-use Rattle.std.proofs.Common.{◌≡◌, refl, sym, subst, ap, ◌∙◌, ℕ, ◌+◌, ◌-◌, ◌==◌, ◌<◌, ◌≤◌, min, max, nat_lt, Bool, true, false, cond, if◌then◌else◌, ◌&&◌, inl, inr, ⊎_elim, Option, Some, None, List, [], ◌∷◌, ◌++◌, le_refl, arith}
-use Rattle.std.proofs.lemmas.Bool.{both_ways, eqb-true, and_parts}
-use Rattle.sides.specs.declared.side.Side.{Side}
-use Rattle.sides.specs.declared.side.Side.TheVariants.{A, B}
-use Rattle.link_model.specs.declared.flight.Flight.{Flight}
-use Rattle.link_model.specs.Laws.{plain_flight, going_to}
-use Rattle.link_model.specs.Steps.{after_send}
-use Rattle.path_segments.specs.Spelled.{PlainSegment}
-use Rattle.subflow_tcp.specs.declared.segments.Occasion.TheVariants as to_send
-use Rattle.actor_desk.specs.Desk.{SixBooks}
-use Rattle.stream_apps.specs.Apps.{AppState}
-use Rattle.path_agenda.specs.declared.duty.Duty.{Duty}
-use Rattle.path_agenda.specs.declared.duty.Duty.TheVariants as duties
-use Rattle.path_agenda.specs.declared.duty.AskDuty.TheVariants as ask_duties
-use Rattle.path_agenda.specs.declared.duty.SendDuty.TheVariants as send_duties
-use Rattle.path_agenda.specs.declared.duty.SilentDuty.TheVariants as silent_duties
-use Rattle.path_agenda.specs.declared.duty.StepDuty.TheVariants as step_duties
-use Rattle.path_agenda.specs.Agenda.{emission}
-use Rattle.path_core.specs.End.{PathEnd}
-use Rattle.path_core.specs.OptionsOut.{ack_said}
-use Rattle.path_core.specs.Handover.{having_sent, sent_on}
-use Rattle.path_core.specs.Standing.{acknowledges}
-use Rattle.path_core.specs.State.{PathState, with_agenda}
-use Rattle.path_core.specs.Profile.{Profile}
-use Rattle.path_core.specs.Values.{Carried, carried_by, stripped, altered, values}
-use Rattle.world_laws.specs.Openings.{PathPlan, Start}
-use Rattle.pace.specs.Lane.{Setting, Copy, Lane, Stage, data_ack, is_whole, all_left}
-use Rattle.pace.specs.Rules.{is_same, repeats}
-use Rattle.pace.specs.Going.{Going, pending}
-use Rattle.pace.specs.Moves.{MaySay, MaySend}
-use Rattle.pace.specs.Moves.Move.{sends_none}
-use Rattle.clean_finish.specs.Segments.{Sent, Keys, copy_in, said, FliesAs}
-use Rattle.clean_finish.specs.Segments.Brings.{ShowsKeys}
-use Rattle.clean_finish.specs.Shows.{Hand, brings_still, HeardIs, WayIs, last_told, row_seen}
-use Rattle.clean_finish.specs.Shows.IsToldEdge.{Before}
-use Rattle.clean_finish.specs.Running.{Has, Half, Facing, own_bench, other_bench, IsSetting, StageIs, TreatsThird, Runs, keys_in}
+use Rattle.clean_finish.proofs.Words.{◌≡◌, refl, sym, subst, ap, ◌∙◌, ℕ, ◌+◌, ◌-◌, ◌<◌, ◌≤◌, min, max, nat_lt, Bool, true, false, cond, ◌&&◌, if◌then◌else◌}
+use Rattle.clean_finish.proofs.Words.{inl, inr, ⊎_elim, Option, None, List, [], ◌∷◌, ◌++◌, arith, Some, le_refl, ◌==◌, both_ways, and_parts, eqb-true, Side, A}
+use Rattle.clean_finish.proofs.Words.{B, Occasion, Flight, going_to, plain_flight, after_send, PlainSegment, Duty, SendDuty, StepDuty, AskDuty, emission}
+use Rattle.clean_finish.proofs.Words.{SilentDuty, SixBooks, AppState, Profile, Carried, carried_by, stripped, altered, values, PathEnd, acknowledges, PathState}
+use Rattle.clean_finish.proofs.Words.{with_agenda, ack_said, having_sent, sent_on, Setting, Copy, Lane, Stage, is_whole, all_left, data_ack, Going, pending}
+use Rattle.clean_finish.proofs.Words.{MaySay, MaySend, sends_none, repeats, is_same, PathPlan, Start, Hand, HeardIs, WayIs, last_told, row_seen, brings_still}
+use Rattle.clean_finish.proofs.Words.{Sent, Keys, copy_in, said, FliesAs, ShowsKeys, Before, own_bench, other_bench, IsSetting, Runs, keys_in, Facing, Half}
+use Rattle.clean_finish.proofs.Words.{Has, StageIs, TreatsThird}
 use Rattle.clean_finish.proofs.Dropping.{differ, behind, behind_or, IsApart, stage_drops, settles_drop, begun_drops}
 use Rattle.clean_finish.proofs.Hands.{in_hand, way_done}
 use Rattle.clean_finish.proofs.Linking.{carried_is, last_from_a, others_of_a, link_after_a}
@@ -95,8 +67,8 @@ paid_by k p x w tell all seen dss =
         same w.said x.data_fin all seen dss (eqb-true _ _ first.0) (eqb-true _ _ third.0) (eqb-true _ _ third.1)
 
 -- the answer isn't owed any more
-pub answered_drops : {ds : List Duty} {asked owes : Bool} (u : Bool) {p : Stage} → (p.update ≡ u) → StageIs B A (duties.Send (send_duties.Acknowledge A) ∷ ds) asked owes p
-    → Has (duties.Step step_duties.Events) ds → StageIs B A ds asked false (record (waiting_on p) { tell = false; update = u })
+pub answered_drops : {ds : List Duty} {asked owes : Bool} (u : Bool) {p : Stage} → (p.update ≡ u) → StageIs B A (Duty.Send (SendDuty.Acknowledge A) ∷ ds) asked owes p
+    → Has (Duty.Step StepDuty.Events) ds → StageIs B A ds asked false (record (waiting_on p) { tell = false; update = u })
 answered_drops {ds} u at is events = record {
   window = behind_or ds (differ refl) is.window;
   update = ⊎_elim (λ none. inl (sym at ∙ none)) (λ i. inr (behind ds (differ refl) i)) is.update;
@@ -110,7 +82,7 @@ answered_drops {ds} u at is events = record {
 module _ {keys : Keys} {k j : Setting} {c : Profile} {begun begun_back : Lane} {m n : Half} {clock until : ℕ} (ticks t u : ℕ)
     (k_is : IsSetting c ticks k) (j_is : IsSetting c ticks j)
     (going : Going k begun t all_left begun) (going_back : Going j begun_back u all_left begun_back)
-    {ds : List Duty} (h : Facing A keys k j c begun begun_back m n clock until (duties.Send (send_duties.Acknowledge A) ∷ ds))
+    {ds : List Duty} (h : Facing A keys k j c begun begun_back m n clock until (Duty.Send (SendDuty.Acknowledge A) ∷ ds))
   where
     pub lane : Going k begun t h.stage h.out
     lane = now_out ticks t u k_is j_is going going_back h
@@ -123,7 +95,7 @@ module _ {keys : Keys} {k j : Setting} {c : Profile} {begun begun_back : Lane} {
 
     module _ (sent_one : h.out.control_sent ≡ 1) (came : h.back.control_came ≡ 1) (received : h.back.received ≡ 0) (data_fin : h.back.data_fin_came ≡ 0)
         (unshown : h.out.keys_sent ≡ 0) (asked : h.stage_back.window ≡ false) (ready : h.out.ready ≡ 1) (owes : h.owes ≡ true) (nothing_waits : h.waiting ≡ 0)
-        (x : Sent) (hand : h.hand ≡ in_hand x false false) (events : Has (duties.Step step_duties.Events) ds) (timer : Has (duties.Silent (silent_duties.Timer A)) ds)
+        (x : Sent) (hand : h.hand ≡ in_hand x false false) (events : Has (Duty.Step StepDuty.Events) ds) (timer : Has (Duty.Silent (SilentDuty.Timer A)) ds)
         (fs gs : List (Flight Carried)) (f : Flight Carried) (flies : FliesAs c keys A f third)
         (more : fs ≡ m.flying ++ f ∷ []) (same : gs ≡ n.flying)
       where
@@ -237,7 +209,7 @@ module _ {keys : Keys} {k j : Setting} {c : Profile} {begun begun_back : Lane} {
             (subst (λ (o : Option Hand). WayIs c keys k j B h.back.sender h.back.receiver h.back.datas h.out.acks o m.end.tcp.send.una
             n.end.tcp.recv.edge n.flying) hand h.way_back)
 
-        pub others : IsApart A B (duties.Send (send_duties.Acknowledge A))
+        pub others : IsApart A B (Duty.Send (SendDuty.Acknowledge A))
         others = record {
           window = differ refl;
           update = differ refl;
@@ -259,10 +231,10 @@ module _ {keys : Keys} {k j : Setting} {c : Profile} {begun begun_back : Lane} {
             (record { some = some_edge edge_one; bytes = omega arith; most = most_edge j.total edge_one; end = λ e. absurd (omega (arith, e)) }, λ is e. omega arith, edge_one)
             (refl, refl, refl, refl) refl (sent_one, refl, unshown, refl) (le_refl m.end.tcp.recv.edge) (le_refl m.end.tcp.recv.edge)
             (one_again sent_one) (key_is unshown) done (room lane.numbers.granted) (same_bytes h.out.granted nothing_waits) events
-            (stage_drops A B (duties.Send (send_duties.Acknowledge A)) ds n.end.treated.asked h.owes_back h.stage others h.stages)
+            (stage_drops A B (Duty.Send (SendDuty.Acknowledge A)) ds n.end.treated.asked h.owes_back h.stage others h.stages)
             (answered_drops h.stage_back.update refl h.stages_back events)
-            (inr timer) (settles_drop B (duties.Send (send_duties.Acknowledge A)) ds n.end (differ refl) h.settles_back) (some_max sent_one)
-            (begun_drops B k h.back.sender h.out.receiver n.end (duties.Send (send_duties.Acknowledge A)) ds (differ refl) (λ is. differ refl) h.begins_back)
+            (inr timer) (settles_drop B (Duty.Send (SendDuty.Acknowledge A)) ds n.end (differ refl) h.settles_back) (some_max sent_one)
+            (begun_drops B k h.back.sender h.out.receiver n.end (Duty.Send (SendDuty.Acknowledge A)) ds (differ refl) (λ is. differ refl) h.begins_back)
             (λ e b. absurd (both_ways false refl e))
           where
             plus_none : (x : ℕ) → x + 0 ≡ x
@@ -284,10 +256,10 @@ module _ (start : Start) (plan : PathPlan) (k j : Setting) (s v : Lane) (t0 u0 :
         Relation q = Runs start plan k j s v a b books q
 
         abbrev sends_off : PlainSegment → PathState Carried
-        sends_off segment = sent_on values A segment (having_sent to_send.Ack p.clock segment p.a) (emission A) (with_agenda (duties.Send (send_duties.Acknowledge A) ∷ emission A) p)
+        sends_off segment = sent_on values A segment (having_sent Occasion.Ack p.clock segment p.a) (emission A) (with_agenda (Duty.Send (SendDuty.Acknowledge A) ∷ emission A) p)
 
-        third_goes : (h : Relation (with_agenda (duties.Send (send_duties.Acknowledge A) ∷ emission A) p)) → TreatsThird A keys (own_bench h.faces) (other_bench h.faces) (emission A)
-            → Relation (acknowledges values A (with_agenda (duties.Send (send_duties.Acknowledge A) ∷ emission A) p))
+        third_goes : (h : Relation (with_agenda (Duty.Send (SendDuty.Acknowledge A) ∷ emission A) p)) → TreatsThird A keys (own_bench h.faces) (other_bench h.faces) (emission A)
+            → Relation (acknowledges values A (with_agenda (Duty.Send (SendDuty.Acknowledge A) ∷ emission A) p))
         third_goes h t =
             let x = third plan.delay t0 u0 k_is j_is going going_back h.faces in
             let segment = said p.profile keys A x in
@@ -332,7 +304,7 @@ module _ (start : Start) (plan : PathPlan) (k j : Setting) (s v : Lane) (t0 u0 :
               ) refl t.2 (emission_plain A);
             })
           where
-            no_window : Has (duties.Ask (ask_duties.Window A)) (duties.Send (send_duties.Acknowledge A) ∷ emission A) → ⊥
+            no_window : Has (Duty.Ask (AskDuty.Window A)) (Duty.Send (SendDuty.Acknowledge A) ∷ emission A) → ⊥
             no_window (inl same) = differ refl same
             no_window (inr (inl same)) = differ refl same
             no_window (inr (inr (inl same))) = differ refl same
@@ -364,9 +336,9 @@ module _ (start : Start) (plan : PathPlan) (k j : Setting) (s v : Lane) (t0 u0 :
             shown : {r : ℕ} (y : ℕ) → r ≡ 1 → r ≤ max y 1
             shown y is = omega (arith, is)
 
-        pub third_answered : (h : Relation (with_agenda (duties.Send (send_duties.Acknowledge A) ∷ ds) p)) → TreatsThird A keys (own_bench h.faces) (other_bench h.faces) ds
-            → Relation (acknowledges values A (with_agenda (duties.Send (send_duties.Acknowledge A) ∷ ds) p))
+        pub third_answered : (h : Relation (with_agenda (Duty.Send (SendDuty.Acknowledge A) ∷ ds) p)) → TreatsThird A keys (own_bench h.faces) (other_bench h.faces) ds
+            → Relation (acknowledges values A (with_agenda (Duty.Send (SendDuty.Acknowledge A) ∷ ds) p))
         third_answered h t =
-            subst (λ (es : List Duty). (g : Relation (with_agenda (duties.Send (send_duties.Acknowledge A) ∷ es) p))
-            → TreatsThird A keys (own_bench g.faces) (other_bench g.faces) es → Relation (acknowledges values A (with_agenda (duties.Send (send_duties.Acknowledge A) ∷ es) p)))
+            subst (λ (es : List Duty). (g : Relation (with_agenda (Duty.Send (SendDuty.Acknowledge A) ∷ es) p))
+            → TreatsThird A keys (own_bench g.faces) (other_bench g.faces) es → Relation (acknowledges values A (with_agenda (Duty.Send (SendDuty.Acknowledge A) ∷ es) p)))
             (sym t.3) third_goes h t

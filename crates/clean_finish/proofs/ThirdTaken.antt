@@ -1,27 +1,11 @@
 -- B takes the third segment: A's keys, which were told before, and what it acknowledges.
-use Rattle.std.proofs.Common.{◌≡◌, refl, sym, subst, ap, ◌∙◌, ℕ, ◌+◌, ◌<◌, ◌≤◌, min, max, nat_lt, true, false, if◌then◌else◌, inl, inr, Option, Some, None, List, ◌∷◌, ◌++◌, length, le_refl, arith}
-use Rattle.std.proofs.lemmas.Bool.{both_ways, le-ltb}
-use Rattle.sides.specs.declared.side.Side.TheVariants.{A, B}
-use Rattle.send_book.specs.declared.call.SendCall.TheVariants as send_calls
-use Rattle.send_book.specs.State.{Sending as SendBook}
-use Rattle.actor_desk.specs.declared.ask.Ask.TheVariants as asks
-use Rattle.actor_desk.specs.Desk.{SixBooks, after_ask}
-use Rattle.stream_apps.specs.Apps.{AppState}
-use Rattle.path_agenda.specs.Agenda.{payload_came}
-use Rattle.path_agenda.specs.declared.duty.Duty.{Duty}
-use Rattle.path_agenda.specs.declared.duty.Duty.TheVariants as duties
-use Rattle.path_agenda.specs.declared.duty.SendDuty.TheVariants as send_duties
-use Rattle.path_agenda.specs.declared.duty.StepDuty.TheVariants as step_duties
-use Rattle.path_core.specs.State.{PathState, with_agenda}
-use Rattle.path_core.specs.Values.{Carried}
-use Rattle.world_laws.specs.Openings.{PathPlan, Start}
-use Rattle.pace.specs.Lane.{Setting, Lane, Sender, Receiver, all_left}
-use Rattle.pace.specs.Going.{Going}
-use Rattle.clean_finish.specs.Segments.{Sent, Keys, Brings, octets_of, data_fin_of, is_opening, CountsAs, Follow, TellsAs}
-use Rattle.clean_finish.specs.Segments.Brings.{ShowsKeys}
-use Rattle.clean_finish.specs.Shows.{Hand, IsOpen, brings_in}
-use Rattle.clean_finish.specs.Running.{Has, Bench, Beside, FacesOfA, FacesOfB, Treats, TreatsCopy, own_bench, other_bench, IsSetting, Runs, keys_in}
-use Rattle.clean_finish.specs.Running.Treatment.{AtFirst, AfterOne}
+use Rattle.clean_finish.proofs.Words.{◌≡◌, refl, sym, subst, ap, ◌∙◌, ℕ, ◌+◌, ◌<◌, ◌≤◌, min, max, nat_lt, true, false, if◌then◌else◌, inl, inr, Option, None}
+use Rattle.clean_finish.proofs.Words.{List, ◌∷◌, ◌++◌, length, arith, Some, le_refl, both_ways, le-ltb, A, B, SendBook, SendCall, Duty, SendDuty, StepDuty}
+use Rattle.clean_finish.proofs.Words.{payload_came, SixBooks, after_ask, Ask, AppState, Carried, PathState, with_agenda, Setting, Lane, all_left, Sender}
+use Rattle.clean_finish.proofs.Words.{Receiver, Going, PathPlan, Start, Hand, brings_in, IsOpen, Sent, Keys, Brings, octets_of, CountsAs, TellsAs, Follow}
+use Rattle.clean_finish.proofs.Words.{data_fin_of, ShowsKeys, Beside, Treats, TreatsCopy, own_bench, other_bench, FacesOfB, IsSetting, Runs, keys_in, Has}
+use Rattle.clean_finish.proofs.Words.{Bench, FacesOfA, AtFirst, AfterOne}
+use Rattle.clean_finish.specs.Segments.{is_opening}
 use Rattle.clean_finish.proofs.Acknowledged.{hears_on}
 use Rattle.clean_finish.proofs.BookStays.{ack_of_nothing}
 use Rattle.clean_finish.proofs.Brought.{brought}
@@ -36,9 +20,6 @@ use Rattle.clean_finish.proofs.TakesIn.{all_of, own_taken, control_is as control
 use Rattle.clean_finish.proofs.Turned.{from_a, from_b}
 
 -- ---- numbers
-
-one_of : {x : ℕ} → x ≡ 1 → 1 ≤ x
-one_of is = omega (arith, is)
 
 at_most_one : {x : ℕ} → x ≡ 1 → x ≤ 1
 at_most_one is = omega (arith, is)
@@ -75,9 +56,6 @@ same_max is = omega (arith, is)
 
 same_count : {x y : ℕ} → x ≡ 1 → y ≡ 1 → y ≡ x
 same_count p q = omega (arith, p, q)
-
-up_to : {x y : ℕ} (z : ℕ) → 1 ≤ x → min 1 x ≤ y → min 1 (max x z) ≤ y
-up_to z p q = omega (arith, p, q)
 
 none_received : {l n r : ℕ} → l ≡ r → n ≡ 0 → l + n ≡ r
 none_received p q = omega (arith, p, q)
@@ -146,7 +124,7 @@ module _ (start : Start) (plan : PathPlan) (k j : Setting) (s v : Lane) (t0 u0 :
         Relation six q = Runs start plan k j s v a b six q
 
         abbrev d : Duty
-        d = duties.Step (step_duties.Heard B 0)
+        d = Duty.Step (StepDuty.Heard B 0)
 
         module _ (ds : List Duty) (h : Relation books (with_agenda (d ∷ ds) p)) (f : TreatsCopy B keys AtFirst true ShowsKeys (other_bench h.faces))
             (beside : Beside B (own_bench h.faces) (other_bench h.faces) ds (payload_came B))
@@ -190,7 +168,7 @@ module _ (start : Start) (plan : PathPlan) (k j : Setting) (s v : Lane) (t0 u0 :
             there = subst (λ (es : List Duty). Emits B es) (sym beside.2) (heard_emits B 1 0)
 
             abbrev books_told : SixBooks
-            books_told = after_ask (asks.Send B (send_calls.AckIn 0 x.telling.edge)) books
+            books_told = after_ask (Ask.Send B (SendCall.AckIn 0 x.telling.edge)) books
 
             abbrev heard : FacesOfB keys k j s v a b books_told (with_agenda ds p)
             heard = hears_on view refl there x true hand 0 x.telling.edge (none_future _) (omega arith) tells.0 (plus_none x.telling.edge) f.rests
@@ -208,8 +186,8 @@ module _ (start : Start) (plan : PathPlan) (k j : Setting) (s v : Lane) (t0 u0 :
             ready : 1 ≤ view.out.ready
             ready = some_of (f.clear.1 refl) view.own.modes.cleared
 
-            acknowledges : Has (duties.Send (send_duties.Acknowledge B)) ds
-            acknowledges = subst (λ (es : List Duty). Has (duties.Send (send_duties.Acknowledge B)) es) (sym beside.2)
+            acknowledges : Has (Duty.Send (SendDuty.Acknowledge B)) ds
+            acknowledges = subst (λ (es : List Duty). Has (Duty.Send (SendDuty.Acknowledge B)) es) (sym beside.2)
                 (inr (inr (inr (inr (inr (inr (inr (inr (inr (inr (inr (inr (inr (inr (inl refl)))))))))))))))
 
             control_same : x.control ≡ more.back.control_came

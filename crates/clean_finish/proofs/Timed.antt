@@ -1,19 +1,6 @@
 -- The timer of either end is settled.
-use Rattle.std.proofs.Common.{ℕ, List, ◌∷◌}
-use Rattle.sides.specs.declared.side.Side.TheVariants.{A, B}
-use Rattle.actor_desk.specs.Desk.{SixBooks}
-use Rattle.stream_apps.specs.Apps.{AppState}
-use Rattle.path_agenda.specs.declared.duty.Duty.{Duty}
-use Rattle.path_agenda.specs.declared.duty.Duty.TheVariants as duties
-use Rattle.path_agenda.specs.declared.duty.SilentDuty.TheVariants as silent_duties
-use Rattle.path_core.specs.Timer.{after_timer}
-use Rattle.path_core.specs.State.{PathState, with_agenda, with_end}
-use Rattle.path_core.specs.Values.{Carried}
-use Rattle.world_laws.specs.Openings.{PathPlan, Start}
-use Rattle.pace.specs.Lane.{Setting, Lane, all_left}
-use Rattle.pace.specs.Going.{Going}
-use Rattle.clean_finish.specs.Segments.{Keys}
-use Rattle.clean_finish.specs.Running.{own_bench, other_bench, IsSetting, Runs, keys_in}
+use Rattle.clean_finish.proofs.Words.{ℕ, List, ◌∷◌, A, B, Duty, SilentDuty, SixBooks, AppState, Carried, PathState, with_agenda, with_end, after_timer, Setting}
+use Rattle.clean_finish.proofs.Words.{Lane, all_left, Going, PathPlan, Start, Keys, own_bench, other_bench, IsSetting, Runs, keys_in}
 use Rattle.clean_finish.proofs.Plainly.{plain_on}
 use Rattle.clean_finish.proofs.Settled.{settled_on}
 use Rattle.clean_finish.proofs.Turned.{from_a, from_b}
@@ -30,7 +17,7 @@ module _ (start : Start) (plan : PathPlan) (k j : Setting) (s v : Lane) (t0 u0 :
         abbrev Relation : PathState Carried → Type 0
         Relation q = Runs start plan k j s v a b books q
 
-        pub passes_timer_a : Relation (with_agenda (duties.Silent (silent_duties.Timer A) ∷ ds) p) → Relation (with_agenda ds (with_end A (after_timer p.clock p.a) p))
+        pub passes_timer_a : Relation (with_agenda (Duty.Silent (SilentDuty.Timer A) ∷ ds) p) → Relation (with_agenda ds (with_end A (after_timer p.clock p.a) p))
         passes_timer_a h =
             let t = h.treats in
             let faces = settled_on plan.delay t0 u0 k_is j_is going going_back h.faces t.1 t.0.0.answered t.4 in
@@ -50,11 +37,7 @@ module _ (start : Start) (plan : PathPlan) (k j : Setting) (s v : Lane) (t0 u0 :
                   none = t.0.0.none;
                   mapped = t.0.0.mapped;
                   least = t.0.0.least;
-                  idle = record {
-                    places = t.0.0.idle.places;
-                    incoming = t.0.0.idle.incoming;
-                    fin = t.0.0.idle.fin;
-                  };
+                  idle = record { places = t.0.0.idle.places; incoming = t.0.0.idle.incoming; fin = t.0.0.idle.fin };
                   owes = t.0.0.owes;
                   answered = t.0.0.answered;
                   ready = t.0.0.ready;
@@ -64,10 +47,10 @@ module _ (start : Start) (plan : PathPlan) (k j : Setting) (s v : Lane) (t0 u0 :
               ) t.1 t.2 t.5;
             }
 
-        pub passes_timer_b : Relation (with_agenda (duties.Silent (silent_duties.Timer B) ∷ ds) p) → Relation (with_agenda ds (with_end B (after_timer p.clock p.b) p))
+        pub passes_timer_b : Relation (with_agenda (Duty.Silent (SilentDuty.Timer B) ∷ ds) p) → Relation (with_agenda ds (with_end B (after_timer p.clock p.b) p))
         passes_timer_b h =
             let t = h.treats in
-            let faces = from_b keys k j s v a b books (with_agenda ds (with_end B (after_timer p.clock p.b) p)) (settled_on plan.delay u0 t0 j_is k_is going_back going (from_a keys k j s v a b books (with_agenda (duties.Silent (silent_duties.Timer B) ∷ ds) p) h.faces) t.2 t.0.1.answered t.4) in
+            let faces = from_b keys k j s v a b books (with_agenda ds (with_end B (after_timer p.clock p.b) p)) (settled_on plan.delay u0 t0 j_is k_is going_back going (from_a keys k j s v a b books (with_agenda (Duty.Silent (SilentDuty.Timer B) ∷ ds) p) h.faces) t.2 t.0.1.answered t.4) in
             record {
               path = record {
                 profile = h.path.profile;
@@ -85,11 +68,7 @@ module _ (start : Start) (plan : PathPlan) (k j : Setting) (s v : Lane) (t0 u0 :
                   none = t.0.1.none;
                   mapped = t.0.1.mapped;
                   least = t.0.1.least;
-                  idle = record {
-                    places = t.0.1.idle.places;
-                    incoming = t.0.1.idle.incoming;
-                    fin = t.0.1.idle.fin;
-                  };
+                  idle = record { places = t.0.1.idle.places; incoming = t.0.1.idle.incoming; fin = t.0.1.idle.fin };
                   owes = t.0.1.owes;
                   answered = t.0.1.answered;
                   ready = t.0.1.ready;

@@ -1,14 +1,6 @@
 -- No timer runs out in the round: that of an end is the one of its lane, once it is settled.
-use Rattle.std.proofs.Common.{◌≡◌, refl, subst, ap, ◌∙◌, ℕ, ◌≤◌, Bool, false, ◌||◌, inl, inr, Option, Some, None, IfSome, [], ◌∷◌, arith}
-use Rattle.sides.specs.declared.side.Side.{Side}
-use Rattle.path_agenda.specs.declared.duty.Duty.TheVariants as duties
-use Rattle.path_agenda.specs.declared.duty.StepDuty.TheVariants as step_duties
-use Rattle.path_core.specs.Profile.{Profile}
-use Rattle.pace.specs.Lane.{Setting, Lane, all_left}
-use Rattle.pace.specs.Going.{Going, Reason}
-use Rattle.clean_finish.specs.Machine.{seen_timer}
-use Rattle.clean_finish.specs.Segments.{Keys}
-use Rattle.clean_finish.specs.Running.{IsSettledSoon, Half, Facing, IsSetting}
+use Rattle.clean_finish.proofs.Words.{◌≡◌, refl, subst, ap, ◌∙◌, ℕ, ◌≤◌, Bool, false, ◌||◌, inl, inr, Option, None, [], ◌∷◌, arith, Some, IfSome, Side, Duty}
+use Rattle.clean_finish.proofs.Words.{StepDuty, Profile, Setting, Lane, all_left, Going, Reason, seen_timer, Keys, IsSetting, Facing, Half, IsSettledSoon}
 use Rattle.clean_finish.proofs.Dropping.{differ}
 use Rattle.clean_finish.proofs.Quiet.{now_out}
 
@@ -27,12 +19,12 @@ late_by R t until timer seen news quiet is late low =
 module _ {s : Side} {keys : Keys} {k j : Setting} {c : Profile} {begun begun_back : Lane} {m n : Half} {clock until : ℕ} (ticks t u : ℕ)
     (k_is : IsSetting c ticks k) (j_is : IsSetting c ticks j)
     (going : Going k begun t all_left begun) (going_back : Going j begun_back u all_left begun_back)
-    (h : Facing s keys k j c begun begun_back m n clock until ((duties.Step step_duties.Events) ∷ duties.End ∷ []))
+    (h : Facing s keys k j c begun begun_back m n clock until ((Duty.Step StepDuty.Events) ∷ Duty.End ∷ []))
   where
     now : Going k begun t h.stage h.out
     now = now_out ticks t u k_is j_is going going_back h
 
-    settled : IsSettledSoon s ((duties.Step step_duties.Events) ∷ duties.End ∷ []) m.end → (m.end.tcp.timing.news || m.end.sending.news) ≡ false
+    settled : IsSettledSoon s ((Duty.Step StepDuty.Events) ∷ Duty.End ∷ []) m.end → (m.end.tcp.timing.news || m.end.sending.news) ≡ false
     settled (inl is) = is
     settled (inr (inl same)) = absurd (differ refl same)
     settled (inr (inr (inl same))) = absurd (differ refl same)

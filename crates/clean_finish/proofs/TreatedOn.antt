@@ -1,20 +1,7 @@
 -- A duty of a copy that its lanes don't see: the payload is kept, a mapping is learned, the control book is told.
-use Rattle.std.proofs.Common.{◌≡◌, refl, sym, subst, ◌∙◌, ℕ, ◌≤◌, Bool, false, inl, Option, List, ◌∷◌}
-use Rattle.sides.specs.declared.side.Side.{Side}
-use Rattle.sides.specs.Side.{peer}
-use Rattle.control_book.specs.Control.{Control}
-use Rattle.dss_mapping.specs.Mappings.{Mappings}
-use Rattle.subflow_recv.specs.Receiving.{Receiving as SubflowReceiving}
-use Rattle.path_agenda.specs.declared.duty.Duty.{Duty}
-use Rattle.path_store.specs.declared.mapped_data_fin.MappedDataFin.{MappedDataFin}
-use Rattle.path_core.specs.declared.modes.Modes.{Modes}
-use Rattle.path_core.specs.End.{PathEnd}
-use Rattle.path_core.specs.Treated.{Treated}
-use Rattle.path_core.specs.Profile.{Profile}
-use Rattle.pace.specs.Lane.{Setting, Lane}
-use Rattle.clean_finish.specs.Segments.{Keys, edge_after}
-use Rattle.clean_finish.specs.Shows.{EndIs, ModesAre, ControlIs}
-use Rattle.clean_finish.specs.Running.{StageIs, Half, Facing}
+use Rattle.clean_finish.proofs.Words.{◌≡◌, refl, sym, subst, ◌∙◌, ℕ, ◌≤◌, Bool, false, inl, Option, List, ◌∷◌, Side, peer, Control, Mappings, SubflowReceiving}
+use Rattle.clean_finish.proofs.Words.{MappedDataFin, Duty, Profile, PathEnd, Modes, Treated, Setting, Lane, EndIs, ControlIs, ModesAre, Keys, edge_after}
+use Rattle.clean_finish.proofs.Words.{Facing, Half, StageIs}
 use Rattle.clean_finish.proofs.Dropping.{is_waited, apart, is_apart, stage_drops, settles_drop, begun_drops}
 
 module _ {s : Side} {keys : Keys} {k j : Setting} {c : Profile} {begun begun_back : Lane} {m n : Half} {clock until : ℕ} {d : Duty} {ds : List Duty}
@@ -61,10 +48,7 @@ module _ {s : Side} {keys : Keys} {k j : Setting} {c : Profile} {begun begun_bac
           steady = h.own.subflow.congestion.steady;
           row = h.own.subflow.congestion.row;
         };
-        come = record {
-          edge = same_edge ∙ h.own.subflow.come.edge;
-          window = same_window ∙ h.own.subflow.come.window;
-        };
+        come = record { edge = same_edge ∙ h.own.subflow.come.edge; window = same_window ∙ h.own.subflow.come.window };
         heard = record {
           told = h.own.subflow.heard.told;
           most = h.own.subflow.heard.most;

@@ -1,23 +1,7 @@
 -- The first steps of a turn: how the side stands, and what is to be acknowledged.
-use Rattle.std.proofs.Common.{sym, subst, ℕ, List, ◌∷◌}
-use Rattle.sides.specs.declared.side.Side.{Side}
-use Rattle.sides.specs.declared.side.Side.TheVariants.{A, B}
-use Rattle.control_book.specs.declared.call.ControlCall.TheVariants as control_calls
-use Rattle.actor_desk.specs.declared.ask.Ask.TheVariants as asks
-use Rattle.actor_desk.specs.Desk.{SixBooks, reply_of, after_ask}
-use Rattle.stream_apps.specs.Apps.{AppState}
-use Rattle.path_agenda.specs.declared.duty.Duty.{Duty}
-use Rattle.path_agenda.specs.declared.duty.Duty.TheVariants as duties
-use Rattle.path_agenda.specs.declared.duty.AskDuty.TheVariants as ask_duties
-use Rattle.path_agenda.specs.declared.duty.StepDuty.TheVariants as step_duties
-use Rattle.path_core.specs.Standing.{look_ask, answered_look, ack_out_ask, answered_ack_out}
-use Rattle.path_core.specs.State.{PathState, with_agenda}
-use Rattle.path_core.specs.Values.{Carried}
-use Rattle.world_laws.specs.Openings.{PathPlan, Start}
-use Rattle.pace.specs.Lane.{Setting, Lane, all_left}
-use Rattle.pace.specs.Going.{Going}
-use Rattle.clean_finish.specs.Segments.{Keys}
-use Rattle.clean_finish.specs.Running.{own_bench, other_bench, IsSetting, Runs, keys_in}
+use Rattle.clean_finish.proofs.Words.{sym, subst, ℕ, List, ◌∷◌, Side, A, B, ControlCall, Duty, StepDuty, AskDuty, SixBooks, reply_of, after_ask, Ask, AppState}
+use Rattle.clean_finish.proofs.Words.{Carried, look_ask, answered_look, ack_out_ask, answered_ack_out, PathState, with_agenda, Setting, Lane, all_left, Going}
+use Rattle.clean_finish.proofs.Words.{PathPlan, Start, Keys, own_bench, other_bench, IsSetting, Runs, keys_in}
 use Rattle.clean_finish.proofs.Asked.{window_asked}
 use Rattle.clean_finish.proofs.Looked.{looked}
 use Rattle.clean_finish.proofs.Plainly.{plain_on}
@@ -36,17 +20,17 @@ module _ (start : Start) (plan : PathPlan) (k j : Setting) (s v : Lane) (t0 u0 :
         Relation six q = Runs start plan k j s v a b six q
 
         abbrev look_goes : Side → ℕ → PathState Carried
-        look_goes q number = answered_look q (reply_of books (asks.Control q (control_calls.Look number))) (with_agenda (duties.Step (step_duties.Look q) ∷ ds) p)
+        look_goes q number = answered_look q (reply_of books (Ask.Control q (ControlCall.Look number))) (with_agenda (Duty.Step (StepDuty.Look q) ∷ ds) p)
 
         abbrev window_goes : Side → PathState Carried
-        window_goes q = answered_ack_out q (reply_of books (ack_out_ask q)) ds (with_agenda (duties.Ask (ask_duties.Window q) ∷ ds) p)
+        window_goes q = answered_ack_out q (reply_of books (ack_out_ask q)) ds (with_agenda (Duty.Ask (AskDuty.Window q) ∷ ds) p)
 
-        pub look_a : Relation books (with_agenda (duties.Step (step_duties.Look A) ∷ ds) p)
-            → Relation (after_ask (look_ask A p) books) (answered_look A (reply_of books (look_ask A p)) (with_agenda (duties.Step (step_duties.Look A) ∷ ds) p))
+        pub look_a : Relation books (with_agenda (Duty.Step (StepDuty.Look A) ∷ ds) p)
+            → Relation (after_ask (look_ask A p) books) (answered_look A (reply_of books (look_ask A p)) (with_agenda (Duty.Step (StepDuty.Look A) ∷ ds) p))
         look_a h =
             let t = h.treats in
             let faces = looked h.faces in
-            subst (λ (number : ℕ). Relation (after_ask (asks.Control A (control_calls.Look number)) books) (look_goes A number)) (sym h.path.number)
+            subst (λ (number : ℕ). Relation (after_ask (Ask.Control A (ControlCall.Look number)) books) (look_goes A number)) (sym h.path.number)
             (record {
               path = record {
                 profile = h.path.profile;
@@ -63,11 +47,7 @@ module _ (start : Start) (plan : PathPlan) (k j : Setting) (s v : Lane) (t0 u0 :
                   none = t.0.0.none;
                   mapped = t.0.0.mapped;
                   least = t.0.0.least;
-                  idle = record {
-                    places = t.0.0.idle.places;
-                    incoming = t.0.0.idle.incoming;
-                    fin = t.0.0.idle.fin;
-                  };
+                  idle = record { places = t.0.0.idle.places; incoming = t.0.0.idle.incoming; fin = t.0.0.idle.fin };
                   owes = t.0.0.owes;
                   answered = t.0.0.answered;
                   ready = t.0.0.ready;
@@ -77,12 +57,12 @@ module _ (start : Start) (plan : PathPlan) (k j : Setting) (s v : Lane) (t0 u0 :
               ) t.1 t.2 t.5;
             })
 
-        pub look_b : Relation books (with_agenda (duties.Step (step_duties.Look B) ∷ ds) p)
-            → Relation (after_ask (look_ask B p) books) (answered_look B (reply_of books (look_ask B p)) (with_agenda (duties.Step (step_duties.Look B) ∷ ds) p))
+        pub look_b : Relation books (with_agenda (Duty.Step (StepDuty.Look B) ∷ ds) p)
+            → Relation (after_ask (look_ask B p) books) (answered_look B (reply_of books (look_ask B p)) (with_agenda (Duty.Step (StepDuty.Look B) ∷ ds) p))
         look_b h =
             let t = h.treats in
-            let faces = from_b keys k j s v a b (after_ask (asks.Control B (control_calls.Look 0)) books) (look_goes B 0) (looked (from_a keys k j s v a b books (with_agenda (duties.Step (step_duties.Look B) ∷ ds) p) h.faces)) in
-            subst (λ (number : ℕ). Relation (after_ask (asks.Control B (control_calls.Look number)) books) (look_goes B number)) (sym h.path.number)
+            let faces = from_b keys k j s v a b (after_ask (Ask.Control B (ControlCall.Look 0)) books) (look_goes B 0) (looked (from_a keys k j s v a b books (with_agenda (Duty.Step (StepDuty.Look B) ∷ ds) p) h.faces)) in
+            subst (λ (number : ℕ). Relation (after_ask (Ask.Control B (ControlCall.Look number)) books) (look_goes B number)) (sym h.path.number)
             (record {
               path = record {
                 profile = h.path.profile;
@@ -100,11 +80,7 @@ module _ (start : Start) (plan : PathPlan) (k j : Setting) (s v : Lane) (t0 u0 :
                   none = t.0.1.none;
                   mapped = t.0.1.mapped;
                   least = t.0.1.least;
-                  idle = record {
-                    places = t.0.1.idle.places;
-                    incoming = t.0.1.idle.incoming;
-                    fin = t.0.1.idle.fin;
-                  };
+                  idle = record { places = t.0.1.idle.places; incoming = t.0.1.idle.incoming; fin = t.0.1.idle.fin };
                   owes = t.0.1.owes;
                   answered = t.0.1.answered;
                   ready = t.0.1.ready;
@@ -113,7 +89,7 @@ module _ (start : Start) (plan : PathPlan) (k j : Setting) (s v : Lane) (t0 u0 :
               ) t.1 t.2 t.5;
             })
 
-        pub window_a : Relation books (with_agenda (duties.Ask (ask_duties.Window A) ∷ ds) p) → Relation books (window_goes A)
+        pub window_a : Relation books (with_agenda (Duty.Ask (AskDuty.Window A) ∷ ds) p) → Relation books (window_goes A)
         window_a h =
             let t = h.treats in
             let faces = window_asked plan.delay t0 u0 k_is j_is going going_back h.faces in
@@ -133,11 +109,7 @@ module _ (start : Start) (plan : PathPlan) (k j : Setting) (s v : Lane) (t0 u0 :
                   none = t.0.0.none;
                   mapped = t.0.0.mapped;
                   least = t.0.0.least;
-                  idle = record {
-                    places = t.0.0.idle.places;
-                    incoming = t.0.0.idle.incoming;
-                    fin = t.0.0.idle.fin;
-                  };
+                  idle = record { places = t.0.0.idle.places; incoming = t.0.0.idle.incoming; fin = t.0.0.idle.fin };
                   owes = t.0.0.owes;
                   answered = t.0.0.answered;
                   ready = t.0.0.ready;
@@ -147,10 +119,10 @@ module _ (start : Start) (plan : PathPlan) (k j : Setting) (s v : Lane) (t0 u0 :
               ) t.1 t.2 t.5;
             }
 
-        pub window_b : Relation books (with_agenda (duties.Ask (ask_duties.Window B) ∷ ds) p) → Relation books (window_goes B)
+        pub window_b : Relation books (with_agenda (Duty.Ask (AskDuty.Window B) ∷ ds) p) → Relation books (window_goes B)
         window_b h =
             let t = h.treats in
-            let faces = from_b keys k j s v a b books (window_goes B) (window_asked plan.delay u0 t0 j_is k_is going_back going (from_a keys k j s v a b books (with_agenda (duties.Ask (ask_duties.Window B) ∷ ds) p) h.faces)) in
+            let faces = from_b keys k j s v a b books (window_goes B) (window_asked plan.delay u0 t0 j_is k_is going_back going (from_a keys k j s v a b books (with_agenda (Duty.Ask (AskDuty.Window B) ∷ ds) p) h.faces)) in
             record {
               path = record {
                 profile = h.path.profile;
@@ -168,11 +140,7 @@ module _ (start : Start) (plan : PathPlan) (k j : Setting) (s v : Lane) (t0 u0 :
                   none = t.0.1.none;
                   mapped = t.0.1.mapped;
                   least = t.0.1.least;
-                  idle = record {
-                    places = t.0.1.idle.places;
-                    incoming = t.0.1.idle.incoming;
-                    fin = t.0.1.idle.fin;
-                  };
+                  idle = record { places = t.0.1.idle.places; incoming = t.0.1.idle.incoming; fin = t.0.1.idle.fin };
                   owes = t.0.1.owes;
                   answered = t.0.1.answered;
                   ready = t.0.1.ready;

@@ -1,14 +1,5 @@
 -- The world as the other side sees it, and with books that are equal.
-use Rattle.std.proofs.Common.{◌≡◌, subst}
-use Rattle.sides.specs.declared.side.Side.TheVariants.{A, B}
-use Rattle.actor_desk.specs.Desk.{SixBooks}
-use Rattle.stream_apps.specs.Apps.{AppState}
-use Rattle.path_core.specs.State.{PathState}
-use Rattle.path_core.specs.Values.{Carried}
-use Rattle.pace.specs.Lane.{Setting, Lane}
-use Rattle.clean_finish.specs.Segments.{Keys}
-use Rattle.clean_finish.specs.Shows.{ControlIs}
-use Rattle.clean_finish.specs.Running.{AppsShow, FacesOfA, FacesOfB}
+use Rattle.clean_finish.proofs.Words.{◌≡◌, subst, A, B, SixBooks, AppState, Carried, PathState, Setting, Lane, ControlIs, Keys, FacesOfB, FacesOfA, AppsShow}
 
 module _ (keys : Keys) (k j : Setting) (s v : Lane) (a b : AppState) where
   abbrev pub from_a : (books : SixBooks) (p : PathState Carried) → FacesOfA keys k j s v a b books p → FacesOfB keys k j s v a b books p

@@ -1,33 +1,10 @@
 -- An end tells that its window has grown.
-use Rattle.std.proofs.Common.{◌≡◌, refl, sym, subst, ap, ◌∙◌, ℕ, ◌+◌, ◌-◌, ◌*◌, ◌<◌, ◌≤◌, min, max, Bool, true, false, inl, inr, ⊎_elim, Option, None, List, [], ◌∷◌, ◌++◌, le_refl, arith}
-use Rattle.std.proofs.lemmas.Bool.{both_ways, and_parts, leb-true}
-use Rattle.sides.specs.declared.side.Side.{Side}
-use Rattle.sides.specs.declared.side.Side.TheVariants.{A, B}
-use Rattle.sides.specs.Side.{peer}
-use Rattle.link_model.specs.declared.flight.Flight.{Flight}
-use Rattle.path_segments.specs.Laws.{window_told}
-use Rattle.subflow_tcp.specs.declared.handshake.State.{State}
-use Rattle.subflow_tcp.specs.Segments.{one_if}
-use Rattle.path_agenda.specs.declared.duty.Duty.{Duty}
-use Rattle.path_agenda.specs.declared.duty.Duty.TheVariants as duties
-use Rattle.path_agenda.specs.declared.duty.SendDuty.TheVariants as send_duties
-use Rattle.path_agenda.specs.declared.duty.StepDuty.TheVariants as step_duties
-use Rattle.path_core.specs.End.{PathEnd}
-use Rattle.path_core.specs.OptionsOut.{ack_said}
-use Rattle.path_core.specs.Standing.{is_connected, has_grown, is_update_due}
-use Rattle.path_core.specs.Profile.{Profile}
-use Rattle.path_core.specs.Values.{Carried}
-use Rattle.actor_desk.specs.Words.{pick}
-use Rattle.pace.specs.Lane.{Setting, Lane, Stage, is_whole, all_left}
-use Rattle.pace.specs.Going.{Going, pending}
-use Rattle.pace.specs.Moves.{MaySay, MaySend}
-use Rattle.pace.specs.Moves.Move.{sends_none}
-use Rattle.clean_finish.specs.Segments.{Sent, Keys, copy_in, dss_from, said, FliesAs, AcknowledgesAs}
-use Rattle.clean_finish.specs.Segments.Brings.{Acknowledges}
-use Rattle.clean_finish.specs.Shows.{Hand, brings_still, HeardIs, IsMapping, IsPhase, IsToldEdge, last_told, row_seen}
-use Rattle.clean_finish.specs.Shows.IsPhase.{Opening, Listening, HalfOpen, Open}
-use Rattle.clean_finish.specs.Shows.IsToldEdge.{Same, Before}
-use Rattle.clean_finish.specs.Running.{Has, Half, Facing, IsSetting, StageIs}
+use Rattle.clean_finish.proofs.Words.{◌≡◌, refl, sym, subst, ap, ◌∙◌, ℕ, ◌+◌, ◌-◌, ◌<◌, ◌≤◌, min, max, Bool, true, false, inl, inr, ⊎_elim, Option, None, List}
+use Rattle.clean_finish.proofs.Words.{[], ◌∷◌, ◌++◌, arith, le_refl, ◌*◌, both_ways, and_parts, leb-true, Side, A, B, peer, State, one_if, Flight, window_told}
+use Rattle.clean_finish.proofs.Words.{Duty, SendDuty, StepDuty, pick, Profile, Carried, PathEnd, is_connected, is_update_due, has_grown, ack_said, Setting}
+use Rattle.clean_finish.proofs.Words.{Lane, Stage, is_whole, all_left, Going, pending, MaySay, MaySend, sends_none, Hand, HeardIs, last_told, row_seen}
+use Rattle.clean_finish.proofs.Words.{brings_still, IsPhase, IsToldEdge, IsMapping, Sent, Keys, copy_in, AcknowledgesAs, said, FliesAs, dss_from, Acknowledges}
+use Rattle.clean_finish.proofs.Words.{Same, Before, IsSetting, Facing, Half, Has, StageIs, Opening, Listening, HalfOpen, Open}
 use Rattle.clean_finish.proofs.Dropping.{differ, behind, behind_or, IsApart, stage_drops, settles_drop, begun_drops}
 use Rattle.clean_finish.proofs.Hands.{way_none}
 use Rattle.clean_finish.proofs.Mapped.{said_alone}
@@ -45,8 +22,8 @@ pub ack_is : (c : Profile) (keys : Keys) (s : Side) (x : Sent) (e : PathEnd) →
 ack_is c keys s x e brings mptcp clear next edge window told =
     said_alone c s e.tcp.send.nxt e mptcp ∙ rw (brings, mptcp.0, clear, next, acknowledges_some s Acknowledges x.edge refl, edge, window, told) refl
 
-pub updated_drops : {ds : List Duty} {asked owes later : Bool} (s r : Side) {p : Stage} → StageIs s r (duties.Send (send_duties.Update r) ∷ ds) asked owes p
-    → Has (duties.Step step_duties.Events) ds → StageIs s r ds asked later (record (waiting_on p) { tell = false; update = false })
+pub updated_drops : {ds : List Duty} {asked owes later : Bool} (s r : Side) {p : Stage} → StageIs s r (Duty.Send (SendDuty.Update r) ∷ ds) asked owes p
+    → Has (Duty.Step StepDuty.Events) ds → StageIs s r ds asked later (record (waiting_on p) { tell = false; update = false })
 updated_drops {ds} s r is events = record {
   window = behind_or ds (differ refl) is.window;
   update = inl refl;
@@ -60,7 +37,7 @@ updated_drops {ds} s r is events = record {
 module _ {s : Side} {keys : Keys} {k j : Setting} {c : Profile} {begun begun_back : Lane} {m n : Half} {clock until : ℕ} (ticks t u : ℕ)
     (k_is : IsSetting c ticks k) (j_is : IsSetting c ticks j)
     (going : Going k begun t all_left begun) (going_back : Going j begun_back u all_left begun_back)
-    {ds : List Duty} (h : Facing s keys k j c begun begun_back m n clock until (duties.Send (send_duties.Update s) ∷ ds))
+    {ds : List Duty} (h : Facing s keys k j c begun begun_back m n clock until (Duty.Send (SendDuty.Update s) ∷ ds))
   where
     pub lane : Going k begun t h.stage h.out
     lane = now_out ticks t u k_is j_is going going_back h
@@ -302,7 +279,7 @@ module _ {s : Side} {keys : Keys} {k j : Setting} {c : Profile} {begun begun_bac
                 all : {total acked received : ℕ} → total < acked → min acked total ≤ received → total ≤ received
                 all less p = omega (arith, less, p)
 
-        pub others : IsApart s (peer s) (duties.Send (send_duties.Update s))
+        pub others : IsApart s (peer s) (Duty.Send (SendDuty.Update s))
         others = record {
           window = differ refl;
           update = λ e. peer_is_other s (same_update e);
@@ -332,7 +309,7 @@ module _ {s : Side} {keys : Keys} {k j : Setting} {c : Profile} {begun begun_bac
             no : {x : ℕ} → x ≡ 1 → x ≡ 0 → ⊥
             no p q = absurd (omega (arith, p, q))
 
-        module _ (events : Has (duties.Step step_duties.Events) ds) (fs gs : List (Flight Carried)) (f : Flight Carried) (flies : FliesAs c keys s f update)
+        module _ (events : Has (Duty.Step StepDuty.Events) ds) (fs gs : List (Flight Carried)) (f : Flight Carried) (flies : FliesAs c keys s f update)
             (more : fs ≡ m.flying ++ f ∷ []) (same : gs ≡ n.flying)
           where
             abbrev pub update_sent : Facing s keys k j c begun begun_back (record m { end = end_after h update h.out.shut; flying = fs })
@@ -347,10 +324,10 @@ module _ {s : Side} {keys : Keys} {k j : Setting} {c : Profile} {begun begun_bac
                 (sym same_control) (sym same_keys)
                 (way_none c keys k j (peer s) h.back.sender h.back.receiver h.back.datas h.out.acks m.end.tcp.send.una n.end.tcp.recv.edge h.hand none n.flying h.way_back)
                 (room lane.numbers.granted) (same_bytes h.out.granted nothing_waits) events
-                (stage_drops s (peer s) (duties.Send (send_duties.Update s)) ds n.end.treated.asked h.owes_back h.stage others h.stages)
+                (stage_drops s (peer s) (Duty.Send (SendDuty.Update s)) ds n.end.treated.asked h.owes_back h.stage others h.stages)
                 (updated_drops (peer s) s h.stages_back events)
-                (settles_drop s (duties.Send (send_duties.Update s)) ds (end_after h update h.out.shut) (differ refl) h.settles)
-                (settles_drop (peer s) (duties.Send (send_duties.Update s)) ds n.end (differ refl) h.settles_back)
+                (settles_drop s (Duty.Send (SendDuty.Update s)) ds (end_after h update h.out.shut) (differ refl) h.settles)
+                (settles_drop (peer s) (Duty.Send (SendDuty.Update s)) ds n.end (differ refl) h.settles_back)
                 (subst (λ (x : ℕ). 1 ≤ x) (sym same_control) sent_some)
-                (begun_drops (peer s) k h.back.sender h.out.receiver n.end (duties.Send (send_duties.Update s)) ds (differ refl) (λ is. differ refl) h.begins_back)
+                (begun_drops (peer s) k h.back.sender h.out.receiver n.end (Duty.Send (SendDuty.Update s)) ds (differ refl) (λ is. differ refl) h.begins_back)
                 (λ e b. absurd (both_ways false refl e))

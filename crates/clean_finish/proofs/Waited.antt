@@ -1,41 +1,18 @@
 -- The events of a turn are over, and the turn ends.
-use Rattle.std.proofs.Common.{◌≡◌, refl, sym, subst, ap, ◌∙◌, ℕ, ◌≤◌, nat_lt, nat_le, Bool, true, false, if◌then◌else◌, is_some, inl, inr, ⊎_elim, Option, Some, None, IfSome, List, [], ◌∷◌, ◌++◌, map, le_refl, arith}
-use Rattle.std.proofs.lemmas.Bool.{both_ways, ltb-false, leb-false}
-use Rattle.std.specs.List.{AllByRecursion}
-use Rattle.std.specs.Option.{option_and_then}
-use Rattle.sides.specs.declared.side.Side.{Side}
-use Rattle.sides.specs.declared.side.Side.TheVariants.{A, B}
-use Rattle.sides.specs.Side.{peer}
-use Rattle.link_script.specs.Places.{same_side}
-use Rattle.link_model.specs.declared.flight.Flight.{Flight}
-use Rattle.link_model.specs.Laws.{going_to}
-use Rattle.link_model.specs.Steps.{next_due}
-use Rattle.link_model.proofs.Order.{earliest as first_of_all}
-use Rattle.actor_desk.specs.Desk.{SixBooks}
-use Rattle.stream_apps.specs.Apps.{AppState}
-use Rattle.path_agenda.specs.declared.duty.Duty.{Duty}
-use Rattle.path_agenda.specs.declared.duty.Duty.TheVariants as duties
-use Rattle.path_agenda.specs.declared.duty.StepDuty.TheVariants as step_duties
+use Rattle.clean_finish.proofs.Words.{◌≡◌, refl, sym, subst, ap, ◌∙◌, ℕ, ◌≤◌, nat_lt, Bool, true, false, if◌then◌else◌, inl, inr, ⊎_elim, Option, None, List}
+use Rattle.clean_finish.proofs.Words.{[], ◌∷◌, ◌++◌, map, arith, Some, le_refl, is_some, nat_le, IfSome, both_ways, ltb-false, leb-false, AllByRecursion}
+use Rattle.clean_finish.proofs.Words.{option_and_then, Side, A, B, peer, same_side, Flight, going_to, next_due, first_of_all, Duty, StepDuty, SixBooks}
+use Rattle.clean_finish.proofs.Words.{AppState, Profile, Carried, PathState, with_agenda, tick_of, earlier, before, next_join, next_line, next_copy, next_event}
+use Rattle.clean_finish.proofs.Words.{next_fire, Setting, Copy, Lane, Stage, Sender, Receiver, waits_no_more, first_at, PathPlan, Start, Hand, WayIs, brings_in}
+use Rattle.clean_finish.proofs.Words.{tells_in, Sent, Keys, copy_in, FlyAs, Runs, keys_in, Facing, Half, StageIs}
 use Rattle.path_core.specs.declared.events.Event.{Event}
-use Rattle.path_core.specs.Events.{tick_of, earlier, before, next_join, next_line, next_copy, next_event}
-use Rattle.path_core.specs.Timer.{next_fire}
-use Rattle.path_core.specs.State.{PathState, with_agenda}
-use Rattle.path_core.specs.Profile.{Profile}
-use Rattle.path_core.specs.Values.{Carried}
-use Rattle.world_laws.specs.Openings.{PathPlan, Start}
-use Rattle.pace.specs.Lane.{Setting, Copy, Lane, Sender, Receiver, Stage}
-use Rattle.pace.specs.Lists.{first_at}
-use Rattle.pace.specs.Moves.Move.{waits_no_more}
-use Rattle.clean_finish.specs.Segments.{Sent, Keys, copy_in, FlyAs}
-use Rattle.clean_finish.specs.Shows.{Hand, brings_in, tells_in, WayIs}
-use Rattle.clean_finish.specs.Running.{StageIs, Half, Facing, Runs, keys_in}
 use Rattle.clean_finish.proofs.Dropping.{differ, behind, behind_or, settles_drop, begun_drops}
 use Rattle.clean_finish.proofs.Passing.{stands_then}
 use Rattle.clean_finish.proofs.Plainly.{plain_on}
 
 -- the stage of a turn in which nothing more arrives
 pub wait_drops : (s r : Side) (ds : List Duty) (asked owes : Bool) (p : Stage)
-    → StageIs s r ((duties.Step step_duties.Events) ∷ ds) asked owes p → StageIs s r ds asked owes (record p { wait = false })
+    → StageIs s r ((Duty.Step StepDuty.Events) ∷ ds) asked owes p → StageIs s r ds asked owes (record p { wait = false })
 wait_drops s r ds asked owes p is = record {
   window = behind_or ds (differ refl) is.window;
   update = behind_or ds (differ refl) is.update;
@@ -104,7 +81,7 @@ way_late c keys j k from out other datas acks hand una edge until flying w none 
 )
 
 module _ {s : Side} {keys : Keys} {k j : Setting} {c : Profile} {begun begun_back : Lane} {m n : Half} {clock until : ℕ} where
-  abbrev pub events_pass : (ds : List Duty) (h : Facing s keys k j c begun begun_back m n clock until ((duties.Step step_duties.Events) ∷ ds))
+  abbrev pub events_pass : (ds : List Duty) (h : Facing s keys k j c begun begun_back m n clock until ((Duty.Step StepDuty.Events) ∷ ds))
       → h.out.until ≤ first_at h.out.until h.out.datas → h.out.until ≤ first_at h.out.until h.out.acks
       → h.back.until ≤ first_at h.back.until h.back.datas → h.back.until ≤ first_at h.back.until h.back.acks
       → Facing s keys k j c begun begun_back m n clock until ds
@@ -135,10 +112,10 @@ module _ {s : Side} {keys : Keys} {k j : Setting} {c : Profile} {begun begun_bac
     control_back = h.control_back;
     turn = h.turn;
     turn_back = h.turn_back;
-    settles = settles_drop s (duties.Step step_duties.Events) ds m.end (differ refl) h.settles;
-    settles_back = settles_drop (peer s) (duties.Step step_duties.Events) ds n.end (differ refl) h.settles_back;
-    begins = begun_drops s j h.out.sender h.back.receiver m.end (duties.Step step_duties.Events) ds (differ refl) (λ is. differ refl) h.begins;
-    begins_back = begun_drops (peer s) k h.back.sender h.out.receiver n.end (duties.Step step_duties.Events) ds (differ refl) (λ is. differ refl) h.begins_back;
+    settles = settles_drop s (Duty.Step StepDuty.Events) ds m.end (differ refl) h.settles;
+    settles_back = settles_drop (peer s) (Duty.Step StepDuty.Events) ds n.end (differ refl) h.settles_back;
+    begins = begun_drops s j h.out.sender h.back.receiver m.end (Duty.Step StepDuty.Events) ds (differ refl) (λ is. differ refl) h.begins;
+    begins_back = begun_drops (peer s) k h.back.sender h.out.receiver n.end (Duty.Step StepDuty.Events) ds (differ refl) (λ is. differ refl) h.begins_back;
     owed = h.owed;
     owed_back = h.owed_back;
   }
@@ -155,7 +132,7 @@ module _ (start : Start) (plan : PathPlan) (k j : Setting) (s v : Lane) (a b : A
     abbrev Relation : List Duty → Type 0
     Relation es = Runs start plan k j s v a b books (with_agenda es p)
 
-    all_late : Relation ((duties.Step step_duties.Events) ∷ ds) → is_some (next_event p) ≡ false → AreLate p.until p.link.under_way
+    all_late : Relation ((Duty.Step StepDuty.Events) ∷ ds) → is_some (next_event p) ≡ false → AreLate p.until p.link.under_way
     all_late h none = by p.link.under_way (first_of_all p.link.under_way h.link.order) copy
       where
         timers : Option Event
@@ -174,7 +151,7 @@ module _ (start : Start) (plan : PathPlan) (k j : Setting) (s v : Lane) (a b : A
         by [] first low = tt
         by (f ∷ flights) first low = later_all p.until f.tick (f ∷ flights) low first
 
-    pub passes_events : is_some (next_event p) ≡ false → Relation ((duties.Step step_duties.Events) ∷ ds) → Relation ds
+    pub passes_events : is_some (next_event p) ≡ false → Relation ((Duty.Step StepDuty.Events) ∷ ds) → Relation ds
     passes_events none h =
         let t = h.treats in
         let late_ones = all_late h none in

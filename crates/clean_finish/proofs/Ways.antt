@@ -1,12 +1,8 @@
 -- A segment more on the way from one side.
-use Rattle.std.proofs.Common.{◌≡◌, refl, sym, subst, ap, ◌∙◌, ℕ, ◌+◌, ◌≤◌, Option, List, [], ◌∷◌, ◌++◌, length, map, arith}
-use Rattle.sides.specs.declared.side.Side.{Side}
-use Rattle.link_model.specs.declared.flight.Flight.{Flight}
-use Rattle.path_core.specs.Profile.{Profile}
-use Rattle.path_core.specs.Values.{Carried}
-use Rattle.pace.specs.Lane.{Setting, Copy, Sender, Receiver}
-use Rattle.clean_finish.specs.Segments.{Sent, Keys, copy_in, octets_of, FliesAs, FlyAs, CountsAs, TellsAs, AcknowledgesAs, ShowsFirst, BringsAs, Follow, Rise, edge_after, low_after, control_after, keys_after}
-use Rattle.clean_finish.specs.Shows.{Hand, brings_in, tells_in, WayIs}
+use Rattle.clean_finish.proofs.Words.{◌≡◌, refl, sym, subst, ap, ◌∙◌, ℕ, ◌+◌, ◌≤◌, Option, List, [], ◌∷◌, ◌++◌, length, map, arith, Side, Flight, Profile}
+use Rattle.clean_finish.proofs.Words.{Carried, Setting, Copy, Sender, Receiver, Hand, WayIs, brings_in, tells_in, Sent, Keys, BringsAs, copy_in, octets_of}
+use Rattle.clean_finish.proofs.Words.{CountsAs, TellsAs, AcknowledgesAs, ShowsFirst, Rise, edge_after, FliesAs, Follow, low_after, control_after, keys_after}
+use Rattle.clean_finish.proofs.Words.{FlyAs}
 
 pub flies_more : (c : Profile) (keys : Keys) (from : Side) (f : Flight Carried) (x : Sent) → FliesAs c keys from f x
     → (fs : List (Flight Carried)) (xs : List Sent) → FlyAs c keys from fs xs → FlyAs c keys from (fs ++ f ∷ []) (xs ++ x ∷ [])

@@ -1,7 +1,6 @@
 -- What came is in order: no place of a list of places is empty.
-use Rattle.std.proofs.Common.{◌≡◌, refl, sym, ap, ◌∙◌, ℕ, zero, suc, min, Bool, true, false, if◌then◌else◌, is_some, Option, Some, List, [], ◌∷◌, length, map, drop}
-use Rattle.reassembly_book.specs.State.{Arriving, filled}
-use Rattle.reassembly_book.specs.Steps.{after_read, after_reading}
+use Rattle.clean_finish.proofs.Words.{◌≡◌, refl, sym, ap, ◌∙◌, ℕ, min, Bool, true, false, if◌then◌else◌, Option, List, [], ◌∷◌, length, map, Some, suc, zero}
+use Rattle.clean_finish.proofs.Words.{is_some, drop, Arriving, filled, after_read, after_reading}
 
 pub filled_some : (xs : List ℕ) → filled (map Some xs) ≡ xs
 filled_some [] = refl

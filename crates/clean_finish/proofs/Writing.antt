@@ -1,25 +1,12 @@
 -- An application that writes and closes is moves of its lane.
-use Rattle.std.proofs.Common.{◌≡◌, refl, sym, subst, ap, ◌∙◌, ℕ, suc, ◌+◌, ◌-◌, ◌≤◌, min, Bool, true, false, not, Option, None, Some, List, [], ◌∷◌, ◌++◌, length, take, drop, replicate, fold, cond, le_refl, length-append, length-take, length-drop, arith}
-use Rattle.std.proofs.lemmas.Bool.{both_ways}
-use Rattle.subflow_tcp.specs.Segments.{one_if}
+use Rattle.clean_finish.proofs.Words.{◌≡◌, refl, sym, subst, ap, ◌∙◌, ℕ, ◌+◌, ◌-◌, ◌≤◌, min, Bool, true, false, cond, not, Option, None, List, [], ◌∷◌, ◌++◌}
+use Rattle.clean_finish.proofs.Words.{length, arith, Some, suc, le_refl, drop, replicate, take, length-take, fold, both_ways, after_write, after_close}
+use Rattle.clean_finish.proofs.Words.{write_reply, close_reply, bytes_taken, acked_len, Free, no_paths, ByteMark, is_acked, one_if, Reply, AppDuty, Write}
+use Rattle.clean_finish.proofs.Words.{Close, Read, End, AppState, app_takes, app_next_round, offered, app_settled, Setting, Lane, Stage, Going, MayEndWriting}
+use Rattle.clean_finish.proofs.Words.{closes, ends_writing, writes, Moves, is_writing, WriterIs, WriterShows, WriterGoes}
+use Rattle.std.proofs.Common.{length-append, length-drop}
 use Rattle.send_book.specs.declared.call.SendReply.TheVariants.{Closed}
-use Rattle.send_book.specs.State.{Sending, acked_len}
-use Rattle.send_book.specs.declared.mark.ByteMark.{ByteMark}
-use Rattle.send_book.specs.declared.mark.ByteMark.TheVariants.{Free}
-use Rattle.send_book.specs.Marks.{is_acked}
-use Rattle.send_book.specs.Tried.{no_paths}
-use Rattle.send_book.specs.Steps.{bytes_taken, write_reply, after_write, close_reply, after_close}
-use Rattle.actor_desk.specs.declared.ask.Reply.TheVariants as replies
-use Rattle.stream_apps.specs.declared.duty.AppDuty.{AppDuty}
-use Rattle.stream_apps.specs.declared.duty.AppDuty.TheVariants.{Write, Close, Read, End}
-use Rattle.stream_apps.specs.Apps.{AppState}
-use Rattle.stream_apps.specs.AppSteps.{offered, app_takes, app_settled, app_next_round}
-use Rattle.pace.specs.Lane.{Setting, Lane, Stage}
-use Rattle.pace.specs.Going.{Going}
-use Rattle.pace.specs.Moves.{MayEndWriting}
-use Rattle.pace.specs.Rounds.{Moves}
-use Rattle.pace.specs.Moves.Move.{writes, closes, ends_writing}
-use Rattle.clean_finish.specs.Writing.{is_writing, WriterIs, WriterShows, WriterGoes}
+use Rattle.send_book.specs.State.{Sending}
 
 -- more marks count no fewer acknowledged bytes
 marks_more : (n : ℕ) (xs ys : List ByteMark)
@@ -56,7 +43,7 @@ module _ (k : Setting) (s : Lane) (t : ℕ) (p : Stage) (w : Lane) where
   -- the stream is closed once the file is written
   closing : (told : Bool) (a : AppState) (b : Sending) → Going k s t p w
       → WriterIs k w.written w.closed w.acked (record a { rest = [] }) b
-      → WriterGoes k s p w (app_takes (replies.Send Closed)
+      → WriterGoes k s p w (app_takes (Reply.Send Closed)
       (record a { rest = []; told = told; agenda = Close ∷ Read ∷ End ∷ [] }))
       (record b { closed = true })
   closing told a b h is = by told
@@ -87,7 +74,7 @@ module _ (k : Setting) (s : Lane) (t : ℕ) (p : Stage) (w : Lane) where
       }
 
       by : (b' : Bool)
-          → WriterGoes k s p w (app_takes (replies.Send Closed)
+          → WriterGoes k s p w (app_takes (Reply.Send Closed)
           (record a { rest = []; told = b'; agenda = Close ∷ Read ∷ End ∷ [] }))
           (record b { closed = true })
       by false = ends w.written 1 1 _ _ (now (Read ∷ End ∷ []) false) refl may moves
@@ -127,11 +114,7 @@ module _ (k : Setting) (s : Lane) (t : ℕ) (p : Stage) (w : Lane) where
       now : (r : List ℕ) → r ≡ drop n a.rest → (b' : Bool) (ds : List AppDuty)
           → WriterIs k (length b.written + n) w.closed w.acked
           (record a { rest = r; closed = false; told = b'; agenda = ds })
-          (record b {
-            closed = false;
-            written = b.written ++ take n (offered a);
-            marks = b.marks ++ replicate n (Free no_paths);
-          })
+          (record b { closed = false; written = b.written ++ take n (offered a); marks = b.marks ++ replicate n (Free no_paths) })
       now r e b' ds = record {
         file = let left = some_left r e in omega (arith, left, len);
         bytes = sym len;
@@ -167,11 +150,7 @@ module _ (k : Setting) (s : Lane) (t : ℕ) (p : Stage) (w : Lane) where
       by : (r : List ℕ) → r ≡ drop n a.rest → (b' : Bool)
           → WriterGoes k s p w (app_settled (Close ∷ Read ∷ End ∷ [])
           (record a { rest = r; closed = false; told = b'; agenda = Close ∷ Read ∷ End ∷ [] }))
-          (record b {
-            closed = false;
-            written = b.written ++ take n (offered a);
-            marks = b.marks ++ replicate n (Free no_paths);
-          })
+          (record b { closed = false; written = b.written ++ take n (offered a); marks = b.marks ++ replicate n (Free no_paths) })
       by [] e b' =
           goes_on (length b.written + n) w.closed 1 _ _ (now [] e b' (Close ∷ Read ∷ End ∷ [])) refl turn (moves [] e)
       by (x ∷ r) e false =
@@ -182,7 +161,7 @@ module _ (k : Setting) (s : Lane) (t : ℕ) (p : Stage) (w : Lane) where
 
   pub close_step : (a : AppState) (b : Sending) → Going k s t p w → WriterShows k w a b
       → a.agenda ≡ Close ∷ Read ∷ End ∷ [] → a.rest ≡ []
-      → WriterGoes k s p w (app_takes (replies.Send (close_reply b)) a) (after_close b)
+      → WriterGoes k s p w (app_takes (Reply.Send (close_reply b)) a) (after_close b)
   close_step a b h shows at none =
       subst (λ (ds : List AppDuty). Goes ds a.rest b.aborted) (sym at)
       (subst (λ (r : List ℕ). Goes (Close ∷ Read ∷ End ∷ []) r b.aborted) (sym none)
@@ -191,7 +170,7 @@ module _ (k : Setting) (s : Lane) (t : ℕ) (p : Stage) (w : Lane) where
     where
       Goes : List AppDuty → List ℕ → Bool → Type 0
       Goes ds r ab =
-          WriterGoes k s p w (app_takes (replies.Send (close_reply (record b { aborted = ab })))
+          WriterGoes k s p w (app_takes (Reply.Send (close_reply (record b { aborted = ab })))
           (record a { rest = r; agenda = ds }))
           (after_close (record b { aborted = ab }))
 
@@ -204,7 +183,7 @@ module _ (k : Setting) (s : Lane) (t : ℕ) (p : Stage) (w : Lane) where
   pub write_step : (a : AppState) (b : Sending) → Going k s t p w → WriterShows k w a b
       → a.agenda ≡ Write ∷ Close ∷ Read ∷ End ∷ []
       → 1 ≤ length a.rest → k.total ≤ 16777216
-      → WriterGoes k s p w (app_takes (replies.Send (write_reply (offered a) b)) a) (after_write (offered a) b)
+      → WriterGoes k s p w (app_takes (Reply.Send (write_reply (offered a) b)) a) (after_write (offered a) b)
   write_step a b h shows at some small =
       subst (λ (ds : List AppDuty). Goes ds a.closed b.closed b.aborted) (sym at)
       (subst (λ (c : Bool). Goes duties c b.closed b.aborted) (sym (shows.numbers.told ∙ unclosed))
@@ -221,7 +200,7 @@ module _ (k : Setting) (s : Lane) (t : ℕ) (p : Stage) (w : Lane) where
 
       Goes : List AppDuty → Bool → Bool → Bool → Type 0
       Goes ds c1 c2 ab = WriterGoes k s p w
-          (app_takes (replies.Send (write_reply (offered a) (record b { closed = c2; aborted = ab })))
+          (app_takes (Reply.Send (write_reply (offered a) (record b { closed = c2; aborted = ab })))
           (record a { closed = c1; agenda = ds }))
           (after_write (offered a) (record b { closed = c2; aborted = ab }))
 

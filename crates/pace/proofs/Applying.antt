@@ -66,12 +66,7 @@ module _ (k : Setting) (s : Lane) (t : ℕ) (p : Stage) where
     flags = h.flags;
     timer = h.timer;
     shut = h.shut;
-    turns = record {
-      wrote = λ over. may.wrote;
-      closed = λ over. may.closed;
-      read = h.turns.read;
-      told = h.turns.told;
-    };
+    turns = record { wrote = λ over. may.wrote; closed = λ over. may.closed; read = h.turns.read; told = h.turns.told };
     repeats = h.repeats;
     asked = h.asked;
     answered = h.answered;
@@ -121,12 +116,7 @@ module _ (k : Setting) (s : Lane) (t : ℕ) (p : Stage) where
     flags = h.flags;
     timer = h.timer;
     shut = h.shut;
-    turns = record {
-      wrote = h.turns.wrote;
-      closed = h.turns.closed;
-      read = λ over. may.read;
-      told = λ over. may.told;
-    };
+    turns = record { wrote = h.turns.wrote; closed = h.turns.closed; read = λ over. may.read; told = λ over. may.told };
     repeats = h.repeats;
     asked = h.asked;
     answered = h.answered;

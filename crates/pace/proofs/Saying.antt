@@ -22,10 +22,7 @@ module _ (k : Setting) (s : Lane) (t : ℕ) (p : Stage) where
     shut = h.shut;
     turns = h.turns;
     repeats = h.repeats;
-    asked = record {
-      next = λ _. le_refl _;
-      limit = λ _. omega (arith, may.least, h.since.read);
-    };
+    asked = record { next = λ _. le_refl _; limit = λ _. omega (arith, may.least, h.since.read) };
     answered = h.answered;
     emitted = h.emitted;
     none_due = h.none_due;

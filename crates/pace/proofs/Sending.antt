@@ -42,10 +42,7 @@ module _ (k : Setting) (s : Lane) (t : ℕ) (p : Stage) where
       acks_are = h.under_way.acks_are;
     };
     told_soon = h.told_soon;
-    none_lost = record {
-      datas = stays_more (IsDone w) s.datas w.datas (x ∷ []) h.none_lost.datas;
-      acks = h.none_lost.acks;
-    };
+    none_lost = record { datas = stays_more (IsDone w) s.datas w.datas (x ∷ []) h.none_lost.datas; acks = h.none_lost.acks };
     flags = record {
       data_fin = flag_more w.data_fin_sent w.data_fin_came (λ c. c.data_fin) x w.datas h.flags.data_fin;
       control = flag_more w.control_sent w.control_came (λ c. c.control) x w.datas h.flags.control;

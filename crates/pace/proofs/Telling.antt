@@ -24,22 +24,10 @@ parts k a (suc m) w u within t = go (λ inner. parts k a m w t.0 inner t.1) (cas
     go : (a ≤ m → Parts k a m w t.0) → (m < a) ⊎ (a ≤ m) → Parts k a (suc m) w u
     go split (inl all) =
         let same : suc m ≡ a = omega (arith, within, all) in
-        record {
-          between = u;
-          rest = 0;
-          sum = omega (arith, same);
-          first = subst (λ (n : ℕ). Trail k n w u) same t;
-          last = refl;
-        }
+        record { between = u; rest = 0; sum = omega (arith, same); first = subst (λ (n : ℕ). Trail k n w u) same t; last = refl }
     go split (inr inner) =
         let p = split inner in
-        record {
-          between = p.between;
-          rest = suc p.rest;
-          sum = omega (arith, p.sum);
-          first = p.first;
-          last = (t.0, p.last, t.2);
-        }
+        record { between = p.between; rest = suc p.rest; sum = omega (arith, p.sum); first = p.first; last = (t.0, p.last, t.2) }
 
 module _ (k : Setting) (ranges : HasRanges k) where
   ended_after : (n : ℕ) (w u : Lane) → Ended k w → Trail k n w u → Ended k u

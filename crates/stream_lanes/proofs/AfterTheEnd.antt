@@ -1,20 +1,12 @@
 -- After the end, or an abort, a reader's state stays; and nothing is written to a closed stream.
-use Rattle.std.proofs.Common.{◌≡◌, refl, ◌∙◌, ap, ℕ, Bool, true, false, ◌||◌, if◌then◌else◌, List, [], ◌∷◌, Option, Some, None, Result, Ok, Err, set}
-use Rattle.std.proofs.lemmas.Bool.{both_ways}
-use Rattle.std.specs.List.{slice_get}
-use Rattle.send_book.specs.declared.call.Span.{Span}
-use Rattle.send_book.specs.declared.call.Why.{Why}
+use Rattle.stream_lanes.proofs.Words.{◌≡◌, refl, ◌∙◌, ap, ℕ, Bool, true, false, List, [], ◌∷◌, Option, Some, None, Result, Ok, Err, if◌then◌else◌, ◌||◌, set}
+use Rattle.stream_lanes.proofs.Words.{both_ways, slice_get, Span, Why, WriteBytes, CloseBook, Grant, AckIn, ReturnBytes, GoIdentityBook, GoInfiniteBook}
+use Rattle.stream_lanes.proofs.Words.{AbortBook, Sending, acked_len, is_future, is_gathered, decision, given_by, Ask, Lane, Nothing, AskGrant, AskAckIn, Flags}
+use Rattle.stream_lanes.proofs.Words.{Move, Direction, StreamEvent, after, asks, asks_at, moves, reads, is_done, with_send, goes_infinite, may_go, Write, Close}
+use Rattle.stream_lanes.proofs.Words.{Return, GoIdentity, GoInfinite, AbortSend, Read, AbortRead, Moves, Asks, Duo, Event, flags_ab, flags_ba, after_event}
+use Rattle.stream_lanes.proofs.Words.{after_events, ToB, ToA}
 use Rattle.send_book.specs.declared.call.SendCall.{SendCall}
-use Rattle.send_book.specs.declared.call.SendCall.TheVariants.{Write as WriteBytes, Close as CloseBook, Grant, AckIn, Return as ReturnBytes, GoIdentity as GoIdentityBook, GoInfinite as GoInfiniteBook, Abort as AbortBook}
-use Rattle.send_book.specs.State.{Sending, acked_len}
-use Rattle.send_book.specs.Steps.{after_call, decision, given_by, is_future, is_gathered}
-use Rattle.stream_lanes.specs.Lane.{Ask, Lane}
-use Rattle.stream_lanes.specs.Lane.Ask.{Nothing, AskGrant, AskAckIn, AskPlace, AskFin, AskAckOut}
-use Rattle.stream_lanes.specs.Moves.{Flags, Move}
-use Rattle.stream_lanes.specs.Streams.{Direction, StreamEvent, after, asks, asks_at, moves, reads, is_done, with_send, goes_infinite, may_go}
-use Rattle.stream_lanes.specs.Streams.StreamEvent.{Write, Close, Return, GoIdentity, GoInfinite, AbortSend, Read, AbortRead, Moves, Asks}
-use Rattle.stream_lanes.specs.Duo.{Duo, Event, flags_ab, flags_ba, after_event, after_events}
-use Rattle.stream_lanes.specs.Duo.Event.{ToB, ToA, FallA, FallB, LoosenA, LoosenB, BeginJoin, SendJoin, HearJoin}
+use Rattle.send_book.specs.Steps.{after_call}
 
 -- what a closed book keeps
 record IsShut (s t : Sending) : Type 0 where
@@ -35,18 +27,13 @@ call_shut (WriteBytes bytes) s closed = shut_if s (s.closed || s.aborted) s _ (�
 call_shut CloseBook s closed = shut_if s s.aborted s _ (λ _. record { closed = closed; written = refl }) (λ _. record { closed = refl; written = refl })
 call_shut (Grant path max standby) s closed = given_shut path (decision path max standby s) s closed
 call_shut (AckIn next window) s closed = shut_if s (is_future next s) s _ (λ _. record { closed = closed; written = refl }) (λ _. record { closed = closed; written = refl })
-call_shut (ReturnBytes path) s closed = record { closed = closed; written = refl }
-call_shut GoIdentityBook s closed = record { closed = closed; written = refl }
 call_shut (GoInfiniteBook path) s closed = shut_if s (is_gathered path s) _ s (λ _. record { closed = closed; written = refl }) (λ _. record { closed = closed; written = refl })
-call_shut AbortBook s closed = record { closed = closed; written = refl }
+call_shut _ s closed = record { closed = closed; written = refl }
 
 asks_shut : (path : ℕ) (a : Ask) (p : Lane) (d : Direction) → d.send.closed ≡ true → IsShut d.send (asks path a p d).send
-asks_shut path Nothing p d closed = record { closed = closed; written = refl }
 asks_shut path (AskGrant max standby) p d closed = call_shut (Grant path max standby) d.send closed
 asks_shut path (AskAckIn next window) p d closed = call_shut (AckIn next window) d.send closed
-asks_shut path (AskPlace at bytes) p d closed = record { closed = closed; written = refl }
-asks_shut path (AskFin at) p d closed = record { closed = closed; written = refl }
-asks_shut path AskAckOut p d closed = record { closed = closed; written = refl }
+asks_shut path _ p d closed = record { closed = closed; written = refl }
 
 asks_at_shut : (path : ℕ) (o : Option Lane) (d : Direction) → d.send.closed ≡ true → IsShut d.send (asks_at path o d).send
 asks_at_shut path None d closed = record { closed = closed; written = refl }
@@ -90,11 +77,7 @@ after_shut f (Asks path) d closed = asks_at_shut path (slice_get d.lanes path) d
 -- a reader that is done stays as it is
 asks_done : (path : ℕ) (a : Ask) (p : Lane) (d : Direction) → (asks path a p d).reader ≡ d.reader
 asks_done path Nothing p d = refl
-asks_done path (AskGrant max standby) p d = refl
-asks_done path (AskAckIn next window) p d = refl
-asks_done path (AskPlace at bytes) p d = refl
-asks_done path (AskFin at) p d = refl
-asks_done path AskAckOut p d = refl
+asks_done path _ p d = refl
 
 asks_at_done : (path : ℕ) (o : Option Lane) (d : Direction) → (asks_at path o d).reader ≡ d.reader
 asks_at_done path None d = refl
@@ -120,16 +103,12 @@ infinite_done path pos (Some p) d = by_may (may_go path pos d.send p)
     by_may false = refl
 
 after_done : (f : Flags) (event : StreamEvent) (d : Direction) → is_done d.reader ≡ true → (after f event d).reader ≡ d.reader
-after_done f (Write bytes) d done = refl
-after_done f Close d done = refl
-after_done f (Return path) d done = refl
 after_done f GoIdentity d done = identity_done f.sender d
 after_done f (GoInfinite path pos) d done = infinite_done path pos (slice_get d.lanes path) d
-after_done f AbortSend d done = refl
 after_done f (Read max) d done = ap (λ (c : Bool). (if c then d else reads max d).reader) done
-after_done f (AbortRead by_peer) d done = refl
 after_done f (Moves path move) d done = moves_done f path move (slice_get d.lanes path) d
 after_done f (Asks path) d done = asks_at_done path (slice_get d.lanes path) d
+after_done f _ d done = refl
 
 -- over every list of events
 pub done_ab : (events : List Event) (w : Duo) → is_done w.ab.reader ≡ true → (after_events events w).ab.reader ≡ w.ab.reader

@@ -1,19 +1,10 @@
 -- What each call of a reassembly book makes of it, of its view and of its reader.
-use Rattle.std.proofs.Common.{◌≡◌, refl, sym, ap, subst, ℕ, zero, suc, ◌+◌, ◌<◌, ◌≤◌, max, Bool, true, false, nat_lt, if◌then◌else◌, is_some, List, [], ◌∷◌, length, take, drop, map, replicate, Option, Some, None, arith}
-use Rattle.std.proofs.lemmas.Bool.{le-ltb, eq-eqb, and_right}
-use Rattle.std.proofs.lemmas.List.{append-nil, length-drop, length-map, length-append, length-replicate}
-use Rattle.std.specs.List.{slice_get}
-use Rattle.std.specs.Option.{IfSome}
-use Rattle.send_book.specs.State.{Sending}
-use Rattle.reassembly_book.specs.declared.call.ReassemblyCall.TheVariants.{Place, Fin, AckOut, Abort}
-use Rattle.reassembly_book.specs.State.{Arriving, filled, received, top}
-use Rattle.reassembly_book.specs.Steps.{after_call, by_place, merged, edge, is_taken, places_after, fin_clash, reaches_past, clash, first_abort}
-use Rattle.stream_lanes.specs.Words.{From}
-use Rattle.stream_lanes.specs.Moves.{Flags}
-use Rattle.stream_lanes.specs.Streams.{Reader}
-use Rattle.stream_lanes.specs.View.{View, view_of, all_in, IsEnd, IsPlaced}
-use Rattle.stream_lanes.specs.View.IsPlaced.{was_read, stands}
-use Rattle.stream_lanes.specs.Holding.{SendHolds, IsSent, ArrivedHolds, ReaderHolds}
+use Rattle.stream_lanes.proofs.Words.{◌≡◌, refl, sym, ap, subst, ℕ, zero, suc, ◌+◌, ◌<◌, ◌≤◌, max, Bool, true, false, nat_lt, List, [], ◌∷◌, length, take, drop}
+use Rattle.stream_lanes.proofs.Words.{map, replicate, Option, Some, None, if◌then◌else◌, arith, is_some, eq-eqb, le-ltb, and_right, slice_get, length-drop}
+use Rattle.stream_lanes.proofs.Words.{length-replicate, append-nil, length-map, length-append, IfSome, Place, Fin, AckOut, Abort, Arriving, filled, received}
+use Rattle.stream_lanes.proofs.Words.{top, by_place, merged, edge, reaches_past, clash, places_after, fin_clash, is_taken, first_abort, Sending, Flags, Reader}
+use Rattle.stream_lanes.proofs.Words.{From, view_of, all_in, IsEnd, IsPlaced, View, was_read, stands, IsSent, ArrivedHolds, SendHolds, ReaderHolds}
+use Rattle.reassembly_book.specs.Steps.{after_call}
 use Rattle.stream_lanes.proofs.Lists.{Cells-map}
 use Rattle.stream_lanes.proofs.Bytes.{Cells-merged, Cells-by_place, merged_left}
 use Rattle.stream_lanes.proofs.Later.{Later, Anyone}

@@ -1,16 +1,9 @@
 -- Bytes by position and by place: what came, what is filled, what a record has.
-use Rattle.std.proofs.Common.{◌≡◌, refl, ◌∙◌, ap, subst, ℕ, zero, suc, ◌+◌, ◌-◌, ◌<◌, ◌≤◌, Bool, ⊎_elim, ◌⊎◌, inl, inr, List, [], ◌∷◌, ◌++◌, length, take, drop, map, replicate, Option, Some, None, arith}
+use Rattle.stream_lanes.proofs.Words.{◌≡◌, refl, ◌∙◌, ap, subst, ℕ, zero, suc, ◌+◌, ◌-◌, ◌<◌, ◌≤◌, Bool, ⊎_elim, List, [], ◌∷◌, ◌++◌, length, take, drop, map}
+use Rattle.stream_lanes.proofs.Words.{replicate, Option, Some, None, arith, ◌⊎◌, inl, inr, slice_get, length-take, map-append, length-map, slice_get_within}
+use Rattle.stream_lanes.proofs.Words.{filled, by_place, merged, DataCopy, Mapping, Cell, places_of, bytes_of, place_after, cells_from, From, Cells, IsRight}
+use Rattle.stream_lanes.proofs.Words.{HasPlace, Came, IsByteOf, IsHonest, as_sent, turned}
 use Rattle.std.proofs.lemmas.Grind.{common_steps}
-use Rattle.std.proofs.lemmas.List.{length-take, map-append, length-map}
-use Rattle.std.proofs.lemmas.Option.{slice_get_within}
-use Rattle.std.specs.List.{slice_get}
-use Rattle.reassembly_book.specs.State.{filled}
-use Rattle.reassembly_book.specs.Steps.{by_place, merged}
-use Rattle.stream_lanes.specs.Words.{From, Cells}
-use Rattle.stream_lanes.specs.Lane.{Cell, Mapping, DataCopy}
-use Rattle.stream_lanes.specs.Moves.{bytes_of, places_of, cells_from, place_after}
-use Rattle.stream_lanes.specs.Holding.{IsByteOf, Came, IsRight, IsHonest, HasPlace}
-use Rattle.stream_lanes.specs.Holding.Came.{as_sent, turned}
 use Rattle.stream_lanes.proofs.Lists.{in_more, in_drop, in_take, in_map, From-map, Has-more, IfSome-map}
 
 -- what is at a place after a merge was there before, or came

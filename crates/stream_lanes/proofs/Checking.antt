@@ -1,17 +1,11 @@
 -- Bytes that came: each is the record's, or the first of a piece, with its lowest bit turned.
-use Rattle.std.proofs.Common.{◌≡◌, refl, sym, ◌∙◌, ap, subst, ℕ, zero, suc, ◌+◌, ◌<◌, ◌≤◌, ◌^◌, Bool, true, false, ◌==◌, ◌⊎◌, inl, inr, List, [], ◌∷◌, length, Some, bit_xor, arith}
-use Rattle.std.proofs.lemmas.Bool.{and_parts, eqb-true, both_ways}
-use Rattle.std.proofs.lemmas.Option.{same_Some, slice_get_within}
-use Rattle.std.specs.List.{slice_get}
+use Rattle.stream_lanes.proofs.Words.{◌≡◌, refl, sym, ◌∙◌, ap, subst, ℕ, zero, suc, ◌+◌, ◌<◌, ◌≤◌, Bool, true, false, ◌==◌, List, [], ◌∷◌, length, Some, arith}
+use Rattle.stream_lanes.proofs.Words.{◌⊎◌, inl, inr, ◌^◌, bit_xor, and_parts, both_ways, eqb-true, slice_get, slice_get_within, same_Some, Mapping, Cell}
+use Rattle.stream_lanes.proofs.Words.{are_same, From, Came, IsByteOf, IsPiece, AreApart, Starts, as_sent, turned}
 use Rattle.ones_sum.specs.Words.{with_bit_turned}
 use Rattle.seq_units.specs.declared.mapping.Mapping.{Mapping as Summed}
 use Rattle.dss_checksum.specs.Checksum.{pseudo_header, dss_checksum}
 use Rattle.dss_checksum.proofs.Joining.{turned-back}
-use Rattle.stream_lanes.specs.Words.{From}
-use Rattle.stream_lanes.specs.Lane.{Cell, Mapping}
-use Rattle.stream_lanes.specs.Moves.{are_same}
-use Rattle.stream_lanes.specs.Holding.{IsByteOf, Came, Starts, IsPiece, AreApart}
-use Rattle.stream_lanes.specs.Holding.Came.{as_sent, turned}
 use Rattle.stream_lanes.proofs.Bytes.{byte_within}
 
 pub length-turned : (bytes : List ℕ) → length (with_bit_turned bytes 0 0) ≡ length bytes

@@ -1,29 +1,15 @@
 -- What was placed stays as it is: the book overwrites nothing, and a read hands its bytes to the reader.
-use Rattle.std.proofs.Common.{◌≡◌, refl, sym, ◌∙◌, ap, subst, ℕ, zero, suc, ◌+◌, ◌-◌, ◌<◌, ◌≤◌, min, Bool, true, false, ◌||◌, nat_lt, if◌then◌else◌, is_some, ⊎_elim, List, [], ◌∷◌, ◌++◌, length, take, drop, Option, Some, None, Result, Ok, Err, set, arith}
-use Rattle.std.proofs.lemmas.Bool.{ltb-true, ltb-false, cases_lt}
-use Rattle.std.proofs.lemmas.List.{append-nil}
-use Rattle.std.proofs.lemmas.Option.{same_Some}
-use Rattle.std.specs.List.{slice_get}
-use Rattle.send_book.specs.declared.call.Span.{Span}
-use Rattle.send_book.specs.declared.call.Why.{Why}
+use Rattle.stream_lanes.proofs.Words.{◌≡◌, refl, sym, ◌∙◌, ap, subst, ℕ, zero, suc, ◌+◌, ◌-◌, ◌<◌, ◌≤◌, min, Bool, true, false, nat_lt, ⊎_elim, List, [], ◌∷◌}
+use Rattle.stream_lanes.proofs.Words.{◌++◌, length, take, drop, Option, Some, None, Result, Ok, Err, if◌then◌else◌, arith, ◌||◌, set, is_some, cases_lt}
+use Rattle.stream_lanes.proofs.Words.{ltb-true, ltb-false, slice_get, append-nil, same_Some, Arriving, filled, by_place, merged, places_after, fin_clash}
+use Rattle.stream_lanes.proofs.Words.{is_taken, bytes_reply, reading, after_reading, End, NoneYet, Span, Why, WriteBytes, CloseBook, Grant, AckIn, ReturnBytes}
+use Rattle.stream_lanes.proofs.Words.{GoIdentityBook, GoInfiniteBook, AbortBook, Sending, acked_len, after_send, is_future, is_gathered, decision, given_by}
+use Rattle.stream_lanes.proofs.Words.{slice_get-append_right, slice_get-drop, Ask, Lane, AskGrant, AskAckIn, AskPlace, AskFin, Flags, Move, Reader, Direction}
+use Rattle.stream_lanes.proofs.Words.{StreamEvent, after, asks, asks_at, moves, reads, is_done, takes_read, with_send, goes_infinite, may_go, Write, Close}
+use Rattle.stream_lanes.proofs.Words.{Return, GoIdentity, GoInfinite, AbortSend, Read, AbortRead, Moves, Asks, Duo, Event, flags_ab, flags_ba, after_event}
+use Rattle.stream_lanes.proofs.Words.{after_events, ToB, ToA, is_exact, DirectionHolds, Holds, flattened, content, PlacedIsRight}
 use Rattle.send_book.specs.declared.call.SendCall.{SendCall}
-use Rattle.send_book.specs.declared.call.SendCall.TheVariants.{Write as WriteBytes, Close as CloseBook, Grant, AckIn, Return as ReturnBytes, GoIdentity as GoIdentityBook, GoInfinite as GoInfiniteBook, Abort as AbortBook}
-use Rattle.send_book.specs.State.{Sending, acked_len}
-use Rattle.send_book.specs.Steps.{after_call as after_send, decision, given_by, is_future, is_gathered}
-use Rattle.send_book.proofs.Lists.{slice_get-append_right, slice_get-drop}
-use Rattle.reassembly_book.specs.declared.call.ReassemblyReply.TheVariants.{End, NoneYet}
-use Rattle.reassembly_book.specs.State.{Arriving, filled}
-use Rattle.reassembly_book.specs.Steps.{by_place, merged, is_taken, places_after, fin_clash, is_end, bytes_reply, reading, after_reading}
-use Rattle.stream_lanes.specs.Lane.{Ask, Lane}
-use Rattle.stream_lanes.specs.Lane.Ask.{Nothing, AskGrant, AskAckIn, AskPlace, AskFin, AskAckOut}
-use Rattle.stream_lanes.specs.Moves.{Flags, Move}
-use Rattle.stream_lanes.specs.Streams.{Reader, Direction, StreamEvent, after, asks, asks_at, moves, reads, is_done, takes_read, with_send, goes_infinite, may_go}
-use Rattle.stream_lanes.specs.Streams.StreamEvent.{Write, Close, Return, GoIdentity, GoInfinite, AbortSend, Read, AbortRead, Moves, Asks}
-use Rattle.stream_lanes.specs.Duo.{Duo, Event, flags_ab, flags_ba, after_event, after_events}
-use Rattle.stream_lanes.specs.Duo.Event.{ToB, ToA, FallA, FallB, LoosenA, LoosenB, BeginJoin, SendJoin, HearJoin}
-use Rattle.stream_lanes.specs.View.{is_exact}
-use Rattle.stream_lanes.specs.Holding.{DirectionHolds, Holds}
-use Rattle.stream_lanes.specs.Laws.{flattened, content, PlacedIsRight}
+use Rattle.reassembly_book.specs.Steps.{is_end}
 use Rattle.stream_lanes.proofs.Lists.{in_more, in_take, item_at}
 use Rattle.stream_lanes.proofs.Bytes.{in_filled, merged_left}
 use Rattle.stream_lanes.proofs.Duos.{after_event_held}
@@ -85,19 +71,14 @@ call_writes place byte (WriteBytes bytes) s is = written_if place byte (s.closed
 call_writes place byte CloseBook s is = written_if place byte s.aborted s _ is is
 call_writes place byte (Grant path max standby) s is = given_writes place byte path (decision path max standby s) s is
 call_writes place byte (AckIn next window) s is = written_if place byte (is_future next s) s _ is is
-call_writes place byte (ReturnBytes path) s is = is
-call_writes place byte GoIdentityBook s is = is
 call_writes place byte (GoInfiniteBook path) s is = written_if place byte (is_gathered path s) _ s is is
-call_writes place byte AbortBook s is = is
+call_writes place byte _ s is = is
 
 module _ (f : Flags) (d : Direction) (place byte : ℕ) (is : Written d.send place byte) where
   asks_write : (path : ℕ) (a : Ask) (p : Lane) → Written (asks path a p d).send place byte
-  asks_write path Nothing p = is
   asks_write path (AskGrant max standby) p = call_writes place byte (Grant path max standby) d.send is
   asks_write path (AskAckIn next window) p = call_writes place byte (AckIn next window) d.send is
-  asks_write path (AskPlace at bytes) p = is
-  asks_write path (AskFin at) p = is
-  asks_write path AskAckOut p = is
+  asks_write path _ p = is
 
   asks_at_write : (path : ℕ) (o : Option Lane) → Written (asks_at path o d).send place byte
   asks_at_write path None = is
@@ -189,12 +170,9 @@ module _ (f : Flags) (d : Direction) (place byte : ℕ) (size : length d.reader.
   fin_if false at = is
 
   asks_place : (path : ℕ) (a : Ask) (p : Lane) → PlacedIn (asks path a p d) place byte
-  asks_place path Nothing p = is
-  asks_place path (AskGrant max standby) p = is
-  asks_place path (AskAckIn next window) p = is
   asks_place path (AskPlace at bytes) p = place_if (is_taken at bytes d.arrived) at bytes
   asks_place path (AskFin at) p = fin_if (is_some (fin_clash d.arrived.known_end at d.arrived)) at
-  asks_place path AskAckOut p = is
+  asks_place path _ p = is
 
   asks_at_place : (path : ℕ) (o : Option Lane) → PlacedIn (asks_at path o d) place byte
   asks_at_place path None = is
@@ -233,13 +211,9 @@ module _ (f : Flags) (d : Direction) (place byte : ℕ) (size : length d.reader.
   after_places (Read max) = reads_place max (is_done d.reader)
   after_places (Moves path move) = moves_place path move (slice_get d.lanes path)
   after_places (Asks path) = asks_at_place path (slice_get d.lanes path)
-  after_places (AbortRead by_peer) = is
-  after_places (Write bytes) = is
-  after_places Close = is
-  after_places (Return path) = is
   after_places GoIdentity = identity_places f.sender
   after_places (GoInfinite path pos) = infinite_places path pos (slice_get d.lanes path)
-  after_places AbortSend = is
+  after_places _ = is
 
 -- over every list of events
 stays_ab : (events : List Event) (w : Duo) (place byte : ℕ) → Holds w → Written w.ab.send place byte → PlacedIn w.ab place byte

@@ -1,29 +1,20 @@
 -- Every event of a direction keeps what holds of it.
-use Rattle.std.proofs.Common.{◌≡◌, refl, sym, ◌∙◌, ap, subst, ℕ, zero, suc, ◌-◌, ◌<◌, ◌≤◌, min, Bool, true, false, ◌&&◌, ◌||◌, ◌==◌, if◌then◌else◌, ⊎_elim, [], ◌∷◌, ◌++◌, ◌+◌, nat_le, length, take, Option, Some, None, Result, Ok, Err, set, arith, nat_lt}
-use Rattle.std.proofs.lemmas.Bool.{cases_lt}
-use Rattle.std.proofs.lemmas.List.{take-append-le}
-use Rattle.std.specs.List.{slice_get}
-use Rattle.send_book.specs.declared.call.Span.{Span}
-use Rattle.send_book.specs.declared.call.Why.{Why}
-use Rattle.send_book.specs.declared.call.SendCall.TheVariants.{Grant, AckIn, Write as WriteBytes, Close as CloseBook, Return as ReturnBytes, GoIdentity as GoIdentityBook, GoInfinite as GoInfiniteBook, Abort as AbortBook}
+use Rattle.stream_lanes.proofs.Words.{◌≡◌, refl, sym, ◌∙◌, ap, subst, ℕ, zero, suc, ◌+◌, ◌-◌, ◌<◌, ◌≤◌, min, Bool, true, false, nat_lt, ◌==◌, ⊎_elim, [], ◌∷◌}
+use Rattle.stream_lanes.proofs.Words.{◌++◌, length, take, Option, Some, None, Result, Ok, Err, if◌then◌else◌, arith, ◌&&◌, ◌||◌, set, nat_le, cases_lt}
+use Rattle.stream_lanes.proofs.Words.{slice_get, take-append-le, Place, Fin, AckOut, ReadBytes, AbortReading, Arriving, filled, received, after_arrival}
+use Rattle.stream_lanes.proofs.Words.{arrival_reply, edge, Placed, FinSet, Span, Why, WriteBytes, CloseBook, Grant, AckIn, ReturnBytes, GoIdentityBook}
+use Rattle.stream_lanes.proofs.Words.{GoInfiniteBook, AbortBook, Sending, acked_len, after_send, decision, send_reply, reply_by, AckedBytes, DataCopy, AckCopy}
+use Rattle.stream_lanes.proofs.Words.{Mapping, Pair, Ask, Lane, Nothing, AskGrant, AskAckIn, AskPlace, AskFin, AskAckOut, Flags, Move, moved, place_by, shifted}
+use Rattle.stream_lanes.proofs.Words.{hears_sub, sends_pair, sends_fin_pair, takes_pair, places_pair, ends_pair, is_whole, takes_grant, takes_ack, takes_placed}
+use Rattle.stream_lanes.proofs.Words.{takes_fin, takes_ack_out, hears, sends_piece, sends_altered, altered_piece_of, keeps, learns_mapping, learns}
+use Rattle.stream_lanes.proofs.Words.{hears_data_fin, hears_fin, places, passes, clashes, lies_in, in_order, may_finish, ack_copy, Reader, Direction}
+use Rattle.stream_lanes.proofs.Words.{StreamEvent, after, asks, asks_at, moves, reads, is_done, takes_read, with_send, goes_infinite, may_go, Write, Close}
+use Rattle.stream_lanes.proofs.Words.{Return, GoIdentity, GoInfinite, AbortSend, Read, AbortRead, Moves, Asks, From, view_of, View, IsSent, AskHolds, LaneHolds}
+use Rattle.stream_lanes.proofs.Words.{DirectionHolds, HasPlace, ReaderHolds, IsGranted, Open, LookAtSender, LookAtReceiver, WantGrant, HearAck, HearSubAck}
+use Rattle.stream_lanes.proofs.Words.{SendPiece, SendAltered, SendDataFin, SendFin, SendPair, SendPlainPair, SendFinPair, Hear, Learn, HearDataFin, HearFin}
+use Rattle.stream_lanes.proofs.Words.{Forget, WantPlace, WantPlacePlain, WantFin, TakePair, WantPlacePair, WantFinPair, WantAckOut, SendAck, AreNew}
 use Rattle.send_book.specs.declared.call.SendReply.{SendReply}
-use Rattle.send_book.specs.declared.call.SendReply.TheVariants.{Acked as AckedBytes}
-use Rattle.send_book.specs.State.{Sending, acked_len}
-use Rattle.send_book.specs.Steps.{after_call as after_send, reply_to as send_reply, decision, reply_by}
-use Rattle.reassembly_book.specs.declared.call.ReassemblyCall.TheVariants.{Place, Fin, AckOut, Read as ReadBytes, Abort as AbortReading}
 use Rattle.reassembly_book.specs.declared.call.ReassemblyReply.{ReassemblyReply}
-use Rattle.reassembly_book.specs.declared.call.ReassemblyReply.TheVariants.{Placed, FinSet}
-use Rattle.reassembly_book.specs.State.{Arriving, filled, received}
-use Rattle.reassembly_book.specs.Steps.{after_call as after_arrival, reply_to as arrival_reply, edge}
-use Rattle.stream_lanes.specs.Words.{From}
-use Rattle.stream_lanes.specs.Lane.{DataCopy, AckCopy, Mapping, Pair, Ask, Lane}
-use Rattle.stream_lanes.specs.Lane.Ask.{Nothing, AskGrant, AskAckIn, AskPlace, AskFin, AskAckOut}
-use Rattle.stream_lanes.specs.Moves.{Flags, Move, moved, place_by, shifted, hears_sub, sends_pair, sends_fin_pair, takes_pair, places_pair, ends_pair, is_whole, takes_grant, takes_ack, takes_placed, takes_fin, takes_ack_out, hears, sends_piece, sends_altered, altered_piece_of, keeps, learns_mapping, learns, hears_data_fin, hears_fin, places, passes, clashes, lies_in, in_order, may_finish, ack_copy}
-use Rattle.stream_lanes.specs.Moves.Move.{Open, LookAtSender, LookAtReceiver, WantGrant, HearAck, HearSubAck, SendPiece, SendAltered, SendDataFin, SendFin, SendPair, SendPlainPair, SendFinPair, Hear, Learn, HearDataFin, HearFin, Forget, WantPlace, WantPlacePlain, WantFin, TakePair, WantPlacePair, WantFinPair, WantAckOut, SendAck}
-use Rattle.stream_lanes.specs.Streams.{Reader, Direction, StreamEvent, after, asks, asks_at, moves, reads, is_done, takes_read, with_send, goes_infinite, may_go}
-use Rattle.stream_lanes.specs.Streams.StreamEvent.{Write, Close, Return, GoIdentity, GoInfinite, AbortSend, Read, AbortRead, Moves, Asks}
-use Rattle.stream_lanes.specs.View.{View, view_of}
-use Rattle.stream_lanes.specs.Holding.{IsSent, ReaderHolds, HasPlace, AskHolds, LaneHolds, IsGranted, DirectionHolds}
 use Rattle.stream_lanes.proofs.Lists.{Cells-map, From-map, From-put, Has-more, Has-put, item_at}
 use Rattle.stream_lanes.proofs.Bytes.{From-filled}
 use Rattle.stream_lanes.proofs.Later.{Later, Anyone, arrived_later, lane_later}
@@ -32,7 +23,6 @@ use Rattle.stream_lanes.proofs.Views.{view_fits, flags_fit, received_written, re
 use Rattle.stream_lanes.proofs.Sends.{SendStep, unseen, write_step, close_step, return_step, go_identity_step, ack_step, grant_step}
 use Rattle.stream_lanes.proofs.Going.{gathered, goes_step, goes_held}
 use Rattle.stream_lanes.proofs.MarkLists.{spent_below}
-use Rattle.stream_lanes.specs.Marks.{AreNew}
 use Rattle.stream_lanes.proofs.Arrivals.{ReceiveStep, place_step, fin_step, abort_step, ack_out_step}
 use Rattle.stream_lanes.proofs.Reading.{read_step}
 use Rattle.stream_lanes.proofs.Granting.{grant_held}

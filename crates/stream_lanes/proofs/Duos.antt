@@ -1,16 +1,9 @@
 -- Every list of events keeps what holds of a connection.
-use Rattle.std.proofs.Common.{◌≡◌, refl, sym, ◌∙◌, ap, subst, ℕ, Bool, true, false, not, ◌&&◌, ◌||◌, if◌then◌else◌, ⊎_elim, List, [], ◌∷◌, arith}
-use Rattle.std.proofs.lemmas.Bool.{or_cases, or_left, or_right, and_parts, false≢true, both_ways, not-true}
-use Rattle.std.proofs.lemmas.List.{append-nil}
-use Rattle.send_book.specs.State.{Sending, new_sending as opened_send}
-use Rattle.reassembly_book.specs.State.{Arriving, new_arriving as opened_arriving}
-use Rattle.stream_lanes.specs.Lane.{lane_over}
-use Rattle.stream_lanes.specs.Moves.{Flags}
-use Rattle.stream_lanes.specs.Streams.{Direction, opening_direction}
-use Rattle.stream_lanes.specs.Duo.{Modes, Duo, Event, falls_a, falls_b, begins_join, sends_join, hears_join, flags_ab, flags_ba, after_event, after_events, opening, opening_over}
-use Rattle.stream_lanes.specs.Duo.Event.{ToB, ToA, FallA, FallB, LoosenA, LoosenB, BeginJoin, SendJoin, HearJoin}
-use Rattle.stream_lanes.specs.View.{view_of}
-use Rattle.stream_lanes.specs.Holding.{LaneHolds, DirectionHolds, ModesHold, Holds}
+use Rattle.stream_lanes.proofs.Words.{◌≡◌, refl, sym, ◌∙◌, ap, subst, ℕ, Bool, true, false, not, ⊎_elim, List, [], ◌∷◌, if◌then◌else◌, arith, ◌&&◌, ◌||◌}
+use Rattle.stream_lanes.proofs.Words.{or_cases, or_left, or_right, and_parts, false≢true, both_ways, not-true, append-nil, Arriving, opened_arriving, Sending}
+use Rattle.stream_lanes.proofs.Words.{opened_send, lane_over, Flags, Direction, opening_direction, Modes, Duo, Event, falls_a, falls_b, begins_join, sends_join}
+use Rattle.stream_lanes.proofs.Words.{hears_join, flags_ab, flags_ba, after_event, after_events, opening, opening_over, ToB, ToA, FallA, FallB, LoosenA}
+use Rattle.stream_lanes.proofs.Words.{LoosenB, BeginJoin, SendJoin, HearJoin, view_of, LaneHolds, DirectionHolds, Holds, ModesHold}
 use Rattle.stream_lanes.proofs.Lists.{Every-nil, in_replicate}
 use Rattle.stream_lanes.proofs.Later.{Later, Anyone, arrived_later}
 use Rattle.stream_lanes.proofs.Views.{exact_checks}
@@ -207,15 +200,12 @@ stays_if m true n o at_true at_false = at_true
 stays_if m false n o at_true at_false = at_false
 
 event_stays : (event : Event) (w : Duo) → LinkStays w.modes (after_event event w).modes
-event_stays (ToB event) w = record { alters = refl; checked = refl }
-event_stays (ToA event) w = record { alters = refl; checked = refl }
 event_stays FallA w = stays_if w.modes w.modes.begun w.modes _ (record { alters = refl; checked = refl }) (record { alters = refl; checked = refl })
 event_stays FallB w = stays_if w.modes w.modes.answered w.modes _ (record { alters = refl; checked = refl }) (record { alters = refl; checked = refl })
-event_stays LoosenA w = record { alters = refl; checked = refl }
-event_stays LoosenB w = record { alters = refl; checked = refl }
 event_stays BeginJoin w = stays_if w.modes w.modes.plain_a w.modes _ (record { alters = refl; checked = refl }) (record { alters = refl; checked = refl })
 event_stays SendJoin w = stays_if w.modes w.modes.begun _ w.modes (record { alters = refl; checked = refl }) (record { alters = refl; checked = refl })
 event_stays HearJoin w = stays_if w.modes (w.modes.join_sent && not w.modes.plain_b) _ w.modes (record { alters = refl; checked = refl }) (record { alters = refl; checked = refl })
+event_stays _ w = record { alters = refl; checked = refl }
 
 pub link_stays : (events : List Event) (w : Duo) → ((after_events events w).modes.alters ≡ w.modes.alters) × ((after_events events w).modes.checked ≡ w.modes.checked)
 link_stays [] w = (refl, refl)

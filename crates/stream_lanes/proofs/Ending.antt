@@ -1,14 +1,8 @@
 -- FINs and acknowledgements that a lane sends.
-use Rattle.std.proofs.Common.{◌≡◌, refl, ◌∙◌, subst, ℕ, zero, suc, ◌+◌, ◌<◌, ◌≤◌, min, max, Bool, true, false, ◌&&◌, if◌then◌else◌, ⊎_elim, List, [], ◌∷◌, ◌++◌, length, Option, Some, None, arith}
-use Rattle.std.proofs.lemmas.Bool.{and_parts, eqb-true, cases_lt, cases_eq}
-use Rattle.std.proofs.lemmas.Option.{slice_get_within}
-use Rattle.std.specs.Option.{IfSome}
-use Rattle.stream_lanes.specs.Marks.{spent_count}
-use Rattle.stream_lanes.specs.Lane.{Cell, Lane}
-use Rattle.stream_lanes.specs.Lane.Ask.{AskFin}
-use Rattle.stream_lanes.specs.Moves.{place_after, is_whole, may_finish, ack_copy}
-use Rattle.stream_lanes.specs.View.{View, IsEnd}
-use Rattle.stream_lanes.specs.Holding.{IsAll, RecordHolds, AloneHolds, IsFin, LaneHolds, IsPassed}
+use Rattle.stream_lanes.proofs.Words.{◌≡◌, refl, ◌∙◌, subst, ℕ, zero, suc, ◌+◌, ◌<◌, ◌≤◌, min, max, Bool, true, false, ⊎_elim, List, [], ◌∷◌, ◌++◌, length}
+use Rattle.stream_lanes.proofs.Words.{Option, Some, None, if◌then◌else◌, arith, ◌&&◌, and_parts, eqb-true, cases_lt, cases_eq, IfSome, slice_get_within, Lane}
+use Rattle.stream_lanes.proofs.Words.{Cell, AskFin, is_whole, may_finish, ack_copy, place_after, IsEnd, View, IsAll, RecordHolds, AloneHolds, IsFin, LaneHolds}
+use Rattle.stream_lanes.proofs.Words.{IsPassed, spent_count}
 use Rattle.stream_lanes.proofs.Lists.{Every-push, item_at}
 use Rattle.stream_lanes.proofs.Bytes.{place_after-identity}
 use Rattle.stream_lanes.proofs.MarkLists.{acked_spent, acked_is_spent}

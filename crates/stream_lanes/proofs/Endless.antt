@@ -1,16 +1,9 @@
 -- Infinite mappings: what is sent, heard and taken by one.
-use Rattle.std.proofs.Common.{◌≡◌, refl, sym, ◌∙◌, subst, ℕ, suc, ◌+◌, ◌-◌, ◌<◌, ◌≤◌, min, max, true, ◌&&◌, nat_le, ⊎_elim, List, [], ◌∷◌, ◌++◌, length, Option, Some, None, arith}
-use Rattle.std.proofs.lemmas.Bool.{and_parts, leb-true, eqb-true, cases_lt, both_ways}
-use Rattle.std.specs.List.{slice_get}
-use Rattle.std.specs.Option.{IfSome}
-use Rattle.stream_lanes.specs.Words.{Every}
-use Rattle.stream_lanes.specs.Marks.{spent, spent_count, AreNew}
-use Rattle.stream_lanes.specs.Lane.{Cell, Pair, AckCopy, Lane}
-use Rattle.stream_lanes.specs.Lane.Ask.{AskAckIn, AskFin}
-use Rattle.stream_lanes.specs.Moves.{place_by, shifted, place_after, is_whole, hears_sub, sends_pair, sends_plain_pair, sends_fin_pair, takes_pair, ends_pair}
-use Rattle.stream_lanes.specs.View.{View, IsEnd, IsIn}
-use Rattle.stream_lanes.specs.Holding.{IsAll, IsFin, IsPassed, AllGranted, IsEndless, AloneHolds, LaneHolds}
-use Rattle.stream_lanes.specs.Holding.IsAlone.{fell}
+use Rattle.stream_lanes.proofs.Words.{◌≡◌, refl, sym, ◌∙◌, subst, ℕ, suc, ◌+◌, ◌-◌, ◌<◌, ◌≤◌, min, max, true, ⊎_elim, List, [], ◌∷◌, ◌++◌, length, Option, Some}
+use Rattle.stream_lanes.proofs.Words.{None, arith, ◌&&◌, nat_le, and_parts, both_ways, eqb-true, cases_lt, leb-true, slice_get, IfSome, AckCopy, Pair, Lane}
+use Rattle.stream_lanes.proofs.Words.{Cell, AskAckIn, AskFin, place_by, shifted, hears_sub, sends_pair, sends_fin_pair, takes_pair, ends_pair, is_whole}
+use Rattle.stream_lanes.proofs.Words.{place_after, sends_plain_pair, Every, IsEnd, IsIn, View, IsAll, AloneHolds, IsFin, LaneHolds, AllGranted, IsPassed}
+use Rattle.stream_lanes.proofs.Words.{IsEndless, spent, spent_count, AreNew, fell}
 use Rattle.stream_lanes.proofs.Lists.{Every-push, item_at}
 use Rattle.stream_lanes.proofs.MarkLists.{new_count, spent_upto, spent_below, acked_spent}
 use Rattle.stream_lanes.proofs.Local.{ViewFits, held_if, with_ask}

@@ -1,21 +1,9 @@
 -- A book gives itself to one path where an infinite mapping of that path is right.
-use Rattle.std.proofs.Common.{◌≡◌, refl, sym, ◌∙◌, ap, subst, ℕ, zero, suc, ◌+◌, ◌-◌, ◌<◌, ◌≤◌, Bool, true, false, ◌&&◌, ◌==◌, nat_lt, nat_le, is_none, if◌then◌else◌, ◌⊎◌, inl, inr, ⊎_elim, List, [], ◌∷◌, length, take, drop, Some, arith}
-use Rattle.std.proofs.lemmas.Bool.{and_parts, leb-true, ltb-true, eqb-true, cases_lt}
-use Rattle.std.proofs.lemmas.Option.{slice_get_within}
-use Rattle.std.specs.List.{slice_get, list_all}
-use Rattle.send_book.specs.declared.mark.ByteMark.{ByteMark}
-use Rattle.send_book.specs.declared.mark.ByteMark.TheVariants.{Acked, Held, Free}
-use Rattle.send_book.specs.Marks.{is_acked, is_untouched, has_tried}
-use Rattle.send_book.specs.State.{Sending, acked_len}
-use Rattle.send_book.specs.Steps.{is_gathered, tried_first}
-use Rattle.send_book.proofs.Lists.{slice_get-drop}
-use Rattle.reassembly_book.specs.State.{Arriving, received}
-use Rattle.stream_lanes.specs.Marks.{spent, AreAcked, AreNew, tried}
-use Rattle.stream_lanes.specs.Lane.{Cell, Pair, Lane}
-use Rattle.stream_lanes.specs.Moves.{Flags, place_by}
-use Rattle.stream_lanes.specs.Streams.{rises, may_go}
-use Rattle.stream_lanes.specs.View.{view_of}
-use Rattle.stream_lanes.specs.Holding.{SendHolds, HasPlace, LaneHolds}
+use Rattle.stream_lanes.proofs.Words.{◌≡◌, refl, sym, ◌∙◌, ap, subst, ℕ, zero, suc, ◌+◌, ◌-◌, ◌<◌, ◌≤◌, Bool, true, false, nat_lt, ◌==◌, ⊎_elim, List, [], ◌∷◌}
+use Rattle.stream_lanes.proofs.Words.{length, take, drop, Some, if◌then◌else◌, arith, ◌⊎◌, ◌&&◌, inl, inr, nat_le, is_none, and_parts, eqb-true, cases_lt}
+use Rattle.stream_lanes.proofs.Words.{ltb-true, leb-true, slice_get, list_all, slice_get_within, Arriving, received, Sending, acked_len, is_gathered}
+use Rattle.stream_lanes.proofs.Words.{tried_first, slice_get-drop, ByteMark, Acked, Held, Free, is_acked, has_tried, is_untouched, Pair, Lane, Cell, Flags}
+use Rattle.stream_lanes.proofs.Words.{place_by, may_go, rises, view_of, LaneHolds, SendHolds, HasPlace, spent, AreAcked, AreNew, tried}
 use Rattle.stream_lanes.specs.Holding.IsAlone.{given}
 use Rattle.stream_lanes.proofs.Lists.{item_at}
 use Rattle.stream_lanes.proofs.MarkLists.{AreAcked-within}

@@ -1,28 +1,14 @@
 -- What a lane makes of the reply to its grant.
-use Rattle.std.proofs.Common.{◌≡◌, refl, sym, ◌∙◌, ap, subst, ℕ, ◌+◌, ◌-◌, ◌<◌, ◌≤◌, Bool, true, false, not, ◌&&◌, if◌then◌else◌, List, [], ◌∷◌, ◌++◌, length, drop, Some, None, Result, Ok, Err, position, arith, inl, inr, ◌⊎◌, ⊎_elim}
-use Rattle.std.proofs.lemmas.Bool.{and_parts, cases_lt}
-use Rattle.std.proofs.lemmas.List.{length-append, length-take, length-drop, map-append, length-map}
-use Rattle.std.proofs.lemmas.Option.{slice_get_within}
-use Rattle.std.specs.List.{slice_get}
-use Rattle.std.specs.Option.{IfSome, option_map}
-use Rattle.send_book.specs.declared.call.Span.{Span}
-use Rattle.send_book.specs.declared.call.Why.{Why}
-use Rattle.send_book.specs.declared.call.SendCall.TheVariants.{Grant}
-use Rattle.send_book.specs.declared.mark.ByteMark.{ByteMark}
-use Rattle.send_book.specs.Marks.{is_free_for, given}
-use Rattle.send_book.specs.State.{Sending}
-use Rattle.send_book.specs.Steps.{after_call, reply_to, decision, given_by, reply_by, change_part, part_of}
-use Rattle.send_book.proofs.Lists.{slice_get-changed_inside, slice_get-append_right}
-use Rattle.send_book.proofs.Decisions.{MayTake, decision-MayTake}
-use Rattle.send_book.proofs.Grants.{spent-given}
-use Rattle.reassembly_book.specs.State.{Arriving, received}
-use Rattle.reassembly_book.specs.Steps.{edge}
-use Rattle.stream_lanes.specs.Words.{Every}
-use Rattle.stream_lanes.specs.Marks.{spent, spent_count, AreNew, tried}
-use Rattle.stream_lanes.specs.Lane.{Cell, Mapping, Pair, Lane}
-use Rattle.stream_lanes.specs.Moves.{Flags, takes_grant, later_end, cells_from, places_of, place_by}
-use Rattle.stream_lanes.specs.View.{view_of, end_of, IsEnd}
-use Rattle.stream_lanes.specs.Holding.{SendHolds, CellFits, AloneHolds, IsFin, AreApart, IsRight, LaneHolds, HasPlace, IsPassed, PassedHolds, IsEndless, PairsHold}
+use Rattle.stream_lanes.proofs.Words.{◌≡◌, refl, sym, ◌∙◌, ap, subst, ℕ, ◌+◌, ◌-◌, ◌<◌, ◌≤◌, Bool, true, false, not, ⊎_elim, List, [], ◌∷◌, ◌++◌, length, drop}
+use Rattle.stream_lanes.proofs.Words.{Some, None, Result, Ok, Err, position, if◌then◌else◌, arith, ◌⊎◌, ◌&&◌, inl, inr, and_parts, cases_lt, slice_get}
+use Rattle.stream_lanes.proofs.Words.{length-take, length-drop, map-append, length-map, length-append, IfSome, option_map, slice_get_within, Arriving, received}
+use Rattle.stream_lanes.proofs.Words.{edge, Span, Why, Grant, Sending, decision, given_by, change_part, reply_by, slice_get-changed_inside}
+use Rattle.stream_lanes.proofs.Words.{slice_get-append_right, ByteMark, is_free_for, MayTake, decision-MayTake, spent-given, Mapping, Pair, Lane, Cell, Flags}
+use Rattle.stream_lanes.proofs.Words.{place_by, takes_grant, places_of, cells_from, later_end, Every, view_of, end_of, IsEnd, AloneHolds, IsFin, LaneHolds}
+use Rattle.stream_lanes.proofs.Words.{CellFits, IsPassed, PassedHolds, IsEndless, PairsHold, SendHolds, IsRight, HasPlace, AreApart, spent, spent_count, AreNew}
+use Rattle.stream_lanes.proofs.Words.{tried}
+use Rattle.send_book.specs.Marks.{given}
+use Rattle.send_book.specs.Steps.{after_call, reply_to, part_of}
 use Rattle.stream_lanes.proofs.Lists.{Every-map, Every-append, Every-push, From-append, Cells-map, in_append, in_one, in_drop, in_take, item_at, Has-more, IfSome-map}
 use Rattle.stream_lanes.proofs.Bytes.{came_more, right_more, honest_more, length-cells_from, in_cells_from, places-cells_from, has_place}
 use Rattle.stream_lanes.proofs.MarkLists.{count_within, grant_counts, grant_first, grant_is_next, position_within, AreNew-given, given_outside}

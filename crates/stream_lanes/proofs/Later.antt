@@ -1,18 +1,14 @@
 -- The books went on from one view to another: what held of a lane then holds now.
-use Rattle.std.proofs.Common.{◌≡◌, sym, ◌∙◌, ap, ℕ, ◌≤◌, Bool, true, ◌⊎◌, inl, inr, List, ◌++◌, length, Option, Some, arith}
+use Rattle.stream_lanes.proofs.Words.{◌≡◌, sym, ◌∙◌, ap, ℕ, ◌≤◌, Bool, true, List, ◌++◌, length, Option, Some, arith, ◌⊎◌, inl, inr, slice_get, Arriving}
+use Rattle.stream_lanes.proofs.Words.{AckCopy, Pair, Ask, Lane, Cell, AskAckIn, AskPlace, AskFin, place_by, Every, IsEnd, IsIn, View, IsAll, IsSent}
+use Rattle.stream_lanes.proofs.Words.{ArrivedHolds, RecordHolds, AloneHolds, ModeHolds, EndsHold, IsFin, HeardHolds, IsAck, ReceiverHolds, PlaceHolds, AskHolds}
+use Rattle.stream_lanes.proofs.Words.{LinkHolds, LaneHolds, CellFits, AllGranted, IsPassed, PassedHolds, IsAlone, IsEndless, PairsHold, spent, spent_count}
+use Rattle.stream_lanes.proofs.Words.{AreNew, tried, fell}
 use Rattle.std.proofs.lemmas.Grind.{common_steps}
-use Rattle.std.specs.List.{slice_get}
-use Rattle.reassembly_book.specs.State.{Arriving}
-use Rattle.stream_lanes.specs.Marks.{spent, spent_count, AreNew, tried}
-use Rattle.stream_lanes.specs.Lane.{Cell, Pair, AckCopy, Told, Ask, Lane}
-use Rattle.stream_lanes.specs.Lane.Ask.{Nothing, AskGrant, AskAckIn, AskPlace, AskFin, AskAckOut}
-use Rattle.stream_lanes.specs.View.{View, IsEnd, IsIn}
-use Rattle.stream_lanes.specs.Holding.{IsAll, IsSent, ArrivedHolds, RecordHolds, AloneHolds, ModeHolds, EndsHold, IsFin, HeardHolds, IsAck, ReceiverHolds, PlaceHolds, AskHolds, LinkHolds, LaneHolds, CellFits, AllGranted, IsPassed, PassedHolds, IsAlone, IsEndless, PairsHold}
-use Rattle.stream_lanes.specs.Holding.IsAlone.{given, fell}
-use Rattle.stream_lanes.specs.Moves.{place_by}
+use Rattle.stream_lanes.specs.Lane.{Told}
+use Rattle.stream_lanes.specs.Holding.IsAlone.{given}
 use Rattle.stream_lanes.proofs.Lists.{Every-map, From-map, Cells-map, IfSome-map, in_more}
 use Rattle.stream_lanes.proofs.MarkLists.{count_grows}
-use Rattle.stream_lanes.specs.Words.{Every}
 
 -- no other path is granted anything
 abbrev pub Keeps : ℕ → View → View → Type 0
@@ -161,10 +157,7 @@ module _ {Q : ℕ → Type 0} {v u : View} (l : Later Q v u) where
   }
 
   pub ends_later : (p : Lane) → EndsHold v.end p.known_end p.data_fins → EndsHold u.end p.known_end p.data_fins
-  ends_later p h = record {
-    told = IfSome-map p.known_end (λ e is. l.end e is) h.told;
-    named = Every-map (λ e is. l.end e is) h.named;
-  }
+  ends_later p h = record { told = IfSome-map p.known_end (λ e is. l.end e is) h.told; named = Every-map (λ e is. l.end e is) h.named }
 
   pub fin_later : (path : ℕ) (sent : List Cell) (pos : ℕ) → IsFin path v sent pos → IsFin path u sent pos
   fin_later path sent pos h = record {
@@ -174,10 +167,7 @@ module _ {Q : ℕ → Type 0} {v u : View} (l : Later Q v u) where
   }
 
   pub heard_later : (heard : ℕ) (fin_acked : Bool) → HeardHolds v heard fin_acked → HeardHolds u heard fin_acked
-  heard_later heard fin_acked h = record {
-    below = omega (arith, h.below, l.confirmed);
-    fin = λ is. all_later (h.fin is);
-  }
+  heard_later heard fin_acked h = record { below = omega (arith, h.below, l.confirmed); fin = λ is. all_later (h.fin is) }
 
   pub ack_later : (next window : ℕ) → IsAck v next window → IsAck u next window
   ack_later next window h = record { covers = omega (arith, h.covers, l.next); reaches = λ none. let old = h.reaches (sym l.alters ∙ none) in omega (arith, old, l.edge) }
@@ -204,12 +194,10 @@ module _ {Q : ℕ → Type 0} {v u : View} (l : Later Q v u) where
   }
 
   pub ask_later : (sent : List Cell) (opened : Bool) (edge : ℕ) (asking : Ask) → AskHolds v sent opened edge asking → AskHolds u sent opened edge asking
-  ask_later sent opened edge Nothing h = h
-  ask_later sent opened edge (AskGrant max standby) h = h
   ask_later sent opened edge (AskAckIn next window) h = ack_later next window h
   ask_later sent opened edge (AskPlace at bytes) h = place_later sent edge at bytes h
   ask_later sent opened edge (AskFin at) h = l.end at h
-  ask_later sent opened edge AskAckOut h = h
+  ask_later sent opened edge _ h = h
 
   -- one lemma for every step of another actor
   pub lane_later : (path : ℕ) (p : Lane) → Q path → ((n : ℕ) → AreNew n v.marks → v.received ≤ n) → LaneHolds v path p → LaneHolds u path p

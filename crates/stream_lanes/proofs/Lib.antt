@@ -22,3 +22,4 @@ pub mod Refusals
 pub mod Replies
 pub mod Sends
 pub mod Views
+mod Words

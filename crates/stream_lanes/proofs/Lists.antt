@@ -1,11 +1,7 @@
 -- The words on lists under map, append, put, take and drop.
-use Rattle.std.proofs.Common.{◌≡◌, refl, sym, ◌∙◌, ap, subst, ℕ, zero, suc, ◌+◌, ◌-◌, ◌<◌, ◌≤◌, ⊎_elim, ◌⊎◌, inl, inr, List, [], ◌∷◌, ◌++◌, length, take, drop, map, set, replicate, Option, Some, None, arith}
-use Rattle.std.proofs.lemmas.Bool.{cases_lt, cases_eq}
-use Rattle.std.proofs.lemmas.Option.{slice_get_within}
-use Rattle.std.specs.Option.{IfSome}
-use Rattle.std.specs.List.{slice_get}
-use Rattle.send_book.proofs.Lists.{slice_get-append_left, slice_get-append_right, slice_get-drop}
-use Rattle.stream_lanes.specs.Words.{Every, From, Cells, Has}
+use Rattle.stream_lanes.proofs.Words.{◌≡◌, refl, sym, ◌∙◌, ap, subst, ℕ, zero, suc, ◌+◌, ◌-◌, ◌<◌, ◌≤◌, ⊎_elim, List, [], ◌∷◌, ◌++◌, length, take, drop, map}
+use Rattle.stream_lanes.proofs.Words.{replicate, Option, Some, None, arith, ◌⊎◌, inl, inr, set, cases_lt, cases_eq, slice_get, IfSome, slice_get_within}
+use Rattle.stream_lanes.proofs.Words.{slice_get-append_left, slice_get-append_right, slice_get-drop, Every, From, Cells, Has}
 
 -- an item of two lists together is one of the first or of the second
 pub in_append : {X : Type 0} (xs ys : List X) (i : ℕ) (x : X) → slice_get (xs ++ ys) i ≡ Some x
@@ -94,10 +90,6 @@ module _ {X : Type 0} where
 
   pub From-map : {P Q : ℕ → X → Type 0} {first : ℕ} {xs : List X} → ((n : ℕ) (x : X) → P n x → Q n x) → From P first xs → From Q first xs
   From-map f h = record { each = λ i n x n_is e. f n x (h.each i n x n_is e) }
-
-  pub From-both : {P Q R : ℕ → X → Type 0} {first : ℕ} {xs : List X} → ((n : ℕ) (x : X) → P n x → Q n x → R n x)
-      → From P first xs → From Q first xs → From R first xs
-  From-both f h k = record { each = λ i n x n_is e. f n x (h.each i n x n_is e) (k.each i n x n_is e) }
 
   pub From-append : {P : ℕ → X → Type 0} {first : ℕ} {xs ys : List X} → From P first xs → From P (first + length xs) ys → From P first (xs ++ ys)
   From-append {P} {first} {xs} {ys} h k = record {

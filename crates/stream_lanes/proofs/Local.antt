@@ -1,16 +1,9 @@
 -- Each move of a lane by itself keeps what holds of it.
-use Rattle.std.proofs.Common.{◌≡◌, refl, sym, ◌∙◌, subst, ℕ, ◌+◌, ◌-◌, ◌<◌, ◌≤◌, max, take, arith, Bool, true, false, ◌||◌, ◌==◌, if◌then◌else◌, ◌⊎◌, ⊎_elim, [], ◌∷◌, ◌++◌, length, Option, Some, None}
-use Rattle.std.proofs.lemmas.Bool.{or_cases, eqb-true, both_ways}
-use Rattle.std.specs.Option.{IfSome}
-use Rattle.std.specs.List.{slice_get}
-use Rattle.stream_lanes.specs.Words.{Every}
-use Rattle.stream_lanes.specs.Marks.{AreAcked}
-use Rattle.stream_lanes.specs.Lane.{Mapping, DataCopy, AckCopy, Ask, Lane}
-use Rattle.stream_lanes.specs.Lane.Ask.{Nothing, AskGrant, AskAckIn, AskPlace, AskFin, AskAckOut}
-use Rattle.stream_lanes.specs.Moves.{Flags, known, part_of, piece_of, altered_piece_of, clashes, hears, sends_piece, sends_altered, keeps, learns_mapping, learns, hears_data_fin, hears_fin}
-use Rattle.stream_lanes.specs.View.{View, IsEnd, IsIn}
-use Rattle.stream_lanes.specs.Holding.{IsAll, IsAck, IsAckCopy, AskHolds, LaneHolds, IsRight, IsPiece}
-use Rattle.stream_lanes.specs.Holding.Came.{as_sent}
+use Rattle.stream_lanes.proofs.Words.{◌≡◌, refl, sym, ◌∙◌, subst, ℕ, ◌+◌, ◌-◌, ◌<◌, ◌≤◌, max, Bool, true, false, ◌==◌, ⊎_elim, [], ◌∷◌, ◌++◌, length, take}
+use Rattle.stream_lanes.proofs.Words.{Option, Some, None, if◌then◌else◌, arith, ◌⊎◌, ◌||◌, or_cases, both_ways, eqb-true, slice_get, IfSome, DataCopy, AckCopy}
+use Rattle.stream_lanes.proofs.Words.{Mapping, Ask, Lane, AskGrant, AskAckIn, AskFin, Flags, hears, sends_piece, sends_altered, altered_piece_of, keeps}
+use Rattle.stream_lanes.proofs.Words.{learns_mapping, learns, hears_data_fin, hears_fin, clashes, part_of, known, piece_of, Every, IsEnd, IsIn, View, IsAll}
+use Rattle.stream_lanes.proofs.Words.{IsAck, AskHolds, LaneHolds, IsRight, IsPiece, IsAckCopy, as_sent, AreAcked}
 use Rattle.stream_lanes.proofs.Lists.{Every-nil, Every-append, Every-push, From-map, in_one}
 use Rattle.stream_lanes.proofs.Bytes.{Cells-merged, Cells-by_place, Cells-take, From-take, part_is_honest, part_within}
 use Rattle.stream_lanes.proofs.Checking.{length-turned, turned_came}
@@ -79,12 +72,8 @@ module _ (v : View) (path : ℕ) where
   }) h
     where
       opened_ask : (a : Ask) → AskHolds v p.sent p.opened p.edge a → AskHolds v p.sent true p.edge a
-      opened_ask Nothing fits = fits
       opened_ask (AskGrant max standby) fits = (refl, fits.1)
-      opened_ask (AskAckIn next window) fits = fits
-      opened_ask (AskPlace at bytes) fits = fits
-      opened_ask (AskFin at) fits = fits
-      opened_ask AskAckOut fits = fits
+      opened_ask _ fits = fits
 
   pub look_at_sender_held : (f : Flags) (p : Lane) → FlagsFit f v → LaneHolds v path p → LaneHolds v path (record p { sender_plain = f.sender })
   look_at_sender_held f p flags h = record {

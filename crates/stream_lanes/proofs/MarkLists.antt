@@ -1,27 +1,18 @@
 -- Lists of marks: which bytes are spent, which are acknowledged, which are new, under what the calls of a send book do.
-use Rattle.std.proofs.Common.{◌≡◌, refl, sym, ◌∙◌, ap, subst, ℕ, zero, suc, ◌+◌, ◌-◌, ◌<◌, ◌≤◌, min, max, Bool, true, false, not, cond, nat_lt, ◌==◌, ⊎_elim, List, [], ◌∷◌, ◌++◌, length, get_or, take, drop, map, replicate, Option, Some, None, Result, Ok, Err, position, if◌then◌else◌, arith, ◌⊎◌}
-use Rattle.std.proofs.lemmas.Bool.{cases_lt, both_ways, ltb-true, eqb-true}
-use Rattle.std.proofs.lemmas.List.{length-take, length-drop, map-append, take-append-drop, drop-drop, length-replicate}
+use Rattle.stream_lanes.proofs.Words.{◌≡◌, refl, sym, ◌∙◌, ap, subst, ℕ, zero, suc, ◌+◌, ◌-◌, ◌<◌, ◌≤◌, min, max, Bool, true, false, not, cond, nat_lt, ◌==◌}
+use Rattle.stream_lanes.proofs.Words.{⊎_elim, List, [], ◌∷◌, ◌++◌, length, get_or, take, drop, map, replicate, Option, Some, None, Result, Ok, Err, position}
+use Rattle.stream_lanes.proofs.Words.{if◌then◌else◌, arith, ◌⊎◌, both_ways, eqb-true, cases_lt, ltb-true, slice_get, position_or_len, length-take, length-drop}
+use Rattle.stream_lanes.proofs.Words.{map-append, take-append-drop, drop-drop, length-replicate, option_map, slice_get_within, get_or_from_slice_get}
+use Rattle.stream_lanes.proofs.Words.{slice_get-map, Span, Why, Sending, acked_len, decision, change_part, first_free, is_for, span_at, run_len}
+use Rattle.stream_lanes.proofs.Words.{slice_get-changed_above, slice_get-changed_inside, slice_get-append_left, slice_get-append_right, slice_get-changed_below}
+use Rattle.stream_lanes.proofs.Words.{ByteMark, Acked, Held, Free, is_acked, is_free_for, returned, has_tried, is_untouched, is_held_rightly, MayTake}
+use Rattle.stream_lanes.proofs.Words.{spent-given, spent-not_free, no_paths, contains, has_none, insert, Every, spent, spent_count, AreAcked, AreNew, tried}
+use Rattle.stream_lanes.proofs.Words.{IsHeldRightly}
 use Rattle.std.proofs.lemmas.List.Sums.{sum_by-append, sum_by-cons, fails_before_first, passes_at_first}
-use Rattle.std.proofs.lemmas.Option.{slice_get_within, get_or_from_slice_get, slice_get-map}
-use Rattle.std.specs.List.{slice_get, position_or_len}
-use Rattle.send_book.specs.declared.call.Span.{Span}
-use Rattle.send_book.specs.declared.call.Why.{Why}
 use Rattle.send_book.specs.declared.call.Why.TheVariants.{Ended, Backup, WindowShut}
-use Rattle.send_book.specs.declared.mark.ByteMark.{ByteMark}
-use Rattle.send_book.specs.declared.mark.ByteMark.TheVariants.{Acked, Held, Free}
-use Rattle.send_book.specs.Tried.{no_paths, contains, has_none, insert}
-use Rattle.send_book.specs.Marks.{is_acked, is_free_for, given, returned, has_tried, is_untouched, is_held_rightly}
-use Rattle.send_book.specs.State.{Sending, acked_len}
-use Rattle.send_book.specs.Steps.{change_part, decision, first_free, is_for, span_at, run_len}
-use Rattle.send_book.proofs.Lists.{slice_get-changed_above, slice_get-changed_inside, slice_get-append_left, slice_get-append_right, slice_get-changed_below}
-use Rattle.send_book.proofs.Decisions.{MayTake}
-use Rattle.send_book.proofs.Grants.{spent-given, spent-not_free}
-use Rattle.stream_lanes.specs.Marks.{spent, spent_count, AreAcked, AreNew, tried, IsHeldRightly}
+use Rattle.send_book.specs.Marks.{given}
 use Rattle.stream_lanes.proofs.Lists.{in_append, in_drop, in_take, in_map, in_replicate, item_at, Every-append}
-use Rattle.stream_lanes.specs.Words.{Every}
 use Rattle.send_book.proofs.PathSets.{contains-insert}
-use Rattle.std.specs.Option.{option_map}
 use Rattle.std.specs.Prelude.{slice_index_or}
 
 -- a byte as it was written: no path has tried it, each may take it, and it isn't acknowledged

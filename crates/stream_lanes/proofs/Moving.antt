@@ -1,13 +1,8 @@
 -- Every move of a lane keeps what holds of it.
-use Rattle.std.proofs.lemmas.Bool.{and_parts, ltb-true}
-use Rattle.std.proofs.Common.{◌&&◌, nat_lt, refl, ℕ}
-use Rattle.stream_lanes.specs.Lane.{Lane}
-use Rattle.stream_lanes.specs.Lane.Ask.{AskGrant, AskAckOut}
-use Rattle.std.specs.List.{slice_get}
-use Rattle.stream_lanes.specs.Moves.{Flags, Move, moved}
-use Rattle.stream_lanes.specs.Moves.Move.{Open, LookAtSender, LookAtReceiver, WantGrant, HearAck, HearSubAck, SendPiece, SendAltered, SendDataFin, SendFin, SendPair, SendPlainPair, SendFinPair, Hear, Learn, HearDataFin, HearFin, Forget, WantPlace, WantPlacePlain, WantFin, TakePair, WantPlacePair, WantFinPair, WantAckOut, SendAck}
-use Rattle.stream_lanes.specs.View.{View}
-use Rattle.stream_lanes.specs.Holding.{LaneHolds}
+use Rattle.stream_lanes.proofs.Words.{refl, ℕ, nat_lt, ◌&&◌, and_parts, ltb-true, slice_get, Lane, AskGrant, AskAckOut, Flags, Move, moved, View, LaneHolds}
+use Rattle.stream_lanes.proofs.Words.{Open, LookAtSender, LookAtReceiver, WantGrant, HearAck, HearSubAck, SendPiece, SendAltered, SendDataFin, SendFin}
+use Rattle.stream_lanes.proofs.Words.{SendPair, SendPlainPair, SendFinPair, Hear, Learn, HearDataFin, HearFin, Forget, WantPlace, WantPlacePlain, WantFin}
+use Rattle.stream_lanes.proofs.Words.{TakePair, WantPlacePair, WantFinPair, WantAckOut, SendAck}
 use Rattle.stream_lanes.proofs.Local.{ViewFits, FlagsFit, held_if, with_ask, open_held, look_at_sender_held, look_at_receiver_held, hear_ack_held, send_piece_held, send_altered_held, forget_held, send_data_fin_held, hear_held, learn_held, hear_data_fin_held, hear_fin_held}
 use Rattle.stream_lanes.proofs.Placing.{want_place_held, want_place_plain_held, want_place_pair_held}
 use Rattle.stream_lanes.proofs.Ending.{send_fin_held, want_fin_held, send_ack_held}

@@ -1,33 +1,18 @@
 -- Each event is on each pipe one step or none.
-use Rattle.std.proofs.Common.{◌≡◌, refl, sym, ◌∙◌, ap, subst, ℕ, ◌+◌, ◌≤◌, min, max, Bool, true, false, ◌&&◌, ◌||◌, ◌==◌, nat_lt, if◌then◌else◌, is_some, List, [], ◌∷◌, ◌++◌, length, take, drop, map, replicate, set, Option, Some, None, Result, Ok, Err, arith}
-use Rattle.std.proofs.lemmas.Bool.{or_parts, and_from, eqb-true, eq-eqb, le-ltb, or_from}
-use Rattle.std.proofs.lemmas.List.{length-take}
-use Rattle.std.specs.List.{slice_get}
-use Rattle.std.specs.Option.{IfSome}
+use Rattle.stream_lanes.proofs.Words.{◌≡◌, refl, sym, ◌∙◌, ap, subst, ℕ, ◌+◌, ◌≤◌, min, max, Bool, true, false, nat_lt, ◌==◌, List, [], ◌∷◌, ◌++◌, length, take}
+use Rattle.stream_lanes.proofs.Words.{drop, map, replicate, Option, Some, None, Result, Ok, Err, if◌then◌else◌, arith, ◌&&◌, ◌||◌, set, is_some, eqb-true}
+use Rattle.stream_lanes.proofs.Words.{eq-eqb, le-ltb, or_parts, and_from, or_from, slice_get, length-take, IfSome, filled, received, places_after, fin_clash}
+use Rattle.stream_lanes.proofs.Words.{is_taken, bytes_reply, reading, after_reading, End, NoneYet, Span, Why, GoIdentityBook, GoInfiniteBook, acked_len}
+use Rattle.stream_lanes.proofs.Words.{after_send, bytes_taken, is_future, fin_after, is_gathered, decision, given_by, change_part, ByteMark, Acked, Free}
+use Rattle.stream_lanes.proofs.Words.{returned, decision-MayTake, no_paths, Ask, Lane, Nothing, AskGrant, AskAckIn, AskPlace, AskFin, AskAckOut, Flags, Move}
+use Rattle.stream_lanes.proofs.Words.{Direction, StreamEvent, after, asks, asks_at, moves, reads, is_done, takes_read, with_send, goes_infinite, may_go, Write}
+use Rattle.stream_lanes.proofs.Words.{Close, Return, GoIdentity, GoInfinite, AbortSend, Read, AbortRead, Moves, Asks, view_of, end_of, IsEnd, IsAck, AskHolds}
+use Rattle.stream_lanes.proofs.Words.{DirectionHolds, pipe_of, IsOneStepOrNone}
 use Rattle.pipe_model.specs.declared.pipe.Pipe.{Pipe}
 use Rattle.pipe_model.specs.declared.pipe.PipeStep.TheVariants.{Write as WriteStep, Close as CloseStep, Read as ReadStep, Ack as AckStep, TellEnd}
 use Rattle.pipe_model.specs.declared.pipe.PipeFault.TheVariants.{Closed, Told, Past, NotAll}
-use Rattle.send_book.specs.declared.call.Span.{Span}
-use Rattle.send_book.specs.declared.call.Why.{Why}
-use Rattle.send_book.specs.declared.mark.ByteMark.{ByteMark}
-use Rattle.send_book.specs.declared.mark.ByteMark.TheVariants.{Acked, Free}
-use Rattle.send_book.specs.Tried.{no_paths}
-use Rattle.send_book.specs.Marks.{returned, given}
-use Rattle.send_book.specs.State.{acked_len}
-use Rattle.send_book.specs.declared.call.SendCall.TheVariants.{GoIdentity as GoIdentityBook, GoInfinite as GoInfiniteBook}
-use Rattle.send_book.specs.Steps.{after_call as after_send, bytes_taken, is_future, fin_after, is_gathered, decision, given_by, change_part}
-use Rattle.send_book.proofs.Decisions.{decision-MayTake}
-use Rattle.reassembly_book.specs.declared.call.ReassemblyReply.TheVariants.{End, NoneYet}
-use Rattle.reassembly_book.specs.State.{filled, received}
-use Rattle.reassembly_book.specs.Steps.{is_taken, places_after, fin_clash, is_end, bytes_reply, reading, after_reading}
-use Rattle.stream_lanes.specs.Lane.{Ask, Lane}
-use Rattle.stream_lanes.specs.Lane.Ask.{Nothing, AskGrant, AskAckIn, AskPlace, AskFin, AskAckOut}
-use Rattle.stream_lanes.specs.Moves.{Flags, Move}
-use Rattle.stream_lanes.specs.Streams.{Direction, StreamEvent, after, asks, asks_at, moves, reads, is_done, takes_read, with_send, goes_infinite, may_go}
-use Rattle.stream_lanes.specs.Streams.StreamEvent.{Write, Close, Return, GoIdentity, GoInfinite, AbortSend, Read, AbortRead, Moves, Asks}
-use Rattle.stream_lanes.specs.View.{view_of, end_of, IsEnd}
-use Rattle.stream_lanes.specs.Holding.{AskHolds, IsAck, DirectionHolds}
-use Rattle.stream_lanes.specs.Laws.{pipe_of, IsOneStepOrNone}
+use Rattle.send_book.specs.Marks.{given}
+use Rattle.reassembly_book.specs.Steps.{is_end}
 use Rattle.stream_lanes.specs.Laws.StepsOrStays.{stays, steps}
 use Rattle.stream_lanes.proofs.MarkLists.{AreAcked-count, AreAcked-written, AreAcked-returned, AreAcked-given, AreAcked-acked}
 use Rattle.stream_lanes.proofs.Views.{AllIn, all_in_is, is_end as is_end_of, received_written}
@@ -69,9 +54,6 @@ may_tell p untold closed whole =
 module _ (f : Flags) (d : Direction) (h : DirectionHolds f d) where
   within : received d.arrived ≤ length d.send.written
   within = received_written (view_of f d.send d.arrived) d.arrived h.arrived
-
-  counted : (marks : List ByteMark) (n : ℕ) → n ≡ acked_len d.send.marks → (are : acked_len marks ≡ n) → acked_len marks ≡ acked_len d.send.marks
-  counted marks n n_is are = are ∙ n_is
 
   write_moves : (bytes : List ℕ) (shut : Bool) → (d.send.closed || d.send.aborted) ≡ shut
       → IsOneStepOrNone d (record d {

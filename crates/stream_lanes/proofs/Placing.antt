@@ -1,15 +1,9 @@
 -- What a receiver's end is about to place: bytes of the record, at the places that they have there.
-use Rattle.std.proofs.Common.{◌≡◌, refl, sym, ◌∙◌, ap, subst, ℕ, zero, suc, ◌+◌, ◌-◌, ◌<◌, ◌≤◌, Bool, true, false, not, ◌&&◌, ◌||◌, ◌==◌, if◌then◌else◌, nat_le, List, length, Option, Some, None, arith}
-use Rattle.std.proofs.lemmas.Bool.{and_parts, leb-true, eqb-true}
-use Rattle.std.proofs.lemmas.Option.{slice_get-map, same_Some, slice_get_within}
-use Rattle.std.specs.Option.{IfSome, option_map}
-use Rattle.std.specs.List.{slice_get}
-use Rattle.stream_lanes.specs.Words.{From}
-use Rattle.stream_lanes.specs.Lane.{Cell, Mapping, Pair, Lane}
-use Rattle.stream_lanes.specs.Lane.Ask.{AskPlace}
-use Rattle.stream_lanes.specs.Moves.{bytes_of, places_of, place_by, part_of, are_same, passes, in_order, lies_in, places, places_pair}
-use Rattle.stream_lanes.specs.View.{View}
-use Rattle.stream_lanes.specs.Holding.{IsSent, CellFits, RecordHolds, HasPlace, PlaceHolds, LaneHolds, IsByteOf, Came, IsRight, IsEndless}
+use Rattle.stream_lanes.proofs.Words.{◌≡◌, refl, sym, ◌∙◌, ap, subst, ℕ, zero, suc, ◌+◌, ◌-◌, ◌<◌, ◌≤◌, Bool, true, false, not, ◌==◌, List, length, Option}
+use Rattle.stream_lanes.proofs.Words.{Some, None, if◌then◌else◌, arith, ◌&&◌, ◌||◌, nat_le, and_parts, eqb-true, leb-true, slice_get, IfSome, option_map}
+use Rattle.stream_lanes.proofs.Words.{slice_get_within, slice_get-map, same_Some, Mapping, Pair, Lane, Cell, AskPlace, place_by, places_pair, places, passes}
+use Rattle.stream_lanes.proofs.Words.{lies_in, in_order, places_of, bytes_of, part_of, are_same, From, View, IsSent, RecordHolds, PlaceHolds, LaneHolds}
+use Rattle.stream_lanes.proofs.Words.{CellFits, IsEndless, IsRight, HasPlace, Came, IsByteOf}
 use Rattle.stream_lanes.proofs.Lists.{From-map, item_at}
 use Rattle.stream_lanes.proofs.Bytes.{From-filled, From-take, part_is_honest}
 use Rattle.stream_lanes.proofs.Checking.{came_within, came_unaltered, same_bytes}

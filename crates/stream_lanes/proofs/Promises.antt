@@ -1,23 +1,14 @@
 -- The promises, from what holds of a connection.
-use Rattle.std.proofs.Common.{◌≡◌, refl, sym, ◌∙◌, ap, subst, ℕ, zero, suc, ◌+◌, ◌<◌, ◌≤◌, true, false, not, ◌&&◌, ◌||◌, List, [], ◌∷◌, ◌++◌, length, drop, Some, arith, ◌-◌, ◌^◌, replicate, take}
-use Rattle.std.proofs.lemmas.Bool.{or_left, or_right, not-true, true≢false, and_from}
-use Rattle.std.proofs.lemmas.List.{take-append-drop, take_all, length-take, length-drop, length-map}
-use Rattle.std.proofs.lemmas.Option.{slice_get_within, same_Some}
-use Rattle.std.specs.List.{slice_get, list_all}
-use Rattle.send_book.specs.declared.mark.ByteMark.{ByteMark}
-use Rattle.send_book.specs.declared.mark.ByteMark.TheVariants.{Acked, Held, Free}
-use Rattle.send_book.specs.Marks.{is_acked, is_held_rightly}
-use Rattle.send_book.specs.State.{acked_len}
-use Rattle.reassembly_book.specs.State.{received}
-use Rattle.stream_lanes.specs.Marks.{AreAcked}
-use Rattle.stream_lanes.specs.Lane.{Cell, Mapping, Pair, Lane}
-use Rattle.stream_lanes.specs.Moves.{Flags, in_order, part_of, bytes_of}
-use Rattle.stream_lanes.specs.Streams.{Reader, Direction}
-use Rattle.stream_lanes.specs.Duo.{Duo, flags_ab, flags_ba, after_events, opening, opening_over}
-use Rattle.stream_lanes.specs.Duo.Event.{ToB, ToA, FallA, FallB, LoosenA, LoosenB, BeginJoin, SendJoin, HearJoin}
-use Rattle.stream_lanes.specs.View.{view_of, is_exact}
-use Rattle.stream_lanes.specs.Holding.{CellFits, Came, IsRight, IsEndless, LaneHolds, DirectionHolds, Holds}
-use Rattle.stream_lanes.specs.Laws.{Always, AlwaysChecked, AlwaysAny, BothWays, ReadsAPrefix, AcknowledgesReceivedBytes, EndsAtTheWhole, NothingFollowsTheEnd, AbortedIsNoEnd, EachEventIsOneStep, NothingIsRefused, MappingIsShort, LaneIsShort, PathsAreShort, IsNear, TellsNear, ShortStreamsAreNear, IsPlain, FallsAreRight, RecordsAgree, EndsAtAllBytes, PrefixBeforeTheFall, PlacedBeforeTheFallIsRight, ChecksumsShow, NothingDisagrees, InfiniteMappingsAreRight}
+use Rattle.stream_lanes.proofs.Words.{◌≡◌, refl, sym, ◌∙◌, ap, subst, ℕ, zero, suc, ◌+◌, ◌-◌, ◌<◌, ◌≤◌, true, false, not, List, [], ◌∷◌, ◌++◌, length, take}
+use Rattle.stream_lanes.proofs.Words.{drop, replicate, Some, arith, ◌&&◌, ◌||◌, ◌^◌, or_left, or_right, not-true, and_from, true≢false, slice_get, list_all}
+use Rattle.stream_lanes.proofs.Words.{length-take, length-drop, take-append-drop, length-map, take_all, slice_get_within, same_Some, received, acked_len}
+use Rattle.stream_lanes.proofs.Words.{ByteMark, Acked, Held, Free, is_acked, is_held_rightly, Mapping, Pair, Lane, Cell, Flags, in_order, bytes_of, part_of}
+use Rattle.stream_lanes.proofs.Words.{Reader, Direction, Duo, flags_ab, flags_ba, after_events, opening, opening_over, ToB, ToA, From, view_of, is_exact}
+use Rattle.stream_lanes.proofs.Words.{LaneHolds, CellFits, IsEndless, IsRight, DirectionHolds, Came, Holds, Always, AlwaysChecked, AlwaysAny, BothWays}
+use Rattle.stream_lanes.proofs.Words.{ReadsAPrefix, AcknowledgesReceivedBytes, EndsAtTheWhole, NothingFollowsTheEnd, AbortedIsNoEnd, EachEventIsOneStep}
+use Rattle.stream_lanes.proofs.Words.{NothingIsRefused, MappingIsShort, LaneIsShort, PathsAreShort, IsNear, TellsNear, ShortStreamsAreNear, IsPlain}
+use Rattle.stream_lanes.proofs.Words.{FallsAreRight, RecordsAgree, EndsAtAllBytes, PrefixBeforeTheFall, PlacedBeforeTheFallIsRight, ChecksumsShow}
+use Rattle.stream_lanes.proofs.Words.{NothingDisagrees, InfiniteMappingsAreRight, AreAcked}
 use Rattle.stream_lanes.specs.Laws.StepsOrStays.{stays}
 use Rattle.stream_lanes.proofs.Lists.{Every-map, IfSome-map, in_map}
 use Rattle.stream_lanes.proofs.MarkLists.{count_within}
@@ -29,7 +20,6 @@ use Rattle.stream_lanes.proofs.Refusals.{never_refused, never_disagrees}
 use Rattle.stream_lanes.proofs.Bytes.{From-filled, From-take, part_is_honest}
 use Rattle.stream_lanes.proofs.Checking.{came_cases, checksum_shows}
 use Rattle.stream_lanes.proofs.Content.{right_ab, right_ba}
-use Rattle.stream_lanes.specs.Words.{From}
 
 -- a fact of each direction that holds
 both : {P : Direction → Type 0} → ((f : Flags) (d : Direction) → DirectionHolds f d → P d) → (w : Duo) → Holds w → P w.ab × P w.ba
@@ -202,16 +192,7 @@ any_event_is_one_step alters checked paths buffer capacity events event =
     at : (w : Duo) → Holds w → EachEventIsOneStep w
     at w h (ToB event) = (event_moves (flags_ab w.modes) w.ab h.ab event, stays refl)
     at w h (ToA event) = (stays refl, event_moves (flags_ba w.modes) w.ba h.ba event)
-    at w h FallA = (stays refl, stays refl)
-    at w h FallB = (stays refl, stays refl)
-    at w h LoosenA = (stays refl, stays refl)
-    at w h LoosenB = (stays refl, stays refl)
-    at w h BeginJoin = (stays refl, stays refl)
-    at w h SendJoin = (stays refl, stays refl)
-    at w h HearJoin = (stays refl, stays refl)
-
-pub each_event_is_one_step : Always EachEventIsOneStep
-each_event_is_one_step paths buffer capacity events event = any_event_is_one_step false false paths buffer capacity events event
+    at w h _ = (stays refl, stays refl)
 
 pub nothing_is_refused : Always (BothWays NothingIsRefused)
 nothing_is_refused paths buffer capacity events =

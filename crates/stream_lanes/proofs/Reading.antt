@@ -1,21 +1,12 @@
 -- What a read makes of a reassembly book, of its view and of its reader.
-use Rattle.std.proofs.Common.{◌≡◌, refl, sym, ◌∙◌, ap, subst, ℕ, ◌+◌, ◌-◌, ◌<◌, ◌≤◌, min, Bool, true, false, if◌then◌else◌, is_some, ⊎_elim, List, [], ◌∷◌, ◌++◌, length, take, drop, Option, Some, None, arith}
-use Rattle.std.proofs.lemmas.Bool.{cases_lt, eqb-true, or_parts, false≢true}
-use Rattle.std.proofs.lemmas.List.{append-nil, length-append, length-drop, length-take, take_min}
+use Rattle.stream_lanes.proofs.Words.{◌≡◌, refl, sym, ◌∙◌, ap, subst, ℕ, ◌+◌, ◌-◌, ◌<◌, ◌≤◌, min, Bool, true, false, ⊎_elim, List, [], ◌∷◌, ◌++◌, length, take}
+use Rattle.stream_lanes.proofs.Words.{drop, Option, Some, None, if◌then◌else◌, arith, is_some, false≢true, eqb-true, cases_lt, or_parts, length-take}
+use Rattle.stream_lanes.proofs.Words.{length-drop, append-nil, length-append, take_min, IfSome, Arriving, filled, received, bytes_reply, reading, after_reading}
+use Rattle.stream_lanes.proofs.Words.{End, NoneYet, Sending, slice_get-drop, Flags, Reader, is_done, takes_read, From, view_of, IsEnd, IsPlaced, was_read}
+use Rattle.stream_lanes.proofs.Words.{stands, IsSent, ArrivedHolds, SendHolds, ReaderHolds}
 use Rattle.std.proofs.Math.Seq.{take-add}
-use Rattle.std.specs.Option.{IfSome}
-use Rattle.send_book.specs.State.{Sending}
 use Rattle.reassembly_book.specs.declared.call.ReassemblyCall.TheVariants.{Read}
-use Rattle.reassembly_book.specs.declared.call.ReassemblyReply.TheVariants.{End, NoneYet}
-use Rattle.reassembly_book.specs.State.{Arriving, filled, received}
-use Rattle.reassembly_book.specs.Steps.{after_call, reply_to, is_end, bytes_reply, reading, after_reading}
-use Rattle.stream_lanes.specs.Words.{From}
-use Rattle.stream_lanes.specs.Moves.{Flags}
-use Rattle.stream_lanes.specs.Streams.{Reader, takes_read, is_done}
-use Rattle.stream_lanes.specs.View.{view_of, IsEnd, IsPlaced}
-use Rattle.stream_lanes.specs.View.IsPlaced.{was_read, stands}
-use Rattle.send_book.proofs.Lists.{slice_get-drop}
-use Rattle.stream_lanes.specs.Holding.{SendHolds, IsSent, ArrivedHolds, ReaderHolds}
+use Rattle.reassembly_book.specs.Steps.{after_call, reply_to, is_end}
 use Rattle.stream_lanes.proofs.Lists.{Cells-map, Cells-drop, From-map, item_at}
 use Rattle.stream_lanes.proofs.Bytes.{From-filled}
 use Rattle.stream_lanes.proofs.Later.{Later, Anyone, sent_later}

@@ -1,26 +1,11 @@
 -- No book and no list of mappings refuses what a lane asks or learns.
-use Rattle.std.proofs.Common.{◌≡◌, refl, sym, ◌∙◌, ap, ℕ, suc, ◌+◌, ◌-◌, ◌<◌, ◌≤◌, min, max, Bool, true, false, not, ◌&&◌, ◌==◌, nat_lt, if◌then◌else◌, List, [], ◌∷◌, length, Option, Some, None, arith}
-use Rattle.std.proofs.lemmas.Bool.{le-ltb, ltb-true, eq-eqb, or_from}
-use Rattle.std.proofs.lemmas.Option.{same_Some}
-use Rattle.std.specs.Option.{IfSome}
-use Rattle.std.specs.List.{slice_get}
-use Rattle.send_book.specs.declared.call.SendReply.TheVariants.{AckFuture}
-use Rattle.send_book.specs.declared.call.SendReply.TheVariants.{Acked as AckedBytes}
-use Rattle.send_book.specs.State.{Sending, acked_len}
-use Rattle.send_book.specs.Steps.{is_future, fin_after}
-use Rattle.reassembly_book.specs.declared.call.ReassemblyReply.TheVariants.{Beyond}
-use Rattle.reassembly_book.specs.State.{Arriving, received}
-use Rattle.reassembly_book.specs.Steps.{edge, clash, reaches_past, placed_reply, fin_reply_by}
-use Rattle.stream_lanes.specs.Words.{From}
-use Rattle.stream_lanes.specs.Lane.{Cell, Mapping, DataCopy, Ask, Lane}
-use Rattle.stream_lanes.specs.Lane.Ask.{Nothing, AskGrant, AskAckIn, AskPlace, AskFin, AskAckOut}
-use Rattle.stream_lanes.specs.Moves.{Flags, Move, disagree, clashes, places_of}
-use Rattle.stream_lanes.specs.Moves.Move.{Learn}
-use Rattle.stream_lanes.specs.Streams.{Direction, StreamEvent}
-use Rattle.stream_lanes.specs.Streams.StreamEvent.{Moves, Asks}
-use Rattle.stream_lanes.specs.View.{View, view_of}
-use Rattle.stream_lanes.specs.Holding.{IsSent, IsAck, AskHolds, IsGranted, IsRight, LaneHolds, DirectionHolds}
-use Rattle.stream_lanes.specs.Laws.{is_ack_future, is_beyond_or_clash, ask_refused, mapping_clashes, copy_clashes, move_refused, lane_refused, is_refused, is_clash, ask_disagrees, disagrees}
+use Rattle.stream_lanes.proofs.Words.{◌≡◌, refl, sym, ◌∙◌, ap, ℕ, suc, ◌+◌, ◌-◌, ◌<◌, ◌≤◌, min, max, Bool, true, false, not, nat_lt, ◌==◌, List, [], ◌∷◌}
+use Rattle.stream_lanes.proofs.Words.{length, Option, Some, None, if◌then◌else◌, arith, ◌&&◌, ltb-true, eq-eqb, le-ltb, or_from, slice_get, IfSome, same_Some}
+use Rattle.stream_lanes.proofs.Words.{Arriving, received, edge, reaches_past, clash, placed_reply, fin_reply_by, Beyond, Sending, acked_len, is_future}
+use Rattle.stream_lanes.proofs.Words.{fin_after, AckFuture, AckedBytes, DataCopy, Mapping, Ask, Lane, Cell, Nothing, AskGrant, AskAckIn, AskPlace, AskFin}
+use Rattle.stream_lanes.proofs.Words.{AskAckOut, Flags, Move, clashes, places_of, disagree, Direction, StreamEvent, Moves, Asks, From, view_of, View, IsSent}
+use Rattle.stream_lanes.proofs.Words.{IsAck, AskHolds, LaneHolds, IsRight, DirectionHolds, IsGranted, is_ack_future, is_beyond_or_clash, ask_refused}
+use Rattle.stream_lanes.proofs.Words.{mapping_clashes, copy_clashes, move_refused, lane_refused, is_refused, is_clash, ask_disagrees, disagrees, Learn}
 use Rattle.stream_lanes.proofs.Lists.{From-map}
 use Rattle.stream_lanes.proofs.Views.{AllIn, all_in_is, received_written}
 use Rattle.stream_lanes.proofs.Views.AllIn.{missing, complete}

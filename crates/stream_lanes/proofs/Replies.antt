@@ -1,28 +1,12 @@
 -- What a lane makes of the replies to its acknowledgement, to its bytes, to an end and to AckOut.
-use Rattle.std.proofs.Common.{◌≡◌, refl, sym, ◌∙◌, ap, subst, ℕ, zero, suc, ◌+◌, ◌-◌, ◌<◌, ◌≤◌, min, max, Bool, true, false, ◌==◌, if◌then◌else◌, is_some, ⊎_elim, List, [], ◌∷◌, ◌++◌, length, drop, map, replicate, Option, Some, None, count_by, arith}
-use Rattle.std.proofs.lemmas.Bool.{cases_lt, eqb-true, or_cases, ltb-false, true≢false}
-use Rattle.std.specs.List.{slice_get}
-use Rattle.std.specs.Option.{IfSome}
-use Rattle.send_book.specs.declared.call.SendCall.TheVariants.{AckIn}
-use Rattle.send_book.specs.declared.call.SendReply.TheVariants.{AckFuture}
-use Rattle.send_book.specs.declared.call.SendReply.TheVariants.{Acked as AckedBytes}
-use Rattle.send_book.specs.State.{Sending, acked_len}
-use Rattle.send_book.specs.declared.mark.ByteMark.TheVariants.{Acked}
-use Rattle.send_book.specs.Steps.{after_call as after_send, reply_to as send_reply, is_future, fin_after}
-use Rattle.send_book.proofs.Lists.{slice_get-drop}
-use Rattle.reassembly_book.specs.declared.call.ReassemblyCall.TheVariants.{Place, Fin, AckOut}
-use Rattle.reassembly_book.specs.declared.call.ReassemblyReply.TheVariants.{Placed, Beyond}
-use Rattle.reassembly_book.specs.State.{Arriving, filled, received}
-use Rattle.reassembly_book.specs.Steps.{after_call as after_arrival, reply_to as arrival_reply, by_place, merged, edge, reaches_past, clash, placed_reply, places_after, fin_clash, fin_reply_by, is_end}
-use Rattle.stream_lanes.specs.Words.{From}
-use Rattle.stream_lanes.specs.Lane.{Lane}
-use Rattle.stream_lanes.specs.Lane.Ask.{Nothing}
-use Rattle.stream_lanes.specs.Moves.{Flags, takes_ack, takes_placed, takes_fin, takes_ack_out}
-use Rattle.stream_lanes.specs.Streams.{Reader}
-use Rattle.stream_lanes.specs.View.{view_of, all_in, end_of, IsEnd, IsIn, IsPlaced}
-use Rattle.stream_lanes.specs.View.IsPlaced.{was_read, stands}
-use Rattle.stream_lanes.specs.Marks.{AreNew}
-use Rattle.stream_lanes.specs.Holding.{SendHolds, IsSent, ArrivedHolds, PlaceHolds, LaneHolds, IsPassed}
+use Rattle.stream_lanes.proofs.Words.{◌≡◌, refl, sym, ◌∙◌, ap, subst, ℕ, zero, suc, ◌+◌, ◌-◌, ◌<◌, ◌≤◌, min, max, Bool, true, false, ◌==◌, ⊎_elim, List, []}
+use Rattle.stream_lanes.proofs.Words.{◌∷◌, ◌++◌, length, drop, map, replicate, Option, Some, None, if◌then◌else◌, arith, is_some, count_by, or_cases, eqb-true}
+use Rattle.stream_lanes.proofs.Words.{cases_lt, ltb-false, true≢false, slice_get, IfSome, Place, Fin, AckOut, Arriving, filled, received, after_arrival}
+use Rattle.stream_lanes.proofs.Words.{arrival_reply, by_place, merged, edge, reaches_past, clash, placed_reply, places_after, fin_clash, fin_reply_by, Placed}
+use Rattle.stream_lanes.proofs.Words.{Beyond, AckIn, Sending, acked_len, after_send, is_future, fin_after, send_reply, slice_get-drop, AckFuture, AckedBytes}
+use Rattle.stream_lanes.proofs.Words.{Acked, Lane, Nothing, Flags, takes_ack, takes_placed, takes_fin, takes_ack_out, Reader, From, view_of, all_in, end_of}
+use Rattle.stream_lanes.proofs.Words.{IsEnd, IsIn, IsPlaced, was_read, stands, IsSent, ArrivedHolds, PlaceHolds, LaneHolds, IsPassed, SendHolds, AreNew}
+use Rattle.reassembly_book.specs.Steps.{is_end}
 use Rattle.stream_lanes.proofs.Lists.{Cells-drop, item_at}
 use Rattle.stream_lanes.proofs.Bytes.{filled_upto, filled_item, merged_left}
 use Rattle.stream_lanes.proofs.MarkLists.{AreAcked-count, AreAcked-acked, AreAcked-within}

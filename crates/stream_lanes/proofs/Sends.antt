@@ -1,25 +1,14 @@
 -- What each call of a send book makes of it and of its view.
-use Rattle.std.proofs.Common.{◌≡◌, refl, sym, ◌∙◌, ap, subst, ℕ, ◌+◌, ◌-◌, ◌<◌, ◌≤◌, min, max, Bool, true, false, ◌||◌, nat_lt, if◌then◌else◌, is_none, ⊎_elim, List, [], ◌++◌, length, take, drop, map, replicate, Option, Some, None, Result, Ok, Err, arith}
-use Rattle.std.proofs.lemmas.Bool.{or_parts, or_cases, and_parts, both_ways, ltb-true, ltb-false}
-use Rattle.std.proofs.lemmas.Option.{same_Some}
-use Rattle.std.proofs.lemmas.List.{length-append, length-take, length-drop, length-replicate, length-map, append-nil}
-use Rattle.std.specs.List.{slice_get}
-use Rattle.send_book.specs.declared.call.Span.{Span}
-use Rattle.send_book.specs.declared.call.Why.{Why}
-use Rattle.send_book.specs.declared.call.SendCall.TheVariants.{Write, Close, Grant, AckIn, Return}
-use Rattle.send_book.specs.declared.mark.ByteMark.{ByteMark}
-use Rattle.send_book.specs.declared.mark.ByteMark.TheVariants.{Acked, Free}
-use Rattle.send_book.specs.Tried.{no_paths}
-use Rattle.send_book.specs.Marks.{returned, given}
-use Rattle.send_book.specs.State.{Sending, acked_len}
-use Rattle.send_book.specs.Steps.{after_call, bytes_taken, is_future, fin_after, is_gathered, decision, given_by, change_part}
-use Rattle.send_book.proofs.Decisions.{MayTake, decision-MayTake}
-use Rattle.send_book.proofs.Grants.{stays-after_call, spent-stays}
-use Rattle.reassembly_book.specs.State.{Arriving, received}
-use Rattle.stream_lanes.specs.Marks.{spent, AreAcked}
-use Rattle.stream_lanes.specs.Moves.{Flags}
-use Rattle.stream_lanes.specs.View.{view_of, all_in, IsEnd}
-use Rattle.stream_lanes.specs.Holding.{IsAll, SendHolds, IsAck, IsOwnedBy}
+use Rattle.stream_lanes.proofs.Words.{◌≡◌, refl, sym, ◌∙◌, ap, subst, ℕ, ◌+◌, ◌-◌, ◌<◌, ◌≤◌, min, max, Bool, true, false, nat_lt, ⊎_elim, List, [], ◌++◌}
+use Rattle.stream_lanes.proofs.Words.{length, take, drop, map, replicate, Option, Some, None, Result, Ok, Err, if◌then◌else◌, arith, ◌||◌, is_none, or_cases}
+use Rattle.stream_lanes.proofs.Words.{and_parts, both_ways, ltb-true, ltb-false, or_parts, slice_get, length-take, length-drop, length-replicate, append-nil}
+use Rattle.stream_lanes.proofs.Words.{length-map, length-append, same_Some, Arriving, received, Span, Why, Grant, AckIn, Sending, acked_len, bytes_taken}
+use Rattle.stream_lanes.proofs.Words.{is_future, fin_after, is_gathered, decision, given_by, change_part, ByteMark, Acked, Free, returned, MayTake}
+use Rattle.stream_lanes.proofs.Words.{decision-MayTake, stays-after_call, spent-stays, no_paths, Flags, view_of, all_in, IsEnd, IsAll, IsAck, SendHolds}
+use Rattle.stream_lanes.proofs.Words.{IsOwnedBy, spent, AreAcked}
+use Rattle.send_book.specs.declared.call.SendCall.TheVariants.{Write, Close, Return}
+use Rattle.send_book.specs.Marks.{given}
+use Rattle.send_book.specs.Steps.{after_call}
 use Rattle.stream_lanes.proofs.Later.{Later, Anyone, But}
 use Rattle.stream_lanes.proofs.MarkLists.{AreAcked-count, AreAcked-within, AreAcked-written, AreAcked-returned, AreAcked-given, AreAcked-acked, AreNew-written, AreNew-returned, AreNew-acked, grant_owner, tried-written, tried-returned, tried-acked, tried-given, held-written, held-returned, held-given, held-acked}
 use Rattle.stream_lanes.proofs.Views.{AllIn, all_in_is, all_in_one, end_is}

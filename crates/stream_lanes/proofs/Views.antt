@@ -1,16 +1,8 @@
 -- What holds of the view of two books, and numbers of theirs.
-use Rattle.std.proofs.Common.{◌≡◌, refl, sym, ap, ℕ, zero, suc, ◌+◌, ◌-◌, ◌<◌, ◌≤◌, ◌∙◌, Bool, true, false, not, ◌&&◌, ◌||◌, ◌==◌, if◌then◌else◌, ◌⊎◌, inl, inr, ⊎_elim, List, length, Option, Some, None, arith}
-use Rattle.std.specs.List.{slice_get}
-use Rattle.std.proofs.lemmas.Bool.{eqb-true, eq-eqb, or_left, or_right, both_ways, not-true, cases_lt}
-use Rattle.std.proofs.lemmas.Option.{same_Some}
-use Rattle.send_book.specs.State.{Sending, acked_len}
-use Rattle.reassembly_book.specs.State.{Arriving, filled, received}
-use Rattle.reassembly_book.specs.Steps.{edge}
-use Rattle.stream_lanes.specs.Words.{From}
-use Rattle.stream_lanes.specs.Moves.{Flags}
-use Rattle.stream_lanes.specs.View.{View, view_of, all_in, end_of, IsEnd, IsPlaced}
-use Rattle.stream_lanes.specs.View.IsPlaced.{was_read, stands}
-use Rattle.stream_lanes.specs.Holding.{IsAll, SendHolds, ArrivedHolds}
+use Rattle.stream_lanes.proofs.Words.{◌≡◌, refl, sym, ◌∙◌, ap, ℕ, zero, suc, ◌+◌, ◌-◌, ◌<◌, ◌≤◌, Bool, true, false, not, ◌==◌, ⊎_elim, List, length, Option}
+use Rattle.stream_lanes.proofs.Words.{Some, None, if◌then◌else◌, arith, ◌⊎◌, ◌&&◌, ◌||◌, inl, inr, or_left, or_right, both_ways, not-true, eqb-true, cases_lt}
+use Rattle.stream_lanes.proofs.Words.{eq-eqb, slice_get, same_Some, Arriving, filled, received, edge, Sending, acked_len, Flags, From, view_of, all_in, end_of}
+use Rattle.stream_lanes.proofs.Words.{IsEnd, IsPlaced, View, was_read, stands, IsAll, ArrivedHolds, SendHolds}
 use Rattle.stream_lanes.proofs.Lists.{item_at}
 use Rattle.stream_lanes.proofs.Bytes.{From-filled, filled_upto, filled_item}
 use Rattle.stream_lanes.proofs.Local.{ViewFits, FlagsFit}

@@ -1,83 +1,60 @@
 -- An end whose FIN may be sent has its SYN acknowledged, whatever its path is answered.
-use Rattle.std.proofs.Common.{◌≡◌, refl, sym, ◌∙◌, ap, subst, ℕ, zero, suc, ◌==◌, ◌≤◌, ◌⊎◌, inl, inr, ⊎_elim, Bool, true, false, ◌&&◌, if◌then◌else◌, nat_le, nat_lt, Option, Some, None, is_some, List, [], ◌∷◌, arith}
-use Rattle.std.proofs.lemmas.Bool.{and_parts, both_ways, false≢true, eqb-false, le-leb, leb-true, ltb-false, ltb-true}
-use Rattle.sides.specs.declared.side.Side.{Side}
-use Rattle.sides.specs.declared.side.Side.TheVariants.{A, B}
+use Rattle.trace_laws.proofs.Words.{◌≡◌, refl, sym, ◌∙◌, ap, subst, ℕ, zero, suc, ◌≤◌, ◌⊎◌, inl, inr, ⊎_elim, Bool, true, false, if◌then◌else◌, nat_le, nat_lt}
+use Rattle.trace_laws.proofs.Words.{Option, Some, None, List, [], ◌∷◌, arith, ◌==◌, ◌&&◌, is_some, and_parts, both_ways, false≢true, eqb-false, le-leb}
+use Rattle.trace_laws.proofs.Words.{leb-true, ltb-false, ltb-true, Side, A, B, Record, SendState, ack_kind, after_acknowledge, after_resent, sample_of}
+use Rattle.trace_laws.proofs.Words.{uncovered, EndState, is_at_limit, is_dead, is_half_open, is_waiting, PlainSegment, Duty, StepDuty, Reply, is_nil, tail_of}
+use Rattle.trace_laws.proofs.Words.{stands, passed, answered, Grant, grant_in, answered_grant, answered_data, first_unsent, answer_occasion, answer_of}
+use Rattle.trace_laws.proofs.Words.{resend_occasion, dead_answer, resend_of, PathEnd, died, at_tick, PathState, end_at, goes_on, left, with_agenda, with_end}
+use Rattle.trace_laws.proofs.Words.{syn_ack_said, settled, answers, takes, begins_turn, answered_heard, answered_item, item_of, item_passed}
 use Rattle.dss_mapping.specs.declared.kept.KeptMapping.{KeptMapping}
 use Rattle.link_model.specs.Steps.{arriving, after_delivery}
-use Rattle.path_segments.specs.Spelled.{PlainSegment}
 use Rattle.path_segments.specs.Heard.{HeardSegment}
 use Rattle.join_handshake.specs.declared.hearing.JoinSyn.{JoinSyn}
 use Rattle.subflow_recv.specs.Receiving.{after_forget_from}
-use Rattle.subflow_send.specs.Records.{Record, SendState}
-use Rattle.subflow_send.specs.Rules.{ack_kind, after_acknowledge, after_resent, sample_of, uncovered}
 use Rattle.subflow_send.specs.declared.record.AckKind.{AckKind}
-use Rattle.subflow_send.specs.declared.record.AckKind.TheVariants as acks
 use Rattle.subflow_tcp.specs.declared.handshake.State.{State as EndPhase}
-use Rattle.subflow_tcp.specs.declared.handshake.State.TheVariants as phase
 use Rattle.loss_recovery.specs.declared.windows.Told.{Told}
 use Rattle.subflow_tcp.specs.Segments.{Copy}
 use Rattle.subflow_tcp.specs.declared.segments.Hint.{Hint}
 use Rattle.subflow_tcp.specs.declared.verdicts.Meaning.{Meaning}
-use Rattle.subflow_tcp.specs.declared.verdicts.Meaning.TheVariants as means
 use Rattle.subflow_tcp.specs.declared.segments.Occasion.{Occasion}
-use Rattle.subflow_tcp.specs.declared.segments.Occasion.TheVariants as to_send
 use Rattle.subflow_tcp.specs.Emitting.{after_sending}
 use Rattle.subflow_tcp.specs.Expiring.{is_sixth, after_expiry}
 use Rattle.subflow_tcp.specs.Opening.{after_begin}
-use Rattle.subflow_tcp.specs.State.{EndState, is_at_limit}
 use Rattle.subflow_tcp.specs.States as states
-use Rattle.subflow_tcp.specs.States.{is_dead, is_half_open, is_waiting}
 use Rattle.subflow_tcp.specs.Judging.{is_acceptable, is_repeated_syn, is_syn_alone, meaning_acknowledging, meaning_answer, meaning_answering, meaning_at, meaning_connected, meaning_of, meaning_outside, meaning_placed, meaning_within}
 use Rattle.subflow_tcp.specs.Taking.{after_ack_kind, after_acknowledgement, after_arrival, after_death, after_dropping_held, after_duplicate, after_established, after_hearing, after_holding, after_interruption, after_keeping_held, after_payload, after_row, after_syn, is_duplicate, is_fin_acked, unkept}
 use Rattle.subflow_tcp.specs.Closing.{is_fin_next, after_passing_fin}
 use Rattle.fallback_state.specs.declared.fall.Event.{Event as FallEvent}
-use Rattle.fallback_state.specs.declared.fall.Event.TheVariants as fall
-use Rattle.actor_desk.specs.declared.ask.Reply.{Reply}
-use Rattle.actor_desk.specs.Words.{is_nil, tail_of}
 use Rattle.path_agenda.specs.Agenda.{breaks, emission, leaves, resets, rest_of_turn, start_of_turn, stops, announces, withdraws}
 use Rattle.path_agenda.specs.Items.{key_heard, keys_heard}
 use Rattle.path_agenda.specs.Words.{replaced}
-use Rattle.path_agenda.specs.declared.duty.Duty.{Duty}
-use Rattle.path_agenda.specs.declared.duty.Duty.TheVariants as duties
-use Rattle.path_agenda.specs.declared.duty.AskDuty.TheVariants as ask_duties
-use Rattle.path_agenda.specs.declared.duty.SendDuty.TheVariants as send_duties
-use Rattle.path_agenda.specs.declared.duty.SilentDuty.TheVariants as silent_duties
-use Rattle.path_agenda.specs.declared.duty.StepDuty.TheVariants as step_duties
+use Rattle.path_agenda.specs.declared.duty.AskDuty.{AskDuty}
+use Rattle.path_agenda.specs.declared.duty.SendDuty.{SendDuty}
+use Rattle.path_agenda.specs.declared.duty.SilentDuty.{SilentDuty}
 use Rattle.path_agenda.specs.declared.heard.Heard.{Heard}
-use Rattle.path_agenda.specs.declared.heard.Heard.TheVariants as says
 use Rattle.path_agenda.specs.declared.keys.KeyPair.{KeyPair}
 use Rattle.path_core.specs.FastClose.{is_stopped_by}
 use Rattle.path_core.specs.declared.events.Event.{Event}
-use Rattle.path_core.specs.declared.events.Event.TheVariants as happenings
 use Rattle.path_core.specs.declared.judged.Judged.{Judged}
-use Rattle.path_core.specs.declared.judged.Judged.TheVariants as judged
 use Rattle.path_core.specs.Arrival.{after_judged, copy_judged, copy_of, judged_in, owing_if, reset_for, template_of, with_payload, heard_in, copy_heard}
 use Rattle.path_core.specs.DssIn.{held_of, with_learned, with_skipped, counts, is_clash, with_acked, with_data_fin}
 use Rattle.path_core.specs.OptionsIn.{hint_of, items_of, options_heard, owes_by}
 use Rattle.path_core.specs.Judged.{is_forged, is_passed_over, judged_of, taken_as}
 use Rattle.path_core.specs.Breaking.{reset_of, reset_on, answered_break, died_unless_dead, refusal_of}
 use Rattle.path_core.specs.Codec.{Codec}
-use Rattle.path_core.specs.Duties.{stands, passed, answered}
-use Rattle.path_core.specs.Emission.{Grant, grant_in, answered_grant, answered_data, first_unsent, answer_occasion, answer_of, resend_occasion, dead_answer, resend_of}
 use Rattle.path_core.specs.Timer.{after_timer, timer_fired, template_fired}
 use Rattle.path_core.specs.DataFin.{fin_segment_of, having_sent_fin, after_pass_fin, answered_fin_heard, answered_plain_fin, is_fin_set}
-use Rattle.path_core.specs.End.{PathEnd, died}
 use Rattle.path_core.specs.Events.{next_event, after_line, happens_if}
-use Rattle.path_core.specs.State.{at_tick, PathState, end_at, goes_on, left, with_agenda, with_end}
 use Rattle.path_core.specs.MpJoin.{join_begun, never_joined, asked_at, is_listening, is_never, join_taken, joined_by, keys_begun, opened_by, syn_alone, with_mode_refused, is_joined, join_answer, join_asked}
 use Rattle.path_core.specs.Addresses.{with_priority, after_peer_notice}
 use Rattle.path_store.specs.declared.lines.LineAction.{LineAction}
-use Rattle.path_store.specs.declared.lines.LineAction.TheVariants as actions
 use Rattle.path_core.specs.Fallback.{after_fell, fell_duties, answered_fell, with_infinite, answered_plain_ack, breaks_by_ack, with_plain_ack}
 use Rattle.path_core.specs.MpCapable.{after_keys, answered_opened, answered_peer_key, with_peer_key}
 use Rattle.path_core.specs.Deliver.{answered_piece, is_placed, piece_of, after_check, after_pieces, mapping_here, is_wrong, forgotten_by, after_keep, is_dropped}
 use Rattle.path_store.specs.Passing.{Piece}
-use Rattle.path_core.specs.OptionsOut.{syn_ack_said}
 use Rattle.path_core.specs.Handover.{having_sent, sent_on}
 use Rattle.path_core.specs.Standing.{after_ack_out, answered_ack_out}
-use Rattle.path_core.specs.Steps.{settled, answers, takes, begins_turn}
-use Rattle.path_core.specs.Treating.{answered_heard, answered_item, item_of, item_passed}
 use Rattle.world_laws.proofs.Falls.FailedChecks.{check_failed_so, checked_so, fail_answered_so, fail_heard_so, failed_so, infinite_came_so, infinite_so}
 
 -- ---- an end of a subflow
@@ -90,27 +67,27 @@ same_acks : (t u : EndState) → u.state ≡ t.state → u.send.una ≡ t.send.u
 same_acks t u state una h may = let was = h (ap states.may_finish (sym state) ∙ may) in omega (arith, una, was)
 
 finish_never : (x : EndPhase) → states.may_finish (states.after_finish x) ≡ false
-finish_never phase.Established = refl
-finish_never phase.CloseWait = refl
-finish_never phase.Waiting = refl
+finish_never EndPhase.Established = refl
+finish_never EndPhase.CloseWait = refl
+finish_never EndPhase.Waiting = refl
 finish_never _ = refl
 
 passed_may : (x : EndPhase) → states.may_finish (states.after_fin_passed x) ≡ true → states.may_finish x ≡ true
-passed_may phase.Established is = refl
-passed_may phase.FinWait1 is = is
-passed_may phase.FinWait2 is = is
-passed_may phase.Waiting is = is
+passed_may EndPhase.Established is = refl
+passed_may EndPhase.FinWait1 is = is
+passed_may EndPhase.FinWait2 is = is
+passed_may EndPhase.Waiting is = is
 passed_may _ is = is
 
 acked_may : (x : EndPhase) → states.may_finish (states.after_fin_acked x) ≡ true → states.may_finish x ≡ true
-acked_may phase.FinWait1 is = is
-acked_may phase.Closing is = is
-acked_may phase.Waiting is = is
+acked_may EndPhase.FinWait1 is = is
+acked_may EndPhase.Closing is = is
+acked_may EndPhase.Waiting is = is
 acked_may _ is = is
 
 handshake_may : (x : EndPhase) → states.may_finish (states.after_handshake x) ≡ true → (states.may_finish x ≡ true) ⊎ (is_half_open x ≡ true)
-handshake_may phase.SynReceived is = inr refl
-handshake_may phase.Waiting is = inl is
+handshake_may EndPhase.SynReceived is = inr refl
+handshake_may EndPhase.Waiting is = inl is
 handshake_may _ is = inl is
 
 -- ---- an acknowledgement
@@ -133,10 +110,8 @@ ack_send : (pos now : ℕ) (t : EndState) → (after_acknowledgement pos now t).
 ack_send pos now t = by (ack_kind pos t.send)
   where
     by : (kind : AckKind) → (after_ack_kind kind (sample_of pos t.send) now (record t { send = after_acknowledge pos t.send })).send ≡ after_acknowledge pos t.send
-    by (acks.New octets) = refl
-    by acks.Duplicate = refl
-    by acks.Old = refl
-    by acks.Future = refl
+    by (AckKind.New octets) = refl
+    by _ = refl
 
 ack_may : (pos now : ℕ) (t : EndState) → states.may_finish (after_acknowledgement pos now t).state ≡ true → states.may_finish t.state ≡ true
 ack_may pos now t = by (ack_kind pos t.send)
@@ -149,10 +124,8 @@ ack_may pos now t = by (ack_kind pos t.send)
     fin false is = is
 
     by : (kind : AckKind) → states.may_finish (after_ack_kind kind (sample_of pos t.send) now u).state ≡ true → states.may_finish t.state ≡ true
-    by (acks.New octets) is = fin (is_fin_acked u.send) is
-    by acks.Duplicate is = is
-    by acks.Old is = is
-    by acks.Future is = is
+    by (AckKind.New octets) is = fin (is_fin_acked u.send) is
+    by _ is = is
 
 -- it is one of the SYN, or the SYN was acknowledged before
 acknowledgement_acks : (pos now : ℕ) (t : EndState) → (states.may_finish t.state ≡ true → (1 ≤ t.send.una) ⊎ ((1 ≤ pos) × (pos ≤ t.send.nxt))) → Acks (after_acknowledgement pos now t)
@@ -165,8 +138,8 @@ acknowledgement_acks pos now t h may =
 
 -- a segment that completes the handshake acknowledges the SYN
 abbrev Fits : Meaning → EndState → Type 0
-Fits (means.Accepts acknowledged) t = (1 ≤ acknowledged) × (acknowledged ≤ t.send.nxt)
-Fits (means.Taken pos acknowledged) t = is_half_open t.state ≡ true → (1 ≤ acknowledged) × (acknowledged ≤ t.send.nxt)
+Fits (Meaning.Accepts acknowledged) t = (1 ≤ acknowledged) × (acknowledged ≤ t.send.nxt)
+Fits (Meaning.Taken pos acknowledged) t = is_half_open t.state ≡ true → (1 ≤ acknowledged) × (acknowledged ≤ t.send.nxt)
 Fits _ t = Unit {0}
 
 not_zero : (n : ℕ) → (n ≡ 0 → ⊥) → 1 ≤ n
@@ -177,14 +150,14 @@ module _ (c : Copy) (t : EndState) where
   outside_fits : Fits (meaning_outside c) t
   outside_fits = by c.rst
     where
-      by : (b : Bool) → Fits (if b then means.Ignored else means.Outside) t
+      by : (b : Bool) → Fits (if b then Meaning.Ignored else Meaning.Outside) t
       by true = tt
       by false = tt
 
   answer_fits : (acknowledged : ℕ) → 1 ≤ acknowledged → acknowledged ≤ t.send.nxt → Fits (meaning_answer c acknowledged) t
   answer_fits acknowledged some within = by c.rst c.syn
     where
-      by : (r s : Bool) → Fits (if r then means.Kills else (if s then means.Accepts acknowledged else means.Ignored)) t
+      by : (r s : Bool) → Fits (if r then Meaning.Kills else (if s then Meaning.Accepts acknowledged else Meaning.Ignored)) t
       by true s = tt
       by false true = (some, within)
       by false false = tt
@@ -193,7 +166,7 @@ module _ (c : Copy) (t : EndState) where
   answering_fits None = tt
   answering_fits (Some acknowledged) = by (nat_lt 0 acknowledged && nat_le acknowledged t.send.nxt) refl
     where
-      by : (b : Bool) → (nat_lt 0 acknowledged && nat_le acknowledged t.send.nxt) ≡ b → Fits (if b then meaning_answer c acknowledged else means.Ignored) t
+      by : (b : Bool) → (nat_lt 0 acknowledged && nat_le acknowledged t.send.nxt) ≡ b → Fits (if b then meaning_answer c acknowledged else Meaning.Ignored) t
       by true is = let parts = and_parts (nat_lt 0 acknowledged) (nat_le acknowledged t.send.nxt) is in
           let some = ltb-true 0 acknowledged parts.0 in answer_fits acknowledged (omega (arith, some)) (leb-true acknowledged t.send.nxt parts.1)
       by false is = tt
@@ -207,19 +180,19 @@ module _ (c : Copy) (t : EndState) where
       zero_not true false half is none = not_zero acknowledged (eqb-false acknowledged 0 is)
       zero_not false b half is none = absurd (false≢true half)
 
-      half : (b : Bool) → (is_half_open t.state && (acknowledged == 0)) ≡ b → acknowledged ≤ t.send.nxt → Fits (if b then means.Unacknowledging else means.Taken pos acknowledged) t
+      half : (b : Bool) → (is_half_open t.state && (acknowledged == 0)) ≡ b → acknowledged ≤ t.send.nxt → Fits (if b then Meaning.Unacknowledging else Meaning.Taken pos acknowledged) t
       half true is within = tt
       half false is within = λ halved. (zero_not (is_half_open t.state) (acknowledged == 0) halved refl is, within)
 
       by : (b : Bool) → nat_lt t.send.nxt acknowledged ≡ b
-          → Fits (if b then means.Ahead else (if is_half_open t.state && (acknowledged == 0) then means.Unacknowledging else means.Taken pos acknowledged)) t
+          → Fits (if b then Meaning.Ahead else (if is_half_open t.state && (acknowledged == 0) then Meaning.Unacknowledging else Meaning.Taken pos acknowledged)) t
       by true is = tt
       by false is = half (is_half_open t.state && (acknowledged == 0)) refl (ltb-false t.send.nxt acknowledged is)
 
   within_fits : (pos : ℕ) → Fits (meaning_within pos c t) t
   within_fits pos = by c.rst (pos == t.recv.edge) c.syn
     where
-      by : (r e s : Bool) → Fits (if r then (if e then means.Kills else means.Challenged) else (if s then means.Challenged else meaning_acknowledging c.acknowledged pos t)) t
+      by : (r e s : Bool) → Fits (if r then (if e then Meaning.Kills else Meaning.Challenged) else (if s then Meaning.Challenged else meaning_acknowledging c.acknowledged pos t)) t
       by true true s = tt
       by true false s = tt
       by false e true = tt
@@ -236,7 +209,7 @@ module _ (c : Copy) (t : EndState) where
   connected_fits : Fits (meaning_connected c t) t
   connected_fits = by (is_at_limit t) (is_repeated_syn c t)
     where
-      by : (l r : Bool) → Fits (if l then means.Ignored else (if r then means.RepeatedSyn else meaning_placed c.position c t)) t
+      by : (l r : Bool) → Fits (if l then Meaning.Ignored else (if r then Meaning.RepeatedSyn else meaning_placed c.position c t)) t
       by true r = tt
       by false true = tt
       by false false = placed_fits c.position
@@ -244,56 +217,51 @@ module _ (c : Copy) (t : EndState) where
   meaning_fits : Fits (meaning_of c t) t
   meaning_fits = at t.state
     where
-      dead : (b : Bool) → Fits (if b then means.Ignored else means.Unwanted) t
+      dead : (b : Bool) → Fits (if b then Meaning.Ignored else Meaning.Unwanted) t
       dead true = tt
       dead false = tt
 
-      listens : (b : Bool) → Fits (if b then means.Opens else means.Ignored) t
+      listens : (b : Bool) → Fits (if b then Meaning.Opens else Meaning.Ignored) t
       listens true = tt
       listens false = tt
 
-      opens : (b : Bool) → Fits (if b then means.Ignored else meaning_answering c.acknowledged c t) t
+      opens : (b : Bool) → Fits (if b then Meaning.Ignored else meaning_answering c.acknowledged c t) t
       opens true = tt
       opens false = answering_fits c.acknowledged
 
       at : (x : EndPhase) → Fits (meaning_at x c t) t
-      at phase.Dead = dead c.rst
-      at phase.Waiting = tt
-      at phase.Listen = listens (is_syn_alone c)
-      at phase.SynSent = opens (is_at_limit t)
+      at EndPhase.Dead = dead c.rst
+      at EndPhase.Waiting = tt
+      at EndPhase.Listen = listens (is_syn_alone c)
+      at EndPhase.SynSent = opens (is_at_limit t)
       at _ = connected_fits
 
-over_fits : (m : Meaning) (over : Bool) (t : EndState) → Fits m t → Fits (taken_as (if over then judged.As means.Ignored else judged.As m)) t
+over_fits : (m : Meaning) (over : Bool) (t : EndState) → Fits m t → Fits (taken_as (if over then Judged.As Meaning.Ignored else Judged.As m)) t
 over_fits m true t h = tt
 over_fits m false t h = h
 
 -- a path that joins takes it as what it means, or not at all
 judged_fits : (joined rst : Bool) (items : List Heard) (m : Meaning) (e : PathEnd) (t : EndState) → Fits m t → Fits (taken_as (judged_of joined rst items m e)) t
 judged_fits false rst items m e t h = h
-judged_fits true rst items means.Opens e t h = by (is_some (join_asked items))
+judged_fits true rst items Meaning.Opens e t h = by (is_some (join_asked items))
   where
-    by : (b : Bool) → Fits (taken_as (if b then judged.Asks else judged.Lacks)) t
+    by : (b : Bool) → Fits (taken_as (if b then Judged.Asks else Judged.Lacks)) t
     by true = tt
     by false = tt
-judged_fits true rst items (means.Accepts acknowledged) e t h = by (is_some (join_answer items e.modes))
+judged_fits true rst items (Meaning.Accepts acknowledged) e t h = by (is_some (join_answer items e.modes))
   where
-    by : (b : Bool) → Fits (taken_as (if b then judged.As (means.Accepts acknowledged) else judged.Forged)) t
+    by : (b : Bool) → Fits (taken_as (if b then Judged.As (Meaning.Accepts acknowledged) else Judged.Forged)) t
     by true = h
     by false = tt
-judged_fits true rst items means.RepeatedSyn e t h = tt
-judged_fits true rst items (means.Taken pos acknowledged) e t h = by (is_passed_over rst items e) (is_forged items e)
+judged_fits true rst items Meaning.RepeatedSyn e t h = tt
+judged_fits true rst items (Meaning.Taken pos acknowledged) e t h = by (is_passed_over rst items e) (is_forged items e)
   where
-    by : (o f : Bool) → Fits (taken_as (if o then judged.As means.Ignored else (if f then judged.Forged else judged.As (means.Taken pos acknowledged)))) t
+    by : (o f : Bool) → Fits (taken_as (if o then Judged.As Meaning.Ignored else (if f then Judged.Forged else Judged.As (Meaning.Taken pos acknowledged)))) t
     by true f = tt
     by false true = tt
     by false false = h
-judged_fits true rst items means.Ignored e t h = over_fits means.Ignored (is_passed_over rst items e) t h
-judged_fits true rst items means.Unwanted e t h = over_fits means.Unwanted (is_passed_over rst items e) t h
-judged_fits true rst items means.Outside e t h = over_fits means.Outside (is_passed_over rst items e) t h
-judged_fits true rst items means.Kills e t h = over_fits means.Kills (is_passed_over rst items e) t h
-judged_fits true rst items means.Challenged e t h = over_fits means.Challenged (is_passed_over rst items e) t h
-judged_fits true rst items means.Unacknowledging e t h = over_fits means.Unacknowledging (is_passed_over rst items e) t h
-judged_fits true rst items means.Ahead e t h = over_fits means.Ahead (is_passed_over rst items e) t h
+judged_fits true rst items Meaning.Ignored e t h = over_fits Meaning.Ignored (is_passed_over rst items e) t h
+judged_fits true rst items m e t h = over_fits m (is_passed_over rst items e) t h
 
 row_acks : (kind : AckKind) (told : Told) (c : Copy) (t : EndState) → Acks t → Acks (after_row kind told c t)
 row_acks kind told c t h = by (is_duplicate kind told c t)
@@ -303,38 +271,32 @@ row_acks kind told c t h = by (is_duplicate kind told c t)
     by false = h
 
 arrival_acks : (m : Meaning) (hint : Hint) (now : ℕ) (c : Copy) (t : EndState) → Fits m t → Acks t → Acks (after_arrival m hint now c t)
-arrival_acks means.Ignored hint now c t fits h = h
-arrival_acks means.Unwanted hint now c t fits h = h
-arrival_acks means.Opens hint now c t fits h = λ may. absurd (false≢true may)
-arrival_acks (means.Accepts acknowledged) hint now c t fits h =
-    acknowledgement_acks acknowledged now (record (after_hearing (after_payload 1 hint c t)) { state = phase.Established }) (λ may. inr fits)
-arrival_acks means.RepeatedSyn hint now c t fits h = h
-arrival_acks means.Outside hint now c t fits h = h
-arrival_acks means.Kills hint now c t fits h = λ may. absurd (false≢true may)
-arrival_acks means.Challenged hint now c t fits h = h
-arrival_acks means.Unacknowledging hint now c t fits h = h
-arrival_acks means.Ahead hint now c t fits h = h
-arrival_acks (means.Taken pos acknowledged) hint now c t fits h =
+arrival_acks Meaning.Opens hint now c t fits h = λ may. absurd (false≢true may)
+arrival_acks (Meaning.Accepts acknowledged) hint now c t fits h =
+    acknowledgement_acks acknowledged now (record (after_hearing (after_payload 1 hint c t)) { state = EndPhase.Established }) (λ may. inr fits)
+arrival_acks Meaning.Kills hint now c t fits h = λ may. absurd (false≢true may)
+arrival_acks (Meaning.Taken pos acknowledged) hint now c t fits h =
     let u : EndState = after_established (after_hearing (after_payload pos hint c t)) in
     row_acks _ _ c (after_acknowledgement acknowledged now u)
     (acknowledgement_acks acknowledged now u (λ may. ⊎_elim (λ was. inl (h was)) (λ half. inr (fits half)) (handshake_may t.state may)))
+arrival_acks _ hint now c t fits h = h
 
 payload_acks : (m : Meaning) (octets : List ℕ) (t : EndState) → Acks t → Acks (with_payload m octets t)
-payload_acks (means.Taken pos acknowledged) octets t h = by (is_nil octets)
+payload_acks (Meaning.Taken pos acknowledged) octets t h = by (is_nil octets)
   where
     by : (b : Bool) → Acks (if b then t else after_holding pos octets t)
     by true = h
     by false = h
-payload_acks means.Ignored octets t h = h
+payload_acks Meaning.Ignored octets t h = h
 payload_acks _ octets t h = h
 
 payload_fits : (m : Meaning) (octets : List ℕ) (t : EndState) → Fits m t → Fits m (with_payload m octets t)
-payload_fits (means.Taken pos acknowledged) octets t h = by (is_nil octets)
+payload_fits (Meaning.Taken pos acknowledged) octets t h = by (is_nil octets)
   where
-    by : (b : Bool) → Fits (means.Taken pos acknowledged) (if b then t else after_holding pos octets t)
+    by : (b : Bool) → Fits (Meaning.Taken pos acknowledged) (if b then t else after_holding pos octets t)
     by true = h
     by false = h
-payload_fits (means.Accepts acknowledged) octets t h = h
+payload_fits (Meaning.Accepts acknowledged) octets t h = h
 payload_fits _ octets t h = tt
 
 owing_acks : (b : Bool) (t : EndState) → Acks t → Acks (owing_if b t)
@@ -395,25 +357,20 @@ module _ {C : Type 0} where
 
   item_goes : (s : Side) (o : Option Heard) (p : PathState C) → BothAck p → Acks (item_passed s o (end_at s p)).tcp
   item_goes s None p h = ack_at s p h
-  item_goes s (Some says.Dss) p h = same_goes s (item_passed s (Some says.Dss) (end_at s p)) p refl refl h
-  item_goes s (Some (says.DataAck next window)) p h = ack_at s p h
-  item_goes s (Some (says.Mapping fin)) p h = by (counts (end_at s p))
+  item_goes s (Some Heard.Dss) p h = same_goes s (item_passed s (Some Heard.Dss) (end_at s p)) p refl refl h
+  item_goes s (Some (Heard.DataAck next window)) p h = ack_at s p h
+  item_goes s (Some (Heard.Mapping fin)) p h = by (counts (end_at s p))
     where
       by : (b : Bool) → Acks (if b then with_learned (end_at s p) else with_skipped (end_at s p)).tcp
       by true = same_goes s (with_learned (end_at s p)) p refl refl h
       by false = same_goes s (with_skipped (end_at s p)) p refl refl h
-  item_goes s (Some (says.DataFin place)) p h = by (counts (end_at s p))
+  item_goes s (Some (Heard.DataFin place)) p h = by (counts (end_at s p))
     where
       by : (b : Bool) → Acks (if b then with_data_fin place (end_at s p) else end_at s p).tcp
       by true = same_goes s (with_data_fin place (end_at s p)) p refl refl h
       by false = ack_at s p h
-  item_goes s (Some (says.InfiniteMapping place position)) p h = ack_at s p h
-  item_goes s (Some (says.PeerKey key)) p h = ack_at s p h
-  item_goes s (Some (says.Keys own other)) p h = ack_at s p h
-  item_goes s (Some (says.Join form)) p h = ack_at s p h
-  item_goes s (Some (says.Notice notice)) p h = ack_at s p h
-  item_goes s (Some says.Fail) p h = ack_at s p h
-  item_goes s (Some (says.FastClose key)) p h = ack_at s p h
+  item_goes s (Some Heard.Fail) p h = ack_at s p h
+  item_goes s _ p h = ack_at s p h
 
   edge_goes : (s : Side) (checksums : Bool) (o : Option KeptMapping) (p : PathState C) → BothAck p → Acks (forgotten_by checksums o (end_at s p)).tcp
   edge_goes s checksums None p h = ack_at s p h
@@ -435,14 +392,14 @@ module _ {C : Type 0} where
   fin_goes s false p h = ack_at s p h
 
   passed_acks : (d : Duty) (p : PathState C) → BothAck p → BothAck (passed d p)
-  passed_acks (duties.Silent (silent_duties.Timer s)) p h = with_acks s (after_timer p.clock (end_at s p)) p (same_goes s (after_timer p.clock (end_at s p)) p refl refl h) h
-  passed_acks (duties.Step (step_duties.Heard s index)) p h = with_acks s (item_passed s (item_of index (end_at s p)) (end_at s p)) p (item_goes s (item_of index (end_at s p)) p h) h
-  passed_acks (duties.Silent (silent_duties.Keep s)) p h = with_acks s (after_keep s (end_at s p)) p (keep_goes s (is_dropped s (end_at s p)) p h) h
-  passed_acks (duties.Step (step_duties.PlainAck s)) p h = with_acks s (with_plain_ack (end_at s p)) p (same_goes s (with_plain_ack (end_at s p)) p refl refl h) h
-  passed_acks (duties.Step (step_duties.Unmapped s)) p h = with_acks s (after_pieces (end_at s p)) p (same_goes s (after_pieces (end_at s p)) p refl refl h) h
-  passed_acks (duties.Ask (ask_duties.CheckFailed s)) p h = with_acks s (after_check p.profile (end_at s p)) p (edge_goes s p.profile.spelling.checksums (mapping_here (end_at s p)) p h) h
-  passed_acks (duties.Silent (silent_duties.PassFin s)) p h = with_acks s (after_pass_fin (end_at s p)) p (fin_goes s (is_fin_next (end_at s p).tcp) p h) h
-  passed_acks (duties.Ask ask_duties.JoinAgain) p h = h
+  passed_acks (Duty.Silent (SilentDuty.Timer s)) p h = with_acks s (after_timer p.clock (end_at s p)) p (same_goes s (after_timer p.clock (end_at s p)) p refl refl h) h
+  passed_acks (Duty.Step (StepDuty.Heard s index)) p h = with_acks s (item_passed s (item_of index (end_at s p)) (end_at s p)) p (item_goes s (item_of index (end_at s p)) p h) h
+  passed_acks (Duty.Silent (SilentDuty.Keep s)) p h = with_acks s (after_keep s (end_at s p)) p (keep_goes s (is_dropped s (end_at s p)) p h) h
+  passed_acks (Duty.Step (StepDuty.PlainAck s)) p h = with_acks s (with_plain_ack (end_at s p)) p (same_goes s (with_plain_ack (end_at s p)) p refl refl h) h
+  passed_acks (Duty.Step (StepDuty.Unmapped s)) p h = with_acks s (after_pieces (end_at s p)) p (same_goes s (after_pieces (end_at s p)) p refl refl h) h
+  passed_acks (Duty.Ask (AskDuty.CheckFailed s)) p h = with_acks s (after_check p.profile (end_at s p)) p (edge_goes s p.profile.spelling.checksums (mapping_here (end_at s p)) p h) h
+  passed_acks (Duty.Silent (SilentDuty.PassFin s)) p h = with_acks s (after_pass_fin (end_at s p)) p (fin_goes s (is_fin_next (end_at s p).tcp) p h) h
+  passed_acks (Duty.Ask AskDuty.JoinAgain) p h = h
   passed_acks _ p h = h
 
   pub settled_acks : (ds : List Duty) (p : PathState C) → BothAck p → BothAck (settled ds p)
@@ -456,10 +413,10 @@ module _ {C : Type 0} where
   -- ---- events
 
   line_acks : (action : LineAction) (p : PathState C) → BothAck p → BothAck (after_line action p)
-  line_acks (actions.Prio s backup) p h = same_on s (with_priority backup (end_at s p)) (emission s) p refl refl h
-  line_acks (actions.Announce s id) p h = agenda_acks (announces s id) p h
-  line_acks (actions.Withdraw s id) p h = agenda_acks (withdraws s id) p h
-  line_acks actions.Die p h = record { a = unless_dead p.a h.a; b = unless_dead p.b h.b }
+  line_acks (LineAction.Prio s backup) p h = same_on s (with_priority backup (end_at s p)) (emission s) p refl refl h
+  line_acks (LineAction.Announce s id) p h = agenda_acks (announces s id) p h
+  line_acks (LineAction.Withdraw s id) p h = agenda_acks (withdraws s id) p h
+  line_acks LineAction.Die p h = record { a = unless_dead p.a h.a; b = unless_dead p.b h.b }
 
   begun_acks : (r : Reply) (dead living : List Duty) (p : PathState C) → BothAck p → BothAck (join_begun r dead living p)
   begun_acks r dead living p h = by (is_never r)
@@ -507,13 +464,13 @@ module _ {C : Type 0} where
 
     event_acks : (o : Option Event) (r : Reply) (p : PathState C) → BothAck p → BothAck (happens_if k o r p)
     event_acks None r p h = agenda_acks rest_of_turn p h
-    event_acks (Some (happenings.Joins tick)) r p h =
+    event_acks (Some (Event.Joins tick)) r p h =
         begun_acks r (leaves A) (emission A) (record (at_tick tick p) { joined_at = None }) (record { a = h.a; b = h.b })
-    event_acks (Some (happenings.Takes line)) r p h =
+    event_acks (Some (Event.Takes line)) r p h =
         line_acks line.action (record (at_tick line.tick p) { lines = tail_of p.lines }) (record { a = h.a; b = h.b })
-    event_acks (Some (happenings.Arrives due)) r p h =
+    event_acks (Some (Event.Arrives due)) r p h =
         copy_acks due.to (heard_in k due.to (arriving due p.link) p) (record (at_tick due.tick p) { link = after_delivery due p.link }) (record { a = h.a; b = h.b })
-    event_acks (Some (happenings.Fires s tick)) r p h = fired_acks s (at_tick tick p) (record { a = h.a; b = h.b })
+    event_acks (Some (Event.Fires s tick)) r p h = fired_acks s (at_tick tick p) (record { a = h.a; b = h.b })
 
     -- ---- replies
 
@@ -542,22 +499,20 @@ module _ {C : Type 0} where
     keys_acks s r o p h = same_on s (after_keys r o (end_at s p)) (left p) p refl refl h
 
     heard_answered : (s : Side) (item : Heard) (r : Reply) (p : PathState C) → BothAck p → BothAck (answered_heard k s item r p)
-    heard_answered s (says.DataAck next window) r p h = same_on s (with_acked next r (end_at s p)) _ p refl refl h
-    heard_answered s (says.Mapping fin) r p h = by (is_clash (end_at s p))
+    heard_answered s (Heard.DataAck next window) r p h = same_on s (with_acked next r (end_at s p)) _ p refl refl h
+    heard_answered s (Heard.Mapping fin) r p h = by (is_clash (end_at s p))
       where
-        by : (b : Bool) → BothAck (if b then answered_break k s 1 r p else goes_on s (with_learned (after_fell fall.MappingHeard r (end_at s p))) (fell_duties s r p) p)
+        by : (b : Bool) → BothAck (if b then answered_break k s 1 r p else goes_on s (with_learned (after_fell FallEvent.MappingHeard r (end_at s p))) (fell_duties s r p) p)
         by true = break_acks s 1 r p h
-        by false = same_on s (with_learned (after_fell fall.MappingHeard r (end_at s p))) (fell_duties s r p) p refl refl h
-    heard_answered s (says.DataFin place) r p h = same_on s (with_data_fin place (after_fell fall.MappingHeard r (end_at s p))) (fell_duties s r p) p refl refl h
-    heard_answered s (says.InfiniteMapping place position) r p h =
+        by false = same_on s (with_learned (after_fell FallEvent.MappingHeard r (end_at s p))) (fell_duties s r p) p refl refl h
+    heard_answered s (Heard.DataFin place) r p h = same_on s (with_data_fin place (after_fell FallEvent.MappingHeard r (end_at s p))) (fell_duties s r p) p refl refl h
+    heard_answered s (Heard.InfiniteMapping place position) r p h =
         infinite_came_so (λ e. BothAck (goes_on s e (fell_duties s r p) p)) place position r (end_at s p) (λ other. same_on s (infinite_so r other (end_at s p)) (fell_duties s r p) p refl refl h)
-    heard_answered s (says.Keys mine other) r p h = keys_acks s r (Some (record { own = mine; peer = other })) p h
-    heard_answered s says.Dss r p h = agenda_acks (left p) p h
-    heard_answered s (says.PeerKey key) r p h = agenda_acks (left p) p h
-    heard_answered s (says.Join form) r p h = agenda_acks (left p) p h
-    heard_answered s (says.Notice notice) r p h = same_on s (after_peer_notice notice r (end_at s p)) (left p) p refl refl h
-    heard_answered s says.Fail r p h = fail_answered_so BothAck s r p (same_on s (with_infinite r (end_at s p)) _ p refl refl h) (told_acks s (fall.FailHeard false) r p h)
-    heard_answered s (says.FastClose key) r p h = agenda_acks (if is_stopped_by r then stops s else left p) p h
+    heard_answered s (Heard.Keys mine other) r p h = keys_acks s r (Some (record { own = mine; peer = other })) p h
+    heard_answered s (Heard.Notice notice) r p h = same_on s (after_peer_notice notice r (end_at s p)) (left p) p refl refl h
+    heard_answered s Heard.Fail r p h = fail_answered_so BothAck s r p (same_on s (with_infinite r (end_at s p)) _ p refl refl h) (told_acks s (FallEvent.FailHeard false) r p h)
+    heard_answered s (Heard.FastClose key) r p h = agenda_acks (if is_stopped_by r then stops s else left p) p h
+    heard_answered s _ r p h = agenda_acks (left p) p h
 
     item_answered : (s : Side) (o : Option Heard) (r : Reply) (p : PathState C) → BothAck p → BothAck (answered_item k s o r p)
     item_answered s None r p h = agenda_acks (left p) p h
@@ -566,16 +521,16 @@ module _ {C : Type 0} where
     plain_ack_acks : (s : Side) (r : Reply) (p : PathState C) → BothAck p → BothAck (answered_plain_ack k s r p)
     plain_ack_acks s r p h = by (breaks_by_ack p.profile (end_at s p))
       where
-        by : (b : Bool) → BothAck (if b then answered_break k s 6 r p else goes_on s (with_plain_ack (after_fell fall.PlainAck r (end_at s p))) (fell_duties s r p) p)
+        by : (b : Bool) → BothAck (if b then answered_break k s 6 r p else goes_on s (with_plain_ack (after_fell FallEvent.PlainAck r (end_at s p))) (fell_duties s r p) p)
         by true = break_acks s 6 r p h
-        by false = same_on s (with_plain_ack (after_fell fall.PlainAck r (end_at s p))) (fell_duties s r p) p refl refl h
+        by false = same_on s (with_plain_ack (after_fell FallEvent.PlainAck r (end_at s p))) (fell_duties s r p) p refl refl h
 
     key_acks : (s : Side) (o : Option ℕ) (r : Reply) (p : PathState C) → BothAck p → BothAck (answered_peer_key s o r p)
-    key_acks s None r p h = told_acks s fall.PlainHandshake r p h
+    key_acks s None r p h = told_acks s FallEvent.PlainHandshake r p h
     key_acks s (Some key) r p h = same_on s (with_peer_key (Some key) (end_at s p)) (left p) p refl refl h
 
     opened_acks : (s : Side) (o : Option KeyPair) (r : Reply) (p : PathState C) → BothAck p → BothAck (answered_opened s o r p)
-    opened_acks s None r p h = told_acks s fall.PlainHandshake r p h
+    opened_acks s None r p h = told_acks s FallEvent.PlainHandshake r p h
     opened_acks s (Some keys) r p h = keys_acks s r (Some keys) p h
 
     piece_acks : (s : Side) (o : Option Piece) (taken : Bool) (p : PathState C) → BothAck p → BothAck (answered_piece s o taken p)
@@ -593,7 +548,7 @@ module _ {C : Type 0} where
 
     joined_acks : (s : Side) (o : Option KeyPair) (asked : Option JoinSyn) (r : Reply) (p : PathState C) → BothAck p → BothAck (join_taken s o asked r p)
     joined_acks s None None r p h = agenda_acks _ p h
-    joined_acks s None (Some asked) r p h = same_on s (with_mode_refused r (end_at s p)) (replaced (duties.Send (send_duties.Refuse s)) p.agenda) p refl refl h
+    joined_acks s None (Some asked) r p h = same_on s (with_mode_refused r (end_at s p)) (replaced (Duty.Send (SendDuty.Refuse s)) p.agenda) p refl refl h
     joined_acks s (Some keys) None r p h = agenda_acks _ p h
     joined_acks s (Some keys) (Some asked) r p h = goes_acks s (joined_by keys asked (end_at s p)) _ p (by (is_listening (end_at s p).tcp.state)) h
       where
@@ -612,63 +567,57 @@ module _ {C : Type 0} where
         resent false = ack_at s p h
 
         by : (o : Occasion) → Acks (after_sending o p.clock tcp)
-        by to_send.Reset = ack_at s p h
-        by to_send.Answer = ack_at s p h
-        by to_send.SynAck = resent (tcp.send.una == 0)
-        by to_send.Ack = ack_at s p h
-        by to_send.Probe = ack_at s p h
-        by to_send.First = ack_at s p h
-        by to_send.Unsent = ack_at s p h
-        by to_send.Fin = ack_at s p h
+        by Occasion.SynAck = resent (tcp.send.una == 0)
+        by _ = ack_at s p h
 
     answered_acks : (d : Duty) (r : Reply) (p : PathState C) → BothAck p → BothAck (answered k d r p)
-    answered_acks (duties.Ask ask_duties.JoinAgain) r p h = begun_acks r (replaced (duties.Ask (ask_duties.Leave A)) p.agenda) (left p) p h
-    answered_acks (duties.Step (step_duties.Look s)) r p h = same_on s _ (left p) p refl refl h
-    answered_acks (duties.Ask (ask_duties.Window s)) r p h = same_on s (after_ack_out r (end_at s p)) (left p) p refl refl h
-    answered_acks (duties.Send (send_duties.Update s)) r p h = same_sent s _ _ (left p) p refl refl h
-    answered_acks (duties.Send (send_duties.FastClose s)) r p h = same_sent s _ _ (left p) p refl refl h
-    answered_acks (duties.Send (send_duties.Notice s)) r p h = same_sent s _ _ p.agenda p refl refl h
-    answered_acks (duties.Send (send_duties.Syn s)) r p h = same_sent s _ _ (left p) p refl refl h
-    answered_acks (duties.Step (step_duties.Data s)) r p h = data_acks s (first_unsent (end_at s p)) r p h
-    answered_acks (duties.Send (send_duties.DataFin s)) r p h = same_sent s _ _ (left p) p refl refl h
-    answered_acks (duties.Send (send_duties.Fin s)) r p h =
+    answered_acks (Duty.Ask AskDuty.JoinAgain) r p h = begun_acks r (replaced (Duty.Ask (AskDuty.Leave A)) p.agenda) (left p) p h
+    answered_acks (Duty.Step (StepDuty.Look s)) r p h = same_on s _ (left p) p refl refl h
+    answered_acks (Duty.Ask (AskDuty.Window s)) r p h = same_on s (after_ack_out r (end_at s p)) (left p) p refl refl h
+    answered_acks (Duty.Send (SendDuty.Update s)) r p h = same_sent s _ _ (left p) p refl refl h
+    answered_acks (Duty.Send (SendDuty.FastClose s)) r p h = same_sent s _ _ (left p) p refl refl h
+    answered_acks (Duty.Send (SendDuty.Notice s)) r p h = same_sent s _ _ p.agenda p refl refl h
+    answered_acks (Duty.Send (SendDuty.Syn s)) r p h = same_sent s _ _ (left p) p refl refl h
+    answered_acks (Duty.Step (StepDuty.Data s)) r p h = data_acks s (first_unsent (end_at s p)) r p h
+    answered_acks (Duty.Send (SendDuty.DataFin s)) r p h = same_sent s _ _ (left p) p refl refl h
+    answered_acks (Duty.Send (SendDuty.Fin s)) r p h =
         sent_acks s (fin_segment_of s p) (having_sent_fin s p) (left p) p (λ may. absurd (both_ways _ (finish_never (end_at s p).tcp.state) may)) h
-    answered_acks (duties.Step step_duties.Events) r p h = event_acks (next_event p) r p h
-    answered_acks (duties.Ask (ask_duties.PlainHandshake s)) r p h = told_acks s fall.PlainHandshake r p h
-    answered_acks (duties.Ask (ask_duties.PeerKey s)) r p h = key_acks s (key_heard (end_at s p).treated.items) r p h
-    answered_acks (duties.Send (send_duties.SynAck s)) r p h = sent_acks s _ _ (left p) p (occasion_acks s to_send.SynAck (syn_ack_said p.profile s (end_at s p)) p h) h
-    answered_acks (duties.Ask (ask_duties.JoinHeard s)) r p h = joined_acks s (keys_begun r) (asked_at s p) r p h
-    answered_acks (duties.Send (send_duties.Refuse s)) r p h = same_sent s (refusal_of s p) (end_at s p) (left p) p refl refl h
-    answered_acks (duties.Ask (ask_duties.Opened s)) r p h = opened_acks s (keys_heard (end_at s p).treated.items) r p h
-    answered_acks (duties.Step (step_duties.Heard s index)) r p h = item_answered s (item_of index (end_at s p)) r p h
-    answered_acks (duties.Ask (ask_duties.AckHeard s)) r p h = told_acks s fall.AckHeard r p h
-    answered_acks (duties.Ask (ask_duties.FailHeard s)) r p h =
+    answered_acks (Duty.Step StepDuty.Events) r p h = event_acks (next_event p) r p h
+    answered_acks (Duty.Ask (AskDuty.PlainHandshake s)) r p h = told_acks s FallEvent.PlainHandshake r p h
+    answered_acks (Duty.Ask (AskDuty.PeerKey s)) r p h = key_acks s (key_heard (end_at s p).treated.items) r p h
+    answered_acks (Duty.Send (SendDuty.SynAck s)) r p h = sent_acks s _ _ (left p) p (occasion_acks s Occasion.SynAck (syn_ack_said p.profile s (end_at s p)) p h) h
+    answered_acks (Duty.Ask (AskDuty.JoinHeard s)) r p h = joined_acks s (keys_begun r) (asked_at s p) r p h
+    answered_acks (Duty.Send (SendDuty.Refuse s)) r p h = same_sent s (refusal_of s p) (end_at s p) (left p) p refl refl h
+    answered_acks (Duty.Ask (AskDuty.Opened s)) r p h = opened_acks s (keys_heard (end_at s p).treated.items) r p h
+    answered_acks (Duty.Step (StepDuty.Heard s index)) r p h = item_answered s (item_of index (end_at s p)) r p h
+    answered_acks (Duty.Ask (AskDuty.AckHeard s)) r p h = told_acks s FallEvent.AckHeard r p h
+    answered_acks (Duty.Ask (AskDuty.FailHeard s)) r p h =
         fail_heard_so (λ e. BothAck (goes_on s e (fell_duties s r p) p)) r (end_at s p) (λ own owes. same_on s (failed_so r own owes (end_at s p)) (fell_duties s r p) p refl refl h)
-    answered_acks (duties.Step (step_duties.PlainAck s)) r p h = plain_ack_acks s r p h
-    answered_acks (duties.Ask (ask_duties.SubflowAck s)) r p h = same_on s _ (left p) p refl refl h
-    answered_acks (duties.Ask (ask_duties.PlainData s)) r p h = told_acks s fall.PlainData r p h
-    answered_acks (duties.Ask (ask_duties.GoIdentity s)) r p h = same_on s _ (left p) p refl refl h
-    answered_acks (duties.Step (step_duties.Unmapped s)) r p h = break_acks s 6 r p h
-    answered_acks (duties.Ask (ask_duties.SubflowFin s)) r p h = plain_fin_acks s (is_fin_set r) p h
-    answered_acks (duties.Ask (ask_duties.Edge s)) r p h = piece_acks s (piece_of s p) (is_placed r) p h
-    answered_acks (duties.Ask (ask_duties.CheckFailed s)) r p h =
+    answered_acks (Duty.Step (StepDuty.PlainAck s)) r p h = plain_ack_acks s r p h
+    answered_acks (Duty.Ask (AskDuty.SubflowAck s)) r p h = same_on s _ (left p) p refl refl h
+    answered_acks (Duty.Ask (AskDuty.PlainData s)) r p h = told_acks s FallEvent.PlainData r p h
+    answered_acks (Duty.Ask (AskDuty.GoIdentity s)) r p h = same_on s _ (left p) p refl refl h
+    answered_acks (Duty.Step (StepDuty.Unmapped s)) r p h = break_acks s 6 r p h
+    answered_acks (Duty.Ask (AskDuty.SubflowFin s)) r p h = plain_fin_acks s (is_fin_set r) p h
+    answered_acks (Duty.Ask (AskDuty.Edge s)) r p h = piece_acks s (piece_of s p) (is_placed r) p h
+    answered_acks (Duty.Ask (AskDuty.CheckFailed s)) r p h =
         check_failed_so (λ e. BothAck (goes_on s e (fell_duties s r p) p)) p.profile.spelling.checksums r (end_at s p)
         (λ told broken recv forgets. same_on s (checked_so r told broken recv (end_at s p)) (fell_duties s r p) p refl refl h)
-    answered_acks (duties.Ask (ask_duties.HeardFin s index)) r p h = fin_set_acks s (is_fin_set r) p h
-    answered_acks (duties.Ask (ask_duties.AckOut s)) r p h = same_on s (after_ack_out r (end_at s p)) (left p) p refl refl h
-    answered_acks (duties.Ask (ask_duties.Rate s)) r p h = same_on s _ (left p) p refl refl h
-    answered_acks (duties.Send (send_duties.Acknowledge s)) r p h = same_sent s _ _ (left p) p refl refl h
-    answered_acks (duties.Send (send_duties.Again s)) r p h = same_sent s _ _ (left p) p refl refl h
-    answered_acks (duties.Send (send_duties.Answer s)) r p h = sent_acks s (answer_of s p) _ (left p) p (occasion_acks s (answer_occasion (end_at s p)) (answer_of s p) p h) h
-    answered_acks (duties.Send (send_duties.ResetAnswer s)) r p h = same_sent s (dead_answer s p) (end_at s p) (left p) p refl refl h
-    answered_acks (duties.Send (send_duties.Resend s)) r p h = sent_acks s (resend_of s p) _ (left p) p (occasion_acks s (resend_occasion (end_at s p)) (resend_of s p) p h) h
-    answered_acks (duties.Ask (ask_duties.BreakAck s reason)) r p h = same_on s (after_ack_out r (end_at s p)) (resets s reason) p refl refl h
-    answered_acks (duties.Send (send_duties.BreakReset s reason)) r p h = reset_acks s (Some reason) (leaves s) p h
-    answered_acks (duties.Send (send_duties.Reset s)) r p h = reset_acks s None (replaced (duties.Ask (ask_duties.Leave s)) p.agenda) p h
-    answered_acks (duties.Send (send_duties.ResetNoted s)) r p h = reset_acks s None (replaced (duties.Ask (ask_duties.Leave s)) p.agenda) p h
-    answered_acks (duties.Ask (ask_duties.Leave s)) r p h = agenda_acks _ p h
-    answered_acks (duties.Ask (ask_duties.LeaveNoted s)) r p h = goes_acks s (died (end_at s p)) _ p (dead_acks (end_at s p)) h
-    answered_acks duties.End r p h = agenda_acks [] p h
+    answered_acks (Duty.Ask (AskDuty.HeardFin s index)) r p h = fin_set_acks s (is_fin_set r) p h
+    answered_acks (Duty.Ask (AskDuty.AckOut s)) r p h = same_on s (after_ack_out r (end_at s p)) (left p) p refl refl h
+    answered_acks (Duty.Ask (AskDuty.Rate s)) r p h = same_on s _ (left p) p refl refl h
+    answered_acks (Duty.Send (SendDuty.Acknowledge s)) r p h = same_sent s _ _ (left p) p refl refl h
+    answered_acks (Duty.Send (SendDuty.Again s)) r p h = same_sent s _ _ (left p) p refl refl h
+    answered_acks (Duty.Send (SendDuty.Answer s)) r p h = sent_acks s (answer_of s p) _ (left p) p (occasion_acks s (answer_occasion (end_at s p)) (answer_of s p) p h) h
+    answered_acks (Duty.Send (SendDuty.ResetAnswer s)) r p h = same_sent s (dead_answer s p) (end_at s p) (left p) p refl refl h
+    answered_acks (Duty.Send (SendDuty.Resend s)) r p h = sent_acks s (resend_of s p) _ (left p) p (occasion_acks s (resend_occasion (end_at s p)) (resend_of s p) p h) h
+    answered_acks (Duty.Ask (AskDuty.BreakAck s reason)) r p h = same_on s (after_ack_out r (end_at s p)) (resets s reason) p refl refl h
+    answered_acks (Duty.Send (SendDuty.BreakReset s reason)) r p h = reset_acks s (Some reason) (leaves s) p h
+    answered_acks (Duty.Send (SendDuty.Reset s)) r p h = reset_acks s None (replaced (Duty.Ask (AskDuty.Leave s)) p.agenda) p h
+    answered_acks (Duty.Send (SendDuty.ResetNoted s)) r p h = reset_acks s None (replaced (Duty.Ask (AskDuty.Leave s)) p.agenda) p h
+    answered_acks (Duty.Ask (AskDuty.Leave s)) r p h = agenda_acks _ p h
+    answered_acks (Duty.Ask (AskDuty.LeaveNoted s)) r p h = goes_acks s (died (end_at s p)) _ p (dead_acks (end_at s p)) h
+    answered_acks Duty.End r p h = agenda_acks [] p h
     answered_acks _ r p h = agenda_acks (left p) p h
 
     pub takes_acks : (r : Reply) (p : PathState C) → BothAck p → BothAck (takes k r p)

@@ -1,23 +1,10 @@
 -- Once a run is delivered the table counts each octet of both files as sent for the first time just once.
-use Rattle.std.proofs.Common.{◌≡◌, refl, sym, ◌∙◌, ap, subst, ℕ, zero, suc, ◌^◌, ◌<◌, ◌⊎◌, inl, inr, Some, List, [], ◌∷◌, length, map, arith}
-use Rattle.std.specs.List.{slice_get}
-use Rattle.std.proofs.lemmas.Option.{same_Some}
-use Rattle.sides.specs.declared.side.Side.{Side}
-use Rattle.sides.specs.declared.side.Side.TheVariants.{A, B}
-use Rattle.stream_lanes.specs.Words.{Every, Has}
-use Rattle.actor_desk.specs.Words.{pick}
-use Rattle.link_trace.specs.declared.sent.Sent.{Sent}
+use Rattle.trace_laws.proofs.Words.{◌≡◌, refl, sym, ◌∙◌, ap, subst, ℕ, zero, suc, ◌^◌, ◌<◌, ◌⊎◌, inl, inr, Some, List, [], ◌∷◌, length, map, arith, slice_get}
+use Rattle.trace_laws.proofs.Words.{same_Some, Side, A, B, Sent, carried_of, all_carried, carried_behind, EachEndsBy, EndsBy, OneHasOctet, pick, Every, Start}
+use Rattle.trace_laws.proofs.Words.{opened_world, NumbersFit, initials_of, trace_of, DeliveredFilesWereCounted, base_from, ended}
 use Rattle.link_trace.specs.declared.carried.Carried.{Carried}
-use Rattle.link_trace.specs.Carrying.{all_carried, carried_behind, carried_of, shifts_after}
-use Rattle.link_trace.specs.FirstOctets.{EachEndsBy, EndsBy, OneHasOctet}
 use Rattle.link_trace.specs.Rows.{capped, first_octets_from, rows_of}
 use Rattle.link_trace.proofs.FirstOctets.{first_octets}
-use Rattle.run_trace.specs.Initials.{initials_of}
-use Rattle.run_trace.specs.Trace.{trace_of}
-use Rattle.world_laws.specs.Openings.{Start, opened_world}
-use Rattle.world_laws.specs.Promises.{NumbersFit}
-use Rattle.trace_laws.specs.Counting.{DeliveredFilesWereCounted, base_from, carried_by}
-use Rattle.trace_laws.specs.Sending.{ended}
 use Rattle.trace_laws.proofs.Going.{CarriesTold, delivered_were_told}
 use Rattle.trace_laws.proofs.MomentFacts.{GoodSent, carried_from, moment_facts, trace_good}
 

@@ -1,80 +1,47 @@
 -- Once a run is delivered each octet of both files was in a segment that was handed to a link.
-use Rattle.std.proofs.Common.{◌≡◌, refl, sym, ◌∙◌, ap, subst, ℕ, zero, suc, ◌+◌, ◌-◌, ◌^◌, ◌<◌, ◌≤◌, ◌⊎◌, inl, inr, ⊎_elim, Bool, true, false, if◌then◌else◌, nat_le, nat_lt, Result, Ok, Err, Option, Some, None, option_map, option_and_then, option_to_list, List, [], ◌∷◌, ◌++◌, length, length-append, length-take, length-drop, take, drop, map, fold, append_assoc, arith}
-use Rattle.std.specs.List.{count_by, slice_get}
-use Rattle.std.proofs.lemmas.Bool.{and_parts, cases_lt, eqb-true, false≢true, leb-true, ltb-true}
+use Rattle.trace_laws.proofs.Words.{◌≡◌, refl, sym, ◌∙◌, ap, subst, ℕ, zero, suc, ◌+◌, ◌-◌, ◌^◌, ◌<◌, ◌≤◌, ◌⊎◌, inl, inr, ⊎_elim, Bool, true, false}
+use Rattle.trace_laws.proofs.Words.{if◌then◌else◌, nat_le, nat_lt, Result, Ok, Err, Option, Some, None, option_map, option_and_then, List, [], ◌∷◌, ◌++◌}
+use Rattle.trace_laws.proofs.Words.{length, length-append, length-take, length-drop, take, drop, map, fold, append_assoc, arith, and_parts, false≢true}
+use Rattle.trace_laws.proofs.Words.{leb-true, ltb-true, cases_lt, eqb-true, count_by, slice_get, same_Some, slice_get_within, Side, A, B, SendCall, covers}
+use Rattle.trace_laws.proofs.Words.{is_asked_by, decision, part_of, reply_by, send_reply, Record, may_finish, Sent, carried_of, HasOctet, Duty, StepDuty, Reply}
+use Rattle.trace_laws.proofs.Words.{is_nil, pick, Ask, books_in, send_of, stands, ask_for, first_unsent, data_stands, may_ask, payload_size, data_ask}
+use Rattle.trace_laws.proofs.Words.{PathState, end_at, with_agenda, path_of, answers, takes, asks_first, asks_of, item_of, departing_as, first_sends, octets}
+use Rattle.trace_laws.proofs.Words.{values, Has, Has-more, in_append, in_map, in_one, in_set, PathPlan, Start, new_path, opened_world, path_begins, paths_from}
+use Rattle.trace_laws.proofs.Words.{IsPlain, NumbersFit, Actor, ActorCrew, is_over, member_asks, member_next, member_takes, AreLawful, WorldState, Turn}
+use Rattle.trace_laws.proofs.Words.{after_turn, all_over, asked, begins, crew_after, end_round, greatest, note_of, stepped, world_run, writes_the_files}
+use Rattle.trace_laws.proofs.Words.{plainly, plainly_free, run_fresh, initials_of, sent_as, sent_at, sent_by, sent_next, trace_of, base_from, CarriesPlace}
+use Rattle.trace_laws.proofs.Words.{DeliveredFilesWereSent, ended}
+use Rattle.std.proofs.Common.{option_to_list}
 use Rattle.std.proofs.lemmas.List.{drop-append-le, take-append-le}
-use Rattle.std.proofs.lemmas.Option.{same_Some, slice_get_within}
-use Rattle.sides.specs.declared.side.Side.{Side}
-use Rattle.sides.specs.declared.side.Side.TheVariants.{A, B}
 use Rattle.octet_text.specs.Prefix.{IsPrefix}
-use Rattle.send_book.specs.declared.call.SendCall.{SendCall}
-use Rattle.send_book.specs.declared.call.SendCall.TheVariants as send_calls
 use Rattle.send_book.specs.declared.call.Span.{Span}
 use Rattle.send_book.specs.declared.call.Why.{Why}
-use Rattle.send_book.specs.Laws.{covers, is_asked_by}
 use Rattle.send_book.specs.State.{Sending, Tile}
-use Rattle.send_book.specs.Steps.{decision, part_of, reply_by, reply_to as send_reply}
 use Rattle.send_book.proofs.Decisions.{decision-MayTake}
-use Rattle.stream_lanes.specs.Words.{Has}
-use Rattle.stream_lanes.proofs.Lists.{Has-more, in_append, in_map, in_one, in_set}
 use Rattle.stream_lanes.proofs.Promises.{records_fit}
-use Rattle.actor_desk.specs.declared.ask.Ask.{Ask}
-use Rattle.actor_desk.specs.declared.ask.Ask.TheVariants as desk
 use Rattle.actor_desk.specs.declared.ask.Note.{Note}
-use Rattle.actor_desk.specs.declared.ask.Reply.{Reply}
-use Rattle.actor_desk.specs.declared.ask.Reply.TheVariants as replies
-use Rattle.actor_desk.specs.Books.{books_in}
-use Rattle.actor_desk.specs.Desk.{send_of}
-use Rattle.actor_desk.specs.Words.{is_nil, pick}
 use Rattle.stream_apps.specs.declared.duty.AppDuty.{AppDuty}
-use Rattle.stream_apps.specs.declared.duty.AppDuty.TheVariants as app_duties
 use Rattle.stream_apps.specs.Apps.{AppState}
 use Rattle.stream_apps.specs.AppSteps.{app_ask, app_asks_first}
 use Rattle.path_agenda.specs.Agenda.{start_of_turn}
-use Rattle.path_agenda.specs.declared.duty.Duty.{Duty}
-use Rattle.path_agenda.specs.declared.duty.Duty.TheVariants as duties
-use Rattle.path_agenda.specs.declared.duty.AskDuty.TheVariants as ask_duties
-use Rattle.path_agenda.specs.declared.duty.StepDuty.TheVariants as step_duties
-use Rattle.path_core.specs.Duties.{ask_for, stands}
-use Rattle.path_core.specs.Emission.{data_ask, data_stands, first_unsent, may_ask, payload_size}
-use Rattle.path_core.specs.Looking.{departing_as, first_sends}
-use Rattle.path_core.specs.Octets.{octets}
+use Rattle.path_agenda.specs.declared.duty.AskDuty.{AskDuty}
 use Rattle.path_core.specs.Start.{PathStart, first_state, first_turn, waiting_path}
-use Rattle.path_core.specs.State.{PathState, end_at, path_of, with_agenda}
-use Rattle.path_core.specs.Steps.{answers, asks_first, asks_of, takes}
-use Rattle.path_core.specs.Treating.{item_of}
 use Rattle.path_core.specs.Turns.{FirstStands, IsSettled}
-use Rattle.path_core.specs.Values.{Carried, values}
-use Rattle.subflow_send.specs.Records.{Record}
-use Rattle.subflow_tcp.specs.States.{may_finish}
+use Rattle.path_core.specs.Values.{Carried}
 use Rattle.link_script.specs.declared.script.ScriptLine.{ScriptLine}
-use Rattle.link_trace.specs.declared.sent.Sent.{Sent}
-use Rattle.link_trace.specs.Carrying.{carried_of}
-use Rattle.link_trace.specs.FirstOctets.{HasOctet}
-use Rattle.run_trace.specs.Initials.{initials_of}
-use Rattle.run_trace.specs.Trace.{sent_as, sent_at, sent_by, sent_next, trace_of}
 use Rattle.world_core.specs.Looking.{crew_path, member_path}
 use Rattle.world_laws.specs.declared.member.Member.TheVariants.{App, Path}
-use Rattle.world_laws.specs.Actors.{Actor, ActorCrew, is_over, member_asks, member_next, member_takes}
 use Rattle.world_laws.specs.Granted.{asks_for, gives, grants_byte}
 use Rattle.world_laws.specs.declared.outcome.Outcome.TheVariants.{Delivered}
 use Rattle.world_laws.specs.Outcomes.{outcome_of}
-use Rattle.world_laws.specs.Openings.{PathPlan, Start, new_path, opened_world, path_begins, paths_from}
-use Rattle.world_laws.specs.Promises.{IsPlain, NumbersFit}
 use Rattle.world_laws.specs.StampedBooks.{answer_to}
-use Rattle.world_laws.specs.Worlds.{AreLawful, WorldState, Turn, after_turn, all_over, asked, begins, crew_after, end_round, greatest, note_of, stepped, world_run}
-use Rattle.world_laws.proofs.Worlds.CastLifting.{writes_the_files}
 use Rattle.world_laws.proofs.Lanes.Doing.{has_last}
 use Rattle.world_laws.proofs.Falls.FailedChecks.{subflow_acks_so}
-use Rattle.world_laws.proofs.Lanes.OfAWorld.{plainly, plainly_free}
 use Rattle.world_laws.proofs.Asks.OfPaths.{IsHeardAsk, IsQuietAsk, IsQuietDuty, heard_asks, quiet_asks}
-use Rattle.world_laws.proofs.Promises.Made.{run_fresh}
 use Rattle.world_laws.proofs.Lanes.Roads.{put_there}
 use Rattle.world_laws.proofs.Worlds.Settled.{settled_settled}
 use Rattle.world_laws.proofs.Weaving.WholeRounds.{run_append}
 use Rattle.trace_laws.specs.Granting.{WasGranted}
-use Rattle.trace_laws.specs.Counting.{base_from}
-use Rattle.trace_laws.specs.Sending.{CarriesPlace, DeliveredFilesWereSent, ended}
 use Rattle.trace_laws.proofs.Acknowledged.{BothAck, ack_at, begins_acks, takes_acks}
 use Rattle.trace_laws.proofs.Grants.{all_noted, delivered_were_granted, same_books, same_from}
 use Rattle.trace_laws.proofs.Handing.{SendsNext, grants, granted_goes}
@@ -87,100 +54,88 @@ use Rattle.trace_laws.proofs.ReadingBack.{Placed}
 record AsksBytes (s : Side) (path : ℕ) (ask : Ask) : Type 0 where
   pub most : ℕ
   pub standby : Bool
-  pub is : ask ≡ desk.Send s (send_calls.Grant path most standby)
+  pub is : ask ≡ Ask.Send s (SendCall.Grant path most standby)
 
-call_asks : (s : Side) (path : ℕ) (c : SendCall) → is_asked_by path c ≡ true → AsksBytes s path (desk.Send s c)
-call_asks s path (send_calls.Grant asker most standby) is =
-    record { most = most; standby = standby; is = ap (λ (n : ℕ). desk.Send s (send_calls.Grant n most standby)) (eqb-true asker path is) }
-call_asks s path (send_calls.Write bytes) is = absurd (false≢true is)
-call_asks s path send_calls.Close is = absurd (false≢true is)
-call_asks s path (send_calls.AckIn next window) is = absurd (false≢true is)
-call_asks s path (send_calls.Return asker) is = absurd (false≢true is)
-call_asks s path send_calls.GoIdentity is = absurd (false≢true is)
-call_asks s path (send_calls.GoInfinite asker) is = absurd (false≢true is)
-call_asks s path send_calls.Abort is = absurd (false≢true is)
+call_asks : (s : Side) (path : ℕ) (c : SendCall) → is_asked_by path c ≡ true → AsksBytes s path (Ask.Send s c)
+call_asks s path (SendCall.Grant asker most standby) is =
+    record { most = most; standby = standby; is = ap (λ (n : ℕ). Ask.Send s (SendCall.Grant n most standby)) (eqb-true asker path is) }
+call_asks s path (SendCall.Write bytes) is = absurd (false≢true is)
+call_asks s path _ is = absurd (false≢true is)
 
 ask_asks : (s : Side) (path : ℕ) (ask : Ask) → asks_for s path ask ≡ true → AsksBytes s path ask
-ask_asks A path (desk.Send A c) is = call_asks A path c is
-ask_asks B path (desk.Send B c) is = call_asks B path c is
-ask_asks A path (desk.Send B c) is = absurd (false≢true is)
-ask_asks B path (desk.Send A c) is = absurd (false≢true is)
-ask_asks A path (desk.Reassembly r c) is = absurd (false≢true is)
-ask_asks B path (desk.Reassembly r c) is = absurd (false≢true is)
-ask_asks A path (desk.Control r c) is = absurd (false≢true is)
-ask_asks B path (desk.Control r c) is = absurd (false≢true is)
-ask_asks A path (desk.Local step) is = absurd (false≢true is)
-ask_asks B path (desk.Local step) is = absurd (false≢true is)
+ask_asks A path (Ask.Send A c) is = call_asks A path c is
+ask_asks B path (Ask.Send B c) is = call_asks B path c is
+ask_asks A path (Ask.Send B c) is = absurd (false≢true is)
+ask_asks B path (Ask.Send A c) is = absurd (false≢true is)
+ask_asks A path (Ask.Reassembly r c) is = absurd (false≢true is)
+ask_asks B path (Ask.Reassembly r c) is = absurd (false≢true is)
+ask_asks A path (Ask.Control r c) is = absurd (false≢true is)
+ask_asks B path (Ask.Control r c) is = absurd (false≢true is)
+ask_asks A path (Ask.Local step) is = absurd (false≢true is)
+ask_asks B path (Ask.Local step) is = absurd (false≢true is)
 
 -- no application asks for bytes
-app_asks_none : (d : AppDuty) (a : AppState) (s : Side) (path most : ℕ) (standby : Bool) → app_ask d a ≡ desk.Send s (send_calls.Grant path most standby) → ⊥
-app_asks_none app_duties.FastClose a s path most standby is = cc
-app_asks_none app_duties.AbortSend a s path most standby is = cc
-app_asks_none app_duties.AbortReceive a s path most standby is = cc
-app_asks_none app_duties.Write a s path most standby is = cc
-app_asks_none app_duties.Close a s path most standby is = cc
-app_asks_none app_duties.Read a s path most standby is = cc
-app_asks_none app_duties.End a s path most standby is = cc
+app_asks_none : (d : AppDuty) (a : AppState) (s : Side) (path most : ℕ) (standby : Bool) → app_ask d a ≡ Ask.Send s (SendCall.Grant path most standby) → ⊥
+app_asks_none AppDuty.FastClose a s path most standby is = cc
+app_asks_none _ a s path most standby is = cc
 
 -- ---- a path asks for bytes by one duty alone
 
 record AsksByData (s : Side) (most : ℕ) (d : Duty) (p : PathState (List ℕ)) : Type 0 where
-  pub duty : d ≡ duties.Step (step_duties.Data s)
+  pub duty : d ≡ Duty.Step (StepDuty.Data s)
   pub none : first_unsent (end_at s p) ≡ None
   pub most_is : most ≡ payload_size p.profile
 
 module _ (p : PathState (List ℕ)) (s : Side) (path most : ℕ) (standby : Bool) where
   abbrev Grant : Ask
-  Grant = desk.Send s (send_calls.Grant path most standby)
+  Grant = Ask.Send s (SendCall.Grant path most standby)
 
-  data_asks : (t : Side) (o : Option Record) → first_unsent (end_at t p) ≡ o → data_ask octets t o p ≡ Grant → AsksByData s most (duties.Step (step_duties.Data t)) p
+  data_asks : (t : Side) (o : Option Record) → first_unsent (end_at t p) ≡ o → data_ask octets t o p ≡ Grant → AsksByData s most (Duty.Step (StepDuty.Data t)) p
   data_asks t (Some r) first is = cc
   data_asks t None first is =
       let same : t ≡ s = cc in let size : payload_size p.profile ≡ most = cc in
-      record { duty = ap (λ (r : Side). duties.Step (step_duties.Data r)) same; none = subst (λ (r : Side). first_unsent (end_at r p) ≡ None) same first; most_is = sym size }
+      record { duty = ap (λ (r : Side). Duty.Step (StepDuty.Data r)) same; none = subst (λ (r : Side). first_unsent (end_at r p) ≡ None) same first; most_is = sym size }
 
   quiet_never : (d : Duty) → IsQuietDuty d → ask_for octets d p ≡ Grant → ⊥
   quiet_never d quiet is = subst (IsQuietAsk (path_of p)) is (quiet_asks octets p d quiet)
 
   duty_asks : (d : Duty) → ask_for octets d p ≡ Grant → AsksByData s most d p
-  duty_asks (duties.Step (step_duties.Data t)) is = data_asks t (first_unsent (end_at t p)) refl is
-  duty_asks (duties.Step (step_duties.Heard t index)) is = absurd (subst (IsHeardAsk (path_of p) t) is (heard_asks octets p t (item_of index (end_at t p))))
-  duty_asks (duties.Ask (ask_duties.SynHeard t)) is = cc
-  duty_asks (duties.Ask (ask_duties.SynAnswered t)) is = cc
-  duty_asks (duties.Ask (ask_duties.SubflowAck t)) is = absurd (subflow_acks_so (λ x. x ≡ Grant → ⊥) t (end_at t p) (λ none. cc) (λ next none. cc) is)
-  duty_asks (duties.Step step_duties.Events) is = absurd (quiet_never (duties.Step step_duties.Events) tt is)
-  duty_asks (duties.Step (step_duties.Look t)) is = absurd (quiet_never (duties.Step (step_duties.Look t)) tt is)
-  duty_asks (duties.Step (step_duties.PlainAck t)) is = absurd (quiet_never (duties.Step (step_duties.PlainAck t)) tt is)
-  duty_asks (duties.Step (step_duties.Unmapped t)) is = absurd (quiet_never (duties.Step (step_duties.Unmapped t)) tt is)
-  duty_asks (duties.Ask ask_duties.JoinAgain) is = absurd (quiet_never (duties.Ask ask_duties.JoinAgain) tt is)
-  duty_asks (duties.Ask (ask_duties.Window t)) is = absurd (quiet_never (duties.Ask (ask_duties.Window t)) tt is)
-  duty_asks (duties.Ask (ask_duties.PlainHandshake t)) is = absurd (quiet_never (duties.Ask (ask_duties.PlainHandshake t)) tt is)
-  duty_asks (duties.Ask (ask_duties.PeerKey t)) is = absurd (quiet_never (duties.Ask (ask_duties.PeerKey t)) tt is)
-  duty_asks (duties.Ask (ask_duties.JoinHeard t)) is = absurd (quiet_never (duties.Ask (ask_duties.JoinHeard t)) tt is)
-  duty_asks (duties.Ask (ask_duties.Opened t)) is = absurd (quiet_never (duties.Ask (ask_duties.Opened t)) tt is)
-  duty_asks (duties.Ask (ask_duties.Live t)) is = absurd (quiet_never (duties.Ask (ask_duties.Live t)) tt is)
-  duty_asks (duties.Ask (ask_duties.AckHeard t)) is = absurd (quiet_never (duties.Ask (ask_duties.AckHeard t)) tt is)
-  duty_asks (duties.Ask (ask_duties.FailHeard t)) is = absurd (quiet_never (duties.Ask (ask_duties.FailHeard t)) tt is)
-  duty_asks (duties.Ask (ask_duties.PlainData t)) is = absurd (quiet_never (duties.Ask (ask_duties.PlainData t)) tt is)
-  duty_asks (duties.Ask (ask_duties.GoIdentity t)) is = cc
-  duty_asks (duties.Ask (ask_duties.Edge t)) is = absurd (quiet_never (duties.Ask (ask_duties.Edge t)) tt is)
-  duty_asks (duties.Ask (ask_duties.CheckFailed t)) is = absurd (quiet_never (duties.Ask (ask_duties.CheckFailed t)) tt is)
-  duty_asks (duties.Ask (ask_duties.HeardFin t index)) is = absurd (quiet_never (duties.Ask (ask_duties.HeardFin t index)) tt is)
-  duty_asks (duties.Ask (ask_duties.SubflowFin t)) is = absurd (quiet_never (duties.Ask (ask_duties.SubflowFin t)) tt is)
-  duty_asks (duties.Ask (ask_duties.AckOut t)) is = absurd (quiet_never (duties.Ask (ask_duties.AckOut t)) tt is)
-  duty_asks (duties.Ask (ask_duties.Rate t)) is = absurd (quiet_never (duties.Ask (ask_duties.Rate t)) tt is)
-  duty_asks (duties.Ask (ask_duties.Return t)) is = absurd (quiet_never (duties.Ask (ask_duties.Return t)) tt is)
-  duty_asks (duties.Ask (ask_duties.AbortSend t)) is = absurd (quiet_never (duties.Ask (ask_duties.AbortSend t)) tt is)
-  duty_asks (duties.Ask (ask_duties.AbortReceive t)) is = absurd (quiet_never (duties.Ask (ask_duties.AbortReceive t)) tt is)
-  duty_asks (duties.Ask (ask_duties.Announce t id)) is = absurd (quiet_never (duties.Ask (ask_duties.Announce t id)) tt is)
-  duty_asks (duties.Ask (ask_duties.Withdraw t id)) is = absurd (quiet_never (duties.Ask (ask_duties.Withdraw t id)) tt is)
-  duty_asks (duties.Ask (ask_duties.LeaveNoted t)) is = absurd (quiet_never (duties.Ask (ask_duties.LeaveNoted t)) tt is)
-  duty_asks (duties.Ask (ask_duties.BreakAck t reason)) is = absurd (quiet_never (duties.Ask (ask_duties.BreakAck t reason)) tt is)
-  duty_asks (duties.Ask (ask_duties.Leave t)) is = absurd (quiet_never (duties.Ask (ask_duties.Leave t)) tt is)
-  duty_asks (duties.Ask (ask_duties.Dead t)) is = absurd (quiet_never (duties.Ask (ask_duties.Dead t)) tt is)
-  duty_asks (duties.Send d) is = absurd (quiet_never (duties.Send d) tt is)
-  duty_asks (duties.Silent d) is = absurd (quiet_never (duties.Silent d) tt is)
-  duty_asks duties.End is = absurd (quiet_never duties.End tt is)
+  duty_asks (Duty.Step (StepDuty.Data t)) is = data_asks t (first_unsent (end_at t p)) refl is
+  duty_asks (Duty.Step (StepDuty.Heard t index)) is = absurd (subst (IsHeardAsk (path_of p) t) is (heard_asks octets p t (item_of index (end_at t p))))
+  duty_asks (Duty.Ask (AskDuty.SubflowAck t)) is = absurd (subflow_acks_so (λ x. x ≡ Grant → ⊥) t (end_at t p) (λ none. cc) (λ next none. cc) is)
+  duty_asks (Duty.Step StepDuty.Events) is = absurd (quiet_never (Duty.Step StepDuty.Events) tt is)
+  duty_asks (Duty.Step (StepDuty.Look t)) is = absurd (quiet_never (Duty.Step (StepDuty.Look t)) tt is)
+  duty_asks (Duty.Step (StepDuty.PlainAck t)) is = absurd (quiet_never (Duty.Step (StepDuty.PlainAck t)) tt is)
+  duty_asks (Duty.Step (StepDuty.Unmapped t)) is = absurd (quiet_never (Duty.Step (StepDuty.Unmapped t)) tt is)
+  duty_asks (Duty.Ask AskDuty.JoinAgain) is = absurd (quiet_never (Duty.Ask AskDuty.JoinAgain) tt is)
+  duty_asks (Duty.Ask (AskDuty.Window t)) is = absurd (quiet_never (Duty.Ask (AskDuty.Window t)) tt is)
+  duty_asks (Duty.Ask (AskDuty.PlainHandshake t)) is = absurd (quiet_never (Duty.Ask (AskDuty.PlainHandshake t)) tt is)
+  duty_asks (Duty.Ask (AskDuty.PeerKey t)) is = absurd (quiet_never (Duty.Ask (AskDuty.PeerKey t)) tt is)
+  duty_asks (Duty.Ask (AskDuty.JoinHeard t)) is = absurd (quiet_never (Duty.Ask (AskDuty.JoinHeard t)) tt is)
+  duty_asks (Duty.Ask (AskDuty.Opened t)) is = absurd (quiet_never (Duty.Ask (AskDuty.Opened t)) tt is)
+  duty_asks (Duty.Ask (AskDuty.Live t)) is = absurd (quiet_never (Duty.Ask (AskDuty.Live t)) tt is)
+  duty_asks (Duty.Ask (AskDuty.AckHeard t)) is = absurd (quiet_never (Duty.Ask (AskDuty.AckHeard t)) tt is)
+  duty_asks (Duty.Ask (AskDuty.FailHeard t)) is = absurd (quiet_never (Duty.Ask (AskDuty.FailHeard t)) tt is)
+  duty_asks (Duty.Ask (AskDuty.PlainData t)) is = absurd (quiet_never (Duty.Ask (AskDuty.PlainData t)) tt is)
+  duty_asks (Duty.Ask (AskDuty.Edge t)) is = absurd (quiet_never (Duty.Ask (AskDuty.Edge t)) tt is)
+  duty_asks (Duty.Ask (AskDuty.CheckFailed t)) is = absurd (quiet_never (Duty.Ask (AskDuty.CheckFailed t)) tt is)
+  duty_asks (Duty.Ask (AskDuty.HeardFin t index)) is = absurd (quiet_never (Duty.Ask (AskDuty.HeardFin t index)) tt is)
+  duty_asks (Duty.Ask (AskDuty.SubflowFin t)) is = absurd (quiet_never (Duty.Ask (AskDuty.SubflowFin t)) tt is)
+  duty_asks (Duty.Ask (AskDuty.AckOut t)) is = absurd (quiet_never (Duty.Ask (AskDuty.AckOut t)) tt is)
+  duty_asks (Duty.Ask (AskDuty.Rate t)) is = absurd (quiet_never (Duty.Ask (AskDuty.Rate t)) tt is)
+  duty_asks (Duty.Ask (AskDuty.Return t)) is = absurd (quiet_never (Duty.Ask (AskDuty.Return t)) tt is)
+  duty_asks (Duty.Ask (AskDuty.AbortSend t)) is = absurd (quiet_never (Duty.Ask (AskDuty.AbortSend t)) tt is)
+  duty_asks (Duty.Ask (AskDuty.AbortReceive t)) is = absurd (quiet_never (Duty.Ask (AskDuty.AbortReceive t)) tt is)
+  duty_asks (Duty.Ask (AskDuty.Announce t id)) is = absurd (quiet_never (Duty.Ask (AskDuty.Announce t id)) tt is)
+  duty_asks (Duty.Ask (AskDuty.Withdraw t id)) is = absurd (quiet_never (Duty.Ask (AskDuty.Withdraw t id)) tt is)
+  duty_asks (Duty.Ask (AskDuty.LeaveNoted t)) is = absurd (quiet_never (Duty.Ask (AskDuty.LeaveNoted t)) tt is)
+  duty_asks (Duty.Ask (AskDuty.BreakAck t reason)) is = absurd (quiet_never (Duty.Ask (AskDuty.BreakAck t reason)) tt is)
+  duty_asks (Duty.Ask (AskDuty.Leave t)) is = absurd (quiet_never (Duty.Ask (AskDuty.Leave t)) tt is)
+  duty_asks (Duty.Ask (AskDuty.Dead t)) is = absurd (quiet_never (Duty.Ask (AskDuty.Dead t)) tt is)
+  duty_asks (Duty.Send d) is = absurd (quiet_never (Duty.Send d) tt is)
+  duty_asks (Duty.Silent d) is = absurd (quiet_never (Duty.Silent d) tt is)
+  duty_asks Duty.End is = absurd (quiet_never Duty.End tt is)
+  duty_asks _ is = cc
 
 -- ---- what was granted, and isn't sent yet
 
@@ -235,9 +190,9 @@ module _ (start : Start) (s : Side) (b : Sending) (tile : Tile b) (begins_so : I
       ∙ take-append-le n (drop from b.written) begins_so.rest (omega (arith, within, length-drop from b.written)))
 
   module _ (p : PathState (List ℕ)) (settled_so : IsSettled p) (acked : BothAck p) where
-    reply_pending : (ds : List Duty) → p.agenda ≡ duties.Step (step_duties.Data s) ∷ ds → first_unsent (end_at s p) ≡ None → most ≡ payload_size p.profile
-        → (r : Result Span Why) → decision path most standby b ≡ r → covers place (reply_by r b) ≡ true → PathFacts start (takes octets (replies.Send (reply_by r b)) p)
-        → Pending start s place (Path (takes octets (replies.Send (reply_by r b)) p))
+    reply_pending : (ds : List Duty) → p.agenda ≡ Duty.Step (StepDuty.Data s) ∷ ds → first_unsent (end_at s p) ≡ None → most ≡ payload_size p.profile
+        → (r : Result Span Why) → decision path most standby b ≡ r → covers place (reply_by r b) ≡ true → PathFacts start (takes octets (Reply.Send (reply_by r b)) p)
+        → Pending start s place (Path (takes octets (Reply.Send (reply_by r b)) p))
     reply_pending ds agenda none most_is (Err why) decided gives facts = absurd (false≢true gives)
     reply_pending ds agenda none most_is (Ok span) decided gives facts =
         let m = decision-MayTake path most standby b span decided in
@@ -245,7 +200,7 @@ module _ (start : Start) (s : Side) (b : Sending) (tile : Tile b) (begins_so : I
         let low = leb-true span.from place bounds.0 in let high = ltb-true place span.to bounds.1 in
         let n = span.to - span.from in
         let len : length (part_of span b.written) ≡ n = omega (arith, length-take n (drop span.from b.written), length-drop span.from b.written, m.within, m.whole, tile.whole) in
-        let stood : stands (duties.Step (step_duties.Data s)) p ≡ true = subst (λ (todo : List Duty). FirstStands todo p) agenda settled_so in
+        let stood : stands (Duty.Step (StepDuty.Data s)) p ≡ true = subst (λ (todo : List Duty). FirstStands todo p) agenda settled_so in
         let may : may_ask p.profile s (end_at s p) ≡ true = subst (λ (o : Option Record). data_stands p.profile s (end_at s p) o ≡ true) none stood in
         let goes = granted_goes s ds span (part_of span b.written) p agenda none may (ack_at s p acked) (omega (arith, len, m.whole, m.most, most_is)) in
         let part = part_is span.from n (omega (arith, m.within, m.whole, tile.whole)) in
@@ -253,19 +208,19 @@ module _ (start : Start) (s : Side) (b : Sending) (tile : Tile b) (begins_so : I
         (part ∙ ap (λ (k : ℕ). take k (drop span.from file)) (sym len))
 
     -- a path that was granted a byte sends it next
-    path_pending : asks_of octets p ≡ Some (desk.Send s (send_calls.Grant path most standby)) → covers place (send_reply b (send_calls.Grant path most standby)) ≡ true
-        → PathFacts start (takes octets (replies.Send (send_reply b (send_calls.Grant path most standby))) p)
-        → Pending start s place (Path (takes octets (replies.Send (send_reply b (send_calls.Grant path most standby))) p))
+    path_pending : asks_of octets p ≡ Some (Ask.Send s (SendCall.Grant path most standby)) → covers place (send_reply b (SendCall.Grant path most standby)) ≡ true
+        → PathFacts start (takes octets (Reply.Send (send_reply b (SendCall.Grant path most standby))) p)
+        → Pending start s place (Path (takes octets (Reply.Send (send_reply b (SendCall.Grant path most standby))) p))
     path_pending asks gives facts = by p.agenda refl
       where
-        first : (d : Duty) (ds : List Duty) → p.agenda ≡ d ∷ ds → AsksByData s most d p → Pending start s place (Path (takes octets (replies.Send (send_reply b (send_calls.Grant path most standby))) p))
+        first : (d : Duty) (ds : List Duty) → p.agenda ≡ d ∷ ds → AsksByData s most d p → Pending start s place (Path (takes octets (Reply.Send (send_reply b (SendCall.Grant path most standby))) p))
         first d ds agenda by_data =
             reply_pending ds (agenda ∙ ap (λ (x : Duty). x ∷ ds) by_data.duty) by_data.none by_data.most_is (decision path most standby b) refl gives facts
 
-        by : (todo : List Duty) → p.agenda ≡ todo → Pending start s place (Path (takes octets (replies.Send (send_reply b (send_calls.Grant path most standby))) p))
+        by : (todo : List Duty) → p.agenda ≡ todo → Pending start s place (Path (takes octets (Reply.Send (send_reply b (SendCall.Grant path most standby))) p))
         by [] agenda = absurd (none_asks (sym (ap (λ (todo : List Duty). asks_first octets todo p) agenda) ∙ asks))
           where
-            none_asks : None ≡ Some (desk.Send s (send_calls.Grant path most standby)) → ⊥
+            none_asks : None ≡ Some (Ask.Send s (SendCall.Grant path most standby)) → ⊥
             none_asks is = cc
         by (d ∷ ds) agenda =
             first d ds agenda (duty_asks p s path most standby d (same_Some (ask_for octets d p) _ (sym (ap (λ (todo : List Duty). asks_first octets todo p) agenda) ∙ asks)))
@@ -326,11 +281,11 @@ new_pending start ask c w fit later ready asks s path place is = by c.member lat
     bytes = ask_asks s path ask parts.0
 
     answer_is : (s : Side) (most : ℕ) (standby : Bool)
-        → answer_to w.books (desk.Send s (send_calls.Grant path most standby)) ≡ replies.Send (send_reply (send_of s (books_in w.books)) (send_calls.Grant path most standby))
+        → answer_to w.books (Ask.Send s (SendCall.Grant path most standby)) ≡ Reply.Send (send_reply (send_of s (books_in w.books)) (SendCall.Grant path most standby))
     answer_is A most standby = refl
     answer_is B most standby = refl
 
-    gives_is : gives place (replies.Send (send_reply (send_of s (books_in w.books)) (send_calls.Grant path bytes.most bytes.standby))) ≡ true
+    gives_is : gives place (Reply.Send (send_reply (send_of s (books_in w.books)) (SendCall.Grant path bytes.most bytes.standby))) ≡ true
     gives_is = subst (λ (r : Reply). gives place r ≡ true) (ap (answer_to w.books) bytes.is ∙ answer_is s bytes.most bytes.standby) parts.1
 
     none : (d : AppDuty) (ds : List AppDuty) (a : AppState) → Some (app_ask d a) ≡ Some ask → ⊥

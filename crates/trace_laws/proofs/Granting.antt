@@ -1,36 +1,22 @@
 -- Every octet that a path has on a lane was granted to it by a step that an actor noted.
-use Rattle.std.proofs.Common.{◌≡◌, refl, sym, ◌∙◌, ap, subst, ℕ, zero, suc, ◌+◌, ◌-◌, ◌<◌, ◌≤◌, ◌⊎◌, inl, inr, ⊎_elim, Bool, true, false, if◌then◌else◌, nat_le, nat_lt, Option, Some, None, List, [], ◌∷◌, length, set, arith}
-use Rattle.std.specs.List.{slice_get, list_all}
-use Rattle.std.proofs.lemmas.Bool.{and_parts, and_from, le-leb, lt-ltb, false≢true}
-use Rattle.std.proofs.lemmas.Option.{same_Some}
-use Rattle.sides.specs.declared.side.Side.{Side}
-use Rattle.sides.specs.declared.side.Side.TheVariants.{A, B}
-use Rattle.send_book.specs.declared.call.SendCall.{SendCall}
-use Rattle.send_book.specs.declared.call.SendCall.TheVariants as send_calls
+use Rattle.trace_laws.proofs.Words.{◌≡◌, refl, sym, ◌∙◌, ap, subst, ℕ, zero, suc, ◌+◌, ◌-◌, ◌<◌, ◌≤◌, ◌⊎◌, inl, inr, ⊎_elim, Bool, true, false, if◌then◌else◌}
+use Rattle.trace_laws.proofs.Words.{nat_le, nat_lt, Option, Some, None, List, [], ◌∷◌, length, arith, set, and_parts, false≢true, le-leb, and_from, lt-ltb}
+use Rattle.trace_laws.proofs.Words.{slice_get, list_all, same_Some, Side, A, B, SendCall, covers, send_reply, Ask, in_append, in_set, AskHolds, DirectionHolds}
+use Rattle.trace_laws.proofs.Words.{HasPlace, Holds, view_of, LaneAsk, Cell, Lane, Duo, flags_ab, flags_ba, after_event, after_events, AreSilent, CallIs}
+use Rattle.trace_laws.proofs.Words.{LaneAsks, ReassemblyCallIs, SendCallIs, TurnShows, call_events, is_silent}
 use Rattle.send_book.specs.declared.call.SendCall.TheVariants.{GoIdentity as GoIdentityBook}
 use Rattle.send_book.specs.declared.call.SendReply.{SendReply}
-use Rattle.send_book.specs.declared.call.SendReply.TheVariants as send_replies
-use Rattle.send_book.specs.Laws.{covers}
-use Rattle.send_book.specs.Steps.{reply_to as send_reply}
 use Rattle.send_book.proofs.Grants.{granted_pieces_are_whole}
 use Rattle.reassembly_book.specs.declared.call.ReassemblyCall.{ReassemblyCall}
-use Rattle.reassembly_book.specs.declared.call.ReassemblyCall.TheVariants as reassembly_calls
 use Rattle.reassembly_book.specs.Steps.{reply_to as arrival_reply}
-use Rattle.stream_lanes.specs.Holding.{AskHolds, DirectionHolds, HasPlace, Holds}
-use Rattle.stream_lanes.specs.View.{view_of}
-use Rattle.stream_lanes.specs.Lane.{Ask as LaneAsk, Cell, Lane}
 use Rattle.stream_lanes.specs.Lane.Ask.{AskGrant, AskAckIn, AskPlace, AskFin, AskAckOut}
 use Rattle.stream_lanes.specs.Moves.{Flags, Move, cells_from, takes_grant}
 use Rattle.stream_lanes.specs.Streams.{Direction, StreamEvent, after, asks, asks_at, is_done, moves, reads, with_send, goes_infinite, may_go}
 use Rattle.stream_lanes.specs.Streams.StreamEvent.{Write, Close, Return, GoIdentity, AbortSend, Read, AbortRead, Moves, Asks, GoInfinite}
-use Rattle.stream_lanes.specs.Duo.{Duo, Event, flags_ab, flags_ba, after_event, after_events}
+use Rattle.stream_lanes.specs.Duo.{Event}
 use Rattle.stream_lanes.specs.Duo.Event.{ToB, ToA, FallA, FallB, LoosenA, LoosenB, BeginJoin, SendJoin, HearJoin}
 use Rattle.stream_lanes.proofs.Directions.{acked_sent, fin_sent, moved_sent, placed_sent}
-use Rattle.stream_lanes.proofs.Lists.{in_append, in_set}
 use Rattle.stream_lanes.proofs.Promises.{records_fit}
-use Rattle.actor_desk.specs.declared.ask.Ask.{Ask}
-use Rattle.actor_desk.specs.declared.ask.Ask.TheVariants as desk
-use Rattle.world_laws.proofs.Lanes.OfAWorld.{AreSilent, CallIs, LaneAsks, ReassemblyCallIs, SendCallIs, TurnShows, call_events, is_silent}
 use Rattle.world_laws.proofs.Places.Sent.{ack_out_sent}
 use Rattle.world_laws.proofs.Lanes.Strolling.{events_held}
 
@@ -55,11 +41,11 @@ placed_from from (byte ∷ bytes) (suc i) c there = let rest = placed_from (suc 
 
 -- the reply to an ask for bytes gives whole pieces
 abbrev IsWholePiece : SendReply → Type 0
-IsWholePiece (send_replies.Granted span piece) = (length piece ≡ span.to - span.from) × (1 ≤ length piece)
+IsWholePiece (SendReply.Granted span piece) = (length piece ≡ span.to - span.from) × (1 ≤ length piece)
 IsWholePiece _ = Unit {0}
 
 grant_grows : (r : SendReply) (p : Lane) (place : ℕ) → IsWholePiece r → HasPlace (takes_grant r p).sent place → HasPlace p.sent place ⊎ (covers place r ≡ true)
-grant_grows (send_replies.Granted span piece) p place whole has = ⊎_elim
+grant_grows (SendReply.Granted span piece) p place whole has = ⊎_elim
     (λ old. inl (record { at = has.at; item = has.item; there = old; holds = has.holds }))
     (λ new. inr (let found = placed_from span.from piece (has.at - length p.sent) has.item new.1 in
     and_from (nat_le span.from place) (nat_lt place span.to)
@@ -106,14 +92,14 @@ module _ (New : ℕ → Type 0) (f : Flags) (d : Direction) where
   event_is x y same adds = subst (λ e. Adds New d (after f e d)) (sym same) adds
 
   arrival_adds : (c : ReassemblyCall) (event : StreamEvent) → ReassemblyCallIs c d event → Adds New d (after f event d)
-  arrival_adds (reassembly_calls.Place at bytes) event is =
-      asked_adds (AskPlace at bytes) (λ path p there. put_same path p _ _ refl there (placed_sent _ (arrival_reply d.arrived (reassembly_calls.Place at bytes)) p)) event is
-  arrival_adds (reassembly_calls.Fin at) event is =
-      asked_adds (AskFin at) (λ path p there. put_same path p _ _ refl there (fin_sent (arrival_reply d.arrived (reassembly_calls.Fin at)) p)) event is
-  arrival_adds (reassembly_calls.Read most) event is = event_is event (Read most) is.0 (reads_add most (is_done d.reader))
-  arrival_adds reassembly_calls.AckOut event is =
-      asked_adds AskAckOut (λ path p there. put_same path p _ _ refl there (ack_out_sent (arrival_reply d.arrived reassembly_calls.AckOut) p)) event is
-  arrival_adds (reassembly_calls.Abort by_peer) event is = event_is event (AbortRead by_peer) is (lanes_same _ refl)
+  arrival_adds (ReassemblyCall.Place at bytes) event is =
+      asked_adds (AskPlace at bytes) (λ path p there. put_same path p _ _ refl there (placed_sent _ (arrival_reply d.arrived (ReassemblyCall.Place at bytes)) p)) event is
+  arrival_adds (ReassemblyCall.Fin at) event is =
+      asked_adds (AskFin at) (λ path p there. put_same path p _ _ refl there (fin_sent (arrival_reply d.arrived (ReassemblyCall.Fin at)) p)) event is
+  arrival_adds (ReassemblyCall.Read most) event is = event_is event (Read most) is.0 (reads_add most (is_done d.reader))
+  arrival_adds ReassemblyCall.AckOut event is =
+      asked_adds AskAckOut (λ path p there. put_same path p _ _ refl there (ack_out_sent (arrival_reply d.arrived ReassemblyCall.AckOut) p)) event is
+  arrival_adds (ReassemblyCall.Abort by_peer) event is = event_is event (AbortRead by_peer) is (lanes_same _ refl)
 
 -- a move leaves the send book alone
 moves_send : (f : Flags) (path : ℕ) (m : Move) (o : Option Lane) (d : Direction) → (moves f path m o d).send ≡ d.send
@@ -122,52 +108,52 @@ moves_send f path m (Some p) d = refl
 
 -- what a call grants of its book
 abbrev pub Grants : SendCall → Direction → ℕ → Type 0
-Grants (send_calls.Grant path most standby) d place = covers place (send_reply d.send (send_calls.Grant path most standby)) ≡ true
+Grants (SendCall.Grant path most standby) d place = covers place (send_reply d.send (SendCall.Grant path most standby)) ≡ true
 Grants _ d place = ⊥
 
 module _ (f : Flags) (d : Direction) (holds : DirectionHolds f d) where
-  whole_piece : (path most : ℕ) (standby : Bool) → 1 ≤ most → IsWholePiece (send_reply d.send (send_calls.Grant path most standby))
-  whole_piece path most standby some = by (send_reply d.send (send_calls.Grant path most standby)) refl
+  whole_piece : (path most : ℕ) (standby : Bool) → 1 ≤ most → IsWholePiece (send_reply d.send (SendCall.Grant path most standby))
+  whole_piece path most standby some = by (send_reply d.send (SendCall.Grant path most standby)) refl
     where
-      by : (r : SendReply) → send_reply d.send (send_calls.Grant path most standby) ≡ r → IsWholePiece r
-      by (send_replies.Granted span piece) is =
+      by : (r : SendReply) → send_reply d.send (SendCall.Grant path most standby) ≡ r → IsWholePiece r
+      by (SendReply.Granted span piece) is =
           let piece_is = granted_pieces_are_whole d.send path most standby span piece (records_fit f d holds).tile some is in (piece_is.whole, piece_is.some)
       by _ is = tt
 
   grant_adds : (path most : ℕ) (standby : Bool) (p : Lane) → slice_get d.lanes path ≡ Some p → p.asking ≡ AskGrant most standby
-      → Adds (Grants (send_calls.Grant path most standby) d) d (asks_at path (Some p) d)
+      → Adds (Grants (SendCall.Grant path most standby) d) d (asks_at path (Some p) d)
   grant_adds path most standby p there asks_is =
       let held = (holds.lanes.each path path p (omega arith) there).ask in
       let some = (subst (λ (a : LaneAsk). AskHolds (view_of f d.send d.arrived) p.sent p.opened p.edge a) asks_is held).1 in
-      subst (λ (a : LaneAsk). Adds (Grants (send_calls.Grant path most standby) d) d (asks path a p d)) (sym asks_is)
-      (put (Grants (send_calls.Grant path most standby) d) f d path p _ _ refl there
-      (λ place has. grant_grows (send_reply d.send (send_calls.Grant path most standby)) p place (whole_piece path most standby some) has))
+      subst (λ (a : LaneAsk). Adds (Grants (SendCall.Grant path most standby) d) d (asks path a p d)) (sym asks_is)
+      (put (Grants (SendCall.Grant path most standby) d) f d path p _ _ refl there
+      (λ place has. grant_grows (send_reply d.send (SendCall.Grant path most standby)) p place (whole_piece path most standby some) has))
 
   send_adds : (c : SendCall) (event : StreamEvent) → SendCallIs c d event → Adds (Grants c d) d (after f event d)
-  send_adds (send_calls.Write bytes) event is = event_is _ f d event (Write bytes) is (lanes_same _ f d _ refl)
-  send_adds send_calls.Close event is = event_is _ f d event Close is (lanes_same _ f d _ refl)
-  send_adds (send_calls.Grant path most standby) event is =
+  send_adds (SendCall.Write bytes) event is = event_is _ f d event (Write bytes) is (lanes_same _ f d _ refl)
+  send_adds SendCall.Close event is = event_is _ f d event Close is (lanes_same _ f d _ refl)
+  send_adds (SendCall.Grant path most standby) event is =
       event_is _ f d event (Asks path) is.0
-      (subst (λ o. Adds (Grants (send_calls.Grant path most standby) d) d (asks_at path o d)) (sym is.1.there)
+      (subst (λ o. Adds (Grants (SendCall.Grant path most standby) d) d (asks_at path o d)) (sym is.1.there)
       (grant_adds path most standby is.1.lane is.1.there is.1.asks))
-  send_adds (send_calls.AckIn next window) event is =
-      asked_adds _ f d (AskAckIn next window) (λ path p there. put_same _ f d path p _ _ refl there (acked_sent next (send_reply d.send (send_calls.AckIn next window)) p)) event is
-  send_adds (send_calls.Return path) event is = event_is _ f d event (Return path) is (lanes_same _ f d _ refl)
-  send_adds send_calls.GoIdentity event is = event_is _ f d event GoIdentity is (by f.sender)
+  send_adds (SendCall.AckIn next window) event is =
+      asked_adds _ f d (AskAckIn next window) (λ path p there. put_same _ f d path p _ _ refl there (acked_sent next (send_reply d.send (SendCall.AckIn next window)) p)) event is
+  send_adds (SendCall.Return path) event is = event_is _ f d event (Return path) is (lanes_same _ f d _ refl)
+  send_adds SendCall.GoIdentity event is = event_is _ f d event GoIdentity is (by f.sender)
     where
-      by : (b : Bool) → Adds (Grants send_calls.GoIdentity d) d (if b then with_send GoIdentityBook d else d)
+      by : (b : Bool) → Adds (Grants SendCall.GoIdentity d) d (if b then with_send GoIdentityBook d else d)
       by true = lanes_same _ f d (with_send GoIdentityBook d) refl
       by false = lanes_same _ f d d refl
-  send_adds (send_calls.GoInfinite path) event is = event_is _ f d event (GoInfinite path is.0) is.1 (at (slice_get d.lanes path) refl)
+  send_adds (SendCall.GoInfinite path) event is = event_is _ f d event (GoInfinite path is.0) is.1 (at (slice_get d.lanes path) refl)
     where
-      choose : (b : Bool) (e : Direction) → Adds (Grants (send_calls.GoInfinite path) d) d e → Adds (Grants (send_calls.GoInfinite path) d) d (if b then e else d)
+      choose : (b : Bool) (e : Direction) → Adds (Grants (SendCall.GoInfinite path) d) d e → Adds (Grants (SendCall.GoInfinite path) d) d (if b then e else d)
       choose true e adds = adds
       choose false e adds = lanes_same _ f d d refl
 
-      at : (o : Option Lane) → slice_get d.lanes path ≡ o → Adds (Grants (send_calls.GoInfinite path) d) d (goes_infinite path is.0 o d)
+      at : (o : Option Lane) → slice_get d.lanes path ≡ o → Adds (Grants (SendCall.GoInfinite path) d) d (goes_infinite path is.0 o d)
       at None there = lanes_same _ f d d refl
       at (Some p) there = choose (may_go path is.0 d.send p) _ (put_same _ f d path p _ _ refl there refl)
-  send_adds send_calls.Abort event is = event_is _ f d event AbortSend is (lanes_same _ f d _ refl)
+  send_adds SendCall.Abort event is = event_is _ f d event AbortSend is (lanes_same _ f d _ refl)
 
 -- ---- both directions
 
@@ -242,58 +228,46 @@ silent_sends s (event ∷ events) is d =
 
 -- what an ask grants of a side's stream, its books standing so
 abbrev pub AskGrants : Side → Ask → Duo → ℕ → Type 0
-AskGrants A (desk.Send A c) d place = Grants c d.ab place
-AskGrants B (desk.Send B c) d place = Grants c d.ba place
+AskGrants A (Ask.Send A c) d place = Grants c d.ab place
+AskGrants B (Ask.Send B c) d place = Grants c d.ba place
 AskGrants s ask d place = ⊥
 
 call_grows : (s : Side) (ask : Ask) (call : Option Event) (d : Duo) → Holds d → CallIs (Some ask) d call → Grows s (AskGrants s ask d) d (after_events (call_events call) d)
-call_grows A (desk.Send A c) call d holds is = subst (λ x. Grows A (AskGrants A (desk.Send A c) d) d (after_events (call_events x) d)) (sym is.1) (send_adds (flags_ab d.modes) d.ab holds.ab c is.0 is.2)
-call_grows B (desk.Send B c) call d holds is = subst (λ x. Grows B (AskGrants B (desk.Send B c) d) d (after_events (call_events x) d)) (sym is.1) (send_adds (flags_ba d.modes) d.ba holds.ba c is.0 is.2)
-call_grows B (desk.Send A c) call d holds is = subst (λ x. Grows B (AskGrants B (desk.Send A c) d) d (after_events (call_events x) d)) (sym is.1) (still B _ (ToB is.0) d refl)
-call_grows A (desk.Send B c) call d holds is = subst (λ x. Grows A (AskGrants A (desk.Send B c) d) d (after_events (call_events x) d)) (sym is.1) (still A _ (ToA is.0) d refl)
-call_grows A (desk.Reassembly A c) call d holds is = subst (λ x. Grows A (AskGrants A (desk.Reassembly A c) d) d (after_events (call_events x) d)) (sym is.1) (still A _ (ToA is.0) d refl)
-call_grows B (desk.Reassembly A c) call d holds is =
-    subst (λ x. Grows B (AskGrants B (desk.Reassembly A c) d) d (after_events (call_events x) d)) (sym is.1) (arrival_adds _ (flags_ba d.modes) d.ba c is.0 is.2)
-call_grows A (desk.Reassembly B c) call d holds is =
-    subst (λ x. Grows A (AskGrants A (desk.Reassembly B c) d) d (after_events (call_events x) d)) (sym is.1) (arrival_adds _ (flags_ab d.modes) d.ab c is.0 is.2)
-call_grows B (desk.Reassembly B c) call d holds is = subst (λ x. Grows B (AskGrants B (desk.Reassembly B c) d) d (after_events (call_events x) d)) (sym is.1) (still B _ (ToB is.0) d refl)
-call_grows A (desk.Control r c) call d holds is = subst (λ x. Grows A (AskGrants A (desk.Control r c) d) d (after_events (call_events x) d)) (sym is) (unchanged A _ d d refl)
-call_grows B (desk.Control r c) call d holds is = subst (λ x. Grows B (AskGrants B (desk.Control r c) d) d (after_events (call_events x) d)) (sym is) (unchanged B _ d d refl)
-call_grows A (desk.Local step) call d holds is = subst (λ x. Grows A (AskGrants A (desk.Local step) d) d (after_events (call_events x) d)) (sym is) (unchanged A _ d d refl)
-call_grows B (desk.Local step) call d holds is = subst (λ x. Grows B (AskGrants B (desk.Local step) d) d (after_events (call_events x) d)) (sym is) (unchanged B _ d d refl)
+call_grows A (Ask.Send A c) call d holds is = subst (λ x. Grows A (AskGrants A (Ask.Send A c) d) d (after_events (call_events x) d)) (sym is.1) (send_adds (flags_ab d.modes) d.ab holds.ab c is.0 is.2)
+call_grows B (Ask.Send B c) call d holds is = subst (λ x. Grows B (AskGrants B (Ask.Send B c) d) d (after_events (call_events x) d)) (sym is.1) (send_adds (flags_ba d.modes) d.ba holds.ba c is.0 is.2)
+call_grows B (Ask.Send A c) call d holds is = subst (λ x. Grows B (AskGrants B (Ask.Send A c) d) d (after_events (call_events x) d)) (sym is.1) (still B _ (ToB is.0) d refl)
+call_grows A (Ask.Send B c) call d holds is = subst (λ x. Grows A (AskGrants A (Ask.Send B c) d) d (after_events (call_events x) d)) (sym is.1) (still A _ (ToA is.0) d refl)
+call_grows A (Ask.Reassembly A c) call d holds is = subst (λ x. Grows A (AskGrants A (Ask.Reassembly A c) d) d (after_events (call_events x) d)) (sym is.1) (still A _ (ToA is.0) d refl)
+call_grows B (Ask.Reassembly A c) call d holds is =
+    subst (λ x. Grows B (AskGrants B (Ask.Reassembly A c) d) d (after_events (call_events x) d)) (sym is.1) (arrival_adds _ (flags_ba d.modes) d.ba c is.0 is.2)
+call_grows A (Ask.Reassembly B c) call d holds is =
+    subst (λ x. Grows A (AskGrants A (Ask.Reassembly B c) d) d (after_events (call_events x) d)) (sym is.1) (arrival_adds _ (flags_ab d.modes) d.ab c is.0 is.2)
+call_grows B (Ask.Reassembly B c) call d holds is = subst (λ x. Grows B (AskGrants B (Ask.Reassembly B c) d) d (after_events (call_events x) d)) (sym is.1) (still B _ (ToB is.0) d refl)
+call_grows A (Ask.Control r c) call d holds is = subst (λ x. Grows A (AskGrants A (Ask.Control r c) d) d (after_events (call_events x) d)) (sym is) (unchanged A _ d d refl)
+call_grows B (Ask.Control r c) call d holds is = subst (λ x. Grows B (AskGrants B (Ask.Control r c) d) d (after_events (call_events x) d)) (sym is) (unchanged B _ d d refl)
+call_grows A (Ask.Local step) call d holds is = subst (λ x. Grows A (AskGrants A (Ask.Local step) d) d (after_events (call_events x) d)) (sym is) (unchanged A _ d d refl)
+call_grows B (Ask.Local step) call d holds is = subst (λ x. Grows B (AskGrants B (Ask.Local step) d) d (after_events (call_events x) d)) (sym is) (unchanged B _ d d refl)
 
 -- the same books answer the same
 same_grants : (s : Side) (ask : Ask) (d e : Duo) (place : ℕ) → ((r : Side) → (way r e).send ≡ (way r d).send) → AskGrants s ask e place → AskGrants s ask d place
-same_grants A (desk.Send A c) d e place same h = same_in c h
+same_grants A (Ask.Send A c) d e place same h = same_in c h
   where
     same_in : (c : SendCall) → Grants c e.ab place → Grants c d.ab place
-    same_in (send_calls.Grant path most standby) h = subst (λ send. covers place (send_reply send (send_calls.Grant path most standby)) ≡ true) (same A) h
-    same_in (send_calls.Write bytes) h = h
-    same_in send_calls.Close h = h
-    same_in (send_calls.AckIn next window) h = h
-    same_in (send_calls.Return path) h = h
-    same_in send_calls.GoIdentity h = h
-    same_in (send_calls.GoInfinite path) h = h
-    same_in send_calls.Abort h = h
-same_grants B (desk.Send B c) d e place same h = same_in c h
+    same_in (SendCall.Grant path most standby) h = subst (λ send. covers place (send_reply send (SendCall.Grant path most standby)) ≡ true) (same A) h
+    same_in _ h = h
+same_grants B (Ask.Send B c) d e place same h = same_in c h
   where
     same_in : (c : SendCall) → Grants c e.ba place → Grants c d.ba place
-    same_in (send_calls.Grant path most standby) h = subst (λ send. covers place (send_reply send (send_calls.Grant path most standby)) ≡ true) (same B) h
-    same_in (send_calls.Write bytes) h = h
-    same_in send_calls.Close h = h
-    same_in (send_calls.AckIn next window) h = h
-    same_in (send_calls.Return path) h = h
-    same_in send_calls.GoIdentity h = h
-    same_in (send_calls.GoInfinite path) h = h
-    same_in send_calls.Abort h = h
-same_grants A (desk.Send B c) d e place same h = h
-same_grants B (desk.Send A c) d e place same h = h
-same_grants A (desk.Reassembly r c) d e place same h = h
-same_grants B (desk.Reassembly r c) d e place same h = h
-same_grants A (desk.Control r c) d e place same h = h
-same_grants B (desk.Control r c) d e place same h = h
-same_grants A (desk.Local step) d e place same h = h
-same_grants B (desk.Local step) d e place same h = h
+    same_in (SendCall.Grant path most standby) h = subst (λ send. covers place (send_reply send (SendCall.Grant path most standby)) ≡ true) (same B) h
+    same_in _ h = h
+same_grants A (Ask.Send B c) d e place same h = h
+same_grants B (Ask.Send A c) d e place same h = h
+same_grants A (Ask.Reassembly r c) d e place same h = h
+same_grants B (Ask.Reassembly r c) d e place same h = h
+same_grants A (Ask.Control r c) d e place same h = h
+same_grants B (Ask.Control r c) d e place same h = h
+same_grants A (Ask.Local step) d e place same h = h
+same_grants B (Ask.Local step) d e place same h = h
 
 -- ---- a turn
 

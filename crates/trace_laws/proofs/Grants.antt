@@ -1,45 +1,27 @@
 -- Once a run is delivered each octet of both files was granted to a path.
-use Rattle.std.proofs.Common.{◌≡◌, refl, sym, ◌∙◌, ap, subst, ℕ, zero, suc, ◌+◌, ◌<◌, ◌⊎◌, inl, inr, ⊎_elim, Bool, true, false, ◌==◌, if◌then◌else◌, Option, Some, None, List, [], ◌∷◌, ◌++◌, length, map, set, fold, get_or, arith}
-use Rattle.std.specs.List.{slice_get, count_by}
-use Rattle.std.proofs.lemmas.Bool.{and_parts, and_from, eq-eqb}
+use Rattle.trace_laws.proofs.Words.{◌≡◌, refl, sym, ◌∙◌, ap, subst, ℕ, zero, suc, ◌+◌, ◌<◌, ◌⊎◌, inl, inr, ⊎_elim, Bool, true, false, if◌then◌else◌, Option}
+use Rattle.trace_laws.proofs.Words.{Some, None, List, [], ◌∷◌, ◌++◌, length, map, fold, arith, ◌==◌, set, get_or, and_parts, and_from, eq-eqb, count_by}
+use Rattle.trace_laws.proofs.Words.{slice_get, same_Some, slice_get_within, Side, A, B, SendCall, covers, send_reply, pick, Ask, books_in, send_of, octets}
+use Rattle.trace_laws.proofs.Words.{values, DirectionHolds, Holds, Duo, after_events, Start, opened_world, was_told_end, ActorCrew, member_asks, WorldState}
+use Rattle.trace_laws.proofs.Words.{Turn, after_turn, all_over, asked, begins, crew_after, greatest, note_of, stepped, world_run, writes_the_files, Carries}
+use Rattle.trace_laws.proofs.Words.{IsSteady, Links, NoneIsFirm, Shown, WorldShows, asked_by, asked_in, first_duo, free_turn, plainly, plainly_free}
+use Rattle.trace_laws.proofs.Words.{turn_events, turn_is, run_fresh}
 use Rattle.std.proofs.lemmas.List.Sums.{sum_by-set, sum_by_push}
-use Rattle.std.proofs.lemmas.Option.{same_Some, slice_get_within}
-use Rattle.sides.specs.declared.side.Side.{Side}
-use Rattle.sides.specs.declared.side.Side.TheVariants.{A, B}
 use Rattle.stamped_book.specs.declared.stamped.Pass.{Pass}
-use Rattle.send_book.specs.declared.call.SendCall.{SendCall}
-use Rattle.send_book.specs.declared.call.SendCall.TheVariants as send_calls
 use Rattle.send_book.specs.State.{Sending}
-use Rattle.send_book.specs.Laws.{covers}
-use Rattle.send_book.specs.Steps.{reply_to as send_reply}
-use Rattle.stream_lanes.specs.Duo.{Duo, after_events}
-use Rattle.stream_lanes.specs.Holding.{DirectionHolds, Holds}
 use Rattle.stream_lanes.specs.Moves.{Flags}
 use Rattle.stream_lanes.specs.Streams.{Direction}
 use Rattle.stream_lanes.proofs.Duos.{any_held}
 use Rattle.stream_lanes.proofs.Views.{is_end}
-use Rattle.actor_desk.specs.declared.ask.Ask.{Ask}
-use Rattle.actor_desk.specs.declared.ask.Ask.TheVariants as desk
 use Rattle.actor_desk.specs.declared.ask.Note.{Note}
-use Rattle.actor_desk.specs.Books.{books_in}
-use Rattle.actor_desk.specs.Desk.{send_of}
-use Rattle.actor_desk.specs.Words.{pick}
-use Rattle.path_core.specs.Octets.{octets}
-use Rattle.path_core.specs.Values.{Carried, values}
+use Rattle.path_core.specs.Values.{Carried}
 use Rattle.world_laws.specs.declared.outcome.Outcome.TheVariants.{Delivered}
-use Rattle.world_laws.specs.Actors.{ActorCrew, member_asks}
 use Rattle.world_laws.specs.Fresh.{shown_crew, shown_world}
 use Rattle.world_laws.specs.Granted.{grants_byte, times_granted}
 use Rattle.world_laws.specs.Laws.{WritesTheFiles}
-use Rattle.world_laws.specs.Openings.{Start, opened_world}
 use Rattle.world_laws.specs.Outcomes.{outcome_by}
-use Rattle.world_laws.specs.Promises.{was_told_end}
-use Rattle.world_laws.specs.Worlds.{WorldState, Turn, after_turn, all_over, asked, begins, crew_after, greatest, note_of, stepped, world_run}
 use Rattle.world_laws.proofs.Lanes.Beginning.{each_opening_shows}
-use Rattle.world_laws.proofs.Worlds.CastLifting.{writes_the_files}
 use Rattle.world_laws.proofs.Lanes.EveryTurn.{each_turn_shows}
-use Rattle.world_laws.proofs.Lanes.OfAWorld.{Carries, IsSteady, Links, NoneIsFirm, Shown, WorldShows, asked_by, asked_in, first_duo, free_turn, plainly, plainly_free, turn_events, turn_is}
-use Rattle.world_laws.proofs.Promises.Made.{run_fresh}
 use Rattle.world_laws.proofs.Promises.OverOctets.{same_told}
 use Rattle.world_laws.proofs.Worlds.Steady.{always_steady}
 use Rattle.world_laws.proofs.Lanes.Strolling.{events_held}
@@ -92,38 +74,28 @@ SameBooks d w = (s : Side) → (way s d).send ≡ send_of s (books_in w.books)
 -- what an ask grants its note says
 note_grants : (s : Side) (ask : Ask) (pass : Pass) (d : Duo) (w : WorldState Carried) (place : ℕ) → SameBooks d w → AskGrants s ask d place
     → (path : ℕ) × (grants_byte s path place (note_of w.books pass ask) ≡ true)
-note_grants A (desk.Send A c) pass d w place same h = by c h
+note_grants A (Ask.Send A c) pass d w place same h = by c h
   where
-    by : (c : SendCall) → Grants c d.ab place → (path : ℕ) × (grants_byte A path place (note_of w.books pass (desk.Send A c)) ≡ true)
-    by (send_calls.Grant path most standby) h =
-        (path, and_from (path == path) _ (eq-eqb path path refl) (subst (λ send. covers place (send_reply send (send_calls.Grant path most standby)) ≡ true) (same A) h))
-    by (send_calls.Write bytes) h = absurd h
-    by send_calls.Close h = absurd h
-    by (send_calls.AckIn next window) h = absurd h
-    by (send_calls.Return path) h = absurd h
-    by send_calls.GoIdentity h = absurd h
-    by (send_calls.GoInfinite path) h = absurd h
-    by send_calls.Abort h = absurd h
-note_grants B (desk.Send B c) pass d w place same h = by c h
+    by : (c : SendCall) → Grants c d.ab place → (path : ℕ) × (grants_byte A path place (note_of w.books pass (Ask.Send A c)) ≡ true)
+    by (SendCall.Grant path most standby) h =
+        (path, and_from (path == path) _ (eq-eqb path path refl) (subst (λ send. covers place (send_reply send (SendCall.Grant path most standby)) ≡ true) (same A) h))
+    by (SendCall.Write bytes) h = absurd h
+    by _ h = absurd h
+note_grants B (Ask.Send B c) pass d w place same h = by c h
   where
-    by : (c : SendCall) → Grants c d.ba place → (path : ℕ) × (grants_byte B path place (note_of w.books pass (desk.Send B c)) ≡ true)
-    by (send_calls.Grant path most standby) h =
-        (path, and_from (path == path) _ (eq-eqb path path refl) (subst (λ send. covers place (send_reply send (send_calls.Grant path most standby)) ≡ true) (same B) h))
-    by (send_calls.Write bytes) h = absurd h
-    by send_calls.Close h = absurd h
-    by (send_calls.AckIn next window) h = absurd h
-    by (send_calls.Return path) h = absurd h
-    by send_calls.GoIdentity h = absurd h
-    by (send_calls.GoInfinite path) h = absurd h
-    by send_calls.Abort h = absurd h
-note_grants A (desk.Send B c) pass d w place same h = absurd h
-note_grants B (desk.Send A c) pass d w place same h = absurd h
-note_grants A (desk.Reassembly r c) pass d w place same h = absurd h
-note_grants B (desk.Reassembly r c) pass d w place same h = absurd h
-note_grants A (desk.Control r c) pass d w place same h = absurd h
-note_grants B (desk.Control r c) pass d w place same h = absurd h
-note_grants A (desk.Local step) pass d w place same h = absurd h
-note_grants B (desk.Local step) pass d w place same h = absurd h
+    by : (c : SendCall) → Grants c d.ba place → (path : ℕ) × (grants_byte B path place (note_of w.books pass (Ask.Send B c)) ≡ true)
+    by (SendCall.Grant path most standby) h =
+        (path, and_from (path == path) _ (eq-eqb path path refl) (subst (λ send. covers place (send_reply send (SendCall.Grant path most standby)) ≡ true) (same B) h))
+    by (SendCall.Write bytes) h = absurd h
+    by _ h = absurd h
+note_grants A (Ask.Send B c) pass d w place same h = absurd h
+note_grants B (Ask.Send A c) pass d w place same h = absurd h
+note_grants A (Ask.Reassembly r c) pass d w place same h = absurd h
+note_grants B (Ask.Reassembly r c) pass d w place same h = absurd h
+note_grants A (Ask.Control r c) pass d w place same h = absurd h
+note_grants B (Ask.Control r c) pass d w place same h = absurd h
+note_grants A (Ask.Local step) pass d w place same h = absurd h
+note_grants B (Ask.Local step) pass d w place same h = absurd h
 
 -- what was granted stays so, and what the turn grants is granted
 turn_grants : (s : Side) (place : ℕ) (turn : Turn) (d : Duo) (w : WorldState Carried) → SameBooks d w → WasGranted s place w.crew ⊎ TurnGrants s (asked_in turn w) d place

@@ -1,45 +1,20 @@
 -- What was granted to a path goes out by the path's next step.
-use Rattle.std.proofs.Common.{◌≡◌, refl, sym, ◌∙◌, ap, subst, ℕ, ◌+◌, ◌-◌, ◌%◌, ◌≤◌, Bool, true, false, not, ◌&&◌, if◌then◌else◌, nat_le, Option, Some, None, option_map, find, List, [], ◌∷◌, ◌++◌, length, length-append, drop, replicate, sum_by, arith}
-use Rattle.std.proofs.lemmas.Bool.{and_parts, and_from, false≢true, le-leb, leb-true}
+use Rattle.trace_laws.proofs.Words.{◌≡◌, refl, sym, ◌∙◌, ap, subst, ℕ, ◌+◌, ◌-◌, ◌≤◌, Bool, true, false, if◌then◌else◌, nat_le, Option, Some, None, option_map}
+use Rattle.trace_laws.proofs.Words.{List, [], ◌∷◌, ◌++◌, length, length-append, drop, arith, ◌&&◌, ◌%◌, not, replicate, find, sum_by, and_parts, false≢true}
+use Rattle.trace_laws.proofs.Words.{le-leb, leb-true, and_from, Side, A, B, header_len, Segment, fixed_header, octets_with, segment_text, Record, is_unsent}
+use Rattle.trace_laws.proofs.Words.{octets_under_way, Data, is_at_limit, may_finish, is_closed_to_segments, Sent, PlainSegment, padded, padding, spelled}
+use Rattle.trace_laws.proofs.Words.{unpadded_options, whole_number, Duty, StepDuty, Reply, stands, passed, answered_data, first_unsent, data_stands, may_ask}
+use Rattle.trace_laws.proofs.Words.{payload_size, fits, granted, may_send_data, PathEnd, PathState, end_at, goes_on, with_agenda, record_or_ack, settled}
+use Rattle.trace_laws.proofs.Words.{answers, takes, settles_down, departing_as, unsent_sends, first_sends, departing, made, octets, sum_of, Departing}
+use Rattle.trace_laws.proofs.Words.{mapping_of, Profile, sent_as, sent_by, payload_in}
 use Rattle.std.proofs.lemmas.List.{drop_at, drop-drop, length-replicate}
 use Rattle.std.proofs.lemmas.List.Sums.{sum_by_push}
-use Rattle.sides.specs.declared.side.Side.{Side}
-use Rattle.sides.specs.declared.side.Side.TheVariants.{A, B}
-use Rattle.segment_wire.specs.Reading.{header_len}
-use Rattle.segment_wire.specs.Segment.{Segment, fixed_header, octets_with, segment_text}
 use Rattle.path_segments.specs.declared.spelling.Spelling.{Spelling}
-use Rattle.path_segments.specs.Spelled.{PlainSegment, padding, padded, unpadded_options, spelled}
 use Rattle.send_book.specs.declared.call.Span.{Span}
-use Rattle.send_book.specs.declared.call.SendReply.TheVariants as send_replies
-use Rattle.subflow_send.specs.declared.record.RecordKind.TheVariants.{Data}
-use Rattle.subflow_send.specs.Records.{Record}
-use Rattle.subflow_send.specs.Rules.{is_unsent, octets_under_way}
+use Rattle.send_book.specs.declared.call.SendReply.{SendReply}
 use Rattle.subflow_send.specs.Sendings.{never_sent}
 use Rattle.subflow_tcp.specs.declared.handshake.State.{State as EndPhase}
-use Rattle.subflow_tcp.specs.declared.handshake.State.TheVariants as phase
 use Rattle.subflow_tcp.specs.Sizes.{room}
-use Rattle.subflow_tcp.specs.State.{is_at_limit}
-use Rattle.subflow_tcp.specs.States.{is_closed_to_segments, may_finish}
-use Rattle.actor_desk.specs.declared.ask.Reply.{Reply}
-use Rattle.actor_desk.specs.declared.ask.Reply.TheVariants as replies
-use Rattle.path_agenda.specs.declared.duty.Duty.{Duty}
-use Rattle.path_agenda.specs.declared.duty.Duty.TheVariants as duties
-use Rattle.path_agenda.specs.declared.duty.StepDuty.TheVariants as step_duties
-use Rattle.path_core.specs.declared.looking.Departing.{Departing}
-use Rattle.path_core.specs.Duties.{passed, stands}
-use Rattle.path_core.specs.Emission.{answered_data, data_stands, first_unsent, fits, granted, may_ask, may_send_data, payload_size}
-use Rattle.path_core.specs.End.{PathEnd}
-use Rattle.path_core.specs.Looking.{departing, departing_as, first_sends, unsent_sends}
-use Rattle.path_core.specs.Octets.{made, octets, sum_of}
-use Rattle.path_core.specs.DssOut.{mapping_of}
-use Rattle.path_core.specs.OptionsOut.{record_or_ack}
-use Rattle.path_segments.specs.Spelling.{whole_number}
-use Rattle.path_core.specs.State.{PathState, end_at, goes_on, with_agenda}
-use Rattle.path_core.specs.Profile.{Profile}
-use Rattle.path_core.specs.Steps.{answers, settled, settles_down, takes}
-use Rattle.link_trace.specs.declared.sent.Sent.{Sent}
-use Rattle.run_trace.specs.Trace.{sent_as, sent_by}
-use Rattle.trace_laws.specs.Sending.{payload_in}
 use Rattle.trace_laws.proofs.Acknowledged.{Acks}
 
 -- ---- the payload of a segment that is made
@@ -101,11 +76,11 @@ module _ (c : Profile) (s : Side) (span : Span) (piece : List ℕ) (e : PathEnd)
   same_room = ap (λ (n : ℕ). e.tcp.congestion.reno.window - n) (sum_by_push (octets_under_way e.tcp.send.una) e.tcp.send.records pushed ∙ (let n = sum_by (octets_under_way e.tcp.send.una) e.tcp.send.records in omega arith))
 
   never_closed : (x : EndPhase) → may_finish x ≡ true → is_closed_to_segments x ≡ false
-  never_closed phase.Established may = refl
-  never_closed phase.CloseWait may = refl
-  never_closed phase.Waiting may = absurd (false≢true may)
-  never_closed phase.Listen may = absurd (false≢true may)
-  never_closed phase.Dead may = absurd (false≢true may)
+  never_closed EndPhase.Established may = refl
+  never_closed EndPhase.CloseWait may = refl
+  never_closed EndPhase.Waiting may = absurd (false≢true may)
+  never_closed EndPhase.Listen may = absurd (false≢true may)
+  never_closed EndPhase.Dead may = absurd (false≢true may)
   never_closed _ may = refl
 
   -- it may be sent at once
@@ -157,7 +132,7 @@ departs s from_place piece r p (Some d) is with_it sends unsent number piece_is 
 }
 
 -- with its record as the first unsent one
-sends_record : (s : Side) (from_place : ℕ) (piece : List ℕ) (ds : List Duty) (r : Record) (p : PathState (List ℕ)) → p.agenda ≡ duties.Step (step_duties.Data s) ∷ ds
+sends_record : (s : Side) (from_place : ℕ) (piece : List ℕ) (ds : List Duty) (r : Record) (p : PathState (List ℕ)) → p.agenda ≡ Duty.Step (StepDuty.Data s) ∷ ds
     → first_unsent (end_at s p) ≡ Some r → r.mapping.number ≡ whole_number p.profile.spelling s from_place → r.piece ≡ piece → SendsNext s from_place piece p
 sends_record s from_place piece ds r p agenda first number piece_is =
     departs s from_place piece r p (option_map (departing_as p) (unsent_sends s (Some r)))
@@ -171,11 +146,11 @@ sends_record s from_place piece ds r p agenda first number piece_is =
 
 -- the reply to an ask for bytes
 abbrev pub grants : Span → List ℕ → Reply
-grants span piece = replies.Send (send_replies.Granted span piece)
+grants span piece = Reply.Send (SendReply.Granted span piece)
 
 module _ (s : Side) (ds : List Duty) (span : Span) (piece : List ℕ) (p : PathState (List ℕ)) where
   abbrev q : PathState (List ℕ)
-  q = goes_on s (granted p.profile s span piece (end_at s p)) (duties.Step (step_duties.Data s) ∷ ds) p
+  q = goes_on s (granted p.profile s span piece (end_at s p)) (Duty.Step (StepDuty.Data s) ∷ ds) p
 
   end_is : (s : Side) (e : PathEnd) (ds : List Duty) (p : PathState (List ℕ)) → end_at s (goes_on s e ds p) ≡ e
   end_is A e ds p = refl
@@ -186,26 +161,26 @@ module _ (s : Side) (ds : List Duty) (span : Span) (piece : List ℕ) (p : PathS
   profile_is B e ds p = refl
 
   stands_so : may_ask p.profile s (end_at s p) ≡ true → Acks (end_at s p).tcp → length piece ≤ payload_size p.profile → first_unsent (end_at s p) ≡ None
-      → stands (duties.Step (step_duties.Data s)) q ≡ true
+      → stands (Duty.Step (StepDuty.Data s)) q ≡ true
   stands_so asks acked short none =
-      subst (λ (e : PathEnd). data_stands p.profile s e (first_unsent e) ≡ true) (sym (end_is s (granted p.profile s span piece (end_at s p)) (duties.Step (step_duties.Data s) ∷ ds) p))
+      subst (λ (e : PathEnd). data_stands p.profile s e (first_unsent e) ≡ true) (sym (end_is s (granted p.profile s span piece (end_at s p)) (Duty.Step (StepDuty.Data s) ∷ ds) p))
       (data_goes p.profile s span piece (end_at s p) asks acked short none)
 
-  settled_is : stands (duties.Step (step_duties.Data s)) q ≡ true → settled (duties.Step (step_duties.Data s) ∷ ds) q ≡ with_agenda (duties.Step (step_duties.Data s) ∷ ds) q
-  settled_is is = ap (λ (b : Bool). if b then with_agenda (duties.Step (step_duties.Data s) ∷ ds) q else settled ds (passed (duties.Step (step_duties.Data s)) q)) is
+  settled_is : stands (Duty.Step (StepDuty.Data s)) q ≡ true → settled (Duty.Step (StepDuty.Data s) ∷ ds) q ≡ with_agenda (Duty.Step (StepDuty.Data s) ∷ ds) q
+  settled_is is = ap (λ (b : Bool). if b then with_agenda (Duty.Step (StepDuty.Data s) ∷ ds) q else settled ds (passed (Duty.Step (StepDuty.Data s)) q)) is
 
-  taken_is : p.agenda ≡ duties.Step (step_duties.Data s) ∷ ds → first_unsent (end_at s p) ≡ None → takes octets (grants span piece) p ≡ settled (duties.Step (step_duties.Data s) ∷ ds) q
+  taken_is : p.agenda ≡ Duty.Step (StepDuty.Data s) ∷ ds → first_unsent (end_at s p) ≡ None → takes octets (grants span piece) p ≡ settled (Duty.Step (StepDuty.Data s) ∷ ds) q
   taken_is agenda none =
       ap (λ (todo : List Duty). settles_down (answers octets todo (grants span piece) p)) agenda
       ∙ ap (λ (o : Option Record). settles_down (answered_data octets s o (grants span piece) p)) none
       ∙ ap (λ (todo : List Duty). settled todo (goes_on s (granted p.profile s span piece (end_at s p)) todo p)) agenda
 
   -- what was granted is sent next
-  pub granted_goes : p.agenda ≡ duties.Step (step_duties.Data s) ∷ ds → first_unsent (end_at s p) ≡ None → may_ask p.profile s (end_at s p) ≡ true → Acks (end_at s p).tcp
+  pub granted_goes : p.agenda ≡ Duty.Step (StepDuty.Data s) ∷ ds → first_unsent (end_at s p) ≡ None → may_ask p.profile s (end_at s p) ≡ true → Acks (end_at s p).tcp
       → length piece ≤ payload_size p.profile → SendsNext s span.from piece (takes octets (grants span piece) p)
   granted_goes agenda none asks acked short =
       let is = taken_is agenda none ∙ settled_is (stands_so asks acked short none) in
       subst (SendsNext s span.from piece) (sym is)
-      (sends_record s span.from piece ds (pushed p.profile s span piece (end_at s p)) (with_agenda (duties.Step (step_duties.Data s) ∷ ds) q) refl
-      (ap first_unsent (end_is s (granted p.profile s span piece (end_at s p)) (duties.Step (step_duties.Data s) ∷ ds) p) ∙ unsent_is p.profile s span piece (end_at s p) none)
-      (ap (λ (c : Profile). whole_number c.spelling s span.from) (sym (profile_is s (granted p.profile s span piece (end_at s p)) (duties.Step (step_duties.Data s) ∷ ds) p))) refl)
+      (sends_record s span.from piece ds (pushed p.profile s span piece (end_at s p)) (with_agenda (Duty.Step (StepDuty.Data s) ∷ ds) q) refl
+      (ap first_unsent (end_is s (granted p.profile s span piece (end_at s p)) (Duty.Step (StepDuty.Data s) ∷ ds) p) ∙ unsent_is p.profile s span piece (end_at s p) none)
+      (ap (λ (c : Profile). whole_number c.spelling s span.from) (sym (profile_is s (granted p.profile s span piece (end_at s p)) (Duty.Step (StepDuty.Data s) ∷ ds) p))) refl)

@@ -7,3 +7,4 @@ mod Handing
 mod MomentFacts
 mod PayloadsPlaced
 mod ReadingBack
+mod Words

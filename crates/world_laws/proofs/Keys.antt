@@ -11,3 +11,4 @@ pub mod ToldAreOwn
 pub mod DssIsTheSign
 pub mod SureMaySend
 pub mod ByJournals
+pub mod Meanings

@@ -13,3 +13,5 @@ pub mod Keys
 pub mod Numbers
 pub mod Places
 pub mod Whole
+mod Words
+mod Choices

@@ -5,3 +5,4 @@ pub mod Steady
 pub mod Finding
 pub mod Opened
 pub mod CastLifting
+pub mod Turns

@@ -1,59 +1,19 @@
 -- An announcement goes out as the path was told in the same turn, and as the control book was asked, whatever the order of the steps.
-use Rattle.std.proofs.Common.{◌≡◌, refl, sym, ◌∙◌, ap, subst, ⊎_elim, ◌⊎◌, inl, inr, ℕ, zero, suc, ◌+◌, eqb-true, ◌&&◌, not, Bool, true, false, if◌then◌else◌, Option, Some, None, List, [], ◌∷◌, ◌++◌, map}
-use Rattle.std.proofs.lemmas.Bool.{and_parts, both_ways, false≢true, true≢false}
-use Rattle.std.proofs.lemmas.List.{append_assoc, append-nil}
-use Rattle.std.proofs.lemmas.Option.{same_Some}
-use Rattle.std.specs.List.{slice_get}
-use Rattle.std.specs.Option.{IfSome}
-use Rattle.sides.specs.declared.side.Side.{Side}
-use Rattle.sides.specs.declared.side.Side.TheVariants.{A, B}
-use Rattle.stamped_book.specs.declared.stamped.Entry.{Entry}
-use Rattle.stamped_book.specs.declared.stamped.Pass.{Pass}
-use Rattle.stamped_book.specs.Entering.{entry_of}
-use Rattle.stream_lanes.proofs.Lists.{in_set, in_map}
-use Rattle.subflow_tcp.specs.States.{is_dead}
-use Rattle.address_manager.specs.IdSet.{is_member, no_ids}
-use Rattle.control_book.specs.declared.call.ControlCall.{ControlCall}
-use Rattle.control_book.specs.declared.call.ControlCall.TheVariants as control_calls
-use Rattle.control_book.specs.declared.call.ControlReply.{ControlReply}
-use Rattle.control_book.specs.declared.call.ControlReply.TheVariants as control_replies
-use Rattle.control_book.specs.declared.call.Notice.{Notice}
-use Rattle.control_book.specs.declared.call.Notice.TheVariants as told
+use Rattle.world_laws.proofs.Words.{◌≡◌, refl, sym, ◌∙◌, ap, subst, ℕ, ◌+◌, ◌&&◌, not, inl, inr, ◌⊎◌, ⊎_elim, Bool, true, false, if◌then◌else◌}
+use Rattle.world_laws.proofs.Words.{Option, Some, None, List, [], ◌∷◌, ◌++◌, both_ways, false≢true, true≢false, append-nil, append_assoc}
+use Rattle.world_laws.proofs.Words.{same_Some, slice_get, IfSome, Entry, Pass, entry_of, is_member, no_ids, Side, A, B, ControlCall, ControlReply, Notice}
+use Rattle.world_laws.proofs.Words.{is_dead, start_of_turn, Duty, SendDuty, StepDuty, OwnNotice, Ask, Note, Reply, StampedBooks, books_in, after_entry}
+use Rattle.world_laws.proofs.Words.{control_of, reply_of, is_nil, Codec, stands, ask_for, passed, answered, PathEnd, first_sends, after_notice, after_look}
+use Rattle.world_laws.proofs.Words.{may_note, waiting_path, first_turn, PathState, end_at, goes_on, with_agenda, settled, answers, asks_of, asks_first, takes}
+use Rattle.world_laws.proofs.Words.{begins_turn, IsSettled, in_map, in_set, App, Path, control_journal, Actor, ActorCrew, member_asks, member_takes}
+use Rattle.world_laws.proofs.Words.{member_next, is_over, told_to_announce, ends_turn, look_after, look_of_turn, is_wanted, WasTold, AnnouncesAsTold}
+use Rattle.world_laws.proofs.Words.{AnnouncementsEnd, Always, PathPlan, Start, path_begins, opened_world, looks, WorldState, Turn, crew_after}
+use Rattle.world_laws.proofs.Words.{greatest, begins, world_run, note_of}
+use Rattle.world_laws.proofs.Rounds.Lifting.{all_over_each}
+use Rattle.world_laws.proofs.Worlds.Turns.{run_so}
+use Rattle.std.proofs.Common.{eqb-true}
 use Rattle.control_book.specs.Replies as controlling
 use Rattle.control_book.specs.Steps as control
-use Rattle.actor_desk.specs.declared.ask.Ask.{Ask}
-use Rattle.actor_desk.specs.declared.ask.Ask.TheVariants as asks
-use Rattle.actor_desk.specs.declared.ask.Note.{Note}
-use Rattle.actor_desk.specs.declared.ask.Reply.{Reply}
-use Rattle.actor_desk.specs.declared.ask.Reply.TheVariants as replies
-use Rattle.actor_desk.specs.Books.{StampedBooks, books_in, after_entry}
-use Rattle.actor_desk.specs.Desk.{control_of, reply_of}
-use Rattle.actor_desk.specs.Words.{is_nil}
-use Rattle.path_agenda.specs.Agenda.{start_of_turn}
-use Rattle.path_agenda.specs.declared.duty.Duty.{Duty}
-use Rattle.path_agenda.specs.declared.duty.Duty.TheVariants as duties
-use Rattle.path_agenda.specs.declared.duty.SendDuty.TheVariants as send_duties
-use Rattle.path_agenda.specs.declared.duty.StepDuty.TheVariants as step_duties
-use Rattle.path_agenda.specs.declared.notice.OwnNotice.{OwnNotice}
-use Rattle.path_agenda.specs.declared.notice.OwnNotice.TheVariants as notes
-use Rattle.path_core.specs.Codec.{Codec}
-use Rattle.path_core.specs.Duties.{stands, ask_for, passed, answered}
-use Rattle.path_core.specs.End.{PathEnd}
-use Rattle.path_core.specs.Looking.{first_sends}
-use Rattle.path_core.specs.Notices.{after_notice}
-use Rattle.path_core.specs.Standing.{may_note, after_look}
-use Rattle.path_core.specs.Start.{first_turn, waiting_path}
-use Rattle.path_core.specs.State.{PathState, end_at, goes_on, with_agenda}
-use Rattle.path_core.specs.Steps.{asks_of, asks_first, answers, settled, takes, begins_turn}
-use Rattle.path_core.specs.Turns.{IsSettled}
-use Rattle.world_laws.specs.declared.member.Member.TheVariants.{App, Path}
-use Rattle.world_laws.specs.AbortCause.{control_journal}
-use Rattle.world_laws.specs.Actors.{Actor, ActorCrew, member_asks, member_takes, member_next, is_over}
-use Rattle.world_laws.specs.Announcing.{told_to_announce, ends_turn, look_after, look_of_turn, is_wanted, WasTold, AnnouncesAsTold, AnnouncementsEnd}
-use Rattle.world_laws.specs.Laws.{Always}
-use Rattle.world_laws.specs.Openings.{PathPlan, Start, path_begins, opened_world}
-use Rattle.world_laws.specs.Standbys.{looks}
-use Rattle.world_laws.specs.Worlds.{WorldState, Turn, note_of, crew_after, asked, stepped, all_over, greatest, begins, after_turn, world_run}
 use Rattle.world_laws.proofs.Announcements.LookThenNote.{comes, IsReady, start_ready, ready_rest, mild_or, answered_ready, mild_passed, mild_comes, mild_goes_on}
 use Rattle.world_laws.proofs.Announcements.ToBeNoted.{is_queued, is_noted, pushed, IsMild, passed_sheds, answered_sheds, mild_holds, passed_holds, sheds_at, holds_at}
 use Rattle.world_laws.proofs.Announcements.SaidAsNoted.{first_noted}
@@ -84,41 +44,41 @@ queued_some id (notice ∷ queue) h = refl
 
 -- a look puts nothing there but what it tells, where the end may note it
 look_end : (id : ℕ) (r : Reply) (e : PathEnd) → is_noted id (after_look r e) ≡ true → (is_noted id e ≡ true) ⊎ ((told_to_announce r ≡ Some id) × (may_note (after_look r e) ≡ true))
-look_end id (replies.Control (control_replies.Standing mode standby sole notice)) e h = by (is_dead e.tcp.state) notice h
+look_end id (Reply.Control (ControlReply.Standing mode standby sole notice)) e h = by (is_dead e.tcp.state) notice h
   where
-    new : (other : ℕ) → is_queued id (e.notices.queue ++ notes.AddAddr other ∷ []) ≡ true → may_note e ≡ true
-        → (is_noted id e ≡ true) ⊎ ((told_to_announce (replies.Control (control_replies.Standing mode standby sole (told.Announce other))) ≡ Some id) × (may_note e ≡ true))
-    new other h may = elim (pushed id e.notices.queue (notes.AddAddr other) h) [ inl old ↦ inl old | inr is ↦ inr (ap (λ n. Some n) (eqb-true other id is), may) ]
+    new : (other : ℕ) → is_queued id (e.notices.queue ++ OwnNotice.AddAddr other ∷ []) ≡ true → may_note e ≡ true
+        → (is_noted id e ≡ true) ⊎ ((told_to_announce (Reply.Control (ControlReply.Standing mode standby sole (Notice.Announce other))) ≡ Some id) × (may_note e ≡ true))
+    new other h may = elim (pushed id e.notices.queue (OwnNotice.AddAddr other) h) [ inl old ↦ inl old | inr is ↦ inr (ap (λ n. Some n) (eqb-true other id is), may) ]
 
-    announced : (other : ℕ) (may : Bool) → may_note e ≡ may → is_queued id (if may then record e.notices { queue = e.notices.queue ++ notes.AddAddr other ∷ [] } else e.notices).queue ≡ true
-        → (is_noted id e ≡ true) ⊎ ((told_to_announce (replies.Control (control_replies.Standing mode standby sole (told.Announce other))) ≡ Some id) × (may_note e ≡ true))
+    announced : (other : ℕ) (may : Bool) → may_note e ≡ may → is_queued id (if may then record e.notices { queue = e.notices.queue ++ OwnNotice.AddAddr other ∷ [] } else e.notices).queue ≡ true
+        → (is_noted id e ≡ true) ⊎ ((told_to_announce (Reply.Control (ControlReply.Standing mode standby sole (Notice.Announce other))) ≡ Some id) × (may_note e ≡ true))
     announced other true may h = new other h may
     announced other false may h = inl h
 
-    removed : (other : ℕ) → is_queued id (e.notices.queue ++ notes.Removes other ∷ []) ≡ true → is_noted id e ≡ true
-    removed other h = elim (pushed id e.notices.queue (notes.Removes other) h) [ inl old ↦ old | inr never ↦ absurd (false≢true never) ]
+    removed : (other : ℕ) → is_queued id (e.notices.queue ++ OwnNotice.Removes other ∷ []) ≡ true → is_noted id e ≡ true
+    removed other h = elim (pushed id e.notices.queue (OwnNotice.Removes other) h) [ inl old ↦ old | inr never ↦ absurd (false≢true never) ]
 
     by : (dead : Bool) (notice : Notice) → is_queued id (if dead then e.notices else after_notice notice (may_note e) e.notices).queue ≡ true
-        → (is_noted id e ≡ true) ⊎ ((told_to_announce (replies.Control (control_replies.Standing mode standby sole notice)) ≡ Some id) × (may_note e ≡ true))
+        → (is_noted id e ≡ true) ⊎ ((told_to_announce (Reply.Control (ControlReply.Standing mode standby sole notice)) ≡ Some id) × (may_note e ≡ true))
     by true notice h = inl h
-    by false told.Nothing h = inl h
-    by false (told.Announce other) h = announced other (may_note e) refl h
-    by false (told.Withdraw other) h = inl (removed other h)
-    by false (told.Carrier key) h = inl h
-    by false told.Reset h = inl h
+    by false Notice.Nothing h = inl h
+    by false (Notice.Announce other) h = announced other (may_note e) refl h
+    by false (Notice.Withdraw other) h = inl (removed other h)
+    by false (Notice.Carrier key) h = inl h
+    by false Notice.Reset h = inl h
 look_end id _ e h = inl h
 
 -- a duty is a look or isn't
-look_or : (d : Duty) → MayNotLook d ⊎ ((t : Side) × (d ≡ duties.Step (step_duties.Look t)))
-look_or (duties.Step (step_duties.Look t)) = inr (t, refl)
+look_or : (d : Duty) → MayNotLook d ⊎ ((t : Side) × (d ≡ Duty.Step (StepDuty.Look t)))
+look_or (Duty.Step (StepDuty.Look t)) = inr (t, refl)
 look_or _ = inl tt
 
 module _ {C : Type 0} (k : Codec C) (s : Side) where
   -- ---- what comes to nothing
 
   -- the duty that notes stands as long as the end may note something
-  note_left : (p : PathState C) (id : ℕ) → stands (duties.Send (send_duties.Notice s)) p ≡ false → is_noted id (end_at s p) ≡ true → may_note (end_at s p) ≡ true → ⊥
-  note_left p id off noted may = both_ways (stands (duties.Send (send_duties.Notice s)) p) off (ap (λ b. b && not (is_nil (end_at s p).notices.queue)) may ∙ queued_some id (end_at s p).notices.queue noted)
+  note_left : (p : PathState C) (id : ℕ) → stands (Duty.Send (SendDuty.Notice s)) p ≡ false → is_noted id (end_at s p) ≡ true → may_note (end_at s p) ≡ true → ⊥
+  note_left p id off noted may = both_ways (stands (Duty.Send (SendDuty.Notice s)) p) off (ap (λ b. b && not (is_nil (end_at s p).notices.queue)) may ∙ queued_some id (end_at s p).notices.queue noted)
 
   abbrev Each : (ℕ → Type 0) → List Duty → PathState C → ℕ → Type 0
   Each Told ds p id = Told id × (may_note (end_at s p) ≡ true) × (comes s ds ≡ true)
@@ -183,8 +143,8 @@ module _ {C : Type 0} (k : Codec C) (s : Side) where
             ]
 
 -- a look, of the side or of the other one
-look_goes : {C : Type 0} (k : Codec C) (s t : Side) (Told New : ℕ → Type 0) (ds : List Duty) (r : Reply) (p : PathState C) → Stays s Told New (ask_for k (duties.Step (step_duties.Look t)) p)
-    → Comes s New (ask_for k (duties.Step (step_duties.Look t)) p) r → Knows s Told (duties.Step (step_duties.Look t) ∷ ds) p
+look_goes : {C : Type 0} (k : Codec C) (s t : Side) (Told New : ℕ → Type 0) (ds : List Duty) (r : Reply) (p : PathState C) → Stays s Told New (ask_for k (Duty.Step (StepDuty.Look t)) p)
+    → Comes s New (ask_for k (Duty.Step (StepDuty.Look t)) p) r → Knows s Told (Duty.Step (StepDuty.Look t) ∷ ds) p
     → Knows s New ds (goes_on t (after_look r (end_at t p)) ds p)
 look_goes k A A Told New ds r p stays comes_so h = record { ready = h.ready.1; each = at }
   where
@@ -201,16 +161,9 @@ module _ {C : Type 0} (k : Codec C) (s : Side) (Told New : ℕ → Type 0) where
   duty_goes : (d : Duty) (ds : List Duty) (r : Reply) (p : PathState C) → stands d (with_agenda (d ∷ ds) p) ≡ true → Stays s Told New (ask_for k d (with_agenda (d ∷ ds) p))
       → Comes s New (ask_for k d (with_agenda (d ∷ ds) p)) r → Knows s Told (d ∷ ds) (with_agenda (d ∷ ds) p)
       → Knows s New (answered k d r (with_agenda (d ∷ ds) p)).agenda (answered k d r (with_agenda (d ∷ ds) p))
-  duty_goes (duties.Step (step_duties.Look t)) ds r p on stays comes_so h = look_goes k s t Told New ds r (with_agenda (duties.Step (step_duties.Look t) ∷ ds) p) stays comes_so h
-  duty_goes (duties.Step (step_duties.Data t)) ds r p on stays comes_so h = free_goes k s Told New (duties.Step (step_duties.Data t)) ds r p tt on stays h
-  duty_goes (duties.Step step_duties.Events) ds r p on stays comes_so h = free_goes k s Told New (duties.Step step_duties.Events) ds r p tt on stays h
-  duty_goes (duties.Step (step_duties.Heard t index)) ds r p on stays comes_so h = free_goes k s Told New (duties.Step (step_duties.Heard t index)) ds r p tt on stays h
-  duty_goes (duties.Step (step_duties.PlainAck t)) ds r p on stays comes_so h = free_goes k s Told New (duties.Step (step_duties.PlainAck t)) ds r p tt on stays h
-  duty_goes (duties.Step (step_duties.Unmapped t)) ds r p on stays comes_so h = free_goes k s Told New (duties.Step (step_duties.Unmapped t)) ds r p tt on stays h
-  duty_goes (duties.Ask ask) ds r p on stays comes_so h = free_goes k s Told New (duties.Ask ask) ds r p tt on stays h
-  duty_goes (duties.Send send) ds r p on stays comes_so h = free_goes k s Told New (duties.Send send) ds r p tt on stays h
-  duty_goes (duties.Silent silent) ds r p on stays comes_so h = free_goes k s Told New (duties.Silent silent) ds r p tt on stays h
-  duty_goes duties.End ds r p on stays comes_so h = free_goes k s Told New duties.End ds r p tt on stays h
+  duty_goes (Duty.Step (StepDuty.Look t)) ds r p on stays comes_so h = look_goes k s t Told New ds r (with_agenda (Duty.Step (StepDuty.Look t) ∷ ds) p) stays comes_so h
+  duty_goes (Duty.Step StepDuty.Events) ds r p on stays comes_so h = free_goes k s Told New (Duty.Step StepDuty.Events) ds r p tt on stays h
+  duty_goes d ds r p on stays comes_so h = free_goes k s Told New d ds r p tt on stays h
 
   takes_knows : (x : Ask) (r : Reply) (p : PathState C) → asks_of k p ≡ Some x → IsSettled p → Stays s Told New x → Comes s New x r → Knows s Told p.agenda p
       → Knows s New (takes k r p).agenda (takes k r p)
@@ -248,67 +201,67 @@ told_more s id notes later journal longer look more grows h = record {
 }
 
 journal_more : (s : Side) (x : Ask) (pass : Pass) (books : StampedBooks) → (more : Journal) × ((control_journal s (after_entry x pass books)).journal ≡ (control_journal s books).journal ++ more)
-journal_more s (asks.Send t call) pass books = ([], sym (append-nil (control_journal s books).journal))
-journal_more s (asks.Reassembly t call) pass books = ([], sym (append-nil (control_journal s books).journal))
-journal_more s (asks.Local step) pass books = ([], sym (append-nil (control_journal s books).journal))
-journal_more A (asks.Control A call) pass books = (entry_of controlling.reply_to control.after books.control_a pass call ∷ [], refl)
-journal_more B (asks.Control B call) pass books = (entry_of controlling.reply_to control.after books.control_b pass call ∷ [], refl)
-journal_more A (asks.Control B call) pass books = ([], sym (append-nil books.control_a.journal))
-journal_more B (asks.Control A call) pass books = ([], sym (append-nil books.control_b.journal))
+journal_more s (Ask.Send t call) pass books = ([], sym (append-nil (control_journal s books).journal))
+journal_more s (Ask.Reassembly t call) pass books = ([], sym (append-nil (control_journal s books).journal))
+journal_more s (Ask.Local step) pass books = ([], sym (append-nil (control_journal s books).journal))
+journal_more A (Ask.Control A call) pass books = (entry_of controlling.reply_to control.after books.control_a pass call ∷ [], refl)
+journal_more B (Ask.Control B call) pass books = (entry_of controlling.reply_to control.after books.control_b pass call ∷ [], refl)
+journal_more A (Ask.Control B call) pass books = ([], sym (append-nil books.control_a.journal))
+journal_more B (Ask.Control A call) pass books = ([], sym (append-nil books.control_b.journal))
 
 -- an id that is due is wanted by the calls of the journal
 abbrev BooksAre : StampedBooks → Type 0
 BooksAre books = (s : Side) (id : ℕ) → Wants id (control_of s (books_in books)) (is_wanted id false (control_journal s books).journal)
 
 books_keep : (x : Ask) (pass : Pass) (books : StampedBooks) → BooksAre books → BooksAre (after_entry x pass books)
-books_keep (asks.Send t call) pass books h = λ s id. h s id
-books_keep (asks.Reassembly t call) pass books h = λ s id. h s id
-books_keep (asks.Local step) pass books h = h
-books_keep (asks.Control t call) pass books h = λ s id. by t s id
+books_keep (Ask.Send t call) pass books h = λ s id. h s id
+books_keep (Ask.Reassembly t call) pass books h = λ s id. h s id
+books_keep (Ask.Local step) pass books h = h
+books_keep (Ask.Control t call) pass books h = λ s id. by t s id
   where
-    by : (t s : Side) (id : ℕ) → Wants id (control_of s (books_in (after_entry (asks.Control t call) pass books))) (is_wanted id false (control_journal s (after_entry (asks.Control t call) pass books)).journal)
+    by : (t s : Side) (id : ℕ) → Wants id (control_of s (books_in (after_entry (Ask.Control t call) pass books))) (is_wanted id false (control_journal s (after_entry (Ask.Control t call) pass books)).journal)
     by A A id =
         let e = entry_of controlling.reply_to control.after books.control_a pass call in
-        subst (λ six. Wants id six.control_a (is_wanted id false (books.control_a.journal ++ e ∷ []))) (sym (books_after (asks.Control A call) pass books))
+        subst (λ six. Wants id six.control_a (is_wanted id false (books.control_a.journal ++ e ∷ []))) (sym (books_after (Ask.Control A call) pass books))
         (subst (Wants id (control.after (books_in books).control_a call)) (sym (wanted_push id false books.control_a.journal e))
         (wants_once (books_in books).control_a call id (is_wanted id false books.control_a.journal) (h A id)))
     by B B id =
         let e = entry_of controlling.reply_to control.after books.control_b pass call in
-        subst (λ six. Wants id six.control_b (is_wanted id false (books.control_b.journal ++ e ∷ []))) (sym (books_after (asks.Control B call) pass books))
+        subst (λ six. Wants id six.control_b (is_wanted id false (books.control_b.journal ++ e ∷ []))) (sym (books_after (Ask.Control B call) pass books))
         (subst (Wants id (control.after (books_in books).control_b call)) (sym (wanted_push id false books.control_b.journal e))
         (wants_once (books_in books).control_b call id (is_wanted id false books.control_b.journal) (h B id)))
     by A B id = h B id
     by B A id = h A id
 
 -- a look of the side that tells to announce an id
-look_tells : (s : Side) (path id : ℕ) (notes : List Note) (pass : Pass) (books : StampedBooks) → BooksAre books → told_to_announce (reply_of (books_in books) (asks.Control s (control_calls.Look path))) ≡ Some id
-    → WasTold s id (notes ++ note_of books pass (asks.Control s (control_calls.Look path)) ∷ []) (control_journal s (after_entry (asks.Control s (control_calls.Look path)) pass books)).journal
+look_tells : (s : Side) (path id : ℕ) (notes : List Note) (pass : Pass) (books : StampedBooks) → BooksAre books → told_to_announce (reply_of (books_in books) (Ask.Control s (ControlCall.Look path))) ≡ Some id
+    → WasTold s id (notes ++ note_of books pass (Ask.Control s (ControlCall.Look path)) ∷ []) (control_journal s (after_entry (Ask.Control s (ControlCall.Look path)) pass books)).journal
 look_tells A path id notes pass books h told = record {
-  look = note_of books pass (asks.Control A (control_calls.Look path));
-  in_turn = look_push A None notes (note_of books pass (asks.Control A (control_calls.Look path)));
+  look = note_of books pass (Ask.Control A (ControlCall.Look path));
+  in_turn = look_push A None notes (note_of books pass (Ask.Control A (ControlCall.Look path)));
   told = told;
   earlier = books.control_a.journal;
-  entry = entry_of controlling.reply_to control.after books.control_a pass (control_calls.Look path);
+  entry = entry_of controlling.reply_to control.after books.control_a pass (ControlCall.Look path);
   later = [];
   parts = refl;
   entered = refl;
   wanted = (h A id (look_due (books_in books).control_a path id told)).1;
 }
 look_tells B path id notes pass books h told = record {
-  look = note_of books pass (asks.Control B (control_calls.Look path));
-  in_turn = look_push B None notes (note_of books pass (asks.Control B (control_calls.Look path)));
+  look = note_of books pass (Ask.Control B (ControlCall.Look path));
+  in_turn = look_push B None notes (note_of books pass (Ask.Control B (ControlCall.Look path)));
   told = told;
   earlier = books.control_b.journal;
-  entry = entry_of controlling.reply_to control.after books.control_b pass (control_calls.Look path);
+  entry = entry_of controlling.reply_to control.after books.control_b pass (ControlCall.Look path);
   later = [];
   parts = refl;
   entered = refl;
   wanted = (h B id (look_due (books_in books).control_b path id told)).1;
 }
 
-look_is : (s : Side) (x : Ask) → looks s x ≡ true → (path : ℕ) × (x ≡ asks.Control s (control_calls.Look path))
-look_is A (asks.Control A (control_calls.Look path)) is = (path, refl)
-look_is B (asks.Control B (control_calls.Look path)) is = (path, refl)
+look_is : (s : Side) (x : Ask) → looks s x ≡ true → (path : ℕ) × (x ≡ Ask.Control s (ControlCall.Look path))
+look_is A (Ask.Control A (ControlCall.Look path)) is = (path, refl)
+look_is B (Ask.Control B (ControlCall.Look path)) is = (path, refl)
 look_is A _ is = absurd (false≢true is)
 look_is B _ is = absurd (false≢true is)
 
@@ -392,43 +345,22 @@ module _ {C : Type 0} (k : Codec C) where
     crew : (i : ℕ) (c : ActorCrew C) → slice_get w.crew i ≡ Some c → MemberIs w.books c.list c.member
     books : BooksAre w.books
 
-  over_each : (crew : List (ActorCrew C)) (i : ℕ) (c : ActorCrew C) → all_over crew ≡ true → slice_get crew i ≡ Some c → is_over c.member ≡ true
-  over_each [] i c over there = cc
-  over_each (d ∷ crew) zero c over there =
-      let parts = and_parts (is_over d.member) (all_over crew) over in subst (λ x. is_over x.member ≡ true) (same_Some d c there) parts.0
-  over_each (d ∷ crew) (suc i) c over there = over_each crew i c (and_parts (is_over d.member) (all_over crew) over).1 there
-
-  turn_is : (turn : Turn) (w : WorldState C) → WorldIs w → WorldIs (after_turn k turn w)
-  turn_is (Turn.Step actor) w h = by (slice_get w.crew actor) refl
-    where
-      asking : (c : ActorCrew C) → slice_get w.crew actor ≡ Some c → (o : Option Ask) → member_asks k c.member ≡ o → WorldIs (asked k actor o c w)
-      asking c there None is = h
-      asking c there (Some x) is = record {
+  run_is : (turns : List Turn) (w : WorldState C) → WorldIs w → WorldIs (world_run k turns w)
+  run_is = run_so k WorldIs
+      (λ w h actor c x there is. record {
         crew = λ i d at. ⊎_elim
             (λ here. subst (λ e. MemberIs (after_entry x c.pass w.books) e.list e.member) here.1 (own_goes x c.pass w.books c.list c.member h.books is (h.crew actor c there)))
             (λ other. others_keep x c.pass w.books d.list d.member (h.crew i d other.1))
             (in_set w.crew actor (crew_after k x w.books c) i d at);
         books = books_keep x c.pass w.books h.books;
-      }
-
-      by : (o : Option (ActorCrew C)) → slice_get w.crew actor ≡ o → WorldIs (stepped k actor o w)
-      by None there = h
-      by (Some c) there = asking c there (member_asks k c.member) refl
-  turn_is Turn.Round w h = by (all_over w.crew) refl
-    where
-      by : (b : Bool) → all_over w.crew ≡ b → WorldIs (if b then record w { crew = map (begins (greatest 0 w.crew)) w.crew } else w)
-      by true over = record {
+      })
+      (λ w h over. record {
         crew = λ i d at.
             let found = in_map (begins (greatest 0 w.crew)) w.crew i d at in
             subst (λ e. MemberIs w.books e.list e.member) found.2
-            (member_goes_on w.books found.0.list found.0.member (over_each w.crew i found.0 over found.1) (h.crew i found.0 found.1));
+            (member_goes_on w.books found.0.list found.0.member (all_over_each w.crew i found.0 over found.1) (h.crew i found.0 found.1));
         books = h.books;
-      }
-      by false over = h
-
-  run_is : (turns : List Turn) (w : WorldState C) → WorldIs w → WorldIs (world_run k turns w)
-  run_is [] w h = h
-  run_is (turn ∷ turns) w h = run_is turns (after_turn k turn w) (turn_is turn w h)
+      })
 
   opened_is : (start : Start) → WorldIs (opened_world start)
   opened_is start = record { crew = opened_actors (λ actor c. MemberIs (opened_world {C = C} start).books c.list c.member) start tt tt (λ number plan there. path number plan); books = books }

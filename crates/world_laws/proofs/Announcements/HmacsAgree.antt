@@ -1,11 +1,7 @@
 -- No step is answered that an announcement has a wrong HMAC, whatever the script does: only B announces addresses, once its book was
 -- told both keys, and A shows these once its own book has B's.
-use Rattle.std.proofs.Common.{refl, ℕ, true, List, [], ◌∷◌}
-use Rattle.path_core.specs.Values.{Carried, values}
-use Rattle.world_laws.specs.Laws.{Always}
-use Rattle.world_laws.specs.Openings.{opened_world}
-use Rattle.world_laws.specs.Promises.{AddressesAreRight, tells_bad_address}
-use Rattle.world_laws.specs.Worlds.{WorldState, Turn, after_turn, world_run}
+use Rattle.world_laws.proofs.Words.{refl, ℕ, true, List, [], ◌∷◌, Carried, values, Always, opened_world, WorldState, Turn, after_turn, world_run}
+use Rattle.world_laws.proofs.Words.{AddressesAreRight, tells_bad_address}
 use Rattle.world_laws.proofs.Joins.TokensAgree.{WorldMet, opened_met, turn_met}
 use Rattle.world_laws.proofs.Keys.ToldAreOwn.{addresses_untold}
 use Rattle.world_laws.proofs.Promises.NoSuchNote.{NoneTold, from_each, turn_none, opened_none}

@@ -1,62 +1,19 @@
 -- In a turn of a path each look is followed by the duty that notes what the look told to the peer.
-use Rattle.std.proofs.Common.{◌≡◌, refl, ℕ, zero, suc, ◌+◌, ◌⊎◌, inl, inr, not, ◌&&◌, ◌||◌, Bool, true, false, if◌then◌else◌, Option, Some, None, List, [], ◌∷◌, ◌++◌, length}
-use Rattle.std.proofs.lemmas.Bool.{false≢true}
-use Rattle.path_segments.specs.Heard.{HeardSegment}
-use Rattle.link_script.specs.Places.{same_side}
-use Rattle.sides.specs.declared.side.Side.{Side}
-use Rattle.sides.specs.declared.side.Side.TheVariants.{A, B}
-use Rattle.fallback_state.specs.declared.fall.Verdict.TheVariants as verdicts
-use Rattle.fallback_state.specs.declared.fall.Mode.TheVariants as modes
+use Rattle.world_laws.proofs.Words.{◌≡◌, refl, ℕ, zero, suc, ◌+◌, ◌&&◌, ◌||◌, not, inl, inr, ◌⊎◌, Bool, true, false, if◌then◌else◌, Option, Some, None, List}
+use Rattle.world_laws.proofs.Words.{[], ◌∷◌, ◌++◌, length, false≢true, Verdict, Mode, Side, A, B, same_side, JoinSyn, ControlReply, Record, is_dead, Meaning}
+use Rattle.world_laws.proofs.Words.{is_sixth, arriving, after_delivery, HeardSegment, LineAction, Piece, rest_of_turn, emission, heard_and, payload_came}
+use Rattle.world_laws.proofs.Words.{leaves, resets, stops, start_of_turn, Duty, SendDuty, StepDuty, AskDuty, SilentDuty, Heard, KeyPair, replaced, key_heard}
+use Rattle.world_laws.proofs.Words.{keys_heard, Reply, tail_of, Codec, stands, ask_for, answered, answered_ack_out, at_tick, PathState, end_at, goes_on}
+use Rattle.world_laws.proofs.Words.{with_agenda, left, items_of, options_heard, judged_in, template_by, template_judged, heard_in, copy_heard, reset_on}
+use Rattle.world_laws.proofs.Words.{answered_break, answered_data, answered_grant, first_unsent, grant_in, data_ask, Judged, next_event, after_line, happens_if}
+use Rattle.world_laws.proofs.Words.{join_begun, never_joined, asked_at, is_never, join_taken, keys_begun, opened_by, is_joined, template_fired, piece_of}
+use Rattle.world_laws.proofs.Words.{is_placed, answered_piece, answered_plain_fin, answered_fin_heard, is_fin_set, is_clash, with_learned, told_next}
+use Rattle.world_laws.proofs.Words.{answered_mapping, answered_item, item_of, after_fell, fell_duties, answered_plain_ack, with_plain_ack, breaks_by_ack}
+use Rattle.world_laws.proofs.Words.{answered_peer_key, answered_opened, is_stopped_by, ends_turn, if_so}
 use Rattle.fallback_state.specs.declared.fall.Event.TheVariants as events
-use Rattle.control_book.specs.declared.call.ControlReply.TheVariants as control_replies
-use Rattle.subflow_tcp.specs.declared.verdicts.Meaning.{Meaning}
-use Rattle.subflow_tcp.specs.declared.verdicts.Meaning.TheVariants as means
-use Rattle.subflow_tcp.specs.Expiring.{is_sixth}
-use Rattle.subflow_tcp.specs.States.{is_dead}
-use Rattle.subflow_send.specs.Records.{Record}
-use Rattle.link_model.specs.Steps.{arriving, after_delivery}
-use Rattle.actor_desk.specs.Words.{tail_of}
-use Rattle.actor_desk.specs.declared.ask.Reply.{Reply}
-use Rattle.actor_desk.specs.declared.ask.Reply.TheVariants as replies
-use Rattle.path_agenda.specs.declared.duty.Duty.{Duty}
-use Rattle.path_agenda.specs.declared.duty.Duty.TheVariants as duties
-use Rattle.path_agenda.specs.declared.duty.AskDuty.TheVariants as ask_duties
-use Rattle.path_agenda.specs.declared.duty.SendDuty.TheVariants as send_duties
-use Rattle.path_agenda.specs.declared.duty.SilentDuty.TheVariants as silent_duties
-use Rattle.path_agenda.specs.declared.duty.StepDuty.TheVariants as step_duties
 use Rattle.path_core.specs.declared.events.Event.{Event}
-use Rattle.path_core.specs.declared.events.Event.TheVariants as happening
-use Rattle.path_agenda.specs.declared.heard.Heard.{Heard}
-use Rattle.path_agenda.specs.declared.heard.Heard.TheVariants as says
-use Rattle.path_agenda.specs.declared.keys.KeyPair.{KeyPair}
-use Rattle.path_agenda.specs.Agenda.{start_of_turn, heard_and, payload_came, rest_of_turn, emission, resets, leaves, breaks, stops}
-use Rattle.path_core.specs.OptionsIn.{items_of, options_heard}
-use Rattle.path_core.specs.Arrival.{judged_in, template_by, template_judged, heard_in, copy_heard}
-use Rattle.path_core.specs.Breaking.{answered_break, reset_on}
-use Rattle.path_core.specs.Codec.{Codec}
-use Rattle.path_core.specs.Duties.{stands, ask_for, answered}
-use Rattle.path_core.specs.Emission.{first_unsent, Grant, grant_in, answered_grant, answered_data, data_ask}
-use Rattle.path_core.specs.declared.judged.Judged.{Judged}
-use Rattle.path_core.specs.declared.judged.Judged.TheVariants as judged
-use Rattle.path_core.specs.Events.{next_event, after_line, happens_if}
-use Rattle.path_core.specs.State.{at_tick, PathState, end_at, with_agenda, goes_on, left}
-use Rattle.path_core.specs.MpJoin.{join_begun, never_joined, is_never, keys_begun, opened_by, asked_at, join_taken, is_joined}
-use Rattle.path_core.specs.Timer.{template_fired}
-use Rattle.path_store.specs.declared.lines.LineAction.{LineAction}
-use Rattle.path_store.specs.declared.lines.LineAction.TheVariants as actions
-use Rattle.join_handshake.specs.declared.hearing.JoinSyn.{JoinSyn}
-use Rattle.path_core.specs.Deliver.{piece_of, is_placed, answered_piece}
-use Rattle.path_core.specs.DataFin.{is_fin_set, answered_fin_heard, answered_plain_fin}
-use Rattle.path_store.specs.Passing.{Piece}
-use Rattle.path_core.specs.DssIn.{with_learned, is_clash, told_next, answered_mapping}
-use Rattle.path_core.specs.Standing.{answered_ack_out}
-use Rattle.path_agenda.specs.Words.{replaced}
-use Rattle.path_agenda.specs.Items.{key_heard, keys_heard}
-use Rattle.path_core.specs.Treating.{answered_item, item_of}
-use Rattle.path_core.specs.Fallback.{answered_plain_ack, breaks_by_ack, with_plain_ack, after_fell, fell_duties}
-use Rattle.path_core.specs.MpCapable.{answered_opened, answered_peer_key}
-use Rattle.path_core.specs.FastClose.{is_stopped_by}
-use Rattle.world_laws.specs.Announcing.{ends_turn}
+use Rattle.path_agenda.specs.Agenda.{breaks}
+use Rattle.path_core.specs.Emission.{Grant}
 use Rattle.world_laws.proofs.Announcements.ToBeNoted.{IsMild}
 use Rattle.world_laws.proofs.Falls.FailedChecks.{fail_answered_so}
 use Rattle.world_laws.proofs.Standby.OneDutyLooks.{MayNotLook}
@@ -64,26 +21,26 @@ use Rattle.world_laws.proofs.Standby.OneDutyLooks.{MayNotLook}
 -- the side notes to its peer what it has to, after duties that leave it able to
 abbrev pub comes : Side → List Duty → Bool
 comes s [] = false
-comes s (duties.Send (send_duties.Notice t) ∷ ds) = same_side t s || comes s ds
-comes s (duties.Step (step_duties.Look t) ∷ ds) = not (same_side t s) && comes s ds
-comes s (duties.Ask (ask_duties.Window t) ∷ ds) = comes s ds
-comes s (duties.Send (send_duties.Update t) ∷ ds) = comes s ds
-comes s (duties.Ask (ask_duties.LeaveNoted t) ∷ ds) = comes s ds
-comes s (duties.Send (send_duties.ResetNoted t) ∷ ds) = comes s ds
-comes s (duties.Ask (ask_duties.Leave t) ∷ ds) = comes s ds
-comes s (duties.Ask (ask_duties.Dead t) ∷ ds) = comes s ds
-comes s (duties.Send (send_duties.Syn t) ∷ ds) = comes s ds
-comes s (duties.Send (send_duties.FastClose t) ∷ ds) = comes s ds
-comes s (duties.Step (step_duties.Data t) ∷ ds) = comes s ds
-comes s (duties.Send (send_duties.DataFin t) ∷ ds) = comes s ds
-comes s (duties.Send (send_duties.Fin t) ∷ ds) = comes s ds
-comes s (duties.Silent (silent_duties.Timer t) ∷ ds) = comes s ds
+comes s (Duty.Send (SendDuty.Notice t) ∷ ds) = same_side t s || comes s ds
+comes s (Duty.Step (StepDuty.Look t) ∷ ds) = not (same_side t s) && comes s ds
+comes s (Duty.Ask (AskDuty.Window t) ∷ ds) = comes s ds
+comes s (Duty.Send (SendDuty.Update t) ∷ ds) = comes s ds
+comes s (Duty.Ask (AskDuty.LeaveNoted t) ∷ ds) = comes s ds
+comes s (Duty.Send (SendDuty.ResetNoted t) ∷ ds) = comes s ds
+comes s (Duty.Ask (AskDuty.Leave t) ∷ ds) = comes s ds
+comes s (Duty.Ask (AskDuty.Dead t) ∷ ds) = comes s ds
+comes s (Duty.Send (SendDuty.Syn t) ∷ ds) = comes s ds
+comes s (Duty.Send (SendDuty.FastClose t) ∷ ds) = comes s ds
+comes s (Duty.Step (StepDuty.Data t) ∷ ds) = comes s ds
+comes s (Duty.Send (SendDuty.DataFin t) ∷ ds) = comes s ds
+comes s (Duty.Send (SendDuty.Fin t) ∷ ds) = comes s ds
+comes s (Duty.Silent (SilentDuty.Timer t) ∷ ds) = comes s ds
 comes s _ = false
 
 -- so it is after each of its looks
 abbrev pub IsReady : Side → List Duty → Type 0
 IsReady s [] = Unit {0}
-IsReady s (duties.Step (step_duties.Look t) ∷ ds) = (same_side t s ≡ true → comes s ds ≡ true) × IsReady s ds
+IsReady s (Duty.Step (StepDuty.Look t) ∷ ds) = (same_side t s ≡ true → comes s ds ≡ true) × IsReady s ds
 IsReady s (d ∷ ds) = IsReady s ds
 
 pub start_ready : (s : Side) → IsReady s start_of_turn
@@ -91,7 +48,7 @@ start_ready A = (λ is. refl, (λ is. absurd (false≢true is), tt))
 start_ready B = (λ is. absurd (false≢true is), (λ is. refl, tt))
 
 pub ready_rest : (s : Side) (d : Duty) (ds : List Duty) → IsReady s (d ∷ ds) → IsReady s ds
-ready_rest s (duties.Step (step_duties.Look t)) ds h = h.1
+ready_rest s (Duty.Step (StepDuty.Look t)) ds h = h.1
 ready_rest s _ ds h = h
 
 -- ---- each duty
@@ -101,40 +58,40 @@ abbrev pub IsOther : Duty → Type 0
 IsOther d = (s : Side) (ds : List Duty) → comes s (d ∷ ds) ≡ false
 
 pub mild_or : (d : Duty) → MayNotLook d → IsMild d ⊎ IsOther d
-mild_or (duties.Ask (ask_duties.Window s)) other = inl tt
-mild_or (duties.Send (send_duties.Update s)) other = inl tt
-mild_or (duties.Ask (ask_duties.LeaveNoted s)) other = inl tt
-mild_or (duties.Send (send_duties.ResetNoted s)) other = inl tt
-mild_or (duties.Ask (ask_duties.Leave s)) other = inl tt
-mild_or (duties.Ask (ask_duties.Dead s)) other = inl tt
-mild_or (duties.Send (send_duties.Syn s)) other = inl tt
-mild_or (duties.Send (send_duties.FastClose s)) other = inl tt
-mild_or (duties.Send (send_duties.Notice s)) other = inl tt
-mild_or (duties.Step (step_duties.Data s)) other = inl tt
-mild_or (duties.Send (send_duties.DataFin s)) other = inl tt
-mild_or (duties.Send (send_duties.Fin s)) other = inl tt
-mild_or (duties.Silent (silent_duties.Timer s)) other = inl tt
-mild_or (duties.Step (step_duties.Look s)) other = absurd other
+mild_or (Duty.Ask (AskDuty.Window s)) other = inl tt
+mild_or (Duty.Send (SendDuty.Update s)) other = inl tt
+mild_or (Duty.Ask (AskDuty.LeaveNoted s)) other = inl tt
+mild_or (Duty.Send (SendDuty.ResetNoted s)) other = inl tt
+mild_or (Duty.Ask (AskDuty.Leave s)) other = inl tt
+mild_or (Duty.Ask (AskDuty.Dead s)) other = inl tt
+mild_or (Duty.Send (SendDuty.Syn s)) other = inl tt
+mild_or (Duty.Send (SendDuty.FastClose s)) other = inl tt
+mild_or (Duty.Send (SendDuty.Notice s)) other = inl tt
+mild_or (Duty.Step (StepDuty.Data s)) other = inl tt
+mild_or (Duty.Send (SendDuty.DataFin s)) other = inl tt
+mild_or (Duty.Send (SendDuty.Fin s)) other = inl tt
+mild_or (Duty.Silent (SilentDuty.Timer s)) other = inl tt
+mild_or (Duty.Step (StepDuty.Look s)) other = absurd other
 mild_or _ other = inr (λ s ds. refl)
 
 -- a duty that comes to nothing is passed; where it is the one that notes, nothing was to be noted
-pub mild_passed : (d : Duty) → IsMild d → (s : Side) (ds : List Duty) → comes s (d ∷ ds) ≡ true → (comes s ds ≡ true) ⊎ (d ≡ duties.Send (send_duties.Notice s))
-mild_passed (duties.Send (send_duties.Notice A)) mild A ds h = inr refl
-mild_passed (duties.Send (send_duties.Notice B)) mild B ds h = inr refl
-mild_passed (duties.Send (send_duties.Notice A)) mild B ds h = inl h
-mild_passed (duties.Send (send_duties.Notice B)) mild A ds h = inl h
-mild_passed (duties.Ask (ask_duties.Window t)) mild s ds h = inl h
-mild_passed (duties.Send (send_duties.Update t)) mild s ds h = inl h
-mild_passed (duties.Ask (ask_duties.LeaveNoted t)) mild s ds h = inl h
-mild_passed (duties.Send (send_duties.ResetNoted t)) mild s ds h = inl h
-mild_passed (duties.Ask (ask_duties.Leave t)) mild s ds h = inl h
-mild_passed (duties.Ask (ask_duties.Dead t)) mild s ds h = inl h
-mild_passed (duties.Send (send_duties.Syn t)) mild s ds h = inl h
-mild_passed (duties.Send (send_duties.FastClose t)) mild s ds h = inl h
-mild_passed (duties.Step (step_duties.Data t)) mild s ds h = inl h
-mild_passed (duties.Send (send_duties.DataFin t)) mild s ds h = inl h
-mild_passed (duties.Send (send_duties.Fin t)) mild s ds h = inl h
-mild_passed (duties.Silent (silent_duties.Timer t)) mild s ds h = inl h
+pub mild_passed : (d : Duty) → IsMild d → (s : Side) (ds : List Duty) → comes s (d ∷ ds) ≡ true → (comes s ds ≡ true) ⊎ (d ≡ Duty.Send (SendDuty.Notice s))
+mild_passed (Duty.Send (SendDuty.Notice A)) mild A ds h = inr refl
+mild_passed (Duty.Send (SendDuty.Notice B)) mild B ds h = inr refl
+mild_passed (Duty.Send (SendDuty.Notice A)) mild B ds h = inl h
+mild_passed (Duty.Send (SendDuty.Notice B)) mild A ds h = inl h
+mild_passed (Duty.Ask (AskDuty.Window t)) mild s ds h = inl h
+mild_passed (Duty.Send (SendDuty.Update t)) mild s ds h = inl h
+mild_passed (Duty.Ask (AskDuty.LeaveNoted t)) mild s ds h = inl h
+mild_passed (Duty.Send (SendDuty.ResetNoted t)) mild s ds h = inl h
+mild_passed (Duty.Ask (AskDuty.Leave t)) mild s ds h = inl h
+mild_passed (Duty.Ask (AskDuty.Dead t)) mild s ds h = inl h
+mild_passed (Duty.Send (SendDuty.Syn t)) mild s ds h = inl h
+mild_passed (Duty.Send (SendDuty.FastClose t)) mild s ds h = inl h
+mild_passed (Duty.Step (StepDuty.Data t)) mild s ds h = inl h
+mild_passed (Duty.Send (SendDuty.DataFin t)) mild s ds h = inl h
+mild_passed (Duty.Send (SendDuty.Fin t)) mild s ds h = inl h
+mild_passed (Duty.Silent (SilentDuty.Timer t)) mild s ds h = inl h
 mild_passed _ mild s ds h = absurd mild
 
 -- ---- templates have no look
@@ -145,18 +102,16 @@ module _ (q : Side) where
   heard_ready s from (suc count) ds h = heard_ready s (from + 1) count ds h
 
   template_ready : (joined : Bool) (s : Side) (count : ℕ) (m : Meaning) → IsReady q (template_by joined s count m)
-  template_ready true s count (means.Accepts acknowledged) = tt
-  template_ready false s count (means.Accepts acknowledged) = tt
-  template_ready joined s count (means.Taken position acknowledged) = heard_ready s 0 count (payload_came s) tt
+  template_ready true s count (Meaning.Accepts acknowledged) = tt
+  template_ready false s count (Meaning.Accepts acknowledged) = tt
+  template_ready joined s count (Meaning.Taken position acknowledged) = heard_ready s 0 count (payload_came s) tt
   template_ready joined s count _ = tt
 
   judged_ready : (joined : Bool) (s : Side) (count : ℕ) (verdict : Judged) → IsReady q (template_judged joined s count verdict)
-  judged_ready joined s count (judged.As meaning) = template_ready joined s count meaning
-  judged_ready joined s count judged.Asks = tt
-  judged_ready joined s count judged.Lacks = tt
-  judged_ready joined s count judged.Forged = tt
+  judged_ready joined s count (Judged.As meaning) = template_ready joined s count meaning
+  judged_ready joined s count _ = tt
 
-  died_ready : (dead_a dead_b : Bool) → IsReady q ((if dead_a then [] else duties.Ask (ask_duties.Leave A) ∷ []) ++ ((if dead_b then [] else duties.Ask (ask_duties.Leave B) ∷ []) ++ rest_of_turn))
+  died_ready : (dead_a dead_b : Bool) → IsReady q ((if dead_a then [] else Duty.Ask (AskDuty.Leave A) ∷ []) ++ ((if dead_b then [] else Duty.Ask (AskDuty.Leave B) ∷ []) ++ rest_of_turn))
   died_ready true true = tt
   died_ready true false = tt
   died_ready false true = tt
@@ -173,10 +128,8 @@ module _ {C : Type 0} (q : Side) where
       let h = options_heard (end_at s p) segment in let joined = is_joined p.profile in judged_ready q joined s (length (items_of joined s h)) (judged_in joined s h (end_at s p))
 
   line_ready : (action : LineAction) (p : PathState C) → IsReady q (after_line action p).agenda
-  line_ready actions.Die p = died_ready q (is_dead p.a.tcp.state) (is_dead p.b.tcp.state)
-  line_ready (actions.Prio s backup) p = tt
-  line_ready (actions.Announce s id) p = tt
-  line_ready (actions.Withdraw s id) p = tt
+  line_ready LineAction.Die p = died_ready q (is_dead p.a.tcp.state) (is_dead p.b.tcp.state)
+  line_ready _ p = tt
 
   -- a join is begun or not, with these to be done
   begun_ready : (r : Reply) (dead living : List Duty) (p : PathState C) → IsReady q dead → IsReady q living → IsReady q (join_begun r dead living p).agenda
@@ -188,10 +141,10 @@ module _ {C : Type 0} (q : Side) where
 
   event_ready : (k : Codec C) (o : Option Event) (r : Reply) (p : PathState C) → IsReady q (happens_if k o r p).agenda
   event_ready k None r p = tt
-  event_ready k (Some (happening.Joins tick)) r p = begun_ready r (leaves A) (emission A) (record (at_tick tick p) { joined_at = None }) tt tt
-  event_ready k (Some (happening.Takes line)) r p = line_ready line.action (record (at_tick line.tick p) { lines = tail_of p.lines })
-  event_ready k (Some (happening.Arrives due)) r p = copy_ready due.to (heard_in k due.to (arriving due p.link) p) (record (at_tick due.tick p) { link = after_delivery due p.link })
-  event_ready k (Some (happening.Fires s tick)) r p = fired_ready q (is_sixth (end_at s (at_tick tick p)).tcp) s
+  event_ready k (Some (Event.Joins tick)) r p = begun_ready r (leaves A) (emission A) (record (at_tick tick p) { joined_at = None }) tt tt
+  event_ready k (Some (Event.Takes line)) r p = line_ready line.action (record (at_tick line.tick p) { lines = tail_of p.lines })
+  event_ready k (Some (Event.Arrives due)) r p = copy_ready due.to (heard_in k due.to (arriving due p.link) p) (record (at_tick due.tick p) { link = after_delivery due p.link })
+  event_ready k (Some (Event.Fires s tick)) r p = fired_ready q (is_sixth (end_at s (at_tick tick p)).tcp) s
 
   break_ready : (k : Codec C) (s : Side) (reason : ℕ) (r : Reply) (p : PathState C) → IsReady q (answered_break k s reason r p).agenda
   break_ready k s reason r p = by (end_at s p).treated.asked
@@ -201,16 +154,14 @@ module _ {C : Type 0} (q : Side) where
       by false = tt
 
   -- after a fall the send book is told, and a path may be broken
-  fell_ready : (s : Side) (r : Reply) (p : PathState C) → IsReady q (left p) → IsReady q (replaced (duties.Ask (ask_duties.GoIdentity s)) p.agenda) → IsReady q (fell_duties s r p)
-  fell_ready s (replies.Control (control_replies.Verdict (verdicts.Went modes.Identity))) p left_ready told = told
-  fell_ready s (replies.Control (control_replies.Verdict (verdicts.BreakPath reason))) p left_ready told = by (end_at s p).treated.asked
-    where
-      by : (b : Bool) → IsReady q (if b then breaks s reason else resets s reason)
-      by true = tt
-      by false = tt
+  fell_ready : (s : Side) (r : Reply) (p : PathState C) → IsReady q (left p) → IsReady q (replaced (Duty.Ask (AskDuty.GoIdentity s)) p.agenda) → IsReady q (fell_duties s r p)
+  fell_ready s (Reply.Control (ControlReply.Verdict (Verdict.Went Mode.Identity))) p left_ready told = told
+  fell_ready s (Reply.Control (ControlReply.Verdict (Verdict.BreakPath reason))) p left_ready told =
+      if_so (IsReady q) (end_at s p).treated.asked (breaks s reason) (resets s reason)
+      tt tt
   fell_ready s _ p left_ready told = left_ready
 
-  module _ (k : Codec C) (s : Side) (r : Reply) (p : PathState C) (same : IsReady q p.agenda) (left_ready : IsReady q (left p)) (told : IsReady q (replaced (duties.Ask (ask_duties.GoIdentity s)) p.agenda)) where
+  module _ (k : Codec C) (s : Side) (r : Reply) (p : PathState C) (same : IsReady q p.agenda) (left_ready : IsReady q (left p)) (told : IsReady q (replaced (Duty.Ask (AskDuty.GoIdentity s)) p.agenda)) where
     data_ready : (o : Option Record) → IsReady q (answered_data k s o r p).agenda
     data_ready (Some record_unsent) = same
     data_ready None = by (grant_in r)
@@ -247,7 +198,7 @@ module _ {C : Type 0} (q : Side) where
     fin_ready true = left_ready
     fin_ready false = tt
 
-    module _ (index : ℕ) (acked_ready : IsReady q (replaced (duties.Ask (ask_duties.AckHeard s)) p.agenda)) (failed_ready : IsReady q (replaced (duties.Ask (ask_duties.FailHeard s)) p.agenda)) where
+    module _ (index : ℕ) (acked_ready : IsReady q (replaced (Duty.Ask (AskDuty.AckHeard s)) p.agenda)) (failed_ready : IsReady q (replaced (Duty.Ask (AskDuty.FailHeard s)) p.agenda)) where
       told_ready : (b : Bool) → IsReady q (told_next s b p)
       told_ready true = acked_ready
       told_ready false = left_ready
@@ -264,96 +215,92 @@ module _ {C : Type 0} (q : Side) where
       stopped_ready false = left_ready
 
       item_ready : (o : Option Heard) → IsReady q (answered_item k s o r p).agenda
-      item_ready None = left_ready
-      item_ready (Some (says.DataAck next window)) = told_ready _
-      item_ready (Some (says.Mapping fin)) = mapping_ready
-      item_ready (Some (says.DataFin place)) = fell_ready s r p left_ready told
-      item_ready (Some (says.InfiniteMapping place position)) = fell_ready s r p left_ready told
-      item_ready (Some (says.Keys own peer)) = left_ready
-      item_ready (Some (says.PeerKey key)) = left_ready
-      item_ready (Some (says.Join form)) = left_ready
-      item_ready (Some (says.Notice notice)) = left_ready
-      item_ready (Some says.Fail) = fail_answered_so (λ (x : PathState C). IsReady q x.agenda) s r p failed_ready (fell_ready s r p left_ready told)
-      item_ready (Some (says.FastClose key)) = stopped_ready (is_stopped_by r)
-      item_ready (Some says.Dss) = left_ready
+      item_ready (Some (Heard.DataAck next window)) = told_ready _
+      item_ready (Some (Heard.Mapping fin)) = mapping_ready
+      item_ready (Some (Heard.DataFin place)) = fell_ready s r p left_ready told
+      item_ready (Some (Heard.InfiniteMapping place position)) = fell_ready s r p left_ready told
+      item_ready (Some Heard.Fail) = fail_answered_so (λ (x : PathState C). IsReady q x.agenda) s r p failed_ready (fell_ready s r p left_ready told)
+      item_ready (Some (Heard.FastClose key)) = stopped_ready (is_stopped_by r)
+      item_ready (Some Heard.Dss) = left_ready
+      item_ready _ = left_ready
 
-  join_ready : (s : Side) (keys : Option KeyPair) (asked : Option JoinSyn) (r : Reply) (ds : List Duty) (p : PathState C) → IsReady q ds → IsReady q (join_taken s keys asked r (with_agenda (duties.Ask (ask_duties.JoinHeard s) ∷ ds) p)).agenda
+  join_ready : (s : Side) (keys : Option KeyPair) (asked : Option JoinSyn) (r : Reply) (ds : List Duty) (p : PathState C) → IsReady q ds → IsReady q (join_taken s keys asked r (with_agenda (Duty.Ask (AskDuty.JoinHeard s) ∷ ds) p)).agenda
   join_ready s None (Some asked) r ds p a = a
   join_ready s None None r ds p a = a
   join_ready s (Some keys) None r ds p a = a
   join_ready s (Some keys) (Some asked) r ds p a = a
 
   pub answered_ready : (k : Codec C) (d : Duty) (ds : List Duty) (r : Reply) (p : PathState C) → IsReady q (d ∷ ds) → IsReady q (answered k d r (with_agenda (d ∷ ds) p)).agenda
-  answered_ready k (duties.Step step_duties.Events) ds r p h = event_ready k (next_event p) r (with_agenda ((duties.Step step_duties.Events) ∷ ds) p)
-  answered_ready k duties.End ds r p h = tt
-  answered_ready k (duties.Ask ask_duties.JoinAgain) ds r p h = begun_ready r (duties.Ask (ask_duties.Leave A) ∷ ds) ds (with_agenda ((duties.Ask ask_duties.JoinAgain) ∷ ds) p) h h
-  answered_ready k (duties.Step (step_duties.Look s)) ds r p h = h.1
-  answered_ready k (duties.Step (step_duties.Data s)) ds r p h = data_ready k s r (with_agenda (duties.Step (step_duties.Data s) ∷ ds) p) h h h (first_unsent (end_at s p))
-  answered_ready k (duties.Silent (silent_duties.Timer s)) ds r p h = h
-  answered_ready k (duties.Ask (ask_duties.PlainHandshake s)) ds r p h = fell_ready s r (with_agenda (duties.Ask (ask_duties.PlainHandshake s) ∷ ds) p) h h
-  answered_ready k (duties.Ask (ask_duties.PeerKey s)) ds r p h = key_ready k s r (with_agenda (duties.Ask (ask_duties.PeerKey s) ∷ ds) p) h h h (key_heard (end_at s p).treated.items)
-  answered_ready k (duties.Ask (ask_duties.JoinHeard s)) ds r p h = join_ready s (keys_begun r) (asked_at s p) r ds p h
-  answered_ready k (duties.Ask (ask_duties.Opened s)) ds r p h = keys_ready k s r (with_agenda (duties.Ask (ask_duties.Opened s) ∷ ds) p) h h h (keys_heard (end_at s p).treated.items)
-  answered_ready k (duties.Step (step_duties.Heard s index)) ds r p h = item_ready k s r (with_agenda (duties.Step (step_duties.Heard s index) ∷ ds) p) h h h index h h (item_of index (end_at s p))
-  answered_ready k (duties.Ask (ask_duties.AckHeard s)) ds r p h = fell_ready s r (with_agenda (duties.Ask (ask_duties.AckHeard s) ∷ ds) p) h h
-  answered_ready k (duties.Ask (ask_duties.FailHeard s)) ds r p h = fell_ready s r (with_agenda (duties.Ask (ask_duties.FailHeard s) ∷ ds) p) h h
-  answered_ready k (duties.Step (step_duties.PlainAck s)) ds r p h = plain_ack_ready k s r (with_agenda (duties.Step (step_duties.PlainAck s) ∷ ds) p) h h h
-  answered_ready k (duties.Ask (ask_duties.PlainData s)) ds r p h = fell_ready s r (with_agenda (duties.Ask (ask_duties.PlainData s) ∷ ds) p) h h
-  answered_ready k (duties.Step (step_duties.Unmapped s)) ds r p h = break_ready k s 6 r (with_agenda (duties.Step (step_duties.Unmapped s) ∷ ds) p)
-  answered_ready k (duties.Ask (ask_duties.SubflowFin s)) ds r p h = plain_fin_ready k s r (with_agenda (duties.Ask (ask_duties.SubflowFin s) ∷ ds) p) h h h (is_fin_set r)
-  answered_ready k (duties.Ask (ask_duties.Edge s)) ds r p h = piece_ready k s r (with_agenda (duties.Ask (ask_duties.Edge s) ∷ ds) p) h h h (piece_of s p) (is_placed r)
-  answered_ready k (duties.Ask (ask_duties.CheckFailed s)) ds r p h = fell_ready s r (with_agenda (duties.Ask (ask_duties.CheckFailed s) ∷ ds) p) h h
-  answered_ready k (duties.Ask (ask_duties.HeardFin s index)) ds r p h = fin_ready k s r (with_agenda (duties.Ask (ask_duties.HeardFin s index) ∷ ds) p) h h h (is_fin_set r)
-  answered_ready k (duties.Ask (ask_duties.BreakAck s reason)) ds r p h = tt
-  answered_ready k (duties.Send (send_duties.BreakReset s reason)) ds r p h = tt
+  answered_ready k (Duty.Step StepDuty.Events) ds r p h = event_ready k (next_event p) r (with_agenda ((Duty.Step StepDuty.Events) ∷ ds) p)
+  answered_ready k Duty.End ds r p h = tt
+  answered_ready k (Duty.Ask AskDuty.JoinAgain) ds r p h = begun_ready r (Duty.Ask (AskDuty.Leave A) ∷ ds) ds (with_agenda ((Duty.Ask AskDuty.JoinAgain) ∷ ds) p) h h
+  answered_ready k (Duty.Step (StepDuty.Look s)) ds r p h = h.1
+  answered_ready k (Duty.Step (StepDuty.Data s)) ds r p h = data_ready k s r (with_agenda (Duty.Step (StepDuty.Data s) ∷ ds) p) h h h (first_unsent (end_at s p))
+  answered_ready k (Duty.Silent (SilentDuty.Timer s)) ds r p h = h
+  answered_ready k (Duty.Ask (AskDuty.PlainHandshake s)) ds r p h = fell_ready s r (with_agenda (Duty.Ask (AskDuty.PlainHandshake s) ∷ ds) p) h h
+  answered_ready k (Duty.Ask (AskDuty.PeerKey s)) ds r p h = key_ready k s r (with_agenda (Duty.Ask (AskDuty.PeerKey s) ∷ ds) p) h h h (key_heard (end_at s p).treated.items)
+  answered_ready k (Duty.Ask (AskDuty.JoinHeard s)) ds r p h = join_ready s (keys_begun r) (asked_at s p) r ds p h
+  answered_ready k (Duty.Ask (AskDuty.Opened s)) ds r p h = keys_ready k s r (with_agenda (Duty.Ask (AskDuty.Opened s) ∷ ds) p) h h h (keys_heard (end_at s p).treated.items)
+  answered_ready k (Duty.Step (StepDuty.Heard s index)) ds r p h = item_ready k s r (with_agenda (Duty.Step (StepDuty.Heard s index) ∷ ds) p) h h h index h h (item_of index (end_at s p))
+  answered_ready k (Duty.Ask (AskDuty.AckHeard s)) ds r p h = fell_ready s r (with_agenda (Duty.Ask (AskDuty.AckHeard s) ∷ ds) p) h h
+  answered_ready k (Duty.Ask (AskDuty.FailHeard s)) ds r p h = fell_ready s r (with_agenda (Duty.Ask (AskDuty.FailHeard s) ∷ ds) p) h h
+  answered_ready k (Duty.Step (StepDuty.PlainAck s)) ds r p h = plain_ack_ready k s r (with_agenda (Duty.Step (StepDuty.PlainAck s) ∷ ds) p) h h h
+  answered_ready k (Duty.Ask (AskDuty.PlainData s)) ds r p h = fell_ready s r (with_agenda (Duty.Ask (AskDuty.PlainData s) ∷ ds) p) h h
+  answered_ready k (Duty.Step (StepDuty.Unmapped s)) ds r p h = break_ready k s 6 r (with_agenda (Duty.Step (StepDuty.Unmapped s) ∷ ds) p)
+  answered_ready k (Duty.Ask (AskDuty.SubflowFin s)) ds r p h = plain_fin_ready k s r (with_agenda (Duty.Ask (AskDuty.SubflowFin s) ∷ ds) p) h h h (is_fin_set r)
+  answered_ready k (Duty.Ask (AskDuty.Edge s)) ds r p h = piece_ready k s r (with_agenda (Duty.Ask (AskDuty.Edge s) ∷ ds) p) h h h (piece_of s p) (is_placed r)
+  answered_ready k (Duty.Ask (AskDuty.CheckFailed s)) ds r p h = fell_ready s r (with_agenda (Duty.Ask (AskDuty.CheckFailed s) ∷ ds) p) h h
+  answered_ready k (Duty.Ask (AskDuty.HeardFin s index)) ds r p h = fin_ready k s r (with_agenda (Duty.Ask (AskDuty.HeardFin s index) ∷ ds) p) h h h (is_fin_set r)
+  answered_ready k (Duty.Ask (AskDuty.BreakAck s reason)) ds r p h = tt
+  answered_ready k (Duty.Send (SendDuty.BreakReset s reason)) ds r p h = tt
   answered_ready k _ ds r p h = h
 
 module _ {C : Type 0} where
   -- ---- the announcement stays ahead until it was made
 
   data_comes : (k : Codec C) (s t : Side) (first : Option Record) (ds : List Duty) (r : Reply) (p : PathState C) → comes s ds ≡ true
-      → comes s (answered_data k t first r (with_agenda (duties.Step (step_duties.Data t) ∷ ds) p)).agenda ≡ true
+      → comes s (answered_data k t first r (with_agenda (Duty.Step (StepDuty.Data t) ∷ ds) p)).agenda ≡ true
   data_comes k s t (Some record_of) ds r p h = h
   data_comes k s t None ds r p h = by (grant_in r)
     where
-      by : (grant : Option Grant) → comes s (answered_grant t grant r (with_agenda (duties.Step (step_duties.Data t) ∷ ds) p)).agenda ≡ true
+      by : (grant : Option Grant) → comes s (answered_grant t grant r (with_agenda (Duty.Step (StepDuty.Data t) ∷ ds) p)).agenda ≡ true
       by None = h
       by (Some grant) = h
 
   pub mild_comes : (k : Codec C) (d : Duty) → IsMild d → (s : Side) (ds : List Duty) (r : Reply) (p : PathState C) → comes s (d ∷ ds) ≡ true
       → comes s (answered k d r (with_agenda (d ∷ ds) p)).agenda ≡ true
-  mild_comes k (duties.Ask (ask_duties.Window t)) mild s ds r p h = h
-  mild_comes k (duties.Send (send_duties.Update t)) mild s ds r p h = h
-  mild_comes k (duties.Ask (ask_duties.LeaveNoted t)) mild s ds r p h = h
-  mild_comes k (duties.Send (send_duties.ResetNoted t)) mild s ds r p h = h
-  mild_comes k (duties.Ask (ask_duties.Leave t)) mild s ds r p h = h
-  mild_comes k (duties.Ask (ask_duties.Dead t)) mild s ds r p h = h
-  mild_comes k (duties.Send (send_duties.Syn t)) mild s ds r p h = h
-  mild_comes k (duties.Send (send_duties.FastClose t)) mild s ds r p h = h
-  mild_comes k (duties.Send (send_duties.Notice t)) mild s ds r p h = h
-  mild_comes k (duties.Step (step_duties.Data t)) mild s ds r p h = data_comes k s t (first_unsent (end_at t p)) ds r p h
-  mild_comes k (duties.Send (send_duties.DataFin t)) mild s ds r p h = h
-  mild_comes k (duties.Send (send_duties.Fin t)) mild s ds r p h = h
-  mild_comes k (duties.Silent (silent_duties.Timer t)) mild s ds r p h = h
+  mild_comes k (Duty.Ask (AskDuty.Window t)) mild s ds r p h = h
+  mild_comes k (Duty.Send (SendDuty.Update t)) mild s ds r p h = h
+  mild_comes k (Duty.Ask (AskDuty.LeaveNoted t)) mild s ds r p h = h
+  mild_comes k (Duty.Send (SendDuty.ResetNoted t)) mild s ds r p h = h
+  mild_comes k (Duty.Ask (AskDuty.Leave t)) mild s ds r p h = h
+  mild_comes k (Duty.Ask (AskDuty.Dead t)) mild s ds r p h = h
+  mild_comes k (Duty.Send (SendDuty.Syn t)) mild s ds r p h = h
+  mild_comes k (Duty.Send (SendDuty.FastClose t)) mild s ds r p h = h
+  mild_comes k (Duty.Send (SendDuty.Notice t)) mild s ds r p h = h
+  mild_comes k (Duty.Step (StepDuty.Data t)) mild s ds r p h = data_comes k s t (first_unsent (end_at t p)) ds r p h
+  mild_comes k (Duty.Send (SendDuty.DataFin t)) mild s ds r p h = h
+  mild_comes k (Duty.Send (SendDuty.Fin t)) mild s ds r p h = h
+  mild_comes k (Duty.Silent (SilentDuty.Timer t)) mild s ds r p h = h
   mild_comes k _ mild s ds r p h = absurd mild
 
   -- none of them is the turn's last step
   pub mild_goes_on : (k : Codec C) (d : Duty) → IsMild d → (p : PathState C) → stands d p ≡ true → ends_turn (ask_for k d p) ≡ false
-  mild_goes_on k (duties.Ask (ask_duties.Window t)) mild p on = refl
-  mild_goes_on k (duties.Ask (ask_duties.LeaveNoted t)) mild p on = refl
-  mild_goes_on k (duties.Ask (ask_duties.Leave t)) mild p on = refl
-  mild_goes_on k (duties.Ask (ask_duties.Dead t)) mild p on = refl
-  mild_goes_on k (duties.Step (step_duties.Data t)) mild p on = by (first_unsent (end_at t p))
+  mild_goes_on k (Duty.Ask (AskDuty.Window t)) mild p on = refl
+  mild_goes_on k (Duty.Ask (AskDuty.LeaveNoted t)) mild p on = refl
+  mild_goes_on k (Duty.Ask (AskDuty.Leave t)) mild p on = refl
+  mild_goes_on k (Duty.Ask (AskDuty.Dead t)) mild p on = refl
+  mild_goes_on k (Duty.Step (StepDuty.Data t)) mild p on = by (first_unsent (end_at t p))
     where
       by : (o : Option Record) → ends_turn (data_ask k t o p) ≡ false
       by None = refl
       by (Some r) = refl
-  mild_goes_on k (duties.Send (send_duties.Update t)) mild p on = refl
-  mild_goes_on k (duties.Send (send_duties.ResetNoted t)) mild p on = refl
-  mild_goes_on k (duties.Send (send_duties.Syn t)) mild p on = refl
-  mild_goes_on k (duties.Send (send_duties.FastClose t)) mild p on = refl
-  mild_goes_on k (duties.Send (send_duties.Notice t)) mild p on = refl
-  mild_goes_on k (duties.Send (send_duties.DataFin t)) mild p on = refl
-  mild_goes_on k (duties.Send (send_duties.Fin t)) mild p on = refl
-  mild_goes_on k (duties.Silent silent) mild p on = absurd (false≢true on)
+  mild_goes_on k (Duty.Send (SendDuty.Update t)) mild p on = refl
+  mild_goes_on k (Duty.Send (SendDuty.ResetNoted t)) mild p on = refl
+  mild_goes_on k (Duty.Send (SendDuty.Syn t)) mild p on = refl
+  mild_goes_on k (Duty.Send (SendDuty.FastClose t)) mild p on = refl
+  mild_goes_on k (Duty.Send (SendDuty.Notice t)) mild p on = refl
+  mild_goes_on k (Duty.Send (SendDuty.DataFin t)) mild p on = refl
+  mild_goes_on k (Duty.Send (SendDuty.Fin t)) mild p on = refl
+  mild_goes_on k (Duty.Silent silent) mild p on = absurd (false≢true on)
   mild_goes_on k _ mild p on = absurd mild

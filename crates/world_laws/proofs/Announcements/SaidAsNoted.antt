@@ -1,43 +1,15 @@
 -- A segment announces an address only where this stands in what its end has to note.
-use Rattle.std.proofs.Common.{◌≡◌, refl, ap, ℕ, ◌-◌, ◌==◌, ◌&&◌, ◌||◌, not, inl, inr, Bool, true, false, if◌then◌else◌, Option, Some, None, List, [], ◌∷◌}
-use Rattle.std.proofs.lemmas.Bool.{both_ways, false≢true, or_cases}
-use Rattle.std.specs.List.{list_any}
-use Rattle.std.specs.Option.{IfSome}
-use Rattle.sides.specs.declared.side.Side.{Side}
-use Rattle.sides.specs.declared.side.Side.TheVariants.{A, B}
-use Rattle.path_segments.specs.Options.{PlainOption}
-use Rattle.path_segments.specs.Spelled.{PlainSegment}
-use Rattle.subflow_send.specs.declared.record.RecordKind.{RecordKind}
-use Rattle.subflow_send.specs.declared.record.RecordKind.TheVariants.{Syn, Data, Fin}
-use Rattle.subflow_send.specs.Records.{Record}
-use Rattle.subflow_tcp.specs.Emitting.{fin_position}
-use Rattle.subflow_tcp.specs.State.{has_records}
-use Rattle.path_agenda.specs.declared.duty.Duty.{Duty}
-use Rattle.path_agenda.specs.declared.duty.Duty.TheVariants as duties
-use Rattle.path_agenda.specs.declared.duty.SendDuty.{SendDuty}
-use Rattle.path_agenda.specs.declared.duty.SendDuty.TheVariants as send_duties
-use Rattle.path_agenda.specs.declared.duty.StepDuty.{StepDuty}
-use Rattle.path_agenda.specs.declared.duty.StepDuty.TheVariants as step_duties
-use Rattle.path_agenda.specs.declared.heard.Heard.{Heard}
-use Rattle.path_agenda.specs.declared.heard.Heard.TheVariants as says
-use Rattle.path_agenda.specs.declared.notice.OwnNotice.{OwnNotice}
-use Rattle.path_agenda.specs.declared.notice.OwnNotice.TheVariants as notes
-use Rattle.path_agenda.specs.Words.{first_of}
-use Rattle.path_core.specs.Emission.{first_unsent, first_record, answer_said, ack_resent, resend_said}
-use Rattle.path_core.specs.End.{PathEnd}
-use Rattle.path_core.specs.MpJoin.{is_joined, join_options, third_options}
-use Rattle.path_store.specs.declared.infinite_mapping.InfiniteMapping.{InfiniteMapping}
-use Rattle.path_core.specs.Modes.{receives_infinite}
-use Rattle.path_core.specs.DssOut.{owes_mapping, plain_options, infinite_or, fail_options, fail_beside, is_first_piece, first_piece_options, mapped_options, piece_options, fin_options}
-use Rattle.path_core.specs.OptionsOut.{capable_options, syn_options, key_options, opening_options, ack_options, record_options, broken_options, notice_option, ack_said, syn_ack_said, noted_said, carried_said, record_or_ack, fin_said, reset_said}
-use Rattle.path_core.specs.DataFin.{is_data_fin_owed}
-use Rattle.path_core.specs.Looking.{first_sends, segment_sent, broken_by, heard_sends, unsent_sends, step_sends, send_of}
-use Rattle.path_core.specs.State.{PathState, end_at}
-use Rattle.path_core.specs.Profile.{Profile}
-use Rattle.path_core.specs.DssIn.{is_clash}
-use Rattle.path_core.specs.Treating.{item_of}
-use Rattle.path_core.specs.Fallback.{breaks_by_ack}
-use Rattle.world_laws.specs.Announcing.{announces, is_announcement}
+use Rattle.world_laws.proofs.Words.{◌≡◌, refl, ap, ℕ, ◌-◌, ◌&&◌, ◌||◌, ◌==◌, not, inl, inr, Bool, true, false, if◌then◌else◌, Option, Some, None, List, [], ◌∷◌}
+use Rattle.world_laws.proofs.Words.{or_cases, both_ways, false≢true, list_any, IfSome, Side, A, B, Record, RecordKind, Syn, Data, Fin, fin_position}
+use Rattle.world_laws.proofs.Words.{has_records, PlainOption, PlainSegment, InfiniteMapping, Duty, SendDuty, StepDuty, OwnNotice, Heard, first_of, PathEnd}
+use Rattle.world_laws.proofs.Words.{first_sends, segment_sent, broken_by, heard_sends, unsent_sends, step_sends, PathState, end_at, first_unsent, first_record}
+use Rattle.world_laws.proofs.Words.{ack_resent, resend_said, answer_said, is_joined, join_options, third_options, is_data_fin_owed, is_clash, item_of}
+use Rattle.world_laws.proofs.Words.{breaks_by_ack, receives_infinite, owes_mapping, plain_options, is_first_piece, first_piece_options, piece_options}
+use Rattle.world_laws.proofs.Words.{fin_options, fail_options, fail_beside, infinite_or, mapped_options, capable_options, syn_options, key_options}
+use Rattle.world_laws.proofs.Words.{opening_options, ack_options, record_options, ack_said, carried_said, syn_ack_said, fin_said, reset_said, record_or_ack}
+use Rattle.world_laws.proofs.Words.{broken_options, noted_said, notice_option, Profile, is_announcement}
+use Rattle.path_core.specs.Looking.{send_of}
+use Rattle.world_laws.specs.Announcing.{announces}
 use Rattle.world_laws.proofs.Announcements.ToBeNoted.{is_note, is_queued, is_noted}
 
 module _ (id : ℕ) (c : Profile) (s : Side) (e : PathEnd) where
@@ -117,9 +89,6 @@ module _ (id : ℕ) (c : Profile) (s : Side) (e : PathEnd) where
   either_says true x y g h = g
   either_says false x y g h = h
 
-  ack_says : (position : ℕ) (fin : Option ℕ) → SaysNone (ack_said c s position fin e)
-  ack_says position fin = ack_none fin
-
   record_says : (o : Option Record) → SaysNone (record_or_ack c s o e)
   record_says None = ack_none None
   record_says (Some r) = kind_none r.kind r
@@ -140,10 +109,8 @@ module _ (id : ℕ) (c : Profile) (s : Side) (e : PathEnd) where
 
   -- it announces where it is an announcement
   option_notes : (notice : OwnNotice) → announces id (notice_option notice e.modes) || false ≡ true → is_note id notice ≡ true
-  option_notes (notes.AddAddr other) is = elim (or_cases (other == id) false is) [ inl here ↦ here | inr never ↦ absurd (false≢true never) ]
-  option_notes (notes.AddEcho other address port) is = absurd (false≢true is)
-  option_notes (notes.Removes other) is = absurd (false≢true is)
-  option_notes (notes.Prio backup) is = absurd (false≢true is)
+  option_notes (OwnNotice.AddAddr other) is = elim (or_cases (other == id) false is) [ inl here ↦ here | inr never ↦ absurd (false≢true never) ]
+  option_notes _ is = absurd (false≢true is)
 
   first_notes : (queue : List OwnNotice) → is_announcement id (noted_said c s (first_of queue) e) ≡ true → is_queued id queue ≡ true
   first_notes [] is = absurd (both_ways (is_announcement id (noted_said c s None e)) (ack_none None) is)
@@ -190,7 +157,7 @@ module _ {C : Type 0} (id : ℕ) (p : PathState C) where
   broken_noted s reason = either_some _ (end_at s p).treated.asked None _ tt (reset_says id p.profile s (end_at s p) (Some reason))
 
   item_noted : (s : Side) (o : Option Heard) → IfSome (heard_sends s o p) (λ t. is_announcement id (segment_sent p t) ≡ true → is_noted id (end_at t.from p) ≡ true)
-  item_noted s (Some (says.Mapping fin)) = either_some _ (is_clash (end_at s p)) (broken_by s 1 p) None (broken_noted s 1) tt
+  item_noted s (Some (Heard.Mapping fin)) = either_some _ (is_clash (end_at s p)) (broken_by s 1 p) None (broken_noted s 1) tt
   item_noted s _ = tt
 
   unsent_noted : (s : Side) (o : Option Record) → IfSome (unsent_sends s o) (λ t. is_announcement id (segment_sent p t) ≡ true → is_noted id (end_at t.from p) ≡ true)
@@ -198,35 +165,35 @@ module _ {C : Type 0} (id : ℕ) (p : PathState C) where
   unsent_noted s (Some r) = unsent_says id p.profile s (end_at s p) (first_unsent (end_at s p))
 
   step_noted : (d : StepDuty) → IfSome (step_sends d p) (λ t. is_announcement id (segment_sent p t) ≡ true → is_noted id (end_at t.from p) ≡ true)
-  step_noted (step_duties.Data s) = unsent_noted s (first_unsent (end_at s p))
-  step_noted (step_duties.Heard s index) = item_noted s (item_of index (end_at s p))
-  step_noted (step_duties.PlainAck s) = either_some _ (breaks_by_ack p.profile (end_at s p)) (broken_by s 6 p) None (broken_noted s 6) tt
-  step_noted (step_duties.Unmapped s) = broken_noted s 6
+  step_noted (StepDuty.Data s) = unsent_noted s (first_unsent (end_at s p))
+  step_noted (StepDuty.Heard s index) = item_noted s (item_of index (end_at s p))
+  step_noted (StepDuty.PlainAck s) = either_some _ (breaks_by_ack p.profile (end_at s p)) (broken_by s 6 p) None (broken_noted s 6) tt
+  step_noted (StepDuty.Unmapped s) = broken_noted s 6
   step_noted _ = tt
 
   send_noted : (d : SendDuty) → IfSome (send_of d) (λ t. is_announcement id (segment_sent p t) ≡ true → is_noted id (end_at t.from p) ≡ true)
-  send_noted (send_duties.Update s) = plain_says id p.profile s (end_at s p)
-  send_noted (send_duties.Acknowledge s) = plain_says id p.profile s (end_at s p)
-  send_noted (send_duties.Syn s) = unsent_says id p.profile s (end_at s p) (first_unsent (end_at s p))
-  send_noted (send_duties.FastClose s) = fast_close_says id p.profile s (end_at s p)
-  send_noted (send_duties.Notice s) = first_notes id p.profile s (end_at s p) (end_at s p).notices.queue
-  send_noted (send_duties.DataFin s) = data_fin_says id p.profile s (end_at s p)
-  send_noted (send_duties.Fin s) = fin_says id p.profile s (end_at s p)
-  send_noted (send_duties.SynAck s) = syn_ack_says id p.profile s (end_at s p)
-  send_noted (send_duties.Refuse s) = λ is. absurd (false≢true is)
-  send_noted (send_duties.Again s) = unsent_says id p.profile s (end_at s p) (first_record (end_at s p))
-  send_noted (send_duties.Answer s) = answer_says id p.profile s (end_at s p)
-  send_noted (send_duties.ResetAnswer s) = λ is. absurd (false≢true is)
-  send_noted (send_duties.Resend s) = resend_says id p.profile s (end_at s p)
-  send_noted (send_duties.BreakReset s reason) = reset_says id p.profile s (end_at s p) (Some reason)
-  send_noted (send_duties.Reset s) = reset_says id p.profile s (end_at s p) None
-  send_noted (send_duties.ResetNoted s) = reset_says id p.profile s (end_at s p) None
+  send_noted (SendDuty.Update s) = plain_says id p.profile s (end_at s p)
+  send_noted (SendDuty.Acknowledge s) = plain_says id p.profile s (end_at s p)
+  send_noted (SendDuty.Syn s) = unsent_says id p.profile s (end_at s p) (first_unsent (end_at s p))
+  send_noted (SendDuty.FastClose s) = fast_close_says id p.profile s (end_at s p)
+  send_noted (SendDuty.Notice s) = first_notes id p.profile s (end_at s p) (end_at s p).notices.queue
+  send_noted (SendDuty.DataFin s) = data_fin_says id p.profile s (end_at s p)
+  send_noted (SendDuty.Fin s) = fin_says id p.profile s (end_at s p)
+  send_noted (SendDuty.SynAck s) = syn_ack_says id p.profile s (end_at s p)
+  send_noted (SendDuty.Refuse s) = λ is. absurd (false≢true is)
+  send_noted (SendDuty.Again s) = unsent_says id p.profile s (end_at s p) (first_record (end_at s p))
+  send_noted (SendDuty.Answer s) = answer_says id p.profile s (end_at s p)
+  send_noted (SendDuty.ResetAnswer s) = λ is. absurd (false≢true is)
+  send_noted (SendDuty.Resend s) = resend_says id p.profile s (end_at s p)
+  send_noted (SendDuty.BreakReset s reason) = reset_says id p.profile s (end_at s p) (Some reason)
+  send_noted (SendDuty.Reset s) = reset_says id p.profile s (end_at s p) None
+  send_noted (SendDuty.ResetNoted s) = reset_says id p.profile s (end_at s p) None
 
   -- where the first duty sends an announcement, it stands in what the end has to note
   pub first_noted : (ds : List Duty) → IfSome (first_sends ds p) (λ t. is_announcement id (segment_sent p t) ≡ true → is_noted id (end_at t.from p) ≡ true)
   first_noted [] = tt
-  first_noted (duties.Send d ∷ ds) = send_noted d
-  first_noted (duties.Step d ∷ ds) = step_noted d
-  first_noted (duties.Ask d ∷ ds) = tt
-  first_noted (duties.Silent d ∷ ds) = tt
-  first_noted (duties.End ∷ ds) = tt
+  first_noted (Duty.Send d ∷ ds) = send_noted d
+  first_noted (Duty.Step d ∷ ds) = step_noted d
+  first_noted (Duty.Ask d ∷ ds) = tt
+  first_noted (Duty.Silent d ∷ ds) = tt
+  first_noted (Duty.End ∷ ds) = tt

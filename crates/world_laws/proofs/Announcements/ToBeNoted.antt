@@ -1,66 +1,26 @@
 -- An announcement comes into what an end has to note by a look alone, and the end may note it until it goes out.
-use Rattle.std.proofs.Common.{inl, inr, ◌⊎◌, subst, ◌==◌, ◌++◌, ◌&&◌, ◌||◌, not, ◌≡◌, refl, sym, ◌∙◌, ap, ℕ, Bool, true, false, if◌then◌else◌, Option, Some, None, List, [], ◌∷◌}
+use Rattle.world_laws.proofs.Words.{◌≡◌, refl, sym, ◌∙◌, ap, subst, ℕ, ◌&&◌, ◌||◌, ◌==◌, not, inl, inr, ◌⊎◌, Bool, true, false, if◌then◌else◌, Option, Some}
+use Rattle.world_laws.proofs.Words.{None, List, [], ◌∷◌, ◌++◌, or_cases, both_ways, false≢true, list_any, Side, A, B, KeptMapping, Record, is_dead, EndPhase}
+use Rattle.world_laws.proofs.Words.{arriving, after_delivery, HeardSegment, LineAction, emission, leaves, Duty, SendDuty, StepDuty, OwnNotice, AskDuty}
+use Rattle.world_laws.proofs.Words.{SilentDuty, Heard, KeyPair, replaced, PeerNotice, Reply, tail_of, Codec, passed, answered, PathEnd, died, is_connected}
+use Rattle.world_laws.proofs.Words.{may_note, at_tick, PathState, end_at, goes_on, left, options_heard, after_judged, judged_in, heard_in, copy_heard, told_at}
+use Rattle.world_laws.proofs.Words.{answered_break, answered_data, answered_grant, first_unsent, grant_in, next_event, after_line, happens_if, join_begun}
+use Rattle.world_laws.proofs.Words.{never_joined, is_never, keys_begun, opened_by, is_joined, is_wrong, mapping_here, forgotten_by, having_sent_fin, is_clash}
+use Rattle.world_laws.proofs.Words.{counts, answered_heard, answered_item, item_of, item_passed, heard_passed, breaks_by_ack, with_priority, having_noted}
+use Rattle.world_laws.proofs.Words.{after_peer_notice, is_kept, Writes, OnlyAt, EndView, writes, side_of}
 use Rattle.std.proofs.Math.Bool.{or-true}
-use Rattle.std.proofs.lemmas.Bool.{both_ways, false≢true, or_cases}
-use Rattle.std.specs.List.{list_any}
-use Rattle.path_segments.specs.Heard.{HeardSegment}
-use Rattle.sides.specs.declared.side.Side.{Side}
-use Rattle.sides.specs.declared.side.Side.TheVariants.{A, B}
-use Rattle.dss_mapping.specs.declared.kept.KeptMapping.{KeptMapping}
-use Rattle.link_model.specs.Steps.{arriving, after_delivery}
-use Rattle.subflow_send.specs.Records.{Record}
-use Rattle.subflow_tcp.specs.States.{is_dead, after_finish}
-use Rattle.subflow_tcp.specs.declared.handshake.State.{State as EndPhase}
-use Rattle.subflow_tcp.specs.declared.handshake.State.TheVariants as phase
-use Rattle.actor_desk.specs.declared.ask.Reply.{Reply}
-use Rattle.actor_desk.specs.Words.{tail_of}
-use Rattle.path_agenda.specs.Agenda.{leaves, emission}
-use Rattle.path_agenda.specs.Words.{replaced}
-use Rattle.path_agenda.specs.declared.duty.Duty.{Duty}
-use Rattle.path_agenda.specs.declared.duty.Duty.TheVariants as duties
-use Rattle.path_agenda.specs.declared.duty.AskDuty.TheVariants as ask_duties
-use Rattle.path_agenda.specs.declared.duty.SendDuty.TheVariants as send_duties
-use Rattle.path_agenda.specs.declared.duty.SilentDuty.TheVariants as silent_duties
-use Rattle.path_agenda.specs.declared.duty.StepDuty.TheVariants as step_duties
-use Rattle.path_agenda.specs.declared.heard.Heard.{Heard}
-use Rattle.path_agenda.specs.declared.heard.Heard.TheVariants as says
-use Rattle.path_agenda.specs.declared.keys.KeyPair.{KeyPair}
-use Rattle.path_agenda.specs.declared.notice.OwnNotice.{OwnNotice}
-use Rattle.path_agenda.specs.declared.notice.OwnNotice.TheVariants as notes
-use Rattle.path_agenda.specs.declared.notice.PeerNotice.{PeerNotice}
-use Rattle.path_agenda.specs.declared.notice.PeerNotice.TheVariants as peer_notes
-use Rattle.path_core.specs.Addresses.{is_kept, after_peer_notice, having_noted, with_priority}
-use Rattle.path_core.specs.Standing.{may_note, is_connected}
-use Rattle.path_core.specs.Arrival.{judged_in, after_judged, copy_heard, heard_in, told_at}
-use Rattle.path_core.specs.OptionsIn.{options_heard}
-use Rattle.path_core.specs.Breaking.{answered_break}
-use Rattle.path_core.specs.Codec.{Codec}
+use Rattle.subflow_tcp.specs.States.{after_finish}
 use Rattle.path_core.specs.declared.events.Event.{Event}
-use Rattle.path_core.specs.declared.events.Event.TheVariants as happenings
-use Rattle.path_core.specs.Duties.{stands, passed, answered}
-use Rattle.path_core.specs.DataFin.{having_sent_fin}
-use Rattle.path_core.specs.Emission.{Grant, grant_in, answered_grant, answered_data, first_unsent}
-use Rattle.path_core.specs.End.{PathEnd, died}
-use Rattle.path_core.specs.Events.{next_event, after_line, happens_if}
-use Rattle.path_core.specs.State.{at_tick, PathState, end_at, goes_on, left, with_agenda}
-use Rattle.path_core.specs.MpJoin.{join_begun, never_joined, keys_begun, is_never, opened_by, is_joined}
-use Rattle.path_store.specs.declared.lines.LineAction.{LineAction}
-use Rattle.path_store.specs.declared.lines.LineAction.TheVariants as actions
-use Rattle.path_core.specs.Deliver.{is_wrong, forgotten_by, mapping_here}
-use Rattle.path_core.specs.Steps.{settled}
-use Rattle.path_core.specs.DssIn.{counts, is_clash}
-use Rattle.path_core.specs.Treating.{heard_passed, item_passed, answered_heard, answered_item, item_of}
-use Rattle.path_core.specs.Fallback.{breaks_by_ack}
+use Rattle.path_core.specs.Emission.{Grant}
 use Rattle.world_laws.proofs.Falls.FailedChecks.{infinite_came_so, fail_answered_so}
 use Rattle.world_laws.proofs.Standby.OneDutyLooks.{MayNotLook}
-use Rattle.world_laws.specs.Writes.{EndView, Writes, OnlyAt, writes, side_of}
 use Rattle.world_laws.proofs.Writes.Paths.{writes_no_more}
 use Rattle.world_laws.proofs.Writes.Steps.{both_ends, unwritten}
 
 -- ---- an end
 
 abbrev pub is_note : ℕ → OwnNotice → Bool
-is_note id (notes.AddAddr other) = other == id
+is_note id (OwnNotice.AddAddr other) = other == id
 is_note id _ = false
 
 abbrev pub is_queued : ℕ → List OwnNotice → Bool
@@ -92,9 +52,9 @@ begun_end None e = λ id h. h
 begun_end (Some keys) e = λ id h. h
 
 item_end : (s : Side) (item : Heard) (e : PathEnd) → EndSheds e (heard_passed s item e)
-item_end s says.Dss e = λ id h. h
-item_end s (says.Mapping fin) e = either_end (counts e) e _ _ (λ id h. h) (λ id h. h)
-item_end s (says.DataFin place) e = either_end (counts e) e _ _ (λ id h. h) (λ id h. h)
+item_end s Heard.Dss e = λ id h. h
+item_end s (Heard.Mapping fin) e = either_end (counts e) e _ _ (λ id h. h) (λ id h. h)
+item_end s (Heard.DataFin place) e = either_end (counts e) e _ _ (λ id h. h) (λ id h. h)
 item_end s _ e = λ id h. h
 
 maybe_end : (s : Side) (o : Option Heard) (e : PathEnd) → EndSheds e (item_passed s o e)
@@ -112,19 +72,19 @@ no_new id queue notice other is = elim (pushed id queue notice is) [ inl old ↦
 priority_end : (backup : Bool) (e : PathEnd) → EndSheds e (with_priority backup e)
 priority_end backup e id = by (is_dead e.tcp.state)
   where
-    by : (b : Bool) → is_queued id (if b then e.notices.queue else e.notices.queue ++ notes.Prio backup ∷ []) ≡ true → is_noted id e ≡ true
+    by : (b : Bool) → is_queued id (if b then e.notices.queue else e.notices.queue ++ OwnNotice.Prio backup ∷ []) ≡ true → is_noted id e ≡ true
     by true h = h
-    by false h = no_new id e.notices.queue (notes.Prio backup) refl h
+    by false h = no_new id e.notices.queue (OwnNotice.Prio backup) refl h
 
 echo_end : (notice : PeerNotice) (r : Reply) (e : PathEnd) → EndSheds e (after_peer_notice notice r e)
-echo_end (peer_notes.AddAddr other address port hmac) r e id = by (is_kept r)
+echo_end (PeerNotice.AddAddr other address port hmac) r e id = by (is_kept r)
   where
-    by : (b : Bool) → is_queued id (if b then e.notices.queue ++ notes.AddEcho other address port ∷ [] else e.notices.queue) ≡ true → is_noted id e ≡ true
-    by true h = no_new id e.notices.queue (notes.AddEcho other address port) refl h
+    by : (b : Bool) → is_queued id (if b then e.notices.queue ++ OwnNotice.AddEcho other address port ∷ [] else e.notices.queue) ≡ true → is_noted id e ≡ true
+    by true h = no_new id e.notices.queue (OwnNotice.AddEcho other address port) refl h
     by false h = h
-echo_end (peer_notes.AddEcho other) r e id = λ h. h
-echo_end (peer_notes.Removed other) r e id = λ h. h
-echo_end (peer_notes.Prio backup) r e id = λ h. h
+echo_end (PeerNotice.AddEcho other) r e id = λ h. h
+echo_end (PeerNotice.Removed other) r e id = λ h. h
+echo_end (PeerNotice.Prio backup) r e id = λ h. h
 
 -- the first of them goes
 noted_end : (queue : List OwnNotice) (id : ℕ) → is_queued id (tail_of queue) ≡ true → is_queued id queue ≡ true
@@ -133,19 +93,19 @@ noted_end (first ∷ queue) id h = ap (λ b. is_note id first || b) h ∙ or-tru
 
 -- what stands between a look and the announcement in a turn, and leaves the end able to note
 abbrev pub IsMild : Duty → Type 0
-IsMild (duties.Ask (ask_duties.Window s)) = Unit {0}
-IsMild (duties.Send (send_duties.Update s)) = Unit {0}
-IsMild (duties.Ask (ask_duties.LeaveNoted s)) = Unit {0}
-IsMild (duties.Send (send_duties.ResetNoted s)) = Unit {0}
-IsMild (duties.Ask (ask_duties.Leave s)) = Unit {0}
-IsMild (duties.Ask (ask_duties.Dead s)) = Unit {0}
-IsMild (duties.Send (send_duties.Syn s)) = Unit {0}
-IsMild (duties.Send (send_duties.FastClose s)) = Unit {0}
-IsMild (duties.Send (send_duties.Notice s)) = Unit {0}
-IsMild (duties.Step (step_duties.Data s)) = Unit {0}
-IsMild (duties.Send (send_duties.DataFin s)) = Unit {0}
-IsMild (duties.Send (send_duties.Fin s)) = Unit {0}
-IsMild (duties.Silent (silent_duties.Timer s)) = Unit {0}
+IsMild (Duty.Ask (AskDuty.Window s)) = Unit {0}
+IsMild (Duty.Send (SendDuty.Update s)) = Unit {0}
+IsMild (Duty.Ask (AskDuty.LeaveNoted s)) = Unit {0}
+IsMild (Duty.Send (SendDuty.ResetNoted s)) = Unit {0}
+IsMild (Duty.Ask (AskDuty.Leave s)) = Unit {0}
+IsMild (Duty.Ask (AskDuty.Dead s)) = Unit {0}
+IsMild (Duty.Send (SendDuty.Syn s)) = Unit {0}
+IsMild (Duty.Send (SendDuty.FastClose s)) = Unit {0}
+IsMild (Duty.Send (SendDuty.Notice s)) = Unit {0}
+IsMild (Duty.Step (StepDuty.Data s)) = Unit {0}
+IsMild (Duty.Send (SendDuty.DataFin s)) = Unit {0}
+IsMild (Duty.Send (SendDuty.Fin s)) = Unit {0}
+IsMild (Duty.Silent (SilentDuty.Timer s)) = Unit {0}
 IsMild _ = ⊥
 
 -- as long as an announcement is left, the end may still note it
@@ -154,13 +114,13 @@ EndHolds e f = (id : ℕ) → is_noted id f ≡ true → may_note e ≡ true →
 
 -- the own FIN leaves it connected
 finish_may : (state : EndPhase) (b : Bool) → is_connected state && b ≡ true → is_connected (after_finish state) && b ≡ true
-finish_may phase.Established b may = may
-finish_may phase.CloseWait b may = may
-finish_may phase.FinWait1 b may = may
-finish_may phase.FinWait2 b may = may
-finish_may phase.Closing b may = may
-finish_may phase.LastAck b may = may
-finish_may phase.TimeWait b may = may
+finish_may EndPhase.Established b may = may
+finish_may EndPhase.CloseWait b may = may
+finish_may EndPhase.FinWait1 b may = may
+finish_may EndPhase.FinWait2 b may = may
+finish_may EndPhase.Closing b may = may
+finish_may EndPhase.LastAck b may = may
+finish_may EndPhase.TimeWait b may = may
 finish_may _ b may = absurd (false≢true may)
 
 -- ---- a path
@@ -186,20 +146,14 @@ module _ {C : Type 0} where
   side_sheds B e p q same_a same_b x = record { a = λ id h. subst (λ (f : PathEnd). is_noted id f ≡ true) same_a h; b = λ id h. x id (subst (λ (f : PathEnd). is_noted id f ≡ true) same_b h) }
 
   pub passed_sheds : (d : Duty) (p : PathState C) → Sheds p (passed d p)
-  passed_sheds (duties.Silent (silent_duties.Timer s)) p = side_sheds s _ p _ refl refl (λ id h. h)
-  passed_sheds (duties.Step (step_duties.Heard s index)) p = side_sheds s _ p _ refl refl (maybe_end s (item_of index (end_at s p)) (end_at s p))
-  passed_sheds (duties.Silent (silent_duties.Keep s)) p = side_sheds s _ p _ refl refl (λ id h. h)
-  passed_sheds (duties.Ask (ask_duties.CheckFailed s)) p = side_sheds s _ p _ refl refl (checked_end p.profile.spelling.checksums (mapping_here (end_at s p)) (end_at s p))
-  passed_sheds (duties.Step (step_duties.PlainAck s)) p = side_sheds s _ p _ refl refl (λ id h. h)
-  passed_sheds (duties.Step (step_duties.Unmapped s)) p = side_sheds s _ p _ refl refl (λ id h. h)
-  passed_sheds (duties.Silent (silent_duties.PassFin s)) p = side_sheds s _ p _ refl refl (λ id h. h)
+  passed_sheds (Duty.Silent (SilentDuty.Timer s)) p = side_sheds s _ p _ refl refl (λ id h. h)
+  passed_sheds (Duty.Step (StepDuty.Heard s index)) p = side_sheds s _ p _ refl refl (maybe_end s (item_of index (end_at s p)) (end_at s p))
+  passed_sheds (Duty.Silent (SilentDuty.Keep s)) p = side_sheds s _ p _ refl refl (λ id h. h)
+  passed_sheds (Duty.Ask (AskDuty.CheckFailed s)) p = side_sheds s _ p _ refl refl (checked_end p.profile.spelling.checksums (mapping_here (end_at s p)) (end_at s p))
+  passed_sheds (Duty.Step (StepDuty.PlainAck s)) p = side_sheds s _ p _ refl refl (λ id h. h)
+  passed_sheds (Duty.Step (StepDuty.Unmapped s)) p = side_sheds s _ p _ refl refl (λ id h. h)
+  passed_sheds (Duty.Silent (SilentDuty.PassFin s)) p = side_sheds s _ p _ refl refl (λ id h. h)
   passed_sheds _ p = stays_sheds p
-
-  settled_sheds : (ds : List Duty) (p : PathState C) → Sheds p (settled ds p)
-  settled_sheds [] p = record { a = λ id h. h; b = λ id h. h }
-  settled_sheds (d ∷ ds) p =
-      either_sheds (stands d p) (with_agenda (d ∷ ds) p) (settled ds (passed d p)) p (record { a = λ id h. h; b = λ id h. h })
-      (then_sheds p (passed d p) (settled ds (passed d p)) (passed_sheds d p) (settled_sheds ds (passed d p)))
 
   -- ---- what happens by itself
 
@@ -209,13 +163,13 @@ module _ {C : Type 0} where
       (record { a = λ id h. absurd (false≢true h); b = λ id h. h }) (record { a = begun_end (keys_begun r) p.a; b = λ id h. h })
 
   line_sheds : (action : LineAction) (p : PathState C) → Sheds p (after_line action p)
-  line_sheds actions.Die p = record {
+  line_sheds LineAction.Die p = record {
     a = either_end (is_dead p.a.tcp.state) p.a p.a (died p.a) (λ id h. h) (λ id h. absurd (false≢true h));
     b = either_end (is_dead p.b.tcp.state) p.b p.b (died p.b) (λ id h. h) (λ id h. absurd (false≢true h));
   }
-  line_sheds (actions.Prio s backup) p = side_sheds s (with_priority backup (end_at s p)) p _ refl refl (priority_end backup (end_at s p))
-  line_sheds (actions.Announce s id) p = record { a = λ id h. h; b = λ id h. h }
-  line_sheds (actions.Withdraw s id) p = record { a = λ id h. h; b = λ id h. h }
+  line_sheds (LineAction.Prio s backup) p = side_sheds s (with_priority backup (end_at s p)) p _ refl refl (priority_end backup (end_at s p))
+  line_sheds (LineAction.Announce s id) p = record { a = λ id h. h; b = λ id h. h }
+  line_sheds (LineAction.Withdraw s id) p = record { a = λ id h. h; b = λ id h. h }
 
   told_sheds_at : (now : ℕ) (s : Side) (x : HeardSegment) (p : PathState C) → Sheds p (told_at now s x p)
   told_sheds_at now s x p = side_sheds s (after_judged p.profile s now x (judged_in (is_joined p.profile) s x (end_at s p)) (end_at s p)) p (told_at now s x p) refl refl (λ id h. h)
@@ -226,16 +180,16 @@ module _ {C : Type 0} where
 
   happens_sheds : (k : Codec C) (event : Option Event) (r : Reply) (p : PathState C) → Sheds p (happens_if k event r p)
   happens_sheds k None r p = record { a = λ id h. h; b = λ id h. h }
-  happens_sheds k (Some (happenings.Joins tick)) r p =
+  happens_sheds k (Some (Event.Joins tick)) r p =
       let q : PathState C = record (at_tick tick p) { joined_at = None } in
       then_sheds p q _ (record { a = λ id h. h; b = λ id h. h }) (begun_sheds r (leaves A) (emission A) q)
-  happens_sheds k (Some (happenings.Takes line)) r p =
+  happens_sheds k (Some (Event.Takes line)) r p =
       let q : PathState C = record (at_tick line.tick p) { lines = tail_of p.lines } in
       then_sheds p q _ (record { a = λ id h. h; b = λ id h. h }) (line_sheds line.action q)
-  happens_sheds k (Some (happenings.Arrives due)) r p =
+  happens_sheds k (Some (Event.Arrives due)) r p =
       let q : PathState C = record (at_tick due.tick p) { link = after_delivery due p.link } in
       then_sheds p q _ (record { a = λ id h. h; b = λ id h. h }) (copy_sheds due.to (heard_in k due.to (arriving due p.link) p) q)
-  happens_sheds k (Some (happenings.Fires s tick)) r p = side_sheds s _ p _ refl refl (λ id h. h)
+  happens_sheds k (Some (Event.Fires s tick)) r p = side_sheds s _ p _ refl refl (λ id h. h)
 
   -- ---- replies
 
@@ -243,16 +197,16 @@ module _ {C : Type 0} where
   break_sheds k s reason r p = either_sheds (end_at s p).treated.asked _ _ p (side_sheds s _ p _ refl refl (λ id h. h)) (side_sheds s _ p _ refl refl (λ id h. absurd (false≢true h)))
 
   heard_item_sheds : (k : Codec C) (s : Side) (item : Heard) (r : Reply) (p : PathState C) → Sheds p (answered_heard k s item r p)
-  heard_item_sheds k s (says.DataAck next window) r p = side_sheds s _ p _ refl refl (λ id h. h)
-  heard_item_sheds k s (says.Mapping fin) r p =
+  heard_item_sheds k s (Heard.DataAck next window) r p = side_sheds s _ p _ refl refl (λ id h. h)
+  heard_item_sheds k s (Heard.Mapping fin) r p =
       either_sheds (is_clash (end_at s p)) _ _ p (break_sheds k s 1 r p) (side_sheds s _ p _ refl refl (λ id h. h))
-  heard_item_sheds k s (says.DataFin place) r p = side_sheds s _ p _ refl refl (λ id h. h)
-  heard_item_sheds k s (says.InfiniteMapping place position) r p =
+  heard_item_sheds k s (Heard.DataFin place) r p = side_sheds s _ p _ refl refl (λ id h. h)
+  heard_item_sheds k s (Heard.InfiniteMapping place position) r p =
       side_sheds s _ p _ refl refl (infinite_came_so (EndSheds (end_at s p)) place position r (end_at s p) (λ other id h. h))
-  heard_item_sheds k s (says.Keys own peer) r p =
+  heard_item_sheds k s (Heard.Keys own peer) r p =
       side_sheds s _ p _ refl refl (λ id h. h)
-  heard_item_sheds k s (says.Notice notice) r p = side_sheds s (after_peer_notice notice r (end_at s p)) p _ refl refl (echo_end notice r (end_at s p))
-  heard_item_sheds k s says.Fail r p =
+  heard_item_sheds k s (Heard.Notice notice) r p = side_sheds s (after_peer_notice notice r (end_at s p)) p _ refl refl (echo_end notice r (end_at s p))
+  heard_item_sheds k s Heard.Fail r p =
       fail_answered_so (Sheds p) s r p (side_sheds s _ p _ refl refl (λ id h. h)) (side_sheds s _ p _ refl refl (λ id h. h))
   heard_item_sheds k s _ r p = record { a = λ id h. h; b = λ id h. h }
 
@@ -270,19 +224,19 @@ module _ {C : Type 0} where
 
   -- but for a Look
   pub answered_sheds : (k : Codec C) (d : Duty) → MayNotLook d → (r : Reply) (p : PathState C) → Sheds p (answered k d r p)
-  answered_sheds k (duties.Ask ask_duties.JoinAgain) other r p = begun_sheds r (replaced (duties.Ask (ask_duties.Leave A)) p.agenda) (left p) p
-  answered_sheds k (duties.Step (step_duties.Look s)) other r p = absurd other
-  answered_sheds k (duties.Send (send_duties.Notice s)) other r p = side_sheds s (having_noted s p) p _ refl refl (noted_end (end_at s p).notices.queue)
-  answered_sheds k (duties.Step step_duties.Events) other r p = happens_sheds k (next_event p) r p
-  answered_sheds k (duties.Step (step_duties.Heard s index)) other r p = item_sheds k s (item_of index (end_at s p)) r p
-  answered_sheds k (duties.Step (step_duties.PlainAck s)) other r p =
+  answered_sheds k (Duty.Ask AskDuty.JoinAgain) other r p = begun_sheds r (replaced (Duty.Ask (AskDuty.Leave A)) p.agenda) (left p) p
+  answered_sheds k (Duty.Step (StepDuty.Look s)) other r p = absurd other
+  answered_sheds k (Duty.Send (SendDuty.Notice s)) other r p = side_sheds s (having_noted s p) p _ refl refl (noted_end (end_at s p).notices.queue)
+  answered_sheds k (Duty.Step StepDuty.Events) other r p = happens_sheds k (next_event p) r p
+  answered_sheds k (Duty.Step (StepDuty.Heard s index)) other r p = item_sheds k s (item_of index (end_at s p)) r p
+  answered_sheds k (Duty.Step (StepDuty.PlainAck s)) other r p =
       either_sheds (breaks_by_ack p.profile (end_at s p)) _ _ p (break_sheds k s 6 r p) (side_sheds s _ p _ refl refl (λ id h. h))
-  answered_sheds k (duties.Step (step_duties.Unmapped s)) other r p = break_sheds k s 6 r p
-  answered_sheds k (duties.Send (send_duties.BreakReset s reason)) other r p = side_sheds s _ p _ refl refl (λ id h. absurd (false≢true h))
-  answered_sheds k (duties.Send (send_duties.Reset s)) other r p = side_sheds s _ p _ refl refl (λ id h. absurd (false≢true h))
-  answered_sheds k (duties.Send (send_duties.ResetNoted s)) other r p = side_sheds s _ p _ refl refl (λ id h. absurd (false≢true h))
-  answered_sheds k (duties.Ask (ask_duties.LeaveNoted s)) other r p = side_sheds s _ p _ refl refl (λ id h. absurd (false≢true h))
-  answered_sheds k (duties.Silent d) other r p = record { a = λ id h. h; b = λ id h. h }
+  answered_sheds k (Duty.Step (StepDuty.Unmapped s)) other r p = break_sheds k s 6 r p
+  answered_sheds k (Duty.Send (SendDuty.BreakReset s reason)) other r p = side_sheds s _ p _ refl refl (λ id h. absurd (false≢true h))
+  answered_sheds k (Duty.Send (SendDuty.Reset s)) other r p = side_sheds s _ p _ refl refl (λ id h. absurd (false≢true h))
+  answered_sheds k (Duty.Send (SendDuty.ResetNoted s)) other r p = side_sheds s _ p _ refl refl (λ id h. absurd (false≢true h))
+  answered_sheds k (Duty.Ask (AskDuty.LeaveNoted s)) other r p = side_sheds s _ p _ refl refl (λ id h. absurd (false≢true h))
+  answered_sheds k (Duty.Silent d) other r p = record { a = λ id h. h; b = λ id h. h }
   answered_sheds k d other r p = kept_by (side_of d) (writes d) p _ refl refl (writes_no_more k d r p)
 
   -- ---- what comes before the announcement in a turn
@@ -305,30 +259,30 @@ module _ {C : Type 0} where
       by (Some grant) = side_holds s _ p _ refl refl (λ id h may. may)
 
   pub mild_holds : (k : Codec C) (d : Duty) → IsMild d → (r : Reply) (p : PathState C) → Holds p (answered k d r p)
-  mild_holds k (duties.Ask (ask_duties.Window s)) mild r p = side_holds s _ p _ refl refl (λ id h may. may)
-  mild_holds k (duties.Send (send_duties.Update s)) mild r p = side_holds s _ p _ refl refl (λ id h may. may)
-  mild_holds k (duties.Ask (ask_duties.LeaveNoted s)) mild r p = side_holds s _ p _ refl refl (λ id h may. absurd (false≢true h))
-  mild_holds k (duties.Send (send_duties.ResetNoted s)) mild r p = side_holds s _ p _ refl refl (λ id h may. absurd (false≢true h))
-  mild_holds k (duties.Ask (ask_duties.Leave s)) mild r p = record { a = λ id h may. may; b = λ id h may. may }
-  mild_holds k (duties.Ask (ask_duties.Dead s)) mild r p = record { a = λ id h may. may; b = λ id h may. may }
-  mild_holds k (duties.Send (send_duties.Syn s)) mild r p = side_holds s _ p _ refl refl (λ id h may. may)
-  mild_holds k (duties.Send (send_duties.FastClose s)) mild r p = side_holds s _ p _ refl refl (λ id h may. may)
-  mild_holds k (duties.Send (send_duties.Notice s)) mild r p = side_holds s _ p _ refl refl (λ id h may. may)
-  mild_holds k (duties.Step (step_duties.Data s)) mild r p = data_holds k s (first_unsent (end_at s p)) r p
-  mild_holds k (duties.Send (send_duties.DataFin s)) mild r p = side_holds s _ p _ refl refl (λ id h may. may)
-  mild_holds k (duties.Send (send_duties.Fin s)) mild r p =
+  mild_holds k (Duty.Ask (AskDuty.Window s)) mild r p = side_holds s _ p _ refl refl (λ id h may. may)
+  mild_holds k (Duty.Send (SendDuty.Update s)) mild r p = side_holds s _ p _ refl refl (λ id h may. may)
+  mild_holds k (Duty.Ask (AskDuty.LeaveNoted s)) mild r p = side_holds s _ p _ refl refl (λ id h may. absurd (false≢true h))
+  mild_holds k (Duty.Send (SendDuty.ResetNoted s)) mild r p = side_holds s _ p _ refl refl (λ id h may. absurd (false≢true h))
+  mild_holds k (Duty.Ask (AskDuty.Leave s)) mild r p = record { a = λ id h may. may; b = λ id h may. may }
+  mild_holds k (Duty.Ask (AskDuty.Dead s)) mild r p = record { a = λ id h may. may; b = λ id h may. may }
+  mild_holds k (Duty.Send (SendDuty.Syn s)) mild r p = side_holds s _ p _ refl refl (λ id h may. may)
+  mild_holds k (Duty.Send (SendDuty.FastClose s)) mild r p = side_holds s _ p _ refl refl (λ id h may. may)
+  mild_holds k (Duty.Send (SendDuty.Notice s)) mild r p = side_holds s _ p _ refl refl (λ id h may. may)
+  mild_holds k (Duty.Step (StepDuty.Data s)) mild r p = data_holds k s (first_unsent (end_at s p)) r p
+  mild_holds k (Duty.Send (SendDuty.DataFin s)) mild r p = side_holds s _ p _ refl refl (λ id h may. may)
+  mild_holds k (Duty.Send (SendDuty.Fin s)) mild r p =
       side_holds s (having_sent_fin s p) p _ refl refl (λ id h may. finish_may (end_at s p).tcp.state ((end_at s p).modes.clear && not (end_at s p).modes.identity) may)
-  mild_holds k (duties.Silent (silent_duties.Timer s)) mild r p = record { a = λ id h may. may; b = λ id h may. may }
+  mild_holds k (Duty.Silent (SilentDuty.Timer s)) mild r p = record { a = λ id h may. may; b = λ id h may. may }
   mild_holds k _ mild r p = absurd mild
 
   pub passed_holds : (d : Duty) → IsMild d → (p : PathState C) → Holds p (passed d p)
-  passed_holds (duties.Silent (silent_duties.Timer s)) mild p = side_holds s _ p _ refl refl (λ id h may. may)
-  passed_holds (duties.Ask (ask_duties.Window s)) mild p = record { a = λ id h may. may; b = λ id h may. may }
-  passed_holds (duties.Ask (ask_duties.LeaveNoted s)) mild p = record { a = λ id h may. may; b = λ id h may. may }
-  passed_holds (duties.Ask (ask_duties.Leave s)) mild p = record { a = λ id h may. may; b = λ id h may. may }
-  passed_holds (duties.Ask (ask_duties.Dead s)) mild p = record { a = λ id h may. may; b = λ id h may. may }
-  passed_holds (duties.Step (step_duties.Data s)) mild p = record { a = λ id h may. may; b = λ id h may. may }
-  passed_holds (duties.Send send) mild p = record { a = λ id h may. may; b = λ id h may. may }
+  passed_holds (Duty.Silent (SilentDuty.Timer s)) mild p = side_holds s _ p _ refl refl (λ id h may. may)
+  passed_holds (Duty.Ask (AskDuty.Window s)) mild p = record { a = λ id h may. may; b = λ id h may. may }
+  passed_holds (Duty.Ask (AskDuty.LeaveNoted s)) mild p = record { a = λ id h may. may; b = λ id h may. may }
+  passed_holds (Duty.Ask (AskDuty.Leave s)) mild p = record { a = λ id h may. may; b = λ id h may. may }
+  passed_holds (Duty.Ask (AskDuty.Dead s)) mild p = record { a = λ id h may. may; b = λ id h may. may }
+  passed_holds (Duty.Step (StepDuty.Data s)) mild p = record { a = λ id h may. may; b = λ id h may. may }
+  passed_holds (Duty.Send send) mild p = record { a = λ id h may. may; b = λ id h may. may }
   passed_holds _ mild p = absurd mild
 
   pub sheds_at : (s : Side) (p q : PathState C) → Sheds p q → EndSheds (end_at s p) (end_at s q)

@@ -1,30 +1,19 @@
 -- An id whose announcement is due is wanted by the calls that the control book took: since it was to be announced last, neither its echo
 -- nor its removal was heard.
-use Rattle.std.proofs.Common.{◌≡◌, refl, sym, ◌∙◌, ap, subst, ℕ, inl, inr, ◌==◌, ◌&&◌, ◌||◌, is_some, Bool, true, false, if◌then◌else◌, Option, Some, None, List, [], ◌∷◌, ◌++◌, length, set, replicate, eq-eqb, eqb-true, get_or-set_same, get_or-set_other}
+use Rattle.world_laws.proofs.Words.{◌≡◌, refl, sym, ◌∙◌, ap, subst, ℕ, ◌&&◌, ◌||◌, ◌==◌, inl, inr, Bool, true, false, if◌then◌else◌, Option, Some, None, List}
+use Rattle.world_laws.proofs.Words.{[], ◌∷◌, ◌++◌, length, replicate, is_some, set, get_or-set_same, get_or-set_other, both_ways, false≢true, cases_lt}
+use Rattle.world_laws.proofs.Words.{get_or_past, get_or-replicate, set_past, Mode, Entry, is_member, lowest, no_ids, Addresses, address_of, after_announce}
+use Rattle.world_laws.proofs.Words.{after_removed, Address, ControlCall, ControlReply, Notice, with_removed, lowest_living, standby, sole, Control}
+use Rattle.world_laws.proofs.Words.{withdrawals_on, peer_or_zero, is_path, carries, address_notice, notice_on, is_known, Reply, told_to_announce, is_wanted}
+use Rattle.world_laws.proofs.Words.{wanted_after}
+use Rattle.std.proofs.Common.{eq-eqb, eqb-true}
 use Rattle.std.proofs.Math.Bool.{or-true}
-use Rattle.std.proofs.lemmas.Bool.{both_ways, cases_lt, false≢true}
-use Rattle.std.proofs.lemmas.List.{get_or_past, get_or-replicate, set_past}
 use Rattle.std.proofs.lemmas.List.Quantifiers.{position-Some}
 use Rattle.std.specs.Map.{remove_entry}
-use Rattle.key_material.specs.declared.address.Address.{Address}
-use Rattle.address_manager.specs.Addresses.{Addresses, address_of}
-use Rattle.address_manager.specs.IdSet.{is_member, lowest, no_ids}
-use Rattle.stamped_book.specs.declared.stamped.Entry.{Entry}
-use Rattle.control_book.specs.declared.call.ControlCall.{ControlCall}
-use Rattle.control_book.specs.declared.call.ControlCall.TheVariants as call
-use Rattle.control_book.specs.declared.call.ControlReply.{ControlReply}
-use Rattle.control_book.specs.declared.call.ControlReply.TheVariants as control_replies
-use Rattle.control_book.specs.declared.call.Notice.{Notice}
-use Rattle.control_book.specs.declared.call.Notice.TheVariants as notices
-use Rattle.fallback_state.specs.declared.fall.Mode.{Mode}
-use Rattle.address_manager.specs.Steps.{after_announce, after_removed}
-use Rattle.control_book.specs.Registry.{stands, with_removed, lowest_living, standby, sole}
-use Rattle.control_book.specs.Control.{Control, is_path, peer_or_zero, withdrawals_on}
-use Rattle.control_book.specs.Replies.{is_right, resets, carries, address_notice, notice_on, reply_to}
-use Rattle.control_book.specs.Steps.{after, is_known}
+use Rattle.control_book.specs.Registry.{stands}
+use Rattle.control_book.specs.Replies.{is_right, resets, reply_to}
+use Rattle.control_book.specs.Steps.{after}
 use Rattle.control_book.proofs.Kept.{either, told}
-use Rattle.actor_desk.specs.declared.ask.Reply.TheVariants as replies
-use Rattle.world_laws.specs.Announcing.{told_to_announce, wanted_after, is_wanted}
 
 -- ---- sets of ids
 
@@ -129,41 +118,35 @@ ends_wants id c d wanted h clears = by (is_known id c) refl
 abbrev echoed_book : ℕ → Control → Control
 echoed_book id c = record c { addresses = record c.addresses { due = set c.addresses.due id false } }
 
-echoed_wants : (id other : ℕ) (c : Control) (wanted same : Bool) → (other == id) ≡ same → Wants id c wanted → Wants id (after c (call.Echoed other)) (if same then false else wanted)
+echoed_wants : (id other : ℕ) (c : Control) (wanted same : Bool) → (other == id) ≡ same → Wants id c wanted → Wants id (after c (ControlCall.Echoed other)) (if same then false else wanted)
 echoed_wants id other c wanted true is h =
-    subst (λ k. Wants id (after c (call.Echoed k)) false) (sym (eqb-true other id is)) (ends_wants id c (echoed_book id c) wanted h refl)
+    subst (λ k. Wants id (after c (ControlCall.Echoed k)) false) (sym (eqb-true other id is)) (ends_wants id c (echoed_book id c) wanted h refl)
 echoed_wants id other c wanted false is h =
     either (λ d. Wants id d wanted) (is_known other c) (echoed_book other c) c (λ due. h (sym (set_other c.addresses.due other id false is) ∙ due)) h
 
 abbrev removed_book : ℕ → Control → Control
 removed_book id c = record c { addresses = after_removed id c.addresses; paths = with_removed id c.paths }
 
-removed_wants : (id other : ℕ) (c : Control) (wanted same : Bool) → (other == id) ≡ same → Wants id c wanted → Wants id (after c (call.Removed other)) (if same then false else wanted)
+removed_wants : (id other : ℕ) (c : Control) (wanted same : Bool) → (other == id) ≡ same → Wants id c wanted → Wants id (after c (ControlCall.Removed other)) (if same then false else wanted)
 removed_wants id other c wanted true is h =
-    subst (λ k. Wants id (after c (call.Removed k)) false) (sym (eqb-true other id is)) (ends_wants id c (removed_book id c) wanted h refl)
+    subst (λ k. Wants id (after c (ControlCall.Removed k)) false) (sym (eqb-true other id is)) (ends_wants id c (removed_book id c) wanted h refl)
 removed_wants id other c wanted false is h = either (λ d. Wants id d wanted) (is_known other c) (removed_book other c) c at h
   where
     at : is_member (set c.addresses.due other false) id ≡ true → (is_there id (remove_entry (λ k. other == k) c.addresses.announced) ≡ true) × (wanted ≡ true)
     at due = let old = h (sym (set_other c.addresses.due other id false is) ∙ due) in (removed_keeps id other c.addresses.announced is old.0, old.1)
 
 pub wants_once : (c : Control) (asked : ControlCall) (id : ℕ) (wanted : Bool) → Wants id c wanted → Wants id (after c asked) (wanted_after id asked wanted)
-wants_once c (call.Look path) id wanted h = told (λ d. Wants id d wanted) (notice_on c path) path c (λ other. h) h
-wants_once c (call.PeerKey key) id wanted h = h
-wants_once c (call.Keys own peer) id wanted h = either (λ d. Wants id d wanted) _ _ c h h
-wants_once c (call.Fell path event) id wanted h = h
-wants_once c (call.JoinBegin path) id wanted h = either (λ d. Wants id d wanted) _ _ c h h
-wants_once c (call.JoinHeard path token) id wanted h = either (λ d. Wants id d wanted) _ _ c h h
-wants_once c (call.Live path backup) id wanted h = h
-wants_once c (call.Dead path) id wanted h = h
-wants_once c (call.Backup path on) id wanted h = h
-wants_once c (call.Rate path window rtt) id wanted h = h
-wants_once c (call.Announce other) id wanted h = announce_wants id other _ wanted (other == id) c.addresses refl h
-wants_once c (call.Withdraw other) id wanted h = either (λ d. Wants id d wanted) _ _ c h h
-wants_once c (call.Heard other address port hmac) id wanted h = heard_wants id wanted (is_right other address port hmac c) _ c.addresses h h
-wants_once c (call.Echoed other) id wanted h = echoed_wants id other c wanted (other == id) refl h
-wants_once c (call.Removed other) id wanted h = removed_wants id other c wanted (other == id) refl h
-wants_once c call.FastClose id wanted h = h
-wants_once c (call.FastHeard key) id wanted h = either (λ d. Wants id d wanted) _ _ c h h
+wants_once c (ControlCall.Look path) id wanted h = told (λ d. Wants id d wanted) (notice_on c path) path c (λ other. h) h
+wants_once c (ControlCall.Keys own peer) id wanted h = either (λ d. Wants id d wanted) _ _ c h h
+wants_once c (ControlCall.JoinBegin path) id wanted h = either (λ d. Wants id d wanted) _ _ c h h
+wants_once c (ControlCall.JoinHeard path token) id wanted h = either (λ d. Wants id d wanted) _ _ c h h
+wants_once c (ControlCall.Announce other) id wanted h = announce_wants id other _ wanted (other == id) c.addresses refl h
+wants_once c (ControlCall.Withdraw other) id wanted h = either (λ d. Wants id d wanted) _ _ c h h
+wants_once c (ControlCall.Heard other address port hmac) id wanted h = heard_wants id wanted (is_right other address port hmac c) _ c.addresses h h
+wants_once c (ControlCall.Echoed other) id wanted h = echoed_wants id other c wanted (other == id) refl h
+wants_once c (ControlCall.Removed other) id wanted h = removed_wants id other c wanted (other == id) refl h
+wants_once c (ControlCall.FastHeard key) id wanted h = either (λ d. Wants id d wanted) _ _ c h h
+wants_once c _ id wanted h = h
 
 -- ---- journals
 
@@ -176,18 +159,15 @@ wanted_push id before (first ∷ entries) entry = wanted_push id (wanted_after i
 
 -- the id that a notice tells to announce
 abbrev told_by : Notice → Option ℕ
-told_by (notices.Announce id) = Some id
+told_by (Notice.Announce id) = Some id
 told_by _ = None
 
-told_in : (mode : Mode) (standby sole : Bool) (notice : Notice) → told_to_announce (replies.Control (control_replies.Standing mode standby sole notice)) ≡ told_by notice
-told_in mode standby sole notices.Nothing = refl
-told_in mode standby sole (notices.Announce id) = refl
-told_in mode standby sole (notices.Withdraw id) = refl
-told_in mode standby sole (notices.Carrier key) = refl
-told_in mode standby sole notices.Reset = refl
+told_in : (mode : Mode) (standby sole : Bool) (notice : Notice) → told_to_announce (Reply.Control (ControlReply.Standing mode standby sole notice)) ≡ told_by notice
+told_in mode standby sole Notice.Nothing = refl
+told_in mode standby sole _ = refl
 
 -- an id that a look tells to announce is due
-pub look_due : (c : Control) (path id : ℕ) → told_to_announce (replies.Control (reply_to c (call.Look path))) ≡ Some id → is_member c.addresses.due id ≡ true
+pub look_due : (c : Control) (path id : ℕ) → told_to_announce (Reply.Control (reply_to c (ControlCall.Look path))) ≡ Some id → is_member c.addresses.due id ≡ true
 look_due c path id is =
     by (resets c path) (carries c path) (c.fall.confirmed && is_path (lowest_living c.paths) path)
     (sym (told_in c.fall.mode (standby c.paths c.addresses.backups path) (sole c.paths path) (notice_on c path)) ∙ is)
@@ -203,7 +183,7 @@ look_due c path id is =
     at None first is = none withdrawn is
     at (Some other) first is = lowest_member c.addresses.due id (first ∙ is)
 
-    by : (reset carried now : Bool) → told_by (if reset then notices.Reset else (if carried then notices.Carrier (peer_or_zero c.keys.peer) else address_notice (if now then lowest c.addresses.due else None) withdrawn)) ≡ Some id
+    by : (reset carried now : Bool) → told_by (if reset then Notice.Reset else (if carried then Notice.Carrier (peer_or_zero c.keys.peer) else address_notice (if now then lowest c.addresses.due else None) withdrawn)) ≡ Some id
         → is_member c.addresses.due id ≡ true
     by true carried now is = let never : None ≡ Some id = is in cc
     by false true now is = let never : None ≡ Some id = is in cc

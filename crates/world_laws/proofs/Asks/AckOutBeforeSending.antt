@@ -1,78 +1,31 @@
 -- Each step of a path asks its reassembly book what is to be acknowledged before the end sends anything, where bytes or an end were
 -- told to the book. So what an end sends shows all that it told.
-use Rattle.std.proofs.Common.{◌≡◌, refl, ap, ◌∙◌, ℕ, ◌+◌, Bool, true, false, if◌then◌else◌, Option, Some, None, List, [], ◌∷◌, subst, ⊎_elim, ◌||◌, ◌&&◌, ◌++◌, length, zero, suc, sym}
-use Rattle.std.proofs.lemmas.Bool.{both_ways, and_parts, or_cases, true≢false, false≢true}
-use Rattle.path_segments.specs.Heard.{HeardSegment}
-use Rattle.sides.specs.declared.side.Side.TheVariants.{A, B}
-use Rattle.sides.specs.declared.side.Side.{Side}
-use Rattle.dss_mapping.specs.declared.kept.KeptMapping.{KeptMapping}
-use Rattle.link_model.specs.Steps.{arriving, after_delivery}
-use Rattle.link_script.specs.Places.{same_side}
-use Rattle.link_script.specs.declared.script.ScriptLine.{ScriptLine}
-use Rattle.fallback_state.specs.declared.fall.Event.TheVariants as events
-use Rattle.fallback_state.specs.declared.fall.Event.{Event as FallEvent}
-use Rattle.subflow_send.specs.Records.{Record}
-use Rattle.join_handshake.specs.declared.hearing.JoinSyn.{JoinSyn}
-use Rattle.subflow_tcp.specs.States.{is_dead}
-use Rattle.subflow_tcp.specs.declared.verdicts.Meaning.TheVariants as means
-use Rattle.subflow_tcp.specs.declared.verdicts.Meaning.{Meaning}
-use Rattle.subflow_tcp.specs.Expiring.{is_sixth}
-use Rattle.stream_lanes.specs.Words.{Every}
-use Rattle.actor_desk.specs.Words.{tail_of, is_nil}
-use Rattle.actor_desk.specs.declared.ask.Reply.{Reply}
-use Rattle.actor_desk.specs.Books.{StampedBooks}
-use Rattle.actor_desk.specs.declared.ask.Ask.{Ask}
-use Rattle.path_agenda.specs.Agenda.{start_of_turn, leaves, emission, heard_and, payload_came, rest_of_turn, breaks, resets, stops}
-use Rattle.path_agenda.specs.Items.{keys_heard, key_heard}
-use Rattle.path_agenda.specs.declared.duty.Duty.TheVariants as duties
-use Rattle.path_agenda.specs.declared.duty.AskDuty.TheVariants as ask_duties
-use Rattle.path_agenda.specs.declared.duty.SendDuty.TheVariants as send_duties
-use Rattle.path_agenda.specs.declared.duty.SilentDuty.TheVariants as silent_duties
-use Rattle.path_agenda.specs.declared.duty.StepDuty.TheVariants as step_duties
-use Rattle.path_agenda.specs.declared.duty.Duty.{Duty}
-use Rattle.path_agenda.specs.declared.heard.Heard.TheVariants as says
-use Rattle.path_agenda.specs.declared.heard.Heard.{Heard}
-use Rattle.path_agenda.specs.declared.keys.KeyPair.{KeyPair}
-use Rattle.path_core.specs.OptionsIn.{items_of, options_heard}
-use Rattle.path_core.specs.Arrival.{judged_in, after_judged, template_by, template_judged, copy_heard, heard_in, told_at}
-use Rattle.path_core.specs.Breaking.{answered_break, reset_on, died_unless_dead}
-use Rattle.path_core.specs.Codec.{Codec}
-use Rattle.path_core.specs.Duties.{stands, passed, answered}
-use Rattle.path_core.specs.Emission.{Grant, grant_in, answered_grant, answered_data, first_unsent}
-use Rattle.path_core.specs.Timer.{after_timer, template_fired, after_firing}
-use Rattle.path_core.specs.End.{PathEnd, died}
-use Rattle.path_core.specs.Events.{next_event, after_line, happens_if}
-use Rattle.path_core.specs.State.{at_tick, PathState, end_at, goes_on, with_agenda, left}
-use Rattle.path_core.specs.MpJoin.{join_begun, never_joined, keys_begun, is_never, opened_by, join_taken, asked_at, is_joined}
-use Rattle.path_core.specs.Addresses.{with_priority}
-use Rattle.path_store.specs.declared.lines.LineAction.{LineAction}
-use Rattle.path_store.specs.declared.lines.LineAction.TheVariants as actions
-use Rattle.path_core.specs.MpCapable.{answered_peer_key, answered_opened}
-use Rattle.path_core.specs.Deliver.{answered_piece, is_placed, piece_of, having_asked, refused, is_wrong, forgotten_by, mapping_here, after_check, after_pieces, after_piece, after_keep}
-use Rattle.path_core.specs.DataFin.{is_fin_set, after_pass_fin, with_peer_data_fin, with_fin_told, answered_fin_heard, answered_plain_fin}
-use Rattle.path_store.specs.Passing.{Piece}
-use Rattle.path_core.specs.DssIn.{with_learned, with_skipped, counts, is_clash, with_data_fin, told_next}
-use Rattle.path_core.specs.Standing.{after_ack_out, answered_ack_out}
-use Rattle.path_core.specs.Steps.{settled, takes, next_round}
-use Rattle.path_core.specs.Treating.{heard_passed, item_passed, answered_item, item_of}
-use Rattle.path_core.specs.Fallback.{breaks_by_ack, after_fell, with_plain_ack, fell_duties, answered_fell, answered_plain_ack, after_check_failed, with_infinite, after_fail_heard, after_infinite, breaks_by, in_identity, answered_identity}
-use Rattle.path_core.specs.declared.events.Event.TheVariants as happenings
+use Rattle.world_laws.proofs.Words.{◌≡◌, refl, sym, ◌∙◌, ap, subst, ℕ, zero, suc, ◌+◌, ◌&&◌, ◌||◌, ⊎_elim, Bool, true, false, if◌then◌else◌, Option, Some, None}
+use Rattle.world_laws.proofs.Words.{List, [], ◌∷◌, ◌++◌, length, or_cases, and_parts, both_ways, false≢true, true≢false, FallEvent, Side, A, B, same_side}
+use Rattle.world_laws.proofs.Words.{ScriptLine, JoinSyn, KeptMapping, Record, is_dead, Meaning, is_sixth, arriving, after_delivery, HeardSegment, LineAction}
+use Rattle.world_laws.proofs.Words.{Piece, rest_of_turn, emission, heard_and, payload_came, leaves, resets, stops, start_of_turn, Duty, SendDuty, StepDuty}
+use Rattle.world_laws.proofs.Words.{AskDuty, SilentDuty, Heard, KeyPair, key_heard, keys_heard, Ask, Reply, StampedBooks, tail_of, is_nil, Codec, stands}
+use Rattle.world_laws.proofs.Words.{passed, answered, PathEnd, died, answered_ack_out, after_ack_out, PathStart, waiting_path, first_turn, at_tick, PathState}
+use Rattle.world_laws.proofs.Words.{end_at, goes_on, with_agenda, left, settled, takes, next_round, Carried, values, items_of, options_heard, after_judged}
+use Rattle.world_laws.proofs.Words.{judged_in, template_by, template_judged, heard_in, copy_heard, told_at, reset_on, answered_break, died_unless_dead}
+use Rattle.world_laws.proofs.Words.{answered_data, answered_grant, first_unsent, grant_in, Judged, next_event, after_line, happens_if, join_begun, never_joined}
+use Rattle.world_laws.proofs.Words.{asked_at, is_never, join_taken, keys_begun, opened_by, is_joined, after_timer, template_fired, after_firing, having_asked}
+use Rattle.world_laws.proofs.Words.{after_piece, is_wrong, mapping_here, piece_of, is_placed, answered_piece, forgotten_by, after_keep, after_pieces}
+use Rattle.world_laws.proofs.Words.{after_check, with_peer_data_fin, with_fin_told, answered_plain_fin, answered_fin_heard, is_fin_set, after_pass_fin}
+use Rattle.world_laws.proofs.Words.{is_clash, with_learned, with_data_fin, with_skipped, counts, told_next, answered_item, item_of, item_passed, heard_passed}
+use Rattle.world_laws.proofs.Words.{after_check_failed, after_fell, fell_duties, answered_plain_ack, with_plain_ack, breaks_by_ack, after_fail_heard}
+use Rattle.world_laws.proofs.Words.{answered_identity, answered_fell, with_infinite, in_identity, breaks_by, answered_peer_key, answered_opened, is_stopped_by}
+use Rattle.world_laws.proofs.Words.{with_priority, Every, App, Path, Actor, ActorCrew, member_takes, member_next, is_over, Start, path_begins, opened_world}
+use Rattle.world_laws.proofs.Words.{Turn, crew_after, begins, world_run, Writes, OnlyAt, EndView, writes, side_of, answer_to}
+use Rattle.path_agenda.specs.Agenda.{breaks}
+use Rattle.path_core.specs.Emission.{Grant}
+use Rattle.path_core.specs.Deliver.{refused}
+use Rattle.path_core.specs.Fallback.{after_infinite}
 use Rattle.path_core.specs.declared.events.Event.{Event}
-use Rattle.path_core.specs.declared.judged.Judged.{Judged}
-use Rattle.path_core.specs.declared.judged.Judged.TheVariants as judged
-use Rattle.path_core.specs.Start.{PathStart, waiting_path, first_turn}
-use Rattle.path_core.specs.Values.{Carried, values}
-use Rattle.path_core.specs.FastClose.{is_stopped_by}
-use Rattle.world_laws.specs.declared.member.Member.TheVariants.{App, Path}
-use Rattle.world_laws.specs.Actors.{Actor, ActorCrew, member_takes, member_next, is_over}
-use Rattle.world_laws.specs.Openings.{Start, path_begins, opened_world}
-use Rattle.world_laws.specs.Worlds.{Turn, begins, crew_after, world_run}
-use Rattle.world_laws.specs.StampedBooks.{answer_to}
 use Rattle.world_laws.proofs.Asks.AckOutDuties.{is_asking, is_telling, is_shield, guarded, needs, is_sheltered}
 use Rattle.world_laws.proofs.Falls.Verdicts.{fell_cases, told_cases}
 use Rattle.world_laws.proofs.Rounds.Lifting.{run_lifted, opened_lifted}
 use Rattle.world_laws.proofs.Falls.FailedChecks.{check_failed_so, fail_heard_so, infinite_came_so, fail_answered_so}
-use Rattle.world_laws.specs.Writes.{EndView, Writes, OnlyAt, writes, side_of}
 use Rattle.world_laws.proofs.Writes.Paths.{writes_no_more}
 use Rattle.world_laws.proofs.Writes.Steps.{both_ends, unwritten}
 
@@ -86,24 +39,24 @@ unguarded false false rest x y = false≢true y
 
 -- a duty by which the book is asked comes to something where something was told
 asks_now : {C : Type 0} (d : Duty) (p : PathState C) (s : Side) → is_asking s d ≡ true → (end_at s p).treated.asked ≡ true → stands d p ≡ true
-asks_now (duties.Ask (ask_duties.AckOut A)) p A is asked = asked
-asks_now (duties.Ask (ask_duties.AckOut B)) p B is asked = asked
-asks_now (duties.Ask (ask_duties.AckOut A)) p B is asked = absurd (false≢true is)
-asks_now (duties.Ask (ask_duties.AckOut B)) p A is asked = absurd (false≢true is)
-asks_now (duties.Ask (ask_duties.BreakAck t reason)) p s is asked = refl
+asks_now (Duty.Ask (AskDuty.AckOut A)) p A is asked = asked
+asks_now (Duty.Ask (AskDuty.AckOut B)) p B is asked = asked
+asks_now (Duty.Ask (AskDuty.AckOut A)) p B is asked = absurd (false≢true is)
+asks_now (Duty.Ask (AskDuty.AckOut B)) p A is asked = absurd (false≢true is)
+asks_now (Duty.Ask (AskDuty.BreakAck t reason)) p s is asked = refl
 asks_now _ p s is asked = absurd (false≢true is)
 
 -- the first duty is none by which a book is told or asked
 abbrev IsOther : Duty → Type 0
-IsOther (duties.Ask (ask_duties.Edge s)) = ⊥
-IsOther (duties.Ask (ask_duties.CheckFailed s)) = ⊥
-IsOther (duties.Ask (ask_duties.GoIdentity s)) = ⊥
-IsOther (duties.Step (step_duties.Unmapped s)) = ⊥
-IsOther (duties.Ask (ask_duties.HeardFin s index)) = ⊥
-IsOther (duties.Silent (silent_duties.PassFin s)) = ⊥
-IsOther (duties.Ask (ask_duties.SubflowFin s)) = ⊥
-IsOther (duties.Ask (ask_duties.AckOut s)) = ⊥
-IsOther (duties.Ask (ask_duties.BreakAck s reason)) = ⊥
+IsOther (Duty.Ask (AskDuty.Edge s)) = ⊥
+IsOther (Duty.Ask (AskDuty.CheckFailed s)) = ⊥
+IsOther (Duty.Ask (AskDuty.GoIdentity s)) = ⊥
+IsOther (Duty.Step (StepDuty.Unmapped s)) = ⊥
+IsOther (Duty.Ask (AskDuty.HeardFin s index)) = ⊥
+IsOther (Duty.Silent (SilentDuty.PassFin s)) = ⊥
+IsOther (Duty.Ask (AskDuty.SubflowFin s)) = ⊥
+IsOther (Duty.Ask (AskDuty.AckOut s)) = ⊥
+IsOther (Duty.Ask (AskDuty.BreakAck s reason)) = ⊥
 IsOther _ = Unit {0}
 
 -- a duty of the other side is no shield
@@ -136,18 +89,16 @@ payload_sheltered A = refl
 payload_sheltered B = refl
 
 template_sheltered : (joined : Bool) (s : Side) (count : ℕ) (m : Meaning) → is_sheltered (template_by joined s count m) ≡ true
-template_sheltered true s count (means.Accepts acknowledged) = refl
-template_sheltered false s count (means.Accepts acknowledged) = refl
-template_sheltered joined s count (means.Taken position acknowledged) = heard_sheltered s 0 count (payload_came s) (payload_sheltered s)
+template_sheltered true s count (Meaning.Accepts acknowledged) = refl
+template_sheltered false s count (Meaning.Accepts acknowledged) = refl
+template_sheltered joined s count (Meaning.Taken position acknowledged) = heard_sheltered s 0 count (payload_came s) (payload_sheltered s)
 template_sheltered joined s count _ = refl
 
 judged_sheltered : (joined : Bool) (s : Side) (count : ℕ) (verdict : Judged) → is_sheltered (template_judged joined s count verdict) ≡ true
-judged_sheltered joined s count (judged.As meaning) = template_sheltered joined s count meaning
-judged_sheltered joined s count judged.Asks = refl
-judged_sheltered joined s count judged.Lacks = refl
-judged_sheltered joined s count judged.Forged = refl
+judged_sheltered joined s count (Judged.As meaning) = template_sheltered joined s count meaning
+judged_sheltered joined s count _ = refl
 
-died_sheltered : (dead_a dead_b : Bool) → is_sheltered ((if dead_a then [] else duties.Ask (ask_duties.Leave A) ∷ []) ++ ((if dead_b then [] else duties.Ask (ask_duties.Leave B) ∷ []) ++ rest_of_turn)) ≡ true
+died_sheltered : (dead_a dead_b : Bool) → is_sheltered ((if dead_a then [] else Duty.Ask (AskDuty.Leave A) ∷ []) ++ ((if dead_b then [] else Duty.Ask (AskDuty.Leave B) ∷ []) ++ rest_of_turn)) ≡ true
 died_sheltered true true = refl
 died_sheltered true false = refl
 died_sheltered false true = refl
@@ -161,11 +112,11 @@ breaks_guarded : (s : Side) (reason : ℕ) → guarded s (breaks s reason) ≡ t
 breaks_guarded A reason = refl
 breaks_guarded B reason = refl
 
-edge_guarded : (s : Side) (ds : List Duty) → guarded s ds ≡ true → guarded s (duties.Ask (ask_duties.Edge s) ∷ ds) ≡ true
+edge_guarded : (s : Side) (ds : List Duty) → guarded s ds ≡ true → guarded s (Duty.Ask (AskDuty.Edge s) ∷ ds) ≡ true
 edge_guarded A ds h = h
 edge_guarded B ds h = h
 
-identity_guarded : (s : Side) (ds : List Duty) → guarded s ds ≡ true → guarded s (duties.Ask (ask_duties.GoIdentity s) ∷ ds) ≡ true
+identity_guarded : (s : Side) (ds : List Duty) → guarded s ds ≡ true → guarded s (Duty.Ask (AskDuty.GoIdentity s) ∷ ds) ≡ true
 identity_guarded A ds h = h
 identity_guarded B ds h = h
 
@@ -184,8 +135,8 @@ begun_end None e h = h
 begun_end (Some keys) e h = h
 
 item_end : (s : Side) (item : Heard) (e : PathEnd) → EndCalms e (heard_passed s item e)
-item_end s (says.Mapping fin) e = either_end (counts e) e (with_learned e) (with_skipped e) (λ h. h) (λ h. h)
-item_end s (says.DataFin place) e = either_end (counts e) e (with_data_fin place e) e (λ h. h) (λ h. h)
+item_end s (Heard.Mapping fin) e = either_end (counts e) e (with_learned e) (with_skipped e) (λ h. h) (λ h. h)
+item_end s (Heard.DataFin place) e = either_end (counts e) e (with_data_fin place e) e (λ h. h) (λ h. h)
 item_end s _ e = λ h. h
 
 maybe_end : (s : Side) (o : Option Heard) (e : PathEnd) → EndCalms e (item_passed s o e)
@@ -217,13 +168,13 @@ module _ {C : Type 0} where
   side_calms B e p q x same_a same_b = record { a = λ h. subst (λ (f : PathEnd). f.treated.asked ≡ true) same_a h; b = λ h. x (subst (λ (f : PathEnd). f.treated.asked ≡ true) same_b h) }
 
   passed_calms : (d : Duty) (p : PathState C) → Calms p (passed d p)
-  passed_calms (duties.Silent (silent_duties.Timer s)) p = side_calms s (after_timer p.clock (end_at s p)) p _ (λ h. h) refl refl
-  passed_calms (duties.Step (step_duties.Heard s index)) p = side_calms s (item_passed s (item_of index (end_at s p)) (end_at s p)) p _ (maybe_end s (item_of index (end_at s p)) (end_at s p)) refl refl
-  passed_calms (duties.Step (step_duties.PlainAck s)) p = side_calms s (with_plain_ack (end_at s p)) p _ (λ h. h) refl refl
-  passed_calms (duties.Silent (silent_duties.Keep s)) p = side_calms s (after_keep s (end_at s p)) p _ (λ h. h) refl refl
-  passed_calms (duties.Ask (ask_duties.CheckFailed s)) p = side_calms s (after_check p.profile (end_at s p)) p _ (checked_end p.profile.spelling.checksums (mapping_here (end_at s p)) (end_at s p)) refl refl
-  passed_calms (duties.Step (step_duties.Unmapped s)) p = side_calms s (after_pieces (end_at s p)) p _ (λ h. h) refl refl
-  passed_calms (duties.Silent (silent_duties.PassFin s)) p = side_calms s (after_pass_fin (end_at s p)) p _ (λ h. h) refl refl
+  passed_calms (Duty.Silent (SilentDuty.Timer s)) p = side_calms s (after_timer p.clock (end_at s p)) p _ (λ h. h) refl refl
+  passed_calms (Duty.Step (StepDuty.Heard s index)) p = side_calms s (item_passed s (item_of index (end_at s p)) (end_at s p)) p _ (maybe_end s (item_of index (end_at s p)) (end_at s p)) refl refl
+  passed_calms (Duty.Step (StepDuty.PlainAck s)) p = side_calms s (with_plain_ack (end_at s p)) p _ (λ h. h) refl refl
+  passed_calms (Duty.Silent (SilentDuty.Keep s)) p = side_calms s (after_keep s (end_at s p)) p _ (λ h. h) refl refl
+  passed_calms (Duty.Ask (AskDuty.CheckFailed s)) p = side_calms s (after_check p.profile (end_at s p)) p _ (checked_end p.profile.spelling.checksums (mapping_here (end_at s p)) (end_at s p)) refl refl
+  passed_calms (Duty.Step (StepDuty.Unmapped s)) p = side_calms s (after_pieces (end_at s p)) p _ (λ h. h) refl refl
+  passed_calms (Duty.Silent (SilentDuty.PassFin s)) p = side_calms s (after_pass_fin (end_at s p)) p _ (λ h. h) refl refl
   passed_calms _ p = record { a = λ h. h; b = λ h. h }
 
   -- what is to be done on a path where something was told
@@ -290,10 +241,10 @@ module _ {C : Type 0} where
       (record { calms = record { a = λ h. absurd (false≢true h); b = λ h. h }; shape = x }) (record { calms = record { a = begun_end (keys_begun r) p.a; b = λ h. h }; shape = y })
 
   line_goes : (action : LineAction) (p : PathState C) → Goes p (after_line action p)
-  line_goes actions.Die p = record { calms = record { a = dead_calms p.a; b = dead_calms p.b }; shape = died_sheltered (is_dead p.a.tcp.state) (is_dead p.b.tcp.state) }
-  line_goes (actions.Prio s backup) p = side_goes s (with_priority backup (end_at s p)) p _ (λ h. h) refl refl refl
-  line_goes (actions.Announce s id) p = rests p _ refl refl refl
-  line_goes (actions.Withdraw s id) p = rests p _ refl refl refl
+  line_goes LineAction.Die p = record { calms = record { a = dead_calms p.a; b = dead_calms p.b }; shape = died_sheltered (is_dead p.a.tcp.state) (is_dead p.b.tcp.state) }
+  line_goes (LineAction.Prio s backup) p = side_goes s (with_priority backup (end_at s p)) p _ (λ h. h) refl refl refl
+  line_goes (LineAction.Announce s id) p = rests p _ refl refl refl
+  line_goes (LineAction.Withdraw s id) p = rests p _ refl refl refl
 
   told_goes : (now : ℕ) (s : Side) (x : HeardSegment) (p : PathState C) → Goes p (told_at now s x p)
   told_goes now s x p =
@@ -313,14 +264,14 @@ module _ {C : Type 0} where
 
   happens_goes : (k : Codec C) (event : Option Event) (r : Reply) (p : PathState C) → Goes p (happens_if k event r p)
   happens_goes k None r p = rests p _ refl refl refl
-  happens_goes k (Some (happenings.Joins tick)) r p =
+  happens_goes k (Some (Event.Joins tick)) r p =
       let q : PathState C = record (at_tick tick p) { joined_at = None } in from_there p q _ refl refl (begun_goes r (leaves A) (emission A) q refl refl)
-  happens_goes k (Some (happenings.Takes line)) r p =
+  happens_goes k (Some (Event.Takes line)) r p =
       let q : PathState C = record (at_tick line.tick p) { lines = tail_of p.lines } in from_there p q _ refl refl (line_goes line.action q)
-  happens_goes k (Some (happenings.Arrives due)) r p =
+  happens_goes k (Some (Event.Arrives due)) r p =
       let q : PathState C = record (at_tick due.tick p) { link = after_delivery due p.link } in
       from_there p q _ refl refl (copy_goes due.to (heard_in k due.to (arriving due p.link) p) q)
-  happens_goes k (Some (happenings.Fires s tick)) r p =
+  happens_goes k (Some (Event.Fires s tick)) r p =
       let q : PathState C = at_tick tick p in
       from_there p q _ refl refl (side_goes s (after_firing q.clock (end_at s q)) q _ (λ h. h) refl refl (fired_sheltered (is_sixth (end_at s q).tcp) s))
 
@@ -343,94 +294,94 @@ module _ {C : Type 0} where
         (side_goes s (after_ack_out r (end_at s p)) (first d p) _ (λ h. absurd (false≢true h)) refl refl refl)
         (side_goes s (died (end_at s p)) (first d p) _ (λ h. absurd (false≢true h)) refl refl refl)
 
-    grant_goes : (s : Side) (grant : Option Grant) (p : PathState C) → Goes (first (duties.Step (step_duties.Data s)) p) (answered_grant s grant r (first (duties.Step (step_duties.Data s)) p))
-    grant_goes s None p = side_goes s _ (first (duties.Step (step_duties.Data s)) p) _ (λ h. h) refl refl shape
-    grant_goes s (Some grant) p = side_goes s _ (first (duties.Step (step_duties.Data s)) p) _ (λ h. h) refl refl shape
+    grant_goes : (s : Side) (grant : Option Grant) (p : PathState C) → Goes (first (Duty.Step (StepDuty.Data s)) p) (answered_grant s grant r (first (Duty.Step (StepDuty.Data s)) p))
+    grant_goes s None p = side_goes s _ (first (Duty.Step (StepDuty.Data s)) p) _ (λ h. h) refl refl shape
+    grant_goes s (Some grant) p = side_goes s _ (first (Duty.Step (StepDuty.Data s)) p) _ (λ h. h) refl refl shape
 
-    data_goes : (s : Side) (o : Option Record) (p : PathState C) → Goes (first (duties.Step (step_duties.Data s)) p) (answered_data k s o r (first (duties.Step (step_duties.Data s)) p))
-    data_goes s (Some record_of) p = side_goes s _ (first (duties.Step (step_duties.Data s)) p) _ (λ h. h) refl refl shape
+    data_goes : (s : Side) (o : Option Record) (p : PathState C) → Goes (first (Duty.Step (StepDuty.Data s)) p) (answered_data k s o r (first (Duty.Step (StepDuty.Data s)) p))
+    data_goes s (Some record_of) p = side_goes s _ (first (Duty.Step (StepDuty.Data s)) p) _ (λ h. h) refl refl shape
     data_goes s None p = grant_goes s (grant_in r) p
 
-    key_goes : (s : Side) (key : Option ℕ) (p : PathState C) → Goes (first (duties.Ask (ask_duties.PeerKey s)) p) (answered_peer_key s key r (first (duties.Ask (ask_duties.PeerKey s)) p))
-    key_goes s None p = event_told s (duties.Ask (ask_duties.PeerKey s)) events.PlainHandshake p
-    key_goes s (Some key) p = side_goes s _ (first (duties.Ask (ask_duties.PeerKey s)) p) _ (λ h. h) refl refl shape
+    key_goes : (s : Side) (key : Option ℕ) (p : PathState C) → Goes (first (Duty.Ask (AskDuty.PeerKey s)) p) (answered_peer_key s key r (first (Duty.Ask (AskDuty.PeerKey s)) p))
+    key_goes s None p = event_told s (Duty.Ask (AskDuty.PeerKey s)) FallEvent.PlainHandshake p
+    key_goes s (Some key) p = side_goes s _ (first (Duty.Ask (AskDuty.PeerKey s)) p) _ (λ h. h) refl refl shape
 
-    opened_goes : (s : Side) (keys : Option KeyPair) (p : PathState C) → Goes (first (duties.Ask (ask_duties.Opened s)) p) (answered_opened s keys r (first (duties.Ask (ask_duties.Opened s)) p))
-    opened_goes s None p = event_told s (duties.Ask (ask_duties.Opened s)) events.PlainHandshake p
-    opened_goes s (Some keys) p = side_goes s _ (first (duties.Ask (ask_duties.Opened s)) p) _ (λ h. h) refl refl shape
+    opened_goes : (s : Side) (keys : Option KeyPair) (p : PathState C) → Goes (first (Duty.Ask (AskDuty.Opened s)) p) (answered_opened s keys r (first (Duty.Ask (AskDuty.Opened s)) p))
+    opened_goes s None p = event_told s (Duty.Ask (AskDuty.Opened s)) FallEvent.PlainHandshake p
+    opened_goes s (Some keys) p = side_goes s _ (first (Duty.Ask (AskDuty.Opened s)) p) _ (λ h. h) refl refl shape
 
-    told_shape : (s : Side) (index : ℕ) (covers : Bool) (p : PathState C) → is_sheltered (told_next s covers (first (duties.Step (step_duties.Heard s index)) p)) ≡ true
+    told_shape : (s : Side) (index : ℕ) (covers : Bool) (p : PathState C) → is_sheltered (told_next s covers (first (Duty.Step (StepDuty.Heard s index)) p)) ≡ true
     told_shape s index true p = shape
     told_shape s index false p = shape
 
-    stopped_shape : (s : Side) (index : ℕ) (stopped : Bool) (p : PathState C) → is_sheltered (if stopped then stops s else left (first (duties.Step (step_duties.Heard s index)) p)) ≡ true
+    stopped_shape : (s : Side) (index : ℕ) (stopped : Bool) (p : PathState C) → is_sheltered (if stopped then stops s else left (first (Duty.Step (StepDuty.Heard s index)) p)) ≡ true
     stopped_shape s index true p = refl
     stopped_shape s index false p = shape
 
-    item_goes : (s : Side) (index : ℕ) (item : Option Heard) (p : PathState C) → Goes (first (duties.Step (step_duties.Heard s index)) p) (answered_item k s item r (first (duties.Step (step_duties.Heard s index)) p))
-    item_goes s index None p = rests (first (duties.Step (step_duties.Heard s index)) p) _ refl refl shape
-    item_goes s index (Some says.Dss) p = rests (first (duties.Step (step_duties.Heard s index)) p) _ refl refl shape
-    item_goes s index (Some (says.DataAck next window)) p = side_goes s _ (first (duties.Step (step_duties.Heard s index)) p) _ (λ h. h) refl refl (told_shape s index _ p)
-    item_goes s index (Some (says.Mapping fin)) p =
-        let m = first (duties.Step (step_duties.Heard s index)) p in
-        either_goes (is_clash (end_at s m)) (answered_break k s 1 r m) (goes_on s (with_learned (after_fell events.MappingHeard r (end_at s m))) (fell_duties s r m) m) m
-        (break_goes s (duties.Step (step_duties.Heard s index)) 1 p) (side_goes s _ m _ (λ h. h) refl refl (fell_shape s (duties.Step (step_duties.Heard s index)) p))
-    item_goes s index (Some (says.DataFin place)) p = side_goes s _ (first (duties.Step (step_duties.Heard s index)) p) _ (λ h. h) refl refl (fell_shape s (duties.Step (step_duties.Heard s index)) p)
-    item_goes s index (Some (says.InfiniteMapping place position)) p =
-        side_goes s (after_infinite place position r (end_at s p)) (first (duties.Step (step_duties.Heard s index)) p) _
-        (infinite_came_so (λ f. EndCalms (end_at s p) f) place position r (end_at s p) (λ other h. h)) refl refl (fell_shape s (duties.Step (step_duties.Heard s index)) p)
-    item_goes s index (Some (says.PeerKey key)) p = rests (first (duties.Step (step_duties.Heard s index)) p) _ refl refl shape
-    item_goes s index (Some (says.Keys own peer)) p = side_goes s _ (first (duties.Step (step_duties.Heard s index)) p) _ (λ h. h) refl refl shape
-    item_goes s index (Some (says.Join form)) p = rests (first (duties.Step (step_duties.Heard s index)) p) _ refl refl shape
-    item_goes s index (Some (says.Notice notice)) p = side_goes s _ (first (duties.Step (step_duties.Heard s index)) p) _ (λ h. h) refl refl shape
-    item_goes s index (Some says.Fail) p =
-        let m = first (duties.Step (step_duties.Heard s index)) p in
-        fail_answered_so (λ q. Goes m q) s r m (side_goes s (with_infinite r (end_at s p)) m _ (λ h. h) refl refl shape) (event_told s (duties.Step (step_duties.Heard s index)) (events.FailHeard false) p)
-    item_goes s index (Some (says.FastClose key)) p = rests (first (duties.Step (step_duties.Heard s index)) p) _ refl refl (stopped_shape s index (is_stopped_by r) p)
+    item_goes : (s : Side) (index : ℕ) (item : Option Heard) (p : PathState C) → Goes (first (Duty.Step (StepDuty.Heard s index)) p) (answered_item k s item r (first (Duty.Step (StepDuty.Heard s index)) p))
+    item_goes s index None p = rests (first (Duty.Step (StepDuty.Heard s index)) p) _ refl refl shape
+    item_goes s index (Some Heard.Dss) p = rests (first (Duty.Step (StepDuty.Heard s index)) p) _ refl refl shape
+    item_goes s index (Some (Heard.DataAck next window)) p = side_goes s _ (first (Duty.Step (StepDuty.Heard s index)) p) _ (λ h. h) refl refl (told_shape s index _ p)
+    item_goes s index (Some (Heard.Mapping fin)) p =
+        let m = first (Duty.Step (StepDuty.Heard s index)) p in
+        either_goes (is_clash (end_at s m)) (answered_break k s 1 r m) (goes_on s (with_learned (after_fell FallEvent.MappingHeard r (end_at s m))) (fell_duties s r m) m) m
+        (break_goes s (Duty.Step (StepDuty.Heard s index)) 1 p) (side_goes s _ m _ (λ h. h) refl refl (fell_shape s (Duty.Step (StepDuty.Heard s index)) p))
+    item_goes s index (Some (Heard.DataFin place)) p = side_goes s _ (first (Duty.Step (StepDuty.Heard s index)) p) _ (λ h. h) refl refl (fell_shape s (Duty.Step (StepDuty.Heard s index)) p)
+    item_goes s index (Some (Heard.InfiniteMapping place position)) p =
+        side_goes s (after_infinite place position r (end_at s p)) (first (Duty.Step (StepDuty.Heard s index)) p) _
+        (infinite_came_so (λ f. EndCalms (end_at s p) f) place position r (end_at s p) (λ other h. h)) refl refl (fell_shape s (Duty.Step (StepDuty.Heard s index)) p)
+    item_goes s index (Some (Heard.PeerKey key)) p = rests (first (Duty.Step (StepDuty.Heard s index)) p) _ refl refl shape
+    item_goes s index (Some (Heard.Keys own peer)) p = side_goes s _ (first (Duty.Step (StepDuty.Heard s index)) p) _ (λ h. h) refl refl shape
+    item_goes s index (Some (Heard.Join form)) p = rests (first (Duty.Step (StepDuty.Heard s index)) p) _ refl refl shape
+    item_goes s index (Some (Heard.Notice notice)) p = side_goes s _ (first (Duty.Step (StepDuty.Heard s index)) p) _ (λ h. h) refl refl shape
+    item_goes s index (Some Heard.Fail) p =
+        let m = first (Duty.Step (StepDuty.Heard s index)) p in
+        fail_answered_so (λ q. Goes m q) s r m (side_goes s (with_infinite r (end_at s p)) m _ (λ h. h) refl refl shape) (event_told s (Duty.Step (StepDuty.Heard s index)) (FallEvent.FailHeard false) p)
+    item_goes s index (Some (Heard.FastClose key)) p = rests (first (Duty.Step (StepDuty.Heard s index)) p) _ refl refl (stopped_shape s index (is_stopped_by r) p)
 
-    plain_ack_goes : (s : Side) (p : PathState C) → Goes (first (duties.Step (step_duties.PlainAck s)) p) (answered_plain_ack k s r (first (duties.Step (step_duties.PlainAck s)) p))
+    plain_ack_goes : (s : Side) (p : PathState C) → Goes (first (Duty.Step (StepDuty.PlainAck s)) p) (answered_plain_ack k s r (first (Duty.Step (StepDuty.PlainAck s)) p))
     plain_ack_goes s p =
-        let m = first (duties.Step (step_duties.PlainAck s)) p in
-        either_goes (breaks_by_ack m.profile (end_at s m)) (answered_break k s 6 r m) (goes_on s (with_plain_ack (after_fell events.PlainAck r (end_at s m))) (fell_duties s r m) m) m
-        (break_goes s (duties.Step (step_duties.PlainAck s)) 6 p) (side_goes s _ m _ (λ h. h) refl refl (fell_shape s (duties.Step (step_duties.PlainAck s)) p))
+        let m = first (Duty.Step (StepDuty.PlainAck s)) p in
+        either_goes (breaks_by_ack m.profile (end_at s m)) (answered_break k s 6 r m) (goes_on s (with_plain_ack (after_fell FallEvent.PlainAck r (end_at s m))) (fell_duties s r m) m) m
+        (break_goes s (Duty.Step (StepDuty.PlainAck s)) 6 p) (side_goes s _ m _ (λ h. h) refl refl (fell_shape s (Duty.Step (StepDuty.PlainAck s)) p))
 
-    joined_goes : (s : Side) (keys : Option KeyPair) (asked : Option JoinSyn) (p : PathState C) → Goes (first (duties.Ask (ask_duties.JoinHeard s)) p) (join_taken s keys asked r (first (duties.Ask (ask_duties.JoinHeard s)) p))
-    joined_goes s (Some keys) (Some asked) p = side_goes s _ (first (duties.Ask (ask_duties.JoinHeard s)) p) _ (λ h. h) refl refl shape
-    joined_goes s (Some keys) None p = rests (first (duties.Ask (ask_duties.JoinHeard s)) p) _ refl refl shape
-    joined_goes s None (Some asked) p = side_goes s _ (first (duties.Ask (ask_duties.JoinHeard s)) p) _ (λ h. h) refl refl shape
-    joined_goes s None None p = rests (first (duties.Ask (ask_duties.JoinHeard s)) p) _ refl refl shape
+    joined_goes : (s : Side) (keys : Option KeyPair) (asked : Option JoinSyn) (p : PathState C) → Goes (first (Duty.Ask (AskDuty.JoinHeard s)) p) (join_taken s keys asked r (first (Duty.Ask (AskDuty.JoinHeard s)) p))
+    joined_goes s (Some keys) (Some asked) p = side_goes s _ (first (Duty.Ask (AskDuty.JoinHeard s)) p) _ (λ h. h) refl refl shape
+    joined_goes s (Some keys) None p = rests (first (Duty.Ask (AskDuty.JoinHeard s)) p) _ refl refl shape
+    joined_goes s None (Some asked) p = side_goes s _ (first (Duty.Ask (AskDuty.JoinHeard s)) p) _ (λ h. h) refl refl shape
+    joined_goes s None None p = rests (first (Duty.Ask (AskDuty.JoinHeard s)) p) _ refl refl shape
 
     -- whatever is replied to a duty by which no reassembly book is told or asked
     answered_goes : (d : Duty) → IsOther d → (p : PathState C) → Goes (first d p) (answered k d r (first d p))
-    answered_goes (duties.Ask (ask_duties.Window s)) other p = side_goes s _ (first (duties.Ask (ask_duties.Window s)) p) _ (λ h. absurd (false≢true h)) refl refl shape
-    answered_goes (duties.Ask (ask_duties.LeaveNoted s)) other p = side_goes s (died (end_at s p)) (first (duties.Ask (ask_duties.LeaveNoted s)) p) _ (λ h. absurd (false≢true h)) refl refl shape
-    answered_goes duties.End other p = rests (first duties.End p) _ refl refl refl
-    answered_goes (duties.Send (send_duties.BreakReset s reason)) other p = side_goes s (died (end_at s p)) (first (duties.Send (send_duties.BreakReset s reason)) p) _ (λ h. absurd (false≢true h)) refl refl refl
-    answered_goes (duties.Send (send_duties.Reset s)) other p = side_goes s (died (end_at s p)) (first (duties.Send (send_duties.Reset s)) p) _ (λ h. absurd (false≢true h)) refl refl shape
-    answered_goes (duties.Send (send_duties.ResetNoted s)) other p = side_goes s (died (end_at s p)) (first (duties.Send (send_duties.ResetNoted s)) p) _ (λ h. absurd (false≢true h)) refl refl shape
-    answered_goes (duties.Ask ask_duties.JoinAgain) other p = begun_goes r (duties.Ask (ask_duties.Leave A) ∷ ds) ds (first (duties.Ask ask_duties.JoinAgain) p) shape shape
-    answered_goes (duties.Step step_duties.Events) other p = happens_goes k (next_event (first (duties.Step step_duties.Events) p)) r (first (duties.Step step_duties.Events) p)
-    answered_goes (duties.Step (step_duties.Data s)) other p = data_goes s (first_unsent (end_at s p)) p
-    answered_goes (duties.Ask (ask_duties.PeerKey s)) other p = key_goes s (key_heard (end_at s p).treated.items) p
-    answered_goes (duties.Ask (ask_duties.Opened s)) other p = opened_goes s (keys_heard (end_at s p).treated.items) p
-    answered_goes (duties.Ask (ask_duties.JoinHeard s)) other p = joined_goes s (keys_begun r) (asked_at s p) p
-    answered_goes (duties.Step (step_duties.Heard s index)) other p = item_goes s index (item_of index (end_at s p)) p
-    answered_goes (duties.Step (step_duties.PlainAck s)) other p = plain_ack_goes s p
-    answered_goes (duties.Ask (ask_duties.AckHeard s)) other p = event_told s (duties.Ask (ask_duties.AckHeard s)) events.AckHeard p
-    answered_goes (duties.Ask (ask_duties.FailHeard s)) other p =
-        side_goes s (after_fail_heard r (end_at s p)) (first (duties.Ask (ask_duties.FailHeard s)) p) _
-        (fail_heard_so (λ f. EndCalms (end_at s p) f) r (end_at s p) (λ own owes h. h)) refl refl (fell_shape s (duties.Ask (ask_duties.FailHeard s)) p)
-    answered_goes (duties.Ask (ask_duties.PlainHandshake s)) other p = event_told s (duties.Ask (ask_duties.PlainHandshake s)) events.PlainHandshake p
-    answered_goes (duties.Ask (ask_duties.PlainData s)) other p = event_told s (duties.Ask (ask_duties.PlainData s)) events.PlainData p
-    answered_goes (duties.Ask (ask_duties.Edge s)) other p = absurd other
-    answered_goes (duties.Ask (ask_duties.CheckFailed s)) other p = absurd other
-    answered_goes (duties.Ask (ask_duties.GoIdentity s)) other p = absurd other
-    answered_goes (duties.Step (step_duties.Unmapped s)) other p = absurd other
-    answered_goes (duties.Ask (ask_duties.HeardFin s index)) other p = absurd other
-    answered_goes (duties.Ask (ask_duties.SubflowFin s)) other p = absurd other
-    answered_goes (duties.Ask (ask_duties.AckOut s)) other p = absurd other
-    answered_goes (duties.Ask (ask_duties.BreakAck s reason)) other p = absurd other
-    answered_goes (duties.Silent (silent_duties.PassFin s)) other p = absurd other
+    answered_goes (Duty.Ask (AskDuty.Window s)) other p = side_goes s _ (first (Duty.Ask (AskDuty.Window s)) p) _ (λ h. absurd (false≢true h)) refl refl shape
+    answered_goes (Duty.Ask (AskDuty.LeaveNoted s)) other p = side_goes s (died (end_at s p)) (first (Duty.Ask (AskDuty.LeaveNoted s)) p) _ (λ h. absurd (false≢true h)) refl refl shape
+    answered_goes Duty.End other p = rests (first Duty.End p) _ refl refl refl
+    answered_goes (Duty.Send (SendDuty.BreakReset s reason)) other p = side_goes s (died (end_at s p)) (first (Duty.Send (SendDuty.BreakReset s reason)) p) _ (λ h. absurd (false≢true h)) refl refl refl
+    answered_goes (Duty.Send (SendDuty.Reset s)) other p = side_goes s (died (end_at s p)) (first (Duty.Send (SendDuty.Reset s)) p) _ (λ h. absurd (false≢true h)) refl refl shape
+    answered_goes (Duty.Send (SendDuty.ResetNoted s)) other p = side_goes s (died (end_at s p)) (first (Duty.Send (SendDuty.ResetNoted s)) p) _ (λ h. absurd (false≢true h)) refl refl shape
+    answered_goes (Duty.Ask AskDuty.JoinAgain) other p = begun_goes r (Duty.Ask (AskDuty.Leave A) ∷ ds) ds (first (Duty.Ask AskDuty.JoinAgain) p) shape shape
+    answered_goes (Duty.Step StepDuty.Events) other p = happens_goes k (next_event (first (Duty.Step StepDuty.Events) p)) r (first (Duty.Step StepDuty.Events) p)
+    answered_goes (Duty.Step (StepDuty.Data s)) other p = data_goes s (first_unsent (end_at s p)) p
+    answered_goes (Duty.Ask (AskDuty.PeerKey s)) other p = key_goes s (key_heard (end_at s p).treated.items) p
+    answered_goes (Duty.Ask (AskDuty.Opened s)) other p = opened_goes s (keys_heard (end_at s p).treated.items) p
+    answered_goes (Duty.Ask (AskDuty.JoinHeard s)) other p = joined_goes s (keys_begun r) (asked_at s p) p
+    answered_goes (Duty.Step (StepDuty.Heard s index)) other p = item_goes s index (item_of index (end_at s p)) p
+    answered_goes (Duty.Step (StepDuty.PlainAck s)) other p = plain_ack_goes s p
+    answered_goes (Duty.Ask (AskDuty.AckHeard s)) other p = event_told s (Duty.Ask (AskDuty.AckHeard s)) FallEvent.AckHeard p
+    answered_goes (Duty.Ask (AskDuty.FailHeard s)) other p =
+        side_goes s (after_fail_heard r (end_at s p)) (first (Duty.Ask (AskDuty.FailHeard s)) p) _
+        (fail_heard_so (λ f. EndCalms (end_at s p) f) r (end_at s p) (λ own owes h. h)) refl refl (fell_shape s (Duty.Ask (AskDuty.FailHeard s)) p)
+    answered_goes (Duty.Ask (AskDuty.PlainHandshake s)) other p = event_told s (Duty.Ask (AskDuty.PlainHandshake s)) FallEvent.PlainHandshake p
+    answered_goes (Duty.Ask (AskDuty.PlainData s)) other p = event_told s (Duty.Ask (AskDuty.PlainData s)) FallEvent.PlainData p
+    answered_goes (Duty.Ask (AskDuty.Edge s)) other p = absurd other
+    answered_goes (Duty.Ask (AskDuty.CheckFailed s)) other p = absurd other
+    answered_goes (Duty.Ask (AskDuty.GoIdentity s)) other p = absurd other
+    answered_goes (Duty.Step (StepDuty.Unmapped s)) other p = absurd other
+    answered_goes (Duty.Ask (AskDuty.HeardFin s index)) other p = absurd other
+    answered_goes (Duty.Ask (AskDuty.SubflowFin s)) other p = absurd other
+    answered_goes (Duty.Ask (AskDuty.AckOut s)) other p = absurd other
+    answered_goes (Duty.Ask (AskDuty.BreakAck s reason)) other p = absurd other
+    answered_goes (Duty.Silent (SilentDuty.PassFin s)) other p = absurd other
     answered_goes d other p = record { calms = kept_by (side_of d) (writes d) (first d p) _ refl refl (writes_no_more k d r (first d p)); shape = shape }
 
   -- ---- the duties by which a book is told, or asked
@@ -460,27 +411,27 @@ module _ {C : Type 0} where
   asked_shielded s r es p shape calm = told_shielded s (after_ack_out r (end_at s p)) es p shape (λ is. absurd (false≢true is)) (λ t is asked. absurd (calm t is asked))
 
   -- the edge: the duty stays where the bytes were placed
-  piece_shielded : (s : Side) (piece : Option Piece) (taken : Bool) (ds : List Duty) (p : PathState C) → is_sheltered (duties.Ask (ask_duties.Edge s) ∷ ds) ≡ true → OthersCalm s p
-      → Shielded (answered_piece s piece taken (with_agenda (duties.Ask (ask_duties.Edge s) ∷ ds) p))
-  piece_shielded s None taken ds p shape calm = refused_shielded s (with_agenda (duties.Ask (ask_duties.Edge s) ∷ ds) p) calm
-  piece_shielded s (Some piece) false ds p shape calm = refused_shielded s (with_agenda (duties.Ask (ask_duties.Edge s) ∷ ds) p) calm
+  piece_shielded : (s : Side) (piece : Option Piece) (taken : Bool) (ds : List Duty) (p : PathState C) → is_sheltered (Duty.Ask (AskDuty.Edge s) ∷ ds) ≡ true → OthersCalm s p
+      → Shielded (answered_piece s piece taken (with_agenda (Duty.Ask (AskDuty.Edge s) ∷ ds) p))
+  piece_shielded s None taken ds p shape calm = refused_shielded s (with_agenda (Duty.Ask (AskDuty.Edge s) ∷ ds) p) calm
+  piece_shielded s (Some piece) false ds p shape calm = refused_shielded s (with_agenda (Duty.Ask (AskDuty.Edge s) ∷ ds) p) calm
   piece_shielded s (Some piece) true ds p shape calm =
-      told_shielded s (having_asked (after_piece piece (end_at s p))) (duties.Ask (ask_duties.Edge s) ∷ ds) (with_agenda (duties.Ask (ask_duties.Edge s) ∷ ds) p) shape
+      told_shielded s (having_asked (after_piece piece (end_at s p))) (Duty.Ask (AskDuty.Edge s) ∷ ds) (with_agenda (Duty.Ask (AskDuty.Edge s) ∷ ds) p) shape
       (λ is. edge_guarded s ds (and_parts (guarded s ds) (is_sheltered ds) shape).0) (λ t is asked. absurd (calm t is asked))
 
-  fin_shielded : (s : Side) (index : ℕ) (set : Bool) (ds : List Duty) (p : PathState C) → is_sheltered (duties.Ask (ask_duties.HeardFin s index) ∷ ds) ≡ true → OthersCalm s p
-      → Shielded (answered_fin_heard s set (with_agenda (duties.Ask (ask_duties.HeardFin s index) ∷ ds) p))
-  fin_shielded s index false ds p shape calm = refused_shielded s (with_agenda (duties.Ask (ask_duties.HeardFin s index) ∷ ds) p) calm
+  fin_shielded : (s : Side) (index : ℕ) (set : Bool) (ds : List Duty) (p : PathState C) → is_sheltered (Duty.Ask (AskDuty.HeardFin s index) ∷ ds) ≡ true → OthersCalm s p
+      → Shielded (answered_fin_heard s set (with_agenda (Duty.Ask (AskDuty.HeardFin s index) ∷ ds) p))
+  fin_shielded s index false ds p shape calm = refused_shielded s (with_agenda (Duty.Ask (AskDuty.HeardFin s index) ∷ ds) p) calm
   fin_shielded s index true ds p shape calm =
       let parts = and_parts (guarded s ds) (is_sheltered ds) shape in
-      told_shielded s (having_asked (with_peer_data_fin (end_at s p))) ds (with_agenda (duties.Ask (ask_duties.HeardFin s index) ∷ ds) p) parts.1 (λ is. parts.0) (λ t is asked. absurd (calm t is asked))
+      told_shielded s (having_asked (with_peer_data_fin (end_at s p))) ds (with_agenda (Duty.Ask (AskDuty.HeardFin s index) ∷ ds) p) parts.1 (λ is. parts.0) (λ t is asked. absurd (calm t is asked))
 
-  plain_fin_shielded : (s : Side) (set : Bool) (ds : List Duty) (p : PathState C) → is_sheltered (duties.Ask (ask_duties.SubflowFin s) ∷ ds) ≡ true → OthersCalm s p
-      → Shielded (answered_plain_fin s set (with_agenda (duties.Ask (ask_duties.SubflowFin s) ∷ ds) p))
-  plain_fin_shielded s false ds p shape calm = refused_shielded s (with_agenda (duties.Ask (ask_duties.SubflowFin s) ∷ ds) p) calm
+  plain_fin_shielded : (s : Side) (set : Bool) (ds : List Duty) (p : PathState C) → is_sheltered (Duty.Ask (AskDuty.SubflowFin s) ∷ ds) ≡ true → OthersCalm s p
+      → Shielded (answered_plain_fin s set (with_agenda (Duty.Ask (AskDuty.SubflowFin s) ∷ ds) p))
+  plain_fin_shielded s false ds p shape calm = refused_shielded s (with_agenda (Duty.Ask (AskDuty.SubflowFin s) ∷ ds) p) calm
   plain_fin_shielded s true ds p shape calm =
       let parts = and_parts (guarded s ds) (is_sheltered ds) shape in
-      told_shielded s (having_asked (with_peer_data_fin (with_fin_told (end_at s p)))) ds (with_agenda (duties.Ask (ask_duties.SubflowFin s) ∷ ds) p) parts.1 (λ is. parts.0) (λ t is asked. absurd (calm t is asked))
+      told_shielded s (having_asked (with_peer_data_fin (with_fin_told (end_at s p)))) ds (with_agenda (Duty.Ask (AskDuty.SubflowFin s) ∷ ds) p) parts.1 (λ is. parts.0) (λ t is asked. absurd (calm t is asked))
 
   -- what follows a verdict, where something was told before
   verdict_guarded : (s : Side) (d : Duty) (r : Reply) (ds : List Duty) (p : PathState C) → (end_at s p).treated.asked ≡ true → guarded s ds ≡ true → guarded s (fell_duties s r (with_agenda (d ∷ ds) p)) ≡ true
@@ -532,29 +483,29 @@ module _ {C : Type 0} where
         at B is = absurd (calm_by d h B none_b (g.calms.b is))
 
     pub answered_shielded : (d : Duty) → Shielded (with_agenda (d ∷ ds) p) → Shielded (answered k d r (with_agenda (d ∷ ds) p))
-    answered_shielded (duties.Send (send_duties.Update s)) h = other_shielded (duties.Send (send_duties.Update s)) tt refl refl h
-    answered_shielded (duties.Ask (ask_duties.GoIdentity s)) h = record { shape = h.shape; asked = at }
+    answered_shielded (Duty.Send (SendDuty.Update s)) h = other_shielded (Duty.Send (SendDuty.Update s)) tt refl refl h
+    answered_shielded (Duty.Ask (AskDuty.GoIdentity s)) h = record { shape = h.shape; asked = at }
       where
-        at : (t : Side) → (end_at t (answered_identity s (with_agenda (duties.Ask (ask_duties.GoIdentity s) ∷ ds) p))).treated.asked ≡ true → guarded t ds ≡ true
+        at : (t : Side) → (end_at t (answered_identity s (with_agenda (Duty.Ask (AskDuty.GoIdentity s) ∷ ds) p))).treated.asked ≡ true → guarded t ds ≡ true
         at t is = passes t s ds (h.asked t (still_asked s t (in_identity (end_at s p)) ds p (λ x. x) is))
-    answered_shielded (duties.Ask (ask_duties.CheckFailed s)) h =
+    answered_shielded (Duty.Ask (AskDuty.CheckFailed s)) h =
         told_shielded s (after_check_failed p.profile.spelling.checksums r (end_at s p)) (fell_duties s r m) m (fell_shape k r ds h.shape s d p)
         (λ is. let asked = check_failed_so (λ f. EndCalms (end_at s p) f) p.profile.spelling.checksums r (end_at s p) (λ told broken recv forgets x. x) is in
         verdict_guarded s d r ds p asked (passes s s ds (h.asked s asked)))
         (λ t is asked. absurd (calm_by d h t (neither t s is) asked))
       where
         d : Duty
-        d = duties.Ask (ask_duties.CheckFailed s)
+        d = Duty.Ask (AskDuty.CheckFailed s)
 
         m : PathState C
         m = with_agenda (d ∷ ds) p
-    answered_shielded (duties.Ask (ask_duties.Edge s)) h = piece_shielded s (piece_of s p) (is_placed r) ds p h.shape (λ t is asked. calm_by (duties.Ask (ask_duties.Edge s)) h t (neither t s is) asked)
-    answered_shielded (duties.Step (step_duties.Unmapped s)) h = broken_shielded k s 6 r (with_agenda (duties.Step (step_duties.Unmapped s) ∷ ds) p) (λ t is asked. calm_by (duties.Step (step_duties.Unmapped s)) h t (neither t s is) asked)
-    answered_shielded (duties.Ask (ask_duties.HeardFin s index)) h = fin_shielded s index (is_fin_set r) ds p h.shape (λ t is asked. calm_by (duties.Ask (ask_duties.HeardFin s index)) h t (neither t s is) asked)
-    answered_shielded (duties.Ask (ask_duties.SubflowFin s)) h = plain_fin_shielded s (is_fin_set r) ds p h.shape (λ t is asked. calm_by (duties.Ask (ask_duties.SubflowFin s)) h t (neither t s is) asked)
-    answered_shielded (duties.Ask (ask_duties.AckOut s)) h = asked_shielded s r ds (with_agenda (duties.Ask (ask_duties.AckOut s) ∷ ds) p) h.shape (λ t is asked. calm_by (duties.Ask (ask_duties.AckOut s)) h t (neither_asks t s is) asked)
-    answered_shielded (duties.Ask (ask_duties.BreakAck s reason)) h = asked_shielded s r (resets s reason) (with_agenda (duties.Ask (ask_duties.BreakAck s reason) ∷ ds) p) refl (λ t is asked. calm_by (duties.Ask (ask_duties.BreakAck s reason)) h t (neither_asks t s is) asked)
-    answered_shielded (duties.Silent (silent_duties.PassFin s)) h = record { shape = h.shape; asked = at }
+    answered_shielded (Duty.Ask (AskDuty.Edge s)) h = piece_shielded s (piece_of s p) (is_placed r) ds p h.shape (λ t is asked. calm_by (Duty.Ask (AskDuty.Edge s)) h t (neither t s is) asked)
+    answered_shielded (Duty.Step (StepDuty.Unmapped s)) h = broken_shielded k s 6 r (with_agenda (Duty.Step (StepDuty.Unmapped s) ∷ ds) p) (λ t is asked. calm_by (Duty.Step (StepDuty.Unmapped s)) h t (neither t s is) asked)
+    answered_shielded (Duty.Ask (AskDuty.HeardFin s index)) h = fin_shielded s index (is_fin_set r) ds p h.shape (λ t is asked. calm_by (Duty.Ask (AskDuty.HeardFin s index)) h t (neither t s is) asked)
+    answered_shielded (Duty.Ask (AskDuty.SubflowFin s)) h = plain_fin_shielded s (is_fin_set r) ds p h.shape (λ t is asked. calm_by (Duty.Ask (AskDuty.SubflowFin s)) h t (neither t s is) asked)
+    answered_shielded (Duty.Ask (AskDuty.AckOut s)) h = asked_shielded s r ds (with_agenda (Duty.Ask (AskDuty.AckOut s) ∷ ds) p) h.shape (λ t is asked. calm_by (Duty.Ask (AskDuty.AckOut s)) h t (neither_asks t s is) asked)
+    answered_shielded (Duty.Ask (AskDuty.BreakAck s reason)) h = asked_shielded s r (resets s reason) (with_agenda (Duty.Ask (AskDuty.BreakAck s reason) ∷ ds) p) refl (λ t is asked. calm_by (Duty.Ask (AskDuty.BreakAck s reason)) h t (neither_asks t s is) asked)
+    answered_shielded (Duty.Silent (SilentDuty.PassFin s)) h = record { shape = h.shape; asked = at }
       where
         at : (t : Side) → (end_at t p).treated.asked ≡ true → guarded t ds ≡ true
         at t asked = passes t s ds (h.asked t asked)

@@ -1,30 +1,23 @@
 -- Where bytes or an end were told to a reassembly book, the book is asked what is to be acknowledged before the end sends anything.
-use Rattle.std.proofs.Common.{Bool, true, false, ◌&&◌, ◌||◌, List, [], ◌∷◌}
-use Rattle.sides.specs.declared.side.Side.{Side}
-use Rattle.link_script.specs.Places.{same_side}
-use Rattle.path_agenda.specs.declared.duty.Duty.{Duty}
-use Rattle.path_agenda.specs.declared.duty.Duty.TheVariants as duties
-use Rattle.path_agenda.specs.declared.duty.AskDuty.TheVariants as ask_duties
-use Rattle.path_agenda.specs.declared.duty.SilentDuty.TheVariants as silent_duties
-use Rattle.path_agenda.specs.declared.duty.StepDuty.TheVariants as step_duties
+use Rattle.world_laws.proofs.Words.{◌&&◌, ◌||◌, Bool, true, false, List, [], ◌∷◌, Side, same_side, Duty, StepDuty, AskDuty, SilentDuty}
 
 -- ---- what is to be done before
 
 -- by this duty the book is asked
 abbrev pub is_asking : Side → Duty → Bool
-is_asking s (duties.Ask (ask_duties.AckOut t)) = same_side s t
-is_asking s (duties.Ask (ask_duties.BreakAck t reason)) = same_side s t
+is_asking s (Duty.Ask (AskDuty.AckOut t)) = same_side s t
+is_asking s (Duty.Ask (AskDuty.BreakAck t reason)) = same_side s t
 is_asking s _ = false
 
 -- what may come before it
 abbrev pub is_telling : Side → Duty → Bool
-is_telling s (duties.Ask (ask_duties.Edge t)) = same_side s t
-is_telling s (duties.Ask (ask_duties.CheckFailed t)) = same_side s t
-is_telling s (duties.Ask (ask_duties.GoIdentity t)) = same_side s t
-is_telling s (duties.Step (step_duties.Unmapped t)) = same_side s t
-is_telling s (duties.Ask (ask_duties.HeardFin t index)) = same_side s t
-is_telling s (duties.Silent (silent_duties.PassFin t)) = same_side s t
-is_telling s (duties.Ask (ask_duties.SubflowFin t)) = same_side s t
+is_telling s (Duty.Ask (AskDuty.Edge t)) = same_side s t
+is_telling s (Duty.Ask (AskDuty.CheckFailed t)) = same_side s t
+is_telling s (Duty.Ask (AskDuty.GoIdentity t)) = same_side s t
+is_telling s (Duty.Step (StepDuty.Unmapped t)) = same_side s t
+is_telling s (Duty.Ask (AskDuty.HeardFin t index)) = same_side s t
+is_telling s (Duty.Silent (SilentDuty.PassFin t)) = same_side s t
+is_telling s (Duty.Ask (AskDuty.SubflowFin t)) = same_side s t
 is_telling s _ = false
 
 abbrev pub is_shield : Side → Duty → Bool
@@ -37,9 +30,9 @@ guarded s (d ∷ ds) = is_asking s d || (is_telling s d && guarded s ds)
 
 -- what a duty by which a book is told needs behind it
 abbrev pub needs : Duty → List Duty → Bool
-needs (duties.Ask (ask_duties.Edge s)) ds = guarded s ds
-needs (duties.Ask (ask_duties.HeardFin s index)) ds = guarded s ds
-needs (duties.Ask (ask_duties.SubflowFin s)) ds = guarded s ds
+needs (Duty.Ask (AskDuty.Edge s)) ds = guarded s ds
+needs (Duty.Ask (AskDuty.HeardFin s index)) ds = guarded s ds
+needs (Duty.Ask (AskDuty.SubflowFin s)) ds = guarded s ds
 needs _ ds = true
 
 abbrev pub is_sheltered : List Duty → Bool

@@ -1,39 +1,28 @@
 -- A path never writes to a send book and never closes one.
-use Rattle.std.proofs.Common.{◌≡◌, refl, sym, ◌∙◌, ap, Result, Ok, Err, ℕ, Bool, true, false, if◌then◌else◌, Some, List, ◌++◌}
-use Rattle.send_book.specs.declared.call.Span.{Span}
-use Rattle.send_book.specs.declared.call.Why.{Why}
-use Rattle.send_book.specs.declared.call.SendCall.{SendCall}
-use Rattle.send_book.specs.declared.call.SendCall.TheVariants as calls
-use Rattle.send_book.specs.State.{Sending}
-use Rattle.send_book.specs.Steps.{decision, given_by, is_future, is_gathered, after_call}
-use Rattle.actor_desk.specs.declared.ask.Ask.{Ask}
-use Rattle.actor_desk.specs.declared.ask.Ask.TheVariants as asks
-use Rattle.path_agenda.specs.declared.duty.Duty.{Duty}
-use Rattle.path_core.specs.Codec.{Codec}
-use Rattle.path_core.specs.Duties.{ask_for}
-use Rattle.path_core.specs.State.{PathState}
+use Rattle.world_laws.proofs.Words.{◌≡◌, refl, sym, ◌∙◌, ap, ℕ, Bool, true, false, if◌then◌else◌, Some, Result, Ok, Err, List, ◌++◌, false≢true, Span, Why}
+use Rattle.world_laws.proofs.Words.{SendCall, Sending, decision, given_by, is_future, is_gathered, Duty, Ask, Codec, ask_for, PathState, May, may, asking}
+use Rattle.world_laws.proofs.Words.{may_send}
+use Rattle.send_book.specs.Steps.{after_call}
 use Rattle.world_laws.proofs.Lanes.Applying.{Writes}
-use Rattle.world_laws.specs.Asking.{May, may, may_send, asking}
 use Rattle.world_laws.proofs.Writes.Asks.{asks_no_more}
-use Rattle.std.proofs.lemmas.Bool.{false≢true}
 
 -- neither writes nor closes
 abbrev pub LeavesFile : SendCall → Type 0
-LeavesFile (calls.Write bytes) = ⊥
-LeavesFile calls.Close = ⊥
+LeavesFile (SendCall.Write bytes) = ⊥
+LeavesFile SendCall.Close = ⊥
 LeavesFile _ = Unit {0}
 
 abbrev pub AskLeavesFile : Ask → Type 0
-AskLeavesFile (asks.Send s call) = LeavesFile call
+AskLeavesFile (Ask.Send s call) = LeavesFile call
 AskLeavesFile _ = Unit {0}
 
 none_called : (m : May) (call : SendCall) → may_send m call ≡ true → LeavesFile call
-none_called m (calls.Write bytes) is = absurd (false≢true is)
-none_called m calls.Close is = absurd (false≢true is)
+none_called m (SendCall.Write bytes) is = absurd (false≢true is)
+none_called m SendCall.Close is = absurd (false≢true is)
 none_called m _ is = tt
 
 none_asked : (m : May) (x : Ask) → may m x ≡ true → AskLeavesFile x
-none_asked m (asks.Send s call) is = none_called m call is
+none_asked m (Ask.Send s call) is = none_called m call is
 none_asked m _ is = tt
 
 module _ {C : Type 0} (k : Codec C) (p : PathState C) where
@@ -54,15 +43,15 @@ module _ (file rest : List ℕ) (b : Sending) (h : Writes file rest b) where
   }
 
   pub call_keeps : (call : SendCall) → LeavesFile call → Writes file rest (after_call b call)
-  call_keeps (calls.Write bytes) leaves = absurd leaves
-  call_keeps calls.Close leaves = absurd leaves
-  call_keeps (calls.Grant path max standby) leaves = grant_keeps path (decision path max standby b)
-  call_keeps (calls.AckIn next window) leaves = ack_keeps (is_future next b) _ refl refl
-  call_keeps (calls.Return path) leaves = record { prefix = h.prefix; whole = h.whole }
-  call_keeps calls.GoIdentity leaves = record { prefix = h.prefix; whole = h.whole }
-  call_keeps (calls.GoInfinite path) leaves = infinite (is_gathered path b)
+  call_keeps (SendCall.Write bytes) leaves = absurd leaves
+  call_keeps SendCall.Close leaves = absurd leaves
+  call_keeps (SendCall.Grant path max standby) leaves = grant_keeps path (decision path max standby b)
+  call_keeps (SendCall.AckIn next window) leaves = ack_keeps (is_future next b) _ refl refl
+  call_keeps (SendCall.Return path) leaves = record { prefix = h.prefix; whole = h.whole }
+  call_keeps SendCall.GoIdentity leaves = record { prefix = h.prefix; whole = h.whole }
+  call_keeps (SendCall.GoInfinite path) leaves = infinite (is_gathered path b)
     where
       infinite : (c : Bool) → Writes file rest (if c then record b { owner = Some path } else b)
       infinite true = record { prefix = h.prefix; whole = h.whole }
       infinite false = h
-  call_keeps calls.Abort leaves = record { prefix = h.prefix; whole = h.whole }
+  call_keeps SendCall.Abort leaves = record { prefix = h.prefix; whole = h.whole }

@@ -1,47 +1,27 @@
 -- What a path asks: of the reassembly books neither to read nor to abort; of the send books grants at one duty, acknowledgements where
 -- it heard something, and else returns alone.
-use Rattle.std.proofs.Common.{◌≡◌, refl, sym, ◌∙◌, true, false, ℕ, Option}
-use Rattle.sides.specs.declared.side.Side.{Side}
-use Rattle.send_book.specs.declared.call.SendCall.TheVariants as send_calls
-use Rattle.reassembly_book.specs.declared.call.ReassemblyCall.{ReassemblyCall}
-use Rattle.reassembly_book.specs.declared.call.ReassemblyCall.TheVariants as reassembly_calls
-use Rattle.actor_desk.specs.declared.ask.Ask.{Ask}
-use Rattle.actor_desk.specs.declared.ask.Ask.TheVariants as asks
-use Rattle.path_agenda.specs.declared.duty.Duty.{Duty}
-use Rattle.path_agenda.specs.declared.duty.Duty.TheVariants as duties
-use Rattle.path_agenda.specs.declared.duty.AskDuty.TheVariants as ask_duties
-use Rattle.path_agenda.specs.declared.duty.StepDuty.TheVariants as step_duties
-use Rattle.path_agenda.specs.declared.heard.Heard.{Heard}
-use Rattle.path_core.specs.Codec.{Codec}
-use Rattle.path_core.specs.Duties.{ask_for}
-use Rattle.path_core.specs.State.{PathState, end_at, path_of}
-use Rattle.path_core.specs.Treating.{item_ask}
-use Rattle.path_core.specs.Fallback.{subflow_ack_ask}
+use Rattle.world_laws.proofs.Words.{◌≡◌, refl, sym, ◌∙◌, ℕ, true, false, Option, false≢true, Side, ReassemblyCall, SendCall, Duty, StepDuty, AskDuty, Heard}
+use Rattle.world_laws.proofs.Words.{Ask, Codec, ask_for, PathState, end_at, path_of, item_ask, subflow_ack_ask, side_of, May, may, may_reassemble, asking}
+use Rattle.world_laws.proofs.Words.{IsAsked, asks_of_steps}
 use Rattle.world_laws.proofs.Asks.SendBooks.{IsQuiet}
 use Rattle.world_laws.proofs.Falls.FailedChecks.{subflow_acks_so}
-use Rattle.world_laws.specs.Asking.{May, may, may_reassemble, asking, IsAsked, asks_of_steps}
 use Rattle.world_laws.proofs.Writes.Asks.{asks_no_more, item_asked}
-use Rattle.std.proofs.lemmas.Bool.{false≢true}
-use Rattle.world_laws.specs.Writes.{side_of}
 
 -- not a read
 abbrev pub IsArrival : ReassemblyCall → Type 0
-IsArrival (reassembly_calls.Place at bytes) = Unit {0}
-IsArrival (reassembly_calls.Fin at) = Unit {0}
-IsArrival reassembly_calls.AckOut = Unit {0}
-IsArrival (reassembly_calls.Abort by_peer) = Unit {0}
-IsArrival (reassembly_calls.Read max) = ⊥
+IsArrival (ReassemblyCall.Read max) = ⊥
+IsArrival _ = Unit {0}
 
 abbrev pub IsPathAsk : Ask → Type 0
-IsPathAsk (asks.Reassembly s call) = IsArrival call
+IsPathAsk (Ask.Reassembly s call) = IsArrival call
 IsPathAsk _ = Unit {0}
 
 arrival_called : (m : May) (call : ReassemblyCall) → may_reassemble m call ≡ true → IsArrival call
-arrival_called m (reassembly_calls.Read max) is = absurd (false≢true is)
+arrival_called m (ReassemblyCall.Read max) is = absurd (false≢true is)
 arrival_called m _ is = tt
 
 path_asked : (m : May) (x : Ask) → may m x ≡ true → IsPathAsk x
-path_asked m (asks.Reassembly s call) is = arrival_called m call is
+path_asked m (Ask.Reassembly s call) is = arrival_called m call is
 path_asked m _ is = tt
 
 module _ {C : Type 0} (k : Codec C) (p : PathState C) where
@@ -52,36 +32,36 @@ module _ {C : Type 0} (k : Codec C) (p : PathState C) where
 
 -- a step at no send book, or a return
 abbrev pub IsQuietAsk : ℕ → Ask → Type 0
-IsQuietAsk path (asks.Send s send_calls.GoIdentity) = ⊥
-IsQuietAsk path (asks.Send s call) = IsQuiet path call
+IsQuietAsk path (Ask.Send s SendCall.GoIdentity) = ⊥
+IsQuietAsk path (Ask.Send s call) = IsQuiet path call
 IsQuietAsk path _ = Unit {0}
 
 -- at a send book of this side alone, and there an acknowledgement, or whether this path goes on alone
 abbrev pub IsHeardAsk : ℕ → Side → Ask → Type 0
-IsHeardAsk path s (asks.Send t (send_calls.AckIn next window)) = t ≡ s
-IsHeardAsk path s (asks.Send t (send_calls.GoInfinite asker)) = (t ≡ s) × (asker ≡ path)
-IsHeardAsk path s (asks.Send t call) = ⊥
+IsHeardAsk path s (Ask.Send t (SendCall.AckIn next window)) = t ≡ s
+IsHeardAsk path s (Ask.Send t (SendCall.GoInfinite asker)) = (t ≡ s) × (asker ≡ path)
+IsHeardAsk path s (Ask.Send t call) = ⊥
 IsHeardAsk path s _ = Unit {0}
 
 -- a grant for this path, an acknowledgement, this path's return, a fallback, or whether a path goes on alone
 abbrev pub IsCallOf : ℕ → Ask → Type 0
-IsCallOf path (asks.Send s (send_calls.Grant asker max standby)) = asker ≡ path
-IsCallOf path (asks.Send s (send_calls.AckIn next window)) = Unit {0}
-IsCallOf path (asks.Send s (send_calls.Return asker)) = asker ≡ path
-IsCallOf path (asks.Send s send_calls.GoIdentity) = Unit {0}
-IsCallOf path (asks.Send s (send_calls.GoInfinite asker)) = Unit {0}
-IsCallOf path (asks.Send s send_calls.Abort) = Unit {0}
-IsCallOf path (asks.Send s call) = ⊥
+IsCallOf path (Ask.Send s (SendCall.Grant asker max standby)) = asker ≡ path
+IsCallOf path (Ask.Send s (SendCall.AckIn next window)) = Unit {0}
+IsCallOf path (Ask.Send s (SendCall.Return asker)) = asker ≡ path
+IsCallOf path (Ask.Send s SendCall.GoIdentity) = Unit {0}
+IsCallOf path (Ask.Send s (SendCall.GoInfinite asker)) = Unit {0}
+IsCallOf path (Ask.Send s SendCall.Abort) = Unit {0}
+IsCallOf path (Ask.Send s call) = ⊥
 IsCallOf path _ = Unit {0}
 
 -- neither asks for bytes nor hears nor falls back
 abbrev pub IsQuietDuty : Duty → Type 0
-IsQuietDuty (duties.Ask (ask_duties.GoIdentity s)) = ⊥
-IsQuietDuty (duties.Step (step_duties.Data s)) = ⊥
-IsQuietDuty (duties.Step (step_duties.Heard s index)) = ⊥
-IsQuietDuty (duties.Ask (ask_duties.SynHeard s)) = ⊥
-IsQuietDuty (duties.Ask (ask_duties.SynAnswered s)) = ⊥
-IsQuietDuty (duties.Ask (ask_duties.SubflowAck s)) = ⊥
+IsQuietDuty (Duty.Ask (AskDuty.GoIdentity s)) = ⊥
+IsQuietDuty (Duty.Step (StepDuty.Data s)) = ⊥
+IsQuietDuty (Duty.Step (StepDuty.Heard s index)) = ⊥
+IsQuietDuty (Duty.Ask (AskDuty.SynHeard s)) = ⊥
+IsQuietDuty (Duty.Ask (AskDuty.SynAnswered s)) = ⊥
+IsQuietDuty (Duty.Ask (AskDuty.SubflowAck s)) = ⊥
 IsQuietDuty _ = Unit {0}
 
 -- what neither asks for bytes nor acknowledges, falls back or goes on alone
@@ -93,34 +73,34 @@ pub record IsQuietKind (m : May) : Type 0 where
 
 module _ {C : Type 0} (k : Codec C) (p : PathState C) where
   quiet_asked : (s : Side) (m : May) → IsQuietKind m → (x : Ask) → IsAsked p s m x → IsQuietAsk (path_of p) x
-  quiet_asked s m off (asks.Send t (send_calls.Write bytes)) h = tt
-  quiet_asked s m off (asks.Send t send_calls.Close) h = tt
-  quiet_asked s m off (asks.Send t (send_calls.Grant path max standby)) h = absurd (false≢true (sym off.grant ∙ h.kind))
-  quiet_asked s m off (asks.Send t (send_calls.AckIn next window)) h = absurd (false≢true (sym off.ack_in ∙ h.kind))
-  quiet_asked s m off (asks.Send t (send_calls.Return path)) h = h.own
-  quiet_asked s m off (asks.Send t send_calls.GoIdentity) h = absurd (false≢true (sym off.falls ∙ h.kind))
-  quiet_asked s m off (asks.Send t (send_calls.GoInfinite path)) h = absurd (false≢true (sym off.alone ∙ h.kind))
-  quiet_asked s m off (asks.Send t send_calls.Abort) h = tt
+  quiet_asked s m off (Ask.Send t (SendCall.Write bytes)) h = tt
+  quiet_asked s m off (Ask.Send t SendCall.Close) h = tt
+  quiet_asked s m off (Ask.Send t (SendCall.Grant path max standby)) h = absurd (false≢true (sym off.grant ∙ h.kind))
+  quiet_asked s m off (Ask.Send t (SendCall.AckIn next window)) h = absurd (false≢true (sym off.ack_in ∙ h.kind))
+  quiet_asked s m off (Ask.Send t (SendCall.Return path)) h = h.own
+  quiet_asked s m off (Ask.Send t SendCall.GoIdentity) h = absurd (false≢true (sym off.falls ∙ h.kind))
+  quiet_asked s m off (Ask.Send t (SendCall.GoInfinite path)) h = absurd (false≢true (sym off.alone ∙ h.kind))
+  quiet_asked s m off (Ask.Send t SendCall.Abort) h = tt
   quiet_asked s m off _ h = tt
 
   pub quiet_asks : (d : Duty) → IsQuietDuty d → IsQuietAsk (path_of p) (ask_for k d p)
-  quiet_asks (duties.Step (step_duties.Data s)) q = absurd q
-  quiet_asks (duties.Step (step_duties.Heard s index)) q = absurd q
-  quiet_asks (duties.Ask (ask_duties.SynHeard s)) q = absurd q
-  quiet_asks (duties.Ask (ask_duties.SynAnswered s)) q = absurd q
-  quiet_asks (duties.Ask (ask_duties.SubflowAck s)) q = absurd q
-  quiet_asks (duties.Ask (ask_duties.GoIdentity s)) q = absurd q
+  quiet_asks (Duty.Step (StepDuty.Data s)) q = absurd q
+  quiet_asks (Duty.Step (StepDuty.Heard s index)) q = absurd q
+  quiet_asks (Duty.Ask (AskDuty.SynHeard s)) q = absurd q
+  quiet_asks (Duty.Ask (AskDuty.SynAnswered s)) q = absurd q
+  quiet_asks (Duty.Ask (AskDuty.SubflowAck s)) q = absurd q
+  quiet_asks (Duty.Ask (AskDuty.GoIdentity s)) q = absurd q
   quiet_asks d q = quiet_asked (side_of d) (asking d) (record { grant = refl; ack_in = refl; falls = refl; alone = refl }) (ask_for k d p) (asks_no_more k p d)
 
-  heard_asked : (s : Side) (x : Ask) → IsAsked p s (asks_of_steps (step_duties.Heard s 0)) x → IsHeardAsk (path_of p) s x
-  heard_asked s (asks.Send t (send_calls.Write bytes)) h = absurd (false≢true h.kind)
-  heard_asked s (asks.Send t send_calls.Close) h = absurd (false≢true h.kind)
-  heard_asked s (asks.Send t (send_calls.Grant path max standby)) h = absurd (false≢true h.kind)
-  heard_asked s (asks.Send t (send_calls.AckIn next window)) h = h.side
-  heard_asked s (asks.Send t (send_calls.Return path)) h = absurd (false≢true h.kind)
-  heard_asked s (asks.Send t send_calls.GoIdentity) h = absurd (false≢true h.kind)
-  heard_asked s (asks.Send t (send_calls.GoInfinite path)) h = (h.side, h.own)
-  heard_asked s (asks.Send t send_calls.Abort) h = absurd (false≢true h.kind)
+  heard_asked : (s : Side) (x : Ask) → IsAsked p s (asks_of_steps (StepDuty.Heard s 0)) x → IsHeardAsk (path_of p) s x
+  heard_asked s (Ask.Send t (SendCall.Write bytes)) h = absurd (false≢true h.kind)
+  heard_asked s (Ask.Send t SendCall.Close) h = absurd (false≢true h.kind)
+  heard_asked s (Ask.Send t (SendCall.Grant path max standby)) h = absurd (false≢true h.kind)
+  heard_asked s (Ask.Send t (SendCall.AckIn next window)) h = h.side
+  heard_asked s (Ask.Send t (SendCall.Return path)) h = absurd (false≢true h.kind)
+  heard_asked s (Ask.Send t SendCall.GoIdentity) h = absurd (false≢true h.kind)
+  heard_asked s (Ask.Send t (SendCall.GoInfinite path)) h = (h.side, h.own)
+  heard_asked s (Ask.Send t SendCall.Abort) h = absurd (false≢true h.kind)
   heard_asked s _ h = tt
 
   pub heard_asks : (s : Side) (o : Option Heard) → IsHeardAsk (path_of p) s (item_ask k s o p)
@@ -133,14 +113,14 @@ module _ {C : Type 0} (k : Codec C) (p : PathState C) where
   -- ---- what a path asks of a send book: bytes for itself, an acknowledgement, or it gives its own bytes back
 
   own_asked : (s : Side) (m : May) (x : Ask) → IsAsked p s m x → IsCallOf (path_of p) x
-  own_asked s m (asks.Send t (send_calls.Write bytes)) h = absurd (false≢true h.kind)
-  own_asked s m (asks.Send t send_calls.Close) h = absurd (false≢true h.kind)
-  own_asked s m (asks.Send t (send_calls.Grant path max standby)) h = h.own.0
-  own_asked s m (asks.Send t (send_calls.Return path)) h = h.own
-  own_asked s m (asks.Send t (send_calls.AckIn next window)) h = tt
-  own_asked s m (asks.Send t send_calls.GoIdentity) h = tt
-  own_asked s m (asks.Send t (send_calls.GoInfinite path)) h = tt
-  own_asked s m (asks.Send t send_calls.Abort) h = tt
+  own_asked s m (Ask.Send t (SendCall.Write bytes)) h = absurd (false≢true h.kind)
+  own_asked s m (Ask.Send t SendCall.Close) h = absurd (false≢true h.kind)
+  own_asked s m (Ask.Send t (SendCall.Grant path max standby)) h = h.own.0
+  own_asked s m (Ask.Send t (SendCall.Return path)) h = h.own
+  own_asked s m (Ask.Send t (SendCall.AckIn next window)) h = tt
+  own_asked s m (Ask.Send t SendCall.GoIdentity) h = tt
+  own_asked s m (Ask.Send t (SendCall.GoInfinite path)) h = tt
+  own_asked s m (Ask.Send t SendCall.Abort) h = tt
   own_asked s m _ h = tt
 
   pub own_calls : (d : Duty) → IsCallOf (path_of p) (ask_for k d p)

@@ -1,30 +1,20 @@
 -- What a refused grant says of a send book in numbers, and what the calls of applications and paths make of it.
-use Rattle.std.proofs.Common.{◌≡◌, refl, sym, ◌∙◌, ap, subst, ℕ, zero, suc, ◌+◌, ◌-◌, ◌≤◌, ◌&&◌, ◌||◌, ◌==◌, not, min, max, nat_lt, nat_le, inl, inr, ◌⊎◌, ⊎_elim, Bool, true, false, cond, if◌then◌else◌, Option, Some, None, Result, Ok, Err, List, [], ◌∷◌, ◌++◌, length, take, drop, map, replicate, arith, is_none}
-use Rattle.std.proofs.lemmas.Bool.{and_parts, or_cases, eqb-true, leb-true, ltb-false, false≢true}
-use Rattle.std.proofs.lemmas.List.{drop-drop, drop_min, length-append, length-take, length-drop, length-map, length-replicate}
-use Rattle.std.proofs.lemmas.List.Sums.{count_by-le-length, sum_by-cons}
-use Rattle.std.specs.List.{count_by, list_any, position}
-use Rattle.sides.specs.declared.side.Side.{Side}
-use Rattle.send_book.specs.declared.call.Span.{Span}
-use Rattle.send_book.specs.declared.call.Why.{Why}
+use Rattle.world_laws.proofs.Words.{◌≡◌, refl, sym, ◌∙◌, ap, subst, ℕ, zero, suc, ◌+◌, ◌-◌, ◌≤◌, ◌&&◌, ◌||◌, ◌==◌, not, min, max, nat_lt, nat_le, inl, inr, ◌⊎◌}
+use Rattle.world_laws.proofs.Words.{⊎_elim, Bool, true, false, cond, if◌then◌else◌, Option, Some, None, Result, Ok, Err, List, [], ◌∷◌, ◌++◌, length, take}
+use Rattle.world_laws.proofs.Words.{drop, map, replicate, arith, is_none, eqb-true, or_cases, and_parts, false≢true, ltb-false, leb-true, drop-drop, drop_min}
+use Rattle.world_laws.proofs.Words.{length-append, length-take, length-drop, length-map, length-replicate, count_by, list_any, count_by-le-length, sum_by-cons}
+use Rattle.world_laws.proofs.Words.{Side, Span, Why, SendCall, Sending, acked_len, bytes_taken, is_for, span_at, decision, reply_by, run_len, given_by}
+use Rattle.world_laws.proofs.Words.{is_future, fin_after, is_gathered, tried_first, AckIn, Abort, Acked, Held, Free, is_free_for, is_held_by, given, returned}
+use Rattle.world_laws.proofs.Words.{contains, no_paths, MayTake, decision-MayTake, Note, Reply, grant_in, in_take, in_drop, in_map, Every-append, in_replicate}
+use Rattle.world_laws.proofs.Words.{Every, if_so, asks_grant, last_asked, AskedForAll, is_standby, taken_len, last_on_standby}
+use Rattle.std.specs.List.{position}
 use Rattle.send_book.specs.declared.call.Why.TheVariants.{Ended, Backup, WindowShut}
-use Rattle.send_book.specs.declared.call.SendCall.{SendCall}
-use Rattle.send_book.specs.declared.call.SendCall.TheVariants.{Write, Close, Grant, AckIn, Return, GoIdentity, GoInfinite, Abort}
+use Rattle.send_book.specs.declared.call.SendCall.TheVariants.{Write, Close, Grant, Return, GoIdentity, GoInfinite}
 use Rattle.send_book.specs.declared.mark.ByteMark.{ByteMark}
-use Rattle.send_book.specs.declared.mark.ByteMark.TheVariants.{Acked, Held, Free}
-use Rattle.send_book.specs.Marks.{is_acked, is_free_for, is_held_by, given, returned}
-use Rattle.send_book.specs.State.{Sending, acked_len}
-use Rattle.send_book.specs.Steps.{bytes_taken, is_for, span_at, decision, reply_by, run_len, given_by, is_future, fin_after, after_call, is_gathered, tried_first}
-use Rattle.send_book.specs.Tried.{contains, no_paths}
-use Rattle.send_book.proofs.Decisions.{MayTake, decision-MayTake}
+use Rattle.send_book.specs.Marks.{is_acked}
+use Rattle.send_book.specs.Steps.{after_call}
 use Rattle.send_book.proofs.PathSets.{contains-insert}
-use Rattle.stream_lanes.specs.Words.{Every}
-use Rattle.stream_lanes.proofs.Lists.{Every-append, in_take, in_drop, in_map, in_replicate}
-use Rattle.actor_desk.specs.declared.ask.Note.{Note}
-use Rattle.actor_desk.specs.declared.ask.Reply.TheVariants as replies
-use Rattle.path_core.specs.Emission.{grant_in}
-use Rattle.world_laws.specs.RoundEnd.{asks_grant}
-use Rattle.world_laws.specs.RoundNumbers.{taken_len, is_standby, standby_after, last_on_standby, last_asked, AskedForAll}
+use Rattle.world_laws.specs.RoundNumbers.{standby_after}
 use Rattle.world_laws.specs.RoundNumbers.AskedForAll.{Taken, Standby, Barred, Stopped}
 
 -- ---- marks
@@ -68,11 +58,7 @@ given_taken path asker (Free tried) none = refl
 returned_tried : (path asker : ℕ) (m : ByteMark) → IsTried path m → IsTried path (returned asker m)
 returned_tried path asker Acked h = tt
 returned_tried path asker (Free tried) h = tt
-returned_tried path asker (Held holder tried) h = by (holder == asker)
-  where
-    by : (b : Bool) → IsTried path (if b then Free tried else Held holder tried)
-    by true = tt
-    by false = h
+returned_tried path asker (Held holder tried) h = if_so (IsTried path) (holder == asker) (Free tried) (Held holder tried) tt h
 
 -- a byte that the path may not take it may not take when it gave it back
 returned_taken : (path : ℕ) (m : ByteMark) → IsTried path m → is_free_for path m ≡ false → is_free_for path (returned path m) ≡ false
@@ -206,14 +192,8 @@ pub record IsOnes (path written : ℕ) (b : Sending) : Type 0 where
 
 -- a call of an application, or of a path, and no grant to another path
 abbrev pub IsOrdinary : ℕ → SendCall → Type 0
-IsOrdinary path (Write bytes) = Unit {0}
-IsOrdinary path Close = Unit {0}
 IsOrdinary path (Grant asker max standby) = asker ≡ path
-IsOrdinary path (AckIn next window) = Unit {0}
-IsOrdinary path (Return asker) = Unit {0}
-IsOrdinary path GoIdentity = Unit {0}
-IsOrdinary path (GoInfinite asker) = Unit {0}
-IsOrdinary path Abort = Unit {0}
+IsOrdinary path _ = Unit {0}
 
 -- neither a grant nor an acknowledgement, and no return of another path
 abbrev pub IsQuiet : ℕ → SendCall → Type 0
@@ -294,11 +274,9 @@ module _ (path written : ℕ) (b : Sending) (h : IsOnes path written b) where
     grown = h.grown;
   }
   ones_after GoIdentity is = record { tried = h.tried; whole = h.whole; grown = h.grown }
-  ones_after (GoInfinite asker) is = by (is_gathered asker b)
-    where
-      by : (gathered : Bool) → IsOnes path written (if gathered then record b { owner = Some asker } else b)
-      by true = record { tried = h.tried; whole = h.whole; grown = h.grown }
-      by false = h
+  ones_after (GoInfinite asker) is =
+      if_so (IsOnes path written) (is_gathered asker b) (record b { owner = Some asker }) b
+      (record { tried = h.tried; whole = h.whole; grown = h.grown }) h
   ones_after Abort is = record { tried = h.tried; whole = h.whole; grown = h.grown }
 
   -- ---- all is taken as long as nothing is granted or acknowledged
@@ -315,19 +293,13 @@ module _ (path written : ℕ) (b : Sending) (h : IsOnes path written b) where
       })
       by true = all
       by false = let more = taken_written path (bytes_taken bytes b) b.marks in omega (arith, all, more)
-  taken_after Close is all = by b.aborted
-    where
-      by : (aborted : Bool) → AllTaken (if aborted then b else record b { closed = true })
-      by true = all
-      by false = all
+  taken_after Close is all = if_so AllTaken b.aborted b (record b { closed = true }) all all
   taken_after (Return asker) is all =
       let more = taken_returned path b.marks h.tried in
       subst (λ n. AllTaken (record b { marks = map (returned n) b.marks })) (sym is) (omega (arith, all, more))
-  taken_after (Grant asker max standby) is all = absurd is
-  taken_after (AckIn next window) is all = absurd is
   taken_after GoIdentity is all = all
-  taken_after (GoInfinite asker) is all = absurd is
   taken_after Abort is all = all
+  taken_after _ is all = absurd is
 
   -- where another path alone is given bytes, it is for ever
   barred_fell : (owner : Option ℕ) → is_for path owner ≡ false → is_for 0 owner ≡ true → is_for path (Some 0) ≡ false
@@ -350,10 +322,8 @@ module _ (path written : ℕ) (b : Sending) (h : IsOnes path written b) where
       by false = barred
   barred_after (Return asker) is falls barred = barred
   barred_after GoIdentity is falls barred = barred_fell b.owner barred falls
-  barred_after (Grant asker max standby) is falls barred = absurd is
-  barred_after (AckIn next window) is falls barred = absurd is
-  barred_after (GoInfinite asker) is falls barred = absurd is
   barred_after Abort is falls barred = barred
+  barred_after _ is falls barred = absurd is
 
   -- a stopped book stays so
   stopped_after : (call : SendCall) → IsQuiet path call → b.aborted ≡ true → (after_call b call).aborted ≡ true
@@ -373,9 +343,7 @@ module _ (path written : ℕ) (b : Sending) (h : IsOnes path written b) where
   stopped_after (Return asker) is stopped = stopped
   stopped_after GoIdentity is stopped = stopped
   stopped_after Abort is stopped = refl
-  stopped_after (Grant asker max standby) is stopped = absurd is
-  stopped_after (AckIn next window) is stopped = absurd is
-  stopped_after (GoInfinite asker) is stopped = absurd is
+  stopped_after _ is stopped = absurd is
 
   -- an acknowledgement by which the window reaches no further
   pub all_acknowledged : (s : Side) (steps : List Note) (next window : ℕ) → next + window ≤ b.edge → AskedForAll path s steps written b
@@ -468,11 +436,11 @@ module _ (path written : ℕ) (b : Sending) (h : IsOnes path written b) where
       by true is = let same : taken_len path b.marks ≡ from = cc in omega (arith, same, edge)
       by false is = cc
 
-  at_place : (most : ℕ) (o : Option ℕ) → position (is_free_for path) b.marks ≡ o → grant_in (replies.Send (reply_by (span_at path most b o) b)) ≡ None → AllTaken b
+  at_place : (most : ℕ) (o : Option ℕ) → position (is_free_for path) b.marks ≡ o → grant_in (Reply.Send (reply_by (span_at path most b o) b)) ≡ None → AllTaken b
   at_place most None is none = none_found is
   at_place most (Some from) is none = by (nat_le b.edge from) refl none
     where
-      by : (c : Bool) → nat_le b.edge from ≡ c → grant_in (replies.Send (reply_by (if c then Err WindowShut else Ok (record { from = from; to = from + run_len path most b from })) b)) ≡ None → AllTaken b
+      by : (c : Bool) → nat_le b.edge from ≡ c → grant_in (Reply.Send (reply_by (if c then Err WindowShut else Ok (record { from = from; to = from + run_len path most b from })) b)) ≡ None → AllTaken b
       by true edge none = shut_at from is (leb-true b.edge from edge)
       by false edge none = cc
 
@@ -481,14 +449,14 @@ module _ (path written : ℕ) (b : Sending) (h : IsOnes path written b) where
   Refused standby = AllTaken b ⊎ ((standby ≡ true) ⊎ ((is_for path b.owner ≡ false) ⊎ (b.aborted ≡ true)))
 
   refused_by : (max : ℕ) (standby done own : Bool) → is_for path b.owner ≡ own → (done ≡ true → AllTaken b ⊎ (b.aborted ≡ true))
-      → grant_in (replies.Send (reply_by (if done then Err Ended else (if standby then Err Backup else span_at path max b (if own then position (is_free_for path) b.marks else None))) b)) ≡ None
+      → grant_in (Reply.Send (reply_by (if done then Err Ended else (if standby then Err Backup else span_at path max b (if own then position (is_free_for path) b.marks else None))) b)) ≡ None
       → Refused standby
   refused_by max standby true own is all none = ⊎_elim (λ taken. inl taken) (λ stopped. inr (inr (inr stopped))) (all refl)
   refused_by max true false own is all none = inr (inl refl)
   refused_by max false false false is all none = inr (inr (inl is))
   refused_by max false false true is all none = inl (at_place max (position (is_free_for path) b.marks) refl none)
 
-  refused_all : (max : ℕ) (standby : Bool) → grant_in (replies.Send (reply_by (decision path max standby b) b)) ≡ None → Refused standby
+  refused_all : (max : ℕ) (standby : Bool) → grant_in (Reply.Send (reply_by (decision path max standby b) b)) ≡ None → Refused standby
   refused_all max standby none = refused_by max standby (b.aborted || (b.closed && (acked_len b.marks == length b.written))) (is_for path b.owner) refl all none
     where
       whole : (b.closed && (acked_len b.marks == length b.written)) ≡ true → AllTaken b
@@ -500,12 +468,12 @@ module _ (path written : ℕ) (b : Sending) (h : IsOnes path written b) where
       all done = ⊎_elim (λ stopped. inr stopped) (λ closed. inl (whole closed)) (or_cases b.aborted (b.closed && (acked_len b.marks == length b.written)) done)
 
   -- after a refusal the book is the same
-  same_given : (o : Result Span Why) → grant_in (replies.Send (reply_by o b)) ≡ None → given_by path o b ≡ b
+  same_given : (o : Result Span Why) → grant_in (Reply.Send (reply_by o b)) ≡ None → given_by path o b ≡ b
   same_given (Ok span) none = cc
   same_given (Err why) none = refl
 
   pub grant_refused : (s : Side) (steps : List Note) (n : Note) (max : ℕ) (standby : Bool) → ((before : Bool) → standby_after s n before ≡ standby)
-      → grant_in (replies.Send (reply_by (decision path max standby b) b)) ≡ None → AskedForAll path s (steps ++ n ∷ []) written (after_call b (Grant path max standby))
+      → grant_in (Reply.Send (reply_by (decision path max standby b) b)) ≡ None → AskedForAll path s (steps ++ n ∷ []) written (after_call b (Grant path max standby))
   grant_refused s steps n max standby told none =
       subst (AskedForAll path s (steps ++ n ∷ []) written) (sym (same_given (decision path max standby b) none))
       (⊎_elim (λ all. Taken all) (λ other. ⊎_elim (λ is. Standby (last_more s false steps n ∙ told (last_on_standby s false steps) ∙ is))

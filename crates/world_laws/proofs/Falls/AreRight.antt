@@ -1,57 +1,15 @@
 -- A side that fell back to plain TCP did so rightly.
-use Rattle.std.proofs.Common.{◌≡◌, refl, sym, ◌∙◌, ap, subst, ℕ, suc, ◌+◌, ⊎_elim, ◌||◌, not, Bool, true, false, if◌then◌else◌, Option, Some, None, List, [], ◌∷◌, ◌++◌, length, map, arith}
-use Rattle.std.proofs.lemmas.Bool.{and_parts, both_ways, false≢true, or_cases, or_from}
-use Rattle.std.proofs.lemmas.Option.{same_Some}
-use Rattle.std.specs.List.{list_any, slice_get}
-use Rattle.std.specs.Option.{IfSome}
-use Rattle.sides.specs.declared.side.Side.{Side}
-use Rattle.sides.specs.declared.side.Side.TheVariants.{A, B}
-use Rattle.dss_mapping.specs.declared.kept.KeptMapping.{KeptMapping}
-use Rattle.control_book.specs.Replies.{is_aborted}
-use Rattle.fallback_state.specs.Modes.{is_identity}
-use Rattle.send_book.specs.declared.call.SendCall.TheVariants as send_calls
-use Rattle.subflow_send.specs.declared.record.RecordKind.{RecordKind}
-use Rattle.subflow_send.specs.declared.record.RecordKind.TheVariants.{Syn, Data, Fin}
-use Rattle.subflow_send.specs.Records.{Record}
-use Rattle.subflow_tcp.specs.States.{may_finish}
-use Rattle.stream_lanes.specs.Duo.{Duo, after_events}
-use Rattle.stream_lanes.specs.Holding.{Holds, IsHonest, IsRight, LaneHolds}
-use Rattle.stream_lanes.specs.Lane.{Cell, Lane, Mapping}
-use Rattle.stream_lanes.specs.View.{View}
-use Rattle.stream_lanes.proofs.Duos.{any_held}
-use Rattle.stream_lanes.proofs.Lists.{Every-map, in_map, in_set}
-use Rattle.actor_desk.specs.declared.ask.Ask.{Ask}
-use Rattle.actor_desk.specs.declared.ask.Ask.TheVariants as asks
-use Rattle.actor_desk.specs.Books.{books_in}
-use Rattle.actor_desk.specs.Desk.{SixBooks, control_of, after_ask}
-use Rattle.stream_apps.specs.declared.duty.AppDuty.{AppDuty}
-use Rattle.stream_apps.specs.declared.duty.AppDuty.TheVariants as app_duties
-use Rattle.stream_apps.specs.Apps.{AppState}
-use Rattle.stream_apps.specs.AppSteps.{app_ask, app_asks_first}
-use Rattle.path_agenda.specs.declared.duty.Duty.{Duty}
-use Rattle.path_agenda.specs.declared.duty.Duty.TheVariants as duties
-use Rattle.path_agenda.specs.declared.duty.AskDuty.TheVariants as ask_duties
-use Rattle.path_agenda.specs.declared.duty.SendDuty.TheVariants as send_duties
-use Rattle.path_agenda.specs.declared.duty.SilentDuty.TheVariants as silent_duties
-use Rattle.path_agenda.specs.declared.duty.StepDuty.TheVariants as step_duties
-use Rattle.path_core.specs.Duties.{stands, ask_for}
-use Rattle.path_core.specs.Emission.{first_unsent, data_stands, data_ask}
-use Rattle.path_core.specs.Octets.{octets}
-use Rattle.path_core.specs.Shown.{shown_path}
-use Rattle.path_core.specs.State.{PathState, end_at}
-use Rattle.path_core.specs.Profile.{Profile}
-use Rattle.path_core.specs.Steps.{asks_first}
-use Rattle.path_core.specs.Turns.{FirstStands}
-use Rattle.path_core.specs.Values.{Carried, values}
-use Rattle.world_laws.specs.declared.member.Member.TheVariants.{App, Path}
-use Rattle.world_laws.specs.Actors.{Actor, ActorCrew, member_asks}
+use Rattle.world_laws.proofs.Words.{◌≡◌, refl, sym, ◌∙◌, ap, subst, ℕ, suc, ◌+◌, ◌||◌, not, ⊎_elim, Bool, true, false, Option, Some, None, List}
+use Rattle.world_laws.proofs.Words.{[], ◌∷◌, ◌++◌, length, arith, or_cases, and_parts, both_ways, false≢true, or_from, same_Some, list_any, slice_get}
+use Rattle.world_laws.proofs.Words.{IfSome, is_identity, Side, A, B, is_aborted, SendCall, KeptMapping, Record, RecordKind, Syn, Data, Fin, may_finish, Duty}
+use Rattle.world_laws.proofs.Words.{SendDuty, StepDuty, AskDuty, SilentDuty, Ask, books_in, SixBooks, control_of, after_ask, AppDuty, AppState, app_ask}
+use Rattle.world_laws.proofs.Words.{app_asks_first, stands, ask_for, PathState, end_at, asks_first, FirstStands, Carried, values, data_stands, first_unsent}
+use Rattle.world_laws.proofs.Words.{data_ask, Profile, octets, shown_path, Every-map, in_map, in_set, Duo, after_events, Holds, IsHonest, IsRight, LaneHolds}
+use Rattle.world_laws.proofs.Words.{Cell, Mapping, Lane, View, any_held, App, Path, Actor, ActorCrew, member_asks, Always, Start, opened_world, WorldState}
+use Rattle.world_laws.proofs.Words.{Turn, crew_after, asked, greatest, begins, after_turn, world_run, note_of, HasRoom, HoldsAnywayOfOctets}
+use Rattle.world_laws.proofs.Words.{HoldsAnyway, asks_grant, shown_crew, shown_member, shown_world}
+use Rattle.world_laws.proofs.Worlds.Turns.{turn_so, run_so}
 use Rattle.world_laws.specs.FallsRight.{asks_bytes, has_fallen, is_fallen, is_stopped, IsAtPlace, EndIsPlain, FallsAreRight, FallsLast, PathIsPlain, PositionsArePlaces, PositionsWerePlaces}
-use Rattle.world_laws.specs.Fresh.{shown_crew, shown_member, shown_world}
-use Rattle.world_laws.specs.Laws.{Always}
-use Rattle.world_laws.specs.Openings.{Start, opened_world}
-use Rattle.world_laws.specs.Promises.{HasRoom, HoldsAnyway, HoldsAnywayOfOctets}
-use Rattle.world_laws.specs.RoundEnd.{asks_grant}
-use Rattle.world_laws.specs.Worlds.{WorldState, Turn, note_of, crew_after, asked, stepped, all_over, greatest, begins, after_turn, world_run}
 use Rattle.world_laws.proofs.Lanes.Applying.{any_more}
 use Rattle.world_laws.proofs.Lanes.Beginning.{each_run_shows}
 use Rattle.world_laws.proofs.Worlds.Casts.{Walker, walking, world_of}
@@ -73,26 +31,23 @@ use Rattle.world_laws.proofs.Weaving.WholeRounds.{run_append}
 abbrev asks_some : Ask → Bool
 asks_some x = asks_grant A x || asks_grant B x
 
-written_none : (s : Side) (bytes : List ℕ) → asks_some (asks.Send s (send_calls.Write bytes)) ≡ false
+written_none : (s : Side) (bytes : List ℕ) → asks_some (Ask.Send s (SendCall.Write bytes)) ≡ false
 written_none A bytes = refl
 written_none B bytes = refl
 
-closed_none : (s : Side) → asks_some (asks.Send s send_calls.Close) ≡ false
+closed_none : (s : Side) → asks_some (Ask.Send s SendCall.Close) ≡ false
 closed_none A = refl
 closed_none B = refl
 
-aborted_none : (s : Side) → asks_some (asks.Send s send_calls.Abort) ≡ false
+aborted_none : (s : Side) → asks_some (Ask.Send s SendCall.Abort) ≡ false
 aborted_none A = refl
 aborted_none B = refl
 
 app_asks_none : (d : AppDuty) (a : AppState) → asks_some (app_ask d a) ≡ false
-app_asks_none app_duties.FastClose a = refl
-app_asks_none app_duties.AbortSend a = aborted_none a.side
-app_asks_none app_duties.AbortReceive a = refl
-app_asks_none app_duties.Write a = written_none a.side _
-app_asks_none app_duties.Close a = closed_none a.side
-app_asks_none app_duties.Read a = refl
-app_asks_none app_duties.End a = refl
+app_asks_none AppDuty.AbortSend a = aborted_none a.side
+app_asks_none AppDuty.Write a = written_none a.side _
+app_asks_none AppDuty.Close a = closed_none a.side
+app_asks_none _ a = refl
 
 module _ (p : PathState Carried) where
   nothing_asked : {X : Type 0} (d : Duty) → MayNotAsk d → asks_some (ask_for values d p) ≡ true → X
@@ -106,10 +61,10 @@ module _ (p : PathState Carried) where
 
   -- an end asks for bytes only where it may finish
   asking_finishes : (d : Duty) → stands d p ≡ true → asks_some (ask_for values d p) ≡ true → (t : Side) × (may_finish (end_at t p).tcp.state ≡ true)
-  asking_finishes (duties.Step (step_duties.Data s)) is asks = data_finishes s (first_unsent (end_at s p)) is asks
-  asking_finishes (duties.Ask ask_duties.JoinAgain) is asks = nothing_asked (duties.Ask ask_duties.JoinAgain) tt asks
-  asking_finishes (duties.Send (send_duties.Update s)) is asks = nothing_asked (duties.Send (send_duties.Update s)) tt asks
-  asking_finishes (duties.Silent (silent_duties.Timer s)) is asks = nothing_asked (duties.Silent (silent_duties.Timer s)) tt asks
+  asking_finishes (Duty.Step (StepDuty.Data s)) is asks = data_finishes s (first_unsent (end_at s p)) is asks
+  asking_finishes (Duty.Ask AskDuty.JoinAgain) is asks = nothing_asked (Duty.Ask AskDuty.JoinAgain) tt asks
+  asking_finishes (Duty.Send (SendDuty.Update s)) is asks = nothing_asked (Duty.Send (SendDuty.Update s)) tt asks
+  asking_finishes (Duty.Silent (SilentDuty.Timer s)) is asks = nothing_asked (Duty.Silent (SilentDuty.Timer s)) tt asks
   asking_finishes d is asks = nothing_asked d tt asks
 
 module _ (key_a key_b : ℕ) where
@@ -135,41 +90,31 @@ record Rightly (start : Start) (w : WorldState Carried) : Type 0 where
   asked_after : (number : ℕ) (c : ActorCrew Carried) → slice_get w.crew (suc (suc (suc number))) ≡ Some c → list_any asks_bytes c.list ≡ true → Joined (books_in w.books) B
 
 turn_right : (start : Start) (turn : Turn) (w : WorldState Carried) → IsSteady w → Rightly start w → Rightly start (after_turn values turn w)
-turn_right start (Turn.Step actor) w steady h = by (slice_get w.crew actor) refl (turn_keys start.key_a start.key_b false (Turn.Step actor) w (λ right. absurd (false≢true right)) h.known)
-  where
-    asking : (c : ActorCrew Carried) → slice_get w.crew actor ≡ Some c → (o : Option Ask) → member_asks values c.member ≡ o
-        → WorldIs start.key_a start.key_b false (asked values actor o c w) → Rightly start (asked values actor o c w)
-    asking c there None is known = h
-    asking c there (Some x) is known =
-        let six = books_in w.books in
-        let now : books_in (asked values actor (Some x) c w).books ≡ after_ask x six = books_after x c.pass w.books in
-        record {
-          known = known;
-          asked_after = λ i d at some. subst (λ (y : SixBooks). Joined y B) (sym now) (joined_stays start.key_a start.key_b false six x B (⊎_elim
-              (λ here. own i (subst (λ n. slice_get w.crew n ≡ Some c) (sym here.0) there) (subst (λ (y : ActorCrew Carried). list_any asks_bytes y.list ≡ true) (sym here.1) some))
-              (λ other. h.asked_after i d other.1 some)
-              (in_set w.crew actor (crew_after values x w.books c) (suc (suc (suc i))) d at)));
-        }
-      where
-        own : (i : ℕ) → slice_get w.crew (suc (suc (suc i))) ≡ Some c → list_any asks_bytes (c.list ++ note_of w.books c.pass x ∷ []) ≡ true → Joined (books_in w.books) B
-        own i at some = ⊎_elim
-            (λ before. h.asked_after i c at before)
-            (λ asks. member_joined start.key_a start.key_b i (books_in w.books) c.member x is (h.known.crew.each actor c there) (steady.each (suc i) c at) asks)
-            (or_cases (list_any asks_bytes c.list) (asks_some x) (sym (any_more asks_bytes c.list (note_of w.books c.pass x)) ∙ some))
-
-    by : (o : Option (ActorCrew Carried)) → slice_get w.crew actor ≡ o → WorldIs start.key_a start.key_b false (stepped values actor o w) → Rightly start (stepped values actor o w)
-    by None there known = h
-    by (Some c) there known = asking c there (member_asks values c.member) refl known
-turn_right start Turn.Round w steady h = by (all_over w.crew) (turn_keys start.key_a start.key_b false Turn.Round w (λ right. absurd (false≢true right)) h.known)
-  where
-    by : (b : Bool) → WorldIs start.key_a start.key_b false (if b then record w { crew = map (begins (greatest 0 w.crew)) w.crew } else w)
-        → Rightly start (if b then record w { crew = map (begins (greatest 0 w.crew)) w.crew } else w)
-    by true known = record {
+turn_right start turn w steady h =
+    turn_so values (λ v. WorldIs start.key_a start.key_b false v → Rightly start v) turn w (λ known. h)
+    (λ actor c x there is known.
+    let six = books_in w.books in
+    let now : books_in (asked values actor (Some x) c w).books ≡ after_ask x six = books_after x c.pass w.books in
+    record {
+      known = known;
+      asked_after = λ i d at some. subst (λ (y : SixBooks). Joined y B) (sym now) (joined_stays start.key_a start.key_b false six x B (⊎_elim
+          (λ here. own actor c x there is i (subst (λ n. slice_get w.crew n ≡ Some c) (sym here.0) there) (subst (λ (y : ActorCrew Carried). list_any asks_bytes y.list ≡ true) (sym here.1) some))
+          (λ other. h.asked_after i d other.1 some)
+          (in_set w.crew actor (crew_after values x w.books c) (suc (suc (suc i))) d at)));
+    })
+    (λ over known. record {
       known = known;
       asked_after = λ i d at some. let found = in_map (begins (greatest 0 w.crew)) w.crew (suc (suc (suc i))) d at in
           h.asked_after i found.0 found.1 (subst (λ (y : ActorCrew Carried). list_any asks_bytes y.list ≡ true) (sym found.2) some);
-    }
-    by false known = h
+    })
+    (turn_keys start.key_a start.key_b false turn w (λ right. absurd (false≢true right)) h.known)
+  where
+    own : (actor : ℕ) (c : ActorCrew Carried) (x : Ask) → slice_get w.crew actor ≡ Some c → member_asks values c.member ≡ Some x → (i : ℕ) → slice_get w.crew (suc (suc (suc i))) ≡ Some c
+        → list_any asks_bytes (c.list ++ note_of w.books c.pass x ∷ []) ≡ true → Joined (books_in w.books) B
+    own actor c x there is i at some = ⊎_elim
+        (λ before. h.asked_after i c at before)
+        (λ asks. member_joined start.key_a start.key_b i (books_in w.books) c.member x is (h.known.crew.each actor c there) (steady.each (suc i) c at) asks)
+        (or_cases (list_any asks_bytes c.list) (asks_some x) (sym (any_more asks_bytes c.list (note_of w.books c.pass x)) ∙ some))
 
 run_right : (start : Start) (turns : List Turn) (w : WorldState Carried) → ((more : List Turn) → IsSteady (world_run values more w)) → Rightly start w → Rightly start (world_run values turns w)
 run_right start [] w steady h = h
@@ -214,25 +159,9 @@ falls_are_right start turns = record {
 
 -- ---- and last
 
-turn_fell : (turn : Turn) (w : WorldState Carried) (s : Side) → FellBack (books_in w.books) s → FellBack (books_in (after_turn values turn w).books) s
-turn_fell (Turn.Step actor) w s fell = by (slice_get w.crew actor)
-  where
-    asking : (c : ActorCrew Carried) (o : Option Ask) → FellBack (books_in (asked values actor o c w).books) s
-    asking c None = fell
-    asking c (Some x) = subst (λ (y : SixBooks). FellBack y s) (sym (books_after x c.pass w.books)) (fell_stays (books_in w.books) x s fell)
-
-    by : (o : Option (ActorCrew Carried)) → FellBack (books_in (stepped values actor o w).books) s
-    by None = fell
-    by (Some c) = asking c (member_asks values c.member)
-turn_fell Turn.Round w s fell = by (all_over w.crew)
-  where
-    by : (b : Bool) → FellBack (books_in (if b then record w { crew = map (begins (greatest 0 w.crew)) w.crew } else w).books) s
-    by true = fell
-    by false = fell
-
 run_fell : (turns : List Turn) (w : WorldState Carried) (s : Side) → FellBack (books_in w.books) s → FellBack (books_in (world_run values turns w).books) s
-run_fell [] w s fell = fell
-run_fell (turn ∷ turns) w s fell = run_fell turns (after_turn values turn w) s (turn_fell turn w s fell)
+run_fell turns w s = run_so values (λ w. FellBack (books_in w.books) s)
+    (λ w fell actor c x there is. subst (λ (y : SixBooks). FellBack y s) (sym (books_after x c.pass w.books)) (fell_stays (books_in w.books) x s fell)) (λ w fell over. fell) turns w
 
 lasting_at : (six : SixBooks) (s : Side) → FellBack six s → (is_identity (control_of s six).fall.mode || is_aborted (control_of s six).fall.mode) ≡ true
 lasting_at six A is = fell_or_stopped six.control_a.fall is
@@ -318,25 +247,10 @@ positions_are_places start turns size = record { each = λ s fell. always_plain 
 -- ---- and were before
 
 -- B answered a join, and so it did at any later moment
-turn_joined : (start : Start) (turn : Turn) (w : WorldState Carried) → Joined (books_in w.books) B → Joined (books_in (after_turn values turn w).books) B
-turn_joined start (Turn.Step actor) w joined = by (slice_get w.crew actor)
-  where
-    asking : (c : ActorCrew Carried) (o : Option Ask) → Joined (books_in (asked values actor o c w).books) B
-    asking c None = joined
-    asking c (Some x) = subst (λ (y : SixBooks). Joined y B) (sym (books_after x c.pass w.books)) (joined_stays start.key_a start.key_b false (books_in w.books) x B joined)
-
-    by : (o : Option (ActorCrew Carried)) → Joined (books_in (stepped values actor o w).books) B
-    by None = joined
-    by (Some c) = asking c (member_asks values c.member)
-turn_joined start Turn.Round w joined = by (all_over w.crew)
-  where
-    by : (b : Bool) → Joined (books_in (if b then record w { crew = map (begins (greatest 0 w.crew)) w.crew } else w).books) B
-    by true = joined
-    by false = joined
-
 run_joined : (start : Start) (turns : List Turn) (w : WorldState Carried) → Joined (books_in w.books) B → Joined (books_in (world_run values turns w).books) B
-run_joined start [] w joined = joined
-run_joined start (turn ∷ turns) w joined = run_joined start turns (after_turn values turn w) (turn_joined start turn w joined)
+run_joined start = run_so values (λ w. Joined (books_in w.books) B)
+    (λ w joined actor c x there is. subst (λ (y : SixBooks). Joined y B) (sym (books_after x c.pass w.books)) (joined_stays start.key_a start.key_b false (books_in w.books) x B joined))
+    (λ w joined over. joined)
 
 -- it answered none before either
 unanswered_before : (start : Start) (turns : List Turn) (w : WorldState Carried) → (books_in (world_run values turns w).books).control_b.fall.joined ≡ false

@@ -1,28 +1,12 @@
 -- The modes that a side was in by the journal of its control book: it was in them for ever, and the present one is one of them.
-use Rattle.std.proofs.Common.{◌≡◌, ⊎_elim, ◌⊎◌, inl, inr, ◌||◌, Bool, true, false, if◌then◌else◌, Option, Some, None, List, [], ◌∷◌, ◌++◌, map, refl}
-use Rattle.std.proofs.lemmas.Bool.{false≢true, or_cases}
-use Rattle.std.specs.List.{slice_get}
-use Rattle.sides.specs.declared.side.Side.{Side}
-use Rattle.sides.specs.declared.side.Side.TheVariants.{A, B}
-use Rattle.stamped_book.specs.declared.stamped.Entry.{Entry}
-use Rattle.stamped_book.specs.declared.stamped.Pass.{Pass}
-use Rattle.stamped_book.specs.Entering.{entry_of}
-use Rattle.stamped_book.specs.Journal.{replay}
-use Rattle.fallback_state.specs.declared.fall.Mode.{Mode}
-use Rattle.control_book.specs.declared.call.ControlCall.{ControlCall}
-use Rattle.control_book.specs.declared.call.ControlReply.{ControlReply}
-use Rattle.control_book.specs.Control.{Control}
+use Rattle.world_laws.proofs.Words.{◌≡◌, refl, ◌||◌, inl, inr, ◌⊎◌, ⊎_elim, Bool, true, false, List, [], ◌∷◌, ◌++◌}
+use Rattle.world_laws.proofs.Words.{or_cases, false≢true, Mode, Entry, Pass, entry_of, replay, Side, A, B, ControlCall, ControlReply, Control, Ask}
+use Rattle.world_laws.proofs.Words.{StampedBooks, books_in, after_entry, control_of, pick, Codec, WorldState, Turn}
+use Rattle.world_laws.proofs.Words.{after_turn, world_run}
+use Rattle.world_laws.proofs.Worlds.Turns.{turn_so, run_so}
 use Rattle.control_book.specs.Replies as controlling
 use Rattle.control_book.specs.Steps as control
-use Rattle.actor_desk.specs.declared.ask.Ask.{Ask}
-use Rattle.actor_desk.specs.declared.ask.Ask.TheVariants as asks
-use Rattle.actor_desk.specs.Books.{StampedBooks, books_in, after_entry}
-use Rattle.actor_desk.specs.Desk.{control_of}
-use Rattle.actor_desk.specs.Words.{pick}
-use Rattle.path_core.specs.Codec.{Codec}
-use Rattle.world_laws.specs.Actors.{ActorCrew, member_asks}
 use Rattle.world_laws.specs.ModesSoFar.{was_by, was_in}
-use Rattle.world_laws.specs.Worlds.{WorldState, Turn, asked, stepped, all_over, greatest, begins, after_turn, world_run}
 
 or_first : (a b : Bool) → a ≡ true → (a || b) ≡ true
 or_first true b is = refl
@@ -82,46 +66,32 @@ module _ (such : Mode → Bool) where
 
   pub was_more : (x : Ask) (pass : Pass) (books : StampedBooks) (s : Side) → Was such (after_entry x pass books) s
       → Was such books s ⊎ (such (control_of s (books_in (after_entry x pass books))).fall.mode ≡ true)
-  was_more (asks.Control A call) pass books A is = was_by_more such books.control_a.opening books.control_a.journal (entry_of controlling.reply_to control.after books.control_a pass call) is
-  was_more (asks.Control A call) pass books B is = inl is
-  was_more (asks.Control B call) pass books A is = inl is
-  was_more (asks.Control B call) pass books B is = was_by_more such books.control_b.opening books.control_b.journal (entry_of controlling.reply_to control.after books.control_b pass call) is
-  was_more (asks.Send t call) pass books A is = inl is
-  was_more (asks.Send t call) pass books B is = inl is
-  was_more (asks.Reassembly t call) pass books A is = inl is
-  was_more (asks.Reassembly t call) pass books B is = inl is
-  was_more (asks.Local step) pass books s is = inl is
+  was_more (Ask.Control A call) pass books A is = was_by_more such books.control_a.opening books.control_a.journal (entry_of controlling.reply_to control.after books.control_a pass call) is
+  was_more (Ask.Control A call) pass books B is = inl is
+  was_more (Ask.Control B call) pass books A is = inl is
+  was_more (Ask.Control B call) pass books B is = was_by_more such books.control_b.opening books.control_b.journal (entry_of controlling.reply_to control.after books.control_b pass call) is
+  was_more (Ask.Send t call) pass books A is = inl is
+  was_more (Ask.Send t call) pass books B is = inl is
+  was_more (Ask.Reassembly t call) pass books A is = inl is
+  was_more (Ask.Reassembly t call) pass books B is = inl is
+  was_more (Ask.Local step) pass books s is = inl is
 
   pub was_stays : (x : Ask) (pass : Pass) (books : StampedBooks) (s : Side) → Was such books s → Was such (after_entry x pass books) s
-  was_stays (asks.Control A call) pass books A is = was_by_still such books.control_a.opening books.control_a.journal _ is
-  was_stays (asks.Control A call) pass books B is = is
-  was_stays (asks.Control B call) pass books A is = is
-  was_stays (asks.Control B call) pass books B is = was_by_still such books.control_b.opening books.control_b.journal _ is
-  was_stays (asks.Send t call) pass books A is = is
-  was_stays (asks.Send t call) pass books B is = is
-  was_stays (asks.Reassembly t call) pass books A is = is
-  was_stays (asks.Reassembly t call) pass books B is = is
-  was_stays (asks.Local step) pass books s is = is
+  was_stays (Ask.Control A call) pass books A is = was_by_still such books.control_a.opening books.control_a.journal _ is
+  was_stays (Ask.Control A call) pass books B is = is
+  was_stays (Ask.Control B call) pass books A is = is
+  was_stays (Ask.Control B call) pass books B is = was_by_still such books.control_b.opening books.control_b.journal _ is
+  was_stays (Ask.Send t call) pass books A is = is
+  was_stays (Ask.Send t call) pass books B is = is
+  was_stays (Ask.Reassembly t call) pass books A is = is
+  was_stays (Ask.Reassembly t call) pass books B is = is
+  was_stays (Ask.Local step) pass books s is = is
 
   -- ---- turns
 
   module _ {C : Type 0} (k : Codec C) (s : Side) where
     pub turn_was : (turn : Turn) (w : WorldState C) → Was such w.books s → Was such (after_turn k turn w).books s
-    turn_was (Turn.Step actor) w is = by (slice_get w.crew actor)
-      where
-        asking : (c : ActorCrew C) (o : Option Ask) → Was such (asked k actor o c w).books s
-        asking c None = is
-        asking c (Some x) = was_stays x c.pass w.books s is
-
-        by : (o : Option (ActorCrew C)) → Was such (stepped k actor o w).books s
-        by None = is
-        by (Some c) = asking c (member_asks k c.member)
-    turn_was Turn.Round w is = by (all_over w.crew)
-      where
-        by : (b : Bool) → Was such (if b then record w { crew = map (begins (greatest 0 w.crew)) w.crew } else w).books s
-        by true = is
-        by false = is
+    turn_was turn w is = turn_so k (λ w. Was such w.books s) turn w is (λ actor c x there asks. was_stays x c.pass w.books s is) (λ over. is)
 
     pub run_was : (turns : List Turn) (w : WorldState C) → Was such w.books s → Was such (world_run k turns w).books s
-    run_was [] w is = is
-    run_was (turn ∷ turns) w is = run_was turns (after_turn k turn w) (turn_was turn w is)
+    run_was = run_so k (λ w. Was such w.books s) (λ w is actor c x there asks. was_stays x c.pass w.books s is) (λ w is over. is)

@@ -1,16 +1,8 @@
 -- What a call of a control book is to the modes of the two directions: a side falls back, begins a join or answers one, or all is as before.
-use Rattle.std.proofs.Common.{◌≡◌, refl, sym, ◌∙◌, ap, ◌⊎◌, inl, inr, Bool, true, false, not, ◌&&◌, if◌then◌else◌, List, [], ◌∷◌}
-use Rattle.sides.specs.declared.side.Side.{Side}
-use Rattle.sides.specs.declared.side.Side.TheVariants.{A, B}
-use Rattle.fallback_state.specs.declared.fall.Fall.{Fall}
-use Rattle.control_book.specs.declared.call.ControlCall.{ControlCall}
-use Rattle.control_book.specs.declared.call.ControlCall.TheVariants as control_calls
-use Rattle.actor_desk.specs.declared.ask.Ask.TheVariants as asks
-use Rattle.actor_desk.specs.Desk.{SixBooks, after_ask}
-use Rattle.stream_lanes.specs.Lane.{Lane}
-use Rattle.stream_lanes.specs.Streams.{Reader}
-use Rattle.stream_lanes.specs.Duo.{Modes, Duo, Event, after_events, falls_a, falls_b, begins_join, sends_join, hears_join}
-use Rattle.stream_lanes.specs.Duo.Event.{FallA, FallB, LoosenA, LoosenB, BeginJoin, SendJoin, HearJoin}
+use Rattle.world_laws.proofs.Words.{◌≡◌, refl, sym, ◌∙◌, ap, ◌&&◌, not, inl, inr, ◌⊎◌, Bool, true, false, if◌then◌else◌, List, [], ◌∷◌, Fall, Side, A, B}
+use Rattle.world_laws.proofs.Words.{ControlCall, Ask, SixBooks, after_ask, Duo, after_events, falls_a, falls_b, begins_join, sends_join, hears_join, Lane}
+use Rattle.world_laws.proofs.Words.{Reader, FallA, FallB, LoosenA, LoosenB, BeginJoin, SendJoin, HearJoin}
+use Rattle.stream_lanes.specs.Duo.{Modes, Event}
 use Rattle.world_laws.proofs.Falls.WhereASideStands.{is_plain, is_loose, Loosened, SameFall, FellBack, HasJoined, Fallen, call_falls, fell_unjoined}
 use Rattle.world_laws.proofs.Lanes.OfAWorld.{Links, MayCall, Moved, AreSilent, duo_of, modes_by, then_moved}
 
@@ -196,44 +188,44 @@ softens links six =
     (b_softens links links.firm_b (stand_of false six.control_a.fall) six.control_b.fall)
 
 -- after what may be called
-modulated : (links : Links) (s : Side) (call : ControlCall) (six : SixBooks) → MayCall s call six → Modulated (modes_by links six) (modes_by links (after_ask (asks.Control s call) six))
-modulated links A (control_calls.Look path) six may = a_goes links six.control_a.fall six.control_b.fall _ (call_falls six.control_a (control_calls.Look path))
-modulated links A (control_calls.PeerKey key) six may = a_goes links six.control_a.fall six.control_b.fall _ (call_falls six.control_a (control_calls.PeerKey key))
-modulated links A (control_calls.Keys own other) six may = a_goes links six.control_a.fall six.control_b.fall _ (call_falls six.control_a (control_calls.Keys own other))
-modulated links A (control_calls.Fell path event) six may = a_goes links six.control_a.fall six.control_b.fall _ (call_falls six.control_a (control_calls.Fell path event))
-modulated links A (control_calls.JoinBegin path) six may = a_begins links six.control_a.fall six.control_b.fall _ (call_falls six.control_a (control_calls.JoinBegin path))
-modulated links A (control_calls.JoinHeard path token) six may = a_begins links six.control_a.fall six.control_b.fall _ (call_falls six.control_a (control_calls.JoinHeard path token))
-modulated links A (control_calls.Live path backup) six may = a_goes links six.control_a.fall six.control_b.fall _ (call_falls six.control_a (control_calls.Live path backup))
-modulated links A (control_calls.Dead path) six may = a_goes links six.control_a.fall six.control_b.fall _ (call_falls six.control_a (control_calls.Dead path))
-modulated links A (control_calls.Rate path window rtt) six may = a_goes links six.control_a.fall six.control_b.fall _ (call_falls six.control_a (control_calls.Rate path window rtt))
-modulated links A (control_calls.Backup path on) six may = a_goes links six.control_a.fall six.control_b.fall _ (call_falls six.control_a (control_calls.Backup path on))
-modulated links A (control_calls.Announce id) six may = a_goes links six.control_a.fall six.control_b.fall _ (call_falls six.control_a (control_calls.Announce id))
-modulated links A (control_calls.Withdraw id) six may = a_goes links six.control_a.fall six.control_b.fall _ (call_falls six.control_a (control_calls.Withdraw id))
-modulated links A (control_calls.Heard id address port hmac) six may = a_goes links six.control_a.fall six.control_b.fall _ (call_falls six.control_a (control_calls.Heard id address port hmac))
-modulated links A (control_calls.Echoed id) six may = a_goes links six.control_a.fall six.control_b.fall _ (call_falls six.control_a (control_calls.Echoed id))
-modulated links A (control_calls.Removed id) six may = a_goes links six.control_a.fall six.control_b.fall _ (call_falls six.control_a (control_calls.Removed id))
-modulated links A control_calls.FastClose six may = a_goes links six.control_a.fall six.control_b.fall _ (call_falls six.control_a control_calls.FastClose)
-modulated links A (control_calls.FastHeard key) six may = a_goes links six.control_a.fall six.control_b.fall _ (call_falls six.control_a (control_calls.FastHeard key))
-modulated links B (control_calls.Look path) six may = b_goes links six.control_a.fall six.control_b.fall _ (call_falls six.control_b (control_calls.Look path))
-modulated links B (control_calls.PeerKey key) six may = b_goes links six.control_a.fall six.control_b.fall _ (call_falls six.control_b (control_calls.PeerKey key))
-modulated links B (control_calls.Keys own other) six may = b_goes links six.control_a.fall six.control_b.fall _ (call_falls six.control_b (control_calls.Keys own other))
-modulated links B (control_calls.Fell path event) six may = b_goes links six.control_a.fall six.control_b.fall _ (call_falls six.control_b (control_calls.Fell path event))
-modulated links B (control_calls.JoinBegin path) six may = absurd may
-modulated links B (control_calls.JoinHeard path token) six may = b_begins links six.control_a.fall six.control_b.fall _ may (call_falls six.control_b (control_calls.JoinHeard path token))
-modulated links B (control_calls.Live path backup) six may = b_goes links six.control_a.fall six.control_b.fall _ (call_falls six.control_b (control_calls.Live path backup))
-modulated links B (control_calls.Dead path) six may = b_goes links six.control_a.fall six.control_b.fall _ (call_falls six.control_b (control_calls.Dead path))
-modulated links B (control_calls.Rate path window rtt) six may = b_goes links six.control_a.fall six.control_b.fall _ (call_falls six.control_b (control_calls.Rate path window rtt))
-modulated links B (control_calls.Backup path on) six may = b_goes links six.control_a.fall six.control_b.fall _ (call_falls six.control_b (control_calls.Backup path on))
-modulated links B (control_calls.Announce id) six may = b_goes links six.control_a.fall six.control_b.fall _ (call_falls six.control_b (control_calls.Announce id))
-modulated links B (control_calls.Withdraw id) six may = b_goes links six.control_a.fall six.control_b.fall _ (call_falls six.control_b (control_calls.Withdraw id))
-modulated links B (control_calls.Heard id address port hmac) six may = b_goes links six.control_a.fall six.control_b.fall _ (call_falls six.control_b (control_calls.Heard id address port hmac))
-modulated links B (control_calls.Echoed id) six may = b_goes links six.control_a.fall six.control_b.fall _ (call_falls six.control_b (control_calls.Echoed id))
-modulated links B (control_calls.Removed id) six may = b_goes links six.control_a.fall six.control_b.fall _ (call_falls six.control_b (control_calls.Removed id))
-modulated links B control_calls.FastClose six may = b_goes links six.control_a.fall six.control_b.fall _ (call_falls six.control_b control_calls.FastClose)
-modulated links B (control_calls.FastHeard key) six may = b_goes links six.control_a.fall six.control_b.fall _ (call_falls six.control_b (control_calls.FastHeard key))
+modulated : (links : Links) (s : Side) (call : ControlCall) (six : SixBooks) → MayCall s call six → Modulated (modes_by links six) (modes_by links (after_ask (Ask.Control s call) six))
+modulated links A (ControlCall.Look path) six may = a_goes links six.control_a.fall six.control_b.fall _ (call_falls six.control_a (ControlCall.Look path))
+modulated links A (ControlCall.PeerKey key) six may = a_goes links six.control_a.fall six.control_b.fall _ (call_falls six.control_a (ControlCall.PeerKey key))
+modulated links A (ControlCall.Keys own other) six may = a_goes links six.control_a.fall six.control_b.fall _ (call_falls six.control_a (ControlCall.Keys own other))
+modulated links A (ControlCall.Fell path event) six may = a_goes links six.control_a.fall six.control_b.fall _ (call_falls six.control_a (ControlCall.Fell path event))
+modulated links A (ControlCall.JoinBegin path) six may = a_begins links six.control_a.fall six.control_b.fall _ (call_falls six.control_a (ControlCall.JoinBegin path))
+modulated links A (ControlCall.JoinHeard path token) six may = a_begins links six.control_a.fall six.control_b.fall _ (call_falls six.control_a (ControlCall.JoinHeard path token))
+modulated links A (ControlCall.Live path backup) six may = a_goes links six.control_a.fall six.control_b.fall _ (call_falls six.control_a (ControlCall.Live path backup))
+modulated links A (ControlCall.Dead path) six may = a_goes links six.control_a.fall six.control_b.fall _ (call_falls six.control_a (ControlCall.Dead path))
+modulated links A (ControlCall.Rate path window rtt) six may = a_goes links six.control_a.fall six.control_b.fall _ (call_falls six.control_a (ControlCall.Rate path window rtt))
+modulated links A (ControlCall.Backup path on) six may = a_goes links six.control_a.fall six.control_b.fall _ (call_falls six.control_a (ControlCall.Backup path on))
+modulated links A (ControlCall.Announce id) six may = a_goes links six.control_a.fall six.control_b.fall _ (call_falls six.control_a (ControlCall.Announce id))
+modulated links A (ControlCall.Withdraw id) six may = a_goes links six.control_a.fall six.control_b.fall _ (call_falls six.control_a (ControlCall.Withdraw id))
+modulated links A (ControlCall.Heard id address port hmac) six may = a_goes links six.control_a.fall six.control_b.fall _ (call_falls six.control_a (ControlCall.Heard id address port hmac))
+modulated links A (ControlCall.Echoed id) six may = a_goes links six.control_a.fall six.control_b.fall _ (call_falls six.control_a (ControlCall.Echoed id))
+modulated links A (ControlCall.Removed id) six may = a_goes links six.control_a.fall six.control_b.fall _ (call_falls six.control_a (ControlCall.Removed id))
+modulated links A ControlCall.FastClose six may = a_goes links six.control_a.fall six.control_b.fall _ (call_falls six.control_a ControlCall.FastClose)
+modulated links A (ControlCall.FastHeard key) six may = a_goes links six.control_a.fall six.control_b.fall _ (call_falls six.control_a (ControlCall.FastHeard key))
+modulated links B (ControlCall.Look path) six may = b_goes links six.control_a.fall six.control_b.fall _ (call_falls six.control_b (ControlCall.Look path))
+modulated links B (ControlCall.PeerKey key) six may = b_goes links six.control_a.fall six.control_b.fall _ (call_falls six.control_b (ControlCall.PeerKey key))
+modulated links B (ControlCall.Keys own other) six may = b_goes links six.control_a.fall six.control_b.fall _ (call_falls six.control_b (ControlCall.Keys own other))
+modulated links B (ControlCall.Fell path event) six may = b_goes links six.control_a.fall six.control_b.fall _ (call_falls six.control_b (ControlCall.Fell path event))
+modulated links B (ControlCall.JoinBegin path) six may = absurd may
+modulated links B (ControlCall.JoinHeard path token) six may = b_begins links six.control_a.fall six.control_b.fall _ may (call_falls six.control_b (ControlCall.JoinHeard path token))
+modulated links B (ControlCall.Live path backup) six may = b_goes links six.control_a.fall six.control_b.fall _ (call_falls six.control_b (ControlCall.Live path backup))
+modulated links B (ControlCall.Dead path) six may = b_goes links six.control_a.fall six.control_b.fall _ (call_falls six.control_b (ControlCall.Dead path))
+modulated links B (ControlCall.Rate path window rtt) six may = b_goes links six.control_a.fall six.control_b.fall _ (call_falls six.control_b (ControlCall.Rate path window rtt))
+modulated links B (ControlCall.Backup path on) six may = b_goes links six.control_a.fall six.control_b.fall _ (call_falls six.control_b (ControlCall.Backup path on))
+modulated links B (ControlCall.Announce id) six may = b_goes links six.control_a.fall six.control_b.fall _ (call_falls six.control_b (ControlCall.Announce id))
+modulated links B (ControlCall.Withdraw id) six may = b_goes links six.control_a.fall six.control_b.fall _ (call_falls six.control_b (ControlCall.Withdraw id))
+modulated links B (ControlCall.Heard id address port hmac) six may = b_goes links six.control_a.fall six.control_b.fall _ (call_falls six.control_b (ControlCall.Heard id address port hmac))
+modulated links B (ControlCall.Echoed id) six may = b_goes links six.control_a.fall six.control_b.fall _ (call_falls six.control_b (ControlCall.Echoed id))
+modulated links B (ControlCall.Removed id) six may = b_goes links six.control_a.fall six.control_b.fall _ (call_falls six.control_b (ControlCall.Removed id))
+modulated links B ControlCall.FastClose six may = b_goes links six.control_a.fall six.control_b.fall _ (call_falls six.control_b ControlCall.FastClose)
+modulated links B (ControlCall.FastHeard key) six may = b_goes links six.control_a.fall six.control_b.fall _ (call_falls six.control_b (ControlCall.FastHeard key))
 
 -- Each call of a control book that may be made is moves.
 pub control_moves : (links : Links) (s : Side) (call : ControlCall) (six : SixBooks) → MayCall s call six → (lanes_ab lanes_ba : List Lane) (reader_a reader_b : Reader)
-    → Moved (duo_of links six lanes_ab lanes_ba reader_a reader_b) (duo_of links (after_ask (asks.Control s call) six) lanes_ab lanes_ba reader_a reader_b)
+    → Moved (duo_of links six lanes_ab lanes_ba reader_a reader_b) (duo_of links (after_ask (Ask.Control s call) six) lanes_ab lanes_ba reader_a reader_b)
 control_moves links A call six may lanes_ab lanes_ba reader_a reader_b = (modulated links A call six may).moves (duo_of links six lanes_ab lanes_ba reader_a reader_b) refl
 control_moves links B call six may lanes_ab lanes_ba reader_a reader_b = (modulated links B call six may).moves (duo_of links six lanes_ab lanes_ba reader_a reader_b) refl

@@ -1,94 +1,24 @@
 -- Where no payload is altered no check fails: the octets of a mapping that are all there are those that were sent. So no control book is
 -- told of a failure, and none knows of one.
-use Rattle.std.proofs.Common.{◌≡◌, refl, sym, ◌∙◌, ap, subst, ℕ, ◌&&◌, ◌==◌, is_some, not, ⊎_elim, Bool, true, false, if◌then◌else◌, Option, Some, None, List, [], ◌∷◌, ◌++◌, map, length, arith}
-use Rattle.std.proofs.lemmas.Bool.{and_parts, both_ways, false≢true, or_from, or_parts}
-use Rattle.std.proofs.lemmas.Option.{same_Some}
-use Rattle.std.specs.List.{list_any, slice_get}
-use Rattle.std.specs.Option.{IfSome}
-use Rattle.sides.specs.declared.side.Side.{Side}
-use Rattle.sides.specs.declared.side.Side.TheVariants.{A, B}
-use Rattle.loss_recovery.specs.declared.windows.Pending.{Pending}
-use Rattle.reassembly_book.specs.declared.call.ReassemblyCall.TheVariants as reassembly_calls
-use Rattle.fallback_state.specs.declared.fall.Event.{Event as FallEvent}
-use Rattle.fallback_state.specs.declared.fall.Event.TheVariants as events
-use Rattle.fallback_state.specs.declared.fall.Fall.{Fall}
-use Rattle.fallback_state.specs.Modes.{is_infinite, sending, reads_mappings, writes_mappings}
-use Rattle.fallback_state.specs.Table.{fall_step, goes, stays, breaks}
+use Rattle.world_laws.proofs.Words.{◌≡◌, refl, sym, ◌∙◌, ap, subst, ℕ, ◌&&◌, ◌==◌, not, ⊎_elim, Bool, true, false, if◌then◌else◌, Option, Some, None, List, []}
+use Rattle.world_laws.proofs.Words.{◌∷◌, ◌++◌, length, arith, is_some, or_parts, and_parts, both_ways, false≢true, or_from, same_Some, list_any, slice_get}
+use Rattle.world_laws.proofs.Words.{IfSome, FallEvent, is_infinite, reads_mappings, sending, writes_mappings, Fall, goes, fall_step, Side, A, B, JoinSyn}
+use Rattle.world_laws.proofs.Words.{ControlCall, Notice, sole, Control, ReassemblyCall, Record, Pending, may_finish, EndPhase, PlainOption, PlainSegment, Fail}
+use Rattle.world_laws.proofs.Words.{Piece, InfiniteMapping, Duty, SendDuty, StepDuty, AskDuty, SilentDuty, Heard, KeyPair, key_heard, keys_heard, PeerNotice}
+use Rattle.world_laws.proofs.Words.{Ask, Note, books_in, SixBooks, control_of, after_ask, AppDuty, AppState, app_ask, app_asks_first, stands, ask_for}
+use Rattle.world_laws.proofs.Words.{PathState, end_at, path_of, asks_first, FirstStands, IsSettled, Carried, values, reset_of, break_ask, first_unsent}
+use Rattle.world_laws.proofs.Words.{data_ask, next_event, step_for, asked_at, join_heard_ask, piece_of, piece_ask, failing_mapping, plain_fin, data_fin_of}
+use Rattle.world_laws.proofs.Words.{fin_ask, is_clash, mapping_ask, item_ask, item_of, fell_ask, plain_ack_ask, breaks_by_ack, peer_key_ask, opened_ask}
+use Rattle.world_laws.proofs.Words.{notice_call, Profile, sends, rate_ask, Every-map, in_map, in_set, Every, Duo, after_events, Holds, LaneHolds, Pair, AckCopy}
+use Rattle.world_laws.proofs.Words.{Lane, View, any_held, App, Path, Actor, ActorCrew, member_asks, Start, opened_world, WorldState, Turn, crew_after, asked}
+use Rattle.world_laws.proofs.Words.{greatest, begins, after_turn, world_run, note_of, IsPromised, IsPromisedOfOctets, if_so, notes_or}
+use Rattle.world_laws.proofs.Worlds.Turns.{turn_so}
+use Rattle.fallback_state.specs.Table.{stays, breaks}
 use Rattle.fallback_state.proofs.Steps.{IsUnfailed, unfailed_kept}
-use Rattle.control_book.specs.declared.call.ControlCall.{ControlCall}
-use Rattle.control_book.specs.declared.call.ControlCall.TheVariants as calls
-use Rattle.control_book.specs.declared.call.Notice.{Notice}
-use Rattle.control_book.specs.declared.call.Notice.TheVariants as notices
-use Rattle.control_book.specs.Control.{Control}
-use Rattle.control_book.specs.Registry.{sole}
 use Rattle.control_book.specs.Replies as replying
 use Rattle.control_book.specs.Steps as controlling
-use Rattle.path_segments.specs.declared.segment.PathOption.TheVariants.{Fail}
-use Rattle.path_segments.specs.Options.{PlainOption}
-use Rattle.path_segments.specs.Spelled.{PlainSegment}
-use Rattle.stream_lanes.specs.Duo.{Duo, after_events}
-use Rattle.stream_lanes.specs.Holding.{Holds, LaneHolds}
-use Rattle.stream_lanes.specs.Lane.{AckCopy, Lane, Pair}
-use Rattle.stream_lanes.specs.View.{View}
-use Rattle.stream_lanes.specs.Words.{Every}
-use Rattle.stream_lanes.proofs.Duos.{any_held}
-use Rattle.stream_lanes.proofs.Lists.{Every-map, in_map, in_set}
-use Rattle.stream_apps.specs.declared.duty.AppDuty.{AppDuty}
-use Rattle.stream_apps.specs.declared.duty.AppDuty.TheVariants as app_duties
-use Rattle.stream_apps.specs.Apps.{AppState}
-use Rattle.stream_apps.specs.AppSteps.{app_ask, app_asks_first}
-use Rattle.actor_desk.specs.declared.ask.Ask.{Ask}
-use Rattle.actor_desk.specs.declared.ask.Ask.TheVariants as asks
-use Rattle.actor_desk.specs.declared.ask.Note.{Note}
-use Rattle.actor_desk.specs.Books.{books_in}
-use Rattle.actor_desk.specs.Desk.{SixBooks, after_ask, control_of}
-use Rattle.path_agenda.specs.declared.duty.Duty.{Duty}
-use Rattle.path_agenda.specs.declared.duty.Duty.TheVariants as duties
-use Rattle.path_agenda.specs.declared.duty.AskDuty.TheVariants as ask_duties
-use Rattle.path_agenda.specs.declared.duty.SendDuty.TheVariants as send_duties
-use Rattle.path_agenda.specs.declared.duty.SilentDuty.TheVariants as silent_duties
-use Rattle.path_agenda.specs.declared.duty.StepDuty.TheVariants as step_duties
-use Rattle.path_agenda.specs.declared.heard.Heard.{Heard}
-use Rattle.path_agenda.specs.declared.heard.Heard.TheVariants as says
-use Rattle.path_agenda.specs.declared.keys.KeyPair.{KeyPair}
-use Rattle.path_agenda.specs.declared.notice.PeerNotice.{PeerNotice}
-use Rattle.path_agenda.specs.declared.notice.PeerNotice.TheVariants as notes
-use Rattle.path_agenda.specs.Items.{key_heard, keys_heard}
-use Rattle.path_store.specs.declared.infinite_mapping.InfiniteMapping.{InfiniteMapping}
-use Rattle.join_handshake.specs.declared.hearing.JoinSyn.{JoinSyn}
-use Rattle.subflow_send.specs.Records.{Record}
-use Rattle.subflow_tcp.specs.declared.handshake.State.{State as EndPhase}
-use Rattle.subflow_tcp.specs.declared.handshake.State.TheVariants as phase
-use Rattle.subflow_tcp.specs.States.{may_finish}
 use Rattle.path_core.specs.declared.events.Event.{Event}
-use Rattle.path_core.specs.declared.events.Event.TheVariants as happening
-use Rattle.path_core.specs.Addresses.{notice_call}
-use Rattle.path_core.specs.Breaking.{break_ask, reset_of}
-use Rattle.path_store.specs.Passing.{Piece}
-use Rattle.path_core.specs.Deliver.{failing_mapping, piece_of, piece_ask}
-use Rattle.path_core.specs.Duties.{ask_for, stands}
-use Rattle.path_core.specs.Emission.{first_unsent, data_ask}
-use Rattle.path_core.specs.Events.{next_event, step_for}
-use Rattle.path_core.specs.Handover.{sends}
-use Rattle.path_core.specs.MpJoin.{asked_at, join_heard_ask}
-use Rattle.path_core.specs.MpCapable.{peer_key_ask, opened_ask}
-use Rattle.path_core.specs.DataFin.{data_fin_of, fin_ask, plain_fin}
-use Rattle.path_core.specs.Rate.{rate_ask}
-use Rattle.path_core.specs.State.{PathState, end_at, path_of}
-use Rattle.path_core.specs.Profile.{Profile}
-use Rattle.path_core.specs.Steps.{asks_first}
-use Rattle.path_core.specs.DssIn.{is_clash, mapping_ask}
-use Rattle.path_core.specs.Fallback.{fell_ask, plain_ack_ask, breaks_by_ack}
-use Rattle.path_core.specs.Treating.{item_ask, item_of}
-use Rattle.path_core.specs.Turns.{FirstStands, IsSettled}
-use Rattle.path_core.specs.Values.{Carried, values}
-use Rattle.world_laws.specs.declared.member.Member.TheVariants.{App, Path}
-use Rattle.world_laws.specs.Actors.{Actor, ActorCrew, member_asks}
 use Rattle.world_laws.specs.ChecksPass.{tells_failure, note_tells_failure, ChecksPass, is_fail, TellsNoFailure, NoFailureIsTold}
-use Rattle.world_laws.specs.Openings.{Start, opened_world}
-use Rattle.world_laws.specs.Outcomes.{notes_or}
-use Rattle.world_laws.specs.Promises.{IsPromised, IsPromisedOfOctets}
-use Rattle.world_laws.specs.Worlds.{WorldState, Turn, note_of, crew_after, asked, stepped, all_over, greatest, begins, after_turn, world_run}
 use Rattle.world_laws.proofs.Falls.FailedChecks.{fail_asks_so, subflow_acks_so}
 use Rattle.world_laws.proofs.Lanes.Beginning.{each_run_shows}
 use Rattle.world_laws.proofs.Lanes.OfAWorld.{plainly, plainly_free, free_run, Links, WorldShows, PathThere, duo_of, first_duo}
@@ -104,38 +34,33 @@ use Rattle.world_laws.proofs.Worlds.Opened.{opened_actors}
 
 -- an MP_FAIL that came is harmless where no infinite mapping can be sent
 abbrev EventIsHarmless : FallEvent → Type 0
-EventIsHarmless events.CheckFailed = ⊥
-EventIsHarmless (events.FailHeard contiguous) = contiguous ≡ false
+EventIsHarmless FallEvent.CheckFailed = ⊥
+EventIsHarmless (FallEvent.FailHeard contiguous) = contiguous ≡ false
 EventIsHarmless _ = Unit {0}
 
 abbrev CallIsHarmless : ControlCall → Type 0
-CallIsHarmless (calls.Fell path event) = EventIsHarmless event
+CallIsHarmless (ControlCall.Fell path event) = EventIsHarmless event
 CallIsHarmless _ = Unit {0}
 
 abbrev IsHarmless : Ask → Type 0
-IsHarmless (asks.Control s call) = CallIsHarmless call
+IsHarmless (Ask.Control s call) = CallIsHarmless call
 IsHarmless _ = Unit {0}
 
-untold_event : (s : Side) (path : ℕ) (event : FallEvent) → EventIsHarmless event → tells_failure (asks.Control s (calls.Fell path event)) ≡ false
-untold_event s path events.CheckFailed harmless = absurd harmless
+untold_event : (s : Side) (path : ℕ) (event : FallEvent) → EventIsHarmless event → tells_failure (Ask.Control s (ControlCall.Fell path event)) ≡ false
+untold_event s path FallEvent.CheckFailed harmless = absurd harmless
 untold_event s path _ harmless = refl
 
-untold_call : (s : Side) (call : ControlCall) → CallIsHarmless call → tells_failure (asks.Control s call) ≡ false
-untold_call s (calls.Fell path event) harmless = untold_event s path event harmless
+untold_call : (s : Side) (call : ControlCall) → CallIsHarmless call → tells_failure (Ask.Control s call) ≡ false
+untold_call s (ControlCall.Fell path event) harmless = untold_event s path event harmless
 untold_call s _ harmless = refl
 
 untold : (x : Ask) → IsHarmless x → tells_failure x ≡ false
-untold (asks.Control s call) harmless = untold_call s call harmless
+untold (Ask.Control s call) harmless = untold_call s call harmless
 untold _ harmless = refl
 
 app_harmless : (d : AppDuty) (a : AppState) → IsHarmless (app_ask d a)
-app_harmless app_duties.FastClose a = tt
-app_harmless app_duties.AbortSend a = tt
-app_harmless app_duties.AbortReceive a = tt
-app_harmless app_duties.Write a = tt
-app_harmless app_duties.Close a = tt
-app_harmless app_duties.Read a = tt
-app_harmless app_duties.End a = tt
+app_harmless AppDuty.FastClose a = tt
+app_harmless _ a = tt
 
 -- ---- a path
 
@@ -153,10 +78,8 @@ pub record PathPasses (p : PathState Carried) : Type 0 where
 module _ (p : PathState Carried) (h : PathPasses p) where
   step_harmless : (o : Option Event) → IsHarmless (step_for (path_of p) o)
   step_harmless None = tt
-  step_harmless (Some (happening.Joins tick)) = tt
-  step_harmless (Some (happening.Takes line)) = tt
-  step_harmless (Some (happening.Arrives due)) = tt
-  step_harmless (Some (happening.Fires s tick)) = tt
+  step_harmless (Some (Event.Joins tick)) = tt
+  step_harmless _ = tt
 
   key_harmless : (s : Side) (o : Option ℕ) → IsHarmless (peer_key_ask s o p)
   key_harmless s None = tt
@@ -171,36 +94,22 @@ module _ (p : PathState Carried) (h : PathPasses p) where
   join_harmless s (Some asked) = tt
 
   break_harmless : (s : Side) (reason : ℕ) → IsHarmless (break_ask values s reason p)
-  break_harmless s reason = by (end_at s p).treated.asked
-    where
-      by : (b : Bool) → IsHarmless (if b then asks.Reassembly s reassembly_calls.AckOut else sends values s (reset_of s (Some reason) p) p)
-      by true = tt
-      by false = tt
+  break_harmless s reason = if_so IsHarmless (end_at s p).treated.asked (Ask.Reassembly s ReassemblyCall.AckOut) (sends values s (reset_of s (Some reason) p) p) tt tt
 
   mapping_harmless : (s : Side) → IsHarmless (mapping_ask values s p)
-  mapping_harmless s = by (is_clash (end_at s p))
-    where
-      by : (b : Bool) → IsHarmless (if b then break_ask values s 1 p else fell_ask s events.MappingHeard p)
-      by true = break_harmless s 1
-      by false = tt
+  mapping_harmless s = if_so IsHarmless (is_clash (end_at s p)) (break_ask values s 1 p) (fell_ask s FallEvent.MappingHeard p) (break_harmless s 1) tt
 
   plain_ack_harmless : (s : Side) → IsHarmless (plain_ack_ask values s p)
-  plain_ack_harmless s = by (breaks_by_ack p.profile (end_at s p))
-    where
-      by : (b : Bool) → IsHarmless (if b then break_ask values s 6 p else fell_ask s events.PlainAck p)
-      by true = break_harmless s 6
-      by false = tt
+  plain_ack_harmless s = if_so IsHarmless (breaks_by_ack p.profile (end_at s p)) (break_ask values s 6 p) (fell_ask s FallEvent.PlainAck p) (break_harmless s 6) tt
 
   notice_harmless : (notice : PeerNotice) → CallIsHarmless (notice_call (path_of p) notice)
-  notice_harmless (notes.AddAddr id address port hmac) = tt
-  notice_harmless (notes.AddEcho id) = tt
-  notice_harmless (notes.Removed id) = tt
-  notice_harmless (notes.Prio backup) = tt
+  notice_harmless (PeerNotice.AddAddr id address port hmac) = tt
+  notice_harmless _ = tt
 
   item_harmless : (s : Side) (o : Option Heard) → IsHarmless (item_ask values s o p)
-  item_harmless s (Some (says.Mapping fin)) = mapping_harmless s
-  item_harmless s (Some (says.Notice notice)) = notice_harmless notice
-  item_harmless s (Some says.Fail) = fail_asks_so IsHarmless s p tt refl
+  item_harmless s (Some (Heard.Mapping fin)) = mapping_harmless s
+  item_harmless s (Some (Heard.Notice notice)) = notice_harmless notice
+  item_harmless s (Some Heard.Fail) = fail_asks_so IsHarmless s p tt refl
   item_harmless s _ = tt
 
   piece_harmless : (s : Side) (o : Option Piece) → IsHarmless (piece_ask s o)
@@ -220,29 +129,29 @@ module _ (p : PathState Carried) (h : PathPasses p) where
   data_harmless s (Some first) = tt
 
   -- the duty that tells of a failed check comes to nothing
-  check_harmless : (s : Side) → stands (duties.Ask (ask_duties.CheckFailed s)) p ≡ true → IsHarmless (ask_for values (duties.Ask (ask_duties.CheckFailed s)) p)
+  check_harmless : (s : Side) → stands (Duty.Ask (AskDuty.CheckFailed s)) p ≡ true → IsHarmless (ask_for values (Duty.Ask (AskDuty.CheckFailed s)) p)
   check_harmless s is =
       absurd (both_ways (is_some (failing_mapping p.profile (end_at s p))) (ap (λ o. is_some o) (h.sound s))
       (and_parts (is_some (failing_mapping p.profile (end_at s p))) (reads_mappings (end_at s p).modes.mode) is).0)
 
   duty_harmless : (d : Duty) → stands d p ≡ true → IsHarmless (ask_for values d p)
-  duty_harmless (duties.Step (step_duties.Data s)) is = data_harmless s (first_unsent (end_at s p))
-  duty_harmless (duties.Step step_duties.Events) is = step_harmless (next_event p)
-  duty_harmless (duties.Ask (ask_duties.PeerKey s)) is = key_harmless s (key_heard (end_at s p).treated.items)
-  duty_harmless (duties.Ask (ask_duties.JoinHeard s)) is = join_harmless s (asked_at s p)
-  duty_harmless (duties.Ask (ask_duties.Opened s)) is = opened_harmless s (keys_heard (end_at s p).treated.items)
-  duty_harmless (duties.Step (step_duties.Heard s index)) is = item_harmless s (item_of index (end_at s p))
-  duty_harmless (duties.Ask (ask_duties.FailHeard s)) is = ap (λ o. is_some o) (h.own s)
-  duty_harmless (duties.Step (step_duties.PlainAck s)) is = plain_ack_harmless s
-  duty_harmless (duties.Ask (ask_duties.SubflowAck s)) is = subflow_acks_so IsHarmless s (end_at s p) tt (λ next. tt)
-  duty_harmless (duties.Step (step_duties.Unmapped s)) is = break_harmless s 6
-  duty_harmless (duties.Ask (ask_duties.SubflowFin s)) is = fin_harmless s (plain_fin (end_at s p))
-  duty_harmless (duties.Ask (ask_duties.Edge s)) is = piece_harmless s (piece_of s p)
-  duty_harmless (duties.Ask (ask_duties.CheckFailed s)) is = check_harmless s is
-  duty_harmless (duties.Ask (ask_duties.HeardFin s index)) is = fin_harmless s (data_fin_of index (end_at s p))
-  duty_harmless (duties.Ask (ask_duties.Rate s)) is = rate_harmless s (end_at s p).tcp.congestion.pending
-  duty_harmless (duties.Send (send_duties.Update s)) is = tt
-  duty_harmless (duties.Silent (silent_duties.Timer s)) is = tt
+  duty_harmless (Duty.Step (StepDuty.Data s)) is = data_harmless s (first_unsent (end_at s p))
+  duty_harmless (Duty.Step StepDuty.Events) is = step_harmless (next_event p)
+  duty_harmless (Duty.Ask (AskDuty.PeerKey s)) is = key_harmless s (key_heard (end_at s p).treated.items)
+  duty_harmless (Duty.Ask (AskDuty.JoinHeard s)) is = join_harmless s (asked_at s p)
+  duty_harmless (Duty.Ask (AskDuty.Opened s)) is = opened_harmless s (keys_heard (end_at s p).treated.items)
+  duty_harmless (Duty.Step (StepDuty.Heard s index)) is = item_harmless s (item_of index (end_at s p))
+  duty_harmless (Duty.Ask (AskDuty.FailHeard s)) is = ap (λ o. is_some o) (h.own s)
+  duty_harmless (Duty.Step (StepDuty.PlainAck s)) is = plain_ack_harmless s
+  duty_harmless (Duty.Ask (AskDuty.SubflowAck s)) is = subflow_acks_so IsHarmless s (end_at s p) tt (λ next. tt)
+  duty_harmless (Duty.Step (StepDuty.Unmapped s)) is = break_harmless s 6
+  duty_harmless (Duty.Ask (AskDuty.SubflowFin s)) is = fin_harmless s (plain_fin (end_at s p))
+  duty_harmless (Duty.Ask (AskDuty.Edge s)) is = piece_harmless s (piece_of s p)
+  duty_harmless (Duty.Ask (AskDuty.CheckFailed s)) is = check_harmless s is
+  duty_harmless (Duty.Ask (AskDuty.HeardFin s index)) is = fin_harmless s (data_fin_of index (end_at s p))
+  duty_harmless (Duty.Ask (AskDuty.Rate s)) is = rate_harmless s (end_at s p).tcp.congestion.pending
+  duty_harmless (Duty.Send (SendDuty.Update s)) is = tt
+  duty_harmless (Duty.Silent (SilentDuty.Timer s)) is = tt
   duty_harmless _ is = tt
 
   first_harmless : (ds : List Duty) (x : Ask) → FirstStands ds p → asks_first values ds p ≡ Some x → IsHarmless x
@@ -297,9 +206,9 @@ module _ (v u : View) (number : ℕ) (p : PathState Carried) (ab ba : Lane) (to_
   mapped B = no_own ba.pair ba.pairs ba.fins ba.alters plain_ba p.b.modes.own_infinite h.b.pairs.0
 
   finishing : (state : EndPhase) → may_finish state ≡ true → is_unfinished state ≡ true
-  finishing phase.Established is = refl
-  finishing phase.CloseWait is = refl
-  finishing phase.Waiting is = absurd (false≢true is)
+  finishing EndPhase.Established is = refl
+  finishing EndPhase.CloseWait is = refl
+  finishing EndPhase.Waiting is = absurd (false≢true is)
   finishing _ is = absurd (false≢true is)
 
   unfinished : (s : Side) → may_finish (end_at s p).tcp.state ≡ true → (end_at s p).tcp.send.finished ≡ false
@@ -348,7 +257,7 @@ either_unfailed true c d x y = x
 either_unfailed false c d x y = y
 
 -- an MP_FAIL after which no infinite mapping can be sent changes nothing
-fail_unfailed : (fall : Fall) (only : Bool) → IsUnfailed fall → IsUnfailed (fall_step fall 0 only (events.FailHeard false)).0
+fail_unfailed : (fall : Fall) (only : Bool) → IsUnfailed fall → IsUnfailed (fall_step fall 0 only (FallEvent.FailHeard false)).0
 fail_unfailed fall only u = by (not (writes_mappings fall.mode)) only
   where
     by : (b only : Bool) → IsUnfailed (if b then stays fall else (if only && false then goes (sending fall.mode) fall else breaks 1 fall)).0
@@ -357,57 +266,46 @@ fail_unfailed fall only u = by (not (writes_mappings fall.mode)) only
     by false false = u
 
 event_unfailed : (fall : Fall) (path : ℕ) (only : Bool) (event : FallEvent) → EventIsHarmless event → IsUnfailed fall → IsUnfailed (fall_step fall path only event).0
-event_unfailed fall path only events.CheckFailed harmless u = absurd harmless
-event_unfailed fall path only (events.FailHeard contiguous) harmless u =
-    subst (λ (b : Bool). IsUnfailed (fall_step fall path only (events.FailHeard b)).0) (sym harmless) (fail_unfailed fall only u)
-event_unfailed fall path only events.PlainHandshake harmless u = unfailed_kept fall path only events.PlainHandshake refl u
-event_unfailed fall path only events.PlainData harmless u = unfailed_kept fall path only events.PlainData refl u
-event_unfailed fall path only events.PlainAck harmless u = unfailed_kept fall path only events.PlainAck refl u
-event_unfailed fall path only events.KeysHeard harmless u = unfailed_kept fall path only events.KeysHeard refl u
-event_unfailed fall path only events.MappingHeard harmless u = unfailed_kept fall path only events.MappingHeard refl u
-event_unfailed fall path only events.AckHeard harmless u = unfailed_kept fall path only events.AckHeard refl u
-event_unfailed fall path only events.InfiniteHeard harmless u = unfailed_kept fall path only events.InfiniteHeard refl u
-event_unfailed fall path only events.Stop harmless u = unfailed_kept fall path only events.Stop refl u
+event_unfailed fall path only FallEvent.CheckFailed harmless u = absurd harmless
+event_unfailed fall path only (FallEvent.FailHeard contiguous) harmless u =
+    subst (λ (b : Bool). IsUnfailed (fall_step fall path only (FallEvent.FailHeard b)).0) (sym harmless) (fail_unfailed fall only u)
+event_unfailed fall path only FallEvent.PlainHandshake harmless u = unfailed_kept fall path only FallEvent.PlainHandshake refl u
+event_unfailed fall path only event harmless u = unfailed_kept fall path only event refl u
 
 module _ (c : Control) (u : IsUnfailed c.fall) where
   joined_unfailed : IsUnfailed (record c.fall { joined = true })
   joined_unfailed = record { finite = u.finite; unfailed = u.unfailed }
 
   look_unfailed : (n : Notice) (path : ℕ) → IsUnfailed (controlling.after_notice n path c).fall
-  look_unfailed (notices.Withdraw id) path = u
+  look_unfailed (Notice.Withdraw id) path = u
   look_unfailed _ path = u
 
   call_unfailed : (call : ControlCall) → CallIsHarmless call → IsUnfailed (controlling.after c call).fall
-  call_unfailed (calls.Look path) harmless = look_unfailed (replying.notice_on c path) path
-  call_unfailed (calls.PeerKey key) harmless = u
-  call_unfailed (calls.Keys own peer) harmless =
-      either_unfailed (own == c.keys.own) (controlling.after_event 0 false events.KeysHeard (controlling.after_peer_key peer c)) c (event_unfailed c.fall 0 false events.KeysHeard tt u) u
-  call_unfailed (calls.Fell path event) harmless = event_unfailed c.fall path (sole c.paths path) event harmless u
-  call_unfailed (calls.JoinBegin path) harmless = either_unfailed _ _ c joined_unfailed u
-  call_unfailed (calls.JoinHeard path token) harmless = either_unfailed _ _ c joined_unfailed u
-  call_unfailed (calls.Live path backup) harmless = u
-  call_unfailed (calls.Dead path) harmless = u
-  call_unfailed (calls.Rate path window rtt) harmless = u
-  call_unfailed (calls.Backup path on) harmless = u
-  call_unfailed (calls.Announce id) harmless = u
-  call_unfailed (calls.Withdraw id) harmless = either_unfailed (controlling.is_known id c) _ c u u
-  call_unfailed (calls.Heard id address port hmac) harmless = u
-  call_unfailed (calls.Echoed id) harmless = either_unfailed (controlling.is_known id c) _ c u u
-  call_unfailed (calls.Removed id) harmless = either_unfailed (controlling.is_known id c) _ c u u
-  call_unfailed calls.FastClose harmless = event_unfailed c.fall 0 false events.Stop tt u
-  call_unfailed (calls.FastHeard key) harmless = either_unfailed (key == c.keys.own) (controlling.after_event 0 false events.Stop c) c (event_unfailed c.fall 0 false events.Stop tt u) u
+  call_unfailed (ControlCall.Look path) harmless = look_unfailed (replying.notice_on c path) path
+  call_unfailed (ControlCall.PeerKey key) harmless = u
+  call_unfailed (ControlCall.Keys own peer) harmless =
+      either_unfailed (own == c.keys.own) (controlling.after_event 0 false FallEvent.KeysHeard (controlling.after_peer_key peer c)) c (event_unfailed c.fall 0 false FallEvent.KeysHeard tt u) u
+  call_unfailed (ControlCall.Fell path event) harmless = event_unfailed c.fall path (sole c.paths path) event harmless u
+  call_unfailed (ControlCall.JoinBegin path) harmless = either_unfailed _ _ c joined_unfailed u
+  call_unfailed (ControlCall.JoinHeard path token) harmless = either_unfailed _ _ c joined_unfailed u
+  call_unfailed (ControlCall.Withdraw id) harmless = either_unfailed (controlling.is_known id c) _ c u u
+  call_unfailed (ControlCall.Echoed id) harmless = either_unfailed (controlling.is_known id c) _ c u u
+  call_unfailed (ControlCall.Removed id) harmless = either_unfailed (controlling.is_known id c) _ c u u
+  call_unfailed ControlCall.FastClose harmless = event_unfailed c.fall 0 false FallEvent.Stop tt u
+  call_unfailed (ControlCall.FastHeard key) harmless = either_unfailed (key == c.keys.own) (controlling.after_event 0 false FallEvent.Stop c) c (event_unfailed c.fall 0 false FallEvent.Stop tt u) u
+  call_unfailed _ harmless = u
 
 abbrev AreUnfailed : SixBooks → Type 0
 AreUnfailed six = IsUnfailed six.control_a.fall × IsUnfailed six.control_b.fall
 
 ask_unfailed : (six : SixBooks) (x : Ask) → IsHarmless x → AreUnfailed six → AreUnfailed (after_ask x six)
-ask_unfailed six (asks.Control A call) harmless h = (call_unfailed six.control_a h.0 call harmless, h.1)
-ask_unfailed six (asks.Control B call) harmless h = (h.0, call_unfailed six.control_b h.1 call harmless)
-ask_unfailed six (asks.Send A call) harmless h = h
-ask_unfailed six (asks.Send B call) harmless h = h
-ask_unfailed six (asks.Reassembly A call) harmless h = h
-ask_unfailed six (asks.Reassembly B call) harmless h = h
-ask_unfailed six (asks.Local step) harmless h = h
+ask_unfailed six (Ask.Control A call) harmless h = (call_unfailed six.control_a h.0 call harmless, h.1)
+ask_unfailed six (Ask.Control B call) harmless h = (h.0, call_unfailed six.control_b h.1 call harmless)
+ask_unfailed six (Ask.Send A call) harmless h = h
+ask_unfailed six (Ask.Send B call) harmless h = h
+ask_unfailed six (Ask.Reassembly A call) harmless h = h
+ask_unfailed six (Ask.Reassembly B call) harmless h = h
+ask_unfailed six (Ask.Local step) harmless h = h
 
 -- ---- worlds
 
@@ -432,23 +330,12 @@ asked_passing actor w c x there harmless h = record {
 }
 
 turn_passing : (turn : Turn) (w : WorldState Carried) → EachPasses w → Passing w → Passing (after_turn values turn w)
-turn_passing (Turn.Step actor) w passes h = by (slice_get w.crew actor) refl
-  where
-    takes : (c : ActorCrew Carried) → slice_get w.crew actor ≡ Some c → (o : Option Ask) → member_asks values c.member ≡ o → Passing (asked values actor o c w)
-    takes c there None is = h
-    takes c there (Some x) is = asked_passing actor w c x there (member_harmless c.member x (passes.each actor c there) is) h
-
-    by : (o : Option (ActorCrew Carried)) → slice_get w.crew actor ≡ o → Passing (stepped values actor o w)
-    by None there = h
-    by (Some c) there = takes c there (member_asks values c.member) refl
-turn_passing Turn.Round w passes h = by (all_over w.crew)
-  where
-    by : (b : Bool) → Passing (if b then record w { crew = map (begins (greatest 0 w.crew)) w.crew } else w)
-    by true = record {
+turn_passing turn w passes h =
+    turn_so values Passing turn w h (λ actor c x there is. asked_passing actor w c x there (member_harmless c.member x (passes.each actor c there) is) h)
+    (λ over. record {
       notes = λ i d at. let found = in_map (begins (greatest 0 w.crew)) w.crew i d at in ap (λ (y : ActorCrew Carried). list_any note_tells_failure y.list) (sym found.2) ∙ h.notes i found.0 found.1;
       books = h.books;
-    }
-    by false = h
+    })
 
 run_passing : (turns : List Turn) (w : WorldState Carried) → ((more : List Turn) → EachPasses (world_run values more w)) → Passing w → Passing (world_run values turns w)
 run_passing [] w ever h = h

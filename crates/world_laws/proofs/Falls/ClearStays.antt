@@ -1,56 +1,16 @@
 -- An end that may send a DSS may always send one: it stays clear. And one that fell back to plain TCP stays so.
-use Rattle.std.proofs.Common.{◌≡◌, refl, ap, ◌∙◌, ℕ, ◌+◌, Bool, true, false, if◌then◌else◌, Option, Some, None, List, []}
-use Rattle.std.proofs.lemmas.Bool.{or_left, both_ways}
-use Rattle.path_segments.specs.Heard.{HeardSegment}
-use Rattle.sides.specs.declared.side.Side.{Side}
-use Rattle.sides.specs.declared.side.Side.TheVariants.{A, B}
-use Rattle.control_book.specs.declared.call.ControlReply.TheVariants as control_replies
-use Rattle.fallback_state.specs.declared.fall.Event.{Event as FallEvent}
-use Rattle.fallback_state.specs.declared.fall.Event.TheVariants as events
-use Rattle.join_handshake.specs.declared.hearing.JoinAnswer.{JoinAnswer}
-use Rattle.link_model.specs.Steps.{arriving, after_delivery}
-use Rattle.subflow_tcp.specs.States.{is_dead, is_half_open}
-use Rattle.subflow_tcp.specs.declared.handshake.State.{State as EndPhase}
-use Rattle.subflow_tcp.specs.declared.verdicts.Meaning.{Meaning}
-use Rattle.subflow_tcp.specs.declared.verdicts.Meaning.TheVariants as means
-use Rattle.actor_desk.specs.declared.ask.Reply.{Reply}
-use Rattle.actor_desk.specs.declared.ask.Reply.TheVariants as replies
-use Rattle.actor_desk.specs.Words.{tail_of}
-use Rattle.path_agenda.specs.Agenda.{leaves, emission}
-use Rattle.path_agenda.specs.Items.{keys_heard}
-use Rattle.path_agenda.specs.declared.duty.Duty.{Duty}
-use Rattle.path_agenda.specs.declared.duty.Duty.TheVariants as duties
-use Rattle.path_agenda.specs.declared.duty.AskDuty.TheVariants as ask_duties
-use Rattle.path_agenda.specs.declared.duty.SendDuty.TheVariants as send_duties
-use Rattle.path_agenda.specs.declared.duty.SilentDuty.TheVariants as silent_duties
-use Rattle.path_agenda.specs.declared.duty.StepDuty.TheVariants as step_duties
-use Rattle.path_agenda.specs.declared.heard.Heard.{Heard}
-use Rattle.path_agenda.specs.declared.heard.Heard.TheVariants as says
-use Rattle.path_agenda.specs.declared.keys.KeyPair.{KeyPair}
-use Rattle.path_core.specs.OptionsIn.{items_of, options_heard}
-use Rattle.path_core.specs.Arrival.{judged_in, asked_in, after_judged, with_held, copy_heard, heard_in, told_at}
-use Rattle.path_core.specs.Judged.{taken_as, answered_in, cleared_in, with_answer, after_join}
-use Rattle.path_core.specs.DssIn.{HeardOption, held_of, counts, is_clash}
-use Rattle.path_core.specs.Breaking.{answered_break}
-use Rattle.path_core.specs.Codec.{Codec}
+use Rattle.world_laws.proofs.Words.{◌≡◌, refl, ◌∙◌, ap, ℕ, ◌+◌, Bool, true, false, if◌then◌else◌, Option, Some, None, List, [], both_ways, or_left, FallEvent}
+use Rattle.world_laws.proofs.Words.{Side, A, B, JoinAnswer, ControlReply, is_dead, is_half_open, Meaning, EndPhase, arriving, after_delivery, HeardSegment}
+use Rattle.world_laws.proofs.Words.{LineAction, emission, leaves, Duty, SendDuty, StepDuty, AskDuty, SilentDuty, Heard, KeyPair, keys_heard, Reply, tail_of}
+use Rattle.world_laws.proofs.Words.{Codec, passed, answered, PathEnd, died, at_tick, PathState, end_at, goes_on, takes, begins_turn, next_round, items_of}
+use Rattle.world_laws.proofs.Words.{options_heard, after_judged, asked_in, judged_in, with_held, heard_in, copy_heard, told_at, answered_break, next_event}
+use Rattle.world_laws.proofs.Words.{after_line, happens_if, join_begun, never_joined, is_never, keys_begun, opened_by, is_joined, join_answer, is_clash}
+use Rattle.world_laws.proofs.Words.{held_of, HeardOption, answered_heard, answered_item, item_of, item_passed, after_fell, fell_in, answered_opened, keys_in}
+use Rattle.world_laws.proofs.Words.{answered_in, cleared_in, taken_as, with_answer, Modes, is_side_a, EndWrites, Only, Writes, OnlyAt, EndView, writes, side_of}
+use Rattle.path_core.specs.Judged.{after_join}
 use Rattle.path_core.specs.declared.events.Event.{Event}
-use Rattle.path_core.specs.declared.events.Event.TheVariants as happenings
-use Rattle.path_core.specs.declared.modes.Modes.{Modes}
-use Rattle.path_core.specs.Duties.{passed, answered}
-use Rattle.path_core.specs.End.{PathEnd, died}
-use Rattle.path_core.specs.Events.{next_event, after_line, happens_if}
-use Rattle.path_core.specs.State.{at_tick, PathState, end_at, goes_on}
-use Rattle.path_core.specs.MpJoin.{join_begun, never_joined, keys_begun, is_never, opened_by, is_joined, join_answer}
-use Rattle.path_store.specs.declared.lines.LineAction.{LineAction}
-use Rattle.path_store.specs.declared.lines.LineAction.TheVariants as actions
-use Rattle.path_core.specs.MpCapable.{keys_in, answered_opened}
-use Rattle.path_core.specs.Steps.{takes, begins_turn, next_round}
-use Rattle.path_core.specs.Treating.{heard_passed, item_passed, answered_heard, answered_item, item_of}
-use Rattle.path_core.specs.Fallback.{after_fell, fell_in}
-use Rattle.path_core.specs.Choices.{is_side_a}
 use Rattle.world_laws.proofs.Falls.FailedChecks.{infinite_came_so, fail_answered_so}
-use Rattle.world_laws.specs.Writes.{EndWrites, EndView, Only, Writes, OnlyAt, writes, side_of}
-use Rattle.world_laws.proofs.Writes.Ends.{fell_so}
+use Rattle.world_laws.proofs.Writes.Ends.{fell_so, item_so}
 use Rattle.world_laws.proofs.Writes.Paths.{writes_no_more, passes_no_more}
 use Rattle.world_laws.proofs.Writes.Steps.{both_ends, Lasts, unwritten, takes_lasts, begins_lasts}
 
@@ -71,7 +31,7 @@ fell_clear : (event : FallEvent) (r : Reply) (m : Modes) → Stays m (fell_in ev
 fell_clear event r m = fell_so (Stays m) event r m (λ mode owes. (λ h. h, λ h. h))
 
 keyed_clear : (r : Reply) (keys : Option KeyPair) (m : Modes) → Stays m (keys_in r keys m)
-keyed_clear (replies.Control control_replies.Noted) (Some keys) m = (λ h. refl, λ h. h)
+keyed_clear (Reply.Control ControlReply.Noted) (Some keys) m = (λ h. refl, λ h. h)
 keyed_clear _ keys m = (λ h. h, λ h. h)
 
 with_answer_clear : (o : Option JoinAnswer) (m : Modes) → Stays m (with_answer o m)
@@ -79,15 +39,15 @@ with_answer_clear None m = (λ h. h, λ h. h)
 with_answer_clear (Some answer) m = (λ h. h, λ h. h)
 
 answered_clear_in : (meaning : Meaning) (items : List Heard) (m : Modes) → Stays m (answered_in meaning items m)
-answered_clear_in (means.Accepts acknowledged) items m = with_answer_clear (join_answer items m) m
+answered_clear_in (Meaning.Accepts acknowledged) items m = with_answer_clear (join_answer items m) m
 answered_clear_in _ items m = (λ h. h, λ h. h)
 
 cleared_clear : (meaning : Meaning) (state : EndPhase) (m : Modes) → Stays m (cleared_in meaning state m)
-cleared_clear (means.Taken position acknowledged) state m = (λ h. or_left m.clear (is_half_open state) h, λ h. h)
+cleared_clear (Meaning.Taken position acknowledged) state m = (λ h. or_left m.clear (is_half_open state) h, λ h. h)
 cleared_clear _ state m = (λ h. h, λ h. h)
 
 asked_clear : (meaning : Meaning) (options : List HeardOption) (m : Modes) → Stays m (asked_in meaning options m)
-asked_clear means.Opens options m = (λ h. h, λ h. h)
+asked_clear Meaning.Opens options m = (λ h. h, λ h. h)
 asked_clear _ options m = (λ h. h, λ h. h)
 
 heard_clear : (joined : Bool) (meaning : Meaning) (items : List Heard) (state : EndPhase) (m : Modes) → Stays m (if joined then cleared_in meaning state (answered_in meaning items m) else m)
@@ -108,15 +68,10 @@ begun_end : (keys : Option KeyPair) (e : PathEnd) → EndStays e (opened_by keys
 begun_end None e = (λ h. h, λ h. h)
 begun_end (Some keys) e = (λ h. h, λ h. h)
 
-item_end : (s : Side) (item : Heard) (e : PathEnd) → EndStays e (heard_passed s item e)
-item_end s says.Dss e = (λ h. or_left e.modes.clear (is_side_a s) h, λ h. h)
-item_end s (says.Mapping fin) e = either_end (counts e) e _ _ (λ h. h, λ h. h) (λ h. h, λ h. h)
-item_end s (says.DataFin place) e = either_end (counts e) e _ _ (λ h. h, λ h. h) (λ h. h, λ h. h)
-item_end s _ e = (λ h. h, λ h. h)
-
 pub maybe_end : (s : Side) (o : Option Heard) (e : PathEnd) → EndStays e (item_passed s o e)
-maybe_end s None e = (λ h. h, λ h. h)
-maybe_end s (Some item) e = item_end s item e
+maybe_end s o e =
+    item_so (EndStays e) s o e (λ h. h, λ h. h) (λ h. or_left e.modes.clear (is_side_a s) h, λ h. h) (λ next. (λ h. h, λ h. h)) (λ h. h, λ h. h) (λ h. h, λ h. h)
+    (λ place. (λ h. h, λ h. h))
 
 end_kept : (w : EndWrites) (e f : PathEnd) → w.clear ≡ false → w.identity ≡ false → Only w e f → EndStays e f
 end_kept w e f clear identity x = (
@@ -154,13 +109,13 @@ module _ {C : Type 0} where
       record { a = both.0; b = both.1 }
 
   pub passed_clear : (d : Duty) (p : PathState C) → Clears p (passed d p)
-  passed_clear (duties.Step (step_duties.Heard s index)) p = side_clear s _ p _ (maybe_end s (item_of index (end_at s p)) (end_at s p)) refl refl
-  passed_clear (duties.Step step_duties.Events) p = stays_clear p
-  passed_clear (duties.Ask (ask_duties.Opened s)) p = stays_clear p
-  passed_clear (duties.Ask (ask_duties.GoIdentity s)) p = stays_clear p
-  passed_clear (duties.Send (send_duties.Update s)) p = stays_clear p
-  passed_clear (duties.Silent (silent_duties.Timer s)) p =
-      kept_by s (writes (duties.Silent (silent_duties.Timer s))) p _ refl refl refl refl (passes_no_more (duties.Silent (silent_duties.Timer s)) p)
+  passed_clear (Duty.Step (StepDuty.Heard s index)) p = side_clear s _ p _ (maybe_end s (item_of index (end_at s p)) (end_at s p)) refl refl
+  passed_clear (Duty.Step StepDuty.Events) p = stays_clear p
+  passed_clear (Duty.Ask (AskDuty.Opened s)) p = stays_clear p
+  passed_clear (Duty.Ask (AskDuty.GoIdentity s)) p = stays_clear p
+  passed_clear (Duty.Send (SendDuty.Update s)) p = stays_clear p
+  passed_clear (Duty.Silent (SilentDuty.Timer s)) p =
+      kept_by s (writes (Duty.Silent (SilentDuty.Timer s))) p _ refl refl refl refl (passes_no_more (Duty.Silent (SilentDuty.Timer s)) p)
   passed_clear d p = kept_by (side_of d) (writes d) p _ refl refl refl refl (passes_no_more d p)
 
   -- ---- what happens by itself
@@ -171,13 +126,13 @@ module _ {C : Type 0} where
       (record { a = (λ h. h, λ h. h); b = (λ h. h, λ h. h) }) (record { a = begun_end (keys_begun r) p.a; b = (λ h. h, λ h. h) })
 
   line_clear : (action : LineAction) (p : PathState C) → Clears p (after_line action p)
-  line_clear actions.Die p = record {
+  line_clear LineAction.Die p = record {
     a = either_end (is_dead p.a.tcp.state) p.a p.a (died p.a) (λ h. h, λ h. h) (λ h. h, λ h. h);
     b = either_end (is_dead p.b.tcp.state) p.b p.b (died p.b) (λ h. h, λ h. h) (λ h. h, λ h. h);
   }
-  line_clear (actions.Prio s backup) p = side_clear s _ p _ (λ h. h, λ h. h) refl refl
-  line_clear (actions.Announce s id) p = record { a = (λ h. h, λ h. h); b = (λ h. h, λ h. h) }
-  line_clear (actions.Withdraw s id) p = record { a = (λ h. h, λ h. h); b = (λ h. h, λ h. h) }
+  line_clear (LineAction.Prio s backup) p = side_clear s _ p _ (λ h. h, λ h. h) refl refl
+  line_clear (LineAction.Announce s id) p = record { a = (λ h. h, λ h. h); b = (λ h. h, λ h. h) }
+  line_clear (LineAction.Withdraw s id) p = record { a = (λ h. h, λ h. h); b = (λ h. h, λ h. h) }
 
   told_clear_at : (now : ℕ) (s : Side) (x : HeardSegment) (p : PathState C) → Clears p (told_at now s x p)
   told_clear_at now s x p =
@@ -194,16 +149,16 @@ module _ {C : Type 0} where
 
   happens_clear : (k : Codec C) (event : Option Event) (r : Reply) (p : PathState C) → Clears p (happens_if k event r p)
   happens_clear k None r p = record { a = (λ h. h, λ h. h); b = (λ h. h, λ h. h) }
-  happens_clear k (Some (happenings.Joins tick)) r p =
+  happens_clear k (Some (Event.Joins tick)) r p =
       let q : PathState C = record (at_tick tick p) { joined_at = None } in
       then_clear p q _ (record { a = (λ h. h, λ h. h); b = (λ h. h, λ h. h) }) (begun_clear r (leaves A) (emission A) q)
-  happens_clear k (Some (happenings.Takes line)) r p =
+  happens_clear k (Some (Event.Takes line)) r p =
       let q : PathState C = record (at_tick line.tick p) { lines = tail_of p.lines } in
       then_clear p q _ (record { a = (λ h. h, λ h. h); b = (λ h. h, λ h. h) }) (line_clear line.action q)
-  happens_clear k (Some (happenings.Arrives due)) r p =
+  happens_clear k (Some (Event.Arrives due)) r p =
       let q : PathState C = record (at_tick due.tick p) { link = after_delivery due p.link } in
       then_clear p q _ (record { a = (λ h. h, λ h. h); b = (λ h. h, λ h. h) }) (copy_clear due.to (heard_in k due.to (arriving due p.link) p) q)
-  happens_clear k (Some (happenings.Fires s tick)) r p = side_clear s _ p _ (λ h. h, λ h. h) refl refl
+  happens_clear k (Some (Event.Fires s tick)) r p = side_clear s _ p _ (λ h. h, λ h. h) refl refl
 
   -- ---- replies
 
@@ -215,22 +170,22 @@ module _ {C : Type 0} where
   fell_path s event r e q p rest same_a same_b = side_clear s e p q (then_stays (end_at s p).modes (fell_in event r (end_at s p).modes) e.modes (fell_clear event r (end_at s p).modes) rest) same_a same_b
 
   opened_clear : (s : Side) (keys : Option KeyPair) (r : Reply) (p : PathState C) → Clears p (answered_opened s keys r p)
-  opened_clear s None r p = fell_path s events.PlainHandshake r _ _ p (λ h. h, λ h. h) refl refl
+  opened_clear s None r p = fell_path s FallEvent.PlainHandshake r _ _ p (λ h. h, λ h. h) refl refl
   opened_clear s (Some keys) r p = side_clear s _ p _ (keyed_clear r (Some keys) (end_at s p).modes) refl refl
 
   heard_item_clear : (k : Codec C) (s : Side) (item : Heard) (r : Reply) (p : PathState C) → Clears p (answered_heard k s item r p)
-  heard_item_clear k s (says.DataAck next window) r p = side_clear s _ p _ (λ h. h, λ h. h) refl refl
-  heard_item_clear k s (says.Mapping fin) r p =
-      either_clear (is_clash (end_at s p)) _ _ p (break_clear k s 1 r p) (fell_path s events.MappingHeard r _ _ p (λ h. h, λ h. h) refl refl)
-  heard_item_clear k s (says.DataFin place) r p = fell_path s events.MappingHeard r _ _ p (λ h. h, λ h. h) refl refl
-  heard_item_clear k s (says.InfiniteMapping place position) r p =
-      fell_path s events.InfiniteHeard r _ _ p
-      (infinite_came_so (EndStays (after_fell events.InfiniteHeard r (end_at s p))) place position r (end_at s p) (λ other. (λ h. h, λ h. h))) refl refl
-  heard_item_clear k s (says.Keys own peer) r p =
+  heard_item_clear k s (Heard.DataAck next window) r p = side_clear s _ p _ (λ h. h, λ h. h) refl refl
+  heard_item_clear k s (Heard.Mapping fin) r p =
+      either_clear (is_clash (end_at s p)) _ _ p (break_clear k s 1 r p) (fell_path s FallEvent.MappingHeard r _ _ p (λ h. h, λ h. h) refl refl)
+  heard_item_clear k s (Heard.DataFin place) r p = fell_path s FallEvent.MappingHeard r _ _ p (λ h. h, λ h. h) refl refl
+  heard_item_clear k s (Heard.InfiniteMapping place position) r p =
+      fell_path s FallEvent.InfiniteHeard r _ _ p
+      (infinite_came_so (EndStays (after_fell FallEvent.InfiniteHeard r (end_at s p))) place position r (end_at s p) (λ other. (λ h. h, λ h. h))) refl refl
+  heard_item_clear k s (Heard.Keys own peer) r p =
       side_clear s _ p _ (keyed_clear r (Some (record { own = own; peer = peer })) (end_at s p).modes) refl refl
-  heard_item_clear k s (says.Notice notice) r p = side_clear s _ p _ (λ h. h, λ h. h) refl refl
-  heard_item_clear k s says.Fail r p =
-      fail_answered_so (Clears p) s r p (side_clear s _ p _ (λ h. h, λ h. h) refl refl) (fell_path s (events.FailHeard false) r _ _ p (λ h. h, λ h. h) refl refl)
+  heard_item_clear k s (Heard.Notice notice) r p = side_clear s _ p _ (λ h. h, λ h. h) refl refl
+  heard_item_clear k s Heard.Fail r p =
+      fail_answered_so (Clears p) s r p (side_clear s _ p _ (λ h. h, λ h. h) refl refl) (fell_path s (FallEvent.FailHeard false) r _ _ p (λ h. h, λ h. h) refl refl)
   heard_item_clear k s _ r p = record { a = (λ h. h, λ h. h); b = (λ h. h, λ h. h) }
 
   item_clear : (k : Codec C) (s : Side) (item : Option Heard) (r : Reply) (p : PathState C) → Clears p (answered_item k s item r p)
@@ -238,13 +193,13 @@ module _ {C : Type 0} where
   item_clear k s (Some item) r p = heard_item_clear k s item r p
 
   pub answered_clear : (k : Codec C) (d : Duty) (r : Reply) (p : PathState C) → Clears p (answered k d r p)
-  answered_clear k (duties.Step step_duties.Events) r p = happens_clear k (next_event p) r p
-  answered_clear k (duties.Step (step_duties.Heard s index)) r p = item_clear k s (item_of index (end_at s p)) r p
-  answered_clear k (duties.Ask (ask_duties.Opened s)) r p = opened_clear s (keys_heard (end_at s p).treated.items) r p
-  answered_clear k (duties.Ask (ask_duties.GoIdentity s)) r p = side_clear s _ p _ (λ h. h, λ h. refl) refl refl
-  answered_clear k (duties.Send (send_duties.Update s)) r p =
-      kept_by s (writes (duties.Send (send_duties.Update s))) p _ refl refl refl refl (writes_no_more k (duties.Send (send_duties.Update s)) r p)
-  answered_clear k (duties.Silent d) r p = record { a = (λ h. h, λ h. h); b = (λ h. h, λ h. h) }
+  answered_clear k (Duty.Step StepDuty.Events) r p = happens_clear k (next_event p) r p
+  answered_clear k (Duty.Step (StepDuty.Heard s index)) r p = item_clear k s (item_of index (end_at s p)) r p
+  answered_clear k (Duty.Ask (AskDuty.Opened s)) r p = opened_clear s (keys_heard (end_at s p).treated.items) r p
+  answered_clear k (Duty.Ask (AskDuty.GoIdentity s)) r p = side_clear s _ p _ (λ h. h, λ h. refl) refl refl
+  answered_clear k (Duty.Send (SendDuty.Update s)) r p =
+      kept_by s (writes (Duty.Send (SendDuty.Update s))) p _ refl refl refl refl (writes_no_more k (Duty.Send (SendDuty.Update s)) r p)
+  answered_clear k (Duty.Silent d) r p = record { a = (λ h. h, λ h. h); b = (λ h. h, λ h. h) }
   answered_clear k d r p = kept_by (side_of d) (writes d) p _ refl refl refl refl (writes_no_more k d r p)
 
   clears_last : Lasts (λ (p q : PathState C). Clears p q)

@@ -1,24 +1,12 @@
 -- What an end becomes where the check of a mapping failed, or where the peer's MP_FAIL or its infinite mapping came: what any verdict
 -- makes of it, but for what it knows of failed checks and of infinite mappings.
-use Rattle.std.proofs.Common.{◌≡◌, refl, ℕ, ◌⊎◌, inl, inr, Bool, true, false, if◌then◌else◌, Option, Some, None, is_some}
-use Rattle.sides.specs.declared.side.Side.{Side}
-use Rattle.dss_mapping.specs.declared.kept.KeptMapping.{KeptMapping}
-use Rattle.fallback_state.specs.declared.fall.Event.TheVariants as events
-use Rattle.fallback_state.specs.declared.fall.Verdict.TheVariants as verdicts
-use Rattle.control_book.specs.declared.call.ControlReply.TheVariants as control_replies
-use Rattle.send_book.specs.declared.call.SendCall.TheVariants as send_calls
-use Rattle.subflow_recv.specs.Receiving.{Receiving, after_forget_from}
-use Rattle.actor_desk.specs.declared.ask.Ask.{Ask}
-use Rattle.actor_desk.specs.declared.ask.Ask.TheVariants as asks
-use Rattle.actor_desk.specs.declared.ask.LocalStep.TheVariants as steps
-use Rattle.actor_desk.specs.declared.ask.Reply.{Reply}
-use Rattle.actor_desk.specs.declared.ask.Reply.TheVariants as replies
-use Rattle.path_store.specs.declared.infinite_mapping.InfiniteMapping.{InfiniteMapping}
-use Rattle.path_core.specs.Deliver.{is_wrong, failing_by, forgotten_by, mapping_here}
-use Rattle.path_core.specs.End.{PathEnd}
-use Rattle.path_core.specs.Fallback.{with_failure, after_check_failed, mode_in, fell_ask, after_fell, answered_fell, is_infinite_receive, receiving_infinite, after_infinite, is_infinite_send, sending_infinite, after_fail_heard, may_go_infinite, fail_ask, book_answered, answered_fail, plain_next, plain_ack_in, subflow_ack_ask}
-use Rattle.path_core.specs.State.{PathState, end_at, path_of}
-use Rattle.path_core.specs.declared.modes.Modes.{Modes}
+use Rattle.world_laws.proofs.Words.{◌≡◌, refl, ℕ, inl, inr, ◌⊎◌, Bool, true, false, Option, Some, None, is_some, Verdict, Side, ControlReply, SendCall}
+use Rattle.world_laws.proofs.Words.{KeptMapping, after_forget_from, Receiving, InfiniteMapping, Ask, Reply, LocalStep, PathEnd, PathState, end_at, path_of}
+use Rattle.world_laws.proofs.Words.{is_wrong, failing_by, mapping_here, forgotten_by, with_failure, after_check_failed, is_infinite_receive, receiving_infinite}
+use Rattle.world_laws.proofs.Words.{fell_ask, after_fell, subflow_ack_ask, plain_next, plain_ack_in, may_go_infinite, fail_ask, answered_fail, book_answered}
+use Rattle.world_laws.proofs.Words.{after_fail_heard, is_infinite_send, answered_fell, mode_in, sending_infinite, Modes, if_so}
+use Rattle.fallback_state.specs.declared.fall.Event.{Event}
+use Rattle.path_core.specs.Fallback.{after_infinite}
 
 -- ---- the ends
 
@@ -48,21 +36,19 @@ infinite_so r other e = record e { modes = record (mode_in r e.modes) { peer_inf
 pub forgets_so : (P : PathEnd → Type 0) (checksums : Bool) (here : Option KeptMapping) (e : PathEnd)
     → ((recv : Receiving) → Forgets e.tcp.recv recv → P (record e { tcp = record e.tcp { recv = recv } })) → P (forgotten_by checksums here e)
 forgets_so P checksums None e all = all e.tcp.recv (inl refl)
-forgets_so P checksums (Some kept) e all = by (is_wrong checksums kept e.tcp)
-  where
-    by : (b : Bool) → P (if b then record e { tcp = record e.tcp { recv = after_forget_from kept.pos e.tcp.recv } } else e)
-    by true = all (after_forget_from kept.pos e.tcp.recv) (inr (kept.pos, refl))
-    by false = all e.tcp.recv (inl refl)
+forgets_so P checksums (Some kept) e all =
+    if_so P (is_wrong checksums kept e.tcp) (record e { tcp = record e.tcp { recv = after_forget_from kept.pos e.tcp.recv } }) e
+    (all (after_forget_from kept.pos e.tcp.recv) (inr (kept.pos, refl))) (all e.tcp.recv (inl refl))
 
 abbrev failure_so : Reply → Option ℕ → Option ℕ → PathEnd → PathEnd
 failure_so r told broken e = record e { modes = record (mode_in r e.modes) { failed_mapping = told }; treated = record e.treated { failed_mapping = broken } }
 
 failing_so : (P : PathEnd → Type 0) (failing : Option KeptMapping) (r : Reply) (e : PathEnd)
-    → ((told broken : Option ℕ) → P (failure_so r told broken e)) → P (with_failure failing r (after_fell events.CheckFailed r e))
+    → ((told broken : Option ℕ) → P (failure_so r told broken e)) → P (with_failure failing r (after_fell Event.CheckFailed r e))
 failing_so P None r e all = all (mode_in r e.modes).failed_mapping e.treated.failed_mapping
-failing_so P (Some kept) (replies.Control (control_replies.Verdict verdicts.SendFail)) e all = all (Some kept.place) e.treated.failed_mapping
-failing_so P (Some kept) (replies.Control (control_replies.Verdict (verdicts.BreakPath reason))) e all = all e.modes.failed_mapping (Some kept.place)
-failing_so P (Some kept) (replies.Control (control_replies.Verdict (verdicts.Went mode))) e all = all e.modes.failed_mapping e.treated.failed_mapping
+failing_so P (Some kept) (Reply.Control (ControlReply.Verdict Verdict.SendFail)) e all = all (Some kept.place) e.treated.failed_mapping
+failing_so P (Some kept) (Reply.Control (ControlReply.Verdict (Verdict.BreakPath reason))) e all = all e.modes.failed_mapping (Some kept.place)
+failing_so P (Some kept) (Reply.Control (ControlReply.Verdict (Verdict.Went mode))) e all = all e.modes.failed_mapping e.treated.failed_mapping
 failing_so P (Some kept) _ e all = all e.modes.failed_mapping e.treated.failed_mapping
 
 -- what holds of each such end holds of the end whose check failed
@@ -80,16 +66,16 @@ abbrev pub IsMarked : Option KeptMapping → Option ℕ → Option ℕ → Type 
 IsMarked failing old new = (new ≡ old) ⊎ ((kept : KeptMapping) × (failing ≡ Some kept) × (new ≡ Some kept.place))
 
 same_failed : (r : Reply) (m : Modes) → (mode_in r m).failed_mapping ≡ m.failed_mapping
-same_failed (replies.Control (control_replies.Verdict (verdicts.Went mode))) m = refl
+same_failed (Reply.Control (ControlReply.Verdict (Verdict.Went mode))) m = refl
 same_failed _ m = refl
 
 failing_marked : (P : PathEnd → Type 0) (failing : Option KeptMapping) (r : Reply) (e : PathEnd)
     → ((told broken : Option ℕ) → IsMarked failing e.modes.failed_mapping told → IsMarked failing e.treated.failed_mapping broken → P (failure_so r told broken e))
-    → P (with_failure failing r (after_fell events.CheckFailed r e))
+    → P (with_failure failing r (after_fell Event.CheckFailed r e))
 failing_marked P None r e all = all (mode_in r e.modes).failed_mapping e.treated.failed_mapping (inl (same_failed r e.modes)) (inl refl)
-failing_marked P (Some kept) (replies.Control (control_replies.Verdict verdicts.SendFail)) e all = all (Some kept.place) e.treated.failed_mapping (inr (kept, refl, refl)) (inl refl)
-failing_marked P (Some kept) (replies.Control (control_replies.Verdict (verdicts.BreakPath reason))) e all = all e.modes.failed_mapping (Some kept.place) (inl refl) (inr (kept, refl, refl))
-failing_marked P (Some kept) (replies.Control (control_replies.Verdict (verdicts.Went mode))) e all = all e.modes.failed_mapping e.treated.failed_mapping (inl refl) (inl refl)
+failing_marked P (Some kept) (Reply.Control (ControlReply.Verdict Verdict.SendFail)) e all = all (Some kept.place) e.treated.failed_mapping (inr (kept, refl, refl)) (inl refl)
+failing_marked P (Some kept) (Reply.Control (ControlReply.Verdict (Verdict.BreakPath reason))) e all = all e.modes.failed_mapping (Some kept.place) (inl refl) (inr (kept, refl, refl))
+failing_marked P (Some kept) (Reply.Control (ControlReply.Verdict (Verdict.Went mode))) e all = all e.modes.failed_mapping e.treated.failed_mapping (inl refl) (inl refl)
 failing_marked P (Some kept) _ e all = all e.modes.failed_mapping e.treated.failed_mapping (inl refl) (inl refl)
 
 -- what holds of each such end holds of the end whose check failed, by the mapping that failed
@@ -106,7 +92,7 @@ pub fail_heard_so : (P : PathEnd → Type 0) (r : Reply) (e : PathEnd)
     → ((own : Option InfiniteMapping) (owes : Bool) → P (failed_so r own owes e)) → P (after_fail_heard r e)
 fail_heard_so P r e all = by e.treated.infinite_mapping (is_infinite_send r)
   where
-    by : (own : Option InfiniteMapping) (b : Bool) → P (sending_infinite own b (after_fell (events.FailHeard (is_some e.treated.infinite_mapping)) r e))
+    by : (own : Option InfiniteMapping) (b : Bool) → P (sending_infinite own b (after_fell (Event.FailHeard (is_some e.treated.infinite_mapping)) r e))
     by (Some own) true = all (Some own) true
     by (Some own) false = all (mode_in r e.modes).own_infinite (mode_in r e.modes).owes_mapping
     by None b = all (mode_in r e.modes).own_infinite (mode_in r e.modes).owes_mapping
@@ -116,7 +102,7 @@ pub infinite_came_so : (P : PathEnd → Type 0) (place : ℕ) (position : Option
     → ((other : Option InfiniteMapping) → P (infinite_so r other e)) → P (after_infinite place position r e)
 infinite_came_so P place position r e all = by position (is_infinite_receive r)
   where
-    by : (position : Option ℕ) (b : Bool) → P (receiving_infinite place position b (after_fell events.InfiniteHeard r e))
+    by : (position : Option ℕ) (b : Bool) → P (receiving_infinite place position b (after_fell Event.InfiniteHeard r e))
     by (Some position) true = all _
     by (Some position) false = all (mode_in r e.modes).peer_infinite
     by None b = all (mode_in r e.modes).peer_infinite
@@ -124,7 +110,7 @@ infinite_came_so P place position r e all = by position (is_infinite_receive r)
 -- ---- acknowledgements of the subflow
 
 -- nothing is asked, or the send book is told an acknowledgement
-pub subflow_acks_so : (P : Ask → Type 0) (s : Side) (e : PathEnd) → P (asks.Local steps.End) → ((next : ℕ) → P (asks.Send s (send_calls.AckIn next e.treated.window))) → P (subflow_ack_ask s e)
+pub subflow_acks_so : (P : Ask → Type 0) (s : Side) (e : PathEnd) → P (Ask.Local LocalStep.End) → ((next : ℕ) → P (Ask.Send s (SendCall.AckIn next e.treated.window))) → P (subflow_ack_ask s e)
 subflow_acks_so P s e none some = by (plain_next e)
   where
     by : (o : Option ℕ) → P (plain_ack_in s o e.treated.window)
@@ -136,17 +122,9 @@ subflow_acks_so P s e none some = by (plain_next e)
 module _ {C : Type 0} where
   -- the send book is asked first, or the control book at once
   pub fail_asks_so : (P : Ask → Type 0) (s : Side) (p : PathState C)
-      → P (asks.Send s (send_calls.GoInfinite (path_of p))) → P (fell_ask s (events.FailHeard false) p) → P (fail_ask s p)
-  fail_asks_so P s p book told = by (may_go_infinite (end_at s p))
-    where
-      by : (b : Bool) → P (if b then asks.Send s (send_calls.GoInfinite (path_of p)) else fell_ask s (events.FailHeard false) p)
-      by true = book
-      by false = told
+      → P (Ask.Send s (SendCall.GoInfinite (path_of p))) → P (fell_ask s (Event.FailHeard false) p) → P (fail_ask s p)
+  fail_asks_so P s p book told = if_so P (may_go_infinite (end_at s p)) (Ask.Send s (SendCall.GoInfinite (path_of p))) (fell_ask s (Event.FailHeard false) p) book told
 
   pub fail_answered_so : (P : PathState C → Type 0) (s : Side) (r : Reply) (p : PathState C)
-      → P (book_answered s r p) → P (answered_fell s (events.FailHeard false) r p) → P (answered_fail s r p)
-  fail_answered_so P s r p book told = by (may_go_infinite (end_at s p))
-    where
-      by : (b : Bool) → P (if b then book_answered s r p else answered_fell s (events.FailHeard false) r p)
-      by true = book
-      by false = told
+      → P (book_answered s r p) → P (answered_fell s (Event.FailHeard false) r p) → P (answered_fail s r p)
+  fail_answered_so P s r p book told = if_so P (may_go_infinite (end_at s p)) (book_answered s r p) (answered_fell s (Event.FailHeard false) r p) book told

@@ -1,27 +1,13 @@
 -- In plain TCP the FIN of an end goes out where its lane was granted all bytes, or all were acknowledged.
-use Rattle.std.proofs.Common.{◌≡◌, refl, sym, ◌∙◌, ap, subst, ℕ, zero, suc, ◌+◌, ◌<◌, ◌-◌, ◌≤◌, max, min, ◌==◌, ◌||◌, not, Bool, true, false, if◌then◌else◌, Option, Some, None, List, [], ◌∷◌, length, arith, ⊎_elim}
-use Rattle.std.proofs.lemmas.Bool.{cases_lt, eqb-true, eq-eqb, false≢true, or_cases, or_left, or_right}
-use Rattle.std.proofs.lemmas.Option.{same_Some, slice_get_within}
-use Rattle.std.specs.List.{slice_get}
-use Rattle.std.specs.Option.{IfSome}
-use Rattle.sides.specs.declared.side.Side.{Side}
-use Rattle.sides.specs.declared.side.Side.TheVariants.{A, B}
-use Rattle.sides.specs.Side.{peer}
-use Rattle.path_store.specs.declared.granted_piece.GrantedPiece.{GrantedPiece}
-use Rattle.send_book.specs.State.{Sending}
-use Rattle.stream_lanes.specs.Holding.{Holds, IsEndless, LaneHolds}
-use Rattle.stream_lanes.specs.Lane.{Cell, Pair, Lane}
-use Rattle.stream_lanes.specs.Moves.{place_after, is_whole}
-use Rattle.stream_lanes.specs.View.{View, IsEnd, end_of, view_of}
-use Rattle.stream_lanes.specs.Words.{Every, From, Has}
+use Rattle.world_laws.proofs.Words.{◌≡◌, refl, sym, ◌∙◌, ap, subst, ℕ, zero, suc, ◌+◌, ◌-◌, ◌≤◌, ◌||◌, ◌==◌, not, min, max, ⊎_elim, Bool, true, false}
+use Rattle.world_laws.proofs.Words.{if◌then◌else◌, Option, Some, None, List, [], ◌∷◌, length, arith, ◌<◌, eqb-true, eq-eqb, or_cases, false≢true, or_right}
+use Rattle.world_laws.proofs.Words.{cases_lt, or_left, same_Some, slice_get_within, slice_get, IfSome, Side, A, B, peer, Sending, GrantedPiece, granted_to}
+use Rattle.world_laws.proofs.Words.{SixBooks, send_of, reassembly_of, pick, PathEnd, is_all_granted, Every, From, Holds, IsEndless, LaneHolds, Cell, Pair, Lane}
+use Rattle.world_laws.proofs.Words.{View, IsEnd, view_of, fallen_ab, is_whole, place_after}
+use Rattle.stream_lanes.specs.View.{end_of}
+use Rattle.stream_lanes.specs.Words.{Has}
 use Rattle.stream_lanes.proofs.Lists.{item_at}
-use Rattle.stream_lanes.proofs.Duos.{fallen_ab}
 use Rattle.stream_lanes.specs.Duo.{Modes}
-use Rattle.actor_desk.specs.Desk.{SixBooks, send_of, reassembly_of}
-use Rattle.actor_desk.specs.Words.{pick}
-use Rattle.path_core.specs.DataFin.{is_all_granted}
-use Rattle.path_store.specs.Granted.{granted_to}
-use Rattle.path_core.specs.End.{PathEnd}
 use Rattle.world_laws.proofs.Lanes.OfAWorld.{flags_of, Others, duo_at}
 use Rattle.world_laws.proofs.Lanes.Records.{every_first, every_rest}
 use Rattle.world_laws.proofs.Lanes.SentRecords.{IsPieceOf, RisesTo, SentShows}

@@ -1,29 +1,8 @@
 -- Where a side hasn't fallen back after a run, by its control book's journal, no turn of the run made it fall: it may be firm.
-use Rattle.std.proofs.Common.{◌≡◌, refl, sym, ◌∙◌, ap, subst, ℕ, zero, suc, Bool, true, false, Some, List, [], ◌∷◌, ◌++◌}
-use Rattle.std.proofs.lemmas.Bool.{both_ways, false≢true}
-use Rattle.std.specs.List.{slice_get}
-use Rattle.sides.specs.declared.side.Side.{Side}
-use Rattle.fallback_state.specs.declared.fall.Mode.{Mode}
-use Rattle.fallback_state.specs.declared.fall.Mode.TheVariants as modes
-use Rattle.fallback_state.specs.Modes.{is_identity}
-use Rattle.stream_lanes.proofs.Lists.{in_map}
-use Rattle.actor_desk.specs.declared.ask.Ask.{Ask}
-use Rattle.actor_desk.specs.Books.{StampedBooks, books_in}
-use Rattle.actor_desk.specs.Desk.{SixBooks, control_of, after_ask}
-use Rattle.path_agenda.specs.declared.duty.Duty.{Duty}
-use Rattle.path_agenda.specs.declared.duty.Duty.TheVariants as duties
-use Rattle.path_agenda.specs.declared.duty.AskDuty.TheVariants as ask_duties
-use Rattle.path_agenda.specs.declared.duty.StepDuty.TheVariants as step_duties
-use Rattle.path_core.specs.State.{PathState, end_at}
-use Rattle.path_core.specs.Steps.{asks_first}
-use Rattle.path_core.specs.Treating.{item_ask, item_of}
-use Rattle.path_core.specs.Values.{Carried, values}
-use Rattle.world_laws.specs.declared.member.Member.TheVariants.{App, Path}
-use Rattle.world_laws.specs.Actors.{Actor, ActorCrew, member_asks}
-use Rattle.world_laws.specs.Altered.{is_fallback, fell_back}
-use Rattle.world_laws.specs.Laws.{Always}
-use Rattle.world_laws.specs.Openings.{Start, opened_world}
-use Rattle.world_laws.specs.Worlds.{WorldState, Turn, asked, stepped, after_turn, world_run}
+use Rattle.world_laws.proofs.Words.{◌≡◌, refl, sym, ◌∙◌, ap, subst, ℕ, zero, suc, Bool, true, false, Some, List, [], ◌∷◌, ◌++◌, both_ways, false≢true}
+use Rattle.world_laws.proofs.Words.{slice_get, Mode, is_identity, Side, Duty, StepDuty, AskDuty, Ask, StampedBooks, books_in, SixBooks, control_of, after_ask}
+use Rattle.world_laws.proofs.Words.{PathState, end_at, asks_first, Carried, values, item_ask, item_of, in_map, App, Path, Actor, ActorCrew, member_asks, Always}
+use Rattle.world_laws.proofs.Words.{Start, opened_world, WorldState, Turn, asked, stepped, after_turn, world_run, fell_back, is_fallback}
 use Rattle.world_laws.proofs.Falls.ByTheJournal.{Was, was_wider, was_now, turn_was, run_was}
 use Rattle.world_laws.proofs.Keys.ByJournals.{Knows, run_causes}
 use Rattle.world_laws.proofs.Keys.WhatWakes.{Voice, first_speaks, itself, speaks}
@@ -37,14 +16,14 @@ use Rattle.world_laws.proofs.Worlds.Casts.{Cast, walking}
 -- a path is to tell an end of plain TCP only where its side fell back to it
 abbrev MemberFell : StampedBooks → Actor Carried → Type 0
 MemberFell books (App a) = Unit {0}
-MemberFell books (Path p) = (s : Side) (ds : List Duty) → p.agenda ≡ duties.Ask (ask_duties.GoIdentity s) ∷ ds → Was is_identity books s
+MemberFell books (Path p) = (s : Side) (ds : List Duty) → p.agenda ≡ Duty.Ask (AskDuty.GoIdentity s) ∷ ds → Was is_identity books s
 
 record FellBefore (w : WorldState Carried) : Type 0 where
   each : (number : ℕ) (c : ActorCrew Carried) → slice_get w.crew (suc (suc number)) ≡ Some c → MemberFell w.books c.member
 
 knows_fall : (start : Start) (t : Cast Carried) (p : PathState Carried) → Knows start t p → MemberFell t.books (Path p)
 knows_fall start t p h = λ s ds is.
-    (h.is.known (Voice.Falls s) (subst (λ xs. speaks (Voice.Falls s) xs ≡ true) (sym is) (first_speaks (Voice.Falls s) (duties.Ask (ask_duties.GoIdentity s)) ds (itself s)))).1.1
+    (h.is.known (Voice.Falls s) (subst (λ xs. speaks (Voice.Falls s) xs ≡ true) (sym is) (first_speaks (Voice.Falls s) (Duty.Ask (AskDuty.GoIdentity s)) ds (itself s)))).1.1
 
 always_fell : Always values (λ start w. FellBefore w)
 always_fell start turns =
@@ -56,13 +35,8 @@ always_fell start turns =
 
 -- plain TCP is a fallback
 identity_falls : (m : Mode) → is_identity m ≡ true → is_fallback m ≡ true
-identity_falls modes.Identity is = refl
-identity_falls modes.Starting is = absurd (false≢true is)
-identity_falls modes.Sure is = absurd (false≢true is)
-identity_falls modes.InfiniteSend is = absurd (false≢true is)
-identity_falls modes.InfiniteReceive is = absurd (false≢true is)
-identity_falls modes.InfiniteBoth is = absurd (false≢true is)
-identity_falls modes.Aborted is = absurd (false≢true is)
+identity_falls Mode.Identity is = refl
+identity_falls _ is = absurd (false≢true is)
 
 -- ---- a turn
 
@@ -82,7 +56,7 @@ module _ (links : Links) where
     abbrev v : WorldState Carried
     v = after_turn values (Turn.Step (suc (suc number))) w
 
-    learns_none : (s : Side) (ds : List Duty) → p.agenda ≡ duties.Ask (ask_duties.GoIdentity s) ∷ ds → (b : Bool) → is_firm links s ≡ b → b ≡ false
+    learns_none : (s : Side) (ds : List Duty) → p.agenda ≡ Duty.Ask (AskDuty.GoIdentity s) ∷ ds → (b : Bool) → is_firm links s ≡ b → b ≡ false
     learns_none s ds first false so = refl
     learns_none s ds first true so =
         absurd (both_ways _ (none s so) (turn_was is_fallback values s (Turn.Step (suc (suc number))) w (was_wider is_identity is_fallback identity_falls w.books s (fell s ds first))))
@@ -94,8 +68,8 @@ module _ (links : Links) where
         (was_now is_fallback v.books s (subst (λ (y : SixBooks). is_fallback (control_of s y).fall.mode ≡ true) (sym (stepped_books (suc (suc number)) w c x there asks)) falls)))
 
     firm_duty : (d : Duty) (ds : List Duty) → p.agenda ≡ d ∷ ds → DutyIsFirm links (books_in w.books) p d
-    firm_duty (duties.Ask (ask_duties.GoIdentity s)) ds first = learns_none s ds first (is_firm links s) refl
-    firm_duty (duties.Step (step_duties.Heard s index)) ds first = λ firm.
+    firm_duty (Duty.Ask (AskDuty.GoIdentity s)) ds first = learns_none s ds first (is_firm links s) refl
+    firm_duty (Duty.Step (StepDuty.Heard s index)) ds first = λ firm.
         asked_none s (item_ask values s (item_of index (end_at s p)) p) (ap (λ m. member_asks values m) is ∙ ap (λ xs. asks_first values xs p) first) firm
         (is_fallback (control_of s (after_ask (item_ask values s (item_of index (end_at s p)) p) (books_in w.books))).fall.mode) refl
     firm_duty _ ds first = tt

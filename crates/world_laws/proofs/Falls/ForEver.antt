@@ -1,19 +1,9 @@
 -- A side that was in plain TCP once is so at every later moment.
-use Rattle.std.proofs.Common.{◌≡◌, refl, sym, subst, ⊎_elim, ◌⊎◌, Bool, true, false, if◌then◌else◌, Option, Some, None, List, [], ◌∷◌, map}
-use Rattle.std.specs.List.{slice_get}
-use Rattle.sides.specs.declared.side.Side.{Side}
-use Rattle.sides.specs.declared.side.Side.TheVariants.{A, B}
-use Rattle.stamped_book.specs.declared.stamped.Pass.{Pass}
-use Rattle.fallback_state.specs.Modes.{is_identity}
-use Rattle.actor_desk.specs.declared.ask.Ask.{Ask}
-use Rattle.actor_desk.specs.declared.ask.Ask.TheVariants as asks
-use Rattle.actor_desk.specs.Books.{StampedBooks, books_in, after_entry}
-use Rattle.actor_desk.specs.Desk.{SixBooks, control_of, after_ask}
-use Rattle.path_core.specs.Values.{Carried, values}
-use Rattle.world_laws.specs.Actors.{ActorCrew, member_asks}
+use Rattle.world_laws.proofs.Words.{◌≡◌, refl, sym, subst, ◌⊎◌, ⊎_elim, true, List, is_identity, Pass, Side, A, B}
+use Rattle.world_laws.proofs.Words.{Ask, StampedBooks, books_in, after_entry, SixBooks, control_of, after_ask, Carried, values, Start}
+use Rattle.world_laws.proofs.Words.{opened_world, WorldState, Turn, world_run}
+use Rattle.world_laws.proofs.Worlds.Turns.{run_so}
 use Rattle.world_laws.specs.FallsRight.{has_fallen}
-use Rattle.world_laws.specs.Openings.{Start, opened_world}
-use Rattle.world_laws.specs.Worlds.{WorldState, Turn, asked, stepped, all_over, greatest, begins, after_turn, world_run}
 use Rattle.world_laws.proofs.Falls.ByTheJournal.{Was, was_more}
 use Rattle.world_laws.proofs.Falls.WhereASideStands.{IsUnjoined, fell_plain, unjoined_stays}
 use Rattle.world_laws.proofs.Weaving.Journals.{books_after}
@@ -35,19 +25,19 @@ fell_more x pass books s is = was_more is_identity x pass books s is
 -- ---- calls
 
 pub ask_right : (six : SixBooks) (x : Ask) (s : Side) → IsUnjoined (control_of s six).fall → IsUnjoined (control_of s (after_ask x six)).fall
-ask_right six (asks.Control A call) A h = unjoined_stays six.control_a call h
-ask_right six (asks.Control A call) B h = h
-ask_right six (asks.Control B call) A h = h
-ask_right six (asks.Control B call) B h = unjoined_stays six.control_b call h
-ask_right six (asks.Send A call) A h = h
-ask_right six (asks.Send A call) B h = h
-ask_right six (asks.Send B call) A h = h
-ask_right six (asks.Send B call) B h = h
-ask_right six (asks.Reassembly A call) A h = h
-ask_right six (asks.Reassembly A call) B h = h
-ask_right six (asks.Reassembly B call) A h = h
-ask_right six (asks.Reassembly B call) B h = h
-ask_right six (asks.Local step) s h = h
+ask_right six (Ask.Control A call) A h = unjoined_stays six.control_a call h
+ask_right six (Ask.Control A call) B h = h
+ask_right six (Ask.Control B call) A h = h
+ask_right six (Ask.Control B call) B h = unjoined_stays six.control_b call h
+ask_right six (Ask.Send A call) A h = h
+ask_right six (Ask.Send A call) B h = h
+ask_right six (Ask.Send B call) A h = h
+ask_right six (Ask.Send B call) B h = h
+ask_right six (Ask.Reassembly A call) A h = h
+ask_right six (Ask.Reassembly A call) B h = h
+ask_right six (Ask.Reassembly B call) A h = h
+ask_right six (Ask.Reassembly B call) B h = h
+ask_right six (Ask.Local step) s h = h
 
 fell_so : (six : SixBooks) (s : Side) → IsUnjoined (control_of s six).fall → IsFallen six s → FellBack six s
 fell_so six A h is = fell_plain six.control_a.fall h is
@@ -72,25 +62,10 @@ step_ever x pass books fell right = (
     later : (s : Side) → IsUnjoined (control_of s (books_in (after_entry x pass books))).fall
     later s = subst (λ (y : SixBooks). IsUnjoined (control_of s y).fall) (sym (books_after x pass books)) (ask_right (books_in books) x s (right s))
 
-turn_ever : (turn : Turn) (w : WorldState Carried) → StaysFallen w → StaysFallen (after_turn values turn w)
-turn_ever (Turn.Step actor) w h = by (slice_get w.crew actor)
-  where
-    asking : (c : ActorCrew Carried) (o : Option Ask) → StaysFallen (asked values actor o c w)
-    asking c None = h
-    asking c (Some x) = let now = step_ever x c.pass w.books h.fell h.right in record { fell = now.0; right = now.1 }
-
-    by : (o : Option (ActorCrew Carried)) → StaysFallen (stepped values actor o w)
-    by None = h
-    by (Some c) = asking c (member_asks values c.member)
-turn_ever Turn.Round w h = by (all_over w.crew)
-  where
-    by : (b : Bool) → StaysFallen (if b then record w { crew = map (begins (greatest 0 w.crew)) w.crew } else w)
-    by true = record { fell = h.fell; right = h.right }
-    by false = h
-
 run_ever : (turns : List Turn) (w : WorldState Carried) → StaysFallen w → StaysFallen (world_run values turns w)
-run_ever [] w h = h
-run_ever (turn ∷ turns) w h = run_ever turns (after_turn values turn w) (turn_ever turn w h)
+run_ever = run_so values StaysFallen
+    (λ w h actor c x there is. let now = step_ever x c.pass w.books h.fell h.right in record { fell = now.0; right = now.1 })
+    (λ w h over. record { fell = h.fell; right = h.right })
 
 pub ever_fallen : (start : Start) (turns : List Turn) (s : Side) → has_fallen s (world_run values turns (opened_world start)) ≡ true
     → FellBack (books_in (world_run values turns (opened_world start)).books) s

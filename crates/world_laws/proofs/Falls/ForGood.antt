@@ -1,37 +1,14 @@
 -- A side that fell back never goes by the peer's mappings again.
-use Rattle.std.proofs.Common.{◌≡◌, refl, sym, subst, ℕ, ◌==◌, ◌&&◌, not, is_none, ⊎_elim, Bool, true, false, if◌then◌else◌, Option, Some, None, List, [], ◌∷◌, map}
-use Rattle.std.proofs.lemmas.Bool.{false≢true}
-use Rattle.std.specs.List.{slice_get}
-use Rattle.sides.specs.declared.side.Side.{Side}
-use Rattle.sides.specs.declared.side.Side.TheVariants.{A, B}
-use Rattle.stamped_book.specs.declared.stamped.Pass.{Pass}
-use Rattle.fallback_state.specs.declared.fall.Event.{Event as FallEvent}
-use Rattle.fallback_state.specs.declared.fall.Event.TheVariants as events
-use Rattle.fallback_state.specs.declared.fall.Fall.{Fall}
-use Rattle.fallback_state.specs.declared.fall.Mode.{Mode}
-use Rattle.fallback_state.specs.declared.fall.Mode.TheVariants as modes
-use Rattle.fallback_state.specs.declared.fall.Verdict.{Verdict}
-use Rattle.fallback_state.specs.declared.fall.Verdict.TheVariants as verdicts
-use Rattle.fallback_state.specs.Modes.{is_starting, is_identity, reads_mappings, writes_mappings, receiving, sending}
-use Rattle.fallback_state.specs.Table.{is_failed_path, goes, stays, breaks, fall_step}
-use Rattle.control_book.specs.declared.call.ControlCall.{ControlCall}
-use Rattle.control_book.specs.declared.call.ControlCall.TheVariants as control_calls
-use Rattle.control_book.specs.declared.call.Notice.{Notice}
-use Rattle.control_book.specs.declared.call.Notice.TheVariants as notices
-use Rattle.control_book.specs.Control.{Control}
-use Rattle.control_book.specs.Registry.{sole as sole_path}
+use Rattle.world_laws.proofs.Words.{◌≡◌, refl, sym, subst, ℕ, ◌&&◌, ◌==◌, not, ⊎_elim, Bool, true, false, if◌then◌else◌, Some, List}
+use Rattle.world_laws.proofs.Words.{is_none, false≢true, Verdict, Mode, FallEvent, is_identity, is_starting, reads_mappings, receiving, sending}
+use Rattle.world_laws.proofs.Words.{writes_mappings, Fall, is_failed_path, goes, fall_step, Pass, Side, A, B, ControlCall, Notice, sole_path, Control, Ask}
+use Rattle.world_laws.proofs.Words.{StampedBooks, books_in, after_entry, SixBooks, control_of, after_ask, Codec, Always, Start}
+use Rattle.world_laws.proofs.Words.{opened_world, WorldState, Turn, world_run, is_fallback}
+use Rattle.world_laws.proofs.Words.{FallsForGood}
+use Rattle.world_laws.proofs.Worlds.Turns.{run_so}
+use Rattle.fallback_state.specs.Table.{stays, breaks}
 use Rattle.control_book.specs.Replies as control
 use Rattle.control_book.specs.Steps as controlling
-use Rattle.actor_desk.specs.declared.ask.Ask.{Ask}
-use Rattle.actor_desk.specs.declared.ask.Ask.TheVariants as asks
-use Rattle.actor_desk.specs.Books.{StampedBooks, books_in, after_entry}
-use Rattle.actor_desk.specs.Desk.{SixBooks, control_of, after_ask}
-use Rattle.path_core.specs.Codec.{Codec}
-use Rattle.world_laws.specs.Actors.{ActorCrew, member_asks}
-use Rattle.world_laws.specs.Altered.{is_fallback, FallsForGood}
-use Rattle.world_laws.specs.Laws.{Always}
-use Rattle.world_laws.specs.Openings.{Start, opened_world}
-use Rattle.world_laws.specs.Worlds.{WorldState, Turn, asked, stepped, all_over, greatest, begins, after_turn, world_run}
 use Rattle.world_laws.proofs.Falls.ByTheJournal.{Was, was_more, run_was}
 use Rattle.world_laws.proofs.Weaving.Journals.{books_after}
 
@@ -50,68 +27,56 @@ unread_if true f x y is isnt = is refl
 unread_if false f x y is isnt = isnt refl
 
 starting_reads : (m : Mode) → is_starting m ≡ true → Unread m → ⊥
-starting_reads modes.Starting is unread = false≢true (sym unread)
-starting_reads modes.Sure is unread = false≢true is
-starting_reads modes.Identity is unread = false≢true is
-starting_reads modes.InfiniteSend is unread = false≢true is
-starting_reads modes.InfiniteReceive is unread = false≢true is
-starting_reads modes.InfiniteBoth is unread = false≢true is
-starting_reads modes.Aborted is unread = false≢true is
+starting_reads Mode.Starting is unread = false≢true (sym unread)
+starting_reads _ is unread = false≢true is
 
 sending_unread : (m : Mode) → writes_mappings m ≡ true → Unread m → Unread (sending m)
-sending_unread modes.Starting writes unread = absurd (false≢true (sym unread))
-sending_unread modes.Sure writes unread = absurd (false≢true (sym unread))
-sending_unread modes.InfiniteSend writes unread = absurd (false≢true (sym unread))
-sending_unread modes.Identity writes unread = absurd (false≢true writes)
-sending_unread modes.InfiniteReceive writes unread = refl
-sending_unread modes.InfiniteBoth writes unread = absurd (false≢true writes)
-sending_unread modes.Aborted writes unread = absurd (false≢true writes)
+sending_unread Mode.Identity writes unread = absurd (false≢true writes)
+sending_unread Mode.InfiniteReceive writes unread = refl
+sending_unread Mode.InfiniteBoth writes unread = absurd (false≢true writes)
+sending_unread Mode.Aborted writes unread = absurd (false≢true writes)
+sending_unread _ writes unread = absurd (false≢true (sym unread))
 
 receiving_unread : (m : Mode) → Unread (receiving m)
-receiving_unread modes.Starting = refl
-receiving_unread modes.Sure = refl
-receiving_unread modes.Identity = refl
-receiving_unread modes.InfiniteSend = refl
-receiving_unread modes.InfiniteReceive = refl
-receiving_unread modes.InfiniteBoth = refl
-receiving_unread modes.Aborted = refl
+receiving_unread Mode.Starting = refl
+receiving_unread _ = refl
 
 not_twice : (b : Bool) → not b ≡ false → b ≡ true
 not_twice true is = refl
 not_twice false is = absurd (false≢true (sym is))
 
-plain_unread : (f : Fall) → GoesUnread f (if is_starting f.mode && not f.joined then goes modes.Identity f else stays f).0
-plain_unread f = unread_if (is_starting f.mode && not f.joined) f (goes modes.Identity f) (stays f) (λ is unread. refl) (λ isnt unread. unread)
+plain_unread : (f : Fall) → GoesUnread f (if is_starting f.mode && not f.joined then goes Mode.Identity f else stays f).0
+plain_unread f = unread_if (is_starting f.mode && not f.joined) f (goes Mode.Identity f) (stays f) (λ is unread. refl) (λ isnt unread. unread)
 
-sign_unread : (f : Fall) → GoesUnread f (if is_starting f.mode then goes modes.Sure f else stays f).0
-sign_unread f = unread_if (is_starting f.mode) f (goes modes.Sure f) (stays f) (λ is unread. absurd (starting_reads f.mode is unread)) (λ isnt unread. unread)
+sign_unread : (f : Fall) → GoesUnread f (if is_starting f.mode then goes Mode.Sure f else stays f).0
+sign_unread f = unread_if (is_starting f.mode) f (goes Mode.Sure f) (stays f) (λ is unread. absurd (starting_reads f.mode is unread)) (λ isnt unread. unread)
 
 event_unread : (path : ℕ) (sole : Bool) (event : FallEvent) (f : Fall) → GoesUnread f (fall_step f path sole event).0
-event_unread path sole events.PlainHandshake f = plain_unread f
-event_unread path sole events.PlainData f = plain_unread f
-event_unread path sole events.PlainAck f = plain_unread f
-event_unread path sole events.MappingHeard f = sign_unread f
-event_unread path sole events.AckHeard f = sign_unread f
-event_unread path sole events.KeysHeard f =
-    unread_if (is_identity f.mode) f (stays f) (record f { confirmed = true }, verdicts.Stay) (λ is unread. unread) (λ isnt unread. unread)
-event_unread path sole events.InfiniteHeard f =
+event_unread path sole FallEvent.PlainHandshake f = plain_unread f
+event_unread path sole FallEvent.PlainData f = plain_unread f
+event_unread path sole FallEvent.PlainAck f = plain_unread f
+event_unread path sole FallEvent.MappingHeard f = sign_unread f
+event_unread path sole FallEvent.AckHeard f = sign_unread f
+event_unread path sole FallEvent.KeysHeard f =
+    unread_if (is_identity f.mode) f (stays f) (record f { confirmed = true }, Verdict.Stay) (λ is unread. unread) (λ isnt unread. unread)
+event_unread path sole FallEvent.InfiniteHeard f =
     let falls : Bool = writes_mappings f.mode && not f.joined && is_none f.failed in
-    let last : Fall × Verdict = if falls then goes modes.Identity f else breaks 1 f in
+    let last : Fall × Verdict = if falls then goes Mode.Identity f else breaks 1 f in
     let rest : Fall × Verdict = if sole && is_failed_path f.failed path then goes (receiving f.mode) f else last in
     unread_if (not (reads_mappings f.mode)) f (stays f) rest (λ is unread. unread)
     (λ reads. unread_if (sole && is_failed_path f.failed path) f (goes (receiving f.mode) f) last (λ is unread. receiving_unread f.mode)
-    (λ isnt. unread_if falls f (goes modes.Identity f) (breaks 1 f) (λ is unread. refl) (λ other unread. unread)))
-event_unread path sole events.CheckFailed f =
-    let noted : Fall × Verdict = (record f { failed = Some path }, verdicts.SendFail) in
+    (λ isnt. unread_if falls f (goes Mode.Identity f) (breaks 1 f) (λ is unread. refl) (λ other unread. unread)))
+event_unread path sole FallEvent.CheckFailed f =
+    let noted : Fall × Verdict = (record f { failed = Some path }, Verdict.SendFail) in
     let rest : Fall × Verdict = if sole then noted else breaks 6 f in
     unread_if (not (reads_mappings f.mode)) f (stays f) rest (λ is unread. unread)
     (λ reads. unread_if sole f noted (breaks 6 f) (λ is unread. unread) (λ isnt unread. unread))
-event_unread path sole (events.FailHeard contiguous) f =
+event_unread path sole (FallEvent.FailHeard contiguous) f =
     let rest : Fall × Verdict = if sole && contiguous then goes (sending f.mode) f else breaks 1 f in
     unread_if (not (writes_mappings f.mode)) f (stays f) rest (λ is unread. unread)
     (λ writes. unread_if (sole && contiguous) f (goes (sending f.mode) f) (breaks 1 f) (λ is unread. sending_unread f.mode (not_twice (writes_mappings f.mode) writes) unread)
     (λ isnt unread. unread))
-event_unread path sole events.Stop f = λ unread. refl
+event_unread path sole FallEvent.Stop f = λ unread. refl
 
 -- ---- one call
 
@@ -120,31 +85,23 @@ if_unread true f c d x y = x
 if_unread false f c d x y = y
 
 notice_unread : (n : Notice) (path : ℕ) (c : Control) → GoesUnread c.fall (controlling.after_notice n path c).fall
-notice_unread (notices.Withdraw id) path c = λ unread. unread
-notice_unread notices.Nothing path c = λ unread. unread
-notice_unread (notices.Announce id) path c = λ unread. unread
-notice_unread (notices.Carrier key) path c = λ unread. unread
-notice_unread notices.Reset path c = λ unread. unread
+notice_unread (Notice.Withdraw id) path c = λ unread. unread
+notice_unread _ path c = λ unread. unread
 
 call_unread : (c : Control) (call : ControlCall) → GoesUnread c.fall (controlling.after c call).fall
-call_unread c (control_calls.Look path) = notice_unread (control.notice_on c path) path c
-call_unread c (control_calls.PeerKey key) = λ unread. unread
-call_unread c (control_calls.Keys own other) =
-    if_unread (own == c.keys.own) c.fall (controlling.after_event 0 false events.KeysHeard (controlling.after_peer_key other c)) c (event_unread 0 false events.KeysHeard c.fall) (λ unread. unread)
-call_unread c (control_calls.Fell path event) = event_unread path (sole_path c.paths path) event c.fall
-call_unread c (control_calls.JoinBegin path) = if_unread (control.may_join c) c.fall _ c (λ unread. unread) (λ unread. unread)
-call_unread c (control_calls.JoinHeard path token) = if_unread _ c.fall (controlling.after_join c) c (λ unread. unread) (λ unread. unread)
-call_unread c (control_calls.Live path backup) = λ unread. unread
-call_unread c (control_calls.Dead path) = λ unread. unread
-call_unread c (control_calls.Rate path window rtt) = λ unread. unread
-call_unread c (control_calls.Backup path on) = λ unread. unread
-call_unread c (control_calls.Announce id) = λ unread. unread
-call_unread c (control_calls.Withdraw id) = if_unread _ c.fall _ c (λ unread. unread) (λ unread. unread)
-call_unread c (control_calls.Heard id address port hmac) = λ unread. unread
-call_unread c (control_calls.Echoed id) = if_unread _ c.fall _ c (λ unread. unread) (λ unread. unread)
-call_unread c (control_calls.Removed id) = if_unread _ c.fall _ c (λ unread. unread) (λ unread. unread)
-call_unread c control_calls.FastClose = λ unread. refl
-call_unread c (control_calls.FastHeard key) = if_unread (key == c.keys.own) c.fall (controlling.after_event 0 false events.Stop c) c (λ unread. refl) (λ unread. unread)
+call_unread c (ControlCall.Look path) = notice_unread (control.notice_on c path) path c
+call_unread c (ControlCall.PeerKey key) = λ unread. unread
+call_unread c (ControlCall.Keys own other) =
+    if_unread (own == c.keys.own) c.fall (controlling.after_event 0 false FallEvent.KeysHeard (controlling.after_peer_key other c)) c (event_unread 0 false FallEvent.KeysHeard c.fall) (λ unread. unread)
+call_unread c (ControlCall.Fell path event) = event_unread path (sole_path c.paths path) event c.fall
+call_unread c (ControlCall.JoinBegin path) = if_unread (control.may_join c) c.fall _ c (λ unread. unread) (λ unread. unread)
+call_unread c (ControlCall.JoinHeard path token) = if_unread _ c.fall (controlling.after_join c) c (λ unread. unread) (λ unread. unread)
+call_unread c (ControlCall.Withdraw id) = if_unread _ c.fall _ c (λ unread. unread) (λ unread. unread)
+call_unread c (ControlCall.Echoed id) = if_unread _ c.fall _ c (λ unread. unread) (λ unread. unread)
+call_unread c (ControlCall.Removed id) = if_unread _ c.fall _ c (λ unread. unread) (λ unread. unread)
+call_unread c ControlCall.FastClose = λ unread. refl
+call_unread c (ControlCall.FastHeard key) = if_unread (key == c.keys.own) c.fall (controlling.after_event 0 false FallEvent.Stop c) c (λ unread. refl) (λ unread. unread)
+call_unread c _ = λ unread. unread
 
 -- ---- one ask
 
@@ -152,29 +109,26 @@ abbrev UnreadAt : SixBooks → Side → Type 0
 UnreadAt six s = Unread (control_of s six).fall.mode
 
 ask_unread : (six : SixBooks) (x : Ask) (s : Side) → UnreadAt six s → UnreadAt (after_ask x six) s
-ask_unread six (asks.Control A call) A unread = call_unread six.control_a call unread
-ask_unread six (asks.Control A call) B unread = unread
-ask_unread six (asks.Control B call) A unread = unread
-ask_unread six (asks.Control B call) B unread = call_unread six.control_b call unread
-ask_unread six (asks.Send A call) A unread = unread
-ask_unread six (asks.Send A call) B unread = unread
-ask_unread six (asks.Send B call) A unread = unread
-ask_unread six (asks.Send B call) B unread = unread
-ask_unread six (asks.Reassembly A call) A unread = unread
-ask_unread six (asks.Reassembly A call) B unread = unread
-ask_unread six (asks.Reassembly B call) A unread = unread
-ask_unread six (asks.Reassembly B call) B unread = unread
-ask_unread six (asks.Local step) s unread = unread
+ask_unread six (Ask.Control A call) A unread = call_unread six.control_a call unread
+ask_unread six (Ask.Control A call) B unread = unread
+ask_unread six (Ask.Control B call) A unread = unread
+ask_unread six (Ask.Control B call) B unread = call_unread six.control_b call unread
+ask_unread six (Ask.Send A call) A unread = unread
+ask_unread six (Ask.Send A call) B unread = unread
+ask_unread six (Ask.Send B call) A unread = unread
+ask_unread six (Ask.Send B call) B unread = unread
+ask_unread six (Ask.Reassembly A call) A unread = unread
+ask_unread six (Ask.Reassembly A call) B unread = unread
+ask_unread six (Ask.Reassembly B call) A unread = unread
+ask_unread six (Ask.Reassembly B call) B unread = unread
+ask_unread six (Ask.Local step) s unread = unread
 
 -- where a side fell back, they count no more
 fallback_unread : (m : Mode) → is_fallback m ≡ true → Unread m
-fallback_unread modes.Identity is = refl
-fallback_unread modes.InfiniteReceive is = refl
-fallback_unread modes.InfiniteBoth is = refl
-fallback_unread modes.Starting is = absurd (false≢true is)
-fallback_unread modes.Sure is = absurd (false≢true is)
-fallback_unread modes.InfiniteSend is = absurd (false≢true is)
-fallback_unread modes.Aborted is = absurd (false≢true is)
+fallback_unread Mode.Identity is = refl
+fallback_unread Mode.InfiniteReceive is = refl
+fallback_unread Mode.InfiniteBoth is = refl
+fallback_unread _ is = absurd (false≢true is)
 
 abbrev IsUnread : StampedBooks → Side → Type 0
 IsUnread books s = Was is_fallback books s → UnreadAt (books_in books) s
@@ -188,25 +142,8 @@ entry_unread x pass books s h is = ⊎_elim
 -- ---- turns
 
 module _ {C : Type 0} (k : Codec C) (s : Side) where
-  turn_unread : (turn : Turn) (w : WorldState C) → IsUnread w.books s → IsUnread (after_turn k turn w).books s
-  turn_unread (Turn.Step actor) w h = by (slice_get w.crew actor)
-    where
-      asking : (c : ActorCrew C) (o : Option Ask) → IsUnread (asked k actor o c w).books s
-      asking c None = h
-      asking c (Some x) = entry_unread x c.pass w.books s h
-
-      by : (o : Option (ActorCrew C)) → IsUnread (stepped k actor o w).books s
-      by None = h
-      by (Some c) = asking c (member_asks k c.member)
-  turn_unread Turn.Round w h = by (all_over w.crew)
-    where
-      by : (b : Bool) → IsUnread (if b then record w { crew = map (begins (greatest 0 w.crew)) w.crew } else w).books s
-      by true = h
-      by false = h
-
   run_unread : (turns : List Turn) (w : WorldState C) → IsUnread w.books s → IsUnread (world_run k turns w).books s
-  run_unread [] w h = h
-  run_unread (turn ∷ turns) w h = run_unread turns (after_turn k turn w) (turn_unread turn w h)
+  run_unread = run_so k (λ w. IsUnread w.books s) (λ w h actor c x there is. entry_unread x c.pass w.books s h) (λ w h over. h)
 
 -- ---- the law
 

@@ -1,51 +1,21 @@
 -- The send book gives itself to a path whose end heard MP_FAIL: an infinite mapping of the path is right then, and its lane goes by it.
-use Rattle.std.proofs.Common.{◌≡◌, refl, sym, ◌∙◌, ap, subst, ℕ, zero, suc, ◌+◌, ◌-◌, ◌^◌, ◌<◌, ◌≤◌, min, ◌&&◌, ◌==◌, nat_le, nat_lt, is_none, if◌then◌else◌, ◌⊎◌, inl, inr, ⊎_elim, Bool, true, false, Option, Some, None, List, [], ◌∷◌, length, take, drop, set, arith}
-use Rattle.std.proofs.lemmas.Bool.{and_parts, and_from, le-leb, eqb-true, both_ways, false≢true}
-use Rattle.std.proofs.lemmas.List.{set-set}
-use Rattle.std.proofs.lemmas.List.Sums.{count_by-le-length}
-use Rattle.std.proofs.lemmas.Option.{same_Some, slice_get_within}
-use Rattle.std.specs.List.{slice_get, list_all}
-use Rattle.std.specs.Option.{IfSome}
-use Rattle.sides.specs.declared.side.Side.{Side}
-use Rattle.sides.specs.declared.side.Side.TheVariants.{A, B}
-use Rattle.sides.specs.Side.{peer}
-use Rattle.send_book.specs.declared.call.SendCall.TheVariants.{GoInfinite as GoInfiniteBook}
-use Rattle.send_book.specs.declared.call.SendReply.TheVariants as send_replies
+use Rattle.world_laws.proofs.Words.{◌≡◌, refl, sym, ◌∙◌, ap, subst, ℕ, zero, suc, ◌+◌, ◌-◌, ◌≤◌, ◌&&◌, ◌==◌, min, nat_lt, nat_le, inl, inr, ◌⊎◌, ⊎_elim, Bool}
+use Rattle.world_laws.proofs.Words.{true, false, if◌then◌else◌, Option, Some, None, List, [], ◌∷◌, length, take, drop, arith, is_none, ◌<◌, ◌^◌, set, eqb-true}
+use Rattle.world_laws.proofs.Words.{and_parts, and_from, both_ways, false≢true, le-leb, set-set, same_Some, slice_get_within, slice_get, list_all, IfSome}
+use Rattle.world_laws.proofs.Words.{count_by-le-length, Side, A, B, peer, Arriving, Sending, acked_len, is_gathered, tried_first, after_send, GoInfiniteBook}
+use Rattle.world_laws.proofs.Words.{Acked, Held, Free, has_tried, is_untouched, SendReply, InfiniteMapping, GrantedPiece, is_tail, position_of, Duty, AskDuty}
+use Rattle.world_laws.proofs.Words.{replaced, Ask, Reply, SixBooks, send_of, reassembly_of, reply_of, pick, PathEnd, PathState, end_at, goes_on, path_of}
+use Rattle.world_laws.proofs.Words.{Carried, may_go_infinite, book_answered, with_infinite, sending_infinite, infinite_from, Profile, Holds, IsEndless}
+use Rattle.world_laws.proofs.Words.{LaneHolds, HasPlace, SendHolds, Cell, Pair, Lane, View, view_of, goes_infinite, may_go, Reader, rises, ToB, ToA, Flags}
+use Rattle.world_laws.proofs.Words.{place_by, AskAckIn}
 use Rattle.send_book.specs.declared.mark.ByteMark.{ByteMark}
-use Rattle.send_book.specs.declared.mark.ByteMark.TheVariants.{Acked, Held, Free}
-use Rattle.send_book.specs.Marks.{is_acked, has_tried, is_untouched}
-use Rattle.send_book.specs.State.{Sending, acked_len}
-use Rattle.send_book.specs.Steps.{is_gathered, tried_first, after_call as after_send}
+use Rattle.send_book.specs.Marks.{is_acked}
 use Rattle.send_book.proofs.Lists.{slice_get-drop}
-use Rattle.reassembly_book.specs.State.{Arriving}
-use Rattle.stream_lanes.specs.Lane.{Cell, Pair, Lane}
-use Rattle.stream_lanes.specs.Lane.Ask.{AskAckIn}
 use Rattle.stream_lanes.specs.Marks.{spent, AreAcked, tried}
-use Rattle.stream_lanes.specs.Moves.{Flags, place_by}
-use Rattle.stream_lanes.specs.Streams.{Reader, after, rises, may_go, goes_infinite}
+use Rattle.stream_lanes.specs.Streams.{after}
 use Rattle.stream_lanes.specs.Streams.StreamEvent.{GoInfinite}
-use Rattle.stream_lanes.specs.Duo.Event.{ToB, ToA}
-use Rattle.stream_lanes.specs.View.{View, view_of}
-use Rattle.stream_lanes.specs.Holding.{HasPlace, SendHolds, IsEndless, LaneHolds, Holds}
 use Rattle.stream_lanes.proofs.MarkLists.{untouched_unspent}
-use Rattle.actor_desk.specs.declared.ask.Ask.{Ask}
-use Rattle.actor_desk.specs.declared.ask.Ask.TheVariants as asks
-use Rattle.actor_desk.specs.declared.ask.Reply.TheVariants as replies
-use Rattle.actor_desk.specs.Desk.{SixBooks, send_of, reassembly_of, reply_of}
-use Rattle.actor_desk.specs.Words.{pick}
-use Rattle.path_agenda.specs.Words.{replaced}
-use Rattle.path_agenda.specs.declared.duty.Duty.{Duty}
-use Rattle.path_agenda.specs.declared.duty.Duty.TheVariants as duties
-use Rattle.path_agenda.specs.declared.duty.AskDuty.TheVariants as ask_duties
-use Rattle.path_store.specs.declared.granted_piece.GrantedPiece.{GrantedPiece}
-use Rattle.path_store.specs.declared.infinite_mapping.InfiniteMapping.{InfiniteMapping}
-use Rattle.path_core.specs.End.{PathEnd}
 use Rattle.path_store.specs.InfiniteMappings.{place_under}
-use Rattle.path_core.specs.Fallback.{may_go_infinite, infinite_from, with_infinite, book_answered, sending_infinite}
-use Rattle.path_store.specs.Granted.{is_tail, position_of}
-use Rattle.path_core.specs.State.{PathState, end_at, goes_on, path_of}
-use Rattle.path_core.specs.Profile.{Profile}
-use Rattle.path_core.specs.Values.{Carried}
 use Rattle.world_laws.proofs.Lanes.Answering.{IsReady, Steps, shows_at}
 use Rattle.world_laws.proofs.Lanes.Doing.{with_pair, with_pair_told, sends_own_pair, own_pair_goes, own_pair_told, hears_by_pair}
 use Rattle.world_laws.proofs.Lanes.Ending.{Did, did_nothing}
@@ -194,14 +164,14 @@ module _ (c : Profile) (six : SixBooks) (others : Others) where
 
   pub infinite_side : (s : Side) (p q : PathState Carried) (ab ba : Lane) (pos : ℕ) (b : Bool) → PathShows c p ab ba → is_gathered others.number (send_of s six) ≡ b
       → (b ≡ true → may_go others.number pos (send_of s six) (pick s ab ba) ≡ true)
-      → SideDid c s p q ab ba (if b then with_pair (pair_of s pos) (pick s ab ba) else pick s ab ba) (pick s ba ab) → Answered c six others (asks.Send s (GoInfiniteBook others.number)) q ab ba
+      → SideDid c s p q ab ba (if b then with_pair (pair_of s pos) (pick s ab ba) else pick s ab ba) (pick s ba ab) → Answered c six others (Ask.Send s (GoInfiniteBook others.number)) q ab ba
   infinite_side A p q ab ba pos b h is may d =
-      side_answered c six others A p q ab ba ab ba (if b then with_pair (pair_of A pos) ab else ab) ba (asks.Send A (GoInfiniteBook others.number)) (Some (ToB (GoInfinite others.number pos))) h
+      side_answered c six others A p q ab ba ab ba (if b then with_pair (pair_of A pos) ab else ab) ba (Ask.Send A (GoInfiniteBook others.number)) (Some (ToB (GoInfinite others.number pos))) h
       (record { by = []; calm = refl; to = refl }) (record { by = []; calm = refl; to = refl })
       (GoInfinite others.number pos, refl, (pos, refl))
       (ap (λ d. record (duo_at six ab ba others) { ab = d }) (given_there (flags_of others.links A six) others.lanes_ab others.number six.send_a six.reassembly_b others.reader_b others.within_ab ab pos b is may)) d
   infinite_side B p q ab ba pos b h is may d =
-      side_answered c six others B p q ab ba ba ab (if b then with_pair (pair_of B pos) ba else ba) ab (asks.Send B (GoInfiniteBook others.number)) (Some (ToA (GoInfinite others.number pos))) h
+      side_answered c six others B p q ab ba ba ab (if b then with_pair (pair_of B pos) ba else ba) ab (Ask.Send B (GoInfiniteBook others.number)) (Some (ToA (GoInfinite others.number pos))) h
       (record { by = []; calm = refl; to = refl }) (record { by = []; calm = refl; to = refl })
       (GoInfinite others.number pos, refl, (pos, refl))
       (ap (λ d. record (duo_at six ab ba others) { ba = d }) (given_there (flags_of others.links B six) others.lanes_ba others.number six.send_b six.reassembly_a others.reader_a others.within_ba ba pos b is may)) d
@@ -365,7 +335,7 @@ module _ (six : SixBooks) (others : Others) (p : PathState Carried) (ab ba : Lan
       absurd (both_ways (is_none book.owner) (ap is_none given.2) (and_parts (is_none book.owner) _ gathers).0)
 
   abbrev Answers : ℕ → Type 0
-  Answers path = Makes (asks.Send s (GoInfiniteBook path)) (book_answered s (reply_of six (asks.Send s (GoInfiniteBook path))) p)
+  Answers path = Makes (Ask.Send s (GoInfiniteBook path)) (book_answered s (reply_of six (Ask.Send s (GoInfiniteBook path))) p)
 
   module _ (opened : out.opened ≡ true) (alters : out.alters ≡ true) (short : length book.marks < 2 ^ 63) (goes : may_go_infinite e ≡ true) where
     tail : is_tail e.sending.granted e.tcp.send.nxt ≡ true
@@ -375,10 +345,10 @@ module _ (six : SixBooks) (others : Others) (p : PathState Carried) (ab ba : Lan
     at_path = by (is_gathered others.number book) refl
       where
         ds : List Duty
-        ds = replaced (duties.Ask (ask_duties.FailHeard s)) p.agenda
+        ds = replaced (Duty.Ask (AskDuty.FailHeard s)) p.agenda
 
         by : (b : Bool) → is_gathered others.number book ≡ b
-            → Makes (asks.Send s (GoInfiniteBook others.number)) (goes_on s (with_infinite (replies.Send (if b then send_replies.Infinite (acked_len book.marks) else send_replies.Scattered)) e) ds p)
+            → Makes (Ask.Send s (GoInfiniteBook others.number)) (goes_on s (with_infinite (Reply.Send (if b then SendReply.Infinite (acked_len book.marks) else SendReply.Scattered)) e) ds p)
         by false scattered =
             infinite_side p.profile six others s p _ ab ba 0 false h scattered (λ yes. absurd (false≢true yes))
             (side_kept p.profile p ab ba h s out back (record e { treated = record e.treated { infinite_mapping = None } }) ds

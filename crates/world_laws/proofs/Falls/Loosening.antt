@@ -1,36 +1,12 @@
 -- A side receives by the peer's infinite mapping from now on: the lane that it hears goes by that mapping.
-use Rattle.std.proofs.Common.{◌≡◌, refl, sym, ◌∙◌, ap, ℕ, ◌-◌, ◌⊎◌, Bool, true, false, ◌&&◌, not, is_none, if◌then◌else◌, inl, inr, Option, Some, None, [], ◌∷◌, set}
-use Rattle.std.proofs.lemmas.Bool.{both_ways, false≢true}
-use Rattle.std.proofs.lemmas.List.{append-nil, set-set}
-use Rattle.sides.specs.declared.side.Side.{Side}
-use Rattle.sides.specs.declared.side.Side.TheVariants.{A, B}
-use Rattle.fallback_state.specs.declared.fall.Event.TheVariants as events
-use Rattle.fallback_state.specs.declared.fall.Fall.{Fall}
-use Rattle.fallback_state.specs.declared.fall.Mode.{Mode}
-use Rattle.fallback_state.specs.declared.fall.Mode.TheVariants as modes
-use Rattle.fallback_state.specs.declared.fall.Verdict.{Verdict}
-use Rattle.fallback_state.specs.Modes.{reads_mappings, writes_mappings, receiving}
-use Rattle.fallback_state.specs.Table.{is_failed_path, goes, stays as stays_so, breaks, fall_step}
-use Rattle.control_book.specs.declared.call.ControlCall.{ControlCall}
-use Rattle.control_book.specs.declared.call.ControlCall.TheVariants as control_calls
-use Rattle.control_book.specs.declared.call.ControlReply.TheVariants as control_replies
-use Rattle.control_book.specs.Registry.{sole as sole_path}
-use Rattle.stream_lanes.specs.Lane.{Lane, Pair}
-use Rattle.stream_lanes.specs.Moves.{takes_pair}
-use Rattle.stream_lanes.specs.Moves.Move.{LookAtReceiver, TakePair}
+use Rattle.world_laws.proofs.Words.{◌≡◌, refl, sym, ◌∙◌, ap, ℕ, ◌-◌, ◌&&◌, not, inl, inr, ◌⊎◌, Bool, true, false, if◌then◌else◌, Option, Some, None, [], ◌∷◌}
+use Rattle.world_laws.proofs.Words.{is_none, set, both_ways, false≢true, append-nil, set-set, Verdict, Mode, reads_mappings, receiving, writes_mappings, Fall}
+use Rattle.world_laws.proofs.Words.{is_failed_path, goes, fall_step, stays_so, Side, A, B, ControlCall, ControlReply, sole_path, Ask, Reply, SixBooks}
+use Rattle.world_laws.proofs.Words.{control_of, reply_of, after_ask, pick, PathEnd, PathState, Carried, is_infinite_receive, receiving_infinite, Profile, Pair}
+use Rattle.world_laws.proofs.Words.{Lane, ToB, ToA, takes_pair, Moves, LookAtReceiver, TakePair, is_fallback}
+use Rattle.fallback_state.specs.declared.fall.Event.{Event}
+use Rattle.fallback_state.specs.Table.{breaks}
 use Rattle.stream_lanes.specs.Streams.{moves}
-use Rattle.stream_lanes.specs.Streams.StreamEvent.{Moves}
-use Rattle.stream_lanes.specs.Duo.Event.{ToB, ToA}
-use Rattle.actor_desk.specs.declared.ask.Ask.TheVariants as asks
-use Rattle.actor_desk.specs.declared.ask.Reply.TheVariants as replies
-use Rattle.actor_desk.specs.Desk.{SixBooks, control_of, after_ask, reply_of}
-use Rattle.actor_desk.specs.Words.{pick}
-use Rattle.path_core.specs.End.{PathEnd}
-use Rattle.path_core.specs.Fallback.{is_infinite_receive, receiving_infinite}
-use Rattle.path_core.specs.State.{PathState}
-use Rattle.path_core.specs.Profile.{Profile}
-use Rattle.path_core.specs.Values.{Carried}
-use Rattle.world_laws.specs.Altered.{is_fallback}
 use Rattle.world_laws.proofs.Lanes.Ending.{Did}
 use Rattle.world_laws.proofs.Falls.WhereASideStands.{is_plain, is_loose}
 use Rattle.world_laws.proofs.Falls.CallsAndModes.{control_moves}
@@ -45,41 +21,37 @@ use Rattle.world_laws.proofs.Lanes.Strolling.{did_on_path}
 
 -- where this row tells so, the side receives by an infinite mapping
 abbrev RowLoosens : Fall × Verdict → Type 0
-RowLoosens row = is_infinite_receive (replies.Control (control_replies.Verdict row.1)) ≡ true → (is_loose row.0 ≡ true) × (is_plain row.0 ≡ false) × (is_fallback row.0.mode ≡ true)
+RowLoosens row = is_infinite_receive (Reply.Control (ControlReply.Verdict row.1)) ≡ true → (is_loose row.0 ≡ true) × (is_plain row.0 ≡ false) × (is_fallback row.0.mode ≡ true)
 
 goes_loose : (m : Mode) (f : Fall) → RowLoosens (goes m f)
-goes_loose modes.InfiniteReceive f is = (refl, refl, refl)
-goes_loose modes.InfiniteBoth f is = (refl, refl, refl)
-goes_loose modes.Starting f is = absurd (false≢true is)
-goes_loose modes.Sure f is = absurd (false≢true is)
-goes_loose modes.Identity f is = absurd (false≢true is)
-goes_loose modes.InfiniteSend f is = absurd (false≢true is)
-goes_loose modes.Aborted f is = absurd (false≢true is)
+goes_loose Mode.InfiniteReceive f is = (refl, refl, refl)
+goes_loose Mode.InfiniteBoth f is = (refl, refl, refl)
+goes_loose _ f is = absurd (false≢true is)
 
 loosens_if : (b : Bool) (x y : Fall × Verdict) → RowLoosens x → RowLoosens y → RowLoosens (if b then x else y)
 loosens_if true x y h k = h
 loosens_if false x y h k = k
 
-row_loosens : (path : ℕ) (sole : Bool) (f : Fall) → RowLoosens (fall_step f path sole events.InfiniteHeard)
+row_loosens : (path : ℕ) (sole : Bool) (f : Fall) → RowLoosens (fall_step f path sole Event.InfiniteHeard)
 row_loosens path sole f =
-    let last : Fall × Verdict = if writes_mappings f.mode && not f.joined && is_none f.failed then goes modes.Identity f else breaks 1 f in
+    let last : Fall × Verdict = if writes_mappings f.mode && not f.joined && is_none f.failed then goes Mode.Identity f else breaks 1 f in
     let rest : Fall × Verdict = if sole && is_failed_path f.failed path then goes (receiving f.mode) f else last in
     loosens_if (not (reads_mappings f.mode)) (stays_so f) rest (λ is. absurd (false≢true is))
     (loosens_if (sole && is_failed_path f.failed path) (goes (receiving f.mode) f) last (goes_loose (receiving f.mode) f)
-    (loosens_if (writes_mappings f.mode && not f.joined && is_none f.failed) (goes modes.Identity f) (breaks 1 f) (goes_loose modes.Identity f) (λ is. absurd (false≢true is))))
+    (loosens_if (writes_mappings f.mode && not f.joined && is_none f.failed) (goes Mode.Identity f) (breaks 1 f) (goes_loose Mode.Identity f) (λ is. absurd (false≢true is))))
 
 -- so it is in the books after the call, and no firm side is told so
-told_loosens : (s : Side) (path : ℕ) (six : SixBooks) → let ask = asks.Control s (control_calls.Fell path events.InfiniteHeard) in is_infinite_receive (reply_of six ask) ≡ true
+told_loosens : (s : Side) (path : ℕ) (six : SixBooks) → let ask = Ask.Control s (ControlCall.Fell path Event.InfiniteHeard) in is_infinite_receive (reply_of six ask) ≡ true
     → (is_loose (control_of s (after_ask ask six)).fall ≡ true) × (is_plain (control_of s (after_ask ask six)).fall ≡ false) × (is_fallback (control_of s (after_ask ask six)).fall.mode ≡ true)
 told_loosens A path six is = row_loosens path (sole_path six.control_a.paths path) six.control_a.fall is
 told_loosens B path six is = row_loosens path (sole_path six.control_b.paths path) six.control_b.fall is
 
-pub call_loosens : (links : Links) (s : Side) (path : ℕ) (six : SixBooks) → let ask = asks.Control s (control_calls.Fell path events.InfiniteHeard) in StaysFirm links s six ask
+pub call_loosens : (links : Links) (s : Side) (path : ℕ) (six : SixBooks) → let ask = Ask.Control s (ControlCall.Fell path Event.InfiniteHeard) in StaysFirm links s six ask
     → is_infinite_receive (reply_of six ask) ≡ true → (loose_at links s (after_ask ask six) ≡ true) × (plain_at links s (after_ask ask six) ≡ false)
 call_loosens links s path six firm is = by (is_firm links s) refl
   where
     books : SixBooks
-    books = after_ask (asks.Control s (control_calls.Fell path events.InfiniteHeard)) six
+    books = after_ask (Ask.Control s (ControlCall.Fell path Event.InfiniteHeard)) six
 
     by : (b : Bool) → is_firm links s ≡ b → ((not b && is_loose (control_of s books).fall) ≡ true) × ((not b && is_plain (control_of s books).fall) ≡ false)
     by true so = absurd (both_ways _ (firm so) (told_loosens s path six is).2)
@@ -117,8 +89,8 @@ loosen_moves B six others ab ba loose plain = record {
 
 -- a step of the path after such a call
 pub loosen_side : (c : Profile) (six : SixBooks) (others : Others) (s : Side) (call : ControlCall) (p q : PathState Carried) (ab ba : Lane) → PathShows c p ab ba → MayCall s call six
-    → loose_at others.links s (after_ask (asks.Control s call) six) ≡ true → plain_at others.links s (after_ask (asks.Control s call) six) ≡ false
-    → SideDid c s p q ab ba (pick s ab ba) (loosened (pick s ba ab)) → Answered c six others (asks.Control s call) q ab ba
+    → loose_at others.links s (after_ask (Ask.Control s call) six) ≡ true → plain_at others.links s (after_ask (Ask.Control s call) six) ≡ false
+    → SideDid c s p q ab ba (pick s ab ba) (loosened (pick s ba ab)) → Answered c six others (Ask.Control s call) q ab ba
 loosen_side c six others A call p q ab ba h may loose plain d = record {
   ab_before = ab;
   ba_before = ba;
@@ -127,9 +99,9 @@ loosen_side c six others A call p q ab ba h may loose plain d = record {
   calls = refl;
   ab_called = ab;
   ba_called = loosened ba;
-  called = then_moved (duo_at six ab ba others) (duo_at (after_ask (asks.Control A call) six) ab ba others) _
+  called = then_moved (duo_at six ab ba others) (duo_at (after_ask (Ask.Control A call) six) ab ba others) _
       (control_moves others.links A call six may (set others.lanes_ab others.number ab) (set others.lanes_ba others.number ba) others.reader_a others.reader_b)
-      (loosen_moves A (after_ask (asks.Control A call) six) others ab ba loose plain);
+      (loosen_moves A (after_ask (Ask.Control A call) six) others ab ba loose plain);
   after = did_on_path c p q ab ba h d.profile A ab (loosened ba) d.did d.same d.link;
 }
 loosen_side c six others B call p q ab ba h may loose plain d = record {
@@ -140,9 +112,9 @@ loosen_side c six others B call p q ab ba h may loose plain d = record {
   calls = refl;
   ab_called = loosened ab;
   ba_called = ba;
-  called = then_moved (duo_at six ab ba others) (duo_at (after_ask (asks.Control B call) six) ab ba others) _
+  called = then_moved (duo_at six ab ba others) (duo_at (after_ask (Ask.Control B call) six) ab ba others) _
       (control_moves others.links B call six may (set others.lanes_ab others.number ab) (set others.lanes_ba others.number ba) others.reader_a others.reader_b)
-      (loosen_moves B (after_ask (asks.Control B call) six) others ab ba loose plain);
+      (loosen_moves B (after_ask (Ask.Control B call) six) others ab ba loose plain);
   after = did_on_path c p q ab ba h d.profile B ba (loosened ab) d.did d.same d.link;
 }
 

@@ -1,39 +1,19 @@
 -- What a call of a control book is to where its side stands: it falls back, it joins, or neither.
-use Rattle.std.proofs.Common.{◌≡◌, refl, sym, ◌∙◌, ap, ℕ, ◌==◌, ◌&&◌, ◌||◌, not, is_none, ◌⊎◌, inl, inr, Bool, true, false, if◌then◌else◌, Some}
-use Rattle.std.proofs.lemmas.Bool.{false≢true, and_parts, both_ways}
-use Rattle.key_material.specs.KeyDigest.{token_of}
-use Rattle.fallback_state.specs.declared.fall.Event.{Event as FallEvent}
-use Rattle.fallback_state.specs.declared.fall.Event.TheVariants as events
-use Rattle.fallback_state.specs.declared.fall.Fall.{Fall}
-use Rattle.fallback_state.specs.declared.fall.Mode.{Mode}
-use Rattle.fallback_state.specs.declared.fall.Mode.TheVariants as modes
-use Rattle.fallback_state.specs.declared.fall.Verdict.{Verdict}
-use Rattle.fallback_state.specs.declared.fall.Verdict.TheVariants as verdicts
-use Rattle.fallback_state.specs.Modes.{is_starting, is_identity, reads_mappings, writes_mappings, receiving, sending}
-use Rattle.fallback_state.specs.Table.{is_failed_path, goes, stays, breaks, fall_step}
-use Rattle.control_book.specs.declared.call.ControlCall.{ControlCall}
-use Rattle.control_book.specs.declared.call.ControlCall.TheVariants as control_calls
-use Rattle.control_book.specs.declared.call.Notice.{Notice}
-use Rattle.control_book.specs.declared.call.Notice.TheVariants as notices
-use Rattle.control_book.specs.declared.call.ControlReply.TheVariants as control_replies
-use Rattle.control_book.specs.Control.{Control}
-use Rattle.control_book.specs.Registry.{sole as sole_path}
+use Rattle.world_laws.proofs.Words.{◌≡◌, refl, sym, ◌∙◌, ap, ℕ, ◌&&◌, ◌||◌, ◌==◌, not, inl, inr, ◌⊎◌, Bool, true, false, if◌then◌else◌, Some, is_none}
+use Rattle.world_laws.proofs.Words.{and_parts, both_ways, false≢true, Verdict, Mode, FallEvent, is_identity, is_starting, reads_mappings, receiving, sending}
+use Rattle.world_laws.proofs.Words.{writes_mappings, Fall, is_failed_path, goes, fall_step, token_of, ControlCall, ControlReply, Notice, sole_path, Control}
+use Rattle.world_laws.proofs.Words.{Reply, is_fall}
+use Rattle.fallback_state.specs.Table.{stays, breaks}
 use Rattle.control_book.specs.Replies as control
 use Rattle.control_book.specs.Steps as controlling
-use Rattle.actor_desk.specs.declared.ask.Reply.TheVariants as replies
-use Rattle.path_core.specs.Fallback.{is_fall}
 
 -- ---- plain TCP
 
 -- A side that joined nothing is in plain TCP, or may have been before the connection was stopped: a stop forgets it.
 abbrev pub plain_of : Mode → Bool → Bool
-plain_of modes.Identity joined = not joined
-plain_of modes.Aborted joined = not joined
-plain_of modes.Starting joined = false
-plain_of modes.Sure joined = false
-plain_of modes.InfiniteSend joined = false
-plain_of modes.InfiniteReceive joined = false
-plain_of modes.InfiniteBoth joined = false
+plain_of Mode.Identity joined = not joined
+plain_of Mode.Aborted joined = not joined
+plain_of _ joined = false
 
 abbrev pub is_plain : Fall → Bool
 is_plain f = plain_of f.mode f.joined
@@ -46,13 +26,10 @@ IsUnjoined f = is_identity f.mode ≡ true → f.joined ≡ false
 
 -- A side receives by an infinite mapping, or may have done so before the connection was stopped.
 abbrev pub loose_of : Mode → Bool
-loose_of modes.InfiniteReceive = true
-loose_of modes.InfiniteBoth = true
-loose_of modes.Aborted = true
-loose_of modes.Starting = false
-loose_of modes.Sure = false
-loose_of modes.Identity = false
-loose_of modes.InfiniteSend = false
+loose_of Mode.InfiniteReceive = true
+loose_of Mode.InfiniteBoth = true
+loose_of Mode.Aborted = true
+loose_of _ = false
 
 abbrev pub is_loose : Fall → Bool
 is_loose f = loose_of f.mode
@@ -62,40 +39,24 @@ abbrev pub Loosened : Fall → Fall → Type 0
 Loosened f g = (is_loose g ≡ is_loose f) ⊎ (is_loose g ≡ true)
 
 reads_tight : (m : Mode) → reads_mappings m ≡ true → loose_of m ≡ false
-reads_tight modes.Starting is = refl
-reads_tight modes.Sure is = refl
-reads_tight modes.InfiniteSend is = refl
-reads_tight modes.Identity is = refl
-reads_tight modes.InfiniteReceive is = absurd (false≢true is)
-reads_tight modes.InfiniteBoth is = absurd (false≢true is)
-reads_tight modes.Aborted is = absurd (false≢true is)
+reads_tight Mode.InfiniteReceive is = absurd (false≢true is)
+reads_tight Mode.InfiniteBoth is = absurd (false≢true is)
+reads_tight Mode.Aborted is = absurd (false≢true is)
+reads_tight _ is = refl
 
 starting_tight : (m : Mode) → is_starting m ≡ true → loose_of m ≡ false
-starting_tight modes.Starting is = refl
-starting_tight modes.Sure is = refl
-starting_tight modes.InfiniteSend is = refl
-starting_tight modes.Identity is = refl
-starting_tight modes.InfiniteReceive is = absurd (false≢true is)
-starting_tight modes.InfiniteBoth is = absurd (false≢true is)
-starting_tight modes.Aborted is = absurd (false≢true is)
+starting_tight Mode.InfiniteReceive is = absurd (false≢true is)
+starting_tight Mode.InfiniteBoth is = absurd (false≢true is)
+starting_tight Mode.Aborted is = absurd (false≢true is)
+starting_tight _ is = refl
 
 receiving_loose : (m : Mode) → loose_of (receiving m) ≡ true
-receiving_loose modes.Starting = refl
-receiving_loose modes.Sure = refl
-receiving_loose modes.Identity = refl
-receiving_loose modes.InfiniteSend = refl
-receiving_loose modes.InfiniteReceive = refl
-receiving_loose modes.InfiniteBoth = refl
-receiving_loose modes.Aborted = refl
+receiving_loose Mode.Starting = refl
+receiving_loose _ = refl
 
 sending_loose : (m : Mode) → writes_mappings m ≡ true → loose_of (sending m) ≡ loose_of m
-sending_loose modes.Starting is = refl
-sending_loose modes.Sure is = refl
-sending_loose modes.InfiniteReceive is = refl
-sending_loose modes.Identity is = refl
-sending_loose modes.InfiniteSend is = refl
-sending_loose modes.InfiniteBoth is = refl
-sending_loose modes.Aborted is = absurd (false≢true is)
+sending_loose Mode.Aborted is = absurd (false≢true is)
+sending_loose _ is = refl
 
 -- ---- what becomes of a fall
 
@@ -128,67 +89,35 @@ same_fall : (f : Fall) → Fallen f f
 same_fall f = inl (record { mode = refl; joined = refl; loose = inl refl; unjoined = λ h. h })
 
 starting_plain : (m : Mode) (joined : Bool) → is_starting m ≡ true → plain_of m joined ≡ false
-starting_plain modes.Starting joined is = refl
-starting_plain modes.Sure joined is = refl
-starting_plain modes.Identity joined is = absurd (false≢true is)
-starting_plain modes.InfiniteSend joined is = refl
-starting_plain modes.InfiniteReceive joined is = refl
-starting_plain modes.InfiniteBoth joined is = refl
-starting_plain modes.Aborted joined is = absurd (false≢true is)
+starting_plain Mode.Identity joined is = absurd (false≢true is)
+starting_plain Mode.Aborted joined is = absurd (false≢true is)
+starting_plain _ joined is = refl
 
 reads_plain : (m : Mode) (joined : Bool) → reads_mappings m ≡ true → plain_of m joined ≡ false
-reads_plain modes.Starting joined is = refl
-reads_plain modes.Sure joined is = refl
-reads_plain modes.Identity joined is = absurd (false≢true is)
-reads_plain modes.InfiniteSend joined is = refl
-reads_plain modes.InfiniteReceive joined is = refl
-reads_plain modes.InfiniteBoth joined is = refl
-reads_plain modes.Aborted joined is = absurd (false≢true is)
+reads_plain Mode.Identity joined is = absurd (false≢true is)
+reads_plain Mode.Aborted joined is = absurd (false≢true is)
+reads_plain _ joined is = refl
 
 writes_plain : (m : Mode) (joined : Bool) → writes_mappings m ≡ true → plain_of m joined ≡ false
-writes_plain modes.Starting joined is = refl
-writes_plain modes.Sure joined is = refl
-writes_plain modes.Identity joined is = absurd (false≢true is)
-writes_plain modes.InfiniteSend joined is = refl
-writes_plain modes.InfiniteReceive joined is = refl
-writes_plain modes.InfiniteBoth joined is = refl
-writes_plain modes.Aborted joined is = absurd (false≢true is)
+writes_plain Mode.Identity joined is = absurd (false≢true is)
+writes_plain Mode.Aborted joined is = absurd (false≢true is)
+writes_plain _ joined is = refl
 
 receiving_plain : (m : Mode) (joined : Bool) → plain_of (receiving m) joined ≡ false
-receiving_plain modes.Starting joined = refl
-receiving_plain modes.Sure joined = refl
-receiving_plain modes.Identity joined = refl
-receiving_plain modes.InfiniteSend joined = refl
-receiving_plain modes.InfiniteReceive joined = refl
-receiving_plain modes.InfiniteBoth joined = refl
-receiving_plain modes.Aborted joined = refl
+receiving_plain Mode.Starting joined = refl
+receiving_plain _ joined = refl
 
 sending_plain : (m : Mode) (joined : Bool) → plain_of (sending m) joined ≡ false
-sending_plain modes.Starting joined = refl
-sending_plain modes.Sure joined = refl
-sending_plain modes.Identity joined = refl
-sending_plain modes.InfiniteSend joined = refl
-sending_plain modes.InfiniteReceive joined = refl
-sending_plain modes.InfiniteBoth joined = refl
-sending_plain modes.Aborted joined = refl
+sending_plain Mode.Starting joined = refl
+sending_plain _ joined = refl
 
 receiving_apart : (m : Mode) → is_identity (receiving m) ≡ false
-receiving_apart modes.Starting = refl
-receiving_apart modes.Sure = refl
-receiving_apart modes.Identity = refl
-receiving_apart modes.InfiniteSend = refl
-receiving_apart modes.InfiniteReceive = refl
-receiving_apart modes.InfiniteBoth = refl
-receiving_apart modes.Aborted = refl
+receiving_apart Mode.Starting = refl
+receiving_apart _ = refl
 
 sending_apart : (m : Mode) → is_identity (sending m) ≡ false
-sending_apart modes.Starting = refl
-sending_apart modes.Sure = refl
-sending_apart modes.Identity = refl
-sending_apart modes.InfiniteSend = refl
-sending_apart modes.InfiniteReceive = refl
-sending_apart modes.InfiniteBoth = refl
-sending_apart modes.Aborted = refl
+sending_apart Mode.Starting = refl
+sending_apart _ = refl
 
 -- of a row that applies where this holds
 fallen_if : (b : Bool) (f : Fall) (x y : Fall × Verdict) → (b ≡ true → Fallen f x.0) → (b ≡ false → Fallen f y.0) → Fallen f (if b then x else y).0
@@ -203,38 +132,38 @@ not_true : (b : Bool) → not b ≡ true → b ≡ false
 not_true true is = absurd (false≢true is)
 not_true false is = refl
 
-sign_falls : (f : Fall) → Fallen f (if is_starting f.mode then goes modes.Sure f else stays f).0
+sign_falls : (f : Fall) → Fallen f (if is_starting f.mode then goes Mode.Sure f else stays f).0
 sign_falls f =
-    fallen_if (is_starting f.mode) f (goes modes.Sure f) (stays f) (λ is. inl (record { mode = sym (starting_plain f.mode f.joined is); joined = refl; loose = inl (sym (starting_tight f.mode is)); unjoined = λ h never. absurd (false≢true never) })) (λ isnt. same_fall f)
+    fallen_if (is_starting f.mode) f (goes Mode.Sure f) (stays f) (λ is. inl (record { mode = sym (starting_plain f.mode f.joined is); joined = refl; loose = inl (sym (starting_tight f.mode is)); unjoined = λ h never. absurd (false≢true never) })) (λ isnt. same_fall f)
 
-plain_falls : (f : Fall) → Fallen f (if is_starting f.mode && not f.joined then goes modes.Identity f else stays f).0
+plain_falls : (f : Fall) → Fallen f (if is_starting f.mode && not f.joined then goes Mode.Identity f else stays f).0
 plain_falls f =
-    fallen_if (is_starting f.mode && not f.joined) f (goes modes.Identity f) (stays f)
+    fallen_if (is_starting f.mode && not f.joined) f (goes Mode.Identity f) (stays f)
     (λ is. (let parts = and_parts (is_starting f.mode) (not f.joined) is in inr (record { mode = parts.1; was = not_true f.joined parts.1; joined = refl; loose = inl (sym (starting_tight f.mode parts.0)) })))
     (λ isnt. same_fall f)
 
-infinite_falls : (path : ℕ) (sole : Bool) (f : Fall) → Fallen f (fall_step f path sole events.InfiniteHeard).0
+infinite_falls : (path : ℕ) (sole : Bool) (f : Fall) → Fallen f (fall_step f path sole FallEvent.InfiniteHeard).0
 infinite_falls path sole f =
     let falls : Bool = writes_mappings f.mode && not f.joined && is_none f.failed in
-    let last : Fall × Verdict = if falls then goes modes.Identity f else breaks 1 f in
+    let last : Fall × Verdict = if falls then goes Mode.Identity f else breaks 1 f in
     let rest : Fall × Verdict = if sole && is_failed_path f.failed path then goes (receiving f.mode) f else last in
     fallen_if (not (reads_mappings f.mode)) f (stays f) rest (λ is. same_fall f)
     (λ reads. fallen_if (sole && is_failed_path f.failed path) f (goes (receiving f.mode) f) last
     (λ is. inl (record { mode = receiving_plain f.mode f.joined ∙ sym (reads_plain f.mode f.joined (not_twice (reads_mappings f.mode) reads)); joined = refl; loose = inr (receiving_loose f.mode); unjoined = λ h is. absurd (both_ways _ (receiving_apart f.mode) is) }))
-    (λ isnt. fallen_if falls f (goes modes.Identity f) (breaks 1 f)
+    (λ isnt. fallen_if falls f (goes Mode.Identity f) (breaks 1 f)
     (λ is.
     let none = (and_parts (writes_mappings f.mode) (not f.joined) (and_parts (writes_mappings f.mode && not f.joined) (is_none f.failed) is).0).1 in
     inr (record { mode = none; was = not_true f.joined none; joined = refl; loose = inl (sym (reads_tight f.mode (not_twice (reads_mappings f.mode) reads))) }))
     (λ other. same_fall f)))
 
-check_falls : (path : ℕ) (sole : Bool) (f : Fall) → Fallen f (fall_step f path sole events.CheckFailed).0
+check_falls : (path : ℕ) (sole : Bool) (f : Fall) → Fallen f (fall_step f path sole FallEvent.CheckFailed).0
 check_falls path sole f =
-    let noted : Fall × Verdict = (record f { failed = Some path }, verdicts.SendFail) in
+    let noted : Fall × Verdict = (record f { failed = Some path }, Verdict.SendFail) in
     let rest : Fall × Verdict = if sole then noted else breaks 6 f in
     fallen_if (not (reads_mappings f.mode)) f (stays f) rest (λ is. same_fall f)
     (λ reads. fallen_if sole f noted (breaks 6 f) (λ is. inl (record { mode = refl; joined = refl; loose = inl refl; unjoined = λ h. h })) (λ isnt. same_fall f))
 
-fail_falls : (path : ℕ) (sole contiguous : Bool) (f : Fall) → Fallen f (fall_step f path sole (events.FailHeard contiguous)).0
+fail_falls : (path : ℕ) (sole contiguous : Bool) (f : Fall) → Fallen f (fall_step f path sole (FallEvent.FailHeard contiguous)).0
 fail_falls path sole contiguous f =
     let rest : Fall × Verdict = if sole && contiguous then goes (sending f.mode) f else breaks 1 f in
     fallen_if (not (writes_mappings f.mode)) f (stays f) rest (λ is. same_fall f)
@@ -242,46 +171,39 @@ fail_falls path sole contiguous f =
     (λ is. inl (record { mode = sending_plain f.mode f.joined ∙ sym (writes_plain f.mode f.joined (not_twice (writes_mappings f.mode) writes)); joined = refl; loose = inl (sending_loose f.mode (not_twice (writes_mappings f.mode) writes)); unjoined = λ h is. absurd (both_ways _ (sending_apart f.mode) is) }))
     (λ isnt. same_fall f))
 
-keys_falls : (f : Fall) → Fallen f (fall_step f 0 false events.KeysHeard).0
+keys_falls : (f : Fall) → Fallen f (fall_step f 0 false FallEvent.KeysHeard).0
 keys_falls f =
-    let known : Fall × Verdict = (record f { confirmed = true }, verdicts.Stay) in
+    let known : Fall × Verdict = (record f { confirmed = true }, Verdict.Stay) in
     fallen_if (is_identity f.mode) f (stays f) known (λ is. same_fall f) (λ isnt. inl (record { mode = refl; joined = refl; loose = inl refl; unjoined = λ h. h }))
 
 -- where a side is stopped: one that joined nothing may have fallen back before
 aborted_plain : (m : Mode) → false ≡ plain_of m true
-aborted_plain modes.Starting = refl
-aborted_plain modes.Sure = refl
-aborted_plain modes.Identity = refl
-aborted_plain modes.InfiniteSend = refl
-aborted_plain modes.InfiniteReceive = refl
-aborted_plain modes.InfiniteBoth = refl
-aborted_plain modes.Aborted = refl
+aborted_plain Mode.Starting = refl
+aborted_plain _ = refl
 
-stop_falls : (f : Fall) → Fallen f (goes modes.Aborted f).0
+stop_falls : (f : Fall) → Fallen f (goes Mode.Aborted f).0
 stop_falls f = by f.joined
   where
-    by : (joined : Bool) → Fallen (record f { joined = joined }) (goes modes.Aborted (record f { joined = joined })).0
+    by : (joined : Bool) → Fallen (record f { joined = joined }) (goes Mode.Aborted (record f { joined = joined })).0
     by true = inl (record { mode = aborted_plain f.mode; joined = refl; loose = inr refl; unjoined = λ h never. absurd (false≢true never) })
     by false = inr (record { mode = refl; was = refl; joined = refl; loose = inr refl })
 
 pub event_falls : (path : ℕ) (sole : Bool) (event : FallEvent) (f : Fall) → Fallen f (fall_step f path sole event).0
-event_falls path sole events.MappingHeard f = sign_falls f
-event_falls path sole events.AckHeard f = sign_falls f
-event_falls path sole events.PlainHandshake f = plain_falls f
-event_falls path sole events.PlainData f = plain_falls f
-event_falls path sole events.PlainAck f = plain_falls f
-event_falls path sole events.InfiniteHeard f = infinite_falls path sole f
-event_falls path sole events.KeysHeard f = keys_falls f
-event_falls path sole events.CheckFailed f = check_falls path sole f
-event_falls path sole (events.FailHeard contiguous) f = fail_falls path sole contiguous f
-event_falls path sole events.Stop f = stop_falls f
+event_falls path sole FallEvent.MappingHeard f = sign_falls f
+event_falls path sole FallEvent.AckHeard f = sign_falls f
+event_falls path sole FallEvent.InfiniteHeard f = infinite_falls path sole f
+event_falls path sole FallEvent.KeysHeard f = keys_falls f
+event_falls path sole FallEvent.CheckFailed f = check_falls path sole f
+event_falls path sole (FallEvent.FailHeard contiguous) f = fail_falls path sole contiguous f
+event_falls path sole FallEvent.Stop f = stop_falls f
+event_falls path sole _ f = plain_falls f
 
 -- ---- what becomes of a book
 
 -- calls by which a side may fall, may join, or none of that
 abbrev pub Called : ControlCall → Fall → Fall → Type 0
-Called (control_calls.JoinBegin path) f g = SameFall f g ⊎ HasJoined f g
-Called (control_calls.JoinHeard path token) f g = SameFall f g ⊎ HasJoined f g
+Called (ControlCall.JoinBegin path) f g = SameFall f g ⊎ HasJoined f g
+Called (ControlCall.JoinHeard path token) f g = SameFall f g ⊎ HasJoined f g
 Called call f g = Fallen f g
 
 if_fallen : (b : Bool) (f : Fall) (c d : Control) → Fallen f c.fall → Fallen f d.fall → Fallen f (if b then c else d).fall
@@ -293,57 +215,36 @@ if_joined true c d is = inr (is refl)
 if_joined false c d is = inl (record { mode = refl; joined = refl; loose = inl refl; unjoined = λ h. h })
 
 notice_falls : (n : Notice) (path : ℕ) (c : Control) → Fallen c.fall (controlling.after_notice n path c).fall
-notice_falls (notices.Withdraw id) path c = same_fall c.fall
-notice_falls notices.Nothing path c = same_fall c.fall
-notice_falls (notices.Announce id) path c = same_fall c.fall
-notice_falls (notices.Carrier key) path c = same_fall c.fall
-notice_falls notices.Reset path c = same_fall c.fall
+notice_falls (Notice.Withdraw id) path c = same_fall c.fall
+notice_falls _ path c = same_fall c.fall
 
 sure_plain : (m : Mode) (joined : Bool) → control.is_sure m ≡ true → plain_of m joined ≡ false
-sure_plain modes.Starting joined is = refl
-sure_plain modes.Sure joined is = refl
-sure_plain modes.Identity joined is = absurd (false≢true is)
-sure_plain modes.InfiniteSend joined is = refl
-sure_plain modes.InfiniteReceive joined is = refl
-sure_plain modes.InfiniteBoth joined is = refl
-sure_plain modes.Aborted joined is = absurd (false≢true is)
+sure_plain Mode.Identity joined is = absurd (false≢true is)
+sure_plain Mode.Aborted joined is = absurd (false≢true is)
+sure_plain _ joined is = refl
 
 begun_plain : (m : Mode) (joined : Bool) → control.is_starting m || control.is_sure m ≡ true → plain_of m joined ≡ false
-begun_plain modes.Starting joined is = refl
-begun_plain modes.Sure joined is = refl
-begun_plain modes.Identity joined is = absurd (false≢true is)
-begun_plain modes.InfiniteSend joined is = refl
-begun_plain modes.InfiniteReceive joined is = refl
-begun_plain modes.InfiniteBoth joined is = refl
-begun_plain modes.Aborted joined is = absurd (false≢true is)
+begun_plain Mode.Identity joined is = absurd (false≢true is)
+begun_plain Mode.Aborted joined is = absurd (false≢true is)
+begun_plain _ joined is = refl
 
 sure_apart : (m : Mode) → control.is_sure m ≡ true → is_identity m ≡ false
-sure_apart modes.Starting is = refl
-sure_apart modes.Sure is = refl
-sure_apart modes.Identity is = absurd (false≢true is)
-sure_apart modes.InfiniteSend is = refl
-sure_apart modes.InfiniteReceive is = refl
-sure_apart modes.InfiniteBoth is = refl
-sure_apart modes.Aborted is = refl
+sure_apart Mode.Identity is = absurd (false≢true is)
+sure_apart _ is = refl
 
 begun_apart : (m : Mode) → control.is_starting m || control.is_sure m ≡ true → is_identity m ≡ false
-begun_apart modes.Starting is = refl
-begun_apart modes.Sure is = refl
-begun_apart modes.Identity is = absurd (false≢true is)
-begun_apart modes.InfiniteSend is = refl
-begun_apart modes.InfiniteReceive is = refl
-begun_apart modes.InfiniteBoth is = refl
-begun_apart modes.Aborted is = refl
+begun_apart Mode.Identity is = absurd (false≢true is)
+begun_apart _ is = refl
 
 pub call_falls : (c : Control) (call : ControlCall) → Called call c.fall (controlling.after c call).fall
-call_falls c (control_calls.Look path) = notice_falls (control.notice_on c path) path c
-call_falls c (control_calls.PeerKey key) = same_fall c.fall
-call_falls c (control_calls.Keys own other) =
-    if_fallen (own == c.keys.own) c.fall (controlling.after_event 0 false events.KeysHeard (controlling.after_peer_key other c)) c (keys_falls c.fall) (same_fall c.fall)
-call_falls c (control_calls.Fell path event) = event_falls path (sole_path c.paths path) event c.fall
-call_falls c (control_calls.JoinBegin path) =
+call_falls c (ControlCall.Look path) = notice_falls (control.notice_on c path) path c
+call_falls c (ControlCall.PeerKey key) = same_fall c.fall
+call_falls c (ControlCall.Keys own other) =
+    if_fallen (own == c.keys.own) c.fall (controlling.after_event 0 false FallEvent.KeysHeard (controlling.after_peer_key other c)) c (keys_falls c.fall) (same_fall c.fall)
+call_falls c (ControlCall.Fell path event) = event_falls path (sole_path c.paths path) event c.fall
+call_falls c (ControlCall.JoinBegin path) =
     if_joined (control.may_join c) c _ (λ may. let sure = (and_parts (control.is_sure c.fall.mode) (is_none c.fall.failed) may).0 in record { was = sure_plain c.fall.mode c.fall.joined sure; mode = sure_plain c.fall.mode true sure ∙ sym (sure_plain c.fall.mode c.fall.joined sure); joined = refl; loose = inl refl; unjoined = sure_apart c.fall.mode sure })
-call_falls c (control_calls.JoinHeard path token) =
+call_falls c (ControlCall.JoinHeard path token) =
     let begun : Bool = control.is_starting c.fall.mode || control.is_sure c.fall.mode in
     if_joined (token == token_of c.keys.own && c.fall.confirmed && begun) c (controlling.after_join c)
     (λ all.
@@ -354,17 +255,12 @@ call_falls c (control_calls.JoinHeard path token) =
       loose = inl refl;
       unjoined = begun_apart c.fall.mode may;
     })
-call_falls c (control_calls.Live path backup) = same_fall c.fall
-call_falls c (control_calls.Dead path) = same_fall c.fall
-call_falls c (control_calls.Rate path window rtt) = same_fall c.fall
-call_falls c (control_calls.Backup path on) = same_fall c.fall
-call_falls c (control_calls.Announce id) = same_fall c.fall
-call_falls c (control_calls.Withdraw id) = if_fallen _ c.fall _ c (same_fall c.fall) (same_fall c.fall)
-call_falls c (control_calls.Heard id address port hmac) = same_fall c.fall
-call_falls c (control_calls.Echoed id) = if_fallen _ c.fall _ c (same_fall c.fall) (same_fall c.fall)
-call_falls c (control_calls.Removed id) = if_fallen _ c.fall _ c (same_fall c.fall) (same_fall c.fall)
-call_falls c control_calls.FastClose = stop_falls c.fall
-call_falls c (control_calls.FastHeard key) = if_fallen _ c.fall _ c (stop_falls c.fall) (same_fall c.fall)
+call_falls c (ControlCall.Withdraw id) = if_fallen _ c.fall _ c (same_fall c.fall) (same_fall c.fall)
+call_falls c (ControlCall.Echoed id) = if_fallen _ c.fall _ c (same_fall c.fall) (same_fall c.fall)
+call_falls c (ControlCall.Removed id) = if_fallen _ c.fall _ c (same_fall c.fall) (same_fall c.fall)
+call_falls c ControlCall.FastClose = stop_falls c.fall
+call_falls c (ControlCall.FastHeard key) = if_fallen _ c.fall _ c (stop_falls c.fall) (same_fall c.fall)
+call_falls c _ = same_fall c.fall
 
 -- ---- what stays
 
@@ -378,28 +274,14 @@ joined_stays f g (inl same) is = same.mode ∙ is
 joined_stays f g (inr joined) is = joined.mode ∙ is
 
 pub plain_stays : (c : Control) (call : ControlCall) → is_plain c.fall ≡ true → is_plain (controlling.after c call).fall ≡ true
-plain_stays c (control_calls.Look path) is = fallen_stays c.fall _ (call_falls c (control_calls.Look path)) is
-plain_stays c (control_calls.PeerKey key) is = fallen_stays c.fall _ (call_falls c (control_calls.PeerKey key)) is
-plain_stays c (control_calls.Keys own other) is = fallen_stays c.fall _ (call_falls c (control_calls.Keys own other)) is
-plain_stays c (control_calls.Fell path event) is = fallen_stays c.fall _ (call_falls c (control_calls.Fell path event)) is
-plain_stays c (control_calls.JoinBegin path) is = joined_stays c.fall _ (call_falls c (control_calls.JoinBegin path)) is
-plain_stays c (control_calls.JoinHeard path token) is = joined_stays c.fall _ (call_falls c (control_calls.JoinHeard path token)) is
-plain_stays c (control_calls.Live path backup) is = fallen_stays c.fall _ (call_falls c (control_calls.Live path backup)) is
-plain_stays c (control_calls.Dead path) is = fallen_stays c.fall _ (call_falls c (control_calls.Dead path)) is
-plain_stays c (control_calls.Rate path window rtt) is = fallen_stays c.fall _ (call_falls c (control_calls.Rate path window rtt)) is
-plain_stays c (control_calls.Backup path on) is = fallen_stays c.fall _ (call_falls c (control_calls.Backup path on)) is
-plain_stays c (control_calls.Announce id) is = fallen_stays c.fall _ (call_falls c (control_calls.Announce id)) is
-plain_stays c (control_calls.Withdraw id) is = fallen_stays c.fall _ (call_falls c (control_calls.Withdraw id)) is
-plain_stays c (control_calls.Heard id address port hmac) is = fallen_stays c.fall _ (call_falls c (control_calls.Heard id address port hmac)) is
-plain_stays c (control_calls.Echoed id) is = fallen_stays c.fall _ (call_falls c (control_calls.Echoed id)) is
-plain_stays c (control_calls.Removed id) is = fallen_stays c.fall _ (call_falls c (control_calls.Removed id)) is
-plain_stays c control_calls.FastClose is = fallen_stays c.fall _ (call_falls c control_calls.FastClose) is
-plain_stays c (control_calls.FastHeard key) is = fallen_stays c.fall _ (call_falls c (control_calls.FastHeard key)) is
+plain_stays c (ControlCall.JoinBegin path) is = joined_stays c.fall _ (call_falls c (ControlCall.JoinBegin path)) is
+plain_stays c (ControlCall.JoinHeard path token) is = joined_stays c.fall _ (call_falls c (ControlCall.JoinHeard path token)) is
+plain_stays c call is = fallen_stays c.fall _ (call_falls c call) is
 
 -- a side joins by no other calls
 abbrev pub IsNoJoin : ControlCall → Type 0
-IsNoJoin (control_calls.JoinBegin path) = ⊥
-IsNoJoin (control_calls.JoinHeard path token) = ⊥
+IsNoJoin (ControlCall.JoinBegin path) = ⊥
+IsNoJoin (ControlCall.JoinHeard path token) = ⊥
 IsNoJoin call = Unit {0}
 
 fallen_joined : (f g : Fall) → Fallen f g → g.joined ≡ f.joined
@@ -407,23 +289,9 @@ fallen_joined f g (inl same) = same.joined
 fallen_joined f g (inr fell) = fell.joined
 
 pub same_joined : (c : Control) (call : ControlCall) → IsNoJoin call → (controlling.after c call).fall.joined ≡ c.fall.joined
-same_joined c (control_calls.Look path) none = fallen_joined c.fall _ (call_falls c (control_calls.Look path))
-same_joined c (control_calls.PeerKey key) none = fallen_joined c.fall _ (call_falls c (control_calls.PeerKey key))
-same_joined c (control_calls.Keys own other) none = fallen_joined c.fall _ (call_falls c (control_calls.Keys own other))
-same_joined c (control_calls.Fell path event) none = fallen_joined c.fall _ (call_falls c (control_calls.Fell path event))
-same_joined c (control_calls.JoinBegin path) none = absurd none
-same_joined c (control_calls.JoinHeard path token) none = absurd none
-same_joined c (control_calls.Live path backup) none = fallen_joined c.fall _ (call_falls c (control_calls.Live path backup))
-same_joined c (control_calls.Dead path) none = fallen_joined c.fall _ (call_falls c (control_calls.Dead path))
-same_joined c (control_calls.Rate path window rtt) none = fallen_joined c.fall _ (call_falls c (control_calls.Rate path window rtt))
-same_joined c (control_calls.Backup path on) none = fallen_joined c.fall _ (call_falls c (control_calls.Backup path on))
-same_joined c (control_calls.Announce id) none = fallen_joined c.fall _ (call_falls c (control_calls.Announce id))
-same_joined c (control_calls.Withdraw id) none = fallen_joined c.fall _ (call_falls c (control_calls.Withdraw id))
-same_joined c (control_calls.Heard id address port hmac) none = fallen_joined c.fall _ (call_falls c (control_calls.Heard id address port hmac))
-same_joined c (control_calls.Echoed id) none = fallen_joined c.fall _ (call_falls c (control_calls.Echoed id))
-same_joined c (control_calls.Removed id) none = fallen_joined c.fall _ (call_falls c (control_calls.Removed id))
-same_joined c control_calls.FastClose none = fallen_joined c.fall _ (call_falls c control_calls.FastClose)
-same_joined c (control_calls.FastHeard key) none = fallen_joined c.fall _ (call_falls c (control_calls.FastHeard key))
+same_joined c (ControlCall.JoinBegin path) none = absurd none
+same_joined c (ControlCall.JoinHeard path token) none = absurd none
+same_joined c call none = fallen_joined c.fall _ (call_falls c call)
 
 fallen_unjoined : (f g : Fall) → Fallen f g → IsUnjoined f → IsUnjoined g
 fallen_unjoined f g (inl same) h is = same.unjoined h is
@@ -434,59 +302,32 @@ begun_unjoined f g (inl same) h is = same.unjoined h is
 begun_unjoined f g (inr begun) h is = absurd (both_ways _ begun.unjoined is)
 
 pub unjoined_stays : (c : Control) (call : ControlCall) → IsUnjoined c.fall → IsUnjoined (controlling.after c call).fall
-unjoined_stays c (control_calls.Look path) h = fallen_unjoined c.fall _ (call_falls c (control_calls.Look path)) h
-unjoined_stays c (control_calls.PeerKey key) h = fallen_unjoined c.fall _ (call_falls c (control_calls.PeerKey key)) h
-unjoined_stays c (control_calls.Keys own other) h = fallen_unjoined c.fall _ (call_falls c (control_calls.Keys own other)) h
-unjoined_stays c (control_calls.Fell path event) h = fallen_unjoined c.fall _ (call_falls c (control_calls.Fell path event)) h
-unjoined_stays c (control_calls.JoinBegin path) h = begun_unjoined c.fall _ (call_falls c (control_calls.JoinBegin path)) h
-unjoined_stays c (control_calls.JoinHeard path token) h = begun_unjoined c.fall _ (call_falls c (control_calls.JoinHeard path token)) h
-unjoined_stays c (control_calls.Live path backup) h = fallen_unjoined c.fall _ (call_falls c (control_calls.Live path backup)) h
-unjoined_stays c (control_calls.Dead path) h = fallen_unjoined c.fall _ (call_falls c (control_calls.Dead path)) h
-unjoined_stays c (control_calls.Rate path window rtt) h = fallen_unjoined c.fall _ (call_falls c (control_calls.Rate path window rtt)) h
-unjoined_stays c (control_calls.Backup path on) h = fallen_unjoined c.fall _ (call_falls c (control_calls.Backup path on)) h
-unjoined_stays c (control_calls.Announce id) h = fallen_unjoined c.fall _ (call_falls c (control_calls.Announce id)) h
-unjoined_stays c (control_calls.Withdraw id) h = fallen_unjoined c.fall _ (call_falls c (control_calls.Withdraw id)) h
-unjoined_stays c (control_calls.Heard id address port hmac) h = fallen_unjoined c.fall _ (call_falls c (control_calls.Heard id address port hmac)) h
-unjoined_stays c (control_calls.Echoed id) h = fallen_unjoined c.fall _ (call_falls c (control_calls.Echoed id)) h
-unjoined_stays c (control_calls.Removed id) h = fallen_unjoined c.fall _ (call_falls c (control_calls.Removed id)) h
-unjoined_stays c control_calls.FastClose h = fallen_unjoined c.fall _ (call_falls c control_calls.FastClose) h
-unjoined_stays c (control_calls.FastHeard key) h = fallen_unjoined c.fall _ (call_falls c (control_calls.FastHeard key)) h
+unjoined_stays c (ControlCall.JoinBegin path) h = begun_unjoined c.fall _ (call_falls c (ControlCall.JoinBegin path)) h
+unjoined_stays c (ControlCall.JoinHeard path token) h = begun_unjoined c.fall _ (call_falls c (ControlCall.JoinHeard path token)) h
+unjoined_stays c call h = fallen_unjoined c.fall _ (call_falls c call) h
 
 -- a side that is in plain TCP, or may have been before a stop, has joined nothing
 plain_unjoined : (m : Mode) (joined : Bool) → plain_of m joined ≡ true → joined ≡ false
-plain_unjoined modes.Identity joined is = not_true joined is
-plain_unjoined modes.Aborted joined is = not_true joined is
-plain_unjoined modes.Starting joined is = absurd (false≢true is)
-plain_unjoined modes.Sure joined is = absurd (false≢true is)
-plain_unjoined modes.InfiniteSend joined is = absurd (false≢true is)
-plain_unjoined modes.InfiniteReceive joined is = absurd (false≢true is)
-plain_unjoined modes.InfiniteBoth joined is = absurd (false≢true is)
+plain_unjoined Mode.Identity joined is = not_true joined is
+plain_unjoined Mode.Aborted joined is = not_true joined is
+plain_unjoined _ joined is = absurd (false≢true is)
 
 pub fell_unjoined : (f : Fall) → is_plain f ≡ true → f.joined ≡ false
 fell_unjoined f is = plain_unjoined f.mode f.joined is
 
 -- one in plain TCP that joined nothing is
 identity_plain : (m : Mode) (joined : Bool) → is_identity m ≡ true → joined ≡ false → plain_of m joined ≡ true
-identity_plain modes.Identity joined is none = ap not none
-identity_plain modes.Aborted joined is none = absurd (false≢true is)
-identity_plain modes.Starting joined is none = absurd (false≢true is)
-identity_plain modes.Sure joined is none = absurd (false≢true is)
-identity_plain modes.InfiniteSend joined is none = absurd (false≢true is)
-identity_plain modes.InfiniteReceive joined is none = absurd (false≢true is)
-identity_plain modes.InfiniteBoth joined is none = absurd (false≢true is)
+identity_plain Mode.Identity joined is none = ap not none
+identity_plain _ joined is none = absurd (false≢true is)
 
 pub fell_plain : (f : Fall) → IsUnjoined f → is_identity f.mode ≡ true → is_plain f ≡ true
 fell_plain f h is = identity_plain f.mode f.joined is (h is)
 
 -- and is in plain TCP still, or stopped
 plain_or_stopped : (m : Mode) (joined : Bool) → plain_of m joined ≡ true → (is_identity m || control.is_aborted m) ≡ true
-plain_or_stopped modes.Identity joined is = refl
-plain_or_stopped modes.Aborted joined is = refl
-plain_or_stopped modes.Starting joined is = absurd (false≢true is)
-plain_or_stopped modes.Sure joined is = absurd (false≢true is)
-plain_or_stopped modes.InfiniteSend joined is = absurd (false≢true is)
-plain_or_stopped modes.InfiniteReceive joined is = absurd (false≢true is)
-plain_or_stopped modes.InfiniteBoth joined is = absurd (false≢true is)
+plain_or_stopped Mode.Identity joined is = refl
+plain_or_stopped Mode.Aborted joined is = refl
+plain_or_stopped _ joined is = absurd (false≢true is)
 
 pub fell_or_stopped : (f : Fall) → is_plain f ≡ true → (is_identity f.mode || control.is_aborted f.mode) ≡ true
 fell_or_stopped f is = plain_or_stopped f.mode f.joined is
@@ -494,7 +335,7 @@ fell_or_stopped f is = plain_or_stopped f.mode f.joined is
 -- ---- what a verdict tells
 
 abbrev pub tells_fall : Verdict → Bool
-tells_fall v = is_fall (replies.Control (control_replies.Verdict v))
+tells_fall v = is_fall (Reply.Control (ControlReply.Verdict v))
 
 -- where this row tells of a fall, the side is in plain TCP and joined nothing
 abbrev pub RowFalls : Fall × Verdict → Type 0
@@ -504,61 +345,51 @@ row_if : (b : Bool) (x y : Fall × Verdict) → (b ≡ true → RowFalls x) → 
 row_if true x y is isnt = is refl
 row_if false x y is isnt = isnt refl
 
-receiving_tells : (m : Mode) → tells_fall (verdicts.Went (receiving m)) ≡ false
-receiving_tells modes.Starting = refl
-receiving_tells modes.Sure = refl
-receiving_tells modes.Identity = refl
-receiving_tells modes.InfiniteSend = refl
-receiving_tells modes.InfiniteReceive = refl
-receiving_tells modes.InfiniteBoth = refl
-receiving_tells modes.Aborted = refl
+receiving_tells : (m : Mode) → tells_fall (Verdict.Went (receiving m)) ≡ false
+receiving_tells Mode.Starting = refl
+receiving_tells _ = refl
 
-sending_tells : (m : Mode) → tells_fall (verdicts.Went (sending m)) ≡ false
-sending_tells modes.Starting = refl
-sending_tells modes.Sure = refl
-sending_tells modes.Identity = refl
-sending_tells modes.InfiniteSend = refl
-sending_tells modes.InfiniteReceive = refl
-sending_tells modes.InfiniteBoth = refl
-sending_tells modes.Aborted = refl
+sending_tells : (m : Mode) → tells_fall (Verdict.Went (sending m)) ≡ false
+sending_tells Mode.Starting = refl
+sending_tells _ = refl
 
 calm_row : (row : Fall × Verdict) → tells_fall row.1 ≡ false → RowFalls row
 calm_row row calm tells = absurd (false≢true (sym calm ∙ tells))
 
-plain_row : (f : Fall) → RowFalls (if is_starting f.mode && not f.joined then goes modes.Identity f else stays f)
+plain_row : (f : Fall) → RowFalls (if is_starting f.mode && not f.joined then goes Mode.Identity f else stays f)
 plain_row f =
-    row_if (is_starting f.mode && not f.joined) (goes modes.Identity f) (stays f)
+    row_if (is_starting f.mode && not f.joined) (goes Mode.Identity f) (stays f)
     (λ is tells. let none = (and_parts (is_starting f.mode) (not f.joined) is).1 in (none, not_true f.joined none, refl)) (λ isnt. calm_row (stays f) refl)
 
-sign_row : (f : Fall) → RowFalls (if is_starting f.mode then goes modes.Sure f else stays f)
-sign_row f = row_if (is_starting f.mode) (goes modes.Sure f) (stays f) (λ is. calm_row (goes modes.Sure f) refl) (λ isnt. calm_row (stays f) refl)
+sign_row : (f : Fall) → RowFalls (if is_starting f.mode then goes Mode.Sure f else stays f)
+sign_row f = row_if (is_starting f.mode) (goes Mode.Sure f) (stays f) (λ is. calm_row (goes Mode.Sure f) refl) (λ isnt. calm_row (stays f) refl)
 
 pub row_falls : (path : ℕ) (sole : Bool) (event : FallEvent) (f : Fall) → RowFalls (fall_step f path sole event)
-row_falls path sole events.MappingHeard f = sign_row f
-row_falls path sole events.AckHeard f = sign_row f
-row_falls path sole events.PlainHandshake f = plain_row f
-row_falls path sole events.PlainData f = plain_row f
-row_falls path sole events.PlainAck f = plain_row f
-row_falls path sole events.InfiniteHeard f =
+row_falls path sole FallEvent.MappingHeard f = sign_row f
+row_falls path sole FallEvent.AckHeard f = sign_row f
+row_falls path sole FallEvent.PlainHandshake f = plain_row f
+row_falls path sole FallEvent.PlainData f = plain_row f
+row_falls path sole FallEvent.PlainAck f = plain_row f
+row_falls path sole FallEvent.InfiniteHeard f =
     let falls : Bool = writes_mappings f.mode && not f.joined && is_none f.failed in
-    let last : Fall × Verdict = if falls then goes modes.Identity f else breaks 1 f in
+    let last : Fall × Verdict = if falls then goes Mode.Identity f else breaks 1 f in
     let rest : Fall × Verdict = if sole && is_failed_path f.failed path then goes (receiving f.mode) f else last in
     row_if (not (reads_mappings f.mode)) (stays f) rest (λ is. calm_row (stays f) refl)
     (λ reads. row_if (sole && is_failed_path f.failed path) (goes (receiving f.mode) f) last (λ is. calm_row (goes (receiving f.mode) f) (receiving_tells f.mode))
-    (λ isnt. row_if falls (goes modes.Identity f) (breaks 1 f)
+    (λ isnt. row_if falls (goes Mode.Identity f) (breaks 1 f)
     (λ is tells.
     let none = (and_parts (writes_mappings f.mode) (not f.joined) (and_parts (writes_mappings f.mode && not f.joined) (is_none f.failed) is).0).1 in (none, not_true f.joined none, refl))
     (λ other. calm_row (breaks 1 f) refl)))
-row_falls path sole events.KeysHeard f =
-    let known : Fall × Verdict = (record f { confirmed = true }, verdicts.Stay) in
+row_falls path sole FallEvent.KeysHeard f =
+    let known : Fall × Verdict = (record f { confirmed = true }, Verdict.Stay) in
     row_if (is_identity f.mode) (stays f) known (λ is. calm_row (stays f) refl) (λ isnt. calm_row known refl)
-row_falls path sole events.CheckFailed f =
-    let noted : Fall × Verdict = (record f { failed = Some path }, verdicts.SendFail) in
+row_falls path sole FallEvent.CheckFailed f =
+    let noted : Fall × Verdict = (record f { failed = Some path }, Verdict.SendFail) in
     let rest : Fall × Verdict = if sole then noted else breaks 6 f in
     row_if (not (reads_mappings f.mode)) (stays f) rest (λ is. calm_row (stays f) refl)
     (λ reads. row_if sole noted (breaks 6 f) (λ is. calm_row noted refl) (λ isnt. calm_row (breaks 6 f) refl))
-row_falls path sole (events.FailHeard contiguous) f =
+row_falls path sole (FallEvent.FailHeard contiguous) f =
     let rest : Fall × Verdict = if sole && contiguous then goes (sending f.mode) f else breaks 1 f in
     row_if (not (writes_mappings f.mode)) (stays f) rest (λ is. calm_row (stays f) refl)
     (λ writes. row_if (sole && contiguous) (goes (sending f.mode) f) (breaks 1 f) (λ is. calm_row (goes (sending f.mode) f) (sending_tells f.mode)) (λ isnt. calm_row (breaks 1 f) refl))
-row_falls path sole events.Stop f = calm_row (goes modes.Aborted f) refl
+row_falls path sole FallEvent.Stop f = calm_row (goes Mode.Aborted f) refl

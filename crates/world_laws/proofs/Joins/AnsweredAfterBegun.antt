@@ -1,39 +1,12 @@
 -- What is known of the sides that joined: B answers a join after A began one, and an end that may finish, of a path that joins, has
 -- joined. And a side that fell back to plain TCP fell back by its control book, on no path that joins.
-use Rattle.std.proofs.Common.{◌≡◌, refl, sym, ◌∙◌, ap, subst, ℕ, zero, suc, ⊎_elim, ◌+◌, is_some, Bool, true, false, if◌then◌else◌, Option, Some, None, List, [], ◌∷◌, map, nat_lt, arith}
-use Rattle.std.proofs.lemmas.Bool.{false≢true, both_ways, lt-ltb}
-use Rattle.std.specs.List.{slice_get}
-use Rattle.std.specs.Option.{IfSome}
-use Rattle.sides.specs.declared.side.Side.{Side}
-use Rattle.sides.specs.declared.side.Side.TheVariants.{A, B}
-use Rattle.control_book.specs.declared.call.ControlCall.{ControlCall}
-use Rattle.control_book.specs.declared.call.ControlCall.TheVariants as control_calls
-use Rattle.stream_lanes.proofs.Lists.{in_set, in_map}
-use Rattle.join_handshake.specs.declared.hearing.JoinSyn.{JoinSyn as Asked}
-use Rattle.actor_desk.specs.declared.ask.Ask.{Ask}
-use Rattle.actor_desk.specs.declared.ask.Ask.TheVariants as asks
-use Rattle.actor_desk.specs.declared.ask.Reply.{Reply}
-use Rattle.actor_desk.specs.Books.{books_in}
-use Rattle.actor_desk.specs.Desk.{SixBooks, reply_of, after_ask}
-use Rattle.path_agenda.specs.declared.duty.Duty.{Duty}
-use Rattle.path_agenda.specs.declared.duty.Duty.TheVariants as duties
-use Rattle.path_agenda.specs.declared.duty.AskDuty.TheVariants as ask_duties
-use Rattle.path_agenda.specs.declared.duty.StepDuty.TheVariants as step_duties
-use Rattle.path_agenda.specs.declared.heard.Heard.TheVariants as says
-use Rattle.path_core.specs.Choices.{item_at}
-use Rattle.path_core.specs.MpJoin.{asked_at, is_joined}
-use Rattle.path_core.specs.State.{PathState, end_at}
-use Rattle.path_core.specs.Turns.{FirstStands}
-use Rattle.path_core.specs.Values.{Carried, values}
-use Rattle.subflow_tcp.specs.declared.handshake.State.{State as EndPhase}
-use Rattle.subflow_tcp.specs.declared.handshake.State.TheVariants as phase
-use Rattle.subflow_tcp.specs.States.{may_finish}
-use Rattle.world_laws.specs.declared.member.Member.TheVariants.{App, Path}
-use Rattle.world_laws.specs.Actors.{Actor, ActorCrew, member_asks, member_takes, member_next}
-use Rattle.world_laws.specs.Laws.{Always}
-use Rattle.path_core.specs.Start.{waiting_path}
-use Rattle.world_laws.specs.Openings.{Start, path_begins, opened_world}
-use Rattle.world_laws.specs.Worlds.{WorldState, Turn, crew_after, asked, stepped, all_over, greatest, begins, after_turn, world_run}
+use Rattle.world_laws.proofs.Words.{◌≡◌, refl, sym, ◌∙◌, ap, subst, ℕ, zero, suc, ◌+◌, nat_lt, ⊎_elim, Bool, true, false, Option, Some, None}
+use Rattle.world_laws.proofs.Words.{List, [], ◌∷◌, arith, is_some, lt-ltb, both_ways, false≢true, slice_get, IfSome, Side, A, B, Asked, ControlCall}
+use Rattle.world_laws.proofs.Words.{may_finish, EndPhase, Duty, StepDuty, AskDuty, Heard, Ask, Reply, books_in, SixBooks, reply_of, after_ask, waiting_path}
+use Rattle.world_laws.proofs.Words.{PathState, end_at, FirstStands, Carried, values, asked_at, is_joined, item_at, in_map, in_set, App, Path, Actor, ActorCrew}
+use Rattle.world_laws.proofs.Words.{member_takes, member_next, Always, Start, path_begins, opened_world, WorldState, Turn, crew_after, asked}
+use Rattle.world_laws.proofs.Words.{greatest, begins, after_turn, world_run}
+use Rattle.world_laws.proofs.Worlds.Turns.{turn_so}
 use Rattle.world_laws.proofs.Weaving.Journals.{books_after}
 use Rattle.world_laws.proofs.Falls.WhereASideStands.{IsNoJoin, same_joined}
 use Rattle.world_laws.proofs.Keys.AreDrawn.{is_past, ItemIs}
@@ -49,8 +22,8 @@ use Rattle.world_laws.proofs.Rounds.Frame.{takes_keeps, first_keeps}
 
 -- what its first duty needs: B hears of a join that A began, and a side falls that is to
 abbrev pub DutyJoined : SixBooks → Duty → Type 0
-DutyJoined six (duties.Ask (ask_duties.JoinHeard B)) = six.control_a.fall.joined ≡ true
-DutyJoined six (duties.Ask (ask_duties.GoIdentity s)) = FellBack six s
+DutyJoined six (Duty.Ask (AskDuty.JoinHeard B)) = six.control_a.fall.joined ≡ true
+DutyJoined six (Duty.Ask (AskDuty.GoIdentity s)) = FellBack six s
 DutyJoined six _ = Unit {0}
 
 pub record PathJoined (six : SixBooks) (number : ℕ) (p : PathState Carried) : Type 0 where
@@ -71,38 +44,24 @@ pub record JoinedSo (w : WorldState Carried) : Type 0 where
 -- ---- B after A
 
 module _ (key_a key_b : ℕ) where
-  same_at_b : (six : SixBooks) (call : ControlCall) → KeysAsk key_a key_b false six (asks.Control B call) → IsNoJoin call
-      → (Joined six B → Joined six A) → Joined (after_ask (asks.Control B call) six) B → Joined (after_ask (asks.Control B call) six) A
+  same_at_b : (six : SixBooks) (call : ControlCall) → KeysAsk key_a key_b false six (Ask.Control B call) → IsNoJoin call
+      → (Joined six B → Joined six A) → Joined (after_ask (Ask.Control B call) six) B → Joined (after_ask (Ask.Control B call) six) A
   same_at_b six call ask none order is = order (sym (same_joined six.control_b call none) ∙ is)
 
-  at_b : (six : SixBooks) (call : ControlCall) → KeysAsk key_a key_b false six (asks.Control B call)
-      → (Joined six B → Joined six A) → Joined (after_ask (asks.Control B call) six) B → Joined (after_ask (asks.Control B call) six) A
-  at_b six (control_calls.Look path) ask order is = same_at_b six (control_calls.Look path) ask tt order is
-  at_b six (control_calls.PeerKey key) ask order is = same_at_b six (control_calls.PeerKey key) ask tt order is
-  at_b six (control_calls.Keys own other) ask order is = same_at_b six (control_calls.Keys own other) ask tt order is
-  at_b six (control_calls.Fell path event) ask order is = same_at_b six (control_calls.Fell path event) ask tt order is
-  at_b six (control_calls.JoinBegin path) ask order is = cc
-  at_b six (control_calls.JoinHeard path token) ask order is = ask.1.0
-  at_b six (control_calls.Live path backup) ask order is = same_at_b six (control_calls.Live path backup) ask tt order is
-  at_b six (control_calls.Dead path) ask order is = same_at_b six (control_calls.Dead path) ask tt order is
-  at_b six (control_calls.Rate path window rtt) ask order is = same_at_b six (control_calls.Rate path window rtt) ask tt order is
-  at_b six (control_calls.Backup path on) ask order is = same_at_b six (control_calls.Backup path on) ask tt order is
-  at_b six (control_calls.Announce id) ask order is = same_at_b six (control_calls.Announce id) ask tt order is
-  at_b six (control_calls.Withdraw id) ask order is = same_at_b six (control_calls.Withdraw id) ask tt order is
-  at_b six (control_calls.Heard id address port hmac) ask order is = same_at_b six (control_calls.Heard id address port hmac) ask tt order is
-  at_b six (control_calls.Echoed id) ask order is = same_at_b six (control_calls.Echoed id) ask tt order is
-  at_b six (control_calls.Removed id) ask order is = same_at_b six (control_calls.Removed id) ask tt order is
-  at_b six control_calls.FastClose ask order is = same_at_b six control_calls.FastClose ask tt order is
-  at_b six (control_calls.FastHeard key) ask order is = same_at_b six (control_calls.FastHeard key) ask tt order is
+  at_b : (six : SixBooks) (call : ControlCall) → KeysAsk key_a key_b false six (Ask.Control B call)
+      → (Joined six B → Joined six A) → Joined (after_ask (Ask.Control B call) six) B → Joined (after_ask (Ask.Control B call) six) A
+  at_b six (ControlCall.JoinBegin path) ask order is = cc
+  at_b six (ControlCall.JoinHeard path token) ask order is = ask.1.0
+  at_b six call ask order is = same_at_b six call ask tt order is
 
   after_order : (six : SixBooks) (x : Ask) → KeysAsk key_a key_b false six x → (Joined six B → Joined six A) → Joined (after_ask x six) B → Joined (after_ask x six) A
-  after_order six (asks.Control A call) ask order is = joined_stays key_a key_b false six (asks.Control A call) A (order is)
-  after_order six (asks.Control B call) ask order is = at_b six call ask order is
-  after_order six (asks.Send A call) ask order is = order is
-  after_order six (asks.Send B call) ask order is = order is
-  after_order six (asks.Reassembly A call) ask order is = order is
-  after_order six (asks.Reassembly B call) ask order is = order is
-  after_order six (asks.Local step) ask order is = order is
+  after_order six (Ask.Control A call) ask order is = joined_stays key_a key_b false six (Ask.Control A call) A (order is)
+  after_order six (Ask.Control B call) ask order is = at_b six call ask order is
+  after_order six (Ask.Send A call) ask order is = order is
+  after_order six (Ask.Send B call) ask order is = order is
+  after_order six (Ask.Reassembly A call) ask order is = order is
+  after_order six (Ask.Reassembly B call) ask order is = order is
+  after_order six (Ask.Local step) ask order is = order is
 
 -- ---- the number of a path
 
@@ -133,39 +92,28 @@ pub record Order (start : Start) (w : WorldState Carried) : Type 0 where
   pub numbered : (actor : ℕ) (c : ActorCrew Carried) → slice_get w.crew actor ≡ Some c → IsNumbered actor c.member
 
 pub turn_order : (start : Start) (turn : Turn) (w : WorldState Carried) → Order start w → Order start (after_turn values turn w)
-turn_order start (Turn.Step actor) w h = by (slice_get w.crew actor) refl (turn_keys start.key_a start.key_b false (Turn.Step actor) w (λ right. absurd (false≢true right)) h.known)
-  where
-    asking : (c : ActorCrew Carried) → slice_get w.crew actor ≡ Some c → (o : Option Ask) → member_asks values c.member ≡ o
-        → WorldIs start.key_a start.key_b false (asked values actor o c w) → Order start (asked values actor o c w)
-    asking c there None is known = h
-    asking c there (Some x) is known =
-        let six = books_in w.books in
-        let now : books_in (asked values actor (Some x) c w).books ≡ after_ask x six = books_after x c.pass w.books in
-        record {
-          known = known;
-          order = subst (λ (y : SixBooks). Joined y B → Joined y A) (sym now)
-              (after_order start.key_a start.key_b six x (member_asks_are start.key_a start.key_b false six c.member x (h.known.crew.each actor c there) is) h.order);
-          numbered = λ i d at. ⊎_elim
-              (λ here. subst (λ y. IsNumbered i y.member) here.1 (subst (λ n. IsNumbered n (member_takes values (reply_of six x) c.member)) (sym here.0)
-              (takes_numbered actor (reply_of six x) c.member (h.numbered actor c there))))
-              (λ other. h.numbered i d other.1)
-              (in_set w.crew actor (crew_after values x w.books c) i d at);
-        }
-
-    by : (o : Option (ActorCrew Carried)) → slice_get w.crew actor ≡ o → WorldIs start.key_a start.key_b false (stepped values actor o w) → Order start (stepped values actor o w)
-    by None there known = h
-    by (Some c) there known = asking c there (member_asks values c.member) refl known
-turn_order start Turn.Round w h = by (all_over w.crew) (turn_keys start.key_a start.key_b false Turn.Round w (λ right. absurd (false≢true right)) h.known)
-  where
-    by : (b : Bool) → WorldIs start.key_a start.key_b false (if b then record w { crew = map (begins (greatest 0 w.crew)) w.crew } else w)
-        → Order start (if b then record w { crew = map (begins (greatest 0 w.crew)) w.crew } else w)
-    by true known = record {
+turn_order start turn w h =
+    turn_so values (λ v. WorldIs start.key_a start.key_b false v → Order start v) turn w (λ known. h)
+    (λ actor c x there is known.
+    let six = books_in w.books in
+    let now : books_in (asked values actor (Some x) c w).books ≡ after_ask x six = books_after x c.pass w.books in
+    record {
+      known = known;
+      order = subst (λ (y : SixBooks). Joined y B → Joined y A) (sym now)
+          (after_order start.key_a start.key_b six x (member_asks_are start.key_a start.key_b false six c.member x (h.known.crew.each actor c there) is) h.order);
+      numbered = λ i d at. ⊎_elim
+          (λ here. subst (λ y. IsNumbered i y.member) here.1 (subst (λ n. IsNumbered n (member_takes values (reply_of six x) c.member)) (sym here.0)
+          (takes_numbered actor (reply_of six x) c.member (h.numbered actor c there))))
+          (λ other. h.numbered i d other.1)
+          (in_set w.crew actor (crew_after values x w.books c) i d at);
+    })
+    (λ over known. record {
       known = known;
       order = h.order;
       numbered = λ i d at. let found = in_map (begins (greatest 0 w.crew)) w.crew i d at in
           subst (λ y. IsNumbered i y.member) found.2 (next_numbered i found.0.member (h.numbered i found.0 found.1));
-    }
-    by false known = h
+    })
+    (turn_keys start.key_a start.key_b false turn w (λ right. absurd (false≢true right)) h.known)
 
 run_order : (start : Start) (turns : List Turn) (w : WorldState Carried) → Order start w → Order start (world_run values turns w)
 run_order start [] w h = h
@@ -182,9 +130,9 @@ opened_order start = record {
 -- ---- what follows
 
 pub finish_past : (state : EndPhase) → may_finish state ≡ true → is_past state ≡ true
-finish_past phase.Established is = refl
-finish_past phase.CloseWait is = refl
-finish_past phase.Waiting is = absurd (false≢true is)
+finish_past EndPhase.Established is = refl
+finish_past EndPhase.CloseWait is = refl
+finish_past EndPhase.Waiting is = absurd (false≢true is)
 finish_past _ is = absurd (false≢true is)
 
 module _ (key_a key_b number : ℕ) (six : SixBooks) (p : PathState Carried) (numbered : p.profile.spelling.path ≡ number) (h : PathKeys key_a key_b false six p) where
@@ -196,23 +144,23 @@ module _ (key_a key_b number : ℕ) (six : SixBooks) (p : PathState Carried) (nu
   asks_join (Some asked) some is = is.1.1.0
 
   duty_joined : (d : Duty) (ds : List Duty) → p.agenda ≡ d ∷ ds → FirstStands (d ∷ ds) p → DutyJoined six d
-  duty_joined (duties.Ask (ask_duties.JoinHeard B)) ds is first =
+  duty_joined (Duty.Ask (AskDuty.JoinHeard B)) ds is first =
       asks_join (asked_at B p) first (asked_is (with_nonces key_a key_b false h.nonce_a h.nonce_b) false (Joined six) (Past six NoMore) (is_joined p.profile) B p.b.treated.items h.is.b.items)
-  duty_joined (duties.Ask (ask_duties.JoinHeard A)) ds is first = tt
-  duty_joined (duties.Ask (ask_duties.GoIdentity s)) ds is first =
-      (h.is.known (Voice.Falls s) (subst (λ xs. speaks (Voice.Falls s) xs ≡ true) (sym is) (first_speaks (Voice.Falls s) (duties.Ask (ask_duties.GoIdentity s)) ds (itself s)))).1.0
-  duty_joined (duties.Step step_duties.Events) ds is first = tt
+  duty_joined (Duty.Ask (AskDuty.JoinHeard A)) ds is first = tt
+  duty_joined (Duty.Ask (AskDuty.GoIdentity s)) ds is first =
+      (h.is.known (Voice.Falls s) (subst (λ xs. speaks (Voice.Falls s) xs ≡ true) (sym is) (first_speaks (Voice.Falls s) (Duty.Ask (AskDuty.GoIdentity s)) ds (itself s)))).1.0
+  duty_joined (Duty.Step StepDuty.Events) ds is first = tt
   duty_joined _ ds is first = tt
 
   -- MP_FAIL of B is sent where B joined, and what B's end hears it hears where B joined
-  hears_fail : (s : Side) (index n : ℕ) → number ≡ suc n → speaks (Voice.Says s) p.agenda ≡ true → item_at index (end_at s p).treated.items ≡ Some says.Fail → Joined six B
+  hears_fail : (s : Side) (index n : ℕ) → number ≡ suc n → speaks (Voice.Says s) p.agenda ≡ true → item_at index (end_at s p).treated.items ≡ Some Heard.Fail → Joined six B
   hears_fail A index n is spoken fail =
       subst (λ o. IfSome o (ItemIs (with_nonces key_a key_b false h.nonce_a h.nonce_b) false (Joined six) (Past six NoMore) (is_joined p.profile) A)) fail (every_item index p.a.treated.items h.is.a.items) (joins_at n is)
   hears_fail B index n is spoken fail = (h.is.known (Voice.Says B) spoken (joins_at n is)).0
 
   fails_joined : (d : Duty) (ds : List Duty) → p.agenda ≡ d ∷ ds → FailsJoined six number p d
-  fails_joined (duties.Step (step_duties.Heard s index)) ds is = λ n suc_n fail. hears_fail s index n suc_n
-      (subst (λ xs. speaks (Voice.Says s) xs ≡ true) (sym is) (first_speaks (Voice.Says s) (duties.Step (step_duties.Heard s index)) ds (itself s))) fail
+  fails_joined (Duty.Step (StepDuty.Heard s index)) ds is = λ n suc_n fail. hears_fail s index n suc_n
+      (subst (λ xs. speaks (Voice.Says s) xs ≡ true) (sym is) (first_speaks (Voice.Says s) (Duty.Step (StepDuty.Heard s index)) ds (itself s))) fail
   fails_joined _ ds is = tt
 
   path_joined : PathJoined six number p

@@ -1,57 +1,21 @@
 -- A path that joins the connection does nothing before it is begun, and nothing where it died before: its ends say nothing, nothing
 -- is under way, no timer runs, and what it has to do comes to nothing, but that it asks whether it may begin.
-use Rattle.std.proofs.Common.{◌≡◌, refl, sym, ◌∙◌, ap, subst, ℕ, ◌+◌, not, is_none, ◌&&◌, ◌||◌, nat_lt, nat_le, Bool, true, false, if◌then◌else◌, Option, Some, None, List, [], ◌∷◌, ◌++◌}
-use Rattle.std.proofs.lemmas.Bool.{and_parts, and_from, false≢true}
-use Rattle.std.proofs.lemmas.Option.{same_Some}
-use Rattle.std.specs.List.{list_all}
-use Rattle.std.specs.Option.{IfSome, option_and_then}
-use Rattle.sides.specs.declared.side.Side.{Side}
-use Rattle.sides.specs.declared.side.Side.TheVariants.{A, B}
-use Rattle.link_script.specs.declared.script.ScriptLine.{ScriptLine}
-use Rattle.link_model.specs.Steps.{next_due}
-use Rattle.subflow_send.specs.Records.{Record}
-use Rattle.subflow_tcp.specs.declared.handshake.State.{State as EndPhase}
-use Rattle.subflow_tcp.specs.declared.handshake.State.TheVariants as phase
-use Rattle.subflow_tcp.specs.State.{has_records}
-use Rattle.subflow_tcp.specs.States.{is_closed_to_segments, is_opening, is_dead, is_waiting as is_waiting_phase, may_finish}
+use Rattle.world_laws.proofs.Words.{◌≡◌, refl, sym, ◌∙◌, ap, subst, ℕ, ◌+◌, ◌&&◌, ◌||◌, not, nat_lt, nat_le, Bool, true, false, if◌then◌else◌, Option, Some}
+use Rattle.world_laws.proofs.Words.{None, List, [], ◌∷◌, ◌++◌, is_none, and_parts, and_from, false≢true, same_Some, list_all, IfSome, option_and_then, Side, A}
+use Rattle.world_laws.proofs.Words.{B, ScriptLine, Control, is_sure, join_waits, begin, join_begin_reply, Record, is_closed_to_segments, is_opening, is_dead}
+use Rattle.world_laws.proofs.Words.{is_waiting_phase, may_finish, has_records, EndPhase, next_due, LineAction, LineLeft, rest_of_turn, emission, leaves}
+use Rattle.world_laws.proofs.Words.{start_of_turn, Duty, SendDuty, StepDuty, AskDuty, SilentDuty, replaced, Ask, Reply, SixBooks, reply_of, tail_of, Codec}
+use Rattle.world_laws.proofs.Words.{stands, ask_for, passed, answered, PathEnd, died, after_look, is_connected, may_note, after_ack_out, PathStart, first_state}
+use Rattle.world_laws.proofs.Words.{waiting_path, first_turn, at_tick, PathState, end_at, goes_on, with_end, with_agenda, left, path_of, settled, settles_down}
+use Rattle.world_laws.proofs.Words.{answers, asks_of, asks_first, takes, next_round, FirstStands, IsSettled, died_unless_dead, leaves_unless_dead, data_stands}
+use Rattle.world_laws.proofs.Words.{first_unsent, data_ask, tick_of, next_join, next_line, next_copy, earlier, next_event, step_for, after_line, happens}
+use Rattle.world_laws.proofs.Words.{happens_if, join_begun, never_joined, is_never, keys_begun, opened_by, after_timer, next_fire, with_priority, Profile}
+use Rattle.world_laws.proofs.Words.{if_so}
 use Rattle.loss_recovery.specs.Timers.{timer_settled}
 use Rattle.control_book.specs.declared.call.ControlReply.TheVariants.{NotYet, Never}
-use Rattle.control_book.specs.Control.{Control}
-use Rattle.control_book.specs.Replies.{is_sure, join_waits, begin, join_begin_reply}
-use Rattle.actor_desk.specs.declared.ask.Ask.{Ask}
-use Rattle.actor_desk.specs.declared.ask.Reply.{Reply}
-use Rattle.actor_desk.specs.declared.ask.Reply.TheVariants as replies
-use Rattle.actor_desk.specs.Desk.{SixBooks, reply_of}
-use Rattle.actor_desk.specs.Words.{tail_of}
-use Rattle.path_agenda.specs.declared.duty.Duty.{Duty}
-use Rattle.path_agenda.specs.declared.duty.Duty.TheVariants as duties
-use Rattle.path_agenda.specs.declared.duty.AskDuty.TheVariants as ask_duties
-use Rattle.path_agenda.specs.declared.duty.SendDuty.TheVariants as send_duties
-use Rattle.path_agenda.specs.declared.duty.SilentDuty.TheVariants as silent_duties
-use Rattle.path_agenda.specs.declared.duty.StepDuty.TheVariants as step_duties
 use Rattle.path_core.specs.declared.events.Event.{Event}
-use Rattle.path_core.specs.declared.events.Event.TheVariants as happenings
-use Rattle.path_agenda.specs.Agenda.{rest_of_turn, emission, leaves, start_of_turn}
-use Rattle.path_agenda.specs.Words.{replaced}
-use Rattle.path_store.specs.declared.lines.LineLeft.{LineLeft}
 use Rattle.path_core.specs.DataFin.{is_waiting}
-use Rattle.path_core.specs.Codec.{Codec}
-use Rattle.path_core.specs.Duties.{stands, ask_for, passed, answered}
-use Rattle.path_core.specs.Emission.{first_unsent, data_stands, data_ask}
-use Rattle.path_core.specs.Timer.{after_timer, next_fire}
-use Rattle.path_core.specs.End.{PathEnd, died}
-use Rattle.path_core.specs.Events.{tick_of, next_join, next_line, next_copy, earlier, before, next_event, step_for, after_line, happens, happens_if}
-use Rattle.path_core.specs.Breaking.{died_unless_dead, leaves_unless_dead}
-use Rattle.path_core.specs.MpJoin.{join_begun, never_joined, keys_begun, is_never, opened_by}
-use Rattle.path_core.specs.State.{at_tick, PathState, end_at, goes_on, with_end, with_agenda, left, path_of}
-use Rattle.path_core.specs.Addresses.{with_priority}
-use Rattle.path_store.specs.declared.lines.LineAction.{LineAction}
-use Rattle.path_store.specs.declared.lines.LineAction.TheVariants as actions
-use Rattle.path_core.specs.Standing.{after_look, after_ack_out, is_connected, may_note}
-use Rattle.path_core.specs.Start.{PathStart, first_state, waiting_path, first_turn}
-use Rattle.path_core.specs.Profile.{Profile}
-use Rattle.path_core.specs.Steps.{settled, settles_down, asks_first, asks_of, answers, takes, next_round}
-use Rattle.path_core.specs.Turns.{FirstStands, IsSettled}
+use Rattle.path_core.specs.Events.{before}
 
 -- ---- an end
 
@@ -61,11 +25,11 @@ pub record IsShut (e : PathEnd) : Type 0 where
   pub timer : e.tcp.timing.timer ≡ None
 
 -- such an end is in no state in which it would say something
-module _ (P : EndPhase → Bool) (waiting : P phase.Waiting ≡ false) (listen : P phase.Listen ≡ false) (dead : P phase.Dead ≡ false) where
+module _ (P : EndPhase → Bool) (waiting : P EndPhase.Waiting ≡ false) (listen : P EndPhase.Listen ≡ false) (dead : P EndPhase.Dead ≡ false) where
   shut_is : (state : EndPhase) → is_closed_to_segments state ≡ true → P state ≡ false
-  shut_is phase.Waiting is = waiting
-  shut_is phase.Listen is = listen
-  shut_is phase.Dead is = dead
+  shut_is EndPhase.Waiting is = waiting
+  shut_is EndPhase.Listen is = listen
+  shut_is EndPhase.Dead is = dead
   shut_is _ is = absurd (false≢true is)
 
 pub never_finishes : (e : PathEnd) → IsShut e → may_finish e.tcp.state ≡ false
@@ -87,11 +51,7 @@ no_data c s e (Some r) h stands = no (not (is_closed_to_segments e.tcp.state)) _
 no_data c s e None h stands = no (may_finish e.tcp.state) _ (never_finishes e h) stands
 
 died_shut : (e : PathEnd) → IsShut e → IsShut (died_unless_dead e)
-died_shut e h = by (is_dead e.tcp.state)
-  where
-    by : (b : Bool) → IsShut (if b then e else died e)
-    by true = h
-    by false = record { closed = refl; timer = refl }
+died_shut e h = if_so IsShut (is_dead e.tcp.state) e (died e) h (record { closed = refl; timer = refl })
 
 -- no timer is started
 timed_shut : (now : ℕ) (e : PathEnd) → IsShut e → IsShut (after_timer now e)
@@ -104,25 +64,25 @@ timed_shut now e h = record {
 
 -- it comes to nothing at such an end, or tells the books nothing but how it stands
 abbrev pub is_idle : Duty → Bool
-is_idle (duties.Ask ask_duties.JoinAgain) = true
-is_idle (duties.Step (step_duties.Look s)) = true
-is_idle (duties.Ask (ask_duties.Window s)) = true
-is_idle (duties.Send (send_duties.Update s)) = true
-is_idle (duties.Send (send_duties.FastClose s)) = true
-is_idle (duties.Send (send_duties.Notice s)) = true
-is_idle (duties.Send (send_duties.Syn s)) = true
-is_idle (duties.Step (step_duties.Data s)) = true
-is_idle (duties.Send (send_duties.DataFin s)) = true
-is_idle (duties.Send (send_duties.Fin s)) = true
-is_idle (duties.Silent (silent_duties.Timer s)) = true
-is_idle (duties.Step step_duties.Events) = true
-is_idle (duties.Ask (ask_duties.Leave s)) = true
-is_idle (duties.Ask (ask_duties.LeaveNoted s)) = true
-is_idle (duties.Send (send_duties.ResetNoted s)) = true
-is_idle (duties.Ask (ask_duties.Announce s id)) = true
-is_idle (duties.Ask (ask_duties.Withdraw s id)) = true
-is_idle (duties.Ask (ask_duties.Dead s)) = true
-is_idle duties.End = true
+is_idle (Duty.Ask AskDuty.JoinAgain) = true
+is_idle (Duty.Step (StepDuty.Look s)) = true
+is_idle (Duty.Ask (AskDuty.Window s)) = true
+is_idle (Duty.Send (SendDuty.Update s)) = true
+is_idle (Duty.Send (SendDuty.FastClose s)) = true
+is_idle (Duty.Send (SendDuty.Notice s)) = true
+is_idle (Duty.Send (SendDuty.Syn s)) = true
+is_idle (Duty.Step (StepDuty.Data s)) = true
+is_idle (Duty.Send (SendDuty.DataFin s)) = true
+is_idle (Duty.Send (SendDuty.Fin s)) = true
+is_idle (Duty.Silent (SilentDuty.Timer s)) = true
+is_idle (Duty.Step StepDuty.Events) = true
+is_idle (Duty.Ask (AskDuty.Leave s)) = true
+is_idle (Duty.Ask (AskDuty.LeaveNoted s)) = true
+is_idle (Duty.Send (SendDuty.ResetNoted s)) = true
+is_idle (Duty.Ask (AskDuty.Announce s id)) = true
+is_idle (Duty.Ask (AskDuty.Withdraw s id)) = true
+is_idle (Duty.Ask (AskDuty.Dead s)) = true
+is_idle Duty.End = true
 is_idle _ = false
 
 abbrev pub AreIdle : List Duty → Type 0
@@ -136,7 +96,7 @@ replaced_idle : (d : Duty) (ds : List Duty) → is_idle d ≡ true → AreIdle d
 replaced_idle d [] idle h = refl
 replaced_idle d (e ∷ ds) idle h = and_from (is_idle d) (list_all is_idle ds) idle (and_parts (is_idle e) (list_all is_idle ds) h).1
 
-left_over : (s : Side) (b : Bool) (ds : List Duty) → AreIdle ds → AreIdle ((if b then [] else duties.Ask (ask_duties.Leave s) ∷ []) ++ ds)
+left_over : (s : Side) (b : Bool) (ds : List Duty) → AreIdle ds → AreIdle ((if b then [] else Duty.Ask (AskDuty.Leave s) ∷ []) ++ ds)
 left_over s true ds h = h
 left_over s false ds h = h
 
@@ -144,8 +104,8 @@ left_over s false ds h = h
 
 -- the path's join, or a line of the script
 abbrev pub is_own : Event → Bool
-is_own (happenings.Joins tick) = true
-is_own (happenings.Takes line) = true
+is_own (Event.Joins tick) = true
+is_own (Event.Takes line) = true
 is_own _ = false
 
 abbrev pub IsOwn : Option Event → Type 0
@@ -154,27 +114,15 @@ IsOwn o = IfSome o (λ event. is_own event ≡ true)
 earlier_own : (x y : Option Event) → IsOwn x → IsOwn y → IsOwn (earlier x y)
 earlier_own None y own_x own_y = own_y
 earlier_own (Some x) None own_x own_y = own_x
-earlier_own (Some x) (Some y) own_x own_y = by (nat_le (tick_of x) (tick_of y))
-  where
-    by : (b : Bool) → IsOwn (if b then Some x else Some y)
-    by true = own_x
-    by false = own_y
+earlier_own (Some x) (Some y) own_x own_y = if_so IsOwn (nat_le (tick_of x) (tick_of y)) (Some x) (Some y) own_x own_y
 
 before_own : (until : ℕ) (o : Option Event) → IsOwn o → IsOwn (option_and_then (before until) o)
 before_own until None own = tt
-before_own until (Some event) own = by (nat_lt (tick_of event) until)
-  where
-    by : (b : Bool) → IsOwn (if b then Some event else None)
-    by true = own
-    by false = tt
+before_own until (Some event) own = if_so IsOwn (nat_lt (tick_of event) until) (Some event) None own tt
 
 join_own : (state : EndPhase) (joined_at : Option ℕ) → IsOwn (next_join state joined_at)
 join_own state None = tt
-join_own state (Some tick) = by (is_waiting_phase state)
-  where
-    by : (b : Bool) → IsOwn (if b then Some (happenings.Joins tick) else None)
-    by true = refl
-    by false = tt
+join_own state (Some tick) = if_so IsOwn (is_waiting_phase state) (Some (Event.Joins tick)) None refl tt
 
 line_own : (lines : List LineLeft) → IsOwn (next_line lines)
 line_own [] = tt
@@ -183,21 +131,18 @@ line_own (line ∷ lines) = refl
 -- ---- what it is answered
 
 -- as long as A's side isn't sure no join is begun
-unsure_begin : (c : Control) → is_sure c.fall.mode ≡ false → keys_begun (replies.Control (join_begin_reply c)) ≡ None
+unsure_begin : (c : Control) → is_sure c.fall.mode ≡ false → keys_begun (Reply.Control (join_begin_reply c)) ≡ None
 unsure_begin c unsure =
-    ap (λ (b : Bool). keys_begun (replies.Control (if b && is_none c.fall.failed then begin c else (if join_waits c then NotYet else Never c.fall.mode)))) unsure
+    ap (λ (b : Bool). keys_begun (Reply.Control (if b && is_none c.fall.failed then begin c else (if join_waits c then NotYet else Never c.fall.mode)))) unsure
     ∙ by (join_waits c)
   where
-    by : (b : Bool) → keys_begun (replies.Control (if b then NotYet else Never c.fall.mode)) ≡ None
+    by : (b : Bool) → keys_begun (Reply.Control (if b then NotYet else Never c.fall.mode)) ≡ None
     by true = refl
     by false = refl
 
 unsure_step : (six : SixBooks) (path : ℕ) (o : Option Event) → is_sure six.control_a.fall.mode ≡ false → IsOwn o → keys_begun (reply_of six (step_for path o)) ≡ None
-unsure_step six path None unsure own = refl
-unsure_step six path (Some (happenings.Joins tick)) unsure own = unsure_begin six.control_a unsure
-unsure_step six path (Some (happenings.Takes line)) unsure own = refl
-unsure_step six path (Some (happenings.Arrives due)) unsure own = refl
-unsure_step six path (Some (happenings.Fires s tick)) unsure own = refl
+unsure_step six path (Some (Event.Joins tick)) unsure own = unsure_begin six.control_a unsure
+unsure_step six path _ unsure own = refl
 
 -- ---- the path
 
@@ -229,16 +174,16 @@ module _ {C : Type 0} where
   -- ---- what happens on it: its join, which isn't begun, and lines of its script
 
   line_asleep : (action : LineAction) (p : PathState C) → IsAsleep p → IsAsleep (after_line action p)
-  line_asleep actions.Die p h = record {
+  line_asleep LineAction.Die p h = record {
     a = died_shut p.a h.a;
     b = died_shut p.b h.b;
     none = refl;
     idle = left_over A (is_dead p.a.tcp.state) (leaves_unless_dead B p.b ++ rest_of_turn) (left_over B (is_dead p.b.tcp.state) rest_of_turn refl);
   }
-  line_asleep (actions.Prio s backup) p h =
+  line_asleep (LineAction.Prio s backup) p h =
       let shut = shut_at s p h in goes_asleep s (with_priority backup (end_at s p)) (emission s) p (record { closed = shut.closed; timer = shut.timer }) refl h
-  line_asleep (actions.Announce s id) p h = record { a = h.a; b = h.b; none = h.none; idle = refl }
-  line_asleep (actions.Withdraw s id) p h = record { a = h.a; b = h.b; none = h.none; idle = refl }
+  line_asleep (LineAction.Announce s id) p h = record { a = h.a; b = h.b; none = h.none; idle = refl }
+  line_asleep (LineAction.Withdraw s id) p h = record { a = h.a; b = h.b; none = h.none; idle = refl }
 
   -- the control book began no join
   join_asleep : (r : Reply) (dead living : List Duty) (p : PathState C) → keys_begun r ≡ None → AreIdle dead → AreIdle living → IsAsleep p → IsAsleep (join_begun r dead living p)
@@ -249,12 +194,12 @@ module _ {C : Type 0} where
       by false = goes_asleep A (opened_by (keys_begun r) p.a) living p (subst (λ keys. IsShut (opened_by keys p.a)) (sym none) h.a) living_idle h
 
   own_asleep : (k : Codec C) (r : Reply) (event : Event) (p : PathState C) → keys_begun r ≡ None → is_own event ≡ true → IsAsleep p → IsAsleep (happens k event r p)
-  own_asleep k r (happenings.Joins tick) p none own h =
+  own_asleep k r (Event.Joins tick) p none own h =
       join_asleep r (leaves A) (emission A) (record (at_tick tick p) { joined_at = None }) none refl refl (record { a = h.a; b = h.b; none = h.none; idle = h.idle })
-  own_asleep k r (happenings.Takes line) p none own h =
+  own_asleep k r (Event.Takes line) p none own h =
       line_asleep line.action (record (at_tick line.tick p) { lines = tail_of p.lines }) (record { a = h.a; b = h.b; none = h.none; idle = h.idle })
-  own_asleep k r (happenings.Arrives due) p none own h = absurd (false≢true own)
-  own_asleep k r (happenings.Fires s tick) p none own h = absurd (false≢true own)
+  own_asleep k r (Event.Arrives due) p none own h = absurd (false≢true own)
+  own_asleep k r (Event.Fires s tick) p none own h = absurd (false≢true own)
 
   -- the earliest is the join, or the next line
   next_is_own : (p : PathState C) → IsAsleep p
@@ -281,37 +226,37 @@ module _ {C : Type 0} where
   -- ---- its duties
 
   answered_asleep : (k : Codec C) (d : Duty) (r : Reply) (p : PathState C) → keys_begun r ≡ None → IsAsleep p → is_idle d ≡ true → stands d p ≡ true → IsAsleep (answered k d r p)
-  answered_asleep k (duties.Ask ask_duties.JoinAgain) r p none h idle is = join_asleep r (replaced (duties.Ask (ask_duties.Leave A)) p.agenda) (left p) p none (replaced_idle (duties.Ask (ask_duties.Leave A)) p.agenda refl h.idle) (left_idle p h) h
-  answered_asleep k (duties.Step (step_duties.Look s)) r p none h idle is = let shut = shut_at s p h in goes_asleep s (after_look r (end_at s p)) (left p) p (record { closed = shut.closed; timer = shut.timer }) (left_idle p h) h
-  answered_asleep k (duties.Ask (ask_duties.Window s)) r p none h idle is = let shut = shut_at s p h in goes_asleep s (after_ack_out r (end_at s p)) (left p) p (record { closed = shut.closed; timer = shut.timer }) (left_idle p h) h
-  answered_asleep k (duties.Send (send_duties.Update s)) r p none h idle is = absurd (no _ _ (never_connected (end_at s p) (shut_at s p h)) is)
-  answered_asleep k (duties.Send (send_duties.FastClose s)) r p none h idle is = absurd (no _ _ (never_connected (end_at s p) (shut_at s p h)) is)
-  answered_asleep k (duties.Send (send_duties.Notice s)) r p none h idle is = absurd (no _ _ (never_connected (end_at s p) (shut_at s p h)) (and_parts (may_note (end_at s p)) _ is).0)
-  answered_asleep k (duties.Send (send_duties.Syn s)) r p none h idle is = absurd (no _ _ (never_opens (end_at s p) (shut_at s p h)) is)
-  answered_asleep k (duties.Step (step_duties.Data s)) r p none h idle is = absurd (no_data p.profile s (end_at s p) (first_unsent (end_at s p)) (shut_at s p h) is)
-  answered_asleep k (duties.Send (send_duties.DataFin s)) r p none h idle is = absurd (no _ _ (never_finishes (end_at s p) (shut_at s p h)) is)
-  answered_asleep k (duties.Send (send_duties.Fin s)) r p none h idle is = absurd (no _ _ (never_finishes (end_at s p) (shut_at s p h)) is)
-  answered_asleep k (duties.Silent (silent_duties.Timer s)) r p none h idle is = absurd (false≢true is)
-  answered_asleep k (duties.Step step_duties.Events) r p none h idle is = events_asleep k r p none h
-  answered_asleep k (duties.Ask (ask_duties.Leave s)) r p none h idle is = agenda_asleep (replaced (duties.Ask (ask_duties.Dead s)) p.agenda) p (replaced_idle (duties.Ask (ask_duties.Dead s)) p.agenda refl h.idle) h
-  answered_asleep k (duties.Ask (ask_duties.LeaveNoted s)) r p none h idle is =
-      goes_asleep s (died (end_at s p)) (replaced (duties.Ask (ask_duties.Dead s)) p.agenda) p (record { closed = refl; timer = refl })
-      (replaced_idle (duties.Ask (ask_duties.Dead s)) p.agenda refl h.idle) h
-  answered_asleep k (duties.Send (send_duties.ResetNoted s)) r p none h idle is = absurd (no _ _ (ap not (shut_at s p h).closed) is)
-  answered_asleep k (duties.Ask (ask_duties.Announce s id)) r p none h idle is = agenda_asleep (left p) p (left_idle p h) h
-  answered_asleep k (duties.Ask (ask_duties.Withdraw s id)) r p none h idle is = agenda_asleep (left p) p (left_idle p h) h
-  answered_asleep k (duties.Ask (ask_duties.Dead s)) r p none h idle is = agenda_asleep (left p) p (left_idle p h) h
-  answered_asleep k duties.End r p none h idle is = agenda_asleep [] p refl h
+  answered_asleep k (Duty.Ask AskDuty.JoinAgain) r p none h idle is = join_asleep r (replaced (Duty.Ask (AskDuty.Leave A)) p.agenda) (left p) p none (replaced_idle (Duty.Ask (AskDuty.Leave A)) p.agenda refl h.idle) (left_idle p h) h
+  answered_asleep k (Duty.Step (StepDuty.Look s)) r p none h idle is = let shut = shut_at s p h in goes_asleep s (after_look r (end_at s p)) (left p) p (record { closed = shut.closed; timer = shut.timer }) (left_idle p h) h
+  answered_asleep k (Duty.Ask (AskDuty.Window s)) r p none h idle is = let shut = shut_at s p h in goes_asleep s (after_ack_out r (end_at s p)) (left p) p (record { closed = shut.closed; timer = shut.timer }) (left_idle p h) h
+  answered_asleep k (Duty.Send (SendDuty.Update s)) r p none h idle is = absurd (no _ _ (never_connected (end_at s p) (shut_at s p h)) is)
+  answered_asleep k (Duty.Send (SendDuty.FastClose s)) r p none h idle is = absurd (no _ _ (never_connected (end_at s p) (shut_at s p h)) is)
+  answered_asleep k (Duty.Send (SendDuty.Notice s)) r p none h idle is = absurd (no _ _ (never_connected (end_at s p) (shut_at s p h)) (and_parts (may_note (end_at s p)) _ is).0)
+  answered_asleep k (Duty.Send (SendDuty.Syn s)) r p none h idle is = absurd (no _ _ (never_opens (end_at s p) (shut_at s p h)) is)
+  answered_asleep k (Duty.Step (StepDuty.Data s)) r p none h idle is = absurd (no_data p.profile s (end_at s p) (first_unsent (end_at s p)) (shut_at s p h) is)
+  answered_asleep k (Duty.Send (SendDuty.DataFin s)) r p none h idle is = absurd (no _ _ (never_finishes (end_at s p) (shut_at s p h)) is)
+  answered_asleep k (Duty.Send (SendDuty.Fin s)) r p none h idle is = absurd (no _ _ (never_finishes (end_at s p) (shut_at s p h)) is)
+  answered_asleep k (Duty.Silent (SilentDuty.Timer s)) r p none h idle is = absurd (false≢true is)
+  answered_asleep k (Duty.Step StepDuty.Events) r p none h idle is = events_asleep k r p none h
+  answered_asleep k (Duty.Ask (AskDuty.Leave s)) r p none h idle is = agenda_asleep (replaced (Duty.Ask (AskDuty.Dead s)) p.agenda) p (replaced_idle (Duty.Ask (AskDuty.Dead s)) p.agenda refl h.idle) h
+  answered_asleep k (Duty.Ask (AskDuty.LeaveNoted s)) r p none h idle is =
+      goes_asleep s (died (end_at s p)) (replaced (Duty.Ask (AskDuty.Dead s)) p.agenda) p (record { closed = refl; timer = refl })
+      (replaced_idle (Duty.Ask (AskDuty.Dead s)) p.agenda refl h.idle) h
+  answered_asleep k (Duty.Send (SendDuty.ResetNoted s)) r p none h idle is = absurd (no _ _ (ap not (shut_at s p h).closed) is)
+  answered_asleep k (Duty.Ask (AskDuty.Announce s id)) r p none h idle is = agenda_asleep (left p) p (left_idle p h) h
+  answered_asleep k (Duty.Ask (AskDuty.Withdraw s id)) r p none h idle is = agenda_asleep (left p) p (left_idle p h) h
+  answered_asleep k (Duty.Ask (AskDuty.Dead s)) r p none h idle is = agenda_asleep (left p) p (left_idle p h) h
+  answered_asleep k Duty.End r p none h idle is = agenda_asleep [] p refl h
   answered_asleep k _ r p none h idle is = absurd (false≢true idle)
 
   passed_asleep : (d : Duty) (p : PathState C) → IsAsleep p → is_idle d ≡ true → IsAsleep (passed d p)
-  passed_asleep (duties.Silent (silent_duties.Timer s)) p h idle = with_asleep s (after_timer p.clock (end_at s p)) p (timed_shut p.clock (end_at s p) (shut_at s p h)) h
-  passed_asleep (duties.Step (step_duties.Heard s index)) p h idle = absurd (false≢true idle)
-  passed_asleep (duties.Silent (silent_duties.Keep s)) p h idle = absurd (false≢true idle)
-  passed_asleep (duties.Ask (ask_duties.CheckFailed s)) p h idle = absurd (false≢true idle)
-  passed_asleep (duties.Silent (silent_duties.PassFin s)) p h idle = absurd (false≢true idle)
-  passed_asleep (duties.Step (step_duties.PlainAck s)) p h idle = absurd (false≢true idle)
-  passed_asleep (duties.Step (step_duties.Unmapped s)) p h idle = absurd (false≢true idle)
+  passed_asleep (Duty.Silent (SilentDuty.Timer s)) p h idle = with_asleep s (after_timer p.clock (end_at s p)) p (timed_shut p.clock (end_at s p) (shut_at s p h)) h
+  passed_asleep (Duty.Step (StepDuty.Heard s index)) p h idle = absurd (false≢true idle)
+  passed_asleep (Duty.Silent (SilentDuty.Keep s)) p h idle = absurd (false≢true idle)
+  passed_asleep (Duty.Ask (AskDuty.CheckFailed s)) p h idle = absurd (false≢true idle)
+  passed_asleep (Duty.Silent (SilentDuty.PassFin s)) p h idle = absurd (false≢true idle)
+  passed_asleep (Duty.Step (StepDuty.PlainAck s)) p h idle = absurd (false≢true idle)
+  passed_asleep (Duty.Step (StepDuty.Unmapped s)) p h idle = absurd (false≢true idle)
   passed_asleep _ p h idle = h
 
   settled_asleep : (ds : List Duty) (p : PathState C) → AreIdle ds → IsAsleep p → IsAsleep (settled ds p)
@@ -357,25 +302,25 @@ module _ {C : Type 0} where
   unsure_data k six s (Some r) p = refl
 
   unsure_duty : (k : Codec C) (six : SixBooks) (d : Duty) (p : PathState C) → is_sure six.control_a.fall.mode ≡ false → is_idle d ≡ true → IsAsleep p → keys_begun (reply_of six (ask_for k d p)) ≡ None
-  unsure_duty k six (duties.Ask ask_duties.JoinAgain) p unsure idle h = unsure_begin six.control_a unsure
-  unsure_duty k six (duties.Step (step_duties.Look s)) p unsure idle h = refl
-  unsure_duty k six (duties.Ask (ask_duties.Window s)) p unsure idle h = refl
-  unsure_duty k six (duties.Send (send_duties.Update s)) p unsure idle h = refl
-  unsure_duty k six (duties.Send (send_duties.FastClose s)) p unsure idle h = refl
-  unsure_duty k six (duties.Send (send_duties.Notice s)) p unsure idle h = refl
-  unsure_duty k six (duties.Send (send_duties.Syn s)) p unsure idle h = refl
-  unsure_duty k six (duties.Step (step_duties.Data s)) p unsure idle h = unsure_data k six s (first_unsent (end_at s p)) p
-  unsure_duty k six (duties.Send (send_duties.DataFin s)) p unsure idle h = refl
-  unsure_duty k six (duties.Send (send_duties.Fin s)) p unsure idle h = refl
-  unsure_duty k six (duties.Silent (silent_duties.Timer s)) p unsure idle h = refl
-  unsure_duty k six (duties.Step step_duties.Events) p unsure idle h = unsure_step six (path_of p) (next_event p) unsure (next_own p h)
-  unsure_duty k six (duties.Ask (ask_duties.Leave s)) p unsure idle h = refl
-  unsure_duty k six (duties.Ask (ask_duties.LeaveNoted s)) p unsure idle h = refl
-  unsure_duty k six (duties.Send (send_duties.ResetNoted s)) p unsure idle h = refl
-  unsure_duty k six (duties.Ask (ask_duties.Announce s id)) p unsure idle h = refl
-  unsure_duty k six (duties.Ask (ask_duties.Withdraw s id)) p unsure idle h = refl
-  unsure_duty k six (duties.Ask (ask_duties.Dead s)) p unsure idle h = refl
-  unsure_duty k six duties.End p unsure idle h = refl
+  unsure_duty k six (Duty.Ask AskDuty.JoinAgain) p unsure idle h = unsure_begin six.control_a unsure
+  unsure_duty k six (Duty.Step (StepDuty.Look s)) p unsure idle h = refl
+  unsure_duty k six (Duty.Ask (AskDuty.Window s)) p unsure idle h = refl
+  unsure_duty k six (Duty.Send (SendDuty.Update s)) p unsure idle h = refl
+  unsure_duty k six (Duty.Send (SendDuty.FastClose s)) p unsure idle h = refl
+  unsure_duty k six (Duty.Send (SendDuty.Notice s)) p unsure idle h = refl
+  unsure_duty k six (Duty.Send (SendDuty.Syn s)) p unsure idle h = refl
+  unsure_duty k six (Duty.Step (StepDuty.Data s)) p unsure idle h = unsure_data k six s (first_unsent (end_at s p)) p
+  unsure_duty k six (Duty.Send (SendDuty.DataFin s)) p unsure idle h = refl
+  unsure_duty k six (Duty.Send (SendDuty.Fin s)) p unsure idle h = refl
+  unsure_duty k six (Duty.Silent (SilentDuty.Timer s)) p unsure idle h = refl
+  unsure_duty k six (Duty.Step StepDuty.Events) p unsure idle h = unsure_step six (path_of p) (next_event p) unsure (next_own p h)
+  unsure_duty k six (Duty.Ask (AskDuty.Leave s)) p unsure idle h = refl
+  unsure_duty k six (Duty.Ask (AskDuty.LeaveNoted s)) p unsure idle h = refl
+  unsure_duty k six (Duty.Send (SendDuty.ResetNoted s)) p unsure idle h = refl
+  unsure_duty k six (Duty.Ask (AskDuty.Announce s id)) p unsure idle h = refl
+  unsure_duty k six (Duty.Ask (AskDuty.Withdraw s id)) p unsure idle h = refl
+  unsure_duty k six (Duty.Ask (AskDuty.Dead s)) p unsure idle h = refl
+  unsure_duty k six Duty.End p unsure idle h = refl
   unsure_duty k six _ p unsure idle h = absurd (false≢true idle)
 
   pub begins_nothing : (k : Codec C) (six : SixBooks) (ask : Ask) (p : PathState C) → is_sure six.control_a.fall.mode ≡ false → asks_of k p ≡ Some ask → IsAsleep p → keys_begun (reply_of six ask) ≡ None

@@ -1,81 +1,31 @@
 -- An end of a path that joins does nothing before its side's book joined, and never falls back: over octets as over values.
-use Rattle.std.proofs.Common.{◌≡◌, refl, sym, ◌∙◌, ap, subst, ℕ, ◌&&◌, ◌||◌, not, is_some, nat_lt, length, Bool, true, false, if◌then◌else◌, Option, Some, None, List, [], ◌∷◌, ◌++◌, ◌⊎◌, inl, inr, ⊎_elim}
-use Rattle.std.proofs.lemmas.Bool.{both_ways, false≢true}
-use Rattle.sides.specs.declared.side.Side.{Side}
-use Rattle.sides.specs.declared.side.Side.TheVariants.{A, B}
-use Rattle.dss_mapping.specs.declared.kept.KeptMapping.{KeptMapping}
-use Rattle.link_script.specs.Places.{same_side}
-use Rattle.link_model.specs.Steps.{arriving, after_delivery}
-use Rattle.path_segments.specs.Spelled.{PlainSegment}
-use Rattle.path_segments.specs.Heard.{HeardSegment}
-use Rattle.join_handshake.specs.declared.hearing.JoinSyn.{JoinSyn}
-use Rattle.join_handshake.specs.declared.hearing.JoinAnswer.{JoinAnswer}
-use Rattle.subflow_recv.specs.Receiving.{after_forget_from}
-use Rattle.subflow_send.specs.Records.{Record}
-use Rattle.subflow_tcp.specs.declared.handshake.State.{State as EndPhase}
-use Rattle.subflow_tcp.specs.declared.segments.Occasion.TheVariants as to_send
-use Rattle.subflow_tcp.specs.declared.segments.Outgoing.{Outgoing}
-use Rattle.subflow_tcp.specs.declared.verdicts.Meaning.{Meaning}
-use Rattle.subflow_tcp.specs.declared.verdicts.Meaning.TheVariants as means
-use Rattle.subflow_tcp.specs.Expiring.{is_sixth, after_expiry}
-use Rattle.subflow_tcp.specs.State.{EndState}
-use Rattle.subflow_tcp.specs.States.{is_closed_to_segments, is_dead}
-use Rattle.subflow_tcp.specs.Taking.{after_death, after_dropping_held, after_keeping_held}
-use Rattle.send_book.specs.declared.call.SendCall.TheVariants as send_calls
-use Rattle.fallback_state.specs.declared.fall.Event.{Event as FallEvent}
-use Rattle.fallback_state.specs.declared.fall.Event.TheVariants as fall
-use Rattle.control_book.specs.declared.call.ControlCall.{ControlCall}
-use Rattle.control_book.specs.declared.call.ControlCall.TheVariants as control_calls
-use Rattle.control_book.specs.declared.call.ControlReply.TheVariants as control_replies
-use Rattle.actor_desk.specs.declared.ask.Ask.{Ask}
-use Rattle.actor_desk.specs.declared.ask.Ask.TheVariants as asks
-use Rattle.actor_desk.specs.declared.ask.Reply.{Reply}
-use Rattle.actor_desk.specs.declared.ask.Reply.TheVariants as replies
-use Rattle.actor_desk.specs.Words.{tail_of}
-use Rattle.path_agenda.specs.Agenda.{breaks, emission, leaves, resets, rest_of_turn, start_of_turn, stops, announces, withdraws}
-use Rattle.path_agenda.specs.Items.{key_heard, keys_heard}
-use Rattle.path_agenda.specs.Words.{replaced}
-use Rattle.path_agenda.specs.declared.duty.Duty.{Duty}
-use Rattle.path_agenda.specs.declared.duty.Duty.TheVariants as duties
-use Rattle.path_agenda.specs.declared.duty.AskDuty.TheVariants as ask_duties
-use Rattle.path_agenda.specs.declared.duty.SendDuty.TheVariants as send_duties
-use Rattle.path_agenda.specs.declared.duty.SilentDuty.TheVariants as silent_duties
-use Rattle.path_agenda.specs.declared.duty.StepDuty.TheVariants as step_duties
-use Rattle.path_agenda.specs.declared.heard.Heard.{Heard}
-use Rattle.path_agenda.specs.declared.heard.Heard.TheVariants as says
-use Rattle.path_agenda.specs.declared.keys.KeyPair.{KeyPair}
+use Rattle.world_laws.proofs.Words.{◌≡◌, refl, sym, ◌∙◌, ap, subst, ℕ, ◌&&◌, ◌||◌, not, nat_lt, inl, inr, ◌⊎◌, ⊎_elim, Bool, true, false, if◌then◌else◌, Option}
+use Rattle.world_laws.proofs.Words.{Some, None, List, [], ◌∷◌, ◌++◌, length, is_some, both_ways, false≢true, FallEvent, Side, A, B, same_side, JoinSyn}
+use Rattle.world_laws.proofs.Words.{JoinAnswer, ControlCall, ControlReply, SendCall, KeptMapping, Record, is_closed_to_segments, is_dead}
+use Rattle.world_laws.proofs.Words.{Meaning, is_sixth, after_expiry, EndState, EndPhase, Occasion, Outgoing, after_death, after_dropping_held}
+use Rattle.world_laws.proofs.Words.{after_keeping_held, arriving, after_delivery, HeardSegment, PlainSegment, LineAction, Piece, rest_of_turn, emission, leaves}
+use Rattle.world_laws.proofs.Words.{resets, stops, announces, withdraws, start_of_turn, Duty, SendDuty, StepDuty, AskDuty, SilentDuty, Heard, KeyPair, replaced}
+use Rattle.world_laws.proofs.Words.{key_heard, keys_heard, Ask, Reply, tail_of, Codec, stands, ask_for, passed, answered, PathEnd, died, answered_ack_out}
+use Rattle.world_laws.proofs.Words.{after_look, modes_told, after_ack_out, at_tick, PathState, end_at, goes_on, with_end, with_agenda, left, path_of, settled}
+use Rattle.world_laws.proofs.Words.{answers, asks_of, asks_first, takes, begins_turn, hint_of, items_of, owes_by, options_heard, after_judged, asked_in}
+use Rattle.world_laws.proofs.Words.{copy_judged, copy_of, judged_in, reset_for, template_by, template_judged, template_of, with_held, heard_in, copy_heard}
+use Rattle.world_laws.proofs.Words.{reset_of, reset_on, answered_break, refusal_of, break_ask, answered_data, answered_grant, first_unsent, grant_in}
+use Rattle.world_laws.proofs.Words.{answer_occasion, answer_of, dead_answer, resend_occasion, resend_of, Judged, next_event, step_for, after_line, happens_if}
+use Rattle.world_laws.proofs.Words.{join_begun, never_joined, asked_at, is_never, join_taken, keys_begun, opened_by, with_mode_refused, is_joined}
+use Rattle.world_laws.proofs.Words.{join_heard_ask, join_answer, after_timer, template_fired, timer_fired, mapping_here, piece_of, is_placed}
+use Rattle.world_laws.proofs.Words.{answered_piece, forgotten_by, after_keep, after_pieces, is_dropped, after_check, fin_segment_of, having_sent_fin}
+use Rattle.world_laws.proofs.Words.{answered_plain_fin, answered_fin_heard, is_fin_set, after_pass_fin, is_clash, with_learned, with_data_fin, with_skipped}
+use Rattle.world_laws.proofs.Words.{held_of, HeardOption, with_acked, after_dss, with_data_ack, heard_ask, item_ask, answered_heard, answered_item, item_of}
+use Rattle.world_laws.proofs.Words.{item_passed, fell_ask, after_fell, fell_duties, plain_ack_ask, answered_plain_ack, with_plain_ack, breaks_by_ack}
+use Rattle.world_laws.proofs.Words.{may_go_infinite, book_answered, answered_fell, with_infinite, fell_in, is_fall, in_identity, after_keys, peer_key_ask}
+use Rattle.world_laws.proofs.Words.{opened_ask, answered_peer_key, answered_opened, with_peer_key, keys_in, is_stopped_by, with_priority, after_peer_notice}
+use Rattle.world_laws.proofs.Words.{sent_on, answered_in, cleared_in, taken_as, with_answer, Modes, if_so}
+use Rattle.path_agenda.specs.Agenda.{breaks}
 use Rattle.path_core.specs.declared.events.Event.{Event}
-use Rattle.path_core.specs.declared.events.Event.TheVariants as happenings
-use Rattle.path_core.specs.declared.judged.Judged.{Judged}
-use Rattle.path_core.specs.declared.judged.Judged.TheVariants as judged
-use Rattle.path_core.specs.declared.modes.Modes.{Modes}
-use Rattle.path_core.specs.Arrival.{after_judged, asked_in, copy_judged, copy_of, judged_in, reset_for, template_by, template_judged, template_of, with_held, heard_in, copy_heard}
-use Rattle.path_core.specs.Judged.{answered_in, cleared_in, taken_as, with_answer}
-use Rattle.path_core.specs.DssIn.{held_of, HeardOption, with_learned, with_skipped, counts, is_acked, is_clash, with_acked, with_data_fin}
-use Rattle.path_core.specs.OptionsIn.{hint_of, items_of, options_heard, owes_by}
-use Rattle.path_core.specs.Breaking.{break_ask, reset_of, reset_on, answered_break, refusal_of}
-use Rattle.path_core.specs.Codec.{Codec}
-use Rattle.path_core.specs.Duties.{stands, passed, answered, ask_for}
-use Rattle.path_core.specs.Emission.{Grant, grant_in, answered_grant, answered_data, first_unsent, answer_occasion, answer_of, resend_occasion, dead_answer, resend_of}
-use Rattle.path_core.specs.Timer.{after_timer, timer_fired, template_fired}
-use Rattle.path_core.specs.DataFin.{fin_segment_of, having_sent_fin, after_pass_fin, answered_fin_heard, answered_plain_fin, is_fin_set}
-use Rattle.path_core.specs.End.{PathEnd, died}
-use Rattle.path_core.specs.Events.{next_event, step_for, after_line, happens_if}
-use Rattle.path_core.specs.State.{at_tick, PathState, end_at, goes_on, left, path_of, with_agenda, with_end}
-use Rattle.path_core.specs.MpJoin.{join_begun, never_joined, asked_at, is_never, join_heard_ask, join_taken, keys_begun, opened_by, with_mode_refused, is_joined, join_answer}
-use Rattle.path_core.specs.Addresses.{with_priority, after_peer_notice}
-use Rattle.path_store.specs.declared.lines.LineAction.{LineAction}
-use Rattle.path_store.specs.declared.lines.LineAction.TheVariants as actions
-use Rattle.path_core.specs.Fallback.{is_fall, fell_ask, fell_in, after_fell, fell_duties, answered_fell, in_identity, may_go_infinite, with_infinite, book_answered, plain_ack_ask, answered_plain_ack, breaks_by_ack, with_plain_ack}
-use Rattle.path_core.specs.MpCapable.{after_keys, keys_in, opened_ask, answered_opened, peer_key_ask, answered_peer_key, with_peer_key}
-use Rattle.path_core.specs.Deliver.{answered_piece, is_placed, piece_of, after_check, after_pieces, mapping_here, is_wrong, forgotten_by, after_keep, is_dropped}
-use Rattle.path_store.specs.Passing.{Piece}
-use Rattle.path_core.specs.Handover.{sent_on}
-use Rattle.path_core.specs.Standing.{after_ack_out, after_look, answered_ack_out, modes_told}
-use Rattle.path_core.specs.Steps.{settled, answers, asks_of, asks_first, takes, begins_turn}
-use Rattle.path_core.specs.Treating.{heard_ask, item_ask, answered_heard, answered_item, item_of, item_passed}
-use Rattle.path_core.specs.FastClose.{is_stopped_by}
-use Rattle.world_laws.proofs.Falls.FailedChecks.{check_failed_so, checked_so, fail_heard_so, failed_so, infinite_came_so, infinite_so}
+use Rattle.path_core.specs.DssIn.{is_acked}
+use Rattle.path_core.specs.Emission.{Grant}
+use Rattle.world_laws.proofs.Writes.Ends.{item_so}
+use Rattle.world_laws.proofs.Falls.FailedChecks.{forgets_so, check_failed_so, checked_so, fail_heard_so, failed_so, infinite_came_so, infinite_so}
 use Rattle.world_laws.proofs.Falls.Verdicts.{fell_cases}
 use Rattle.world_laws.proofs.Keys.AreDrawn.{Known}
 use Rattle.world_laws.proofs.Keys.Held.{look_leaves, fell_leaves}
@@ -109,40 +59,38 @@ new_less ds es silent calm = record { said = λ t is. absurd (both_ways _ (silen
 -- ---- templates
 
 meant_calm : (t : Side) (joined : Bool) (s : Side) (count : ℕ) (m : Meaning) → speaks (Voice.Falls t) (template_by joined s count m) ≡ false
-meant_calm t true s count (means.Accepts acknowledged) = refl
-meant_calm t false s count (means.Accepts acknowledged) = refl
-meant_calm t joined s count (means.Taken pos acknowledged) = came_calm t s count
+meant_calm t true s count (Meaning.Accepts acknowledged) = refl
+meant_calm t false s count (Meaning.Accepts acknowledged) = refl
+meant_calm t joined s count (Meaning.Taken pos acknowledged) = came_calm t s count
 meant_calm t joined s count _ = refl
 
 template_calm : (t : Side) (joined : Bool) (s : Side) (count : ℕ) (v : Judged) → speaks (Voice.Falls t) (template_judged joined s count v) ≡ false
-template_calm t joined s count judged.Asks = refl
-template_calm t joined s count judged.Lacks = refl
-template_calm t joined s count judged.Forged = refl
-template_calm t joined s count (judged.As m) = meant_calm t joined s count m
+template_calm t joined s count (Judged.As m) = meant_calm t joined s count m
+template_calm t joined s count _ = refl
 
 -- a side says what an end says that is up, where it heard a copy
 template_said : (t s : Side) (count : ℕ) (v : Judged) (tcp : EndState) → WakesNone (taken_as v) tcp → speaks (Voice.Says t) (template_judged true s count v) ≡ true → (t ≡ s) × (is_up tcp ≡ true)
-template_said t s count (judged.As means.Opens) tcp none spoken = absurd (false≢true (sym none.no_syn))
-template_said t s count (judged.As means.RepeatedSyn) tcp none spoken = (same_or_calm t s spoken, none.lively refl)
-template_said t s count (judged.As means.Outside) tcp none spoken = (same_or_calm t s spoken, none.lively refl)
-template_said t s count (judged.As means.Challenged) tcp none spoken = (same_or_calm t s spoken, none.lively refl)
-template_said t s count (judged.As means.Ahead) tcp none spoken = (same_or_calm t s spoken, none.lively refl)
-template_said t s count (judged.As (means.Taken pos acknowledged)) tcp none spoken = (came_said t s count spoken, none.lively refl)
+template_said t s count (Judged.As Meaning.Opens) tcp none spoken = absurd (false≢true (sym none.no_syn))
+template_said t s count (Judged.As Meaning.RepeatedSyn) tcp none spoken = (same_or_calm t s spoken, none.lively refl)
+template_said t s count (Judged.As Meaning.Outside) tcp none spoken = (same_or_calm t s spoken, none.lively refl)
+template_said t s count (Judged.As Meaning.Challenged) tcp none spoken = (same_or_calm t s spoken, none.lively refl)
+template_said t s count (Judged.As Meaning.Ahead) tcp none spoken = (same_or_calm t s spoken, none.lively refl)
+template_said t s count (Judged.As (Meaning.Taken pos acknowledged)) tcp none spoken = (came_said t s count spoken, none.lively refl)
 template_said t s count _ tcp none spoken = absurd (false≢true spoken)
 
 -- what is told leaves whether the end fell back
 asked_identity : (m : Meaning) (options : List HeardOption) (modes : Modes) → (asked_in m options modes).identity ≡ modes.identity
-asked_identity means.Opens options modes = refl
-asked_identity means.Ignored options modes = refl
+asked_identity Meaning.Opens options modes = refl
+asked_identity Meaning.Ignored options modes = refl
 asked_identity _ options modes = refl
 
 join_identity : (m : Meaning) (state : EndPhase) (items : List Heard) (modes : Modes) → (cleared_in m state (answered_in m items modes)).identity ≡ modes.identity
-join_identity (means.Accepts acknowledged) state items modes = by (join_answer items modes)
+join_identity (Meaning.Accepts acknowledged) state items modes = by (join_answer items modes)
   where
     by : (o : Option JoinAnswer) → (with_answer o modes).identity ≡ modes.identity
     by None = refl
     by (Some answer) = refl
-join_identity (means.Taken pos acknowledged) state items modes = refl
+join_identity (Meaning.Taken pos acknowledged) state items modes = refl
 join_identity _ state items modes = refl
 
 look_identity : (r : Reply) (m : Modes) → (modes_told r m).identity ≡ m.identity
@@ -152,12 +100,9 @@ fell_identity : (event : FallEvent) (r : Reply) (m : Modes) → (fell_in event r
 fell_identity event r m = ap (λ (x : Known). x.identity) (fell_leaves event r m)
 
 keys_identity : (r : Reply) (o : Option KeyPair) (m : Modes) → (keys_in r o m).identity ≡ m.identity
-keys_identity (replies.Control control_replies.Noted) (Some keys) m = refl
-keys_identity (replies.Control control_replies.Noted) None m = refl
-keys_identity (replies.Control _) o m = refl
-keys_identity (replies.Send reply) o m = refl
-keys_identity (replies.Reassembly reply) o m = refl
-keys_identity replies.Done o m = refl
+keys_identity (Reply.Control ControlReply.Noted) (Some keys) m = refl
+keys_identity (Reply.Control ControlReply.Noted) None m = refl
+keys_identity _ o m = refl
 
 -- ---- a path, where W is that a side's book joined, and F that it fell back by its book
 
@@ -239,37 +184,14 @@ module _ {C : Type 0} (k : Codec C) (W F : Side → Type 0) where
   -- ---- in silence
 
   item_goes : (s : Side) (o : Option Heard) (p : PathState C) → Goes s p (item_passed s o (end_at s p))
-  item_goes s None p = same_goes s (end_at s p) p refl refl refl
-  item_goes s (Some says.Dss) p = same_goes s (item_passed s (Some says.Dss) (end_at s p)) p refl refl refl
-  item_goes s (Some (says.DataAck next window)) p = same_goes s (item_passed s (Some (says.DataAck next window)) (end_at s p)) p refl refl refl
-  item_goes s (Some (says.Mapping fin)) p = by (counts (end_at s p))
-    where
-      by : (b : Bool) → Goes s p (if b then with_learned (end_at s p) else with_skipped (end_at s p))
-      by true = same_goes s (with_learned (end_at s p)) p refl refl refl
-      by false = same_goes s (with_skipped (end_at s p)) p refl refl refl
-  item_goes s (Some (says.DataFin place)) p = by (counts (end_at s p))
-    where
-      by : (b : Bool) → Goes s p (if b then with_data_fin place (end_at s p) else end_at s p)
-      by true = same_goes s (with_data_fin place (end_at s p)) p refl refl refl
-      by false = same_goes s (end_at s p) p refl refl refl
-  item_goes s (Some (says.InfiniteMapping place position)) p = same_goes s (end_at s p) p refl refl refl
-  item_goes s (Some (says.PeerKey key)) p = same_goes s (end_at s p) p refl refl refl
-  item_goes s (Some (says.Keys own other)) p = same_goes s (end_at s p) p refl refl refl
-  item_goes s (Some (says.Join form)) p = same_goes s (end_at s p) p refl refl refl
-  item_goes s (Some (says.Notice notice)) p = same_goes s (end_at s p) p refl refl refl
-  item_goes s (Some says.Fail) p = same_goes s (end_at s p) p refl refl refl
-  item_goes s (Some (says.FastClose key)) p = same_goes s (end_at s p) p refl refl refl
+  item_goes s o p =
+      let e : PathEnd = end_at s p in
+      item_so (Goes s p) s o e (same_goes s e p refl refl refl) (same_goes s (after_dss s e) p refl refl refl) (λ next. same_goes s (with_data_ack next e) p refl refl refl)
+      (same_goes s (with_learned e) p refl refl refl) (same_goes s (with_skipped e) p refl refl refl) (λ place. same_goes s (with_data_fin place e) p refl refl refl)
 
   edge_goes : (s : Side) (checksums : Bool) (o : Option KeptMapping) (p : PathState C) → Goes s p (forgotten_by checksums o (end_at s p))
-  edge_goes s checksums None p = same_goes s (end_at s p) p refl refl refl
-  edge_goes s checksums (Some kept) p = by (is_wrong checksums kept (end_at s p).tcp)
-    where
-      e : PathEnd
-      e = end_at s p
-
-      by : (b : Bool) → Goes s p (if b then record e { tcp = record e.tcp { recv = after_forget_from kept.pos e.tcp.recv } } else e)
-      by true = same_goes s (record e { tcp = record e.tcp { recv = after_forget_from kept.pos e.tcp.recv } }) p refl refl refl
-      by false = same_goes s e p refl refl refl
+  edge_goes s checksums o p = let e : PathEnd = end_at s p in
+      forgets_so (Goes s p) checksums o e (λ recv forgotten. same_goes s (record e { tcp = record e.tcp { recv = recv } }) p refl refl refl)
 
   keep_goes : (s : Side) (b : Bool) (held : Option ℕ) (p : PathState C)
       → Goes s p (record (end_at s p) { tcp = (if b then after_dropping_held (end_at s p).tcp else after_keeping_held (end_at s p).tcp); treated = record (end_at s p).treated { held_edge = held } })
@@ -280,19 +202,19 @@ module _ {C : Type 0} (k : Codec C) (W F : Side → Type 0) where
   put s e p g h = record { woken = λ t. woken_on s t e p g h; known = h.known; falls = h.falls; plain = λ t. plain_on s t e p g h }
 
   passed_awake : (d : Duty) (p : PathState C) → Awake p → Awake (passed d p)
-  passed_awake (duties.Silent (silent_duties.Timer s)) p h = put s (after_timer p.clock (end_at s p)) p (up_goes s (after_timer p.clock (end_at s p)) p (timer_up p.clock (end_at s p)) refl) h
-  passed_awake (duties.Step (step_duties.Heard s index)) p h = put s (item_passed s (item_of index (end_at s p)) (end_at s p)) p (item_goes s (item_of index (end_at s p)) p) h
-  passed_awake (duties.Silent (silent_duties.Keep s)) p h = put s (after_keep s (end_at s p)) p (keep_goes s (is_dropped s (end_at s p)) (after_keep s (end_at s p)).treated.held_edge p) h
-  passed_awake (duties.Step (step_duties.PlainAck s)) p h = put s (with_plain_ack (end_at s p)) p (same_goes s (with_plain_ack (end_at s p)) p refl refl refl) h
-  passed_awake (duties.Step (step_duties.Unmapped s)) p h = put s (after_pieces (end_at s p)) p (same_goes s (after_pieces (end_at s p)) p refl refl refl) h
-  passed_awake (duties.Ask (ask_duties.CheckFailed s)) p h = put s (after_check p.profile (end_at s p)) p (edge_goes s p.profile.spelling.checksums (mapping_here (end_at s p)) p) h
-  passed_awake (duties.Silent (silent_duties.PassFin s)) p h = put s (after_pass_fin (end_at s p)) p (up_goes s (after_pass_fin (end_at s p)) p (passing_up (end_at s p).tcp) refl) h
+  passed_awake (Duty.Silent (SilentDuty.Timer s)) p h = put s (after_timer p.clock (end_at s p)) p (up_goes s (after_timer p.clock (end_at s p)) p (timer_up p.clock (end_at s p)) refl) h
+  passed_awake (Duty.Step (StepDuty.Heard s index)) p h = put s (item_passed s (item_of index (end_at s p)) (end_at s p)) p (item_goes s (item_of index (end_at s p)) p) h
+  passed_awake (Duty.Silent (SilentDuty.Keep s)) p h = put s (after_keep s (end_at s p)) p (keep_goes s (is_dropped s (end_at s p)) (after_keep s (end_at s p)).treated.held_edge p) h
+  passed_awake (Duty.Step (StepDuty.PlainAck s)) p h = put s (with_plain_ack (end_at s p)) p (same_goes s (with_plain_ack (end_at s p)) p refl refl refl) h
+  passed_awake (Duty.Step (StepDuty.Unmapped s)) p h = put s (after_pieces (end_at s p)) p (same_goes s (after_pieces (end_at s p)) p refl refl refl) h
+  passed_awake (Duty.Ask (AskDuty.CheckFailed s)) p h = put s (after_check p.profile (end_at s p)) p (edge_goes s p.profile.spelling.checksums (mapping_here (end_at s p)) p) h
+  passed_awake (Duty.Silent (SilentDuty.PassFin s)) p h = put s (after_pass_fin (end_at s p)) p (up_goes s (after_pass_fin (end_at s p)) p (passing_up (end_at s p).tcp) refl) h
   passed_awake _ p h = h
 
   passed_profile : (d : Duty) (p : PathState C) → (passed d p).profile ≡ p.profile
-  passed_profile (duties.Silent (silent_duties.Timer s)) p = refl
-  passed_profile (duties.Step (step_duties.Heard s index)) p = refl
-  passed_profile (duties.Ask (ask_duties.CheckFailed s)) p = refl
+  passed_profile (Duty.Silent (SilentDuty.Timer s)) p = refl
+  passed_profile (Duty.Step (StepDuty.Heard s index)) p = refl
+  passed_profile (Duty.Ask (AskDuty.CheckFailed s)) p = refl
   passed_profile _ p = refl
 
   -- of a list of duties in place of the path's own
@@ -318,28 +240,28 @@ module _ {C : Type 0} (k : Codec C) (W F : Side → Type 0) where
   died_goes s p = (λ up. absurd (false≢true up), refl)
 
   line_awake : (action : LineAction) (p : PathState C) → Awake p → Awake (after_line action p)
-  line_awake (actions.Prio s backup) p h = same s (with_priority backup (end_at s p)) (emission s) p refl refl refl (new_less p.agenda _ (λ t. refl) (λ t. refl)) h
-  line_awake (actions.Announce s id) p h = agenda (announces s id) p (new_less p.agenda _ (λ t. refl) (λ t. refl)) h
-  line_awake (actions.Withdraw s id) p h = agenda (withdraws s id) p (new_less p.agenda _ (λ t. refl) (λ t. refl)) h
-  line_awake actions.Die p h = record { woken = up; known = known; falls = falls; plain = fell }
+  line_awake (LineAction.Prio s backup) p h = same s (with_priority backup (end_at s p)) (emission s) p refl refl refl (new_less p.agenda _ (λ t. refl) (λ t. refl)) h
+  line_awake (LineAction.Announce s id) p h = agenda (announces s id) p (new_less p.agenda _ (λ t. refl) (λ t. refl)) h
+  line_awake (LineAction.Withdraw s id) p h = agenda (withdraws s id) p (new_less p.agenda _ (λ t. refl) (λ t. refl)) h
+  line_awake LineAction.Die p h = record { woken = up; known = known; falls = falls; plain = fell }
     where
-      silent : (x : Voice) (b c : Bool) → speaks x ((if b then [] else duties.Ask (ask_duties.Leave A) ∷ []) ++ ((if c then [] else duties.Ask (ask_duties.Leave B) ∷ []) ++ rest_of_turn)) ≡ false
+      silent : (x : Voice) (b c : Bool) → speaks x ((if b then [] else Duty.Ask (AskDuty.Leave A) ∷ []) ++ ((if c then [] else Duty.Ask (AskDuty.Leave B) ∷ []) ++ rest_of_turn)) ≡ false
       silent x true true = refl
       silent x true false = refl
       silent x false true = refl
       silent x false false = refl
 
-      known : (t : Side) → is_joined p.profile ≡ true → speaks (Voice.Says t) (after_line actions.Die p).agenda ≡ true → W t
+      known : (t : Side) → is_joined p.profile ≡ true → speaks (Voice.Says t) (after_line LineAction.Die p).agenda ≡ true → W t
       known t joins is = absurd (both_ways _ (silent (Voice.Says t) (is_dead p.a.tcp.state) (is_dead p.b.tcp.state)) is)
 
-      falls : (t : Side) → speaks (Voice.Falls t) (after_line actions.Die p).agenda ≡ true → (is_joined p.profile ≡ false) × F t
+      falls : (t : Side) → speaks (Voice.Falls t) (after_line LineAction.Die p).agenda ≡ true → (is_joined p.profile ≡ false) × F t
       falls t is = absurd (both_ways _ (silent (Voice.Falls t) (is_dead p.a.tcp.state) (is_dead p.b.tcp.state)) is)
 
       up_by : (t : Side) (e : PathEnd) → (is_up e.tcp ≡ true → W t) → (b : Bool) → is_up (if b then e else died e).tcp ≡ true → W t
       up_by t e stays true is = stays is
       up_by t e stays false is = absurd (false≢true is)
 
-      up : (t : Side) → is_joined p.profile ≡ true → is_up (end_at t (after_line actions.Die p)).tcp ≡ true → W t
+      up : (t : Side) → is_joined p.profile ≡ true → is_up (end_at t (after_line LineAction.Die p)).tcp ≡ true → W t
       up A joins is = up_by A p.a (h.woken A joins) (is_dead p.a.tcp.state) is
       up B joins is = up_by B p.b (h.woken B joins) (is_dead p.b.tcp.state) is
 
@@ -347,7 +269,7 @@ module _ {C : Type 0} (k : Codec C) (W F : Side → Type 0) where
       fell_by e stays true = stays
       fell_by e stays false = stays
 
-      fell : (t : Side) → is_joined p.profile ≡ true → (end_at t (after_line actions.Die p)).modes.identity ≡ false
+      fell : (t : Side) → is_joined p.profile ≡ true → (end_at t (after_line LineAction.Die p)).modes.identity ≡ false
       fell A joins = fell_by p.a (h.plain A joins) (is_dead p.a.tcp.state)
       fell B joins = fell_by p.b (h.plain B joins) (is_dead p.b.tcp.state)
 
@@ -439,26 +361,26 @@ module _ {C : Type 0} (k : Codec C) (W F : Side → Type 0) where
   BeginSo s r = is_some (keys_begun r) ≡ true → W s
 
   abbrev pub CallSo : Side → ControlCall → Reply → Type 0
-  CallSo s (control_calls.JoinBegin path) r = BeginSo s r
-  CallSo s (control_calls.JoinHeard path token) r = BeginSo s r
-  CallSo s (control_calls.Fell path event) r = FallSo s r
+  CallSo s (ControlCall.JoinBegin path) r = BeginSo s r
+  CallSo s (ControlCall.JoinHeard path token) r = BeginSo s r
+  CallSo s (ControlCall.Fell path event) r = FallSo s r
   CallSo s _ r = Unit {0}
 
   abbrev pub So : Ask → Reply → Type 0
-  So (asks.Control s call) r = CallSo s call r
+  So (Ask.Control s call) r = CallSo s call r
   So _ r = Unit {0}
 
   event_awake : (o : Option Event) (r : Reply) (p : PathState C) → next_event p ≡ o → So (step_for p.link.path o) r → Awake p → Awake (happens_if k o r p)
   event_awake None r p next so h = agenda rest_of_turn p (new_less p.agenda rest_of_turn (λ t. refl) (λ t. refl)) h
-  event_awake (Some (happenings.Joins tick)) r p next so h =
+  event_awake (Some (Event.Joins tick)) r p next so h =
       begun_awake r (leaves A) (emission A) (record (at_tick tick p) { joined_at = None }) so (new_less p.agenda _ (λ t. refl) (λ t. refl)) (new_less p.agenda _ (λ t. refl) (λ t. refl))
       (record { woken = h.woken; known = h.known; falls = h.falls; plain = h.plain })
-  event_awake (Some (happenings.Takes line)) r p next so h =
+  event_awake (Some (Event.Takes line)) r p next so h =
       line_awake line.action (record (at_tick line.tick p) { lines = tail_of p.lines }) (record { woken = h.woken; known = h.known; falls = h.falls; plain = h.plain })
-  event_awake (Some (happenings.Arrives due)) r p next so h =
+  event_awake (Some (Event.Arrives due)) r p next so h =
       copy_awake due.to (heard_in k due.to (arriving due p.link) p) (record (at_tick due.tick p) { link = after_delivery due p.link })
       (record { woken = h.woken; known = h.known; falls = h.falls; plain = h.plain })
-  event_awake (Some (happenings.Fires s tick)) r p next so h = at_side s (next_happens p (happenings.Fires s tick) next)
+  event_awake (Some (Event.Fires s tick)) r p next so h = at_side s (next_happens p (Event.Fires s tick) next)
     where
       h_q : Awake (at_tick tick p)
       h_q = record { woken = h.woken; known = h.known; falls = h.falls; plain = h.plain }
@@ -484,7 +406,7 @@ module _ {C : Type 0} (k : Codec C) (W F : Side → Type 0) where
   verdict_says : (s t : Side) (r : Reply) (p : PathState C) → speaks (Voice.Says t) (fell_duties s r p) ≡ true → speaks (Voice.Says t) p.agenda ≡ true
   verdict_says s t r p =
       fell_cases (λ ds. speaks (Voice.Says t) ds ≡ true → speaks (Voice.Says t) p.agenda ≡ true) s p r
-      (λ falls is. replaced_speaks (Voice.Says t) (duties.Ask (ask_duties.GoIdentity s)) p.agenda refl is)
+      (λ falls is. replaced_speaks (Voice.Says t) (Duty.Ask (AskDuty.GoIdentity s)) p.agenda refl is)
       (λ reason is. absurd (false≢true is)) (λ reason is. absurd (false≢true is)) (λ is. tail_speaks (Voice.Says t) p.agenda is)
 
   unjoined : (s : Side) (p : PathState C) → Said s p → (W s → ⊥) → is_joined p.profile ≡ false
@@ -498,7 +420,7 @@ module _ {C : Type 0} (k : Codec C) (W F : Side → Type 0) where
   verdict_falls s t r p said so h =
       fell_cases (λ ds. speaks (Voice.Falls t) ds ≡ true → (is_joined p.profile ≡ false) × F t) s p r
       (λ falls is. ⊎_elim (λ here. let fell = so falls in (unjoined s p said fell.0, subst F (sym here) fell.1))
-      (λ other. h.falls t (replaced_speaks (Voice.Falls t) (duties.Ask (ask_duties.GoIdentity s)) p.agenda other is)) (side_or t s))
+      (λ other. h.falls t (replaced_speaks (Voice.Falls t) (Duty.Ask (AskDuty.GoIdentity s)) p.agenda other is)) (side_or t s))
       (λ reason is. absurd (false≢true is)) (λ reason is. absurd (false≢true is)) (λ is. h.falls t (tail_speaks (Voice.Falls t) p.agenda is))
 
   verdict_awake : (s : Side) (e : PathEnd) (r : Reply) (p : PathState C) → e.tcp.state ≡ (end_at s p).tcp.state → e.tcp.timing.timer ≡ (end_at s p).tcp.timing.timer
@@ -514,7 +436,7 @@ module _ {C : Type 0} (k : Codec C) (W F : Side → Type 0) where
   grant_awake s (Some grant) r p h = same s _ p.agenda p refl refl refl (same_less p.agenda) h
 
   data_awake : (s : Side) (o : Option Record) (r : Reply) (p : PathState C) → Awake p → Awake (answered_data k s o r p)
-  data_awake s (Some unsent) r p h = same_sent s _ _ p.agenda p (sending_up to_send.Unsent p.clock (end_at s p).tcp) refl (same_less p.agenda) h
+  data_awake s (Some unsent) r p h = same_sent s _ _ p.agenda p (sending_up Occasion.Unsent p.clock (end_at s p).tcp) refl (same_less p.agenda) h
   data_awake s None r p h = grant_awake s (grant_in r) r p h
 
   keys_awake : (s : Side) (r : Reply) (o : Option KeyPair) (p : PathState C) → Awake p → Awake (goes_on s (after_keys r o (end_at s p)) (left p) p)
@@ -529,39 +451,37 @@ module _ {C : Type 0} (k : Codec C) (W F : Side → Type 0) where
       (λ t is. h.falls t (replaced_speaks (Voice.Falls t) d p.agenda (calm t) is)) h
 
   heard_answered_awake : (s : Side) (item : Heard) (r : Reply) (p : PathState C) → Said s p → So (heard_ask k s item p) r → Awake p → Awake (answered_heard k s item r p)
-  heard_answered_awake s (says.DataAck next window) r p said so h = by (is_acked r && nat_lt 0 next)
+  heard_answered_awake s (Heard.DataAck next window) r p said so h = by (is_acked r && nat_lt 0 next)
     where
-      by : (b : Bool) → Awake (goes_on s (with_acked next r (end_at s p)) (if b then replaced (duties.Ask (ask_duties.AckHeard s)) p.agenda else left p) p)
-      by true = says_next s (duties.Ask (ask_duties.AckHeard s)) (with_acked next r (end_at s p)) p (λ t. refl) (λ t. refl) (same_goes s (with_acked next r (end_at s p)) p refl refl refl) said h
+      by : (b : Bool) → Awake (goes_on s (with_acked next r (end_at s p)) (if b then replaced (Duty.Ask (AskDuty.AckHeard s)) p.agenda else left p) p)
+      by true = says_next s (Duty.Ask (AskDuty.AckHeard s)) (with_acked next r (end_at s p)) p (λ t. refl) (λ t. refl) (same_goes s (with_acked next r (end_at s p)) p refl refl refl) said h
       by false = same s (with_acked next r (end_at s p)) (left p) p refl refl refl (tail_less p.agenda) h
-  heard_answered_awake s (says.Mapping fin) r p said so h = by (is_clash (end_at s p)) so
+  heard_answered_awake s (Heard.Mapping fin) r p said so h = by (is_clash (end_at s p)) so
     where
-      by : (b : Bool) → So (if b then break_ask k s 1 p else fell_ask s fall.MappingHeard p) r
-          → Awake (if b then answered_break k s 1 r p else goes_on s (with_learned (after_fell fall.MappingHeard r (end_at s p))) (fell_duties s r p) p)
+      by : (b : Bool) → So (if b then break_ask k s 1 p else fell_ask s FallEvent.MappingHeard p) r
+          → Awake (if b then answered_break k s 1 r p else goes_on s (with_learned (after_fell FallEvent.MappingHeard r (end_at s p))) (fell_duties s r p) p)
       by true so = break_awake s 1 r p h
-      by false so = verdict_awake s (with_learned (after_fell fall.MappingHeard r (end_at s p))) r p refl refl (fell_identity fall.MappingHeard r (end_at s p).modes) said so h
-  heard_answered_awake s (says.DataFin place) r p said so h =
-      verdict_awake s (with_data_fin place (after_fell fall.MappingHeard r (end_at s p))) r p refl refl (fell_identity fall.MappingHeard r (end_at s p).modes) said so h
-  heard_answered_awake s (says.InfiniteMapping place position) r p said so h =
+      by false so = verdict_awake s (with_learned (after_fell FallEvent.MappingHeard r (end_at s p))) r p refl refl (fell_identity FallEvent.MappingHeard r (end_at s p).modes) said so h
+  heard_answered_awake s (Heard.DataFin place) r p said so h =
+      verdict_awake s (with_data_fin place (after_fell FallEvent.MappingHeard r (end_at s p))) r p refl refl (fell_identity FallEvent.MappingHeard r (end_at s p).modes) said so h
+  heard_answered_awake s (Heard.InfiniteMapping place position) r p said so h =
       infinite_came_so (λ e. Awake (goes_on s e (fell_duties s r p) p)) place position r (end_at s p)
-      (λ other. verdict_awake s (infinite_so r other (end_at s p)) r p refl refl (fell_identity fall.InfiniteHeard r (end_at s p).modes) said so h)
-  heard_answered_awake s (says.Keys mine other) r p said so h = keys_awake s r (Some (record { own = mine; peer = other })) p h
-  heard_answered_awake s says.Dss r p said so h = agenda (left p) p (tail_less p.agenda) h
-  heard_answered_awake s (says.PeerKey key) r p said so h = agenda (left p) p (tail_less p.agenda) h
-  heard_answered_awake s (says.Join form) r p said so h = agenda (left p) p (tail_less p.agenda) h
-  heard_answered_awake s (says.Notice notice) r p said so h =
+      (λ other. verdict_awake s (infinite_so r other (end_at s p)) r p refl refl (fell_identity FallEvent.InfiniteHeard r (end_at s p).modes) said so h)
+  heard_answered_awake s (Heard.Keys mine other) r p said so h = keys_awake s r (Some (record { own = mine; peer = other })) p h
+  heard_answered_awake s Heard.Dss r p said so h = agenda (left p) p (tail_less p.agenda) h
+  heard_answered_awake s (Heard.PeerKey key) r p said so h = agenda (left p) p (tail_less p.agenda) h
+  heard_answered_awake s (Heard.Join form) r p said so h = agenda (left p) p (tail_less p.agenda) h
+  heard_answered_awake s (Heard.Notice notice) r p said so h =
       same s (after_peer_notice notice r (end_at s p)) (left p) p refl refl refl (tail_less p.agenda) h
-  heard_answered_awake s says.Fail r p said so h = by (may_go_infinite (end_at s p)) so
+  heard_answered_awake s Heard.Fail r p said so h = by (may_go_infinite (end_at s p)) so
     where
-      by : (b : Bool) → So (if b then asks.Send s (send_calls.GoInfinite (path_of p)) else fell_ask s (fall.FailHeard false) p) r
-          → Awake (if b then book_answered s r p else answered_fell s (fall.FailHeard false) r p)
-      by true so = says_next s (duties.Ask (ask_duties.FailHeard s)) (with_infinite r (end_at s p)) p (λ t. refl) (λ t. refl) (same_goes s (with_infinite r (end_at s p)) p refl refl refl) said h
-      by false so = told_awake s (fall.FailHeard false) r p said so h
-  heard_answered_awake s (says.FastClose key) r p said so h = by (is_stopped_by r)
-    where
-      by : (b : Bool) → Awake (with_agenda (if b then stops s else left p) p)
-      by true = agenda (stops s) p (new_less p.agenda _ (λ t. refl) (λ t. refl)) h
-      by false = agenda (left p) p (tail_less p.agenda) h
+      by : (b : Bool) → So (if b then Ask.Send s (SendCall.GoInfinite (path_of p)) else fell_ask s (FallEvent.FailHeard false) p) r
+          → Awake (if b then book_answered s r p else answered_fell s (FallEvent.FailHeard false) r p)
+      by true so = says_next s (Duty.Ask (AskDuty.FailHeard s)) (with_infinite r (end_at s p)) p (λ t. refl) (λ t. refl) (same_goes s (with_infinite r (end_at s p)) p refl refl refl) said h
+      by false so = told_awake s (FallEvent.FailHeard false) r p said so h
+  heard_answered_awake s (Heard.FastClose key) r p said so h =
+      if_so (λ z. Awake (with_agenda z p)) (is_stopped_by r) (stops s) (left p)
+      (agenda (stops s) p (new_less p.agenda _ (λ t. refl) (λ t. refl)) h) (agenda (left p) p (tail_less p.agenda) h)
 
   item_answered_awake : (s : Side) (o : Option Heard) (r : Reply) (p : PathState C) → Said s p → So (item_ask k s o p) r → Awake p → Awake (answered_item k s o r p)
   item_answered_awake s None r p said so h = agenda (left p) p (tail_less p.agenda) h
@@ -570,17 +490,17 @@ module _ {C : Type 0} (k : Codec C) (W F : Side → Type 0) where
   plain_ack_awake : (s : Side) (r : Reply) (p : PathState C) → Said s p → So (plain_ack_ask k s p) r → Awake p → Awake (answered_plain_ack k s r p)
   plain_ack_awake s r p said so h = by (breaks_by_ack p.profile (end_at s p)) so
     where
-      by : (b : Bool) → So (if b then break_ask k s 6 p else fell_ask s fall.PlainAck p) r
-          → Awake (if b then answered_break k s 6 r p else goes_on s (with_plain_ack (after_fell fall.PlainAck r (end_at s p))) (fell_duties s r p) p)
+      by : (b : Bool) → So (if b then break_ask k s 6 p else fell_ask s FallEvent.PlainAck p) r
+          → Awake (if b then answered_break k s 6 r p else goes_on s (with_plain_ack (after_fell FallEvent.PlainAck r (end_at s p))) (fell_duties s r p) p)
       by true so = break_awake s 6 r p h
-      by false so = verdict_awake s (with_plain_ack (after_fell fall.PlainAck r (end_at s p))) r p refl refl (fell_identity fall.PlainAck r (end_at s p).modes) said so h
+      by false so = verdict_awake s (with_plain_ack (after_fell FallEvent.PlainAck r (end_at s p))) r p refl refl (fell_identity FallEvent.PlainAck r (end_at s p).modes) said so h
 
   key_awake : (s : Side) (o : Option ℕ) (r : Reply) (p : PathState C) → Said s p → So (peer_key_ask s o p) r → Awake p → Awake (answered_peer_key s o r p)
-  key_awake s None r p said so h = told_awake s fall.PlainHandshake r p said so h
+  key_awake s None r p said so h = told_awake s FallEvent.PlainHandshake r p said so h
   key_awake s (Some key) r p said so h = same s (with_peer_key (Some key) (end_at s p)) (left p) p refl refl refl (tail_less p.agenda) h
 
   opened_awake : (s : Side) (o : Option KeyPair) (r : Reply) (p : PathState C) → Said s p → So (opened_ask s o p) r → Awake p → Awake (answered_opened s o r p)
-  opened_awake s None r p said so h = told_awake s fall.PlainHandshake r p said so h
+  opened_awake s None r p said so h = told_awake s FallEvent.PlainHandshake r p said so h
   opened_awake s (Some keys) r p said so h = keys_awake s r (Some keys) p h
 
   piece_awake : (s : Side) (o : Option Piece) (taken : Bool) (p : PathState C) → Awake p → Awake (answered_piece s o taken p)
@@ -597,13 +517,13 @@ module _ {C : Type 0} (k : Codec C) (W F : Side → Type 0) where
   plain_fin_awake s false p h = same s _ (breaks s 1) p refl refl refl (new_less p.agenda _ (λ t. refl) (λ t. refl)) h
 
   joined_awake : (s : Side) (o : Option KeyPair) (asked : Option JoinSyn) (r : Reply) (p : PathState C) → keys_begun r ≡ o → So (join_heard_ask s asked p) r → Awake p → Awake (join_taken s o asked r p)
-  joined_awake s None (Some asked) r p is so h = same s (with_mode_refused r (end_at s p)) (replaced (duties.Send (send_duties.Refuse s)) p.agenda) p refl refl refl (replaced_less (duties.Send (send_duties.Refuse s)) p.agenda (λ t. refl) (λ t. refl)) h
-  joined_awake s None None r p is so h = agenda _ p (replaced_less (duties.Send (send_duties.Refuse s)) p.agenda (λ t. refl) (λ t. refl)) h
-  joined_awake s (Some keys) None r p is so h = agenda _ p (replaced_less (duties.Send (send_duties.Refuse s)) p.agenda (λ t. refl) (λ t. refl)) h
+  joined_awake s None (Some asked) r p is so h = same s (with_mode_refused r (end_at s p)) (replaced (Duty.Send (SendDuty.Refuse s)) p.agenda) p refl refl refl (replaced_less (Duty.Send (SendDuty.Refuse s)) p.agenda (λ t. refl) (λ t. refl)) h
+  joined_awake s None None r p is so h = agenda _ p (replaced_less (Duty.Send (SendDuty.Refuse s)) p.agenda (λ t. refl) (λ t. refl)) h
+  joined_awake s (Some keys) None r p is so h = agenda _ p (replaced_less (Duty.Send (SendDuty.Refuse s)) p.agenda (λ t. refl) (λ t. refl)) h
   joined_awake s (Some keys) (Some asked) r p is so h =
-      begins_on s _ (replaced (duties.Send (send_duties.SynAck s)) p.agenda) p (so (ap (λ o. is_some o) is)) refl
-      (λ t other spoken. replaced_speaks (Voice.Says t) (duties.Send (send_duties.SynAck s)) p.agenda other spoken)
-      (λ t spoken. replaced_speaks (Voice.Falls t) (duties.Send (send_duties.SynAck s)) p.agenda refl spoken) h
+      begins_on s _ (replaced (Duty.Send (SendDuty.SynAck s)) p.agenda) p (so (ap (λ o. is_some o) is)) refl
+      (λ t other spoken. replaced_speaks (Voice.Says t) (Duty.Send (SendDuty.SynAck s)) p.agenda other spoken)
+      (λ t spoken. replaced_speaks (Voice.Falls t) (Duty.Send (SendDuty.SynAck s)) p.agenda refl spoken) h
 
   -- a duty of a side that says something
   by_duty : (s : Side) (d : Duty) (p : PathState C) → ((t : Side) → is_joined p.profile ≡ true → is_said_by (Voice.Says t) d ≡ true → W t) → ((t : Side) → is_said_by (Voice.Says t) d ≡ same_side t s) → Said s p
@@ -611,38 +531,38 @@ module _ {C : Type 0} (k : Codec C) (W F : Side → Type 0) where
 
   answered_awake : (d : Duty) (r : Reply) (p : PathState C) → ((t : Side) → is_joined p.profile ≡ true → is_said_by (Voice.Says t) d ≡ true → W t)
       → ((t : Side) → is_said_by (Voice.Falls t) d ≡ true → is_joined p.profile ≡ false) → So (ask_for k d p) r → Awake p → Awake (answered k d r p)
-  answered_awake (duties.Ask ask_duties.JoinAgain) r p said falls so h =
-      begun_awake r (replaced (duties.Ask (ask_duties.Leave A)) p.agenda) (left p) p so (replaced_less (duties.Ask (ask_duties.Leave A)) p.agenda (λ t. refl) (λ t. refl)) (tail_less p.agenda) h
-  answered_awake (duties.Step (step_duties.Look s)) r p said falls so h = same s (after_look r (end_at s p)) (left p) p refl refl (look_identity r (end_at s p).modes) (tail_less p.agenda) h
-  answered_awake (duties.Ask (ask_duties.Window s)) r p said falls so h = same s (after_ack_out r (end_at s p)) (left p) p refl refl refl (tail_less p.agenda) h
-  answered_awake (duties.Send (send_duties.Update s)) r p said falls so h = sent s _ _ (left p) p ((λ up. up), refl) (tail_less p.agenda) h
-  answered_awake (duties.Send (send_duties.FastClose s)) r p said falls so h = sent s _ _ (left p) p ((λ up. up), refl) (tail_less p.agenda) h
-  answered_awake (duties.Send (send_duties.Notice s)) r p said falls so h = sent s _ _ p.agenda p ((λ up. up), refl) (same_less p.agenda) h
-  answered_awake (duties.Send (send_duties.Syn s)) r p said falls so h = same_sent s _ _ (left p) p (sending_up to_send.Unsent p.clock (end_at s p).tcp) refl (tail_less p.agenda) h
-  answered_awake (duties.Step (step_duties.Data s)) r p said falls so h = data_awake s (first_unsent (end_at s p)) r p h
-  answered_awake (duties.Send (send_duties.DataFin s)) r p said falls so h = sent s _ _ (left p) p ((λ up. up), refl) (tail_less p.agenda) h
-  answered_awake (duties.Send (send_duties.Fin s)) r p said falls so h =
+  answered_awake (Duty.Ask AskDuty.JoinAgain) r p said falls so h =
+      begun_awake r (replaced (Duty.Ask (AskDuty.Leave A)) p.agenda) (left p) p so (replaced_less (Duty.Ask (AskDuty.Leave A)) p.agenda (λ t. refl) (λ t. refl)) (tail_less p.agenda) h
+  answered_awake (Duty.Step (StepDuty.Look s)) r p said falls so h = same s (after_look r (end_at s p)) (left p) p refl refl (look_identity r (end_at s p).modes) (tail_less p.agenda) h
+  answered_awake (Duty.Ask (AskDuty.Window s)) r p said falls so h = same s (after_ack_out r (end_at s p)) (left p) p refl refl refl (tail_less p.agenda) h
+  answered_awake (Duty.Send (SendDuty.Update s)) r p said falls so h = sent s _ _ (left p) p ((λ up. up), refl) (tail_less p.agenda) h
+  answered_awake (Duty.Send (SendDuty.FastClose s)) r p said falls so h = sent s _ _ (left p) p ((λ up. up), refl) (tail_less p.agenda) h
+  answered_awake (Duty.Send (SendDuty.Notice s)) r p said falls so h = sent s _ _ p.agenda p ((λ up. up), refl) (same_less p.agenda) h
+  answered_awake (Duty.Send (SendDuty.Syn s)) r p said falls so h = same_sent s _ _ (left p) p (sending_up Occasion.Unsent p.clock (end_at s p).tcp) refl (tail_less p.agenda) h
+  answered_awake (Duty.Step (StepDuty.Data s)) r p said falls so h = data_awake s (first_unsent (end_at s p)) r p h
+  answered_awake (Duty.Send (SendDuty.DataFin s)) r p said falls so h = sent s _ _ (left p) p ((λ up. up), refl) (tail_less p.agenda) h
+  answered_awake (Duty.Send (SendDuty.Fin s)) r p said falls so h =
       sent s (fin_segment_of s p) (having_sent_fin s p) (left p) p (up_goes s (having_sent_fin s p) p (fin_up s) refl) (tail_less p.agenda) h
     where
       fin_up : (s : Side) → NoWaking (end_at s p).tcp (having_sent_fin s p).tcp
       fin_up s = let up = finishing_up (end_at s p).tcp in record { up = up.up; waits = up.waits; past = up.past }
-  answered_awake (duties.Step step_duties.Events) r p said falls so h = event_awake (next_event p) r p refl so h
-  answered_awake (duties.Ask (ask_duties.PlainHandshake s)) r p said falls so h = told_awake s fall.PlainHandshake r p (by_duty s (duties.Ask (ask_duties.PlainHandshake s)) p said (λ t. refl)) so h
-  answered_awake (duties.Ask (ask_duties.PeerKey s)) r p said falls so h = key_awake s (key_heard (end_at s p).treated.items) r p (by_duty s (duties.Ask (ask_duties.PeerKey s)) p said (λ t. refl)) so h
-  answered_awake (duties.Send (send_duties.SynAck s)) r p said falls so h = same_sent s _ _ (left p) p (sending_up to_send.SynAck p.clock (end_at s p).tcp) refl (tail_less p.agenda) h
-  answered_awake (duties.Ask (ask_duties.JoinHeard s)) r p said falls so h = joined_awake s (keys_begun r) (asked_at s p) r p refl so h
-  answered_awake (duties.Send (send_duties.Refuse s)) r p said falls so h = sent s (refusal_of s p) (end_at s p) (left p) p (same_goes s (end_at s p) p refl refl refl) (tail_less p.agenda) h
-  answered_awake (duties.Ask (ask_duties.Opened s)) r p said falls so h = opened_awake s (keys_heard (end_at s p).treated.items) r p (by_duty s (duties.Ask (ask_duties.Opened s)) p said (λ t. refl)) so h
-  answered_awake (duties.Step (step_duties.Heard s index)) r p said falls so h = item_answered_awake s (item_of index (end_at s p)) r p (by_duty s (duties.Step (step_duties.Heard s index)) p said (λ t. refl)) so h
-  answered_awake (duties.Ask (ask_duties.AckHeard s)) r p said falls so h = told_awake s fall.AckHeard r p (by_duty s (duties.Ask (ask_duties.AckHeard s)) p said (λ t. refl)) so h
-  answered_awake (duties.Ask (ask_duties.FailHeard s)) r p said falls so h =
+  answered_awake (Duty.Step StepDuty.Events) r p said falls so h = event_awake (next_event p) r p refl so h
+  answered_awake (Duty.Ask (AskDuty.PlainHandshake s)) r p said falls so h = told_awake s FallEvent.PlainHandshake r p (by_duty s (Duty.Ask (AskDuty.PlainHandshake s)) p said (λ t. refl)) so h
+  answered_awake (Duty.Ask (AskDuty.PeerKey s)) r p said falls so h = key_awake s (key_heard (end_at s p).treated.items) r p (by_duty s (Duty.Ask (AskDuty.PeerKey s)) p said (λ t. refl)) so h
+  answered_awake (Duty.Send (SendDuty.SynAck s)) r p said falls so h = same_sent s _ _ (left p) p (sending_up Occasion.SynAck p.clock (end_at s p).tcp) refl (tail_less p.agenda) h
+  answered_awake (Duty.Ask (AskDuty.JoinHeard s)) r p said falls so h = joined_awake s (keys_begun r) (asked_at s p) r p refl so h
+  answered_awake (Duty.Send (SendDuty.Refuse s)) r p said falls so h = sent s (refusal_of s p) (end_at s p) (left p) p (same_goes s (end_at s p) p refl refl refl) (tail_less p.agenda) h
+  answered_awake (Duty.Ask (AskDuty.Opened s)) r p said falls so h = opened_awake s (keys_heard (end_at s p).treated.items) r p (by_duty s (Duty.Ask (AskDuty.Opened s)) p said (λ t. refl)) so h
+  answered_awake (Duty.Step (StepDuty.Heard s index)) r p said falls so h = item_answered_awake s (item_of index (end_at s p)) r p (by_duty s (Duty.Step (StepDuty.Heard s index)) p said (λ t. refl)) so h
+  answered_awake (Duty.Ask (AskDuty.AckHeard s)) r p said falls so h = told_awake s FallEvent.AckHeard r p (by_duty s (Duty.Ask (AskDuty.AckHeard s)) p said (λ t. refl)) so h
+  answered_awake (Duty.Ask (AskDuty.FailHeard s)) r p said falls so h =
       fail_heard_so (λ e. Awake (goes_on s e (fell_duties s r p) p)) r (end_at s p)
       (λ own owes.
-      verdict_awake s (failed_so r own owes (end_at s p)) r p refl refl (fell_identity fall.CheckFailed r (end_at s p).modes) (by_duty s (duties.Ask (ask_duties.FailHeard s)) p said (λ t. refl)) so h)
-  answered_awake (duties.Step (step_duties.PlainAck s)) r p said falls so h = plain_ack_awake s r p (by_duty s (duties.Step (step_duties.PlainAck s)) p said (λ t. refl)) so h
-  answered_awake (duties.Ask (ask_duties.SubflowAck s)) r p said falls so h = same s _ (left p) p refl refl refl (tail_less p.agenda) h
-  answered_awake (duties.Ask (ask_duties.PlainData s)) r p said falls so h = told_awake s fall.PlainData r p (by_duty s (duties.Ask (ask_duties.PlainData s)) p said (λ t. refl)) so h
-  answered_awake (duties.Ask (ask_duties.GoIdentity s)) r p said falls so h = record {
+      verdict_awake s (failed_so r own owes (end_at s p)) r p refl refl (fell_identity FallEvent.CheckFailed r (end_at s p).modes) (by_duty s (Duty.Ask (AskDuty.FailHeard s)) p said (λ t. refl)) so h)
+  answered_awake (Duty.Step (StepDuty.PlainAck s)) r p said falls so h = plain_ack_awake s r p (by_duty s (Duty.Step (StepDuty.PlainAck s)) p said (λ t. refl)) so h
+  answered_awake (Duty.Ask (AskDuty.SubflowAck s)) r p said falls so h = same s _ (left p) p refl refl refl (tail_less p.agenda) h
+  answered_awake (Duty.Ask (AskDuty.PlainData s)) r p said falls so h = told_awake s FallEvent.PlainData r p (by_duty s (Duty.Ask (AskDuty.PlainData s)) p said (λ t. refl)) so h
+  answered_awake (Duty.Ask (AskDuty.GoIdentity s)) r p said falls so h = record {
     woken = identity_woken s;
     known = λ t joins spoken. h.known t joins (tail_speaks (Voice.Says t) p.agenda spoken);
     falls = λ t spoken. h.falls t (tail_speaks (Voice.Falls t) p.agenda spoken);
@@ -654,29 +574,29 @@ module _ {C : Type 0} (k : Codec C) (W F : Side → Type 0) where
       identity_woken A B joins up = h.woken B joins up
       identity_woken B A joins up = h.woken A joins up
       identity_woken B B joins up = h.woken B joins up
-  answered_awake (duties.Step (step_duties.Unmapped s)) r p said falls so h = break_awake s 6 r p h
-  answered_awake (duties.Ask (ask_duties.SubflowFin s)) r p said falls so h = plain_fin_awake s (is_fin_set r) p h
-  answered_awake (duties.Ask (ask_duties.Edge s)) r p said falls so h = piece_awake s (piece_of s p) (is_placed r) p h
-  answered_awake (duties.Ask (ask_duties.CheckFailed s)) r p said falls so h =
+  answered_awake (Duty.Step (StepDuty.Unmapped s)) r p said falls so h = break_awake s 6 r p h
+  answered_awake (Duty.Ask (AskDuty.SubflowFin s)) r p said falls so h = plain_fin_awake s (is_fin_set r) p h
+  answered_awake (Duty.Ask (AskDuty.Edge s)) r p said falls so h = piece_awake s (piece_of s p) (is_placed r) p h
+  answered_awake (Duty.Ask (AskDuty.CheckFailed s)) r p said falls so h =
       check_failed_so (λ e. Awake (goes_on s e (fell_duties s r p) p)) p.profile.spelling.checksums r (end_at s p)
       (λ told broken recv forgets.
-      verdict_awake s (checked_so r told broken recv (end_at s p)) r p refl refl (fell_identity fall.CheckFailed r (end_at s p).modes) (by_duty s (duties.Ask (ask_duties.CheckFailed s)) p said (λ t. refl)) so h)
-  answered_awake (duties.Ask (ask_duties.HeardFin s index)) r p said falls so h = fin_awake s (is_fin_set r) p h
-  answered_awake (duties.Ask (ask_duties.AckOut s)) r p said falls so h = same s (after_ack_out r (end_at s p)) (left p) p refl refl refl (tail_less p.agenda) h
-  answered_awake (duties.Ask (ask_duties.Rate s)) r p said falls so h = same s _ (left p) p refl refl refl (tail_less p.agenda) h
-  answered_awake (duties.Send (send_duties.Acknowledge s)) r p said falls so h = sent s _ _ (left p) p ((λ up. up), refl) (tail_less p.agenda) h
-  answered_awake (duties.Send (send_duties.Again s)) r p said falls so h = same_sent s _ _ (left p) p (sending_up to_send.First p.clock (end_at s p).tcp) refl (tail_less p.agenda) h
-  answered_awake (duties.Send (send_duties.Answer s)) r p said falls so h = same_sent s (answer_of s p) _ (left p) p (sending_up (answer_occasion (end_at s p)) p.clock (end_at s p).tcp) refl (tail_less p.agenda) h
-  answered_awake (duties.Send (send_duties.ResetAnswer s)) r p said falls so h = sent s (dead_answer s p) (end_at s p) (left p) p (same_goes s (end_at s p) p refl refl refl) (tail_less p.agenda) h
-  answered_awake (duties.Send (send_duties.Resend s)) r p said falls so h = same_sent s (resend_of s p) _ (left p) p (sending_up (resend_occasion (end_at s p)) p.clock (end_at s p).tcp) refl (tail_less p.agenda) h
-  answered_awake (duties.Ask (ask_duties.BreakAck s reason)) r p said falls so h = same s (after_ack_out r (end_at s p)) (resets s reason) p refl refl refl (new_less p.agenda _ (λ t. refl) (λ t. refl)) h
-  answered_awake (duties.Send (send_duties.BreakReset s reason)) r p said falls so h = reset_awake s (Some reason) (leaves s) p (new_less p.agenda _ (λ t. refl) (λ t. refl)) h
-  answered_awake (duties.Send (send_duties.Reset s)) r p said falls so h = reset_awake s None (replaced (duties.Ask (ask_duties.Leave s)) p.agenda) p (replaced_less (duties.Ask (ask_duties.Leave s)) p.agenda (λ t. refl) (λ t. refl)) h
-  answered_awake (duties.Send (send_duties.ResetNoted s)) r p said falls so h = reset_awake s None (replaced (duties.Ask (ask_duties.Leave s)) p.agenda) p (replaced_less (duties.Ask (ask_duties.Leave s)) p.agenda (λ t. refl) (λ t. refl)) h
-  answered_awake (duties.Ask (ask_duties.Leave s)) r p said falls so h = agenda (replaced (duties.Ask (ask_duties.Dead s)) p.agenda) p (replaced_less (duties.Ask (ask_duties.Dead s)) p.agenda (λ t. refl) (λ t. refl)) h
-  answered_awake (duties.Ask (ask_duties.LeaveNoted s)) r p said falls so h =
-      goes s (died (end_at s p)) (replaced (duties.Ask (ask_duties.Dead s)) p.agenda) p (died_goes s p) (replaced_less (duties.Ask (ask_duties.Dead s)) p.agenda (λ t. refl) (λ t. refl)) h
-  answered_awake duties.End r p said falls so h = agenda [] p (new_less p.agenda [] (λ t. refl) (λ t. refl)) h
+      verdict_awake s (checked_so r told broken recv (end_at s p)) r p refl refl (fell_identity FallEvent.CheckFailed r (end_at s p).modes) (by_duty s (Duty.Ask (AskDuty.CheckFailed s)) p said (λ t. refl)) so h)
+  answered_awake (Duty.Ask (AskDuty.HeardFin s index)) r p said falls so h = fin_awake s (is_fin_set r) p h
+  answered_awake (Duty.Ask (AskDuty.AckOut s)) r p said falls so h = same s (after_ack_out r (end_at s p)) (left p) p refl refl refl (tail_less p.agenda) h
+  answered_awake (Duty.Ask (AskDuty.Rate s)) r p said falls so h = same s _ (left p) p refl refl refl (tail_less p.agenda) h
+  answered_awake (Duty.Send (SendDuty.Acknowledge s)) r p said falls so h = sent s _ _ (left p) p ((λ up. up), refl) (tail_less p.agenda) h
+  answered_awake (Duty.Send (SendDuty.Again s)) r p said falls so h = same_sent s _ _ (left p) p (sending_up Occasion.First p.clock (end_at s p).tcp) refl (tail_less p.agenda) h
+  answered_awake (Duty.Send (SendDuty.Answer s)) r p said falls so h = same_sent s (answer_of s p) _ (left p) p (sending_up (answer_occasion (end_at s p)) p.clock (end_at s p).tcp) refl (tail_less p.agenda) h
+  answered_awake (Duty.Send (SendDuty.ResetAnswer s)) r p said falls so h = sent s (dead_answer s p) (end_at s p) (left p) p (same_goes s (end_at s p) p refl refl refl) (tail_less p.agenda) h
+  answered_awake (Duty.Send (SendDuty.Resend s)) r p said falls so h = same_sent s (resend_of s p) _ (left p) p (sending_up (resend_occasion (end_at s p)) p.clock (end_at s p).tcp) refl (tail_less p.agenda) h
+  answered_awake (Duty.Ask (AskDuty.BreakAck s reason)) r p said falls so h = same s (after_ack_out r (end_at s p)) (resets s reason) p refl refl refl (new_less p.agenda _ (λ t. refl) (λ t. refl)) h
+  answered_awake (Duty.Send (SendDuty.BreakReset s reason)) r p said falls so h = reset_awake s (Some reason) (leaves s) p (new_less p.agenda _ (λ t. refl) (λ t. refl)) h
+  answered_awake (Duty.Send (SendDuty.Reset s)) r p said falls so h = reset_awake s None (replaced (Duty.Ask (AskDuty.Leave s)) p.agenda) p (replaced_less (Duty.Ask (AskDuty.Leave s)) p.agenda (λ t. refl) (λ t. refl)) h
+  answered_awake (Duty.Send (SendDuty.ResetNoted s)) r p said falls so h = reset_awake s None (replaced (Duty.Ask (AskDuty.Leave s)) p.agenda) p (replaced_less (Duty.Ask (AskDuty.Leave s)) p.agenda (λ t. refl) (λ t. refl)) h
+  answered_awake (Duty.Ask (AskDuty.Leave s)) r p said falls so h = agenda (replaced (Duty.Ask (AskDuty.Dead s)) p.agenda) p (replaced_less (Duty.Ask (AskDuty.Dead s)) p.agenda (λ t. refl) (λ t. refl)) h
+  answered_awake (Duty.Ask (AskDuty.LeaveNoted s)) r p said falls so h =
+      goes s (died (end_at s p)) (replaced (Duty.Ask (AskDuty.Dead s)) p.agenda) p (died_goes s p) (replaced_less (Duty.Ask (AskDuty.Dead s)) p.agenda (λ t. refl) (λ t. refl)) h
+  answered_awake Duty.End r p said falls so h = agenda [] p (new_less p.agenda [] (λ t. refl) (λ t. refl)) h
   answered_awake _ r p said falls so h = agenda (left p) p (tail_less p.agenda) h
 
   pub takes_awake : (r : Reply) (p : PathState C) → ((x : Ask) → asks_of k p ≡ Some x → So x r) → Awake p → Awake (takes k r p)

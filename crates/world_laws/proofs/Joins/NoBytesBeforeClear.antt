@@ -1,55 +1,16 @@
 -- On a path that joins A asks for no byte of its stream before it may send a DSS there.
-use Rattle.std.proofs.Common.{◌≡◌, refl, sym, ◌∙◌, ap, subst, ℕ, zero, suc, ◌+◌, ◌==◌, nat_lt, nat_le, not, is_some, ◌&&◌, ◌||◌, Bool, true, false, if◌then◌else◌, Option, Some, None, List, [], ◌∷◌, ◌++◌, arith}
-use Rattle.std.proofs.lemmas.Bool.{and_parts, both_ways, false≢true}
-use Rattle.std.proofs.lemmas.Option.{same_Some}
-use Rattle.std.specs.List.{list_any}
-use Rattle.sides.specs.declared.side.Side.{Side}
-use Rattle.sides.specs.declared.side.Side.TheVariants.{A, B}
-use Rattle.key_material.specs.KeyDigest.{token_of}
-use Rattle.control_book.specs.declared.call.ControlCall.{ControlCall}
-use Rattle.control_book.specs.declared.call.ControlCall.TheVariants as control_calls
-use Rattle.control_book.specs.declared.call.ControlReply.TheVariants as control_replies
-use Rattle.control_book.specs.declared.registry.Phase.TheVariants.{Opening}
-use Rattle.control_book.specs.Control.{Control}
-use Rattle.control_book.specs.Registry.{sole as sole_path, with_phase}
+use Rattle.world_laws.proofs.Words.{◌≡◌, refl, sym, ◌∙◌, ap, subst, ℕ, zero, suc, ◌+◌, ◌&&◌, ◌||◌, ◌==◌, not, nat_lt, nat_le, Bool, true, false, if◌then◌else◌}
+use Rattle.world_laws.proofs.Words.{Option, Some, None, List, [], ◌∷◌, ◌++◌, arith, is_some, and_parts, both_ways, false≢true, same_Some, list_any, FallEvent}
+use Rattle.world_laws.proofs.Words.{fall_step, Pass, token_of, Side, A, B, ControlCall, ControlReply, sole_path, with_phase, Control, Opening, Record}
+use Rattle.world_laws.proofs.Words.{may_finish, is_at_limit, start_of_turn, Duty, SendDuty, StepDuty, AskDuty, SilentDuty, Ask, Reply, books_in, after_entry}
+use Rattle.world_laws.proofs.Words.{SixBooks, control_of, reply_of, after_ask, app_ask, Codec, stands, ask_for, PathEnd, waiting_path, PathState, end_at}
+use Rattle.world_laws.proofs.Words.{with_agenda, answers, asks_first, takes, FirstStands, IsSettled, data_stands, first_unsent, data_ask, payload_size, may_ask}
+use Rattle.world_laws.proofs.Words.{may_send_data, keys_begun, is_joined, is_fall, Profile, in_map, Every, Always, PathPlan, Start, path_begins, opened_world}
+use Rattle.world_laws.proofs.Words.{Turn, greatest, world_run, note_of, answer_to, asks_grant}
 use Rattle.control_book.specs.Replies as control
 use Rattle.control_book.specs.Steps as controlling
-use Rattle.subflow_send.specs.Records.{Record}
 use Rattle.subflow_tcp.specs.Sizes.{room}
-use Rattle.subflow_tcp.specs.State.{is_at_limit}
-use Rattle.subflow_tcp.specs.States.{may_finish}
-use Rattle.stream_lanes.specs.Words.{Every}
-use Rattle.actor_desk.specs.declared.ask.Ask.{Ask}
-use Rattle.actor_desk.specs.declared.ask.Ask.TheVariants as asks
-use Rattle.stamped_book.specs.declared.stamped.Pass.{Pass}
-use Rattle.actor_desk.specs.declared.ask.Reply.TheVariants as replies
-use Rattle.actor_desk.specs.Books.{books_in, after_entry}
-use Rattle.actor_desk.specs.Desk.{SixBooks, reply_of, after_ask, control_of}
-use Rattle.stream_apps.specs.AppSteps.{app_ask}
-use Rattle.path_core.specs.MpJoin.{keys_begun, is_joined}
-use Rattle.stream_lanes.proofs.Lists.{in_map}
-use Rattle.path_agenda.specs.Agenda.{start_of_turn}
-use Rattle.path_agenda.specs.declared.duty.Duty.{Duty}
-use Rattle.path_agenda.specs.declared.duty.Duty.TheVariants as duties
-use Rattle.path_agenda.specs.declared.duty.AskDuty.TheVariants as ask_duties
-use Rattle.path_agenda.specs.declared.duty.SendDuty.TheVariants as send_duties
-use Rattle.path_agenda.specs.declared.duty.SilentDuty.TheVariants as silent_duties
-use Rattle.path_agenda.specs.declared.duty.StepDuty.TheVariants as step_duties
-use Rattle.path_core.specs.Codec.{Codec}
-use Rattle.path_core.specs.Duties.{stands, ask_for}
-use Rattle.path_core.specs.Emission.{first_unsent, payload_size, may_send_data, may_ask, data_stands, data_ask}
-use Rattle.path_core.specs.End.{PathEnd}
-use Rattle.path_core.specs.Start.{waiting_path}
-use Rattle.path_core.specs.State.{PathState, with_agenda, end_at}
-use Rattle.path_core.specs.Profile.{Profile}
-use Rattle.path_core.specs.Steps.{answers, asks_first, takes}
-use Rattle.path_core.specs.Turns.{FirstStands, IsSettled}
 use Rattle.world_laws.specs.JoinsWait.{asks_for_a, WaitsSo, JoinsWait}
-use Rattle.world_laws.specs.Laws.{Always}
-use Rattle.world_laws.specs.Openings.{PathPlan, Start, path_begins, opened_world}
-use Rattle.world_laws.specs.RoundEnd.{asks_grant}
-use Rattle.world_laws.specs.StampedBooks.{answer_to}
-use Rattle.world_laws.specs.Worlds.{Turn, note_of, greatest, world_run}
 use Rattle.world_laws.proofs.Lanes.Applying.{any_more}
 use Rattle.world_laws.proofs.Worlds.CastLifting.{Has, turns_have, each_actor, Stepwise}
 use Rattle.world_laws.proofs.Joins.AwakeAfterBegun.{Awake, CallSo, So, takes_awake, begins_awake, more_awake}
@@ -63,9 +24,6 @@ use Rattle.world_laws.proofs.Worlds.Settled.{settled_settled}
 use Rattle.world_laws.proofs.Rounds.Frame.{takes_keeps, first_keeps}
 use Rattle.world_laws.proofs.Rounds.GrantAtOneDuty.{MayNotAsk, ask_isn't, asks_none}
 use Rattle.world_laws.proofs.Keys.ToldAreOwn.{FellBack, fell_stays}
-use Rattle.fallback_state.specs.Table.{fall_step}
-use Rattle.fallback_state.specs.declared.fall.Event.{Event as FallEvent}
-use Rattle.path_core.specs.Fallback.{is_fall}
 
 -- ---- what a path asks
 
@@ -90,19 +48,19 @@ HasJoined six s = (control_of s six).fall.joined ≡ true
 
 -- a book that joined stays so
 pub still_joined : (six : SixBooks) (x : Ask) (s : Side) → HasJoined six s → HasJoined (after_ask x six) s
-still_joined six (asks.Control A call) A is = call_joined six.control_a call is
-still_joined six (asks.Control A call) B is = is
-still_joined six (asks.Control B call) A is = is
-still_joined six (asks.Control B call) B is = call_joined six.control_b call is
-still_joined six (asks.Send A call) A is = is
-still_joined six (asks.Send A call) B is = is
-still_joined six (asks.Send B call) A is = is
-still_joined six (asks.Send B call) B is = is
-still_joined six (asks.Reassembly A call) A is = is
-still_joined six (asks.Reassembly A call) B is = is
-still_joined six (asks.Reassembly B call) A is = is
-still_joined six (asks.Reassembly B call) B is = is
-still_joined six (asks.Local step) s is = is
+still_joined six (Ask.Control A call) A is = call_joined six.control_a call is
+still_joined six (Ask.Control A call) B is = is
+still_joined six (Ask.Control B call) A is = is
+still_joined six (Ask.Control B call) B is = call_joined six.control_b call is
+still_joined six (Ask.Send A call) A is = is
+still_joined six (Ask.Send A call) B is = is
+still_joined six (Ask.Send B call) A is = is
+still_joined six (Ask.Send B call) B is = is
+still_joined six (Ask.Reassembly A call) A is = is
+still_joined six (Ask.Reassembly A call) B is = is
+still_joined six (Ask.Reassembly B call) A is = is
+still_joined six (Ask.Reassembly B call) B is = is
+still_joined six (Ask.Local step) s is = is
 
 module _ {C : Type 0} (k : Codec C) where
   data_clear : (p : PathState C) (o : Option Record) → is_joined p.profile ≡ true → p.a.modes.clear ≡ false → p.a.modes.identity ≡ false → data_stands p.profile A p.a o ≡ true → asks_grant A (data_ask k A o p) ≡ false
@@ -114,33 +72,33 @@ module _ {C : Type 0} (k : Codec C) where
 
   -- where A asks for bytes it may send a DSS on a path that joins
   pub grants_clear : (p : PathState C) (d : Duty) → stands d p ≡ true → is_joined p.profile ≡ true → p.a.modes.clear ≡ false → p.a.modes.identity ≡ false → asks_grant A (ask_for k d p) ≡ false
-  grants_clear p (duties.Step (step_duties.Data A)) is joins unclear plain = data_clear p (first_unsent p.a) joins unclear plain is
-  grants_clear p (duties.Step (step_duties.Data B)) is joins unclear plain = by (first_unsent p.b)
+  grants_clear p (Duty.Step (StepDuty.Data A)) is joins unclear plain = data_clear p (first_unsent p.a) joins unclear plain is
+  grants_clear p (Duty.Step (StepDuty.Data B)) is joins unclear plain = by (first_unsent p.b)
     where
       by : (o : Option Record) → asks_grant A (data_ask k B o p) ≡ false
       by (Some r) = refl
       by None = refl
-  grants_clear p (duties.Ask ask_duties.JoinAgain) is joins unclear plain = asks_nothing p (duties.Ask ask_duties.JoinAgain) tt
-  grants_clear p (duties.Send (send_duties.Update s)) is joins unclear plain = asks_nothing p (duties.Send (send_duties.Update s)) tt
-  grants_clear p (duties.Silent (silent_duties.Timer s)) is joins unclear plain = asks_nothing p (duties.Silent (silent_duties.Timer s)) tt
+  grants_clear p (Duty.Ask AskDuty.JoinAgain) is joins unclear plain = asks_nothing p (Duty.Ask AskDuty.JoinAgain) tt
+  grants_clear p (Duty.Send (SendDuty.Update s)) is joins unclear plain = asks_nothing p (Duty.Send (SendDuty.Update s)) tt
+  grants_clear p (Duty.Silent (SilentDuty.Timer s)) is joins unclear plain = asks_nothing p (Duty.Silent (SilentDuty.Timer s)) tt
   grants_clear p d is joins unclear plain = asks_nothing p d tt
 
   -- ---- what the control books are asked
 
-  begins_joined : (path : ℕ) (c : Control) → is_some (keys_begun (replies.Control (control.join_begin_reply c))) ≡ true → (controlling.after c (control_calls.JoinBegin path)).fall.joined ≡ true
+  begins_joined : (path : ℕ) (c : Control) → is_some (keys_begun (Reply.Control (control.join_begin_reply c))) ≡ true → (controlling.after c (ControlCall.JoinBegin path)).fall.joined ≡ true
   begins_joined path c = by (control.may_join c) (control.join_waits c)
     where
-      by : (x y : Bool) → is_some (keys_begun (replies.Control (if x then control.begin c else (if y then control_replies.NotYet else control_replies.Never c.fall.mode)))) ≡ true
+      by : (x y : Bool) → is_some (keys_begun (Reply.Control (if x then control.begin c else (if y then ControlReply.NotYet else ControlReply.Never c.fall.mode)))) ≡ true
           → (if x then controlling.after_join (record c { paths = with_phase path Opening c.paths }) else c).fall.joined ≡ true
       by true y some = refl
       by false true some = absurd (false≢true some)
       by false false some = absurd (false≢true some)
 
-  heard_joined : (token : ℕ) (c : Control) → is_some (keys_begun (replies.Control (control.join_heard_reply token c))) ≡ true → (controlling.after_join_heard token c).fall.joined ≡ true
+  heard_joined : (token : ℕ) (c : Control) → is_some (keys_begun (Reply.Control (control.join_heard_reply token c))) ≡ true → (controlling.after_join_heard token c).fall.joined ≡ true
   heard_joined token c = by (token == token_of c.keys.own) c.fall.confirmed (control.is_starting c.fall.mode || control.is_sure c.fall.mode)
     where
-      by : (known confirmed begins : Bool) → is_some (keys_begun (replies.Control (if not known then control_replies.UnknownToken (token_of c.keys.own)
-          else (if not confirmed then control_replies.NotConfirmed else (if begins then control.begin c else control_replies.Fallen c.fall.mode))))) ≡ true
+      by : (known confirmed begins : Bool) → is_some (keys_begun (Reply.Control (if not known then ControlReply.UnknownToken (token_of c.keys.own)
+          else (if not confirmed then ControlReply.NotConfirmed else (if begins then control.begin c else ControlReply.Fallen c.fall.mode))))) ≡ true
           → (if known && confirmed && begins then controlling.after_join c else c).fall.joined ≡ true
       by false confirmed begins some = absurd (false≢true some)
       by true false begins some = absurd (false≢true some)
@@ -149,25 +107,23 @@ module _ {C : Type 0} (k : Codec C) where
 
   -- a side that falls joined nothing, and fell back by its book
   falls_so : (path : ℕ) (event : FallEvent) (c : Control) → let row = fall_step c.fall path (sole_path c.paths path) event in
-      is_fall (replies.Control (control_replies.Verdict row.1)) ≡ true → (row.0.joined ≡ true → ⊥) × (is_plain row.0 ≡ true)
+      is_fall (Reply.Control (ControlReply.Verdict row.1)) ≡ true → (row.0.joined ≡ true → ⊥) × (is_plain row.0 ≡ true)
   falls_so path event c fell =
       let row = row_falls path (sole_path c.paths path) event c.fall fell in ((λ is. both_ways _ row.1 is), row.0)
 
   call_so : (six : SixBooks) (s : Side) (call : ControlCall)
-      → CallSo k (HasJoined (after_ask (asks.Control s call) six)) (FellBack (after_ask (asks.Control s call) six)) s call (reply_of six (asks.Control s call))
-  call_so six A (control_calls.JoinBegin path) = begins_joined path six.control_a
-  call_so six B (control_calls.JoinBegin path) = begins_joined path six.control_b
-  call_so six A (control_calls.JoinHeard path token) = heard_joined token six.control_a
-  call_so six B (control_calls.JoinHeard path token) = heard_joined token six.control_b
-  call_so six A (control_calls.Fell path event) = falls_so path event six.control_a
-  call_so six B (control_calls.Fell path event) = falls_so path event six.control_b
+      → CallSo k (HasJoined (after_ask (Ask.Control s call) six)) (FellBack (after_ask (Ask.Control s call) six)) s call (reply_of six (Ask.Control s call))
+  call_so six A (ControlCall.JoinBegin path) = begins_joined path six.control_a
+  call_so six B (ControlCall.JoinBegin path) = begins_joined path six.control_b
+  call_so six A (ControlCall.JoinHeard path token) = heard_joined token six.control_a
+  call_so six B (ControlCall.JoinHeard path token) = heard_joined token six.control_b
+  call_so six A (ControlCall.Fell path event) = falls_so path event six.control_a
+  call_so six B (ControlCall.Fell path event) = falls_so path event six.control_b
   call_so six s _ = tt
 
   pub ask_so : (six : SixBooks) (x : Ask) → So k (HasJoined (after_ask x six)) (FellBack (after_ask x six)) x (reply_of six x)
-  ask_so six (asks.Control s call) = call_so six s call
-  ask_so six (asks.Send s call) = tt
-  ask_so six (asks.Reassembly s call) = tt
-  ask_so six (asks.Local step) = tt
+  ask_so six (Ask.Control s call) = call_so six s call
+  ask_so six _ = tt
 
   -- ---- every list of turns
 

@@ -1,38 +1,16 @@
 -- Over octets, too, no copy that arrives on a path that joins is refused for what it says.
-use Rattle.std.proofs.Common.{◌≡◌, refl, sym, ◌∙◌, ap, subst, ⊎_elim, ℕ, Bool, true, false, cond, Option, Some, None, option_map, List, [], ◌∷◌, ◌++◌, find, map}
-use Rattle.std.proofs.lemmas.Option.{same_Some}
-use Rattle.std.specs.List.{slice_get}
-use Rattle.sides.specs.declared.side.Side.{Side}
-use Rattle.sides.specs.declared.side.Side.TheVariants.{A, B}
-use Rattle.sides.specs.Side.{peer}
-use Rattle.link_model.specs.declared.flight.Due.{Due}
-use Rattle.link_model.specs.declared.flight.Flight.{Flight}
+use Rattle.world_laws.proofs.Words.{◌≡◌, refl, sym, ◌∙◌, ap, subst, ℕ, ⊎_elim, Bool, true, false, cond, Option, Some, None, List, [], ◌∷◌, ◌++◌, map}
+use Rattle.world_laws.proofs.Words.{option_map, find, same_Some, slice_get, Side, A, B, peer, is_due, arriving, Due, Flight, HeardSegment, meant, IsFresh}
+use Rattle.world_laws.proofs.Words.{Expected, subflow_number, is_nil, PathState, end_at, Carried, as_arrived, values, judged_in, heard_in, expected_by}
+use Rattle.world_laws.proofs.Words.{next_event, is_joined, octets, shown_path, IsFarReset, IsFreshCopy, NextIsFresh, same_event, in_map, App, Path, Actor}
+use Rattle.world_laws.proofs.Words.{ActorCrew, opened_world, WorldState, Turn, after_turn, world_run, HoldsAnywayOfOctets, IsFreshCrew, IsFreshMember}
+use Rattle.world_laws.proofs.Words.{IsFreshTurn, AreFresh, shown_crew, shown_member, shown_world}
 use Rattle.link_model.specs.Laws.{shown_flight}
-use Rattle.link_model.specs.Steps.{is_due, arriving}
-use Rattle.path_segments.specs.Laws.{IsFresh, meant}
-use Rattle.path_segments.specs.declared.expected.Expected.{Expected}
-use Rattle.stream_lanes.proofs.Lists.{in_map}
-use Rattle.actor_desk.specs.Words.{is_nil}
-use Rattle.path_core.specs.declared.events.Event.TheVariants as happenings
-use Rattle.path_core.specs.Arrival.{expected_by, judged_in, heard_in}
-use Rattle.path_core.specs.Events.{next_event}
-use Rattle.path_core.specs.MpJoin.{is_joined}
-use Rattle.path_core.specs.Octets.{octets}
-use Rattle.path_core.specs.Shown.{octets_of, shown_path, IsFarReset, IsFreshCopy, NextIsFresh}
-use Rattle.path_core.specs.State.{PathState, end_at}
-use Rattle.path_core.specs.Values.{Carried, as_arrived, values}
+use Rattle.path_core.specs.declared.events.Event.{Event}
+use Rattle.path_core.specs.Shown.{octets_of}
 use Rattle.path_core.proofs.CopiesRead.{near_read, far_read}
-use Rattle.path_segments.specs.Spelling.{subflow_number}
-use Rattle.path_segments.specs.Heard.{HeardSegment}
 use Rattle.path_core.proofs.FarResets.{unplaced}
-use Rattle.path_core.proofs.Showing.{same_event}
-use Rattle.world_laws.specs.declared.member.Member.TheVariants.{App, Path}
-use Rattle.world_laws.specs.Actors.{Actor, ActorCrew}
-use Rattle.world_laws.specs.Fresh.{IsFreshCrew, IsFreshMember, IsFreshTurn, AreFresh, shown_crew, shown_member, shown_world}
-use Rattle.world_laws.specs.Openings.{opened_world}
-use Rattle.world_laws.specs.Promises.{HoldsAnywayOfOctets}
 use Rattle.world_laws.specs.Welcome.{IsWelcome, NextIsWelcome, WelcomesNext, EachCopyIsWelcome}
-use Rattle.world_laws.specs.Worlds.{WorldState, Turn, after_turn, world_run}
 use Rattle.world_laws.proofs.Joins.Welcome.{each_copy_is_welcome, reset_welcome}
 use Rattle.world_laws.proofs.Promises.Made.{run_fresh}
 use Rattle.world_laws.proofs.Numbers.EveryTurn.{every_list_is_fresh}
@@ -51,7 +29,7 @@ same_end_at A p = refl
 same_end_at B p = refl
 
 -- a fresh copy is heard as it was meant, or it is a reset
-module _ (p : PathState Carried) (fresh : NextIsFresh p) (welcomes : NextIsWelcome values p) (due : Due) (heard : HeardSegment) (next : next_event p ≡ Some (happenings.Arrives due))
+module _ (p : PathState Carried) (fresh : NextIsFresh p) (welcomes : NextIsWelcome values p) (due : Due) (heard : HeardSegment) (next : next_event p ≡ Some (Event.Arrives due))
     (some : is_nil heard.options ≡ false) where
   abbrev side : Side
   side = peer due.to

@@ -1,87 +1,33 @@
 -- What the ends of a path that joins are, and its copies: A's end never has the peer's SYN before its own was answered, and B's never
 -- opens; a SYN that shows options shows an MP_JOIN.
-use Rattle.std.proofs.Common.{◌≡◌, refl, sym, ◌∙◌, ap, subst, ℕ, ◌+◌, ◌-◌, Bool, true, false, if◌then◌else◌, Option, Some, None, List, [], position}
-use Rattle.std.proofs.lemmas.Bool.{both_ways, false≢true}
-use Rattle.sides.specs.declared.side.Side.{Side}
-use Rattle.sides.specs.declared.side.Side.TheVariants.{A, B}
-use Rattle.sides.specs.Side.{peer}
-use Rattle.dss_mapping.specs.declared.kept.KeptMapping.{KeptMapping}
-use Rattle.link_model.specs.declared.flight.Flight.{Flight}
-use Rattle.link_model.specs.Fate.{is_stripped, is_altered, fate_of}
-use Rattle.link_model.specs.Steps.{is_due, arriving, arrivals, changed, next_number, without, after_delivery}
-use Rattle.path_segments.specs.Spelled.{PlainSegment}
-use Rattle.path_segments.specs.Heard.{HeardSegment}
-use Rattle.join_handshake.specs.declared.hearing.JoinSyn.{JoinSyn}
-use Rattle.subflow_recv.specs.Receiving.{after_forget_from}
-use Rattle.subflow_send.specs.Records.{Record}
-use Rattle.subflow_tcp.specs.declared.handshake.State.{State as EndPhase}
-use Rattle.subflow_tcp.specs.declared.handshake.State.TheVariants as phase
-use Rattle.subflow_tcp.specs.declared.segments.Occasion.{Occasion}
-use Rattle.subflow_tcp.specs.declared.segments.Occasion.TheVariants as to_send
-use Rattle.subflow_tcp.specs.declared.segments.Outgoing.{Outgoing}
-use Rattle.subflow_tcp.specs.Emitting.{after_sending}
-use Rattle.subflow_tcp.specs.Expiring.{is_sixth, after_expiry}
-use Rattle.subflow_tcp.specs.Opening.{after_begin}
-use Rattle.subflow_tcp.specs.State.{EndState, has_records}
-use Rattle.subflow_tcp.specs.States.{is_dead, is_waiting}
-use Rattle.subflow_tcp.specs.Taking.{after_death, after_dropping_held, after_keeping_held, after_syn, unkept}
-use Rattle.subflow_tcp.specs.Closing.{is_fin_next, after_passing_fin}
-use Rattle.fallback_state.specs.declared.fall.Event.{Event as FallEvent}
-use Rattle.fallback_state.specs.declared.fall.Event.TheVariants as fall
-use Rattle.stream_lanes.specs.Words.{Every}
-use Rattle.stream_lanes.proofs.Lists.{Every-nil}
-use Rattle.actor_desk.specs.declared.ask.Reply.{Reply}
-use Rattle.actor_desk.specs.Words.{tail_of}
-use Rattle.path_agenda.specs.Agenda.{emission, leaves, resets, rest_of_turn, stops, announces, withdraws}
-use Rattle.path_agenda.specs.Words.{replaced, first_of}
-use Rattle.path_agenda.specs.declared.duty.Duty.{Duty}
-use Rattle.path_agenda.specs.declared.duty.Duty.TheVariants as duties
-use Rattle.path_agenda.specs.declared.duty.AskDuty.TheVariants as ask_duties
-use Rattle.path_agenda.specs.declared.duty.SendDuty.TheVariants as send_duties
-use Rattle.path_agenda.specs.declared.duty.SilentDuty.TheVariants as silent_duties
-use Rattle.path_agenda.specs.declared.duty.StepDuty.TheVariants as step_duties
-use Rattle.path_agenda.specs.declared.heard.Heard.{Heard}
-use Rattle.path_agenda.specs.declared.heard.Heard.TheVariants as says
-use Rattle.path_agenda.specs.declared.keys.KeyPair.{KeyPair}
-use Rattle.path_core.specs.FastClose.{is_stopped_by}
+use Rattle.world_laws.proofs.Words.{◌≡◌, refl, sym, ◌∙◌, ap, subst, ℕ, ◌+◌, ◌-◌, Bool, true, false, if◌then◌else◌, Option, Some, None, List, [], position}
+use Rattle.world_laws.proofs.Words.{both_ways, false≢true, FallEvent, Side, A, B, peer, JoinSyn, KeptMapping, Record, is_dead, is_waiting}
+use Rattle.world_laws.proofs.Words.{is_sixth, after_expiry, after_sending, EndState, has_records, EndPhase, Occasion, Outgoing, after_death}
+use Rattle.world_laws.proofs.Words.{after_dropping_held, after_keeping_held, after_syn, unkept, after_begin, is_fin_next, after_passing_fin, is_due, arriving}
+use Rattle.world_laws.proofs.Words.{arrivals, changed, next_number, without, after_delivery, Flight, is_stripped, is_altered, fate_of, LinkState, HeardSegment}
+use Rattle.world_laws.proofs.Words.{PlainSegment, LineAction, rest_of_turn, emission, leaves, resets, stops, announces, withdraws, Duty, SendDuty, StepDuty}
+use Rattle.world_laws.proofs.Words.{OwnNotice, AskDuty, SilentDuty, Heard, KeyPair, replaced, first_of, Reply, tail_of, passed, answered, PathEnd, died}
+use Rattle.world_laws.proofs.Words.{answered_ack_out, after_ack_out, at_tick, PathState, end_at, goes_on, with_end, with_agenda, left, takes, begins_turn}
+use Rattle.world_laws.proofs.Words.{Carried, as_arrived, carried_by, stripped, altered, values, hint_of, items_of, owes_by, options_heard, after_judged}
+use Rattle.world_laws.proofs.Words.{copy_judged, copy_of, judged_in, reset_for, template_of, heard_in, copy_heard, heard_at, reset_of, reset_on, answered_break}
+use Rattle.world_laws.proofs.Words.{refusal_of, died_unless_dead, answered_data, answered_grant, first_unsent, grant_in, answer_occasion, answer_of}
+use Rattle.world_laws.proofs.Words.{dead_answer, resend_occasion, resend_of, first_record, Judged, next_event, after_line, happens_if, join_begun, never_joined}
+use Rattle.world_laws.proofs.Words.{asked_at, is_listening, is_never, join_taken, joined_by, keys_begun, opened_by, syn_alone, with_mode_refused, is_joined}
+use Rattle.world_laws.proofs.Words.{after_timer, template_fired, timer_fired, mapping_here, forgotten_by, after_keep, after_pieces, is_dropped}
+use Rattle.world_laws.proofs.Words.{after_check, is_data_fin_owed, fin_segment_of, having_sent_fin, after_pass_fin, is_clash, with_learned, with_data_fin}
+use Rattle.world_laws.proofs.Words.{with_skipped, held_of, with_acked, after_dss, with_data_ack, answered_heard, answered_item, item_of, item_passed}
+use Rattle.world_laws.proofs.Words.{after_fell, fell_duties, answered_plain_ack, with_plain_ack, breaks_by_ack, answered_fell, with_infinite, after_keys}
+use Rattle.world_laws.proofs.Words.{is_stopped_by, with_priority, after_peer_notice, reset_options, ack_said, carried_said, syn_ack_said, record_or_ack}
+use Rattle.world_laws.proofs.Words.{noted_said, Profile, having_sent, sent_on, taken_as, Treated, Every-nil, Every, if_so, EndWrites, Only, Writes, OnlyAt}
+use Rattle.world_laws.proofs.Words.{EndView, PathView, writes, side_of, copy_said}
 use Rattle.path_core.specs.declared.events.Event.{Event}
-use Rattle.path_core.specs.declared.events.Event.TheVariants as happenings
-use Rattle.path_core.specs.declared.judged.Judged.{Judged}
-use Rattle.path_core.specs.Arrival.{after_judged, copy_judged, copy_of, judged_in, reset_for, template_of, heard_at, heard_in, copy_heard}
-use Rattle.path_core.specs.DssIn.{held_of, with_learned, with_skipped, counts, is_clash, with_acked, with_data_fin, with_data_ack}
-use Rattle.path_core.specs.OptionsIn.{hint_of, items_of, options_heard, owes_by}
-use Rattle.path_core.specs.Judged.{taken_as}
-use Rattle.path_core.specs.Breaking.{reset_of, reset_on, answered_break, died_unless_dead, refusal_of}
-use Rattle.path_core.specs.DataFin.{is_data_fin_owed, fin_segment_of, having_sent_fin, after_pass_fin}
-use Rattle.path_core.specs.Duties.{passed, answered}
-use Rattle.path_core.specs.Emission.{Grant, grant_in, answered_grant, answered_data, first_unsent, answer_occasion, answer_of, resend_occasion, dead_answer, first_record, resend_of}
-use Rattle.path_core.specs.Timer.{after_timer, timer_fired, template_fired}
-use Rattle.path_core.specs.End.{PathEnd, died}
-use Rattle.path_core.specs.Treated.{Treated}
-use Rattle.path_core.specs.Events.{next_event, after_line, happens_if}
-use Rattle.path_core.specs.State.{at_tick, PathState, end_at, goes_on, left, with_agenda, with_end}
-use Rattle.path_core.specs.MpJoin.{join_begun, never_joined, asked_at, is_listening, is_never, join_taken, joined_by, keys_begun, opened_by, syn_alone, with_mode_refused, is_joined}
-use Rattle.path_core.specs.Addresses.{with_priority, after_peer_notice}
-use Rattle.path_store.specs.declared.lines.LineAction.{LineAction}
-use Rattle.path_store.specs.declared.lines.LineAction.TheVariants as actions
-use Rattle.path_core.specs.Fallback.{after_fell, fell_duties, answered_fell, answered_plain_ack, breaks_by_ack, with_plain_ack, with_infinite}
-use Rattle.path_core.specs.MpCapable.{after_keys}
-use Rattle.path_core.specs.Deliver.{after_check, after_pieces, mapping_here, is_wrong, forgotten_by, after_keep, is_dropped}
-use Rattle.path_core.specs.OptionsOut.{ack_said, carried_said, reset_options, record_or_ack, syn_ack_said, noted_said}
-use Rattle.path_core.specs.Handover.{having_sent, sent_on}
-use Rattle.path_core.specs.Standing.{after_ack_out, answered_ack_out}
-use Rattle.path_core.specs.Profile.{Profile}
-use Rattle.path_core.specs.Steps.{answers, takes, begins_turn}
-use Rattle.path_core.specs.Treating.{answered_heard, answered_item, item_of, item_passed}
-use Rattle.path_core.specs.Values.{Carried, as_arrived, carried_by, stripped, altered, values}
-use Rattle.path_agenda.specs.declared.notice.OwnNotice.{OwnNotice}
+use Rattle.path_core.specs.Emission.{Grant}
+use Rattle.world_laws.proofs.Writes.Ends.{item_so}
 use Rattle.world_laws.proofs.Keys.Held.{in_removed}
 use Rattle.world_laws.proofs.Keys.WhatWakes.{WakesNone, joined_wakes_none}
 use Rattle.world_laws.proofs.Keys.AnswerHeardFirst.{is_apart, finish_apart, passed_apart, apart_stays, arrived_state, TellsKey, no_syn, record_or_ack_tells, syn_ack_tells, IsNoSyn, reset_answers, outgoing_tells}
 use Rattle.world_laws.proofs.Lanes.Saying.{flights_kept}
-use Rattle.world_laws.proofs.Falls.FailedChecks.{infinite_came_so, fail_answered_so}
-use Rattle.link_model.specs.State.{LinkState}
-use Rattle.world_laws.specs.Writes.{EndWrites, EndView, Only, Writes, OnlyAt, PathView, copy_said, writes, side_of}
+use Rattle.world_laws.proofs.Falls.FailedChecks.{forgets_so, infinite_came_so, fail_answered_so}
 use Rattle.world_laws.proofs.Writes.Paths.{writes_no_more}
 use Rattle.world_laws.proofs.Writes.Steps.{Lasts, both_ends, unwritten, takes_lasts, begins_lasts}
 
@@ -150,16 +96,12 @@ changed_tells true B false true carried tells = tells
 -- what arrives shows no more
 pub arrived_tells : (joined : Bool) (to : Side) (carried : Carried) → TellsKey joined to carried.segment → TellsKey joined to (as_arrived carried)
 arrived_tells false to carried tells = tt
-arrived_tells true A carried tells = by carried.stripped
-  where
-    by : (b : Bool) → TellsKey true A (record carried.segment { options = (if b then [] else carried.segment.options) })
-    by true = λ some. absurd (false≢true (sym some))
-    by false = tells
-arrived_tells true B carried tells = by carried.stripped
-  where
-    by : (b : Bool) → TellsKey true B (record carried.segment { options = (if b then [] else carried.segment.options) })
-    by true = λ some. absurd (false≢true (sym some))
-    by false = tells
+arrived_tells true A carried tells =
+    if_so (λ z. TellsKey true A (record carried.segment { options = z })) carried.stripped [] carried.segment.options
+    (λ some. absurd (false≢true (sym some))) tells
+arrived_tells true B carried tells =
+    if_so (λ z. TellsKey true B (record carried.segment { options = z })) carried.stripped [] carried.segment.options
+    (λ some. absurd (false≢true (sym some))) tells
 
 sent_copies : (s : Side) (sg : PlainSegment) (p : PathState Carried) → TellsKey (is_joined p.profile) (peer s) sg → Every (CopyTells (is_joined p.profile)) p.link.under_way
     → (e : PathEnd) (ds : List Duty) → Every (CopyTells (is_joined p.profile)) (sent_on values s sg e ds p).link.under_way
@@ -204,37 +146,14 @@ noted_tells s None p = ack_tells s (end_at s p).tcp.send.nxt None p
 -- ---- in silence
 
 item_goes : (s : Side) (o : Option Heard) (p : PathState Carried) → HasRoles p → Goes s p (item_passed s o (end_at s p))
-item_goes s None p h = same_goes s (end_at s p) p refl refl h
-item_goes s (Some says.Dss) p h = same_goes s (item_passed s (Some says.Dss) (end_at s p)) p refl refl h
-item_goes s (Some (says.DataAck next window)) p h = same_goes s (with_data_ack next (end_at s p)) p refl refl h
-item_goes s (Some (says.Mapping fin)) p h = by (counts (end_at s p))
-  where
-    by : (b : Bool) → Goes s p (if b then with_learned (end_at s p) else with_skipped (end_at s p))
-    by true = same_goes s (with_learned (end_at s p)) p refl refl h
-    by false = same_goes s (with_skipped (end_at s p)) p refl refl h
-item_goes s (Some (says.DataFin place)) p h = by (counts (end_at s p))
-  where
-    by : (b : Bool) → Goes s p (if b then with_data_fin place (end_at s p) else end_at s p)
-    by true = same_goes s (with_data_fin place (end_at s p)) p refl refl h
-    by false = same_goes s (end_at s p) p refl refl h
-item_goes s (Some (says.InfiniteMapping place position)) p h = same_goes s (end_at s p) p refl refl h
-item_goes s (Some (says.PeerKey key)) p h = same_goes s (end_at s p) p refl refl h
-item_goes s (Some (says.Keys own other)) p h = same_goes s (end_at s p) p refl refl h
-item_goes s (Some (says.Join form)) p h = same_goes s (end_at s p) p refl refl h
-item_goes s (Some (says.Notice notice)) p h = same_goes s (end_at s p) p refl refl h
-item_goes s (Some says.Fail) p h = same_goes s (end_at s p) p refl refl h
-item_goes s (Some (says.FastClose key)) p h = same_goes s (end_at s p) p refl refl h
+item_goes s o p h =
+    let e : PathEnd = end_at s p in
+    item_so (Goes s p) s o e (same_goes s e p refl refl h) (same_goes s (after_dss s e) p refl refl h) (λ next. same_goes s (with_data_ack next e) p refl refl h)
+    (same_goes s (with_learned e) p refl refl h) (same_goes s (with_skipped e) p refl refl h) (λ place. same_goes s (with_data_fin place e) p refl refl h)
 
 edge_goes : (s : Side) (checksums : Bool) (o : Option KeptMapping) (p : PathState Carried) → HasRoles p → Goes s p (forgotten_by checksums o (end_at s p))
-edge_goes s checksums None p h = same_goes s (end_at s p) p refl refl h
-edge_goes s checksums (Some kept) p h = by (is_wrong checksums kept (end_at s p).tcp)
-  where
-    e : PathEnd
-    e = end_at s p
-
-    by : (b : Bool) → Goes s p (if b then record e { tcp = record e.tcp { recv = after_forget_from kept.pos e.tcp.recv } } else e)
-    by true = same_goes s (record e { tcp = record e.tcp { recv = after_forget_from kept.pos e.tcp.recv } }) p refl refl h
-    by false = same_goes s e p refl refl h
+edge_goes s checksums o p h = let e : PathEnd = end_at s p in
+    forgets_so (Goes s p) checksums o e (λ recv forgotten. same_goes s (record e { tcp = record e.tcp { recv = recv } }) p refl refl h)
 
 keep_goes : (s : Side) (b : Bool) (held : Option ℕ) (p : PathState Carried) → HasRoles p
     → Goes s p (record (end_at s p) { tcp = (if b then after_dropping_held (end_at s p).tcp else after_keeping_held (end_at s p).tcp); treated = record (end_at s p).treated { held_edge = held } })
@@ -246,13 +165,13 @@ fin_goes s true p h = record { role = λ joins is. sym (passed_apart s (end_at s
 fin_goes s false p h = same_goes s (end_at s p) p refl refl h
 
 passed_roles : (d : Duty) (p : PathState Carried) → HasRoles p → HasRoles (passed d p)
-passed_roles (duties.Silent (silent_duties.Timer s)) p h = with_roles s (after_timer p.clock (end_at s p)) p (same_goes s (after_timer p.clock (end_at s p)) p refl refl h) h
-passed_roles (duties.Step (step_duties.Heard s index)) p h = with_roles s (item_passed s (item_of index (end_at s p)) (end_at s p)) p (item_goes s (item_of index (end_at s p)) p h) h
-passed_roles (duties.Silent (silent_duties.Keep s)) p h = with_roles s (after_keep s (end_at s p)) p (keep_goes s (is_dropped s (end_at s p)) _ p h) h
-passed_roles (duties.Step (step_duties.PlainAck s)) p h = with_roles s (with_plain_ack (end_at s p)) p (same_goes s (with_plain_ack (end_at s p)) p refl refl h) h
-passed_roles (duties.Step (step_duties.Unmapped s)) p h = with_roles s (after_pieces (end_at s p)) p (same_goes s (after_pieces (end_at s p)) p refl refl h) h
-passed_roles (duties.Ask (ask_duties.CheckFailed s)) p h = with_roles s (after_check p.profile (end_at s p)) p (edge_goes s p.profile.spelling.checksums (mapping_here (end_at s p)) p h) h
-passed_roles (duties.Silent (silent_duties.PassFin s)) p h = with_roles s (after_pass_fin (end_at s p)) p (fin_goes s (is_fin_next (end_at s p).tcp) p h) h
+passed_roles (Duty.Silent (SilentDuty.Timer s)) p h = with_roles s (after_timer p.clock (end_at s p)) p (same_goes s (after_timer p.clock (end_at s p)) p refl refl h) h
+passed_roles (Duty.Step (StepDuty.Heard s index)) p h = with_roles s (item_passed s (item_of index (end_at s p)) (end_at s p)) p (item_goes s (item_of index (end_at s p)) p h) h
+passed_roles (Duty.Silent (SilentDuty.Keep s)) p h = with_roles s (after_keep s (end_at s p)) p (keep_goes s (is_dropped s (end_at s p)) _ p h) h
+passed_roles (Duty.Step (StepDuty.PlainAck s)) p h = with_roles s (with_plain_ack (end_at s p)) p (same_goes s (with_plain_ack (end_at s p)) p refl refl h) h
+passed_roles (Duty.Step (StepDuty.Unmapped s)) p h = with_roles s (after_pieces (end_at s p)) p (same_goes s (after_pieces (end_at s p)) p refl refl h) h
+passed_roles (Duty.Ask (AskDuty.CheckFailed s)) p h = with_roles s (after_check p.profile (end_at s p)) p (edge_goes s p.profile.spelling.checksums (mapping_here (end_at s p)) p h) h
+passed_roles (Duty.Silent (SilentDuty.PassFin s)) p h = with_roles s (after_pass_fin (end_at s p)) p (fin_goes s (is_fin_next (end_at s p).tcp) p h) h
 passed_roles _ p h = h
 
 -- ---- events
@@ -261,17 +180,13 @@ died_goes : (s : Side) (p : PathState Carried) → Goes s p (died (end_at s p))
 died_goes s p = record { role = λ joins is. absurd (false≢true is); answer = tt }
 
 unless_dead_goes : (s : Side) (p : PathState Carried) → HasRoles p → Goes s p (died_unless_dead (end_at s p))
-unless_dead_goes s p h = by (is_dead (end_at s p).tcp.state)
-  where
-    by : (b : Bool) → Goes s p (if b then end_at s p else died (end_at s p))
-    by true = same_goes s (end_at s p) p refl refl h
-    by false = died_goes s p
+unless_dead_goes s p h = if_so (Goes s p) (is_dead (end_at s p).tcp.state) (end_at s p) (died (end_at s p)) (same_goes s (end_at s p) p refl refl h) (died_goes s p)
 
 line_roles : (action : LineAction) (p : PathState Carried) → HasRoles p → HasRoles (after_line action p)
-line_roles (actions.Prio s backup) p h = same_roles s (with_priority backup (end_at s p)) (emission s) p refl refl h
-line_roles (actions.Announce s id) p h = agenda_roles (announces s id) p h
-line_roles (actions.Withdraw s id) p h = agenda_roles (withdraws s id) p h
-line_roles actions.Die p h =
+line_roles (LineAction.Prio s backup) p h = same_roles s (with_priority backup (end_at s p)) (emission s) p refl refl h
+line_roles (LineAction.Announce s id) p h = agenda_roles (announces s id) p h
+line_roles (LineAction.Withdraw s id) p h = agenda_roles (withdraws s id) p h
+line_roles LineAction.Die p h =
     let a = unless_dead_goes A p h in
     let b = unless_dead_goes B p h in
     record {
@@ -336,20 +251,20 @@ copy_roles s (Some heard) p h = heard_roles p.clock s heard p h
 
 event_roles : (o : Option Event) (r : Reply) (p : PathState Carried) → HasRoles p → HasRoles (happens_if values o r p)
 event_roles None r p h = agenda_roles rest_of_turn p h
-event_roles (Some (happenings.Joins tick)) r p h =
+event_roles (Some (Event.Joins tick)) r p h =
     begun_roles r (leaves A) (emission A) (record (at_tick tick p) { joined_at = None })
     (record { copies = h.copies; role_a = h.role_a; role_b = h.role_b; answer_a = h.answer_a; answer_b = h.answer_b })
-event_roles (Some (happenings.Takes line)) r p h =
+event_roles (Some (Event.Takes line)) r p h =
     line_roles line.action (record (at_tick line.tick p) { lines = tail_of p.lines })
     (record { copies = h.copies; role_a = h.role_a; role_b = h.role_b; answer_a = h.answer_a; answer_b = h.answer_b })
-event_roles (Some (happenings.Arrives due)) r p h =
+event_roles (Some (Event.Arrives due)) r p h =
     copy_roles due.to (heard_in values due.to (arriving due p.link) p) (record (at_tick due.tick p) { link = after_delivery due p.link })
     (record { copies = rest (position (is_due due) p.link.under_way); role_a = h.role_a; role_b = h.role_b; answer_a = h.answer_a; answer_b = h.answer_b })
   where
     rest : (o : Option ℕ) → Every (CopyTells (is_joined p.profile)) (without o p.link.under_way)
     rest None = h.copies
     rest (Some place) = record { each = λ i f at. let there = in_removed p.link.under_way place i f at in h.copies.each there.0 f there.1 }
-event_roles (Some (happenings.Fires s tick)) r p h =
+event_roles (Some (Event.Fires s tick)) r p h =
     fired_roles s (at_tick tick p) (record { copies = h.copies; role_a = h.role_a; role_b = h.role_b; answer_a = h.answer_a; answer_b = h.answer_b })
 
 -- ---- replies
@@ -358,11 +273,9 @@ reset_roles : (s : Side) (reason : Option ℕ) (ds : List Duty) (p : PathState C
 reset_roles s reason ds p h = sent_roles s (reset_of s reason p) (died (end_at s p)) ds p (no_syn (is_joined p.profile) s (reset_of s reason p) refl) (died_goes s p) h
 
 break_roles : (s : Side) (reason : ℕ) (r : Reply) (p : PathState Carried) → HasRoles p → HasRoles (answered_break values s reason r p)
-break_roles s reason r p h = by (end_at s p).treated.asked
-  where
-    by : (b : Bool) → HasRoles (if b then answered_ack_out s r (resets s reason) p else reset_on values s (Some reason) (leaves s) p)
-    by true = same_roles s (after_ack_out r (end_at s p)) (resets s reason) p refl refl h
-    by false = reset_roles s (Some reason) (leaves s) p h
+break_roles s reason r p h =
+    if_so HasRoles (end_at s p).treated.asked (answered_ack_out s r (resets s reason) p) (reset_on values s (Some reason) (leaves s) p)
+    (same_roles s (after_ack_out r (end_at s p)) (resets s reason) p refl refl h) (reset_roles s (Some reason) (leaves s) p h)
 
 told_roles : (s : Side) (event : FallEvent) (r : Reply) (p : PathState Carried) → HasRoles p → HasRoles (answered_fell s event r p)
 told_roles s event r p h = same_roles s (after_fell event r (end_at s p)) (fell_duties s r p) p refl refl h
@@ -379,41 +292,35 @@ keys_roles : (s : Side) (r : Reply) (o : Option KeyPair) (p : PathState Carried)
 keys_roles s r o p h = same_roles s (after_keys r o (end_at s p)) (left p) p refl refl h
 
 heard_answered_roles : (s : Side) (item : Heard) (r : Reply) (p : PathState Carried) → HasRoles p → HasRoles (answered_heard values s item r p)
-heard_answered_roles s (says.DataAck next window) r p h = same_roles s (with_acked next r (end_at s p)) _ p refl refl h
-heard_answered_roles s (says.Mapping fin) r p h = by (is_clash (end_at s p))
-  where
-    by : (b : Bool) → HasRoles (if b then answered_break values s 1 r p else goes_on s (with_learned (after_fell fall.MappingHeard r (end_at s p))) (fell_duties s r p) p)
-    by true = break_roles s 1 r p h
-    by false = same_roles s (with_learned (after_fell fall.MappingHeard r (end_at s p))) (fell_duties s r p) p refl refl h
-heard_answered_roles s (says.DataFin place) r p h = same_roles s (with_data_fin place (after_fell fall.MappingHeard r (end_at s p))) (fell_duties s r p) p refl refl h
-heard_answered_roles s (says.InfiniteMapping place position) r p h =
+heard_answered_roles s (Heard.DataAck next window) r p h = same_roles s (with_acked next r (end_at s p)) _ p refl refl h
+heard_answered_roles s (Heard.Mapping fin) r p h =
+    if_so HasRoles (is_clash (end_at s p)) (answered_break values s 1 r p) (goes_on s (with_learned (after_fell FallEvent.MappingHeard r (end_at s p))) (fell_duties s r p) p)
+    (break_roles s 1 r p h) (same_roles s (with_learned (after_fell FallEvent.MappingHeard r (end_at s p))) (fell_duties s r p) p refl refl h)
+heard_answered_roles s (Heard.DataFin place) r p h = same_roles s (with_data_fin place (after_fell FallEvent.MappingHeard r (end_at s p))) (fell_duties s r p) p refl refl h
+heard_answered_roles s (Heard.InfiniteMapping place position) r p h =
     infinite_came_so (λ e. HasRoles (goes_on s e (fell_duties s r p) p)) place position r (end_at s p) (λ other. same_roles s _ (fell_duties s r p) p refl refl h)
-heard_answered_roles s (says.Keys mine other) r p h = keys_roles s r (Some (record { own = mine; peer = other })) p h
-heard_answered_roles s says.Dss r p h = agenda_roles (left p) p h
-heard_answered_roles s (says.PeerKey key) r p h = agenda_roles (left p) p h
-heard_answered_roles s (says.Join form) r p h = agenda_roles (left p) p h
-heard_answered_roles s (says.Notice notice) r p h = same_roles s (after_peer_notice notice r (end_at s p)) (left p) p refl refl h
-heard_answered_roles s says.Fail r p h =
-    fail_answered_so HasRoles s r p (same_roles s (with_infinite r (end_at s p)) (replaced (duties.Ask (ask_duties.FailHeard s)) p.agenda) p refl refl h) (told_roles s (fall.FailHeard false) r p h)
-heard_answered_roles s (says.FastClose key) r p h = agenda_roles (if is_stopped_by r then stops s else left p) p h
+heard_answered_roles s (Heard.Keys mine other) r p h = keys_roles s r (Some (record { own = mine; peer = other })) p h
+heard_answered_roles s Heard.Dss r p h = agenda_roles (left p) p h
+heard_answered_roles s (Heard.PeerKey key) r p h = agenda_roles (left p) p h
+heard_answered_roles s (Heard.Join form) r p h = agenda_roles (left p) p h
+heard_answered_roles s (Heard.Notice notice) r p h = same_roles s (after_peer_notice notice r (end_at s p)) (left p) p refl refl h
+heard_answered_roles s Heard.Fail r p h =
+    fail_answered_so HasRoles s r p (same_roles s (with_infinite r (end_at s p)) (replaced (Duty.Ask (AskDuty.FailHeard s)) p.agenda) p refl refl h) (told_roles s (FallEvent.FailHeard false) r p h)
+heard_answered_roles s (Heard.FastClose key) r p h = agenda_roles (if is_stopped_by r then stops s else left p) p h
 
 item_answered_roles : (s : Side) (o : Option Heard) (r : Reply) (p : PathState Carried) → HasRoles p → HasRoles (answered_item values s o r p)
 item_answered_roles s None r p h = agenda_roles (left p) p h
 item_answered_roles s (Some item) r p h = heard_answered_roles s item r p h
 
 plain_ack_roles : (s : Side) (r : Reply) (p : PathState Carried) → HasRoles p → HasRoles (answered_plain_ack values s r p)
-plain_ack_roles s r p h = by (breaks_by_ack p.profile (end_at s p))
-  where
-    by : (b : Bool) → HasRoles (if b then answered_break values s 6 r p else goes_on s (with_plain_ack (after_fell fall.PlainAck r (end_at s p))) (fell_duties s r p) p)
-    by true = break_roles s 6 r p h
-    by false = same_roles s (with_plain_ack (after_fell fall.PlainAck r (end_at s p))) (fell_duties s r p) p refl refl h
+plain_ack_roles s r p h =
+    if_so HasRoles (breaks_by_ack p.profile (end_at s p)) (answered_break values s 6 r p) (goes_on s (with_plain_ack (after_fell FallEvent.PlainAck r (end_at s p))) (fell_duties s r p) p)
+    (break_roles s 6 r p h) (same_roles s (with_plain_ack (after_fell FallEvent.PlainAck r (end_at s p))) (fell_duties s r p) p refl refl h)
 
 answer_tells : (s : Side) (p : PathState Carried) → TellsKey (is_joined p.profile) (peer s) (answer_of s p)
-answer_tells s p = by (end_at s p).tcp.due.syn_ack
-  where
-    by : (b : Bool) → TellsKey (is_joined p.profile) (peer s) (if b then syn_ack_said p.profile s (end_at s p) else ack_said p.profile s (end_at s p).tcp.send.nxt None (end_at s p))
-    by true = syn_ack_tells p.profile s (end_at s p)
-    by false = ack_tells s (end_at s p).tcp.send.nxt None p
+answer_tells s p =
+    if_so (TellsKey (is_joined p.profile) (peer s)) (end_at s p).tcp.due.syn_ack (syn_ack_said p.profile s (end_at s p)) (ack_said p.profile s (end_at s p).tcp.send.nxt None (end_at s p))
+    (syn_ack_tells p.profile s (end_at s p)) (ack_tells s (end_at s p).tcp.send.nxt None p)
 
 resend_tells : (s : Side) (p : PathState Carried) → TellsKey (is_joined p.profile) (peer s) (resend_of s p)
 resend_tells s p = by (has_records e.tcp) e.modes.owes_third e.notices.fast_closed (is_data_fin_owed e)
@@ -433,8 +340,8 @@ resend_tells s p = by (has_records e.tcp) e.modes.owes_third e.notices.fast_clos
 
 -- a join is heard of
 listening_apart : (state : EndPhase) → is_listening state ≡ true → is_apart A state ≡ true
-listening_apart phase.Listen is = refl
-listening_apart phase.Waiting is = absurd (false≢true is)
+listening_apart EndPhase.Listen is = refl
+listening_apart EndPhase.Waiting is = absurd (false≢true is)
 listening_apart _ is = absurd (false≢true is)
 
 heard_apart : (s : Side) (b : Bool) (e : PathEnd) → is_listening e.tcp.state ≡ b → is_apart s (if b then after_syn (unkept None) (syn_alone e.treated.window) e.tcp else e.tcp).state ≡ true
@@ -445,7 +352,7 @@ heard_apart s false e listens is = is
 
 joined_roles : (s : Side) (o : Option KeyPair) (asked : Option JoinSyn) (r : Reply) (p : PathState Carried) → HasRoles p → HasRoles (join_taken s o asked r p)
 joined_roles s None None r p h = agenda_roles _ p h
-joined_roles s None (Some asked) r p h = same_roles s (with_mode_refused r (end_at s p)) (replaced (duties.Send (send_duties.Refuse s)) p.agenda) p refl refl h
+joined_roles s None (Some asked) r p h = same_roles s (with_mode_refused r (end_at s p)) (replaced (Duty.Send (SendDuty.Refuse s)) p.agenda) p refl refl h
 joined_roles s (Some keys) None r p h = agenda_roles _ p h
 joined_roles s (Some keys) (Some asked) r p h =
     goes_roles s (joined_by keys asked (end_at s p)) _ p
@@ -458,7 +365,7 @@ occasion_goes s o sg p h = same_goes s (having_sent o p.clock sg (end_at s p)) p
     tcp = (end_at s p).tcp
 
     same : (o : Occasion) → (after_sending o p.clock tcp).state ≡ tcp.state
-    same to_send.Reset = refl
+    same Occasion.Reset = refl
     same _ = refl
 
 -- where neither the phase nor what the copy said may be written, and no segment is sent
@@ -485,43 +392,39 @@ kept_by s w p q own_phase own_copy other_phase other_copy link x h =
     }
 
 answered_roles : (d : Duty) (r : Reply) (p : PathState Carried) → HasRoles p → HasRoles (answered values d r p)
-answered_roles (duties.Ask ask_duties.JoinAgain) r p h = begun_roles r (replaced (duties.Ask (ask_duties.Leave A)) p.agenda) (left p) p h
-answered_roles (duties.Send (send_duties.Update s)) r p h = same_sent s _ _ (left p) p (ack_tells s (end_at s p).tcp.send.nxt None p) refl refl h
-answered_roles (duties.Send (send_duties.FastClose s)) r p h = same_sent s _ _ (left p) p (carried_tells s (end_at s p).notices.carrier p) refl refl h
-answered_roles (duties.Send (send_duties.Notice s)) r p h = same_sent s _ _ p.agenda p (noted_tells s (first_of (end_at s p).notices.queue) p) refl refl h
-answered_roles (duties.Send (send_duties.Syn s)) r p h = same_sent s _ _ (left p) p (record_or_ack_tells p.profile s (end_at s p) (first_unsent (end_at s p))) refl refl h
-answered_roles (duties.Step (step_duties.Data s)) r p h = data_roles s (first_unsent (end_at s p)) r p h
-answered_roles (duties.Send (send_duties.DataFin s)) r p h = same_sent s _ _ (left p) p (ack_tells s (end_at s p).tcp.send.nxt (end_at s p).sending.known_end p) refl refl h
-answered_roles (duties.Send (send_duties.Fin s)) r p h =
+answered_roles (Duty.Ask AskDuty.JoinAgain) r p h = begun_roles r (replaced (Duty.Ask (AskDuty.Leave A)) p.agenda) (left p) p h
+answered_roles (Duty.Send (SendDuty.Update s)) r p h = same_sent s _ _ (left p) p (ack_tells s (end_at s p).tcp.send.nxt None p) refl refl h
+answered_roles (Duty.Send (SendDuty.FastClose s)) r p h = same_sent s _ _ (left p) p (carried_tells s (end_at s p).notices.carrier p) refl refl h
+answered_roles (Duty.Send (SendDuty.Notice s)) r p h = same_sent s _ _ p.agenda p (noted_tells s (first_of (end_at s p).notices.queue) p) refl refl h
+answered_roles (Duty.Send (SendDuty.Syn s)) r p h = same_sent s _ _ (left p) p (record_or_ack_tells p.profile s (end_at s p) (first_unsent (end_at s p))) refl refl h
+answered_roles (Duty.Step (StepDuty.Data s)) r p h = data_roles s (first_unsent (end_at s p)) r p h
+answered_roles (Duty.Send (SendDuty.DataFin s)) r p h = same_sent s _ _ (left p) p (ack_tells s (end_at s p).tcp.send.nxt (end_at s p).sending.known_end p) refl refl h
+answered_roles (Duty.Send (SendDuty.Fin s)) r p h =
     sent_roles s (fin_segment_of s p) (having_sent_fin s p) (left p) p (no_syn (is_joined p.profile) s (fin_segment_of s p) refl)
     (record { role = λ joins apart. sym (finish_apart s (end_at s p).tcp.state) ∙ apart; answer = answer_at s p h }) h
-answered_roles (duties.Step step_duties.Events) r p h = event_roles (next_event p) r p h
-answered_roles (duties.Send (send_duties.SynAck s)) r p h = same_sent s _ _ (left p) p (syn_ack_tells p.profile s (end_at s p)) refl refl h
-answered_roles (duties.Ask (ask_duties.JoinHeard s)) r p h = joined_roles s (keys_begun r) (asked_at s p) r p h
-answered_roles (duties.Send (send_duties.Refuse s)) r p h =
+answered_roles (Duty.Step StepDuty.Events) r p h = event_roles (next_event p) r p h
+answered_roles (Duty.Send (SendDuty.SynAck s)) r p h = same_sent s _ _ (left p) p (syn_ack_tells p.profile s (end_at s p)) refl refl h
+answered_roles (Duty.Ask (AskDuty.JoinHeard s)) r p h = joined_roles s (keys_begun r) (asked_at s p) r p h
+answered_roles (Duty.Send (SendDuty.Refuse s)) r p h =
     same_sent s (refusal_of s p) (end_at s p) (left p) p (outgoing_tells p.profile s (end_at s p) (end_at s p).treated.answer (reset_options (Some 1)) (answer_at s p h)) refl refl h
-answered_roles (duties.Step (step_duties.Heard s index)) r p h = item_answered_roles s (item_of index (end_at s p)) r p h
-answered_roles (duties.Step (step_duties.PlainAck s)) r p h = plain_ack_roles s r p h
-answered_roles (duties.Step (step_duties.Unmapped s)) r p h = break_roles s 6 r p h
-answered_roles (duties.Send (send_duties.Acknowledge s)) r p h = same_sent s _ _ (left p) p (ack_tells s (end_at s p).tcp.send.nxt None p) refl refl h
-answered_roles (duties.Send (send_duties.Again s)) r p h = same_sent s _ _ (left p) p (record_or_ack_tells p.profile s (end_at s p) (first_record (end_at s p))) refl refl h
-answered_roles (duties.Send (send_duties.Answer s)) r p h = sent_roles s (answer_of s p) _ (left p) p (answer_tells s p) (occasion_goes s (answer_occasion (end_at s p)) (answer_of s p) p h) h
-answered_roles (duties.Send (send_duties.ResetAnswer s)) r p h =
+answered_roles (Duty.Step (StepDuty.Heard s index)) r p h = item_answered_roles s (item_of index (end_at s p)) r p h
+answered_roles (Duty.Step (StepDuty.PlainAck s)) r p h = plain_ack_roles s r p h
+answered_roles (Duty.Step (StepDuty.Unmapped s)) r p h = break_roles s 6 r p h
+answered_roles (Duty.Send (SendDuty.Acknowledge s)) r p h = same_sent s _ _ (left p) p (ack_tells s (end_at s p).tcp.send.nxt None p) refl refl h
+answered_roles (Duty.Send (SendDuty.Again s)) r p h = same_sent s _ _ (left p) p (record_or_ack_tells p.profile s (end_at s p) (first_record (end_at s p))) refl refl h
+answered_roles (Duty.Send (SendDuty.Answer s)) r p h = sent_roles s (answer_of s p) _ (left p) p (answer_tells s p) (occasion_goes s (answer_occasion (end_at s p)) (answer_of s p) p h) h
+answered_roles (Duty.Send (SendDuty.ResetAnswer s)) r p h =
     same_sent s (dead_answer s p) (end_at s p) (left p) p (outgoing_tells p.profile s (end_at s p) (end_at s p).treated.answer [] (answer_at s p h)) refl refl h
-answered_roles (duties.Send (send_duties.Resend s)) r p h = sent_roles s (resend_of s p) _ (left p) p (resend_tells s p) (occasion_goes s (resend_occasion (end_at s p)) (resend_of s p) p h) h
-answered_roles (duties.Send (send_duties.BreakReset s reason)) r p h = reset_roles s (Some reason) (leaves s) p h
-answered_roles (duties.Send (send_duties.Reset s)) r p h = reset_roles s None (replaced (duties.Ask (ask_duties.Leave s)) p.agenda) p h
-answered_roles (duties.Send (send_duties.ResetNoted s)) r p h = reset_roles s None (replaced (duties.Ask (ask_duties.Leave s)) p.agenda) p h
-answered_roles (duties.Ask (ask_duties.LeaveNoted s)) r p h = goes_roles s (died (end_at s p)) _ p (record { role = λ joins is. absurd (false≢true is); answer = tt }) h
-answered_roles (duties.Silent d) r p h = agenda_roles (left p) p h
+answered_roles (Duty.Send (SendDuty.Resend s)) r p h = sent_roles s (resend_of s p) _ (left p) p (resend_tells s p) (occasion_goes s (resend_occasion (end_at s p)) (resend_of s p) p h) h
+answered_roles (Duty.Send (SendDuty.BreakReset s reason)) r p h = reset_roles s (Some reason) (leaves s) p h
+answered_roles (Duty.Send (SendDuty.Reset s)) r p h = reset_roles s None (replaced (Duty.Ask (AskDuty.Leave s)) p.agenda) p h
+answered_roles (Duty.Send (SendDuty.ResetNoted s)) r p h = reset_roles s None (replaced (Duty.Ask (AskDuty.Leave s)) p.agenda) p h
+answered_roles (Duty.Ask (AskDuty.LeaveNoted s)) r p h = goes_roles s (died (end_at s p)) _ p (record { role = λ joins is. absurd (false≢true is); answer = tt }) h
+answered_roles (Duty.Silent d) r p h = agenda_roles (left p) p h
 answered_roles d r p h = kept_by (side_of d) (writes d) p _ refl refl refl refl refl (writes_no_more values d r p) h
 
 roles_last : Lasts (λ (p q : PathState Carried). HasRoles p → HasRoles q)
-roles_last = record {
-  agenda = λ ds p h. agenda_roles ds p h;
-  chains = λ p q r x y h. y (x h);
-  passes = λ d p h. passed_roles d p h;
-}
+roles_last = record { agenda = λ ds p h. agenda_roles ds p h; chains = λ p q r x y h. y (x h); passes = λ d p h. passed_roles d p h }
 
 pub takes_roles : (r : Reply) (p : PathState Carried) → HasRoles p → HasRoles (takes values r p)
 takes_roles r p h = takes_lasts (λ p q. HasRoles p → HasRoles q) roles_last values r p (λ d h. answered_roles d r p h) h

@@ -1,75 +1,23 @@
 -- No step is answered that a token isn't that of the book's key, or that an HMAC is wrong, whatever is stripped: A's book has B's key
 -- as soon as it is sure, so each join begins with it.
-use Rattle.std.proofs.Common.{◌≡◌, refl, sym, ◌∙◌, ap, subst, inl, inr, ◌⊎◌, ⊎_elim, ℕ, zero, suc, ◌+◌, ◌==◌, ◌&&◌, ◌||◌, not, is_some, is_none, arith, Bool, true, false, if◌then◌else◌, Option, Some, None, List, [], ◌∷◌, map}
-use Rattle.std.proofs.lemmas.Bool.{and_parts, both_ways, false≢true, or_right, lt-ltb}
-use Rattle.std.proofs.lemmas.Option.{same_Some}
-use Rattle.std.specs.List.{slice_get}
-use Rattle.std.specs.Option.{IfSome}
-use Rattle.sides.specs.declared.side.Side.{Side}
-use Rattle.sides.specs.declared.side.Side.TheVariants.{A, B}
-use Rattle.key_material.specs.declared.address.Address.{Address}
+use Rattle.world_laws.proofs.Words.{◌≡◌, refl, sym, ◌∙◌, ap, subst, ℕ, zero, suc, ◌+◌, ◌&&◌, ◌||◌, ◌==◌, not, inl, inr, ◌⊎◌, ⊎_elim, Bool, true, false}
+use Rattle.world_laws.proofs.Words.{if◌then◌else◌, Option, Some, None, List, [], ◌∷◌, arith, is_none, is_some, lt-ltb, and_parts, both_ways, false≢true}
+use Rattle.world_laws.proofs.Words.{or_right, same_Some, IfSome, Verdict, Mode, FallEvent, is_identity, is_starting, reads_mappings, receiving}
+use Rattle.world_laws.proofs.Words.{sending, writes_mappings, Fall, after_plain, is_failed_path, goes, fall_step, Stay, SendFail, heard_reply, Address, Side, A}
+use Rattle.world_laws.proofs.Words.{B, ControlCall, ControlReply, Notice, sole_path, with_phase, Control, Opening, Duty, StepDuty, AskDuty, Heard, KeyPair}
+use Rattle.world_laws.proofs.Words.{key_heard, keys_heard, Ask, Reply, books_in, SixBooks, reply_of, after_ask, is_nil, AppDuty, AppState, app_asks_first}
+use Rattle.world_laws.proofs.Words.{ask_for, ack_out_ask, waiting_path, PathState, end_at, asks_of, asks_first, Carried, values, reset_of, break_ask, is_joined}
+use Rattle.world_laws.proofs.Words.{is_clash, mapping_ask, item_ask, item_of, fell_ask, plain_ack_ask, breaks_by_ack, peer_key_ask, opened_ask, sends, in_map}
+use Rattle.world_laws.proofs.Words.{in_set, Every, App, Path, Actor, member_asks, member_takes, member_next, is_over, Always, PathPlan, Start}
+use Rattle.world_laws.proofs.Words.{path_begins, new_path, opened_world, WorldState, Turn, crew_after, asked, greatest, begins}
+use Rattle.world_laws.proofs.Words.{after_turn, world_run, JoinsAreRight, tells_wrong_join, if_so, May, may, asking}
+use Rattle.world_laws.proofs.Rounds.Lifting.{all_over_each}
+use Rattle.world_laws.proofs.Worlds.Turns.{turn_so}
 use Rattle.address_manager.specs.declared.manager.Heard.{Heard as AddressHeard}
-use Rattle.address_manager.specs.declared.manager.Heard.TheVariants as address_said
-use Rattle.address_manager.specs.Steps.{heard_reply}
-use Rattle.control_book.specs.declared.call.ControlCall.{ControlCall}
-use Rattle.control_book.specs.declared.call.ControlCall.TheVariants as control_calls
-use Rattle.control_book.specs.declared.call.ControlReply.TheVariants as control_replies
-use Rattle.control_book.specs.declared.call.Notice.{Notice}
-use Rattle.control_book.specs.declared.call.Notice.TheVariants as notices
-use Rattle.control_book.specs.declared.registry.Phase.TheVariants.{Opening}
-use Rattle.control_book.specs.Control.{Control}
-use Rattle.control_book.specs.Registry.{sole as sole_path, with_phase}
 use Rattle.control_book.specs.SameAddress.{is_same}
 use Rattle.control_book.specs.Replies as control
 use Rattle.control_book.specs.Steps as controlling
-use Rattle.stream_lanes.specs.Words.{Every}
-use Rattle.stream_lanes.proofs.Lists.{in_set, in_map}
-use Rattle.actor_desk.specs.declared.ask.Ask.{Ask}
-use Rattle.actor_desk.specs.declared.ask.Ask.TheVariants as asks
-use Rattle.actor_desk.specs.declared.ask.Reply.TheVariants as replies
-use Rattle.actor_desk.specs.Words.{is_nil}
-use Rattle.actor_desk.specs.Books.{books_in}
-use Rattle.actor_desk.specs.Desk.{SixBooks, reply_of, after_ask}
-use Rattle.stream_apps.specs.declared.duty.AppDuty.{AppDuty}
-use Rattle.stream_apps.specs.declared.duty.AppDuty.TheVariants as app_duties
-use Rattle.stream_apps.specs.Apps.{AppState}
-use Rattle.stream_apps.specs.AppSteps.{app_asks_first}
-use Rattle.path_agenda.specs.Items.{key_heard, keys_heard}
-use Rattle.path_agenda.specs.declared.duty.Duty.{Duty}
-use Rattle.path_agenda.specs.declared.duty.Duty.TheVariants as duties
-use Rattle.path_agenda.specs.declared.duty.AskDuty.TheVariants as ask_duties
-use Rattle.path_agenda.specs.declared.duty.StepDuty.TheVariants as step_duties
-use Rattle.path_agenda.specs.declared.heard.Heard.{Heard}
-use Rattle.path_agenda.specs.declared.heard.Heard.TheVariants as says
-use Rattle.path_agenda.specs.declared.keys.KeyPair.{KeyPair}
-use Rattle.path_core.specs.Breaking.{break_ask, reset_of}
-use Rattle.path_core.specs.Duties.{ask_for}
-use Rattle.path_core.specs.MpJoin.{is_joined}
-use Rattle.path_core.specs.MpCapable.{peer_key_ask, opened_ask}
-use Rattle.path_core.specs.Handover.{sends}
-use Rattle.path_core.specs.Standing.{ack_out_ask}
-use Rattle.path_core.specs.Start.{waiting_path}
-use Rattle.path_core.specs.State.{PathState, end_at}
-use Rattle.path_core.specs.Steps.{asks_first, asks_of}
-use Rattle.path_core.specs.Fallback.{breaks_by_ack, plain_ack_ask, fell_ask}
-use Rattle.path_core.specs.DssIn.{is_clash, mapping_ask}
-use Rattle.path_core.specs.Treating.{item_ask, item_of}
-use Rattle.fallback_state.specs.declared.fall.Event.{Event as FallEvent}
-use Rattle.fallback_state.specs.declared.fall.Event.TheVariants as events
-use Rattle.fallback_state.specs.declared.fall.Fall.{Fall}
-use Rattle.fallback_state.specs.declared.fall.Mode.{Mode}
-use Rattle.fallback_state.specs.declared.fall.Mode.TheVariants as modes
-use Rattle.fallback_state.specs.declared.fall.Verdict.{Verdict}
-use Rattle.fallback_state.specs.declared.fall.Verdict.TheVariants.{Stay, SendFail}
-use Rattle.fallback_state.specs.Modes.{is_starting, is_identity, reads_mappings, writes_mappings, receiving, sending}
-use Rattle.fallback_state.specs.Table.{after_plain, is_failed_path, goes, stays, breaks, fall_step}
-use Rattle.path_core.specs.Values.{Carried, values}
-use Rattle.world_laws.specs.declared.member.Member.TheVariants.{App, Path}
-use Rattle.world_laws.specs.Actors.{Actor, ActorCrew, is_over, member_asks, member_takes, member_next}
-use Rattle.world_laws.specs.Openings.{PathPlan, Start, path_begins, new_path, opened_world}
-use Rattle.world_laws.specs.Laws.{Always}
-use Rattle.world_laws.specs.Promises.{JoinsAreRight, tells_wrong_join}
-use Rattle.world_laws.specs.Worlds.{WorldState, Turn, crew_after, asked, stepped, world_step, all_over, greatest, begins, end_round, after_turn, world_run}
+use Rattle.fallback_state.specs.Table.{stays, breaks}
 use Rattle.world_laws.proofs.Weaving.Journals.{books_after}
 use Rattle.world_laws.proofs.Falls.WhereASideStands.{Fallen, event_falls}
 use Rattle.world_laws.proofs.Keys.AnswerHeardFirst.{is_sign_duty, signs}
@@ -82,26 +30,25 @@ use Rattle.world_laws.proofs.Rounds.Frame.{takes_keeps, first_keeps}
 use Rattle.world_laws.proofs.Keys.ToldAreOwn.{MemberIs, WorldIs, KeysAsk, member_asks_are, turn_keys, opened_keys, joins_untold}
 use Rattle.world_laws.proofs.Worlds.Opened.{opened_actors}
 use Rattle.world_laws.proofs.Promises.NoSuchNote.{NoneTold, from_each, turn_none, opened_none}
-use Rattle.world_laws.specs.Asking.{May, may, asking}
 use Rattle.world_laws.proofs.Writes.Asks.{asks_no_more}
 
 -- ---- who tells a sign
 
 -- by these A's side may become sure
 abbrev is_sign : FallEvent → Bool
-is_sign events.MappingHeard = true
-is_sign events.AckHeard = true
+is_sign FallEvent.MappingHeard = true
+is_sign FallEvent.AckHeard = true
 is_sign _ = false
 
 -- A's book is told a sign of B
 abbrev is_fell : Ask → Bool
-is_fell (asks.Control A (control_calls.Fell path event)) = is_sign event
+is_fell (Ask.Control A (ControlCall.Fell path event)) = is_sign event
 is_fell _ = false
 
 none_told : (m : May) → m.fell ≡ false → (x : Ask) → may m x ≡ true → is_fell x ≡ false
-none_told m off (asks.Control A (control_calls.Fell path event)) is = absurd (false≢true (sym off ∙ is))
-none_told m off (asks.Control A _) is = refl
-none_told m off (asks.Control B call) is = refl
+none_told m off (Ask.Control A (ControlCall.Fell path event)) is = absurd (false≢true (sym off ∙ is))
+none_told m off (Ask.Control A _) is = refl
+none_told m off (Ask.Control B call) is = refl
 none_told m off _ is = refl
 
 module _ (p : PathState Carried) where
@@ -122,43 +69,33 @@ module _ (p : PathState Carried) where
   no_keys B (Some keys) = refl
 
   no_break : (s : Side) (reason : ℕ) → is_fell (break_ask values s reason p) ≡ false
-  no_break s reason = by (end_at s p).treated.asked
-    where
-      by : (b : Bool) → is_fell (if b then ack_out_ask s else sends values s (reset_of s (Some reason) p) p) ≡ false
-      by true = refl
-      by false = refl
+  no_break s reason = if_so (λ z. is_fell z ≡ false) (end_at s p).treated.asked (ack_out_ask s) (sends values s (reset_of s (Some reason) p) p) refl refl
 
   no_plain_ack : (s : Side) → is_fell (plain_ack_ask values s p) ≡ false
-  no_plain_ack s = by (breaks_by_ack p.profile (end_at s p))
-    where
-      by : (b : Bool) → is_fell (if b then break_ask values s 6 p else fell_ask s events.PlainAck p) ≡ false
-      by true = no_break s 6
-      by false = no_fell s events.PlainAck refl
+  no_plain_ack s =
+      if_so (λ z. is_fell z ≡ false) (breaks_by_ack p.profile (end_at s p)) (break_ask values s 6 p) (fell_ask s FallEvent.PlainAck p)
+      (no_break s 6) (no_fell s FallEvent.PlainAck refl)
 
   no_mapping : is_fell (mapping_ask values B p) ≡ false
-  no_mapping = by (is_clash (end_at B p))
-    where
-      by : (b : Bool) → is_fell (if b then break_ask values B 1 p else fell_ask B events.MappingHeard p) ≡ false
-      by true = no_break B 1
-      by false = refl
+  no_mapping = if_so (λ z. is_fell z ≡ false) (is_clash (end_at B p)) (break_ask values B 1 p) (fell_ask B FallEvent.MappingHeard p) (no_break B 1) refl
 
   no_item : (o : Option Heard) → is_fell (item_ask values B o p) ≡ false
-  no_item (Some (says.Mapping fin)) = no_mapping
-  no_item (Some says.Fail) = fail_asks_so (λ x. is_fell x ≡ false) B p refl refl
+  no_item (Some (Heard.Mapping fin)) = no_mapping
+  no_item (Some Heard.Fail) = fail_asks_so (λ x. is_fell x ≡ false) B p refl refl
   no_item _ = refl
 
   fell_signs : (d : Duty) → is_sign_duty d ≡ false → is_fell (ask_for values d p) ≡ false
-  fell_signs (duties.Ask (ask_duties.PlainHandshake s)) none = no_fell s events.PlainHandshake refl
-  fell_signs (duties.Ask (ask_duties.PeerKey s)) none = no_key s (key_heard (end_at s p).treated.items)
-  fell_signs (duties.Ask (ask_duties.Opened s)) none = no_keys s (keys_heard (end_at s p).treated.items)
-  fell_signs (duties.Step (step_duties.Heard A index)) none = absurd (false≢true (sym none))
-  fell_signs (duties.Step (step_duties.Heard B index)) none = no_item (item_of index (end_at B p))
-  fell_signs (duties.Ask (ask_duties.AckHeard A)) none = absurd (false≢true (sym none))
-  fell_signs (duties.Ask (ask_duties.AckHeard B)) none = refl
-  fell_signs (duties.Ask (ask_duties.FailHeard s)) none = no_fell s (events.FailHeard (is_some (end_at s p).treated.infinite_mapping)) refl
-  fell_signs (duties.Step (step_duties.PlainAck s)) none = no_plain_ack s
-  fell_signs (duties.Ask (ask_duties.PlainData s)) none = no_fell s events.PlainData refl
-  fell_signs (duties.Ask (ask_duties.CheckFailed s)) none = no_fell s events.CheckFailed refl
+  fell_signs (Duty.Ask (AskDuty.PlainHandshake s)) none = no_fell s FallEvent.PlainHandshake refl
+  fell_signs (Duty.Ask (AskDuty.PeerKey s)) none = no_key s (key_heard (end_at s p).treated.items)
+  fell_signs (Duty.Ask (AskDuty.Opened s)) none = no_keys s (keys_heard (end_at s p).treated.items)
+  fell_signs (Duty.Step (StepDuty.Heard A index)) none = absurd (false≢true (sym none))
+  fell_signs (Duty.Step (StepDuty.Heard B index)) none = no_item (item_of index (end_at B p))
+  fell_signs (Duty.Ask (AskDuty.AckHeard A)) none = absurd (false≢true (sym none))
+  fell_signs (Duty.Ask (AskDuty.AckHeard B)) none = refl
+  fell_signs (Duty.Ask (AskDuty.FailHeard s)) none = no_fell s (FallEvent.FailHeard (is_some (end_at s p).treated.infinite_mapping)) refl
+  fell_signs (Duty.Step (StepDuty.PlainAck s)) none = no_plain_ack s
+  fell_signs (Duty.Ask (AskDuty.PlainData s)) none = no_fell s FallEvent.PlainData refl
+  fell_signs (Duty.Ask (AskDuty.CheckFailed s)) none = no_fell s FallEvent.CheckFailed refl
   fell_signs d none = none_told (asking d) refl (ask_for values d p) (asks_no_more values p d).kind
 
   -- so the path has a sign's duty where it tells one
@@ -178,8 +115,8 @@ module _ (p : PathState Carried) where
   asked_first T x is fell (inl h) = asked_sign T x is fell h.signed
   asked_first T x is fell (inr h) = by h.begins (sym (ap (λ ds. asks_first values ds p) h.agenda_is) ∙ is)
     where
-      by : (begins : Bool) → asks_first values (if begins then duties.Ask (ask_duties.SynAnswered A) ∷ duties.Ask (ask_duties.PeerKey A) ∷ h.rest else duties.Ask (ask_duties.PeerKey A) ∷ h.rest) p ≡ Some x → T
-      by true is = absurd (both_ways (is_fell (ask_for values (duties.Ask (ask_duties.SynAnswered A)) p)) refl (ap is_fell (same_Some _ x is) ∙ fell))
+      by : (begins : Bool) → asks_first values (if begins then Duty.Ask (AskDuty.SynAnswered A) ∷ Duty.Ask (AskDuty.PeerKey A) ∷ h.rest else Duty.Ask (AskDuty.PeerKey A) ∷ h.rest) p ≡ Some x → T
+      by true is = absurd (both_ways (is_fell (ask_for values (Duty.Ask (AskDuty.SynAnswered A)) p)) refl (ap is_fell (same_Some _ x is) ∙ fell))
       by false is = absurd (both_ways _ (no_key A (key_heard (end_at A p).treated.items)) (ap is_fell (same_Some _ x is) ∙ fell))
 
   -- a sign is told by a side that joined, on a path that joins
@@ -188,11 +125,11 @@ module _ (p : PathState Carried) where
   sign_speaks (d ∷ ds) is = by (is_sign_duty d) refl is (sign_speaks ds)
     where
       said : (d : Duty) → is_sign_duty d ≡ true → is_said_by (Voice.Says A) d ≡ true
-      said (duties.Step (step_duties.Heard A index)) is = refl
-      said (duties.Ask (ask_duties.AckHeard A)) is = refl
-      said (duties.Step (step_duties.Heard B index)) is = absurd (false≢true is)
-      said (duties.Ask (ask_duties.AckHeard B)) is = absurd (false≢true is)
-      said (duties.Step step_duties.Events) is = absurd (false≢true is)
+      said (Duty.Step (StepDuty.Heard A index)) is = refl
+      said (Duty.Ask (AskDuty.AckHeard A)) is = refl
+      said (Duty.Step (StepDuty.Heard B index)) is = absurd (false≢true is)
+      said (Duty.Ask (AskDuty.AckHeard B)) is = absurd (false≢true is)
+      said (Duty.Step StepDuty.Events) is = absurd (false≢true is)
       said _ is = absurd (false≢true is)
 
       by : (b : Bool) → is_sign_duty d ≡ b → b || signs ds ≡ true → (signs ds ≡ true → speaks (Voice.Says A) ds ≡ true) → is_said_by (Voice.Says A) d || speaks (Voice.Says A) ds ≡ true
@@ -207,13 +144,9 @@ HasKey c = is_some c.keys.peer ≡ true
 
 -- its side is past being sure
 abbrev pub is_gone : Mode → Bool
-is_gone modes.Starting = false
-is_gone modes.Sure = false
-is_gone modes.Identity = true
-is_gone modes.InfiniteSend = true
-is_gone modes.InfiniteReceive = true
-is_gone modes.InfiniteBoth = true
-is_gone modes.Aborted = true
+is_gone Mode.Starting = false
+is_gone Mode.Sure = false
+is_gone _ = true
 
 abbrev pub Knew : Control → Type 0
 Knew c = HasKey c ⊎ (is_gone c.fall.mode ≡ true)
@@ -224,40 +157,27 @@ pub record Fine (c : Control) : Type 0 where
   pub joined : c.fall.joined ≡ true → HasKey c
 
 sure_or_gone : (m : Mode) → is_starting m ≡ false → (control.is_sure m ≡ true) ⊎ (is_gone m ≡ true)
-sure_or_gone modes.Starting is = absurd (false≢true (sym is))
-sure_or_gone modes.Sure is = inl refl
-sure_or_gone modes.Identity is = inr refl
-sure_or_gone modes.InfiniteSend is = inr refl
-sure_or_gone modes.InfiniteReceive is = inr refl
-sure_or_gone modes.InfiniteBoth is = inr refl
-sure_or_gone modes.Aborted is = inr refl
+sure_or_gone Mode.Starting is = absurd (false≢true (sym is))
+sure_or_gone Mode.Sure is = inl refl
+sure_or_gone _ is = inr refl
 
 knew_past : (c : Control) → Fine c → is_starting c.fall.mode ≡ false → Knew c
 knew_past c fine is = ⊎_elim (λ sure. inl (fine.sure sure)) (λ gone. inr gone) (sure_or_gone c.fall.mode is)
 
 gone_stays_out : (m : Mode) → is_gone m ≡ true → (is_starting m ≡ false) × (control.is_sure m ≡ false)
-gone_stays_out modes.Starting is = absurd (false≢true is)
-gone_stays_out modes.Sure is = absurd (false≢true is)
-gone_stays_out modes.Identity is = (refl, refl)
-gone_stays_out modes.InfiniteSend is = (refl, refl)
-gone_stays_out modes.InfiniteReceive is = (refl, refl)
-gone_stays_out modes.InfiniteBoth is = (refl, refl)
-gone_stays_out modes.Aborted is = (refl, refl)
+gone_stays_out Mode.Starting is = absurd (false≢true is)
+gone_stays_out Mode.Sure is = absurd (false≢true is)
+gone_stays_out _ is = (refl, refl)
 
 receiving_gone : (m : Mode) → is_gone (receiving m) ≡ true
-receiving_gone modes.Starting = refl
-receiving_gone modes.Sure = refl
-receiving_gone modes.Identity = refl
-receiving_gone modes.InfiniteSend = refl
-receiving_gone modes.InfiniteReceive = refl
-receiving_gone modes.InfiniteBoth = refl
-receiving_gone modes.Aborted = refl
+receiving_gone Mode.Starting = refl
+receiving_gone _ = refl
 
 -- what an event makes of a fall: it is gone, or sure as before, or it starts and a sign of B came; and the verdict tells the mode
 record Turned (sign : Bool) (f : Fall) (row : Fall × Verdict) : Type 0 where
   pub gone : is_gone f.mode ≡ true → is_gone row.0.mode ≡ true
   pub sure : control.is_sure row.0.mode ≡ true → (control.is_sure f.mode ≡ true) ⊎ ((sign ≡ true) × (is_starting f.mode ≡ true))
-  pub told : IfSome (mode_told (replies.Control (control_replies.Verdict row.1))) (λ mode. row.0.mode ≡ mode)
+  pub told : IfSome (mode_told (Reply.Control (ControlReply.Verdict row.1))) (λ mode. row.0.mode ≡ mode)
 
 stays_turned : (sign : Bool) (f : Fall) → Turned sign f (stays f)
 stays_turned sign f = record { gone = λ is. is; sure = λ is. inl is; told = tt }
@@ -272,55 +192,48 @@ turned_if : (sign : Bool) (f : Fall) (b : Bool) (x y : Fall × Verdict) → (b �
 turned_if sign f true x y is isnt = is refl
 turned_if sign f false x y is isnt = isnt refl
 
-sign_turned : (f : Fall) → Turned true f (if is_starting f.mode then goes modes.Sure f else stays f)
+sign_turned : (f : Fall) → Turned true f (if is_starting f.mode then goes Mode.Sure f else stays f)
 sign_turned f =
-    turned_if true f (is_starting f.mode) (goes modes.Sure f) (stays f)
+    turned_if true f (is_starting f.mode) (goes Mode.Sure f) (stays f)
     (λ is. record { gone = λ gone. absurd (both_ways _ (gone_stays_out f.mode gone).0 is); sure = λ sure. inr (refl, is); told = refl }) (λ isnt. stays_turned true f)
 
-plain_turned : (sign : Bool) (f : Fall) → Turned sign f (if is_starting f.mode && not f.joined then goes modes.Identity f else stays f)
+plain_turned : (sign : Bool) (f : Fall) → Turned sign f (if is_starting f.mode && not f.joined then goes Mode.Identity f else stays f)
 plain_turned sign f =
-    turned_if sign f (is_starting f.mode && not f.joined) (goes modes.Identity f) (stays f) (λ is. goes_turned sign modes.Identity f refl) (λ isnt. stays_turned sign f)
+    turned_if sign f (is_starting f.mode && not f.joined) (goes Mode.Identity f) (stays f) (λ is. goes_turned sign Mode.Identity f refl) (λ isnt. stays_turned sign f)
 
-infinite_turned : (sign : Bool) (path : ℕ) (sole : Bool) (f : Fall) → Turned sign f (fall_step f path sole events.InfiniteHeard)
+infinite_turned : (sign : Bool) (path : ℕ) (sole : Bool) (f : Fall) → Turned sign f (fall_step f path sole FallEvent.InfiniteHeard)
 infinite_turned sign path sole f =
     let falls : Bool = writes_mappings f.mode && not f.joined && is_none f.failed in
-    let last : Fall × Verdict = if falls then goes modes.Identity f else breaks 1 f in
+    let last : Fall × Verdict = if falls then goes Mode.Identity f else breaks 1 f in
     let rest : Fall × Verdict = if sole && is_failed_path f.failed path then goes (receiving f.mode) f else last in
     turned_if sign f (not (reads_mappings f.mode)) (stays f) rest (λ is. stays_turned sign f)
     (λ reads. turned_if sign f (sole && is_failed_path f.failed path) (goes (receiving f.mode) f) last (λ is. goes_turned sign (receiving f.mode) f (receiving_gone f.mode))
-    (λ isnt. turned_if sign f falls (goes modes.Identity f) (breaks 1 f) (λ is. goes_turned sign modes.Identity f refl) (λ other. breaks_turned sign 1 f)))
+    (λ isnt. turned_if sign f falls (goes Mode.Identity f) (breaks 1 f) (λ is. goes_turned sign Mode.Identity f refl) (λ other. breaks_turned sign 1 f)))
 
-check_turned : (sign : Bool) (path : ℕ) (sole : Bool) (f : Fall) → Turned sign f (fall_step f path sole events.CheckFailed)
+check_turned : (sign : Bool) (path : ℕ) (sole : Bool) (f : Fall) → Turned sign f (fall_step f path sole FallEvent.CheckFailed)
 check_turned sign path sole f =
     let noted : Fall × Verdict = (record f { failed = Some path }, SendFail) in
     turned_if sign f (not (reads_mappings f.mode)) (stays f) (if sole then noted else breaks 6 f) (λ is. stays_turned sign f)
     (λ reads. turned_if sign f sole noted (breaks 6 f) (λ is. record { gone = λ gone. gone; sure = λ sure. inl sure; told = tt }) (λ isnt. breaks_turned sign 6 f))
 
 sending_gone : (m : Mode) → is_gone (sending m) ≡ true
-sending_gone modes.Starting = refl
-sending_gone modes.Sure = refl
-sending_gone modes.Identity = refl
-sending_gone modes.InfiniteSend = refl
-sending_gone modes.InfiniteReceive = refl
-sending_gone modes.InfiniteBoth = refl
-sending_gone modes.Aborted = refl
+sending_gone Mode.Starting = refl
+sending_gone _ = refl
 
-fail_turned : (sign : Bool) (path : ℕ) (sole contiguous : Bool) (f : Fall) → Turned sign f (fall_step f path sole (events.FailHeard contiguous))
+fail_turned : (sign : Bool) (path : ℕ) (sole contiguous : Bool) (f : Fall) → Turned sign f (fall_step f path sole (FallEvent.FailHeard contiguous))
 fail_turned sign path sole contiguous f =
     turned_if sign f (not (writes_mappings f.mode)) (stays f) (if sole && contiguous then goes (sending f.mode) f else breaks 1 f) (λ is. stays_turned sign f)
     (λ writes. turned_if sign f (sole && contiguous) (goes (sending f.mode) f) (breaks 1 f) (λ is. goes_turned sign (sending f.mode) f (sending_gone f.mode)) (λ isnt. breaks_turned sign 1 f))
 
 event_turned : (path : ℕ) (sole : Bool) (event : FallEvent) (f : Fall) → IsSign event → Turned (is_sign event) f (fall_step f path sole event)
-event_turned path sole events.MappingHeard f is = sign_turned f
-event_turned path sole events.AckHeard f is = sign_turned f
-event_turned path sole events.PlainHandshake f is = plain_turned false f
-event_turned path sole events.PlainData f is = plain_turned false f
-event_turned path sole events.PlainAck f is = plain_turned false f
-event_turned path sole events.InfiniteHeard f is = infinite_turned false path sole f
-event_turned path sole events.KeysHeard f is = absurd is
-event_turned path sole events.CheckFailed f is = check_turned false path sole f
-event_turned path sole (events.FailHeard contiguous) f is = fail_turned false path sole contiguous f
-event_turned path sole events.Stop f is = absurd is
+event_turned path sole FallEvent.MappingHeard f is = sign_turned f
+event_turned path sole FallEvent.AckHeard f is = sign_turned f
+event_turned path sole FallEvent.InfiniteHeard f is = infinite_turned false path sole f
+event_turned path sole FallEvent.KeysHeard f is = absurd is
+event_turned path sole FallEvent.CheckFailed f is = check_turned false path sole f
+event_turned path sole (FallEvent.FailHeard contiguous) f is = fail_turned false path sole contiguous f
+event_turned path sole FallEvent.Stop f is = absurd is
+event_turned path sole _ f is = plain_turned false f
 
 -- what a call makes of a book
 record Keeps (c d : Control) : Type 0 where
@@ -347,17 +260,14 @@ if_keeps true c d e x y = x refl
 if_keeps false c d e x y = y
 
 notice_keys : (n : Notice) (path : ℕ) (c : Control) → ((controlling.after_notice n path c).keys ≡ c.keys) × ((controlling.after_notice n path c).fall ≡ c.fall)
-notice_keys (notices.Withdraw id) path c = (refl, refl)
-notice_keys notices.Nothing path c = (refl, refl)
-notice_keys (notices.Announce id) path c = (refl, refl)
-notice_keys (notices.Carrier key) path c = (refl, refl)
-notice_keys notices.Reset path c = (refl, refl)
+notice_keys (Notice.Withdraw id) path c = (refl, refl)
+notice_keys _ path c = (refl, refl)
 
 -- a book that has the key is fine
 keyed_keeps : (c d : Control) → HasKey d → (is_gone c.fall.mode ≡ true → is_gone d.fall.mode ≡ true) → Keeps c d
 keyed_keeps c d has gone = record { key = λ was. has; gone = gone; fine = λ fine. record { sure = λ is. has; joined = λ is. has } }
 
-keys_mode : (f : Fall) → (fall_step f 0 false events.KeysHeard).0.mode ≡ f.mode
+keys_mode : (f : Fall) → (fall_step f 0 false FallEvent.KeysHeard).0.mode ≡ f.mode
 keys_mode f = by (is_identity f.mode)
   where
     by : (b : Bool) → (if b then stays f else (record f { confirmed = true }, Stay)).0.mode ≡ f.mode
@@ -365,7 +275,7 @@ keys_mode f = by (is_identity f.mode)
     by false = refl
 
 -- a stop leaves the keys, and lets the side be past being sure
-stop_keeps : (c d : Control) → d.keys ≡ c.keys → d.fall.mode ≡ modes.Aborted → d.fall.joined ≡ c.fall.joined → Keeps c d
+stop_keeps : (c d : Control) → d.keys ≡ c.keys → d.fall.mode ≡ Mode.Aborted → d.fall.joined ≡ c.fall.joined → Keeps c d
 stop_keeps c d keys mode joined = record {
   key = λ has. ap (λ k. is_some k.peer) keys ∙ has;
   gone = λ was. ap is_gone mode;
@@ -397,38 +307,33 @@ module _ (key_a key_b : ℕ) where
           at (inl same) = same.joined
           at (inr fell) = fell.joined
 
-  call_keeps : (six : SixBooks) (c : Control) (call : ControlCall) → KeysAsk key_a key_b true six (asks.Control A call) → (is_fell (asks.Control A call) ≡ true → Knew c) → Fine c → Keeps c (controlling.after c call)
-  call_keeps six c (control_calls.Look path) is sign fine = let same = notice_keys (control.notice_on c path) path c in same_keeps c _ same.0 same.1
-  call_keeps six c (control_calls.PeerKey key) is sign fine = keyed_keeps c (controlling.after c (control_calls.PeerKey key)) refl (λ gone. gone)
-  call_keeps six c (control_calls.Keys own other) is sign fine =
-      if_keeps (own == c.keys.own) c (controlling.after_event 0 false events.KeysHeard (controlling.after_peer_key other c)) c
-      (λ noted. keyed_keeps c (controlling.after_event 0 false events.KeysHeard (controlling.after_peer_key other c)) refl (λ gone. ap is_gone (keys_mode c.fall) ∙ gone)) (same_keeps c c refl refl)
-  call_keeps six c (control_calls.Fell path event) is sign fine = fell_keeps c path event is sign
-  call_keeps six c (control_calls.JoinBegin path) is sign fine =
+  call_keeps : (six : SixBooks) (c : Control) (call : ControlCall) → KeysAsk key_a key_b true six (Ask.Control A call) → (is_fell (Ask.Control A call) ≡ true → Knew c) → Fine c → Keeps c (controlling.after c call)
+  call_keeps six c (ControlCall.Look path) is sign fine = let same = notice_keys (control.notice_on c path) path c in same_keeps c _ same.0 same.1
+  call_keeps six c (ControlCall.PeerKey key) is sign fine = keyed_keeps c (controlling.after c (ControlCall.PeerKey key)) refl (λ gone. gone)
+  call_keeps six c (ControlCall.Keys own other) is sign fine =
+      if_keeps (own == c.keys.own) c (controlling.after_event 0 false FallEvent.KeysHeard (controlling.after_peer_key other c)) c
+      (λ noted. keyed_keeps c (controlling.after_event 0 false FallEvent.KeysHeard (controlling.after_peer_key other c)) refl (λ gone. ap is_gone (keys_mode c.fall) ∙ gone)) (same_keeps c c refl refl)
+  call_keeps six c (ControlCall.Fell path event) is sign fine = fell_keeps c path event is sign
+  call_keeps six c (ControlCall.JoinBegin path) is sign fine =
       let d : Control = controlling.after_join (record c { paths = with_phase path Opening c.paths }) in
       if_keeps (control.may_join c) c d c (λ may. keyed_keeps c d (fine.sure (and_parts (control.is_sure c.fall.mode) (is_none c.fall.failed) may).0) (λ gone. gone)) (same_keeps c c refl refl)
-  call_keeps six c (control_calls.JoinHeard path token) is sign fine = cc
-  call_keeps six c (control_calls.Live path backup) is sign fine = same_keeps c _ refl refl
-  call_keeps six c (control_calls.Dead path) is sign fine = same_keeps c _ refl refl
-  call_keeps six c (control_calls.Rate path window rtt) is sign fine = same_keeps c _ refl refl
-  call_keeps six c (control_calls.Backup path on) is sign fine = same_keeps c _ refl refl
-  call_keeps six c (control_calls.Announce id) is sign fine = same_keeps c _ refl refl
-  call_keeps six c (control_calls.Withdraw id) is sign fine = if_keeps (controlling.is_known id c) c _ c (λ known. same_keeps c _ refl refl) (same_keeps c c refl refl)
-  call_keeps six c (control_calls.Heard id address port hmac) is sign fine = same_keeps c _ refl refl
-  call_keeps six c (control_calls.Echoed id) is sign fine = if_keeps (controlling.is_known id c) c _ c (λ known. same_keeps c _ refl refl) (same_keeps c c refl refl)
-  call_keeps six c (control_calls.Removed id) is sign fine = if_keeps (controlling.is_known id c) c _ c (λ known. same_keeps c _ refl refl) (same_keeps c c refl refl)
-  call_keeps six c control_calls.FastClose is sign fine = stop_keeps c _ refl refl refl
-  call_keeps six c (control_calls.FastHeard key) is sign fine =
-      if_keeps (key == c.keys.own) c (controlling.after_event 0 false events.Stop c) c (λ own. stop_keeps c _ refl refl refl) (same_keeps c c refl refl)
+  call_keeps six c (ControlCall.JoinHeard path token) is sign fine = cc
+  call_keeps six c (ControlCall.Withdraw id) is sign fine = if_keeps (controlling.is_known id c) c _ c (λ known. same_keeps c _ refl refl) (same_keeps c c refl refl)
+  call_keeps six c (ControlCall.Echoed id) is sign fine = if_keeps (controlling.is_known id c) c _ c (λ known. same_keeps c _ refl refl) (same_keeps c c refl refl)
+  call_keeps six c (ControlCall.Removed id) is sign fine = if_keeps (controlling.is_known id c) c _ c (λ known. same_keeps c _ refl refl) (same_keeps c c refl refl)
+  call_keeps six c ControlCall.FastClose is sign fine = stop_keeps c _ refl refl refl
+  call_keeps six c (ControlCall.FastHeard key) is sign fine =
+      if_keeps (key == c.keys.own) c (controlling.after_event 0 false FallEvent.Stop c) c (λ own. stop_keeps c _ refl refl refl) (same_keeps c c refl refl)
+  call_keeps six c _ is sign fine = same_keeps c _ refl refl
 
   ask_keeps : (six : SixBooks) (x : Ask) → KeysAsk key_a key_b true six x → (is_fell x ≡ true → Knew six.control_a) → Fine six.control_a → Keeps six.control_a (after_ask x six).control_a
-  ask_keeps six (asks.Control A call) is sign fine = call_keeps six six.control_a call is sign fine
-  ask_keeps six (asks.Control B call) is sign fine = same_keeps six.control_a six.control_a refl refl
-  ask_keeps six (asks.Send A call) is sign fine = same_keeps six.control_a six.control_a refl refl
-  ask_keeps six (asks.Send B call) is sign fine = same_keeps six.control_a six.control_a refl refl
-  ask_keeps six (asks.Reassembly A call) is sign fine = same_keeps six.control_a six.control_a refl refl
-  ask_keeps six (asks.Reassembly B call) is sign fine = same_keeps six.control_a six.control_a refl refl
-  ask_keeps six (asks.Local step) is sign fine = same_keeps six.control_a six.control_a refl refl
+  ask_keeps six (Ask.Control A call) is sign fine = call_keeps six six.control_a call is sign fine
+  ask_keeps six (Ask.Control B call) is sign fine = same_keeps six.control_a six.control_a refl refl
+  ask_keeps six (Ask.Send A call) is sign fine = same_keeps six.control_a six.control_a refl refl
+  ask_keeps six (Ask.Send B call) is sign fine = same_keeps six.control_a six.control_a refl refl
+  ask_keeps six (Ask.Reassembly A call) is sign fine = same_keeps six.control_a six.control_a refl refl
+  ask_keeps six (Ask.Reassembly B call) is sign fine = same_keeps six.control_a six.control_a refl refl
+  ask_keeps six (Ask.Local step) is sign fine = same_keeps six.control_a six.control_a refl refl
 
   -- ---- what A gains
 
@@ -436,13 +341,13 @@ module _ (key_a key_b : ℕ) where
   plain_gains : (c : Control) → Fine c → Knew (record c { fall = (after_plain c.fall).0 })
   plain_gains c fine = by (is_starting c.fall.mode) refl c.fall.joined refl
     where
-      by : (x : Bool) → is_starting c.fall.mode ≡ x → (y : Bool) → c.fall.joined ≡ y → Knew (record c { fall = (if x && not y then goes modes.Identity c.fall else stays c.fall).0 })
+      by : (x : Bool) → is_starting c.fall.mode ≡ x → (y : Bool) → c.fall.joined ≡ y → Knew (record c { fall = (if x && not y then goes Mode.Identity c.fall else stays c.fall).0 })
       by true starts true joined = inl (fine.joined joined)
       by true starts false joined = inr refl
       by false starts y joined = knew_past c fine starts
 
-  fell_gains : (c : Control) (path : ℕ) (event : FallEvent) → Fine c → FellGains (Knew (controlling.after c (control_calls.Fell path event))) event
-  fell_gains c path events.PlainHandshake fine = plain_gains c fine
+  fell_gains : (c : Control) (path : ℕ) (event : FallEvent) → Fine c → FellGains (Knew (controlling.after c (ControlCall.Fell path event))) event
+  fell_gains c path FallEvent.PlainHandshake fine = plain_gains c fine
   fell_gains c path _ fine = tt
 
   -- the mode that a verdict tells is the book's
@@ -450,62 +355,52 @@ module _ (key_a key_b : ℕ) where
   told_gains d None same fine = tt
   told_gains d (Some mode) same fine = λ is. knew_past d fine (ap is_starting same ∙ is)
 
-  begin_told : (T : Type 0) (c : Control) → (is_starting c.fall.mode ≡ false → T) → ModeGains T (replies.Control (control.join_begin_reply c))
+  begin_told : (T : Type 0) (c : Control) → (is_starting c.fall.mode ≡ false → T) → ModeGains T (Reply.Control (control.join_begin_reply c))
   begin_told T c past = by (control.may_join c) (control.join_waits c)
     where
-      by : (x y : Bool) → ModeGains T (replies.Control (if x then control.begin c else (if y then control_replies.NotYet else control_replies.Never c.fall.mode)))
+      by : (x y : Bool) → ModeGains T (Reply.Control (if x then control.begin c else (if y then ControlReply.NotYet else ControlReply.Never c.fall.mode)))
       by true y = tt
       by false true = tt
       by false false = past
 
-  keys_told : (T : Type 0) (own : ℕ) (c : Control) → ModeGains T (replies.Control (control.keys_reply own c))
-  keys_told T own c = by (own == c.keys.own)
-    where
-      by : (b : Bool) → ModeGains T (replies.Control (if b then control_replies.Noted else control_replies.KeysDiffer c.keys.own))
-      by true = tt
-      by false = tt
+  keys_told : (T : Type 0) (own : ℕ) (c : Control) → ModeGains T (Reply.Control (control.keys_reply own c))
+  keys_told T own c = if_so (λ z. ModeGains T (Reply.Control z)) (own == c.keys.own) ControlReply.Noted (ControlReply.KeysDiffer c.keys.own) tt tt
 
-  stop_told : (T : Type 0) (key : ℕ) (c : Control) → ModeGains T (replies.Control (control.fast_heard_reply key c))
-  stop_told T key c = by (key == c.keys.own)
-    where
-      by : (b : Bool) → ModeGains T (replies.Control (if b then control_replies.Stopped else control_replies.OtherKey c.keys.own))
-      by true = tt
-      by false = tt
+  stop_told : (T : Type 0) (key : ℕ) (c : Control) → ModeGains T (Reply.Control (control.fast_heard_reply key c))
+  stop_told T key c = if_so (λ z. ModeGains T (Reply.Control z)) (key == c.keys.own) ControlReply.Stopped (ControlReply.OtherKey c.keys.own) tt tt
 
-  address_told : (T : Type 0) (id : ℕ) (address : Address) (port hmac : ℕ) (c : Control) → ModeGains T (replies.Control (control.address_reply id address port hmac c))
+  address_told : (T : Type 0) (id : ℕ) (address : Address) (port hmac : ℕ) (c : Control) → ModeGains T (Reply.Control (control.address_reply id address port hmac c))
   address_told T id address port hmac c = by (heard_reply is_same id address (control.is_right id address port hmac c) c.addresses)
     where
-      by : (said : AddressHeard) → ModeGains T (replies.Control (control.told_heard said))
-      by address_said.Echo = tt
-      by address_said.Known = tt
-      by address_said.BadHmac = tt
+      by : (said : AddressHeard) → ModeGains T (Reply.Control (control.told_heard said))
+      by AddressHeard.Echo = tt
+      by AddressHeard.Known = tt
+      by AddressHeard.BadHmac = tt
 
   gains : (six : SixBooks) (x : Ask) → KeysAsk key_a key_b true six x → Keeps six.control_a (after_ask x six).control_a → Fine six.control_a → Gains (Knew (after_ask x six).control_a) x (reply_of six x)
-  gains six (asks.Control A call) is keeps fine = by call is keeps
+  gains six (Ask.Control A call) is keeps fine = by call is keeps
     where
       c : Control
       c = six.control_a
 
-      by : (call : ControlCall) → KeysAsk key_a key_b true six (asks.Control A call) → Keeps c (controlling.after c call)
-          → ModeGains (Knew (controlling.after c call)) (replies.Control (control.reply_to c call)) × CallGains (Knew (controlling.after c call)) call
-      by (control_calls.Look path) is keeps = (λ starts. knew_keeps c (controlling.after c (control_calls.Look path)) keeps (knew_past c fine starts), tt)
-      by (control_calls.PeerKey key) is keeps = (tt, inl refl)
-      by (control_calls.Keys own other) is keeps = (keys_told (Knew (controlling.after c (control_calls.Keys own other))) own c, tt)
-      by (control_calls.Fell path event) is keeps =
-          let d : Control = controlling.after c (control_calls.Fell path event) in (
-            told_gains d (mode_told (replies.Control (control_replies.Verdict (fall_step c.fall path (sole_path c.paths path) event).1))) (event_turned path (sole_path c.paths path) event c.fall is).told (keeps.fine fine),
+      by : (call : ControlCall) → KeysAsk key_a key_b true six (Ask.Control A call) → Keeps c (controlling.after c call)
+          → ModeGains (Knew (controlling.after c call)) (Reply.Control (control.reply_to c call)) × CallGains (Knew (controlling.after c call)) call
+      by (ControlCall.Look path) is keeps = (λ starts. knew_keeps c (controlling.after c (ControlCall.Look path)) keeps (knew_past c fine starts), tt)
+      by (ControlCall.PeerKey key) is keeps = (tt, inl refl)
+      by (ControlCall.Keys own other) is keeps = (keys_told (Knew (controlling.after c (ControlCall.Keys own other))) own c, tt)
+      by (ControlCall.Fell path event) is keeps =
+          let d : Control = controlling.after c (ControlCall.Fell path event) in (
+            told_gains d (mode_told (Reply.Control (ControlReply.Verdict (fall_step c.fall path (sole_path c.paths path) event).1))) (event_turned path (sole_path c.paths path) event c.fall is).told (keeps.fine fine),
             fell_gains c path event fine,
           )
-      by (control_calls.JoinBegin path) is keeps =
-          let d : Control = controlling.after c (control_calls.JoinBegin path) in (begin_told (Knew d) c (λ starts. knew_keeps c d keeps (knew_past c fine starts)), tt)
-      by (control_calls.JoinHeard path token) is keeps = cc
-      by (control_calls.Heard id address port hmac) is keeps = (address_told (Knew (controlling.after c (control_calls.Heard id address port hmac))) id address port hmac c, tt)
-      by (control_calls.FastHeard key) is keeps = (stop_told (Knew (controlling.after c (control_calls.FastHeard key))) key c, tt)
+      by (ControlCall.JoinBegin path) is keeps =
+          let d : Control = controlling.after c (ControlCall.JoinBegin path) in (begin_told (Knew d) c (λ starts. knew_keeps c d keeps (knew_past c fine starts)), tt)
+      by (ControlCall.JoinHeard path token) is keeps = cc
+      by (ControlCall.Heard id address port hmac) is keeps = (address_told (Knew (controlling.after c (ControlCall.Heard id address port hmac))) id address port hmac c, tt)
+      by (ControlCall.FastHeard key) is keeps = (stop_told (Knew (controlling.after c (ControlCall.FastHeard key))) key c, tt)
       by _ is keeps = (tt, tt)
-  gains six (asks.Control B call) is keeps fine = tt
-  gains six (asks.Send s call) is keeps fine = tt
-  gains six (asks.Reassembly s call) is keeps fine = tt
-  gains six (asks.Local step) is keeps fine = tt
+  gains six (Ask.Control B call) is keeps fine = tt
+  gains six _ is keeps fine = tt
 
   -- ---- actors
 
@@ -526,7 +421,7 @@ module _ (key_a key_b : ℕ) where
       inr (inl (begun_turn T (record p { clock = p.until; until = p.until + 100 }) (record { first = h.first; calm = refl; met = h.met; signed = λ is. absurd (false≢true is); mode = h.mode })))
   next_member T (Path p) (inr (inr h)) over = absurd (still h.begins (ap is_nil (sym h.agenda_is) ∙ over))
     where
-      still : (begins : Bool) → is_nil (if begins then duties.Ask (ask_duties.SynAnswered A) ∷ duties.Ask (ask_duties.PeerKey A) ∷ h.rest else duties.Ask (ask_duties.PeerKey A) ∷ h.rest) ≡ true → ⊥
+      still : (begins : Bool) → is_nil (if begins then Duty.Ask (AskDuty.SynAnswered A) ∷ Duty.Ask (AskDuty.PeerKey A) ∷ h.rest else Duty.Ask (AskDuty.PeerKey A) ∷ h.rest) ≡ true → ⊥
       still true is = false≢true is
       still false is = false≢true is
 
@@ -545,20 +440,20 @@ module _ (key_a key_b : ℕ) where
   knowing w h right is = peer_key_is (books_in w.books).control_a.keys.peer (h.fine.sure is) h.keys.books.a.peer_is
 
   -- a fast close is no sign
-  no_stop_fell : (s : Side) → is_fell (asks.Control s control_calls.FastClose) ≡ false
+  no_stop_fell : (s : Side) → is_fell (Ask.Control s ControlCall.FastClose) ≡ false
   no_stop_fell A = refl
   no_stop_fell B = refl
 
   -- a member that tells a sign has the key, or its side is past being sure
   app_signs : (T : Type 0) (ds : List AppDuty) (a : AppState) (x : Ask) → app_asks_first ds a ≡ Some x → is_fell x ≡ true → T
   app_signs T [] a x is fell = cc
-  app_signs T (app_duties.FastClose ∷ ds) a x is fell = absurd (false≢true (sym (no_stop_fell a.side) ∙ ap is_fell (same_Some _ x is) ∙ fell))
-  app_signs T (app_duties.AbortSend ∷ ds) a x is fell = absurd (false≢true (ap is_fell (same_Some _ x is) ∙ fell))
-  app_signs T (app_duties.AbortReceive ∷ ds) a x is fell = absurd (false≢true (ap is_fell (same_Some _ x is) ∙ fell))
-  app_signs T (app_duties.Write ∷ ds) a x is fell = absurd (false≢true (ap is_fell (same_Some _ x is) ∙ fell))
-  app_signs T (app_duties.Close ∷ ds) a x is fell = absurd (false≢true (ap is_fell (same_Some _ x is) ∙ fell))
-  app_signs T (app_duties.Read ∷ ds) a x is fell = absurd (false≢true (ap is_fell (same_Some _ x is) ∙ fell))
-  app_signs T (app_duties.End ∷ ds) a x is fell = absurd (false≢true (ap is_fell (same_Some _ x is) ∙ fell))
+  app_signs T (AppDuty.FastClose ∷ ds) a x is fell = absurd (false≢true (sym (no_stop_fell a.side) ∙ ap is_fell (same_Some _ x is) ∙ fell))
+  app_signs T (AppDuty.AbortSend ∷ ds) a x is fell = absurd (false≢true (ap is_fell (same_Some _ x is) ∙ fell))
+  app_signs T (AppDuty.AbortReceive ∷ ds) a x is fell = absurd (false≢true (ap is_fell (same_Some _ x is) ∙ fell))
+  app_signs T (AppDuty.Write ∷ ds) a x is fell = absurd (false≢true (ap is_fell (same_Some _ x is) ∙ fell))
+  app_signs T (AppDuty.Close ∷ ds) a x is fell = absurd (false≢true (ap is_fell (same_Some _ x is) ∙ fell))
+  app_signs T (AppDuty.Read ∷ ds) a x is fell = absurd (false≢true (ap is_fell (same_Some _ x is) ∙ fell))
+  app_signs T (AppDuty.End ∷ ds) a x is fell = absurd (false≢true (ap is_fell (same_Some _ x is) ∙ fell))
 
   member_signs : (six : SixBooks) (m : Actor Carried) (x : Ask) → member_asks values m ≡ Some x → is_fell x ≡ true → MemberIs key_a key_b true six m → Fine six.control_a
       → MemberMet (Knew six.control_a) m → Knew six.control_a
@@ -575,65 +470,41 @@ module _ (key_a key_b : ℕ) where
       inr (takes_met (Knew (after_ask x six).control_a) (reply_of six x) p
       (λ y asks. subst (λ z. Gains (Knew (after_ask x six).control_a) z (reply_of six x)) (same_Some x y (sym is ∙ asks)) gain) h)
 
-  step_met : (actor : ℕ) (w : WorldState Carried) → WorldMet w → WorldMet (world_step values actor w)
-  step_met actor w h = by (slice_get w.crew actor) refl
-    where
-      six : SixBooks
-      six = books_in w.books
-
-      asking : (c : ActorCrew Carried) → slice_get w.crew actor ≡ Some c → (o : Option Ask) → member_asks values c.member ≡ o → WorldIs key_a key_b true (asked values actor o c w) → WorldMet (asked values actor o c w)
-      asking c there None is keys = h
-      asking c there (Some x) is keys =
-          let own = h.crew.each actor c there in
-          let own_keys = h.keys.crew.each actor c there in
-          let asks_keys = member_asks_are key_a key_b true six c.member x own_keys is in
-          let sign = λ (fell : is_fell x ≡ true). member_signs six c.member x is fell own_keys h.fine own in
-          let kept = ask_keeps six x asks_keys sign h.fine in
-          let gain = gains six x asks_keys kept h.fine in
-          let knew = λ (was : Knew six.control_a). knew_keeps six.control_a (after_ask x six).control_a kept was in
-          let now = books_after x c.pass w.books in
-          record {
-            keys = keys;
-            crew = subst (λ (y : SixBooks). Every (λ d. MemberMet (Knew y.control_a) d.member) (asked values actor (Some x) c w).crew) (sym now) (record {
-              each = λ i d at. ⊎_elim
-                  (λ here. subst (λ y. MemberMet (Knew (after_ask x six).control_a) y.member) here.1
-                  (takes_member six x c.member is gain (more_member (Knew six.control_a) (Knew (after_ask x six).control_a) c.member knew own)))
-                  (λ other. more_member (Knew six.control_a) (Knew (after_ask x six).control_a) d.member knew (h.crew.each i d other.1))
-                  (in_set w.crew actor (crew_after values x w.books c) i d at);
-            });
-            fine = subst (λ (y : SixBooks). Fine y.control_a) (sym now) (kept.fine h.fine);
-          }
-
-      by : (o : Option (ActorCrew Carried)) → slice_get w.crew actor ≡ o → WorldMet (stepped values actor o w)
-      by None there = h
-      by (Some c) there = asking c there (member_asks values c.member) refl
-          (subst (λ o. WorldIs key_a key_b true (stepped values actor o w)) there (turn_keys key_a key_b true (Turn.Step actor) w (knowing w h) h.keys))
-
-  over_each : (crew : List (ActorCrew Carried)) (i : ℕ) (c : ActorCrew Carried) → all_over crew ≡ true → slice_get crew i ≡ Some c → is_over c.member ≡ true
-  over_each [] i c over there = cc
-  over_each (d ∷ crew) zero c over there = subst (λ x. is_over x.member ≡ true) (same_Some d c there) (and_parts (is_over d.member) (all_over crew) over).0
-  over_each (d ∷ crew) (suc i) c over there = over_each crew i c (and_parts (is_over d.member) (all_over crew) over).1 there
-
-  round_met : (w : WorldState Carried) → WorldMet w → WorldMet (end_round w)
-  round_met w h = by (all_over w.crew) refl (turn_keys key_a key_b true Turn.Round w (knowing w h) h.keys)
-    where
-      by : (b : Bool) → all_over w.crew ≡ b → WorldIs key_a key_b true (if b then record w { crew = map (begins (greatest 0 w.crew)) w.crew } else w)
-          → WorldMet (if b then record w { crew = map (begins (greatest 0 w.crew)) w.crew } else w)
-      by true over keys = record {
+  pub turn_met : (turn : Turn) (w : WorldState Carried) → WorldMet w → WorldMet (after_turn values turn w)
+  turn_met turn w h =
+      turn_so values (λ v. WorldIs key_a key_b true v → WorldMet v) turn w (λ keys. h)
+      (λ actor c x there is keys.
+      let six = books_in w.books in
+      let own = h.crew.each actor c there in
+      let own_keys = h.keys.crew.each actor c there in
+      let asks_keys = member_asks_are key_a key_b true six c.member x own_keys is in
+      let sign = λ (fell : is_fell x ≡ true). member_signs six c.member x is fell own_keys h.fine own in
+      let kept = ask_keeps six x asks_keys sign h.fine in
+      let gain = gains six x asks_keys kept h.fine in
+      let knew = λ (was : Knew six.control_a). knew_keeps six.control_a (after_ask x six).control_a kept was in
+      let now = books_after x c.pass w.books in
+      record {
+        keys = keys;
+        crew = subst (λ (y : SixBooks). Every (λ d. MemberMet (Knew y.control_a) d.member) (asked values actor (Some x) c w).crew) (sym now) (record {
+          each = λ i d at. ⊎_elim
+              (λ here. subst (λ y. MemberMet (Knew (after_ask x six).control_a) y.member) here.1
+              (takes_member six x c.member is gain (more_member (Knew six.control_a) (Knew (after_ask x six).control_a) c.member knew own)))
+              (λ other. more_member (Knew six.control_a) (Knew (after_ask x six).control_a) d.member knew (h.crew.each i d other.1))
+              (in_set w.crew actor (crew_after values x w.books c) i d at);
+        });
+        fine = subst (λ (y : SixBooks). Fine y.control_a) (sym now) (kept.fine h.fine);
+      })
+      (λ over keys. record {
         keys = keys;
         crew = record {
           each = λ i d at.
               let found = in_map (begins (greatest 0 w.crew)) w.crew i d at in
               subst (λ y. MemberMet (Knew (books_in w.books).control_a) y.member) found.2
-              (next_member (Knew (books_in w.books).control_a) found.0.member (h.crew.each i found.0 found.1) (over_each w.crew i found.0 over found.1));
+              (next_member (Knew (books_in w.books).control_a) found.0.member (h.crew.each i found.0 found.1) (all_over_each w.crew i found.0 over found.1));
         };
         fine = h.fine;
-      }
-      by false over keys = h
-
-  pub turn_met : (turn : Turn) (w : WorldState Carried) → WorldMet w → WorldMet (after_turn values turn w)
-  turn_met (Turn.Step actor) w h = step_met actor w h
-  turn_met Turn.Round w h = round_met w h
+      })
+      (turn_keys key_a key_b true turn w (knowing w h) h.keys)
 
   pub run_met : (turns : List Turn) (w : WorldState Carried) → WorldMet w → WorldMet (world_run values turns w)
   run_met [] w h = h

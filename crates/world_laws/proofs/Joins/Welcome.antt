@@ -1,63 +1,19 @@
 -- No copy that arrives on a path that joins is refused for what it says, unless its options were taken away.
-use Rattle.std.proofs.Common.{◌≡◌, refl, sym, ◌∙◌, ap, subst, ⊎_elim, ℕ, zero, suc, ◌+◌, map, ◌&&◌, ◌==◌, not, is_some, is_none, Bool, true, false, if◌then◌else◌, unwrap_or, Option, Some, None, Ok, Err, List, [], ◌∷◌}
-use Rattle.std.proofs.lemmas.Bool.{and_parts, both_ways, eq-eqb, not-true, false≢true}
-use Rattle.std.proofs.lemmas.Option.{same_Some}
-use Rattle.std.specs.List.{flat_map, slice_get}
+use Rattle.world_laws.proofs.Words.{◌≡◌, refl, sym, ◌∙◌, ap, subst, ℕ, zero, suc, ◌+◌, ◌&&◌, ◌==◌, not, ⊎_elim, Bool, true, false, if◌then◌else◌, Option, Some}
+use Rattle.world_laws.proofs.Words.{None, Ok, Err, List, [], ◌∷◌, map, is_none, is_some, unwrap_or, eq-eqb, and_parts, both_ways, false≢true, same_Some}
+use Rattle.world_laws.proofs.Words.{flat_map, IfSome, option_or, result_ok, join_a160_of, join_b64_of, Side, A, B, peer, same_side, JoinForm, Answer}
+use Rattle.world_laws.proofs.Words.{Third, JoinAnswer, BadHmac, answer_heard, answer_taken, syn_heard, third_heard, is_closed_to_segments, is_half_open}
+use Rattle.world_laws.proofs.Words.{Meaning, EndState, EndPhase, meaning_of, Copy, is_due, arriving, Flight, HeardSegment, PlainOption, PlainSegment, Join}
+use Rattle.world_laws.proofs.Words.{meant, meant_option, window_told, Heard, is_of_step, join_in, join_heard, JoinStep, Reply, books_in, SixBooks}
+use Rattle.world_laws.proofs.Words.{reply_of, is_nil, PathEnd, waiting_path, PathState, end_at, Carried, as_arrived, values, items_in, items_of, copy_of}
+use Rattle.world_laws.proofs.Words.{judged_in, heard_in, Judged, is_joined, join_answer, join_asked, peer_key_of, join_value, is_hmac_right, is_third_right}
+use Rattle.world_laws.proofs.Words.{third_in, is_forged, is_passed_over, join_judged, in_map, Every-nil, in_set, Every, App, Path, Actor}
+use Rattle.world_laws.proofs.Words.{member_takes, member_next, Always, PathPlan, Start, path_begins, new_path, opened_world, WorldState, Turn}
+use Rattle.world_laws.proofs.Words.{crew_after, greatest, begins, after_turn, world_run}
+use Rattle.world_laws.proofs.Worlds.Turns.{run_so}
 use Rattle.std.specs.Cmp.Lexicographic.{pointwise}
-use Rattle.std.specs.Option.{IfSome, option_or}
-use Rattle.std.specs.Result.{result_ok}
-use Rattle.sides.specs.declared.side.Side.{Side}
-use Rattle.sides.specs.declared.side.Side.TheVariants.{A, B}
-use Rattle.sides.specs.Side.{peer}
-use Rattle.key_material.specs.JoinHmac.{join_a160_of, join_b64_of}
-use Rattle.link_script.specs.Places.{same_side}
-use Rattle.link_model.specs.declared.flight.Flight.{Flight}
-use Rattle.link_model.specs.Steps.{is_due, arriving}
-use Rattle.mptcp_options.specs.declared.join.JoinForm.{JoinForm}
-use Rattle.mptcp_options.specs.declared.join.JoinForm.TheVariants.{Syn, Answer, Third}
-use Rattle.join_handshake.specs.declared.hearing.JoinAnswer.{JoinAnswer}
-use Rattle.join_handshake.specs.declared.fault.JoinFault.TheVariants.{BadHmac}
-use Rattle.join_handshake.specs.Heard.{answer_heard, answer_taken, syn_heard, third_heard}
-use Rattle.path_segments.specs.declared.segment.PathOption.TheVariants.{Join}
-use Rattle.path_segments.specs.Laws.{meant, window_told, meant_option}
-use Rattle.path_segments.specs.Spelled.{PlainSegment}
-use Rattle.subflow_tcp.specs.declared.handshake.State.{State as EndPhase}
-use Rattle.subflow_tcp.specs.declared.handshake.State.TheVariants as phase
-use Rattle.subflow_tcp.specs.declared.verdicts.Meaning.{Meaning}
-use Rattle.subflow_tcp.specs.declared.verdicts.Meaning.TheVariants as means
-use Rattle.subflow_tcp.specs.Judging.{is_syn_alone, meaning_at, meaning_of}
-use Rattle.subflow_tcp.specs.Segments.{Copy}
-use Rattle.subflow_tcp.specs.State.{EndState}
-use Rattle.subflow_tcp.specs.States.{is_closed_to_segments, is_half_open}
-use Rattle.stream_lanes.specs.Words.{Every}
-use Rattle.path_agenda.specs.Items.{is_of_step, join_heard, join_in}
-use Rattle.path_agenda.specs.declared.heard.Heard.{Heard}
-use Rattle.path_agenda.specs.declared.heard.Heard.TheVariants as says
-use Rattle.path_agenda.specs.declared.heard.JoinStep.{JoinStep}
-use Rattle.path_agenda.specs.declared.heard.JoinStep.TheVariants as step
-use Rattle.path_core.specs.declared.judged.Judged.TheVariants as judged
-use Rattle.path_core.specs.Arrival.{copy_of, judged_in, heard_in}
-use Rattle.path_core.specs.Judged.{is_forged, is_passed_over, join_judged}
-use Rattle.path_core.specs.OptionsIn.{items_in, items_of}
-use Rattle.path_core.specs.End.{PathEnd}
-use Rattle.path_core.specs.MpJoin.{is_joined, is_hmac_right, is_third_right, join_answer, join_asked, join_value, peer_key_of, third_in}
-use Rattle.path_core.specs.State.{PathState, end_at}
-use Rattle.path_core.specs.Values.{Carried, as_arrived, values}
-use Rattle.actor_desk.specs.declared.ask.Ask.{Ask}
-use Rattle.actor_desk.specs.declared.ask.Reply.{Reply}
-use Rattle.actor_desk.specs.Books.{books_in}
-use Rattle.actor_desk.specs.Desk.{SixBooks, reply_of}
-use Rattle.actor_desk.specs.Words.{is_nil}
-use Rattle.path_segments.specs.Options.{PlainOption}
-use Rattle.path_segments.specs.Heard.{HeardSegment}
-use Rattle.stream_lanes.proofs.Lists.{Every-nil, in_set, in_map}
-use Rattle.world_laws.specs.declared.member.Member.TheVariants.{App, Path}
-use Rattle.world_laws.specs.Actors.{Actor, ActorCrew, member_asks, member_takes, member_next}
-use Rattle.world_laws.specs.Laws.{Always}
-use Rattle.world_laws.specs.Openings.{PathPlan, Start, path_begins, new_path, opened_world}
-use Rattle.path_core.specs.Start.{waiting_path}
+use Rattle.mptcp_options.specs.declared.join.JoinForm.TheVariants.{Syn}
 use Rattle.world_laws.specs.Welcome.{IsWelcome, NextIsWelcome, WelcomesNext, EachCopyIsWelcome}
-use Rattle.world_laws.specs.Worlds.{WorldState, Turn, crew_after, asked, stepped, all_over, greatest, begins, after_turn, world_run}
 use Rattle.world_laws.proofs.Joins.TokensAgree.{WorldMet, run_met, opened_met}
 use Rattle.world_laws.proofs.Keys.ToldAreOwn.{Joined, NoMore, Past, MemberIs, with_nonces}
 use Rattle.world_laws.proofs.Worlds.Opened.{opened_actors}
@@ -66,7 +22,8 @@ use Rattle.world_laws.proofs.Keys.AreDrawn.{Deed, Secrets, drawn_key, drawn_nonc
 use Rattle.world_laws.proofs.Keys.WhatWakes.{is_opens, is_up, open_is_up}
 use Rattle.world_laws.proofs.Keys.Held.{PathIs, FlightIs, arrived_is, end_is, join_found}
 use Rattle.world_laws.proofs.Joins.Roles.{HasRoles, CopyTells, role_at, arrived_tells, takes_roles, begins_roles}
-use Rattle.world_laws.proofs.Keys.AnswerHeardFirst.{TellsKey, asks_first, connected_meaning, is_accepts, is_apart, is_taken, opening_meaning}
+use Rattle.world_laws.proofs.Keys.Meanings.{Means, means}
+use Rattle.world_laws.proofs.Keys.AnswerHeardFirst.{TellsKey, asks_first, is_accepts, is_apart}
 
 -- a list is the same as itself, octet by octet
 same_octets : (xs ys : List ℕ) → xs ≡ ys → pointwise ◌==◌ xs ys ≡ true
@@ -86,17 +43,17 @@ of_form of_step (item ∷ items) form is = by item (λ rest. of_form of_step ite
     at f false later of is = later is
 
     by : (item : Heard) → (join_heard of_step items ≡ Some form → is_of_step of_step form ≡ true) → option_or (join_in of_step item) (join_heard of_step items) ≡ Some form → is_of_step of_step form ≡ true
-    by (says.Join f) later is = at f (is_of_step of_step f) later refl is
-    by says.Dss later is = later is
+    by (Heard.Join f) later is = at f (is_of_step of_step f) later refl is
+    by Heard.Dss later is = later is
     by _ later is = later is
 
 -- what a SYN tells an end of this side: A hears an answer, and B that a join is asked for
 abbrev pub TellsJoin : Side → List Heard → Type 0
-TellsJoin A items = is_some (join_heard step.Answer items) ≡ true
-TellsJoin B items = is_some (join_heard step.Syn items) ≡ true
+TellsJoin A items = is_some (join_heard JoinStep.Answer items) ≡ true
+TellsJoin B items = is_some (join_heard JoinStep.Syn items) ≡ true
 
 -- the first option is among what B hears
-first_asked : (window : ℕ) (options : List PlainOption) → asks_first options ≡ true → is_some (join_heard step.Syn (flat_map (items_in true B window) (map meant_option options))) ≡ true
+first_asked : (window : ℕ) (options : List PlainOption) → asks_first options ≡ true → is_some (join_heard JoinStep.Syn (flat_map (items_in true B window) (map meant_option options))) ≡ true
 first_asked window (Join (Syn backup id token nonce) ∷ options) is = refl
 first_asked window _ is = cc
 
@@ -112,7 +69,7 @@ some_meant (o ∷ options) some = refl
 
 module _ (k : Secrets) (w : Side → Type 0) (did : Deed → Side → Type 0) (s : Side) (e : PathEnd) (h : EndIs k true w did true s e) (items : List Heard) (said : Every (ItemIs k true w did true s) items) where
   -- A takes what B answers
-  answer_right : is_up e.tcp ≡ true → s ≡ A → (o : Option JoinForm) → is_some o ≡ true → IfSome o (λ form. (is_of_step step.Answer form ≡ true) × ((true ≡ true) → JoinIs k true (peer s) form))
+  answer_right : is_up e.tcp ≡ true → s ≡ A → (o : Option JoinForm) → is_some o ≡ true → IfSome o (λ form. (is_of_step JoinStep.Answer form ≡ true) × ((true ≡ true) → JoinIs k true (peer s) form))
       → is_some (result_ok (answer_taken e.modes.own_key (peer_key_of e.modes) e.modes.own_nonce (answer_heard (join_value o)))) ≡ true
   answer_right up side None some form = absurd (false≢true some)
   answer_right up side (Some (Syn backup id token nonce)) some form = absurd (false≢true form.0)
@@ -153,13 +110,10 @@ module _ (k : Secrets) (w : Side → Type 0) (did : Deed → Side → Type 0) (s
 
 -- no reset means one of these
 abbrev is_firm : Meaning → Bool
-is_firm means.Opens = true
-is_firm (means.Accepts acknowledged) = true
-is_firm (means.Taken pos acknowledged) = true
+is_firm Meaning.Opens = true
+is_firm (Meaning.Accepts acknowledged) = true
+is_firm (Meaning.Taken pos acknowledged) = true
 is_firm _ = false
-
-not_reset : (c : Copy) → is_syn_alone c ≡ true → c.rst ≡ false
-not_reset c alone = not-true c.rst (and_parts (not c.rst) _ (and_parts (not c.fin) _ (and_parts c.syn _ alone).1).1).0
 
 -- a SYN comes to a listening end, and its answer to an opening one; no reset is taken
 record FitsState (state : EndPhase) (c : Copy) (m : Meaning) : Type 0 where
@@ -168,47 +122,23 @@ record FitsState (state : EndPhase) (c : Copy) (m : Meaning) : Type 0 where
   pub alive : is_accepts m ≡ true → is_closed_to_segments state ≡ false
   pub firm : is_firm m ≡ true → c.rst ≡ false
 
-other_fits : (state : EndPhase) (c : Copy) (m : Meaning) → is_opens m ≡ false → is_accepts m ≡ false → (is_taken m ≡ true → c.rst ≡ false) → FitsState state c m
-other_fits state c m opens accepts taken = record {
-  opens = λ is. absurd (both_ways _ opens is);
-  accepts = λ is. absurd (both_ways _ accepts is);
-  alive = λ is. absurd (both_ways _ accepts is);
-  firm = firm m opens accepts taken;
-}
+state_fits : (c : Copy) (s : EndState) → FitsState s.state c (meaning_of c s)
+state_fits c s = by (meaning_of c s) (means c s)
   where
-    firm : (m : Meaning) → is_opens m ≡ false → is_accepts m ≡ false → (is_taken m ≡ true → c.rst ≡ false) → is_firm m ≡ true → c.rst ≡ false
-    firm means.Opens opens accepts taken is = absurd (false≢true (sym opens))
-    firm (means.Accepts acknowledged) opens accepts taken is = absurd (false≢true (sym accepts))
-    firm (means.Taken pos acknowledged) opens accepts taken is = taken refl
-    firm _ opens accepts taken is = absurd (false≢true is)
-
-state_fits : (state : EndPhase) (c : Copy) (s : EndState) → FitsState state c (meaning_at state c s)
-state_fits phase.Dead c s = by c.rst
-  where
-    by : (b : Bool) → FitsState phase.Dead c (if b then means.Ignored else means.Unwanted)
-    by true = other_fits phase.Dead c means.Ignored refl refl (λ is. absurd (false≢true is))
-    by false = other_fits phase.Dead c means.Unwanted refl refl (λ is. absurd (false≢true is))
-state_fits phase.Waiting c s = other_fits phase.Waiting c means.Ignored refl refl (λ is. absurd (false≢true is))
-state_fits phase.Listen c s = by (is_syn_alone c) refl
-  where
-    by : (b : Bool) → is_syn_alone c ≡ b → FitsState phase.Listen c (if b then means.Opens else means.Ignored)
-    by true alone = record { opens = λ is. (refl, (and_parts c.syn _ alone).0); accepts = λ is. absurd (false≢true is); alive = λ is. absurd (false≢true is); firm = λ is. not_reset c alone }
-    by false alone = other_fits phase.Listen c means.Ignored refl refl (λ is. absurd (false≢true is))
-state_fits phase.SynSent c s =
-    opening_meaning c s (FitsState phase.SynSent c) (other_fits phase.SynSent c means.Ignored refl refl (λ is. absurd (false≢true is))) (other_fits phase.SynSent c means.Kills refl refl (λ is. absurd (false≢true is)))
-    (λ acknowledged syn plain. record { opens = λ is. absurd (false≢true is); accepts = λ is. (refl, syn); alive = λ is. refl; firm = λ is. plain })
-state_fits phase.SynReceived c s = connected_meaning c s (FitsState phase.SynReceived c) (other_fits phase.SynReceived c)
-state_fits phase.Established c s = connected_meaning c s (FitsState phase.Established c) (other_fits phase.Established c)
-state_fits phase.FinWait1 c s = connected_meaning c s (FitsState phase.FinWait1 c) (other_fits phase.FinWait1 c)
-state_fits phase.FinWait2 c s = connected_meaning c s (FitsState phase.FinWait2 c) (other_fits phase.FinWait2 c)
-state_fits phase.CloseWait c s = connected_meaning c s (FitsState phase.CloseWait c) (other_fits phase.CloseWait c)
-state_fits phase.Closing c s = connected_meaning c s (FitsState phase.Closing c) (other_fits phase.Closing c)
-state_fits phase.LastAck c s = connected_meaning c s (FitsState phase.LastAck c) (other_fits phase.LastAck c)
-state_fits phase.TimeWait c s = connected_meaning c s (FitsState phase.TimeWait c) (other_fits phase.TimeWait c)
+    by : (m : Meaning) → Means c s m → FitsState s.state c m
+    by Meaning.Opens is = record { opens = λ x. (ap (is_apart A) is.0, is.1.0); accepts = λ x. absurd (false≢true x); alive = λ x. absurd (false≢true x); firm = λ x. is.1.1.0 }
+    by (Meaning.Accepts acknowledged) is = record {
+      opens = λ x. absurd (false≢true x);
+      accepts = λ x. (ap (is_apart B) is.0, is.1.0);
+      alive = λ x. ap is_closed_to_segments is.0;
+      firm = λ x. is.1.1.0;
+    }
+    by (Meaning.Taken pos acknowledged) is = record { opens = λ x. absurd (false≢true x); accepts = λ x. absurd (false≢true x); alive = λ x. absurd (false≢true x); firm = λ x. is.1.1.0 }
+    by _ is = record { opens = λ x. absurd (false≢true x); accepts = λ x. absurd (false≢true x); alive = λ x. absurd (false≢true x); firm = λ x. absurd (false≢true x) }
 
 half_open_is : (state : EndPhase) → is_half_open state ≡ true → (is_apart A state ≡ true) × (is_closed_to_segments state ≡ false)
-half_open_is phase.SynReceived is = (refl, refl)
-half_open_is phase.Waiting is = absurd (false≢true is)
+half_open_is EndPhase.SynReceived is = (refl, refl)
+half_open_is EndPhase.Waiting is = absurd (false≢true is)
 half_open_is _ is = absurd (false≢true is)
 
 -- ---- what an end of a path that joins makes of it
@@ -234,9 +164,9 @@ module _ (k : Secrets) (w : Side → Type 0) (did : Deed → Side → Type 0) (s
       by B none = absurd (both_ways _ none apart)
 
   asks_to_join : s ≡ B → (copy_of heard).syn ≡ true → is_some (join_asked items) ≡ true
-  asks_to_join side syn = by (join_heard step.Syn items) (subst (λ t. TellsJoin t items) side (tells syn)) (λ form. of_form step.Syn items form)
+  asks_to_join side syn = by (join_heard JoinStep.Syn items) (subst (λ t. TellsJoin t items) side (tells syn)) (λ form. of_form JoinStep.Syn items form)
     where
-      by : (o : Option JoinForm) → is_some o ≡ true → ((form : JoinForm) → o ≡ Some form → is_of_step step.Syn form ≡ true) → is_some (syn_heard (join_value o)) ≡ true
+      by : (o : Option JoinForm) → is_some o ≡ true → ((form : JoinForm) → o ≡ Some form → is_of_step JoinStep.Syn form ≡ true) → is_some (syn_heard (join_value o)) ≡ true
       by None some form = absurd (false≢true some)
       by (Some (Syn backup id token nonce)) some form = refl
       by (Some (Answer backup id hmac nonce)) some form = absurd (false≢true (form (Answer backup id hmac nonce) refl))
@@ -244,11 +174,11 @@ module _ (k : Secrets) (w : Side → Type 0) (did : Deed → Side → Type 0) (s
 
   answers_join : s ≡ A → is_up e.tcp ≡ true → (copy_of heard).syn ≡ true → is_some (join_answer items e.modes) ≡ true
   answers_join side up syn =
-      answer_right k w did s e h items said up side (join_heard step.Answer items) (subst (λ t. TellsJoin t items) side (tells syn))
-      (by (join_heard step.Answer items) (join_found k true w did true s step.Answer items said) (λ form. of_form step.Answer items form))
+      answer_right k w did s e h items said up side (join_heard JoinStep.Answer items) (subst (λ t. TellsJoin t items) side (tells syn))
+      (by (join_heard JoinStep.Answer items) (join_found k true w did true s JoinStep.Answer items said) (λ form. of_form JoinStep.Answer items form))
     where
-      by : (o : Option JoinForm) → IfSome o (λ form. (true ≡ true) × (IsFor s form × (w (peer s) × ((true ≡ true) → JoinIs k true (peer s) form)))) → ((form : JoinForm) → o ≡ Some form → is_of_step step.Answer form ≡ true)
-          → IfSome o (λ form. (is_of_step step.Answer form ≡ true) × ((true ≡ true) → JoinIs k true (peer s) form))
+      by : (o : Option JoinForm) → IfSome o (λ form. (true ≡ true) × (IsFor s form × (w (peer s) × ((true ≡ true) → JoinIs k true (peer s) form)))) → ((form : JoinForm) → o ≡ Some form → is_of_step JoinStep.Answer form ≡ true)
+          → IfSome o (λ form. (is_of_step JoinStep.Answer form ≡ true) × ((true ≡ true) → JoinIs k true (peer s) form))
       by None found form = tt
       by (Some f) found form = (form f refl, found.1.1.1)
 
@@ -258,8 +188,8 @@ module _ (k : Secrets) (w : Side → Type 0) (did : Deed → Side → Type 0) (s
       third : is_half_open e.tcp.state ≡ true → is_some (third_in items) ≡ true → is_third_right items e.modes ≡ true
       third half some =
           let is = half_open_is e.tcp.state half in
-          third_right k w did s e h items said (open_is_up e.tcp is.1) (at_b is.0) (join_heard step.Third items) some
-          (found (join_heard step.Third items) (join_found k true w did true s step.Third items said))
+          third_right k w did s e h items said (open_is_up e.tcp is.1) (at_b is.0) (join_heard JoinStep.Third items) some
+          (found (join_heard JoinStep.Third items) (join_found k true w did true s JoinStep.Third items said))
         where
           found : (o : Option JoinForm) → IfSome o (λ form. (true ≡ true) × (IsFor s form × (w (peer s) × ((true ≡ true) → JoinIs k true (peer s) form)))) → IfSome o (λ form. (true ≡ true) → JoinIs k true (peer s) form)
           found None is = tt
@@ -274,58 +204,51 @@ module _ (k : Secrets) (w : Side → Type 0) (did : Deed → Side → Type 0) (s
       by false is heeded = refl
       by true is heeded = ap not (third is (some_third heard.rst (third_in items) plain heeded))
 
-  silent_welcome : (b : Bool) (m : Meaning) → IsWelcome (if b then judged.As means.Ignored else judged.As m)
+  silent_welcome : (b : Bool) (m : Meaning) → IsWelcome (if b then Judged.As Meaning.Ignored else Judged.As m)
   silent_welcome true m = tt
   silent_welcome false m = tt
 
   welcome : (m : Meaning) → FitsState e.tcp.state (copy_of heard) m → IsWelcome (join_judged heard.rst items m e)
-  welcome means.Opens fit =
+  welcome Meaning.Opens fit =
       let opens = fit.opens refl in
-      subst (λ (b : Bool). IsWelcome (if b then judged.Asks else judged.Lacks)) (sym (asks_to_join (at_b opens.0) opens.1)) tt
-  welcome (means.Accepts acknowledged) fit =
+      subst (λ (b : Bool). IsWelcome (if b then Judged.Asks else Judged.Lacks)) (sym (asks_to_join (at_b opens.0) opens.1)) tt
+  welcome (Meaning.Accepts acknowledged) fit =
       let accepts = fit.accepts refl in
-      subst (λ (b : Bool). IsWelcome (if b then judged.As (means.Accepts acknowledged) else judged.Forged))
+      subst (λ (b : Bool). IsWelcome (if b then Judged.As (Meaning.Accepts acknowledged) else Judged.Forged))
       (sym (answers_join (at_a accepts.0) (open_is_up e.tcp (fit.alive refl)) accepts.1)) tt
-  welcome means.RepeatedSyn fit = tt
-  welcome (means.Taken pos acknowledged) fit = by (is_passed_over heard.rst items e) refl
+  welcome Meaning.RepeatedSyn fit = tt
+  welcome (Meaning.Taken pos acknowledged) fit = by (is_passed_over heard.rst items e) refl
     where
       by : (silent : Bool) → is_passed_over heard.rst items e ≡ silent
-          → IsWelcome (if silent then judged.As means.Ignored else (if is_forged items e then judged.Forged else judged.As (means.Taken pos acknowledged)))
+          → IsWelcome (if silent then Judged.As Meaning.Ignored else (if is_forged items e then Judged.Forged else Judged.As (Meaning.Taken pos acknowledged)))
       by true is = tt
-      by false is = subst (λ (b : Bool). IsWelcome (if b then judged.Forged else judged.As (means.Taken pos acknowledged))) (sym (not_forged (fit.firm refl) is)) tt
-  welcome means.Ignored fit = silent_welcome (is_passed_over heard.rst items e) means.Ignored
-  welcome means.Unwanted fit = silent_welcome (is_passed_over heard.rst items e) means.Unwanted
-  welcome means.Outside fit = silent_welcome (is_passed_over heard.rst items e) means.Outside
-  welcome means.Kills fit = silent_welcome (is_passed_over heard.rst items e) means.Kills
-  welcome means.Challenged fit = silent_welcome (is_passed_over heard.rst items e) means.Challenged
-  welcome means.Unacknowledging fit = silent_welcome (is_passed_over heard.rst items e) means.Unacknowledging
-  welcome means.Ahead fit = silent_welcome (is_passed_over heard.rst items e) means.Ahead
+      by false is = subst (λ (b : Bool). IsWelcome (if b then Judged.Forged else Judged.As (Meaning.Taken pos acknowledged))) (sym (not_forged (fit.firm refl) is)) tt
+  welcome Meaning.Ignored fit = silent_welcome (is_passed_over heard.rst items e) Meaning.Ignored
+  welcome m fit = silent_welcome (is_passed_over heard.rst items e) m
 
   pub end_welcomes : IsWelcome (judged_in true s heard e)
-  end_welcomes = welcome (meaning_of (copy_of heard) e.tcp) (state_fits e.tcp.state (copy_of heard) e.tcp)
+  end_welcomes = welcome (meaning_of (copy_of heard) e.tcp) (state_fits (copy_of heard) e.tcp)
 
 -- a reset is never refused
 module _ (s : Side) (e : PathEnd) (heard : HeardSegment) (reset : (copy_of heard).rst ≡ true) where
-  silent_reset : (b : Bool) (m : Meaning) → IsWelcome (if b then judged.As means.Ignored else judged.As m)
+  silent_reset : (b : Bool) (m : Meaning) → IsWelcome (if b then Judged.As Meaning.Ignored else Judged.As m)
   silent_reset true m = tt
   silent_reset false m = tt
 
   reset_as : (m : Meaning) → FitsState e.tcp.state (copy_of heard) m → IsWelcome (join_judged heard.rst (items_of true s heard) m e)
-  reset_as means.Opens fit = absurd (both_ways _ (fit.firm refl) reset)
-  reset_as (means.Accepts acknowledged) fit = absurd (both_ways _ (fit.firm refl) reset)
-  reset_as (means.Taken pos acknowledged) fit = absurd (both_ways _ (fit.firm refl) reset)
-  reset_as means.RepeatedSyn fit = tt
-  reset_as means.Ignored fit = silent_reset (is_passed_over heard.rst (items_of true s heard) e) means.Ignored
-  reset_as means.Unwanted fit = silent_reset (is_passed_over heard.rst (items_of true s heard) e) means.Unwanted
-  reset_as means.Outside fit = silent_reset (is_passed_over heard.rst (items_of true s heard) e) means.Outside
-  reset_as means.Kills fit = silent_reset (is_passed_over heard.rst (items_of true s heard) e) means.Kills
-  reset_as means.Challenged fit = silent_reset (is_passed_over heard.rst (items_of true s heard) e) means.Challenged
-  reset_as means.Unacknowledging fit = silent_reset (is_passed_over heard.rst (items_of true s heard) e) means.Unacknowledging
-  reset_as means.Ahead fit = silent_reset (is_passed_over heard.rst (items_of true s heard) e) means.Ahead
+  reset_as Meaning.RepeatedSyn fit = tt
+  reset_as Meaning.Ignored fit = silent_reset (is_passed_over heard.rst (items_of true s heard) e) Meaning.Ignored
+  reset_as Meaning.Unwanted fit = silent_reset (is_passed_over heard.rst (items_of true s heard) e) Meaning.Unwanted
+  reset_as Meaning.Outside fit = silent_reset (is_passed_over heard.rst (items_of true s heard) e) Meaning.Outside
+  reset_as Meaning.Kills fit = silent_reset (is_passed_over heard.rst (items_of true s heard) e) Meaning.Kills
+  reset_as Meaning.Challenged fit = silent_reset (is_passed_over heard.rst (items_of true s heard) e) Meaning.Challenged
+  reset_as Meaning.Unacknowledging fit = silent_reset (is_passed_over heard.rst (items_of true s heard) e) Meaning.Unacknowledging
+  reset_as Meaning.Ahead fit = silent_reset (is_passed_over heard.rst (items_of true s heard) e) Meaning.Ahead
+  reset_as _ fit = absurd (both_ways _ (fit.firm refl) reset)
 
   pub reset_welcome : (joined : Bool) → IsWelcome (judged_in joined s heard e)
   reset_welcome false = tt
-  reset_welcome true = reset_as (meaning_of (copy_of heard) e.tcp) (state_fits e.tcp.state (copy_of heard) e.tcp)
+  reset_welcome true = reset_as (meaning_of (copy_of heard) e.tcp) (state_fits (copy_of heard) e.tcp)
 
 -- ---- a path
 
@@ -375,34 +298,19 @@ next_member (App a) h = tt
 next_member (Path p) h =
     begins_roles (record p { clock = p.until; until = p.until + 100 }) (record { copies = h.copies; role_a = h.role_a; role_b = h.role_b; answer_a = h.answer_a; answer_b = h.answer_b })
 
-turn_roles : (turn : Turn) (w : WorldState Carried) → AllRoles w → AllRoles (after_turn values turn w)
-turn_roles (Turn.Step actor) w h = by (slice_get w.crew actor) refl
-  where
-    asking : (c : ActorCrew Carried) → slice_get w.crew actor ≡ Some c → (o : Option Ask) → AllRoles (asked values actor o c w)
-    asking c there None = h
-    asking c there (Some x) = record {
+run_roles : (turns : List Turn) (w : WorldState Carried) → AllRoles w → AllRoles (world_run values turns w)
+run_roles = run_so values AllRoles
+    (λ w h actor c x there is. record {
       each = λ i d at. ⊎_elim
           (λ here. subst (λ y. MemberRoles y.member) here.1 (takes_member (reply_of (books_in w.books) x) c.member (h.each actor c there)))
           (λ other. h.each i d other.1)
           (in_set w.crew actor (crew_after values x w.books c) i d at);
-    }
-
-    by : (o : Option (ActorCrew Carried)) → slice_get w.crew actor ≡ o → AllRoles (stepped values actor o w)
-    by None there = h
-    by (Some c) there = asking c there (member_asks values c.member)
-turn_roles Turn.Round w h = by (all_over w.crew)
-  where
-    by : (b : Bool) → AllRoles (if b then record w { crew = map (begins (greatest 0 w.crew)) w.crew } else w)
-    by true = record {
+    })
+    (λ w h over. record {
       each = λ i d at.
           let found = in_map (begins (greatest 0 w.crew)) w.crew i d at in
           subst (λ y. MemberRoles y.member) found.2 (next_member found.0.member (h.each i found.0 found.1));
-    }
-    by false = h
-
-run_roles : (turns : List Turn) (w : WorldState Carried) → AllRoles w → AllRoles (world_run values turns w)
-run_roles [] w h = h
-run_roles (turn ∷ turns) w h = run_roles turns (after_turn values turn w) (turn_roles turn w h)
+    })
 
 opened_roles : (start : Start) → AllRoles (opened_world start)
 opened_roles start = record { each = opened_actors (λ actor c. MemberRoles c.member) start tt tt (λ number plan there. path number plan) }

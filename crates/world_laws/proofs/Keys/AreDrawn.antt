@@ -1,53 +1,23 @@
 -- The keys and nonces that an end keeps, hears and shows are those that were drawn.
-use Rattle.std.proofs.Common.{◌≡◌, refl, sym, ◌∙◌, ap, subst, ℕ, suc, ◌-◌, not, ◌||◌, ◌&&◌, nat_lt, nat_le, is_some, unwrap_or, Bool, true, false, if◌then◌else◌, Option, Some, None, List, [], ◌∷◌, map, ◌^◌}
-use Rattle.std.specs.List.{flat_map}
-use Rattle.std.specs.Option.{IfSome, option_map}
-use Rattle.sides.specs.declared.side.Side.{Side}
-use Rattle.sides.specs.declared.side.Side.TheVariants.{A, B}
-use Rattle.sides.specs.Side.{peer}
+use Rattle.world_laws.proofs.Words.{◌≡◌, refl, sym, ◌∙◌, ap, subst, ℕ, suc, ◌-◌, ◌&&◌, ◌||◌, not, nat_lt, nat_le, Bool, true, false, if◌then◌else◌, Option}
+use Rattle.world_laws.proofs.Words.{Some, None, List, [], ◌∷◌, map, is_some, ◌^◌, unwrap_or, flat_map, IfSome, Address, token_of, join_a160_of, join_b64_of}
+use Rattle.world_laws.proofs.Words.{Side, A, B, peer, JoinForm, Answer, Third, CapableKeys, NoKey, Sender, Both, WithData, octets_in, Record, RecordKind, Syn}
+use Rattle.world_laws.proofs.Words.{Data, Fin, is_closed_to_segments, EndPhase, PlainOption, PlainSegment, Capable, Join, Dss, AddAddr, Remove, Prio, Fail}
+use Rattle.world_laws.proofs.Words.{Reset, meant, meant_option, meant_mapping, PathMapping, Bytes, Infinite, InfiniteMapping, OwnNotice, Heard, PeerNotice}
+use Rattle.world_laws.proofs.Words.{PathEnd, items_in, items_of, options_heard, is_joined, join_options, third_options, peer_key_of, join_items, ack_items}
+use Rattle.world_laws.proofs.Words.{is_mapping, mapping_items, map_items, first_items, data_fin_items, infinite_items, key_items, address_items}
+use Rattle.world_laws.proofs.Words.{receives_infinite, owes_mapping, plain_options, data_fin_mapping, piece_mapping, is_first_piece, first_piece_options}
+use Rattle.world_laws.proofs.Words.{piece_options, fin_options, fail_options, fail_beside, infinite_or, mapped_options, capable_options, syn_options}
+use Rattle.world_laws.proofs.Words.{key_options, opening_options, ack_options, record_options, reset_options, ack_said, carried_said, syn_ack_said, reset_said}
+use Rattle.world_laws.proofs.Words.{record_or_ack, broken_options, noted_said, Profile, Modes, Every-push, Every-nil, Every-append, Every, if_so}
+use Rattle.std.specs.Option.{option_map}
 use Rattle.key_material.specs.AddressHmac.{add_addr64_of}
-use Rattle.key_material.specs.JoinHmac.{join_a160_of, join_b64_of}
-use Rattle.key_material.specs.KeyDigest.{token_of}
-use Rattle.key_material.specs.declared.address.Address.{Address}
 use Rattle.key_material.specs.declared.address.Address.TheVariants.{V4}
-use Rattle.mptcp_options.specs.declared.capable.CapableKeys.{CapableKeys}
-use Rattle.mptcp_options.specs.declared.capable.CapableKeys.TheVariants.{NoKey, Sender, Both, WithData}
-use Rattle.mptcp_options.specs.declared.join.JoinForm.{JoinForm}
-use Rattle.mptcp_options.specs.declared.join.JoinForm.TheVariants.{Syn as JoinSyn, Answer, Third}
-use Rattle.path_segments.specs.declared.segment.PathMapping.{PathMapping}
-use Rattle.path_segments.specs.declared.segment.PathMapping.TheVariants.{Bytes, End, Infinite}
-use Rattle.path_segments.specs.declared.segment.PathOption.TheVariants.{Capable, Join, Dss, AddAddr, Remove, Prio, Fail, FastClose, Reset}
-use Rattle.path_segments.specs.Laws.{meant_mapping, meant_option, meant}
-use Rattle.path_segments.specs.Options.{PlainOption}
-use Rattle.path_segments.specs.Spelled.{PlainSegment}
-use Rattle.subflow_send.specs.declared.record.RecordKind.{RecordKind}
-use Rattle.subflow_send.specs.declared.record.RecordKind.TheVariants.{Syn, Data, Fin}
-use Rattle.subflow_send.specs.Records.{Record}
-use Rattle.subflow_tcp.specs.declared.handshake.State.{State as EndPhase}
-use Rattle.subflow_tcp.specs.declared.handshake.State.TheVariants as phase
-use Rattle.subflow_tcp.specs.States.{is_closed_to_segments}
-use Rattle.stream_lanes.specs.Words.{Every}
-use Rattle.stream_lanes.proofs.Lists.{Every-nil, Every-append, Every-push}
-use Rattle.path_agenda.specs.declared.heard.Heard.{Heard}
-use Rattle.path_agenda.specs.declared.heard.Heard.TheVariants as says
-use Rattle.path_agenda.specs.declared.notice.PeerNotice.{PeerNotice}
-use Rattle.path_agenda.specs.declared.notice.PeerNotice.TheVariants as notes
+use Rattle.mptcp_options.specs.declared.join.JoinForm.TheVariants.{Syn as JoinSyn}
+use Rattle.path_segments.specs.declared.segment.PathMapping.TheVariants.{End}
+use Rattle.path_segments.specs.declared.segment.PathOption.TheVariants.{FastClose}
 use Rattle.world_laws.proofs.Announcements.NothingKnown.{removed_each}
-use Rattle.path_core.specs.declared.modes.Modes.{Modes}
-use Rattle.path_core.specs.Addresses.{address_items}
-use Rattle.path_core.specs.OptionsIn.{options_heard, items_in, items_of}
-use Rattle.path_core.specs.DssIn.{ack_items, is_mapping, mapping_items, data_fin_items, infinite_items, map_items, first_items}
-use Rattle.path_core.specs.MpCapable.{key_items}
-use Rattle.path_core.specs.MpJoin.{join_items, is_joined, peer_key_of, join_options, third_options}
-use Rattle.path_core.specs.End.{PathEnd}
-use Rattle.path_store.specs.declared.infinite_mapping.InfiniteMapping.{InfiniteMapping}
-use Rattle.path_core.specs.Modes.{receives_infinite}
-use Rattle.path_core.specs.OptionsOut.{announcement, capable_options, syn_options, key_options, opening_options, ack_options, record_options, reset_options, broken_options, reset_said, ack_said, carried_said, syn_ack_said, record_or_ack, noted_said}
-use Rattle.path_core.specs.DssOut.{fail_options, fail_beside, data_fin_mapping, is_first_piece, first_piece_options, mapped_options, piece_options, infinite_or, piece_mapping, owes_mapping, plain_options, fin_options}
-use Rattle.path_core.specs.Profile.{Profile}
-use Rattle.path_agenda.specs.declared.notice.OwnNotice.{OwnNotice}
-use Rattle.path_agenda.specs.declared.notice.OwnNotice.TheVariants as own_notes
-use Rattle.dss_mapping.specs.Mappings.{octets_in}
+use Rattle.path_core.specs.OptionsOut.{announcement}
 
 every_one : {X : Type 0} {P : X → Type 0} (x : X) → P x → Every P (x ∷ [])
 every_one {X} {P} x h = Every-push {xs = []} x (Every-nil P) h
@@ -99,10 +69,10 @@ is_woken e = not (is_closed_to_segments e.tcp.state) || is_some e.tcp.timing.tim
 
 -- the peer's SYN came, and it isn't dead
 abbrev pub is_past : EndPhase → Bool
-is_past phase.Waiting = false
-is_past phase.Listen = false
-is_past phase.SynSent = false
-is_past phase.Dead = false
+is_past EndPhase.Waiting = false
+is_past EndPhase.Listen = false
+is_past EndPhase.SynSent = false
+is_past EndPhase.Dead = false
 is_past _ = true
 
 -- what is said of B's side alone
@@ -235,19 +205,17 @@ module _ (k : Secrets) (right : Bool) (w : Side → Type 0) (did : Deed → Side
   KeysFor B = did Deed.Keyed A
 
   abbrev pub PeerNoteIs : Side → PeerNotice → Type 0
-  PeerNoteIs s (notes.AddAddr id address port hmac) = HmacIs (peer s) s id address (unwrap_or port 0) hmac
-  PeerNoteIs s (notes.AddEcho id) = Unit {0}
-  PeerNoteIs s (notes.Removed id) = Unit {0}
-  PeerNoteIs s (notes.Prio backup) = Unit {0}
+  PeerNoteIs s (PeerNotice.AddAddr id address port hmac) = HmacIs (peer s) s id address (unwrap_or port 0) hmac
+  PeerNoteIs s _ = Unit {0}
 
   abbrev pub ItemIs : Bool → Side → Heard → Type 0
-  ItemIs joined s (says.Keys own other) = (joined ≡ false) × ((own ≡ drawn_key k right s) × (other ≡ drawn_key k right (peer s)) × KeysFor s)
-  ItemIs joined s (says.PeerKey key) = key ≡ drawn_key k right (peer s)
-  ItemIs joined s (says.Join form) = (joined ≡ true) × (IsFor s form × (w (peer s) × (right ≡ true → JoinIs k right (peer s) form)))
-  ItemIs joined s says.Dss = joined ≡ true → OfB (peer s) (w B)
-  ItemIs joined s says.Fail = joined ≡ true → OfB (peer s) (w B)
-  ItemIs joined s (says.FastClose key) = did Deed.Closed (peer s)
-  ItemIs joined s (says.Notice notice) = PeerNoteIs s notice
+  ItemIs joined s (Heard.Keys own other) = (joined ≡ false) × ((own ≡ drawn_key k right s) × (other ≡ drawn_key k right (peer s)) × KeysFor s)
+  ItemIs joined s (Heard.PeerKey key) = key ≡ drawn_key k right (peer s)
+  ItemIs joined s (Heard.Join form) = (joined ≡ true) × (IsFor s form × (w (peer s) × (right ≡ true → JoinIs k right (peer s) form)))
+  ItemIs joined s Heard.Dss = joined ≡ true → OfB (peer s) (w B)
+  ItemIs joined s Heard.Fail = joined ≡ true → OfB (peer s) (w B)
+  ItemIs joined s (Heard.FastClose key) = did Deed.Closed (peer s)
+  ItemIs joined s (Heard.Notice notice) = PeerNoteIs s notice
   ItemIs joined s _ = Unit {0}
 
   -- ---- an end
@@ -258,10 +226,8 @@ module _ (k : Secrets) (right : Bool) (w : Side → Type 0) (did : Deed → Side
 
   -- B alone announces addresses, and A's book has its key then
   abbrev pub NoteIs : Side → OwnNotice → Type 0
-  NoteIs s (own_notes.AddAddr id) = (s ≡ B) × did Deed.Keyed (peer s)
-  NoteIs s (own_notes.AddEcho id address port) = Unit {0}
-  NoteIs s (own_notes.Removes id) = Unit {0}
-  NoteIs s (own_notes.Prio backup) = Unit {0}
+  NoteIs s (OwnNotice.AddAddr id) = (s ≡ B) × did Deed.Keyed (peer s)
+  NoteIs s _ = Unit {0}
 
   pub record ModesAre (joined : Bool) (s : Side) (m : Modes) : Type 0 where
     pub own : m.own_key ≡ drawn_key k right s
@@ -385,11 +351,9 @@ module _ (k : Secrets) (right : Bool) (w : Side → Type 0) (did : Deed → Side
     broken_are (Some place) (Some reason) knows = every_two _ _ knows tt
 
     pub reset_is : (reason : Option ℕ) → SegmentIs c s (reset_said c reason e)
-    reset_is reason = by e.modes.identity
-      where
-        by : (fell : Bool) → Every (OptionIs (is_joined c) s) (if fell then [] else broken_options e.treated.failed_mapping reason)
-        by true = Every-nil _
-        by false = broken_are e.treated.failed_mapping reason h.failing
+    reset_is reason =
+        if_so (Every (OptionIs (is_joined c) s)) e.modes.identity [] (broken_options e.treated.failed_mapping reason)
+        (Every-nil _) (broken_are e.treated.failed_mapping reason h.failing)
 
     pub ack_is : (position : ℕ) (fin : Option ℕ) → SegmentIs c s (ack_said c s position fin e)
     ack_is position fin = ack_options_are fin
@@ -410,11 +374,9 @@ module _ (k : Secrets) (right : Bool) (w : Side → Type 0) (did : Deed → Side
     )
 
     pub noted_is : (is_joined c ≡ true → OfB s (w B)) → e.modes.clear ≡ true → (o : Option OwnNotice) → IfSome o (NoteIs s) → SegmentIs c s (noted_said c s o e)
-    noted_is knows clear (Some (own_notes.AddAddr id)) is = every_two _ _ knows (announced id clear is)
-    noted_is knows clear (Some (own_notes.AddEcho id address port)) is = every_two _ _ knows tt
-    noted_is knows clear (Some (own_notes.Removes id)) is = every_two _ _ knows tt
-    noted_is knows clear (Some (own_notes.Prio backup)) is = every_two _ _ knows tt
+    noted_is knows clear (Some (OwnNotice.AddAddr id)) is = every_two _ _ knows (announced id clear is)
     noted_is knows clear None is = ack_options_are None
+    noted_is knows clear _ is = every_two _ _ knows tt
 
     -- where it knows what it has to, its SYN is right, and so is its DSS
     module _ (knows : is_joined c ≡ true → Knows s e.modes) where
@@ -422,11 +384,9 @@ module _ (k : Secrets) (right : Bool) (w : Side → Type 0) (did : Deed → Side
       dss_known joins = knows_b s e.modes (knows joins)
 
       plain_are : (position : ℕ) → Every (OptionIs (is_joined c) s) (plain_options position e)
-      plain_are position = by (owes_mapping e)
-        where
-          by : (owes : Bool) → Every (OptionIs (is_joined c) s) (if owes then Dss None (Some (Infinite (position - 1) position)) ∷ [] else [])
-          by true = every_one _ dss_known
-          by false = Every-nil _
+      plain_are position =
+          if_so (Every (OptionIs (is_joined c) s)) (owes_mapping e) (Dss None (Some (Infinite (position - 1) position)) ∷ []) []
+          (every_one _ dss_known) (Every-nil _)
 
       -- with its own infinite mapping, or as it is else
       infinite_or_are : (o : Option InfiniteMapping) (options : List PlainOption) → Every (OptionIs (is_joined c) s) options → Every (OptionIs (is_joined c) s) (infinite_or o options e)
@@ -434,33 +394,25 @@ module _ (k : Secrets) (right : Bool) (w : Side → Type 0) (did : Deed → Side
       infinite_or_are (Some mapping) options each = every_one _ dss_known
 
       mapped_are : (r : Record) → Every (OptionIs (is_joined c) s) (mapped_options c s r e)
-      mapped_are r = by (is_first_piece s r e)
-        where
-          by : (b : Bool) → Every (OptionIs (is_joined c) s) (if b then first_piece_options c e.modes.peer_key r e else Dss (Some e.receiving.next) (Some (piece_mapping c s r)) ∷ [])
-          by true = first_are e.modes.peer_key r h.modes.peer_is h.modes.keyed
-          by false = every_one _ dss_known
+      mapped_are r =
+          if_so (Every (OptionIs (is_joined c) s)) (is_first_piece s r e) (first_piece_options c e.modes.peer_key r e) (Dss (Some e.receiving.next) (Some (piece_mapping c s r)) ∷ [])
+          (first_are e.modes.peer_key r h.modes.peer_is h.modes.keyed) (every_one _ dss_known)
 
       piece_options_are : (r : Record) → Every (OptionIs (is_joined c) s) (piece_options c s r e)
-      piece_options_are r = by e.modes.identity
-        where
-          by : (fell : Bool) → Every (OptionIs (is_joined c) s) (if fell then plain_options r.pos e else infinite_or e.modes.own_infinite (mapped_options c s r e) e)
-          by true = plain_are r.pos
-          by false = infinite_or_are e.modes.own_infinite (mapped_options c s r e) (mapped_are r)
+      piece_options_are r =
+          if_so (Every (OptionIs (is_joined c) s)) e.modes.identity (plain_options r.pos e) (infinite_or e.modes.own_infinite (mapped_options c s r e) e)
+          (plain_are r.pos) (infinite_or_are e.modes.own_infinite (mapped_options c s r e) (mapped_are r))
 
       pub fin_options_are : (position : ℕ) → Every (OptionIs (is_joined c) s) (fin_options position e)
-      fin_options_are position = by e.modes.identity
-        where
-          by : (fell : Bool) → Every (OptionIs (is_joined c) s) (if fell then plain_options position e else infinite_or e.modes.own_infinite (Dss (Some e.receiving.next) None ∷ []) e)
-          by true = plain_are position
-          by false = infinite_or_are e.modes.own_infinite (Dss (Some e.receiving.next) None ∷ []) (every_one _ dss_known)
+      fin_options_are position =
+          if_so (Every (OptionIs (is_joined c) s)) e.modes.identity (plain_options position e) (infinite_or e.modes.own_infinite (Dss (Some e.receiving.next) None ∷ []) e)
+          (plain_are position) (infinite_or_are e.modes.own_infinite (Dss (Some e.receiving.next) None ∷ []) (every_one _ dss_known))
 
       capable_is : (s : Side) → e.modes.own_key ≡ drawn_key k right s → Every (OptionIs false s) (capable_options c s e)
       capable_is A own = every_one _ (λ is. tt, λ is. tt)
-      capable_is B own = by (e.modes.capable_asked && not e.modes.identity)
-        where
-          by : (asked : Bool) → Every (OptionIs false B) (if asked then Capable c.spelling.checksums false (Sender e.modes.own_key) ∷ [] else [])
-          by true = every_one _ (λ is. own, λ is. tt)
-          by false = Every-nil _
+      capable_is B own =
+          if_so (Every (OptionIs false B)) (e.modes.capable_asked && not e.modes.identity) (Capable c.spelling.checksums false (Sender e.modes.own_key) ∷ []) []
+          (every_one _ (λ is. own, λ is. tt)) (Every-nil _)
 
       join_is : (s : Side) → e.modes.own_key ≡ drawn_key k right s → e.modes.own_nonce ≡ drawn_nonce k right s → Knows s e.modes → Every (OptionIs true s) (join_options c s e.modes)
       join_is A own nonce has = every_one _ (refl, (has.0, λ is. (ap (λ o. token_of (unwrap_or o 0)) (has.1 is), nonce)))
@@ -503,32 +455,20 @@ module _ (k : Secrets) (right : Bool) (w : Side → Type 0) (did : Deed → Side
     ack_items_are : (s : Side) (next : Option (Option ℕ)) (window : ℕ) → Every (ItemIs joined s) (ack_items next window)
     ack_items_are s None window = Every-nil _
     ack_items_are s (Some None) window = Every-nil _
-    ack_items_are s (Some (Some next)) window = by (nat_lt next (2 ^ 62))
-      where
-        by : (b : Bool) → Every (ItemIs joined s) (if b then says.DataAck next window ∷ [] else [])
-        by true = every_one _ tt
-        by false = Every-nil _
+    ack_items_are s (Some (Some next)) window = if_so (Every (ItemIs joined s)) (nat_lt next (2 ^ 62)) (Heard.DataAck next window ∷ []) [] (every_one _ tt) (Every-nil _)
 
     mapping_items_are : (s : Side) (place position count : ℕ) (fin : Bool) → Every (ItemIs joined s) (mapping_items place position count fin)
-    mapping_items_are s place position count fin = by (is_mapping place position count)
-      where
-        by : (b : Bool) → Every (ItemIs joined s) (if b then says.Mapping fin ∷ [] else [])
-        by true = every_one _ tt
-        by false = Every-nil _
+    mapping_items_are s place position count fin =
+        if_so (Every (ItemIs joined s)) (is_mapping place position count) (Heard.Mapping fin ∷ []) []
+        (every_one _ tt) (Every-nil _)
 
     end_items_are : (s : Side) (place : ℕ) → Every (ItemIs joined s) (data_fin_items place)
-    end_items_are s place = by (nat_le place (2 ^ 62))
-      where
-        by : (b : Bool) → Every (ItemIs joined s) (if b then says.DataFin place ∷ [] else [])
-        by true = every_one _ tt
-        by false = Every-nil _
+    end_items_are s place = if_so (Every (ItemIs joined s)) (nat_le place (2 ^ 62)) (Heard.DataFin place ∷ []) [] (every_one _ tt) (Every-nil _)
 
     infinite_items_are : (s : Side) (place : ℕ) (position : Option ℕ) → Every (ItemIs joined s) (infinite_items place position)
-    infinite_items_are s place position = by (nat_lt place (2 ^ 62))
-      where
-        by : (b : Bool) → Every (ItemIs joined s) (if b then (says.InfiniteMapping place position) ∷ [] else [])
-        by true = every_one _ tt
-        by false = Every-nil _
+    infinite_items_are s place position =
+        if_so (Every (ItemIs joined s)) (nat_lt place (2 ^ 62)) ((Heard.InfiniteMapping place position) ∷ []) []
+        (every_one _ tt) (Every-nil _)
 
     map_items_are : (s : Side) (o : Option (PathMapping (Option ℕ))) → Every (ItemIs joined s) (map_items o)
     map_items_are s None = Every-nil _
@@ -563,7 +503,7 @@ module _ (k : Secrets) (right : Bool) (w : Side → Type 0) (did : Deed → Side
   key_items_are B NoKey h shown = Every-nil _
   key_items_are B (Sender sender) h shown = Every-nil _
   key_items_are B (Both sender receiver) h shown = every_one _ (refl, (h.1, h.0, shown))
-  key_items_are B (WithData sender receiver len checksum) h shown = Every-append {xs = says.Keys receiver sender ∷ []} (every_one _ (refl, (h.1, h.0, shown))) (first_items_are len)
+  key_items_are B (WithData sender receiver len checksum) h shown = Every-append {xs = Heard.Keys receiver sender ∷ []} (every_one _ (refl, (h.1, h.0, shown))) (first_items_are len)
 
   -- MP_CAPABLE says nothing on a path that joins
   capable_heard : (joined : Bool) (s : Side) (keys : CapableKeys) → (sure_if k right joined ≡ true → KeysAre k right (peer s) keys) × (joined ≡ false → ShownBy (peer s) keys)
@@ -582,14 +522,14 @@ module _ (k : Secrets) (right : Bool) (w : Side → Type 0) (did : Deed → Side
         → Every (ItemIs joined s) (items_in joined s window (meant_option o))
     items_in_are s window (Capable flag_a flag_c keys) h = capable_heard joined s keys h
     items_in_are s window (Dss next mapping) h =
-        Every-append {xs = says.Dss ∷ []} (every_one _ h)
+        Every-append {xs = Heard.Dss ∷ []} (every_one _ h)
         (Every-append (ack_items_are joined s (option_map (λ n. Some n) next) window) (map_items_are joined s (option_map meant_mapping mapping)))
     items_in_are s window (Join form) h = join_items_are joined s form h
     items_in_are s window (AddAddr echo id address port hmac) h = address_heard joined s echo id address port hmac h
     items_in_are s window (Remove ids) h = removed_each (λ id. tt) ids
-    items_in_are s window (Prio backup) h = every_one (says.Notice (notes.Prio backup)) tt
-    items_in_are s window (Fail place) h = every_one says.Fail h
-    items_in_are s window (FastClose key) h = every_one (says.FastClose key) h
+    items_in_are s window (Prio backup) h = every_one (Heard.Notice (PeerNotice.Prio backup)) tt
+    items_in_are s window (Fail place) h = every_one Heard.Fail h
+    items_in_are s window (FastClose key) h = every_one (Heard.FastClose key) h
     items_in_are s window (Reset transient reason) h = Every-nil _
 
     all_items : (s : Side) (window : ℕ) (options : List PlainOption) → Every (OptionIs joined (peer s)) options
@@ -603,8 +543,6 @@ module _ (k : Secrets) (right : Bool) (w : Side → Type 0) (did : Deed → Side
 
     -- after a fallback nothing is heard
     pub heard_items_are : (s : Side) (e : PathEnd) (sg : PlainSegment) → Every (OptionIs joined (peer s)) sg.options → Every (ItemIs joined s) (items_of joined s (options_heard e (meant sg)))
-    heard_items_are s e sg h = by e.modes.identity
-      where
-        by : (fell : Bool) → Every (ItemIs joined s) (items_of joined s (record (meant sg) { options = (if fell then [] else (meant sg).options) }))
-        by true = Every-nil _
-        by false = items_are s sg h
+    heard_items_are s e sg h =
+        if_so (λ z. Every (ItemIs joined s) (items_of joined s (record (meant sg) { options = z }))) e.modes.identity [] (meant sg).options
+        (Every-nil _) (items_are s sg h)

@@ -1,61 +1,22 @@
 -- What the paths know of both sides, as lists and journals have it: that a side fell back to plain TCP, was asked for a fast close, or
 -- accepted one. So a reader is told of an abort by its peer only where the peer's application asked for it.
-use Rattle.std.proofs.Common.{◌≡◌, refl, sym, ◌∙◌, ap, subst, ℕ, ◌==◌, ◌||◌, is_some, Bool, true, false, if◌then◌else◌, Option, Some, None, List, [], ◌∷◌, ◌++◌, take, arith}
-use Rattle.std.proofs.lemmas.Bool.{false≢true}
-use Rattle.std.specs.List.{list_any, slice_get}
-use Rattle.std.specs.Option.{IfSome}
-use Rattle.sides.specs.declared.side.Side.{Side}
-use Rattle.sides.specs.declared.side.Side.TheVariants.{A, B}
-use Rattle.stamped_book.specs.declared.stamped.Pass.{Pass}
-use Rattle.stamped_book.specs.Entering.{entry_of}
-use Rattle.sides.specs.Side.{peer}
-use Rattle.reassembly_book.specs.declared.call.ReassemblyCall.{ReassemblyCall}
-use Rattle.reassembly_book.specs.declared.call.ReassemblyCall.TheVariants as calls
-use Rattle.reassembly_book.specs.declared.call.ReassemblyReply.TheVariants as reassembly_replies
-use Rattle.reassembly_book.specs.State.{Arriving, filled}
-use Rattle.reassembly_book.specs.Steps.{is_taken, is_end, bytes_reply, places_after, fin_clash, first_abort, reading, after_reading, after_call}
-use Rattle.control_book.specs.declared.call.ControlCall.{ControlCall}
-use Rattle.control_book.specs.declared.call.ControlCall.TheVariants as control_calls
-use Rattle.control_book.specs.declared.call.ControlReply.{ControlReply}
-use Rattle.control_book.specs.declared.call.ControlReply.TheVariants as control_replies
-use Rattle.control_book.specs.declared.call.Notice.{Notice}
-use Rattle.control_book.specs.declared.call.Notice.TheVariants as notices
-use Rattle.control_book.specs.Control.{Control, is_path, peer_or_zero}
+use Rattle.world_laws.proofs.Words.{◌≡◌, refl, sym, ◌∙◌, ap, subst, ℕ, ◌||◌, ◌==◌, Bool, true, false, if◌then◌else◌, Option, Some, None, List, [], ◌∷◌, ◌++◌}
+use Rattle.world_laws.proofs.Words.{take, arith, is_some, false≢true, list_any, slice_get, IfSome, FallEvent, is_identity, Pass, entry_of, Side, A, B, peer}
+use Rattle.world_laws.proofs.Words.{ControlCall, ControlReply, Notice, sole_path, Control, peer_or_zero, is_path, ReassemblyCall, Arriving, filled}
+use Rattle.world_laws.proofs.Words.{ReassemblyReply, places_after, fin_clash, is_end, bytes_reply, reading, after_reading, first_abort, Duty, Ask, Note, Reply}
+use Rattle.world_laws.proofs.Words.{StampedBooks, books_in, after_entry, SixBooks, reassembly_of, control_of, reply_of, after_ask, pick, AppDuty, AppState}
+use Rattle.world_laws.proofs.Words.{app_ask, ask_for, PathState, asks_first, Carried, values, is_fall, is_stopped_by, in_map, Every, asks_fast_close}
+use Rattle.world_laws.proofs.Words.{note_asks_fast_close, accepts_fast_close, entry_accepts, control_journal, Start, opened_world, Turn, greatest, world_run}
+use Rattle.world_laws.proofs.Words.{note_of, if_so, was_told, note_tells, tells_abort}
+use Rattle.reassembly_book.specs.Steps.{is_taken, after_call}
 use Rattle.control_book.specs.Replies as controlling
 use Rattle.control_book.specs.Steps as control
-use Rattle.stream_lanes.specs.Words.{Every}
-use Rattle.stream_lanes.proofs.Lists.{in_map}
-use Rattle.actor_desk.specs.declared.ask.Ask.{Ask}
-use Rattle.actor_desk.specs.declared.ask.Ask.TheVariants as asks
-use Rattle.actor_desk.specs.declared.ask.Note.{Note}
-use Rattle.actor_desk.specs.declared.ask.Reply.TheVariants as replies
-use Rattle.actor_desk.specs.Books.{StampedBooks, books_in, after_entry}
-use Rattle.actor_desk.specs.Desk.{SixBooks, control_of, reassembly_of, reply_of, after_ask}
-use Rattle.actor_desk.specs.Words.{pick}
-use Rattle.stream_apps.specs.declared.duty.AppDuty.{AppDuty}
-use Rattle.stream_apps.specs.declared.duty.AppDuty.TheVariants as app_duties
-use Rattle.stream_apps.specs.Apps.{AppState}
-use Rattle.stream_apps.specs.AppSteps.{app_ask}
-use Rattle.path_agenda.specs.declared.duty.Duty.{Duty}
-use Rattle.path_core.specs.Duties.{ask_for}
-use Rattle.path_core.specs.FastClose.{is_stopped_by}
-use Rattle.path_core.specs.State.{PathState}
-use Rattle.path_core.specs.Steps.{asks_first}
-use Rattle.path_core.specs.Values.{Carried, values}
-use Rattle.world_laws.specs.AbortCause.{asks_fast_close, note_asks_fast_close, accepts_fast_close, entry_accepts, control_journal}
-use Rattle.world_laws.specs.Openings.{Start, opened_world}
-use Rattle.world_laws.specs.Outcomes.{tells_abort, note_tells, was_told}
-use Rattle.world_laws.specs.Worlds.{Turn, greatest, note_of, world_run}
 use Rattle.world_laws.proofs.Worlds.CastLifting.{Has, turns_have}
 use Rattle.world_laws.proofs.Worlds.Casts.{Cast, Every-put, Fare, Seat, Walker, after_a, after_b, after_path, first_cast, first_fare, next_cast, opened_is, walked, walker_there, walks_on, world_of}
 use Rattle.world_laws.proofs.Weaving.Journals.{books_after}
 use Rattle.world_laws.proofs.Keys.ToldAreOwn.{AsksFor, BooksAre, NoMore, PathKnows, Tells, app_asks_are, ask_keeps, opened_books_are, opened_path, path_asks, path_more, path_next, path_same, path_takes}
 use Rattle.world_laws.proofs.Keys.StepsKeep.{carrier_in}
 use Rattle.world_laws.proofs.Keys.AreDrawn.{Deed}
-use Rattle.fallback_state.specs.declared.fall.Event.{Event as FallEvent}
-use Rattle.fallback_state.specs.Modes.{is_identity}
-use Rattle.control_book.specs.Registry.{sole as sole_path}
-use Rattle.path_core.specs.Fallback.{is_fall}
 use Rattle.world_laws.proofs.Falls.ByTheJournal.{Was, was_now, was_stays}
 use Rattle.world_laws.proofs.Falls.WhereASideStands.{row_falls}
 
@@ -103,14 +64,12 @@ module _ (P : Type 0) (path key : ℕ) where
   address_carries None None = tt
 
   notice_carries : (resets : Bool) (carrier announced withdrawn : Option ℕ) → (is_some carrier ≡ true → P)
-      → IfSome (carrier_in (if resets then notices.Reset else (if is_path carrier path then notices.Carrier key else controlling.address_notice announced withdrawn))) (λ key. P)
+      → IfSome (carrier_in (if resets then Notice.Reset else (if is_path carrier path then Notice.Carrier key else controlling.address_notice announced withdrawn))) (λ key. P)
   notice_carries true carrier announced withdrawn named = tt
   notice_carries false None announced withdrawn named = address_carries announced withdrawn
-  notice_carries false (Some one) announced withdrawn named = by (one == path)
-    where
-      by : (b : Bool) → IfSome (carrier_in (if b then notices.Carrier key else controlling.address_notice announced withdrawn)) (λ key. P)
-      by true = named refl
-      by false = address_carries announced withdrawn
+  notice_carries false (Some one) announced withdrawn named =
+      if_so (λ z. IfSome (carrier_in z) (λ key. P)) (one == path) (Notice.Carrier key) (controlling.address_notice announced withdrawn)
+      (named refl) (address_carries announced withdrawn)
 
 look_carries : (P : Type 0) (path : ℕ) (c : Control) → (is_some c.notices.carrier ≡ true → P) → IfSome (carrier_in (controlling.notice_on c path)) (λ key. P)
 look_carries P path c named =
@@ -121,67 +80,64 @@ if_carries : (P : Type 0) (b : Bool) (c d : Control) → is_some (if b then d el
 if_carries P true c d is same was = was (sym (ap is_some same) ∙ is)
 if_carries P false c d is same was = was is
 
-call_carries : (P : Type 0) (c : Control) (call : ControlCall) → is_some (control.after c call).notices.carrier ≡ true → (is_some c.notices.carrier ≡ true → P) → (call ≡ control_calls.FastClose → P) → P
-call_carries P c (control_calls.Look path) is was closes = by (controlling.notice_on c path) is
+call_carries : (P : Type 0) (c : Control) (call : ControlCall) → is_some (control.after c call).notices.carrier ≡ true → (is_some c.notices.carrier ≡ true → P) → (call ≡ ControlCall.FastClose → P) → P
+call_carries P c (ControlCall.Look path) is was closes = by (controlling.notice_on c path) is
   where
     by : (n : Notice) → is_some (control.after_notice n path c).notices.carrier ≡ true → P
-    by (notices.Withdraw id) is = was is
-    by notices.Nothing is = was is
-    by (notices.Announce id) is = was is
-    by (notices.Carrier key) is = was is
-    by notices.Reset is = was is
-call_carries P c (control_calls.PeerKey key) is was closes = was is
-call_carries P c (control_calls.Keys own other) is was closes = if_carries P (own == c.keys.own) c _ is refl was
-call_carries P c (control_calls.Fell path event) is was closes = was is
-call_carries P c (control_calls.JoinBegin path) is was closes = if_carries P (controlling.may_join c) c _ is refl was
-call_carries P c (control_calls.JoinHeard path token) is was closes = if_carries P _ c _ is refl was
-call_carries P c (control_calls.Live path backup) is was closes = was is
-call_carries P c (control_calls.Dead path) is was closes = was is
-call_carries P c (control_calls.Backup path on) is was closes = was is
-call_carries P c (control_calls.Rate path window rtt) is was closes = was is
-call_carries P c (control_calls.Announce id) is was closes = was is
-call_carries P c (control_calls.Withdraw id) is was closes = if_carries P (control.is_known id c) c _ is refl was
-call_carries P c (control_calls.Heard id address port hmac) is was closes = was is
-call_carries P c (control_calls.Echoed id) is was closes = if_carries P (control.is_known id c) c _ is refl was
-call_carries P c (control_calls.Removed id) is was closes = if_carries P (control.is_known id c) c _ is refl was
-call_carries P c control_calls.FastClose is was closes = closes refl
-call_carries P c (control_calls.FastHeard key) is was closes = if_carries P (key == c.keys.own) c _ is refl was
+    by (Notice.Withdraw id) is = was is
+    by _ is = was is
+call_carries P c (ControlCall.PeerKey key) is was closes = was is
+call_carries P c (ControlCall.Keys own other) is was closes = if_carries P (own == c.keys.own) c _ is refl was
+call_carries P c (ControlCall.Fell path event) is was closes = was is
+call_carries P c (ControlCall.JoinBegin path) is was closes = if_carries P (controlling.may_join c) c _ is refl was
+call_carries P c (ControlCall.JoinHeard path token) is was closes = if_carries P _ c _ is refl was
+call_carries P c (ControlCall.Live path backup) is was closes = was is
+call_carries P c (ControlCall.Dead path) is was closes = was is
+call_carries P c (ControlCall.Backup path on) is was closes = was is
+call_carries P c (ControlCall.Rate path window rtt) is was closes = was is
+call_carries P c (ControlCall.Announce id) is was closes = was is
+call_carries P c (ControlCall.Withdraw id) is was closes = if_carries P (control.is_known id c) c _ is refl was
+call_carries P c (ControlCall.Heard id address port hmac) is was closes = was is
+call_carries P c (ControlCall.Echoed id) is was closes = if_carries P (control.is_known id c) c _ is refl was
+call_carries P c (ControlCall.Removed id) is was closes = if_carries P (control.is_known id c) c _ is refl was
+call_carries P c ControlCall.FastClose is was closes = closes refl
+call_carries P c (ControlCall.FastHeard key) is was closes = if_carries P (key == c.keys.own) c _ is refl was
 
 -- where a call tells of a fall, the side is in plain TCP then
-fell_to : (s : Side) (path : ℕ) (event : FallEvent) (six : SixBooks) → let ask = asks.Control s (control_calls.Fell path event) in is_fall (reply_of six ask) ≡ true
+fell_to : (s : Side) (path : ℕ) (event : FallEvent) (six : SixBooks) → let ask = Ask.Control s (ControlCall.Fell path event) in is_fall (reply_of six ask) ≡ true
     → is_identity (control_of s (after_ask ask six)).fall.mode ≡ true
 fell_to A path event six fell = (row_falls path (sole_path six.control_a.paths path) event six.control_a.fall fell).2
 fell_to B path event six fell = (row_falls path (sole_path six.control_b.paths path) event six.control_b.fall fell).2
 
 -- a fast close with the side's key is accepted
-stopped_accepts : (key : ℕ) (r : ControlReply) → is_stopped_by (replies.Control r) ≡ true → accepts_fast_close (control_calls.FastHeard key) r ≡ true
-stopped_accepts key control_replies.Stopped is = refl
-stopped_accepts key control_replies.Noted is = absurd (false≢true is)
+stopped_accepts : (key : ℕ) (r : ControlReply) → is_stopped_by (Reply.Control r) ≡ true → accepts_fast_close (ControlCall.FastHeard key) r ≡ true
+stopped_accepts key ControlReply.Stopped is = refl
+stopped_accepts key ControlReply.Noted is = absurd (false≢true is)
 stopped_accepts key _ is = absurd (false≢true is)
 
 -- ---- the reassembly book
 
 -- it is aborted by the call that says so alone
-call_aborts : (P : Type 0) (b : Arriving) (call : ReassemblyCall) → (after_call b call).aborted ≡ Some true → (b.aborted ≡ Some true → P) → (call ≡ calls.Abort true → P) → P
-call_aborts P b (calls.Place at bytes) is was aborts = by (is_taken at bytes b) is
+call_aborts : (P : Type 0) (b : Arriving) (call : ReassemblyCall) → (after_call b call).aborted ≡ Some true → (b.aborted ≡ Some true → P) → (call ≡ ReassemblyCall.Abort true → P) → P
+call_aborts P b (ReassemblyCall.Place at bytes) is was aborts = by (is_taken at bytes b) is
   where
     by : (c : Bool) → (if c then record b { places = places_after at bytes b } else b).aborted ≡ Some true → P
     by true is = was is
     by false is = was is
-call_aborts P b (calls.Fin at) is was aborts = by (is_some (fin_clash b.known_end at b)) is
+call_aborts P b (ReassemblyCall.Fin at) is was aborts = by (is_some (fin_clash b.known_end at b)) is
   where
     by : (c : Bool) → (if c then b else record b { known_end = Some at }).aborted ≡ Some true → P
     by true is = was is
     by false is = was is
-call_aborts P b (calls.Read max) is was aborts = by (is_some b.aborted) is
+call_aborts P b (ReassemblyCall.Read max) is was aborts = by (is_some b.aborted) is
   where
     by : (c : Bool) → (if c then b else after_reading max b).aborted ≡ Some true → P
     by true is = was is
     by false is = was is
-call_aborts P b calls.AckOut is was aborts = was is
-call_aborts P b (calls.Abort by_peer) is was aborts = by b.aborted is was
+call_aborts P b ReassemblyCall.AckOut is was aborts = was is
+call_aborts P b (ReassemblyCall.Abort by_peer) is was aborts = by b.aborted is was
   where
-    now : (c : Bool) → Some c ≡ Some true → calls.Abort c ≡ calls.Abort true
+    now : (c : Bool) → Some c ≡ Some true → ReassemblyCall.Abort c ≡ ReassemblyCall.Abort true
     now true is = refl
     now false is = cc
 
@@ -191,49 +147,49 @@ call_aborts P b (calls.Abort by_peer) is was aborts = by b.aborted is was
 
 -- a read that tells of the peer's abort was answered by a book that was aborted so
 told_so : (six : SixBooks) (a : AppState) (d : AppDuty) → tells_abort (reply_of six (app_ask d a)) ≡ true → (reassembly_of a.side six).aborted ≡ Some true
-told_so six a app_duties.FastClose is = by a.side is
+told_so six a AppDuty.FastClose is = by a.side is
   where
-    by : (s : Side) → tells_abort (reply_of six (app_ask app_duties.FastClose (record a { side = s }))) ≡ true → (reassembly_of s six).aborted ≡ Some true
+    by : (s : Side) → tells_abort (reply_of six (app_ask AppDuty.FastClose (record a { side = s }))) ≡ true → (reassembly_of s six).aborted ≡ Some true
     by A is = absurd (false≢true is)
     by B is = absurd (false≢true is)
-told_so six a app_duties.AbortSend is = by a.side is
+told_so six a AppDuty.AbortSend is = by a.side is
   where
-    by : (s : Side) → tells_abort (reply_of six (app_ask app_duties.AbortSend (record a { side = s }))) ≡ true → (reassembly_of s six).aborted ≡ Some true
+    by : (s : Side) → tells_abort (reply_of six (app_ask AppDuty.AbortSend (record a { side = s }))) ≡ true → (reassembly_of s six).aborted ≡ Some true
     by A is = absurd (false≢true is)
     by B is = absurd (false≢true is)
-told_so six a app_duties.AbortReceive is = by a.side is
+told_so six a AppDuty.AbortReceive is = by a.side is
   where
-    by : (s : Side) → tells_abort (reply_of six (app_ask app_duties.AbortReceive (record a { side = s }))) ≡ true → (reassembly_of s six).aborted ≡ Some true
+    by : (s : Side) → tells_abort (reply_of six (app_ask AppDuty.AbortReceive (record a { side = s }))) ≡ true → (reassembly_of s six).aborted ≡ Some true
     by A is = absurd (false≢true is)
     by B is = absurd (false≢true is)
-told_so six a app_duties.Write is = by a.side is
+told_so six a AppDuty.Write is = by a.side is
   where
-    by : (s : Side) → tells_abort (reply_of six (app_ask app_duties.Write (record a { side = s }))) ≡ true → (reassembly_of s six).aborted ≡ Some true
+    by : (s : Side) → tells_abort (reply_of six (app_ask AppDuty.Write (record a { side = s }))) ≡ true → (reassembly_of s six).aborted ≡ Some true
     by A is = absurd (false≢true is)
     by B is = absurd (false≢true is)
-told_so six a app_duties.Close is = by a.side is
+told_so six a AppDuty.Close is = by a.side is
   where
-    by : (s : Side) → tells_abort (reply_of six (app_ask app_duties.Close (record a { side = s }))) ≡ true → (reassembly_of s six).aborted ≡ Some true
+    by : (s : Side) → tells_abort (reply_of six (app_ask AppDuty.Close (record a { side = s }))) ≡ true → (reassembly_of s six).aborted ≡ Some true
     by A is = absurd (false≢true is)
     by B is = absurd (false≢true is)
-told_so six a app_duties.Read is = by a.side is
+told_so six a AppDuty.Read is = by a.side is
   where
-    unread : (bytes : List ℕ) (b : Arriving) → tells_abort (replies.Reassembly (bytes_reply bytes b)) ≡ false
+    unread : (bytes : List ℕ) (b : Arriving) → tells_abort (Reply.Reassembly (bytes_reply bytes b)) ≡ false
     unread [] b = at (is_end b.known_end b.read)
       where
-        at : (ends : Bool) → tells_abort (replies.Reassembly (if ends then reassembly_replies.End else reassembly_replies.NoneYet)) ≡ false
+        at : (ends : Bool) → tells_abort (Reply.Reassembly (if ends then ReassemblyReply.End else ReassemblyReply.NoneYet)) ≡ false
         at true = refl
         at false = refl
     unread (byte ∷ bytes) b = refl
 
-    told : (o : Option Bool) (b : Arriving) → tells_abort (replies.Reassembly (reading o 65536 b)) ≡ true → o ≡ Some true
+    told : (o : Option Bool) (b : Arriving) → tells_abort (Reply.Reassembly (reading o 65536 b)) ≡ true → o ≡ Some true
     told (Some by_peer) b is = ap (λ c. Some c) is
     told None b is = absurd (false≢true (sym (unread (take 65536 (filled b.places)) b) ∙ is))
 
-    by : (s : Side) → tells_abort (reply_of six (app_ask app_duties.Read (record a { side = s }))) ≡ true → (reassembly_of s six).aborted ≡ Some true
+    by : (s : Side) → tells_abort (reply_of six (app_ask AppDuty.Read (record a { side = s }))) ≡ true → (reassembly_of s six).aborted ≡ Some true
     by A is = told six.reassembly_a.aborted six.reassembly_a is
     by B is = told six.reassembly_b.aborted six.reassembly_b is
-told_so six a app_duties.End is = absurd (false≢true is)
+told_so six a AppDuty.End is = absurd (false≢true is)
 
 -- ---- worlds
 
@@ -266,23 +222,23 @@ module _ (start : Start) where
 
   accepts_more : (x : Ask) (pass : Pass) (books : StampedBooks) (s : Side) → list_any entry_accepts (control_journal s books).journal ≡ true
       → list_any entry_accepts (control_journal s (after_entry x pass books)).journal ≡ true
-  accepts_more (asks.Control A call) pass books A is = any_more entry_accepts books.control_a.journal _ is
-  accepts_more (asks.Control A call) pass books B is = is
-  accepts_more (asks.Control B call) pass books A is = is
-  accepts_more (asks.Control B call) pass books B is = any_more entry_accepts books.control_b.journal _ is
-  accepts_more (asks.Send t call) pass books A is = is
-  accepts_more (asks.Send t call) pass books B is = is
-  accepts_more (asks.Reassembly t call) pass books A is = is
-  accepts_more (asks.Reassembly t call) pass books B is = is
-  accepts_more (asks.Local step) pass books s is = is
+  accepts_more (Ask.Control A call) pass books A is = any_more entry_accepts books.control_a.journal _ is
+  accepts_more (Ask.Control A call) pass books B is = is
+  accepts_more (Ask.Control B call) pass books A is = is
+  accepts_more (Ask.Control B call) pass books B is = any_more entry_accepts books.control_b.journal _ is
+  accepts_more (Ask.Send t call) pass books A is = is
+  accepts_more (Ask.Send t call) pass books B is = is
+  accepts_more (Ask.Reassembly t call) pass books A is = is
+  accepts_more (Ask.Reassembly t call) pass books B is = is
+  accepts_more (Ask.Local step) pass books s is = is
 
   -- the world after it, as far as it is spoken of here
   record Goes (x : Ask) (pass : Pass) (t u : Cast Carried) : Type 0 where
     books : u.books ≡ after_entry x pass t.books
     closed : (s : Side) → Facts t Deed.Closed s → Facts u Deed.Closed s
     -- what is asked is so
-    closes : (s : Side) → x ≡ asks.Control s control_calls.FastClose → Facts u Deed.Closed s
-    aborts : (s : Side) → x ≡ asks.Reassembly s (calls.Abort true) → Caused u s
+    closes : (s : Side) → x ≡ Ask.Control s ControlCall.FastClose → Facts u Deed.Closed s
+    aborts : (s : Side) → x ≡ Ask.Reassembly s (ReassemblyCall.Abort true) → Caused u s
 
   module _ (x : Ask) (pass : Pass) (t u : Cast Carried) (g : Goes x pass t u) (h : Causes t) where
     abbrev six : SixBooks
@@ -301,59 +257,56 @@ module _ (start : Start) where
     six_is = ap books_in g.books ∙ books_after x pass t.books
 
     -- what the reply tells
-    fell_now : (s : Side) (path : ℕ) (event : FallEvent) → x ≡ asks.Control s (control_calls.Fell path event) → is_fall (reply_of six (asks.Control s (control_calls.Fell path event))) ≡ true → Facts u Deed.Fell s
+    fell_now : (s : Side) (path : ℕ) (event : FallEvent) → x ≡ Ask.Control s (ControlCall.Fell path event) → is_fall (reply_of six (Ask.Control s (ControlCall.Fell path event))) ≡ true → Facts u Deed.Fell s
     fell_now s path event same fell =
         was_now is_identity u.books s
         (subst (λ (y : SixBooks). is_identity (control_of s y).fall.mode ≡ true) (sym (six_is ∙ ap (λ y. after_ask y six) same)) (fell_to s path event six fell))
 
-    accepts_now : (s : Side) (key : ℕ) → x ≡ asks.Control s (control_calls.FastHeard key) → is_stopped_by (reply_of six (asks.Control s (control_calls.FastHeard key))) ≡ true → Facts u Deed.Stopped s
+    accepts_now : (s : Side) (key : ℕ) → x ≡ Ask.Control s (ControlCall.FastHeard key) → is_stopped_by (reply_of six (Ask.Control s (ControlCall.FastHeard key))) ≡ true → Facts u Deed.Stopped s
     accepts_now A key same is =
         subst (λ (b : StampedBooks). list_any entry_accepts b.control_a.journal ≡ true) (sym (g.books ∙ ap (λ y. after_entry y pass t.books) same))
-        (any_last entry_accepts t.books.control_a.journal (entry_of controlling.reply_to control.after t.books.control_a pass (control_calls.FastHeard key)) (stopped_accepts key _ is))
+        (any_last entry_accepts t.books.control_a.journal (entry_of controlling.reply_to control.after t.books.control_a pass (ControlCall.FastHeard key)) (stopped_accepts key _ is))
     accepts_now B key same is =
         subst (λ (b : StampedBooks). list_any entry_accepts b.control_b.journal ≡ true) (sym (g.books ∙ ap (λ y. after_entry y pass t.books) same))
-        (any_last entry_accepts t.books.control_b.journal (entry_of controlling.reply_to control.after t.books.control_b pass (control_calls.FastHeard key)) (stopped_accepts key _ is))
+        (any_last entry_accepts t.books.control_b.journal (entry_of controlling.reply_to control.after t.books.control_b pass (ControlCall.FastHeard key)) (stopped_accepts key _ is))
 
     tells : (y : Ask) → x ≡ y → Tells start.key_a start.key_b false (Facts u) y (reply_of six y)
-    tells (asks.Control s (control_calls.Look path)) same = look_carries (Facts u Deed.Closed s) path (control_of s six) (λ named. rises Deed.Closed s (h.carries s named))
-    tells (asks.Control s (control_calls.Fell path event)) same = fell_now s path event same
-    tells (asks.Control s (control_calls.FastHeard key)) same = accepts_now s key same
-    tells (asks.Control s control_calls.FastClose) same = tt
-    tells (asks.Control s _) same = tt
-    tells (asks.Send s call) same = tt
-    tells (asks.Reassembly s call) same = tt
-    tells (asks.Local step) same = tt
+    tells (Ask.Control s (ControlCall.Look path)) same = look_carries (Facts u Deed.Closed s) path (control_of s six) (λ named. rises Deed.Closed s (h.carries s named))
+    tells (Ask.Control s (ControlCall.Fell path event)) same = fell_now s path event same
+    tells (Ask.Control s (ControlCall.FastHeard key)) same = accepts_now s key same
+    tells (Ask.Control s ControlCall.FastClose) same = tt
+    tells _ same = tt
 
     -- what the books are then
     carries_on : (y : Ask) → x ≡ y → (s : Side) → is_some (control_of s (after_ask y six)).notices.carrier ≡ true → Facts u Deed.Closed s
-    carries_on (asks.Control A call) same A is = call_carries (Facts u Deed.Closed A) six.control_a call is (λ was. rises Deed.Closed A (h.carries A was)) (λ closes. g.closes A (same ∙ ap (λ c. asks.Control A c) closes))
-    carries_on (asks.Control A call) same B is = rises Deed.Closed B (h.carries B is)
-    carries_on (asks.Control B call) same A is = rises Deed.Closed A (h.carries A is)
-    carries_on (asks.Control B call) same B is = call_carries (Facts u Deed.Closed B) six.control_b call is (λ was. rises Deed.Closed B (h.carries B was)) (λ closes. g.closes B (same ∙ ap (λ c. asks.Control B c) closes))
-    carries_on (asks.Send A call) same s is = kept s is
+    carries_on (Ask.Control A call) same A is = call_carries (Facts u Deed.Closed A) six.control_a call is (λ was. rises Deed.Closed A (h.carries A was)) (λ closes. g.closes A (same ∙ ap (λ c. Ask.Control A c) closes))
+    carries_on (Ask.Control A call) same B is = rises Deed.Closed B (h.carries B is)
+    carries_on (Ask.Control B call) same A is = rises Deed.Closed A (h.carries A is)
+    carries_on (Ask.Control B call) same B is = call_carries (Facts u Deed.Closed B) six.control_b call is (λ was. rises Deed.Closed B (h.carries B was)) (λ closes. g.closes B (same ∙ ap (λ c. Ask.Control B c) closes))
+    carries_on (Ask.Send A call) same s is = kept s is
       where
-        kept : (s : Side) → is_some (control_of s (after_ask (asks.Send A call) six)).notices.carrier ≡ true → Facts u Deed.Closed s
+        kept : (s : Side) → is_some (control_of s (after_ask (Ask.Send A call) six)).notices.carrier ≡ true → Facts u Deed.Closed s
         kept A is = rises Deed.Closed A (h.carries A is)
         kept B is = rises Deed.Closed B (h.carries B is)
-    carries_on (asks.Send B call) same s is = kept s is
+    carries_on (Ask.Send B call) same s is = kept s is
       where
-        kept : (s : Side) → is_some (control_of s (after_ask (asks.Send B call) six)).notices.carrier ≡ true → Facts u Deed.Closed s
+        kept : (s : Side) → is_some (control_of s (after_ask (Ask.Send B call) six)).notices.carrier ≡ true → Facts u Deed.Closed s
         kept A is = rises Deed.Closed A (h.carries A is)
         kept B is = rises Deed.Closed B (h.carries B is)
-    carries_on (asks.Reassembly other call) same A is = rises Deed.Closed A (h.carries A is)
-    carries_on (asks.Reassembly other call) same B is = rises Deed.Closed B (h.carries B is)
-    carries_on (asks.Local step) same s is = rises Deed.Closed s (h.carries s is)
+    carries_on (Ask.Reassembly other call) same A is = rises Deed.Closed A (h.carries A is)
+    carries_on (Ask.Reassembly other call) same B is = rises Deed.Closed B (h.carries B is)
+    carries_on (Ask.Local step) same s is = rises Deed.Closed s (h.carries s is)
 
     aborted_on : (y : Ask) → x ≡ y → (s : Side) → (reassembly_of s (after_ask y six)).aborted ≡ Some true → Caused u s
-    aborted_on (asks.Reassembly A call) same A is = call_aborts (Caused u A) six.reassembly_a call is (λ was. caused A (h.aborted A was)) (λ aborts. g.aborts A (same ∙ ap (λ c. asks.Reassembly A c) aborts))
-    aborted_on (asks.Reassembly A call) same B is = caused B (h.aborted B is)
-    aborted_on (asks.Reassembly B call) same A is = caused A (h.aborted A is)
-    aborted_on (asks.Reassembly B call) same B is = call_aborts (Caused u B) six.reassembly_b call is (λ was. caused B (h.aborted B was)) (λ aborts. g.aborts B (same ∙ ap (λ c. asks.Reassembly B c) aborts))
-    aborted_on (asks.Send other call) same A is = caused A (h.aborted A is)
-    aborted_on (asks.Send other call) same B is = caused B (h.aborted B is)
-    aborted_on (asks.Control other call) same A is = caused A (h.aborted A is)
-    aborted_on (asks.Control other call) same B is = caused B (h.aborted B is)
-    aborted_on (asks.Local step) same s is = caused s (h.aborted s is)
+    aborted_on (Ask.Reassembly A call) same A is = call_aborts (Caused u A) six.reassembly_a call is (λ was. caused A (h.aborted A was)) (λ aborts. g.aborts A (same ∙ ap (λ c. Ask.Reassembly A c) aborts))
+    aborted_on (Ask.Reassembly A call) same B is = caused B (h.aborted B is)
+    aborted_on (Ask.Reassembly B call) same A is = caused A (h.aborted A is)
+    aborted_on (Ask.Reassembly B call) same B is = call_aborts (Caused u B) six.reassembly_b call is (λ was. caused B (h.aborted B was)) (λ aborts. g.aborts B (same ∙ ap (λ c. Ask.Reassembly B c) aborts))
+    aborted_on (Ask.Send other call) same A is = caused A (h.aborted A is)
+    aborted_on (Ask.Send other call) same B is = caused B (h.aborted B is)
+    aborted_on (Ask.Control other call) same A is = caused A (h.aborted A is)
+    aborted_on (Ask.Control other call) same B is = caused B (h.aborted B is)
+    aborted_on (Ask.Local step) same s is = caused s (h.aborted s is)
 
     path_on : (p : PathState Carried) → Knows t p → Knows u p
     path_on p knows = subst (λ (y : SixBooks). PathKnows start.key_a start.key_b false (Facts u) y p) (sym six_is) (path_more start.key_a start.key_b false (Facts t) (Facts u) rises six x p knows)
@@ -369,37 +322,37 @@ module _ (start : Start) where
 
   -- ---- a step of an application
 
-  asks_closes : (s : Side) (x : Ask) → x ≡ asks.Control s control_calls.FastClose → asks_fast_close s x ≡ true
+  asks_closes : (s : Side) (x : Ask) → x ≡ Ask.Control s ControlCall.FastClose → asks_fast_close s x ≡ true
   asks_closes A x same = ap (asks_fast_close A) same
   asks_closes B x same = ap (asks_fast_close B) same
 
-  other_closes : (P : Type 0) (s own : Side) (d : AppDuty) (a : AppState) → a.side ≡ own → app_ask d a ≡ asks.Control s control_calls.FastClose → (s ≡ own → P) → P
-  other_closes P s own app_duties.FastClose a side same is = is (sym (ap side_asked same) ∙ side)
+  other_closes : (P : Type 0) (s own : Side) (d : AppDuty) (a : AppState) → a.side ≡ own → app_ask d a ≡ Ask.Control s ControlCall.FastClose → (s ≡ own → P) → P
+  other_closes P s own AppDuty.FastClose a side same is = is (sym (ap side_asked same) ∙ side)
     where
       side_asked : Ask → Side
-      side_asked (asks.Control t call) = t
-      side_asked (asks.Send t call) = t
-      side_asked (asks.Reassembly t call) = t
-      side_asked (asks.Local step) = A
-  other_closes P s own app_duties.AbortSend a side same is = cc
-  other_closes P s own app_duties.AbortReceive a side same is = cc
-  other_closes P s own app_duties.Write a side same is = cc
-  other_closes P s own app_duties.Close a side same is = cc
-  other_closes P s own app_duties.Read a side same is = cc
-  other_closes P s own app_duties.End a side same is = cc
+      side_asked (Ask.Control t call) = t
+      side_asked (Ask.Send t call) = t
+      side_asked (Ask.Reassembly t call) = t
+      side_asked (Ask.Local step) = A
+  other_closes P s own AppDuty.AbortSend a side same is = cc
+  other_closes P s own AppDuty.AbortReceive a side same is = cc
+  other_closes P s own AppDuty.Write a side same is = cc
+  other_closes P s own AppDuty.Close a side same is = cc
+  other_closes P s own AppDuty.Read a side same is = cc
+  other_closes P s own AppDuty.End a side same is = cc
 
-  never_aborts : (P : Type 0) (s : Side) (d : AppDuty) (a : AppState) → app_ask d a ≡ asks.Reassembly s (calls.Abort true) → P
-  never_aborts P s app_duties.FastClose a same = cc
-  never_aborts P s app_duties.AbortSend a same = cc
-  never_aborts P s app_duties.AbortReceive a same = absurd (false≢true (ap by_peer same))
+  never_aborts : (P : Type 0) (s : Side) (d : AppDuty) (a : AppState) → app_ask d a ≡ Ask.Reassembly s (ReassemblyCall.Abort true) → P
+  never_aborts P s AppDuty.FastClose a same = cc
+  never_aborts P s AppDuty.AbortSend a same = cc
+  never_aborts P s AppDuty.AbortReceive a same = absurd (false≢true (ap by_peer same))
     where
       by_peer : Ask → Bool
-      by_peer (asks.Reassembly t (calls.Abort told)) = told
+      by_peer (Ask.Reassembly t (ReassemblyCall.Abort told)) = told
       by_peer _ = false
-  never_aborts P s app_duties.Write a same = cc
-  never_aborts P s app_duties.Close a same = cc
-  never_aborts P s app_duties.Read a same = cc
-  never_aborts P s app_duties.End a same = cc
+  never_aborts P s AppDuty.Write a same = cc
+  never_aborts P s AppDuty.Close a same = cc
+  never_aborts P s AppDuty.Read a same = cc
+  never_aborts P s AppDuty.End a same = cc
 
   by_a : (t : Cast Carried) → Fare start t → (d : AppDuty) (ds : List AppDuty) → t.a.agenda ≡ d ∷ ds → Causes t → Causes (after_a (app_ask d t.a) t)
   by_a t f d ds is h =
@@ -419,14 +372,14 @@ module _ (start : Start) where
       closed A is = any_more (note_asks_fast_close A) t.at_a.list (note ∷ []) is
       closed B is = is
 
-      own : x ≡ asks.Control A control_calls.FastClose → Facts u Deed.Closed A
+      own : x ≡ Ask.Control A ControlCall.FastClose → Facts u Deed.Closed A
       own same = any_last (note_asks_fast_close A) t.at_a.list note (asks_closes A x same)
 
       goes : Goes x t.at_a.pass t u
       goes = record {
         books = refl;
         closed = closed;
-        closes = λ s same. other_closes (Facts u Deed.Closed s) s A d t.a f.a.side_is same (λ side. subst (Facts u Deed.Closed) (sym side) (own (same ∙ ap (λ y. asks.Control y control_calls.FastClose) side)));
+        closes = λ s same. other_closes (Facts u Deed.Closed s) s A d t.a f.a.side_is same (λ side. subst (Facts u Deed.Closed) (sym side) (own (same ∙ ap (λ y. Ask.Control y ControlCall.FastClose) side)));
         aborts = λ s same. never_aborts (Caused u s) s d t.a same;
       }
 
@@ -454,14 +407,14 @@ module _ (start : Start) where
       closed A is = is
       closed B is = any_more (note_asks_fast_close B) t.at_b.list (note ∷ []) is
 
-      own : x ≡ asks.Control B control_calls.FastClose → Facts u Deed.Closed B
+      own : x ≡ Ask.Control B ControlCall.FastClose → Facts u Deed.Closed B
       own same = any_last (note_asks_fast_close B) t.at_b.list note (asks_closes B x same)
 
       goes : Goes x t.at_b.pass t u
       goes = record {
         books = refl;
         closed = closed;
-        closes = λ s same. other_closes (Facts u Deed.Closed s) s B d t.b f.b.side_is same (λ side. subst (Facts u Deed.Closed) (sym side) (own (same ∙ ap (λ y. asks.Control y control_calls.FastClose) side)));
+        closes = λ s same. other_closes (Facts u Deed.Closed s) s B d t.b f.b.side_is same (λ side. subst (Facts u Deed.Closed) (sym side) (own (same ∙ ap (λ y. Ask.Control y ControlCall.FastClose) side)));
         aborts = λ s same. never_aborts (Caused u s) s d t.b same;
       }
 
@@ -499,7 +452,7 @@ module _ (start : Start) where
       stopped : (s : Side) → Facts t Deed.Stopped s → Facts u Deed.Stopped s
       stopped s is = accepts_more x w.at.pass t.books s is
 
-      aborts : (s : Side) → x ≡ asks.Reassembly s (calls.Abort true) → Caused u s
+      aborts : (s : Side) → x ≡ Ask.Reassembly s (ReassemblyCall.Abort true) → Caused u s
       aborts s same = let was = subst (AsksFor start.key_a start.key_b false (Facts t) (books_in t.books)) same so refl in (stopped s was.0, closed (peer s) was.1)
 
       goes : Goes x w.at.pass t u

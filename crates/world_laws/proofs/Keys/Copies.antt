@@ -1,41 +1,11 @@
 -- What a copy that arrives makes of what the end of a path that joins knows.
-use Rattle.std.proofs.Common.{◌≡◌, refl, sym, ◌∙◌, subst, ℕ, ◌||◌, is_some, length, Bool, true, false, if◌then◌else◌, Option, Some, None, List, position}
-use Rattle.std.proofs.lemmas.Bool.{false≢true}
-use Rattle.std.specs.Option.{IfSome}
-use Rattle.sides.specs.declared.side.Side.{Side}
-use Rattle.sides.specs.declared.side.Side.TheVariants.{A, B}
-use Rattle.sides.specs.Side.{peer}
-use Rattle.dss_mapping.specs.declared.kept.KeptMapping.{KeptMapping}
-use Rattle.link_model.specs.declared.flight.Due.{Due}
-use Rattle.link_model.specs.declared.flight.Flight.{Flight}
-use Rattle.link_model.specs.Steps.{is_due, without, after_delivery}
-use Rattle.join_handshake.specs.declared.hearing.JoinAnswer.{JoinAnswer}
-use Rattle.path_segments.specs.Laws.{meant}
-use Rattle.path_segments.specs.Spelled.{PlainSegment}
-use Rattle.path_segments.specs.Heard.{HeardSegment}
-use Rattle.subflow_tcp.specs.declared.segments.Outgoing.{Outgoing}
-use Rattle.subflow_tcp.specs.declared.verdicts.Meaning.{Meaning}
-use Rattle.subflow_tcp.specs.declared.verdicts.Meaning.TheVariants as means
-use Rattle.subflow_tcp.specs.declared.handshake.State.{State as EndPhase}
-use Rattle.subflow_tcp.specs.declared.handshake.State.TheVariants as phase
-use Rattle.subflow_tcp.specs.State.{EndState}
-use Rattle.subflow_tcp.specs.States.{is_half_open, is_waiting}
-use Rattle.subflow_tcp.specs.Judging.{meaning_of}
-use Rattle.stream_lanes.specs.Words.{Every}
-use Rattle.path_agenda.specs.declared.duty.Duty.{Duty}
-use Rattle.path_agenda.specs.declared.heard.Heard.{Heard}
-use Rattle.path_core.specs.declared.judged.Judged.{Judged}
-use Rattle.path_core.specs.declared.judged.Judged.TheVariants as judged
-use Rattle.path_core.specs.declared.modes.Modes.{Modes}
-use Rattle.path_agenda.specs.Agenda.{emission}
-use Rattle.path_core.specs.Arrival.{template_by, asked_in, copy_judged, copy_of, judged_in, reset_for, template_judged, template_of, with_held, heard_at, heard_in, copy_heard}
-use Rattle.path_core.specs.DssIn.{HeardOption, held_of}
-use Rattle.path_core.specs.OptionsIn.{options_heard, hint_of, items_of, owes_by}
-use Rattle.path_core.specs.Judged.{answered_in, cleared_in, is_forged, is_passed_over, join_judged, taken_as, with_answer}
-use Rattle.path_core.specs.End.{PathEnd}
-use Rattle.path_core.specs.State.{at_tick, PathState, end_at, with_end, goes_on}
-use Rattle.path_core.specs.MpJoin.{is_joined, join_answer, join_asked}
-use Rattle.path_core.specs.Values.{Carried, as_arrived, values}
+use Rattle.world_laws.proofs.Words.{◌≡◌, refl, sym, ◌∙◌, subst, ℕ, ◌||◌, Bool, true, false, if◌then◌else◌, Option, Some, None, List, length, is_some, position}
+use Rattle.world_laws.proofs.Words.{false≢true, IfSome, Side, A, B, peer, JoinAnswer, KeptMapping, is_waiting, is_half_open, Meaning, EndState, EndPhase}
+use Rattle.world_laws.proofs.Words.{Outgoing, meaning_of, is_due, without, after_delivery, Due, Flight, HeardSegment, PlainSegment, meant, emission, Duty}
+use Rattle.world_laws.proofs.Words.{Heard, PathEnd, at_tick, PathState, end_at, goes_on, with_end, Carried, as_arrived, values, hint_of, items_of, owes_by}
+use Rattle.world_laws.proofs.Words.{options_heard, asked_in, copy_judged, copy_of, judged_in, reset_for, template_by, template_judged, template_of, with_held}
+use Rattle.world_laws.proofs.Words.{heard_in, copy_heard, heard_at, Judged, is_joined, join_answer, join_asked, held_of, HeardOption, answered_in, cleared_in}
+use Rattle.world_laws.proofs.Words.{is_forged, is_passed_over, join_judged, taken_as, with_answer, Modes, Every}
 use Rattle.world_laws.proofs.Keys.Held.{VoiceIs, arrived_is, in_removed, FlightIs, AreKnown, PathIs, end_is, goes_by, agenda_is, AnswerIs, answer_is_right}
 use Rattle.world_laws.proofs.Keys.AreDrawn.{Deed, Secrets, of_b, is_past, known_in, SegmentIs, ItemIs, ModesAre, EndIs, Needs, Knows, met_needs, needs_key, same_knows, same_modes, heard_items_are}
 use Rattle.world_laws.proofs.Keys.WhatWakes.{is_up, is_lively, arrived_waits, held_past, copy_up, copy_past, WakesNone, joined_wakes_none, Voice, speaks, came_said, came_calm, came_goes_on, same_or_calm}
@@ -95,14 +65,14 @@ module _ (k : Secrets) (right : Bool) (w : Side → Type 0) (did : Deed → Side
 
   told_join : (s : Side) (items : List Heard) (m : Meaning) (state : EndPhase) (modes : Modes) → Every (ItemIs k right w did true s) items → (is_lively m ≡ true → Knows k right w did s modes)
       → (is_half_open state ≡ true → w B) → ModesAre k right w did true s modes → JoinTold s modes (cleared_in m state (answered_in m items modes))
-  told_join s items (means.Accepts acknowledged) state modes said knows half h = answer_told s (join_answer items modes) modes (answer_is_right k right w did true s modes items said) (knows refl) h
-  told_join s items (means.Taken pos acknowledged) state modes said knows half h = taken_told s (is_half_open state) modes half (knows refl) h
+  told_join s items (Meaning.Accepts acknowledged) state modes said knows half h = answer_told s (join_answer items modes) modes (answer_is_right k right w did true s modes items said) (knows refl) h
+  told_join s items (Meaning.Taken pos acknowledged) state modes said knows half h = taken_told s (is_half_open state) modes half (knows refl) h
   told_join s items _ state modes said knows half h = same_told s modes modes refl h
 
   -- whether A asked for Multipath TCP leaves what is known
   asked_leaves : (m : Meaning) (options : List HeardOption) (modes : Modes) → known_in (asked_in m options modes) ≡ known_in modes
-  asked_leaves means.Opens options modes = refl
-  asked_leaves means.Ignored options modes = refl
+  asked_leaves Meaning.Opens options modes = refl
+  asked_leaves Meaning.Ignored options modes = refl
   asked_leaves _ options modes = refl
 
   -- what it makes of the end of a path that joins
@@ -112,8 +82,8 @@ module _ (k : Secrets) (right : Bool) (w : Side → Type 0) (did : Deed → Side
     pub stays : Knows k right w did s e.modes → Knows k right w did s f.modes
 
   half_past : (state : EndPhase) → is_half_open state ≡ true → is_past state ≡ true
-  half_past phase.SynReceived is = refl
-  half_past phase.Waiting is = absurd (false≢true is)
+  half_past EndPhase.SynReceived is = refl
+  half_past EndPhase.Waiting is = absurd (false≢true is)
   half_past _ is = absurd (false≢true is)
 
   -- A accepts a copy alone that answers the join
@@ -122,7 +92,7 @@ module _ (k : Secrets) (right : Bool) (w : Side → Type 0) (did : Deed → Side
   some_answer s (Some answer) some is = subst (λ t. w (peer t)) is.0 is.1.0
 
   told_copy : (s : Side) (told : List KeptMapping) (answer : Outgoing) (now : ℕ) (heard : HeardSegment) (m : Meaning) (e : PathEnd) → WakesNone m e.tcp
-      → ((acknowledged : ℕ) → m ≡ means.Accepts acknowledged → is_some (join_answer (items_of true s heard) e.modes) ≡ true)
+      → ((acknowledged : ℕ) → m ≡ Meaning.Accepts acknowledged → is_some (join_answer (items_of true s heard) e.modes) ≡ true)
       → Every (ItemIs k right w did true s) (items_of true s heard) → EndIs k right w did true s e → CopyTold s e (copy_judged true told answer s now heard m e)
   told_copy s told answer now heard m e none accepts said h =
       let items = items_of true s heard in
@@ -149,68 +119,68 @@ module _ (k : Secrets) (right : Bool) (w : Side → Type 0) (did : Deed → Side
       }
 
   -- what is accepted answers the join
-  accepts_answer : (rst : Bool) (items : List Heard) (m : Meaning) (e : PathEnd) (acknowledged : ℕ) → taken_as (join_judged rst items m e) ≡ means.Accepts acknowledged → is_some (join_answer items e.modes) ≡ true
-  accepts_answer rst items means.Opens e acknowledged is = by (is_some (join_asked items)) is
+  accepts_answer : (rst : Bool) (items : List Heard) (m : Meaning) (e : PathEnd) (acknowledged : ℕ) → taken_as (join_judged rst items m e) ≡ Meaning.Accepts acknowledged → is_some (join_answer items e.modes) ≡ true
+  accepts_answer rst items Meaning.Opens e acknowledged is = by (is_some (join_asked items)) is
     where
-      by : (b : Bool) → taken_as (if b then judged.Asks else judged.Lacks) ≡ means.Accepts acknowledged → is_some (join_answer items e.modes) ≡ true
+      by : (b : Bool) → taken_as (if b then Judged.Asks else Judged.Lacks) ≡ Meaning.Accepts acknowledged → is_some (join_answer items e.modes) ≡ true
       by true is = cc
       by false is = cc
-  accepts_answer rst items (means.Accepts at) e acknowledged is = by (is_some (join_answer items e.modes)) is
+  accepts_answer rst items (Meaning.Accepts at) e acknowledged is = by (is_some (join_answer items e.modes)) is
     where
-      by : (b : Bool) → taken_as (if b then judged.As (means.Accepts at) else judged.Forged) ≡ means.Accepts acknowledged → b ≡ true
+      by : (b : Bool) → taken_as (if b then Judged.As (Meaning.Accepts at) else Judged.Forged) ≡ Meaning.Accepts acknowledged → b ≡ true
       by true is = refl
       by false is = cc
-  accepts_answer rst items means.RepeatedSyn e acknowledged is = cc
-  accepts_answer rst items (means.Taken pos at) e acknowledged is = by (is_passed_over rst items e) (is_forged items e) is
+  accepts_answer rst items Meaning.RepeatedSyn e acknowledged is = cc
+  accepts_answer rst items (Meaning.Taken pos at) e acknowledged is = by (is_passed_over rst items e) (is_forged items e) is
     where
-      by : (b c : Bool) → taken_as (if b then judged.As means.Ignored else (if c then judged.Forged else judged.As (means.Taken pos at))) ≡ means.Accepts acknowledged → is_some (join_answer items e.modes) ≡ true
+      by : (b c : Bool) → taken_as (if b then Judged.As Meaning.Ignored else (if c then Judged.Forged else Judged.As (Meaning.Taken pos at))) ≡ Meaning.Accepts acknowledged → is_some (join_answer items e.modes) ≡ true
       by true c is = cc
       by false true is = cc
       by false false is = cc
-  accepts_answer rst items means.Ignored e acknowledged is = silent (is_passed_over rst items e) is
+  accepts_answer rst items Meaning.Ignored e acknowledged is = silent (is_passed_over rst items e) is
     where
-      silent : (b : Bool) → taken_as (if b then judged.As means.Ignored else judged.As means.Ignored) ≡ means.Accepts acknowledged → is_some (join_answer items e.modes) ≡ true
+      silent : (b : Bool) → taken_as (if b then Judged.As Meaning.Ignored else Judged.As Meaning.Ignored) ≡ Meaning.Accepts acknowledged → is_some (join_answer items e.modes) ≡ true
       silent true is = cc
       silent false is = cc
-  accepts_answer rst items means.Unwanted e acknowledged is = silent (is_passed_over rst items e) is
+  accepts_answer rst items Meaning.Unwanted e acknowledged is = silent (is_passed_over rst items e) is
     where
-      silent : (b : Bool) → taken_as (if b then judged.As means.Ignored else judged.As means.Unwanted) ≡ means.Accepts acknowledged → is_some (join_answer items e.modes) ≡ true
+      silent : (b : Bool) → taken_as (if b then Judged.As Meaning.Ignored else Judged.As Meaning.Unwanted) ≡ Meaning.Accepts acknowledged → is_some (join_answer items e.modes) ≡ true
       silent true is = cc
       silent false is = cc
-  accepts_answer rst items means.Outside e acknowledged is = silent (is_passed_over rst items e) is
+  accepts_answer rst items Meaning.Outside e acknowledged is = silent (is_passed_over rst items e) is
     where
-      silent : (b : Bool) → taken_as (if b then judged.As means.Ignored else judged.As means.Outside) ≡ means.Accepts acknowledged → is_some (join_answer items e.modes) ≡ true
+      silent : (b : Bool) → taken_as (if b then Judged.As Meaning.Ignored else Judged.As Meaning.Outside) ≡ Meaning.Accepts acknowledged → is_some (join_answer items e.modes) ≡ true
       silent true is = cc
       silent false is = cc
-  accepts_answer rst items means.Kills e acknowledged is = silent (is_passed_over rst items e) is
+  accepts_answer rst items Meaning.Kills e acknowledged is = silent (is_passed_over rst items e) is
     where
-      silent : (b : Bool) → taken_as (if b then judged.As means.Ignored else judged.As means.Kills) ≡ means.Accepts acknowledged → is_some (join_answer items e.modes) ≡ true
+      silent : (b : Bool) → taken_as (if b then Judged.As Meaning.Ignored else Judged.As Meaning.Kills) ≡ Meaning.Accepts acknowledged → is_some (join_answer items e.modes) ≡ true
       silent true is = cc
       silent false is = cc
-  accepts_answer rst items means.Challenged e acknowledged is = silent (is_passed_over rst items e) is
+  accepts_answer rst items Meaning.Challenged e acknowledged is = silent (is_passed_over rst items e) is
     where
-      silent : (b : Bool) → taken_as (if b then judged.As means.Ignored else judged.As means.Challenged) ≡ means.Accepts acknowledged → is_some (join_answer items e.modes) ≡ true
+      silent : (b : Bool) → taken_as (if b then Judged.As Meaning.Ignored else Judged.As Meaning.Challenged) ≡ Meaning.Accepts acknowledged → is_some (join_answer items e.modes) ≡ true
       silent true is = cc
       silent false is = cc
-  accepts_answer rst items means.Unacknowledging e acknowledged is = silent (is_passed_over rst items e) is
+  accepts_answer rst items Meaning.Unacknowledging e acknowledged is = silent (is_passed_over rst items e) is
     where
-      silent : (b : Bool) → taken_as (if b then judged.As means.Ignored else judged.As means.Unacknowledging) ≡ means.Accepts acknowledged → is_some (join_answer items e.modes) ≡ true
+      silent : (b : Bool) → taken_as (if b then Judged.As Meaning.Ignored else Judged.As Meaning.Unacknowledging) ≡ Meaning.Accepts acknowledged → is_some (join_answer items e.modes) ≡ true
       silent true is = cc
       silent false is = cc
-  accepts_answer rst items means.Ahead e acknowledged is = silent (is_passed_over rst items e) is
+  accepts_answer rst items Meaning.Ahead e acknowledged is = silent (is_passed_over rst items e) is
     where
-      silent : (b : Bool) → taken_as (if b then judged.As means.Ignored else judged.As means.Ahead) ≡ means.Accepts acknowledged → is_some (join_answer items e.modes) ≡ true
+      silent : (b : Bool) → taken_as (if b then Judged.As Meaning.Ignored else Judged.As Meaning.Ahead) ≡ Meaning.Accepts acknowledged → is_some (join_answer items e.modes) ≡ true
       silent true is = cc
       silent false is = cc
 
   -- what it makes due is said by an end that is up
   template_is : (s t : Side) (count : ℕ) (v : Judged) (tcp : EndState) → WakesNone (taken_as v) tcp → speaks (Voice.Says t) (template_judged true s count v) ≡ true → (t ≡ s) × (is_up tcp ≡ true)
-  template_is s t count (judged.As means.Opens) tcp none spoken = absurd (false≢true (sym none.no_syn))
-  template_is s t count (judged.As means.RepeatedSyn) tcp none spoken = (same_or_calm t s spoken, none.lively refl)
-  template_is s t count (judged.As means.Outside) tcp none spoken = (same_or_calm t s spoken, none.lively refl)
-  template_is s t count (judged.As means.Challenged) tcp none spoken = (same_or_calm t s spoken, none.lively refl)
-  template_is s t count (judged.As means.Ahead) tcp none spoken = (same_or_calm t s spoken, none.lively refl)
-  template_is s t count (judged.As (means.Taken pos acknowledged)) tcp none spoken = (came_said t s count spoken, none.lively refl)
+  template_is s t count (Judged.As Meaning.Opens) tcp none spoken = absurd (false≢true (sym none.no_syn))
+  template_is s t count (Judged.As Meaning.RepeatedSyn) tcp none spoken = (same_or_calm t s spoken, none.lively refl)
+  template_is s t count (Judged.As Meaning.Outside) tcp none spoken = (same_or_calm t s spoken, none.lively refl)
+  template_is s t count (Judged.As Meaning.Challenged) tcp none spoken = (same_or_calm t s spoken, none.lively refl)
+  template_is s t count (Judged.As Meaning.Ahead) tcp none spoken = (same_or_calm t s spoken, none.lively refl)
+  template_is s t count (Judged.As (Meaning.Taken pos acknowledged)) tcp none spoken = (came_said t s count spoken, none.lively refl)
   template_is s t count _ tcp none spoken = absurd (false≢true spoken)
 
   -- and no side falls or aborts by it
@@ -218,16 +188,14 @@ module _ (k : Secrets) (right : Bool) (w : Side → Type 0) (did : Deed → Side
   IsCalm t ds = (speaks (Voice.Falls t) ds ≡ false) × (speaks (Voice.Aborts t) ds ≡ false)
 
   meant_calm : (joined : Bool) (s t : Side) (count : ℕ) (m : Meaning) → IsCalm t (template_by joined s count m)
-  meant_calm true s t count (means.Accepts acknowledged) = (refl, refl)
-  meant_calm false s t count (means.Accepts acknowledged) = (refl, refl)
-  meant_calm joined s t count (means.Taken pos acknowledged) = (came_calm t s count, came_goes_on t s count)
+  meant_calm true s t count (Meaning.Accepts acknowledged) = (refl, refl)
+  meant_calm false s t count (Meaning.Accepts acknowledged) = (refl, refl)
+  meant_calm joined s t count (Meaning.Taken pos acknowledged) = (came_calm t s count, came_goes_on t s count)
   meant_calm joined s t count _ = (refl, refl)
 
   template_calm : (joined : Bool) (s t : Side) (count : ℕ) (v : Judged) → IsCalm t (template_judged joined s count v)
-  template_calm joined s t count judged.Asks = (refl, refl)
-  template_calm joined s t count judged.Lacks = (refl, refl)
-  template_calm joined s t count judged.Forged = (refl, refl)
-  template_calm joined s t count (judged.As m) = meant_calm joined s t count m
+  template_calm joined s t count (Judged.As m) = meant_calm joined s t count m
+  template_calm joined s t count _ = (refl, refl)
 
   -- the end of either side is that of this one
   pub own_knows : (s t : Side) (e : PathEnd) (p : PathState Carried) → t ≡ s → Knows k right w did s e.modes → Knows k right w did t (end_at t (with_end s e p)).modes
@@ -281,7 +249,7 @@ module _ (k : Secrets) (right : Bool) (w : Side → Type 0) (did : Deed → Side
             failing = λ joined. tt;
           }))
           (λ waiting. arrived_waits m (owes_by m (items_of false s heard)) (hint_of (items_of false s heard)) now (copy_of heard) heard.payload e.tcp waiting)
-          (voices (with_end s (copy_judged false told answer s now heard m e) p) (template_of false s (items_of false s heard) (judged.As m)) (λ t spoken joined. absurd (false≢true (sym is ∙ joined))) (λ t. template_calm false s t (length (items_of false s heard)) (judged.As m))) h
+          (voices (with_end s (copy_judged false told answer s now heard m e) p) (template_of false s (items_of false s heard) (Judged.As m)) (λ t spoken joined. absurd (false≢true (sym is ∙ joined))) (λ t. template_calm false s t (length (items_of false s heard)) (Judged.As m))) h
 
   pub copy_is : (s : Side) (o : Option (Flight Carried)) (q p : PathState Carried) → ((f : Flight Carried) → o ≡ Some f → SegmentIs k right w did p.profile (peer s) f.carried.segment) → PathIs k right w did p
       → PathIs k right w did (copy_heard s (heard_in values s o q) p)

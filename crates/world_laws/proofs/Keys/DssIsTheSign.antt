@@ -1,70 +1,23 @@
 -- At an end of A nothing but a DSS is told to its control book as the sign of Multipath TCP: each acknowledgement, mapping and end of
 -- the stream that a copy says comes behind a DSS, and that one clears the end. So the end is clear before it tells one.
-use Rattle.std.proofs.Common.{◌≡◌, refl, sym, ap, subst, ℕ, zero, suc, ◌+◌, ◌⊎◌, inl, inr, ⊎_elim, ◌||◌, Bool, true, false, if◌then◌else◌, Option, Some, None, List, [], ◌∷◌, ◌++◌, map, length, arith}
-use Rattle.std.proofs.lemmas.Bool.{or_left, or_right, false≢true, both_ways}
-use Rattle.std.specs.List.{flat_map}
-use Rattle.sides.specs.declared.side.Side.{Side}
-use Rattle.sides.specs.declared.side.Side.TheVariants.{A, B}
-use Rattle.link_model.specs.Steps.{arriving, after_delivery}
-use Rattle.mptcp_options.specs.declared.capable.CapableKeys.{CapableKeys}
-use Rattle.mptcp_options.specs.declared.capable.CapableKeys.TheVariants.{NoKey, Sender, Both, WithData}
-use Rattle.mptcp_options.specs.declared.join.JoinForm.{JoinForm}
-use Rattle.mptcp_options.specs.declared.join.JoinForm.TheVariants as joins
-use Rattle.fallback_state.specs.declared.fall.Event.{Event as FallEvent}
-use Rattle.fallback_state.specs.declared.fall.Event.TheVariants as events
-use Rattle.join_handshake.specs.declared.hearing.JoinSyn.{JoinSyn}
-use Rattle.path_segments.specs.declared.segment.PathOption.TheVariants.{Capable, Join, Dss, AddAddr, Remove, Prio, Fail, FastClose, Reset}
-use Rattle.path_segments.specs.Heard.{HeardSegment}
-use Rattle.dss_mapping.specs.declared.kept.KeptMapping.{KeptMapping}
-use Rattle.subflow_send.specs.Records.{Record}
-use Rattle.subflow_tcp.specs.Expiring.{is_sixth}
-use Rattle.subflow_tcp.specs.States.{is_dead}
-use Rattle.subflow_tcp.specs.declared.verdicts.Meaning.{Meaning}
-use Rattle.subflow_tcp.specs.declared.verdicts.Meaning.TheVariants as means
-use Rattle.actor_desk.specs.declared.ask.Reply.{Reply}
-use Rattle.actor_desk.specs.Words.{tail_of}
-use Rattle.path_agenda.specs.Agenda.{start_of_turn, rest_of_turn, heard_and, payload_came, resets, leaves, emission, stops}
-use Rattle.path_agenda.specs.Items.{is_dss, key_heard, keys_heard}
-use Rattle.path_agenda.specs.declared.duty.Duty.{Duty}
-use Rattle.path_agenda.specs.declared.duty.Duty.TheVariants as duties
-use Rattle.path_agenda.specs.declared.duty.AskDuty.TheVariants as ask_duties
-use Rattle.path_agenda.specs.declared.duty.SendDuty.TheVariants as send_duties
-use Rattle.path_agenda.specs.declared.duty.SilentDuty.TheVariants as silent_duties
-use Rattle.path_agenda.specs.declared.duty.StepDuty.TheVariants as step_duties
-use Rattle.path_agenda.specs.declared.heard.Heard.{Heard}
-use Rattle.path_agenda.specs.declared.heard.Heard.TheVariants as says
-use Rattle.path_agenda.specs.declared.keys.KeyPair.{KeyPair}
-use Rattle.key_material.specs.declared.address.Address.{Address}
-use Rattle.path_core.specs.DssIn.{HeardOption, ack_items, map_items, with_learned, with_skipped, counts, is_clash, told_next, with_data_fin}
-use Rattle.path_core.specs.MpCapable.{key_items, answered_peer_key, answered_opened}
-use Rattle.path_core.specs.MpJoin.{join_items, join_begun, keys_begun, is_never, opened_by, join_taken, asked_at, is_joined}
-use Rattle.path_core.specs.Addresses.{address_items, item_removed}
-use Rattle.path_core.specs.OptionsIn.{items_in, items_of, options_heard}
-use Rattle.path_core.specs.Arrival.{judged_in, template_by, template_judged, copy_heard, heard_in}
-use Rattle.path_core.specs.Breaking.{answered_break, reset_on, died_unless_dead}
-use Rattle.path_core.specs.Codec.{Codec}
+use Rattle.world_laws.proofs.Words.{◌≡◌, refl, sym, ap, subst, ℕ, zero, suc, ◌+◌, ◌||◌, inl, inr, ◌⊎◌, ⊎_elim, Bool, true, false, if◌then◌else◌, Option, Some}
+use Rattle.world_laws.proofs.Words.{None, List, [], ◌∷◌, ◌++◌, length, map, arith, both_ways, false≢true, or_right, or_left, flat_map, FallEvent, Address, Side}
+use Rattle.world_laws.proofs.Words.{A, B, JoinForm, CapableKeys, Sender, JoinSyn, KeptMapping, Record, is_dead, Meaning, is_sixth, arriving, after_delivery}
+use Rattle.world_laws.proofs.Words.{HeardSegment, Capable, Join, Dss, AddAddr, Remove, Prio, Fail, Reset, LineAction, Piece, rest_of_turn, emission, heard_and}
+use Rattle.world_laws.proofs.Words.{payload_came, leaves, resets, stops, start_of_turn, Duty, SendDuty, StepDuty, AskDuty, SilentDuty, Heard, KeyPair}
+use Rattle.world_laws.proofs.Words.{key_heard, keys_heard, is_dss, Reply, tail_of, Codec, stands, passed, answered, PathEnd, died, answered_ack_out, at_tick}
+use Rattle.world_laws.proofs.Words.{PathState, end_at, goes_on, with_end, with_agenda, settled, answers, takes, begins_turn, next_round, FirstStands, IsSettled}
+use Rattle.world_laws.proofs.Words.{items_in, items_of, options_heard, judged_in, template_by, template_judged, heard_in, copy_heard, reset_on, answered_break}
+use Rattle.world_laws.proofs.Words.{died_unless_dead, answered_data, answered_grant, first_unsent, grant_in, Judged, next_event, after_line, happens_if}
+use Rattle.world_laws.proofs.Words.{join_begun, asked_at, is_never, join_taken, keys_begun, opened_by, is_joined, join_items, template_fired, is_wrong}
+use Rattle.world_laws.proofs.Words.{mapping_here, piece_of, is_placed, answered_piece, forgotten_by, answered_plain_fin, answered_fin_heard, is_fin_set}
+use Rattle.world_laws.proofs.Words.{ack_items, map_items, is_clash, with_learned, HeardOption, told_next, answered_item, item_of, item_passed, item_stands}
+use Rattle.world_laws.proofs.Words.{after_check_failed, after_fell, fell_duties, answered_plain_ack, with_plain_ack, breaks_by_ack, after_fail_heard}
+use Rattle.world_laws.proofs.Words.{answered_fell, answered_peer_key, answered_opened, key_items, is_stopped_by, item_removed, address_items, item_at, if_so}
+use Rattle.path_segments.specs.declared.segment.PathOption.TheVariants.{FastClose}
 use Rattle.path_core.specs.declared.events.Event.{Event}
-use Rattle.path_core.specs.declared.events.Event.TheVariants as happenings
-use Rattle.path_core.specs.declared.judged.Judged.{Judged}
-use Rattle.path_core.specs.declared.judged.Judged.TheVariants as judged
-use Rattle.path_core.specs.Duties.{stands, passed, answered}
-use Rattle.path_core.specs.Emission.{Grant, grant_in, answered_grant, answered_data, first_unsent}
-use Rattle.path_core.specs.End.{PathEnd, died}
-use Rattle.path_core.specs.Events.{next_event, after_line, happens_if}
-use Rattle.path_core.specs.State.{at_tick, PathState, end_at, goes_on, with_end, with_agenda}
-use Rattle.path_core.specs.Timer.{template_fired}
-use Rattle.path_store.specs.declared.lines.LineAction.{LineAction}
-use Rattle.path_store.specs.declared.lines.LineAction.TheVariants as actions
-use Rattle.path_core.specs.Deliver.{answered_piece, is_placed, piece_of, is_wrong, forgotten_by, mapping_here}
-use Rattle.path_core.specs.DataFin.{is_fin_set, answered_fin_heard, answered_plain_fin}
-use Rattle.path_store.specs.Passing.{Piece}
-use Rattle.path_core.specs.Standing.{answered_ack_out}
-use Rattle.path_core.specs.Steps.{settled, answers, takes, begins_turn, next_round}
-use Rattle.path_core.specs.Turns.{FirstStands, IsSettled}
-use Rattle.path_core.specs.Treating.{item_stands, item_passed, answered_item, item_of}
-use Rattle.path_core.specs.Fallback.{after_fell, fell_duties, answered_fell, answered_plain_ack, breaks_by_ack, with_plain_ack, after_check_failed, after_fail_heard}
-use Rattle.path_core.specs.Choices.{item_at}
-use Rattle.path_core.specs.FastClose.{is_stopped_by}
+use Rattle.path_core.specs.Emission.{Grant}
+use Rattle.world_laws.proofs.Writes.Ends.{item_so}
 use Rattle.world_laws.proofs.Falls.ClearStays.{maybe_end, passed_clear, answered_clear, Stays}
 use Rattle.world_laws.proofs.Falls.Verdicts.{fell_cases}
 use Rattle.world_laws.proofs.Falls.FailedChecks.{check_failed_so, fail_heard_so, infinite_came_so, fail_answered_so}
@@ -73,10 +26,10 @@ use Rattle.world_laws.proofs.Falls.FailedChecks.{check_failed_so, fail_heard_so,
 
 -- a thing that a DSS says comes behind it
 abbrev pub IsLed : Bool → Heard → Type 0
-IsLed seen (says.DataAck next window) = seen ≡ true
-IsLed seen (says.Mapping fin) = seen ≡ true
-IsLed seen (says.DataFin place) = seen ≡ true
-IsLed seen (says.InfiniteMapping place position) = seen ≡ true
+IsLed seen (Heard.DataAck next window) = seen ≡ true
+IsLed seen (Heard.Mapping fin) = seen ≡ true
+IsLed seen (Heard.DataFin place) = seen ≡ true
+IsLed seen (Heard.InfiniteMapping place position) = seen ≡ true
 IsLed seen _ = Unit {0}
 
 abbrev pub Led : Bool → List Heard → Type 0
@@ -84,17 +37,11 @@ Led seen [] = Unit {0}
 Led seen (item ∷ items) = IsLed seen item × Led (seen || is_dss item) items
 
 one_led : (seen later : Bool) (item : Heard) → (seen ≡ true → later ≡ true) → IsLed seen item → IsLed later item
-one_led seen later (says.DataAck next window) on h = on h
-one_led seen later (says.Mapping fin) on h = on h
-one_led seen later (says.DataFin place) on h = on h
-one_led seen later (says.InfiniteMapping place position) on h = on h
-one_led seen later says.Dss on h = tt
-one_led seen later (says.PeerKey key) on h = tt
-one_led seen later (says.Keys own peer) on h = tt
-one_led seen later (says.Join form) on h = tt
-one_led seen later (says.Notice notice) on h = tt
-one_led seen later says.Fail on h = tt
-one_led seen later (says.FastClose key) on h = tt
+one_led seen later (Heard.DataAck next window) on h = on h
+one_led seen later (Heard.Mapping fin) on h = on h
+one_led seen later (Heard.DataFin place) on h = on h
+one_led seen later (Heard.InfiniteMapping place position) on h = on h
+one_led seen later _ on h = tt
 
 either_on : (seen later dss : Bool) → (seen ≡ true → later ≡ true) → (seen || dss) ≡ true → (later || dss) ≡ true
 either_on true later dss on is = or_left later dss (on refl)
@@ -110,17 +57,11 @@ led_append seen [] ys x y = led_later false seen ys (λ is. absurd (false≢true
 led_append seen (item ∷ xs) ys x y = (x.0, led_append (seen || is_dss item) xs ys x.1 y)
 
 one_seen : (item : Heard) → IsLed true item
-one_seen (says.DataAck next window) = refl
-one_seen (says.Mapping fin) = refl
-one_seen (says.DataFin place) = refl
-one_seen (says.InfiniteMapping place position) = refl
-one_seen says.Dss = tt
-one_seen (says.PeerKey key) = tt
-one_seen (says.Keys own peer) = tt
-one_seen (says.Join form) = tt
-one_seen (says.Notice notice) = tt
-one_seen says.Fail = tt
-one_seen (says.FastClose key) = tt
+one_seen (Heard.DataAck next window) = refl
+one_seen (Heard.Mapping fin) = refl
+one_seen (Heard.DataFin place) = refl
+one_seen (Heard.InfiniteMapping place position) = refl
+one_seen _ = tt
 
 -- behind a DSS all is led
 all_seen : (items : List Heard) → Led true items
@@ -128,15 +69,13 @@ all_seen [] = tt
 all_seen (item ∷ items) = (one_seen item, all_seen items)
 
 joins_led : (form : JoinForm) → Led false (join_items A form)
-joins_led (joins.Answer backup id hmac nonce) = (tt, tt)
-joins_led (joins.Syn backup id token nonce) = tt
-joins_led (joins.Third hmac) = tt
+joins_led (JoinForm.Answer backup id hmac nonce) = (tt, tt)
+joins_led (JoinForm.Syn backup id token nonce) = tt
+joins_led (JoinForm.Third hmac) = tt
 
 keys_led : (keys : CapableKeys) → Led false (key_items A keys)
-keys_led NoKey = tt
 keys_led (Sender sender) = (tt, tt)
-keys_led (Both sender receiver) = tt
-keys_led (WithData sender receiver len checksum) = tt
+keys_led _ = tt
 
 address_led : (echo : Bool) (id : ℕ) (address : Address) (port hmac : Option ℕ) → Led false (address_items echo id address port hmac)
 address_led true id address port hmac = (tt, tt)
@@ -149,19 +88,13 @@ removed_led (id ∷ ids) = (tt, removed_led ids)
 
 module _ (joined : Bool) (window : ℕ) where
   option_led : (o : HeardOption) → Led false (items_in joined A window o)
-  option_led (Capable flag_a flag_c keys) = by joined
-    where
-      by : (b : Bool) → Led false (if b then [] else key_items A keys)
-      by true = tt
-      by false = keys_led keys
+  option_led (Capable flag_a flag_c keys) = if_so (Led false) joined [] (key_items A keys) tt (keys_led keys)
   option_led (Dss next mapping) = (tt, all_seen (ack_items next window ++ map_items mapping))
   option_led (Join form) = joins_led form
   option_led (AddAddr echo id address port hmac) = address_led echo id address port hmac
   option_led (Remove ids) = removed_led ids
-  option_led (Prio backup) = (tt, tt)
-  option_led (Fail place) = (tt, tt)
-  option_led (FastClose key) = (tt, tt)
   option_led (Reset transient reason) = tt
+  option_led _ = (tt, tt)
 
   options_led : (os : List HeardOption) → Led false (flat_map (items_in joined A window) os)
   options_led [] = tt
@@ -202,8 +135,8 @@ nothing_before (suc n) = tt
 -- the things that a copy said to A are treated one after the other, from this one on, and none is told yet
 abbrev pub Follows : ℕ → List Duty → Type 0
 Follows n [] = Unit {0}
-Follows n (duties.Step (step_duties.Heard A index) ∷ ds) = (index ≡ n) × Follows (suc n) ds
-Follows n (duties.Ask (ask_duties.AckHeard A) ∷ ds) = ⊥
+Follows n (Duty.Step (StepDuty.Heard A index) ∷ ds) = (index ≡ n) × Follows (suc n) ds
+Follows n (Duty.Ask (AskDuty.AckHeard A) ∷ ds) = ⊥
 Follows n (d ∷ ds) = Follows n ds
 
 heard_follow : (from count : ℕ) → Follows from (heard_and A from count (payload_came A))
@@ -215,19 +148,17 @@ heard_by_b n from zero = tt
 heard_by_b n from (suc count) = heard_by_b n (from + 1) count
 
 template_follows : (joined : Bool) (s : Side) (count : ℕ) (m : Meaning) → Follows 0 (template_by joined s count m)
-template_follows true s count (means.Accepts acknowledged) = tt
-template_follows false s count (means.Accepts acknowledged) = tt
-template_follows joined A count (means.Taken position acknowledged) = heard_follow 0 count
-template_follows joined B count (means.Taken position acknowledged) = heard_by_b 0 0 count
+template_follows true s count (Meaning.Accepts acknowledged) = tt
+template_follows false s count (Meaning.Accepts acknowledged) = tt
+template_follows joined A count (Meaning.Taken position acknowledged) = heard_follow 0 count
+template_follows joined B count (Meaning.Taken position acknowledged) = heard_by_b 0 0 count
 template_follows joined s count _ = tt
 
 judged_follows : (joined : Bool) (s : Side) (count : ℕ) (verdict : Judged) → Follows 0 (template_judged joined s count verdict)
-judged_follows joined s count (judged.As meaning) = template_follows joined s count meaning
-judged_follows joined s count judged.Asks = tt
-judged_follows joined s count judged.Lacks = tt
-judged_follows joined s count judged.Forged = tt
+judged_follows joined s count (Judged.As meaning) = template_follows joined s count meaning
+judged_follows joined s count _ = tt
 
-died_follows : (dead_a dead_b : Bool) → Follows 0 ((if dead_a then [] else duties.Ask (ask_duties.Leave A) ∷ []) ++ ((if dead_b then [] else duties.Ask (ask_duties.Leave B) ∷ []) ++ rest_of_turn))
+died_follows : (dead_a dead_b : Bool) → Follows 0 ((if dead_a then [] else Duty.Ask (AskDuty.Leave A) ∷ []) ++ ((if dead_b then [] else Duty.Ask (AskDuty.Leave B) ∷ []) ++ rest_of_turn))
 died_follows true true = tt
 died_follows true false = tt
 died_follows false true = tt
@@ -263,26 +194,7 @@ recalled_none : (n : ℕ) (e f : PathEnd) → Recalls e f → NoneBefore n e.tre
 recalled_none n e f r h = ⊎_elim (λ same. subst (NoneBefore n) (sym same) h) (λ none. subst (NoneBefore n) (sym none) (nothing_before n)) r.kept
 
 same_items : (s : Side) (o : Option Heard) (e : PathEnd) → (item_passed s o e).treated.items ≡ e.treated.items
-same_items s None e = refl
-same_items s (Some says.Dss) e = refl
-same_items s (Some (says.DataAck next window)) e = refl
-same_items s (Some (says.Mapping fin)) e = by (counts e)
-  where
-    by : (b : Bool) → (if b then with_learned e else with_skipped e).treated.items ≡ e.treated.items
-    by true = refl
-    by false = refl
-same_items s (Some (says.DataFin place)) e = by (counts e)
-  where
-    by : (b : Bool) → (if b then with_data_fin place e else e).treated.items ≡ e.treated.items
-    by true = refl
-    by false = refl
-same_items s (Some (says.InfiniteMapping place position)) e = refl
-same_items s (Some (says.PeerKey key)) e = refl
-same_items s (Some (says.Keys own peer)) e = refl
-same_items s (Some (says.Join form)) e = refl
-same_items s (Some (says.Notice notice)) e = refl
-same_items s (Some says.Fail) e = refl
-same_items s (Some (says.FastClose key)) e = refl
+same_items s o e = item_so (λ f. f.treated.items ≡ e.treated.items) s o e refl refl (λ next. refl) refl refl (λ place. refl)
 
 checked_recalls : (checksums : Bool) (o : Option KeptMapping) (e : PathEnd) → Recalls e (forgotten_by checksums o e)
 checked_recalls checksums None e = recalls_all e e refl
@@ -295,8 +207,8 @@ stopped_follows s false n ds f = f
 
 -- the first duty is none of these
 abbrev IsOther : Duty → Type 0
-IsOther (duties.Step step_duties.Events) = ⊥
-IsOther (duties.Step (step_duties.Heard A index)) = ⊥
+IsOther (Duty.Step StepDuty.Events) = ⊥
+IsOther (Duty.Step (StepDuty.Heard A index)) = ⊥
 IsOther _ = Unit {0}
 
 -- ---- a path
@@ -343,62 +255,62 @@ module _ {C : Type 0} where
   unheard p n above (inr none) = none
 
   -- a thing that was said to A is passed
-  item_leads : (index : ℕ) (ds : List Duty) (p : PathState C) → p.a.modes.identity ≡ false → (o : Option Heard) → item_at index p.a.treated.items ≡ o → Leads (duties.Step (step_duties.Heard A index) ∷ ds) p
+  item_leads : (index : ℕ) (ds : List Duty) (p : PathState C) → p.a.modes.identity ≡ false → (o : Option Heard) → item_at index p.a.treated.items ≡ o → Leads (Duty.Step (StepDuty.Heard A index) ∷ ds) p
       → Leads ds (with_end A (item_passed A o p.a) p)
   item_leads index ds p above o is h = record {
     led = subst (Led false) (sym (same_items A o p.a)) h.led;
-    clear = ⊎_elim (λ is_clear. inl ((maybe_end A o p.a).0 is_clear)) (λ (u : IsUnclear (duties.Step (step_duties.Heard A index) ∷ ds) p). by o is u) h.clear;
+    clear = ⊎_elim (λ is_clear. inl ((maybe_end A o p.a).0 is_clear)) (λ (u : IsUnclear (Duty.Step (StepDuty.Heard A index) ∷ ds) p). by o is u) h.clear;
   }
     where
-      by : (o : Option Heard) → item_at index p.a.treated.items ≡ o → IsUnclear (duties.Step (step_duties.Heard A index) ∷ ds) p
+      by : (o : Option Heard) → item_at index p.a.treated.items ≡ o → IsUnclear (Duty.Step (StepDuty.Heard A index) ∷ ds) p
           → ((item_passed A o p.a).modes.clear ≡ true) ⊎ IsUnclear ds (with_end A (item_passed A o p.a) p)
       by None is u =
           inr (record { n = suc u.n; none = inr (no_more u.n p.a.treated.items (unheard p u.n above u.none) (subst (λ n. item_at n p.a.treated.items ≡ None) u.follows.0 is)); follows = u.follows.1 })
-      by (Some says.Dss) is u = inl (or_right p.a.modes.clear true refl)
-      by (Some (says.DataAck next window)) is u =
-          absurd (false≢true (unled u.n p.a.treated.items (says.DataAck next window) h.led (unheard p u.n above u.none) (subst (λ n. item_at n p.a.treated.items ≡ Some (says.DataAck next window)) u.follows.0 is)))
-      by (Some (says.Mapping fin)) is u =
-          absurd (false≢true (unled u.n p.a.treated.items (says.Mapping fin) h.led (unheard p u.n above u.none) (subst (λ n. item_at n p.a.treated.items ≡ Some (says.Mapping fin)) u.follows.0 is)))
-      by (Some (says.DataFin place)) is u =
-          absurd (false≢true (unled u.n p.a.treated.items (says.DataFin place) h.led (unheard p u.n above u.none) (subst (λ n. item_at n p.a.treated.items ≡ Some (says.DataFin place)) u.follows.0 is)))
-      by (Some (says.InfiniteMapping place position)) is u =
-          absurd (false≢true (unled u.n p.a.treated.items (says.InfiniteMapping place position) h.led (unheard p u.n above u.none) (subst (λ n. item_at n p.a.treated.items ≡ Some (says.InfiniteMapping place position)) u.follows.0 is)))
-      by (Some (says.PeerKey key)) is u =
-          inr (record { n = suc u.n; none = inr (one_more u.n p.a.treated.items (says.PeerKey key) (unheard p u.n above u.none) (subst (λ n. item_at n p.a.treated.items ≡ Some (says.PeerKey key)) u.follows.0 is) refl); follows = u.follows.1 })
-      by (Some (says.Keys own peer)) is u =
-          inr (record { n = suc u.n; none = inr (one_more u.n p.a.treated.items (says.Keys own peer) (unheard p u.n above u.none) (subst (λ n. item_at n p.a.treated.items ≡ Some (says.Keys own peer)) u.follows.0 is) refl); follows = u.follows.1 })
-      by (Some (says.Join form)) is u =
-          inr (record { n = suc u.n; none = inr (one_more u.n p.a.treated.items (says.Join form) (unheard p u.n above u.none) (subst (λ n. item_at n p.a.treated.items ≡ Some (says.Join form)) u.follows.0 is) refl); follows = u.follows.1 })
-      by (Some (says.Notice notice)) is u =
-          inr (record { n = suc u.n; none = inr (one_more u.n p.a.treated.items (says.Notice notice) (unheard p u.n above u.none) (subst (λ n. item_at n p.a.treated.items ≡ Some (says.Notice notice)) u.follows.0 is) refl); follows = u.follows.1 })
-      by (Some says.Fail) is u =
-          inr (record { n = suc u.n; none = inr (one_more u.n p.a.treated.items says.Fail (unheard p u.n above u.none) (subst (λ n. item_at n p.a.treated.items ≡ Some says.Fail) u.follows.0 is) refl); follows = u.follows.1 })
-      by (Some (says.FastClose key)) is u =
-          inr (record { n = suc u.n; none = inr (one_more u.n p.a.treated.items (says.FastClose key) (unheard p u.n above u.none) (subst (λ n. item_at n p.a.treated.items ≡ Some (says.FastClose key)) u.follows.0 is) refl); follows = u.follows.1 })
+      by (Some Heard.Dss) is u = inl (or_right p.a.modes.clear true refl)
+      by (Some (Heard.DataAck next window)) is u =
+          absurd (false≢true (unled u.n p.a.treated.items (Heard.DataAck next window) h.led (unheard p u.n above u.none) (subst (λ n. item_at n p.a.treated.items ≡ Some (Heard.DataAck next window)) u.follows.0 is)))
+      by (Some (Heard.Mapping fin)) is u =
+          absurd (false≢true (unled u.n p.a.treated.items (Heard.Mapping fin) h.led (unheard p u.n above u.none) (subst (λ n. item_at n p.a.treated.items ≡ Some (Heard.Mapping fin)) u.follows.0 is)))
+      by (Some (Heard.DataFin place)) is u =
+          absurd (false≢true (unled u.n p.a.treated.items (Heard.DataFin place) h.led (unheard p u.n above u.none) (subst (λ n. item_at n p.a.treated.items ≡ Some (Heard.DataFin place)) u.follows.0 is)))
+      by (Some (Heard.InfiniteMapping place position)) is u =
+          absurd (false≢true (unled u.n p.a.treated.items (Heard.InfiniteMapping place position) h.led (unheard p u.n above u.none) (subst (λ n. item_at n p.a.treated.items ≡ Some (Heard.InfiniteMapping place position)) u.follows.0 is)))
+      by (Some (Heard.PeerKey key)) is u =
+          inr (record { n = suc u.n; none = inr (one_more u.n p.a.treated.items (Heard.PeerKey key) (unheard p u.n above u.none) (subst (λ n. item_at n p.a.treated.items ≡ Some (Heard.PeerKey key)) u.follows.0 is) refl); follows = u.follows.1 })
+      by (Some (Heard.Keys own peer)) is u =
+          inr (record { n = suc u.n; none = inr (one_more u.n p.a.treated.items (Heard.Keys own peer) (unheard p u.n above u.none) (subst (λ n. item_at n p.a.treated.items ≡ Some (Heard.Keys own peer)) u.follows.0 is) refl); follows = u.follows.1 })
+      by (Some (Heard.Join form)) is u =
+          inr (record { n = suc u.n; none = inr (one_more u.n p.a.treated.items (Heard.Join form) (unheard p u.n above u.none) (subst (λ n. item_at n p.a.treated.items ≡ Some (Heard.Join form)) u.follows.0 is) refl); follows = u.follows.1 })
+      by (Some (Heard.Notice notice)) is u =
+          inr (record { n = suc u.n; none = inr (one_more u.n p.a.treated.items (Heard.Notice notice) (unheard p u.n above u.none) (subst (λ n. item_at n p.a.treated.items ≡ Some (Heard.Notice notice)) u.follows.0 is) refl); follows = u.follows.1 })
+      by (Some Heard.Fail) is u =
+          inr (record { n = suc u.n; none = inr (one_more u.n p.a.treated.items Heard.Fail (unheard p u.n above u.none) (subst (λ n. item_at n p.a.treated.items ≡ Some Heard.Fail) u.follows.0 is) refl); follows = u.follows.1 })
+      by (Some (Heard.FastClose key)) is u =
+          inr (record { n = suc u.n; none = inr (one_more u.n p.a.treated.items (Heard.FastClose key) (unheard p u.n above u.none) (subst (λ n. item_at n p.a.treated.items ≡ Some (Heard.FastClose key)) u.follows.0 is) refl); follows = u.follows.1 })
 
   pub passed_leads : (d : Duty) (ds : List Duty) (p : PathState C) → Leads (d ∷ ds) p → stands d p ≡ false → Leads ds (passed d p)
-  passed_leads (duties.Step (step_duties.Heard A index)) ds p h none = by p.a.modes.identity refl
+  passed_leads (Duty.Step (StepDuty.Heard A index)) ds p h none = by p.a.modes.identity refl
     where
       by : (b : Bool) → p.a.modes.identity ≡ b → Leads ds (with_end A (item_passed A (if b then None else item_at index p.a.treated.items) p.a) p)
       by true plain = record {
         led = h.led;
-        clear = ⊎_elim (λ is_clear. inl is_clear) (λ (u : IsUnclear (duties.Step (step_duties.Heard A index) ∷ ds) p). inr (record { n = suc u.n; none = inl plain; follows = u.follows.1 })) h.clear;
+        clear = ⊎_elim (λ is_clear. inl is_clear) (λ (u : IsUnclear (Duty.Step (StepDuty.Heard A index) ∷ ds) p). inr (record { n = suc u.n; none = inl plain; follows = u.follows.1 })) h.clear;
       }
       by false above = item_leads index ds p above (item_at index p.a.treated.items) refl h
-  passed_leads (duties.Step (step_duties.Heard B index)) ds p h none = goes_led (duties.Step (step_duties.Heard B index)) ds p _ ds (λ is. is, λ is. is) (record { recalls = recalls_all _ _ refl; follows = λ n f. f }) h
-  passed_leads (duties.Silent (silent_duties.Timer s)) ds p h none = goes_led (duties.Silent (silent_duties.Timer s)) ds p _ ds (passed_clear (duties.Silent (silent_duties.Timer s)) p).a (record { recalls = side_recalls s _ p _ (recalls_all _ _ refl) refl; follows = λ n f. f }) h
-  passed_leads (duties.Silent (silent_duties.Keep s)) ds p h none = goes_led (duties.Silent (silent_duties.Keep s)) ds p _ ds (passed_clear (duties.Silent (silent_duties.Keep s)) p).a (record { recalls = side_recalls s _ p _ (recalls_all _ _ refl) refl; follows = λ n f. f }) h
-  passed_leads (duties.Silent (silent_duties.PassFin s)) ds p h none = goes_led (duties.Silent (silent_duties.PassFin s)) ds p _ ds (passed_clear (duties.Silent (silent_duties.PassFin s)) p).a (record { recalls = side_recalls s _ p _ (recalls_all _ _ refl) refl; follows = λ n f. f }) h
-  passed_leads (duties.Ask (ask_duties.CheckFailed s)) ds p h none =
-      goes_led (duties.Ask (ask_duties.CheckFailed s)) ds p _ ds (passed_clear (duties.Ask (ask_duties.CheckFailed s)) p).a (record {
+  passed_leads (Duty.Step (StepDuty.Heard B index)) ds p h none = goes_led (Duty.Step (StepDuty.Heard B index)) ds p _ ds (λ is. is, λ is. is) (record { recalls = recalls_all _ _ refl; follows = λ n f. f }) h
+  passed_leads (Duty.Silent (SilentDuty.Timer s)) ds p h none = goes_led (Duty.Silent (SilentDuty.Timer s)) ds p _ ds (passed_clear (Duty.Silent (SilentDuty.Timer s)) p).a (record { recalls = side_recalls s _ p _ (recalls_all _ _ refl) refl; follows = λ n f. f }) h
+  passed_leads (Duty.Silent (SilentDuty.Keep s)) ds p h none = goes_led (Duty.Silent (SilentDuty.Keep s)) ds p _ ds (passed_clear (Duty.Silent (SilentDuty.Keep s)) p).a (record { recalls = side_recalls s _ p _ (recalls_all _ _ refl) refl; follows = λ n f. f }) h
+  passed_leads (Duty.Silent (SilentDuty.PassFin s)) ds p h none = goes_led (Duty.Silent (SilentDuty.PassFin s)) ds p _ ds (passed_clear (Duty.Silent (SilentDuty.PassFin s)) p).a (record { recalls = side_recalls s _ p _ (recalls_all _ _ refl) refl; follows = λ n f. f }) h
+  passed_leads (Duty.Ask (AskDuty.CheckFailed s)) ds p h none =
+      goes_led (Duty.Ask (AskDuty.CheckFailed s)) ds p _ ds (passed_clear (Duty.Ask (AskDuty.CheckFailed s)) p).a (record {
         recalls = side_recalls s _ p _ (checked_recalls p.profile.spelling.checksums (mapping_here (end_at s p)) (end_at s p)) refl;
         follows = λ n f. f;
       }) h
-  passed_leads (duties.Ask (ask_duties.AckHeard A)) ds p h none = goes_led (duties.Ask (ask_duties.AckHeard A)) ds p p ds (λ is. is, λ is. is) (record { recalls = recalls_all _ _ refl; follows = λ n f. absurd f }) h
-  passed_leads (duties.Ask (ask_duties.AckHeard B)) ds p h none = goes_led (duties.Ask (ask_duties.AckHeard B)) ds p p ds (λ is. is, λ is. is) (record { recalls = recalls_all _ _ refl; follows = λ n f. f }) h
-  passed_leads (duties.Send (send_duties.Update s)) ds p h none = goes_led (duties.Send (send_duties.Update s)) ds p p ds (λ is. is, λ is. is) (record { recalls = recalls_all _ _ refl; follows = λ n f. f }) h
-  passed_leads (duties.Step (step_duties.PlainAck s)) ds p h none = goes_led (duties.Step (step_duties.PlainAck s)) ds p _ ds (passed_clear (duties.Step (step_duties.PlainAck s)) p).a (record { recalls = side_recalls s _ p _ (recalls_all _ _ refl) refl; follows = λ n f. f }) h
-  passed_leads (duties.Step (step_duties.Unmapped s)) ds p h none = goes_led (duties.Step (step_duties.Unmapped s)) ds p _ ds (passed_clear (duties.Step (step_duties.Unmapped s)) p).a (record { recalls = side_recalls s _ p _ (recalls_all _ _ refl) refl; follows = λ n f. f }) h
+  passed_leads (Duty.Ask (AskDuty.AckHeard A)) ds p h none = goes_led (Duty.Ask (AskDuty.AckHeard A)) ds p p ds (λ is. is, λ is. is) (record { recalls = recalls_all _ _ refl; follows = λ n f. absurd f }) h
+  passed_leads (Duty.Ask (AskDuty.AckHeard B)) ds p h none = goes_led (Duty.Ask (AskDuty.AckHeard B)) ds p p ds (λ is. is, λ is. is) (record { recalls = recalls_all _ _ refl; follows = λ n f. f }) h
+  passed_leads (Duty.Send (SendDuty.Update s)) ds p h none = goes_led (Duty.Send (SendDuty.Update s)) ds p p ds (λ is. is, λ is. is) (record { recalls = recalls_all _ _ refl; follows = λ n f. f }) h
+  passed_leads (Duty.Step (StepDuty.PlainAck s)) ds p h none = goes_led (Duty.Step (StepDuty.PlainAck s)) ds p _ ds (passed_clear (Duty.Step (StepDuty.PlainAck s)) p).a (record { recalls = side_recalls s _ p _ (recalls_all _ _ refl) refl; follows = λ n f. f }) h
+  passed_leads (Duty.Step (StepDuty.Unmapped s)) ds p h none = goes_led (Duty.Step (StepDuty.Unmapped s)) ds p _ ds (passed_clear (Duty.Step (StepDuty.Unmapped s)) p).a (record { recalls = side_recalls s _ p _ (recalls_all _ _ refl) refl; follows = λ n f. f }) h
   passed_leads d ds p h none = goes_led d ds p p ds (λ is. is, λ is. is) (record { recalls = recalls_all _ _ refl; follows = λ n f. f }) h
 
   agenda_leads : (ds : List Duty) (p : PathState C) → Leads ds p → Leads ds (with_agenda ds p)
@@ -433,14 +345,14 @@ module _ {C : Type 0} where
 
   module _ (p : PathState C) (led : Led false p.a.treated.items) where
     line_anew : (action : LineAction) → Anew p (after_line action p)
-    line_anew actions.Die = record {
+    line_anew LineAction.Die = record {
       led = recalled_led p.a (died_unless_dead p.a) (either_recalls (is_dead p.a.tcp.state) p.a p.a (died p.a) (recalls_all p.a p.a refl) (forgets p.a (died p.a) refl)) led;
       follows = died_follows (is_dead p.a.tcp.state) (is_dead p.b.tcp.state);
     }
-    line_anew (actions.Prio A backup) = record { led = led; follows = tt }
-    line_anew (actions.Prio B backup) = record { led = led; follows = tt }
-    line_anew (actions.Announce s id) = record { led = led; follows = tt }
-    line_anew (actions.Withdraw s id) = record { led = led; follows = tt }
+    line_anew (LineAction.Prio A backup) = record { led = led; follows = tt }
+    line_anew (LineAction.Prio B backup) = record { led = led; follows = tt }
+    line_anew (LineAction.Announce s id) = record { led = led; follows = tt }
+    line_anew (LineAction.Withdraw s id) = record { led = led; follows = tt }
 
     copy_anew : (s : Side) (heard : Option HeardSegment) → Anew p (copy_heard s heard p)
     copy_anew s None = record { led = led; follows = tt }
@@ -458,16 +370,16 @@ module _ {C : Type 0} where
 
   happens_anew : (k : Codec C) (o : Option Event) (r : Reply) (p : PathState C) → Led false p.a.treated.items → Leads (happens_if k o r p).agenda (happens_if k o r p)
   happens_anew k None r p led = anew_leads p (with_agenda rest_of_turn p) (record { led = led; follows = tt })
-  happens_anew k (Some (happenings.Joins tick)) r p led =
+  happens_anew k (Some (Event.Joins tick)) r p led =
       let q : PathState C = record (at_tick tick p) { joined_at = None } in anew_leads q (join_begun r (leaves A) (emission A) q) (begun_anew q led r)
-  happens_anew k (Some (happenings.Takes line)) r p led =
+  happens_anew k (Some (Event.Takes line)) r p led =
       let q : PathState C = record (at_tick line.tick p) { lines = tail_of p.lines } in anew_leads q (after_line line.action q) (line_anew q led line.action)
-  happens_anew k (Some (happenings.Arrives due)) r p led =
+  happens_anew k (Some (Event.Arrives due)) r p led =
       let q : PathState C = record (at_tick due.tick p) { link = after_delivery due p.link } in
       let heard = heard_in k due.to (arriving due p.link) p in
       anew_leads q (copy_heard due.to heard q) (copy_anew q led due.to heard)
-  happens_anew k (Some (happenings.Fires A tick)) r p led = anew_leads p _ (record { led = led; follows = fired_follows (is_sixth p.a.tcp) A })
-  happens_anew k (Some (happenings.Fires B tick)) r p led = anew_leads p _ (record { led = led; follows = fired_follows (is_sixth p.b.tcp) B })
+  happens_anew k (Some (Event.Fires A tick)) r p led = anew_leads p _ (record { led = led; follows = fired_follows (is_sixth p.a.tcp) A })
+  happens_anew k (Some (Event.Fires B tick)) r p led = anew_leads p _ (record { led = led; follows = fired_follows (is_sixth p.b.tcp) B })
 
   -- ---- replies
 
@@ -475,25 +387,25 @@ module _ {C : Type 0} where
   either_goes true d ds p q r x y = x
   either_goes false d ds p q r x y = y
 
-  begun_goes : (r : Reply) (ds : List Duty) (p : PathState C) → let m = with_agenda ((duties.Ask ask_duties.JoinAgain) ∷ ds) p in let q = join_begun r (duties.Ask (ask_duties.Leave A) ∷ ds) ds m in Goes (duties.Ask ask_duties.JoinAgain) ds m q q.agenda
-  begun_goes r ds p = either_goes (is_never r) (duties.Ask ask_duties.JoinAgain) ds (with_agenda ((duties.Ask ask_duties.JoinAgain) ∷ ds) p) _ _
+  begun_goes : (r : Reply) (ds : List Duty) (p : PathState C) → let m = with_agenda ((Duty.Ask AskDuty.JoinAgain) ∷ ds) p in let q = join_begun r (Duty.Ask (AskDuty.Leave A) ∷ ds) ds m in Goes (Duty.Ask AskDuty.JoinAgain) ds m q q.agenda
+  begun_goes r ds p = either_goes (is_never r) (Duty.Ask AskDuty.JoinAgain) ds (with_agenda ((Duty.Ask AskDuty.JoinAgain) ∷ ds) p) _ _
       (record { recalls = forgets _ _ refl; follows = λ n f. f }) (record { recalls = opened_recalls (keys_begun r) p.a; follows = λ n f. f })
 
   data_goes : (k : Codec C) (s : Side) (r : Reply) (ds : List Duty) (p : PathState C) (o : Option Record)
-      → let m = with_agenda (duties.Step (step_duties.Data s) ∷ ds) p in let q = answered_data k s o r m in Goes (duties.Step (step_duties.Data s)) ds m q q.agenda
-  data_goes k s r ds p (Some u) = record { recalls = side_recalls s _ (with_agenda (duties.Step (step_duties.Data s) ∷ ds) p) _ (recalls_all _ _ refl) refl; follows = λ n f. f }
+      → let m = with_agenda (Duty.Step (StepDuty.Data s) ∷ ds) p in let q = answered_data k s o r m in Goes (Duty.Step (StepDuty.Data s)) ds m q q.agenda
+  data_goes k s r ds p (Some u) = record { recalls = side_recalls s _ (with_agenda (Duty.Step (StepDuty.Data s) ∷ ds) p) _ (recalls_all _ _ refl) refl; follows = λ n f. f }
   data_goes k s r ds p None = by (grant_in r)
     where
-      by : (o : Option Grant) → let m = with_agenda (duties.Step (step_duties.Data s) ∷ ds) p in let q = answered_grant s o r m in Goes (duties.Step (step_duties.Data s)) ds m q q.agenda
-      by (Some grant) = record { recalls = side_recalls s _ (with_agenda (duties.Step (step_duties.Data s) ∷ ds) p) _ (recalls_all _ _ refl) refl; follows = λ n f. f }
-      by None = record { recalls = side_recalls s _ (with_agenda (duties.Step (step_duties.Data s) ∷ ds) p) _ (recalls_all _ _ refl) refl; follows = λ n f. f }
+      by : (o : Option Grant) → let m = with_agenda (Duty.Step (StepDuty.Data s) ∷ ds) p in let q = answered_grant s o r m in Goes (Duty.Step (StepDuty.Data s)) ds m q q.agenda
+      by (Some grant) = record { recalls = side_recalls s _ (with_agenda (Duty.Step (StepDuty.Data s) ∷ ds) p) _ (recalls_all _ _ refl) refl; follows = λ n f. f }
+      by None = record { recalls = side_recalls s _ (with_agenda (Duty.Step (StepDuty.Data s) ∷ ds) p) _ (recalls_all _ _ refl) refl; follows = λ n f. f }
 
   join_goes : (s : Side) (keys : Option KeyPair) (asked : Option JoinSyn) (r : Reply) (ds : List Duty) (p : PathState C)
-      → let m = with_agenda (duties.Ask (ask_duties.JoinHeard s) ∷ ds) p in let q = join_taken s keys asked r m in Goes (duties.Ask (ask_duties.JoinHeard s)) ds m q q.agenda
-  join_goes s (Some keys) (Some asked) r ds p = record { recalls = side_recalls s _ (with_agenda (duties.Ask (ask_duties.JoinHeard s) ∷ ds) p) _ (recalls_all _ _ refl) refl; follows = λ n f. f }
+      → let m = with_agenda (Duty.Ask (AskDuty.JoinHeard s) ∷ ds) p in let q = join_taken s keys asked r m in Goes (Duty.Ask (AskDuty.JoinHeard s)) ds m q q.agenda
+  join_goes s (Some keys) (Some asked) r ds p = record { recalls = side_recalls s _ (with_agenda (Duty.Ask (AskDuty.JoinHeard s) ∷ ds) p) _ (recalls_all _ _ refl) refl; follows = λ n f. f }
   join_goes s (Some keys) None r ds p = record { recalls = recalls_all _ _ refl; follows = λ n f. f }
   join_goes s None None r ds p = record { recalls = recalls_all _ _ refl; follows = λ n f. f }
-  join_goes s None (Some asked) r ds p = record { recalls = side_recalls s _ (with_agenda (duties.Ask (ask_duties.JoinHeard s) ∷ ds) p) _ (recalls_all _ _ refl) refl; follows = λ n f. f }
+  join_goes s None (Some asked) r ds p = record { recalls = side_recalls s _ (with_agenda (Duty.Ask (AskDuty.JoinHeard s) ∷ ds) p) _ (recalls_all _ _ refl) refl; follows = λ n f. f }
 
   -- a break is to be made, whatever was first
   break_goes : (k : Codec C) (d : Duty) (s : Side) (reason : ℕ) (r : Reply) (ds : List Duty) (m : PathState C)
@@ -502,15 +414,15 @@ module _ {C : Type 0} where
       (record { recalls = side_recalls s _ m _ (recalls_all _ _ refl) refl; follows = λ n f. tt }) (record { recalls = side_recalls s _ m _ (forgets _ _ refl) refl; follows = λ n f. tt })
 
   piece_goes : (s : Side) (ds : List Duty) (p : PathState C) (o : Option Piece) (taken : Bool)
-      → let m = with_agenda (duties.Ask (ask_duties.Edge s) ∷ ds) p in let q = answered_piece s o taken m in Goes (duties.Ask (ask_duties.Edge s)) ds m q q.agenda
-  piece_goes s ds p (Some piece) true = record { recalls = side_recalls s _ (with_agenda (duties.Ask (ask_duties.Edge s) ∷ ds) p) _ (recalls_all _ _ refl) refl; follows = λ n f. f }
-  piece_goes s ds p (Some piece) false = record { recalls = side_recalls s _ (with_agenda (duties.Ask (ask_duties.Edge s) ∷ ds) p) _ (recalls_all _ _ refl) refl; follows = λ n f. tt }
-  piece_goes s ds p None taken = record { recalls = side_recalls s _ (with_agenda (duties.Ask (ask_duties.Edge s) ∷ ds) p) _ (recalls_all _ _ refl) refl; follows = λ n f. tt }
+      → let m = with_agenda (Duty.Ask (AskDuty.Edge s) ∷ ds) p in let q = answered_piece s o taken m in Goes (Duty.Ask (AskDuty.Edge s)) ds m q q.agenda
+  piece_goes s ds p (Some piece) true = record { recalls = side_recalls s _ (with_agenda (Duty.Ask (AskDuty.Edge s) ∷ ds) p) _ (recalls_all _ _ refl) refl; follows = λ n f. f }
+  piece_goes s ds p (Some piece) false = record { recalls = side_recalls s _ (with_agenda (Duty.Ask (AskDuty.Edge s) ∷ ds) p) _ (recalls_all _ _ refl) refl; follows = λ n f. tt }
+  piece_goes s ds p None taken = record { recalls = side_recalls s _ (with_agenda (Duty.Ask (AskDuty.Edge s) ∷ ds) p) _ (recalls_all _ _ refl) refl; follows = λ n f. tt }
 
   fin_goes : (s : Side) (index : ℕ) (ds : List Duty) (p : PathState C) (set : Bool)
-      → let m = with_agenda (duties.Ask (ask_duties.HeardFin s index) ∷ ds) p in let q = answered_fin_heard s set m in Goes (duties.Ask (ask_duties.HeardFin s index)) ds m q q.agenda
-  fin_goes s index ds p true = record { recalls = side_recalls s _ (with_agenda (duties.Ask (ask_duties.HeardFin s index) ∷ ds) p) _ (recalls_all _ _ refl) refl; follows = λ n f. f }
-  fin_goes s index ds p false = record { recalls = side_recalls s _ (with_agenda (duties.Ask (ask_duties.HeardFin s index) ∷ ds) p) _ (recalls_all _ _ refl) refl; follows = λ n f. tt }
+      → let m = with_agenda (Duty.Ask (AskDuty.HeardFin s index) ∷ ds) p in let q = answered_fin_heard s set m in Goes (Duty.Ask (AskDuty.HeardFin s index)) ds m q q.agenda
+  fin_goes s index ds p true = record { recalls = side_recalls s _ (with_agenda (Duty.Ask (AskDuty.HeardFin s index) ∷ ds) p) _ (recalls_all _ _ refl) refl; follows = λ n f. f }
+  fin_goes s index ds p false = record { recalls = side_recalls s _ (with_agenda (Duty.Ask (AskDuty.HeardFin s index) ∷ ds) p) _ (recalls_all _ _ refl) refl; follows = λ n f. tt }
 
   -- what follows where something is told of the mode
   fell_follows : (s : Side) (d : Duty) (ds : List Duty) (r : Reply) (p : PathState C) (n : ℕ) → Follows n ds → Follows n (fell_duties s r (with_agenda (d ∷ ds) p))
@@ -523,165 +435,165 @@ module _ {C : Type 0} where
       record { recalls = side_recalls s _ (with_agenda (d ∷ ds) p) _ (recalls_all _ _ refl) refl; follows = λ n f. fell_follows s d ds r p n (rest n f) }
 
   key_goes : (s : Side) (key : Option ℕ) (ds : List Duty) (r : Reply) (p : PathState C)
-      → let m = with_agenda (duties.Ask (ask_duties.PeerKey s) ∷ ds) p in let q = answered_peer_key s key r m in Goes (duties.Ask (ask_duties.PeerKey s)) ds m q q.agenda
-  key_goes s None ds r p = event_goes s (duties.Ask (ask_duties.PeerKey s)) events.PlainHandshake ds r p (λ n f. f)
-  key_goes s (Some key) ds r p = record { recalls = side_recalls s _ (with_agenda (duties.Ask (ask_duties.PeerKey s) ∷ ds) p) _ (recalls_all _ _ refl) refl; follows = λ n f. f }
+      → let m = with_agenda (Duty.Ask (AskDuty.PeerKey s) ∷ ds) p in let q = answered_peer_key s key r m in Goes (Duty.Ask (AskDuty.PeerKey s)) ds m q q.agenda
+  key_goes s None ds r p = event_goes s (Duty.Ask (AskDuty.PeerKey s)) FallEvent.PlainHandshake ds r p (λ n f. f)
+  key_goes s (Some key) ds r p = record { recalls = side_recalls s _ (with_agenda (Duty.Ask (AskDuty.PeerKey s) ∷ ds) p) _ (recalls_all _ _ refl) refl; follows = λ n f. f }
 
   opened_goes : (s : Side) (keys : Option KeyPair) (ds : List Duty) (r : Reply) (p : PathState C)
-      → let m = with_agenda (duties.Ask (ask_duties.Opened s) ∷ ds) p in let q = answered_opened s keys r m in Goes (duties.Ask (ask_duties.Opened s)) ds m q q.agenda
-  opened_goes s None ds r p = event_goes s (duties.Ask (ask_duties.Opened s)) events.PlainHandshake ds r p (λ n f. f)
-  opened_goes s (Some keys) ds r p = record { recalls = side_recalls s _ (with_agenda (duties.Ask (ask_duties.Opened s) ∷ ds) p) _ (recalls_all _ _ refl) refl; follows = λ n f. f }
+      → let m = with_agenda (Duty.Ask (AskDuty.Opened s) ∷ ds) p in let q = answered_opened s keys r m in Goes (Duty.Ask (AskDuty.Opened s)) ds m q q.agenda
+  opened_goes s None ds r p = event_goes s (Duty.Ask (AskDuty.Opened s)) FallEvent.PlainHandshake ds r p (λ n f. f)
+  opened_goes s (Some keys) ds r p = record { recalls = side_recalls s _ (with_agenda (Duty.Ask (AskDuty.Opened s) ∷ ds) p) _ (recalls_all _ _ refl) refl; follows = λ n f. f }
 
   plain_ack_goes : (k : Codec C) (s : Side) (ds : List Duty) (r : Reply) (p : PathState C)
-      → let m = with_agenda (duties.Step (step_duties.PlainAck s) ∷ ds) p in let q = answered_plain_ack k s r m in Goes (duties.Step (step_duties.PlainAck s)) ds m q q.agenda
+      → let m = with_agenda (Duty.Step (StepDuty.PlainAck s) ∷ ds) p in let q = answered_plain_ack k s r m in Goes (Duty.Step (StepDuty.PlainAck s)) ds m q q.agenda
   plain_ack_goes k s ds r p =
-      let m = with_agenda (duties.Step (step_duties.PlainAck s) ∷ ds) p in
-      either_goes (breaks_by_ack m.profile (end_at s m)) (duties.Step (step_duties.PlainAck s)) ds m (answered_break k s 6 r m)
-      (goes_on s (with_plain_ack (after_fell events.PlainAck r (end_at s m))) (fell_duties s r m) m)
-      (break_goes k (duties.Step (step_duties.PlainAck s)) s 6 r ds m)
-      (record { recalls = side_recalls s _ m _ (recalls_all _ _ refl) refl; follows = λ n f. fell_follows s (duties.Step (step_duties.PlainAck s)) ds r p n f })
+      let m = with_agenda (Duty.Step (StepDuty.PlainAck s) ∷ ds) p in
+      either_goes (breaks_by_ack m.profile (end_at s m)) (Duty.Step (StepDuty.PlainAck s)) ds m (answered_break k s 6 r m)
+      (goes_on s (with_plain_ack (after_fell FallEvent.PlainAck r (end_at s m))) (fell_duties s r m) m)
+      (break_goes k (Duty.Step (StepDuty.PlainAck s)) s 6 r ds m)
+      (record { recalls = side_recalls s _ m _ (recalls_all _ _ refl) refl; follows = λ n f. fell_follows s (Duty.Step (StepDuty.PlainAck s)) ds r p n f })
 
   plain_fin_goes : (s : Side) (ds : List Duty) (p : PathState C) (set : Bool)
-      → let m = with_agenda (duties.Ask (ask_duties.SubflowFin s) ∷ ds) p in let q = answered_plain_fin s set m in Goes (duties.Ask (ask_duties.SubflowFin s)) ds m q q.agenda
-  plain_fin_goes s ds p true = record { recalls = side_recalls s _ (with_agenda (duties.Ask (ask_duties.SubflowFin s) ∷ ds) p) _ (recalls_all _ _ refl) refl; follows = λ n f. f }
-  plain_fin_goes s ds p false = record { recalls = side_recalls s _ (with_agenda (duties.Ask (ask_duties.SubflowFin s) ∷ ds) p) _ (recalls_all _ _ refl) refl; follows = λ n f. tt }
+      → let m = with_agenda (Duty.Ask (AskDuty.SubflowFin s) ∷ ds) p in let q = answered_plain_fin s set m in Goes (Duty.Ask (AskDuty.SubflowFin s)) ds m q q.agenda
+  plain_fin_goes s ds p true = record { recalls = side_recalls s _ (with_agenda (Duty.Ask (AskDuty.SubflowFin s) ∷ ds) p) _ (recalls_all _ _ refl) refl; follows = λ n f. f }
+  plain_fin_goes s ds p false = record { recalls = side_recalls s _ (with_agenda (Duty.Ask (AskDuty.SubflowFin s) ∷ ds) p) _ (recalls_all _ _ refl) refl; follows = λ n f. tt }
 
   -- a thing that was said to B
-  told_follows : (n : ℕ) (b : Bool) (index : ℕ) (ds : List Duty) (p : PathState C) → Follows n ds → Follows n (told_next B b (with_agenda (duties.Step (step_duties.Heard B index) ∷ ds) p))
+  told_follows : (n : ℕ) (b : Bool) (index : ℕ) (ds : List Duty) (p : PathState C) → Follows n ds → Follows n (told_next B b (with_agenda (Duty.Step (StepDuty.Heard B index) ∷ ds) p))
   told_follows n true index ds p f = f
   told_follows n false index ds p f = f
 
   heard_goes : (k : Codec C) (index : ℕ) (ds : List Duty) (r : Reply) (p : PathState C) (o : Option Heard)
-      → let m = with_agenda (duties.Step (step_duties.Heard B index) ∷ ds) p in let q = answered_item k B o r m in Goes (duties.Step (step_duties.Heard B index)) ds m q q.agenda
+      → let m = with_agenda (Duty.Step (StepDuty.Heard B index) ∷ ds) p in let q = answered_item k B o r m in Goes (Duty.Step (StepDuty.Heard B index)) ds m q q.agenda
   heard_goes k index ds r p None = record { recalls = recalls_all _ _ refl; follows = λ n f. f }
-  heard_goes k index ds r p (Some says.Dss) = record { recalls = recalls_all _ _ refl; follows = λ n f. f }
-  heard_goes k index ds r p (Some (says.DataAck next window)) = record { recalls = recalls_all _ _ refl; follows = λ n f. told_follows n _ index ds p f }
-  heard_goes k index ds r p (Some (says.Mapping fin)) =
-      let m = with_agenda (duties.Step (step_duties.Heard B index) ∷ ds) p in
-      either_goes (is_clash p.b) (duties.Step (step_duties.Heard B index)) ds m (answered_break k B 1 r m) (goes_on B (with_learned (after_fell events.MappingHeard r p.b)) (fell_duties B r m) m)
-      (break_goes k (duties.Step (step_duties.Heard B index)) B 1 r ds m) (record { recalls = recalls_all _ _ refl; follows = λ n f. fell_follows B (duties.Step (step_duties.Heard B index)) ds r p n f })
-  heard_goes k index ds r p (Some (says.DataFin place)) = record { recalls = recalls_all _ _ refl; follows = λ n f. fell_follows B (duties.Step (step_duties.Heard B index)) ds r p n f }
-  heard_goes k index ds r p (Some (says.InfiniteMapping place position)) = record { recalls = recalls_all _ _ refl; follows = λ n f. fell_follows B (duties.Step (step_duties.Heard B index)) ds r p n f }
-  heard_goes k index ds r p (Some (says.PeerKey key)) = record { recalls = recalls_all _ _ refl; follows = λ n f. f }
-  heard_goes k index ds r p (Some (says.Keys own peer)) = record { recalls = recalls_all _ _ refl; follows = λ n f. f }
-  heard_goes k index ds r p (Some (says.Join form)) = record { recalls = recalls_all _ _ refl; follows = λ n f. f }
-  heard_goes k index ds r p (Some (says.Notice notice)) = record { recalls = recalls_all _ _ refl; follows = λ n f. f }
-  heard_goes k index ds r p (Some says.Fail) =
-      let d = duties.Step (step_duties.Heard B index) in let m = with_agenda (d ∷ ds) p in
-      fail_answered_so (λ q. Goes d ds m q q.agenda) B r m (record { recalls = recalls_all _ _ refl; follows = λ n f. f }) (event_goes B d (events.FailHeard false) ds r p (λ n f. f))
-  heard_goes k index ds r p (Some (says.FastClose key)) = record { recalls = recalls_all _ _ refl; follows = λ n f. stopped_follows B (is_stopped_by r) n ds f }
+  heard_goes k index ds r p (Some Heard.Dss) = record { recalls = recalls_all _ _ refl; follows = λ n f. f }
+  heard_goes k index ds r p (Some (Heard.DataAck next window)) = record { recalls = recalls_all _ _ refl; follows = λ n f. told_follows n _ index ds p f }
+  heard_goes k index ds r p (Some (Heard.Mapping fin)) =
+      let m = with_agenda (Duty.Step (StepDuty.Heard B index) ∷ ds) p in
+      either_goes (is_clash p.b) (Duty.Step (StepDuty.Heard B index)) ds m (answered_break k B 1 r m) (goes_on B (with_learned (after_fell FallEvent.MappingHeard r p.b)) (fell_duties B r m) m)
+      (break_goes k (Duty.Step (StepDuty.Heard B index)) B 1 r ds m) (record { recalls = recalls_all _ _ refl; follows = λ n f. fell_follows B (Duty.Step (StepDuty.Heard B index)) ds r p n f })
+  heard_goes k index ds r p (Some (Heard.DataFin place)) = record { recalls = recalls_all _ _ refl; follows = λ n f. fell_follows B (Duty.Step (StepDuty.Heard B index)) ds r p n f }
+  heard_goes k index ds r p (Some (Heard.InfiniteMapping place position)) = record { recalls = recalls_all _ _ refl; follows = λ n f. fell_follows B (Duty.Step (StepDuty.Heard B index)) ds r p n f }
+  heard_goes k index ds r p (Some (Heard.PeerKey key)) = record { recalls = recalls_all _ _ refl; follows = λ n f. f }
+  heard_goes k index ds r p (Some (Heard.Keys own peer)) = record { recalls = recalls_all _ _ refl; follows = λ n f. f }
+  heard_goes k index ds r p (Some (Heard.Join form)) = record { recalls = recalls_all _ _ refl; follows = λ n f. f }
+  heard_goes k index ds r p (Some (Heard.Notice notice)) = record { recalls = recalls_all _ _ refl; follows = λ n f. f }
+  heard_goes k index ds r p (Some Heard.Fail) =
+      let d = Duty.Step (StepDuty.Heard B index) in let m = with_agenda (d ∷ ds) p in
+      fail_answered_so (λ q. Goes d ds m q q.agenda) B r m (record { recalls = recalls_all _ _ refl; follows = λ n f. f }) (event_goes B d (FallEvent.FailHeard false) ds r p (λ n f. f))
+  heard_goes k index ds r p (Some (Heard.FastClose key)) = record { recalls = recalls_all _ _ refl; follows = λ n f. stopped_follows B (is_stopped_by r) n ds f }
 
   answered_goes : (k : Codec C) (d : Duty) → IsOther d → (ds : List Duty) (r : Reply) (p : PathState C)
       → let m = with_agenda (d ∷ ds) p in let q = answered k d r m in Goes d ds m q q.agenda
-  answered_goes k (duties.Step (step_duties.Look s)) other ds r p = record { recalls = side_recalls s _ (with_agenda (duties.Step (step_duties.Look s) ∷ ds) p) _ (recalls_all _ _ refl) refl; follows = λ n f. f }
-  answered_goes k (duties.Ask (ask_duties.Window s)) other ds r p = record { recalls = side_recalls s _ (with_agenda (duties.Ask (ask_duties.Window s) ∷ ds) p) _ (recalls_all _ _ refl) refl; follows = λ n f. f }
-  answered_goes k (duties.Send (send_duties.Update s)) other ds r p = record { recalls = side_recalls s _ (with_agenda (duties.Send (send_duties.Update s) ∷ ds) p) _ (recalls_all _ _ refl) refl; follows = λ n f. f }
-  answered_goes k (duties.Send (send_duties.FastClose s)) other ds r p = record { recalls = side_recalls s _ (with_agenda (duties.Send (send_duties.FastClose s) ∷ ds) p) _ (recalls_all _ _ refl) refl; follows = λ n f. f }
-  answered_goes k (duties.Send (send_duties.Notice s)) other ds r p = record { recalls = side_recalls s _ (with_agenda (duties.Send (send_duties.Notice s) ∷ ds) p) _ (recalls_all _ _ refl) refl; follows = λ n f. f }
-  answered_goes k (duties.Send (send_duties.Syn s)) other ds r p = record { recalls = side_recalls s _ (with_agenda (duties.Send (send_duties.Syn s) ∷ ds) p) _ (recalls_all _ _ refl) refl; follows = λ n f. f }
-  answered_goes k (duties.Send (send_duties.DataFin s)) other ds r p = record { recalls = side_recalls s _ (with_agenda (duties.Send (send_duties.DataFin s) ∷ ds) p) _ (recalls_all _ _ refl) refl; follows = λ n f. f }
-  answered_goes k (duties.Send (send_duties.Fin s)) other ds r p = record { recalls = side_recalls s _ (with_agenda (duties.Send (send_duties.Fin s) ∷ ds) p) _ (recalls_all _ _ refl) refl; follows = λ n f. f }
-  answered_goes k (duties.Ask (ask_duties.PeerKey s)) other ds r p = key_goes s (key_heard (end_at s p).treated.items) ds r p
-  answered_goes k (duties.Send (send_duties.SynAck s)) other ds r p = record { recalls = side_recalls s _ (with_agenda (duties.Send (send_duties.SynAck s) ∷ ds) p) _ (recalls_all _ _ refl) refl; follows = λ n f. f }
-  answered_goes k (duties.Send (send_duties.Refuse s)) other ds r p = record { recalls = side_recalls s _ (with_agenda (duties.Send (send_duties.Refuse s) ∷ ds) p) _ (recalls_all _ _ refl) refl; follows = λ n f. f }
-  answered_goes k (duties.Ask (ask_duties.Opened s)) other ds r p = opened_goes s (keys_heard (end_at s p).treated.items) ds r p
-  answered_goes k (duties.Ask (ask_duties.AckOut s)) other ds r p = record { recalls = side_recalls s _ (with_agenda (duties.Ask (ask_duties.AckOut s) ∷ ds) p) _ (recalls_all _ _ refl) refl; follows = λ n f. f }
-  answered_goes k (duties.Ask (ask_duties.Rate s)) other ds r p = record { recalls = side_recalls s _ (with_agenda (duties.Ask (ask_duties.Rate s) ∷ ds) p) _ (recalls_all _ _ refl) refl; follows = λ n f. f }
-  answered_goes k (duties.Send (send_duties.Acknowledge s)) other ds r p = record { recalls = side_recalls s _ (with_agenda (duties.Send (send_duties.Acknowledge s) ∷ ds) p) _ (recalls_all _ _ refl) refl; follows = λ n f. f }
-  answered_goes k (duties.Send (send_duties.Again s)) other ds r p = record { recalls = side_recalls s _ (with_agenda (duties.Send (send_duties.Again s) ∷ ds) p) _ (recalls_all _ _ refl) refl; follows = λ n f. f }
-  answered_goes k (duties.Send (send_duties.Answer s)) other ds r p = record { recalls = side_recalls s _ (with_agenda (duties.Send (send_duties.Answer s) ∷ ds) p) _ (recalls_all _ _ refl) refl; follows = λ n f. f }
-  answered_goes k (duties.Send (send_duties.ResetAnswer s)) other ds r p = record { recalls = side_recalls s _ (with_agenda (duties.Send (send_duties.ResetAnswer s) ∷ ds) p) _ (recalls_all _ _ refl) refl; follows = λ n f. f }
-  answered_goes k (duties.Send (send_duties.Resend s)) other ds r p = record { recalls = side_recalls s _ (with_agenda (duties.Send (send_duties.Resend s) ∷ ds) p) _ (recalls_all _ _ refl) refl; follows = λ n f. f }
-  answered_goes k (duties.Silent (silent_duties.Timer s)) other ds r p = record { recalls = recalls_all _ _ refl; follows = λ n f. f }
-  answered_goes k (duties.Ask (ask_duties.LeaveNoted s)) other ds r p = record { recalls = side_recalls s _ (with_agenda (duties.Ask (ask_duties.LeaveNoted s) ∷ ds) p) _ (forgets _ _ refl) refl; follows = λ n f. f }
-  answered_goes k duties.End other ds r p = record { recalls = recalls_all _ _ refl; follows = λ n f. tt }
-  answered_goes k (duties.Ask (ask_duties.BreakAck s reason)) other ds r p = record { recalls = side_recalls s _ (with_agenda (duties.Ask (ask_duties.BreakAck s reason) ∷ ds) p) _ (recalls_all _ _ refl) refl; follows = λ n f. tt }
-  answered_goes k (duties.Send (send_duties.BreakReset s reason)) other ds r p = record { recalls = side_recalls s _ (with_agenda (duties.Send (send_duties.BreakReset s reason) ∷ ds) p) _ (forgets _ _ refl) refl; follows = λ n f. tt }
-  answered_goes k (duties.Send (send_duties.Reset s)) other ds r p = record { recalls = side_recalls s _ (with_agenda (duties.Send (send_duties.Reset s) ∷ ds) p) _ (forgets _ _ refl) refl; follows = λ n f. f }
-  answered_goes k (duties.Send (send_duties.ResetNoted s)) other ds r p = record { recalls = side_recalls s _ (with_agenda (duties.Send (send_duties.ResetNoted s) ∷ ds) p) _ (forgets _ _ refl) refl; follows = λ n f. f }
-  answered_goes k (duties.Step step_duties.Events) other ds r p = absurd other
-  answered_goes k (duties.Ask ask_duties.JoinAgain) other ds r p = begun_goes r ds p
-  answered_goes k (duties.Step (step_duties.Data s)) other ds r p = data_goes k s r ds p (first_unsent (end_at s p))
-  answered_goes k (duties.Ask (ask_duties.JoinHeard s)) other ds r p = join_goes s (keys_begun r) (asked_at s p) r ds p
-  answered_goes k (duties.Step (step_duties.PlainAck s)) other ds r p = plain_ack_goes k s ds r p
-  answered_goes k (duties.Ask (ask_duties.PlainHandshake s)) other ds r p = event_goes s (duties.Ask (ask_duties.PlainHandshake s)) events.PlainHandshake ds r p (λ n f. f)
-  answered_goes k (duties.Ask (ask_duties.PlainData s)) other ds r p = event_goes s (duties.Ask (ask_duties.PlainData s)) events.PlainData ds r p (λ n f. f)
-  answered_goes k (duties.Ask (ask_duties.SubflowAck s)) other ds r p = record { recalls = side_recalls s _ (with_agenda (duties.Ask (ask_duties.SubflowAck s) ∷ ds) p) _ (recalls_all _ _ refl) refl; follows = λ n f. f }
-  answered_goes k (duties.Ask (ask_duties.GoIdentity s)) other ds r p = record { recalls = side_recalls s _ (with_agenda (duties.Ask (ask_duties.GoIdentity s) ∷ ds) p) _ (recalls_all _ _ refl) refl; follows = λ n f. f }
-  answered_goes k (duties.Step (step_duties.Unmapped s)) other ds r p = break_goes k (duties.Step (step_duties.Unmapped s)) s 6 r ds (with_agenda (duties.Step (step_duties.Unmapped s) ∷ ds) p)
-  answered_goes k (duties.Ask (ask_duties.SubflowFin s)) other ds r p = plain_fin_goes s ds p (is_fin_set r)
-  answered_goes k (duties.Ask (ask_duties.Edge s)) other ds r p = piece_goes s ds p (piece_of s p) (is_placed r)
-  answered_goes k (duties.Ask (ask_duties.CheckFailed s)) other ds r p = record {
-    recalls = side_recalls s (after_check_failed p.profile.spelling.checksums r (end_at s p)) (with_agenda (duties.Ask (ask_duties.CheckFailed s) ∷ ds) p) _
+  answered_goes k (Duty.Step (StepDuty.Look s)) other ds r p = record { recalls = side_recalls s _ (with_agenda (Duty.Step (StepDuty.Look s) ∷ ds) p) _ (recalls_all _ _ refl) refl; follows = λ n f. f }
+  answered_goes k (Duty.Ask (AskDuty.Window s)) other ds r p = record { recalls = side_recalls s _ (with_agenda (Duty.Ask (AskDuty.Window s) ∷ ds) p) _ (recalls_all _ _ refl) refl; follows = λ n f. f }
+  answered_goes k (Duty.Send (SendDuty.Update s)) other ds r p = record { recalls = side_recalls s _ (with_agenda (Duty.Send (SendDuty.Update s) ∷ ds) p) _ (recalls_all _ _ refl) refl; follows = λ n f. f }
+  answered_goes k (Duty.Send (SendDuty.FastClose s)) other ds r p = record { recalls = side_recalls s _ (with_agenda (Duty.Send (SendDuty.FastClose s) ∷ ds) p) _ (recalls_all _ _ refl) refl; follows = λ n f. f }
+  answered_goes k (Duty.Send (SendDuty.Notice s)) other ds r p = record { recalls = side_recalls s _ (with_agenda (Duty.Send (SendDuty.Notice s) ∷ ds) p) _ (recalls_all _ _ refl) refl; follows = λ n f. f }
+  answered_goes k (Duty.Send (SendDuty.Syn s)) other ds r p = record { recalls = side_recalls s _ (with_agenda (Duty.Send (SendDuty.Syn s) ∷ ds) p) _ (recalls_all _ _ refl) refl; follows = λ n f. f }
+  answered_goes k (Duty.Send (SendDuty.DataFin s)) other ds r p = record { recalls = side_recalls s _ (with_agenda (Duty.Send (SendDuty.DataFin s) ∷ ds) p) _ (recalls_all _ _ refl) refl; follows = λ n f. f }
+  answered_goes k (Duty.Send (SendDuty.Fin s)) other ds r p = record { recalls = side_recalls s _ (with_agenda (Duty.Send (SendDuty.Fin s) ∷ ds) p) _ (recalls_all _ _ refl) refl; follows = λ n f. f }
+  answered_goes k (Duty.Ask (AskDuty.PeerKey s)) other ds r p = key_goes s (key_heard (end_at s p).treated.items) ds r p
+  answered_goes k (Duty.Send (SendDuty.SynAck s)) other ds r p = record { recalls = side_recalls s _ (with_agenda (Duty.Send (SendDuty.SynAck s) ∷ ds) p) _ (recalls_all _ _ refl) refl; follows = λ n f. f }
+  answered_goes k (Duty.Send (SendDuty.Refuse s)) other ds r p = record { recalls = side_recalls s _ (with_agenda (Duty.Send (SendDuty.Refuse s) ∷ ds) p) _ (recalls_all _ _ refl) refl; follows = λ n f. f }
+  answered_goes k (Duty.Ask (AskDuty.Opened s)) other ds r p = opened_goes s (keys_heard (end_at s p).treated.items) ds r p
+  answered_goes k (Duty.Ask (AskDuty.AckOut s)) other ds r p = record { recalls = side_recalls s _ (with_agenda (Duty.Ask (AskDuty.AckOut s) ∷ ds) p) _ (recalls_all _ _ refl) refl; follows = λ n f. f }
+  answered_goes k (Duty.Ask (AskDuty.Rate s)) other ds r p = record { recalls = side_recalls s _ (with_agenda (Duty.Ask (AskDuty.Rate s) ∷ ds) p) _ (recalls_all _ _ refl) refl; follows = λ n f. f }
+  answered_goes k (Duty.Send (SendDuty.Acknowledge s)) other ds r p = record { recalls = side_recalls s _ (with_agenda (Duty.Send (SendDuty.Acknowledge s) ∷ ds) p) _ (recalls_all _ _ refl) refl; follows = λ n f. f }
+  answered_goes k (Duty.Send (SendDuty.Again s)) other ds r p = record { recalls = side_recalls s _ (with_agenda (Duty.Send (SendDuty.Again s) ∷ ds) p) _ (recalls_all _ _ refl) refl; follows = λ n f. f }
+  answered_goes k (Duty.Send (SendDuty.Answer s)) other ds r p = record { recalls = side_recalls s _ (with_agenda (Duty.Send (SendDuty.Answer s) ∷ ds) p) _ (recalls_all _ _ refl) refl; follows = λ n f. f }
+  answered_goes k (Duty.Send (SendDuty.ResetAnswer s)) other ds r p = record { recalls = side_recalls s _ (with_agenda (Duty.Send (SendDuty.ResetAnswer s) ∷ ds) p) _ (recalls_all _ _ refl) refl; follows = λ n f. f }
+  answered_goes k (Duty.Send (SendDuty.Resend s)) other ds r p = record { recalls = side_recalls s _ (with_agenda (Duty.Send (SendDuty.Resend s) ∷ ds) p) _ (recalls_all _ _ refl) refl; follows = λ n f. f }
+  answered_goes k (Duty.Silent (SilentDuty.Timer s)) other ds r p = record { recalls = recalls_all _ _ refl; follows = λ n f. f }
+  answered_goes k (Duty.Ask (AskDuty.LeaveNoted s)) other ds r p = record { recalls = side_recalls s _ (with_agenda (Duty.Ask (AskDuty.LeaveNoted s) ∷ ds) p) _ (forgets _ _ refl) refl; follows = λ n f. f }
+  answered_goes k Duty.End other ds r p = record { recalls = recalls_all _ _ refl; follows = λ n f. tt }
+  answered_goes k (Duty.Ask (AskDuty.BreakAck s reason)) other ds r p = record { recalls = side_recalls s _ (with_agenda (Duty.Ask (AskDuty.BreakAck s reason) ∷ ds) p) _ (recalls_all _ _ refl) refl; follows = λ n f. tt }
+  answered_goes k (Duty.Send (SendDuty.BreakReset s reason)) other ds r p = record { recalls = side_recalls s _ (with_agenda (Duty.Send (SendDuty.BreakReset s reason) ∷ ds) p) _ (forgets _ _ refl) refl; follows = λ n f. tt }
+  answered_goes k (Duty.Send (SendDuty.Reset s)) other ds r p = record { recalls = side_recalls s _ (with_agenda (Duty.Send (SendDuty.Reset s) ∷ ds) p) _ (forgets _ _ refl) refl; follows = λ n f. f }
+  answered_goes k (Duty.Send (SendDuty.ResetNoted s)) other ds r p = record { recalls = side_recalls s _ (with_agenda (Duty.Send (SendDuty.ResetNoted s) ∷ ds) p) _ (forgets _ _ refl) refl; follows = λ n f. f }
+  answered_goes k (Duty.Step StepDuty.Events) other ds r p = absurd other
+  answered_goes k (Duty.Ask AskDuty.JoinAgain) other ds r p = begun_goes r ds p
+  answered_goes k (Duty.Step (StepDuty.Data s)) other ds r p = data_goes k s r ds p (first_unsent (end_at s p))
+  answered_goes k (Duty.Ask (AskDuty.JoinHeard s)) other ds r p = join_goes s (keys_begun r) (asked_at s p) r ds p
+  answered_goes k (Duty.Step (StepDuty.PlainAck s)) other ds r p = plain_ack_goes k s ds r p
+  answered_goes k (Duty.Ask (AskDuty.PlainHandshake s)) other ds r p = event_goes s (Duty.Ask (AskDuty.PlainHandshake s)) FallEvent.PlainHandshake ds r p (λ n f. f)
+  answered_goes k (Duty.Ask (AskDuty.PlainData s)) other ds r p = event_goes s (Duty.Ask (AskDuty.PlainData s)) FallEvent.PlainData ds r p (λ n f. f)
+  answered_goes k (Duty.Ask (AskDuty.SubflowAck s)) other ds r p = record { recalls = side_recalls s _ (with_agenda (Duty.Ask (AskDuty.SubflowAck s) ∷ ds) p) _ (recalls_all _ _ refl) refl; follows = λ n f. f }
+  answered_goes k (Duty.Ask (AskDuty.GoIdentity s)) other ds r p = record { recalls = side_recalls s _ (with_agenda (Duty.Ask (AskDuty.GoIdentity s) ∷ ds) p) _ (recalls_all _ _ refl) refl; follows = λ n f. f }
+  answered_goes k (Duty.Step (StepDuty.Unmapped s)) other ds r p = break_goes k (Duty.Step (StepDuty.Unmapped s)) s 6 r ds (with_agenda (Duty.Step (StepDuty.Unmapped s) ∷ ds) p)
+  answered_goes k (Duty.Ask (AskDuty.SubflowFin s)) other ds r p = plain_fin_goes s ds p (is_fin_set r)
+  answered_goes k (Duty.Ask (AskDuty.Edge s)) other ds r p = piece_goes s ds p (piece_of s p) (is_placed r)
+  answered_goes k (Duty.Ask (AskDuty.CheckFailed s)) other ds r p = record {
+    recalls = side_recalls s (after_check_failed p.profile.spelling.checksums r (end_at s p)) (with_agenda (Duty.Ask (AskDuty.CheckFailed s) ∷ ds) p) _
         (check_failed_so (λ f. Recalls (end_at s p) f) p.profile.spelling.checksums r (end_at s p) (λ told broken recv forgotten. recalls_all _ _ refl)) refl;
-    follows = λ n f. fell_follows s (duties.Ask (ask_duties.CheckFailed s)) ds r p n f;
+    follows = λ n f. fell_follows s (Duty.Ask (AskDuty.CheckFailed s)) ds r p n f;
   }
-  answered_goes k (duties.Ask (ask_duties.FailHeard s)) other ds r p = record {
-    recalls = side_recalls s (after_fail_heard r (end_at s p)) (with_agenda (duties.Ask (ask_duties.FailHeard s) ∷ ds) p) _
+  answered_goes k (Duty.Ask (AskDuty.FailHeard s)) other ds r p = record {
+    recalls = side_recalls s (after_fail_heard r (end_at s p)) (with_agenda (Duty.Ask (AskDuty.FailHeard s) ∷ ds) p) _
         (fail_heard_so (λ f. Recalls (end_at s p) f) r (end_at s p) (λ own owes. recalls_all _ _ refl)) refl;
-    follows = λ n f. fell_follows s (duties.Ask (ask_duties.FailHeard s)) ds r p n f;
+    follows = λ n f. fell_follows s (Duty.Ask (AskDuty.FailHeard s)) ds r p n f;
   }
-  answered_goes k (duties.Ask (ask_duties.HeardFin s index)) other ds r p = fin_goes s index ds p (is_fin_set r)
-  answered_goes k (duties.Ask (ask_duties.AckHeard A)) other ds r p = event_goes A (duties.Ask (ask_duties.AckHeard A)) events.AckHeard ds r p (λ n f. absurd f)
-  answered_goes k (duties.Ask (ask_duties.AckHeard B)) other ds r p = event_goes B (duties.Ask (ask_duties.AckHeard B)) events.AckHeard ds r p (λ n f. f)
-  answered_goes k (duties.Step (step_duties.Heard A index)) other ds r p = absurd other
-  answered_goes k (duties.Step (step_duties.Heard B index)) other ds r p = heard_goes k index ds r p (item_of index p.b)
+  answered_goes k (Duty.Ask (AskDuty.HeardFin s index)) other ds r p = fin_goes s index ds p (is_fin_set r)
+  answered_goes k (Duty.Ask (AskDuty.AckHeard A)) other ds r p = event_goes A (Duty.Ask (AskDuty.AckHeard A)) FallEvent.AckHeard ds r p (λ n f. absurd f)
+  answered_goes k (Duty.Ask (AskDuty.AckHeard B)) other ds r p = event_goes B (Duty.Ask (AskDuty.AckHeard B)) FallEvent.AckHeard ds r p (λ n f. f)
+  answered_goes k (Duty.Step (StepDuty.Heard A index)) other ds r p = absurd other
+  answered_goes k (Duty.Step (StepDuty.Heard B index)) other ds r p = heard_goes k index ds r p (item_of index p.b)
   answered_goes k _ other ds r p = record { recalls = recalls_all _ _ refl; follows = λ n f. f }
 
   -- a thing that was said to A
   heard_recalls : (k : Codec C) (index : ℕ) (ds : List Duty) (r : Reply) (p : PathState C) (o : Option Heard)
-      → let m = with_agenda (duties.Step (step_duties.Heard A index) ∷ ds) p in let q = answered_item k A o r m in Recalls p.a q.a
+      → let m = with_agenda (Duty.Step (StepDuty.Heard A index) ∷ ds) p in let q = answered_item k A o r m in Recalls p.a q.a
   heard_recalls k index ds r p None = recalls_all _ _ refl
-  heard_recalls k index ds r p (Some says.Dss) = recalls_all _ _ refl
-  heard_recalls k index ds r p (Some (says.DataAck next window)) = recalls_all _ _ refl
-  heard_recalls k index ds r p (Some (says.Mapping fin)) = by (is_clash p.a) p.a.treated.asked
+  heard_recalls k index ds r p (Some Heard.Dss) = recalls_all _ _ refl
+  heard_recalls k index ds r p (Some (Heard.DataAck next window)) = recalls_all _ _ refl
+  heard_recalls k index ds r p (Some (Heard.Mapping fin)) = by (is_clash p.a) p.a.treated.asked
     where
-      by : (clash asked : Bool) → let m = with_agenda (duties.Step (step_duties.Heard A index) ∷ ds) p in
-          Recalls p.a (if clash then (if asked then answered_ack_out A r (resets A 1) m else reset_on k A (Some 1) (leaves A) m) else goes_on A (with_learned (after_fell events.MappingHeard r p.a)) (fell_duties A r m) m).a
+      by : (clash asked : Bool) → let m = with_agenda (Duty.Step (StepDuty.Heard A index) ∷ ds) p in
+          Recalls p.a (if clash then (if asked then answered_ack_out A r (resets A 1) m else reset_on k A (Some 1) (leaves A) m) else goes_on A (with_learned (after_fell FallEvent.MappingHeard r p.a)) (fell_duties A r m) m).a
       by true true = recalls_all _ _ refl
       by true false = forgets _ _ refl
       by false asked = recalls_all _ _ refl
-  heard_recalls k index ds r p (Some (says.DataFin place)) = recalls_all _ _ refl
-  heard_recalls k index ds r p (Some (says.InfiniteMapping place position)) = infinite_came_so (λ f. Recalls p.a f) place position r p.a (λ other. recalls_all _ _ refl)
-  heard_recalls k index ds r p (Some (says.PeerKey key)) = recalls_all _ _ refl
-  heard_recalls k index ds r p (Some (says.Keys own peer)) = recalls_all _ _ refl
-  heard_recalls k index ds r p (Some (says.Join form)) = recalls_all _ _ refl
-  heard_recalls k index ds r p (Some (says.Notice notice)) = recalls_all _ _ refl
-  heard_recalls k index ds r p (Some says.Fail) =
-      fail_answered_so (λ q. Recalls p.a q.a) A r (with_agenda (duties.Step (step_duties.Heard A index) ∷ ds) p) (recalls_all _ _ refl) (recalls_all _ _ refl)
-  heard_recalls k index ds r p (Some (says.FastClose key)) = recalls_all _ _ refl
+  heard_recalls k index ds r p (Some (Heard.DataFin place)) = recalls_all _ _ refl
+  heard_recalls k index ds r p (Some (Heard.InfiniteMapping place position)) = infinite_came_so (λ f. Recalls p.a f) place position r p.a (λ other. recalls_all _ _ refl)
+  heard_recalls k index ds r p (Some (Heard.PeerKey key)) = recalls_all _ _ refl
+  heard_recalls k index ds r p (Some (Heard.Keys own peer)) = recalls_all _ _ refl
+  heard_recalls k index ds r p (Some (Heard.Join form)) = recalls_all _ _ refl
+  heard_recalls k index ds r p (Some (Heard.Notice notice)) = recalls_all _ _ refl
+  heard_recalls k index ds r p (Some Heard.Fail) =
+      fail_answered_so (λ q. Recalls p.a q.a) A r (with_agenda (Duty.Step (StepDuty.Heard A index) ∷ ds) p) (recalls_all _ _ refl) (recalls_all _ _ refl)
+  heard_recalls k index ds r p (Some (Heard.FastClose key)) = recalls_all _ _ refl
 
   -- while A's end isn't clear it is none that a DSS says
   heard_unclear : (k : Codec C) (index : ℕ) (ds : List Duty) (r : Reply) (p : PathState C) → p.a.modes.identity ≡ false → (o : Option Heard) → item_at index p.a.treated.items ≡ o → item_stands o p.a ≡ true → Led false p.a.treated.items
-      → IsUnclear (duties.Step (step_duties.Heard A index) ∷ ds) p → let m = with_agenda (duties.Step (step_duties.Heard A index) ∷ ds) p in let q = answered_item k A o r m in (q.a.modes.clear ≡ true) ⊎ IsUnclear q.agenda q
+      → IsUnclear (Duty.Step (StepDuty.Heard A index) ∷ ds) p → let m = with_agenda (Duty.Step (StepDuty.Heard A index) ∷ ds) p in let q = answered_item k A o r m in (q.a.modes.clear ≡ true) ⊎ IsUnclear q.agenda q
   heard_unclear k index ds r p above None is stands_so led u =
       inr (record { n = suc u.n; none = inr (no_more u.n p.a.treated.items (unheard p u.n above u.none) (subst (λ n. item_at n p.a.treated.items ≡ None) u.follows.0 is)); follows = u.follows.1 })
-  heard_unclear k index ds r p above (Some says.Dss) is stands_so led u = absurd (false≢true stands_so)
-  heard_unclear k index ds r p above (Some (says.DataAck next window)) is stands_so led u =
-      absurd (false≢true (unled u.n p.a.treated.items (says.DataAck next window) led (unheard p u.n above u.none) (subst (λ n. item_at n p.a.treated.items ≡ Some (says.DataAck next window)) u.follows.0 is)))
-  heard_unclear k index ds r p above (Some (says.Mapping fin)) is stands_so led u =
-      absurd (false≢true (unled u.n p.a.treated.items (says.Mapping fin) led (unheard p u.n above u.none) (subst (λ n. item_at n p.a.treated.items ≡ Some (says.Mapping fin)) u.follows.0 is)))
-  heard_unclear k index ds r p above (Some (says.DataFin place)) is stands_so led u =
-      absurd (false≢true (unled u.n p.a.treated.items (says.DataFin place) led (unheard p u.n above u.none) (subst (λ n. item_at n p.a.treated.items ≡ Some (says.DataFin place)) u.follows.0 is)))
-  heard_unclear k index ds r p above (Some (says.InfiniteMapping place position)) is stands_so led u =
-      absurd (false≢true (unled u.n p.a.treated.items (says.InfiniteMapping place position) led (unheard p u.n above u.none) (subst (λ n. item_at n p.a.treated.items ≡ Some (says.InfiniteMapping place position)) u.follows.0 is)))
-  heard_unclear k index ds r p above (Some (says.PeerKey key)) is stands_so led u =
-      inr (record { n = suc u.n; none = inr (one_more u.n p.a.treated.items (says.PeerKey key) (unheard p u.n above u.none) (subst (λ n. item_at n p.a.treated.items ≡ Some (says.PeerKey key)) u.follows.0 is) refl); follows = u.follows.1 })
-  heard_unclear k index ds r p above (Some (says.Keys own peer)) is stands_so led u =
-      inr (record { n = suc u.n; none = inr (one_more u.n p.a.treated.items (says.Keys own peer) (unheard p u.n above u.none) (subst (λ n. item_at n p.a.treated.items ≡ Some (says.Keys own peer)) u.follows.0 is) refl); follows = u.follows.1 })
-  heard_unclear k index ds r p above (Some (says.Join form)) is stands_so led u =
-      inr (record { n = suc u.n; none = inr (one_more u.n p.a.treated.items (says.Join form) (unheard p u.n above u.none) (subst (λ n. item_at n p.a.treated.items ≡ Some (says.Join form)) u.follows.0 is) refl); follows = u.follows.1 })
-  heard_unclear k index ds r p above (Some (says.Notice notice)) is stands_so led u =
-      inr (record { n = suc u.n; none = inr (one_more u.n p.a.treated.items (says.Notice notice) (unheard p u.n above u.none) (subst (λ n. item_at n p.a.treated.items ≡ Some (says.Notice notice)) u.follows.0 is) refl); follows = u.follows.1 })
-  heard_unclear k index ds r p above (Some says.Fail) is stands_so led u =
-      fail_answered_so (λ q. (q.a.modes.clear ≡ true) ⊎ IsUnclear q.agenda q) A r (with_agenda (duties.Step (step_duties.Heard A index) ∷ ds) p)
+  heard_unclear k index ds r p above (Some Heard.Dss) is stands_so led u = absurd (false≢true stands_so)
+  heard_unclear k index ds r p above (Some (Heard.DataAck next window)) is stands_so led u =
+      absurd (false≢true (unled u.n p.a.treated.items (Heard.DataAck next window) led (unheard p u.n above u.none) (subst (λ n. item_at n p.a.treated.items ≡ Some (Heard.DataAck next window)) u.follows.0 is)))
+  heard_unclear k index ds r p above (Some (Heard.Mapping fin)) is stands_so led u =
+      absurd (false≢true (unled u.n p.a.treated.items (Heard.Mapping fin) led (unheard p u.n above u.none) (subst (λ n. item_at n p.a.treated.items ≡ Some (Heard.Mapping fin)) u.follows.0 is)))
+  heard_unclear k index ds r p above (Some (Heard.DataFin place)) is stands_so led u =
+      absurd (false≢true (unled u.n p.a.treated.items (Heard.DataFin place) led (unheard p u.n above u.none) (subst (λ n. item_at n p.a.treated.items ≡ Some (Heard.DataFin place)) u.follows.0 is)))
+  heard_unclear k index ds r p above (Some (Heard.InfiniteMapping place position)) is stands_so led u =
+      absurd (false≢true (unled u.n p.a.treated.items (Heard.InfiniteMapping place position) led (unheard p u.n above u.none) (subst (λ n. item_at n p.a.treated.items ≡ Some (Heard.InfiniteMapping place position)) u.follows.0 is)))
+  heard_unclear k index ds r p above (Some (Heard.PeerKey key)) is stands_so led u =
+      inr (record { n = suc u.n; none = inr (one_more u.n p.a.treated.items (Heard.PeerKey key) (unheard p u.n above u.none) (subst (λ n. item_at n p.a.treated.items ≡ Some (Heard.PeerKey key)) u.follows.0 is) refl); follows = u.follows.1 })
+  heard_unclear k index ds r p above (Some (Heard.Keys own peer)) is stands_so led u =
+      inr (record { n = suc u.n; none = inr (one_more u.n p.a.treated.items (Heard.Keys own peer) (unheard p u.n above u.none) (subst (λ n. item_at n p.a.treated.items ≡ Some (Heard.Keys own peer)) u.follows.0 is) refl); follows = u.follows.1 })
+  heard_unclear k index ds r p above (Some (Heard.Join form)) is stands_so led u =
+      inr (record { n = suc u.n; none = inr (one_more u.n p.a.treated.items (Heard.Join form) (unheard p u.n above u.none) (subst (λ n. item_at n p.a.treated.items ≡ Some (Heard.Join form)) u.follows.0 is) refl); follows = u.follows.1 })
+  heard_unclear k index ds r p above (Some (Heard.Notice notice)) is stands_so led u =
+      inr (record { n = suc u.n; none = inr (one_more u.n p.a.treated.items (Heard.Notice notice) (unheard p u.n above u.none) (subst (λ n. item_at n p.a.treated.items ≡ Some (Heard.Notice notice)) u.follows.0 is) refl); follows = u.follows.1 })
+  heard_unclear k index ds r p above (Some Heard.Fail) is stands_so led u =
+      fail_answered_so (λ q. (q.a.modes.clear ≡ true) ⊎ IsUnclear q.agenda q) A r (with_agenda (Duty.Step (StepDuty.Heard A index) ∷ ds) p)
       (inr (record { n = suc u.n; none = inr one; follows = u.follows.1 }))
-      (inr (record { n = suc u.n; none = inr one; follows = fell_follows A (duties.Step (step_duties.Heard A index)) ds r p (suc u.n) u.follows.1 }))
+      (inr (record { n = suc u.n; none = inr one; follows = fell_follows A (Duty.Step (StepDuty.Heard A index)) ds r p (suc u.n) u.follows.1 }))
     where
       one : NoneBefore (suc u.n) p.a.treated.items
-      one = one_more u.n p.a.treated.items says.Fail (unheard p u.n above u.none) (subst (λ n. item_at n p.a.treated.items ≡ Some says.Fail) u.follows.0 is) refl
-  heard_unclear k index ds r p above (Some (says.FastClose key)) is stands_so led u =
-      inr (record { n = suc u.n; none = inr (one_more u.n p.a.treated.items (says.FastClose key) (unheard p u.n above u.none) (subst (λ n. item_at n p.a.treated.items ≡ Some (says.FastClose key)) u.follows.0 is) refl); follows = stopped_follows A (is_stopped_by r) (suc u.n) ds u.follows.1 })
+      one = one_more u.n p.a.treated.items Heard.Fail (unheard p u.n above u.none) (subst (λ n. item_at n p.a.treated.items ≡ Some Heard.Fail) u.follows.0 is) refl
+  heard_unclear k index ds r p above (Some (Heard.FastClose key)) is stands_so led u =
+      inr (record { n = suc u.n; none = inr (one_more u.n p.a.treated.items (Heard.FastClose key) (unheard p u.n above u.none) (subst (λ n. item_at n p.a.treated.items ≡ Some (Heard.FastClose key)) u.follows.0 is) refl); follows = stopped_follows A (is_stopped_by r) (suc u.n) ds u.follows.1 })
 
   -- any other duty
   other_leads : (k : Codec C) (d : Duty) → IsOther d → (ds : List Duty) (r : Reply) (p : PathState C) → Leads (d ∷ ds) (with_agenda (d ∷ ds) p)
@@ -692,26 +604,26 @@ module _ {C : Type 0} where
 
   answered_leads : (k : Codec C) (d : Duty) (ds : List Duty) (r : Reply) (p : PathState C) → stands d (with_agenda (d ∷ ds) p) ≡ true → Leads (d ∷ ds) (with_agenda (d ∷ ds) p)
       → let q = answered k d r (with_agenda (d ∷ ds) p) in Leads q.agenda q
-  answered_leads k (duties.Step step_duties.Events) ds r p is h = happens_anew k (next_event p) r (with_agenda ((duties.Step step_duties.Events) ∷ ds) p) h.led
-  answered_leads k (duties.Step (step_duties.Heard A index)) ds r p is h =
-      let m : PathState C = with_agenda (duties.Step (step_duties.Heard A index) ∷ ds) p in
+  answered_leads k (Duty.Step StepDuty.Events) ds r p is h = happens_anew k (next_event p) r (with_agenda ((Duty.Step StepDuty.Events) ∷ ds) p) h.led
+  answered_leads k (Duty.Step (StepDuty.Heard A index)) ds r p is h =
+      let m : PathState C = with_agenda (Duty.Step (StepDuty.Heard A index) ∷ ds) p in
       record {
         led = recalled_led p.a (answered_item k A (item_of index p.a) r m).a (heard_recalls k index ds r p (item_of index p.a)) h.led;
         clear = ⊎_elim
-            (λ is_clear. inl ((answered_clear k (duties.Step (step_duties.Heard A index)) r m).a.0 is_clear))
-            (λ (u : IsUnclear (duties.Step (step_duties.Heard A index) ∷ ds) m). by p.a.modes.identity refl is (record { n = u.n; none = u.none; follows = u.follows }))
+            (λ is_clear. inl ((answered_clear k (Duty.Step (StepDuty.Heard A index)) r m).a.0 is_clear))
+            (λ (u : IsUnclear (Duty.Step (StepDuty.Heard A index) ∷ ds) m). by p.a.modes.identity refl is (record { n = u.n; none = u.none; follows = u.follows }))
             h.clear;
       }
     where
-      by : (b : Bool) → p.a.modes.identity ≡ b → item_stands (if b then None else item_at index p.a.treated.items) p.a ≡ true → IsUnclear (duties.Step (step_duties.Heard A index) ∷ ds) p
-          → let m = with_agenda (duties.Step (step_duties.Heard A index) ∷ ds) p in let q = answered_item k A (if b then None else item_at index p.a.treated.items) r m in (q.a.modes.clear ≡ true) ⊎ IsUnclear q.agenda q
+      by : (b : Bool) → p.a.modes.identity ≡ b → item_stands (if b then None else item_at index p.a.treated.items) p.a ≡ true → IsUnclear (Duty.Step (StepDuty.Heard A index) ∷ ds) p
+          → let m = with_agenda (Duty.Step (StepDuty.Heard A index) ∷ ds) p in let q = answered_item k A (if b then None else item_at index p.a.treated.items) r m in (q.a.modes.clear ≡ true) ⊎ IsUnclear q.agenda q
       by true plain stands_so u = absurd (false≢true stands_so)
       by false above stands_so u = heard_unclear k index ds r p above (item_at index p.a.treated.items) refl stands_so h.led u
-  answered_leads k (duties.Send (send_duties.Update s)) ds r p is h = other_leads k (duties.Send (send_duties.Update s)) tt ds r p h
-  answered_leads k (duties.Silent (silent_duties.Timer s)) ds r p is h = other_leads k (duties.Silent (silent_duties.Timer s)) tt ds r p h
-  answered_leads k (duties.Ask (ask_duties.AckHeard A)) ds r p is h = other_leads k (duties.Ask (ask_duties.AckHeard A)) tt ds r p h
-  answered_leads k (duties.Ask (ask_duties.AckHeard B)) ds r p is h = other_leads k (duties.Ask (ask_duties.AckHeard B)) tt ds r p h
-  answered_leads k (duties.Step (step_duties.Heard B index)) ds r p is h = other_leads k (duties.Step (step_duties.Heard B index)) tt ds r p h
+  answered_leads k (Duty.Send (SendDuty.Update s)) ds r p is h = other_leads k (Duty.Send (SendDuty.Update s)) tt ds r p h
+  answered_leads k (Duty.Silent (SilentDuty.Timer s)) ds r p is h = other_leads k (Duty.Silent (SilentDuty.Timer s)) tt ds r p h
+  answered_leads k (Duty.Ask (AskDuty.AckHeard A)) ds r p is h = other_leads k (Duty.Ask (AskDuty.AckHeard A)) tt ds r p h
+  answered_leads k (Duty.Ask (AskDuty.AckHeard B)) ds r p is h = other_leads k (Duty.Ask (AskDuty.AckHeard B)) tt ds r p h
+  answered_leads k (Duty.Step (StepDuty.Heard B index)) ds r p is h = other_leads k (Duty.Step (StepDuty.Heard B index)) tt ds r p h
   answered_leads k d ds r p is h = other_leads k d tt ds r p h
 
   -- a path on which each sign of Multipath TCP that A hears comes behind a DSS

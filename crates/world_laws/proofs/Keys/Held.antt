@@ -1,109 +1,57 @@
 -- What the ends of a path know of keys and nonces, and hear of them, and how they go on.
-use Rattle.std.proofs.Common.{◌≡◌, refl, sym, ◌∙◌, ap, subst, ℕ, zero, suc, ◌+◌, ◌==◌, not, ◌||◌, Bool, true, false, if◌then◌else◌, Option, Some, None, Ok, Err, List, [], ◌∷◌, remove}
-use Rattle.std.proofs.lemmas.Bool.{both_ways, false≢true}
-use Rattle.std.specs.List.{slice_get}
-use Rattle.std.specs.Option.{IfSome, option_or}
-use Rattle.std.specs.Result.{result_ok}
-use Rattle.sides.specs.declared.side.Side.{Side}
-use Rattle.sides.specs.declared.side.Side.TheVariants.{A, B}
-use Rattle.sides.specs.Side.{peer}
-use Rattle.fallback_state.specs.declared.fall.Verdict.{Verdict}
-use Rattle.fallback_state.specs.declared.fall.Verdict.TheVariants as verdicts
-use Rattle.link_script.specs.Places.{same_side}
-use Rattle.link_model.specs.declared.flight.Flight.{Flight}
-use Rattle.link_model.specs.Fate.{is_stripped, is_altered, fate_of}
-use Rattle.link_model.specs.Steps.{arrivals, changed, next_number}
-use Rattle.key_material.specs.JoinHmac.{join_b64_of}
-use Rattle.key_material.specs.KeyDigest.{token_of}
-use Rattle.key_material.specs.declared.address.Address.{Address}
-use Rattle.mptcp_options.specs.declared.capable.CapableKeys.{CapableKeys}
-use Rattle.mptcp_options.specs.declared.capable.CapableKeys.TheVariants.{NoKey, Sender, Both, WithData}
-use Rattle.mptcp_options.specs.declared.join.JoinForm.{JoinForm}
-use Rattle.mptcp_options.specs.declared.join.JoinForm.TheVariants.{Syn as JoinSyn, Answer, Third}
-use Rattle.join_handshake.specs.declared.hearing.JoinAnswer.{JoinAnswer}
-use Rattle.join_handshake.specs.declared.hearing.JoinSyn.{JoinSyn as Asked}
-use Rattle.join_handshake.specs.declared.fault.JoinFault.TheVariants.{BadHmac}
-use Rattle.path_segments.specs.declared.segment.PathOption.TheVariants.{Capable, Join, Dss, AddAddr, Remove, Prio, Fail, FastClose, Reset}
-use Rattle.path_segments.specs.Options.{PlainOption}
-use Rattle.path_segments.specs.Spelled.{PlainSegment}
-use Rattle.subflow_tcp.specs.declared.handshake.State.{State as EndPhase}
-use Rattle.subflow_tcp.specs.declared.handshake.State.TheVariants as phase
-use Rattle.subflow_tcp.specs.States.{is_dead, is_opening, is_waiting, is_closed_to_segments, may_finish}
-use Rattle.subflow_tcp.specs.Opening.{after_begin}
-use Rattle.subflow_tcp.specs.Taking.{after_syn, unkept}
-use Rattle.fallback_state.specs.declared.fall.Event.{Event as FallEvent}
-use Rattle.fallback_state.specs.declared.fall.Event.TheVariants as fall
-use Rattle.control_book.specs.declared.call.ControlReply.{ControlReply}
-use Rattle.control_book.specs.declared.call.ControlReply.TheVariants as control_replies
-use Rattle.stream_lanes.specs.Words.{Every}
-use Rattle.stream_lanes.proofs.Lists.{Every-nil}
-use Rattle.actor_desk.specs.declared.ask.Reply.{Reply}
-use Rattle.actor_desk.specs.declared.ask.Reply.TheVariants as replies
-use Rattle.path_agenda.specs.Words.{replaced}
-use Rattle.path_agenda.specs.declared.duty.Duty.{Duty}
-use Rattle.path_agenda.specs.declared.heard.Heard.{Heard}
-use Rattle.path_agenda.specs.declared.heard.Heard.TheVariants as says
-use Rattle.path_agenda.specs.declared.heard.JoinStep.{JoinStep}
-use Rattle.path_agenda.specs.declared.heard.JoinStep.TheVariants as step
-use Rattle.path_agenda.specs.declared.keys.KeyPair.{KeyPair}
-use Rattle.path_agenda.specs.declared.notice.OwnNotice.{OwnNotice}
-use Rattle.path_agenda.specs.declared.notice.OwnNotice.TheVariants as own_notes
-use Rattle.path_agenda.specs.declared.notice.PeerNotice.{PeerNotice}
-use Rattle.path_agenda.specs.declared.notice.PeerNotice.TheVariants as peer_notes
-use Rattle.path_core.specs.declared.modes.Modes.{Modes}
-use Rattle.path_core.specs.End.{PathEnd, died}
-use Rattle.path_core.specs.Breaking.{died_unless_dead}
-use Rattle.path_agenda.specs.Items.{is_of_step, join_heard, key_heard, keys_heard}
-use Rattle.path_core.specs.MpJoin.{joined_by, opened_by, syn_alone, is_listening, with_mode_refused, is_joined, join_answer, join_asked, join_value, peer_key_of}
-use Rattle.path_core.specs.MpCapable.{after_keys, keys_in}
-use Rattle.path_core.specs.Handover.{sent_on}
-use Rattle.path_core.specs.Standing.{modes_told}
-use Rattle.path_core.specs.State.{PathState, end_at, with_end, with_agenda, goes_on, left}
-use Rattle.path_core.specs.Profile.{Profile}
-use Rattle.path_core.specs.Fallback.{mode_in, fell_in, after_fell}
-use Rattle.path_core.specs.Values.{Carried, as_arrived, carried_by, stripped, altered, values}
-use Rattle.join_handshake.specs.Heard.{answer_heard, answer_taken, syn_heard}
-use Rattle.world_laws.proofs.Keys.AreDrawn.{Deed, Secrets, KeysFor, AddressIs, NoteIs, PeerNoteIs, ShownBy, twice, of_b, told_in, is_past, known_in, OfB, IsFor, sure_if, drawn_key, drawn_nonce, JoinIs, OptionIs, SegmentIs, ItemIs, ModesAre, EndIs, HasMet, Knows, met_needs, same_knows, same_end}
+use Rattle.world_laws.proofs.Words.{◌≡◌, refl, sym, ◌∙◌, ap, subst, ℕ, zero, suc, ◌+◌, ◌||◌, ◌==◌, not, Bool, true, false, if◌then◌else◌, Option, Some, None}
+use Rattle.world_laws.proofs.Words.{Ok, Err, List, [], ◌∷◌, remove, both_ways, false≢true, slice_get, IfSome, option_or, result_ok, Verdict, FallEvent, Address}
+use Rattle.world_laws.proofs.Words.{token_of, join_b64_of, Side, A, B, peer, JoinForm, Answer, Third, CapableKeys, NoKey, Sender, Both, WithData, Asked}
+use Rattle.world_laws.proofs.Words.{JoinAnswer, BadHmac, answer_heard, answer_taken, syn_heard, ControlReply, is_closed_to_segments, is_opening, is_dead}
+use Rattle.world_laws.proofs.Words.{may_finish, is_waiting, EndPhase, after_syn, unkept, after_begin, arrivals, changed, next_number, Flight, is_stripped}
+use Rattle.world_laws.proofs.Words.{is_altered, fate_of, PlainOption, PlainSegment, Capable, Join, Dss, AddAddr, Fail, Duty, OwnNotice, Heard, KeyPair}
+use Rattle.world_laws.proofs.Words.{replaced, key_heard, keys_heard, is_of_step, join_heard, PeerNotice, JoinStep, Reply, PathEnd, died, modes_told, PathState}
+use Rattle.world_laws.proofs.Words.{end_at, goes_on, with_end, with_agenda, left, Carried, as_arrived, carried_by, stripped, altered, values, died_unless_dead}
+use Rattle.world_laws.proofs.Words.{is_listening, joined_by, opened_by, syn_alone, with_mode_refused, is_joined, join_answer, join_asked, peer_key_of}
+use Rattle.world_laws.proofs.Words.{join_value, after_fell, fell_in, mode_in, after_keys, keys_in, Profile, sent_on, Modes, Every-nil, Every, if_so}
+use Rattle.mptcp_options.specs.declared.join.JoinForm.TheVariants.{Syn as JoinSyn}
+use Rattle.path_segments.specs.declared.segment.PathOption.TheVariants.{FastClose}
+use Rattle.world_laws.proofs.Keys.AreDrawn.{Deed, Secrets, KeysFor, AddressIs, NoteIs, PeerNoteIs, ShownBy, twice, of_b, told_in, is_past, known_in, OfB, IsFor, drawn_key, drawn_nonce, JoinIs, OptionIs, SegmentIs, ItemIs, ModesAre, EndIs, HasMet, Knows, met_needs, same_knows, same_end}
 use Rattle.world_laws.proofs.Keys.WhatWakes.{NoWaking, Voice, is_said_by, speaks, tail_speaks}
 use Rattle.world_laws.proofs.Lanes.Saying.{flights_kept}
 
 -- ---- what a reply says of the modes leaves the keys
 
 pub look_leaves : (r : Reply) (m : Modes) → known_in (modes_told r m) ≡ known_in m
-look_leaves (replies.Send reply) m = refl
-look_leaves (replies.Reassembly reply) m = refl
-look_leaves replies.Done m = refl
-look_leaves (replies.Control reply) m = by reply
+look_leaves (Reply.Send reply) m = refl
+look_leaves (Reply.Reassembly reply) m = refl
+look_leaves Reply.Done m = refl
+look_leaves (Reply.Control reply) m = by reply
   where
-    by : (reply : ControlReply) → known_in (modes_told (replies.Control reply) m) ≡ known_in m
-    by (control_replies.Standing mode standby sole notice) = refl
-    by control_replies.Noted = refl
+    by : (reply : ControlReply) → known_in (modes_told (Reply.Control reply) m) ≡ known_in m
+    by (ControlReply.Standing mode standby sole notice) = refl
+    by ControlReply.Noted = refl
     by _ = refl
 
 pub verdict_leaves : (r : Reply) (m : Modes) → known_in (mode_in r m) ≡ known_in m
-verdict_leaves (replies.Send reply) m = refl
-verdict_leaves (replies.Reassembly reply) m = refl
-verdict_leaves replies.Done m = refl
-verdict_leaves (replies.Control reply) m = by reply
+verdict_leaves (Reply.Send reply) m = refl
+verdict_leaves (Reply.Reassembly reply) m = refl
+verdict_leaves Reply.Done m = refl
+verdict_leaves (Reply.Control reply) m = by reply
   where
-    by_verdict : (v : Verdict) → known_in (mode_in (replies.Control (control_replies.Verdict v)) m) ≡ known_in m
-    by_verdict (verdicts.Went mode) = refl
+    by_verdict : (v : Verdict) → known_in (mode_in (Reply.Control (ControlReply.Verdict v)) m) ≡ known_in m
+    by_verdict (Verdict.Went mode) = refl
     by_verdict _ = refl
 
-    by : (reply : ControlReply) → known_in (mode_in (replies.Control reply) m) ≡ known_in m
-    by (control_replies.Verdict v) = by_verdict v
-    by control_replies.Noted = refl
+    by : (reply : ControlReply) → known_in (mode_in (Reply.Control reply) m) ≡ known_in m
+    by (ControlReply.Verdict v) = by_verdict v
+    by ControlReply.Noted = refl
     by _ = refl
 
 pub fell_leaves : (event : FallEvent) (r : Reply) (m : Modes) → known_in (fell_in event r m) ≡ known_in m
-fell_leaves fall.PlainData r m = verdict_leaves r m
-fell_leaves fall.PlainAck r m = verdict_leaves r m
-fell_leaves fall.PlainHandshake r m = verdict_leaves r m
+fell_leaves FallEvent.PlainData r m = verdict_leaves r m
+fell_leaves FallEvent.PlainAck r m = verdict_leaves r m
+fell_leaves FallEvent.PlainHandshake r m = verdict_leaves r m
 fell_leaves _ r m = verdict_leaves r m
 
 -- both keys are noted
 abbrev pub is_noted : Reply → Bool
-is_noted (replies.Control control_replies.Noted) = true
+is_noted (Reply.Control ControlReply.Noted) = true
 is_noted _ = false
 
 -- ---- what is under way
@@ -117,14 +65,14 @@ in_removed (y ∷ xs) (suc i) (suc k) x is = let rest = in_removed xs i k x is i
 
 -- an end that opens is open
 pub opening_open : (state : EndPhase) → is_opening state ≡ true → is_closed_to_segments state ≡ false
-opening_open phase.SynSent is = refl
+opening_open EndPhase.SynSent is = refl
 opening_open _ is = absurd (false≢true is)
 
 -- an end that may finish is open
 pub finish_open : (state : EndPhase) → may_finish state ≡ true → is_closed_to_segments state ≡ false
-finish_open phase.Established is = refl
-finish_open phase.CloseWait is = refl
-finish_open phase.Waiting is = absurd (false≢true is)
+finish_open EndPhase.Established is = refl
+finish_open EndPhase.CloseWait is = refl
+finish_open EndPhase.Waiting is = absurd (false≢true is)
 finish_open _ is = absurd (false≢true is)
 
 pub not_closed : (b : Bool) → not b ≡ true → b ≡ false
@@ -133,14 +81,14 @@ not_closed true is = absurd (false≢true is)
 
 -- an event that a path tells: not both keys, and no end of the connection
 abbrev pub IsSign : FallEvent → Type 0
-IsSign fall.MappingHeard = Unit {0}
-IsSign fall.AckHeard = Unit {0}
-IsSign fall.PlainHandshake = Unit {0}
-IsSign fall.PlainData = Unit {0}
-IsSign fall.PlainAck = Unit {0}
-IsSign fall.InfiniteHeard = Unit {0}
-IsSign fall.CheckFailed = Unit {0}
-IsSign (fall.FailHeard contiguous) = Unit {0}
+IsSign FallEvent.MappingHeard = Unit {0}
+IsSign FallEvent.AckHeard = Unit {0}
+IsSign FallEvent.PlainHandshake = Unit {0}
+IsSign FallEvent.PlainData = Unit {0}
+IsSign FallEvent.PlainAck = Unit {0}
+IsSign FallEvent.InfiniteHeard = Unit {0}
+IsSign FallEvent.CheckFailed = Unit {0}
+IsSign (FallEvent.FailHeard contiguous) = Unit {0}
 IsSign _ = ⊥
 
 module _ (k : Secrets) (right : Bool) (w : Side → Type 0) (did : Deed → Side → Type 0) where
@@ -283,11 +231,7 @@ module _ (k : Secrets) (right : Bool) (w : Side → Type 0) (did : Deed → Side
 
   -- so does what arrives
   pub arrived_is : (c : Profile) (s : Side) (carried : Carried) → SegmentIs k right w did c s carried.segment → SegmentIs k right w did c s (as_arrived carried)
-  arrived_is c s carried h = by carried.stripped
-    where
-      by : (b : Bool) → SegmentIs k right w did c s (record carried.segment { options = (if b then [] else carried.segment.options) })
-      by true = Every-nil _
-      by false = h
+  arrived_is c s carried h = if_so (λ z. SegmentIs k right w did c s (record carried.segment { options = z })) carried.stripped [] carried.segment.options (Every-nil _) h
 
   pub sent_is : (s : Side) (segment : PlainSegment) (e : PathEnd) (ds : List Duty) (p : PathState Carried) → SegmentIs k right w did p.profile s segment
       → EndIs k right w did (is_joined p.profile) s e → Still s e p → Fewer p ds → Stays s e p → PathIs p → PathIs (sent_on values s segment e ds p)
@@ -342,11 +286,7 @@ module _ (k : Secrets) (right : Bool) (w : Side → Type 0) (did : Deed → Side
   refused_is joined s r e h = kept_end joined s e (with_mode_refused r e) refl refl (record { up = λ x. x; waits = λ x. x; past = λ x. x }) h
 
   pub unless_dead_is : (joined : Bool) (s : Side) (e : PathEnd) → EndIs k right w did joined s e → EndIs k right w did joined s (died_unless_dead e)
-  unless_dead_is joined s e h = by (is_dead e.tcp.state)
-    where
-      by : (b : Bool) → EndIs k right w did joined s (if b then e else died e)
-      by true = h
-      by false = died_is joined s e h
+  unless_dead_is joined s e h = if_so (EndIs k right w did joined s) (is_dead e.tcp.state) e (died e) h (died_is joined s e h)
 
   pub fell_is : (joined : Bool) (s : Side) (event : FallEvent) (r : Reply) (e : PathEnd) → EndIs k right w did joined s e → EndIs k right w did joined s (after_fell event r e)
   fell_is joined s event r e h = kept_end joined s e (after_fell event r e) (fell_leaves event r e.modes) refl (record { up = λ x. x; waits = λ x. x; past = λ x. x }) h
@@ -360,8 +300,8 @@ module _ (k : Secrets) (right : Bool) (w : Side → Type 0) (did : Deed → Side
       where
         by : (item : Heard) → ItemIs k right w did joined s item → IfSome (key_heard items) (λ key. key ≡ drawn_key k right (peer s))
             → IfSome (key_heard (item ∷ items)) (λ key. key ≡ drawn_key k right (peer s))
-        by (says.PeerKey key) own rest = own
-        by says.Dss own rest = rest
+        by (Heard.PeerKey key) own rest = own
+        by Heard.Dss own rest = rest
         by _ own rest = rest
 
     abbrev pub PairIs : Side → KeyPair → Type 0
@@ -372,8 +312,8 @@ module _ (k : Secrets) (right : Bool) (w : Side → Type 0) (did : Deed → Side
     pair_found s (item ∷ items) h = by item (h.each 0 item refl) (pair_found s items (record { each = λ i x at. h.each (suc i) x at }))
       where
         by : (item : Heard) → ItemIs k right w did joined s item → IfSome (keys_heard items) (PairIs s) → IfSome (keys_heard (item ∷ items)) (PairIs s)
-        by (says.Keys own other) pair rest = pair
-        by says.Dss pair rest = rest
+        by (Heard.Keys own other) pair rest = pair
+        by Heard.Dss pair rest = rest
         by _ pair rest = rest
 
     abbrev pub FormIs : Side → JoinForm → Type 0
@@ -389,8 +329,8 @@ module _ (k : Secrets) (right : Bool) (w : Side → Type 0) (did : Deed → Side
         form f false is rest = rest
 
         by : (item : Heard) → ItemIs k right w did joined s item → IfSome (join_heard of_step items) (FormIs s) → IfSome (join_heard of_step (item ∷ items)) (FormIs s)
-        by (says.Join f) is rest = form f (is_of_step of_step f) is rest
-        by says.Dss is rest = rest
+        by (Heard.Join f) is rest = form f (is_of_step of_step f) is rest
+        by Heard.Dss is rest = rest
         by _ is rest = rest
 
     -- what is asked for, and what is answered
@@ -418,7 +358,7 @@ module _ (k : Secrets) (right : Bool) (w : Side → Type 0) (did : Deed → Side
     asked_for s (Some (Third hmac)) is = tt
 
     pub asked_is : (s : Side) (items : List Heard) → Every (ItemIs k right w did joined s) items → IfSome (join_asked items) (AskedIs s)
-    asked_is s items h = asked_for s (join_heard step.Syn items) (join_found s step.Syn items h)
+    asked_is s items h = asked_for s (join_heard JoinStep.Syn items) (join_found s JoinStep.Syn items h)
 
     abbrev pub AnswerIs : Side → JoinAnswer → Type 0
     AnswerIs s answer = (s ≡ A) × (w (peer s) × (right ≡ true → answer.nonce ≡ drawn_nonce k right (peer s)))
@@ -439,7 +379,7 @@ module _ (k : Secrets) (right : Bool) (w : Side → Type 0) (did : Deed → Side
         by false = tt
 
     pub answer_is_right : (s : Side) (m : Modes) (items : List Heard) → Every (ItemIs k right w did joined s) items → IfSome (join_answer items m) (AnswerIs s)
-    answer_is_right s m items h = answered_so s m (join_heard step.Answer items) (join_found s step.Answer items h)
+    answer_is_right s m items h = answered_so s m (join_heard JoinStep.Answer items) (join_found s JoinStep.Answer items h)
 
   -- ---- an end learns
 
@@ -479,28 +419,28 @@ module _ (k : Secrets) (right : Bool) (w : Side → Type 0) (did : Deed → Side
   }
     where
       modes : (r : Reply) (o : Option KeyPair) → IfSome o (PairIs joined s) → (is_noted r ≡ true → did Deed.Keyed s) → ModesAre k right w did joined s (keys_in r o e.modes)
-      modes (replies.Send reply) o pair keyed = h.modes
-      modes (replies.Reassembly reply) o pair keyed = h.modes
-      modes replies.Done o pair keyed = h.modes
-      modes (replies.Control reply) o pair keyed = by reply o pair keyed
+      modes (Reply.Send reply) o pair keyed = h.modes
+      modes (Reply.Reassembly reply) o pair keyed = h.modes
+      modes Reply.Done o pair keyed = h.modes
+      modes (Reply.Control reply) o pair keyed = by reply o pair keyed
         where
-          by : (reply : ControlReply) (o : Option KeyPair) → IfSome o (PairIs joined s) → (is_noted (replies.Control reply) ≡ true → did Deed.Keyed s)
-              → ModesAre k right w did joined s (keys_in (replies.Control reply) o e.modes)
-          by control_replies.Noted (Some keys) pair keyed = rekeyed joined s keys.peer true e.modes pair.1.1 (λ joins now. never_joins joined _ pair.0 joins) (keyed refl) h.modes
-          by control_replies.Noted None pair keyed = h.modes
-          by control_replies.NotYet o pair keyed = h.modes
+          by : (reply : ControlReply) (o : Option KeyPair) → IfSome o (PairIs joined s) → (is_noted (Reply.Control reply) ≡ true → did Deed.Keyed s)
+              → ModesAre k right w did joined s (keys_in (Reply.Control reply) o e.modes)
+          by ControlReply.Noted (Some keys) pair keyed = rekeyed joined s keys.peer true e.modes pair.1.1 (λ joins now. never_joins joined _ pair.0 joins) (keyed refl) h.modes
+          by ControlReply.Noted None pair keyed = h.modes
+          by ControlReply.NotYet o pair keyed = h.modes
           by _ o pair keyed = h.modes
 
       knows : (r : Reply) (o : Option KeyPair) → IfSome o (PairIs joined s) → Knows k right w did s e.modes → Knows k right w did s (keys_in r o e.modes)
-      knows (replies.Send reply) o pair has = has
-      knows (replies.Reassembly reply) o pair has = has
-      knows replies.Done o pair has = has
-      knows (replies.Control reply) o pair has = by reply o pair
+      knows (Reply.Send reply) o pair has = has
+      knows (Reply.Reassembly reply) o pair has = has
+      knows Reply.Done o pair has = has
+      knows (Reply.Control reply) o pair has = by reply o pair
         where
-          by : (reply : ControlReply) (o : Option KeyPair) → IfSome o (PairIs joined s) → Knows k right w did s (keys_in (replies.Control reply) o e.modes)
-          by control_replies.Noted (Some keys) pair = rekeyed_knows s keys.peer true e.modes pair.1.1 has
-          by control_replies.Noted None pair = has
-          by control_replies.NotYet o pair = has
+          by : (reply : ControlReply) (o : Option KeyPair) → IfSome o (PairIs joined s) → Knows k right w did s (keys_in (Reply.Control reply) o e.modes)
+          by ControlReply.Noted (Some keys) pair = rekeyed_knows s keys.peer true e.modes pair.1.1 has
+          by ControlReply.Noted None pair = has
+          by ControlReply.NotYet o pair = has
           by _ o pair = has
 
   pub keys_stay : (s : Side) (r : Reply) (o : Option KeyPair) (p : PathState Carried) → IfSome o (PairIs (is_joined p.profile) s) → Stays s (after_keys r o (end_at s p)) p
@@ -510,15 +450,15 @@ module _ (k : Secrets) (right : Bool) (w : Side → Type 0) (did : Deed → Side
       m = (end_at s p).modes
 
       knows : (r : Reply) (o : Option KeyPair) → IfSome o (PairIs (is_joined p.profile) s) → Knows k right w did s (keys_in r o m)
-      knows (replies.Send reply) o pair = has
-      knows (replies.Reassembly reply) o pair = has
-      knows replies.Done o pair = has
-      knows (replies.Control reply) o pair = by reply o pair
+      knows (Reply.Send reply) o pair = has
+      knows (Reply.Reassembly reply) o pair = has
+      knows Reply.Done o pair = has
+      knows (Reply.Control reply) o pair = by reply o pair
         where
-          by : (reply : ControlReply) (o : Option KeyPair) → IfSome o (PairIs (is_joined p.profile) s) → Knows k right w did s (keys_in (replies.Control reply) o m)
-          by control_replies.Noted (Some keys) pair = rekeyed_knows s keys.peer true m pair.1.1 has
-          by control_replies.Noted None pair = has
-          by control_replies.NotYet o pair = has
+          by : (reply : ControlReply) (o : Option KeyPair) → IfSome o (PairIs (is_joined p.profile) s) → Knows k right w did s (keys_in (Reply.Control reply) o m)
+          by ControlReply.Noted (Some keys) pair = rekeyed_knows s keys.peer true m pair.1.1 has
+          by ControlReply.Noted None pair = has
+          by ControlReply.NotYet o pair = has
           by _ o pair = has
 
   -- ---- a join begins
@@ -526,10 +466,6 @@ module _ (k : Secrets) (right : Bool) (w : Side → Type 0) (did : Deed → Side
   -- by the keys that the book of this side tells, which joined by that
   abbrev pub BeginIs : Side → KeyPair → Type 0
   BeginIs s keys = (keys.own ≡ drawn_key k right s) × (w s × (right ≡ true → keys.peer ≡ drawn_key k right (peer s)))
-
-  pub sure_right : (joined : Bool) → joined ≡ true → sure_if k right joined ≡ true → right ≡ true
-  sure_right true is sure = sure
-  sure_right false is sure = absurd (false≢true is)
 
   pub opened_end : (s : Side) (o : Option KeyPair) (e : PathEnd) → IfSome o (BeginIs s) → EndIs k right w did true s e → (s ≡ A) → EndIs k right w did true s (opened_by o e)
   opened_end s None e is h a = h
@@ -598,13 +534,6 @@ module _ (k : Secrets) (right : Bool) (w : Side → Type 0) (did : Deed → Side
       by true waiting = absurd (false≢true waiting)
       by false waiting = waiting
 
-  -- this side knows, and the other one does where it knew
-  pub to_both : (s t : Side) (e : PathEnd) (p : PathState Carried) → Knows k right w did s e.modes → (same_side t s ≡ false → Knows k right w did t (end_at t p).modes) → Knows k right w did t (end_at t (with_end s e p)).modes
-  to_both A A e p own other = own
-  to_both B B e p own other = own
-  to_both A B e p own other = other refl
-  to_both B A e p own other = other refl
-
 -- ---- the more sides joined
 
 module _ (k : Secrets) (right : Bool) (w u : Side → Type 0) (did does : Deed → Side → Type 0) (more : (s : Side) → w s → u s) (further : (d : Deed) (s : Side) → did d s → does d s) where
@@ -628,40 +557,30 @@ module _ (k : Secrets) (right : Bool) (w u : Side → Type 0) (did does : Deed �
   more_for B h = further Deed.Keyed A h
 
   more_heard : (s : Side) (notice : PeerNotice) → PeerNoteIs k right w did s notice → PeerNoteIs k right u does s notice
-  more_heard s (peer_notes.AddAddr id address port hmac) h = (h.0, further Deed.Keyed s h.1)
-  more_heard s (peer_notes.AddEcho id) h = h
-  more_heard s (peer_notes.Removed id) h = h
-  more_heard s (peer_notes.Prio backup) h = h
+  more_heard s (PeerNotice.AddAddr id address port hmac) h = (h.0, further Deed.Keyed s h.1)
+  more_heard s _ h = h
 
   more_note : (s : Side) (notice : OwnNotice) → NoteIs k right w did s notice → NoteIs k right u does s notice
-  more_note s (own_notes.AddAddr id) h = (h.0, further Deed.Keyed (peer s) h.1)
-  more_note s (own_notes.AddEcho id address port) h = h
-  more_note s (own_notes.Removes id) h = h
-  more_note s (own_notes.Prio backup) h = h
+  more_note s (OwnNotice.AddAddr id) h = (h.0, further Deed.Keyed (peer s) h.1)
+  more_note s _ h = h
 
   more_option : (joined : Bool) (s : Side) (o : PlainOption) → OptionIs k right w did joined s o → OptionIs k right u does joined s o
   more_option joined s (Capable flag_a flag_c keys) h = (h.0, λ first. more_shown s keys (h.1 first))
   more_option joined s (Join form) h = (h.0, (more s h.1.0, h.1.1))
   more_option joined s (Dss next mapping) h = λ joins. more_b s (h joins)
   more_option joined s (AddAddr echo id address port hmac) h = more_address s echo id address port hmac h
-  more_option joined s (Remove ids) h = h
-  more_option joined s (Prio backup) h = h
   more_option joined s (Fail place) h = λ joins. more_b s (h joins)
   more_option joined s (FastClose key) h = further Deed.Closed s h
-  more_option joined s (Reset transient reason) h = h
+  more_option joined s _ h = h
 
   more_item : (joined : Bool) (s : Side) (item : Heard) → ItemIs k right w did joined s item → ItemIs k right u does joined s item
-  more_item joined s (says.Keys own other) h = (h.0, (h.1.0, h.1.1, more_for s h.1.2))
-  more_item joined s (says.PeerKey key) h = h
-  more_item joined s (says.Join form) h = (h.0, (h.1.0, (more (peer s) h.1.1.0, h.1.1.1)))
-  more_item joined s (says.Notice notice) h = more_heard s notice h
-  more_item joined s says.Fail h = λ joins. more_b (peer s) (h joins)
-  more_item joined s (says.FastClose key) h = further Deed.Closed (peer s) h
-  more_item joined s says.Dss h = λ joins. more_b (peer s) (h joins)
-  more_item joined s (says.Mapping fin) h = h
-  more_item joined s (says.InfiniteMapping place position) h = h
-  more_item joined s (says.DataAck next window) h = h
-  more_item joined s (says.DataFin place) h = h
+  more_item joined s (Heard.Keys own other) h = (h.0, (h.1.0, h.1.1, more_for s h.1.2))
+  more_item joined s (Heard.Join form) h = (h.0, (h.1.0, (more (peer s) h.1.1.0, h.1.1.1)))
+  more_item joined s (Heard.Notice notice) h = more_heard s notice h
+  more_item joined s Heard.Fail h = λ joins. more_b (peer s) (h joins)
+  more_item joined s (Heard.FastClose key) h = further Deed.Closed (peer s) h
+  more_item joined s Heard.Dss h = λ joins. more_b (peer s) (h joins)
+  more_item joined s _ h = h
 
   more_knows : (s : Side) (m : Modes) → Knows k right w did s m → Knows k right u does s m
   more_knows s m h = (more s h.0, h.1)

@@ -1,83 +1,29 @@
 -- Every step of path 0 keeps that A's side has B's key, or is past being sure, where B answered, and where it may tell a sign of B.
-use Rattle.std.proofs.Common.{◌≡◌, refl, sym, ◌∙◌, ap, subst, inl, inr, ◌⊎◌, ℕ, length, Bool, true, false, if◌then◌else◌, Option, Some, None, List, [], ◌∷◌, ◌++◌, ◌||◌, is_some}
-use Rattle.std.proofs.lemmas.Bool.{both_ways, or_parts, false≢true}
-use Rattle.std.specs.Option.{IfSome}
-use Rattle.sides.specs.declared.side.Side.{Side}
-use Rattle.sides.specs.declared.side.Side.TheVariants.{A, B}
-use Rattle.dss_mapping.specs.declared.kept.KeptMapping.{KeptMapping}
-use Rattle.link_model.specs.Steps.{arriving, after_delivery}
-use Rattle.path_segments.specs.Spelled.{PlainSegment}
-use Rattle.path_segments.specs.Heard.{HeardSegment}
-use Rattle.subflow_recv.specs.Receiving.{after_forget_from}
-use Rattle.subflow_tcp.specs.declared.segments.Outgoing.{Outgoing}
-use Rattle.subflow_tcp.specs.declared.verdicts.Meaning.{Meaning}
-use Rattle.subflow_tcp.specs.declared.verdicts.Meaning.TheVariants as means
-use Rattle.subflow_tcp.specs.Expiring.{is_sixth, after_expiry}
-use Rattle.subflow_tcp.specs.Judging.{meaning_of}
-use Rattle.subflow_tcp.specs.Opening.{after_begin}
-use Rattle.subflow_tcp.specs.States.{is_dead, is_waiting}
-use Rattle.subflow_tcp.specs.Taking.{after_death, after_dropping_held, after_keeping_held}
-use Rattle.subflow_tcp.specs.Closing.{is_fin_next, after_passing_fin}
-use Rattle.fallback_state.specs.declared.fall.Event.{Event as FallEvent}
-use Rattle.fallback_state.specs.declared.fall.Event.TheVariants as fall
-use Rattle.fallback_state.specs.declared.fall.Mode.{Mode}
-use Rattle.fallback_state.specs.declared.fall.Verdict.{Verdict}
-use Rattle.fallback_state.specs.declared.fall.Verdict.TheVariants as verdicts
-use Rattle.fallback_state.specs.Modes.{is_starting}
-use Rattle.control_book.specs.declared.call.ControlCall.{ControlCall}
-use Rattle.control_book.specs.declared.call.ControlCall.TheVariants as control_calls
-use Rattle.control_book.specs.declared.call.ControlReply.TheVariants as control_replies
-use Rattle.actor_desk.specs.declared.ask.Ask.{Ask}
-use Rattle.actor_desk.specs.declared.ask.Ask.TheVariants as asks
-use Rattle.actor_desk.specs.declared.ask.Reply.{Reply}
-use Rattle.actor_desk.specs.declared.ask.Reply.TheVariants as replies
-use Rattle.actor_desk.specs.Words.{tail_of}
-use Rattle.path_agenda.specs.Agenda.{emission, leaves, rest_of_turn, announces, withdraws}
-use Rattle.path_agenda.specs.Items.{key_heard}
-use Rattle.path_agenda.specs.declared.duty.Duty.{Duty}
-use Rattle.path_agenda.specs.declared.duty.Duty.TheVariants as duties
-use Rattle.path_agenda.specs.declared.duty.AskDuty.TheVariants as ask_duties
-use Rattle.path_agenda.specs.declared.duty.SendDuty.TheVariants as send_duties
-use Rattle.path_agenda.specs.declared.duty.SilentDuty.TheVariants as silent_duties
-use Rattle.path_agenda.specs.declared.duty.StepDuty.TheVariants as step_duties
-use Rattle.path_agenda.specs.declared.heard.Heard.{Heard}
-use Rattle.path_agenda.specs.declared.heard.Heard.TheVariants as says
-use Rattle.path_agenda.specs.declared.keys.KeyPair.{KeyPair}
+use Rattle.world_laws.proofs.Words.{◌≡◌, refl, sym, ◌∙◌, ap, subst, ℕ, ◌||◌, inl, inr, ◌⊎◌, Bool, true, false, if◌then◌else◌, Option, Some, None, List, [], ◌∷◌}
+use Rattle.world_laws.proofs.Words.{◌++◌, length, is_some, or_parts, both_ways, false≢true, IfSome, Verdict, Mode, FallEvent, is_starting, Side, A, B}
+use Rattle.world_laws.proofs.Words.{ControlCall, ControlReply, KeptMapping, is_dead, is_waiting, Meaning, is_sixth, after_expiry, Outgoing}
+use Rattle.world_laws.proofs.Words.{after_death, after_dropping_held, after_keeping_held, after_begin, is_fin_next, after_passing_fin, meaning_of, arriving}
+use Rattle.world_laws.proofs.Words.{after_delivery, HeardSegment, PlainSegment, LineAction, rest_of_turn, emission, leaves, announces, withdraws, Duty}
+use Rattle.world_laws.proofs.Words.{SendDuty, StepDuty, AskDuty, SilentDuty, Heard, KeyPair, key_heard, Ask, Reply, tail_of, stands, passed, PathEnd, died}
+use Rattle.world_laws.proofs.Words.{modes_told, at_tick, PathState, end_at, goes_on, with_end, with_agenda, path_of, settled, Carried, values, hint_of}
+use Rattle.world_laws.proofs.Words.{items_of, owes_by, options_heard, after_judged, asked_in, copy_judged, copy_of, judged_in, reset_for, template_of, heard_in}
+use Rattle.world_laws.proofs.Words.{copy_heard, heard_at, Judged, step_for, after_line, happens_if, join_begun, never_joined, is_never, keys_begun, opened_by}
+use Rattle.world_laws.proofs.Words.{is_joined, mode_refused, after_timer, template_fired, timer_fired, mapping_here, forgotten_by, after_keep}
+use Rattle.world_laws.proofs.Words.{after_pieces, is_dropped, after_check, after_pass_fin, with_learned, with_data_fin, with_skipped, held_of, HeardOption}
+use Rattle.world_laws.proofs.Words.{after_dss, with_data_ack, item_of, item_passed, with_plain_ack, fell_in, mode_in, with_priority, sent_on, taken_as, Modes}
+use Rattle.world_laws.proofs.Falls.FailedChecks.{forgets_so}
 use Rattle.path_core.specs.declared.events.Event.{Event}
-use Rattle.path_core.specs.declared.events.Event.TheVariants as happenings
-use Rattle.path_core.specs.declared.judged.Judged.TheVariants as judged
-use Rattle.path_core.specs.declared.modes.Modes.{Modes}
-use Rattle.path_core.specs.Arrival.{after_judged, asked_in, copy_judged, copy_of, judged_in, reset_for, template_of, heard_at, heard_in, copy_heard}
-use Rattle.path_core.specs.DssIn.{held_of, HeardOption, with_learned, with_skipped, counts, with_data_fin}
-use Rattle.path_core.specs.OptionsIn.{hint_of, items_of, options_heard, owes_by}
-use Rattle.path_core.specs.Judged.{taken_as}
-use Rattle.path_core.specs.Duties.{stands, passed}
-use Rattle.path_core.specs.Timer.{after_timer, timer_fired, template_fired}
-use Rattle.path_core.specs.End.{PathEnd, died}
-use Rattle.path_core.specs.State.{at_tick, PathState, end_at, goes_on, with_agenda, with_end, path_of}
-use Rattle.path_core.specs.Events.{after_line, happens_if, step_for}
-use Rattle.path_core.specs.MpJoin.{join_begun, never_joined, is_never, keys_begun, opened_by, mode_refused, is_joined}
-use Rattle.path_core.specs.Addresses.{with_priority}
-use Rattle.path_store.specs.declared.lines.LineAction.{LineAction}
-use Rattle.path_store.specs.declared.lines.LineAction.TheVariants as actions
-use Rattle.path_core.specs.DataFin.{after_pass_fin}
-use Rattle.path_core.specs.Deliver.{after_check, after_pieces, mapping_here, is_wrong, forgotten_by, after_keep, is_dropped}
-use Rattle.path_core.specs.Handover.{sent_on}
-use Rattle.path_core.specs.Standing.{modes_told}
-use Rattle.path_core.specs.Steps.{settled}
-use Rattle.path_core.specs.Treating.{item_of, item_passed}
-use Rattle.path_core.specs.Fallback.{mode_in, with_plain_ack, fell_in}
-use Rattle.path_core.specs.Values.{Carried, values}
+use Rattle.world_laws.proofs.Writes.Ends.{item_so}
 use Rattle.world_laws.proofs.Keys.AnswerHeardFirst.{is_met, passed_met_state, is_accepts, Fits, fits, is_calm, signs, Fewer, same_duties, tail_fewer, new_duties, b_template, arrived_state, unmet_stays, a_template, a_signs}
 
 -- ---- what is told
 
 -- the mode that a reply tells of
 abbrev pub mode_told : Reply → Option Mode
-mode_told (replies.Control (control_replies.Standing mode standby sole notice)) = Some mode
-mode_told (replies.Control (control_replies.Verdict (verdicts.Went mode))) = Some mode
-mode_told (replies.Control (control_replies.Never mode)) = Some mode
-mode_told (replies.Control (control_replies.Fallen mode)) = Some mode
+mode_told (Reply.Control (ControlReply.Standing mode standby sole notice)) = Some mode
+mode_told (Reply.Control (ControlReply.Verdict (Verdict.Went mode))) = Some mode
+mode_told (Reply.Control (ControlReply.Never mode)) = Some mode
+mode_told (Reply.Control (ControlReply.Fallen mode)) = Some mode
 mode_told _ = None
 
 -- What is said of path 0, where T is that A's control book has B's key, or is past being sure.
@@ -88,16 +34,16 @@ module _ (T : Type 0) where
 
   -- where B's answer to the SYN shows no key, A's side falls back
   abbrev pub FellGains : FallEvent → Type 0
-  FellGains fall.PlainHandshake = T
+  FellGains FallEvent.PlainHandshake = T
   FellGains _ = Unit {0}
 
   abbrev pub CallGains : ControlCall → Type 0
-  CallGains (control_calls.PeerKey key) = T
-  CallGains (control_calls.Fell path event) = FellGains event
+  CallGains (ControlCall.PeerKey key) = T
+  CallGains (ControlCall.Fell path event) = FellGains event
   CallGains _ = Unit {0}
 
   abbrev pub Gains : Ask → Reply → Type 0
-  Gains (asks.Control A call) r = ModeGains r × CallGains call
+  Gains (Ask.Control A call) r = ModeGains r × CallGains call
   Gains _ r = Unit {0}
 
   abbrev pub OfA : Side → Type 0 → Type 0
@@ -106,42 +52,31 @@ module _ (T : Type 0) where
 
   -- a mode that is told
   pub look_mode : (r : Reply) (m : Modes) → ModeGains r → is_starting (modes_told r m).mode ≡ false → (is_starting m.mode ≡ false) ⊎ T
-  look_mode (replies.Control (control_replies.Standing mode standby sole notice)) m gains is = inr (gains is)
-  look_mode (replies.Control control_replies.Noted) m gains is = inl is
-  look_mode (replies.Control _) m gains is = inl is
-  look_mode (replies.Send reply) m gains is = inl is
-  look_mode (replies.Reassembly reply) m gains is = inl is
-  look_mode replies.Done m gains is = inl is
+  look_mode (Reply.Control (ControlReply.Standing mode standby sole notice)) m gains is = inr (gains is)
+  look_mode (Reply.Control ControlReply.Noted) m gains is = inl is
+  look_mode _ m gains is = inl is
 
-  verdict_mode : (v : Verdict) (m : Modes) → ModeGains (replies.Control (control_replies.Verdict v)) → is_starting (mode_in (replies.Control (control_replies.Verdict v)) m).mode ≡ false
+  verdict_mode : (v : Verdict) (m : Modes) → ModeGains (Reply.Control (ControlReply.Verdict v)) → is_starting (mode_in (Reply.Control (ControlReply.Verdict v)) m).mode ≡ false
       → (is_starting m.mode ≡ false) ⊎ T
-  verdict_mode (verdicts.Went mode) m gains is = inr (gains is)
-  verdict_mode verdicts.Stay m gains is = inl is
-  verdict_mode verdicts.SendFail m gains is = inl is
-  verdict_mode (verdicts.BreakPath reason) m gains is = inl is
+  verdict_mode (Verdict.Went mode) m gains is = inr (gains is)
+  verdict_mode _ m gains is = inl is
 
   told_mode : (r : Reply) (m : Modes) → ModeGains r → is_starting (mode_in r m).mode ≡ false → (is_starting m.mode ≡ false) ⊎ T
-  told_mode (replies.Control (control_replies.Verdict v)) m gains is = verdict_mode v m gains is
-  told_mode (replies.Control control_replies.Noted) m gains is = inl is
-  told_mode (replies.Control _) m gains is = inl is
-  told_mode (replies.Send reply) m gains is = inl is
-  told_mode (replies.Reassembly reply) m gains is = inl is
-  told_mode replies.Done m gains is = inl is
+  told_mode (Reply.Control (ControlReply.Verdict v)) m gains is = verdict_mode v m gains is
+  told_mode (Reply.Control ControlReply.Noted) m gains is = inl is
+  told_mode _ m gains is = inl is
 
   pub fell_mode : (event : FallEvent) (r : Reply) (m : Modes) → ModeGains r → is_starting (fell_in event r m).mode ≡ false → (is_starting m.mode ≡ false) ⊎ T
-  fell_mode fall.PlainData r m gains is = told_mode r m gains is
-  fell_mode fall.PlainAck r m gains is = told_mode r m gains is
-  fell_mode fall.PlainHandshake r m gains is = told_mode r m gains is
+  fell_mode FallEvent.PlainData r m gains is = told_mode r m gains is
+  fell_mode FallEvent.PlainAck r m gains is = told_mode r m gains is
+  fell_mode FallEvent.PlainHandshake r m gains is = told_mode r m gains is
   fell_mode _ r m gains is = told_mode r m gains is
 
   pub refused_mode : (r : Reply) (mode : Mode) → ModeGains r → is_starting (mode_refused r mode) ≡ false → (is_starting mode ≡ false) ⊎ T
-  refused_mode (replies.Control (control_replies.Never told)) mode gains is = inr (gains is)
-  refused_mode (replies.Control (control_replies.Fallen told)) mode gains is = inr (gains is)
-  refused_mode (replies.Control control_replies.Noted) mode gains is = inl is
-  refused_mode (replies.Control _) mode gains is = inl is
-  refused_mode (replies.Send reply) mode gains is = inl is
-  refused_mode (replies.Reassembly reply) mode gains is = inl is
-  refused_mode replies.Done mode gains is = inl is
+  refused_mode (Reply.Control (ControlReply.Never told)) mode gains is = inr (gains is)
+  refused_mode (Reply.Control (ControlReply.Fallen told)) mode gains is = inr (gains is)
+  refused_mode (Reply.Control ControlReply.Noted) mode gains is = inl is
+  refused_mode _ mode gains is = inl is
 
   -- ---- a path
 
@@ -157,7 +92,7 @@ module _ (T : Type 0) where
     pub first : is_joined p.profile ≡ false
     pub begins : Bool
     pub rest : List Duty
-    pub agenda_is : p.agenda ≡ (if begins then duties.Ask (ask_duties.SynAnswered A) ∷ duties.Ask (ask_duties.PeerKey A) ∷ rest else duties.Ask (ask_duties.PeerKey A) ∷ rest)
+    pub agenda_is : p.agenda ≡ (if begins then Duty.Ask (AskDuty.SynAnswered A) ∷ Duty.Ask (AskDuty.PeerKey A) ∷ rest else Duty.Ask (AskDuty.PeerKey A) ∷ rest)
     pub calm : is_calm rest ≡ true
     pub mode : is_starting p.a.modes.mode ≡ false → T
 
@@ -208,37 +143,14 @@ module _ (T : Type 0) where
   -- ---- in silence
 
   item_goes : (s : Side) (o : Option Heard) (p : PathState Carried) → Goes s p (item_passed s o (end_at s p))
-  item_goes s None p = same_goes s (end_at s p) p refl refl
-  item_goes s (Some says.Dss) p = same_goes s (item_passed s (Some says.Dss) (end_at s p)) p refl refl
-  item_goes s (Some (says.DataAck next window)) p = same_goes s (item_passed s (Some (says.DataAck next window)) (end_at s p)) p refl refl
-  item_goes s (Some (says.Mapping fin)) p = by (counts (end_at s p))
-    where
-      by : (b : Bool) → Goes s p (if b then with_learned (end_at s p) else with_skipped (end_at s p))
-      by true = same_goes s (with_learned (end_at s p)) p refl refl
-      by false = same_goes s (with_skipped (end_at s p)) p refl refl
-  item_goes s (Some (says.DataFin place)) p = by (counts (end_at s p))
-    where
-      by : (b : Bool) → Goes s p (if b then with_data_fin place (end_at s p) else end_at s p)
-      by true = same_goes s (with_data_fin place (end_at s p)) p refl refl
-      by false = same_goes s (end_at s p) p refl refl
-  item_goes s (Some (says.InfiniteMapping place position)) p = same_goes s (end_at s p) p refl refl
-  item_goes s (Some (says.PeerKey key)) p = same_goes s (end_at s p) p refl refl
-  item_goes s (Some (says.Keys own other)) p = same_goes s (end_at s p) p refl refl
-  item_goes s (Some (says.Join form)) p = same_goes s (end_at s p) p refl refl
-  item_goes s (Some (says.Notice notice)) p = same_goes s (end_at s p) p refl refl
-  item_goes s (Some says.Fail) p = same_goes s (end_at s p) p refl refl
-  item_goes s (Some (says.FastClose key)) p = same_goes s (end_at s p) p refl refl
+  item_goes s o p =
+      let e : PathEnd = end_at s p in
+      item_so (Goes s p) s o e (same_goes s e p refl refl) (same_goes s (after_dss s e) p refl refl) (λ next. same_goes s (with_data_ack next e) p refl refl)
+      (same_goes s (with_learned e) p refl refl) (same_goes s (with_skipped e) p refl refl) (λ place. same_goes s (with_data_fin place e) p refl refl)
 
   edge_goes : (s : Side) (checksums : Bool) (o : Option KeptMapping) (p : PathState Carried) → Goes s p (forgotten_by checksums o (end_at s p))
-  edge_goes s checksums None p = same_goes s (end_at s p) p refl refl
-  edge_goes s checksums (Some kept) p = by (is_wrong checksums kept (end_at s p).tcp)
-    where
-      e : PathEnd
-      e = end_at s p
-
-      by : (b : Bool) → Goes s p (if b then record e { tcp = record e.tcp { recv = after_forget_from kept.pos e.tcp.recv } } else e)
-      by true = same_goes s (record e { tcp = record e.tcp { recv = after_forget_from kept.pos e.tcp.recv } }) p refl refl
-      by false = same_goes s e p refl refl
+  edge_goes s checksums o p = let e : PathEnd = end_at s p in
+      forgets_so (Goes s p) checksums o e (λ recv forgotten. same_goes s (record e { tcp = record e.tcp { recv = recv } }) p refl refl)
 
   keep_goes : (s : Side) (b : Bool) (held : Option ℕ) (p : PathState Carried)
       → Goes s p (record (end_at s p) { tcp = (if b then after_dropping_held (end_at s p).tcp else after_keeping_held (end_at s p).tcp); treated = record (end_at s p).treated { held_edge = held } })
@@ -255,13 +167,13 @@ module _ (T : Type 0) where
   put_met B e ds p g h = record { first = h.first; calm = h.calm; met = h.met; signed = h.signed; mode = h.mode }
 
   passed_met : (d : Duty) (ds : List Duty) (p : PathState Carried) → CalmMet (with_agenda ds p) → CalmMet (with_agenda ds (passed d p))
-  passed_met (duties.Silent (silent_duties.Timer s)) ds p h = put_met s (after_timer p.clock (end_at s p)) ds p (same_goes s (after_timer p.clock (end_at s p)) p refl refl) h
-  passed_met (duties.Step (step_duties.Heard s index)) ds p h = put_met s (item_passed s (item_of index (end_at s p)) (end_at s p)) ds p (item_goes s (item_of index (end_at s p)) p) h
-  passed_met (duties.Silent (silent_duties.Keep s)) ds p h = put_met s (after_keep s (end_at s p)) ds p (keep_goes s (is_dropped s (end_at s p)) _ p) h
-  passed_met (duties.Step (step_duties.PlainAck s)) ds p h = put_met s (with_plain_ack (end_at s p)) ds p (same_goes s (with_plain_ack (end_at s p)) p refl refl) h
-  passed_met (duties.Step (step_duties.Unmapped s)) ds p h = put_met s (after_pieces (end_at s p)) ds p (same_goes s (after_pieces (end_at s p)) p refl refl) h
-  passed_met (duties.Ask (ask_duties.CheckFailed s)) ds p h = put_met s (after_check p.profile (end_at s p)) ds p (edge_goes s p.profile.spelling.checksums (mapping_here (end_at s p)) p) h
-  passed_met (duties.Silent (silent_duties.PassFin s)) ds p h = put_met s (after_pass_fin (end_at s p)) ds p (fin_goes s (is_fin_next (end_at s p).tcp) p) h
+  passed_met (Duty.Silent (SilentDuty.Timer s)) ds p h = put_met s (after_timer p.clock (end_at s p)) ds p (same_goes s (after_timer p.clock (end_at s p)) p refl refl) h
+  passed_met (Duty.Step (StepDuty.Heard s index)) ds p h = put_met s (item_passed s (item_of index (end_at s p)) (end_at s p)) ds p (item_goes s (item_of index (end_at s p)) p) h
+  passed_met (Duty.Silent (SilentDuty.Keep s)) ds p h = put_met s (after_keep s (end_at s p)) ds p (keep_goes s (is_dropped s (end_at s p)) _ p) h
+  passed_met (Duty.Step (StepDuty.PlainAck s)) ds p h = put_met s (with_plain_ack (end_at s p)) ds p (same_goes s (with_plain_ack (end_at s p)) p refl refl) h
+  passed_met (Duty.Step (StepDuty.Unmapped s)) ds p h = put_met s (after_pieces (end_at s p)) ds p (same_goes s (after_pieces (end_at s p)) p refl refl) h
+  passed_met (Duty.Ask (AskDuty.CheckFailed s)) ds p h = put_met s (after_check p.profile (end_at s p)) ds p (edge_goes s p.profile.spelling.checksums (mapping_here (end_at s p)) p) h
+  passed_met (Duty.Silent (SilentDuty.PassFin s)) ds p h = put_met s (after_pass_fin (end_at s p)) ds p (fin_goes s (is_fin_next (end_at s p).tcp) p) h
   passed_met _ ds p h = h
 
   -- the first duty of a list is passed
@@ -284,17 +196,17 @@ module _ (T : Type 0) where
   keying_settled : (p : PathState Carried) → Keying p → PathMet (settled p.agenda p)
   keying_settled p h = subst (λ ds. PathMet (settled ds p)) (sym h.agenda_is) (by h.begins)
     where
-      stays : (begins : Bool) (ds : List Duty) → ds ≡ (if begins then duties.Ask (ask_duties.SynAnswered A) ∷ duties.Ask (ask_duties.PeerKey A) ∷ h.rest else duties.Ask (ask_duties.PeerKey A) ∷ h.rest) → Keying (with_agenda ds p)
+      stays : (begins : Bool) (ds : List Duty) → ds ≡ (if begins then Duty.Ask (AskDuty.SynAnswered A) ∷ Duty.Ask (AskDuty.PeerKey A) ∷ h.rest else Duty.Ask (AskDuty.PeerKey A) ∷ h.rest) → Keying (with_agenda ds p)
       stays begins ds is = record { first = h.first; begins = begins; rest = h.rest; agenda_is = is; calm = h.calm; mode = h.mode }
 
       key : (b : Bool) → is_some (key_heard p.a.treated.items) || is_starting p.a.modes.mode ≡ b
-          → PathMet (if b then with_agenda (duties.Ask (ask_duties.PeerKey A) ∷ h.rest) p else settled h.rest p)
-      key true is = inr (stays false (duties.Ask (ask_duties.PeerKey A) ∷ h.rest) refl)
+          → PathMet (if b then with_agenda (Duty.Ask (AskDuty.PeerKey A) ∷ h.rest) p else settled h.rest p)
+      key true is = inr (stays false (Duty.Ask (AskDuty.PeerKey A) ∷ h.rest) refl)
       key false is =
           inl (settled_met h.rest p (known_met (with_agenda h.rest p) h.first h.calm (h.mode (or_parts (is_some (key_heard p.a.treated.items)) (is_starting p.a.modes.mode) is).1)))
 
-      by : (begins : Bool) → PathMet (settled (if begins then duties.Ask (ask_duties.SynAnswered A) ∷ duties.Ask (ask_duties.PeerKey A) ∷ h.rest else duties.Ask (ask_duties.PeerKey A) ∷ h.rest) p)
-      by true = inr (stays true (duties.Ask (ask_duties.SynAnswered A) ∷ duties.Ask (ask_duties.PeerKey A) ∷ h.rest) refl)
+      by : (begins : Bool) → PathMet (settled (if begins then Duty.Ask (AskDuty.SynAnswered A) ∷ Duty.Ask (AskDuty.PeerKey A) ∷ h.rest else Duty.Ask (AskDuty.PeerKey A) ∷ h.rest) p)
+      by true = inr (stays true (Duty.Ask (AskDuty.SynAnswered A) ∷ Duty.Ask (AskDuty.PeerKey A) ∷ h.rest) refl)
       by false = key (is_some (key_heard p.a.treated.items) || is_starting p.a.modes.mode) refl
 
   pub settles_met : (p : PathState Carried) → PathMet p → PathMet (settled p.agenda p)
@@ -315,11 +227,11 @@ module _ (T : Type 0) where
   unless_dead_mode p h false is = h.mode is
 
   line_met : (action : LineAction) (p : PathState Carried) → CalmMet p → CalmMet (after_line action p)
-  line_met (actions.Prio s backup) p h =
+  line_met (LineAction.Prio s backup) p h =
       goes_met s (with_priority backup (end_at s p)) (emission s) p (same_goes s (with_priority backup (end_at s p)) p refl refl) (new_duties p.agenda (emission s) refl refl) h
-  line_met (actions.Announce s id) p h = agenda_met (announces s id) p (new_duties p.agenda (announces s id) refl refl) h
-  line_met (actions.Withdraw s id) p h = agenda_met (withdraws s id) p (new_duties p.agenda (withdraws s id) refl refl) h
-  line_met actions.Die p h = record {
+  line_met (LineAction.Announce s id) p h = agenda_met (announces s id) p (new_duties p.agenda (announces s id) refl refl) h
+  line_met (LineAction.Withdraw s id) p h = agenda_met (withdraws s id) p (new_duties p.agenda (withdraws s id) refl refl) h
+  line_met LineAction.Die p h = record {
     first = h.first;
     calm = calm (is_dead p.a.tcp.state) (is_dead p.b.tcp.state);
     met = unless_dead_met p h (is_dead p.a.tcp.state);
@@ -327,13 +239,13 @@ module _ (T : Type 0) where
     mode = unless_dead_mode p h (is_dead p.a.tcp.state);
   }
     where
-      calm : (x y : Bool) → is_calm ((if x then [] else duties.Ask (ask_duties.Leave A) ∷ []) ++ ((if y then [] else duties.Ask (ask_duties.Leave B) ∷ []) ++ rest_of_turn)) ≡ true
+      calm : (x y : Bool) → is_calm ((if x then [] else Duty.Ask (AskDuty.Leave A) ∷ []) ++ ((if y then [] else Duty.Ask (AskDuty.Leave B) ∷ []) ++ rest_of_turn)) ≡ true
       calm true true = refl
       calm true false = refl
       calm false true = refl
       calm false false = refl
 
-      quiet : (x y : Bool) → signs ((if x then [] else duties.Ask (ask_duties.Leave A) ∷ []) ++ ((if y then [] else duties.Ask (ask_duties.Leave B) ∷ []) ++ rest_of_turn)) ≡ false
+      quiet : (x y : Bool) → signs ((if x then [] else Duty.Ask (AskDuty.Leave A) ∷ []) ++ ((if y then [] else Duty.Ask (AskDuty.Leave B) ∷ []) ++ rest_of_turn)) ≡ false
       quiet true true = refl
       quiet true false = refl
       quiet false true = refl
@@ -375,21 +287,21 @@ module _ (T : Type 0) where
   -- ---- a copy
 
   asked_mode : (m : Meaning) (options : List HeardOption) (modes : Modes) → (asked_in m options modes).mode ≡ modes.mode
-  asked_mode means.Opens options modes = refl
-  asked_mode means.Ignored options modes = refl
+  asked_mode Meaning.Opens options modes = refl
+  asked_mode Meaning.Ignored options modes = refl
   asked_mode _ options modes = refl
 
   module _ (now : ℕ) (heard : HeardSegment) (p : PathState Carried) where
     -- at A
     a_heard : (told : List KeptMapping) (answer : Outgoing) → CalmMet p
-        → PathMet (goes_on A (copy_judged false told answer A now heard (meaning_of (copy_of heard) p.a.tcp) p.a) (template_of false A (items_of false A heard) (judged.As (meaning_of (copy_of heard) p.a.tcp))) p)
-    a_heard told answer h = by (meaning_of (copy_of heard) p.a.tcp) (fits p.a.tcp.state (copy_of heard) p.a.tcp)
+        → PathMet (goes_on A (copy_judged false told answer A now heard (meaning_of (copy_of heard) p.a.tcp) p.a) (template_of false A (items_of false A heard) (Judged.As (meaning_of (copy_of heard) p.a.tcp))) p)
+    a_heard told answer h = by (meaning_of (copy_of heard) p.a.tcp) (fits (copy_of heard) p.a.tcp)
       where
         items : List Heard
         items = items_of false A heard
 
         after : Meaning → PathState Carried
-        after m = goes_on A (copy_judged false told answer A now heard m p.a) (template_of false A items (judged.As m)) p
+        after m = goes_on A (copy_judged false told answer A now heard m p.a) (template_of false A items (Judged.As m)) p
 
         mode : (m : Meaning) → is_starting (after m).a.modes.mode ≡ false → T
         mode m is = h.mode (ap is_starting (sym (asked_mode m heard.options p.a.modes)) ∙ is)
@@ -397,32 +309,24 @@ module _ (T : Type 0) where
         calm : (m : Meaning) → is_accepts m ≡ false → Fits p.a.tcp.state (copy_of heard) m → CalmMet (after m)
         calm m none fit = record {
           first = h.first;
-          calm = a_template false (length items) (judged.As m) (λ is. none);
+          calm = a_template false (length items) (Judged.As m) (λ is. none);
           met = λ met. h.met (unmet_stays m (hint_of items) now (copy_of heard) heard.payload p.a.tcp none fit.0
               (ap is_met (sym (arrived_state m (owes_by m items) (hint_of items) now (copy_of heard) heard.payload p.a.tcp)) ∙ met));
-          signed = λ is. h.met (fit.0 (a_signs false (length items) (judged.As m) is).0);
+          signed = λ is. h.met (fit.0 (a_signs false (length items) (Judged.As m) is).0);
           mode = mode m;
         }
 
         by : (m : Meaning) → Fits p.a.tcp.state (copy_of heard) m → PathMet (after m)
-        by (means.Accepts acknowledged) fit = inr (record {
+        by (Meaning.Accepts acknowledged) fit = inr (record {
           first = h.first;
           begins = true;
-          rest = duties.Ask (ask_duties.Live A) ∷ duties.Send (send_duties.Acknowledge A) ∷ emission A;
+          rest = Duty.Ask (AskDuty.Live A) ∷ Duty.Send (SendDuty.Acknowledge A) ∷ emission A;
           agenda_is = refl;
           calm = refl;
-          mode = mode (means.Accepts acknowledged);
+          mode = mode (Meaning.Accepts acknowledged);
         })
-        by means.Ignored fit = inl (calm means.Ignored refl fit)
-        by means.Unwanted fit = inl (calm means.Unwanted refl fit)
-        by means.Opens fit = inl (calm means.Opens refl fit)
-        by means.RepeatedSyn fit = inl (calm means.RepeatedSyn refl fit)
-        by means.Outside fit = inl (calm means.Outside refl fit)
-        by means.Kills fit = inl (calm means.Kills refl fit)
-        by means.Challenged fit = inl (calm means.Challenged refl fit)
-        by means.Unacknowledging fit = inl (calm means.Unacknowledging refl fit)
-        by means.Ahead fit = inl (calm means.Ahead refl fit)
-        by (means.Taken pos acknowledged) fit = inl (calm (means.Taken pos acknowledged) refl fit)
+        by Meaning.Ignored fit = inl (calm Meaning.Ignored refl fit)
+        by m fit = inl (calm m refl fit)
 
     heard_a : (joined : Bool) → joined ≡ false → CalmMet p
         → PathMet (goes_on A (copy_judged joined (held_of p.profile A heard) (reset_for p.profile A heard) A now heard (taken_as (judged_in joined A heard p.a)) p.a)
@@ -449,15 +353,15 @@ module _ (T : Type 0) where
 
   pub event_met : (o : Option Event) (r : Reply) (p : PathState Carried) → Gains (step_for (path_of p) o) r → CalmMet p → PathMet (happens_if values o r p)
   event_met None r p gains h = inl (agenda_met rest_of_turn p (new_duties p.agenda rest_of_turn refl refl) h)
-  event_met (Some (happenings.Joins tick)) r p gains h =
+  event_met (Some (Event.Joins tick)) r p gains h =
       inl (begun_met r (leaves A) (emission A) (record (at_tick tick p) { joined_at = None }) gains.0 (new_duties p.agenda _ refl refl) (new_duties p.agenda _ refl refl)
       (record { first = h.first; calm = h.calm; met = h.met; signed = h.signed; mode = h.mode }))
-  event_met (Some (happenings.Takes line)) r p gains h =
+  event_met (Some (Event.Takes line)) r p gains h =
       inl (line_met line.action (record (at_tick line.tick p) { lines = tail_of p.lines }) (record { first = h.first; calm = h.calm; met = h.met; signed = h.signed; mode = h.mode }))
-  event_met (Some (happenings.Arrives due)) r p gains h =
+  event_met (Some (Event.Arrives due)) r p gains h =
       copy_met due.to (heard_in values due.to (arriving due p.link) p) (record (at_tick due.tick p) { link = after_delivery due p.link })
       (record { first = h.first; calm = h.calm; met = h.met; signed = h.signed; mode = h.mode })
-  event_met (Some (happenings.Fires s tick)) r p gains h = inl (fired_met s (at_tick tick p) (record { first = h.first; calm = h.calm; met = h.met; signed = h.signed; mode = h.mode }))
+  event_met (Some (Event.Fires s tick)) r p gains h = inl (fired_met s (at_tick tick p) (record { first = h.first; calm = h.calm; met = h.met; signed = h.signed; mode = h.mode }))
 
 -- the more T says
 pub more_met : (T U : Type 0) (p : PathState Carried) → (T → U) → PathMet T p → PathMet U p

@@ -1,62 +1,21 @@
 -- Each reply to path 0, and each round, keeps that A's side has B's key, or is past being sure, where B answered.
-use Rattle.std.proofs.Common.{◌≡◌, refl, sym, ◌∙◌, ap, subst, inl, inr, ℕ, ◌&&◌, nat_lt, not, is_some, Bool, true, false, if◌then◌else◌, Option, Some, None, List, [], ◌∷◌}
-use Rattle.std.proofs.lemmas.Bool.{and_parts, not-true, or_left, false≢true, both_ways}
-use Rattle.sides.specs.declared.side.Side.{Side}
-use Rattle.sides.specs.declared.side.Side.TheVariants.{A, B}
-use Rattle.subflow_tcp.specs.Emitting.{after_sending}
-use Rattle.path_segments.specs.Spelled.{PlainSegment}
-use Rattle.join_handshake.specs.declared.hearing.JoinSyn.{JoinSyn}
-use Rattle.subflow_send.specs.Records.{Record}
-use Rattle.subflow_tcp.specs.declared.segments.Occasion.{Occasion}
-use Rattle.subflow_tcp.specs.declared.segments.Occasion.TheVariants as to_send
-use Rattle.subflow_tcp.specs.State.{EndState}
-use Rattle.control_book.specs.declared.call.ControlReply.TheVariants as control_replies
-use Rattle.actor_desk.specs.declared.ask.Ask.{Ask}
-use Rattle.actor_desk.specs.declared.ask.Reply.{Reply}
-use Rattle.actor_desk.specs.declared.ask.Reply.TheVariants as replies
-use Rattle.actor_desk.specs.Words.{tail_of}
-use Rattle.path_agenda.specs.Agenda.{breaks, leaves, resets, start_of_turn, stops}
-use Rattle.path_agenda.specs.Items.{key_heard, keys_heard}
-use Rattle.path_agenda.specs.Words.{replaced}
-use Rattle.path_agenda.specs.declared.duty.Duty.{Duty}
-use Rattle.path_agenda.specs.declared.duty.Duty.TheVariants as duties
-use Rattle.path_agenda.specs.declared.duty.AskDuty.TheVariants as ask_duties
-use Rattle.path_agenda.specs.declared.duty.SendDuty.TheVariants as send_duties
-use Rattle.path_agenda.specs.declared.duty.StepDuty.TheVariants as step_duties
-use Rattle.path_agenda.specs.declared.heard.Heard.{Heard}
-use Rattle.path_agenda.specs.declared.heard.Heard.TheVariants as says
-use Rattle.path_agenda.specs.declared.keys.KeyPair.{KeyPair}
-use Rattle.path_core.specs.Breaking.{reset_of, reset_on, answered_break, refusal_of, break_ask}
-use Rattle.path_core.specs.Duties.{answered, ask_for}
-use Rattle.path_core.specs.Emission.{Grant, grant_in, answered_grant, answered_data, first_unsent, answer_occasion, answer_of, resend_occasion, dead_answer, resend_of}
-use Rattle.path_core.specs.DataFin.{fin_segment_of, having_sent_fin, answered_fin_heard, answered_plain_fin, is_fin_set}
-use Rattle.path_core.specs.End.{PathEnd, died}
-use Rattle.path_core.specs.Events.{next_event}
-use Rattle.path_core.specs.MpJoin.{asked_at, join_taken, joined_by, keys_begun, with_mode_refused, join_heard_ask, is_listening, syn_alone}
-use Rattle.path_core.specs.MpCapable.{after_keys, keys_in, opened_ask, answered_opened, peer_key_ask, answered_peer_key, with_peer_key}
-use Rattle.path_core.specs.Deliver.{answered_piece, is_placed, piece_of}
-use Rattle.path_store.specs.Passing.{Piece}
-use Rattle.path_core.specs.DssIn.{with_learned, is_acked, is_clash, with_acked, with_data_fin}
-use Rattle.path_core.specs.Handover.{having_sent, sent_on}
-use Rattle.path_core.specs.Standing.{after_ack_out, after_look, answered_ack_out}
-use Rattle.path_core.specs.State.{PathState, end_at, goes_on, left, path_of, with_agenda}
-use Rattle.path_core.specs.declared.modes.Modes.{Modes}
-use Rattle.send_book.specs.declared.call.SendCall.TheVariants as send_calls
-use Rattle.fallback_state.specs.declared.fall.Event.{Event as FallEvent}
-use Rattle.fallback_state.specs.declared.fall.Event.TheVariants as fall
-use Rattle.fallback_state.specs.Modes.{is_starting}
-use Rattle.control_book.specs.declared.call.ControlCall.{ControlCall}
-use Rattle.control_book.specs.declared.call.ControlCall.TheVariants as control_calls
-use Rattle.actor_desk.specs.declared.ask.Ask.TheVariants as asks
-use Rattle.path_core.specs.Steps.{settled, answers, asks_of, asks_first, takes, begins_turn}
-use Rattle.path_core.specs.Fallback.{fell_ask, fell_in, after_fell, fell_duties, answered_fell, in_identity, may_go_infinite, with_infinite, book_answered, plain_ack_ask, breaks_by_ack, with_plain_ack, answered_plain_ack}
-use Rattle.path_core.specs.Treating.{heard_ask, item_ask, answered_heard, answered_item, item_of}
-use Rattle.path_core.specs.Values.{Carried, values}
-use Rattle.subflow_tcp.specs.Taking.{after_syn, unkept}
-use Rattle.path_core.specs.Addresses.{after_peer_notice}
-use Rattle.path_core.specs.FastClose.{is_stopped_by}
-use Rattle.subflow_tcp.specs.declared.handshake.State.{State as EndPhase}
-use Rattle.subflow_tcp.specs.declared.handshake.State.TheVariants as phase
+use Rattle.world_laws.proofs.Words.{◌≡◌, refl, sym, ◌∙◌, ap, subst, ℕ, ◌&&◌, not, nat_lt, inl, inr, Bool, true, false, if◌then◌else◌, Option, Some, None, List}
+use Rattle.world_laws.proofs.Words.{[], ◌∷◌, is_some, and_parts, both_ways, false≢true, or_left, not-true, FallEvent, is_starting, Side, A, B, JoinSyn}
+use Rattle.world_laws.proofs.Words.{ControlCall, ControlReply, SendCall, Record, after_sending, EndState, EndPhase, Occasion, after_syn, unkept, PlainSegment}
+use Rattle.world_laws.proofs.Words.{Piece, leaves, resets, stops, start_of_turn, Duty, SendDuty, StepDuty, AskDuty, Heard, KeyPair, replaced, key_heard}
+use Rattle.world_laws.proofs.Words.{keys_heard, Ask, Reply, tail_of, ask_for, answered, PathEnd, died, answered_ack_out, after_look, after_ack_out, PathState}
+use Rattle.world_laws.proofs.Words.{end_at, goes_on, with_agenda, left, path_of, settled, answers, asks_of, asks_first, takes, begins_turn, Carried, values}
+use Rattle.world_laws.proofs.Words.{reset_of, reset_on, answered_break, refusal_of, break_ask, answered_data, answered_grant, first_unsent, grant_in}
+use Rattle.world_laws.proofs.Words.{answer_occasion, answer_of, dead_answer, resend_occasion, resend_of, next_event, asked_at, is_listening, join_taken}
+use Rattle.world_laws.proofs.Words.{joined_by, keys_begun, syn_alone, with_mode_refused, join_heard_ask, piece_of, is_placed, answered_piece, fin_segment_of}
+use Rattle.world_laws.proofs.Words.{having_sent_fin, answered_plain_fin, answered_fin_heard, is_fin_set, is_clash, with_learned, with_data_fin, with_acked}
+use Rattle.world_laws.proofs.Words.{heard_ask, item_ask, answered_heard, answered_item, item_of, fell_ask, after_fell, fell_duties, plain_ack_ask}
+use Rattle.world_laws.proofs.Words.{answered_plain_ack, with_plain_ack, breaks_by_ack, may_go_infinite, book_answered, answered_fell, with_infinite, fell_in}
+use Rattle.world_laws.proofs.Words.{in_identity, after_keys, peer_key_ask, opened_ask, answered_peer_key, answered_opened, with_peer_key, keys_in}
+use Rattle.world_laws.proofs.Words.{is_stopped_by, after_peer_notice, having_sent, sent_on, Modes, if_so}
+use Rattle.path_agenda.specs.Agenda.{breaks}
+use Rattle.path_core.specs.Emission.{Grant}
+use Rattle.path_core.specs.DssIn.{is_acked}
 use Rattle.world_laws.proofs.Falls.FailedChecks.{check_failed_so, checked_so, fail_heard_so, failed_so, infinite_came_so, infinite_so}
 use Rattle.world_laws.proofs.Falls.Verdicts.{fell_cases}
 use Rattle.world_laws.proofs.Keys.AnswerHeardFirst.{is_met, finish_met, is_key_duty, is_calm, is_sign_duty, signs, Fewer, same_duties, tail_fewer, replaced_fewer, new_duties}
@@ -85,17 +44,17 @@ module _ (T : Type 0) where
   other_fewer : (d : Duty) (ds : List Duty) → is_key_duty d ≡ false → is_sign_duty d ≡ false → Fewer ds (replaced d ds)
   other_fewer d ds key sign = replaced_fewer d ds key (λ is. absurd (both_ways _ sign is))
 
-  falls_fewer : (s : Side) (ds : List Duty) → Fewer ds (replaced (duties.Ask (ask_duties.GoIdentity s)) ds)
-  falls_fewer A ds = other_fewer (duties.Ask (ask_duties.GoIdentity A)) ds refl refl
-  falls_fewer B ds = other_fewer (duties.Ask (ask_duties.GoIdentity B)) ds refl refl
+  falls_fewer : (s : Side) (ds : List Duty) → Fewer ds (replaced (Duty.Ask (AskDuty.GoIdentity s)) ds)
+  falls_fewer A ds = other_fewer (Duty.Ask (AskDuty.GoIdentity A)) ds refl refl
+  falls_fewer B ds = other_fewer (Duty.Ask (AskDuty.GoIdentity B)) ds refl refl
 
-  fails_fewer : (s : Side) (ds : List Duty) → Fewer ds (replaced (duties.Ask (ask_duties.FailHeard s)) ds)
-  fails_fewer A ds = other_fewer (duties.Ask (ask_duties.FailHeard A)) ds refl refl
-  fails_fewer B ds = other_fewer (duties.Ask (ask_duties.FailHeard B)) ds refl refl
+  fails_fewer : (s : Side) (ds : List Duty) → Fewer ds (replaced (Duty.Ask (AskDuty.FailHeard s)) ds)
+  fails_fewer A ds = other_fewer (Duty.Ask (AskDuty.FailHeard A)) ds refl refl
+  fails_fewer B ds = other_fewer (Duty.Ask (AskDuty.FailHeard B)) ds refl refl
 
-  leave_fewer : (s : Side) (ds : List Duty) → Fewer ds (replaced (duties.Ask (ask_duties.Leave s)) ds)
-  leave_fewer A ds = other_fewer (duties.Ask (ask_duties.Leave A)) ds refl refl
-  leave_fewer B ds = other_fewer (duties.Ask (ask_duties.Leave B)) ds refl refl
+  leave_fewer : (s : Side) (ds : List Duty) → Fewer ds (replaced (Duty.Ask (AskDuty.Leave s)) ds)
+  leave_fewer A ds = other_fewer (Duty.Ask (AskDuty.Leave A)) ds refl refl
+  leave_fewer B ds = other_fewer (Duty.Ask (AskDuty.Leave B)) ds refl refl
 
   fell_fewer : (s : Side) (r : Reply) (p : PathState Carried) → Fewer p.agenda (fell_duties s r p)
   fell_fewer s r p =
@@ -112,24 +71,22 @@ module _ (T : Type 0) where
 
   -- what a verdict tells
   fell_goes : (s : Side) (event : FallEvent) (call : ControlCall) (r : Reply) (e : PathEnd) (p : PathState Carried) → e.tcp.state ≡ (end_at s p).tcp.state
-      → e.modes.mode ≡ (fell_in event r (end_at s p).modes).mode → Gains T (asks.Control s call) r → Goes T s p e
+      → e.modes.mode ≡ (fell_in event r (end_at s p).modes).mode → Gains T (Ask.Control s call) r → Goes T s p e
   fell_goes A event call r e p state mode gains = told_goes T A e p state (λ is. fell_mode T event r p.a.modes gains.0 (ap is_starting (sym mode) ∙ is))
   fell_goes B event call r e p state mode gains = tt
 
   verdict_met : (s : Side) (event : FallEvent) (r : Reply) (e : PathEnd) (p : PathState Carried) → e.tcp.state ≡ (end_at s p).tcp.state
       → e.modes.mode ≡ (fell_in event r (end_at s p).modes).mode → Gains T (fell_ask s event p) r → CalmMet T p → CalmMet T (goes_on s e (fell_duties s r p) p)
   verdict_met s event r e p state mode gains h =
-      goes_met T s e (fell_duties s r p) p (fell_goes s event (control_calls.Fell (path_of p) event) r e p state mode gains) (fell_fewer s r p) h
+      goes_met T s e (fell_duties s r p) p (fell_goes s event (ControlCall.Fell (path_of p) event) r e p state mode gains) (fell_fewer s r p) h
 
   told_met : (s : Side) (event : FallEvent) (r : Reply) (p : PathState Carried) → Gains T (fell_ask s event p) r → CalmMet T p → CalmMet T (answered_fell s event r p)
   told_met s event r p gains h = verdict_met s event r (after_fell event r (end_at s p)) p refl refl gains h
 
   break_met : (s : Side) (reason : ℕ) (r : Reply) (p : PathState Carried) → CalmMet T p → CalmMet T (answered_break values s reason r p)
-  break_met s reason r p h = by (end_at s p).treated.asked
-    where
-      by : (b : Bool) → CalmMet T (if b then answered_ack_out s r (resets s reason) p else reset_on values s (Some reason) (leaves s) p)
-      by true = same_met s (after_ack_out r (end_at s p)) (resets s reason) p refl refl (resets_fewer s reason p.agenda) h
-      by false = reset_met s (Some reason) (leaves s) p (leaves_fewer s p.agenda) h
+  break_met s reason r p h =
+      if_so (CalmMet T) (end_at s p).treated.asked (answered_ack_out s r (resets s reason) p) (reset_on values s (Some reason) (leaves s) p)
+      (same_met s (after_ack_out r (end_at s p)) (resets s reason) p refl refl (resets_fewer s reason p.agenda) h) (reset_met s (Some reason) (leaves s) p (leaves_fewer s p.agenda) h)
 
   grant_met : (s : Side) (o : Option Grant) (r : Reply) (p : PathState Carried) → CalmMet T p → CalmMet T (answered_grant s o r p)
   grant_met s None r p h = same_met s _ (left p) p refl refl (tail_fewer p.agenda) h
@@ -141,12 +98,9 @@ module _ (T : Type 0) where
 
   -- keys that the book noted
   keys_mode : (r : Reply) (o : Option KeyPair) (m : Modes) → (keys_in r o m).mode ≡ m.mode
-  keys_mode (replies.Control control_replies.Noted) (Some keys) m = refl
-  keys_mode (replies.Control control_replies.Noted) None m = refl
-  keys_mode (replies.Control _) o m = refl
-  keys_mode (replies.Send reply) o m = refl
-  keys_mode (replies.Reassembly reply) o m = refl
-  keys_mode replies.Done o m = refl
+  keys_mode (Reply.Control ControlReply.Noted) (Some keys) m = refl
+  keys_mode (Reply.Control ControlReply.Noted) None m = refl
+  keys_mode _ o m = refl
 
   keys_met : (s : Side) (r : Reply) (o : Option KeyPair) (p : PathState Carried) → CalmMet T p → CalmMet T (goes_on s (after_keys r o (end_at s p)) (left p) p)
   keys_met s r o p h = same_met s (after_keys r o (end_at s p)) (left p) p refl (keys_mode r o (end_at s p).modes) (tail_fewer p.agenda) h
@@ -156,37 +110,37 @@ module _ (T : Type 0) where
   is_signed s p = OfA T s (signs p.agenda ≡ true)
 
   heard_answered_met : (s : Side) (item : Heard) (r : Reply) (p : PathState Carried) → Gains T (heard_ask values s item p) r → is_signed s p → CalmMet T p → CalmMet T (answered_heard values s item r p)
-  heard_answered_met s (says.DataAck next window) r p gains sign h = by (is_acked r && nat_lt 0 next)
+  heard_answered_met s (Heard.DataAck next window) r p gains sign h = by (is_acked r && nat_lt 0 next)
     where
-      told : (s : Side) → is_signed s p → Fewer p.agenda (replaced (duties.Ask (ask_duties.AckHeard s)) p.agenda)
-      told A sign = replaced_fewer (duties.Ask (ask_duties.AckHeard A)) p.agenda refl (λ is. sign)
-      told B sign = replaced_fewer (duties.Ask (ask_duties.AckHeard B)) p.agenda refl (λ is. absurd (false≢true is))
+      told : (s : Side) → is_signed s p → Fewer p.agenda (replaced (Duty.Ask (AskDuty.AckHeard s)) p.agenda)
+      told A sign = replaced_fewer (Duty.Ask (AskDuty.AckHeard A)) p.agenda refl (λ is. sign)
+      told B sign = replaced_fewer (Duty.Ask (AskDuty.AckHeard B)) p.agenda refl (λ is. absurd (false≢true is))
 
-      by : (b : Bool) → CalmMet T (goes_on s (with_acked next r (end_at s p)) (if b then replaced (duties.Ask (ask_duties.AckHeard s)) p.agenda else left p) p)
-      by true = same_met s (with_acked next r (end_at s p)) (replaced (duties.Ask (ask_duties.AckHeard s)) p.agenda) p refl refl (told s sign) h
+      by : (b : Bool) → CalmMet T (goes_on s (with_acked next r (end_at s p)) (if b then replaced (Duty.Ask (AskDuty.AckHeard s)) p.agenda else left p) p)
+      by true = same_met s (with_acked next r (end_at s p)) (replaced (Duty.Ask (AskDuty.AckHeard s)) p.agenda) p refl refl (told s sign) h
       by false = same_met s (with_acked next r (end_at s p)) (left p) p refl refl (tail_fewer p.agenda) h
-  heard_answered_met s (says.Mapping fin) r p gains sign h = by (is_clash (end_at s p)) gains
+  heard_answered_met s (Heard.Mapping fin) r p gains sign h = by (is_clash (end_at s p)) gains
     where
-      by : (b : Bool) → Gains T (if b then break_ask values s 1 p else fell_ask s fall.MappingHeard p) r
-          → CalmMet T (if b then answered_break values s 1 r p else goes_on s (with_learned (after_fell fall.MappingHeard r (end_at s p))) (fell_duties s r p) p)
+      by : (b : Bool) → Gains T (if b then break_ask values s 1 p else fell_ask s FallEvent.MappingHeard p) r
+          → CalmMet T (if b then answered_break values s 1 r p else goes_on s (with_learned (after_fell FallEvent.MappingHeard r (end_at s p))) (fell_duties s r p) p)
       by true gains = break_met s 1 r p h
-      by false gains = verdict_met s fall.MappingHeard r (with_learned (after_fell fall.MappingHeard r (end_at s p))) p refl refl gains h
-  heard_answered_met s (says.DataFin place) r p gains sign h = verdict_met s fall.MappingHeard r (with_data_fin place (after_fell fall.MappingHeard r (end_at s p))) p refl refl gains h
-  heard_answered_met s (says.InfiniteMapping place position) r p gains sign h =
+      by false gains = verdict_met s FallEvent.MappingHeard r (with_learned (after_fell FallEvent.MappingHeard r (end_at s p))) p refl refl gains h
+  heard_answered_met s (Heard.DataFin place) r p gains sign h = verdict_met s FallEvent.MappingHeard r (with_data_fin place (after_fell FallEvent.MappingHeard r (end_at s p))) p refl refl gains h
+  heard_answered_met s (Heard.InfiniteMapping place position) r p gains sign h =
       infinite_came_so (λ e. CalmMet T (goes_on s e (fell_duties s r p) p)) place position r (end_at s p)
-      (λ other. verdict_met s fall.InfiniteHeard r (infinite_so r other (end_at s p)) p refl refl gains h)
-  heard_answered_met s (says.Keys mine other) r p gains sign h = keys_met s r (Some (record { own = mine; peer = other })) p h
-  heard_answered_met s says.Dss r p gains sign h = agenda_met T (left p) p (tail_fewer p.agenda) h
-  heard_answered_met s (says.PeerKey key) r p gains sign h = agenda_met T (left p) p (tail_fewer p.agenda) h
-  heard_answered_met s (says.Join form) r p gains sign h = agenda_met T (left p) p (tail_fewer p.agenda) h
-  heard_answered_met s (says.Notice notice) r p gains sign h = same_met s (after_peer_notice notice r (end_at s p)) (left p) p refl refl (tail_fewer p.agenda) h
-  heard_answered_met s says.Fail r p gains sign h = by (may_go_infinite (end_at s p)) gains
+      (λ other. verdict_met s FallEvent.InfiniteHeard r (infinite_so r other (end_at s p)) p refl refl gains h)
+  heard_answered_met s (Heard.Keys mine other) r p gains sign h = keys_met s r (Some (record { own = mine; peer = other })) p h
+  heard_answered_met s Heard.Dss r p gains sign h = agenda_met T (left p) p (tail_fewer p.agenda) h
+  heard_answered_met s (Heard.PeerKey key) r p gains sign h = agenda_met T (left p) p (tail_fewer p.agenda) h
+  heard_answered_met s (Heard.Join form) r p gains sign h = agenda_met T (left p) p (tail_fewer p.agenda) h
+  heard_answered_met s (Heard.Notice notice) r p gains sign h = same_met s (after_peer_notice notice r (end_at s p)) (left p) p refl refl (tail_fewer p.agenda) h
+  heard_answered_met s Heard.Fail r p gains sign h = by (may_go_infinite (end_at s p)) gains
     where
-      by : (b : Bool) → Gains T (if b then asks.Send s (send_calls.GoInfinite (path_of p)) else fell_ask s (fall.FailHeard false) p) r
-          → CalmMet T (if b then book_answered s r p else answered_fell s (fall.FailHeard false) r p)
-      by true gains = same_met s (with_infinite r (end_at s p)) (replaced (duties.Ask (ask_duties.FailHeard s)) p.agenda) p refl refl (fails_fewer s p.agenda) h
-      by false gains = told_met s (fall.FailHeard false) r p gains h
-  heard_answered_met s (says.FastClose key) r p gains sign h = by (is_stopped_by r)
+      by : (b : Bool) → Gains T (if b then Ask.Send s (SendCall.GoInfinite (path_of p)) else fell_ask s (FallEvent.FailHeard false) p) r
+          → CalmMet T (if b then book_answered s r p else answered_fell s (FallEvent.FailHeard false) r p)
+      by true gains = same_met s (with_infinite r (end_at s p)) (replaced (Duty.Ask (AskDuty.FailHeard s)) p.agenda) p refl refl (fails_fewer s p.agenda) h
+      by false gains = told_met s (FallEvent.FailHeard false) r p gains h
+  heard_answered_met s (Heard.FastClose key) r p gains sign h = by (is_stopped_by r)
     where
       fewer : (s : Side) → Fewer p.agenda (stops s)
       fewer A = new_duties p.agenda (stops A) refl refl
@@ -203,13 +157,13 @@ module _ (T : Type 0) where
   plain_ack_met : (s : Side) (r : Reply) (p : PathState Carried) → Gains T (plain_ack_ask values s p) r → CalmMet T p → CalmMet T (answered_plain_ack values s r p)
   plain_ack_met s r p gains h = by (breaks_by_ack p.profile (end_at s p)) gains
     where
-      by : (b : Bool) → Gains T (if b then break_ask values s 6 p else fell_ask s fall.PlainAck p) r
-          → CalmMet T (if b then answered_break values s 6 r p else goes_on s (with_plain_ack (after_fell fall.PlainAck r (end_at s p))) (fell_duties s r p) p)
+      by : (b : Bool) → Gains T (if b then break_ask values s 6 p else fell_ask s FallEvent.PlainAck p) r
+          → CalmMet T (if b then answered_break values s 6 r p else goes_on s (with_plain_ack (after_fell FallEvent.PlainAck r (end_at s p))) (fell_duties s r p) p)
       by true gains = break_met s 6 r p h
-      by false gains = verdict_met s fall.PlainAck r (with_plain_ack (after_fell fall.PlainAck r (end_at s p))) p refl refl gains h
+      by false gains = verdict_met s FallEvent.PlainAck r (with_plain_ack (after_fell FallEvent.PlainAck r (end_at s p))) p refl refl gains h
 
   opened_met : (s : Side) (o : Option KeyPair) (r : Reply) (p : PathState Carried) → Gains T (opened_ask s o p) r → CalmMet T p → CalmMet T (answered_opened s o r p)
-  opened_met s None r p gains h = told_met s fall.PlainHandshake r p gains h
+  opened_met s None r p gains h = told_met s FallEvent.PlainHandshake r p gains h
   opened_met s (Some keys) r p gains h = keys_met s r (Some keys) p h
 
   refused_met : (s : Side) (e : PathEnd) (p : PathState Carried) → e.tcp.state ≡ (end_at s p).tcp.state → e.modes.mode ≡ (end_at s p).modes.mode → CalmMet T p → CalmMet T (goes_on s e (breaks s 1) p)
@@ -229,31 +183,31 @@ module _ (T : Type 0) where
   plain_fin_met s false p h = refused_met s _ p refl refl h
 
   -- a join is heard of
-  refuse_met : (s : Side) (p : PathState Carried) → CalmMet T p → CalmMet T (with_agenda (replaced (duties.Send (send_duties.Refuse s)) p.agenda) p)
-  refuse_met A p h = agenda_met T (replaced (duties.Send (send_duties.Refuse A)) p.agenda) p (other_fewer (duties.Send (send_duties.Refuse A)) p.agenda refl refl) h
-  refuse_met B p h = agenda_met T (replaced (duties.Send (send_duties.Refuse B)) p.agenda) p (other_fewer (duties.Send (send_duties.Refuse B)) p.agenda refl refl) h
+  refuse_met : (s : Side) (p : PathState Carried) → CalmMet T p → CalmMet T (with_agenda (replaced (Duty.Send (SendDuty.Refuse s)) p.agenda) p)
+  refuse_met A p h = agenda_met T (replaced (Duty.Send (SendDuty.Refuse A)) p.agenda) p (other_fewer (Duty.Send (SendDuty.Refuse A)) p.agenda refl refl) h
+  refuse_met B p h = agenda_met T (replaced (Duty.Send (SendDuty.Refuse B)) p.agenda) p (other_fewer (Duty.Send (SendDuty.Refuse B)) p.agenda refl refl) h
 
   joined_met : (s : Side) (o : Option KeyPair) (asked : Option JoinSyn) (r : Reply) (p : PathState Carried) → Gains T (join_heard_ask s asked p) r → CalmMet T p → CalmMet T (join_taken s o asked r p)
   joined_met A None (Some asked) r p gains h =
-      goes_met T A (with_mode_refused r p.a) (replaced (duties.Send (send_duties.Refuse A)) p.agenda) p (told_goes T A (with_mode_refused r p.a) p refl (λ is. refused_mode T r p.a.modes.mode gains.0 is))
-      (other_fewer (duties.Send (send_duties.Refuse A)) p.agenda refl refl) h
-  joined_met B None (Some asked) r p gains h = goes_met T B (with_mode_refused r p.b) (replaced (duties.Send (send_duties.Refuse B)) p.agenda) p tt (other_fewer (duties.Send (send_duties.Refuse B)) p.agenda refl refl) h
+      goes_met T A (with_mode_refused r p.a) (replaced (Duty.Send (SendDuty.Refuse A)) p.agenda) p (told_goes T A (with_mode_refused r p.a) p refl (λ is. refused_mode T r p.a.modes.mode gains.0 is))
+      (other_fewer (Duty.Send (SendDuty.Refuse A)) p.agenda refl refl) h
+  joined_met B None (Some asked) r p gains h = goes_met T B (with_mode_refused r p.b) (replaced (Duty.Send (SendDuty.Refuse B)) p.agenda) p tt (other_fewer (Duty.Send (SendDuty.Refuse B)) p.agenda refl refl) h
   joined_met s None None r p gains h = refuse_met s p h
   joined_met s (Some keys) None r p gains h = refuse_met s p h
   joined_met A (Some keys) (Some asked) r p gains h =
-      goes_met T A (joined_by keys asked p.a) (replaced (duties.Send (send_duties.SynAck A)) p.agenda) p (state_goes T A (joined_by keys asked p.a) p (listens (is_listening p.a.tcp.state) refl) refl)
-      (other_fewer (duties.Send (send_duties.SynAck A)) p.agenda refl refl) h
+      goes_met T A (joined_by keys asked p.a) (replaced (Duty.Send (SendDuty.SynAck A)) p.agenda) p (state_goes T A (joined_by keys asked p.a) p (listens (is_listening p.a.tcp.state) refl) refl)
+      (other_fewer (Duty.Send (SendDuty.SynAck A)) p.agenda refl refl) h
     where
       listening : (state : EndPhase) → is_listening state ≡ true → is_met state ≡ true
-      listening phase.Listen is = refl
-      listening phase.Waiting is = absurd (false≢true is)
+      listening EndPhase.Listen is = refl
+      listening EndPhase.Waiting is = absurd (false≢true is)
       listening _ is = absurd (false≢true is)
 
       listens : (b : Bool) → is_listening p.a.tcp.state ≡ b → is_met (if b then after_syn (unkept None) (syn_alone p.a.treated.window) p.a.tcp else p.a.tcp).state ≡ true → is_met p.a.tcp.state ≡ true
       listens true is met = listening p.a.tcp.state is
       listens false is met = met
   joined_met B (Some keys) (Some asked) r p gains h =
-      goes_met T B (joined_by keys asked p.b) (replaced (duties.Send (send_duties.SynAck B)) p.agenda) p tt (other_fewer (duties.Send (send_duties.SynAck B)) p.agenda refl refl) h
+      goes_met T B (joined_by keys asked p.b) (replaced (Duty.Send (SendDuty.SynAck B)) p.agenda) p tt (other_fewer (Duty.Send (SendDuty.SynAck B)) p.agenda refl refl) h
 
   occasion_goes : (s : Side) (o : Occasion) (sg : PlainSegment) (p : PathState Carried) → Goes T s p (having_sent o p.clock sg (end_at s p))
   occasion_goes s o sg p = same_goes T s (having_sent o p.clock sg (end_at s p)) p (same o) refl
@@ -262,107 +216,107 @@ module _ (T : Type 0) where
       tcp = (end_at s p).tcp
 
       same : (o : Occasion) → (after_sending o p.clock tcp).state ≡ tcp.state
-      same to_send.Reset = refl
+      same Occasion.Reset = refl
       same _ = refl
 
-  look_goes : (s : Side) (r : Reply) (p : PathState Carried) → Gains T (asks.Control s (control_calls.Look (path_of p))) r → Goes T s p (after_look r (end_at s p))
+  look_goes : (s : Side) (r : Reply) (p : PathState Carried) → Gains T (Ask.Control s (ControlCall.Look (path_of p))) r → Goes T s p (after_look r (end_at s p))
   look_goes A r p gains = told_goes T A (after_look r p.a) p refl (λ is. look_mode T r p.a.modes gains.0 is)
   look_goes B r p gains = tt
 
   -- a duty that isn't to learn the key
   answered_met : (d : Duty) (r : Reply) (p : PathState Carried) → is_key_duty d ≡ false → (is_sign_duty d ≡ true → signs p.agenda ≡ true) → Gains T (ask_for values d p) r
       → CalmMet T p → PathMet T (answered values d r p)
-  answered_met (duties.Ask ask_duties.JoinAgain) r p none sign gains h =
-      inl (begun_met T r (replaced (duties.Ask (ask_duties.Leave A)) p.agenda) (left p) p gains.0 (other_fewer (duties.Ask (ask_duties.Leave A)) p.agenda refl refl) (tail_fewer p.agenda) h)
-  answered_met (duties.Step (step_duties.Look s)) r p none sign gains h = inl (goes_met T s (after_look r (end_at s p)) (left p) p (look_goes s r p gains) (tail_fewer p.agenda) h)
-  answered_met (duties.Ask (ask_duties.Window s)) r p none sign gains h = inl (same_met s (after_ack_out r (end_at s p)) (left p) p refl refl (tail_fewer p.agenda) h)
-  answered_met (duties.Send (send_duties.Update s)) r p none sign gains h = inl (same_sent_met s _ _ (left p) p refl refl (tail_fewer p.agenda) h)
-  answered_met (duties.Send (send_duties.FastClose s)) r p none sign gains h = inl (same_sent_met s _ _ (left p) p refl refl (tail_fewer p.agenda) h)
-  answered_met (duties.Send (send_duties.Notice s)) r p none sign gains h = inl (same_sent_met s _ _ p.agenda p refl refl (same_duties p.agenda) h)
-  answered_met (duties.Send (send_duties.Syn s)) r p none sign gains h = inl (same_sent_met s _ _ (left p) p refl refl (tail_fewer p.agenda) h)
-  answered_met (duties.Step (step_duties.Data s)) r p none sign gains h = inl (data_met s (first_unsent (end_at s p)) r p h)
-  answered_met (duties.Send (send_duties.DataFin s)) r p none sign gains h = inl (same_sent_met s _ _ (left p) p refl refl (tail_fewer p.agenda) h)
-  answered_met (duties.Send (send_duties.Fin s)) r p none sign gains h =
+  answered_met (Duty.Ask AskDuty.JoinAgain) r p none sign gains h =
+      inl (begun_met T r (replaced (Duty.Ask (AskDuty.Leave A)) p.agenda) (left p) p gains.0 (other_fewer (Duty.Ask (AskDuty.Leave A)) p.agenda refl refl) (tail_fewer p.agenda) h)
+  answered_met (Duty.Step (StepDuty.Look s)) r p none sign gains h = inl (goes_met T s (after_look r (end_at s p)) (left p) p (look_goes s r p gains) (tail_fewer p.agenda) h)
+  answered_met (Duty.Ask (AskDuty.Window s)) r p none sign gains h = inl (same_met s (after_ack_out r (end_at s p)) (left p) p refl refl (tail_fewer p.agenda) h)
+  answered_met (Duty.Send (SendDuty.Update s)) r p none sign gains h = inl (same_sent_met s _ _ (left p) p refl refl (tail_fewer p.agenda) h)
+  answered_met (Duty.Send (SendDuty.FastClose s)) r p none sign gains h = inl (same_sent_met s _ _ (left p) p refl refl (tail_fewer p.agenda) h)
+  answered_met (Duty.Send (SendDuty.Notice s)) r p none sign gains h = inl (same_sent_met s _ _ p.agenda p refl refl (same_duties p.agenda) h)
+  answered_met (Duty.Send (SendDuty.Syn s)) r p none sign gains h = inl (same_sent_met s _ _ (left p) p refl refl (tail_fewer p.agenda) h)
+  answered_met (Duty.Step (StepDuty.Data s)) r p none sign gains h = inl (data_met s (first_unsent (end_at s p)) r p h)
+  answered_met (Duty.Send (SendDuty.DataFin s)) r p none sign gains h = inl (same_sent_met s _ _ (left p) p refl refl (tail_fewer p.agenda) h)
+  answered_met (Duty.Send (SendDuty.Fin s)) r p none sign gains h =
       inl (sent_met T s (fin_segment_of s p) (having_sent_fin s p) (left p) p (state_goes T s (having_sent_fin s p) p (λ met. sym (finish_met (end_at s p).tcp.state) ∙ met) refl) (tail_fewer p.agenda) h)
-  answered_met (duties.Step step_duties.Events) r p none sign gains h = event_met T (next_event p) r p gains h
-  answered_met (duties.Ask (ask_duties.PlainHandshake s)) r p none sign gains h = inl (told_met s fall.PlainHandshake r p gains h)
-  answered_met (duties.Ask (ask_duties.PeerKey A)) r p none sign gains h = absurd (false≢true (sym none))
-  answered_met (duties.Ask (ask_duties.PeerKey B)) r p none sign gains h = inl (b_key (key_heard p.b.treated.items))
+  answered_met (Duty.Step StepDuty.Events) r p none sign gains h = event_met T (next_event p) r p gains h
+  answered_met (Duty.Ask (AskDuty.PlainHandshake s)) r p none sign gains h = inl (told_met s FallEvent.PlainHandshake r p gains h)
+  answered_met (Duty.Ask (AskDuty.PeerKey A)) r p none sign gains h = absurd (false≢true (sym none))
+  answered_met (Duty.Ask (AskDuty.PeerKey B)) r p none sign gains h = inl (b_key (key_heard p.b.treated.items))
     where
       b_key : (o : Option ℕ) → CalmMet T (answered_peer_key B o r p)
-      b_key None = goes_met T B (after_fell fall.PlainHandshake r p.b) (fell_duties B r p) p tt (fell_fewer B r p) h
+      b_key None = goes_met T B (after_fell FallEvent.PlainHandshake r p.b) (fell_duties B r p) p tt (fell_fewer B r p) h
       b_key (Some key) = goes_met T B (with_peer_key (Some key) p.b) (left p) p tt (tail_fewer p.agenda) h
-  answered_met (duties.Ask (ask_duties.SynAnswered A)) r p none sign gains h = absurd (false≢true (sym none))
-  answered_met (duties.Ask (ask_duties.SynAnswered B)) r p none sign gains h = inl (agenda_met T (left p) p (tail_fewer p.agenda) h)
-  answered_met (duties.Send (send_duties.SynAck s)) r p none sign gains h = inl (same_sent_met s _ _ (left p) p refl refl (tail_fewer p.agenda) h)
-  answered_met (duties.Ask (ask_duties.JoinHeard s)) r p none sign gains h = inl (joined_met s (keys_begun r) (asked_at s p) r p gains h)
-  answered_met (duties.Send (send_duties.Refuse s)) r p none sign gains h = inl (same_sent_met s (refusal_of s p) (end_at s p) (left p) p refl refl (tail_fewer p.agenda) h)
-  answered_met (duties.Ask (ask_duties.Opened s)) r p none sign gains h = inl (opened_met s (keys_heard (end_at s p).treated.items) r p gains h)
-  answered_met (duties.Step (step_duties.Heard s index)) r p none sign gains h = inl (item_answered_met s (item_of index (end_at s p)) r p gains (by s sign) h)
+  answered_met (Duty.Ask (AskDuty.SynAnswered A)) r p none sign gains h = absurd (false≢true (sym none))
+  answered_met (Duty.Ask (AskDuty.SynAnswered B)) r p none sign gains h = inl (agenda_met T (left p) p (tail_fewer p.agenda) h)
+  answered_met (Duty.Send (SendDuty.SynAck s)) r p none sign gains h = inl (same_sent_met s _ _ (left p) p refl refl (tail_fewer p.agenda) h)
+  answered_met (Duty.Ask (AskDuty.JoinHeard s)) r p none sign gains h = inl (joined_met s (keys_begun r) (asked_at s p) r p gains h)
+  answered_met (Duty.Send (SendDuty.Refuse s)) r p none sign gains h = inl (same_sent_met s (refusal_of s p) (end_at s p) (left p) p refl refl (tail_fewer p.agenda) h)
+  answered_met (Duty.Ask (AskDuty.Opened s)) r p none sign gains h = inl (opened_met s (keys_heard (end_at s p).treated.items) r p gains h)
+  answered_met (Duty.Step (StepDuty.Heard s index)) r p none sign gains h = inl (item_answered_met s (item_of index (end_at s p)) r p gains (by s sign) h)
     where
-      by : (s : Side) → (is_sign_duty (duties.Step (step_duties.Heard s index)) ≡ true → signs p.agenda ≡ true) → is_signed s p
+      by : (s : Side) → (is_sign_duty (Duty.Step (StepDuty.Heard s index)) ≡ true → signs p.agenda ≡ true) → is_signed s p
       by A sign = sign refl
       by B sign = tt
-  answered_met (duties.Ask (ask_duties.AckHeard s)) r p none sign gains h = inl (told_met s fall.AckHeard r p gains h)
-  answered_met (duties.Ask (ask_duties.FailHeard s)) r p none sign gains h =
+  answered_met (Duty.Ask (AskDuty.AckHeard s)) r p none sign gains h = inl (told_met s FallEvent.AckHeard r p gains h)
+  answered_met (Duty.Ask (AskDuty.FailHeard s)) r p none sign gains h =
       inl (fail_heard_so (λ e. CalmMet T (goes_on s e (fell_duties s r p) p)) r (end_at s p)
-      (λ own owes. verdict_met s (fall.FailHeard (is_some (end_at s p).treated.infinite_mapping)) r (failed_so r own owes (end_at s p)) p refl refl gains h))
-  answered_met (duties.Step (step_duties.PlainAck s)) r p none sign gains h = inl (plain_ack_met s r p gains h)
-  answered_met (duties.Ask (ask_duties.SubflowAck s)) r p none sign gains h = inl (same_met s _ (left p) p refl refl (tail_fewer p.agenda) h)
-  answered_met (duties.Ask (ask_duties.PlainData s)) r p none sign gains h = inl (told_met s fall.PlainData r p gains h)
-  answered_met (duties.Ask (ask_duties.GoIdentity s)) r p none sign gains h = inl (same_met s (in_identity (end_at s p)) (left p) p refl refl (tail_fewer p.agenda) h)
-  answered_met (duties.Step (step_duties.Unmapped s)) r p none sign gains h = inl (break_met s 6 r p h)
-  answered_met (duties.Ask (ask_duties.SubflowFin s)) r p none sign gains h = inl (plain_fin_met s (is_fin_set r) p h)
-  answered_met (duties.Ask (ask_duties.Edge s)) r p none sign gains h = inl (piece_met s (piece_of s p) (is_placed r) p h)
-  answered_met (duties.Ask (ask_duties.CheckFailed s)) r p none sign gains h =
+      (λ own owes. verdict_met s (FallEvent.FailHeard (is_some (end_at s p).treated.infinite_mapping)) r (failed_so r own owes (end_at s p)) p refl refl gains h))
+  answered_met (Duty.Step (StepDuty.PlainAck s)) r p none sign gains h = inl (plain_ack_met s r p gains h)
+  answered_met (Duty.Ask (AskDuty.SubflowAck s)) r p none sign gains h = inl (same_met s _ (left p) p refl refl (tail_fewer p.agenda) h)
+  answered_met (Duty.Ask (AskDuty.PlainData s)) r p none sign gains h = inl (told_met s FallEvent.PlainData r p gains h)
+  answered_met (Duty.Ask (AskDuty.GoIdentity s)) r p none sign gains h = inl (same_met s (in_identity (end_at s p)) (left p) p refl refl (tail_fewer p.agenda) h)
+  answered_met (Duty.Step (StepDuty.Unmapped s)) r p none sign gains h = inl (break_met s 6 r p h)
+  answered_met (Duty.Ask (AskDuty.SubflowFin s)) r p none sign gains h = inl (plain_fin_met s (is_fin_set r) p h)
+  answered_met (Duty.Ask (AskDuty.Edge s)) r p none sign gains h = inl (piece_met s (piece_of s p) (is_placed r) p h)
+  answered_met (Duty.Ask (AskDuty.CheckFailed s)) r p none sign gains h =
       inl (check_failed_so (λ e. CalmMet T (goes_on s e (fell_duties s r p) p)) p.profile.spelling.checksums r (end_at s p)
-      (λ told broken recv forgets. verdict_met s fall.CheckFailed r (checked_so r told broken recv (end_at s p)) p refl refl gains h))
-  answered_met (duties.Ask (ask_duties.HeardFin s index)) r p none sign gains h = inl (fin_set_met s (is_fin_set r) p h)
-  answered_met (duties.Ask (ask_duties.AckOut s)) r p none sign gains h = inl (same_met s (after_ack_out r (end_at s p)) (left p) p refl refl (tail_fewer p.agenda) h)
-  answered_met (duties.Ask (ask_duties.Rate s)) r p none sign gains h = inl (same_met s _ (left p) p refl refl (tail_fewer p.agenda) h)
-  answered_met (duties.Send (send_duties.Acknowledge s)) r p none sign gains h = inl (same_sent_met s _ _ (left p) p refl refl (tail_fewer p.agenda) h)
-  answered_met (duties.Send (send_duties.Again s)) r p none sign gains h = inl (same_sent_met s _ _ (left p) p refl refl (tail_fewer p.agenda) h)
-  answered_met (duties.Send (send_duties.Answer s)) r p none sign gains h =
+      (λ told broken recv forgets. verdict_met s FallEvent.CheckFailed r (checked_so r told broken recv (end_at s p)) p refl refl gains h))
+  answered_met (Duty.Ask (AskDuty.HeardFin s index)) r p none sign gains h = inl (fin_set_met s (is_fin_set r) p h)
+  answered_met (Duty.Ask (AskDuty.AckOut s)) r p none sign gains h = inl (same_met s (after_ack_out r (end_at s p)) (left p) p refl refl (tail_fewer p.agenda) h)
+  answered_met (Duty.Ask (AskDuty.Rate s)) r p none sign gains h = inl (same_met s _ (left p) p refl refl (tail_fewer p.agenda) h)
+  answered_met (Duty.Send (SendDuty.Acknowledge s)) r p none sign gains h = inl (same_sent_met s _ _ (left p) p refl refl (tail_fewer p.agenda) h)
+  answered_met (Duty.Send (SendDuty.Again s)) r p none sign gains h = inl (same_sent_met s _ _ (left p) p refl refl (tail_fewer p.agenda) h)
+  answered_met (Duty.Send (SendDuty.Answer s)) r p none sign gains h =
       inl (sent_met T s (answer_of s p) _ (left p) p (occasion_goes s (answer_occasion (end_at s p)) (answer_of s p) p) (tail_fewer p.agenda) h)
-  answered_met (duties.Send (send_duties.ResetAnswer s)) r p none sign gains h = inl (same_sent_met s (dead_answer s p) (end_at s p) (left p) p refl refl (tail_fewer p.agenda) h)
-  answered_met (duties.Send (send_duties.Resend s)) r p none sign gains h =
+  answered_met (Duty.Send (SendDuty.ResetAnswer s)) r p none sign gains h = inl (same_sent_met s (dead_answer s p) (end_at s p) (left p) p refl refl (tail_fewer p.agenda) h)
+  answered_met (Duty.Send (SendDuty.Resend s)) r p none sign gains h =
       inl (sent_met T s (resend_of s p) _ (left p) p (occasion_goes s (resend_occasion (end_at s p)) (resend_of s p) p) (tail_fewer p.agenda) h)
-  answered_met (duties.Ask (ask_duties.BreakAck s reason)) r p none sign gains h = inl (same_met s (after_ack_out r (end_at s p)) (resets s reason) p refl refl (resets_fewer s reason p.agenda) h)
-  answered_met (duties.Send (send_duties.BreakReset s reason)) r p none sign gains h = inl (reset_met s (Some reason) (leaves s) p (leaves_fewer s p.agenda) h)
-  answered_met (duties.Send (send_duties.Reset s)) r p none sign gains h = inl (reset_met s None (replaced (duties.Ask (ask_duties.Leave s)) p.agenda) p (leave_fewer s p.agenda) h)
-  answered_met (duties.Send (send_duties.ResetNoted s)) r p none sign gains h = inl (reset_met s None (replaced (duties.Ask (ask_duties.Leave s)) p.agenda) p (leave_fewer s p.agenda) h)
-  answered_met (duties.Ask (ask_duties.Leave s)) r p none sign gains h = inl (agenda_met T (replaced (duties.Ask (ask_duties.Dead s)) p.agenda) p (by s) h)
+  answered_met (Duty.Ask (AskDuty.BreakAck s reason)) r p none sign gains h = inl (same_met s (after_ack_out r (end_at s p)) (resets s reason) p refl refl (resets_fewer s reason p.agenda) h)
+  answered_met (Duty.Send (SendDuty.BreakReset s reason)) r p none sign gains h = inl (reset_met s (Some reason) (leaves s) p (leaves_fewer s p.agenda) h)
+  answered_met (Duty.Send (SendDuty.Reset s)) r p none sign gains h = inl (reset_met s None (replaced (Duty.Ask (AskDuty.Leave s)) p.agenda) p (leave_fewer s p.agenda) h)
+  answered_met (Duty.Send (SendDuty.ResetNoted s)) r p none sign gains h = inl (reset_met s None (replaced (Duty.Ask (AskDuty.Leave s)) p.agenda) p (leave_fewer s p.agenda) h)
+  answered_met (Duty.Ask (AskDuty.Leave s)) r p none sign gains h = inl (agenda_met T (replaced (Duty.Ask (AskDuty.Dead s)) p.agenda) p (by s) h)
     where
-      by : (s : Side) → Fewer p.agenda (replaced (duties.Ask (ask_duties.Dead s)) p.agenda)
-      by A = other_fewer (duties.Ask (ask_duties.Dead A)) p.agenda refl refl
-      by B = other_fewer (duties.Ask (ask_duties.Dead B)) p.agenda refl refl
-  answered_met (duties.Ask (ask_duties.LeaveNoted s)) r p none sign gains h =
-      inl (goes_met T s (died (end_at s p)) (replaced (duties.Ask (ask_duties.Dead s)) p.agenda) p (died_goes T s p) (by s) h)
+      by : (s : Side) → Fewer p.agenda (replaced (Duty.Ask (AskDuty.Dead s)) p.agenda)
+      by A = other_fewer (Duty.Ask (AskDuty.Dead A)) p.agenda refl refl
+      by B = other_fewer (Duty.Ask (AskDuty.Dead B)) p.agenda refl refl
+  answered_met (Duty.Ask (AskDuty.LeaveNoted s)) r p none sign gains h =
+      inl (goes_met T s (died (end_at s p)) (replaced (Duty.Ask (AskDuty.Dead s)) p.agenda) p (died_goes T s p) (by s) h)
     where
-      by : (s : Side) → Fewer p.agenda (replaced (duties.Ask (ask_duties.Dead s)) p.agenda)
-      by A = other_fewer (duties.Ask (ask_duties.Dead A)) p.agenda refl refl
-      by B = other_fewer (duties.Ask (ask_duties.Dead B)) p.agenda refl refl
-  answered_met duties.End r p none sign gains h = inl (agenda_met T [] p (new_duties p.agenda [] refl refl) h)
+      by : (s : Side) → Fewer p.agenda (replaced (Duty.Ask (AskDuty.Dead s)) p.agenda)
+      by A = other_fewer (Duty.Ask (AskDuty.Dead A)) p.agenda refl refl
+      by B = other_fewer (Duty.Ask (AskDuty.Dead B)) p.agenda refl refl
+  answered_met Duty.End r p none sign gains h = inl (agenda_met T [] p (new_duties p.agenda [] refl refl) h)
   answered_met _ r p none sign gains h = inl (agenda_met T (left p) p (tail_fewer p.agenda) h)
 
   -- A learns the key, or that there is none
   learns_met : (r : Reply) (p : PathState Carried) → (h : Keying T p) → ((x : Ask) → asks_of values p ≡ Some x → Gains T x r) → PathMet T (takes values r p)
   learns_met r p h gains = by h.begins h.agenda_is
     where
-      calm_tail : p.agenda ≡ duties.Ask (ask_duties.PeerKey A) ∷ h.rest → is_calm (left p) ≡ true
+      calm_tail : p.agenda ≡ Duty.Ask (AskDuty.PeerKey A) ∷ h.rest → is_calm (left p) ≡ true
       calm_tail same = ap (λ ds. is_calm (tail_of ds)) same ∙ h.calm
 
-      fallen : (o : Option ℕ) → p.agenda ≡ duties.Ask (ask_duties.PeerKey A) ∷ h.rest → T → CalmMet T (answered_peer_key A o r p)
+      fallen : (o : Option ℕ) → p.agenda ≡ Duty.Ask (AskDuty.PeerKey A) ∷ h.rest → T → CalmMet T (answered_peer_key A o r p)
       fallen (Some key) same known = known_met T (goes_on A (with_peer_key (Some key) p.a) (left p) p) h.first (calm_tail same) known
       fallen None same known =
-          known_met T (answered_fell A fall.PlainHandshake r p) h.first
-          (fell_cases (λ ds. is_calm ds ≡ true) A p r (λ fell. ap (λ ds. is_calm (replaced (duties.Ask (ask_duties.GoIdentity A)) ds)) same ∙ h.calm) (λ reason. refl) (λ reason. refl) (calm_tail same)) known
+          known_met T (answered_fell A FallEvent.PlainHandshake r p) h.first
+          (fell_cases (λ ds. is_calm ds ≡ true) A p r (λ fell. ap (λ ds. is_calm (replaced (Duty.Ask (AskDuty.GoIdentity A)) ds)) same ∙ h.calm) (λ reason. refl) (λ reason. refl) (calm_tail same)) known
 
       told : (o : Option ℕ) → Gains T (peer_key_ask A o p) r → T
       told None gain = gain.1
       told (Some key) gain = gain.1
 
-      by : (begins : Bool) → p.agenda ≡ (if begins then duties.Ask (ask_duties.SynAnswered A) ∷ duties.Ask (ask_duties.PeerKey A) ∷ h.rest else duties.Ask (ask_duties.PeerKey A) ∷ h.rest) → PathMet T (takes values r p)
+      by : (begins : Bool) → p.agenda ≡ (if begins then Duty.Ask (AskDuty.SynAnswered A) ∷ Duty.Ask (AskDuty.PeerKey A) ∷ h.rest else Duty.Ask (AskDuty.PeerKey A) ∷ h.rest) → PathMet T (takes values r p)
       by true same =
           subst (λ ds. PathMet T (settled (answers values ds r p).agenda (answers values ds r p))) (sym same)
           (settles_met T (with_agenda (left p) p) (inr (record { first = h.first; begins = false; rest = h.rest; agenda_is = ap tail_of same; calm = h.calm; mode = h.mode })))

@@ -1,89 +1,34 @@
 -- Every step of a path keeps its keys and nonces, those of what was heard, and those of the copies under way.
-use Rattle.std.proofs.Common.{◌≡◌, refl, sym, ◌∙◌, ap, subst, ℕ, zero, suc, ◌-◌, ◌&&◌, ◌||◌, ◌==◌, is_some, not, Bool, true, false, if◌then◌else◌, Option, Some, None, List, [], ◌∷◌, ◌++◌, nat_lt, is_none, position}
-use Rattle.std.proofs.lemmas.Bool.{and_parts, false≢true}
-use Rattle.std.specs.Option.{IfSome}
-use Rattle.sides.specs.declared.side.Side.{Side}
-use Rattle.sides.specs.declared.side.Side.TheVariants.{A, B}
-use Rattle.sides.specs.Side.{peer}
-use Rattle.dss_mapping.specs.declared.kept.KeptMapping.{KeptMapping}
-use Rattle.link_script.specs.Places.{same_side}
-use Rattle.link_model.specs.declared.flight.Flight.{Flight}
-use Rattle.link_model.specs.Steps.{is_due, arriving, after_delivery}
-use Rattle.key_material.specs.KeyDigest.{token_of}
-use Rattle.join_handshake.specs.declared.hearing.JoinSyn.{JoinSyn as Asked}
-use Rattle.subflow_recv.specs.Receiving.{Receiving, after_forget_from}
-use Rattle.send_book.specs.declared.call.SendCall.TheVariants as send_calls
-use Rattle.subflow_send.specs.Records.{Record}
-use Rattle.subflow_tcp.specs.State.{has_records}
-use Rattle.subflow_tcp.specs.States.{is_dead, is_opening, is_waiting, is_closed_to_segments, may_finish}
-use Rattle.subflow_tcp.specs.Taking.{after_death, after_keeping_held, after_dropping_held}
-use Rattle.subflow_tcp.specs.Opening.{after_begin}
-use Rattle.subflow_tcp.specs.declared.segments.Occasion.TheVariants as to_send
-use Rattle.subflow_tcp.specs.Expiring.{is_sixth, after_expiry}
-use Rattle.control_book.specs.declared.call.ControlCall.{ControlCall}
-use Rattle.control_book.specs.declared.call.ControlCall.TheVariants as control_calls
-use Rattle.control_book.specs.declared.call.ControlReply.TheVariants as control_replies
-use Rattle.control_book.specs.declared.call.Notice.{Notice}
-use Rattle.control_book.specs.declared.call.Notice.TheVariants as notices
-use Rattle.reassembly_book.specs.declared.call.ReassemblyCall.{ReassemblyCall}
-use Rattle.reassembly_book.specs.declared.call.ReassemblyCall.TheVariants as reassembly_calls
-use Rattle.stream_lanes.specs.Words.{Every}
-use Rattle.stream_lanes.proofs.Lists.{Every-nil}
-use Rattle.actor_desk.specs.declared.ask.Ask.{Ask}
-use Rattle.actor_desk.specs.declared.ask.Ask.TheVariants as asks
-use Rattle.actor_desk.specs.declared.ask.Reply.{Reply}
-use Rattle.actor_desk.specs.declared.ask.Reply.TheVariants as replies
-use Rattle.actor_desk.specs.Words.{tail_of}
-use Rattle.path_agenda.specs.declared.duty.Duty.{Duty}
-use Rattle.path_agenda.specs.declared.duty.Duty.TheVariants as duties
-use Rattle.path_agenda.specs.declared.duty.AskDuty.TheVariants as ask_duties
-use Rattle.path_agenda.specs.declared.duty.SendDuty.TheVariants as send_duties
-use Rattle.path_agenda.specs.declared.duty.SilentDuty.TheVariants as silent_duties
-use Rattle.path_agenda.specs.declared.duty.StepDuty.TheVariants as step_duties
+use Rattle.world_laws.proofs.Words.{◌≡◌, refl, sym, ◌∙◌, ap, subst, ℕ, zero, suc, ◌-◌, ◌&&◌, ◌||◌, ◌==◌, not, nat_lt, Bool, true, false, if◌then◌else◌, Option}
+use Rattle.world_laws.proofs.Words.{Some, None, List, [], ◌∷◌, ◌++◌, is_none, is_some, position, and_parts, false≢true, IfSome, FallEvent, token_of, Side, A, B}
+use Rattle.world_laws.proofs.Words.{peer, same_side, Asked, ControlCall, ControlReply, Notice, ReassemblyCall, SendCall}
+use Rattle.world_laws.proofs.Words.{Receiving, Record, is_closed_to_segments, is_opening, is_dead, may_finish, is_waiting, is_sixth, after_expiry, fin_position}
+use Rattle.world_laws.proofs.Words.{has_records, EndPhase, Occasion, after_death, after_dropping_held, after_keeping_held, after_begin, is_due, arriving}
+use Rattle.world_laws.proofs.Words.{after_delivery, Flight, LineAction, Piece, rest_of_turn, emission, leaves, resets, stops, start_of_turn, Duty, SendDuty}
+use Rattle.world_laws.proofs.Words.{StepDuty, AskDuty, SilentDuty, Heard, KeyPair, replaced, first_of, key_heard, keys_heard, Ask, Reply, tail_of, stands}
+use Rattle.world_laws.proofs.Words.{ask_for, passed, answered, PathEnd, died, after_notice, OwnNotices, answered_ack_out, after_look, is_connected, may_note}
+use Rattle.world_laws.proofs.Words.{modes_told, notices_told, at_tick, PathState, end_at, goes_on, with_end, with_agenda, left, path_of, settled, answers}
+use Rattle.world_laws.proofs.Words.{asks_of, asks_first, takes, begins_turn, FirstStands, IsSettled, Carried, values, reset_of, reset_on, answered_break}
+use Rattle.world_laws.proofs.Words.{path_died, refusal_of, break_ask, answered_data, answered_grant, data_stands, first_unsent, grant_in, answer_occasion}
+use Rattle.world_laws.proofs.Words.{answer_of, resend_occasion, resend_of, first_record, fits, next_event, step_for, after_line, happens_if, join_begun}
+use Rattle.world_laws.proofs.Words.{never_joined, asked_at, is_never, join_taken, joined_by, keys_begun, opened_by, with_mode_refused, is_joined}
+use Rattle.world_laws.proofs.Words.{join_heard_ask, after_timer, template_fired, timer_fired, mapping_here, piece_of, is_placed, answered_piece}
+use Rattle.world_laws.proofs.Words.{after_pieces, is_dropped, is_data_fin_owed, fin_segment_of, having_sent_fin, answered_plain_fin}
+use Rattle.world_laws.proofs.Words.{answered_fin_heard, is_fin_set, after_pass_fin, is_clash, with_learned, with_data_fin, with_skipped, counts, with_acked}
+use Rattle.world_laws.proofs.Words.{after_dss, with_data_ack, heard_ask, item_ask, answered_heard, answered_item, item_of, item_passed, answered_check_failed}
+use Rattle.world_laws.proofs.Words.{fell_ask, after_fell, fell_duties, plain_ack_ask, answered_plain_ack, with_plain_ack, breaks_by_ack, may_go_infinite}
+use Rattle.world_laws.proofs.Words.{book_answered, answered_fell, with_infinite, is_fall, in_identity, peer_key_ask, opened_ask, answered_peer_key}
+use Rattle.world_laws.proofs.Words.{answered_opened, is_stopped_by, is_fast_close_due, with_priority, is_note_due, having_noted, after_peer_notice, with_echo}
+use Rattle.world_laws.proofs.Words.{ack_said, carried_said, syn_ack_said, record_or_ack, having_sent, Modes, is_side_a, item_at, Every-nil, Every, if_so}
 use Rattle.path_core.specs.declared.events.Event.{Event}
-use Rattle.path_core.specs.declared.events.Event.TheVariants as happenings
-use Rattle.path_agenda.specs.declared.heard.Heard.{Heard}
-use Rattle.path_agenda.specs.declared.heard.Heard.TheVariants as says
-use Rattle.path_agenda.specs.declared.keys.KeyPair.{KeyPair}
-use Rattle.path_core.specs.declared.modes.Modes.{Modes}
-use Rattle.path_agenda.specs.Agenda.{emission, leaves, resets, rest_of_turn, start_of_turn, stops}
-use Rattle.path_core.specs.Breaking.{reset_of, reset_on, answered_break, path_died, refusal_of, break_ask}
-use Rattle.path_core.specs.DataFin.{is_data_fin_owed, fin_segment_of, having_sent_fin, after_pass_fin, is_fin_set, answered_fin_heard, answered_plain_fin}
-use Rattle.path_core.specs.Duties.{stands, passed, answered, ask_for}
-use Rattle.path_core.specs.Emission.{Grant, grant_in, answered_grant, answered_data, first_unsent, data_stands, fits, answer_occasion, resend_occasion, first_record, answer_of, resend_of}
-use Rattle.path_core.specs.Timer.{after_timer, timer_fired, template_fired}
-use Rattle.path_core.specs.End.{PathEnd, died}
-use Rattle.path_core.specs.Notices.{Notices as OwnNotices, after_notice}
-use Rattle.path_core.specs.Events.{next_event, step_for, after_line, happens_if}
-use Rattle.path_core.specs.State.{at_tick, PathState, end_at, with_end, with_agenda, goes_on, left, path_of}
-use Rattle.path_core.specs.MpJoin.{join_begun, never_joined, asked_at, is_never, join_heard_ask, join_taken, joined_by, keys_begun, opened_by, with_mode_refused, is_joined}
-use Rattle.path_core.specs.Addresses.{with_priority, is_note_due, having_noted, note_of, after_peer_notice, with_echo}
-use Rattle.path_store.specs.declared.lines.LineAction.{LineAction}
-use Rattle.path_store.specs.declared.lines.LineAction.TheVariants as actions
-use Rattle.path_agenda.specs.Items.{key_heard, keys_heard}
-use Rattle.path_agenda.specs.Words.{replaced, first_of}
-use Rattle.path_core.specs.MpCapable.{peer_key_ask, opened_ask, answered_peer_key, answered_opened}
-use Rattle.path_core.specs.Deliver.{is_placed, piece_of, answered_piece, mapping_here, is_wrong, forgotten_by, after_pieces, is_dropped}
-use Rattle.path_store.specs.Passing.{Piece}
-use Rattle.path_core.specs.DssIn.{with_learned, with_skipped, is_acked, with_acked, with_data_ack, counts, is_clash, with_data_fin}
-use Rattle.path_core.specs.OptionsOut.{ack_said, carried_said, syn_ack_said, record_or_ack}
-use Rattle.path_core.specs.Standing.{answered_ack_out, after_look, is_connected, may_note, modes_told, notices_told}
-use Rattle.path_core.specs.Steps.{settled, answers, asks_of, asks_first, takes, begins_turn}
-use Rattle.path_core.specs.Turns.{FirstStands, IsSettled}
-use Rattle.path_core.specs.Choices.{is_side_a, item_at}
-use Rattle.path_core.specs.Fallback.{is_fall, fell_ask, in_identity, after_fell, fell_duties, answered_fell, answered_check_failed, may_go_infinite, with_infinite, book_answered, with_plain_ack, breaks_by_ack, answered_plain_ack, plain_ack_ask}
-use Rattle.path_core.specs.Treating.{answered_heard, answered_item, item_of, item_passed, heard_ask, item_ask}
-use Rattle.path_core.specs.Values.{Carried, values}
-use Rattle.path_core.specs.FastClose.{is_stopped_by, fast_close_of, is_fast_close_due}
-use Rattle.path_core.specs.Handover.{having_sent}
+use Rattle.path_core.specs.Emission.{Grant}
+use Rattle.path_core.specs.Addresses.{note_of}
+use Rattle.path_core.specs.DssIn.{is_acked}
+use Rattle.path_core.specs.FastClose.{fast_close_of}
+use Rattle.world_laws.proofs.Writes.Ends.{item_so}
 use Rattle.world_laws.proofs.Worlds.Finding.{find_every, one_side}
 use Rattle.world_laws.proofs.Announcements.Queued.{announced_told, echo_queued, first_queued, look_queued, prio_queued, tail_queued}
-use Rattle.fallback_state.specs.declared.fall.Event.{Event as FallEvent}
-use Rattle.fallback_state.specs.declared.fall.Event.TheVariants as fall
-use Rattle.subflow_tcp.specs.Emitting.{fin_position}
-use Rattle.subflow_tcp.specs.declared.handshake.State.{State as EndPhase}
-use Rattle.subflow_tcp.specs.declared.handshake.State.TheVariants as phase
-use Rattle.world_laws.proofs.Falls.FailedChecks.{check_failed_so, checked_so, fail_heard_so, failed_so, infinite_came_so, infinite_so}
+use Rattle.world_laws.proofs.Falls.FailedChecks.{forgets_so, check_failed_so, checked_so, fail_heard_so, failed_so, infinite_came_so, infinite_so}
 use Rattle.world_laws.proofs.Falls.Verdicts.{fell_cases}
 use Rattle.world_laws.proofs.Keys.Held.{VoiceIs, with_voice, fewer_known, stays_same, replaced_known, is_noted, look_leaves, verdict_leaves, fell_leaves, opening_open, not_closed, finish_open, IsSign, FlightIs, OnJoined, AreKnown, PathIs, end_is, Fewer, none_left, Stays, requeued, goes_by, goes_is, with_is, agenda_is, kept_end, same_goes, sent_is, same_sent, died_is, refused_is, unless_dead_is, key_found, PairIs, pair_found, AskedIs, asked_is, rekeyed, rekeyed_knows, keys_are, keys_stay, BeginIs, opened_end, opened_stays, joined_end, joined_knows, joined_waits}
 use Rattle.world_laws.proofs.Keys.AreDrawn.{Deed, Secrets, HmacIs, KeysFor, NoteIs, told_in, known_in, OfB, drawn_key, SegmentIs, ItemIs, EndIs, Needs, Knows, same_knows, same_modes, reset_options_are, reset_is as reset_said_is, fin_options_are, ack_is, syn_ack_is, record_or_ack_is, carried_is, noted_is, dss_known, knows_b, is_past, of_b}
@@ -92,26 +37,20 @@ use Rattle.world_laws.proofs.Keys.Copies.{copy_is, delivered_is, own_knows, voic
 
 -- a connected end heard the peer's SYN
 connected_past : (state : EndPhase) → is_connected state ≡ true → is_past state ≡ true
-connected_past phase.Waiting is = absurd (false≢true is)
-connected_past phase.Listen is = absurd (false≢true is)
-connected_past phase.SynSent is = absurd (false≢true is)
-connected_past phase.SynReceived is = absurd (false≢true is)
-connected_past phase.Dead is = absurd (false≢true is)
-connected_past phase.Established is = refl
-connected_past phase.FinWait1 is = refl
-connected_past phase.FinWait2 is = refl
-connected_past phase.CloseWait is = refl
-connected_past phase.Closing is = refl
-connected_past phase.LastAck is = refl
-connected_past phase.TimeWait is = refl
+connected_past EndPhase.Waiting is = absurd (false≢true is)
+connected_past EndPhase.Listen is = absurd (false≢true is)
+connected_past EndPhase.SynSent is = absurd (false≢true is)
+connected_past EndPhase.SynReceived is = absurd (false≢true is)
+connected_past EndPhase.Dead is = absurd (false≢true is)
+connected_past _ is = refl
 
 -- the key of the fast close that an end is to carry
 abbrev pub carrier_in : Notice → Option ℕ
-carrier_in (notices.Carrier key) = Some key
+carrier_in (Notice.Carrier key) = Some key
 carrier_in _ = None
 
 abbrev pub carrier_told : Reply → Option ℕ
-carrier_told (replies.Control (control_replies.Standing mode standby sole notice)) = carrier_in notice
+carrier_told (Reply.Control (ControlReply.Standing mode standby sole notice)) = carrier_in notice
 carrier_told _ = None
 
 module _ (k : Secrets) (right : Bool) (w : Side → Type 0) (did : Deed → Side → Type 0) where
@@ -123,14 +62,12 @@ module _ (k : Secrets) (right : Bool) (w : Side → Type 0) (did : Deed → Side
   item_there joined (item ∷ items) s (suc index) h = item_there joined items s index (record { each = λ i x at. h.each (suc i) x at })
 
   pub item_found : (joined : Bool) (s : Side) (index : ℕ) (e : PathEnd) → Every (ItemIs k right w did joined s) e.treated.items → IfSome (item_of index e) (ItemIs k right w did joined s)
-  item_found joined s index e h = by e.modes.identity
-    where
-      by : (fell : Bool) → IfSome (if fell then None else item_at index e.treated.items) (ItemIs k right w did joined s)
-      by true = tt
-      by false = item_there joined e.treated.items s index h
+  item_found joined s index e h =
+      if_so (λ z. IfSome z (ItemIs k right w did joined s)) e.modes.identity None (item_at index e.treated.items)
+      tt (item_there joined e.treated.items s index h)
 
   -- a DSS lets A's end send one, too
-  cleared_by : (joined : Bool) (s : Side) (m : Modes) → ItemIs k right w did joined s says.Dss → (joined ≡ true → m.clear ≡ true → w B) → joined ≡ true → m.clear || is_side_a s ≡ true → w B
+  cleared_by : (joined : Bool) (s : Side) (m : Modes) → ItemIs k right w did joined s Heard.Dss → (joined ≡ true → m.clear ≡ true → w B) → joined ≡ true → m.clear || is_side_a s ≡ true → w B
   cleared_by joined s m said was joins now = by m.clear refl now
     where
       at : (s : Side) → OfB (peer s) (w B) → is_side_a s ≡ true → w B
@@ -149,7 +86,7 @@ module _ (k : Secrets) (right : Bool) (w : Side → Type 0) (did : Deed → Side
 
   passed_item : (joined : Bool) (s : Side) (o : Option Heard) (e : PathEnd) → IfSome o (ItemIs k right w did joined s) → EndIs k right w did joined s e → EndIs k right w did joined s (item_passed s o e)
   passed_item joined s None e said h = h
-  passed_item joined s (Some says.Dss) e said h = record {
+  passed_item joined s (Some Heard.Dss) e said h = record {
     modes = record {
       own = h.modes.own;
       nonce = h.modes.nonce;
@@ -169,93 +106,43 @@ module _ (k : Secrets) (right : Bool) (w : Side → Type 0) (did : Deed → Side
     failing = h.failing;
   }
     where
-      by : (t : Side) → Needs k right t e.modes → Needs k right t (item_passed s (Some says.Dss) e).modes
+      by : (t : Side) → Needs k right t e.modes → Needs k right t (item_passed s (Some Heard.Dss) e).modes
       by A has = has
       by B has = has
-  passed_item joined s (Some (says.DataAck next window)) e said h =
+  passed_item joined s (Some (Heard.DataAck next window)) e said h =
       kept_end k right w did joined s e (with_data_ack next e) refl refl (record { up = λ x. x; waits = λ x. x; past = λ x. x }) h
-  passed_item joined s (Some (says.Mapping fin)) e said h = by (counts e)
+  passed_item joined s (Some (Heard.Mapping fin)) e said h = by (counts e)
     where
       by : (b : Bool) → EndIs k right w did joined s (if b then with_learned e else with_skipped e)
       by true = record { modes = h.modes; items = h.items; woken = h.woken; past = h.past; carries = h.carries; queued = h.queued; failing = h.failing }
       by false = record { modes = h.modes; items = h.items; woken = h.woken; past = h.past; carries = h.carries; queued = h.queued; failing = h.failing }
-  passed_item joined s (Some (says.DataFin place)) e said h = by (counts e)
-    where
-      by : (b : Bool) → EndIs k right w did joined s (if b then with_data_fin place e else e)
-      by true = record { modes = h.modes; items = h.items; woken = h.woken; past = h.past; carries = h.carries; queued = h.queued; failing = h.failing }
-      by false = h
-  passed_item joined s (Some (says.InfiniteMapping place position)) e said h = h
-  passed_item joined s (Some (says.PeerKey key)) e said h = h
-  passed_item joined s (Some (says.Keys own other)) e said h = h
-  passed_item joined s (Some (says.Join form)) e said h = h
-  passed_item joined s (Some (says.Notice notice)) e said h = h
-  passed_item joined s (Some says.Fail) e said h = h
-  passed_item joined s (Some (says.FastClose key)) e said h = h
+  passed_item joined s (Some (Heard.DataFin place)) e said h =
+      if_so (EndIs k right w did joined s) (counts e) (with_data_fin place e) e
+      (record { modes = h.modes; items = h.items; woken = h.woken; past = h.past; carries = h.carries; queued = h.queued; failing = h.failing }) h
+  passed_item joined s (Some Heard.Fail) e said h = h
+  passed_item joined s _ e said h = h
 
   -- it knows what it knew
   passed_stays : (t s : Side) (o : Option Heard) (e : PathEnd) → Knows k right w did t e.modes → Knows k right w did t (item_passed s o e).modes
-  passed_stays t s None e has = has
-  passed_stays A s (Some says.Dss) e has = (has.0, has.1)
-  passed_stays B s (Some says.Dss) e has = (has.0, has.1)
-  passed_stays t s (Some (says.DataAck next window)) e has = same_knows k right w did t e.modes (with_data_ack next e).modes refl has
-  passed_stays t s (Some (says.Mapping fin)) e has = by (counts e)
+  passed_stays t s o e has =
+      item_so (λ f. Knows k right w did t f.modes) s o e has (signed t has) (λ next. same_knows k right w did t e.modes (with_data_ack next e).modes refl has) has has (λ place. has)
     where
-      by : (b : Bool) → Knows k right w did t (if b then with_learned e else with_skipped e).modes
-      by true = has
-      by false = has
-  passed_stays t s (Some (says.DataFin place)) e has = by (counts e)
-    where
-      by : (b : Bool) → Knows k right w did t (if b then with_data_fin place e else e).modes
-      by true = has
-      by false = has
-  passed_stays t s (Some (says.InfiniteMapping place position)) e has = has
-  passed_stays t s (Some (says.PeerKey key)) e has = has
-  passed_stays t s (Some (says.Keys own other)) e has = has
-  passed_stays t s (Some (says.Join form)) e has = has
-  passed_stays t s (Some (says.Notice notice)) e has = has
-  passed_stays t s (Some says.Fail) e has = has
-  passed_stays t s (Some (says.FastClose key)) e has = has
+      signed : (t : Side) → Knows k right w did t e.modes → Knows k right w did t (after_dss s e).modes
+      signed A has = (has.0, has.1)
+      signed B has = (has.0, has.1)
 
   item_waits : (s : Side) (o : Option Heard) (e : PathEnd) → is_waiting (item_passed s o e).tcp.state ≡ true → is_waiting e.tcp.state ≡ true
-  item_waits s None e is = is
-  item_waits s (Some says.Dss) e is = is
-  item_waits s (Some (says.DataAck next window)) e is = is
-  item_waits s (Some (says.Mapping fin)) e is = by (counts e) is
-    where
-      by : (b : Bool) → is_waiting (if b then with_learned e else with_skipped e).tcp.state ≡ true → is_waiting e.tcp.state ≡ true
-      by true is = is
-      by false is = is
-  item_waits s (Some (says.DataFin place)) e is = by (counts e) is
-    where
-      by : (b : Bool) → is_waiting (if b then with_data_fin place e else e).tcp.state ≡ true → is_waiting e.tcp.state ≡ true
-      by true is = is
-      by false is = is
-  item_waits s (Some (says.InfiniteMapping place position)) e is = is
-  item_waits s (Some (says.PeerKey key)) e is = is
-  item_waits s (Some (says.Keys own other)) e is = is
-  item_waits s (Some (says.Join form)) e is = is
-  item_waits s (Some (says.Notice notice)) e is = is
-  item_waits s (Some says.Fail) e is = is
-  item_waits s (Some (says.FastClose key)) e is = is
-
-  -- an edge that is checked leaves what the end knows, and its state
-  checked : (checksums : Bool) (o : Option KeptMapping) (e : PathEnd) → (P : PathEnd → Type 0) → P e → ((recv : _) → P (record e { tcp = record e.tcp { recv = recv } }))
-      → P (forgotten_by checksums o e)
-  checked checksums None e P same other = same
-  checked checksums (Some kept) e P same other = by (is_wrong checksums kept e.tcp)
-    where
-      by : (b : Bool) → P (if b then record e { tcp = record e.tcp { recv = after_forget_from kept.pos e.tcp.recv } } else e)
-      by true = other _
-      by false = same
+  item_waits s o e =
+      item_so (λ f. is_waiting f.tcp.state ≡ true → is_waiting e.tcp.state ≡ true) s o e (λ is. is) (λ is. is) (λ next is. is) (λ is. is) (λ is. is) (λ place is. is)
 
   passed_is : (d : Duty) (p : PathState Carried) → PathIs k right w did p → PathIs k right w did (passed d p)
-  passed_is (duties.Silent (silent_duties.Timer s)) p h =
+  passed_is (Duty.Silent (SilentDuty.Timer s)) p h =
       with_is k right w did s (after_timer p.clock (end_at s p)) p (kept_end k right w did (is_joined p.profile) s (end_at s p) (after_timer p.clock (end_at s p)) refl refl (timer_up p.clock (end_at s p)) (end_is k right w did s p h)) (λ is. is) (λ is has. has) h
-  passed_is (duties.Step (step_duties.Heard s index)) p h =
+  passed_is (Duty.Step (StepDuty.Heard s index)) p h =
       with_is k right w did s _ p
       (passed_item (is_joined p.profile) s (item_of index (end_at s p)) (end_at s p) (item_found (is_joined p.profile) s index (end_at s p) (end_is k right w did s p h).items) (end_is k right w did s p h))
       (item_waits s (item_of index (end_at s p)) (end_at s p)) (λ is has. passed_stays s s (item_of index (end_at s p)) (end_at s p) has) h
-  passed_is (duties.Silent (silent_duties.Keep s)) p h = by (is_dropped s (end_at s p)) _
+  passed_is (Duty.Silent (SilentDuty.Keep s)) p h = by (is_dropped s (end_at s p)) _
     where
       e : PathEnd
       e = end_at s p
@@ -267,22 +154,21 @@ module _ (k : Secrets) (right : Bool) (w : Side → Type 0) (did : Deed → Side
       by false held =
           let f : PathEnd = record e { tcp = after_keeping_held e.tcp; treated = record e.treated { held_edge = held } } in
           with_is k right w did s f p (kept_end k right w did (is_joined p.profile) s e f refl refl (record { up = λ x. x; waits = λ x. x; past = λ x. x }) (end_is k right w did s p h)) (λ is. is) (λ is has. has) h
-  passed_is (duties.Ask (ask_duties.CheckFailed s)) p h =
+  passed_is (Duty.Ask (AskDuty.CheckFailed s)) p h =
       let e = end_at s p in
-      checked p.profile.spelling.checksums (mapping_here e) e (λ f. PathIs k right w did (with_end s f p))
-      (with_is k right w did s e p (end_is k right w did s p h) (λ is. is) (λ is has. has) h)
-      (λ recv. with_is k right w did s (record e { tcp = record e.tcp { recv = recv } }) p (kept_end k right w did (is_joined p.profile) s e (record e { tcp = record e.tcp { recv = recv } }) refl refl (record { up = λ x. x; waits = λ x. x; past = λ x. x }) (end_is k right w did s p h)) (λ is. is) (λ is has. has) h)
-  passed_is (duties.Silent (silent_duties.PassFin s)) p h =
+      forgets_so (λ f. PathIs k right w did (with_end s f p)) p.profile.spelling.checksums (mapping_here e) e
+      (λ recv forgotten. with_is k right w did s (record e { tcp = record e.tcp { recv = recv } }) p (kept_end k right w did (is_joined p.profile) s e (record e { tcp = record e.tcp { recv = recv } }) refl refl (record { up = λ x. x; waits = λ x. x; past = λ x. x }) (end_is k right w did s p h)) (λ is. is) (λ is has. has) h)
+  passed_is (Duty.Silent (SilentDuty.PassFin s)) p h =
       let up = passing_up (end_at s p).tcp in
       with_is k right w did s (after_pass_fin (end_at s p)) p (kept_end k right w did (is_joined p.profile) s (end_at s p) (after_pass_fin (end_at s p)) refl refl up (end_is k right w did s p h)) up.waits (λ is has. has) h
-  passed_is (duties.Step (step_duties.PlainAck s)) p h =
+  passed_is (Duty.Step (StepDuty.PlainAck s)) p h =
       with_is k right w did s (with_plain_ack (end_at s p)) p
       (kept_end k right w did (is_joined p.profile) s (end_at s p) (with_plain_ack (end_at s p)) refl refl (record { up = λ x. x; waits = λ x. x; past = λ x. x }) (end_is k right w did s p h)) (λ is. is) (λ is has. (has.0, λ sure. by s (has.1 sure))) h
     where
       by : (t : Side) → Needs k right t (end_at s p).modes → Needs k right t (with_plain_ack (end_at s p)).modes
       by A has = has
       by B has = has
-  passed_is (duties.Step (step_duties.Unmapped s)) p h =
+  passed_is (Duty.Step (StepDuty.Unmapped s)) p h =
       with_is k right w did s (after_pieces (end_at s p)) p
       (kept_end k right w did (is_joined p.profile) s (end_at s p) (after_pieces (end_at s p)) refl refl (record { up = λ x. x; waits = λ x. x; past = λ x. x }) (end_is k right w did s p h)) (λ is. is) (λ is has. has) h
   passed_is _ p h = h
@@ -299,17 +185,17 @@ module _ (k : Secrets) (right : Bool) (w : Side → Type 0) (did : Deed → Side
       kept_known s false held = with_known s (record (end_at s p) { tcp = after_keeping_held (end_at s p).tcp; treated = record (end_at s p).treated { held_edge = held } }) (λ is has. has)
 
       by : (d : Duty) → AreKnown k right w did (passed d p) ds
-      by (duties.Silent (silent_duties.Timer s)) = with_known s (after_timer p.clock (end_at s p)) (λ is has. has)
-      by (duties.Step (step_duties.Heard s index)) = with_known s (item_passed s (item_of index (end_at s p)) (end_at s p)) (λ is has. passed_stays s s (item_of index (end_at s p)) (end_at s p) has)
-      by (duties.Silent (silent_duties.Keep s)) = kept_known s (is_dropped s (end_at s p)) _
-      by (duties.Step (step_duties.PlainAck s)) = with_known s (with_plain_ack (end_at s p)) (λ is has. same_knows k right w did s (end_at s p).modes (with_plain_ack (end_at s p)).modes refl has)
-      by (duties.Step (step_duties.Unmapped s)) = with_known s (after_pieces (end_at s p)) (λ is has. has)
-      by (duties.Ask (ask_duties.CheckFailed s)) =
+      by (Duty.Silent (SilentDuty.Timer s)) = with_known s (after_timer p.clock (end_at s p)) (λ is has. has)
+      by (Duty.Step (StepDuty.Heard s index)) = with_known s (item_passed s (item_of index (end_at s p)) (end_at s p)) (λ is has. passed_stays s s (item_of index (end_at s p)) (end_at s p) has)
+      by (Duty.Silent (SilentDuty.Keep s)) = kept_known s (is_dropped s (end_at s p)) _
+      by (Duty.Step (StepDuty.PlainAck s)) = with_known s (with_plain_ack (end_at s p)) (λ is has. same_knows k right w did s (end_at s p).modes (with_plain_ack (end_at s p)).modes refl has)
+      by (Duty.Step (StepDuty.Unmapped s)) = with_known s (after_pieces (end_at s p)) (λ is has. has)
+      by (Duty.Ask (AskDuty.CheckFailed s)) =
           let e = end_at s p in
-          checked p.profile.spelling.checksums (mapping_here e) e (λ f. AreKnown k right w did (with_end s f p) ds)
-          (with_known s e (λ is has. has)) (λ recv. with_known s (record e { tcp = record e.tcp { recv = recv } }) (λ is has. has))
-      by (duties.Silent (silent_duties.PassFin s)) = with_known s (after_pass_fin (end_at s p)) (λ is has. has)
-      by (duties.Ask ask_duties.JoinAgain) = known
+          forgets_so (λ f. AreKnown k right w did (with_end s f p) ds) p.profile.spelling.checksums (mapping_here e) e
+          (λ recv forgotten. with_known s (record e { tcp = record e.tcp { recv = recv } }) (λ is has. has))
+      by (Duty.Silent (SilentDuty.PassFin s)) = with_known s (after_pass_fin (end_at s p)) (λ is has. has)
+      by (Duty.Ask AskDuty.JoinAgain) = known
       by _ = known
 
   -- an agenda in place of the path's own
@@ -338,25 +224,25 @@ module _ (k : Secrets) (right : Bool) (w : Side → Type 0) (did : Deed → Side
   -- Keys that are told to a control book are those of its side and of the peer, and a token that is told is that of its key. An
   -- address has the HMAC of both keys, and the book has the peer's. A fast close is asked for where the side's application did.
   abbrev pub CallIs : Side → ControlCall → Type 0
-  CallIs s (control_calls.PeerKey key) = key ≡ drawn_key k right (peer s)
-  CallIs s (control_calls.Keys own other) = (own ≡ drawn_key k right s) × (other ≡ drawn_key k right (peer s)) × KeysFor k right w did s
-  CallIs s (control_calls.Fell path event) = IsSign event
-  CallIs s (control_calls.JoinBegin path) = s ≡ A
-  CallIs s (control_calls.JoinHeard path token) = (s ≡ B) × (w (peer s) × (right ≡ true → token ≡ token_of (drawn_key k right s)))
-  CallIs s control_calls.FastClose = did Deed.Closed s
-  CallIs s (control_calls.Heard id address port hmac) = HmacIs k right w did (peer s) s id address port hmac
+  CallIs s (ControlCall.PeerKey key) = key ≡ drawn_key k right (peer s)
+  CallIs s (ControlCall.Keys own other) = (own ≡ drawn_key k right s) × (other ≡ drawn_key k right (peer s)) × KeysFor k right w did s
+  CallIs s (ControlCall.Fell path event) = IsSign event
+  CallIs s (ControlCall.JoinBegin path) = s ≡ A
+  CallIs s (ControlCall.JoinHeard path token) = (s ≡ B) × (w (peer s) × (right ≡ true → token ≡ token_of (drawn_key k right s)))
+  CallIs s ControlCall.FastClose = did Deed.Closed s
+  CallIs s (ControlCall.Heard id address port hmac) = HmacIs k right w did (peer s) s id address port hmac
   CallIs s _ = Unit {0}
 
   -- it tells a reassembly book of the peer's fast close where the side was stopped by it
   abbrev pub ReceiveIs : Side → ReassemblyCall → Type 0
-  ReceiveIs s (reassembly_calls.Abort by_peer) = by_peer ≡ true → did Deed.Stopped s × did Deed.Closed (peer s)
+  ReceiveIs s (ReassemblyCall.Abort by_peer) = by_peer ≡ true → did Deed.Stopped s × did Deed.Closed (peer s)
   ReceiveIs s _ = Unit {0}
 
   abbrev pub AskIs : Ask → Type 0
-  AskIs (asks.Control s call) = CallIs s call
-  AskIs (asks.Send s call) = Unit {0}
-  AskIs (asks.Reassembly s call) = ReceiveIs s call
-  AskIs (asks.Local local) = Unit {0}
+  AskIs (Ask.Control s call) = CallIs s call
+  AskIs (Ask.Send s call) = Unit {0}
+  AskIs (Ask.Reassembly s call) = ReceiveIs s call
+  AskIs (Ask.Local local) = Unit {0}
 
   -- a join that may go on has the book's keys
   abbrev pub BeginsAt : Side → Reply → Type 0
@@ -368,21 +254,19 @@ module _ (k : Secrets) (right : Bool) (w : Side → Type 0) (did : Deed → Side
   FallIs s r = is_fall r ≡ true → did Deed.Fell s × (w s → ⊥)
 
   abbrev pub CallReplyIs : Side → ControlCall → Reply → Type 0
-  CallReplyIs s (control_calls.Look path) r =
+  CallReplyIs s (ControlCall.Look path) r =
       IfSome (carrier_told r) (λ key. did Deed.Closed s) × IfSome (announced_told r) (λ id. (s ≡ B) × did Deed.Keyed (peer s))
-  CallReplyIs s (control_calls.PeerKey key) r = did Deed.Keyed s
-  CallReplyIs s (control_calls.Keys own other) r = is_noted r ≡ true → did Deed.Keyed s
-  CallReplyIs s (control_calls.FastHeard key) r = is_stopped_by r ≡ true → did Deed.Stopped s
-  CallReplyIs s (control_calls.JoinHeard path token) r = IfSome (keys_begun r) (BeginIs k right w did s)
-  CallReplyIs s (control_calls.JoinBegin path) r = BeginsAt s r
-  CallReplyIs s (control_calls.Fell path event) r = FallIs s r
+  CallReplyIs s (ControlCall.PeerKey key) r = did Deed.Keyed s
+  CallReplyIs s (ControlCall.Keys own other) r = is_noted r ≡ true → did Deed.Keyed s
+  CallReplyIs s (ControlCall.FastHeard key) r = is_stopped_by r ≡ true → did Deed.Stopped s
+  CallReplyIs s (ControlCall.JoinHeard path token) r = IfSome (keys_begun r) (BeginIs k right w did s)
+  CallReplyIs s (ControlCall.JoinBegin path) r = BeginsAt s r
+  CallReplyIs s (ControlCall.Fell path event) r = FallIs s r
   CallReplyIs s _ r = Unit {0}
 
   abbrev pub ReplyIs : Ask → Reply → Type 0
-  ReplyIs (asks.Control s call) r = CallReplyIs s call r
-  ReplyIs (asks.Send s call) r = Unit {0}
-  ReplyIs (asks.Reassembly s call) r = Unit {0}
-  ReplyIs (asks.Local local) r = Unit {0}
+  ReplyIs (Ask.Control s call) r = CallReplyIs s call r
+  ReplyIs _ r = Unit {0}
 
   -- ---- events
 
@@ -395,7 +279,7 @@ module _ (k : Secrets) (right : Bool) (w : Side → Type 0) (did : Deed → Side
     waits = λ waiting. h.waits (still (is_dead p.a.tcp.state) waiting);
   }
     where
-      calm : (t : Voice) (x y : Bool) → speaks t ((if x then [] else duties.Ask (ask_duties.Leave A) ∷ []) ++ ((if y then [] else duties.Ask (ask_duties.Leave B) ∷ []) ++ rest_of_turn)) ≡ false
+      calm : (t : Voice) (x y : Bool) → speaks t ((if x then [] else Duty.Ask (AskDuty.Leave A) ∷ []) ++ ((if y then [] else Duty.Ask (AskDuty.Leave B) ∷ []) ++ rest_of_turn)) ≡ false
       calm t true true = refl
       calm t true false = refl
       calm t false true = refl
@@ -406,15 +290,15 @@ module _ (k : Secrets) (right : Bool) (w : Side → Type 0) (did : Deed → Side
       still false waiting = absurd (false≢true waiting)
 
   line_is : (action : LineAction) (p : PathState Carried) → PathIs k right w did p → PathIs k right w did (after_line action p)
-  line_is actions.Die p h = died_path p h
-  line_is (actions.Prio s backup) p h =
+  line_is LineAction.Die p h = died_path p h
+  line_is (LineAction.Prio s backup) p h =
       let e = end_at s p in let own = end_is k right w did s p h in
       goes_is k right w did s (with_priority backup e) (emission s) p
       (requeued k right w did (is_joined p.profile) s (with_priority backup e).notices.queue e
       (prio_queued (NoteIs k right w did s) (λ id. tt) (λ id address port. tt) (λ backup. tt) backup (is_dead e.tcp.state) e.notices.queue own.queued) own)
       (λ waiting. waiting) (λ t spoken. absurd (false≢true spoken)) (λ is has. has) h
-  line_is (actions.Announce s id) p h = agenda_is k right w did _ p (λ t spoken. absurd (false≢true spoken)) h
-  line_is (actions.Withdraw s id) p h = agenda_is k right w did _ p (λ t spoken. absurd (false≢true spoken)) h
+  line_is (LineAction.Announce s id) p h = agenda_is k right w did _ p (λ t spoken. absurd (false≢true spoken)) h
+  line_is (LineAction.Withdraw s id) p h = agenda_is k right w did _ p (λ t spoken. absurd (false≢true spoken)) h
 
   -- A begins a join, where the path joins
   begun_is : (r : Reply) (dead living : List Duty) (p : PathState Carried) → is_joined p.profile ≡ true → IfSome (keys_begun r) (BeginIs k right w did A)
@@ -458,13 +342,13 @@ module _ (k : Secrets) (right : Bool) (w : Side → Type 0) (did : Deed → Side
 
   event_is : (o : Option Event) (r : Reply) (p : PathState Carried) → next_event p ≡ o → ReplyIs (step_for p.link.path o) r → PathIs k right w did p → PathIs k right w did (happens_if values o r p)
   event_is None r p next is h = agenda_is k right w did _ p (λ t spoken. absurd (false≢true spoken)) h
-  event_is (Some (happenings.Joins tick)) r p next is h =
-      begun_is r (leaves A) (emission A) (record (at_tick tick p) { joined_at = None }) (h.waits (next_happens p (happenings.Joins tick) next)) is
+  event_is (Some (Event.Joins tick)) r p next is h =
+      begun_is r (leaves A) (emission A) (record (at_tick tick p) { joined_at = None }) (h.waits (next_happens p (Event.Joins tick) next)) is
       (λ t spoken. absurd (false≢true spoken)) (λ t spoken. absurd (false≢true spoken))
       (record { a = h.a; b = h.b; copies = h.copies; known = h.known; waits = h.waits })
-  event_is (Some (happenings.Takes line)) r p next is h =
+  event_is (Some (Event.Takes line)) r p next is h =
       line_is line.action (record (at_tick line.tick p) { lines = tail_of p.lines }) (record { a = h.a; b = h.b; copies = h.copies; known = h.known; waits = h.waits })
-  event_is (Some (happenings.Arrives due)) r p next is h =
+  event_is (Some (Event.Arrives due)) r p next is h =
       copy_is k right w did due.to (arriving due p.link) p (record (at_tick due.tick p) { link = after_delivery due p.link }) said (delivered_is k right w did due p h)
     where
       said : (f : Flight Carried) → arriving due p.link ≡ Some f → SegmentIs k right w did p.profile (peer due.to) f.carried.segment
@@ -473,7 +357,7 @@ module _ (k : Secrets) (right : Bool) (w : Side → Type 0) (did : Deed → Side
           let parts = and_parts (f.tick == due.tick) (same_side f.to due.to && f.number == due.copy) found.1 in
           let to = one_side f.to due.to (and_parts (same_side f.to due.to) (f.number == due.copy) parts.1).0 in
           subst (λ s. SegmentIs k right w did p.profile (peer s) f.carried.segment) to found.0
-  event_is (Some (happenings.Fires s tick)) r p next is h = at_side s (next_happens p (happenings.Fires s tick) next)
+  event_is (Some (Event.Fires s tick)) r p next is h = at_side s (next_happens p (Event.Fires s tick) next)
     where
       h_q : PathIs k right w did (at_tick tick p)
       h_q = record { a = h.a; b = h.b; copies = h.copies; known = h.known; waits = h.waits }
@@ -500,7 +384,7 @@ module _ (k : Secrets) (right : Bool) (w : Side → Type 0) (did : Deed → Side
       → AreKnown k right w did (with_end s e p) (fell_duties s r p)
   fell_known s e r p said is stays h =
       fell_cases (λ ds. AreKnown k right w did (with_end s e p) ds) s p r
-      (λ fell. replaced_known k right w did s (duties.Ask (ask_duties.GoIdentity s)) e p
+      (λ fell. replaced_known k right w did s (Duty.Ask (AskDuty.GoIdentity s)) e p
       (λ x falling. subst (VoiceIs k right w did (with_end s e p)) (sym (falls_same x s falling)) (with_voice k right w did s e p stays (Voice.Falls s) (not_joined s r p said is fell))) stays h)
       (λ reason x spoken. absurd (false≢true spoken)) (λ reason x spoken. absurd (false≢true spoken))
       (fewer_known k right w did s e (left p) p (none_left k right w did p) stays h)
@@ -577,48 +461,48 @@ module _ (k : Secrets) (right : Bool) (w : Side → Type 0) (did : Deed → Side
       let e = end_at s p in
       let opens = not_closed (is_closed_to_segments e.tcp.state) (and_parts (not (is_closed_to_segments e.tcp.state)) (fits e.tcp unsent) stands).0 in
       same_sent k right w did s _ _ p.agenda p (record_or_ack_is k right w did p.profile s e (end_is k right w did s p h) (up_knows s p (open_is_up e.tcp opens) h) (first_unsent e)) refl refl
-      (sending_up to_send.Unsent p.clock e.tcp) (λ t is. is) h
+      (sending_up Occasion.Unsent p.clock e.tcp) (λ t is. is) h
   data_is s None r p first stands h = grant_is s (grant_in r) r p h
 
   heard_answered : (s : Side) (item : Heard) (r : Reply) (p : PathState Carried) → ItemIs k right w did (is_joined p.profile) s item → Said s p → ReplyIs (heard_ask values s item p) r → PathIs k right w did p → PathIs k right w did (answered_heard values s item r p)
-  heard_answered s (says.DataAck next window) r p own said is h = by (is_acked r && nat_lt 0 next)
+  heard_answered s (Heard.DataAck next window) r p own said is h = by (is_acked r && nat_lt 0 next)
     where
-      by : (b : Bool) → PathIs k right w did (goes_on s (with_acked next r (end_at s p)) (if b then replaced (duties.Ask (ask_duties.AckHeard s)) p.agenda else left p) p)
+      by : (b : Bool) → PathIs k right w did (goes_on s (with_acked next r (end_at s p)) (if b then replaced (Duty.Ask (AskDuty.AckHeard s)) p.agenda else left p) p)
       by true =
-          says_next s (duties.Ask (ask_duties.AckHeard s)) (with_acked next r (end_at s p)) p (λ x telling. tells_same x s telling) refl refl (record { up = λ x. x; waits = λ x. x; past = λ x. x }) said h
+          says_next s (Duty.Ask (AskDuty.AckHeard s)) (with_acked next r (end_at s p)) p (λ x telling. tells_same x s telling) refl refl (record { up = λ x. x; waits = λ x. x; past = λ x. x }) said h
       by false = same_goes k right w did s (with_acked next r (end_at s p)) (left p) p refl refl (record { up = λ x. x; waits = λ x. x; past = λ x. x }) (none_left k right w did p) h
-  heard_answered s (says.Mapping fin) r p own said is h = by (is_clash (end_at s p)) is
+  heard_answered s (Heard.Mapping fin) r p own said is h = by (is_clash (end_at s p)) is
     where
-      by : (b : Bool) → ReplyIs (if b then break_ask values s 1 p else fell_ask s fall.MappingHeard p) r
-          → PathIs k right w did (if b then answered_break values s 1 r p else goes_on s (with_learned (after_fell fall.MappingHeard r (end_at s p))) (fell_duties s r p) p)
+      by : (b : Bool) → ReplyIs (if b then break_ask values s 1 p else fell_ask s FallEvent.MappingHeard p) r
+          → PathIs k right w did (if b then answered_break values s 1 r p else goes_on s (with_learned (after_fell FallEvent.MappingHeard r (end_at s p))) (fell_duties s r p) p)
       by true is = break_is s 1 r p h
       by false is =
-          verdict_is s (with_learned (after_fell fall.MappingHeard r (end_at s p))) r p (verdict_leaves r (end_at s p).modes) refl (record { up = λ x. x; waits = λ x. x; past = λ x. x }) said is h
-  heard_answered s (says.DataFin place) r p own said is h =
-      verdict_is s (with_data_fin place (after_fell fall.MappingHeard r (end_at s p))) r p (verdict_leaves r (end_at s p).modes) refl (record { up = λ x. x; waits = λ x. x; past = λ x. x }) said is h
-  heard_answered s (says.InfiniteMapping place position) r p own said is h =
+          verdict_is s (with_learned (after_fell FallEvent.MappingHeard r (end_at s p))) r p (verdict_leaves r (end_at s p).modes) refl (record { up = λ x. x; waits = λ x. x; past = λ x. x }) said is h
+  heard_answered s (Heard.DataFin place) r p own said is h =
+      verdict_is s (with_data_fin place (after_fell FallEvent.MappingHeard r (end_at s p))) r p (verdict_leaves r (end_at s p).modes) refl (record { up = λ x. x; waits = λ x. x; past = λ x. x }) said is h
+  heard_answered s (Heard.InfiniteMapping place position) r p own said is h =
       infinite_came_so (λ e. PathIs k right w did (goes_on s e (fell_duties s r p) p)) place position r (end_at s p)
       (λ other. verdict_is s (infinite_so r other (end_at s p)) r p (verdict_leaves r (end_at s p).modes) refl (record { up = λ x. x; waits = λ x. x; past = λ x. x }) said is h)
-  heard_answered s (says.Keys mine other) r p own said is h =
+  heard_answered s (Heard.Keys mine other) r p own said is h =
       goes_is k right w did s _ _ p (keys_are k right w did (is_joined p.profile) s r (Some (record { own = mine; peer = other })) (end_at s p) own is (end_is k right w did s p h)) (λ waiting. waiting) (none_left k right w did p)
       (keys_stay k right w did s r (Some (record { own = mine; peer = other })) p own) h
-  heard_answered s says.Dss r p own said is h = agenda_is k right w did _ p (none_left k right w did p) h
-  heard_answered s (says.PeerKey key) r p own said is h = agenda_is k right w did _ p (none_left k right w did p) h
-  heard_answered s (says.Join form) r p own said is h = agenda_is k right w did _ p (none_left k right w did p) h
-  heard_answered s (says.Notice notice) r p own said is h =
+  heard_answered s Heard.Dss r p own said is h = agenda_is k right w did _ p (none_left k right w did p) h
+  heard_answered s (Heard.PeerKey key) r p own said is h = agenda_is k right w did _ p (none_left k right w did p) h
+  heard_answered s (Heard.Join form) r p own said is h = agenda_is k right w did _ p (none_left k right w did p) h
+  heard_answered s (Heard.Notice notice) r p own said is h =
       let e = end_at s p in let held = end_is k right w did s p h in
       goes_is k right w did s (after_peer_notice notice r e) (left p) p
       (requeued k right w did (is_joined p.profile) s (with_echo notice r e.notices.queue) e
       (echo_queued (NoteIs k right w did s) (λ id. tt) (λ id address port. tt) (λ backup. tt) notice r e.notices.queue held.queued) held)
       (λ waiting. waiting) (none_left k right w did p) (λ is has. has) h
-  heard_answered s says.Fail r p own said is h = by (may_go_infinite (end_at s p)) is
+  heard_answered s Heard.Fail r p own said is h = by (may_go_infinite (end_at s p)) is
     where
-      by : (b : Bool) → ReplyIs (if b then asks.Send s (send_calls.GoInfinite (path_of p)) else fell_ask s (fall.FailHeard false) p) r
-          → PathIs k right w did (if b then book_answered s r p else answered_fell s (fall.FailHeard false) r p)
+      by : (b : Bool) → ReplyIs (if b then Ask.Send s (SendCall.GoInfinite (path_of p)) else fell_ask s (FallEvent.FailHeard false) p) r
+          → PathIs k right w did (if b then book_answered s r p else answered_fell s (FallEvent.FailHeard false) r p)
       by true is =
-          says_next s (duties.Ask (ask_duties.FailHeard s)) (with_infinite r (end_at s p)) p (λ x telling. tells_same x s telling) refl refl (record { up = λ x. x; waits = λ x. x; past = λ x. x }) said h
-      by false is = told_is s (fall.FailHeard false) r p said is h
-  heard_answered s (says.FastClose key) r p own said is h = by (is_stopped_by r) is
+          says_next s (Duty.Ask (AskDuty.FailHeard s)) (with_infinite r (end_at s p)) p (λ x telling. tells_same x s telling) refl refl (record { up = λ x. x; waits = λ x. x; past = λ x. x }) said h
+      by false is = told_is s (FallEvent.FailHeard false) r p said is h
+  heard_answered s (Heard.FastClose key) r p own said is h = by (is_stopped_by r) is
     where
       known : (t : Side) → did Deed.Stopped t → did Deed.Closed (peer t) → (x : Voice) → speaks x (stops t) ≡ true → VoiceIs k right w did p x
       known A stopped closed (Voice.Aborts A) spoken = (stopped, closed)
@@ -650,11 +534,9 @@ module _ (k : Secrets) (right : Bool) (w : Side → Type 0) (did : Deed → Side
   ack_said_is s position fin p h = ack_is k right w did p.profile s (end_at s p) (end_is k right w did s p h) position fin
 
   answer_is : (s : Side) (p : PathState Carried) → Said s p → PathIs k right w did p → SegmentIs k right w did p.profile s (answer_of s p)
-  answer_is s p said h = by (end_at s p).tcp.due.syn_ack
-    where
-      by : (b : Bool) → SegmentIs k right w did p.profile s (if b then syn_ack_said p.profile s (end_at s p) else ack_said p.profile s (end_at s p).tcp.send.nxt None (end_at s p))
-      by true = syn_ack_is k right w did p.profile s (end_at s p) (end_is k right w did s p h) said
-      by false = ack_said_is s (end_at s p).tcp.send.nxt None p h
+  answer_is s p said h =
+      if_so (SegmentIs k right w did p.profile s) (end_at s p).tcp.due.syn_ack (syn_ack_said p.profile s (end_at s p)) (ack_said p.profile s (end_at s p).tcp.send.nxt None (end_at s p))
+      (syn_ack_is k right w did p.profile s (end_at s p) (end_is k right w did s p h) said) (ack_said_is s (end_at s p).tcp.send.nxt None p h)
 
   resend_is : (s : Side) (p : PathState Carried) → Said s p → PathIs k right w did p → SegmentIs k right w did p.profile s (resend_of s p)
   resend_is s p said h = by (has_records (end_at s p).tcp) (end_at s p).modes.owes_third (end_at s p).notices.fast_closed (is_data_fin_owed (end_at s p))
@@ -698,7 +580,7 @@ module _ (k : Secrets) (right : Bool) (w : Side → Type 0) (did : Deed → Side
   -- the first key that was heard, or that there is none
   key_kept : (s : Side) (o : Option ℕ) (r : Reply) (p : PathState Carried) → IfSome o (λ key. key ≡ drawn_key k right (peer s)) → Said s p → ReplyIs (peer_key_ask s o p) r → PathIs k right w did p
       → PathIs k right w did (answered_peer_key s o r p)
-  key_kept s None r p is said falls h = told_is s fall.PlainHandshake r p said falls h
+  key_kept s None r p is said falls h = told_is s FallEvent.PlainHandshake r p said falls h
   key_kept s (Some key) r p is said falls h =
       let own = end_is k right w did s p h in let m = (end_at s p).modes in
       goes_is k right w did s _ _ p (record {
@@ -713,7 +595,7 @@ module _ (k : Secrets) (right : Bool) (w : Side → Type 0) (did : Deed → Side
 
   -- so are both keys
   keys_kept : (s : Side) (o : Option KeyPair) (r : Reply) (p : PathState Carried) → IfSome o (PairIs k right w did (is_joined p.profile) s) → Said s p → ReplyIs (opened_ask s o p) r → PathIs k right w did p → PathIs k right w did (answered_opened s o r p)
-  keys_kept s None r p pair said falls h = told_is s fall.PlainHandshake r p said falls h
+  keys_kept s None r p pair said falls h = told_is s FallEvent.PlainHandshake r p said falls h
   keys_kept s (Some keys) r p pair said falls h =
       goes_is k right w did s _ _ p (keys_are k right w did (is_joined p.profile) s r (Some keys) (end_at s p) pair falls (end_is k right w did s p h)) (λ waiting. waiting) (none_left k right w did p)
       (keys_stay k right w did s r (Some keys) p pair) h
@@ -721,11 +603,11 @@ module _ (k : Secrets) (right : Bool) (w : Side → Type 0) (did : Deed → Side
   plain_ack_is : (s : Side) (r : Reply) (p : PathState Carried) → Said s p → ReplyIs (plain_ack_ask values s p) r → PathIs k right w did p → PathIs k right w did (answered_plain_ack values s r p)
   plain_ack_is s r p said is h = by (breaks_by_ack p.profile (end_at s p)) is
     where
-      by : (b : Bool) → ReplyIs (if b then break_ask values s 6 p else fell_ask s fall.PlainAck p) r
-          → PathIs k right w did (if b then answered_break values s 6 r p else goes_on s (with_plain_ack (after_fell fall.PlainAck r (end_at s p))) (fell_duties s r p) p)
+      by : (b : Bool) → ReplyIs (if b then break_ask values s 6 p else fell_ask s FallEvent.PlainAck p) r
+          → PathIs k right w did (if b then answered_break values s 6 r p else goes_on s (with_plain_ack (after_fell FallEvent.PlainAck r (end_at s p))) (fell_duties s r p) p)
       by true is = break_is s 6 r p h
       by false is =
-          verdict_is s (with_plain_ack (after_fell fall.PlainAck r (end_at s p))) r p (verdict_leaves r (end_at s p).modes) refl (record { up = λ x. x; waits = λ x. x; past = λ x. x }) said is h
+          verdict_is s (with_plain_ack (after_fell FallEvent.PlainAck r (end_at s p))) r p (verdict_leaves r (end_at s p).modes) refl (record { up = λ x. x; waits = λ x. x; past = λ x. x }) said is h
 
   -- a FIN that stands for the end of the stream
   plain_fin_is : (s : Side) (set : Bool) (p : PathState Carried) → PathIs k right w did p → PathIs k right w did (answered_plain_fin s set p)
@@ -735,26 +617,26 @@ module _ (k : Secrets) (right : Bool) (w : Side → Type 0) (did : Deed → Side
   -- the join that B heard of
   heard_join : (s : Side) (o : Option KeyPair) (asked : Option Asked) (r : Reply) (p : PathState Carried) → (IfSome asked (λ x. IfSome o (BeginIs k right w did s))) → IfSome asked (AskedIs k right w did (is_joined p.profile) s) → PathIs k right w did p → PathIs k right w did (join_taken s o asked r p)
   heard_join s None (Some asked) r p begins heard h =
-      same_goes k right w did s (with_mode_refused r (end_at s p)) (replaced (duties.Send (send_duties.Refuse s)) p.agenda) p refl refl (record { up = λ x. x; waits = λ x. x; past = λ x. x })
-      (λ t spoken. replaced_speaks t (duties.Send (send_duties.Refuse s)) p.agenda refl spoken) h
-  heard_join s None None r p begins heard h = agenda_is k right w did _ p (λ t spoken. replaced_speaks t (duties.Send (send_duties.Refuse s)) p.agenda refl spoken) h
-  heard_join s (Some keys) None r p begins heard h = agenda_is k right w did _ p (λ t spoken. replaced_speaks t (duties.Send (send_duties.Refuse s)) p.agenda refl spoken) h
+      same_goes k right w did s (with_mode_refused r (end_at s p)) (replaced (Duty.Send (SendDuty.Refuse s)) p.agenda) p refl refl (record { up = λ x. x; waits = λ x. x; past = λ x. x })
+      (λ t spoken. replaced_speaks t (Duty.Send (SendDuty.Refuse s)) p.agenda refl spoken) h
+  heard_join s None None r p begins heard h = agenda_is k right w did _ p (λ t spoken. replaced_speaks t (Duty.Send (SendDuty.Refuse s)) p.agenda refl spoken) h
+  heard_join s (Some keys) None r p begins heard h = agenda_is k right w did _ p (λ t spoken. replaced_speaks t (Duty.Send (SendDuty.Refuse s)) p.agenda refl spoken) h
   heard_join s (Some keys) (Some asked) r p begins heard h =
       let joins = heard.0 in
       let now : EndIs k right w did true s (end_at s p) = subst (λ j. EndIs k right w did j s (end_at s p)) joins (end_is k right w did s p h) in
       let told : AskedIs k right w did true s asked = subst (λ j. AskedIs k right w did j s asked) joins heard in
       let met : Knows k right w did s (joined_by keys asked (end_at s p)).modes = joined_knows k right w did s keys asked (end_at s p) begins told in
-      goes_by k right w did s (joined_by keys asked (end_at s p)) (replaced (duties.Send (send_duties.SynAck s)) p.agenda) p
+      goes_by k right w did s (joined_by keys asked (end_at s p)) (replaced (Duty.Send (SendDuty.SynAck s)) p.agenda) p
       (subst (λ j. EndIs k right w did j s (joined_by keys asked (end_at s p))) (sym joins) (joined_end k right w did s keys asked (end_at s p) begins told now))
       (joined_waits k right w did keys asked (end_at s p))
-      (replaced_known k right w did s (duties.Send (send_duties.SynAck s)) (joined_by keys asked (end_at s p)) p
+      (replaced_known k right w did s (Duty.Send (SendDuty.SynAck s)) (joined_by keys asked (end_at s p)) p
       (λ x telling. subst (VoiceIs k right w did (with_end s (joined_by keys asked (end_at s p)) p)) (sym (tells_same x s telling)) (λ is. own_knows k right w did s s (joined_by keys asked (end_at s p)) p refl met))
       (λ is has. met) h) h
 
   -- the fast close that an end is told to carry
   look_carries : (s : Side) (r : Reply) (e : PathEnd) → IfSome (carrier_told r) (λ key. did Deed.Closed s) → IfSome e.notices.carrier (λ key. did Deed.Closed s)
       → IfSome (notices_told r e).carrier (λ key. did Deed.Closed s)
-  look_carries s (replies.Control (control_replies.Standing mode standby sole notice)) e closed was = by (is_dead e.tcp.state) notice closed
+  look_carries s (Reply.Control (ControlReply.Standing mode standby sole notice)) e closed was = by (is_dead e.tcp.state) notice closed
     where
       if_may : (b : Bool) (n : OwnNotices) → IfSome e.notices.carrier (λ key. did Deed.Closed s) → n.carrier ≡ e.notices.carrier → IfSome (if b then n else e.notices).carrier (λ key. did Deed.Closed s)
       if_may true n was same = subst (λ o. IfSome o (λ key. did Deed.Closed s)) (sym same) was
@@ -767,16 +649,13 @@ module _ (k : Secrets) (right : Bool) (w : Side → Type 0) (did : Deed → Side
       by : (dead : Bool) (notice : Notice) → IfSome (carrier_in notice) (λ key. did Deed.Closed s)
           → IfSome (if dead then e.notices else after_notice notice (may_note e) e.notices).carrier (λ key. did Deed.Closed s)
       by true notice closed = was
-      by false notices.Nothing closed = was
-      by false (notices.Announce id) closed = if_may (may_note e) _ was refl
-      by false (notices.Withdraw id) closed = was
-      by false (notices.Carrier key) closed = kept e.notices.fast_closed key closed
-      by false notices.Reset closed = was
-  look_carries s (replies.Control control_replies.Noted) e closed was = was
-  look_carries s (replies.Control _) e closed was = was
-  look_carries s (replies.Send reply) e closed was = was
-  look_carries s (replies.Reassembly reply) e closed was = was
-  look_carries s replies.Done e closed was = was
+      by false Notice.Nothing closed = was
+      by false (Notice.Announce id) closed = if_may (may_note e) _ was refl
+      by false (Notice.Withdraw id) closed = was
+      by false (Notice.Carrier key) closed = kept e.notices.fast_closed key closed
+      by false Notice.Reset closed = was
+  look_carries s (Reply.Control ControlReply.Noted) e closed was = was
+  look_carries s _ e closed was = was
 
   identity_knows : (s : Side) (e : PathEnd) → Knows k right w did s e.modes → Knows k right w did s (in_identity e).modes
   identity_knows A e has = has
@@ -784,10 +663,10 @@ module _ (k : Secrets) (right : Bool) (w : Side → Type 0) (did : Deed → Side
 
   answered_is : (d : Duty) (r : Reply) (p : PathState Carried) → stands d p ≡ true → ((x : Voice) → is_said_by x d ≡ true → VoiceIs k right w did p x)
       → ReplyIs (ask_for values d p) r → PathIs k right w did p → PathIs k right w did (answered values d r p)
-  answered_is (duties.Ask ask_duties.JoinAgain) r p stands said is h =
-      begun_is r (replaced (duties.Ask (ask_duties.Leave A)) p.agenda) (left p) p (h.waits (and_parts (is_waiting p.a.tcp.state) (is_none p.joined_at) stands).0) is
-      (λ t spoken. replaced_speaks t (duties.Ask (ask_duties.Leave A)) p.agenda refl spoken) (none_left k right w did p) h
-  answered_is (duties.Step (step_duties.Look s)) r p stands said is h =
+  answered_is (Duty.Ask AskDuty.JoinAgain) r p stands said is h =
+      begun_is r (replaced (Duty.Ask (AskDuty.Leave A)) p.agenda) (left p) p (h.waits (and_parts (is_waiting p.a.tcp.state) (is_none p.joined_at) stands).0) is
+      (λ t spoken. replaced_speaks t (Duty.Ask (AskDuty.Leave A)) p.agenda refl spoken) (none_left k right w did p) h
+  answered_is (Duty.Step (StepDuty.Look s)) r p stands said is h =
       let e = end_at s p in let own = end_is k right w did s p h in let same = look_leaves r e.modes in
       goes_is k right w did s (after_look r e) (left p) p
       (record {
@@ -800,62 +679,62 @@ module _ (k : Secrets) (right : Bool) (w : Side → Type 0) (did : Deed → Side
         failing = own.failing;
       })
       (λ waiting. waiting) (none_left k right w did p) (λ joined has. same_knows k right w did s e.modes (modes_told r e.modes) same has) h
-  answered_is (duties.Ask (ask_duties.Window s)) r p stands said is h = same_goes k right w did s _ _ p refl refl (record { up = λ x. x; waits = λ x. x; past = λ x. x }) (none_left k right w did p) h
-  answered_is (duties.Send (send_duties.Update s)) r p stands said is h =
+  answered_is (Duty.Ask (AskDuty.Window s)) r p stands said is h = same_goes k right w did s _ _ p refl refl (record { up = λ x. x; waits = λ x. x; past = λ x. x }) (none_left k right w did p) h
+  answered_is (Duty.Send (SendDuty.Update s)) r p stands said is h =
       same_sent k right w did s _ _ _ p (ack_said_is s (end_at s p).tcp.send.nxt None p h) refl refl (record { up = λ x. x; waits = λ x. x; past = λ x. x }) (none_left k right w did p) h
-  answered_is (duties.Send (send_duties.FastClose s)) r p stands said is h =
+  answered_is (Duty.Send (SendDuty.FastClose s)) r p stands said is h =
       same_sent k right w did s _ _ _ p (fast_close_is s p stands h) refl refl (record { up = λ x. x; waits = λ x. x; past = λ x. x }) (none_left k right w did p) h
-  answered_is (duties.Send (send_duties.Notice s)) r p stands said is h =
+  answered_is (Duty.Send (SendDuty.Notice s)) r p stands said is h =
       let e = end_at s p in
       let own = end_is k right w did s p h in
-      let sent = having_sent to_send.Ack p.clock (note_of s p) e in
+      let sent = having_sent Occasion.Ack p.clock (note_of s p) e in
       sent_is k right w did s (note_of s p) (having_noted s p) p.agenda p (note_is s p stands h)
       (requeued k right w did (is_joined p.profile) s (tail_of e.notices.queue) sent
       (tail_queued (NoteIs k right w did s) (λ id. tt) (λ id address port. tt) (λ backup. tt) e.notices.queue own.queued)
       (kept_end k right w did (is_joined p.profile) s e sent refl refl (record { up = λ x. x; waits = λ x. x; past = λ x. x }) own))
       (λ waiting. waiting) (λ t is. is) (stays_same k right w did s (having_noted s p) p refl) h
-  answered_is (duties.Send (send_duties.Syn s)) r p stands said is h =
+  answered_is (Duty.Send (SendDuty.Syn s)) r p stands said is h =
       let e = end_at s p in
       let opens = opening_open e.tcp.state (and_parts (is_opening e.tcp.state) (is_some (first_unsent e)) stands).0 in
       same_sent k right w did s _ _ _ p (record_or_ack_is k right w did p.profile s e (end_is k right w did s p h) (up_knows s p (open_is_up e.tcp opens) h) (first_unsent e)) refl refl
-      (sending_up to_send.Unsent p.clock e.tcp) (none_left k right w did p) h
-  answered_is (duties.Step (step_duties.Data s)) r p stands said is h = data_is s (first_unsent (end_at s p)) r p refl stands h
-  answered_is (duties.Send (send_duties.DataFin s)) r p stands said is h =
+      (sending_up Occasion.Unsent p.clock e.tcp) (none_left k right w did p) h
+  answered_is (Duty.Step (StepDuty.Data s)) r p stands said is h = data_is s (first_unsent (end_at s p)) r p refl stands h
+  answered_is (Duty.Send (SendDuty.DataFin s)) r p stands said is h =
       same_sent k right w did s _ _ _ p (ack_said_is s (end_at s p).tcp.send.nxt (end_at s p).sending.known_end p h) refl refl (record { up = λ x. x; waits = λ x. x; past = λ x. x }) (none_left k right w did p) h
-  answered_is (duties.Send (send_duties.Fin s)) r p stands said is h = same_sent k right w did s _ _ _ p (fin_segment_is s p (up_knows s p (may_finish_up s (and_parts (may_finish (end_at s p).tcp.state) _ stands).0) h) h) refl refl (fin_up s p) (none_left k right w did p) h
+  answered_is (Duty.Send (SendDuty.Fin s)) r p stands said is h = same_sent k right w did s _ _ _ p (fin_segment_is s p (up_knows s p (may_finish_up s (and_parts (may_finish (end_at s p).tcp.state) _ stands).0) h) h) refl refl (fin_up s p) (none_left k right w did p) h
     where
       fin_up : (s : Side) (p : PathState Carried) → NoWaking (end_at s p).tcp (having_sent_fin s p).tcp
       fin_up s p = let up = finishing_up (end_at s p).tcp in record { up = up.up; waits = up.waits; past = up.past }
 
       may_finish_up : (s : Side) → may_finish (end_at s p).tcp.state ≡ true → is_up (end_at s p).tcp ≡ true
       may_finish_up s may = open_is_up (end_at s p).tcp (finish_open (end_at s p).tcp.state may)
-  answered_is (duties.Step step_duties.Events) r p stands said is h = event_is (next_event p) r p refl is h
-  answered_is (duties.Ask (ask_duties.PlainHandshake s)) r p stands said is h = told_is s fall.PlainHandshake r p (said (Voice.Says s) (itself s)) is h
-  answered_is (duties.Ask (ask_duties.PeerKey s)) r p stands said is h =
+  answered_is (Duty.Step StepDuty.Events) r p stands said is h = event_is (next_event p) r p refl is h
+  answered_is (Duty.Ask (AskDuty.PlainHandshake s)) r p stands said is h = told_is s FallEvent.PlainHandshake r p (said (Voice.Says s) (itself s)) is h
+  answered_is (Duty.Ask (AskDuty.PeerKey s)) r p stands said is h =
       key_kept s (key_heard (end_at s p).treated.items) r p (key_found k right w did (is_joined p.profile) s (end_at s p).treated.items (end_is k right w did s p h).items) (said (Voice.Says s) (itself s)) is h
-  answered_is (duties.Send (send_duties.SynAck s)) r p stands said is h =
+  answered_is (Duty.Send (SendDuty.SynAck s)) r p stands said is h =
       same_sent k right w did s _ _ _ p (syn_ack_is k right w did p.profile s (end_at s p) (end_is k right w did s p h) (said (Voice.Says s) (itself s))) refl refl
-      (sending_up to_send.SynAck p.clock (end_at s p).tcp) (none_left k right w did p) h
-  answered_is (duties.Ask (ask_duties.JoinHeard s)) r p stands said is h =
+      (sending_up Occasion.SynAck p.clock (end_at s p).tcp) (none_left k right w did p) h
+  answered_is (Duty.Ask (AskDuty.JoinHeard s)) r p stands said is h =
       heard_join s (keys_begun r) (asked_at s p) r p (by (asked_at s p) is) (asked_is k right w did (is_joined p.profile) s (end_at s p).treated.items (end_is k right w did s p h).items) h
     where
       by : (o : Option Asked) → ReplyIs (join_heard_ask s o p) r → IfSome o (λ x. IfSome (keys_begun r) (BeginIs k right w did s))
       by None is = tt
       by (Some asked) is = is
-  answered_is (duties.Send (send_duties.Refuse s)) r p stands said is h = same_sent k right w did s _ _ _ p (refusal_is s p h) refl refl (record { up = λ x. x; waits = λ x. x; past = λ x. x }) (none_left k right w did p) h
-  answered_is (duties.Ask (ask_duties.Opened s)) r p stands said is h =
+  answered_is (Duty.Send (SendDuty.Refuse s)) r p stands said is h = same_sent k right w did s _ _ _ p (refusal_is s p h) refl refl (record { up = λ x. x; waits = λ x. x; past = λ x. x }) (none_left k right w did p) h
+  answered_is (Duty.Ask (AskDuty.Opened s)) r p stands said is h =
       keys_kept s (keys_heard (end_at s p).treated.items) r p (pair_found k right w did (is_joined p.profile) s (end_at s p).treated.items (end_is k right w did s p h).items) (said (Voice.Says s) (itself s)) is h
-  answered_is (duties.Step (step_duties.Heard s index)) r p stands said is h =
+  answered_is (Duty.Step (StepDuty.Heard s index)) r p stands said is h =
       item_answered s (item_of index (end_at s p)) r p (item_found (is_joined p.profile) s index (end_at s p) (end_is k right w did s p h).items) (said (Voice.Says s) (itself s)) is h
-  answered_is (duties.Ask (ask_duties.AckHeard s)) r p stands said is h = told_is s fall.AckHeard r p (said (Voice.Says s) (itself s)) is h
-  answered_is (duties.Ask (ask_duties.FailHeard s)) r p stands said is h =
+  answered_is (Duty.Ask (AskDuty.AckHeard s)) r p stands said is h = told_is s FallEvent.AckHeard r p (said (Voice.Says s) (itself s)) is h
+  answered_is (Duty.Ask (AskDuty.FailHeard s)) r p stands said is h =
       fail_heard_so (λ e. PathIs k right w did (goes_on s e (fell_duties s r p) p)) r (end_at s p)
       (λ own owes.
       verdict_is s (failed_so r own owes (end_at s p)) r p (verdict_leaves r (end_at s p).modes) refl (record { up = λ x. x; waits = λ x. x; past = λ x. x }) (said (Voice.Says s) (itself s)) is h)
-  answered_is (duties.Step (step_duties.PlainAck s)) r p stands said is h = plain_ack_is s r p (said (Voice.Says s) (itself s)) is h
-  answered_is (duties.Ask (ask_duties.SubflowAck s)) r p stands said is h = same_goes k right w did s _ _ p refl refl (record { up = λ x. x; waits = λ x. x; past = λ x. x }) (none_left k right w did p) h
-  answered_is (duties.Ask (ask_duties.PlainData s)) r p stands said is h = told_is s fall.PlainData r p (said (Voice.Says s) (itself s)) is h
-  answered_is (duties.Ask (ask_duties.GoIdentity s)) r p stands said is h =
+  answered_is (Duty.Step (StepDuty.PlainAck s)) r p stands said is h = plain_ack_is s r p (said (Voice.Says s) (itself s)) is h
+  answered_is (Duty.Ask (AskDuty.SubflowAck s)) r p stands said is h = same_goes k right w did s _ _ p refl refl (record { up = λ x. x; waits = λ x. x; past = λ x. x }) (none_left k right w did p) h
+  answered_is (Duty.Ask (AskDuty.PlainData s)) r p stands said is h = told_is s FallEvent.PlainData r p (said (Voice.Says s) (itself s)) is h
+  answered_is (Duty.Ask (AskDuty.GoIdentity s)) r p stands said is h =
       let own = end_is k right w did s p h in let m = own.modes in
       goes_is k right w did s (in_identity (end_at s p)) (left p) p
       (record {
@@ -868,33 +747,33 @@ module _ (k : Secrets) (right : Bool) (w : Side → Type 0) (did : Deed → Side
         failing = own.failing;
       })
       (λ waiting. waiting) (none_left k right w did p) (λ joined has. identity_knows s (end_at s p) has) h
-  answered_is (duties.Step (step_duties.Unmapped s)) r p stands said is h = break_is s 6 r p h
-  answered_is (duties.Ask (ask_duties.SubflowFin s)) r p stands said is h = plain_fin_is s (is_fin_set r) p h
-  answered_is (duties.Ask (ask_duties.Edge s)) r p stands said is h = piece_is s (piece_of s p) (is_placed r) p h
-  answered_is (duties.Ask (ask_duties.CheckFailed s)) r p stands said is h = checked_is s r p (said (Voice.Says s) (itself s)) is h
-  answered_is (duties.Ask (ask_duties.HeardFin s index)) r p stands said is h = fin_is s (is_fin_set r) p h
-  answered_is (duties.Ask (ask_duties.AckOut s)) r p stands said is h = same_goes k right w did s _ _ p refl refl (record { up = λ x. x; waits = λ x. x; past = λ x. x }) (none_left k right w did p) h
-  answered_is (duties.Ask (ask_duties.Rate s)) r p stands said is h = same_goes k right w did s _ _ p refl refl (record { up = λ x. x; waits = λ x. x; past = λ x. x }) (none_left k right w did p) h
-  answered_is (duties.Send (send_duties.Acknowledge s)) r p stands said is h =
+  answered_is (Duty.Step (StepDuty.Unmapped s)) r p stands said is h = break_is s 6 r p h
+  answered_is (Duty.Ask (AskDuty.SubflowFin s)) r p stands said is h = plain_fin_is s (is_fin_set r) p h
+  answered_is (Duty.Ask (AskDuty.Edge s)) r p stands said is h = piece_is s (piece_of s p) (is_placed r) p h
+  answered_is (Duty.Ask (AskDuty.CheckFailed s)) r p stands said is h = checked_is s r p (said (Voice.Says s) (itself s)) is h
+  answered_is (Duty.Ask (AskDuty.HeardFin s index)) r p stands said is h = fin_is s (is_fin_set r) p h
+  answered_is (Duty.Ask (AskDuty.AckOut s)) r p stands said is h = same_goes k right w did s _ _ p refl refl (record { up = λ x. x; waits = λ x. x; past = λ x. x }) (none_left k right w did p) h
+  answered_is (Duty.Ask (AskDuty.Rate s)) r p stands said is h = same_goes k right w did s _ _ p refl refl (record { up = λ x. x; waits = λ x. x; past = λ x. x }) (none_left k right w did p) h
+  answered_is (Duty.Send (SendDuty.Acknowledge s)) r p stands said is h =
       same_sent k right w did s _ _ _ p (ack_said_is s (end_at s p).tcp.send.nxt None p h) refl refl (record { up = λ x. x; waits = λ x. x; past = λ x. x }) (none_left k right w did p) h
-  answered_is (duties.Send (send_duties.Again s)) r p stands said is h =
+  answered_is (Duty.Send (SendDuty.Again s)) r p stands said is h =
       same_sent k right w did s _ _ _ p (record_or_ack_is k right w did p.profile s (end_at s p) (end_is k right w did s p h) (said (Voice.Says s) (itself s)) (first_record (end_at s p))) refl refl
-      (sending_up to_send.First p.clock (end_at s p).tcp) (none_left k right w did p) h
-  answered_is (duties.Send (send_duties.Answer s)) r p stands said is h =
+      (sending_up Occasion.First p.clock (end_at s p).tcp) (none_left k right w did p) h
+  answered_is (Duty.Send (SendDuty.Answer s)) r p stands said is h =
       same_sent k right w did s _ _ _ p (answer_is s p (said (Voice.Says s) (itself s)) h) refl refl (sending_up (answer_occasion (end_at s p)) p.clock (end_at s p).tcp) (none_left k right w did p) h
-  answered_is (duties.Send (send_duties.ResetAnswer s)) r p stands said is h = same_sent k right w did s _ _ _ p (Every-nil _) refl refl (record { up = λ x. x; waits = λ x. x; past = λ x. x }) (none_left k right w did p) h
-  answered_is (duties.Send (send_duties.Resend s)) r p stands said is h =
+  answered_is (Duty.Send (SendDuty.ResetAnswer s)) r p stands said is h = same_sent k right w did s _ _ _ p (Every-nil _) refl refl (record { up = λ x. x; waits = λ x. x; past = λ x. x }) (none_left k right w did p) h
+  answered_is (Duty.Send (SendDuty.Resend s)) r p stands said is h =
       same_sent k right w did s _ _ _ p (resend_is s p (said (Voice.Says s) (itself s)) h) refl refl (sending_up (resend_occasion (end_at s p)) p.clock (end_at s p).tcp) (none_left k right w did p) h
-  answered_is (duties.Ask (ask_duties.BreakAck s reason)) r p stands said is h = same_goes k right w did s _ _ p refl refl (record { up = λ x. x; waits = λ x. x; past = λ x. x }) (λ t spoken. absurd (false≢true spoken)) h
-  answered_is (duties.Send (send_duties.BreakReset s reason)) r p stands said is h = reset_is s (Some reason) (leaves s) p (λ t spoken. absurd (false≢true spoken)) h
-  answered_is (duties.Send (send_duties.Reset s)) r p stands said is h = reset_is s None (replaced (duties.Ask (ask_duties.Leave s)) p.agenda) p (λ t spoken. replaced_speaks t (duties.Ask (ask_duties.Leave s)) p.agenda refl spoken) h
-  answered_is (duties.Send (send_duties.ResetNoted s)) r p stands said is h = reset_is s None (replaced (duties.Ask (ask_duties.Leave s)) p.agenda) p (λ t spoken. replaced_speaks t (duties.Ask (ask_duties.Leave s)) p.agenda refl spoken) h
-  answered_is (duties.Ask (ask_duties.Leave s)) r p stands said is h = agenda_is k right w did _ p (λ t spoken. replaced_speaks t (duties.Ask (ask_duties.Dead s)) p.agenda refl spoken) h
-  answered_is (duties.Ask (ask_duties.LeaveNoted s)) r p stands said is h =
-      goes_is k right w did s (died (end_at s p)) (replaced (duties.Ask (ask_duties.Dead s)) p.agenda) p
+  answered_is (Duty.Ask (AskDuty.BreakAck s reason)) r p stands said is h = same_goes k right w did s _ _ p refl refl (record { up = λ x. x; waits = λ x. x; past = λ x. x }) (λ t spoken. absurd (false≢true spoken)) h
+  answered_is (Duty.Send (SendDuty.BreakReset s reason)) r p stands said is h = reset_is s (Some reason) (leaves s) p (λ t spoken. absurd (false≢true spoken)) h
+  answered_is (Duty.Send (SendDuty.Reset s)) r p stands said is h = reset_is s None (replaced (Duty.Ask (AskDuty.Leave s)) p.agenda) p (λ t spoken. replaced_speaks t (Duty.Ask (AskDuty.Leave s)) p.agenda refl spoken) h
+  answered_is (Duty.Send (SendDuty.ResetNoted s)) r p stands said is h = reset_is s None (replaced (Duty.Ask (AskDuty.Leave s)) p.agenda) p (λ t spoken. replaced_speaks t (Duty.Ask (AskDuty.Leave s)) p.agenda refl spoken) h
+  answered_is (Duty.Ask (AskDuty.Leave s)) r p stands said is h = agenda_is k right w did _ p (λ t spoken. replaced_speaks t (Duty.Ask (AskDuty.Dead s)) p.agenda refl spoken) h
+  answered_is (Duty.Ask (AskDuty.LeaveNoted s)) r p stands said is h =
+      goes_is k right w did s (died (end_at s p)) (replaced (Duty.Ask (AskDuty.Dead s)) p.agenda) p
       (died_is k right w did (is_joined p.profile) s (end_at s p) (end_is k right w did s p h)) (λ waiting. absurd (false≢true waiting))
-      (λ t spoken. replaced_speaks t (duties.Ask (ask_duties.Dead s)) p.agenda refl spoken) (λ is has. has) h
-  answered_is duties.End r p stands said is h = agenda_is k right w did _ p (λ t spoken. absurd (false≢true spoken)) h
+      (λ t spoken. replaced_speaks t (Duty.Ask (AskDuty.Dead s)) p.agenda refl spoken) (λ is has. has) h
+  answered_is Duty.End r p stands said is h = agenda_is k right w did _ p (λ t spoken. absurd (false≢true spoken)) h
   answered_is _ r p stands said is h = agenda_is k right w did _ p (none_left k right w did p) h
 
   settles_is : (p : PathState Carried) → PathIs k right w did p → PathIs k right w did (settled p.agenda p)

@@ -1,81 +1,19 @@
 -- A's side is sure of Multipath TCP only where A may send a DSS on path 0; so no other path begins before.
-use Rattle.std.proofs.Common.{◌≡◌, refl, sym, ◌∙◌, ap, subst, ℕ, zero, suc, ◌+◌, ◌⊎◌, inl, inr, ⊎_elim, ◌==◌, Bool, true, false, if◌then◌else◌, Option, Some, None, List, [], ◌∷◌, map, set, arith, ◌&&◌, not, is_none}
-use Rattle.std.proofs.lemmas.Bool.{false≢true, both_ways, and_parts}
-use Rattle.std.specs.List.{slice_get, list_all}
-use Rattle.sides.specs.declared.side.Side.{Side}
-use Rattle.sides.specs.declared.side.Side.TheVariants.{A, B}
-use Rattle.fallback_state.specs.declared.fall.Event.TheVariants as events
-use Rattle.fallback_state.specs.declared.fall.Fall.{Fall}
-use Rattle.fallback_state.specs.declared.fall.Mode.{Mode}
-use Rattle.fallback_state.specs.Modes.{is_identity, is_starting, reads_mappings, writes_mappings, receiving, sending}
-use Rattle.fallback_state.specs.declared.fall.Verdict.TheVariants.{Stay, SendFail}
-use Rattle.fallback_state.specs.Table.{stays, after_keys as fall_keys, after_plain as fall_plain, goes, breaks, fall_step, is_failed_path}
-use Rattle.fallback_state.specs.declared.fall.Event.{Event as FallEvent}
-use Rattle.fallback_state.specs.declared.fall.Verdict.{Verdict}
-use Rattle.fallback_state.specs.declared.fall.Mode.TheVariants as modes
-use Rattle.loss_recovery.specs.declared.windows.Pending.{Pending}
-use Rattle.reassembly_book.specs.declared.call.ReassemblyCall.TheVariants as reassembly_calls
-use Rattle.control_book.specs.declared.call.ControlCall.{ControlCall}
-use Rattle.control_book.specs.declared.call.ControlCall.TheVariants as calls
-use Rattle.control_book.specs.declared.call.Notice.{Notice}
-use Rattle.control_book.specs.declared.call.Notice.TheVariants as notices
-use Rattle.control_book.specs.Control.{Control}
+use Rattle.world_laws.proofs.Words.{◌≡◌, refl, sym, ◌∙◌, ap, subst, ℕ, zero, suc, ◌+◌, ◌&&◌, ◌==◌, not, inl, inr, ◌⊎◌, ⊎_elim, Bool, true, false, if◌then◌else◌}
+use Rattle.world_laws.proofs.Words.{Option, Some, None, List, [], ◌∷◌, map, arith, is_none, set, and_parts, both_ways, false≢true, slice_get, list_all, Verdict}
+use Rattle.world_laws.proofs.Words.{Mode, FallEvent, is_identity, is_starting, reads_mappings, receiving, sending, writes_mappings, Fall, is_failed_path, goes}
+use Rattle.world_laws.proofs.Words.{fall_step, fall_keys, fall_plain, Stay, SendFail, Side, A, B, JoinSyn, ControlCall, Notice, sole_path, Control, is_sure}
+use Rattle.world_laws.proofs.Words.{ReassemblyCall, Record, Pending, Piece, start_of_turn, Duty, SendDuty, StepDuty, AskDuty, SilentDuty, Heard, KeyPair}
+use Rattle.world_laws.proofs.Words.{key_heard, keys_heard, PeerNotice, Ask, books_in, SixBooks, reply_of, after_ask, AppDuty, AppState, app_ask, stands}
+use Rattle.world_laws.proofs.Words.{ask_for, passed, waiting_path, PathState, end_at, with_agenda, path_of, settled, answers, asks_first, IsSettled, Carried}
+use Rattle.world_laws.proofs.Words.{values, reset_of, break_ask, first_unsent, data_ask, next_event, step_for, asked_at, join_heard_ask, piece_of, piece_ask}
+use Rattle.world_laws.proofs.Words.{plain_fin, data_fin_of, fin_ask, is_clash, mapping_ask, item_ask, item_of, fell_ask, plain_ack_ask, breaks_by_ack}
+use Rattle.world_laws.proofs.Words.{peer_key_ask, opened_ask, notice_ask, sends, rate_ask, item_at, in_map, in_set, Every, ActorCrew, Always, PathPlan, Start}
+use Rattle.world_laws.proofs.Words.{path_begins, opened_world, greatest, world_run, if_so}
+use Rattle.fallback_state.specs.Table.{stays, breaks}
 use Rattle.control_book.specs.Replies as control
-use Rattle.control_book.specs.Replies.{is_sure}
 use Rattle.control_book.specs.Steps as controlling
-use Rattle.control_book.specs.Registry.{sole as sole_path}
-use Rattle.subflow_send.specs.Records.{Record}
-use Rattle.stream_lanes.specs.Words.{Every}
-use Rattle.stream_lanes.proofs.Lists.{in_set, in_map}
-use Rattle.actor_desk.specs.declared.ask.Ask.{Ask}
-use Rattle.actor_desk.specs.declared.ask.Ask.TheVariants as asks
-use Rattle.actor_desk.specs.Books.{books_in}
-use Rattle.actor_desk.specs.Desk.{SixBooks, reply_of, after_ask}
-use Rattle.stream_apps.specs.declared.duty.AppDuty.{AppDuty}
-use Rattle.stream_apps.specs.declared.duty.AppDuty.TheVariants as app_duties
-use Rattle.stream_apps.specs.Apps.{AppState}
-use Rattle.stream_apps.specs.AppSteps.{app_ask}
-use Rattle.join_handshake.specs.declared.hearing.JoinSyn.{JoinSyn}
-use Rattle.path_agenda.specs.declared.notice.PeerNotice.{PeerNotice}
-use Rattle.path_agenda.specs.declared.notice.PeerNotice.TheVariants as peer_notes
-use Rattle.path_agenda.specs.Agenda.{start_of_turn}
-use Rattle.path_agenda.specs.Items.{key_heard, keys_heard}
-use Rattle.path_agenda.specs.declared.duty.Duty.{Duty}
-use Rattle.path_agenda.specs.declared.duty.Duty.TheVariants as duties
-use Rattle.path_agenda.specs.declared.duty.AskDuty.TheVariants as ask_duties
-use Rattle.path_agenda.specs.declared.duty.SendDuty.TheVariants as send_duties
-use Rattle.path_agenda.specs.declared.duty.SilentDuty.TheVariants as silent_duties
-use Rattle.path_agenda.specs.declared.duty.StepDuty.TheVariants as step_duties
-use Rattle.path_agenda.specs.declared.heard.Heard.{Heard}
-use Rattle.path_agenda.specs.declared.heard.Heard.TheVariants as says
-use Rattle.path_agenda.specs.declared.keys.KeyPair.{KeyPair}
-use Rattle.path_core.specs.Addresses.{notice_ask}
 use Rattle.path_core.specs.declared.events.Event.{Event}
-use Rattle.path_core.specs.declared.events.Event.TheVariants as happening
-use Rattle.path_core.specs.Breaking.{break_ask, reset_of}
-use Rattle.path_core.specs.Duties.{stands, ask_for, passed}
-use Rattle.path_core.specs.Emission.{first_unsent, data_ask}
-use Rattle.path_core.specs.Events.{next_event, step_for}
-use Rattle.path_core.specs.MpJoin.{asked_at, join_heard_ask}
-use Rattle.path_core.specs.MpCapable.{peer_key_ask, opened_ask}
-use Rattle.path_core.specs.Deliver.{piece_of, piece_ask}
-use Rattle.path_core.specs.DataFin.{data_fin_of, fin_ask, plain_fin}
-use Rattle.path_core.specs.Rate.{rate_ask}
-use Rattle.path_store.specs.Passing.{Piece}
-use Rattle.path_core.specs.Handover.{sends}
-use Rattle.path_core.specs.Start.{waiting_path}
-use Rattle.path_core.specs.State.{PathState, end_at, path_of, with_agenda}
-use Rattle.path_core.specs.Steps.{settled, asks_first, answers}
-use Rattle.path_core.specs.DssIn.{is_clash, mapping_ask}
-use Rattle.path_core.specs.Fallback.{fell_ask, plain_ack_ask, breaks_by_ack}
-use Rattle.path_core.specs.Treating.{item_ask, item_of}
-use Rattle.path_core.specs.Turns.{IsSettled}
-use Rattle.path_core.specs.Values.{Carried, values}
-use Rattle.path_core.specs.Choices.{item_at}
-use Rattle.world_laws.specs.Actors.{ActorCrew}
-use Rattle.world_laws.specs.Laws.{Always}
-use Rattle.world_laws.specs.Openings.{PathPlan, Start, path_begins, opened_world}
-use Rattle.world_laws.specs.Worlds.{greatest, world_run}
 use Rattle.world_laws.proofs.Joins.Asleep.{is_idle, AreIdle, IsAsleep, begins_nothing, takes_asleep, begins_asleep, first_asleep}
 use Rattle.world_laws.proofs.Worlds.CastLifting.{Has, turns_have}
 use Rattle.world_laws.proofs.Worlds.Casts.{Walker, Cast, world_of, walking, walked, after_a, after_b, after_path, Every-put, walks_on, next_cast, first_cast, first_fare, opened_is, new_walker, walker_there}
@@ -94,16 +32,16 @@ IsOfB B = Unit {0}
 
 -- no sign of Multipath TCP that A hears
 abbrev pub IsMildEvent : FallEvent → Side → Type 0
-IsMildEvent events.MappingHeard s = IsOfB s
-IsMildEvent events.AckHeard s = IsOfB s
+IsMildEvent FallEvent.MappingHeard s = IsOfB s
+IsMildEvent FallEvent.AckHeard s = IsOfB s
 IsMildEvent _ s = Unit {0}
 
 abbrev pub IsMildCall : ControlCall → Side → Type 0
-IsMildCall (calls.Fell path event) s = IsMildEvent event s
+IsMildCall (ControlCall.Fell path event) s = IsMildEvent event s
 IsMildCall _ s = Unit {0}
 
 abbrev IsMild : Ask → Type 0
-IsMild (asks.Control s call) = IsMildCall call s
+IsMild (Ask.Control s call) = IsMildCall call s
 IsMild _ = Unit {0}
 
 either_mode : (m : Mode) (b : Bool) (c d : Control) → c.fall.mode ≡ m → d.fall.mode ≡ m → (if b then c else d).fall.mode ≡ m
@@ -111,11 +49,8 @@ either_mode m true c d x y = x
 either_mode m false c d x y = y
 
 notice_mode : (n : Notice) (path : ℕ) (c : Control) → (controlling.after_notice n path c).fall.mode ≡ c.fall.mode
-notice_mode (notices.Withdraw id) path c = refl
-notice_mode notices.Nothing path c = refl
-notice_mode (notices.Announce id) path c = refl
-notice_mode (notices.Carrier key) path c = refl
-notice_mode notices.Reset path c = refl
+notice_mode (Notice.Withdraw id) path c = refl
+notice_mode _ path c = refl
 
 -- keys that are heard confirm the side, and leave its mode
 keys_mode : (fall : Fall) → (fall_keys fall).0.mode ≡ fall.mode
@@ -134,108 +69,74 @@ row_sure true f x y p q = p
 row_sure false f x y p q = q
 
 receiving_unsure : (m : Mode) → is_sure (receiving m) ≡ true → ⊥
-receiving_unsure modes.Starting is = false≢true is
-receiving_unsure modes.Sure is = false≢true is
-receiving_unsure modes.Identity is = false≢true is
-receiving_unsure modes.InfiniteSend is = false≢true is
-receiving_unsure modes.InfiniteReceive is = false≢true is
-receiving_unsure modes.InfiniteBoth is = false≢true is
-receiving_unsure modes.Aborted is = false≢true is
+receiving_unsure Mode.Starting is = false≢true is
+receiving_unsure _ is = false≢true is
 
 sending_unsure : (m : Mode) → is_sure (sending m) ≡ true → ⊥
-sending_unsure modes.Starting is = false≢true is
-sending_unsure modes.Sure is = false≢true is
-sending_unsure modes.Identity is = false≢true is
-sending_unsure modes.InfiniteSend is = false≢true is
-sending_unsure modes.InfiniteReceive is = false≢true is
-sending_unsure modes.InfiniteBoth is = false≢true is
-sending_unsure modes.Aborted is = false≢true is
+sending_unsure Mode.Starting is = false≢true is
+sending_unsure _ is = false≢true is
 
 plain_sure : (f : Fall) → WasSure f (fall_plain f).0
-plain_sure f = row_sure (is_starting f.mode && not f.joined) f (goes modes.Identity f) (stays f) (λ is. absurd (false≢true is)) (λ is. is)
+plain_sure f = row_sure (is_starting f.mode && not f.joined) f (goes Mode.Identity f) (stays f) (λ is. absurd (false≢true is)) (λ is. is)
 
 event_sure : (path : ℕ) (sole : Bool) (event : FallEvent) (f : Fall) → IsMildEvent event A → WasSure f (fall_step f path sole event).0
-event_sure path sole events.MappingHeard f mild = absurd mild
-event_sure path sole events.AckHeard f mild = absurd mild
-event_sure path sole events.PlainHandshake f mild = plain_sure f
-event_sure path sole events.PlainData f mild = plain_sure f
-event_sure path sole events.PlainAck f mild = plain_sure f
-event_sure path sole events.InfiniteHeard f mild =
+event_sure path sole FallEvent.MappingHeard f mild = absurd mild
+event_sure path sole FallEvent.AckHeard f mild = absurd mild
+event_sure path sole FallEvent.PlainHandshake f mild = plain_sure f
+event_sure path sole FallEvent.PlainData f mild = plain_sure f
+event_sure path sole FallEvent.PlainAck f mild = plain_sure f
+event_sure path sole FallEvent.InfiniteHeard f mild =
     row_sure (not (reads_mappings f.mode)) f (stays f) _ (λ is. is)
     (row_sure (sole && is_failed_path f.failed path) f (goes (receiving f.mode) f) _ (λ is. absurd (receiving_unsure f.mode is))
-    (row_sure (writes_mappings f.mode && not f.joined && is_none f.failed) f (goes modes.Identity f) (breaks 1 f) (λ is. absurd (false≢true is)) (λ is. is)))
-event_sure path sole events.KeysHeard f mild = row_sure (is_identity f.mode) f (stays f) (record f { confirmed = true }, Stay) (λ is. is) (λ is. is)
-event_sure path sole events.CheckFailed f mild =
+    (row_sure (writes_mappings f.mode && not f.joined && is_none f.failed) f (goes Mode.Identity f) (breaks 1 f) (λ is. absurd (false≢true is)) (λ is. is)))
+event_sure path sole FallEvent.KeysHeard f mild = row_sure (is_identity f.mode) f (stays f) (record f { confirmed = true }, Stay) (λ is. is) (λ is. is)
+event_sure path sole FallEvent.CheckFailed f mild =
     row_sure (not (reads_mappings f.mode)) f (stays f) _ (λ is. is) (row_sure sole f (record f { failed = Some path }, SendFail) (breaks 6 f) (λ is. is) (λ is. is))
-event_sure path sole (events.FailHeard contiguous) f mild =
+event_sure path sole (FallEvent.FailHeard contiguous) f mild =
     row_sure (not (writes_mappings f.mode)) f (stays f) _ (λ is. is) (row_sure (sole && contiguous) f (goes (sending f.mode) f) (breaks 1 f) (λ is. absurd (sending_unsure f.mode is)) (λ is. is))
-event_sure path sole events.Stop f mild = λ is. absurd (false≢true is)
+event_sure path sole FallEvent.Stop f mild = λ is. absurd (false≢true is)
 
 abbrev pub IsNoEvent : ControlCall → Type 0
-IsNoEvent (calls.Fell path event) = ⊥
-IsNoEvent calls.FastClose = ⊥
-IsNoEvent (calls.FastHeard key) = ⊥
+IsNoEvent (ControlCall.Fell path event) = ⊥
+IsNoEvent ControlCall.FastClose = ⊥
+IsNoEvent (ControlCall.FastHeard key) = ⊥
 IsNoEvent _ = Unit {0}
 
 pub call_mode : (c : Control) (call : ControlCall) → IsNoEvent call → IsMildCall call A → (controlling.after c call).fall.mode ≡ c.fall.mode
-call_mode c (calls.Look path) none mild = notice_mode (control.notice_on c path) path c
-call_mode c (calls.PeerKey key) none mild = refl
-call_mode c (calls.Keys own other) none mild = either_mode c.fall.mode (own == c.keys.own) _ _ (keys_mode c.fall) refl
-call_mode c (calls.Fell path event) none mild = absurd none
-call_mode c (calls.JoinBegin path) none mild = either_mode c.fall.mode _ _ _ refl refl
-call_mode c (calls.JoinHeard path token) none mild = either_mode c.fall.mode _ _ _ refl refl
-call_mode c (calls.Live path backup) none mild = refl
-call_mode c (calls.Dead path) none mild = refl
-call_mode c (calls.Backup path on) none mild = refl
-call_mode c (calls.Rate path window rtt) none mild = refl
-call_mode c (calls.Announce id) none mild = refl
-call_mode c (calls.Withdraw id) none mild = either_mode c.fall.mode _ _ _ refl refl
-call_mode c (calls.Heard id address port hmac) none mild = refl
-call_mode c (calls.Echoed id) none mild = either_mode c.fall.mode _ _ _ refl refl
-call_mode c (calls.Removed id) none mild = either_mode c.fall.mode _ _ _ refl refl
-call_mode c calls.FastClose none mild = absurd none
-call_mode c (calls.FastHeard key) none mild = absurd none
+call_mode c (ControlCall.Look path) none mild = notice_mode (control.notice_on c path) path c
+call_mode c (ControlCall.Keys own other) none mild = either_mode c.fall.mode (own == c.keys.own) _ _ (keys_mode c.fall) refl
+call_mode c (ControlCall.Fell path event) none mild = absurd none
+call_mode c (ControlCall.JoinBegin path) none mild = either_mode c.fall.mode _ _ _ refl refl
+call_mode c (ControlCall.JoinHeard path token) none mild = either_mode c.fall.mode _ _ _ refl refl
+call_mode c (ControlCall.Withdraw id) none mild = either_mode c.fall.mode _ _ _ refl refl
+call_mode c (ControlCall.Echoed id) none mild = either_mode c.fall.mode _ _ _ refl refl
+call_mode c (ControlCall.Removed id) none mild = either_mode c.fall.mode _ _ _ refl refl
+call_mode c ControlCall.FastClose none mild = absurd none
+call_mode c (ControlCall.FastHeard key) none mild = absurd none
+call_mode c _ none mild = refl
 
 call_sure : (c : Control) (call : ControlCall) → IsMildCall call A → WasSure c.fall (controlling.after c call).fall
-call_sure c (calls.Look path) mild = λ is. ap is_sure (sym (call_mode c (calls.Look path) tt mild)) ∙ is
-call_sure c (calls.PeerKey key) mild = λ is. ap is_sure (sym (call_mode c (calls.PeerKey key) tt mild)) ∙ is
-call_sure c (calls.Keys own other) mild = λ is. ap is_sure (sym (call_mode c (calls.Keys own other) tt mild)) ∙ is
-call_sure c (calls.Fell path event) mild = event_sure path (sole_path c.paths path) event c.fall mild
-call_sure c (calls.JoinBegin path) mild = λ is. ap is_sure (sym (call_mode c (calls.JoinBegin path) tt mild)) ∙ is
-call_sure c (calls.JoinHeard path token) mild = λ is. ap is_sure (sym (call_mode c (calls.JoinHeard path token) tt mild)) ∙ is
-call_sure c (calls.Live path backup) mild = λ is. ap is_sure (sym (call_mode c (calls.Live path backup) tt mild)) ∙ is
-call_sure c (calls.Dead path) mild = λ is. ap is_sure (sym (call_mode c (calls.Dead path) tt mild)) ∙ is
-call_sure c (calls.Backup path on) mild = λ is. ap is_sure (sym (call_mode c (calls.Backup path on) tt mild)) ∙ is
-call_sure c (calls.Rate path window rtt) mild = λ is. ap is_sure (sym (call_mode c (calls.Rate path window rtt) tt mild)) ∙ is
-call_sure c (calls.Announce id) mild = λ is. ap is_sure (sym (call_mode c (calls.Announce id) tt mild)) ∙ is
-call_sure c (calls.Withdraw id) mild = λ is. ap is_sure (sym (call_mode c (calls.Withdraw id) tt mild)) ∙ is
-call_sure c (calls.Heard id address port hmac) mild = λ is. ap is_sure (sym (call_mode c (calls.Heard id address port hmac) tt mild)) ∙ is
-call_sure c (calls.Echoed id) mild = λ is. ap is_sure (sym (call_mode c (calls.Echoed id) tt mild)) ∙ is
-call_sure c (calls.Removed id) mild = λ is. ap is_sure (sym (call_mode c (calls.Removed id) tt mild)) ∙ is
-call_sure c calls.FastClose mild = λ is. absurd (false≢true is)
-call_sure c (calls.FastHeard key) mild = by (key == c.keys.own)
+call_sure c (ControlCall.Fell path event) mild = event_sure path (sole_path c.paths path) event c.fall mild
+call_sure c ControlCall.FastClose mild = λ is. absurd (false≢true is)
+call_sure c (ControlCall.FastHeard key) mild = by (key == c.keys.own)
   where
-    by : (b : Bool) → WasSure c.fall (if b then controlling.after_event 0 false events.Stop c else c).fall
+    by : (b : Bool) → WasSure c.fall (if b then controlling.after_event 0 false FallEvent.Stop c else c).fall
     by true = λ is. absurd (false≢true is)
     by false = λ is. is
+call_sure c call mild = λ is. ap is_sure (sym (call_mode c call tt mild)) ∙ is
 
 mild_sure : (six : SixBooks) (x : Ask) → IsMild x → WasSure six.control_a.fall (after_ask x six).control_a.fall
-mild_sure six (asks.Control A call) mild = call_sure six.control_a call mild
-mild_sure six (asks.Control B call) mild = λ is. is
-mild_sure six (asks.Send A call) mild = λ is. is
-mild_sure six (asks.Send B call) mild = λ is. is
-mild_sure six (asks.Reassembly A call) mild = λ is. is
-mild_sure six (asks.Reassembly B call) mild = λ is. is
-mild_sure six (asks.Local step) mild = λ is. is
+mild_sure six (Ask.Control A call) mild = call_sure six.control_a call mild
+mild_sure six (Ask.Control B call) mild = λ is. is
+mild_sure six (Ask.Send A call) mild = λ is. is
+mild_sure six (Ask.Send B call) mild = λ is. is
+mild_sure six (Ask.Reassembly A call) mild = λ is. is
+mild_sure six (Ask.Reassembly B call) mild = λ is. is
+mild_sure six (Ask.Local step) mild = λ is. is
 
 app_mild : (d : AppDuty) (a : AppState) → IsMild (app_ask d a)
-app_mild app_duties.FastClose a = tt
-app_mild app_duties.AbortSend a = tt
-app_mild app_duties.AbortReceive a = tt
-app_mild app_duties.Write a = tt
-app_mild app_duties.Close a = tt
-app_mild app_duties.Read a = tt
-app_mild app_duties.End a = tt
+app_mild AppDuty.FastClose a = tt
+app_mild _ a = tt
 
 -- ---- what a path asks while A's end isn't clear
 
@@ -246,10 +147,8 @@ module _ (p : PathState Carried) where
 
   step_mild : (o : Option Event) → IsMild (step_for (path_of p) o)
   step_mild None = tt
-  step_mild (Some (happening.Joins tick)) = tt
-  step_mild (Some (happening.Takes line)) = tt
-  step_mild (Some (happening.Arrives due)) = tt
-  step_mild (Some (happening.Fires s tick)) = tt
+  step_mild (Some (Event.Joins tick)) = tt
+  step_mild _ = tt
 
   key_mild : (s : Side) (o : Option ℕ) → IsMild (peer_key_ask s o p)
   key_mild s None = tt
@@ -264,11 +163,7 @@ module _ (p : PathState Carried) where
   join_mild s (Some asked) = tt
 
   break_mild : (s : Side) (reason : ℕ) → IsMild (break_ask values s reason p)
-  break_mild s reason = by (end_at s p).treated.asked
-    where
-      by : (b : Bool) → IsMild (if b then asks.Reassembly s reassembly_calls.AckOut else sends values s (reset_of s (Some reason) p) p)
-      by true = tt
-      by false = tt
+  break_mild s reason = if_so IsMild (end_at s p).treated.asked (Ask.Reassembly s ReassemblyCall.AckOut) (sends values s (reset_of s (Some reason) p) p) tt tt
 
   piece_mild : (s : Side) (o : Option Piece) → IsMild (piece_ask s o)
   piece_mild s None = tt
@@ -283,46 +178,36 @@ module _ (p : PathState Carried) where
   rate_mild s (Some pending) = tt
 
   plain_ack_mild : (s : Side) → IsMild (plain_ack_ask values s p)
-  plain_ack_mild s = by (breaks_by_ack p.profile (end_at s p))
-    where
-      by : (b : Bool) → IsMild (if b then break_ask values s 6 p else fell_ask s events.PlainAck p)
-      by true = break_mild s 6
-      by false = tt
+  plain_ack_mild s = if_so IsMild (breaks_by_ack p.profile (end_at s p)) (break_ask values s 6 p) (fell_ask s FallEvent.PlainAck p) (break_mild s 6) tt
 
   mapping_b : IsMild (mapping_ask values B p)
-  mapping_b = by (is_clash p.b)
-    where
-      by : (b : Bool) → IsMild (if b then break_ask values B 1 p else fell_ask B events.MappingHeard p)
-      by true = break_mild B 1
-      by false = tt
+  mapping_b = if_so IsMild (is_clash p.b) (break_ask values B 1 p) (fell_ask B FallEvent.MappingHeard p) (break_mild B 1) tt
 
   note_mild : (s : Side) (notice : PeerNotice) → IsMild (notice_ask s notice p)
-  note_mild s (peer_notes.AddAddr id address port hmac) = tt
-  note_mild s (peer_notes.AddEcho id) = tt
-  note_mild s (peer_notes.Removed id) = tt
-  note_mild s (peer_notes.Prio backup) = tt
+  note_mild s (PeerNotice.AddAddr id address port hmac) = tt
+  note_mild s _ = tt
 
   item_b : (o : Option Heard) → IsMild (item_ask values B o p)
-  item_b (Some (says.Mapping fin)) = mapping_b
-  item_b (Some (says.Notice notice)) = note_mild B notice
-  item_b (Some says.Fail) = fail_asks_so IsMild B p tt tt
+  item_b (Some (Heard.Mapping fin)) = mapping_b
+  item_b (Some (Heard.Notice notice)) = note_mild B notice
+  item_b (Some Heard.Fail) = fail_asks_so IsMild B p tt tt
   item_b _ = tt
 
   -- a sign that A hears comes behind a DSS
-  led_by : (index : ℕ) (ds : List Duty) (item : Heard) → Leads (duties.Step (step_duties.Heard A index) ∷ ds) p → p.a.modes.clear ≡ false → p.a.modes.identity ≡ false → item_at index p.a.treated.items ≡ Some item → IsLed false item
+  led_by : (index : ℕ) (ds : List Duty) (item : Heard) → Leads (Duty.Step (StepDuty.Heard A index) ∷ ds) p → p.a.modes.clear ≡ false → p.a.modes.identity ≡ false → item_at index p.a.treated.items ≡ Some item → IsLed false item
   led_by index ds item h unclear above is = ⊎_elim
       (λ is_clear. absurd (both_ways p.a.modes.clear unclear is_clear))
-      (λ (u : IsUnclear (duties.Step (step_duties.Heard A index) ∷ ds) p). unled u.n p.a.treated.items item h.led (unheard p u.n above u.none) (subst (λ n. item_at n p.a.treated.items ≡ Some item) u.follows.0 is))
+      (λ (u : IsUnclear (Duty.Step (StepDuty.Heard A index) ∷ ds) p). unled u.n p.a.treated.items item h.led (unheard p u.n above u.none) (subst (λ n. item_at n p.a.treated.items ≡ Some item) u.follows.0 is))
       h.clear
 
-  item_a : (index : ℕ) (ds : List Duty) → p.a.modes.identity ≡ false → (o : Option Heard) → item_at index p.a.treated.items ≡ o → Leads (duties.Step (step_duties.Heard A index) ∷ ds) p → p.a.modes.clear ≡ false → IsMild (item_ask values A o p)
-  item_a index ds above (Some (says.Mapping fin)) is h unclear = absurd (false≢true (led_by index ds (says.Mapping fin) h unclear above is))
-  item_a index ds above (Some (says.DataFin place)) is h unclear = absurd (false≢true (led_by index ds (says.DataFin place) h unclear above is))
-  item_a index ds above (Some (says.Notice notice)) is h unclear = note_mild A notice
-  item_a index ds above (Some says.Fail) is h unclear = fail_asks_so IsMild A p tt tt
+  item_a : (index : ℕ) (ds : List Duty) → p.a.modes.identity ≡ false → (o : Option Heard) → item_at index p.a.treated.items ≡ o → Leads (Duty.Step (StepDuty.Heard A index) ∷ ds) p → p.a.modes.clear ≡ false → IsMild (item_ask values A o p)
+  item_a index ds above (Some (Heard.Mapping fin)) is h unclear = absurd (false≢true (led_by index ds (Heard.Mapping fin) h unclear above is))
+  item_a index ds above (Some (Heard.DataFin place)) is h unclear = absurd (false≢true (led_by index ds (Heard.DataFin place) h unclear above is))
+  item_a index ds above (Some (Heard.Notice notice)) is h unclear = note_mild A notice
+  item_a index ds above (Some Heard.Fail) is h unclear = fail_asks_so IsMild A p tt tt
   item_a index ds above _ is h unclear = tt
 
-  item_mild : (index : ℕ) (ds : List Duty) → Leads (duties.Step (step_duties.Heard A index) ∷ ds) p → p.a.modes.clear ≡ false → IsMild (item_ask values A (item_of index p.a) p)
+  item_mild : (index : ℕ) (ds : List Duty) → Leads (Duty.Step (StepDuty.Heard A index) ∷ ds) p → p.a.modes.clear ≡ false → IsMild (item_ask values A (item_of index p.a) p)
   item_mild index ds h unclear = by p.a.modes.identity refl
     where
       by : (b : Bool) → p.a.modes.identity ≡ b → IsMild (item_ask values A (if b then None else item_at index p.a.treated.items) p)
@@ -330,47 +215,47 @@ module _ (p : PathState Carried) where
       by false above = item_a index ds above (item_at index p.a.treated.items) refl h unclear
 
   first_mild : (d : Duty) (ds : List Duty) → Leads (d ∷ ds) p → p.a.modes.clear ≡ false → IsMild (ask_for values d p)
-  first_mild (duties.Send (send_duties.Update s)) ds h unclear = tt
-  first_mild (duties.Step (step_duties.Data s)) ds h unclear = data_mild s (first_unsent (end_at s p))
-  first_mild (duties.Silent (silent_duties.Timer s)) ds h unclear = tt
-  first_mild (duties.Step step_duties.Events) ds h unclear = step_mild (next_event p)
-  first_mild (duties.Ask (ask_duties.PeerKey s)) ds h unclear = key_mild s (key_heard (end_at s p).treated.items)
-  first_mild (duties.Ask (ask_duties.JoinHeard s)) ds h unclear = join_mild s (asked_at s p)
-  first_mild (duties.Ask (ask_duties.Opened s)) ds h unclear = opened_mild s (keys_heard (end_at s p).treated.items)
-  first_mild (duties.Step (step_duties.Heard A index)) ds h unclear = item_mild index ds h unclear
-  first_mild (duties.Step (step_duties.Heard B index)) ds h unclear = item_b (item_of index p.b)
-  first_mild (duties.Ask (ask_duties.AckHeard A)) ds h unclear = ⊎_elim (λ is. absurd (both_ways p.a.modes.clear unclear is)) (λ (u : IsUnclear (duties.Ask (ask_duties.AckHeard A) ∷ ds) p). absurd u.follows) h.clear
-  first_mild (duties.Ask (ask_duties.AckHeard B)) ds h unclear = tt
-  first_mild (duties.Step (step_duties.PlainAck s)) ds h unclear = plain_ack_mild s
-  first_mild (duties.Ask (ask_duties.SubflowAck s)) ds h unclear = subflow_acks_so IsMild s (end_at s p) tt (λ next. tt)
-  first_mild (duties.Step (step_duties.Unmapped s)) ds h unclear = break_mild s 6
-  first_mild (duties.Ask (ask_duties.SubflowFin s)) ds h unclear = fin_mild s (plain_fin (end_at s p))
-  first_mild (duties.Ask (ask_duties.Edge s)) ds h unclear = piece_mild s (piece_of s p)
-  first_mild (duties.Ask (ask_duties.HeardFin s index)) ds h unclear = fin_mild s (data_fin_of index (end_at s p))
-  first_mild (duties.Ask (ask_duties.Rate s)) ds h unclear = rate_mild s (end_at s p).tcp.congestion.pending
+  first_mild (Duty.Send (SendDuty.Update s)) ds h unclear = tt
+  first_mild (Duty.Step (StepDuty.Data s)) ds h unclear = data_mild s (first_unsent (end_at s p))
+  first_mild (Duty.Silent (SilentDuty.Timer s)) ds h unclear = tt
+  first_mild (Duty.Step StepDuty.Events) ds h unclear = step_mild (next_event p)
+  first_mild (Duty.Ask (AskDuty.PeerKey s)) ds h unclear = key_mild s (key_heard (end_at s p).treated.items)
+  first_mild (Duty.Ask (AskDuty.JoinHeard s)) ds h unclear = join_mild s (asked_at s p)
+  first_mild (Duty.Ask (AskDuty.Opened s)) ds h unclear = opened_mild s (keys_heard (end_at s p).treated.items)
+  first_mild (Duty.Step (StepDuty.Heard A index)) ds h unclear = item_mild index ds h unclear
+  first_mild (Duty.Step (StepDuty.Heard B index)) ds h unclear = item_b (item_of index p.b)
+  first_mild (Duty.Ask (AskDuty.AckHeard A)) ds h unclear = ⊎_elim (λ is. absurd (both_ways p.a.modes.clear unclear is)) (λ (u : IsUnclear (Duty.Ask (AskDuty.AckHeard A) ∷ ds) p). absurd u.follows) h.clear
+  first_mild (Duty.Ask (AskDuty.AckHeard B)) ds h unclear = tt
+  first_mild (Duty.Step (StepDuty.PlainAck s)) ds h unclear = plain_ack_mild s
+  first_mild (Duty.Ask (AskDuty.SubflowAck s)) ds h unclear = subflow_acks_so IsMild s (end_at s p) tt (λ next. tt)
+  first_mild (Duty.Step (StepDuty.Unmapped s)) ds h unclear = break_mild s 6
+  first_mild (Duty.Ask (AskDuty.SubflowFin s)) ds h unclear = fin_mild s (plain_fin (end_at s p))
+  first_mild (Duty.Ask (AskDuty.Edge s)) ds h unclear = piece_mild s (piece_of s p)
+  first_mild (Duty.Ask (AskDuty.HeardFin s index)) ds h unclear = fin_mild s (data_fin_of index (end_at s p))
+  first_mild (Duty.Ask (AskDuty.Rate s)) ds h unclear = rate_mild s (end_at s p).tcp.congestion.pending
   first_mild _ ds h unclear = tt
 
   -- and one that sleeps
   idle_mild : (d : Duty) → is_idle d ≡ true → IsMild (ask_for values d p)
-  idle_mild (duties.Ask ask_duties.JoinAgain) idle = tt
-  idle_mild (duties.Step (step_duties.Look s)) idle = tt
-  idle_mild (duties.Ask (ask_duties.Window s)) idle = tt
-  idle_mild (duties.Send (send_duties.Update s)) idle = tt
-  idle_mild (duties.Send (send_duties.FastClose s)) idle = tt
-  idle_mild (duties.Send (send_duties.Notice s)) idle = tt
-  idle_mild (duties.Send (send_duties.Syn s)) idle = tt
-  idle_mild (duties.Step (step_duties.Data s)) idle = data_mild s (first_unsent (end_at s p))
-  idle_mild (duties.Send (send_duties.DataFin s)) idle = tt
-  idle_mild (duties.Send (send_duties.Fin s)) idle = tt
-  idle_mild (duties.Silent (silent_duties.Timer s)) idle = tt
-  idle_mild (duties.Step step_duties.Events) idle = step_mild (next_event p)
-  idle_mild (duties.Ask (ask_duties.Leave s)) idle = tt
-  idle_mild (duties.Ask (ask_duties.LeaveNoted s)) idle = tt
-  idle_mild (duties.Send (send_duties.ResetNoted s)) idle = tt
-  idle_mild (duties.Ask (ask_duties.Announce s id)) idle = tt
-  idle_mild (duties.Ask (ask_duties.Withdraw s id)) idle = tt
-  idle_mild (duties.Ask (ask_duties.Dead s)) idle = tt
-  idle_mild duties.End idle = tt
+  idle_mild (Duty.Ask AskDuty.JoinAgain) idle = tt
+  idle_mild (Duty.Step (StepDuty.Look s)) idle = tt
+  idle_mild (Duty.Ask (AskDuty.Window s)) idle = tt
+  idle_mild (Duty.Send (SendDuty.Update s)) idle = tt
+  idle_mild (Duty.Send (SendDuty.FastClose s)) idle = tt
+  idle_mild (Duty.Send (SendDuty.Notice s)) idle = tt
+  idle_mild (Duty.Send (SendDuty.Syn s)) idle = tt
+  idle_mild (Duty.Step (StepDuty.Data s)) idle = data_mild s (first_unsent (end_at s p))
+  idle_mild (Duty.Send (SendDuty.DataFin s)) idle = tt
+  idle_mild (Duty.Send (SendDuty.Fin s)) idle = tt
+  idle_mild (Duty.Silent (SilentDuty.Timer s)) idle = tt
+  idle_mild (Duty.Step StepDuty.Events) idle = step_mild (next_event p)
+  idle_mild (Duty.Ask (AskDuty.Leave s)) idle = tt
+  idle_mild (Duty.Ask (AskDuty.LeaveNoted s)) idle = tt
+  idle_mild (Duty.Send (SendDuty.ResetNoted s)) idle = tt
+  idle_mild (Duty.Ask (AskDuty.Announce s id)) idle = tt
+  idle_mild (Duty.Ask (AskDuty.Withdraw s id)) idle = tt
+  idle_mild (Duty.Ask (AskDuty.Dead s)) idle = tt
+  idle_mild Duty.End idle = tt
   idle_mild _ idle = absurd (false≢true idle)
 
 -- ---- the world

@@ -1,83 +1,22 @@
 -- No control book is told another key than its own: what an end hears are the keys that were drawn.
-use Rattle.std.proofs.Common.{◌≡◌, refl, sym, ◌∙◌, ap, subst, ℕ, zero, suc, ◌+◌, ◌==◌, ◌&&◌, ◌||◌, not, is_some, is_none, nat_lt, ⊎_elim, Bool, true, false, if◌then◌else◌, Option, Some, None, List, [], ◌∷◌, map, arith}
-use Rattle.std.proofs.lemmas.Bool.{and_parts, lt-ltb, both_ways, false≢true}
-use Rattle.std.proofs.lemmas.Option.{same_Some}
-use Rattle.std.specs.List.{slice_get}
-use Rattle.std.specs.Option.{IfSome}
-use Rattle.sides.specs.declared.side.Side.{Side}
-use Rattle.sides.specs.declared.side.Side.TheVariants.{A, B}
-use Rattle.sides.specs.Side.{peer}
-use Rattle.subflow_send.specs.Records.{Record}
-use Rattle.loss_recovery.specs.declared.windows.Pending.{Pending}
-use Rattle.reassembly_book.specs.declared.call.ReassemblyCall.TheVariants as reassembly_calls
-use Rattle.control_book.specs.declared.call.ControlCall.{ControlCall}
-use Rattle.control_book.specs.declared.call.ControlCall.TheVariants as control_calls
-use Rattle.control_book.specs.declared.call.ControlReply.TheVariants as control_replies
-use Rattle.control_book.specs.Control.{Control, peer_or_zero}
-use Rattle.control_book.specs.Registry.{sole as sole_path, with_phase}
-use Rattle.control_book.specs.declared.registry.Phase.TheVariants.{Opening}
-use Rattle.key_material.specs.KeyDigest.{token_of}
-use Rattle.join_handshake.specs.declared.hearing.JoinSyn.{JoinSyn as Asked}
+use Rattle.world_laws.proofs.Words.{◌≡◌, refl, sym, ◌∙◌, ap, subst, ℕ, zero, suc, ◌+◌, ◌&&◌, ◌||◌, ◌==◌, not, nat_lt, ⊎_elim, Bool, true, false, if◌then◌else◌}
+use Rattle.world_laws.proofs.Words.{Option, Some, None, List, [], ◌∷◌, arith, is_none, is_some, lt-ltb, and_parts, both_ways, false≢true, same_Some}
+use Rattle.world_laws.proofs.Words.{IfSome, token_of, Side, A, B, peer, Asked, ControlCall, ControlReply, sole_path, with_phase, Control}
+use Rattle.world_laws.proofs.Words.{peer_or_zero, Opening, ReassemblyCall, Record, Pending, is_waiting, EndState, Piece, start_of_turn, Duty, SendDuty}
+use Rattle.world_laws.proofs.Words.{StepDuty, AskDuty, SilentDuty, Heard, KeyPair, key_heard, keys_heard, PeerNotice, Ask, Reply, books_in, SixBooks, reply_of}
+use Rattle.world_laws.proofs.Words.{after_ask, LocalStep, AppDuty, AppState, app_ask, app_asks_first, ask_for, waiting_path, first_turn, PathState, end_at}
+use Rattle.world_laws.proofs.Words.{with_agenda, answers, asks_of, asks_first, takes, next_round, IsSettled, Carried, values, reset_of, break_ask, first_unsent}
+use Rattle.world_laws.proofs.Words.{data_ask, next_event, step_for, asked_at, keys_begun, is_joined, join_heard_ask, piece_of, piece_ask, plain_fin}
+use Rattle.world_laws.proofs.Words.{data_fin_of, fin_ask, is_clash, mapping_ask, item_ask, item_of, fell_ask, plain_ack_ask, breaks_by_ack, is_fall}
+use Rattle.world_laws.proofs.Words.{peer_key_ask, opened_ask, is_stopped_by, notice_ask, sends, rate_ask, in_map, Every-nil, in_set, Every, App, Path, Actor}
+use Rattle.world_laws.proofs.Words.{member_asks, member_takes, member_next, Always, PathPlan, Start, path_begins, opened_world, WorldState, Turn}
+use Rattle.world_laws.proofs.Words.{crew_after, asked, greatest, begins, after_turn, world_run, KeysNeverDiffer}
+use Rattle.world_laws.proofs.Words.{tells_bad_address, tells_wrong_join, tells_other_key, if_so}
+use Rattle.world_laws.proofs.Worlds.Turns.{turn_so}
 use Rattle.control_book.specs.Replies as control
 use Rattle.control_book.specs.Steps as controlling
 use Rattle.fallback_state.specs.declared.fall.Event.TheVariants as events
-use Rattle.stream_lanes.specs.Words.{Every}
-use Rattle.stream_lanes.proofs.Lists.{Every-nil, in_set, in_map}
-use Rattle.actor_desk.specs.declared.ask.Ask.{Ask}
-use Rattle.actor_desk.specs.declared.ask.Ask.TheVariants as asks
-use Rattle.actor_desk.specs.declared.ask.LocalStep.TheVariants as steps
-use Rattle.actor_desk.specs.declared.ask.Reply.{Reply}
-use Rattle.actor_desk.specs.declared.ask.Reply.TheVariants as replies
-use Rattle.actor_desk.specs.Books.{books_in}
-use Rattle.actor_desk.specs.Desk.{SixBooks, reply_of, after_ask}
-use Rattle.stream_apps.specs.declared.duty.AppDuty.{AppDuty}
-use Rattle.stream_apps.specs.declared.duty.AppDuty.TheVariants as app_duties
-use Rattle.stream_apps.specs.Apps.{AppState}
-use Rattle.stream_apps.specs.AppSteps.{app_ask, app_asks_first}
-use Rattle.path_agenda.specs.declared.notice.PeerNotice.{PeerNotice}
-use Rattle.path_agenda.specs.declared.notice.PeerNotice.TheVariants as peer_notes
-use Rattle.path_agenda.specs.declared.duty.Duty.{Duty}
-use Rattle.path_agenda.specs.declared.duty.Duty.TheVariants as duties
-use Rattle.path_agenda.specs.declared.duty.AskDuty.TheVariants as ask_duties
-use Rattle.path_agenda.specs.declared.duty.SendDuty.TheVariants as send_duties
-use Rattle.path_agenda.specs.declared.duty.SilentDuty.TheVariants as silent_duties
-use Rattle.path_agenda.specs.declared.duty.StepDuty.TheVariants as step_duties
-use Rattle.path_core.specs.Addresses.{notice_ask}
 use Rattle.path_core.specs.declared.events.Event.{Event}
-use Rattle.path_core.specs.declared.events.Event.TheVariants as happening
-use Rattle.path_agenda.specs.declared.heard.Heard.{Heard}
-use Rattle.path_agenda.specs.declared.heard.Heard.TheVariants as says
-use Rattle.path_agenda.specs.declared.keys.KeyPair.{KeyPair}
-use Rattle.path_core.specs.Breaking.{break_ask, reset_of}
-use Rattle.path_core.specs.Duties.{ask_for}
-use Rattle.path_core.specs.Emission.{first_unsent, data_ask}
-use Rattle.path_core.specs.Events.{next_event, step_for}
-use Rattle.path_agenda.specs.Items.{key_heard, keys_heard}
-use Rattle.path_core.specs.Fallback.{fell_ask, is_fall, breaks_by_ack, plain_ack_ask}
-use Rattle.path_core.specs.MpCapable.{peer_key_ask, opened_ask}
-use Rattle.path_core.specs.Deliver.{piece_of, piece_ask}
-use Rattle.path_core.specs.DataFin.{data_fin_of, fin_ask, plain_fin}
-use Rattle.path_core.specs.Rate.{rate_ask}
-use Rattle.path_store.specs.Passing.{Piece}
-use Rattle.path_core.specs.Handover.{sends}
-use Rattle.path_core.specs.Start.{first_turn, waiting_path}
-use Rattle.path_core.specs.MpJoin.{asked_at, join_heard_ask, keys_begun, is_joined}
-use Rattle.path_core.specs.Turns.{IsSettled}
-use Rattle.path_agenda.specs.Agenda.{start_of_turn}
-use Rattle.subflow_tcp.specs.State.{EndState}
-use Rattle.subflow_tcp.specs.States.{is_waiting}
-use Rattle.path_core.specs.State.{PathState, end_at, with_agenda}
-use Rattle.path_core.specs.Steps.{answers, asks_first, asks_of, next_round, takes}
-use Rattle.path_core.specs.FastClose.{is_stopped_by}
-use Rattle.path_core.specs.DssIn.{is_clash, mapping_ask}
-use Rattle.path_core.specs.Treating.{item_ask, item_of}
-use Rattle.path_core.specs.Values.{Carried, values}
-use Rattle.world_laws.specs.declared.member.Member.TheVariants.{App, Path}
-use Rattle.world_laws.specs.Actors.{Actor, ActorCrew, member_asks, member_takes, member_next}
-use Rattle.world_laws.specs.Laws.{Always}
-use Rattle.world_laws.specs.Openings.{PathPlan, Start, path_begins, opened_world}
-use Rattle.world_laws.specs.Promises.{tells_other_key, tells_wrong_join, tells_bad_address, KeysNeverDiffer}
-use Rattle.world_laws.specs.Worlds.{WorldState, Turn, crew_after, asked, stepped, world_step, all_over, greatest, begins, end_round, after_turn, world_run}
 use Rattle.world_laws.proofs.Weaving.Journals.{books_after}
 use Rattle.world_laws.proofs.Falls.FailedChecks.{fail_asks_so, subflow_acks_so}
 use Rattle.world_laws.proofs.Falls.WhereASideStands.{is_plain, plain_stays, row_falls}
@@ -98,11 +37,8 @@ module _ (k : Secrets) (right : Bool) (w : Side → Type 0) (did : Deed → Side
   data_is s (Some r) = tt
 
   step_is : (o : Option Event) → AskIs k right w did (step_for p.link.path o)
-  step_is None = tt
-  step_is (Some (happening.Joins tick)) = refl
-  step_is (Some (happening.Takes line)) = tt
-  step_is (Some (happening.Arrives due)) = tt
-  step_is (Some (happening.Fires s tick)) = tt
+  step_is (Some (Event.Joins tick)) = refl
+  step_is _ = tt
 
   key_is : (s : Side) (o : Option ℕ) → IfSome o (λ key. key ≡ drawn_key k right (peer s)) → AskIs k right w did (peer_key_ask s o p)
   key_is s None own = tt
@@ -113,30 +49,22 @@ module _ (k : Secrets) (right : Bool) (w : Side → Type 0) (did : Deed → Side
   keys_are s (Some keys) own = own.1
 
   break_is : (s : Side) (reason : ℕ) → AskIs k right w did (break_ask values s reason p)
-  break_is s reason = by (end_at s p).treated.asked
-    where
-      by : (b : Bool) → AskIs k right w did (if b then asks.Reassembly s reassembly_calls.AckOut else sends values s (reset_of s (Some reason) p) p)
-      by true = tt
-      by false = tt
+  break_is s reason =
+      if_so (AskIs k right w did) (end_at s p).treated.asked (Ask.Reassembly s ReassemblyCall.AckOut) (sends values s (reset_of s (Some reason) p) p)
+      tt tt
 
   mapping_is : (s : Side) → AskIs k right w did (mapping_ask values s p)
-  mapping_is s = by (is_clash (end_at s p))
-    where
-      by : (b : Bool) → AskIs k right w did (if b then break_ask values s 1 p else fell_ask s events.MappingHeard p)
-      by true = break_is s 1
-      by false = tt
+  mapping_is s = if_so (AskIs k right w did) (is_clash (end_at s p)) (break_ask values s 1 p) (fell_ask s events.MappingHeard p) (break_is s 1) tt
 
   note_is : (s : Side) (notice : PeerNotice) → PeerNoteIs k right w did s notice → AskIs k right w did (notice_ask s notice p)
-  note_is s (peer_notes.AddAddr id address port hmac) own = own
-  note_is s (peer_notes.AddEcho id) own = tt
-  note_is s (peer_notes.Removed id) own = tt
-  note_is s (peer_notes.Prio backup) own = tt
+  note_is s (PeerNotice.AddAddr id address port hmac) own = own
+  note_is s _ own = tt
 
   item_is : (s : Side) (o : Option Heard) → IfSome o (ItemIs k right w did (is_joined p.profile) s) → AskIs k right w did (item_ask values s o p)
-  item_is s (Some (says.Mapping fin)) own = mapping_is s
-  item_is s (Some (says.Keys mine other)) own = own.1
-  item_is s (Some (says.Notice notice)) own = note_is s notice own
-  item_is s (Some says.Fail) own = fail_asks_so (AskIs k right w did) s p tt tt
+  item_is s (Some (Heard.Mapping fin)) own = mapping_is s
+  item_is s (Some (Heard.Keys mine other)) own = own.1
+  item_is s (Some (Heard.Notice notice)) own = note_is s notice own
+  item_is s (Some Heard.Fail) own = fail_asks_so (AskIs k right w did) s p tt tt
   item_is s _ own = tt
 
   piece_is : (s : Side) (o : Option Piece) → AskIs k right w did (piece_ask s o)
@@ -156,33 +84,29 @@ module _ (k : Secrets) (right : Bool) (w : Side → Type 0) (did : Deed → Side
   join_asks s (Some asked) own = (own.1.0, (own.1.1.0, λ sure. (own.1.1.1 sure).0))
 
   plain_ack_is : (s : Side) → AskIs k right w did (plain_ack_ask values s p)
-  plain_ack_is s = by (breaks_by_ack p.profile (end_at s p))
-    where
-      by : (b : Bool) → AskIs k right w did (if b then break_ask values s 6 p else fell_ask s events.PlainAck p)
-      by true = break_is s 6
-      by false = tt
+  plain_ack_is s = if_so (AskIs k right w did) (breaks_by_ack p.profile (end_at s p)) (break_ask values s 6 p) (fell_ask s events.PlainAck p) (break_is s 6) tt
 
   pub asks_are : (d : Duty) → ((x : Voice) → is_said_by x d ≡ true → VoiceIs k right w did p x) → AskIs k right w did (ask_for values d p)
-  asks_are (duties.Ask ask_duties.JoinAgain) said = refl
-  asks_are (duties.Send (send_duties.Update s)) said = tt
-  asks_are (duties.Step (step_duties.Data s)) said = data_is s (first_unsent (end_at s p))
-  asks_are (duties.Silent (silent_duties.Timer s)) said = tt
-  asks_are (duties.Step step_duties.Events) said = step_is (next_event p)
-  asks_are (duties.Ask (ask_duties.PeerKey s)) said =
+  asks_are (Duty.Ask AskDuty.JoinAgain) said = refl
+  asks_are (Duty.Send (SendDuty.Update s)) said = tt
+  asks_are (Duty.Step (StepDuty.Data s)) said = data_is s (first_unsent (end_at s p))
+  asks_are (Duty.Silent (SilentDuty.Timer s)) said = tt
+  asks_are (Duty.Step StepDuty.Events) said = step_is (next_event p)
+  asks_are (Duty.Ask (AskDuty.PeerKey s)) said =
       key_is s (key_heard (end_at s p).treated.items) (key_found k right w did (is_joined p.profile) s (end_at s p).treated.items (end_is k right w did s p h).items)
-  asks_are (duties.Ask (ask_duties.JoinHeard s)) said = join_asks s (asked_at s p) (asked_is k right w did (is_joined p.profile) s (end_at s p).treated.items (end_is k right w did s p h).items)
-  asks_are (duties.Ask (ask_duties.Opened s)) said =
+  asks_are (Duty.Ask (AskDuty.JoinHeard s)) said = join_asks s (asked_at s p) (asked_is k right w did (is_joined p.profile) s (end_at s p).treated.items (end_is k right w did s p h).items)
+  asks_are (Duty.Ask (AskDuty.Opened s)) said =
       keys_are s (keys_heard (end_at s p).treated.items) (pair_found k right w did (is_joined p.profile) s (end_at s p).treated.items (end_is k right w did s p h).items)
-  asks_are (duties.Step (step_duties.Heard s index)) said =
+  asks_are (Duty.Step (StepDuty.Heard s index)) said =
       item_is s (item_of index (end_at s p)) (item_found k right w did (is_joined p.profile) s index (end_at s p) (end_is k right w did s p h).items)
-  asks_are (duties.Step (step_duties.PlainAck s)) said = plain_ack_is s
-  asks_are (duties.Ask (ask_duties.SubflowAck s)) said = subflow_acks_so (AskIs k right w did) s (end_at s p) tt (λ next. tt)
-  asks_are (duties.Step (step_duties.Unmapped s)) said = break_is s 6
-  asks_are (duties.Ask (ask_duties.SubflowFin s)) said = fin_is s (plain_fin (end_at s p))
-  asks_are (duties.Ask (ask_duties.Edge s)) said = piece_is s (piece_of s p)
-  asks_are (duties.Ask (ask_duties.HeardFin s index)) said = fin_is s (data_fin_of index (end_at s p))
-  asks_are (duties.Ask (ask_duties.Rate s)) said = rate_is s (end_at s p).tcp.congestion.pending
-  asks_are (duties.Ask (ask_duties.AbortReceive s)) said = λ by_peer. said (Voice.Aborts s) (itself s)
+  asks_are (Duty.Step (StepDuty.PlainAck s)) said = plain_ack_is s
+  asks_are (Duty.Ask (AskDuty.SubflowAck s)) said = subflow_acks_so (AskIs k right w did) s (end_at s p) tt (λ next. tt)
+  asks_are (Duty.Step (StepDuty.Unmapped s)) said = break_is s 6
+  asks_are (Duty.Ask (AskDuty.SubflowFin s)) said = fin_is s (plain_fin (end_at s p))
+  asks_are (Duty.Ask (AskDuty.Edge s)) said = piece_is s (piece_of s p)
+  asks_are (Duty.Ask (AskDuty.HeardFin s index)) said = fin_is s (data_fin_of index (end_at s p))
+  asks_are (Duty.Ask (AskDuty.Rate s)) said = rate_is s (end_at s p).tcp.congestion.pending
+  asks_are (Duty.Ask (AskDuty.AbortReceive s)) said = λ by_peer. said (Voice.Aborts s) (itself s)
   asks_are _ said = tt
 
 -- ---- all books
@@ -199,19 +123,19 @@ FellBack six B = is_plain six.control_b.fall ≡ true
 
 -- so one that fell back stays so
 pub fell_stays : (six : SixBooks) (x : Ask) (s : Side) → FellBack six s → FellBack (after_ask x six) s
-fell_stays six (asks.Control A call) A is = plain_stays six.control_a call is
-fell_stays six (asks.Control A call) B is = is
-fell_stays six (asks.Control B call) A is = is
-fell_stays six (asks.Control B call) B is = plain_stays six.control_b call is
-fell_stays six (asks.Send A call) A is = is
-fell_stays six (asks.Send A call) B is = is
-fell_stays six (asks.Send B call) A is = is
-fell_stays six (asks.Send B call) B is = is
-fell_stays six (asks.Reassembly A call) A is = is
-fell_stays six (asks.Reassembly A call) B is = is
-fell_stays six (asks.Reassembly B call) A is = is
-fell_stays six (asks.Reassembly B call) B is = is
-fell_stays six (asks.Local step) s is = is
+fell_stays six (Ask.Control A call) A is = plain_stays six.control_a call is
+fell_stays six (Ask.Control A call) B is = is
+fell_stays six (Ask.Control B call) A is = is
+fell_stays six (Ask.Control B call) B is = plain_stays six.control_b call is
+fell_stays six (Ask.Send A call) A is = is
+fell_stays six (Ask.Send A call) B is = is
+fell_stays six (Ask.Send B call) A is = is
+fell_stays six (Ask.Send B call) B is = is
+fell_stays six (Ask.Reassembly A call) A is = is
+fell_stays six (Ask.Reassembly A call) B is = is
+fell_stays six (Ask.Reassembly B call) A is = is
+fell_stays six (Ask.Reassembly B call) B is = is
+fell_stays six (Ask.Local step) s is = is
 
 -- the book of a side has the peer's key
 abbrev pub HasPeerKey : SixBooks → Side → Type 0
@@ -220,19 +144,19 @@ HasPeerKey six B = is_some six.control_b.keys.peer ≡ true
 
 -- and keeps it
 keyed_stays : (six : SixBooks) (x : Ask) (s : Side) → HasPeerKey six s → HasPeerKey (after_ask x six) s
-keyed_stays six (asks.Control A call) A is = call_keyed six.control_a call is
-keyed_stays six (asks.Control A call) B is = is
-keyed_stays six (asks.Control B call) A is = is
-keyed_stays six (asks.Control B call) B is = call_keyed six.control_b call is
-keyed_stays six (asks.Send A call) A is = is
-keyed_stays six (asks.Send A call) B is = is
-keyed_stays six (asks.Send B call) A is = is
-keyed_stays six (asks.Send B call) B is = is
-keyed_stays six (asks.Reassembly A call) A is = is
-keyed_stays six (asks.Reassembly A call) B is = is
-keyed_stays six (asks.Reassembly B call) A is = is
-keyed_stays six (asks.Reassembly B call) B is = is
-keyed_stays six (asks.Local step) s is = is
+keyed_stays six (Ask.Control A call) A is = call_keyed six.control_a call is
+keyed_stays six (Ask.Control A call) B is = is
+keyed_stays six (Ask.Control B call) A is = is
+keyed_stays six (Ask.Control B call) B is = call_keyed six.control_b call is
+keyed_stays six (Ask.Send A call) A is = is
+keyed_stays six (Ask.Send A call) B is = is
+keyed_stays six (Ask.Send B call) A is = is
+keyed_stays six (Ask.Send B call) B is = is
+keyed_stays six (Ask.Reassembly A call) A is = is
+keyed_stays six (Ask.Reassembly A call) B is = is
+keyed_stays six (Ask.Reassembly B call) A is = is
+keyed_stays six (Ask.Reassembly B call) B is = is
+keyed_stays six (Ask.Local step) s is = is
 
 -- What a side did: that it has the peer's key is told by its book, and that it fell back, with what there is to say of that beside it;
 -- so is all that there is to say of a fast close.
@@ -270,34 +194,28 @@ module _ (key_a key_b : ℕ) (right : Bool) where
   KeysAsk six x = AsksFor NoMore six x
 
   pub ask_keeps : (also : Deed → Side → Type 0) (six : SixBooks) (x : Ask) → AsksFor also six x → BooksAre six → BooksAre (after_ask x six)
-  ask_keeps also six (asks.Control A call) is h = record { a = call_is (with_nonces 0 0) right (Joined six) (Past six also) A six.control_a call is h.a; b = more_book _ _ _ _ six.control_b (keyed_stays six (asks.Control A call) A) h.b }
-  ask_keeps also six (asks.Control B call) is h = record { a = h.a; b = call_is (with_nonces 0 0) right (Joined six) (Past six also) B six.control_b call is h.b }
-  ask_keeps also six (asks.Send A call) is h = record { a = h.a; b = h.b }
-  ask_keeps also six (asks.Send B call) is h = record { a = h.a; b = h.b }
-  ask_keeps also six (asks.Reassembly A call) is h = record { a = h.a; b = h.b }
-  ask_keeps also six (asks.Reassembly B call) is h = record { a = h.a; b = h.b }
-  ask_keeps also six (asks.Local step) is h = h
+  ask_keeps also six (Ask.Control A call) is h = record { a = call_is (with_nonces 0 0) right (Joined six) (Past six also) A six.control_a call is h.a; b = more_book _ _ _ _ six.control_b (keyed_stays six (Ask.Control A call) A) h.b }
+  ask_keeps also six (Ask.Control B call) is h = record { a = h.a; b = call_is (with_nonces 0 0) right (Joined six) (Past six also) B six.control_b call is h.b }
+  ask_keeps also six (Ask.Send A call) is h = record { a = h.a; b = h.b }
+  ask_keeps also six (Ask.Send B call) is h = record { a = h.a; b = h.b }
+  ask_keeps also six (Ask.Reassembly A call) is h = record { a = h.a; b = h.b }
+  ask_keeps also six (Ask.Reassembly B call) is h = record { a = h.a; b = h.b }
+  ask_keeps also six (Ask.Local step) is h = h
 
   ask_untold : (six : SixBooks) (x : Ask) → BooksAre six → KeysAsk six x → tells_other_key (reply_of six x) ≡ false
-  ask_untold six (asks.Control A call) h is = key_untold (with_nonces 0 0) right (Joined six) (Past six NoMore) A six.control_a h.a call is
-  ask_untold six (asks.Control B call) h is = key_untold (with_nonces 0 0) right (Joined six) (Past six NoMore) B six.control_b h.b call is
-  ask_untold six (asks.Send s call) h is = refl
-  ask_untold six (asks.Reassembly s call) h is = refl
-  ask_untold six (asks.Local step) h is = refl
+  ask_untold six (Ask.Control A call) h is = key_untold (with_nonces 0 0) right (Joined six) (Past six NoMore) A six.control_a h.a call is
+  ask_untold six (Ask.Control B call) h is = key_untold (with_nonces 0 0) right (Joined six) (Past six NoMore) B six.control_b h.b call is
+  ask_untold six _ h is = refl
 
   join_answers : right ≡ true → (six : SixBooks) (x : Ask) → BooksAre six → KeysAsk six x → tells_wrong_join (reply_of six x) ≡ false
-  join_answers sure six (asks.Control A call) h is = join_untold (with_nonces 0 0) right (Joined six) (Past six NoMore) A six.control_a h.a sure call is
-  join_answers sure six (asks.Control B call) h is = join_untold (with_nonces 0 0) right (Joined six) (Past six NoMore) B six.control_b h.b sure call is
-  join_answers sure six (asks.Send s call) h is = refl
-  join_answers sure six (asks.Reassembly s call) h is = refl
-  join_answers sure six (asks.Local step) h is = refl
+  join_answers sure six (Ask.Control A call) h is = join_untold (with_nonces 0 0) right (Joined six) (Past six NoMore) A six.control_a h.a sure call is
+  join_answers sure six (Ask.Control B call) h is = join_untold (with_nonces 0 0) right (Joined six) (Past six NoMore) B six.control_b h.b sure call is
+  join_answers sure six _ h is = refl
 
   address_answers : right ≡ true → (six : SixBooks) (x : Ask) → BooksAre six → KeysAsk six x → tells_bad_address (reply_of six x) ≡ false
-  address_answers sure six (asks.Control A call) h is = address_right (with_nonces 0 0) right (Joined six) (Past six NoMore) A six.control_a h.a sure (λ has. has) call is
-  address_answers sure six (asks.Control B call) h is = address_right (with_nonces 0 0) right (Joined six) (Past six NoMore) B six.control_b h.b sure (λ has. has) call is
-  address_answers sure six (asks.Send s call) h is = refl
-  address_answers sure six (asks.Reassembly s call) h is = refl
-  address_answers sure six (asks.Local step) h is = refl
+  address_answers sure six (Ask.Control A call) h is = address_right (with_nonces 0 0) right (Joined six) (Past six NoMore) A six.control_a h.a sure (λ has. has) call is
+  address_answers sure six (Ask.Control B call) h is = address_right (with_nonces 0 0) right (Joined six) (Past six NoMore) B six.control_b h.b sure (λ has. has) call is
+  address_answers sure six _ h is = refl
 
   -- where A is sure, it has the peer's key
   abbrev pub SureHasKey : SixBooks → Type 0
@@ -305,7 +223,7 @@ module _ (key_a key_b : ℕ) (right : Bool) where
 
   -- a book that lets a join go on has the peer's key, and joined by that
   begins_so : (also : Deed → Side → Type 0) (six : SixBooks) (path : ℕ) → (right ≡ true → SureHasKey six) → BooksAre six
-      → IfSome (keys_begun (replies.Control (control.join_begin_reply six.control_a))) (BeginIs (with_nonces 0 0) right (Joined (after_ask (asks.Control A (control_calls.JoinBegin path)) six)) (Past (after_ask (asks.Control A (control_calls.JoinBegin path)) six) also) A)
+      → IfSome (keys_begun (Reply.Control (control.join_begin_reply six.control_a))) (BeginIs (with_nonces 0 0) right (Joined (after_ask (Ask.Control A (ControlCall.JoinBegin path)) six)) (Past (after_ask (Ask.Control A (ControlCall.JoinBegin path)) six) also) A)
   begins_so also six path knows h = by (control.may_join six.control_a) refl (control.join_waits six.control_a)
     where
       c : Control
@@ -315,21 +233,21 @@ module _ (key_a key_b : ℕ) (right : Bool) where
       begun x = (if x then controlling.after_join (record c { paths = with_phase path Opening c.paths }) else c).fall.joined ≡ true
 
       by : (x : Bool) → control.may_join c ≡ x → (y : Bool)
-          → IfSome (keys_begun (replies.Control (if x then control.begin c else (if y then control_replies.NotYet else control_replies.Never c.fall.mode))))
-          (BeginIs (with_nonces 0 0) right (Joined (after_ask (asks.Control A (control_calls.JoinBegin path)) six)) (Past (after_ask (asks.Control A (control_calls.JoinBegin path)) six) also) A)
+          → IfSome (keys_begun (Reply.Control (if x then control.begin c else (if y then ControlReply.NotYet else ControlReply.Never c.fall.mode))))
+          (BeginIs (with_nonces 0 0) right (Joined (after_ask (Ask.Control A (ControlCall.JoinBegin path)) six)) (Past (after_ask (Ask.Control A (ControlCall.JoinBegin path)) six) also) A)
       by true may y = (h.a.own_is, (subst begun (sym may) refl, λ is. ap peer_or_zero (knows is (and_parts (control.is_sure c.fall.mode) (is_none c.fall.failed) may).0)))
       by false may true = tt
       by false may false = tt
 
   heard_so : (s : Side) (token : ℕ) (c : Control) (u : Side → Type 0) (gone : Deed → Side → Type 0) (T : Type 0) → ((controlling.after_join_heard token c).fall.joined ≡ true → u s)
       → BookIs (drawn_key (with_nonces 0 0) right s) (drawn_key (with_nonces 0 0) right (peer s)) T c
-      → IfSome (keys_begun (replies.Control (control.join_heard_reply token c))) (BeginIs (with_nonces 0 0) right u gone s)
+      → IfSome (keys_begun (Reply.Control (control.join_heard_reply token c))) (BeginIs (with_nonces 0 0) right u gone s)
   heard_so s token c u gone T joins h = by (token == token_of c.keys.own) c.fall.confirmed refl (control.is_starting c.fall.mode || control.is_sure c.fall.mode) joins
     where
       by : (known confirmed : Bool) → c.fall.confirmed ≡ confirmed → (begins : Bool)
           → ((if known && confirmed && begins then controlling.after_join c else c).fall.joined ≡ true → u s)
-          → IfSome (keys_begun (replies.Control (if not known then control_replies.UnknownToken (token_of c.keys.own)
-          else (if not confirmed then control_replies.NotConfirmed else (if begins then control.begin c else control_replies.Fallen c.fall.mode))))) (BeginIs (with_nonces 0 0) right u gone s)
+          → IfSome (keys_begun (Reply.Control (if not known then ControlReply.UnknownToken (token_of c.keys.own)
+          else (if not confirmed then ControlReply.NotConfirmed else (if begins then control.begin c else ControlReply.Fallen c.fall.mode))))) (BeginIs (with_nonces 0 0) right u gone s)
       by false confirmed is begins joins = tt
       by true false is begins joins = tt
       by true true is true joins = (h.own_is, (joins refl, λ sure. ap peer_or_zero (h.confirmed is).0))
@@ -337,55 +255,55 @@ module _ (key_a key_b : ℕ) (right : Bool) where
 
   -- what a reply tells of a fall or a fast close is so
   abbrev pub Tells : (Deed → Side → Type 0) → Ask → Reply → Type 0
-  Tells also (asks.Control s (control_calls.Look path)) r = IfSome (carrier_told r) (λ key. also Deed.Closed s)
-  Tells also (asks.Control s (control_calls.Fell path event)) r = is_fall r ≡ true → also Deed.Fell s
-  Tells also (asks.Control s (control_calls.FastHeard key)) r = is_stopped_by r ≡ true → also Deed.Stopped s
+  Tells also (Ask.Control s (ControlCall.Look path)) r = IfSome (carrier_told r) (λ key. also Deed.Closed s)
+  Tells also (Ask.Control s (ControlCall.Fell path event)) r = is_fall r ≡ true → also Deed.Fell s
+  Tells also (Ask.Control s (ControlCall.FastHeard key)) r = is_stopped_by r ≡ true → also Deed.Stopped s
   Tells also _ r = Unit {0}
 
   reply_so : (also : Deed → Side → Type 0) (six : SixBooks) (x : Ask) → Tells also x (reply_of six x) → (right ≡ true → SureHasKey six) → BooksAre six
       → ReplyIs (with_nonces 0 0) right (Joined (after_ask x six)) (Past (after_ask x six) also) x (reply_of six x)
-  reply_so also six (asks.Control A call) told knows h = by call told
+  reply_so also six (Ask.Control A call) told knows h = by call told
     where
-      by : (call : ControlCall) → Tells also (asks.Control A call) (replies.Control (control.reply_to six.control_a call))
-          → CallReplyIs (with_nonces 0 0) right (Joined (after_ask (asks.Control A call) six)) (Past (after_ask (asks.Control A call) six) also) A call (replies.Control (control.reply_to six.control_a call))
-      by (control_calls.Look path) told = (told, announces_confirmed _ six.control_a path (λ confirmed. absurd (h.a.confirmed confirmed).1))
-      by (control_calls.PeerKey key) told = refl
-      by (control_calls.Keys own other) told = noted_keyed own other six.control_a
-      by (control_calls.Fell path event) told = λ fell. let row = row_falls path (sole_path six.control_a.paths path) event six.control_a.fall fell in ((row.0, told fell), λ is. both_ways _ row.1 is)
-      by (control_calls.JoinBegin path) told = begins_so also six path knows h
-      by (control_calls.JoinHeard path token) told = heard_so A token six.control_a (Joined (after_ask (asks.Control A (control_calls.JoinHeard path token)) six)) (Past (after_ask (asks.Control A (control_calls.JoinHeard path token)) six) also) _ (λ is. is) h.a
-      by (control_calls.FastHeard key) told = told
+      by : (call : ControlCall) → Tells also (Ask.Control A call) (Reply.Control (control.reply_to six.control_a call))
+          → CallReplyIs (with_nonces 0 0) right (Joined (after_ask (Ask.Control A call) six)) (Past (after_ask (Ask.Control A call) six) also) A call (Reply.Control (control.reply_to six.control_a call))
+      by (ControlCall.Look path) told = (told, announces_confirmed _ six.control_a path (λ confirmed. absurd (h.a.confirmed confirmed).1))
+      by (ControlCall.PeerKey key) told = refl
+      by (ControlCall.Keys own other) told = noted_keyed own other six.control_a
+      by (ControlCall.Fell path event) told = λ fell. let row = row_falls path (sole_path six.control_a.paths path) event six.control_a.fall fell in ((row.0, told fell), λ is. both_ways _ row.1 is)
+      by (ControlCall.JoinBegin path) told = begins_so also six path knows h
+      by (ControlCall.JoinHeard path token) told = heard_so A token six.control_a (Joined (after_ask (Ask.Control A (ControlCall.JoinHeard path token)) six)) (Past (after_ask (Ask.Control A (ControlCall.JoinHeard path token)) six) also) _ (λ is. is) h.a
+      by (ControlCall.FastHeard key) told = told
       by _ told = tt
-  reply_so also six (asks.Control B call) told knows h = by call told
+  reply_so also six (Ask.Control B call) told knows h = by call told
     where
-      by : (call : ControlCall) → Tells also (asks.Control B call) (replies.Control (control.reply_to six.control_b call))
-          → CallReplyIs (with_nonces 0 0) right (Joined (after_ask (asks.Control B call) six)) (Past (after_ask (asks.Control B call) six) also) B call (replies.Control (control.reply_to six.control_b call))
-      by (control_calls.Look path) told = (told, announces_confirmed _ six.control_b path (λ confirmed. (refl, (h.b.confirmed confirmed).1)))
-      by (control_calls.PeerKey key) told = refl
-      by (control_calls.Keys own other) told = noted_keyed own other six.control_b
-      by (control_calls.Fell path event) told = λ fell. let row = row_falls path (sole_path six.control_b.paths path) event six.control_b.fall fell in ((row.0, told fell), λ is. both_ways _ row.1 is)
-      by (control_calls.JoinHeard path token) told = heard_so B token six.control_b (Joined (after_ask (asks.Control B (control_calls.JoinHeard path token)) six)) (Past (after_ask (asks.Control B (control_calls.JoinHeard path token)) six) also) _ (λ is. is) h.b
-      by (control_calls.FastHeard key) told = told
+      by : (call : ControlCall) → Tells also (Ask.Control B call) (Reply.Control (control.reply_to six.control_b call))
+          → CallReplyIs (with_nonces 0 0) right (Joined (after_ask (Ask.Control B call) six)) (Past (after_ask (Ask.Control B call) six) also) B call (Reply.Control (control.reply_to six.control_b call))
+      by (ControlCall.Look path) told = (told, announces_confirmed _ six.control_b path (λ confirmed. (refl, (h.b.confirmed confirmed).1)))
+      by (ControlCall.PeerKey key) told = refl
+      by (ControlCall.Keys own other) told = noted_keyed own other six.control_b
+      by (ControlCall.Fell path event) told = λ fell. let row = row_falls path (sole_path six.control_b.paths path) event six.control_b.fall fell in ((row.0, told fell), λ is. both_ways _ row.1 is)
+      by (ControlCall.JoinHeard path token) told = heard_so B token six.control_b (Joined (after_ask (Ask.Control B (ControlCall.JoinHeard path token)) six)) (Past (after_ask (Ask.Control B (ControlCall.JoinHeard path token)) six) also) _ (λ is. is) h.b
+      by (ControlCall.FastHeard key) told = told
       by _ told = tt
-  reply_so also six (asks.Send s call) told knows h = tt
-  reply_so also six (asks.Reassembly s call) told knows h = tt
-  reply_so also six (asks.Local step) told knows h = tt
+  reply_so also six (Ask.Send s call) told knows h = tt
+  reply_so also six (Ask.Reassembly s call) told knows h = tt
+  reply_so also six (Ask.Local step) told knows h = tt
 
   -- a side that joined has joined for ever
   pub joined_stays : (six : SixBooks) (x : Ask) (s : Side) → Joined six s → Joined (after_ask x six) s
-  joined_stays six (asks.Control A call) A is = call_joined six.control_a call is
-  joined_stays six (asks.Control A call) B is = is
-  joined_stays six (asks.Control B call) A is = is
-  joined_stays six (asks.Control B call) B is = call_joined six.control_b call is
-  joined_stays six (asks.Send A call) A is = is
-  joined_stays six (asks.Send A call) B is = is
-  joined_stays six (asks.Send B call) A is = is
-  joined_stays six (asks.Send B call) B is = is
-  joined_stays six (asks.Reassembly A call) A is = is
-  joined_stays six (asks.Reassembly A call) B is = is
-  joined_stays six (asks.Reassembly B call) A is = is
-  joined_stays six (asks.Reassembly B call) B is = is
-  joined_stays six (asks.Local step) s is = is
+  joined_stays six (Ask.Control A call) A is = call_joined six.control_a call is
+  joined_stays six (Ask.Control A call) B is = is
+  joined_stays six (Ask.Control B call) A is = is
+  joined_stays six (Ask.Control B call) B is = call_joined six.control_b call is
+  joined_stays six (Ask.Send A call) A is = is
+  joined_stays six (Ask.Send A call) B is = is
+  joined_stays six (Ask.Send B call) A is = is
+  joined_stays six (Ask.Send B call) B is = is
+  joined_stays six (Ask.Reassembly A call) A is = is
+  joined_stays six (Ask.Reassembly A call) B is = is
+  joined_stays six (Ask.Reassembly B call) A is = is
+  joined_stays six (Ask.Reassembly B call) B is = is
+  joined_stays six (Ask.Local step) s is = is
 
   -- ---- actors
 
@@ -411,7 +329,7 @@ module _ (key_a key_b : ℕ) (right : Bool) where
   }
 
   pub path_same : (also later : Deed → Side → Type 0) → ((d : Deed) (s : Side) → also d s → later d s) → (six : SixBooks) (p : PathState Carried) → PathKnows also six p → PathKnows later six p
-  path_same also later rises six p h = path_more also later rises six (asks.Local steps.End) p h
+  path_same also later rises six p h = path_more also later rises six (Ask.Local LocalStep.End) p h
 
   more_keys : (six : SixBooks) (x : Ask) (m : Actor Carried) → MemberIs six m → MemberIs (after_ask x six) m
   more_keys six x (App a) h = tt
@@ -430,13 +348,8 @@ module _ (key_a key_b : ℕ) (right : Bool) where
   next_keys six (Path p) h = path_next NoMore six p h
 
   pub app_asks_are : (six : SixBooks) (d : AppDuty) (a : AppState) → KeysAsk six (app_ask d a)
-  app_asks_are six app_duties.FastClose a = tt
-  app_asks_are six app_duties.AbortSend a = tt
-  app_asks_are six app_duties.AbortReceive a = λ by_peer. absurd (false≢true by_peer)
-  app_asks_are six app_duties.Write a = tt
-  app_asks_are six app_duties.Close a = tt
-  app_asks_are six app_duties.Read a = tt
-  app_asks_are six app_duties.End a = tt
+  app_asks_are six AppDuty.AbortReceive a = λ by_peer. absurd (false≢true by_peer)
+  app_asks_are six _ a = tt
 
   app_asks : (six : SixBooks) (ds : List AppDuty) (a : AppState) (x : Ask) → app_asks_first ds a ≡ Some x → KeysAsk six x
   app_asks six [] a x is = cc
@@ -445,64 +358,64 @@ module _ (key_a key_b : ℕ) (right : Bool) where
   -- what is said of keys doesn't depend on the nonces
   module _ (w : Side → Type 0) (did : Deed → Side → Type 0) (nonce_a nonce_b : ℕ) where
     ask_alone : (x : Ask) → AskIs (with_nonces nonce_a nonce_b) right w did x → AskIs (with_nonces 0 0) right w did x
-    ask_alone (asks.Control s call) h = by s call h
+    ask_alone (Ask.Control s call) h = by s call h
       where
         by : (s : Side) (call : ControlCall) → CallIs (with_nonces nonce_a nonce_b) right w did s call → CallIs (with_nonces 0 0) right w did s call
-        by A (control_calls.PeerKey key) h = h
-        by B (control_calls.PeerKey key) h = h
-        by A (control_calls.Keys own other) h = h
-        by B (control_calls.Keys own other) h = h
-        by A (control_calls.JoinHeard path token) h = h
-        by B (control_calls.JoinHeard path token) h = h
-        by A (control_calls.Heard id address port hmac) h = h
-        by B (control_calls.Heard id address port hmac) h = h
-        by s (control_calls.FastHeard key) h = tt
+        by A (ControlCall.PeerKey key) h = h
+        by B (ControlCall.PeerKey key) h = h
+        by A (ControlCall.Keys own other) h = h
+        by B (ControlCall.Keys own other) h = h
+        by A (ControlCall.JoinHeard path token) h = h
+        by B (ControlCall.JoinHeard path token) h = h
+        by A (ControlCall.Heard id address port hmac) h = h
+        by B (ControlCall.Heard id address port hmac) h = h
+        by s (ControlCall.FastHeard key) h = tt
         by s _ h = h
-    ask_alone (asks.Send s call) h = tt
-    ask_alone (asks.Reassembly s call) h = h
-    ask_alone (asks.Local step) h = tt
+    ask_alone (Ask.Send s call) h = tt
+    ask_alone (Ask.Reassembly s call) h = h
+    ask_alone (Ask.Local step) h = tt
 
     reply_alone : (x : Ask) (r : Reply) → ReplyIs (with_nonces 0 0) right w did x r → ReplyIs (with_nonces nonce_a nonce_b) right w did x r
-    reply_alone (asks.Control s call) r h = by s call h
+    reply_alone (Ask.Control s call) r h = by s call h
       where
         by : (s : Side) (call : ControlCall) → CallReplyIs (with_nonces 0 0) right w did s call r → CallReplyIs (with_nonces nonce_a nonce_b) right w did s call r
-        by A (control_calls.Look path) h = h
-        by B (control_calls.Look path) h = h
-        by A (control_calls.PeerKey key) h = h
-        by B (control_calls.PeerKey key) h = h
-        by A (control_calls.Keys own other) h = h
-        by B (control_calls.Keys own other) h = h
-        by A (control_calls.Fell path event) h = h
-        by B (control_calls.Fell path event) h = h
-        by A (control_calls.JoinBegin path) h = h
-        by B (control_calls.JoinBegin path) h = tt
-        by A (control_calls.JoinHeard path token) h = h
-        by B (control_calls.JoinHeard path token) h = h
-        by A (control_calls.Live path backup) h = tt
-        by B (control_calls.Live path backup) h = tt
-        by A (control_calls.Dead path) h = tt
-        by B (control_calls.Dead path) h = tt
-        by A (control_calls.Rate path window rtt) h = tt
-        by B (control_calls.Rate path window rtt) h = tt
-        by A (control_calls.Backup path on) h = tt
-        by B (control_calls.Backup path on) h = tt
-        by A (control_calls.Announce id) h = tt
-        by B (control_calls.Announce id) h = tt
-        by A (control_calls.Withdraw id) h = tt
-        by B (control_calls.Withdraw id) h = tt
-        by A (control_calls.Heard id address port hmac) h = tt
-        by B (control_calls.Heard id address port hmac) h = tt
-        by A (control_calls.Echoed id) h = tt
-        by B (control_calls.Echoed id) h = tt
-        by A (control_calls.Removed id) h = tt
-        by B (control_calls.Removed id) h = tt
-        by A control_calls.FastClose h = tt
-        by B control_calls.FastClose h = tt
-        by A (control_calls.FastHeard key) h = h
-        by B (control_calls.FastHeard key) h = h
-    reply_alone (asks.Send s call) r h = tt
-    reply_alone (asks.Reassembly s call) r h = tt
-    reply_alone (asks.Local step) r h = tt
+        by A (ControlCall.Look path) h = h
+        by B (ControlCall.Look path) h = h
+        by A (ControlCall.PeerKey key) h = h
+        by B (ControlCall.PeerKey key) h = h
+        by A (ControlCall.Keys own other) h = h
+        by B (ControlCall.Keys own other) h = h
+        by A (ControlCall.Fell path event) h = h
+        by B (ControlCall.Fell path event) h = h
+        by A (ControlCall.JoinBegin path) h = h
+        by B (ControlCall.JoinBegin path) h = tt
+        by A (ControlCall.JoinHeard path token) h = h
+        by B (ControlCall.JoinHeard path token) h = h
+        by A (ControlCall.Live path backup) h = tt
+        by B (ControlCall.Live path backup) h = tt
+        by A (ControlCall.Dead path) h = tt
+        by B (ControlCall.Dead path) h = tt
+        by A (ControlCall.Rate path window rtt) h = tt
+        by B (ControlCall.Rate path window rtt) h = tt
+        by A (ControlCall.Backup path on) h = tt
+        by B (ControlCall.Backup path on) h = tt
+        by A (ControlCall.Announce id) h = tt
+        by B (ControlCall.Announce id) h = tt
+        by A (ControlCall.Withdraw id) h = tt
+        by B (ControlCall.Withdraw id) h = tt
+        by A (ControlCall.Heard id address port hmac) h = tt
+        by B (ControlCall.Heard id address port hmac) h = tt
+        by A (ControlCall.Echoed id) h = tt
+        by B (ControlCall.Echoed id) h = tt
+        by A (ControlCall.Removed id) h = tt
+        by B (ControlCall.Removed id) h = tt
+        by A ControlCall.FastClose h = tt
+        by B ControlCall.FastClose h = tt
+        by A (ControlCall.FastHeard key) h = h
+        by B (ControlCall.FastHeard key) h = h
+    reply_alone (Ask.Send s call) r h = tt
+    reply_alone (Ask.Reassembly s call) r h = tt
+    reply_alone (Ask.Local step) r h = tt
 
   pub path_asks : (also : Deed → Side → Type 0) (six : SixBooks) (d : Duty) (ds : List Duty) (p : PathState Carried) → p.agenda ≡ d ∷ ds → PathKnows also six p → AsksFor also six (ask_for values d p)
   path_asks also six d ds p is h =
@@ -545,14 +458,11 @@ module _ (key_a key_b : ℕ) (right : Bool) where
 
   -- of which nothing is said
   says_no_more : (six : SixBooks) (x : Ask) → Tells NoMore x (reply_of six x)
-  says_no_more six (asks.Control s (control_calls.Look path)) = if_any (carrier_told (reply_of six (asks.Control s (control_calls.Look path))))
-  says_no_more six (asks.Control s (control_calls.Fell path event)) = λ is. tt
-  says_no_more six (asks.Control s (control_calls.FastHeard key)) = λ is. tt
-  says_no_more six (asks.Control s control_calls.FastClose) = tt
-  says_no_more six (asks.Control s _) = tt
-  says_no_more six (asks.Send s call) = tt
-  says_no_more six (asks.Reassembly s call) = tt
-  says_no_more six (asks.Local step) = tt
+  says_no_more six (Ask.Control s (ControlCall.Look path)) = if_any (carrier_told (reply_of six (Ask.Control s (ControlCall.Look path))))
+  says_no_more six (Ask.Control s (ControlCall.Fell path event)) = λ is. tt
+  says_no_more six (Ask.Control s (ControlCall.FastHeard key)) = λ is. tt
+  says_no_more six (Ask.Control s ControlCall.FastClose) = tt
+  says_no_more six _ = tt
 
   takes_keys : (six : SixBooks) (x : Ask) (m : Actor Carried) → member_asks values m ≡ Some x → (right ≡ true → SureHasKey six) → BooksAre six → MemberIs six m
       → MemberIs (after_ask x six) (member_takes values (reply_of six x) m)
@@ -568,43 +478,27 @@ module _ (key_a key_b : ℕ) (right : Bool) where
   abbrev Knowing : WorldState Carried → Type 0
   Knowing w = right ≡ true → SureHasKey (books_in w.books)
 
-  step_keys : (actor : ℕ) (w : WorldState Carried) → Knowing w → WorldIs w → WorldIs (world_step values actor w)
-  step_keys actor w knows h = by (slice_get w.crew actor) refl
-    where
-      asking : (c : ActorCrew Carried) → slice_get w.crew actor ≡ Some c → (o : Option Ask) → member_asks values c.member ≡ o → WorldIs (asked values actor o c w)
-      asking c there None is = h
-      asking c there (Some x) is =
-          let six = books_in w.books in
-          let now : books_in (asked values actor (Some x) c w).books ≡ after_ask x six = books_after x c.pass w.books in
-          record {
-            crew = subst (λ (y : SixBooks). Every (λ d. MemberIs y d.member) (asked values actor (Some x) c w).crew) (sym now) (record {
-              each = λ i d at. ⊎_elim
-                  (λ here. subst (λ y. MemberIs (after_ask x six) y.member) here.1 (takes_keys six x c.member is knows h.books (h.crew.each actor c there)))
-                  (λ other. more_keys six x d.member (h.crew.each i d other.1))
-                  (in_set w.crew actor (crew_after values x w.books c) i d at);
-            });
-            books = subst BooksAre (sym now) (ask_keeps NoMore six x (member_asks_are six c.member x (h.crew.each actor c there) is) h.books);
-          }
-
-      by : (o : Option (ActorCrew Carried)) → slice_get w.crew actor ≡ o → WorldIs (stepped values actor o w)
-      by None there = h
-      by (Some c) there = asking c there (member_asks values c.member) refl
-
-  round_keys : (w : WorldState Carried) → WorldIs w → WorldIs (end_round w)
-  round_keys w h = by (all_over w.crew)
-    where
-      by : (b : Bool) → WorldIs (if b then record w { crew = map (begins (greatest 0 w.crew)) w.crew } else w)
-      by true = record {
+  pub turn_keys : (turn : Turn) (w : WorldState Carried) → Knowing w → WorldIs w → WorldIs (after_turn values turn w)
+  turn_keys turn w knows h =
+      turn_so values WorldIs turn w h
+      (λ actor c x there is.
+      let six = books_in w.books in
+      let now : books_in (asked values actor (Some x) c w).books ≡ after_ask x six = books_after x c.pass w.books in
+      record {
+        crew = subst (λ (y : SixBooks). Every (λ d. MemberIs y d.member) (asked values actor (Some x) c w).crew) (sym now) (record {
+          each = λ i d at. ⊎_elim
+              (λ here. subst (λ y. MemberIs (after_ask x six) y.member) here.1 (takes_keys six x c.member is knows h.books (h.crew.each actor c there)))
+              (λ other. more_keys six x d.member (h.crew.each i d other.1))
+              (in_set w.crew actor (crew_after values x w.books c) i d at);
+        });
+        books = subst BooksAre (sym now) (ask_keeps NoMore six x (member_asks_are six c.member x (h.crew.each actor c there) is) h.books);
+      })
+      (λ over. record {
         crew = record {
           each = λ i d at. let found = in_map (begins (greatest 0 w.crew)) w.crew i d at in subst (λ y. MemberIs (books_in w.books) y.member) found.2 (next_keys (books_in w.books) found.0.member (h.crew.each i found.0 found.1));
         };
         books = h.books;
-      }
-      by false = h
-
-  pub turn_keys : (turn : Turn) (w : WorldState Carried) → Knowing w → WorldIs w → WorldIs (after_turn values turn w)
-  turn_keys (Turn.Step actor) w knows h = step_keys actor w knows h
-  turn_keys Turn.Round w knows h = round_keys w h
+      })
 
   untold : (w : WorldState Carried) → WorldIs w → Untold tells_other_key values w
   untold w h actor c x there asks = ask_untold (books_in w.books) x h.books (member_asks_are (books_in w.books) c.member x (h.crew.each actor c there) asks)
@@ -683,14 +577,6 @@ run_keys start [] w h none = none
 run_keys start (turn ∷ turns) w h none =
     run_keys start turns (after_turn values turn w) (turn_keys start.key_a start.key_b false turn w (λ right. absurd (false≢true right)) h)
     (turn_none tells_other_key values turn w (untold start.key_a start.key_b false w h) none)
-
--- at every moment each end knows what it has to
-known_run : (start : Start) (turns : List Turn) (w : WorldState Carried) → WorldIs start.key_a start.key_b false w → WorldIs start.key_a start.key_b false (world_run values turns w)
-known_run start [] w h = h
-known_run start (turn ∷ turns) w h = known_run start turns (after_turn values turn w) (turn_keys start.key_a start.key_b false turn w (λ right. absurd (false≢true right)) h)
-
-pub always_known : Always values (λ start w. WorldIs start.key_a start.key_b false w)
-always_known start turns = known_run start turns (opened_world start) (opened_keys false start)
 
 pub keys_never_differ : Always values (λ start w. KeysNeverDiffer w)
 keys_never_differ start turns =

@@ -1,52 +1,18 @@
 -- Which steps wake an end, and which duties say what an end that began says.
-use Rattle.std.proofs.Common.{◌≡◌, refl, sym, ◌∙◌, ap, subst, ℕ, zero, suc, ◌+◌, not, ◌||◌, ◌&&◌, nat_lt, nat_le, is_some, IsSome, Bool, true, false, if◌then◌else◌, Option, Some, None, List, [], ◌∷◌}
-use Rattle.std.proofs.lemmas.Bool.{false≢true}
-use Rattle.std.specs.List.{list_any}
-use Rattle.std.specs.Option.{IfSome, option_and_then}
-use Rattle.sides.specs.declared.side.Side.{Side}
-use Rattle.sides.specs.declared.side.Side.TheVariants.{A, B}
-use Rattle.link_script.specs.Places.{same_side}
+use Rattle.world_laws.proofs.Words.{◌≡◌, refl, sym, ◌∙◌, ap, subst, ℕ, zero, suc, ◌+◌, ◌&&◌, ◌||◌, not, nat_lt, nat_le, Bool, true, false, if◌then◌else◌}
+use Rattle.world_laws.proofs.Words.{Option, Some, None, List, [], ◌∷◌, is_some, false≢true, list_any, IfSome, option_and_then, Side, A, B, same_side, AckKind}
+use Rattle.world_laws.proofs.Words.{after_acknowledge, ack_kind, sample_of, is_closed_to_segments, is_waiting, Meaning, after_sending, EndState, EndPhase}
+use Rattle.world_laws.proofs.Words.{Occasion, is_fin_acked, after_ack_kind, after_acknowledgement, is_duplicate, after_duplicate, after_interruption, told_by}
+use Rattle.world_laws.proofs.Words.{after_payload, after_hearing, after_established, after_taken, after_syn_ack, after_arrival, is_fin_next, after_passing_fin}
+use Rattle.world_laws.proofs.Words.{after_finishing, is_syn_alone, meaning_at, meaning_of, Copy, Hint, next_due, Due, LineLeft, heard_and, payload_came}
+use Rattle.world_laws.proofs.Words.{copy_came, Duty, SendDuty, StepDuty, AskDuty, Heard, replaced, tail_of, PathEnd, PathState, end_at, owing_if, with_payload}
+use Rattle.world_laws.proofs.Words.{Judged, tick_of, next_join, next_line, next_copy, earlier, next_event, earliest, join_answer, join_asked, after_timer}
+use Rattle.world_laws.proofs.Words.{next_fire, is_forged, is_passed_over, join_judged, taken_as, judged_of, if_so}
+use Rattle.std.proofs.Common.{IsSome}
 use Rattle.loss_recovery.specs.Timers.{timer_settled}
-use Rattle.subflow_send.specs.declared.record.AckKind.{AckKind}
-use Rattle.subflow_send.specs.declared.record.AckKind.TheVariants as acks
-use Rattle.subflow_send.specs.Rules.{ack_kind, after_acknowledge, sample_of}
-use Rattle.subflow_tcp.specs.declared.handshake.State.{State as EndPhase}
-use Rattle.subflow_tcp.specs.declared.handshake.State.TheVariants as phase
-use Rattle.subflow_tcp.specs.declared.segments.Hint.{Hint}
-use Rattle.subflow_tcp.specs.declared.segments.Occasion.{Occasion}
-use Rattle.subflow_tcp.specs.declared.segments.Occasion.TheVariants as to_send
-use Rattle.subflow_tcp.specs.declared.verdicts.Meaning.{Meaning}
-use Rattle.subflow_tcp.specs.declared.verdicts.Meaning.TheVariants as means
-use Rattle.subflow_tcp.specs.Closing.{is_fin_next, after_passing_fin, after_finishing}
-use Rattle.subflow_tcp.specs.Emitting.{after_sending}
-use Rattle.subflow_tcp.specs.Judging.{is_syn_alone, meaning_at, meaning_of}
-use Rattle.subflow_tcp.specs.Segments.{Copy}
-use Rattle.subflow_tcp.specs.State.{EndState}
 use Rattle.subflow_tcp.specs.States as states
-use Rattle.subflow_tcp.specs.States.{is_closed_to_segments, is_waiting}
-use Rattle.subflow_tcp.specs.Taking.{after_arrival, is_fin_acked, after_acknowledgement, after_ack_kind, after_hearing, after_payload, after_established, after_duplicate, after_interruption, is_duplicate, told_by, after_taken, after_syn_ack}
-use Rattle.actor_desk.specs.Words.{tail_of}
-use Rattle.path_agenda.specs.Agenda.{heard_and, payload_came, copy_came}
-use Rattle.path_agenda.specs.Words.{replaced}
-use Rattle.path_agenda.specs.declared.duty.Duty.{Duty}
-use Rattle.path_agenda.specs.declared.duty.Duty.TheVariants as duties
-use Rattle.path_agenda.specs.declared.duty.AskDuty.TheVariants as ask_duties
-use Rattle.path_agenda.specs.declared.duty.SendDuty.TheVariants as send_duties
-use Rattle.path_agenda.specs.declared.duty.StepDuty.TheVariants as step_duties
-use Rattle.path_agenda.specs.declared.heard.Heard.{Heard}
-use Rattle.path_core.specs.Judged.{join_judged, judged_of, taken_as, is_passed_over, is_forged}
-use Rattle.path_core.specs.Arrival.{owing_if, with_payload}
-use Rattle.path_core.specs.Timer.{after_timer, next_fire}
-use Rattle.path_core.specs.End.{PathEnd}
-use Rattle.path_core.specs.Events.{tick_of, next_join, next_line, next_copy, earlier, earliest, before, next_event}
-use Rattle.path_core.specs.declared.events.Event.TheVariants as happenings
-use Rattle.path_store.specs.declared.lines.LineLeft.{LineLeft}
-use Rattle.link_model.specs.declared.flight.Due.{Due}
-use Rattle.link_model.specs.Steps.{next_due}
+use Rattle.path_core.specs.Events.{before}
 use Rattle.path_core.specs.declared.events.Event.{Event}
-use Rattle.path_core.specs.State.{PathState, end_at}
-use Rattle.path_core.specs.MpJoin.{join_asked, join_answer}
-use Rattle.path_core.specs.declared.judged.Judged.TheVariants as judged
 use Rattle.world_laws.proofs.Keys.AreDrawn.{is_past}
 
 -- ---- an end
@@ -106,91 +72,47 @@ timer_up now e = record { up = by (is_closed_to_segments e.tcp.state) _; waits =
     by true on up = absurd (false≢true up)
 
 pub sending_up : (o : Occasion) (now : ℕ) (s : EndState) → NoWaking s (after_sending o now s)
-sending_up to_send.Reset now s = record { up = λ up. up; waits = λ is. is; past = λ is. is }
+sending_up Occasion.Reset now s = record { up = λ up. up; waits = λ is. is; past = λ is. is }
 sending_up _ now s = record { up = λ up. up; waits = λ is. is; past = λ is. is }
 
 -- ---- states
 
-finish_closed : (state : EndPhase) → is_closed_to_segments (states.after_finish state) ≡ is_closed_to_segments state
-finish_closed phase.Established = refl
-finish_closed phase.CloseWait = refl
-finish_closed phase.Waiting = refl
-finish_closed _ = refl
+-- it is open, waits and is past its SYN as it was
+abbrev Same : EndPhase → EndPhase → Type 0
+Same t s = (is_closed_to_segments t ≡ is_closed_to_segments s) × (is_waiting t ≡ is_waiting s) × (is_past t ≡ is_past s)
 
-acked_closed : (state : EndPhase) → is_closed_to_segments (states.after_fin_acked state) ≡ is_closed_to_segments state
-acked_closed phase.FinWait1 = refl
-acked_closed phase.Closing = refl
-acked_closed phase.Waiting = refl
-acked_closed _ = refl
+finish_same : (state : EndPhase) → Same (states.after_finish state) state
+finish_same EndPhase.Established = (refl, refl, refl)
+finish_same EndPhase.CloseWait = (refl, refl, refl)
+finish_same EndPhase.Waiting = (refl, refl, refl)
+finish_same _ = (refl, refl, refl)
 
-passed_closed : (state : EndPhase) → is_closed_to_segments (states.after_fin_passed state) ≡ is_closed_to_segments state
-passed_closed phase.Established = refl
-passed_closed phase.FinWait1 = refl
-passed_closed phase.FinWait2 = refl
-passed_closed phase.Waiting = refl
-passed_closed _ = refl
+acked_same : (state : EndPhase) → Same (states.after_fin_acked state) state
+acked_same EndPhase.FinWait1 = (refl, refl, refl)
+acked_same EndPhase.Closing = (refl, refl, refl)
+acked_same EndPhase.Waiting = (refl, refl, refl)
+acked_same _ = (refl, refl, refl)
 
-opened_closed : (state : EndPhase) → is_closed_to_segments (states.after_handshake state) ≡ is_closed_to_segments state
-opened_closed phase.SynReceived = refl
-opened_closed phase.Waiting = refl
-opened_closed _ = refl
+passed_same : (state : EndPhase) → Same (states.after_fin_passed state) state
+passed_same EndPhase.Established = (refl, refl, refl)
+passed_same EndPhase.FinWait1 = (refl, refl, refl)
+passed_same EndPhase.FinWait2 = (refl, refl, refl)
+passed_same EndPhase.Waiting = (refl, refl, refl)
+passed_same _ = (refl, refl, refl)
 
-finish_waits : (state : EndPhase) → is_waiting (states.after_finish state) ≡ is_waiting state
-finish_waits phase.Established = refl
-finish_waits phase.CloseWait = refl
-finish_waits phase.Waiting = refl
-finish_waits _ = refl
-
-acked_waits : (state : EndPhase) → is_waiting (states.after_fin_acked state) ≡ is_waiting state
-acked_waits phase.FinWait1 = refl
-acked_waits phase.Closing = refl
-acked_waits phase.Waiting = refl
-acked_waits _ = refl
-
-passed_waits : (state : EndPhase) → is_waiting (states.after_fin_passed state) ≡ is_waiting state
-passed_waits phase.Established = refl
-passed_waits phase.FinWait1 = refl
-passed_waits phase.FinWait2 = refl
-passed_waits phase.Waiting = refl
-passed_waits _ = refl
-
-opened_waits : (state : EndPhase) → is_waiting (states.after_handshake state) ≡ is_waiting state
-opened_waits phase.SynReceived = refl
-opened_waits phase.Waiting = refl
-opened_waits _ = refl
-
-finish_past : (state : EndPhase) → is_past (states.after_finish state) ≡ is_past state
-finish_past phase.Established = refl
-finish_past phase.CloseWait = refl
-finish_past phase.Waiting = refl
-finish_past _ = refl
-
-acked_past : (state : EndPhase) → is_past (states.after_fin_acked state) ≡ is_past state
-acked_past phase.FinWait1 = refl
-acked_past phase.Closing = refl
-acked_past phase.Waiting = refl
-acked_past _ = refl
-
-passed_past : (state : EndPhase) → is_past (states.after_fin_passed state) ≡ is_past state
-passed_past phase.Established = refl
-passed_past phase.FinWait1 = refl
-passed_past phase.FinWait2 = refl
-passed_past phase.Waiting = refl
-passed_past _ = refl
-
-opened_past : (state : EndPhase) → is_past (states.after_handshake state) ≡ is_past state
-opened_past phase.SynReceived = refl
-opened_past phase.Waiting = refl
-opened_past _ = refl
+opened_same : (state : EndPhase) → Same (states.after_handshake state) state
+opened_same EndPhase.SynReceived = (refl, refl, refl)
+opened_same EndPhase.Waiting = (refl, refl, refl)
+opened_same _ = (refl, refl, refl)
 
 pub finishing_up : (s : EndState) → NoWaking s (after_finishing s)
-finishing_up s = alike_up s (after_finishing s) (record { state = finish_closed s.state; waits = finish_waits s.state; past = finish_past s.state; timer = refl })
+finishing_up s = let same = finish_same s.state in alike_up s (after_finishing s) (record { state = same.0; waits = same.1; past = same.2; timer = refl })
 
 pub passing_up : (s : EndState) → NoWaking s (if is_fin_next s then after_passing_fin s else s)
 passing_up s = by (is_fin_next s)
   where
     by : (b : Bool) → NoWaking s (if b then after_passing_fin s else s)
-    by true = alike_up s (after_passing_fin s) (record { state = passed_closed s.state; waits = passed_waits s.state; past = passed_past s.state; timer = refl })
+    by true = let same = passed_same s.state in alike_up s (after_passing_fin s) (record { state = same.0; waits = same.1; past = same.2; timer = refl })
     by false = record { up = λ up. up; waits = λ is. is; past = λ is. is }
 
 -- ---- a copy
@@ -203,22 +125,12 @@ back_alike : (s t : EndState) → Alike s t → Alike t s
 back_alike s t x = record { state = sym x.state; waits = sym x.waits; past = sym x.past; timer = sym x.timer }
 
 kind_alike : (kind : AckKind) (since : Option ℕ) (now : ℕ) (s : EndState) → Alike s (after_ack_kind kind since now s)
-kind_alike (acks.New octets) since now s = record { state = by (is_fin_acked s.send); waits = too (is_fin_acked s.send); past = so (is_fin_acked s.send); timer = refl }
+kind_alike (AckKind.New octets) since now s = let same = by (is_fin_acked s.send) in record { state = same.0; waits = same.1; past = same.2; timer = refl }
   where
-    by : (b : Bool) → is_closed_to_segments (if b then states.after_fin_acked s.state else s.state) ≡ is_closed_to_segments s.state
-    by true = acked_closed s.state
-    by false = refl
-
-    too : (b : Bool) → is_waiting (if b then states.after_fin_acked s.state else s.state) ≡ is_waiting s.state
-    too true = acked_waits s.state
-    too false = refl
-
-    so : (b : Bool) → is_past (if b then states.after_fin_acked s.state else s.state) ≡ is_past s.state
-    so true = acked_past s.state
-    so false = refl
-kind_alike acks.Duplicate since now s = record { state = refl; waits = refl; past = refl; timer = refl }
-kind_alike acks.Old since now s = record { state = refl; waits = refl; past = refl; timer = refl }
-kind_alike acks.Future since now s = record { state = refl; waits = refl; past = refl; timer = refl }
+    by : (b : Bool) → Same (if b then states.after_fin_acked s.state else s.state) s.state
+    by true = acked_same s.state
+    by false = (refl, refl, refl)
+kind_alike _ since now s = record { state = refl; waits = refl; past = refl; timer = refl }
 
 ack_alike : (pos now : ℕ) (s : EndState) → Alike s (after_acknowledgement pos now s)
 ack_alike pos now s =
@@ -237,29 +149,30 @@ taken_alike : (pos acknowledged : ℕ) (hint : Hint) (now : ℕ) (c : Copy) (s :
 taken_alike pos acknowledged hint now c s =
     let heard : EndState = after_established (after_hearing (after_payload pos hint c s)) in
     let acked : EndState = after_acknowledgement acknowledged now heard in
-    let opened : Alike s heard = record { state = opened_closed s.state; waits = opened_waits s.state; past = opened_past s.state; timer = refl } in
+    let same = opened_same s.state in
+    let opened : Alike s heard = record { state = same.0; waits = same.1; past = same.2; timer = refl } in
     let answered : Alike s acked = then_alike s heard acked opened (ack_alike acknowledged now heard) in
     let told = row_alike (is_duplicate (ack_kind acknowledged heard.send) (told_by hint c) c acked) s (after_duplicate acked) (after_interruption acked)
     (record { state = answered.state; waits = answered.waits; past = answered.past; timer = answered.timer }) (record { state = answered.state; waits = answered.waits; past = answered.past; timer = answered.timer }) in
     record { state = told.state; waits = told.waits; past = told.past; timer = told.timer }
 
 payload_alike : (m : Meaning) (octets : List ℕ) (s : EndState) → Alike s (with_payload m octets s)
-payload_alike (means.Taken pos acknowledged) [] s = record { state = refl; waits = refl; past = refl; timer = refl }
-payload_alike (means.Taken pos acknowledged) (octet ∷ octets) s = record { state = refl; waits = refl; past = refl; timer = refl }
+payload_alike (Meaning.Taken pos acknowledged) [] s = record { state = refl; waits = refl; past = refl; timer = refl }
+payload_alike (Meaning.Taken pos acknowledged) (octet ∷ octets) s = record { state = refl; waits = refl; past = refl; timer = refl }
 payload_alike _ octets s = record { state = refl; waits = refl; past = refl; timer = refl }
 
 -- it is answered, taken or accepted: it means so at an open end alone
 abbrev pub is_lively : Meaning → Bool
-is_lively (means.Accepts acknowledged) = true
-is_lively means.RepeatedSyn = true
-is_lively means.Outside = true
-is_lively means.Challenged = true
-is_lively means.Ahead = true
-is_lively (means.Taken pos acknowledged) = true
+is_lively (Meaning.Accepts acknowledged) = true
+is_lively Meaning.RepeatedSyn = true
+is_lively Meaning.Outside = true
+is_lively Meaning.Challenged = true
+is_lively Meaning.Ahead = true
+is_lively (Meaning.Taken pos acknowledged) = true
 is_lively _ = false
 
 abbrev pub is_opens : Meaning → Bool
-is_opens means.Opens = true
+is_opens Meaning.Opens = true
 is_opens _ = false
 
 -- a copy that is taken as this wakes no end: no SYN, and an answer alone at an end that is up
@@ -270,21 +183,15 @@ pub record WakesNone (m : Meaning) (s : EndState) : Type 0 where
 -- an end that accepts doesn't wait
 accepted_waits : (acknowledged : ℕ) (hint : Hint) (now : ℕ) (c : Copy) (s : EndState) → is_waiting (after_syn_ack acknowledged hint now c s).state ≡ true → is_waiting s.state ≡ true
 accepted_waits acknowledged hint now c s is =
-    let opened : EndState = record (after_hearing (after_payload 1 hint c s)) { state = phase.Established } in
+    let opened : EndState = record (after_hearing (after_payload 1 hint c s)) { state = EndPhase.Established } in
     absurd (false≢true (sym (ack_alike acknowledged now opened).waits ∙ is))
 
 arrival_up : (m : Meaning) (hint : Hint) (now : ℕ) (c : Copy) (s : EndState) → WakesNone m s → Sleeps s (after_arrival m hint now c s)
-arrival_up means.Ignored hint now c s none = record { up = λ up. up; waits = λ is. is }
-arrival_up means.Unwanted hint now c s none = record { up = λ up. up; waits = λ is. is }
-arrival_up means.Opens hint now c s none = absurd (false≢true (sym none.no_syn))
-arrival_up (means.Accepts acknowledged) hint now c s none = record { up = λ up. none.lively refl; waits = λ is. accepted_waits acknowledged hint now c s is }
-arrival_up means.RepeatedSyn hint now c s none = record { up = λ up. up; waits = λ is. is }
-arrival_up means.Outside hint now c s none = record { up = λ up. up; waits = λ is. is }
-arrival_up means.Kills hint now c s none = record { up = λ up. absurd (false≢true up); waits = λ is. absurd (false≢true is) }
-arrival_up means.Challenged hint now c s none = record { up = λ up. up; waits = λ is. is }
-arrival_up means.Unacknowledging hint now c s none = record { up = λ up. up; waits = λ is. is }
-arrival_up means.Ahead hint now c s none = record { up = λ up. up; waits = λ is. is }
-arrival_up (means.Taken pos acknowledged) hint now c s none = alike_sleeps s (after_taken pos acknowledged hint now c s) (taken_alike pos acknowledged hint now c s)
+arrival_up Meaning.Opens hint now c s none = absurd (false≢true (sym none.no_syn))
+arrival_up (Meaning.Accepts acknowledged) hint now c s none = record { up = λ up. none.lively refl; waits = λ is. accepted_waits acknowledged hint now c s is }
+arrival_up Meaning.Kills hint now c s none = record { up = λ up. absurd (false≢true up); waits = λ is. absurd (false≢true is) }
+arrival_up (Meaning.Taken pos acknowledged) hint now c s none = alike_sleeps s (after_taken pos acknowledged hint now c s) (taken_alike pos acknowledged hint now c s)
+arrival_up _ hint now c s none = record { up = λ up. up; waits = λ is. is }
 
 -- so does the end that takes it, with its payload
 pub copy_up : (m : Meaning) (owes : Bool) (hint : Hint) (now : ℕ) (c : Copy) (octets : List ℕ) (s : EndState) → WakesNone m s
@@ -299,17 +206,11 @@ copy_up m owes hint now c octets s none =
 
 -- no copy lets an end wait that didn't
 arrival_waits : (m : Meaning) (hint : Hint) (now : ℕ) (c : Copy) (s : EndState) → is_waiting (after_arrival m hint now c s).state ≡ true → is_waiting s.state ≡ true
-arrival_waits means.Ignored hint now c s is = is
-arrival_waits means.Unwanted hint now c s is = is
-arrival_waits means.Opens hint now c s is = absurd (false≢true is)
-arrival_waits (means.Accepts acknowledged) hint now c s is = accepted_waits acknowledged hint now c s is
-arrival_waits means.RepeatedSyn hint now c s is = is
-arrival_waits means.Outside hint now c s is = is
-arrival_waits means.Kills hint now c s is = absurd (false≢true is)
-arrival_waits means.Challenged hint now c s is = is
-arrival_waits means.Unacknowledging hint now c s is = is
-arrival_waits means.Ahead hint now c s is = is
-arrival_waits (means.Taken pos acknowledged) hint now c s is = sym (taken_alike pos acknowledged hint now c s).waits ∙ is
+arrival_waits Meaning.Opens hint now c s is = absurd (false≢true is)
+arrival_waits (Meaning.Accepts acknowledged) hint now c s is = accepted_waits acknowledged hint now c s is
+arrival_waits Meaning.Kills hint now c s is = absurd (false≢true is)
+arrival_waits (Meaning.Taken pos acknowledged) hint now c s is = sym (taken_alike pos acknowledged hint now c s).waits ∙ is
+arrival_waits _ hint now c s is = is
 
 pub arrived_waits : (m : Meaning) (owes : Bool) (hint : Hint) (now : ℕ) (c : Copy) (octets : List ℕ) (s : EndState)
     → is_waiting (owing_if owes (after_arrival m hint now c (with_payload m octets s))).state ≡ true → is_waiting s.state ≡ true
@@ -318,25 +219,25 @@ arrived_waits m owes hint now c octets s is =
     sym (payload_alike m octets s).waits ∙ arrival_waits m hint now c held (sym (owing_alike owes (after_arrival m hint now c held)).waits ∙ is)
 
 -- the peer's SYN comes by no copy but one that is accepted
-arrival_past : (m : Meaning) (hint : Hint) (now : ℕ) (c : Copy) (s : EndState) (P : Type 0) → is_opens m ≡ false → ((acknowledged : ℕ) → m ≡ means.Accepts acknowledged → P)
+arrival_past : (m : Meaning) (hint : Hint) (now : ℕ) (c : Copy) (s : EndState) (P : Type 0) → is_opens m ≡ false → ((acknowledged : ℕ) → m ≡ Meaning.Accepts acknowledged → P)
     → (is_past s.state ≡ true → P) → is_past (after_arrival m hint now c s).state ≡ true → P
-arrival_past means.Ignored hint now c s P none accepts past is = past is
-arrival_past means.Unwanted hint now c s P none accepts past is = past is
-arrival_past means.Opens hint now c s P none accepts past is = absurd (false≢true (sym none))
-arrival_past (means.Accepts acknowledged) hint now c s P none accepts past is = accepts acknowledged refl
-arrival_past means.RepeatedSyn hint now c s P none accepts past is = past is
-arrival_past means.Outside hint now c s P none accepts past is = past is
-arrival_past means.Kills hint now c s P none accepts past is = absurd (false≢true is)
-arrival_past means.Challenged hint now c s P none accepts past is = past is
-arrival_past means.Unacknowledging hint now c s P none accepts past is = past is
-arrival_past means.Ahead hint now c s P none accepts past is = past is
-arrival_past (means.Taken pos acknowledged) hint now c s P none accepts past is = past (sym (taken_alike pos acknowledged hint now c s).past ∙ is)
+arrival_past Meaning.Ignored hint now c s P none accepts past is = past is
+arrival_past Meaning.Unwanted hint now c s P none accepts past is = past is
+arrival_past Meaning.Opens hint now c s P none accepts past is = absurd (false≢true (sym none))
+arrival_past (Meaning.Accepts acknowledged) hint now c s P none accepts past is = accepts acknowledged refl
+arrival_past Meaning.RepeatedSyn hint now c s P none accepts past is = past is
+arrival_past Meaning.Outside hint now c s P none accepts past is = past is
+arrival_past Meaning.Kills hint now c s P none accepts past is = absurd (false≢true is)
+arrival_past Meaning.Challenged hint now c s P none accepts past is = past is
+arrival_past Meaning.Unacknowledging hint now c s P none accepts past is = past is
+arrival_past Meaning.Ahead hint now c s P none accepts past is = past is
+arrival_past (Meaning.Taken pos acknowledged) hint now c s P none accepts past is = past (sym (taken_alike pos acknowledged hint now c s).past ∙ is)
 
 pub held_past : (m : Meaning) (octets : List ℕ) (s : EndState) → is_past (with_payload m octets s).state ≡ true → is_past s.state ≡ true
 held_past m octets s is = sym (payload_alike m octets s).past ∙ is
 
 pub copy_past : (m : Meaning) (owes : Bool) (hint : Hint) (now : ℕ) (c : Copy) (octets : List ℕ) (s : EndState) (P : Type 0) → is_opens m ≡ false
-    → ((acknowledged : ℕ) → m ≡ means.Accepts acknowledged → P) → (is_past s.state ≡ true → P)
+    → ((acknowledged : ℕ) → m ≡ Meaning.Accepts acknowledged → P) → (is_past s.state ≡ true → P)
     → is_past (owing_if owes (after_arrival m hint now c (with_payload m octets s))).state ≡ true → P
 copy_past m owes hint now c octets s P none accepts past is =
     let held : EndState = with_payload m octets s in
@@ -344,55 +245,44 @@ copy_past m owes hint now c octets s P none accepts past is =
 
 -- a lively copy comes to an open end
 lively_open : (state : EndPhase) (c : Copy) (s : EndState) → is_lively (meaning_at state c s) ≡ true → is_closed_to_segments state ≡ false
-lively_open phase.Dead c s is = by c.rst is
+lively_open EndPhase.Dead c s is = by c.rst is
   where
-    by : (b : Bool) → is_lively (if b then means.Ignored else means.Unwanted) ≡ true → true ≡ false
+    by : (b : Bool) → is_lively (if b then Meaning.Ignored else Meaning.Unwanted) ≡ true → true ≡ false
     by true is = absurd (false≢true is)
     by false is = absurd (false≢true is)
-lively_open phase.Waiting c s is = absurd (false≢true is)
-lively_open phase.Listen c s is = by (is_syn_alone c) is
+lively_open EndPhase.Waiting c s is = absurd (false≢true is)
+lively_open EndPhase.Listen c s is = by (is_syn_alone c) is
   where
-    by : (b : Bool) → is_lively (if b then means.Opens else means.Ignored) ≡ true → true ≡ false
+    by : (b : Bool) → is_lively (if b then Meaning.Opens else Meaning.Ignored) ≡ true → true ≡ false
     by true is = absurd (false≢true is)
     by false is = absurd (false≢true is)
-lively_open phase.SynSent c s is = refl
+lively_open EndPhase.SynSent c s is = refl
 lively_open _ c s is = refl
 
 -- on a path that joins no copy wakes an end: B asks its control book first
 module _ (rst : Bool) (items : List Heard) (e : PathEnd) where
-  nothing_wakes : WakesNone means.Ignored e.tcp
+  nothing_wakes : WakesNone Meaning.Ignored e.tcp
   nothing_wakes = record { no_syn = refl; lively = λ is. absurd (false≢true is) }
 
-  unless_silent : (silent : Bool) (m : Meaning) → WakesNone m e.tcp → WakesNone (taken_as (if silent then judged.As means.Ignored else judged.As m)) e.tcp
+  unless_silent : (silent : Bool) (m : Meaning) → WakesNone m e.tcp → WakesNone (taken_as (if silent then Judged.As Meaning.Ignored else Judged.As m)) e.tcp
   unless_silent true m none = nothing_wakes
   unless_silent false m none = none
 
   wakes_none : (m : Meaning) → (is_lively m ≡ true → is_up e.tcp ≡ true) → WakesNone (taken_as (join_judged rst items m e)) e.tcp
-  wakes_none means.Opens up = by (is_some (join_asked items))
+  wakes_none Meaning.Opens up = if_so (λ z. WakesNone (taken_as z) e.tcp) (is_some (join_asked items)) Judged.Asks Judged.Lacks nothing_wakes nothing_wakes
+  wakes_none (Meaning.Accepts acknowledged) up =
+      if_so (λ z. WakesNone (taken_as z) e.tcp) (is_some (join_answer items e.modes)) (Judged.As (Meaning.Accepts acknowledged)) Judged.Forged
+      (record { no_syn = refl; lively = up }) nothing_wakes
+  wakes_none Meaning.RepeatedSyn up = record { no_syn = refl; lively = up }
+  wakes_none (Meaning.Taken pos acknowledged) up = by (is_passed_over rst items e) (is_forged items e)
     where
-      by : (asks : Bool) → WakesNone (taken_as (if asks then judged.Asks else judged.Lacks)) e.tcp
-      by true = nothing_wakes
-      by false = nothing_wakes
-  wakes_none (means.Accepts acknowledged) up = by (is_some (join_answer items e.modes))
-    where
-      by : (right : Bool) → WakesNone (taken_as (if right then judged.As (means.Accepts acknowledged) else judged.Forged)) e.tcp
-      by true = record { no_syn = refl; lively = up }
-      by false = nothing_wakes
-  wakes_none means.RepeatedSyn up = record { no_syn = refl; lively = up }
-  wakes_none (means.Taken pos acknowledged) up = by (is_passed_over rst items e) (is_forged items e)
-    where
-      by : (silent forged : Bool) → WakesNone (taken_as (if silent then judged.As means.Ignored
-          else (if forged then judged.Forged else judged.As (means.Taken pos acknowledged)))) e.tcp
+      by : (silent forged : Bool) → WakesNone (taken_as (if silent then Judged.As Meaning.Ignored
+          else (if forged then Judged.Forged else Judged.As (Meaning.Taken pos acknowledged)))) e.tcp
       by true forged = nothing_wakes
       by false true = nothing_wakes
       by false false = record { no_syn = refl; lively = up }
-  wakes_none means.Ignored up = unless_silent (is_passed_over rst items e) means.Ignored (record { no_syn = refl; lively = up })
-  wakes_none means.Unwanted up = unless_silent (is_passed_over rst items e) means.Unwanted (record { no_syn = refl; lively = up })
-  wakes_none means.Outside up = unless_silent (is_passed_over rst items e) means.Outside (record { no_syn = refl; lively = up })
-  wakes_none means.Kills up = unless_silent (is_passed_over rst items e) means.Kills (record { no_syn = refl; lively = up })
-  wakes_none means.Challenged up = unless_silent (is_passed_over rst items e) means.Challenged (record { no_syn = refl; lively = up })
-  wakes_none means.Unacknowledging up = unless_silent (is_passed_over rst items e) means.Unacknowledging (record { no_syn = refl; lively = up })
-  wakes_none means.Ahead up = unless_silent (is_passed_over rst items e) means.Ahead (record { no_syn = refl; lively = up })
+  wakes_none Meaning.Ignored up = unless_silent (is_passed_over rst items e) Meaning.Ignored (record { no_syn = refl; lively = up })
+  wakes_none m up = unless_silent (is_passed_over rst items e) m (record { no_syn = refl; lively = up })
 
   pub joined_wakes_none : (c : Copy) → WakesNone (taken_as (judged_of true rst items (meaning_of c e.tcp) e)) e.tcp
   joined_wakes_none c = wakes_none (meaning_of c e.tcp) (λ lively. open_is_up e.tcp (lively_open e.tcp.state c e.tcp lively))
@@ -423,21 +313,21 @@ aborts (Voice.Falls s) t = false
 aborts (Voice.Aborts s) t = same_side s t
 
 abbrev pub is_said_by : Voice → Duty → Bool
-is_said_by x (duties.Send (send_duties.SynAck t)) = tells x t
-is_said_by x (duties.Send (send_duties.Again t)) = tells x t
-is_said_by x (duties.Send (send_duties.Answer t)) = tells x t
-is_said_by x (duties.Send (send_duties.Resend t)) = tells x t
-is_said_by x (duties.Ask (ask_duties.PlainHandshake t)) = tells x t
-is_said_by x (duties.Ask (ask_duties.PeerKey t)) = tells x t
-is_said_by x (duties.Ask (ask_duties.Opened t)) = tells x t
-is_said_by x (duties.Step (step_duties.Heard t index)) = tells x t
-is_said_by x (duties.Ask (ask_duties.AckHeard t)) = tells x t
-is_said_by x (duties.Ask (ask_duties.FailHeard t)) = tells x t
-is_said_by x (duties.Step (step_duties.PlainAck t)) = tells x t
-is_said_by x (duties.Ask (ask_duties.PlainData t)) = tells x t
-is_said_by x (duties.Ask (ask_duties.CheckFailed t)) = tells x t
-is_said_by x (duties.Ask (ask_duties.GoIdentity t)) = falls x t
-is_said_by x (duties.Ask (ask_duties.AbortReceive t)) = aborts x t
+is_said_by x (Duty.Send (SendDuty.SynAck t)) = tells x t
+is_said_by x (Duty.Send (SendDuty.Again t)) = tells x t
+is_said_by x (Duty.Send (SendDuty.Answer t)) = tells x t
+is_said_by x (Duty.Send (SendDuty.Resend t)) = tells x t
+is_said_by x (Duty.Ask (AskDuty.PlainHandshake t)) = tells x t
+is_said_by x (Duty.Ask (AskDuty.PeerKey t)) = tells x t
+is_said_by x (Duty.Ask (AskDuty.Opened t)) = tells x t
+is_said_by x (Duty.Step (StepDuty.Heard t index)) = tells x t
+is_said_by x (Duty.Ask (AskDuty.AckHeard t)) = tells x t
+is_said_by x (Duty.Ask (AskDuty.FailHeard t)) = tells x t
+is_said_by x (Duty.Step (StepDuty.PlainAck t)) = tells x t
+is_said_by x (Duty.Ask (AskDuty.PlainData t)) = tells x t
+is_said_by x (Duty.Ask (AskDuty.CheckFailed t)) = tells x t
+is_said_by x (Duty.Ask (AskDuty.GoIdentity t)) = falls x t
+is_said_by x (Duty.Ask (AskDuty.AbortReceive t)) = aborts x t
 is_said_by x _ = false
 
 abbrev pub speaks : Voice → List Duty → Bool
@@ -513,24 +403,20 @@ itself B = refl
 
 -- A waits on a path that it joins, and an end whose timer runs out is up
 abbrev pub Happens : {C : Type 0} → PathState C → Event → Type 0
-Happens p (happenings.Joins tick) = is_waiting p.a.tcp.state ≡ true
-Happens p (happenings.Fires s tick) = is_up (end_at s p).tcp ≡ true
+Happens p (Event.Joins tick) = is_waiting p.a.tcp.state ≡ true
+Happens p (Event.Fires s tick) = is_up (end_at s p).tcp ≡ true
 Happens p event = Unit {0}
 
 earlier_has : (P : Event → Type 0) (x y : Option Event) → IfSome x P → IfSome y P → IfSome (earlier x y) P
 earlier_has P None y first other = other
 earlier_has P (Some x) None first other = first
-earlier_has P (Some x) (Some y) first other = by (nat_le (tick_of x) (tick_of y))
-  where
-    by : (b : Bool) → IfSome (if b then Some x else Some y) P
-    by true = first
-    by false = other
+earlier_has P (Some x) (Some y) first other = if_so (λ z. IfSome z P) (nat_le (tick_of x) (tick_of y)) (Some x) (Some y) first other
 
 join_has : {C : Type 0} (p : PathState C) (state : EndPhase) (o : Option ℕ) → p.a.tcp.state ≡ state → IfSome (next_join state o) (Happens p)
 join_has p state None same = tt
 join_has p state (Some tick) same = by (is_waiting state) refl
   where
-    by : (b : Bool) → is_waiting state ≡ b → IfSome (if b then Some (happenings.Joins tick) else None) (Happens p)
+    by : (b : Bool) → is_waiting state ≡ b → IfSome (if b then Some (Event.Joins tick) else None) (Happens p)
     by true waits = ap is_waiting same ∙ waits
     by false waits = tt
 

@@ -1,57 +1,20 @@
 -- What each duty's reply makes of the path and of its lanes: the duties that ask no event.
-use Rattle.std.proofs.Common.{◌≡◌, refl, sym, ◌∙◌, ℕ, suc, ◌-◌, ◌≤◌, inl, Bool, true, false, if◌then◌else◌, Option, Some, None, List, [], ◌∷◌, length, arith}
-use Rattle.std.proofs.lemmas.Bool.{both_ways, false≢true}
-use Rattle.std.proofs.lemmas.List.{append-nil}
-use Rattle.std.specs.Option.{IfSome}
-use Rattle.sides.specs.declared.side.Side.{Side}
-use Rattle.sides.specs.declared.side.Side.TheVariants.{A, B}
-use Rattle.loss_recovery.specs.declared.windows.Pending.{Pending}
-use Rattle.path_segments.specs.Spelled.{PlainSegment}
-use Rattle.reassembly_book.specs.Steps.{next_wanted, window}
-use Rattle.subflow_send.specs.declared.record.RecordKind.{RecordKind}
-use Rattle.subflow_send.specs.declared.record.RecordKind.TheVariants.{Syn, Data, Fin}
-use Rattle.subflow_send.specs.Records.{Record}
-use Rattle.subflow_send.specs.Rules.{is_unsent}
-use Rattle.subflow_tcp.specs.declared.segments.Occasion.{Occasion}
-use Rattle.subflow_tcp.specs.declared.segments.Occasion.TheVariants as to_send
-use Rattle.subflow_tcp.specs.declared.segments.Outgoing.{Outgoing}
-use Rattle.subflow_tcp.specs.Emitting.{is_syn, reset_segment, fin_position}
-use Rattle.subflow_tcp.specs.Closing.{after_finishing}
-use Rattle.subflow_tcp.specs.State.{has_records}
+use Rattle.world_laws.proofs.Words.{◌≡◌, refl, sym, ◌∙◌, ℕ, suc, ◌-◌, ◌≤◌, inl, Bool, true, false, if◌then◌else◌, Option, Some, None, List, [], ◌∷◌, length}
+use Rattle.world_laws.proofs.Words.{arith, both_ways, false≢true, append-nil, IfSome, Side, A, B, JoinSyn, next_wanted, window, Record, RecordKind, Syn, Data}
+use Rattle.world_laws.proofs.Words.{Fin, is_unsent, Pending, reset_segment, fin_position, is_syn, has_records, Occasion, Outgoing, after_finishing}
+use Rattle.world_laws.proofs.Words.{PlainSegment, leaves, resets, Duty, SendDuty, StepDuty, OwnNotice, Heard, KeyPair, replaced, first_of, Ask, Reply, SixBooks}
+use Rattle.world_laws.proofs.Words.{reassembly_of, reply_of, pick, PathEnd, died, answered_ack_out, after_ack_out, ack_out_ask, ack_segment, PathState, end_at}
+use Rattle.world_laws.proofs.Words.{goes_on, with_agenda, left, Carried, values, reset_of, reset_on, answered_break, refusal_of, break_ask, answered_refusal}
+use Rattle.world_laws.proofs.Words.{first_unsent, having_sent_unsent, unsent_segment, answer_occasion, answer_of, answered_again, answered_answer}
+use Rattle.world_laws.proofs.Words.{answered_resend, dead_answer, first_segment, outgoing_or, resend_occasion, resend_of, first_record, ack_resent}
+use Rattle.world_laws.proofs.Words.{answered_dead, asked_at, join_taken, joined_by, keys_begun, with_mode_refused, join_heard_ask, answered_join_heard}
+use Rattle.world_laws.proofs.Words.{is_data_fin_owed, data_fin_segment, having_sent_data_fin, answered_data_fin_sent, fin_segment_of, having_sent_fin}
+use Rattle.world_laws.proofs.Words.{answered_fin, with_data_fin_sent, syn_ack_of, answered_fast_close, having_fast_closed, with_fast_closed, having_noted}
+use Rattle.world_laws.proofs.Words.{answered_note, with_noted, reset_options, segment_of, ack_said, carried_said, syn_ack_said, record_or_ack, noted_said}
+use Rattle.world_laws.proofs.Words.{Profile, sends, having_sent, sent_on, rate_ask, is_side_a, item_at, IfSome-map, Every, Lane}
 use Rattle.subflow_tcp.specs.States as states
-use Rattle.stream_lanes.specs.Lane.{Lane}
-use Rattle.stream_lanes.specs.Words.{Every}
-use Rattle.stream_lanes.proofs.Lists.{IfSome-map}
-use Rattle.actor_desk.specs.declared.ask.Ask.{Ask}
-use Rattle.actor_desk.specs.declared.ask.Reply.{Reply}
-use Rattle.actor_desk.specs.Desk.{SixBooks, reassembly_of, reply_of}
-use Rattle.actor_desk.specs.Words.{pick}
-use Rattle.join_handshake.specs.declared.hearing.JoinSyn.{JoinSyn}
-use Rattle.path_agenda.specs.declared.duty.Duty.{Duty}
-use Rattle.path_agenda.specs.declared.duty.Duty.TheVariants as duties
-use Rattle.path_agenda.specs.declared.duty.SendDuty.TheVariants as send_duties
-use Rattle.path_agenda.specs.declared.duty.StepDuty.TheVariants as step_duties
-use Rattle.path_agenda.specs.declared.heard.Heard.TheVariants as says
-use Rattle.path_agenda.specs.Words.{replaced, first_of}
-use Rattle.path_agenda.specs.declared.keys.KeyPair.{KeyPair}
-use Rattle.path_core.specs.Breaking.{reset_of, reset_on, break_ask, answered_break, refusal_of, answered_refusal}
-use Rattle.path_core.specs.DataFin.{is_data_fin_owed, with_data_fin_sent, data_fin_segment, having_sent_data_fin, fin_segment_of, having_sent_fin, answered_data_fin_sent, answered_fin}
-use Rattle.path_agenda.specs.Agenda.{leaves, resets}
-use Rattle.path_core.specs.Emission.{first_unsent, unsent_segment, having_sent_unsent, ack_resent, first_record, first_segment, answer_of, answer_occasion, answered_answer, answered_again, outgoing_or, dead_answer, answered_dead, resend_occasion, resend_of, answered_resend}
-use Rattle.path_core.specs.End.{PathEnd, died}
-use Rattle.path_core.specs.MpCapable.{syn_ack_of}
-use Rattle.path_core.specs.MpJoin.{keys_begun, asked_at, join_heard_ask, joined_by, join_taken, answered_join_heard, with_mode_refused}
-use Rattle.path_core.specs.Rate.{rate_ask}
-use Rattle.path_core.specs.OptionsOut.{ack_said, carried_said, syn_ack_said, record_or_ack, reset_options, segment_of, noted_said}
-use Rattle.path_core.specs.Handover.{sends, having_sent, sent_on}
-use Rattle.path_core.specs.Standing.{ack_out_ask, after_ack_out, answered_ack_out, ack_segment}
-use Rattle.path_core.specs.State.{PathState, end_at, goes_on, left, with_agenda}
-use Rattle.path_core.specs.Profile.{Profile}
-use Rattle.path_core.specs.Values.{Carried, values}
-use Rattle.path_core.specs.Choices.{is_side_a, item_at}
-use Rattle.path_core.specs.FastClose.{answered_fast_close, fast_close_of, having_fast_closed, with_fast_closed}
-use Rattle.path_core.specs.Addresses.{note_of, with_noted, having_noted, answered_note}
-use Rattle.path_agenda.specs.declared.notice.OwnNotice.{OwnNotice}
+use Rattle.path_core.specs.FastClose.{fast_close_of}
+use Rattle.path_core.specs.Addresses.{note_of}
 use Rattle.world_laws.proofs.Lanes.Doing.{has_last, with_fin_sent, fin_goes, wants_ack_out, with_plain_pair, sends_plain_pair, plain_pair_goes, plain_pair_told}
 use Rattle.world_laws.proofs.Lanes.Growing.{receiver_stays, sender_pairs}
 use Rattle.world_laws.proofs.Lanes.Ending.{Did, did_nothing, told_end, finished_shows, unfinished_if}
@@ -81,7 +44,7 @@ pub record IsReady (p : PathState Carried) (ab ba : Lane) : Type 0 where
 
 -- where an end hears MP_FAIL its lane is open
 abbrev pub FailOpens : PathState Carried → Lane → Lane → Duty → Type 0
-FailOpens p ab ba (duties.Step (step_duties.Heard s index)) = item_at index (end_at s p).treated.items ≡ Some says.Fail → (pick s ab ba).opened ≡ true
+FailOpens p ab ba (Duty.Step (StepDuty.Heard s index)) = item_at index (end_at s p).treated.items ≡ Some Heard.Fail → (pick s ab ba).opened ≡ true
 FailOpens p ab ba _ = Unit {0}
 
 -- a rule more, which leaves the lanes alone
@@ -250,14 +213,14 @@ module _ (six : SixBooks) (others : Others) (p : PathState Carried) (ab ba : Lan
             (falls_told p.profile s e (with_plain_pair out (r.pos - 1)) back (paired_shows p.profile s (r.pos - 1) e out back shows)) (shows.acks.sub calm) (ready.first s) r
             (λ _ _. inl (plain_pair_told out (r.pos - 1) r.pos at.0)) is)
 
-    pub acknowledges_step : IsCalm → (ds : List Duty) → Steps (sends values s (ack_segment s p) p) (sent_on values s (ack_segment s p) (having_sent to_send.Ack p.clock (ack_segment s p) e) ds p)
-    acknowledges_step calm ds = occasion_step s (ack_segment s p) to_send.Ack ds (ack_said_shows calm e.tcp.send.nxt)
+    pub acknowledges_step : IsCalm → (ds : List Duty) → Steps (sends values s (ack_segment s p) p) (sent_on values s (ack_segment s p) (having_sent Occasion.Ack p.clock (ack_segment s p) e) ds p)
+    acknowledges_step calm ds = occasion_step s (ack_segment s p) Occasion.Ack ds (ack_said_shows calm e.tcp.send.nxt)
 
     pub unsent_step : IsCalm → (ds : List Duty) → Steps (sends values s (unsent_segment s p) p) (sent_on values s (unsent_segment s p) (having_sent_unsent s p) ds p)
-    unsent_step calm ds = record_sent calm (first_unsent e) (every_find is_unsent e.tcp.send.records shows.sender.pieces) to_send.Unsent ds
+    unsent_step calm ds = record_sent calm (first_unsent e) (every_find is_unsent e.tcp.send.records shows.sender.pieces) Occasion.Unsent ds
 
     pub again_step : IsCalm → Steps (sends values s (first_segment s p) p) (answered_again values s p)
-    again_step calm = record_sent calm (first_record e) (every_at 0 e.tcp.send.records shows.sender.pieces) to_send.First _
+    again_step calm = record_sent calm (first_record e) (every_at 0 e.tcp.send.records shows.sender.pieces) Occasion.First _
 
     carried_shows : IsCalm → (o : Option ℕ) → SegmentShows p.profile s back.acks out (carried_said p.profile s o e)
     carried_shows calm = carried_says p.profile s e back.acks out shows.acks.windows fell (shows.acks.sub calm)
@@ -265,7 +228,7 @@ module _ (six : SixBooks) (others : Others) (p : PathState Carried) (ab ba : Lan
     pub fast_close_step : IsCalm → Steps (sends values s (fast_close_of s p) p) (answered_fast_close values s p)
     fast_close_step calm =
         sent_step s (fast_close_of s p) (having_fast_closed s p) _ (carried_shows calm e.notices.carrier)
-        (closed (having_sent to_send.Ack p.clock (fast_close_of s p) e) (sent_end p.profile s out back to_send.Ack p.clock (fast_close_of s p) e shows))
+        (closed (having_sent Occasion.Ack p.clock (fast_close_of s p) e) (sent_end p.profile s out back Occasion.Ack p.clock (fast_close_of s p) e shows))
       where
         closed : (f : PathEnd) → EndShows p.profile s f out back → EndShows p.profile s (with_fast_closed f) out back
         closed f x = record { sender = x.sender; receiver = x.receiver; acks = x.acks; told = x.told; treated = x.treated; held = x.held; pairs = x.pairs }
@@ -276,13 +239,13 @@ module _ (six : SixBooks) (others : Others) (p : PathState Carried) (ab ba : Lan
     pub note_step : IsCalm → Steps (sends values s (note_of s p) p) (answered_note values s p)
     note_step calm =
         sent_step s (note_of s p) (having_noted s p) _ (noted_shows calm (first_of e.notices.queue))
-        (noted (having_sent to_send.Ack p.clock (note_of s p) e) (sent_end p.profile s out back to_send.Ack p.clock (note_of s p) e shows))
+        (noted (having_sent Occasion.Ack p.clock (note_of s p) e) (sent_end p.profile s out back Occasion.Ack p.clock (note_of s p) e shows))
       where
         noted : (f : PathEnd) → EndShows p.profile s f out back → EndShows p.profile s (with_noted f) out back
         noted f x = record { sender = x.sender; receiver = x.receiver; acks = x.acks; told = x.told; treated = x.treated; held = x.held; pairs = x.pairs }
 
-    pub syn_ack_step : (ds : List Duty) → Steps (sends values s (syn_ack_of s p) p) (sent_on values s (syn_ack_of s p) (having_sent to_send.SynAck p.clock (syn_ack_of s p) e) ds p)
-    syn_ack_step ds = occasion_step s (syn_ack_of s p) to_send.SynAck ds (syn_ack_says p.profile s e back.acks out shows.acks.windows fell)
+    pub syn_ack_step : (ds : List Duty) → Steps (sends values s (syn_ack_of s p) p) (sent_on values s (syn_ack_of s p) (having_sent Occasion.SynAck p.clock (syn_ack_of s p) e) ds p)
+    syn_ack_step ds = occasion_step s (syn_ack_of s p) Occasion.SynAck ds (syn_ack_says p.profile s e back.acks out shows.acks.windows fell)
 
     pub answer_step : IsCalm → Steps (sends values s (answer_of s p) p) (answered_answer values s p)
     answer_step calm = occasion_step s (answer_of s p) (answer_occasion e) _ (by e.tcp.due.syn_ack)
@@ -329,7 +292,7 @@ module _ (six : SixBooks) (others : Others) (p : PathState Carried) (ab ba : Lan
     pub data_fin_step : IsCalm → Steps (sends values s (data_fin_segment s p) p) (answered_data_fin_sent values s p)
     data_fin_step calm =
         sent_step s (data_fin_segment s p) (having_sent_data_fin s p) _ (ack_says p.profile s e back.acks out shows.acks.windows fell (shows.acks.sub calm) e.tcp.send.nxt e.sending.known_end shows.sender.known_end)
-        (ended (having_sent to_send.Ack p.clock (data_fin_segment s p) e) (sent_end p.profile s out back to_send.Ack p.clock (data_fin_segment s p) e shows))
+        (ended (having_sent Occasion.Ack p.clock (data_fin_segment s p) e) (sent_end p.profile s out back Occasion.Ack p.clock (data_fin_segment s p) e shows))
       where
         ended : (f : PathEnd) → EndShows p.profile s f out back → EndShows p.profile s (record f { sending = with_data_fin_sent f.sending }) out back
         ended f x = record { sender = x.sender; receiver = x.receiver; acks = x.acks; told = x.told; treated = x.treated; held = x.held; pairs = x.pairs }
@@ -362,7 +325,7 @@ module _ (six : SixBooks) (others : Others) (p : PathState Carried) (ab ba : Lan
           back_moves = stays back;
           sender = fin_goes out;
           receiver = receiver_stays back;
-          shows = sent_end p.profile s (with_fin_sent out) back to_send.Fin p.clock (fin_segment_of s p) (record e { tcp = after_finishing e.tcp }) finished;
+          shows = sent_end p.profile s (with_fin_sent out) back Occasion.Fin p.clock (fin_segment_of s p) (record e { tcp = after_finishing e.tcp }) finished;
         }
 
         paired : Lane
@@ -389,7 +352,7 @@ module _ (six : SixBooks) (others : Others) (p : PathState Carried) (ab ba : Lan
             is = rw (append-nil out.sent, append-nil out.datas, append-nil out.data_fins) refl;
           };
           receiver = receiver_stays back;
-          shows = sent_end p.profile s paired back to_send.Fin p.clock (fin_segment_of s p) (record e { tcp = after_finishing e.tcp })
+          shows = sent_end p.profile s paired back Occasion.Fin p.clock (fin_segment_of s p) (record e { tcp = after_finishing e.tcp })
               (paired_shows p.profile s (length out.sent) (record e { tcp = after_finishing e.tcp }) (with_fin_sent out) back finished);
         }
 
@@ -427,10 +390,10 @@ module _ (six : SixBooks) (others : Others) (p : PathState Carried) (ab ba : Lan
 
     join_by : (keys : Option KeyPair) (o : Option JoinSyn) (r : Reply) (ask : Ask) → IsQuiet six ask → IfSome o (λ asked. HasNone out.acks e.treated.window) → Steps ask (join_taken s keys o r p)
     join_by (Some keys) (Some asked) r ask is has =
-        end_step s ask (joined_by keys asked e) (replaced (duties.Send (send_duties.SynAck s)) p.agenda) is (joined_shows p.profile s out back keys asked e has shows)
-    join_by (Some keys) None r ask is has = agenda_step ask (replaced (duties.Send (send_duties.Refuse s)) p.agenda) is
-    join_by None (Some asked) r ask is has = end_step s ask (with_mode_refused r e) (replaced (duties.Send (send_duties.Refuse s)) p.agenda) is (refused_shows p.profile s out back r e shows)
-    join_by None None r ask is has = agenda_step ask (replaced (duties.Send (send_duties.Refuse s)) p.agenda) is
+        end_step s ask (joined_by keys asked e) (replaced (Duty.Send (SendDuty.SynAck s)) p.agenda) is (joined_shows p.profile s out back keys asked e has shows)
+    join_by (Some keys) None r ask is has = agenda_step ask (replaced (Duty.Send (SendDuty.Refuse s)) p.agenda) is
+    join_by None (Some asked) r ask is has = end_step s ask (with_mode_refused r e) (replaced (Duty.Send (SendDuty.Refuse s)) p.agenda) is (refused_shows p.profile s out back r e shows)
+    join_by None None r ask is has = agenda_step ask (replaced (Duty.Send (SendDuty.Refuse s)) p.agenda) is
 
     -- the reply to JoinHeard
     pub join_heard_step : (r : Reply) → MayAnswer s six → Steps (join_heard_ask s (asked_at s p) p) (answered_join_heard s r p)

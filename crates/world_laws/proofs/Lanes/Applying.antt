@@ -1,25 +1,9 @@
 -- What the steps of an application make of the two directions: it writes into the one, and reads from the other.
-use Rattle.std.proofs.Common.{◌≡◌, refl, sym, ◌∙◌, ap, ℕ, zero, suc, ◌≤◌, ◌||◌, not, Bool, true, false, if◌then◌else◌, List, [], ◌∷◌, ◌++◌, length, take, drop, replicate, arith}
-use Rattle.std.proofs.lemmas.Bool.{or_parts, both_ways, false≢true}
-use Rattle.std.proofs.lemmas.List.{append-nil, append_assoc}
-use Rattle.std.specs.List.{list_any}
-use Rattle.send_book.specs.declared.call.SendReply.TheVariants as send_replies
-use Rattle.send_book.specs.declared.mark.ByteMark.TheVariants.{Free}
-use Rattle.send_book.specs.Tried.{no_paths}
-use Rattle.send_book.specs.State.{Sending}
+use Rattle.world_laws.proofs.Words.{◌≡◌, refl, sym, ◌∙◌, ap, ℕ, zero, suc, ◌≤◌, ◌||◌, not, Bool, true, false, if◌then◌else◌, List, [], ◌∷◌, ◌++◌, length, take}
+use Rattle.world_laws.proofs.Words.{drop, replicate, arith, or_parts, both_ways, false≢true, append-nil, append_assoc, list_any, ReassemblyReply, Sending, Free}
+use Rattle.world_laws.proofs.Words.{no_paths, SendReply, Note, Reply, is_nil, AppDuty, AppState, app_stands, bytes_in, ends_in, app_settled, taken_in}
+use Rattle.world_laws.proofs.Words.{IsAppSettled, is_done, Reader, takes_read, if_so, read_by, was_told, tells_end, note_tells, bytes_noted, tells_stop}
 use Rattle.send_book.specs.Steps as send
-use Rattle.reassembly_book.specs.declared.call.ReassemblyReply.{ReassemblyReply}
-use Rattle.reassembly_book.specs.declared.call.ReassemblyReply.TheVariants as reassembly_replies
-use Rattle.stream_lanes.specs.Streams.{Reader, takes_read, is_done}
-use Rattle.actor_desk.specs.declared.ask.Note.{Note}
-use Rattle.actor_desk.specs.declared.ask.Reply.TheVariants as replies
-use Rattle.stream_apps.specs.declared.duty.AppDuty.{AppDuty}
-use Rattle.stream_apps.specs.declared.duty.AppDuty.TheVariants as duties
-use Rattle.stream_apps.specs.Apps.{AppState}
-use Rattle.stream_apps.specs.AppSteps.{app_stands, app_settled, taken_in, bytes_in, ends_in}
-use Rattle.stream_apps.specs.Turns.{IsAppSettled}
-use Rattle.actor_desk.specs.Words.{is_nil}
-use Rattle.world_laws.specs.Outcomes.{note_tells, was_told, tells_end, tells_stop, bytes_noted, read_by}
 
 -- ---- lists that grow
 
@@ -64,13 +48,8 @@ pub record Reads (told : Bool) (notes : List Note) (r : Reader) : Type 0 where
 -- ---- the agenda
 
 same_stands : (d : AppDuty) (ds : List AppDuty) (a : AppState) → app_stands d a ≡ true → app_stands d (record a { agenda = d ∷ ds }) ≡ true
-same_stands duties.FastClose ds a is = is
-same_stands duties.AbortSend ds a is = is
-same_stands duties.AbortReceive ds a is = is
-same_stands duties.Write ds a is = is
-same_stands duties.Close ds a is = is
-same_stands duties.Read ds a is = is
-same_stands duties.End ds a is = is
+same_stands AppDuty.FastClose ds a is = is
+same_stands _ ds a is = is
 
 -- settling changes the agenda alone, and what then stands first comes to something
 pub record Settles (a b : AppState) : Type 0 where
@@ -96,7 +75,7 @@ taken_front (suc count) (suc buffer) [] most = absurd (omega (arith, most))
 taken_front (suc count) (suc buffer) (x ∷ rest) most = ap (λ xs. x ∷ xs) (taken_front count buffer rest (omega (arith, most)))
 
 pub writes_more : (file rest : List ℕ) (buffer : ℕ) (b : Sending) → not (is_nil rest) ≡ true → Writes file rest b
-    → Writes file (drop (taken_in (replies.Send (send.write_reply (take buffer rest) b))) rest) (send.after_write (take buffer rest) b)
+    → Writes file (drop (taken_in (Reply.Send (send.write_reply (take buffer rest) b))) rest) (send.after_write (take buffer rest) b)
 writes_more file rest buffer b some h = by (b.closed || b.aborted) refl
   where
     nonempty : (xs : List ℕ) → not (is_nil xs) ≡ true → xs ≡ [] → ⊥
@@ -104,7 +83,7 @@ writes_more file rest buffer b some h = by (b.closed || b.aborted) refl
     nonempty (x ∷ xs) is e = cc
 
     by : (shut : Bool) → (b.closed || b.aborted) ≡ shut
-        → Writes file (drop (taken_in (replies.Send (if shut then send_replies.Shut else send_replies.Taken (send.bytes_taken (take buffer rest) b)))) rest)
+        → Writes file (drop (taken_in (Reply.Send (if shut then SendReply.Shut else SendReply.Taken (send.bytes_taken (take buffer rest) b)))) rest)
         (if shut then b else record b {
           written = b.written ++ take (send.bytes_taken (take buffer rest) b) (take buffer rest);
           marks = b.marks ++ replicate (send.bytes_taken (take buffer rest) b) (Free no_paths);
@@ -117,21 +96,17 @@ writes_more file rest buffer b some h = by (b.closed || b.aborted) refl
     }
 
 pub closes : (file : List ℕ) (b : Sending) → Writes file [] b → Writes file [] (send.after_close b)
-closes file b h = by b.aborted
-  where
-    by : (shut : Bool) → Writes file [] (if shut then b else record b { closed = true })
-    by true = h
-    by false = record { prefix = h.prefix; whole = λ closed. refl }
+closes file b h = if_so (Writes file []) b.aborted b (record b { closed = true }) h (record { prefix = h.prefix; whole = λ closed. refl })
 
 -- ---- reading
 
 -- the note of a read adds to the reader what the reply says
-pub reads_more : (told : Bool) (notes : List Note) (r : Reader) (reply : ReassemblyReply) (n : Note) → n.reply ≡ replies.Reassembly reply → Reads told notes r
-    → Reads (told || ends_in (replies.Reassembly reply)) (notes ++ n ∷ []) (takes_read reply r)
+pub reads_more : (told : Bool) (notes : List Note) (r : Reader) (reply : ReassemblyReply) (n : Note) → n.reply ≡ Reply.Reassembly reply → Reads told notes r
+    → Reads (told || ends_in (Reply.Reassembly reply)) (notes ++ n ∷ []) (takes_read reply r)
 reads_more told notes r reply n is h = by reply is
   where
-    other : (reply : ReassemblyReply) → n.reply ≡ replies.Reassembly reply → bytes_in (replies.Reassembly reply) ≡ [] → tells_end (replies.Reassembly reply) ≡ false → tells_stop (replies.Reassembly reply) ≡ false
-        → ends_in (replies.Reassembly reply) ≡ false → Reads (told || ends_in (replies.Reassembly reply)) (notes ++ n ∷ []) r
+    other : (reply : ReassemblyReply) → n.reply ≡ Reply.Reassembly reply → bytes_in (Reply.Reassembly reply) ≡ [] → tells_end (Reply.Reassembly reply) ≡ false → tells_stop (Reply.Reassembly reply) ≡ false
+        → ends_in (Reply.Reassembly reply) ≡ false → Reads (told || ends_in (Reply.Reassembly reply)) (notes ++ n ∷ []) r
     other reply is bytes end stop ends = record {
       out_is = h.out_is ∙ sym (read_more notes n ∙ ap (λ x. read_by notes ++ bytes_in x) is ∙ ap (λ xs. read_by notes ++ xs) bytes ∙ append-nil (read_by notes));
       told_is = h.told_is ∙ sym (any_more (note_tells tells_end) notes n ∙ ap (λ x. was_told tells_end notes || tells_end x) is ∙ ap (λ b. was_told tells_end notes || b) end ∙ or_false (was_told tells_end notes));
@@ -139,32 +114,27 @@ reads_more told notes r reply n is h = by reply is
       done_is = ap (λ b. told || b) ends ∙ or_false told ∙ h.done_is;
     }
 
-    by : (reply : ReassemblyReply) → n.reply ≡ replies.Reassembly reply → Reads (told || ends_in (replies.Reassembly reply)) (notes ++ n ∷ []) (takes_read reply r)
-    by (reassembly_replies.Bytes bytes) is = record {
+    by : (reply : ReassemblyReply) → n.reply ≡ Reply.Reassembly reply → Reads (told || ends_in (Reply.Reassembly reply)) (notes ++ n ∷ []) (takes_read reply r)
+    by (ReassemblyReply.Bytes bytes) is = record {
       out_is = ap (λ xs. xs ++ bytes) h.out_is ∙ sym (read_more notes n ∙ ap (λ x. read_by notes ++ bytes_in x) is);
       told_is = h.told_is ∙ sym (any_more (note_tells tells_end) notes n ∙ ap (λ x. was_told tells_end notes || tells_end x) is ∙ or_false (was_told tells_end notes));
       stopped_is = h.stopped_is ∙ sym (any_more (note_tells tells_stop) notes n ∙ ap (λ x. was_told tells_stop notes || tells_stop x) is ∙ or_false (was_told tells_stop notes));
       done_is = or_false told ∙ h.done_is;
     }
-    by reassembly_replies.End is = record {
+    by ReassemblyReply.End is = record {
       out_is = h.out_is ∙ sym (read_more notes n ∙ ap (λ x. read_by notes ++ bytes_in x) is ∙ append-nil (read_by notes));
       told_is = sym (any_more (note_tells tells_end) notes n ∙ ap (λ x. was_told tells_end notes || tells_end x) is ∙ or_true (was_told tells_end notes));
       stopped_is = h.stopped_is ∙ sym (any_more (note_tells tells_stop) notes n ∙ ap (λ x. was_told tells_stop notes || tells_stop x) is ∙ or_false (was_told tells_stop notes));
       done_is = or_true told;
     }
-    by (reassembly_replies.Aborted by_peer) is = record {
+    by (ReassemblyReply.Aborted by_peer) is = record {
       out_is = h.out_is ∙ sym (read_more notes n ∙ ap (λ x. read_by notes ++ bytes_in x) is ∙ append-nil (read_by notes));
       told_is = h.told_is ∙ sym (any_more (note_tells tells_end) notes n ∙ ap (λ x. was_told tells_end notes || tells_end x) is ∙ or_false (was_told tells_end notes));
       stopped_is = sym (any_more (note_tells tells_stop) notes n ∙ ap (λ x. was_told tells_stop notes || tells_stop x) is ∙ or_true (was_told tells_stop notes));
       done_is = or_true told ∙ sym (or_true r.told);
     }
-    by (reassembly_replies.Placed count) is = other (reassembly_replies.Placed count) is refl refl refl refl
-    by (reassembly_replies.Beyond edge) is = other (reassembly_replies.Beyond edge) is refl refl refl refl
-    by (reassembly_replies.FinClash fin at) is = other (reassembly_replies.FinClash fin at) is refl refl refl refl
-    by reassembly_replies.FinSet is = other reassembly_replies.FinSet is refl refl refl refl
-    by reassembly_replies.NoneYet is = other reassembly_replies.NoneYet is refl refl refl refl
-    by (reassembly_replies.Ack next window) is = other (reassembly_replies.Ack next window) is refl refl refl refl
-    by reassembly_replies.Noted is = other reassembly_replies.Noted is refl refl refl refl
+    by (ReassemblyReply.Placed count) is = other (ReassemblyReply.Placed count) is refl refl refl refl
+    by reply is = other reply is refl refl refl refl
 
 -- a step at no reassembly book leaves the reader as it is
 pub reads_on : (told : Bool) (notes : List Note) (r : Reader) (n : Note) → bytes_in n.reply ≡ [] → tells_end n.reply ≡ false → tells_stop n.reply ≡ false

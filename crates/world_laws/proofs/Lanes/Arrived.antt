@@ -1,41 +1,15 @@
 -- A copy that arrives at an end: its payload is heard on the lane, and what the subflow makes of it shows there.
-use Rattle.std.proofs.Common.{◌≡◌, refl, sym, ap, subst, ℕ, ◌+◌, ◌-◌, inl, inr, ⊎_elim, Bool, true, false, if◌then◌else◌, Option, Some, None, List, [], ◌∷◌, length, arith, ◌∙◌}
-use Rattle.std.proofs.lemmas.Bool.{false≢true}
-use Rattle.std.proofs.lemmas.Option.{same_Some}
-use Rattle.std.specs.Option.{IfSome, option_map}
+use Rattle.world_laws.proofs.Words.{◌≡◌, refl, sym, ◌∙◌, ap, subst, ℕ, ◌+◌, ◌-◌, inl, inr, ⊎_elim, Bool, true, false, if◌then◌else◌, Option, Some, None, List}
+use Rattle.world_laws.proofs.Words.{[], ◌∷◌, length, arith, false≢true, same_Some, IfSome, Side, peer, JoinAnswer, KeptMapping, Receiving, after_accept}
+use Rattle.world_laws.proofs.Words.{AckKind, after_acknowledge, ack_kind, sample_of, Meaning, EndState, EndPhase, meaning_of, Copy, Hint, PlainSegment, meant}
+use Rattle.world_laws.proofs.Words.{window_told, At, Heard, is_nil, PathEnd, hint_of, items_of, owes_by, after_judged, asked_in, copy_of, judged_in, with_held}
+use Rattle.world_laws.proofs.Words.{owing_if, with_payload, acknowledged_in, is_joined, join_answer, join_asked, held_of, HeardOption, Profile, answered_in}
+use Rattle.world_laws.proofs.Words.{cleared_in, taken_as, with_answer, Modes, Every-map, Every-nil, AckCopy, Lane}
+use Rattle.std.specs.Option.{option_map}
 use Rattle.std.specs.Prelude.{unwrap_or}
-use Rattle.sides.specs.declared.side.Side.{Side}
-use Rattle.sides.specs.Side.{peer}
-use Rattle.dss_mapping.specs.declared.kept.KeptMapping.{KeptMapping}
-use Rattle.path_segments.specs.Laws.{meant, window_told}
-use Rattle.path_segments.specs.Spelled.{PlainSegment}
-use Rattle.subflow_recv.specs.Receiving.{after_accept, Receiving}
-use Rattle.subflow_send.specs.Rules.{ack_kind, after_acknowledge, sample_of}
-use Rattle.subflow_send.specs.declared.record.AckKind.{AckKind}
-use Rattle.subflow_send.specs.declared.record.AckKind.TheVariants as acks
-use Rattle.join_handshake.specs.declared.hearing.JoinAnswer.{JoinAnswer}
-use Rattle.subflow_tcp.specs.declared.handshake.State.TheVariants as phase
-use Rattle.subflow_tcp.specs.declared.segments.Hint.{Hint}
-use Rattle.subflow_tcp.specs.declared.verdicts.Meaning.{Meaning}
-use Rattle.subflow_tcp.specs.declared.verdicts.Meaning.TheVariants as means
-use Rattle.subflow_tcp.specs.Segments.{Copy}
-use Rattle.subflow_tcp.specs.Judging.{meaning_of}
-use Rattle.subflow_tcp.specs.State.{EndState}
 use Rattle.subflow_tcp.specs.Taking as taking
-use Rattle.subflow_tcp.specs.declared.handshake.State.{State as EndPhase}
-use Rattle.stream_lanes.specs.Lane.{Lane, AckCopy}
-use Rattle.stream_lanes.proofs.Lists.{Every-nil, Every-map}
-use Rattle.actor_desk.specs.Words.{is_nil}
-use Rattle.path_agenda.specs.declared.heard.Heard.{Heard}
-use Rattle.path_core.specs.Arrival.{asked_in, copy_of, owing_if, with_payload, judged_in, after_judged, acknowledged_in, with_held}
-use Rattle.path_core.specs.Judged.{is_taken, taken_as, after_join, answered_in, cleared_in, with_answer}
-use Rattle.path_core.specs.OptionsIn.{items_of, hint_of, owes_by}
-use Rattle.path_core.specs.DssIn.{HeardOption, held_of}
-use Rattle.path_core.specs.End.{PathEnd}
-use Rattle.path_core.specs.MpJoin.{is_joined, join_asked, join_answer}
-use Rattle.path_core.specs.Profile.{Profile}
+use Rattle.path_core.specs.Judged.{is_taken, after_join}
 use Rattle.path_core.proofs.Judgements.{judged_taken}
-use Rattle.path_core.specs.declared.modes.Modes.{Modes}
 use Rattle.world_laws.proofs.Lanes.Arriving.{Halves, options_say, options_hold, taken_both, syn_both, syn_ack_both}
 use Rattle.world_laws.proofs.Lanes.Ending.{Did, Alike, then_alike, alike_pairs}
 use Rattle.world_laws.proofs.Lanes.Growing.{SenderGoes, ReceiverGoes, Longer, sender_stays, receiver_stays, heard_longer, segment_longer, kept_longer}
@@ -44,7 +18,6 @@ use Rattle.world_laws.proofs.Lanes.Records.{acknowledged_shows}
 use Rattle.world_laws.proofs.Lanes.Roads.{Strolls, stays}
 use Rattle.world_laws.proofs.Lanes.Showing.{HasSub, HasNone, HasData, HasFin, Knowledge, knowledge_of, is_unfinished, AcksShow, SegmentShows, EndShows, PairsShow}
 use Rattle.world_laws.proofs.Lanes.RulesLeaveAlone.{sub_of_none}
-use Rattle.path_segments.specs.declared.position.HeardPosition.TheVariants.{At}
 
 -- the octets of a payload are on the lane, where they are held
 pub record Holding (c : Profile) (s : Side) (k : Knowledge) (live : List KeptMapping) (out back : Lane) (tcp : EndState) : Type 0 where
@@ -84,7 +57,7 @@ module _ (c : Profile) (s : Side) (k : Knowledge) (live : List KeptMapping) (out
 
   pub payload_held : (sg : PlainSegment) (m : Meaning) (tcp : EndState) → Fits (copy_of (meant sg)) (is_unfinished tcp.state) m → SegmentShows c (peer s) out.acks back sg → Halves c s k live out back tcp
       → Held (with_payload m sg.payload tcp)
-  payload_held sg (means.Taken pos acknowledged) tcp fits said h = by (is_nil sg.payload) refl
+  payload_held sg (Meaning.Taken pos acknowledged) tcp fits said h = by (is_nil sg.payload) refl
     where
       nonempty : (xs : List ℕ) → is_nil xs ≡ false → xs ≡ [] → ⊥
       nonempty [] is e = false≢true (sym is)
@@ -96,27 +69,27 @@ module _ (c : Profile) (s : Side) (k : Knowledge) (live : List KeptMapping) (out
           (λ none. absurd (nonempty sg.payload is none))
           (λ has. hold pos sg.payload tcp (subst (λ n. HasData back.datas n sg.payload) (same_Some sg.position pos fits.position_is) has) h)
           said.payload
-  payload_held sg means.Ignored tcp fits said h = not_held tcp h
+  payload_held sg Meaning.Ignored tcp fits said h = not_held tcp h
   payload_held sg _ tcp fits said h = not_held tcp h
 
 -- ---- each meaning
 
 same_phase : (m : Meaning) (octets : List ℕ) (tcp : EndState) → (with_payload m octets tcp).state ≡ tcp.state
-same_phase (means.Taken pos acknowledged) octets tcp = by (is_nil octets)
+same_phase (Meaning.Taken pos acknowledged) octets tcp = by (is_nil octets)
   where
     by : (b : Bool) → (if b then tcp else taking.after_holding pos octets tcp).state ≡ tcp.state
     by true = refl
     by false = refl
-same_phase means.Ignored octets tcp = refl
+same_phase Meaning.Ignored octets tcp = refl
 same_phase _ octets tcp = refl
 
 same_told : (m : Meaning) (octets : List ℕ) (tcp : EndState) → (with_payload m octets tcp).congestion ≡ tcp.congestion
-same_told (means.Taken pos acknowledged) octets tcp = by (is_nil octets)
+same_told (Meaning.Taken pos acknowledged) octets tcp = by (is_nil octets)
   where
     by : (b : Bool) → (if b then tcp else taking.after_holding pos octets tcp).congestion ≡ tcp.congestion
     by true = refl
     by false = refl
-same_told means.Ignored octets tcp = refl
+same_told Meaning.Ignored octets tcp = refl
 same_told _ octets tcp = refl
 
 module _ (c : Profile) (s : Side) (k : Knowledge) (live : List KeptMapping) (out back : Lane) where
@@ -125,13 +98,13 @@ module _ (c : Profile) (s : Side) (k : Knowledge) (live : List KeptMapping) (out
 
   killed : (tcp : EndState) → Both tcp → Both (taking.after_death false tcp)
   killed tcp h = record {
-    sender = state_shows c s k out tcp.state phase.Dead _ (λ no_more. absurd (false≢true no_more)) (acknowledged_shows c s k out tcp.send.nxt tcp.state tcp.send h.sender);
+    sender = state_shows c s k out tcp.state EndPhase.Dead _ (λ no_more. absurd (false≢true no_more)) (acknowledged_shows c s k out tcp.send.nxt tcp.state tcp.send h.sender);
     receiver = cut_shows tcp.fin_at live k.identity back (tcp.recv.edge - tcp.recv.edge) (omega arith) tcp.recv h.receiver;
   }
 
   arrived_both : (sg : PlainSegment) (m : Meaning) (hint : Hint) (now : ℕ) (tcp : EndState) → hint.keep ≡ false → Fits (copy_of (meant sg)) (is_unfinished tcp.state) m
       → SegmentShows c (peer s) out.acks back sg → Both tcp → Both (taking.after_arrival m hint now (copy_of (meant sg)) tcp)
-  arrived_both sg (means.Taken pos acknowledged) hint now tcp keep fits said h = taken_both c s k live out back pos acknowledged hint now (copy_of (meant sg)) tcp keep fin h
+  arrived_both sg (Meaning.Taken pos acknowledged) hint now tcp keep fits said h = taken_both c s k live out back pos acknowledged hint now (copy_of (meant sg)) tcp keep fin h
     where
       fin : sg.fin ≡ true → HasFin back.fins (pos + length sg.payload)
       fin is =
@@ -140,16 +113,12 @@ module _ (c : Profile) (s : Side) (k : Knowledge) (live : List KeptMapping) (out
           let same : sg.position ≡ pos = same_Some sg.position pos fits.position_is in
           let there : sg.position ≡ pos + length sg.payload = omega (arith, none, same) in
           subst (HasFin back.fins) there f.1
-  arrived_both sg (means.Accepts acknowledged) hint now tcp keep fits said h = syn_ack_both c s k live out back acknowledged hint now (copy_of (meant sg)) tcp keep (said.plain fits.0) fits.1 h
-  arrived_both sg means.Opens hint now tcp keep fits said h = syn_both c s k live out back hint (copy_of (meant sg)) tcp keep (said.plain fits.0) fits.1 h
-  arrived_both sg means.Kills hint now tcp keep fits said h = killed tcp h
-  arrived_both sg means.Ignored hint now tcp keep fits said h = h
-  arrived_both sg means.Unwanted hint now tcp keep fits said h = h
-  arrived_both sg means.RepeatedSyn hint now tcp keep fits said h = record { sender = h.sender; receiver = h.receiver }
-  arrived_both sg means.Outside hint now tcp keep fits said h = record { sender = h.sender; receiver = h.receiver }
-  arrived_both sg means.Challenged hint now tcp keep fits said h = record { sender = h.sender; receiver = h.receiver }
-  arrived_both sg means.Unacknowledging hint now tcp keep fits said h = record { sender = h.sender; receiver = h.receiver }
-  arrived_both sg means.Ahead hint now tcp keep fits said h = record { sender = h.sender; receiver = h.receiver }
+  arrived_both sg (Meaning.Accepts acknowledged) hint now tcp keep fits said h = syn_ack_both c s k live out back acknowledged hint now (copy_of (meant sg)) tcp keep (said.plain fits.0) fits.1 h
+  arrived_both sg Meaning.Opens hint now tcp keep fits said h = syn_both c s k live out back hint (copy_of (meant sg)) tcp keep (said.plain fits.0) fits.1 h
+  arrived_both sg Meaning.Kills hint now tcp keep fits said h = killed tcp h
+  arrived_both sg Meaning.Ignored hint now tcp keep fits said h = h
+  arrived_both sg Meaning.Unwanted hint now tcp keep fits said h = h
+  arrived_both sg _ hint now tcp keep fits said h = record { sender = h.sender; receiver = h.receiver }
 
   owing_both : (b : Bool) (tcp : EndState) → Both tcp → Both (owing_if b tcp)
   owing_both true tcp h = record { sender = h.sender; receiver = h.receiver }
@@ -158,17 +127,17 @@ module _ (c : Profile) (s : Side) (k : Knowledge) (live : List KeptMapping) (out
 -- the window that was told last is the copy's, or stays
 told_after : (P : ℕ → Type 0) (m : Meaning) (hint : Hint) (now : ℕ) (copy : Copy) (tcp : EndState) → P copy.window → P tcp.congestion.told.window
     → P (taking.after_arrival m hint now copy tcp).congestion.told.window
-told_after P (means.Taken pos acknowledged) hint now copy tcp new old = new
-told_after P (means.Accepts acknowledged) hint now copy tcp new old = new
-told_after P means.Opens hint now copy tcp new old = new
-told_after P means.Ignored hint now copy tcp new old = old
-told_after P means.Unwanted hint now copy tcp new old = old
-told_after P means.RepeatedSyn hint now copy tcp new old = old
-told_after P means.Outside hint now copy tcp new old = old
-told_after P means.Kills hint now copy tcp new old = old
-told_after P means.Challenged hint now copy tcp new old = old
-told_after P means.Unacknowledging hint now copy tcp new old = old
-told_after P means.Ahead hint now copy tcp new old = old
+told_after P (Meaning.Taken pos acknowledged) hint now copy tcp new old = new
+told_after P (Meaning.Accepts acknowledged) hint now copy tcp new old = new
+told_after P Meaning.Opens hint now copy tcp new old = new
+told_after P Meaning.Ignored hint now copy tcp new old = old
+told_after P Meaning.Unwanted hint now copy tcp new old = old
+told_after P Meaning.RepeatedSyn hint now copy tcp new old = old
+told_after P Meaning.Outside hint now copy tcp new old = old
+told_after P Meaning.Kills hint now copy tcp new old = old
+told_after P Meaning.Challenged hint now copy tcp new old = old
+told_after P Meaning.Unacknowledging hint now copy tcp new old = old
+told_after P Meaning.Ahead hint now copy tcp new old = old
 
 told_owing : (P : ℕ → Type 0) (b : Bool) (tcp : EndState) → P tcp.congestion.told.window → P (owing_if b tcp).congestion.told.window
 told_owing P true tcp h = h
@@ -180,10 +149,8 @@ payload_edge : (pos : ℕ) (hint : Hint) (copy : Copy) (tcp : EndState) → hint
 payload_edge pos hint copy tcp keep = ap (λ (b : Bool). (if taking.is_kept b tcp then after_accept pos copy.payload tcp.recv else tcp.recv).edge) keep
 
 kind_edge : (kind : AckKind) (since : Option ℕ) (now : ℕ) (tcp : EndState) → (taking.after_ack_kind kind since now tcp).recv ≡ tcp.recv
-kind_edge (acks.New octets) since now tcp = refl
-kind_edge acks.Duplicate since now tcp = refl
-kind_edge acks.Old since now tcp = refl
-kind_edge acks.Future since now tcp = refl
+kind_edge (AckKind.New octets) since now tcp = refl
+kind_edge _ since now tcp = refl
 
 ack_edge : (pos now : ℕ) (tcp : EndState) → (taking.after_acknowledgement pos now tcp).recv ≡ tcp.recv
 ack_edge pos now tcp = kind_edge (ack_kind pos tcp.send) (sample_of pos tcp.send) now (record tcp { send = after_acknowledge pos tcp.send })
@@ -193,24 +160,24 @@ row_edge true tcp = refl
 row_edge false tcp = refl
 
 arrival_edge : (m : Meaning) (hint : Hint) (now : ℕ) (copy : Copy) (tcp : EndState) → hint.keep ≡ false → (taking.after_arrival m hint now copy tcp).recv.edge ≡ tcp.recv.edge
-arrival_edge (means.Taken pos acknowledged) hint now copy tcp keep =
+arrival_edge (Meaning.Taken pos acknowledged) hint now copy tcp keep =
     let t : EndState = taking.after_established (taking.after_hearing (taking.after_payload pos hint copy tcp)) in
     let acked : EndState = taking.after_acknowledgement acknowledged now t in
     ap (λ (r : Receiving). r.edge) (row_edge (taking.is_duplicate (ack_kind acknowledged t.send) (taking.told_by hint copy) copy acked) acked)
     ∙ ap (λ (r : Receiving). r.edge) (ack_edge acknowledged now t) ∙ payload_edge pos hint copy tcp keep
-arrival_edge (means.Accepts acknowledged) hint now copy tcp keep =
-    let t : EndState = record (taking.after_hearing (taking.after_payload 1 hint copy tcp)) { state = phase.Established } in
+arrival_edge (Meaning.Accepts acknowledged) hint now copy tcp keep =
+    let t : EndState = record (taking.after_hearing (taking.after_payload 1 hint copy tcp)) { state = EndPhase.Established } in
     ap (λ (r : Receiving). r.edge) (ack_edge acknowledged now t) ∙ payload_edge 1 hint copy tcp keep
-arrival_edge means.Opens hint now copy tcp keep = payload_edge 1 hint copy tcp keep
+arrival_edge Meaning.Opens hint now copy tcp keep = payload_edge 1 hint copy tcp keep
 arrival_edge _ hint now copy tcp keep = refl
 
 held_edge : (m : Meaning) (octets : List ℕ) (tcp : EndState) → (with_payload m octets tcp).recv.edge ≡ tcp.recv.edge
-held_edge (means.Taken pos acknowledged) octets tcp = by (is_nil octets)
+held_edge (Meaning.Taken pos acknowledged) octets tcp = by (is_nil octets)
   where
     by : (b : Bool) → (if b then tcp else taking.after_holding pos octets tcp).recv.edge ≡ tcp.recv.edge
     by true = refl
     by false = refl
-held_edge means.Ignored octets tcp = refl
+held_edge Meaning.Ignored octets tcp = refl
 held_edge _ octets tcp = refl
 
 owing_edge : (b : Bool) (tcp : EndState) → (owing_if b tcp).recv.edge ≡ tcp.recv.edge
@@ -230,11 +197,11 @@ with_answer_alike None m = record { identity = refl; own = refl; peer = refl; fa
 with_answer_alike (Some answer) m = record { identity = refl; own = refl; peer = refl; failed = refl }
 
 answered_alike : (m : Meaning) (items : List Heard) (modes : Modes) → Alike (answered_in m items modes) modes
-answered_alike (means.Accepts acknowledged) items modes = with_answer_alike (join_answer items modes) modes
+answered_alike (Meaning.Accepts acknowledged) items modes = with_answer_alike (join_answer items modes) modes
 answered_alike _ items modes = record { identity = refl; own = refl; peer = refl; failed = refl }
 
 cleared_alike : (m : Meaning) (state : EndPhase) (modes : Modes) → Alike (cleared_in m state modes) modes
-cleared_alike (means.Taken position acknowledged) state modes = record { identity = refl; own = refl; peer = refl; failed = refl }
+cleared_alike (Meaning.Taken position acknowledged) state modes = record { identity = refl; own = refl; peer = refl; failed = refl }
 cleared_alike _ state modes = record { identity = refl; own = refl; peer = refl; failed = refl }
 
 join_alike : (joined : Bool) (items : List Heard) (m : Meaning) (e : PathEnd) → Alike (after_join joined items m e).modes e.modes
@@ -242,19 +209,19 @@ join_alike true items m e = then_alike _ (answered_in m items e.modes) e.modes (
 join_alike false items m e = record { identity = refl; own = refl; peer = refl; failed = refl }
 
 asked_alike : (m : Meaning) (options : List HeardOption) (modes : Modes) → Alike (asked_in m options modes) modes
-asked_alike means.Opens options modes = record { identity = refl; own = refl; peer = refl; failed = refl }
+asked_alike Meaning.Opens options modes = record { identity = refl; own = refl; peer = refl; failed = refl }
 asked_alike _ options modes = record { identity = refl; own = refl; peer = refl; failed = refl }
 
 -- what it acknowledges of the subflow shows where it is taken
 acknowledged_shows_in : (c : Profile) (from : Side) (acks : List AckCopy) (p : Lane) (sg : PlainSegment) (m : Meaning) (u : Bool) → Fits (copy_of (meant sg)) u m → SegmentShows c from acks p sg
     → HasSub acks ((if is_taken m then unwrap_or (copy_of (meant sg)).acknowledged 0 else 0) - 1) (window_told sg.syn sg.window)
-acknowledged_shows_in c from acks p sg (means.Taken position acknowledged) u fits said = by sg.acknowledged fits.acknowledged_is (said.sub fits.no_syn fits.no_reset)
+acknowledged_shows_in c from acks p sg (Meaning.Taken position acknowledged) u fits said = by sg.acknowledged fits.acknowledged_is (said.sub fits.no_syn fits.no_reset)
   where
     by : (o : Option ℕ) → acknowledged_in (option_map (λ n. At n) o) ≡ Some acknowledged → IfSome o (λ n. HasSub acks (n - 1) (window_told sg.syn sg.window))
         → HasSub acks (unwrap_or (acknowledged_in (option_map (λ n. At n) o)) 0 - 1) (window_told sg.syn sg.window)
     by None is has = cc
     by (Some n) is has = has
-acknowledged_shows_in c from acks p sg means.Ignored u fits said = sub_of_none _ said.window
+acknowledged_shows_in c from acks p sg Meaning.Ignored u fits said = sub_of_none _ said.window
 acknowledged_shows_in c from acks p sg _ u fits said = sub_of_none _ said.window
 
 -- ---- the end

@@ -1,42 +1,17 @@
 -- A copy that arrives: what the end makes of it at once, and what the lanes do then.
-use Rattle.std.proofs.Common.{◌≡◌, refl, sym, ap, subst, ℕ, suc, ◌+◌, ◌^◌, nat_le, nat_lt, inl, ⊎_elim, Bool, true, false, if◌then◌else◌, option_map, Option, Some, None, List, [], ◌∷◌, length, map, flat_map}
-use Rattle.std.proofs.lemmas.Bool.{both_ways}
-use Rattle.std.specs.Option.{IfSome}
-use Rattle.sides.specs.declared.side.Side.{Side}
-use Rattle.sides.specs.declared.side.Side.TheVariants.{A, B}
-use Rattle.sides.specs.Side.{peer}
-use Rattle.dss_mapping.specs.declared.kept.KeptMapping.{KeptMapping}
+use Rattle.world_laws.proofs.Words.{◌≡◌, refl, sym, ap, subst, ℕ, suc, ◌+◌, nat_lt, nat_le, inl, ⊎_elim, Bool, true, false, if◌then◌else◌, Option, Some, None}
+use Rattle.world_laws.proofs.Words.{List, [], ◌∷◌, length, map, ◌^◌, option_map, both_ways, IfSome, Side, A, B, peer, JoinForm, CapableKeys, NoKey, Sender}
+use Rattle.world_laws.proofs.Words.{Both, WithData, KeptMapping, after_accept, AckKind, after_acknowledge, ack_kind, sample_of, EndState, State, Copy, Hint}
+use Rattle.world_laws.proofs.Words.{PlainOption, Capable, Join, Dss, AddAddr, Remove, Prio, Fail, Reset, meant_option, meant_mapping, PathMapping, Bytes}
+use Rattle.world_laws.proofs.Words.{Infinite, Heard, PeerNotice, items_in, is_joined, join_items, ack_items, is_mapping, mapping_items, map_items, first_items}
+use Rattle.world_laws.proofs.Words.{held_if, map_held, key_held, held_in, checksum_heard, kept_of, key_items, Profile, Every-nil, Every-append, Every, AckCopy}
+use Rattle.world_laws.proofs.Words.{Lane, if_so}
+use Rattle.std.proofs.Common.{flat_map}
 use Rattle.loss_recovery.specs.declared.windows.Told.{Told}
-use Rattle.mptcp_options.specs.declared.capable.CapableKeys.{CapableKeys}
-use Rattle.mptcp_options.specs.declared.capable.CapableKeys.TheVariants.{NoKey, Sender, Both, WithData}
-use Rattle.mptcp_options.specs.declared.join.JoinForm.{JoinForm}
-use Rattle.mptcp_options.specs.declared.join.JoinForm.TheVariants as joins
-use Rattle.path_segments.specs.declared.segment.PathMapping.{PathMapping}
-use Rattle.path_segments.specs.declared.segment.PathMapping.TheVariants.{Bytes, End, Infinite}
-use Rattle.path_segments.specs.declared.segment.PathOption.TheVariants.{Capable, Join, Dss, AddAddr, Remove, Prio, Fail, FastClose, Reset}
-use Rattle.path_segments.specs.Laws.{meant_option, meant_mapping}
-use Rattle.path_segments.specs.Options.{PlainOption}
-use Rattle.subflow_recv.specs.Receiving.{after_accept}
-use Rattle.subflow_send.specs.declared.record.AckKind.{AckKind}
-use Rattle.subflow_send.specs.declared.record.AckKind.TheVariants as acks
-use Rattle.subflow_send.specs.Rules.{after_acknowledge, ack_kind, sample_of}
-use Rattle.subflow_tcp.specs.declared.handshake.State.TheVariants as phase
-use Rattle.subflow_tcp.specs.declared.segments.Hint.{Hint}
-use Rattle.subflow_tcp.specs.Segments.{Copy}
-use Rattle.subflow_tcp.specs.State.{EndState}
+use Rattle.path_segments.specs.declared.segment.PathMapping.TheVariants.{End}
+use Rattle.path_segments.specs.declared.segment.PathOption.TheVariants.{FastClose}
 use Rattle.subflow_tcp.specs.States as states
 use Rattle.subflow_tcp.specs.Taking as taking
-use Rattle.stream_lanes.specs.Lane.{AckCopy, Lane}
-use Rattle.stream_lanes.specs.Words.{Every}
-use Rattle.stream_lanes.proofs.Lists.{Every-nil, Every-append}
-use Rattle.path_agenda.specs.declared.heard.Heard.{Heard}
-use Rattle.path_agenda.specs.declared.heard.Heard.TheVariants as says
-use Rattle.path_agenda.specs.declared.notice.PeerNotice.TheVariants as notes
-use Rattle.path_core.specs.DssIn.{ack_items, is_mapping, mapping_items, map_items, first_items, held_if, map_held, key_held, held_in, checksum_heard, kept_of}
-use Rattle.path_core.specs.MpCapable.{key_items}
-use Rattle.path_core.specs.MpJoin.{join_items, is_joined}
-use Rattle.path_core.specs.OptionsIn.{items_in}
-use Rattle.path_core.specs.Profile.{Profile}
 use Rattle.world_laws.proofs.Lanes.Hearing.{state_shows, handshake_back, fin_acked_back}
 use Rattle.world_laws.proofs.Announcements.NothingKnown.{noted, removed_noted, address_noted}
 use Rattle.world_laws.proofs.Lanes.Records.{acknowledged_shows, every_cons}
@@ -56,11 +31,7 @@ module _ (acks : List AckCopy) (p : Lane) (window : ℕ) where
   said_if false item h = Every-nil _
 
   mapping_says : (place position len : ℕ) → Says (mapping_items place position len false)
-  mapping_says place position len = by (is_mapping place position len)
-    where
-      by : (b : Bool) → Says (if b then says.Mapping false ∷ [] else [])
-      by true = one (says.Mapping false) tt
-      by false = Every-nil _
+  mapping_says place position len = if_so Says (is_mapping place position len) (Heard.Mapping false ∷ []) [] (one (Heard.Mapping false) tt) (Every-nil _)
 
   first_says : (len : ℕ) → Says (first_items len)
   first_says len = by (nat_lt 0 len) (mapping_says 0 1 len)
@@ -73,12 +44,12 @@ module _ (acks : List AckCopy) (p : Lane) (window : ℕ) where
   map_says c from None h = Every-nil _
   map_says c from (Some (Bytes place position len true checksum)) h = absurd h
   map_says c from (Some (Bytes place position len false checksum)) h = mapping_says place position len
-  map_says c from (Some (End place checksum)) h = said_if (nat_le place (2 ^ 62)) (says.DataFin place) h
-  map_says c from (Some (Infinite place position)) h = said_if (nat_lt place (2 ^ 62)) (says.InfiniteMapping place (Some position)) h
+  map_says c from (Some (End place checksum)) h = said_if (nat_le place (2 ^ 62)) (Heard.DataFin place) h
+  map_says c from (Some (Infinite place position)) h = said_if (nat_lt place (2 ^ 62)) (Heard.InfiniteMapping place (Some position)) h
 
   acks_say : (o : Option ℕ) → IfSome o (λ n. HasAck acks n window) → Says (ack_items (option_map (λ n. Some n) o) window)
   acks_say None h = Every-nil _
-  acks_say (Some n) h = said_if (nat_lt n (2 ^ 62)) (says.DataAck n window) h
+  acks_say (Some n) h = said_if (nat_lt n (2 ^ 62)) (Heard.DataAck n window) h
 
   keys_say : (s : Side) (keys : CapableKeys) → Says (key_items s keys)
   keys_say A NoKey = Every-nil _
@@ -91,12 +62,12 @@ module _ (acks : List AckCopy) (p : Lane) (window : ℕ) where
   keys_say B (WithData sender receiver len checksum) = every_cons _ _ tt (first_says len)
 
   join_says : (s : Side) (form : JoinForm) → Says (join_items s form)
-  join_says A (joins.Answer backup id hmac nonce) = one _ tt
-  join_says A (joins.Syn backup id token nonce) = Every-nil _
-  join_says A (joins.Third hmac) = Every-nil _
-  join_says B (joins.Syn backup id token nonce) = one _ tt
-  join_says B (joins.Third hmac) = one _ tt
-  join_says B (joins.Answer backup id hmac nonce) = Every-nil _
+  join_says A (JoinForm.Answer backup id hmac nonce) = one _ tt
+  join_says A (JoinForm.Syn backup id token nonce) = Every-nil _
+  join_says A (JoinForm.Third hmac) = Every-nil _
+  join_says B (JoinForm.Syn backup id token nonce) = one _ tt
+  join_says B (JoinForm.Third hmac) = one _ tt
+  join_says B (JoinForm.Answer backup id hmac nonce) = Every-nil _
 
   key_items_say : (joined : Bool) (s : Side) (keys : CapableKeys) → Says (if joined then [] else key_items s keys)
   key_items_say true s keys = Every-nil _
@@ -104,13 +75,13 @@ module _ (acks : List AckCopy) (p : Lane) (window : ℕ) where
 
   option_says : (c : Profile) (from : Side) (joined : Bool) (s : Side) (o : PlainOption) → OptionShows c from window acks p o → Says (items_in joined s window (meant_option o))
   option_says c from joined s (Capable flag_a flag_c keys) h = key_items_say joined s keys
-  option_says c from joined s (Dss next mapping) h = every_cons says.Dss _ tt (Every-append (acks_say next h.0) (map_says c from mapping h.1))
+  option_says c from joined s (Dss next mapping) h = every_cons Heard.Dss _ tt (Every-append (acks_say next h.0) (map_says c from mapping h.1))
   option_says c from joined s (Join form) h = join_says s form
   option_says c from joined s (AddAddr echo id address port hmac) h = address_noted (λ notice. tt) echo id address port hmac
   option_says c from joined s (Remove ids) h = removed_noted (λ notice. tt) ids
-  option_says c from joined s (Prio backup) h = noted (λ notice. tt) (notes.Prio backup)
-  option_says c from joined s (Fail place) h = one says.Fail h
-  option_says c from joined s (FastClose key) h = one (says.FastClose key) tt
+  option_says c from joined s (Prio backup) h = noted (λ notice. tt) (PeerNotice.Prio backup)
+  option_says c from joined s (Fail place) h = one Heard.Fail h
+  option_says c from joined s (FastClose key) h = one (Heard.FastClose key) tt
   option_says c from joined s (Reset transient reason) h = Every-nil _
 
   pub options_say : (c : Profile) (from : Side) (joined : Bool) (s : Side) (os : List PlainOption) → Every (OptionShows c from window acks p) os → Says (flat_map (items_in joined s window) (map meant_option os))
@@ -123,18 +94,14 @@ module _ (c : Profile) (window : ℕ) (acks : List AckCopy) (p : Lane) where
   Held kept = Every (HeldShows c p.sent p.datas) kept
 
   if_held : (s : Side) (place position len : ℕ) (checksum : Option ℕ) → HasMapping p.datas place position len → IsSummed c (peer s) p.sent place position len (checksum_heard checksum) → Held (held_if c s place position len false checksum)
-  if_held s place position len checksum h u = by (is_mapping place position len)
-    where
-      by : (b : Bool) → Held (if b then kept_of c s place position len false (checksum_heard checksum) ∷ [] else [])
-      by true = every_cons _ [] (h, refl, record { within = u.within; right = λ uses. sym (u.right uses) }) (Every-nil _)
-      by false = Every-nil _
+  if_held s place position len checksum h u =
+      if_so Held (is_mapping place position len) (kept_of c s place position len false (checksum_heard checksum) ∷ []) []
+      (every_cons _ [] (h, refl, record { within = u.within; right = λ uses. sym (u.right uses) }) (Every-nil _)) (Every-nil _)
 
   map_holds : (s : Side) (o : Option (PathMapping ℕ)) → MappingShows c (peer s) o p → Held (map_held c s (option_map meant_mapping o))
-  map_holds s None h = Every-nil _
   map_holds s (Some (Bytes place position len true checksum)) h = absurd h
   map_holds s (Some (Bytes place position len false checksum)) h = if_held s place position len checksum h.0 h.1
-  map_holds s (Some (End place checksum)) h = Every-nil _
-  map_holds s (Some (Infinite place position)) h = Every-nil _
+  map_holds s _ h = Every-nil _
 
   keys_hold : (s : Side) (keys : CapableKeys) → KeysShow c (peer s) keys p → Held (key_held c s keys)
   keys_hold A NoKey h = Every-nil _
@@ -151,19 +118,9 @@ module _ (c : Profile) (window : ℕ) (acks : List AckCopy) (p : Lane) where
       by false holds = Every-nil _
 
   option_holds : (s : Side) (o : PlainOption) → OptionShows c (peer s) window acks p o → Held (held_in c s (meant_option o))
-  option_holds s (Capable flag_a flag_c keys) h = by (is_joined c)
-    where
-      by : (joined : Bool) → Held (if joined then [] else key_held c s keys)
-      by true = Every-nil _
-      by false = keys_hold s keys h
+  option_holds s (Capable flag_a flag_c keys) h = if_so Held (is_joined c) [] (key_held c s keys) (Every-nil _) (keys_hold s keys h)
   option_holds s (Dss next mapping) h = map_holds s mapping h.1
-  option_holds s (Join form) h = Every-nil _
-  option_holds s (AddAddr echo id address port hmac) h = Every-nil _
-  option_holds s (Remove ids) h = Every-nil _
-  option_holds s (Prio backup) h = Every-nil _
-  option_holds s (Fail place) h = Every-nil _
-  option_holds s (FastClose key) h = Every-nil _
-  option_holds s (Reset transient reason) h = Every-nil _
+  option_holds s _ h = Every-nil _
 
   pub options_hold : (s : Side) (os : List PlainOption) → Every (OptionShows c (peer s) window acks p) os → Held (flat_map (held_in c s) (map meant_option os))
   options_hold s [] h = Every-nil _
@@ -187,21 +144,19 @@ module _ (c : Profile) (s : Side) (k : Knowledge) (live : List KeptMapping) (out
       v = acknowledged_shows c s k out pos tcp.state tcp.send h.sender
 
       by : (kind : AckKind) → Halved (taking.after_ack_kind kind (sample_of pos tcp.send) now (record tcp { send = after_acknowledge pos tcp.send }))
-      by (acks.New octets) = record { sender = new (taking.is_fin_acked (after_acknowledge pos tcp.send)); receiver = h.receiver }
+      by (AckKind.New octets) = record { sender = new (taking.is_fin_acked (after_acknowledge pos tcp.send)); receiver = h.receiver }
         where
           new : (b : Bool) → SenderShows c s (if b then states.after_fin_acked tcp.state else tcp.state) (after_acknowledge pos tcp.send) k out
           new true = state_shows c s k out tcp.state _ _ (fin_acked_back tcp.state) v
           new false = v
-      by acks.Duplicate = record { sender = v; receiver = h.receiver }
-      by acks.Old = record { sender = v; receiver = h.receiver }
-      by acks.Future = record { sender = v; receiver = h.receiver }
+      by AckKind.Duplicate = record { sender = v; receiver = h.receiver }
+      by AckKind.Old = record { sender = v; receiver = h.receiver }
+      by AckKind.Future = record { sender = v; receiver = h.receiver }
 
   row_both : (kind : AckKind) (told : Told) (copy : Copy) (tcp : EndState) → Halved tcp → Halved (taking.after_row kind told copy tcp)
-  row_both kind told copy tcp h = by (taking.is_duplicate kind told copy tcp)
-    where
-      by : (b : Bool) → Halved (if b then taking.after_duplicate tcp else taking.after_interruption tcp)
-      by true = record { sender = h.sender; receiver = h.receiver }
-      by false = record { sender = h.sender; receiver = h.receiver }
+  row_both kind told copy tcp h =
+      if_so Halved (taking.is_duplicate kind told copy tcp) (taking.after_duplicate tcp) (taking.after_interruption tcp)
+      (record { sender = h.sender; receiver = h.receiver }) (record { sender = h.sender; receiver = h.receiver })
 
   -- the FIN of a copy is one of the lane
   payload_both : (pos : ℕ) (hint : Hint) (copy : Copy) (tcp : EndState) → hint.keep ≡ false → (copy.fin ≡ true → HasFin back.fins (pos + length copy.payload)) → Halved tcp
@@ -238,13 +193,13 @@ module _ (c : Profile) (s : Side) (k : Knowledge) (live : List KeptMapping) (out
   pub syn_both : (hint : Hint) (copy : Copy) (tcp : EndState) → hint.keep ≡ false → copy.fin ≡ false → (is_unfinished tcp.state ≡ true) → Halved tcp → Halved (taking.after_syn hint copy tcp)
   syn_both hint copy tcp keep fin un h =
       let p = payload_both 1 hint copy tcp keep (λ is. absurd (both_ways copy.fin fin is)) h in
-      record { sender = state_shows c s k out tcp.state phase.SynReceived tcp.send (λ x. un) p.sender; receiver = p.receiver }
+      record { sender = state_shows c s k out tcp.state State.SynReceived tcp.send (λ x. un) p.sender; receiver = p.receiver }
 
   pub syn_ack_both : (acknowledged : ℕ) (hint : Hint) (now : ℕ) (copy : Copy) (tcp : EndState) → hint.keep ≡ false → copy.fin ≡ false → (is_unfinished tcp.state ≡ true) → Halved tcp
       → Halved (taking.after_syn_ack acknowledged hint now copy tcp)
   syn_ack_both acknowledged hint now copy tcp keep fin un h =
       let p = payload_both 1 hint copy tcp keep (λ is. absurd (both_ways copy.fin fin is)) h in
-      let t : EndState = record (taking.after_hearing (taking.after_payload 1 hint copy tcp)) { state = phase.Established } in
-      let e : Halved t = record { sender = state_shows c s k out tcp.state phase.Established tcp.send (λ x. un) p.sender; receiver = p.receiver } in
+      let t : EndState = record (taking.after_hearing (taking.after_payload 1 hint copy tcp)) { state = State.Established } in
+      let e : Halved t = record { sender = state_shows c s k out tcp.state State.Established tcp.send (λ x. un) p.sender; receiver = p.receiver } in
       let a = acknowledged_both acknowledged now t e in
       record { sender = a.sender; receiver = a.receiver }

@@ -1,35 +1,13 @@
 -- The opened world shows in the two directions, and so does the world after every list of turns.
-use Rattle.std.proofs.Common.{◌≡◌, refl, sym, ◌∙◌, ap, subst, ℕ, zero, suc, ◌+◌, ◌<◌, inl, Bool, true, false, not, ◌&&◌, Option, Some, List, [], ◌∷◌, ◌++◌, length, replicate, set, arith, inr}
-use Rattle.std.proofs.lemmas.Bool.{false≢true, both_ways}
-use Rattle.std.proofs.lemmas.Option.{same_Some, slice_get_within}
-use Rattle.std.specs.List.{slice_get}
-use Rattle.sides.specs.declared.side.Side.{Side}
-use Rattle.sides.specs.declared.side.Side.TheVariants.{A, B}
-use Rattle.subflow_tcp.specs.declared.handshake.State.{State as EndPhase}
+use Rattle.world_laws.proofs.Words.{◌≡◌, refl, sym, ◌∙◌, ap, subst, ℕ, zero, suc, ◌+◌, ◌&&◌, not, inl, inr, Bool, true, false, Option, Some, List, [], ◌∷◌}
+use Rattle.world_laws.proofs.Words.{◌++◌, length, replicate, arith, ◌<◌, set, both_ways, false≢true, same_Some, slice_get_within, slice_get, Side, A, B}
+use Rattle.world_laws.proofs.Words.{EndPhase, new_end, lines_of, is_altered, start_of_turn, SixBooks, opened_books, AppState, start_of_app, untouched}
+use Rattle.world_laws.proofs.Words.{first_app_turn, opening_end, first_state, waiting_path, first_turn, PathState, with_agenda, IsSettled, Carried, values}
+use Rattle.world_laws.proofs.Words.{Profile, Every-nil, set_same, set_other, Duo, after_events, opening_over, Holds, AckCopy, Lane, lane_over, any_held, Reader}
+use Rattle.world_laws.proofs.Words.{ToB, ToA, Moves, Open, SendAck, PathPlan, Start, path_begins, opened_world, WorldState, Turn, after_turn, world_run}
 use Rattle.subflow_tcp.specs.declared.handshake.State.TheVariants.{Listen}
-use Rattle.subflow_tcp.specs.Opening.{new_end}
-use Rattle.stream_lanes.specs.Holding.{Holds}
-use Rattle.stream_lanes.specs.Lane.{AckCopy, Lane, lane_over}
-use Rattle.stream_lanes.specs.Moves.Move.{Open, SendAck}
-use Rattle.stream_lanes.specs.Streams.{Reader}
-use Rattle.stream_lanes.specs.Streams.StreamEvent.{Moves}
-use Rattle.stream_lanes.specs.Duo.{Modes, Duo, Event, after_events, opening_over}
-use Rattle.stream_lanes.specs.Duo.Event.{ToB, ToA}
-use Rattle.stream_lanes.proofs.Duos.{any_held}
-use Rattle.stream_lanes.proofs.Lists.{Every-nil, set_same, set_other}
-use Rattle.actor_desk.specs.Desk.{SixBooks, opened_books}
-use Rattle.stream_apps.specs.Apps.{AppState}
-use Rattle.stream_apps.specs.AppSteps.{start_of_app}
-use Rattle.stream_apps.specs.Starts.{fast_close_of, untouched, first_app_turn}
-use Rattle.path_agenda.specs.Agenda.{start_of_turn}
-use Rattle.path_core.specs.End.{opening_end}
-use Rattle.path_core.specs.Start.{first_state, waiting_path, first_turn}
-use Rattle.path_core.specs.State.{PathState, with_agenda}
-use Rattle.path_core.specs.Profile.{Profile}
-use Rattle.path_core.specs.Turns.{IsSettled}
-use Rattle.path_core.specs.Values.{Carried, values}
-use Rattle.world_laws.specs.Openings.{PathPlan, Start, path_begins, opened_world}
-use Rattle.world_laws.specs.Worlds.{WorldState, Turn, after_turn, world_run}
+use Rattle.stream_lanes.specs.Duo.{Modes, Event}
+use Rattle.stream_apps.specs.Starts.{fast_close_of}
 use Rattle.world_laws.proofs.Lanes.Applying.{Reads, settled_app}
 use Rattle.world_laws.proofs.Worlds.Casts.{first_cast, first_fare, opened_is, walker_there}
 use Rattle.world_laws.proofs.Lanes.EveryTurn.{settled_first, beside, beside_is, same_there, same_there_sent, each_turn_shows}
@@ -44,8 +22,6 @@ use Rattle.world_laws.proofs.Lanes.Showing.{HasAck, HasSub, HasNone, Under, EndS
 use Rattle.world_laws.proofs.Lanes.Strolling.{Strolled, strolls_held, events_held, lanes_moved}
 use Rattle.world_laws.proofs.Places.UntouchedTillAsked.{Granted, silent_so}
 use Rattle.world_laws.proofs.Worlds.Steady.{always_steady}
-use Rattle.link_model.specs.Steps.{lines_of}
-use Rattle.link_model.specs.Fate.{is_altered}
 
 -- ---- the lanes before the first turn
 

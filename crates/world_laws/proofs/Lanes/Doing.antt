@@ -1,28 +1,17 @@
 -- What an end does: the lanes go on by what its sender's half and its receiver's half do, and show the end as it is then.
-use Rattle.stream_lanes.specs.Moves.{sub_next, Move, place_by, shifted, hears_sub as hears_by_sub, sends_fin_pair, sends_altered, bytes_of, cells_from, hears, hears_data_fin, sends_piece, is_whole, known, later_end, takes_grant, takes_ack_out, ack_copy}
-use Rattle.std.proofs.Common.{◌≡◌, refl, sym, ◌∙◌, ap, ℕ, suc, ◌+◌, ◌-◌, ◌*◌, ◌/◌, ◌%◌, ◌^◌, ◌<◌, ◌≤◌, min, ◌&&◌, nat_le, nat_lt, Bool, true, false, if◌then◌else◌, Option, Some, List, [], ◌∷◌, ◌++◌, length, take, drop, arith, subst}
-use Rattle.std.proofs.lemmas.Bool.{and_from, le-leb, lt-ltb}
-use Rattle.std.proofs.lemmas.List.{append-nil, append_assoc}
-use Rattle.std.specs.List.{slice_get}
-use Rattle.sides.specs.declared.side.Side.{Side}
-use Rattle.send_book.specs.declared.call.Span.{Span}
-use Rattle.send_book.specs.declared.call.Why.{Why}
-use Rattle.send_book.specs.declared.call.SendReply.TheVariants as send_replies
-use Rattle.reassembly_book.specs.declared.call.ReassemblyReply.TheVariants as reassembly_replies
-use Rattle.stream_lanes.specs.Lane.{Cell, Mapping, Pair, DataCopy, AckCopy, Lane}
-use Rattle.stream_lanes.specs.Lane.Ask.{Nothing, AskGrant, AskAckIn, AskFin, AskAckOut}
-use Rattle.stream_lanes.specs.Moves.Move.{SendPair, SendPlainPair, SendFinPair, HearSubAck, WantGrant, HearAck, SendPiece, SendAltered, SendDataFin, SendFin, HearDataFin, WantAckOut, SendAck, WantFin}
+use Rattle.world_laws.proofs.Words.{◌≡◌, refl, sym, ◌∙◌, ap, subst, ℕ, suc, ◌+◌, ◌-◌, ◌≤◌, ◌&&◌, min, nat_lt, nat_le, Bool, true, false, if◌then◌else◌, Option}
+use Rattle.world_laws.proofs.Words.{Some, List, [], ◌∷◌, ◌++◌, length, take, drop, arith, ◌<◌, ◌^◌, ◌*◌, ◌/◌, ◌%◌, lt-ltb, and_from, le-leb, append-nil}
+use Rattle.world_laws.proofs.Words.{append_assoc, slice_get, Side, dss_checksum, with_turned_bit, ReassemblyReply, Span, Why, SendReply, numbers_of}
+use Rattle.world_laws.proofs.Words.{bare_mapping, place_numbered, mapping_of, Profile, Has-more, Cell, Mapping, Pair, DataCopy, AckCopy, Lane, Move, place_by}
+use Rattle.world_laws.proofs.Words.{shifted, is_whole, sends_fin_pair, hears, sends_piece, sends_altered, hears_data_fin, ack_copy, takes_grant, takes_ack_out}
+use Rattle.world_laws.proofs.Words.{bytes_of, sub_next, cells_from, known, later_end, hears_by_sub, Nothing, AskGrant, AskAckIn, AskFin, AskAckOut, WantGrant}
+use Rattle.world_laws.proofs.Words.{HearAck, HearSubAck, SendPiece, SendAltered, SendDataFin, SendFin, SendPair, SendPlainPair, SendFinPair, HearDataFin}
+use Rattle.world_laws.proofs.Words.{WantFin, WantAckOut, SendAck}
 use Rattle.stream_lanes.specs.Words.{Has}
-use Rattle.stream_lanes.proofs.Lists.{Has-more}
 use Rattle.ones_sum.specs.Words.{with_bit_turned}
-use Rattle.segment_wire.specs.Changes.{with_turned_bit}
-use Rattle.path_segments.specs.Spelling.{numbers_of}
-use Rattle.path_core.specs.DssOut.{bare_mapping, place_numbered, mapping_of}
-use Rattle.path_core.specs.Profile.{Profile}
 use Rattle.world_laws.proofs.Lanes.Growing.{SenderGoes, ReceiverGoes}
 use Rattle.world_laws.proofs.Lanes.Roads.{moves, Strolls, one_move, then_strolls}
 use Rattle.world_laws.proofs.Lanes.Showing.{HasPair, HasAck, HasData, HasNumber, WindowShows, HasNone, HasSub, IsSummed}
-use Rattle.dss_checksum.specs.Checksum.{dss_checksum}
 
 -- the last one of a list
 last_there : {X : Type 0} (xs : List X) (x : X) → slice_get (xs ++ x ∷ []) (length xs) ≡ Some x
@@ -66,7 +55,7 @@ least a b most = omega (arith, most)
 -- the windows of the reply show on the lane after these moves
 module _ (next window sub : ℕ) (p : Lane) where
   abbrev pub told_lane : Lane
-  told_lane = takes_ack_out (reassembly_replies.Ack next window) p
+  told_lane = takes_ack_out (ReassemblyReply.Ack next window) p
 
   abbrev pub told_acks : List AckCopy
   told_acks = ack_copy next (32 * (window / 32)) sub told_lane ∷ ack_copy 0 (32 * (window / 32)) 0 told_lane ∷ ack_copy 0 (min 65535 window) 0 told_lane ∷ []
@@ -152,7 +141,7 @@ place_is c s place position len small = place_back (numbers_of c.spelling s).ids
 -- the piece is granted, and its segment may be sent from now on
 module _ (span : Span) (piece : List ℕ) (p : Lane) where
   abbrev pub granted_lane : Lane
-  granted_lane = takes_grant (send_replies.Granted span piece) p
+  granted_lane = takes_grant (SendReply.Granted span piece) p
 
   abbrev pub mapping_granted : Mapping
   mapping_granted = record { pos = length p.sent; place = span.from; len = length piece }
@@ -241,7 +230,7 @@ module _ (span : Span) (piece : List ℕ) (p : Lane) where
 -- the end that it told is sent from now on
 module _ (why : Why) (told : Option ℕ) (p : Lane) where
   abbrev pub refused_lane : Lane
-  refused_lane = takes_grant (send_replies.NoGrant why told) p
+  refused_lane = takes_grant (SendReply.NoGrant why told) p
 
   abbrev pub with_end : Lane
   with_end = record refused_lane { data_fins = p.data_fins ++ known (later_end told p.known_end) }

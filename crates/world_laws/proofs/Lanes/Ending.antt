@@ -1,64 +1,30 @@
 -- What each rule of an end makes of the lanes.
-use Rattle.std.proofs.Common.{◌≡◌, refl, sym, ap, subst, ℕ, suc, ◌^◌, ◌<◌, max, ◌||◌, inl, inr, ⊎_elim, true, false, Option, Some, None, List, [], ◌++◌, length, arith, ◌-◌, ◌+◌, ◌∙◌, ◌≤◌, ◌⊎◌, ◌∷◌, if◌then◌else◌, Bool, is_some}
-use Rattle.std.proofs.lemmas.Bool.{or_cases, or_left, or_right, both_ways, false≢true}
-use Rattle.std.proofs.lemmas.List.{append-nil}
-use Rattle.std.specs.Option.{IfSome}
+use Rattle.world_laws.proofs.Words.{◌≡◌, refl, sym, ◌∙◌, ap, subst, ℕ, suc, ◌+◌, ◌-◌, ◌≤◌, ◌||◌, max, inl, inr, ◌⊎◌, ⊎_elim, Bool, true, false, if◌then◌else◌}
+use Rattle.world_laws.proofs.Words.{Option, Some, None, List, [], ◌∷◌, ◌++◌, length, arith, is_some, ◌<◌, ◌^◌, or_cases, both_ways, false≢true, or_right}
+use Rattle.world_laws.proofs.Words.{or_left, append-nil, IfSome, Side, with_turned_bit, ReassemblyReply, Span, Why, SendReply, Receiving, Record, SendState}
+use Rattle.world_laws.proofs.Words.{RecordKind, Syn, Data, Fin, EndPhase, after_finishing, InfiniteMapping, is_open, Reply, PathEnd, after_ack_out, granted}
+use Rattle.world_laws.proofs.Words.{refused, granted_at, acked_in, Profile, Modes, told_last, Every-map, Every-push, IfSome-map, Has-more, Every, HasPlace}
+use Rattle.world_laws.proofs.Words.{Cell, Lane, takes_ack, sub_next, cells_from, known, later_end, Nothing}
 use Rattle.std.specs.Prelude.{filter}
-use Rattle.sides.specs.declared.side.Side.{Side}
-use Rattle.send_book.specs.declared.call.Span.{Span}
-use Rattle.send_book.specs.declared.call.Why.{Why}
-use Rattle.send_book.specs.declared.call.SendReply.TheVariants as send_replies
-use Rattle.reassembly_book.specs.declared.call.ReassemblyReply.TheVariants as reassembly_replies
-use Rattle.loss_recovery.specs.declared.windows.Congestion.{Congestion}
-use Rattle.loss_recovery.specs.declared.windows.Pending.{Pending}
 use Rattle.loss_recovery.specs.Windows as windows
-use Rattle.subflow_recv.specs.Receiving.{Receiving}
-use Rattle.subflow_send.specs.Records.{Record, SendState}
-use Rattle.subflow_send.specs.declared.record.RecordKind.{RecordKind}
-use Rattle.subflow_send.specs.declared.record.RecordKind.TheVariants.{Syn, Data, Fin}
-use Rattle.subflow_tcp.specs.declared.handshake.State.{State as EndPhase}
-use Rattle.subflow_tcp.specs.declared.handshake.State.TheVariants as phase
-use Rattle.subflow_tcp.specs.Closing.{after_finishing}
 use Rattle.subflow_tcp.specs.States as states
-use Rattle.stream_lanes.specs.Lane.{Lane, Cell}
-use Rattle.stream_lanes.specs.Lane.Ask.{Nothing}
-use Rattle.send_book.specs.declared.call.SendReply.{SendReply}
-use Rattle.stream_lanes.specs.Moves.{later_end, known, takes_ack, cells_from, sub_next}
-use Rattle.stream_lanes.specs.Words.{Every, Has}
-use Rattle.stream_lanes.proofs.Lists.{Every-map, Every-push, Has-more, IfSome-map}
-use Rattle.stream_lanes.specs.Holding.{HasPlace}
-use Rattle.actor_desk.specs.declared.ask.Reply.TheVariants as replies
-use Rattle.path_store.specs.declared.infinite_mapping.InfiniteMapping.{InfiniteMapping}
-use Rattle.path_core.specs.declared.modes.Modes.{Modes}
-use Rattle.path_core.specs.End.{PathEnd}
-use Rattle.path_core.specs.Emission.{granted, granted_at, refused}
-use Rattle.path_core.specs.Standing.{after_ack_out}
-use Rattle.path_core.specs.Profile.{Profile}
-use Rattle.path_core.specs.DataFin.{acked_in}
-use Rattle.path_core.specs.Choices.{told_last}
-use Rattle.path_store.specs.Granted.{is_open}
+use Rattle.stream_lanes.specs.Words.{Has}
 use Rattle.world_laws.proofs.Lanes.Doing.{copy_granted, altered_granted, turned_granted, place_is, told_lane, ack_moves, told_goes, told_windows, with_piece, granted_lane, sends_the_piece, piece_goes, refused_lane, with_end, sends_the_end, end_goes, with_fin_sent, fin_goes, length-granted, has_last, told_sub, granted_summed}
 use Rattle.world_laws.proofs.Lanes.Growing.{SenderGoes, ReceiverGoes, sender_stays, receiver_stays, Longer, sent_longer, data_longer, mapping_longer, fin_longer, same_edge, summed_longer, sender_pairs}
 use Rattle.world_laws.proofs.Lanes.Roads.{moves, Strolls, stays}
 use Rattle.world_laws.proofs.Lanes.SentRecords.{granted_sent, heard_sent, finished_sent}
 use Rattle.world_laws.proofs.Lanes.Showing.{HasNumber, HasFin, KindShows, RecordShows, is_unfinished, TreatedShows, EndShows, HasNone, IsAtEdge, IsGrantedTo, IsPastFin, OwnIs, PeerIs, PairsShow}
 use Rattle.world_laws.proofs.Lanes.Records.{every_cons, every_first, every_rest}
-use Rattle.segment_wire.specs.Changes.{with_turned_bit}
 
 -- an end that may finish hasn't finished
 pub unfinished_if : (state : EndPhase) → states.may_finish state ≡ true → is_unfinished state ≡ true
-unfinished_if phase.Established is = refl
-unfinished_if phase.CloseWait is = refl
-unfinished_if phase.Waiting is = refl
-unfinished_if phase.Listen is = refl
-unfinished_if phase.SynSent is = refl
-unfinished_if phase.SynReceived is = refl
-unfinished_if phase.FinWait1 is = absurd (false≢true is)
-unfinished_if phase.FinWait2 is = absurd (false≢true is)
-unfinished_if phase.Closing is = absurd (false≢true is)
-unfinished_if phase.LastAck is = absurd (false≢true is)
-unfinished_if phase.TimeWait is = absurd (false≢true is)
-unfinished_if phase.Dead is = absurd (false≢true is)
+unfinished_if EndPhase.FinWait1 is = absurd (false≢true is)
+unfinished_if EndPhase.FinWait2 is = absurd (false≢true is)
+unfinished_if EndPhase.Closing is = absurd (false≢true is)
+unfinished_if EndPhase.LastAck is = absurd (false≢true is)
+unfinished_if EndPhase.TimeWait is = absurd (false≢true is)
+unfinished_if EndPhase.Dead is = absurd (false≢true is)
+unfinished_if _ is = refl
 
 -- An end that did something: its lanes went on from where they were, after a call from these on by moves alone, and they show it.
 pub record Did (c : Profile) (s : Side) (e : PathEnd) (out out_called back back_called : Lane) : Type 0 where
@@ -139,7 +105,7 @@ module _ (c : Profile) (s : Side) (out back : Lane) where
       omega (arith, edge_is, more)
 
   pub told_end : (next window : ℕ) (e : PathEnd) → EndShows c s e out back
-      → Did c s (after_ack_out (replies.Reassembly (reassembly_replies.Ack next window)) e) out out back (told_lane next window (e.tcp.recv.edge - 1) back)
+      → Did c s (after_ack_out (Reply.Reassembly (ReassemblyReply.Ack next window)) e) out out back (told_lane next window (e.tcp.recv.edge - 1) back)
   told_end next window e h =
       let sub = e.tcp.recv.edge - 1 in
       record {
@@ -264,7 +230,7 @@ module _ (c : Profile) (s : Side) (out back : Lane) where
       }
 
   pub refused_end : (why : Why) (told : Option ℕ) (e : PathEnd) → EndShows c s e out back
-      → Did c s (refused (replies.Send (send_replies.NoGrant why told)) e) out (refused_lane why told out) back back
+      → Did c s (refused (Reply.Send (SendReply.NoGrant why told)) e) out (refused_lane why told out) back back
   refused_end why told e h =
       let q : Lane = with_end why told out in
       let g : SenderGoes out q = end_goes why told out in
@@ -368,9 +334,9 @@ module _ (c : Profile) (s : Side) (out back : Lane) where
 
   -- an acknowledgement changes what the lane's sender knows, and nothing else
   pub heard_end : (next : ℕ) (r : SendReply) (e : PathEnd) → EndShows c s e out back
-      → Did c s (record e { sending = acked_in next (replies.Send r) e.sending }) out (takes_ack next r out) back back
-  heard_end next (send_replies.Acked bytes fin) e h = record {
-    out_after = takes_ack next (send_replies.Acked bytes fin) out;
+      → Did c s (record e { sending = acked_in next (Reply.Send r) e.sending }) out (takes_ack next r out) back back
+  heard_end next (SendReply.Acked bytes fin) e h = record {
+    out_after = takes_ack next (SendReply.Acked bytes fin) out;
     back_after = back;
     out_moves = stays _;
     back_moves = stays back;
@@ -410,13 +376,13 @@ module _ (c : Profile) (s : Side) (out back : Lane) where
       held = h.held;
     };
   }
-  heard_end next (send_replies.Taken count) e h = idle_end e h
+  heard_end next (SendReply.Taken count) e h = idle_end e h
   heard_end next _ e h = idle_end e h
 
   -- one of nothing changes nothing that the end knows
   pub unheard_end : (r : SendReply) (e : PathEnd) → EndShows c s e out back → Did c s e out (takes_ack 0 r out) back back
-  unheard_end (send_replies.Acked bytes fin) e h = record {
-    out_after = takes_ack 0 (send_replies.Acked bytes fin) out;
+  unheard_end (SendReply.Acked bytes fin) e h = record {
+    out_after = takes_ack 0 (SendReply.Acked bytes fin) out;
     back_after = back;
     out_moves = stays _;
     back_moves = stays back;
@@ -456,7 +422,7 @@ module _ (c : Profile) (s : Side) (out back : Lane) where
       held = h.held;
     };
   }
-  unheard_end (send_replies.Taken count) e h = idle_end e h
+  unheard_end (SendReply.Taken count) e h = idle_end e h
   unheard_end _ e h = idle_end e h
 
   -- ---- the FIN
@@ -490,13 +456,8 @@ module _ (c : Profile) (s : Side) (out back : Lane) where
       }
     where
       finished_if : (state : EndPhase) → states.may_finish state ≡ true → is_unfinished (states.after_finish state) ≡ false
-      finished_if phase.Established is = refl
-      finished_if phase.CloseWait is = refl
+      finished_if EndPhase.Established is = refl
+      finished_if EndPhase.CloseWait is = refl
       finished_if _ is = absurd (false≢true is)
 
 -- ---- what leaves the lanes alone
-
--- the window that was told last stays
-grown_told : (growth : ℕ) (o : Option Pending) (c : Congestion) → (windows.grown_by growth o c).told ≡ c.told
-grown_told growth None c = refl
-grown_told growth (Some p) c = refl

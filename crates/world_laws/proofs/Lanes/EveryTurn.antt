@@ -1,41 +1,13 @@
 -- Every turn of the world is a turn of the two directions, and so is every list of turns from the opening on.
-use Rattle.std.proofs.Common.{◌≡◌, refl, sym, ◌∙◌, ap, subst, ℕ, zero, suc, ◌+◌, ◌^◌, ◌<◌, ◌≤◌, nat_lt, Bool, true, false, if◌then◌else◌, Option, Some, None, List, [], ◌∷◌, length, map, set, arith, ◌||◌, ◌==◌}
-use Rattle.std.proofs.lemmas.Bool.{lt-ltb, false≢true}
-use Rattle.std.proofs.lemmas.Option.{same_Some, slice_get_within}
-use Rattle.std.specs.List.{slice_get}
+use Rattle.world_laws.proofs.Words.{◌≡◌, refl, sym, ◌∙◌, ap, subst, ℕ, zero, suc, ◌+◌, ◌≤◌, ◌||◌, ◌==◌, nat_lt, Bool, true, false, if◌then◌else◌, Option, Some}
+use Rattle.world_laws.proofs.Words.{None, List, [], ◌∷◌, length, map, arith, ◌<◌, ◌^◌, set, lt-ltb, false≢true, same_Some, slice_get_within, slice_get, Side, A}
+use Rattle.world_laws.proofs.Words.{B, may_finish, start_of_turn, Duty, StepDuty, Ask, books_in, SixBooks, send_of, reply_of, after_ask, pick, AppDuty}
+use Rattle.world_laws.proofs.Words.{AppState, fresh_turn, start_of_app, app_ask, app_asks_first, app_next_round, FirstAppStands, stands, ask_for, passed}
+use Rattle.world_laws.proofs.Words.{answered, PathState, end_at, with_agenda, path_of, settled, settles_down, answers, asks_first, takes, next_round}
+use Rattle.world_laws.proofs.Words.{FirstStands, IsSettled, Carried, values, is_joined, Profile, in_map, set_same, set_other, From-put, Every, From, Duo, Holds}
+use Rattle.world_laws.proofs.Words.{Lane, Direction, Reader, App, Path, PathPlan, Start, path_begins, WorldState, Turn, asked, all_over, greatest, begins}
+use Rattle.world_laws.proofs.Words.{end_round, after_turn, note_of, answer_to}
 use Rattle.std.specs.Option.{option_map}
-use Rattle.sides.specs.declared.side.Side.{Side}
-use Rattle.sides.specs.declared.side.Side.TheVariants.{A, B}
-use Rattle.subflow_tcp.specs.States.{may_finish}
-use Rattle.stream_lanes.specs.Holding.{Holds}
-use Rattle.stream_lanes.specs.Lane.{Lane}
-use Rattle.stream_lanes.specs.Streams.{Reader, Direction}
-use Rattle.stream_lanes.specs.Duo.{Duo}
-use Rattle.stream_lanes.specs.Words.{Every, From}
-use Rattle.stream_lanes.proofs.Lists.{From-put, in_map, set_same, set_other}
-use Rattle.actor_desk.specs.declared.ask.Ask.{Ask}
-use Rattle.actor_desk.specs.Books.{books_in}
-use Rattle.actor_desk.specs.Desk.{SixBooks, send_of, reply_of, after_ask}
-use Rattle.actor_desk.specs.Words.{pick}
-use Rattle.stream_apps.specs.declared.duty.AppDuty.{AppDuty}
-use Rattle.stream_apps.specs.Apps.{AppState}
-use Rattle.stream_apps.specs.AppSteps.{app_ask, app_asks_first, app_next_round, fresh_turn, start_of_app}
-use Rattle.stream_apps.specs.Turns.{FirstAppStands}
-use Rattle.path_agenda.specs.declared.duty.Duty.{Duty}
-use Rattle.path_agenda.specs.declared.duty.Duty.TheVariants as duties
-use Rattle.path_agenda.specs.declared.duty.StepDuty.TheVariants as step_duties
-use Rattle.path_agenda.specs.Agenda.{start_of_turn}
-use Rattle.path_core.specs.Duties.{stands, ask_for, passed, answered}
-use Rattle.path_core.specs.MpJoin.{is_joined}
-use Rattle.path_core.specs.State.{PathState, path_of, with_agenda, end_at}
-use Rattle.path_core.specs.Profile.{Profile}
-use Rattle.path_core.specs.Steps.{settled, asks_first, answers, takes, settles_down, next_round}
-use Rattle.path_core.specs.Turns.{FirstStands, IsSettled}
-use Rattle.path_core.specs.Values.{Carried, values}
-use Rattle.world_laws.specs.declared.member.Member.TheVariants.{App, Path}
-use Rattle.world_laws.specs.Openings.{PathPlan, Start, path_begins}
-use Rattle.world_laws.specs.StampedBooks.{answer_to}
-use Rattle.world_laws.specs.Worlds.{WorldState, Turn, note_of, asked, all_over, greatest, begins, end_round, after_turn}
 use Rattle.world_laws.proofs.Lanes.Applying.{Reads, settled_app}
 use Rattle.world_laws.proofs.Lanes.Answering.{IsReady, FailOpens}
 use Rattle.world_laws.proofs.Worlds.Casts.{Walker, Cast, Fare, Every-put, world_of, walking, seated, walked, after_a, after_b, after_path, fare_after_a, fare_after_b, fare_after_path, map_there, path_asked, path_stepped, path_step_is, walks_on, next_cast, next_is, next_fare}
@@ -407,7 +379,7 @@ module _ (start : Start) (can : Carries start) where
 
       -- where MP_FAIL is heard the lane is open
       pub fails_open : (duty : Duty) → FailsJoined six number p duty → FailOpens p readied.ab readied.ba duty
-      fails_open (duties.Step (step_duties.Heard s index)) fails = λ fail. opens_where number p readied.ab readied.ba readied.stands s (λ n is. readied.opens s (fails n is fail))
+      fails_open (Duty.Step (StepDuty.Heard s index)) fails = λ fail. opens_where number p readied.ab readied.ba readied.stands s (λ n is. readied.opens s (fails n is fail))
       fails_open _ fails = tt
 
       turn_of : (duty : Duty) (ds : List Duty) (is : p.agenda ≡ duty ∷ ds) → DutyIsFirm can.links six p duty

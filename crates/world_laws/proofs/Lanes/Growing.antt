@@ -1,38 +1,14 @@
 -- What was sent on a lane stays, so what the ends and the copies have to do with the lanes stays as these go on.
-use Rattle.std.proofs.Common.{◌≡◌, refl, sym, ◌∙◌, ap, subst, ℕ, suc, ◌-◌, ◌⊎◌, inl, inr, ⊎_elim, Bool, Option, Some, None, List, [], ◌++◌, true, false, arith, ◌+◌, ◌≤◌, zero, drop, take, ◌∷◌, length}
-use Rattle.std.proofs.lemmas.List.{append-nil, length-append, length-drop, map-append, length-map}
-use Rattle.std.proofs.lemmas.Bool.{lt-ltb}
-use Rattle.std.specs.Option.{IfSome}
-use Rattle.sides.specs.declared.side.Side.{Side}
-use Rattle.mptcp_options.specs.declared.capable.CapableKeys.{CapableKeys}
-use Rattle.mptcp_options.specs.declared.capable.CapableKeys.TheVariants.{WithData}
-use Rattle.path_segments.specs.declared.segment.PathMapping.{PathMapping}
-use Rattle.path_segments.specs.declared.segment.PathMapping.TheVariants.{Bytes, End, Infinite}
-use Rattle.path_segments.specs.declared.segment.PathOption.TheVariants.{Capable, Dss, Fail}
-use Rattle.path_segments.specs.Options.{PlainOption}
-use Rattle.path_segments.specs.Spelled.{PlainSegment}
-use Rattle.subflow_send.specs.Records.{SendState}
-use Rattle.subflow_tcp.specs.declared.handshake.State.{State as EndPhase}
-use Rattle.subflow_tcp.specs.State.{is_behind}
-use Rattle.subflow_recv.specs.Receiving.{Receiving}
-use Rattle.dss_mapping.specs.declared.kept.KeptMapping.{KeptMapping}
-use Rattle.stream_lanes.specs.Lane.{Cell, Mapping, Pair, DataCopy, AckCopy, Told, Ask, Lane}
-use Rattle.stream_lanes.specs.Moves.{bytes_of}
-use Rattle.stream_lanes.proofs.Lists.{Every-map, Has-more, IfSome-map}
-use Rattle.path_agenda.specs.declared.heard.Heard.{Heard}
-use Rattle.path_agenda.specs.declared.heard.Heard.TheVariants as says
-use Rattle.path_core.specs.End.{PathEnd}
-use Rattle.path_core.specs.Treated.{Treated}
-use Rattle.path_store.specs.declared.infinite_mapping.InfiniteMapping.{InfiniteMapping}
-use Rattle.path_core.specs.declared.modes.Modes.{Modes}
-use Rattle.path_core.specs.MpJoin.{join_asked}
-use Rattle.path_core.specs.Profile.{Profile}
-use Rattle.path_core.specs.DssOut.{bare_mapping}
-use Rattle.path_core.specs.DssIn.{checksum_heard}
+use Rattle.world_laws.proofs.Words.{◌≡◌, refl, sym, ◌∙◌, ap, subst, ℕ, zero, suc, ◌+◌, ◌-◌, ◌≤◌, inl, inr, ◌⊎◌, ⊎_elim, Bool, true, false, Option, Some, None}
+use Rattle.world_laws.proofs.Words.{List, [], ◌∷◌, ◌++◌, length, take, drop, arith, lt-ltb, length-append, length-drop, length-map, append-nil, map-append}
+use Rattle.world_laws.proofs.Words.{IfSome, Side, dss_checksum, with_turned_bit, CapableKeys, WithData, KeptMapping, Receiving, SendState, is_behind, EndPhase}
+use Rattle.world_laws.proofs.Words.{PlainOption, PlainSegment, Capable, Dss, Fail, PathMapping, Bytes, Infinite, InfiniteMapping, Heard, PathEnd, join_asked}
+use Rattle.world_laws.proofs.Words.{checksum_heard, bare_mapping, Profile, Modes, Treated, Every-map, IfSome-map, Has-more, Cell, Mapping, Pair, DataCopy}
+use Rattle.world_laws.proofs.Words.{AckCopy, Lane, bytes_of}
+use Rattle.path_segments.specs.declared.segment.PathMapping.TheVariants.{End}
+use Rattle.stream_lanes.specs.Lane.{Told, Ask}
 use Rattle.world_laws.proofs.Lanes.Showing.{HasAck, HasSub, HasNone, HasData, HasMapping, HasNumber, HasFin, HasPair, PairTold, OwnIs, PairsShow, Knowledge, identity_of, knowledge_of, SenderShows, Under, IsAtEdge, IsPastFin, AcksShow, ReceiverShows, ItemShows, TreatedShows, EndShows, MappingShows, KeysShow, OptionShows, SegmentShows, IsSummed, KeptSummed}
 use Rattle.dss_mapping.specs.Mappings.{octets_of}
-use Rattle.segment_wire.specs.Changes.{with_turned_bit}
-use Rattle.dss_checksum.specs.Checksum.{dss_checksum}
 
 -- ---- how a lane goes on
 
@@ -239,10 +215,10 @@ module _ {acks acks_after : List AckCopy} {p q : Lane} (l : Longer acks acks_aft
   }
 
   item_longer : (item : Heard) → ItemShows acks p item → ItemShows acks_after q item
-  item_longer (says.DataAck next window) h = ack_longer next window h
-  item_longer (says.DataFin place) h = number_longer place h
-  item_longer (says.InfiniteMapping place position) h = IfSome-map position (λ n has. pair_longer place n has) h
-  item_longer says.Fail h = l.alters_is ∙ h
+  item_longer (Heard.DataAck next window) h = ack_longer next window h
+  item_longer (Heard.DataFin place) h = number_longer place h
+  item_longer (Heard.InfiniteMapping place position) h = IfSome-map position (λ n has. pair_longer place n has) h
+  item_longer Heard.Fail h = l.alters_is ∙ h
   item_longer _ h = tt
 
   pub treated_longer : (t : Treated) → TreatedShows t acks p → TreatedShows t acks_after q

@@ -1,43 +1,13 @@
 -- What happens on a path by itself: its join, lines of its script, copies that arrive, timers that run out.
-use Rattle.std.proofs.Common.{◌≡◌, refl, sym, subst, ℕ, suc, ◌+◌, ◌&&◌, ◌==◌, Bool, true, false, if◌then◌else◌, Option, Some, None, List, [], ◌∷◌, remove, find, position, ap, ◌∙◌}
-use Rattle.std.proofs.lemmas.Bool.{and_parts, false≢true}
-use Rattle.std.specs.Option.{IfSome}
-use Rattle.sides.specs.declared.side.Side.{Side}
-use Rattle.sides.specs.declared.side.Side.TheVariants.{A, B}
-use Rattle.sides.specs.Side.{peer}
-use Rattle.link_model.specs.declared.flight.Due.{Due}
-use Rattle.link_model.specs.declared.flight.Flight.{Flight}
-use Rattle.link_model.specs.Steps.{is_due, arriving, without, after_delivery}
-use Rattle.link_script.specs.Places.{same_side}
-use Rattle.path_segments.specs.Laws.{meant}
-use Rattle.path_segments.specs.Spelled.{PlainSegment}
-use Rattle.subflow_tcp.specs.Expiring.{is_sixth}
-use Rattle.stream_lanes.specs.Lane.{Lane, AckCopy}
-use Rattle.stream_lanes.specs.Holding.{Holds}
-use Rattle.stream_lanes.specs.Words.{Every}
-use Rattle.stream_lanes.proofs.Lists.{Every-nil, Every-append, in_take, in_drop}
-use Rattle.actor_desk.specs.declared.ask.Ask.{Ask}
-use Rattle.actor_desk.specs.declared.ask.Reply.{Reply}
-use Rattle.actor_desk.specs.Desk.{SixBooks}
-use Rattle.actor_desk.specs.Words.{pick, tail_of}
+use Rattle.world_laws.proofs.Words.{◌≡◌, refl, sym, ◌∙◌, ap, subst, ℕ, suc, ◌+◌, ◌&&◌, ◌==◌, Bool, true, false, if◌then◌else◌, Option, Some, None, List, []}
+use Rattle.world_laws.proofs.Words.{◌∷◌, find, position, remove, and_parts, false≢true, IfSome, Side, A, B, peer, same_side, is_sixth, is_due, arriving}
+use Rattle.world_laws.proofs.Words.{without, after_delivery, Due, Flight, PlainSegment, meant, LineAction, LineLeft, rest_of_turn, emission, leaves, announces}
+use Rattle.world_laws.proofs.Words.{withdraws, Duty, Ask, Reply, SixBooks, tail_of, pick, PathEnd, died, at_tick, PathState, end_at, goes_on, with_agenda}
+use Rattle.world_laws.proofs.Words.{path_of, Carried, as_arrived, values, items_of, after_judged, judged_in, template_of, heard_in, copy_heard, told_at}
+use Rattle.world_laws.proofs.Words.{copy_taken, path_died, step_for, after_line, happens, happens_if, line_taken, join_begun, never_joined, is_never}
+use Rattle.world_laws.proofs.Words.{keys_begun, opened_by, is_joined, template_fired, after_firing, timer_fired, with_priority, Profile, in_take, in_drop}
+use Rattle.world_laws.proofs.Words.{Every-nil, Every-append, Every, Holds, AckCopy, Lane}
 use Rattle.path_core.specs.declared.events.Event.{Event}
-use Rattle.path_core.specs.declared.events.Event.TheVariants as happenings
-use Rattle.path_store.specs.declared.lines.LineLeft.{LineLeft}
-use Rattle.path_agenda.specs.declared.duty.Duty.{Duty}
-use Rattle.path_agenda.specs.Agenda.{rest_of_turn, emission, leaves, announces, withdraws}
-use Rattle.path_core.specs.OptionsIn.{items_of}
-use Rattle.path_core.specs.Arrival.{judged_in, after_judged, template_of, heard_in, copy_heard, copy_taken, told_at}
-use Rattle.path_core.specs.End.{PathEnd, died}
-use Rattle.path_core.specs.MpJoin.{is_never, keys_begun, opened_by, is_joined, join_begun, never_joined}
-use Rattle.path_core.specs.Events.{step_for, after_line, line_taken, happens, happens_if}
-use Rattle.path_core.specs.State.{at_tick, PathState, end_at, path_of, goes_on, with_agenda}
-use Rattle.path_core.specs.Breaking.{path_died}
-use Rattle.path_core.specs.Timer.{after_firing, template_fired, timer_fired}
-use Rattle.path_core.specs.Addresses.{with_priority}
-use Rattle.path_store.specs.declared.lines.LineAction.{LineAction}
-use Rattle.path_store.specs.declared.lines.LineAction.TheVariants as actions
-use Rattle.path_core.specs.Profile.{Profile}
-use Rattle.path_core.specs.Values.{Carried, as_arrived, values}
 use Rattle.world_laws.proofs.Lanes.Arrived.{arrived_end}
 use Rattle.world_laws.proofs.Lanes.Ending.{Did, did_nothing}
 use Rattle.world_laws.proofs.Lanes.OfAWorld.{Others, duo_at}
@@ -138,10 +108,10 @@ module _ (six : SixBooks) (others : Others) (p : PathState Carried) (ab ba : Lan
   }
 
   line_shows : (action : LineAction) (q : PathState Carried) → AreCalm q → PathShows p.profile q ab ba → Strolled p.profile (after_line action q) ab ba
-  line_shows actions.Die q calm x = died_shows q calm x
-  line_shows (actions.Prio s backup) q calm x = noted_shows s backup q x
-  line_shows (actions.Announce s id) q calm x = rest_shows (announces s id) q x
-  line_shows (actions.Withdraw s id) q calm x = rest_shows (withdraws s id) q x
+  line_shows LineAction.Die q calm x = died_shows q calm x
+  line_shows (LineAction.Prio s backup) q calm x = noted_shows s backup q x
+  line_shows (LineAction.Announce s id) q calm x = rest_shows (announces s id) q x
+  line_shows (LineAction.Withdraw s id) q calm x = rest_shows (withdraws s id) q x
 
   -- at another tick the ends are the same
   same_calm : (q : PathState Carried) → q.a ≡ p.a → q.b ≡ p.b → AreCalm q
@@ -234,13 +204,13 @@ module _ (six : SixBooks) (others : Others) (p : PathState Carried) (ab ba : Lan
   -- ---- the earliest
 
   event_step : (event : Event) (r : Reply) → Steps (step_for (path_of p) (Some event)) (happens values event r p)
-  event_step (happenings.Joins tick) r =
-      join_step (step_for (path_of p) (Some (happenings.Joins tick))) r (leaves A) (emission A) (record (at_tick tick p) { joined_at = None }) tt
+  event_step (Event.Joins tick) r =
+      join_step (step_for (path_of p) (Some (Event.Joins tick))) r (leaves A) (emission A) (record (at_tick tick p) { joined_at = None }) tt
       (same_calm (record (at_tick tick p) { joined_at = None }) refl refl) (record { profile = h.profile; may = h.may; a = h.a; b = h.b; copies = h.copies })
-  event_step (happenings.Takes line) r =
-      quiet p.profile six others (step_for (path_of p) (Some (happenings.Takes line))) (line_taken line p) ab ba tt (line_shows line.action (record (at_tick line.tick p) { lines = tail_of p.lines }) (same_calm (record (at_tick line.tick p) { lines = tail_of p.lines }) refl refl) (ticked line.tick (tail_of p.lines)))
-  event_step (happenings.Arrives due) r = copy_step due (step_for (path_of p) (Some (happenings.Arrives due))) tt
-  event_step (happenings.Fires s tick) r = fire_step s tick (step_for (path_of p) (Some (happenings.Fires s tick))) tt
+  event_step (Event.Takes line) r =
+      quiet p.profile six others (step_for (path_of p) (Some (Event.Takes line))) (line_taken line p) ab ba tt (line_shows line.action (record (at_tick line.tick p) { lines = tail_of p.lines }) (same_calm (record (at_tick line.tick p) { lines = tail_of p.lines }) refl refl) (ticked line.tick (tail_of p.lines)))
+  event_step (Event.Arrives due) r = copy_step due (step_for (path_of p) (Some (Event.Arrives due))) tt
+  event_step (Event.Fires s tick) r = fire_step s tick (step_for (path_of p) (Some (Event.Fires s tick))) tt
 
   pub events_step : (o : Option Event) (r : Reply) → Steps (step_for (path_of p) o) (happens_if values o r p)
   events_step None r = quiet p.profile six others (step_for (path_of p) None) (with_agenda rest_of_turn p) ab ba tt (rest_shows rest_of_turn p h)

@@ -1,23 +1,11 @@
 -- What the rules of a subflow leave of what its end shows.
-use Rattle.std.proofs.Common.{◌≡◌, refl, ap, ◌∙◌, ◌<◌, ◌⊎◌, take, arith, ℕ, zero, suc, ◌&&◌, ◌==◌, nat_lt, nat_le, inl, inr, ⊎_elim, Bool, true, false, if◌then◌else◌, Option, Some, None, List, [], ◌∷◌}
-use Rattle.std.proofs.lemmas.Bool.{and_parts}
-use Rattle.std.specs.List.{slice_get}
-use Rattle.sides.specs.declared.side.Side.{Side}
+use Rattle.world_laws.proofs.Words.{◌≡◌, refl, ◌∙◌, ap, ℕ, zero, suc, ◌&&◌, ◌==◌, nat_lt, nat_le, inl, inr, ◌⊎◌, ⊎_elim, Bool, true, false, if◌then◌else◌}
+use Rattle.world_laws.proofs.Words.{Option, Some, None, List, [], ◌∷◌, take, arith, ◌<◌, and_parts, slice_get, Side, KeptMapping, Receiving, SendState, Meaning}
+use Rattle.world_laws.proofs.Words.{EndState, is_at_limit, EndPhase, Copy, Profile, Lane}
 use Rattle.byte_pieces.specs.Places.{cut, gap_before}
-use Rattle.dss_mapping.specs.declared.kept.KeptMapping.{KeptMapping}
-use Rattle.subflow_recv.specs.Receiving.{Receiving}
-use Rattle.subflow_send.specs.Records.{SendState}
-use Rattle.subflow_tcp.specs.declared.handshake.State.{State as EndPhase}
-use Rattle.subflow_tcp.specs.declared.handshake.State.TheVariants as phase
-use Rattle.subflow_tcp.specs.declared.verdicts.Meaning.{Meaning}
-use Rattle.subflow_tcp.specs.declared.verdicts.Meaning.TheVariants as means
 use Rattle.subflow_tcp.specs.Judging as judging
-use Rattle.subflow_tcp.specs.Segments.{Copy}
-use Rattle.subflow_tcp.specs.State.{EndState, is_at_limit}
 use Rattle.subflow_tcp.specs.States as states
-use Rattle.stream_lanes.specs.Lane.{Lane}
 use Rattle.world_laws.proofs.Lanes.Showing.{Under, Knowledge, is_unfinished, SenderShows, ReceiverShows}
-use Rattle.path_core.specs.Profile.{Profile}
 
 -- ---- fewer octets
 
@@ -125,46 +113,31 @@ module _ (c : Profile) (s : Side) (k : Knowledge) (p : Lane) where
   }
 
 pub handshake_back : (state : EndPhase) → is_unfinished (states.after_handshake state) ≡ true → is_unfinished state ≡ true
-handshake_back phase.Waiting is = refl
-handshake_back phase.Listen is = refl
-handshake_back phase.SynSent is = refl
-handshake_back phase.SynReceived is = refl
-handshake_back phase.Established is = refl
-handshake_back phase.CloseWait is = refl
-handshake_back phase.FinWait1 is = is
-handshake_back phase.FinWait2 is = is
-handshake_back phase.Closing is = is
-handshake_back phase.LastAck is = is
-handshake_back phase.TimeWait is = is
-handshake_back phase.Dead is = is
+handshake_back EndPhase.FinWait1 is = is
+handshake_back EndPhase.FinWait2 is = is
+handshake_back EndPhase.Closing is = is
+handshake_back EndPhase.LastAck is = is
+handshake_back EndPhase.TimeWait is = is
+handshake_back EndPhase.Dead is = is
+handshake_back _ is = refl
 
 pub fin_acked_back : (state : EndPhase) → is_unfinished (states.after_fin_acked state) ≡ true → is_unfinished state ≡ true
-fin_acked_back phase.Waiting is = refl
-fin_acked_back phase.Listen is = refl
-fin_acked_back phase.SynSent is = refl
-fin_acked_back phase.SynReceived is = refl
-fin_acked_back phase.Established is = refl
-fin_acked_back phase.CloseWait is = refl
-fin_acked_back phase.FinWait1 is = is
-fin_acked_back phase.FinWait2 is = is
-fin_acked_back phase.Closing is = is
-fin_acked_back phase.LastAck is = is
-fin_acked_back phase.TimeWait is = is
-fin_acked_back phase.Dead is = is
+fin_acked_back EndPhase.FinWait1 is = is
+fin_acked_back EndPhase.FinWait2 is = is
+fin_acked_back EndPhase.Closing is = is
+fin_acked_back EndPhase.LastAck is = is
+fin_acked_back EndPhase.TimeWait is = is
+fin_acked_back EndPhase.Dead is = is
+fin_acked_back _ is = refl
 
 pub fin_passed_back : (state : EndPhase) → is_unfinished (states.after_fin_passed state) ≡ true → is_unfinished state ≡ true
-fin_passed_back phase.Waiting is = refl
-fin_passed_back phase.Listen is = refl
-fin_passed_back phase.SynSent is = refl
-fin_passed_back phase.SynReceived is = refl
-fin_passed_back phase.Established is = refl
-fin_passed_back phase.CloseWait is = refl
-fin_passed_back phase.FinWait1 is = is
-fin_passed_back phase.FinWait2 is = is
-fin_passed_back phase.Closing is = is
-fin_passed_back phase.LastAck is = is
-fin_passed_back phase.TimeWait is = is
-fin_passed_back phase.Dead is = is
+fin_passed_back EndPhase.FinWait1 is = is
+fin_passed_back EndPhase.FinWait2 is = is
+fin_passed_back EndPhase.Closing is = is
+fin_passed_back EndPhase.LastAck is = is
+fin_passed_back EndPhase.TimeWait is = is
+fin_passed_back EndPhase.Dead is = is
+fin_passed_back _ is = refl
 
 -- ---- what a copy means says something of it
 
@@ -177,9 +150,9 @@ pub record IsPlainCopy (c : Copy) (pos acknowledged : ℕ) : Type 0 where
 
 -- and of the end, whether it is unfinished
 abbrev pub Fits : Copy → Bool → Meaning → Type 0
-Fits c u (means.Taken pos acknowledged) = IsPlainCopy c pos acknowledged
-Fits c u (means.Accepts acknowledged) = (c.syn ≡ true) × (u ≡ true)
-Fits c u means.Opens = (c.syn ≡ true) × (u ≡ true)
+Fits c u (Meaning.Taken pos acknowledged) = IsPlainCopy c pos acknowledged
+Fits c u (Meaning.Accepts acknowledged) = (c.syn ≡ true) × (u ≡ true)
+Fits c u Meaning.Opens = (c.syn ≡ true) × (u ≡ true)
 Fits c u _ = Unit {0}
 
 pub record Fitting (c : Copy) (u : Bool) (m : Meaning) : Type 0 where
@@ -191,41 +164,41 @@ fits_if c false m n first other = other refl
 
 module _ (c : Copy) (s : EndState) (u : Bool) where
   outside_fits : Fitting c u (judging.meaning_outside c)
-  outside_fits = fits_if c c.rst means.Ignored means.Outside (λ is. record { fits = tt }) (λ is. record { fits = tt })
+  outside_fits = fits_if c c.rst Meaning.Ignored Meaning.Outside (λ is. record { fits = tt }) (λ is. record { fits = tt })
 
   answer_fits : u ≡ true → (acknowledged : ℕ) → Fitting c u (judging.meaning_answer c acknowledged)
-  answer_fits un acknowledged = fits_if c c.rst means.Kills (if c.syn then means.Accepts acknowledged else means.Ignored) (λ rst. record { fits = tt }) (λ other. fits_if c c.syn (means.Accepts acknowledged) means.Ignored (λ syn. record { fits = (syn, un) }) (λ none. record { fits = tt }))
+  answer_fits un acknowledged = fits_if c c.rst Meaning.Kills (if c.syn then Meaning.Accepts acknowledged else Meaning.Ignored) (λ rst. record { fits = tt }) (λ other. fits_if c c.syn (Meaning.Accepts acknowledged) Meaning.Ignored (λ syn. record { fits = (syn, un) }) (λ none. record { fits = tt }))
 
   answering_fits : u ≡ true → (o : Option ℕ) → Fitting c u (judging.meaning_answering o c s)
   answering_fits un None = record { fits = tt }
-  answering_fits un (Some acknowledged) = fits_if c (nat_lt 0 acknowledged && nat_le acknowledged s.send.nxt) (judging.meaning_answer c acknowledged) means.Ignored (λ is. answer_fits un acknowledged) (λ is. record { fits = tt })
+  answering_fits un (Some acknowledged) = fits_if c (nat_lt 0 acknowledged && nat_le acknowledged s.send.nxt) (judging.meaning_answer c acknowledged) Meaning.Ignored (λ is. answer_fits un acknowledged) (λ is. record { fits = tt })
 
   acknowledging_fits : (pos : ℕ) → c.position ≡ Some pos → c.syn ≡ false → c.rst ≡ false → (o : Option ℕ) → c.acknowledged ≡ o → Fitting c u (judging.meaning_acknowledging o pos s)
   acknowledging_fits pos at no_syn no_reset None is = record { fits = tt }
   acknowledging_fits pos at no_syn no_reset (Some acknowledged) is =
-      fits_if c (nat_lt s.send.nxt acknowledged) means.Ahead (if states.is_half_open s.state && acknowledged == 0 then means.Unacknowledging else means.Taken pos acknowledged) (λ ahead. record { fits = tt })
-      (λ near. fits_if c (states.is_half_open s.state && acknowledged == 0) means.Unacknowledging (means.Taken pos acknowledged) (λ half. record { fits = tt })
+      fits_if c (nat_lt s.send.nxt acknowledged) Meaning.Ahead (if states.is_half_open s.state && acknowledged == 0 then Meaning.Unacknowledging else Meaning.Taken pos acknowledged) (λ ahead. record { fits = tt })
+      (λ near. fits_if c (states.is_half_open s.state && acknowledged == 0) Meaning.Unacknowledging (Meaning.Taken pos acknowledged) (λ half. record { fits = tt })
       (λ other. record { fits = record { position_is = at; acknowledged_is = is; no_syn = no_syn; no_reset = no_reset } }))
 
   within_fits : (pos : ℕ) → c.position ≡ Some pos → Fitting c u (judging.meaning_within pos c s)
-  within_fits pos at = fits_if c c.rst (if pos == s.recv.edge then means.Kills else means.Challenged) (if c.syn then means.Challenged else judging.meaning_acknowledging c.acknowledged pos s)
-      (λ rst. fits_if c (pos == s.recv.edge) means.Kills means.Challenged (λ edge. record { fits = tt }) (λ other. record { fits = tt }))
-      (λ other. fits_if c c.syn means.Challenged (judging.meaning_acknowledging c.acknowledged pos s) (λ syn. record { fits = tt }) (λ none. acknowledging_fits pos at none other c.acknowledged refl))
+  within_fits pos at = fits_if c c.rst (if pos == s.recv.edge then Meaning.Kills else Meaning.Challenged) (if c.syn then Meaning.Challenged else judging.meaning_acknowledging c.acknowledged pos s)
+      (λ rst. fits_if c (pos == s.recv.edge) Meaning.Kills Meaning.Challenged (λ edge. record { fits = tt }) (λ other. record { fits = tt }))
+      (λ other. fits_if c c.syn Meaning.Challenged (judging.meaning_acknowledging c.acknowledged pos s) (λ syn. record { fits = tt }) (λ none. acknowledging_fits pos at none other c.acknowledged refl))
 
   placed_fits : (o : Option ℕ) → c.position ≡ o → Fitting c u (judging.meaning_placed o c s)
   placed_fits None at = outside_fits
   placed_fits (Some pos) at = fits_if c (judging.is_acceptable s.recv.edge pos c) (judging.meaning_within pos c s) (judging.meaning_outside c) (λ is. within_fits pos at) (λ is. outside_fits)
 
   connected_fits : Fitting c u (judging.meaning_connected c s)
-  connected_fits = fits_if c (is_at_limit s) means.Ignored (if judging.is_repeated_syn c s then means.RepeatedSyn else judging.meaning_placed c.position c s) (λ is. record { fits = tt })
-      (λ is. fits_if c (judging.is_repeated_syn c s) means.RepeatedSyn (judging.meaning_placed c.position c s) (λ again. record { fits = tt }) (λ other. placed_fits c.position refl))
+  connected_fits = fits_if c (is_at_limit s) Meaning.Ignored (if judging.is_repeated_syn c s then Meaning.RepeatedSyn else judging.meaning_placed c.position c s) (λ is. record { fits = tt })
+      (λ is. fits_if c (judging.is_repeated_syn c s) Meaning.RepeatedSyn (judging.meaning_placed c.position c s) (λ again. record { fits = tt }) (λ other. placed_fits c.position refl))
 
 module _ (c : Copy) (s : EndState) where
   fits_at : (state : EndPhase) → Fitting c (is_unfinished state) (judging.meaning_at state c s)
-  fits_at phase.Dead = fits_if c c.rst means.Ignored means.Unwanted (λ is. record { fits = tt }) (λ is. record { fits = tt })
-  fits_at phase.Waiting = record { fits = tt }
-  fits_at phase.Listen = fits_if c (judging.is_syn_alone c) means.Opens means.Ignored (λ is. record { fits = ((and_parts c.syn _ is).0, refl) }) (λ is. record { fits = tt })
-  fits_at phase.SynSent = fits_if c (is_at_limit s) means.Ignored (judging.meaning_answering c.acknowledged c s) (λ is. record { fits = tt }) (λ is. answering_fits c s true refl c.acknowledged)
+  fits_at EndPhase.Dead = fits_if c c.rst Meaning.Ignored Meaning.Unwanted (λ is. record { fits = tt }) (λ is. record { fits = tt })
+  fits_at EndPhase.Waiting = record { fits = tt }
+  fits_at EndPhase.Listen = fits_if c (judging.is_syn_alone c) Meaning.Opens Meaning.Ignored (λ is. record { fits = ((and_parts c.syn _ is).0, refl) }) (λ is. record { fits = tt })
+  fits_at EndPhase.SynSent = fits_if c (is_at_limit s) Meaning.Ignored (judging.meaning_answering c.acknowledged c s) (λ is. record { fits = tt }) (λ is. answering_fits c s true refl c.acknowledged)
   fits_at _ = connected_fits c s _
 
   pub meaning_fits : Fits c (is_unfinished s.state) (judging.meaning_of c s)

@@ -1,49 +1,15 @@
 -- What the two directions of a connection show of its world, and what a step of the world is there: moves of the lanes, at most
 -- one call of a book, and moves again.
-use Rattle.std.proofs.Common.{◌≡◌, refl, sym, ◌∙◌, ap, ℕ, zero, suc, ◌-◌, ◌^◌, ◌<◌, ◌≤◌, Bool, true, false, not, ◌&&◌, Option, Some, None, List, [], ◌∷◌, ◌++◌, length, set}
-use Rattle.std.specs.List.{slice_get, list_all}
-use Rattle.std.proofs.lemmas.Bool.{and_parts, and_from, both_ways, true≢false, false≢true}
-use Rattle.sides.specs.declared.side.Side.TheVariants.{A, B}
-use Rattle.sides.specs.declared.side.Side.{Side}
-use Rattle.send_book.specs.declared.call.SendCall.{SendCall}
-use Rattle.send_book.specs.declared.call.SendCall.TheVariants as send_calls
-use Rattle.reassembly_book.specs.declared.call.ReassemblyCall.{ReassemblyCall}
-use Rattle.reassembly_book.specs.declared.call.ReassemblyCall.TheVariants as reassembly_calls
-use Rattle.subflow_tcp.specs.States.{may_finish}
-use Rattle.stream_lanes.specs.Lane.{Ask as LaneAsk, Lane}
-use Rattle.stream_lanes.specs.Lane.Ask.{AskGrant, AskAckIn, AskPlace, AskFin, AskAckOut}
-use Rattle.stream_lanes.specs.Moves.{Flags, Move}
-use Rattle.stream_lanes.specs.Streams.{Reader, Direction, StreamEvent, is_done}
-use Rattle.stream_lanes.specs.Streams.StreamEvent.{Write, Close, Return, GoIdentity, GoInfinite, AbortSend, Read, AbortRead, Moves, Asks}
-use Rattle.stream_lanes.specs.Duo.{Modes, Duo, Event, flags_ab, flags_ba, after_event, after_events, opening_over}
-use Rattle.stream_lanes.specs.Duo.Event.{ToB, ToA, FallA, FallB, LoosenA, LoosenB, BeginJoin, SendJoin, HearJoin}
-use Rattle.stream_lanes.specs.Holding.{Holds}
-use Rattle.stream_lanes.specs.Words.{Every, From}
-use Rattle.actor_desk.specs.declared.ask.Ask.{Ask}
-use Rattle.actor_desk.specs.declared.ask.Ask.TheVariants as asks
-use Rattle.actor_desk.specs.Books.{books_in}
-use Rattle.actor_desk.specs.Desk.{SixBooks, after_ask, control_of, send_of}
-use Rattle.path_agenda.specs.declared.duty.Duty.{Duty}
-use Rattle.path_agenda.specs.declared.duty.Duty.TheVariants as duties
-use Rattle.path_agenda.specs.declared.duty.AskDuty.TheVariants as ask_duties
-use Rattle.path_agenda.specs.declared.duty.StepDuty.TheVariants as step_duties
-use Rattle.path_agenda.specs.declared.heard.Heard.TheVariants as says
-use Rattle.path_core.specs.Choices.{item_at}
-use Rattle.path_core.specs.State.{PathState, end_at}
-use Rattle.path_core.specs.Shown.{AltersNothing}
-use Rattle.path_core.specs.Treating.{item_ask, item_of}
-use Rattle.path_core.specs.Turns.{IsSettled}
-use Rattle.link_model.specs.Steps.{lines_of}
-use Rattle.path_core.specs.Values.{Carried, values}
-use Rattle.control_book.specs.Replies.{is_sure}
-use Rattle.control_book.specs.declared.call.ControlCall.{ControlCall}
-use Rattle.control_book.specs.declared.call.ControlCall.TheVariants as control_calls
-use Rattle.world_laws.specs.declared.member.Member.TheVariants.{App, Path}
-use Rattle.world_laws.specs.Actors.{Actor, ActorCrew, member_asks}
-use Rattle.world_laws.specs.Altered.{is_fallback}
-use Rattle.world_laws.specs.Openings.{PathPlan, Start, path_begins, opened_world}
-use Rattle.world_laws.specs.Promises.{IsPlain}
-use Rattle.world_laws.specs.Worlds.{WorldState, Turn, after_turn, world_run}
+use Rattle.world_laws.proofs.Words.{◌≡◌, refl, sym, ◌∙◌, ap, ℕ, zero, suc, ◌-◌, ◌≤◌, ◌&&◌, not, Bool, true, false, Option, Some, None, List, [], ◌∷◌, ◌++◌}
+use Rattle.world_laws.proofs.Words.{length, ◌<◌, ◌^◌, set, and_parts, and_from, both_ways, false≢true, true≢false, slice_get, list_all, Side, A, B, ControlCall}
+use Rattle.world_laws.proofs.Words.{is_sure, ReassemblyCall, SendCall, may_finish, lines_of, Duty, StepDuty, AskDuty, Heard, Ask, books_in, SixBooks, send_of}
+use Rattle.world_laws.proofs.Words.{control_of, after_ask, PathState, end_at, IsSettled, Carried, values, item_ask, item_of, AltersNothing, item_at, Every}
+use Rattle.world_laws.proofs.Words.{From, Duo, after_events, after_event, flags_ab, flags_ba, opening_over, Holds, Lane, LaneAsk, Direction, StreamEvent}
+use Rattle.world_laws.proofs.Words.{is_done, Reader, ToB, ToA, FallA, FallB, LoosenA, LoosenB, BeginJoin, SendJoin, HearJoin, Flags, Move, AskGrant, AskAckIn}
+use Rattle.world_laws.proofs.Words.{AskPlace, AskFin, AskAckOut, Return, GoIdentity, AbortRead, Moves, Asks, App, Path, Actor, ActorCrew, member_asks, PathPlan}
+use Rattle.world_laws.proofs.Words.{Start, path_begins, opened_world, WorldState, Turn, after_turn, world_run, IsPlain, is_fallback}
+use Rattle.stream_lanes.specs.Streams.StreamEvent.{Write, Close, GoInfinite, AbortSend, Read}
+use Rattle.stream_lanes.specs.Duo.{Modes, Event}
 use Rattle.world_laws.proofs.Lanes.Applying.{Reads}
 use Rattle.world_laws.proofs.Worlds.Casts.{Walker, Cast, world_of, Fare}
 use Rattle.world_laws.proofs.Falls.WhereASideStands.{is_plain, is_loose}
@@ -185,31 +151,29 @@ pub record LaneAsks (ask : LaneAsk) (d : Direction) (event : StreamEvent) : Type
 
 -- a call of a book is this event of its direction
 abbrev pub SendCallIs : SendCall → Direction → StreamEvent → Type 0
-SendCallIs (send_calls.Write bytes) d event = event ≡ Write bytes
-SendCallIs send_calls.Close d event = event ≡ Close
-SendCallIs (send_calls.Grant path max standby) d event = (event ≡ Asks path) × IsAsking path (AskGrant max standby) d
-SendCallIs (send_calls.AckIn next window) d event = LaneAsks (AskAckIn next window) d event
-SendCallIs (send_calls.Return path) d event = event ≡ Return path
-SendCallIs send_calls.GoIdentity d event = event ≡ GoIdentity
-SendCallIs (send_calls.GoInfinite path) d event = (pos : ℕ) × (event ≡ GoInfinite path pos)
-SendCallIs send_calls.Abort d event = event ≡ AbortSend
+SendCallIs (SendCall.Write bytes) d event = event ≡ Write bytes
+SendCallIs SendCall.Close d event = event ≡ Close
+SendCallIs (SendCall.Grant path max standby) d event = (event ≡ Asks path) × IsAsking path (AskGrant max standby) d
+SendCallIs (SendCall.AckIn next window) d event = LaneAsks (AskAckIn next window) d event
+SendCallIs (SendCall.Return path) d event = event ≡ Return path
+SendCallIs SendCall.GoIdentity d event = event ≡ GoIdentity
+SendCallIs (SendCall.GoInfinite path) d event = (pos : ℕ) × (event ≡ GoInfinite path pos)
+SendCallIs SendCall.Abort d event = event ≡ AbortSend
 
 abbrev pub ReassemblyCallIs : ReassemblyCall → Direction → StreamEvent → Type 0
-ReassemblyCallIs (reassembly_calls.Place at bytes) d event = LaneAsks (AskPlace at bytes) d event
-ReassemblyCallIs (reassembly_calls.Fin at) d event = LaneAsks (AskFin at) d event
-ReassemblyCallIs (reassembly_calls.Read most) d event = (event ≡ Read most) × (is_done d.reader ≡ false)
-ReassemblyCallIs reassembly_calls.AckOut d event = LaneAsks AskAckOut d event
-ReassemblyCallIs (reassembly_calls.Abort by_peer) d event = event ≡ AbortRead by_peer
+ReassemblyCallIs (ReassemblyCall.Place at bytes) d event = LaneAsks (AskPlace at bytes) d event
+ReassemblyCallIs (ReassemblyCall.Fin at) d event = LaneAsks (AskFin at) d event
+ReassemblyCallIs (ReassemblyCall.Read most) d event = (event ≡ Read most) × (is_done d.reader ≡ false)
+ReassemblyCallIs ReassemblyCall.AckOut d event = LaneAsks AskAckOut d event
+ReassemblyCallIs (ReassemblyCall.Abort by_peer) d event = event ≡ AbortRead by_peer
 
 -- what is asked is this event; a control book and a local step are none
 abbrev pub CallIs : Option Ask → Duo → Option Event → Type 0
-CallIs None d call = call ≡ None
-CallIs (Some (asks.Send A c)) d call = (event : StreamEvent) × (call ≡ Some (ToB event)) × SendCallIs c d.ab event
-CallIs (Some (asks.Send B c)) d call = (event : StreamEvent) × (call ≡ Some (ToA event)) × SendCallIs c d.ba event
-CallIs (Some (asks.Reassembly A c)) d call = (event : StreamEvent) × (call ≡ Some (ToA event)) × ReassemblyCallIs c d.ba event
-CallIs (Some (asks.Reassembly B c)) d call = (event : StreamEvent) × (call ≡ Some (ToB event)) × ReassemblyCallIs c d.ab event
-CallIs (Some (asks.Control s c)) d call = call ≡ None
-CallIs (Some (asks.Local step)) d call = call ≡ None
+CallIs (Some (Ask.Send A c)) d call = (event : StreamEvent) × (call ≡ Some (ToB event)) × SendCallIs c d.ab event
+CallIs (Some (Ask.Send B c)) d call = (event : StreamEvent) × (call ≡ Some (ToA event)) × SendCallIs c d.ba event
+CallIs (Some (Ask.Reassembly A c)) d call = (event : StreamEvent) × (call ≡ Some (ToA event)) × ReassemblyCallIs c d.ba event
+CallIs (Some (Ask.Reassembly B c)) d call = (event : StreamEvent) × (call ≡ Some (ToB event)) × ReassemblyCallIs c d.ab event
+CallIs _ d call = call ≡ None
 
 -- ---- moves
 
@@ -276,8 +240,8 @@ MayAnswer B six = six.control_a.fall.joined ≡ true
 
 -- a call of a control book after which the modes of the connection go on by moves
 abbrev pub MayCall : Side → ControlCall → SixBooks → Type 0
-MayCall s (control_calls.JoinBegin path) six = MayBegin s
-MayCall s (control_calls.JoinHeard path token) six = MayAnswer s six
+MayCall s (ControlCall.JoinBegin path) six = MayBegin s
+MayCall s (ControlCall.JoinHeard path token) six = MayAnswer s six
 MayCall s _ six = Unit {0}
 
 -- by this ask no firm side falls back
@@ -286,20 +250,20 @@ StaysFirm links s six ask = is_firm links s ≡ true → is_fallback (control_of
 
 -- a duty whose step may be made: B hears only of joins that were begun, and an end falls back with its side
 abbrev pub MayDo : SixBooks → Duty → Type 0
-MayDo six (duties.Ask (ask_duties.JoinHeard s)) = MayAnswer s six
-MayDo six (duties.Ask (ask_duties.GoIdentity s)) = is_plain (control_of s six).fall ≡ true
+MayDo six (Duty.Ask (AskDuty.JoinHeard s)) = MayAnswer s six
+MayDo six (Duty.Ask (AskDuty.GoIdentity s)) = is_plain (control_of s six).fall ≡ true
 MayDo six _ = Unit {0}
 
 -- a duty by which no firm side falls back: its end learns of no fall, and no item that it hears is one by which the side falls
 abbrev pub DutyIsFirm : Links → SixBooks → PathState Carried → Duty → Type 0
-DutyIsFirm links six p (duties.Ask (ask_duties.GoIdentity s)) = is_firm links s ≡ false
-DutyIsFirm links six p (duties.Step (step_duties.Heard s index)) = StaysFirm links s six (item_ask values s (item_of index (end_at s p)) p)
+DutyIsFirm links six p (Duty.Ask (AskDuty.GoIdentity s)) = is_firm links s ≡ false
+DutyIsFirm links six p (Duty.Step (StepDuty.Heard s index)) = StaysFirm links s six (item_ask values s (item_of index (end_at s p)) p)
 DutyIsFirm links six p _ = Unit {0}
 
 -- on a path that joins MP_FAIL is heard only where B joined
 abbrev pub FailsJoined : SixBooks → ℕ → PathState Carried → Duty → Type 0
-FailsJoined six number p (duties.Step (step_duties.Heard s index)) =
-    (n : ℕ) → number ≡ suc n → item_at index (end_at s p).treated.items ≡ Some says.Fail → six.control_b.fall.joined ≡ true
+FailsJoined six number p (Duty.Step (StepDuty.Heard s index)) =
+    (n : ℕ) → number ≡ suc n → item_at index (end_at s p).treated.items ≡ Some Heard.Fail → six.control_b.fall.joined ≡ true
 FailsJoined six number p _ = Unit {0}
 
 -- A's side is sure of Multipath TCP only where A may send a DSS on path 0.
@@ -337,10 +301,8 @@ MemberIsFirm links six (Path p) = (d : Duty) (ds : List Duty) → p.agenda ≡ d
 
 -- nor by this turn
 abbrev pub TurnIsFirm : Links → Turn → WorldState Carried → Type 0
-TurnIsFirm links (Turn.Step zero) w = Unit {0}
-TurnIsFirm links (Turn.Step (suc zero)) w = Unit {0}
 TurnIsFirm links (Turn.Step (suc (suc number))) w = (c : ActorCrew Carried) → slice_get w.crew (suc (suc number)) ≡ Some c → MemberIsFirm links (books_in w.books) c.member
-TurnIsFirm links Turn.Round w = Unit {0}
+TurnIsFirm links _ w = Unit {0}
 
 -- nor by these
 abbrev pub RunIsFirm : Links → List Turn → WorldState Carried → Type 0
@@ -353,8 +315,8 @@ NoneIsFirm links = (s : Side) → is_firm links s ≡ false
 
 module _ (links : Links) (none : NoneIsFirm links) where
   pub free_duty : (six : SixBooks) (p : PathState Carried) (d : Duty) → DutyIsFirm links six p d
-  free_duty six p (duties.Ask (ask_duties.GoIdentity s)) = none s
-  free_duty six p (duties.Step (step_duties.Heard s index)) = λ firm. absurd (both_ways _ (none s) firm)
+  free_duty six p (Duty.Ask (AskDuty.GoIdentity s)) = none s
+  free_duty six p (Duty.Step (StepDuty.Heard s index)) = λ firm. absurd (both_ways _ (none s) firm)
   free_duty six p _ = tt
 
   free_member : (six : SixBooks) (m : Actor Carried) → MemberIsFirm links six m
@@ -362,10 +324,8 @@ module _ (links : Links) (none : NoneIsFirm links) where
   free_member six (Path p) = λ d ds is. free_duty six p d
 
   pub free_turn : (turn : Turn) (w : WorldState Carried) → TurnIsFirm links turn w
-  free_turn (Turn.Step zero) w = tt
-  free_turn (Turn.Step (suc zero)) w = tt
   free_turn (Turn.Step (suc (suc number))) w = λ c there. free_member (books_in w.books) c.member
-  free_turn Turn.Round w = tt
+  free_turn _ w = tt
 
   pub free_run : (turns : List Turn) (w : WorldState Carried) → RunIsFirm links turns w
   free_run [] w = tt

@@ -1,44 +1,27 @@
 -- What the receiver's half of an end makes of the lanes: mappings that are learned, bytes that are placed, an end that is told, and
 -- the FIN.
-use Rattle.std.proofs.Common.{◌≡◌, refl, sym, ap, subst, ℕ, zero, suc, ◌+◌, ◌-◌, ◌<◌, ◌≤◌, nat_lt, nat_le, ◌&&◌, inl, inr, ⊎_elim, Bool, true, false, if◌then◌else◌, filter, find, Option, Some, None, List, [], ◌∷◌, length, take, drop, arith, not, ◌∙◌, ◌⊎◌, ◌*◌, ◌/◌, true≢false, ◌==◌, ◌||◌, ◌^◌, is_some}
-use Rattle.std.proofs.lemmas.Bool.{and_parts, ltb-true, leb-true, eqb-true, false≢true, both_ways, and_from, eq-eqb}
-use Rattle.std.proofs.lemmas.List.{append-nil, length-take, length-drop, length-map}
-use Rattle.std.proofs.lemmas.Option.{same_Some}
-use Rattle.std.specs.List.{slice_get}
-use Rattle.std.specs.Option.{IfSome}
-use Rattle.sides.specs.declared.side.Side.{Side}
-use Rattle.dss_mapping.specs.declared.kept.KeptMapping.{KeptMapping}
+use Rattle.world_laws.proofs.Words.{◌≡◌, refl, sym, ◌∙◌, ap, subst, ℕ, zero, suc, ◌+◌, ◌-◌, ◌≤◌, ◌&&◌, ◌||◌, ◌==◌, not, nat_lt, nat_le, inl, inr, ◌⊎◌, ⊎_elim}
+use Rattle.world_laws.proofs.Words.{Bool, true, false, if◌then◌else◌, Option, Some, None, List, [], ◌∷◌, length, take, drop, arith, is_some, ◌<◌, ◌^◌, find}
+use Rattle.world_laws.proofs.Words.{◌*◌, ◌/◌, filter, ltb-true, eqb-true, eq-eqb, and_parts, and_from, both_ways, false≢true, leb-true, length-take}
+use Rattle.world_laws.proofs.Words.{length-drop, length-map, append-nil, same_Some, slice_get, IfSome, Summed, Side, dss_checksum, ReassemblyReply, KeptMapping}
+use Rattle.world_laws.proofs.Words.{Mappings, run_of, mapping_at, after_learn, others_of, learn_of, learned_if, after_skip_held, covers, Receiving, after_pass}
+use Rattle.world_laws.proofs.Words.{EndState, is_fin_next, after_passing_fin, is_at, Piece, count_in, some_piece, InfiniteMapping, data_fin_behind, PathEnd}
+use Rattle.world_laws.proofs.Words.{having_asked, piece_in, checked_piece, piece_by, next_piece, after_piece, plain_piece, infinite_piece, piece_at, is_wrong}
+use Rattle.world_laws.proofs.Words.{failing_by, mapping_here, plain_fin, after_pass_fin, place_passed, with_learned, with_skipped, receives_plainly, fin_place}
+use Rattle.world_laws.proofs.Words.{Profile, Every-map, Every-push, Has-more, Every, From, IsFin, IsRight, LaneHolds, Came, IsByteOf, Cell, Mapping, Lane, View}
+use Rattle.world_laws.proofs.Words.{passes, ack_copy, takes_placed, bytes_of, sub_next, are_same, Nothing, AskPlace, AskFin, copy_clashes}
+use Rattle.std.proofs.Common.{true≢false}
 use Rattle.dss_mapping.specs.declared.learn.Learn.{Learn}
 use Rattle.dss_mapping.specs.declared.learn.Learn.TheVariants.{New, Same, Clash}
-use Rattle.dss_mapping.specs.Learning.{first_of, others_of, learn_of, after_skip_held, learned_if}
-use Rattle.dss_mapping.specs.Mappings.{Mappings, run_of, mapping_at, after_learn, octets_of}
-use Rattle.dss_mapping.specs.Runs.{covers}
-use Rattle.reassembly_book.specs.declared.call.ReassemblyReply.TheVariants as reassembly_replies
-use Rattle.subflow_recv.specs.Receiving.{Receiving, filled, after_pass}
-use Rattle.subflow_tcp.specs.Closing.{is_fin_next, after_passing_fin}
-use Rattle.subflow_tcp.specs.Judging.{is_at}
-use Rattle.subflow_tcp.specs.State.{EndState}
+use Rattle.dss_mapping.specs.Learning.{first_of}
+use Rattle.dss_mapping.specs.Mappings.{octets_of}
+use Rattle.subflow_recv.specs.Receiving.{filled}
 use Rattle.subflow_tcp.specs.States as states
-use Rattle.stream_lanes.specs.Holding.{IsFin, LaneHolds, IsRight, Came, IsByteOf}
-use Rattle.stream_lanes.specs.Lane.{Mapping, Lane, Cell}
-use Rattle.stream_lanes.specs.Lane.Ask.{Nothing, AskPlace, AskFin}
-use Rattle.stream_lanes.specs.Laws.{copy_clashes}
-use Rattle.stream_lanes.specs.Moves.{takes_placed, ack_copy, sub_next, in_order, part_of, bytes_of, passes, are_same}
-use Rattle.stream_lanes.specs.View.{View}
-use Rattle.stream_lanes.specs.Words.{Every, From}
+use Rattle.stream_lanes.specs.Moves.{in_order, part_of}
 use Rattle.stream_lanes.proofs.Checking.{came_cases, checksum_shows, came_unaltered}
-use Rattle.stream_lanes.proofs.Lists.{Every-map, Every-push, Has-more}
 use Rattle.stream_lanes.proofs.Bytes.{From-take, From-filled, part_is_honest}
-use Rattle.path_core.specs.End.{PathEnd}
-use Rattle.path_core.specs.Deliver.{having_asked, piece_in, is_whole, is_right, checked_piece, piece_by, next_piece, after_piece, plain_piece, infinite_piece, piece_at, is_wrong, failing_by, mapping_here}
-use Rattle.path_core.specs.DataFin.{after_pass_fin, place_passed, plain_fin}
-use Rattle.path_store.specs.declared.infinite_mapping.InfiniteMapping.{InfiniteMapping}
-use Rattle.path_core.specs.Modes.{receives_plainly, fin_place}
+use Rattle.path_core.specs.Deliver.{is_whole, is_right}
 use Rattle.path_store.specs.InfiniteMappings.{covers as goes_by, fin_under, place_under}
-use Rattle.path_store.specs.Passing.{Piece, count_in, some_piece}
-use Rattle.path_core.specs.DssIn.{with_learned, with_skipped}
-use Rattle.path_store.specs.Receiving.{data_fin_behind}
-use Rattle.path_core.specs.Profile.{Profile}
 use Rattle.world_laws.proofs.Lanes.Ending.{Did, did_nothing}
 use Rattle.world_laws.proofs.Lanes.Growing.{sender_stays, receiver_stays, same_edge}
 use Rattle.world_laws.proofs.Lanes.Hearing.{state_shows, fin_passed_back}
@@ -47,8 +30,6 @@ use Rattle.world_laws.proofs.Lanes.Roads.{Strolls, stays, then_strolls}
 use Rattle.world_laws.proofs.Lanes.Showing.{HasMapping, HasFin, KeptShows, HeldShows, Under, IsAtEdge, IsPastFin, ReceiverShows, EndShows, SenderShows, identity_of, knowledge_of, KeptSummed, PeerIs}
 use Rattle.world_laws.proofs.Lanes.Taking.{learned_lane, learns_it, learned_goes, learned_there, wants_place, under_drop, only_drop, acked_lane, acked_sub, acks_it, finished_lane, hears_the_fin, wants_plain, wants_pair, wants_pair_fin, same_order, filled_under}
 use Rattle.world_laws.proofs.Lanes.Doing.{take_whole, wants_plain_fin}
-use Rattle.dss_checksum.specs.Checksum.{dss_checksum}
-use Rattle.seq_units.specs.declared.mapping.Mapping.{Mapping as Summed}
 
 -- the maps of the lane are more
 more_maps : (recv : Receiving) (fin_at : Option ℕ) (live live_after : List KeptMapping) (plain : Bool) (p : Lane) (maps : List Mapping) → Every (KeptShows maps) live_after
@@ -530,9 +511,9 @@ module _ (c : Profile) (s : Side) (out back : Lane) where
 
   -- what was placed is behind the edge of the lane too
   pub placed_end : (new : ℕ) (e : PathEnd) (piece : Piece) → IsAtEdge e.tcp.recv back → EndShows c s e out back
-      → Did c s (having_asked (after_piece piece e)) out out back (takes_placed (length piece.octets) (reassembly_replies.Placed new) back)
+      → Did c s (having_asked (after_piece piece e)) out out back (takes_placed (length piece.octets) (ReassemblyReply.Placed new) back)
   placed_end new e piece at h =
-      let q : Lane = takes_placed (length piece.octets) (reassembly_replies.Placed new) back in
+      let q : Lane = takes_placed (length piece.octets) (ReassemblyReply.Placed new) back in
       record {
         out_after = out;
         back_after = q;

@@ -1,20 +1,9 @@
 -- A path is ready for each of its steps: what A sent first on it begins at the first place, and where an end may ask for bytes its
 -- lane is open.
-use Rattle.std.proofs.Common.{◌≡◌, refl, ap, subst, ℕ, zero, suc, ◌+◌, not, Bool, true, false, List, [], length, arith, sym, ◌∙◌}
-use Rattle.std.proofs.lemmas.Bool.{both_ways, false≢true}
-use Rattle.std.specs.Option.{IfSome}
-use Rattle.sides.specs.declared.side.Side.{Side}
-use Rattle.sides.specs.declared.side.Side.TheVariants.{A, B}
-use Rattle.sides.specs.Side.{peer}
+use Rattle.world_laws.proofs.Words.{◌≡◌, refl, sym, ◌∙◌, ap, subst, ℕ, zero, suc, ◌+◌, not, Bool, true, false, List, [], length, arith, both_ways, false≢true}
+use Rattle.world_laws.proofs.Words.{IfSome, Side, A, B, peer, SixBooks, pick, PathState, end_at, Carried, Every-map, in_map, Holds, IsHonest, IsRight}
+use Rattle.world_laws.proofs.Words.{LaneHolds, Cell, Lane, View}
 use Rattle.subflow_tcp.specs.States as states
-use Rattle.stream_lanes.specs.Holding.{Holds, IsHonest, IsRight, LaneHolds}
-use Rattle.stream_lanes.specs.Lane.{Cell, Lane}
-use Rattle.stream_lanes.specs.View.{View}
-use Rattle.stream_lanes.proofs.Lists.{Every-map, in_map}
-use Rattle.actor_desk.specs.Desk.{SixBooks}
-use Rattle.actor_desk.specs.Words.{pick}
-use Rattle.path_core.specs.State.{PathState, end_at}
-use Rattle.path_core.specs.Values.{Carried}
 use Rattle.world_laws.proofs.Lanes.Answering.{BeginsFirst, IsReady}
 use Rattle.world_laws.proofs.Lanes.OfAWorld.{Others, duo_at, StandsSo, flags_are}
 use Rattle.world_laws.proofs.Lanes.Showing.{HasMapping}

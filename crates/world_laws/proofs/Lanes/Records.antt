@@ -1,25 +1,13 @@
 -- What is sent, acknowledged or marked leaves the records with the octets and mappings that they were granted with.
-use Rattle.std.proofs.Common.{◌≡◌, refl, subst, ℕ, zero, suc, ◌==◌, ◌&&◌, nat_le, nat_lt, Bool, true, false, if◌then◌else◌, Option, Some, None, List, [], ◌∷◌, map}
-use Rattle.std.proofs.lemmas.Option.{same_Some}
-use Rattle.std.specs.List.{slice_get, find}
-use Rattle.std.specs.Option.{IfSome}
-use Rattle.sides.specs.declared.side.Side.{Side}
-use Rattle.subflow_send.specs.declared.record.RecordKind.{RecordKind}
-use Rattle.subflow_send.specs.declared.record.RecordKind.TheVariants.{Syn, Data, Fin}
+use Rattle.world_laws.proofs.Words.{◌≡◌, refl, subst, ℕ, zero, suc, ◌&&◌, ◌==◌, nat_lt, nat_le, Bool, true, false, if◌then◌else◌, Option, Some, None, List, []}
+use Rattle.world_laws.proofs.Words.{◌∷◌, map, same_Some, slice_get, IfSome, Side, Record, SendState, RecordKind, Syn, Data, Fin, is_unsent, uncovered}
+use Rattle.world_laws.proofs.Words.{first_unsent_sent, first_sent, unsent_again, expired_records, after_acknowledge, after_sent, after_resent, after_expired}
+use Rattle.world_laws.proofs.Words.{after_fin_sent, is_fin, syn_resent, EndPhase, Occasion, PlainSegment, PathEnd, Profile, having_sent, Every, Lane, if_so}
+use Rattle.std.specs.List.{find}
 use Rattle.subflow_send.specs.declared.record.Sending.{Sending}
-use Rattle.subflow_send.specs.Records.{Record, SendState, end_of}
-use Rattle.subflow_send.specs.Rules.{is_unsent, uncovered, first_unsent_sent, first_sent, unsent_again, expired_records, fin_sent, after_acknowledge, after_sent, after_resent, after_expired, after_fin_sent, is_fin}
+use Rattle.subflow_send.specs.Records.{end_of}
+use Rattle.subflow_send.specs.Rules.{fin_sent}
 use Rattle.subflow_send.specs.Sendings.{sent_again}
-use Rattle.subflow_tcp.specs.declared.handshake.State.{State as EndPhase}
-use Rattle.subflow_tcp.specs.declared.segments.Occasion.{Occasion}
-use Rattle.subflow_tcp.specs.declared.segments.Occasion.TheVariants as to_send
-use Rattle.subflow_tcp.specs.Emitting.{syn_resent}
-use Rattle.stream_lanes.specs.Lane.{Lane}
-use Rattle.stream_lanes.specs.Words.{Every}
-use Rattle.path_core.specs.End.{PathEnd}
-use Rattle.path_core.specs.Handover.{having_sent}
-use Rattle.path_core.specs.Profile.{Profile}
-use Rattle.path_segments.specs.Spelled.{PlainSegment}
 use Rattle.world_laws.proofs.Lanes.Showing.{KindShows, RecordShows, Knowledge, SenderShows, EndShows}
 
 module _ {X : Type 0} {P : X → Type 0} where
@@ -131,11 +119,7 @@ module _ (c : Profile) (s : Side) (k : Knowledge) (p : Lane) where
   expired_shows state v h = with_records state v _ h (expired_kept _ same_record v.records h.pieces)
 
   pub syn_resent_shows : (now : ℕ) (state : EndPhase) (v : SendState) → Shows state v → Shows state (syn_resent now v)
-  syn_resent_shows now state v h = by (v.una == 0)
-    where
-      by : (b : Bool) → Shows state (if b then after_resent now v else v)
-      by true = resent_shows now state v h
-      by false = h
+  syn_resent_shows now state v h = if_so (Shows state) (v.una == 0) (after_resent now v) v (resent_shows now state v h) h
 
   pub acknowledged_shows : (pos : ℕ) (state : EndPhase) (v : SendState) → Shows state v → Shows state (after_acknowledge pos v)
   acknowledged_shows pos state v h = by (nat_lt v.una pos && nat_le pos v.nxt)
@@ -158,9 +142,9 @@ module _ (c : Profile) (s : Side) (k : Knowledge) (p : Lane) where
 -- an end that has sent a segment
 pub sent_end : (c : Profile) (s : Side) (out back : Lane) (occasion : Occasion) (now : ℕ) (sg : PlainSegment) (e : PathEnd) → EndShows c s e out back
     → EndShows c s (having_sent occasion now sg e) out back
-sent_end c s out back to_send.Reset now sg e h = record { sender = h.sender; receiver = h.receiver; acks = h.acks; told = h.told; treated = h.treated; held = h.held; pairs = h.pairs }
-sent_end c s out back to_send.Answer now sg e h = record { sender = h.sender; receiver = h.receiver; acks = h.acks; told = h.told; treated = h.treated; held = h.held; pairs = h.pairs }
-sent_end c s out back to_send.SynAck now sg e h = record {
+sent_end c s out back Occasion.Reset now sg e h = record { sender = h.sender; receiver = h.receiver; acks = h.acks; told = h.told; treated = h.treated; held = h.held; pairs = h.pairs }
+sent_end c s out back Occasion.Answer now sg e h = record { sender = h.sender; receiver = h.receiver; acks = h.acks; told = h.told; treated = h.treated; held = h.held; pairs = h.pairs }
+sent_end c s out back Occasion.SynAck now sg e h = record {
   sender = syn_resent_shows c s _ out now e.tcp.state e.tcp.send h.sender;
   receiver = h.receiver;
   acks = h.acks;
@@ -169,9 +153,9 @@ sent_end c s out back to_send.SynAck now sg e h = record {
   pairs = h.pairs;
   held = h.held;
 }
-sent_end c s out back to_send.Ack now sg e h = record { sender = h.sender; receiver = h.receiver; acks = h.acks; told = h.told; treated = h.treated; held = h.held; pairs = h.pairs }
-sent_end c s out back to_send.Probe now sg e h = record { sender = h.sender; receiver = h.receiver; acks = h.acks; told = h.told; treated = h.treated; held = h.held; pairs = h.pairs }
-sent_end c s out back to_send.First now sg e h = record {
+sent_end c s out back Occasion.Ack now sg e h = record { sender = h.sender; receiver = h.receiver; acks = h.acks; told = h.told; treated = h.treated; held = h.held; pairs = h.pairs }
+sent_end c s out back Occasion.Probe now sg e h = record { sender = h.sender; receiver = h.receiver; acks = h.acks; told = h.told; treated = h.treated; held = h.held; pairs = h.pairs }
+sent_end c s out back Occasion.First now sg e h = record {
   sender = resent_shows c s _ out now e.tcp.state e.tcp.send h.sender;
   receiver = h.receiver;
   acks = h.acks;
@@ -180,7 +164,7 @@ sent_end c s out back to_send.First now sg e h = record {
   pairs = h.pairs;
   held = h.held;
 }
-sent_end c s out back to_send.Unsent now sg e h = record {
+sent_end c s out back Occasion.Unsent now sg e h = record {
   sender = sent_shows c s _ out now e.tcp.state e.tcp.send h.sender;
   receiver = h.receiver;
   acks = h.acks;
@@ -189,7 +173,7 @@ sent_end c s out back to_send.Unsent now sg e h = record {
   pairs = h.pairs;
   held = h.held;
 }
-sent_end c s out back to_send.Fin now sg e h = record {
+sent_end c s out back Occasion.Fin now sg e h = record {
   sender = fin_sent_shows c s _ out now e.tcp.state e.tcp.send h.sender;
   receiver = h.receiver;
   acks = h.acks;

@@ -1,70 +1,27 @@
 -- What the replies of the books make of the path and of its lanes: what a copy said, grants, bytes that are placed, ends of the streams.
-use Rattle.std.proofs.Common.{◌≡◌, refl, sym, ap, subst, ℕ, zero, suc, ◌^◌, ◌<◌, ◌≤◌, nat_lt, is_some, Bool, true, false, if◌then◌else◌, Option, Some, None, Result, Ok, Err, List, [], ◌∷◌, ◌++◌, length, arith, ◌∙◌, ◌-◌, drop}
-use Rattle.std.proofs.lemmas.Bool.{false≢true, and_parts}
-use Rattle.std.specs.Option.{IfSome}
-use Rattle.std.proofs.lemmas.Option.{same_Some}
-use Rattle.std.proofs.lemmas.List.{length-drop, length-take}
-use Rattle.sides.specs.declared.side.Side.{Side}
-use Rattle.sides.specs.declared.side.Side.TheVariants.{A, B}
-use Rattle.sides.specs.Side.{peer}
-use Rattle.send_book.specs.declared.call.SendCall.TheVariants.{Grant, AckIn, GoIdentity as GoIdentityBook, GoInfinite as GoInfiniteBook}
-use Rattle.send_book.specs.declared.call.SendReply.{SendReply}
-use Rattle.send_book.specs.declared.call.SendReply.TheVariants as send_replies
-use Rattle.send_book.specs.declared.call.Span.{Span}
-use Rattle.send_book.specs.declared.call.Why.{Why}
-use Rattle.send_book.specs.State.{Sending as SendBook}
-use Rattle.send_book.specs.Steps.{decision, reply_by, grant_reply, part_of}
-use Rattle.send_book.proofs.Decisions.{decision-MayTake}
-use Rattle.reassembly_book.specs.declared.call.ReassemblyReply.{ReassemblyReply}
-use Rattle.reassembly_book.specs.declared.call.ReassemblyReply.TheVariants as reassembly_replies
-use Rattle.control_book.specs.declared.call.ControlCall.TheVariants as control_calls
+use Rattle.world_laws.proofs.Words.{◌≡◌, refl, sym, ◌∙◌, ap, subst, ℕ, zero, suc, ◌-◌, ◌≤◌, nat_lt, Bool, true, false, if◌then◌else◌, Option, Some, None}
+use Rattle.world_laws.proofs.Words.{Result, Ok, Err, List, [], ◌∷◌, ◌++◌, length, drop, arith, is_some, ◌<◌, ◌^◌, and_parts, false≢true, length-take}
+use Rattle.world_laws.proofs.Words.{length-drop, same_Some, IfSome, Side, A, B, peer, ControlCall, ReassemblyReply, Span, Why, SendBook, decision, reply_by}
+use Rattle.world_laws.proofs.Words.{grant_reply, AckIn, GoInfiniteBook, GoIdentityBook, decision-MayTake, SendReply, KeptMapping, Piece, InfiniteMapping, stops}
+use Rattle.world_laws.proofs.Words.{Duty, Heard, KeyPair, PeerNotice, Ask, Reply, SixBooks, send_of, reply_of, after_ask, pick, LocalStep, PathEnd, PathState}
+use Rattle.world_laws.proofs.Words.{end_at, goes_on, with_agenda, left, path_of, Carried, values, answered_break, break_ask, answered_grant, grant_in, granted}
+use Rattle.world_laws.proofs.Words.{refused, having_asked, after_piece, failing_by, mapping_here, piece_of, is_placed, answered_piece, piece_ask}
+use Rattle.world_laws.proofs.Words.{with_peer_data_fin, plain_fin, with_fin_told, answered_plain_fin, data_fin_of, fin_ask, answered_fin_heard, is_fin_set}
+use Rattle.world_laws.proofs.Words.{acked_in, is_clash, with_learned, with_data_fin, with_acked, mapping_ask, answered_mapping, answered_ack, heard_ask}
+use Rattle.world_laws.proofs.Words.{item_ask, answered_heard, answered_item, item_of, item_stands, check_failed_ask, with_failure, after_check_failed}
+use Rattle.world_laws.proofs.Words.{answered_check_failed, is_infinite_receive, receiving_infinite, answered_infinite, fell_ask, subflow_ack_stands, after_fell}
+use Rattle.world_laws.proofs.Words.{fell_duties, plain_ack_ask, subflow_ack_ask, answered_plain_ack, answered_subflow_ack, with_plain_ack, plain_next}
+use Rattle.world_laws.proofs.Words.{plain_ack_in, plainly_acked, breaks_by_ack, may_go_infinite, fail_ask, answered_fail, book_answered, fail_heard_ask}
+use Rattle.world_laws.proofs.Words.{answered_fail_heard, after_fail_heard, is_infinite_send, identity_ask, answered_identity, answered_fell, syn_window_ask}
+use Rattle.world_laws.proofs.Words.{keys_ask, after_keys, peer_key_ask, opened_ask, answered_peer_key, answered_opened, with_peer_key, is_stopped_by}
+use Rattle.world_laws.proofs.Words.{fast_heard_ask, after_peer_notice, notice_ask, acknowledged_under, Profile, rate_ask, after_rate, answered_rate, item_at}
+use Rattle.world_laws.proofs.Words.{Every-push, IfSome-map, Every, after_events, LaneEvent, Holds, Lane, with_send, ToB, ToA, takes_grant, takes_placed}
+use Rattle.world_laws.proofs.Words.{takes_fin, AskAckIn, GoIdentity}
+use Rattle.send_book.specs.declared.call.SendCall.TheVariants.{Grant}
+use Rattle.send_book.specs.Steps.{part_of}
 use Rattle.subflow_tcp.specs.States as states
-use Rattle.stream_lanes.specs.Lane.{Lane}
-use Rattle.stream_lanes.specs.Lane.Ask.{AskAckIn}
-use Rattle.stream_lanes.specs.Holding.{Holds}
-use Rattle.stream_lanes.specs.Moves.{takes_grant, takes_placed, takes_fin}
-use Rattle.stream_lanes.specs.Words.{Every}
-use Rattle.stream_lanes.proofs.Lists.{Every-push, IfSome-map}
-use Rattle.stream_lanes.specs.Streams.{with_send}
-use Rattle.stream_lanes.specs.Streams.StreamEvent.{GoIdentity}
-use Rattle.stream_lanes.specs.Duo.{Event as LaneEvent, after_events}
-use Rattle.stream_lanes.specs.Duo.Event.{ToA, ToB}
-use Rattle.actor_desk.specs.declared.ask.Ask.{Ask}
-use Rattle.actor_desk.specs.declared.ask.Ask.TheVariants as asks
-use Rattle.actor_desk.specs.declared.ask.LocalStep.TheVariants as steps
-use Rattle.actor_desk.specs.declared.ask.Reply.{Reply}
-use Rattle.actor_desk.specs.declared.ask.Reply.TheVariants as replies
-use Rattle.actor_desk.specs.Desk.{SixBooks, send_of, reply_of, after_ask}
-use Rattle.actor_desk.specs.Words.{pick}
-use Rattle.fallback_state.specs.declared.fall.Event.TheVariants as events
 use Rattle.fallback_state.specs.declared.fall.Event.{Event}
-use Rattle.path_agenda.specs.declared.heard.Heard.{Heard}
-use Rattle.path_agenda.specs.declared.heard.Heard.TheVariants as says
-use Rattle.path_agenda.specs.Agenda.{breaks, stops}
-use Rattle.path_core.specs.Breaking.{break_ask, answered_break}
-use Rattle.path_core.specs.Emission.{granted, grant_in, refused, answered_grant}
-use Rattle.path_core.specs.End.{PathEnd}
-use Rattle.path_agenda.specs.declared.keys.KeyPair.{KeyPair}
-use Rattle.path_agenda.specs.declared.duty.Duty.{Duty}
-use Rattle.path_core.specs.MpCapable.{syn_window_ask, keys_ask, after_keys, peer_key_ask, opened_ask, answered_peer_key, answered_opened, with_peer_key}
-use Rattle.path_core.specs.Deliver.{having_asked, piece_ask, answered_piece, is_placed, piece_of, after_piece, failing_by, mapping_here}
-use Rattle.path_core.specs.DataFin.{with_peer_data_fin, data_fin_of, fin_ask, answered_fin_heard, is_fin_set, plain_fin, answered_plain_fin, with_fin_told, acked_in}
-use Rattle.path_core.specs.Rate.{rate_ask, after_rate, answered_rate}
-use Rattle.dss_mapping.specs.declared.kept.KeptMapping.{KeptMapping}
-use Rattle.path_store.specs.Passing.{Piece}
-use Rattle.path_core.specs.DssIn.{with_learned, is_clash, mapping_ask, answered_mapping, answered_ack, with_acked, with_data_fin}
-use Rattle.path_core.specs.Fallback.{check_failed_ask, with_failure, after_check_failed, answered_check_failed, is_infinite_receive, receiving_infinite, answered_infinite, fell_ask, subflow_ack_stands, after_fell, fell_duties, plain_ack_ask, subflow_ack_ask, answered_plain_ack, answered_subflow_ack, with_plain_ack, plain_next, plain_ack_in, plainly_acked, breaks_by_ack, may_go_infinite, fail_ask, answered_fail, book_answered, fail_heard_ask, answered_fail_heard, after_fail_heard, is_infinite_send, identity_ask, answered_identity, answered_fell}
-use Rattle.path_core.specs.State.{PathState, end_at, goes_on, left, path_of, with_agenda}
-use Rattle.path_core.specs.Profile.{Profile}
-use Rattle.path_core.specs.Treating.{heard_ask, answered_heard, item_ask, answered_item, item_stands, item_of}
-use Rattle.path_core.specs.Modes.{acknowledged_under}
-use Rattle.path_store.specs.declared.infinite_mapping.InfiniteMapping.{InfiniteMapping}
-use Rattle.path_core.specs.Values.{Carried, values}
-use Rattle.path_core.specs.Choices.{item_at}
-use Rattle.path_core.specs.FastClose.{is_stopped_by, fast_heard_ask}
-use Rattle.path_core.specs.Addresses.{notice_ask, after_peer_notice}
-use Rattle.path_agenda.specs.declared.notice.PeerNotice.{PeerNotice}
-use Rattle.path_agenda.specs.declared.notice.PeerNotice.TheVariants as notes
+use Rattle.path_agenda.specs.Agenda.{breaks}
 use Rattle.world_laws.proofs.Lanes.Answering.{IsReady, Steps, shows_at, agenda_step, agenda_side, end_step, did_step, did_then, break_step, rate_quiet}
 use Rattle.world_laws.proofs.Lanes.Doing.{granted_lane, refused_lane, wants_grant, hears_ack, wants_fin, hears_none, hears_sub}
 use Rattle.world_laws.proofs.Lanes.Ending.{granted_end, refused_end, idle_end, IsFit, heard_end, unheard_end}
@@ -105,10 +62,10 @@ every_item (suc n) (x ∷ xs) h = every_item n xs (every_rest x xs h)
 
 -- a granted span begins at a written place, and has as many bytes as the piece
 granted_fits : (c : Profile) (s : Side) (out back : Lane) (path most : ℕ) (standby : Bool) (b : SendBook) (span : Span) (piece : List ℕ) → length b.marks < 2 ^ 63 → length b.marks ≡ length b.written → 1 ≤ most
-    → grant_reply path most standby b ≡ send_replies.Granted span piece → IsFit c s out back span piece
+    → grant_reply path most standby b ≡ SendReply.Granted span piece → IsFit c s out back span piece
 granted_fits c s out back path most standby b span piece short tiles some is = by (decision path most standby b) refl is
   where
-    by : (d : Result Span Why) → decision path most standby b ≡ d → reply_by d b ≡ send_replies.Granted span piece → IsFit c s out back span piece
+    by : (d : Result Span Why) → decision path most standby b ≡ d → reply_by d b ≡ SendReply.Granted span piece → IsFit c s out back span piece
     by (Ok x) decided e =
         let same : x ≡ span = cc in
         let bytes : part_of x b.written ≡ piece = cc in
@@ -161,12 +118,12 @@ module _ (six : SixBooks) (others : Others) (p : PathState Carried) (ab ba : Lan
     ack_of next window = ack_reply_at p.profile six others next window s
 
     pub data_ack_step : (next window : ℕ) → e.modes.identity ≡ false → HasAck out.acks next window
-        → Makes (asks.Send s (AckIn next window)) (answered_ack s next (reply_of six (asks.Send s (AckIn next window))) p)
+        → Makes (Ask.Send s (AckIn next window)) (answered_ack s next (reply_of six (Ask.Send s (AckIn next window))) p)
     data_ack_step next window above has =
         ack_side p.profile six others next window s p _ ab ba h (hears_ack out next window (shows.sender.plain ∙ above) has)
-        (side_kept p.profile p ab ba h s _ back (with_acked next (replies.Send (ack_of next window)) e) _
-        (did_then p.profile s _ (with_acked next (replies.Send (ack_of next window)) e) out _ back back (heard_end p.profile s out back next (ack_of next window) e shows)
-        (noted_shows p.profile s _ _ next (record e { sending = acked_in next (replies.Send (ack_of next window)) e.sending }))))
+        (side_kept p.profile p ab ba h s _ back (with_acked next (Reply.Send (ack_of next window)) e) _
+        (did_then p.profile s _ (with_acked next (Reply.Send (ack_of next window)) e) out _ back back (heard_end p.profile s out back next (ack_of next window) e shows)
+        (noted_shows p.profile s _ _ next (record e { sending = acked_in next (Reply.Send (ack_of next window)) e.sending }))))
 
     -- where the side sends without mappings that of the subflow stands for it
     abbrev AcksBy : Option ℕ → Type 0
@@ -197,7 +154,7 @@ module _ (six : SixBooks) (others : Others) (p : PathState Carried) (ab ba : Lan
         by (Some next) some strolls =
             let window = e.treated.window in
             ack_side p.profile six others next window s p _ ab ba h strolls
-            (side_kept p.profile p ab ba h s _ back (record e { sending = acked_in next (replies.Send (ack_of next window)) e.sending }) _ (heard_end p.profile s out back next (ack_of next window) e shows))
+            (side_kept p.profile p ab ba h s _ back (record e { sending = acked_in next (Reply.Send (ack_of next window)) e.sending }) _ (heard_end p.profile s out back next (ack_of next window) e shows))
 
     pub syn_window_step : Makes (syn_window_ask s e) (with_agenda (left p) p)
     syn_window_step =
@@ -209,14 +166,14 @@ module _ (six : SixBooks) (others : Others) (p : PathState Carried) (ab ba : Lan
     -- ---- what a copy said
 
     -- what is told of the mode changes the end's modes, and then these are to be done
-    pub fell_step : (event : Event) → MayCall s (control_calls.Fell (path_of p) event) six → (f : PathEnd → PathEnd)
+    pub fell_step : (event : Event) → MayCall s (ControlCall.Fell (path_of p) event) six → (f : PathEnd → PathEnd)
         → ((e : PathEnd) → EndShows p.profile s e out back → EndShows p.profile s (f e) out back) → (ds : List Duty)
         → Makes (fell_ask s event p) (goes_on s (f (after_fell event (reply_of six (fell_ask s event p)) e)) ds p)
     fell_step event may f rule ds =
         let r : Reply = reply_of six (fell_ask s event p) in
         end_step six others p ab ba h ready s (fell_ask s event p) (f (after_fell event r e)) ds may (rule (after_fell event r e) (fell_shows p.profile s out back event r e shows))
 
-    pub told_fell : (event : Event) → MayCall s (control_calls.Fell (path_of p) event) six → Makes (fell_ask s event p) (answered_fell s event (reply_of six (fell_ask s event p)) p)
+    pub told_fell : (event : Event) → MayCall s (ControlCall.Fell (path_of p) event) six → Makes (fell_ask s event p) (answered_fell s event (reply_of six (fell_ask s event p)) p)
     told_fell event may = fell_step event may (λ e. e) (λ e shows. shows) (fell_duties s (reply_of six (fell_ask s event p)) p)
 
     -- ---- MP_FAIL
@@ -235,16 +192,16 @@ module _ (six : SixBooks) (others : Others) (p : PathState Carried) (ab ba : Lan
     fail_step : FailFits → back.alters ≡ true → Makes (fail_ask s p) (answered_fail s (reply_of six (fail_ask s p)) p)
     fail_step fits altered = by (may_go_infinite e) refl
       where
-        by : (b : Bool) → may_go_infinite e ≡ b → let x = if b then asks.Send s (GoInfiniteBook (path_of p)) else fell_ask s (events.FailHeard false) p in
-            Makes x (if b then book_answered s (reply_of six x) p else answered_fell s (events.FailHeard false) (reply_of six x) p)
+        by : (b : Bool) → may_go_infinite e ≡ b → let x = if b then Ask.Send s (GoInfiniteBook (path_of p)) else fell_ask s (Event.FailHeard false) p in
+            Makes x (if b then book_answered s (reply_of six x) p else answered_fell s (Event.FailHeard false) (reply_of six x) p)
         by true goes = book_step six others p ab ba h holds ready s fits.0 (both_alter altered) fits.2 goes fits.1
-        by false scattered = told_fell (events.FailHeard false) tt
+        by false scattered = told_fell (Event.FailHeard false) tt
 
     -- what the book answered is told, and the side may send by that mapping
     pub fail_heard_step : Makes (fail_heard_ask s p) (answered_fail_heard s (reply_of six (fail_heard_ask s p)) p)
     fail_heard_step =
         let r : Reply = reply_of six (fail_heard_ask s p) in
-        let event : Event = events.FailHeard (is_some e.treated.infinite_mapping) in
+        let event : Event = Event.FailHeard (is_some e.treated.infinite_mapping) in
         let f : PathEnd = after_fell event r e in
         end_step six others p ab ba h ready s (fail_heard_ask s p) (after_fail_heard r e) (fell_duties s r p) tt
         (sends_by p.profile s out back e.treated.infinite_mapping (is_infinite_send r) f refl (fell_shows p.profile s out back event r e shows))
@@ -252,73 +209,71 @@ module _ (six : SixBooks) (others : Others) (p : PathState Carried) (ab ba : Lan
     mapping_step : Makes (mapping_ask values s p) (answered_mapping values s (reply_of six (mapping_ask values s p)) p)
     mapping_step = by (is_clash e)
       where
-        by : (b : Bool) → Makes (if b then break_ask values s 1 p else fell_ask s events.MappingHeard p)
-            (if b then answered_break values s 1 (reply_of six (if b then break_ask values s 1 p else fell_ask s events.MappingHeard p)) p
-            else goes_on s (with_learned (after_fell events.MappingHeard (reply_of six (if b then break_ask values s 1 p else fell_ask s events.MappingHeard p)) e))
-            (fell_duties s (reply_of six (if b then break_ask values s 1 p else fell_ask s events.MappingHeard p)) p) p)
+        by : (b : Bool) → Makes (if b then break_ask values s 1 p else fell_ask s Event.MappingHeard p)
+            (if b then answered_break values s 1 (reply_of six (if b then break_ask values s 1 p else fell_ask s Event.MappingHeard p)) p
+            else goes_on s (with_learned (after_fell Event.MappingHeard (reply_of six (if b then break_ask values s 1 p else fell_ask s Event.MappingHeard p)) e))
+            (fell_duties s (reply_of six (if b then break_ask values s 1 p else fell_ask s Event.MappingHeard p)) p) p)
         by true = break_step six others p ab ba h ready s 1
         by false =
-            let r : Reply = reply_of six (fell_ask s events.MappingHeard p) in
-            let f : PathEnd = after_fell events.MappingHeard r e in
-            did_step six others p ab ba h ready s (fell_ask s events.MappingHeard p) (with_learned f) (fell_duties s r p) tt
-            (learned_end p.profile s out back f (agrees six others s ab ba holds) (fell_shows p.profile s out back events.MappingHeard r e shows))
+            let r : Reply = reply_of six (fell_ask s Event.MappingHeard p) in
+            let f : PathEnd = after_fell Event.MappingHeard r e in
+            did_step six others p ab ba h ready s (fell_ask s Event.MappingHeard p) (with_learned f) (fell_duties s r p) tt
+            (learned_end p.profile s out back f (agrees six others s ab ba holds) (fell_shows p.profile s out back Event.MappingHeard r e shows))
 
     -- by the peer's infinite mapping the side falls back to plain TCP, receives from now on, or breaks the path
-    infinite_step : (place : ℕ) (position : Option ℕ) → StaysFirm others.links s six (fell_ask s events.InfiniteHeard p) → e.modes.identity ≡ false
-        → IfSome position (PairTold back.pairs back.fins place) → Makes (fell_ask s events.InfiniteHeard p) (answered_infinite s place position (reply_of six (fell_ask s events.InfiniteHeard p)) p)
-    infinite_step place None firm above has = told_fell events.InfiniteHeard tt
+    infinite_step : (place : ℕ) (position : Option ℕ) → StaysFirm others.links s six (fell_ask s Event.InfiniteHeard p) → e.modes.identity ≡ false
+        → IfSome position (PairTold back.pairs back.fins place) → Makes (fell_ask s Event.InfiniteHeard p) (answered_infinite s place position (reply_of six (fell_ask s Event.InfiniteHeard p)) p)
+    infinite_step place None firm above has = told_fell Event.InfiniteHeard tt
     infinite_step place (Some position) firm above has = by (is_infinite_receive r) refl
       where
         r : Reply
-        r = reply_of six (fell_ask s events.InfiniteHeard p)
+        r = reply_of six (fell_ask s Event.InfiniteHeard p)
 
         f : PathEnd
-        f = after_fell events.InfiniteHeard r e
+        f = after_fell Event.InfiniteHeard r e
 
-        by : (b : Bool) → is_infinite_receive r ≡ b → Makes (fell_ask s events.InfiniteHeard p) (goes_on s (receiving_infinite place (Some position) b f) (fell_duties s r p) p)
-        by false is = told_fell events.InfiniteHeard tt
+        by : (b : Bool) → is_infinite_receive r ≡ b → Makes (fell_ask s Event.InfiniteHeard p) (goes_on s (receiving_infinite place (Some position) b f) (fell_duties s r p) p)
+        by false is = told_fell Event.InfiniteHeard tt
         by true is =
             let told = call_loosens others.links s (path_of p) six firm is in
-            loosen_side p.profile six others s (control_calls.Fell (path_of p) events.InfiniteHeard) p _ ab ba h tt told.0 told.1
+            loosen_side p.profile six others s (ControlCall.Fell (path_of p) Event.InfiniteHeard) p _ ab ba h tt told.0 told.1
             (side_kept p.profile p ab ba h s out (loosened back) (receiving_infinite place (Some position) true f) (fell_duties s r p)
-            (taken_end p.profile s out back place position f ((fell_alike events.InfiniteHeard r e.modes).identity ∙ above) (fell_shows p.profile s out back events.InfiniteHeard r e shows) has))
+            (taken_end p.profile s out back place position f ((fell_alike Event.InfiniteHeard r e.modes).identity ∙ above) (fell_shows p.profile s out back Event.InfiniteHeard r e shows) has))
 
     -- the next acknowledgement, bytes, end or sign of Multipath TCP of a copy, which an end hears that didn't fall back
-    heard_step : (item : Heard) → (item ≡ says.Fail → FailFits) → StaysFirm others.links s six (heard_ask values s item p) → e.modes.identity ≡ false → ItemShows out.acks back item → Makes (heard_ask values s item p) (answered_heard values s item (reply_of six (heard_ask values s item p)) p)
-    heard_step (says.DataAck next window) opens firm above has = data_ack_step next window above has
-    heard_step (says.Mapping fin) opens firm above has = mapping_step
-    heard_step (says.DataFin place) opens firm above has =
-        fell_step events.MappingHeard tt (with_data_fin place) (λ f x. fin_shows p.profile s place f out back has x) (fell_duties s (reply_of six (fell_ask s events.MappingHeard p)) p)
-    heard_step (says.InfiniteMapping place position) opens firm above has = infinite_step place position firm above has
-    heard_step (says.Keys own peer) opens firm above has =
+    heard_step : (item : Heard) → (item ≡ Heard.Fail → FailFits) → StaysFirm others.links s six (heard_ask values s item p) → e.modes.identity ≡ false → ItemShows out.acks back item → Makes (heard_ask values s item p) (answered_heard values s item (reply_of six (heard_ask values s item p)) p)
+    heard_step (Heard.DataAck next window) opens firm above has = data_ack_step next window above has
+    heard_step (Heard.Mapping fin) opens firm above has = mapping_step
+    heard_step (Heard.DataFin place) opens firm above has =
+        fell_step Event.MappingHeard tt (with_data_fin place) (λ f x. fin_shows p.profile s place f out back has x) (fell_duties s (reply_of six (fell_ask s Event.MappingHeard p)) p)
+    heard_step (Heard.InfiniteMapping place position) opens firm above has = infinite_step place position firm above has
+    heard_step (Heard.Keys own peer) opens firm above has =
         let keys : Option KeyPair = Some (record { own = own; peer = peer }) in
         let r : Reply = reply_of six (keys_ask s keys) in
         end_step six others p ab ba h ready s (keys_ask s keys) (after_keys r keys e) (left p) tt (keys_show p.profile s out back r keys e shows)
-    heard_step says.Dss opens firm above has = agenda_step six others p ab ba h ready (asks.Local steps.End) (left p) tt
-    heard_step (says.PeerKey key) opens firm above has = agenda_step six others p ab ba h ready (asks.Local steps.End) (left p) tt
-    heard_step (says.Join form) opens firm above has = agenda_step six others p ab ba h ready (asks.Local steps.End) (left p) tt
-    heard_step (says.Notice notice) opens firm above has =
+    heard_step Heard.Dss opens firm above has = agenda_step six others p ab ba h ready (Ask.Local LocalStep.End) (left p) tt
+    heard_step (Heard.PeerKey key) opens firm above has = agenda_step six others p ab ba h ready (Ask.Local LocalStep.End) (left p) tt
+    heard_step (Heard.Join form) opens firm above has = agenda_step six others p ab ba h ready (Ask.Local LocalStep.End) (left p) tt
+    heard_step (Heard.Notice notice) opens firm above has =
         end_step six others p ab ba h ready s (notice_ask s notice p) (after_peer_notice notice (reply_of six (notice_ask s notice p)) e) (left p) (quiet notice) noted
       where
         quiet : (notice : PeerNotice) → IsQuiet six (notice_ask s notice p)
-        quiet (notes.AddAddr id address port hmac) = tt
-        quiet (notes.AddEcho id) = tt
-        quiet (notes.Removed id) = tt
-        quiet (notes.Prio backup) = tt
+        quiet (PeerNotice.AddAddr id address port hmac) = tt
+        quiet _ = tt
 
         noted : EndShows p.profile s (after_peer_notice notice (reply_of six (notice_ask s notice p)) e) out back
         noted = record { sender = shows.sender; receiver = shows.receiver; acks = shows.acks; told = shows.told; treated = shows.treated; held = shows.held; pairs = shows.pairs }
-    heard_step says.Fail opens firm above has = fail_step (opens refl) has
-    heard_step (says.FastClose key) opens firm above has = stopped_step (is_stopped_by (reply_of six (fast_heard_ask s key)))
+    heard_step Heard.Fail opens firm above has = fail_step (opens refl) has
+    heard_step (Heard.FastClose key) opens firm above has = stopped_step (is_stopped_by (reply_of six (fast_heard_ask s key)))
       where
         stopped_step : (b : Bool) → Makes (fast_heard_ask s key) (with_agenda (if b then stops s else left p) p)
         stopped_step b = agenda_step six others p ab ba h ready (fast_heard_ask s key) (if b then stops s else left p) tt
 
-    item_by : (o : Option Heard) → (o ≡ Some says.Fail → FailFits) → StaysFirm others.links s six (item_ask values s o p) → e.modes.identity ≡ false → IfSome o (ItemShows out.acks back) → Makes (item_ask values s o p) (answered_item values s o (reply_of six (item_ask values s o p)) p)
-    item_by None opens firm above has = agenda_step six others p ab ba h ready (asks.Local steps.End) (left p) tt
+    item_by : (o : Option Heard) → (o ≡ Some Heard.Fail → FailFits) → StaysFirm others.links s six (item_ask values s o p) → e.modes.identity ≡ false → IfSome o (ItemShows out.acks back) → Makes (item_ask values s o p) (answered_item values s o (reply_of six (item_ask values s o p)) p)
+    item_by None opens firm above has = agenda_step six others p ab ba h ready (Ask.Local LocalStep.End) (left p) tt
     item_by (Some item) opens firm above has = heard_step item (λ is. opens (ap Some is)) firm above has
 
-    pub item_step : (index : ℕ) → (item_at index e.treated.items ≡ Some says.Fail → FailFits) → StaysFirm others.links s six (item_ask values s (item_of index e) p) → item_stands (item_of index e) e ≡ true
+    pub item_step : (index : ℕ) → (item_at index e.treated.items ≡ Some Heard.Fail → FailFits) → StaysFirm others.links s six (item_ask values s (item_of index e) p) → item_stands (item_of index e) e ≡ true
         → Makes (item_ask values s (item_of index e) p) (answered_item values s (item_of index e) (reply_of six (item_ask values s (item_of index e) p)) p)
     item_step index opens firm is = by e.modes.identity refl firm is
       where
@@ -332,20 +287,20 @@ module _ (six : SixBooks) (others : Others) (p : PathState Carried) (ab ba : Lan
     pub plain_ack_step : Makes (plain_ack_ask values s p) (answered_plain_ack values s (reply_of six (plain_ack_ask values s p)) p)
     plain_ack_step = by (breaks_by_ack p.profile e)
       where
-        by : (b : Bool) → let x = if b then break_ask values s 6 p else fell_ask s events.PlainAck p in
-            Makes x (if b then answered_break values s 6 (reply_of six x) p else goes_on s (with_plain_ack (after_fell events.PlainAck (reply_of six x) e)) (fell_duties s (reply_of six x) p) p)
+        by : (b : Bool) → let x = if b then break_ask values s 6 p else fell_ask s Event.PlainAck p in
+            Makes x (if b then answered_break values s 6 (reply_of six x) p else goes_on s (with_plain_ack (after_fell Event.PlainAck (reply_of six x) e)) (fell_duties s (reply_of six x) p) p)
         by true = break_step six others p ab ba h ready s 6
-        by false = fell_step events.PlainAck tt with_plain_ack (plain_ack_shows p.profile s out back) (fell_duties s (reply_of six (fell_ask s events.PlainAck p)) p)
+        by false = fell_step Event.PlainAck tt with_plain_ack (plain_ack_shows p.profile s out back) (fell_duties s (reply_of six (fell_ask s Event.PlainAck p)) p)
 
     -- ---- the opening
 
     pub peer_key_step : (o : Option ℕ) → Makes (peer_key_ask s o p) (answered_peer_key s o (reply_of six (peer_key_ask s o p)) p)
-    peer_key_step None = told_fell events.PlainHandshake tt
+    peer_key_step None = told_fell Event.PlainHandshake tt
     peer_key_step (Some key) =
         end_step six others p ab ba h ready s (peer_key_ask s (Some key) p) (with_peer_key (Some key) e) (left p) tt (key_shows p.profile s out back (Some key) e shows)
 
     pub opened_step : (o : Option KeyPair) → Makes (opened_ask s o p) (answered_opened s o (reply_of six (opened_ask s o p)) p)
-    opened_step None = told_fell events.PlainHandshake tt
+    opened_step None = told_fell Event.PlainHandshake tt
     opened_step (Some keys) =
         let r : Reply = reply_of six (keys_ask s (Some keys)) in
         end_step six others p ab ba h ready s (keys_ask s (Some keys)) (after_keys r (Some keys) e) (left p) tt (keys_show p.profile s out back r (Some keys) e shows)
@@ -354,19 +309,19 @@ module _ (six : SixBooks) (others : Others) (p : PathState Carried) (ab ba : Lan
 
     module _ (most : ℕ) (standby : Bool) (some : 1 ≤ most) (short : length (send_of s six).marks < 2 ^ 63) (tiles : length (send_of s six).marks ≡ length (send_of s six).written) (may : states.may_finish e.tcp.state ≡ true) where
       grant_did : (r : SendReply) → grant_reply others.number most standby (send_of s six) ≡ r
-          → SideDid p.profile s p (answered_grant s (grant_in (replies.Send r)) (replies.Send r) p) ab ba (takes_grant r out) back
-      grant_did (send_replies.Granted span piece) is =
+          → SideDid p.profile s p (answered_grant s (grant_in (Reply.Send r)) (Reply.Send r) p) ab ba (takes_grant r out) back
+      grant_did (SendReply.Granted span piece) is =
           side_kept p.profile p ab ba h s (granted_lane span piece out) back (granted p.profile s span piece e) p.agenda
           (granted_end p.profile s out back span piece e may (granted_fits p.profile s out back others.number most standby (send_of s six) span piece short tiles some is) shows)
-      grant_did (send_replies.NoGrant why told) is =
-          side_kept p.profile p ab ba h s (refused_lane why told out) back (refused (replies.Send (send_replies.NoGrant why told)) e) (left p) (refused_end p.profile s out back why told e shows)
-      grant_did (send_replies.Acked bytes fin) is = side_kept p.profile p ab ba h s _ back e (left p) (idle_end p.profile s out back e shows)
+      grant_did (SendReply.NoGrant why told) is =
+          side_kept p.profile p ab ba h s (refused_lane why told out) back (refused (Reply.Send (SendReply.NoGrant why told)) e) (left p) (refused_end p.profile s out back why told e shows)
+      grant_did (SendReply.Acked bytes fin) is = side_kept p.profile p ab ba h s _ back e (left p) (idle_end p.profile s out back e shows)
       grant_did _ is = side_kept p.profile p ab ba h s _ back e (left p) (idle_end p.profile s out back e shows)
 
       abbrev GrantedAt : ℕ → Type 0
       GrantedAt path =
-          let r : Reply = reply_of six (asks.Send s (Grant path most standby)) in
-          Makes (asks.Send s (Grant path most standby)) (answered_grant s (grant_in r) r p)
+          let r : Reply = reply_of six (Ask.Send s (Grant path most standby)) in
+          Makes (Ask.Send s (Grant path most standby)) (answered_grant s (grant_in r) r p)
 
       at_path : GrantedAt others.number
       at_path =
@@ -379,7 +334,7 @@ module _ (six : SixBooks) (others : Others) (p : PathState Carried) (ab ba : Lan
     -- ---- bytes
 
     pub piece_step : (o : Option Piece) → piece_of s p ≡ o → Makes (piece_ask s o) (answered_piece s o (is_placed (reply_of six (piece_ask s o))) p)
-    piece_step None is = end_step six others p ab ba h ready s (asks.Local steps.End) (having_asked e) (breaks s 1) tt (asked_shows p.profile s out back e shows)
+    piece_step None is = end_step six others p ab ba h ready s (Ask.Local LocalStep.End) (having_asked e) (breaks s 1) tt (asked_shows p.profile s out back e shows)
     piece_step (Some piece) is =
         let n = next_ready p.profile s out back _ others.number (back_holds six others s ab ba holds) (ready.checks s) e piece is shows in
         place_side p.profile six others piece.place piece.octets s p _ ab ba h n.wants
@@ -388,11 +343,11 @@ module _ (six : SixBooks) (others : Others) (p : PathState Carried) (ab ba : Lan
         other : SideDid p.profile s p (goes_on s (having_asked e) (breaks s 1) p) ab ba out (asked_back p.profile s out back back.due)
         other = side_kept p.profile p ab ba h s out _ (having_asked e) (breaks s 1) (asked_end p.profile s out back back.due (having_asked e) refl (asked_shows p.profile s out back e shows))
 
-        by : (r : ReassemblyReply) → SideDid p.profile s p (answered_piece s (Some piece) (is_placed (replies.Reassembly r)) p) ab ba out (takes_placed (length piece.octets) r back)
-        by (reassembly_replies.Placed new) =
+        by : (r : ReassemblyReply) → SideDid p.profile s p (answered_piece s (Some piece) (is_placed (Reply.Reassembly r)) p) ab ba out (takes_placed (length piece.octets) r back)
+        by (ReassemblyReply.Placed new) =
             let n = next_ready p.profile s out back _ others.number (back_holds six others s ab ba holds) (ready.checks s) e piece is shows in
             side_kept p.profile p ab ba h s out _ (having_asked (after_piece piece e)) p.agenda (placed_end p.profile s out back new e piece n.at shows)
-        by (reassembly_replies.Beyond edge) = other
+        by (ReassemblyReply.Beyond edge) = other
         by _ = other
 
     -- ---- a check that fails
@@ -403,28 +358,28 @@ module _ (six : SixBooks) (others : Others) (p : PathState Carried) (ab ba : Lan
         let r : Reply = reply_of six (check_failed_ask s p) in
         let checks : Bool = p.profile.spelling.checksums in
         let failing : Option KeptMapping = failing_by checks (mapping_here e) e.tcp in
-        let f : PathEnd = after_fell events.CheckFailed r e in
+        let f : PathEnd = after_fell Event.CheckFailed r e in
         let may : IfSome failing (λ _. out.alters ≡ true) =
         IfSome-map failing (λ kept is. both_alter is) (failing_alters p.profile s out back _ others.number (back_holds six others s ab ba holds) e shows) in
         did_step six others p ab ba h ready s (check_failed_ask s p) (after_check_failed checks r e) (fell_duties s r p) tt
         (check_did p.profile s out back checks (mapping_here e) (with_failure failing r f)
-        (failure_shows p.profile s out back failing r f may (fell_shows p.profile s out back events.CheckFailed r e shows)))
+        (failure_shows p.profile s out back failing r f may (fell_shows p.profile s out back Event.CheckFailed r e shows)))
 
     -- ---- the end of the stream
 
     fin_by : (o : Option ℕ) → IfSome o (HasNumber back.data_fins) → Makes (fin_ask s o) (answered_fin_heard s (is_fin_set (reply_of six (fin_ask s o))) p)
-    fin_by None has = end_step six others p ab ba h ready s (asks.Local steps.End) (having_asked e) (breaks s 1) tt (asked_shows p.profile s out back e shows)
+    fin_by None has = end_step six others p ab ba h ready s (Ask.Local LocalStep.End) (having_asked e) (breaks s 1) tt (asked_shows p.profile s out back e shows)
     fin_by (Some place) has =
         fin_side p.profile six others place s p _ ab ba h (wants_fin back place has) (by (fin_reply_at p.profile six others place s))
       where
         other : SideDid p.profile s p (goes_on s (having_asked e) (breaks s 1) p) ab ba out (asked_back p.profile s out back back.due)
         other = side_kept p.profile p ab ba h s out _ (having_asked e) (breaks s 1) (asked_end p.profile s out back back.due (having_asked e) refl (asked_shows p.profile s out back e shows))
 
-        by : (r : ReassemblyReply) → SideDid p.profile s p (answered_fin_heard s (is_fin_set (replies.Reassembly r)) p) ab ba out (takes_fin r back)
-        by reassembly_replies.FinSet =
+        by : (r : ReassemblyReply) → SideDid p.profile s p (answered_fin_heard s (is_fin_set (Reply.Reassembly r)) p) ab ba out (takes_fin r back)
+        by ReassemblyReply.FinSet =
             side_kept p.profile p ab ba h s out _ (having_asked (with_peer_data_fin e)) (left p)
             (asked_end p.profile s out back true (having_asked (with_peer_data_fin e)) refl (asked_shows p.profile s out back (with_peer_data_fin e) (peer_end_shows p.profile s out back e shows)))
-        by (reassembly_replies.Placed new) = other
+        by (ReassemblyReply.Placed new) = other
         by _ = other
 
     pub fin_heard_step : (index : ℕ) → Makes (fin_ask s (data_fin_of index e)) (answered_fin_heard s (is_fin_set (reply_of six (fin_ask s (data_fin_of index e)))) p)
@@ -432,7 +387,7 @@ module _ (six : SixBooks) (others : Others) (p : PathState Carried) (ab ba : Lan
 
     -- without mappings the FIN stands for it
     pub plain_fin_step : (o : Option ℕ) → plain_fin e ≡ o → Makes (fin_ask s o) (answered_plain_fin s (is_fin_set (reply_of six (fin_ask s o))) p)
-    plain_fin_step None is = end_step six others p ab ba h ready s (asks.Local steps.End) (having_asked e) (breaks s 1) tt (asked_shows p.profile s out back e shows)
+    plain_fin_step None is = end_step six others p ab ba h ready s (Ask.Local LocalStep.End) (having_asked e) (breaks s 1) tt (asked_shows p.profile s out back e shows)
     plain_fin_step (Some place) is =
         fin_side p.profile six others place s p _ ab ba h
         (plain_fin_came p.profile s out back _ _ e place (back_holds six others s ab ba holds) shows is)
@@ -441,12 +396,12 @@ module _ (six : SixBooks) (others : Others) (p : PathState Carried) (ab ba : Lan
         other : SideDid p.profile s p (goes_on s (having_asked e) (breaks s 1) p) ab ba out (asked_back p.profile s out back back.due)
         other = side_kept p.profile p ab ba h s out _ (having_asked e) (breaks s 1) (asked_end p.profile s out back back.due (having_asked e) refl (asked_shows p.profile s out back e shows))
 
-        by : (r : ReassemblyReply) → SideDid p.profile s p (answered_plain_fin s (is_fin_set (replies.Reassembly r)) p) ab ba out (takes_fin r back)
-        by reassembly_replies.FinSet =
+        by : (r : ReassemblyReply) → SideDid p.profile s p (answered_plain_fin s (is_fin_set (Reply.Reassembly r)) p) ab ba out (takes_fin r back)
+        by ReassemblyReply.FinSet =
             let f : PathEnd = with_peer_data_fin (with_fin_told e) in
             side_kept p.profile p ab ba h s out _ (having_asked f) (left p)
             (asked_end p.profile s out back true (having_asked f) refl (asked_shows p.profile s out back f (peer_end_shows p.profile s out back (with_fin_told e) (fin_told_shows p.profile s out back e shows))))
-        by (reassembly_replies.Placed new) = other
+        by (ReassemblyReply.Placed new) = other
         by _ = other
 
     -- ---- the growth of the window

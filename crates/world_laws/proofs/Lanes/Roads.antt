@@ -1,21 +1,14 @@
 -- A direction of a connection, and what is done to the lane of one path in it: moves of the lane, then at most one call of its
 -- books, and moves again.
-use Rattle.std.proofs.Common.{◌≡◌, refl, sym, ◌∙◌, ap, ℕ, zero, suc, ◌<◌, Bool, false, true, Some, List, [], ◌∷◌, ◌++◌, length, set, arith}
-use Rattle.std.specs.List.{slice_get, list_all}
-use Rattle.std.proofs.lemmas.Bool.{and_parts, and_from, false≢true}
-use Rattle.std.proofs.lemmas.List.{set-set}
-use Rattle.send_book.specs.declared.call.SendCall.TheVariants.{Grant, AckIn}
-use Rattle.send_book.specs.State.{Sending}
-use Rattle.send_book.specs.Steps.{reply_to as send_reply, after_call as after_send}
-use Rattle.reassembly_book.specs.declared.call.ReassemblyCall.TheVariants.{Place, Fin, AckOut}
-use Rattle.reassembly_book.specs.State.{Arriving}
-use Rattle.reassembly_book.specs.Steps.{reply_to as arrival_reply, after_call as after_arrival}
-use Rattle.stream_lanes.specs.Lane.{Ask as LaneAsk, Lane}
-use Rattle.stream_lanes.specs.Lane.Ask.{Nothing, AskGrant, AskAckIn, AskPlace, AskFin, AskAckOut}
-use Rattle.stream_lanes.specs.Moves.{Flags, Move, moved, takes_grant, takes_ack, takes_placed, takes_fin, takes_ack_out}
-use Rattle.stream_lanes.specs.Moves.Move.{Open, LookAtSender, LookAtReceiver}
-use Rattle.stream_lanes.specs.Streams.{Reader, Direction, after, asks, asks_at, moves as moves_in}
-use Rattle.stream_lanes.specs.Streams.StreamEvent.{Moves, Asks}
+use Rattle.world_laws.proofs.Words.{◌≡◌, refl, sym, ◌∙◌, ap, ℕ, zero, suc, Bool, true, false, Some, List, [], ◌∷◌, ◌++◌, length, arith, ◌<◌, set, and_parts}
+use Rattle.world_laws.proofs.Words.{and_from, false≢true, set-set, slice_get, list_all, Arriving, arrival_reply, Place, AckOut, Sending, after_send, send_reply}
+use Rattle.world_laws.proofs.Words.{AckIn, Lane, LaneAsk, Direction, asks, asks_at, Reader, moves_in, Flags, Move, moved, takes_grant, takes_ack, takes_placed}
+use Rattle.world_laws.proofs.Words.{takes_fin, takes_ack_out, Nothing, AskGrant, AskAckIn, AskPlace, AskFin, AskAckOut, Moves, Asks, Open, LookAtSender}
+use Rattle.world_laws.proofs.Words.{LookAtReceiver}
+use Rattle.send_book.specs.declared.call.SendCall.TheVariants.{Grant}
+use Rattle.reassembly_book.specs.declared.call.ReassemblyCall.TheVariants.{Fin}
+use Rattle.reassembly_book.specs.Steps.{after_call as after_arrival}
+use Rattle.stream_lanes.specs.Streams.{after}
 
 -- no side fell back, and no join was answered
 abbrev pub no_flags : Flags
@@ -106,11 +99,7 @@ module _ (lanes : List Lane) (number : ℕ) (send : Sending) (arrived : Arriving
 
   asks_there : (a : LaneAsk) (p : Lane) → asks number a p (with_lane p) ≡ with_asked a p
   asks_there Nothing p = refl
-  asks_there (AskGrant max standby) p = put_twice _ _ p _
-  asks_there (AskAckIn next window) p = put_twice _ _ p _
-  asks_there (AskPlace at bytes) p = put_twice _ _ p _
-  asks_there (AskFin at) p = put_twice _ _ p _
-  asks_there AskAckOut p = put_twice _ _ p _
+  asks_there _ p = put_twice _ _ p _
 
   module _ (f : Flags) (within : number < length lanes) where
     pub moved_there : (m : Move) (p : Lane) → is_calm m ≡ true → after f (Moves number m) (with_lane p) ≡ with_lane (move m p)

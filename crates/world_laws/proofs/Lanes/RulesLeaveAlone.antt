@@ -1,47 +1,18 @@
 -- Rules of an end that leave the lanes alone.
-use Rattle.std.proofs.Common.{◌≡◌, refl, sym, ◌∙◌, ap, subst, ℕ, ◌-◌, ◌⊎◌, inl, inr, Bool, true, false, if◌then◌else◌, Option, Some, None, [], arith, List}
-use Rattle.std.proofs.lemmas.Bool.{both_ways, false≢true}
-use Rattle.std.specs.Option.{IfSome}
-use Rattle.sides.specs.declared.side.Side.{Side}
-use Rattle.dss_mapping.specs.declared.kept.KeptMapping.{KeptMapping}
+use Rattle.world_laws.proofs.Words.{◌≡◌, refl, sym, ◌∙◌, ap, subst, ℕ, ◌-◌, inl, inr, ◌⊎◌, Bool, true, false, if◌then◌else◌, Option, Some, None, List, []}
+use Rattle.world_laws.proofs.Words.{arith, both_ways, false≢true, IfSome, Verdict, Side, JoinSyn, ControlReply, KeptMapping, after_forget_from, without_held}
+use Rattle.world_laws.proofs.Words.{after_keep_held, Pending, is_behind, EndPhase, after_begin, KeyPair, Reply, PathEnd, died, Notices, no_notices, after_look}
+use Rattle.world_laws.proofs.Words.{modes_told, notices_told, died_unless_dead, is_listening, joined_by, opened_by, syn_alone, with_mode_refused, after_timer}
+use Rattle.world_laws.proofs.Words.{after_firing, having_asked, is_wrong, forgotten_by, after_keep, after_pieces, is_dropped, is_not_kept, with_peer_data_fin}
+use Rattle.world_laws.proofs.Words.{with_fin_told, after_dss, covered_by, with_failure, after_fell, with_plain_ack, fell_in, mode_in, after_keys, with_peer_key}
+use Rattle.world_laws.proofs.Words.{keys_in, Profile, after_rate, Modes, Treated, nothing_treated, Every-nil, Has-map, Every, AckCopy, Lane, if_so}
 use Rattle.loss_recovery.specs.declared.windows.Congestion.{Congestion}
-use Rattle.loss_recovery.specs.declared.windows.Pending.{Pending}
 use Rattle.loss_recovery.specs.Windows as windows
-use Rattle.fallback_state.specs.declared.fall.Verdict.TheVariants as verdicts
-use Rattle.fallback_state.specs.declared.fall.Event.TheVariants as events
 use Rattle.fallback_state.specs.declared.fall.Event.{Event}
-use Rattle.control_book.specs.declared.call.ControlReply.TheVariants as control_replies
 use Rattle.byte_pieces.specs.Places.{cut}
-use Rattle.stream_lanes.specs.Words.{Every}
-use Rattle.subflow_recv.specs.Receiving.{after_forget_from, without_held, after_keep_held}
-use Rattle.subflow_tcp.specs.declared.handshake.State.{State as EndPhase}
-use Rattle.subflow_tcp.specs.declared.handshake.State.TheVariants as phase
 use Rattle.subflow_tcp.specs.Expiring as expiring
-use Rattle.subflow_tcp.specs.Opening.{after_begin}
-use Rattle.subflow_tcp.specs.State.{is_behind}
 use Rattle.subflow_tcp.specs.States as states
 use Rattle.subflow_tcp.specs.Taking as taking
-use Rattle.stream_lanes.specs.Lane.{Lane, AckCopy}
-use Rattle.stream_lanes.proofs.Lists.{Every-nil, Has-map}
-use Rattle.actor_desk.specs.declared.ask.Reply.{Reply}
-use Rattle.actor_desk.specs.declared.ask.Reply.TheVariants as replies
-use Rattle.path_core.specs.Timer.{after_timer, after_firing}
-use Rattle.path_core.specs.End.{PathEnd, died}
-use Rattle.path_core.specs.Treated.{Treated, nothing_treated}
-use Rattle.path_core.specs.Notices.{Notices, no_notices}
-use Rattle.path_core.specs.Breaking.{died_unless_dead}
-use Rattle.path_agenda.specs.declared.keys.KeyPair.{KeyPair}
-use Rattle.join_handshake.specs.declared.hearing.JoinSyn.{JoinSyn}
-use Rattle.path_core.specs.MpJoin.{opened_by, syn_alone, is_listening, joined_by, with_mode_refused}
-use Rattle.path_core.specs.MpCapable.{with_peer_key, after_keys, keys_in}
-use Rattle.path_core.specs.Deliver.{having_asked, is_wrong, forgotten_by, after_pieces, after_keep, is_dropped, is_not_kept}
-use Rattle.path_core.specs.DataFin.{with_peer_data_fin, with_fin_told}
-use Rattle.path_core.specs.Rate.{after_rate}
-use Rattle.path_core.specs.Fallback.{with_failure, with_plain_ack, after_fell, fell_in, mode_in}
-use Rattle.path_core.specs.Standing.{after_look, modes_told, notices_told}
-use Rattle.path_core.specs.Profile.{Profile}
-use Rattle.path_core.specs.DssIn.{after_dss, covered_by}
-use Rattle.path_core.specs.declared.modes.Modes.{Modes}
 use Rattle.world_laws.proofs.Lanes.Arriving.{syn_both}
 use Rattle.world_laws.proofs.Lanes.Hearing.{cut_shows, cut_there, under_cut, only_cut, dropped_shows, state_shows}
 use Rattle.world_laws.proofs.Lanes.Records.{acknowledged_shows, expired_shows}
@@ -56,39 +27,34 @@ grown_told growth None c = refl
 grown_told growth (Some p) c = refl
 
 waiting_unfinished : (state : EndPhase) → states.is_waiting state ≡ true → is_unfinished state ≡ true
-waiting_unfinished phase.Waiting is = refl
+waiting_unfinished EndPhase.Waiting is = refl
 waiting_unfinished _ is = absurd (false≢true is)
 
 listening_unfinished : (state : EndPhase) → is_listening state ≡ true → is_unfinished state ≡ true
-listening_unfinished phase.Listen is = refl
-listening_unfinished phase.Waiting is = refl
-listening_unfinished phase.SynSent is = refl
-listening_unfinished phase.SynReceived is = refl
-listening_unfinished phase.Established is = refl
-listening_unfinished phase.CloseWait is = refl
-listening_unfinished phase.FinWait1 is = absurd (false≢true is)
-listening_unfinished phase.FinWait2 is = absurd (false≢true is)
-listening_unfinished phase.Closing is = absurd (false≢true is)
-listening_unfinished phase.LastAck is = absurd (false≢true is)
-listening_unfinished phase.TimeWait is = absurd (false≢true is)
-listening_unfinished phase.Dead is = absurd (false≢true is)
+listening_unfinished EndPhase.FinWait1 is = absurd (false≢true is)
+listening_unfinished EndPhase.FinWait2 is = absurd (false≢true is)
+listening_unfinished EndPhase.Closing is = absurd (false≢true is)
+listening_unfinished EndPhase.LastAck is = absurd (false≢true is)
+listening_unfinished EndPhase.TimeWait is = absurd (false≢true is)
+listening_unfinished EndPhase.Dead is = absurd (false≢true is)
+listening_unfinished _ is = refl
 
 -- the modes that an end knows of, but for the fallback
 told_alike : (r : Reply) (m : Modes) → Alike (modes_told r m) m
-told_alike (replies.Control (control_replies.Standing mode standby sole notice)) m = record { identity = refl; own = refl; peer = refl; failed = refl }
+told_alike (Reply.Control (ControlReply.Standing mode standby sole notice)) m = record { identity = refl; own = refl; peer = refl; failed = refl }
 told_alike _ m = record { identity = refl; own = refl; peer = refl; failed = refl }
 
 went_alike : (r : Reply) (m : Modes) → Alike (mode_in r m) m
-went_alike (replies.Control (control_replies.Verdict (verdicts.Went mode))) m = record { identity = refl; own = refl; peer = refl; failed = refl }
+went_alike (Reply.Control (ControlReply.Verdict (Verdict.Went mode))) m = record { identity = refl; own = refl; peer = refl; failed = refl }
 went_alike _ m = record { identity = refl; own = refl; peer = refl; failed = refl }
 
 pub fell_alike : (event : Event) (r : Reply) (m : Modes) → Alike (fell_in event r m) m
-fell_alike events.PlainData r m = let a = went_alike r m in record { identity = a.identity; own = a.own; peer = a.peer; failed = a.failed }
-fell_alike events.PlainAck r m = let a = went_alike r m in record { identity = a.identity; own = a.own; peer = a.peer; failed = a.failed }
+fell_alike Event.PlainData r m = let a = went_alike r m in record { identity = a.identity; own = a.own; peer = a.peer; failed = a.failed }
+fell_alike Event.PlainAck r m = let a = went_alike r m in record { identity = a.identity; own = a.own; peer = a.peer; failed = a.failed }
 fell_alike _ r m = went_alike r m
 
 keyed_alike : (r : Reply) (keys : Option KeyPair) (m : Modes) → Alike (keys_in r keys m) m
-keyed_alike (replies.Control control_replies.Noted) (Some keys) m = record { identity = refl; own = refl; peer = refl; failed = refl }
+keyed_alike (Reply.Control ControlReply.Noted) (Some keys) m = record { identity = refl; own = refl; peer = refl; failed = refl }
 keyed_alike _ keys m = record { identity = refl; own = refl; peer = refl; failed = refl }
 
 -- where nothing is acknowledged, position 0 is
@@ -124,7 +90,7 @@ module _ (c : Profile) (s : Side) (out back : Lane) where
 
   -- a check failed, which acknowledgements tell, or the reset of the path
   pub failure_shows : (o : Option KeptMapping) (r : Reply) (e : PathEnd) → IfSome o (λ _. out.alters ≡ true) → Shows e → Shows (with_failure o r e)
-  failure_shows (Some kept) (replies.Control (control_replies.Verdict verdicts.SendFail)) e may h = record {
+  failure_shows (Some kept) (Reply.Control (ControlReply.Verdict Verdict.SendFail)) e may h = record {
     sender = h.sender;
     receiver = h.receiver;
     acks = h.acks;
@@ -133,7 +99,7 @@ module _ (c : Profile) (s : Side) (out back : Lane) where
     pairs = (h.pairs.0, h.pairs.1, h.pairs.2, h.pairs.3, may, h.pairs.5);
     held = h.held;
   }
-  failure_shows (Some kept) (replies.Control (control_replies.Verdict (verdicts.BreakPath reason))) e may h = record {
+  failure_shows (Some kept) (Reply.Control (ControlReply.Verdict (Verdict.BreakPath reason))) e may h = record {
     sender = h.sender;
     receiver = h.receiver;
     acks = h.acks;
@@ -221,7 +187,7 @@ module _ (c : Profile) (s : Side) (out back : Lane) where
   -- the waiting end opens
   opened_state : (b : Bool) (e : PathEnd) → (b ≡ true → is_unfinished e.tcp.state ≡ true) → Shows e → Shows (record e { tcp = if b then after_begin e.tcp else e.tcp })
   opened_state true e un h = record {
-    sender = state_shows c s _ out e.tcp.state phase.SynSent e.tcp.send (λ x. un refl) h.sender;
+    sender = state_shows c s _ out e.tcp.state EndPhase.SynSent e.tcp.send (λ x. un refl) h.sender;
     receiver = h.receiver;
     acks = h.acks;
     told = h.told;
@@ -262,7 +228,7 @@ module _ (c : Profile) (s : Side) (out back : Lane) where
   dead_tcp : (reset : Bool) (e : PathEnd) (t : Treated) → TreatedShows t out.acks back → (t.asked ≡ false → e.treated.asked ≡ false) → PairsShow e.modes t.infinite_mapping t.failed_mapping out back → Shows e
       → Shows (record e { tcp = taking.after_death reset e.tcp; treated = t })
   dead_tcp reset e t shows calm pairs h = record {
-    sender = state_shows c s _ out e.tcp.state phase.Dead _ (λ no_more. absurd (false≢true no_more))
+    sender = state_shows c s _ out e.tcp.state EndPhase.Dead _ (λ no_more. absurd (false≢true no_more))
         (acknowledged_shows c s _ out e.tcp.send.nxt e.tcp.state e.tcp.send h.sender);
     receiver = cut_shows e.tcp.fin_at e.receiving.mappings.live (identity_of e) back (e.tcp.recv.edge - e.tcp.recv.edge) (omega arith) e.tcp.recv h.receiver;
     acks = calmer _ _ calm h.acks;
@@ -279,11 +245,7 @@ module _ (c : Profile) (s : Side) (out back : Lane) where
       (dead_tcp false e nothing_treated (nothing_shows h.treated.nothing) (λ none. calm) (h.pairs.0, h.pairs.1, h.pairs.2, tt, h.pairs.4, tt) h)
 
   pub died_unless_shows : (e : PathEnd) → e.treated.asked ≡ false → Shows e → Shows (died_unless_dead e)
-  died_unless_shows e calm h = by (states.is_dead e.tcp.state)
-    where
-      by : (b : Bool) → Shows (if b then e else died e)
-      by true = h
-      by false = died_shows e calm h
+  died_unless_shows e calm h = if_so Shows (states.is_dead e.tcp.state) e (died e) h (died_shows e calm h)
 
   pub fired_shows : (now : ℕ) (e : PathEnd) → Shows e → Shows (after_firing now e)
   fired_shows now e h = by (expiring.is_sixth e.tcp)

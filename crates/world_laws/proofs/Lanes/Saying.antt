@@ -1,39 +1,14 @@
 -- Each segment that an end sends shows what its lanes have, and so does each copy of it.
-use Rattle.std.proofs.Common.{◌≡◌, refl, subst, ℕ, zero, suc, ◌&&◌, ◌==◌, not, inl, inr, Bool, true, false, cond, if◌then◌else◌, Option, Some, None, List, [], ◌∷◌, sym, ◌-◌, unwrap_or, ap, ◌∙◌}
-use Rattle.std.proofs.lemmas.Bool.{and_parts, eqb-true, both_ways, false≢true, not-true}
-use Rattle.std.proofs.lemmas.Option.{same_Some}
-use Rattle.std.specs.List.{slice_get}
-use Rattle.std.specs.Option.{IfSome}
-use Rattle.sides.specs.declared.side.Side.{Side}
-use Rattle.sides.specs.declared.side.Side.TheVariants.{A, B}
-use Rattle.link_model.specs.declared.flight.Flight.{Flight}
-use Rattle.link_model.specs.Steps.{comes_before, with_flight, with_flights}
-use Rattle.mptcp_options.specs.declared.capable.CapableKeys.TheVariants.{Sender}
-use Rattle.path_segments.specs.declared.segment.PathOption.TheVariants.{Capable, Dss}
-use Rattle.path_segments.specs.Laws.{window_told}
-use Rattle.path_segments.specs.Spelled.{PlainSegment}
-use Rattle.path_segments.specs.declared.segment.PathMapping.TheVariants.{Infinite}
-use Rattle.subflow_send.specs.declared.record.RecordKind.{RecordKind}
-use Rattle.subflow_send.specs.declared.record.RecordKind.TheVariants.{Syn, Data, Fin}
-use Rattle.subflow_send.specs.Records.{Record}
-use Rattle.subflow_tcp.specs.declared.segments.Outgoing.{Outgoing}
-use Rattle.subflow_tcp.specs.Emitting.{is_syn, fin_position, record_segment}
-use Rattle.subflow_tcp.specs.States.{is_opening}
-use Rattle.subflow_send.specs.Rules.{is_fin}
-use Rattle.stream_lanes.specs.Lane.{AckCopy, Lane}
-use Rattle.stream_lanes.specs.Words.{Every}
-use Rattle.stream_lanes.proofs.Lists.{Every-nil, Every-push, Every-append}
-use Rattle.path_core.specs.End.{PathEnd}
-use Rattle.path_core.specs.MpJoin.{is_joined, join_options, third_options}
-use Rattle.path_core.specs.DssOut.{place_numbered, owes_mapping, plain_options, fin_options, data_fin_mapping, is_first_piece, first_piece_options, piece_options, piece_mapping, checksum_told, infinite_options, infinite_or, fail_options, fail_beside}
-use Rattle.path_core.specs.OptionsOut.{capable_options, syn_options, key_options, opening_options, ack_options, record_options, reset_options, segment_of, ack_said, carried_said, record_said, syn_ack_said, fin_said, reset_said, record_or_ack, broken_options, noted_said, notice_option}
-use Rattle.path_core.specs.Modes.{receives_infinite}
-use Rattle.path_store.specs.declared.infinite_mapping.InfiniteMapping.{InfiniteMapping}
-use Rattle.path_core.specs.Profile.{Profile}
-use Rattle.path_core.specs.Choices.{is_side_a}
-use Rattle.path_core.specs.DssIn.{checksum_heard}
-use Rattle.path_agenda.specs.declared.notice.OwnNotice.{OwnNotice}
-use Rattle.path_agenda.specs.declared.notice.OwnNotice.TheVariants as notes
+use Rattle.world_laws.proofs.Words.{◌≡◌, refl, sym, ◌∙◌, ap, subst, ℕ, zero, suc, ◌-◌, ◌&&◌, ◌==◌, not, inl, inr, Bool, true, false, cond, if◌then◌else◌}
+use Rattle.world_laws.proofs.Words.{Option, Some, None, List, [], ◌∷◌, unwrap_or, eqb-true, and_parts, both_ways, false≢true, not-true, same_Some, slice_get}
+use Rattle.world_laws.proofs.Words.{IfSome, Side, A, B, Sender, Record, RecordKind, Syn, Data, Fin, is_fin, is_opening, fin_position, is_syn, record_segment}
+use Rattle.world_laws.proofs.Words.{Outgoing, with_flights, comes_before, with_flight, Flight, PlainSegment, Capable, Dss, window_told, Infinite}
+use Rattle.world_laws.proofs.Words.{InfiniteMapping, OwnNotice, PathEnd, is_joined, join_options, third_options, checksum_heard, receives_infinite}
+use Rattle.world_laws.proofs.Words.{place_numbered, checksum_told, owes_mapping, plain_options, data_fin_mapping, piece_mapping, is_first_piece}
+use Rattle.world_laws.proofs.Words.{first_piece_options, piece_options, fin_options, fail_options, fail_beside, infinite_options, infinite_or, capable_options}
+use Rattle.world_laws.proofs.Words.{syn_options, key_options, opening_options, ack_options, record_options, reset_options, segment_of, ack_said, carried_said}
+use Rattle.world_laws.proofs.Words.{record_said, syn_ack_said, fin_said, reset_said, broken_options, noted_said, notice_option, Profile, is_side_a, Every-push}
+use Rattle.world_laws.proofs.Words.{Every-nil, Every-append, Every, AckCopy, Lane, if_so}
 use Rattle.world_laws.proofs.Lanes.Records.{every_cons}
 use Rattle.world_laws.proofs.Lanes.Showing.{PairTold, HasSub, HasNone, HasMapping, HasNumber, HasFin, KindShows, RecordShows, WindowShows, OptionShows, SegmentShows, IsSummed}
 
@@ -88,11 +63,9 @@ module _ (c : Profile) (s : Side) (e : PathEnd) (acks : List AckCopy) (p : Lane)
 
   beside_says : (window : ℕ) (fin : Option ℕ) → Every (OptionShows c s window acks p) (fail_beside fin e.modes)
   beside_says window (Some fin) = Every-nil _
-  beside_says window None = by (receives_infinite e.modes.mode)
-    where
-      by : (b : Bool) → Every (OptionShows c s window acks p) (fail_options (if b then None else e.modes.failed_mapping))
-      by true = Every-nil _
-      by false = fails_say window e.modes.failed_mapping f.failing
+  beside_says window None =
+      if_so (λ z. Every (OptionShows c s window acks p) (fail_options z)) (receives_infinite e.modes.mode) None e.modes.failed_mapping
+      (Every-nil _) (fails_say window e.modes.failed_mapping f.failing)
 
   ack_options_say : (fin : Option ℕ) → IfSome fin (HasNumber p.data_fins) → Every (OptionShows c s (window_told false e.receiving.window) acks p) (ack_options c s fin e)
   ack_options_say fin h = by e.modes.identity e.modes.clear
@@ -105,18 +78,14 @@ module _ (c : Profile) (s : Side) (e : PathEnd) (acks : List AckCopy) (p : Lane)
 
   -- infinite mappings
   plain_options_say : (window position : ℕ) → PairTold p.pairs p.fins (position - 1) position → Every (OptionShows c s window acks p) (plain_options position e)
-  plain_options_say window position told = by (owes_mapping e)
-    where
-      by : (b : Bool) → Every (OptionShows c s window acks p) (if b then Dss None (Some (Infinite (position - 1) position)) ∷ [] else [])
-      by true = every_one _ (tt, told)
-      by false = Every-nil _
+  plain_options_say window position told =
+      if_so (Every (OptionShows c s window acks p)) (owes_mapping e) (Dss None (Some (Infinite (position - 1) position)) ∷ []) []
+      (every_one _ (tt, told)) (Every-nil _)
 
   own_options_say : (m : InfiniteMapping) → PairTold p.pairs p.fins m.place m.position → Every (OptionShows c s (window_told false e.receiving.window) acks p) (infinite_options m e)
-  own_options_say m told = by (owes_mapping e)
-    where
-      by : (b : Bool) → Every (OptionShows c s (window_told false e.receiving.window) acks p) (Dss (Some e.receiving.next) (if b then Some (Infinite m.place m.position) else None) ∷ [])
-      by true = every_one _ (w.ack, told)
-      by false = every_one _ (w.ack, tt)
+  own_options_say m told =
+      if_so (λ z. Every (OptionShows c s (window_told false e.receiving.window) acks p) (Dss (Some e.receiving.next) z ∷ [])) (owes_mapping e) (Some (Infinite m.place m.position)) None
+      (every_one _ (w.ack, told)) (every_one _ (w.ack, tt))
 
   fin_options_say : (position : ℕ) → TellsPlain e p position → Every (OptionShows c s (window_told false e.receiving.window) acks p) (fin_options position e)
   fin_options_say position plain = by e.modes.identity refl e.modes.own_infinite f.own
@@ -129,18 +98,14 @@ module _ (c : Profile) (s : Side) (e : PathEnd) (acks : List AckCopy) (p : Lane)
 
   capable_say : (window : ℕ) (s : Side) → Every (OptionShows c s window acks p) (capable_options c s e)
   capable_say window A = every_one _ tt
-  capable_say window B = by (e.modes.capable_asked && not e.modes.identity)
-    where
-      by : (b : Bool) → Every (OptionShows c B window acks p) (if b then Capable c.spelling.checksums false (Sender e.modes.own_key) ∷ [] else [])
-      by true = every_one _ tt
-      by false = Every-nil _
+  capable_say window B =
+      if_so (Every (OptionShows c B window acks p)) (e.modes.capable_asked && not e.modes.identity) (Capable c.spelling.checksums false (Sender e.modes.own_key) ∷ []) []
+      (every_one _ tt) (Every-nil _)
 
   syn_options_say : (window : ℕ) (s : Side) → Every (OptionShows c s window acks p) (syn_options c s e)
-  syn_options_say window s = by (is_joined c)
-    where
-      by : (b : Bool) → Every (OptionShows c s window acks p) (if b then join_options c s e.modes else capable_options c s e)
-      by true = joins_say window s
-      by false = capable_say window s
+  syn_options_say window s =
+      if_so (Every (OptionShows c s window acks p)) (is_joined c) (join_options c s e.modes) (capable_options c s e)
+      (joins_say window s) (capable_say window s)
 
   reset_options_say : (window : ℕ) (reason : Option ℕ) → Every (OptionShows c s window acks p) (reset_options reason)
   reset_options_say window None = Every-nil _
@@ -231,10 +196,8 @@ module _ (c : Profile) (s : Side) (e : PathEnd) (acks : List AckCopy) (p : Lane)
     }
       where
         shows : (window : ℕ) (notice : OwnNotice) → OptionShows c s window acks p (notice_option notice e.modes)
-        shows window (notes.AddAddr id) = tt
-        shows window (notes.AddEcho id address port) = tt
-        shows window (notes.Removes id) = tt
-        shows window (notes.Prio backup) = tt
+        shows window (OwnNotice.AddAddr id) = tt
+        shows window _ = tt
 
     pub fin_says : TellsPlain e p (fin_position e.tcp.send) → HasFin p.fins (fin_position e.tcp.send) → SegmentShows c s acks p (fin_said c e)
     fin_says plain h = record {
@@ -331,10 +294,6 @@ module _ (c : Profile) (s : Side) (e : PathEnd) (acks : List AckCopy) (p : Lane)
 
       pub record_says : (r : Record) → RecordTold e p r → RecordShows c s p.alters p.sent p.datas p.fins r → SegmentShows c s acks p (record_said c s r e)
       record_says r plain h = kind_says r.kind r plain h
-
-      pub record_or_ack_says : (o : Option Record) → IfSome o (RecordTold e p) → IfSome o (RecordShows c s p.alters p.sent p.datas p.fins) → SegmentShows c s acks p (record_or_ack c s o e)
-      record_or_ack_says None plain h = ack_says e.tcp.send.nxt None tt
-      record_or_ack_says (Some r) plain h = record_says r plain h
 
 -- ---- copies
 

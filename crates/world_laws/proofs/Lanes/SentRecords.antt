@@ -1,21 +1,13 @@
 -- What the record of an end has to do with the pieces that were granted to it: each stands at its position, they have all bytes that
 -- aren't acknowledged, and where they stand together at the end of the record an infinite mapping is right.
-use Rattle.std.proofs.Common.{◌≡◌, refl, sym, ◌∙◌, ap, subst, ℕ, zero, suc, ◌+◌, ◌-◌, ◌^◌, ◌<◌, ◌≤◌, max, ◌&&◌, ◌==◌, nat_lt, nat_le, if◌then◌else◌, ◌⊎◌, inl, inr, ⊎_elim, Bool, true, false, Option, Some, None, List, [], ◌∷◌, ◌++◌, length, take, drop, arith}
-use Rattle.std.proofs.lemmas.Bool.{and_parts, and_from, eqb-true, eq-eqb, lt-ltb, le-ltb, le-leb, cases_lt, false≢true, both_ways}
-use Rattle.std.proofs.lemmas.List.{length-append}
-use Rattle.std.proofs.lemmas.Option.{same_Some, slice_get_within}
-use Rattle.std.specs.List.{slice_get, list_all}
+use Rattle.world_laws.proofs.Words.{◌≡◌, refl, sym, ◌∙◌, ap, subst, ℕ, zero, suc, ◌+◌, ◌-◌, ◌≤◌, ◌&&◌, ◌==◌, max, nat_lt, nat_le, inl, inr, ◌⊎◌, ⊎_elim, Bool}
+use Rattle.world_laws.proofs.Words.{true, false, if◌then◌else◌, Option, Some, None, List, [], ◌∷◌, ◌++◌, length, take, drop, arith, ◌<◌, ◌^◌, lt-ltb, le-ltb}
+use Rattle.world_laws.proofs.Words.{eqb-true, eq-eqb, and_parts, and_from, both_ways, false≢true, cases_lt, le-leb, length-append, same_Some, slice_get_within}
+use Rattle.world_laws.proofs.Words.{slice_get, list_all, IfSome, GrantedPiece, is_open, behind, follows, rises_from, is_tail, has_place, position_of, Every-map}
+use Rattle.world_laws.proofs.Words.{Every-push, IfSome-map, Has-more, in_append, in_more, in_take, in_drop, Every, HasPlace, Cell, Pair, rises, cells_from}
 use Rattle.std.specs.Prelude.{filter, find}
-use Rattle.std.specs.Option.{IfSome}
-use Rattle.stream_lanes.specs.Lane.{Cell, Pair}
-use Rattle.stream_lanes.specs.Moves.{cells_from}
-use Rattle.stream_lanes.specs.Streams.{rises}
-use Rattle.stream_lanes.specs.Words.{Every, Has}
-use Rattle.stream_lanes.specs.Holding.{HasPlace}
-use Rattle.stream_lanes.proofs.Lists.{Every-map, Every-push, IfSome-map, Has-more, in_append, in_more, in_take, in_drop}
-use Rattle.path_store.specs.declared.granted_piece.GrantedPiece.{GrantedPiece}
-use Rattle.path_store.specs.Granted.{is_open}
-use Rattle.path_store.specs.Granted.{behind, follows, rises_from, is_tail, has_place, position_in, position_of}
+use Rattle.stream_lanes.specs.Words.{Has}
+use Rattle.path_store.specs.Granted.{position_in}
 
 -- the record has the piece at its position, which counts the SYN
 pub record IsPieceOf (sent : List Cell) (piece : GrantedPiece) : Type 0 where

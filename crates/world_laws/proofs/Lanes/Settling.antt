@@ -1,33 +1,9 @@
 -- The duties that come to nothing are passed, and the lanes go on by moves alone.
-use Rattle.std.proofs.Common.{◌≡◌, refl, Bool, true, false, if◌then◌else◌, Option, Some, None, List, [], ◌∷◌, ℕ}
-use Rattle.std.specs.Option.{IfSome}
-use Rattle.sides.specs.declared.side.Side.{Side}
-use Rattle.sides.specs.declared.side.Side.TheVariants.{A, B}
-use Rattle.stream_lanes.specs.Holding.{Holds}
-use Rattle.stream_lanes.specs.Lane.{Lane}
-use Rattle.actor_desk.specs.Desk.{SixBooks}
-use Rattle.actor_desk.specs.Words.{pick}
-use Rattle.path_agenda.specs.declared.duty.Duty.{Duty}
-use Rattle.path_agenda.specs.declared.duty.Duty.TheVariants as duties
-use Rattle.path_agenda.specs.declared.duty.AskDuty.TheVariants as ask_duties
-use Rattle.path_agenda.specs.declared.duty.SendDuty.TheVariants as send_duties
-use Rattle.path_agenda.specs.declared.duty.SilentDuty.TheVariants as silent_duties
-use Rattle.path_agenda.specs.declared.duty.StepDuty.TheVariants as step_duties
-use Rattle.path_agenda.specs.declared.heard.Heard.{Heard}
-use Rattle.path_agenda.specs.declared.heard.Heard.TheVariants as says
-use Rattle.path_core.specs.Duties.{stands, passed}
-use Rattle.path_core.specs.Timer.{after_timer}
-use Rattle.path_core.specs.End.{PathEnd}
-use Rattle.path_core.specs.DataFin.{after_pass_fin}
-use Rattle.path_core.specs.Deliver.{after_check, mapping_here, after_pieces, after_keep}
-use Rattle.path_core.specs.DssIn.{with_learned, with_skipped, counts, with_data_fin, after_dss, with_data_ack}
-use Rattle.path_core.specs.State.{PathState, end_at, with_end, with_agenda}
-use Rattle.path_core.specs.Profile.{Profile}
-use Rattle.path_core.specs.Steps.{settled}
-use Rattle.path_core.specs.Treating.{heard_passed, item_passed, item_of}
-use Rattle.path_core.specs.Fallback.{with_plain_ack}
-use Rattle.path_core.specs.Values.{Carried}
-use Rattle.path_core.specs.Choices.{item_at}
+use Rattle.world_laws.proofs.Words.{◌≡◌, refl, ℕ, Bool, true, false, if◌then◌else◌, Option, Some, None, List, [], ◌∷◌, IfSome, Side, A, B, Duty, SendDuty}
+use Rattle.world_laws.proofs.Words.{StepDuty, AskDuty, SilentDuty, Heard, SixBooks, pick, stands, passed, PathEnd, PathState, end_at, with_end, with_agenda}
+use Rattle.world_laws.proofs.Words.{settled, Carried, after_timer, mapping_here, after_keep, after_pieces, after_check, after_pass_fin, with_learned}
+use Rattle.world_laws.proofs.Words.{with_data_fin, with_skipped, counts, after_dss, with_data_ack, item_of, item_passed, heard_passed, with_plain_ack, Profile}
+use Rattle.world_laws.proofs.Words.{item_at, Holds, Lane, if_so}
 use Rattle.world_laws.proofs.Lanes.Ending.{Did, did_nothing}
 use Rattle.world_laws.proofs.Lanes.OfAWorld.{Others, duo_at}
 use Rattle.world_laws.proofs.Lanes.Placing.{learned_end, skipped_shows, passed_fin}
@@ -40,10 +16,10 @@ use Rattle.world_laws.proofs.Lanes.Strolling.{Strolled, strolls_held, agrees, ba
 
 -- whether a duty comes to something doesn't depend on the agenda
 pub stands_anyway : (d : Duty) (es : List Duty) (p : PathState Carried) → stands d (with_agenda es p) ≡ stands d p
-stands_anyway (duties.Ask ask_duties.JoinAgain) es p = refl
-stands_anyway (duties.Step (step_duties.Look s)) es p = refl
-stands_anyway (duties.Send (send_duties.Update s)) es p = refl
-stands_anyway (duties.Silent (silent_duties.Timer s)) es p = refl
+stands_anyway (Duty.Ask AskDuty.JoinAgain) es p = refl
+stands_anyway (Duty.Step (StepDuty.Look s)) es p = refl
+stands_anyway (Duty.Send (SendDuty.Update s)) es p = refl
+stands_anyway (Duty.Silent (SilentDuty.Timer s)) es p = refl
 stands_anyway _ es p = refl
 
 -- on the same lanes
@@ -85,8 +61,8 @@ module _ (six : SixBooks) (others : Others) (c : Profile) where
 
       -- a thing that a copy said
       item_did : (item : Heard) → ItemShows out.acks back item → Did c s (heard_passed s item e) out out back back
-      item_did says.Dss has = did_nothing c s out back (after_dss s e) (dss_shows c s out back e shows)
-      item_did (says.DataAck next window) has = did_nothing c s out back (with_data_ack next e) (record {
+      item_did Heard.Dss has = did_nothing c s out back (after_dss s e) (dss_shows c s out back e shows)
+      item_did (Heard.DataAck next window) has = did_nothing c s out back (with_data_ack next e) (record {
         sender = shows.sender;
         receiver = shows.receiver;
         acks = shows.acks;
@@ -95,23 +71,14 @@ module _ (six : SixBooks) (others : Others) (c : Profile) where
         pairs = shows.pairs;
         held = shows.held;
       })
-      item_did (says.Mapping fin) has = by (counts e)
-        where
-          by : (b : Bool) → Did c s (if b then with_learned e else with_skipped e) out out back back
-          by true = learned_end c s out back e (agrees six others s ab ba holds) shows
-          by false = did_nothing c s out back (with_skipped e) (skipped_shows c s out back e shows)
-      item_did (says.DataFin place) has = by (counts e)
-        where
-          by : (b : Bool) → Did c s (if b then with_data_fin place e else e) out out back back
-          by true = did_nothing c s out back (with_data_fin place e) (fin_shows c s place e out back has shows)
-          by false = did_nothing c s out back e shows
-      item_did (says.InfiniteMapping place position) has = did_nothing c s out back e shows
-      item_did (says.PeerKey key) has = did_nothing c s out back e shows
-      item_did (says.Keys own peer) has = did_nothing c s out back e shows
-      item_did (says.Join form) has = did_nothing c s out back e shows
-      item_did (says.Notice notice) has = did_nothing c s out back e shows
-      item_did says.Fail has = did_nothing c s out back e shows
-      item_did (says.FastClose key) has = did_nothing c s out back e shows
+      item_did (Heard.Mapping fin) has =
+          if_so (λ z. Did c s z out out back back) (counts e) (with_learned e) (with_skipped e)
+          (learned_end c s out back e (agrees six others s ab ba holds) shows) (did_nothing c s out back (with_skipped e) (skipped_shows c s out back e shows))
+      item_did (Heard.DataFin place) has =
+          if_so (λ z. Did c s z out out back back) (counts e) (with_data_fin place e) e
+          (did_nothing c s out back (with_data_fin place e) (fin_shows c s place e out back has shows)) (did_nothing c s out back e shows)
+      item_did (Heard.InfiniteMapping place position) has = did_nothing c s out back e shows
+      item_did _ has = did_nothing c s out back e shows
 
       maybe_did : (o : Option Heard) → IfSome o (ItemShows out.acks back) → Did c s (item_passed s o e) out out back back
       maybe_did None has = did_nothing c s out back e shows
@@ -122,17 +89,17 @@ module _ (six : SixBooks) (others : Others) (c : Profile) where
     item_shows s index false = every_item index (end_at s p).treated.items (side_shows c s p ab ba h).treated.items
 
     pub passes : (d : Duty) → Strolled c (passed d p) ab ba
-    passes (duties.Silent (silent_duties.Timer s)) = same_lanes s (after_timer p.clock (end_at s p)) (timer_shows c s (pick s ab ba) (pick s ba ab) p.clock (end_at s p) (side_shows c s p ab ba h))
-    passes (duties.Step (step_duties.Heard s index)) =
+    passes (Duty.Silent (SilentDuty.Timer s)) = same_lanes s (after_timer p.clock (end_at s p)) (timer_shows c s (pick s ab ba) (pick s ba ab) p.clock (end_at s p) (side_shows c s p ab ba h))
+    passes (Duty.Step (StepDuty.Heard s index)) =
         end_strolled s (item_passed s (item_of index (end_at s p)) (end_at s p)) (maybe_did s (item_of index (end_at s p)) (item_shows s index (end_at s p).modes.identity))
-    passes (duties.Silent (silent_duties.Keep s)) = end_strolled s (after_keep s (end_at s p)) (keep_did c s (pick s ab ba) (pick s ba ab) (end_at s p) (side_shows c s p ab ba h))
-    passes (duties.Ask (ask_duties.CheckFailed s)) = end_strolled s (after_check p.profile (end_at s p))
+    passes (Duty.Silent (SilentDuty.Keep s)) = end_strolled s (after_keep s (end_at s p)) (keep_did c s (pick s ab ba) (pick s ba ab) (end_at s p) (side_shows c s p ab ba h))
+    passes (Duty.Ask (AskDuty.CheckFailed s)) = end_strolled s (after_check p.profile (end_at s p))
         (check_did c s (pick s ab ba) (pick s ba ab) p.profile.spelling.checksums (mapping_here (end_at s p)) (end_at s p) (side_shows c s p ab ba h))
-    passes (duties.Silent (silent_duties.PassFin s)) =
+    passes (Duty.Silent (SilentDuty.PassFin s)) =
         end_strolled s (after_pass_fin (end_at s p)) (passed_fin c s (pick s ab ba) (pick s ba ab) _ _ (end_at s p) (back_holds six others s ab ba holds) (side_shows c s p ab ba h))
-    passes (duties.Send (send_duties.Update s)) = stays_so c p ab ba h
-    passes (duties.Step (step_duties.PlainAck s)) = same_lanes s (with_plain_ack (end_at s p)) (plain_ack_shows c s (pick s ab ba) (pick s ba ab) (end_at s p) (side_shows c s p ab ba h))
-    passes (duties.Step (step_duties.Unmapped s)) = same_lanes s (after_pieces (end_at s p)) (unmapped_shows c s (pick s ab ba) (pick s ba ab) (end_at s p) (side_shows c s p ab ba h))
+    passes (Duty.Send (SendDuty.Update s)) = stays_so c p ab ba h
+    passes (Duty.Step (StepDuty.PlainAck s)) = same_lanes s (with_plain_ack (end_at s p)) (plain_ack_shows c s (pick s ab ba) (pick s ba ab) (end_at s p) (side_shows c s p ab ba h))
+    passes (Duty.Step (StepDuty.Unmapped s)) = same_lanes s (after_pieces (end_at s p)) (unmapped_shows c s (pick s ab ba) (pick s ba ab) (end_at s p) (side_shows c s p ab ba h))
     passes _ = stays_so c p ab ba h
 
   agenda_stays : (ds : List Duty) (p : PathState Carried) (ab ba : Lane) → PathShows c p ab ba → Strolled c (with_agenda ds p) ab ba

@@ -1,48 +1,16 @@
 -- What the ends of a path and the copies on its link have to do with the two lanes that the path is shown as. Positions of a
 -- path count its SYN, those of a lane its bytes alone.
-use Rattle.std.proofs.Common.{◌≡◌, ℕ, suc, ◌-◌, ◌⊎◌, Bool, true, false, Option, Some, None, List, [], length, take, drop, ◌+◌, ◌≤◌, is_some}
-use Rattle.std.specs.List.{slice_get}
-use Rattle.std.specs.Option.{IfSome}
-use Rattle.sides.specs.declared.side.Side.{Side}
-use Rattle.sides.specs.declared.side.Side.TheVariants.{A, B}
-use Rattle.dss_mapping.specs.declared.kept.KeptMapping.{KeptMapping}
-use Rattle.mptcp_options.specs.declared.capable.CapableKeys.{CapableKeys}
-use Rattle.mptcp_options.specs.declared.capable.CapableKeys.TheVariants.{WithData}
-use Rattle.path_segments.specs.declared.segment.PathMapping.{PathMapping}
-use Rattle.path_segments.specs.declared.segment.PathMapping.TheVariants.{Bytes, End, Infinite}
-use Rattle.path_segments.specs.declared.segment.PathOption.TheVariants.{Capable, Dss, Fail}
-use Rattle.path_segments.specs.Laws.{window_told}
-use Rattle.path_segments.specs.Options.{PlainOption}
-use Rattle.path_segments.specs.Spelled.{PlainSegment}
-use Rattle.path_store.specs.declared.granted_piece.GrantedPiece.{GrantedPiece}
-use Rattle.subflow_send.specs.declared.record.RecordKind.{RecordKind}
-use Rattle.subflow_send.specs.declared.record.RecordKind.TheVariants.{Syn, Data, Fin}
-use Rattle.subflow_send.specs.Records.{Record, SendState}
-use Rattle.subflow_tcp.specs.declared.handshake.State.{State as EndPhase}
-use Rattle.subflow_tcp.specs.declared.handshake.State.TheVariants as phase
-use Rattle.subflow_recv.specs.Receiving.{Receiving, by_place, merged}
-use Rattle.stream_lanes.specs.Lane.{Cell, Mapping, Pair, DataCopy, AckCopy, Lane}
-use Rattle.stream_lanes.specs.Words.{Every, Has}
-use Rattle.stream_lanes.specs.Holding.{HasPlace}
-use Rattle.stream_lanes.specs.Moves.{bytes_of}
-use Rattle.path_agenda.specs.declared.heard.Heard.{Heard}
-use Rattle.path_agenda.specs.declared.heard.Heard.TheVariants as says
-use Rattle.path_core.specs.End.{PathEnd}
-use Rattle.path_core.specs.Treated.{Treated}
-use Rattle.path_store.specs.declared.infinite_mapping.InfiniteMapping.{InfiniteMapping}
-use Rattle.path_core.specs.declared.modes.Modes.{Modes}
-use Rattle.path_core.specs.MpJoin.{join_asked}
-use Rattle.path_core.specs.DssOut.{place_numbered, bare_mapping}
-use Rattle.path_core.specs.State.{PathState}
-use Rattle.path_core.specs.Profile.{Profile}
-use Rattle.segment_wire.specs.Changes.{with_turned_bit}
-use Rattle.link_script.specs.declared.script.ScriptLine.{ScriptLine}
-use Rattle.link_model.specs.Fate.{is_altered}
-use Rattle.path_core.specs.Values.{Carried}
+use Rattle.world_laws.proofs.Words.{◌≡◌, ℕ, suc, ◌+◌, ◌-◌, ◌≤◌, ◌⊎◌, Bool, true, false, Option, Some, None, List, [], length, take, drop, is_some, slice_get}
+use Rattle.world_laws.proofs.Words.{IfSome, Side, A, B, ScriptLine, dss_checksum, with_turned_bit, CapableKeys, WithData, KeptMapping, Receiving, Record}
+use Rattle.world_laws.proofs.Words.{SendState, RecordKind, Syn, Data, Fin, EndPhase, is_altered, PlainOption, PlainSegment, Capable, Dss, Fail, window_told}
+use Rattle.world_laws.proofs.Words.{PathMapping, Bytes, Infinite, InfiniteMapping, GrantedPiece, Heard, PathEnd, PathState, Carried, join_asked, checksum_heard}
+use Rattle.world_laws.proofs.Words.{bare_mapping, place_numbered, Profile, Modes, Treated, Every, HasPlace, Cell, Mapping, Pair, DataCopy, AckCopy, Lane}
+use Rattle.world_laws.proofs.Words.{bytes_of}
+use Rattle.path_segments.specs.declared.segment.PathMapping.TheVariants.{End}
+use Rattle.subflow_recv.specs.Receiving.{by_place, merged}
+use Rattle.stream_lanes.specs.Words.{Has}
 use Rattle.dss_mapping.specs.Mappings.{octets_of}
 use Rattle.path_store.specs.declared.mapped_data_fin.MappedDataFin.{MappedDataFin}
-use Rattle.path_core.specs.DssIn.{checksum_heard}
-use Rattle.dss_checksum.specs.Checksum.{dss_checksum}
 use Rattle.world_laws.proofs.Lanes.SentRecords.{SentShows}
 
 -- ---- what was ever sent on a lane
@@ -170,12 +138,12 @@ RecordShows c s alters sent datas fins r = KindShows c s alters sent datas fins 
 
 -- no FIN was sent, and the end isn't dead
 abbrev pub is_unfinished : EndPhase → Bool
-is_unfinished phase.Waiting = true
-is_unfinished phase.Listen = true
-is_unfinished phase.SynSent = true
-is_unfinished phase.SynReceived = true
-is_unfinished phase.Established = true
-is_unfinished phase.CloseWait = true
+is_unfinished EndPhase.Waiting = true
+is_unfinished EndPhase.Listen = true
+is_unfinished EndPhase.SynSent = true
+is_unfinished EndPhase.SynReceived = true
+is_unfinished EndPhase.Established = true
+is_unfinished EndPhase.CloseWait = true
 is_unfinished _ = false
 
 -- the lane was granted the last place of a piece
@@ -282,10 +250,10 @@ pub record ReceiverShows (recv : Receiving) (fin_at : Option ℕ) (live : List K
 
 -- a thing that a copy said: acknowledgements were sent on the one lane, the rest on the other
 abbrev pub ItemShows : List AckCopy → Lane → Heard → Type 0
-ItemShows acks p (says.DataAck next window) = HasAck acks next window
-ItemShows acks p (says.DataFin place) = HasNumber p.data_fins place
-ItemShows acks p (says.InfiniteMapping place position) = IfSome position (PairTold p.pairs p.fins place)
-ItemShows acks p says.Fail = p.alters ≡ true
+ItemShows acks p (Heard.DataAck next window) = HasAck acks next window
+ItemShows acks p (Heard.DataFin place) = HasNumber p.data_fins place
+ItemShows acks p (Heard.InfiniteMapping place position) = IfSome position (PairTold p.pairs p.fins place)
+ItemShows acks p Heard.Fail = p.alters ≡ true
 ItemShows acks p _ = Unit {0}
 
 pub record TreatedShows (t : Treated) (acks : List AckCopy) (p : Lane) : Type 0 where

@@ -1,36 +1,13 @@
 -- A step of the path that one side's end makes: moves of the lanes, the call of a book, moves again, and what the path shows then.
-use Rattle.std.proofs.Common.{◌≡◌, refl, sym, ◌∙◌, ap, ℕ, Bool, true, Option, Some, None, List, [], ◌∷◌, length, set}
-use Rattle.sides.specs.declared.side.Side.{Side}
-use Rattle.sides.specs.declared.side.Side.TheVariants.{A, B}
-use Rattle.sides.specs.Side.{peer}
-use Rattle.path_segments.specs.Spelled.{PlainSegment}
-use Rattle.send_book.specs.declared.call.SendCall.TheVariants.{Grant, AckIn, Return as ReturnBytes}
-use Rattle.send_book.specs.declared.call.SendReply.{SendReply}
-use Rattle.send_book.specs.declared.call.SendReply.TheVariants as send_replies
-use Rattle.send_book.specs.Steps.{reply_to as send_reply}
-use Rattle.send_book.specs.declared.call.SendCall.TheVariants as send_calls
-use Rattle.reassembly_book.specs.declared.call.ReassemblyCall.TheVariants.{Place, Fin, AckOut}
-use Rattle.reassembly_book.specs.declared.call.ReassemblyReply.{ReassemblyReply}
-use Rattle.reassembly_book.specs.declared.call.ReassemblyReply.TheVariants as reassembly_replies
-use Rattle.reassembly_book.specs.Steps.{reply_to as arrival_reply}
-use Rattle.reassembly_book.specs.declared.call.ReassemblyCall.TheVariants as reassembly_calls
-use Rattle.stream_lanes.specs.Lane.{Ask as LaneAsk, Lane}
-use Rattle.stream_lanes.specs.Lane.Ask.{AskGrant, AskAckIn, AskPlace, AskFin, AskAckOut}
-use Rattle.stream_lanes.specs.Moves.{takes_grant, takes_ack, takes_placed, takes_fin, takes_ack_out}
-use Rattle.stream_lanes.specs.Streams.{Direction}
-use Rattle.stream_lanes.specs.Streams.StreamEvent.{Asks, Return, AbortSend, AbortRead}
-use Rattle.stream_lanes.specs.Duo.{Duo, Event, after_events}
-use Rattle.stream_lanes.specs.Duo.Event.{ToB, ToA}
-use Rattle.actor_desk.specs.declared.ask.Ask.{Ask}
-use Rattle.actor_desk.specs.declared.ask.Ask.TheVariants as asks
-use Rattle.actor_desk.specs.Desk.{SixBooks, send_of, reassembly_of, after_ask}
-use Rattle.actor_desk.specs.Words.{pick}
-use Rattle.path_agenda.specs.declared.duty.Duty.{Duty}
-use Rattle.path_core.specs.End.{PathEnd}
-use Rattle.path_core.specs.Handover.{sent_on}
-use Rattle.path_core.specs.State.{PathState, end_at, goes_on}
-use Rattle.path_core.specs.Profile.{Profile}
-use Rattle.path_core.specs.Values.{Carried, values}
+use Rattle.world_laws.proofs.Words.{◌≡◌, refl, sym, ◌∙◌, ap, ℕ, Bool, true, Option, Some, None, List, [], ◌∷◌, length, set, Side, A, B, peer, ReassemblyCall}
+use Rattle.world_laws.proofs.Words.{ReassemblyReply, arrival_reply, Place, AckOut, SendCall, send_reply, AckIn, ReturnBytes, SendReply, PlainSegment, Duty, Ask}
+use Rattle.world_laws.proofs.Words.{SixBooks, send_of, reassembly_of, after_ask, pick, PathEnd, PathState, end_at, goes_on, Carried, values, Profile, sent_on}
+use Rattle.world_laws.proofs.Words.{Duo, after_events, Lane, LaneAsk, Direction, ToB, ToA, takes_grant, takes_ack, takes_placed, takes_fin, takes_ack_out}
+use Rattle.world_laws.proofs.Words.{AskGrant, AskAckIn, AskPlace, AskFin, AskAckOut, Return, AbortRead, Asks}
+use Rattle.send_book.specs.declared.call.SendCall.TheVariants.{Grant}
+use Rattle.reassembly_book.specs.declared.call.ReassemblyCall.TheVariants.{Fin}
+use Rattle.stream_lanes.specs.Streams.StreamEvent.{AbortSend}
+use Rattle.stream_lanes.specs.Duo.{Event}
 use Rattle.world_laws.proofs.Lanes.Ending.{Did}
 use Rattle.world_laws.proofs.Lanes.OfAWorld.{flags_of, Others, duo_at, IsAsking, LaneAsks, MayCall, CallIs, call_events, Moved, unmoved}
 use Rattle.world_laws.proofs.Lanes.Roads.{Strolls, put_there, with_asked, asked_there}
@@ -93,10 +70,10 @@ pub record Answered (c : Profile) (six : SixBooks) (others : Others) (ask : Ask)
 
 -- an ask that is no call of a send book or of a reassembly book
 abbrev pub IsQuiet : SixBooks → Ask → Type 0
-IsQuiet six (asks.Send s call) = ⊥
-IsQuiet six (asks.Reassembly s call) = ⊥
-IsQuiet six (asks.Control s call) = MayCall s call six
-IsQuiet six (asks.Local step) = Unit {0}
+IsQuiet six (Ask.Send s call) = ⊥
+IsQuiet six (Ask.Reassembly s call) = ⊥
+IsQuiet six (Ask.Control s call) = MayCall s call six
+IsQuiet six (Ask.Local step) = Unit {0}
 
 module _ (c : Profile) (six : SixBooks) (others : Others) where
   -- the duo, by the lane that a side sends on and the one that it hears
@@ -133,17 +110,17 @@ module _ (c : Profile) (six : SixBooks) (others : Others) where
 
   -- nothing is called
   quiet_calls : (ask : Ask) (d : Duo) → IsQuiet six ask → CallIs (Some ask) d None
-  quiet_calls (asks.Send s call) d quiet = absurd quiet
-  quiet_calls (asks.Reassembly s call) d quiet = absurd quiet
-  quiet_calls (asks.Control s call) d quiet = refl
-  quiet_calls (asks.Local step) d quiet = refl
+  quiet_calls (Ask.Send s call) d quiet = absurd quiet
+  quiet_calls (Ask.Reassembly s call) d quiet = absurd quiet
+  quiet_calls (Ask.Control s call) d quiet = refl
+  quiet_calls (Ask.Local step) d quiet = refl
 
   quiet_books : (ask : Ask) (ab ba : Lane) → IsQuiet six ask → Moved (duo_at six ab ba others) (duo_at (after_ask ask six) ab ba others)
-  quiet_books (asks.Send s call) ab ba quiet = absurd quiet
-  quiet_books (asks.Reassembly s call) ab ba quiet = absurd quiet
-  quiet_books (asks.Control s call) ab ba quiet =
+  quiet_books (Ask.Send s call) ab ba quiet = absurd quiet
+  quiet_books (Ask.Reassembly s call) ab ba quiet = absurd quiet
+  quiet_books (Ask.Control s call) ab ba quiet =
       control_moves others.links s call six quiet (set others.lanes_ab others.number ab) (set others.lanes_ba others.number ba) others.reader_a others.reader_b
-  quiet_books (asks.Local step) ab ba quiet = unmoved (duo_at six ab ba others)
+  quiet_books (Ask.Local step) ab ba quiet = unmoved (duo_at six ab ba others)
 
   pub quiet : (ask : Ask) (q : PathState Carried) (ab ba : Lane) → IsQuiet six ask → Strolled c q ab ba → Answered c six others ask q ab ba
   quiet ask q ab ba is w = record {
@@ -185,12 +162,12 @@ module _ (c : Profile) (six : SixBooks) (others : Others) where
   -- ---- calls of the side's send book
 
   grant_asking : (r : SendReply) (p : Lane) (x : LaneAsk) → takes_grant r (record p { asking = x }) ≡ takes_grant r p
-  grant_asking (send_replies.Granted span piece) p x = refl
-  grant_asking (send_replies.NoGrant why told) p x = refl
+  grant_asking (SendReply.Granted span piece) p x = refl
+  grant_asking (SendReply.NoGrant why told) p x = refl
   grant_asking _ p x = refl
 
   ack_asking : (next : ℕ) (r : SendReply) (p : Lane) (x : LaneAsk) → takes_ack next r (record p { asking = x }) ≡ takes_ack next r p
-  ack_asking next (send_replies.Acked bytes fin) p x = refl
+  ack_asking next (SendReply.Acked bytes fin) p x = refl
   ack_asking next _ p x = refl
 
   module _ (most : ℕ) (standby : Bool) where
@@ -198,71 +175,71 @@ module _ (c : Profile) (six : SixBooks) (others : Others) where
     grant_reply_at s = send_reply (send_of s six) (Grant others.number most standby)
 
     pub grant_side : (s : Side) (p q : PathState Carried) (ab ba : Lane) → PathShows c p ab ba → Strolls (pick s ab ba) (record (pick s ab ba) { asking = AskGrant most standby })
-        → SideDid c s p q ab ba (takes_grant (grant_reply_at s) (pick s ab ba)) (pick s ba ab) → Answered c six others (asks.Send s (Grant others.number most standby)) q ab ba
+        → SideDid c s p q ab ba (takes_grant (grant_reply_at s) (pick s ab ba)) (pick s ba ab) → Answered c six others (Ask.Send s (Grant others.number most standby)) q ab ba
     grant_side A p q ab ba h strolls d =
-        side_answered A p q ab ba (record ab { asking = AskGrant most standby }) ba _ ba (asks.Send A (Grant others.number most standby)) (Some (ToB (Asks others.number))) h strolls (record { by = []; calm = refl; to = refl })
+        side_answered A p q ab ba (record ab { asking = AskGrant most standby }) ba _ ba (Ask.Send A (Grant others.number most standby)) (Some (ToB (Asks others.number))) h strolls (record { by = []; calm = refl; to = refl })
         (Asks others.number, refl, (refl, asking_ab (record ab { asking = AskGrant most standby }) ba))
-        (called_ab (record ab { asking = AskGrant most standby }) ba ∙ ap (λ x. Sided A (after_ask (asks.Send A (Grant others.number most standby)) six) x ba) (grant_asking (grant_reply_at A) ab (AskGrant most standby))) d
+        (called_ab (record ab { asking = AskGrant most standby }) ba ∙ ap (λ x. Sided A (after_ask (Ask.Send A (Grant others.number most standby)) six) x ba) (grant_asking (grant_reply_at A) ab (AskGrant most standby))) d
     grant_side B p q ab ba h strolls d =
-        side_answered B p q ab ba (record ba { asking = AskGrant most standby }) ab _ ab (asks.Send B (Grant others.number most standby)) (Some (ToA (Asks others.number))) h strolls (record { by = []; calm = refl; to = refl })
+        side_answered B p q ab ba (record ba { asking = AskGrant most standby }) ab _ ab (Ask.Send B (Grant others.number most standby)) (Some (ToA (Asks others.number))) h strolls (record { by = []; calm = refl; to = refl })
         (Asks others.number, refl, (refl, asking_ba ab (record ba { asking = AskGrant most standby })))
-        (called_ba ab (record ba { asking = AskGrant most standby }) ∙ ap (λ x. Sided B (after_ask (asks.Send B (Grant others.number most standby)) six) x ab) (grant_asking (grant_reply_at B) ba (AskGrant most standby))) d
+        (called_ba ab (record ba { asking = AskGrant most standby }) ∙ ap (λ x. Sided B (after_ask (Ask.Send B (Grant others.number most standby)) six) x ab) (grant_asking (grant_reply_at B) ba (AskGrant most standby))) d
 
   module _ (next window : ℕ) where
     abbrev pub ack_reply_at : Side → SendReply
     ack_reply_at s = send_reply (send_of s six) (AckIn next window)
 
     pub ack_side : (s : Side) (p q : PathState Carried) (ab ba : Lane) → PathShows c p ab ba → Strolls (pick s ab ba) (record (pick s ab ba) { asking = AskAckIn next window })
-        → SideDid c s p q ab ba (takes_ack next (ack_reply_at s) (pick s ab ba)) (pick s ba ab) → Answered c six others (asks.Send s (AckIn next window)) q ab ba
+        → SideDid c s p q ab ba (takes_ack next (ack_reply_at s) (pick s ab ba)) (pick s ba ab) → Answered c six others (Ask.Send s (AckIn next window)) q ab ba
     ack_side A p q ab ba h strolls d =
-        side_answered A p q ab ba (record ab { asking = AskAckIn next window }) ba _ ba (asks.Send A (AckIn next window)) (Some (ToB (Asks others.number))) h strolls (record { by = []; calm = refl; to = refl })
+        side_answered A p q ab ba (record ab { asking = AskAckIn next window }) ba _ ba (Ask.Send A (AckIn next window)) (Some (ToB (Asks others.number))) h strolls (record { by = []; calm = refl; to = refl })
         (Asks others.number, refl, asks_so _ (asking_ab (record ab { asking = AskAckIn next window }) ba))
-        (called_ab (record ab { asking = AskAckIn next window }) ba ∙ ap (λ x. Sided A (after_ask (asks.Send A (AckIn next window)) six) x ba) (ack_asking next (ack_reply_at A) ab (AskAckIn next window))) d
+        (called_ab (record ab { asking = AskAckIn next window }) ba ∙ ap (λ x. Sided A (after_ask (Ask.Send A (AckIn next window)) six) x ba) (ack_asking next (ack_reply_at A) ab (AskAckIn next window))) d
     ack_side B p q ab ba h strolls d =
-        side_answered B p q ab ba (record ba { asking = AskAckIn next window }) ab _ ab (asks.Send B (AckIn next window)) (Some (ToA (Asks others.number))) h strolls (record { by = []; calm = refl; to = refl })
+        side_answered B p q ab ba (record ba { asking = AskAckIn next window }) ab _ ab (Ask.Send B (AckIn next window)) (Some (ToA (Asks others.number))) h strolls (record { by = []; calm = refl; to = refl })
         (Asks others.number, refl, asks_so _ (asking_ba ab (record ba { asking = AskAckIn next window })))
-        (called_ba ab (record ba { asking = AskAckIn next window }) ∙ ap (λ x. Sided B (after_ask (asks.Send B (AckIn next window)) six) x ab) (ack_asking next (ack_reply_at B) ba (AskAckIn next window))) d
+        (called_ba ab (record ba { asking = AskAckIn next window }) ∙ ap (λ x. Sided B (after_ask (Ask.Send B (AckIn next window)) six) x ab) (ack_asking next (ack_reply_at B) ba (AskAckIn next window))) d
 
   pub return_side : (s : Side) (p q : PathState Carried) (ab ba : Lane) → PathShows c p ab ba → SideDid c s p q ab ba (pick s ab ba) (pick s ba ab)
-      → Answered c six others (asks.Send s (ReturnBytes others.number)) q ab ba
+      → Answered c six others (Ask.Send s (ReturnBytes others.number)) q ab ba
   return_side A p q ab ba h d =
-      side_answered A p q ab ba ab ba ab ba (asks.Send A (ReturnBytes others.number)) (Some (ToB (Return others.number))) h (record { by = []; calm = refl; to = refl }) (record { by = []; calm = refl; to = refl })
+      side_answered A p q ab ba ab ba ab ba (Ask.Send A (ReturnBytes others.number)) (Some (ToB (Return others.number))) h (record { by = []; calm = refl; to = refl }) (record { by = []; calm = refl; to = refl })
       (Return others.number, refl, refl) refl d
   return_side B p q ab ba h d =
-      side_answered B p q ab ba ba ab ba ab (asks.Send B (ReturnBytes others.number)) (Some (ToA (Return others.number))) h (record { by = []; calm = refl; to = refl }) (record { by = []; calm = refl; to = refl })
+      side_answered B p q ab ba ba ab ba ab (Ask.Send B (ReturnBytes others.number)) (Some (ToA (Return others.number))) h (record { by = []; calm = refl; to = refl }) (record { by = []; calm = refl; to = refl })
       (Return others.number, refl, refl) refl d
 
   -- the send book is told that the connection stops
   pub abort_send_side : (s : Side) (p q : PathState Carried) (ab ba : Lane) → PathShows c p ab ba → SideDid c s p q ab ba (pick s ab ba) (pick s ba ab)
-      → Answered c six others (asks.Send s send_calls.Abort) q ab ba
+      → Answered c six others (Ask.Send s SendCall.Abort) q ab ba
   abort_send_side A p q ab ba h d =
-      side_answered A p q ab ba ab ba ab ba (asks.Send A send_calls.Abort) (Some (ToB AbortSend)) h (record { by = []; calm = refl; to = refl }) (record { by = []; calm = refl; to = refl })
+      side_answered A p q ab ba ab ba ab ba (Ask.Send A SendCall.Abort) (Some (ToB AbortSend)) h (record { by = []; calm = refl; to = refl }) (record { by = []; calm = refl; to = refl })
       (AbortSend, refl, refl) refl d
   abort_send_side B p q ab ba h d =
-      side_answered B p q ab ba ba ab ba ab (asks.Send B send_calls.Abort) (Some (ToA AbortSend)) h (record { by = []; calm = refl; to = refl }) (record { by = []; calm = refl; to = refl })
+      side_answered B p q ab ba ba ab ba ab (Ask.Send B SendCall.Abort) (Some (ToA AbortSend)) h (record { by = []; calm = refl; to = refl }) (record { by = []; calm = refl; to = refl })
       (AbortSend, refl, refl) refl d
 
   -- ---- calls of its reassembly book
 
   pub abort_receive_side : (s : Side) (p q : PathState Carried) (ab ba : Lane) → PathShows c p ab ba → SideDid c s p q ab ba (pick s ab ba) (pick s ba ab)
-      → Answered c six others (asks.Reassembly s (reassembly_calls.Abort true)) q ab ba
+      → Answered c six others (Ask.Reassembly s (ReassemblyCall.Abort true)) q ab ba
   abort_receive_side A p q ab ba h d =
-      side_answered A p q ab ba ab ba ab ba (asks.Reassembly A (reassembly_calls.Abort true)) (Some (ToA (AbortRead true))) h (record { by = []; calm = refl; to = refl }) (record { by = []; calm = refl; to = refl })
+      side_answered A p q ab ba ab ba ab ba (Ask.Reassembly A (ReassemblyCall.Abort true)) (Some (ToA (AbortRead true))) h (record { by = []; calm = refl; to = refl }) (record { by = []; calm = refl; to = refl })
       (AbortRead true, refl, refl) refl d
   abort_receive_side B p q ab ba h d =
-      side_answered B p q ab ba ba ab ba ab (asks.Reassembly B (reassembly_calls.Abort true)) (Some (ToB (AbortRead true))) h (record { by = []; calm = refl; to = refl }) (record { by = []; calm = refl; to = refl })
+      side_answered B p q ab ba ba ab ba ab (Ask.Reassembly B (ReassemblyCall.Abort true)) (Some (ToB (AbortRead true))) h (record { by = []; calm = refl; to = refl }) (record { by = []; calm = refl; to = refl })
       (AbortRead true, refl, refl) refl d
 
   placed_asking : (count : ℕ) (r : ReassemblyReply) (p : Lane) (x : LaneAsk) → takes_placed count r (record p { asking = x }) ≡ takes_placed count r p
-  placed_asking count (reassembly_replies.Placed new) p x = refl
+  placed_asking count (ReassemblyReply.Placed new) p x = refl
   placed_asking count _ p x = refl
 
   fin_asking : (r : ReassemblyReply) (p : Lane) (x : LaneAsk) → takes_fin r (record p { asking = x }) ≡ takes_fin r p
-  fin_asking reassembly_replies.FinSet p x = refl
+  fin_asking ReassemblyReply.FinSet p x = refl
   fin_asking _ p x = refl
 
   told_asking : (r : ReassemblyReply) (p : Lane) (x : LaneAsk) → takes_ack_out r (record p { asking = x }) ≡ takes_ack_out r p
-  told_asking (reassembly_replies.Ack next window) p x = refl
+  told_asking (ReassemblyReply.Ack next window) p x = refl
   told_asking _ p x = refl
 
   module _ (at : ℕ) (bytes : List ℕ) where
@@ -270,41 +247,41 @@ module _ (c : Profile) (six : SixBooks) (others : Others) where
     place_reply_at s = arrival_reply (reassembly_of s six) (Place at bytes)
 
     pub place_side : (s : Side) (p q : PathState Carried) (ab ba : Lane) → PathShows c p ab ba → Strolls (pick s ba ab) (record (pick s ba ab) { asking = AskPlace at bytes })
-        → SideDid c s p q ab ba (pick s ab ba) (takes_placed (length bytes) (place_reply_at s) (pick s ba ab)) → Answered c six others (asks.Reassembly s (Place at bytes)) q ab ba
+        → SideDid c s p q ab ba (pick s ab ba) (takes_placed (length bytes) (place_reply_at s) (pick s ba ab)) → Answered c six others (Ask.Reassembly s (Place at bytes)) q ab ba
     place_side A p q ab ba h strolls d =
-        side_answered A p q ab ba ab (record ba { asking = AskPlace at bytes }) ab _ (asks.Reassembly A (Place at bytes)) (Some (ToA (Asks others.number))) h (record { by = []; calm = refl; to = refl }) strolls
+        side_answered A p q ab ba ab (record ba { asking = AskPlace at bytes }) ab _ (Ask.Reassembly A (Place at bytes)) (Some (ToA (Asks others.number))) h (record { by = []; calm = refl; to = refl }) strolls
         (Asks others.number, refl, asks_so _ (asking_ba ab (record ba { asking = AskPlace at bytes })))
-        (called_ba ab (record ba { asking = AskPlace at bytes }) ∙ ap (λ x. Sided A (after_ask (asks.Reassembly A (Place at bytes)) six) ab x) (placed_asking (length bytes) (place_reply_at A) ba (AskPlace at bytes))) d
+        (called_ba ab (record ba { asking = AskPlace at bytes }) ∙ ap (λ x. Sided A (after_ask (Ask.Reassembly A (Place at bytes)) six) ab x) (placed_asking (length bytes) (place_reply_at A) ba (AskPlace at bytes))) d
     place_side B p q ab ba h strolls d =
-        side_answered B p q ab ba ba (record ab { asking = AskPlace at bytes }) ba _ (asks.Reassembly B (Place at bytes)) (Some (ToB (Asks others.number))) h (record { by = []; calm = refl; to = refl }) strolls
+        side_answered B p q ab ba ba (record ab { asking = AskPlace at bytes }) ba _ (Ask.Reassembly B (Place at bytes)) (Some (ToB (Asks others.number))) h (record { by = []; calm = refl; to = refl }) strolls
         (Asks others.number, refl, asks_so _ (asking_ab (record ab { asking = AskPlace at bytes }) ba))
-        (called_ab (record ab { asking = AskPlace at bytes }) ba ∙ ap (λ x. Sided B (after_ask (asks.Reassembly B (Place at bytes)) six) ba x) (placed_asking (length bytes) (place_reply_at B) ab (AskPlace at bytes))) d
+        (called_ab (record ab { asking = AskPlace at bytes }) ba ∙ ap (λ x. Sided B (after_ask (Ask.Reassembly B (Place at bytes)) six) ba x) (placed_asking (length bytes) (place_reply_at B) ab (AskPlace at bytes))) d
 
   module _ (at : ℕ) where
     abbrev pub fin_reply_at : Side → ReassemblyReply
     fin_reply_at s = arrival_reply (reassembly_of s six) (Fin at)
 
     pub fin_side : (s : Side) (p q : PathState Carried) (ab ba : Lane) → PathShows c p ab ba → Strolls (pick s ba ab) (record (pick s ba ab) { asking = AskFin at })
-        → SideDid c s p q ab ba (pick s ab ba) (takes_fin (fin_reply_at s) (pick s ba ab)) → Answered c six others (asks.Reassembly s (Fin at)) q ab ba
+        → SideDid c s p q ab ba (pick s ab ba) (takes_fin (fin_reply_at s) (pick s ba ab)) → Answered c six others (Ask.Reassembly s (Fin at)) q ab ba
     fin_side A p q ab ba h strolls d =
-        side_answered A p q ab ba ab (record ba { asking = AskFin at }) ab _ (asks.Reassembly A (Fin at)) (Some (ToA (Asks others.number))) h (record { by = []; calm = refl; to = refl }) strolls
+        side_answered A p q ab ba ab (record ba { asking = AskFin at }) ab _ (Ask.Reassembly A (Fin at)) (Some (ToA (Asks others.number))) h (record { by = []; calm = refl; to = refl }) strolls
         (Asks others.number, refl, asks_so _ (asking_ba ab (record ba { asking = AskFin at })))
-        (called_ba ab (record ba { asking = AskFin at }) ∙ ap (λ x. Sided A (after_ask (asks.Reassembly A (Fin at)) six) ab x) (fin_asking (fin_reply_at A) ba (AskFin at))) d
+        (called_ba ab (record ba { asking = AskFin at }) ∙ ap (λ x. Sided A (after_ask (Ask.Reassembly A (Fin at)) six) ab x) (fin_asking (fin_reply_at A) ba (AskFin at))) d
     fin_side B p q ab ba h strolls d =
-        side_answered B p q ab ba ba (record ab { asking = AskFin at }) ba _ (asks.Reassembly B (Fin at)) (Some (ToB (Asks others.number))) h (record { by = []; calm = refl; to = refl }) strolls
+        side_answered B p q ab ba ba (record ab { asking = AskFin at }) ba _ (Ask.Reassembly B (Fin at)) (Some (ToB (Asks others.number))) h (record { by = []; calm = refl; to = refl }) strolls
         (Asks others.number, refl, asks_so _ (asking_ab (record ab { asking = AskFin at }) ba))
-        (called_ab (record ab { asking = AskFin at }) ba ∙ ap (λ x. Sided B (after_ask (asks.Reassembly B (Fin at)) six) ba x) (fin_asking (fin_reply_at B) ab (AskFin at))) d
+        (called_ab (record ab { asking = AskFin at }) ba ∙ ap (λ x. Sided B (after_ask (Ask.Reassembly B (Fin at)) six) ba x) (fin_asking (fin_reply_at B) ab (AskFin at))) d
 
   abbrev pub told_reply_at : Side → ReassemblyReply
   told_reply_at s = arrival_reply (reassembly_of s six) AckOut
 
   pub told_side : (s : Side) (p q : PathState Carried) (ab ba : Lane) → PathShows c p ab ba → Strolls (pick s ba ab) (record (pick s ba ab) { asking = AskAckOut })
-      → SideDid c s p q ab ba (pick s ab ba) (takes_ack_out (told_reply_at s) (pick s ba ab)) → Answered c six others (asks.Reassembly s AckOut) q ab ba
+      → SideDid c s p q ab ba (pick s ab ba) (takes_ack_out (told_reply_at s) (pick s ba ab)) → Answered c six others (Ask.Reassembly s AckOut) q ab ba
   told_side A p q ab ba h strolls d =
-      side_answered A p q ab ba ab (record ba { asking = AskAckOut }) ab _ (asks.Reassembly A AckOut) (Some (ToA (Asks others.number))) h (record { by = []; calm = refl; to = refl }) strolls
+      side_answered A p q ab ba ab (record ba { asking = AskAckOut }) ab _ (Ask.Reassembly A AckOut) (Some (ToA (Asks others.number))) h (record { by = []; calm = refl; to = refl }) strolls
       (Asks others.number, refl, asks_so _ (asking_ba ab (record ba { asking = AskAckOut })))
-      (called_ba ab (record ba { asking = AskAckOut }) ∙ ap (λ x. Sided A (after_ask (asks.Reassembly A AckOut) six) ab x) (told_asking (told_reply_at A) ba AskAckOut)) d
+      (called_ba ab (record ba { asking = AskAckOut }) ∙ ap (λ x. Sided A (after_ask (Ask.Reassembly A AckOut) six) ab x) (told_asking (told_reply_at A) ba AskAckOut)) d
   told_side B p q ab ba h strolls d =
-      side_answered B p q ab ba ba (record ab { asking = AskAckOut }) ba _ (asks.Reassembly B AckOut) (Some (ToB (Asks others.number))) h (record { by = []; calm = refl; to = refl }) strolls
+      side_answered B p q ab ba ba (record ab { asking = AskAckOut }) ba _ (Ask.Reassembly B AckOut) (Some (ToB (Asks others.number))) h (record { by = []; calm = refl; to = refl }) strolls
       (Asks others.number, refl, asks_so _ (asking_ab (record ab { asking = AskAckOut }) ba))
-      (called_ab (record ab { asking = AskAckOut }) ba ∙ ap (λ x. Sided B (after_ask (asks.Reassembly B AckOut) six) ba x) (told_asking (told_reply_at B) ab AskAckOut)) d
+      (called_ab (record ab { asking = AskAckOut }) ba ∙ ap (λ x. Sided B (after_ask (Ask.Reassembly B AckOut) six) ba x) (told_asking (told_reply_at B) ab AskAckOut)) d

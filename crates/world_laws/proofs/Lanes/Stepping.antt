@@ -1,42 +1,12 @@
 -- A step of the path: the duty that stands first asks, its reply is taken, and the lanes show the path then.
-use Rattle.std.proofs.Common.{◌≡◌, refl, sym, subst, ℕ, ◌^◌, ◌<◌, ◌≤◌, ◌&&◌, ◌||◌, is_some, true, Option, Some, None, List, [], length, arith, false, Bool, if◌then◌else◌, ap, ◌∙◌}
-use Rattle.std.proofs.lemmas.Bool.{and_parts}
-use Rattle.sides.specs.declared.side.Side.{Side}
-use Rattle.sides.specs.declared.side.Side.TheVariants.{A, B}
-use Rattle.send_book.specs.declared.call.SendCall.TheVariants.{Return as ReturnBytes}
-use Rattle.fallback_state.specs.declared.fall.Event.TheVariants as events
-use Rattle.subflow_send.specs.Records.{Record}
+use Rattle.world_laws.proofs.Words.{◌≡◌, refl, sym, ◌∙◌, ap, subst, ℕ, ◌≤◌, ◌&&◌, ◌||◌, Bool, true, false, if◌then◌else◌, Option, Some, None, List, [], length}
+use Rattle.world_laws.proofs.Words.{arith, is_some, ◌<◌, ◌^◌, and_parts, IfSome, Side, A, B, ReturnBytes, Record, InfiniteMapping, leaves, resets, Duty}
+use Rattle.world_laws.proofs.Words.{SendDuty, StepDuty, AskDuty, SilentDuty, replaced, key_heard, keys_heard, Ask, Reply, SixBooks, send_of, reply_of, pick}
+use Rattle.world_laws.proofs.Words.{stands, ask_for, answered, PathEnd, died, after_look, look_ask, PathState, end_at, with_agenda, left, path_of, Carried}
+use Rattle.world_laws.proofs.Words.{values, answered_data, data_stands, first_unsent, data_ask, payload_size, next_event, step_for, asked_at, join_heard_ask}
+use Rattle.world_laws.proofs.Words.{join_begin_ask, piece_of, plain_fin, is_all_granted, answered_leave_noted, Holds, Lane, is_whole}
+use Rattle.fallback_state.specs.declared.fall.Event.{Event}
 use Rattle.subflow_tcp.specs.States as states
-use Rattle.stream_lanes.specs.Holding.{Holds}
-use Rattle.stream_lanes.specs.Lane.{Lane}
-use Rattle.stream_lanes.specs.Moves.{is_whole}
-use Rattle.actor_desk.specs.declared.ask.Ask.{Ask}
-use Rattle.actor_desk.specs.declared.ask.Ask.TheVariants as asks
-use Rattle.actor_desk.specs.declared.ask.Reply.{Reply}
-use Rattle.actor_desk.specs.Desk.{SixBooks, send_of, reply_of}
-use Rattle.actor_desk.specs.Words.{pick}
-use Rattle.path_agenda.specs.declared.duty.Duty.{Duty}
-use Rattle.path_agenda.specs.declared.duty.Duty.TheVariants as duties
-use Rattle.path_agenda.specs.declared.duty.AskDuty.TheVariants as ask_duties
-use Rattle.path_agenda.specs.declared.duty.SendDuty.TheVariants as send_duties
-use Rattle.path_agenda.specs.declared.duty.SilentDuty.TheVariants as silent_duties
-use Rattle.path_agenda.specs.declared.duty.StepDuty.TheVariants as step_duties
-use Rattle.path_agenda.specs.Agenda.{leaves, resets}
-use Rattle.path_core.specs.Duties.{stands, ask_for, answered}
-use Rattle.path_core.specs.Emission.{first_unsent, data_stands, data_ask, answered_data, payload_size}
-use Rattle.path_store.specs.declared.infinite_mapping.InfiniteMapping.{InfiniteMapping}
-use Rattle.path_core.specs.End.{PathEnd, died}
-use Rattle.std.specs.Option.{IfSome}
-use Rattle.path_core.specs.Events.{next_event, step_for}
-use Rattle.path_core.specs.MpJoin.{join_begin_ask, asked_at, join_heard_ask}
-use Rattle.path_agenda.specs.Items.{key_heard, keys_heard}
-use Rattle.path_core.specs.Deliver.{piece_of}
-use Rattle.path_core.specs.DataFin.{plain_fin, is_all_granted}
-use Rattle.path_core.specs.Standing.{look_ask, after_look}
-use Rattle.path_core.specs.State.{PathState, end_at, left, path_of, with_agenda}
-use Rattle.path_core.specs.Values.{Carried, values}
-use Rattle.path_core.specs.FastClose.{answered_leave_noted}
-use Rattle.path_agenda.specs.Words.{replaced}
 use Rattle.world_laws.proofs.Lanes.Answering as answering
 use Rattle.world_laws.proofs.Lanes.Answering.{IsReady, FailOpens, Steps}
 use Rattle.world_laws.proofs.Lanes.Doing.{with_fin_sent, sends_the_fin, sends_own_fin}
@@ -73,7 +43,7 @@ module _ (six : SixBooks) (others : Others) (p : PathState Carried) (ab ba : Lan
 
     -- what the end holds is given back, and then these are to be done
     abbrev ReturnsAt : List Duty → ℕ → Type 0
-    ReturnsAt ds path = Makes (asks.Send s (ReturnBytes path)) (with_agenda ds p)
+    ReturnsAt ds path = Makes (Ask.Send s (ReturnBytes path)) (with_agenda ds p)
 
     returns : (ds : List Duty) → ReturnsAt ds (path_of p)
     returns ds = subst (ReturnsAt ds) (sym numbered) (return_side p.profile six others s p (with_agenda ds p) ab ba h
@@ -85,11 +55,11 @@ module _ (six : SixBooks) (others : Others) (p : PathState Carried) (ab ba : Lan
 
     -- what the end holds is given back, and it is dead
     abbrev LeavesAt : ℕ → Type 0
-    LeavesAt path = Makes (asks.Send s (ReturnBytes path)) (answered_leave_noted s p)
+    LeavesAt path = Makes (Ask.Send s (ReturnBytes path)) (answered_leave_noted s p)
 
     leaves_noted : e.treated.asked ≡ false → LeavesAt (path_of p)
     leaves_noted calm = subst LeavesAt (sym numbered) (return_side p.profile six others s p (answered_leave_noted s p) ab ba h
-        (side_kept p.profile p ab ba h s (pick s ab ba) (pick s ba ab) (died e) (replaced (duties.Ask (ask_duties.Dead s)) p.agenda)
+        (side_kept p.profile p ab ba h s (pick s ab ba) (pick s ba ab) (died e) (replaced (Duty.Ask (AskDuty.Dead s)) p.agenda)
         (did_nothing p.profile s (pick s ab ba) (pick s ba ab) (died e) (died_shows p.profile s (pick s ab ba) (pick s ba ab) e calm shows))))
 
     data_by : e.treated.asked ≡ false → (o : Option Record) → first_unsent e ≡ o → data_stands p.profile s e o ≡ true
@@ -99,7 +69,7 @@ module _ (six : SixBooks) (others : Others) (p : PathState Carried) (ab ba : Lan
         replying.granted_step six others p ab ba h holds ready s (payload_size p.profile) e.modes.standby (omega (arith, size)) (short s) (tiles s)
         (and_parts (states.may_finish e.tcp.state) _ stands).0 numbered
 
-    fin_due : e.treated.asked ≡ false → stands (duties.Send (send_duties.Fin s)) p ≡ true → Answers (duties.Send (send_duties.Fin s))
+    fin_due : e.treated.asked ≡ false → stands (Duty.Send (SendDuty.Fin s)) p ≡ true → Answers (Duty.Send (SendDuty.Fin s))
     fin_due calm is =
         let parts = and_parts (states.may_finish e.tcp.state) _ is in
         answering.fin_step six others p ab ba h ready s calm parts.0 (finishes (ready.opened s parts.0) e.modes.identity refl e.modes.own_infinite refl parts.1)
@@ -123,57 +93,57 @@ module _ (six : SixBooks) (others : Others) (p : PathState Carried) (ab ba : Lan
   -- A duty that comes to something, as far as it sends or ends something nothing is to be asked before; B hears only of joins that
   -- were begun.
   pub duty_step : (d : Duty) → stands d p ≡ true → ((s : Side) → is_shield s d ≡ false → (end_at s p).treated.asked ≡ false) → MayDo six d → DutyIsFirm others.links six p d → FailOpens p ab ba d → Answers d
-  duty_step (duties.Ask ask_duties.JoinAgain) is calm may firm opens =
+  duty_step (Duty.Ask AskDuty.JoinAgain) is calm may firm opens =
       let r : Reply = reply_of six (join_begin_ask (path_of p)) in
-      join_step six others p ab ba h holds (λ s. calm s refl) (join_begin_ask (path_of p)) r (replaced (duties.Ask (ask_duties.Leave A)) p.agenda) (left p) p tt (λ s. calm s refl) h
-  duty_step (duties.Step (step_duties.Look s)) is calm may firm opens =
+      join_step six others p ab ba h holds (λ s. calm s refl) (join_begin_ask (path_of p)) r (replaced (Duty.Ask (AskDuty.Leave A)) p.agenda) (left p) p tt (λ s. calm s refl) h
+  duty_step (Duty.Step (StepDuty.Look s)) is calm may firm opens =
       let r : Reply = reply_of six (look_ask s p) in
       answering.end_step six others p ab ba h ready s (look_ask s p) (after_look r (end_at s p)) (left p) tt (looked_shows p.profile s (pick s ab ba) (pick s ba ab) r (end_at s p) (shows s))
-  duty_step (duties.Ask (ask_duties.Window s)) is calm may firm opens = answering.told_step six others p ab ba h ready s (left p)
-  duty_step (duties.Send (send_duties.Update s)) is calm may firm opens = answering.acknowledges_step six others p ab ba h ready s (calm s refl) (left p)
-  duty_step (duties.Send (send_duties.FastClose s)) is calm may firm opens = answering.fast_close_step six others p ab ba h ready s (calm s refl)
-  duty_step (duties.Send (send_duties.Notice s)) is calm may firm opens = answering.note_step six others p ab ba h ready s (calm s refl)
-  duty_step (duties.Send (send_duties.Syn s)) is calm may firm opens = answering.unsent_step six others p ab ba h ready s (calm s refl) (left p)
-  duty_step (duties.Step (step_duties.Data s)) is calm may firm opens = data_by s (calm s refl) (first_unsent (end_at s p)) refl is
-  duty_step (duties.Send (send_duties.DataFin s)) is calm may firm opens = answering.data_fin_step six others p ab ba h ready s (calm s refl)
-  duty_step (duties.Send (send_duties.Fin s)) is calm may firm opens = fin_due s (calm s refl) is
-  duty_step (duties.Silent (silent_duties.Timer s)) is calm may firm opens = answering.agenda_step six others p ab ba h ready _ (left p) tt
-  duty_step (duties.Step step_duties.Events) is calm may firm opens = events_step six others p ab ba h holds (λ s. calm s refl) (next_event p) (reply_of six (step_for (path_of p) (next_event p)))
-  duty_step (duties.Ask (ask_duties.SynHeard s)) is calm may firm opens = replying.syn_window_step six others p ab ba h holds ready s
-  duty_step (duties.Ask (ask_duties.SynAnswered s)) is calm may firm opens = replying.syn_window_step six others p ab ba h holds ready s
-  duty_step (duties.Ask (ask_duties.PlainHandshake s)) is calm may firm opens = replying.told_fell six others p ab ba h holds ready s events.PlainHandshake tt
-  duty_step (duties.Ask (ask_duties.PeerKey s)) is calm may firm opens = replying.peer_key_step six others p ab ba h holds ready s (key_heard (end_at s p).treated.items)
-  duty_step (duties.Send (send_duties.SynAck s)) is calm may firm opens = answering.syn_ack_step six others p ab ba h ready s (left p)
-  duty_step (duties.Ask (ask_duties.JoinHeard s)) is calm may firm opens = answering.join_heard_step six others p ab ba h ready s (reply_of six (join_heard_ask s (asked_at s p) p)) may
-  duty_step (duties.Send (send_duties.Refuse s)) is calm may firm opens = answering.refuse_step six others p ab ba h ready s
-  duty_step (duties.Ask (ask_duties.Opened s)) is calm may firm opens = replying.opened_step six others p ab ba h holds ready s (keys_heard (end_at s p).treated.items)
-  duty_step (duties.Step (step_duties.Heard s index)) is calm may firm opens = replying.item_step six others p ab ba h holds ready s index (λ fail. (opens fail, numbered, short s)) firm is
-  duty_step (duties.Ask (ask_duties.AckHeard s)) is calm may firm opens = replying.told_fell six others p ab ba h holds ready s events.AckHeard tt
-  duty_step (duties.Ask (ask_duties.CheckFailed s)) is calm may firm opens = replying.check_failed_step six others p ab ba h holds ready s
-  duty_step (duties.Ask (ask_duties.FailHeard s)) is calm may firm opens = replying.fail_heard_step six others p ab ba h holds ready s
-  duty_step (duties.Step (step_duties.PlainAck s)) is calm may firm opens = replying.plain_ack_step six others p ab ba h holds ready s
-  duty_step (duties.Ask (ask_duties.SubflowAck s)) is calm may firm opens = replying.subflow_ack_step six others p ab ba h holds ready s is
-  duty_step (duties.Ask (ask_duties.PlainData s)) is calm may firm opens = replying.told_fell six others p ab ba h holds ready s events.PlainData tt
-  duty_step (duties.Ask (ask_duties.GoIdentity s)) is calm may firm opens = replying.identity_step six others p ab ba h holds ready s (plain_unless others.links s six firm may)
-  duty_step (duties.Step (step_duties.Unmapped s)) is calm may firm opens = answering.break_step six others p ab ba h ready s 6
-  duty_step (duties.Ask (ask_duties.SubflowFin s)) is calm may firm opens = replying.plain_fin_step six others p ab ba h holds ready s (plain_fin (end_at s p)) refl
-  duty_step (duties.Ask (ask_duties.Edge s)) is calm may firm opens = replying.piece_step six others p ab ba h holds ready s (piece_of s p) refl
-  duty_step (duties.Ask (ask_duties.HeardFin s index)) is calm may firm opens = replying.fin_heard_step six others p ab ba h holds ready s index
-  duty_step (duties.Ask (ask_duties.AckOut s)) is calm may firm opens = answering.told_step six others p ab ba h ready s (left p)
-  duty_step (duties.Ask (ask_duties.Rate s)) is calm may firm opens = replying.rate_step six others p ab ba h holds ready s
-  duty_step (duties.Send (send_duties.Acknowledge s)) is calm may firm opens = answering.acknowledges_step six others p ab ba h ready s (calm s refl) (left p)
-  duty_step (duties.Send (send_duties.Again s)) is calm may firm opens = answering.again_step six others p ab ba h ready s (calm s refl)
-  duty_step (duties.Send (send_duties.Answer s)) is calm may firm opens = answering.answer_step six others p ab ba h ready s (calm s refl)
-  duty_step (duties.Send (send_duties.ResetAnswer s)) is calm may firm opens = answering.dead_step six others p ab ba h ready s
-  duty_step (duties.Ask (ask_duties.Return s)) is calm may firm opens = returns s (left p)
-  duty_step (duties.Ask (ask_duties.AbortSend s)) is calm may firm opens = abort_send_side p.profile six others s p (with_agenda (left p) p) ab ba h (done_side s)
-  duty_step (duties.Ask (ask_duties.AbortReceive s)) is calm may firm opens = abort_receive_side p.profile six others s p (with_agenda (left p) p) ab ba h (done_side s)
-  duty_step (duties.Send (send_duties.Resend s)) is calm may firm opens = answering.resend_step six others p ab ba h ready s (calm s refl)
-  duty_step (duties.Ask (ask_duties.BreakAck s reason)) is calm may firm opens = answering.told_step six others p ab ba h ready s (resets s reason)
-  duty_step (duties.Send (send_duties.BreakReset s reason)) is calm may firm opens = answering.reset_step six others p ab ba h ready s (calm s refl) (Some reason) (leaves s)
-  duty_step (duties.Send (send_duties.Reset s)) is calm may firm opens = answering.reset_step six others p ab ba h ready s (calm s refl) None (replaced (duties.Ask (ask_duties.Leave s)) p.agenda)
-  duty_step (duties.Send (send_duties.ResetNoted s)) is calm may firm opens = answering.reset_step six others p ab ba h ready s (calm s refl) None (replaced (duties.Ask (ask_duties.Leave s)) p.agenda)
-  duty_step (duties.Ask (ask_duties.Leave s)) is calm may firm opens = returns s (replaced (duties.Ask (ask_duties.Dead s)) p.agenda)
-  duty_step (duties.Ask (ask_duties.LeaveNoted s)) is calm may firm opens = leaves_noted s (calm s refl)
-  duty_step duties.End is calm may firm opens = answering.agenda_step six others p ab ba h ready _ [] tt
+  duty_step (Duty.Ask (AskDuty.Window s)) is calm may firm opens = answering.told_step six others p ab ba h ready s (left p)
+  duty_step (Duty.Send (SendDuty.Update s)) is calm may firm opens = answering.acknowledges_step six others p ab ba h ready s (calm s refl) (left p)
+  duty_step (Duty.Send (SendDuty.FastClose s)) is calm may firm opens = answering.fast_close_step six others p ab ba h ready s (calm s refl)
+  duty_step (Duty.Send (SendDuty.Notice s)) is calm may firm opens = answering.note_step six others p ab ba h ready s (calm s refl)
+  duty_step (Duty.Send (SendDuty.Syn s)) is calm may firm opens = answering.unsent_step six others p ab ba h ready s (calm s refl) (left p)
+  duty_step (Duty.Step (StepDuty.Data s)) is calm may firm opens = data_by s (calm s refl) (first_unsent (end_at s p)) refl is
+  duty_step (Duty.Send (SendDuty.DataFin s)) is calm may firm opens = answering.data_fin_step six others p ab ba h ready s (calm s refl)
+  duty_step (Duty.Send (SendDuty.Fin s)) is calm may firm opens = fin_due s (calm s refl) is
+  duty_step (Duty.Silent (SilentDuty.Timer s)) is calm may firm opens = answering.agenda_step six others p ab ba h ready _ (left p) tt
+  duty_step (Duty.Step StepDuty.Events) is calm may firm opens = events_step six others p ab ba h holds (λ s. calm s refl) (next_event p) (reply_of six (step_for (path_of p) (next_event p)))
+  duty_step (Duty.Ask (AskDuty.SynHeard s)) is calm may firm opens = replying.syn_window_step six others p ab ba h holds ready s
+  duty_step (Duty.Ask (AskDuty.SynAnswered s)) is calm may firm opens = replying.syn_window_step six others p ab ba h holds ready s
+  duty_step (Duty.Ask (AskDuty.PlainHandshake s)) is calm may firm opens = replying.told_fell six others p ab ba h holds ready s Event.PlainHandshake tt
+  duty_step (Duty.Ask (AskDuty.PeerKey s)) is calm may firm opens = replying.peer_key_step six others p ab ba h holds ready s (key_heard (end_at s p).treated.items)
+  duty_step (Duty.Send (SendDuty.SynAck s)) is calm may firm opens = answering.syn_ack_step six others p ab ba h ready s (left p)
+  duty_step (Duty.Ask (AskDuty.JoinHeard s)) is calm may firm opens = answering.join_heard_step six others p ab ba h ready s (reply_of six (join_heard_ask s (asked_at s p) p)) may
+  duty_step (Duty.Send (SendDuty.Refuse s)) is calm may firm opens = answering.refuse_step six others p ab ba h ready s
+  duty_step (Duty.Ask (AskDuty.Opened s)) is calm may firm opens = replying.opened_step six others p ab ba h holds ready s (keys_heard (end_at s p).treated.items)
+  duty_step (Duty.Step (StepDuty.Heard s index)) is calm may firm opens = replying.item_step six others p ab ba h holds ready s index (λ fail. (opens fail, numbered, short s)) firm is
+  duty_step (Duty.Ask (AskDuty.AckHeard s)) is calm may firm opens = replying.told_fell six others p ab ba h holds ready s Event.AckHeard tt
+  duty_step (Duty.Ask (AskDuty.CheckFailed s)) is calm may firm opens = replying.check_failed_step six others p ab ba h holds ready s
+  duty_step (Duty.Ask (AskDuty.FailHeard s)) is calm may firm opens = replying.fail_heard_step six others p ab ba h holds ready s
+  duty_step (Duty.Step (StepDuty.PlainAck s)) is calm may firm opens = replying.plain_ack_step six others p ab ba h holds ready s
+  duty_step (Duty.Ask (AskDuty.SubflowAck s)) is calm may firm opens = replying.subflow_ack_step six others p ab ba h holds ready s is
+  duty_step (Duty.Ask (AskDuty.PlainData s)) is calm may firm opens = replying.told_fell six others p ab ba h holds ready s Event.PlainData tt
+  duty_step (Duty.Ask (AskDuty.GoIdentity s)) is calm may firm opens = replying.identity_step six others p ab ba h holds ready s (plain_unless others.links s six firm may)
+  duty_step (Duty.Step (StepDuty.Unmapped s)) is calm may firm opens = answering.break_step six others p ab ba h ready s 6
+  duty_step (Duty.Ask (AskDuty.SubflowFin s)) is calm may firm opens = replying.plain_fin_step six others p ab ba h holds ready s (plain_fin (end_at s p)) refl
+  duty_step (Duty.Ask (AskDuty.Edge s)) is calm may firm opens = replying.piece_step six others p ab ba h holds ready s (piece_of s p) refl
+  duty_step (Duty.Ask (AskDuty.HeardFin s index)) is calm may firm opens = replying.fin_heard_step six others p ab ba h holds ready s index
+  duty_step (Duty.Ask (AskDuty.AckOut s)) is calm may firm opens = answering.told_step six others p ab ba h ready s (left p)
+  duty_step (Duty.Ask (AskDuty.Rate s)) is calm may firm opens = replying.rate_step six others p ab ba h holds ready s
+  duty_step (Duty.Send (SendDuty.Acknowledge s)) is calm may firm opens = answering.acknowledges_step six others p ab ba h ready s (calm s refl) (left p)
+  duty_step (Duty.Send (SendDuty.Again s)) is calm may firm opens = answering.again_step six others p ab ba h ready s (calm s refl)
+  duty_step (Duty.Send (SendDuty.Answer s)) is calm may firm opens = answering.answer_step six others p ab ba h ready s (calm s refl)
+  duty_step (Duty.Send (SendDuty.ResetAnswer s)) is calm may firm opens = answering.dead_step six others p ab ba h ready s
+  duty_step (Duty.Ask (AskDuty.Return s)) is calm may firm opens = returns s (left p)
+  duty_step (Duty.Ask (AskDuty.AbortSend s)) is calm may firm opens = abort_send_side p.profile six others s p (with_agenda (left p) p) ab ba h (done_side s)
+  duty_step (Duty.Ask (AskDuty.AbortReceive s)) is calm may firm opens = abort_receive_side p.profile six others s p (with_agenda (left p) p) ab ba h (done_side s)
+  duty_step (Duty.Send (SendDuty.Resend s)) is calm may firm opens = answering.resend_step six others p ab ba h ready s (calm s refl)
+  duty_step (Duty.Ask (AskDuty.BreakAck s reason)) is calm may firm opens = answering.told_step six others p ab ba h ready s (resets s reason)
+  duty_step (Duty.Send (SendDuty.BreakReset s reason)) is calm may firm opens = answering.reset_step six others p ab ba h ready s (calm s refl) (Some reason) (leaves s)
+  duty_step (Duty.Send (SendDuty.Reset s)) is calm may firm opens = answering.reset_step six others p ab ba h ready s (calm s refl) None (replaced (Duty.Ask (AskDuty.Leave s)) p.agenda)
+  duty_step (Duty.Send (SendDuty.ResetNoted s)) is calm may firm opens = answering.reset_step six others p ab ba h ready s (calm s refl) None (replaced (Duty.Ask (AskDuty.Leave s)) p.agenda)
+  duty_step (Duty.Ask (AskDuty.Leave s)) is calm may firm opens = returns s (replaced (Duty.Ask (AskDuty.Dead s)) p.agenda)
+  duty_step (Duty.Ask (AskDuty.LeaveNoted s)) is calm may firm opens = leaves_noted s (calm s refl)
+  duty_step Duty.End is calm may firm opens = answering.agenda_step six others p ab ba h ready _ [] tt
   duty_step _ is calm may firm opens = answering.agenda_step six others p ab ba h ready _ (left p) tt

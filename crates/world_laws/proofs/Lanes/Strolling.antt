@@ -1,34 +1,13 @@
 -- Moves of the two lanes in the duo of a world, and what a rule of one side's end makes of what the path shows.
-use Rattle.std.proofs.Common.{◌≡◌, refl, sym, ◌∙◌, ap, subst, ℕ, ◌+◌, Bool, true, false, List, [], ◌∷◌, arith, inl, inr, ⊎_elim}
-use Rattle.std.specs.List.{slice_get, list_all}
-use Rattle.std.proofs.lemmas.Bool.{and_parts}
-use Rattle.sides.specs.declared.side.Side.{Side}
-use Rattle.sides.specs.declared.side.Side.TheVariants.{A, B}
-use Rattle.sides.specs.Side.{peer}
-use Rattle.link_model.specs.State.{LinkState}
-use Rattle.link_model.specs.Steps.{changed, arrivals, next_number, with_flights, one_more}
-use Rattle.link_model.specs.Fate.{is_stripped, is_altered, fate_of}
-use Rattle.path_segments.specs.Spelled.{PlainSegment}
-use Rattle.stream_lanes.specs.Lane.{Lane, AckCopy}
-use Rattle.stream_lanes.specs.Laws.{copy_clashes, lane_refused, move_refused}
-use Rattle.stream_lanes.specs.Moves.{Move}
+use Rattle.world_laws.proofs.Words.{◌≡◌, refl, sym, ◌∙◌, ap, subst, ℕ, ◌+◌, inl, inr, ⊎_elim, Bool, true, false, List, [], ◌∷◌, arith, and_parts, slice_get}
+use Rattle.world_laws.proofs.Words.{list_all, Side, A, B, peer, with_turned_bit, arrivals, changed, next_number, with_flights, one_more, is_stripped}
+use Rattle.world_laws.proofs.Words.{is_altered, fate_of, LinkState, PlainSegment, SixBooks, send_of, reassembly_of, pick, PathState, end_at, Carried}
+use Rattle.world_laws.proofs.Words.{carried_by, stripped, altered, values, Profile, handed, Every-map, Every, Duo, after_events, after_event, Holds, LaneHolds}
+use Rattle.world_laws.proofs.Words.{AckCopy, Lane, view_of, after_event_held, Move, Moves, lane_refused, copy_clashes, move_refused}
 use Rattle.stream_lanes.specs.Moves.Move.{Learn}
-use Rattle.stream_lanes.specs.Streams.StreamEvent.{Moves}
-use Rattle.stream_lanes.specs.Duo.{Duo, Event, after_event, after_events}
-use Rattle.stream_lanes.specs.Holding.{Holds, LaneHolds}
-use Rattle.stream_lanes.specs.View.{view_of}
-use Rattle.stream_lanes.specs.Words.{Every}
-use Rattle.stream_lanes.proofs.Duos.{after_event_held}
-use Rattle.stream_lanes.proofs.Lists.{Every-map}
+use Rattle.stream_lanes.specs.Duo.{Event}
 use Rattle.stream_lanes.proofs.Refusals.{never_disagrees}
-use Rattle.actor_desk.specs.Desk.{SixBooks, send_of, reassembly_of}
-use Rattle.actor_desk.specs.Words.{pick}
-use Rattle.path_core.specs.Handover.{handed}
-use Rattle.segment_wire.specs.Changes.{with_turned_bit}
 use Rattle.std.specs.Int.Bits.{bit_xor, xor_assoc, xor_self, xor_zero_r}
-use Rattle.path_core.specs.State.{PathState, end_at}
-use Rattle.path_core.specs.Profile.{Profile}
-use Rattle.path_core.specs.Values.{Carried, carried_by, stripped, altered, values}
 use Rattle.world_laws.proofs.Lanes.Ending.{Did}
 use Rattle.world_laws.proofs.Lanes.Growing.{SenderGoes, ReceiverGoes, sent_longer, heard_longer, segment_longer, peer_shows}
 use Rattle.world_laws.proofs.Lanes.OfAWorld.{flags_of, Others, duo_at, LaneMoves, moves_to_b, moves_to_a, move_events, moves_silent, events_append, Moved}

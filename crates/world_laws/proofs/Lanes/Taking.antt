@@ -1,22 +1,16 @@
 -- What the receiver's half of an end does, on the lane: it keeps the octets of a copy, learns a mapping, places bytes, and passes
 -- the FIN.
-use Rattle.std.proofs.Common.{◌≡◌, refl, sym, ◌∙◌, ap, subst, ℕ, zero, suc, ◌+◌, ◌-◌, ◌<◌, ◌≤◌, nat_le, ◌⊎◌, inl, inr, ⊎_elim, Bool, true, false, if◌then◌else◌, Option, Some, None, List, [], ◌∷◌, ◌++◌, length, take, drop, arith, ◌*◌, ◌/◌, unwrap_or, ◌&&◌}
-use Rattle.std.proofs.lemmas.Bool.{le-leb, and_from, eq-eqb}
-use Rattle.std.proofs.lemmas.List.{append-nil, length-take}
-use Rattle.std.specs.List.{slice_get}
-use Rattle.reassembly_book.specs.State.{filled}
+use Rattle.world_laws.proofs.Words.{◌≡◌, refl, sym, ◌∙◌, ap, subst, ℕ, zero, suc, ◌+◌, ◌-◌, ◌≤◌, ◌&&◌, nat_le, inl, inr, ◌⊎◌, ⊎_elim, Bool, true, false}
+use Rattle.world_laws.proofs.Words.{if◌then◌else◌, Option, Some, None, List, [], ◌∷◌, ◌++◌, length, take, drop, arith, ◌<◌, ◌*◌, unwrap_or, ◌/◌, eq-eqb}
+use Rattle.world_laws.proofs.Words.{and_from, le-leb, length-take, append-nil, slice_get, IfSome, filled, after_keep_held, Receiving, InfiniteMapping, in_drop}
+use Rattle.world_laws.proofs.Words.{Lane, place_by, places_pair, ends_pair, keeps, learns, learns_mapping, hears_fin, places, passes, lies_in, ack_copy}
+use Rattle.world_laws.proofs.Words.{sub_next, AskPlace, AskFin, Hear, HearFin, Forget, WantPlace, WantPlacePlain, WantPlacePair, WantFinPair, SendAck}
+use Rattle.world_laws.proofs.Words.{copy_clashes, mapping_clashes}
 use Rattle.reassembly_book.specs.Steps.{by_place, merged}
 use Rattle.send_book.proofs.Lists.{slice_get-drop}
-use Rattle.std.specs.Option.{IfSome}
-use Rattle.subflow_recv.specs.Receiving.{Receiving, after_keep_held}
-use Rattle.stream_lanes.specs.Lane.{Lane}
-use Rattle.stream_lanes.specs.Lane.Ask.{AskPlace, AskFin}
-use Rattle.stream_lanes.specs.Laws.{copy_clashes, mapping_clashes}
-use Rattle.stream_lanes.specs.Moves.{clashes, keeps, learns, learns_mapping, places, lies_in, in_order, ack_copy, hears_fin, sub_next, passes, place_by, places_pair, ends_pair}
-use Rattle.stream_lanes.specs.Moves.Move.{Forget, Hear, Learn, WantPlace, HearFin, SendAck, WantPlacePlain, WantPlacePair, WantFinPair}
+use Rattle.stream_lanes.specs.Moves.{clashes, in_order}
+use Rattle.stream_lanes.specs.Moves.Move.{Learn}
 use Rattle.stream_lanes.specs.Words.{Has}
-use Rattle.stream_lanes.proofs.Lists.{in_drop}
-use Rattle.path_store.specs.declared.infinite_mapping.InfiniteMapping.{InfiniteMapping}
 use Rattle.world_laws.proofs.Lanes.Doing.{has_last, least}
 use Rattle.world_laws.proofs.Lanes.Growing.{ReceiverGoes, receiver_stays}
 use Rattle.world_laws.proofs.Lanes.Roads.{Strolls, one_move, stays, then_strolls}

@@ -1,33 +1,11 @@
 -- A turn of the path and of the applications, in the two directions.
-use Rattle.std.proofs.Common.{◌≡◌, refl, sym, ◌∙◌, ap, subst, ℕ, not, Bool, true, false, if◌then◌else◌, Option, Some, None, List, [], ◌∷◌, ◌++◌}
-use Rattle.std.proofs.lemmas.Bool.{not-true}
-use Rattle.sides.specs.declared.side.Side.{Side}
-use Rattle.sides.specs.declared.side.Side.TheVariants.{A, B}
-use Rattle.reassembly_book.specs.declared.call.ReassemblyCall.TheVariants as reassembly_calls
-use Rattle.reassembly_book.specs.declared.call.ReassemblyReply.{ReassemblyReply}
+use Rattle.world_laws.proofs.Words.{◌≡◌, refl, sym, ◌∙◌, ap, subst, ℕ, not, Bool, true, false, if◌then◌else◌, Option, Some, None, List, [], ◌∷◌, ◌++◌, not-true}
+use Rattle.world_laws.proofs.Words.{Side, A, B, ControlCall, ReassemblyCall, ReassemblyReply, Duty, Ask, Note, Reply, SixBooks, reply_of, after_ask, AppDuty}
+use Rattle.world_laws.proofs.Words.{AppState, app_stands, app_ask, app_answered, app_answers, app_settles_down, app_takes, offered, PathState, settled, Carried}
+use Rattle.world_laws.proofs.Words.{Profile, Duo, after_events, Holds, Lane, Direction, reads, is_done, Reader, takes_read, ToB, ToA, AbortRead}
 use Rattle.reassembly_book.specs.Steps as arriving
-use Rattle.control_book.specs.declared.call.ControlCall.{ControlCall}
-use Rattle.control_book.specs.declared.call.ControlCall.TheVariants as control_calls
-use Rattle.stream_lanes.specs.Holding.{Holds}
-use Rattle.stream_lanes.specs.Lane.{Lane}
-use Rattle.stream_lanes.specs.Streams.{Reader, Direction, is_done, reads, takes_read}
-use Rattle.stream_lanes.specs.Streams.StreamEvent.{Write, Close, AbortSend, Read, AbortRead}
-use Rattle.stream_lanes.specs.Duo.{Duo, Event, after_events}
-use Rattle.stream_lanes.specs.Duo.Event.{ToB, ToA}
-use Rattle.actor_desk.specs.declared.ask.Ask.{Ask}
-use Rattle.actor_desk.specs.declared.ask.Ask.TheVariants as asks
-use Rattle.actor_desk.specs.declared.ask.Note.{Note}
-use Rattle.actor_desk.specs.declared.ask.Reply.{Reply}
-use Rattle.actor_desk.specs.Desk.{SixBooks, reply_of, after_ask}
-use Rattle.stream_apps.specs.declared.duty.AppDuty.{AppDuty}
-use Rattle.stream_apps.specs.declared.duty.AppDuty.TheVariants as app_duties
-use Rattle.stream_apps.specs.Apps.{AppState}
-use Rattle.stream_apps.specs.AppSteps.{app_stands, app_ask, app_answered, app_answers, app_settles_down, app_takes, offered}
-use Rattle.path_agenda.specs.declared.duty.Duty.{Duty}
-use Rattle.path_core.specs.State.{PathState}
-use Rattle.path_core.specs.Profile.{Profile}
-use Rattle.path_core.specs.Steps.{settled}
-use Rattle.path_core.specs.Values.{Carried}
+use Rattle.stream_lanes.specs.Streams.StreamEvent.{Write, Close, AbortSend, Read}
+use Rattle.stream_lanes.specs.Duo.{Event}
 use Rattle.world_laws.proofs.Lanes.Applying.{Reads, settled_app, reads_more, reads_on}
 use Rattle.world_laws.proofs.Falls.CallsAndModes.{control_moves}
 use Rattle.world_laws.proofs.Lanes.OfAWorld.{Links, duo_of, Others, duo_at, CallIs, silent_append, call_events, TurnShows, events_append, Moved, then_moved}
@@ -104,7 +82,7 @@ pub call_turn : (ask : Ask) (call : Option Event) (d e : Duo) → CallIs (Some a
 call_turn ask call d e calls to = record { before = []; before_silent = refl; call = call; after = []; after_silent = refl; calls = calls; to = to }
 
 -- a call of a control book is moves
-control_turn : (s : Side) (call : ControlCall) (d e : Duo) → Moved d e → TurnShows (Some (asks.Control s call)) d e
+control_turn : (s : Side) (call : ControlCall) (d e : Duo) → Moved d e → TurnShows (Some (Ask.Control s call)) d e
 control_turn s call d e m = record { before = m.events; before_silent = m.silent; call = None; after = []; after_silent = refl; calls = refl; to = m.to }
 
 -- whether it was told that the stream ended
@@ -132,33 +110,33 @@ module _ (links : Links) (six : SixBooks) (lanes_ab lanes_ba : List Lane) (reade
   a_at = record x { side = A }
 
   as_a : (d : AppDuty) → app_stands d a_at ≡ true → n.reply ≡ reply_of six (app_ask d a_at) → Reads x.told notes reader_a → TurnOfA a_at d
-  as_a app_duties.FastClose stands is h = record {
+  as_a AppDuty.FastClose stands is h = record {
     reader = reader_a;
-    turn = control_turn A control_calls.FastClose _ _ (control_moves links A control_calls.FastClose six tt lanes_ab lanes_ba reader_a reader_b);
+    turn = control_turn A ControlCall.FastClose _ _ (control_moves links A ControlCall.FastClose six tt lanes_ab lanes_ba reader_a reader_b);
     reads = reads_on x.told notes reader_a n (rw is refl) (rw is refl) (rw is refl) h;
   }
-  as_a app_duties.AbortSend stands is h = record {
+  as_a AppDuty.AbortSend stands is h = record {
     reader = reader_a;
     turn = call_turn _ (Some (ToB AbortSend)) _ _ (AbortSend, refl, refl) refl;
     reads = reads_on x.told notes reader_a n (rw is refl) (rw is refl) (rw is refl) h;
   }
-  as_a app_duties.AbortReceive stands is h = record {
+  as_a AppDuty.AbortReceive stands is h = record {
     reader = reader_a;
     turn = call_turn _ (Some (ToA (AbortRead false))) _ _ (AbortRead false, refl, refl) refl;
     reads = reads_on x.told notes reader_a n (rw is refl) (rw is refl) (rw is refl) h;
   }
-  as_a app_duties.Write stands is h = record {
+  as_a AppDuty.Write stands is h = record {
     reader = reader_a;
     turn = call_turn _ (Some (ToB (Write (offered a_at)))) _ _ (Write (offered a_at), refl, refl) refl;
     reads = reads_on x.told notes reader_a n (rw is refl) (rw is refl) (rw is refl) h;
   }
-  as_a app_duties.Close stands is h = record {
+  as_a AppDuty.Close stands is h = record {
     reader = reader_a;
     turn = call_turn _ (Some (ToB Close)) _ _ (Close, refl, refl) refl;
     reads = reads_on x.told notes reader_a n (rw is refl) (rw is refl) (rw is refl) h;
   }
-  as_a app_duties.Read stands is h =
-      let reply : ReassemblyReply = arriving.reply_to six.reassembly_a (reassembly_calls.Read 65536) in
+  as_a AppDuty.Read stands is h =
+      let reply : ReassemblyReply = arriving.reply_to six.reassembly_a (ReassemblyCall.Read 65536) in
       let open_reader : is_done reader_a ≡ false = unread x notes reader_a stands h in
       record {
         reader = takes_read reply reader_a;
@@ -166,7 +144,7 @@ module _ (links : Links) (six : SixBooks) (lanes_ab lanes_ba : List Lane) (reade
             (sym (ap (λ d. record (duo_of links six lanes_ab lanes_ba reader_a reader_b) { ba = d }) (reads_if (is_done reader_a) 65536 (duo_of links six lanes_ab lanes_ba reader_a reader_b).ba open_reader)));
         reads = reads_more x.told notes reader_a reply n is h;
       }
-  as_a app_duties.End stands is h = record {
+  as_a AppDuty.End stands is h = record {
     reader = reader_a;
     turn = call_turn _ None _ _ refl refl;
     reads = reads_on x.told notes reader_a n (rw is refl) (rw is refl) (rw is refl) h;
@@ -182,33 +160,33 @@ module _ (links : Links) (six : SixBooks) (lanes_ab lanes_ba : List Lane) (reade
   b_at = record x { side = B }
 
   as_b : (d : AppDuty) → app_stands d b_at ≡ true → n.reply ≡ reply_of six (app_ask d b_at) → Reads x.told notes reader_b → TurnOfB b_at d
-  as_b app_duties.FastClose stands is h = record {
+  as_b AppDuty.FastClose stands is h = record {
     reader = reader_b;
-    turn = control_turn B control_calls.FastClose _ _ (control_moves links B control_calls.FastClose six tt lanes_ab lanes_ba reader_a reader_b);
+    turn = control_turn B ControlCall.FastClose _ _ (control_moves links B ControlCall.FastClose six tt lanes_ab lanes_ba reader_a reader_b);
     reads = reads_on x.told notes reader_b n (rw is refl) (rw is refl) (rw is refl) h;
   }
-  as_b app_duties.AbortSend stands is h = record {
+  as_b AppDuty.AbortSend stands is h = record {
     reader = reader_b;
     turn = call_turn _ (Some (ToA AbortSend)) _ _ (AbortSend, refl, refl) refl;
     reads = reads_on x.told notes reader_b n (rw is refl) (rw is refl) (rw is refl) h;
   }
-  as_b app_duties.AbortReceive stands is h = record {
+  as_b AppDuty.AbortReceive stands is h = record {
     reader = reader_b;
     turn = call_turn _ (Some (ToB (AbortRead false))) _ _ (AbortRead false, refl, refl) refl;
     reads = reads_on x.told notes reader_b n (rw is refl) (rw is refl) (rw is refl) h;
   }
-  as_b app_duties.Write stands is h = record {
+  as_b AppDuty.Write stands is h = record {
     reader = reader_b;
     turn = call_turn _ (Some (ToA (Write (offered b_at)))) _ _ (Write (offered b_at), refl, refl) refl;
     reads = reads_on x.told notes reader_b n (rw is refl) (rw is refl) (rw is refl) h;
   }
-  as_b app_duties.Close stands is h = record {
+  as_b AppDuty.Close stands is h = record {
     reader = reader_b;
     turn = call_turn _ (Some (ToA Close)) _ _ (Close, refl, refl) refl;
     reads = reads_on x.told notes reader_b n (rw is refl) (rw is refl) (rw is refl) h;
   }
-  as_b app_duties.Read stands is h =
-      let reply : ReassemblyReply = arriving.reply_to six.reassembly_b (reassembly_calls.Read 65536) in
+  as_b AppDuty.Read stands is h =
+      let reply : ReassemblyReply = arriving.reply_to six.reassembly_b (ReassemblyCall.Read 65536) in
       let open_reader : is_done reader_b ≡ false = unread x notes reader_b stands h in
       record {
         reader = takes_read reply reader_b;
@@ -216,7 +194,7 @@ module _ (links : Links) (six : SixBooks) (lanes_ab lanes_ba : List Lane) (reade
             (sym (ap (λ d. record (duo_of links six lanes_ab lanes_ba reader_a reader_b) { ab = d }) (reads_if (is_done reader_b) 65536 (duo_of links six lanes_ab lanes_ba reader_a reader_b).ab open_reader)));
         reads = reads_more x.told notes reader_b reply n is h;
       }
-  as_b app_duties.End stands is h = record {
+  as_b AppDuty.End stands is h = record {
     reader = reader_b;
     turn = call_turn _ None _ _ refl refl;
     reads = reads_on x.told notes reader_b n (rw is refl) (rw is refl) (rw is refl) h;

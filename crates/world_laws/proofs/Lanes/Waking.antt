@@ -1,28 +1,10 @@
 -- A join is begun once A's side is sure: the lanes of the path open, and the path shows on them as before.
-use Rattle.std.proofs.Common.{◌≡◌, refl, sym, ◌∙◌, ap, ℕ, true, Some, List, [], ◌∷◌, set, Bool, if◌then◌else◌, ◌||◌, ◌==◌, false, true≢false}
-use Rattle.std.proofs.lemmas.List.{append-nil, set-set}
-use Rattle.std.specs.List.{slice_get}
-use Rattle.sides.specs.declared.side.Side.{Side}
-use Rattle.sides.specs.declared.side.Side.TheVariants.{A, B}
-use Rattle.path_segments.specs.Spelled.{PlainSegment}
-use Rattle.stream_lanes.specs.Lane.{AckCopy, Lane}
-use Rattle.stream_lanes.specs.Moves.Move.{Open, LookAtSender, LookAtReceiver}
-use Rattle.stream_lanes.specs.Streams.{Reader, after, moves}
-use Rattle.stream_lanes.specs.Streams.StreamEvent.{Moves}
-use Rattle.stream_lanes.specs.Duo.{after_event}
-use Rattle.stream_lanes.specs.Duo.Event.{ToB, ToA}
-use Rattle.stream_lanes.proofs.Lists.{Every-map}
-use Rattle.stream_lanes.specs.Moves.{Flags}
-use Rattle.actor_desk.specs.Desk.{SixBooks}
-use Rattle.actor_desk.specs.Words.{pick}
-use Rattle.path_agenda.specs.declared.duty.Duty.{Duty}
-use Rattle.path_core.specs.End.{PathEnd}
-use Rattle.path_core.specs.State.{PathState, goes_on, end_at}
-use Rattle.path_core.specs.Profile.{Profile}
-use Rattle.path_core.specs.Values.{Carried}
-use Rattle.path_core.specs.Fallback.{in_identity}
-use Rattle.send_book.specs.State.{Sending}
-use Rattle.reassembly_book.specs.State.{Arriving}
+use Rattle.world_laws.proofs.Words.{◌≡◌, refl, sym, ◌∙◌, ap, ℕ, ◌||◌, ◌==◌, Bool, true, false, if◌then◌else◌, Some, List, [], ◌∷◌, set, append-nil, set-set}
+use Rattle.world_laws.proofs.Words.{slice_get, Side, A, B, Arriving, Sending, PlainSegment, Duty, SixBooks, pick, PathEnd, PathState, end_at, goes_on, Carried}
+use Rattle.world_laws.proofs.Words.{in_identity, Profile, Every-map, after_event, AckCopy, Lane, Reader, ToB, ToA, Flags, Moves, Open, LookAtSender}
+use Rattle.world_laws.proofs.Words.{LookAtReceiver}
+use Rattle.std.proofs.Common.{true≢false}
+use Rattle.stream_lanes.specs.Streams.{after, moves}
 use Rattle.world_laws.proofs.Lanes.Growing.{Longer, same_edge, treated_longer, segment_longer}
 use Rattle.world_laws.proofs.Lanes.OfAWorld.{flags_of, plain_at, loose_at, Others, duo_at, Moved}
 use Rattle.world_laws.proofs.Lanes.Roads.{direction, put_there}

@@ -1,58 +1,24 @@
 -- What a copy that arrives tells, and what it leaves of the numbers that its end tells.
-use Rattle.std.proofs.Common.{◌≡◌, refl, ℕ, ◌+◌, ◌^◌, ◌<◌, nat_le, nat_lt, Bool, true, false, if◌then◌else◌, option_map, Option, Some, None, List, [], ◌∷◌, map, flat_map, arith}
-use Rattle.std.specs.Prelude.{All}
-use Rattle.std.specs.Option.{IfSome, unwrap_or}
-use Rattle.std.proofs.lemmas.List.Elements.{All-head, All-tail}
-use Rattle.sides.specs.declared.side.Side.{Side}
-use Rattle.sides.specs.declared.side.Side.TheVariants.{A, B}
-use Rattle.sides.specs.Side.{peer}
-use Rattle.mptcp_options.specs.declared.capable.CapableKeys.{CapableKeys}
-use Rattle.mptcp_options.specs.declared.capable.CapableKeys.TheVariants.{NoKey, Sender, Both, WithData}
+use Rattle.world_laws.proofs.Words.{◌≡◌, refl, ℕ, ◌+◌, nat_lt, nat_le, Bool, true, false, if◌then◌else◌, Option, Some, None, List, [], ◌∷◌, map, arith, ◌<◌}
+use Rattle.world_laws.proofs.Words.{◌^◌, option_map, IfSome, All, All-head, All-tail, Side, A, B, peer, JoinForm, CapableKeys, NoKey, Sender, Both, WithData}
+use Rattle.world_laws.proofs.Words.{FormFits, JoinSyn, JoinAnswer, octets_in, AckKind, after_acknowledge, ack_kind, sample_of, Meaning, EndState, EndPhase}
+use Rattle.world_laws.proofs.Words.{Copy, occupied, Hint, PlainOption, PlainSegment, Capable, Join, Dss, AddAddr, Remove, Prio, Fail, Reset, meant}
+use Rattle.world_laws.proofs.Words.{meant_option, meant_mapping, PathMapping, Bytes, Infinite, At, Heard, KeyPair, PeerNotice, is_nil, PathEnd, hint_of}
+use Rattle.world_laws.proofs.Words.{items_in, items_of, owes_by, after_judged, asked_in, copy_of, judged_in, owing_if, with_payload, reset_by}
+use Rattle.world_laws.proofs.Words.{position_numbered, is_listening, joined_by, syn_alone, is_joined, join_answer, join_items, with_keys, ack_items, is_mapping}
+use Rattle.world_laws.proofs.Words.{mapping_items, map_items, first_items, HeardOption, key_items, item_removed, Profile, answered_in, cleared_in, taken_as}
+use Rattle.world_laws.proofs.Words.{with_answer, Modes, Every-nil, Every-append, Every, if_so}
+use Rattle.std.proofs.Common.{flat_map}
+use Rattle.std.specs.Option.{unwrap_or}
 use Rattle.mptcp_options.specs.Capable.{KeysFit}
-use Rattle.mptcp_options.specs.declared.join.JoinForm.{JoinForm}
-use Rattle.mptcp_options.specs.declared.join.JoinForm.TheVariants as joins
-use Rattle.mptcp_options.specs.Join.{FormFits}
-use Rattle.join_handshake.specs.declared.hearing.JoinAnswer.{JoinAnswer}
-use Rattle.join_handshake.specs.declared.hearing.JoinSyn.{JoinSyn}
-use Rattle.path_segments.specs.declared.segment.PathMapping.{PathMapping}
-use Rattle.path_segments.specs.declared.segment.PathMapping.TheVariants.{Bytes, End, Infinite}
-use Rattle.path_segments.specs.declared.segment.PathOption.TheVariants.{Capable, Join, Dss, AddAddr, Remove, Prio, Fail, FastClose, Reset}
-use Rattle.path_segments.specs.Laws.{meant, meant_option, meant_mapping}
-use Rattle.path_segments.specs.Options.{PlainOption}
-use Rattle.path_segments.specs.Spelled.{PlainSegment}
-use Rattle.subflow_send.specs.declared.record.AckKind.{AckKind}
-use Rattle.subflow_send.specs.declared.record.AckKind.TheVariants as acks
-use Rattle.subflow_send.specs.Rules.{after_acknowledge, ack_kind, sample_of}
-use Rattle.subflow_tcp.specs.declared.segments.Hint.{Hint}
-use Rattle.subflow_tcp.specs.declared.verdicts.Meaning.{Meaning}
-use Rattle.subflow_tcp.specs.declared.verdicts.Meaning.TheVariants as means
-use Rattle.subflow_tcp.specs.declared.handshake.State.{State as EndPhase}
-use Rattle.subflow_tcp.specs.Segments.{Copy, occupied}
-use Rattle.subflow_tcp.specs.State.{EndState}
+use Rattle.path_segments.specs.declared.segment.PathMapping.TheVariants.{End}
+use Rattle.path_segments.specs.declared.segment.PathOption.TheVariants.{FastClose}
 use Rattle.subflow_tcp.specs.Taking as taking
 use Rattle.loss_recovery.specs.declared.windows.Told.{Told}
-use Rattle.stream_lanes.specs.Words.{Every}
-use Rattle.stream_lanes.proofs.Lists.{Every-nil, Every-append}
-use Rattle.actor_desk.specs.Words.{is_nil}
-use Rattle.path_agenda.specs.declared.heard.Heard.{Heard}
-use Rattle.path_agenda.specs.declared.heard.Heard.TheVariants as says
-use Rattle.path_agenda.specs.declared.keys.KeyPair.{KeyPair}
-use Rattle.path_core.specs.Arrival.{copy_of, reset_by, owing_if, asked_in, with_payload, judged_in, after_judged, position_numbered}
-use Rattle.path_core.specs.DssIn.{ack_items, is_mapping, mapping_items, map_items, first_items, HeardOption}
-use Rattle.path_core.specs.MpCapable.{key_items}
-use Rattle.path_core.specs.MpJoin.{join_items, with_keys, syn_alone, is_listening, joined_by, is_joined, join_answer}
-use Rattle.path_core.specs.OptionsIn.{items_in, items_of, hint_of, owes_by}
-use Rattle.path_core.specs.Judged.{is_taken, with_answer, answered_in, cleared_in, taken_as}
-use Rattle.path_core.specs.Addresses.{item_removed}
-use Rattle.path_core.specs.declared.modes.Modes.{Modes}
-use Rattle.path_core.specs.End.{PathEnd}
-use Rattle.path_core.specs.Profile.{Profile}
+use Rattle.path_core.specs.Judged.{is_taken}
 use Rattle.world_laws.proofs.Lanes.Records.{every_cons}
-use Rattle.path_agenda.specs.declared.notice.PeerNotice.TheVariants as notes
 use Rattle.world_laws.proofs.Numbers.TellSmall.{IsShort, MappingIsShort, OptionTells, SegmentTells, IsNonce, ItemTells, AnswerTells, SenderTells, ModesTell, EndTells}
 use Rattle.world_laws.proofs.Numbers.EndRules.{acknowledged_tells, AreKeys, answer_nonce}
-use Rattle.dss_mapping.specs.Mappings.{octets_in}
-use Rattle.path_segments.specs.declared.position.HeardPosition.TheVariants.{At}
 
 -- ---- what it says
 
@@ -68,10 +34,10 @@ tell_if false item h = Every-nil ItemTells
 
 acks_tell : (o : Option ℕ) (window : ℕ) → IfSome o IsShort → Tell (ack_items (option_map (λ n. Some n) o) window)
 acks_tell None window h = Every-nil ItemTells
-acks_tell (Some n) window h = tell_if (nat_lt n (2 ^ 62)) (says.DataAck n window) h
+acks_tell (Some n) window h = tell_if (nat_lt n (2 ^ 62)) (Heard.DataAck n window) h
 
 mapping_tells : (place position count : ℕ) (fin : Bool) → Tell (mapping_items place position count fin)
-mapping_tells place position count fin = tell_if (is_mapping place position count) (says.Mapping fin) tt
+mapping_tells place position count fin = tell_if (is_mapping place position count) (Heard.Mapping fin) tt
 
 first_tells : (len : ℕ) → Tell (first_items len)
 first_tells len = by (nat_lt 0 len) (mapping_tells 0 1 len false)
@@ -83,26 +49,26 @@ first_tells len = by (nat_lt 0 len) (mapping_tells 0 1 len false)
 map_tells : (o : Option (PathMapping ℕ)) → IfSome o MappingIsShort → Tell (map_items (option_map meant_mapping o))
 map_tells None h = Every-nil ItemTells
 map_tells (Some (Bytes place position len fin checksum)) h = mapping_tells place position (octets_in len fin) fin
-map_tells (Some (End place checksum)) h = tell_if (nat_le place (2 ^ 62)) (says.DataFin place) h
-map_tells (Some (Infinite place position)) h = tell_if (nat_lt place (2 ^ 62)) (says.InfiniteMapping place (Some position)) tt
+map_tells (Some (End place checksum)) h = tell_if (nat_le place (2 ^ 62)) (Heard.DataFin place) h
+map_tells (Some (Infinite place position)) h = tell_if (nat_lt place (2 ^ 62)) (Heard.InfiniteMapping place (Some position)) tt
 
 keys_tell : (s : Side) (keys : CapableKeys) → KeysFit keys → Tell (key_items s keys)
 keys_tell A NoKey h = Every-nil ItemTells
-keys_tell A (Sender sender) h = one (says.PeerKey sender) h
+keys_tell A (Sender sender) h = one (Heard.PeerKey sender) h
 keys_tell A (Both sender receiver) h = Every-nil ItemTells
 keys_tell A (WithData sender receiver len checksum) h = Every-nil ItemTells
 keys_tell B NoKey h = Every-nil ItemTells
 keys_tell B (Sender sender) h = Every-nil ItemTells
-keys_tell B (Both sender receiver) h = one (says.Keys receiver sender) (h.1, h.0)
-keys_tell B (WithData sender receiver len checksum) h = every_cons (says.Keys receiver sender) (first_items len) (h.1, h.0) (first_tells len)
+keys_tell B (Both sender receiver) h = one (Heard.Keys receiver sender) (h.1, h.0)
+keys_tell B (WithData sender receiver len checksum) h = every_cons (Heard.Keys receiver sender) (first_items len) (h.1, h.0) (first_tells len)
 
 joins_tell : (s : Side) (form : JoinForm) → FormFits form → Tell (join_items s form)
-joins_tell A (joins.Answer backup id hmac nonce) h = one (says.Join (joins.Answer backup id hmac nonce)) h
-joins_tell A (joins.Syn backup id token nonce) h = Every-nil ItemTells
-joins_tell A (joins.Third hmac) h = Every-nil ItemTells
-joins_tell B (joins.Syn backup id token nonce) h = one (says.Join (joins.Syn backup id token nonce)) h
-joins_tell B (joins.Third hmac) h = one (says.Join (joins.Third hmac)) h
-joins_tell B (joins.Answer backup id hmac nonce) h = Every-nil ItemTells
+joins_tell A (JoinForm.Answer backup id hmac nonce) h = one (Heard.Join (JoinForm.Answer backup id hmac nonce)) h
+joins_tell A (JoinForm.Syn backup id token nonce) h = Every-nil ItemTells
+joins_tell A (JoinForm.Third hmac) h = Every-nil ItemTells
+joins_tell B (JoinForm.Syn backup id token nonce) h = one (Heard.Join (JoinForm.Syn backup id token nonce)) h
+joins_tell B (JoinForm.Third hmac) h = one (Heard.Join (JoinForm.Third hmac)) h
+joins_tell B (JoinForm.Answer backup id hmac nonce) h = Every-nil ItemTells
 
 removed_tell : (ids : List ℕ) → Tell (map item_removed ids)
 removed_tell [] = Every-nil ItemTells
@@ -110,20 +76,16 @@ removed_tell (id ∷ ids) = every_cons (item_removed id) _ tt (removed_tell ids)
 
 module _ (c : Profile) (from : Side) (joined : Bool) (s : Side) (window : ℕ) where
   option_tells : (o : PlainOption) → OptionTells c from o → Tell (items_in joined s window (meant_option o))
-  option_tells (Capable flag_a flag_c keys) h = by joined
-    where
-      by : (b : Bool) → Tell (if b then [] else key_items s keys)
-      by true = Every-nil ItemTells
-      by false = keys_tell s keys h.fits
-  option_tells (Dss next mapping) h = every_cons says.Dss _ tt (Every-append (acks_tell next window h.short.0) (map_tells mapping h.short.1))
+  option_tells (Capable flag_a flag_c keys) h = if_so Tell joined [] (key_items s keys) (Every-nil ItemTells) (keys_tell s keys h.fits)
+  option_tells (Dss next mapping) h = every_cons Heard.Dss _ tt (Every-append (acks_tell next window h.short.0) (map_tells mapping h.short.1))
   option_tells (Join form) h = joins_tell s form h.fits
-  option_tells (AddAddr true id address port hmac) h = one (says.Notice (notes.AddEcho id)) tt
-  option_tells (AddAddr false id address port (Some hmac)) h = one (says.Notice (notes.AddAddr id address port hmac)) (h.fits.0, h.fits.1, h.fits.2)
+  option_tells (AddAddr true id address port hmac) h = one (Heard.Notice (PeerNotice.AddEcho id)) tt
+  option_tells (AddAddr false id address port (Some hmac)) h = one (Heard.Notice (PeerNotice.AddAddr id address port hmac)) (h.fits.0, h.fits.1, h.fits.2)
   option_tells (AddAddr false id address port None) h = Every-nil ItemTells
   option_tells (Remove ids) h = removed_tell ids
-  option_tells (Prio backup) h = one (says.Notice (notes.Prio backup)) tt
-  option_tells (Fail place) h = one says.Fail tt
-  option_tells (FastClose key) h = one (says.FastClose key) tt
+  option_tells (Prio backup) h = one (Heard.Notice (PeerNotice.Prio backup)) tt
+  option_tells (Fail place) h = one Heard.Fail tt
+  option_tells (FastClose key) h = one (Heard.FastClose key) tt
   option_tells (Reset transient reason) h = Every-nil ItemTells
 
   options_tell : (os : List PlainOption) → All (OptionTells c from) os → Tell (flat_map (items_in joined s window) (map meant_option os))
@@ -151,12 +113,10 @@ module _ (c : Profile) (s : Side) where
   Flows tcp = Subflow c s tcp
 
   held_flows : (m : Meaning) (octets : List ℕ) (tcp : EndState) → Flows tcp → Flows (with_payload m octets tcp)
-  held_flows (means.Taken pos acknowledged) octets tcp h = by (is_nil octets)
-    where
-      by : (b : Bool) → Flows (if b then tcp else taking.after_holding pos octets tcp)
-      by true = h
-      by false = record { sender = h.sender; edge = h.edge }
-  held_flows means.Ignored octets tcp h = h
+  held_flows (Meaning.Taken pos acknowledged) octets tcp h =
+      if_so Flows (is_nil octets) tcp (taking.after_holding pos octets tcp)
+      h (record { sender = h.sender; edge = h.edge })
+  held_flows Meaning.Ignored octets tcp h = h
   held_flows _ octets tcp h = h
 
   payload_flows : (pos : ℕ) (hint : Hint) (copy : Copy) (tcp : EndState) → hint.keep ≡ false → Flows tcp → Flows (taking.after_payload pos hint copy tcp)
@@ -170,38 +130,30 @@ module _ (c : Profile) (s : Side) where
   acknowledged_flows pos now tcp h = by (ack_kind pos tcp.send)
     where
       by : (kind : AckKind) → Flows (taking.after_ack_kind kind (sample_of pos tcp.send) now (record tcp { send = after_acknowledge pos tcp.send }))
-      by (acks.New octets) = record { sender = acknowledged_tells c s tcp.send h.sender pos; edge = h.edge }
-      by acks.Duplicate = record { sender = acknowledged_tells c s tcp.send h.sender pos; edge = h.edge }
-      by acks.Old = record { sender = acknowledged_tells c s tcp.send h.sender pos; edge = h.edge }
-      by acks.Future = record { sender = acknowledged_tells c s tcp.send h.sender pos; edge = h.edge }
+      by (AckKind.New octets) = record { sender = acknowledged_tells c s tcp.send h.sender pos; edge = h.edge }
+      by _ = record { sender = acknowledged_tells c s tcp.send h.sender pos; edge = h.edge }
 
   row_flows : (kind : AckKind) (told : Told) (copy : Copy) (tcp : EndState) → Flows tcp → Flows (taking.after_row kind told copy tcp)
-  row_flows kind told copy tcp h = by (taking.is_duplicate kind told copy tcp)
-    where
-      by : (b : Bool) → Flows (if b then taking.after_duplicate tcp else taking.after_interruption tcp)
-      by true = record { sender = h.sender; edge = h.edge }
-      by false = record { sender = h.sender; edge = h.edge }
+  row_flows kind told copy tcp h =
+      if_so Flows (taking.is_duplicate kind told copy tcp) (taking.after_duplicate tcp) (taking.after_interruption tcp)
+      (record { sender = h.sender; edge = h.edge }) (record { sender = h.sender; edge = h.edge })
 
   arrived_flows : (m : Meaning) (hint : Hint) (now : ℕ) (copy : Copy) (tcp : EndState) → hint.keep ≡ false → Flows tcp → Flows (taking.after_arrival m hint now copy tcp)
-  arrived_flows (means.Taken pos acknowledged) hint now copy tcp keep h =
+  arrived_flows (Meaning.Taken pos acknowledged) hint now copy tcp keep h =
       let p = payload_flows pos hint copy tcp keep h in
       let t : EndState = taking.after_established (taking.after_hearing (taking.after_payload pos hint copy tcp)) in
       let a = acknowledged_flows acknowledged now t (record { sender = p.sender; edge = p.edge }) in
       let r = row_flows (ack_kind acknowledged t.send) (taking.told_by hint copy) copy (taking.after_acknowledgement acknowledged now t) a in
       record { sender = r.sender; edge = r.edge }
-  arrived_flows (means.Accepts acknowledged) hint now copy tcp keep h =
+  arrived_flows (Meaning.Accepts acknowledged) hint now copy tcp keep h =
       let p = payload_flows 1 hint copy tcp keep h in
       let a = acknowledged_flows acknowledged now _ (record { sender = p.sender; edge = p.edge }) in
       record { sender = a.sender; edge = a.edge }
-  arrived_flows means.Opens hint now copy tcp keep h = let p = payload_flows 1 hint copy tcp keep h in record { sender = p.sender; edge = p.edge }
-  arrived_flows means.Kills hint now copy tcp keep h = record { sender = acknowledged_tells c s tcp.send h.sender tcp.send.nxt; edge = h.edge }
-  arrived_flows means.Ignored hint now copy tcp keep h = h
-  arrived_flows means.Unwanted hint now copy tcp keep h = h
-  arrived_flows means.RepeatedSyn hint now copy tcp keep h = record { sender = h.sender; edge = h.edge }
-  arrived_flows means.Outside hint now copy tcp keep h = record { sender = h.sender; edge = h.edge }
-  arrived_flows means.Challenged hint now copy tcp keep h = record { sender = h.sender; edge = h.edge }
-  arrived_flows means.Unacknowledging hint now copy tcp keep h = record { sender = h.sender; edge = h.edge }
-  arrived_flows means.Ahead hint now copy tcp keep h = record { sender = h.sender; edge = h.edge }
+  arrived_flows Meaning.Opens hint now copy tcp keep h = let p = payload_flows 1 hint copy tcp keep h in record { sender = p.sender; edge = p.edge }
+  arrived_flows Meaning.Kills hint now copy tcp keep h = record { sender = acknowledged_tells c s tcp.send h.sender tcp.send.nxt; edge = h.edge }
+  arrived_flows Meaning.Ignored hint now copy tcp keep h = h
+  arrived_flows Meaning.Unwanted hint now copy tcp keep h = h
+  arrived_flows _ hint now copy tcp keep h = record { sender = h.sender; edge = h.edge }
 
   owing_flows : (b : Bool) (tcp : EndState) → Flows tcp → Flows (owing_if b tcp)
   owing_flows true tcp h = record { sender = h.sender; edge = h.edge }
@@ -214,15 +166,15 @@ answered_modes None m nonce h = h
 answered_modes (Some answer) m nonce h = record { own_key = h.own_key; peer_key = h.peer_key; own_nonce = h.own_nonce; peer_nonce = nonce; failed_mapping = h.failed_mapping }
 
 answered_by : (meaning : Meaning) (items : List Heard) (m : Modes) → Tell items → ModesTell m → ModesTell (answered_in meaning items m)
-answered_by (means.Accepts acknowledged) items m said h = answered_modes (join_answer items m) m (answer_nonce items m said) h
+answered_by (Meaning.Accepts acknowledged) items m said h = answered_modes (join_answer items m) m (answer_nonce items m said) h
 answered_by _ items m said h = h
 
 cleared_by : (meaning : Meaning) (state : EndPhase) (m : Modes) → ModesTell m → ModesTell (cleared_in meaning state m)
-cleared_by (means.Taken position acknowledged) state m h = record { own_key = h.own_key; peer_key = h.peer_key; own_nonce = h.own_nonce; peer_nonce = h.peer_nonce; failed_mapping = h.failed_mapping }
+cleared_by (Meaning.Taken position acknowledged) state m h = record { own_key = h.own_key; peer_key = h.peer_key; own_nonce = h.own_nonce; peer_nonce = h.peer_nonce; failed_mapping = h.failed_mapping }
 cleared_by _ state m h = h
 
 asked_modes : (meaning : Meaning) (options : List HeardOption) (m : Modes) → ModesTell m → ModesTell (asked_in meaning options m)
-asked_modes means.Opens options m h = record { own_key = h.own_key; peer_key = h.peer_key; own_nonce = h.own_nonce; peer_nonce = h.peer_nonce; failed_mapping = h.failed_mapping }
+asked_modes Meaning.Opens options m h = record { own_key = h.own_key; peer_key = h.peer_key; own_nonce = h.own_nonce; peer_nonce = h.peer_nonce; failed_mapping = h.failed_mapping }
 asked_modes _ options m h = h
 
 joined_modes : (joined : Bool) (meaning : Meaning) (items : List Heard) (state : EndPhase) (m : Modes) → Tell items → ModesTell m
@@ -242,7 +194,7 @@ joined_tells c s keys asked e pair nonce h = by (is_listening e.tcp.state)
       modes = record (with_keys keys e.modes) { peer_nonce = asked.nonce; backup_heard = asked.backup };
     })
     by true =
-        let flows = arrived_flows c s means.Opens (taking.unkept None) 0 (syn_alone e.treated.window) e.tcp refl (record { sender = h.sender; edge = h.edge }) in
+        let flows = arrived_flows c s Meaning.Opens (taking.unkept None) 0 (syn_alone e.treated.window) e.tcp refl (record { sender = h.sender; edge = h.edge }) in
         record { sender = flows.sender; edge = flows.edge; stream = h.stream; window = h.window; modes = modes; treated = h.treated; notices = h.notices }
     by false = record { sender = h.sender; edge = h.edge; stream = h.stream; window = h.window; modes = modes; treated = h.treated; notices = h.notices }
 

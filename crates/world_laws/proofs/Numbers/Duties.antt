@@ -1,88 +1,42 @@
 -- What each duty's reply leaves of the numbers that a path's ends and copies tell.
-use Rattle.std.proofs.Common.{◌≡◌, refl, ap, subst, is_none, ℕ, suc, ◌+◌, ◌-◌, ◌^◌, ◌<◌, ◌≤◌, min, ◌&&◌, nat_lt, not, Bool, true, false, if◌then◌else◌, Option, Some, None, Result, Ok, Err, List, [], ◌∷◌, length, take, drop, arith, ⊎_elim, find, is_some}
-use Rattle.std.proofs.lemmas.Bool.{and_parts, and_from, ltb-true}
-use Rattle.std.proofs.lemmas.List.{length-take, length-drop}
-use Rattle.std.specs.Option.{IfSome}
-use Rattle.sides.specs.declared.side.Side.{Side}
-use Rattle.sides.specs.declared.side.Side.TheVariants.{A, B}
-use Rattle.sides.specs.Side.{peer}
-use Rattle.path_segments.specs.Spelled.{PlainSegment}
-use Rattle.reassembly_book.specs.Steps.{next_wanted, window}
+use Rattle.world_laws.proofs.Words.{◌≡◌, refl, ap, subst, ℕ, suc, ◌+◌, ◌-◌, ◌≤◌, ◌&&◌, not, min, nat_lt, ⊎_elim, Bool, true, false, if◌then◌else◌, Option, Some}
+use Rattle.world_laws.proofs.Words.{None, Result, Ok, Err, List, [], ◌∷◌, length, take, drop, arith, is_none, is_some, ◌<◌, ◌^◌, find, ltb-true, and_parts}
+use Rattle.world_laws.proofs.Words.{and_from, length-take, length-drop, IfSome, Verdict, is_identity, is_starting, reads_mappings, receiving, sending}
+use Rattle.world_laws.proofs.Words.{writes_mappings, Fall, after_sure_sign, after_plain, after_failed_check, after_fail, is_failed_path, goes, fall_step, Side}
+use Rattle.world_laws.proofs.Words.{A, B, peer, JoinSyn, ControlReply, sole, next_wanted, window, Span, Why, SendBook, decision, reply_by, given_by}
+use Rattle.world_laws.proofs.Words.{grant_reply, ack_reply, decision-MayTake, SendReply, KeptMapping, run_of, mapping_at, covers, Record, is_unsent}
+use Rattle.world_laws.proofs.Words.{has_records, Occasion, after_finishing, PlainSegment, Piece, InfiniteMapping, leaves, resets, stops, Duty, SendDuty}
+use Rattle.world_laws.proofs.Words.{StepDuty, OwnNotice, AskDuty, SilentDuty, Heard, KeyPair, replaced, first_of, key_heard, keys_heard, Ask, Reply, SixBooks}
+use Rattle.world_laws.proofs.Words.{send_of, reassembly_of, control_of, reply_of, after_ask, pick, stands, ask_for, answered, PathEnd, died, answered_ack_out}
+use Rattle.world_laws.proofs.Words.{after_look, after_ack_out, ack_out_ask, ack_segment, look_ask, PathState, end_at, goes_on, with_agenda, left, path_of}
+use Rattle.world_laws.proofs.Words.{Carried, values, reset_of, reset_on, answered_break, refusal_of, break_ask, answered_refusal, answered_data, answered_grant}
+use Rattle.world_laws.proofs.Words.{data_stands, first_unsent, grant_in, granted, unsent_segment, answer_occasion, answer_of, dead_answer, first_segment}
+use Rattle.world_laws.proofs.Words.{resend_occasion, resend_of, data_ask, first_record, payload_size, refused, answered_dead, next_event, step_for, asked_at}
+use Rattle.world_laws.proofs.Words.{join_taken, joined_by, keys_begun, with_mode_refused, join_heard_ask, answered_join_heard, having_asked, after_piece}
+use Rattle.world_laws.proofs.Words.{is_wrong, failing_by, mapping_here, piece_of, is_placed, answered_piece, piece_ask, is_data_fin_owed, data_fin_segment}
+use Rattle.world_laws.proofs.Words.{having_sent_data_fin, answered_data_fin_sent, fin_segment_of, having_sent_fin, answered_fin, with_peer_data_fin, plain_fin}
+use Rattle.world_laws.proofs.Words.{with_fin_told, answered_plain_fin, data_fin_of, fin_ask, answered_fin_heard, is_fin_set, is_clash, with_learned}
+use Rattle.world_laws.proofs.Words.{with_data_fin, with_acked, told_next, mapping_ask, answered_mapping, heard_ask, item_ask, answered_heard, answered_item}
+use Rattle.world_laws.proofs.Words.{item_of, check_failed_ask, after_check_failed, answered_check_failed, answered_infinite, fell_ask, after_fell, fell_duties}
+use Rattle.world_laws.proofs.Words.{plain_ack_ask, subflow_ack_ask, answered_plain_ack, answered_subflow_ack, with_plain_ack, plain_next, plain_ack_in}
+use Rattle.world_laws.proofs.Words.{plainly_acked, breaks_by_ack, may_go_infinite, fail_ask, answered_fail, book_answered, fail_heard_ask, answered_fail_heard}
+use Rattle.world_laws.proofs.Words.{after_fail_heard, answered_fell, with_infinite, in_identity, breaks_by, after_infinite_heard, keys_ask, after_keys}
+use Rattle.world_laws.proofs.Words.{peer_key_ask, opened_ask, answered_peer_key, answered_opened, with_peer_key, syn_ack_of, is_stopped_by, answered_fast_close}
+use Rattle.world_laws.proofs.Words.{fast_heard_ask, having_fast_closed, having_noted, after_peer_notice, notice_ask, answered_note, receives_plainly, ack_said}
+use Rattle.world_laws.proofs.Words.{carried_said, syn_ack_said, record_or_ack, Profile, sends, having_sent, sent_on, with_told, rate_ask, after_rate, Every}
+use Rattle.world_laws.proofs.Words.{Holds, IsEndless, LaneHolds, Lane, View, view_of, AskPlace, LaneIsShort, if_so}
 use Rattle.send_book.specs.declared.call.SendCall.TheVariants.{Grant, GoInfinite}
-use Rattle.send_book.specs.declared.call.SendReply.{SendReply}
-use Rattle.send_book.specs.declared.call.SendReply.TheVariants as send_replies
-use Rattle.send_book.specs.declared.call.Span.{Span}
-use Rattle.send_book.specs.declared.call.Why.{Why}
-use Rattle.send_book.specs.State.{Sending as SendBook}
-use Rattle.send_book.specs.Steps.{decision, reply_by, given_by, grant_reply, end_of, part_of, ack_reply}
-use Rattle.send_book.proofs.Decisions.{decision-MayTake}
-use Rattle.control_book.specs.declared.call.ControlReply.TheVariants as control_replies
-use Rattle.control_book.specs.Registry.{sole}
+use Rattle.send_book.specs.Steps.{end_of, part_of}
 use Rattle.fallback_state.specs.declared.fall.Event.{Event}
-use Rattle.fallback_state.specs.declared.fall.Event.TheVariants as events
-use Rattle.fallback_state.specs.declared.fall.Fall.{Fall}
 use Rattle.fallback_state.specs.declared.fall.Mode.TheVariants.{Starting, Sure, Identity, InfiniteSend, InfiniteReceive, InfiniteBoth, Aborted}
-use Rattle.fallback_state.specs.declared.fall.Verdict.{Verdict}
-use Rattle.fallback_state.specs.declared.fall.Verdict.TheVariants as verdicts
-use Rattle.fallback_state.specs.Modes.{is_starting, is_identity, reads_mappings, writes_mappings, receiving, sending}
 use Rattle.fallback_state.specs.Table as falling
-use Rattle.fallback_state.specs.Table.{goes, is_failed_path, after_plain, after_sure_sign, after_infinite, after_failed_check, after_fail, fall_step}
+use Rattle.fallback_state.specs.Table.{after_infinite}
 use Rattle.byte_pieces.proofs.Ordered.{lt_true}
-use Rattle.subflow_send.specs.Records.{Record}
-use Rattle.subflow_send.specs.Rules.{is_unsent}
-use Rattle.subflow_tcp.specs.declared.segments.Occasion.{Occasion}
-use Rattle.subflow_tcp.specs.declared.segments.Occasion.TheVariants as to_send
-use Rattle.subflow_tcp.specs.Closing.{after_finishing}
-use Rattle.subflow_tcp.specs.State.{has_records}
 use Rattle.subflow_tcp.specs.States as states
-use Rattle.stream_lanes.specs.Holding.{Holds, LaneHolds, IsEndless}
-use Rattle.stream_lanes.specs.Lane.{Lane}
-use Rattle.stream_lanes.specs.Lane.Ask.{AskPlace}
-use Rattle.stream_lanes.specs.Laws.{LaneIsShort}
-use Rattle.stream_lanes.specs.View.{view_of, View}
-use Rattle.actor_desk.specs.declared.ask.Ask.{Ask}
-use Rattle.actor_desk.specs.declared.ask.Ask.TheVariants as asks
-use Rattle.actor_desk.specs.declared.ask.Reply.{Reply}
-use Rattle.actor_desk.specs.declared.ask.Reply.TheVariants as replies
-use Rattle.actor_desk.specs.Desk.{SixBooks, send_of, reassembly_of, control_of, reply_of, after_ask}
-use Rattle.actor_desk.specs.Words.{pick}
-use Rattle.stream_lanes.specs.Words.{Every}
-use Rattle.path_agenda.specs.declared.duty.Duty.{Duty}
-use Rattle.path_agenda.specs.declared.duty.Duty.TheVariants as duties
-use Rattle.path_agenda.specs.declared.duty.AskDuty.TheVariants as ask_duties
-use Rattle.path_agenda.specs.declared.duty.SendDuty.TheVariants as send_duties
-use Rattle.path_agenda.specs.declared.duty.SilentDuty.TheVariants as silent_duties
-use Rattle.path_agenda.specs.declared.duty.StepDuty.TheVariants as step_duties
-use Rattle.path_agenda.specs.declared.heard.Heard.{Heard}
-use Rattle.path_agenda.specs.declared.heard.Heard.TheVariants as says
-use Rattle.join_handshake.specs.declared.hearing.JoinSyn.{JoinSyn}
-use Rattle.path_agenda.specs.declared.keys.KeyPair.{KeyPair}
-use Rattle.path_agenda.specs.Agenda.{leaves, resets, breaks, stops}
-use Rattle.path_agenda.specs.Items.{key_heard, keys_heard}
-use Rattle.path_agenda.specs.Words.{replaced, first_of}
-use Rattle.path_core.specs.Breaking.{reset_of, reset_on, break_ask, answered_break, refusal_of, answered_refusal}
-use Rattle.path_core.specs.DataFin.{is_data_fin_owed, data_fin_segment, having_sent_data_fin, answered_data_fin_sent, fin_segment_of, having_sent_fin, answered_fin, with_peer_data_fin, plain_fin, with_fin_told, answered_plain_fin, data_fin_of, fin_ask, answered_fin_heard, is_fin_set}
-use Rattle.path_core.specs.Duties.{stands, ask_for, answered}
-use Rattle.path_core.specs.Emission.{payload_size, first_unsent, unsent_segment, data_stands, data_ask, answered_data, grant_in, granted, refused, answered_grant, first_record, first_segment, answer_of, answer_occasion, dead_answer, answered_dead, resend_occasion, resend_of}
-use Rattle.path_core.specs.End.{PathEnd, died}
-use Rattle.path_core.specs.Events.{next_event, step_for}
-use Rattle.path_core.specs.MpJoin.{keys_begun, asked_at, join_heard_ask, joined_by, join_taken, answered_join_heard, with_mode_refused}
-use Rattle.path_core.specs.MpCapable.{with_peer_key, peer_key_ask, answered_peer_key, keys_ask, after_keys, opened_ask, answered_opened, syn_ack_of}
-use Rattle.path_core.specs.Deliver.{having_asked, piece_ask, answered_piece, is_placed, piece_of, after_piece, failing_by, mapping_here, is_wrong}
-use Rattle.path_core.specs.Rate.{rate_ask, after_rate}
-use Rattle.path_store.specs.Passing.{Piece}
-use Rattle.path_core.specs.DssIn.{with_learned, is_clash, told_next, is_acked, mapping_ask, answered_mapping, with_acked, with_data_fin}
-use Rattle.path_core.specs.OptionsOut.{ack_said, carried_said, syn_ack_said, record_or_ack}
-use Rattle.path_core.specs.Handover.{sends, having_sent, sent_on, with_told}
-use Rattle.path_core.specs.Standing.{look_ask, after_look, ack_out_ask, after_ack_out, answered_ack_out, ack_segment}
-use Rattle.path_core.specs.State.{PathState, end_at, goes_on, left, path_of, with_agenda}
-use Rattle.path_core.specs.Profile.{Profile}
-use Rattle.path_core.specs.Fallback.{fell_ask, after_fell, breaks_by, fell_duties, answered_fell, in_identity, breaks_by_ack, plain_ack_ask, answered_plain_ack, with_plain_ack, plain_next, subflow_ack_ask, answered_subflow_ack, plain_ack_in, plainly_acked, after_infinite as after_infinite_heard, answered_infinite, may_go_infinite, fail_ask, with_infinite, book_answered, answered_fail, fail_heard_ask, after_fail_heard, answered_fail_heard, check_failed_ask, after_check_failed, answered_check_failed}
-use Rattle.path_core.specs.Treating.{heard_ask, answered_heard, item_ask, answered_item, item_of}
-use Rattle.path_core.specs.Values.{Carried, values}
-use Rattle.path_core.specs.FastClose.{is_stopped_by, answered_fast_close, fast_close_of, fast_heard_ask, having_fast_closed}
-use Rattle.path_core.specs.Addresses.{notice_ask, note_of, having_noted, answered_note, after_peer_notice}
-use Rattle.path_agenda.specs.declared.notice.OwnNotice.{OwnNotice}
+use Rattle.path_agenda.specs.Agenda.{breaks}
+use Rattle.path_core.specs.DssIn.{is_acked}
+use Rattle.path_core.specs.FastClose.{fast_close_of}
+use Rattle.path_core.specs.Addresses.{note_of}
 use Rattle.world_laws.proofs.Lanes.Answering.{IsReady}
 use Rattle.world_laws.proofs.Lanes.Ending.{unfinished_if}
 use Rattle.world_laws.proofs.Lanes.OfAWorld.{flags_of, Others, duo_at}
@@ -101,11 +55,6 @@ use Rattle.world_laws.proofs.Numbers.Events.{join_tells, events_tell}
 use Rattle.world_laws.proofs.Numbers.EndRules as rules
 use Rattle.world_laws.proofs.Numbers.EndRules.{AreKeys, heard_key, heard_keys, asked_nonce}
 use Rattle.world_laws.proofs.Numbers.PathSteps.{is_fair, AreFair, PathTells, BooksAreShort, tail_fair, replaced_fair, sent_short, next_short, window_short, out_short, back_short, tells_at, tells_on, tells_agenda, tells_sent}
-use Rattle.path_core.specs.Modes.{receives_plainly}
-use Rattle.path_store.specs.declared.infinite_mapping.InfiniteMapping.{InfiniteMapping}
-use Rattle.dss_mapping.specs.declared.kept.KeptMapping.{KeptMapping}
-use Rattle.dss_mapping.specs.Mappings.{mapping_at, run_of}
-use Rattle.dss_mapping.specs.Runs.{covers}
 
 -- ---- grants
 
@@ -116,10 +65,10 @@ record Within (most : ℕ) (b : SendBook) (span : Span) (piece : List ℕ) : Typ
   place : span.from ≤ length b.written
 
 granted_within : (path most : ℕ) (standby : Bool) (b : SendBook) (span : Span) (piece : List ℕ) → 1 ≤ most → length b.marks ≡ length b.written
-    → grant_reply path most standby b ≡ send_replies.Granted span piece → Within most b span piece
+    → grant_reply path most standby b ≡ SendReply.Granted span piece → Within most b span piece
 granted_within path most standby b span piece some whole is = by (decision path most standby b) refl is
   where
-    by : (d : Result Span Why) → decision path most standby b ≡ d → reply_by d b ≡ send_replies.Granted span piece → Within most b span piece
+    by : (d : Result Span Why) → decision path most standby b ≡ d → reply_by d b ≡ SendReply.Granted span piece → Within most b span piece
     by (Ok x) decided e =
         let same : x ≡ span = cc in
         let part : part_of x b.written ≡ piece = cc in
@@ -137,18 +86,14 @@ granted_within path most standby b span piece some whole is = by (decision path 
 
 -- where no more is written, the end is the number of octets
 end_short : (b : SendBook) → IsShort (length b.written) → IfSome (end_of b) IsShort
-end_short b short = by (b.closed && not b.aborted)
-  where
-    by : (c : Bool) → IfSome (if c then Some (length b.written) else None) IsShort
-    by true = short
-    by false = tt
+end_short b short = if_so (λ z. IfSome z IsShort) (b.closed && not b.aborted) (Some (length b.written)) None short tt
 
 -- a grant writes nothing
 given_written : (path : ℕ) (d : Result Span Why) (b : SendBook) → (given_by path d b).written ≡ b.written
 given_written path (Ok span) b = refl
 given_written path (Err why) b = refl
 
-grant_written : (s : Side) (path most : ℕ) (standby : Bool) (six : SixBooks) → (send_of s (after_ask (asks.Send s (Grant path most standby)) six)).written ≡ (send_of s six).written
+grant_written : (s : Side) (path most : ℕ) (standby : Bool) (six : SixBooks) → (send_of s (after_ask (Ask.Send s (Grant path most standby)) six)).written ≡ (send_of s six).written
 grant_written A path most standby six = given_written path (decision path most standby six.send_a) six.send_a
 grant_written B path most standby six = given_written path (decision path most standby six.send_b) six.send_b
 
@@ -182,7 +127,7 @@ own_tells v path out holds lane short mapping is =
 
 -- a path is broken with a reason of an octet
 abbrev IsLow : Verdict → Type 0
-IsLow (verdicts.BreakPath reason) = reason < 256
+IsLow (Verdict.BreakPath reason) = reason < 256
 IsLow _ = Unit {0}
 
 plain_low : (fall : Fall) → IsLow (after_plain fall).1
@@ -212,14 +157,14 @@ infinite_low path sole fall = by (not (reads_mappings fall.mode)) (sole && is_fa
 keys_low : (fall : Fall) → IsLow (falling.after_keys fall).1
 keys_low fall = by (is_identity fall.mode)
   where
-    by : (b : Bool) → IsLow (if b then falling.stays fall else (record fall { confirmed = true }, verdicts.Stay)).1
+    by : (b : Bool) → IsLow (if b then falling.stays fall else (record fall { confirmed = true }, Verdict.Stay)).1
     by true = tt
     by false = tt
 
 check_low : (path : ℕ) (sole : Bool) (fall : Fall) → IsLow (after_failed_check path sole fall).1
 check_low path sole fall = by (not (reads_mappings fall.mode)) sole
   where
-    by : (deaf sole : Bool) → IsLow (if deaf then falling.stays fall else (if sole then (record fall { failed = Some path }, verdicts.SendFail) else falling.breaks 6 fall)).1
+    by : (deaf sole : Bool) → IsLow (if deaf then falling.stays fall else (if sole then (record fall { failed = Some path }, Verdict.SendFail) else falling.breaks 6 fall)).1
     by true sole = tt
     by false true = tt
     by false false = omega arith
@@ -233,27 +178,25 @@ fail_low sole contiguous fall = by (not (writes_mappings fall.mode)) (sole && co
     by false false = omega arith
 
 step_low : (fall : Fall) (path : ℕ) (sole : Bool) (event : Event) → IsLow (fall_step fall path sole event).1
-step_low fall path sole events.PlainHandshake = plain_low fall
-step_low fall path sole events.PlainData = plain_low fall
-step_low fall path sole events.PlainAck = plain_low fall
-step_low fall path sole events.KeysHeard = keys_low fall
-step_low fall path sole events.MappingHeard = sign_low fall
-step_low fall path sole events.AckHeard = sign_low fall
-step_low fall path sole events.InfiniteHeard = infinite_low path sole fall
-step_low fall path sole events.CheckFailed = check_low path sole fall
-step_low fall path sole (events.FailHeard contiguous) = fail_low sole contiguous fall
-step_low fall path sole events.Stop = tt
+step_low fall path sole Event.KeysHeard = keys_low fall
+step_low fall path sole Event.MappingHeard = sign_low fall
+step_low fall path sole Event.AckHeard = sign_low fall
+step_low fall path sole Event.InfiniteHeard = infinite_low path sole fall
+step_low fall path sole Event.CheckFailed = check_low path sole fall
+step_low fall path sole (Event.FailHeard contiguous) = fail_low sole contiguous fall
+step_low fall path sole Event.Stop = tt
+step_low fall path sole _ = plain_low fall
 
 -- what is to be done by a verdict
-verdict_fair : (s : Side) (p : PathState Carried) (v : Verdict) → IsLow v → AreFair p.agenda → AreFair (fell_duties s (replies.Control (control_replies.Verdict v)) p)
-verdict_fair s p (verdicts.Went Identity) low fair = replaced_fair (duties.Ask (ask_duties.GoIdentity s)) p.agenda refl fair
-verdict_fair s p (verdicts.Went Starting) low fair = tail_fair p.agenda fair
-verdict_fair s p (verdicts.Went Sure) low fair = tail_fair p.agenda fair
-verdict_fair s p (verdicts.Went InfiniteSend) low fair = tail_fair p.agenda fair
-verdict_fair s p (verdicts.Went InfiniteReceive) low fair = tail_fair p.agenda fair
-verdict_fair s p (verdicts.Went InfiniteBoth) low fair = tail_fair p.agenda fair
-verdict_fair s p (verdicts.Went Aborted) low fair = tail_fair p.agenda fair
-verdict_fair s p (verdicts.BreakPath reason) low fair = by (end_at s p).treated.asked
+verdict_fair : (s : Side) (p : PathState Carried) (v : Verdict) → IsLow v → AreFair p.agenda → AreFair (fell_duties s (Reply.Control (ControlReply.Verdict v)) p)
+verdict_fair s p (Verdict.Went Identity) low fair = replaced_fair (Duty.Ask (AskDuty.GoIdentity s)) p.agenda refl fair
+verdict_fair s p (Verdict.Went Starting) low fair = tail_fair p.agenda fair
+verdict_fair s p (Verdict.Went Sure) low fair = tail_fair p.agenda fair
+verdict_fair s p (Verdict.Went InfiniteSend) low fair = tail_fair p.agenda fair
+verdict_fair s p (Verdict.Went InfiniteReceive) low fair = tail_fair p.agenda fair
+verdict_fair s p (Verdict.Went InfiniteBoth) low fair = tail_fair p.agenda fair
+verdict_fair s p (Verdict.Went Aborted) low fair = tail_fair p.agenda fair
+verdict_fair s p (Verdict.BreakPath reason) low fair = by (end_at s p).treated.asked
   where
     octet : nat_lt reason 256 ≡ true
     octet = lt_true reason 256 low
@@ -261,8 +204,8 @@ verdict_fair s p (verdicts.BreakPath reason) low fair = by (end_at s p).treated.
     by : (b : Bool) → AreFair (breaks_by b s reason)
     by true = and_from (nat_lt reason 256) true octet refl
     by false = and_from (nat_lt reason 256) true octet refl
-verdict_fair s p verdicts.Stay low fair = tail_fair p.agenda fair
-verdict_fair s p verdicts.SendFail low fair = tail_fair p.agenda fair
+verdict_fair s p Verdict.Stay low fair = tail_fair p.agenda fair
+verdict_fair s p Verdict.SendFail low fair = tail_fair p.agenda fair
 
 module _ (six : SixBooks) (others : Others) (p : PathState Carried) (ab ba : Lane) (h : PathShows p.profile p ab ba) (holds : Holds (duo_at six ab ba others))
     (ready : IsReady p ab ba) (numbered : path_of p ≡ others.number)
@@ -343,42 +286,40 @@ module _ (six : SixBooks) (others : Others) (p : PathState Carried) (ab ba : Lan
     ack_tells : (position : ℕ) (fin : Option ℕ) → IsShort position → IfSome fin IsShort → SegmentTells p.profile s (ack_said p.profile s position fin e)
     ack_tells position fin at n = ack_said_tells p.profile s path wide e tells position fin at n
 
-    acknowledged : (ds : List Duty) → AreFair ds → Tells (sent_on values s (ack_segment s p) (having_sent to_send.Ack p.clock (ack_segment s p) e) ds p)
-    acknowledged ds fair = on_occasion (ack_segment s p) to_send.Ack ds (ack_tells e.tcp.send.nxt None tells.sender.next tt) fair
+    acknowledged : (ds : List Duty) → AreFair ds → Tells (sent_on values s (ack_segment s p) (having_sent Occasion.Ack p.clock (ack_segment s p) e) ds p)
+    acknowledged ds fair = on_occasion (ack_segment s p) Occasion.Ack ds (ack_tells e.tcp.send.nxt None tells.sender.next tt) fair
 
-    unsent_told : (ds : List Duty) → AreFair ds → Tells (sent_on values s (unsent_segment s p) (having_sent to_send.Unsent p.clock (unsent_segment s p) e) ds p)
+    unsent_told : (ds : List Duty) → AreFair ds → Tells (sent_on values s (unsent_segment s p) (having_sent Occasion.Unsent p.clock (unsent_segment s p) e) ds p)
     unsent_told ds fair =
-        on_occasion (unsent_segment s p) to_send.Unsent ds (record_said_tells p.profile s path wide e tells own_pair (first_unsent e) (every_find is_unsent e.tcp.send.records tells.sender.records)) fair
+        on_occasion (unsent_segment s p) Occasion.Unsent ds (record_said_tells p.profile s path wide e tells own_pair (first_unsent e) (every_find is_unsent e.tcp.send.records tells.sender.records)) fair
 
     first_told : SegmentTells p.profile s (record_or_ack p.profile s (first_record e) e)
     first_told = record_said_tells p.profile s path wide e tells own_pair (first_record e) (every_at 0 e.tcp.send.records tells.sender.records)
 
-    syn_ack_told : (ds : List Duty) → AreFair ds → Tells (sent_on values s (syn_ack_of s p) (having_sent to_send.SynAck p.clock (syn_ack_of s p) e) ds p)
-    syn_ack_told ds fair = on_occasion (syn_ack_of s p) to_send.SynAck ds (syn_ack_tells p.profile s path wide e tells) fair
+    syn_ack_told : (ds : List Duty) → AreFair ds → Tells (sent_on values s (syn_ack_of s p) (having_sent Occasion.SynAck p.clock (syn_ack_of s p) e) ds p)
+    syn_ack_told ds fair = on_occasion (syn_ack_of s p) Occasion.SynAck ds (syn_ack_tells p.profile s path wide e tells) fair
 
     -- MP_FASTCLOSE, as it is carried
     fast_closed : Tells (answered_fast_close values s p)
     fast_closed =
         tells_sent p.profile p t s (fast_close_of s p) (having_fast_closed s p) (left p) (carried_tells p.profile s path wide e tells e.notices.carrier tells.notices.carrier)
-        (rules.fast_closed_tells p.profile s (having_sent to_send.Ack p.clock (fast_close_of s p) e) (rules.sent_end_tells p.profile s e tells to_send.Ack p.clock (fast_close_of s p))) left_fair
+        (rules.fast_closed_tells p.profile s (having_sent Occasion.Ack p.clock (fast_close_of s p) e) (rules.sent_end_tells p.profile s e tells Occasion.Ack p.clock (fast_close_of s p))) left_fair
 
     -- a notice, of what is to be noted
     noted : Tells (answered_note values s p)
     noted =
         tells_sent p.profile p t s (note_of s p) (having_noted s p) p.agenda
         (noted_tells p.profile s path wide e tells (first_of e.notices.queue) (first_note e.notices.queue tells.notices.queue))
-        (rules.noted_out_tells p.profile s (having_sent to_send.Ack p.clock (note_of s p) e) (rules.sent_end_tells p.profile s e tells to_send.Ack p.clock (note_of s p))) t.agenda
+        (rules.noted_out_tells p.profile s (having_sent Occasion.Ack p.clock (note_of s p) e) (rules.sent_end_tells p.profile s e tells Occasion.Ack p.clock (note_of s p))) t.agenda
       where
         first_note : (queue : List OwnNotice) → Every NoteTells queue → IfSome (first_of queue) NoteTells
         first_note [] each = tt
         first_note (notice ∷ queue) each = every_first notice queue each
 
     answer_told : SegmentTells p.profile s (answer_of s p)
-    answer_told = by e.tcp.due.syn_ack
-      where
-        by : (b : Bool) → SegmentTells p.profile s (if b then syn_ack_said p.profile s e else ack_said p.profile s e.tcp.send.nxt None e)
-        by true = syn_ack_tells p.profile s path wide e tells
-        by false = ack_tells e.tcp.send.nxt None tells.sender.next tt
+    answer_told =
+        if_so (SegmentTells p.profile s) e.tcp.due.syn_ack (syn_ack_said p.profile s e) (ack_said p.profile s e.tcp.send.nxt None e)
+        (syn_ack_tells p.profile s path wide e tells) (ack_tells e.tcp.send.nxt None tells.sender.next tt)
 
     resend_told : SegmentTells p.profile s (resend_of s p)
     resend_told = by (has_records e.tcp) e.modes.owes_third e.notices.fast_closed (is_data_fin_owed e)
@@ -431,13 +372,13 @@ module _ (six : SixBooks) (others : Others) (p : PathState Carried) (ab ba : Lan
     plain_ack_told : Tells (answered_plain_ack values s (reply_of six (plain_ack_ask values s p)) p)
     plain_ack_told = by (breaks_by_ack p.profile e)
       where
-        by : (b : Bool) → let x = if b then break_ask values s 6 p else fell_ask s events.PlainAck p in
-            Tells (if b then answered_break values s 6 (reply_of six x) p else goes_on s (with_plain_ack (after_fell events.PlainAck (reply_of six x) e)) (fell_duties s (reply_of six x) p) p)
+        by : (b : Bool) → let x = if b then break_ask values s 6 p else fell_ask s Event.PlainAck p in
+            Tells (if b then answered_break values s 6 (reply_of six x) p else goes_on s (with_plain_ack (after_fell Event.PlainAck (reply_of six x) e)) (fell_duties s (reply_of six x) p) p)
         by true = break_told 6 refl (omega arith)
         by false =
-            let r : Reply = reply_of six (fell_ask s events.PlainAck p) in
-            let f : PathEnd = after_fell events.PlainAck r e in
-            on (with_plain_ack f) (fell_duties s r p) (rules.plain_ack_tells p.profile s f (rules.fell_tells p.profile s e tells events.PlainAck r)) (fell_fair events.PlainAck)
+            let r : Reply = reply_of six (fell_ask s Event.PlainAck p) in
+            let f : PathEnd = after_fell Event.PlainAck r e in
+            on (with_plain_ack f) (fell_duties s r p) (rules.plain_ack_tells p.profile s f (rules.fell_tells p.profile s e tells Event.PlainAck r)) (fell_fair Event.PlainAck)
 
     subflow_ack_told : Tells (answered_subflow_ack s (reply_of six (subflow_ack_ask s e)) p)
     subflow_ack_told = by (plain_next e)
@@ -453,28 +394,28 @@ module _ (six : SixBooks) (others : Others) (p : PathState Carried) (ab ba : Lan
     check_failed_told : Tells (answered_check_failed s (reply_of six (check_failed_ask s p)) p)
     check_failed_told =
         let r : Reply = reply_of six (check_failed_ask s p) in
-        on (after_check_failed p.profile.spelling.checksums r e) (fell_duties s r p) (rules.failed_tells p.profile s e tells p.profile.spelling.checksums r failed_short) (fell_fair events.CheckFailed)
+        on (after_check_failed p.profile.spelling.checksums r e) (fell_duties s r p) (rules.failed_tells p.profile s e tells p.profile.spelling.checksums r failed_short) (fell_fair Event.CheckFailed)
 
     fail_heard_told : Tells (answered_fail_heard s (reply_of six (fail_heard_ask s p)) p)
     fail_heard_told =
         let r : Reply = reply_of six (fail_heard_ask s p) in
-        on (after_fail_heard r e) (fell_duties s r p) (rules.fail_heard_tells p.profile s e tells r) (fell_fair (events.FailHeard (is_some e.treated.infinite_mapping)))
+        on (after_fail_heard r e) (fell_duties s r p) (rules.fail_heard_tells p.profile s e tells r) (fell_fair (Event.FailHeard (is_some e.treated.infinite_mapping)))
 
-    infinite_told : (place : ℕ) (position : Option ℕ) → let r = reply_of six (fell_ask s events.InfiniteHeard p) in Tells (answered_infinite s place position r p)
+    infinite_told : (place : ℕ) (position : Option ℕ) → let r = reply_of six (fell_ask s Event.InfiniteHeard p) in Tells (answered_infinite s place position r p)
     infinite_told place position =
-        let r : Reply = reply_of six (fell_ask s events.InfiniteHeard p) in
-        on (after_infinite_heard place position r e) (fell_duties s r p) (rules.infinite_tells p.profile s e tells place position r) (fell_fair events.InfiniteHeard)
+        let r : Reply = reply_of six (fell_ask s Event.InfiniteHeard p) in
+        on (after_infinite_heard place position r e) (fell_duties s r p) (rules.infinite_tells p.profile s e tells place position r) (fell_fair Event.InfiniteHeard)
 
     failed_told : Tells (answered_fail s (reply_of six (fail_ask s p)) p)
     failed_told = by (may_go_infinite e)
       where
-        by : (b : Bool) → let r = reply_of six (if b then asks.Send s (GoInfinite (path_of p)) else fell_ask s (events.FailHeard false) p) in
-            Tells (if b then book_answered s r p else answered_fell s (events.FailHeard false) r p)
+        by : (b : Bool) → let r = reply_of six (if b then Ask.Send s (GoInfinite (path_of p)) else fell_ask s (Event.FailHeard false) p) in
+            Tells (if b then book_answered s r p else answered_fell s (Event.FailHeard false) r p)
         by true =
-            let r : Reply = reply_of six (asks.Send s (GoInfinite (path_of p))) in
-            on (with_infinite r e) (replaced (duties.Ask (ask_duties.FailHeard s)) p.agenda) (rules.with_infinite_tells p.profile s e tells r)
-            (replaced_fair (duties.Ask (ask_duties.FailHeard s)) p.agenda refl t.agenda)
-        by false = fell_told (events.FailHeard false)
+            let r : Reply = reply_of six (Ask.Send s (GoInfinite (path_of p))) in
+            on (with_infinite r e) (replaced (Duty.Ask (AskDuty.FailHeard s)) p.agenda) (rules.with_infinite_tells p.profile s e tells r)
+            (replaced_fair (Duty.Ask (AskDuty.FailHeard s)) p.agenda refl t.agenda)
+        by false = fell_told (Event.FailHeard false)
 
     -- ---- keys, and what a copy said
 
@@ -482,40 +423,40 @@ module _ (six : SixBooks) (others : Others) (p : PathState Carried) (ab ba : Lan
     keyed r keys key = on (after_keys r keys e) (left p) (rules.keys_tell p.profile s e tells r keys key) left_fair
 
     acked_fair : (covers : Bool) → AreFair (told_next s covers p)
-    acked_fair true = replaced_fair (duties.Ask (ask_duties.AckHeard s)) p.agenda refl t.agenda
+    acked_fair true = replaced_fair (Duty.Ask (AskDuty.AckHeard s)) p.agenda refl t.agenda
     acked_fair false = left_fair
 
     mapping_told : Tells (answered_mapping values s (reply_of six (mapping_ask values s p)) p)
     mapping_told = by (is_clash e)
       where
-        by : (b : Bool) → let x = if b then break_ask values s 1 p else fell_ask s events.MappingHeard p in
-            Tells (if b then answered_break values s 1 (reply_of six x) p else goes_on s (with_learned (after_fell events.MappingHeard (reply_of six x) e)) (fell_duties s (reply_of six x) p) p)
+        by : (b : Bool) → let x = if b then break_ask values s 1 p else fell_ask s Event.MappingHeard p in
+            Tells (if b then answered_break values s 1 (reply_of six x) p else goes_on s (with_learned (after_fell Event.MappingHeard (reply_of six x) e)) (fell_duties s (reply_of six x) p) p)
         by true = break_told 1 refl (omega arith)
         by false =
-            let r : Reply = reply_of six (fell_ask s events.MappingHeard p) in
-            let f : PathEnd = after_fell events.MappingHeard r e in
-            on (with_learned f) (fell_duties s r p) (rules.learned_tells p.profile s f (rules.fell_tells p.profile s e tells events.MappingHeard r)) (fell_fair events.MappingHeard)
+            let r : Reply = reply_of six (fell_ask s Event.MappingHeard p) in
+            let f : PathEnd = after_fell Event.MappingHeard r e in
+            on (with_learned f) (fell_duties s r p) (rules.learned_tells p.profile s f (rules.fell_tells p.profile s e tells Event.MappingHeard r)) (fell_fair Event.MappingHeard)
 
     heard_told : (item : Heard) → ItemTells item → Tells (answered_heard values s item (reply_of six (heard_ask values s item p)) p)
-    heard_told (says.DataAck next window) x =
+    heard_told (Heard.DataAck next window) x =
         let r : SendReply = ack_reply next (send_of s six) in
-        on (with_acked next (replies.Send r) e) (told_next s (is_acked (replies.Send r) && nat_lt 0 next) p) (rules.stream_acked p.profile s e tells next r x) (acked_fair (is_acked (replies.Send r) && nat_lt 0 next))
-    heard_told (says.Mapping fin) x = mapping_told
-    heard_told (says.DataFin place) x =
-        let r : Reply = reply_of six (fell_ask s events.MappingHeard p) in
-        let f : PathEnd = after_fell events.MappingHeard r e in
-        on (with_data_fin place f) (fell_duties s r p) (rules.fin_tells p.profile s f (rules.fell_tells p.profile s e tells events.MappingHeard r) place) (fell_fair events.MappingHeard)
-    heard_told (says.InfiniteMapping place position) x = infinite_told place position
-    heard_told (says.Keys own peer) x =
+        on (with_acked next (Reply.Send r) e) (told_next s (is_acked (Reply.Send r) && nat_lt 0 next) p) (rules.stream_acked p.profile s e tells next r x) (acked_fair (is_acked (Reply.Send r) && nat_lt 0 next))
+    heard_told (Heard.Mapping fin) x = mapping_told
+    heard_told (Heard.DataFin place) x =
+        let r : Reply = reply_of six (fell_ask s Event.MappingHeard p) in
+        let f : PathEnd = after_fell Event.MappingHeard r e in
+        on (with_data_fin place f) (fell_duties s r p) (rules.fin_tells p.profile s f (rules.fell_tells p.profile s e tells Event.MappingHeard r) place) (fell_fair Event.MappingHeard)
+    heard_told (Heard.InfiniteMapping place position) x = infinite_told place position
+    heard_told (Heard.Keys own peer) x =
         let keys : Option KeyPair = Some (record { own = own; peer = peer }) in keyed (reply_of six (keys_ask s keys)) keys x.1
-    heard_told says.Dss x = done_tells
-    heard_told (says.PeerKey key) x = done_tells
-    heard_told (says.Join form) x = done_tells
-    heard_told (says.Notice notice) x =
+    heard_told Heard.Dss x = done_tells
+    heard_told (Heard.PeerKey key) x = done_tells
+    heard_told (Heard.Join form) x = done_tells
+    heard_told (Heard.Notice notice) x =
         on (after_peer_notice notice (reply_of six (notice_ask s notice p)) e) (left p)
         (rules.peer_notice_tells p.profile s e tells notice (reply_of six (notice_ask s notice p)) x) left_fair
-    heard_told says.Fail x = failed_told
-    heard_told (says.FastClose key) x = stopped_told (is_stopped_by (reply_of six (fast_heard_ask s key)))
+    heard_told Heard.Fail x = failed_told
+    heard_told (Heard.FastClose key) x = stopped_told (is_stopped_by (reply_of six (fast_heard_ask s key)))
       where
         stopped_told : (b : Bool) → Tells (with_agenda (if b then stops s else left p) p)
         stopped_told true = tells_agenda p.profile p t (stops s) refl
@@ -525,12 +466,12 @@ module _ (six : SixBooks) (others : Others) (p : PathState Carried) (ab ba : Lan
 
     join_by : (keys : Option KeyPair) (asked : Option JoinSyn) → IfSome keys AreKeys → IfSome asked (λ a. IsNonce a.nonce) → Tells (join_taken s keys asked (reply_of six (join_heard_ask s (asked_at s p) p)) p)
     join_by None (Some asked) pair nonce =
-        on (with_mode_refused (reply_of six (join_heard_ask s (asked_at s p) p)) e) (replaced (duties.Send (send_duties.Refuse s)) p.agenda) (rules.join_refused_tells p.profile s e tells (reply_of six (join_heard_ask s (asked_at s p) p)))
-        (replaced_fair (duties.Send (send_duties.Refuse s)) p.agenda refl t.agenda)
-    join_by None None pair nonce = tells_agenda p.profile p t (replaced (duties.Send (send_duties.Refuse s)) p.agenda) (replaced_fair (duties.Send (send_duties.Refuse s)) p.agenda refl t.agenda)
-    join_by (Some keys) None pair nonce = tells_agenda p.profile p t (replaced (duties.Send (send_duties.Refuse s)) p.agenda) (replaced_fair (duties.Send (send_duties.Refuse s)) p.agenda refl t.agenda)
+        on (with_mode_refused (reply_of six (join_heard_ask s (asked_at s p) p)) e) (replaced (Duty.Send (SendDuty.Refuse s)) p.agenda) (rules.join_refused_tells p.profile s e tells (reply_of six (join_heard_ask s (asked_at s p) p)))
+        (replaced_fair (Duty.Send (SendDuty.Refuse s)) p.agenda refl t.agenda)
+    join_by None None pair nonce = tells_agenda p.profile p t (replaced (Duty.Send (SendDuty.Refuse s)) p.agenda) (replaced_fair (Duty.Send (SendDuty.Refuse s)) p.agenda refl t.agenda)
+    join_by (Some keys) None pair nonce = tells_agenda p.profile p t (replaced (Duty.Send (SendDuty.Refuse s)) p.agenda) (replaced_fair (Duty.Send (SendDuty.Refuse s)) p.agenda refl t.agenda)
     join_by (Some keys) (Some asked) pair nonce =
-        on (joined_by keys asked e) (replaced (duties.Send (send_duties.SynAck s)) p.agenda) (joined_tells p.profile s keys asked e pair nonce tells) (replaced_fair (duties.Send (send_duties.SynAck s)) p.agenda refl t.agenda)
+        on (joined_by keys asked e) (replaced (Duty.Send (SendDuty.SynAck s)) p.agenda) (joined_tells p.profile s keys asked e pair nonce tells) (replaced_fair (Duty.Send (SendDuty.SynAck s)) p.agenda refl t.agenda)
 
     join_told : Tells (answered_join_heard s (reply_of six (join_heard_ask s (asked_at s p) p)) p)
     join_told = join_by (keys_begun (reply_of six (join_heard_ask s (asked_at s p) p))) (asked_at s p) (joined_keys six short.control s (asked_at s p) p) (asked_nonce e.treated.items tells.treated.items)
@@ -545,11 +486,11 @@ module _ (six : SixBooks) (others : Others) (p : PathState Carried) (ab ba : Lan
     -- ---- the opening
 
     peer_key_told : (o : Option ℕ) → IfSome o IsKey → Tells (answered_peer_key s o (reply_of six (peer_key_ask s o p)) p)
-    peer_key_told None key = fell_told events.PlainHandshake
+    peer_key_told None key = fell_told Event.PlainHandshake
     peer_key_told (Some n) key = on (with_peer_key (Some n) e) (left p) (rules.peer_key_tells p.profile s e tells (Some n) key) left_fair
 
     opened_told : (o : Option KeyPair) → IfSome o (λ k. IsKey k.peer) → Tells (answered_opened s o (reply_of six (opened_ask s o p)) p)
-    opened_told None key = fell_told events.PlainHandshake
+    opened_told None key = fell_told Event.PlainHandshake
     opened_told (Some keys) key = keyed (reply_of six (keys_ask s (Some keys))) (Some keys) key
 
     -- ---- grants
@@ -567,10 +508,10 @@ module _ (six : SixBooks) (others : Others) (p : PathState Carried) (ab ba : Lan
 
     module _ (may : states.may_finish e.tcp.state ≡ true) where
       abbrev grant : Ask
-      grant = asks.Send s (Grant (path_of p) (payload_size p.profile) e.modes.standby)
+      grant = Ask.Send s (Grant (path_of p) (payload_size p.profile) e.modes.standby)
 
       abbrev Grants : SendReply → Type 0
-      Grants r = Answered p.profile six others grant (answered_grant s (grant_in (replies.Send r)) (replies.Send r) p) ab ba
+      Grants r = Answered p.profile six others grant (answered_grant s (grant_in (Reply.Send r)) (Reply.Send r) p) ab ba
 
       grants : (r : SendReply) → grant_reply (path_of p) (payload_size p.profile) e.modes.standby (send_of s six) ≡ r → Grants r
       grants r is =
@@ -578,7 +519,7 @@ module _ (six : SixBooks) (others : Others) (p : PathState Carried) (ab ba : Lan
           subst Grants is (granted_step six others p ab ba h holds ready s (payload_size p.profile) e.modes.standby (omega (arith, size)) (omega (arith, whole, written)) marks_whole may numbered)
 
       -- all that was granted was written
-      granted_reaches : (span : Span) (piece : List ℕ) → Grants (send_replies.Granted span piece) → IsShort (e.tcp.send.nxt + length piece + 1)
+      granted_reaches : (span : Span) (piece : List ℕ) → Grants (SendReply.Granted span piece) → IsShort (e.tcp.send.nxt + length piece + 1)
       granted_reaches span piece a =
           let w = a.after in
           let lane : LaneIsShort (length (send_of s (after_ask grant six)).written) (pick s w.ab_after w.ba_after) =
@@ -590,24 +531,24 @@ module _ (six : SixBooks) (others : Others) (p : PathState Carried) (ab ba : Lan
           let sent = lane.sent in let same = ap (λ (xs : List ℕ). length xs) (grant_written s (path_of p) (payload_size p.profile) e.modes.standby six) in let written = short.written s in
           omega (arith, next, sent, same, written)
 
-      grant_by : (r : SendReply) → grant_reply (path_of p) (payload_size p.profile) e.modes.standby (send_of s six) ≡ r → Tells (answered_grant s (grant_in (replies.Send r)) (replies.Send r) p)
-      grant_by (send_replies.Granted span piece) is = on (granted p.profile s span piece e) p.agenda granted_told t.agenda
+      grant_by : (r : SendReply) → grant_reply (path_of p) (payload_size p.profile) e.modes.standby (send_of s six) ≡ r → Tells (answered_grant s (grant_in (Reply.Send r)) (Reply.Send r) p)
+      grant_by (SendReply.Granted span piece) is = on (granted p.profile s span piece e) p.agenda granted_told t.agenda
         where
           granted_told : EndTells p.profile s (granted p.profile s span piece e)
           granted_told =
               let w = granted_within (path_of p) (payload_size p.profile) e.modes.standby (send_of s six) span piece (omega (arith, size)) marks_whole is in
               let few = w.few in let place = w.place in let written = short.written s in
-              let reaches = granted_reaches span piece (grants (send_replies.Granted span piece) is) in
+              let reaches = granted_reaches span piece (grants (SendReply.Granted span piece) is) in
               rules.granted_tells p.profile s e tells span piece w.some (omega (arith, few, mss)) (omega (arith, place, written)) reaches
-      grant_by (send_replies.NoGrant why told) is = refused_by (decision (path_of p) (payload_size p.profile) e.modes.standby (send_of s six)) is
+      grant_by (SendReply.NoGrant why told) is = refused_by (decision (path_of p) (payload_size p.profile) e.modes.standby (send_of s six)) is
         where
-          refused_by : (d : Result Span Why) → reply_by d (send_of s six) ≡ send_replies.NoGrant why told → Tells (goes_on s (refused (replies.Send (send_replies.NoGrant why told)) e) (left p) p)
+          refused_by : (d : Result Span Why) → reply_by d (send_of s six) ≡ SendReply.NoGrant why told → Tells (goes_on s (refused (Reply.Send (SendReply.NoGrant why told)) e) (left p) p)
           refused_by (Ok span) same = cc
           refused_by (Err reason) same =
               let known : end_of (send_of s six) ≡ told = cc in let written = short.written s in
-              on (refused (replies.Send (send_replies.NoGrant why told)) e) (left p)
+              on (refused (Reply.Send (SendReply.NoGrant why told)) e) (left p)
               (rules.refused_tells p.profile s e tells why told (subst (λ o. IfSome o IsShort) known (end_short (send_of s six) (omega (arith, written))))) left_fair
-      grant_by (send_replies.Acked bytes fin) is = on e (left p) tells left_fair
+      grant_by (SendReply.Acked bytes fin) is = on e (left p) tells left_fair
       grant_by _ is = on e (left p) tells left_fair
 
     -- ---- bytes
@@ -655,15 +596,15 @@ module _ (six : SixBooks) (others : Others) (p : PathState Carried) (ab ba : Lan
 
     data_fin_told : Tells (answered_data_fin_sent values s p)
     data_fin_told =
-        let f : PathEnd = having_sent to_send.Ack p.clock (data_fin_segment s p) e in
+        let f : PathEnd = having_sent Occasion.Ack p.clock (data_fin_segment s p) e in
         tells_sent p.profile p t s (data_fin_segment s p) (having_sent_data_fin s p) (left p) (ack_tells e.tcp.send.nxt e.sending.known_end tells.sender.next tells.stream.known_end)
-        (rules.end_sent_tells p.profile s f (rules.sent_end_tells p.profile s e tells to_send.Ack p.clock (data_fin_segment s p))) left_fair
+        (rules.end_sent_tells p.profile s f (rules.sent_end_tells p.profile s e tells Occasion.Ack p.clock (data_fin_segment s p))) left_fair
 
     fin_at : (finished : Bool) → IsShort (if finished then e.tcp.send.nxt - 1 else e.tcp.send.nxt)
     fin_at true = let next = tells.sender.next in omega (arith, next)
     fin_at false = tells.sender.next
 
-    fin_due : stands (duties.Send (send_duties.Fin s)) p ≡ true → Tells (answered_fin values s p)
+    fin_due : stands (Duty.Send (SendDuty.Fin s)) p ≡ true → Tells (answered_fin values s p)
     fin_due is =
         let may = (and_parts (states.may_finish e.tcp.state) _ is).0 in
         let next = next_is may in let sent = out_is.sent in let written = short.written s in
@@ -678,53 +619,53 @@ module _ (six : SixBooks) (others : Others) (p : PathState Carried) (ab ba : Lan
     data_by None is stands = grant_by (and_parts (states.may_finish e.tcp.state) _ stands).0 (grant_reply (path_of p) (payload_size p.profile) e.modes.standby (send_of s six)) refl
 
   pub duty_tells : (d : Duty) → stands d p ≡ true → is_fair d ≡ true → Tells (answered values d (reply_of six (ask_for values d p)) p)
-  duty_tells (duties.Ask ask_duties.JoinAgain) is fair =
-      join_tells p t (reply_of six (ask_for values (duties.Ask ask_duties.JoinAgain) p)) (replaced (duties.Ask (ask_duties.Leave A)) p.agenda) (left p) p (again_keys six short.control p)
-      (replaced_fair (duties.Ask (ask_duties.Leave A)) p.agenda refl t.agenda) left_fair t
-  duty_tells (duties.Step (step_duties.Look s)) is fair = let r : Reply = reply_of six (look_ask s p) in on s (after_look r (end_at s p)) (left p) (rules.look_tells p.profile s (end_at s p) (tells s) r (look_key six short.control s p)) left_fair
-  duty_tells (duties.Ask (ask_duties.Window s)) is fair = ack_out_told s (left p) left_fair
-  duty_tells (duties.Send (send_duties.Update s)) is fair = acknowledged s (left p) left_fair
-  duty_tells (duties.Send (send_duties.FastClose s)) is fair = fast_closed s
-  duty_tells (duties.Send (send_duties.Notice s)) is fair = noted s
-  duty_tells (duties.Send (send_duties.Syn s)) is fair = unsent_told s (left p) left_fair
-  duty_tells (duties.Step (step_duties.Data s)) is fair = data_by s (first_unsent (end_at s p)) refl is
-  duty_tells (duties.Send (send_duties.DataFin s)) is fair = data_fin_told s
-  duty_tells (duties.Send (send_duties.Fin s)) is fair = fin_due s is
-  duty_tells (duties.Silent (silent_duties.Timer s)) is fair = done_tells
-  duty_tells (duties.Step step_duties.Events) is fair = events_tell p t (next_event p) (reply_of six (step_for (path_of p) (next_event p))) (step_keys six short.control (path_of p) (next_event p))
-  duty_tells (duties.Ask (ask_duties.PlainHandshake s)) is fair = fell_told s events.PlainHandshake
-  duty_tells (duties.Ask (ask_duties.PeerKey s)) is fair = peer_key_told s (key_heard (end_at s p).treated.items) (heard_key (end_at s p).treated.items (tells s).treated.items)
-  duty_tells (duties.Send (send_duties.SynAck s)) is fair = syn_ack_told s (left p) left_fair
-  duty_tells (duties.Ask (ask_duties.JoinHeard s)) is fair = join_told s
-  duty_tells (duties.Send (send_duties.Refuse s)) is fair = refused_told s
-  duty_tells (duties.Ask (ask_duties.Opened s)) is fair = opened_told s (keys_heard (end_at s p).treated.items) (heard_keys (end_at s p).treated.items (tells s).treated.items)
-  duty_tells (duties.Step (step_duties.Heard s index)) is fair = item_told s index
-  duty_tells (duties.Ask (ask_duties.AckHeard s)) is fair = fell_told s events.AckHeard
-  duty_tells (duties.Ask (ask_duties.FailHeard s)) is fair = fail_heard_told s
-  duty_tells (duties.Step (step_duties.PlainAck s)) is fair = plain_ack_told s
-  duty_tells (duties.Ask (ask_duties.SubflowAck s)) is fair = subflow_ack_told s
-  duty_tells (duties.Ask (ask_duties.PlainData s)) is fair = fell_told s events.PlainData
-  duty_tells (duties.Ask (ask_duties.GoIdentity s)) is fair = on s (in_identity (end_at s p)) (left p) (rules.identity_tells p.profile s (end_at s p) (tells s)) left_fair
-  duty_tells (duties.Step (step_duties.Unmapped s)) is fair = break_told s 6 refl (omega arith)
-  duty_tells (duties.Ask (ask_duties.SubflowFin s)) is fair = plain_fin_told s (is_fin_set (reply_of six (fin_ask s (plain_fin (end_at s p)))))
-  duty_tells (duties.Ask (ask_duties.Edge s)) is fair = piece_by s (piece_of s p) refl (is_placed (reply_of six (piece_ask s (piece_of s p))))
-  duty_tells (duties.Ask (ask_duties.CheckFailed s)) is fair = check_failed_told s
-  duty_tells (duties.Ask (ask_duties.HeardFin s index)) is fair = fin_told s (is_fin_set (reply_of six (fin_ask s (data_fin_of index (end_at s p)))))
-  duty_tells (duties.Ask (ask_duties.AckOut s)) is fair = ack_out_told s (left p) left_fair
-  duty_tells (duties.Ask (ask_duties.Rate s)) is fair =
+  duty_tells (Duty.Ask AskDuty.JoinAgain) is fair =
+      join_tells p t (reply_of six (ask_for values (Duty.Ask AskDuty.JoinAgain) p)) (replaced (Duty.Ask (AskDuty.Leave A)) p.agenda) (left p) p (again_keys six short.control p)
+      (replaced_fair (Duty.Ask (AskDuty.Leave A)) p.agenda refl t.agenda) left_fair t
+  duty_tells (Duty.Step (StepDuty.Look s)) is fair = let r : Reply = reply_of six (look_ask s p) in on s (after_look r (end_at s p)) (left p) (rules.look_tells p.profile s (end_at s p) (tells s) r (look_key six short.control s p)) left_fair
+  duty_tells (Duty.Ask (AskDuty.Window s)) is fair = ack_out_told s (left p) left_fair
+  duty_tells (Duty.Send (SendDuty.Update s)) is fair = acknowledged s (left p) left_fair
+  duty_tells (Duty.Send (SendDuty.FastClose s)) is fair = fast_closed s
+  duty_tells (Duty.Send (SendDuty.Notice s)) is fair = noted s
+  duty_tells (Duty.Send (SendDuty.Syn s)) is fair = unsent_told s (left p) left_fair
+  duty_tells (Duty.Step (StepDuty.Data s)) is fair = data_by s (first_unsent (end_at s p)) refl is
+  duty_tells (Duty.Send (SendDuty.DataFin s)) is fair = data_fin_told s
+  duty_tells (Duty.Send (SendDuty.Fin s)) is fair = fin_due s is
+  duty_tells (Duty.Silent (SilentDuty.Timer s)) is fair = done_tells
+  duty_tells (Duty.Step StepDuty.Events) is fair = events_tell p t (next_event p) (reply_of six (step_for (path_of p) (next_event p))) (step_keys six short.control (path_of p) (next_event p))
+  duty_tells (Duty.Ask (AskDuty.PlainHandshake s)) is fair = fell_told s Event.PlainHandshake
+  duty_tells (Duty.Ask (AskDuty.PeerKey s)) is fair = peer_key_told s (key_heard (end_at s p).treated.items) (heard_key (end_at s p).treated.items (tells s).treated.items)
+  duty_tells (Duty.Send (SendDuty.SynAck s)) is fair = syn_ack_told s (left p) left_fair
+  duty_tells (Duty.Ask (AskDuty.JoinHeard s)) is fair = join_told s
+  duty_tells (Duty.Send (SendDuty.Refuse s)) is fair = refused_told s
+  duty_tells (Duty.Ask (AskDuty.Opened s)) is fair = opened_told s (keys_heard (end_at s p).treated.items) (heard_keys (end_at s p).treated.items (tells s).treated.items)
+  duty_tells (Duty.Step (StepDuty.Heard s index)) is fair = item_told s index
+  duty_tells (Duty.Ask (AskDuty.AckHeard s)) is fair = fell_told s Event.AckHeard
+  duty_tells (Duty.Ask (AskDuty.FailHeard s)) is fair = fail_heard_told s
+  duty_tells (Duty.Step (StepDuty.PlainAck s)) is fair = plain_ack_told s
+  duty_tells (Duty.Ask (AskDuty.SubflowAck s)) is fair = subflow_ack_told s
+  duty_tells (Duty.Ask (AskDuty.PlainData s)) is fair = fell_told s Event.PlainData
+  duty_tells (Duty.Ask (AskDuty.GoIdentity s)) is fair = on s (in_identity (end_at s p)) (left p) (rules.identity_tells p.profile s (end_at s p) (tells s)) left_fair
+  duty_tells (Duty.Step (StepDuty.Unmapped s)) is fair = break_told s 6 refl (omega arith)
+  duty_tells (Duty.Ask (AskDuty.SubflowFin s)) is fair = plain_fin_told s (is_fin_set (reply_of six (fin_ask s (plain_fin (end_at s p)))))
+  duty_tells (Duty.Ask (AskDuty.Edge s)) is fair = piece_by s (piece_of s p) refl (is_placed (reply_of six (piece_ask s (piece_of s p))))
+  duty_tells (Duty.Ask (AskDuty.CheckFailed s)) is fair = check_failed_told s
+  duty_tells (Duty.Ask (AskDuty.HeardFin s index)) is fair = fin_told s (is_fin_set (reply_of six (fin_ask s (data_fin_of index (end_at s p)))))
+  duty_tells (Duty.Ask (AskDuty.AckOut s)) is fair = ack_out_told s (left p) left_fair
+  duty_tells (Duty.Ask (AskDuty.Rate s)) is fair =
       let r : Reply = reply_of six (rate_ask s (end_at s p).tcp.congestion.pending p) in
       on s (after_rate (path_of p) p.profile.mss r (end_at s p)) (left p) (rules.rate_tells p.profile s (end_at s p) (tells s) (path_of p) p.profile.mss r) left_fair
-  duty_tells (duties.Send (send_duties.Acknowledge s)) is fair = acknowledged s (left p) left_fair
-  duty_tells (duties.Send (send_duties.Again s)) is fair = on_occasion s (first_segment s p) to_send.First (left p) (first_told s) left_fair
-  duty_tells (duties.Send (send_duties.Answer s)) is fair = on_occasion s (answer_of s p) (answer_occasion (end_at s p)) (left p) (answer_told s) left_fair
-  duty_tells (duties.Send (send_duties.ResetAnswer s)) is fair = dead_told s
-  duty_tells (duties.Send (send_duties.Resend s)) is fair = on_occasion s (resend_of s p) (resend_occasion (end_at s p)) (left p) (resend_told s) left_fair
-  duty_tells (duties.Ask (ask_duties.BreakAck s reason)) is fair = ack_out_told s (resets s reason) (and_from (nat_lt reason 256) true fair refl)
-  duty_tells (duties.Send (send_duties.BreakReset s reason)) is fair = reset_told s (Some reason) (leaves s) (ltb-true reason 256 fair) refl
-  duty_tells (duties.Send (send_duties.Reset s)) is fair = reset_told s None (replaced (duties.Ask (ask_duties.Leave s)) p.agenda) tt (replaced_fair (duties.Ask (ask_duties.Leave s)) p.agenda refl t.agenda)
-  duty_tells (duties.Send (send_duties.ResetNoted s)) is fair = reset_told s None (replaced (duties.Ask (ask_duties.Leave s)) p.agenda) tt (replaced_fair (duties.Ask (ask_duties.Leave s)) p.agenda refl t.agenda)
-  duty_tells (duties.Ask (ask_duties.Leave s)) is fair = tells_agenda p.profile p t (replaced (duties.Ask (ask_duties.Dead s)) p.agenda) (replaced_fair (duties.Ask (ask_duties.Dead s)) p.agenda refl t.agenda)
-  duty_tells (duties.Ask (ask_duties.LeaveNoted s)) is fair =
-      on s (died (end_at s p)) (replaced (duties.Ask (ask_duties.Dead s)) p.agenda) (rules.died_tells p.profile s (end_at s p) (tells s)) (replaced_fair (duties.Ask (ask_duties.Dead s)) p.agenda refl t.agenda)
-  duty_tells duties.End is fair = tells_agenda p.profile p t [] refl
+  duty_tells (Duty.Send (SendDuty.Acknowledge s)) is fair = acknowledged s (left p) left_fair
+  duty_tells (Duty.Send (SendDuty.Again s)) is fair = on_occasion s (first_segment s p) Occasion.First (left p) (first_told s) left_fair
+  duty_tells (Duty.Send (SendDuty.Answer s)) is fair = on_occasion s (answer_of s p) (answer_occasion (end_at s p)) (left p) (answer_told s) left_fair
+  duty_tells (Duty.Send (SendDuty.ResetAnswer s)) is fair = dead_told s
+  duty_tells (Duty.Send (SendDuty.Resend s)) is fair = on_occasion s (resend_of s p) (resend_occasion (end_at s p)) (left p) (resend_told s) left_fair
+  duty_tells (Duty.Ask (AskDuty.BreakAck s reason)) is fair = ack_out_told s (resets s reason) (and_from (nat_lt reason 256) true fair refl)
+  duty_tells (Duty.Send (SendDuty.BreakReset s reason)) is fair = reset_told s (Some reason) (leaves s) (ltb-true reason 256 fair) refl
+  duty_tells (Duty.Send (SendDuty.Reset s)) is fair = reset_told s None (replaced (Duty.Ask (AskDuty.Leave s)) p.agenda) tt (replaced_fair (Duty.Ask (AskDuty.Leave s)) p.agenda refl t.agenda)
+  duty_tells (Duty.Send (SendDuty.ResetNoted s)) is fair = reset_told s None (replaced (Duty.Ask (AskDuty.Leave s)) p.agenda) tt (replaced_fair (Duty.Ask (AskDuty.Leave s)) p.agenda refl t.agenda)
+  duty_tells (Duty.Ask (AskDuty.Leave s)) is fair = tells_agenda p.profile p t (replaced (Duty.Ask (AskDuty.Dead s)) p.agenda) (replaced_fair (Duty.Ask (AskDuty.Dead s)) p.agenda refl t.agenda)
+  duty_tells (Duty.Ask (AskDuty.LeaveNoted s)) is fair =
+      on s (died (end_at s p)) (replaced (Duty.Ask (AskDuty.Dead s)) p.agenda) (rules.died_tells p.profile s (end_at s p) (tells s)) (replaced_fair (Duty.Ask (AskDuty.Dead s)) p.agenda refl t.agenda)
+  duty_tells Duty.End is fair = tells_agenda p.profile p t [] refl
   duty_tells _ is fair = done_tells

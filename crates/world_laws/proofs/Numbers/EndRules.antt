@@ -1,90 +1,31 @@
 -- What each rule of an end leaves of the numbers that it tells.
-use Rattle.std.proofs.Common.{◌≡◌, refl, sym, subst, ℕ, ◌+◌, ◌^◌, ◌<◌, ◌≤◌, ◌==◌, ◌&&◌, nat_lt, nat_le, Bool, true, false, if◌then◌else◌, Option, Some, None, Ok, Err, List, [], ◌∷◌, ◌++◌, length, arith, ap, ⊎_elim, ◌-◌, min}
-use Rattle.std.proofs.lemmas.Bool.{and_parts, leb-true, ltb-false}
-use Rattle.std.specs.Option.{IfSome, option_or}
-use Rattle.std.specs.Result.{result_ok}
-use Rattle.sides.specs.declared.side.Side.{Side}
-use Rattle.control_book.specs.declared.call.ControlReply.TheVariants as control_replies
-use Rattle.control_book.specs.declared.call.Notice.{Notice}
-use Rattle.control_book.specs.declared.call.Notice.TheVariants as told_notice
-use Rattle.dss_mapping.specs.declared.kept.KeptMapping.{KeptMapping}
+use Rattle.world_laws.proofs.Words.{◌≡◌, refl, sym, ap, subst, ℕ, ◌+◌, ◌-◌, ◌≤◌, ◌&&◌, ◌==◌, min, nat_lt, nat_le, ⊎_elim, Bool, true, false, if◌then◌else◌}
+use Rattle.world_laws.proofs.Words.{Option, Some, None, Ok, Err, List, [], ◌∷◌, ◌++◌, length, arith, ◌<◌, ◌^◌, and_parts, ltb-false, leb-true, IfSome}
+use Rattle.world_laws.proofs.Words.{option_or, result_ok, Verdict, Mode, Address, join_b64_of, Side, JoinForm, FormFits, JoinAnswer, BadHmac, answer_heard}
+use Rattle.world_laws.proofs.Words.{answer_taken, syn_heard, ControlReply, Notice, ReassemblyReply, Span, Why, acked_len, SendBook, is_future, fin_after}
+use Rattle.world_laws.proofs.Words.{ack_reply, SendReply, KeptMapping, after_forget_from, without_held, after_keep_held, Receiving, Record, SendState}
+use Rattle.world_laws.proofs.Words.{RecordKind, Syn, Data, Fin, uncovered, after_acknowledge, after_sent, after_resent, after_expired, after_fin_sent}
+use Rattle.world_laws.proofs.Words.{RecordSending, after_sending, syn_resent, EndState, is_fin_passed, Occasion, after_begin, is_fin_next, after_passing_fin}
+use Rattle.world_laws.proofs.Words.{after_finishing, PlainSegment, Piece, OwnNotice, Heard, KeyPair, key_in, key_heard, pair_in, keys_heard, is_of_step}
+use Rattle.world_laws.proofs.Words.{join_in, join_heard, PeerNotice, JoinStep, Reply, tail_of, PathEnd, died, Notices, without_first, after_notice, after_look}
+use Rattle.world_laws.proofs.Words.{may_note, modes_told, notices_told, after_ack_out, died_unless_dead, granted, refused, opened_by, with_mode_refused}
+use Rattle.world_laws.proofs.Words.{join_answer, join_asked, peer_key_of, join_value, with_keys, after_timer, after_firing, having_asked, after_piece, is_wrong}
+use Rattle.world_laws.proofs.Words.{failing_by, mapping_here, forgotten_by, after_keep, after_pieces, is_dropped, with_peer_data_fin, with_fin_told}
+use Rattle.world_laws.proofs.Words.{after_pass_fin, acked_in, with_data_fin_sent, with_learned, with_data_fin, with_skipped, with_acked, after_dss}
+use Rattle.world_laws.proofs.Words.{with_data_ack, covered_by, after_check_failed, after_fell, with_plain_ack, plainly_acked, after_fail_heard, with_infinite}
+use Rattle.world_laws.proofs.Words.{fell_in, in_identity, mode_in, after_keys, with_peer_key, keys_in, with_fast_closed, with_priority, after_peer_notice}
+use Rattle.world_laws.proofs.Words.{with_echo, is_kept, with_noted, bare_mapping, Profile, having_sent, with_told, after_rate, Modes, told_last, Treated}
+use Rattle.world_laws.proofs.Words.{nothing_treated, Every-push, Every-nil, Every, if_so}
 use Rattle.fallback_state.specs.declared.fall.Event.{Event}
-use Rattle.fallback_state.specs.declared.fall.Event.TheVariants as events
-use Rattle.fallback_state.specs.declared.fall.Verdict.TheVariants as verdicts
-use Rattle.fallback_state.specs.declared.fall.Mode.{Mode}
-use Rattle.join_handshake.specs.Heard.{syn_heard, answer_heard, answer_taken}
-use Rattle.join_handshake.specs.declared.fault.JoinFault.TheVariants.{BadHmac}
-use Rattle.join_handshake.specs.declared.hearing.JoinAnswer.{JoinAnswer}
-use Rattle.key_material.specs.JoinHmac.{join_b64_of}
-use Rattle.mptcp_options.specs.declared.join.JoinForm.{JoinForm}
-use Rattle.mptcp_options.specs.declared.join.JoinForm.TheVariants as joins
-use Rattle.mptcp_options.specs.Join.{FormFits}
-use Rattle.reassembly_book.specs.declared.call.ReassemblyReply.TheVariants as reassembly_replies
-use Rattle.send_book.specs.declared.call.SendReply.{SendReply}
-use Rattle.send_book.specs.declared.call.SendReply.TheVariants as send_replies
-use Rattle.send_book.specs.declared.call.Span.{Span}
-use Rattle.send_book.specs.declared.call.Why.{Why}
-use Rattle.subflow_send.specs.declared.record.RecordKind.{RecordKind}
-use Rattle.subflow_send.specs.declared.record.RecordKind.TheVariants.{Syn, Data, Fin}
-use Rattle.subflow_send.specs.declared.record.Sending.{Sending as RecordSending}
-use Rattle.subflow_send.specs.Records.{Record, SendState}
-use Rattle.subflow_send.specs.Rules.{after_acknowledge, after_sent, after_resent, after_expired, after_fin_sent, uncovered}
-use Rattle.subflow_tcp.specs.declared.segments.Occasion.{Occasion}
-use Rattle.subflow_tcp.specs.declared.segments.Occasion.TheVariants as to_send
-use Rattle.subflow_tcp.specs.Closing.{is_fin_next, after_finishing, after_passing_fin}
-use Rattle.subflow_tcp.specs.Emitting.{syn_resent, after_sending}
 use Rattle.subflow_tcp.specs.Expiring as expiring
-use Rattle.subflow_tcp.specs.Opening.{after_begin}
-use Rattle.subflow_recv.specs.Receiving.{after_forget_from, without_held, after_keep_held, Receiving}
-use Rattle.subflow_tcp.specs.State.{EndState, is_fin_passed}
 use Rattle.subflow_tcp.specs.States as states
 use Rattle.subflow_tcp.specs.Taking as taking
-use Rattle.stream_lanes.specs.Words.{Every}
-use Rattle.stream_lanes.proofs.Lists.{Every-nil, Every-push}
-use Rattle.actor_desk.specs.declared.ask.Reply.{Reply}
-use Rattle.actor_desk.specs.declared.ask.Reply.TheVariants as replies
-use Rattle.path_agenda.specs.declared.heard.Heard.{Heard}
-use Rattle.path_agenda.specs.declared.heard.Heard.TheVariants as says
-use Rattle.path_agenda.specs.declared.heard.JoinStep.{JoinStep}
-use Rattle.path_agenda.specs.declared.heard.JoinStep.TheVariants as step
-use Rattle.path_agenda.specs.declared.keys.KeyPair.{KeyPair}
-use Rattle.path_core.specs.declared.modes.Modes.{Modes}
-use Rattle.path_core.specs.DataFin.{with_data_fin_sent, with_peer_data_fin, with_fin_told, after_pass_fin, acked_in}
-use Rattle.path_core.specs.Emission.{granted, refused}
-use Rattle.path_core.specs.Timer.{after_timer, after_firing}
-use Rattle.path_core.specs.End.{PathEnd, died}
-use Rattle.path_core.specs.Treated.{Treated, nothing_treated}
-use Rattle.path_core.specs.Notices.{Notices, without_first, after_notice}
 use Rattle.path_core.specs.Sending.{Sending}
-use Rattle.path_core.specs.Breaking.{died_unless_dead}
-use Rattle.path_core.specs.Addresses.{with_priority, with_noted, is_kept, with_echo, after_peer_notice}
-use Rattle.path_agenda.specs.Items.{key_in, key_heard, pair_in, keys_heard, is_of_step, join_in, join_heard}
-use Rattle.path_core.specs.MpJoin.{with_keys, opened_by, with_mode_refused, peer_key_of, join_value, join_asked, join_answer}
-use Rattle.path_core.specs.MpCapable.{with_peer_key, keys_in, after_keys}
-use Rattle.path_core.specs.Fallback.{mode_in, fell_in, after_fell, in_identity, with_plain_ack, plainly_acked, after_check_failed, after_fail_heard, with_infinite, after_infinite}
-use Rattle.path_core.specs.Deliver.{having_asked, is_wrong, forgotten_by, after_piece, after_pieces, failing_by, mapping_here, is_dropped, after_keep}
-use Rattle.path_core.specs.Rate.{after_rate}
-use Rattle.path_store.specs.Passing.{Piece}
-use Rattle.path_core.specs.DssIn.{with_learned, with_skipped, with_acked, with_data_fin, after_dss, with_data_ack, covered_by}
-use Rattle.path_core.specs.DssOut.{bare_mapping}
-use Rattle.path_core.specs.Handover.{with_told, having_sent}
-use Rattle.path_core.specs.Standing.{modes_told, after_look, after_ack_out, may_note, notices_told}
-use Rattle.path_core.specs.Profile.{Profile}
-use Rattle.path_core.specs.Choices.{told_last}
-use Rattle.path_agenda.specs.declared.notice.OwnNotice.{OwnNotice}
-use Rattle.path_agenda.specs.declared.notice.OwnNotice.TheVariants as notes
-use Rattle.path_agenda.specs.declared.notice.PeerNotice.{PeerNotice}
-use Rattle.path_agenda.specs.declared.notice.PeerNotice.TheVariants as peer_notes
-use Rattle.key_material.specs.declared.address.Address.{Address}
-use Rattle.actor_desk.specs.Words.{tail_of}
-use Rattle.path_core.specs.FastClose.{with_fast_closed}
-use Rattle.path_segments.specs.Spelled.{PlainSegment}
+use Rattle.path_core.specs.Fallback.{after_infinite}
 use Rattle.world_laws.proofs.Lanes.Doing.{place_is}
 use Rattle.world_laws.proofs.Lanes.Records.{unsent_sent_kept, first_sent_kept, fin_sent_kept, expired_kept, uncovered_kept, every_first, every_rest}
 use Rattle.world_laws.proofs.Numbers.TellSmall.{IsShort, RecordKindTells, RecordTells, IsKey, IsNonce, ItemTells, AddressTells, NoteTells, PeerTells, SenderTells, ModesTell, TreatedTells, NoticesTell, EndTells, sum_small, StreamTells}
-use Rattle.send_book.specs.Steps.{ack_reply, is_future, fin_after}
 use Rattle.world_laws.proofs.Falls.FailedChecks.{Forgets, IsMarked, check_failed_marked, fail_heard_so, infinite_came_so}
-use Rattle.send_book.specs.State.{Sending as SendBook, acked_len}
 
 -- ---- records
 
@@ -113,11 +54,7 @@ module _ (c : Profile) (s : Side) (v : SendState) (h : SenderTells c s v) where
   expired_tells = with_records _ (expired_kept _ (same_record c s) v.records h.records)
 
   syn_resent_tells : (now : ℕ) → SenderTells c s (syn_resent now v)
-  syn_resent_tells now = by (v.una == 0)
-    where
-      by : (b : Bool) → SenderTells c s (if b then after_resent now v else v)
-      by true = resent_tells now
-      by false = h
+  syn_resent_tells now = if_so (SenderTells c s) (v.una == 0) (after_resent now v) v (resent_tells now) h
 
   pub acknowledged_tells : (pos : ℕ) → SenderTells c s (after_acknowledge pos v)
   acknowledged_tells pos = by (nat_lt v.una pos && nat_le pos v.nxt) refl
@@ -129,20 +66,20 @@ module _ (c : Profile) (s : Side) (v : SendState) (h : SenderTells c s v) where
 -- ---- modes
 
 told_modes : (r : Reply) (m : Modes) → ModesTell m → ModesTell (modes_told r m)
-told_modes (replies.Control (control_replies.Standing mode standby sole notice)) m h = record { own_key = h.own_key; peer_key = h.peer_key; own_nonce = h.own_nonce; peer_nonce = h.peer_nonce; failed_mapping = h.failed_mapping }
+told_modes (Reply.Control (ControlReply.Standing mode standby sole notice)) m h = record { own_key = h.own_key; peer_key = h.peer_key; own_nonce = h.own_nonce; peer_nonce = h.peer_nonce; failed_mapping = h.failed_mapping }
 told_modes _ m h = h
 
 went_modes : (r : Reply) (m : Modes) → ModesTell m → ModesTell (mode_in r m)
-went_modes (replies.Control (control_replies.Verdict (verdicts.Went mode))) m h = record { own_key = h.own_key; peer_key = h.peer_key; own_nonce = h.own_nonce; peer_nonce = h.peer_nonce; failed_mapping = h.failed_mapping }
+went_modes (Reply.Control (ControlReply.Verdict (Verdict.Went mode))) m h = record { own_key = h.own_key; peer_key = h.peer_key; own_nonce = h.own_nonce; peer_nonce = h.peer_nonce; failed_mapping = h.failed_mapping }
 went_modes _ m h = h
 
 fell_modes : (event : Event) (r : Reply) (m : Modes) → ModesTell m → ModesTell (fell_in event r m)
-fell_modes events.PlainData r m h = let w = went_modes r m h in record { own_key = w.own_key; peer_key = w.peer_key; own_nonce = w.own_nonce; peer_nonce = w.peer_nonce; failed_mapping = w.failed_mapping }
-fell_modes events.PlainAck r m h = let w = went_modes r m h in record { own_key = w.own_key; peer_key = w.peer_key; own_nonce = w.own_nonce; peer_nonce = w.peer_nonce; failed_mapping = w.failed_mapping }
+fell_modes Event.PlainData r m h = let w = went_modes r m h in record { own_key = w.own_key; peer_key = w.peer_key; own_nonce = w.own_nonce; peer_nonce = w.peer_nonce; failed_mapping = w.failed_mapping }
+fell_modes Event.PlainAck r m h = let w = went_modes r m h in record { own_key = w.own_key; peer_key = w.peer_key; own_nonce = w.own_nonce; peer_nonce = w.peer_nonce; failed_mapping = w.failed_mapping }
 fell_modes _ r m h = went_modes r m h
 
 keyed_modes : (r : Reply) (o : Option KeyPair) (m : Modes) → IfSome o (λ k. IsKey k.peer) → ModesTell m → ModesTell (keys_in r o m)
-keyed_modes (replies.Control control_replies.Noted) (Some keys) m k h = record { own_key = h.own_key; peer_key = k; own_nonce = h.own_nonce; peer_nonce = h.peer_nonce; failed_mapping = h.failed_mapping }
+keyed_modes (Reply.Control ControlReply.Noted) (Some keys) m k h = record { own_key = h.own_key; peer_key = k; own_nonce = h.own_nonce; peer_nonce = h.peer_nonce; failed_mapping = h.failed_mapping }
 keyed_modes _ _ m k h = h
 
 pub keys_modes : (keys : KeyPair) (m : Modes) → IsKey keys.own × IsKey keys.peer → ModesTell m → ModesTell (with_keys keys m)
@@ -150,7 +87,7 @@ keys_modes keys m k h = record { own_key = k.0; peer_key = k.1; own_nonce = h.ow
 
 -- a key that was heard
 key_of : (item : Heard) → ItemTells item → IfSome (key_in item) IsKey
-key_of (says.PeerKey key) h = h
+key_of (Heard.PeerKey key) h = h
 key_of _ h = tt
 
 first_key : (o other : Option ℕ) → IfSome o IsKey → IfSome other IsKey → IfSome (option_or o other) IsKey
@@ -162,7 +99,7 @@ heard_key [] h = tt
 heard_key (item ∷ items) h = first_key (key_in item) (key_heard items) (key_of item (every_first item items h)) (heard_key items (every_rest item items h))
 
 pair_of : (item : Heard) → ItemTells item → IfSome (pair_in item) (λ k. IsKey k.peer)
-pair_of (says.Keys own peer) h = h.1
+pair_of (Heard.Keys own peer) h = h.1
 pair_of _ h = tt
 
 first_pair : (o other : Option KeyPair) → IfSome o (λ k. IsKey k.peer) → IfSome other (λ k. IsKey k.peer) → IfSome (option_or o other) (λ k. IsKey k.peer)
@@ -176,11 +113,7 @@ heard_keys (item ∷ items) h = first_pair (pair_in item) (keys_heard items) (pa
 -- ---- joins that were heard
 
 form_of : (step : JoinStep) (item : Heard) → ItemTells item → IfSome (join_in step item) FormFits
-form_of step (says.Join form) h = by (is_of_step step form)
-  where
-    by : (b : Bool) → IfSome (if b then Some form else None) FormFits
-    by true = h
-    by false = tt
+form_of step (Heard.Join form) h = if_so (λ z. IfSome z FormFits) (is_of_step step form) (Some form) None h tt
 form_of step _ h = tt
 
 first_form : (o other : Option JoinForm) → IfSome o FormFits → IfSome other FormFits → IfSome (option_or o other) FormFits
@@ -193,29 +126,27 @@ heard_form step (item ∷ items) h =
     first_form (join_in step item) (join_heard step items) (form_of step item (every_first item items h)) (heard_form step items (every_rest item items h))
 
 asked_by_form : (o : Option JoinForm) → IfSome o FormFits → IfSome (syn_heard (join_value o)) (λ asked. IsNonce asked.nonce)
-asked_by_form None h = tt
-asked_by_form (Some (joins.Syn backup id token nonce)) h = h.2
-asked_by_form (Some (joins.Answer backup id hmac nonce)) h = tt
-asked_by_form (Some (joins.Third hmac)) h = tt
+asked_by_form (Some (JoinForm.Syn backup id token nonce)) h = h.2
+asked_by_form _ h = tt
 
 -- what A asks for
 pub asked_nonce : (items : List Heard) → Every ItemTells items → IfSome (join_asked items) (λ asked. IsNonce asked.nonce)
-asked_nonce items h = asked_by_form (join_heard step.Syn items) (heard_form step.Syn items h)
+asked_nonce items h = asked_by_form (join_heard JoinStep.Syn items) (heard_form JoinStep.Syn items h)
 
 answered_by_form : (own other nonce : ℕ) (o : Option JoinForm) → IfSome o FormFits
     → IfSome (result_ok (answer_taken own other nonce (answer_heard (join_value o)))) (λ answer. IsNonce answer.nonce)
 answered_by_form own other nonce None h = tt
-answered_by_form own other nonce (Some (joins.Syn backup id token n)) h = tt
-answered_by_form own other nonce (Some (joins.Answer backup id hmac n)) h = by (hmac == join_b64_of own other nonce n)
+answered_by_form own other nonce (Some (JoinForm.Syn backup id token n)) h = tt
+answered_by_form own other nonce (Some (JoinForm.Answer backup id hmac n)) h = by (hmac == join_b64_of own other nonce n)
   where
     by : (b : Bool) → IfSome (result_ok (if b then Ok (record { backup = backup; id = id; nonce = n }) else Err BadHmac)) (λ (answer : JoinAnswer). IsNonce answer.nonce)
     by true = h.2
     by false = tt
-answered_by_form own other nonce (Some (joins.Third hmac)) h = tt
+answered_by_form own other nonce (Some (JoinForm.Third hmac)) h = tt
 
 -- and what B answers
 pub answer_nonce : (items : List Heard) (m : Modes) → Every ItemTells items → IfSome (join_answer items m) (λ answer. IsNonce answer.nonce)
-answer_nonce items m h = answered_by_form m.own_key (peer_key_of m) m.own_nonce (join_heard step.Answer items) (heard_form step.Answer items h)
+answer_nonce items m h = answered_by_form m.own_key (peer_key_of m) m.own_nonce (join_heard JoinStep.Answer items) (heard_form JoinStep.Answer items h)
 
 -- both keys of a join
 abbrev pub AreKeys : KeyPair → Type 0
@@ -225,9 +156,9 @@ AreKeys keys = IsKey keys.own × IsKey keys.peer
 
 -- the key that the side tells to an end that carries the fast close, and the id that it tells to announce or to take back
 abbrev pub NoticeTells : Reply → Type 0
-NoticeTells (replies.Control (control_replies.Standing mode standby sole (told_notice.Carrier key))) = IsKey key
-NoticeTells (replies.Control (control_replies.Standing mode standby sole (told_notice.Announce id))) = id < 256
-NoticeTells (replies.Control (control_replies.Standing mode standby sole (told_notice.Withdraw id))) = id < 256
+NoticeTells (Reply.Control (ControlReply.Standing mode standby sole (Notice.Carrier key))) = IsKey key
+NoticeTells (Reply.Control (ControlReply.Standing mode standby sole (Notice.Announce id))) = id < 256
+NoticeTells (Reply.Control (ControlReply.Standing mode standby sole (Notice.Withdraw id))) = id < 256
 NoticeTells _ = Unit {0}
 
 module _ (c : Profile) (s : Side) (e : PathEnd) (h : EndTells c s e) where
@@ -238,32 +169,27 @@ module _ (c : Profile) (s : Side) (e : PathEnd) (h : EndTells c s e) where
   pub join_refused_tells : (r : Reply) → EndTells c s (with_mode_refused r e)
   join_refused_tells r = with_modes (with_mode_refused r e).modes (record { own_key = h.modes.own_key; peer_key = h.modes.peer_key; own_nonce = h.modes.own_nonce; peer_nonce = h.modes.peer_nonce; failed_mapping = h.modes.failed_mapping })
 
-  notice_noted : (notice : Notice) (may : Bool) → (mode : Mode) (standby sole : Bool) → NoticeTells (replies.Control (control_replies.Standing mode standby sole notice))
+  notice_noted : (notice : Notice) (may : Bool) → (mode : Mode) (standby sole : Bool) → NoticeTells (Reply.Control (ControlReply.Standing mode standby sole notice))
       → NoticesTell (after_notice notice may e.notices)
-  notice_noted told_notice.Nothing may mode standby sole told = h.notices
-  notice_noted (told_notice.Announce id) true mode standby sole told =
-      record { carrier = h.notices.carrier; queue = Every-push (notes.AddAddr id) h.notices.queue told }
-  notice_noted (told_notice.Announce id) false mode standby sole told = h.notices
-  notice_noted (told_notice.Withdraw id) may mode standby sole told =
-      record { carrier = h.notices.carrier; queue = Every-push (notes.Removes id) h.notices.queue told }
-  notice_noted told_notice.Reset may mode standby sole told = record { carrier = h.notices.carrier; queue = h.notices.queue }
-  notice_noted (told_notice.Carrier other) may mode standby sole told = record { carrier = by e.notices.fast_closed; queue = h.notices.queue }
+  notice_noted Notice.Nothing may mode standby sole told = h.notices
+  notice_noted (Notice.Announce id) true mode standby sole told =
+      record { carrier = h.notices.carrier; queue = Every-push (OwnNotice.AddAddr id) h.notices.queue told }
+  notice_noted (Notice.Announce id) false mode standby sole told = h.notices
+  notice_noted (Notice.Withdraw id) may mode standby sole told =
+      record { carrier = h.notices.carrier; queue = Every-push (OwnNotice.Removes id) h.notices.queue told }
+  notice_noted Notice.Reset may mode standby sole told = record { carrier = h.notices.carrier; queue = h.notices.queue }
+  notice_noted (Notice.Carrier other) may mode standby sole told = record { carrier = by e.notices.fast_closed; queue = h.notices.queue }
     where
       by : (closed : Bool) → IfSome (if closed then e.notices.carrier else Some other) IsKey
       by true = h.notices.carrier
       by false = told
 
   notices_noted : (r : Reply) → NoticeTells r → NoticesTell (notices_told r e)
-  notices_noted (replies.Control (control_replies.Standing mode standby sole notice)) told = by (states.is_dead e.tcp.state)
-    where
-      by : (dead : Bool) → NoticesTell (if dead then e.notices else after_notice notice (may_note e) e.notices)
-      by true = h.notices
-      by false = notice_noted notice (may_note e) mode standby sole told
-  notices_noted (replies.Control control_replies.Noted) told = h.notices
-  notices_noted (replies.Control _) told = h.notices
-  notices_noted (replies.Send reply) told = h.notices
-  notices_noted (replies.Reassembly reply) told = h.notices
-  notices_noted replies.Done told = h.notices
+  notices_noted (Reply.Control (ControlReply.Standing mode standby sole notice)) told =
+      if_so NoticesTell (states.is_dead e.tcp.state) e.notices (after_notice notice (may_note e) e.notices)
+      h.notices (notice_noted notice (may_note e) mode standby sole told)
+  notices_noted (Reply.Control ControlReply.Noted) told = h.notices
+  notices_noted _ told = h.notices
 
   with_notices : (n : Notices) → NoticesTell n → EndTells c s (record e { notices = n })
   with_notices n told = record { sender = h.sender; edge = h.edge; stream = h.stream; window = h.window; modes = h.modes; treated = h.treated; notices = told }
@@ -283,22 +209,20 @@ module _ (c : Profile) (s : Side) (e : PathEnd) (h : EndTells c s e) where
   peer_notice_tells notice r said = with_queue (with_echo notice r e.notices.queue) (by notice said)
     where
       kept : (b : Bool) (id : ℕ) (address : Address) (port : Option ℕ) → AddressTells id address port
-          → Every NoteTells (if b then e.notices.queue ++ notes.AddEcho id address port ∷ [] else e.notices.queue)
-      kept true id address port said = Every-push (notes.AddEcho id address port) h.notices.queue said
+          → Every NoteTells (if b then e.notices.queue ++ OwnNotice.AddEcho id address port ∷ [] else e.notices.queue)
+      kept true id address port said = Every-push (OwnNotice.AddEcho id address port) h.notices.queue said
       kept false id address port said = h.notices.queue
 
       by : (notice : PeerNotice) → PeerTells notice → Every NoteTells (with_echo notice r e.notices.queue)
-      by (peer_notes.AddAddr id address port hmac) said = kept (is_kept r) id address port said
-      by (peer_notes.AddEcho id) said = h.notices.queue
-      by (peer_notes.Removed id) said = h.notices.queue
-      by (peer_notes.Prio backup) said = h.notices.queue
+      by (PeerNotice.AddAddr id address port hmac) said = kept (is_kept r) id address port said
+      by _ said = h.notices.queue
 
   pub priority_tells : (backup : Bool) → EndTells c s (with_priority backup e)
   priority_tells backup = with_queue (with_priority backup e).notices.queue (by (states.is_dead e.tcp.state))
     where
-      by : (dead : Bool) → Every NoteTells (if dead then e.notices.queue else e.notices.queue ++ notes.Prio backup ∷ [])
+      by : (dead : Bool) → Every NoteTells (if dead then e.notices.queue else e.notices.queue ++ OwnNotice.Prio backup ∷ [])
       by true = h.notices.queue
-      by false = Every-push (notes.Prio backup) h.notices.queue tt
+      by false = Every-push (OwnNotice.Prio backup) h.notices.queue tt
 
   pub look_tells : (r : Reply) → NoticeTells r → EndTells c s (after_look r e)
   look_tells r key =
@@ -353,7 +277,7 @@ module _ (c : Profile) (s : Side) (e : PathEnd) (h : EndTells c s e) where
 
   -- ---- what is to be acknowledged
 
-  pub told_tells : (next window : ℕ) → IsShort next → window ≤ 2 ^ 20 → EndTells c s (after_ack_out (replies.Reassembly (reassembly_replies.Ack next window)) e)
+  pub told_tells : (next window : ℕ) → IsShort next → window ≤ 2 ^ 20 → EndTells c s (after_ack_out (Reply.Reassembly (ReassemblyReply.Ack next window)) e)
   told_tells next window short most = record {
     sender = h.sender;
     edge = h.edge;
@@ -366,8 +290,8 @@ module _ (c : Profile) (s : Side) (e : PathEnd) (h : EndTells c s e) where
 
   -- ---- what was heard
 
-  pub stream_acked : (next : ℕ) (r : SendReply) → IsShort next → EndTells c s (with_acked next (replies.Send r) e)
-  stream_acked next (send_replies.Acked bytes fin) short = record {
+  pub stream_acked : (next : ℕ) (r : SendReply) → IsShort next → EndTells c s (with_acked next (Reply.Send r) e)
+  stream_acked next (SendReply.Acked bytes fin) short = record {
     sender = h.sender;
     edge = h.edge;
     stream = record { heard = let heard = h.stream.heard in omega (arith, heard, short); known_end = h.stream.known_end };
@@ -390,7 +314,7 @@ module _ (c : Profile) (s : Side) (e : PathEnd) (h : EndTells c s e) where
   with_sending : (v : Sending) → StreamTells v → EndTells c s (record e { sending = v })
   with_sending v stream = record { sender = h.sender; edge = h.edge; stream = stream; window = h.window; modes = h.modes; treated = h.treated; notices = h.notices }
 
-  pub plain_acked : (next : ℕ) (b : SendBook) → IsShort (length b.written + 1) → EndTells c s (record e { sending = acked_in next (replies.Send (ack_reply next b)) e.sending })
+  pub plain_acked : (next : ℕ) (b : SendBook) → IsShort (length b.written + 1) → EndTells c s (record e { sending = acked_in next (Reply.Send (ack_reply next b)) e.sending })
   plain_acked next b short = by (is_future next b) refl
     where
       one_more : (closed : Bool) → length b.written + (if closed then 1 else 0) ≤ length b.written + 1
@@ -399,7 +323,7 @@ module _ (c : Profile) (s : Side) (e : PathEnd) (h : EndTells c s e) where
 
       by : (future : Bool) → is_future next b ≡ future
           → EndTells c s (record e {
-            sending = acked_in next (replies.Send (if future then send_replies.AckFuture (length b.written) else send_replies.Acked (min next (length b.written) - acked_len b.marks) (fin_after next b))) e.sending;
+            sending = acked_in next (Reply.Send (if future then SendReply.AckFuture (length b.written) else SendReply.Acked (min next (length b.written) - acked_len b.marks) (fin_after next b))) e.sending;
           })
       by true is = with_sending e.sending h.stream
       by false is =
@@ -531,7 +455,7 @@ module _ (c : Profile) (s : Side) (e : PathEnd) (h : EndTells c s e) where
         notices = h.notices;
       }
 
-  pub refused_tells : (why : Why) (known : Option ℕ) → IfSome known IsShort → EndTells c s (refused (replies.Send (send_replies.NoGrant why known)) e)
+  pub refused_tells : (why : Why) (known : Option ℕ) → IfSome known IsShort → EndTells c s (refused (Reply.Send (SendReply.NoGrant why known)) e)
   refused_tells why known short = record {
     sender = h.sender;
     edge = h.edge;
@@ -560,20 +484,17 @@ module _ (c : Profile) (s : Side) (e : PathEnd) (h : EndTells c s e) where
   }
 
   pub sent_end_tells : (occasion : Occasion) (now : ℕ) (sg : PlainSegment) → EndTells c s (having_sent occasion now sg e)
-  sent_end_tells to_send.Reset now sg = with_sender _ refl h.sender sg
-  sent_end_tells to_send.Answer now sg = with_sender _ refl h.sender sg
-  sent_end_tells to_send.SynAck now sg = with_sender _ refl (syn_resent_tells c s e.tcp.send h.sender now) sg
-  sent_end_tells to_send.Ack now sg = with_sender _ refl h.sender sg
-  sent_end_tells to_send.Probe now sg = with_sender _ refl h.sender sg
-  sent_end_tells to_send.First now sg = with_sender _ refl (resent_tells c s e.tcp.send h.sender now) sg
-  sent_end_tells to_send.Unsent now sg = with_sender _ refl (sent_tells c s e.tcp.send h.sender now) sg
-  sent_end_tells to_send.Fin now sg = with_sender _ refl (fin_sent_tells c s e.tcp.send h.sender now) sg
+  sent_end_tells Occasion.SynAck now sg = with_sender _ refl (syn_resent_tells c s e.tcp.send h.sender now) sg
+  sent_end_tells Occasion.First now sg = with_sender _ refl (resent_tells c s e.tcp.send h.sender now) sg
+  sent_end_tells Occasion.Unsent now sg = with_sender _ refl (sent_tells c s e.tcp.send h.sender now) sg
+  sent_end_tells Occasion.Fin now sg = with_sender _ refl (fin_sent_tells c s e.tcp.send h.sender now) sg
+  sent_end_tells _ now sg = with_sender _ refl h.sender sg
 
   pub told_end_tells : (sg : PlainSegment) → EndTells c s (with_told sg e)
   told_end_tells sg = with_sender e.tcp refl h.sender sg
 
   -- the record of the FIN, which is sent at once
-  pub fin_record_tells : (now : ℕ) → EndTells c s (record e { tcp = after_sending to_send.Fin now e.tcp })
+  pub fin_record_tells : (now : ℕ) → EndTells c s (record e { tcp = after_sending Occasion.Fin now e.tcp })
   fin_record_tells now = record { sender = fin_sent_tells c s e.tcp.send h.sender now; edge = h.edge; stream = h.stream; window = h.window; modes = h.modes; treated = h.treated; notices = h.notices }
 
   pub end_sent_tells : EndTells c s (record e { sending = with_data_fin_sent e.sending })
@@ -607,11 +528,7 @@ module _ (c : Profile) (s : Side) (e : PathEnd) (h : EndTells c s e) where
       record { sender = told.sender; edge = told.edge; stream = told.stream; window = told.window; modes = told.modes; treated = told.treated; notices = record { carrier = tt; queue = Every-nil _ } }
 
   pub died_unless_tells : EndTells c s (died_unless_dead e)
-  died_unless_tells = by (states.is_dead e.tcp.state)
-    where
-      by : (b : Bool) → EndTells c s (if b then e else died e)
-      by true = h
-      by false = died_tells
+  died_unless_tells = if_so (EndTells c s) (states.is_dead e.tcp.state) e (died e) h died_tells
 
   pub fired_tells : (now : ℕ) → EndTells c s (after_firing now e)
   fired_tells now = by (expiring.is_sixth e.tcp)

@@ -1,43 +1,12 @@
 -- What happens on a path by itself leaves the numbers that its ends and its copies tell small.
-use Rattle.std.proofs.Common.{◌≡◌, refl, ℕ, zero, suc, ◌+◌, Bool, true, false, if◌then◌else◌, Option, Some, None, List, [], ◌∷◌, ◌++◌, length, find, position}
-use Rattle.std.specs.Option.{IfSome}
-use Rattle.std.proofs.lemmas.Bool.{false≢true}
-use Rattle.sides.specs.declared.side.Side.{Side}
-use Rattle.sides.specs.declared.side.Side.TheVariants.{A, B}
-use Rattle.sides.specs.Side.{peer}
-use Rattle.link_model.specs.declared.flight.Due.{Due}
-use Rattle.link_model.specs.declared.flight.Flight.{Flight}
-use Rattle.link_model.specs.Steps.{is_due, arriving, after_delivery}
-use Rattle.link_script.specs.Places.{same_side}
-use Rattle.path_segments.specs.Laws.{meant}
-use Rattle.path_segments.specs.Spelled.{PlainSegment}
-use Rattle.subflow_tcp.specs.declared.verdicts.Meaning.{Meaning}
-use Rattle.subflow_tcp.specs.declared.verdicts.Meaning.TheVariants as means
-use Rattle.subflow_tcp.specs.Expiring.{is_sixth}
-use Rattle.subflow_tcp.specs.States.{is_dead}
-use Rattle.stream_lanes.proofs.Lists.{Every-nil}
-use Rattle.actor_desk.specs.declared.ask.Reply.{Reply}
-use Rattle.actor_desk.specs.Words.{tail_of}
-use Rattle.path_agenda.specs.declared.duty.Duty.{Duty}
-use Rattle.path_agenda.specs.declared.duty.Duty.TheVariants as duties
-use Rattle.path_agenda.specs.declared.duty.AskDuty.TheVariants as ask_duties
-use Rattle.path_agenda.specs.Agenda.{rest_of_turn, emission, leaves, heard_and, payload_came, announces, withdraws}
+use Rattle.world_laws.proofs.Words.{◌≡◌, refl, ℕ, zero, suc, ◌+◌, Bool, true, false, if◌then◌else◌, Option, Some, None, List, [], ◌∷◌, ◌++◌, length, find}
+use Rattle.world_laws.proofs.Words.{position, false≢true, IfSome, Side, A, B, peer, same_side, is_dead, Meaning, is_sixth, is_due, arriving, after_delivery}
+use Rattle.world_laws.proofs.Words.{Due, Flight, PlainSegment, meant, LineAction, rest_of_turn, emission, heard_and, payload_came, leaves, announces, withdraws}
+use Rattle.world_laws.proofs.Words.{Duty, AskDuty, Reply, tail_of, PathEnd, died, at_tick, PathState, end_at, goes_on, Carried, as_arrived, values, items_of}
+use Rattle.world_laws.proofs.Words.{after_judged, judged_in, template_by, template_judged, template_of, heard_in, copy_heard, told_at, copy_taken, Judged}
+use Rattle.world_laws.proofs.Words.{after_line, happens, happens_if, join_begun, never_joined, is_never, keys_begun, opened_by, is_joined, template_fired}
+use Rattle.world_laws.proofs.Words.{after_firing, timer_fired, with_priority, Profile, Every-nil, if_so}
 use Rattle.path_core.specs.declared.events.Event.{Event}
-use Rattle.path_core.specs.declared.events.Event.TheVariants as happenings
-use Rattle.path_core.specs.OptionsIn.{items_of}
-use Rattle.path_core.specs.Arrival.{judged_in, after_judged, template_by, template_judged, template_of, told_at, heard_in, copy_heard, copy_taken}
-use Rattle.path_core.specs.declared.judged.Judged.{Judged}
-use Rattle.path_core.specs.declared.judged.Judged.TheVariants as judged
-use Rattle.path_core.specs.MpJoin.{is_never, keys_begun, opened_by, is_joined, join_begun, never_joined}
-use Rattle.path_core.specs.End.{PathEnd, died}
-use Rattle.path_core.specs.State.{at_tick, PathState, end_at, goes_on}
-use Rattle.path_core.specs.Events.{after_line, happens, happens_if}
-use Rattle.path_core.specs.Timer.{after_firing, template_fired, timer_fired}
-use Rattle.path_core.specs.Addresses.{with_priority}
-use Rattle.path_store.specs.declared.lines.LineAction.{LineAction}
-use Rattle.path_store.specs.declared.lines.LineAction.TheVariants as actions
-use Rattle.path_core.specs.Profile.{Profile}
-use Rattle.path_core.specs.Values.{Carried, as_arrived, values}
 use Rattle.world_laws.proofs.Lanes.Happening.{without_kept, found_due, side_is}
 use Rattle.world_laws.proofs.Lanes.Records.{every_find}
 use Rattle.world_laws.proofs.Numbers.TellSmall.{SegmentTells, bare_tells}
@@ -52,22 +21,20 @@ heard_fair s from zero ds h = h
 heard_fair s from (suc count) ds h = heard_fair s (from + 1) count ds h
 
 template_fair : (joined : Bool) (s : Side) (count : ℕ) (m : Meaning) → AreFair (template_by joined s count m)
-template_fair true s count (means.Accepts acknowledged) = refl
-template_fair false s count (means.Accepts acknowledged) = refl
-template_fair joined s count (means.Taken position acknowledged) = heard_fair s 0 count (payload_came s) refl
+template_fair true s count (Meaning.Accepts acknowledged) = refl
+template_fair false s count (Meaning.Accepts acknowledged) = refl
+template_fair joined s count (Meaning.Taken position acknowledged) = heard_fair s 0 count (payload_came s) refl
 template_fair joined s count _ = refl
 
 judged_fair : (joined : Bool) (s : Side) (count : ℕ) (verdict : Judged) → AreFair (template_judged joined s count verdict)
-judged_fair joined s count (judged.As meaning) = template_fair joined s count meaning
-judged_fair joined s count judged.Asks = refl
-judged_fair joined s count judged.Lacks = refl
-judged_fair joined s count judged.Forged = refl
+judged_fair joined s count (Judged.As meaning) = template_fair joined s count meaning
+judged_fair joined s count _ = refl
 
 fired_fair : (sixth : Bool) (s : Side) → AreFair (template_fired sixth s)
 fired_fair true s = refl
 fired_fair false s = refl
 
-died_fair : (a b : Bool) → AreFair ((if a then [] else duties.Ask (ask_duties.Leave A) ∷ []) ++ ((if b then [] else duties.Ask (ask_duties.Leave B) ∷ []) ++ rest_of_turn))
+died_fair : (a b : Bool) → AreFair ((if a then [] else Duty.Ask (AskDuty.Leave A) ∷ []) ++ ((if b then [] else Duty.Ask (AskDuty.Leave B) ∷ []) ++ rest_of_turn))
 died_fair true true = refl
 died_fair true false = refl
 died_fair false true = refl
@@ -95,17 +62,17 @@ module _ (p : PathState Carried) (h : PathTells p.profile p) where
   -- ---- lines
 
   line_tells : (action : LineAction) (q : PathState Carried) → Tells q → Tells (after_line action q)
-  line_tells actions.Die q x = record {
+  line_tells LineAction.Die q x = record {
     a = died_unless_tells p.profile A q.a x.a;
     b = died_unless_tells p.profile B q.b x.b;
     copies = Every-nil _;
     agenda = died_fair (is_dead q.a.tcp.state) (is_dead q.b.tcp.state);
   }
-  line_tells (actions.Prio s backup) q x =
+  line_tells (LineAction.Prio s backup) q x =
       tells_on p.profile q x s (with_priority backup (end_at s q)) (emission s)
       (priority_tells p.profile s (end_at s q) (tells_at p.profile q x s) backup) refl
-  line_tells (actions.Announce s id) q x = tells_agenda p.profile q x (announces s id) refl
-  line_tells (actions.Withdraw s id) q x = tells_agenda p.profile q x (withdraws s id) refl
+  line_tells (LineAction.Announce s id) q x = tells_agenda p.profile q x (announces s id) refl
+  line_tells (LineAction.Withdraw s id) q x = tells_agenda p.profile q x (withdraws s id) refl
 
   -- ---- copies
 
@@ -135,11 +102,9 @@ module _ (p : PathState Carried) (h : PathTells p.profile p) where
 
   -- or where they were taken away
   arrived : (due : Due) (carried : Carried) → SegmentTells p.profile (peer due.to) carried.segment → SegmentTells p.profile (peer due.to) (as_arrived carried)
-  arrived due carried tells = by carried.stripped
-    where
-      by : (b : Bool) → SegmentTells p.profile (peer due.to) (record carried.segment { options = (if b then [] else carried.segment.options) })
-      by true = bare_tells p.profile (peer due.to) carried.segment tells
-      by false = tells
+  arrived due carried tells =
+      if_so (λ z. SegmentTells p.profile (peer due.to) (record carried.segment { options = z })) carried.stripped [] carried.segment.options
+      (bare_tells p.profile (peer due.to) carried.segment tells) tells
 
   copy_tells : (due : Due) → Tells (copy_taken values due p)
   copy_tells due = by (arriving due p.link) (due_tells p.profile p h due)
@@ -168,11 +133,11 @@ module _ (p : PathState Carried) (h : PathTells p.profile p) where
   -- ---- the earliest
 
   event_tells : (event : Event) (r : Reply) → IfSome (keys_begun r) AreKeys → Tells (happens values event r p)
-  event_tells (happenings.Joins tick) r keys =
+  event_tells (Event.Joins tick) r keys =
       join_tells r (leaves A) (emission A) (record (at_tick tick p) { joined_at = None }) keys refl refl (record { a = h.a; b = h.b; copies = h.copies; agenda = h.agenda })
-  event_tells (happenings.Takes line) r keys = line_tells line.action (record (at_tick line.tick p) { lines = tail_of p.lines }) (record { a = h.a; b = h.b; copies = h.copies; agenda = h.agenda })
-  event_tells (happenings.Arrives due) r keys = copy_tells due
-  event_tells (happenings.Fires s tick) r keys = fire_tells s (at_tick tick p) (record { a = h.a; b = h.b; copies = h.copies; agenda = h.agenda })
+  event_tells (Event.Takes line) r keys = line_tells line.action (record (at_tick line.tick p) { lines = tail_of p.lines }) (record { a = h.a; b = h.b; copies = h.copies; agenda = h.agenda })
+  event_tells (Event.Arrives due) r keys = copy_tells due
+  event_tells (Event.Fires s tick) r keys = fire_tells s (at_tick tick p) (record { a = h.a; b = h.b; copies = h.copies; agenda = h.agenda })
 
   pub events_tell : (o : Option Event) (r : Reply) → IfSome (keys_begun r) AreKeys → Tells (happens_if values o r p)
   events_tell None r keys = tells_agenda p.profile p h rest_of_turn refl

@@ -1,62 +1,19 @@
 -- Every turn of the world leaves the numbers that its path tells small, and so each copy that arrives is fresh.
-use Rattle.std.proofs.Common.{◌≡◌, refl, sym, ◌∙◌, ap, subst, ℕ, zero, suc, ◌+◌, ◌-◌, ◌^◌, ◌<◌, ◌≤◌, ◌++◌, ⊎_elim, Bool, true, false, if◌then◌else◌, is_some, Option, Some, None, List, [], ◌∷◌, length, map, arith}
-use Rattle.std.proofs.lemmas.List.{length-append}
-use Rattle.std.proofs.lemmas.Option.{same_Some, slice_get_within}
-use Rattle.std.specs.List.{slice_get, list_all}
-use Rattle.std.specs.Option.{IfSome, option_map}
-use Rattle.sides.specs.declared.side.Side.{Side}
-use Rattle.sides.specs.declared.side.Side.TheVariants.{A, B}
-use Rattle.link_model.specs.declared.flight.Flight.{Flight}
-use Rattle.link_model.specs.Steps.{arriving}
-use Rattle.reassembly_book.specs.declared.call.ReassemblyCall.{ReassemblyCall}
-use Rattle.reassembly_book.specs.declared.call.ReassemblyCall.TheVariants as calls
-use Rattle.reassembly_book.specs.State.{Arriving}
-use Rattle.reassembly_book.specs.Steps.{is_taken, fin_clash, places_after, after_reading, after_call}
-use Rattle.send_book.specs.State.{Sending}
-use Rattle.subflow_tcp.specs.declared.handshake.State.{State as EndPhase}
+use Rattle.world_laws.proofs.Words.{◌≡◌, refl, sym, ◌∙◌, ap, subst, ℕ, zero, suc, ◌+◌, ◌-◌, ◌≤◌, ⊎_elim, Bool, true, false, if◌then◌else◌, Option, Some, None}
+use Rattle.world_laws.proofs.Words.{List, [], ◌∷◌, ◌++◌, length, map, arith, is_some, ◌<◌, ◌^◌, and_parts, length-append, same_Some, slice_get_within}
+use Rattle.world_laws.proofs.Words.{slice_get, list_all, IfSome, Side, A, B, ReassemblyCall, Arriving, places_after, fin_clash, after_reading, Sending, Record}
+use Rattle.world_laws.proofs.Words.{is_unsent, EndPhase, new_end, arriving, Flight, start_of_turn, Duty, OwnNotice, first_of, Ask, books_in, SixBooks, send_of}
+use Rattle.world_laws.proofs.Words.{reassembly_of, control_of, reply_of, after_ask, AppDuty, AppState, app_ask, app_asks_first, stands, ask_for, answered}
+use Rattle.world_laws.proofs.Words.{opening_end, first_sends, first_state, first_turn, PathState, end_at, with_agenda, settles_down, answers, asks_first, takes}
+use Rattle.world_laws.proofs.Words.{next_round, FirstStands, IsSettled, Carried, values, expected_by, first_unsent, first_record, HasAddress, Profile}
+use Rattle.world_laws.proofs.Words.{IsFreshCopy, NextIsFresh, CanBeAltered, SentCanBeAltered, in_map, Every-nil, in_set, Every, From, Duo, after_events, Holds}
+use Rattle.world_laws.proofs.Words.{Lane, any_held, Reader, App, Path, Actor, ActorCrew, PathPlan, Start, path_begins, opened_world, WorldState, Turn, asked}
+use Rattle.world_laws.proofs.Words.{all_over, greatest, begins, end_round, after_turn, world_run, HasRoom, NumbersFit, EveryListIsFresh, IsFreshCrew}
+use Rattle.world_laws.proofs.Words.{IsFreshTurn, AreFresh, IsFreshPath}
+use Rattle.std.specs.Option.{option_map}
+use Rattle.reassembly_book.specs.Steps.{is_taken, after_call}
 use Rattle.subflow_tcp.specs.declared.handshake.State.TheVariants.{Listen}
-use Rattle.subflow_tcp.specs.Opening.{new_end}
-use Rattle.subflow_send.specs.Records.{Record}
-use Rattle.subflow_send.specs.Rules.{is_unsent}
-use Rattle.stream_lanes.specs.Duo.{Duo, after_events}
-use Rattle.stream_lanes.specs.Holding.{Holds}
-use Rattle.stream_lanes.specs.Lane.{Lane}
-use Rattle.stream_lanes.specs.Streams.{Reader}
-use Rattle.stream_lanes.specs.Words.{Every, From}
-use Rattle.stream_lanes.proofs.Duos.{any_held}
-use Rattle.stream_lanes.proofs.Lists.{Every-nil, in_map, in_set}
-use Rattle.actor_desk.specs.declared.ask.Ask.{Ask}
-use Rattle.actor_desk.specs.declared.ask.Ask.TheVariants as asks
-use Rattle.actor_desk.specs.Books.{books_in}
-use Rattle.actor_desk.specs.Desk.{SixBooks, send_of, reassembly_of, control_of, reply_of, after_ask}
-use Rattle.stream_apps.specs.declared.duty.AppDuty.{AppDuty}
-use Rattle.stream_apps.specs.declared.duty.AppDuty.TheVariants as app_duties
-use Rattle.stream_apps.specs.Apps.{AppState}
-use Rattle.stream_apps.specs.AppSteps.{app_ask, app_asks_first}
-use Rattle.path_agenda.specs.declared.duty.Duty.{Duty}
-use Rattle.path_agenda.specs.Agenda.{start_of_turn}
-use Rattle.path_agenda.specs.declared.notice.OwnNotice.{OwnNotice}
-use Rattle.path_agenda.specs.Words.{first_of}
-use Rattle.path_core.specs.Arrival.{expected_by}
-use Rattle.path_core.specs.Duties.{stands, ask_for, answered}
-use Rattle.path_core.specs.Emission.{first_unsent, first_record}
-use Rattle.path_core.specs.End.{opening_end}
-use Rattle.path_core.specs.Looking.{first_sends}
-use Rattle.path_core.specs.OptionsOut.{HasAddress}
 use Rattle.path_core.proofs.Sayable.{said_can}
-use Rattle.path_core.specs.Shown.{CanBeAltered, IsFreshCopy, NextIsFresh, SentCanBeAltered}
-use Rattle.path_core.specs.Start.{first_state, first_turn}
-use Rattle.path_core.specs.State.{PathState, end_at, with_agenda}
-use Rattle.path_core.specs.Profile.{Profile}
-use Rattle.path_core.specs.Steps.{asks_first, answers, takes, settles_down, next_round}
-use Rattle.path_core.specs.Turns.{FirstStands, IsSettled}
-use Rattle.path_core.specs.Values.{Carried, values}
-use Rattle.world_laws.specs.declared.member.Member.TheVariants.{App, Path}
-use Rattle.world_laws.specs.Actors.{Actor, ActorCrew}
-use Rattle.world_laws.specs.Fresh.{IsFreshPath, IsFreshCrew, IsFreshTurn, AreFresh}
-use Rattle.world_laws.specs.Openings.{PathPlan, Start, path_begins, opened_world}
-use Rattle.world_laws.specs.Promises.{HasRoom, NumbersFit, EveryListIsFresh}
-use Rattle.world_laws.specs.Worlds.{WorldState, Turn, asked, all_over, greatest, begins, end_round, after_turn, world_run}
 use Rattle.world_laws.proofs.Worlds.Steady.{always_steady}
 use Rattle.world_laws.proofs.Lanes.Applying.{Reads, Writes}
 use Rattle.world_laws.proofs.Lanes.Beginning.{first_lane, waiting, six, waiting_shows, alone, alone_holds, turn_reached, opened_reached}
@@ -77,40 +34,39 @@ use Rattle.world_laws.proofs.Numbers.IdsFit.{opening_fits}
 use Rattle.world_laws.proofs.Numbers.KeysFit.{AskTells, BooksKeepShort, kept_at, ask_short, asks_tell}
 use Rattle.world_laws.proofs.Worlds.CastLifting.{each_actor, path_actor}
 use Rattle.world_laws.proofs.Worlds.Casts.{Walker, Cast, Fare, world_of, walking, seated, walked, map_there, after_a, after_b, after_path, path_asked, path_stepped, path_step_is, fare_after_path, walks_on, next_cast, next_is}
-use Rattle.std.proofs.lemmas.Bool.{and_parts}
 use Rattle.world_laws.proofs.Lanes.Saying.{every_one}
 
 -- ---- the room of a reassembly book never changes
 
 call_room : (b : Arriving) (call : ReassemblyCall) → (after_call b call).capacity ≡ b.capacity
-call_room b (calls.Place at bytes) = by (is_taken at bytes b)
+call_room b (ReassemblyCall.Place at bytes) = by (is_taken at bytes b)
   where
     by : (c : Bool) → (if c then record b { places = places_after at bytes b } else b).capacity ≡ b.capacity
     by true = refl
     by false = refl
-call_room b (calls.Fin at) = by (is_some (fin_clash b.known_end at b))
+call_room b (ReassemblyCall.Fin at) = by (is_some (fin_clash b.known_end at b))
   where
     by : (c : Bool) → (if c then b else record b { known_end = Some at }).capacity ≡ b.capacity
     by true = refl
     by false = refl
-call_room b (calls.Read most) = by (is_some b.aborted)
+call_room b (ReassemblyCall.Read most) = by (is_some b.aborted)
   where
     by : (c : Bool) → (if c then b else after_reading most b).capacity ≡ b.capacity
     by true = refl
     by false = refl
-call_room b calls.AckOut = refl
-call_room b (calls.Abort by_peer) = refl
+call_room b ReassemblyCall.AckOut = refl
+call_room b (ReassemblyCall.Abort by_peer) = refl
 
 record RoomsAre (n : ℕ) (books : SixBooks) : Type 0 where
   a : books.reassembly_a.capacity ≡ n
   b : books.reassembly_b.capacity ≡ n
 
 ask_rooms : (n : ℕ) (ask : Ask) (books : SixBooks) → RoomsAre n books → RoomsAre n (after_ask ask books)
-ask_rooms n (asks.Reassembly A call) books h = record { a = call_room books.reassembly_a call ∙ h.a; b = h.b }
-ask_rooms n (asks.Reassembly B call) books h = record { a = h.a; b = call_room books.reassembly_b call ∙ h.b }
-ask_rooms n (asks.Send s call) books h = record { a = h.a; b = h.b }
-ask_rooms n (asks.Control s call) books h = record { a = h.a; b = h.b }
-ask_rooms n (asks.Local step) books h = h
+ask_rooms n (Ask.Reassembly A call) books h = record { a = call_room books.reassembly_a call ∙ h.a; b = h.b }
+ask_rooms n (Ask.Reassembly B call) books h = record { a = h.a; b = call_room books.reassembly_b call ∙ h.b }
+ask_rooms n (Ask.Send s call) books h = record { a = h.a; b = h.b }
+ask_rooms n (Ask.Control s call) books h = record { a = h.a; b = h.b }
+ask_rooms n (Ask.Local step) books h = h
 
 -- ---- books of short files
 
@@ -207,13 +163,8 @@ from_cast start t tells rooms keys = record { members = each_actor (λ actor c. 
 
 -- an application tells no key
 app_tells : (d : AppDuty) (a : AppState) → AskTells (app_ask d a)
-app_tells app_duties.FastClose a = tt
-app_tells app_duties.AbortSend a = tt
-app_tells app_duties.AbortReceive a = tt
-app_tells app_duties.Write a = tt
-app_tells app_duties.Close a = tt
-app_tells app_duties.Read a = tt
-app_tells app_duties.End a = tt
+app_tells AppDuty.FastClose a = tt
+app_tells _ a = tt
 
 module _ (start : Start) (plain : Carries start) (free : NoneIsFirm plain.links) (fit : NumbersFit start) where
   books_short : (t : Cast Carried) → Fare start t → RoomsAre start.buffer (books_in t.books) → BooksKeepShort (books_in t.books) → BooksAreShort (books_in t.books)

@@ -1,26 +1,14 @@
 -- The sets of ids that a control book keeps have 256 members each: so each id that it tells is below 256.
-use Rattle.std.proofs.Common.{◌≡◌, refl, ◌∙◌, ap, ℕ, zero, suc, ◌<◌, Bool, true, false, if◌then◌else◌, List, [], ◌∷◌, length, Option, Some, None, arith}
-use Rattle.std.specs.Prelude.{not, ◌&&◌, ◌||◌, ◌==◌, fold, replicate, slice_set}
-use Rattle.std.specs.Option.{IfSome}
-use Rattle.std.proofs.lemmas.List.{length-set, length-replicate}
+use Rattle.world_laws.proofs.Words.{◌≡◌, refl, ◌∙◌, ap, ℕ, zero, suc, Bool, true, false, if◌then◌else◌, Option, Some, None, List, [], ◌∷◌, length, arith, ◌<◌}
+use Rattle.world_laws.proofs.Words.{length-replicate, length-set, IfSome, slice_set, lowest, no_ids, Addresses, addresses_heard, addresses_removed, Address}
+use Rattle.world_laws.proofs.Words.{token_of, Side, ControlCall, Notice, with_removed, with_phase, every_path, lives, Control, no_withdrawals, new_control}
+use Rattle.world_laws.proofs.Words.{withdrawals_on, with_withdrawal, notice_on, is_sure, may_join, is_known, withdrawn, withdrawn_on, Opening}
+use Rattle.std.specs.Prelude.{not, ◌&&◌, ◌||◌, ◌==◌, fold, replicate}
 use Rattle.std.proofs.lemmas.List.Quantifiers.{position-Some}
-use Rattle.sides.specs.declared.side.Side.{Side}
-use Rattle.address_manager.specs.IdSet.{no_ids, lowest}
-use Rattle.address_manager.specs.Addresses.{Addresses}
-use Rattle.address_manager.specs.Steps.{after_heard as addresses_heard, after_removed as addresses_removed}
-use Rattle.fallback_state.specs.declared.fall.Event.TheVariants as event
-use Rattle.key_material.specs.KeyDigest.{token_of}
-use Rattle.key_material.specs.declared.address.Address.{Address}
-use Rattle.control_book.specs.declared.registry.Phase.TheVariants.{Opening}
+use Rattle.fallback_state.specs.declared.fall.Event.{Event}
 use Rattle.control_book.specs.declared.registry.PathState.{PathState}
-use Rattle.control_book.specs.declared.call.ControlCall.{ControlCall}
-use Rattle.control_book.specs.declared.call.ControlCall.TheVariants as call
-use Rattle.control_book.specs.declared.call.Notice.{Notice}
-use Rattle.control_book.specs.declared.call.Notice.TheVariants as notice
-use Rattle.control_book.specs.Registry.{every_path, lives, with_phase, with_removed}
-use Rattle.control_book.specs.Control.{Control, no_withdrawals, new_control, withdrawals_on, with_withdrawal}
-use Rattle.control_book.specs.Replies.{notice_on, is_right, is_starting, is_sure, may_join}
-use Rattle.control_book.specs.Steps.{after, after_event, after_join, after_notice, is_known, withdrawn, withdrawn_on}
+use Rattle.control_book.specs.Replies.{is_right, is_starting}
+use Rattle.control_book.specs.Steps.{after, after_event, after_join, after_notice}
 
 abbrev pub AreIds : List Bool → Type 0
 AreIds ids = length ids ≡ 256
@@ -79,11 +67,8 @@ either true c d x y = x
 either false c d x y = y
 
 notice_fits : (n : Notice) (path : ℕ) (c : Control) → IdsFit c → IdsFit (after_notice n path c)
-notice_fits (notice.Withdraw id) path c h = record { due = h.due; withdrawals = withdrawal_fits id false path c.notices.withdrawals h.withdrawals }
-notice_fits notice.Nothing path c h = h
-notice_fits (notice.Announce id) path c h = h
-notice_fits (notice.Carrier key) path c h = h
-notice_fits notice.Reset path c h = h
+notice_fits (Notice.Withdraw id) path c h = record { due = h.due; withdrawals = withdrawal_fits id false path c.notices.withdrawals h.withdrawals }
+notice_fits _ path c h = h
 
 -- what is kept is no matter of the sets
 heard_due : (right : Bool) (id : ℕ) (address : Address) (a : Addresses Address) → (addresses_heard id address right a).due ≡ a.due
@@ -91,32 +76,32 @@ heard_due true id address a = refl
 heard_due false id address a = refl
 
 pub call_fits : (c : Control) (asked : ControlCall) → IdsFit c → IdsFit (after c asked)
-call_fits c (call.Look path) h = notice_fits (notice_on c path) path c h
-call_fits c (call.PeerKey key) h = record { due = h.due; withdrawals = h.withdrawals }
-call_fits c (call.Keys own peer) h = either (own == c.keys.own) _ _ (record { due = h.due; withdrawals = h.withdrawals }) h
-call_fits c (call.Fell path event) h = record { due = h.due; withdrawals = h.withdrawals }
-call_fits c (call.JoinBegin path) h = either (may_join c) (after_join (record c { paths = with_phase path Opening c.paths })) c (record { due = h.due; withdrawals = h.withdrawals }) h
-call_fits c (call.JoinHeard path token) h =
+call_fits c (ControlCall.Look path) h = notice_fits (notice_on c path) path c h
+call_fits c (ControlCall.PeerKey key) h = record { due = h.due; withdrawals = h.withdrawals }
+call_fits c (ControlCall.Keys own peer) h = either (own == c.keys.own) _ _ (record { due = h.due; withdrawals = h.withdrawals }) h
+call_fits c (ControlCall.Fell path event) h = record { due = h.due; withdrawals = h.withdrawals }
+call_fits c (ControlCall.JoinBegin path) h = either (may_join c) (after_join (record c { paths = with_phase path Opening c.paths })) c (record { due = h.due; withdrawals = h.withdrawals }) h
+call_fits c (ControlCall.JoinHeard path token) h =
     either (token == token_of c.keys.own && c.fall.confirmed && (is_starting c.fall.mode || is_sure c.fall.mode)) (after_join c) c (record { due = h.due; withdrawals = h.withdrawals }) h
-call_fits c (call.Live path backup) h = record { due = h.due; withdrawals = h.withdrawals }
-call_fits c (call.Dead path) h = record { due = h.due; withdrawals = h.withdrawals }
-call_fits c (call.Backup path on) h = record { due = h.due; withdrawals = h.withdrawals }
-call_fits c (call.Rate path window rtt) h = record { due = h.due; withdrawals = h.withdrawals }
-call_fits c (call.Announce id) h = record { due = length-set c.addresses.due id true ∙ h.due; withdrawals = h.withdrawals }
-call_fits c (call.Withdraw id) h =
+call_fits c (ControlCall.Live path backup) h = record { due = h.due; withdrawals = h.withdrawals }
+call_fits c (ControlCall.Dead path) h = record { due = h.due; withdrawals = h.withdrawals }
+call_fits c (ControlCall.Backup path on) h = record { due = h.due; withdrawals = h.withdrawals }
+call_fits c (ControlCall.Rate path window rtt) h = record { due = h.due; withdrawals = h.withdrawals }
+call_fits c (ControlCall.Announce id) h = record { due = length-set c.addresses.due id true ∙ h.due; withdrawals = h.withdrawals }
+call_fits c (ControlCall.Withdraw id) h =
     either (is_known id c)
     (record c { notices = record c.notices { withdrawals = withdrawn id c.paths c.notices.withdrawals }; paths = with_removed id c.paths }) c
     (record { due = h.due; withdrawals = each_fits id c.paths every_path c.notices.withdrawals h.withdrawals }) h
-call_fits c (call.Heard id address port hmac) h =
+call_fits c (ControlCall.Heard id address port hmac) h =
     record { due = ap length (heard_due (is_right id address port hmac c) id address c.addresses) ∙ h.due; withdrawals = h.withdrawals }
-call_fits c (call.Echoed id) h =
+call_fits c (ControlCall.Echoed id) h =
     either (is_known id c) (record c { addresses = record c.addresses { due = slice_set c.addresses.due id false } }) c
     (record { due = length-set c.addresses.due id false ∙ h.due; withdrawals = h.withdrawals }) h
-call_fits c (call.Removed id) h =
+call_fits c (ControlCall.Removed id) h =
     either (is_known id c) (record c { addresses = addresses_removed id c.addresses; paths = with_removed id c.paths }) c
     (record { due = length-set c.addresses.due id false ∙ h.due; withdrawals = h.withdrawals }) h
-call_fits c call.FastClose h = record { due = h.due; withdrawals = h.withdrawals }
-call_fits c (call.FastHeard key) h = either (key == c.keys.own) (after_event 0 false event.Stop c) c (record { due = h.due; withdrawals = h.withdrawals }) h
+call_fits c ControlCall.FastClose h = record { due = h.due; withdrawals = h.withdrawals }
+call_fits c (ControlCall.FastHeard key) h = either (key == c.keys.own) (after_event 0 false Event.Stop c) c (record { due = h.due; withdrawals = h.withdrawals }) h
 
 -- ---- as a connection opens
 

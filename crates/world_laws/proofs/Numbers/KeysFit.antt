@@ -1,60 +1,21 @@
 -- The keys that control books have, and those that they answer, have 64 bits: each key that a path tells one was heard or drawn.
-use Rattle.std.proofs.Common.{◌≡◌, refl, sym, ◌∙◌, ℕ, ◌<◌, ◌==◌, ◌||◌, not, Bool, true, false, if◌then◌else◌, Option, Some, None, List, arith}
-use Rattle.std.specs.Option.{IfSome}
-use Rattle.sides.specs.declared.side.Side.{Side}
-use Rattle.sides.specs.declared.side.Side.TheVariants.{A, B}
-use Rattle.key_material.specs.KeyDigest.{token_of}
-use Rattle.reassembly_book.specs.declared.call.ReassemblyCall.TheVariants as reassembly_calls
+use Rattle.world_laws.proofs.Words.{◌≡◌, refl, sym, ◌∙◌, ℕ, ◌||◌, ◌==◌, not, Bool, true, false, if◌then◌else◌, Option, Some, None, List, arith, ◌<◌, false≢true}
+use Rattle.world_laws.proofs.Words.{IfSome, lowest, token_of, Side, A, B, JoinSyn, ControlCall, ControlReply, Notice, standby, sole, Control, withdrawals_on}
+use Rattle.world_laws.proofs.Words.{peer_or_zero, carries, address_notice, look_reply, ReassemblyCall, Duty, StepDuty, AskDuty, Heard, KeyPair, key_heard}
+use Rattle.world_laws.proofs.Words.{keys_heard, PeerNotice, Ask, Reply, SixBooks, control_of, reply_of, after_ask, ask_for, look_ask, PathState, end_at}
+use Rattle.world_laws.proofs.Words.{path_of, Carried, values, reset_of, break_ask, step_for, keys_begun, join_heard_ask, join_begin_ask, is_clash, mapping_ask}
+use Rattle.world_laws.proofs.Words.{item_ask, item_of, fell_ask, peer_key_ask, opened_ask, Profile, sends, Every, if_so, May, may, asking, may_tell}
 use Rattle.fallback_state.specs.declared.fall.Event.TheVariants as events
-use Rattle.control_book.specs.declared.call.ControlCall.{ControlCall}
-use Rattle.control_book.specs.declared.call.ControlCall.TheVariants as calls
-use Rattle.control_book.specs.declared.call.ControlReply.TheVariants as answers
-use Rattle.control_book.specs.declared.call.Notice.{Notice}
-use Rattle.control_book.specs.declared.call.Notice.TheVariants as notices
-use Rattle.control_book.specs.Control.{Control, peer_or_zero, withdrawals_on}
-use Rattle.control_book.specs.Registry.{sole, standby}
 use Rattle.control_book.specs.Replies as control
 use Rattle.control_book.specs.Steps as controlling
-use Rattle.control_book.specs.Replies.{address_notice, announcement, carries, look_reply, resets}
-use Rattle.stream_lanes.specs.Words.{Every}
-use Rattle.actor_desk.specs.declared.ask.Ask.{Ask}
-use Rattle.actor_desk.specs.declared.ask.Ask.TheVariants as asks
-use Rattle.actor_desk.specs.declared.ask.Reply.TheVariants as replies
-use Rattle.actor_desk.specs.Desk.{SixBooks, control_of, reply_of, after_ask}
-use Rattle.join_handshake.specs.declared.hearing.JoinSyn.{JoinSyn}
-use Rattle.path_agenda.specs.declared.duty.Duty.{Duty}
-use Rattle.path_agenda.specs.declared.duty.Duty.TheVariants as duties
-use Rattle.path_agenda.specs.declared.duty.AskDuty.TheVariants as ask_duties
-use Rattle.path_agenda.specs.declared.duty.StepDuty.TheVariants as step_duties
-use Rattle.path_agenda.specs.declared.heard.Heard.{Heard}
-use Rattle.path_agenda.specs.declared.heard.Heard.TheVariants as says
-use Rattle.path_agenda.specs.declared.keys.KeyPair.{KeyPair}
-use Rattle.path_agenda.specs.Items.{key_heard, keys_heard}
+use Rattle.control_book.specs.Replies.{announcement, resets}
 use Rattle.path_core.specs.declared.events.Event.{Event}
-use Rattle.path_core.specs.declared.events.Event.TheVariants as happening
-use Rattle.path_core.specs.Breaking.{break_ask, reset_of}
-use Rattle.path_core.specs.Duties.{ask_for}
-use Rattle.path_core.specs.Events.{step_for}
-use Rattle.path_core.specs.MpJoin.{keys_begun, join_begin_ask, join_heard_ask}
-use Rattle.path_core.specs.MpCapable.{peer_key_ask, opened_ask}
-use Rattle.path_core.specs.Handover.{sends}
-use Rattle.path_core.specs.State.{PathState, end_at, path_of}
-use Rattle.path_core.specs.Profile.{Profile}
-use Rattle.path_core.specs.DssIn.{is_clash, mapping_ask}
-use Rattle.path_core.specs.Fallback.{fell_ask}
-use Rattle.path_core.specs.Treating.{item_ask, item_of}
-use Rattle.path_core.specs.Values.{Carried, values}
-use Rattle.path_core.specs.Standing.{look_ask}
-use Rattle.path_agenda.specs.declared.notice.PeerNotice.TheVariants as peer_notes
 use Rattle.world_laws.proofs.Lanes.Replying.{every_item}
 use Rattle.world_laws.proofs.Numbers.TellSmall.{IsKey, ItemTells, known_item}
 use Rattle.world_laws.proofs.Numbers.EndRules.{AreKeys, heard_key, heard_keys, NoticeTells}
 use Rattle.world_laws.proofs.Numbers.PathSteps.{KeysAreShort, ControlIsShort, PathTells, tells_at}
 use Rattle.world_laws.proofs.Numbers.IdsFit.{AreIds, lowest_fits, on_fits, call_fits}
-use Rattle.address_manager.specs.IdSet.{lowest}
 use Rattle.world_laws.proofs.Falls.FailedChecks.{fail_asks_so}
-use Rattle.std.proofs.lemmas.Bool.{false≢true}
-use Rattle.world_laws.specs.Asking.{May, may, may_tell, asking}
 use Rattle.world_laws.proofs.Writes.Asks.{asks_no_more}
 
 -- ---- what a control book answers
@@ -67,19 +28,19 @@ module _ (c : Control) (h : KeysAreShort c.keys) where
   both_short : AreKeys (record { own = c.keys.own; peer = peer_or_zero c.keys.peer })
   both_short = (h.own, peer_short c.keys.peer h.peer)
 
-  begin_keys : IfSome (keys_begun (replies.Control (control.join_begin_reply c))) AreKeys
+  begin_keys : IfSome (keys_begun (Reply.Control (control.join_begin_reply c))) AreKeys
   begin_keys = by (control.may_join c) (control.join_waits c)
     where
-      by : (may waits : Bool) → IfSome (keys_begun (replies.Control (if may then control.begin c else (if waits then answers.NotYet else answers.Never c.fall.mode)))) AreKeys
+      by : (may waits : Bool) → IfSome (keys_begun (Reply.Control (if may then control.begin c else (if waits then ControlReply.NotYet else ControlReply.Never c.fall.mode)))) AreKeys
       by true waits = both_short
       by false true = tt
       by false false = tt
 
-  heard_reply_keys : (token : ℕ) → IfSome (keys_begun (replies.Control (control.join_heard_reply token c))) AreKeys
+  heard_reply_keys : (token : ℕ) → IfSome (keys_begun (Reply.Control (control.join_heard_reply token c))) AreKeys
   heard_reply_keys token = by (not (token == token_of c.keys.own)) (not c.fall.confirmed) (control.is_starting c.fall.mode || control.is_sure c.fall.mode)
     where
-      by : (other unconfirmed open_mode : Bool) → IfSome (keys_begun (replies.Control (if other then answers.UnknownToken (token_of c.keys.own)
-          else (if unconfirmed then answers.NotConfirmed else (if open_mode then control.begin c else answers.Fallen c.fall.mode))))) AreKeys
+      by : (other unconfirmed open_mode : Bool) → IfSome (keys_begun (Reply.Control (if other then ControlReply.UnknownToken (token_of c.keys.own)
+          else (if unconfirmed then ControlReply.NotConfirmed else (if open_mode then control.begin c else ControlReply.Fallen c.fall.mode))))) AreKeys
       by true unconfirmed open_mode = tt
       by false true open_mode = tt
       by false false true = both_short
@@ -90,14 +51,14 @@ announced_fits : (b : Bool) (ids : List Bool) → AreIds ids → IfSome (if b th
 announced_fits true ids are = lowest_fits ids are
 announced_fits false ids are = tt
 
-notice_key : (c : Control) (h : ControlIsShort c) (path : ℕ) → NoticeTells (replies.Control (look_reply path c))
+notice_key : (c : Control) (h : ControlIsShort c) (path : ℕ) → NoticeTells (Reply.Control (look_reply path c))
 notice_key c h path =
     by (resets c path) (carries c path) (announcement c path) (lowest (withdrawals_on c.notices.withdrawals path))
     (announced_fits _ c.addresses.due h.ids.due) (lowest_fits (withdrawals_on c.notices.withdrawals path) (on_fits c.notices.withdrawals path h.ids.withdrawals))
   where
     by : (resets carries : Bool) (announced withdrawn : Option ℕ) → IfSome announced (λ id. id < 256) → IfSome withdrawn (λ id. id < 256)
-        → NoticeTells (replies.Control (answers.Standing c.fall.mode (standby c.paths c.addresses.backups path) (sole c.paths path)
-        (if resets then notices.Reset else (if carries then notices.Carrier (peer_or_zero c.keys.peer) else address_notice announced withdrawn))))
+        → NoticeTells (Reply.Control (ControlReply.Standing c.fall.mode (standby c.paths c.addresses.backups path) (sole c.paths path)
+        (if resets then Notice.Reset else (if carries then Notice.Carrier (peer_or_zero c.keys.peer) else address_notice announced withdrawn))))
     by true carries announced withdrawn a w = tt
     by false true announced withdrawn a w = peer_short c.keys.peer h.keys.peer
     by false false (Some id) withdrawn a w = a
@@ -110,11 +71,8 @@ module _ (six : SixBooks) (h : (s : Side) → ControlIsShort (control_of s six))
   look_key B p = notice_key six.control_b (h B) (path_of p)
 
   pub step_keys : (path : ℕ) (o : Option Event) → IfSome (keys_begun (reply_of six (step_for path o))) AreKeys
-  step_keys path None = tt
-  step_keys path (Some (happening.Joins tick)) = begin_keys six.control_a (h A).keys
-  step_keys path (Some (happening.Takes line)) = tt
-  step_keys path (Some (happening.Arrives due)) = tt
-  step_keys path (Some (happening.Fires s tick)) = tt
+  step_keys path (Some (Event.Joins tick)) = begin_keys six.control_a (h A).keys
+  step_keys path _ = tt
 
   pub again_keys : (p : PathState Carried) → IfSome (keys_begun (reply_of six (join_begin_ask (path_of p)))) AreKeys
   again_keys p = begin_keys six.control_a (h A).keys
@@ -127,12 +85,12 @@ module _ (six : SixBooks) (h : (s : Side) → ControlIsShort (control_of s six))
 
 -- the key that is told has 64 bits
 abbrev pub CallTells : ControlCall → Type 0
-CallTells (calls.PeerKey key) = IsKey key
-CallTells (calls.Keys own peer) = IsKey peer
+CallTells (ControlCall.PeerKey key) = IsKey key
+CallTells (ControlCall.Keys own peer) = IsKey peer
 CallTells _ = Unit {0}
 
 abbrev pub AskTells : Ask → Type 0
-AskTells (asks.Control s call) = CallTells call
+AskTells (Ask.Control s call) = CallTells call
 AskTells _ = Unit {0}
 
 either_short : (b : Bool) (c d : Control) → KeysAreShort c.keys → KeysAreShort d.keys → KeysAreShort (if b then c else d).keys
@@ -140,22 +98,19 @@ either_short true c d x y = x
 either_short false c d x y = y
 
 notice_short : (n : Notice) (path : ℕ) (c : Control) → KeysAreShort c.keys → KeysAreShort (controlling.after_notice n path c).keys
-notice_short (notices.Withdraw id) path c h = h
-notice_short notices.Nothing path c h = h
-notice_short (notices.Announce id) path c h = h
-notice_short (notices.Carrier key) path c h = h
-notice_short notices.Reset path c h = h
+notice_short (Notice.Withdraw id) path c h = h
+notice_short _ path c h = h
 
 call_short : (c : Control) (call : ControlCall) → CallTells call → KeysAreShort c.keys → KeysAreShort (controlling.after c call).keys
-call_short c (calls.Look path) told h = notice_short (control.notice_on c path) path c h
-call_short c (calls.PeerKey key) told h = record { own = h.own; peer = told }
-call_short c (calls.Keys own other) told h = either_short (own == c.keys.own) _ _ (record { own = h.own; peer = told }) h
-call_short c (calls.JoinBegin path) told h = either_short _ _ _ h h
-call_short c (calls.JoinHeard path token) told h = either_short _ _ _ h h
-call_short c (calls.Withdraw id) told h = either_short _ _ _ h h
-call_short c (calls.Echoed id) told h = either_short _ _ _ h h
-call_short c (calls.Removed id) told h = either_short _ _ _ h h
-call_short c (calls.FastHeard key) told h = either_short _ _ _ h h
+call_short c (ControlCall.Look path) told h = notice_short (control.notice_on c path) path c h
+call_short c (ControlCall.PeerKey key) told h = record { own = h.own; peer = told }
+call_short c (ControlCall.Keys own other) told h = either_short (own == c.keys.own) _ _ (record { own = h.own; peer = told }) h
+call_short c (ControlCall.JoinBegin path) told h = either_short _ _ _ h h
+call_short c (ControlCall.JoinHeard path token) told h = either_short _ _ _ h h
+call_short c (ControlCall.Withdraw id) told h = either_short _ _ _ h h
+call_short c (ControlCall.Echoed id) told h = either_short _ _ _ h h
+call_short c (ControlCall.Removed id) told h = either_short _ _ _ h h
+call_short c (ControlCall.FastHeard key) told h = either_short _ _ _ h h
 call_short c _ told h = h
 
 control_short : (c : Control) (call : ControlCall) → CallTells call → ControlIsShort c → ControlIsShort (controlling.after c call)
@@ -171,21 +126,21 @@ kept_at six h A = h.a
 kept_at six h B = h.b
 
 pub ask_short : (six : SixBooks) (x : Ask) → AskTells x → BooksKeepShort six → BooksKeepShort (after_ask x six)
-ask_short six (asks.Control A call) told h = record { a = control_short six.control_a call told h.a; b = h.b }
-ask_short six (asks.Control B call) told h = record { a = h.a; b = control_short six.control_b call told h.b }
-ask_short six (asks.Send s call) told h = record { a = h.a; b = h.b }
-ask_short six (asks.Reassembly s call) told h = record { a = h.a; b = h.b }
-ask_short six (asks.Local step) told h = h
+ask_short six (Ask.Control A call) told h = record { a = control_short six.control_a call told h.a; b = h.b }
+ask_short six (Ask.Control B call) told h = record { a = h.a; b = control_short six.control_b call told h.b }
+ask_short six (Ask.Send s call) told h = record { a = h.a; b = h.b }
+ask_short six (Ask.Reassembly s call) told h = record { a = h.a; b = h.b }
+ask_short six (Ask.Local step) told h = h
 
 -- ---- what a path tells one
 
 none_called : (m : May) → m.keys ≡ false → (call : ControlCall) → may_tell m call ≡ true → CallTells call
-none_called m off (calls.PeerKey key) is = absurd (false≢true (sym off ∙ is))
-none_called m off (calls.Keys own peer) is = absurd (false≢true (sym off ∙ is))
+none_called m off (ControlCall.PeerKey key) is = absurd (false≢true (sym off ∙ is))
+none_called m off (ControlCall.Keys own peer) is = absurd (false≢true (sym off ∙ is))
 none_called m off _ is = tt
 
 none_told : (m : May) → m.keys ≡ false → (x : Ask) → may m x ≡ true → AskTells x
-none_told m off (asks.Control s call) is = none_called m off call is
+none_told m off (Ask.Control s call) is = none_called m off call is
 none_told m off _ is = tt
 
 module _ (c : Profile) (p : PathState Carried) (h : PathTells c p) where
@@ -198,31 +153,23 @@ module _ (c : Profile) (p : PathState Carried) (h : PathTells c p) where
   opened_tells s (Some keys) is = is
 
   break_tells : (s : Side) (reason : ℕ) → AskTells (break_ask values s reason p)
-  break_tells s reason = by (end_at s p).treated.asked
-    where
-      by : (b : Bool) → AskTells (if b then asks.Reassembly s reassembly_calls.AckOut else sends values s (reset_of s (Some reason) p) p)
-      by true = tt
-      by false = tt
+  break_tells s reason = if_so AskTells (end_at s p).treated.asked (Ask.Reassembly s ReassemblyCall.AckOut) (sends values s (reset_of s (Some reason) p) p) tt tt
 
   mapping_tells : (s : Side) → AskTells (mapping_ask values s p)
-  mapping_tells s = by (is_clash (end_at s p))
-    where
-      by : (b : Bool) → AskTells (if b then break_ask values s 1 p else fell_ask s events.MappingHeard p)
-      by true = break_tells s 1
-      by false = tt
+  mapping_tells s = if_so AskTells (is_clash (end_at s p)) (break_ask values s 1 p) (fell_ask s events.MappingHeard p) (break_tells s 1) tt
 
   item_tells : (s : Side) (o : Option Heard) → IfSome o ItemTells → AskTells (item_ask values s o p)
-  item_tells s (Some (says.Mapping fin)) said = mapping_tells s
-  item_tells s (Some (says.Keys own other)) said = said.1
-  item_tells s (Some (says.Notice (peer_notes.AddAddr id address port hmac))) said = tt
-  item_tells s (Some says.Fail) said = fail_asks_so AskTells s p tt tt
+  item_tells s (Some (Heard.Mapping fin)) said = mapping_tells s
+  item_tells s (Some (Heard.Keys own other)) said = said.1
+  item_tells s (Some (Heard.Notice (PeerNotice.AddAddr id address port hmac))) said = tt
+  item_tells s (Some Heard.Fail) said = fail_asks_so AskTells s p tt tt
   item_tells s _ said = tt
 
   items_at : (s : Side) → Every ItemTells (end_at s p).treated.items
   items_at s = (tells_at c p h s).treated.items
 
   pub asks_tell : (d : Duty) → AskTells (ask_for values d p)
-  asks_tell (duties.Ask (ask_duties.PeerKey s)) = key_tells s (key_heard (end_at s p).treated.items) (heard_key (end_at s p).treated.items (items_at s))
-  asks_tell (duties.Ask (ask_duties.Opened s)) = opened_tells s (keys_heard (end_at s p).treated.items) (heard_keys (end_at s p).treated.items (items_at s))
-  asks_tell (duties.Step (step_duties.Heard s index)) = item_tells s (item_of index (end_at s p)) (known_item (end_at s p).modes.identity _ (every_item index (end_at s p).treated.items (items_at s)))
+  asks_tell (Duty.Ask (AskDuty.PeerKey s)) = key_tells s (key_heard (end_at s p).treated.items) (heard_key (end_at s p).treated.items (items_at s))
+  asks_tell (Duty.Ask (AskDuty.Opened s)) = opened_tells s (keys_heard (end_at s p).treated.items) (heard_keys (end_at s p).treated.items (items_at s))
+  asks_tell (Duty.Step (StepDuty.Heard s index)) = item_tells s (item_of index (end_at s p)) (known_item (end_at s p).modes.identity _ (every_item index (end_at s p).treated.items (items_at s)))
   asks_tell d = none_told (asking d) refl (ask_for values d p) (asks_no_more values p d).kind

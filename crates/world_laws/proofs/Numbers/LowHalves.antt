@@ -1,26 +1,12 @@
 -- Where data numbers have four octets each DSS tells the low halves, as a path's spelling never changes.
-use Rattle.std.proofs.Common.{◌≡◌, sym, ◌∙◌, ap, subst, ℕ, ◌+◌, ◌%◌, ◌^◌, Bool, true, if◌then◌else◌, option_map, Option, Some, None, List, arith}
-use Rattle.std.specs.List.{slice_get}
-use Rattle.std.specs.Option.{IfSome}
-use Rattle.sides.specs.declared.side.Side.{Side}
-use Rattle.sides.specs.Side.{peer}
+use Rattle.world_laws.proofs.Words.{◌≡◌, sym, ◌∙◌, ap, subst, ℕ, ◌+◌, Bool, true, if◌then◌else◌, Option, Some, None, List, arith, ◌^◌, option_map, ◌%◌}
+use Rattle.world_laws.proofs.Words.{slice_get, IfSome, Side, peer, PlainOption, said_option, said_mapping, Dss, whole_number, data_number, PathMapping, Bytes}
+use Rattle.world_laws.proofs.Words.{Infinite, waiting_path, PathState, Carried, values, in_map, Every, Always, Start, path_begins, opened_world, Turn, greatest}
+use Rattle.world_laws.proofs.Words.{world_run, answer_to}
 use Rattle.mptcp_options.specs.declared.dss.DataNumber.TheVariants.{Whole, Low}
-use Rattle.path_segments.specs.declared.segment.PathMapping.{PathMapping}
-use Rattle.path_segments.specs.declared.segment.PathMapping.TheVariants.{Bytes, End, Infinite}
-use Rattle.path_segments.specs.declared.segment.PathOption.TheVariants.{Dss}
+use Rattle.path_segments.specs.declared.segment.PathMapping.TheVariants.{End}
 use Rattle.path_segments.specs.declared.spelling.Spelling.{Spelling}
-use Rattle.path_segments.specs.Options.{PlainOption, said_option, said_mapping}
-use Rattle.path_segments.specs.Spelling.{whole_number, data_number}
-use Rattle.stream_lanes.specs.Words.{Every}
-use Rattle.stream_lanes.proofs.Lists.{in_map}
-use Rattle.path_core.specs.Start.{waiting_path}
-use Rattle.path_core.specs.State.{PathState}
-use Rattle.path_core.specs.Values.{Carried, values}
-use Rattle.world_laws.specs.Laws.{Always}
-use Rattle.world_laws.specs.Openings.{Start, path_begins, opened_world}
 use Rattle.world_laws.specs.ShortNumbers.{IsLowHalf, GoesShort, SegmentGoesShort, CopiesGoShort, ShortNumbersGoShort}
-use Rattle.world_laws.specs.StampedBooks.{answer_to}
-use Rattle.world_laws.specs.Worlds.{Turn, greatest, world_run}
 use Rattle.world_laws.proofs.Worlds.CastLifting.{Has, turns_have, each_actor}
 use Rattle.world_laws.proofs.Worlds.Casts.{Cast, Every-put, world_of, walked, walks_on, first_cast, first_fare, opened_is, walker_there}
 use Rattle.world_laws.proofs.Rounds.Frame.{takes_keeps, first_keeps}

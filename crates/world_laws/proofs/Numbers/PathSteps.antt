@@ -1,36 +1,11 @@
 -- What a step of the path leaves of the numbers that its ends and its copies tell.
-use Rattle.std.proofs.Common.{◌≡◌, refl, ℕ, ◌+◌, ◌^◌, ◌≤◌, nat_lt, Bool, true, false, if◌then◌else◌, List, [], ◌∷◌, length, arith}
-use Rattle.std.specs.List.{list_all}
-use Rattle.std.specs.Option.{IfSome}
-use Rattle.std.proofs.lemmas.Bool.{and_parts, and_from}
-use Rattle.sides.specs.declared.side.Side.{Side}
-use Rattle.sides.specs.declared.side.Side.TheVariants.{A, B}
-use Rattle.sides.specs.Side.{peer}
-use Rattle.link_model.specs.Fate.{is_stripped, is_altered, fate_of}
-use Rattle.link_model.specs.Steps.{changed, arrivals, next_number, with_flights, one_more}
-use Rattle.path_segments.specs.Spelled.{PlainSegment}
-use Rattle.reassembly_book.specs.State.{received}
-use Rattle.reassembly_book.specs.Steps.{next_wanted, window, is_end}
-use Rattle.stream_lanes.specs.Holding.{Holds}
-use Rattle.stream_lanes.specs.Lane.{Lane}
-use Rattle.stream_lanes.specs.Laws.{LaneIsShort}
-use Rattle.stream_lanes.specs.Words.{Every}
-use Rattle.stream_lanes.proofs.Promises.{paths_short}
+use Rattle.world_laws.proofs.Words.{◌≡◌, refl, ℕ, ◌+◌, ◌≤◌, nat_lt, Bool, true, false, if◌then◌else◌, List, [], ◌∷◌, length, arith, ◌^◌, and_parts, and_from}
+use Rattle.world_laws.proofs.Words.{list_all, IfSome, Side, A, B, peer, Control, received, is_end, next_wanted, window, arrivals, changed, next_number}
+use Rattle.world_laws.proofs.Words.{with_flights, one_more, is_stripped, is_altered, fate_of, PlainSegment, Duty, SendDuty, AskDuty, replaced, SixBooks}
+use Rattle.world_laws.proofs.Words.{send_of, reassembly_of, control_of, tail_of, pick, PathEnd, PathState, end_at, goes_on, with_agenda, Carried, carried_by}
+use Rattle.world_laws.proofs.Words.{stripped, altered, values, Profile, sent_on, handed, Every, Holds, Lane, LaneIsShort, paths_short}
 use Rattle.stream_lanes.proofs.Views.{received_written}
 use Rattle.control_book.specs.declared.book.Keys.{Keys}
-use Rattle.actor_desk.specs.Desk.{SixBooks, send_of, reassembly_of, control_of}
-use Rattle.actor_desk.specs.Words.{pick, tail_of}
-use Rattle.path_agenda.specs.declared.duty.Duty.{Duty}
-use Rattle.path_agenda.specs.declared.duty.Duty.TheVariants as duties
-use Rattle.path_agenda.specs.declared.duty.AskDuty.TheVariants as ask_duties
-use Rattle.path_agenda.specs.declared.duty.SendDuty.TheVariants as send_duties
-use Rattle.path_core.specs.End.{PathEnd}
-use Rattle.path_core.specs.Handover.{handed, sent_on}
-use Rattle.path_core.specs.State.{PathState, end_at, goes_on, with_agenda}
-use Rattle.path_core.specs.Profile.{Profile}
-use Rattle.path_core.specs.Values.{Carried, carried_by, stripped, altered, values}
-use Rattle.path_agenda.specs.Words.{replaced}
-use Rattle.control_book.specs.Control.{Control}
 use Rattle.world_laws.proofs.Numbers.IdsFit.{IdsFit}
 use Rattle.world_laws.proofs.Lanes.OfAWorld.{flags_of, Others, duo_at}
 use Rattle.world_laws.proofs.Lanes.Roads.{put_there}
@@ -45,8 +20,8 @@ pub record CopyTells (c : Profile) (to : Side) (carried : Carried) : Type 0 wher
 
 -- a reason is an octet
 abbrev pub is_fair : Duty → Bool
-is_fair (duties.Ask (ask_duties.BreakAck s reason)) = nat_lt reason 256
-is_fair (duties.Send (send_duties.BreakReset s reason)) = nat_lt reason 256
+is_fair (Duty.Ask (AskDuty.BreakAck s reason)) = nat_lt reason 256
+is_fair (Duty.Send (SendDuty.BreakReset s reason)) = nat_lt reason 256
 is_fair _ = true
 
 abbrev pub AreFair : List Duty → Type 0
@@ -136,14 +111,14 @@ module _ (c : Profile) (p : PathState Carried) (h : PathTells c p) where
 
   -- also where its options were taken away, or a bit of its payload was turned
   maybe_changed : (s : Side) (sg : PlainSegment) (strips alters : Bool) → SegmentTells c s sg → CopyTells c (peer s) (changed stripped altered strips alters (carried_by p.profile.spelling s sg))
-  maybe_changed A sg true false tells = record { from = refl; segment = tells }
-  maybe_changed A sg false false tells = record { from = refl; segment = tells }
-  maybe_changed B sg true false tells = record { from = refl; segment = tells }
-  maybe_changed B sg false false tells = record { from = refl; segment = tells }
   maybe_changed A sg true true tells = record { from = refl; segment = altered_tells c A sg tells }
   maybe_changed A sg false true tells = record { from = refl; segment = altered_tells c A sg tells }
   maybe_changed B sg true true tells = record { from = refl; segment = altered_tells c B sg tells }
   maybe_changed B sg false true tells = record { from = refl; segment = altered_tells c B sg tells }
+  maybe_changed A sg true false tells = record { from = refl; segment = tells }
+  maybe_changed A sg false false tells = record { from = refl; segment = tells }
+  maybe_changed B sg true false tells = record { from = refl; segment = tells }
+  maybe_changed B sg false false tells = record { from = refl; segment = tells }
 
   handed_tells : (s : Side) (sg : PlainSegment) → SegmentTells c s sg → Every (λ f. CopyTells c f.to f.carried) (handed values s sg p).under_way
   handed_tells s sg tells = more s

@@ -1,36 +1,10 @@
 -- The duties that come to nothing leave the numbers that a path tells small, and so does a turn of the path.
-use Rattle.std.proofs.Common.{◌≡◌, refl, ℕ, ◌+◌, ◌^◌, ◌≤◌, Bool, true, false, if◌then◌else◌, Option, Some, None, List, [], ◌∷◌, length, arith}
-use Rattle.std.proofs.lemmas.Bool.{and_parts, eqb-true, false≢true}
-use Rattle.std.specs.List.{list_all}
-use Rattle.std.specs.Option.{IfSome}
-use Rattle.sides.specs.declared.side.Side.{Side}
-use Rattle.sides.specs.Side.{peer}
-use Rattle.subflow_tcp.specs.Judging.{is_at}
-use Rattle.stream_lanes.specs.Holding.{Holds}
-use Rattle.stream_lanes.specs.Lane.{Lane}
-use Rattle.stream_lanes.specs.Laws.{LaneIsShort}
-use Rattle.actor_desk.specs.Desk.{SixBooks, send_of}
-use Rattle.actor_desk.specs.Words.{pick}
-use Rattle.path_agenda.specs.declared.duty.Duty.{Duty}
-use Rattle.path_agenda.specs.declared.duty.Duty.TheVariants as duties
-use Rattle.path_agenda.specs.declared.duty.AskDuty.TheVariants as ask_duties
-use Rattle.path_agenda.specs.declared.duty.SendDuty.TheVariants as send_duties
-use Rattle.path_agenda.specs.declared.duty.SilentDuty.TheVariants as silent_duties
-use Rattle.path_agenda.specs.declared.duty.StepDuty.TheVariants as step_duties
-use Rattle.path_agenda.specs.declared.heard.Heard.{Heard}
-use Rattle.path_agenda.specs.declared.heard.Heard.TheVariants as says
-use Rattle.path_core.specs.Duties.{stands, passed}
-use Rattle.path_core.specs.Timer.{after_timer}
-use Rattle.path_core.specs.End.{PathEnd}
-use Rattle.path_core.specs.DataFin.{after_pass_fin}
-use Rattle.path_core.specs.Deliver.{mapping_here, after_check, after_pieces, after_keep}
-use Rattle.path_core.specs.DssIn.{with_learned, with_skipped, counts, with_data_fin}
-use Rattle.path_core.specs.State.{PathState, end_at, with_end, with_agenda}
-use Rattle.path_core.specs.Profile.{Profile}
-use Rattle.path_core.specs.Steps.{settled}
-use Rattle.path_core.specs.Fallback.{with_plain_ack}
-use Rattle.path_core.specs.Treating.{heard_passed, item_passed, item_of}
-use Rattle.path_core.specs.Values.{Carried}
+use Rattle.world_laws.proofs.Words.{◌≡◌, refl, ℕ, ◌+◌, ◌≤◌, Bool, true, false, if◌then◌else◌, Option, Some, None, List, [], ◌∷◌, length, arith, ◌^◌, eqb-true}
+use Rattle.world_laws.proofs.Words.{and_parts, false≢true, list_all, IfSome, Side, peer, is_at, Duty, SendDuty, StepDuty, AskDuty, SilentDuty, Heard, SixBooks}
+use Rattle.world_laws.proofs.Words.{send_of, pick, stands, passed, PathEnd, PathState, end_at, with_end, with_agenda, settled, Carried, after_timer}
+use Rattle.world_laws.proofs.Words.{mapping_here, after_keep, after_pieces, after_check, after_pass_fin, item_of, item_passed, with_plain_ack, Profile, Holds}
+use Rattle.world_laws.proofs.Words.{Lane, LaneIsShort}
+use Rattle.world_laws.proofs.Writes.Ends.{item_so}
 use Rattle.world_laws.proofs.Lanes.OfAWorld.{Others, duo_at}
 use Rattle.world_laws.proofs.Lanes.Settling.{passes}
 use Rattle.world_laws.proofs.Lanes.Showing.{HasFin, PathShows}
@@ -45,30 +19,10 @@ end_tells c p t s e x = tells_on c p t s e p.agenda x t.agenda
 
 -- ---- things that are passed
 
-item_told : (c : Profile) (s : Side) (e : PathEnd) → EndTells c s e → (item : Heard) → EndTells c s (heard_passed s item e)
-item_told c s e h says.Dss = rules.dss_tells c s e h
-item_told c s e h (says.DataAck next window) = rules.data_ack_tells c s e h next
-item_told c s e h (says.Mapping fin) = by (counts e)
-  where
-    by : (b : Bool) → EndTells c s (if b then with_learned e else with_skipped e)
-    by true = rules.learned_tells c s e h
-    by false = rules.skipped_tells c s e h
-item_told c s e h (says.DataFin place) = by (counts e)
-  where
-    by : (b : Bool) → EndTells c s (if b then with_data_fin place e else e)
-    by true = rules.fin_tells c s e h place
-    by false = h
-item_told c s e h (says.PeerKey key) = h
-item_told c s e h (says.Keys own peer) = h
-item_told c s e h (says.Join form) = h
-item_told c s e h (says.Notice notice) = h
-item_told c s e h says.Fail = h
-item_told c s e h (says.FastClose key) = h
-item_told c s e h (says.InfiniteMapping place position) = h
-
 maybe_told : (c : Profile) (s : Side) (e : PathEnd) → EndTells c s e → (o : Option Heard) → EndTells c s (item_passed s o e)
-maybe_told c s e h None = h
-maybe_told c s e h (Some item) = item_told c s e h item
+maybe_told c s e h o =
+    item_so (EndTells c s) s o e h (rules.dss_tells c s e h) (λ next. rules.data_ack_tells c s e h next) (rules.learned_tells c s e h) (rules.skipped_tells c s e h)
+    (λ place. rules.fin_tells c s e h place)
 
 -- the FIN that is next stands behind the last octet
 fin_short : (n edge : ℕ) (back : Lane) (fin : Option ℕ) → LaneIsShort n back → n + 3 ≤ 2 ^ 31 → IfSome fin (HasFin back.fins) → is_at edge fin ≡ true → IsShort (edge + 1)
@@ -81,21 +35,21 @@ fin_short n edge back (Some at) lane short has is =
 
 module _ (six : SixBooks) (others : Others) (c : Profile) (short : BooksAreShort six) where
   passed_tells : (p : PathState Carried) (ab ba : Lane) → PathShows c p ab ba → Holds (duo_at six ab ba others) → PathTells c p → (d : Duty) → PathTells c (passed d p)
-  passed_tells p ab ba h holds t (duties.Silent (silent_duties.Timer s)) = end_tells c p t s (after_timer p.clock (end_at s p)) (rules.timer_tells c s (end_at s p) (tells_at c p t s) p.clock)
-  passed_tells p ab ba h holds t (duties.Step (step_duties.Heard s index)) =
+  passed_tells p ab ba h holds t (Duty.Silent (SilentDuty.Timer s)) = end_tells c p t s (after_timer p.clock (end_at s p)) (rules.timer_tells c s (end_at s p) (tells_at c p t s) p.clock)
+  passed_tells p ab ba h holds t (Duty.Step (StepDuty.Heard s index)) =
       end_tells c p t s (item_passed s (item_of index (end_at s p)) (end_at s p)) (maybe_told c s (end_at s p) (tells_at c p t s) (item_of index (end_at s p)))
-  passed_tells p ab ba h holds t (duties.Silent (silent_duties.Keep s)) = end_tells c p t s (after_keep s (end_at s p)) (rules.keep_tells c s (end_at s p) (tells_at c p t s))
-  passed_tells p ab ba h holds t (duties.Ask (ask_duties.CheckFailed s)) =
+  passed_tells p ab ba h holds t (Duty.Silent (SilentDuty.Keep s)) = end_tells c p t s (after_keep s (end_at s p)) (rules.keep_tells c s (end_at s p) (tells_at c p t s))
+  passed_tells p ab ba h holds t (Duty.Ask (AskDuty.CheckFailed s)) =
       end_tells c p t s (after_check p.profile (end_at s p))
       (rules.check_tells c s (end_at s p) (tells_at c p t s) p.profile.spelling.checksums (mapping_here (end_at s p)))
-  passed_tells p ab ba h holds t (duties.Step (step_duties.PlainAck s)) = end_tells c p t s (with_plain_ack (end_at s p)) (rules.plain_ack_tells c s (end_at s p) (tells_at c p t s))
-  passed_tells p ab ba h holds t (duties.Step (step_duties.Unmapped s)) = end_tells c p t s (after_pieces (end_at s p)) (rules.unmapped_tells c s (end_at s p) (tells_at c p t s))
-  passed_tells p ab ba h holds t (duties.Silent (silent_duties.PassFin s)) =
+  passed_tells p ab ba h holds t (Duty.Step (StepDuty.PlainAck s)) = end_tells c p t s (with_plain_ack (end_at s p)) (rules.plain_ack_tells c s (end_at s p) (tells_at c p t s))
+  passed_tells p ab ba h holds t (Duty.Step (StepDuty.Unmapped s)) = end_tells c p t s (after_pieces (end_at s p)) (rules.unmapped_tells c s (end_at s p) (tells_at c p t s))
+  passed_tells p ab ba h holds t (Duty.Silent (SilentDuty.PassFin s)) =
       let e : PathEnd = end_at s p in
       end_tells c p t s (after_pass_fin e) (rules.pass_fin_tells c s e (tells_at c p t s)
       (λ is. fin_short (length (send_of (peer s) six).written) e.tcp.recv.edge (pick s ba ab) e.tcp.fin_at (back_short six others ab ba holds short s) (short.written (peer s))
       (side_shows c s p ab ba h).receiver.fin (and_parts (is_at e.tcp.recv.edge e.tcp.fin_at) _ is).0))
-  passed_tells p ab ba h holds t (duties.Send (send_duties.Update s)) = t
+  passed_tells p ab ba h holds t (Duty.Send (SendDuty.Update s)) = t
   passed_tells p ab ba h holds t _ = t
 
   pub settled_tells : (ds : List Duty) (p : PathState Carried) (ab ba : Lane) → PathShows c p ab ba → Holds (duo_at six ab ba others) → PathTells c p → AreFair ds → PathTells c (settled ds p)

@@ -1,74 +1,37 @@
 -- The numbers that a path tells: each is below 2^31, so that each is near every one that may be expected.
-use Rattle.std.proofs.Common.{◌≡◌, refl, ap, ℕ, ◌+◌, ◌-◌, ◌%◌, ◌^◌, ◌<◌, ◌≤◌, ◌⊎◌, inl, inr, ⊎_elim, ◌&&◌, not, Bool, true, false, if◌then◌else◌, is_some, Option, Some, None, List, [], ◌∷◌, ◌++◌, length, arith, sym, subst}
-use Rattle.std.proofs.lemmas.Bool.{ne_eqb, cases_lt}
+use Rattle.world_laws.proofs.Words.{◌≡◌, refl, sym, ap, subst, ℕ, ◌+◌, ◌-◌, ◌≤◌, ◌&&◌, not, inl, inr, ◌⊎◌, ⊎_elim, Bool, true, false, if◌then◌else◌, Option}
+use Rattle.world_laws.proofs.Words.{Some, None, List, [], ◌∷◌, ◌++◌, length, arith, is_some, ◌<◌, ◌^◌, ◌%◌, cases_lt, ne_eqb, length-append, append-nil, IfSome}
+use Rattle.world_laws.proofs.Words.{All, All-nil, All-cons, All-weaker, Address, token_of, join_a160_of, join_b64_of, Side, A, B, peer, with_turned_bit}
+use Rattle.world_laws.proofs.Words.{JoinForm, CapableKeys, NoKey, Sender, Both, WithData, FormFits, path_address, Record, SendState, RecordKind, Syn, Data, Fin}
+use Rattle.world_laws.proofs.Words.{is_fin, is_opening, ack_at, syn_ack_segment, reset_segment, fin_position, fin_segment, is_syn, record_segment, Outgoing}
+use Rattle.world_laws.proofs.Words.{occupied, one_if, PlainOption, said_option, relative_number, syn_text, options_text, PlainSegment, CanSayOption, CanSay}
+use Rattle.world_laws.proofs.Words.{Capable, Dss, Fail, meant, IsPositionFresh, IsPlaceFresh, IsBytes, IsMappingFresh, IsOptionFresh, IsHearable, IsFresh}
+use Rattle.world_laws.proofs.Words.{Expected, whole_number, data_number, PathMapping, Bytes, Infinite, InfiniteMapping, OwnNotice, Heard, PeerNotice, PathEnd}
+use Rattle.world_laws.proofs.Words.{Notices, copy_of, expected_by, outgoing_or, is_joined, join_options, third_options, peer_key_of, receives_infinite}
+use Rattle.world_laws.proofs.Words.{bare_mapping, checksum_in, place_numbered, checksum_told, owes_mapping, plain_options, data_fin_mapping, piece_mapping}
+use Rattle.world_laws.proofs.Words.{is_first_piece, first_piece_options, piece_options, fin_options, fail_options, fail_beside, infinite_options, infinite_or}
+use Rattle.world_laws.proofs.Words.{mapped_options, is_syn_unsent, own_reset, capable_options, syn_options, key_options, opening_options, ack_options}
+use Rattle.world_laws.proofs.Words.{record_options, reset_options, segment_of, ack_said, carried_said, record_said, syn_ack_said, fin_said, reset_said}
+use Rattle.world_laws.proofs.Words.{record_or_ack, broken_options, noted_said, notice_option, HasAddress, Profile, IsFarReset, Modes, Treated, Every, if_so}
 use Rattle.std.proofs.lemmas.Int.{ints}
-use Rattle.std.proofs.lemmas.List.{append-nil, length-append}
-use Rattle.std.proofs.lemmas.List.Elements.{All-nil, All-cons, All-weaker}
-use Rattle.std.specs.Prelude.{All}
-use Rattle.std.specs.Option.{IfSome, IsSome}
-use Rattle.sides.specs.declared.side.Side.{Side}
-use Rattle.sides.specs.declared.side.Side.TheVariants.{A, B}
-use Rattle.sides.specs.Side.{peer}
+use Rattle.std.specs.Option.{IsSome}
 use Rattle.seq_units.specs.declared.mapping.Mapping.{Mapping}
-use Rattle.key_material.specs.JoinHmac.{join_a160_of, join_b64_of}
-use Rattle.key_material.specs.KeyDigest.{token_of}
 use Rattle.key_material.proofs.Bounds.{token_of_below, join_b64_of_below, AreOctets-join_a160_of, length-join_a160_of, add_addr64_of_below}
-use Rattle.mptcp_options.specs.declared.capable.CapableKeys.{CapableKeys}
-use Rattle.mptcp_options.specs.declared.capable.CapableKeys.TheVariants.{NoKey, Sender, Both, WithData}
-use Rattle.mptcp_options.specs.declared.join.JoinForm.TheVariants as join
 use Rattle.mptcp_options.specs.declared.dss.DataNumber.{DataNumber}
 use Rattle.mptcp_options.specs.declared.dss.DataNumber.TheVariants.{Whole, Low}
 use Rattle.mptcp_options.specs.Dss.{DataNumberFits}
-use Rattle.mptcp_options.specs.Join.{FormFits}
 use Rattle.mptcp_options.specs.Octets.{IsBelow}
 use Rattle.mptcp_options.specs.Text.{option_text, Fits}
 use Rattle.mptcp_options.specs.Value as wire
-use Rattle.path_segments.specs.declared.expected.Expected.{Expected}
-use Rattle.path_segments.specs.declared.segment.PathMapping.{PathMapping}
-use Rattle.path_segments.specs.declared.segment.PathMapping.TheVariants.{Bytes, End, Infinite}
-use Rattle.path_segments.specs.declared.segment.PathOption.TheVariants.{Capable, Dss, Fail, FastClose}
+use Rattle.path_segments.specs.declared.segment.PathMapping.TheVariants.{End}
+use Rattle.path_segments.specs.declared.segment.PathOption.TheVariants.{FastClose}
 use Rattle.path_segments.specs.declared.spelling.Spelling.{Spelling}
 use Rattle.path_segments.specs.HeardLent.{IsExpected}
-use Rattle.path_segments.specs.Laws.{meant, IsPositionFresh, IsPlaceFresh, IsBytes, IsMappingFresh, IsOptionFresh, IsHearable, IsFresh}
-use Rattle.path_segments.specs.Options.{PlainOption, said_option, relative_number}
-use Rattle.path_segments.specs.Spelled.{syn_text, options_text, PlainSegment, CanSayOption, CanSay}
-use Rattle.path_segments.specs.Spelling.{whole_number, data_number}
-use Rattle.subflow_send.specs.declared.record.RecordKind.{RecordKind}
-use Rattle.subflow_send.specs.declared.record.RecordKind.TheVariants.{Syn, Data, Fin}
-use Rattle.subflow_send.specs.Records.{Record, SendState}
-use Rattle.subflow_tcp.specs.declared.segments.Outgoing.{Outgoing}
-use Rattle.subflow_tcp.specs.Emitting.{ack_at, syn_ack_segment, reset_segment, fin_position, fin_segment, is_syn, record_segment}
-use Rattle.subflow_send.specs.Rules.{is_fin}
-use Rattle.subflow_tcp.specs.Segments.{one_if, occupied}
-use Rattle.subflow_tcp.specs.States.{is_opening}
-use Rattle.stream_lanes.specs.Words.{Every}
-use Rattle.path_agenda.specs.declared.heard.Heard.{Heard}
-use Rattle.path_agenda.specs.declared.heard.Heard.TheVariants as says
-use Rattle.path_core.specs.Arrival.{copy_of, expected_by}
-use Rattle.path_core.specs.declared.modes.Modes.{Modes}
-use Rattle.path_core.specs.End.{PathEnd}
 use Rattle.path_core.specs.Sending.{Sending}
-use Rattle.path_core.specs.Treated.{Treated}
-use Rattle.path_core.specs.Notices.{Notices}
 use Rattle.path_store.specs.Receiving.{Receiving}
-use Rattle.path_core.specs.MpJoin.{is_joined, peer_key_of, join_options, third_options}
-use Rattle.path_core.specs.Emission.{outgoing_or}
-use Rattle.path_core.specs.DssOut.{bare_mapping, checksum_in, place_numbered, checksum_told, owes_mapping, plain_options, data_fin_mapping, piece_mapping, is_first_piece, first_piece_options, piece_options, fin_options, fail_options, fail_beside, infinite_options, infinite_or, mapped_options}
-use Rattle.path_core.specs.OptionsOut.{is_syn_unsent, own_reset, capable_options, syn_options, key_options, opening_options, ack_options, record_options, reset_options, segment_of, ack_said, carried_said, record_said, syn_ack_said, fin_said, reset_said, record_or_ack, broken_options, noted_said, notice_option, HasAddress}
-use Rattle.path_core.specs.Shown.{IsFarReset}
-use Rattle.path_core.specs.Profile.{Profile}
-use Rattle.key_material.specs.declared.address.Address.{Address}
 use Rattle.key_material.specs.declared.address.Address.TheVariants.{V4, V6}
 use Rattle.mptcp_options.specs.Address.{AddressFits}
-use Rattle.control_book.specs.Steps.{path_address}
-use Rattle.path_agenda.specs.declared.notice.OwnNotice.{OwnNotice}
-use Rattle.path_agenda.specs.declared.notice.OwnNotice.TheVariants as notes
-use Rattle.path_agenda.specs.declared.notice.PeerNotice.{PeerNotice}
-use Rattle.path_agenda.specs.declared.notice.PeerNotice.TheVariants as peer_notes
 use Rattle.path_core.proofs.Sayable.{noted_can, carried_can}
-use Rattle.segment_wire.specs.Changes.{with_turned_bit}
-use Rattle.path_store.specs.declared.infinite_mapping.InfiniteMapping.{InfiniteMapping}
-use Rattle.path_core.specs.Modes.{receives_infinite}
 
 abbrev pub IsShort : ℕ → Type 0
 IsShort n = n < 2 ^ 31
@@ -245,33 +208,29 @@ AddressTells id address port = (id < 256) × AddressFits address × IsBelow (2 ^
 
 -- what an end has to note
 abbrev pub NoteTells : OwnNotice → Type 0
-NoteTells (notes.AddAddr id) = id < 256
-NoteTells (notes.AddEcho id address port) = AddressTells id address port
-NoteTells (notes.Removes id) = id < 256
-NoteTells (notes.Prio backup) = Unit {0}
+NoteTells (OwnNotice.AddAddr id) = id < 256
+NoteTells (OwnNotice.AddEcho id address port) = AddressTells id address port
+NoteTells (OwnNotice.Removes id) = id < 256
+NoteTells (OwnNotice.Prio backup) = Unit {0}
 
 pub has_address : (notice : OwnNotice) → NoteTells notice → HasAddress notice
-has_address (notes.AddAddr id) is = tt
-has_address (notes.AddEcho id (V4 octets) port) is = let four = is.1.1 in omega (arith, four)
-has_address (notes.AddEcho id (V6 octets) port) is = let sixteen = is.1.1 in omega (arith, sixteen)
-has_address (notes.Removes id) is = tt
-has_address (notes.Prio backup) is = tt
+has_address (OwnNotice.AddEcho id (V4 octets) port) is = let four = is.1.1 in omega (arith, four)
+has_address (OwnNotice.AddEcho id (V6 octets) port) is = let sixteen = is.1.1 in omega (arith, sixteen)
+has_address _ is = tt
 
 -- what a copy noted
 abbrev pub PeerTells : PeerNotice → Type 0
-PeerTells (peer_notes.AddAddr id address port hmac) = AddressTells id address port
-PeerTells (peer_notes.AddEcho id) = Unit {0}
-PeerTells (peer_notes.Removed id) = Unit {0}
-PeerTells (peer_notes.Prio backup) = Unit {0}
+PeerTells (PeerNotice.AddAddr id address port hmac) = AddressTells id address port
+PeerTells _ = Unit {0}
 
 -- a thing that a copy said
 abbrev pub ItemTells : Heard → Type 0
-ItemTells (says.Notice notice) = PeerTells notice
-ItemTells (says.DataAck next window) = IsShort next
-ItemTells (says.DataFin place) = IsShort place
-ItemTells (says.PeerKey key) = IsKey key
-ItemTells (says.Keys own peer) = IsKey own × IsKey peer
-ItemTells (says.Join form) = FormFits form
+ItemTells (Heard.Notice notice) = PeerTells notice
+ItemTells (Heard.DataAck next window) = IsShort next
+ItemTells (Heard.DataFin place) = IsShort place
+ItemTells (Heard.PeerKey key) = IsKey key
+ItemTells (Heard.Keys own peer) = IsKey own × IsKey peer
+ItemTells (Heard.Join form) = FormFits form
 ItemTells _ = Unit {0}
 
 -- none after a fallback
@@ -341,11 +300,9 @@ expected_shortly c s e h =
 -- ---- what an end says
 
 data_fits : (spelling : Spelling) (side : Side) (place : ℕ) → DataNumberFits (data_number spelling side place)
-data_fits spelling side place = by spelling.short
-  where
-    by : (short : Bool) → DataNumberFits (if short then Low (whole_number spelling side place % 2 ^ 32) else Whole (whole_number spelling side place))
-    by true = omega arith
-    by false = omega arith
+data_fits spelling side place =
+    if_so DataNumberFits spelling.short (Low (whole_number spelling side place % 2 ^ 32)) (Whole (whole_number spelling side place))
+    (omega arith) (omega arith)
 
 pub sum_small : (c : Profile) (mapping : Mapping) (octets : List ℕ) → checksum_in c mapping octets < 2 ^ 16
 sum_small c mapping octets = by c.spelling.checksums refl
@@ -355,19 +312,13 @@ sum_small c mapping octets = by c.spelling.checksums refl
     by false is = rw is (omega arith)
 
 told_below : (c : Profile) (n : ℕ) → n < 2 ^ 16 → IsBelow (2 ^ 16) (checksum_told c n)
-told_below c n low = by c.spelling.checksums
-  where
-    by : (b : Bool) → IsBelow (2 ^ 16) (if b then Some n else None)
-    by true = low
-    by false = tt
+told_below c n low = if_so (IsBelow (2 ^ 16)) c.spelling.checksums (Some n) None low tt
 
 capable_length : (flag_a flag_c : Bool) (keys : CapableKeys) → length (option_text (wire.Capable flag_a flag_c keys)) ≤ 28
 unfolding option_text
-capable_length flag_a flag_c NoKey = omega arith
-capable_length flag_a flag_c (Sender sender) = omega arith
-capable_length flag_a flag_c (Both sender receiver) = omega arith
 capable_length flag_a flag_c (WithData sender receiver len None) = omega arith
 capable_length flag_a flag_c (WithData sender receiver len (Some checksum)) = omega arith
+capable_length flag_a flag_c _ = omega arith
 
 ack_length : (ack : DataNumber) (fin : Bool) → length (option_text (wire.Dss (Some ack) None fin)) ≤ 28
 unfolding option_text
@@ -407,15 +358,15 @@ fail_little : (number : ℕ) → length (option_text (wire.Fail number)) ≤ 12
 unfolding option_text
 fail_little number = omega arith
 
-join_syn_length : (backup : Bool) (id token nonce : ℕ) → length (option_text (wire.Join (join.Syn backup id token nonce))) ≤ 28
+join_syn_length : (backup : Bool) (id token nonce : ℕ) → length (option_text (wire.Join (JoinForm.Syn backup id token nonce))) ≤ 28
 unfolding option_text
 join_syn_length backup id token nonce = omega arith
 
-join_answer_length : (backup : Bool) (id hmac nonce : ℕ) → length (option_text (wire.Join (join.Answer backup id hmac nonce))) ≤ 28
+join_answer_length : (backup : Bool) (id hmac nonce : ℕ) → length (option_text (wire.Join (JoinForm.Answer backup id hmac nonce))) ≤ 28
 unfolding option_text
 join_answer_length backup id hmac nonce = omega arith
 
-third_length : (key_a key_b nonce_a nonce_b : ℕ) → length (option_text (wire.Join (join.Third (join_a160_of key_a key_b nonce_a nonce_b)))) ≤ 28
+third_length : (key_a key_b nonce_a nonce_b : ℕ) → length (option_text (wire.Join (JoinForm.Third (join_a160_of key_a key_b nonce_a nonce_b)))) ≤ 28
 unfolding option_text
 third_length key_a key_b nonce_a nonce_b = omega (arith, length-join_a160_of key_a key_b nonce_a nonce_b)
 
@@ -509,11 +460,9 @@ module _ (c : Profile) (s : Side) (path : c.spelling.path ≤ 15) (mss : c.mss <
 
   capable_tells : (t : Side) → One (capable_options c t e)
   capable_tells A = record { can = record { form = tt }; few = capable_length c.spelling.checksums false NoKey; tells = record { fits = tt; short = tt } }
-  capable_tells B = by (e.modes.capable_asked && not e.modes.identity)
-    where
-      by : (b : Bool) → One (if b then Capable c.spelling.checksums false (Sender e.modes.own_key) ∷ [] else [])
-      by true = record { can = record { form = tt }; few = capable_length c.spelling.checksums false (Sender e.modes.own_key); tells = record { fits = h.modes.own_key; short = tt } }
-      by false = tt
+  capable_tells B =
+      if_so One (e.modes.capable_asked && not e.modes.identity) (Capable c.spelling.checksums false (Sender e.modes.own_key) ∷ []) []
+      (record { can = record { form = tt }; few = capable_length c.spelling.checksums false (Sender e.modes.own_key); tells = record { fits = h.modes.own_key; short = tt } }) tt
 
   -- the address id is the path's number
   id_fits : c.spelling.path < 256
@@ -544,11 +493,7 @@ module _ (c : Profile) (s : Side) (path : c.spelling.path ≤ 15) (mss : c.mss <
       }
 
   syn_tells : (t : Side) → One (syn_options c t e)
-  syn_tells t = by (is_joined c)
-    where
-      by : (b : Bool) → One (if b then join_options c t e.modes else capable_options c t e)
-      by true = join_tells t
-      by false = capable_tells t
+  syn_tells t = if_so One (is_joined c) (join_options c t e.modes) (capable_options c t e) (join_tells t) (capable_tells t)
 
   key_tells : (t : Side) (o : Option ℕ) → IfSome o IsKey → One (key_options c t o e)
   key_tells A None k = tt
@@ -560,11 +505,7 @@ module _ (c : Profile) (s : Side) (path : c.spelling.path ≤ 15) (mss : c.mss <
   key_tells B o k = tt
 
   opening_tells : One (opening_options c s e)
-  opening_tells = by e.modes.owes_third
-    where
-      by : (b : Bool) → One (if b then third_options e.modes else key_options c s e.modes.peer_key e)
-      by true = third_tells
-      by false = key_tells s e.modes.peer_key h.modes.peer_key
+  opening_tells = if_so One e.modes.owes_third (third_options e.modes) (key_options c s e.modes.peer_key e) third_tells (key_tells s e.modes.peer_key h.modes.peer_key)
 
   end_tells : (o : Option ℕ) → IfSome o IsShort → Says c s (Dss (Some e.receiving.next) (data_fin_mapping c s o))
   end_tells None n = record {
@@ -655,11 +596,9 @@ module _ (c : Profile) (s : Side) (path : c.spelling.path ≤ 15) (mss : c.mss <
   infinite_or_tells (Some mapping) own os one = infinite_tells mapping own
 
   fin_tells : IfSome e.modes.own_infinite PairTells → (position : ℕ) → IsShort position → One (fin_options position e)
-  fin_tells own position at = by e.modes.identity
-    where
-      by : (b : Bool) → One (if b then plain_options position e else infinite_or e.modes.own_infinite (Dss (Some e.receiving.next) None ∷ []) e)
-      by true = plain_tells position at
-      by false = infinite_or_tells e.modes.own_infinite own (Dss (Some e.receiving.next) None ∷ []) (end_tells None tt)
+  fin_tells own position at =
+      if_so One e.modes.identity (plain_options position e) (infinite_or e.modes.own_infinite (Dss (Some e.receiving.next) None ∷ []) e)
+      (plain_tells position at) (infinite_or_tells e.modes.own_infinite own (Dss (Some e.receiving.next) None ∷ []) (end_tells None tt))
 
   bytes_of : (position len : ℕ) → 1 ≤ len → IsBytes position len false
   bytes_of position len some = record { some = ne_eqb len 0 (λ is. absurd (omega (arith, some, is))); no_end = refl }
@@ -690,11 +629,9 @@ module _ (c : Profile) (s : Side) (path : c.spelling.path ≤ 15) (mss : c.mss <
       }
 
   piece_tells : IfSome e.modes.own_infinite PairTells → (r : Record) → IsShort r.pos → RecordKindTells c s Data r → One (piece_options c s r e)
-  piece_tells own r at m = by e.modes.identity
-    where
-      by : (identity : Bool) → One (if identity then plain_options r.pos e else infinite_or e.modes.own_infinite (mapped_options c s r e) e)
-      by true = plain_tells r.pos at
-      by false = infinite_or_tells e.modes.own_infinite own (mapped_options c s r e) (mapped_tells r at m)
+  piece_tells own r at m =
+      if_so One e.modes.identity (plain_options r.pos e) (infinite_or e.modes.own_infinite (mapped_options c s r e) e)
+      (plain_tells r.pos at) (infinite_or_tells e.modes.own_infinite own (mapped_options c s r e) (mapped_tells r at m))
 
   record_options_tell : IfSome e.modes.own_infinite PairTells → (kind : RecordKind) (r : Record) → IsShort r.pos → RecordKindTells c s kind r → One (record_options kind c s r e)
   record_options_tell own Syn r at m = syn_tells s
@@ -785,7 +722,7 @@ module _ (c : Profile) (s : Side) (path : c.spelling.path ≤ 15) (mss : c.mss <
   }
 
   note_tells : (notice : OwnNotice) → NoteTells notice → OptionTells c s (notice_option notice e.modes)
-  note_tells (notes.AddAddr id) is = record {
+  note_tells (OwnNotice.AddAddr id) is = record {
     fits = (
       is,
       (
@@ -798,9 +735,9 @@ module _ (c : Profile) (s : Side) (path : c.spelling.path ≤ 15) (mss : c.mss <
     );
     short = tt;
   }
-  note_tells (notes.AddEcho id address port) is = record { fits = (is.0, is.1, is.2, tt); short = tt }
-  note_tells (notes.Removes id) is = record { fits = All-cons (λ (n : ℕ). n < 256) id [] is (All-nil (λ (n : ℕ). n < 256)); short = tt }
-  note_tells (notes.Prio backup) is = record { fits = tt; short = tt }
+  note_tells (OwnNotice.AddEcho id address port) is = record { fits = (is.0, is.1, is.2, tt); short = tt }
+  note_tells (OwnNotice.Removes id) is = record { fits = All-cons (λ (n : ℕ). n < 256) id [] is (All-nil (λ (n : ℕ). n < 256)); short = tt }
+  note_tells (OwnNotice.Prio backup) is = record { fits = tt; short = tt }
 
   -- a DSS and a notice behind it
   pub noted_tells : (o : Option OwnNotice) → IfSome o NoteTells → SegmentTells c s (noted_said c s o e)

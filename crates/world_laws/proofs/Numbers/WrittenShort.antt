@@ -1,23 +1,11 @@
 -- A send book never has more than 2^62 - 3 bytes, whatever it is asked.
-use Rattle.std.proofs.Common.{sym, subst, ◌-◌, ◌^◌, ◌≤◌, ◌||◌, Bool, true, false, if◌then◌else◌, Option, Some, None, Result, Ok, Err, List, [], ◌∷◌, length, take, map, arith}
-use Rattle.std.proofs.lemmas.List.{length-append, length-take}
-use Rattle.std.specs.List.{slice_get}
-use Rattle.sides.specs.declared.side.Side.{Side}
-use Rattle.sides.specs.declared.side.Side.TheVariants.{A, B}
-use Rattle.send_book.specs.declared.call.SendCall.{SendCall}
-use Rattle.send_book.specs.declared.call.SendCall.TheVariants.{Write, Close, Grant, AckIn, Return, GoIdentity, GoInfinite, Abort}
-use Rattle.send_book.specs.declared.call.Span.{Span}
-use Rattle.send_book.specs.declared.call.Why.{Why}
-use Rattle.send_book.specs.State.{Sending}
-use Rattle.send_book.specs.Steps.{bytes_taken, decision, given_by, is_future, is_gathered, after_call}
-use Rattle.actor_desk.specs.declared.ask.Ask.{Ask}
-use Rattle.actor_desk.specs.declared.ask.Ask.TheVariants as asks
-use Rattle.actor_desk.specs.Books.{books_in}
-use Rattle.actor_desk.specs.Desk.{SixBooks, send_of, after_ask}
-use Rattle.path_core.specs.Codec.{Codec}
-use Rattle.world_laws.specs.Actors.{ActorCrew, member_asks}
-use Rattle.world_laws.specs.Openings.{Start, opened_world}
-use Rattle.world_laws.specs.Worlds.{WorldState, Turn, asked, stepped, all_over, greatest, begins, after_turn, world_run}
+use Rattle.world_laws.proofs.Words.{sym, subst, ◌-◌, ◌≤◌, ◌||◌, Bool, true, false, if◌then◌else◌, Result, Ok, Err, List, length}
+use Rattle.world_laws.proofs.Words.{take, arith, ◌^◌, length-append, length-take, Side, A, B, Span, Why, SendCall, Sending, bytes_taken}
+use Rattle.world_laws.proofs.Words.{decision, given_by, is_future, is_gathered, AckIn, Ask, books_in, SixBooks, send_of, after_ask, Codec}
+use Rattle.world_laws.proofs.Words.{Start, opened_world, WorldState, Turn, world_run}
+use Rattle.world_laws.proofs.Worlds.Turns.{run_so}
+use Rattle.send_book.specs.declared.call.SendCall.TheVariants.{Write, Close, Grant, GoInfinite}
+use Rattle.send_book.specs.Steps.{after_call}
 use Rattle.world_laws.proofs.Weaving.Journals.{books_after}
 
 abbrev IsBounded : Sending → Type 0
@@ -39,49 +27,31 @@ call_bounded b (Grant path max standby) h = by (decision path max standby b)
     by (Ok span) = h
     by (Err why) = h
 call_bounded b (AckIn next window) h = either_way (is_future next b) b _ h h
-call_bounded b (Return path) h = h
-call_bounded b GoIdentity h = h
 call_bounded b (GoInfinite path) h = either_way (is_gathered path b) _ b h h
-call_bounded b Abort h = h
+call_bounded b _ h = h
 
 -- both books
 abbrev AreBounded : SixBooks → Type 0
 AreBounded six = (s : Side) → IsBounded (send_of s six)
 
 ask_bounded : (x : Ask) (six : SixBooks) → AreBounded six → AreBounded (after_ask x six)
-ask_bounded (asks.Send A call) six h A = call_bounded six.send_a call (h A)
-ask_bounded (asks.Send A call) six h B = h B
-ask_bounded (asks.Send B call) six h A = h A
-ask_bounded (asks.Send B call) six h B = call_bounded six.send_b call (h B)
-ask_bounded (asks.Reassembly t call) six h A = h A
-ask_bounded (asks.Reassembly t call) six h B = h B
-ask_bounded (asks.Control t call) six h A = h A
-ask_bounded (asks.Control t call) six h B = h B
-ask_bounded (asks.Local step) six h s = h s
+ask_bounded (Ask.Send A call) six h A = call_bounded six.send_a call (h A)
+ask_bounded (Ask.Send A call) six h B = h B
+ask_bounded (Ask.Send B call) six h A = h A
+ask_bounded (Ask.Send B call) six h B = call_bounded six.send_b call (h B)
+ask_bounded (Ask.Reassembly t call) six h A = h A
+ask_bounded (Ask.Reassembly t call) six h B = h B
+ask_bounded (Ask.Control t call) six h A = h A
+ask_bounded (Ask.Control t call) six h B = h B
+ask_bounded (Ask.Local step) six h s = h s
 
 module _ {C : Type 0} (k : Codec C) where
   abbrev WorldIsBounded : WorldState C → Type 0
   WorldIsBounded w = AreBounded (books_in w.books)
 
-  turn_bounded : (turn : Turn) (w : WorldState C) → WorldIsBounded w → WorldIsBounded (after_turn k turn w)
-  turn_bounded (Turn.Step actor) w h = by (slice_get w.crew actor)
-    where
-      asks : (c : ActorCrew C) (o : Option Ask) → WorldIsBounded (asked k actor o c w)
-      asks c None = h
-      asks c (Some x) = subst AreBounded (sym (books_after x c.pass w.books)) (ask_bounded x (books_in w.books) h)
-
-      by : (o : Option (ActorCrew C)) → WorldIsBounded (stepped k actor o w)
-      by None = h
-      by (Some c) = asks c (member_asks k c.member)
-  turn_bounded Turn.Round w h = by (all_over w.crew)
-    where
-      by : (b : Bool) → WorldIsBounded (if b then record w { crew = map (begins (greatest 0 w.crew)) w.crew } else w)
-      by true = h
-      by false = h
-
   run_bounded : (turns : List Turn) (w : WorldState C) → WorldIsBounded w → WorldIsBounded (world_run k turns w)
-  run_bounded [] w h = h
-  run_bounded (turn ∷ turns) w h = run_bounded turns (after_turn k turn w) (turn_bounded turn w h)
+  run_bounded =
+      run_so k WorldIsBounded (λ w h actor c x there is. subst AreBounded (sym (books_after x c.pass w.books)) (ask_bounded x (books_in w.books) h)) (λ w h over. h)
 
   pub always_bounded : (start : Start) (turns : List Turn) (s : Side) → length (send_of s (books_in (world_run k turns (opened_world start)).books)).written ≤ 2 ^ 62 - 3
   always_bounded start turns = run_bounded turns (opened_world start) none

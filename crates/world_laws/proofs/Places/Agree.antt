@@ -1,16 +1,7 @@
 -- No mapping that an end of a path hears gives a position another place than the one that it learned.
-use Rattle.std.proofs.Common.{sym, subst, arith}
-use Rattle.sides.specs.declared.side.Side.{Side}
-use Rattle.stream_lanes.proofs.Lists.{in_map}
-use Rattle.path_core.specs.State.{end_at}
-use Rattle.path_core.specs.Values.{Carried, values}
-use Rattle.world_laws.specs.declared.member.Member.TheVariants.{App, Path}
-use Rattle.world_laws.specs.Actors.{Actor}
+use Rattle.world_laws.proofs.Words.{sym, subst, arith, Side, end_at, Carried, values, in_map, App, Path, Actor, Start, opened_world, WorldState, world_run}
+use Rattle.world_laws.proofs.Words.{HoldsAnywayOfOctets, HoldsAnyway, shown_crew, shown_member, shown_world}
 use Rattle.world_laws.specs.Agreement.{EndsAgree, MappingsAgree, NothingClashes}
-use Rattle.world_laws.specs.Fresh.{shown_crew, shown_member, shown_world}
-use Rattle.world_laws.specs.Openings.{Start, opened_world}
-use Rattle.world_laws.specs.Promises.{HoldsAnyway, HoldsAnywayOfOctets}
-use Rattle.world_laws.specs.Worlds.{WorldState, world_run}
 use Rattle.world_laws.proofs.Lanes.Beginning.{each_run_shows}
 use Rattle.world_laws.proofs.Worlds.CastLifting.{each_actor}
 use Rattle.world_laws.proofs.Lanes.OfAWorld.{anyhow_free, free_run, Links, WorldShows, anyhow}

@@ -1,32 +1,15 @@
 -- A byte is granted to a path once at most: what the actors noted of grants stands in the journals of the send books.
-use Rattle.std.proofs.Common.{◌≡◌, refl, sym, ◌∙◌, ap, ℕ, zero, suc, ◌+◌, Bool, true, false, ◌&&◌, if◌then◌else◌, Option, Some, None, List, [], ◌∷◌, ◌++◌, map, set, fold, get_or, arith}
-use Rattle.std.specs.List.{slice_get, count_by}
-use Rattle.std.proofs.lemmas.List.{map-append}
-use Rattle.std.proofs.lemmas.List.Sums.{sum_by-set, sum_by_push}
-use Rattle.std.proofs.lemmas.Option.{same_Some, slice_get_within}
-use Rattle.sides.specs.declared.side.Side.{Side}
-use Rattle.sides.specs.declared.side.Side.TheVariants.{A, B}
-use Rattle.stamped_book.specs.declared.stamped.Entry.{Entry}
-use Rattle.stamped_book.specs.declared.stamped.Pass.{Pass}
-use Rattle.stamped_book.specs.Journal.{replay, book_of}
-use Rattle.stamped_book.specs.Entering.{entry_of, after_entering}
-use Rattle.send_book.specs.declared.call.SendCall.{SendCall}
-use Rattle.send_book.specs.declared.call.SendReply.{SendReply}
-use Rattle.send_book.specs.State.{Sending}
+use Rattle.world_laws.proofs.Words.{◌≡◌, refl, sym, ◌∙◌, ap, ℕ, zero, suc, ◌+◌, ◌&&◌, Bool, if◌then◌else◌, Option, Some, None, List, [], ◌∷◌, ◌++◌, map, arith}
+use Rattle.world_laws.proofs.Words.{set, get_or, map-append, same_Some, slice_get_within, count_by, slice_get, sum_by-set, sum_by_push, Entry, Pass, entry_of}
+use Rattle.world_laws.proofs.Words.{after_entering, book_of, replay, Side, A, B, SendCall, Sending, SendReply, Ask, Note, StampedBooks, after_entry}
+use Rattle.world_laws.proofs.Words.{SendJournal, pick, Codec, ActorCrew, Always, PathPlan, Start, paths_from, opened_world, WorldState, Turn}
+use Rattle.world_laws.proofs.Words.{crew_after, asked, greatest, begins, world_run, note_of}
+use Rattle.world_laws.proofs.Worlds.Turns.{run_so}
+use Rattle.std.proofs.Common.{fold}
 use Rattle.send_book.specs.Steps.{reply_to, after_call}
 use Rattle.send_book.specs.Laws.{after_calls, is_asked_by, covers, times_granted as times_called}
 use Rattle.send_book.proofs.Grants.{granted_at_most_once}
-use Rattle.actor_desk.specs.declared.ask.Ask.{Ask}
-use Rattle.actor_desk.specs.declared.ask.Ask.TheVariants as asks
-use Rattle.actor_desk.specs.declared.ask.Note.{Note}
-use Rattle.actor_desk.specs.Books.{SendJournal, StampedBooks, after_entry}
-use Rattle.actor_desk.specs.Words.{pick}
-use Rattle.path_core.specs.Codec.{Codec}
-use Rattle.world_laws.specs.Actors.{ActorCrew, member_asks}
 use Rattle.world_laws.specs.Granted.{grants_byte, times_granted, GrantedOnce}
-use Rattle.world_laws.specs.Laws.{Always}
-use Rattle.world_laws.specs.Openings.{PathPlan, Start, paths_from, opened_world}
-use Rattle.world_laws.specs.Worlds.{WorldState, Turn, note_of, crew_after, asked, stepped, all_over, greatest, begins, after_turn, world_run}
 
 abbrev bit : Bool → ℕ
 bit b = if b then 1 else 0
@@ -68,20 +51,20 @@ module _ (path place : ℕ) where
 
   entered : (s : Side) (pass : Pass) (ask : Ask) (books : StampedBooks)
       → in_journal (journal_at s (after_entry ask pass books)) ≡ in_journal (journal_at s books) + bit (grants_byte s path place (note_of books pass ask))
-  entered A pass (asks.Send A call) books = journal_more books.send_a pass call
-  entered A pass (asks.Send B call) books = nothing_more _
-  entered A pass (asks.Reassembly A call) books = nothing_more _
-  entered A pass (asks.Reassembly B call) books = nothing_more _
-  entered A pass (asks.Control A call) books = nothing_more _
-  entered A pass (asks.Control B call) books = nothing_more _
-  entered A pass (asks.Local step) books = nothing_more _
-  entered B pass (asks.Send B call) books = journal_more books.send_b pass call
-  entered B pass (asks.Send A call) books = nothing_more _
-  entered B pass (asks.Reassembly A call) books = nothing_more _
-  entered B pass (asks.Reassembly B call) books = nothing_more _
-  entered B pass (asks.Control A call) books = nothing_more _
-  entered B pass (asks.Control B call) books = nothing_more _
-  entered B pass (asks.Local step) books = nothing_more _
+  entered A pass (Ask.Send A call) books = journal_more books.send_a pass call
+  entered A pass (Ask.Send B call) books = nothing_more _
+  entered A pass (Ask.Reassembly A call) books = nothing_more _
+  entered A pass (Ask.Reassembly B call) books = nothing_more _
+  entered A pass (Ask.Control A call) books = nothing_more _
+  entered A pass (Ask.Control B call) books = nothing_more _
+  entered A pass (Ask.Local step) books = nothing_more _
+  entered B pass (Ask.Send B call) books = journal_more books.send_b pass call
+  entered B pass (Ask.Send A call) books = nothing_more _
+  entered B pass (Ask.Reassembly A call) books = nothing_more _
+  entered B pass (Ask.Reassembly B call) books = nothing_more _
+  entered B pass (Ask.Control A call) books = nothing_more _
+  entered B pass (Ask.Control B call) books = nothing_more _
+  entered B pass (Ask.Local step) books = nothing_more _
 
   -- ---- the lists of all actors
 
@@ -114,10 +97,6 @@ module _ (path place : ℕ) where
         let journal = entered s c.pass x w.books in
         record { same = lists ∙ ap (λ m. m + bit (grants_byte s path place n)) h.same ∙ sym journal }
 
-    same_lists : (stamp : ℕ) (crew : List (ActorCrew C)) → map in_list (map (begins stamp) crew) ≡ map in_list crew
-    same_lists stamp [] = refl
-    same_lists stamp (c ∷ crew) = ap (λ ns. in_list c ∷ ns) (same_lists stamp crew)
-
     same_sum : (stamp : ℕ) (crew : List (ActorCrew C)) → times_granted s path place (map (begins stamp) crew) ≡ times_granted s path place crew
     same_sum stamp crew = same_from 0 crew
       where
@@ -125,21 +104,9 @@ module _ (path place : ℕ) where
         same_from m [] = refl
         same_from m (c ∷ crew) = same_from (m + in_list c) crew
 
-    turn_counted : (turn : Turn) (w : WorldState C) → Counted w → Counted (after_turn k turn w)
-    turn_counted (Turn.Step actor) w h = by (slice_get w.crew actor) refl
-      where
-        by : (o : Option (ActorCrew C)) → slice_get w.crew actor ≡ o → Counted (stepped k actor o w)
-        by None there = h
-        by (Some c) there = asked_counted actor (member_asks k c.member) c w there h
-    turn_counted Turn.Round w h = by (all_over w.crew)
-      where
-        by : (b : Bool) → Counted (if b then record w { crew = map (begins (greatest 0 w.crew)) w.crew } else w)
-        by true = record { same = same_sum (greatest 0 w.crew) w.crew ∙ h.same }
-        by false = h
-
     run_counted : (turns : List Turn) (w : WorldState C) → Counted w → Counted (world_run k turns w)
-    run_counted [] w h = h
-    run_counted (turn ∷ turns) w h = run_counted turns (after_turn k turn w) (turn_counted turn w h)
+    run_counted = run_so k Counted (λ w h actor c x there is. asked_counted actor (Some x) c w there h)
+        (λ w h over. record { same = same_sum (greatest 0 w.crew) w.crew ∙ h.same })
 
 -- no path has noted anything
 none_noted : (C : Type 0) (s : Side) (path place : ℕ) (start : Start) (first : ℕ) (plans : List PathPlan) → times_granted s path place (paths_from {C = C} start first plans) ≡ 0

@@ -1,34 +1,15 @@
 -- The places that an end learned are those of its lane's record, so no mapping that it hears clashes with them.
-use Rattle.std.proofs.Common.{◌≡◌, ap, ℕ, ◌+◌, ◌-◌, false, is_some, Option, Some, None, List, arith, subst, sym}
+use Rattle.world_laws.proofs.Words.{◌≡◌, sym, ap, subst, ℕ, ◌+◌, ◌-◌, false, Option, Some, None, List, arith, is_some, slice_get, IfSome, Side, A, B}
+use Rattle.world_laws.proofs.Words.{ScriptLine, KeptMapping, Mappings, run_of, place_at, place_in, PlainSegment, meant, window_told, Reply, SixBooks, PathStart}
+use Rattle.world_laws.proofs.Words.{waiting_path, first_turn, PathState, end_at, takes, next_round, Carried, values, held_of, Profile, Every-map, Every-nil}
+use Rattle.world_laws.proofs.Words.{Holds, LaneHolds, Lane, View}
 use Rattle.std.specs.FinMap.{get-empty}
-use Rattle.std.specs.List.{slice_get}
-use Rattle.std.specs.Option.{IfSome}
 use Rattle.std.specs.Ordering.{nat_cmp}
-use Rattle.sides.specs.declared.side.Side.{Side}
-use Rattle.sides.specs.declared.side.Side.TheVariants.{A, B}
-use Rattle.dss_mapping.specs.declared.kept.KeptMapping.{KeptMapping}
 use Rattle.dss_mapping.specs.declared.run.Run.{Run}
 use Rattle.dss_mapping.specs.Learning.{clashes}
-use Rattle.dss_mapping.specs.Mappings.{Mappings, run_of, place_at}
-use Rattle.dss_mapping.specs.Runs.{place_in}
 use Rattle.dss_mapping.proofs.Answered.{clash-none}
-use Rattle.path_segments.specs.Laws.{meant, window_told}
-use Rattle.path_segments.specs.Spelled.{PlainSegment}
-use Rattle.stream_lanes.specs.Lane.{Lane}
-use Rattle.stream_lanes.specs.View.{View}
-use Rattle.actor_desk.specs.declared.ask.Reply.{Reply}
-use Rattle.path_core.specs.DssIn.{held_of}
-use Rattle.path_core.specs.Values.{Carried, values}
 use Rattle.world_laws.proofs.Lanes.Arriving.{options_hold}
 use Rattle.world_laws.proofs.Lanes.Showing.{FlightShows, PathShows}
-use Rattle.link_script.specs.declared.script.ScriptLine.{ScriptLine}
-use Rattle.stream_lanes.specs.Holding.{LaneHolds, Holds}
-use Rattle.stream_lanes.proofs.Lists.{Every-map, Every-nil}
-use Rattle.actor_desk.specs.Desk.{SixBooks}
-use Rattle.path_core.specs.Start.{PathStart, waiting_path, first_turn}
-use Rattle.path_core.specs.State.{PathState, end_at}
-use Rattle.path_core.specs.Profile.{Profile}
-use Rattle.path_core.specs.Steps.{takes, next_round}
 use Rattle.world_laws.specs.Agreement.{NothingClashes}
 use Rattle.world_laws.proofs.Lanes.OfAWorld.{Others, duo_at}
 use Rattle.world_laws.proofs.Places.StepsKeep.{Tells, Knows, AllTell, CopiesTell, end_knows, takes_knows, begins_knows, more_known}

@@ -1,40 +1,28 @@
 -- The record of what a lane was granted only gets longer, and the mappings of what was sent on it tell its places.
-use Rattle.std.proofs.Common.{◌≡◌, refl, sym, ◌∙◌, ap, subst, ℕ, suc, ◌+◌, ◌-◌, ⊎_elim, Bool, true, false, ◌||◌, ◌&&◌, ◌==◌, nat_lt, nat_le, min, if◌then◌else◌, Option, Some, None, Result, Ok, Err, List, [], ◌∷◌, ◌++◌, length, set, arith}
-use Rattle.std.proofs.lemmas.Bool.{cases_eq}
-use Rattle.std.proofs.lemmas.List.{append-nil, append_assoc, map-append}
-use Rattle.std.proofs.lemmas.Option.{same_Some}
-use Rattle.std.specs.List.{slice_get}
-use Rattle.sides.specs.declared.side.Side.{Side}
-use Rattle.sides.specs.declared.side.Side.TheVariants.{A, B}
-use Rattle.std.specs.Option.{IfSome}
-use Rattle.dss_mapping.specs.declared.kept.KeptMapping.{KeptMapping}
-use Rattle.dss_mapping.specs.Mappings.{run_of, octets_of}
-use Rattle.send_book.specs.declared.call.SendCall.TheVariants.{AckIn, GoIdentity as GoIdentityBook, GoInfinite as GoInfiniteBook}
-use Rattle.send_book.specs.declared.call.Span.{Span}
-use Rattle.send_book.specs.declared.call.Why.{Why}
-use Rattle.send_book.specs.State.{Sending, acked_len}
-use Rattle.send_book.specs.Steps.{decision, reply_by, reply_to as send_reply, after_call as after_send}
-use Rattle.reassembly_book.specs.declared.call.ReassemblyCall.TheVariants.{Place, Fin, AckOut}
-use Rattle.reassembly_book.specs.declared.call.ReassemblyReply.{ReassemblyReply}
+use Rattle.world_laws.proofs.Words.{◌≡◌, refl, sym, ◌∙◌, ap, subst, ℕ, suc, ◌+◌, ◌-◌, ◌&&◌, ◌||◌, ◌==◌, min, nat_lt, nat_le, ⊎_elim, Bool, true, false}
+use Rattle.world_laws.proofs.Words.{if◌then◌else◌, Option, Some, None, Result, Ok, Err, List, [], ◌∷◌, ◌++◌, length, arith, set, cases_eq, append-nil}
+use Rattle.world_laws.proofs.Words.{append_assoc, map-append, same_Some, slice_get, IfSome, Side, A, B, ReassemblyReply, arrival_reply, Place, AckOut, Span}
+use Rattle.world_laws.proofs.Words.{Why, Sending, acked_len, decision, reply_by, after_send, send_reply, AckIn, GoInfiniteBook, GoIdentityBook, SendReply}
+use Rattle.world_laws.proofs.Words.{KeptMapping, run_of, PathState, Carried, Profile, in_more, set_same, set_other, Duo, after_events, after_event, flags_ab}
+use Rattle.world_laws.proofs.Words.{flags_ba, IsRight, LaneHolds, Cell, Mapping, Pair, DataCopy, AckCopy, Lane, View, Direction, StreamEvent, reads, asks}
+use Rattle.world_laws.proofs.Words.{asks_at, is_done, with_send, goes_infinite, may_go, ToB, ToA, Flags, Move, moved, place_by, shifted, is_whole, sends_pair}
+use Rattle.world_laws.proofs.Words.{sends_fin_pair, takes_pair, places_pair, ends_pair, hears, sends_piece, sends_altered, altered_piece_of, keeps, learns}
+use Rattle.world_laws.proofs.Words.{learns_mapping, hears_data_fin, hears_fin, places, passes, lies_in, ack_copy, places_of, takes_grant, takes_ack}
+use Rattle.world_laws.proofs.Words.{takes_placed, takes_fin, takes_ack_out, Nothing, AskGrant, AskAckIn, AskPlace, AskFin, AskAckOut, GoIdentity, Moves, Asks}
+use Rattle.world_laws.proofs.Words.{Open, LookAtSender, LookAtReceiver, WantGrant, HearAck, HearSubAck, SendPiece, SendAltered, SendDataFin, SendFin, SendPair}
+use Rattle.world_laws.proofs.Words.{SendPlainPair, SendFinPair, Hear, HearDataFin, HearFin, Forget, WantPlace, WantPlacePlain, WantFin, TakePair, WantPlacePair}
+use Rattle.world_laws.proofs.Words.{WantFinPair, WantAckOut, SendAck}
+use Rattle.dss_mapping.specs.Mappings.{octets_of}
+use Rattle.reassembly_book.specs.declared.call.ReassemblyCall.TheVariants.{Fin}
 use Rattle.reassembly_book.specs.declared.call.ReassemblyReply.TheVariants.{Placed, FinSet, Ack}
-use Rattle.send_book.specs.declared.call.SendReply.{SendReply}
 use Rattle.send_book.specs.declared.call.SendReply.TheVariants.{Acked}
-use Rattle.reassembly_book.specs.Steps.{reply_to as arrival_reply}
-use Rattle.stream_lanes.specs.Holding.{IsRight, LaneHolds}
-use Rattle.stream_lanes.specs.Lane.{Cell, Mapping, Pair, DataCopy, AckCopy, Ask, Lane}
-use Rattle.stream_lanes.specs.Lane.Ask.{Nothing, AskGrant, AskAckIn, AskPlace, AskFin, AskAckOut}
-use Rattle.stream_lanes.specs.Moves.{Flags, Move, moved, place_by, shifted, is_whole, hears_sub, sends_pair, sends_fin_pair, takes_pair, places_pair, ends_pair, hears, sends_piece, sends_altered, altered_piece_of, keeps, clashes, learns, learns_mapping, hears_data_fin, hears_fin, places, passes, lies_in, in_order, may_finish, ack_copy, places_of, takes_grant, takes_ack, takes_placed, takes_fin, takes_ack_out}
-use Rattle.stream_lanes.specs.Moves.Move.{Open, LookAtSender, LookAtReceiver, WantGrant, HearAck, HearSubAck, SendPiece, SendAltered, SendDataFin, SendFin, SendPair, SendPlainPair, SendFinPair, Hear, Learn, HearDataFin, HearFin, Forget, WantPlace, WantPlacePlain, WantFin, TakePair, WantPlacePair, WantFinPair, WantAckOut, SendAck}
-use Rattle.stream_lanes.specs.Streams.{Direction, StreamEvent, moves, reads, asks, asks_at, after, is_done, with_send, goes_infinite, may_go}
-use Rattle.stream_lanes.specs.Streams.StreamEvent.{Write, Close, Return, GoIdentity, GoInfinite, AbortSend, Read, AbortRead, Moves, Asks}
-use Rattle.stream_lanes.specs.Duo.{Duo, Event, flags_ab, flags_ba, after_event, after_events}
-use Rattle.stream_lanes.specs.Duo.Event.{ToB, ToA, FallA, FallB, LoosenA, LoosenB, BeginJoin, SendJoin, HearJoin}
-use Rattle.stream_lanes.specs.View.{View}
+use Rattle.stream_lanes.specs.Lane.{Ask}
+use Rattle.stream_lanes.specs.Moves.{hears_sub, clashes, in_order, may_finish}
+use Rattle.stream_lanes.specs.Moves.Move.{Learn}
+use Rattle.stream_lanes.specs.Streams.{moves, after}
+use Rattle.stream_lanes.specs.Streams.StreamEvent.{GoInfinite, Read}
+use Rattle.stream_lanes.specs.Duo.{Event}
 use Rattle.stream_lanes.proofs.Directions.{moved_sent, acked_sent, placed_sent, fin_sent}
-use Rattle.stream_lanes.proofs.Lists.{in_more, set_same, set_other}
-use Rattle.path_core.specs.State.{PathState}
-use Rattle.path_core.specs.Profile.{Profile}
-use Rattle.path_core.specs.Values.{Carried}
 use Rattle.world_laws.proofs.Places.StepsKeep.{Tells, PathKnows}
 use Rattle.world_laws.proofs.Lanes.Showing.{HeldShows}
 
@@ -247,16 +235,12 @@ module _ (f : Flags) (number : ℕ) (p : Lane) (d : Direction) (h : Lasts number
       by_may false = h
 
   after_lasts : (event : StreamEvent) → Lasts number p (after f event d)
-  after_lasts (Write bytes) = stays _ refl
-  after_lasts Close = stays _ refl
-  after_lasts (Return path) = stays _ refl
   after_lasts GoIdentity = identity_lasts f.sender
   after_lasts (GoInfinite path pos) = infinite_lasts path pos (slice_get d.lanes path) refl
-  after_lasts AbortSend = stays _ refl
   after_lasts (Read max) = reads_on max (is_done d.reader)
-  after_lasts (AbortRead by_peer) = stays _ refl
   after_lasts (Moves path move) = moves_last path move (slice_get d.lanes path) refl
   after_lasts (Asks path) = asks_last path (slice_get d.lanes path) refl
+  after_lasts _ = stays _ refl
 
 -- ---- both directions
 
@@ -267,13 +251,7 @@ pub record BothLast (number : ℕ) (p q : Lane) (d : Duo) : Type 0 where
 duo_lasts : (event : Event) (number : ℕ) (p q : Lane) (d : Duo) → BothLast number p q d → BothLast number p q (after_event event d)
 duo_lasts (ToB event) number p q d h = record { ab = after_lasts (flags_ab d.modes) number p d.ab h.ab event; ba = h.ba }
 duo_lasts (ToA event) number p q d h = record { ab = h.ab; ba = after_lasts (flags_ba d.modes) number q d.ba h.ba event }
-duo_lasts FallA number p q d h = record { ab = h.ab; ba = h.ba }
-duo_lasts FallB number p q d h = record { ab = h.ab; ba = h.ba }
-duo_lasts LoosenA number p q d h = record { ab = h.ab; ba = h.ba }
-duo_lasts LoosenB number p q d h = record { ab = h.ab; ba = h.ba }
-duo_lasts BeginJoin number p q d h = record { ab = h.ab; ba = h.ba }
-duo_lasts SendJoin number p q d h = record { ab = h.ab; ba = h.ba }
-duo_lasts HearJoin number p q d h = record { ab = h.ab; ba = h.ba }
+duo_lasts _ number p q d h = record { ab = h.ab; ba = h.ba }
 
 pub all_last : (events : List Event) (number : ℕ) (p q : Lane) (d : Duo) → BothLast number p q d → BothLast number p q (after_events events d)
 all_last [] number p q d h = h

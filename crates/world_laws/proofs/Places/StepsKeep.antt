@@ -1,66 +1,26 @@
 -- The places that the ends of a path learned are those of a record, and so are those of the mappings that they heard: every step
 -- of the path keeps it, where the mappings of the copies under way tell the record's places.
-use Rattle.std.proofs.Common.{◌≡◌, refl, sym, subst, ap, ℕ, suc, ◌<◌, ◌≤◌, ◌&&◌, ◌==◌, nat_le, nat_lt, Bool, true, false, cond, if◌then◌else◌, Option, Some, None, List, [], ◌∷◌}
-use Rattle.std.proofs.lemmas.Bool.{and_parts, leb-true, ltb-true}
-use Rattle.std.specs.Option.{IfSome}
-use Rattle.sides.specs.declared.side.Side.{Side}
-use Rattle.sides.specs.declared.side.Side.TheVariants.{A, B}
-use Rattle.dss_mapping.specs.declared.kept.KeptMapping.{KeptMapping}
+use Rattle.world_laws.proofs.Words.{◌≡◌, refl, sym, ap, subst, ℕ, suc, ◌≤◌, ◌&&◌, ◌==◌, nat_lt, nat_le, Bool, true, false, cond, if◌then◌else◌, Option, Some}
+use Rattle.world_laws.proofs.Words.{None, List, [], ◌∷◌, ◌<◌, ltb-true, and_parts, leb-true, IfSome, Side, A, B, same_side, ReassemblyReply, KeptMapping}
+use Rattle.world_laws.proofs.Words.{Mappings, run_of, after_learn, place_at, after_forget, others_of, learn_of, learned_if, after_skip_held, after_learn_held}
+use Rattle.world_laws.proofs.Words.{covers, place_in, is_dead, is_due, arriving, after_delivery, Flight, PlainSegment, meant, LineAction, Piece, emission}
+use Rattle.world_laws.proofs.Words.{leaves, resets, Duty, SendDuty, StepDuty, AskDuty, SilentDuty, Heard, KeyPair, Reply, tail_of, passed, answered, PathEnd}
+use Rattle.world_laws.proofs.Words.{died, answered_ack_out, window_in, at_tick, PathState, end_at, goes_on, with_end, with_agenda, takes, begins_turn, Carried}
+use Rattle.world_laws.proofs.Words.{values, heard_in, copy_heard, told_at, reset_of, reset_on, answered_break, died_unless_dead, next_event, after_line}
+use Rattle.world_laws.proofs.Words.{happens_if, join_begun, never_joined, is_never, keys_begun, opened_by, piece_of, is_placed, answered_piece, is_clash}
+use Rattle.world_laws.proofs.Words.{with_learned, held_of, answered_heard, answered_item, item_of, item_passed, after_fell, fell_duties, sent_on, Every-nil}
+use Rattle.world_laws.proofs.Words.{Every, if_so, Writes, OnlyAt, EndView, writes, side_of}
 use Rattle.dss_mapping.specs.declared.learn.Learn.{Learn}
 use Rattle.dss_mapping.specs.declared.learn.Learn.TheVariants.{New, Same, Clash}
 use Rattle.dss_mapping.specs.declared.run.Run.{Run}
-use Rattle.dss_mapping.specs.Learning.{first_of, others_of, learn_of, learned_if, after_skip_held, after_learn_held}
-use Rattle.dss_mapping.specs.Mappings.{Mappings, run_of, place_at, after_learn, after_forget}
-use Rattle.dss_mapping.specs.Runs.{covers, place_in}
+use Rattle.dss_mapping.specs.Learning.{first_of}
 use Rattle.dss_mapping.proofs.LawsProved.{learned_places}
-use Rattle.link_script.specs.Places.{same_side}
-use Rattle.link_model.specs.declared.flight.Flight.{Flight}
-use Rattle.link_model.specs.Steps.{is_due, arriving, after_delivery}
-use Rattle.path_segments.specs.Laws.{meant}
-use Rattle.path_segments.specs.Spelled.{PlainSegment}
 use Rattle.fallback_state.specs.declared.fall.Event.TheVariants as events
-use Rattle.reassembly_book.specs.declared.call.ReassemblyReply.{ReassemblyReply}
-use Rattle.reassembly_book.specs.declared.call.ReassemblyReply.TheVariants as reassembly_replies
-use Rattle.subflow_tcp.specs.States.{is_dead}
-use Rattle.stream_lanes.specs.Words.{Every}
-use Rattle.stream_lanes.proofs.Lists.{Every-nil}
-use Rattle.actor_desk.specs.declared.ask.Reply.{Reply}
-use Rattle.actor_desk.specs.declared.ask.Reply.TheVariants as replies
-use Rattle.actor_desk.specs.Words.{tail_of}
-use Rattle.path_agenda.specs.declared.duty.Duty.{Duty}
-use Rattle.path_agenda.specs.declared.duty.Duty.TheVariants as duties
-use Rattle.path_agenda.specs.declared.duty.AskDuty.TheVariants as ask_duties
-use Rattle.path_agenda.specs.declared.duty.SendDuty.TheVariants as send_duties
-use Rattle.path_agenda.specs.declared.duty.SilentDuty.TheVariants as silent_duties
-use Rattle.path_agenda.specs.declared.duty.StepDuty.TheVariants as step_duties
-use Rattle.path_agenda.specs.declared.heard.Heard.{Heard}
-use Rattle.path_agenda.specs.declared.heard.Heard.TheVariants as says
-use Rattle.path_agenda.specs.Agenda.{emission, leaves, resets}
-use Rattle.path_agenda.specs.declared.keys.KeyPair.{KeyPair}
 use Rattle.path_core.specs.declared.events.Event.{Event}
-use Rattle.path_core.specs.declared.events.Event.TheVariants as happenings
-use Rattle.path_core.specs.DssIn.{held_of, with_learned, with_skipped, counts, is_clash, with_data_fin}
-use Rattle.path_core.specs.Breaking.{reset_of, reset_on, answered_break, died_unless_dead}
-use Rattle.path_core.specs.Duties.{passed, answered}
-use Rattle.path_core.specs.End.{PathEnd, died}
 use Rattle.path_store.specs.Receiving.{Receiving}
-use Rattle.path_core.specs.Events.{next_event, after_line, happens_if}
-use Rattle.path_core.specs.Arrival.{heard_in, copy_heard, told_at}
-use Rattle.path_core.specs.State.{at_tick, PathState, end_at, with_end, with_agenda, goes_on}
-use Rattle.path_core.specs.MpJoin.{join_begun, never_joined, is_never, keys_begun, opened_by}
-use Rattle.path_store.specs.declared.lines.LineAction.{LineAction}
-use Rattle.path_store.specs.declared.lines.LineAction.TheVariants as actions
-use Rattle.path_core.specs.Deliver.{is_placed, piece_of, answered_piece}
-use Rattle.path_store.specs.Passing.{Piece}
-use Rattle.path_core.specs.Handover.{sent_on}
-use Rattle.path_core.specs.Standing.{window_in, answered_ack_out}
-use Rattle.path_core.specs.Steps.{takes, begins_turn}
-use Rattle.path_core.specs.Treating.{answered_heard, answered_item, item_of, item_passed}
-use Rattle.path_core.specs.Values.{Carried, values}
-use Rattle.path_core.specs.Fallback.{after_fell, fell_duties}
+use Rattle.world_laws.proofs.Writes.Ends.{item_so}
 use Rattle.world_laws.proofs.Worlds.Finding.{find_every, one_side}
 use Rattle.world_laws.proofs.Falls.FailedChecks.{infinite_came_so, fail_answered_so}
-use Rattle.world_laws.specs.Writes.{EndView, Writes, OnlyAt, writes, side_of}
 use Rattle.world_laws.proofs.Writes.Paths.{writes_no_more, passes_no_more}
 use Rattle.world_laws.proofs.Writes.Steps.{both_ends, Lasts, unwritten, takes_lasts, begins_lasts}
 
@@ -114,13 +74,13 @@ module _ (R : ℕ → ℕ → Type 0) where
 
 -- the window changes no mapping
 window_same : (r : Reply) (v : Receiving) → (window_in r v).mappings ≡ v.mappings
-window_same (replies.Send reply) v = refl
-window_same (replies.Control reply) v = refl
-window_same replies.Done v = refl
-window_same (replies.Reassembly reply) v = by reply
+window_same (Reply.Send reply) v = refl
+window_same (Reply.Control reply) v = refl
+window_same Reply.Done v = refl
+window_same (Reply.Reassembly reply) v = by reply
   where
-    by : (reply : ReassemblyReply) → (window_in (replies.Reassembly reply) v).mappings ≡ v.mappings
-    by (reassembly_replies.Ack next window) = refl
+    by : (reply : ReassemblyReply) → (window_in (Reply.Reassembly reply) v).mappings ≡ v.mappings
+    by (ReassemblyReply.Ack next window) = refl
     by _ = refl
 
 -- ---- a path; the end of each side has a record
@@ -169,26 +129,7 @@ module _ (R : Side → ℕ → ℕ → Type 0) where
   -- ---- duties that come to nothing
 
   item_knows : (s : Side) (o : Option Heard) (e : PathEnd) → EndKnows s e → EndKnows s (item_passed s o e)
-  item_knows s None e h = h
-  item_knows s (Some says.Dss) e h = h
-  item_knows s (Some (says.DataAck next window)) e h = h
-  item_knows s (Some (says.Mapping fin)) e h = by (counts e)
-    where
-      by : (b : Bool) → EndKnows s (if b then with_learned e else with_skipped e)
-      by true = learned_held (R s) e.receiving.mappings h
-      by false = skipped_knows (R s) e.receiving.mappings h
-  item_knows s (Some (says.DataFin place)) e h = by (counts e)
-    where
-      by : (b : Bool) → EndKnows s (if b then with_data_fin place e else e)
-      by true = h
-      by false = h
-  item_knows s (Some (says.InfiniteMapping place position)) e h = h
-  item_knows s (Some (says.PeerKey key)) e h = h
-  item_knows s (Some (says.Keys own other)) e h = h
-  item_knows s (Some (says.Join form)) e h = h
-  item_knows s (Some (says.Notice notice)) e h = h
-  item_knows s (Some says.Fail) e h = h
-  item_knows s (Some (says.FastClose key)) e h = h
+  item_knows s o e h = item_so (EndKnows s) s o e h h (λ next. h) (learned_held (R s) e.receiving.mappings h) (skipped_knows (R s) e.receiving.mappings h) (λ place. h)
 
   -- where the mappings may be written at neither end
   kept_by : (s : Side) (w : Writes) (p q : PathState Carried) → w.own.mappings ≡ false → w.other.mappings ≡ false → OnlyAt s w p q → PathKnows p → PathKnows q
@@ -199,27 +140,23 @@ module _ (R : Side → ℕ → ℕ → Type 0) where
       record { a = subst (Knows (R A)) (sym both.0) h.a; b = subst (Knows (R B)) (sym both.1) h.b }
 
   passed_knows : (d : Duty) (p : PathState Carried) → PathKnows p → PathKnows (passed d p)
-  passed_knows (duties.Step (step_duties.Heard s index)) p h = with_own s _ p (item_knows s (item_of index (end_at s p)) (end_at s p) (end_knows s p h)) h
-  passed_knows (duties.Step step_duties.Events) p h = h
-  passed_knows (duties.Ask (ask_duties.Edge s)) p h = h
-  passed_knows (duties.Send d) p h = h
-  passed_knows (duties.Silent (silent_duties.Timer s)) p h = with_own s _ p (end_knows s p h) h
+  passed_knows (Duty.Step (StepDuty.Heard s index)) p h = with_own s _ p (item_knows s (item_of index (end_at s p)) (end_at s p) (end_knows s p h)) h
+  passed_knows (Duty.Step StepDuty.Events) p h = h
+  passed_knows (Duty.Ask (AskDuty.Edge s)) p h = h
+  passed_knows (Duty.Send d) p h = h
+  passed_knows (Duty.Silent (SilentDuty.Timer s)) p h = with_own s _ p (end_knows s p h) h
   passed_knows d p h = kept_by (side_of d) (writes d) p _ refl refl (passes_no_more d p) h
 
   -- ---- events
 
   unless_dead : (s : Side) (e : PathEnd) → EndKnows s e → EndKnows s (died_unless_dead e)
-  unless_dead s e h = by (is_dead e.tcp.state)
-    where
-      by : (b : Bool) → EndKnows s (if b then e else died e)
-      by true = h
-      by false = h
+  unless_dead s e h = if_so (EndKnows s) (is_dead e.tcp.state) e (died e) h h
 
   line_knows : (action : LineAction) (p : PathState Carried) → PathKnows p → PathKnows (after_line action p)
-  line_knows actions.Die p h = record { a = unless_dead A p.a h.a; b = unless_dead B p.b h.b }
-  line_knows (actions.Prio s backup) p h = same_goes s _ _ p refl h
-  line_knows (actions.Announce s id) p h = agenda _ p h
-  line_knows (actions.Withdraw s id) p h = agenda _ p h
+  line_knows LineAction.Die p h = record { a = unless_dead A p.a h.a; b = unless_dead B p.b h.b }
+  line_knows (LineAction.Prio s backup) p h = same_goes s _ _ p refl h
+  line_knows (LineAction.Announce s id) p h = agenda _ p h
+  line_knows (LineAction.Withdraw s id) p h = agenda _ p h
 
   copy_knows : (s : Side) (o : Option (Flight Carried)) (q p : PathState Carried)
       → ((f : Flight Carried) → o ≡ Some f → AllTell (R s) (held_of p.profile s (meant f.carried.segment))) → PathKnows p → PathKnows (copy_heard s (heard_in values s o q) p)
@@ -246,10 +183,10 @@ module _ (R : Side → ℕ → ℕ → Type 0) where
 
   event_knows : (o : Option Event) (r : Reply) (p : PathState Carried) → CopiesTell p → PathKnows p → PathKnows (happens_if values o r p)
   event_knows None r p tell h = agenda _ p h
-  event_knows (Some (happenings.Joins tick)) r p tell h = begun_knows r (leaves A) (emission A) (record (at_tick tick p) { joined_at = None }) (record { a = h.a; b = h.b })
-  event_knows (Some (happenings.Takes line)) r p tell h =
+  event_knows (Some (Event.Joins tick)) r p tell h = begun_knows r (leaves A) (emission A) (record (at_tick tick p) { joined_at = None }) (record { a = h.a; b = h.b })
+  event_knows (Some (Event.Takes line)) r p tell h =
       line_knows line.action (record (at_tick line.tick p) { lines = tail_of p.lines }) (record { a = h.a; b = h.b })
-  event_knows (Some (happenings.Arrives due)) r p tell h =
+  event_knows (Some (Event.Arrives due)) r p tell h =
       copy_knows due.to (arriving due p.link) p (record (at_tick due.tick p) { link = after_delivery due p.link }) arrives (record { a = h.a; b = h.b })
     where
       arrives : (f : Flight Carried) → arriving due p.link ≡ Some f → AllTell (R due.to) (held_of p.profile due.to (meant f.carried.segment))
@@ -258,7 +195,7 @@ module _ (R : Side → ℕ → ℕ → Type 0) where
           let parts = and_parts (f.tick == due.tick) (same_side f.to due.to && f.number == due.copy) found.1 in
           let to = one_side f.to due.to (and_parts (same_side f.to due.to) (f.number == due.copy) parts.1).0 in
           subst (λ s. AllTell (R s) (held_of p.profile s (meant f.carried.segment))) to found.0
-  event_knows (Some (happenings.Fires s tick)) r p tell h = same_goes s _ _ (at_tick tick p) refl (record { a = h.a; b = h.b })
+  event_knows (Some (Event.Fires s tick)) r p tell h = same_goes s _ _ (at_tick tick p) refl (record { a = h.a; b = h.b })
 
   -- ---- replies
 
@@ -269,29 +206,22 @@ module _ (R : Side → ℕ → ℕ → Type 0) where
   reset_knows s reason ds p h = same_sent s (reset_of s reason p) (died (end_at s p)) ds p refl h
 
   break_knows : (s : Side) (reason : ℕ) (r : Reply) (p : PathState Carried) → PathKnows p → PathKnows (answered_break values s reason r p)
-  break_knows s reason r p h = by (end_at s p).treated.asked
-    where
-      by : (b : Bool) → PathKnows (if b then answered_ack_out s r (resets s reason) p else reset_on values s (Some reason) (leaves s) p)
-      by true = ack_out_knows s r (resets s reason) p h
-      by false = reset_knows s (Some reason) (leaves s) p h
+  break_knows s reason r p h =
+      if_so PathKnows (end_at s p).treated.asked (answered_ack_out s r (resets s reason) p) (reset_on values s (Some reason) (leaves s) p)
+      (ack_out_knows s r (resets s reason) p h) (reset_knows s (Some reason) (leaves s) p h)
 
   heard_knows : (s : Side) (item : Heard) (r : Reply) (p : PathState Carried) → PathKnows p → PathKnows (answered_heard values s item r p)
-  heard_knows s (says.DataAck next window) r p h = same_goes s _ _ p refl h
-  heard_knows s (says.Mapping fin) r p h = by (is_clash (end_at s p))
-    where
-      by : (b : Bool) → PathKnows (if b then answered_break values s 1 r p else goes_on s (with_learned (after_fell events.MappingHeard r (end_at s p))) (fell_duties s r p) p)
-      by true = break_knows s 1 r p h
-      by false = goes s _ _ p (learned_held (R s) (end_at s p).receiving.mappings (end_knows s p h)) h
-  heard_knows s (says.DataFin place) r p h = same_goes s _ _ p refl h
-  heard_knows s (says.InfiniteMapping place position) r p h =
+  heard_knows s (Heard.DataAck next window) r p h = same_goes s _ _ p refl h
+  heard_knows s (Heard.Mapping fin) r p h =
+      if_so PathKnows (is_clash (end_at s p)) (answered_break values s 1 r p) (goes_on s (with_learned (after_fell events.MappingHeard r (end_at s p))) (fell_duties s r p) p)
+      (break_knows s 1 r p h) (goes s _ _ p (learned_held (R s) (end_at s p).receiving.mappings (end_knows s p h)) h)
+  heard_knows s (Heard.DataFin place) r p h = same_goes s _ _ p refl h
+  heard_knows s (Heard.InfiniteMapping place position) r p h =
       infinite_came_so (λ e. PathKnows (goes_on s e (fell_duties s r p) p)) place position r (end_at s p) (λ other. same_goes s _ _ p refl h)
-  heard_knows s (says.Keys mine other) r p h = same_goes s _ _ p refl h
-  heard_knows s says.Dss r p h = agenda _ p h
-  heard_knows s (says.PeerKey key) r p h = agenda _ p h
-  heard_knows s (says.Join form) r p h = agenda _ p h
-  heard_knows s (says.Notice notice) r p h = same_goes s _ _ p refl h
-  heard_knows s says.Fail r p h = fail_answered_so PathKnows s r p (same_goes s _ _ p refl h) (same_goes s _ _ p refl h)
-  heard_knows s (says.FastClose key) r p h = agenda _ p h
+  heard_knows s (Heard.Keys mine other) r p h = same_goes s _ _ p refl h
+  heard_knows s (Heard.Notice notice) r p h = same_goes s _ _ p refl h
+  heard_knows s Heard.Fail r p h = fail_answered_so PathKnows s r p (same_goes s _ _ p refl h) (same_goes s _ _ p refl h)
+  heard_knows s _ r p h = agenda _ p h
 
   answered_item_knows : (s : Side) (o : Option Heard) (r : Reply) (p : PathState Carried) → PathKnows p → PathKnows (answered_item values s o r p)
   answered_item_knows s None r p h = agenda _ p h
@@ -303,19 +233,15 @@ module _ (R : Side → ℕ → ℕ → Type 0) where
   piece_knows s (Some piece) false p h = same_goes s _ _ p refl h
 
   answered_knows : (d : Duty) (r : Reply) (p : PathState Carried) → CopiesTell p → PathKnows p → PathKnows (answered values d r p)
-  answered_knows (duties.Step step_duties.Events) r p tell h = event_knows (next_event p) r p tell h
-  answered_knows (duties.Step (step_duties.Heard s index)) r p tell h = answered_item_knows s (item_of index (end_at s p)) r p h
-  answered_knows (duties.Ask (ask_duties.Edge s)) r p tell h = piece_knows s (piece_of s p) (is_placed r) p h
-  answered_knows (duties.Send (send_duties.Update s)) r p tell h = same_sent s _ _ _ p refl h
-  answered_knows (duties.Silent d) r p tell h = agenda _ p h
+  answered_knows (Duty.Step StepDuty.Events) r p tell h = event_knows (next_event p) r p tell h
+  answered_knows (Duty.Step (StepDuty.Heard s index)) r p tell h = answered_item_knows s (item_of index (end_at s p)) r p h
+  answered_knows (Duty.Ask (AskDuty.Edge s)) r p tell h = piece_knows s (piece_of s p) (is_placed r) p h
+  answered_knows (Duty.Send (SendDuty.Update s)) r p tell h = same_sent s _ _ _ p refl h
+  answered_knows (Duty.Silent d) r p tell h = agenda _ p h
   answered_knows d r p tell h = kept_by (side_of d) (writes d) p _ refl refl (writes_no_more values d r p) h
 
   knows_lasts : Lasts (λ (p q : PathState Carried). PathKnows p → PathKnows q)
-  knows_lasts = record {
-    agenda = λ ds p h. agenda ds p h;
-    chains = λ p q r x y h. y (x h);
-    passes = λ d p h. passed_knows d p h;
-  }
+  knows_lasts = record { agenda = λ ds p h. agenda ds p h; chains = λ p q r x y h. y (x h); passes = λ d p h. passed_knows d p h }
 
   pub takes_knows : (r : Reply) (p : PathState Carried) → CopiesTell p → PathKnows p → PathKnows (takes values r p)
   takes_knows r p tell h = takes_lasts (λ p q. PathKnows p → PathKnows q) knows_lasts values r p (λ d h. answered_knows d r p tell h) h

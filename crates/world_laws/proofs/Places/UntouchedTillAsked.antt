@@ -1,28 +1,14 @@
 -- What a lane from A to B was granted stays as it is, unless A asks for bytes.
-use Rattle.std.proofs.Common.{◌≡◌, refl, sym, ◌∙◌, ap, subst, ℕ, ⊎_elim, Bool, true, false, if◌then◌else◌, Option, Some, None, List, [], ◌∷◌, set}
-use Rattle.std.proofs.lemmas.Bool.{and_parts, cases_eq, false≢true}
-use Rattle.std.proofs.lemmas.Option.{same_Some}
-use Rattle.std.specs.List.{slice_get, list_all}
-use Rattle.sides.specs.declared.side.Side.TheVariants.{A, B}
-use Rattle.send_book.specs.declared.call.SendCall.{SendCall}
-use Rattle.send_book.specs.declared.call.SendCall.TheVariants as send_calls
-use Rattle.send_book.specs.State.{acked_len}
-use Rattle.send_book.specs.Steps.{reply_to as send_reply, after_call as after_send}
-use Rattle.reassembly_book.specs.declared.call.ReassemblyCall.{ReassemblyCall}
-use Rattle.reassembly_book.specs.declared.call.ReassemblyCall.TheVariants as reassembly_calls
-use Rattle.reassembly_book.specs.Steps.{reply_to as arrival_reply}
-use Rattle.stream_lanes.specs.Lane.{Cell, Ask as LaneAsk, Lane}
-use Rattle.stream_lanes.specs.Lane.Ask.{AskAckIn, AskPlace, AskFin, AskAckOut}
-use Rattle.stream_lanes.specs.Moves.{Flags, Move}
-use Rattle.stream_lanes.specs.Streams.{goes_infinite, may_go, with_send, Direction, StreamEvent, moves, reads, asks, asks_at, after, is_done}
-use Rattle.stream_lanes.specs.Streams.StreamEvent.{Write, Close, Return, AbortSend, Read, AbortRead, Moves, GoIdentity, GoInfinite}
-use Rattle.stream_lanes.specs.Duo.{Duo, Event, flags_ab, after_event, after_events}
-use Rattle.stream_lanes.specs.Duo.Event.{ToB, ToA, BeginJoin, SendJoin, HearJoin, FallA, FallB, LoosenA, LoosenB}
+use Rattle.world_laws.proofs.Words.{◌≡◌, refl, sym, ◌∙◌, ap, subst, ℕ, ⊎_elim, Bool, true, false, if◌then◌else◌, Option, Some, None, List, [], ◌∷◌, set}
+use Rattle.world_laws.proofs.Words.{cases_eq, and_parts, false≢true, same_Some, slice_get, list_all, A, B, ReassemblyCall, arrival_reply, SendCall, acked_len}
+use Rattle.world_laws.proofs.Words.{after_send, send_reply, Ask, set_same, set_other, Duo, after_events, after_event, flags_ab, Cell, Lane, LaneAsk, Direction}
+use Rattle.world_laws.proofs.Words.{StreamEvent, reads, asks, asks_at, is_done, with_send, goes_infinite, may_go, ToB, ToA, FallA, FallB, LoosenA, LoosenB}
+use Rattle.world_laws.proofs.Words.{BeginJoin, SendJoin, HearJoin, Flags, Move, AskAckIn, AskPlace, AskFin, AskAckOut, Return, GoIdentity, AbortRead, Moves}
+use Rattle.world_laws.proofs.Words.{asks_grant}
+use Rattle.stream_lanes.specs.Streams.{moves, after}
+use Rattle.stream_lanes.specs.Streams.StreamEvent.{Write, Close, AbortSend, Read, GoInfinite}
+use Rattle.stream_lanes.specs.Duo.{Event}
 use Rattle.stream_lanes.proofs.Directions.{moved_sent, acked_sent, placed_sent, fin_sent}
-use Rattle.stream_lanes.proofs.Lists.{set_same, set_other}
-use Rattle.actor_desk.specs.declared.ask.Ask.{Ask}
-use Rattle.actor_desk.specs.declared.ask.Ask.TheVariants as desk
-use Rattle.world_laws.specs.RoundEnd.{asks_grant}
 use Rattle.world_laws.proofs.Lanes.OfAWorld.{LaneAsks, SendCallIs, ReassemblyCallIs, CallIs, is_silent, AreSilent, call_events, TurnShows}
 use Rattle.world_laws.proofs.Places.Sent.{ack_out_sent}
 
@@ -59,16 +45,16 @@ module _ (f : Flags) (number : ℕ) (sent : List Cell) (d : Direction) (h : Gran
   reads_so max false = stays_so (reads max d) refl
 
   ack_so : (path next window : ℕ) (q : Lane) → slice_get d.lanes path ≡ Some q → Granted number sent (asks path (AskAckIn next window) q d)
-  ack_so path next window q there = put_so path q _ _ refl there (acked_sent next (send_reply d.send (send_calls.AckIn next window)) q)
+  ack_so path next window q there = put_so path q _ _ refl there (acked_sent next (send_reply d.send (SendCall.AckIn next window)) q)
 
   place_so : (path at : ℕ) (bytes : List ℕ) (q : Lane) → slice_get d.lanes path ≡ Some q → Granted number sent (asks path (AskPlace at bytes) q d)
-  place_so path at bytes q there = put_so path q _ _ refl there (placed_sent _ (arrival_reply d.arrived (reassembly_calls.Place at bytes)) q)
+  place_so path at bytes q there = put_so path q _ _ refl there (placed_sent _ (arrival_reply d.arrived (ReassemblyCall.Place at bytes)) q)
 
   fin_so : (path at : ℕ) (q : Lane) → slice_get d.lanes path ≡ Some q → Granted number sent (asks path (AskFin at) q d)
-  fin_so path at q there = put_so path q _ _ refl there (fin_sent (arrival_reply d.arrived (reassembly_calls.Fin at)) q)
+  fin_so path at q there = put_so path q _ _ refl there (fin_sent (arrival_reply d.arrived (ReassemblyCall.Fin at)) q)
 
   ack_out_so : (path : ℕ) (q : Lane) → slice_get d.lanes path ≡ Some q → Granted number sent (asks path AskAckOut q d)
-  ack_out_so path q there = put_so path q _ _ refl there (ack_out_sent (arrival_reply d.arrived reassembly_calls.AckOut) q)
+  ack_out_so path q there = put_so path q _ _ refl there (ack_out_sent (arrival_reply d.arrived ReassemblyCall.AckOut) q)
 
   -- an ask that a lane is about to make
   asked_so : (x : LaneAsk) → ((path : ℕ) (q : Lane) → slice_get d.lanes path ≡ Some q → Granted number sent (asks path x q d)) → (event : StreamEvent) → LaneAsks x d event
@@ -81,7 +67,7 @@ module _ (f : Flags) (number : ℕ) (sent : List Cell) (d : Direction) (h : Gran
   event_is : (x y : StreamEvent) → x ≡ y → Granted number sent (after f y d) → Granted number sent (after f x d)
   event_is x y same so = subst (λ e. Granted number sent (after f e d)) (sym same) so
 
-  identity_so : (fell : Bool) → Granted number sent (if fell then with_send send_calls.GoIdentity d else d)
+  identity_so : (fell : Bool) → Granted number sent (if fell then with_send SendCall.GoIdentity d else d)
   identity_so true = stays_so _ refl
   identity_so false = h
 
@@ -92,26 +78,26 @@ module _ (f : Flags) (number : ℕ) (sent : List Cell) (d : Direction) (h : Gran
       r : Lane
       r = record q { pair = Some (record { pos = pos; place = acked_len d.send.marks }) }
 
-      by : (may : Bool) → Granted number sent (if may then record d { send = after_send d.send (send_calls.GoInfinite path); lanes = set d.lanes path r } else d)
+      by : (may : Bool) → Granted number sent (if may then record d { send = after_send d.send (SendCall.GoInfinite path); lanes = set d.lanes path r } else d)
       by true = put_so path q r _ refl there refl
       by false = h
 
-  send_so : (c : SendCall) (event : StreamEvent) → asks_grant A (desk.Send A c) ≡ false → SendCallIs c d event → Granted number sent (after f event d)
-  send_so (send_calls.Write bytes) event none is = event_is event (Write bytes) is (stays_so _ refl)
-  send_so send_calls.Close event none is = event_is event Close is (stays_so _ refl)
-  send_so (send_calls.Grant path most standby) event none is = absurd (false≢true (sym none))
-  send_so (send_calls.AckIn next window) event none is = asked_so (AskAckIn next window) (λ path q there. ack_so path next window q there) event is
-  send_so (send_calls.Return path) event none is = event_is event (Return path) is (stays_so _ refl)
-  send_so send_calls.GoIdentity event none is = event_is event GoIdentity is (identity_so f.sender)
-  send_so (send_calls.GoInfinite path) event none is = event_is event (GoInfinite path is.0) is.1 (infinite_so path is.0 (slice_get d.lanes path) refl)
-  send_so send_calls.Abort event none is = event_is event AbortSend is (stays_so _ refl)
+  send_so : (c : SendCall) (event : StreamEvent) → asks_grant A (Ask.Send A c) ≡ false → SendCallIs c d event → Granted number sent (after f event d)
+  send_so (SendCall.Write bytes) event none is = event_is event (Write bytes) is (stays_so _ refl)
+  send_so SendCall.Close event none is = event_is event Close is (stays_so _ refl)
+  send_so (SendCall.Grant path most standby) event none is = absurd (false≢true (sym none))
+  send_so (SendCall.AckIn next window) event none is = asked_so (AskAckIn next window) (λ path q there. ack_so path next window q there) event is
+  send_so (SendCall.Return path) event none is = event_is event (Return path) is (stays_so _ refl)
+  send_so SendCall.GoIdentity event none is = event_is event GoIdentity is (identity_so f.sender)
+  send_so (SendCall.GoInfinite path) event none is = event_is event (GoInfinite path is.0) is.1 (infinite_so path is.0 (slice_get d.lanes path) refl)
+  send_so SendCall.Abort event none is = event_is event AbortSend is (stays_so _ refl)
 
   reassembly_so : (c : ReassemblyCall) (event : StreamEvent) → ReassemblyCallIs c d event → Granted number sent (after f event d)
-  reassembly_so (reassembly_calls.Place at bytes) event is = asked_so (AskPlace at bytes) (λ path q there. place_so path at bytes q there) event is
-  reassembly_so (reassembly_calls.Fin at) event is = asked_so (AskFin at) (λ path q there. fin_so path at q there) event is
-  reassembly_so (reassembly_calls.Read most) event is = event_is event (Read most) is.0 (reads_so most (is_done d.reader))
-  reassembly_so reassembly_calls.AckOut event is = asked_so AskAckOut ack_out_so event is
-  reassembly_so (reassembly_calls.Abort by_peer) event is = event_is event (AbortRead by_peer) is (stays_so _ refl)
+  reassembly_so (ReassemblyCall.Place at bytes) event is = asked_so (AskPlace at bytes) (λ path q there. place_so path at bytes q there) event is
+  reassembly_so (ReassemblyCall.Fin at) event is = asked_so (AskFin at) (λ path q there. fin_so path at q there) event is
+  reassembly_so (ReassemblyCall.Read most) event is = event_is event (Read most) is.0 (reads_so most (is_done d.reader))
+  reassembly_so ReassemblyCall.AckOut event is = asked_so AskAckOut ack_out_so event is
+  reassembly_so (ReassemblyCall.Abort by_peer) event is = event_is event (AbortRead by_peer) is (stays_so _ refl)
 
 -- ---- both directions
 
@@ -139,12 +125,12 @@ module _ (number : ℕ) (sent : List Cell) where
 
   -- nor does a call by which A asks for no bytes
   call_so : (ask : Ask) (call : Option Event) (d : Duo) → asks_grant A ask ≡ false → CallIs (Some ask) d call → So d → So (after_events (call_events call) d)
-  call_so (desk.Send A c) call d none is h = subst (λ x. So (after_events (call_events x) d)) (sym is.1) (send_so (flags_ab d.modes) number sent d.ab h c is.0 none is.2)
-  call_so (desk.Send B c) call d none is h = subst (λ x. So (after_events (call_events x) d)) (sym is.1) h
-  call_so (desk.Reassembly A c) call d none is h = subst (λ x. So (after_events (call_events x) d)) (sym is.1) h
-  call_so (desk.Reassembly B c) call d none is h = subst (λ x. So (after_events (call_events x) d)) (sym is.1) (reassembly_so (flags_ab d.modes) number sent d.ab h c is.0 is.2)
-  call_so (desk.Control s c) call d none is h = subst (λ x. So (after_events (call_events x) d)) (sym is) h
-  call_so (desk.Local step) call d none is h = subst (λ x. So (after_events (call_events x) d)) (sym is) h
+  call_so (Ask.Send A c) call d none is h = subst (λ x. So (after_events (call_events x) d)) (sym is.1) (send_so (flags_ab d.modes) number sent d.ab h c is.0 none is.2)
+  call_so (Ask.Send B c) call d none is h = subst (λ x. So (after_events (call_events x) d)) (sym is.1) h
+  call_so (Ask.Reassembly A c) call d none is h = subst (λ x. So (after_events (call_events x) d)) (sym is.1) h
+  call_so (Ask.Reassembly B c) call d none is h = subst (λ x. So (after_events (call_events x) d)) (sym is.1) (reassembly_so (flags_ab d.modes) number sent d.ab h c is.0 is.2)
+  call_so (Ask.Control s c) call d none is h = subst (λ x. So (after_events (call_events x) d)) (sym is) h
+  call_so (Ask.Local step) call d none is h = subst (λ x. So (after_events (call_events x) d)) (sym is) h
 
   pub turn_so : (ask : Ask) (d e : Duo) → asks_grant A ask ≡ false → TurnShows (Some ask) d e → So d → So e
   turn_so ask d e none t h =

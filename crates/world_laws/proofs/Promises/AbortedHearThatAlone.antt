@@ -1,34 +1,13 @@
 -- Once the reassembly book of a side is aborted, its reader is told that alone.
-use Rattle.std.proofs.Common.{◌≡◌, refl, sym, ◌∙◌, ap, subst, Bool, true, false, is_some, if◌then◌else◌, Option, Some, List, [], ◌∷◌, ◌++◌, All}
-use Rattle.std.proofs.lemmas.List.{append-nil, append_assoc}
-use Rattle.std.proofs.lemmas.List.Elements.{All-nil, All-head, All-tail, All-push}
-use Rattle.sides.specs.declared.side.Side.{Side}
-use Rattle.sides.specs.declared.side.Side.TheVariants.{A, B}
-use Rattle.reassembly_book.specs.declared.call.ReassemblyCall.{ReassemblyCall}
-use Rattle.reassembly_book.specs.declared.call.ReassemblyCall.TheVariants as calls
-use Rattle.reassembly_book.specs.declared.call.ReassemblyReply.TheVariants as reassembly_replies
-use Rattle.reassembly_book.specs.State.{Arriving}
-use Rattle.reassembly_book.specs.Steps.{is_taken, places_after, fin_clash, first_abort, reading, after_reading, after_call}
-use Rattle.actor_desk.specs.declared.ask.Ask.{Ask}
-use Rattle.actor_desk.specs.declared.ask.Ask.TheVariants as asks
-use Rattle.actor_desk.specs.declared.ask.Note.{Note}
-use Rattle.actor_desk.specs.declared.ask.Reply.{Reply}
-use Rattle.actor_desk.specs.declared.ask.Reply.TheVariants as replies
-use Rattle.actor_desk.specs.Books.{books_in}
-use Rattle.actor_desk.specs.Desk.{SixBooks, reassembly_of, reply_of, after_ask}
-use Rattle.actor_desk.specs.Words.{pick}
-use Rattle.stream_apps.specs.declared.duty.AppDuty.{AppDuty}
-use Rattle.stream_apps.specs.declared.duty.AppDuty.TheVariants.{FastClose, AbortSend, AbortReceive, Write, Close, Read, End}
-use Rattle.stream_apps.specs.Apps.{AppState}
-use Rattle.stream_apps.specs.AppSteps.{app_ask, bytes_in}
-use Rattle.path_core.specs.Codec.{Codec}
-use Rattle.path_core.specs.Duties.{ask_for}
-use Rattle.world_laws.specs.Laws.{Always}
-use Rattle.world_laws.specs.Openings.{Start, opened_world}
-use Rattle.world_laws.specs.Outcomes.{bytes_noted, notes_of, read_by}
-use Rattle.world_laws.specs.Promises.{arrived_at}
+use Rattle.world_laws.proofs.Words.{◌≡◌, refl, sym, ◌∙◌, ap, subst, Bool, true, false, if◌then◌else◌, Option, Some, List, [], ◌∷◌, ◌++◌, is_some, append-nil}
+use Rattle.world_laws.proofs.Words.{append_assoc, All-nil, All-head, All-tail, All-push, Side, A, B, ReassemblyCall, Arriving, ReassemblyReply, places_after}
+use Rattle.world_laws.proofs.Words.{fin_clash, reading, after_reading, first_abort, Ask, Note, Reply, books_in, SixBooks, reassembly_of, reply_of, after_ask}
+use Rattle.world_laws.proofs.Words.{pick, AppDuty, AppState, app_ask, bytes_in, AbortReceive, Codec, ask_for, Always, Start, opened_world, WorldState}
+use Rattle.world_laws.proofs.Words.{world_run, note_of, arrived_at, notes_of, read_by, bytes_noted}
+use Rattle.std.proofs.Common.{All}
+use Rattle.reassembly_book.specs.Steps.{is_taken, after_call}
+use Rattle.stream_apps.specs.declared.duty.AppDuty.TheVariants.{FastClose, AbortSend, Write, Close, Read, End}
 use Rattle.world_laws.specs.Stopping.{TellsAbortAlone, AbortIsLast}
-use Rattle.world_laws.specs.Worlds.{WorldState, note_of, world_run}
 use Rattle.world_laws.proofs.Worlds.CastLifting.{Has, Stepwise, always_cast, turns_have}
 use Rattle.world_laws.proofs.Worlds.Casts.{Cast, Fare, Seat, world_of, seat_after, next_cast}
 use Rattle.world_laws.proofs.Weaving.Journals.{books_after}
@@ -37,38 +16,38 @@ use Rattle.world_laws.proofs.Weaving.Journals.{books_after}
 
 -- an aborted book stays so, by the same side
 call_aborted : (by_peer : Bool) (b : Arriving) (call : ReassemblyCall) → b.aborted ≡ Some by_peer → (after_call b call).aborted ≡ Some by_peer
-call_aborted by_peer b (calls.Place at bytes) is = by (is_taken at bytes b)
+call_aborted by_peer b (ReassemblyCall.Place at bytes) is = by (is_taken at bytes b)
   where
     by : (c : Bool) → (if c then record b { places = places_after at bytes b } else b).aborted ≡ Some by_peer
     by true = is
     by false = is
-call_aborted by_peer b (calls.Fin at) is = by (is_some (fin_clash b.known_end at b))
+call_aborted by_peer b (ReassemblyCall.Fin at) is = by (is_some (fin_clash b.known_end at b))
   where
     by : (c : Bool) → (if c then b else record b { known_end = Some at }).aborted ≡ Some by_peer
     by true = is
     by false = is
-call_aborted by_peer b (calls.Read max) is = by (is_some b.aborted)
+call_aborted by_peer b (ReassemblyCall.Read max) is = by (is_some b.aborted)
   where
     by : (c : Bool) → (if c then b else after_reading max b).aborted ≡ Some by_peer
     by true = is
     by false = is
-call_aborted by_peer b calls.AckOut is = is
-call_aborted by_peer b (calls.Abort other) is = ap (λ o. first_abort o other) is
+call_aborted by_peer b ReassemblyCall.AckOut is = is
+call_aborted by_peer b (ReassemblyCall.Abort other) is = ap (λ o. first_abort o other) is
 
 ask_aborted : (by_peer : Bool) (s : Side) (six : SixBooks) (ask : Ask) → (reassembly_of s six).aborted ≡ Some by_peer → (reassembly_of s (after_ask ask six)).aborted ≡ Some by_peer
-ask_aborted by_peer A six (asks.Reassembly A call) is = call_aborted by_peer six.reassembly_a call is
-ask_aborted by_peer A six (asks.Reassembly B call) is = is
-ask_aborted by_peer B six (asks.Reassembly A call) is = is
-ask_aborted by_peer B six (asks.Reassembly B call) is = call_aborted by_peer six.reassembly_b call is
-ask_aborted by_peer A six (asks.Send A call) is = is
-ask_aborted by_peer A six (asks.Send B call) is = is
-ask_aborted by_peer B six (asks.Send A call) is = is
-ask_aborted by_peer B six (asks.Send B call) is = is
-ask_aborted by_peer A six (asks.Control A call) is = is
-ask_aborted by_peer A six (asks.Control B call) is = is
-ask_aborted by_peer B six (asks.Control A call) is = is
-ask_aborted by_peer B six (asks.Control B call) is = is
-ask_aborted by_peer s six (asks.Local step) is = is
+ask_aborted by_peer A six (Ask.Reassembly A call) is = call_aborted by_peer six.reassembly_a call is
+ask_aborted by_peer A six (Ask.Reassembly B call) is = is
+ask_aborted by_peer B six (Ask.Reassembly A call) is = is
+ask_aborted by_peer B six (Ask.Reassembly B call) is = call_aborted by_peer six.reassembly_b call is
+ask_aborted by_peer A six (Ask.Send A call) is = is
+ask_aborted by_peer A six (Ask.Send B call) is = is
+ask_aborted by_peer B six (Ask.Send A call) is = is
+ask_aborted by_peer B six (Ask.Send B call) is = is
+ask_aborted by_peer A six (Ask.Control A call) is = is
+ask_aborted by_peer A six (Ask.Control B call) is = is
+ask_aborted by_peer B six (Ask.Control A call) is = is
+ask_aborted by_peer B six (Ask.Control B call) is = is
+ask_aborted by_peer s six (Ask.Local step) is = is
 
 -- ---- the reader
 
@@ -101,8 +80,8 @@ app_told by_peer six a Close is = by a.side
     by B = tt
 app_told by_peer six a Read is = by a.side is
   where
-    told : (b : Arriving) → b.aborted ≡ Some by_peer → TellsAbortAlone by_peer (replies.Reassembly (reading b.aborted 65536 b))
-    told b none = subst (λ (o : Option Bool). TellsAbortAlone by_peer (replies.Reassembly (reading o 65536 b))) (sym none) refl
+    told : (b : Arriving) → b.aborted ≡ Some by_peer → TellsAbortAlone by_peer (Reply.Reassembly (reading b.aborted 65536 b))
+    told b none = subst (λ (o : Option Bool). TellsAbortAlone by_peer (Reply.Reassembly (reading o 65536 b))) (sym none) refl
 
     by : (s : Side) → (reassembly_of s six).aborted ≡ Some by_peer → TellsAbortAlone by_peer (reply_of six (app_ask Read (record a { side = s })))
     by A is = told six.reassembly_a is
@@ -111,7 +90,7 @@ app_told by_peer six a End is = tt
 
 -- such answers bring no byte
 nothing_came : (by_peer : Bool) (r : Reply) → TellsAbortAlone by_peer r → bytes_in r ≡ []
-nothing_came by_peer (replies.Reassembly (reassembly_replies.Bytes bytes)) told = absurd told
+nothing_came by_peer (Reply.Reassembly (ReassemblyReply.Bytes bytes)) told = absurd told
 nothing_came by_peer _ told = refl
 
 nothing_read : (by_peer : Bool) (steps : List Note) → All (λ n. TellsAbortAlone by_peer n.reply) steps → read_by steps ≡ []

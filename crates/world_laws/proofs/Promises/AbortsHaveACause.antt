@@ -1,17 +1,7 @@
 -- A reader is told of an abort by its peer only where the peer's application asked for a fast close, and its own side accepted it.
-use Rattle.std.proofs.Common.{◌≡◌, refl, sym, ◌∙◌, ap, subst, true}
-use Rattle.std.specs.List.{list_any}
-use Rattle.sides.specs.declared.side.Side.{Side}
-use Rattle.sides.specs.declared.side.Side.TheVariants.{A, B}
-use Rattle.sides.specs.Side.{peer}
-use Rattle.path_core.specs.Values.{Carried, values}
-use Rattle.world_laws.specs.AbortCause.{note_asks_fast_close, PeerStopped, AbortsHaveCause}
-use Rattle.world_laws.specs.Fresh.{shown_world}
-use Rattle.world_laws.specs.Laws.{Always}
-use Rattle.world_laws.specs.Openings.{opened_world}
-use Rattle.world_laws.specs.Outcomes.{tells_abort, notes_of, was_told}
-use Rattle.world_laws.specs.Promises.{HoldsAnywayOfOctets}
-use Rattle.world_laws.specs.Worlds.{WorldState, world_run}
+use Rattle.world_laws.proofs.Words.{◌≡◌, refl, sym, ◌∙◌, ap, subst, true, list_any, Side, A, B, peer, Carried, values, note_asks_fast_close, PeerStopped}
+use Rattle.world_laws.proofs.Words.{AbortsHaveCause, Always, opened_world, WorldState, world_run, HoldsAnywayOfOctets, shown_world, notes_of, was_told}
+use Rattle.world_laws.proofs.Words.{tells_abort}
 use Rattle.world_laws.proofs.Worlds.Casts.{Cast, world_of}
 use Rattle.world_laws.proofs.Promises.Made.{run_fresh}
 use Rattle.world_laws.proofs.Promises.OverOctets.{same_notes_of}

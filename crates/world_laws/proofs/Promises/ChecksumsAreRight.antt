@@ -1,37 +1,10 @@
 -- Checksums that are told are those of written octets: so they are of the octets of lanes, which have their places.
-use Rattle.std.proofs.Common.{◌≡◌, refl, sym, ◌∙◌, ap, subst, ℕ, zero, suc, ◌+◌, ◌-◌, ◌<◌, ◌≤◌, true, false, Option, Some, None, option_map, List, [], ◌∷◌, length, take, drop, arith}
-use Rattle.std.proofs.lemmas.Option.{same_Some, slice_get_within}
-use Rattle.std.specs.List.{slice_get}
-use Rattle.std.specs.Option.{IfSome}
-use Rattle.sides.specs.declared.side.Side.{Side}
-use Rattle.sides.specs.declared.side.Side.TheVariants.{A, B}
-use Rattle.sides.specs.Side.{peer}
-use Rattle.dss_checksum.specs.Checksum.{dss_checksum}
-use Rattle.mptcp_options.specs.declared.capable.CapableKeys.{CapableKeys}
-use Rattle.mptcp_options.specs.declared.capable.CapableKeys.TheVariants.{NoKey, Sender, Both, WithData}
-use Rattle.path_segments.specs.declared.segment.PathMapping.{PathMapping}
-use Rattle.path_segments.specs.declared.segment.PathMapping.TheVariants.{Bytes, End, Infinite}
-use Rattle.path_segments.specs.declared.segment.PathOption.TheVariants.{Capable, Join, Dss, AddAddr, Remove, Prio, Fail, FastClose, Reset}
-use Rattle.path_segments.specs.Options.{PlainOption}
-use Rattle.path_segments.specs.Spelled.{PlainSegment}
-use Rattle.stream_lanes.specs.Duo.{Duo, after_events}
-use Rattle.stream_lanes.specs.Holding.{CellFits, Holds, IsHonest, IsRight, LaneHolds}
-use Rattle.stream_lanes.specs.Lane.{AckCopy, Cell, Lane}
-use Rattle.stream_lanes.specs.Moves.{bytes_of}
-use Rattle.stream_lanes.specs.View.{View}
-use Rattle.stream_lanes.specs.Words.{Every}
-use Rattle.stream_lanes.proofs.Duos.{any_held}
-use Rattle.stream_lanes.proofs.Lists.{Every-map, in_map}
-use Rattle.actor_desk.specs.Books.{books_in}
-use Rattle.path_core.specs.DssIn.{checksum_heard}
-use Rattle.path_core.specs.DssOut.{bare_mapping}
-use Rattle.path_core.specs.State.{PathState}
-use Rattle.path_core.specs.Profile.{Profile}
-use Rattle.path_core.specs.Values.{Carried, values}
+use Rattle.world_laws.proofs.Words.{◌≡◌, refl, sym, ◌∙◌, ap, subst, ℕ, zero, suc, ◌+◌, ◌-◌, ◌≤◌, true, false, Option, Some, None, List, [], ◌∷◌, length, take}
+use Rattle.world_laws.proofs.Words.{drop, arith, ◌<◌, option_map, same_Some, slice_get_within, slice_get, IfSome, Side, A, B, peer, dss_checksum, CapableKeys}
+use Rattle.world_laws.proofs.Words.{WithData, PlainOption, PlainSegment, Capable, Dss, PathMapping, Bytes, books_in, PathState, Carried, values, checksum_heard}
+use Rattle.world_laws.proofs.Words.{bare_mapping, Profile, Every-map, in_map, Every, Duo, after_events, Holds, IsHonest, IsRight, LaneHolds, CellFits, Cell}
+use Rattle.world_laws.proofs.Words.{AckCopy, Lane, View, any_held, bytes_of, Start, opened_world, WorldState, world_run, HoldsAnyway, written_by}
 use Rattle.world_laws.specs.ChecksPass.{IsSummedUp, MappingIsSummed, KeysAreSummed, OptionIsSummed, FlightIsSummed, PathIsSummed, ChecksumsAreRight}
-use Rattle.world_laws.specs.Openings.{Start, opened_world}
-use Rattle.world_laws.specs.Promises.{HoldsAnyway, written_by}
-use Rattle.world_laws.specs.Worlds.{WorldState, world_run}
 use Rattle.world_laws.proofs.Lanes.Beginning.{each_run_shows}
 use Rattle.world_laws.proofs.Worlds.CastLifting.{each_actor}
 use Rattle.world_laws.proofs.Worlds.Casts.{map_there, world_of}
@@ -97,28 +70,18 @@ module _ (v : View) (path : ℕ) (p : Lane) (holds : LaneHolds v path p) (c : Pr
           )
 
   mapping_summed : (o : Option (PathMapping ℕ)) → MappingShows c s o p → MappingIsSummed c.spelling s v.written o
-  mapping_summed None shows = tt
   mapping_summed (Some (Bytes place position len true checksum)) shows = absurd shows
   mapping_summed (Some (Bytes place position len false checksum)) shows = summed place position len checksum shows.0 shows.1
-  mapping_summed (Some (End place checksum)) shows = tt
-  mapping_summed (Some (Infinite place position)) shows = tt
+  mapping_summed _ shows = tt
 
   keys_summed : (keys : CapableKeys) → KeysShow c s keys p → KeysAreSummed c.spelling s v.written keys
-  keys_summed NoKey shows = tt
-  keys_summed (Sender key) shows = tt
-  keys_summed (Both sender receiver) shows = tt
   keys_summed (WithData sender receiver len checksum) shows = summed 0 1 len checksum shows.0 shows.1
+  keys_summed _ shows = tt
 
   option_summed : (window : ℕ) (acks : List AckCopy) (o : PlainOption) → OptionShows c s window acks p o → OptionIsSummed c.spelling s v.written o
   option_summed window acks (Dss next mapping) shows = mapping_summed mapping shows.1
   option_summed window acks (Capable flag_a flag_c keys) shows = keys_summed keys shows
-  option_summed window acks (Join form) shows = tt
-  option_summed window acks (AddAddr echo id address port hmac) shows = tt
-  option_summed window acks (Remove ids) shows = tt
-  option_summed window acks (Prio backup) shows = tt
-  option_summed window acks (Fail place) shows = tt
-  option_summed window acks (FastClose key) shows = tt
-  option_summed window acks (Reset transient reason) shows = tt
+  option_summed window acks _ shows = tt
 
   options_summed : (acks : List AckCopy) (sg : PlainSegment) → SegmentShows c s acks p sg → Every (OptionIsSummed c.spelling s v.written) sg.options
   options_summed acks sg shows = Every-map (λ o told. option_summed _ acks o told) shows.options

@@ -1,19 +1,10 @@
 -- What is promised over every list of turns, where each turn shows in the two directions.
-use Rattle.std.proofs.Common.{◌≡◌, sym, ◌∙◌, ap, subst, Some, List, [], ◌∷◌, ◌++◌, length, false}
-use Rattle.stream_lanes.specs.Duo.{Duo, Event, after_events, flags_ab, flags_ba}
-use Rattle.stream_lanes.specs.Holding.{Holds}
-use Rattle.stream_lanes.specs.Laws.{BothWays, NothingIsRefused, EachEventIsOneStep}
-use Rattle.stream_lanes.specs.Streams.{Reader}
-use Rattle.stream_lanes.proofs.Duos.{any_held, link_stays}
-use Rattle.stream_lanes.proofs.Promises.{nothing_follows_any_end, any_event_is_one_step}
+use Rattle.world_laws.proofs.Words.{◌≡◌, sym, ◌∙◌, ap, subst, false, Some, List, [], ◌∷◌, ◌++◌, length, received, books_in, Carried, values, Duo, after_events}
+use Rattle.world_laws.proofs.Words.{flags_ab, flags_ba, Holds, any_held, link_stays, Reader, EachEventIsOneStep, NothingIsRefused, BothWays}
+use Rattle.world_laws.proofs.Words.{nothing_follows_any_end, any_event_is_one_step, Start, opened_world, WorldState, Turn, after_turn, world_run}
+use Rattle.world_laws.proofs.Words.{BothKeepTheirWord, NothingFollows, EachTurnIsOneStep, NothingWasRefused, tells_refusal, BothKeepCount}
+use Rattle.stream_lanes.specs.Duo.{Event}
 use Rattle.stream_lanes.proofs.Refusals.{never_refused as never_refused_in}
-use Rattle.reassembly_book.specs.State.{received}
-use Rattle.actor_desk.specs.Books.{books_in}
-use Rattle.path_core.specs.Values.{Carried, values}
-use Rattle.world_laws.specs.Openings.{Start, opened_world}
-use Rattle.world_laws.specs.Altered.{BothKeepCount}
-use Rattle.world_laws.specs.Promises.{tells_refusal, BothKeepTheirWord, NothingFollows, EachTurnIsOneStep, NothingWasRefused}
-use Rattle.world_laws.specs.Worlds.{WorldState, Turn, after_turn, world_run}
 use Rattle.world_laws.proofs.Lanes.OfAWorld.{NoneIsFirm, free_turn, Carries, WorldShows, IsSteady, first_duo, asked_by, asked_in, CallIs, events_append, turn_events, turn_is}
 use Rattle.world_laws.proofs.Lanes.Beginning.{each_opening_shows}
 use Rattle.world_laws.proofs.Lanes.EveryTurn.{each_turn_shows}

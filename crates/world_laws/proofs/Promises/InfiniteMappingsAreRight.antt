@@ -1,34 +1,9 @@
 -- Infinite mappings that are told are right: so they are on the lanes.
-use Rattle.std.proofs.Common.{◌≡◌, sym, subst, ℕ, suc, ◌+◌, ◌-◌, ◌<◌, ◌≤◌, inl, inr, Option, Some, None, List, length, arith}
-use Rattle.std.specs.Option.{IfSome}
-use Rattle.std.specs.List.{slice_get}
-use Rattle.sides.specs.declared.side.Side.{Side}
-use Rattle.sides.specs.declared.side.Side.TheVariants.{A, B}
-use Rattle.sides.specs.Side.{peer}
-use Rattle.path_segments.specs.declared.segment.PathMapping.{PathMapping}
-use Rattle.path_segments.specs.declared.segment.PathMapping.TheVariants.{Bytes, End, Infinite}
-use Rattle.path_segments.specs.declared.segment.PathOption.TheVariants.{Dss}
-use Rattle.path_segments.specs.Options.{PlainOption}
-use Rattle.path_segments.specs.Spelled.{PlainSegment}
-use Rattle.subflow_send.specs.declared.record.RecordKind.{RecordKind}
-use Rattle.subflow_send.specs.declared.record.RecordKind.TheVariants.{Syn, Data, Fin}
-use Rattle.subflow_send.specs.Records.{Record}
-use Rattle.stream_lanes.specs.Duo.{Duo, after_events}
-use Rattle.stream_lanes.specs.Holding.{Holds, IsFin, IsHonest, IsRight, IsEndless, LaneHolds}
-use Rattle.stream_lanes.specs.Lane.{AckCopy, Cell, Lane}
-use Rattle.stream_lanes.specs.View.{View}
-use Rattle.stream_lanes.specs.Words.{Every}
-use Rattle.stream_lanes.proofs.Duos.{any_held}
-use Rattle.stream_lanes.proofs.Lists.{Every-map, in_map}
-use Rattle.actor_desk.specs.Books.{books_in}
-use Rattle.path_core.specs.End.{PathEnd}
-use Rattle.path_core.specs.State.{PathState, end_at}
-use Rattle.path_core.specs.Profile.{Profile}
-use Rattle.path_core.specs.Values.{Carried, values}
-use Rattle.world_laws.specs.Promises.{HoldsAnyway}
+use Rattle.world_laws.proofs.Words.{◌≡◌, sym, subst, ℕ, suc, ◌+◌, ◌-◌, ◌≤◌, inl, inr, Option, Some, List, length, arith, ◌<◌, slice_get, IfSome, Side, A, B}
+use Rattle.world_laws.proofs.Words.{peer, Record, RecordKind, Syn, Data, Fin, PlainOption, PlainSegment, Dss, PathMapping, Infinite, books_in, PathEnd}
+use Rattle.world_laws.proofs.Words.{PathState, end_at, Carried, values, Profile, Every-map, in_map, Every, Duo, after_events, Holds, IsFin, IsHonest, IsRight}
+use Rattle.world_laws.proofs.Words.{IsEndless, LaneHolds, Cell, AckCopy, Lane, View, any_held, Start, opened_world, WorldState, world_run, HoldsAnyway}
 use Rattle.world_laws.specs.InfiniteMappings.{IsUnder, MappingIsRight, OptionIsRight, FlightIsRight, PathIsRight, InfiniteMappingsAreRight}
-use Rattle.world_laws.specs.Openings.{Start, opened_world}
-use Rattle.world_laws.specs.Worlds.{WorldState, world_run}
 use Rattle.world_laws.proofs.Lanes.Beginning.{each_run_shows}
 use Rattle.world_laws.proofs.Worlds.CastLifting.{each_actor}
 use Rattle.world_laws.proofs.Lanes.OfAWorld.{anyhow_free, free_run, Links, WorldShows, PathThere, anyhow, duo_of, first_duo}
@@ -65,10 +40,8 @@ module _ (v : View) (path : ℕ) (p : Lane) (holds : LaneHolds v path p) where
 
   module _ (c : Profile) (s : Side) (e : PathEnd) (records : Every (RecordShows c s p.alters p.sent p.datas p.fins) e.tcp.send.records) where
     mapping_right : (o : Option (PathMapping ℕ)) → MappingShows c s o p → MappingIsRight c s e o
-    mapping_right None shows = tt
-    mapping_right (Some (Bytes place position len fin checksum)) shows = tt
-    mapping_right (Some (End place checksum)) shows = tt
     mapping_right (Some (Infinite place position)) shows = Every-map (λ r kind. record_under place position shows c s r.kind r kind) records
+    mapping_right _ shows = tt
 
     option_right : (window : ℕ) (acks : List AckCopy) (o : PlainOption) → OptionShows c s window acks p o → OptionIsRight c s e o
     option_right window acks (Dss next mapping) shows = mapping_right mapping shows.1

@@ -1,44 +1,16 @@
 -- Over octets, too, infinite mappings are right: each copy that arrives next is heard as it was meant, or is a reset that tells the same.
-use Rattle.std.proofs.Common.{◌≡◌, refl, sym, ◌∙◌, ap, subst, ⊎_elim, ℕ, Bool, true, false, if◌then◌else◌, Option, Some, None, option_map, List, [], ◌∷◌, ◌++◌, map}
-use Rattle.std.proofs.lemmas.Bool.{and_parts}
-use Rattle.std.proofs.lemmas.Option.{same_Some}
-use Rattle.std.specs.List.{slice_get}
-use Rattle.sides.specs.declared.side.Side.{Side}
-use Rattle.sides.specs.Side.{peer}
-use Rattle.link_script.specs.Places.{same_side}
-use Rattle.link_model.specs.declared.flight.Due.{Due}
-use Rattle.link_model.specs.declared.flight.Flight.{Flight}
+use Rattle.world_laws.proofs.Words.{◌≡◌, refl, sym, ◌∙◌, ap, subst, ℕ, ⊎_elim, Option, Some, None, List, [], ◌∷◌, ◌++◌, map, option_map, and_parts, same_Some}
+use Rattle.world_laws.proofs.Words.{slice_get, Side, peer, same_side, is_due, arriving, Due, Flight, HeardSegment, PlainOption, Dss, meant, IsFresh}
+use Rattle.world_laws.proofs.Words.{meant_option, meant_mapping, Expected, subflow_number, PathMapping, Infinite, PathEnd, PathState, end_at, Carried}
+use Rattle.world_laws.proofs.Words.{as_arrived, values, heard_in, expected_by, next_event, Profile, octets, shown_path, IsFarReset, IsFreshCopy, NextIsFresh}
+use Rattle.world_laws.proofs.Words.{same_event, in_map, Every-nil, Every, App, Path, Actor, ActorCrew, opened_world, WorldState, Turn, world_run}
+use Rattle.world_laws.proofs.Words.{HoldsAnywayOfOctets, if_so, IsFreshCrew, IsFreshMember, shown_crew, shown_member, shown_world}
 use Rattle.link_model.specs.Laws.{shown_flight}
-use Rattle.link_model.specs.Steps.{is_due, arriving}
-use Rattle.path_segments.specs.Heard.{HeardSegment}
-use Rattle.path_segments.specs.Laws.{IsFresh, meant, meant_mapping, meant_option}
-use Rattle.path_segments.specs.Options.{PlainOption}
-use Rattle.path_segments.specs.Spelling.{subflow_number}
-use Rattle.path_segments.specs.declared.expected.Expected.{Expected}
-use Rattle.path_segments.specs.declared.segment.PathMapping.{PathMapping}
-use Rattle.path_segments.specs.declared.segment.PathMapping.TheVariants.{Bytes, End, Infinite}
-use Rattle.path_segments.specs.declared.segment.PathOption.TheVariants.{Dss}
-use Rattle.stream_lanes.specs.Words.{Every}
-use Rattle.stream_lanes.proofs.Lists.{Every-nil, in_map}
-use Rattle.path_core.specs.declared.events.Event.TheVariants as happenings
-use Rattle.path_core.specs.Arrival.{expected_by, heard_in}
-use Rattle.path_core.specs.End.{PathEnd}
-use Rattle.path_core.specs.Events.{next_event}
-use Rattle.path_core.specs.Octets.{octets}
-use Rattle.path_core.specs.Shown.{octets_of, shown_path, IsFarReset, IsFreshCopy, NextIsFresh}
-use Rattle.path_core.specs.State.{PathState, end_at}
-use Rattle.path_core.specs.Profile.{Profile}
-use Rattle.path_core.specs.Values.{Carried, as_arrived, values}
+use Rattle.path_core.specs.declared.events.Event.{Event}
+use Rattle.path_core.specs.Shown.{octets_of}
 use Rattle.path_core.proofs.CopiesRead.{near_read, far_read}
 use Rattle.path_core.proofs.FarResets.{unplaced}
-use Rattle.path_core.proofs.Showing.{same_event}
-use Rattle.world_laws.specs.declared.member.Member.TheVariants.{App, Path}
-use Rattle.world_laws.specs.Actors.{Actor, ActorCrew}
-use Rattle.world_laws.specs.Fresh.{IsFreshCrew, IsFreshMember, shown_crew, shown_member, shown_world}
 use Rattle.world_laws.specs.InfiniteMappings.{MappingIsRight, OptionIsRight, FlightIsRight, PathIsRight, InfiniteMappingsAreRight, HeardMappingIsRight, HeardOptionIsRight, NextIsRight, ActorHearsRight, InfiniteMappingsAreHeardRight}
-use Rattle.world_laws.specs.Openings.{opened_world}
-use Rattle.world_laws.specs.Promises.{HoldsAnywayOfOctets}
-use Rattle.world_laws.specs.Worlds.{WorldState, Turn, world_run}
 use Rattle.world_laws.proofs.Joins.OverOctets.{same_arriving, same_end_at, fresh_last}
 use Rattle.world_laws.proofs.Numbers.EveryTurn.{every_list_is_fresh}
 use Rattle.world_laws.proofs.Promises.InfiniteMappingsAreRight.{infinite_mappings_are_right}
@@ -49,10 +21,8 @@ use Rattle.world_laws.proofs.Worlds.Finding.{find_every, one_side}
 
 module _ (c : Profile) (s : Side) (e : PathEnd) where
   mapping_meant : (o : Option (PathMapping ℕ)) → MappingIsRight c s e o → HeardMappingIsRight c s e (option_map meant_mapping o)
-  mapping_meant None right = tt
-  mapping_meant (Some (Bytes place position len fin checksum)) right = tt
-  mapping_meant (Some (End place checksum)) right = tt
   mapping_meant (Some (Infinite place position)) right = right
+  mapping_meant _ right = tt
 
   option_meant : (o : PlainOption) → OptionIsRight c s e o → HeardOptionIsRight c s e (meant_option o)
   option_meant (Dss next mapping) right = mapping_meant mapping right
@@ -64,15 +34,13 @@ module _ (c : Profile) (s : Side) (e : PathEnd) where
   }
 
   arrived_meant : (carried : Carried) → Every (OptionIsRight c s e) carried.segment.options → Every (HeardOptionIsRight c s e) (meant (as_arrived carried)).options
-  arrived_meant carried right = by carried.stripped
-    where
-      by : (b : Bool) → Every (HeardOptionIsRight c s e) (map meant_option (if b then [] else carried.segment.options))
-      by true = Every-nil (HeardOptionIsRight c s e)
-      by false = options_meant carried.segment.options right
+  arrived_meant carried right =
+      if_so (λ z. Every (HeardOptionIsRight c s e) (map meant_option z)) carried.stripped [] carried.segment.options
+      (Every-nil (HeardOptionIsRight c s e)) (options_meant carried.segment.options right)
 
 -- ---- a path
 
-module _ (p : PathState Carried) (fresh : NextIsFresh p) (rights : Every (FlightIsRight p) p.link.under_way) (due : Due) (heard : HeardSegment) (next : next_event p ≡ Some (happenings.Arrives due)) where
+module _ (p : PathState Carried) (fresh : NextIsFresh p) (rights : Every (FlightIsRight p) p.link.under_way) (due : Due) (heard : HeardSegment) (next : next_event p ≡ Some (Event.Arrives due)) where
   abbrev side : Side
   side = peer due.to
 

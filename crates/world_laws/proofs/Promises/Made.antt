@@ -1,14 +1,9 @@
 -- The promises, over segments as values and over octets.
-use Rattle.std.proofs.Common.{◌≡◌, sym, ◌∙◌, ap, subst, ℕ, true, false, List, [], ◌∷◌, ◌++◌, refl}
-use Rattle.sides.specs.declared.side.Side.{Side}
-use Rattle.sides.specs.declared.side.Side.TheVariants.{A, B}
-use Rattle.path_core.specs.Octets.{octets}
-use Rattle.path_core.specs.Values.{Carried, values}
-use Rattle.world_laws.specs.Altered.{BothKeepCount, HoldsCheckedOfOctets, PlacedUntilTheFall, PrefixUntilTheFall, StaysRight, fell_back}
-use Rattle.world_laws.specs.Fresh.{shown_world}
-use Rattle.world_laws.specs.Openings.{Start, opened_world}
-use Rattle.world_laws.specs.Promises.{HasRoom, NumbersFit, was_told_end, BothKeepTheirWord, NothingCame, NothingFollows, IsOneStep, EachTurnIsOneStep, NothingWasRefused, JoinsAreRight, AddressesAreRight, KeysNeverDiffer, IsPromised, IsPromisedOfOctets, HoldsAnywayOfOctets, OctetsAreValuesShown}
-use Rattle.world_laws.specs.Worlds.{WorldState, Turn, after_turn, world_run}
+use Rattle.world_laws.proofs.Words.{◌≡◌, refl, sym, ◌∙◌, ap, subst, ℕ, true, false, List, [], ◌∷◌, ◌++◌, Side, A, B, Carried, values, octets, Start}
+use Rattle.world_laws.proofs.Words.{opened_world, WorldState, Turn, after_turn, world_run, HasRoom, NumbersFit, was_told_end, BothKeepTheirWord, NothingCame}
+use Rattle.world_laws.proofs.Words.{NothingFollows, IsOneStep, EachTurnIsOneStep, NothingWasRefused, JoinsAreRight, AddressesAreRight, KeysNeverDiffer}
+use Rattle.world_laws.proofs.Words.{IsPromised, IsPromisedOfOctets, HoldsAnywayOfOctets, OctetsAreValuesShown, shown_world, BothKeepCount, HoldsCheckedOfOctets}
+use Rattle.world_laws.proofs.Words.{PlacedUntilTheFall, PrefixUntilTheFall, StaysRight, fell_back}
 use Rattle.world_laws.proofs.Promises.WhateverIsAltered.{keep_count, nothing_follows, one_step_each, prefix_until, placed_until}
 use Rattle.world_laws.proofs.Keys.ToldAreOwn.{keys_never_differ}
 use Rattle.world_laws.proofs.Announcements.HmacsAgree.{addresses_are_right}

@@ -1,17 +1,8 @@
 -- An answer that no step is given is in no note.
-use Rattle.std.proofs.Common.{◌≡◌, refl, sym, ◌∙◌, ap, subst, ℕ, Bool, true, false, if◌then◌else◌, ⊎_elim, Option, Some, None, List, [], ◌∷◌, ◌++◌, map}
-use Rattle.std.proofs.lemmas.Bool.{or_from, or_parts}
-use Rattle.std.specs.List.{slice_get}
-use Rattle.stream_lanes.proofs.Lists.{in_set, in_map}
-use Rattle.actor_desk.specs.declared.ask.Ask.{Ask}
-use Rattle.actor_desk.specs.declared.ask.Note.{Note}
-use Rattle.actor_desk.specs.declared.ask.Reply.{Reply}
-use Rattle.path_core.specs.Codec.{Codec}
-use Rattle.world_laws.specs.Actors.{ActorCrew, member_asks}
-use Rattle.world_laws.specs.Openings.{Start, opened_world}
-use Rattle.world_laws.specs.Outcomes.{was_told, notes_or, notes_at}
-use Rattle.world_laws.specs.StampedBooks.{answer_to}
-use Rattle.world_laws.specs.Worlds.{WorldState, Turn, note_of, crew_after, asked, stepped, all_over, greatest, begins, after_turn}
+use Rattle.world_laws.proofs.Words.{◌≡◌, refl, sym, ◌∙◌, ap, subst, ℕ, ⊎_elim, Bool, false, Option, Some, None, List, [], ◌∷◌, ◌++◌, or_parts, or_from}
+use Rattle.world_laws.proofs.Words.{slice_get, Ask, Note, Reply, Codec, in_map, in_set, ActorCrew, member_asks, Start, opened_world, WorldState, Turn}
+use Rattle.world_laws.proofs.Words.{crew_after, asked, greatest, begins, after_turn, note_of, answer_to, notes_at, was_told, notes_or}
+use Rattle.world_laws.proofs.Worlds.Turns.{turn_so}
 use Rattle.world_laws.proofs.Worlds.Opened.{opened_actors}
 
 module _ (test : Reply → Bool) where
@@ -45,20 +36,9 @@ module _ (test : Reply → Bool) where
     Untold w = (actor : ℕ) (c : ActorCrew C) (x : Ask) → slice_get w.crew actor ≡ Some c → member_asks k c.member ≡ Some x → test (answer_to w.books x) ≡ false
 
     pub turn_none : (turn : Turn) (w : WorldState C) → Untold w → NoneTold w → NoneTold (after_turn k turn w)
-    turn_none (Turn.Step actor) w untold h = by (slice_get w.crew actor) refl
-      where
-        asks : (c : ActorCrew C) → slice_get w.crew actor ≡ Some c → (o : Option Ask) → member_asks k c.member ≡ o → NoneTold (asked k actor o c w)
-        asks c there None is = h
-        asks c there (Some x) is = asked_none actor w c x there (untold actor c x there is) h
-
-        by : (o : Option (ActorCrew C)) → slice_get w.crew actor ≡ o → NoneTold (stepped k actor o w)
-        by None there = h
-        by (Some c) there = asks c there (member_asks k c.member) refl
-    turn_none Turn.Round w untold h = by (all_over w.crew)
-      where
-        by : (b : Bool) → NoneTold (if b then record w { crew = map (begins (greatest 0 w.crew)) w.crew } else w)
-        by true = λ i d at. let found = in_map (begins (greatest 0 w.crew)) w.crew i d at in ap (λ y. was_told test y.list) (sym found.2) ∙ h i found.0 found.1
-        by false = h
+    turn_none turn w untold h =
+        turn_so k NoneTold turn w h (λ actor c x there is. asked_none actor w c x there (untold actor c x there is) h)
+        (λ over i d at. let found = in_map (begins (greatest 0 w.crew)) w.crew i d at in ap (λ y. was_told test y.list) (sym found.2) ∙ h i found.0 found.1)
 
     pub opened_none : (start : Start) → NoneTold (opened_world start)
     opened_none start = opened_actors (λ actor c. was_told test c.list ≡ false) start refl refl (λ number plan there. refl)

@@ -1,25 +1,13 @@
 -- Connections by scripts keep their promises, and by scripts that alter nothing all of them.
-use Rattle.std.proofs.Common.{◌≡◌, refl, sym, ap, subst, ℕ, zero, suc, ◌+◌, ◌*◌, ◌^◌, ◌<◌, ◌≤◌, Bool, true, false, cond, Some, List, [], ◌∷◌, length, arith}
-use Rattle.std.specs.List.{list_any, slice_get}
-use Rattle.std.specs.Prelude.{All}
-use Rattle.std.proofs.lemmas.Bool.{or_from, or_parts}
-use Rattle.std.proofs.lemmas.List.Elements.{All-head, All-tail}
-use Rattle.std.proofs.lemmas.Option.{same_Some}
-use Rattle.sides.specs.declared.side.Side.{Side}
+use Rattle.world_laws.proofs.Words.{◌≡◌, refl, sym, ap, subst, ℕ, zero, suc, ◌+◌, ◌≤◌, Bool, true, false, cond, Some, List, [], ◌∷◌, length, arith, ◌<◌, ◌^◌}
+use Rattle.world_laws.proofs.Words.{◌*◌, or_parts, or_from, same_Some, list_any, slice_get, All, All-head, All-tail, Side, path_named, ScriptLine, lines_of}
+use Rattle.world_laws.proofs.Words.{is_altered_by, key_of, octets, AltersNothing, CanRunPath, PathPlan, start_of, plan_of, plans_from}
 use Rattle.key_material.proofs.Bounds.{drawn_word_below}
-use Rattle.link_model.specs.Fate.{is_altered_by}
-use Rattle.link_model.specs.Steps.{is_path, lines_of}
-use Rattle.link_script.specs.Places.{path_named}
+use Rattle.link_model.specs.Steps.{is_path}
 use Rattle.link_script.specs.declared.script.PathLine.{PathLine}
 use Rattle.link_script.specs.declared.script.Script.{Script}
-use Rattle.link_script.specs.declared.script.ScriptLine.{ScriptLine}
 use Rattle.link_script.specs.declared.script.ScriptLine.TheVariants.{Alter}
 use Rattle.link_script.specs.Scripts.{IsPath}
-use Rattle.path_core.specs.Octets.{octets}
-use Rattle.path_core.specs.Shown.{AltersNothing}
-use Rattle.path_core.specs.Start.{key_of}
-use Rattle.world_laws.specs.Openings.{PathPlan, plan_of, plans_from, start_of}
-use Rattle.world_laws.specs.Laws.{CanRunPath}
 use Rattle.world_laws.specs.PlainScripts.{alters_payload, IsPlainScript, IsShortScript, ScriptsFit, ScriptsKeepAnyway, CheckedScriptsKeepOctets, ScriptsAreShownOfValues, PlainScriptsStartPlainly, PlainScriptsKeepAllPromises, ScriptsCanRun}
 use Rattle.world_laws.proofs.Promises.AbortsHaveACause.{aborts_have_cause_in_octets}
 use Rattle.world_laws.proofs.Promises.AbortedHearThatAlone.{abort_is_last}

@@ -1,27 +1,12 @@
 -- What a world over segments as values promises, it promises shown over octets: books and notes are the same.
-use Rattle.std.proofs.Common.{◌≡◌, refl, sym, ◌∙◌, ap, subst, ℕ, zero, suc, ◌+◌, ◌-◌, nat_lt, if◌then◌else◌, List, [], ◌∷◌, ◌++◌, length, map}
-use Rattle.std.specs.List.{slice_get}
-use Rattle.octet_text.specs.Prefix.{IsPrefix}
-use Rattle.sides.specs.declared.side.Side.{Side}
-use Rattle.sides.specs.declared.side.Side.TheVariants.{A, B}
-use Rattle.reassembly_book.specs.State.{received}
-use Rattle.stream_lanes.specs.Laws.{StepsOrStays, flattened}
-use Rattle.actor_desk.specs.Words.{pick}
-use Rattle.stream_apps.specs.Starts.{fast_close_of, first_app_turn}
-use Rattle.path_agenda.specs.Agenda.{start_of_turn}
-use Rattle.path_core.specs.Octets.{octets}
-use Rattle.path_core.specs.Start.{waiting_path}
-use Rattle.path_core.specs.State.{with_agenda}
-use Rattle.path_core.specs.Values.{Carried, values}
-use Rattle.path_core.proofs.Showing.{same_settled}
-use Rattle.world_laws.specs.declared.member.Member.TheVariants.{App, Path}
-use Rattle.world_laws.specs.Actors.{ActorCrew}
-use Rattle.world_laws.specs.Altered.{KeepsCount, BothKeepCount, PrefixUntilTheFall, StaysRight, octet_at}
-use Rattle.world_laws.specs.Fresh.{AreFresh, shown_crew, shown_world}
-use Rattle.world_laws.specs.Openings.{PathPlan, Start, path_begins, new_crew, new_path, paths_from, opened_world}
-use Rattle.world_laws.specs.Outcomes.{notes_at, notes_of, output_of, pipe_of, read_by, was_told, tells_end}
-use Rattle.world_laws.specs.Promises.{tells_refusal, tells_other_key, tells_wrong_join, tells_bad_address, arrived_at, was_told_end, KeepsItsWord, BothKeepTheirWord, NothingCame, IsOneStep, NothingWasRefused, KeysNeverDiffer, JoinsAreRight, AddressesAreRight}
-use Rattle.world_laws.specs.Worlds.{WorldState, Turn, world_run}
+use Rattle.world_laws.proofs.Words.{◌≡◌, refl, sym, ◌∙◌, ap, subst, ℕ, zero, suc, ◌+◌, ◌-◌, nat_lt, if◌then◌else◌, List, [], ◌∷◌, ◌++◌, length, map, slice_get}
+use Rattle.world_laws.proofs.Words.{IsPrefix, Side, A, B, received, start_of_turn, pick, first_app_turn, waiting_path, with_agenda, Carried, values, octets}
+use Rattle.world_laws.proofs.Words.{same_settled, StepsOrStays, flattened, App, Path, ActorCrew, PathPlan, Start, path_begins, new_crew, new_path, paths_from}
+use Rattle.world_laws.proofs.Words.{opened_world, WorldState, Turn, world_run, was_told_end, BothKeepTheirWord, NothingCame, IsOneStep, NothingWasRefused}
+use Rattle.world_laws.proofs.Words.{JoinsAreRight, AddressesAreRight, KeysNeverDiffer, tells_bad_address, tells_wrong_join, tells_other_key, arrived_at}
+use Rattle.world_laws.proofs.Words.{tells_refusal, KeepsItsWord, AreFresh, shown_crew, shown_world, notes_at, notes_of, output_of, pipe_of, read_by, was_told}
+use Rattle.world_laws.proofs.Words.{tells_end, BothKeepCount, PrefixUntilTheFall, StaysRight, octet_at, KeepsCount}
+use Rattle.stream_apps.specs.Starts.{fast_close_of}
 use Rattle.world_laws.proofs.Worlds.Carrying.{run_same}
 
 -- ---- notes

@@ -1,47 +1,17 @@
 -- What a connection promises follows from what its world shows of the two directions.
-use Rattle.std.proofs.Common.{◌≡◌, refl, sym, ◌∙◌, ap, subst, ℕ, Bool, true, false, ◌||◌, if◌then◌else◌, Option, Some, None, Result, Ok, Err, List, [], ◌∷◌, take, not, length, ◌&&◌, ◌-◌, nat_lt}
-use Rattle.std.specs.List.{slice_get, list_all}
-use Rattle.std.proofs.lemmas.Bool.{and_parts, false≢true}
-use Rattle.sides.specs.declared.side.Side.TheVariants.{A, B}
-use Rattle.octet_text.specs.Prefix.{IsPrefix}
-use Rattle.send_book.specs.declared.call.Span.{Span}
-use Rattle.send_book.specs.declared.call.Why.{Why}
-use Rattle.send_book.specs.declared.call.SendCall.{SendCall}
-use Rattle.send_book.specs.declared.call.SendCall.TheVariants as send_calls
-use Rattle.send_book.specs.declared.call.SendReply.{SendReply}
-use Rattle.send_book.specs.declared.call.SendReply.TheVariants as send_replies
-use Rattle.send_book.specs.State.{Sending, acked_len}
+use Rattle.world_laws.proofs.Words.{◌≡◌, refl, sym, ◌∙◌, ap, subst, ℕ, ◌-◌, ◌&&◌, ◌||◌, not, nat_lt, Bool, true, false, if◌then◌else◌, Option, Some, None}
+use Rattle.world_laws.proofs.Words.{Result, Ok, Err, List, [], ◌∷◌, length, take, and_parts, false≢true, slice_get, list_all, IsPrefix, A, B, ReassemblyCall}
+use Rattle.world_laws.proofs.Words.{Arriving, filled, received, ReassemblyReply, Span, Why, SendCall, Sending, acked_len, SendReply, Ask, Note, Reply, books_in}
+use Rattle.world_laws.proofs.Words.{SixBooks, reply_of, Carried, Duo, after_events, after_event, flags_ab, flags_ba, Holds, DirectionHolds, Lane, LaneAsk}
+use Rattle.world_laws.proofs.Words.{is_exact, Direction, StreamEvent, Reader, lane_moves, ToB, ToA, FallA, FallB, LoosenA, LoosenB, BeginJoin, SendJoin}
+use Rattle.world_laws.proofs.Words.{HearJoin, Flags, Move, AskAckIn, AskPlace, AskFin, Moves, Asks, lane_pipe, StepsOrStays, EachEventIsOneStep}
+use Rattle.world_laws.proofs.Words.{NothingIsRefused, BothWays, is_ack_future, is_beyond_or_clash, ask_refused, lane_refused, content, flattened, never_fell_a}
+use Rattle.world_laws.proofs.Words.{never_fell_b, reads_prefix, ends_whole, ends_at_all, Start, WorldState, was_told_end, BothKeepTheirWord, arrived_at}
+use Rattle.world_laws.proofs.Words.{tells_refusal, if_so, output_of, read_by, was_told, tells_end, pipe_ab, pipe_ba, BothKeepCount, octet_at}
 use Rattle.send_book.specs.Steps as sending
-use Rattle.reassembly_book.specs.declared.call.ReassemblyCall.{ReassemblyCall}
-use Rattle.reassembly_book.specs.declared.call.ReassemblyCall.TheVariants as reassembly_calls
-use Rattle.reassembly_book.specs.declared.call.ReassemblyReply.{ReassemblyReply}
-use Rattle.reassembly_book.specs.declared.call.ReassemblyReply.TheVariants as reassembly_replies
-use Rattle.reassembly_book.specs.State.{Arriving, received, filled}
 use Rattle.reassembly_book.specs.Steps as arriving
-use Rattle.stream_lanes.specs.Lane.{Ask as LaneAsk, Lane}
-use Rattle.stream_lanes.specs.Lane.Ask.{AskAckIn, AskPlace, AskFin}
-use Rattle.stream_lanes.specs.Moves.{Flags, Move}
-use Rattle.stream_lanes.specs.Streams.{Reader, Direction, StreamEvent, moves as lane_moves}
-use Rattle.stream_lanes.specs.Streams.StreamEvent.{Moves, Asks}
-use Rattle.stream_lanes.specs.Duo.{Duo, Event, after_event, after_events, flags_ab, flags_ba}
-use Rattle.stream_lanes.specs.Duo.Event.{ToB, ToA, FallA, FallB, LoosenA, LoosenB, BeginJoin, SendJoin, HearJoin}
-use Rattle.stream_lanes.specs.View.{is_exact}
-use Rattle.stream_lanes.specs.Holding.{DirectionHolds, Holds}
-use Rattle.stream_lanes.specs.Laws.{pipe_of as lane_pipe, StepsOrStays, EachEventIsOneStep, NothingIsRefused, BothWays, is_ack_future, is_beyond_or_clash, ask_refused, lane_refused, content, flattened, never_fell_a, never_fell_b}
-use Rattle.stream_lanes.proofs.Promises.{reads_prefix, acknowledges, ends_whole, ends_at_all}
-use Rattle.actor_desk.specs.declared.ask.Ask.{Ask}
-use Rattle.actor_desk.specs.declared.ask.Ask.TheVariants as asks
-use Rattle.actor_desk.specs.declared.ask.Note.{Note}
-use Rattle.actor_desk.specs.declared.ask.Reply.{Reply}
-use Rattle.actor_desk.specs.declared.ask.Reply.TheVariants as replies
-use Rattle.actor_desk.specs.Books.{books_in}
-use Rattle.actor_desk.specs.Desk.{SixBooks, reply_of}
-use Rattle.path_core.specs.Values.{Carried}
-use Rattle.world_laws.specs.Openings.{Start}
-use Rattle.world_laws.specs.Outcomes.{tells_end, was_told, read_by, output_of, pipe_ab, pipe_ba}
-use Rattle.world_laws.specs.Altered.{BothKeepCount, octet_at}
-use Rattle.world_laws.specs.Promises.{tells_refusal, was_told_end, BothKeepTheirWord, arrived_at}
-use Rattle.world_laws.specs.Worlds.{WorldState}
+use Rattle.stream_lanes.specs.Duo.{Event}
+use Rattle.stream_lanes.proofs.Promises.{acknowledges}
 use Rattle.world_laws.proofs.Lanes.Applying.{Reads}
 use Rattle.world_laws.proofs.Lanes.OfAWorld.{Links, plain_at, loose_at, duo_of, WorldShows, IsAsking, SendCallIs, ReassemblyCallIs, CallIs, is_silent, AreSilent, call_events, TurnShows}
 use Rattle.world_laws.proofs.Lanes.Roads.{direction}
@@ -253,49 +223,37 @@ module _ (ask : Option Ask) (d e : Duo) (t : TurnShows ask d e) where
 
 -- ---- nothing is refused
 
-either_untold : (c : Bool) (x y : Reply) → tells_refusal x ≡ false → tells_refusal y ≡ false → tells_refusal (if c then x else y) ≡ false
-either_untold true x y p q = p
-either_untold false x y p q = q
-
-granted_untold : (o : Result Span Why) (b : Sending) → tells_refusal (replies.Send (sending.reply_by o b)) ≡ false
+granted_untold : (o : Result Span Why) (b : Sending) → tells_refusal (Reply.Send (sending.reply_by o b)) ≡ false
 granted_untold (Ok span) b = refl
 granted_untold (Err why) b = refl
 
-write_untold : (bytes : List ℕ) (b : Sending) → tells_refusal (replies.Send (sending.write_reply bytes b)) ≡ false
-write_untold bytes b = by (b.closed || b.aborted)
-  where
-    by : (c : Bool) → tells_refusal (replies.Send (if c then send_replies.Shut else send_replies.Taken (sending.bytes_taken bytes b))) ≡ false
-    by true = refl
-    by false = refl
+write_untold : (bytes : List ℕ) (b : Sending) → tells_refusal (Reply.Send (sending.write_reply bytes b)) ≡ false
+write_untold bytes b = if_so (λ z. tells_refusal (Reply.Send z) ≡ false) (b.closed || b.aborted) SendReply.Shut (SendReply.Taken (sending.bytes_taken bytes b)) refl refl
 
-close_untold : (b : Sending) → tells_refusal (replies.Send (sending.close_reply b)) ≡ false
-close_untold b = by b.aborted
-  where
-    by : (c : Bool) → tells_refusal (replies.Send (if c then send_replies.Shut else send_replies.Closed)) ≡ false
-    by true = refl
-    by false = refl
+close_untold : (b : Sending) → tells_refusal (Reply.Send (sending.close_reply b)) ≡ false
+close_untold b = if_so (λ z. tells_refusal (Reply.Send z) ≡ false) b.aborted SendReply.Shut SendReply.Closed refl refl
 
-ack_untold : (r : SendReply) → is_ack_future r ≡ false → tells_refusal (replies.Send r) ≡ false
-ack_untold (send_replies.AckFuture written) is = is
+ack_untold : (r : SendReply) → is_ack_future r ≡ false → tells_refusal (Reply.Send r) ≡ false
+ack_untold (SendReply.AckFuture written) is = is
 ack_untold _ is = refl
 
-place_untold : (r : ReassemblyReply) → is_beyond_or_clash r ≡ false → tells_refusal (replies.Reassembly r) ≡ false
-place_untold (reassembly_replies.Beyond edge) is = is
-place_untold (reassembly_replies.FinClash fin at) is = is
+place_untold : (r : ReassemblyReply) → is_beyond_or_clash r ≡ false → tells_refusal (Reply.Reassembly r) ≡ false
+place_untold (ReassemblyReply.Beyond edge) is = is
+place_untold (ReassemblyReply.FinClash fin at) is = is
 place_untold _ is = refl
 
-read_untold : (max : ℕ) (b : Arriving) → tells_refusal (replies.Reassembly (arriving.reading b.aborted max b)) ≡ false
+read_untold : (max : ℕ) (b : Arriving) → tells_refusal (Reply.Reassembly (arriving.reading b.aborted max b)) ≡ false
 read_untold max b = by b.aborted
   where
-    by_end : (c : Bool) → tells_refusal (replies.Reassembly (if c then reassembly_replies.End else reassembly_replies.NoneYet)) ≡ false
+    by_end : (c : Bool) → tells_refusal (Reply.Reassembly (if c then ReassemblyReply.End else ReassemblyReply.NoneYet)) ≡ false
     by_end true = refl
     by_end false = refl
 
-    by_bytes : (bytes : List ℕ) → tells_refusal (replies.Reassembly (arriving.bytes_reply bytes b)) ≡ false
+    by_bytes : (bytes : List ℕ) → tells_refusal (Reply.Reassembly (arriving.bytes_reply bytes b)) ≡ false
     by_bytes [] = by_end (arriving.is_end b.known_end b.read)
     by_bytes (byte ∷ bytes) = refl
 
-    by : (aborted : Option Bool) → tells_refusal (replies.Reassembly (arriving.reading aborted max b)) ≡ false
+    by : (aborted : Option Bool) → tells_refusal (Reply.Reassembly (arriving.reading aborted max b)) ≡ false
     by None = by_bytes (take max (filled b.places))
     by (Some by_peer) = refl
 
@@ -304,42 +262,38 @@ lane_untold : (path : ℕ) (ask : LaneAsk) (d : Direction) → NothingIsRefused 
 lane_untold path ask d none asking =
     ap (λ x. ask_refused x d) (sym asking.asks) ∙ ap (lane_refused (λ p. ask_refused p.asking d)) (sym asking.there) ∙ none (Asks path)
 
-infinite_untold : (path : ℕ) (b : Sending) → tells_refusal (replies.Send (sending.infinite_reply path b)) ≡ false
-infinite_untold path b = by (sending.is_gathered path b)
-  where
-    by : (c : Bool) → tells_refusal (replies.Send (if c then send_replies.Infinite (acked_len b.marks) else send_replies.Scattered)) ≡ false
-    by true = refl
-    by false = refl
+infinite_untold : (path : ℕ) (b : Sending) → tells_refusal (Reply.Send (sending.infinite_reply path b)) ≡ false
+infinite_untold path b =
+    if_so (λ z. tells_refusal (Reply.Send z) ≡ false) (sending.is_gathered path b) (SendReply.Infinite (acked_len b.marks)) SendReply.Scattered
+    refl refl
 
-send_untold : (call : SendCall) (d : Direction) (event : StreamEvent) → NothingIsRefused d → SendCallIs call d event → tells_refusal (replies.Send (sending.reply_to d.send call)) ≡ false
-send_untold (send_calls.Write bytes) d event none is = write_untold bytes d.send
-send_untold send_calls.Close d event none is = close_untold d.send
-send_untold (send_calls.Grant path max standby) d event none is = granted_untold (sending.decision path max standby d.send) d.send
-send_untold (send_calls.AckIn next window) d event none is = ack_untold (sending.reply_to d.send (send_calls.AckIn next window)) (lane_untold is.path (AskAckIn next window) d none is.asking)
-send_untold (send_calls.Return path) d event none is = refl
-send_untold send_calls.GoIdentity d event none is = refl
-send_untold (send_calls.GoInfinite path) d event none is = infinite_untold path d.send
-send_untold send_calls.Abort d event none is = refl
+send_untold : (call : SendCall) (d : Direction) (event : StreamEvent) → NothingIsRefused d → SendCallIs call d event → tells_refusal (Reply.Send (sending.reply_to d.send call)) ≡ false
+send_untold (SendCall.Write bytes) d event none is = write_untold bytes d.send
+send_untold SendCall.Close d event none is = close_untold d.send
+send_untold (SendCall.Grant path max standby) d event none is = granted_untold (sending.decision path max standby d.send) d.send
+send_untold (SendCall.AckIn next window) d event none is = ack_untold (sending.reply_to d.send (SendCall.AckIn next window)) (lane_untold is.path (AskAckIn next window) d none is.asking)
+send_untold (SendCall.GoInfinite path) d event none is = infinite_untold path d.send
+send_untold _ d event none is = refl
 
 arrival_untold : (call : ReassemblyCall) (d : Direction) (event : StreamEvent) → NothingIsRefused d → ReassemblyCallIs call d event
-    → tells_refusal (replies.Reassembly (arriving.reply_to d.arrived call)) ≡ false
-arrival_untold (reassembly_calls.Place at bytes) d event none is =
-    place_untold (arriving.reply_to d.arrived (reassembly_calls.Place at bytes)) (lane_untold is.path (AskPlace at bytes) d none is.asking)
-arrival_untold (reassembly_calls.Fin at) d event none is = place_untold (arriving.reply_to d.arrived (reassembly_calls.Fin at)) (lane_untold is.path (AskFin at) d none is.asking)
-arrival_untold (reassembly_calls.Read max) d event none is = read_untold max d.arrived
-arrival_untold reassembly_calls.AckOut d event none is = refl
-arrival_untold (reassembly_calls.Abort by_peer) d event none is = refl
+    → tells_refusal (Reply.Reassembly (arriving.reply_to d.arrived call)) ≡ false
+arrival_untold (ReassemblyCall.Place at bytes) d event none is =
+    place_untold (arriving.reply_to d.arrived (ReassemblyCall.Place at bytes)) (lane_untold is.path (AskPlace at bytes) d none is.asking)
+arrival_untold (ReassemblyCall.Fin at) d event none is = place_untold (arriving.reply_to d.arrived (ReassemblyCall.Fin at)) (lane_untold is.path (AskFin at) d none is.asking)
+arrival_untold (ReassemblyCall.Read max) d event none is = read_untold max d.arrived
+arrival_untold ReassemblyCall.AckOut d event none is = refl
+arrival_untold (ReassemblyCall.Abort by_peer) d event none is = refl
 
 -- the books of a world are those of its directions
 pub ask_untold : (ask : Ask) (six : SixBooks) (d : Duo) (call : Option Event) → six.send_a ≡ d.ab.send → six.send_b ≡ d.ba.send → six.reassembly_b ≡ d.ab.arrived → six.reassembly_a ≡ d.ba.arrived
     → BothWays NothingIsRefused d → CallIs (Some ask) d call → tells_refusal (reply_of six ask) ≡ false
-ask_untold (asks.Send A c) six d call send_a send_b arrived_b arrived_a none is =
-    ap (λ b. tells_refusal (replies.Send (sending.reply_to b c))) send_a ∙ send_untold c d.ab is.0 none.0 is.2
-ask_untold (asks.Send B c) six d call send_a send_b arrived_b arrived_a none is =
-    ap (λ b. tells_refusal (replies.Send (sending.reply_to b c))) send_b ∙ send_untold c d.ba is.0 none.1 is.2
-ask_untold (asks.Reassembly A c) six d call send_a send_b arrived_b arrived_a none is =
-    ap (λ b. tells_refusal (replies.Reassembly (arriving.reply_to b c))) arrived_a ∙ arrival_untold c d.ba is.0 none.1 is.2
-ask_untold (asks.Reassembly B c) six d call send_a send_b arrived_b arrived_a none is =
-    ap (λ b. tells_refusal (replies.Reassembly (arriving.reply_to b c))) arrived_b ∙ arrival_untold c d.ab is.0 none.0 is.2
-ask_untold (asks.Control s c) six d call send_a send_b arrived_b arrived_a none is = refl
-ask_untold (asks.Local step) six d call send_a send_b arrived_b arrived_a none is = refl
+ask_untold (Ask.Send A c) six d call send_a send_b arrived_b arrived_a none is =
+    ap (λ b. tells_refusal (Reply.Send (sending.reply_to b c))) send_a ∙ send_untold c d.ab is.0 none.0 is.2
+ask_untold (Ask.Send B c) six d call send_a send_b arrived_b arrived_a none is =
+    ap (λ b. tells_refusal (Reply.Send (sending.reply_to b c))) send_b ∙ send_untold c d.ba is.0 none.1 is.2
+ask_untold (Ask.Reassembly A c) six d call send_a send_b arrived_b arrived_a none is =
+    ap (λ b. tells_refusal (Reply.Reassembly (arriving.reply_to b c))) arrived_a ∙ arrival_untold c d.ba is.0 none.1 is.2
+ask_untold (Ask.Reassembly B c) six d call send_a send_b arrived_b arrived_a none is =
+    ap (λ b. tells_refusal (Reply.Reassembly (arriving.reply_to b c))) arrived_b ∙ arrival_untold c d.ab is.0 none.0 is.2
+ask_untold (Ask.Control s c) six d call send_a send_b arrived_b arrived_a none is = refl
+ask_untold (Ask.Local step) six d call send_a send_b arrived_b arrived_a none is = refl

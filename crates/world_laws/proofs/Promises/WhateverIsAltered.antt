@@ -1,18 +1,9 @@
 -- What holds whatever payload the links alter: over lanes that may alter it too.
-use Rattle.std.proofs.Common.{◌≡◌, refl, sym, ◌∙◌, ap, subst, not, true, List, ◌++◌, length}
-use Rattle.std.proofs.lemmas.Bool.{not-true, true≢false}
-use Rattle.std.specs.List.{slice_get}
-use Rattle.sides.specs.declared.side.Side.TheVariants.{A, B}
-use Rattle.octet_text.specs.Prefix.{IsPrefix}
-use Rattle.send_book.specs.State.{Sending}
-use Rattle.stream_lanes.specs.Duo.{Duo, Event, after_events}
-use Rattle.stream_lanes.proofs.Promises.{prefix_before_the_fall, placed_before_the_fall}
-use Rattle.actor_desk.specs.Books.{books_in}
-use Rattle.path_core.specs.Values.{Carried, values}
-use Rattle.world_laws.specs.Altered.{BothKeepCount, HoldsChecked, PrefixUntilTheFall, PlacedUntilTheFall, fell_back}
-use Rattle.world_laws.specs.Openings.{Start, opened_world}
-use Rattle.world_laws.specs.Promises.{HasRoom, HoldsAnyway, NothingFollows, EachTurnIsOneStep, written_by}
-use Rattle.world_laws.specs.Worlds.{WorldState, Turn, world_run}
+use Rattle.world_laws.proofs.Words.{◌≡◌, refl, sym, ◌∙◌, ap, subst, not, true, List, ◌++◌, length, true≢false, not-true, slice_get, IsPrefix, A, B, Sending}
+use Rattle.world_laws.proofs.Words.{books_in, Carried, values, Duo, after_events, prefix_before_the_fall, placed_before_the_fall, Start, opened_world}
+use Rattle.world_laws.proofs.Words.{WorldState, Turn, world_run, HasRoom, NothingFollows, EachTurnIsOneStep, HoldsAnyway, written_by, BothKeepCount}
+use Rattle.world_laws.proofs.Words.{PlacedUntilTheFall, PrefixUntilTheFall, fell_back, HoldsChecked}
+use Rattle.stream_lanes.specs.Duo.{Event}
 use Rattle.world_laws.proofs.Lanes.Beginning.{each_run_shows}
 use Rattle.world_laws.proofs.Lanes.OfAWorld.{Carries, Links, Reached, WorldShows, anyhow, anyhow_free, checkedly, checkedly_free, duo_of, events_append, first_duo}
 use Rattle.world_laws.proofs.Falls.CallsAndModes.{softened, softens}

@@ -1,22 +1,9 @@
 -- Each round leaves a path a step at least: something is to be done when it begins, and only a step ends its turn.
-use Rattle.std.proofs.Common.{◌≡◌, ℕ, ◌+◌, ◌*◌, ◌≤◌, true, [], ◌∷◌, ◌++◌, length, length-append, arith}
-use Rattle.std.proofs.lemmas.Bool.{both_ways}
-use Rattle.stream_lanes.specs.Words.{Every}
-use Rattle.actor_desk.specs.declared.ask.Ask.{Ask}
-use Rattle.actor_desk.specs.declared.ask.Reply.{Reply}
-use Rattle.actor_desk.specs.Books.{StampedBooks}
-use Rattle.actor_desk.specs.Words.{is_nil}
-use Rattle.path_core.specs.Codec.{Codec}
-use Rattle.path_core.specs.Start.{waiting_path}
-use Rattle.path_core.specs.State.{PathState}
-use Rattle.path_core.specs.Steps.{begins_turn}
-use Rattle.world_laws.specs.declared.member.Member.TheVariants.{App, Path}
-use Rattle.world_laws.specs.Actors.{Actor, ActorCrew, member_takes, member_next, is_over}
-use Rattle.world_laws.specs.Laws.{Always}
-use Rattle.world_laws.specs.Openings.{Start, path_begins, opened_world}
-use Rattle.world_laws.specs.StampedBooks.{answer_to}
+use Rattle.world_laws.proofs.Words.{◌≡◌, ℕ, ◌+◌, ◌≤◌, true, [], ◌∷◌, ◌++◌, length, arith, ◌*◌, both_ways, Ask, Reply, StampedBooks, is_nil, Codec, waiting_path}
+use Rattle.world_laws.proofs.Words.{PathState, begins_turn, Every, App, Path, Actor, ActorCrew, member_takes, member_next, is_over, Always, Start, path_begins}
+use Rattle.world_laws.proofs.Words.{opened_world, crew_after, note_of, answer_to}
+use Rattle.std.proofs.Common.{length-append}
 use Rattle.world_laws.specs.Timely.{IsTimely, IsTimelyMember, EachRoundHasAStep}
-use Rattle.world_laws.specs.Worlds.{note_of, crew_after}
 use Rattle.world_laws.proofs.Rounds.Frame.{takes_keeps, first_keeps, first_stands}
 use Rattle.world_laws.proofs.Rounds.Lifting.{run_lifted, opened_lifted}
 

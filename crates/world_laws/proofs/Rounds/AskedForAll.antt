@@ -1,38 +1,12 @@
 -- In each round, where the turn of a path is over, an end that may ask for bytes asked for all that was written as it began.
-use Rattle.std.proofs.Common.{◌≡◌, refl, sym, ◌∙◌, ap, subst, ℕ, zero, suc, ◌+◌, ◌≤◌, nat_lt, ◌||◌, ◌⊎◌, inl, inr, ⊎_elim, Bool, true, false, if◌then◌else◌, Some, List, [], ◌∷◌, ◌++◌, length, drop, set, arith}
-use Rattle.std.proofs.lemmas.List.{append-nil, append_assoc}
-use Rattle.std.proofs.lemmas.Option.{same_Some}
-use Rattle.std.specs.List.{slice_get, list_any}
-use Rattle.std.proofs.lemmas.Bool.{cases_eq}
-use Rattle.sides.specs.declared.side.Side.{Side}
-use Rattle.sides.specs.declared.side.Side.TheVariants.{A, B}
-use Rattle.stamped_book.specs.declared.stamped.Pass.{Pass}
-use Rattle.stamped_book.specs.Journal.{last_stamp}
-use Rattle.send_book.specs.State.{Sending, new_sending}
-use Rattle.stream_lanes.specs.Words.{Every}
-use Rattle.stream_lanes.proofs.Lists.{Every-nil, in_map, in_set, set_same, set_other}
-use Rattle.actor_desk.specs.declared.ask.Ask.{Ask}
-use Rattle.actor_desk.specs.declared.ask.Note.{Note}
-use Rattle.actor_desk.specs.Books.{StampedBooks, books_in, after_entry}
-use Rattle.actor_desk.specs.Desk.{SixBooks, send_of, after_ask}
-use Rattle.actor_desk.specs.Words.{pick}
-use Rattle.stream_apps.specs.declared.duty.AppDuty.{AppDuty}
-use Rattle.stream_apps.specs.AppSteps.{app_ask}
-use Rattle.path_agenda.specs.declared.duty.Duty.{Duty}
-use Rattle.path_core.specs.Codec.{Codec}
-use Rattle.path_core.specs.Duties.{ask_for}
-use Rattle.path_core.specs.Start.{waiting_path}
-use Rattle.path_core.specs.State.{PathState, end_at, path_of}
-use Rattle.path_core.specs.Steps.{begins_turn}
-use Rattle.world_laws.specs.declared.member.Member.TheVariants.{Path}
-use Rattle.world_laws.specs.Actors.{ActorCrew}
-use Rattle.world_laws.specs.Openings.{Start, path_begins, opened_world}
-use Rattle.world_laws.specs.Outcomes.{notes_or, notes_at}
-use Rattle.world_laws.specs.Promises.{written_by}
-use Rattle.world_laws.specs.RoundEnd.{asks_grant}
-use Rattle.world_laws.specs.RoundNumbers.{after_steps, BeginsRound, InEachRound, steps_since, last_asked, frees_bytes, frees_after, OthersFreed, AskForAll, AskedForAll, PathsAskForAll}
-use Rattle.world_laws.specs.StampedBooks.{answer_to}
-use Rattle.world_laws.specs.Worlds.{WorldState, Turn, note_of, greatest, world_run}
+use Rattle.world_laws.proofs.Words.{◌≡◌, refl, sym, ◌∙◌, ap, subst, ℕ, zero, suc, ◌+◌, ◌≤◌, ◌||◌, nat_lt, inl, inr, ◌⊎◌, ⊎_elim, Bool, true, false}
+use Rattle.world_laws.proofs.Words.{if◌then◌else◌, Some, List, [], ◌∷◌, ◌++◌, length, drop, arith, set, cases_eq, append-nil, append_assoc, same_Some, list_any}
+use Rattle.world_laws.proofs.Words.{slice_get, Pass, last_stamp, Side, A, B, Sending, new_sending, Duty, Ask, Note, StampedBooks, books_in, after_entry}
+use Rattle.world_laws.proofs.Words.{SixBooks, send_of, after_ask, pick, AppDuty, app_ask, Codec, ask_for, waiting_path, PathState, end_at, path_of, begins_turn}
+use Rattle.world_laws.proofs.Words.{is_joined, in_map, Every-nil, in_set, set_same, set_other, Every, Path, ActorCrew, Start, path_begins, opened_world}
+use Rattle.world_laws.proofs.Words.{WorldState, Turn, greatest, world_run, note_of, written_by, answer_to, asks_grant, BeginsRound, InEachRound, steps_since}
+use Rattle.world_laws.proofs.Words.{last_asked, frees_bytes, frees_after, OthersFreed, AskForAll, AskedForAll, PathsAskForAll, notes_at, notes_or}
+use Rattle.world_laws.specs.RoundNumbers.{after_steps}
 use Rattle.world_laws.proofs.Asks.SendBooks.{IsOnes, any_last, any_more, asked_last}
 use Rattle.world_laws.proofs.Weaving.EdgesAndStamps.{edge_grows, stamp_grows, grant_entered, freeing_entered, lt_true, both_true}
 use Rattle.world_laws.proofs.Weaving.Journals.{books_after}
@@ -48,7 +22,6 @@ use Rattle.world_laws.proofs.Joins.NoBytesBeforeClear.{HasJoined, AllWait, wait_
 use Rattle.world_laws.proofs.Falls.Owned.{OwnerSo, GoesSo, ask_owned, app_goes, path_goes, path_falls}
 use Rattle.world_laws.proofs.Joins.AwakeAfterBegun.{Awake}
 use Rattle.world_laws.proofs.Keys.ToldAreOwn.{FellBack}
-use Rattle.path_core.specs.MpJoin.{is_joined}
 
 -- ---- lists of actors
 

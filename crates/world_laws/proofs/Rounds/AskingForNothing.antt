@@ -1,43 +1,15 @@
 -- At every moment an end of a path whose turn is over would ask for nothing, or was refused its last grant.
-use Rattle.std.proofs.Common.{◌≡◌, refl, sym, ◌∙◌, ap, subst, ℕ, ◌+◌, inl, inr, ⊎_elim, Bool, true, false, if◌then◌else◌, Option, Some, None, Result, Ok, Err, List, [], ◌∷◌, ◌++◌, length, drop, map}
-use Rattle.std.proofs.lemmas.List.{append-nil, append_assoc}
-use Rattle.std.proofs.lemmas.Option.{same_Some}
-use Rattle.std.specs.List.{slice_get}
-use Rattle.sides.specs.declared.side.Side.{Side}
-use Rattle.sides.specs.declared.side.Side.TheVariants.{A, B}
-use Rattle.send_book.specs.declared.call.Span.{Span}
-use Rattle.send_book.specs.declared.call.Why.{Why}
-use Rattle.send_book.specs.State.{Sending}
+use Rattle.world_laws.proofs.Words.{◌≡◌, refl, sym, ◌∙◌, ap, subst, ℕ, ◌+◌, inl, inr, ⊎_elim, Bool, true, false, if◌then◌else◌, Option, Some, None, Result, Ok}
+use Rattle.world_laws.proofs.Words.{Err, List, [], ◌∷◌, ◌++◌, length, drop, map, append-nil, append_assoc, same_Some, slice_get, Side, A, B, Span, Why, Sending}
+use Rattle.world_laws.proofs.Words.{Record, start_of_turn, Duty, SendDuty, StepDuty, AskDuty, SilentDuty, Ask, Note, Reply, StampedBooks, books_in, Codec}
+use Rattle.world_laws.proofs.Words.{ask_for, answered, waiting_path, PathState, end_at, with_agenda, asks_first, takes, begins_turn, answered_data}
+use Rattle.world_laws.proofs.Words.{answered_grant, first_unsent, grant_in, data_ask, grant_ask, in_map, in_set, Every, App, Path, Actor, ActorCrew}
+use Rattle.world_laws.proofs.Words.{member_asks, member_takes, member_next, Start, path_begins, opened_world, WorldState, crew_after, asked, stepped}
+use Rattle.world_laws.proofs.Words.{world_step, all_over, greatest, begins, world_run, note_of, answer_to, asks_grant, is_no_grant, refused_after, last_refused}
+use Rattle.world_laws.proofs.Words.{BeginsRound, InEachRound, steps_since, GrantsAreDone, AreDoneAsking, notes_at, notes_or}
 use Rattle.send_book.specs.Steps as sending
-use Rattle.stream_lanes.specs.Words.{Every}
-use Rattle.stream_lanes.proofs.Lists.{in_map, in_set}
-use Rattle.subflow_send.specs.Records.{Record}
-use Rattle.actor_desk.specs.declared.ask.Ask.{Ask}
-use Rattle.actor_desk.specs.declared.ask.Note.{Note}
-use Rattle.actor_desk.specs.declared.ask.Reply.{Reply}
-use Rattle.actor_desk.specs.declared.ask.Reply.TheVariants as replies
-use Rattle.actor_desk.specs.Books.{StampedBooks, books_in}
-use Rattle.path_agenda.specs.declared.duty.Duty.{Duty}
-use Rattle.path_agenda.specs.declared.duty.Duty.TheVariants as duties
-use Rattle.path_agenda.specs.declared.duty.AskDuty.TheVariants as ask_duties
-use Rattle.path_agenda.specs.declared.duty.SendDuty.TheVariants as send_duties
-use Rattle.path_agenda.specs.declared.duty.SilentDuty.TheVariants as silent_duties
-use Rattle.path_agenda.specs.declared.duty.StepDuty.TheVariants as step_duties
-use Rattle.path_agenda.specs.Agenda.{start_of_turn}
-use Rattle.path_core.specs.Codec.{Codec}
-use Rattle.path_core.specs.Duties.{ask_for, answered}
-use Rattle.path_core.specs.Emission.{first_unsent, Grant, grant_in, grant_ask, answered_grant, answered_data, data_ask}
-use Rattle.path_core.specs.Start.{waiting_path}
-use Rattle.path_core.specs.State.{PathState, end_at, with_agenda}
-use Rattle.path_core.specs.Steps.{asks_first, takes, begins_turn}
-use Rattle.world_laws.specs.declared.member.Member.TheVariants.{App, Path}
-use Rattle.world_laws.specs.Actors.{Actor, ActorCrew, member_asks, member_takes, member_next}
-use Rattle.world_laws.specs.Openings.{Start, path_begins, opened_world}
-use Rattle.world_laws.specs.Outcomes.{notes_or, notes_at}
-use Rattle.world_laws.specs.RoundEnd.{asks_grant, is_no_grant, refused_after, last_refused}
-use Rattle.world_laws.specs.RoundNumbers.{BeginsRound, InEachRound, AreDoneAsking, GrantsAreDone, after_steps, steps_since}
-use Rattle.world_laws.specs.StampedBooks.{answer_to}
-use Rattle.world_laws.specs.Worlds.{WorldState, note_of, crew_after, asked, stepped, world_step, all_over, greatest, begins, world_run}
+use Rattle.path_core.specs.Emission.{Grant}
+use Rattle.world_laws.specs.RoundNumbers.{after_steps}
 use Rattle.world_laws.proofs.Rounds.GrantAtOneDuty.{MayNotAsk, asks_none, ask_isn't}
 use Rattle.world_laws.proofs.Rounds.PiecesFit.{CrewFits, MemberFits, fits_at, paid_or_refused, round_fits}
 use Rattle.world_laws.proofs.Rounds.EndsRefused.{Pays, Granting, is_followed, is_owed, is_paid, settled_done, data_sent, granted_done, refused_done, answered_done}
@@ -57,7 +29,7 @@ grant_step : (s : Side) (n : Note) (before : Bool) → asks_grant s n.ask ≡ tr
 grant_step s n before is = ap (λ (b : Bool). if b then is_no_grant n.reply else before) is
 
 -- what is answered to a grant is a grant, or none
-answered_none : (o : Result Span Why) (b : Sending) → grant_in (replies.Send (sending.reply_by o b)) ≡ None → is_no_grant (replies.Send (sending.reply_by o b)) ≡ true
+answered_none : (o : Result Span Why) (b : Sending) → grant_in (Reply.Send (sending.reply_by o b)) ≡ None → is_no_grant (Reply.Send (sending.reply_by o b)) ≡ true
 answered_none (Ok span) b none = cc
 answered_none (Err why) b none = refl
 
@@ -98,12 +70,12 @@ module _ {C : Type 0} where
     other_grant B B apart is = absurd (apart refl)
 
     -- a grant that was asked
-    asked_duty : (s : Side) (ds : List Duty) (r : Reply) → first_unsent (end_at s p) ≡ None → n.ask ≡ grant_ask s p → n.reply ≡ r → (grant_in r ≡ None → is_no_grant r ≡ true) → is_followed (duties.Step (step_duties.Data s) ∷ ds) ≡ true
-        → ((t : Side) → Pays (with_agenda (duties.Step (step_duties.Data s) ∷ ds) p) (duties.Step (step_duties.Data s) ∷ ds) (flags_of notes) t) → (o : Option Grant) → grant_in r ≡ o
-        → Granting (answered_grant s o r (with_agenda (duties.Step (step_duties.Data s) ∷ ds) p)) later
+    asked_duty : (s : Side) (ds : List Duty) (r : Reply) → first_unsent (end_at s p) ≡ None → n.ask ≡ grant_ask s p → n.reply ≡ r → (grant_in r ≡ None → is_no_grant r ≡ true) → is_followed (Duty.Step (StepDuty.Data s) ∷ ds) ≡ true
+        → ((t : Side) → Pays (with_agenda (Duty.Step (StepDuty.Data s) ∷ ds) p) (Duty.Step (StepDuty.Data s) ∷ ds) (flags_of notes) t) → (o : Option Grant) → grant_in r ≡ o
+        → Granting (answered_grant s o r (with_agenda (Duty.Step (StepDuty.Data s) ∷ ds) p)) later
     asked_duty s ds r unsent asks is refusal f each (Some grant) found = granted_done k r p later s ds grant f at
       where
-        own : (s t : Side) → Pays (with_agenda (duties.Step (step_duties.Data s) ∷ ds) p) (duties.Step (step_duties.Data s) ∷ ds) (flags_of notes) t → n.ask ≡ grant_ask s p → Pays (with_agenda (duties.Step (step_duties.Data s) ∷ ds) p) (duties.Step (step_duties.Data s) ∷ ds) later t
+        own : (s t : Side) → Pays (with_agenda (Duty.Step (StepDuty.Data s) ∷ ds) p) (Duty.Step (StepDuty.Data s) ∷ ds) (flags_of notes) t → n.ask ≡ grant_ask s p → Pays (with_agenda (Duty.Step (StepDuty.Data s) ∷ ds) p) (Duty.Step (StepDuty.Data s) ∷ ds) later t
         own A A h asks = inl refl
         own B B h asks = inl refl
         own A B (inl owed) asks = inl owed
@@ -111,13 +83,13 @@ module _ {C : Type 0} where
         own B A (inl owed) asks = inl owed
         own B A (inr paid) asks = inr (record { paid = λ none may. refused_more A false notes n ∙ other_step A n (flags_of notes A) (ap (asks_grant A) asks) ∙ paid.paid none may; waits = paid.waits })
 
-        at : (t : Side) → Pays (with_agenda (duties.Step (step_duties.Data s) ∷ ds) p) (duties.Step (step_duties.Data s) ∷ ds) later t
+        at : (t : Side) → Pays (with_agenda (Duty.Step (StepDuty.Data s) ∷ ds) p) (Duty.Step (StepDuty.Data s) ∷ ds) later t
         at t = own s t (each t) asks
     asked_duty s ds r unsent asks is refusal f each None found =
         refused_done k r p later s ds unsent (refused_more s false notes n ∙ grant_step s n (flags_of notes s) (own_grant s asks) ∙ ap is_no_grant is ∙ refusal found) f
         (λ t apart. other t apart (each t))
       where
-        other : (t : Side) → (t ≡ s → ⊥) → Pays (with_agenda (duties.Step (step_duties.Data s) ∷ ds) p) (duties.Step (step_duties.Data s) ∷ ds) (flags_of notes) t → Pays (with_agenda (duties.Step (step_duties.Data s) ∷ ds) p) (duties.Step (step_duties.Data s) ∷ ds) later t
+        other : (t : Side) → (t ≡ s → ⊥) → Pays (with_agenda (Duty.Step (StepDuty.Data s) ∷ ds) p) (Duty.Step (StepDuty.Data s) ∷ ds) (flags_of notes) t → Pays (with_agenda (Duty.Step (StepDuty.Data s) ∷ ds) p) (Duty.Step (StepDuty.Data s) ∷ ds) later t
         other t apart (inl owed) = inl owed
         other t apart (inr paid) =
             inr (record { paid = λ none may. refused_more t false notes n ∙ other_step t n (flags_of notes t) (other_grant s t apart asks) ∙ paid.paid none may; waits = paid.waits })
@@ -126,19 +98,19 @@ module _ {C : Type 0} where
     sent_isn't s A u q is = ap (asks_grant A) is
     sent_isn't s B u q is = ap (asks_grant B) is
 
-    data_duty : (s : Side) (ds : List Duty) (r : Reply) → n.reply ≡ r → (n.ask ≡ grant_ask s p → grant_in r ≡ None → is_no_grant r ≡ true) → is_followed (duties.Step (step_duties.Data s) ∷ ds) ≡ true
-        → ((t : Side) → Pays (with_agenda (duties.Step (step_duties.Data s) ∷ ds) p) (duties.Step (step_duties.Data s) ∷ ds) (flags_of notes) t) → (o : Option Record) → first_unsent (end_at s p) ≡ o → n.ask ≡ data_ask k s o (with_agenda (duties.Step (step_duties.Data s) ∷ ds) p)
-        → Granting (answered_data k s o r (with_agenda (duties.Step (step_duties.Data s) ∷ ds) p)) later
+    data_duty : (s : Side) (ds : List Duty) (r : Reply) → n.reply ≡ r → (n.ask ≡ grant_ask s p → grant_in r ≡ None → is_no_grant r ≡ true) → is_followed (Duty.Step (StepDuty.Data s) ∷ ds) ≡ true
+        → ((t : Side) → Pays (with_agenda (Duty.Step (StepDuty.Data s) ∷ ds) p) (Duty.Step (StepDuty.Data s) ∷ ds) (flags_of notes) t) → (o : Option Record) → first_unsent (end_at s p) ≡ o → n.ask ≡ data_ask k s o (with_agenda (Duty.Step (StepDuty.Data s) ∷ ds) p)
+        → Granting (answered_data k s o r (with_agenda (Duty.Step (StepDuty.Data s) ∷ ds) p)) later
     data_duty s ds r is refusal f each (Some u) unsent asks =
-        data_sent k r p later s ds u f (flags_same (duties.Step (step_duties.Data s) ∷ ds) (with_agenda (duties.Step (step_duties.Data s) ∷ ds) p) (flags_of notes) later (unasked_flags (λ t. sent_isn't s t u (with_agenda (duties.Step (step_duties.Data s) ∷ ds) p) asks)) each)
+        data_sent k r p later s ds u f (flags_same (Duty.Step (StepDuty.Data s) ∷ ds) (with_agenda (Duty.Step (StepDuty.Data s) ∷ ds) p) (flags_of notes) later (unasked_flags (λ t. sent_isn't s t u (with_agenda (Duty.Step (StepDuty.Data s) ∷ ds) p) asks)) each)
     data_duty s ds r is refusal f each None unsent asks = asked_duty s ds r unsent asks is (refusal asks) f each (grant_in r) refl
 
     duty_done : (d : Duty) (ds : List Duty) (r : Reply) → n.ask ≡ ask_for k d (with_agenda (d ∷ ds) p) → n.reply ≡ r → ((s : Side) → n.ask ≡ grant_ask s p → grant_in r ≡ None → is_no_grant r ≡ true)
         → is_followed (d ∷ ds) ≡ true → ((t : Side) → Pays (with_agenda (d ∷ ds) p) (d ∷ ds) (flags_of notes) t) → Granting (answered k d r (with_agenda (d ∷ ds) p)) later
-    duty_done (duties.Step (step_duties.Data s)) ds r asks is refusal f each = data_duty s ds r is (refusal s) f each (first_unsent (end_at s p)) refl asks
-    duty_done (duties.Ask ask_duties.JoinAgain) ds r asks is refusal f each = other_duty (duties.Ask ask_duties.JoinAgain) ds r asks tt f each
-    duty_done (duties.Send (send_duties.Update s)) ds r asks is refusal f each = other_duty (duties.Send (send_duties.Update s)) ds r asks tt f each
-    duty_done (duties.Silent (silent_duties.Timer s)) ds r asks is refusal f each = other_duty (duties.Silent (silent_duties.Timer s)) ds r asks tt f each
+    duty_done (Duty.Step (StepDuty.Data s)) ds r asks is refusal f each = data_duty s ds r is (refusal s) f each (first_unsent (end_at s p)) refl asks
+    duty_done (Duty.Ask AskDuty.JoinAgain) ds r asks is refusal f each = other_duty (Duty.Ask AskDuty.JoinAgain) ds r asks tt f each
+    duty_done (Duty.Send (SendDuty.Update s)) ds r asks is refusal f each = other_duty (Duty.Send (SendDuty.Update s)) ds r asks tt f each
+    duty_done (Duty.Silent (SilentDuty.Timer s)) ds r asks is refusal f each = other_duty (Duty.Silent (SilentDuty.Timer s)) ds r asks tt f each
     duty_done d ds r asks is refusal f each = other_duty d ds r asks tt f each
 
     takes_done : (r : Reply) (ds : List Duty) → asks_first k ds (with_agenda ds p) ≡ Some n.ask → n.reply ≡ r → ((s : Side) → n.ask ≡ grant_ask s p → grant_in r ≡ None → is_no_grant r ≡ true)

@@ -1,35 +1,17 @@
 -- What an actor asks: a grant for some bytes at least.
-use Rattle.std.proofs.Common.{◌≤◌, subst, sym}
-use Rattle.actor_desk.specs.declared.ask.Ask.TheVariants as asks
-use Rattle.stream_apps.specs.declared.duty.AppDuty.{AppDuty}
-use Rattle.stream_apps.specs.declared.duty.AppDuty.TheVariants as app_duties
-use Rattle.stream_apps.specs.Apps.{AppState}
-use Rattle.stream_apps.specs.AppSteps.{app_ask}
-use Rattle.path_agenda.specs.declared.duty.Duty.{Duty}
-use Rattle.path_core.specs.Codec.{Codec}
-use Rattle.path_core.specs.Duties.{ask_for}
-use Rattle.path_core.specs.Emission.{payload_size}
-use Rattle.path_core.specs.State.{PathState}
+use Rattle.world_laws.proofs.Words.{sym, subst, ◌≤◌, SendCall, Duty, Ask, AppDuty, AppState, app_ask, Codec, ask_for, PathState, payload_size, IsOwn}
 use Rattle.world_laws.proofs.Rounds.ReplyKinds.{AsksSome}
-use Rattle.world_laws.specs.Asking.{IsOwn}
 use Rattle.world_laws.proofs.Writes.Asks.{asks_no_more}
-use Rattle.send_book.specs.declared.call.SendCall.TheVariants as send_calls
-use Rattle.actor_desk.specs.declared.ask.Ask.{Ask}
 
 pub app_asks_some : (d : AppDuty) (a : AppState) → AsksSome (app_ask d a)
-app_asks_some app_duties.FastClose a = tt
-app_asks_some app_duties.AbortSend a = tt
-app_asks_some app_duties.AbortReceive a = tt
-app_asks_some app_duties.Write a = tt
-app_asks_some app_duties.Close a = tt
-app_asks_some app_duties.Read a = tt
-app_asks_some app_duties.End a = tt
+app_asks_some AppDuty.FastClose a = tt
+app_asks_some _ a = tt
 
 module _ {C : Type 0} (k : Codec C) (p : PathState C) (some : 1 ≤ payload_size p.profile) where
   -- a path asks for a full segment's payload
   own_some : (x : Ask) → IsOwn p x → AsksSome x
-  own_some (asks.Send s (send_calls.Grant path max standby)) own = subst (λ n. 1 ≤ n) (sym own.1) some
-  own_some (asks.Send s _) own = tt
+  own_some (Ask.Send s (SendCall.Grant path max standby)) own = subst (λ n. 1 ≤ n) (sym own.1) some
+  own_some (Ask.Send s _) own = tt
   own_some _ own = tt
 
   pub asks_some : (d : Duty) → AsksSome (ask_for k d p)

@@ -1,25 +1,16 @@
 -- An application ends its turn only where it has read all that had arrived as the round began: the book of its side at each step.
-use Rattle.std.proofs.Common.{◌≡◌, refl, sym, ◌∙◌, ap, subst, ℕ, ◌+◌, ◌≤◌, ◌||◌, not, nat_lt, min, ⊎_elim, ◌⊎◌, inl, inr, Bool, true, false, is_some, if◌then◌else◌, Option, Some, None, List, [], ◌∷◌, ◌++◌, length, take, drop, arith}
-use Rattle.std.proofs.lemmas.Bool.{and_cases, ltb-false, not-false, eqb-true}
-use Rattle.std.proofs.lemmas.List.{append-nil, length-append, length-take}
-use Rattle.std.specs.Option.{IfSome}
-use Rattle.reassembly_book.specs.declared.call.ReassemblyCall.{ReassemblyCall}
-use Rattle.reassembly_book.specs.declared.call.ReassemblyCall.TheVariants as calls
-use Rattle.reassembly_book.specs.declared.call.ReassemblyReply.{ReassemblyReply}
+use Rattle.world_laws.proofs.Words.{◌≡◌, refl, sym, ◌∙◌, ap, subst, ℕ, ◌+◌, ◌≤◌, ◌||◌, not, min, nat_lt, inl, inr, ◌⊎◌, ⊎_elim, Bool, true, false}
+use Rattle.world_laws.proofs.Words.{if◌then◌else◌, Option, Some, None, List, [], ◌∷◌, ◌++◌, length, take, drop, arith, is_some, eqb-true, ltb-false, and_cases}
+use Rattle.world_laws.proofs.Words.{not-false, length-append, length-take, append-nil, IfSome, ReassemblyCall, Arriving, IsSound, filled, received}
+use Rattle.world_laws.proofs.Words.{ReassemblyReply, places_after, fin_clash, is_end, bytes_reply, reading, after_reading, Note, Reply, is_nil, AppDuty}
+use Rattle.world_laws.proofs.Words.{AppState, app_stands, bytes_in, ends_in, app_reads_on, app_settled, AbortReceive, read_by, was_told, note_tells}
+use Rattle.world_laws.proofs.Words.{bytes_noted, tells_stop}
 use Rattle.reassembly_book.specs.declared.call.ReassemblyReply.TheVariants.{End as TheEnd, NoneYet}
-use Rattle.reassembly_book.specs.State.{Arriving, IsSound, filled, received}
-use Rattle.reassembly_book.specs.Steps.{merged, by_place, places_after, is_taken, fin_clash, is_end, bytes_reply, reading, after_reading, after_call, reply_to}
+use Rattle.reassembly_book.specs.Steps.{merged, by_place, is_taken, after_call, reply_to}
 use Rattle.reassembly_book.proofs.Bounds.{known_end_stays}
 use Rattle.reassembly_book.proofs.Merging.{filled-le}
 use Rattle.stream_lanes.proofs.Arrivals.{filled_left}
-use Rattle.actor_desk.specs.declared.ask.Note.{Note}
-use Rattle.actor_desk.specs.declared.ask.Reply.TheVariants as replies
-use Rattle.actor_desk.specs.Words.{is_nil}
-use Rattle.stream_apps.specs.declared.duty.AppDuty.{AppDuty}
-use Rattle.stream_apps.specs.declared.duty.AppDuty.TheVariants.{FastClose, AbortSend, AbortReceive, Write, Close, Read, End}
-use Rattle.stream_apps.specs.Apps.{AppState}
-use Rattle.stream_apps.specs.AppSteps.{app_stands, bytes_in, ends_in, app_reads_on, app_settled}
-use Rattle.world_laws.specs.Outcomes.{note_tells, was_told, tells_stop, bytes_noted, read_by}
+use Rattle.stream_apps.specs.declared.duty.AppDuty.TheVariants.{FastClose, AbortSend, Write, Close, Read, End}
 use Rattle.world_laws.proofs.Lanes.Applying.{Settles, any_more, or_true, settled_app}
 use Rattle.world_laws.proofs.Asks.OfPaths.{IsArrival}
 
@@ -27,11 +18,11 @@ use Rattle.world_laws.proofs.Asks.OfPaths.{IsArrival}
 
 -- what a read makes of the book, by its reply
 pub record IsRead (b c : Arriving) (r : ReassemblyReply) : Type 0 where
-  pub read : c.read ≡ b.read + length (bytes_in (replies.Reassembly r))
+  pub read : c.read ≡ b.read + length (bytes_in (Reply.Reassembly r))
   pub came : received c ≡ received b
-  pub most : length (bytes_in (replies.Reassembly r)) ≤ length (filled b.places)
-  pub empty : bytes_in (replies.Reassembly r) ≡ [] → (received b ≤ b.read) ⊎ (tells_stop (replies.Reassembly r) ≡ true)
-  pub ended : ends_in (replies.Reassembly r) ≡ true → (b.known_end ≡ Some b.read) ⊎ (tells_stop (replies.Reassembly r) ≡ true)
+  pub most : length (bytes_in (Reply.Reassembly r)) ≤ length (filled b.places)
+  pub empty : bytes_in (Reply.Reassembly r) ≡ [] → (received b ≤ b.read) ⊎ (tells_stop (Reply.Reassembly r) ≡ true)
+  pub ended : ends_in (Reply.Reassembly r) ≡ true → (b.known_end ≡ Some b.read) ⊎ (tells_stop (Reply.Reassembly r) ≡ true)
   pub known : c.known_end ≡ b.known_end
   pub capacity : c.capacity ≡ b.capacity
 
@@ -81,7 +72,7 @@ module _ (b : Arriving) where
         capacity = refl;
       }
 
-pub is_read : (b : Arriving) → IsRead b (after_call b (calls.Read 65536)) (reply_to b (calls.Read 65536))
+pub is_read : (b : Arriving) → IsRead b (after_call b (ReassemblyCall.Read 65536)) (reply_to b (ReassemblyCall.Read 65536))
 is_read b = by b.aborted
   where
     by : (o : Option Bool) → IsRead b (if is_some o then b else after_reading 65536 b) (reading o 65536 b)
@@ -115,11 +106,11 @@ merged_more (Some x ∷ xs) [] = omega arith
 merged_more (Some x ∷ xs) (y ∷ ys) = let rest = merged_more xs ys in omega (arith, rest)
 
 -- a book that is aborted keeps what it has
-pub aborts : (by_peer : Bool) (b : Arriving) → IsGrown b (after_call b (calls.Abort by_peer))
+pub aborts : (by_peer : Bool) (b : Arriving) → IsGrown b (after_call b (ReassemblyCall.Abort by_peer))
 aborts by_peer b = record { read = refl; grows = omega arith; known = λ e is. is; capacity = refl }
 
 pub arrives : (b : Arriving) (call : ReassemblyCall) → IsArrival call → IsGrown b (after_call b call)
-arrives b (calls.Place at bytes) is = by (is_taken at bytes b)
+arrives b (ReassemblyCall.Place at bytes) is = by (is_taken at bytes b)
   where
     by : (c : Bool) → IsGrown b (if c then record b { places = places_after at bytes b } else b)
     by true = record {
@@ -129,10 +120,10 @@ arrives b (calls.Place at bytes) is = by (is_taken at bytes b)
       capacity = refl;
     }
     by false = stays_grown b
-arrives b (calls.Fin at) is = record {
+arrives b (ReassemblyCall.Fin at) is = record {
   read = read (is_some (fin_clash b.known_end at b));
   grows = (let same = same_received (is_some (fin_clash b.known_end at b)) in omega (arith, same));
-  known = λ e known. known_end_stays (calls.Fin at ∷ []) b e known;
+  known = λ e known. known_end_stays (ReassemblyCall.Fin at ∷ []) b e known;
   capacity = capacity (is_some (fin_clash b.known_end at b));
 }
   where
@@ -147,9 +138,9 @@ arrives b (calls.Fin at) is = record {
     capacity : (c : Bool) → (if c then b else record b { known_end = Some at }).capacity ≡ b.capacity
     capacity true = refl
     capacity false = refl
-arrives b calls.AckOut is = stays_grown b
-arrives b (calls.Read max) is = absurd is
-arrives b (calls.Abort by_peer) is = aborts by_peer b
+arrives b ReassemblyCall.AckOut is = stays_grown b
+arrives b (ReassemblyCall.Read max) is = absurd is
+arrives b (ReassemblyCall.Abort by_peer) is = aborts by_peer b
 
 -- ---- a reader with its book
 
@@ -206,13 +197,9 @@ data_fin_reached arrived a notes b h within told = by (h.told told)
         let l = filled-le b.places in inl (omega (arith, ends, l, within))
 
 passed_ahead : (done : Type 0) (d : AppDuty) (ds : List AppDuty) (a : AppState) → app_stands d a ≡ false → (a.told ≡ true → done) → Ahead done (d ∷ ds) → Ahead done ds
-passed_ahead done FastClose ds a none told h = subst (Ahead done) (sym h) refl
-passed_ahead done AbortSend ds a none told h = subst (Ahead done) (sym h) refl
-passed_ahead done AbortReceive ds a none told h = subst (Ahead done) (sym h) refl
-passed_ahead done Write ds a none told h = subst (Ahead done) (sym h) refl
-passed_ahead done Close ds a none told h = subst (Ahead done) (sym h) refl
 passed_ahead done Read ds a none told h = subst (Ahead done) (sym h) (refl, told (not-false a.told none))
 passed_ahead done End ds a none told h = cc
+passed_ahead done _ ds a none told h = subst (Ahead done) (sym h) refl
 
 settled_ahead : (done : Type 0) (ds : List AppDuty) (a : AppState) → (a.told ≡ true → done) → Ahead done ds → Ahead done (app_settled ds a).agenda
 settled_ahead done [] a told h = h
@@ -283,12 +270,12 @@ noted_reading a notes n b none h =
 
 module _ (arrived read : ℕ) (a : AppState) (notes : List Note) (n : Note) where
   -- a read
-  module _ (b c : Arriving) (x : ReassemblyReply) (sound : IsSound c) (is : IsRead b c x) (noted : n.reply ≡ replies.Reassembly x) (h : Reading a notes b) where
+  module _ (b c : Arriving) (x : ReassemblyReply) (sound : IsSound c) (is : IsRead b c x) (noted : n.reply ≡ Reply.Reassembly x) (h : Reading a notes b) where
     abbrev later : List AppDuty → AppState
-    later ds = record a { count = a.count + length (bytes_in (replies.Reassembly x)); told = a.told || ends_in (replies.Reassembly x); agenda = ds }
+    later ds = record a { count = a.count + length (bytes_in (Reply.Reassembly x)); told = a.told || ends_in (Reply.Reassembly x); agenda = ds }
 
     -- the step tells of an abort
-    stops_now : tells_stop (replies.Reassembly x) ≡ true → WasStopped (notes ++ n ∷ [])
+    stops_now : tells_stop (Reply.Reassembly x) ≡ true → WasStopped (notes ++ n ∷ [])
     stops_now is = stopped_now notes n (ap tells_stop noted ∙ is)
 
     -- the end is where it was
@@ -299,7 +286,7 @@ module _ (arrived read : ℕ) (a : AppState) (notes : List Note) (n : Note) wher
         let same : b.read ≡ c.read = omega (arith, is.read, is.most, l, ends) in
         is.known ∙ known ∙ ap (λ m. Some m) same
 
-    told_at : (t e : Bool) → a.told ≡ t → ends_in (replies.Reassembly x) ≡ e → (t || e) ≡ true → (c.known_end ≡ Some c.read) ⊎ WasStopped (notes ++ n ∷ [])
+    told_at : (t e : Bool) → a.told ≡ t → ends_in (Reply.Reassembly x) ≡ e → (t || e) ≡ true → (c.known_end ≡ Some c.read) ⊎ WasStopped (notes ++ n ∷ [])
     told_at true e told ends either = ⊎_elim (λ known. inl (end_kept known)) (λ stopped. inr (stopped_more notes n stopped)) (h.told told)
     told_at false true told ends either = ⊎_elim (λ known. inl (end_kept known)) (λ stopped. inr (stops_now stopped)) (is.ended ends)
     told_at false false told ends either = cc
@@ -307,34 +294,34 @@ module _ (arrived read : ℕ) (a : AppState) (notes : List Note) (n : Note) wher
     pub read_reading : (ds : List AppDuty) → Reading (later ds) (notes ++ n ∷ []) c
     read_reading ds =
         let more = noted_more notes n in
-        let same : length (bytes_noted n) ≡ length (bytes_in (replies.Reassembly x)) = ap (λ r. length (bytes_in r)) noted in
+        let same : length (bytes_noted n) ≡ length (bytes_in (Reply.Reassembly x)) = ap (λ r. length (bytes_in r)) noted in
         record {
           sound = sound;
           capacity = is.capacity ∙ h.capacity;
           whole = omega (arith, more, same, h.whole, is.read);
-          told = λ told. told_at a.told (ends_in (replies.Reassembly x)) refl refl told;
+          told = λ told. told_at a.told (ends_in (Reply.Reassembly x)) refl refl told;
         }
 
     read_numbers : InRound arrived read a b → (ds : List AppDuty) → InRound arrived read (later ds) c
     read_numbers m ds = record { from = m.from; count = omega (arith, is.read, m.count); within = omega (arith, is.came, m.within) }
 
     -- where it reads no more it has read all that had arrived
-    stops : InRound arrived read a b → app_reads_on (bytes_in (replies.Reassembly x)) a ≡ false → IsThrough arrived c.read (notes ++ n ∷ [])
+    stops : InRound arrived read a b → app_reads_on (bytes_in (Reply.Reassembly x)) a ≡ false → IsThrough arrived c.read (notes ++ n ∷ [])
     stops m off = ⊎_elim
-        (λ nil. ⊎_elim (λ none. inl (omega (arith, none, m.within, is.read))) (λ stopped. inr (stops_now stopped)) (is.empty (nothing (bytes_in (replies.Reassembly x)) nil)))
-        (λ full. let enough = ltb-false (a.count + length (bytes_in (replies.Reassembly x))) a.buffer full in inl (omega (arith, enough, m.from, m.count, is.read)))
-        (and_cases (not (is_nil (bytes_in (replies.Reassembly x)))) (nat_lt (a.count + length (bytes_in (replies.Reassembly x))) a.buffer) off)
+        (λ nil. ⊎_elim (λ none. inl (omega (arith, none, m.within, is.read))) (λ stopped. inr (stops_now stopped)) (is.empty (nothing (bytes_in (Reply.Reassembly x)) nil)))
+        (λ full. let enough = ltb-false (a.count + length (bytes_in (Reply.Reassembly x))) a.buffer full in inl (omega (arith, enough, m.from, m.count, is.read)))
+        (and_cases (not (is_nil (bytes_in (Reply.Reassembly x)))) (nat_lt (a.count + length (bytes_in (Reply.Reassembly x))) a.buffer) off)
       where
         nothing : (bytes : List ℕ) → not (is_nil bytes) ≡ false → bytes ≡ []
         nothing [] nil = refl
         nothing (byte ∷ bytes) nil = cc
 
-    pub read_ahead : InRound arrived read a b → (ds : List AppDuty) → ds ≡ End ∷ [] → (on : Bool) → app_reads_on (bytes_in (replies.Reassembly x)) a ≡ on
+    pub read_ahead : InRound arrived read a b → (ds : List AppDuty) → ds ≡ End ∷ [] → (on : Bool) → app_reads_on (bytes_in (Reply.Reassembly x)) a ≡ on
         → Ahead (IsThrough arrived c.read (notes ++ n ∷ [])) (if on then Read ∷ ds else ds)
     read_ahead m ds then_end true is_on = then_end
     read_ahead m ds then_end false off = subst (Ahead (IsThrough arrived c.read (notes ++ n ∷ []))) (sym then_end) (refl, stops m off)
 
-    pub read_caught : InRound arrived read a b → (ds : List AppDuty) → ds ≡ End ∷ [] → (on : Bool) → app_reads_on (bytes_in (replies.Reassembly x)) a ≡ on
+    pub read_caught : InRound arrived read a b → (ds : List AppDuty) → ds ≡ End ∷ [] → (on : Bool) → app_reads_on (bytes_in (Reply.Reassembly x)) a ≡ on
         → Caught arrived read (app_settled (if on then Read ∷ ds else ds) (later (if on then Read ∷ ds else ds))) (notes ++ n ∷ []) c
     read_caught m ds then_end on is_on =
         let es : List AppDuty = if on then Read ∷ ds else ds in

@@ -1,20 +1,11 @@
 -- What is done at the end of each round, and at which tick it is.
-use Rattle.std.proofs.Common.{◌≡◌, refl, sym, ◌∙◌, ap, subst, ⊎_elim, ℕ, ◌+◌, ◌*◌, Bool, true, false, if◌then◌else◌, Option, Some, None, List, [], ◌∷◌, ◌++◌, map, arith}
-use Rattle.std.specs.List.{slice_get}
-use Rattle.stream_lanes.specs.Words.{Every}
-use Rattle.stream_lanes.proofs.Lists.{in_map, in_set}
-use Rattle.actor_desk.specs.declared.ask.Ask.{Ask}
-use Rattle.actor_desk.specs.declared.ask.Reply.{Reply}
-use Rattle.path_core.specs.Codec.{Codec}
-use Rattle.path_core.specs.Start.{waiting_path}
-use Rattle.world_laws.specs.declared.member.Member.TheVariants.{App, Path}
-use Rattle.world_laws.specs.Actors.{Actor, ActorCrew, member_asks, member_takes, member_next}
-use Rattle.world_laws.specs.Fine.{IsFine}
-use Rattle.world_laws.specs.Openings.{Start, path_begins, opened_world}
+use Rattle.world_laws.proofs.Words.{◌≡◌, refl, sym, ◌∙◌, ap, subst, ℕ, ◌+◌, ⊎_elim, Bool, true, false, if◌then◌else◌, Option, Some, None, List, [], ◌∷◌, ◌++◌}
+use Rattle.world_laws.proofs.Words.{map, arith, ◌*◌, slice_get, Ask, Reply, Codec, waiting_path, in_map, in_set, Every, App, Path, Actor, ActorCrew}
+use Rattle.world_laws.proofs.Words.{member_asks, member_takes, member_next, Start, path_begins, opened_world, WorldState, Turn, crew_after, asked, stepped}
+use Rattle.world_laws.proofs.Words.{world_step, all_over, greatest, begins, end_round, after_turn, world_run, AreLawful, answer_to, BeginsRound, PathsAskForAll}
+use Rattle.world_laws.proofs.Words.{GrantsAreDone, ReadersCaughtUp, IsFine}
 use Rattle.world_laws.specs.RoundDone.{RoundState, first_round, next_round, round_by, round_after, round_of, EndsAt, RoundsEndOnTime, RoundsAreDone, LawfulRoundsAreDone, StaysFine}
-use Rattle.world_laws.specs.RoundNumbers.{BeginsRound, GrantsAreDone, PathsAskForAll, ReadersCaughtUp, after_steps}
-use Rattle.world_laws.specs.StampedBooks.{answer_to}
-use Rattle.world_laws.specs.Worlds.{WorldState, Turn, crew_after, asked, stepped, world_step, all_over, greatest, begins, end_round, after_turn, world_run, AreLawful}
+use Rattle.world_laws.specs.RoundNumbers.{after_steps}
 use Rattle.world_laws.proofs.Rounds.AskedForAll.{paths_ask}
 use Rattle.world_laws.proofs.Worlds.CastLifting.{nothing_due_is_left}
 use Rattle.world_laws.proofs.Worlds.Opened.{opened_actors}

@@ -1,69 +1,23 @@
 -- An end of a path ends its turn only where it may ask for nothing more, or was refused: after each thing that could let it ask
 -- the duty that asks is ahead, or the end is to die.
-use Rattle.std.proofs.Common.{◌≡◌, refl, sym, ◌∙◌, ap, ℕ, zero, suc, ◌+◌, ◌&&◌, ◌||◌, not, inl, inr, ◌⊎◌, ⊎_elim, Bool, true, false, if◌then◌else◌, Option, Some, None, List, [], ◌∷◌, ◌++◌, length}
-use Rattle.std.proofs.lemmas.Bool.{and_parts, not-true, both_ways, true≢false, false≢true}
-use Rattle.std.proofs.lemmas.Option.{same_Some}
-use Rattle.sides.specs.declared.side.Side.{Side}
-use Rattle.sides.specs.declared.side.Side.TheVariants.{A, B}
-use Rattle.sides.specs.Side.{peer}
-use Rattle.link_script.specs.Places.{same_side}
-use Rattle.link_model.specs.Steps.{arriving, after_delivery}
-use Rattle.path_segments.specs.Spelled.{PlainSegment}
-use Rattle.path_segments.specs.Heard.{HeardSegment}
-use Rattle.fallback_state.specs.declared.fall.Event.{Event as FallEvent}
-use Rattle.fallback_state.specs.declared.fall.Event.TheVariants as events
-use Rattle.subflow_send.specs.Records.{Record}
-use Rattle.subflow_tcp.specs.declared.handshake.State.{State as EndPhase}
-use Rattle.subflow_tcp.specs.declared.handshake.State.TheVariants as phase
-use Rattle.subflow_tcp.specs.declared.verdicts.Meaning.{Meaning}
-use Rattle.subflow_tcp.specs.declared.verdicts.Meaning.TheVariants as means
-use Rattle.subflow_tcp.specs.Expiring.{is_sixth}
+use Rattle.world_laws.proofs.Words.{◌≡◌, refl, sym, ◌∙◌, ap, ℕ, zero, suc, ◌+◌, ◌&&◌, ◌||◌, not, inl, inr, ◌⊎◌, ⊎_elim, Bool, true, false, if◌then◌else◌}
+use Rattle.world_laws.proofs.Words.{Option, Some, None, List, [], ◌∷◌, ◌++◌, length, and_parts, both_ways, false≢true, true≢false, not-true, same_Some}
+use Rattle.world_laws.proofs.Words.{FallEvent, Side, A, B, peer, same_side, JoinSyn, Record, Meaning, is_sixth, EndPhase, arriving, after_delivery}
+use Rattle.world_laws.proofs.Words.{HeardSegment, PlainSegment, LineAction, Piece, rest_of_turn, emission, syn_came, syn_ack_came, join_came, refuses}
+use Rattle.world_laws.proofs.Words.{join_answered, heard_and, payload_came, copy_came, syn_again, answers_dead, expired, expired_for_ever, leaves, resets}
+use Rattle.world_laws.proofs.Words.{stops, announces, withdraws, Duty, SendDuty, StepDuty, AskDuty, SilentDuty, Heard, KeyPair, key_heard, keys_heard, Reply}
+use Rattle.world_laws.proofs.Words.{tail_of, Codec, stands, passed, answered, PathEnd, died, answered_ack_out, at_tick, PathState, end_at, goes_on, with_end}
+use Rattle.world_laws.proofs.Words.{with_agenda, left, settled, items_of, options_heard, copy_judged, judged_in, reset_for, template_by, template_judged}
+use Rattle.world_laws.proofs.Words.{heard_in, copy_heard, reset_of, reset_on, answered_break, path_died, died_unless_dead, answered_data, answered_grant}
+use Rattle.world_laws.proofs.Words.{data_stands, first_unsent, may_ask, fits, Judged, next_event, after_line, happens_if, join_begun, never_joined, asked_at}
+use Rattle.world_laws.proofs.Words.{is_never, join_taken, keys_begun, opened_by, is_joined, template_fired, piece_of, is_placed, answered_piece}
+use Rattle.world_laws.proofs.Words.{answered_plain_fin, answered_fin_heard, is_fin_set, is_clash, with_learned, held_of, told_next, answered_item, item_of}
+use Rattle.world_laws.proofs.Words.{after_check_failed, after_fell, fell_duties, with_plain_ack, breaks_by_ack, after_fail_heard, answered_fell}
+use Rattle.world_laws.proofs.Words.{answered_peer_key, answered_opened, is_stopped_by, with_priority, after_peer_notice, Profile, sent_on, taken_as, if_so}
 use Rattle.subflow_tcp.specs.States as states
-use Rattle.actor_desk.specs.declared.ask.Reply.{Reply}
-use Rattle.actor_desk.specs.Words.{tail_of}
-use Rattle.path_agenda.specs.declared.duty.Duty.{Duty}
-use Rattle.path_agenda.specs.declared.duty.Duty.TheVariants as duties
-use Rattle.path_agenda.specs.declared.duty.AskDuty.TheVariants as ask_duties
-use Rattle.path_agenda.specs.declared.duty.SendDuty.TheVariants as send_duties
-use Rattle.path_agenda.specs.declared.duty.SilentDuty.TheVariants as silent_duties
-use Rattle.path_agenda.specs.declared.duty.StepDuty.TheVariants as step_duties
 use Rattle.path_core.specs.declared.events.Event.{Event}
-use Rattle.path_core.specs.declared.events.Event.TheVariants as happenings
-use Rattle.path_agenda.specs.declared.heard.Heard.{Heard}
-use Rattle.path_agenda.specs.declared.heard.Heard.TheVariants as says
-use Rattle.path_agenda.specs.declared.keys.KeyPair.{KeyPair}
-use Rattle.path_agenda.specs.Agenda.{rest_of_turn, emission, syn_came, syn_ack_came, join_came, refuses, join_answered, heard_and, payload_came, copy_came, syn_again, answers, answers_dead, expired, expired_for_ever, leaves, breaks, resets, stops, announces, withdraws}
-use Rattle.path_agenda.specs.Items.{key_heard, keys_heard}
-use Rattle.path_core.specs.OptionsIn.{items_of, options_heard}
-use Rattle.path_core.specs.Arrival.{reset_for, copy_judged, judged_in, template_by, template_judged, heard_in, copy_heard}
-use Rattle.path_core.specs.DssIn.{held_of, with_learned, is_clash, told_next}
-use Rattle.path_core.specs.Judged.{taken_as}
-use Rattle.path_core.specs.Breaking.{reset_of, reset_on, answered_break, died_unless_dead, path_died}
-use Rattle.path_core.specs.Codec.{Codec}
-use Rattle.path_core.specs.Duties.{stands, passed, answered}
-use Rattle.path_core.specs.Emission.{first_unsent, fits, may_ask, Grant, answered_grant, answered_data, data_stands}
-use Rattle.path_core.specs.End.{PathEnd, died}
-use Rattle.join_handshake.specs.declared.hearing.JoinSyn.{JoinSyn}
-use Rattle.path_core.specs.declared.judged.Judged.{Judged}
-use Rattle.path_core.specs.declared.judged.Judged.TheVariants as judged
-use Rattle.path_core.specs.MpJoin.{is_never, keys_begun, opened_by, asked_at, join_taken, is_joined, join_begun, never_joined}
-use Rattle.path_core.specs.Events.{next_event, after_line, happens_if}
-use Rattle.path_core.specs.State.{at_tick, PathState, end_at, with_end, with_agenda, goes_on, left}
-use Rattle.path_core.specs.Timer.{template_fired}
-use Rattle.path_core.specs.Addresses.{with_priority, after_peer_notice}
-use Rattle.path_store.specs.declared.lines.LineAction.{LineAction}
-use Rattle.path_store.specs.declared.lines.LineAction.TheVariants as actions
-use Rattle.path_core.specs.Deliver.{piece_of, is_placed, answered_piece}
-use Rattle.path_core.specs.DataFin.{is_fin_set, answered_fin_heard, answered_plain_fin}
-use Rattle.path_store.specs.Passing.{Piece}
-use Rattle.path_core.specs.Handover.{sent_on}
-use Rattle.path_core.specs.Standing.{answered_ack_out}
-use Rattle.path_core.specs.Profile.{Profile}
-use Rattle.path_core.specs.Steps.{settled}
-use Rattle.path_core.specs.Treating.{answered_item, item_of}
-use Rattle.path_core.specs.Fallback.{after_fell, fell_duties, answered_fell, with_plain_ack, breaks_by_ack, after_check_failed, after_fail_heard}
-use Rattle.path_core.specs.MpCapable.{answered_peer_key, answered_opened}
-use Rattle.path_core.specs.FastClose.{is_stopped_by}
+use Rattle.path_agenda.specs.Agenda.{answers, breaks}
+use Rattle.path_core.specs.Emission.{Grant}
 use Rattle.world_laws.proofs.Rounds.GrantAtOneDuty.{MayNotAsk}
 use Rattle.world_laws.proofs.Falls.Verdicts.{fell_cases}
 use Rattle.world_laws.proofs.Falls.FailedChecks.{fail_answered_so}
@@ -72,10 +26,10 @@ use Rattle.world_laws.proofs.Falls.FailedChecks.{fail_answered_so}
 
 -- the duty lets the end of this side ask, or its end die
 abbrev pub pays : Side → Duty → Bool
-pays s (duties.Step (step_duties.Data t)) = same_side s t
-pays s (duties.Ask (ask_duties.BreakAck t reason)) = same_side s t
-pays s (duties.Send (send_duties.BreakReset t reason)) = same_side s t
-pays s (duties.Send (send_duties.Reset t)) = same_side s t
+pays s (Duty.Step (StepDuty.Data t)) = same_side s t
+pays s (Duty.Ask (AskDuty.BreakAck t reason)) = same_side s t
+pays s (Duty.Send (SendDuty.BreakReset t reason)) = same_side s t
+pays s (Duty.Send (SendDuty.Reset t)) = same_side s t
 pays s _ = false
 
 abbrev pub is_owed : Side → List Duty → Bool
@@ -87,45 +41,45 @@ none_owed ds = not (is_owed A ds) && not (is_owed B ds)
 
 -- what has to come after a duty
 abbrev pub needs : Duty → List Duty → Bool
-needs (duties.Ask ask_duties.JoinAgain) ds = is_owed A ds
-needs (duties.Step (step_duties.Look s)) ds = is_owed s ds
-needs (duties.Send (send_duties.Update s)) ds = is_owed s ds
-needs (duties.Send (send_duties.FastClose s)) ds = is_owed s ds
-needs (duties.Send (send_duties.Notice s)) ds = is_owed s ds
-needs (duties.Send (send_duties.Syn s)) ds = is_owed s ds
-needs (duties.Ask (ask_duties.SynHeard s)) ds = is_owed s ds
-needs (duties.Ask (ask_duties.SynAnswered s)) ds = is_owed s ds
-needs (duties.Ask (ask_duties.PeerKey s)) ds = is_owed s ds && not (is_owed (peer s) ds)
-needs (duties.Send (send_duties.SynAck s)) ds = is_owed s ds
-needs (duties.Ask (ask_duties.JoinHeard s)) ds = is_owed s ds
-needs (duties.Ask (ask_duties.Opened s)) ds = is_owed s ds && not (is_owed (peer s) ds)
-needs (duties.Step (step_duties.Heard s index)) ds = is_owed s ds && not (is_owed (peer s) ds)
-needs (duties.Ask (ask_duties.AckHeard s)) ds = is_owed s ds && not (is_owed (peer s) ds)
-needs (duties.Ask (ask_duties.FailHeard s)) ds = is_owed s ds && not (is_owed (peer s) ds)
-needs (duties.Step (step_duties.PlainAck s)) ds = is_owed s ds && not (is_owed (peer s) ds)
-needs (duties.Ask (ask_duties.PlainHandshake s)) ds = is_owed s ds && not (is_owed (peer s) ds)
-needs (duties.Ask (ask_duties.SubflowAck s)) ds = is_owed s ds
-needs (duties.Ask (ask_duties.PlainData s)) ds = is_owed s ds && not (is_owed (peer s) ds)
-needs (duties.Ask (ask_duties.GoIdentity s)) ds = is_owed s ds
-needs (duties.Step (step_duties.Unmapped s)) ds = is_owed s ds && not (is_owed (peer s) ds)
-needs (duties.Ask (ask_duties.SubflowFin s)) ds = is_owed s ds && not (is_owed (peer s) ds)
-needs (duties.Silent (silent_duties.Keep s)) ds = is_owed s ds
-needs (duties.Ask (ask_duties.Edge s)) ds = is_owed s ds && not (is_owed (peer s) ds)
-needs (duties.Ask (ask_duties.CheckFailed s)) ds = is_owed s ds && not (is_owed (peer s) ds)
-needs (duties.Ask (ask_duties.HeardFin s index)) ds = is_owed s ds && not (is_owed (peer s) ds)
-needs (duties.Silent (silent_duties.PassFin s)) ds = is_owed s ds
-needs (duties.Ask (ask_duties.Rate s)) ds = is_owed s ds
-needs (duties.Send (send_duties.Acknowledge s)) ds = is_owed s ds
-needs (duties.Send (send_duties.Again s)) ds = is_owed s ds
-needs (duties.Send (send_duties.Answer s)) ds = is_owed s ds
-needs (duties.Send (send_duties.Resend s)) ds = is_owed s ds
-needs (duties.Ask (ask_duties.BreakAck s reason)) ds = none_owed ds
-needs (duties.Send (send_duties.BreakReset s reason)) ds = none_owed ds
-needs (duties.Send (send_duties.Reset s)) ds = none_owed ds
-needs (duties.Ask (ask_duties.LeaveNoted s)) ds = is_owed s ds
-needs (duties.Send (send_duties.ResetNoted s)) ds = is_owed s ds
-needs (duties.Step step_duties.Events) ds = none_owed ds
-needs duties.End ds = none_owed ds
+needs (Duty.Ask AskDuty.JoinAgain) ds = is_owed A ds
+needs (Duty.Step (StepDuty.Look s)) ds = is_owed s ds
+needs (Duty.Send (SendDuty.Update s)) ds = is_owed s ds
+needs (Duty.Send (SendDuty.FastClose s)) ds = is_owed s ds
+needs (Duty.Send (SendDuty.Notice s)) ds = is_owed s ds
+needs (Duty.Send (SendDuty.Syn s)) ds = is_owed s ds
+needs (Duty.Ask (AskDuty.SynHeard s)) ds = is_owed s ds
+needs (Duty.Ask (AskDuty.SynAnswered s)) ds = is_owed s ds
+needs (Duty.Ask (AskDuty.PeerKey s)) ds = is_owed s ds && not (is_owed (peer s) ds)
+needs (Duty.Send (SendDuty.SynAck s)) ds = is_owed s ds
+needs (Duty.Ask (AskDuty.JoinHeard s)) ds = is_owed s ds
+needs (Duty.Ask (AskDuty.Opened s)) ds = is_owed s ds && not (is_owed (peer s) ds)
+needs (Duty.Step (StepDuty.Heard s index)) ds = is_owed s ds && not (is_owed (peer s) ds)
+needs (Duty.Ask (AskDuty.AckHeard s)) ds = is_owed s ds && not (is_owed (peer s) ds)
+needs (Duty.Ask (AskDuty.FailHeard s)) ds = is_owed s ds && not (is_owed (peer s) ds)
+needs (Duty.Step (StepDuty.PlainAck s)) ds = is_owed s ds && not (is_owed (peer s) ds)
+needs (Duty.Ask (AskDuty.PlainHandshake s)) ds = is_owed s ds && not (is_owed (peer s) ds)
+needs (Duty.Ask (AskDuty.SubflowAck s)) ds = is_owed s ds
+needs (Duty.Ask (AskDuty.PlainData s)) ds = is_owed s ds && not (is_owed (peer s) ds)
+needs (Duty.Ask (AskDuty.GoIdentity s)) ds = is_owed s ds
+needs (Duty.Step (StepDuty.Unmapped s)) ds = is_owed s ds && not (is_owed (peer s) ds)
+needs (Duty.Ask (AskDuty.SubflowFin s)) ds = is_owed s ds && not (is_owed (peer s) ds)
+needs (Duty.Silent (SilentDuty.Keep s)) ds = is_owed s ds
+needs (Duty.Ask (AskDuty.Edge s)) ds = is_owed s ds && not (is_owed (peer s) ds)
+needs (Duty.Ask (AskDuty.CheckFailed s)) ds = is_owed s ds && not (is_owed (peer s) ds)
+needs (Duty.Ask (AskDuty.HeardFin s index)) ds = is_owed s ds && not (is_owed (peer s) ds)
+needs (Duty.Silent (SilentDuty.PassFin s)) ds = is_owed s ds
+needs (Duty.Ask (AskDuty.Rate s)) ds = is_owed s ds
+needs (Duty.Send (SendDuty.Acknowledge s)) ds = is_owed s ds
+needs (Duty.Send (SendDuty.Again s)) ds = is_owed s ds
+needs (Duty.Send (SendDuty.Answer s)) ds = is_owed s ds
+needs (Duty.Send (SendDuty.Resend s)) ds = is_owed s ds
+needs (Duty.Ask (AskDuty.BreakAck s reason)) ds = none_owed ds
+needs (Duty.Send (SendDuty.BreakReset s reason)) ds = none_owed ds
+needs (Duty.Send (SendDuty.Reset s)) ds = none_owed ds
+needs (Duty.Ask (AskDuty.LeaveNoted s)) ds = is_owed s ds
+needs (Duty.Send (SendDuty.ResetNoted s)) ds = is_owed s ds
+needs (Duty.Step StepDuty.Events) ds = none_owed ds
+needs Duty.End ds = none_owed ds
 needs _ ds = true
 
 abbrev pub is_followed : List Duty → Bool
@@ -133,14 +87,6 @@ is_followed [] = true
 is_followed (d ∷ ds) = needs d ds && is_followed ds
 
 -- ---- templates
-
-emission_followed : (s : Side) → is_followed (emission s) ≡ true
-emission_followed A = refl
-emission_followed B = refl
-
-emission_owed : (s : Side) → is_owed s (emission s) ≡ true
-emission_owed A = refl
-emission_owed B = refl
 
 -- templates that have what the end of this side needs
 record IsOwedThere (s : Side) (ds : List Duty) : Type 0 where
@@ -212,11 +158,11 @@ pub record IsPaid (c : Profile) (s : Side) (e : PathEnd) (refused : Bool) : Type
   pub waits : (r : Record) → first_unsent e ≡ Some r → states.may_finish e.tcp.state ≡ true → fits e.tcp r ≡ false
 
 finished : (state : EndPhase) → states.may_finish (states.after_finish state) ≡ false
-finished phase.Waiting = refl
+finished EndPhase.Waiting = refl
 finished _ = refl
 
 dead_is_done : (state : EndPhase) → states.is_dead state ≡ true → states.may_finish state ≡ false
-dead_is_done phase.Dead is = refl
+dead_is_done EndPhase.Dead is = refl
 dead_is_done _ is = absurd (false≢true is)
 
 -- an end that can't push a FIN asks for nothing
@@ -228,8 +174,8 @@ closed_paid c s e refused over = record {
 
 -- an end that may push a FIN sends records
 sends_records : (state : EndPhase) → states.may_finish state ≡ true → states.is_closed_to_segments state ≡ false
-sends_records phase.Established is = refl
-sends_records phase.CloseWait is = refl
+sends_records EndPhase.Established is = refl
+sends_records EndPhase.CloseWait is = refl
 sends_records _ is = absurd (false≢true is)
 
 unless_dead_paid : (c : Profile) (s : Side) (e : PathEnd) (refused : Bool) → IsPaid c s (died_unless_dead e) refused
@@ -263,13 +209,6 @@ first_need d ds h = (and_parts (needs d ds) (is_followed ds) h).0
 
 rest_followed : (d : Duty) (ds : List Duty) → is_followed (d ∷ ds) ≡ true → is_followed ds ≡ true
 rest_followed d ds h = (and_parts (needs d ds) (is_followed ds) h).1
-
--- a side that this duty doesn't pay
-unpaid_side : (s t : Side) (ds : List Duty) → same_side s t ≡ false → (same_side s t || is_owed s ds) ≡ true → is_owed s ds ≡ true
-unpaid_side A B ds other owed = owed
-unpaid_side B A ds other owed = owed
-unpaid_side A A ds other owed = absurd (true≢false other)
-unpaid_side B B ds other owed = absurd (true≢false other)
 
 -- of the duties by which an end dies, the other side isn't paid
 others_none : (s : Side) (ds : List Duty) → none_owed ds ≡ true → (same_side (peer s) s || is_owed (peer s) ds) ≡ false
@@ -355,41 +294,39 @@ module _ {C : Type 0} where
         each B = inl refl
 
     break_done : (k : Codec C) (s : Side) (reason : ℕ) (r : Reply) → IsPaid p.profile (peer s) (end_at (peer s) p) (refused (peer s)) → Granting (answered_break k s reason r p) refused
-    break_done k s reason r other = by (end_at s p).treated.asked
-      where
-        by : (b : Bool) → Granting (if b then answered_ack_out s r (resets s reason) p else reset_on k s (Some reason) (leaves s) p) refused
-        by true = resets_done s reason r other
-        by false = reset_done k s (Some reason) (leaves s) refl other
+    break_done k s reason r other =
+        if_so (λ z. Granting z refused) (end_at s p).treated.asked (answered_ack_out s r (resets s reason) p) (reset_on k s (Some reason) (leaves s) p)
+        (resets_done s reason r other) (reset_done k s (Some reason) (leaves s) refl other)
 
   -- ---- events, where nothing is ahead
 
   module _ (p : PathState C) (refused : Side → Bool) (paid : (s : Side) → IsPaid p.profile s (end_at s p) (refused s)) where
     line_done : (action : LineAction) → Granting (after_line action p) refused
-    line_done (actions.Prio A backup) = on p refused A (with_priority backup p.a) (emission A) refl (inl refl) (inr (paid B))
-    line_done (actions.Prio B backup) = on p refused B (with_priority backup p.b) (emission B) refl (inl refl) (inr (paid A))
-    line_done (actions.Announce A id) = agenda_on p refused (announces A id) refl at
+    line_done (LineAction.Prio A backup) = on p refused A (with_priority backup p.a) (emission A) refl (inl refl) (inr (paid B))
+    line_done (LineAction.Prio B backup) = on p refused B (with_priority backup p.b) (emission B) refl (inl refl) (inr (paid A))
+    line_done (LineAction.Announce A id) = agenda_on p refused (announces A id) refl at
       where
         at : (s : Side) → Pays p (announces A id) refused s
         at A = inl refl
         at B = inr (paid B)
-    line_done (actions.Announce B id) = agenda_on p refused (announces B id) refl at
+    line_done (LineAction.Announce B id) = agenda_on p refused (announces B id) refl at
       where
         at : (s : Side) → Pays p (announces B id) refused s
         at A = inr (paid A)
         at B = inl refl
-    line_done (actions.Withdraw A id) = agenda_on p refused (withdraws A id) refl at
+    line_done (LineAction.Withdraw A id) = agenda_on p refused (withdraws A id) refl at
       where
         at : (s : Side) → Pays p (withdraws A id) refused s
         at A = inl refl
         at B = inr (paid B)
-    line_done (actions.Withdraw B id) = agenda_on p refused (withdraws B id) refl at
+    line_done (LineAction.Withdraw B id) = agenda_on p refused (withdraws B id) refl at
       where
         at : (s : Side) → Pays p (withdraws B id) refused s
         at A = inr (paid A)
         at B = inl refl
-    line_done actions.Die = record { followed = by (states.is_dead p.a.tcp.state) (states.is_dead p.b.tcp.state); each = at }
+    line_done LineAction.Die = record { followed = by (states.is_dead p.a.tcp.state) (states.is_dead p.b.tcp.state); each = at }
       where
-        by : (a b : Bool) → is_followed ((if a then [] else duties.Ask (ask_duties.Leave A) ∷ []) ++ ((if b then [] else duties.Ask (ask_duties.Leave B) ∷ []) ++ rest_of_turn)) ≡ true
+        by : (a b : Bool) → is_followed ((if a then [] else Duty.Ask (AskDuty.Leave A) ∷ []) ++ ((if b then [] else Duty.Ask (AskDuty.Leave B) ∷ []) ++ rest_of_turn)) ≡ true
         by true true = refl
         by true false = refl
         by false true = refl
@@ -412,28 +349,26 @@ module _ {C : Type 0} where
     ended joined s now h m = copy_judged joined (held_of p.profile s h) (reset_for p.profile s h) s now h m (end_at s p)
 
     heard_done : (joined : Bool) (s : Side) (now count : ℕ) (h : HeardSegment) (m : Meaning) → Granting (goes_on s (ended joined s now h m) (template_by joined s count m) p) refused
-    heard_done joined s now count h means.Ignored = owed_came s (ended joined s now h means.Ignored) (emission s) (emission_there s)
-    heard_done true s now count h means.Unwanted = came s (ended true s now h means.Unwanted) (answers_dead s) (inr (record { paid = (paid s).paid; waits = (paid s).waits })) refl
-    heard_done false s now count h means.Unwanted = came s (ended false s now h means.Unwanted) (answers_dead s) (inr (record { paid = (paid s).paid; waits = (paid s).waits })) refl
-    heard_done joined s now count h means.Opens = owed_came s (ended joined s now h means.Opens) (syn_came s) (syn_there s)
-    heard_done true s now count h (means.Accepts acknowledged) = owed_came s (ended true s now h (means.Accepts acknowledged)) (join_answered s) (answered_there s)
-    heard_done false s now count h (means.Accepts acknowledged) = owed_came s (ended false s now h (means.Accepts acknowledged)) (syn_ack_came s) (syn_ack_there s)
-    heard_done joined s now count h means.RepeatedSyn = owed_came s (ended joined s now h means.RepeatedSyn) (syn_again s) (again_there s)
-    heard_done joined s now count h means.Outside = owed_came s (ended joined s now h means.Outside) (answers s) (answer_there s)
-    heard_done joined s now count h means.Kills = came s (ended joined s now h means.Kills) (leaves s) (inr (closed_paid p.profile s (ended joined s now h means.Kills) (refused s) refl)) refl
-    heard_done joined s now count h means.Challenged = owed_came s (ended joined s now h means.Challenged) (answers s) (answer_there s)
-    heard_done joined s now count h means.Unacknowledging = owed_came s (ended joined s now h means.Unacknowledging) (emission s) (emission_there s)
-    heard_done joined s now count h means.Ahead = owed_came s (ended joined s now h means.Ahead) (answers s) (answer_there s)
-    heard_done joined s now count h (means.Taken position acknowledged) =
+    heard_done joined s now count h Meaning.Ignored = owed_came s (ended joined s now h Meaning.Ignored) (emission s) (emission_there s)
+    heard_done true s now count h Meaning.Unwanted = came s (ended true s now h Meaning.Unwanted) (answers_dead s) (inr (record { paid = (paid s).paid; waits = (paid s).waits })) refl
+    heard_done false s now count h Meaning.Unwanted = came s (ended false s now h Meaning.Unwanted) (answers_dead s) (inr (record { paid = (paid s).paid; waits = (paid s).waits })) refl
+    heard_done joined s now count h Meaning.Opens = owed_came s (ended joined s now h Meaning.Opens) (syn_came s) (syn_there s)
+    heard_done true s now count h (Meaning.Accepts acknowledged) = owed_came s (ended true s now h (Meaning.Accepts acknowledged)) (join_answered s) (answered_there s)
+    heard_done false s now count h (Meaning.Accepts acknowledged) = owed_came s (ended false s now h (Meaning.Accepts acknowledged)) (syn_ack_came s) (syn_ack_there s)
+    heard_done joined s now count h Meaning.RepeatedSyn = owed_came s (ended joined s now h Meaning.RepeatedSyn) (syn_again s) (again_there s)
+    heard_done joined s now count h Meaning.Kills = came s (ended joined s now h Meaning.Kills) (leaves s) (inr (closed_paid p.profile s (ended joined s now h Meaning.Kills) (refused s) refl)) refl
+    heard_done joined s now count h Meaning.Unacknowledging = owed_came s (ended joined s now h Meaning.Unacknowledging) (emission s) (emission_there s)
+    heard_done joined s now count h (Meaning.Taken position acknowledged) =
         let copy = copy_is s count in
-        came s (ended joined s now h (means.Taken position acknowledged)) (copy_came s count) (inl copy.owed) copy.followed
+        came s (ended joined s now h (Meaning.Taken position acknowledged)) (copy_came s count) (inl copy.owed) copy.followed
+    heard_done joined s now count h m = owed_came s (ended joined s now h m) (answers s) (answer_there s)
 
     judged_done : (joined : Bool) (s : Side) (now count : ℕ) (h : HeardSegment) (verdict : Judged)
         → Granting (goes_on s (ended joined s now h (taken_as verdict)) (template_judged joined s count verdict) p) refused
-    judged_done joined s now count h (judged.As meaning) = heard_done joined s now count h meaning
-    judged_done joined s now count h judged.Asks = owed_came s (ended joined s now h means.Ignored) (join_came s) (join_there s)
-    judged_done joined s now count h judged.Lacks = owed_came s (ended joined s now h means.Ignored) (refuses s) (refusal_there s)
-    judged_done joined s now count h judged.Forged = owed_came s (ended joined s now h means.Ignored) (resets s 1) (reset_there s)
+    judged_done joined s now count h (Judged.As meaning) = heard_done joined s now count h meaning
+    judged_done joined s now count h Judged.Asks = owed_came s (ended joined s now h Meaning.Ignored) (join_came s) (join_there s)
+    judged_done joined s now count h Judged.Lacks = owed_came s (ended joined s now h Meaning.Ignored) (refuses s) (refusal_there s)
+    judged_done joined s now count h Judged.Forged = owed_came s (ended joined s now h Meaning.Ignored) (resets s 1) (reset_there s)
 
     emission_done : (s : Side) → Granting (with_agenda (emission s) p) refused
     emission_done A = agenda_on p refused (emission A) refl at
@@ -468,24 +403,24 @@ module _ {C : Type 0} where
 
   event_done : (k : Codec C) (o : Option Event) (r : Reply) (p : PathState C) (refused : Side → Bool) → ((s : Side) → IsPaid p.profile s (end_at s p) (refused s)) → Granting (happens_if k o r p) refused
   event_done k None r p refused paid = agenda_on p refused rest_of_turn refl (λ s. inr (paid s))
-  event_done k (Some (happenings.Joins tick)) r p refused paid = join_done (record (at_tick tick p) { joined_at = None }) refused at r
+  event_done k (Some (Event.Joins tick)) r p refused paid = join_done (record (at_tick tick p) { joined_at = None }) refused at r
     where
       at : (s : Side) → IsPaid p.profile s (end_at s (record (at_tick tick p) { joined_at = None })) (refused s)
       at A = paid A
       at B = paid B
-  event_done k (Some (happenings.Takes line)) r p refused paid =
+  event_done k (Some (Event.Takes line)) r p refused paid =
       line_done (record (at_tick line.tick p) { lines = tail_of p.lines }) refused at line.action
     where
       at : (s : Side) → IsPaid p.profile s (end_at s (record (at_tick line.tick p) { lines = tail_of p.lines })) (refused s)
       at A = paid A
       at B = paid B
-  event_done k (Some (happenings.Arrives due)) r p refused paid =
+  event_done k (Some (Event.Arrives due)) r p refused paid =
       copy_done (record (at_tick due.tick p) { link = after_delivery due p.link }) refused at due.to (heard_in k due.to (arriving due p.link) p)
     where
       at : (s : Side) → IsPaid p.profile s (end_at s (record (at_tick due.tick p) { link = after_delivery due p.link })) (refused s)
       at A = paid A
       at B = paid B
-  event_done k (Some (happenings.Fires s tick)) r p refused paid = fired_done (at_tick tick p) refused at s _ (is_sixth (end_at s (at_tick tick p)).tcp)
+  event_done k (Some (Event.Fires s tick)) r p refused paid = fired_done (at_tick tick p) refused at s _ (is_sixth (end_at s (at_tick tick p)).tcp)
     where
       at : (t : Side) → IsPaid p.profile t (end_at t (at_tick tick p)) (refused t)
       at A = paid A
@@ -500,7 +435,7 @@ module _ {C : Type 0} where
   own_passed B e ds p refused own other A = other
   own_passed B e ds p refused own other B = own
 
-  data_passed : (s : Side) (ds : List Duty) (p : PathState C) (refused : Side → Bool) → stands (duties.Step (step_duties.Data s)) p ≡ false → ((t : Side) → Pays p (duties.Step (step_duties.Data s) ∷ ds) refused t) → (t : Side) → Pays p ds refused t
+  data_passed : (s : Side) (ds : List Duty) (p : PathState C) (refused : Side → Bool) → stands (Duty.Step (StepDuty.Data s)) p ≡ false → ((t : Side) → Pays p (Duty.Step (StepDuty.Data s) ∷ ds) refused t) → (t : Side) → Pays p ds refused t
   data_passed A ds p refused none each A = inr (not_asking p.profile A p.a (refused A) (first_unsent p.a) refl none)
   data_passed A ds p refused none each B = each B
   data_passed B ds p refused none each A = each A
@@ -508,21 +443,21 @@ module _ {C : Type 0} where
 
   passed_pays : (d : Duty) (ds : List Duty) (p : PathState C) (refused : Side → Bool) → stands d p ≡ false → is_followed (d ∷ ds) ≡ true → ((t : Side) → Pays p (d ∷ ds) refused t)
       → (t : Side) → Pays (passed d p) ds refused t
-  passed_pays (duties.Step (step_duties.Data s)) ds p refused none f each = data_passed s ds p refused none each
-  passed_pays (duties.Silent (silent_duties.Timer s)) ds p refused none f each = own_passed s _ ds p refused (⊎_elim (λ owed. inl owed) (λ h. inr (record { paid = h.paid; waits = h.waits })) (each s)) (each (peer s))
-  passed_pays (duties.Step (step_duties.Heard s index)) ds p refused none f each =
-      own_passed s _ ds p refused (inl (and_parts (is_owed s ds) (not (is_owed (peer s) ds)) (first_need (duties.Step (step_duties.Heard s index)) ds f)).0) (each (peer s))
-  passed_pays (duties.Silent (silent_duties.Keep s)) ds p refused none f each = own_passed s _ ds p refused (inl (first_need (duties.Silent (silent_duties.Keep s)) ds f)) (each (peer s))
-  passed_pays (duties.Ask (ask_duties.CheckFailed s)) ds p refused none f each =
-      own_passed s _ ds p refused (inl (and_parts (is_owed s ds) (not (is_owed (peer s) ds)) (first_need (duties.Ask (ask_duties.CheckFailed s)) ds f)).0) (each (peer s))
-  passed_pays (duties.Silent (silent_duties.PassFin s)) ds p refused none f each = own_passed s _ ds p refused (inl (first_need (duties.Silent (silent_duties.PassFin s)) ds f)) (each (peer s))
-  passed_pays (duties.Ask (ask_duties.BreakAck s reason)) ds p refused none f each = absurd (true≢false none)
-  passed_pays (duties.Send (send_duties.BreakReset s reason)) ds p refused none f each = absurd (true≢false none)
-  passed_pays (duties.Send (send_duties.Reset s)) ds p refused none f each = absurd (true≢false none)
-  passed_pays (duties.Step (step_duties.PlainAck s)) ds p refused none f each =
-      own_passed s _ ds p refused (inl (and_parts (is_owed s ds) (not (is_owed (peer s) ds)) (first_need (duties.Step (step_duties.PlainAck s)) ds f)).0) (each (peer s))
-  passed_pays (duties.Step (step_duties.Unmapped s)) ds p refused none f each =
-      own_passed s _ ds p refused (inl (and_parts (is_owed s ds) (not (is_owed (peer s) ds)) (first_need (duties.Step (step_duties.Unmapped s)) ds f)).0) (each (peer s))
+  passed_pays (Duty.Step (StepDuty.Data s)) ds p refused none f each = data_passed s ds p refused none each
+  passed_pays (Duty.Silent (SilentDuty.Timer s)) ds p refused none f each = own_passed s _ ds p refused (⊎_elim (λ owed. inl owed) (λ h. inr (record { paid = h.paid; waits = h.waits })) (each s)) (each (peer s))
+  passed_pays (Duty.Step (StepDuty.Heard s index)) ds p refused none f each =
+      own_passed s _ ds p refused (inl (and_parts (is_owed s ds) (not (is_owed (peer s) ds)) (first_need (Duty.Step (StepDuty.Heard s index)) ds f)).0) (each (peer s))
+  passed_pays (Duty.Silent (SilentDuty.Keep s)) ds p refused none f each = own_passed s _ ds p refused (inl (first_need (Duty.Silent (SilentDuty.Keep s)) ds f)) (each (peer s))
+  passed_pays (Duty.Ask (AskDuty.CheckFailed s)) ds p refused none f each =
+      own_passed s _ ds p refused (inl (and_parts (is_owed s ds) (not (is_owed (peer s) ds)) (first_need (Duty.Ask (AskDuty.CheckFailed s)) ds f)).0) (each (peer s))
+  passed_pays (Duty.Silent (SilentDuty.PassFin s)) ds p refused none f each = own_passed s _ ds p refused (inl (first_need (Duty.Silent (SilentDuty.PassFin s)) ds f)) (each (peer s))
+  passed_pays (Duty.Ask (AskDuty.BreakAck s reason)) ds p refused none f each = absurd (true≢false none)
+  passed_pays (Duty.Send (SendDuty.BreakReset s reason)) ds p refused none f each = absurd (true≢false none)
+  passed_pays (Duty.Send (SendDuty.Reset s)) ds p refused none f each = absurd (true≢false none)
+  passed_pays (Duty.Step (StepDuty.PlainAck s)) ds p refused none f each =
+      own_passed s _ ds p refused (inl (and_parts (is_owed s ds) (not (is_owed (peer s) ds)) (first_need (Duty.Step (StepDuty.PlainAck s)) ds f)).0) (each (peer s))
+  passed_pays (Duty.Step (StepDuty.Unmapped s)) ds p refused none f each =
+      own_passed s _ ds p refused (inl (and_parts (is_owed s ds) (not (is_owed (peer s) ds)) (first_need (Duty.Step (StepDuty.Unmapped s)) ds f)).0) (each (peer s))
   passed_pays _ ds p refused none f each = each
 
   pub settled_done : (ds : List Duty) (p : PathState C) (refused : Side → Bool) → is_followed ds ≡ true → ((t : Side) → Pays p ds refused t) → Granting (settled ds p) refused
@@ -561,7 +496,7 @@ module _ {C : Type 0} where
         → Granting (goes_on s e (fell_duties s r (at (d ∷ ds))) (at (d ∷ ds))) refused
     fell_done s e d ds f owed paid =
         fell_cases (λ es. Granting (goes_on s e es (at (d ∷ ds))) refused) s (at (d ∷ ds)) r
-        (λ falls. touched s e (duties.Ask (ask_duties.GoIdentity s) ∷ ds) (rw (owed, f) refl) owed (d ∷ ds) (inr paid))
+        (λ falls. touched s e (Duty.Ask (AskDuty.GoIdentity s) ∷ ds) (rw (owed, f) refl) owed (d ∷ ds) (inr paid))
         (λ reason. breaks_done (at (d ∷ ds)) refused s e reason paid)
         (λ reason. resets_go (at (d ∷ ds)) refused s e reason paid)
         (touched s e ds f owed (d ∷ ds) (inr paid))
@@ -582,43 +517,43 @@ module _ {C : Type 0} where
 
     key_done : (s : Side) (key : Option ℕ) (d : Duty) (ds : List Duty) → is_followed ds ≡ true → Needed s ds → IsPaid p.profile (peer s) (end_at (peer s) p) (refused (peer s))
         → Granting (answered_peer_key s key r (at (d ∷ ds))) refused
-    key_done s None d ds f need paid = event_told s events.PlainHandshake d ds f need paid
+    key_done s None d ds f need paid = event_told s FallEvent.PlainHandshake d ds f need paid
     key_done s (Some key) d ds f need paid = touched s _ ds f (own_owed s ds need) (d ∷ ds) (inr paid)
 
     opened_done : (s : Side) (keys : Option KeyPair) (d : Duty) (ds : List Duty) → is_followed ds ≡ true → Needed s ds → IsPaid p.profile (peer s) (end_at (peer s) p) (refused (peer s))
         → Granting (answered_opened s keys r (at (d ∷ ds))) refused
-    opened_done s None d ds f need paid = event_told s events.PlainHandshake d ds f need paid
+    opened_done s None d ds f need paid = event_told s FallEvent.PlainHandshake d ds f need paid
     opened_done s (Some keys) d ds f need paid = touched s _ ds f (own_owed s ds need) (d ∷ ds) (inr paid)
 
     plain_ack_done : (s : Side) (d : Duty) (ds : List Duty) → is_followed ds ≡ true → Needed s ds → IsPaid p.profile (peer s) (end_at (peer s) p) (refused (peer s))
         → (breaks : Bool) → Granting (if breaks then answered_break k s 6 r (at (d ∷ ds))
-        else goes_on s (with_plain_ack (after_fell events.PlainAck r (end_at s (at (d ∷ ds))))) (fell_duties s r (at (d ∷ ds))) (at (d ∷ ds))) refused
+        else goes_on s (with_plain_ack (after_fell FallEvent.PlainAck r (end_at s (at (d ∷ ds))))) (fell_duties s r (at (d ∷ ds))) (at (d ∷ ds))) refused
     plain_ack_done s d ds f need paid true = break_done (at (d ∷ ds)) refused k s 6 r paid
     plain_ack_done s d ds f need paid false = fell_done s _ d ds f (own_owed s ds need) paid
 
-    item_done : (s : Side) (index : ℕ) (ds : List Duty) → is_followed (duties.Step (step_duties.Heard s index) ∷ ds) ≡ true → ((t : Side) → Pays (at (duties.Step (step_duties.Heard s index) ∷ ds)) (duties.Step (step_duties.Heard s index) ∷ ds) refused t)
-        → (o : Option Heard) → Granting (answered_item k s o r (at (duties.Step (step_duties.Heard s index) ∷ ds))) refused
+    item_done : (s : Side) (index : ℕ) (ds : List Duty) → is_followed (Duty.Step (StepDuty.Heard s index) ∷ ds) ≡ true → ((t : Side) → Pays (at (Duty.Step (StepDuty.Heard s index) ∷ ds)) (Duty.Step (StepDuty.Heard s index) ∷ ds) refused t)
+        → (o : Option Heard) → Granting (answered_item k s o r (at (Duty.Step (StepDuty.Heard s index) ∷ ds))) refused
     item_done s index ds f each = by
       where
         xs : List Duty
-        xs = duties.Step (step_duties.Heard s index) ∷ ds
+        xs = Duty.Step (StepDuty.Heard s index) ∷ ds
 
         need : (is_owed s ds ≡ true) × (not (is_owed (peer s) ds) ≡ true)
-        need = and_parts (is_owed s ds) (not (is_owed (peer s) ds)) (first_need (duties.Step (step_duties.Heard s index)) ds f)
+        need = and_parts (is_owed s ds) (not (is_owed (peer s) ds)) (first_need (Duty.Step (StepDuty.Heard s index)) ds f)
 
         rest : is_followed ds ≡ true
-        rest = rest_followed (duties.Step (step_duties.Heard s index)) ds f
+        rest = rest_followed (Duty.Step (StepDuty.Heard s index)) ds f
 
         paid : IsPaid p.profile (peer s) (end_at (peer s) p) (refused (peer s))
         paid = is_paid (at xs) xs refused (peer s) (not-true (is_owed (peer s) ds) need.1) (each (peer s))
 
         told : (b : Bool) (e : PathEnd) → Granting (goes_on s e (told_next s b (at xs)) (at xs)) refused
-        told true e = touched s e (duties.Ask (ask_duties.AckHeard s) ∷ ds) (rw (need.0, need.1, rest) refl) need.0 xs (inr paid)
+        told true e = touched s e (Duty.Ask (AskDuty.AckHeard s) ∷ ds) (rw (need.0, need.1, rest) refl) need.0 xs (inr paid)
         told false e = touched s e ds rest need.0 xs (inr paid)
 
-        mapping : (b : Bool) → Granting (if b then answered_break k s 1 r (at xs) else goes_on s (with_learned (after_fell events.MappingHeard r (end_at s (at xs)))) (fell_duties s r (at xs)) (at xs)) refused
+        mapping : (b : Bool) → Granting (if b then answered_break k s 1 r (at xs) else goes_on s (with_learned (after_fell FallEvent.MappingHeard r (end_at s (at xs)))) (fell_duties s r (at xs)) (at xs)) refused
         mapping true = break_done (at xs) refused k s 1 r paid
-        mapping false = fell_done s _ (duties.Step (step_duties.Heard s index)) ds rest need.0 paid
+        mapping false = fell_done s _ (Duty.Step (StepDuty.Heard s index)) ds rest need.0 paid
 
         stopped : (b : Bool) → Granting (with_agenda (if b then stops s else left (at xs)) (at xs)) refused
         stopped true = stops_done (at xs) refused s paid
@@ -626,63 +561,63 @@ module _ {C : Type 0} where
 
         by : (o : Option Heard) → Granting (answered_item k s o r (at xs)) refused
         by None = done_on ds xs rest (λ t. each t)
-        by (Some says.Dss) = done_on ds xs rest (λ t. each t)
-        by (Some (says.DataAck next window)) = told _ _
-        by (Some (says.Mapping fin)) = mapping (is_clash (end_at s p))
-        by (Some (says.DataFin place)) = fell_done s _ (duties.Step (step_duties.Heard s index)) ds rest need.0 paid
-        by (Some (says.InfiniteMapping place position)) = fell_done s _ (duties.Step (step_duties.Heard s index)) ds rest need.0 paid
-        by (Some (says.PeerKey key)) = done_on ds xs rest (λ t. each t)
-        by (Some (says.Join form)) = done_on ds xs rest (λ t. each t)
-        by (Some (says.Notice notice)) = touched s (after_peer_notice notice r (end_at s p)) ds rest need.0 xs (inr paid)
-        by (Some says.Fail) =
-            fail_answered_so (λ q. Granting q refused) s r (at xs) (touched s _ (duties.Ask (ask_duties.FailHeard s) ∷ ds) (rw (need.0, need.1, rest) refl) need.0 xs (inr paid))
-            (fell_done s _ (duties.Step (step_duties.Heard s index)) ds rest need.0 paid)
-        by (Some (says.FastClose key)) = stopped (is_stopped_by r)
-        by (Some (says.Keys own other)) = touched s _ ds rest need.0 xs (inr paid)
+        by (Some Heard.Dss) = done_on ds xs rest (λ t. each t)
+        by (Some (Heard.DataAck next window)) = told _ _
+        by (Some (Heard.Mapping fin)) = mapping (is_clash (end_at s p))
+        by (Some (Heard.DataFin place)) = fell_done s _ (Duty.Step (StepDuty.Heard s index)) ds rest need.0 paid
+        by (Some (Heard.InfiniteMapping place position)) = fell_done s _ (Duty.Step (StepDuty.Heard s index)) ds rest need.0 paid
+        by (Some (Heard.PeerKey key)) = done_on ds xs rest (λ t. each t)
+        by (Some (Heard.Join form)) = done_on ds xs rest (λ t. each t)
+        by (Some (Heard.Notice notice)) = touched s (after_peer_notice notice r (end_at s p)) ds rest need.0 xs (inr paid)
+        by (Some Heard.Fail) =
+            fail_answered_so (λ q. Granting q refused) s r (at xs) (touched s _ (Duty.Ask (AskDuty.FailHeard s) ∷ ds) (rw (need.0, need.1, rest) refl) need.0 xs (inr paid))
+            (fell_done s _ (Duty.Step (StepDuty.Heard s index)) ds rest need.0 paid)
+        by (Some (Heard.FastClose key)) = stopped (is_stopped_by r)
+        by (Some (Heard.Keys own other)) = touched s _ ds rest need.0 xs (inr paid)
 
     -- an end that waits asks again whether it may join
-    again_done : (ds : List Duty) → is_followed ((duties.Ask ask_duties.JoinAgain) ∷ ds) ≡ true → ((t : Side) → Pays (at ((duties.Ask ask_duties.JoinAgain) ∷ ds)) ((duties.Ask ask_duties.JoinAgain) ∷ ds) refused t)
-        → Granting (join_begun r (duties.Ask (ask_duties.Leave A) ∷ ds) ds (at ((duties.Ask ask_duties.JoinAgain) ∷ ds))) refused
+    again_done : (ds : List Duty) → is_followed ((Duty.Ask AskDuty.JoinAgain) ∷ ds) ≡ true → ((t : Side) → Pays (at ((Duty.Ask AskDuty.JoinAgain) ∷ ds)) ((Duty.Ask AskDuty.JoinAgain) ∷ ds) refused t)
+        → Granting (join_begun r (Duty.Ask (AskDuty.Leave A) ∷ ds) ds (at ((Duty.Ask AskDuty.JoinAgain) ∷ ds))) refused
     again_done ds f each = by (is_never r)
       where
         xs : List Duty
-        xs = (duties.Ask ask_duties.JoinAgain) ∷ ds
+        xs = (Duty.Ask AskDuty.JoinAgain) ∷ ds
 
         rest : is_followed ds ≡ true
-        rest = rest_followed (duties.Ask ask_duties.JoinAgain) ds f
+        rest = rest_followed (Duty.Ask AskDuty.JoinAgain) ds f
 
-        by : (b : Bool) → Granting (if b then goes_on A (never_joined r p.a) (duties.Ask (ask_duties.Leave A) ∷ ds) (at xs) else goes_on A (opened_by (keys_begun r) p.a) ds (at xs)) refused
-        by true = touched A (never_joined r p.a) (duties.Ask (ask_duties.Leave A) ∷ ds) rest (first_need (duties.Ask ask_duties.JoinAgain) ds f) xs (each B)
-        by false = touched A (opened_by (keys_begun r) p.a) ds rest (first_need (duties.Ask ask_duties.JoinAgain) ds f) xs (each B)
+        by : (b : Bool) → Granting (if b then goes_on A (never_joined r p.a) (Duty.Ask (AskDuty.Leave A) ∷ ds) (at xs) else goes_on A (opened_by (keys_begun r) p.a) ds (at xs)) refused
+        by true = touched A (never_joined r p.a) (Duty.Ask (AskDuty.Leave A) ∷ ds) rest (first_need (Duty.Ask AskDuty.JoinAgain) ds f) xs (each B)
+        by false = touched A (opened_by (keys_begun r) p.a) ds rest (first_need (Duty.Ask AskDuty.JoinAgain) ds f) xs (each B)
 
-    join_heard_done : (s : Side) (ds : List Duty) → is_followed (duties.Ask (ask_duties.JoinHeard s) ∷ ds) ≡ true → ((t : Side) → Pays (at (duties.Ask (ask_duties.JoinHeard s) ∷ ds)) (duties.Ask (ask_duties.JoinHeard s) ∷ ds) refused t)
-        → (keys : Option KeyPair) (asked : Option JoinSyn) → Granting (join_taken s keys asked r (at (duties.Ask (ask_duties.JoinHeard s) ∷ ds))) refused
+    join_heard_done : (s : Side) (ds : List Duty) → is_followed (Duty.Ask (AskDuty.JoinHeard s) ∷ ds) ≡ true → ((t : Side) → Pays (at (Duty.Ask (AskDuty.JoinHeard s) ∷ ds)) (Duty.Ask (AskDuty.JoinHeard s) ∷ ds) refused t)
+        → (keys : Option KeyPair) (asked : Option JoinSyn) → Granting (join_taken s keys asked r (at (Duty.Ask (AskDuty.JoinHeard s) ∷ ds))) refused
     join_heard_done s ds f each = by
       where
         xs : List Duty
-        xs = duties.Ask (ask_duties.JoinHeard s) ∷ ds
+        xs = Duty.Ask (AskDuty.JoinHeard s) ∷ ds
 
         need : is_owed s ds ≡ true
-        need = first_need (duties.Ask (ask_duties.JoinHeard s)) ds f
+        need = first_need (Duty.Ask (AskDuty.JoinHeard s)) ds f
 
         rest : is_followed ds ≡ true
-        rest = rest_followed (duties.Ask (ask_duties.JoinHeard s)) ds f
+        rest = rest_followed (Duty.Ask (AskDuty.JoinHeard s)) ds f
 
         by : (keys : Option KeyPair) (asked : Option JoinSyn) → Granting (join_taken s keys asked r (at xs)) refused
-        by None None = done_on (duties.Send (send_duties.Refuse s) ∷ ds) xs rest (λ t. each t)
-        by None (Some asked) = touched s _ (duties.Send (send_duties.Refuse s) ∷ ds) rest need xs (each (peer s))
-        by (Some keys) None = done_on (duties.Send (send_duties.Refuse s) ∷ ds) xs rest (λ t. each t)
-        by (Some keys) (Some asked) = touched s _ (duties.Send (send_duties.SynAck s) ∷ ds) (rw (need, rest) refl) need xs (each (peer s))
+        by None None = done_on (Duty.Send (SendDuty.Refuse s) ∷ ds) xs rest (λ t. each t)
+        by None (Some asked) = touched s _ (Duty.Send (SendDuty.Refuse s) ∷ ds) rest need xs (each (peer s))
+        by (Some keys) None = done_on (Duty.Send (SendDuty.Refuse s) ∷ ds) xs rest (λ t. each t)
+        by (Some keys) (Some asked) = touched s _ (Duty.Send (SendDuty.SynAck s) ∷ ds) (rw (need, rest) refl) need xs (each (peer s))
 
-    piece_done : (s : Side) (ds : List Duty) → is_followed (duties.Ask (ask_duties.Edge s) ∷ ds) ≡ true → ((t : Side) → Pays (at (duties.Ask (ask_duties.Edge s) ∷ ds)) (duties.Ask (ask_duties.Edge s) ∷ ds) refused t)
-        → (o : Option Piece) (taken : Bool) → Granting (answered_piece s o taken (at (duties.Ask (ask_duties.Edge s) ∷ ds))) refused
+    piece_done : (s : Side) (ds : List Duty) → is_followed (Duty.Ask (AskDuty.Edge s) ∷ ds) ≡ true → ((t : Side) → Pays (at (Duty.Ask (AskDuty.Edge s) ∷ ds)) (Duty.Ask (AskDuty.Edge s) ∷ ds) refused t)
+        → (o : Option Piece) (taken : Bool) → Granting (answered_piece s o taken (at (Duty.Ask (AskDuty.Edge s) ∷ ds))) refused
     piece_done s ds f each = by
       where
         xs : List Duty
-        xs = duties.Ask (ask_duties.Edge s) ∷ ds
+        xs = Duty.Ask (AskDuty.Edge s) ∷ ds
 
         need : (is_owed s ds ≡ true) × (not (is_owed (peer s) ds) ≡ true)
-        need = and_parts (is_owed s ds) (not (is_owed (peer s) ds)) (first_need (duties.Ask (ask_duties.Edge s)) ds f)
+        need = and_parts (is_owed s ds) (not (is_owed (peer s) ds)) (first_need (Duty.Ask (AskDuty.Edge s)) ds f)
 
         paid : IsPaid p.profile (peer s) (end_at (peer s) p) (refused (peer s))
         paid = is_paid (at xs) xs refused (peer s) (not-true (is_owed (peer s) ds) need.1) (each (peer s))
@@ -692,140 +627,140 @@ module _ {C : Type 0} where
         by (Some piece) false = breaks_done (at xs) refused s _ 1 paid
         by None taken = breaks_done (at xs) refused s _ 1 paid
 
-    fin_done : (s : Side) (index : ℕ) (ds : List Duty) → is_followed (duties.Ask (ask_duties.HeardFin s index) ∷ ds) ≡ true
-        → ((t : Side) → Pays (at (duties.Ask (ask_duties.HeardFin s index) ∷ ds)) (duties.Ask (ask_duties.HeardFin s index) ∷ ds) refused t) → (set : Bool) → Granting (answered_fin_heard s set (at (duties.Ask (ask_duties.HeardFin s index) ∷ ds))) refused
+    fin_done : (s : Side) (index : ℕ) (ds : List Duty) → is_followed (Duty.Ask (AskDuty.HeardFin s index) ∷ ds) ≡ true
+        → ((t : Side) → Pays (at (Duty.Ask (AskDuty.HeardFin s index) ∷ ds)) (Duty.Ask (AskDuty.HeardFin s index) ∷ ds) refused t) → (set : Bool) → Granting (answered_fin_heard s set (at (Duty.Ask (AskDuty.HeardFin s index) ∷ ds))) refused
     fin_done s index ds f each = by
       where
         xs : List Duty
-        xs = duties.Ask (ask_duties.HeardFin s index) ∷ ds
+        xs = Duty.Ask (AskDuty.HeardFin s index) ∷ ds
 
         need : (is_owed s ds ≡ true) × (not (is_owed (peer s) ds) ≡ true)
-        need = and_parts (is_owed s ds) (not (is_owed (peer s) ds)) (first_need (duties.Ask (ask_duties.HeardFin s index)) ds f)
+        need = and_parts (is_owed s ds) (not (is_owed (peer s) ds)) (first_need (Duty.Ask (AskDuty.HeardFin s index)) ds f)
 
         paid : IsPaid p.profile (peer s) (end_at (peer s) p) (refused (peer s))
         paid = is_paid (at xs) xs refused (peer s) (not-true (is_owed (peer s) ds) need.1) (each (peer s))
 
         by : (set : Bool) → Granting (answered_fin_heard s set (at xs)) refused
-        by true = touched s _ ds (rest_followed (duties.Ask (ask_duties.HeardFin s index)) ds f) need.0 xs (inr paid)
+        by true = touched s _ ds (rest_followed (Duty.Ask (AskDuty.HeardFin s index)) ds f) need.0 xs (inr paid)
         by false = breaks_done (at xs) refused s _ 1 paid
 
-    plain_fin_done : (s : Side) (ds : List Duty) → is_followed (duties.Ask (ask_duties.SubflowFin s) ∷ ds) ≡ true → ((t : Side) → Pays (at (duties.Ask (ask_duties.SubflowFin s) ∷ ds)) (duties.Ask (ask_duties.SubflowFin s) ∷ ds) refused t) → (set : Bool)
-        → Granting (answered_plain_fin s set (at (duties.Ask (ask_duties.SubflowFin s) ∷ ds))) refused
+    plain_fin_done : (s : Side) (ds : List Duty) → is_followed (Duty.Ask (AskDuty.SubflowFin s) ∷ ds) ≡ true → ((t : Side) → Pays (at (Duty.Ask (AskDuty.SubflowFin s) ∷ ds)) (Duty.Ask (AskDuty.SubflowFin s) ∷ ds) refused t) → (set : Bool)
+        → Granting (answered_plain_fin s set (at (Duty.Ask (AskDuty.SubflowFin s) ∷ ds))) refused
     plain_fin_done s ds f each = by
       where
         xs : List Duty
-        xs = duties.Ask (ask_duties.SubflowFin s) ∷ ds
+        xs = Duty.Ask (AskDuty.SubflowFin s) ∷ ds
 
         need : Needed s ds
-        need = first_need (duties.Ask (ask_duties.SubflowFin s)) ds f
+        need = first_need (Duty.Ask (AskDuty.SubflowFin s)) ds f
 
         paid : IsPaid p.profile (peer s) (end_at (peer s) p) (refused (peer s))
         paid = is_paid (at xs) xs refused (peer s) (none_other s ds need) (each (peer s))
 
         by : (set : Bool) → Granting (answered_plain_fin s set (at xs)) refused
-        by true = touched s _ ds (rest_followed (duties.Ask (ask_duties.SubflowFin s)) ds f) (own_owed s ds need) xs (inr paid)
+        by true = touched s _ ds (rest_followed (Duty.Ask (AskDuty.SubflowFin s)) ds f) (own_owed s ds need) xs (inr paid)
         by false = breaks_done (at xs) refused s _ 1 paid
 
     -- an end that asks for bytes, where the reply leaves the duty
-    own_data : (s : Side) (ds : List Duty) → is_owed s (duties.Step (step_duties.Data s) ∷ ds) ≡ true
+    own_data : (s : Side) (ds : List Duty) → is_owed s (Duty.Step (StepDuty.Data s) ∷ ds) ≡ true
     own_data A ds = refl
     own_data B ds = refl
 
-    pub data_sent : (s : Side) (ds : List Duty) (u : Record) → is_followed (duties.Step (step_duties.Data s) ∷ ds) ≡ true → ((t : Side) → Pays (at (duties.Step (step_duties.Data s) ∷ ds)) (duties.Step (step_duties.Data s) ∷ ds) refused t)
-        → Granting (answered_data k s (Some u) r (at (duties.Step (step_duties.Data s) ∷ ds))) refused
-    data_sent s ds u f each = touched_sent s _ _ (duties.Step (step_duties.Data s) ∷ ds) f (own_data s ds) (duties.Step (step_duties.Data s) ∷ ds) (each (peer s))
+    pub data_sent : (s : Side) (ds : List Duty) (u : Record) → is_followed (Duty.Step (StepDuty.Data s) ∷ ds) ≡ true → ((t : Side) → Pays (at (Duty.Step (StepDuty.Data s) ∷ ds)) (Duty.Step (StepDuty.Data s) ∷ ds) refused t)
+        → Granting (answered_data k s (Some u) r (at (Duty.Step (StepDuty.Data s) ∷ ds))) refused
+    data_sent s ds u f each = touched_sent s _ _ (Duty.Step (StepDuty.Data s) ∷ ds) f (own_data s ds) (Duty.Step (StepDuty.Data s) ∷ ds) (each (peer s))
 
-    pub granted_done : (s : Side) (ds : List Duty) (grant : Grant) → is_followed (duties.Step (step_duties.Data s) ∷ ds) ≡ true → ((t : Side) → Pays (at (duties.Step (step_duties.Data s) ∷ ds)) (duties.Step (step_duties.Data s) ∷ ds) refused t)
-        → Granting (answered_grant s (Some grant) r (at (duties.Step (step_duties.Data s) ∷ ds))) refused
-    granted_done s ds grant f each = touched s _ (duties.Step (step_duties.Data s) ∷ ds) f (own_data s ds) (duties.Step (step_duties.Data s) ∷ ds) (each (peer s))
+    pub granted_done : (s : Side) (ds : List Duty) (grant : Grant) → is_followed (Duty.Step (StepDuty.Data s) ∷ ds) ≡ true → ((t : Side) → Pays (at (Duty.Step (StepDuty.Data s) ∷ ds)) (Duty.Step (StepDuty.Data s) ∷ ds) refused t)
+        → Granting (answered_grant s (Some grant) r (at (Duty.Step (StepDuty.Data s) ∷ ds))) refused
+    granted_done s ds grant f each = touched s _ (Duty.Step (StepDuty.Data s) ∷ ds) f (own_data s ds) (Duty.Step (StepDuty.Data s) ∷ ds) (each (peer s))
 
     -- a refusal ends the asking
-    pub refused_done : (s : Side) (ds : List Duty) → first_unsent (end_at s p) ≡ None → refused s ≡ true → is_followed (duties.Step (step_duties.Data s) ∷ ds) ≡ true → ((t : Side) → (t ≡ s → ⊥) → Pays (at (duties.Step (step_duties.Data s) ∷ ds)) (duties.Step (step_duties.Data s) ∷ ds) refused t)
-        → Granting (answered_grant s None r (at (duties.Step (step_duties.Data s) ∷ ds))) refused
+    pub refused_done : (s : Side) (ds : List Duty) → first_unsent (end_at s p) ≡ None → refused s ≡ true → is_followed (Duty.Step (StepDuty.Data s) ∷ ds) ≡ true → ((t : Side) → (t ≡ s → ⊥) → Pays (at (Duty.Step (StepDuty.Data s) ∷ ds)) (Duty.Step (StepDuty.Data s) ∷ ds) refused t)
+        → Granting (answered_grant s None r (at (Duty.Step (StepDuty.Data s) ∷ ds))) refused
     refused_done A ds none is f each =
-        on (at (duties.Step (step_duties.Data A) ∷ ds)) refused A _ ds (rest_followed (duties.Step (step_duties.Data A)) ds f) (inr (record { paid = λ same may. is; waits = λ u some sends. (let never : None ≡ Some u = sym none ∙ some in cc) })) (each B (λ same. (let never : B ≡ A = same in cc)))
+        on (at (Duty.Step (StepDuty.Data A) ∷ ds)) refused A _ ds (rest_followed (Duty.Step (StepDuty.Data A)) ds f) (inr (record { paid = λ same may. is; waits = λ u some sends. (let never : None ≡ Some u = sym none ∙ some in cc) })) (each B (λ same. (let never : B ≡ A = same in cc)))
     refused_done B ds none is f each =
-        on (at (duties.Step (step_duties.Data B) ∷ ds)) refused B _ ds (rest_followed (duties.Step (step_duties.Data B)) ds f) (inr (record { paid = λ same may. is; waits = λ u some sends. (let never : None ≡ Some u = sym none ∙ some in cc) })) (each A (λ same. (let never : A ≡ B = same in cc)))
+        on (at (Duty.Step (StepDuty.Data B) ∷ ds)) refused B _ ds (rest_followed (Duty.Step (StepDuty.Data B)) ds f) (inr (record { paid = λ same may. is; waits = λ u some sends. (let never : None ≡ Some u = sym none ∙ some in cc) })) (each A (λ same. (let never : A ≡ B = same in cc)))
 
     -- every other duty
     pub answered_done : (d : Duty) (ds : List Duty) → MayNotAsk d → is_followed (d ∷ ds) ≡ true → ((t : Side) → Pays (at (d ∷ ds)) (d ∷ ds) refused t) → Granting (answered k d r (at (d ∷ ds))) refused
-    answered_done (duties.Step (step_duties.Data s)) ds other f each = absurd other
-    answered_done (duties.Ask ask_duties.JoinAgain) ds other f each = again_done ds f each
-    answered_done (duties.Step (step_duties.Look s)) ds other f each = touched s _ ds (rest_followed (duties.Step (step_duties.Look s)) ds f) (first_need (duties.Step (step_duties.Look s)) ds f) (duties.Step (step_duties.Look s) ∷ ds) (each (peer s))
-    answered_done (duties.Ask (ask_duties.Window s)) ds other f each =
-        on (at (duties.Ask (ask_duties.Window s) ∷ ds)) refused s _ ds (rest_followed (duties.Ask (ask_duties.Window s)) ds f) (⊎_elim (λ owed. inl owed) (λ h. inr (record { paid = h.paid; waits = h.waits })) (each s)) (each (peer s))
-    answered_done (duties.Send (send_duties.Update s)) ds other f each = touched_sent s _ _ ds (rest_followed (duties.Send (send_duties.Update s)) ds f) (first_need (duties.Send (send_duties.Update s)) ds f) (duties.Send (send_duties.Update s) ∷ ds) (each (peer s))
-    answered_done (duties.Send (send_duties.FastClose s)) ds other f each = touched_sent s _ _ ds (rest_followed (duties.Send (send_duties.FastClose s)) ds f) (first_need (duties.Send (send_duties.FastClose s)) ds f) (duties.Send (send_duties.FastClose s) ∷ ds) (each (peer s))
-    answered_done (duties.Send (send_duties.Notice s)) ds other f each =
-        touched_sent s _ _ (duties.Send (send_duties.Notice s) ∷ ds) f (first_need (duties.Send (send_duties.Notice s)) ds f) (duties.Send (send_duties.Notice s) ∷ ds) (each (peer s))
-    answered_done (duties.Send (send_duties.Syn s)) ds other f each = touched_sent s _ _ ds (rest_followed (duties.Send (send_duties.Syn s)) ds f) (first_need (duties.Send (send_duties.Syn s)) ds f) (duties.Send (send_duties.Syn s) ∷ ds) (each (peer s))
-    answered_done (duties.Send (send_duties.DataFin s)) ds other f each =
-        sent (at (duties.Send (send_duties.DataFin s) ∷ ds)) refused k s _ _ ds (rest_followed (duties.Send (send_duties.DataFin s)) ds f) (⊎_elim (λ owed. inl owed) (λ h. inr (record { paid = h.paid; waits = h.waits })) (each s)) (each (peer s))
-    answered_done (duties.Send (send_duties.Fin s)) ds other f each =
-        sent (at (duties.Send (send_duties.Fin s) ∷ ds)) refused k s _ _ ds (rest_followed (duties.Send (send_duties.Fin s)) ds f) (inr (closed_paid p.profile s _ (refused s) (finished (end_at s p).tcp.state))) (each (peer s))
-    answered_done (duties.Silent (silent_duties.Timer s)) ds other f each = done_on ds (duties.Silent (silent_duties.Timer s) ∷ ds) (rest_followed (duties.Silent (silent_duties.Timer s)) ds f) (λ t. each t)
-    answered_done (duties.Step step_duties.Events) ds other f each =
-        event_done k (next_event p) r (at ((duties.Step step_duties.Events) ∷ ds)) refused
-        (λ s. is_paid (at ((duties.Step step_duties.Events) ∷ ds)) ((duties.Step step_duties.Events) ∷ ds) refused s (none_for s ds (first_need (duties.Step step_duties.Events) ds f)) (each s))
-    answered_done (duties.Ask (ask_duties.PeerKey s)) ds other f each =
-        key_done s (key_heard (end_at s p).treated.items) (duties.Ask (ask_duties.PeerKey s)) ds (rest_followed (duties.Ask (ask_duties.PeerKey s)) ds f) (first_need (duties.Ask (ask_duties.PeerKey s)) ds f)
-        (is_paid (at (duties.Ask (ask_duties.PeerKey s) ∷ ds)) (duties.Ask (ask_duties.PeerKey s) ∷ ds) refused (peer s) (none_other s ds (first_need (duties.Ask (ask_duties.PeerKey s)) ds f)) (each (peer s)))
-    answered_done (duties.Send (send_duties.SynAck s)) ds other f each = touched_sent s _ _ ds (rest_followed (duties.Send (send_duties.SynAck s)) ds f) (first_need (duties.Send (send_duties.SynAck s)) ds f) (duties.Send (send_duties.SynAck s) ∷ ds) (each (peer s))
-    answered_done (duties.Ask (ask_duties.JoinHeard s)) ds other f each = join_heard_done s ds f each (keys_begun r) (asked_at s p)
-    answered_done (duties.Send (send_duties.Refuse s)) ds other f each =
-        sent (at (duties.Send (send_duties.Refuse s) ∷ ds)) refused k s _ _ ds (rest_followed (duties.Send (send_duties.Refuse s)) ds f) (each s) (each (peer s))
-    answered_done (duties.Ask (ask_duties.Opened s)) ds other f each =
-        opened_done s (keys_heard (end_at s p).treated.items) (duties.Ask (ask_duties.Opened s)) ds (rest_followed (duties.Ask (ask_duties.Opened s)) ds f) (first_need (duties.Ask (ask_duties.Opened s)) ds f)
-        (is_paid (at (duties.Ask (ask_duties.Opened s) ∷ ds)) (duties.Ask (ask_duties.Opened s) ∷ ds) refused (peer s) (none_other s ds (first_need (duties.Ask (ask_duties.Opened s)) ds f)) (each (peer s)))
-    answered_done (duties.Step (step_duties.Heard s index)) ds other f each = item_done s index ds f each (item_of index (end_at s p))
-    answered_done (duties.Ask (ask_duties.AckHeard s)) ds other f each =
-        event_told s events.AckHeard (duties.Ask (ask_duties.AckHeard s)) ds (rest_followed (duties.Ask (ask_duties.AckHeard s)) ds f) (first_need (duties.Ask (ask_duties.AckHeard s)) ds f)
-        (is_paid (at (duties.Ask (ask_duties.AckHeard s) ∷ ds)) (duties.Ask (ask_duties.AckHeard s) ∷ ds) refused (peer s) (none_other s ds (first_need (duties.Ask (ask_duties.AckHeard s)) ds f)) (each (peer s)))
-    answered_done (duties.Step (step_duties.PlainAck s)) ds other f each =
-        plain_ack_done s (duties.Step (step_duties.PlainAck s)) ds (rest_followed (duties.Step (step_duties.PlainAck s)) ds f) (first_need (duties.Step (step_duties.PlainAck s)) ds f)
-        (is_paid (at (duties.Step (step_duties.PlainAck s) ∷ ds)) (duties.Step (step_duties.PlainAck s) ∷ ds) refused (peer s) (none_other s ds (first_need (duties.Step (step_duties.PlainAck s)) ds f)) (each (peer s))) (breaks_by_ack p.profile (end_at s p))
-    answered_done (duties.Ask (ask_duties.PlainHandshake s)) ds other f each =
-        event_told s events.PlainHandshake (duties.Ask (ask_duties.PlainHandshake s)) ds (rest_followed (duties.Ask (ask_duties.PlainHandshake s)) ds f) (first_need (duties.Ask (ask_duties.PlainHandshake s)) ds f)
-        (is_paid (at (duties.Ask (ask_duties.PlainHandshake s) ∷ ds)) (duties.Ask (ask_duties.PlainHandshake s) ∷ ds) refused (peer s) (none_other s ds (first_need (duties.Ask (ask_duties.PlainHandshake s)) ds f)) (each (peer s)))
-    answered_done (duties.Ask (ask_duties.PlainData s)) ds other f each =
-        event_told s events.PlainData (duties.Ask (ask_duties.PlainData s)) ds (rest_followed (duties.Ask (ask_duties.PlainData s)) ds f) (first_need (duties.Ask (ask_duties.PlainData s)) ds f)
-        (is_paid (at (duties.Ask (ask_duties.PlainData s) ∷ ds)) (duties.Ask (ask_duties.PlainData s) ∷ ds) refused (peer s) (none_other s ds (first_need (duties.Ask (ask_duties.PlainData s)) ds f)) (each (peer s)))
-    answered_done (duties.Ask (ask_duties.SubflowAck s)) ds other f each = touched s _ ds (rest_followed (duties.Ask (ask_duties.SubflowAck s)) ds f) (first_need (duties.Ask (ask_duties.SubflowAck s)) ds f) (duties.Ask (ask_duties.SubflowAck s) ∷ ds) (each (peer s))
-    answered_done (duties.Ask (ask_duties.GoIdentity s)) ds other f each = touched s _ ds (rest_followed (duties.Ask (ask_duties.GoIdentity s)) ds f) (first_need (duties.Ask (ask_duties.GoIdentity s)) ds f) (duties.Ask (ask_duties.GoIdentity s) ∷ ds) (each (peer s))
-    answered_done (duties.Step (step_duties.Unmapped s)) ds other f each = break_done (at (duties.Step (step_duties.Unmapped s) ∷ ds)) refused k s 6 r (is_paid (at (duties.Step (step_duties.Unmapped s) ∷ ds)) (duties.Step (step_duties.Unmapped s) ∷ ds) refused (peer s) (none_other s ds (first_need (duties.Step (step_duties.Unmapped s)) ds f)) (each (peer s)))
-    answered_done (duties.Ask (ask_duties.SubflowFin s)) ds other f each = plain_fin_done s ds f each (is_fin_set r)
-    answered_done (duties.Ask (ask_duties.Edge s)) ds other f each = piece_done s ds f each (piece_of s p) (is_placed r)
-    answered_done (duties.Ask (ask_duties.CheckFailed s)) ds other f each =
-        let need = first_need (duties.Ask (ask_duties.CheckFailed s)) ds f in
-        fell_done s (after_check_failed p.profile.spelling.checksums r (end_at s p)) (duties.Ask (ask_duties.CheckFailed s)) ds (rest_followed (duties.Ask (ask_duties.CheckFailed s)) ds f) (own_owed s ds need)
-        (is_paid (at (duties.Ask (ask_duties.CheckFailed s) ∷ ds)) (duties.Ask (ask_duties.CheckFailed s) ∷ ds) refused (peer s) (none_other s ds need) (each (peer s)))
-    answered_done (duties.Ask (ask_duties.FailHeard s)) ds other f each =
-        let need = first_need (duties.Ask (ask_duties.FailHeard s)) ds f in
-        fell_done s (after_fail_heard r (end_at s p)) (duties.Ask (ask_duties.FailHeard s)) ds (rest_followed (duties.Ask (ask_duties.FailHeard s)) ds f) (own_owed s ds need)
-        (is_paid (at (duties.Ask (ask_duties.FailHeard s) ∷ ds)) (duties.Ask (ask_duties.FailHeard s) ∷ ds) refused (peer s) (none_other s ds need) (each (peer s)))
-    answered_done (duties.Ask (ask_duties.HeardFin s index)) ds other f each = fin_done s index ds f each (is_fin_set r)
-    answered_done (duties.Ask (ask_duties.AckOut s)) ds other f each =
-        on (at (duties.Ask (ask_duties.AckOut s) ∷ ds)) refused s _ ds (rest_followed (duties.Ask (ask_duties.AckOut s)) ds f) (⊎_elim (λ owed. inl owed) (λ h. inr (record { paid = h.paid; waits = h.waits })) (each s)) (each (peer s))
-    answered_done (duties.Ask (ask_duties.Rate s)) ds other f each = touched s _ ds (rest_followed (duties.Ask (ask_duties.Rate s)) ds f) (first_need (duties.Ask (ask_duties.Rate s)) ds f) (duties.Ask (ask_duties.Rate s) ∷ ds) (each (peer s))
-    answered_done (duties.Send (send_duties.Acknowledge s)) ds other f each = touched_sent s _ _ ds (rest_followed (duties.Send (send_duties.Acknowledge s)) ds f) (first_need (duties.Send (send_duties.Acknowledge s)) ds f) (duties.Send (send_duties.Acknowledge s) ∷ ds) (each (peer s))
-    answered_done (duties.Send (send_duties.Again s)) ds other f each = touched_sent s _ _ ds (rest_followed (duties.Send (send_duties.Again s)) ds f) (first_need (duties.Send (send_duties.Again s)) ds f) (duties.Send (send_duties.Again s) ∷ ds) (each (peer s))
-    answered_done (duties.Send (send_duties.Answer s)) ds other f each = touched_sent s _ _ ds (rest_followed (duties.Send (send_duties.Answer s)) ds f) (first_need (duties.Send (send_duties.Answer s)) ds f) (duties.Send (send_duties.Answer s) ∷ ds) (each (peer s))
-    answered_done (duties.Send (send_duties.ResetAnswer s)) ds other f each =
-        sent (at (duties.Send (send_duties.ResetAnswer s) ∷ ds)) refused k s _ _ ds (rest_followed (duties.Send (send_duties.ResetAnswer s)) ds f) (each s) (each (peer s))
-    answered_done (duties.Send (send_duties.Resend s)) ds other f each = touched_sent s _ _ ds (rest_followed (duties.Send (send_duties.Resend s)) ds f) (first_need (duties.Send (send_duties.Resend s)) ds f) (duties.Send (send_duties.Resend s) ∷ ds) (each (peer s))
-    answered_done (duties.Ask (ask_duties.BreakAck s reason)) ds other f each =
-        resets_done (at (duties.Ask (ask_duties.BreakAck s reason) ∷ ds)) refused s reason r
-        (other_paid (duties.Ask (ask_duties.BreakAck s reason)) s ds (others_none s ds (first_need (duties.Ask (ask_duties.BreakAck s reason)) ds f)) each)
-    answered_done (duties.Send (send_duties.BreakReset s reason)) ds other f each =
-        reset_done (at (duties.Send (send_duties.BreakReset s reason) ∷ ds)) refused k s (Some reason) (leaves s) refl
-        (other_paid (duties.Send (send_duties.BreakReset s reason)) s ds (others_none s ds (first_need (duties.Send (send_duties.BreakReset s reason)) ds f)) each)
-    answered_done (duties.Send (send_duties.Reset s)) ds other f each =
-        reset_done (at (duties.Send (send_duties.Reset s) ∷ ds)) refused k s None (duties.Ask (ask_duties.Leave s) ∷ ds) (rest_followed (duties.Send (send_duties.Reset s)) ds f) (other_paid (duties.Send (send_duties.Reset s)) s ds (others_none s ds (first_need (duties.Send (send_duties.Reset s)) ds f)) each)
-    answered_done (duties.Send (send_duties.ResetNoted s)) ds other f each =
-        touched_sent s _ _ (duties.Ask (ask_duties.Leave s) ∷ ds) (rest_followed (duties.Send (send_duties.ResetNoted s)) ds f) (first_need (duties.Send (send_duties.ResetNoted s)) ds f) (duties.Send (send_duties.ResetNoted s) ∷ ds) (each (peer s))
-    answered_done (duties.Ask (ask_duties.Leave s)) ds other f each = done_on (duties.Ask (ask_duties.Dead s) ∷ ds) (duties.Ask (ask_duties.Leave s) ∷ ds) (rest_followed (duties.Ask (ask_duties.Leave s)) ds f) (λ t. each t)
-    answered_done (duties.Ask (ask_duties.LeaveNoted s)) ds other f each =
-        touched s _ (duties.Ask (ask_duties.Dead s) ∷ ds) (rest_followed (duties.Ask (ask_duties.LeaveNoted s)) ds f) (first_need (duties.Ask (ask_duties.LeaveNoted s)) ds f) (duties.Ask (ask_duties.LeaveNoted s) ∷ ds) (each (peer s))
-    answered_done duties.End ds other f each =
-        done_on [] (duties.End ∷ ds) refl (λ t. inr (is_paid (at (duties.End ∷ ds)) (duties.End ∷ ds) refused t (none_for t ds (first_need duties.End ds f)) (each t)))
+    answered_done (Duty.Step (StepDuty.Data s)) ds other f each = absurd other
+    answered_done (Duty.Ask AskDuty.JoinAgain) ds other f each = again_done ds f each
+    answered_done (Duty.Step (StepDuty.Look s)) ds other f each = touched s _ ds (rest_followed (Duty.Step (StepDuty.Look s)) ds f) (first_need (Duty.Step (StepDuty.Look s)) ds f) (Duty.Step (StepDuty.Look s) ∷ ds) (each (peer s))
+    answered_done (Duty.Ask (AskDuty.Window s)) ds other f each =
+        on (at (Duty.Ask (AskDuty.Window s) ∷ ds)) refused s _ ds (rest_followed (Duty.Ask (AskDuty.Window s)) ds f) (⊎_elim (λ owed. inl owed) (λ h. inr (record { paid = h.paid; waits = h.waits })) (each s)) (each (peer s))
+    answered_done (Duty.Send (SendDuty.Update s)) ds other f each = touched_sent s _ _ ds (rest_followed (Duty.Send (SendDuty.Update s)) ds f) (first_need (Duty.Send (SendDuty.Update s)) ds f) (Duty.Send (SendDuty.Update s) ∷ ds) (each (peer s))
+    answered_done (Duty.Send (SendDuty.FastClose s)) ds other f each = touched_sent s _ _ ds (rest_followed (Duty.Send (SendDuty.FastClose s)) ds f) (first_need (Duty.Send (SendDuty.FastClose s)) ds f) (Duty.Send (SendDuty.FastClose s) ∷ ds) (each (peer s))
+    answered_done (Duty.Send (SendDuty.Notice s)) ds other f each =
+        touched_sent s _ _ (Duty.Send (SendDuty.Notice s) ∷ ds) f (first_need (Duty.Send (SendDuty.Notice s)) ds f) (Duty.Send (SendDuty.Notice s) ∷ ds) (each (peer s))
+    answered_done (Duty.Send (SendDuty.Syn s)) ds other f each = touched_sent s _ _ ds (rest_followed (Duty.Send (SendDuty.Syn s)) ds f) (first_need (Duty.Send (SendDuty.Syn s)) ds f) (Duty.Send (SendDuty.Syn s) ∷ ds) (each (peer s))
+    answered_done (Duty.Send (SendDuty.DataFin s)) ds other f each =
+        sent (at (Duty.Send (SendDuty.DataFin s) ∷ ds)) refused k s _ _ ds (rest_followed (Duty.Send (SendDuty.DataFin s)) ds f) (⊎_elim (λ owed. inl owed) (λ h. inr (record { paid = h.paid; waits = h.waits })) (each s)) (each (peer s))
+    answered_done (Duty.Send (SendDuty.Fin s)) ds other f each =
+        sent (at (Duty.Send (SendDuty.Fin s) ∷ ds)) refused k s _ _ ds (rest_followed (Duty.Send (SendDuty.Fin s)) ds f) (inr (closed_paid p.profile s _ (refused s) (finished (end_at s p).tcp.state))) (each (peer s))
+    answered_done (Duty.Silent (SilentDuty.Timer s)) ds other f each = done_on ds (Duty.Silent (SilentDuty.Timer s) ∷ ds) (rest_followed (Duty.Silent (SilentDuty.Timer s)) ds f) (λ t. each t)
+    answered_done (Duty.Step StepDuty.Events) ds other f each =
+        event_done k (next_event p) r (at ((Duty.Step StepDuty.Events) ∷ ds)) refused
+        (λ s. is_paid (at ((Duty.Step StepDuty.Events) ∷ ds)) ((Duty.Step StepDuty.Events) ∷ ds) refused s (none_for s ds (first_need (Duty.Step StepDuty.Events) ds f)) (each s))
+    answered_done (Duty.Ask (AskDuty.PeerKey s)) ds other f each =
+        key_done s (key_heard (end_at s p).treated.items) (Duty.Ask (AskDuty.PeerKey s)) ds (rest_followed (Duty.Ask (AskDuty.PeerKey s)) ds f) (first_need (Duty.Ask (AskDuty.PeerKey s)) ds f)
+        (is_paid (at (Duty.Ask (AskDuty.PeerKey s) ∷ ds)) (Duty.Ask (AskDuty.PeerKey s) ∷ ds) refused (peer s) (none_other s ds (first_need (Duty.Ask (AskDuty.PeerKey s)) ds f)) (each (peer s)))
+    answered_done (Duty.Send (SendDuty.SynAck s)) ds other f each = touched_sent s _ _ ds (rest_followed (Duty.Send (SendDuty.SynAck s)) ds f) (first_need (Duty.Send (SendDuty.SynAck s)) ds f) (Duty.Send (SendDuty.SynAck s) ∷ ds) (each (peer s))
+    answered_done (Duty.Ask (AskDuty.JoinHeard s)) ds other f each = join_heard_done s ds f each (keys_begun r) (asked_at s p)
+    answered_done (Duty.Send (SendDuty.Refuse s)) ds other f each =
+        sent (at (Duty.Send (SendDuty.Refuse s) ∷ ds)) refused k s _ _ ds (rest_followed (Duty.Send (SendDuty.Refuse s)) ds f) (each s) (each (peer s))
+    answered_done (Duty.Ask (AskDuty.Opened s)) ds other f each =
+        opened_done s (keys_heard (end_at s p).treated.items) (Duty.Ask (AskDuty.Opened s)) ds (rest_followed (Duty.Ask (AskDuty.Opened s)) ds f) (first_need (Duty.Ask (AskDuty.Opened s)) ds f)
+        (is_paid (at (Duty.Ask (AskDuty.Opened s) ∷ ds)) (Duty.Ask (AskDuty.Opened s) ∷ ds) refused (peer s) (none_other s ds (first_need (Duty.Ask (AskDuty.Opened s)) ds f)) (each (peer s)))
+    answered_done (Duty.Step (StepDuty.Heard s index)) ds other f each = item_done s index ds f each (item_of index (end_at s p))
+    answered_done (Duty.Ask (AskDuty.AckHeard s)) ds other f each =
+        event_told s FallEvent.AckHeard (Duty.Ask (AskDuty.AckHeard s)) ds (rest_followed (Duty.Ask (AskDuty.AckHeard s)) ds f) (first_need (Duty.Ask (AskDuty.AckHeard s)) ds f)
+        (is_paid (at (Duty.Ask (AskDuty.AckHeard s) ∷ ds)) (Duty.Ask (AskDuty.AckHeard s) ∷ ds) refused (peer s) (none_other s ds (first_need (Duty.Ask (AskDuty.AckHeard s)) ds f)) (each (peer s)))
+    answered_done (Duty.Step (StepDuty.PlainAck s)) ds other f each =
+        plain_ack_done s (Duty.Step (StepDuty.PlainAck s)) ds (rest_followed (Duty.Step (StepDuty.PlainAck s)) ds f) (first_need (Duty.Step (StepDuty.PlainAck s)) ds f)
+        (is_paid (at (Duty.Step (StepDuty.PlainAck s) ∷ ds)) (Duty.Step (StepDuty.PlainAck s) ∷ ds) refused (peer s) (none_other s ds (first_need (Duty.Step (StepDuty.PlainAck s)) ds f)) (each (peer s))) (breaks_by_ack p.profile (end_at s p))
+    answered_done (Duty.Ask (AskDuty.PlainHandshake s)) ds other f each =
+        event_told s FallEvent.PlainHandshake (Duty.Ask (AskDuty.PlainHandshake s)) ds (rest_followed (Duty.Ask (AskDuty.PlainHandshake s)) ds f) (first_need (Duty.Ask (AskDuty.PlainHandshake s)) ds f)
+        (is_paid (at (Duty.Ask (AskDuty.PlainHandshake s) ∷ ds)) (Duty.Ask (AskDuty.PlainHandshake s) ∷ ds) refused (peer s) (none_other s ds (first_need (Duty.Ask (AskDuty.PlainHandshake s)) ds f)) (each (peer s)))
+    answered_done (Duty.Ask (AskDuty.PlainData s)) ds other f each =
+        event_told s FallEvent.PlainData (Duty.Ask (AskDuty.PlainData s)) ds (rest_followed (Duty.Ask (AskDuty.PlainData s)) ds f) (first_need (Duty.Ask (AskDuty.PlainData s)) ds f)
+        (is_paid (at (Duty.Ask (AskDuty.PlainData s) ∷ ds)) (Duty.Ask (AskDuty.PlainData s) ∷ ds) refused (peer s) (none_other s ds (first_need (Duty.Ask (AskDuty.PlainData s)) ds f)) (each (peer s)))
+    answered_done (Duty.Ask (AskDuty.SubflowAck s)) ds other f each = touched s _ ds (rest_followed (Duty.Ask (AskDuty.SubflowAck s)) ds f) (first_need (Duty.Ask (AskDuty.SubflowAck s)) ds f) (Duty.Ask (AskDuty.SubflowAck s) ∷ ds) (each (peer s))
+    answered_done (Duty.Ask (AskDuty.GoIdentity s)) ds other f each = touched s _ ds (rest_followed (Duty.Ask (AskDuty.GoIdentity s)) ds f) (first_need (Duty.Ask (AskDuty.GoIdentity s)) ds f) (Duty.Ask (AskDuty.GoIdentity s) ∷ ds) (each (peer s))
+    answered_done (Duty.Step (StepDuty.Unmapped s)) ds other f each = break_done (at (Duty.Step (StepDuty.Unmapped s) ∷ ds)) refused k s 6 r (is_paid (at (Duty.Step (StepDuty.Unmapped s) ∷ ds)) (Duty.Step (StepDuty.Unmapped s) ∷ ds) refused (peer s) (none_other s ds (first_need (Duty.Step (StepDuty.Unmapped s)) ds f)) (each (peer s)))
+    answered_done (Duty.Ask (AskDuty.SubflowFin s)) ds other f each = plain_fin_done s ds f each (is_fin_set r)
+    answered_done (Duty.Ask (AskDuty.Edge s)) ds other f each = piece_done s ds f each (piece_of s p) (is_placed r)
+    answered_done (Duty.Ask (AskDuty.CheckFailed s)) ds other f each =
+        let need = first_need (Duty.Ask (AskDuty.CheckFailed s)) ds f in
+        fell_done s (after_check_failed p.profile.spelling.checksums r (end_at s p)) (Duty.Ask (AskDuty.CheckFailed s)) ds (rest_followed (Duty.Ask (AskDuty.CheckFailed s)) ds f) (own_owed s ds need)
+        (is_paid (at (Duty.Ask (AskDuty.CheckFailed s) ∷ ds)) (Duty.Ask (AskDuty.CheckFailed s) ∷ ds) refused (peer s) (none_other s ds need) (each (peer s)))
+    answered_done (Duty.Ask (AskDuty.FailHeard s)) ds other f each =
+        let need = first_need (Duty.Ask (AskDuty.FailHeard s)) ds f in
+        fell_done s (after_fail_heard r (end_at s p)) (Duty.Ask (AskDuty.FailHeard s)) ds (rest_followed (Duty.Ask (AskDuty.FailHeard s)) ds f) (own_owed s ds need)
+        (is_paid (at (Duty.Ask (AskDuty.FailHeard s) ∷ ds)) (Duty.Ask (AskDuty.FailHeard s) ∷ ds) refused (peer s) (none_other s ds need) (each (peer s)))
+    answered_done (Duty.Ask (AskDuty.HeardFin s index)) ds other f each = fin_done s index ds f each (is_fin_set r)
+    answered_done (Duty.Ask (AskDuty.AckOut s)) ds other f each =
+        on (at (Duty.Ask (AskDuty.AckOut s) ∷ ds)) refused s _ ds (rest_followed (Duty.Ask (AskDuty.AckOut s)) ds f) (⊎_elim (λ owed. inl owed) (λ h. inr (record { paid = h.paid; waits = h.waits })) (each s)) (each (peer s))
+    answered_done (Duty.Ask (AskDuty.Rate s)) ds other f each = touched s _ ds (rest_followed (Duty.Ask (AskDuty.Rate s)) ds f) (first_need (Duty.Ask (AskDuty.Rate s)) ds f) (Duty.Ask (AskDuty.Rate s) ∷ ds) (each (peer s))
+    answered_done (Duty.Send (SendDuty.Acknowledge s)) ds other f each = touched_sent s _ _ ds (rest_followed (Duty.Send (SendDuty.Acknowledge s)) ds f) (first_need (Duty.Send (SendDuty.Acknowledge s)) ds f) (Duty.Send (SendDuty.Acknowledge s) ∷ ds) (each (peer s))
+    answered_done (Duty.Send (SendDuty.Again s)) ds other f each = touched_sent s _ _ ds (rest_followed (Duty.Send (SendDuty.Again s)) ds f) (first_need (Duty.Send (SendDuty.Again s)) ds f) (Duty.Send (SendDuty.Again s) ∷ ds) (each (peer s))
+    answered_done (Duty.Send (SendDuty.Answer s)) ds other f each = touched_sent s _ _ ds (rest_followed (Duty.Send (SendDuty.Answer s)) ds f) (first_need (Duty.Send (SendDuty.Answer s)) ds f) (Duty.Send (SendDuty.Answer s) ∷ ds) (each (peer s))
+    answered_done (Duty.Send (SendDuty.ResetAnswer s)) ds other f each =
+        sent (at (Duty.Send (SendDuty.ResetAnswer s) ∷ ds)) refused k s _ _ ds (rest_followed (Duty.Send (SendDuty.ResetAnswer s)) ds f) (each s) (each (peer s))
+    answered_done (Duty.Send (SendDuty.Resend s)) ds other f each = touched_sent s _ _ ds (rest_followed (Duty.Send (SendDuty.Resend s)) ds f) (first_need (Duty.Send (SendDuty.Resend s)) ds f) (Duty.Send (SendDuty.Resend s) ∷ ds) (each (peer s))
+    answered_done (Duty.Ask (AskDuty.BreakAck s reason)) ds other f each =
+        resets_done (at (Duty.Ask (AskDuty.BreakAck s reason) ∷ ds)) refused s reason r
+        (other_paid (Duty.Ask (AskDuty.BreakAck s reason)) s ds (others_none s ds (first_need (Duty.Ask (AskDuty.BreakAck s reason)) ds f)) each)
+    answered_done (Duty.Send (SendDuty.BreakReset s reason)) ds other f each =
+        reset_done (at (Duty.Send (SendDuty.BreakReset s reason) ∷ ds)) refused k s (Some reason) (leaves s) refl
+        (other_paid (Duty.Send (SendDuty.BreakReset s reason)) s ds (others_none s ds (first_need (Duty.Send (SendDuty.BreakReset s reason)) ds f)) each)
+    answered_done (Duty.Send (SendDuty.Reset s)) ds other f each =
+        reset_done (at (Duty.Send (SendDuty.Reset s) ∷ ds)) refused k s None (Duty.Ask (AskDuty.Leave s) ∷ ds) (rest_followed (Duty.Send (SendDuty.Reset s)) ds f) (other_paid (Duty.Send (SendDuty.Reset s)) s ds (others_none s ds (first_need (Duty.Send (SendDuty.Reset s)) ds f)) each)
+    answered_done (Duty.Send (SendDuty.ResetNoted s)) ds other f each =
+        touched_sent s _ _ (Duty.Ask (AskDuty.Leave s) ∷ ds) (rest_followed (Duty.Send (SendDuty.ResetNoted s)) ds f) (first_need (Duty.Send (SendDuty.ResetNoted s)) ds f) (Duty.Send (SendDuty.ResetNoted s) ∷ ds) (each (peer s))
+    answered_done (Duty.Ask (AskDuty.Leave s)) ds other f each = done_on (Duty.Ask (AskDuty.Dead s) ∷ ds) (Duty.Ask (AskDuty.Leave s) ∷ ds) (rest_followed (Duty.Ask (AskDuty.Leave s)) ds f) (λ t. each t)
+    answered_done (Duty.Ask (AskDuty.LeaveNoted s)) ds other f each =
+        touched s _ (Duty.Ask (AskDuty.Dead s) ∷ ds) (rest_followed (Duty.Ask (AskDuty.LeaveNoted s)) ds f) (first_need (Duty.Ask (AskDuty.LeaveNoted s)) ds f) (Duty.Ask (AskDuty.LeaveNoted s) ∷ ds) (each (peer s))
+    answered_done Duty.End ds other f each =
+        done_on [] (Duty.End ∷ ds) refl (λ t. inr (is_paid (at (Duty.End ∷ ds)) (Duty.End ∷ ds) refused t (none_for t ds (first_need Duty.End ds f)) (each t)))
     answered_done d ds other f each = done_on ds (d ∷ ds) (rest_followed d ds f) (λ t. each t)

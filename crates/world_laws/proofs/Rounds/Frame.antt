@@ -1,17 +1,7 @@
 -- What a path keeps: no reply moves the end of its round or changes its profile or its number. A round's beginning moves the end by
 -- 100 ticks.
-use Rattle.std.proofs.Common.{◌≡◌, refl, ◌∙◌, ap, Bool, true, false, if◌then◌else◌}
-use Rattle.sides.specs.declared.side.Side.{Side}
-use Rattle.actor_desk.specs.declared.ask.Reply.{Reply}
-use Rattle.actor_desk.specs.Words.{is_nil, tail_of}
-use Rattle.path_agenda.specs.Agenda.{start_of_turn}
-use Rattle.path_agenda.specs.declared.duty.Duty.TheVariants as duties
-use Rattle.path_agenda.specs.declared.duty.AskDuty.TheVariants as ask_duties
-use Rattle.path_core.specs.Codec.{Codec}
-use Rattle.path_core.specs.Duties.{stands}
-use Rattle.path_core.specs.State.{PathState, with_agenda, path_of}
-use Rattle.path_core.specs.Steps.{settled, takes, begins_turn}
-use Rattle.world_laws.specs.Writes.{Writes, OnlyAt, PathView, writes, side_of}
+use Rattle.world_laws.proofs.Words.{◌≡◌, refl, ◌∙◌, ap, Bool, true, false, if◌then◌else◌, Side, start_of_turn, Duty, AskDuty, Reply, tail_of, is_nil, Codec}
+use Rattle.world_laws.proofs.Words.{stands, PathState, with_agenda, path_of, settled, takes, begins_turn, Writes, OnlyAt, PathView, writes, side_of}
 use Rattle.world_laws.proofs.Writes.Paths.{writes_no_more, passes_no_more}
 use Rattle.world_laws.proofs.Writes.Steps.{Lasts, takes_lasts, begins_lasts}
 
@@ -41,7 +31,7 @@ module _ {C : Type 0} where
 
   -- something is to be done when a round begins
   pub first_stands : (p : PathState C) → is_nil (begins_turn p).agenda ≡ false
-  first_stands p = by (stands (duties.Ask ask_duties.JoinAgain) q)
+  first_stands p = by (stands (Duty.Ask AskDuty.JoinAgain) q)
     where
       q : PathState C
       q = with_agenda start_of_turn p

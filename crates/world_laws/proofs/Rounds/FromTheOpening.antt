@@ -1,16 +1,7 @@
 -- From the opening on each turn ends, so that serial turns exist at every moment.
-use Rattle.std.proofs.Common.{refl, ℕ, List, Option, arith}
-use Rattle.sides.specs.declared.side.Side.{Side}
-use Rattle.sides.specs.declared.side.Side.TheVariants.{A, B}
-use Rattle.stream_apps.specs.AppSteps.{start_of_app}
-use Rattle.stream_apps.specs.Starts.{fast_close_of, untouched, first_app_turn}
-use Rattle.stream_apps.specs.Turns.{IsAppSettled}
-use Rattle.path_core.specs.Codec.{Codec}
-use Rattle.path_core.specs.Start.{waiting_path}
-use Rattle.world_laws.specs.Laws.{CanRun, CanRunPath, SerialExists}
-use Rattle.world_laws.specs.Openings.{PathPlan, Start, path_begins, new_path, opened_world}
-use Rattle.world_laws.specs.Serial.{spelled}
-use Rattle.world_laws.specs.Worlds.{WorldState, world_run}
+use Rattle.world_laws.proofs.Words.{refl, ℕ, Option, List, arith, Side, A, B, start_of_app, IsAppSettled, untouched, first_app_turn, Codec, waiting_path}
+use Rattle.world_laws.proofs.Words.{CanRunPath, CanRun, SerialExists, PathPlan, Start, path_begins, new_path, opened_world, WorldState, world_run, spelled}
+use Rattle.stream_apps.specs.Starts.{fast_close_of}
 use Rattle.world_laws.proofs.Worlds.Opened.{opened_actors}
 use Rattle.world_laws.proofs.Lanes.Applying.{settled_app}
 use Rattle.world_laws.proofs.Rounds.TurnsEnd.{IsSteady, IsSteadyWorld, begun_steady, run_steady, rounds_at}

@@ -1,19 +1,9 @@
 -- What each actor keeps with its steps, the world keeps over every list of turns.
-use Rattle.std.proofs.Common.{◌≡◌, refl, subst, ℕ, zero, suc, ⊎_elim, Bool, true, false, if◌then◌else◌, Option, Some, None, List, [], ◌∷◌, map}
-use Rattle.std.proofs.lemmas.Bool.{and_parts}
-use Rattle.std.proofs.lemmas.Option.{same_Some}
-use Rattle.std.specs.List.{slice_get}
-use Rattle.sides.specs.declared.side.Side.TheVariants.{A, B}
-use Rattle.stream_lanes.specs.Words.{Every}
-use Rattle.stream_lanes.proofs.Lists.{in_set, in_map}
-use Rattle.actor_desk.specs.declared.ask.Ask.{Ask}
-use Rattle.actor_desk.specs.Books.{StampedBooks}
-use Rattle.stream_apps.specs.Starts.{fast_close_of, first_app_turn}
-use Rattle.path_core.specs.Codec.{Codec}
-use Rattle.world_laws.specs.declared.member.Member.TheVariants.{App}
-use Rattle.world_laws.specs.Actors.{ActorCrew, member_asks, is_over}
-use Rattle.world_laws.specs.Openings.{PathPlan, Start, new_crew, new_path, opened_world}
-use Rattle.world_laws.specs.Worlds.{WorldState, Turn, crew_after, asked, stepped, world_step, all_over, greatest, begins, end_round, after_turn, world_run}
+use Rattle.world_laws.proofs.Words.{◌≡◌, refl, subst, ℕ, zero, suc, ⊎_elim, Bool, true, false, if◌then◌else◌, Option, Some, None, List, [], ◌∷◌, map, and_parts}
+use Rattle.world_laws.proofs.Words.{same_Some, slice_get, A, B, Ask, StampedBooks, first_app_turn, Codec, in_map, in_set, Every, App, ActorCrew, member_asks}
+use Rattle.world_laws.proofs.Words.{is_over, PathPlan, Start, new_crew, new_path, opened_world, WorldState, Turn, crew_after, asked, stepped, world_step}
+use Rattle.world_laws.proofs.Words.{all_over, greatest, begins, end_round, after_turn, world_run}
+use Rattle.stream_apps.specs.Starts.{fast_close_of}
 use Rattle.world_laws.proofs.Worlds.Opened.{opened_actors}
 
 module _ {C : Type 0} where

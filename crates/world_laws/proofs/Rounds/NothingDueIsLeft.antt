@@ -1,68 +1,26 @@
 -- A turn of a path is over only where nothing is due before the round's end.
-use Rattle.std.proofs.Common.{◌≡◌, refl, sym, subst, ℕ, zero, suc, ◌+◌, ◌⊎◌, inl, inr, Bool, true, false, if◌then◌else◌, is_some, Option, Some, None, List, [], ◌∷◌, ◌++◌, length}
-use Rattle.std.proofs.lemmas.Bool.{true≢false}
-use Rattle.path_segments.specs.Heard.{HeardSegment}
-use Rattle.sides.specs.declared.side.Side.{Side}
-use Rattle.sides.specs.declared.side.Side.TheVariants.{A, B}
-use Rattle.fallback_state.specs.declared.fall.Verdict.TheVariants as verdicts
-use Rattle.fallback_state.specs.declared.fall.Mode.TheVariants as modes
+use Rattle.world_laws.proofs.Words.{◌≡◌, refl, sym, subst, ℕ, zero, suc, ◌+◌, inl, inr, ◌⊎◌, Bool, true, false, if◌then◌else◌, Option, Some, None, List, []}
+use Rattle.world_laws.proofs.Words.{◌∷◌, ◌++◌, length, is_some, true≢false, Verdict, Mode, Side, A, B, JoinSyn, ControlReply, Record, is_dead, Meaning}
+use Rattle.world_laws.proofs.Words.{is_sixth, arriving, after_delivery, HeardSegment, LineAction, Piece, rest_of_turn, emission, heard_and, payload_came}
+use Rattle.world_laws.proofs.Words.{leaves, resets, stops, start_of_turn, Duty, SendDuty, StepDuty, AskDuty, SilentDuty, Heard, KeyPair, replaced, key_heard}
+use Rattle.world_laws.proofs.Words.{keys_heard, Reply, tail_of, Codec, stands, passed, answered, answered_ack_out, at_tick, PathState, end_at, goes_on}
+use Rattle.world_laws.proofs.Words.{with_agenda, left, settled, takes, items_of, options_heard, judged_in, template_by, template_judged, heard_in, copy_heard}
+use Rattle.world_laws.proofs.Words.{reset_on, answered_break, answered_data, answered_grant, first_unsent, grant_in, Judged, next_event, after_line, happens_if}
+use Rattle.world_laws.proofs.Words.{join_begun, never_joined, asked_at, is_never, join_taken, keys_begun, opened_by, is_joined, template_fired, piece_of}
+use Rattle.world_laws.proofs.Words.{is_placed, answered_piece, answered_plain_fin, answered_fin_heard, is_fin_set, is_clash, with_learned, told_next}
+use Rattle.world_laws.proofs.Words.{answered_mapping, answered_item, item_of, after_fell, fell_duties, answered_plain_ack, with_plain_ack, breaks_by_ack}
+use Rattle.world_laws.proofs.Words.{answered_peer_key, answered_opened, is_stopped_by, if_so}
 use Rattle.fallback_state.specs.declared.fall.Event.TheVariants as events
-use Rattle.control_book.specs.declared.call.ControlReply.TheVariants as control_replies
-use Rattle.subflow_tcp.specs.declared.verdicts.Meaning.{Meaning}
-use Rattle.subflow_tcp.specs.declared.verdicts.Meaning.TheVariants as means
-use Rattle.subflow_tcp.specs.Expiring.{is_sixth}
-use Rattle.subflow_tcp.specs.States.{is_dead}
-use Rattle.subflow_send.specs.Records.{Record}
-use Rattle.link_model.specs.Steps.{arriving, after_delivery}
-use Rattle.actor_desk.specs.Words.{tail_of}
-use Rattle.actor_desk.specs.declared.ask.Reply.{Reply}
-use Rattle.actor_desk.specs.declared.ask.Reply.TheVariants as replies
-use Rattle.path_agenda.specs.declared.duty.Duty.{Duty}
-use Rattle.path_agenda.specs.declared.duty.Duty.TheVariants as duties
-use Rattle.path_agenda.specs.declared.duty.AskDuty.TheVariants as ask_duties
-use Rattle.path_agenda.specs.declared.duty.SendDuty.TheVariants as send_duties
-use Rattle.path_agenda.specs.declared.duty.SilentDuty.TheVariants as silent_duties
-use Rattle.path_agenda.specs.declared.duty.StepDuty.TheVariants as step_duties
 use Rattle.path_core.specs.declared.events.Event.{Event}
-use Rattle.path_core.specs.declared.events.Event.TheVariants as happening
-use Rattle.path_agenda.specs.declared.heard.Heard.{Heard}
-use Rattle.path_agenda.specs.declared.heard.Heard.TheVariants as says
-use Rattle.path_agenda.specs.declared.keys.KeyPair.{KeyPair}
-use Rattle.path_agenda.specs.Agenda.{start_of_turn, heard_and, payload_came, rest_of_turn, emission, resets, leaves, breaks, stops}
-use Rattle.path_core.specs.OptionsIn.{items_of, options_heard}
-use Rattle.path_core.specs.Arrival.{judged_in, template_by, template_judged, heard_in, copy_heard}
-use Rattle.path_core.specs.Breaking.{answered_break, reset_on}
-use Rattle.path_core.specs.Codec.{Codec}
-use Rattle.path_core.specs.Duties.{stands, passed, answered}
-use Rattle.path_core.specs.Emission.{first_unsent, Grant, grant_in, answered_grant, answered_data}
-use Rattle.path_core.specs.declared.judged.Judged.{Judged}
-use Rattle.path_core.specs.declared.judged.Judged.TheVariants as judged
-use Rattle.path_core.specs.Events.{next_event, after_line, happens_if}
-use Rattle.path_core.specs.State.{at_tick, PathState, end_at, with_agenda, goes_on, left}
-use Rattle.path_core.specs.MpJoin.{join_begun, never_joined, is_never, keys_begun, opened_by, asked_at, join_taken, is_joined}
-use Rattle.path_core.specs.Timer.{template_fired}
-use Rattle.path_store.specs.declared.lines.LineAction.{LineAction}
-use Rattle.path_store.specs.declared.lines.LineAction.TheVariants as actions
-use Rattle.join_handshake.specs.declared.hearing.JoinSyn.{JoinSyn}
-use Rattle.path_core.specs.Deliver.{piece_of, is_placed, answered_piece}
-use Rattle.path_core.specs.DataFin.{is_fin_set, answered_fin_heard, answered_plain_fin}
-use Rattle.path_store.specs.Passing.{Piece}
-use Rattle.path_core.specs.DssIn.{with_learned, is_clash, told_next, answered_mapping}
-use Rattle.path_core.specs.Standing.{answered_ack_out}
-use Rattle.path_agenda.specs.Words.{replaced}
-use Rattle.path_agenda.specs.Items.{key_heard, keys_heard}
-use Rattle.path_core.specs.Steps.{settled, takes}
-use Rattle.path_core.specs.Treating.{answered_item, item_of}
-use Rattle.path_core.specs.Fallback.{answered_plain_ack, breaks_by_ack, with_plain_ack, after_fell, fell_duties}
-use Rattle.path_core.specs.MpCapable.{answered_opened, answered_peer_key}
-use Rattle.path_core.specs.FastClose.{is_stopped_by}
+use Rattle.path_agenda.specs.Agenda.{breaks}
+use Rattle.path_core.specs.Emission.{Grant}
 use Rattle.world_laws.proofs.Falls.FailedChecks.{fail_answered_so}
 
 -- the events of the turn, and its end, are ahead
 abbrev pub Ahead : List Duty → Type 0
 Ahead [] = ⊥
-Ahead ((duties.Step step_duties.Events) ∷ ds) = ds ≡ duties.End ∷ []
-Ahead (duties.End ∷ ds) = ⊥
+Ahead ((Duty.Step StepDuty.Events) ∷ ds) = ds ≡ Duty.End ∷ []
+Ahead (Duty.End ∷ ds) = ⊥
 Ahead (d ∷ ds) = Ahead ds
 
 nothing_next : (o : Option Event) → is_some o ≡ false → o ≡ None
@@ -74,18 +32,16 @@ heard_ahead s from zero ds h = h
 heard_ahead s from (suc count) ds h = heard_ahead s (from + 1) count ds h
 
 template_ahead : (joined : Bool) (s : Side) (count : ℕ) (m : Meaning) → Ahead (template_by joined s count m)
-template_ahead true s count (means.Accepts acknowledged) = refl
-template_ahead false s count (means.Accepts acknowledged) = refl
-template_ahead joined s count (means.Taken position acknowledged) = heard_ahead s 0 count (payload_came s) refl
+template_ahead true s count (Meaning.Accepts acknowledged) = refl
+template_ahead false s count (Meaning.Accepts acknowledged) = refl
+template_ahead joined s count (Meaning.Taken position acknowledged) = heard_ahead s 0 count (payload_came s) refl
 template_ahead joined s count _ = refl
 
 judged_ahead : (joined : Bool) (s : Side) (count : ℕ) (verdict : Judged) → Ahead (template_judged joined s count verdict)
-judged_ahead joined s count (judged.As meaning) = template_ahead joined s count meaning
-judged_ahead joined s count judged.Asks = refl
-judged_ahead joined s count judged.Lacks = refl
-judged_ahead joined s count judged.Forged = refl
+judged_ahead joined s count (Judged.As meaning) = template_ahead joined s count meaning
+judged_ahead joined s count _ = refl
 
-died_ahead : (dead_a dead_b : Bool) → Ahead ((if dead_a then [] else duties.Ask (ask_duties.Leave A) ∷ []) ++ ((if dead_b then [] else duties.Ask (ask_duties.Leave B) ∷ []) ++ rest_of_turn))
+died_ahead : (dead_a dead_b : Bool) → Ahead ((if dead_a then [] else Duty.Ask (AskDuty.Leave A) ∷ []) ++ ((if dead_b then [] else Duty.Ask (AskDuty.Leave B) ∷ []) ++ rest_of_turn))
 died_ahead true true = refl
 died_ahead true false = refl
 died_ahead false true = refl
@@ -103,7 +59,7 @@ module _ {C : Type 0} where
   -- only its end is, and nothing is due
   abbrev pub IsLast : List Duty → PathState C → Type 0
   IsLast [] p = next_event p ≡ None
-  IsLast (duties.End ∷ ds) p = (ds ≡ []) × (next_event p ≡ None)
+  IsLast (Duty.End ∷ ds) p = (ds ≡ []) × (next_event p ≡ None)
   IsLast (d ∷ ds) p = ⊥
 
   abbrev pub Shaped : List Duty → PathState C → Type 0
@@ -115,26 +71,26 @@ module _ {C : Type 0} where
   onward ds q (inl ahead) = inl ahead
   onward ds q (inr never) = absurd never
 
-  past_events : (ds : List Duty) (p : PathState C) → next_event p ≡ None → ds ≡ duties.End ∷ [] → Shaped ds p
+  past_events : (ds : List Duty) (p : PathState C) → next_event p ≡ None → ds ≡ Duty.End ∷ [] → Shaped ds p
   past_events ds p none is = subst (λ xs. Shaped xs p) (sym is) (inr (refl, none))
 
   next_shaped : (d : Duty) (ds : List Duty) (p : PathState C) → Shaped (d ∷ ds) p → stands d p ≡ false → Shaped ds (passed d p)
-  next_shaped (duties.Step step_duties.Events) ds p (inl is) no_more = past_events ds p (nothing_next (next_event p) no_more) is
-  next_shaped (duties.Step step_duties.Events) ds p (inr never) no_more = absurd never
-  next_shaped duties.End ds p h no_more = absurd (true≢false no_more)
-  next_shaped (duties.Ask ask_duties.JoinAgain) ds p h no_more = onward ds _ h
-  next_shaped (duties.Send (send_duties.Update s)) ds p h no_more = onward ds _ h
-  next_shaped (duties.Silent (silent_duties.Timer s)) ds p h no_more = onward ds _ h
+  next_shaped (Duty.Step StepDuty.Events) ds p (inl is) no_more = past_events ds p (nothing_next (next_event p) no_more) is
+  next_shaped (Duty.Step StepDuty.Events) ds p (inr never) no_more = absurd never
+  next_shaped Duty.End ds p h no_more = absurd (true≢false no_more)
+  next_shaped (Duty.Ask AskDuty.JoinAgain) ds p h no_more = onward ds _ h
+  next_shaped (Duty.Send (SendDuty.Update s)) ds p h no_more = onward ds _ h
+  next_shaped (Duty.Silent (SilentDuty.Timer s)) ds p h no_more = onward ds _ h
   next_shaped _ ds p h no_more = onward ds _ h
 
   same_last : (ds : List Duty) (p : PathState C) → IsLast ds p → IsLast ds (with_agenda ds p)
   same_last [] p h = h
-  same_last (duties.End ∷ ds) p h = h
-  same_last (duties.Step (step_duties.Look s) ∷ ds) p h = absurd h
+  same_last (Duty.End ∷ ds) p h = h
+  same_last (Duty.Step (StepDuty.Look s) ∷ ds) p h = absurd h
   same_last (d ∷ ds) p h = last_or d h
     where
       last_or : (d : Duty) → IsLast (d ∷ ds) p → IsLast (d ∷ ds) (with_agenda (d ∷ ds) p)
-      last_or duties.End h = h
+      last_or Duty.End h = h
       last_or _ h = absurd h
 
   settled_shaped : (ds : List Duty) (p : PathState C) → Shaped ds p → Shaped (settled ds p).agenda (settled ds p)
@@ -162,10 +118,8 @@ module _ {C : Type 0} where
       let h = options_heard (end_at s p) segment in let joined = is_joined p.profile in judged_ahead joined s (length (items_of joined s h)) (judged_in joined s h (end_at s p))
 
   line_ahead : (action : LineAction) (p : PathState C) → Ahead (after_line action p).agenda
-  line_ahead actions.Die p = died_ahead (is_dead p.a.tcp.state) (is_dead p.b.tcp.state)
-  line_ahead (actions.Prio s backup) p = refl
-  line_ahead (actions.Announce s id) p = refl
-  line_ahead (actions.Withdraw s id) p = refl
+  line_ahead LineAction.Die p = died_ahead (is_dead p.a.tcp.state) (is_dead p.b.tcp.state)
+  line_ahead _ p = refl
 
   -- a join is begun or not, with these to be done
   begun_ahead : (r : Reply) (dead living : List Duty) (p : PathState C) → Ahead dead → Ahead living → Ahead (join_begun r dead living p).agenda
@@ -177,10 +131,10 @@ module _ {C : Type 0} where
 
   event_ahead : (k : Codec C) (o : Option Event) (r : Reply) (p : PathState C) → Ahead (happens_if k o r p).agenda
   event_ahead k None r p = refl
-  event_ahead k (Some (happening.Joins tick)) r p = begun_ahead r (leaves A) (emission A) (record (at_tick tick p) { joined_at = None }) refl refl
-  event_ahead k (Some (happening.Takes line)) r p = line_ahead line.action (record (at_tick line.tick p) { lines = tail_of p.lines })
-  event_ahead k (Some (happening.Arrives due)) r p = copy_ahead due.to (heard_in k due.to (arriving due p.link) p) (record (at_tick due.tick p) { link = after_delivery due p.link })
-  event_ahead k (Some (happening.Fires s tick)) r p = fired_ahead (is_sixth (end_at s (at_tick tick p)).tcp) s
+  event_ahead k (Some (Event.Joins tick)) r p = begun_ahead r (leaves A) (emission A) (record (at_tick tick p) { joined_at = None }) refl refl
+  event_ahead k (Some (Event.Takes line)) r p = line_ahead line.action (record (at_tick line.tick p) { lines = tail_of p.lines })
+  event_ahead k (Some (Event.Arrives due)) r p = copy_ahead due.to (heard_in k due.to (arriving due p.link) p) (record (at_tick due.tick p) { link = after_delivery due p.link })
+  event_ahead k (Some (Event.Fires s tick)) r p = fired_ahead (is_sixth (end_at s (at_tick tick p)).tcp) s
 
   break_ahead : (k : Codec C) (s : Side) (reason : ℕ) (r : Reply) (p : PathState C) → Ahead (answered_break k s reason r p).agenda
   break_ahead k s reason r p = by (end_at s p).treated.asked
@@ -190,16 +144,14 @@ module _ {C : Type 0} where
       by false = refl
 
   -- after a fall the send book is told, and a path may be broken
-  fell_ahead : (s : Side) (r : Reply) (p : PathState C) → Ahead (left p) → Ahead (replaced (duties.Ask (ask_duties.GoIdentity s)) p.agenda) → Ahead (fell_duties s r p)
-  fell_ahead s (replies.Control (control_replies.Verdict (verdicts.Went modes.Identity))) p left_ahead told = told
-  fell_ahead s (replies.Control (control_replies.Verdict (verdicts.BreakPath reason))) p left_ahead told = by (end_at s p).treated.asked
-    where
-      by : (b : Bool) → Ahead (if b then breaks s reason else resets s reason)
-      by true = refl
-      by false = refl
+  fell_ahead : (s : Side) (r : Reply) (p : PathState C) → Ahead (left p) → Ahead (replaced (Duty.Ask (AskDuty.GoIdentity s)) p.agenda) → Ahead (fell_duties s r p)
+  fell_ahead s (Reply.Control (ControlReply.Verdict (Verdict.Went Mode.Identity))) p left_ahead told = told
+  fell_ahead s (Reply.Control (ControlReply.Verdict (Verdict.BreakPath reason))) p left_ahead told =
+      if_so Ahead (end_at s p).treated.asked (breaks s reason) (resets s reason)
+      refl refl
   fell_ahead s _ p left_ahead told = left_ahead
 
-  module _ (k : Codec C) (s : Side) (r : Reply) (p : PathState C) (same : Ahead p.agenda) (left_ahead : Ahead (left p)) (told : Ahead (replaced (duties.Ask (ask_duties.GoIdentity s)) p.agenda)) where
+  module _ (k : Codec C) (s : Side) (r : Reply) (p : PathState C) (same : Ahead p.agenda) (left_ahead : Ahead (left p)) (told : Ahead (replaced (Duty.Ask (AskDuty.GoIdentity s)) p.agenda)) where
     data_ahead : (o : Option Record) → Ahead (answered_data k s o r p).agenda
     data_ahead (Some record_unsent) = same
     data_ahead None = by (grant_in r)
@@ -236,7 +188,7 @@ module _ {C : Type 0} where
     fin_ahead true = left_ahead
     fin_ahead false = refl
 
-    module _ (index : ℕ) (acked_ahead : Ahead (replaced (duties.Ask (ask_duties.AckHeard s)) p.agenda)) (failed_ahead : Ahead (replaced (duties.Ask (ask_duties.FailHeard s)) p.agenda)) where
+    module _ (index : ℕ) (acked_ahead : Ahead (replaced (Duty.Ask (AskDuty.AckHeard s)) p.agenda)) (failed_ahead : Ahead (replaced (Duty.Ask (AskDuty.FailHeard s)) p.agenda)) where
       told_ahead : (b : Bool) → Ahead (told_next s b p)
       told_ahead true = acked_ahead
       told_ahead false = left_ahead
@@ -253,20 +205,16 @@ module _ {C : Type 0} where
       stopped_ahead false = left_ahead
 
       item_ahead : (o : Option Heard) → Ahead (answered_item k s o r p).agenda
-      item_ahead None = left_ahead
-      item_ahead (Some (says.DataAck next window)) = told_ahead _
-      item_ahead (Some (says.Mapping fin)) = mapping_ahead
-      item_ahead (Some (says.DataFin place)) = fell_ahead s r p left_ahead told
-      item_ahead (Some (says.InfiniteMapping place position)) = fell_ahead s r p left_ahead told
-      item_ahead (Some (says.Keys own peer)) = left_ahead
-      item_ahead (Some (says.PeerKey key)) = left_ahead
-      item_ahead (Some (says.Join form)) = left_ahead
-      item_ahead (Some (says.Notice notice)) = left_ahead
-      item_ahead (Some says.Fail) = fail_answered_so (λ (x : PathState C). Ahead x.agenda) s r p failed_ahead (fell_ahead s r p left_ahead told)
-      item_ahead (Some (says.FastClose key)) = stopped_ahead (is_stopped_by r)
-      item_ahead (Some says.Dss) = left_ahead
+      item_ahead (Some (Heard.DataAck next window)) = told_ahead _
+      item_ahead (Some (Heard.Mapping fin)) = mapping_ahead
+      item_ahead (Some (Heard.DataFin place)) = fell_ahead s r p left_ahead told
+      item_ahead (Some (Heard.InfiniteMapping place position)) = fell_ahead s r p left_ahead told
+      item_ahead (Some Heard.Fail) = fail_answered_so (λ (x : PathState C). Ahead x.agenda) s r p failed_ahead (fell_ahead s r p left_ahead told)
+      item_ahead (Some (Heard.FastClose key)) = stopped_ahead (is_stopped_by r)
+      item_ahead (Some Heard.Dss) = left_ahead
+      item_ahead _ = left_ahead
 
-  join_ahead : (s : Side) (keys : Option KeyPair) (asked : Option JoinSyn) (r : Reply) (ds : List Duty) (p : PathState C) → Ahead ds → Ahead (join_taken s keys asked r (with_agenda (duties.Ask (ask_duties.JoinHeard s) ∷ ds) p)).agenda
+  join_ahead : (s : Side) (keys : Option KeyPair) (asked : Option JoinSyn) (r : Reply) (ds : List Duty) (p : PathState C) → Ahead ds → Ahead (join_taken s keys asked r (with_agenda (Duty.Ask (AskDuty.JoinHeard s) ∷ ds) p)).agenda
   join_ahead s None (Some asked) r ds p a = a
   join_ahead s None None r ds p a = a
   join_ahead s (Some keys) None r ds p a = a
@@ -277,33 +225,33 @@ module _ {C : Type 0} where
 
   answered_shaped : (k : Codec C) (d : Duty) (ds : List Duty) (r : Reply) (p : PathState C) → Shaped (d ∷ ds) (with_agenda (d ∷ ds) p)
       → Shaped (answered k d r (with_agenda (d ∷ ds) p)).agenda (answered k d r (with_agenda (d ∷ ds) p))
-  answered_shaped k (duties.Step step_duties.Events) ds r p h = inl (event_ahead k (next_event p) r (with_agenda ((duties.Step step_duties.Events) ∷ ds) p))
-  answered_shaped k duties.End ds r p (inl never) = absurd never
-  answered_shaped k duties.End ds r p (inr last) = inr last.1
-  answered_shaped k (duties.Ask ask_duties.JoinAgain) ds r p h = with_ahead ds h (λ a. inl (begun_ahead r (duties.Ask (ask_duties.Leave A) ∷ ds) ds (with_agenda ((duties.Ask ask_duties.JoinAgain) ∷ ds) p) a a))
-  answered_shaped k (duties.Send (send_duties.Notice s)) ds r p h = with_ahead ds h (λ a. inl a)
-  answered_shaped k (duties.Step (step_duties.Data s)) ds r p h = with_ahead ds h (λ a. inl (data_ahead k s r (with_agenda (duties.Step (step_duties.Data s) ∷ ds) p) a a a (first_unsent (end_at s p))))
-  answered_shaped k (duties.Silent (silent_duties.Timer s)) ds r p h = from_left ds _ h
-  answered_shaped k (duties.Ask (ask_duties.PlainHandshake s)) ds r p h = with_ahead ds h (λ a. inl (fell_ahead s r (with_agenda (duties.Ask (ask_duties.PlainHandshake s) ∷ ds) p) a a))
-  answered_shaped k (duties.Ask (ask_duties.PeerKey s)) ds r p h = with_ahead ds h (λ a. inl (key_ahead k s r (with_agenda (duties.Ask (ask_duties.PeerKey s) ∷ ds) p) a a a (key_heard (end_at s p).treated.items)))
-  answered_shaped k (duties.Ask (ask_duties.JoinHeard s)) ds r p h = with_ahead ds h (λ a. inl (join_ahead s (keys_begun r) (asked_at s p) r ds p a))
-  answered_shaped k (duties.Ask (ask_duties.Opened s)) ds r p h = with_ahead ds h (λ a. inl (keys_ahead k s r (with_agenda (duties.Ask (ask_duties.Opened s) ∷ ds) p) a a a (keys_heard (end_at s p).treated.items)))
-  answered_shaped k (duties.Step (step_duties.Heard s index)) ds r p h = with_ahead ds h (λ a. inl (item_ahead k s r (with_agenda (duties.Step (step_duties.Heard s index) ∷ ds) p) a a a index a a (item_of index (end_at s p))))
-  answered_shaped k (duties.Ask (ask_duties.AckHeard s)) ds r p h = with_ahead ds h (λ a. inl (fell_ahead s r (with_agenda (duties.Ask (ask_duties.AckHeard s) ∷ ds) p) a a))
-  answered_shaped k (duties.Ask (ask_duties.FailHeard s)) ds r p h = with_ahead ds h (λ a. inl (fell_ahead s r (with_agenda (duties.Ask (ask_duties.FailHeard s) ∷ ds) p) a a))
-  answered_shaped k (duties.Step (step_duties.PlainAck s)) ds r p h = with_ahead ds h (λ a. inl (plain_ack_ahead k s r (with_agenda (duties.Step (step_duties.PlainAck s) ∷ ds) p) a a a))
-  answered_shaped k (duties.Ask (ask_duties.PlainData s)) ds r p h = with_ahead ds h (λ a. inl (fell_ahead s r (with_agenda (duties.Ask (ask_duties.PlainData s) ∷ ds) p) a a))
-  answered_shaped k (duties.Step (step_duties.Unmapped s)) ds r p h = inl (break_ahead k s 6 r (with_agenda (duties.Step (step_duties.Unmapped s) ∷ ds) p))
-  answered_shaped k (duties.Ask (ask_duties.SubflowFin s)) ds r p h = with_ahead ds h (λ a. inl (plain_fin_ahead k s r (with_agenda (duties.Ask (ask_duties.SubflowFin s) ∷ ds) p) a a a (is_fin_set r)))
-  answered_shaped k (duties.Ask (ask_duties.Edge s)) ds r p h = with_ahead ds h (λ a. inl (piece_ahead k s r (with_agenda (duties.Ask (ask_duties.Edge s) ∷ ds) p) a a a (piece_of s p) (is_placed r)))
-  answered_shaped k (duties.Ask (ask_duties.CheckFailed s)) ds r p h = with_ahead ds h (λ a. inl (fell_ahead s r (with_agenda (duties.Ask (ask_duties.CheckFailed s) ∷ ds) p) a a))
-  answered_shaped k (duties.Ask (ask_duties.HeardFin s index)) ds r p h = with_ahead ds h (λ a. inl (fin_ahead k s r (with_agenda (duties.Ask (ask_duties.HeardFin s index) ∷ ds) p) a a a (is_fin_set r)))
-  answered_shaped k (duties.Ask (ask_duties.BreakAck s reason)) ds r p h = inl refl
-  answered_shaped k (duties.Send (send_duties.BreakReset s reason)) ds r p h = inl refl
-  answered_shaped k (duties.Send (send_duties.Reset s)) ds r p h = with_ahead ds h (λ a. inl a)
-  answered_shaped k (duties.Send (send_duties.ResetNoted s)) ds r p h = with_ahead ds h (λ a. inl a)
-  answered_shaped k (duties.Ask (ask_duties.Leave s)) ds r p h = with_ahead ds h (λ a. inl a)
-  answered_shaped k (duties.Ask (ask_duties.LeaveNoted s)) ds r p h = with_ahead ds h (λ a. inl a)
+  answered_shaped k (Duty.Step StepDuty.Events) ds r p h = inl (event_ahead k (next_event p) r (with_agenda ((Duty.Step StepDuty.Events) ∷ ds) p))
+  answered_shaped k Duty.End ds r p (inl never) = absurd never
+  answered_shaped k Duty.End ds r p (inr last) = inr last.1
+  answered_shaped k (Duty.Ask AskDuty.JoinAgain) ds r p h = with_ahead ds h (λ a. inl (begun_ahead r (Duty.Ask (AskDuty.Leave A) ∷ ds) ds (with_agenda ((Duty.Ask AskDuty.JoinAgain) ∷ ds) p) a a))
+  answered_shaped k (Duty.Send (SendDuty.Notice s)) ds r p h = with_ahead ds h (λ a. inl a)
+  answered_shaped k (Duty.Step (StepDuty.Data s)) ds r p h = with_ahead ds h (λ a. inl (data_ahead k s r (with_agenda (Duty.Step (StepDuty.Data s) ∷ ds) p) a a a (first_unsent (end_at s p))))
+  answered_shaped k (Duty.Silent (SilentDuty.Timer s)) ds r p h = from_left ds _ h
+  answered_shaped k (Duty.Ask (AskDuty.PlainHandshake s)) ds r p h = with_ahead ds h (λ a. inl (fell_ahead s r (with_agenda (Duty.Ask (AskDuty.PlainHandshake s) ∷ ds) p) a a))
+  answered_shaped k (Duty.Ask (AskDuty.PeerKey s)) ds r p h = with_ahead ds h (λ a. inl (key_ahead k s r (with_agenda (Duty.Ask (AskDuty.PeerKey s) ∷ ds) p) a a a (key_heard (end_at s p).treated.items)))
+  answered_shaped k (Duty.Ask (AskDuty.JoinHeard s)) ds r p h = with_ahead ds h (λ a. inl (join_ahead s (keys_begun r) (asked_at s p) r ds p a))
+  answered_shaped k (Duty.Ask (AskDuty.Opened s)) ds r p h = with_ahead ds h (λ a. inl (keys_ahead k s r (with_agenda (Duty.Ask (AskDuty.Opened s) ∷ ds) p) a a a (keys_heard (end_at s p).treated.items)))
+  answered_shaped k (Duty.Step (StepDuty.Heard s index)) ds r p h = with_ahead ds h (λ a. inl (item_ahead k s r (with_agenda (Duty.Step (StepDuty.Heard s index) ∷ ds) p) a a a index a a (item_of index (end_at s p))))
+  answered_shaped k (Duty.Ask (AskDuty.AckHeard s)) ds r p h = with_ahead ds h (λ a. inl (fell_ahead s r (with_agenda (Duty.Ask (AskDuty.AckHeard s) ∷ ds) p) a a))
+  answered_shaped k (Duty.Ask (AskDuty.FailHeard s)) ds r p h = with_ahead ds h (λ a. inl (fell_ahead s r (with_agenda (Duty.Ask (AskDuty.FailHeard s) ∷ ds) p) a a))
+  answered_shaped k (Duty.Step (StepDuty.PlainAck s)) ds r p h = with_ahead ds h (λ a. inl (plain_ack_ahead k s r (with_agenda (Duty.Step (StepDuty.PlainAck s) ∷ ds) p) a a a))
+  answered_shaped k (Duty.Ask (AskDuty.PlainData s)) ds r p h = with_ahead ds h (λ a. inl (fell_ahead s r (with_agenda (Duty.Ask (AskDuty.PlainData s) ∷ ds) p) a a))
+  answered_shaped k (Duty.Step (StepDuty.Unmapped s)) ds r p h = inl (break_ahead k s 6 r (with_agenda (Duty.Step (StepDuty.Unmapped s) ∷ ds) p))
+  answered_shaped k (Duty.Ask (AskDuty.SubflowFin s)) ds r p h = with_ahead ds h (λ a. inl (plain_fin_ahead k s r (with_agenda (Duty.Ask (AskDuty.SubflowFin s) ∷ ds) p) a a a (is_fin_set r)))
+  answered_shaped k (Duty.Ask (AskDuty.Edge s)) ds r p h = with_ahead ds h (λ a. inl (piece_ahead k s r (with_agenda (Duty.Ask (AskDuty.Edge s) ∷ ds) p) a a a (piece_of s p) (is_placed r)))
+  answered_shaped k (Duty.Ask (AskDuty.CheckFailed s)) ds r p h = with_ahead ds h (λ a. inl (fell_ahead s r (with_agenda (Duty.Ask (AskDuty.CheckFailed s) ∷ ds) p) a a))
+  answered_shaped k (Duty.Ask (AskDuty.HeardFin s index)) ds r p h = with_ahead ds h (λ a. inl (fin_ahead k s r (with_agenda (Duty.Ask (AskDuty.HeardFin s index) ∷ ds) p) a a a (is_fin_set r)))
+  answered_shaped k (Duty.Ask (AskDuty.BreakAck s reason)) ds r p h = inl refl
+  answered_shaped k (Duty.Send (SendDuty.BreakReset s reason)) ds r p h = inl refl
+  answered_shaped k (Duty.Send (SendDuty.Reset s)) ds r p h = with_ahead ds h (λ a. inl a)
+  answered_shaped k (Duty.Send (SendDuty.ResetNoted s)) ds r p h = with_ahead ds h (λ a. inl a)
+  answered_shaped k (Duty.Ask (AskDuty.Leave s)) ds r p h = with_ahead ds h (λ a. inl a)
+  answered_shaped k (Duty.Ask (AskDuty.LeaveNoted s)) ds r p h = with_ahead ds h (λ a. inl a)
   answered_shaped k _ ds r p h = from_left ds _ h
 
   pub takes_shaped : (k : Codec C) (r : Reply) (p : PathState C) → Shaped p.agenda p → Shaped (takes k r p).agenda (takes k r p)

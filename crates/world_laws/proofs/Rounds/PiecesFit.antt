@@ -1,96 +1,40 @@
 -- An end that may ask for bytes, with room for a full segment, has room for each record that is to be sent: no piece is longer than the
 -- payload of a full segment, and its SYN is acknowledged.
-use Rattle.std.proofs.Common.{◌≡◌, refl, sym, subst, ap, ℕ, zero, suc, ◌+◌, ◌-◌, ◌≤◌, ◌&&◌, ◌==◌, min, not, nat_lt, nat_le, Bool, true, false, if◌then◌else◌, Option, Some, None, List, [], ◌∷◌, length, drop, Result, Ok, Err, arith}
-use Rattle.std.proofs.lemmas.Bool.{and_parts, and_from, both_ways, false≢true, true≢false, leb-true, le-leb, ltb-true, ltb-false}
-use Rattle.std.proofs.lemmas.List.{length-take, length-drop}
-use Rattle.std.proofs.lemmas.Option.{same_Some}
-use Rattle.sides.specs.declared.side.Side.{Side}
-use Rattle.sides.specs.declared.side.Side.TheVariants.{A, B}
-use Rattle.send_book.specs.declared.call.Span.{Span}
-use Rattle.send_book.specs.declared.call.Why.{Why}
-use Rattle.send_book.specs.State.{Sending as SendBook}
+use Rattle.world_laws.proofs.Words.{◌≡◌, refl, sym, ap, subst, ℕ, ◌+◌, ◌-◌, ◌≤◌, ◌&&◌, ◌==◌, not, min, nat_lt, nat_le, Bool, true, false, if◌then◌else◌, Option}
+use Rattle.world_laws.proofs.Words.{Some, None, Result, Ok, Err, List, [], ◌∷◌, length, drop, arith, ltb-true, and_parts, and_from, both_ways, false≢true}
+use Rattle.world_laws.proofs.Words.{ltb-false, leb-true, le-leb, length-take, length-drop, same_Some, Side, A, B, ScriptLine, JoinSyn, Span, Why, SendBook}
+use Rattle.world_laws.proofs.Words.{decision-MayTake, KeptMapping, Record, SendState, AckKind, is_unsent, uncovered, after_acknowledge, after_resent, ack_kind}
+use Rattle.world_laws.proofs.Words.{sample_of, Meaning, is_sixth, after_expiry, after_fire, after_sending, EndState, is_at_limit, EndPhase, Occasion}
+use Rattle.world_laws.proofs.Words.{after_death, after_dropping_held, after_keeping_held, after_holding, is_fin_acked, after_ack_kind, after_acknowledgement}
+use Rattle.world_laws.proofs.Words.{is_duplicate, after_duplicate, after_interruption, told_by, after_payload, after_hearing, after_established, after_taken}
+use Rattle.world_laws.proofs.Words.{after_syn_ack, after_syn, after_arrival, unkept, after_begin, is_fin_next, after_passing_fin, after_finishing, meaning_of}
+use Rattle.world_laws.proofs.Words.{Copy, Hint, arriving, after_delivery, HeardSegment, LineAction, emission, leaves, start_of_turn, Duty, SendDuty, StepDuty}
+use Rattle.world_laws.proofs.Words.{AskDuty, SilentDuty, Heard, KeyPair, replaced, Ask, Reply, StampedBooks, books_in, tail_of, is_nil, Codec, stands, ask_for}
+use Rattle.world_laws.proofs.Words.{passed, answered, PathEnd, died, PathStart, first_state, waiting_path, at_tick, PathState, end_at, goes_on, with_agenda}
+use Rattle.world_laws.proofs.Words.{left, path_of, settled, answers, asks_first, takes, begins_turn, hint_of, items_of, owes_by, options_heard, after_judged}
+use Rattle.world_laws.proofs.Words.{copy_of, judged_in, heard_in, copy_heard, told_at, owing_if, with_payload, answered_break, died_unless_dead, answered_data}
+use Rattle.world_laws.proofs.Words.{answered_grant, first_unsent, grant_in, answer_occasion, resend_occasion, data_ask, payload_size, may_ask, fits, grant_ask}
+use Rattle.world_laws.proofs.Words.{may_send_data, next_event, after_line, happens_if, join_begun, never_joined, asked_at, is_listening, is_never, join_taken}
+use Rattle.world_laws.proofs.Words.{keys_begun, opened_by, syn_alone, is_joined, after_joining_syn, is_wrong, mapping_here, forgotten_by, is_dropped, is_clash}
+use Rattle.world_laws.proofs.Words.{with_learned, with_data_fin, with_skipped, counts, answered_heard, answered_item, item_of, item_passed, heard_passed}
+use Rattle.world_laws.proofs.Words.{breaks_by_ack, Profile, taken_as, Every-push, Every, App, Path, Actor, ActorCrew, member_asks, member_takes, member_next}
+use Rattle.world_laws.proofs.Words.{is_over, Start, path_begins, opened_world, WorldState, Turn, crew_after, world_step, begins, world_run, if_so, EndWrites}
+use Rattle.world_laws.proofs.Words.{Only, Writes, OnlyAt, EndView, PathView, writes, side_of, answer_to, BeginsRound}
 use Rattle.send_book.specs.Steps as booking
-use Rattle.send_book.proofs.Decisions.{decision-MayTake}
-use Rattle.dss_mapping.specs.declared.kept.KeptMapping.{KeptMapping}
-use Rattle.join_handshake.specs.declared.hearing.JoinSyn.{JoinSyn}
-use Rattle.link_script.specs.declared.script.ScriptLine.{ScriptLine}
-use Rattle.link_model.specs.Steps.{arriving, after_delivery}
-use Rattle.path_segments.specs.Heard.{HeardSegment}
-use Rattle.subflow_send.specs.Records.{Record, SendState}
-use Rattle.subflow_send.specs.Rules.{is_unsent, uncovered, after_acknowledge, ack_kind, sample_of, after_resent}
-use Rattle.subflow_send.specs.declared.record.AckKind.{AckKind}
-use Rattle.subflow_send.specs.declared.record.AckKind.TheVariants.{New, Duplicate, Old, Future}
-use Rattle.subflow_tcp.specs.declared.handshake.State.{State as EndPhase}
-use Rattle.subflow_tcp.specs.declared.handshake.State.TheVariants as phase
-use Rattle.subflow_tcp.specs.declared.segments.Occasion.{Occasion}
-use Rattle.subflow_tcp.specs.declared.segments.Occasion.TheVariants as to_send
-use Rattle.subflow_tcp.specs.declared.segments.Hint.{Hint}
-use Rattle.subflow_tcp.specs.declared.verdicts.Meaning.{Meaning}
-use Rattle.subflow_tcp.specs.declared.verdicts.Meaning.TheVariants as means
-use Rattle.subflow_tcp.specs.Closing.{is_fin_next, after_finishing, after_passing_fin}
-use Rattle.subflow_tcp.specs.Emitting.{after_sending}
-use Rattle.subflow_tcp.specs.Expiring.{is_sixth, after_expiry, after_fire}
-use Rattle.subflow_tcp.specs.Judging.{is_syn_alone, is_repeated_syn, is_acceptable, meaning_outside, meaning_acknowledging, meaning_within, meaning_placed, meaning_connected, meaning_answer, meaning_answering, meaning_opening, meaning_at, meaning_of}
-use Rattle.subflow_tcp.specs.Opening.{after_begin}
-use Rattle.subflow_tcp.specs.Segments.{Copy}
+use Rattle.subflow_send.specs.declared.record.AckKind.TheVariants.{New}
 use Rattle.subflow_tcp.specs.Sizes.{room}
-use Rattle.subflow_tcp.specs.State.{EndState, is_at_limit}
 use Rattle.subflow_tcp.specs.States as states
-use Rattle.subflow_tcp.specs.Taking.{after_death, after_dropping_held, after_keeping_held, after_holding, is_fin_acked, after_ack_kind, after_acknowledgement, is_duplicate, after_duplicate, after_interruption, told_by, after_payload, after_hearing, after_established, after_taken, after_syn_ack, after_syn, after_arrival, unkept}
-use Rattle.stream_lanes.specs.Words.{Every}
-use Rattle.stream_lanes.proofs.Lists.{Every-push}
-use Rattle.actor_desk.specs.declared.ask.Ask.{Ask}
-use Rattle.actor_desk.specs.declared.ask.Reply.{Reply}
-use Rattle.actor_desk.specs.declared.ask.Reply.TheVariants as replies
-use Rattle.actor_desk.specs.Books.{StampedBooks, books_in}
-use Rattle.actor_desk.specs.Words.{is_nil, tail_of}
-use Rattle.path_agenda.specs.Agenda.{start_of_turn, leaves, emission}
-use Rattle.path_agenda.specs.Words.{replaced}
-use Rattle.path_agenda.specs.declared.duty.Duty.{Duty}
-use Rattle.path_agenda.specs.declared.duty.Duty.TheVariants as duties
-use Rattle.path_agenda.specs.declared.duty.AskDuty.TheVariants as ask_duties
-use Rattle.path_agenda.specs.declared.duty.SendDuty.TheVariants as send_duties
-use Rattle.path_agenda.specs.declared.duty.SilentDuty.TheVariants as silent_duties
-use Rattle.path_agenda.specs.declared.duty.StepDuty.TheVariants as step_duties
-use Rattle.path_agenda.specs.declared.heard.Heard.{Heard}
-use Rattle.path_agenda.specs.declared.heard.Heard.TheVariants as says
-use Rattle.path_agenda.specs.declared.keys.KeyPair.{KeyPair}
-use Rattle.path_core.specs.Arrival.{copy_of, judged_in, after_judged, owing_if, with_payload, copy_heard, heard_in, told_at}
-use Rattle.path_core.specs.OptionsIn.{hint_of, items_of, options_heard, owes_by}
-use Rattle.path_core.specs.Judged.{taken_as}
-use Rattle.path_core.specs.Breaking.{answered_break, died_unless_dead}
-use Rattle.path_core.specs.Codec.{Codec}
 use Rattle.path_core.specs.declared.events.Event.{Event}
-use Rattle.path_core.specs.declared.events.Event.TheVariants as happenings
-use Rattle.path_core.specs.Deliver.{is_wrong, forgotten_by, mapping_here, is_dropped}
-use Rattle.path_core.specs.DssIn.{with_learned, with_skipped, counts, is_clash, with_data_fin}
-use Rattle.path_core.specs.Duties.{stands, passed, answered, ask_for}
-use Rattle.path_core.specs.Emission.{Grant, grant_in, grant_ask, data_ask, answered_grant, answered_data, first_unsent, payload_size, may_ask, may_send_data, fits, answer_occasion, resend_occasion}
-use Rattle.path_core.specs.End.{PathEnd, died}
-use Rattle.path_core.specs.Events.{next_event, after_line, happens_if}
-use Rattle.path_core.specs.State.{at_tick, PathState, end_at, goes_on, left, path_of, with_agenda}
-use Rattle.path_core.specs.MpJoin.{join_begun, never_joined, keys_begun, is_never, opened_by, join_taken, asked_at, syn_alone, after_joining_syn, is_listening, is_joined}
-use Rattle.path_store.specs.declared.lines.LineAction.{LineAction}
-use Rattle.path_store.specs.declared.lines.LineAction.TheVariants as actions
-use Rattle.path_core.specs.Start.{PathStart, first_state, waiting_path}
-use Rattle.path_core.specs.Profile.{Profile}
-use Rattle.path_core.specs.Steps.{settled, answers, takes, begins_turn, asks_first}
-use Rattle.path_core.specs.Treating.{heard_passed, item_passed, answered_heard, answered_item, item_of}
-use Rattle.path_core.specs.Fallback.{breaks_by_ack}
+use Rattle.path_core.specs.Emission.{Grant}
 use Rattle.path_core.proofs.Judgements.{judged_taken}
-use Rattle.world_laws.specs.declared.member.Member.TheVariants.{App, Path}
-use Rattle.world_laws.specs.Actors.{Actor, ActorCrew, member_asks, member_takes, member_next, is_over}
-use Rattle.world_laws.specs.Openings.{Start, path_begins, opened_world}
-use Rattle.world_laws.specs.RoundNumbers.{BeginsRound, after_steps}
-use Rattle.world_laws.specs.StampedBooks.{answer_to}
-use Rattle.world_laws.specs.Worlds.{WorldState, Turn, crew_after, begins, world_step, world_run}
+use Rattle.world_laws.specs.RoundNumbers.{after_steps}
 use Rattle.world_laws.proofs.Falls.FailedChecks.{infinite_came_so, fail_answered_so}
 use Rattle.world_laws.proofs.Lanes.Records.{unsent_sent_kept, first_sent_kept, fin_sent_kept, expired_kept, uncovered_kept}
 use Rattle.world_laws.proofs.Lanes.Saying.{every_one}
+use Rattle.world_laws.proofs.Keys.Meanings.{Means, means}
 use Rattle.world_laws.proofs.Rounds.EndsRefused.{IsPaid}
 use Rattle.world_laws.proofs.Rounds.Lifting.{step_lifted, round_lifted, run_lifted, opened_lifted}
 use Rattle.world_laws.proofs.Worlds.Finding.{find_every}
-use Rattle.world_laws.specs.Writes.{EndWrites, EndView, Only, Writes, OnlyAt, PathView, writes, side_of}
 use Rattle.world_laws.proofs.Writes.Paths.{writes_no_more}
 use Rattle.world_laws.proofs.Writes.Steps.{both_ends, unwritten}
 
@@ -117,46 +61,16 @@ EndFits limit e = TcpFits limit e.tcp
 -- ---- states
 
 finish_never : (state : EndPhase) → states.may_finish (states.after_finish state) ≡ false
-finish_never phase.Waiting = refl
-finish_never phase.Listen = refl
-finish_never phase.SynSent = refl
-finish_never phase.SynReceived = refl
-finish_never phase.Established = refl
-finish_never phase.FinWait1 = refl
-finish_never phase.FinWait2 = refl
-finish_never phase.CloseWait = refl
-finish_never phase.Closing = refl
-finish_never phase.LastAck = refl
-finish_never phase.TimeWait = refl
-finish_never phase.Dead = refl
+finish_never EndPhase.Waiting = refl
+finish_never _ = refl
 
 passed_may : (state : EndPhase) → states.may_finish (states.after_fin_passed state) ≡ true → states.may_finish state ≡ true
-passed_may phase.Waiting is = is
-passed_may phase.Listen is = is
-passed_may phase.SynSent is = is
-passed_may phase.SynReceived is = is
-passed_may phase.Established is = refl
-passed_may phase.FinWait1 is = is
-passed_may phase.FinWait2 is = is
-passed_may phase.CloseWait is = is
-passed_may phase.Closing is = is
-passed_may phase.LastAck is = is
-passed_may phase.TimeWait is = is
-passed_may phase.Dead is = is
+passed_may EndPhase.Established is = refl
+passed_may _ is = is
 
 acked_may : (state : EndPhase) → states.may_finish (states.after_fin_acked state) ≡ true → states.may_finish state ≡ true
-acked_may phase.Waiting is = is
-acked_may phase.Listen is = is
-acked_may phase.SynSent is = is
-acked_may phase.SynReceived is = is
-acked_may phase.Established is = is
-acked_may phase.FinWait1 is = is
-acked_may phase.FinWait2 is = is
-acked_may phase.CloseWait is = is
-acked_may phase.Closing is = is
-acked_may phase.LastAck is = is
-acked_may phase.TimeWait is = is
-acked_may phase.Dead is = is
+acked_may EndPhase.Waiting is = is
+acked_may _ is = is
 
 -- ---- acknowledgements
 
@@ -202,9 +116,7 @@ acknowledged_fits limit pos now s sizes begun = by (ack_kind pos s.send)
 
     by : (kind : AckKind) → TcpFits limit (after_ack_kind kind (sample_of pos s.send) now t)
     by (New octets) = record { sizes = fits_then.sizes; begun = λ is. begun (back (is_fin_acked t.send) is) }
-    by Duplicate = fits_then
-    by Old = fits_then
-    by Future = fits_then
+    by _ = fits_then
 
 row_fits : (limit : ℕ) (b : Bool) (s : EndState) → TcpFits limit s → TcpFits limit (if b then after_duplicate s else after_interruption s)
 row_fits limit true s h = h
@@ -213,98 +125,26 @@ row_fits limit false s h = h
 -- ---- what a copy means: it acknowledges a position that was sent, behind the SYN where the end isn't open yet
 
 abbrev MeansSo : EndPhase → ℕ → Meaning → Type 0
-MeansSo state nxt (means.Accepts acknowledged) = (1 ≤ acknowledged) × (acknowledged ≤ nxt)
-MeansSo state nxt (means.Taken pos acknowledged) = states.is_half_open state ≡ true → (1 ≤ acknowledged) × (acknowledged ≤ nxt)
+MeansSo state nxt (Meaning.Accepts acknowledged) = (1 ≤ acknowledged) × (acknowledged ≤ nxt)
+MeansSo state nxt (Meaning.Taken pos acknowledged) = states.is_half_open state ≡ true → (1 ≤ acknowledged) × (acknowledged ≤ nxt)
 MeansSo state nxt _ = Unit {0}
 
-some_acked : (half : Bool) (n : ℕ) → half ≡ true → (half && n == 0) ≡ false → 1 ≤ n
-some_acked true zero is none = absurd (true≢false none)
-some_acked true (suc n) is none = omega arith
-some_acked false n is none = absurd (false≢true is)
-
-positive : (n : ℕ) → nat_lt 0 n ≡ true → 1 ≤ n
-positive n is = let more = ltb-true 0 n is in omega (arith, more)
-
-module _ (c : Copy) (s : EndState) where
-  abbrev Says : Meaning → Type 0
-  Says = MeansSo s.state s.send.nxt
-
-  either_says : (b : Bool) (x y : Meaning) → (b ≡ true → Says x) → (b ≡ false → Says y) → Says (if b then x else y)
-  either_says true x y first second = first refl
-  either_says false x y first second = second refl
-
-  acknowledging : (o : Option ℕ) (pos : ℕ) → Says (meaning_acknowledging o pos s)
-  acknowledging None pos = tt
-  acknowledging (Some acknowledged) pos =
-      either_says (nat_lt s.send.nxt acknowledged) means.Ahead (if states.is_half_open s.state && acknowledged == 0 then means.Unacknowledging else means.Taken pos acknowledged)
-      (λ is. tt)
-      (λ low. either_says (states.is_half_open s.state && acknowledged == 0) means.Unacknowledging (means.Taken pos acknowledged)
-      (λ is. tt)
-      (λ none half. (some_acked (states.is_half_open s.state) acknowledged half none, ltb-false s.send.nxt acknowledged low)))
-
-  outside : Says (meaning_outside c)
-  outside = either_says c.rst means.Ignored means.Outside (λ is. tt) (λ is. tt)
-
-  within : (pos : ℕ) → Says (meaning_within pos c s)
-  within pos =
-      either_says c.rst (if pos == s.recv.edge then means.Kills else means.Challenged) (if c.syn then means.Challenged else meaning_acknowledging c.acknowledged pos s)
-      (λ is. either_says (pos == s.recv.edge) means.Kills means.Challenged (λ at. tt) (λ at. tt))
-      (λ is. either_says c.syn means.Challenged (meaning_acknowledging c.acknowledged pos s) (λ syn. tt) (λ syn. acknowledging c.acknowledged pos))
-
-  placed : (o : Option ℕ) → Says (meaning_placed o c s)
-  placed None = outside
-  placed (Some pos) = either_says (is_acceptable s.recv.edge pos c) (meaning_within pos c s) (meaning_outside c) (λ is. within pos) (λ is. outside)
-
-  connected : Says (meaning_connected c s)
-  connected =
-      either_says (is_at_limit s) means.Ignored (if is_repeated_syn c s then means.RepeatedSyn else meaning_placed c.position c s) (λ is. tt)
-      (λ is. either_says (is_repeated_syn c s) means.RepeatedSyn (meaning_placed c.position c s) (λ again. tt) (λ again. placed c.position))
-
-  answering : (o : Option ℕ) → Says (meaning_answering o c s)
-  answering None = tt
-  answering (Some acknowledged) =
-      either_says (nat_lt 0 acknowledged && nat_le acknowledged s.send.nxt) (meaning_answer c acknowledged) means.Ignored
-      (λ is. let parts = and_parts (nat_lt 0 acknowledged) (nat_le acknowledged s.send.nxt) is in
-      either_says c.rst means.Kills (if c.syn then means.Accepts acknowledged else means.Ignored) (λ rst. tt)
-      (λ rst. either_says c.syn (means.Accepts acknowledged) means.Ignored (λ syn. (positive acknowledged parts.0, leb-true acknowledged s.send.nxt parts.1)) (λ syn. tt)))
-      (λ is. tt)
-
-  opening : Says (meaning_opening c s)
-  opening = either_says (is_at_limit s) means.Ignored (meaning_answering c.acknowledged c s) (λ is. tt) (λ is. answering c.acknowledged)
-
-  meant_so : Says (meaning_of c s)
-  meant_so = by s.state
-    where
-      by : (state : EndPhase) → Says (meaning_at state c s)
-      by phase.Dead = either_says c.rst means.Ignored means.Unwanted (λ is. tt) (λ is. tt)
-      by phase.Waiting = tt
-      by phase.Listen = either_says (is_syn_alone c) means.Opens means.Ignored (λ is. tt) (λ is. tt)
-      by phase.SynSent = opening
-      by phase.SynReceived = connected
-      by phase.Established = connected
-      by phase.FinWait1 = connected
-      by phase.FinWait2 = connected
-      by phase.CloseWait = connected
-      by phase.Closing = connected
-      by phase.LastAck = connected
-      by phase.TimeWait = connected
+meant_so : (c : Copy) (s : EndState) → MeansSo s.state s.send.nxt (meaning_of c s)
+meant_so c s = by (meaning_of c s) (means c s)
+  where
+    by : (m : Meaning) → Means c s m → MeansSo s.state s.send.nxt m
+    by (Meaning.Accepts acknowledged) is = is.1.1.1
+    by (Meaning.Taken pos acknowledged) is = is.1.1.1.1.1
+    by _ is = tt
 
 -- ---- an end of a subflow
 
 opens_acked : (state : EndPhase) (v : SendState) (acknowledged : ℕ) → (states.is_half_open state ≡ true → (1 ≤ acknowledged) × (acknowledged ≤ v.nxt)) → (states.may_finish state ≡ true → 1 ≤ v.una)
     → states.may_finish (states.after_handshake state) ≡ true → 1 ≤ (after_acknowledge acknowledged v).una
-opens_acked phase.SynReceived v acknowledged half begun is = let sent = half refl in una_grows acknowledged v sent.0 sent.1
-opens_acked phase.Established v acknowledged half begun is = una_stays acknowledged v (begun refl)
-opens_acked phase.CloseWait v acknowledged half begun is = una_stays acknowledged v (begun refl)
-opens_acked phase.Waiting v acknowledged half begun is = absurd (false≢true is)
-opens_acked phase.Listen v acknowledged half begun is = absurd (false≢true is)
-opens_acked phase.SynSent v acknowledged half begun is = absurd (false≢true is)
-opens_acked phase.FinWait1 v acknowledged half begun is = absurd (false≢true is)
-opens_acked phase.FinWait2 v acknowledged half begun is = absurd (false≢true is)
-opens_acked phase.Closing v acknowledged half begun is = absurd (false≢true is)
-opens_acked phase.LastAck v acknowledged half begun is = absurd (false≢true is)
-opens_acked phase.TimeWait v acknowledged half begun is = absurd (false≢true is)
-opens_acked phase.Dead v acknowledged half begun is = absurd (false≢true is)
+opens_acked EndPhase.SynReceived v acknowledged half begun is = let sent = half refl in una_grows acknowledged v sent.0 sent.1
+opens_acked EndPhase.Established v acknowledged half begun is = una_stays acknowledged v (begun refl)
+opens_acked EndPhase.CloseWait v acknowledged half begun is = una_stays acknowledged v (begun refl)
+opens_acked _ v acknowledged half begun is = absurd (false≢true is)
 
 taken_fits : (limit pos acknowledged : ℕ) (hint : Hint) (now : ℕ) (c : Copy) (s : EndState) → (states.is_half_open s.state ≡ true → (1 ≤ acknowledged) × (acknowledged ≤ s.send.nxt)) → TcpFits limit s
     → TcpFits limit (after_taken pos acknowledged hint now c s)
@@ -316,7 +156,7 @@ taken_fits limit pos acknowledged hint now c s half h =
 syn_ack_fits : (limit acknowledged : ℕ) (hint : Hint) (now : ℕ) (c : Copy) (s : EndState) → (1 ≤ acknowledged) × (acknowledged ≤ s.send.nxt) → TcpFits limit s
     → TcpFits limit (after_syn_ack acknowledged hint now c s)
 syn_ack_fits limit acknowledged hint now c s sent h =
-    let t : EndState = record (after_hearing (after_payload 1 hint c s)) { state = phase.Established } in
+    let t : EndState = record (after_hearing (after_payload 1 hint c s)) { state = EndPhase.Established } in
     acknowledged_fits limit acknowledged now t h.sizes (λ is. una_grows acknowledged s.send sent.0 sent.1)
 
 dead_fits : (limit : ℕ) (reset : Bool) (s : EndState) → TcpFits limit s → TcpFits limit (after_death reset s)
@@ -326,58 +166,42 @@ syn_fits : (limit : ℕ) (hint : Hint) (c : Copy) (s : EndState) → TcpFits lim
 syn_fits limit hint c s h = record { sizes = h.sizes; begun = λ is. absurd (false≢true is) }
 
 arrived_fits : (limit : ℕ) (m : Meaning) (hint : Hint) (now : ℕ) (c : Copy) (s : EndState) → MeansSo s.state s.send.nxt m → TcpFits limit s → TcpFits limit (after_arrival m hint now c s)
-arrived_fits limit means.Ignored hint now c s so h = h
-arrived_fits limit means.Unwanted hint now c s so h = h
-arrived_fits limit means.Opens hint now c s so h = syn_fits limit hint c s h
-arrived_fits limit (means.Accepts acknowledged) hint now c s so h = syn_ack_fits limit acknowledged hint now c s so h
-arrived_fits limit means.RepeatedSyn hint now c s so h = h
-arrived_fits limit means.Outside hint now c s so h = h
-arrived_fits limit means.Kills hint now c s so h = dead_fits limit false s h
-arrived_fits limit means.Challenged hint now c s so h = h
-arrived_fits limit means.Unacknowledging hint now c s so h = h
-arrived_fits limit means.Ahead hint now c s so h = h
-arrived_fits limit (means.Taken pos acknowledged) hint now c s so h = taken_fits limit pos acknowledged hint now c s so h
+arrived_fits limit Meaning.Opens hint now c s so h = syn_fits limit hint c s h
+arrived_fits limit (Meaning.Accepts acknowledged) hint now c s so h = syn_ack_fits limit acknowledged hint now c s so h
+arrived_fits limit Meaning.Kills hint now c s so h = dead_fits limit false s h
+arrived_fits limit (Meaning.Taken pos acknowledged) hint now c s so h = taken_fits limit pos acknowledged hint now c s so h
+arrived_fits limit _ hint now c s so h = h
 
 sent_fits : (limit : ℕ) (o : Occasion) (now : ℕ) (s : EndState) → TcpFits limit s → TcpFits limit (after_sending o now s)
-sent_fits limit to_send.Reset now s h = h
-sent_fits limit to_send.Answer now s h = h
-sent_fits limit to_send.SynAck now s h = by (s.send.una == 0)
-  where
-    by : (b : Bool) → SendFits limit s.state (if b then after_resent now s.send else s.send)
-    by true = record { sizes = first_sent_kept (IsSmall limit) (λ r x small. small) now s.send.records h.sizes; begun = h.begun }
-    by false = h
-sent_fits limit to_send.Ack now s h = h
-sent_fits limit to_send.Probe now s h = h
-sent_fits limit to_send.First now s h = record { sizes = first_sent_kept (IsSmall limit) (λ r x small. small) now s.send.records h.sizes; begun = h.begun }
-sent_fits limit to_send.Unsent now s h = record { sizes = unsent_sent_kept (IsSmall limit) (λ r x small. small) now s.send.records h.sizes; begun = h.begun }
-sent_fits limit to_send.Fin now s h = record { sizes = fin_sent_kept (IsSmall limit) (λ r x small. small) now s.send.records h.sizes; begun = h.begun }
+sent_fits limit Occasion.Reset now s h = h
+sent_fits limit Occasion.Answer now s h = h
+sent_fits limit Occasion.SynAck now s h =
+    if_so (SendFits limit s.state) (s.send.una == 0) (after_resent now s.send) s.send
+    (record { sizes = first_sent_kept (IsSmall limit) (λ r x small. small) now s.send.records h.sizes; begun = h.begun }) h
+sent_fits limit Occasion.Ack now s h = h
+sent_fits limit Occasion.Probe now s h = h
+sent_fits limit Occasion.First now s h = record { sizes = first_sent_kept (IsSmall limit) (λ r x small. small) now s.send.records h.sizes; begun = h.begun }
+sent_fits limit Occasion.Unsent now s h = record { sizes = unsent_sent_kept (IsSmall limit) (λ r x small. small) now s.send.records h.sizes; begun = h.begun }
+sent_fits limit Occasion.Fin now s h = record { sizes = fin_sent_kept (IsSmall limit) (λ r x small. small) now s.send.records h.sizes; begun = h.begun }
 
-fin_fits : (limit now : ℕ) (s : EndState) → TcpFits limit s → TcpFits limit (after_sending to_send.Fin now (after_finishing s))
-fin_fits limit now s h = sent_fits limit to_send.Fin now (after_finishing s) (record {
+fin_fits : (limit now : ℕ) (s : EndState) → TcpFits limit s → TcpFits limit (after_sending Occasion.Fin now (after_finishing s))
+fin_fits limit now s h = sent_fits limit Occasion.Fin now (after_finishing s) (record {
   sizes = Every-push _ h.sizes (none_small limit);
   begun = λ is. absurd (both_ways _ (finish_never s.state) is);
 })
 
 fired_fits : (limit now : ℕ) (s : EndState) → TcpFits limit s → TcpFits limit (after_fire now s)
-fired_fits limit now s h = by (is_sixth s)
-  where
-    by : (b : Bool) → TcpFits limit (if b then after_death true s else after_expiry now s)
-    by true = dead_fits limit true s h
-    by false = record { sizes = expired_kept (IsSmall limit) (λ r x small. small) s.send.records h.sizes; begun = h.begun }
+fired_fits limit now s h =
+    if_so (TcpFits limit) (is_sixth s) (after_death true s) (after_expiry now s)
+    (dead_fits limit true s h) (record { sizes = expired_kept (IsSmall limit) (λ r x small. small) s.send.records h.sizes; begun = h.begun })
 
 passed_fits : (limit : ℕ) (s : EndState) → TcpFits limit s → TcpFits limit (if is_fin_next s then after_passing_fin s else s)
-passed_fits limit s h = by (is_fin_next s)
-  where
-    by : (b : Bool) → TcpFits limit (if b then after_passing_fin s else s)
-    by true = record { sizes = h.sizes; begun = λ is. h.begun (passed_may s.state is) }
-    by false = h
+passed_fits limit s h = if_so (TcpFits limit) (is_fin_next s) (after_passing_fin s) s (record { sizes = h.sizes; begun = λ is. h.begun (passed_may s.state is) }) h
 
 joining_fits : (limit window : ℕ) (s : EndState) → TcpFits limit s → TcpFits limit (after_joining_syn window s)
-joining_fits limit window s h = by (is_listening s.state)
-  where
-    by : (b : Bool) → TcpFits limit (if b then after_syn (unkept None) (syn_alone window) s else s)
-    by true = record { sizes = h.sizes; begun = λ is. absurd (false≢true is) }
-    by false = h
+joining_fits limit window s h =
+    if_so (TcpFits limit) (is_listening s.state) (after_syn (unkept None) (syn_alone window) s) s
+    (record { sizes = h.sizes; begun = λ is. absurd (false≢true is) }) h
 
 -- ---- an end of a path
 
@@ -390,23 +214,17 @@ died_fits limit e h = either_end limit (states.is_dead e.tcp.state) e (died e) h
 
 opened_fits : (limit : ℕ) (keys : Option KeyPair) (e : PathEnd) → EndFits limit e → EndFits limit (opened_by keys e)
 opened_fits limit None e h = h
-opened_fits limit (Some keys) e h = by (states.is_waiting e.tcp.state)
-  where
-    by : (b : Bool) → TcpFits limit (if b then after_begin e.tcp else e.tcp)
-    by true = record { sizes = h.sizes; begun = λ is. absurd (false≢true is) }
-    by false = h
+opened_fits limit (Some keys) e h =
+    if_so (TcpFits limit) (states.is_waiting e.tcp.state) (after_begin e.tcp) e.tcp
+    (record { sizes = h.sizes; begun = λ is. absurd (false≢true is) }) h
 
 kept_fits : (limit : ℕ) (s : Side) (e : PathEnd) → EndFits limit e → TcpFits limit (if is_dropped s e then after_dropping_held e.tcp else after_keeping_held e.tcp)
-kept_fits limit s e h = by (is_dropped s e)
-  where
-    by : (b : Bool) → TcpFits limit (if b then after_dropping_held e.tcp else after_keeping_held e.tcp)
-    by true = h
-    by false = h
+kept_fits limit s e h = if_so (TcpFits limit) (is_dropped s e) (after_dropping_held e.tcp) (after_keeping_held e.tcp) h h
 
 item_fits : (limit : ℕ) (s : Side) (item : Heard) (e : PathEnd) → EndFits limit e → EndFits limit (heard_passed s item e)
-item_fits limit s says.Dss e h = h
-item_fits limit s (says.Mapping fin) e h = either_end limit (counts e) (with_learned e) (with_skipped e) h h
-item_fits limit s (says.DataFin place) e h = either_end limit (counts e) (with_data_fin place e) e h h
+item_fits limit s Heard.Dss e h = h
+item_fits limit s (Heard.Mapping fin) e h = either_end limit (counts e) (with_learned e) (with_skipped e) h h
+item_fits limit s (Heard.DataFin place) e h = either_end limit (counts e) (with_data_fin place e) e h h
 item_fits limit s _ e h = h
 
 maybe_fits : (limit : ℕ) (s : Side) (o : Option Heard) (e : PathEnd) → EndFits limit e → EndFits limit (item_passed s o e)
@@ -419,9 +237,9 @@ checked_fits limit checksums (Some kept) e h = either_end limit (is_wrong checks
 
 payload_fits : (limit : ℕ) (m : Meaning) (octets : List ℕ) (s : EndState) → MeansSo s.state s.send.nxt m → TcpFits limit s
     → MeansSo (with_payload m octets s).state (with_payload m octets s).send.nxt m × TcpFits limit (with_payload m octets s)
-payload_fits limit (means.Taken pos acknowledged) octets s so h = by (is_nil octets)
+payload_fits limit (Meaning.Taken pos acknowledged) octets s so h = by (is_nil octets)
   where
-    by : (b : Bool) → MeansSo (if b then s else after_holding pos octets s).state (if b then s else after_holding pos octets s).send.nxt (means.Taken pos acknowledged)
+    by : (b : Bool) → MeansSo (if b then s else after_holding pos octets s).state (if b then s else after_holding pos octets s).send.nxt (Meaning.Taken pos acknowledged)
         × TcpFits limit (if b then s else after_holding pos octets s)
     by true = (so, h)
     by false = (so, h)
@@ -446,7 +264,7 @@ judged_fits limit c s now x e h =
 abbrev GrantsSmall : {C : Type 0} → Ask → Reply → PathState C → Type 0
 GrantsSmall x r p = (s : Side) → x ≡ grant_ask s p → (grant : Grant) → grant_in r ≡ Some grant → length grant.piece ≤ payload_size p.profile
 
-sized : (path max : ℕ) (standby : Bool) (b : SendBook) (o : Result Span Why) → booking.decision path max standby b ≡ o → (grant : Grant) → grant_in (replies.Send (booking.reply_by o b)) ≡ Some grant → length grant.piece ≤ max
+sized : (path max : ℕ) (standby : Bool) (b : SendBook) (o : Result Span Why) → booking.decision path max standby b ≡ o → (grant : Grant) → grant_in (Reply.Send (booking.reply_by o b)) ≡ Some grant → length grant.piece ≤ max
 sized path max standby b (Err why) is grant found = cc
 sized path max standby b (Ok span) is grant found =
     let may = decision-MayTake path max standby b span is in
@@ -487,14 +305,14 @@ module _ {C : Type 0} where
   keeps p ds h = record { a = h.a; b = h.b }
 
   passed_duty : (d : Duty) (p : PathState C) → PathFits p → PathFits (passed d p)
-  passed_duty (duties.Silent (silent_duties.Timer s)) p h = side_fits s p _ _ refl refl refl h (fits_at s p h)
-  passed_duty (duties.Step (step_duties.Heard s index)) p h = side_fits s p _ _ refl refl refl h (maybe_fits (payload_size p.profile) s (item_of index (end_at s p)) (end_at s p) (fits_at s p h))
-  passed_duty (duties.Silent (silent_duties.Keep s)) p h = side_fits s p _ _ refl refl refl h (kept_fits (payload_size p.profile) s (end_at s p) (fits_at s p h))
-  passed_duty (duties.Ask (ask_duties.CheckFailed s)) p h =
+  passed_duty (Duty.Silent (SilentDuty.Timer s)) p h = side_fits s p _ _ refl refl refl h (fits_at s p h)
+  passed_duty (Duty.Step (StepDuty.Heard s index)) p h = side_fits s p _ _ refl refl refl h (maybe_fits (payload_size p.profile) s (item_of index (end_at s p)) (end_at s p) (fits_at s p h))
+  passed_duty (Duty.Silent (SilentDuty.Keep s)) p h = side_fits s p _ _ refl refl refl h (kept_fits (payload_size p.profile) s (end_at s p) (fits_at s p h))
+  passed_duty (Duty.Ask (AskDuty.CheckFailed s)) p h =
       side_fits s p _ _ refl refl refl h (checked_fits (payload_size p.profile) p.profile.spelling.checksums (mapping_here (end_at s p)) (end_at s p) (fits_at s p h))
-  passed_duty (duties.Step (step_duties.PlainAck s)) p h = side_fits s p _ _ refl refl refl h (fits_at s p h)
-  passed_duty (duties.Step (step_duties.Unmapped s)) p h = side_fits s p _ _ refl refl refl h (fits_at s p h)
-  passed_duty (duties.Silent (silent_duties.PassFin s)) p h = side_fits s p _ _ refl refl refl h (passed_fits (payload_size p.profile) (end_at s p).tcp (fits_at s p h))
+  passed_duty (Duty.Step (StepDuty.PlainAck s)) p h = side_fits s p _ _ refl refl refl h (fits_at s p h)
+  passed_duty (Duty.Step (StepDuty.Unmapped s)) p h = side_fits s p _ _ refl refl refl h (fits_at s p h)
+  passed_duty (Duty.Silent (SilentDuty.PassFin s)) p h = side_fits s p _ _ refl refl refl h (passed_fits (payload_size p.profile) (end_at s p).tcp (fits_at s p h))
   passed_duty _ p h = h
 
   settled_fits : (ds : List Duty) (p : PathState C) → PathFits p → PathFits (settled ds p)
@@ -509,10 +327,10 @@ module _ {C : Type 0} where
       (record { a = dead_fits (payload_size p.profile) false p.a.tcp h.a; b = h.b }) (record { a = opened_fits (payload_size p.profile) (keys_begun r) p.a h.a; b = h.b })
 
   line_fits : (action : LineAction) (p : PathState C) → PathFits p → PathFits (after_line action p)
-  line_fits actions.Die p h = record { a = died_fits (payload_size p.profile) p.a h.a; b = died_fits (payload_size p.profile) p.b h.b }
-  line_fits (actions.Prio s backup) p h = side_fits s p _ _ refl refl refl h (fits_at s p h)
-  line_fits (actions.Announce s id) p h = record { a = h.a; b = h.b }
-  line_fits (actions.Withdraw s id) p h = record { a = h.a; b = h.b }
+  line_fits LineAction.Die p h = record { a = died_fits (payload_size p.profile) p.a h.a; b = died_fits (payload_size p.profile) p.b h.b }
+  line_fits (LineAction.Prio s backup) p h = side_fits s p _ _ refl refl refl h (fits_at s p h)
+  line_fits (LineAction.Announce s id) p h = record { a = h.a; b = h.b }
+  line_fits (LineAction.Withdraw s id) p h = record { a = h.a; b = h.b }
 
   told_fits : (now : ℕ) (s : Side) (x : HeardSegment) (p : PathState C) → PathFits p → PathFits (told_at now s x p)
   told_fits now s x p h =
@@ -525,13 +343,13 @@ module _ {C : Type 0} where
 
   happens_fits : (k : Codec C) (event : Option Event) (r : Reply) (p : PathState C) → PathFits p → PathFits (happens_if k event r p)
   happens_fits k None r p h = record { a = h.a; b = h.b }
-  happens_fits k (Some (happenings.Joins tick)) r p h =
+  happens_fits k (Some (Event.Joins tick)) r p h =
       begun_fits r (leaves A) (emission A) (record (at_tick tick p) { joined_at = None }) (record { a = h.a; b = h.b })
-  happens_fits k (Some (happenings.Takes line)) r p h =
+  happens_fits k (Some (Event.Takes line)) r p h =
       line_fits line.action (record (at_tick line.tick p) { lines = tail_of p.lines }) (record { a = h.a; b = h.b })
-  happens_fits k (Some (happenings.Arrives due)) r p h =
+  happens_fits k (Some (Event.Arrives due)) r p h =
       copy_fits due.to (heard_in k due.to (arriving due p.link) p) (record (at_tick due.tick p) { link = after_delivery due p.link }) (record { a = h.a; b = h.b })
-  happens_fits k (Some (happenings.Fires s tick)) r p h =
+  happens_fits k (Some (Event.Fires s tick)) r p h =
       side_fits s p _ _ refl refl refl h (fired_fits (payload_size p.profile) (at_tick tick p).clock (end_at s p).tcp (fits_at s p h))
 
   -- ---- replies
@@ -542,7 +360,7 @@ module _ {C : Type 0} where
       let x = fits_at s p h in side_fits s p _ _ refl refl refl h (record { sizes = Every-push _ x.sizes (small grant refl); begun = x.begun })
 
   data_fits : (k : Codec C) (s : Side) (o : Option Record) (r : Reply) (p : PathState C) (x : Ask) → x ≡ data_ask k s o p → GrantsSmall x r p → PathFits p → PathFits (answered_data k s o r p)
-  data_fits k s (Some first) r p x asks small h = side_fits s p _ _ refl refl refl h (sent_fits (payload_size p.profile) to_send.Unsent p.clock (end_at s p).tcp (fits_at s p h))
+  data_fits k s (Some first) r p x asks small h = side_fits s p _ _ refl refl refl h (sent_fits (payload_size p.profile) Occasion.Unsent p.clock (end_at s p).tcp (fits_at s p h))
   data_fits k s None r p x asks small h = grant_fits s (grant_in r) r p (small s asks) h
 
   break_fits : (k : Codec C) (s : Side) (reason : ℕ) (r : Reply) (p : PathState C) → PathFits p → PathFits (answered_break k s reason r p)
@@ -560,14 +378,14 @@ module _ {C : Type 0} where
       record { a = end_fits p.profile q.profile p.a q.a profile both.0 h.a; b = end_fits p.profile q.profile p.b q.b profile both.1 h.b }
 
   heard_fits : (k : Codec C) (s : Side) (item : Heard) (r : Reply) (p : PathState C) → PathFits p → PathFits (answered_heard k s item r p)
-  heard_fits k s (says.DataAck next window) r p h = side_fits s p _ _ refl refl refl h (fits_at s p h)
-  heard_fits k s (says.Mapping fin) r p h = either_fits (is_clash (end_at s p)) _ _ (break_fits k s 1 r p h) (side_fits s p _ _ refl refl refl h (fits_at s p h))
-  heard_fits k s (says.DataFin place) r p h = side_fits s p _ _ refl refl refl h (fits_at s p h)
-  heard_fits k s (says.InfiniteMapping place position) r p h =
+  heard_fits k s (Heard.DataAck next window) r p h = side_fits s p _ _ refl refl refl h (fits_at s p h)
+  heard_fits k s (Heard.Mapping fin) r p h = either_fits (is_clash (end_at s p)) _ _ (break_fits k s 1 r p h) (side_fits s p _ _ refl refl refl h (fits_at s p h))
+  heard_fits k s (Heard.DataFin place) r p h = side_fits s p _ _ refl refl refl h (fits_at s p h)
+  heard_fits k s (Heard.InfiniteMapping place position) r p h =
       side_fits s p _ _ refl refl refl h (infinite_came_so (EndFits (payload_size p.profile)) place position r (end_at s p) (λ other. fits_at s p h))
-  heard_fits k s (says.Keys own peer) r p h = side_fits s p _ _ refl refl refl h (fits_at s p h)
-  heard_fits k s (says.Notice notice) r p h = side_fits s p _ _ refl refl refl h (fits_at s p h)
-  heard_fits k s says.Fail r p h = fail_answered_so PathFits s r p (side_fits s p _ _ refl refl refl h (fits_at s p h)) (side_fits s p _ _ refl refl refl h (fits_at s p h))
+  heard_fits k s (Heard.Keys own peer) r p h = side_fits s p _ _ refl refl refl h (fits_at s p h)
+  heard_fits k s (Heard.Notice notice) r p h = side_fits s p _ _ refl refl refl h (fits_at s p h)
+  heard_fits k s Heard.Fail r p h = fail_answered_so PathFits s r p (side_fits s p _ _ refl refl refl h (fits_at s p h)) (side_fits s p _ _ refl refl refl h (fits_at s p h))
   heard_fits k s _ r p h = record { a = h.a; b = h.b }
 
   items_fit : (k : Codec C) (s : Side) (item : Option Heard) (r : Reply) (p : PathState C) → PathFits p → PathFits (answered_item k s item r p)
@@ -582,27 +400,27 @@ module _ {C : Type 0} where
   joined_fits s None None r p h = record { a = h.a; b = h.b }
 
   answered_fits : (k : Codec C) (d : Duty) (r : Reply) (p : PathState C) (x : Ask) → x ≡ ask_for k d p → GrantsSmall x r p → PathFits p → PathFits (answered k d r p)
-  answered_fits k (duties.Ask ask_duties.JoinAgain) r p x asks small h = begun_fits r (replaced (duties.Ask (ask_duties.Leave A)) p.agenda) (left p) p h
-  answered_fits k (duties.Step (step_duties.Data s)) r p x asks small h = data_fits k s (first_unsent (end_at s p)) r p x asks small h
-  answered_fits k (duties.Send (send_duties.Syn s)) r p x asks small h = side_fits s p _ _ refl refl refl h (sent_fits (payload_size p.profile) to_send.Unsent p.clock (end_at s p).tcp (fits_at s p h))
-  answered_fits k (duties.Send (send_duties.Fin s)) r p x asks small h = side_fits s p _ _ refl refl refl h (fin_fits (payload_size p.profile) p.clock (end_at s p).tcp (fits_at s p h))
-  answered_fits k (duties.Step step_duties.Events) r p x asks small h = happens_fits k (next_event p) r p h
-  answered_fits k (duties.Send (send_duties.SynAck s)) r p x asks small h = side_fits s p _ _ refl refl refl h (sent_fits (payload_size p.profile) to_send.SynAck p.clock (end_at s p).tcp (fits_at s p h))
-  answered_fits k (duties.Ask (ask_duties.JoinHeard s)) r p x asks small h = joined_fits s (keys_begun r) (asked_at s p) r p h
-  answered_fits k (duties.Step (step_duties.Heard s index)) r p x asks small h = items_fit k s (item_of index (end_at s p)) r p h
-  answered_fits k (duties.Step (step_duties.PlainAck s)) r p x asks small h =
+  answered_fits k (Duty.Ask AskDuty.JoinAgain) r p x asks small h = begun_fits r (replaced (Duty.Ask (AskDuty.Leave A)) p.agenda) (left p) p h
+  answered_fits k (Duty.Step (StepDuty.Data s)) r p x asks small h = data_fits k s (first_unsent (end_at s p)) r p x asks small h
+  answered_fits k (Duty.Send (SendDuty.Syn s)) r p x asks small h = side_fits s p _ _ refl refl refl h (sent_fits (payload_size p.profile) Occasion.Unsent p.clock (end_at s p).tcp (fits_at s p h))
+  answered_fits k (Duty.Send (SendDuty.Fin s)) r p x asks small h = side_fits s p _ _ refl refl refl h (fin_fits (payload_size p.profile) p.clock (end_at s p).tcp (fits_at s p h))
+  answered_fits k (Duty.Step StepDuty.Events) r p x asks small h = happens_fits k (next_event p) r p h
+  answered_fits k (Duty.Send (SendDuty.SynAck s)) r p x asks small h = side_fits s p _ _ refl refl refl h (sent_fits (payload_size p.profile) Occasion.SynAck p.clock (end_at s p).tcp (fits_at s p h))
+  answered_fits k (Duty.Ask (AskDuty.JoinHeard s)) r p x asks small h = joined_fits s (keys_begun r) (asked_at s p) r p h
+  answered_fits k (Duty.Step (StepDuty.Heard s index)) r p x asks small h = items_fit k s (item_of index (end_at s p)) r p h
+  answered_fits k (Duty.Step (StepDuty.PlainAck s)) r p x asks small h =
       either_fits (breaks_by_ack p.profile (end_at s p)) _ _ (break_fits k s 6 r p h) (side_fits s p _ _ refl refl refl h (fits_at s p h))
-  answered_fits k (duties.Step (step_duties.Unmapped s)) r p x asks small h = break_fits k s 6 r p h
-  answered_fits k (duties.Send (send_duties.Again s)) r p x asks small h = side_fits s p _ _ refl refl refl h (sent_fits (payload_size p.profile) to_send.First p.clock (end_at s p).tcp (fits_at s p h))
-  answered_fits k (duties.Send (send_duties.Answer s)) r p x asks small h =
+  answered_fits k (Duty.Step (StepDuty.Unmapped s)) r p x asks small h = break_fits k s 6 r p h
+  answered_fits k (Duty.Send (SendDuty.Again s)) r p x asks small h = side_fits s p _ _ refl refl refl h (sent_fits (payload_size p.profile) Occasion.First p.clock (end_at s p).tcp (fits_at s p h))
+  answered_fits k (Duty.Send (SendDuty.Answer s)) r p x asks small h =
       side_fits s p _ _ refl refl refl h (sent_fits (payload_size p.profile) (answer_occasion (end_at s p)) p.clock (end_at s p).tcp (fits_at s p h))
-  answered_fits k (duties.Send (send_duties.Resend s)) r p x asks small h =
+  answered_fits k (Duty.Send (SendDuty.Resend s)) r p x asks small h =
       side_fits s p _ _ refl refl refl h (sent_fits (payload_size p.profile) (resend_occasion (end_at s p)) p.clock (end_at s p).tcp (fits_at s p h))
-  answered_fits k (duties.Send (send_duties.BreakReset s reason)) r p x asks small h = side_fits s p _ _ refl refl refl h (dead_fits (payload_size p.profile) false (end_at s p).tcp (fits_at s p h))
-  answered_fits k (duties.Send (send_duties.Reset s)) r p x asks small h = side_fits s p _ _ refl refl refl h (dead_fits (payload_size p.profile) false (end_at s p).tcp (fits_at s p h))
-  answered_fits k (duties.Send (send_duties.ResetNoted s)) r p x asks small h = side_fits s p _ _ refl refl refl h (dead_fits (payload_size p.profile) false (end_at s p).tcp (fits_at s p h))
-  answered_fits k (duties.Ask (ask_duties.LeaveNoted s)) r p x asks small h = side_fits s p _ _ refl refl refl h (dead_fits (payload_size p.profile) false (end_at s p).tcp (fits_at s p h))
-  answered_fits k (duties.Silent d) r p x asks small h = record { a = h.a; b = h.b }
+  answered_fits k (Duty.Send (SendDuty.BreakReset s reason)) r p x asks small h = side_fits s p _ _ refl refl refl h (dead_fits (payload_size p.profile) false (end_at s p).tcp (fits_at s p h))
+  answered_fits k (Duty.Send (SendDuty.Reset s)) r p x asks small h = side_fits s p _ _ refl refl refl h (dead_fits (payload_size p.profile) false (end_at s p).tcp (fits_at s p h))
+  answered_fits k (Duty.Send (SendDuty.ResetNoted s)) r p x asks small h = side_fits s p _ _ refl refl refl h (dead_fits (payload_size p.profile) false (end_at s p).tcp (fits_at s p h))
+  answered_fits k (Duty.Ask (AskDuty.LeaveNoted s)) r p x asks small h = side_fits s p _ _ refl refl refl h (dead_fits (payload_size p.profile) false (end_at s p).tcp (fits_at s p h))
+  answered_fits k (Duty.Silent d) r p x asks small h = record { a = h.a; b = h.b }
   answered_fits k d r p x asks small h = kept_by (side_of d) (writes d) p _ refl refl refl refl (writes_no_more k d r p) h
 
   answers_fit : (k : Codec C) (ds : List Duty) (r : Reply) (p : PathState C) (x : Ask) → asks_first k ds p ≡ Some x → GrantsSmall x r p → PathFits p → PathFits (answers k ds r p)

@@ -1,34 +1,16 @@
 -- Where the turn of an application is over, it has read all that had arrived without a gap as the round began, or was told of an abort.
-use Rattle.std.proofs.Common.{◌≡◌, refl, sym, ◌∙◌, ap, subst, ℕ, ◌+◌, ◌≤◌, not, ⊎_elim, ◌⊎◌, inl, inr, Bool, true, false, if◌then◌else◌, Option, Some, List, [], ◌∷◌, ◌++◌, length, map, arith}
-use Rattle.std.specs.List.{slice_get}
-use Rattle.sides.specs.declared.side.Side.{Side}
-use Rattle.sides.specs.declared.side.Side.TheVariants.{A, B}
-use Rattle.reassembly_book.specs.declared.call.ReassemblyCall.{ReassemblyCall}
-use Rattle.reassembly_book.specs.declared.call.ReassemblyCall.TheVariants as calls
-use Rattle.reassembly_book.specs.State.{Arriving, received, new_arriving}
+use Rattle.world_laws.proofs.Words.{◌≡◌, refl, sym, ◌∙◌, ap, subst, ℕ, ◌+◌, ◌≤◌, not, inl, inr, ◌⊎◌, ⊎_elim, Bool, true, false, if◌then◌else◌, Option, Some}
+use Rattle.world_laws.proofs.Words.{List, [], ◌∷◌, ◌++◌, length, map, arith, slice_get, Side, A, B, ReassemblyCall, Arriving, received, new_arriving, Duty, Ask}
+use Rattle.world_laws.proofs.Words.{Note, Reply, books_in, SixBooks, reassembly_of, reply_of, after_ask, after_reassembly_call, is_nil, pick, AppDuty, AppState}
+use Rattle.world_laws.proofs.Words.{fresh_turn, start_of_app, app_ask, bytes_in, app_reads_on, app_settled, app_takes, untouched, first_app_turn, AbortReceive}
+use Rattle.world_laws.proofs.Words.{Codec, ask_for, Start, opened_world, WorldState, Turn, all_over, greatest, begins, end_round, world_run, note_of, is_going}
+use Rattle.world_laws.proofs.Words.{BeginsRound, InEachRound, ReadersCaughtUp, notes_of, output_of, read_by}
 use Rattle.reassembly_book.specs.Steps.{after_call, reply_to}
 use Rattle.reassembly_book.proofs.Bounds.{sound-after_call, sound-opened}
 use Rattle.reassembly_book.proofs.Merging.{filled-le}
-use Rattle.actor_desk.specs.declared.ask.Ask.{Ask}
-use Rattle.actor_desk.specs.declared.ask.Ask.TheVariants as asks
-use Rattle.actor_desk.specs.declared.ask.Note.{Note}
-use Rattle.actor_desk.specs.declared.ask.Reply.{Reply}
-use Rattle.actor_desk.specs.declared.ask.Reply.TheVariants as replies
-use Rattle.actor_desk.specs.Books.{books_in}
-use Rattle.actor_desk.specs.Desk.{SixBooks, reassembly_of, reply_of, after_ask, after_reassembly_call}
-use Rattle.actor_desk.specs.Words.{is_nil, pick}
-use Rattle.stream_apps.specs.declared.duty.AppDuty.{AppDuty}
-use Rattle.stream_apps.specs.declared.duty.AppDuty.TheVariants.{FastClose, AbortSend, AbortReceive, Write, Close, Read, End}
-use Rattle.stream_apps.specs.Apps.{AppState}
-use Rattle.stream_apps.specs.AppSteps.{fresh_turn, start_of_app, app_ask, app_reads_on, app_settled, app_takes, bytes_in}
-use Rattle.stream_apps.specs.Starts.{fast_close_of, untouched, first_app_turn}
-use Rattle.path_agenda.specs.declared.duty.Duty.{Duty}
-use Rattle.path_core.specs.Codec.{Codec}
-use Rattle.path_core.specs.Duties.{ask_for}
-use Rattle.world_laws.specs.Openings.{Start, opened_world}
-use Rattle.world_laws.specs.Outcomes.{notes_of, output_of, read_by}
-use Rattle.world_laws.specs.RoundNumbers.{after_steps, BeginsRound, InEachRound, ReadersCaughtUp}
-use Rattle.world_laws.specs.Worlds.{WorldState, Turn, note_of, is_going, all_over, greatest, begins, end_round, world_run}
+use Rattle.stream_apps.specs.declared.duty.AppDuty.TheVariants.{FastClose, AbortSend, Write, Close, Read, End}
+use Rattle.stream_apps.specs.Starts.{fast_close_of}
+use Rattle.world_laws.specs.RoundNumbers.{after_steps}
 use Rattle.world_laws.proofs.Rounds.CatchingUp.{is_read, arrives, aborts, Reading, Ahead, IsThrough, WasStopped, through_more, Caught, settled_caught, grown_caught, noted_reading, read_caught}
 use Rattle.world_laws.proofs.Weaving.Journals.{books_after}
 use Rattle.world_laws.proofs.Asks.OfPaths.{IsPathAsk, path_asks}
@@ -79,7 +61,7 @@ module _ (arrived read : ℕ) (six : SixBooks) (notes : List Note) (n : Note) wh
       quiet ds (record a { agenda = Close ∷ ds }) _ _ is refl refl refl refl (subst (Ahead (Done a)) (sym h.ahead) refl) h
   duty_caught AbortReceive ds a is h =
       let b : Arriving = reassembly_of a.side six in
-      let call : ReassemblyCall = calls.Abort false in
+      let call : ReassemblyCall = ReassemblyCall.Abort false in
       let m : AppState = record a { agenda = AbortReceive ∷ ds } in
       let later = quiet ds m (record m { agenda = ds }) _ is refl refl refl refl (subst (Ahead (Done a)) (sym h.ahead) refl) h in
       subst (Caught arrived read (app_takes (reply_of six (app_ask AbortReceive a)) m) (notes ++ n ∷ [])) (sym (own_after a.side call six))
@@ -88,10 +70,10 @@ module _ (arrived read : ℕ) (six : SixBooks) (notes : List Note) (n : Note) wh
   duty_caught Read ds a is h =
       let b : Arriving = reassembly_of a.side six in
       let m : AppState = record a { agenda = Read ∷ ds } in
-      let call : ReassemblyCall = calls.Read 65536 in
+      let call : ReassemblyCall = ReassemblyCall.Read 65536 in
       subst (Caught arrived read (app_takes (reply_of six (app_ask Read a)) m) (notes ++ n ∷ [])) (sym (own_after a.side call six))
       (read_caught arrived read m notes n b (after_call b call) (reply_to b call) (sound-after_call call b h.reading.sound) (is_read b) is h.reading
-      h.numbers ds h.ahead (app_reads_on (bytes_in (replies.Reassembly (reply_to b call))) m) refl)
+      h.numbers ds h.ahead (app_reads_on (bytes_in (Reply.Reassembly (reply_to b call))) m) refl)
 
   pub step_caught : (d : AppDuty) (ds : List AppDuty) (a : AppState) → a.agenda ≡ d ∷ ds → n.reply ≡ reply_of six (app_ask d a) → Caught arrived read a notes (reassembly_of a.side six)
       → Caught arrived read (app_takes (reply_of six (app_ask d a)) a) (notes ++ n ∷ []) (book_after d a)
@@ -104,40 +86,28 @@ module _ (arrived read : ℕ) (six : SixBooks) (notes : List Note) (n : Note) wh
 
 -- the other application leaves the book
 other_a : (d : AppDuty) (a : AppState) (six : SixBooks) → a.side ≡ B → (after_ask (app_ask d a) six).reassembly_a ≡ six.reassembly_a
-other_a FastClose a six is = refl
-other_a AbortSend a six is = refl
-other_a AbortReceive a six is = ap (λ s. (after_reassembly_call s (calls.Abort false) six).reassembly_a) is
-other_a Write a six is = refl
-other_a Close a six is = refl
-other_a End a six is = refl
-other_a Read a six is = ap (λ s. (after_reassembly_call s (calls.Read 65536) six).reassembly_a) is
+other_a AbortReceive a six is = ap (λ s. (after_reassembly_call s (ReassemblyCall.Abort false) six).reassembly_a) is
+other_a Read a six is = ap (λ s. (after_reassembly_call s (ReassemblyCall.Read 65536) six).reassembly_a) is
+other_a _ a six is = refl
 
 other_b : (d : AppDuty) (a : AppState) (six : SixBooks) → a.side ≡ A → (after_ask (app_ask d a) six).reassembly_b ≡ six.reassembly_b
-other_b FastClose a six is = refl
-other_b AbortSend a six is = refl
-other_b AbortReceive a six is = ap (λ s. (after_reassembly_call s (calls.Abort false) six).reassembly_b) is
-other_b Write a six is = refl
-other_b Close a six is = refl
-other_b End a six is = refl
-other_b Read a six is = ap (λ s. (after_reassembly_call s (calls.Read 65536) six).reassembly_b) is
+other_b AbortReceive a six is = ap (λ s. (after_reassembly_call s (ReassemblyCall.Abort false) six).reassembly_b) is
+other_b Read a six is = ap (λ s. (after_reassembly_call s (ReassemblyCall.Read 65536) six).reassembly_b) is
+other_b _ a six is = refl
 
 -- a path lets it grow
 module _ (arrived read : ℕ) (a : AppState) (notes : List Note) (six : SixBooks) where
   grown_a : (ask : Ask) → IsPathAsk ask → Caught arrived read a notes six.reassembly_a → Caught arrived read a notes (after_ask ask six).reassembly_a
-  grown_a (asks.Reassembly A call) is h =
+  grown_a (Ask.Reassembly A call) is h =
       grown_caught arrived read a notes six.reassembly_a (after_call six.reassembly_a call) (sound-after_call call six.reassembly_a h.reading.sound) (arrives six.reassembly_a call is) h
-  grown_a (asks.Reassembly B call) is h = h
-  grown_a (asks.Send s call) is h = h
-  grown_a (asks.Control s call) is h = h
-  grown_a (asks.Local step) is h = h
+  grown_a (Ask.Reassembly B call) is h = h
+  grown_a _ is h = h
 
   grown_b : (ask : Ask) → IsPathAsk ask → Caught arrived read a notes six.reassembly_b → Caught arrived read a notes (after_ask ask six).reassembly_b
-  grown_b (asks.Reassembly B call) is h =
+  grown_b (Ask.Reassembly B call) is h =
       grown_caught arrived read a notes six.reassembly_b (after_call six.reassembly_b call) (sound-after_call call six.reassembly_b h.reading.sound) (arrives six.reassembly_b call is) h
-  grown_b (asks.Reassembly A call) is h = h
-  grown_b (asks.Send s call) is h = h
-  grown_b (asks.Control s call) is h = h
-  grown_b (asks.Local step) is h = h
+  grown_b (Ask.Reassembly A call) is h = h
+  grown_b _ is h = h
 
 -- ---- the world
 

@@ -1,35 +1,12 @@
 -- A reader ends its turn only where it was told the end, has read enough, or was answered that there is nothing.
-use Rattle.std.proofs.Common.{◌≡◌, refl, sym, ◌∙◌, ap, subst, ℕ, ◌+◌, ◌≤◌, ◌||◌, not, nat_lt, ⊎_elim, Bool, true, false, if◌then◌else◌, Some, Option, List, [], ◌∷◌, ◌++◌, length, arith}
-use Rattle.std.proofs.lemmas.Bool.{and_cases, ltb-false, not-false}
-use Rattle.std.proofs.lemmas.List.{append_assoc}
-use Rattle.std.proofs.lemmas.Option.{same_Some}
-use Rattle.sides.specs.declared.side.Side.{Side}
-use Rattle.sides.specs.declared.side.Side.TheVariants.{A, B}
-use Rattle.reassembly_book.specs.declared.call.ReassemblyCall.TheVariants as reassembly_calls
-use Rattle.reassembly_book.specs.declared.call.ReassemblyReply.{ReassemblyReply}
-use Rattle.reassembly_book.specs.declared.call.ReassemblyReply.TheVariants as reassembly_replies
-use Rattle.stream_lanes.specs.Words.{Every}
-use Rattle.actor_desk.specs.declared.ask.Ask.{Ask}
-use Rattle.actor_desk.specs.declared.ask.Ask.TheVariants as asks
-use Rattle.actor_desk.specs.declared.ask.Note.{Note}
-use Rattle.actor_desk.specs.declared.ask.Reply.{Reply}
-use Rattle.actor_desk.specs.declared.ask.Reply.TheVariants as replies
-use Rattle.actor_desk.specs.Books.{StampedBooks, books_in}
-use Rattle.actor_desk.specs.Kinds.{IsReassemblyKind}
-use Rattle.actor_desk.specs.Words.{is_nil}
-use Rattle.stream_apps.specs.declared.duty.AppDuty.{AppDuty}
-use Rattle.stream_apps.specs.declared.duty.AppDuty.TheVariants.{FastClose, AbortSend, AbortReceive, Write, Close, Read, End}
-use Rattle.stream_apps.specs.Apps.{AppState}
-use Rattle.stream_apps.specs.AppSteps.{fresh_turn, start_of_app, app_stands, app_ask, app_asks_first, bytes_in, ends_in, app_reads_on, app_answered, app_answers, app_settled, app_settles_down}
-use Rattle.stream_apps.specs.Starts.{fast_close_of, untouched, first_app_turn}
-use Rattle.path_core.specs.Codec.{Codec}
-use Rattle.world_laws.specs.declared.member.Member.TheVariants.{App, Path}
-use Rattle.world_laws.specs.Actors.{Actor, ActorCrew, member_asks, member_takes, member_next}
-use Rattle.world_laws.specs.Laws.{Always}
-use Rattle.world_laws.specs.Openings.{opened_world}
-use Rattle.world_laws.specs.RoundEnd.{IsReaderDone, IsDoneReading, ReadersAreDone}
-use Rattle.world_laws.specs.StampedBooks.{answer_to}
-use Rattle.world_laws.specs.Worlds.{note_of, world_run}
+use Rattle.world_laws.proofs.Words.{◌≡◌, refl, sym, ◌∙◌, ap, subst, ℕ, ◌+◌, ◌≤◌, ◌||◌, not, nat_lt, ⊎_elim, Bool, true, false, if◌then◌else◌, Option, Some}
+use Rattle.world_laws.proofs.Words.{List, [], ◌∷◌, ◌++◌, length, arith, ltb-false, and_cases, not-false, append_assoc, same_Some, Side, A, B, ReassemblyCall}
+use Rattle.world_laws.proofs.Words.{ReassemblyReply, Ask, Note, Reply, StampedBooks, books_in, is_nil, IsReassemblyKind, AppDuty, AppState, fresh_turn}
+use Rattle.world_laws.proofs.Words.{start_of_app, app_stands, app_ask, app_asks_first, bytes_in, ends_in, app_reads_on, app_answered, app_answers, app_settled}
+use Rattle.world_laws.proofs.Words.{app_settles_down, untouched, first_app_turn, AbortReceive, Codec, Every, App, Path, Actor, ActorCrew, member_asks}
+use Rattle.world_laws.proofs.Words.{member_takes, member_next, Always, opened_world, world_run, note_of, answer_to, IsReaderDone, IsDoneReading, ReadersAreDone}
+use Rattle.stream_apps.specs.declared.duty.AppDuty.TheVariants.{FastClose, AbortSend, Write, Close, Read, End}
+use Rattle.stream_apps.specs.Starts.{fast_close_of}
 use Rattle.world_laws.proofs.Rounds.Lifting.{run_lifted, opened_lifted}
 use Rattle.world_laws.proofs.Rounds.ReplyKinds.{reassembly_kind}
 
@@ -40,7 +17,7 @@ pub record LastIsNone (notes : List Note) : Type 0 where
   pub earlier : List Note
   pub read : Note
   pub parts : notes ≡ earlier ++ read ∷ []
-  pub none : read.reply ≡ replies.Reassembly reassembly_replies.NoneYet
+  pub none : read.reply ≡ Reply.Reassembly ReassemblyReply.NoneYet
 
 pub data HasRead (a : AppState) (notes : List Note) : Type 0 where
   Told : a.told ≡ true → HasRead a notes
@@ -70,24 +47,15 @@ same_done ds a notes (IsReaderDone.Enough most) = IsReaderDone.Enough most
 same_done ds a notes (IsReaderDone.Nothing last) = IsReaderDone.Nothing last
 
 same_ready : (d : AppDuty) (ds es : List AppDuty) (a : AppState) (notes : List Note) → Ready (d ∷ ds) a notes → Ready (d ∷ ds) (record a { agenda = es }) notes
-same_ready FastClose ds es a notes h = h
-same_ready AbortSend ds es a notes h = h
-same_ready AbortReceive ds es a notes h = h
-same_ready Write ds es a notes h = h
-same_ready Close ds es a notes h = h
-same_ready Read ds es a notes h = h
 same_ready End ds es a notes h = (h.0, same_read es a notes h.1)
+same_ready _ ds es a notes h = h
 
 -- ---- settling
 
 passed_ready : (d : AppDuty) (ds : List AppDuty) (a : AppState) (notes : List Note) → app_stands d a ≡ false → Ready (d ∷ ds) a notes → Ready ds a notes
-passed_ready FastClose ds a notes none h = subst (λ xs. Ready xs a notes) (sym h) refl
-passed_ready AbortSend ds a notes none h = subst (λ xs. Ready xs a notes) (sym h) refl
-passed_ready AbortReceive ds a notes none h = subst (λ xs. Ready xs a notes) (sym h) refl
-passed_ready Write ds a notes none h = subst (λ xs. Ready xs a notes) (sym h) refl
-passed_ready Close ds a notes none h = subst (λ xs. Ready xs a notes) (sym h) refl
 passed_ready Read ds a notes none h = subst (λ xs. Ready xs a notes) (sym h) (refl, HasRead.Told (not-false a.told none))
 passed_ready End ds a notes none h = cc
+passed_ready _ ds a notes none h = subst (λ xs. Ready xs a notes) (sym h) refl
 
 settled_ready : (ds : List AppDuty) (a : AppState) (notes : List Note) → Ready ds a notes → Ready (app_settled ds a).agenda (app_settled ds a) notes
 settled_ready [] a notes h = same_done [] a notes h
@@ -109,22 +77,17 @@ some_there [] some is = omega (arith, some)
 some_there (byte ∷ bytes) some is = cc
 
 -- after a reply that ends the reading
-read_ends : (a : AppState) (ds : List AppDuty) (notes : List Note) (n : Note) (max : ℕ) (r : ReassemblyReply) → n.reply ≡ replies.Reassembly r → IsReassemblyKind (reassembly_calls.Read max) r
-    → app_reads_on (bytes_in (replies.Reassembly r)) a ≡ false
-    → HasRead (record a { count = a.count + length (bytes_in (replies.Reassembly r)); told = a.told || ends_in (replies.Reassembly r); agenda = ds }) (notes ++ n ∷ [])
-read_ends a ds notes n max (reassembly_replies.Bytes bytes) is kind stops = HasRead.Enough (⊎_elim
+read_ends : (a : AppState) (ds : List AppDuty) (notes : List Note) (n : Note) (max : ℕ) (r : ReassemblyReply) → n.reply ≡ Reply.Reassembly r → IsReassemblyKind (ReassemblyCall.Read max) r
+    → app_reads_on (bytes_in (Reply.Reassembly r)) a ≡ false
+    → HasRead (record a { count = a.count + length (bytes_in (Reply.Reassembly r)); told = a.told || ends_in (Reply.Reassembly r); agenda = ds }) (notes ++ n ∷ [])
+read_ends a ds notes n max (ReassemblyReply.Bytes bytes) is kind stops = HasRead.Enough (⊎_elim
     (λ nil. absurd (some_there bytes kind.some nil))
     (λ full. ltb-false (a.count + length bytes) a.buffer full)
     (and_cases (not (is_nil bytes)) (nat_lt (a.count + length bytes) a.buffer) stops))
-read_ends a ds notes n max reassembly_replies.End is kind stops = HasRead.Told (or_true a.told)
-read_ends a ds notes n max (reassembly_replies.Aborted by_peer) is kind stops = HasRead.Told (or_true a.told)
-read_ends a ds notes n max reassembly_replies.NoneYet is kind stops = HasRead.Nothing (record { earlier = notes; read = n; parts = refl; none = is })
-read_ends a ds notes n max (reassembly_replies.Placed count) is kind stops = absurd kind
-read_ends a ds notes n max (reassembly_replies.Beyond edge) is kind stops = absurd kind
-read_ends a ds notes n max reassembly_replies.FinSet is kind stops = absurd kind
-read_ends a ds notes n max (reassembly_replies.FinClash fin at) is kind stops = absurd kind
-read_ends a ds notes n max (reassembly_replies.Ack next window) is kind stops = absurd kind
-read_ends a ds notes n max reassembly_replies.Noted is kind stops = absurd kind
+read_ends a ds notes n max ReassemblyReply.End is kind stops = HasRead.Told (or_true a.told)
+read_ends a ds notes n max (ReassemblyReply.Aborted by_peer) is kind stops = HasRead.Told (or_true a.told)
+read_ends a ds notes n max ReassemblyReply.NoneYet is kind stops = HasRead.Nothing (record { earlier = notes; read = n; parts = refl; none = is })
+read_ends a ds notes n max _ is kind stops = absurd kind
 
 -- the turn's end is one step more
 ended : (a : AppState) (ds : List AppDuty) (notes : List Note) (n : Note) → HasRead a notes → IsReaderDone (record a { agenda = ds }) (notes ++ n ∷ [])
@@ -142,16 +105,16 @@ ended a ds notes n (HasRead.Nothing last) = IsReaderDone.Nothing (record {
 
 -- what a book answers to a read
 abbrev pub IsAnswered : AppDuty → Reply → Type 0
-IsAnswered Read r = (x : ReassemblyReply) × (r ≡ replies.Reassembly x) × IsReassemblyKind (reassembly_calls.Read 65536) x
+IsAnswered Read r = (x : ReassemblyReply) × (r ≡ Reply.Reassembly x) × IsReassemblyKind (ReassemblyCall.Read 65536) x
 IsAnswered _ r = Unit {0}
 
-read_ready : (ds : List AppDuty) (a : AppState) (notes : List Note) (n : Note) (x : ReassemblyReply) → n.reply ≡ replies.Reassembly x → IsReassemblyKind (reassembly_calls.Read 65536) x → ds ≡ End ∷ []
-    → (b : Bool) → app_reads_on (bytes_in (replies.Reassembly x)) a ≡ b
+read_ready : (ds : List AppDuty) (a : AppState) (notes : List Note) (n : Note) (x : ReassemblyReply) → n.reply ≡ Reply.Reassembly x → IsReassemblyKind (ReassemblyCall.Read 65536) x → ds ≡ End ∷ []
+    → (b : Bool) → app_reads_on (bytes_in (Reply.Reassembly x)) a ≡ b
     → Ready (if b then Read ∷ ds else ds)
-    (record a { count = a.count + length (bytes_in (replies.Reassembly x)); told = a.told || ends_in (replies.Reassembly x); agenda = (if b then Read ∷ ds else ds) }) (notes ++ n ∷ [])
+    (record a { count = a.count + length (bytes_in (Reply.Reassembly x)); told = a.told || ends_in (Reply.Reassembly x); agenda = (if b then Read ∷ ds else ds) }) (notes ++ n ∷ [])
 read_ready ds a notes n x is kind then_end true on = then_end
 read_ready ds a notes n x is kind then_end false on =
-    subst (λ xs. Ready xs (record a { count = a.count + length (bytes_in (replies.Reassembly x)); told = a.told || ends_in (replies.Reassembly x); agenda = ds }) (notes ++ n ∷ [])) (sym then_end)
+    subst (λ xs. Ready xs (record a { count = a.count + length (bytes_in (Reply.Reassembly x)); told = a.told || ends_in (Reply.Reassembly x); agenda = ds }) (notes ++ n ∷ [])) (sym then_end)
     (refl, read_ends a ds notes n 65536 x is kind on)
 
 answered_ready : (d : AppDuty) (ds : List AppDuty) (a : AppState) (notes : List Note) (n : Note) (r : Reply) → n.reply ≡ r → IsAnswered d r → Ready (d ∷ ds) (record a { agenda = d ∷ ds }) notes
@@ -164,7 +127,7 @@ answered_ready Close ds a notes n r is answer h = subst (λ xs. Ready xs (app_an
 answered_ready Read ds a notes n r is answer h =
     let x = answer.0 in
     subst (λ y. Ready (app_answered Read y (record a { agenda = Read ∷ ds })).agenda (app_answered Read y (record a { agenda = Read ∷ ds })) (notes ++ n ∷ [])) (sym answer.1)
-    (read_ready ds (record a { agenda = Read ∷ ds }) notes n x (is ∙ answer.1) answer.2 h (app_reads_on (bytes_in (replies.Reassembly x)) a) refl)
+    (read_ready ds (record a { agenda = Read ∷ ds }) notes n x (is ∙ answer.1) answer.2 h (app_reads_on (bytes_in (Reply.Reassembly x)) a) refl)
 answered_ready End ds a notes n r is answer h = ended (record a { agenda = End ∷ ds }) [] notes n h.1
 
 takes_ready : (a : AppState) (notes : List Note) (n : Note) (r : Reply) (ds : List AppDuty) → a.agenda ≡ ds → n.reply ≡ r
@@ -176,18 +139,13 @@ takes_ready a notes n r (d ∷ ds) agenda is answers x asks h =
     settled_ready m.agenda m (notes ++ n ∷ []) (answered_ready d ds a notes n r is (answers d ds refl) h)
 
 -- a book answers a read so
-read_answered : (books : StampedBooks) (s : Side) → IsAnswered Read (answer_to books (asks.Reassembly s (reassembly_calls.Read 65536)))
-read_answered books A = (_, refl, reassembly_kind (books_in books).reassembly_a (reassembly_calls.Read 65536))
-read_answered books B = (_, refl, reassembly_kind (books_in books).reassembly_b (reassembly_calls.Read 65536))
+read_answered : (books : StampedBooks) (s : Side) → IsAnswered Read (answer_to books (Ask.Reassembly s (ReassemblyCall.Read 65536)))
+read_answered books A = (_, refl, reassembly_kind (books_in books).reassembly_a (ReassemblyCall.Read 65536))
+read_answered books B = (_, refl, reassembly_kind (books_in books).reassembly_b (ReassemblyCall.Read 65536))
 
 duty_answered : (books : StampedBooks) (a : AppState) (d : AppDuty) → IsAnswered d (answer_to books (app_ask d a))
-duty_answered books a FastClose = tt
-duty_answered books a AbortSend = tt
-duty_answered books a AbortReceive = tt
-duty_answered books a Write = tt
-duty_answered books a Close = tt
 duty_answered books a Read = read_answered books a.side
-duty_answered books a End = tt
+duty_answered books a _ = tt
 
 first_ready : (s : Side) (buffer : ℕ) (file : List ℕ) (tick : Option ℕ) → Ready (first_app_turn s buffer file tick).agenda (first_app_turn s buffer file tick) []
 first_ready s buffer file tick =

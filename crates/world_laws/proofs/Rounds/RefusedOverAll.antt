@@ -1,55 +1,26 @@
 -- Where the turn of a path is over, an end that may ask for bytes was refused over all that was written as the round began.
-use Rattle.std.proofs.Common.{◌≡◌, refl, sym, ◌∙◌, ap, subst, ℕ, ◌+◌, ◌≤◌, not, nat_lt, ◌||◌, inl, Bool, true, false, if◌then◌else◌, Option, Some, None, List, [], ◌∷◌, ◌++◌, arith}
-use Rattle.std.proofs.lemmas.Bool.{and_parts, false≢true, ltb-false}
-use Rattle.std.specs.List.{count_by}
-use Rattle.sides.specs.declared.side.Side.{Side}
-use Rattle.sides.specs.declared.side.Side.TheVariants.{A, B}
-use Rattle.sides.specs.Side.{peer}
-use Rattle.send_book.specs.declared.call.SendCall.{SendCall}
-use Rattle.send_book.specs.declared.call.SendCall.TheVariants as send_calls
-use Rattle.send_book.specs.State.{Sending}
-use Rattle.send_book.specs.Marks.{is_held_by}
+use Rattle.world_laws.proofs.Words.{◌≡◌, refl, sym, ◌∙◌, ap, subst, ℕ, ◌+◌, ◌≤◌, ◌||◌, not, nat_lt, inl, Bool, true, false, if◌then◌else◌, Option, Some, None}
+use Rattle.world_laws.proofs.Words.{List, [], ◌∷◌, ◌++◌, arith, and_parts, false≢true, ltb-false, count_by, Side, A, B, peer, SendCall, Sending, is_held_by}
+use Rattle.world_laws.proofs.Words.{Record, Duty, SendDuty, StepDuty, AskDuty, SilentDuty, Ask, Note, Reply, SixBooks, send_of, reply_of, after_ask}
+use Rattle.world_laws.proofs.Words.{after_send_call, AppDuty, AppState, app_ask, offered, Codec, ask_for, answered, PathState, end_at, with_agenda, path_of}
+use Rattle.world_laws.proofs.Words.{takes, answered_data, answered_grant, first_unsent, grant_in, data_ask, grant_ask, item_of, identity_ask, asks_grant}
+use Rattle.world_laws.proofs.Words.{frees_bytes, AskedForAll, is_standby}
 use Rattle.send_book.specs.Steps.{reply_to, after_call}
-use Rattle.subflow_send.specs.Records.{Record}
-use Rattle.actor_desk.specs.declared.ask.Ask.{Ask}
-use Rattle.actor_desk.specs.declared.ask.Ask.TheVariants as asks
-use Rattle.actor_desk.specs.declared.ask.Note.{Note}
-use Rattle.actor_desk.specs.declared.ask.Reply.{Reply}
-use Rattle.actor_desk.specs.declared.ask.Reply.TheVariants as replies
-use Rattle.actor_desk.specs.Desk.{SixBooks, send_of, reply_of, after_ask, after_send_call}
-use Rattle.stream_apps.specs.declared.duty.AppDuty.{AppDuty}
-use Rattle.stream_apps.specs.declared.duty.AppDuty.TheVariants as app_duties
-use Rattle.stream_apps.specs.Apps.{AppState}
-use Rattle.stream_apps.specs.AppSteps.{app_ask, offered}
-use Rattle.path_agenda.specs.declared.duty.Duty.{Duty}
-use Rattle.path_agenda.specs.declared.duty.Duty.TheVariants as duties
-use Rattle.path_agenda.specs.declared.duty.AskDuty.TheVariants as ask_duties
-use Rattle.path_agenda.specs.declared.duty.SendDuty.TheVariants as send_duties
-use Rattle.path_agenda.specs.declared.duty.SilentDuty.TheVariants as silent_duties
-use Rattle.path_agenda.specs.declared.duty.StepDuty.TheVariants as step_duties
-use Rattle.path_core.specs.Codec.{Codec}
-use Rattle.path_core.specs.Duties.{ask_for, answered}
-use Rattle.path_core.specs.Emission.{first_unsent, Grant, grant_in, grant_ask, answered_grant, answered_data, data_ask}
-use Rattle.path_core.specs.State.{PathState, end_at, with_agenda, path_of}
-use Rattle.path_core.specs.Steps.{takes}
-use Rattle.path_core.specs.Treating.{item_of}
-use Rattle.world_laws.specs.RoundEnd.{asks_grant}
-use Rattle.world_laws.specs.RoundNumbers.{is_standby, frees_bytes, AskedForAll}
+use Rattle.path_core.specs.Emission.{Grant}
 use Rattle.world_laws.proofs.Asks.SendBooks.{IsOnes, IsQuiet, ones_after, all_after, all_acknowledged, all_returned, ones_other, all_other, grant_refused, asked_more, FallsSo, all_gone}
 use Rattle.world_laws.proofs.Asks.OfPaths.{IsCallOf, IsQuietAsk, IsHeardAsk, IsQuietDuty, quiet_asks, heard_asks, subflow_asks}
 use Rattle.world_laws.proofs.Rounds.GrantAtOneDuty.{MayNotAsk, ask_isn't, asks_none}
 use Rattle.world_laws.proofs.Rounds.EndsRefused.{Pays, Granting, needs, is_followed, is_owed, settled_done, data_sent, granted_done, refused_done, answered_done}
-use Rattle.path_core.specs.Fallback.{identity_ask}
 
 -- an acknowledgement by which the window reaches past this edge, or a return of some bytes
 abbrev is_freeing : ℕ → Sending → SendCall → Bool
-is_freeing edge b (send_calls.AckIn next window) = nat_lt edge (next + window)
-is_freeing edge b (send_calls.Return path) = nat_lt 0 (count_by (is_held_by path) b.marks)
+is_freeing edge b (SendCall.AckIn next window) = nat_lt edge (next + window)
+is_freeing edge b (SendCall.Return path) = nat_lt 0 (count_by (is_held_by path) b.marks)
 is_freeing edge b _ = false
 
 -- what is asked of a send book, where it falls back
 abbrev pub FallsAsk : SixBooks → Ask → Type 0
-FallsAsk six (asks.Send s call) = FallsSo (send_of s six) call
+FallsAsk six (Ask.Send s call) = FallsSo (send_of s six) call
 FallsAsk six _ = Unit {0}
 
 -- ---- one side's book in a round
@@ -63,19 +34,19 @@ module _ (path written : ℕ) (s : Side) where
   -- a call that is neither grant nor acknowledgement
   quiet_side : (steps : List Note) (refused freed : Bool) (b : Sending) (call : SendCall) → IsQuiet path call → FallsSo b call → SideAsks path written s steps refused freed b
       → SideAsks path written s steps refused freed (after_call b call)
-  quiet_side steps refused freed b (send_calls.Write bytes) is falls h =
-      record { ones = ones_after path written b h.ones (send_calls.Write bytes) tt; all = λ on alone. all_after path written b h.ones s steps (send_calls.Write bytes) tt falls (h.all on alone) }
-  quiet_side steps refused freed b send_calls.Close is falls h =
-      record { ones = ones_after path written b h.ones send_calls.Close tt; all = λ on alone. all_after path written b h.ones s steps send_calls.Close tt falls (h.all on alone) }
-  quiet_side steps refused freed b (send_calls.Return asker) is falls h =
-      record { ones = ones_after path written b h.ones (send_calls.Return asker) tt; all = λ on alone. all_after path written b h.ones s steps (send_calls.Return asker) is falls (h.all on alone) }
-  quiet_side steps refused freed b (send_calls.Grant asker max standby) is falls h = absurd is
-  quiet_side steps refused freed b (send_calls.AckIn next window) is falls h = absurd is
-  quiet_side steps refused freed b send_calls.GoIdentity is falls h =
-      record { ones = ones_after path written b h.ones send_calls.GoIdentity tt; all = λ on alone. all_after path written b h.ones s steps send_calls.GoIdentity tt falls (h.all on alone) }
-  quiet_side steps refused freed b (send_calls.GoInfinite asker) is falls h = absurd is
-  quiet_side steps refused freed b send_calls.Abort is falls h =
-      record { ones = ones_after path written b h.ones send_calls.Abort tt; all = λ on alone. all_after path written b h.ones s steps send_calls.Abort tt falls (h.all on alone) }
+  quiet_side steps refused freed b (SendCall.Write bytes) is falls h =
+      record { ones = ones_after path written b h.ones (SendCall.Write bytes) tt; all = λ on alone. all_after path written b h.ones s steps (SendCall.Write bytes) tt falls (h.all on alone) }
+  quiet_side steps refused freed b SendCall.Close is falls h =
+      record { ones = ones_after path written b h.ones SendCall.Close tt; all = λ on alone. all_after path written b h.ones s steps SendCall.Close tt falls (h.all on alone) }
+  quiet_side steps refused freed b (SendCall.Return asker) is falls h =
+      record { ones = ones_after path written b h.ones (SendCall.Return asker) tt; all = λ on alone. all_after path written b h.ones s steps (SendCall.Return asker) is falls (h.all on alone) }
+  quiet_side steps refused freed b (SendCall.Grant asker max standby) is falls h = absurd is
+  quiet_side steps refused freed b (SendCall.AckIn next window) is falls h = absurd is
+  quiet_side steps refused freed b SendCall.GoIdentity is falls h =
+      record { ones = ones_after path written b h.ones SendCall.GoIdentity tt; all = λ on alone. all_after path written b h.ones s steps SendCall.GoIdentity tt falls (h.all on alone) }
+  quiet_side steps refused freed b (SendCall.GoInfinite asker) is falls h = absurd is
+  quiet_side steps refused freed b SendCall.Abort is falls h =
+      record { ones = ones_after path written b h.ones SendCall.Abort tt; all = λ on alone. all_after path written b h.ones s steps SendCall.Abort tt falls (h.all on alone) }
 
   noted_side : (steps : List Note) (n : Note) (refused freed : Bool) (b : Sending) → asks_grant s n.ask ≡ false → SideAsks path written s steps refused freed b
       → SideAsks path written s (steps ++ n ∷ []) refused freed b
@@ -85,46 +56,40 @@ module _ (path written : ℕ) (s : Side) where
 
 module _ (path written : ℕ) (steps : List Note) (refused freed : Bool) (a : AppState) (six : SixBooks) where
   pub own_a : (d : AppDuty) → a.side ≡ A → SideAsks path written A steps refused freed six.send_a → SideAsks path written A steps refused freed (after_ask (app_ask d a) six).send_a
-  own_a app_duties.FastClose is h = h
-  own_a app_duties.AbortSend is h =
-      subst (λ s. SideAsks path written A steps refused freed (after_send_call s send_calls.Abort six).send_a) (sym is) (quiet_side path written A steps refused freed six.send_a send_calls.Abort tt tt h)
-  own_a app_duties.AbortReceive is h = h
-  own_a app_duties.Write is h =
-      subst (λ s. SideAsks path written A steps refused freed (after_send_call s (send_calls.Write (offered a)) six).send_a) (sym is) (quiet_side path written A steps refused freed six.send_a (send_calls.Write (offered a)) tt tt h)
-  own_a app_duties.Close is h =
-      subst (λ s. SideAsks path written A steps refused freed (after_send_call s send_calls.Close six).send_a) (sym is) (quiet_side path written A steps refused freed six.send_a send_calls.Close tt tt h)
-  own_a app_duties.Read is h = h
-  own_a app_duties.End is h = h
+  own_a AppDuty.FastClose is h = h
+  own_a AppDuty.AbortSend is h =
+      subst (λ s. SideAsks path written A steps refused freed (after_send_call s SendCall.Abort six).send_a) (sym is) (quiet_side path written A steps refused freed six.send_a SendCall.Abort tt tt h)
+  own_a AppDuty.AbortReceive is h = h
+  own_a AppDuty.Write is h =
+      subst (λ s. SideAsks path written A steps refused freed (after_send_call s (SendCall.Write (offered a)) six).send_a) (sym is) (quiet_side path written A steps refused freed six.send_a (SendCall.Write (offered a)) tt tt h)
+  own_a AppDuty.Close is h =
+      subst (λ s. SideAsks path written A steps refused freed (after_send_call s SendCall.Close six).send_a) (sym is) (quiet_side path written A steps refused freed six.send_a SendCall.Close tt tt h)
+  own_a AppDuty.Read is h = h
+  own_a AppDuty.End is h = h
 
   pub own_b : (d : AppDuty) → a.side ≡ B → SideAsks path written B steps refused freed six.send_b → SideAsks path written B steps refused freed (after_ask (app_ask d a) six).send_b
-  own_b app_duties.FastClose is h = h
-  own_b app_duties.AbortSend is h =
-      subst (λ s. SideAsks path written B steps refused freed (after_send_call s send_calls.Abort six).send_b) (sym is) (quiet_side path written B steps refused freed six.send_b send_calls.Abort tt tt h)
-  own_b app_duties.AbortReceive is h = h
-  own_b app_duties.Write is h =
-      subst (λ s. SideAsks path written B steps refused freed (after_send_call s (send_calls.Write (offered a)) six).send_b) (sym is) (quiet_side path written B steps refused freed six.send_b (send_calls.Write (offered a)) tt tt h)
-  own_b app_duties.Close is h =
-      subst (λ s. SideAsks path written B steps refused freed (after_send_call s send_calls.Close six).send_b) (sym is) (quiet_side path written B steps refused freed six.send_b send_calls.Close tt tt h)
-  own_b app_duties.Read is h = h
-  own_b app_duties.End is h = h
+  own_b AppDuty.FastClose is h = h
+  own_b AppDuty.AbortSend is h =
+      subst (λ s. SideAsks path written B steps refused freed (after_send_call s SendCall.Abort six).send_b) (sym is) (quiet_side path written B steps refused freed six.send_b SendCall.Abort tt tt h)
+  own_b AppDuty.AbortReceive is h = h
+  own_b AppDuty.Write is h =
+      subst (λ s. SideAsks path written B steps refused freed (after_send_call s (SendCall.Write (offered a)) six).send_b) (sym is) (quiet_side path written B steps refused freed six.send_b (SendCall.Write (offered a)) tt tt h)
+  own_b AppDuty.Close is h =
+      subst (λ s. SideAsks path written B steps refused freed (after_send_call s SendCall.Close six).send_b) (sym is) (quiet_side path written B steps refused freed six.send_b SendCall.Close tt tt h)
+  own_b AppDuty.Read is h = h
+  own_b AppDuty.End is h = h
 
   pub other_a : (d : AppDuty) → a.side ≡ B → SideAsks path written A steps refused freed six.send_a → SideAsks path written A steps refused freed (after_ask (app_ask d a) six).send_a
-  other_a app_duties.FastClose is h = h
-  other_a app_duties.AbortSend is h = subst (λ s. SideAsks path written A steps refused freed (after_send_call s send_calls.Abort six).send_a) (sym is) h
-  other_a app_duties.AbortReceive is h = h
-  other_a app_duties.Write is h = subst (λ s. SideAsks path written A steps refused freed (after_send_call s (send_calls.Write (offered a)) six).send_a) (sym is) h
-  other_a app_duties.Close is h = subst (λ s. SideAsks path written A steps refused freed (after_send_call s send_calls.Close six).send_a) (sym is) h
-  other_a app_duties.Read is h = h
-  other_a app_duties.End is h = h
+  other_a AppDuty.AbortSend is h = subst (λ s. SideAsks path written A steps refused freed (after_send_call s SendCall.Abort six).send_a) (sym is) h
+  other_a AppDuty.Write is h = subst (λ s. SideAsks path written A steps refused freed (after_send_call s (SendCall.Write (offered a)) six).send_a) (sym is) h
+  other_a AppDuty.Close is h = subst (λ s. SideAsks path written A steps refused freed (after_send_call s SendCall.Close six).send_a) (sym is) h
+  other_a _ is h = h
 
   pub other_b : (d : AppDuty) → a.side ≡ A → SideAsks path written B steps refused freed six.send_b → SideAsks path written B steps refused freed (after_ask (app_ask d a) six).send_b
-  other_b app_duties.FastClose is h = h
-  other_b app_duties.AbortSend is h = subst (λ s. SideAsks path written B steps refused freed (after_send_call s send_calls.Abort six).send_b) (sym is) h
-  other_b app_duties.AbortReceive is h = h
-  other_b app_duties.Write is h = subst (λ s. SideAsks path written B steps refused freed (after_send_call s (send_calls.Write (offered a)) six).send_b) (sym is) h
-  other_b app_duties.Close is h = subst (λ s. SideAsks path written B steps refused freed (after_send_call s send_calls.Close six).send_b) (sym is) h
-  other_b app_duties.Read is h = h
-  other_b app_duties.End is h = h
+  other_b AppDuty.AbortSend is h = subst (λ s. SideAsks path written B steps refused freed (after_send_call s SendCall.Abort six).send_b) (sym is) h
+  other_b AppDuty.Write is h = subst (λ s. SideAsks path written B steps refused freed (after_send_call s (SendCall.Write (offered a)) six).send_b) (sym is) h
+  other_b AppDuty.Close is h = subst (λ s. SideAsks path written B steps refused freed (after_send_call s SendCall.Close six).send_b) (sym is) h
+  other_b _ is h = h
 
 -- ---- both sides' books, and what is ahead on the path
 
@@ -160,128 +125,106 @@ module _ (path written_a written_b : ℕ) (steps : List Note) (n : Note) (refuse
   module _ (isn't : (t : Side) → asks_grant t n.ask ≡ false) where
     -- an ask that is neither grant nor acknowledgement
     -- it is no fallback
-    quiet_is : (s : Side) (call : SendCall) → IsQuietAsk path (asks.Send s call) → IsQuiet path call
-    quiet_is s (send_calls.Write bytes) is = is
-    quiet_is s send_calls.Close is = is
-    quiet_is s (send_calls.Grant asker max standby) is = is
-    quiet_is s (send_calls.AckIn next window) is = is
-    quiet_is s (send_calls.Return asker) is = is
-    quiet_is s send_calls.GoIdentity is = absurd is
-    quiet_is s (send_calls.GoInfinite asker) is = is
-    quiet_is s send_calls.Abort is = is
+    quiet_is : (s : Side) (call : SendCall) → IsQuietAsk path (Ask.Send s call) → IsQuiet path call
+    quiet_is s SendCall.GoIdentity is = absurd is
+    quiet_is s _ is = is
 
-    quiet_falls : (s : Side) (b : Sending) (call : SendCall) → IsQuietAsk path (asks.Send s call) → FallsSo b call
-    quiet_falls s b (send_calls.Write bytes) is = tt
-    quiet_falls s b send_calls.Close is = tt
-    quiet_falls s b (send_calls.Grant asker max standby) is = tt
-    quiet_falls s b (send_calls.AckIn next window) is = tt
-    quiet_falls s b (send_calls.Return asker) is = tt
-    quiet_falls s b send_calls.GoIdentity is = absurd is
-    quiet_falls s b (send_calls.GoInfinite asker) is = tt
-    quiet_falls s b send_calls.Abort is = tt
+    quiet_falls : (s : Side) (b : Sending) (call : SendCall) → IsQuietAsk path (Ask.Send s call) → FallsSo b call
+    quiet_falls s b SendCall.GoIdentity is = absurd is
+    quiet_falls s b _ is = tt
 
     quiet_both : (ask : Ask) → IsQuietAsk path ask → Asks refused freed (after_ask ask six)
-    quiet_both (asks.Send A call) is = record {
+    quiet_both (Ask.Send A call) is = record {
       a = quiet_side path written_a A (steps ++ n ∷ []) (refused A) (freed A) six.send_a call (quiet_is A call is) (quiet_falls A six.send_a call is) (noted_a (isn't A));
       b = noted_b (isn't B);
     }
-    quiet_both (asks.Send B call) is = record {
+    quiet_both (Ask.Send B call) is = record {
       a = noted_a (isn't A);
       b = quiet_side path written_b B (steps ++ n ∷ []) (refused B) (freed B) six.send_b call (quiet_is B call is) (quiet_falls B six.send_b call is) (noted_b (isn't B));
     }
-    quiet_both (asks.Reassembly s call) is = record { a = noted_a (isn't A); b = noted_b (isn't B) }
-    quiet_both (asks.Control s call) is = record { a = noted_a (isn't A); b = noted_b (isn't B) }
-    quiet_both (asks.Local step) is = record { a = noted_a (isn't A); b = noted_b (isn't B) }
+    quiet_both (Ask.Reassembly s call) is = record { a = noted_a (isn't A); b = noted_b (isn't B) }
+    quiet_both (Ask.Control s call) is = record { a = noted_a (isn't A); b = noted_b (isn't B) }
+    quiet_both (Ask.Local step) is = record { a = noted_a (isn't A); b = noted_b (isn't B) }
 
     -- a fallback
-    identity_both : (s : Side) → FallsSo (send_of s six) send_calls.GoIdentity → Asks refused freed (after_ask (asks.Send s send_calls.GoIdentity) six)
-    identity_both A falls = record { a = quiet_side path written_a A (steps ++ n ∷ []) (refused A) (freed A) six.send_a send_calls.GoIdentity tt falls (noted_a (isn't A)); b = noted_b (isn't B) }
-    identity_both B falls = record { a = noted_a (isn't A); b = quiet_side path written_b B (steps ++ n ∷ []) (refused B) (freed B) six.send_b send_calls.GoIdentity tt falls (noted_b (isn't B)) }
+    identity_both : (s : Side) → FallsSo (send_of s six) SendCall.GoIdentity → Asks refused freed (after_ask (Ask.Send s SendCall.GoIdentity) six)
+    identity_both A falls = record { a = quiet_side path written_a A (steps ++ n ∷ []) (refused A) (freed A) six.send_a SendCall.GoIdentity tt falls (noted_a (isn't A)); b = noted_b (isn't B) }
+    identity_both B falls = record { a = noted_a (isn't A); b = quiet_side path written_b B (steps ++ n ∷ []) (refused B) (freed B) six.send_b SendCall.GoIdentity tt falls (noted_b (isn't B)) }
 
     -- what was heard at one side: an acknowledgement, whether a path goes on alone, or nothing for the send books
     lowered : (s : Side) → Asks (with_flag s false refused) freed six
     lowered A = record { a = record { ones = h.a.ones; all = λ on alone. never_on on }; b = noted_b (isn't B) }
     lowered B = record { a = noted_a (isn't A); b = record { ones = h.b.ones; all = λ on alone. never_on on } }
 
-    heard_call : (s : Side) (call : SendCall) → IsHeardAsk path s (asks.Send s call) → Asks (with_flag s false refused) freed (after_send_call s call six)
-    heard_call A (send_calls.AckIn next window) is = record {
-      a = record { ones = ones_after path written_a six.send_a h.a.ones (send_calls.AckIn next window) tt; all = λ on alone. never_on on };
+    heard_call : (s : Side) (call : SendCall) → IsHeardAsk path s (Ask.Send s call) → Asks (with_flag s false refused) freed (after_send_call s call six)
+    heard_call A (SendCall.AckIn next window) is = record {
+      a = record { ones = ones_after path written_a six.send_a h.a.ones (SendCall.AckIn next window) tt; all = λ on alone. never_on on };
       b = noted_b (isn't B);
     }
-    heard_call B (send_calls.AckIn next window) is = record {
+    heard_call B (SendCall.AckIn next window) is = record {
       a = noted_a (isn't A);
-      b = record { ones = ones_after path written_b six.send_b h.b.ones (send_calls.AckIn next window) tt; all = λ on alone. never_on on };
+      b = record { ones = ones_after path written_b six.send_b h.b.ones (SendCall.AckIn next window) tt; all = λ on alone. never_on on };
     }
-    heard_call s (send_calls.Write bytes) is = absurd is
-    heard_call s send_calls.Close is = absurd is
-    heard_call s (send_calls.Grant asker max standby) is = absurd is
-    heard_call s (send_calls.Return asker) is = absurd is
-    heard_call s send_calls.GoIdentity is = absurd is
-    heard_call A (send_calls.GoInfinite asker) is = record {
-      a = record { ones = ones_after path written_a six.send_a h.a.ones (send_calls.GoInfinite asker) tt; all = λ on alone. never_on on };
+    heard_call s (SendCall.Write bytes) is = absurd is
+    heard_call s SendCall.Close is = absurd is
+    heard_call s (SendCall.Grant asker max standby) is = absurd is
+    heard_call s (SendCall.Return asker) is = absurd is
+    heard_call s SendCall.GoIdentity is = absurd is
+    heard_call A (SendCall.GoInfinite asker) is = record {
+      a = record { ones = ones_after path written_a six.send_a h.a.ones (SendCall.GoInfinite asker) tt; all = λ on alone. never_on on };
       b = noted_b (isn't B);
     }
-    heard_call B (send_calls.GoInfinite asker) is = record {
+    heard_call B (SendCall.GoInfinite asker) is = record {
       a = noted_a (isn't A);
-      b = record { ones = ones_after path written_b six.send_b h.b.ones (send_calls.GoInfinite asker) tt; all = λ on alone. never_on on };
+      b = record { ones = ones_after path written_b six.send_b h.b.ones (SendCall.GoInfinite asker) tt; all = λ on alone. never_on on };
     }
-    heard_call s send_calls.Abort is = absurd is
+    heard_call s SendCall.Abort is = absurd is
 
     heard_both : (s : Side) (ask : Ask) → IsHeardAsk path s ask → Asks (with_flag s false refused) freed (after_ask ask six)
-    heard_both A (asks.Send A call) is = heard_call A call is
-    heard_both B (asks.Send B call) is = heard_call B call is
-    heard_both A (asks.Send B call) is = other_side call is
+    heard_both A (Ask.Send A call) is = heard_call A call is
+    heard_both B (Ask.Send B call) is = heard_call B call is
+    heard_both A (Ask.Send B call) is = other_side call is
       where
-        other_side : (call : SendCall) → IsHeardAsk path A (asks.Send B call) → Asks (with_flag A false refused) freed (after_send_call B call six)
-        other_side (send_calls.AckIn next window) is = (let never : B ≡ A = is in cc)
-        other_side (send_calls.Write bytes) is = absurd is
-        other_side send_calls.Close is = absurd is
-        other_side (send_calls.Grant asker max standby) is = absurd is
-        other_side (send_calls.Return asker) is = absurd is
-        other_side send_calls.GoIdentity is = absurd is
-        other_side (send_calls.GoInfinite asker) is = (let never : B ≡ A = is.0 in cc)
-        other_side send_calls.Abort is = absurd is
-    heard_both B (asks.Send A call) is = other_side call is
+        other_side : (call : SendCall) → IsHeardAsk path A (Ask.Send B call) → Asks (with_flag A false refused) freed (after_send_call B call six)
+        other_side (SendCall.AckIn next window) is = (let never : B ≡ A = is in cc)
+        other_side (SendCall.GoInfinite asker) is = (let never : B ≡ A = is.0 in cc)
+        other_side _ is = absurd is
+    heard_both B (Ask.Send A call) is = other_side call is
       where
-        other_side : (call : SendCall) → IsHeardAsk path B (asks.Send A call) → Asks (with_flag B false refused) freed (after_send_call A call six)
-        other_side (send_calls.AckIn next window) is = (let never : A ≡ B = is in cc)
-        other_side (send_calls.Write bytes) is = absurd is
-        other_side send_calls.Close is = absurd is
-        other_side (send_calls.Grant asker max standby) is = absurd is
-        other_side (send_calls.Return asker) is = absurd is
-        other_side send_calls.GoIdentity is = absurd is
-        other_side (send_calls.GoInfinite asker) is = (let never : A ≡ B = is.0 in cc)
-        other_side send_calls.Abort is = absurd is
-    heard_both s (asks.Reassembly t call) is = lowered_with s
+        other_side : (call : SendCall) → IsHeardAsk path B (Ask.Send A call) → Asks (with_flag B false refused) freed (after_send_call A call six)
+        other_side (SendCall.AckIn next window) is = (let never : A ≡ B = is in cc)
+        other_side (SendCall.GoInfinite asker) is = (let never : A ≡ B = is.0 in cc)
+        other_side _ is = absurd is
+    heard_both s (Ask.Reassembly t call) is = lowered_with s
       where
-        lowered_with : (s : Side) → Asks (with_flag s false refused) freed (after_ask (asks.Reassembly t call) six)
+        lowered_with : (s : Side) → Asks (with_flag s false refused) freed (after_ask (Ask.Reassembly t call) six)
         lowered_with A = record { a = (lowered A).a; b = (lowered A).b }
         lowered_with B = record { a = (lowered B).a; b = (lowered B).b }
-    heard_both s (asks.Control t call) is = lowered_with s
+    heard_both s (Ask.Control t call) is = lowered_with s
       where
-        lowered_with : (s : Side) → Asks (with_flag s false refused) freed (after_ask (asks.Control t call) six)
+        lowered_with : (s : Side) → Asks (with_flag s false refused) freed (after_ask (Ask.Control t call) six)
         lowered_with A = record { a = (lowered A).a; b = (lowered A).b }
         lowered_with B = record { a = (lowered B).a; b = (lowered B).b }
-    heard_both s (asks.Local step) is = lowered s
+    heard_both s (Ask.Local step) is = lowered s
 
   -- A grant: what other paths freed before is of no account any more.
-  granted_both : (s : Side) (max : ℕ) (standby : Bool) → n.ask ≡ asks.Send s (send_calls.Grant path max standby)
-      → Asks (with_flag s false refused) (with_flag s false freed) (after_ask (asks.Send s (send_calls.Grant path max standby)) six)
+  granted_both : (s : Side) (max : ℕ) (standby : Bool) → n.ask ≡ Ask.Send s (SendCall.Grant path max standby)
+      → Asks (with_flag s false refused) (with_flag s false freed) (after_ask (Ask.Send s (SendCall.Grant path max standby)) six)
   granted_both A max standby asks = record {
-    a = record { ones = ones_after path written_a six.send_a h.a.ones (send_calls.Grant path max standby) refl; all = λ on alone. never_on on };
+    a = record { ones = ones_after path written_a six.send_a h.a.ones (SendCall.Grant path max standby) refl; all = λ on alone. never_on on };
     b = noted_b (ap (asks_grant B) asks);
   }
   granted_both B max standby asks = record {
     a = noted_a (ap (asks_grant A) asks);
-    b = record { ones = ones_after path written_b six.send_b h.b.ones (send_calls.Grant path max standby) refl; all = λ on alone. never_on on };
+    b = record { ones = ones_after path written_b six.send_b h.b.ones (SendCall.Grant path max standby) refl; all = λ on alone. never_on on };
   }
 
   -- and a refusal
-  refused_both : (s : Side) (max : ℕ) (standby : Bool) → n.ask ≡ asks.Send s (send_calls.Grant path max standby) → grant_in (reply_of six (asks.Send s (send_calls.Grant path max standby))) ≡ None
-      → Asks (with_flag s true refused) (with_flag s false freed) (after_ask (asks.Send s (send_calls.Grant path max standby)) six)
+  refused_both : (s : Side) (max : ℕ) (standby : Bool) → n.ask ≡ Ask.Send s (SendCall.Grant path max standby) → grant_in (reply_of six (Ask.Send s (SendCall.Grant path max standby))) ≡ None
+      → Asks (with_flag s true refused) (with_flag s false freed) (after_ask (Ask.Send s (SendCall.Grant path max standby)) six)
   refused_both A max standby asks none = record {
     a = record {
-      ones = ones_after path written_a six.send_a h.a.ones (send_calls.Grant path max standby) refl;
+      ones = ones_after path written_a six.send_a h.a.ones (SendCall.Grant path max standby) refl;
       all = λ on alone. grant_refused path written_a six.send_a h.a.ones A steps n max standby (λ before. ap (λ x. if asks_grant A x then is_standby x else before) asks) none;
     };
     b = noted_b (ap (asks_grant B) asks);
@@ -289,7 +232,7 @@ module _ (path written_a written_b : ℕ) (steps : List Note) (n : Note) (refuse
   refused_both B max standby asks none = record {
     a = noted_a (ap (asks_grant A) asks);
     b = record {
-      ones = ones_after path written_b six.send_b h.b.ones (send_calls.Grant path max standby) refl;
+      ones = ones_after path written_b six.send_b h.b.ones (SendCall.Grant path max standby) refl;
       all = λ on alone. grant_refused path written_b six.send_b h.b.ones B steps n max standby (λ before. ap (λ x. if asks_grant B x then is_standby x else before) asks) none;
     };
   }
@@ -308,57 +251,57 @@ freed_after : (b c : Bool) → b || c ≡ false → c ≡ false
 freed_after true c is = absurd (false≢true (sym is))
 freed_after false c is = is
 
-same_freeing : (s : Side) (edge : ℕ) (b : Sending) (call : SendCall) → frees_bytes s edge (asks.Send s call) (replies.Send (reply_to b call)) ≡ is_freeing edge b call
-same_freeing A edge b (send_calls.AckIn next window) = refl
-same_freeing A edge b (send_calls.Return who) = refl
-same_freeing A edge b (send_calls.Grant who max standby) = refl
-same_freeing A edge b (send_calls.Write bytes) = refl
-same_freeing A edge b send_calls.Close = refl
-same_freeing A edge b send_calls.GoIdentity = refl
-same_freeing A edge b (send_calls.GoInfinite who) = refl
-same_freeing A edge b send_calls.Abort = refl
-same_freeing B edge b (send_calls.AckIn next window) = refl
-same_freeing B edge b (send_calls.Return who) = refl
-same_freeing B edge b (send_calls.Grant who max standby) = refl
-same_freeing B edge b (send_calls.Write bytes) = refl
-same_freeing B edge b send_calls.Close = refl
-same_freeing B edge b send_calls.GoIdentity = refl
-same_freeing B edge b (send_calls.GoInfinite who) = refl
-same_freeing B edge b send_calls.Abort = refl
+same_freeing : (s : Side) (edge : ℕ) (b : Sending) (call : SendCall) → frees_bytes s edge (Ask.Send s call) (Reply.Send (reply_to b call)) ≡ is_freeing edge b call
+same_freeing A edge b (SendCall.AckIn next window) = refl
+same_freeing A edge b (SendCall.Return who) = refl
+same_freeing A edge b (SendCall.Grant who max standby) = refl
+same_freeing A edge b (SendCall.Write bytes) = refl
+same_freeing A edge b SendCall.Close = refl
+same_freeing A edge b SendCall.GoIdentity = refl
+same_freeing A edge b (SendCall.GoInfinite who) = refl
+same_freeing A edge b SendCall.Abort = refl
+same_freeing B edge b (SendCall.AckIn next window) = refl
+same_freeing B edge b (SendCall.Return who) = refl
+same_freeing B edge b (SendCall.Grant who max standby) = refl
+same_freeing B edge b (SendCall.Write bytes) = refl
+same_freeing B edge b SendCall.Close = refl
+same_freeing B edge b SendCall.GoIdentity = refl
+same_freeing B edge b (SendCall.GoInfinite who) = refl
+same_freeing B edge b SendCall.Abort = refl
 
 module _ (path written edge : ℕ) (s : Side) (steps : List Note) (refused freed : Bool) (b : Sending) (h : SideAsks path written s steps refused freed b) where
   -- the own book stays
   stays_side : (more : Bool) → SideAsks path written s steps refused (freed || more) b
   stays_side more = record { ones = h.ones; all = λ on alone. h.all on (freed_before freed more alone) }
 
-  freeing_call : (asker : ℕ) (t : Side) (call : SendCall) → (asker ≡ path → ⊥) → IsCallOf asker (asks.Send t call) → FallsSo b call → edge ≤ b.edge
+  freeing_call : (asker : ℕ) (t : Side) (call : SendCall) → (asker ≡ path → ⊥) → IsCallOf asker (Ask.Send t call) → FallsSo b call → edge ≤ b.edge
       → SideAsks path written s steps refused (freed || is_freeing edge b call) (after_call b call)
-  freeing_call asker t (send_calls.Grant who max standby) apart is falls low =
+  freeing_call asker t (SendCall.Grant who max standby) apart is falls low =
       let other : who ≡ path → ⊥ = λ own. apart (sym is ∙ own) in
       record { ones = ones_other path written b h.ones who max standby other; all = λ on alone. all_other path written b h.ones who max standby other s steps (h.all on (freed_before freed _ alone)) }
-  freeing_call asker t (send_calls.AckIn next window) apart is falls low = record {
-    ones = ones_after path written b h.ones (send_calls.AckIn next window) tt;
+  freeing_call asker t (SendCall.AckIn next window) apart is falls low = record {
+    ones = ones_after path written b h.ones (SendCall.AckIn next window) tt;
     all = λ on alone. let least = ltb-false edge (next + window) (freed_after freed (nat_lt edge (next + window)) alone) in
         all_acknowledged path written b h.ones s steps next window (omega (arith, least, low)) (h.all on (freed_before freed (nat_lt edge (next + window)) alone));
   }
-  freeing_call asker t (send_calls.Return who) apart is falls low = record {
-    ones = ones_after path written b h.ones (send_calls.Return who) tt;
+  freeing_call asker t (SendCall.Return who) apart is falls low = record {
+    ones = ones_after path written b h.ones (SendCall.Return who) tt;
     all = λ on alone. let held = count_by (is_held_by who) b.marks in let none = ltb-false 0 held (freed_after freed (nat_lt 0 held) alone) in
         all_returned path written b h.ones s steps who (omega (arith, none)) (h.all on (freed_before freed (nat_lt 0 held) alone));
   }
-  freeing_call asker t (send_calls.Write bytes) apart is falls low = absurd is
-  freeing_call asker t send_calls.Close apart is falls low = absurd is
-  freeing_call asker t send_calls.GoIdentity apart is falls low =
-      record { ones = ones_after path written b h.ones send_calls.GoIdentity tt; all = λ on alone. all_after path written b h.ones s steps send_calls.GoIdentity tt falls (h.all on (freed_before freed _ alone)) }
-  freeing_call asker t (send_calls.GoInfinite who) apart is falls low = record {
-    ones = ones_after path written b h.ones (send_calls.GoInfinite who) tt;
+  freeing_call asker t (SendCall.Write bytes) apart is falls low = absurd is
+  freeing_call asker t SendCall.Close apart is falls low = absurd is
+  freeing_call asker t SendCall.GoIdentity apart is falls low =
+      record { ones = ones_after path written b h.ones SendCall.GoIdentity tt; all = λ on alone. all_after path written b h.ones s steps SendCall.GoIdentity tt falls (h.all on (freed_before freed _ alone)) }
+  freeing_call asker t (SendCall.GoInfinite who) apart is falls low = record {
+    ones = ones_after path written b h.ones (SendCall.GoInfinite who) tt;
     all = λ on alone. all_gone path written b h.ones s steps who (h.all on (freed_before freed _ alone));
   }
-  freeing_call asker t send_calls.Abort apart is falls low =
-      record { ones = ones_after path written b h.ones send_calls.Abort tt; all = λ on alone. all_after path written b h.ones s steps send_calls.Abort tt falls (h.all on (freed_before freed _ alone)) }
+  freeing_call asker t SendCall.Abort apart is falls low =
+      record { ones = ones_after path written b h.ones SendCall.Abort tt; all = λ on alone. all_after path written b h.ones s steps SendCall.Abort tt falls (h.all on (freed_before freed _ alone)) }
 
-  other_call : (asker : ℕ) (call : SendCall) → (asker ≡ path → ⊥) → IsCallOf asker (asks.Send s call) → FallsSo b call → edge ≤ b.edge
-      → SideAsks path written s steps refused (freed || frees_bytes s edge (asks.Send s call) (replies.Send (reply_to b call))) (after_call b call)
+  other_call : (asker : ℕ) (call : SendCall) → (asker ≡ path → ⊥) → IsCallOf asker (Ask.Send s call) → FallsSo b call → edge ≤ b.edge
+      → SideAsks path written s steps refused (freed || frees_bytes s edge (Ask.Send s call) (Reply.Send (reply_to b call))) (after_call b call)
   other_call asker call apart is falls low =
       subst (λ c. SideAsks path written s steps refused (freed || c) (after_call b call)) (sym (same_freeing s edge b call)) (freeing_call asker s call apart is falls low)
 
@@ -366,23 +309,23 @@ module _ (path written_a written_b : ℕ) (edges : Side → ℕ) (steps : List N
     (low : (s : Side) → edges s ≤ (send_of s six).edge) where
   pub other_both : (asker : ℕ) (ask : Ask) → (asker ≡ path → ⊥) → IsCallOf asker ask → FallsAsk six ask
       → BothAsk path written_a written_b steps refused (freed_then edges ask (reply_of six ask) freed) (after_ask ask six)
-  other_both asker (asks.Send A call) apart is falls = record {
+  other_both asker (Ask.Send A call) apart is falls = record {
     a = other_call path written_a (edges A) A steps (refused A) (freed A) six.send_a h.a asker call apart is falls (low A);
     b = stays_side path written_b (edges B) B steps (refused B) (freed B) six.send_b h.b _;
   }
-  other_both asker (asks.Send B call) apart is falls = record {
+  other_both asker (Ask.Send B call) apart is falls = record {
     a = stays_side path written_a (edges A) A steps (refused A) (freed A) six.send_a h.a _;
     b = other_call path written_b (edges B) B steps (refused B) (freed B) six.send_b h.b asker call apart is falls (low B);
   }
-  other_both asker (asks.Reassembly t call) apart is falls = record {
+  other_both asker (Ask.Reassembly t call) apart is falls = record {
     a = stays_side path written_a (edges A) A steps (refused A) (freed A) six.send_a h.a _;
     b = stays_side path written_b (edges B) B steps (refused B) (freed B) six.send_b h.b _;
   }
-  other_both asker (asks.Control t call) apart is falls = record {
+  other_both asker (Ask.Control t call) apart is falls = record {
     a = stays_side path written_a (edges A) A steps (refused A) (freed A) six.send_a h.a _;
     b = stays_side path written_b (edges B) B steps (refused B) (freed B) six.send_b h.b _;
   }
-  other_both asker (asks.Local step) apart is falls = record {
+  other_both asker (Ask.Local step) apart is falls = record {
     a = stays_side path written_a (edges A) A steps (refused A) (freed A) six.send_a h.a _;
     b = stays_side path written_b (edges B) B steps (refused B) (freed B) six.send_b h.b _;
   }
@@ -442,7 +385,7 @@ module _ {C : Type 0} (k : Codec C) (p : PathState C) (written_a written_b : ℕ
   first_needs : (d : Duty) (ds : List Duty) → is_followed (d ∷ ds) ≡ true → needs d ds ≡ true
   first_needs d ds f = (and_parts (needs d ds) (is_followed ds) f).0
 
-  own_data : (s : Side) (ds : List Duty) → is_owed s (duties.Step (step_duties.Data s) ∷ ds) ≡ true
+  own_data : (s : Side) (ds : List Duty) → is_owed s (Duty.Step (StepDuty.Data s) ∷ ds) ≡ true
   own_data A ds = refl
   own_data B ds = refl
 
@@ -458,54 +401,54 @@ module _ {C : Type 0} (k : Codec C) (p : PathState C) (written_a written_b : ℕ
   since_grant B is A on = (on, ap (asks_grant A) is)
   since_grant B is B on = never_on on
 
-  grant_duty : (s : Side) (ds : List Duty) → first_unsent (end_at s p) ≡ None → n.ask ≡ grant_ask s p → is_followed (duties.Step (step_duties.Data s) ∷ ds) ≡ true → ((t : Side) → Pays (Here (duties.Step (step_duties.Data s) ∷ ds)) (duties.Step (step_duties.Data s) ∷ ds) refused t)
-      → (o : Option Grant) → grant_in (reply_of six (grant_ask s p)) ≡ o → AskThen (answered_grant s o (reply_of six (grant_ask s p)) (Here (duties.Step (step_duties.Data s) ∷ ds)))
+  grant_duty : (s : Side) (ds : List Duty) → first_unsent (end_at s p) ≡ None → n.ask ≡ grant_ask s p → is_followed (Duty.Step (StepDuty.Data s) ∷ ds) ≡ true → ((t : Side) → Pays (Here (Duty.Step (StepDuty.Data s) ∷ ds)) (Duty.Step (StepDuty.Data s) ∷ ds) refused t)
+      → (o : Option Grant) → grant_in (reply_of six (grant_ask s p)) ≡ o → AskThen (answered_grant s o (reply_of six (grant_ask s p)) (Here (Duty.Step (StepDuty.Data s) ∷ ds)))
   grant_duty s ds unsent is f each (Some grant) found = record {
     flags = with_flag s false refused;
     others = with_flag s false freed;
     before = since_grant s is;
-    granting = granted_done k (reply_of six (grant_ask s p)) p (with_flag s false refused) s ds grant f (lower_each s (duties.Step (step_duties.Data s) ∷ ds) false (own_data s ds) each);
+    granting = granted_done k (reply_of six (grant_ask s p)) p (with_flag s false refused) s ds grant f (lower_each s (Duty.Step (StepDuty.Data s) ∷ ds) false (own_data s ds) each);
     both = asked_is (grant_ask s p) (with_flag s false refused) (with_flag s false freed) is (granted_both (path_of p) written_a written_b steps n refused freed six h s _ _ is);
   }
   grant_duty s ds unsent is f each None found = record {
     flags = with_flag s true refused;
     others = with_flag s false freed;
     before = since_grant s is;
-    granting = refused_done k (reply_of six (grant_ask s p)) p (with_flag s true refused) s ds unsent (own_flag s true refused) f (other_each s (duties.Step (step_duties.Data s) ∷ ds) true each);
+    granting = refused_done k (reply_of six (grant_ask s p)) p (with_flag s true refused) s ds unsent (own_flag s true refused) f (other_each s (Duty.Step (StepDuty.Data s) ∷ ds) true each);
     both = asked_is (grant_ask s p) (with_flag s true refused) (with_flag s false freed) is (refused_both (path_of p) written_a written_b steps n refused freed six h s _ _ is found);
   }
 
-  data_duty : (s : Side) (ds : List Duty) → is_followed (duties.Step (step_duties.Data s) ∷ ds) ≡ true → ((t : Side) → Pays (Here (duties.Step (step_duties.Data s) ∷ ds)) (duties.Step (step_duties.Data s) ∷ ds) refused t)
-      → (o : Option Record) → first_unsent (end_at s p) ≡ o → n.ask ≡ data_ask k s o (Here (duties.Step (step_duties.Data s) ∷ ds)) → AskThen (answered_data k s o (reply_of six (data_ask k s o (Here (duties.Step (step_duties.Data s) ∷ ds)))) (Here (duties.Step (step_duties.Data s) ∷ ds)))
+  data_duty : (s : Side) (ds : List Duty) → is_followed (Duty.Step (StepDuty.Data s) ∷ ds) ≡ true → ((t : Side) → Pays (Here (Duty.Step (StepDuty.Data s) ∷ ds)) (Duty.Step (StepDuty.Data s) ∷ ds) refused t)
+      → (o : Option Record) → first_unsent (end_at s p) ≡ o → n.ask ≡ data_ask k s o (Here (Duty.Step (StepDuty.Data s) ∷ ds)) → AskThen (answered_data k s o (reply_of six (data_ask k s o (Here (Duty.Step (StepDuty.Data s) ∷ ds)))) (Here (Duty.Step (StepDuty.Data s) ∷ ds)))
   data_duty s ds f each (Some u) unsent is = record {
     flags = refused;
     others = freed;
-    before = λ t on. (on, ap (asks_grant t) is ∙ ask_isn't t (data_ask k s (Some u) (Here (duties.Step (step_duties.Data s) ∷ ds))) tt);
-    granting = data_sent k (reply_of six (data_ask k s (Some u) (Here (duties.Step (step_duties.Data s) ∷ ds)))) p refused s ds u f each;
-    both = asked_is (data_ask k s (Some u) (Here (duties.Step (step_duties.Data s) ∷ ds))) refused freed is
+    before = λ t on. (on, ap (asks_grant t) is ∙ ask_isn't t (data_ask k s (Some u) (Here (Duty.Step (StepDuty.Data s) ∷ ds))) tt);
+    granting = data_sent k (reply_of six (data_ask k s (Some u) (Here (Duty.Step (StepDuty.Data s) ∷ ds)))) p refused s ds u f each;
+    both = asked_is (data_ask k s (Some u) (Here (Duty.Step (StepDuty.Data s) ∷ ds))) refused freed is
         (quiet_both (path_of p) written_a written_b steps n refused freed six h
-        (λ t. ap (asks_grant t) is ∙ ask_isn't t (data_ask k s (Some u) (Here (duties.Step (step_duties.Data s) ∷ ds))) tt) (data_ask k s (Some u) (Here (duties.Step (step_duties.Data s) ∷ ds))) tt);
+        (λ t. ap (asks_grant t) is ∙ ask_isn't t (data_ask k s (Some u) (Here (Duty.Step (StepDuty.Data s) ∷ ds))) tt) (data_ask k s (Some u) (Here (Duty.Step (StepDuty.Data s) ∷ ds))) tt);
   }
   data_duty s ds f each None unsent is = grant_duty s ds unsent is f each (grant_in (reply_of six (grant_ask s p))) refl
 
   duty_asks : (d : Duty) (ds : List Duty) → FallsAsk six (ask_for k d (Here (d ∷ ds))) → n.ask ≡ ask_for k d (Here (d ∷ ds)) → is_followed (d ∷ ds) ≡ true → ((t : Side) → Pays (Here (d ∷ ds)) (d ∷ ds) refused t)
       → AskThen (answered k d (reply_of six (ask_for k d (Here (d ∷ ds)))) (Here (d ∷ ds)))
-  duty_asks (duties.Step (step_duties.Data s)) ds falls is f each = data_duty s ds f each (first_unsent (end_at s p)) refl is
-  duty_asks (duties.Step (step_duties.Heard s index)) ds falls is f each =
-      heard_duty (duties.Step (step_duties.Heard s index)) s ds (heard_asks k (Here (duties.Step (step_duties.Heard s index) ∷ ds)) s (item_of index (end_at s p))) tt
-      (and_parts (is_owed s ds) (not (is_owed (peer s) ds)) (first_needs (duties.Step (step_duties.Heard s index)) ds f)).0 is f each
-  duty_asks (duties.Send (send_duties.Update s)) ds falls is f each = quiet_duty (duties.Send (send_duties.Update s)) ds tt tt is f each
-  duty_asks (duties.Silent (silent_duties.Timer s)) ds falls is f each = quiet_duty (duties.Silent (silent_duties.Timer s)) ds tt tt is f each
-  duty_asks (duties.Ask (ask_duties.SynHeard s)) ds falls is f each = heard_duty (duties.Ask (ask_duties.SynHeard s)) s ds refl tt (first_needs (duties.Ask (ask_duties.SynHeard s)) ds f) is f each
-  duty_asks (duties.Ask (ask_duties.SynAnswered s)) ds falls is f each = heard_duty (duties.Ask (ask_duties.SynAnswered s)) s ds refl tt (first_needs (duties.Ask (ask_duties.SynAnswered s)) ds f) is f each
-  duty_asks (duties.Ask (ask_duties.SubflowAck s)) ds falls is f each = heard_duty (duties.Ask (ask_duties.SubflowAck s)) s ds (subflow_asks k (Here (duties.Ask (ask_duties.SubflowAck s) ∷ ds)) s) tt (first_needs (duties.Ask (ask_duties.SubflowAck s)) ds f) is f each
-  duty_asks (duties.Ask (ask_duties.GoIdentity s)) ds falls is f each = record {
+  duty_asks (Duty.Step (StepDuty.Data s)) ds falls is f each = data_duty s ds f each (first_unsent (end_at s p)) refl is
+  duty_asks (Duty.Step (StepDuty.Heard s index)) ds falls is f each =
+      heard_duty (Duty.Step (StepDuty.Heard s index)) s ds (heard_asks k (Here (Duty.Step (StepDuty.Heard s index) ∷ ds)) s (item_of index (end_at s p))) tt
+      (and_parts (is_owed s ds) (not (is_owed (peer s) ds)) (first_needs (Duty.Step (StepDuty.Heard s index)) ds f)).0 is f each
+  duty_asks (Duty.Send (SendDuty.Update s)) ds falls is f each = quiet_duty (Duty.Send (SendDuty.Update s)) ds tt tt is f each
+  duty_asks (Duty.Silent (SilentDuty.Timer s)) ds falls is f each = quiet_duty (Duty.Silent (SilentDuty.Timer s)) ds tt tt is f each
+  duty_asks (Duty.Ask (AskDuty.SynHeard s)) ds falls is f each = heard_duty (Duty.Ask (AskDuty.SynHeard s)) s ds refl tt (first_needs (Duty.Ask (AskDuty.SynHeard s)) ds f) is f each
+  duty_asks (Duty.Ask (AskDuty.SynAnswered s)) ds falls is f each = heard_duty (Duty.Ask (AskDuty.SynAnswered s)) s ds refl tt (first_needs (Duty.Ask (AskDuty.SynAnswered s)) ds f) is f each
+  duty_asks (Duty.Ask (AskDuty.SubflowAck s)) ds falls is f each = heard_duty (Duty.Ask (AskDuty.SubflowAck s)) s ds (subflow_asks k (Here (Duty.Ask (AskDuty.SubflowAck s) ∷ ds)) s) tt (first_needs (Duty.Ask (AskDuty.SubflowAck s)) ds f) is f each
+  duty_asks (Duty.Ask (AskDuty.GoIdentity s)) ds falls is f each = record {
     flags = refused;
     others = freed;
-    before = λ t on. (on, asks_nothing (duties.Ask (ask_duties.GoIdentity s)) ds tt is t);
-    granting = answered_done k (reply_of six (identity_ask s)) p refused (duties.Ask (ask_duties.GoIdentity s)) ds tt f each;
+    before = λ t on. (on, asks_nothing (Duty.Ask (AskDuty.GoIdentity s)) ds tt is t);
+    granting = answered_done k (reply_of six (identity_ask s)) p refused (Duty.Ask (AskDuty.GoIdentity s)) ds tt f each;
     both = asked_is (identity_ask s) refused freed is
-        (identity_both (path_of p) written_a written_b steps n refused freed six h (asks_nothing (duties.Ask (ask_duties.GoIdentity s)) ds tt is) s falls);
+        (identity_both (path_of p) written_a written_b steps n refused freed six h (asks_nothing (Duty.Ask (AskDuty.GoIdentity s)) ds tt is) s falls);
   }
   duty_asks d ds falls is f each = quiet_duty d ds tt tt is f each
 

@@ -1,35 +1,14 @@
 -- What a book answers is of the asked kind, whatever the numbers in the call.
-use Rattle.std.proofs.Common.{◌≡◌, refl, ◌∙◌, ap, ℕ, ◌-◌, ◌≤◌, min, Bool, true, false, if◌then◌else◌, ◌||◌, not, List, [], ◌∷◌, ◌++◌, length, length-append, take, drop, map, replicate, Option, Some, None, Result, Ok, Err, arith}
-use Rattle.std.proofs.lemmas.List.{length-take, length-drop, length-map, length-replicate}
-use Rattle.sides.specs.declared.side.Side.TheVariants.{A, B}
-use Rattle.send_book.specs.declared.call.Span.{Span}
-use Rattle.send_book.specs.declared.call.Why.{Why}
-use Rattle.send_book.specs.declared.call.SendCall.{SendCall}
-use Rattle.send_book.specs.declared.call.SendCall.TheVariants as send_calls
-use Rattle.send_book.specs.declared.call.SendReply.TheVariants as send_replies
-use Rattle.send_book.specs.declared.mark.ByteMark.TheVariants.{Acked, Free}
-use Rattle.send_book.specs.Marks.{given, returned}
-use Rattle.send_book.specs.Tried.{no_paths}
-use Rattle.send_book.specs.State.{Sending, Tile, acked_len, new_sending}
+use Rattle.world_laws.proofs.Words.{◌≡◌, refl, ◌∙◌, ap, ℕ, ◌-◌, ◌≤◌, ◌||◌, not, min, Bool, true, false, if◌then◌else◌, Option, Some, None, Result, Ok, Err}
+use Rattle.world_laws.proofs.Words.{List, [], ◌∷◌, ◌++◌, length, take, drop, map, replicate, arith, length-take, length-drop, length-map, length-replicate, A}
+use Rattle.world_laws.proofs.Words.{B, ControlCall, ControlReply, Control, ReassemblyCall, Arriving, filled, none, ReassemblyReply, Span, Why, SendCall}
+use Rattle.world_laws.proofs.Words.{Sending, Tile, acked_len, new_sending, Acked, Free, given, returned, no_paths, decision-MayTake, SendReply, Ask, SixBooks}
+use Rattle.world_laws.proofs.Words.{reply_of, after_ask, IsSendKind, IsReassemblyKind, IsControlKind, IsOfKind, if_so}
+use Rattle.std.proofs.Common.{length-append}
 use Rattle.send_book.specs.Steps as send
-use Rattle.send_book.proofs.Decisions.{decision-MayTake}
-use Rattle.reassembly_book.specs.declared.call.ReassemblyCall.{ReassemblyCall}
-use Rattle.reassembly_book.specs.declared.call.ReassemblyCall.TheVariants as reassembly_calls
-use Rattle.reassembly_book.specs.declared.call.ReassemblyReply.TheVariants as reassembly_replies
-use Rattle.reassembly_book.specs.State.{Arriving, filled}
-use Rattle.reassembly_book.specs.State.{new_arriving as none}
 use Rattle.reassembly_book.specs.Steps as reassembly
-use Rattle.control_book.specs.declared.call.ControlCall.{ControlCall}
-use Rattle.control_book.specs.declared.call.ControlCall.TheVariants as control_calls
-use Rattle.control_book.specs.declared.call.ControlReply.{ControlReply}
-use Rattle.control_book.specs.declared.call.ControlReply.TheVariants as control_replies
 use Rattle.control_book.specs.Calls.{can_ask}
-use Rattle.control_book.specs.Control.{Control}
 use Rattle.control_book.specs.Replies as control
-use Rattle.actor_desk.specs.declared.ask.Ask.{Ask}
-use Rattle.actor_desk.specs.declared.ask.Ask.TheVariants as asks
-use Rattle.actor_desk.specs.Desk.{SixBooks, reply_of, after_ask}
-use Rattle.actor_desk.specs.Kinds.{IsSendKind, IsReassemblyKind, IsControlKind, IsOfKind}
 use Rattle.actor_desk.proofs.InKind.{books_answer}
 
 -- ---- one mark a byte
@@ -64,7 +43,7 @@ given_marked path max standby b h (Ok span) is =
     }
 
 call_marked : (b : Sending) (call : SendCall) → IsMarked b → IsMarked (send.after_call b call)
-call_marked b (send_calls.Write bytes) h =
+call_marked b (SendCall.Write bytes) h =
     either_marked (b.closed || b.aborted) _ _ h
     (record {
       whole = omega (
@@ -76,9 +55,9 @@ call_marked b (send_calls.Write bytes) h =
         length-replicate (send.bytes_taken bytes b) (Free no_paths),
       );
     })
-call_marked b send_calls.Close h = either_marked b.aborted _ _ h (record { whole = h.whole })
-call_marked b (send_calls.Grant path max standby) h = given_marked path max standby b h (send.decision path max standby b) refl
-call_marked b (send_calls.AckIn next window) h =
+call_marked b SendCall.Close h = either_marked b.aborted _ _ h (record { whole = h.whole })
+call_marked b (SendCall.Grant path max standby) h = given_marked path max standby b h (send.decision path max standby b) refl
+call_marked b (SendCall.AckIn next window) h =
     either_marked (send.is_future next b) _ _ h
     (record {
       whole = omega (
@@ -89,10 +68,10 @@ call_marked b (send_calls.AckIn next window) h =
         length-drop next b.marks,
       );
     })
-call_marked b (send_calls.Return path) h = record { whole = length-map b.marks (returned path) ∙ h.whole }
-call_marked b send_calls.GoIdentity h = record { whole = h.whole }
-call_marked b (send_calls.GoInfinite path) h = either_marked (send.is_gathered path b) _ _ (record { whole = h.whole }) h
-call_marked b send_calls.Abort h = record { whole = h.whole }
+call_marked b (SendCall.Return path) h = record { whole = length-map b.marks (returned path) ∙ h.whole }
+call_marked b SendCall.GoIdentity h = record { whole = h.whole }
+call_marked b (SendCall.GoInfinite path) h = either_marked (send.is_gathered path b) _ _ (record { whole = h.whole }) h
+call_marked b SendCall.Abort h = record { whole = h.whole }
 
 -- both send books are so
 pub record AreMarked (six : SixBooks) : Type 0 where
@@ -100,25 +79,25 @@ pub record AreMarked (six : SixBooks) : Type 0 where
   pub b : IsMarked six.send_b
 
 pub ask_marked : (six : SixBooks) (x : Ask) → AreMarked six → AreMarked (after_ask x six)
-ask_marked six (asks.Send A call) h = record { a = call_marked six.send_a call h.a; b = h.b }
-ask_marked six (asks.Send B call) h = record { a = h.a; b = call_marked six.send_b call h.b }
-ask_marked six (asks.Reassembly s call) h = record { a = h.a; b = h.b }
-ask_marked six (asks.Control s call) h = record { a = h.a; b = h.b }
-ask_marked six (asks.Local step) h = h
+ask_marked six (Ask.Send A call) h = record { a = call_marked six.send_a call h.a; b = h.b }
+ask_marked six (Ask.Send B call) h = record { a = h.a; b = call_marked six.send_b call h.b }
+ask_marked six (Ask.Reassembly s call) h = record { a = h.a; b = h.b }
+ask_marked six (Ask.Control s call) h = record { a = h.a; b = h.b }
+ask_marked six (Ask.Local step) h = h
 
 -- ---- the send book
 
 -- a grant is asked for some bytes
 abbrev pub WantsSome : SendCall → Type 0
-WantsSome (send_calls.Grant path max standby) = 1 ≤ max
+WantsSome (SendCall.Grant path max standby) = 1 ≤ max
 WantsSome _ = Unit {0}
 
 abbrev pub AsksSome : Ask → Type 0
-AsksSome (asks.Send s call) = WantsSome call
+AsksSome (Ask.Send s call) = WantsSome call
 AsksSome _ = Unit {0}
 
 granted_kind : (path max : ℕ) (standby : Bool) (b : Sending) → IsMarked b → 1 ≤ max → (r : Result Span Why) → send.decision path max standby b ≡ r
-    → IsSendKind (send_calls.Grant path max standby) (send.reply_by r b)
+    → IsSendKind (SendCall.Grant path max standby) (send.reply_by r b)
 granted_kind path max standby b h some (Err why) is = tt
 granted_kind path max standby b h some (Ok span) is =
     let may = decision-MayTake path max standby b span is in
@@ -130,63 +109,51 @@ granted_kind path max standby b h some (Ok span) is =
     )
 
 send_kind : (b : Sending) (call : SendCall) → IsMarked b → WantsSome call → IsSendKind call (send.reply_to b call)
-send_kind b (send_calls.Write bytes) h some = by (b.closed || b.aborted)
+send_kind b (SendCall.Write bytes) h some =
+    if_so (IsSendKind (SendCall.Write bytes)) (b.closed || b.aborted) SendReply.Shut (SendReply.Taken (send.bytes_taken bytes b))
+    tt (omega arith)
+send_kind b SendCall.Close h some = if_so (IsSendKind SendCall.Close) b.aborted SendReply.Shut SendReply.Closed tt tt
+send_kind b (SendCall.Grant path max standby) h some = granted_kind path max standby b h some (send.decision path max standby b) refl
+send_kind b (SendCall.AckIn next window) h some = by (send.is_future next b)
   where
-    by : (c : Bool) → IsSendKind (send_calls.Write bytes) (if c then send_replies.Shut else send_replies.Taken (send.bytes_taken bytes b))
-    by true = tt
-    by false = omega arith
-send_kind b send_calls.Close h some = by b.aborted
-  where
-    by : (c : Bool) → IsSendKind send_calls.Close (if c then send_replies.Shut else send_replies.Closed)
-    by true = tt
-    by false = tt
-send_kind b (send_calls.Grant path max standby) h some = granted_kind path max standby b h some (send.decision path max standby b) refl
-send_kind b (send_calls.AckIn next window) h some = by (send.is_future next b)
-  where
-    by : (c : Bool) → IsSendKind (send_calls.AckIn next window) (if c then send_replies.AckFuture (length b.written) else send_replies.Acked (min next (length b.written) - acked_len b.marks) (send.fin_after next b))
+    by : (c : Bool) → IsSendKind (SendCall.AckIn next window) (if c then SendReply.AckFuture (length b.written) else SendReply.Acked (min next (length b.written) - acked_len b.marks) (send.fin_after next b))
     by true = tt
     by false = tt
-send_kind b (send_calls.Return path) h some = tt
-send_kind b send_calls.GoIdentity h some = tt
-send_kind b (send_calls.GoInfinite path) h some = by (send.is_gathered path b)
-  where
-    by : (c : Bool) → IsSendKind (send_calls.GoInfinite path) (if c then send_replies.Infinite (acked_len b.marks) else send_replies.Scattered)
-    by true = tt
-    by false = tt
-send_kind b send_calls.Abort h some = tt
+send_kind b (SendCall.Return path) h some = tt
+send_kind b SendCall.GoIdentity h some = tt
+send_kind b (SendCall.GoInfinite path) h some =
+    if_so (IsSendKind (SendCall.GoInfinite path)) (send.is_gathered path b) (SendReply.Infinite (acked_len b.marks)) SendReply.Scattered
+    tt tt
+send_kind b SendCall.Abort h some = tt
 
 -- ---- the reassembly book
 
-read_kind : (max : ℕ) (b : Arriving) (bytes : List ℕ) → bytes ≡ take max (filled b.places) → IsReassemblyKind (reassembly_calls.Read max) (reassembly.bytes_reply bytes b)
-read_kind max b [] is = by (reassembly.is_end b.known_end b.read)
-  where
-    by : (c : Bool) → IsReassemblyKind (reassembly_calls.Read max) (if c then reassembly_replies.End else reassembly_replies.NoneYet)
-    by true = tt
-    by false = tt
+read_kind : (max : ℕ) (b : Arriving) (bytes : List ℕ) → bytes ≡ take max (filled b.places) → IsReassemblyKind (ReassemblyCall.Read max) (reassembly.bytes_reply bytes b)
+read_kind max b [] is = if_so (IsReassemblyKind (ReassemblyCall.Read max)) (reassembly.is_end b.known_end b.read) ReassemblyReply.End ReassemblyReply.NoneYet tt tt
 read_kind max b (byte ∷ bytes) is =
     let len : length (byte ∷ bytes) ≡ min max (length (filled b.places)) = ap length is ∙ length-take max (filled b.places) in
     record { some = omega arith; most = omega (arith, len) }
 
-reading_kind : (aborted : Option Bool) (max : ℕ) (b : Arriving) → IsReassemblyKind (reassembly_calls.Read max) (reassembly.reading aborted max b)
+reading_kind : (aborted : Option Bool) (max : ℕ) (b : Arriving) → IsReassemblyKind (ReassemblyCall.Read max) (reassembly.reading aborted max b)
 reading_kind None max b = read_kind max b (take max (filled b.places)) refl
 reading_kind (Some by_peer) max b = tt
 
 pub reassembly_kind : (b : Arriving) (call : ReassemblyCall) → IsReassemblyKind call (reassembly.reply_to b call)
-reassembly_kind b (reassembly_calls.Place at bytes) = by (reassembly.reaches_past (reassembly.edge b) at bytes) (reassembly.clash b.known_end at bytes)
+reassembly_kind b (ReassemblyCall.Place at bytes) = by (reassembly.reaches_past (reassembly.edge b) at bytes) (reassembly.clash b.known_end at bytes)
   where
-    by : (c : Bool) (o : Option ℕ) → IsReassemblyKind (reassembly_calls.Place at bytes)
-        (if c then reassembly_replies.Beyond (reassembly.edge b) else reassembly.placed_reply o at bytes b)
+    by : (c : Bool) (o : Option ℕ) → IsReassemblyKind (ReassemblyCall.Place at bytes)
+        (if c then ReassemblyReply.Beyond (reassembly.edge b) else reassembly.placed_reply o at bytes b)
     by true o = tt
     by false None = tt
     by false (Some e) = tt
-reassembly_kind b (reassembly_calls.Fin at) = by (reassembly.fin_clash b.known_end at b)
+reassembly_kind b (ReassemblyCall.Fin at) = by (reassembly.fin_clash b.known_end at b)
   where
-    by : (o : Option ℕ) → IsReassemblyKind (reassembly_calls.Fin at) (reassembly.fin_reply_by o at)
+    by : (o : Option ℕ) → IsReassemblyKind (ReassemblyCall.Fin at) (reassembly.fin_reply_by o at)
     by None = tt
     by (Some e) = tt
-reassembly_kind b (reassembly_calls.Read max) = reading_kind b.aborted max b
-reassembly_kind b reassembly_calls.AckOut = tt
-reassembly_kind b (reassembly_calls.Abort by_peer) = tt
+reassembly_kind b (ReassemblyCall.Read max) = reading_kind b.aborted max b
+reassembly_kind b ReassemblyCall.AckOut = tt
+reassembly_kind b (ReassemblyCall.Abort by_peer) = tt
 
 -- ---- the control book
 
@@ -202,31 +169,31 @@ free_kind : (c : Control) (call : ControlCall) → can_ask call → IsControlKin
 free_kind c call can =
     books_answer
     (record { send_a = new_sending 0; send_b = new_sending 0; reassembly_a = none 0; reassembly_b = none 0; control_a = c; control_b = c })
-    (asks.Control A call) (record { a = tiled; b = tiled }) can
+    (Ask.Control A call) (record { a = tiled; b = tiled }) can
 
 pub control_kind : (c : Control) (call : ControlCall) → IsControlKind call (control.reply_to c call)
-control_kind c (control_calls.Look path) = tt
-control_kind c (control_calls.PeerKey key) = tt
-control_kind c (control_calls.Keys own peer) = free_kind c (control_calls.Keys own peer) tt
-control_kind c (control_calls.Fell path event) = tt
-control_kind c (control_calls.JoinBegin path) =
-    either_kind (control_calls.JoinBegin path) (control.may_join c) _ _ tt
-    (either_kind (control_calls.JoinBegin path) _ control_replies.NotYet (control_replies.Never c.fall.mode) tt tt)
-control_kind c (control_calls.JoinHeard path token) =
-    either_kind (control_calls.JoinHeard path token) _ (control_replies.UnknownToken _) _ tt
-    (either_kind (control_calls.JoinHeard path token) (not c.fall.confirmed) control_replies.NotConfirmed _ tt
-    (either_kind (control_calls.JoinHeard path token) _ (control.begin c) (control_replies.Fallen c.fall.mode) tt tt))
-control_kind c (control_calls.Heard id address port hmac) = free_kind c (control_calls.Heard id address port hmac) tt
-control_kind c (control_calls.FastHeard key) = free_kind c (control_calls.FastHeard key) tt
+control_kind c (ControlCall.Look path) = tt
+control_kind c (ControlCall.PeerKey key) = tt
+control_kind c (ControlCall.Keys own peer) = free_kind c (ControlCall.Keys own peer) tt
+control_kind c (ControlCall.Fell path event) = tt
+control_kind c (ControlCall.JoinBegin path) =
+    either_kind (ControlCall.JoinBegin path) (control.may_join c) _ _ tt
+    (either_kind (ControlCall.JoinBegin path) _ ControlReply.NotYet (ControlReply.Never c.fall.mode) tt tt)
+control_kind c (ControlCall.JoinHeard path token) =
+    either_kind (ControlCall.JoinHeard path token) _ (ControlReply.UnknownToken _) _ tt
+    (either_kind (ControlCall.JoinHeard path token) (not c.fall.confirmed) ControlReply.NotConfirmed _ tt
+    (either_kind (ControlCall.JoinHeard path token) _ (control.begin c) (ControlReply.Fallen c.fall.mode) tt tt))
+control_kind c (ControlCall.Heard id address port hmac) = free_kind c (ControlCall.Heard id address port hmac) tt
+control_kind c (ControlCall.FastHeard key) = free_kind c (ControlCall.FastHeard key) tt
 control_kind c _ = tt
 
 -- ---- all six
 
 pub answers_in_kind : (six : SixBooks) (x : Ask) → AreMarked six → AsksSome x → IsOfKind x (reply_of six x)
-answers_in_kind six (asks.Send A call) h some = send_kind six.send_a call h.a some
-answers_in_kind six (asks.Send B call) h some = send_kind six.send_b call h.b some
-answers_in_kind six (asks.Reassembly A call) h some = reassembly_kind six.reassembly_a call
-answers_in_kind six (asks.Reassembly B call) h some = reassembly_kind six.reassembly_b call
-answers_in_kind six (asks.Control A call) h some = control_kind six.control_a call
-answers_in_kind six (asks.Control B call) h some = control_kind six.control_b call
-answers_in_kind six (asks.Local step) h some = tt
+answers_in_kind six (Ask.Send A call) h some = send_kind six.send_a call h.a some
+answers_in_kind six (Ask.Send B call) h some = send_kind six.send_b call h.b some
+answers_in_kind six (Ask.Reassembly A call) h some = reassembly_kind six.reassembly_a call
+answers_in_kind six (Ask.Reassembly B call) h some = reassembly_kind six.reassembly_b call
+answers_in_kind six (Ask.Control A call) h some = control_kind six.control_a call
+answers_in_kind six (Ask.Control B call) h some = control_kind six.control_b call
+answers_in_kind six (Ask.Local step) h some = tt

@@ -1,16 +1,11 @@
 -- Serial turns are lawful: each step is one of an actor whose turn hasn't ended, and each round ends where all turns did.
-use Rattle.std.proofs.Common.{◌≡◌, refl, sym, ◌∙◌, ap, subst, ℕ, zero, suc, ◌+◌, ◌<◌, ◌≤◌, ◌&&◌, not, ◌⊎◌, inl, inr, Bool, true, false, Option, Some, None, List, [], ◌∷◌, length, arith}
-use Rattle.std.proofs.lemmas.Bool.{cases_lt, cases_eq, true≢false}
-use Rattle.std.proofs.lemmas.Option.{slice_get_past}
-use Rattle.std.proofs.lemmas.List.{length-set}
-use Rattle.std.specs.List.{slice_get}
-use Rattle.stream_lanes.proofs.Lists.{set_other}
-use Rattle.actor_desk.specs.declared.ask.Ask.{Ask}
-use Rattle.path_core.specs.Codec.{Codec}
-use Rattle.world_laws.specs.Actors.{ActorCrew, member_asks, is_over}
-use Rattle.world_laws.specs.Outcomes.{outcome_of}
-use Rattle.world_laws.specs.Serial.{goes_on, OneOf, steps_and, round_and, spelled, after_steps, IsTurn, AreTurns, after_turns, after_round, AreRounds}
-use Rattle.world_laws.specs.Worlds.{WorldState, Turn, crew_after, asked, stepped, world_step, goes, is_going, all_over, end_round, AreLawful}
+use Rattle.world_laws.proofs.Words.{◌≡◌, refl, sym, ◌∙◌, ap, subst, ℕ, zero, suc, ◌+◌, ◌≤◌, ◌&&◌, not, inl, inr, ◌⊎◌, Bool, true, false, Option, Some, None}
+use Rattle.world_laws.proofs.Words.{List, [], ◌∷◌, length, arith, ◌<◌, cases_eq, true≢false, cases_lt, length-set, slice_get_past, slice_get, Ask, Codec}
+use Rattle.world_laws.proofs.Words.{set_other, ActorCrew, member_asks, is_over, WorldState, Turn, crew_after, asked, stepped, world_step, all_over, end_round}
+use Rattle.world_laws.proofs.Words.{AreLawful, is_going, outcome_of, OneOf, steps_and, round_and, spelled, IsTurn, AreTurns, after_turns, after_round}
+use Rattle.world_laws.proofs.Words.{AreRounds}
+use Rattle.world_laws.specs.Serial.{goes_on, after_steps}
+use Rattle.world_laws.specs.Worlds.{goes}
 
 module _ {C : Type 0} where
   -- ---- a step leaves the other actors as they are

@@ -1,10 +1,7 @@
 -- The serial turns of a world are the only ones.
-use Rattle.std.proofs.Common.{◌≡◌, refl, sym, ◌∙◌, ap, subst, ℕ, zero, suc, Bool, true, false, List, [], ◌∷◌, length}
-use Rattle.std.proofs.lemmas.Bool.{both_ways}
-use Rattle.path_core.specs.Codec.{Codec}
-use Rattle.world_laws.specs.Outcomes.{outcome_of}
-use Rattle.world_laws.specs.Serial.{goes_on, OneOf, spelled, after_steps, IsTurn, AreTurns, after_round, AreRounds, IsSerial}
-use Rattle.world_laws.specs.Worlds.{WorldState, Turn, world_step}
+use Rattle.world_laws.proofs.Words.{◌≡◌, refl, sym, ◌∙◌, ap, subst, ℕ, zero, suc, Bool, true, false, List, [], ◌∷◌, length, both_ways, Codec, WorldState, Turn}
+use Rattle.world_laws.proofs.Words.{world_step, outcome_of, OneOf, spelled, IsTurn, AreTurns, after_round, AreRounds, IsSerial}
+use Rattle.world_laws.specs.Serial.{goes_on, after_steps}
 
 module _ {C : Type 0} (k : Codec C) where
   pub one_turn : (actor n m : ℕ) (w : WorldState C) → IsTurn k actor n w → IsTurn k actor m w → n ≡ m

@@ -1,39 +1,21 @@
 -- Each turn of an actor ends, whatever the books answer. So from each world that comes about there is a list of serial turns.
-use Rattle.std.proofs.Common.{◌≡◌, refl, sym, ◌∙◌, ap, subst, ℕ, zero, suc, ◌+◌, ◌<◌, ◌≤◌, ◌⊎◌, inl, inr, ⊎_elim, not, Bool, true, false, if◌then◌else◌, Option, Some, None, List, [], ◌∷◌, length, map}
-use Rattle.std.proofs.lemmas.Option.{same_Some}
-use Rattle.std.specs.List.{slice_get}
-use Rattle.stream_lanes.specs.Words.{Every}
-use Rattle.stream_lanes.proofs.Lists.{in_map, in_set, set_same}
-use Rattle.actor_desk.specs.declared.ask.Ask.{Ask}
-use Rattle.actor_desk.specs.declared.ask.Reply.{Reply}
-use Rattle.actor_desk.specs.Books.{books_in}
-use Rattle.actor_desk.specs.Kinds.{IsOfKind}
-use Rattle.actor_desk.specs.Words.{is_nil}
-use Rattle.stream_apps.specs.declared.duty.AppDuty.{AppDuty}
-use Rattle.stream_apps.specs.Apps.{AppState}
-use Rattle.stream_apps.specs.AppSteps.{app_ask, app_asks_first, app_answers, app_takes, app_next_round, fresh_turn, start_of_app}
-use Rattle.stream_apps.specs.Turns.{AppEnds, IsAppSettled}
+use Rattle.world_laws.proofs.Words.{◌≡◌, refl, sym, ◌∙◌, ap, subst, ℕ, zero, suc, ◌+◌, ◌≤◌, not, inl, inr, ◌⊎◌, ⊎_elim, Bool, true, false, if◌then◌else◌}
+use Rattle.world_laws.proofs.Words.{Option, Some, None, List, [], ◌∷◌, length, map, ◌<◌, same_Some, slice_get, start_of_turn, Duty, Ask, Reply, books_in}
+use Rattle.world_laws.proofs.Words.{is_nil, IsOfKind, AppDuty, AppState, fresh_turn, start_of_app, app_ask, app_asks_first, app_answers, app_takes}
+use Rattle.world_laws.proofs.Words.{app_next_round, AppEnds, IsAppSettled, Codec, stands, ask_for, PathState, with_agenda, settled, answers, asks_first, takes}
+use Rattle.world_laws.proofs.Words.{begins_turn, Ends, TakesTime, FirstStands, IsSettled, payload_size, in_map, in_set, set_same, Every, App, Path, Actor}
+use Rattle.world_laws.proofs.Words.{ActorCrew, member_asks, member_takes, member_next, is_over, WorldState, Turn, crew_after, asked, stepped, world_step}
+use Rattle.world_laws.proofs.Words.{all_over, greatest, begins, end_round, after_turn, world_run, answer_to, outcome_of, OneOf, IsTurn, AreTurns, after_turns}
+use Rattle.world_laws.proofs.Words.{after_round, AreRounds}
 use Rattle.stream_apps.proofs.AppEnds.{app_turn_ends}
-use Rattle.path_agenda.specs.declared.duty.Duty.{Duty}
-use Rattle.path_agenda.specs.Agenda.{start_of_turn}
-use Rattle.path_core.specs.Codec.{Codec}
-use Rattle.path_core.specs.Duties.{stands, ask_for}
-use Rattle.path_core.specs.Emission.{payload_size}
 use Rattle.path_agenda.specs.Weights.{weights}
-use Rattle.path_core.specs.State.{PathState, with_agenda}
-use Rattle.path_core.specs.Steps.{settled, asks_first, answers, takes, begins_turn}
-use Rattle.path_core.specs.Turns.{Ends, TakesTime, FirstStands, IsSettled}
 use Rattle.path_core.proofs.Lowering.{answered_lowers}
 use Rattle.path_core.proofs.Passed.{settled_lower}
 use Rattle.path_core.proofs.Ranking.{Calm}
 use Rattle.path_core.proofs.TurnEnds.{turn_ends}
 use Rattle.world_laws.proofs.Worlds.Settled.{settled_settled}
-use Rattle.world_laws.specs.declared.member.Member.TheVariants.{App, Path}
-use Rattle.world_laws.specs.Actors.{Actor, ActorCrew, member_asks, member_takes, member_next, is_over}
-use Rattle.world_laws.specs.Outcomes.{outcome_of}
-use Rattle.world_laws.specs.Serial.{goes_on, OneOf, after_steps, IsTurn, AreTurns, after_turns, after_round, AreRounds}
-use Rattle.world_laws.specs.StampedBooks.{answer_to}
-use Rattle.world_laws.specs.Worlds.{WorldState, Turn, crew_after, asked, stepped, world_step, goes, all_over, greatest, begins, end_round, after_turn, world_run}
+use Rattle.world_laws.specs.Serial.{goes_on, after_steps}
+use Rattle.world_laws.specs.Worlds.{goes}
 use Rattle.world_laws.proofs.Lanes.Applying.{settled_app}
 use Rattle.world_laws.proofs.Weaving.Journals.{books_after}
 use Rattle.world_laws.proofs.Rounds.Asks.{app_asks_some, asks_some}

@@ -1,42 +1,15 @@
 -- A path that stands by is granted nothing, whatever the order of the steps.
-use Rattle.std.proofs.Common.{◌≡◌, refl, sym, ◌∙◌, ap, subst, ⊎_elim, ℕ, ◌&&◌, ◌||◌, ◌==◌, Bool, true, false, if◌then◌else◌, Option, Some, None, Err, List, [], ◌∷◌, ◌++◌, length, map}
-use Rattle.std.proofs.lemmas.Bool.{and_parts, both_ways, false≢true}
-use Rattle.std.proofs.lemmas.Option.{same_Some}
-use Rattle.std.specs.List.{slice_get}
-use Rattle.sides.specs.declared.side.Side.{Side}
-use Rattle.sides.specs.declared.side.Side.TheVariants.{A, B}
-use Rattle.subflow_send.specs.Records.{Record}
+use Rattle.world_laws.proofs.Words.{◌≡◌, refl, sym, ◌∙◌, ap, subst, ℕ, ◌&&◌, ◌||◌, ◌==◌, ⊎_elim, Bool, true, false, if◌then◌else◌, Option, Some, None, Err}
+use Rattle.world_laws.proofs.Words.{List, [], ◌∷◌, ◌++◌, length, and_parts, both_ways, false≢true, same_Some, slice_get, Side, A, B, Sending, acked_len}
+use Rattle.world_laws.proofs.Words.{decision, reply_by, Record, Duty, StepDuty, Ask, Note, Reply, books_in, SixBooks, reply_of, AppDuty, AppState, app_ask}
+use Rattle.world_laws.proofs.Words.{app_asks_first, Codec, ask_for, waiting_path, first_turn, PathState, end_at, path_of, asks_of, asks_first, first_unsent}
+use Rattle.world_laws.proofs.Words.{data_ask, payload_size, in_map, in_set, App, Path, Actor, ActorCrew, member_asks, member_takes, member_next, Always}
+use Rattle.world_laws.proofs.Words.{PathPlan, Start, path_begins, opened_world, looks, standby_told, standby_last, is_grant, grants_bytes, GrantsAreFree}
+use Rattle.world_laws.proofs.Words.{BackupsGetNothing, WorldState, Turn, crew_after, greatest, begins, world_run, note_of}
+use Rattle.world_laws.proofs.Words.{asks_grant, notes_or}
+use Rattle.world_laws.proofs.Worlds.Turns.{run_so}
 use Rattle.send_book.specs.declared.call.Why.TheVariants.{Ended, Backup}
-use Rattle.send_book.specs.State.{Sending, acked_len}
-use Rattle.send_book.specs.Steps.{decision, reply_by}
-use Rattle.stream_lanes.proofs.Lists.{in_set, in_map}
-use Rattle.actor_desk.specs.declared.ask.Ask.{Ask}
-use Rattle.actor_desk.specs.declared.ask.Note.{Note}
-use Rattle.actor_desk.specs.declared.ask.Reply.TheVariants as replies
-use Rattle.actor_desk.specs.Desk.{SixBooks, reply_of}
-use Rattle.actor_desk.specs.Books.{books_in}
-use Rattle.stream_apps.specs.declared.duty.AppDuty.{AppDuty}
-use Rattle.stream_apps.specs.declared.duty.AppDuty.TheVariants as app_duties
-use Rattle.stream_apps.specs.Apps.{AppState}
-use Rattle.stream_apps.specs.AppSteps.{app_ask, app_asks_first}
-use Rattle.path_agenda.specs.declared.duty.Duty.{Duty}
-use Rattle.path_agenda.specs.declared.duty.Duty.TheVariants as duties
-use Rattle.path_agenda.specs.declared.duty.StepDuty.{StepDuty}
-use Rattle.path_agenda.specs.declared.duty.StepDuty.TheVariants as step_duties
-use Rattle.path_core.specs.Codec.{Codec}
-use Rattle.path_core.specs.Duties.{ask_for}
-use Rattle.path_core.specs.Emission.{first_unsent, data_ask, payload_size}
-use Rattle.path_core.specs.Start.{first_turn, waiting_path}
-use Rattle.path_core.specs.State.{PathState, end_at, path_of}
-use Rattle.path_core.specs.Steps.{asks_of, asks_first}
-use Rattle.world_laws.specs.declared.member.Member.TheVariants.{App, Path}
-use Rattle.world_laws.specs.Actors.{Actor, ActorCrew, member_asks, member_takes, member_next}
-use Rattle.world_laws.specs.Laws.{Always}
-use Rattle.world_laws.specs.Openings.{PathPlan, Start, path_begins, opened_world}
-use Rattle.world_laws.specs.Outcomes.{notes_or}
-use Rattle.world_laws.specs.RoundEnd.{asks_grant}
-use Rattle.world_laws.specs.Standbys.{looks, standby_told, standby_after, standby_last, is_grant, grants_bytes, GrantsAreFree, BackupsGetNothing}
-use Rattle.world_laws.specs.Worlds.{WorldState, Turn, note_of, crew_after, asked, stepped, all_over, greatest, begins, after_turn, world_run}
+use Rattle.world_laws.specs.Standbys.{standby_after}
 use Rattle.world_laws.proofs.Worlds.Opened.{opened_actors}
 use Rattle.world_laws.proofs.Rounds.GrantAtOneDuty.{MayNotAsk, ask_isn't, asks_none}
 use Rattle.world_laws.proofs.Standby.LooksAlone.{takes_stands, begins_kept, next_kept}
@@ -55,11 +28,11 @@ free_push s before (note ∷ notes) n h free = (h.0, free_push s (standby_after 
 -- ---- a grant
 
 -- a path that stands by gets none
-no_backup : (path max : ℕ) (standby : Bool) (b : Sending) → is_grant (replies.Send (reply_by (decision path max standby b) b)) ≡ true → standby ≡ false
+no_backup : (path max : ℕ) (standby : Bool) (b : Sending) → is_grant (Reply.Send (reply_by (decision path max standby b) b)) ≡ true → standby ≡ false
 no_backup path max false b grants = refl
 no_backup path max true b grants = by (b.aborted || (b.closed && (acked_len b.marks == length b.written))) grants
   where
-    by : (x : Bool) → is_grant (replies.Send (reply_by (if x then Err Ended else Err Backup) b)) ≡ true → true ≡ false
+    by : (x : Bool) → is_grant (Reply.Send (reply_by (if x then Err Ended else Err Backup) b)) ≡ true → true ≡ false
     by true grants = absurd (false≢true grants)
     by false grants = absurd (false≢true grants)
 
@@ -83,19 +56,13 @@ module _ {C : Type 0} (k : Codec C) (six : SixBooks) (p : PathState C) where
   other_free d other s = no_ask s (ask_for k d p) (ask_isn't s (ask_for k d p) (asks_none k p d other))
 
   duty_free : (d : Duty) (s : Side) → IsFree s (ask_for k d p)
-  duty_free (duties.Step step) s = by step
+  duty_free (Duty.Step step) s = by step
     where
-      by : (step : StepDuty) → IsFree s (ask_for k (duties.Step step) p)
-      by (step_duties.Data t) = data_free s t (first_unsent (end_at t p))
-      by (step_duties.Look t) = other_free (duties.Step (step_duties.Look t)) tt s
-      by step_duties.Events = other_free (duties.Step step_duties.Events) tt s
-      by (step_duties.Heard t index) = other_free (duties.Step (step_duties.Heard t index)) tt s
-      by (step_duties.PlainAck t) = other_free (duties.Step (step_duties.PlainAck t)) tt s
-      by (step_duties.Unmapped t) = other_free (duties.Step (step_duties.Unmapped t)) tt s
-  duty_free (duties.Ask ask) s = other_free (duties.Ask ask) tt s
-  duty_free (duties.Send send) s = other_free (duties.Send send) tt s
-  duty_free (duties.Silent silent) s = other_free (duties.Silent silent) tt s
-  duty_free duties.End s = other_free duties.End tt s
+      by : (step : StepDuty) → IsFree s (ask_for k (Duty.Step step) p)
+      by (StepDuty.Data t) = data_free s t (first_unsent (end_at t p))
+      by step = other_free (Duty.Step step) tt s
+  duty_free (Duty.Ask ask) s = other_free (Duty.Ask ask) tt s
+  duty_free d s = other_free d tt s
 
   ask_free : (x : Ask) → asks_of k p ≡ Some x → (s : Side) → IsFree s x
   ask_free x is s = by p.agenda refl
@@ -107,50 +74,15 @@ module _ {C : Type 0} (k : Codec C) (six : SixBooks) (p : PathState C) where
 -- ---- an application neither looks nor asks for a grant
 
 app_quiet : (d : AppDuty) (a : AppState) (s : Side) → (looks s (app_ask d a) ≡ false) × (asks_grant s (app_ask d a) ≡ false)
-app_quiet app_duties.Write a s = by a.side s
+app_quiet d a s = by d a.side s
   where
-    by : (q s : Side) → (looks s (app_ask app_duties.Write (record a { side = q })) ≡ false) × (asks_grant s (app_ask app_duties.Write (record a { side = q })) ≡ false)
-    by A A = (refl, refl)
-    by A B = (refl, refl)
-    by B A = (refl, refl)
-    by B B = (refl, refl)
-app_quiet app_duties.Close a s = by a.side s
-  where
-    by : (q s : Side) → (looks s (app_ask app_duties.Close (record a { side = q })) ≡ false) × (asks_grant s (app_ask app_duties.Close (record a { side = q })) ≡ false)
-    by A A = (refl, refl)
-    by A B = (refl, refl)
-    by B A = (refl, refl)
-    by B B = (refl, refl)
-app_quiet app_duties.Read a s = by a.side s
-  where
-    by : (q s : Side) → (looks s (app_ask app_duties.Read (record a { side = q })) ≡ false) × (asks_grant s (app_ask app_duties.Read (record a { side = q })) ≡ false)
-    by A A = (refl, refl)
-    by A B = (refl, refl)
-    by B A = (refl, refl)
-    by B B = (refl, refl)
-app_quiet app_duties.FastClose a s = by a.side s
-  where
-    by : (q s : Side) → (looks s (app_ask app_duties.FastClose (record a { side = q })) ≡ false) × (asks_grant s (app_ask app_duties.FastClose (record a { side = q })) ≡ false)
-    by A A = (refl, refl)
-    by A B = (refl, refl)
-    by B A = (refl, refl)
-    by B B = (refl, refl)
-app_quiet app_duties.AbortSend a s = by a.side s
-  where
-    by : (q s : Side) → (looks s (app_ask app_duties.AbortSend (record a { side = q })) ≡ false) × (asks_grant s (app_ask app_duties.AbortSend (record a { side = q })) ≡ false)
-    by A A = (refl, refl)
-    by A B = (refl, refl)
-    by B A = (refl, refl)
-    by B B = (refl, refl)
-app_quiet app_duties.AbortReceive a s = by a.side s
-  where
-    by : (q s : Side) → (looks s (app_ask app_duties.AbortReceive (record a { side = q })) ≡ false) × (asks_grant s (app_ask app_duties.AbortReceive (record a { side = q })) ≡ false)
-    by A A = (refl, refl)
-    by A B = (refl, refl)
-    by B A = (refl, refl)
-    by B B = (refl, refl)
-app_quiet app_duties.End a A = (refl, refl)
-app_quiet app_duties.End a B = (refl, refl)
+    by : (d : AppDuty) (q s : Side) → (looks s (app_ask d (record a { side = q })) ≡ false) × (asks_grant s (app_ask d (record a { side = q })) ≡ false)
+    by AppDuty.End q A = (refl, refl)
+    by AppDuty.End q B = (refl, refl)
+    by _ A A = (refl, refl)
+    by _ A B = (refl, refl)
+    by _ B A = (refl, refl)
+    by _ B B = (refl, refl)
 
 -- ---- an actor and its list
 
@@ -205,31 +137,16 @@ module _ {C : Type 0} (k : Codec C) where
   abbrev AllFree : WorldState C → Type 0
   AllFree w = (i : ℕ) (c : ActorCrew C) → slice_get w.crew i ≡ Some c → CrewIs c
 
-  turn_free : (turn : Turn) (w : WorldState C) → AllFree w → AllFree (after_turn k turn w)
-  turn_free (Turn.Step actor) w h = by (slice_get w.crew actor) refl
-    where
-      asking : (c : ActorCrew C) → slice_get w.crew actor ≡ Some c → (o : Option Ask) → member_asks k c.member ≡ o → AllFree (asked k actor o c w)
-      asking c there None is = h
-      asking c there (Some x) is = λ i d at. ⊎_elim
-          (λ here. subst CrewIs here.1 (crew_goes w c x is (h actor c there)))
-          (λ other. h i d other.1)
-          (in_set w.crew actor (crew_after k x w.books c) i d at)
-
-      by : (o : Option (ActorCrew C)) → slice_get w.crew actor ≡ o → AllFree (stepped k actor o w)
-      by None there = h
-      by (Some c) there = asking c there (member_asks k c.member) refl
-  turn_free Turn.Round w h = by (all_over w.crew)
+  run_free : (turns : List Turn) (w : WorldState C) → AllFree w → AllFree (world_run k turns w)
+  run_free = run_so k AllFree
+      (λ w h actor c x there is i d at. ⊎_elim
+      (λ here. subst CrewIs here.1 (crew_goes w c x is (h actor c there)))
+      (λ other. h i d other.1)
+      (in_set w.crew actor (crew_after k x w.books c) i d at))
+      (λ w h over i d at. let found = in_map (begins (greatest 0 w.crew)) w.crew i d at in subst CrewIs found.2 (next (greatest 0 w.crew) found.0 (h i found.0 found.1)))
     where
       next : (stamp : ℕ) (c : ActorCrew C) → CrewIs c → CrewIs (begins stamp c)
       next stamp c is = record { knows = λ s. next_stands s c.member ∙ is.knows s; free = is.free }
-
-      by : (b : Bool) → AllFree (if b then record w { crew = map (begins (greatest 0 w.crew)) w.crew } else w)
-      by true = λ i d at. let found = in_map (begins (greatest 0 w.crew)) w.crew i d at in subst CrewIs found.2 (next (greatest 0 w.crew) found.0 (h i found.0 found.1))
-      by false = h
-
-  run_free : (turns : List Turn) (w : WorldState C) → AllFree w → AllFree (world_run k turns w)
-  run_free [] w h = h
-  run_free (turn ∷ turns) w h = run_free turns (after_turn k turn w) (turn_free turn w h)
 
   opened_free : (start : Start) → AllFree (opened_world start)
   opened_free start = opened_actors (λ actor c. CrewIs c) start

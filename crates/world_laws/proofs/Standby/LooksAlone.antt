@@ -1,37 +1,15 @@
 -- How a path stands, as its ends were told in their last Look, nothing changes but a Look.
-use Rattle.std.proofs.Common.{◌≡◌, refl, sym, ◌∙◌, ap, ℕ, ◌+◌, Bool, true, false, if◌then◌else◌, Some, None, List, [], ◌∷◌}
-use Rattle.std.proofs.lemmas.Bool.{false≢true}
-use Rattle.std.proofs.lemmas.Option.{same_Some}
-use Rattle.sides.specs.declared.side.Side.{Side}
-use Rattle.sides.specs.declared.side.Side.TheVariants.{A, B}
-use Rattle.control_book.specs.declared.call.ControlCall.TheVariants as control_calls
-use Rattle.control_book.specs.declared.call.ControlReply.TheVariants as control_replies
-use Rattle.actor_desk.specs.declared.ask.Ask.{Ask}
-use Rattle.actor_desk.specs.declared.ask.Ask.TheVariants as asks
-use Rattle.actor_desk.specs.declared.ask.Reply.{Reply}
-use Rattle.actor_desk.specs.declared.ask.Reply.TheVariants as replies
-use Rattle.path_agenda.specs.declared.duty.Duty.{Duty}
-use Rattle.path_agenda.specs.declared.duty.Duty.TheVariants as duties
-use Rattle.path_agenda.specs.declared.duty.AskDuty.TheVariants as ask_duties
-use Rattle.path_agenda.specs.declared.duty.SendDuty.TheVariants as send_duties
-use Rattle.path_agenda.specs.declared.duty.SilentDuty.TheVariants as silent_duties
-use Rattle.path_agenda.specs.declared.duty.StepDuty.{StepDuty}
-use Rattle.path_agenda.specs.declared.duty.StepDuty.TheVariants as step_duties
-use Rattle.path_core.specs.Codec.{Codec}
-use Rattle.path_core.specs.Duties.{passed, answered, ask_for}
-use Rattle.path_core.specs.Standing.{modes_told, after_look}
-use Rattle.path_core.specs.State.{PathState, end_at, goes_on, left, path_of}
-use Rattle.path_core.specs.Steps.{settled, settles_down, answers, asks_of, asks_first, takes, begins_turn, next_round}
-use Rattle.path_core.specs.declared.modes.Modes.{Modes}
-use Rattle.world_laws.specs.Standbys.{looks, standby_told}
-use Rattle.world_laws.specs.Writes.{EndView, Writes, OnlyAt, writes, side_of}
+use Rattle.world_laws.proofs.Words.{◌≡◌, refl, sym, ◌∙◌, ap, ℕ, ◌+◌, Bool, true, false, if◌then◌else◌, Some, None, List, [], ◌∷◌, false≢true, same_Some, Side}
+use Rattle.world_laws.proofs.Words.{A, B, ControlCall, ControlReply, Duty, SendDuty, StepDuty, AskDuty, SilentDuty, Ask, Reply, Codec, ask_for, passed}
+use Rattle.world_laws.proofs.Words.{answered, after_look, modes_told, PathState, end_at, goes_on, left, path_of, settled, settles_down, answers, asks_of}
+use Rattle.world_laws.proofs.Words.{asks_first, takes, begins_turn, next_round, Modes, looks, standby_told, Writes, OnlyAt, EndView, writes, side_of}
 use Rattle.world_laws.proofs.Standby.OneDutyLooks.{MayNotLook, look_isn't, looks_none}
 use Rattle.world_laws.proofs.Writes.Paths.{writes_no_more, passes_no_more}
 use Rattle.world_laws.proofs.Writes.Steps.{both_ends, Lasts, unwritten, settled_lasts, begins_lasts}
 
 -- a Look tells its own end
 told_modes : (r : Reply) (m : Modes) → (modes_told r m).standby ≡ standby_told m.standby r
-told_modes (replies.Control (control_replies.Standing mode standby sole notice)) m = refl
+told_modes (Reply.Control (ControlReply.Standing mode standby sole notice)) m = refl
 told_modes _ m = refl
 
 module _ {C : Type 0} where
@@ -48,20 +26,20 @@ module _ {C : Type 0} where
       record { a = both.0; b = both.1 }
 
   passed_kept : (d : Duty) (p : PathState C) → Keeps p (passed d p)
-  passed_kept (duties.Step (step_duties.Look s)) p = record { a = refl; b = refl }
-  passed_kept (duties.Ask ask_duties.JoinAgain) p = record { a = refl; b = refl }
-  passed_kept (duties.Send (send_duties.Update s)) p = record { a = refl; b = refl }
-  passed_kept (duties.Silent (silent_duties.Timer s)) p =
-      kept_by s (writes (duties.Silent (silent_duties.Timer s))) p _ refl refl (passes_no_more (duties.Silent (silent_duties.Timer s)) p)
+  passed_kept (Duty.Step (StepDuty.Look s)) p = record { a = refl; b = refl }
+  passed_kept (Duty.Ask AskDuty.JoinAgain) p = record { a = refl; b = refl }
+  passed_kept (Duty.Send (SendDuty.Update s)) p = record { a = refl; b = refl }
+  passed_kept (Duty.Silent (SilentDuty.Timer s)) p =
+      kept_by s (writes (Duty.Silent (SilentDuty.Timer s))) p _ refl refl (passes_no_more (Duty.Silent (SilentDuty.Timer s)) p)
   passed_kept d p = kept_by (side_of d) (writes d) p _ refl refl (passes_no_more d p)
 
   -- but for a Look
   answered_kept : (k : Codec C) (d : Duty) → MayNotLook d → (r : Reply) (p : PathState C) → Keeps p (answered k d r p)
-  answered_kept k (duties.Step (step_duties.Look s)) other r p = absurd other
-  answered_kept k (duties.Ask (ask_duties.SynHeard s)) other r p = record { a = refl; b = refl }
-  answered_kept k (duties.Send (send_duties.Update s)) other r p =
-      kept_by s (writes (duties.Send (send_duties.Update s))) p _ refl refl (writes_no_more k (duties.Send (send_duties.Update s)) r p)
-  answered_kept k (duties.Silent d) other r p = record { a = refl; b = refl }
+  answered_kept k (Duty.Step (StepDuty.Look s)) other r p = absurd other
+  answered_kept k (Duty.Ask (AskDuty.SynHeard s)) other r p = record { a = refl; b = refl }
+  answered_kept k (Duty.Send (SendDuty.Update s)) other r p =
+      kept_by s (writes (Duty.Send (SendDuty.Update s))) p _ refl refl (writes_no_more k (Duty.Send (SendDuty.Update s)) r p)
+  answered_kept k (Duty.Silent d) other r p = record { a = refl; b = refl }
   answered_kept k d other r p = kept_by (side_of d) (writes d) p _ refl refl (writes_no_more k d r p)
 
   keeps_lasts : Lasts (λ (p q : PathState C). Keeps p q)
@@ -76,7 +54,7 @@ module _ {C : Type 0} where
 
   look_stands : (s t : Side) (path : ℕ) (r : Reply) (p : PathState C)
       → (end_at t (goes_on s (after_look r (end_at s p)) (left p) p)).modes.standby
-      ≡ (if looks t (asks.Control s (control_calls.Look path)) then standby_told (end_at t p).modes.standby r else (end_at t p).modes.standby)
+      ≡ (if looks t (Ask.Control s (ControlCall.Look path)) then standby_told (end_at t p).modes.standby r else (end_at t p).modes.standby)
   look_stands A A path r p = told_modes r p.a.modes
   look_stands A B path r p = refl
   look_stands B A path r p = refl
@@ -100,19 +78,13 @@ module _ {C : Type 0} where
       same true none = absurd (false≢true (sym none))
 
   answered_stands : (k : Codec C) (d : Duty) (r : Reply) (p : PathState C) → Stands k d r p
-  answered_stands k (duties.Step step) r p = step_stands step
+  answered_stands k (Duty.Step step) r p = step_stands step
     where
-      step_stands : (step : StepDuty) → Stands k (duties.Step step) r p
-      step_stands (step_duties.Look s) = λ t. look_stands s t (path_of p) r p
-      step_stands (step_duties.Data s) = other_stands k (duties.Step (step_duties.Data s)) r p tt
-      step_stands step_duties.Events = other_stands k (duties.Step step_duties.Events) r p tt
-      step_stands (step_duties.Heard s index) = other_stands k (duties.Step (step_duties.Heard s index)) r p tt
-      step_stands (step_duties.PlainAck s) = other_stands k (duties.Step (step_duties.PlainAck s)) r p tt
-      step_stands (step_duties.Unmapped s) = other_stands k (duties.Step (step_duties.Unmapped s)) r p tt
-  answered_stands k (duties.Ask ask) r p = other_stands k (duties.Ask ask) r p tt
-  answered_stands k (duties.Send send) r p = other_stands k (duties.Send send) r p tt
-  answered_stands k (duties.Silent silent) r p = other_stands k (duties.Silent silent) r p tt
-  answered_stands k duties.End r p = other_stands k duties.End r p tt
+      step_stands : (step : StepDuty) → Stands k (Duty.Step step) r p
+      step_stands (StepDuty.Look s) = λ t. look_stands s t (path_of p) r p
+      step_stands step = other_stands k (Duty.Step step) r p tt
+  answered_stands k (Duty.Ask ask) r p = other_stands k (Duty.Ask ask) r p tt
+  answered_stands k d r p = other_stands k d r p tt
 
   -- so it is after each step of a path
   pub takes_stands : (k : Codec C) (x : Ask) (r : Reply) (p : PathState C) → asks_of k p ≡ Some x → (t : Side)

@@ -1,24 +1,10 @@
 -- An order that fits what actors and books did is lawful, and drives the world there: its first step leaves a world that the rest fits.
-use Rattle.std.proofs.Common.{◌≡◌, refl, sym, ◌∙◌, ap, subst, ℕ, suc, ◌<◌, ⊎_elim, inl, inr, not, true, false, cond, Some, List, [], ◌∷◌, length, map, arith}
-use Rattle.std.proofs.lemmas.Bool.{eq-eqb, ne_eqb}
-use Rattle.std.proofs.lemmas.List.{length-set}
-use Rattle.std.proofs.lemmas.Option.{same_Some}
-use Rattle.std.specs.List.{slice_get}
-use Rattle.stream_lanes.proofs.Lists.{in_set, item_at}
-use Rattle.actor_desk.specs.declared.ask.Ask.{Ask}
-use Rattle.actor_desk.specs.declared.ask.Note.{Note}
-use Rattle.actor_desk.specs.Words.{is_nil}
-use Rattle.stream_apps.specs.declared.duty.AppDuty.{AppDuty}
-use Rattle.stream_apps.specs.Apps.{AppState}
-use Rattle.stream_apps.specs.AppSteps.{app_asks_first}
-use Rattle.path_agenda.specs.declared.duty.Duty.{Duty}
-use Rattle.path_core.specs.Codec.{Codec}
-use Rattle.path_core.specs.State.{PathState}
-use Rattle.path_core.specs.Steps.{asks_first}
-use Rattle.world_laws.specs.declared.member.Member.TheVariants.{App, Path}
-use Rattle.world_laws.specs.Actors.{Actor, ActorCrew, member_asks, is_over}
-use Rattle.world_laws.specs.Weaving.{after_note, after_notes, IsStepOf, AreStepsOf, steps_by}
-use Rattle.world_laws.specs.Worlds.{WorldState, crew_after, asked, stepped, world_step, goes, is_going, world_run, AreLawful}
+use Rattle.world_laws.proofs.Words.{◌≡◌, refl, sym, ◌∙◌, ap, subst, ℕ, suc, not, inl, inr, ⊎_elim, true, false, cond, Some, List, [], ◌∷◌, length, map, arith}
+use Rattle.world_laws.proofs.Words.{◌<◌, eq-eqb, ne_eqb, length-set, same_Some, slice_get, Duty, Ask, Note, is_nil, AppDuty, AppState, app_asks_first, Codec}
+use Rattle.world_laws.proofs.Words.{PathState, asks_first, in_set, App, Path, Actor, ActorCrew, member_asks, is_over, WorldState, crew_after, asked, stepped}
+use Rattle.world_laws.proofs.Words.{world_step, world_run, AreLawful, is_going, after_note, after_notes, IsStepOf, AreStepsOf, steps_by}
+use Rattle.stream_lanes.proofs.Lists.{item_at}
+use Rattle.world_laws.specs.Worlds.{goes}
 use Rattle.world_laws.proofs.Weaving.Occurring.{In}
 use Rattle.world_laws.proofs.Weaving.FirstSteps.{BooksFit, step_fits, books_end}
 use Rattle.world_laws.proofs.Weaving.TheOrder.{ours}

@@ -1,26 +1,10 @@
 -- The edges of send books, and the stamps of their journals, as asks are entered.
-use Rattle.std.proofs.Common.{◌≡◌, refl, ◌∙◌, ap, ℕ, ◌<◌, ◌≤◌, ◌&&◌, ◌||◌, nat_lt, Bool, true, false, if◌then◌else◌, Result, Ok, Err, [], ◌∷◌, arith}
-use Rattle.std.proofs.lemmas.Bool.{false≢true, ltb-false}
-use Rattle.sides.specs.declared.side.Side.{Side}
-use Rattle.sides.specs.declared.side.Side.TheVariants.{A, B}
-use Rattle.stamped_book.specs.declared.stamped.Pass.{Pass}
-use Rattle.stamped_book.specs.Entering.{entry_of, after_entering, next_stamp}
-use Rattle.stamped_book.specs.Journal.{last_stamp}
-use Rattle.stamped_book.proofs.Journals.{last_stamp-append}
-use Rattle.send_book.specs.declared.call.SendCall.{SendCall}
-use Rattle.send_book.specs.declared.call.SendCall.TheVariants.{Write, Close, Grant, AckIn, Return, GoIdentity, GoInfinite, Abort}
-use Rattle.send_book.specs.declared.call.Span.{Span}
-use Rattle.send_book.specs.declared.call.Why.{Why}
-use Rattle.send_book.specs.State.{Sending}
-use Rattle.send_book.specs.Steps.{decision, given_by, is_future, is_gathered, reply_to, after_call}
-use Rattle.actor_desk.specs.declared.ask.Ask.{Ask}
-use Rattle.actor_desk.specs.declared.ask.Ask.TheVariants as asks
-use Rattle.actor_desk.specs.declared.ask.Reply.{Reply}
-use Rattle.actor_desk.specs.Books.{SendJournal, StampedBooks, stamp_of, after_entry}
-use Rattle.actor_desk.specs.Desk.{SixBooks, send_of, after_ask}
-use Rattle.actor_desk.specs.Words.{pick}
-use Rattle.world_laws.specs.RoundEnd.{asks_grant}
-use Rattle.world_laws.specs.RoundNumbers.{frees_bytes}
+use Rattle.world_laws.proofs.Words.{◌≡◌, refl, ◌∙◌, ap, ℕ, ◌≤◌, ◌&&◌, ◌||◌, nat_lt, Bool, true, false, if◌then◌else◌, Result, Ok, Err, [], ◌∷◌, arith, ◌<◌}
+use Rattle.world_laws.proofs.Words.{false≢true, ltb-false, Pass, entry_of, after_entering, next_stamp, last_stamp, last_stamp-append, Side, A, B, Span, Why}
+use Rattle.world_laws.proofs.Words.{SendCall, Sending, decision, given_by, is_future, is_gathered, AckIn, Ask, Reply, StampedBooks, stamp_of, after_entry}
+use Rattle.world_laws.proofs.Words.{SendJournal, SixBooks, send_of, after_ask, pick, asks_grant, frees_bytes}
+use Rattle.send_book.specs.declared.call.SendCall.TheVariants.{Write, Close, Grant, GoInfinite}
+use Rattle.send_book.specs.Steps.{reply_to, after_call}
 
 -- ---- edges
 
@@ -37,22 +21,20 @@ call_edge b (Grant path most standby) = by (decision path most standby b)
     by (Ok span) = omega arith
     by (Err why) = omega arith
 call_edge b (AckIn next window) = either_edge (is_future next b) b.edge b _ (omega arith) (omega arith)
-call_edge b (Return path) = omega arith
-call_edge b GoIdentity = omega arith
 call_edge b (GoInfinite path) = either_edge (is_gathered path b) b.edge _ b (omega arith) (omega arith)
-call_edge b Abort = omega arith
+call_edge b _ = omega arith
 
 -- the edge of a side's window is never taken back
 pub edge_grows : (s : Side) (x : Ask) (six : SixBooks) → (send_of s six).edge ≤ (send_of s (after_ask x six)).edge
-edge_grows A (asks.Send A call) six = call_edge six.send_a call
-edge_grows A (asks.Send B call) six = omega arith
-edge_grows B (asks.Send A call) six = omega arith
-edge_grows B (asks.Send B call) six = call_edge six.send_b call
-edge_grows A (asks.Reassembly t call) six = omega arith
-edge_grows B (asks.Reassembly t call) six = omega arith
-edge_grows A (asks.Control t call) six = omega arith
-edge_grows B (asks.Control t call) six = omega arith
-edge_grows s (asks.Local step) six = omega arith
+edge_grows A (Ask.Send A call) six = call_edge six.send_a call
+edge_grows A (Ask.Send B call) six = omega arith
+edge_grows B (Ask.Send A call) six = omega arith
+edge_grows B (Ask.Send B call) six = call_edge six.send_b call
+edge_grows A (Ask.Reassembly t call) six = omega arith
+edge_grows B (Ask.Reassembly t call) six = omega arith
+edge_grows A (Ask.Control t call) six = omega arith
+edge_grows B (Ask.Control t call) six = omega arith
+edge_grows s (Ask.Local step) six = omega arith
 
 -- ---- stamps
 
@@ -62,43 +44,43 @@ entered_last book pass call = last_stamp-append 0 book.journal (entry_of reply_t
 
 pub stamp_grows : (s : Side) (x : Ask) (pass : Pass) (books : StampedBooks)
     → last_stamp 0 (pick s books.send_a books.send_b).journal ≤ last_stamp 0 (pick s (after_entry x pass books).send_a (after_entry x pass books).send_b).journal
-stamp_grows A (asks.Send A call) pass books = let last = entered_last books.send_a pass call in omega (arith, last)
-stamp_grows A (asks.Send B call) pass books = omega arith
-stamp_grows B (asks.Send A call) pass books = omega arith
-stamp_grows B (asks.Send B call) pass books = let last = entered_last books.send_b pass call in omega (arith, last)
-stamp_grows A (asks.Reassembly t call) pass books = omega arith
-stamp_grows B (asks.Reassembly t call) pass books = omega arith
-stamp_grows A (asks.Control t call) pass books = omega arith
-stamp_grows B (asks.Control t call) pass books = omega arith
-stamp_grows s (asks.Local step) pass books = omega arith
+stamp_grows A (Ask.Send A call) pass books = let last = entered_last books.send_a pass call in omega (arith, last)
+stamp_grows A (Ask.Send B call) pass books = omega arith
+stamp_grows B (Ask.Send A call) pass books = omega arith
+stamp_grows B (Ask.Send B call) pass books = let last = entered_last books.send_b pass call in omega (arith, last)
+stamp_grows A (Ask.Reassembly t call) pass books = omega arith
+stamp_grows B (Ask.Reassembly t call) pass books = omega arith
+stamp_grows A (Ask.Control t call) pass books = omega arith
+stamp_grows B (Ask.Control t call) pass books = omega arith
+stamp_grows s (Ask.Local step) pass books = omega arith
 
 -- an ask for bytes is the last entry of its book then
 pub grant_entered : (s : Side) (x : Ask) (pass : Pass) (books : StampedBooks) → asks_grant s x ≡ true
     → stamp_of x books pass ≤ last_stamp 0 (pick s (after_entry x pass books).send_a (after_entry x pass books).send_b).journal
-grant_entered A (asks.Send A call) pass books is = let last = entered_last books.send_a pass call in omega (arith, last)
-grant_entered A (asks.Send B call) pass books is = absurd (false≢true is)
-grant_entered B (asks.Send A call) pass books is = absurd (false≢true is)
-grant_entered B (asks.Send B call) pass books is = let last = entered_last books.send_b pass call in omega (arith, last)
-grant_entered A (asks.Reassembly t call) pass books is = absurd (false≢true is)
-grant_entered B (asks.Reassembly t call) pass books is = absurd (false≢true is)
-grant_entered A (asks.Control t call) pass books is = absurd (false≢true is)
-grant_entered B (asks.Control t call) pass books is = absurd (false≢true is)
-grant_entered A (asks.Local step) pass books is = absurd (false≢true is)
-grant_entered B (asks.Local step) pass books is = absurd (false≢true is)
+grant_entered A (Ask.Send A call) pass books is = let last = entered_last books.send_a pass call in omega (arith, last)
+grant_entered A (Ask.Send B call) pass books is = absurd (false≢true is)
+grant_entered B (Ask.Send A call) pass books is = absurd (false≢true is)
+grant_entered B (Ask.Send B call) pass books is = let last = entered_last books.send_b pass call in omega (arith, last)
+grant_entered A (Ask.Reassembly t call) pass books is = absurd (false≢true is)
+grant_entered B (Ask.Reassembly t call) pass books is = absurd (false≢true is)
+grant_entered A (Ask.Control t call) pass books is = absurd (false≢true is)
+grant_entered B (Ask.Control t call) pass books is = absurd (false≢true is)
+grant_entered A (Ask.Local step) pass books is = absurd (false≢true is)
+grant_entered B (Ask.Local step) pass books is = absurd (false≢true is)
 
 -- what frees bytes has a later stamp than all before at its book
 pub freeing_entered : (s : Side) (edge : ℕ) (x : Ask) (reply : Reply) (pass : Pass) (books : StampedBooks) → frees_bytes s edge x reply ≡ true
     → last_stamp 0 (pick s books.send_a books.send_b).journal < stamp_of x books pass
-freeing_entered A edge (asks.Send A call) reply pass books is = omega arith
-freeing_entered A edge (asks.Send B call) reply pass books is = absurd (false≢true is)
-freeing_entered B edge (asks.Send A call) reply pass books is = absurd (false≢true is)
-freeing_entered B edge (asks.Send B call) reply pass books is = omega arith
-freeing_entered A edge (asks.Reassembly t call) reply pass books is = absurd (false≢true is)
-freeing_entered B edge (asks.Reassembly t call) reply pass books is = absurd (false≢true is)
-freeing_entered A edge (asks.Control t call) reply pass books is = absurd (false≢true is)
-freeing_entered B edge (asks.Control t call) reply pass books is = absurd (false≢true is)
-freeing_entered A edge (asks.Local step) reply pass books is = absurd (false≢true is)
-freeing_entered B edge (asks.Local step) reply pass books is = absurd (false≢true is)
+freeing_entered A edge (Ask.Send A call) reply pass books is = omega arith
+freeing_entered A edge (Ask.Send B call) reply pass books is = absurd (false≢true is)
+freeing_entered B edge (Ask.Send A call) reply pass books is = absurd (false≢true is)
+freeing_entered B edge (Ask.Send B call) reply pass books is = omega arith
+freeing_entered A edge (Ask.Reassembly t call) reply pass books is = absurd (false≢true is)
+freeing_entered B edge (Ask.Reassembly t call) reply pass books is = absurd (false≢true is)
+freeing_entered A edge (Ask.Control t call) reply pass books is = absurd (false≢true is)
+freeing_entered B edge (Ask.Control t call) reply pass books is = absurd (false≢true is)
+freeing_entered A edge (Ask.Local step) reply pass books is = absurd (false≢true is)
+freeing_entered B edge (Ask.Local step) reply pass books is = absurd (false≢true is)
 
 -- ---- tests
 

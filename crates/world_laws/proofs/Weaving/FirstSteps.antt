@@ -1,35 +1,21 @@
 -- What the books make of the first step of an order, where the order's calls at each book are what its journal gained.
-use Rattle.std.proofs.Common.{◌≡◌, refl, sym, ◌∙◌, ap, subst, ℕ, ◌+◌, ◌==◌, max, true, List, [], ◌∷◌, ◌++◌, map, filter}
-use Rattle.std.proofs.lemmas.List.{append_assoc, append-nil}
-use Rattle.sides.specs.declared.side.Side.TheVariants.{A, B}
-use Rattle.stamped_book.specs.declared.stamped.Entry.{Entry}
-use Rattle.stamped_book.specs.declared.stamped.Pass.{Pass}
-use Rattle.stamped_book.specs.Entering.{next_stamp, entry_of, after_entering}
-use Rattle.stamped_book.specs.Journal.{Journaled, book_of, last_stamp}
-use Rattle.stamped_book.proofs.Journals.{replay-append, last_stamp-append}
+use Rattle.world_laws.proofs.Words.{◌≡◌, refl, sym, ◌∙◌, ap, subst, ℕ, ◌+◌, ◌==◌, max, true, List, [], ◌∷◌, ◌++◌, map, filter, append-nil, append_assoc, Entry}
+use Rattle.world_laws.proofs.Words.{Pass, entry_of, after_entering, next_stamp, Journaled, book_of, last_stamp, replay-append, last_stamp-append, A, B, Ask}
+use Rattle.world_laws.proofs.Words.{Note, Reply, StampedBooks, after_entry, is_local, send_note, reassembly_note, control_note, note_of, AreEntries}
 use Rattle.send_book.specs.Steps as sending
 use Rattle.reassembly_book.specs.Steps as arriving
 use Rattle.control_book.specs.Replies as controlling
 use Rattle.control_book.specs.Steps as control
-use Rattle.actor_desk.specs.declared.ask.Ask.{Ask}
-use Rattle.actor_desk.specs.declared.ask.Ask.TheVariants as asks
-use Rattle.actor_desk.specs.declared.ask.Note.{Note}
-use Rattle.actor_desk.specs.declared.ask.Reply.{Reply}
-use Rattle.actor_desk.specs.declared.ask.Reply.TheVariants as replies
-use Rattle.actor_desk.specs.Books.{StampedBooks, after_entry}
-use Rattle.actor_desk.specs.Journals.{is_local, send_note, reassembly_note, control_note}
-use Rattle.world_laws.specs.Weaving.{AreEntries}
-use Rattle.world_laws.specs.Worlds.{note_of}
 
 -- the number of the book that is asked
 abbrev pub book_of_ask : Ask → ℕ
-book_of_ask (asks.Send A call) = 0
-book_of_ask (asks.Send B call) = 1
-book_of_ask (asks.Reassembly A call) = 2
-book_of_ask (asks.Reassembly B call) = 3
-book_of_ask (asks.Control A call) = 4
-book_of_ask (asks.Control B call) = 5
-book_of_ask (asks.Local step) = 6
+book_of_ask (Ask.Send A call) = 0
+book_of_ask (Ask.Send B call) = 1
+book_of_ask (Ask.Reassembly A call) = 2
+book_of_ask (Ask.Reassembly B call) = 3
+book_of_ask (Ask.Control A call) = 4
+book_of_ask (Ask.Control B call) = 5
+book_of_ask (Ask.Local step) = 6
 
 -- the calls at one book
 abbrev pub at_book : ℕ → List Note → List Note
@@ -125,32 +111,32 @@ pub record StepFits (n : Note) (order : List Note) (old new : StampedBooks) (pas
 
 module _ (stamp seen actor : ℕ) (reply : Reply) (order : List Note) (old new : StampedBooks) (pass : Pass) (seen_is : seen ≡ pass.stamp) (actor_is : actor ≡ pass.actor) where
   pub step_fits : (ask : Ask) → BooksFit (a_note stamp seen actor ask reply ∷ order) old new
-      → (is_local ask ≡ true → (stamp ≡ pass.stamp + 1) × (reply ≡ replies.Done)) → StepFits (a_note stamp seen actor ask reply) order old new pass
-  step_fits (asks.Send A call) h local =
+      → (is_local ask ≡ true → (stamp ≡ pass.stamp + 1) × (reply ≡ Reply.Done)) → StepFits (a_note stamp seen actor ask reply) order old new pass
+  step_fits (Ask.Send A call) h local =
       let first = first_fits sending.reply_to sending.after_call (send_note A) (λ e. refl) (λ e. refl) _ (at_book 0 order) old.send_a new.send_a pass call h.send_a seen_is actor_is
-      (λ e is. let same : asks.Send A call ≡ asks.Send A e.call = ap (λ m. m.ask) is in cc) in
+      (λ e is. let same : Ask.Send A call ≡ Ask.Send A e.call = ap (λ m. m.ask) is in cc) in
       record { note_is = first.note_is; rest = record { send_a = first.rest; send_b = h.send_b; reassembly_a = h.reassembly_a; reassembly_b = h.reassembly_b; control_a = h.control_a; control_b = h.control_b } }
-  step_fits (asks.Send B call) h local =
+  step_fits (Ask.Send B call) h local =
       let first = first_fits sending.reply_to sending.after_call (send_note B) (λ e. refl) (λ e. refl) _ (at_book 1 order) old.send_b new.send_b pass call h.send_b seen_is actor_is
-      (λ e is. let same : asks.Send B call ≡ asks.Send B e.call = ap (λ m. m.ask) is in cc) in
+      (λ e is. let same : Ask.Send B call ≡ Ask.Send B e.call = ap (λ m. m.ask) is in cc) in
       record { note_is = first.note_is; rest = record { send_a = h.send_a; send_b = first.rest; reassembly_a = h.reassembly_a; reassembly_b = h.reassembly_b; control_a = h.control_a; control_b = h.control_b } }
-  step_fits (asks.Reassembly A call) h local =
+  step_fits (Ask.Reassembly A call) h local =
       let first = first_fits arriving.reply_to arriving.after_call (reassembly_note A) (λ e. refl) (λ e. refl) _ (at_book 2 order) old.reassembly_a new.reassembly_a pass call h.reassembly_a seen_is actor_is
-      (λ e is. let same : asks.Reassembly A call ≡ asks.Reassembly A e.call = ap (λ m. m.ask) is in cc) in
+      (λ e is. let same : Ask.Reassembly A call ≡ Ask.Reassembly A e.call = ap (λ m. m.ask) is in cc) in
       record { note_is = first.note_is; rest = record { send_a = h.send_a; send_b = h.send_b; reassembly_a = first.rest; reassembly_b = h.reassembly_b; control_a = h.control_a; control_b = h.control_b } }
-  step_fits (asks.Reassembly B call) h local =
+  step_fits (Ask.Reassembly B call) h local =
       let first = first_fits arriving.reply_to arriving.after_call (reassembly_note B) (λ e. refl) (λ e. refl) _ (at_book 3 order) old.reassembly_b new.reassembly_b pass call h.reassembly_b seen_is actor_is
-      (λ e is. let same : asks.Reassembly B call ≡ asks.Reassembly B e.call = ap (λ m. m.ask) is in cc) in
+      (λ e is. let same : Ask.Reassembly B call ≡ Ask.Reassembly B e.call = ap (λ m. m.ask) is in cc) in
       record { note_is = first.note_is; rest = record { send_a = h.send_a; send_b = h.send_b; reassembly_a = h.reassembly_a; reassembly_b = first.rest; control_a = h.control_a; control_b = h.control_b } }
-  step_fits (asks.Control A call) h local =
+  step_fits (Ask.Control A call) h local =
       let first = first_fits controlling.reply_to control.after (control_note A) (λ e. refl) (λ e. refl) _ (at_book 4 order) old.control_a new.control_a pass call h.control_a seen_is actor_is
-      (λ e is. let same : asks.Control A call ≡ asks.Control A e.call = ap (λ m. m.ask) is in cc) in
+      (λ e is. let same : Ask.Control A call ≡ Ask.Control A e.call = ap (λ m. m.ask) is in cc) in
       record { note_is = first.note_is; rest = record { send_a = h.send_a; send_b = h.send_b; reassembly_a = h.reassembly_a; reassembly_b = h.reassembly_b; control_a = first.rest; control_b = h.control_b } }
-  step_fits (asks.Control B call) h local =
+  step_fits (Ask.Control B call) h local =
       let first = first_fits controlling.reply_to control.after (control_note B) (λ e. refl) (λ e. refl) _ (at_book 5 order) old.control_b new.control_b pass call h.control_b seen_is actor_is
-      (λ e is. let same : asks.Control B call ≡ asks.Control B e.call = ap (λ m. m.ask) is in cc) in
+      (λ e is. let same : Ask.Control B call ≡ Ask.Control B e.call = ap (λ m. m.ask) is in cc) in
       record { note_is = first.note_is; rest = record { send_a = h.send_a; send_b = h.send_b; reassembly_a = h.reassembly_a; reassembly_b = h.reassembly_b; control_a = h.control_a; control_b = first.rest } }
-  step_fits (asks.Local step) h local =
+  step_fits (Ask.Local step) h local =
       let own = local refl in
       record {
         note_is = rw (seen_is, actor_is, own.0, own.1) refl;

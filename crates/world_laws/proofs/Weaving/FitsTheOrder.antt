@@ -1,27 +1,14 @@
 -- What the steps of a round made fits the order by stamp, then actor.
-use Rattle.std.proofs.Common.{◌≡◌, refl, sym, ◌∙◌, ap, subst, ℕ, zero, suc, ◌+◌, ◌<◌, ◌≤◌, ◌⊎◌, ⊎_elim, inl, inr, false, Some, List, [], ◌∷◌, ◌++◌, length, map, arith}
-use Rattle.std.proofs.lemmas.Bool.{cases_lt}
-use Rattle.std.proofs.lemmas.List.{append-nil, append_assoc, map-append, length-map}
-use Rattle.std.proofs.lemmas.Option.{same_Some}
-use Rattle.std.specs.List.{slice_get}
-use Rattle.sides.specs.declared.side.Side.TheVariants.{A, B}
-use Rattle.stamped_book.specs.declared.stamped.Entry.{Entry}
-use Rattle.stamped_book.specs.Journal.{Journaled, book_of, last_stamp}
+use Rattle.world_laws.proofs.Words.{◌≡◌, refl, sym, ◌∙◌, ap, subst, ℕ, zero, suc, ◌+◌, ◌≤◌, inl, inr, ◌⊎◌, ⊎_elim, false, Some, List, [], ◌∷◌, ◌++◌, length}
+use Rattle.world_laws.proofs.Words.{map, arith, ◌<◌, cases_lt, length-map, append-nil, append_assoc, map-append, same_Some, slice_get, Entry, Journaled}
+use Rattle.world_laws.proofs.Words.{book_of, last_stamp, A, B, Ask, Note, is_local, above, send_note, reassembly_note, control_note, Codec, Every, ActorCrew}
+use Rattle.world_laws.proofs.Words.{WorldState, journals_of, NotesRise, last_noted, AreStamped, BooksAreStamped, IsFineCrew, lists_of, AreEntries, JournalGrew}
+use Rattle.world_laws.proofs.Words.{BooksGrew, after_note, after_notes, AreStepsOf, Stepped, AllStepped, Begins, Worked}
 use Rattle.send_book.specs.Steps as sending
 use Rattle.reassembly_book.specs.Steps as arriving
 use Rattle.control_book.specs.Replies as controlling
 use Rattle.control_book.specs.Steps as control
-use Rattle.stream_lanes.specs.Words.{Every}
-use Rattle.actor_desk.specs.declared.ask.Ask.{Ask}
-use Rattle.actor_desk.specs.declared.ask.Ask.TheVariants as asks
-use Rattle.actor_desk.specs.declared.ask.Note.{Note}
-use Rattle.actor_desk.specs.Journals.{is_local, above, in_order, send_note, reassembly_note, control_note}
-use Rattle.path_core.specs.Codec.{Codec}
-use Rattle.world_laws.specs.Actors.{ActorCrew}
-use Rattle.world_laws.specs.Fine.{NotesRise, last_noted, AreStamped, BooksAreStamped, IsFineCrew, lists_of}
-use Rattle.world_laws.specs.StampedBooks.{journals_of}
-use Rattle.world_laws.specs.Weaving.{AreEntries, JournalGrew, BooksGrew, after_note, after_notes, AreStepsOf, Stepped, AllStepped, Begins, Worked}
-use Rattle.world_laws.specs.Worlds.{WorldState}
+use Rattle.actor_desk.specs.Journals.{in_order}
 use Rattle.world_laws.proofs.Weaving.StampsChain.{stamps_below}
 use Rattle.world_laws.proofs.Weaving.Occurring.{In, Occurs, occurs_from, occurs_where}
 use Rattle.world_laws.proofs.Weaving.FirstSteps.{book_of_ask, at_book, Fits, BooksFit}
@@ -104,10 +91,8 @@ of_book make number each entries n there =
     let found = in_mapped make entries n there in ap (λ m. book_of_ask m.ask) (sym found.2) ∙ each found.0
 
 not_local : (ask : Ask) (number : ℕ) → book_of_ask ask ≡ number → number < 6 → is_local ask ≡ false
-not_local (asks.Send s call) number is small = refl
-not_local (asks.Reassembly s call) number is small = refl
-not_local (asks.Control s call) number is small = refl
-not_local (asks.Local step) number is small = absurd (omega (arith, is, small))
+not_local (Ask.Local step) number is small = absurd (omega (arith, is, small))
+not_local _ number is small = refl
 
 module _ {C : Type 0} where
   -- ---- what an actor gained

@@ -1,9 +1,6 @@
 -- Notes in lists of lists, and lists and journals that have the same ones.
-use Rattle.std.proofs.Common.{◌≡◌, refl, sym, subst, ℕ, zero, suc, ◌<◌, ◌⊎◌, inl, inr, ⊎_elim, true, false, List, [], ◌∷◌, ◌++◌, length, arith}
-use Rattle.std.proofs.lemmas.Bool.{both_ways}
-use Rattle.std.specs.List.{Contains, slice_index_or}
-use Rattle.actor_desk.specs.declared.ask.Note.{Note}
-use Rattle.actor_desk.specs.Journals.{is_local, ArePaired}
+use Rattle.world_laws.proofs.Words.{◌≡◌, refl, sym, subst, ℕ, zero, suc, inl, inr, ◌⊎◌, ⊎_elim, true, false, List, [], ◌∷◌, ◌++◌, length, arith, ◌<◌, both_ways}
+use Rattle.world_laws.proofs.Words.{Contains, slice_index_or, Note, is_local, ArePaired}
 
 -- it is one of the items
 abbrev pub In : {X : Type 0} → X → List X → Type 0

@@ -1,24 +1,10 @@
 -- Every step and every end of a round keeps lists and journals paired and chained.
-use Rattle.std.proofs.Common.{◌≡◌, refl, sym, ◌∙◌, ap, subst, ℕ, zero, suc, ◌+◌, ◌<◌, ◌≤◌, max, Bool, true, false, if◌then◌else◌, inl, inr, Option, Some, None, List, [], ◌∷◌, ◌++◌, map, set, arith}
-use Rattle.std.proofs.lemmas.List.{map-append}
-use Rattle.std.proofs.lemmas.Option.{same_Some}
-use Rattle.std.specs.List.{slice_get}
-use Rattle.sides.specs.declared.side.Side.TheVariants.{A, B}
-use Rattle.stamped_book.specs.declared.stamped.Entry.{Entry}
-use Rattle.stamped_book.specs.declared.stamped.Pass.{Pass}
-use Rattle.stream_lanes.specs.Words.{From}
-use Rattle.stream_lanes.proofs.Lists.{Every-nil, Every-map, Every-push, From-put, in_map}
-use Rattle.actor_desk.specs.declared.ask.Ask.{Ask}
-use Rattle.actor_desk.specs.declared.ask.Ask.TheVariants as asks
-use Rattle.actor_desk.specs.declared.ask.Note.{Note}
-use Rattle.actor_desk.specs.Journals.{is_local, send_note, reassembly_note, control_note, ArePaired}
-use Rattle.path_core.specs.Codec.{Codec}
-use Rattle.world_laws.specs.Actors.{Actor, ActorCrew, member_asks}
-use Rattle.world_laws.specs.Openings.{PathPlan, Start, new_crew, new_path, paths_from, opened_world}
-use Rattle.world_laws.specs.Fine.{BooksAreStamped, IsChainedAbove, IsFineCrew, lists_of, IsFine, top_after}
-use Rattle.actor_desk.specs.Books.{StampedBooks, after_entry}
-use Rattle.world_laws.specs.StampedBooks.{journals_of}
-use Rattle.world_laws.specs.Worlds.{WorldState, Turn, note_of, crew_after, asked, stepped, world_step, all_over, greatest, begins, end_round, after_turn}
+use Rattle.world_laws.proofs.Words.{◌≡◌, refl, sym, ◌∙◌, ap, subst, ℕ, zero, suc, ◌+◌, ◌≤◌, max, inl, inr, Bool, true, false, if◌then◌else◌, Option, Some, None}
+use Rattle.world_laws.proofs.Words.{List, [], ◌∷◌, ◌++◌, map, arith, ◌<◌, set, map-append, same_Some, slice_get, Entry, Pass, A, B, Ask, Note, StampedBooks}
+use Rattle.world_laws.proofs.Words.{after_entry, is_local, ArePaired, send_note, reassembly_note, control_note, Codec, Every-map, Every-push, in_map, Every-nil}
+use Rattle.world_laws.proofs.Words.{From-put, From, Actor, ActorCrew, member_asks, PathPlan, Start, new_crew, new_path, paths_from, opened_world, WorldState}
+use Rattle.world_laws.proofs.Words.{Turn, crew_after, asked, stepped, world_step, all_over, greatest, begins, end_round, after_turn, note_of, journals_of}
+use Rattle.world_laws.proofs.Words.{BooksAreStamped, IsFineCrew, lists_of, IsFine, IsChainedAbove, top_after}
 use Rattle.world_laws.proofs.Worlds.Opened.{opened_actors}
 use Rattle.world_laws.proofs.Weaving.Occurring.{Occurs, Pairs, Grown, paired_from, pairs_from, pairs_grow, pairs_local, grown_here, grown_later}
 use Rattle.world_laws.proofs.Weaving.StampsChain.{stamp_rises, local_stamp, last_noted-more, NotesRise-more, stamps_below, stamps_above, chained_more, chained_anew, entries_above, stamped_more}
@@ -33,25 +19,23 @@ grown_journal f journal entry n is = map-append f journal (entry ∷ []) ∙ ap 
 -- it is at a book, or at none
 pub grown_journals : (pass : Pass) (ask : Ask) (books : StampedBooks) → is_local ask ≡ false
     → Grown (note_of books pass ask) (journals_of books) (journals_of (after_entry ask pass books))
-grown_journals pass (asks.Send A call) books at = grown_here _ _ _ _ (grown_journal (send_note A) books.send_a.journal _ _ refl)
-grown_journals pass (asks.Send B call) books at = grown_later _ _ _ _ (grown_here _ _ _ _ (grown_journal (send_note B) books.send_b.journal _ _ refl))
-grown_journals pass (asks.Reassembly A call) books at =
+grown_journals pass (Ask.Send A call) books at = grown_here _ _ _ _ (grown_journal (send_note A) books.send_a.journal _ _ refl)
+grown_journals pass (Ask.Send B call) books at = grown_later _ _ _ _ (grown_here _ _ _ _ (grown_journal (send_note B) books.send_b.journal _ _ refl))
+grown_journals pass (Ask.Reassembly A call) books at =
     grown_later _ _ _ _ (grown_later _ _ _ _ (grown_here _ _ _ _ (grown_journal (reassembly_note A) books.reassembly_a.journal _ _ refl)))
-grown_journals pass (asks.Reassembly B call) books at =
+grown_journals pass (Ask.Reassembly B call) books at =
     grown_later _ _ _ _ (grown_later _ _ _ _ (grown_later _ _ _ _ (grown_here _ _ _ _ (grown_journal (reassembly_note B) books.reassembly_b.journal _ _ refl))))
-grown_journals pass (asks.Control A call) books at =
+grown_journals pass (Ask.Control A call) books at =
     grown_later _ _ _ _ (grown_later _ _ _ _ (grown_later _ _ _ _ (grown_later _ _ _ _
     (grown_here _ _ _ _ (grown_journal (control_note A) books.control_a.journal _ _ refl)))))
-grown_journals pass (asks.Control B call) books at =
+grown_journals pass (Ask.Control B call) books at =
     grown_later _ _ _ _ (grown_later _ _ _ _ (grown_later _ _ _ _ (grown_later _ _ _ _ (grown_later _ _ _ _
     (grown_here _ _ _ _ (grown_journal (control_note B) books.control_b.journal _ _ refl))))))
-grown_journals pass (asks.Local step) books at = cc
+grown_journals pass (Ask.Local step) books at = cc
 
 same_journals : (pass : Pass) (ask : Ask) (books : StampedBooks) → is_local ask ≡ true → after_entry ask pass books ≡ books
-same_journals pass (asks.Send s call) books at = cc
-same_journals pass (asks.Reassembly s call) books at = cc
-same_journals pass (asks.Control s call) books at = cc
-same_journals pass (asks.Local step) books at = refl
+same_journals pass (Ask.Local step) books at = refl
+same_journals pass _ books at = cc
 
 -- each entry has a stamp above 0
 journals_above : (books : StampedBooks) → BooksAreStamped books → (n : Note) → Occurs n (journals_of books) → 0 < n.stamp

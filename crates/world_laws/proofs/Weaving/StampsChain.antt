@@ -1,33 +1,18 @@
 -- Stamps: each step has one above all that its actor knew, in lists and in journals.
-use Rattle.std.proofs.Common.{◌≡◌, refl, sym, ◌∙◌, ap, subst, ℕ, zero, suc, ◌+◌, ◌<◌, ◌≤◌, max, true, inl, inr, List, [], ◌∷◌, ◌++◌, map, Some, arith}
-use Rattle.std.proofs.lemmas.List.{append-nil, append_assoc}
-use Rattle.std.specs.List.{slice_get}
-use Rattle.sides.specs.declared.side.Side.TheVariants.{A, B}
-use Rattle.stamped_book.specs.declared.stamped.Entry.{Entry}
-use Rattle.stamped_book.specs.declared.stamped.Pass.{Pass}
-use Rattle.stamped_book.specs.Journal.{last_stamp}
-use Rattle.stream_lanes.specs.Words.{Every}
-use Rattle.actor_desk.specs.declared.ask.Ask.{Ask}
-use Rattle.actor_desk.specs.declared.ask.Ask.TheVariants as asks
-use Rattle.actor_desk.specs.declared.ask.Note.{Note}
-use Rattle.actor_desk.specs.Journals.{is_local, AreChained}
-use Rattle.world_laws.specs.Fine.{NotesRise, last_noted, AreStamped, BooksAreStamped, IsChainedAbove}
-use Rattle.actor_desk.specs.Books.{StampedBooks, stamp_of, after_entry}
+use Rattle.world_laws.proofs.Words.{◌≡◌, refl, sym, ◌∙◌, ap, subst, ℕ, zero, suc, ◌+◌, ◌≤◌, max, inl, inr, true, Some, List, [], ◌∷◌, ◌++◌, map, arith, ◌<◌}
+use Rattle.world_laws.proofs.Words.{append-nil, append_assoc, slice_get, Entry, Pass, last_stamp, A, B, Ask, Note, StampedBooks, stamp_of, after_entry}
+use Rattle.world_laws.proofs.Words.{is_local, AreChained, Every, NotesRise, last_noted, AreStamped, BooksAreStamped, IsChainedAbove}
 use Rattle.world_laws.proofs.Weaving.Occurring.{In}
 
 -- ---- the stamp of a step
 
 pub stamp_rises : (books : StampedBooks) (pass : Pass) (ask : Ask) → pass.stamp < stamp_of ask books pass
-stamp_rises books pass (asks.Send s call) = omega arith
-stamp_rises books pass (asks.Reassembly s call) = omega arith
-stamp_rises books pass (asks.Control s call) = omega arith
-stamp_rises books pass (asks.Local step) = omega arith
+stamp_rises books pass (Ask.Send s call) = omega arith
+stamp_rises books pass _ = omega arith
 
 pub local_stamp : (books : StampedBooks) (pass : Pass) (ask : Ask) → is_local ask ≡ true → stamp_of ask books pass ≡ pass.stamp + 1
-local_stamp books pass (asks.Send s call) is = cc
-local_stamp books pass (asks.Reassembly s call) is = cc
-local_stamp books pass (asks.Control s call) is = cc
-local_stamp books pass (asks.Local step) is = refl
+local_stamp books pass (Ask.Local step) is = refl
+local_stamp books pass _ is = cc
 
 -- ---- lists
 
@@ -104,7 +89,7 @@ module _ {C R : Type 0} where
   entries_above f same last (entry ∷ entries) n stamped (inr there) = entries_above f same entry.stamp entries n stamped.1 there
 
 pub stamped_more : (pass : Pass) (ask : Ask) (books : StampedBooks) → BooksAreStamped books → BooksAreStamped (after_entry ask pass books)
-stamped_more pass (asks.Send A call) books h = record {
+stamped_more pass (Ask.Send A call) books h = record {
   send_a = AreStamped-more 0 books.send_a.journal _ h.send_a refl;
   send_b = h.send_b;
   reassembly_a = h.reassembly_a;
@@ -112,7 +97,7 @@ stamped_more pass (asks.Send A call) books h = record {
   control_a = h.control_a;
   control_b = h.control_b;
 }
-stamped_more pass (asks.Send B call) books h = record {
+stamped_more pass (Ask.Send B call) books h = record {
   send_a = h.send_a;
   send_b = AreStamped-more 0 books.send_b.journal _ h.send_b refl;
   reassembly_a = h.reassembly_a;
@@ -120,7 +105,7 @@ stamped_more pass (asks.Send B call) books h = record {
   control_a = h.control_a;
   control_b = h.control_b;
 }
-stamped_more pass (asks.Reassembly A call) books h = record {
+stamped_more pass (Ask.Reassembly A call) books h = record {
   send_a = h.send_a;
   send_b = h.send_b;
   reassembly_a = AreStamped-more 0 books.reassembly_a.journal _ h.reassembly_a refl;
@@ -128,7 +113,7 @@ stamped_more pass (asks.Reassembly A call) books h = record {
   control_a = h.control_a;
   control_b = h.control_b;
 }
-stamped_more pass (asks.Reassembly B call) books h = record {
+stamped_more pass (Ask.Reassembly B call) books h = record {
   send_a = h.send_a;
   send_b = h.send_b;
   reassembly_a = h.reassembly_a;
@@ -136,7 +121,7 @@ stamped_more pass (asks.Reassembly B call) books h = record {
   control_a = h.control_a;
   control_b = h.control_b;
 }
-stamped_more pass (asks.Control A call) books h = record {
+stamped_more pass (Ask.Control A call) books h = record {
   send_a = h.send_a;
   send_b = h.send_b;
   reassembly_a = h.reassembly_a;
@@ -144,7 +129,7 @@ stamped_more pass (asks.Control A call) books h = record {
   control_a = AreStamped-more 0 books.control_a.journal _ h.control_a refl;
   control_b = h.control_b;
 }
-stamped_more pass (asks.Control B call) books h = record {
+stamped_more pass (Ask.Control B call) books h = record {
   send_a = h.send_a;
   send_b = h.send_b;
   reassembly_a = h.reassembly_a;
@@ -152,4 +137,4 @@ stamped_more pass (asks.Control B call) books h = record {
   control_a = h.control_a;
   control_b = AreStamped-more 0 books.control_b.journal _ h.control_b refl;
 }
-stamped_more pass (asks.Local step) books h = h
+stamped_more pass (Ask.Local step) books h = h

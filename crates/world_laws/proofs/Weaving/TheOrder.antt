@@ -1,13 +1,10 @@
 -- The order by stamp, then actor: it climbs, it has all notes of the lists above a stamp, and what of it is one actor's or one
 -- book's is that actor's list or that book's journal.
-use Rattle.std.proofs.Common.{◌≡◌, refl, sym, ◌∙◌, ap, subst, ℕ, zero, suc, ◌+◌, ◌<◌, ◌≤◌, ◌==◌, ◌&&◌, ◌⊎◌, inl, inr, ⊎_elim, Bool, true, false, cond, nat_lt, if◌then◌else◌, Some, List, [], ◌∷◌, ◌++◌, length, filter, arith}
-use Rattle.std.proofs.lemmas.Bool.{cases_eq, cases_order, ltb-true, lt-ltb, le-ltb, eqb-true, eq-eqb, or_cases, or_parts, and_parts, and_from, both_ways}
-use Rattle.std.proofs.lemmas.List.Elements.{filter-append}
-use Rattle.std.proofs.lemmas.Option.{same_Some}
-use Rattle.std.specs.List.{slice_get}
-use Rattle.actor_desk.specs.declared.ask.Note.{Note}
-use Rattle.actor_desk.specs.Journals.{is_local, ArePaired, above, comes_first, with_note, with_notes, in_order}
-use Rattle.world_laws.specs.Fine.{NotesRise}
+use Rattle.world_laws.proofs.Words.{◌≡◌, refl, sym, ◌∙◌, ap, subst, ℕ, zero, suc, ◌+◌, ◌≤◌, ◌&&◌, ◌==◌, nat_lt, inl, inr, ◌⊎◌, ⊎_elim, Bool, true, false, cond}
+use Rattle.world_laws.proofs.Words.{if◌then◌else◌, Some, List, [], ◌∷◌, ◌++◌, length, arith, ◌<◌, filter, cases_eq, cases_order, ltb-true, lt-ltb, le-ltb}
+use Rattle.world_laws.proofs.Words.{eqb-true, eq-eqb, or_cases, or_parts, and_parts, and_from, both_ways, same_Some, slice_get, filter-append, Note, is_local}
+use Rattle.world_laws.proofs.Words.{ArePaired, above, comes_first, with_note, with_notes, NotesRise}
+use Rattle.actor_desk.specs.Journals.{in_order}
 use Rattle.world_laws.proofs.Weaving.StampsChain.{stamps_above}
 use Rattle.world_laws.proofs.Weaving.Occurring.{In, Occurs, occurs_from, occurs_where}
 

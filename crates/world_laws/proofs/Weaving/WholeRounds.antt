@@ -1,15 +1,9 @@
 -- Whole rounds, woven one by one: lawful, and ending as the serial turns do.
-use Rattle.std.proofs.Common.{◌≡◌, refl, sym, ◌∙◌, ap, subst, ℕ, zero, suc, max, Bool, true, false, if◌then◌else◌, Some, List, [], ◌∷◌, ◌++◌, map, arith}
-use Rattle.std.specs.List.{slice_get}
-use Rattle.stream_lanes.proofs.Lists.{in_map}
-use Rattle.path_core.specs.Codec.{Codec}
-use Rattle.world_laws.specs.Actors.{ActorCrew}
-use Rattle.world_laws.specs.Fine.{IsFine}
-use Rattle.world_laws.specs.Openings.{Start, opened_world}
-use Rattle.world_laws.specs.Outcomes.{outcome_of}
-use Rattle.world_laws.specs.Serial.{goes_on, OneOf, steps_and, round_and, spelled, after_steps, after_turns, after_round, AreRounds}
-use Rattle.world_laws.specs.Weaving.{Begins, Worked, steps_by, woven, woven_rounds, WovenDoes, StepsWeave, RoundsWeave}
-use Rattle.world_laws.specs.Worlds.{WorldState, Turn, world_step, all_over, greatest, begins, end_round, after_turn, world_run, AreLawful}
+use Rattle.world_laws.proofs.Words.{◌≡◌, refl, sym, ◌∙◌, ap, subst, ℕ, zero, suc, max, Bool, true, false, if◌then◌else◌, Some, List, [], ◌∷◌, ◌++◌, map, arith}
+use Rattle.world_laws.proofs.Words.{slice_get, Codec, in_map, ActorCrew, Start, opened_world, WorldState, Turn, world_step, all_over, greatest, begins}
+use Rattle.world_laws.proofs.Words.{end_round, after_turn, world_run, AreLawful, outcome_of, IsFine, OneOf, steps_and, round_and, spelled, after_turns}
+use Rattle.world_laws.proofs.Words.{after_round, AreRounds, Begins, Worked, steps_by, woven, woven_rounds, WovenDoes, StepsWeave, RoundsWeave}
+use Rattle.world_laws.specs.Serial.{goes_on, after_steps}
 use Rattle.world_laws.proofs.Worlds.Opened.{opened_actors}
 use Rattle.world_laws.proofs.Weaving.Paired.{ended_fine, greatest_above, same_greatest, greatest_begun, opened_fine}
 use Rattle.world_laws.proofs.Rounds.SerialIsLawful.{all_turns_over}

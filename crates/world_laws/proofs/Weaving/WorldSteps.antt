@@ -1,33 +1,15 @@
 -- The steps that a world makes one after the other are such as weaving takes: actors and books go on, and stay paired.
-use Rattle.std.proofs.Common.{◌≡◌, refl, sym, ◌∙◌, ap, subst, ℕ, zero, suc, ◌+◌, ◌<◌, ◌≤◌, max, ⊎_elim, true, Option, Some, None, List, [], ◌∷◌, ◌++◌, set, arith}
-use Rattle.std.proofs.lemmas.List.{append-nil, append_assoc}
-use Rattle.std.proofs.lemmas.Option.{same_Some}
-use Rattle.std.specs.List.{slice_get}
-use Rattle.sides.specs.declared.side.Side.TheVariants.{A, B}
-use Rattle.stamped_book.specs.declared.stamped.Entry.{Entry}
-use Rattle.stamped_book.specs.declared.stamped.Pass.{Pass}
-use Rattle.stamped_book.specs.Entering.{entry_of, after_entering}
-use Rattle.stamped_book.specs.Journal.{Journaled, book_of, replay, last_stamp}
-use Rattle.stamped_book.proofs.Journals.{replay-append, last_stamp-append}
+use Rattle.world_laws.proofs.Words.{◌≡◌, refl, sym, ◌∙◌, ap, subst, ℕ, zero, suc, ◌+◌, ◌≤◌, max, ⊎_elim, true, Option, Some, None, List, [], ◌∷◌, ◌++◌, arith}
+use Rattle.world_laws.proofs.Words.{◌<◌, set, append-nil, append_assoc, same_Some, slice_get, Entry, Pass, entry_of, after_entering, Journaled, book_of, replay}
+use Rattle.world_laws.proofs.Words.{last_stamp, replay-append, last_stamp-append, A, B, Ask, Note, Reply, StampedBooks, after_entry, is_local, Codec}
+use Rattle.world_laws.proofs.Words.{Every-push, Every-nil, in_set, Every, ActorCrew, member_asks, WorldState, crew_after, asked, stepped, world_step, world_run}
+use Rattle.world_laws.proofs.Words.{note_of, answer_to, IsFine, after_turns, AreEntries, JournalGrew, BooksGrew, after_note, after_notes, IsStepOf, AreStepsOf}
+use Rattle.world_laws.proofs.Words.{Stepped, AllStepped, Begins, Worked, steps_by}
 use Rattle.send_book.specs.Steps as sending
 use Rattle.reassembly_book.specs.Steps as arriving
 use Rattle.control_book.specs.Replies as controlling
 use Rattle.control_book.specs.Steps as control
-use Rattle.stream_lanes.specs.Words.{Every}
-use Rattle.stream_lanes.proofs.Lists.{Every-nil, Every-push, in_set}
-use Rattle.actor_desk.specs.declared.ask.Ask.{Ask}
-use Rattle.actor_desk.specs.declared.ask.Ask.TheVariants as asks
-use Rattle.actor_desk.specs.declared.ask.Note.{Note}
-use Rattle.actor_desk.specs.declared.ask.Reply.TheVariants as replies
-use Rattle.actor_desk.specs.Books.{StampedBooks, after_entry}
-use Rattle.actor_desk.specs.Journals.{is_local}
-use Rattle.path_core.specs.Codec.{Codec}
-use Rattle.world_laws.specs.Actors.{ActorCrew, member_asks}
-use Rattle.world_laws.specs.Fine.{IsFine}
-use Rattle.world_laws.specs.Serial.{after_steps, after_turns}
-use Rattle.world_laws.specs.StampedBooks.{answer_to}
-use Rattle.world_laws.specs.Weaving.{AreEntries, JournalGrew, BooksGrew, after_note, after_notes, IsStepOf, AreStepsOf, Stepped, AllStepped, Begins, Worked, steps_by}
-use Rattle.world_laws.specs.Worlds.{WorldState, note_of, crew_after, asked, stepped, world_step, world_run}
+use Rattle.world_laws.specs.Serial.{after_steps}
 use Rattle.world_laws.proofs.Weaving.StampsChain.{stamp_rises, local_stamp}
 use Rattle.world_laws.proofs.Weaving.Paired.{step_fine}
 
@@ -78,7 +60,7 @@ same_books top books = record {
 }
 
 books_more : (top : ℕ) (old new : StampedBooks) (pass : Pass) (ask : Ask) → top ≤ pass.stamp → BooksGrew top old new → BooksGrew top old (after_entry ask pass new)
-books_more top old new pass (asks.Send A call) known h = record {
+books_more top old new pass (Ask.Send A call) known h = record {
   send_a = grew_more sending.reply_to sending.after_call top old.send_a new.send_a pass call known h.send_a;
   send_b = h.send_b;
   reassembly_a = h.reassembly_a;
@@ -86,7 +68,7 @@ books_more top old new pass (asks.Send A call) known h = record {
   control_a = h.control_a;
   control_b = h.control_b;
 }
-books_more top old new pass (asks.Send B call) known h = record {
+books_more top old new pass (Ask.Send B call) known h = record {
   send_b = grew_more sending.reply_to sending.after_call top old.send_b new.send_b pass call known h.send_b;
   send_a = h.send_a;
   reassembly_a = h.reassembly_a;
@@ -94,7 +76,7 @@ books_more top old new pass (asks.Send B call) known h = record {
   control_a = h.control_a;
   control_b = h.control_b;
 }
-books_more top old new pass (asks.Reassembly A call) known h = record {
+books_more top old new pass (Ask.Reassembly A call) known h = record {
   reassembly_a = grew_more arriving.reply_to arriving.after_call top old.reassembly_a new.reassembly_a pass call known h.reassembly_a;
   send_a = h.send_a;
   send_b = h.send_b;
@@ -102,7 +84,7 @@ books_more top old new pass (asks.Reassembly A call) known h = record {
   control_a = h.control_a;
   control_b = h.control_b;
 }
-books_more top old new pass (asks.Reassembly B call) known h = record {
+books_more top old new pass (Ask.Reassembly B call) known h = record {
   reassembly_b = grew_more arriving.reply_to arriving.after_call top old.reassembly_b new.reassembly_b pass call known h.reassembly_b;
   send_a = h.send_a;
   send_b = h.send_b;
@@ -110,7 +92,7 @@ books_more top old new pass (asks.Reassembly B call) known h = record {
   control_a = h.control_a;
   control_b = h.control_b;
 }
-books_more top old new pass (asks.Control A call) known h = record {
+books_more top old new pass (Ask.Control A call) known h = record {
   control_a = grew_more controlling.reply_to control.after top old.control_a new.control_a pass call known h.control_a;
   send_a = h.send_a;
   send_b = h.send_b;
@@ -118,7 +100,7 @@ books_more top old new pass (asks.Control A call) known h = record {
   reassembly_b = h.reassembly_b;
   control_b = h.control_b;
 }
-books_more top old new pass (asks.Control B call) known h = record {
+books_more top old new pass (Ask.Control B call) known h = record {
   control_b = grew_more controlling.reply_to control.after top old.control_b new.control_b pass call known h.control_b;
   send_a = h.send_a;
   send_b = h.send_b;
@@ -126,13 +108,11 @@ books_more top old new pass (asks.Control B call) known h = record {
   reassembly_b = h.reassembly_b;
   control_a = h.control_a;
 }
-books_more top old new pass (asks.Local step) known h = h
+books_more top old new pass (Ask.Local step) known h = h
 
-no_answer : (books : StampedBooks) (ask : Ask) → is_local ask ≡ true → answer_to books ask ≡ replies.Done
-no_answer books (asks.Send s call) is = cc
-no_answer books (asks.Reassembly s call) is = cc
-no_answer books (asks.Control s call) is = cc
-no_answer books (asks.Local step) is = refl
+no_answer : (books : StampedBooks) (ask : Ask) → is_local ask ≡ true → answer_to books ask ≡ Reply.Done
+no_answer books (Ask.Local step) is = refl
+no_answer books _ is = cc
 
 module _ {C : Type 0} where
   -- ---- an actor

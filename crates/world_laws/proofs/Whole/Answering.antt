@@ -1,71 +1,28 @@
 -- What the replies make of path 0 as long as no options are taken away, and what it asks: nothing by which its side can fall back.
-use Rattle.std.proofs.Common.{◌≡◌, refl, sym, ◌∙◌, ap, subst, ℕ, zero, suc, ◌⊎◌, inl, inr, ⊎_elim, ◌+◌, ◌&&◌, ◌||◌, not, nat_lt, is_some, is_none, map, Bool, true, false, if◌then◌else◌, Option, Some, None, List, [], ◌∷◌}
-use Rattle.std.proofs.lemmas.Bool.{and_parts, both_ways, false≢true, or_cases, or_parts}
-use Rattle.std.proofs.lemmas.Option.{same_Some}
-use Rattle.std.specs.List.{list_any}
-use Rattle.std.specs.Option.{IfSome}
-use Rattle.sides.specs.declared.side.Side.{Side}
-use Rattle.sides.specs.declared.side.Side.TheVariants.{A, B}
-use Rattle.sides.specs.Side.{peer}
-use Rattle.control_book.specs.declared.call.ControlCall.TheVariants as calls
-use Rattle.control_book.specs.declared.call.ControlReply.TheVariants as control_replies
-use Rattle.dss_mapping.specs.Mappings.{Mappings, mapping_at}
-use Rattle.dss_mapping.specs.declared.kept.KeptMapping.{KeptMapping}
-use Rattle.fallback_state.specs.declared.fall.Event.{Event as FallEvent}
-use Rattle.fallback_state.specs.declared.fall.Event.TheVariants as falls
-use Rattle.fallback_state.specs.Modes.{is_starting}
-use Rattle.path_segments.specs.Laws.{meant, meant_option}
-use Rattle.path_segments.specs.Options.{PlainOption}
-use Rattle.path_segments.specs.Spelled.{PlainSegment}
-use Rattle.subflow_recv.specs.Receiving.{Receiving}
-use Rattle.subflow_send.specs.declared.record.RecordKind.TheVariants.{Syn}
-use Rattle.subflow_send.specs.Records.{Record, SendState}
-use Rattle.subflow_tcp.specs.Emitting.{reset_segment}
-use Rattle.subflow_tcp.specs.States.{is_closed_to_segments, is_opening, is_waiting, may_finish}
-use Rattle.subflow_tcp.specs.declared.segments.Occasion.{Occasion}
-use Rattle.subflow_tcp.specs.declared.segments.Outgoing.{Outgoing}
-use Rattle.subflow_tcp.specs.declared.segments.Occasion.TheVariants as to_send
-use Rattle.actor_desk.specs.declared.ask.Ask.{Ask}
-use Rattle.actor_desk.specs.declared.ask.Ask.TheVariants as asks
-use Rattle.actor_desk.specs.declared.ask.Reply.{Reply}
-use Rattle.actor_desk.specs.declared.ask.Reply.TheVariants as replies
-use Rattle.actor_desk.specs.Words.{is_nil}
-use Rattle.path_agenda.specs.Agenda.{breaks, leaves, resets, start_of_turn, stops}
-use Rattle.path_agenda.specs.Items.{keys_heard}
-use Rattle.path_agenda.specs.declared.duty.Duty.{Duty}
-use Rattle.path_agenda.specs.declared.duty.Duty.TheVariants as duties
-use Rattle.path_agenda.specs.declared.duty.AskDuty.TheVariants as ask_duties
-use Rattle.path_agenda.specs.declared.duty.SendDuty.TheVariants as send_duties
-use Rattle.path_agenda.specs.declared.duty.StepDuty.TheVariants as step_duties
-use Rattle.path_agenda.specs.declared.heard.Heard.{Heard}
-use Rattle.path_agenda.specs.declared.heard.Heard.TheVariants as says
-use Rattle.path_agenda.specs.declared.keys.KeyPair.{KeyPair}
-use Rattle.path_agenda.specs.declared.notice.PeerNotice.TheVariants as peer_notes
-use Rattle.path_core.specs.Addresses.{answered_note, having_noted, note_of}
-use Rattle.path_core.specs.Breaking.{answered_break, break_ask, reset_on, reset_of, refusal_of}
-use Rattle.path_store.specs.Passing.{Piece}
-use Rattle.path_core.specs.Deliver.{next_piece, answered_piece, is_placed, piece_of}
-use Rattle.path_core.specs.DssIn.{with_learned, counts, is_clash, told_next, with_data_fin}
-use Rattle.path_core.specs.Duties.{answered, ask_for, passed, stands}
-use Rattle.path_core.specs.Emission.{Grant, answered_data, answered_grant, answered_syn, data_stands, first_unsent, grant_in, granted, having_sent_unsent, is_syn_due, unsent_segment, answer_occasion, answer_of, answered_again, answered_answer, answered_resend, dead_answer, first_segment, outgoing_or, resend_occasion, resend_of}
-use Rattle.path_core.specs.DataFin.{answered_data_fin_sent, answered_fin, data_fin_segment, fin_segment_of, having_sent_data_fin, having_sent_fin, answered_fin_heard, answered_plain_fin, is_fin_set}
-use Rattle.path_core.specs.End.{PathEnd, died}
-use Rattle.path_core.specs.Events.{next_event}
-use Rattle.path_core.specs.Fallback.{after_check_failed, after_fell, answered_fell, fell_duties, breaks_by_ack, lacks_data_ack, plain_ack_stands, plain_data_stands}
-use Rattle.path_core.specs.FastClose.{answered_fast_close, fast_close_of, having_fast_closed, is_stopped_by}
-use Rattle.path_core.specs.Handover.{having_sent, sent_on}
-use Rattle.path_core.specs.MpCapable.{answered_opened, answered_syn_ack, is_opened_by_keys, is_opened_plainly, is_plain_syn, keys_in, opened_ask, syn_ack_of}
-use Rattle.path_core.specs.OptionsOut.{ack_said, reset_options, segment_of}
-use Rattle.path_core.specs.Standing.{ack_out_ask, ack_segment, acknowledges, answered_ack_out, is_connected, may_note}
-use Rattle.path_core.specs.State.{PathState, end_at, goes_on, with_agenda}
-use Rattle.path_core.specs.Profile.{Profile}
-use Rattle.path_core.specs.Steps.{answers, asks_first, asks_of, begins_turn, next_round, settled, takes}
-use Rattle.path_core.specs.Treating.{answered_heard, answered_item, heard_stands, item_ask, item_of, item_stands}
-use Rattle.path_core.specs.Turns.{FirstStands, IsSettled}
-use Rattle.path_core.specs.Values.{Carried, values}
-use Rattle.path_core.specs.Choices.{item_at}
-use Rattle.world_laws.specs.Asking.{May, asking, may}
-use Rattle.world_laws.specs.Writes.{EndWrites, OnlyAt, ask_writes, at_end, copy_said, looking, side_of, writes}
+use Rattle.world_laws.proofs.Words.{◌≡◌, refl, sym, ◌∙◌, ap, subst, ℕ, zero, suc, ◌+◌, ◌&&◌, ◌||◌, not, nat_lt, inl, inr, ◌⊎◌, ⊎_elim, Bool, true, false}
+use Rattle.world_laws.proofs.Words.{if◌then◌else◌, Option, Some, None, List, [], ◌∷◌, map, is_none, is_some, or_cases, or_parts, and_parts, both_ways}
+use Rattle.world_laws.proofs.Words.{false≢true, same_Some, list_any, IfSome, FallEvent, is_starting, Side, A, B, peer, ControlCall, ControlReply, KeptMapping}
+use Rattle.world_laws.proofs.Words.{Mappings, mapping_at, Receiving, Record, SendState, Syn, is_closed_to_segments, is_opening, may_finish, is_waiting}
+use Rattle.world_laws.proofs.Words.{reset_segment, Occasion, Outgoing, PlainOption, PlainSegment, meant, meant_option, Piece, leaves, resets, stops}
+use Rattle.world_laws.proofs.Words.{start_of_turn, Duty, SendDuty, StepDuty, AskDuty, Heard, KeyPair, keys_heard, PeerNotice, Ask, Reply, is_nil, stands}
+use Rattle.world_laws.proofs.Words.{ask_for, passed, answered, PathEnd, died, answered_ack_out, is_connected, may_note, ack_out_ask, ack_segment, PathState}
+use Rattle.world_laws.proofs.Words.{end_at, goes_on, with_agenda, settled, answers, asks_of, asks_first, takes, begins_turn, next_round, FirstStands, IsSettled}
+use Rattle.world_laws.proofs.Words.{Carried, values, reset_of, reset_on, answered_break, refusal_of, break_ask, answered_data, answered_grant, answered_syn}
+use Rattle.world_laws.proofs.Words.{data_stands, first_unsent, grant_in, granted, having_sent_unsent, is_syn_due, unsent_segment, answer_occasion, answer_of}
+use Rattle.world_laws.proofs.Words.{answered_again, answered_answer, answered_resend, dead_answer, first_segment, outgoing_or, resend_occasion, resend_of}
+use Rattle.world_laws.proofs.Words.{next_event, next_piece, piece_of, is_placed, answered_piece, data_fin_segment, having_sent_data_fin, answered_data_fin_sent}
+use Rattle.world_laws.proofs.Words.{fin_segment_of, having_sent_fin, answered_fin, answered_plain_fin, answered_fin_heard, is_fin_set, is_clash, with_learned}
+use Rattle.world_laws.proofs.Words.{with_data_fin, counts, told_next, item_ask, answered_heard, answered_item, item_of, item_stands, heard_stands}
+use Rattle.world_laws.proofs.Words.{after_check_failed, after_fell, fell_duties, breaks_by_ack, answered_fell, lacks_data_ack, plain_ack_stands}
+use Rattle.world_laws.proofs.Words.{plain_data_stands, opened_ask, answered_opened, keys_in, syn_ack_of, answered_syn_ack, is_opened_by_keys, is_opened_plainly}
+use Rattle.world_laws.proofs.Words.{is_plain_syn, is_stopped_by, answered_fast_close, having_fast_closed, having_noted, answered_note, reset_options}
+use Rattle.world_laws.proofs.Words.{segment_of, ack_said, Profile, having_sent, sent_on, item_at, EndWrites, OnlyAt, writes, side_of, ask_writes, copy_said}
+use Rattle.world_laws.proofs.Words.{at_end, looking, May, may, asking}
+use Rattle.path_agenda.specs.Agenda.{breaks}
+use Rattle.path_core.specs.Addresses.{note_of}
+use Rattle.path_core.specs.Emission.{Grant}
+use Rattle.path_core.specs.FastClose.{fast_close_of}
+use Rattle.path_core.specs.Standing.{acknowledges}
 use Rattle.world_laws.proofs.Falls.FailedChecks.{check_failed_so, fail_answered_so, fail_asks_so}
 use Rattle.world_laws.proofs.Falls.Verdicts.{fell_cases}
 use Rattle.world_laws.proofs.Keys.AreDrawn.{is_past}
@@ -79,7 +36,8 @@ use Rattle.world_laws.proofs.Whole.Happening.{Holds, Now, Next, IsCalm, happens_
 use Rattle.world_laws.proofs.Whole.Passing.{cleared, mapping_clear, settled_is}
 use Rattle.world_laws.proofs.Whole.Paths.{Fewer, Mark, PathIs, Steps, end_is, first_marked, goes_fewer, is_marked, itself, moved_step, new_fewer, path_alike, path_any, path_fewer, put_fewer, same_step, sent_fewer, small_step, spared_fewer, tail_fewer}
 use Rattle.world_laws.proofs.Writes.Asks.{asks_no_more}
-use Rattle.world_laws.proofs.Writes.Ends.{fell_so, if_so, mode_so, window_so}
+use Rattle.world_laws.proofs.Words.{if_so}
+use Rattle.world_laws.proofs.Writes.Ends.{fell_so, mode_so, window_so}
 use Rattle.world_laws.proofs.Writes.Paths.{writes_no_more}
 
 -- ---- what is to be done next
@@ -87,7 +45,7 @@ use Rattle.world_laws.proofs.Writes.Paths.{writes_no_more}
 -- what follows a verdict
 fell_fewer : (s : Side) (d : Duty) (ds : List Duty) (r : Reply) (p : PathState Carried) → Fewer (d ∷ ds) (fell_duties s r (with_agenda (d ∷ ds) p))
 fell_fewer s d ds r p =
-    fell_cases (Fewer (d ∷ ds)) s (with_agenda (d ∷ ds) p) r (λ falls. put_fewer (duties.Ask (ask_duties.GoIdentity s)) d ds (λ x. refl)) (λ reason. new_fewer (d ∷ ds) (breaks s reason) (λ x. refl))
+    fell_cases (Fewer (d ∷ ds)) s (with_agenda (d ∷ ds) p) r (λ falls. put_fewer (Duty.Ask (AskDuty.GoIdentity s)) d ds (λ x. refl)) (λ reason. new_fewer (d ∷ ds) (breaks s reason) (λ x. refl))
     (λ reason. new_fewer (d ∷ ds) (resets s reason) (λ x. refl)) (tail_fewer d ds)
 
 -- ---- what the edge passes
@@ -140,15 +98,13 @@ module _ (d : Duty) (ds : List Duty) (p : PathState Carried) (h : PathIs (d ∷ 
 
   -- keys that were told
   keys_step : (s : Side) (keys : KeyPair) (r : Reply) → Steps s (with_agenda (d ∷ ds) p) (record (end_at s p) { modes = keys_in r (Some keys) (end_at s p).modes; treated = record (end_at s p).treated { keys_told = true } })
-  keys_step s keys (replies.Control control_replies.Noted) =
+  keys_step s keys (Reply.Control ControlReply.Noted) =
       small_step s (d ∷ ds) (with_agenda (d ∷ ds) p) _ refl refl refl refl refl refl (λ is. refl) (inl refl) (end_is s (d ∷ ds) (with_agenda (d ∷ ds) p) h).base.treated h
-  keys_step s keys (replies.Control _) = same s _ refl
-  keys_step s keys (replies.Send reply) = same s _ refl
-  keys_step s keys (replies.Reassembly reply) = same s _ refl
-  keys_step s keys replies.Done = same s _ refl
+  keys_step s keys (Reply.Control _) = same s _ refl
+  keys_step s keys _ = same s _ refl
 
   opened_is : (s : Side) (o : Option KeyPair) (r : Reply) → PathIs (answered_opened s o r (with_agenda (d ∷ ds) p)).agenda (answered_opened s o r (with_agenda (d ∷ ds) p))
-  opened_is s None r = fell_is s falls.PlainHandshake r
+  opened_is s None r = fell_is s FallEvent.PlainHandshake r
   opened_is s (Some keys) r = goes s ds _ (keys_step s keys r) (tail_fewer d ds)
 
   -- the edge passes bytes at an end that may send a DSS
@@ -201,55 +157,55 @@ module _ (d : Duty) (ds : List Duty) (p : PathState Carried) (h : PathIs (d ∷ 
       let m : PathState Carried = with_agenda (d ∷ ds) p in
       let closed = and_parts (not (is_closed_to_segments (end_at s p).tcp.state)) _ stood in
       sent_fewer s (unsent_segment s m) (d ∷ ds) (d ∷ ds) m (having_sent_unsent s m) (unsent_is s (d ∷ ds) m h plain (voice_open s (d ∷ ds) m h plain (not_closed _ closed.0)) (ap is_some is))
-      (having_step s (d ∷ ds) m h to_send.Unsent p.clock (unsent_segment s m)) (λ x marked. marked) h
+      (having_step s (d ∷ ds) m h Occasion.Unsent p.clock (unsent_segment s m)) (λ x marked. marked) h
 
   -- ---- what a copy says
 
   covered_fewer : (s : Side) (b : Bool) → Fewer (d ∷ ds) (told_next s b (with_agenda (d ∷ ds) p))
-  covered_fewer s true = put_fewer (duties.Ask (ask_duties.AckHeard s)) d ds (λ x. refl)
+  covered_fewer s true = put_fewer (Duty.Ask (AskDuty.AckHeard s)) d ds (λ x. refl)
   covered_fewer s false = tail_fewer d ds
 
   stopped_is : (s : Side) (b : Bool) → PathIs (if b then stops s else ds) (with_agenda (if b then stops s else ds) (with_agenda (d ∷ ds) p))
   stopped_is s true = path_any (stops s) (stops s) (with_agenda (d ∷ ds) p) (path_fewer (d ∷ ds) (stops s) (with_agenda (d ∷ ds) p) (new_fewer (d ∷ ds) (stops s) (λ x. refl)) h)
   stopped_is s false = done
 
-  no_infinite : (place index : ℕ) (position : Option ℕ) (items : List Heard) → list_any is_infinite_item items ≡ false → item_at index items ≡ Some (says.InfiniteMapping place position) → ⊥
+  no_infinite : (place index : ℕ) (position : Option ℕ) (items : List Heard) → list_any is_infinite_item items ≡ false → item_at index items ≡ Some (Heard.InfiniteMapping place position) → ⊥
   no_infinite place index position [] none is = cc
   no_infinite place zero position (x ∷ items) none is =
-      let same : x ≡ says.InfiniteMapping place position = cc in false≢true (sym (or_parts (is_infinite_item x) (list_any is_infinite_item items) none).0 ∙ ap is_infinite_item same)
+      let same : x ≡ Heard.InfiniteMapping place position = cc in false≢true (sym (or_parts (is_infinite_item x) (list_any is_infinite_item items) none).0 ∙ ap is_infinite_item same)
   no_infinite place (suc index) position (x ∷ items) none is = no_infinite place index position items (or_parts (is_infinite_item x) (list_any is_infinite_item items) none).1 is
 
-  never_infinite : (s : Side) (index place : ℕ) (position : Option ℕ) → item_of index (end_at s p) ≡ Some (says.InfiniteMapping place position) → ⊥
+  never_infinite : (s : Side) (index place : ℕ) (position : Option ℕ) → item_of index (end_at s p) ≡ Some (Heard.InfiniteMapping place position) → ⊥
   never_infinite s index place position is = by (end_at s p).modes.identity is
     where
-      by : (b : Bool) → (if b then None else item_at index (end_at s p).treated.items) ≡ Some (says.InfiniteMapping place position) → ⊥
+      by : (b : Bool) → (if b then None else item_at index (end_at s p).treated.items) ≡ Some (Heard.InfiniteMapping place position) → ⊥
       by true none = cc
       by false found = no_infinite place index position (end_at s p).treated.items (end_is s (d ∷ ds) (with_agenda (d ∷ ds) p) h).base.treated.finite found
 
-  learned_so : (s : Side) (r : Reply) → (end_at s p).modes.clear ≡ true → Steps s (with_agenda (d ∷ ds) p) (with_learned (after_fell falls.MappingHeard r (end_at s p)))
-  learned_so s r clear = fell_so (λ n. Steps s (with_agenda (d ∷ ds) p) (with_learned (record (end_at s p) { modes = n }))) falls.MappingHeard r (end_at s p).modes
+  learned_so : (s : Side) (r : Reply) → (end_at s p).modes.clear ≡ true → Steps s (with_agenda (d ∷ ds) p) (with_learned (after_fell FallEvent.MappingHeard r (end_at s p)))
+  learned_so s r clear = fell_so (λ n. Steps s (with_agenda (d ∷ ds) p) (with_learned (record (end_at s p) { modes = n }))) FallEvent.MappingHeard r (end_at s p).modes
       (λ mode owes. cleared s (d ∷ ds) (with_agenda (d ∷ ds) p) h _ refl refl refl refl refl refl refl refl refl clear)
 
-  heard_is : (s : Side) (index : ℕ) (item : Heard) → item_of index (end_at s p) ≡ Some item → heard_stands item (end_at s p) ≡ true → ((fin : Bool) → item ≡ says.Mapping fin → counts (end_at s p) ≡ true → (end_at s p).modes.clear ≡ true)
+  heard_is : (s : Side) (index : ℕ) (item : Heard) → item_of index (end_at s p) ≡ Some item → heard_stands item (end_at s p) ≡ true → ((fin : Bool) → item ≡ Heard.Mapping fin → counts (end_at s p) ≡ true → (end_at s p).modes.clear ≡ true)
       → (r : Reply) → PathIs (answered_heard values s item r (with_agenda (d ∷ ds) p)).agenda (answered_heard values s item r (with_agenda (d ∷ ds) p))
-  heard_is s index (says.DataAck next window) is stood clears r = goes s _ _ (same s _ refl) (covered_fewer s _)
-  heard_is s index (says.Mapping fin) is stood clears r = by (is_clash (end_at s p))
+  heard_is s index (Heard.DataAck next window) is stood clears r = goes s _ _ (same s _ refl) (covered_fewer s _)
+  heard_is s index (Heard.Mapping fin) is stood clears r = by (is_clash (end_at s p))
     where
       by : (b : Bool) → let q = (if b then answered_break values s 1 r (with_agenda (d ∷ ds) p)
-          else goes_on s (with_learned (after_fell falls.MappingHeard r (end_at s p))) (fell_duties s r (with_agenda (d ∷ ds) p)) (with_agenda (d ∷ ds) p)) in PathIs q.agenda q
+          else goes_on s (with_learned (after_fell FallEvent.MappingHeard r (end_at s p))) (fell_duties s r (with_agenda (d ∷ ds) p)) (with_agenda (d ∷ ds) p)) in PathIs q.agenda q
       by true = break_is s 1 r
       by false = goes s _ _ (learned_so s r (clears fin refl (and_parts (counts (end_at s p)) _ stood).0)) (fell_fewer s d ds r p)
-  heard_is s index (says.DataFin place) is stood clears r =
-      goes s _ _ (fell_so (λ n. Steps s (with_agenda (d ∷ ds) p) (with_data_fin place (record (end_at s p) { modes = n }))) falls.MappingHeard r (end_at s p).modes (λ mode owes. same s _ refl)) (fell_fewer s d ds r p)
-  heard_is s index (says.InfiniteMapping place position) is stood clears r = absurd (never_infinite s index place position is)
-  heard_is s index (says.Keys own other) is stood clears r = goes s ds _ (keys_step s (record { own = own; peer = other }) r) (tail_fewer d ds)
-  heard_is s index (says.Notice notice) is stood clears r = goes s ds _ (same s _ refl) (tail_fewer d ds)
-  heard_is s index says.Fail is stood clears r =
-      fail_answered_so (λ q. PathIs q.agenda q) s r (with_agenda (d ∷ ds) p) (goes s _ _ (same s _ refl) (put_fewer (duties.Ask (ask_duties.FailHeard s)) d ds (λ x. refl))) (fell_is s (falls.FailHeard false) r)
-  heard_is s index (says.FastClose key) is stood clears r = stopped_is s (is_stopped_by r)
+  heard_is s index (Heard.DataFin place) is stood clears r =
+      goes s _ _ (fell_so (λ n. Steps s (with_agenda (d ∷ ds) p) (with_data_fin place (record (end_at s p) { modes = n }))) FallEvent.MappingHeard r (end_at s p).modes (λ mode owes. same s _ refl)) (fell_fewer s d ds r p)
+  heard_is s index (Heard.InfiniteMapping place position) is stood clears r = absurd (never_infinite s index place position is)
+  heard_is s index (Heard.Keys own other) is stood clears r = goes s ds _ (keys_step s (record { own = own; peer = other }) r) (tail_fewer d ds)
+  heard_is s index (Heard.Notice notice) is stood clears r = goes s ds _ (same s _ refl) (tail_fewer d ds)
+  heard_is s index Heard.Fail is stood clears r =
+      fail_answered_so (λ q. PathIs q.agenda q) s r (with_agenda (d ∷ ds) p) (goes s _ _ (same s _ refl) (put_fewer (Duty.Ask (AskDuty.FailHeard s)) d ds (λ x. refl))) (fell_is s (FallEvent.FailHeard false) r)
+  heard_is s index (Heard.FastClose key) is stood clears r = stopped_is s (is_stopped_by r)
   heard_is s index _ is stood clears r = done
 
-  item_is : (s : Side) (index : ℕ) (o : Option Heard) → item_of index (end_at s p) ≡ o → item_stands o (end_at s p) ≡ true → ((fin : Bool) → o ≡ Some (says.Mapping fin) → counts (end_at s p) ≡ true → (end_at s p).modes.clear ≡ true)
+  item_is : (s : Side) (index : ℕ) (o : Option Heard) → item_of index (end_at s p) ≡ o → item_stands o (end_at s p) ≡ true → ((fin : Bool) → o ≡ Some (Heard.Mapping fin) → counts (end_at s p) ≡ true → (end_at s p).modes.clear ≡ true)
       → (r : Reply) → PathIs (answered_item values s o r (with_agenda (d ∷ ds) p)).agenda (answered_item values s o r (with_agenda (d ∷ ds) p))
   item_is s index None is stood clears r = done
   item_is s index (Some item) is stood clears r = heard_is s index item is stood (λ fin same. clears fin (ap (λ x. Some x) same)) r
@@ -287,28 +243,28 @@ module _ (d : Duty) (ds : List Duty) (p : PathState Carried) (h : PathIs (d ∷ 
     acks position o v = ack_is p.profile s (end_at s p) (end_at (peer s) p).tcp.send v h.first plain.identity plain.own (low (end_at s p)) position o speaks
 
     ack_row : PathIs ds (acknowledges values s (with_agenda (d ∷ ds) p))
-    ack_row = sends s (ack_segment s (with_agenda (d ∷ ds) p)) (having_sent to_send.Ack p.clock (ack_segment s (with_agenda (d ∷ ds) p)) (end_at s p)) ds (acks (end_at s p).tcp.send.nxt None _) (having to_send.Ack (ack_segment s (with_agenda (d ∷ ds) p))) (tail_fewer d ds)
+    ack_row = sends s (ack_segment s (with_agenda (d ∷ ds) p)) (having_sent Occasion.Ack p.clock (ack_segment s (with_agenda (d ∷ ds) p)) (end_at s p)) ds (acks (end_at s p).tcp.send.nxt None _) (having Occasion.Ack (ack_segment s (with_agenda (d ∷ ds) p))) (tail_fewer d ds)
 
     fast_close_row : PathIs ds (answered_fast_close values s (with_agenda (d ∷ ds) p))
-    fast_close_row = let g = having to_send.Ack (fast_close_of s (with_agenda (d ∷ ds) p)) in
+    fast_close_row = let g = having Occasion.Ack (fast_close_of s (with_agenda (d ∷ ds) p)) in
         sends s (fast_close_of s (with_agenda (d ∷ ds) p)) (having_fast_closed s (with_agenda (d ∷ ds) p)) ds
         (carried_is p.profile s (end_at s p) (end_at (peer s) p).tcp.send _ h.first plain.identity plain.own (low (end_at s p)) (end_at s p).notices.carrier speaks)
         (record { end = g.end; grows = g.grows; knows = g.knows }) (tail_fewer d ds)
 
     note_row : PathIs (d ∷ ds) (answered_note values s (with_agenda (d ∷ ds) p))
-    note_row = let g = having to_send.Ack (note_of s (with_agenda (d ∷ ds) p)) in
+    note_row = let g = having Occasion.Ack (note_of s (with_agenda (d ∷ ds) p)) in
         sends s (note_of s (with_agenda (d ∷ ds) p)) (having_noted s (with_agenda (d ∷ ds) p)) (d ∷ ds)
         (noted_is p.profile s (end_at s p) (end_at (peer s) p).tcp.send _ h.first plain.identity plain.own (low (end_at s p)) _ speaks)
         (record { end = g.end; grows = g.grows; knows = g.knows }) (λ x marked. marked)
 
     data_fin_row : PathIs ds (answered_data_fin_sent values s (with_agenda (d ∷ ds) p))
-    data_fin_row = let g = having to_send.Ack (data_fin_segment s (with_agenda (d ∷ ds) p)) in
+    data_fin_row = let g = having Occasion.Ack (data_fin_segment s (with_agenda (d ∷ ds) p)) in
         sends s (data_fin_segment s (with_agenda (d ∷ ds) p)) (having_sent_data_fin s (with_agenda (d ∷ ds) p)) ds (acks (end_at s p).tcp.send.nxt (end_at s p).sending.known_end _) (record { end = g.end; grows = g.grows; knows = g.knows }) (tail_fewer d ds)
 
     syn_ack_row : PathIs ds (answered_syn_ack values s (with_agenda (d ∷ ds) p))
     syn_ack_row =
-        sends s (syn_ack_of s (with_agenda (d ∷ ds) p)) (having_sent to_send.SynAck p.clock (syn_ack_of s (with_agenda (d ∷ ds) p)) (end_at s p)) ds
-        (syn_ack_is p.profile s (end_at s p) (end_at (peer s) p).tcp.send _ h.first plain.identity plain.own (low (end_at s p)) (may_write s Syn (end_at s p) speaks)) (having to_send.SynAck (syn_ack_of s (with_agenda (d ∷ ds) p))) (tail_fewer d ds)
+        sends s (syn_ack_of s (with_agenda (d ∷ ds) p)) (having_sent Occasion.SynAck p.clock (syn_ack_of s (with_agenda (d ∷ ds) p)) (end_at s p)) ds
+        (syn_ack_is p.profile s (end_at s p) (end_at (peer s) p).tcp.send _ h.first plain.identity plain.own (low (end_at s p)) (may_write s Syn (end_at s p) speaks)) (having Occasion.SynAck (syn_ack_of s (with_agenda (d ∷ ds) p))) (tail_fewer d ds)
 
     answer_row : PathIs ds (answered_answer values s (with_agenda (d ∷ ds) p))
     answer_row =
@@ -317,8 +273,8 @@ module _ (d : Duty) (ds : List Duty) (p : PathState Carried) (h : PathIs (d ∷ 
 
     again_row : PathIs ds (answered_again values s (with_agenda (d ∷ ds) p))
     again_row =
-        let g = having to_send.First (first_segment s (with_agenda (d ∷ ds) p)) in
-        sends s (first_segment s (with_agenda (d ∷ ds) p)) (having_sent to_send.First p.clock (first_segment s (with_agenda (d ∷ ds) p)) (end_at s p)) ds
+        let g = having Occasion.First (first_segment s (with_agenda (d ∷ ds) p)) in
+        sends s (first_segment s (with_agenda (d ∷ ds) p)) (having_sent Occasion.First p.clock (first_segment s (with_agenda (d ∷ ds) p)) (end_at s p)) ds
         (again_is s (d ∷ ds) (with_agenda (d ∷ ds) p) h plain _ g.grows speaks) g (tail_fewer d ds)
 
     resend_row : PathIs ds (answered_resend values s (with_agenda (d ∷ ds) p))
@@ -356,7 +312,7 @@ module _ (d : Duty) (ds : List Duty) (p : PathState Carried) (h : PathIs (d ∷ 
       let m : PathState Carried = with_agenda (d ∷ ds) p in
       let both = and_parts (is_opening (end_at s p).tcp.state) (is_some (first_unsent (end_at s p))) stood in
       sends s (unsent_segment s m) (having_sent_unsent s m) ds (unsent_is s (d ∷ ds) m h plain (voice_open s (d ∷ ds) m h plain (opening_open (end_at s p).tcp.state both.0)) both.1)
-      (having_step s (d ∷ ds) m h to_send.Unsent p.clock (unsent_segment s m)) (tail_fewer d ds)
+      (having_step s (d ∷ ds) m h Occasion.Unsent p.clock (unsent_segment s m)) (tail_fewer d ds)
 
   fin_row : (s : Side) → Plain (end_at s p) → may_finish (end_at s p).tcp.state ≡ true → PathIs ds (answered_fin values s (with_agenda (d ∷ ds) p))
   fin_row s plain may =
@@ -371,100 +327,95 @@ spared_is s w d ds es r p spared only fewer agenda h =
 
 answered_holds : (d : Duty) (ds : List Duty) (r : Reply) (p : PathState Carried) → PathPlain p → stands d (with_agenda (d ∷ ds) p) ≡ true → Leads (d ∷ ds) (with_agenda (d ∷ ds) p) → PathIs (d ∷ ds) (with_agenda (d ∷ ds) p)
     → Holds (answered values d r (with_agenda (d ∷ ds) p))
-answered_holds (duties.Ask ask_duties.JoinAgain) ds r p plain stood leads h = absurd (both_ways _ plain.waits (and_parts (is_waiting p.a.tcp.state) (is_none p.joined_at) stood).0)
-answered_holds (duties.Ask (ask_duties.PeerKey s)) ds r p plain stood leads h = absurd (never_marked (duties.Ask (ask_duties.PeerKey s)) ds p h refl)
-answered_holds (duties.Ask (ask_duties.JoinHeard s)) ds r p plain stood leads h = absurd (never_marked (duties.Ask (ask_duties.JoinHeard s)) ds p h refl)
-answered_holds (duties.Ask (ask_duties.Opened s)) ds r p plain stood leads h = Now _ (opened_is (duties.Ask (ask_duties.Opened s)) ds p h s (keys_heard (end_at s p).treated.items) r)
-answered_holds (duties.Ask (ask_duties.Edge s)) ds r p plain stood leads h = Now _ (piece_is (duties.Ask (ask_duties.Edge s)) ds p h s (plain_at s p plain) (piece_of s p) refl (is_placed r))
-answered_holds (duties.Ask (ask_duties.CheckFailed s)) ds r p plain stood leads h =
-    Now _ (goes (duties.Ask (ask_duties.CheckFailed s)) ds p h s _ _ (checked_is (duties.Ask (ask_duties.CheckFailed s)) ds p h s r) (fell_fewer s (duties.Ask (ask_duties.CheckFailed s)) ds r p))
-answered_holds (duties.Ask (ask_duties.LeaveNoted s)) ds r p plain stood leads h =
-    let d : Duty = duties.Ask (ask_duties.LeaveNoted s) in
-    Now _ (goes d ds p h s (duties.Ask (ask_duties.Dead s) ∷ ds) (died (end_at s p)) (died_step s (d ∷ ds) (with_agenda (d ∷ ds) p) h) (put_fewer (duties.Ask (ask_duties.Dead s)) d ds (λ x. refl)))
-answered_holds (duties.Ask (ask_duties.PlainHandshake s)) ds r p plain stood leads h =
-    let d : Duty = duties.Ask (ask_duties.PlainHandshake s) in Now _ (fell_is d ds p h s falls.PlainHandshake r)
-answered_holds (duties.Ask (ask_duties.AckHeard s)) ds r p plain stood leads h = Now _ (fell_is (duties.Ask (ask_duties.AckHeard s)) ds p h s falls.AckHeard r)
-answered_holds (duties.Ask (ask_duties.PlainData s)) ds r p plain stood leads h = Now _ (fell_is (duties.Ask (ask_duties.PlainData s)) ds p h s falls.PlainData r)
-answered_holds (duties.Ask (ask_duties.FailHeard s)) ds r p plain stood leads h =
-    let d : Duty = duties.Ask (ask_duties.FailHeard s) in spared_is s (ask_writes (ask_duties.FailHeard s)) d ds _ r p refl (writes_no_more values d r (with_agenda (d ∷ ds) p)) (fell_fewer s d ds r p) refl h
-answered_holds (duties.Ask (ask_duties.HeardFin s index)) ds r p plain stood leads h = Now _ (fin_heard_is (duties.Ask (ask_duties.HeardFin s index)) ds p h s (is_fin_set r))
-answered_holds (duties.Ask (ask_duties.SubflowFin s)) ds r p plain stood leads h = Now _ (plain_fin_is (duties.Ask (ask_duties.SubflowFin s)) ds p h s (is_fin_set r))
-answered_holds (duties.Ask (ask_duties.BreakAck s reason)) ds r p plain stood leads h = Now _ (ack_out_is (duties.Ask (ask_duties.BreakAck s reason)) ds p h s reason r)
-answered_holds (duties.Ask (ask_duties.Leave s)) ds r p plain stood leads h =
-    let d : Duty = duties.Ask (ask_duties.Leave s) in spared_is s (ask_writes (ask_duties.Leave s)) d ds _ r p refl (writes_no_more values d r (with_agenda (d ∷ ds) p)) (put_fewer (duties.Ask (ask_duties.Dead s)) d ds (λ x. refl)) refl h
-answered_holds (duties.Step (step_duties.Look s)) ds r p plain stood leads h =
-    let d : Duty = duties.Step (step_duties.Look s) in spared_is s looking d ds ds r p refl (writes_no_more values d r (with_agenda (d ∷ ds) p)) (tail_fewer d ds) refl h
-answered_holds (duties.Step (step_duties.Data s)) ds r p plain stood leads h = Now _ (data_is (duties.Step (step_duties.Data s)) ds p h s (plain_at s p plain) (first_unsent (end_at s p)) refl stood r)
-answered_holds (duties.Step step_duties.Events) ds r p plain stood leads h =
-    let m : PathState Carried = with_agenda (duties.Step step_duties.Events ∷ ds) p in
-    happens_holds (duties.Step step_duties.Events ∷ ds) m h (record { a = plain.a; b = plain.b; waits = plain.waits }) (next_event m) refl r
-answered_holds (duties.Step (step_duties.Heard s index)) ds r p plain stood leads h =
-    let d : Duty = duties.Step (step_duties.Heard s index) in
+answered_holds (Duty.Ask AskDuty.JoinAgain) ds r p plain stood leads h = absurd (both_ways _ plain.waits (and_parts (is_waiting p.a.tcp.state) (is_none p.joined_at) stood).0)
+answered_holds (Duty.Ask (AskDuty.PeerKey s)) ds r p plain stood leads h = absurd (never_marked (Duty.Ask (AskDuty.PeerKey s)) ds p h refl)
+answered_holds (Duty.Ask (AskDuty.JoinHeard s)) ds r p plain stood leads h = absurd (never_marked (Duty.Ask (AskDuty.JoinHeard s)) ds p h refl)
+answered_holds (Duty.Ask (AskDuty.Opened s)) ds r p plain stood leads h = Now _ (opened_is (Duty.Ask (AskDuty.Opened s)) ds p h s (keys_heard (end_at s p).treated.items) r)
+answered_holds (Duty.Ask (AskDuty.Edge s)) ds r p plain stood leads h = Now _ (piece_is (Duty.Ask (AskDuty.Edge s)) ds p h s (plain_at s p plain) (piece_of s p) refl (is_placed r))
+answered_holds (Duty.Ask (AskDuty.CheckFailed s)) ds r p plain stood leads h =
+    Now _ (goes (Duty.Ask (AskDuty.CheckFailed s)) ds p h s _ _ (checked_is (Duty.Ask (AskDuty.CheckFailed s)) ds p h s r) (fell_fewer s (Duty.Ask (AskDuty.CheckFailed s)) ds r p))
+answered_holds (Duty.Ask (AskDuty.LeaveNoted s)) ds r p plain stood leads h =
+    let d : Duty = Duty.Ask (AskDuty.LeaveNoted s) in
+    Now _ (goes d ds p h s (Duty.Ask (AskDuty.Dead s) ∷ ds) (died (end_at s p)) (died_step s (d ∷ ds) (with_agenda (d ∷ ds) p) h) (put_fewer (Duty.Ask (AskDuty.Dead s)) d ds (λ x. refl)))
+answered_holds (Duty.Ask (AskDuty.PlainHandshake s)) ds r p plain stood leads h =
+    let d : Duty = Duty.Ask (AskDuty.PlainHandshake s) in Now _ (fell_is d ds p h s FallEvent.PlainHandshake r)
+answered_holds (Duty.Ask (AskDuty.AckHeard s)) ds r p plain stood leads h = Now _ (fell_is (Duty.Ask (AskDuty.AckHeard s)) ds p h s FallEvent.AckHeard r)
+answered_holds (Duty.Ask (AskDuty.PlainData s)) ds r p plain stood leads h = Now _ (fell_is (Duty.Ask (AskDuty.PlainData s)) ds p h s FallEvent.PlainData r)
+answered_holds (Duty.Ask (AskDuty.FailHeard s)) ds r p plain stood leads h =
+    let d : Duty = Duty.Ask (AskDuty.FailHeard s) in spared_is s (ask_writes (AskDuty.FailHeard s)) d ds _ r p refl (writes_no_more values d r (with_agenda (d ∷ ds) p)) (fell_fewer s d ds r p) refl h
+answered_holds (Duty.Ask (AskDuty.HeardFin s index)) ds r p plain stood leads h = Now _ (fin_heard_is (Duty.Ask (AskDuty.HeardFin s index)) ds p h s (is_fin_set r))
+answered_holds (Duty.Ask (AskDuty.SubflowFin s)) ds r p plain stood leads h = Now _ (plain_fin_is (Duty.Ask (AskDuty.SubflowFin s)) ds p h s (is_fin_set r))
+answered_holds (Duty.Ask (AskDuty.BreakAck s reason)) ds r p plain stood leads h = Now _ (ack_out_is (Duty.Ask (AskDuty.BreakAck s reason)) ds p h s reason r)
+answered_holds (Duty.Ask (AskDuty.Leave s)) ds r p plain stood leads h =
+    let d : Duty = Duty.Ask (AskDuty.Leave s) in spared_is s (ask_writes (AskDuty.Leave s)) d ds _ r p refl (writes_no_more values d r (with_agenda (d ∷ ds) p)) (put_fewer (Duty.Ask (AskDuty.Dead s)) d ds (λ x. refl)) refl h
+answered_holds (Duty.Step (StepDuty.Look s)) ds r p plain stood leads h =
+    let d : Duty = Duty.Step (StepDuty.Look s) in spared_is s looking d ds ds r p refl (writes_no_more values d r (with_agenda (d ∷ ds) p)) (tail_fewer d ds) refl h
+answered_holds (Duty.Step (StepDuty.Data s)) ds r p plain stood leads h = Now _ (data_is (Duty.Step (StepDuty.Data s)) ds p h s (plain_at s p plain) (first_unsent (end_at s p)) refl stood r)
+answered_holds (Duty.Step StepDuty.Events) ds r p plain stood leads h =
+    let m : PathState Carried = with_agenda (Duty.Step StepDuty.Events ∷ ds) p in
+    happens_holds (Duty.Step StepDuty.Events ∷ ds) m h (record { a = plain.a; b = plain.b; waits = plain.waits }) (next_event m) refl r
+answered_holds (Duty.Step (StepDuty.Heard s index)) ds r p plain stood leads h =
+    let d : Duty = Duty.Step (StepDuty.Heard s index) in
     Now _ (item_is d ds p h s index (item_of index (end_at s p)) refl stood (λ fin is. mapping_clear s index ds (with_agenda (d ∷ ds) p) h leads fin is) r)
-answered_holds (duties.Step (step_duties.PlainAck s)) ds r p plain stood leads h = absurd (no_plain_ack (duties.Step (step_duties.PlainAck s)) ds p h s stood)
-answered_holds (duties.Step (step_duties.Unmapped s)) ds r p plain stood leads h = Now _ (break_is (duties.Step (step_duties.Unmapped s)) ds p h s 6 r)
-answered_holds (duties.Send (send_duties.Update s)) ds r p plain stood leads h =
-    let d : Duty = duties.Send (send_duties.Update s) in Now _ (ack_row d ds p h s (plain_at s p plain) (connected_speaks d ds p h s _ stood))
-answered_holds (duties.Send (send_duties.Syn s)) ds r p plain stood leads h = Now _ (syn_row (duties.Send (send_duties.Syn s)) ds p h s (plain_at s p plain) stood)
-answered_holds (duties.Send (send_duties.FastClose s)) ds r p plain stood leads h =
-    let d : Duty = duties.Send (send_duties.FastClose s) in Now _ (fast_close_row d ds p h s (plain_at s p plain) (connected_speaks d ds p h s _ stood))
-answered_holds (duties.Send (send_duties.Notice s)) ds r p plain stood leads h =
-    let d : Duty = duties.Send (send_duties.Notice s) in
+answered_holds (Duty.Step (StepDuty.PlainAck s)) ds r p plain stood leads h = absurd (no_plain_ack (Duty.Step (StepDuty.PlainAck s)) ds p h s stood)
+answered_holds (Duty.Step (StepDuty.Unmapped s)) ds r p plain stood leads h = Now _ (break_is (Duty.Step (StepDuty.Unmapped s)) ds p h s 6 r)
+answered_holds (Duty.Send (SendDuty.Update s)) ds r p plain stood leads h =
+    let d : Duty = Duty.Send (SendDuty.Update s) in Now _ (ack_row d ds p h s (plain_at s p plain) (connected_speaks d ds p h s _ stood))
+answered_holds (Duty.Send (SendDuty.Syn s)) ds r p plain stood leads h = Now _ (syn_row (Duty.Send (SendDuty.Syn s)) ds p h s (plain_at s p plain) stood)
+answered_holds (Duty.Send (SendDuty.FastClose s)) ds r p plain stood leads h =
+    let d : Duty = Duty.Send (SendDuty.FastClose s) in Now _ (fast_close_row d ds p h s (plain_at s p plain) (connected_speaks d ds p h s _ stood))
+answered_holds (Duty.Send (SendDuty.Notice s)) ds r p plain stood leads h =
+    let d : Duty = Duty.Send (SendDuty.Notice s) in
     Now _ (note_row d ds p h s (plain_at s p plain) (connected_speaks d ds p h s _ (and_parts (may_note (end_at s p)) (not (is_nil (end_at s p).notices.queue)) stood).0))
-answered_holds (duties.Send (send_duties.DataFin s)) ds r p plain stood leads h =
-    let d : Duty = duties.Send (send_duties.DataFin s) in
+answered_holds (Duty.Send (SendDuty.DataFin s)) ds r p plain stood leads h =
+    let d : Duty = Duty.Send (SendDuty.DataFin s) in
     Now _ (data_fin_row d ds p h s (plain_at s p plain) (past_speaks d ds p h s (finish_past (end_at s p).tcp.state (and_parts (may_finish (end_at s p).tcp.state) _ stood).0)))
-answered_holds (duties.Send (send_duties.Fin s)) ds r p plain stood leads h =
-    Now _ (fin_row (duties.Send (send_duties.Fin s)) ds p h s (plain_at s p plain) (and_parts (may_finish (end_at s p).tcp.state) _ stood).0)
-answered_holds (duties.Send (send_duties.SynAck s)) ds r p plain stood leads h =
-    let d : Duty = duties.Send (send_duties.SynAck s) in Now _ (syn_ack_row d ds p h s (plain_at s p plain) (speaks_marked d ds p h s (itself s)))
-answered_holds (duties.Send (send_duties.Refuse s)) ds r p plain stood leads h =
-    let d : Duty = duties.Send (send_duties.Refuse s) in
+answered_holds (Duty.Send (SendDuty.Fin s)) ds r p plain stood leads h =
+    Now _ (fin_row (Duty.Send (SendDuty.Fin s)) ds p h s (plain_at s p plain) (and_parts (may_finish (end_at s p).tcp.state) _ stood).0)
+answered_holds (Duty.Send (SendDuty.SynAck s)) ds r p plain stood leads h =
+    let d : Duty = Duty.Send (SendDuty.SynAck s) in Now _ (syn_ack_row d ds p h s (plain_at s p plain) (speaks_marked d ds p h s (itself s)))
+answered_holds (Duty.Send (SendDuty.Refuse s)) ds r p plain stood leads h =
+    let d : Duty = Duty.Send (SendDuty.Refuse s) in
     Now _ (sends d ds p h s (refusal_of s (with_agenda (d ∷ ds) p)) (end_at s p) ds (refusal_is d ds p h s (reset_options (Some 1)) (end_at s p).tcp.send refl) (same d ds p h s (end_at s p) refl) (tail_fewer d ds))
-answered_holds (duties.Send (send_duties.Acknowledge s)) ds r p plain stood leads h =
-    let d : Duty = duties.Send (send_duties.Acknowledge s) in Now _ (ack_row d ds p h s (plain_at s p plain) (speaks_marked d ds p h s (itself s)))
-answered_holds (duties.Send (send_duties.Again s)) ds r p plain stood leads h =
-    let d : Duty = duties.Send (send_duties.Again s) in Now _ (again_row d ds p h s (plain_at s p plain) (speaks_marked d ds p h s (itself s)))
-answered_holds (duties.Send (send_duties.Answer s)) ds r p plain stood leads h =
-    let d : Duty = duties.Send (send_duties.Answer s) in Now _ (answer_row d ds p h s (plain_at s p plain) (speaks_marked d ds p h s (itself s)))
-answered_holds (duties.Send (send_duties.ResetAnswer s)) ds r p plain stood leads h =
-    let d : Duty = duties.Send (send_duties.ResetAnswer s) in
+answered_holds (Duty.Send (SendDuty.Acknowledge s)) ds r p plain stood leads h =
+    let d : Duty = Duty.Send (SendDuty.Acknowledge s) in Now _ (ack_row d ds p h s (plain_at s p plain) (speaks_marked d ds p h s (itself s)))
+answered_holds (Duty.Send (SendDuty.Again s)) ds r p plain stood leads h =
+    let d : Duty = Duty.Send (SendDuty.Again s) in Now _ (again_row d ds p h s (plain_at s p plain) (speaks_marked d ds p h s (itself s)))
+answered_holds (Duty.Send (SendDuty.Answer s)) ds r p plain stood leads h =
+    let d : Duty = Duty.Send (SendDuty.Answer s) in Now _ (answer_row d ds p h s (plain_at s p plain) (speaks_marked d ds p h s (itself s)))
+answered_holds (Duty.Send (SendDuty.ResetAnswer s)) ds r p plain stood leads h =
+    let d : Duty = Duty.Send (SendDuty.ResetAnswer s) in
     Now _ (sends d ds p h s (dead_answer s (with_agenda (d ∷ ds) p)) (end_at s p) ds (refusal_is d ds p h s [] (end_at s p).tcp.send refl) (same d ds p h s (end_at s p) refl) (tail_fewer d ds))
-answered_holds (duties.Send (send_duties.Resend s)) ds r p plain stood leads h =
-    let d : Duty = duties.Send (send_duties.Resend s) in Now _ (resend_row d ds p h s (plain_at s p plain) (speaks_marked d ds p h s (itself s)))
-answered_holds (duties.Send (send_duties.BreakReset s reason)) ds r p plain stood leads h =
-    let d : Duty = duties.Send (send_duties.BreakReset s reason) in Now _ (reset_on_is d ds p h s (Some reason) (leaves s) (new_fewer (d ∷ ds) (leaves s) (λ x. refl)))
-answered_holds (duties.Send (send_duties.Reset s)) ds r p plain stood leads h =
-    let d : Duty = duties.Send (send_duties.Reset s) in Now _ (reset_on_is d ds p h s None (duties.Ask (ask_duties.Leave s) ∷ ds) (put_fewer (duties.Ask (ask_duties.Leave s)) d ds (λ x. refl)))
-answered_holds (duties.Send (send_duties.ResetNoted s)) ds r p plain stood leads h =
-    let d : Duty = duties.Send (send_duties.ResetNoted s) in Now _ (reset_on_is d ds p h s None (duties.Ask (ask_duties.Leave s) ∷ ds) (put_fewer (duties.Ask (ask_duties.Leave s)) d ds (λ x. refl)))
-answered_holds (duties.Silent d) ds r p plain stood leads h = absurd (false≢true stood)
-answered_holds duties.End ds r p plain stood leads h = Now _ (path_any [] [] (with_agenda (duties.End ∷ ds) p) (path_fewer (duties.End ∷ ds) [] (with_agenda (duties.End ∷ ds) p) (new_fewer (duties.End ∷ ds) [] (λ x. refl)) h))
+answered_holds (Duty.Send (SendDuty.Resend s)) ds r p plain stood leads h =
+    let d : Duty = Duty.Send (SendDuty.Resend s) in Now _ (resend_row d ds p h s (plain_at s p plain) (speaks_marked d ds p h s (itself s)))
+answered_holds (Duty.Send (SendDuty.BreakReset s reason)) ds r p plain stood leads h =
+    let d : Duty = Duty.Send (SendDuty.BreakReset s reason) in Now _ (reset_on_is d ds p h s (Some reason) (leaves s) (new_fewer (d ∷ ds) (leaves s) (λ x. refl)))
+answered_holds (Duty.Send (SendDuty.Reset s)) ds r p plain stood leads h =
+    let d : Duty = Duty.Send (SendDuty.Reset s) in Now _ (reset_on_is d ds p h s None (Duty.Ask (AskDuty.Leave s) ∷ ds) (put_fewer (Duty.Ask (AskDuty.Leave s)) d ds (λ x. refl)))
+answered_holds (Duty.Send (SendDuty.ResetNoted s)) ds r p plain stood leads h =
+    let d : Duty = Duty.Send (SendDuty.ResetNoted s) in Now _ (reset_on_is d ds p h s None (Duty.Ask (AskDuty.Leave s) ∷ ds) (put_fewer (Duty.Ask (AskDuty.Leave s)) d ds (λ x. refl)))
+answered_holds (Duty.Silent d) ds r p plain stood leads h = absurd (false≢true stood)
+answered_holds Duty.End ds r p plain stood leads h = Now _ (path_any [] [] (with_agenda (Duty.End ∷ ds) p) (path_fewer (Duty.End ∷ ds) [] (with_agenda (Duty.End ∷ ds) p) (new_fewer (Duty.End ∷ ds) [] (λ x. refl)) h))
 answered_holds d ds r p plain stood leads h = spared_is (side_of d) (writes d).own d ds ds r p refl (writes_no_more values d r (with_agenda (d ∷ ds) p)) (tail_fewer d ds) refl h
 
 -- ---- what is asked
 
 -- no event of Multipath TCP is told
 other_calm : (m : May) (x : Ask) → m.fell ≡ false → may m x ≡ true → IsCalm x
-other_calm m (asks.Control s (calls.Fell path event)) none is = absurd (both_ways m.fell none is)
-other_calm m (asks.Control s (calls.Look path)) none is = tt
-other_calm m (asks.Control s _) none is = tt
-other_calm m (asks.Send s call) none is = tt
-other_calm m (asks.Reassembly s call) none is = tt
-other_calm m (asks.Local step) none is = tt
+other_calm m (Ask.Control s (ControlCall.Fell path event)) none is = absurd (both_ways m.fell none is)
+other_calm m (Ask.Control s (ControlCall.Look path)) none is = tt
+other_calm m _ none is = tt
 
 module _ (d : Duty) (ds : List Duty) (p : PathState Carried) (h : PathIs (d ∷ ds) (with_agenda (d ∷ ds) p)) where
   break_calm : (s : Side) (reason : ℕ) → IsCalm (break_ask values s reason (with_agenda (d ∷ ds) p))
   break_calm s reason = if_so IsCalm (end_at s p).treated.asked (ack_out_ask s) _ tt tt
 
   thing_calm : (s : Side) (index : ℕ) (o : Option Heard) → item_of index (end_at s p) ≡ o → IsCalm (item_ask values s o (with_agenda (d ∷ ds) p))
-  thing_calm s index None is = tt
-  thing_calm s index (Some (says.Mapping fin)) is = if_so IsCalm (is_clash (end_at s p)) _ _ (break_calm s 1) tt
-  thing_calm s index (Some (says.InfiniteMapping place position)) is = absurd (never_infinite d ds p h s index place position is)
-  thing_calm s index (Some (says.Notice (peer_notes.Prio backup))) is = tt
-  thing_calm s index (Some (says.Notice _)) is = tt
-  thing_calm s index (Some says.Fail) is = fail_asks_so IsCalm s (with_agenda (d ∷ ds) p) tt tt
-  thing_calm s index (Some _) is = tt
+  thing_calm s index (Some (Heard.Mapping fin)) is = if_so IsCalm (is_clash (end_at s p)) _ _ (break_calm s 1) tt
+  thing_calm s index (Some (Heard.InfiniteMapping place position)) is = absurd (never_infinite d ds p h s index place position is)
+  thing_calm s index (Some (Heard.Notice (PeerNotice.Prio backup))) is = tt
+  thing_calm s index (Some Heard.Fail) is = fail_asks_so IsCalm s (with_agenda (d ∷ ds) p) tt tt
+  thing_calm s index _ is = tt
 
   -- a copy that opens an end has an option
   opened_calm : (s : Side) → is_opened_by_keys (end_at s p) || is_opened_plainly (end_at s p) ≡ true → (o : Option KeyPair) → keys_heard (end_at s p).treated.items ≡ o → IsCalm (opened_ask s o (with_agenda (d ∷ ds) p))
@@ -483,18 +434,18 @@ module _ (d : Duty) (ds : List Duty) (p : PathState Carried) (h : PathIs (d ∷ 
       false≢true (ap not (sym (subst (λ u. Knows u (end_at s p).modes.peer_key (end_at s p).modes.capable_asked) (same ∙ b) (speaks_marked d ds p h s is))) ∙ (and_parts (not (end_at s p).modes.capable_asked) _ stood).0)
 
 first_calm : (d : Duty) (ds : List Duty) (p : PathState Carried) → stands d (with_agenda (d ∷ ds) p) ≡ true → PathIs (d ∷ ds) (with_agenda (d ∷ ds) p) → IsCalm (ask_for values d (with_agenda (d ∷ ds) p))
-first_calm (duties.Ask (ask_duties.PlainHandshake A)) ds p stood h = absurd (never_marked (duties.Ask (ask_duties.PlainHandshake A)) ds p h refl)
-first_calm (duties.Ask (ask_duties.PlainHandshake B)) ds p stood h = absurd (handshake_calm (duties.Ask (ask_duties.PlainHandshake B)) ds p h B refl stood B refl refl)
-first_calm (duties.Ask (ask_duties.PeerKey s)) ds p stood h = absurd (never_marked (duties.Ask (ask_duties.PeerKey s)) ds p h refl)
-first_calm (duties.Ask (ask_duties.Opened s)) ds p stood h = opened_calm (duties.Ask (ask_duties.Opened s)) ds p h s stood (keys_heard (end_at s p).treated.items) refl
-first_calm (duties.Ask (ask_duties.AckHeard s)) ds p stood h = tt
-first_calm (duties.Ask (ask_duties.FailHeard s)) ds p stood h = tt
-first_calm (duties.Ask (ask_duties.CheckFailed s)) ds p stood h = tt
-first_calm (duties.Ask (ask_duties.PlainData s)) ds p stood h = absurd (no_plain_data (duties.Ask (ask_duties.PlainData s)) ds p h s stood)
-first_calm (duties.Step (step_duties.Heard s index)) ds p stood h = thing_calm (duties.Step (step_duties.Heard s index)) ds p h s index (item_of index (end_at s p)) refl
-first_calm (duties.Step (step_duties.PlainAck s)) ds p stood h = absurd (no_plain_ack (duties.Step (step_duties.PlainAck s)) ds p h s stood)
-first_calm (duties.Step (step_duties.Look s)) ds p stood h = tt
-first_calm (duties.Send (send_duties.Update s)) ds p stood h = tt
+first_calm (Duty.Ask (AskDuty.PlainHandshake A)) ds p stood h = absurd (never_marked (Duty.Ask (AskDuty.PlainHandshake A)) ds p h refl)
+first_calm (Duty.Ask (AskDuty.PlainHandshake B)) ds p stood h = absurd (handshake_calm (Duty.Ask (AskDuty.PlainHandshake B)) ds p h B refl stood B refl refl)
+first_calm (Duty.Ask (AskDuty.PeerKey s)) ds p stood h = absurd (never_marked (Duty.Ask (AskDuty.PeerKey s)) ds p h refl)
+first_calm (Duty.Ask (AskDuty.Opened s)) ds p stood h = opened_calm (Duty.Ask (AskDuty.Opened s)) ds p h s stood (keys_heard (end_at s p).treated.items) refl
+first_calm (Duty.Ask (AskDuty.AckHeard s)) ds p stood h = tt
+first_calm (Duty.Ask (AskDuty.FailHeard s)) ds p stood h = tt
+first_calm (Duty.Ask (AskDuty.CheckFailed s)) ds p stood h = tt
+first_calm (Duty.Ask (AskDuty.PlainData s)) ds p stood h = absurd (no_plain_data (Duty.Ask (AskDuty.PlainData s)) ds p h s stood)
+first_calm (Duty.Step (StepDuty.Heard s index)) ds p stood h = thing_calm (Duty.Step (StepDuty.Heard s index)) ds p h s index (item_of index (end_at s p)) refl
+first_calm (Duty.Step (StepDuty.PlainAck s)) ds p stood h = absurd (no_plain_ack (Duty.Step (StepDuty.PlainAck s)) ds p h s stood)
+first_calm (Duty.Step (StepDuty.Look s)) ds p stood h = tt
+first_calm (Duty.Send (SendDuty.Update s)) ds p stood h = tt
 first_calm d ds p stood h = other_calm (asking d) (ask_for values d (with_agenda (d ∷ ds) p)) refl (asks_no_more values (with_agenda (d ∷ ds) p) d).kind
 
 -- ---- a step, a turn's beginning

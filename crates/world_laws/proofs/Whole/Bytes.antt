@@ -1,19 +1,10 @@
 -- The bytes of what an end has sent: none lies below a position, or at one. What it sends later lies behind, so that it stays so.
-use Rattle.std.proofs.Common.{◌≡◌, refl, ◌∙◌, ap, subst, sym, ℕ, suc, ◌+◌, ◌≤◌, ◌⊎◌, inl, inr, ⊎_elim, ◌&&◌, ◌==◌, nat_lt, nat_le, Bool, true, false, if◌then◌else◌, Some, List, [], ◌∷◌, length, arith}
-use Rattle.std.proofs.lemmas.Bool.{false≢true}
-use Rattle.std.specs.List.{slice_get}
-use Rattle.std.proofs.lemmas.List.Sums.{sum_by-cons}
-use Rattle.std.specs.Prelude.{sum_by}
+use Rattle.world_laws.proofs.Words.{◌≡◌, refl, sym, ◌∙◌, ap, subst, ℕ, suc, ◌+◌, ◌≤◌, ◌&&◌, ◌==◌, nat_lt, nat_le, inl, inr, ◌⊎◌, ⊎_elim, true, false, Some}
+use Rattle.world_laws.proofs.Words.{List, [], ◌∷◌, length, arith, false≢true, slice_get, sum_by-cons, sum_by, Record, SendState, after_sending, EndState}
+use Rattle.world_laws.proofs.Words.{Occasion, Every-push, Every, if_so}
 use Rattle.seq_units.specs.declared.mapping.Mapping.{Mapping}
 use Rattle.subflow_send.specs.declared.record.Sending.{Sending}
-use Rattle.subflow_send.specs.Records.{Record, SendState}
 use Rattle.subflow_send.specs.Rules as sending
-use Rattle.subflow_tcp.specs.Emitting.{after_sending}
-use Rattle.subflow_tcp.specs.State.{EndState}
-use Rattle.subflow_tcp.specs.declared.segments.Occasion.{Occasion}
-use Rattle.subflow_tcp.specs.declared.segments.Occasion.TheVariants as to_send
-use Rattle.stream_lanes.specs.Words.{Every}
-use Rattle.stream_lanes.proofs.Lists.{Every-push}
 use Rattle.world_laws.proofs.Lanes.Records.{every_first, every_rest, unsent_sent_kept, first_sent_kept, fin_sent_kept, expired_kept, uncovered_kept}
 
 -- ---- where bytes lie
@@ -157,21 +148,15 @@ module _ (v : SendState) where
   fin_sent_remains now = record { nxt = refl; records = fin_sent_kept (IsOld v) marked now v.records (old_all v) }
 
   pub acknowledged_remains : (pos : ℕ) → Remains v (sending.after_acknowledge pos v)
-  acknowledged_remains pos = by (nat_lt v.una pos && nat_le pos v.nxt)
-    where
-      by : (b : Bool) → Remains v (if b then record v { una = pos; records = sending.uncovered pos v.records } else v)
-      by true = record { nxt = refl; records = uncovered_kept pos v.records (old_all v) }
-      by false = remains_self v
+  acknowledged_remains pos =
+      if_so (Remains v) (nat_lt v.una pos && nat_le pos v.nxt) (record v { una = pos; records = sending.uncovered pos v.records }) v
+      (record { nxt = refl; records = uncovered_kept pos v.records (old_all v) }) (remains_self v)
 
 pub sent_remains : (o : Occasion) (now : ℕ) (s : EndState) → Remains s.send (after_sending o now s).send
-sent_remains to_send.SynAck now s = by (s.send.una == 0)
-  where
-    by : (b : Bool) → Remains s.send (if b then sending.after_resent now s.send else s.send)
-    by true = resent_remains s.send now
-    by false = remains_self s.send
-sent_remains to_send.First now s = resent_remains s.send now
-sent_remains to_send.Unsent now s = record { nxt = refl; records = unsent_sent_kept (IsOld s.send) (marked s.send) now s.send.records (old_all s.send) }
-sent_remains to_send.Fin now s = fin_sent_remains s.send now
+sent_remains Occasion.SynAck now s = if_so (Remains s.send) (s.send.una == 0) (sending.after_resent now s.send) s.send (resent_remains s.send now) (remains_self s.send)
+sent_remains Occasion.First now s = resent_remains s.send now
+sent_remains Occasion.Unsent now s = record { nxt = refl; records = unsent_sent_kept (IsOld s.send) (marked s.send) now s.send.records (old_all s.send) }
+sent_remains Occasion.Fin now s = fin_sent_remains s.send now
 sent_remains _ now s = remains_self s.send
 
 -- ---- what is pushed

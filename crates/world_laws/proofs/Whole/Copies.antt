@@ -1,42 +1,17 @@
 -- What copies say on path 0 as long as no end fell back and no options are taken away: A's SYN asks for Multipath TCP, and B's shows a
 -- key; all else that A says has an option, and so has each payload of B. What acknowledges a byte has a Data ACK.
-use Rattle.std.proofs.Common.{◌≡◌, refl, sym, ap, subst, ℕ, ◌+◌, ◌-◌, ◌⊎◌, inl, inr, ◌&&◌, ◌==◌, not, is_some, option_map, Bool, true, false, if◌then◌else◌, Option, Some, None, List, [], ◌∷◌, map, length}
-use Rattle.std.proofs.lemmas.Bool.{and_parts, false≢true, both_ways}
-use Rattle.std.specs.List.{list_any}
-use Rattle.std.specs.Option.{IfSome}
-use Rattle.sides.specs.declared.side.Side.{Side}
-use Rattle.sides.specs.declared.side.Side.TheVariants.{A, B}
-use Rattle.path_segments.specs.declared.position.HeardPosition.TheVariants.{At}
-use Rattle.path_segments.specs.declared.segment.PathOption.TheVariants.{Dss, FastClose}
-use Rattle.path_segments.specs.declared.segment.PathMapping.TheVariants.{Infinite}
-use Rattle.path_segments.specs.Heard.{HeardSegment}
-use Rattle.path_segments.specs.Laws.{meant, meant_option}
-use Rattle.path_segments.specs.Options.{PlainOption}
-use Rattle.path_segments.specs.Spelled.{PlainSegment}
-use Rattle.subflow_send.specs.declared.record.RecordKind.{RecordKind}
-use Rattle.subflow_send.specs.declared.record.RecordKind.TheVariants.{Syn, Data, Fin}
-use Rattle.subflow_send.specs.Records.{Record, SendState}
-use Rattle.subflow_send.specs.Rules.{is_fin}
-use Rattle.subflow_tcp.specs.declared.segments.Outgoing.{Outgoing}
-use Rattle.subflow_tcp.specs.Emitting.{ack_at, fin_position, is_syn}
-use Rattle.subflow_tcp.specs.State.{has_records}
-use Rattle.subflow_tcp.specs.States.{is_opening}
-use Rattle.actor_desk.specs.Words.{is_nil}
-use Rattle.path_agenda.specs.Items.{key_heard}
-use Rattle.path_agenda.specs.declared.notice.OwnNotice.{OwnNotice}
-use Rattle.path_agenda.specs.declared.notice.OwnNotice.TheVariants as notes
-use Rattle.path_store.specs.declared.infinite_mapping.InfiniteMapping.{InfiniteMapping}
-use Rattle.path_core.specs.DssIn.{HeardOption}
-use Rattle.path_core.specs.Arrival.{position_in, acknowledged_in}
-use Rattle.path_core.specs.OptionsIn.{asks_capable, has_data_ack, items_of}
-use Rattle.path_core.specs.End.{PathEnd}
-use Rattle.path_core.specs.MpJoin.{is_joined, third_options}
-use Rattle.path_core.specs.OptionsOut.{ack_options, ack_said, broken_options, carried_said, dss_and, fin_said, key_options, notice_option, noted_said, opening_options, own_reset, record_options, record_or_ack, record_said, reset_said, segment_of, syn_ack_said, syn_options}
-use Rattle.path_core.specs.DssOut.{data_fin_mapping, fail_beside, fail_options, fin_options, first_piece_options, infinite_or, is_first_piece, mapped_options, piece_mapping, piece_options, plain_options}
-use Rattle.path_core.specs.Emission.{ack_resent, answer_said, resend_said, first_record}
-use Rattle.path_core.specs.Profile.{Profile}
-use Rattle.path_core.specs.DataFin.{is_data_fin_owed}
-use Rattle.path_core.specs.Choices.{is_side_a}
+use Rattle.world_laws.proofs.Words.{◌≡◌, refl, sym, ap, subst, ℕ, ◌+◌, ◌-◌, ◌&&◌, ◌==◌, not, inl, inr, ◌⊎◌, Bool, true, false, if◌then◌else◌, Option, Some}
+use Rattle.world_laws.proofs.Words.{None, List, [], ◌∷◌, length, map, is_some, option_map, and_parts, both_ways, false≢true, list_any, IfSome, Side, A, B}
+use Rattle.world_laws.proofs.Words.{Record, SendState, RecordKind, Syn, Data, Fin, is_fin, is_opening, ack_at, fin_position, is_syn, has_records, Outgoing}
+use Rattle.world_laws.proofs.Words.{HeardSegment, PlainOption, PlainSegment, Dss, meant, meant_option, Infinite, At, InfiniteMapping, OwnNotice, key_heard}
+use Rattle.world_laws.proofs.Words.{is_nil, PathEnd, items_of, has_data_ack, asks_capable, acknowledged_in, first_record, ack_resent, resend_said, answer_said}
+use Rattle.world_laws.proofs.Words.{is_joined, third_options, is_data_fin_owed, HeardOption, plain_options, data_fin_mapping, piece_mapping, is_first_piece}
+use Rattle.world_laws.proofs.Words.{first_piece_options, piece_options, fin_options, fail_options, fail_beside, infinite_or, mapped_options, own_reset}
+use Rattle.world_laws.proofs.Words.{syn_options, key_options, opening_options, ack_options, record_options, segment_of, ack_said, carried_said, record_said}
+use Rattle.world_laws.proofs.Words.{syn_ack_said, fin_said, reset_said, record_or_ack, broken_options, noted_said, notice_option, dss_and, Profile, is_side_a}
+use Rattle.world_laws.proofs.Words.{if_so}
+use Rattle.path_segments.specs.declared.segment.PathOption.TheVariants.{FastClose}
+use Rattle.path_core.specs.Arrival.{position_in}
 use Rattle.world_laws.proofs.Whole.Bytes.{Grows, NoneAt, NoneBelow, at_later, below_later}
 
 -- ---- what a copy says
@@ -170,11 +145,9 @@ module _ (c : Profile) (s : Side) (e : PathEnd) (vs vt : SendState) (first : is_
   has_key speaks same = subst (λ t. Speaks t e) same speaks
 
   opening_tells : e.modes.clear ≡ false → Speaks s e → Tells (opening_options c s e)
-  opening_tells unclear speaks = by e.modes.owes_third
-    where
-      by : (b : Bool) → Tells (if b then third_options e.modes else key_options c s e.modes.peer_key e)
-      by true = record { some = λ same. refl; acks = λ none. unclear_low unclear; finite = refl }
-      by false = key_tells s refl e.modes.peer_key unclear (has_key speaks)
+  opening_tells unclear speaks =
+      if_so Tells e.modes.owes_third (third_options e.modes) (key_options c s e.modes.peer_key e)
+      (record { some = λ same. refl; acks = λ none. unclear_low unclear; finite = refl }) (key_tells s refl e.modes.peer_key unclear (has_key speaks))
 
   ack_tells : (o : Option ℕ) → Speaks s e → Tells (ack_options c s o e)
   ack_tells o speaks =
@@ -194,10 +167,10 @@ module _ (c : Profile) (s : Side) (e : PathEnd) (vs vt : SendState) (first : is_
 
   pub noted_is : (o : Option OwnNotice) → Speaks s e → Says (noted_said c s o e)
   noted_is None speaks = ack_is e.tcp.send.nxt None speaks
-  noted_is (Some (notes.AddAddr id)) speaks = dss_is (notice_option (notes.AddAddr id) e.modes ∷ []) refl
-  noted_is (Some (notes.AddEcho id address port)) speaks = dss_is (notice_option (notes.AddEcho id address port) e.modes ∷ []) refl
-  noted_is (Some (notes.Removes id)) speaks = dss_is (notice_option (notes.Removes id) e.modes ∷ []) refl
-  noted_is (Some (notes.Prio backup)) speaks = dss_is (notice_option (notes.Prio backup) e.modes ∷ []) refl
+  noted_is (Some (OwnNotice.AddAddr id)) speaks = dss_is (notice_option (OwnNotice.AddAddr id) e.modes ∷ []) refl
+  noted_is (Some (OwnNotice.AddEcho id address port)) speaks = dss_is (notice_option (OwnNotice.AddEcho id address port) e.modes ∷ []) refl
+  noted_is (Some (OwnNotice.Removes id)) speaks = dss_is (notice_option (OwnNotice.Removes id) e.modes ∷ []) refl
+  noted_is (Some (OwnNotice.Prio backup)) speaks = dss_is (notice_option (OwnNotice.Prio backup) e.modes ∷ []) refl
 
   pub carried_is : (o : Option ℕ) → Speaks s e → Says (carried_said c s o e)
   carried_is None speaks = ack_is e.tcp.send.nxt None speaks
@@ -304,11 +277,9 @@ module _ (c : Profile) (s : Side) (e : PathEnd) (vs vt : SendState) (first : is_
   -- ---- what is said again
 
   pub answer_is : Speaks s e → Says (answer_said c s e)
-  answer_is speaks = by e.tcp.due.syn_ack
-    where
-      by : (b : Bool) → Says (if b then syn_ack_said c s e else ack_said c s e.tcp.send.nxt None e)
-      by true = syn_ack_is (may_write s Syn e speaks)
-      by false = ack_is e.tcp.send.nxt None speaks
+  answer_is speaks =
+      if_so Says e.tcp.due.syn_ack (syn_ack_said c s e) (ack_said c s e.tcp.send.nxt None e)
+      (syn_ack_is (may_write s Syn e speaks)) (ack_is e.tcp.send.nxt None speaks)
 
   ack_resent_is : Speaks s e → Says (ack_resent c s e)
   ack_resent_is speaks = by e.modes.owes_third e.notices.fast_closed (is_data_fin_owed e)

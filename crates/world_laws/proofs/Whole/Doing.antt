@@ -1,35 +1,12 @@
 -- What path 0 sends, and what happens on it, as long as no options are taken away.
-use Rattle.std.proofs.Common.{◌≡◌, refl, sym, ◌∙◌, ap, subst, ℕ, ◌+◌, ◌-◌, ◌⊎◌, inl, inr, ⊎_elim, ◌&&◌, ◌||◌, ◌==◌, not, is_some, Bool, true, false, if◌then◌else◌, None, List, [], ◌∷◌, map, length}
-use Rattle.std.proofs.lemmas.Bool.{both_ways, false≢true}
-use Rattle.std.specs.List.{slice_get}
-use Rattle.sides.specs.declared.side.Side.{Side}
-use Rattle.sides.specs.declared.side.Side.TheVariants.{A, B}
-use Rattle.sides.specs.Side.{peer}
-use Rattle.path_segments.specs.Laws.{meant}
-use Rattle.path_segments.specs.Spelled.{PlainSegment}
-use Rattle.subflow_send.specs.declared.record.RecordKind.{RecordKind}
-use Rattle.subflow_send.specs.declared.record.RecordKind.TheVariants.{Syn, Data, Fin}
-use Rattle.subflow_send.specs.Records.{Record, SendState}
-use Rattle.subflow_send.specs.Rules.{after_finish, after_fin_sent, after_resent, expired_records, fin_sent, first_sent, first_unsent_sent, is_unsent}
+use Rattle.world_laws.proofs.Words.{◌≡◌, refl, sym, ◌∙◌, ap, subst, ℕ, ◌+◌, ◌-◌, ◌&&◌, ◌||◌, ◌==◌, not, inl, inr, ◌⊎◌, ⊎_elim, Bool, true, false, if◌then◌else◌}
+use Rattle.world_laws.proofs.Words.{None, List, [], ◌∷◌, length, map, is_some, both_ways, false≢true, slice_get, Side, A, B, peer, Record, SendState}
+use Rattle.world_laws.proofs.Words.{RecordKind, Syn, Data, Fin, is_unsent, first_unsent_sent, first_sent, expired_records, after_resent, after_fin_sent}
+use Rattle.world_laws.proofs.Words.{is_closed_to_segments, is_opening, may_finish, is_waiting, is_syn, after_sending, EndState, is_some_record, EndPhase}
+use Rattle.world_laws.proofs.Words.{Occasion, PlainSegment, meant, Duty, is_nil, PathEnd, died, is_connected, PathState, end_at, Carried, first_unsent}
+use Rattle.world_laws.proofs.Words.{first_record, resend_said, having_sent_fin, fin_said, record_or_ack, having_sent, Every, if_so}
+use Rattle.subflow_send.specs.Rules.{after_finish, fin_sent}
 use Rattle.subflow_send.specs.Sendings.{sent_again}
-use Rattle.subflow_tcp.specs.Emitting.{after_sending, is_syn}
-use Rattle.subflow_tcp.specs.State.{EndState, is_some_record}
-use Rattle.subflow_tcp.specs.States.{is_closed_to_segments, is_opening, is_waiting, may_finish}
-use Rattle.subflow_tcp.specs.declared.handshake.State.{State as EndPhase}
-use Rattle.subflow_tcp.specs.declared.handshake.State.TheVariants as phase
-use Rattle.subflow_tcp.specs.declared.segments.Occasion.{Occasion}
-use Rattle.subflow_tcp.specs.declared.segments.Occasion.TheVariants as to_send
-use Rattle.stream_lanes.specs.Words.{Every}
-use Rattle.actor_desk.specs.Words.{is_nil}
-use Rattle.path_agenda.specs.declared.duty.Duty.{Duty}
-use Rattle.path_core.specs.End.{PathEnd, died}
-use Rattle.path_core.specs.Emission.{first_unsent, first_record, resend_said}
-use Rattle.path_core.specs.DataFin.{having_sent_fin}
-use Rattle.path_core.specs.Handover.{having_sent}
-use Rattle.path_core.specs.OptionsOut.{fin_said, record_or_ack}
-use Rattle.path_core.specs.Standing.{is_connected}
-use Rattle.path_core.specs.State.{PathState, end_at}
-use Rattle.path_core.specs.Values.{Carried}
 use Rattle.world_laws.proofs.Keys.AnswerHeardFirst.{finish_apart, is_apart}
 use Rattle.world_laws.proofs.Keys.AreDrawn.{is_past}
 use Rattle.world_laws.proofs.Lanes.Records.{every_at, every_find}
@@ -56,28 +33,26 @@ plain_at B p h = h.b
 -- ---- states
 
 pub connected_past : (state : EndPhase) → is_connected state ≡ true → is_past state ≡ true
-connected_past phase.Waiting is = absurd (false≢true is)
-connected_past phase.Listen is = absurd (false≢true is)
-connected_past phase.SynSent is = absurd (false≢true is)
-connected_past phase.SynReceived is = absurd (false≢true is)
-connected_past phase.Dead is = absurd (false≢true is)
+connected_past EndPhase.Waiting is = absurd (false≢true is)
+connected_past EndPhase.Listen is = absurd (false≢true is)
+connected_past EndPhase.SynSent is = absurd (false≢true is)
+connected_past EndPhase.SynReceived is = absurd (false≢true is)
+connected_past EndPhase.Dead is = absurd (false≢true is)
 connected_past _ is = refl
 
 pub finish_past : (state : EndPhase) → may_finish state ≡ true → is_past state ≡ true
-finish_past phase.Established is = refl
-finish_past phase.CloseWait is = refl
-finish_past phase.Waiting is = absurd (false≢true is)
+finish_past EndPhase.Established is = refl
+finish_past EndPhase.CloseWait is = refl
+finish_past EndPhase.Waiting is = absurd (false≢true is)
 finish_past _ is = absurd (false≢true is)
 
 -- ---- what is sent
 
 unsent_some : (now : ℕ) (rs : List Record) → is_nil rs ≡ false → is_nil (first_unsent_sent now rs) ≡ false
 unsent_some now [] some = some
-unsent_some now (r ∷ rs) some = by (is_unsent r)
-  where
-    by : (b : Bool) → is_nil (if b then record r { sending = sent_again now r.sending } ∷ rs else r ∷ first_unsent_sent now rs) ≡ false
-    by true = refl
-    by false = refl
+unsent_some now (r ∷ rs) some =
+    if_so (λ z. is_nil z ≡ false) (is_unsent r) (record r { sending = sent_again now r.sending } ∷ rs) (r ∷ first_unsent_sent now rs)
+    refl refl
 
 first_some : (now : ℕ) (rs : List Record) → is_nil rs ≡ false → is_nil (first_sent now rs) ≡ false
 first_some now [] some = some
@@ -92,14 +67,14 @@ fins_some now [] some = some
 fins_some now (r ∷ rs) some = refl
 
 sent_some : (o : Occasion) (now : ℕ) (s : EndState) → is_nil s.send.records ≡ false → is_nil (after_sending o now s).send.records ≡ false
-sent_some to_send.SynAck now s some = by (s.send.una == 0)
+sent_some Occasion.SynAck now s some = by (s.send.una == 0)
   where
     by : (b : Bool) → is_nil (if b then after_resent now s.send else s.send).records ≡ false
     by true = first_some now s.send.records some
     by false = some
-sent_some to_send.First now s some = first_some now s.send.records some
-sent_some to_send.Unsent now s some = unsent_some now s.send.records some
-sent_some to_send.Fin now s some = fins_some now s.send.records some
+sent_some Occasion.First now s some = first_some now s.send.records some
+sent_some Occasion.Unsent now s some = unsent_some now s.send.records some
+sent_some Occasion.Fin now s some = fins_some now s.send.records some
 sent_some _ now s some = some
 
 -- records that are marked are SYNs where they were
@@ -138,7 +113,7 @@ module _ (s : Side) (ds : List Duty) (p : PathState Carried) (h : PathIs ds p) w
   }
 
   sent_parts : (o : Occasion) (now : ℕ) (sg : PlainSegment) → parts_of (having_sent o now sg e) ≡ record (parts_of (end_at s p)) { send = (after_sending o now e.tcp).send }
-  sent_parts to_send.Reset now sg = refl
+  sent_parts Occasion.Reset now sg = refl
   sent_parts o now sg = refl
 
   pub having_step : (o : Occasion) (now : ℕ) (sg : PlainSegment) → Steps s p (having_sent o now sg e)
@@ -181,16 +156,13 @@ module _ (s : Side) (ds : List Duty) (p : PathState Carried) (h : PathIs ds p) w
 
     -- ---- what each duty sends
 
-    speaks_past : is_past e.tcp.state ≡ true → Speaks s (end_at s p)
-    speaks_past past = ⊎_elim (λ knows. knows) (λ (unmet : Unmet (parts_of (end_at s p))). absurd (both_ways (is_past e.tcp.state) unmet.past past)) (end_is s ds p h).says
-
     pub opens_a : (t : Side) → s ≡ t → is_opening e.tcp.state ≡ true → s ≡ A
     opens_a A same opens = same
     opens_a B same opens = absurd (by e.tcp.state opens (subst (λ u. is_apart u e.tcp.state ≡ false) same was.apart))
       where
         by : (state : EndPhase) → is_opening state ≡ true → is_apart B state ≡ false → ⊥
-        by phase.SynSent opens apart = false≢true (sym apart)
-        by phase.Waiting opens apart = false≢true opens
+        by EndPhase.SynSent opens apart = false≢true (sym apart)
+        by EndPhase.Waiting opens apart = false≢true opens
         by _ opens apart = false≢true opens
 
     pub voice_open : is_closed_to_segments e.tcp.state ≡ false → Voice
@@ -204,11 +176,11 @@ module _ (s : Side) (ds : List Duty) (p : PathState Carried) (h : PathIs ds p) w
         shut state is_open closed = false≢true (sym (subst (λ b. (not b || is_some e.tcp.timing.timer) ≡ false) is_open closed))
 
     pub unsent_is : Voice → is_some (first_unsent e) ≡ true
-        → HeardIs s vs (after_sending to_send.Unsent p.clock e.tcp).send (meant (record_or_ack p.profile s (first_unsent e) e))
+        → HeardIs s vs (after_sending Occasion.Unsent p.clock e.tcp).send (meant (record_or_ack p.profile s (first_unsent e) e))
     unsent_is voice some =
-        let v : SendState = (after_sending to_send.Unsent p.clock e.tcp).send in
+        let v : SendState = (after_sending Occasion.Unsent p.clock e.tcp).send in
         record_or_ack_is p.profile s e vs v h.first plain.identity plain.own low_of (first_unsent e)
-        (every_find is_unsent e.tcp.send.records (writes_all v (remains_grows e.tcp.send v (sent_remains to_send.Unsent p.clock e.tcp)) voice))
+        (every_find is_unsent e.tcp.send.records (writes_all v (remains_grows e.tcp.send v (sent_remains Occasion.Unsent p.clock e.tcp)) voice))
         (λ none. absurd (both_ways (is_some (first_unsent e)) (ap is_some none) some))
 
     pub again_is : (v : SendState) → Grows e.tcp.send v → Speaks s (end_at s p) → HeardIs s vs v (meant (record_or_ack p.profile s (first_record e) e))

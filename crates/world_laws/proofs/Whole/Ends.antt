@@ -1,57 +1,22 @@
 -- What the ends of path 0 keep as long as no options are taken away: an end that may send no DSS learned no mapping, and no byte of the
 -- other side lies below its edge; no acknowledgement that it heard lacks a Data ACK, and no payload an option.
-use Rattle.std.proofs.Common.{◌≡◌, refl, sym, ◌∙◌, ap, subst, ℕ, ◌+◌, ◌^◌, ◌⊎◌, inl, inr, ⊎_elim, ◌&&◌, ◌||◌, ◌==◌, not, nat_lt, nat_le, is_some, is_none, Bool, true, false, if◌then◌else◌, Option, Some, None, List, [], ◌∷◌, ◌++◌, map, length, arith}
-use Rattle.std.proofs.lemmas.Bool.{and_parts, both_ways, false≢true, leb-true, ltb-true, or_from, or_parts}
-use Rattle.std.specs.List.{list_any, flat_map}
-use Rattle.std.specs.Option.{IfSome}
-use Rattle.sides.specs.declared.side.Side.{Side}
-use Rattle.sides.specs.declared.side.Side.TheVariants.{A, B}
-use Rattle.sides.specs.Side.{peer}
-use Rattle.dss_mapping.specs.Mappings.{Mappings}
-use Rattle.dss_mapping.specs.declared.kept.KeptMapping.{KeptMapping}
+use Rattle.world_laws.proofs.Words.{◌≡◌, refl, sym, ◌∙◌, ap, subst, ℕ, ◌+◌, ◌&&◌, ◌||◌, ◌==◌, not, nat_lt, nat_le, inl, inr, ◌⊎◌, ⊎_elim, Bool, true, false}
+use Rattle.world_laws.proofs.Words.{if◌then◌else◌, Option, Some, None, List, [], ◌∷◌, ◌++◌, length, map, arith, is_some, ◌^◌, ltb-true, or_parts, and_parts}
+use Rattle.world_laws.proofs.Words.{both_ways, false≢true, leb-true, or_from, list_any, flat_map, IfSome, Side, A, B, peer, JoinForm, CapableKeys, NoKey}
+use Rattle.world_laws.proofs.Words.{WithData, KeptMapping, Mappings, Receiving, SendState, AckKind, after_acknowledge, ack_kind, sample_of, newly_acknowledged}
+use Rattle.world_laws.proofs.Words.{is_closed_to_segments, is_opening, is_half_open, after_handshake, Meaning, is_syn, EndState, EndPhase, Outgoing}
+use Rattle.world_laws.proofs.Words.{after_holding, after_ack_kind, after_acknowledgement, is_duplicate, after_duplicate, after_interruption, told_by}
+use Rattle.world_laws.proofs.Words.{after_payload, after_hearing, after_established, after_taken, after_arrival, arrival_of, kept_new, first_fin, meaning_of}
+use Rattle.world_laws.proofs.Words.{Copy, Hint, HeardSegment, PathMapping, InfiniteMapping, Heard, key_heard, is_nil, PathEnd, hint_of, items_in, items_of}
+use Rattle.world_laws.proofs.Words.{has_data_ack, octets_acked, is_plain_ack, edge_held, owes_by, asks_capable, copy_judged, copy_of, owing_if, with_payload}
+use Rattle.world_laws.proofs.Words.{join_items, ack_items, map_items, HeardOption, key_items, item_removed, Treated, Every, if_so, EndWrites, Only, EndView}
+use Rattle.world_laws.proofs.Words.{copy_said}
 use Rattle.loss_recovery.specs.declared.timers.Timing.{Timing}
-use Rattle.path_segments.specs.Heard.{HeardSegment}
-use Rattle.path_segments.specs.declared.segment.PathOption.TheVariants as options
-use Rattle.path_segments.specs.declared.segment.PathMapping.{PathMapping}
-use Rattle.path_segments.specs.declared.segment.PathMapping.TheVariants as mappings
-use Rattle.mptcp_options.specs.declared.capable.CapableKeys.{CapableKeys}
-use Rattle.mptcp_options.specs.declared.capable.CapableKeys.TheVariants.{NoKey, WithData}
-use Rattle.mptcp_options.specs.declared.join.JoinForm.{JoinForm}
-use Rattle.mptcp_options.specs.declared.join.JoinForm.TheVariants as joins
-use Rattle.subflow_recv.specs.Receiving.{Receiving}
-use Rattle.subflow_send.specs.Records.{SendState}
-use Rattle.subflow_send.specs.Rules.{ack_kind, after_acknowledge, sample_of, newly_acknowledged}
-use Rattle.subflow_send.specs.declared.record.AckKind.{AckKind}
-use Rattle.subflow_send.specs.declared.record.AckKind.TheVariants as kinds
-use Rattle.subflow_tcp.specs.Emitting.{is_syn}
-use Rattle.subflow_tcp.specs.Judging.{is_syn_alone, is_repeated_syn, is_acceptable, meaning_outside, meaning_acknowledging, meaning_within, meaning_placed, meaning_connected, meaning_answer, meaning_answering, meaning_at, meaning_of}
-use Rattle.subflow_tcp.specs.Segments.{Copy}
-use Rattle.subflow_tcp.specs.State.{EndState, is_at_limit}
-use Rattle.subflow_tcp.specs.States.{after_handshake, is_closed_to_segments, is_half_open, is_opening}
-use Rattle.subflow_tcp.specs.Taking.{after_arrival, arrival_of, after_taken, after_acknowledgement, after_ack_kind, after_duplicate, after_interruption, after_established, after_hearing, after_payload, after_holding, is_duplicate, kept_new, told_by, first_fin}
-use Rattle.subflow_tcp.specs.declared.handshake.State.{State as EndPhase}
-use Rattle.subflow_tcp.specs.declared.handshake.State.TheVariants as phase
-use Rattle.subflow_tcp.specs.declared.segments.Hint.{Hint}
-use Rattle.subflow_tcp.specs.declared.segments.Outgoing.{Outgoing}
+use Rattle.path_segments.specs.declared.segment.PathOption.{PathOption}
 use Rattle.subflow_tcp.specs.declared.verdicts.Arrival.TheVariants.{Opened, Took}
-use Rattle.subflow_tcp.specs.declared.verdicts.Meaning.{Meaning}
-use Rattle.subflow_tcp.specs.declared.verdicts.Meaning.TheVariants as means
-use Rattle.stream_lanes.specs.Words.{Every}
-use Rattle.actor_desk.specs.Words.{is_nil}
-use Rattle.path_agenda.specs.Items.{key_heard}
-use Rattle.path_agenda.specs.declared.heard.Heard.{Heard}
-use Rattle.path_agenda.specs.declared.heard.Heard.TheVariants as says
-use Rattle.path_store.specs.declared.infinite_mapping.InfiniteMapping.{InfiniteMapping}
-use Rattle.path_core.specs.DssIn.{HeardOption, ack_items, map_items}
-use Rattle.path_core.specs.Arrival.{copy_of, owing_if, with_payload, copy_judged, position_in}
-use Rattle.path_core.specs.OptionsIn.{hint_of, items_in, items_of, has_data_ack, octets_acked, is_plain_ack, edge_held, owes_by, asks_capable}
-use Rattle.path_core.specs.MpCapable.{key_items}
-use Rattle.path_core.specs.MpJoin.{join_items}
-use Rattle.path_core.specs.Addresses.{item_removed}
-use Rattle.path_core.specs.End.{PathEnd}
-use Rattle.path_core.specs.Treated.{Treated}
-use Rattle.world_laws.specs.Writes.{EndWrites, EndView, Only, copy_said}
+use Rattle.path_core.specs.Arrival.{position_in}
 use Rattle.world_laws.proofs.Keys.AreDrawn.{is_past}
+use Rattle.world_laws.proofs.Keys.Meanings.{Means, means}
 use Rattle.world_laws.proofs.Keys.AnswerHeardFirst.{is_accepts, is_apart, ack_apart, handshake_apart}
 use Rattle.world_laws.proofs.Whole.Bytes.{EndsWell, Grows, NoneAt, NoneBelow, Remains, acknowledged_remains, at_later, below_later, none_acknowledged, remains_grows, remains_self, remains_well}
 use Rattle.world_laws.proofs.Whole.Copies.{HeardIs, Knows, OptionIs, SynIs, is_infinite_option}
@@ -138,7 +103,7 @@ parts_spared w is e f x =
 -- ---- what an end keeps
 
 abbrev pub is_infinite_item : Heard → Bool
-is_infinite_item (says.InfiniteMapping place position) = true
+is_infinite_item (Heard.InfiniteMapping place position) = true
 is_infinite_item _ = false
 
 -- A SYN that opened the end, and a payload at the edge, came with an option; no acknowledgement of new bytes lacked a Data ACK.
@@ -214,91 +179,30 @@ end_later s vs ws x g h = record { base = base_later s vs ws x g h.base; says = 
 
 -- what it takes for a copy to mean this
 abbrev pub MeansIs : Copy → EndState → Meaning → Type 0
-MeansIs c s means.Opens = (s.state ≡ phase.Listen) × ((c.syn ≡ true) × ((c.rst ≡ false) × (c.fin ≡ false)))
-MeansIs c s (means.Accepts acknowledged) = (s.state ≡ phase.SynSent) × ((c.syn ≡ true) × (c.rst ≡ false))
-MeansIs c s (means.Taken pos acknowledged) =
+MeansIs c s Meaning.Opens = (s.state ≡ EndPhase.Listen) × ((c.syn ≡ true) × ((c.rst ≡ false) × (c.fin ≡ false)))
+MeansIs c s (Meaning.Accepts acknowledged) = (s.state ≡ EndPhase.SynSent) × ((c.syn ≡ true) × (c.rst ≡ false))
+MeansIs c s (Meaning.Taken pos acknowledged) =
     (is_past s.state ≡ true) × ((c.syn ≡ false) × ((c.rst ≡ false) × ((c.position ≡ Some pos) × (c.acknowledged ≡ Some acknowledged))))
-MeansIs c s means.Kills = Unit {0}
-MeansIs c s means.Ignored = Unit {0}
-MeansIs c s means.Unwanted = Unit {0}
+MeansIs c s Meaning.Kills = Unit {0}
+MeansIs c s Meaning.Ignored = Unit {0}
+MeansIs c s Meaning.Unwanted = Unit {0}
 MeansIs c s _ = is_past s.state ≡ true
 
 -- the copy is answered or taken, or opens B's end
 abbrev pub is_heeded : Meaning → Bool
-is_heeded means.Ignored = false
-is_heeded means.Unwanted = false
-is_heeded means.Kills = false
-is_heeded (means.Accepts acknowledged) = false
+is_heeded Meaning.Ignored = false
+is_heeded Meaning.Unwanted = false
+is_heeded Meaning.Kills = false
+is_heeded (Meaning.Accepts acknowledged) = false
 is_heeded _ = true
 
-module _ (c : Copy) (s : EndState) where
-  abbrev Is : Meaning → Type 0
-  Is = MeansIs c s
-
-  either : (b : Bool) (x y : Meaning) → (b ≡ true → Is x) → (b ≡ false → Is y) → Is (if b then x else y)
-  either true x y first second = first refl
-  either false x y first second = second refl
-
-  module _ (past : is_past s.state ≡ true) where
-    acknowledging : (o : Option ℕ) (pos : ℕ) → c.acknowledged ≡ o → c.position ≡ Some pos → c.rst ≡ false → c.syn ≡ false → Is (meaning_acknowledging o pos s)
-    acknowledging None pos acks at rst syn = past
-    acknowledging (Some acknowledged) pos acks at rst syn =
-        either (nat_lt s.send.nxt acknowledged) means.Ahead (if is_half_open s.state && acknowledged == 0 then means.Unacknowledging else means.Taken pos acknowledged) (λ is. past)
-        (λ is. either (is_half_open s.state && acknowledged == 0) means.Unacknowledging (means.Taken pos acknowledged) (λ half. past) (λ half. (past, (syn, (rst, (at, acks))))))
-
-    outside : Is (meaning_outside c)
-    outside = either c.rst means.Ignored means.Outside (λ is. tt) (λ is. past)
-
-    within : (pos : ℕ) → c.position ≡ Some pos → Is (meaning_within pos c s)
-    within pos at =
-        either c.rst (if pos == s.recv.edge then means.Kills else means.Challenged) (if c.syn then means.Challenged else meaning_acknowledging c.acknowledged pos s)
-        (λ is. either (pos == s.recv.edge) means.Kills means.Challenged (λ here. tt) (λ here. past))
-        (λ rst. either c.syn means.Challenged (meaning_acknowledging c.acknowledged pos s) (λ syn. past) (λ syn. acknowledging c.acknowledged pos refl at rst syn))
-
-    placed : (o : Option ℕ) → c.position ≡ o → Is (meaning_placed o c s)
-    placed None at = outside
-    placed (Some pos) at = either (is_acceptable s.recv.edge pos c) (meaning_within pos c s) (meaning_outside c) (λ is. within pos at) (λ is. outside)
-
-    connected : Is (meaning_connected c s)
-    connected =
-        either (is_at_limit s) means.Ignored (if is_repeated_syn c s then means.RepeatedSyn else meaning_placed c.position c s) (λ is. tt)
-        (λ is. either (is_repeated_syn c s) means.RepeatedSyn (meaning_placed c.position c s) (λ again. past) (λ again. placed c.position refl))
-
-  answering : s.state ≡ phase.SynSent → (o : Option ℕ) → Is (meaning_answering o c s)
-  answering sent None = tt
-  answering sent (Some acknowledged) =
-      either (nat_lt 0 acknowledged && nat_le acknowledged s.send.nxt) (meaning_answer c acknowledged) means.Ignored
-      (λ is. either c.rst means.Kills (if c.syn then means.Accepts acknowledged else means.Ignored) (λ rst. tt)
-      (λ rst. either c.syn (means.Accepts acknowledged) means.Ignored (λ syn. (sent, (syn, rst))) (λ syn. tt)))
-      (λ is. tt)
-
-  alone : s.state ≡ phase.Listen → is_syn_alone c ≡ true → Is means.Opens
-  alone listens is =
-      let syn = and_parts c.syn (not c.fin && (not c.rst && is_none c.acknowledged)) is in
-      let fin = and_parts (not c.fin) (not c.rst && is_none c.acknowledged) syn.1 in
-      let rst = and_parts (not c.rst) (is_none c.acknowledged) fin.1 in
-      (listens, (syn.0, (is_not c.rst rst.0, is_not c.fin fin.0)))
-    where
-      is_not : (b : Bool) → not b ≡ true → b ≡ false
-      is_not true is = absurd (false≢true is)
-      is_not false is = refl
-
-  pub means_so : MeansIs c s (meaning_of c s)
-  means_so = by s.state refl
-    where
-      by : (state : EndPhase) → s.state ≡ state → MeansIs c s (meaning_at state c s)
-      by phase.Dead is = either c.rst means.Ignored means.Unwanted (λ rst. tt) (λ rst. tt)
-      by phase.Waiting is = tt
-      by phase.Listen is = either (is_syn_alone c) means.Opens means.Ignored (alone is) (λ no. tt)
-      by phase.SynSent is = either (is_at_limit s) means.Ignored (meaning_answering c.acknowledged c s) (λ limit. tt) (λ limit. answering is c.acknowledged)
-      by phase.SynReceived is = connected (ap is_past is)
-      by phase.Established is = connected (ap is_past is)
-      by phase.FinWait1 is = connected (ap is_past is)
-      by phase.FinWait2 is = connected (ap is_past is)
-      by phase.CloseWait is = connected (ap is_past is)
-      by phase.Closing is = connected (ap is_past is)
-      by phase.LastAck is = connected (ap is_past is)
-      by phase.TimeWait is = connected (ap is_past is)
+pub means_so : (c : Copy) (s : EndState) → MeansIs c s (meaning_of c s)
+means_so c s = by (meaning_of c s) (means c s)
+  where
+    by : (m : Meaning) → Means c s m → MeansIs c s m
+    by (Meaning.Accepts acknowledged) is = (is.0, (is.1.0, is.1.1.0))
+    by (Meaning.Taken pos acknowledged) is = (is.0, (is.1.0, (is.1.1.0, (is.1.1.1.0, is.1.1.1.1.0))))
+    by _ is = is
 
 -- ---- an end of which little changes
 
@@ -325,37 +229,31 @@ any_append test (x ∷ xs) ys none rest =
 ack_finite : (next : Option (Option ℕ)) (window : ℕ) → list_any is_infinite_item (ack_items next window) ≡ false
 ack_finite None window = refl
 ack_finite (Some None) window = refl
-ack_finite (Some (Some next)) window = by (nat_lt next (2 ^ 62))
-  where
-    by : (b : Bool) → list_any is_infinite_item (if b then says.DataAck next window ∷ [] else []) ≡ false
-    by true = refl
-    by false = refl
+ack_finite (Some (Some next)) window = if_so (λ z. list_any is_infinite_item z ≡ false) (nat_lt next (2 ^ 62)) (Heard.DataAck next window ∷ []) [] refl refl
 
 if_finite : (b : Bool) (item : Heard) → is_infinite_item item ≡ false → list_any is_infinite_item (if b then item ∷ [] else []) ≡ false
 if_finite true item none = ap (λ x. x || false) none
 if_finite false item none = refl
 
-map_finite : (next : Option (Option ℕ)) (mapping : Option (PathMapping (Option ℕ))) → is_infinite_option (options.Dss next mapping) ≡ false → list_any is_infinite_item (map_items mapping) ≡ false
+map_finite : (next : Option (Option ℕ)) (mapping : Option (PathMapping (Option ℕ))) → is_infinite_option (PathOption.Dss next mapping) ≡ false → list_any is_infinite_item (map_items mapping) ≡ false
 map_finite next None none = refl
-map_finite next (Some (mappings.Bytes (Some place) (Some position) len fin checksum)) none = if_finite _ (says.Mapping fin) refl
-map_finite next (Some (mappings.Bytes (Some place) None len fin checksum)) none = refl
-map_finite next (Some (mappings.Bytes None position len fin checksum)) none = refl
-map_finite next (Some (mappings.End (Some place) checksum)) none = if_finite _ (says.DataFin place) refl
-map_finite next (Some (mappings.End None checksum)) none = refl
-map_finite next (Some (mappings.Infinite place position)) none = absurd (false≢true (sym none))
+map_finite next (Some (PathMapping.Bytes (Some place) (Some position) len fin checksum)) none = if_finite _ (Heard.Mapping fin) refl
+map_finite next (Some (PathMapping.Bytes (Some place) None len fin checksum)) none = refl
+map_finite next (Some (PathMapping.Bytes None position len fin checksum)) none = refl
+map_finite next (Some (PathMapping.End (Some place) checksum)) none = if_finite _ (Heard.DataFin place) refl
+map_finite next (Some (PathMapping.End None checksum)) none = refl
+map_finite next (Some (PathMapping.Infinite place position)) none = absurd (false≢true (sym none))
 
 keys_finite : (s : Side) (keys : CapableKeys) → list_any is_infinite_item (key_items s keys) ≡ false
 keys_finite A NoKey = refl
-keys_finite B (WithData sender receiver len checksum) = by (nat_lt 0 len)
-  where
-    by : (b : Bool) → list_any is_infinite_item (if b then (if nat_lt 0 1 && nat_le (0 + len) (2 ^ 62) then says.Mapping false ∷ [] else []) else []) ≡ false
-    by true = if_finite _ (says.Mapping false) refl
-    by false = refl
+keys_finite B (WithData sender receiver len checksum) =
+    if_so (λ z. list_any is_infinite_item z ≡ false) (nat_lt 0 len) (if nat_lt 0 1 && nat_le (0 + len) (2 ^ 62) then Heard.Mapping false ∷ [] else []) []
+    (if_finite _ (Heard.Mapping false) refl) refl
 keys_finite s keys = refl
 
 joins_finite : (s : Side) (form : JoinForm) → list_any is_infinite_item (join_items s form) ≡ false
-joins_finite A (joins.Answer backup id hmac nonce) = refl
-joins_finite B (joins.Answer backup id hmac nonce) = refl
+joins_finite A (JoinForm.Answer backup id hmac nonce) = refl
+joins_finite B (JoinForm.Answer backup id hmac nonce) = refl
 joins_finite s form = refl
 
 removed_finite : (ids : List ℕ) → list_any is_infinite_item (map item_removed ids) ≡ false
@@ -363,13 +261,13 @@ removed_finite [] = refl
 removed_finite (id ∷ ids) = removed_finite ids
 
 option_finite : (s : Side) (window : ℕ) (o : HeardOption) → is_infinite_option o ≡ false → list_any is_infinite_item (items_in false s window o) ≡ false
-option_finite s window (options.Capable flag_a flag_c keys) none = keys_finite s keys
-option_finite s window (options.Dss next mapping) none = any_append is_infinite_item (ack_items next window) (map_items mapping) (ack_finite next window) (map_finite next mapping none)
-option_finite s window (options.Join form) none = joins_finite s form
-option_finite s window (options.AddAddr true id address port hmac) none = refl
-option_finite s window (options.AddAddr false id address port (Some hmac)) none = refl
-option_finite s window (options.AddAddr false id address port None) none = refl
-option_finite s window (options.Remove ids) none = removed_finite ids
+option_finite s window (PathOption.Capable flag_a flag_c keys) none = keys_finite s keys
+option_finite s window (PathOption.Dss next mapping) none = any_append is_infinite_item (ack_items next window) (map_items mapping) (ack_finite next window) (map_finite next mapping none)
+option_finite s window (PathOption.Join form) none = joins_finite s form
+option_finite s window (PathOption.AddAddr true id address port hmac) none = refl
+option_finite s window (PathOption.AddAddr false id address port (Some hmac)) none = refl
+option_finite s window (PathOption.AddAddr false id address port None) none = refl
+option_finite s window (PathOption.Remove ids) none = removed_finite ids
 option_finite s window _ none = refl
 
 items_finite : (s : Side) (window : ℕ) (os : List HeardOption) → list_any is_infinite_option os ≡ false → list_any is_infinite_item (flat_map (items_in false s window) os) ≡ false
@@ -420,19 +318,15 @@ module _ (s : Side) (vs : SendState) (h : HeardSegment) (e : PathEnd) (told : Li
   acked_sends n x = by (ack_kind n x.send)
     where
       by : (kind : AckKind) → Remains x.send (after_ack_kind kind (sample_of n x.send) now (record x { send = after_acknowledge n x.send })).send
-      by (kinds.New octets) = acknowledged_remains x.send n
-      by kinds.Duplicate = acknowledged_remains x.send n
-      by kinds.Old = acknowledged_remains x.send n
-      by kinds.Future = acknowledged_remains x.send n
+      by (AckKind.New octets) = acknowledged_remains x.send n
+      by _ = acknowledged_remains x.send n
 
   acked_recv : (n : ℕ) (x : EndState) → ((after_acknowledgement n now x).recv ≡ x.recv) × ((after_acknowledgement n now x).fin_at ≡ x.fin_at)
   acked_recv n x = by (ack_kind n x.send)
     where
       by : (kind : AckKind) → let y = after_ack_kind kind (sample_of n x.send) now (record x { send = after_acknowledge n x.send }) in (y.recv ≡ x.recv) × (y.fin_at ≡ x.fin_at)
-      by (kinds.New octets) = (refl, refl)
-      by kinds.Duplicate = (refl, refl)
-      by kinds.Old = (refl, refl)
-      by kinds.Future = (refl, refl)
+      by (AckKind.New octets) = (refl, refl)
+      by _ = (refl, refl)
 
   not_apart : (x y : EndPhase) → (is_apart s y ≡ true → is_apart s x ≡ true) → is_apart s x ≡ false → is_apart s y ≡ false
   not_apart x y back none = by (is_apart s y) refl
@@ -485,7 +379,7 @@ module _ (s : Side) (vs : SendState) (h : HeardSegment) (e : PathEnd) (told : Li
   still_moved : Moved e.tcp e.tcp
   still_moved = record { sends = remains_self e.tcp.send; edge = refl; fin = was.fin_at; apart = was.apart }
 
-  taken_held : (pos n : ℕ) (b : Bool) → Fits (means.Taken pos n) → let x : EndState = if b then e.tcp else after_holding pos h.payload e.tcp in Moved e.tcp (after_taken pos n hint now c x)
+  taken_held : (pos n : ℕ) (b : Bool) → Fits (Meaning.Taken pos n) → let x : EndState = if b then e.tcp else after_holding pos h.payload e.tcp in Moved e.tcp (after_taken pos n hint now c x)
   taken_held pos n true fits = taken_moves pos n e.tcp (fin_then pos fits.1.1.0 fits.1.1.1.0) was.fin_at was.apart
   taken_held pos n false fits =
       let x : EndState = after_holding pos h.payload e.tcp in
@@ -493,16 +387,16 @@ module _ (s : Side) (vs : SendState) (h : HeardSegment) (e : PathEnd) (told : Li
       record { sends = moved.sends; edge = moved.edge; fin = moved.fin; apart = moved.apart }
 
   arrival_moves : (m : Meaning) → Fits m → Moved e.tcp (after_arrival m hint now c (with_payload m h.payload e.tcp))
-  arrival_moves means.Ignored fits = still_moved
-  arrival_moves means.Unwanted fits = still_moved
-  arrival_moves means.Opens fits = record {
+  arrival_moves Meaning.Ignored fits = still_moved
+  arrival_moves Meaning.Unwanted fits = still_moved
+  arrival_moves Meaning.Opens fits = record {
     sends = remains_self e.tcp.send;
     edge = refl;
     fin = first_fin_at e.tcp.fin_at h.fin (1 + length h.payload) was.fin_at (no_fin fits.1.1.0 fits.1.0);
     apart = ap (is_apart s) (sym fits.0) ∙ was.apart;
   }
-  arrival_moves (means.Accepts n) fits =
-      let opened : EndState = record (after_hearing (after_payload 1 hint c e.tcp)) { state = phase.Established } in
+  arrival_moves (Meaning.Accepts n) fits =
+      let opened : EndState = record (after_hearing (after_payload 1 hint c e.tcp)) { state = EndPhase.Established } in
       let same = acked_recv n opened in
       record {
         sends = acked_sends n opened;
@@ -510,13 +404,9 @@ module _ (s : Side) (vs : SendState) (h : HeardSegment) (e : PathEnd) (told : Li
         fin = subst (λ (o : Option ℕ). IfSome o (λ k. NoneAt k vs)) (sym same.1) (first_fin_at e.tcp.fin_at h.fin (1 + length h.payload) was.fin_at (no_fin fits.1.1 fits.1.0));
         apart = ack_apart s n now opened;
       }
-  arrival_moves means.RepeatedSyn fits = record { sends = remains_self e.tcp.send; edge = refl; fin = was.fin_at; apart = was.apart }
-  arrival_moves means.Outside fits = record { sends = remains_self e.tcp.send; edge = refl; fin = was.fin_at; apart = was.apart }
-  arrival_moves means.Kills fits = record { sends = acknowledged_remains e.tcp.send e.tcp.send.nxt; edge = refl; fin = was.fin_at; apart = refl }
-  arrival_moves means.Challenged fits = record { sends = remains_self e.tcp.send; edge = refl; fin = was.fin_at; apart = was.apart }
-  arrival_moves means.Unacknowledging fits = record { sends = remains_self e.tcp.send; edge = refl; fin = was.fin_at; apart = was.apart }
-  arrival_moves means.Ahead fits = record { sends = remains_self e.tcp.send; edge = refl; fin = was.fin_at; apart = was.apart }
-  arrival_moves (means.Taken pos n) fits = taken_held pos n (is_nil h.payload) fits
+  arrival_moves Meaning.Kills fits = record { sends = acknowledged_remains e.tcp.send e.tcp.send.nxt; edge = refl; fin = was.fin_at; apart = refl }
+  arrival_moves (Meaning.Taken pos n) fits = taken_held pos n (is_nil h.payload) fits
+  arrival_moves _ fits = record { sends = remains_self e.tcp.send; edge = refl; fin = was.fin_at; apart = was.apart }
 
   -- ---- what is still to be treated of it
 
@@ -528,18 +418,18 @@ module _ (s : Side) (vs : SendState) (h : HeardSegment) (e : PathEnd) (told : Li
   no_octets n x low true new = refl
   no_octets n x low false new = by (nat_lt x.nxt n) (nat_lt x.una n) (n == x.una)
     where
-      by : (ahead more again : Bool) → octets_acked (Took (if ahead then kinds.Future else (if more then kinds.New (newly_acknowledged n x) else (if again then kinds.Duplicate else kinds.Old))) new h.fin) ≡ 0
+      by : (ahead more again : Bool) → octets_acked (Took (if ahead then AckKind.Future else (if more then AckKind.New (newly_acknowledged n x) else (if again then AckKind.Duplicate else AckKind.Old))) new h.fin) ≡ 0
       by true more again = refl
       by false true again = none_acknowledged n x low
       by false false true = refl
       by false false false = refl
 
   -- with a Data ACK nothing is acknowledged without one, and without it no byte
-  acks_plainly : (pos n : ℕ) (x : EndState) → x.send ≡ e.tcp.send → Fits (means.Taken pos n) → is_plain_ack (arrival_of (means.Taken pos n) hint c x) h ≡ false
+  acks_plainly : (pos n : ℕ) (x : EndState) → x.send ≡ e.tcp.send → Fits (Meaning.Taken pos n) → is_plain_ack (arrival_of (Meaning.Taken pos n) hint c x) h ≡ false
   acks_plainly pos n x same fits = by (list_any has_data_ack h.options) refl
     where
       octets : ℕ
-      octets = octets_acked (arrival_of (means.Taken pos n) hint c x)
+      octets = octets_acked (arrival_of (Meaning.Taken pos n) hint c x)
 
       low : list_any has_data_ack h.options ≡ false → NoneBelow n x.send
       low none = subst (λ v. NoneBelow n v) (sym same) (subst (λ (o : Option ℕ). IfSome o (λ k. NoneBelow k e.tcp.send)) fits.1.1.1.1 (said.acks fits.1.1.0 fits.1.0 none))
@@ -548,13 +438,13 @@ module _ (s : Side) (vs : SendState) (h : HeardSegment) (e : PathEnd) (told : Li
       by true is = and_never (nat_lt 0 octets)
       by false is = ap (λ k. nat_lt 0 k && true) (no_octets n x.send (low is) (is_half_open x.state) (kept_new false pos h.payload x))
 
-  plainly_held : (pos n : ℕ) (b : Bool) → Fits (means.Taken pos n) → is_plain_ack (arrival_of (means.Taken pos n) hint c (if b then e.tcp else after_holding pos h.payload e.tcp)) h ≡ false
+  plainly_held : (pos n : ℕ) (b : Bool) → Fits (Meaning.Taken pos n) → is_plain_ack (arrival_of (Meaning.Taken pos n) hint c (if b then e.tcp else after_holding pos h.payload e.tcp)) h ≡ false
   plainly_held pos n true fits = acks_plainly pos n e.tcp refl fits
   plainly_held pos n false fits = acks_plainly pos n (after_holding pos h.payload e.tcp) refl fits
 
   -- a copy opens A's end by its SYN, and B's by an option
   opened_optional : (t : Side) → s ≡ t → (state : EndPhase) → is_apart t state ≡ false → is_half_open state ≡ true → h.syn ≡ false → h.rst ≡ false → is_nil h.options ≡ false
-  opened_optional A same phase.SynReceived apart half syn rst = absurd (false≢true (sym apart))
+  opened_optional A same EndPhase.SynReceived apart half syn rst = absurd (false≢true (sym apart))
   opened_optional A same _ apart half syn rst = absurd (false≢true half)
   opened_optional B same state apart half syn rst = subst (λ t. OptionIs (peer t) h) same (said.option rst syn)
 
@@ -563,8 +453,8 @@ module _ (s : Side) (vs : SendState) (h : HeardSegment) (e : PathEnd) (told : Li
   syn_optional B is = key_has_option h is
 
   -- a payload at the edge
-  edge_optional : (t : Side) → s ≡ t → (pos edge : ℕ) → h.syn ≡ false → h.rst ≡ false → IfSome (edge_held (means.Taken pos 0) h.payload edge) (λ k. not (is_nil h.options) ≡ true)
-  edge_optional B same pos edge syn rst = some_later (λ k. Unit {0}) _ (edge_held (means.Taken pos 0) h.payload edge) (λ k any. ap not (subst (λ t. OptionIs (peer t) h) same (said.option rst syn))) (any_some (edge_held (means.Taken pos 0) h.payload edge))
+  edge_optional : (t : Side) → s ≡ t → (pos edge : ℕ) → h.syn ≡ false → h.rst ≡ false → IfSome (edge_held (Meaning.Taken pos 0) h.payload edge) (λ k. not (is_nil h.options) ≡ true)
+  edge_optional B same pos edge syn rst = some_later (λ k. Unit {0}) _ (edge_held (Meaning.Taken pos 0) h.payload edge) (λ k any. ap not (subst (λ t. OptionIs (peer t) h) same (said.option rst syn))) (any_some (edge_held (Meaning.Taken pos 0) h.payload edge))
     where
       any_some : (o : Option ℕ) → IfSome o (λ k. Unit {0})
       any_some None = tt
@@ -585,7 +475,7 @@ module _ (s : Side) (vs : SendState) (h : HeardSegment) (e : PathEnd) (told : Li
       optional true some = ap not some
       optional false some = tt
 
-      by : OptionIs B h → IfSome (edge_held (means.Taken pos 0) h.payload edge) (λ k. not (is_nil h.options) ≡ true)
+      by : OptionIs B h → IfSome (edge_held (Meaning.Taken pos 0) h.payload edge) (λ k. not (is_nil h.options) ≡ true)
       by (inl nil) = at (nat_le pos edge && nat_lt edge (pos + length h.payload)) refl nil
       by (inr some) = optional (nat_le pos edge && nat_lt edge (pos + length h.payload)) some
 
@@ -600,18 +490,18 @@ module _ (s : Side) (vs : SendState) (h : HeardSegment) (e : PathEnd) (told : Li
   }
 
   copy_treated : (m : Meaning) → Fits m → TreatedIs (parts_of (after m)).copy (parts_of (after m)).held_edge
-  copy_treated (means.Taken pos n) fits =
-      treated_so (copy_said (after (means.Taken pos n)).treated) _ refl refl (plainly_held pos n (is_nil h.payload) fits)
+  copy_treated (Meaning.Taken pos n) fits =
+      treated_so (copy_said (after (Meaning.Taken pos n)).treated) _ refl refl (plainly_held pos n (is_nil h.payload) fits)
       (held_opens (is_nil h.payload)) (held_edge_is (is_nil h.payload))
     where
       held_opens : (b : Bool) → is_half_open (if b then e.tcp else after_holding pos h.payload e.tcp).state ≡ true → not (is_nil h.options) ≡ true
       held_opens true half = ap not (opened_optional s refl e.tcp.state was.apart half fits.1.0 fits.1.1.0)
       held_opens false half = ap not (opened_optional s refl e.tcp.state was.apart half fits.1.0 fits.1.1.0)
 
-      held_edge_is : (b : Bool) → IfSome (edge_held (means.Taken pos n) h.payload (if b then e.tcp else after_holding pos h.payload e.tcp).recv.edge) (λ k. not (is_nil h.options) ≡ true)
+      held_edge_is : (b : Bool) → IfSome (edge_held (Meaning.Taken pos n) h.payload (if b then e.tcp else after_holding pos h.payload e.tcp).recv.edge) (λ k. not (is_nil h.options) ≡ true)
       held_edge_is true = edge_optional s refl pos e.tcp.recv.edge fits.1.0 fits.1.1.0
       held_edge_is false = edge_optional s refl pos e.tcp.recv.edge fits.1.0 fits.1.1.0
-  copy_treated (means.Accepts n) fits = treated_so _ _ refl refl refl (λ is. ap not (syn_optional (peer s) (said.syn fits.1.1 fits.1.0))) tt
+  copy_treated (Meaning.Accepts n) fits = treated_so _ _ refl refl refl (λ is. ap not (syn_optional (peer s) (said.syn fits.1.1 fits.1.0))) tt
   copy_treated m fits = treated_so _ _ refl refl refl (λ is. absurd (false≢true is)) tt
 
   -- ---- the end
@@ -626,8 +516,8 @@ module _ (s : Side) (vs : SendState) (h : HeardSegment) (e : PathEnd) (told : Li
       rebuild s vs (parts_of e) (parts_of (after m)) (remains_well e.tcp.send (after m).tcp.send moved.sends was.sends) moved.edge refl clear key infinite moved.fin moved.apart (copy_treated m fits) was
 
   pub copy_base : (m : Meaning) → Fits m → Base s vs (parts_of (after m))
-  copy_base means.Opens fits = based means.Opens fits refl refl refl
-  copy_base means.Ignored fits = based means.Ignored fits refl refl refl
+  copy_base Meaning.Opens fits = based Meaning.Opens fits refl refl refl
+  copy_base Meaning.Ignored fits = based Meaning.Ignored fits refl refl refl
   copy_base m fits = based m fits refl refl refl
 
   pub copy_grows : (m : Meaning) → Fits m → Grows e.tcp.send (after m).tcp.send
@@ -637,42 +527,42 @@ module _ (s : Side) (vs : SendState) (h : HeardSegment) (e : PathEnd) (told : Li
   known_past past (inl knows) = knows
   known_past past (inr unmet) = absurd (both_ways (is_past e.tcp.state) unmet.past past)
 
-  opens_known : (t : Side) → s ≡ t → e.tcp.state ≡ phase.Listen → h.rst ≡ false → h.syn ≡ true → Knows t e.modes.peer_key (list_any asks_capable h.options)
-  opens_known A same listens rst syn = absurd (both_ways (is_apart A phase.Listen) (subst (λ x. is_apart A x ≡ false) listens (subst (λ t. is_apart t e.tcp.state ≡ false) same was.apart)) refl)
+  opens_known : (t : Side) → s ≡ t → e.tcp.state ≡ EndPhase.Listen → h.rst ≡ false → h.syn ≡ true → Knows t e.modes.peer_key (list_any asks_capable h.options)
+  opens_known A same listens rst syn = absurd (both_ways (is_apart A EndPhase.Listen) (subst (λ x. is_apart A x ≡ false) listens (subst (λ t. is_apart t e.tcp.state ≡ false) same was.apart)) refl)
   opens_known B same listens rst syn = subst (λ t. SynIs (peer t) h) same (said.syn rst syn)
 
   -- after a copy that is answered or taken it may say all
   pub copy_speaks : (m : Meaning) → Fits m → is_heeded m ≡ true → SaysOr s (parts_of e) → Knows s (parts_of (after m)).peer_key (parts_of (after m)).asked
-  copy_speaks means.Opens fits heeds says = opens_known s refl fits.0 fits.1.1.0 fits.1.0
-  copy_speaks (means.Accepts n) fits heeds says = absurd (false≢true heeds)
-  copy_speaks means.Ignored fits heeds says = absurd (false≢true heeds)
-  copy_speaks means.Unwanted fits heeds says = absurd (false≢true heeds)
-  copy_speaks means.Kills fits heeds says = absurd (false≢true heeds)
-  copy_speaks (means.Taken pos n) fits heeds says = known_past fits.0 says
+  copy_speaks Meaning.Opens fits heeds says = opens_known s refl fits.0 fits.1.1.0 fits.1.0
+  copy_speaks (Meaning.Accepts n) fits heeds says = absurd (false≢true heeds)
+  copy_speaks Meaning.Ignored fits heeds says = absurd (false≢true heeds)
+  copy_speaks Meaning.Unwanted fits heeds says = absurd (false≢true heeds)
+  copy_speaks Meaning.Kills fits heeds says = absurd (false≢true heeds)
+  copy_speaks (Meaning.Taken pos n) fits heeds says = known_past fits.0 says
   copy_speaks m fits heeds says = known_past fits says
 
   pub copy_knows : (m : Meaning) → Fits m → Knows s e.modes.peer_key e.modes.capable_asked → Knows s (parts_of (after m)).peer_key (parts_of (after m)).asked
-  copy_knows means.Opens fits knows = opens_known s refl fits.0 fits.1.1.0 fits.1.0
-  copy_knows means.Ignored fits knows = knows
+  copy_knows Meaning.Opens fits knows = opens_known s refl fits.0 fits.1.1.0 fits.1.0
+  copy_knows Meaning.Ignored fits knows = knows
   copy_knows m fits knows = knows
 
   -- a copy that A's end accepts shows B's key, which is told next
   pub copy_says : (m : Meaning) → Fits m → is_accepts m ≡ false → SaysOr s (parts_of e) → SaysOr s (parts_of (after m))
-  copy_says (means.Accepts n) fits other says = absurd (false≢true (sym other))
-  copy_says means.Ignored fits other (inl knows) = inl knows
-  copy_says means.Ignored fits other (inr unmet) = inr (same_unmet (parts_of e) (parts_of (after means.Ignored)) refl refl refl unmet)
-  copy_says means.Unwanted fits other (inl knows) = inl knows
-  copy_says means.Unwanted fits other (inr unmet) = inr (same_unmet (parts_of e) (parts_of (after means.Unwanted)) refl refl refl unmet)
-  copy_says means.Kills fits other (inl knows) = inl knows
-  copy_says means.Kills fits other (inr unmet) = inr (record { past = refl; still = inl refl })
+  copy_says (Meaning.Accepts n) fits other says = absurd (false≢true (sym other))
+  copy_says Meaning.Ignored fits other (inl knows) = inl knows
+  copy_says Meaning.Ignored fits other (inr unmet) = inr (same_unmet (parts_of e) (parts_of (after Meaning.Ignored)) refl refl refl unmet)
+  copy_says Meaning.Unwanted fits other (inl knows) = inl knows
+  copy_says Meaning.Unwanted fits other (inr unmet) = inr (same_unmet (parts_of e) (parts_of (after Meaning.Unwanted)) refl refl refl unmet)
+  copy_says Meaning.Kills fits other (inl knows) = inl knows
+  copy_says Meaning.Kills fits other (inr unmet) = inr (record { past = refl; still = inl refl })
   copy_says m fits other says = inl (copy_speaks m fits refl says)
 
-  pub accepted_key : (n : ℕ) → Fits (means.Accepts n) → s ≡ A → is_some (key_heard (items_of false A h)) ≡ true
+  pub accepted_key : (n : ℕ) → Fits (Meaning.Accepts n) → s ≡ A → is_some (key_heard (items_of false A h)) ≡ true
   accepted_key n fits same = subst (λ t. SynIs (peer t) h) same (said.syn fits.1.1 fits.1.0)
 
-  pub accepts_a : (n : ℕ) → Fits (means.Accepts n) → s ≡ A
+  pub accepts_a : (n : ℕ) → Fits (Meaning.Accepts n) → s ≡ A
   accepts_a n fits = by s refl
     where
       by : (t : Side) → s ≡ t → s ≡ A
       by A same = same
-      by B same = absurd (both_ways (is_apart B phase.SynSent) (subst (λ x. is_apart B x ≡ false) fits.0 (subst (λ t. is_apart t e.tcp.state ≡ false) same was.apart)) refl)
+      by B same = absurd (both_ways (is_apart B EndPhase.SynSent) (subst (λ x. is_apart B x ≡ false) fits.0 (subst (λ t. is_apart t e.tcp.state ≡ false) same was.apart)) refl)

@@ -1,64 +1,20 @@
 -- Where no options are taken away and no payload is altered, no side falls back: no path asks anything by which its side can.
-use Rattle.std.proofs.Common.{◌≡◌, refl, sym, ◌∙◌, ap, subst, ℕ, zero, suc, ◌+◌, ◌⊎◌, inl, inr, ⊎_elim, ◌&&◌, ◌||◌, ◌==◌, not, nat_lt, is_none, Bool, true, false, if◌then◌else◌, Option, Some, None, List, [], ◌∷◌, map, arith}
-use Rattle.std.proofs.lemmas.Bool.{and_parts, both_ways, false≢true, lt-ltb, or_cases}
-use Rattle.std.proofs.lemmas.Option.{same_Some}
-use Rattle.std.specs.List.{slice_get}
-use Rattle.sides.specs.declared.side.Side.{Side}
-use Rattle.sides.specs.declared.side.Side.TheVariants.{A, B}
-use Rattle.control_book.specs.declared.call.ControlCall.{ControlCall}
-use Rattle.control_book.specs.declared.call.ControlCall.TheVariants as calls
-use Rattle.control_book.specs.Control.{Control}
-use Rattle.control_book.specs.Registry.{sole}
+use Rattle.world_laws.proofs.Words.{◌≡◌, refl, sym, ◌∙◌, ap, subst, ℕ, zero, suc, ◌+◌, ◌&&◌, ◌||◌, ◌==◌, not, nat_lt, inl, inr, ◌⊎◌, ⊎_elim, Bool, true, false}
+use Rattle.world_laws.proofs.Words.{if◌then◌else◌, Some, None, List, [], ◌∷◌, arith, is_none, lt-ltb, or_cases, and_parts, both_ways, false≢true}
+use Rattle.world_laws.proofs.Words.{same_Some, slice_get, Verdict, Mode, FallEvent, is_identity, is_infinite, is_starting, reads_mappings, receiving, sending}
+use Rattle.world_laws.proofs.Words.{writes_mappings, Fall, is_failed_path, goes, fall_step, Stay, SendFail, Side, A, B, ScriptLine, ControlCall, sole, Control}
+use Rattle.world_laws.proofs.Words.{opening, is_waiting, is_stripped_by, start_of_turn, Duty, SendDuty, StepDuty, AskDuty, Ask, Reply, StampedBooks, books_in}
+use Rattle.world_laws.proofs.Words.{SixBooks, control_of, after_ask, is_nil, AppDuty, AppState, app_ask, app_asks_first, ask_for, waiting_path, PathState}
+use Rattle.world_laws.proofs.Words.{end_at, with_agenda, asks_first, takes, begins_turn, next_round, Carried, values, is_joined, nothing_treated, in_map}
+use Rattle.world_laws.proofs.Words.{Every-nil, in_set, Every, App, Path, Actor, ActorCrew, member_asks, member_takes, member_next, is_over, PathPlan, Start}
+use Rattle.world_laws.proofs.Words.{path_begins, opened_world, start_of, WorldState, Turn, crew_after, asked, greatest, begins, after_turn}
+use Rattle.world_laws.proofs.Words.{world_run, IsPlain, PathView, side_of, answer_to, may, asking, IsAt}
+use Rattle.world_laws.proofs.Worlds.Turns.{turn_so}
 use Rattle.control_book.specs.Steps as controlling
-use Rattle.fallback_state.specs.declared.fall.Event.{Event as FallEvent}
-use Rattle.fallback_state.specs.declared.fall.Event.TheVariants as events
-use Rattle.fallback_state.specs.declared.fall.Fall.{Fall}
-use Rattle.fallback_state.specs.declared.fall.Mode.{Mode}
-use Rattle.fallback_state.specs.declared.fall.Mode.TheVariants as modes
-use Rattle.fallback_state.specs.declared.fall.Verdict.{Verdict}
-use Rattle.fallback_state.specs.declared.fall.Verdict.TheVariants.{SendFail, Stay}
-use Rattle.fallback_state.specs.Modes.{is_identity, is_infinite, is_starting, reads_mappings, receiving, sending, writes_mappings}
-use Rattle.fallback_state.specs.Table.{breaks, fall_step, goes, is_failed_path, stays}
-use Rattle.link_model.specs.Fate.{is_stripped_by}
-use Rattle.link_script.specs.declared.script.ScriptLine.{ScriptLine}
+use Rattle.fallback_state.specs.Table.{breaks, stays}
 use Rattle.link_script.specs.declared.script.ScriptLine.TheVariants.{Strip, StripAll}
-use Rattle.subflow_send.specs.Rules.{opening}
-use Rattle.subflow_tcp.specs.States.{is_waiting}
-use Rattle.stream_lanes.specs.Words.{Every}
-use Rattle.stream_lanes.proofs.Lists.{Every-nil, in_map, in_set}
-use Rattle.stream_apps.specs.declared.duty.AppDuty.{AppDuty}
-use Rattle.stream_apps.specs.declared.duty.AppDuty.TheVariants as app_duties
-use Rattle.stream_apps.specs.Apps.{AppState}
-use Rattle.stream_apps.specs.AppSteps.{app_ask, app_asks_first}
-use Rattle.actor_desk.specs.declared.ask.Ask.{Ask}
-use Rattle.actor_desk.specs.declared.ask.Ask.TheVariants as asks
-use Rattle.actor_desk.specs.declared.ask.Reply.{Reply}
-use Rattle.actor_desk.specs.Words.{is_nil}
-use Rattle.actor_desk.specs.Books.{StampedBooks, books_in}
-use Rattle.actor_desk.specs.Desk.{SixBooks, after_ask, control_of}
-use Rattle.path_agenda.specs.Agenda.{start_of_turn}
-use Rattle.path_agenda.specs.declared.duty.Duty.{Duty}
-use Rattle.path_agenda.specs.declared.duty.Duty.TheVariants as duties
-use Rattle.path_agenda.specs.declared.duty.AskDuty.TheVariants as ask_duties
-use Rattle.path_agenda.specs.declared.duty.SendDuty.TheVariants as send_duties
-use Rattle.path_agenda.specs.declared.duty.StepDuty.TheVariants as step_duties
-use Rattle.path_core.specs.Duties.{ask_for}
-use Rattle.path_core.specs.Treated.{nothing_treated}
-use Rattle.path_core.specs.MpJoin.{is_joined}
-use Rattle.path_core.specs.Start.{waiting_path}
-use Rattle.path_core.specs.State.{PathState, end_at, with_agenda}
-use Rattle.path_core.specs.Steps.{asks_first, begins_turn, next_round, takes}
-use Rattle.path_core.specs.Values.{Carried, values}
-use Rattle.world_laws.specs.declared.member.Member.TheVariants.{App, Path}
-use Rattle.world_laws.specs.Actors.{Actor, ActorCrew, is_over, member_asks, member_next, member_takes}
-use Rattle.world_laws.specs.Asking.{IsAt, asking, may}
 use Rattle.world_laws.specs.ModesSoFar.{was_ever}
 use Rattle.world_laws.specs.NeverFalls.{IsPromisedWhole, IsPromisedWholeOfOctets, IsWhole, NeverFalls, WholeScriptsNeverFall, is_fallen_back, strips_options}
-use Rattle.world_laws.specs.Openings.{PathPlan, Start, opened_world, path_begins, start_of}
-use Rattle.world_laws.specs.Promises.{IsPlain}
-use Rattle.world_laws.specs.StampedBooks.{answer_to}
-use Rattle.world_laws.specs.Worlds.{Turn, WorldState, after_turn, all_over, asked, begins, crew_after, greatest, stepped, world_run}
-use Rattle.world_laws.specs.Writes.{PathView, side_of}
 use Rattle.world_laws.proofs.Falls.ByTheJournal.{Was, was_more, was_now, was_wider}
 use Rattle.world_laws.proofs.Falls.ChecksPass.{MemberPasses, PathPasses, checks_pass, each_passes}
 use Rattle.world_laws.proofs.Keys.ByJournals.{Causes, Knows, run_causes}
@@ -94,18 +50,18 @@ row_plain true f x y one other = one refl
 row_plain false f x y one other = other refl
 
 receiving_plain : (m : Mode) → is_identity (receiving m) ≡ true → ⊥
-receiving_plain modes.Starting is = false≢true is
-receiving_plain modes.InfiniteSend is = false≢true is
+receiving_plain Mode.Starting is = false≢true is
+receiving_plain Mode.InfiniteSend is = false≢true is
 receiving_plain _ is = false≢true is
 
 sending_plain : (m : Mode) → is_identity (sending m) ≡ true → ⊥
-sending_plain modes.Starting is = false≢true is
-sending_plain modes.InfiniteReceive is = false≢true is
+sending_plain Mode.Starting is = false≢true is
+sending_plain Mode.InfiniteReceive is = false≢true is
 sending_plain _ is = false≢true is
 
-plain_joined : (f : Fall) → f.joined ≡ true → WasPlain f (if is_starting f.mode && not f.joined then goes modes.Identity f else stays f).0
+plain_joined : (f : Fall) → f.joined ≡ true → WasPlain f (if is_starting f.mode && not f.joined then goes Mode.Identity f else stays f).0
 plain_joined f joined =
-    row_plain (is_starting f.mode && not f.joined) f (goes modes.Identity f) (stays f) (λ is now. absurd (false≢true (ap not (sym joined) ∙ (and_parts (is_starting f.mode) (not f.joined) is).1))) (λ is now. now)
+    row_plain (is_starting f.mode && not f.joined) f (goes Mode.Identity f) (stays f) (λ is now. absurd (false≢true (ap not (sym joined) ∙ (and_parts (is_starting f.mode) (not f.joined) is).1))) (λ is now. now)
 
 -- no event makes a side fall that joined, nor does one that a path on which nothing is stripped tells
 abbrev MayTell : FallEvent → Fall → Type 0
@@ -116,76 +72,76 @@ surely event f never (inl calm) = absurd (never calm)
 surely event f never (inr joined) = joined
 
 event_plain : (f : Fall) (path : ℕ) (only : Bool) (event : FallEvent) → MayTell event f → WasPlain f (fall_step f path only event).0
-event_plain f path only events.PlainHandshake may = plain_joined f (surely events.PlainHandshake f (λ never. never) may)
-event_plain f path only events.PlainData may = plain_joined f (surely events.PlainData f (λ never. never) may)
-event_plain f path only events.PlainAck may = plain_joined f (surely events.PlainAck f (λ never. never) may)
-event_plain f path only events.KeysHeard may = row_plain (is_identity f.mode) f (stays f) (record f { confirmed = true }, Stay) (λ is now. now) (λ is now. now)
-event_plain f path only events.MappingHeard may = row_plain (is_starting f.mode) f (goes modes.Sure f) (stays f) (λ is now. absurd (false≢true now)) (λ is now. now)
-event_plain f path only events.AckHeard may = row_plain (is_starting f.mode) f (goes modes.Sure f) (stays f) (λ is now. absurd (false≢true now)) (λ is now. now)
-event_plain f path only events.InfiniteHeard may =
-    let joined = surely events.InfiniteHeard f (λ never. never) may in
+event_plain f path only FallEvent.PlainHandshake may = plain_joined f (surely FallEvent.PlainHandshake f (λ never. never) may)
+event_plain f path only FallEvent.PlainData may = plain_joined f (surely FallEvent.PlainData f (λ never. never) may)
+event_plain f path only FallEvent.PlainAck may = plain_joined f (surely FallEvent.PlainAck f (λ never. never) may)
+event_plain f path only FallEvent.KeysHeard may = row_plain (is_identity f.mode) f (stays f) (record f { confirmed = true }, Stay) (λ is now. now) (λ is now. now)
+event_plain f path only FallEvent.MappingHeard may = row_plain (is_starting f.mode) f (goes Mode.Sure f) (stays f) (λ is now. absurd (false≢true now)) (λ is now. now)
+event_plain f path only FallEvent.AckHeard may = row_plain (is_starting f.mode) f (goes Mode.Sure f) (stays f) (λ is now. absurd (false≢true now)) (λ is now. now)
+event_plain f path only FallEvent.InfiniteHeard may =
+    let joined = surely FallEvent.InfiniteHeard f (λ never. never) may in
     row_plain (not (reads_mappings f.mode)) f (stays f) _ (λ is now. now)
     (λ reads. row_plain (only && is_failed_path f.failed path) f (goes (receiving f.mode) f) _ (λ is now. absurd (receiving_plain f.mode now))
-    (λ other. row_plain (writes_mappings f.mode && not f.joined && is_none f.failed) f (goes modes.Identity f) (breaks 1 f)
+    (λ other. row_plain (writes_mappings f.mode && not f.joined && is_none f.failed) f (goes Mode.Identity f) (breaks 1 f)
     (λ is now. absurd (false≢true (ap not (sym joined) ∙ (and_parts (writes_mappings f.mode) (not f.joined) (and_parts (writes_mappings f.mode && not f.joined) (is_none f.failed) is).0).1))) (λ is now. now)))
-event_plain f path only events.CheckFailed may =
+event_plain f path only FallEvent.CheckFailed may =
     row_plain (not (reads_mappings f.mode)) f (stays f) _ (λ is now. now) (λ reads. row_plain only f (record f { failed = Some path }, SendFail) (breaks 6 f) (λ is now. now) (λ is now. now))
-event_plain f path only (events.FailHeard contiguous) may =
+event_plain f path only (FallEvent.FailHeard contiguous) may =
     row_plain (not (writes_mappings f.mode)) f (stays f) _ (λ is now. now) (λ writes. row_plain (only && contiguous) f (goes (sending f.mode) f) (breaks 1 f) (λ is now. absurd (sending_plain f.mode now)) (λ is now. now))
-event_plain f path only events.Stop may = λ now. absurd (false≢true now)
+event_plain f path only FallEvent.Stop may = λ now. absurd (false≢true now)
 
 abbrev MayCall : ControlCall → Fall → Type 0
-MayCall (calls.Fell path event) f = MayTell event f
+MayCall (ControlCall.Fell path event) f = MayTell event f
 MayCall _ f = Unit {0}
 
 call_plain : (c : Control) (call : ControlCall) → MayCall call c.fall → WasPlain c.fall (controlling.after c call).fall
-call_plain c (calls.Fell path event) may = event_plain c.fall path (sole c.paths path) event may
-call_plain c calls.FastClose may = λ now. absurd (false≢true now)
-call_plain c (calls.FastHeard key) may = by (key == c.keys.own)
+call_plain c (ControlCall.Fell path event) may = event_plain c.fall path (sole c.paths path) event may
+call_plain c ControlCall.FastClose may = λ now. absurd (false≢true now)
+call_plain c (ControlCall.FastHeard key) may = by (key == c.keys.own)
   where
-    by : (b : Bool) → WasPlain c.fall (if b then controlling.after_event 0 false events.Stop c else c).fall
+    by : (b : Bool) → WasPlain c.fall (if b then controlling.after_event 0 false FallEvent.Stop c else c).fall
     by true = λ now. absurd (false≢true now)
     by false = λ now. now
 call_plain c call may = λ now. ap is_identity (sym (call_mode c call tt tt)) ∙ now
 
 -- what may be asked of these books
 abbrev MayAsk : SixBooks → Ask → Type 0
-MayAsk six (asks.Control s call) = MayCall call (control_of s six).fall
+MayAsk six (Ask.Control s call) = MayCall call (control_of s six).fall
 MayAsk six _ = Unit {0}
 
 ask_plain : (six : SixBooks) (x : Ask) → MayAsk six x → (s : Side) → WasPlain (control_of s six).fall (control_of s (after_ask x six)).fall
-ask_plain six (asks.Control A call) may A = call_plain six.control_a call may
-ask_plain six (asks.Control B call) may B = call_plain six.control_b call may
-ask_plain six (asks.Send A call) may A = λ now. now
-ask_plain six (asks.Reassembly A call) may A = λ now. now
+ask_plain six (Ask.Control A call) may A = call_plain six.control_a call may
+ask_plain six (Ask.Control B call) may B = call_plain six.control_b call may
+ask_plain six (Ask.Send A call) may A = λ now. now
+ask_plain six (Ask.Reassembly A call) may A = λ now. now
 ask_plain six _ may _ = λ now. now
 
 calm_may : (six : SixBooks) (x : Ask) → IsCalm x → MayAsk six x
-calm_may six (asks.Control s (calls.Fell path event)) calm = inl calm
-calm_may six (asks.Control s (calls.Look path)) calm = tt
-calm_may six (asks.Control s _) calm = tt
-calm_may six (asks.Send s call) calm = tt
+calm_may six (Ask.Control s (ControlCall.Fell path event)) calm = inl calm
+calm_may six (Ask.Control s (ControlCall.Look path)) calm = tt
+calm_may six (Ask.Control s _) calm = tt
+calm_may six (Ask.Send s call) calm = tt
 calm_may six _ calm = tt
 
 app_may : (six : SixBooks) (d : AppDuty) (a : AppState) → MayAsk six (app_ask d a)
-app_may six app_duties.FastClose a = tt
+app_may six AppDuty.FastClose a = tt
 app_may six _ a = tt
 
 -- ---- a path that joins
 
 -- a duty that tells of Multipath TCP is said by its side
 fell_said : (d : Duty) → (asking d).fell ≡ true → is_said_by (Voice.Says (side_of d)) d ≡ true
-fell_said (duties.Ask (ask_duties.PlainHandshake s)) is = itself s
-fell_said (duties.Ask (ask_duties.PeerKey s)) is = itself s
-fell_said (duties.Ask (ask_duties.Opened s)) is = itself s
-fell_said (duties.Ask (ask_duties.AckHeard s)) is = itself s
-fell_said (duties.Ask (ask_duties.FailHeard s)) is = itself s
-fell_said (duties.Ask (ask_duties.PlainData s)) is = itself s
-fell_said (duties.Ask (ask_duties.CheckFailed s)) is = itself s
-fell_said (duties.Step (step_duties.Heard s index)) is = itself s
-fell_said (duties.Step (step_duties.PlainAck s)) is = itself s
-fell_said (duties.Step (step_duties.Look s)) is = absurd (false≢true is)
-fell_said (duties.Send (send_duties.Update s)) is = absurd (false≢true is)
+fell_said (Duty.Ask (AskDuty.PlainHandshake s)) is = itself s
+fell_said (Duty.Ask (AskDuty.PeerKey s)) is = itself s
+fell_said (Duty.Ask (AskDuty.Opened s)) is = itself s
+fell_said (Duty.Ask (AskDuty.AckHeard s)) is = itself s
+fell_said (Duty.Ask (AskDuty.FailHeard s)) is = itself s
+fell_said (Duty.Ask (AskDuty.PlainData s)) is = itself s
+fell_said (Duty.Ask (AskDuty.CheckFailed s)) is = itself s
+fell_said (Duty.Step (StepDuty.Heard s index)) is = itself s
+fell_said (Duty.Step (StepDuty.PlainAck s)) is = itself s
+fell_said (Duty.Step (StepDuty.Look s)) is = absurd (false≢true is)
+fell_said (Duty.Send (SendDuty.Update s)) is = absurd (false≢true is)
 fell_said _ is = absurd (false≢true is)
 
 fall_joined : (six : SixBooks) (s : Side) → Joined six s → (control_of s six).fall.joined ≡ true
@@ -196,10 +152,10 @@ joined_may : (six : SixBooks) (p : PathState Carried) (d : Duty) (ds : List Duty
 joined_may six p d ds said = by (ask_for values d p) (asks_no_more values p d).kind (asks_no_more values p d).side
   where
     by : (x : Ask) → may (asking d) x ≡ true → IsAt (side_of d) x → MayAsk six x
-    by (asks.Control s (calls.Fell path event)) kind at = inr (subst (λ t. (control_of t six).fall.joined ≡ true) (sym at) (fall_joined six (side_of d) (said (side_of d) (first_speaks (Voice.Says (side_of d)) d ds (fell_said d kind)))))
-    by (asks.Control s (calls.Look path)) kind at = tt
-    by (asks.Control s _) kind at = tt
-    by (asks.Send s call) kind at = tt
+    by (Ask.Control s (ControlCall.Fell path event)) kind at = inr (subst (λ t. (control_of t six).fall.joined ≡ true) (sym at) (fall_joined six (side_of d) (said (side_of d) (first_speaks (Voice.Says (side_of d)) d ds (fell_said d kind)))))
+    by (Ask.Control s (ControlCall.Look path)) kind at = tt
+    by (Ask.Control s _) kind at = tt
+    by (Ask.Send s call) kind at = tt
     by _ kind at = tt
 
 -- ---- the profile of a path never changes
@@ -350,11 +306,9 @@ abbrev Finite : WorldState Carried → Type 0
 Finite w = (s : Side) → is_infinite (control_of s (books_in w.books)).fall.mode ≡ false
 
 turn_upright : (turn : Turn) (w : WorldState Carried) → EachKnown w → Finite (after_turn values turn w) → Upright w → Upright (after_turn values turn w)
-turn_upright (Turn.Step actor) w known finite h = by (slice_get w.crew actor) refl finite
-  where
-    asking_is : (c : ActorCrew Carried) → slice_get w.crew actor ≡ Some c → (o : Option Ask) → member_asks values c.member ≡ o → Finite (asked values actor o c w) → Upright (asked values actor o c w)
-    asking_is c there None is finite = h
-    asking_is c there (Some x) is finite = record {
+turn_upright turn w known finite h =
+    turn_so values (λ v. Finite v → Upright v) turn w (λ finite. h)
+    (λ actor c x there is finite. record {
       never = λ s was. ⊎_elim (λ before. h.never s before) (λ now. ⊎_elim
           (λ plain. not_now w.books s h.never (ask_plain (books_in w.books) x (member_may w.books c.member x is (known.each actor c there) (h.crew.each actor c there)) s
           (subst (λ (six : SixBooks). is_identity (control_of s six).fall.mode ≡ true) (books_after x c.pass w.books) plain)))
@@ -367,23 +321,16 @@ turn_upright (Turn.Step actor) w known finite h = by (slice_get w.crew actor) re
             (λ other. h.crew.each i d other.1)
             (in_set w.crew actor (crew_after values x w.books c) i d at);
       };
-    }
-
-    by : (o : Option (ActorCrew Carried)) → slice_get w.crew actor ≡ o → Finite (stepped values actor o w) → Upright (stepped values actor o w)
-    by None there finite = h
-    by (Some c) there finite = asking_is c there (member_asks values c.member) refl finite
-turn_upright Turn.Round w known finite h = by (all_over w.crew) refl
-  where
-    by : (b : Bool) → all_over w.crew ≡ b → Upright (if b then record w { crew = map (begins (greatest 0 w.crew)) w.crew } else w)
-    by false over = record { never = h.never; crew = h.crew }
-    by true over = record {
+    })
+    (λ over finite. record {
       never = h.never;
       crew = record {
         each = λ i d at.
             let found = in_map (begins (greatest 0 w.crew)) w.crew i d at in
             subst CrewStands found.2 (member_begins_stands found.0.member (all_over_each w.crew i found.0 over found.1) (h.crew.each i found.0 found.1));
       };
-    }
+    })
+    finite
 
 run_upright : (turns : List Turn) (w : WorldState Carried) → ((more : List Turn) → EachKnown (world_run values more w)) → ((more : List Turn) → Finite (world_run values more w)) → Upright w → Upright (world_run values turns w)
 run_upright [] w ever finite h = h

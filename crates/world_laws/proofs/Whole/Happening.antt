@@ -1,63 +1,17 @@
 -- What an event makes of path 0 as long as no options are taken away. Where A's SYN is answered its end learns B's key next, and where
 -- a timer runs out before that the SYN goes out once more.
-use Rattle.std.proofs.Common.{◌≡◌, refl, sym, ◌∙◌, subst, ℕ, inl, inr, ⊎_elim, ◌&&◌, ◌||◌, ◌==◌, is_some, Bool, true, false, if◌then◌else◌, Option, Some, None, List, [], ◌∷◌, ◌++◌, length}
-use Rattle.std.proofs.lemmas.Bool.{and_parts, both_ways, false≢true, or_cases, or_parts}
-use Rattle.std.proofs.lemmas.Option.{same_Some}
+use Rattle.world_laws.proofs.Words.{◌≡◌, refl, sym, ◌∙◌, subst, ℕ, ◌&&◌, ◌||◌, ◌==◌, inl, inr, ⊎_elim, Bool, true, false, if◌then◌else◌, Option, Some, None}
+use Rattle.world_laws.proofs.Words.{List, [], ◌∷◌, ◌++◌, length, is_some, or_cases, or_parts, and_parts, both_ways, false≢true, same_Some, FallEvent, Side, A}
+use Rattle.world_laws.proofs.Words.{B, peer, same_side, ControlCall, KeptMapping, SendState, is_dead, Meaning, is_sixth, after_expiry, State, Outgoing}
+use Rattle.world_laws.proofs.Words.{after_death, meaning_of, is_due, arriving, without, after_delivery, Due, Flight, HeardSegment, meant, LineAction}
+use Rattle.world_laws.proofs.Words.{rest_of_turn, emission, payload_came, announces, withdraws, Duty, SendDuty, AskDuty, key_heard, Ask, Reply, tail_of, stands}
+use Rattle.world_laws.proofs.Words.{ask_for, passed, answered, PathEnd, died, at_tick, PathState, end_at, goes_on, with_end, with_agenda, settled, Carried}
+use Rattle.world_laws.proofs.Words.{as_arrived, values, items_of, options_heard, copy_judged, copy_of, judged_in, reset_for, template_by, template_of, heard_in}
+use Rattle.world_laws.proofs.Words.{copy_heard, told_at, path_died, died_unless_dead, resend_occasion, resend_of, next_event, after_line, happens_if}
+use Rattle.world_laws.proofs.Words.{template_fired, timer_fired, held_of, peer_key_ask, answered_peer_key, with_peer_key, with_priority, having_sent, taken_as}
+use Rattle.world_laws.proofs.Words.{Every, if_so}
 use Rattle.std.specs.List.{position}
-use Rattle.sides.specs.declared.side.Side.{Side}
-use Rattle.sides.specs.declared.side.Side.TheVariants.{A, B}
-use Rattle.sides.specs.Side.{peer}
-use Rattle.dss_mapping.specs.declared.kept.KeptMapping.{KeptMapping}
-use Rattle.link_model.specs.declared.flight.Flight.{Flight}
-use Rattle.link_model.specs.declared.flight.Due.{Due}
-use Rattle.link_script.specs.Places.{same_side}
-use Rattle.link_model.specs.Steps.{after_delivery, arriving, is_due, without}
-use Rattle.path_segments.specs.Heard.{HeardSegment}
-use Rattle.path_segments.specs.Laws.{meant}
-use Rattle.fallback_state.specs.declared.fall.Event.{Event as FallEvent}
-use Rattle.fallback_state.specs.declared.fall.Event.TheVariants as falls
-use Rattle.control_book.specs.declared.call.ControlCall.{ControlCall}
-use Rattle.control_book.specs.declared.call.ControlCall.TheVariants as calls
-use Rattle.subflow_send.specs.Records.{SendState}
-use Rattle.subflow_tcp.specs.Expiring.{after_expiry, is_sixth}
-use Rattle.subflow_tcp.specs.Judging.{meaning_of}
-use Rattle.subflow_tcp.specs.States.{is_dead}
-use Rattle.subflow_tcp.specs.Taking.{after_death}
-use Rattle.subflow_tcp.specs.declared.handshake.State.TheVariants as phase
-use Rattle.subflow_tcp.specs.declared.segments.Outgoing.{Outgoing}
-use Rattle.subflow_tcp.specs.declared.verdicts.Meaning.{Meaning}
-use Rattle.subflow_tcp.specs.declared.verdicts.Meaning.TheVariants as means
-use Rattle.stream_lanes.specs.Words.{Every}
-use Rattle.actor_desk.specs.declared.ask.Ask.{Ask}
-use Rattle.actor_desk.specs.declared.ask.Ask.TheVariants as asks
-use Rattle.actor_desk.specs.declared.ask.Reply.{Reply}
-use Rattle.actor_desk.specs.Words.{tail_of}
-use Rattle.path_agenda.specs.Agenda.{announces, emission, payload_came, rest_of_turn, withdraws}
-use Rattle.path_agenda.specs.Items.{key_heard}
-use Rattle.path_agenda.specs.declared.duty.Duty.{Duty}
-use Rattle.path_agenda.specs.declared.duty.Duty.TheVariants as duties
-use Rattle.path_agenda.specs.declared.duty.AskDuty.TheVariants as ask_duties
-use Rattle.path_agenda.specs.declared.duty.SendDuty.TheVariants as send_duties
-use Rattle.path_store.specs.declared.lines.LineAction.{LineAction}
-use Rattle.path_store.specs.declared.lines.LineAction.TheVariants as actions
 use Rattle.path_core.specs.declared.events.Event.{Event}
-use Rattle.path_core.specs.declared.events.Event.TheVariants as happenings
-use Rattle.path_core.specs.Arrival.{copy_judged, copy_of, judged_in, reset_for, template_by, template_of, copy_heard, heard_in, told_at}
-use Rattle.path_core.specs.DssIn.{held_of}
-use Rattle.path_core.specs.OptionsIn.{items_of, options_heard}
-use Rattle.path_core.specs.Judged.{taken_as}
-use Rattle.path_core.specs.Duties.{answered, ask_for, passed, stands}
-use Rattle.path_core.specs.End.{PathEnd, died}
-use Rattle.path_core.specs.Events.{after_line, happens_if, next_event}
-use Rattle.path_core.specs.State.{at_tick, PathState, end_at, goes_on, with_agenda, with_end}
-use Rattle.path_core.specs.Breaking.{died_unless_dead, path_died}
-use Rattle.path_core.specs.Timer.{template_fired, timer_fired}
-use Rattle.path_core.specs.Addresses.{with_priority}
-use Rattle.path_core.specs.Handover.{having_sent}
-use Rattle.path_core.specs.MpCapable.{answered_peer_key, peer_key_ask, with_peer_key}
-use Rattle.path_core.specs.Emission.{resend_occasion, resend_of}
-use Rattle.path_core.specs.Steps.{settled}
-use Rattle.path_core.specs.Values.{Carried, as_arrived, values}
 use Rattle.world_laws.proofs.Keys.AnswerHeardFirst.{is_accepts, is_apart}
 use Rattle.world_laws.proofs.Keys.Held.{in_removed}
 use Rattle.world_laws.proofs.Keys.WhatWakes.{is_up, next_happens}
@@ -72,18 +26,18 @@ use Rattle.world_laws.proofs.Whole.Paths.{CopyIs, CopyTo, Fewer, Mark, MarkIs, P
 
 -- the side can't fall back by it
 abbrev pub CalmEvent : FallEvent → Type 0
-CalmEvent falls.PlainHandshake = ⊥
-CalmEvent falls.PlainData = ⊥
-CalmEvent falls.PlainAck = ⊥
-CalmEvent falls.InfiniteHeard = ⊥
+CalmEvent FallEvent.PlainHandshake = ⊥
+CalmEvent FallEvent.PlainData = ⊥
+CalmEvent FallEvent.PlainAck = ⊥
+CalmEvent FallEvent.InfiniteHeard = ⊥
 CalmEvent _ = Unit {0}
 
 abbrev pub CalmCall : ControlCall → Type 0
-CalmCall (calls.Fell path event) = CalmEvent event
+CalmCall (ControlCall.Fell path event) = CalmEvent event
 CalmCall _ = Unit {0}
 
 abbrev pub IsCalm : Ask → Type 0
-IsCalm (asks.Control s call) = CalmCall call
+IsCalm (Ask.Control s call) = CalmCall call
 IsCalm _ = Unit {0}
 
 -- ---- a path that is so, now or after what is done next
@@ -96,30 +50,26 @@ pub data Holds : PathState Carried → Type 0 where
 -- ---- a line of the script
 
 died_or : (s : Side) (ds : List Duty) (p : PathState Carried) → PathIs ds p → Steps s p (died_unless_dead (end_at s p))
-died_or s ds p h = by (is_dead (end_at s p).tcp.state)
-  where
-    by : (b : Bool) → Steps s p (if b then end_at s p else died (end_at s p))
-    by true = same_step s ds p (end_at s p) refl h
-    by false = died_step s ds p h
+died_or s ds p h = if_so (Steps s p) (is_dead (end_at s p).tcp.state) (end_at s p) (died (end_at s p)) (same_step s ds p (end_at s p) refl h) (died_step s ds p h)
 
-both_left : (x : Mark) (a b : Bool) → marks x ((if a then [] else duties.Ask (ask_duties.Leave A) ∷ []) ++ ((if b then [] else duties.Ask (ask_duties.Leave B) ∷ []) ++ rest_of_turn)) ≡ false
+both_left : (x : Mark) (a b : Bool) → marks x ((if a then [] else Duty.Ask (AskDuty.Leave A) ∷ []) ++ ((if b then [] else Duty.Ask (AskDuty.Leave B) ∷ []) ++ rest_of_turn)) ≡ false
 both_left x true true = refl
 both_left x true false = refl
 both_left x false true = refl
 both_left x false false = refl
 
 pub line_is : (action : LineAction) (ds : List Duty) (p : PathState Carried) → PathIs ds p → PathIs (after_line action p).agenda (after_line action p)
-line_is actions.Die ds p h =
+line_is LineAction.Die ds p h =
     let es : List Duty = (path_died p).agenda in
     let none : Fewer ds es = new_fewer ds es (λ x. both_left x (is_dead p.a.tcp.state) (is_dead p.b.tcp.state)) in
     let q : PathState Carried = with_end A (died_unless_dead p.a) p in
     let one : PathIs es q = path_puts A ds es p (died_unless_dead p.a) (died_or A ds p h) none h in
     let two : PathIs es (with_end B (died_unless_dead p.b) q) = path_puts B es es q (died_unless_dead p.b) (died_or B es q one) (λ x is. is) one in
     path_alike es (with_end B (died_unless_dead p.b) q) (path_died p) refl refl refl refl refl (record { each = λ i f there. cc }) two
-line_is (actions.Prio s backup) ds p h =
+line_is (LineAction.Prio s backup) ds p h =
     goes_fewer s ds (emission s) p (with_priority backup (end_at s p)) (same_step s ds p (with_priority backup (end_at s p)) refl h) (new_fewer ds (emission s) (λ x. refl)) h
-line_is (actions.Announce s id) ds p h = path_any (announces s id) (announces s id) p (path_fewer ds (announces s id) p (new_fewer ds (announces s id) (λ x. refl)) h)
-line_is (actions.Withdraw s id) ds p h = path_any (withdraws s id) (withdraws s id) p (path_fewer ds (withdraws s id) p (new_fewer ds (withdraws s id) (λ x. refl)) h)
+line_is (LineAction.Announce s id) ds p h = path_any (announces s id) (announces s id) p (path_fewer ds (announces s id) p (new_fewer ds (announces s id) (λ x. refl)) h)
+line_is (LineAction.Withdraw s id) ds p h = path_any (withdraws s id) (withdraws s id) p (path_fewer ds (withdraws s id) p (new_fewer ds (withdraws s id) (λ x. refl)) h)
 
 -- ---- a timer
 
@@ -163,7 +113,7 @@ module _ (s : Side) (ds : List Duty) (p : PathState Carried) (h : PathIs ds p) w
 
 module _ (q : PathState Carried) (h : PathIs (emission A) q) (plain : Plain q.a) (opens : Opens (parts_of q.a)) where
   abbrev resending : List Duty
-  resending = duties.Send (send_duties.Resend A) ∷ emission A
+  resending = Duty.Send (SendDuty.Resend A) ∷ emission A
 
   resends : Holds (with_agenda resending q)
   resends =
@@ -172,12 +122,12 @@ module _ (q : PathState Carried) (h : PathIs (emission A) q) (plain : Plain q.a)
       let o = resend_occasion q.a in
       let f : PathEnd = having_sent o q.clock (resend_of A m) q.a in
       let grows = (having_step A (emission A) m g o q.clock (resend_of A m)).grows in
-      Next (duties.Send (send_duties.Resend A)) (emission A) m refl (λ is. tt)
+      Next (Duty.Send (SendDuty.Resend A)) (emission A) m refl (λ is. tt)
       (λ is r. Now _ (sent_fewer A (resend_of A m) (emission A) (emission A) m f (resend_said_is A (emission A) m g plain f.tcp.send grows (inr (refl, opens))) (having_step A (emission A) m g o q.clock (resend_of A m)) (λ x marked. marked) g))
       (λ none. absurd (false≢true (sym none)))
 
-  pub gives_back : Holds (with_agenda (duties.Ask (ask_duties.Return A) ∷ resending) q)
-  gives_back = Next (duties.Ask (ask_duties.Return A)) resending (with_agenda (duties.Ask (ask_duties.Return A) ∷ resending) q) refl (λ is. tt) (λ is r. resends) (λ none. resends)
+  pub gives_back : Holds (with_agenda (Duty.Ask (AskDuty.Return A) ∷ resending) q)
+  gives_back = Next (Duty.Ask (AskDuty.Return A)) resending (with_agenda (Duty.Ask (AskDuty.Return A) ∷ resending) q) refl (λ is. tt) (λ is r. resends) (λ none. resends)
 
 dies_fired : (s : Side) (ds : List Duty) (p : PathState Carried) (h : PathIs ds p) → is_up (end_at s p).tcp ≡ true → Holds (goes_on s (fired_end s ds p h true) (template_fired true s) p)
 dies_fired s ds p h up = Now _ (goes_fewer s ds (template_fired true s) p (fired_end s ds p h true) (fired_step s ds p h up true) (new_fewer ds (template_fired true s) (λ x. refl)) h)
@@ -250,71 +200,71 @@ module _ (ds : List Duty) (p : PathState Carried) (h : PathIs ds p) (heard : Hea
       twice m fits heeds is = ⊎_elim (λ own. speaks m fits heeds own) (λ rest. alone m fits heeds rest) (or_cases (is_by x s) (is_by x s || false) is)
 
       -- no SYN opens A's end
-      handshake : (t : Side) → s ≡ t → (y : Mark) → (end_at s p).tcp.state ≡ phase.Listen → is_handshake y t ≡ true → is_by y t ≡ true
+      handshake : (t : Side) → s ≡ t → (y : Mark) → (end_at s p).tcp.state ≡ State.Listen → is_handshake y t ≡ true → is_by y t ≡ true
       handshake A same (Mark.SaidBy u) listens is = is
       handshake B same (Mark.SaidBy u) listens is = is
       handshake A same Mark.Never listens is =
-          absurd (both_ways (is_apart A phase.Listen) (subst (λ z. is_apart A z ≡ false) listens (subst (λ u. is_apart u (end_at s p).tcp.state ≡ false) same (end_is s ds p h).base.apart)) refl)
+          absurd (both_ways (is_apart A State.Listen) (subst (λ z. is_apart A z ≡ false) listens (subst (λ u. is_apart u (end_at s p).tcp.state ≡ false) same (end_is s ds p h).base.apart)) refl)
       handshake B same Mark.Never listens is = absurd (false≢true is)
 
       by : (m : Meaning) → MeansIs (copy_of heard) (end_at s p).tcp m → is_accepts m ≡ false → marks x (came s m) ≡ true → MarkIs (with_end s (judged_end s m) p) x
-      by means.Opens fits other is = ⊎_elim (λ first. speaks means.Opens fits refl (handshake s refl x fits.0 first)) (λ rest. alone means.Opens fits refl rest) (or_cases (is_handshake x s) (is_by x s || false) is)
-      by (means.Accepts n) fits other is = absurd (false≢true (sym other))
-      by means.Ignored fits other is = absurd (false≢true is)
-      by means.Unwanted fits other is = absurd (false≢true is)
-      by means.Kills fits other is = absurd (false≢true is)
-      by means.Unacknowledging fits other is = absurd (false≢true is)
-      by (means.Taken pos n) fits other is = twice (means.Taken pos n) fits refl (sym (heard_marks x s 0 (length (items_of false s heard)) (payload_came s)) ∙ is)
+      by Meaning.Opens fits other is = ⊎_elim (λ first. speaks Meaning.Opens fits refl (handshake s refl x fits.0 first)) (λ rest. alone Meaning.Opens fits refl rest) (or_cases (is_handshake x s) (is_by x s || false) is)
+      by (Meaning.Accepts n) fits other is = absurd (false≢true (sym other))
+      by Meaning.Ignored fits other is = absurd (false≢true is)
+      by Meaning.Unwanted fits other is = absurd (false≢true is)
+      by Meaning.Kills fits other is = absurd (false≢true is)
+      by Meaning.Unacknowledging fits other is = absurd (false≢true is)
+      by (Meaning.Taken pos n) fits other is = twice (Meaning.Taken pos n) fits refl (sym (heard_marks x s 0 (length (items_of false s heard)) (payload_came s)) ∙ is)
       by m fits other is = alone m fits refl is
 
   -- ---- A's SYN is answered
 
-  module _ (n : ℕ) (says : Comes A) (fits : MeansIs (copy_of heard) p.a.tcp (means.Accepts n)) where
+  module _ (n : ℕ) (says : Comes A) (fits : MeansIs (copy_of heard) p.a.tcp (Meaning.Accepts n)) where
     abbrev f : PathEnd
-    f = judged_end A (means.Accepts n)
+    f = judged_end A (Meaning.Accepts n)
 
     abbrev rest : List Duty
-    rest = duties.Ask (ask_duties.Live A) ∷ duties.Send (send_duties.Acknowledge A) ∷ emission A
+    rest = Duty.Ask (AskDuty.Live A) ∷ Duty.Send (SendDuty.Acknowledge A) ∷ emission A
 
     has_key : is_some (key_heard (items_of false A heard)) ≡ true
     has_key = accepted_key A p.b.tcp.send heard p.a told answer now resets says h.a.base n fits refl
 
-    knowing_step : Steps A p (with_peer_key (key_heard (items_of false A heard)) (judged_end A (means.Accepts n)))
+    knowing_step : Steps A p (with_peer_key (key_heard (items_of false A heard)) (judged_end A (Meaning.Accepts n)))
     knowing_step =
-        let b : Base A p.b.tcp.send (parts_of (judged_end A (means.Accepts n))) = copy_base A p.b.tcp.send heard p.a told answer now resets says h.a.base (means.Accepts n) fits in
+        let b : Base A p.b.tcp.send (parts_of (judged_end A (Meaning.Accepts n))) = copy_base A p.b.tcp.send heard p.a told answer now resets says h.a.base (Meaning.Accepts n) fits in
         record {
           end = record {
             base = record { sends = b.sends; low = b.low; fin_at = b.fin_at; finite = b.finite; apart = b.apart; keyed = λ same has. cc; treated = b.treated };
             says = inl has_key;
           };
-          grows = copy_grows A p.b.tcp.send heard p.a told answer now resets says h.a.base (means.Accepts n) fits;
+          grows = copy_grows A p.b.tcp.send heard p.a told answer now resets says h.a.base (Meaning.Accepts n) fits;
           knows = λ knows. has_key;
         }
 
-    rest_marked : (x : Mark) → marks x rest ≡ true → MarkIs (with_end A (with_peer_key (key_heard (items_of false A heard)) (judged_end A (means.Accepts n))) p) x
+    rest_marked : (x : Mark) → marks x rest ≡ true → MarkIs (with_end A (with_peer_key (key_heard (items_of false A heard)) (judged_end A (Meaning.Accepts n))) p) x
     rest_marked (Mark.SaidBy A) is = has_key
     rest_marked (Mark.SaidBy B) is = absurd (false≢true is)
     rest_marked Mark.Never is = absurd (false≢true is)
 
     abbrev keying : List Duty → PathState Carried
-    keying es = goes_on A (judged_end A (means.Accepts n)) es p
+    keying es = goes_on A (judged_end A (Meaning.Accepts n)) es p
 
     -- B's key is told, which its answer shows
-    key_next : Holds (keying (duties.Ask (ask_duties.PeerKey A) ∷ rest))
+    key_next : Holds (keying (Duty.Ask (AskDuty.PeerKey A) ∷ rest))
     key_next = by (key_heard (items_of false A heard)) refl has_key (path_goes A ds rest p _ knowing_step rest_marked h)
       where
         q : PathState Carried
-        q = goes_on A (judged_end A (means.Accepts n)) (duties.Ask (ask_duties.PeerKey A) ∷ rest) p
+        q = goes_on A (judged_end A (Meaning.Accepts n)) (Duty.Ask (AskDuty.PeerKey A) ∷ rest) p
 
-        by : (o : Option ℕ) → key_heard (items_of false A heard) ≡ o → is_some o ≡ true → PathIs rest (with_end A (with_peer_key o (judged_end A (means.Accepts n))) p) → Holds (keying (duties.Ask (ask_duties.PeerKey A) ∷ rest))
+        by : (o : Option ℕ) → key_heard (items_of false A heard) ≡ o → is_some o ≡ true → PathIs rest (with_end A (with_peer_key o (judged_end A (Meaning.Accepts n))) p) → Holds (keying (Duty.Ask (AskDuty.PeerKey A) ∷ rest))
         by None is some later = absurd (false≢true some)
         by (Some k) is some later =
-            Next (duties.Ask (ask_duties.PeerKey A)) rest q refl (λ stood. subst (λ (o : Option ℕ). IsCalm (peer_key_ask A o q)) (sym is) tt)
-            (λ stood r. subst (λ (o : Option ℕ). Holds (answered_peer_key A o r q)) (sym is) (Now _ (path_any rest rest (with_end A (with_peer_key (Some k) (judged_end A (means.Accepts n))) p) later)))
+            Next (Duty.Ask (AskDuty.PeerKey A)) rest q refl (λ stood. subst (λ (o : Option ℕ). IsCalm (peer_key_ask A o q)) (sym is) tt)
+            (λ stood r. subst (λ (o : Option ℕ). Holds (answered_peer_key A o r q)) (sym is) (Now _ (path_any rest rest (with_end A (with_peer_key (Some k) (judged_end A (Meaning.Accepts n))) p) later)))
             (λ none. absurd (both_ways _ (or_parts (is_some (key_heard (items_of false A heard))) _ none).0 has_key))
 
-    answered_holds : Holds (keying (duties.Ask (ask_duties.SynAnswered A) ∷ duties.Ask (ask_duties.PeerKey A) ∷ rest))
-    answered_holds = Next (duties.Ask (ask_duties.SynAnswered A)) (duties.Ask (ask_duties.PeerKey A) ∷ rest) _ refl (λ is. tt) (λ is r. key_next) (λ none. absurd (false≢true (sym none)))
+    answered_holds : Holds (keying (Duty.Ask (AskDuty.SynAnswered A) ∷ Duty.Ask (AskDuty.PeerKey A) ∷ rest))
+    answered_holds = Next (Duty.Ask (AskDuty.SynAnswered A)) (Duty.Ask (AskDuty.PeerKey A) ∷ rest) _ refl (λ is. tt) (λ is r. key_next) (λ none. absurd (false≢true (sym none)))
 
   pub told_holds : (s : Side) → Comes s → Holds (goes_on s (judged_end s (meaning_of (copy_of heard) (end_at s p).tcp)) (came s (meaning_of (copy_of heard) (end_at s p).tcp)) p)
   told_holds s says = by s says (meaning_of (copy_of heard) (end_at s p).tcp) (means_so (copy_of heard) (end_at s p).tcp)
@@ -324,9 +274,9 @@ module _ (ds : List Duty) (p : PathState Carried) (h : PathIs ds p) (heard : Hea
           Now _ (path_any (came t m) (came t m) (with_end t (judged_end t m) p) (path_goes t ds (came t m) p (judged_end t m) (copy_step t says m fits none) (template_speaks t m says fits none) h))
 
       by : (t : Side) → Comes t → (m : Meaning) → MeansIs (copy_of heard) (end_at t p).tcp m → Holds (goes_on t (judged_end t m) (came t m) p)
-      by A says (means.Accepts n) fits = answered_holds n says fits
-      by B says (means.Accepts n) fits = let same : B ≡ A = accepts_a B p.a.tcp.send heard p.b told answer now resets says h.b.base n fits in cc
-      by t says means.Opens fits = other t says means.Opens fits refl
+      by A says (Meaning.Accepts n) fits = answered_holds n says fits
+      by B says (Meaning.Accepts n) fits = let same : B ≡ A = accepts_a B p.a.tcp.send heard p.b told answer now resets says h.b.base n fits in cc
+      by t says Meaning.Opens fits = other t says Meaning.Opens fits refl
       by t says m fits = other t says m fits refl
 
 -- ---- the event
@@ -359,10 +309,10 @@ copy_holds s ds q h plain (Some heard) says =
 
 pub happens_holds : (ds : List Duty) (p : PathState Carried) → PathIs ds p → PathPlain p → (o : Option Event) → next_event p ≡ o → (r : Reply) → Holds (happens_if values o r p)
 happens_holds ds p h plain None next r = Now _ (path_any rest_of_turn rest_of_turn p (path_fewer ds rest_of_turn p (new_fewer ds rest_of_turn (λ x. refl)) h))
-happens_holds ds p h plain (Some (happenings.Joins tick)) next r = absurd (both_ways _ plain.waits (next_happens p (happenings.Joins tick) next))
-happens_holds ds p h plain (Some (happenings.Takes line)) next r =
+happens_holds ds p h plain (Some (Event.Joins tick)) next r = absurd (both_ways _ plain.waits (next_happens p (Event.Joins tick) next))
+happens_holds ds p h plain (Some (Event.Takes line)) next r =
     let q : PathState Carried = record (at_tick line.tick p) { lines = tail_of p.lines } in Now _ (line_is line.action ds q (path_alike ds p q refl refl refl refl refl h.copies h))
-happens_holds ds p h plain (Some (happenings.Arrives due)) next r =
+happens_holds ds p h plain (Some (Event.Arrives due)) next r =
     let q : PathState Carried = record (at_tick due.tick p) { link = after_delivery due p.link } in
     copy_holds due.to ds q (path_alike ds p q refl refl refl refl refl (left_copies p.a.tcp.send p.b.tcp.send (position (is_due due) p.link.under_way) p.link.under_way h.copies) h) (same_plain due.to) (heard_in values due.to (arriving due p.link) p) (by (arriving due p.link) refl)
   where
@@ -373,6 +323,6 @@ happens_holds ds p h plain (Some (happenings.Arrives due)) next r =
         → HeardIs (peer due.to) (end_at due.to p).tcp.send (end_at (peer due.to) p).tcp.send heard
     by None is heard at = cc
     by (Some flight) is heard at = subst (HeardIs (peer due.to) (end_at due.to p).tcp.send (end_at (peer due.to) p).tcp.send) (same_Some _ heard at) (comes_to due.to p flight (find_copy p due flight h.copies is))
-happens_holds ds p h plain (Some (happenings.Fires s tick)) next r =
+happens_holds ds p h plain (Some (Event.Fires s tick)) next r =
     let q : PathState Carried = at_tick tick p in
-    fired_holds s ds q (path_alike ds p q refl refl refl refl refl h.copies h) (record { a = plain.a; b = plain.b; waits = plain.waits }) (next_happens p (happenings.Fires s tick) next)
+    fired_holds s ds q (path_alike ds p q refl refl refl refl refl h.copies h) (record { a = plain.a; b = plain.b; waits = plain.waits }) (next_happens p (Event.Fires s tick) next)

@@ -1,37 +1,11 @@
 -- What path 0 passes in silence, as long as no options are taken away.
-use Rattle.std.proofs.Common.{◌≡◌, refl, sym, ◌∙◌, ap, subst, ℕ, suc, ◌+◌, ◌^◌, ◌⊎◌, inl, inr, ⊎_elim, ◌||◌, not, nat_lt, is_some, Bool, true, false, if◌then◌else◌, Option, Some, None, List, [], ◌∷◌, arith}
-use Rattle.std.proofs.lemmas.Bool.{and_parts, both_ways, eqb-true, false≢true, or_right}
-use Rattle.std.specs.Option.{IfSome}
-use Rattle.sides.specs.declared.side.Side.{Side}
-use Rattle.sides.specs.declared.side.Side.TheVariants.{A, B}
-use Rattle.sides.specs.Side.{peer}
-use Rattle.subflow_send.specs.Records.{SendState}
-use Rattle.subflow_tcp.specs.Closing.{is_fin_next, after_passing_fin}
-use Rattle.subflow_tcp.specs.Judging.{is_at}
-use Rattle.subflow_tcp.specs.State.{EndState, is_fin_passed}
+use Rattle.world_laws.proofs.Words.{◌≡◌, refl, sym, ◌∙◌, ap, subst, ℕ, suc, ◌+◌, ◌||◌, not, nat_lt, inl, inr, ◌⊎◌, ⊎_elim, Bool, true, false, if◌then◌else◌}
+use Rattle.world_laws.proofs.Words.{Option, Some, None, List, [], ◌∷◌, arith, is_some, ◌^◌, eqb-true, and_parts, both_ways, false≢true, or_right, IfSome, Side}
+use Rattle.world_laws.proofs.Words.{A, B, peer, without_held, after_keep_held, Receiving, SendState, EndState, is_fin_passed, EndPhase, after_dropping_held}
+use Rattle.world_laws.proofs.Words.{is_fin_next, after_passing_fin, is_at, Duty, SendDuty, StepDuty, AskDuty, SilentDuty, Heard, stands, passed, PathEnd}
+use Rattle.world_laws.proofs.Words.{PathState, end_at, with_agenda, settled, Carried, after_timer, mapping_here, forgotten_by, after_keep, is_dropped}
+use Rattle.world_laws.proofs.Words.{after_check, is_not_kept, with_learned, with_data_fin, with_skipped, counts, item_of, item_passed, item_at}
 use Rattle.subflow_tcp.specs.States as states
-use Rattle.subflow_tcp.specs.Taking.{after_dropping_held}
-use Rattle.subflow_tcp.specs.declared.handshake.State.{State as EndPhase}
-use Rattle.subflow_tcp.specs.declared.handshake.State.TheVariants as phase
-use Rattle.subflow_recv.specs.Receiving.{Receiving, after_keep_held, without_held}
-use Rattle.path_agenda.specs.declared.duty.Duty.{Duty}
-use Rattle.path_agenda.specs.declared.duty.Duty.TheVariants as duties
-use Rattle.path_agenda.specs.declared.duty.AskDuty.TheVariants as ask_duties
-use Rattle.path_agenda.specs.declared.duty.SilentDuty.TheVariants as silent_duties
-use Rattle.path_agenda.specs.declared.duty.SendDuty.TheVariants as send_duties
-use Rattle.path_agenda.specs.declared.duty.StepDuty.TheVariants as step_duties
-use Rattle.path_agenda.specs.declared.heard.Heard.{Heard}
-use Rattle.path_agenda.specs.declared.heard.Heard.TheVariants as says
-use Rattle.path_core.specs.Deliver.{after_check, forgotten_by, mapping_here, after_keep, is_dropped, is_not_kept}
-use Rattle.path_core.specs.DssIn.{with_learned, with_skipped, counts, with_data_fin}
-use Rattle.path_core.specs.Duties.{passed, stands}
-use Rattle.path_core.specs.Timer.{after_timer}
-use Rattle.path_core.specs.End.{PathEnd}
-use Rattle.path_core.specs.State.{PathState, end_at, with_agenda}
-use Rattle.path_core.specs.Steps.{settled}
-use Rattle.path_core.specs.Treating.{item_of, item_passed}
-use Rattle.path_core.specs.Values.{Carried}
-use Rattle.path_core.specs.Choices.{item_at}
 use Rattle.world_laws.proofs.Falls.FailedChecks.{forgets_so}
 use Rattle.world_laws.proofs.Keys.AnswerHeardFirst.{passed_apart}
 use Rattle.world_laws.proofs.Keys.AreDrawn.{is_past}
@@ -96,21 +70,21 @@ module _ (s : Side) (ds : List Duty) (p : PathState Carried) (h : PathIs ds p) w
   pub learned_step : e.modes.clear ≡ true → Steps s p (with_learned e)
   learned_step clear = cleared (with_learned e) refl refl refl refl refl refl refl refl refl clear
 
-  dss_step : (t : Side) → s ≡ t → Steps s p (item_passed t (Some says.Dss) e)
-  dss_step A same = cleared (item_passed A (Some says.Dss) e) refl refl refl refl refl refl refl refl refl (or_right e.modes.clear true refl)
+  dss_step : (t : Side) → s ≡ t → Steps s p (item_passed t (Some Heard.Dss) e)
+  dss_step A same = cleared (item_passed A (Some Heard.Dss) e) refl refl refl refl refl refl refl refl refl (or_right e.modes.clear true refl)
   dss_step B same =
-      small_step s ds p (item_passed B (Some says.Dss) e) refl refl refl refl refl refl (λ is. is) (inr (or_never e.modes.clear, (refl, (refl, refl)))) treated_is h
+      small_step s ds p (item_passed B (Some Heard.Dss) e) refl refl refl refl refl refl (λ is. is) (inr (or_never e.modes.clear, (refl, (refl, refl)))) treated_is h
 
-  pub heard_step : (o : Option Heard) → ((fin : Bool) → o ≡ Some (says.Mapping fin) → counts e ≡ true → e.modes.clear ≡ true) → Steps s p (item_passed s o e)
+  pub heard_step : (o : Option Heard) → ((fin : Bool) → o ≡ Some (Heard.Mapping fin) → counts e ≡ true → e.modes.clear ≡ true) → Steps s p (item_passed s o e)
   heard_step None clears = same_step s ds p e refl h
-  heard_step (Some says.Dss) clears = dss_step s refl
-  heard_step (Some (says.Mapping fin)) clears = by (counts e) refl
+  heard_step (Some Heard.Dss) clears = dss_step s refl
+  heard_step (Some (Heard.Mapping fin)) clears = by (counts e) refl
     where
       by : (b : Bool) → counts e ≡ b → Steps s p (if b then with_learned e else with_skipped e)
       by true is = learned_step (clears fin refl is)
       by false is = small_step s ds p (with_skipped e) refl refl refl refl refl refl (λ is. is) (inr (refl, (refl, (refl, refl)))) treated_is h
-  heard_step (Some (says.DataFin place)) clears = either_step (counts e) (with_data_fin place e) e (same_step s ds p (with_data_fin place e) refl h) (same_step s ds p e refl h)
-  heard_step (Some (says.DataAck next window)) clears = same_step s ds p (item_passed s (Some (says.DataAck next window)) e) refl h
+  heard_step (Some (Heard.DataFin place)) clears = either_step (counts e) (with_data_fin place e) e (same_step s ds p (with_data_fin place e) refl h) (same_step s ds p e refl h)
+  heard_step (Some (Heard.DataAck next window)) clears = same_step s ds p (item_passed s (Some (Heard.DataAck next window)) e) refl h
   heard_step (Some item) clears = same_step s ds p e refl h
 
   keep_step : (dropped passed lost : Bool)
@@ -133,10 +107,10 @@ module _ (s : Side) (ds : List Duty) (p : PathState Carried) (h : PathIs ds p) w
       by false false l = small_step s ds p _ refl refl refl refl refl refl (λ is. is) (inr (refl, (refl, (refl, refl)))) (held l) h
 
   opening_passed : (state : EndPhase) → states.is_opening state ≡ true → states.is_opening (states.after_fin_passed state) ≡ true
-  opening_passed phase.SynSent is = refl
-  opening_passed phase.Established is = absurd (false≢true is)
-  opening_passed phase.FinWait1 is = absurd (false≢true is)
-  opening_passed phase.FinWait2 is = absurd (false≢true is)
+  opening_passed EndPhase.SynSent is = refl
+  opening_passed EndPhase.Established is = absurd (false≢true is)
+  opening_passed EndPhase.FinWait1 is = absurd (false≢true is)
+  opening_passed EndPhase.FinWait2 is = absurd (false≢true is)
   opening_passed _ is = absurd (false≢true is)
 
   passed_edge : (o : Option ℕ) → IfSome o (λ n. NoneAt n vs) → is_at e.tcp.recv.edge o ≡ true → NoneBelow e.tcp.recv.edge vs → NoneBelow (e.tcp.recv.edge + 1) vs
@@ -172,34 +146,34 @@ module _ (s : Side) (ds : List Duty) (p : PathState Carried) (h : PathIs ds p) w
       (λ unmet. unmet_moves e.tcp f.tcp x (parts_of f) refl refl refl refl (timer_up p.clock e) (λ is. record { state = is.state; syns = is.syns; some = is.some }) unmet) h
 
 -- A's end hears no mapping before a DSS, and B's counts none before it may send one
-pub mapping_clear : (s : Side) (index : ℕ) (ds : List Duty) (p : PathState Carried) → PathIs (duties.Step (step_duties.Heard s index) ∷ ds) p → Leads (duties.Step (step_duties.Heard s index) ∷ ds) p → (fin : Bool)
-    → item_of index (end_at s p) ≡ Some (says.Mapping fin) → counts (end_at s p) ≡ true → (end_at s p).modes.clear ≡ true
+pub mapping_clear : (s : Side) (index : ℕ) (ds : List Duty) (p : PathState Carried) → PathIs (Duty.Step (StepDuty.Heard s index) ∷ ds) p → Leads (Duty.Step (StepDuty.Heard s index) ∷ ds) p → (fin : Bool)
+    → item_of index (end_at s p) ≡ Some (Heard.Mapping fin) → counts (end_at s p) ≡ true → (end_at s p).modes.clear ≡ true
 mapping_clear B index ds p h leads fin is has = h.b.base.keyed refl has
-mapping_clear A index ds p h leads fin is has = ⊎_elim (λ clear. clear) (λ (u : IsUnclear (duties.Step (step_duties.Heard A index) ∷ ds) p). by p.a.modes.identity refl is u) leads.clear
+mapping_clear A index ds p h leads fin is has = ⊎_elim (λ clear. clear) (λ (u : IsUnclear (Duty.Step (StepDuty.Heard A index) ∷ ds) p). by p.a.modes.identity refl is u) leads.clear
   where
-    by : (b : Bool) → p.a.modes.identity ≡ b → (if b then None else item_at index p.a.treated.items) ≡ Some (says.Mapping fin) → IsUnclear (duties.Step (step_duties.Heard A index) ∷ ds) p → p.a.modes.clear ≡ true
+    by : (b : Bool) → p.a.modes.identity ≡ b → (if b then None else item_at index p.a.treated.items) ≡ Some (Heard.Mapping fin) → IsUnclear (Duty.Step (StepDuty.Heard A index) ∷ ds) p → p.a.modes.clear ≡ true
     by true plain is u = cc
     by false above is u =
-        absurd (false≢true (unled u.n p.a.treated.items (says.Mapping fin) leads.led (unheard p u.n above u.none) (subst (λ n. item_at n p.a.treated.items ≡ Some (says.Mapping fin)) u.follows.0 is)))
+        absurd (false≢true (unled u.n p.a.treated.items (Heard.Mapping fin) leads.led (unheard p u.n above u.none) (subst (λ n. item_at n p.a.treated.items ≡ Some (Heard.Mapping fin)) u.follows.0 is)))
 
 passed_is : (d : Duty) (ds : List Duty) (p : PathState Carried) → Leads (d ∷ ds) p → PathIs (d ∷ ds) p → PathIs ds (passed d p)
-passed_is (duties.Ask (ask_duties.CheckFailed s)) ds p leads h =
-    path_puts s (duties.Ask (ask_duties.CheckFailed s) ∷ ds) ds p (after_check p.profile (end_at s p)) (check_step s (duties.Ask (ask_duties.CheckFailed s) ∷ ds) p h p.profile.spelling.checksums) (tail_fewer (duties.Ask (ask_duties.CheckFailed s)) ds) h
-passed_is (duties.Step (step_duties.Heard s index)) ds p leads h =
-    path_puts s (duties.Step (step_duties.Heard s index) ∷ ds) ds p (item_passed s (item_of index (end_at s p)) (end_at s p))
-    (heard_step s (duties.Step (step_duties.Heard s index) ∷ ds) p h (item_of index (end_at s p)) (mapping_clear s index ds p h leads)) (tail_fewer (duties.Step (step_duties.Heard s index)) ds) h
-passed_is (duties.Step (step_duties.PlainAck s)) ds p leads h =
-    path_puts s (duties.Step (step_duties.PlainAck s) ∷ ds) ds p _ (same_step s (duties.Step (step_duties.PlainAck s) ∷ ds) p _ refl h) (tail_fewer (duties.Step (step_duties.PlainAck s)) ds) h
-passed_is (duties.Step (step_duties.Unmapped s)) ds p leads h =
-    path_puts s (duties.Step (step_duties.Unmapped s) ∷ ds) ds p _ (same_step s (duties.Step (step_duties.Unmapped s) ∷ ds) p _ refl h) (tail_fewer (duties.Step (step_duties.Unmapped s)) ds) h
-passed_is (duties.Silent (silent_duties.Timer s)) ds p leads h =
-    path_puts s (duties.Silent (silent_duties.Timer s) ∷ ds) ds p _ (timer_step s (duties.Silent (silent_duties.Timer s) ∷ ds) p h) (tail_fewer (duties.Silent (silent_duties.Timer s)) ds) h
-passed_is (duties.Silent (silent_duties.Keep s)) ds p leads h =
-    path_puts s (duties.Silent (silent_duties.Keep s) ∷ ds) ds p (after_keep s (end_at s p))
-    (keep_step s (duties.Silent (silent_duties.Keep s) ∷ ds) p h (is_dropped s (end_at s p)) (is_fin_passed (end_at s p).tcp) (is_not_kept s (end_at s p))) (tail_fewer (duties.Silent (silent_duties.Keep s)) ds) h
-passed_is (duties.Silent (silent_duties.PassFin s)) ds p leads h =
-    path_puts s (duties.Silent (silent_duties.PassFin s) ∷ ds) ds p _ (fin_step s (duties.Silent (silent_duties.PassFin s) ∷ ds) p h) (tail_fewer (duties.Silent (silent_duties.PassFin s)) ds) h
-passed_is (duties.Send (send_duties.Update s)) ds p leads h = path_fewer _ ds p (tail_fewer (duties.Send (send_duties.Update s)) ds) h
+passed_is (Duty.Ask (AskDuty.CheckFailed s)) ds p leads h =
+    path_puts s (Duty.Ask (AskDuty.CheckFailed s) ∷ ds) ds p (after_check p.profile (end_at s p)) (check_step s (Duty.Ask (AskDuty.CheckFailed s) ∷ ds) p h p.profile.spelling.checksums) (tail_fewer (Duty.Ask (AskDuty.CheckFailed s)) ds) h
+passed_is (Duty.Step (StepDuty.Heard s index)) ds p leads h =
+    path_puts s (Duty.Step (StepDuty.Heard s index) ∷ ds) ds p (item_passed s (item_of index (end_at s p)) (end_at s p))
+    (heard_step s (Duty.Step (StepDuty.Heard s index) ∷ ds) p h (item_of index (end_at s p)) (mapping_clear s index ds p h leads)) (tail_fewer (Duty.Step (StepDuty.Heard s index)) ds) h
+passed_is (Duty.Step (StepDuty.PlainAck s)) ds p leads h =
+    path_puts s (Duty.Step (StepDuty.PlainAck s) ∷ ds) ds p _ (same_step s (Duty.Step (StepDuty.PlainAck s) ∷ ds) p _ refl h) (tail_fewer (Duty.Step (StepDuty.PlainAck s)) ds) h
+passed_is (Duty.Step (StepDuty.Unmapped s)) ds p leads h =
+    path_puts s (Duty.Step (StepDuty.Unmapped s) ∷ ds) ds p _ (same_step s (Duty.Step (StepDuty.Unmapped s) ∷ ds) p _ refl h) (tail_fewer (Duty.Step (StepDuty.Unmapped s)) ds) h
+passed_is (Duty.Silent (SilentDuty.Timer s)) ds p leads h =
+    path_puts s (Duty.Silent (SilentDuty.Timer s) ∷ ds) ds p _ (timer_step s (Duty.Silent (SilentDuty.Timer s) ∷ ds) p h) (tail_fewer (Duty.Silent (SilentDuty.Timer s)) ds) h
+passed_is (Duty.Silent (SilentDuty.Keep s)) ds p leads h =
+    path_puts s (Duty.Silent (SilentDuty.Keep s) ∷ ds) ds p (after_keep s (end_at s p))
+    (keep_step s (Duty.Silent (SilentDuty.Keep s) ∷ ds) p h (is_dropped s (end_at s p)) (is_fin_passed (end_at s p).tcp) (is_not_kept s (end_at s p))) (tail_fewer (Duty.Silent (SilentDuty.Keep s)) ds) h
+passed_is (Duty.Silent (SilentDuty.PassFin s)) ds p leads h =
+    path_puts s (Duty.Silent (SilentDuty.PassFin s) ∷ ds) ds p _ (fin_step s (Duty.Silent (SilentDuty.PassFin s) ∷ ds) p h) (tail_fewer (Duty.Silent (SilentDuty.PassFin s)) ds) h
+passed_is (Duty.Send (SendDuty.Update s)) ds p leads h = path_fewer _ ds p (tail_fewer (Duty.Send (SendDuty.Update s)) ds) h
 passed_is d ds p leads h = path_fewer (d ∷ ds) ds p (tail_fewer d ds) h
 
 -- all that is passed, up to a duty that stands

@@ -1,35 +1,10 @@
 -- Path 0 as long as no options are taken away, and what becomes of it where one end goes on, or sends a segment.
-use Rattle.std.proofs.Common.{◌≡◌, refl, sym, ◌∙◌, ap, subst, ℕ, zero, suc, ◌+◌, ◌⊎◌, inl, inr, ⊎_elim, ◌||◌, is_some, Bool, true, false, Option, None, List, [], ◌∷◌}
-use Rattle.std.proofs.lemmas.Bool.{false≢true, or_right}
-use Rattle.std.specs.List.{list_any}
-use Rattle.std.specs.Option.{IfSome}
-use Rattle.sides.specs.declared.side.Side.{Side}
-use Rattle.sides.specs.declared.side.Side.TheVariants.{A, B}
-use Rattle.link_script.specs.Places.{same_side}
-use Rattle.sides.specs.Side.{peer}
-use Rattle.link_model.specs.declared.flight.Flight.{Flight}
-use Rattle.link_model.specs.Fate.{fate_of, is_altered, is_stripped}
-use Rattle.link_model.specs.Steps.{arrivals, changed, next_number}
-use Rattle.link_model.specs.State.{LinkState}
-use Rattle.link_script.specs.declared.script.ScriptLine.{ScriptLine}
-use Rattle.path_segments.specs.Laws.{meant}
-use Rattle.path_segments.specs.Spelled.{PlainSegment}
-use Rattle.subflow_send.specs.Records.{SendState}
-use Rattle.stream_lanes.specs.Words.{Every}
-use Rattle.path_agenda.specs.Agenda.{heard_and}
-use Rattle.path_agenda.specs.declared.duty.Duty.{Duty}
-use Rattle.path_agenda.specs.declared.duty.Duty.TheVariants as duties
-use Rattle.path_agenda.specs.declared.duty.AskDuty.TheVariants as ask_duties
-use Rattle.path_agenda.specs.declared.duty.SendDuty.TheVariants as send_duties
-use Rattle.path_core.specs.End.{PathEnd}
-use Rattle.path_core.specs.Handover.{sent_on}
-use Rattle.path_core.specs.MpJoin.{is_joined}
-use Rattle.path_core.specs.Shown.{AltersNothing}
-use Rattle.path_core.specs.State.{PathState, end_at, goes_on, with_agenda, with_end}
-use Rattle.path_core.specs.Values.{Carried, altered, as_arrived, carried_by, stripped, values}
-use Rattle.path_core.specs.Choices.{is_side_a}
+use Rattle.world_laws.proofs.Words.{◌≡◌, refl, sym, ◌∙◌, ap, subst, ℕ, zero, suc, ◌+◌, ◌||◌, inl, inr, ◌⊎◌, ⊎_elim, Bool, true, false, Option, None, List, []}
+use Rattle.world_laws.proofs.Words.{◌∷◌, is_some, false≢true, or_right, list_any, IfSome, Side, A, B, peer, same_side, ScriptLine, SendState, arrivals, changed}
+use Rattle.world_laws.proofs.Words.{next_number, Flight, is_stripped, is_altered, fate_of, LinkState, PlainSegment, meant, heard_and, Duty, SendDuty, AskDuty}
+use Rattle.world_laws.proofs.Words.{PathEnd, PathState, end_at, goes_on, with_end, with_agenda, Carried, as_arrived, carried_by, stripped, altered, values}
+use Rattle.world_laws.proofs.Words.{is_joined, AltersNothing, sent_on, is_side_a, Every, EndWrites, OnlyAt, PathView, at_end, nothing}
 use Rattle.world_laws.specs.NeverFalls.{StripsNothing}
-use Rattle.world_laws.specs.Writes.{EndWrites, PathView, OnlyAt, at_end, nothing}
 use Rattle.world_laws.proofs.Lanes.Saying.{flights_kept}
 use Rattle.world_laws.proofs.Keys.AnswerHeardFirst.{is_apart}
 use Rattle.world_laws.proofs.Whole.Bytes.{EndsWell, Grows, NoneAt, NoneBelow, grows_self}
@@ -57,14 +32,14 @@ is_nobody (Mark.SaidBy s) = false
 is_nobody Mark.Never = true
 
 abbrev pub is_marked : Mark → Duty → Bool
-is_marked x (duties.Send (send_duties.SynAck t)) = is_by x t
-is_marked x (duties.Send (send_duties.Answer t)) = is_by x t
-is_marked x (duties.Send (send_duties.Resend t)) = is_by x t
-is_marked x (duties.Send (send_duties.Again t)) = is_by x t
-is_marked x (duties.Send (send_duties.Acknowledge t)) = is_by x t
-is_marked x (duties.Ask (ask_duties.PlainHandshake t)) = is_handshake x t
-is_marked x (duties.Ask (ask_duties.PeerKey t)) = is_nobody x
-is_marked x (duties.Ask (ask_duties.JoinHeard t)) = is_nobody x
+is_marked x (Duty.Send (SendDuty.SynAck t)) = is_by x t
+is_marked x (Duty.Send (SendDuty.Answer t)) = is_by x t
+is_marked x (Duty.Send (SendDuty.Resend t)) = is_by x t
+is_marked x (Duty.Send (SendDuty.Again t)) = is_by x t
+is_marked x (Duty.Send (SendDuty.Acknowledge t)) = is_by x t
+is_marked x (Duty.Ask (AskDuty.PlainHandshake t)) = is_handshake x t
+is_marked x (Duty.Ask (AskDuty.PeerKey t)) = is_nobody x
+is_marked x (Duty.Ask (AskDuty.JoinHeard t)) = is_nobody x
 is_marked x _ = false
 
 abbrev pub marks : Mark → List Duty → Bool

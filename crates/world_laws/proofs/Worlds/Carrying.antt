@@ -1,17 +1,9 @@
 -- A world over octets is the world over segments as values, shown, as long as its turns are fresh.
-use Rattle.std.proofs.Common.{◌≡◌, refl, ◌∙◌, ap, ℕ, zero, suc, max, Bool, true, false, ◌&&◌, if◌then◌else◌, Option, Some, None, List, [], ◌∷◌, map, set}
-use Rattle.std.specs.List.{slice_get}
-use Rattle.actor_desk.specs.declared.ask.Ask.{Ask}
-use Rattle.path_core.specs.Octets.{octets}
-use Rattle.path_core.specs.Values.{Carried, values}
-use Rattle.path_core.proofs.Showing.{asks_the_same, begins_the_same, takes_the_same}
-use Rattle.world_laws.specs.Actors.{Actor, ActorCrew, member_asks, member_takes, is_over}
-use Rattle.world_laws.specs.Fresh.{IsFreshCrew, IsFreshMember, IsFreshTurn, shown_member, shown_crew, shown_world}
-use Rattle.world_laws.specs.Laws.{OctetsDoAsValues}
-use Rattle.world_laws.specs.declared.member.Member.TheVariants.{App, Path}
-use Rattle.actor_desk.specs.Books.{StampedBooks}
-use Rattle.world_laws.specs.StampedBooks.{answer_to}
-use Rattle.world_laws.specs.Worlds.{WorldState, Turn, crew_after, asked, stepped, world_step, all_over, greatest, begins, end_round, after_turn, world_run}
+use Rattle.world_laws.proofs.Words.{◌≡◌, refl, ◌∙◌, ap, ℕ, zero, suc, ◌&&◌, max, Bool, true, false, if◌then◌else◌, Option, Some, None, List, [], ◌∷◌, map, set}
+use Rattle.world_laws.proofs.Words.{slice_get, Ask, StampedBooks, Carried, values, octets, asks_the_same, begins_the_same, takes_the_same, App, Path, Actor}
+use Rattle.world_laws.proofs.Words.{ActorCrew, member_asks, member_takes, is_over, OctetsDoAsValues, WorldState, Turn, crew_after, asked, stepped, world_step}
+use Rattle.world_laws.proofs.Words.{all_over, greatest, begins, end_round, after_turn, world_run, answer_to, IsFreshCrew, IsFreshMember, IsFreshTurn}
+use Rattle.world_laws.proofs.Words.{shown_crew, shown_member, shown_world}
 
 member_asks_same : (m : Actor Carried) → member_asks octets (shown_member m) ≡ member_asks values m
 member_asks_same (App a) = refl

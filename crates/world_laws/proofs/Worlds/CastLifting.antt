@@ -1,21 +1,10 @@
 -- What the actors keep together with the books, at each of their steps, the world keeps.
-use Rattle.std.proofs.Common.{◌≡◌, refl, sym, ◌∙◌, ap, subst, ℕ, zero, suc, Bool, true, false, if◌then◌else◌, Option, Some, None, List, [], ◌∷◌, map}
-use Rattle.std.proofs.lemmas.Option.{same_Some}
-use Rattle.std.specs.List.{slice_get}
+use Rattle.world_laws.proofs.Words.{◌≡◌, refl, sym, ◌∙◌, ap, subst, ℕ, zero, suc, Bool, true, false, if◌then◌else◌, Option, Some, None, List, [], ◌∷◌, map}
+use Rattle.world_laws.proofs.Words.{same_Some, slice_get, Duty, AppDuty, app_ask, app_asks_first, Codec, ask_for, asks_first, in_map, App, ActorCrew, Always}
+use Rattle.world_laws.proofs.Words.{IsDone, NothingDueIsLeft, WritesTheFiles, Start, opened_world, WorldState, Turn, asked, world_step, all_over, greatest}
+use Rattle.world_laws.proofs.Words.{begins, end_round, after_turn, world_run}
 use Rattle.std.specs.Option.{option_map}
-use Rattle.stream_lanes.proofs.Lists.{in_map}
-use Rattle.stream_apps.specs.declared.duty.AppDuty.{AppDuty}
-use Rattle.stream_apps.specs.AppSteps.{app_ask, app_asks_first}
-use Rattle.path_agenda.specs.declared.duty.Duty.{Duty}
-use Rattle.path_core.specs.Codec.{Codec}
-use Rattle.path_core.specs.Duties.{ask_for}
-use Rattle.path_core.specs.Steps.{asks_first}
-use Rattle.world_laws.specs.declared.member.Member.TheVariants.{App}
-use Rattle.world_laws.specs.Actors.{ActorCrew}
-use Rattle.world_laws.specs.Laws.{Always, IsDone, NothingDueIsLeft, WritesTheFiles}
-use Rattle.world_laws.specs.Openings.{Start, opened_world}
 use Rattle.world_laws.specs.RoundNumbers.{after_steps}
-use Rattle.world_laws.specs.Worlds.{WorldState, Turn, asked, world_step, all_over, greatest, begins, end_round, after_turn, world_run}
 use Rattle.world_laws.proofs.Worlds.Casts.{Walker, Cast, Fare, map_there, world_of, walking, seated, after_a, after_b, after_path, path_asked, path_stepped, path_step_is, next_cast, next_is, fare_after_a, fare_after_b, fare_after_path, next_fare, first_cast, first_fare, opened_is, written_from}
 use Rattle.world_laws.proofs.Rounds.NothingDueIsLeft.{nothing_due}
 

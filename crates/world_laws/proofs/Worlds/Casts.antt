@@ -1,46 +1,16 @@
 -- The world of two applications and the paths, and what is written in it.
-use Rattle.std.proofs.Common.{◌≡◌, refl, sym, ◌∙◌, ap, subst, ℕ, zero, suc, ◌+◌, not, true, false, Option, Some, None, List, [], ◌∷◌, ◌++◌, map, set, take, ⊎_elim, arith}
-use Rattle.std.proofs.lemmas.List.{append-nil}
-use Rattle.std.proofs.lemmas.Option.{same_Some}
-use Rattle.std.specs.List.{slice_get}
+use Rattle.world_laws.proofs.Words.{◌≡◌, refl, sym, ◌∙◌, ap, subst, ℕ, zero, suc, ◌+◌, not, ⊎_elim, true, false, Option, Some, None, List, [], ◌∷◌, ◌++◌, take}
+use Rattle.world_laws.proofs.Words.{map, arith, set, and_parts, both_ways, false≢true, append-nil, same_Some, slice_get, Pass, raised, Side, A, B, SendCall}
+use Rattle.world_laws.proofs.Words.{Sending, Duty, Ask, Note, Reply, StampedBooks, books_in, unasked, stamp_of, after_entry, SixBooks, send_of, reply_of}
+use Rattle.world_laws.proofs.Words.{after_ask, opened_books, after_send_call, is_nil, AppDuty, AppState, fresh_turn, start_of_app, app_stands, app_ask}
+use Rattle.world_laws.proofs.Words.{app_answered, app_answers, app_settled, app_settles_down, app_takes, app_next_round, IsAppSettled, FirstAppStands}
+use Rattle.world_laws.proofs.Words.{untouched, first_app_turn, Codec, ask_for, waiting_path, first_turn, PathState, asks_first, takes, next_round, in_map}
+use Rattle.world_laws.proofs.Words.{in_set, Every, App, Path, Actor, ActorCrew, WritesTheFile, PathPlan, Start, path_begins, new_crew, new_path, paths_from}
+use Rattle.world_laws.proofs.Words.{opened_world, WorldState, asked, stepped, world_step, greatest, begins, note_of, answer_to}
 use Rattle.std.specs.Option.{option_map}
-use Rattle.std.proofs.lemmas.Bool.{and_parts, both_ways, false≢true}
-use Rattle.sides.specs.declared.side.Side.{Side}
-use Rattle.sides.specs.declared.side.Side.TheVariants.{A, B}
-use Rattle.stamped_book.specs.declared.stamped.Pass.{Pass}
 use Rattle.stamped_book.specs.declared.stamped.Refusal.{Refusal}
-use Rattle.stamped_book.specs.Entering.{raised}
-use Rattle.stream_lanes.specs.Words.{Every}
-use Rattle.stream_lanes.proofs.Lists.{in_map, in_set}
-use Rattle.send_book.specs.declared.call.SendCall.{SendCall}
-use Rattle.send_book.specs.declared.call.SendCall.TheVariants as send_calls
-use Rattle.send_book.specs.State.{Sending}
 use Rattle.send_book.specs.Steps.{after_call}
-use Rattle.actor_desk.specs.declared.ask.Ask.{Ask}
-use Rattle.actor_desk.specs.declared.ask.Ask.TheVariants as asks
-use Rattle.actor_desk.specs.declared.ask.Note.{Note}
-use Rattle.actor_desk.specs.declared.ask.Reply.{Reply}
-use Rattle.actor_desk.specs.Books.{StampedBooks, books_in, unasked, stamp_of, after_entry}
-use Rattle.actor_desk.specs.Desk.{opened_books, SixBooks, send_of, reply_of, after_ask, after_send_call}
-use Rattle.actor_desk.specs.Words.{is_nil}
-use Rattle.stream_apps.specs.declared.duty.AppDuty.{AppDuty}
-use Rattle.stream_apps.specs.declared.duty.AppDuty.TheVariants as app_duties
-use Rattle.stream_apps.specs.Apps.{AppState}
-use Rattle.stream_apps.specs.AppSteps.{app_stands, app_ask, app_answered, app_answers, app_settled, app_settles_down, app_takes, app_next_round, fresh_turn, start_of_app}
-use Rattle.stream_apps.specs.Starts.{fast_close_of, untouched, first_app_turn}
-use Rattle.stream_apps.specs.Turns.{FirstAppStands, IsAppSettled}
-use Rattle.path_agenda.specs.declared.duty.Duty.{Duty}
-use Rattle.path_core.specs.Codec.{Codec}
-use Rattle.path_core.specs.Duties.{ask_for}
-use Rattle.path_core.specs.Start.{first_turn, waiting_path}
-use Rattle.path_core.specs.State.{PathState}
-use Rattle.path_core.specs.Steps.{asks_first, takes, next_round}
-use Rattle.world_laws.specs.declared.member.Member.TheVariants.{App, Path}
-use Rattle.world_laws.specs.Actors.{Actor, ActorCrew}
-use Rattle.world_laws.specs.Laws.{WritesTheFile}
-use Rattle.world_laws.specs.Openings.{PathPlan, Start, path_begins, new_crew, new_path, paths_from, opened_world}
-use Rattle.world_laws.specs.StampedBooks.{answer_to}
-use Rattle.world_laws.specs.Worlds.{WorldState, note_of, asked, stepped, world_step, greatest, begins}
+use Rattle.stream_apps.specs.Starts.{fast_close_of}
 use Rattle.world_laws.proofs.Lanes.Applying.{Writes, Settles, settled_app, writes_more, closes}
 use Rattle.world_laws.proofs.Asks.NeitherWritesNorCloses.{AskLeavesFile, asks_leave, call_keeps}
 use Rattle.world_laws.proofs.Rounds.NothingDueIsLeft.{Shaped, takes_shaped, begun_shaped}
@@ -79,39 +49,34 @@ settles_fares s file m b send st side writes = record {
 
 answered_fares : (file : List ℕ) (six : SixBooks) (a : AppState) (d : AppDuty) → app_stands d a ≡ true → Writes file a.rest (send_of a.side six)
     → Writes file (app_answered d (reply_of six (app_ask d a)) a).rest (send_of a.side (after_ask (app_ask d a) six))
-answered_fares file six a app_duties.FastClose stands h = same_send a.side h
+answered_fares file six a AppDuty.FastClose stands h = same_send a.side h
   where
-    same_send : (s : Side) → Writes file a.rest (send_of s six) → Writes file a.rest (send_of s (after_ask (app_ask app_duties.FastClose a) six))
+    same_send : (s : Side) → Writes file a.rest (send_of s six) → Writes file a.rest (send_of s (after_ask (app_ask AppDuty.FastClose a) six))
     same_send A h = h
     same_send B h = h
-answered_fares file six a app_duties.AbortSend stands h =
-    subst (Writes file a.rest) (sym (own_after a.side send_calls.Abort six)) (record { prefix = h.prefix; whole = h.whole })
-answered_fares file six a app_duties.AbortReceive stands h = same_send a.side h
+answered_fares file six a AppDuty.AbortSend stands h =
+    subst (Writes file a.rest) (sym (own_after a.side SendCall.Abort six)) (record { prefix = h.prefix; whole = h.whole })
+answered_fares file six a AppDuty.AbortReceive stands h = same_send a.side h
   where
-    same_send : (s : Side) → Writes file a.rest (send_of s six) → Writes file a.rest (send_of s (after_ask (app_ask app_duties.AbortReceive a) six))
+    same_send : (s : Side) → Writes file a.rest (send_of s six) → Writes file a.rest (send_of s (after_ask (app_ask AppDuty.AbortReceive a) six))
     same_send A h = h
     same_send B h = h
-answered_fares file six a app_duties.Write stands h =
-    subst (Writes file _) (sym (own_after a.side (send_calls.Write (take a.buffer a.rest)) six)) (writes_more file a.rest a.buffer (send_of a.side six) stands h)
-answered_fares file six a app_duties.Close stands h =
+answered_fares file six a AppDuty.Write stands h =
+    subst (Writes file _) (sym (own_after a.side (SendCall.Write (take a.buffer a.rest)) six)) (writes_more file a.rest a.buffer (send_of a.side six) stands h)
+answered_fares file six a AppDuty.Close stands h =
     let none = is_empty a.rest (and_parts (is_nil a.rest) (not a.closed) stands).0 in
-    subst (Writes file a.rest) (sym (own_after a.side send_calls.Close six))
-    (subst (λ rest. Writes file rest (after_call (send_of a.side six) send_calls.Close)) (sym none) (closes file (send_of a.side six) (subst (λ rest. Writes file rest (send_of a.side six)) none h)))
-answered_fares file six a app_duties.Read stands h = same_send a.side h
+    subst (Writes file a.rest) (sym (own_after a.side SendCall.Close six))
+    (subst (λ rest. Writes file rest (after_call (send_of a.side six) SendCall.Close)) (sym none) (closes file (send_of a.side six) (subst (λ rest. Writes file rest (send_of a.side six)) none h)))
+answered_fares file six a AppDuty.Read stands h = same_send a.side h
   where
-    same_send : (s : Side) → Writes file a.rest (send_of s six) → Writes file a.rest (send_of s (after_ask (app_ask app_duties.Read a) six))
+    same_send : (s : Side) → Writes file a.rest (send_of s six) → Writes file a.rest (send_of s (after_ask (app_ask AppDuty.Read a) six))
     same_send A h = h
     same_send B h = h
-answered_fares file six a app_duties.End stands h = h
+answered_fares file six a AppDuty.End stands h = h
 
 answered_side : (d : AppDuty) (r : Reply) (a : AppState) → (app_answered d r a).side ≡ a.side
-answered_side app_duties.FastClose r a = refl
-answered_side app_duties.AbortSend r a = refl
-answered_side app_duties.AbortReceive r a = refl
-answered_side app_duties.Write r a = refl
-answered_side app_duties.Close r a = refl
-answered_side app_duties.Read r a = refl
-answered_side app_duties.End r a = refl
+answered_side AppDuty.FastClose r a = refl
+answered_side _ r a = refl
 
 -- a step of an application
 app_fares : (s : Side) (file : List ℕ) (six : SixBooks) (a : AppState) (d : AppDuty) (ds : List AppDuty) → a.agenda ≡ d ∷ ds → Fares s file a (send_of s six)
@@ -132,36 +97,26 @@ next_fares s file a send h =
 
 -- what an ask of the other side's application, or of a path, leaves
 app_leaves_b : (d : AppDuty) (a : AppState) (six : SixBooks) → a.side ≡ A → (after_ask (app_ask d a) six).send_b ≡ six.send_b
-app_leaves_b app_duties.FastClose a six is = refl
-app_leaves_b app_duties.AbortSend a six is = other_after_a a.side send_calls.Abort six is
-app_leaves_b app_duties.AbortReceive a six is = refl
-app_leaves_b app_duties.Write a six is = other_after_a a.side (send_calls.Write (take a.buffer a.rest)) six is
-app_leaves_b app_duties.Close a six is = other_after_a a.side send_calls.Close six is
-app_leaves_b app_duties.Read a six is = refl
-app_leaves_b app_duties.End a six is = refl
+app_leaves_b AppDuty.AbortSend a six is = other_after_a a.side SendCall.Abort six is
+app_leaves_b AppDuty.Write a six is = other_after_a a.side (SendCall.Write (take a.buffer a.rest)) six is
+app_leaves_b AppDuty.Close a six is = other_after_a a.side SendCall.Close six is
+app_leaves_b _ a six is = refl
 
 app_leaves_a : (d : AppDuty) (a : AppState) (six : SixBooks) → a.side ≡ B → (after_ask (app_ask d a) six).send_a ≡ six.send_a
-app_leaves_a app_duties.FastClose a six is = refl
-app_leaves_a app_duties.AbortSend a six is = other_after_b a.side send_calls.Abort six is
-app_leaves_a app_duties.AbortReceive a six is = refl
-app_leaves_a app_duties.Write a six is = other_after_b a.side (send_calls.Write (take a.buffer a.rest)) six is
-app_leaves_a app_duties.Close a six is = other_after_b a.side send_calls.Close six is
-app_leaves_a app_duties.Read a six is = refl
-app_leaves_a app_duties.End a six is = refl
+app_leaves_a AppDuty.AbortSend a six is = other_after_b a.side SendCall.Abort six is
+app_leaves_a AppDuty.Write a six is = other_after_b a.side (SendCall.Write (take a.buffer a.rest)) six is
+app_leaves_a AppDuty.Close a six is = other_after_b a.side SendCall.Close six is
+app_leaves_a _ a six is = refl
 
 path_leaves_a : (file rest : List ℕ) (ask : Ask) (six : SixBooks) → AskLeavesFile ask → Writes file rest six.send_a → Writes file rest (after_ask ask six).send_a
-path_leaves_a file rest (asks.Send A call) six leaves h = call_keeps file rest six.send_a h call leaves
-path_leaves_a file rest (asks.Send B call) six leaves h = h
-path_leaves_a file rest (asks.Reassembly s call) six leaves h = h
-path_leaves_a file rest (asks.Control s call) six leaves h = h
-path_leaves_a file rest (asks.Local step) six leaves h = h
+path_leaves_a file rest (Ask.Send A call) six leaves h = call_keeps file rest six.send_a h call leaves
+path_leaves_a file rest (Ask.Send B call) six leaves h = h
+path_leaves_a file rest _ six leaves h = h
 
 path_leaves_b : (file rest : List ℕ) (ask : Ask) (six : SixBooks) → AskLeavesFile ask → Writes file rest six.send_b → Writes file rest (after_ask ask six).send_b
-path_leaves_b file rest (asks.Send B call) six leaves h = call_keeps file rest six.send_b h call leaves
-path_leaves_b file rest (asks.Send A call) six leaves h = h
-path_leaves_b file rest (asks.Reassembly s call) six leaves h = h
-path_leaves_b file rest (asks.Control s call) six leaves h = h
-path_leaves_b file rest (asks.Local step) six leaves h = h
+path_leaves_b file rest (Ask.Send B call) six leaves h = call_keeps file rest six.send_b h call leaves
+path_leaves_b file rest (Ask.Send A call) six leaves h = h
+path_leaves_b file rest _ six leaves h = h
 
 -- ---- lists
 

@@ -1,11 +1,6 @@
 -- What is found among copies, and sides that are the same.
-use Rattle.std.proofs.Common.{◌≡◌, refl, sym, ◌∙◌, ap, subst, suc, Bool, true, false, cond, Some, List, [], ◌∷◌, find}
-use Rattle.std.proofs.lemmas.Bool.{false≢true}
-use Rattle.std.proofs.lemmas.Option.{same_Some}
-use Rattle.sides.specs.declared.side.Side.{Side}
-use Rattle.sides.specs.declared.side.Side.TheVariants.{A, B}
-use Rattle.link_script.specs.Places.{same_side}
-use Rattle.stream_lanes.specs.Words.{Every}
+use Rattle.world_laws.proofs.Words.{◌≡◌, refl, sym, ◌∙◌, ap, subst, suc, Bool, true, false, cond, Some, List, [], ◌∷◌, find, false≢true, same_Some, Side, A, B}
+use Rattle.world_laws.proofs.Words.{same_side, Every}
 
 -- a copy that is found is one of them, and is what was looked for
 pub find_every : {X : Type 0} (P : X → Type 0) (test : X → Bool) (xs : List X) (x : X) → Every P xs → find test xs ≡ Some x → P x × (test x ≡ true)

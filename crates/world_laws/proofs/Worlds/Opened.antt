@@ -1,12 +1,7 @@
 -- The actors of the opened world.
-use Rattle.std.proofs.Common.{◌≡◌, refl, sym, ◌∙◌, ap, subst, ℕ, zero, suc, ◌+◌, Some, List, [], ◌∷◌, arith}
-use Rattle.std.proofs.lemmas.Option.{same_Some}
-use Rattle.std.specs.List.{slice_get}
-use Rattle.sides.specs.declared.side.Side.TheVariants.{A, B}
-use Rattle.stream_apps.specs.Starts.{fast_close_of, first_app_turn}
-use Rattle.world_laws.specs.declared.member.Member.TheVariants.{App}
-use Rattle.world_laws.specs.Actors.{ActorCrew}
-use Rattle.world_laws.specs.Openings.{PathPlan, Start, new_crew, new_path, paths_from, opened_world}
+use Rattle.world_laws.proofs.Words.{◌≡◌, refl, sym, ◌∙◌, ap, subst, ℕ, zero, suc, ◌+◌, Some, List, [], ◌∷◌, arith, same_Some, slice_get, A, B, first_app_turn}
+use Rattle.world_laws.proofs.Words.{App, ActorCrew, PathPlan, Start, new_crew, new_path, paths_from, opened_world}
+use Rattle.stream_apps.specs.Starts.{fast_close_of}
 
 -- a path is that of its plan
 path_there : {C : Type 0} (start : Start) (first i number : ℕ) (plans : List PathPlan) (c : ActorCrew C) → number ≡ first + i → slice_get (paths_from start first plans) i ≡ Some c

@@ -1,22 +1,13 @@
 -- A path of which what comes to nothing is passed over: its first duty comes to something.
-use Rattle.std.proofs.Common.{◌≡◌, refl, Bool, true, false, if◌then◌else◌, List, [], ◌∷◌}
-use Rattle.path_agenda.specs.declared.duty.Duty.{Duty}
-use Rattle.path_agenda.specs.declared.duty.Duty.TheVariants as duties
-use Rattle.path_agenda.specs.declared.duty.AskDuty.TheVariants as ask_duties
-use Rattle.path_agenda.specs.declared.duty.SendDuty.TheVariants as send_duties
-use Rattle.path_agenda.specs.declared.duty.SilentDuty.TheVariants as silent_duties
-use Rattle.path_agenda.specs.declared.duty.StepDuty.TheVariants as step_duties
-use Rattle.path_core.specs.Duties.{stands, passed}
-use Rattle.path_core.specs.State.{PathState, with_agenda}
-use Rattle.path_core.specs.Steps.{settled}
-use Rattle.path_core.specs.Turns.{IsSettled}
+use Rattle.world_laws.proofs.Words.{◌≡◌, refl, Bool, true, false, if◌then◌else◌, List, [], ◌∷◌, Duty, SendDuty, StepDuty, AskDuty, SilentDuty, stands, passed}
+use Rattle.world_laws.proofs.Words.{PathState, with_agenda, settled, IsSettled}
 
 module _ {C : Type 0} where
   same_stands : (d : Duty) (ds : List Duty) (p : PathState C) → stands d p ≡ true → stands d (with_agenda ds p) ≡ true
-  same_stands (duties.Ask ask_duties.JoinAgain) ds p is = is
-  same_stands (duties.Step (step_duties.Look s)) ds p is = is
-  same_stands (duties.Send (send_duties.Update s)) ds p is = is
-  same_stands (duties.Silent (silent_duties.Timer s)) ds p is = is
+  same_stands (Duty.Ask AskDuty.JoinAgain) ds p is = is
+  same_stands (Duty.Step (StepDuty.Look s)) ds p is = is
+  same_stands (Duty.Send (SendDuty.Update s)) ds p is = is
+  same_stands (Duty.Silent (SilentDuty.Timer s)) ds p is = is
   same_stands _ ds p is = is
 
   pub settled_settled : (ds : List Duty) (p : PathState C) → IsSettled (settled ds p)

@@ -1,30 +1,10 @@
 -- At every moment the world is steady: each path may do what it does next, as the other side and the control books let it.
-use Rattle.std.proofs.Common.{◌≡◌, refl, sym, ◌∙◌, subst, ℕ, suc, ◌⊎◌, inl, inr, ⊎_elim, is_none, Bool, true, false, if◌then◌else◌, Option, Some, None, List, [], ◌∷◌, map}
-use Rattle.std.proofs.lemmas.Bool.{and_parts, false≢true}
-use Rattle.std.specs.List.{slice_get}
-use Rattle.sides.specs.declared.side.Side.TheVariants.{A, B}
-use Rattle.control_book.specs.declared.call.ControlCall.{ControlCall}
-use Rattle.control_book.specs.declared.call.ControlCall.TheVariants as calls
-use Rattle.control_book.specs.Control.{Control}
-use Rattle.control_book.specs.Replies.{is_sure, may_join}
+use Rattle.world_laws.proofs.Words.{◌≡◌, refl, sym, ◌∙◌, subst, ℕ, suc, inl, inr, ◌⊎◌, ⊎_elim, Bool, true, false, if◌then◌else◌, Option, Some, None, List, []}
+use Rattle.world_laws.proofs.Words.{◌∷◌, map, is_none, and_parts, false≢true, slice_get, A, B, ControlCall, Control, is_sure, may_join, Duty, AskDuty, Ask}
+use Rattle.world_laws.proofs.Words.{Reply, books_in, SixBooks, after_ask, Carried, values, in_map, in_set, Every, App, Path, Actor, ActorCrew, member_asks}
+use Rattle.world_laws.proofs.Words.{member_takes, member_next, Always, Start, opened_world, WorldState, Turn, crew_after, asked, stepped, all_over, greatest}
+use Rattle.world_laws.proofs.Words.{begins, after_turn, world_run, answer_to}
 use Rattle.control_book.specs.Steps as controlling
-use Rattle.stream_lanes.specs.Words.{Every}
-use Rattle.stream_lanes.proofs.Lists.{in_set, in_map}
-use Rattle.actor_desk.specs.declared.ask.Ask.{Ask}
-use Rattle.actor_desk.specs.declared.ask.Ask.TheVariants as asks
-use Rattle.actor_desk.specs.declared.ask.Reply.{Reply}
-use Rattle.actor_desk.specs.Books.{books_in}
-use Rattle.actor_desk.specs.Desk.{SixBooks, after_ask}
-use Rattle.path_agenda.specs.declared.duty.Duty.{Duty}
-use Rattle.path_agenda.specs.declared.duty.Duty.TheVariants as duties
-use Rattle.path_agenda.specs.declared.duty.AskDuty.TheVariants as ask_duties
-use Rattle.path_core.specs.Values.{Carried, values}
-use Rattle.world_laws.specs.declared.member.Member.TheVariants.{App, Path}
-use Rattle.world_laws.specs.Actors.{Actor, ActorCrew, member_asks, member_takes, member_next}
-use Rattle.world_laws.specs.Laws.{Always}
-use Rattle.world_laws.specs.Openings.{Start, opened_world}
-use Rattle.world_laws.specs.StampedBooks.{answer_to}
-use Rattle.world_laws.specs.Worlds.{WorldState, Turn, crew_after, asked, stepped, all_over, greatest, begins, after_turn, world_run}
 use Rattle.world_laws.proofs.Falls.ClearStays.{takes_clear, next_clear}
 use Rattle.world_laws.proofs.Falls.WhereASideStands.{IsNoJoin, same_joined}
 use Rattle.world_laws.proofs.Joins.AnsweredAfterBegun.{DutyJoined, MemberJoined, always_joined}
@@ -45,10 +25,10 @@ module _ (start : Start) where
   abbrev Asks : SixBooks → Ask → Type 0
   Asks six x = KeysAsk start.key_a start.key_b false six x
 
-  same_at_a : (six : SixBooks) (call : ControlCall) → Asks six (asks.Control A call) → IsNoJoin call → Joins six.control_a call
+  same_at_a : (six : SixBooks) (call : ControlCall) → Asks six (Ask.Control A call) → IsNoJoin call → Joins six.control_a call
   same_at_a six call ask none is = inl (sym (same_joined six.control_a call none) ∙ is)
 
-  begins_at_a : (six : SixBooks) (path : ℕ) → Joins six.control_a (calls.JoinBegin path)
+  begins_at_a : (six : SixBooks) (path : ℕ) → Joins six.control_a (ControlCall.JoinBegin path)
   begins_at_a six path is = by (may_join six.control_a) _ refl is
     where
       by : (b : Bool) (d : Control) → may_join six.control_a ≡ b → (if b then d else six.control_a).fall.joined ≡ true
@@ -56,33 +36,19 @@ module _ (start : Start) where
       by true d may is = inr (and_parts (is_sure six.control_a.fall.mode) (is_none six.control_a.fall.failed) may).0
       by false d may is = inl is
 
-  joins_at_a : (six : SixBooks) (call : ControlCall) → Asks six (asks.Control A call) → Joins six.control_a call
-  joins_at_a six (calls.Look path) ask = same_at_a six (calls.Look path) ask tt
-  joins_at_a six (calls.PeerKey key) ask = same_at_a six (calls.PeerKey key) ask tt
-  joins_at_a six (calls.Keys own other) ask = same_at_a six (calls.Keys own other) ask tt
-  joins_at_a six (calls.Fell path event) ask = same_at_a six (calls.Fell path event) ask tt
-  joins_at_a six (calls.JoinBegin path) ask = begins_at_a six path
-  joins_at_a six (calls.JoinHeard path token) ask = (let never : A ≡ B = ask.0 in cc)
-  joins_at_a six (calls.Live path backup) ask = same_at_a six (calls.Live path backup) ask tt
-  joins_at_a six (calls.Dead path) ask = same_at_a six (calls.Dead path) ask tt
-  joins_at_a six (calls.Rate path window rtt) ask = same_at_a six (calls.Rate path window rtt) ask tt
-  joins_at_a six (calls.Backup path on) ask = same_at_a six (calls.Backup path on) ask tt
-  joins_at_a six (calls.Announce id) ask = same_at_a six (calls.Announce id) ask tt
-  joins_at_a six (calls.Withdraw id) ask = same_at_a six (calls.Withdraw id) ask tt
-  joins_at_a six (calls.Heard id address port hmac) ask = same_at_a six (calls.Heard id address port hmac) ask tt
-  joins_at_a six (calls.Echoed id) ask = same_at_a six (calls.Echoed id) ask tt
-  joins_at_a six (calls.Removed id) ask = same_at_a six (calls.Removed id) ask tt
-  joins_at_a six calls.FastClose ask = same_at_a six calls.FastClose ask tt
-  joins_at_a six (calls.FastHeard key) ask = same_at_a six (calls.FastHeard key) ask tt
+  joins_at_a : (six : SixBooks) (call : ControlCall) → Asks six (Ask.Control A call) → Joins six.control_a call
+  joins_at_a six (ControlCall.JoinBegin path) ask = begins_at_a six path
+  joins_at_a six (ControlCall.JoinHeard path token) ask = (let never : A ≡ B = ask.0 in cc)
+  joins_at_a six call ask = same_at_a six call ask tt
 
   joins_by : (six : SixBooks) (x : Ask) → Asks six x → Joined (after_ask x six) A → (Joined six A) ⊎ (is_sure six.control_a.fall.mode ≡ true)
-  joins_by six (asks.Control A call) ask is = joins_at_a six call ask is
-  joins_by six (asks.Control B call) ask is = inl is
-  joins_by six (asks.Send A call) ask is = inl is
-  joins_by six (asks.Send B call) ask is = inl is
-  joins_by six (asks.Reassembly A call) ask is = inl is
-  joins_by six (asks.Reassembly B call) ask is = inl is
-  joins_by six (asks.Local step) ask is = inl is
+  joins_by six (Ask.Control A call) ask is = joins_at_a six call ask is
+  joins_by six (Ask.Control B call) ask is = inl is
+  joins_by six (Ask.Send A call) ask is = inl is
+  joins_by six (Ask.Send B call) ask is = inl is
+  joins_by six (Ask.Reassembly A call) ask is = inl is
+  joins_by six (Ask.Reassembly B call) ask is = inl is
+  joins_by six (Ask.Local step) ask is = inl is
 
   -- ---- worlds
 
@@ -159,10 +125,10 @@ module _ (start : Start) where
 -- ---- what follows
 
 may_do : (six : SixBooks) (d : Duty) → DutyJoined six d → MayDo six d
-may_do six (duties.Ask (ask_duties.JoinHeard A)) h = tt
-may_do six (duties.Ask (ask_duties.JoinHeard B)) h = h
-may_do six (duties.Ask (ask_duties.GoIdentity A)) h = h
-may_do six (duties.Ask (ask_duties.GoIdentity B)) h = h
+may_do six (Duty.Ask (AskDuty.JoinHeard A)) h = tt
+may_do six (Duty.Ask (AskDuty.JoinHeard B)) h = h
+may_do six (Duty.Ask (AskDuty.GoIdentity A)) h = h
+may_do six (Duty.Ask (AskDuty.GoIdentity B)) h = h
 may_do six _ h = tt
 
 member_steady : (six : SixBooks) (number : ℕ) (m : Actor Carried) → MemberJoined six number m → MemberShielded m → (number ≡ 0 → six.control_b.fall.joined ≡ true → IsClearAt m) → MemberIsSteady six number m

@@ -1,44 +1,12 @@
 -- No duty asks more than it may: its asks are of its kinds, at the books of its side, and of the path itself.
-use Rattle.std.proofs.Common.{◌≡◌, refl, ℕ, true, Option, Some, None}
-use Rattle.sides.specs.declared.side.Side.{Side}
-use Rattle.loss_recovery.specs.declared.windows.Pending.{Pending}
-use Rattle.subflow_send.specs.Records.{Record}
-use Rattle.join_handshake.specs.declared.hearing.JoinSyn.{JoinSyn}
-use Rattle.actor_desk.specs.declared.ask.Ask.{Ask}
-use Rattle.path_agenda.specs.declared.notice.PeerNotice.{PeerNotice}
-use Rattle.path_agenda.specs.declared.notice.PeerNotice.TheVariants as peer_notes
-use Rattle.path_agenda.specs.declared.duty.Duty.{Duty}
-use Rattle.path_agenda.specs.declared.duty.Duty.TheVariants as duties
-use Rattle.path_agenda.specs.declared.duty.AskDuty.TheVariants as ask_duties
-use Rattle.path_agenda.specs.declared.duty.SendDuty.TheVariants as send_duties
-use Rattle.path_agenda.specs.declared.duty.SilentDuty.TheVariants as silent_duties
-use Rattle.path_agenda.specs.declared.duty.StepDuty.TheVariants as step_duties
-use Rattle.path_agenda.specs.declared.heard.Heard.{Heard}
-use Rattle.path_agenda.specs.declared.heard.Heard.TheVariants as says
-use Rattle.path_agenda.specs.declared.keys.KeyPair.{KeyPair}
-use Rattle.path_agenda.specs.Items.{key_heard, keys_heard}
-use Rattle.path_core.specs.Addresses.{notice_ask}
-use Rattle.path_core.specs.Breaking.{break_ask}
-use Rattle.path_core.specs.Codec.{Codec}
-use Rattle.path_store.specs.Passing.{Piece}
-use Rattle.path_core.specs.Duties.{ask_for}
-use Rattle.path_core.specs.Emission.{first_unsent, data_ask}
-use Rattle.path_core.specs.Events.{next_event, step_for}
-use Rattle.path_core.specs.MpJoin.{asked_at, join_heard_ask}
-use Rattle.path_core.specs.MpCapable.{peer_key_ask, opened_ask}
-use Rattle.path_core.specs.Deliver.{piece_of, piece_ask}
-use Rattle.path_core.specs.DataFin.{data_fin_of, fin_ask, plain_fin}
-use Rattle.path_core.specs.Rate.{rate_ask}
-use Rattle.path_core.specs.State.{PathState, end_at, path_of}
-use Rattle.path_core.specs.DssIn.{is_clash}
-use Rattle.path_core.specs.Treating.{item_ask, item_of}
-use Rattle.path_core.specs.Fallback.{breaks_by_ack}
+use Rattle.world_laws.proofs.Words.{◌≡◌, refl, ℕ, true, Option, Some, None, Side, JoinSyn, Record, Pending, Piece, Duty, SendDuty, StepDuty, AskDuty}
+use Rattle.world_laws.proofs.Words.{SilentDuty, Heard, KeyPair, key_heard, keys_heard, PeerNotice, Ask, Codec, ask_for, PathState, end_at, path_of, break_ask}
+use Rattle.world_laws.proofs.Words.{first_unsent, data_ask, next_event, step_for, asked_at, join_heard_ask, piece_of, piece_ask, plain_fin, data_fin_of}
+use Rattle.world_laws.proofs.Words.{fin_ask, is_clash, item_ask, item_of, breaks_by_ack, peer_key_ask, opened_ask, notice_ask, rate_ask, side_of, May, asking}
+use Rattle.world_laws.proofs.Words.{IsAsked, asks_of_steps, asks_of_books}
 use Rattle.path_core.specs.declared.events.Event.{Event}
-use Rattle.path_core.specs.declared.events.Event.TheVariants as happening
-use Rattle.world_laws.specs.Asking.{May, IsAsked, asking, asks_of_books, asks_of_steps, may}
-use Rattle.world_laws.specs.Writes.{side_of}
 use Rattle.world_laws.proofs.Falls.FailedChecks.{fail_asks_so, subflow_acks_so}
-use Rattle.world_laws.proofs.Writes.Ends.{if_so}
+use Rattle.world_laws.proofs.Words.{if_so}
 
 module _ {C : Type 0} (k : Codec C) (p : PathState C) where
   -- a break acknowledges or resets
@@ -46,90 +14,87 @@ module _ {C : Type 0} (k : Codec C) (p : PathState C) where
   broken_asked m s reason out sent =
       if_so (IsAsked p s m) (end_at s p).treated.asked _ _ (record { kind = out; side = refl; own = tt }) (record { kind = sent; side = tt; own = tt })
 
-  happens_asked : (o : Option Event) → IsAsked p (side_of (duties.Step step_duties.Events)) (asks_of_steps step_duties.Events) (step_for (path_of p) o)
-  happens_asked None = record { kind = refl; side = tt; own = tt }
-  happens_asked (Some (happening.Joins tick)) = record { kind = refl; side = refl; own = refl }
-  happens_asked (Some (happening.Takes line)) = record { kind = refl; side = tt; own = tt }
-  happens_asked (Some (happening.Arrives due)) = record { kind = refl; side = tt; own = tt }
-  happens_asked (Some (happening.Fires s tick)) = record { kind = refl; side = tt; own = tt }
+  happens_asked : (o : Option Event) → IsAsked p (side_of (Duty.Step StepDuty.Events)) (asks_of_steps StepDuty.Events) (step_for (path_of p) o)
+  happens_asked (Some (Event.Joins tick)) = record { kind = refl; side = refl; own = refl }
+  happens_asked _ = record { kind = refl; side = tt; own = tt }
 
-  key_asked : (s : Side) (o : Option ℕ) → IsAsked p s (asks_of_books (ask_duties.PeerKey s)) (peer_key_ask s o p)
+  key_asked : (s : Side) (o : Option ℕ) → IsAsked p s (asks_of_books (AskDuty.PeerKey s)) (peer_key_ask s o p)
   key_asked s None = record { kind = refl; side = refl; own = refl }
   key_asked s (Some key) = record { kind = refl; side = refl; own = tt }
 
-  opened_asked : (s : Side) (o : Option KeyPair) → IsAsked p s (asks_of_books (ask_duties.Opened s)) (opened_ask s o p)
+  opened_asked : (s : Side) (o : Option KeyPair) → IsAsked p s (asks_of_books (AskDuty.Opened s)) (opened_ask s o p)
   opened_asked s None = record { kind = refl; side = refl; own = refl }
   opened_asked s (Some keys) = record { kind = refl; side = refl; own = tt }
 
-  join_asked : (s : Side) (o : Option JoinSyn) → IsAsked p s (asks_of_books (ask_duties.JoinHeard s)) (join_heard_ask s o p)
+  join_asked : (s : Side) (o : Option JoinSyn) → IsAsked p s (asks_of_books (AskDuty.JoinHeard s)) (join_heard_ask s o p)
   join_asked s None = record { kind = refl; side = tt; own = tt }
   join_asked s (Some asked) = record { kind = refl; side = refl; own = refl }
 
-  note_asked : (s : Side) (index : ℕ) (notice : PeerNotice) → IsAsked p s (asks_of_steps (step_duties.Heard s index)) (notice_ask s notice p)
-  note_asked s index (peer_notes.Prio backup) = record { kind = refl; side = refl; own = refl }
+  note_asked : (s : Side) (index : ℕ) (notice : PeerNotice) → IsAsked p s (asks_of_steps (StepDuty.Heard s index)) (notice_ask s notice p)
+  note_asked s index (PeerNotice.Prio backup) = record { kind = refl; side = refl; own = refl }
   note_asked s index _ = record { kind = refl; side = refl; own = tt }
 
-  pub item_asked : (s : Side) (index : ℕ) (o : Option Heard) → IsAsked p s (asks_of_steps (step_duties.Heard s index)) (item_ask k s o p)
-  item_asked s index (Some (says.DataAck next window)) = record { kind = refl; side = refl; own = tt }
-  item_asked s index (Some (says.Mapping fin)) =
-      if_so (IsAsked p s (asks_of_steps (step_duties.Heard s index))) (is_clash (end_at s p)) _ _
-      (broken_asked (asks_of_steps (step_duties.Heard s index)) s 1 refl refl) (record { kind = refl; side = refl; own = refl })
-  item_asked s index (Some (says.DataFin place)) = record { kind = refl; side = refl; own = refl }
-  item_asked s index (Some (says.InfiniteMapping place position)) = record { kind = refl; side = refl; own = refl }
-  item_asked s index (Some (says.Keys own peer)) = record { kind = refl; side = refl; own = tt }
-  item_asked s index (Some (says.Notice notice)) = note_asked s index notice
-  item_asked s index (Some says.Fail) =
-      fail_asks_so (IsAsked p s (asks_of_steps (step_duties.Heard s index))) s p (record { kind = refl; side = refl; own = refl }) (record { kind = refl; side = refl; own = refl })
-  item_asked s index (Some (says.FastClose key)) = record { kind = refl; side = refl; own = tt }
+  pub item_asked : (s : Side) (index : ℕ) (o : Option Heard) → IsAsked p s (asks_of_steps (StepDuty.Heard s index)) (item_ask k s o p)
+  item_asked s index (Some (Heard.DataAck next window)) = record { kind = refl; side = refl; own = tt }
+  item_asked s index (Some (Heard.Mapping fin)) =
+      if_so (IsAsked p s (asks_of_steps (StepDuty.Heard s index))) (is_clash (end_at s p)) _ _
+      (broken_asked (asks_of_steps (StepDuty.Heard s index)) s 1 refl refl) (record { kind = refl; side = refl; own = refl })
+  item_asked s index (Some (Heard.DataFin place)) = record { kind = refl; side = refl; own = refl }
+  item_asked s index (Some (Heard.InfiniteMapping place position)) = record { kind = refl; side = refl; own = refl }
+  item_asked s index (Some (Heard.Keys own peer)) = record { kind = refl; side = refl; own = tt }
+  item_asked s index (Some (Heard.Notice notice)) = note_asked s index notice
+  item_asked s index (Some Heard.Fail) =
+      fail_asks_so (IsAsked p s (asks_of_steps (StepDuty.Heard s index))) s p (record { kind = refl; side = refl; own = refl }) (record { kind = refl; side = refl; own = refl })
+  item_asked s index (Some (Heard.FastClose key)) = record { kind = refl; side = refl; own = tt }
   item_asked s index _ = record { kind = refl; side = tt; own = tt }
 
-  piece_asked : (s : Side) (o : Option Piece) → IsAsked p s (asks_of_books (ask_duties.Edge s)) (piece_ask s o)
+  piece_asked : (s : Side) (o : Option Piece) → IsAsked p s (asks_of_books (AskDuty.Edge s)) (piece_ask s o)
   piece_asked s None = record { kind = refl; side = tt; own = tt }
   piece_asked s (Some piece) = record { kind = refl; side = refl; own = tt }
 
-  fin_asked : (s : Side) (o : Option ℕ) → IsAsked p s (asks_of_books (ask_duties.SubflowFin s)) (fin_ask s o)
+  fin_asked : (s : Side) (o : Option ℕ) → IsAsked p s (asks_of_books (AskDuty.SubflowFin s)) (fin_ask s o)
   fin_asked s None = record { kind = refl; side = tt; own = tt }
   fin_asked s (Some place) = record { kind = refl; side = refl; own = tt }
 
-  bytes_asked : (s : Side) (o : Option Record) → IsAsked p s (asks_of_steps (step_duties.Data s)) (data_ask k s o p)
+  bytes_asked : (s : Side) (o : Option Record) → IsAsked p s (asks_of_steps (StepDuty.Data s)) (data_ask k s o p)
   bytes_asked s None = record { kind = refl; side = refl; own = (refl, refl) }
   bytes_asked s (Some r) = record { kind = refl; side = tt; own = tt }
 
-  rate_asked : (s : Side) (o : Option Pending) → IsAsked p s (asks_of_books (ask_duties.Rate s)) (rate_ask s o p)
+  rate_asked : (s : Side) (o : Option Pending) → IsAsked p s (asks_of_books (AskDuty.Rate s)) (rate_ask s o p)
   rate_asked s None = record { kind = refl; side = tt; own = tt }
   rate_asked s (Some pending) = record { kind = refl; side = refl; own = refl }
 
   pub asks_no_more : (d : Duty) → IsAsked p (side_of d) (asking d) (ask_for k d p)
-  asks_no_more (duties.Ask ask_duties.JoinAgain) = record { kind = refl; side = refl; own = refl }
-  asks_no_more (duties.Ask (ask_duties.PlainHandshake s)) = record { kind = refl; side = refl; own = refl }
-  asks_no_more (duties.Ask (ask_duties.PeerKey s)) = key_asked s (key_heard (end_at s p).treated.items)
-  asks_no_more (duties.Ask (ask_duties.JoinHeard s)) = join_asked s (asked_at s p)
-  asks_no_more (duties.Ask (ask_duties.Opened s)) = opened_asked s (keys_heard (end_at s p).treated.items)
-  asks_no_more (duties.Ask (ask_duties.Live s)) = record { kind = refl; side = refl; own = refl }
-  asks_no_more (duties.Ask (ask_duties.AckHeard s)) = record { kind = refl; side = refl; own = refl }
-  asks_no_more (duties.Ask (ask_duties.FailHeard s)) = record { kind = refl; side = refl; own = refl }
-  asks_no_more (duties.Ask (ask_duties.SubflowAck s)) =
-      subflow_acks_so (IsAsked p s (asks_of_books (ask_duties.SubflowAck s))) s (end_at s p) (record { kind = refl; side = tt; own = tt })
+  asks_no_more (Duty.Ask AskDuty.JoinAgain) = record { kind = refl; side = refl; own = refl }
+  asks_no_more (Duty.Ask (AskDuty.PlainHandshake s)) = record { kind = refl; side = refl; own = refl }
+  asks_no_more (Duty.Ask (AskDuty.PeerKey s)) = key_asked s (key_heard (end_at s p).treated.items)
+  asks_no_more (Duty.Ask (AskDuty.JoinHeard s)) = join_asked s (asked_at s p)
+  asks_no_more (Duty.Ask (AskDuty.Opened s)) = opened_asked s (keys_heard (end_at s p).treated.items)
+  asks_no_more (Duty.Ask (AskDuty.Live s)) = record { kind = refl; side = refl; own = refl }
+  asks_no_more (Duty.Ask (AskDuty.AckHeard s)) = record { kind = refl; side = refl; own = refl }
+  asks_no_more (Duty.Ask (AskDuty.FailHeard s)) = record { kind = refl; side = refl; own = refl }
+  asks_no_more (Duty.Ask (AskDuty.SubflowAck s)) =
+      subflow_acks_so (IsAsked p s (asks_of_books (AskDuty.SubflowAck s))) s (end_at s p) (record { kind = refl; side = tt; own = tt })
       (λ next. record { kind = refl; side = refl; own = tt })
-  asks_no_more (duties.Ask (ask_duties.PlainData s)) = record { kind = refl; side = refl; own = refl }
-  asks_no_more (duties.Ask (ask_duties.Edge s)) = piece_asked s (piece_of s p)
-  asks_no_more (duties.Ask (ask_duties.CheckFailed s)) = record { kind = refl; side = refl; own = refl }
-  asks_no_more (duties.Ask (ask_duties.HeardFin s index)) = fin_asked s (data_fin_of index (end_at s p))
-  asks_no_more (duties.Ask (ask_duties.SubflowFin s)) = fin_asked s (plain_fin (end_at s p))
-  asks_no_more (duties.Ask (ask_duties.Rate s)) = rate_asked s (end_at s p).tcp.congestion.pending
-  asks_no_more (duties.Ask (ask_duties.Return s)) = record { kind = refl; side = refl; own = refl }
-  asks_no_more (duties.Ask (ask_duties.LeaveNoted s)) = record { kind = refl; side = refl; own = refl }
-  asks_no_more (duties.Ask (ask_duties.Leave s)) = record { kind = refl; side = refl; own = refl }
-  asks_no_more (duties.Ask (ask_duties.Dead s)) = record { kind = refl; side = refl; own = refl }
-  asks_no_more (duties.Ask d) = record { kind = refl; side = refl; own = tt }
-  asks_no_more (duties.Step (step_duties.Look s)) = record { kind = refl; side = refl; own = refl }
-  asks_no_more (duties.Step (step_duties.Data s)) = bytes_asked s (first_unsent (end_at s p))
-  asks_no_more (duties.Step step_duties.Events) = happens_asked (next_event p)
-  asks_no_more (duties.Step (step_duties.Heard s index)) = item_asked s index (item_of index (end_at s p))
-  asks_no_more (duties.Step (step_duties.PlainAck s)) =
-      if_so (IsAsked p s (asks_of_steps (step_duties.PlainAck s))) (breaks_by_ack p.profile (end_at s p)) _ _
-      (broken_asked (asks_of_steps (step_duties.PlainAck s)) s 6 refl refl) (record { kind = refl; side = refl; own = refl })
-  asks_no_more (duties.Step (step_duties.Unmapped s)) = broken_asked (asks_of_steps (step_duties.Unmapped s)) s 6 refl refl
-  asks_no_more (duties.Send (send_duties.Update s)) = record { kind = refl; side = tt; own = tt }
-  asks_no_more (duties.Silent (silent_duties.Timer s)) = record { kind = refl; side = tt; own = tt }
+  asks_no_more (Duty.Ask (AskDuty.PlainData s)) = record { kind = refl; side = refl; own = refl }
+  asks_no_more (Duty.Ask (AskDuty.Edge s)) = piece_asked s (piece_of s p)
+  asks_no_more (Duty.Ask (AskDuty.CheckFailed s)) = record { kind = refl; side = refl; own = refl }
+  asks_no_more (Duty.Ask (AskDuty.HeardFin s index)) = fin_asked s (data_fin_of index (end_at s p))
+  asks_no_more (Duty.Ask (AskDuty.SubflowFin s)) = fin_asked s (plain_fin (end_at s p))
+  asks_no_more (Duty.Ask (AskDuty.Rate s)) = rate_asked s (end_at s p).tcp.congestion.pending
+  asks_no_more (Duty.Ask (AskDuty.Return s)) = record { kind = refl; side = refl; own = refl }
+  asks_no_more (Duty.Ask (AskDuty.LeaveNoted s)) = record { kind = refl; side = refl; own = refl }
+  asks_no_more (Duty.Ask (AskDuty.Leave s)) = record { kind = refl; side = refl; own = refl }
+  asks_no_more (Duty.Ask (AskDuty.Dead s)) = record { kind = refl; side = refl; own = refl }
+  asks_no_more (Duty.Ask d) = record { kind = refl; side = refl; own = tt }
+  asks_no_more (Duty.Step (StepDuty.Look s)) = record { kind = refl; side = refl; own = refl }
+  asks_no_more (Duty.Step (StepDuty.Data s)) = bytes_asked s (first_unsent (end_at s p))
+  asks_no_more (Duty.Step StepDuty.Events) = happens_asked (next_event p)
+  asks_no_more (Duty.Step (StepDuty.Heard s index)) = item_asked s index (item_of index (end_at s p))
+  asks_no_more (Duty.Step (StepDuty.PlainAck s)) =
+      if_so (IsAsked p s (asks_of_steps (StepDuty.PlainAck s))) (breaks_by_ack p.profile (end_at s p)) _ _
+      (broken_asked (asks_of_steps (StepDuty.PlainAck s)) s 6 refl refl) (record { kind = refl; side = refl; own = refl })
+  asks_no_more (Duty.Step (StepDuty.Unmapped s)) = broken_asked (asks_of_steps (StepDuty.Unmapped s)) s 6 refl refl
+  asks_no_more (Duty.Send (SendDuty.Update s)) = record { kind = refl; side = tt; own = tt }
+  asks_no_more (Duty.Silent (SilentDuty.Timer s)) = record { kind = refl; side = tt; own = tt }
   asks_no_more _ = record { kind = refl; side = tt; own = tt }

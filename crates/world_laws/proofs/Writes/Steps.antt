@@ -1,19 +1,8 @@
 -- What holds between a path and what each of its duties makes of it holds between the path and what its steps make of it. And what a
 -- part is that no duty of a step may write.
-use Rattle.std.proofs.Common.{◌≡◌, ap, Bool, true, false, List, [], ◌∷◌}
-use Rattle.std.proofs.lemmas.Option.{same_Some}
-use Rattle.actor_desk.specs.declared.ask.Reply.{Reply}
-use Rattle.path_agenda.specs.Agenda.{start_of_turn}
-use Rattle.path_agenda.specs.declared.duty.Duty.{Duty}
-use Rattle.path_core.specs.Codec.{Codec}
-use Rattle.path_core.specs.Duties.{stands, passed, answered}
-use Rattle.path_core.specs.State.{PathState, with_agenda}
-use Rattle.path_core.specs.Steps.{settled, answers, takes, begins_turn}
-use Rattle.world_laws.proofs.Writes.Ends.{if_so}
-use Rattle.sides.specs.declared.side.Side.{Side}
-use Rattle.sides.specs.declared.side.Side.TheVariants.{A, B}
-use Rattle.path_core.specs.End.{PathEnd}
-use Rattle.world_laws.specs.Writes.{hide, Writes, Only, OnlyAt, PathView}
+use Rattle.world_laws.proofs.Words.{◌≡◌, ap, Bool, true, false, List, [], ◌∷◌, same_Some, Side, A, B, start_of_turn, Duty, Reply, Codec, stands, passed}
+use Rattle.world_laws.proofs.Words.{answered, PathEnd, PathState, with_agenda, settled, answers, takes, begins_turn, Only, Writes, OnlyAt, PathView, hide}
+use Rattle.world_laws.proofs.Words.{if_so}
 
 -- a part that may not be written is the same
 pub unwritten : {X : Type 0} (b : Bool) (x y : X) → b ≡ false → hide b y ≡ hide b x → y ≡ x

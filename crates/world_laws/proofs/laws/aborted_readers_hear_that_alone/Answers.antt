@@ -1,5 +1,4 @@
-use Rattle.path_core.specs.Octets.{octets}
-use Rattle.path_core.specs.Values.{values}
+use Rattle.world_laws.proofs.Words.{values, octets}
 use Rattle.world_laws.proofs.Promises.AbortedHearThatAlone.{abort_is_last}
 use Rattle.world_laws.proofs.laws.aborted_readers_hear_that_alone.Goals as goal
 

@@ -1,5 +1,4 @@
-use Rattle.path_core.specs.Octets.{octets}
-use Rattle.path_core.specs.Values.{values}
+use Rattle.world_laws.proofs.Words.{values, octets}
 use Rattle.world_laws.proofs.Announcements.AsTold.{announcements_end}
 use Rattle.world_laws.proofs.laws.announcements_end.Goals as goal
 

@@ -1,5 +1,4 @@
-use Rattle.path_core.specs.Octets.{octets}
-use Rattle.path_core.specs.Values.{values}
+use Rattle.world_laws.proofs.Words.{values, octets}
 use Rattle.world_laws.proofs.Standby.GrantedNothing.{backups_get_nothing}
 use Rattle.world_laws.proofs.laws.backups_get_nothing.Goals as goal
 

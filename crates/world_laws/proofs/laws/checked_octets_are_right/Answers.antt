@@ -1,5 +1,4 @@
-use Rattle.path_core.specs.Octets.{octets}
-use Rattle.path_core.specs.Values.{values}
+use Rattle.world_laws.proofs.Words.{values, octets}
 use Rattle.world_laws.proofs.Falls.ForGood.{falls_for_good}
 use Rattle.world_laws.proofs.Promises.WhateverIsAltered.{prefix_until, placed_until}
 use Rattle.world_laws.proofs.Promises.Made.{prefix_in_octets, placed_in_octets}

@@ -1,5 +1,4 @@
-use Rattle.path_core.specs.Octets.{octets}
-use Rattle.path_core.specs.Values.{values}
+use Rattle.world_laws.proofs.Words.{values, octets}
 use Rattle.world_laws.proofs.Rounds.AStepAtLeast as steps
 use Rattle.world_laws.proofs.laws.each_round_has_a_step.Goals as goal
 

@@ -1,5 +1,4 @@
-use Rattle.path_core.specs.Octets.{octets}
-use Rattle.path_core.specs.Values.{values}
+use Rattle.world_laws.proofs.Words.{values, octets}
 use Rattle.world_laws.proofs.Joins.NoBytesBeforeClear.{joins_wait}
 use Rattle.world_laws.proofs.laws.joins_wait_for_their_answer.Goals as goal
 

@@ -1,8 +1,4 @@
-use Rattle.std.proofs.Common.{subst, sym}
-use Rattle.path_core.specs.Values.{values}
-use Rattle.world_laws.specs.Openings.{opened_world}
-use Rattle.world_laws.specs.Promises.{KeysNeverDiffer}
-use Rattle.world_laws.specs.Worlds.{world_run}
+use Rattle.world_laws.proofs.Words.{sym, subst, values, opened_world, world_run, KeysNeverDiffer}
 use Rattle.world_laws.proofs.Keys.ToldAreOwn as agree
 use Rattle.world_laws.proofs.Promises.Made.{keys_in_octets}
 use Rattle.world_laws.proofs.Promises.OverOctets.{keys_shown, run_shown}

@@ -1,5 +1,4 @@
-use Rattle.path_core.specs.Octets.{octets}
-use Rattle.path_core.specs.Values.{values}
+use Rattle.world_laws.proofs.Words.{values, octets}
 use Rattle.world_laws.proofs.Worlds.CastLifting as casts
 use Rattle.world_laws.proofs.laws.nothing_due_is_left.Goals as goal
 

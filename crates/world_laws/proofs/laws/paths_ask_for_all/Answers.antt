@@ -1,5 +1,4 @@
-use Rattle.path_core.specs.Octets.{octets}
-use Rattle.path_core.specs.Values.{values}
+use Rattle.world_laws.proofs.Words.{values, octets}
 use Rattle.world_laws.proofs.Rounds.AskedForAll.{paths_ask}
 use Rattle.world_laws.proofs.laws.paths_ask_for_all.Goals as goal
 

@@ -1,5 +1,4 @@
-use Rattle.path_core.specs.Octets.{octets}
-use Rattle.path_core.specs.Values.{values}
+use Rattle.world_laws.proofs.Words.{values, octets}
 use Rattle.world_laws.proofs.Rounds.ReadAll.{readers_caught_up}
 use Rattle.world_laws.proofs.laws.readers_catch_up.Goals as goal
 

@@ -1,5 +1,4 @@
-use Rattle.path_core.specs.Octets.{octets}
-use Rattle.path_core.specs.Values.{values}
+use Rattle.world_laws.proofs.Words.{values, octets}
 use Rattle.world_laws.proofs.Rounds.FromTheOpening as starts
 use Rattle.world_laws.proofs.laws.serial_exists.Goals as goal
 

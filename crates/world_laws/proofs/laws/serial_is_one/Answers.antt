@@ -1,5 +1,4 @@
-use Rattle.path_core.specs.Octets.{octets}
-use Rattle.path_core.specs.Values.{values}
+use Rattle.world_laws.proofs.Words.{values, octets}
 use Rattle.world_laws.proofs.Rounds.SerialIsOne as serially
 use Rattle.world_laws.proofs.laws.serial_is_one.Goals as goal
 

@@ -1,5 +1,4 @@
-use Rattle.path_core.specs.Octets.{octets}
-use Rattle.path_core.specs.Values.{values}
+use Rattle.world_laws.proofs.Words.{values, octets}
 use Rattle.world_laws.proofs.Rounds.DoneByTheEnd.{stays_fine}
 use Rattle.world_laws.proofs.laws.what_is_fine_stays_fine.Goals as goal
 

@@ -1,5 +1,4 @@
-use Rattle.path_core.specs.Octets.{octets}
-use Rattle.path_core.specs.Values.{values}
+use Rattle.world_laws.proofs.Words.{values, octets}
 use Rattle.world_laws.proofs.Weaving.WholeRounds.{woven_does, steps_weave, rounds_weave}
 use Rattle.world_laws.proofs.laws.woven_rounds_do_the_same.Goals as goal
 
