@@ -8,13 +8,10 @@ use Rattle.path_core.specs.Values.{Carried, values}
 use Rattle.world_laws.specs.declared.member.Member.TheVariants.{App}
 use Rattle.world_laws.specs.Openings.{Start, opened_world}
 use Rattle.world_laws.specs.Worlds.{Turn, asked, after_turn, all_over, greatest, begins}
-use Rattle.world_laws.proofs.Worlds.Casts.{Walker, Cast, world_of, seated, path_asked, path_stepped, path_step_is, first_cast, opened_is, next_cast, next_is}
+use Rattle.world_laws.proofs.Worlds.Casts.{Walker, Cast, world_of, seated, path_asked, path_stepped, path_step_is, next_cast, next_is}
 use Rattle.world_laws.proofs.Worlds.CastLifting.{Stepwise}
 use Rattle.world_laws.proofs.Weaving.WholeRounds.{run_append}
 use Rattle.clean_finish.specs.Running.{Came}
-
-pub came_first : (start : Start) → Came start (first_cast start)
-came_first start = record { turns = []; is = sym (opened_is start) }
 
 module _ (start : Start) where
   came_after : (turn : Turn) (t u : Cast Carried) → world_of u ≡ after_turn values turn (world_of t) → Came start t → Came start u

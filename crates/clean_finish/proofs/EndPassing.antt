@@ -29,7 +29,7 @@ use Rattle.pace.specs.Lane.{Setting, Lane, all_left}
 use Rattle.pace.specs.Going.{Going}
 use Rattle.clean_finish.specs.Segments.{Keys}
 use Rattle.clean_finish.specs.Shows.{NoneMapped}
-use Rattle.clean_finish.specs.Running.{Bench, TreatsDataFin, TreatsEnd, AreFew, fin_duties, end_duties, own_bench, other_bench, IsSetting, Runs, keys_in}
+use Rattle.clean_finish.specs.Running.{Bench, TreatsDataFin, TreatsEnd, fin_duties, end_duties, own_bench, other_bench, IsSetting, Runs, keys_in}
 use Rattle.clean_finish.proofs.FinTold.{counts, fin_told, no_clash, received}
 use Rattle.clean_finish.proofs.Passing.{free_drops}
 use Rattle.clean_finish.proofs.Quiet.{open_when_ready}
@@ -80,10 +80,6 @@ pub end_mapped : (q : Side) (x : Bench) → TreatsEnd q x → NoneMapped x.end.t
 end_mapped q x (inl (inl last, none)) = last.mapped
 end_mapped q x (inl (inr fin, none)) = fin.mapped
 end_mapped q x (inr data_fin) = data_fin.mapped
-
--- no second DATA_FIN is told
-pub no_second : (x : Bench) (i : ℕ) → AreFew x → is_some (item_at (suc i) x.end.treated.fins) ≡ false
-no_second x i few = ap (λ (o : Option ℕ). is_some o) (few i)
 
 module _ (start : Start) (plan : PathPlan) (k j : Setting) (s v : Lane) (t0 u0 : ℕ)
     (going : Going k s t0 all_left s) (going_back : Going j v u0 all_left v)

@@ -1,5 +1,5 @@
 -- The steps in which what a copy says is heard, up to its first thing.
-use Rattle.std.proofs.Common.{◌≡◌, refl, sym, subst, ap, ◌∙◌, ℕ, ◌-◌, ◌≤◌, min, Bool, true, false, not, ◌&&◌, ◌||◌, is_some, inr, ⊎_elim, Option, Some, List, ◌∷◌, arith}
+use Rattle.std.proofs.Common.{◌≡◌, refl, sym, subst, ap, ◌∙◌, ℕ, ◌-◌, ◌≤◌, min, Bool, true, false, not, ◌&&◌, ◌||◌, is_some, inr, ⊎_elim, Option, List, ◌∷◌, arith}
 use Rattle.std.proofs.lemmas.Bool.{both_ways}
 use Rattle.sides.specs.declared.side.Side.{Side}
 use Rattle.sides.specs.declared.side.Side.TheVariants.{A, B}
@@ -16,7 +16,7 @@ use Rattle.path_agenda.specs.Items.{keys_heard}
 use Rattle.path_core.specs.End.{PathEnd}
 use Rattle.path_core.specs.MpCapable.{is_opened_by_keys, is_opened_plainly, live_ask}
 use Rattle.path_core.specs.State.{PathState, with_agenda, with_end}
-use Rattle.path_core.specs.Treating.{item_of, item_passed, item_stands}
+use Rattle.path_core.specs.Treating.{item_of, item_passed}
 use Rattle.path_core.specs.Values.{Carried}
 use Rattle.world_laws.specs.Openings.{PathPlan, Start}
 use Rattle.pace.specs.Lane.{Setting, Lane, all_left}
@@ -50,10 +50,6 @@ no_keys k key = not_true (shows_keys k) (λ e. not_b (key e))
 pub no_third : (k : Brings) → shows_keys k ≡ false → is_third k ≡ false
 no_third k none = not_true (is_third k) (λ e. both_ways _ none (third_shows k e))
 
--- a DSS is told to no book
-dss_passes : (o : Option Heard) (e : PathEnd) → o ≡ Some says.Dss → item_stands o e ≡ false
-dss_passes o e is = ap (λ (y : Option Heard). item_stands y e) is
-
 pub third_only : (k : Brings) → is_third k ≡ true → k ≡ ShowsKeys
 third_only OpensSubflow e = absurd (both_ways false refl e)
 third_only ShowsKeys e = refl
@@ -62,10 +58,6 @@ third_only (Piece octets) e = absurd (both_ways false refl e)
 third_only Acknowledges e = absurd (both_ways false refl e)
 third_only (EndsStream place) e = absurd (both_ways false refl e)
 third_only EndsSubflow e = absurd (both_ways false refl e)
-
--- what opens by none of its things
-unopened : (e : PathEnd) → e.treated.opened ≡ false → (is_opened_by_keys e || is_opened_plainly e) ≡ false
-unopened e none = ap (λ (b : Bool). (b && is_some (keys_heard e.treated.items)) || (b && (not e.treated.has_option && is_starting e.modes.mode))) none
 
 opened_third : (keys : Keys) (next window : ℕ) (e : PathEnd) → e.treated.opened ≡ true → e.treated.items ≡ heard_by keys next window ShowsKeys
     → (is_opened_by_keys e || is_opened_plainly e) ≡ true

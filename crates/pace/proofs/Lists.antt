@@ -1,7 +1,7 @@
 -- The words on segments on their way, as one is put at the end or taken from the front.
-use Rattle.std.proofs.Common.{◌≡◌, refl, sym, subst, ℕ, zero, suc, ◌+◌, ◌≤◌, Bool, true, false, cond, ◌⊎◌, inl, inr, ⊎_elim, List, [], ◌∷◌, ◌++◌, Option, Some, None, IfSome, le_refl, le_of_eq, arith}
+use Rattle.std.proofs.Common.{◌≡◌, refl, sym, subst, ℕ, zero, suc, ◌+◌, ◌≤◌, ◌⊎◌, inl, inr, ⊎_elim, List, [], ◌∷◌, ◌++◌, Option, Some, None, IfSome, le_of_eq, arith}
 use Rattle.pace.specs.Lane.{Telling, Copy}
-use Rattle.pace.specs.Rules.{tick_or, repeats, is_same, next_row}
+use Rattle.pace.specs.Rules.{repeats, next_row}
 use Rattle.pace.specs.Lists.{In, OneHas, Timed, Chain, Stays, first_at, repeated, LastIs, data_fins}
 
 -- ---- one of them
@@ -111,14 +111,6 @@ pub repeated_more : (before last : Telling) (x : Copy) (cs : List Copy) → Last
 repeated_more before last x [] h = subst (λ (t : Telling). repeats before x + 0 ≡ 0 + repeats t x) h (omega arith)
 repeated_more before last x (c ∷ cs) h = let rest = repeated_more c.telling last x cs h in omega (arith, rest)
 
-pub repeats_once : (before : Telling) (c : Copy) → repeats before c ≤ 1
-repeats_once before c = once c.solid (is_same before c.telling)
-  where
-    once : (solid same : Bool) → cond solid 0 (cond same 1 0) ≤ 1
-    once true same = omega arith
-    once false true = omega arith
-    once false false = omega arith
-
 pub row_within : (n row : ℕ) → next_row n row ≤ row + n
 row_within zero row = omega arith
 row_within (suc n) row = omega arith
@@ -132,8 +124,3 @@ data_fins_more x (c ∷ cs) = let rest = data_fins_more x cs in omega (arith, re
 pub if_some_map : (P Q : ℕ → Type 0) (o : Option ℕ) → ((x : ℕ) → P x → Q x) → IfSome o P → IfSome o Q
 if_some_map P Q None more h = tt
 if_some_map P Q (Some x) more h = more x h
-
-pub tick_late : (P : ℕ → Type 0) (t until : ℕ) (o : Option ℕ) → until ≤ t → IfSome o (λ x. P x × (t ≤ x))
-    → until ≤ tick_or until o
-tick_late P t until None up h = le_refl until
-tick_late P t until (Some x) up h = omega (arith, up, h.1)

@@ -210,9 +210,6 @@ any_event_is_one_step alters checked paths buffer capacity events event =
     at w h SendJoin = (stays refl, stays refl)
     at w h HearJoin = (stays refl, stays refl)
 
-pub each_event_is_one_step : Always EachEventIsOneStep
-each_event_is_one_step paths buffer capacity events event = any_event_is_one_step false false paths buffer capacity events event
-
 pub nothing_is_refused : Always (BothWays NothingIsRefused)
 nothing_is_refused paths buffer capacity events =
     at (after_events events (opening paths buffer capacity)) (link_stays events (opening paths buffer capacity)).0 (all_held paths buffer capacity events)

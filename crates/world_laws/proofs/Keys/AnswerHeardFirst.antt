@@ -69,52 +69,12 @@ finish_met phase.CloseWait = refl
 finish_met phase.Waiting = refl
 finish_met _ = refl
 
-acked_met : (state : EndPhase) → is_met (states.after_fin_acked state) ≡ is_met state
-acked_met phase.FinWait1 = refl
-acked_met phase.Closing = refl
-acked_met phase.Waiting = refl
-acked_met _ = refl
-
 pub passed_met_state : (state : EndPhase) → is_met (states.after_fin_passed state) ≡ is_met state
 passed_met_state phase.Established = refl
 passed_met_state phase.FinWait1 = refl
 passed_met_state phase.FinWait2 = refl
 passed_met_state phase.Waiting = refl
 passed_met_state _ = refl
-
-handshake_met : (state : EndPhase) → is_met (states.after_handshake state) ≡ is_met state
-handshake_met phase.SynReceived = refl
-handshake_met phase.Waiting = refl
-handshake_met _ = refl
-
-ack_met : (pos now : ℕ) (s : EndState) → is_met (after_acknowledgement pos now s).state ≡ is_met s.state
-ack_met pos now s = by (ack_kind pos s.send)
-  where
-    t : EndState
-    t = record s { send = after_acknowledge pos s.send }
-
-    new : (b : Bool) → is_met (if b then states.after_fin_acked s.state else s.state) ≡ is_met s.state
-    new true = acked_met s.state
-    new false = refl
-
-    by : (kind : AckKind) → is_met (after_ack_kind kind (sample_of pos s.send) now t).state ≡ is_met s.state
-    by (acks.New octets) = new (is_fin_acked t.send)
-    by acks.Duplicate = refl
-    by acks.Old = refl
-    by acks.Future = refl
-
-taken_met : (pos acknowledged : ℕ) (hint : Hint) (now : ℕ) (c : Copy) (s : EndState) → is_met (after_taken pos acknowledged hint now c s).state ≡ is_met s.state
-taken_met pos acknowledged hint now c s = by (is_duplicate (ack_kind acknowledged opened.send) (told_by hint c) c acked)
-  where
-    opened : EndState
-    opened = after_established (after_hearing (after_payload pos hint c s))
-
-    acked : EndState
-    acked = after_acknowledgement acknowledged now opened
-
-    by : (b : Bool) → is_met (if b then after_duplicate acked else after_interruption acked).state ≡ is_met s.state
-    by true = ack_met acknowledged now opened ∙ handshake_met s.state
-    by false = ack_met acknowledged now opened ∙ handshake_met s.state
 
 payload_met : (m : Meaning) (octets : List ℕ) (s : EndState) → (with_payload m octets s).state ≡ s.state
 payload_met (means.Taken pos acknowledged) [] s = refl

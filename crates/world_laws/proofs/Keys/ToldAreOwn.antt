@@ -689,9 +689,6 @@ known_run : (start : Start) (turns : List Turn) (w : WorldState Carried) → Wor
 known_run start [] w h = h
 known_run start (turn ∷ turns) w h = known_run start turns (after_turn values turn w) (turn_keys start.key_a start.key_b false turn w (λ right. absurd (false≢true right)) h)
 
-pub always_known : Always values (λ start w. WorldIs start.key_a start.key_b false w)
-always_known start turns = known_run start turns (opened_world start) (opened_keys false start)
-
 pub keys_never_differ : Always values (λ start w. KeysNeverDiffer w)
 keys_never_differ start turns =
     from_each tells_other_key values (world_run values turns (opened_world start))

@@ -32,7 +32,6 @@ use Rattle.stream_lanes.proofs.Promises.{reads_prefix, acknowledges, ends_whole,
 use Rattle.actor_desk.specs.declared.ask.Ask.{Ask}
 use Rattle.actor_desk.specs.declared.ask.Ask.TheVariants as asks
 use Rattle.actor_desk.specs.declared.ask.Note.{Note}
-use Rattle.actor_desk.specs.declared.ask.Reply.{Reply}
 use Rattle.actor_desk.specs.declared.ask.Reply.TheVariants as replies
 use Rattle.actor_desk.specs.Books.{books_in}
 use Rattle.actor_desk.specs.Desk.{SixBooks, reply_of}
@@ -252,10 +251,6 @@ module _ (ask : Option Ask) (d e : Duo) (t : TurnShows ask d e) where
       )
 
 -- ---- nothing is refused
-
-either_untold : (c : Bool) (x y : Reply) → tells_refusal x ≡ false → tells_refusal y ≡ false → tells_refusal (if c then x else y) ≡ false
-either_untold true x y p q = p
-either_untold false x y p q = q
 
 granted_untold : (o : Result Span Why) (b : Sending) → tells_refusal (replies.Send (sending.reply_by o b)) ≡ false
 granted_untold (Ok span) b = refl

@@ -134,14 +134,6 @@ is_followed (d ∷ ds) = needs d ds && is_followed ds
 
 -- ---- templates
 
-emission_followed : (s : Side) → is_followed (emission s) ≡ true
-emission_followed A = refl
-emission_followed B = refl
-
-emission_owed : (s : Side) → is_owed s (emission s) ≡ true
-emission_owed A = refl
-emission_owed B = refl
-
 -- templates that have what the end of this side needs
 record IsOwedThere (s : Side) (ds : List Duty) : Type 0 where
   owed : is_owed s ds ≡ true
@@ -263,13 +255,6 @@ first_need d ds h = (and_parts (needs d ds) (is_followed ds) h).0
 
 rest_followed : (d : Duty) (ds : List Duty) → is_followed (d ∷ ds) ≡ true → is_followed ds ≡ true
 rest_followed d ds h = (and_parts (needs d ds) (is_followed ds) h).1
-
--- a side that this duty doesn't pay
-unpaid_side : (s t : Side) (ds : List Duty) → same_side s t ≡ false → (same_side s t || is_owed s ds) ≡ true → is_owed s ds ≡ true
-unpaid_side A B ds other owed = owed
-unpaid_side B A ds other owed = owed
-unpaid_side A A ds other owed = absurd (true≢false other)
-unpaid_side B B ds other owed = absurd (true≢false other)
 
 -- of the duties by which an end dies, the other side isn't paid
 others_none : (s : Side) (ds : List Duty) → none_owed ds ≡ true → (same_side (peer s) s || is_owed (peer s) ds) ≡ false
