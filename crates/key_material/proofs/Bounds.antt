@@ -1,4 +1,4 @@
--- What fits where: tokens and words in 32 bits, data numbers and truncated HMACs in 64, A's HMAC of a join in 20
+-- What fits where: tokens and words in 32 bits, truncated HMACs in 64, A's HMAC of a join in 20
 -- octets.
 use Rattle.std.proofs.Common.{◌≡◌, ℕ, ◌<◌, ◌^◌, List, length, take, drop, arith}
 use Rattle.std.specs.Int.{w16, w32, w64, from_be_bytes}
