@@ -98,10 +98,6 @@ pub none_put : (a : Option (List ℕ)) → HoldsAfter a a (λ held. held ++ [])
 none_put None = tt
 none_put (Some held) = ap Some (sym (append-nil held))
 
-pub no_part : (a b : Option (List ℕ)) (text : List ℕ) → b ≡ a → HoldsPrefix a b text
-no_part None b text same = tt
-no_part (Some held) b text same = (0, same ∙ ap Some (sym (append-nil held)))
-
 -- ---- faults
 
 pub put_fault_later : (old middle new : ℕ) (many : Many) → old ≤ middle → IsPutFault middle new many → IsPutFault old new many

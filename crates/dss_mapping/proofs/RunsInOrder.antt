@@ -1,7 +1,7 @@
 -- Runs in order: what is told of a position, and what a run does that is put in.
 use Rattle.std.proofs.Common.{◌≡◌, ◌≢◌, ℕ, ◌+◌, ◌-◌, ◌^◌, ◌<◌, ◌≤◌, Bool, true, false, max, min, nat_lt, cond, Option, Some, None, List, [], ◌∷◌, ◌++◌, length, take, drop, get_or, refl, sym, ap, ◌∙◌, subst, zero, suc, ⊎_elim, arith}
 use Rattle.std.specs.Prelude.{IfSome}
-use Rattle.std.specs.Option.{option_or, option_map}
+use Rattle.std.specs.Option.{option_or}
 use Rattle.std.specs.List.{prefix_len}
 use Rattle.std.specs.List.Sorted.{IsNonDecreasingBy}
 use Rattle.std.proofs.lemmas.Bool.Decides.{nat_tests}
@@ -71,13 +71,6 @@ none_in_tail (Some run) p s h = rw (behind run.pos p run.to (omega (arith, s.1, 
 
 pub none_at_the_end : (runs : List Run) (tail : Option Run) (p : ℕ) → AreOrdered 0 runs → IfSome tail IsSound → 2 ^ 64 ≤ p + 1 → place_by runs tail p ≡ None
 none_at_the_end runs tail p o s h = ap (λ o. option_or o (tail_at tail p)) (none_past 0 p runs o h) ∙ none_in_tail tail p s h
-
-pub place_from : (runs : List Run) (tail : Option Run) (at : ℕ) (stretch : Stretch) → IsStretch (place_by runs tail) at stretch → stretch.place ≡ place_by runs tail at
-place_from runs tail at stretch s = sym (s.each at (omega arith) s.onward ∙ first stretch.place)
-  where
-    first : (o : Option ℕ) → option_map (λ first. first + (at - at)) o ≡ o
-    first None = refl
-    first (Some q) = ap Some (omega arith)
 
 -- ---- runs that join
 record Joined (told run : Run) : Type 0 where

@@ -1,10 +1,10 @@
--- What fits where: tokens and words in 32 bits, data numbers and truncated HMACs in 64, A's HMAC of a join in 20
+-- What fits where: tokens and words in 32 bits, truncated HMACs in 64, A's HMAC of a join in 20
 -- octets.
 use Rattle.std.proofs.Common.{◌≡◌, ℕ, ◌<◌, ◌^◌, List, length, take, drop, arith}
 use Rattle.std.specs.Int.{w16, w32, w64, from_be_bytes}
 use Rattle.std.proofs.lemmas.List.{length-take}
 use Rattle.key_material.specs.declared.address.Address.{Address}
-use Rattle.key_material.specs.KeyDigest.{key_digest, token_of, idsn_of}
+use Rattle.key_material.specs.KeyDigest.{key_digest, token_of}
 use Rattle.key_material.specs.JoinHmac.{hmac_of_a, hmac_of_b, join_a160_of, join_b64_of}
 use Rattle.key_material.specs.AddressHmac.{address_hmac, add_addr64_of}
 use Rattle.key_material.specs.Drawing.{drawn_word}
@@ -27,9 +27,6 @@ from_be_bytes_8_below octets are =
 
 pub token_of_below : (key : ℕ) → token_of key < 2 ^ 32
 token_of_below key = from_be_bytes_4_below (take 4 (key_digest key)) (AreOctets-take 4 _ (IsDigest-key_digest key).octets)
-
-pub idsn_of_below : (key : ℕ) → idsn_of key < 2 ^ 64
-idsn_of_below key = from_be_bytes_8_below (drop 24 (key_digest key)) (AreOctets-drop 24 _ (IsDigest-key_digest key).octets)
 
 pub join_b64_of_below : (key_a key_b nonce_a nonce_b : ℕ) → join_b64_of key_a key_b nonce_a nonce_b < 2 ^ 64
 join_b64_of_below key_a key_b nonce_a nonce_b =

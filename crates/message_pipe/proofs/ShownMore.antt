@@ -98,16 +98,6 @@ none_more octets from held within = record { messages = []; have = tt; within = 
     by None = tt
     by (Some text) = ap (λ t. Some t) (sym (append-nil text))
 
-pub stays_at_first : (port : Port) (content : List ℕ → Option (List ℕ)) (held : Port → Option (List ℕ)) (faults : Port → ℕ) (loads : ℕ)
-    → StaysElsewhere port content content held held faults faults loads loads
-stays_at_first port content held faults loads = record {
-  told = λ name told. told;
-  counted = omega arith;
-  other_ports = λ other apart. refl;
-  other_counts = λ other apart. refl;
-  load_counts = refl;
-}
-
 pub stays_then : (port : Port) (c0 c1 c2 : List ℕ → Option (List ℕ)) (h0 h1 h2 : Port → Option (List ℕ)) (f0 f1 f2 : Port → ℕ) (l0 l1 l2 : ℕ)
     → StaysElsewhere port c0 c1 h0 h1 f0 f1 l0 l1 → StaysElsewhere port c1 c2 h1 h2 f1 f2 l1 l2 → StaysElsewhere port c0 c2 h0 h2 f0 f2 l0 l2
 stays_then port c0 c1 c2 h0 h1 h2 f0 f1 f2 l0 l1 l2 a b = record {

@@ -69,12 +69,6 @@ cut_out None middle new shown bound put = tt
 cut_out (Some held) middle new shown bound put =
     let some = subst (λ (o : Option (List ℕ)). HoldsPrefix o new shown) bound put in inr (some.0, some.1)
 
--- or all of it
-pub whole_out : (old middle new : Option (List ℕ)) (shown : List ℕ) → HoldsAfter old middle (λ _. []) → HoldsAfter middle new (λ held. held ++ shown)
-    → HoldsAfter old new (λ _. shown)
-whole_out None middle new shown bound put = tt
-whole_out (Some held) middle new shown bound put = subst (λ (o : Option (List ℕ)). HoldsAfter o new (λ held. held ++ shown)) bound put
-
 pub cut_put : {X : Type 0} (old middle new : Option (List ℕ)) (shown : List ℕ) → HoldsAfter old middle (λ _. []) → (r : Result X Status)
     → OnErr r (HoldsPrefix middle new shown) → OnErr r (HoldsCut old new shown)
 cut_put old middle new shown bound (Ok x) put = tt

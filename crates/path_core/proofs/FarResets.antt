@@ -194,7 +194,3 @@ pub near_or_far : (edge position : ℕ) → edge ≤ 2 ^ 31 → position < 2 ^ 3
 near_or_far edge position few low =
     ⊎_elim (λ near. inl (record { behind = omega (arith, ints, few); ahead = omega (arith, ints, near) })) (λ far. inr far)
     (cases_lt position (edge + 2 ^ 31))
-
--- that of number 0 is below 2^32
-pub zero_is_low : (c : Profile) (s : Side) → position_numbered c s 0 < 2 ^ 32
-zero_is_low c s = omega arith

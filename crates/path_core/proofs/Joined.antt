@@ -7,12 +7,9 @@ use Rattle.subflow_tcp.specs.States.{is_waiting}
 use Rattle.subflow_tcp.specs.Taking.{after_syn, unkept}
 use Rattle.actor_desk.specs.declared.ask.Reply.{Reply}
 use Rattle.path_agenda.specs.declared.keys.KeyPair.{KeyPair}
-use Rattle.path_core.specs.End.{PathEnd, died}
+use Rattle.path_core.specs.End.{PathEnd}
 use Rattle.path_core.specs.MpJoin.{never_joined, opened_by, syn_alone, is_listening, joined_by}
 use Rattle.path_core.proofs.Ranking.{Rests, same_rests}
-
-pub died_rests : (clock : ℕ) (e : PathEnd) → Rests clock e (died e)
-died_rests clock e = record { due = omega arith; timeout = λ some. some }
 
 pub never_rests : (clock : ℕ) (r : Reply) (e : PathEnd) → Rests clock e (never_joined r e)
 never_rests clock r e = record { due = omega arith; timeout = λ some. some }

@@ -47,9 +47,6 @@ pub record Settles (clock : ℕ) (t u : Timing) : Type 0 where
 pub to_rests : (clock : ℕ) (e f : PathEnd) → Settles clock e.tcp.timing f.tcp.timing → Rests clock e f
 to_rests clock e f settles = record { due = settles.due; timeout = settles.timeout }
 
-pub same_settles : (clock : ℕ) (t u : Timing) → u ≡ t → Settles clock t u
-same_settles clock t u same = record { due = rw same (omega arith); timeout = λ some. rw same some }
-
 -- ---- sendings
 
 pub sent_same : (occasion : Occasion) (now : ℕ) (s : EndState) → (after_sending occasion now s).timing ≡ s.timing

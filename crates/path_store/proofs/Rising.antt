@@ -40,14 +40,6 @@ pub rise_front : (xs ys : List GrantedPiece) → Rise (xs ++ ys) → Rise xs
 rise_front [] ys rise = tt
 rise_front (x ∷ xs) ys rise = (lowest_front x xs ys rise.0, rise_front xs ys rise.1)
 
-pub rise_rest : (pieces : List GrantedPiece) → Rise pieces → Rise (drop 1 pieces)
-rise_rest [] rise = tt
-rise_rest (x ∷ xs) rise = rise.1
-
-pub rise_none : (pieces : List GrantedPiece) → length pieces ≡ 0 → Rise pieces
-rise_none [] none = tt
-rise_none (x ∷ xs) none = absurd (omega (arith, none))
-
 -- ---- what was heard
 
 not_heard : (a b heard next : ℕ) → a ≤ b → nat_lt (max a heard) next ≡ false → nat_lt (max b heard) next ≡ false

@@ -17,18 +17,6 @@ lt_true a b h = grind (arith, nat_tests)
 pub lt_false : (a b : ℕ) → b ≤ a → nat_lt a b ≡ false
 lt_false a b h = grind (arith, nat_tests)
 
-pub true_le : (a b : ℕ) → nat_le a b ≡ true → a ≤ b
-true_le a b h = grind (arith, nat_tests)
-
-pub false_le : (a b : ℕ) → nat_le a b ≡ false → b < a
-false_le a b h = grind (arith, nat_tests)
-
-pub true_lt : (a b : ℕ) → nat_lt a b ≡ true → a < b
-true_lt a b h = grind (arith, nat_tests)
-
-pub false_lt : (a b : ℕ) → nat_lt a b ≡ false → b ≤ a
-false_lt a b h = grind (arith, nat_tests)
-
 module _ {M : Type 0} where
   -- side by side, the last run ends no sooner than the first begins
   pub side_by_side-le : (runs : List (Run M)) (from to : ℕ) → LieSideBySide from to runs → from ≤ to

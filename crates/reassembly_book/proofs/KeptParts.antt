@@ -27,11 +27,6 @@ drop-shown zero ring places within = refl
 drop-shown (suc n) [] places within = absurd (omega (arith, within))
 drop-shown (suc n) (byte ∷ ring) places within = drop-shown n ring places (omega (arith, within))
 
--- how far bytes have arrived without a gap is at most 2^62
-pub received-bound : (read : ℕ) (ring : List ℕ) (capacity : ℕ) (beyond : PlacedBytes) (known_end : Option ℕ) (aborted : Option Bool)
-    → IsKept read ring capacity beyond known_end aborted → read + length ring ≤ 2 ^ 62
-received-bound read ring capacity beyond known_end aborted is = omega (arith, is.bound)
-
 pub received-shown : (read : ℕ) (ring : List ℕ) (capacity : ℕ) (beyond : PlacedBytes) (known_end : Option ℕ) (aborted : Option Bool)
     → IsKept read ring capacity beyond known_end aborted → received (as_arriving read ring capacity beyond.places known_end aborted) ≡ read + length ring
 received-shown read ring capacity beyond known_end aborted is =
@@ -197,8 +192,3 @@ taken-room at bytes b taken some =
     open_is : (past known : Bool) → (if past then false else (if known then false else true)) ≡ true → past ≡ false
     open_is true known e = cc
     open_is false known e = refl
-
-pub ring-fits : (read : ℕ) (ring : List ℕ) (capacity : ℕ) (beyond : PlacedBytes) (known_end : Option ℕ) (aborted : Option Bool)
-    → IsKept read ring capacity beyond known_end aborted → length ring ≤ capacity
-ring-fits read ring capacity beyond known_end aborted is =
-    omega (arith, is.sound.fits, length-append (map Some ring) beyond.places, length-some ring)

@@ -5,7 +5,7 @@ use Rattle.atomic_table.specs.Seated.{TableId}
 use Rattle.ruled_desk.specs.declared.seats.Seats.{Seats}
 use Rattle.ruled_desk.specs.Parts.{AreLeft, EachHas, both_seats, one_part_less}
 use Rattle.ruled_desk.specs.Weighing.{bit}
-use Rattle.ruled_desk.specs.SixSeats.{SixLocked, SixKnown, AreOf, how_many, is_out, nobody_out, numbers_of, names_of}
+use Rattle.ruled_desk.specs.SixSeats.{SixLocked, SixKnown, AreOf, how_many, is_out, numbers_of, names_of}
 
 pub many-most : (out : List Bool) → how_many out ≤ length out
 many-most [] = omega arith
@@ -153,13 +153,3 @@ left_join out actor s t left has =
       control_a = omega (arith, fewer, left.control_a, has.control_a);
       control_b = omega (arith, fewer, left.control_b, has.control_b);
     }
-
-pub first_left : (s : Seats) → EachHas 1024 s → AreLeft nobody_out s
-first_left s has = record {
-  send_a = omega (arith, has.send_a);
-  send_b = omega (arith, has.send_b);
-  reassembly_a = omega (arith, has.reassembly_a);
-  reassembly_b = omega (arith, has.reassembly_b);
-  control_a = omega (arith, has.control_a);
-  control_b = omega (arith, has.control_b);
-}

@@ -19,12 +19,6 @@ IsPrefix-refl xs = record { rest = []; whole_is = sym (append-nil xs) }
 pub IsPrefix-append : (xs more : List ℕ) → IsPrefix xs (xs ++ more)
 IsPrefix-append xs more = record { rest = more; whole_is = refl }
 
-pub IsPrefix-trans : (xs ys zs : List ℕ) → IsPrefix xs ys → IsPrefix ys zs → IsPrefix xs zs
-IsPrefix-trans xs ys zs h k = record {
-  rest = h.rest ++ k.rest;
-  whole_is = k.whole_is ∙ ap (λ ws. ws ++ k.rest) h.whole_is ∙ append_assoc xs h.rest k.rest;
-}
-
 -- the same before both
 pub IsPrefix-behind : (prefix xs ys : List ℕ) → IsPrefix xs ys → IsPrefix (prefix ++ xs) (prefix ++ ys)
 IsPrefix-behind prefix xs ys h = record { rest = h.rest; whole_is = ap (λ zs. prefix ++ zs) h.whole_is ∙ sym (append_assoc prefix xs h.rest) }
@@ -111,11 +105,6 @@ part_held unbegun None b c low high h k = tt
 part_held unbegun (Some held) b c low high h k =
     let next : (more : List ℕ) × ((c ≡ Some ([] ++ more)) × IsBetween low high more) = subst (λ o. HoldsMore o c [] (IsBetween low high)) h k in
     inr next
-
--- a port that wasn't bound yet
-pub unbound_held : (unbegun : Type 0) (a b : Option (List ℕ)) (low high : List ℕ) → unbegun → b ≡ a → HoldsWithin unbegun a b low high
-unbound_held unbegun None b low high u same = tt
-unbound_held unbegun (Some held) b low high u same = inl (u, same)
 
 -- the text put behind what was held
 pub all_behind : (a b : Option (List ℕ)) (text : List ℕ) → HoldsMore a b [] (λ all. all ≡ text) → HoldsAfter a b (λ held. held ++ text)

@@ -23,16 +23,6 @@ pub record Gathers (order left : List Turn) (start w : WorldState (List ℕ)) (t
   pub behind : (n : ℕ) → world_run octets (take n left) w ≡ world_run octets (take (place + n) order) start
   pub whole : All IsWhole trace
 
-pub nothing_gathered : (order : List Turn) (start : WorldState (List ℕ)) → Gathers order order start start [] 0
-nothing_gathered order start = record {
-  told = refl;
-  run = refl;
-  lawful = λ lawful. lawful;
-  stops = λ n stops. let P : ℕ → Type 0 = λ m. StopsAt m order start in let e : n ≡ 0 + n = omega arith in subst P e stops;
-  behind = λ n. let e : n ≡ 0 + n = omega arith in ap (λ (m : ℕ). world_run octets (take m order) start) e;
-  whole = All-nil IsWhole;
-}
-
 pub all_whole : (o : Option Sent) → IfSome o IsWhole → All IsWhole (option_to_list o)
 all_whole None one = All-nil IsWhole
 all_whole (Some s) one = All-cons IsWhole s [] one (All-nil IsWhole)

@@ -60,9 +60,6 @@ form_rules = chosen mode_option ∷ chosen rounds_option ∷ chosen order_option
 abbrev pub shape : Shape
 shape = (built line_form).top
 
-pub rules_are : shape.rules ≡ form_rules
-rules_are = refl
-
 pub by_choice : (choice : Choice) → arg_by_id form_rules (label choice) ≡ Some (chosen choice)
 by_choice mode_option = refl
 by_choice rounds_option = refl

@@ -83,9 +83,6 @@ all_kept rows (p ∷ rest) = ap (λ r. fold with_default r (rules_by rest)) (kee
 abbrev form_ids : Ids
 form_ids = map (λ r. (r.id, (r.long, r.index))) form_rules
 
-rules_again : rules_by form_ids ≡ form_rules
-rules_again = refl
-
 abbrev pub found_in : List Text → Option (List Row)
 found_in words = parts_of None words >>= place 1 []
 

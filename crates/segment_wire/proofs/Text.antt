@@ -1,5 +1,5 @@
--- The text of a segment as a list: its length, its checksum field, and what reading it gives.
-use Rattle.std.proofs.Common.{◌≡◌, ℕ, ◌+◌, ◌/◌, ◌%◌, ◌++◌, length, set, refl, arith, length-append}
+-- How long the text of a segment is.
+use Rattle.std.proofs.Common.{◌≡◌, ℕ, ◌+◌, ◌++◌, length, refl, arith, length-append}
 use Rattle.segment_wire.specs.declared.head.Head.{Head}
 use Rattle.segment_wire.specs.Segment.{Segment, fixed_header, octets_with}
 
@@ -10,8 +10,3 @@ length-fixed_header checksum head options_len = refl
 pub length-octets_with : (checksum : ℕ) (segment : Segment) → length (octets_with checksum segment) ≡ 20 + length segment.options + length segment.payload
 length-octets_with checksum segment =
     omega (arith, length-append (fixed_header checksum segment.head (length segment.options)) (segment.options ++ segment.payload), length-append segment.options segment.payload, length-fixed_header checksum segment.head (length segment.options))
-
--- the checksum put in afterwards
-pub octets_with-put : (checksum : ℕ) (segment : Segment) → set (set (octets_with 0 segment) 16 (checksum / 256 % 256)) 17 (checksum % 256) ≡ octets_with checksum segment
-unfolding fixed_header
-octets_with-put checksum segment = refl

@@ -15,10 +15,6 @@ joined-append (p ∷ ps) qs = ap (λ (rest : List ℕ). p.octets ++ rest) (joine
 pub joined-push : (ps : List Part) (p : Part) → joined (ps ++ p ∷ []) ≡ joined ps ++ p.octets
 joined-push ps p = joined-append ps (p ∷ []) ∙ ap (λ (rest : List ℕ). joined ps ++ rest) (append-nil p.octets)
 
-pub append-none : (xs ys : List ℕ) → length ys ≡ 0 → xs ≡ xs ++ ys
-append-none xs [] e = sym (append-nil xs)
-append-none xs (y ∷ ys) e = absurd (omega arith)
-
 pub follow-push : (at : ℕ) (ps : List Part) (p : Part) → Follow at ps → p.end ≡ at + length (joined ps) + length p.octets → Follow at (ps ++ p ∷ [])
 follow-push at [] p f e = (omega (arith, e), tt)
 follow-push at (q ∷ ps) p f e = (f.0, follow-push q.end ps p f.1 (omega (arith, e, f.0, length-append q.octets (joined ps))))

@@ -1,8 +1,7 @@
--- A number, read beside an expected position or number near the one that it was made of, gives that one back; and
--- what is read is what the number means.
-use Rattle.std.proofs.Common.{◌≡◌, ◌^◌, ◌<◌, ℕ, pos, Some, arith}
+-- A number, read beside an expected position or number near the one that it was made of, gives that one back.
+use Rattle.std.proofs.Common.{◌^◌, arith}
 use Rattle.std.proofs.lemmas.Int.{ints}
-use Rattle.seq_units.specs.Number.{IsMeant, position_near}
+use Rattle.seq_units.specs.Number.{position_near}
 use Rattle.seq_units.specs.Widening.{widened}
 use Rattle.seq_units.specs.Laws.{NumberIsReadBack, LowHalfIsWidenedBack}
 
@@ -17,13 +16,3 @@ position_near-number_of_64 base expected p near = grind (arith, ints)
 pub widened-low_half : LowHalfIsWidenedBack
 unfolding widened
 widened-low_half expected wide distance near numbered = grind (arith, ints)
-
-pub IsMeant-position_near_32 : (base expected number p : ℕ) → number < 2 ^ 32
-    → position_near (2 ^ 32) base expected number ≡ Some p → IsMeant (2 ^ 32) base expected number (pos p)
-unfolding position_near
-IsMeant-position_near_32 base expected number p fits read = grind (arith, ints)
-
-pub IsMeant-position_near_64 : (base expected number p : ℕ) → number < 2 ^ 64
-    → position_near (2 ^ 64) base expected number ≡ Some p → IsMeant (2 ^ 64) base expected number (pos p)
-unfolding position_near
-IsMeant-position_near_64 base expected number p fits read = grind (arith, ints)

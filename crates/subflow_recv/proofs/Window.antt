@@ -55,9 +55,6 @@ cut-le (suc n) (None ∷ places) = shorter (cut n places) (cut-le n places)
 pub fits-cut : (window n : ℕ) (places : List (Option ℕ)) → length places ≤ window → length (cut n places) ≤ window
 fits-cut window n places h = omega (arith, cut-le n places)
 
-pub fits-drop : (window n : ℕ) (places : List (Option ℕ)) → length places ≤ window → length (drop n places) ≤ window
-fits-drop window n places h = omega (arith, length-drop n places)
-
 -- ---- a payload that is outside
 take-none : (n : ℕ) (bytes : List ℕ) → n ≡ 0 → take n bytes ≡ []
 take-none n bytes e = rw e refl

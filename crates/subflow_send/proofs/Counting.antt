@@ -6,7 +6,7 @@ use Rattle.subflow_send.specs.declared.pieces.Piece.{Piece}
 use Rattle.subflow_send.specs.declared.record.Sending.{Sending}
 use Rattle.subflow_send.specs.Sendings.{first_at_an_expiry}
 use Rattle.subflow_send.specs.Rules.{first_sent}
-use Rattle.subflow_send.specs.Pieces.{piece_record, sent_piece, sent_pieces, piece_len, piece_under_way, is_unsent_piece, unsent_piece, uncovered_pieces, first_is_covered, IsCounted}
+use Rattle.subflow_send.specs.Pieces.{piece_record, sent_piece, sent_pieces, piece_len, piece_under_way, is_unsent_piece, unsent_piece, IsCounted}
 use Rattle.subflow_send.proofs.PieceLoops.{sent_pieces_at}
 
 pub some_left : (n : ℕ) → false ≡ (n == 0) → 0 < n
@@ -22,14 +22,6 @@ counted-pop p ps s u s' u' kept e f = record {
 
 pub under_way-first : (p : Piece) (ps : List Piece) (s u : ℕ) → IsCounted (p ∷ ps) s u → piece_under_way p ≤ u
 under_way-first p ps s u kept = omega (arith, kept.octets, sum_by-cons piece_under_way p ps)
-
-pub covered_first : (pos : ℕ) (ps : List Piece) → first_is_covered pos ps ≡ true → (uncovered_pieces pos (drop 1 ps) ≡ uncovered_pieces pos ps) × (length (drop 1 ps) < length ps)
-covered_first pos [] e = cc
-covered_first pos (p ∷ ps) e = (rw e refl, omega arith)
-
-pub uncovered_first : (pos : ℕ) (ps : List Piece) → first_is_covered pos ps ≡ false → ps ≡ uncovered_pieces pos ps
-uncovered_first pos [] e = refl
-uncovered_first pos (p ∷ ps) e = rw e refl
 
 -- ---- an expiry
 none_under_way : (ps : List Piece) → sum_by piece_under_way (map unsent_piece ps) ≡ 0

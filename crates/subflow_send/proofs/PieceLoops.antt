@@ -4,7 +4,6 @@ use Rattle.std.specs.Prelude.{slice_get, unwrap_or}
 use Rattle.std.specs.List.{list_any, sum_by}
 use Rattle.std.specs.Option.{option_map}
 use Rattle.std.proofs.lemmas.Bool.Decides.{nat_tests}
-use Rattle.std.proofs.lemmas.List.{get_or_read}
 use Rattle.std.proofs.lemmas.List.Sums.{sum_by-cons}
 use Rattle.subflow_send.specs.declared.pieces.Piece.{Piece}
 use Rattle.subflow_send.specs.declared.record.Sending.{Sending}
@@ -146,19 +145,6 @@ last_covered_at pos (p ∷ ps) (suc (suc i)) le before here =
     (own ∙ sym (sending_or (last_covered pos (map piece_record ps)) (piece_record p) (get_or ps i p).sending (sym rest ∙ own)))
 
 -- ---- as the code reads and writes them
-pub sent_pieces_read : (now : ℕ) (ps items : List Piece) (i : ℕ) (test read written : Piece) (s : Sending) → items ≡ ps → i < length items
-    → ((k : ℕ) (d : Piece) → k < i → is_unsent_piece (get_or items k d) ≡ false)
-    → test ≡ get_or items i test → is_unsent_piece test ≡ true → read ≡ get_or items i read → s ≡ sent_again now read.sending → written ≡ get_or items i written
-    → (set items i (record written { sending = s }) ≡ sent_pieces now ps) × (list_any is_unsent_piece ps ≡ true)
-sent_pieces_read now ps items i test read written s same lt before seen unsent again e now_is =
-    let here = ap is_unsent_piece (sym (get_or_read items i test lt seen written)) ∙ unsent in
-    let done = sent_pieces_at now items i written lt before here in
-    let sending : s ≡ sent_again now (get_or items i written).sending = e ∙ ap (λ (p : Piece). sent_again now p.sending) (get_or_read items i read lt again written) in (
-      ap (λ (t : Sending). set items i (record written { sending = t })) sending
-          ∙ ap (λ (p : Piece). set items i (record p { sending = sent_again now (get_or items i written).sending })) now_is
-          ∙ done.0 ∙ ap (sent_pieces now) same,
-      ap (list_any is_unsent_piece) (sym same) ∙ done.1,
-    )
 
 map-unsent : (ps : List Piece) → map piece_record (map unsent_piece ps) ≡ map unsent_again (map piece_record ps)
 map-unsent [] = refl

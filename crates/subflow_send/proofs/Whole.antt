@@ -111,22 +111,8 @@ find_all syn ps pos fin =
 record_sent : ℕ → Record → Record
 record_sent now r = record r { sending = sent_again now r.sending }
 
-sent-syn : (now : ℕ) (s : Sending) (rest : List Record) → s.unsent ≡ true → first_unsent_sent now (syn_record s ∷ rest) ≡ syn_record (sent_again now s) ∷ rest
-sent-syn now s rest e = ap (λ (b : Bool). if b then syn_record (sent_again now s) ∷ rest else syn_record s ∷ first_unsent_sent now rest) e
-
 sent-pass : (now : ℕ) (r : Record) (rest : List Record) → r.sending.unsent ≡ false → first_unsent_sent now (r ∷ rest) ≡ r ∷ first_unsent_sent now rest
 sent-pass now r rest e = ap (λ (b : Bool). if b then (record r { sending = sent_again now r.sending }) ∷ rest else r ∷ first_unsent_sent now rest) e
-
-unsent-some : (s t : Sending) → (b : Bool) → s.unsent ≡ b → (if b then Some s else None) ≡ Some t → (b ≡ true) × (s ≡ t)
-unsent-some s t true e f = (refl, cc)
-unsent-some s t false e f = cc
-
-pub sent_all-syn : (now : ℕ) (syn : Option Sending) (ps : List Piece) (pos : ℕ) (fin : Option Sending) (s : Sending) → unsent_sending syn ≡ Some s
-    → (first_unsent_sent now (all_records syn ps pos fin) ≡ all_records (Some (sent_again now s)) ps pos fin) × (is_some syn ≡ true)
-sent_all-syn now None ps pos fin s e = cc
-sent_all-syn now (Some t) ps pos fin s e =
-    let both = unsent-some t s t.unsent refl e in
-    (sent-syn now t (map piece_record ps ++ fin_records pos fin) both.0 ∙ ap (λ (u : Sending). syn_record (sent_again now u) ∷ (map piece_record ps ++ fin_records pos fin)) both.1, refl)
 
 unsent-none : (s : Sending) → (b : Bool) → s.unsent ≡ b → (if b then Some s else None) ≡ None → s.unsent ≡ false
 unsent-none s true e f = cc
@@ -141,10 +127,6 @@ pieces-flag : (b : Bool) (now : ℕ) (p : Piece) (ps more : List Piece) (rest : 
     ≡ map piece_record (if b then record p { sending = sent_again now p.sending } ∷ ps else p ∷ more) ++ rest
 pieces-flag true now p ps more rest e = refl
 pieces-flag false now p ps more rest e = ap (λ (t : List Record). piece_record p ∷ t) (e refl)
-
-or_flag : (b c : Bool) → (if b then true else c) ≡ true → b ≡ false → c ≡ true
-or_flag true c e f = cc
-or_flag false c e f = e
 
 sent-pieces : (now : ℕ) (ps : List Piece) (rest : List Record) → list_any is_unsent_piece ps ≡ true
     → first_unsent_sent now (map piece_record ps ++ rest) ≡ map piece_record (sent_pieces now ps) ++ rest
@@ -207,20 +189,6 @@ expired_all-syn s ps ps' pos fin e =
     (ap (λ (t : List Record). t ++ fin_records pos (option_map to_be_sent fin)) e
     ∙ ap (λ (t : List Record). map unsent_again (map piece_record ps) ++ t) (sym (fin-unsent pos fin))
     ∙ sym (map-append unsent_again (map piece_record ps) (fin_records pos fin)))
-
-pub expired_all-pieces : (ps ps' : List Piece) (pos : ℕ) (fin : Option Sending) → 0 < length ps → map piece_record ps' ≡ expired_records (map piece_record ps)
-    → all_records None ps' pos (option_map to_be_sent fin) ≡ expired_records (all_records None ps pos fin)
-expired_all-pieces [] ps' pos fin some e = absurd (omega arith)
-expired_all-pieces (p ∷ ps) ps' pos fin some e =
-    ap (λ (t : List Record). t ++ fin_records pos (option_map to_be_sent fin)) e
-    ∙ ap (λ (t : List Record). (record (piece_record p) { sending = first_at_an_expiry p.sending }) ∷ t)
-    (ap (λ (t : List Record). map unsent_again (map piece_record ps) ++ t) (sym (fin-unsent pos fin))
-    ∙ sym (map-append unsent_again (map piece_record ps) (fin_records pos fin)))
-
-pub no_pieces : (ps ps' : List Piece) → length ps ≡ 0 → map piece_record ps' ≡ expired_records (map piece_record ps) → (ps ≡ []) × (ps' ≡ [])
-no_pieces [] [] none e = (refl, refl)
-no_pieces [] (p ∷ ps) none e = cc
-no_pieces (p ∷ ps) ps' none e = absurd (omega arith)
 
 -- ---- octets under way
 none_if : (b : Bool) (n : ℕ) → n ≡ 0 → (if b then 0 else n) ≡ 0

@@ -13,17 +13,10 @@ use Rattle.subflow_tcp.specs.Judging.{is_syn_alone, is_repeated_syn, is_in_windo
 use Rattle.subflow_tcp.specs.Taking.{after_keeping_for, is_kept}
 
 -- ---- where a segment may stand that is taken
-or-left : (a b : Bool) → (a || b) ≡ false → a ≡ false
-or-left true b e = e
-or-left false b e = refl
 
 or-right : (a b : Bool) → (a || b) ≡ false → b ≡ false
 or-right true b e = absurd (true≢false e)
 or-right false b e = e
-
-and-left : (a b : Bool) → (a && b) ≡ true → a ≡ true
-and-left true b e = refl
-and-left false b e = e
 
 and-right : (a b : Bool) → (a && b) ≡ true → b ≡ true
 and-right true b e = e
@@ -182,21 +175,6 @@ open-meant c s meaning told e opens = by s.send.finished told
     by : (b : Bool) → IsFinTold b s.state → b ≡ false
     by false h = refl
     by true h = absurd (opens (subst OpensNothing (sym e) (stays-meant s.state c s h)))
-
-pub open-where_it_may_finish : (finished : Bool) (state : State) → IsFinTold finished state → may_finish state ≡ true → finished ≡ false
-open-where_it_may_finish false state told may = refl
-open-where_it_may_finish true states.Dead told may = absurd (true≢false (sym may))
-open-where_it_may_finish true states.Waiting told may = absurd (true≢false (sym may))
-open-where_it_may_finish true states.Listen told may = absurd (true≢false (sym may))
-open-where_it_may_finish true states.SynSent told may = absurd (true≢false (sym may))
-open-where_it_may_finish true states.SynReceived told may = absurd (true≢false (sym may))
-open-where_it_may_finish true states.Established told may = absurd (true≢false (sym told))
-open-where_it_may_finish true states.CloseWait told may = absurd (true≢false (sym told))
-open-where_it_may_finish true states.FinWait1 told may = absurd (true≢false (sym may))
-open-where_it_may_finish true states.FinWait2 told may = absurd (true≢false (sym may))
-open-where_it_may_finish true states.Closing told may = absurd (true≢false (sym may))
-open-where_it_may_finish true states.LastAck told may = absurd (true≢false (sym may))
-open-where_it_may_finish true states.TimeWait told may = absurd (true≢false (sym may))
 
 -- ---- a payload that is kept first
 abbrev beside : List (Option ℕ) → Option (List (Option ℕ)) → EndState → EndState

@@ -98,7 +98,7 @@ fn put_answer(case: &mut Case<'_>, end: &mut Subflow, line: &str) {
         }
         "pair" => {
             case.put(line);
-            case.put(" = ");
+            case.put(" =");
             pair_cases::pair(case);
         }
         name => put_wire_answer(case, name),

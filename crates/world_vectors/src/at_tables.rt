@@ -18,6 +18,7 @@ use stamped_book::{Book, Pass, Refusal, Stamped};
 use std::alloc::AllocError;
 use std::sync::Wait;
 use std::thread::Threads;
+use world_core::World;
 
 /// Puts the answer to a line.
 pub fn at_tables<'a, R: Threads + Wait + Sync>(rt: &R, case: &mut Case<'a>, line: &'a str) {
@@ -37,9 +38,15 @@ pub fn at_tables<'a, R: Threads + Wait + Sync>(rt: &R, case: &mut Case<'a>, line
         Ok(books) => {
             let books = after_rounds(rt, case, rounds, known, books);
             put_books(case, &books);
+            let_go(case, books);
         }
         Err(_) => case.fail(),
     }
+}
+
+/// Lets the books go, as those of a world without actors.
+fn let_go(case: &Case<'_>, books: Books) {
+    World::from_parts(books, Vec::new(case.alloc), true).close();
 }
 
 /// All rounds: the books after them.

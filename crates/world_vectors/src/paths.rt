@@ -122,9 +122,6 @@ fn put_run(case: &mut Case<'_>, told: &Told<'_>, input: &Input)
     };
     let (mut books, mut crew) = world.into_parts();
     make_rounds(case, told, &mut log, &mut books, &mut crew);
-    if crew.len() >= 32 {
-        return case.refuse();
-    }
     put_end(case, told, log, World::from_parts(books, crew, true));
 }
 

@@ -31,6 +31,7 @@ pub fn table(case: &mut Case<'_>, line: &str) {
         case.read(call, ":");
         put_call(case, &mut table);
     }
+    table.close();
 }
 
 /// One call.

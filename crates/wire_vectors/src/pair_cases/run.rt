@@ -119,7 +119,7 @@ impl Run {
 
     /// Puts what the sides received, and how their ends stand.
     pub fn put_ends(&self, case: &mut Case<'_>) {
-        case.put("A ");
+        case.put(" A ");
         self.a.put_outcome(case);
         case.put(", B ");
         self.b.put_outcome(case);
@@ -127,7 +127,7 @@ impl Run {
 
     /// Puts how many segments the sides sent.
     pub fn put_segments(&self, case: &mut Case<'_>) {
-        case.put("A ");
+        case.put(" A ");
         let (a, b) = (
             self.link.segments_sent(Side::A),
             self.link.segments_sent(Side::B),
