@@ -1,36 +1,73 @@
 -- What each path is at every moment, over links that alter no payload, for who reads what it sends.
-use Rattle.trace_laws.proofs.Words.{◌≡◌, refl, sym, ◌∙◌, ap, subst, ℕ, zero, suc, ◌+◌, ◌^◌, ◌<◌, ◌≤◌, ◌⊎◌, inl, inr, ⊎_elim, Bool, true, false, Result, Ok, Err}
-use Rattle.trace_laws.proofs.Words.{Option, Some, None, option_map, option_and_then, List, [], ◌∷◌, ◌++◌, length, length-append, map, arith, ◌==◌, ◌&&◌, ◌%◌}
-use Rattle.trace_laws.proofs.Words.{not, ◌||◌, and_parts, both_ways, false≢true, slice_get, same_Some, slice_get_within, IfSome, idsn_of, Side, A, B, Segment}
-use Rattle.trace_laws.proofs.Words.{SegmentFault, Record, is_unsent, Syn, Data, Fin, Sent, carried_in, carried_of, initial_in, shifts_after, initial_at, EndsBy}
-use Rattle.trace_laws.proofs.Words.{Base, PathInitials, meaning_in, PlainSegment, numbers_of, whole_number, Duty, pick, books_in, SixBooks, first_unsent}
-use Rattle.trace_laws.proofs.Words.{PathEnd, PathState, end_at, path_of, record_or_ack, record_said, departing_as, first_sends, departing, made, octets, values}
-use Rattle.trace_laws.proofs.Words.{Departing, is_first_piece, place_numbered, Profile, Every, in_map, Every-append, Every-nil, Holds, LaneHolds, View, view_of}
-use Rattle.trace_laws.proofs.Words.{Lane, Duo, flags_ab, flags_ba, after_events, PathPlan, Start, opened_world, path_begins, IsPlain, NumbersFit, Actor}
-use Rattle.trace_laws.proofs.Words.{ActorCrew, WorldState, Turn, after_turn, world_run, each_actor, path_actor, writes_the_files, IsSteady, WorldShows}
-use Rattle.trace_laws.proofs.Words.{first_duo, plainly, plainly_free, PathIsSteady, PathThere, StandsSo, duo_of, free_run, run_fresh, initials_of}
-use Rattle.trace_laws.proofs.Words.{plan_initials, sent_as, sent_at, sent_by, sent_next, trace_of, base_from}
-use Rattle.std.specs.Option.{option_to_list}
+use Rattle.std.proofs.Common.{◌≡◌, refl, sym, ◌∙◌, ap, subst, ℕ, zero, suc, ◌%◌, ◌==◌, ◌&&◌, ◌||◌, ◌^◌, ◌<◌, ◌≤◌, ◌⊎◌, inl, inr, ⊎_elim, Bool, true, false, not, Result, Ok, Err, Option, Some, None, option_map, option_and_then, List, [], ◌∷◌, length, length-append, arith}
+use Rattle.std.specs.List.{slice_get}
+use Rattle.std.specs.Option.{IfSome, option_to_list}
+use Rattle.std.proofs.lemmas.Bool.{and_parts, both_ways, false≢true}
+use Rattle.std.proofs.lemmas.Option.{same_Some, slice_get_within}
+use Rattle.sides.specs.declared.side.Side.{Side}
+use Rattle.sides.specs.declared.side.Side.TheVariants.{A, B}
 use Rattle.octet_text.specs.Prefix.{IsPrefix}
+use Rattle.key_material.specs.KeyDigest.{idsn_of}
+use Rattle.segment_wire.specs.declared.reading.SegmentFault.{SegmentFault}
+use Rattle.segment_wire.specs.Segment.{Segment}
+use Rattle.path_segments.specs.Spelling.{numbers_of}
 use Rattle.subflow_send.specs.declared.record.RecordKind.{RecordKind}
+use Rattle.subflow_send.specs.declared.record.RecordKind.TheVariants.{Syn, Data, Fin}
+use Rattle.subflow_send.specs.Records.{Record}
+use Rattle.subflow_send.specs.Rules.{is_unsent}
+use Rattle.stream_lanes.specs.Duo.{Duo, after_events, flags_ab, flags_ba}
+use Rattle.stream_lanes.specs.Holding.{Holds, LaneHolds}
+use Rattle.stream_lanes.specs.Lane.{Lane}
+use Rattle.stream_lanes.specs.View.{View, view_of}
+use Rattle.stream_lanes.specs.Words.{Every}
 use Rattle.stream_lanes.proofs.Duos.{any_held, fallen_ab}
+use Rattle.stream_lanes.proofs.Lists.{Every-append, Every-nil, in_map}
+use Rattle.actor_desk.specs.Books.{books_in}
+use Rattle.actor_desk.specs.Desk.{SixBooks}
+use Rattle.actor_desk.specs.Words.{pick}
+use Rattle.link_trace.specs.declared.carried.Base.{Base}
+use Rattle.link_trace.specs.declared.carried.PathInitials.{PathInitials}
+use Rattle.link_trace.specs.declared.sent.Sent.{Sent}
+use Rattle.link_trace.specs.Carrying.{carried_in, carried_of, initial_at, initial_in, shifts_after}
+use Rattle.link_trace.specs.FirstOctets.{EndsBy}
+use Rattle.link_trace.specs.Meanings.{meaning_in}
 use Rattle.path_store.specs.declared.infinite_mapping.InfiniteMapping.{InfiniteMapping}
+use Rattle.path_core.specs.declared.looking.Departing.{Departing}
+use Rattle.path_agenda.specs.declared.duty.Duty.{Duty}
+use Rattle.path_core.specs.Emission.{first_unsent}
+use Rattle.path_core.specs.End.{PathEnd}
+use Rattle.path_core.specs.Looking.{departing, departing_as, first_sends}
+use Rattle.path_core.specs.Octets.{made, octets}
+use Rattle.path_core.specs.DssOut.{place_numbered}
+use Rattle.path_core.specs.OptionsOut.{record_or_ack, record_said}
 use Rattle.path_core.specs.Shown.{shown_path}
-use Rattle.path_core.specs.Values.{Carried}
+use Rattle.path_core.specs.State.{PathState, end_at, path_of}
+use Rattle.path_core.specs.Profile.{Profile}
+use Rattle.path_core.specs.Values.{Carried, values}
 use Rattle.path_core.specs.Choices.{is_side_a}
+use Rattle.run_trace.specs.Initials.{initials_of, plan_initials}
+use Rattle.run_trace.specs.Trace.{sent_as, sent_at, sent_by, sent_next, trace_of}
 use Rattle.world_core.specs.Looking.{crew_path, member_path}
 use Rattle.world_laws.specs.declared.member.Member.TheVariants.{App, Path}
-use Rattle.world_laws.specs.Fresh.{shown_crew, shown_member, shown_world}
+use Rattle.world_laws.specs.Actors.{Actor, ActorCrew}
+use Rattle.world_laws.specs.Fresh.{shown_crew, shown_member}
+use Rattle.world_laws.specs.Openings.{PathPlan, Start, opened_world, path_begins}
+use Rattle.world_laws.specs.Promises.{IsPlain, NumbersFit}
+use Rattle.world_laws.specs.Worlds.{Turn, WorldState, after_turn, world_run}
 use Rattle.world_laws.proofs.Lanes.Beginning.{each_run_shows}
-use Rattle.world_laws.proofs.Worlds.Casts.{Walker, walking, world_of}
+use Rattle.world_laws.proofs.Worlds.CastLifting.{each_actor, path_actor, writes_the_files}
+use Rattle.world_laws.proofs.Worlds.Casts.{Walker, walking}
 use Rattle.world_laws.proofs.Lanes.Doing.{place_is}
+use Rattle.world_laws.proofs.Lanes.OfAWorld.{IsSteady, PathIsSteady, PathThere, StandsSo, WorldShows, duo_of, first_duo, free_run, plainly, plainly_free}
+use Rattle.world_laws.proofs.Promises.Made.{run_fresh}
 use Rattle.world_laws.proofs.Lanes.Records.{every_find}
 use Rattle.world_laws.proofs.Lanes.Saying.{every_one}
-use Rattle.world_laws.proofs.Lanes.Showing.{EndShows, KindShows, OwnIs, RecordShows}
+use Rattle.world_laws.proofs.Lanes.Showing.{EndShows, KindShows, OwnIs}
 use Rattle.world_laws.proofs.Worlds.Steady.{always_steady}
 use Rattle.world_laws.proofs.Numbers.TellSmall.{EndTells, RecordKindTells, RecordTells}
 use Rattle.world_laws.proofs.Numbers.PathSteps.{PathTells}
 use Rattle.world_laws.proofs.Numbers.EveryTurn.{WorldTells, always_tells}
+use Rattle.trace_laws.specs.Counting.{base_from}
 use Rattle.trace_laws.proofs.Handing.{SendsNext}
 use Rattle.trace_laws.proofs.PayloadsPlaced.{DataFacts, EndFacts, RecordFacts, Sends, alone_at, by_duty, payload_placed, sent_ends, some_sent, written_within}
 use Rattle.trace_laws.proofs.ReadingBack.{Placed}

@@ -1,34 +1,70 @@
 -- Over links that alter no payload each segment with a payload tells where it stands in its side's file.
-use Rattle.trace_laws.proofs.Words.{◌≡◌, refl, sym, ◌∙◌, ap, subst, ℕ, suc, ◌+◌, ◌-◌, ◌^◌, ◌<◌, ◌≤◌, ◌⊎◌, inl, inr, Bool, true, false, if◌then◌else◌, Result}
-use Rattle.trace_laws.proofs.Words.{Ok, Err, Option, Some, None, option_map, List, [], ◌∷◌, length, arith, ◌%◌, All, slice_get, slice_get_within, IfSome}
-use Rattle.trace_laws.proofs.Words.{idsn_of, Side, A, B, has_broken_option, has_wrong_checksum, has_wrong_offset, is_short, segment_in, segment_meaning}
-use Rattle.trace_laws.proofs.Words.{Segment, SegmentFault, Record, is_unsent, Syn, Data, has_records, Sent, carried_in, carried_of, first_byte, first_number}
-use Rattle.trace_laws.proofs.Words.{initial_in, place_mapped, shifts_after, EndsBy, Base, PathInitials, meaning_in, PlainSegment, CanSayOption, numbers_of}
-use Rattle.trace_laws.proofs.Words.{Duty, StepDuty, pick, first_unsent, ack_resent, answer_said, first_record, resend_said, PathEnd, PathState, end_at, path_of}
-use Rattle.trace_laws.proofs.Words.{ack_said, carried_said, noted_said, record_options, record_or_ack, record_said, reset_said, syn_ack_said, item_of}
-use Rattle.trace_laws.proofs.Words.{broken_by, departing_as, duty_sends, heard_sends, unsent_sends, made, octets, Departing, checksum_told, first_piece_options}
-use Rattle.trace_laws.proofs.Words.{infinite_or, is_first_piece, mapped_options, owes_mapping, piece_mapping, piece_options, place_numbered, plain_options}
-use Rattle.trace_laws.proofs.Words.{Profile, Every, in_map, LaneHolds, IsHonest, IsRight, View, Cell, Lane, Mapping, Start, initials_of, base_from, payload_in}
+use Rattle.std.proofs.Common.{◌≡◌, refl, sym, ◌∙◌, ap, subst, ℕ, suc, ◌+◌, ◌-◌, ◌%◌, ◌^◌, ◌<◌, ◌≤◌, ◌⊎◌, inl, inr, Bool, true, false, if◌then◌else◌, Result, Ok, Err, Option, Some, None, option_map, List, [], ◌∷◌, length, All, arith}
+use Rattle.std.specs.List.{slice_get}
+use Rattle.std.specs.Option.{IfSome}
 use Rattle.std.proofs.lemmas.List.Elements.{All-head}
+use Rattle.std.proofs.lemmas.Option.{slice_get_within}
+use Rattle.sides.specs.declared.side.Side.{Side}
+use Rattle.sides.specs.declared.side.Side.TheVariants.{A, B}
+use Rattle.key_material.specs.KeyDigest.{idsn_of}
 use Rattle.segment_wire.specs.declared.head.Addresses.{Addresses}
+use Rattle.segment_wire.specs.declared.reading.SegmentFault.{SegmentFault}
 use Rattle.segment_wire.specs.declared.reading.SegmentFault.TheVariants.{Short, DataOffset, OptionLength, Checksum}
+use Rattle.segment_wire.specs.Reading.{has_broken_option, has_wrong_checksum, has_wrong_offset, is_short, segment_in, segment_meaning}
+use Rattle.segment_wire.specs.Segment.{Segment}
 use Rattle.path_segments.specs.Options.{PlainOption}
+use Rattle.path_segments.specs.Spelled.{CanSayOption, PlainSegment}
+use Rattle.path_segments.specs.Spelling.{numbers_of}
+use Rattle.subflow_send.specs.declared.record.RecordKind.TheVariants.{Data}
+use Rattle.subflow_send.specs.Records.{Record}
+use Rattle.subflow_send.specs.Rules.{is_unsent}
 use Rattle.subflow_tcp.specs.Emitting.{is_syn}
+use Rattle.subflow_tcp.specs.State.{has_records}
+use Rattle.stream_lanes.specs.Holding.{IsHonest, IsRight, LaneHolds}
+use Rattle.stream_lanes.specs.Lane.{Cell, Lane, Mapping}
+use Rattle.stream_lanes.specs.View.{View}
+use Rattle.stream_lanes.specs.Words.{Every}
+use Rattle.stream_lanes.proofs.Lists.{in_map}
+use Rattle.actor_desk.specs.Words.{pick}
+use Rattle.link_trace.specs.declared.carried.Base.{Base}
+use Rattle.link_trace.specs.declared.carried.PathInitials.{PathInitials}
+use Rattle.link_trace.specs.declared.sent.Sent.{Sent}
+use Rattle.link_trace.specs.Carrying.{carried_in, carried_of, first_byte, first_number, initial_in, place_mapped, shifts_after}
+use Rattle.link_trace.specs.FirstOctets.{EndsBy}
+use Rattle.link_trace.specs.Meanings.{meaning_in}
 use Rattle.path_agenda.specs.Words.{first_of}
 use Rattle.path_store.specs.declared.infinite_mapping.InfiniteMapping.{InfiniteMapping}
+use Rattle.path_core.specs.declared.looking.Departing.{Departing}
+use Rattle.path_core.specs.Emission.{first_unsent, ack_resent, answer_said, first_record, resend_said}
+use Rattle.path_core.specs.End.{PathEnd}
+use Rattle.path_core.specs.Looking.{broken_by, departing_as, duty_sends, heard_sends, unsent_sends}
 use Rattle.path_core.specs.Fallback.{breaks_by_ack}
 use Rattle.path_core.specs.DssIn.{is_clash}
-use Rattle.path_agenda.specs.declared.duty.SendDuty.{SendDuty}
+use Rattle.path_core.specs.Treating.{item_of}
+use Rattle.path_agenda.specs.declared.duty.Duty.{Duty}
+use Rattle.path_agenda.specs.declared.duty.Duty.TheVariants as duties
+use Rattle.path_agenda.specs.declared.duty.SendDuty.TheVariants as sends_of
+use Rattle.path_agenda.specs.declared.duty.StepDuty.TheVariants as steps_of
 use Rattle.path_agenda.specs.declared.heard.Heard.{Heard}
+use Rattle.path_agenda.specs.declared.heard.Heard.TheVariants as says
 use Rattle.link_trace.specs.declared.carried.Carried.{Carried}
+use Rattle.path_core.specs.Octets.{made}
+use Rattle.path_core.specs.OptionsOut.{ack_said, carried_said, noted_said, record_options, record_or_ack, record_said, reset_said, syn_ack_said}
+use Rattle.path_core.specs.DssOut.{checksum_told, first_piece_options, infinite_or, is_first_piece, mapped_options, owes_mapping, piece_mapping, piece_options, place_numbered, plain_options}
 use Rattle.path_core.specs.DataFin.{is_data_fin_owed}
 use Rattle.path_agenda.specs.declared.notice.OwnNotice.{OwnNotice}
 use Rattle.path_segments.specs.declared.segment.PathMapping.TheVariants.{Infinite}
 use Rattle.path_segments.specs.declared.segment.PathOption.TheVariants.{Capable, Dss}
 use Rattle.mptcp_options.specs.declared.capable.CapableKeys.TheVariants.{WithData}
+use Rattle.path_core.specs.State.{PathState, end_at, path_of}
+use Rattle.path_core.specs.Profile.{Profile}
+use Rattle.run_trace.specs.Initials.{initials_of}
+use Rattle.world_laws.specs.Openings.{Start}
 use Rattle.world_laws.proofs.Lanes.Records.{every_at, every_find}
 use Rattle.world_laws.proofs.Lanes.Showing.{HasMapping}
 use Rattle.world_laws.proofs.Numbers.TellSmall.{EndTells, OptionTells, PairTells, RecordTells, SegmentTells, record_said_tells}
+use Rattle.trace_laws.specs.Counting.{base_from}
+use Rattle.trace_laws.specs.Sending.{payload_in}
 use Rattle.trace_laws.proofs.Handing.{made_payload}
 use Rattle.trace_laws.proofs.ReadingBack.{IsSaid, OneSaid, Placed, by_mapping, mapping_said, by_position, steady_infinite, steady_keys, steady_none, steady_without, unmapped_infinite, unmapped_keys, unmapped_none}
 
@@ -310,7 +346,7 @@ module _ (start : Start) (p : PathState (List ℕ)) (n : ℕ) (ends : (s : Side)
       reset_none s reason = refl
 
   heard_does : (s : Side) (o : Option Heard) → IfSome (option_map (departing_as p) (heard_sends s o p)) Sends
-  heard_does s (Some (Heard.Mapping fin)) = only_if (is_clash (end_at s p)) _ (broken_sends s 1)
+  heard_does s (Some (says.Mapping fin)) = only_if (is_clash (end_at s p)) _ (broken_sends s 1)
   heard_does s _ = tt
 
   data_does : (s : Side) (o : Option Record) → IfSome (option_map (departing_as p) (unsent_sends s o)) Sends
@@ -318,21 +354,21 @@ module _ (start : Start) (p : PathState (List ℕ)) (n : ℕ) (ends : (s : Side)
   data_does s (Some r) = (_, (refl, of_unsent s))
 
   pub by_duty : (d : Duty) → IfSome (option_map (departing_as p) (duty_sends d p)) Sends
-  by_duty (Duty.Send (SendDuty.Syn s)) = (_, (refl, of_unsent s))
-  by_duty (Duty.Send (SendDuty.FastClose s)) = (_, (refl, of_carried s (end_at s p).notices.carrier))
-  by_duty (Duty.Send (SendDuty.Notice s)) = (_, (refl, of_noted s (first_of (end_at s p).notices.queue)))
-  by_duty (Duty.Send (SendDuty.Again s)) = (_, (refl, of_first s))
-  by_duty (Duty.Send (SendDuty.Answer s)) = (_, (refl, of_answer s))
-  by_duty (Duty.Send (SendDuty.Resend s)) = (_, (refl, of_resend s))
-  by_duty (Duty.Step (StepDuty.Data s)) = data_does s (first_unsent (end_at s p))
-  by_duty (Duty.Step (StepDuty.Heard s index)) = heard_does s (item_of index (end_at s p))
-  by_duty (Duty.Step (StepDuty.PlainAck s)) = only_if (breaks_by_ack p.profile (end_at s p)) _ (broken_sends s 6)
-  by_duty (Duty.Step (StepDuty.Unmapped s)) = broken_sends s 6
-  by_duty (Duty.Step (StepDuty.Look s)) = tt
-  by_duty (Duty.Step StepDuty.Events) = tt
-  by_duty (Duty.Ask d) = tt
-  by_duty (Duty.Silent d) = tt
-  by_duty Duty.End = tt
+  by_duty (duties.Send (sends_of.Syn s)) = (_, (refl, of_unsent s))
+  by_duty (duties.Send (sends_of.FastClose s)) = (_, (refl, of_carried s (end_at s p).notices.carrier))
+  by_duty (duties.Send (sends_of.Notice s)) = (_, (refl, of_noted s (first_of (end_at s p).notices.queue)))
+  by_duty (duties.Send (sends_of.Again s)) = (_, (refl, of_first s))
+  by_duty (duties.Send (sends_of.Answer s)) = (_, (refl, of_answer s))
+  by_duty (duties.Send (sends_of.Resend s)) = (_, (refl, of_resend s))
+  by_duty (duties.Step (steps_of.Data s)) = data_does s (first_unsent (end_at s p))
+  by_duty (duties.Step (steps_of.Heard s index)) = heard_does s (item_of index (end_at s p))
+  by_duty (duties.Step (steps_of.PlainAck s)) = only_if (breaks_by_ack p.profile (end_at s p)) _ (broken_sends s 6)
+  by_duty (duties.Step (steps_of.Unmapped s)) = broken_sends s 6
+  by_duty (duties.Step (steps_of.Look s)) = tt
+  by_duty (duties.Step steps_of.Events) = tt
+  by_duty (duties.Ask d) = tt
+  by_duty (duties.Silent d) = tt
+  by_duty duties.End = tt
   by_duty _ = (_, (refl, inl refl))
 
   -- what is sent is on a path, and its payload ends within the file
