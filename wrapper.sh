@@ -16,6 +16,13 @@ is_current() {
     [ -z "$(find "$top/crates.txt" "$top"/crates/*/{src,specs,proofs} -newer "$program" -print -quit 2>/dev/null)" ]
 }
 
+# run_proved WORD..: ends with a run of the proved program. Its heap comes in huge pages where the system gives them to who asks; a setting
+# of the user's own, also an empty one, stays.
+run_proved() {
+    export GLIBC_TUNABLES=${GLIBC_TUNABLES-glibc.malloc.hugetlb=1}
+    exec "$program" "$@"
+}
+
 # Ends where no program can be built. Else there is a folder `work` from now on, which goes with the run.
 begin_unproved() {
     command -v rt >/dev/null || answer 70 "no proved program is there, and 'rt', which builds one, isn't on the path"
