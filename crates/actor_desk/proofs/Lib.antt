@@ -3,4 +3,5 @@ pub mod InKind
 pub mod Small
 pub mod Entered
 pub mod Inserting
+mod Merging
 mod LastNote
