@@ -5,8 +5,9 @@ use Rattle.outside_kit.specs.Memory.{one_more as counted}
 use Rattle.sides.specs.declared.side.Side.{Side}
 use Rattle.sides.specs.declared.side.Side.TheVariants.{A, B}
 use Rattle.sides.specs.Side.{peer}
+use Rattle.link_script.specs.declared.script.Happens.TheVariants.{Lost, Late, Again, Stripped, Altered}
 use Rattle.link_script.specs.declared.script.ScriptLine.{ScriptLine}
-use Rattle.link_script.specs.declared.script.ScriptLine.TheVariants.{Drop, Strip, Alter, Dup, Late, StripAll, Die, Prio, Add, Remove, FastClose}
+use Rattle.link_script.specs.declared.script.ScriptLine.TheVariants.{OnSegment}
 use Rattle.link_script.specs.Places.{same_side}
 use Rattle.link_model.specs.declared.fate.Fate.{Fate}
 use Rattle.link_model.specs.declared.fate.Fate.TheVariants as fate
@@ -18,13 +19,19 @@ use Rattle.link_model.specs.Order.{IsFirst, AreInOrder}
 use Rattle.link_model.specs.Laws.{moves, going_to, WereSentBefore, plain_flight}
 use Rattle.link_model.proofs.Order.{before_behind, behind_is}
 
-told_nothing : (b named : Bool) (f : Fate) → b ≡ false → told_if (b && named) f ≡ None
-told_nothing b named f e = ap (λ (t : Bool). told_if (t && named) f) e
+told_nothing : (b named : Bool) (told : Option Fate) → b ≡ false → told_if (b && named) told ≡ None
+told_nothing b named told e = ap (λ (t : Bool). told_if (t && named) told) e
+
+nothing_told : (named : Bool) → told_if named None ≡ None
+nothing_told true = refl
+nothing_told false = refl
 
 none_told : (from : Side) (number : ℕ) (line : ScriptLine) → moves from line ≡ false → fate_told from number line ≡ None
-none_told from number (Drop path side named) e = told_nothing (same_side side from) _ fate.Lost e
-none_told from number (Late path side named ticks) e = told_nothing (same_side side from) _ (fate.Late ticks) e
-none_told from number (Dup path side named ticks) e = told_nothing (same_side side from) _ (fate.Twice ticks) e
+none_told from number (OnSegment s Lost) e = told_nothing (same_side s.from from) _ (Some fate.Lost) e
+none_told from number (OnSegment s (Late ticks)) e = told_nothing (same_side s.from from) _ (Some (fate.Late ticks)) e
+none_told from number (OnSegment s (Again ticks)) e = told_nothing (same_side s.from from) _ (Some (fate.Twice ticks)) e
+none_told from number (OnSegment s Stripped) e = nothing_told (is_named from number s)
+none_told from number (OnSegment s Altered) e = nothing_told (is_named from number s)
 none_told from number line e = refl
 
 pub on_time : (from : Side) (number : ℕ) (lines : List ScriptLine) → AllByRecursion (λ line. moves from line ≡ false) lines → fate_of from number lines ≡ fate.OnTime

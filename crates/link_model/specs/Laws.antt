@@ -4,8 +4,9 @@ use Rattle.std.specs.Prelude.{◌≡◌, ℕ, ◌+◌, ◌≤◌, Bool, true, fa
 use Rattle.std.specs.List.{AllByRecursion}
 use Rattle.sides.specs.declared.side.Side.{Side}
 use Rattle.sides.specs.Side.{peer}
+use Rattle.link_script.specs.declared.script.Happens.TheVariants.{Lost, Late, Again}
 use Rattle.link_script.specs.declared.script.ScriptLine.{ScriptLine}
-use Rattle.link_script.specs.declared.script.ScriptLine.TheVariants.{Drop, Dup, Late}
+use Rattle.link_script.specs.declared.script.ScriptLine.TheVariants.{OnSegment}
 use Rattle.link_script.specs.Places.{same_side}
 use Rattle.link_model.specs.declared.flight.Flight.{Flight}
 use Rattle.link_model.specs.State.{LinkState}
@@ -16,9 +17,9 @@ use Rattle.link_model.specs.Fate.{is_stripped, is_altered}
 
 -- a line by which a segment from this side is lost, late or repeated
 abbrev pub moves : Side → ScriptLine → Bool
-moves from (Drop path side number) = same_side side from
-moves from (Dup path side number ticks) = same_side side from
-moves from (Late path side number ticks) = same_side side from
+moves from (OnSegment segment Lost) = same_side segment.from from
+moves from (OnSegment segment (Late ticks)) = same_side segment.from from
+moves from (OnSegment segment (Again ticks)) = same_side segment.from from
 moves from line = false
 
 -- the copies that go to a side, in the order of their arrival

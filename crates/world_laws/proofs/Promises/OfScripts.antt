@@ -13,7 +13,8 @@ use Rattle.link_script.specs.Places.{path_named}
 use Rattle.link_script.specs.declared.script.PathLine.{PathLine}
 use Rattle.link_script.specs.declared.script.Script.{Script}
 use Rattle.link_script.specs.declared.script.ScriptLine.{ScriptLine}
-use Rattle.link_script.specs.declared.script.ScriptLine.TheVariants.{Alter}
+use Rattle.link_script.specs.declared.script.Happens.TheVariants.{Altered}
+use Rattle.link_script.specs.declared.script.ScriptLine.TheVariants.{OnSegment}
 use Rattle.link_script.specs.Scripts.{IsPath}
 use Rattle.path_core.specs.Octets.{octets}
 use Rattle.path_core.specs.Shown.{AltersNothing}
@@ -53,7 +54,7 @@ module _ (such test : ScriptLine → Bool) (among : (line : ScriptLine) → such
       by false rest = rest
 
 never_alters : (from : Side) (number : ℕ) (line : ScriptLine) → alters_payload line ≡ false → is_altered_by from number line ≡ false
-never_alters from number (Alter path side named) is = cc
+never_alters from number (OnSegment segment Altered) is = cc
 never_alters from number line is = refl
 
 alters_nothing : (path : ℕ) (lines : List ScriptLine) → list_any alters_payload lines ≡ false → AltersNothing (lines_of path lines)

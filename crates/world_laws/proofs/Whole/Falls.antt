@@ -21,7 +21,8 @@ use Rattle.fallback_state.specs.Modes.{is_identity, is_infinite, is_starting, re
 use Rattle.fallback_state.specs.Table.{breaks, fall_step, goes, is_failed_path, stays}
 use Rattle.link_model.specs.Fate.{is_stripped_by}
 use Rattle.link_script.specs.declared.script.ScriptLine.{ScriptLine}
-use Rattle.link_script.specs.declared.script.ScriptLine.TheVariants.{Strip, StripAll}
+use Rattle.link_script.specs.declared.script.Happens.TheVariants.{Stripped}
+use Rattle.link_script.specs.declared.script.ScriptLine.TheVariants.{OnSegment, StripAll}
 use Rattle.subflow_send.specs.Rules.{opening}
 use Rattle.subflow_tcp.specs.States.{is_waiting}
 use Rattle.stream_lanes.specs.Words.{Every}
@@ -458,7 +459,7 @@ never_in_octets start turns plain whole fit =
     subst NeverFalls (sym (run_fresh start turns plain.size fit)) (λ s. h s)
 
 never_strips : (from : Side) (number now : ℕ) (line : ScriptLine) → strips_options line ≡ false → is_stripped_by from number now line ≡ false
-never_strips from number now (Strip path side named) is = absurd (false≢true (sym is))
+never_strips from number now (OnSegment segment Stripped) is = absurd (false≢true (sym is))
 never_strips from number now (StripAll path side tick) is = absurd (false≢true (sym is))
 never_strips from number now line is = refl
 
