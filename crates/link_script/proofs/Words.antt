@@ -1,5 +1,5 @@
 -- The words of a line, each behind a space.
-use Rattle.std.proofs.Common.{◌≡◌, ℕ, List, [], ◌∷◌, ◌++◌, map, refl, sym, ap, ◌∙◌, append_assoc}
+use Rattle.std.proofs.Common.{◌≡◌, ℕ, List, [], ◌∷◌, ◌++◌, map, sym, ap, append_assoc}
 use Rattle.std.proofs.lemmas.List.{append-nil}
 use Rattle.link_script.specs.declared.writing.Word.{Word}
 use Rattle.link_script.specs.Writing.{spaced, shown, behind}

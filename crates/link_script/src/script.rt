@@ -63,6 +63,7 @@ pub enum Happens {
 /// `path` is the number of a path, and `from` the side that sends. `tick` is a tick of the run.
 #[derive(Clone, Copy)]
 pub enum ScriptLine {
+    /// What happens to one segment.
     OnSegment(Segment, Happens),
     /// Each segment that is sent at the tick or later arrives without its Multipath TCP options.
     StripAll {
