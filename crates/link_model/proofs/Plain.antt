@@ -1,5 +1,5 @@
 -- A direction of which no line speaks: its copies are in order of sending, each due a delay after it was sent.
-use Rattle.std.proofs.Common.{◌≡◌, ◌∙◌, refl, sym, ap, ℕ, zero, suc, ◌+◌, ◌<◌, ◌≤◌, Bool, true, false, ◌&&◌, cond, List, [], ◌∷◌, ◌++◌, filter, Option, Some, None, subst, arith}
+use Rattle.std.proofs.Common.{◌≡◌, ◌∙◌, refl, sym, ap, ℕ, ◌+◌, ◌≤◌, Bool, true, false, ◌&&◌, cond, List, [], ◌∷◌, ◌++◌, Option, Some, None, subst, arith}
 use Rattle.std.specs.List.{AllByRecursion}
 use Rattle.outside_kit.specs.Memory.{one_more as counted}
 use Rattle.sides.specs.declared.side.Side.{Side}
@@ -12,9 +12,9 @@ use Rattle.link_script.specs.Places.{same_side}
 use Rattle.link_model.specs.declared.fate.Fate.{Fate}
 use Rattle.link_model.specs.declared.fate.Fate.TheVariants as fate
 use Rattle.link_model.specs.declared.flight.Flight.{Flight}
-use Rattle.link_model.specs.Fate.{is_named, fate_told, told_if, told_or, fate_of, is_stripped, is_altered}
+use Rattle.link_model.specs.Fate.{is_named, fate_told, told_if, told_or, fate_of}
 use Rattle.link_model.specs.State.{LinkState}
-use Rattle.link_model.specs.Steps.{rank, comes_before, with_flight, with_flights, arrivals, changed, next_number, after_send}
+use Rattle.link_model.specs.Steps.{rank, comes_before, with_flight, next_number, after_send}
 use Rattle.link_model.specs.Order.{IsFirst, AreInOrder}
 use Rattle.link_model.specs.Laws.{moves, going_to, WereSentBefore, plain_flight}
 use Rattle.link_model.proofs.Order.{before_behind, behind_is}
@@ -39,13 +39,13 @@ on_time from number [] plain = refl
 on_time from number (line ∷ lines) plain =
     ap (λ (t : Option Fate). told_or t (fate_of from number lines)) (none_told from number line plain.0) ∙ on_time from number lines plain.1
 
-side_is : (a b : Side) → same_side a b ≡ true → a ≡ b
+pub side_is : (a b : Side) → same_side a b ≡ true → a ≡ b
 side_is A A e = refl
 side_is B B e = refl
 side_is A B e = absurd cc
 side_is B A e = absurd cc
 
-same_as_itself : (a : Side) → same_side a a ≡ true
+pub same_as_itself : (a : Side) → same_side a a ≡ true
 same_as_itself A = refl
 same_as_itself B = refl
 
@@ -54,10 +54,10 @@ sent_behind : {C : Type 0} (k f : Flight C) → k.to ≡ f.to → k.tick ≤ f.t
 sent_behind k f to tick number = behind_is k.tick (rank k.to) k.number f.tick (rank f.to) f.number tick (ap rank to) number
 
 -- a copy arrives before each of these
-abbrev IsBefore : {C : Type 0} → Flight C → List (Flight C) → Type 0
+abbrev pub IsBefore : {C : Type 0} → Flight C → List (Flight C) → Type 0
 IsBefore f flights = AllByRecursion (λ k. comes_before f k ≡ true) flights
 
-before_all : {C : Type 0} (f g : Flight C) (flights : List (Flight C)) → comes_before f g ≡ true → IsFirst g flights → IsBefore f flights
+pub before_all : {C : Type 0} (f g : Flight C) (flights : List (Flight C)) → comes_before f g ≡ true → IsFirst g flights → IsBefore f flights
 before_all f g [] low first = tt
 before_all f g (k ∷ flights) low first = (before_behind f g k low first.0, before_all f g flights low first.1)
 

@@ -1,6 +1,6 @@
 -- What holds of every link, whatever its segments carry and whatever is changed of that on its way. The clauses speak of
 -- octets, as the link carries them; the lemmas hold for everything that can be carried.
-use Rattle.std.specs.Prelude.{◌≡◌, ℕ, ◌+◌, ◌≤◌, Bool, true, false, List, [], ◌∷◌, ◌++◌, map, filter}
+use Rattle.std.specs.Prelude.{ℕ, ◌+◌, ◌≤◌, Bool, false, List, map, filter}
 use Rattle.std.specs.List.{AllByRecursion}
 use Rattle.sides.specs.declared.side.Side.{Side}
 use Rattle.sides.specs.Side.{peer}
@@ -10,7 +10,7 @@ use Rattle.link_script.specs.declared.script.ScriptLine.TheVariants.{OnSegment}
 use Rattle.link_script.specs.Places.{same_side}
 use Rattle.link_model.specs.declared.flight.Flight.{Flight}
 use Rattle.link_model.specs.State.{LinkState}
-use Rattle.link_model.specs.Steps.{next_number, comes_before, changed}
+use Rattle.link_model.specs.Steps.{next_number, changed}
 use Rattle.link_model.specs.Fate.{is_stripped, is_altered}
 
 -- ---- a direction of which no line speaks

@@ -1,7 +1,6 @@
 -- A link by what it means: what it took from each side, and the copies under way. What a segment carries is a type of its
 -- own.
 use Rattle.std.specs.Prelude.{ℕ, ◌≤◌, All, List}
-use Rattle.sides.specs.declared.side.Side.{Side}
 use Rattle.link_script.specs.declared.script.Happens.TheVariants.{Late, Again}
 use Rattle.link_script.specs.declared.script.ScriptLine.{ScriptLine}
 use Rattle.link_script.specs.declared.script.ScriptLine.TheVariants.{OnSegment}

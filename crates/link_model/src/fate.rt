@@ -2,7 +2,8 @@
 
 ghost use Rattle.std.specs.Prelude.{◌≡◌, ◌+◌, ◌-◌, ◌^◌, ◌<◌, ◌≤◌, Option};
 ghost use Rattle.std.specs.List.{list_any};
-ghost use Rattle.link_model.specs.Fate.{is_named, arrival_told, fate_told, fate_of, is_stripped_by, is_stripped, is_altered_by, is_altered, has_died_by, is_dead_at, lost_if, twice_unless, cut_short, ticks_of};
+ghost use Rattle.link_model.specs.Fate.{is_named, arrival_told, fate_told, fate_of, is_altered_by, is_altered, has_died_by, is_dead_at, lost_if, twice_unless, cut_short, ticks_of};
+ghost use Rattle.link_model.specs.Lines.{strips_one, strips_all};
 
 use link_script::{Happens, ScriptLine, Segment};
 use sides::Side;
@@ -79,11 +80,26 @@ pub fn fate_of(lines: &[ScriptLine], from: Side, number: u64) -> Fate
     Fate::OnTime
 }
 
-fn is_stripped_by(line: &ScriptLine, from: Side, number: u64, now: u64) -> bool
-    ensures { result ≡ is_stripped_by from number now line.now }
+fn strips_one(line: &ScriptLine, from: Side, number: u64) -> bool
+    ensures { result ≡ strips_one from number line.now }
 {
     match *line {
         ScriptLine::OnSegment(segment, Happens::Stripped) => is_named(from, number, segment),
+        _ => false,
+    }
+}
+
+/// Whether by one of these lines the segment of this number from this side alone loses its Multipath TCP options.
+pub fn strips_segment(lines: &[ScriptLine], from: Side, number: u64) -> bool
+    ensures { result ≡ list_any (strips_one from number) lines.now }
+{
+    lines.iter().any(|line| strips_one(line, from, number))
+}
+
+fn strips_all(line: &ScriptLine, from: Side, now: u64) -> bool
+    ensures { result ≡ strips_all from now line.now }
+{
+    match *line {
         ScriptLine::StripAll {
             from: side,
             tick,
@@ -93,13 +109,11 @@ fn is_stripped_by(line: &ScriptLine, from: Side, number: u64, now: u64) -> bool
     }
 }
 
-/// Whether the segment of this number, handed over by this side at this tick, loses its Multipath TCP options.
-pub fn is_stripped(lines: &[ScriptLine], from: Side, number: u64, now: u64) -> bool
-    ensures { result ≡ is_stripped from number now lines.now }
+/// Whether by one of these lines every segment that this side hands over at this tick does.
+pub fn strips_from(lines: &[ScriptLine], from: Side, now: u64) -> bool
+    ensures { result ≡ list_any (strips_all from now) lines.now }
 {
-    lines
-        .iter()
-        .any(|line| is_stripped_by(line, from, number, now))
+    lines.iter().any(|line| strips_all(line, from, now))
 }
 
 fn is_altered_by(line: &ScriptLine, from: Side, number: u64) -> bool
