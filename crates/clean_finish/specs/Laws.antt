@@ -3,7 +3,8 @@ use Rattle.std.specs.Prelude.{ℕ, ◌≡◌, ◌+◌, ◌-◌, ◌*◌, ◌/◌
 use Rattle.sides.specs.declared.side.Side.TheVariants.{A}
 use Rattle.link_script.specs.declared.script.PathLine.{PathLine}
 use Rattle.link_script.specs.declared.script.Script.{Script}
-use Rattle.link_script.specs.declared.script.ScriptLine.TheVariants.{Drop}
+use Rattle.link_script.specs.declared.script.Happens.TheVariants.{Lost}
+use Rattle.link_script.specs.declared.script.ScriptLine.TheVariants.{OnSegment}
 use Rattle.link_script.specs.Scripts.{HasRanges}
 use Rattle.pace.specs.Lane.{Setting, Lane}
 use Rattle.pace.specs.Rounds.{Course}
@@ -51,7 +52,7 @@ abbrev pub two_paths : Script
 two_paths = record one_path { paths = a_path ∷ a_path ∷ [] }
 
 abbrev pub one_drop : Script
-one_drop = record one_path { lines = Drop 0 A 3 ∷ [] }
+one_drop = record one_path { lines = OnSegment (record { path = 0; from = A; number = 3 }) Lost ∷ [] }
 
 -- Both directions of a connection of empty files by this path go on as lanes, for one round and any number more.
 abbrev pub EmptyFilesRun : Type 0

@@ -7,6 +7,7 @@ use Rattle.std.proofs.lemmas.List.Elements.{All-cons, All-head, All-nil, All-tai
 use Rattle.sides.specs.declared.side.Side.TheVariants.{A, B}
 use Rattle.octet_text.specs.Prefix.{IsPrefix}
 use Rattle.link_script.specs.declared.script.ScriptLine.{ScriptLine}
+use Rattle.link_script.specs.declared.script.Happens.TheVariants.{Lost, Late, Again, Stripped, Altered}
 use Rattle.link_script.specs.declared.script.ScriptLine.TheVariants as happens
 use Rattle.run_outside.specs.declared.input.Input.{Input}
 use Rattle.path_core.specs.Octets.{octets}
@@ -34,7 +35,11 @@ use Rattle.connection_table.specs.Tables.{Connection, first_of, opened_entry}
 -- ---- a script that leaves payload
 
 same_test : (line : ScriptLine) → alters_payload line ≡ is_alter line
-same_test (happens.Drop path from number) = refl
+same_test (happens.OnSegment segment Lost) = refl
+same_test (happens.OnSegment segment (Late ticks)) = refl
+same_test (happens.OnSegment segment (Again ticks)) = refl
+same_test (happens.OnSegment segment Stripped) = refl
+same_test (happens.OnSegment segment Altered) = refl
 same_test _ = refl
 
 leaves_all : (lines : List ScriptLine) → list_any is_alter lines ≡ false → list_any alters_payload lines ≡ false

@@ -1,5 +1,5 @@
 -- A script of which no line begins with `alter` alters no payload.
-use Rattle.std.proofs.Common.{◌≡◌, refl, sym, ◌∙◌, ap, subst, ℕ, suc, ◌+◌, Bool, true, false, ◌||◌, cond, List, [], ◌∷◌, ◌++◌, Option, Some, None, Result, Ok, Err}
+use Rattle.std.proofs.Common.{◌≡◌, refl, sym, ◌∙◌, subst, ℕ, suc, ◌+◌, Bool, true, false, ◌||◌, cond, List, [], ◌∷◌, ◌++◌, Option, Some, None, Result, Ok, Err}
 use Rattle.std.specs.Prelude.{IfOk, codes, nat_lt}
 use Rattle.std.specs.List.{find, list_any, position_from}
 use Rattle.std.specs.Option.{ok_or}
@@ -16,14 +16,18 @@ use Rattle.link_script.specs.declared.fault.ScriptKind.{ScriptKind}
 use Rattle.link_script.specs.declared.fault.ScriptKind.TheVariants as kind
 use Rattle.link_script.specs.declared.line.Line.{Line}
 use Rattle.link_script.specs.declared.line.Line.TheVariants as line
+use Rattle.link_script.specs.declared.script.Happens.{Happens}
+use Rattle.link_script.specs.declared.script.Happens.TheVariants.{Lost, Late, Again, Stripped}
 use Rattle.link_script.specs.declared.script.Script.{Script}
+use Rattle.link_script.specs.declared.script.ScriptLine.TheVariants.{OnSegment}
+use Rattle.link_script.specs.declared.script.Segment.{Segment}
 use Rattle.link_script.specs.declared.word.Keyword.{Keyword}
 use Rattle.link_script.specs.declared.word.Keyword.TheVariants as first
-use Rattle.link_script.specs.Lines.{seed_line, checksum_line, short_line, buffer_line, path_options, may_have, path_of, path_line, segment, drop_line, strip_line, alter_line, dup_line, late_line, strip_all_line, die_line, prio_line, add_line, remove_line, fast_close_line, end_line, line_after, line_of}
+use Rattle.link_script.specs.Lines.{seed_line, checksum_line, short_line, buffer_line, path_options, may_have, path_of, path_line, segment, ticks_word, with_ticks, on_segment_line, strip_all_line, die_line, prio_line, add_line, remove_line, fast_close_line, end_line, line_after, line_of}
 use Rattle.link_script.specs.Numbers.{within}
 use Rattle.link_script.specs.Places.{is_end, is_out_of_order, is_repeated}
 use Rattle.link_script.specs.Ranges.{most_lines, seeds, buffers, path_numbers, segment_sizes, delays, latenesses, run_ticks, address_ids}
-use Rattle.link_script.specs.Reading.{first_line, in_place, later_line, next_line, at_line, seen_after, read_on, blank, with_line, script_of, reading}
+use Rattle.link_script.specs.Reading.{in_place, later_line, next_line, at_line, seen_after, read_on, blank, with_line, script_of, reading}
 use Rattle.link_script.specs.Steps.{◌>>=◌}
 use Rattle.link_script.specs.Words.{fixed, keyword, keyword_word, keywords, direction, side, switch, words_of, is_passed_over}
 use Rattle.link_script.proofs.ReadRanges.{read_has_ranges}
@@ -69,39 +73,13 @@ buffer_calm [] = tt
 buffer_calm (a ∷ []) = after (within buffers a) _ IsCalm (λ x. tt)
 buffer_calm (a ∷ b ∷ words) = tt
 
-drop_calm : (words : List (List ℕ)) → IfOk (drop_line words) IsCalm
-unfolding drop_line
-drop_calm [] = tt
-drop_calm (a ∷ []) = tt
-drop_calm (a ∷ b ∷ []) = tt
-drop_calm (a ∷ b ∷ c ∷ []) = after (segment a b c) _ IsCalm (λ x. refl)
-drop_calm (a ∷ b ∷ c ∷ d ∷ words) = tt
-
-strip_calm : (words : List (List ℕ)) → IfOk (strip_line words) IsCalm
-unfolding strip_line
-strip_calm [] = tt
-strip_calm (a ∷ []) = tt
-strip_calm (a ∷ b ∷ []) = tt
-strip_calm (a ∷ b ∷ c ∷ []) = after (segment a b c) _ IsCalm (λ x. refl)
-strip_calm (a ∷ b ∷ c ∷ d ∷ words) = tt
-
-dup_calm : (words : List (List ℕ)) → IfOk (dup_line words) IsCalm
-unfolding dup_line
-dup_calm [] = tt
-dup_calm (a ∷ []) = tt
-dup_calm (a ∷ b ∷ []) = tt
-dup_calm (a ∷ b ∷ c ∷ []) = tt
-dup_calm (a ∷ b ∷ c ∷ d ∷ []) = after (segment a b c) _ IsCalm (λ x. after (within latenesses d) _ IsCalm (λ x. refl))
-dup_calm (a ∷ b ∷ c ∷ d ∷ e ∷ words) = tt
-
-late_calm : (words : List (List ℕ)) → IfOk (late_line words) IsCalm
-unfolding late_line
-late_calm [] = tt
-late_calm (a ∷ []) = tt
-late_calm (a ∷ b ∷ []) = tt
-late_calm (a ∷ b ∷ c ∷ []) = tt
-late_calm (a ∷ b ∷ c ∷ d ∷ []) = after (segment a b c) _ IsCalm (λ x. after (within latenesses d) _ IsCalm (λ x. refl))
-late_calm (a ∷ b ∷ c ∷ d ∷ e ∷ words) = tt
+on_segment_calm : (happens : Happens) → ((s : Segment) (t : ℕ) → is_alter (OnSegment s (with_ticks t happens)) ≡ false) → (words : List (List ℕ)) → IfOk (on_segment_line happens words) IsCalm
+unfolding on_segment_line
+on_segment_calm happens calm [] = tt
+on_segment_calm happens calm (a ∷ []) = tt
+on_segment_calm happens calm (a ∷ b ∷ []) = tt
+on_segment_calm happens calm (a ∷ b ∷ c ∷ more) =
+    after (direction b) _ IsCalm (λ d. after (ticks_word happens more) _ IsCalm (λ w. after (segment a d c) _ IsCalm (λ s. after (within latenesses w) _ IsCalm (λ t. calm s t))))
 
 strip_all_calm : (words : List (List ℕ)) → IfOk (strip_all_line words) IsCalm
 unfolding strip_all_line
@@ -183,10 +161,10 @@ after_keyword first.Checksum words other = checksum_calm words
 after_keyword first.Short words other = short_calm words
 after_keyword first.Buffer words other = buffer_calm words
 after_keyword first.Path words other = path_calm words
-after_keyword first.Drop words other = drop_calm words
-after_keyword first.Strip words other = strip_calm words
-after_keyword first.Dup words other = dup_calm words
-after_keyword first.Late words other = late_calm words
+after_keyword first.Drop words other = on_segment_calm Lost (λ s t. refl) words
+after_keyword first.Strip words other = on_segment_calm Stripped (λ s t. refl) words
+after_keyword first.Dup words other = on_segment_calm (Again 0) (λ s t. refl) words
+after_keyword first.Late words other = on_segment_calm (Late 0) (λ s t. refl) words
 after_keyword first.StripAll words other = strip_all_calm words
 after_keyword first.Die words other = die_calm words
 after_keyword first.Prio words other = prio_calm words

@@ -9,7 +9,8 @@ use Rattle.link_script.specs.declared.fault.ScriptKind.{ScriptKind}
 use Rattle.link_script.specs.declared.fault.ScriptKind.TheVariants.{TooMany, Header, Word}
 use Rattle.link_script.specs.declared.script.Script.{Script}
 use Rattle.link_script.specs.declared.script.ScriptLine.{ScriptLine}
-use Rattle.link_script.specs.declared.script.ScriptLine.TheVariants.{Alter}
+use Rattle.link_script.specs.declared.script.Happens.TheVariants.{Altered}
+use Rattle.link_script.specs.declared.script.ScriptLine.TheVariants.{OnSegment}
 use Rattle.link_script.specs.Reading.{reading}
 use Rattle.link_script.specs.Scripts.{HasRanges}
 use Rattle.link_script.specs.Words.{words_of}
@@ -57,7 +58,7 @@ listed_reading text = read_with (first_alter text) (reading text)
 -- ---- what such a script is
 
 abbrev pub is_alter : ScriptLine → Bool
-is_alter (Alter path from number) = true
+is_alter (OnSegment segment Altered) = true
 is_alter _ = false
 
 -- it has its ranges, and by none of its lines a payload is altered

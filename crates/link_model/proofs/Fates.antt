@@ -1,5 +1,5 @@
 -- The fate of a segment, line after line.
-use Rattle.std.proofs.Common.{◌≡◌, ◌∙◌, ap, ℕ, ◌+◌, ◌<◌, ◌≤◌, length, drop, get_or, List, [], Option, Some, None, arith}
+use Rattle.std.proofs.Common.{◌≡◌, ◌∙◌, ap, ℕ, ◌+◌, ◌<◌, ◌≤◌, length, drop, get_or, List, Option, Some, None}
 use Rattle.std.proofs.lemmas.List.{at_drop_more, drop_all}
 use Rattle.sides.specs.declared.side.Side.{Side}
 use Rattle.link_script.specs.declared.script.ScriptLine.{ScriptLine}

@@ -1,5 +1,5 @@
 -- Copies arrive later than they are sent.
-use Rattle.std.proofs.Common.{◌≡◌, refl, ℕ, ◌+◌, ◌<◌, ◌≤◌, Bool, true, false, cond, List, [], ◌∷◌, arith}
+use Rattle.std.proofs.Common.{ℕ, ◌+◌, ◌<◌, ◌≤◌, Bool, true, false, cond, List, [], ◌∷◌, arith}
 use Rattle.std.specs.List.{AllByRecursion}
 use Rattle.sides.specs.declared.side.Side.{Side}
 use Rattle.sides.specs.declared.side.Side.TheVariants.{A, B}
@@ -9,7 +9,7 @@ use Rattle.link_model.specs.declared.flight.Flight.{Flight}
 use Rattle.link_model.specs.State.{LinkState}
 use Rattle.link_model.specs.Steps.{comes_before, with_flight, with_flights, arrivals, after_send}
 
-all_with : {C : Type 0} (P : Flight C → Type 0) (f : Flight C) (flights : List (Flight C)) → P f → AllByRecursion P flights → AllByRecursion P (with_flight f flights)
+pub all_with : {C : Type 0} (P : Flight C → Type 0) (f : Flight C) (flights : List (Flight C)) → P f → AllByRecursion P flights → AllByRecursion P (with_flight f flights)
 all_with P f [] here all = (here, tt)
 all_with P f (g ∷ flights) here all = by (comes_before f g) (all_with P f flights here all.1)
   where

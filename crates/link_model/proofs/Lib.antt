@@ -1,4 +1,6 @@
 mod Fates
+mod NumberedLines
+mod Queues
 pub mod Found
 mod Ranges
 mod Placing

@@ -1,15 +1,14 @@
 -- Copies are kept in the order of their arrival.
-use Rattle.std.proofs.Common.{◌≡◌, ◌∙◌, refl, sym, ap, ℕ, zero, suc, ◌+◌, ◌<◌, ◌≤◌, ◌⊎◌, inl, inr, Bool, true, false, cond, ltb, eqb, List, [], ◌∷◌, ◌++◌, length, take, drop, remove, Option, Some, None, IfSome, arith}
+use Rattle.std.proofs.Common.{◌≡◌, ◌∙◌, refl, sym, ℕ, zero, suc, ◌<◌, ◌≤◌, ◌⊎◌, inl, inr, Bool, true, false, cond, List, [], ◌∷◌, remove, Option, Some, None, IfSome, subst, arith}
 use Rattle.std.specs.Prelude.{nat_lt, ◌==◌, ◌&&◌, ◌||◌, position}
 use Rattle.std.specs.List.{AllByRecursion}
-use Rattle.std.proofs.lemmas.Bool.{cases_lt}
+use Rattle.std.proofs.lemmas.Bool.{cases_lt, true≢false}
 use Rattle.sides.specs.declared.side.Side.{Side}
 use Rattle.sides.specs.declared.side.Side.TheVariants.{A, B}
 use Rattle.link_model.specs.declared.flight.Flight.{Flight}
 use Rattle.link_model.specs.declared.flight.Due.{Due}
-use Rattle.link_model.specs.Fate.{fate_of, is_stripped, is_altered}
 use Rattle.link_model.specs.State.{LinkState}
-use Rattle.link_model.specs.Steps.{rank, comes_before, with_flight, with_flights, arrivals, changed, next_number, after_send, after_delivery, after_cut, without, is_due, next_due}
+use Rattle.link_model.specs.Steps.{rank, comes_before, with_flight, with_flights, arrivals, after_send, after_delivery, without, is_due, next_due}
 use Rattle.link_model.specs.Order.{IsFirst, AreInOrder}
 
 -- ---- the order by three numbers
@@ -105,7 +104,22 @@ before_once a b c x y z first = before_later a b c x y z x y z first (itself x y
     itself : (x y z : ℕ) → before x y z x y z ≡ false
     itself x y z = grind arith
 
+not_earlier : (a b c x y z : ℕ) → before a b c x y z ≡ false → x ≤ a
+not_earlier a b c x y z not = grind (arith, not)
+
+to_both : (a c x z : ℕ) → before a 1 c x 0 z ≡ false → before x 0 z a 1 c ≡ false → ⊥
+to_both a c x z first second =
+    let same : x ≡ a = omega (arith, not_earlier a 1 c x 0 z first, not_earlier x 0 z a 1 c second) in
+    true≢false (sym (less_before x 0 z a 1 c (inr (same, inl (omega arith)))) ∙ second)
+
 -- ---- copies
+
+-- of two copies to two sides one arrives before the other
+pub one_is_first : {C : Type 0} (f g : Flight C) → f.to ≡ A → g.to ≡ B → comes_before f g ≡ false → comes_before g f ≡ false → ⊥
+one_is_first f g a b first second =
+    to_both f.tick f.number g.tick g.number
+    (subst (λ (t : Side). before f.tick 1 f.number g.tick (rank t) g.number ≡ false) b (subst (λ (s : Side). before f.tick (rank s) f.number g.tick (rank g.to) g.number ≡ false) a first))
+    (subst (λ (t : Side). before g.tick (rank t) g.number f.tick 1 f.number ≡ false) b (subst (λ (s : Side). before g.tick (rank g.to) g.number f.tick (rank s) f.number ≡ false) a second))
 
 first_with : {C : Type 0} (h f : Flight C) (flights : List (Flight C)) → comes_before f h ≡ false → IsFirst h flights → IsFirst h (with_flight f flights)
 first_with h f [] not first = (not, tt)
@@ -142,9 +156,6 @@ in_order_sent strip alter A carried now link order = in_order_all B _ _ (arrival
 in_order_sent strip alter B carried now link order = in_order_all A _ _ (arrivals _ _) link.under_way order
 
 -- ---- the earliest
-
-not_earlier : (a b c x y z : ℕ) → before a b c x y z ≡ false → x ≤ a
-not_earlier a b c x y z not = grind (arith, not)
 
 none_earlier : {C : Type 0} (f : Flight C) (flights : List (Flight C)) → IsFirst f flights → AllByRecursion (λ g. f.tick ≤ g.tick) flights
 none_earlier f [] first = tt

@@ -1,30 +1,37 @@
 -- A direction of which no line speaks: its copies are in order of sending, each due a delay after it was sent.
-use Rattle.std.proofs.Common.{◌≡◌, ◌∙◌, refl, sym, ap, ℕ, zero, suc, ◌+◌, ◌<◌, ◌≤◌, Bool, true, false, ◌&&◌, cond, List, [], ◌∷◌, ◌++◌, filter, Option, Some, None, subst, arith}
+use Rattle.std.proofs.Common.{◌≡◌, ◌∙◌, refl, sym, ap, ℕ, ◌+◌, ◌≤◌, Bool, true, false, ◌&&◌, cond, List, [], ◌∷◌, ◌++◌, Option, Some, None, subst, arith}
 use Rattle.std.specs.List.{AllByRecursion}
 use Rattle.outside_kit.specs.Memory.{one_more as counted}
 use Rattle.sides.specs.declared.side.Side.{Side}
 use Rattle.sides.specs.declared.side.Side.TheVariants.{A, B}
 use Rattle.sides.specs.Side.{peer}
+use Rattle.link_script.specs.declared.script.Happens.TheVariants.{Lost, Late, Again, Stripped, Altered}
 use Rattle.link_script.specs.declared.script.ScriptLine.{ScriptLine}
-use Rattle.link_script.specs.declared.script.ScriptLine.TheVariants.{Drop, Strip, Alter, Dup, Late, StripAll, Die, Prio, Add, Remove, FastClose}
+use Rattle.link_script.specs.declared.script.ScriptLine.TheVariants.{OnSegment}
 use Rattle.link_script.specs.Places.{same_side}
 use Rattle.link_model.specs.declared.fate.Fate.{Fate}
 use Rattle.link_model.specs.declared.fate.Fate.TheVariants as fate
 use Rattle.link_model.specs.declared.flight.Flight.{Flight}
-use Rattle.link_model.specs.Fate.{is_named, fate_told, told_if, told_or, fate_of, is_stripped, is_altered}
+use Rattle.link_model.specs.Fate.{is_named, fate_told, told_if, told_or, fate_of}
 use Rattle.link_model.specs.State.{LinkState}
-use Rattle.link_model.specs.Steps.{rank, comes_before, with_flight, with_flights, arrivals, changed, next_number, after_send}
+use Rattle.link_model.specs.Steps.{rank, comes_before, with_flight, next_number, after_send}
 use Rattle.link_model.specs.Order.{IsFirst, AreInOrder}
 use Rattle.link_model.specs.Laws.{moves, going_to, WereSentBefore, plain_flight}
 use Rattle.link_model.proofs.Order.{before_behind, behind_is}
 
-told_nothing : (b named : Bool) (f : Fate) → b ≡ false → told_if (b && named) f ≡ None
-told_nothing b named f e = ap (λ (t : Bool). told_if (t && named) f) e
+told_nothing : (b named : Bool) (told : Option Fate) → b ≡ false → told_if (b && named) told ≡ None
+told_nothing b named told e = ap (λ (t : Bool). told_if (t && named) told) e
+
+nothing_told : (named : Bool) → told_if named None ≡ None
+nothing_told true = refl
+nothing_told false = refl
 
 none_told : (from : Side) (number : ℕ) (line : ScriptLine) → moves from line ≡ false → fate_told from number line ≡ None
-none_told from number (Drop path side named) e = told_nothing (same_side side from) _ fate.Lost e
-none_told from number (Late path side named ticks) e = told_nothing (same_side side from) _ (fate.Late ticks) e
-none_told from number (Dup path side named ticks) e = told_nothing (same_side side from) _ (fate.Twice ticks) e
+none_told from number (OnSegment s Lost) e = told_nothing (same_side s.from from) _ (Some fate.Lost) e
+none_told from number (OnSegment s (Late ticks)) e = told_nothing (same_side s.from from) _ (Some (fate.Late ticks)) e
+none_told from number (OnSegment s (Again ticks)) e = told_nothing (same_side s.from from) _ (Some (fate.Twice ticks)) e
+none_told from number (OnSegment s Stripped) e = nothing_told (is_named from number s)
+none_told from number (OnSegment s Altered) e = nothing_told (is_named from number s)
 none_told from number line e = refl
 
 pub on_time : (from : Side) (number : ℕ) (lines : List ScriptLine) → AllByRecursion (λ line. moves from line ≡ false) lines → fate_of from number lines ≡ fate.OnTime
@@ -32,13 +39,13 @@ on_time from number [] plain = refl
 on_time from number (line ∷ lines) plain =
     ap (λ (t : Option Fate). told_or t (fate_of from number lines)) (none_told from number line plain.0) ∙ on_time from number lines plain.1
 
-side_is : (a b : Side) → same_side a b ≡ true → a ≡ b
+pub side_is : (a b : Side) → same_side a b ≡ true → a ≡ b
 side_is A A e = refl
 side_is B B e = refl
 side_is A B e = absurd cc
 side_is B A e = absurd cc
 
-same_as_itself : (a : Side) → same_side a a ≡ true
+pub same_as_itself : (a : Side) → same_side a a ≡ true
 same_as_itself A = refl
 same_as_itself B = refl
 
@@ -47,10 +54,10 @@ sent_behind : {C : Type 0} (k f : Flight C) → k.to ≡ f.to → k.tick ≤ f.t
 sent_behind k f to tick number = behind_is k.tick (rank k.to) k.number f.tick (rank f.to) f.number tick (ap rank to) number
 
 -- a copy arrives before each of these
-abbrev IsBefore : {C : Type 0} → Flight C → List (Flight C) → Type 0
+abbrev pub IsBefore : {C : Type 0} → Flight C → List (Flight C) → Type 0
 IsBefore f flights = AllByRecursion (λ k. comes_before f k ≡ true) flights
 
-before_all : {C : Type 0} (f g : Flight C) (flights : List (Flight C)) → comes_before f g ≡ true → IsFirst g flights → IsBefore f flights
+pub before_all : {C : Type 0} (f g : Flight C) (flights : List (Flight C)) → comes_before f g ≡ true → IsFirst g flights → IsBefore f flights
 before_all f g [] low first = tt
 before_all f g (k ∷ flights) low first = (before_behind f g k low first.0, before_all f g flights low first.1)
 

@@ -1,12 +1,13 @@
 -- The numbers of a link are those that a script can say.
-use Rattle.std.proofs.Common.{◌≡◌, refl, ℕ, zero, suc, ◌+◌, ◌<◌, ◌≤◌, Bool, true, false, List, [], ◌∷◌, length, get_or, All, Option, Some, None, arith}
+use Rattle.std.proofs.Common.{◌≡◌, refl, ℕ, zero, suc, ◌<◌, ◌≤◌, Bool, true, false, List, [], ◌∷◌, length, get_or, All, Some, None, arith}
 use Rattle.std.specs.List.{AllByRecursion}
 use Rattle.std.proofs.lemmas.List.Elements.{All-filter, recursion_from_All}
 use Rattle.sides.specs.declared.side.Side.{Side}
 use Rattle.link_script.specs.declared.script.PathLine.{PathLine}
 use Rattle.link_script.specs.declared.script.Script.{Script}
+use Rattle.link_script.specs.declared.script.Happens.TheVariants.{Lost, Late, Again, Stripped, Altered}
 use Rattle.link_script.specs.declared.script.ScriptLine.{ScriptLine}
-use Rattle.link_script.specs.declared.script.ScriptLine.TheVariants.{Drop, Strip, Alter, Dup, Late, StripAll, Die, Prio, Add, Remove, FastClose}
+use Rattle.link_script.specs.declared.script.ScriptLine.TheVariants.{OnSegment}
 use Rattle.link_script.specs.Places.{path_named}
 use Rattle.link_script.specs.Scripts.{HasRanges, IsEvent}
 use Rattle.link_model.specs.declared.fate.Fate.{Fate}
@@ -21,8 +22,9 @@ delay_at zero (line ∷ lines) d within = refl
 delay_at (suc path) (line ∷ lines) d within = delay_at path lines d (omega (arith, within))
 
 event_is_short : (paths : ℕ) (line : ScriptLine) → IsEvent paths line → ticks_told line ≤ 100000
-event_is_short paths (Dup path from number ticks) is = is.2.most
-event_is_short paths (Late path from number ticks) is = is.2.most
+event_is_short paths (OnSegment segment (Late ticks)) is = is.2.most
+event_is_short paths (OnSegment segment (Again ticks)) is = is.2.most
+event_is_short paths (OnSegment segment happens) is = omega arith
 event_is_short paths line is = omega arith
 
 pub limits_of : (script : Script) (path : ℕ) (d : PathLine) → HasRanges script → path < length script.paths
@@ -35,16 +37,21 @@ limits_of script path d ranges within =
       short_ticks = λ k e low. event_is_short (length script.paths) _ (All-filter (λ line. is_path path (path_named line)) (IsEvent (length script.paths)) script.lines ranges.lines k e low);
     }
 
-told_is_short : (from : Side) (number : ℕ) (line : ScriptLine) (b : Bool) (f other : Fate) → ticks_of f ≤ 100000 → ticks_of other ≤ 100000
-    → ticks_of (told_or (told_if b f) other) ≤ 100000
-told_is_short from number line true f other short rest = short
-told_is_short from number line false f other short rest = rest
+told_is_short : (b : Bool) (f other : Fate) → ticks_of f ≤ 100000 → ticks_of other ≤ 100000 → ticks_of (told_or (told_if b (Some f)) other) ≤ 100000
+told_is_short true f other short rest = short
+told_is_short false f other short rest = rest
+
+none_is_short : (b : Bool) (other : Fate) → ticks_of other ≤ 100000 → ticks_of (told_or (told_if b None) other) ≤ 100000
+none_is_short true other rest = rest
+none_is_short false other rest = rest
 
 fate_is_short : (from : Side) (number : ℕ) (line : ScriptLine) (other : Fate) → ticks_told line ≤ 100000 → ticks_of other ≤ 100000
     → ticks_of (told_or (fate_told from number line) other) ≤ 100000
-fate_is_short from number (Drop path side named) other short rest = told_is_short from number (Drop path side named) (is_named from number side named) fate.Lost other (omega arith) rest
-fate_is_short from number (Late path side named ticks) other short rest = told_is_short from number (Late path side named ticks) (is_named from number side named) (fate.Late ticks) other short rest
-fate_is_short from number (Dup path side named ticks) other short rest = told_is_short from number (Dup path side named ticks) (is_named from number side named) (fate.Twice ticks) other short rest
+fate_is_short from number (OnSegment s Lost) other short rest = told_is_short (is_named from number s) fate.Lost other (omega arith) rest
+fate_is_short from number (OnSegment s (Late ticks)) other short rest = told_is_short (is_named from number s) (fate.Late ticks) other short rest
+fate_is_short from number (OnSegment s (Again ticks)) other short rest = told_is_short (is_named from number s) (fate.Twice ticks) other short rest
+fate_is_short from number (OnSegment s Stripped) other short rest = none_is_short (is_named from number s) other rest
+fate_is_short from number (OnSegment s Altered) other short rest = none_is_short (is_named from number s) other rest
 fate_is_short from number line other short rest = rest
 
 fates_are_short : (from : Side) (number : ℕ) (lines : List ScriptLine) → AllByRecursion (λ line. ticks_told line ≤ 100000) lines → ticks_of (fate_of from number lines) ≤ 100000

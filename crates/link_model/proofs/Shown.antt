@@ -1,11 +1,10 @@
 -- What a link does commutes with showing what is carried as something else.
-use Rattle.std.proofs.Common.{◌≡◌, ◌∙◌, refl, sym, ap, ℕ, zero, suc, ◌+◌, Bool, true, false, cond, List, [], ◌∷◌, map, Option, Some, None}
+use Rattle.std.proofs.Common.{◌≡◌, ◌∙◌, refl, ap, ℕ, Bool, true, false, cond, List, [], ◌∷◌, map}
 use Rattle.sides.specs.declared.side.Side.{Side}
 use Rattle.sides.specs.declared.side.Side.TheVariants.{A, B}
 use Rattle.link_model.specs.declared.flight.Flight.{Flight}
-use Rattle.link_model.specs.Fate.{fate_of, is_stripped, is_altered}
 use Rattle.link_model.specs.State.{LinkState}
-use Rattle.link_model.specs.Steps.{comes_before, with_flight, with_flights, arrivals, changed, next_number, one_more, after_send}
+use Rattle.link_model.specs.Steps.{comes_before, with_flight, with_flights, changed, after_send}
 use Rattle.link_model.specs.Laws.{shown_flight, with_copies_shown}
 
 module _ {C D : Type 0} (show : C → D) where

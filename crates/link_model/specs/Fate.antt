@@ -3,27 +3,36 @@
 use Rattle.std.specs.Prelude.{ℕ, ◌+◌, Bool, false, ◌&&◌, ◌==◌, nat_le, if◌then◌else◌, List, [], ◌∷◌, Option, Some, None}
 use Rattle.std.specs.List.{list_any}
 use Rattle.sides.specs.declared.side.Side.{Side}
+use Rattle.link_script.specs.declared.script.Happens.{Happens}
+use Rattle.link_script.specs.declared.script.Happens.TheVariants.{Lost, Late, Again, Stripped, Altered}
+use Rattle.link_script.specs.declared.script.Segment.{Segment}
 use Rattle.link_script.specs.declared.script.ScriptLine.{ScriptLine}
-use Rattle.link_script.specs.declared.script.ScriptLine.TheVariants.{Drop, Strip, Alter, Dup, Late, StripAll, Die, Prio, Add, Remove, FastClose}
+use Rattle.link_script.specs.declared.script.ScriptLine.TheVariants.{OnSegment, StripAll, Die}
 use Rattle.link_script.specs.Places.{same_side}
 use Rattle.link_model.specs.declared.fate.Fate.{Fate}
 use Rattle.link_model.specs.declared.fate.Fate.TheVariants as fate
 use Rattle.link_model.specs.declared.fate.SegmentFate.{SegmentFate}
 use Rattle.link_model.specs.State.{LinkState}
 
--- a line that names this side and number speaks of this segment
-abbrev pub is_named : Side → ℕ → Side → ℕ → Bool
-is_named from number side named = same_side side from && named == number
+-- the segment of this side and number
+abbrev pub is_named : Side → ℕ → Segment → Bool
+is_named from number segment = same_side segment.from from && segment.number == number
+
+-- what this says of a segment's arrival
+abbrev pub arrival_told : Happens → Option Fate
+arrival_told Lost = Some fate.Lost
+arrival_told (Late ticks) = Some (fate.Late ticks)
+arrival_told (Again ticks) = Some (fate.Twice ticks)
+arrival_told Stripped = None
+arrival_told Altered = None
 
 -- this fate, where the line names the segment
-abbrev pub told_if : Bool → Fate → Option Fate
-told_if named f = if named then Some f else None
+abbrev pub told_if : Bool → Option Fate → Option Fate
+told_if named told = if named then told else None
 
 -- what a line says of the segment's arrival
 abbrev pub fate_told : Side → ℕ → ScriptLine → Option Fate
-fate_told from number (Drop path side named) = told_if (is_named from number side named) fate.Lost
-fate_told from number (Late path side named ticks) = told_if (is_named from number side named) (fate.Late ticks)
-fate_told from number (Dup path side named ticks) = told_if (is_named from number side named) (fate.Twice ticks)
+fate_told from number (OnSegment segment happens) = told_if (is_named from number segment) (arrival_told happens)
 fate_told from number line = None
 
 -- the ticks that a fate tells
@@ -45,7 +54,7 @@ fate_of from number (line ∷ lines) = told_or (fate_told from number line) (fat
 
 -- a line by which a segment that is handed over at this tick loses its Multipath TCP options
 abbrev pub is_stripped_by : Side → ℕ → ℕ → ScriptLine → Bool
-is_stripped_by from number now (Strip path side named) = is_named from number side named
+is_stripped_by from number now (OnSegment segment Stripped) = is_named from number segment
 is_stripped_by from number now (StripAll path side tick) = same_side side from && nat_le tick now
 is_stripped_by from number now line = false
 
@@ -55,7 +64,7 @@ is_stripped from number now lines = list_any (is_stripped_by from number now) li
 
 -- a line by which the segment's payload is altered
 abbrev pub is_altered_by : Side → ℕ → ScriptLine → Bool
-is_altered_by from number (Alter path side named) = is_named from number side named
+is_altered_by from number (OnSegment segment Altered) = is_named from number segment
 is_altered_by from number line = false
 
 -- one of these lines does that

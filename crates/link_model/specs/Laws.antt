@@ -1,24 +1,25 @@
 -- What holds of every link, whatever its segments carry and whatever is changed of that on its way. The clauses speak of
 -- octets, as the link carries them; the lemmas hold for everything that can be carried.
-use Rattle.std.specs.Prelude.{◌≡◌, ℕ, ◌+◌, ◌≤◌, Bool, true, false, List, [], ◌∷◌, ◌++◌, map, filter}
+use Rattle.std.specs.Prelude.{ℕ, ◌+◌, ◌≤◌, Bool, false, List, map, filter}
 use Rattle.std.specs.List.{AllByRecursion}
 use Rattle.sides.specs.declared.side.Side.{Side}
 use Rattle.sides.specs.Side.{peer}
+use Rattle.link_script.specs.declared.script.Happens.TheVariants.{Lost, Late, Again}
 use Rattle.link_script.specs.declared.script.ScriptLine.{ScriptLine}
-use Rattle.link_script.specs.declared.script.ScriptLine.TheVariants.{Drop, Dup, Late}
+use Rattle.link_script.specs.declared.script.ScriptLine.TheVariants.{OnSegment}
 use Rattle.link_script.specs.Places.{same_side}
 use Rattle.link_model.specs.declared.flight.Flight.{Flight}
 use Rattle.link_model.specs.State.{LinkState}
-use Rattle.link_model.specs.Steps.{next_number, comes_before, changed}
+use Rattle.link_model.specs.Steps.{next_number, changed}
 use Rattle.link_model.specs.Fate.{is_stripped, is_altered}
 
 -- ---- a direction of which no line speaks
 
 -- a line by which a segment from this side is lost, late or repeated
 abbrev pub moves : Side → ScriptLine → Bool
-moves from (Drop path side number) = same_side side from
-moves from (Dup path side number ticks) = same_side side from
-moves from (Late path side number ticks) = same_side side from
+moves from (OnSegment segment Lost) = same_side segment.from from
+moves from (OnSegment segment (Late ticks)) = same_side segment.from from
+moves from (OnSegment segment (Again ticks)) = same_side segment.from from
 moves from line = false
 
 -- the copies that go to a side, in the order of their arrival

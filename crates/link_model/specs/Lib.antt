@@ -4,3 +4,5 @@ pub mod Steps
 pub mod Octets
 pub mod Order
 pub mod Laws
+pub mod Lines
+pub mod Queues

@@ -1,9 +1,9 @@
 -- A link by what it means: what it took from each side, and the copies under way. What a segment carries is a type of its
 -- own.
 use Rattle.std.specs.Prelude.{ℕ, ◌≤◌, All, List}
-use Rattle.sides.specs.declared.side.Side.{Side}
+use Rattle.link_script.specs.declared.script.Happens.TheVariants.{Late, Again}
 use Rattle.link_script.specs.declared.script.ScriptLine.{ScriptLine}
-use Rattle.link_script.specs.declared.script.ScriptLine.TheVariants.{Late, Dup}
+use Rattle.link_script.specs.declared.script.ScriptLine.TheVariants.{OnSegment}
 use Rattle.link_model.specs.declared.flight.Flight.{Flight}
 
 pub record LinkState (C : Type 0) : Type 0 where
@@ -21,8 +21,8 @@ pub record LinkState (C : Type 0) : Type 0 where
 
 -- the ticks that a line tells of a segment
 abbrev pub ticks_told : ScriptLine → ℕ
-ticks_told (Late path side number ticks) = ticks
-ticks_told (Dup path side number ticks) = ticks
+ticks_told (OnSegment segment (Late ticks)) = ticks
+ticks_told (OnSegment segment (Again ticks)) = ticks
 ticks_told line = 0
 
 -- numbers that a script can say

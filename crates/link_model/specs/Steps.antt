@@ -1,12 +1,11 @@
 -- What each call makes of a link. `strip` takes a segment's Multipath TCP options away, and `alter` turns the lowest bit
 -- of its first payload octet, where it comes from this side.
-use Rattle.std.specs.Prelude.{ℕ, zero, suc, ◌+◌, Bool, true, false, ◌&&◌, ◌||◌, ◌==◌, nat_lt, if◌then◌else◌, List, [], ◌∷◌, Option, Some, None, filter, remove, find, position}
+use Rattle.std.specs.Prelude.{ℕ, zero, suc, ◌+◌, Bool, false, ◌&&◌, ◌||◌, ◌==◌, nat_lt, if◌then◌else◌, List, [], ◌∷◌, Option, Some, None, filter, remove, find, position}
 use Rattle.outside_kit.specs.Memory.{one_more as counted}
 use Rattle.sides.specs.declared.side.Side.{Side}
 use Rattle.sides.specs.declared.side.Side.TheVariants.{A, B}
 use Rattle.sides.specs.Side.{peer}
 use Rattle.link_script.specs.declared.script.PathLine.{PathLine}
-use Rattle.link_script.specs.declared.script.Script.{Script}
 use Rattle.link_script.specs.declared.script.ScriptLine.{ScriptLine}
 use Rattle.link_script.specs.Places.{same_side, path_named}
 use Rattle.link_model.specs.declared.fate.Fate.{Fate}

@@ -2,9 +2,10 @@
 
 ghost use Rattle.std.specs.Prelude.{◌≡◌, ◌+◌, ◌-◌, ◌^◌, ◌<◌, ◌≤◌, Option};
 ghost use Rattle.std.specs.List.{list_any};
-ghost use Rattle.link_model.specs.Fate.{is_named, fate_told, fate_of, is_stripped_by, is_stripped, is_altered_by, is_altered, has_died_by, is_dead_at, lost_if, twice_unless, cut_short, ticks_of};
+ghost use Rattle.link_model.specs.Fate.{is_named, arrival_told, fate_told, fate_of, is_altered_by, is_altered, has_died_by, is_dead_at, lost_if, twice_unless, cut_short, ticks_of};
+ghost use Rattle.link_model.specs.Lines.{strips_one, strips_all};
 
-use link_script::ScriptLine;
+use link_script::{Happens, ScriptLine, Segment};
 use sides::Side;
 
 /// When a segment arrives, and how often. Ticks are milliseconds.
@@ -37,10 +38,22 @@ pub struct SegmentFate {
     pub altered: bool,
 }
 
-fn is_named(from: Side, number: u64, side: Side, named: u32) -> bool
-    ensures { result ≡ is_named from number side named }
+fn is_named(from: Side, number: u64, segment: Segment) -> bool
+    ensures { result ≡ is_named from number segment }
 {
-    side == from && u64::from(named) == number
+    segment.from == from && u64::from(segment.number) == number
+}
+
+/// What this says of a segment's arrival.
+fn arrival_told(happens: Happens) -> Option<Fate>
+    ensures { result ≡ arrival_told happens }
+{
+    match happens {
+        Happens::Lost => Some(Fate::Lost),
+        Happens::Late(ticks) => Some(Fate::Late { ticks }),
+        Happens::Again(ticks) => Some(Fate::Twice { ticks }),
+        Happens::Stripped | Happens::Altered => None,
+    }
 }
 
 /// What a line says of the arrival of the segment of this number from this side.
@@ -48,23 +61,9 @@ fn fate_told(line: &ScriptLine, from: Side, number: u64) -> Option<Fate>
     ensures { result ≡ fate_told from number line.now }
 {
     match *line {
-        ScriptLine::Drop {
-            from: side,
-            number: named,
-            ..
-        } if is_named(from, number, side, named) => Some(Fate::Lost),
-        ScriptLine::Late {
-            from: side,
-            number: named,
-            ticks,
-            ..
-        } if is_named(from, number, side, named) => Some(Fate::Late { ticks }),
-        ScriptLine::Dup {
-            from: side,
-            number: named,
-            ticks,
-            ..
-        } if is_named(from, number, side, named) => Some(Fate::Twice { ticks }),
+        ScriptLine::OnSegment(segment, happens) if is_named(from, number, segment) => {
+            arrival_told(happens)
+        }
         _ => None,
     }
 }
@@ -81,15 +80,26 @@ pub fn fate_of(lines: &[ScriptLine], from: Side, number: u64) -> Fate
     Fate::OnTime
 }
 
-fn is_stripped_by(line: &ScriptLine, from: Side, number: u64, now: u64) -> bool
-    ensures { result ≡ is_stripped_by from number now line.now }
+fn strips_one(line: &ScriptLine, from: Side, number: u64) -> bool
+    ensures { result ≡ strips_one from number line.now }
 {
     match *line {
-        ScriptLine::Strip {
-            from: side,
-            number: named,
-            ..
-        } => is_named(from, number, side, named),
+        ScriptLine::OnSegment(segment, Happens::Stripped) => is_named(from, number, segment),
+        _ => false,
+    }
+}
+
+/// Whether by one of these lines the segment of this number from this side alone loses its Multipath TCP options.
+pub fn strips_segment(lines: &[ScriptLine], from: Side, number: u64) -> bool
+    ensures { result ≡ list_any (strips_one from number) lines.now }
+{
+    lines.iter().any(|line| strips_one(line, from, number))
+}
+
+fn strips_all(line: &ScriptLine, from: Side, now: u64) -> bool
+    ensures { result ≡ strips_all from now line.now }
+{
+    match *line {
         ScriptLine::StripAll {
             from: side,
             tick,
@@ -99,24 +109,18 @@ fn is_stripped_by(line: &ScriptLine, from: Side, number: u64, now: u64) -> bool
     }
 }
 
-/// Whether the segment of this number, handed over by this side at this tick, loses its Multipath TCP options.
-pub fn is_stripped(lines: &[ScriptLine], from: Side, number: u64, now: u64) -> bool
-    ensures { result ≡ is_stripped from number now lines.now }
+/// Whether by one of these lines every segment that this side hands over at this tick does.
+pub fn strips_from(lines: &[ScriptLine], from: Side, now: u64) -> bool
+    ensures { result ≡ list_any (strips_all from now) lines.now }
 {
-    lines
-        .iter()
-        .any(|line| is_stripped_by(line, from, number, now))
+    lines.iter().any(|line| strips_all(line, from, now))
 }
 
 fn is_altered_by(line: &ScriptLine, from: Side, number: u64) -> bool
     ensures { result ≡ is_altered_by from number line.now }
 {
     match *line {
-        ScriptLine::Alter {
-            from: side,
-            number: named,
-            ..
-        } => is_named(from, number, side, named),
+        ScriptLine::OnSegment(segment, Happens::Altered) => is_named(from, number, segment),
         _ => false,
     }
 }

@@ -7,7 +7,9 @@
 
 mod fate;
 mod flight;
+mod flights;
 mod laws;
+mod lines;
 mod link;
 
 pub use fate::{Fate, SegmentFate};

@@ -1,6 +1,7 @@
 pub mod Numerals
 pub mod Slices
 pub mod ReadTurns
+pub mod Words
 pub mod WrittenText
 pub mod LineRanges
 pub mod ScriptRanges

@@ -4,18 +4,21 @@ use Rattle.std.specs.Prelude.{IfOk, nat_le, is_ok, codes}
 use Rattle.std.specs.Str.Parse.{digits_value}
 use Rattle.std.proofs.lemmas.Bool.{and_parts, leb-true, not-true, both_ways}
 use Rattle.std.proofs.lemmas.Result.{IfOk-at_ok}
+use Rattle.sides.specs.declared.side.Side.{Side}
 use Rattle.link_script.specs.declared.fault.ScriptKind.{ScriptKind}
 use Rattle.link_script.specs.declared.fault.ScriptKind.TheVariants.{Word, Number}
 use Rattle.link_script.specs.declared.limits.Limits.{Limits}
 use Rattle.link_script.specs.Ranges.{seeds, buffers, path_numbers, first_path_number, segment_sizes, delays, segment_numbers, latenesses, run_ticks, address_ids}
 use Rattle.link_script.specs.declared.line.Line.{Line}
 use Rattle.link_script.specs.declared.line.Line.TheVariants as line
-use Rattle.link_script.specs.declared.segment.Segment.{Segment}
+use Rattle.link_script.specs.declared.script.Happens.{Happens}
+use Rattle.link_script.specs.declared.script.Happens.TheVariants.{Lost, Late, Again, Stripped, Altered}
+use Rattle.link_script.specs.declared.script.Segment.{Segment}
 use Rattle.link_script.specs.declared.word.Keyword.{Keyword}
 use Rattle.link_script.specs.declared.word.Keyword.TheVariants as first
-use Rattle.link_script.specs.Lines.{seed_line, checksum_line, short_line, buffer_line, path_options, may_have, path_of, path_line, segment, drop_line, strip_line, alter_line, dup_line, late_line, strip_all_line, die_line, prio_line, add_line, remove_line, fast_close_line, end_line, line_after, line_of}
+use Rattle.link_script.specs.Lines.{seed_line, checksum_line, short_line, buffer_line, path_options, may_have, path_of, path_line, segment, ticks_word, with_ticks, on_segment_line, strip_all_line, die_line, prio_line, add_line, remove_line, fast_close_line, end_line, line_after, line_of}
 use Rattle.link_script.specs.Numbers.{is_numeral, is_within, within}
-use Rattle.link_script.specs.Scripts.{IsInRange, IsPath, IsEvent}
+use Rattle.link_script.specs.Scripts.{IsInRange, IsPath, IsHappening, IsEvent}
 use Rattle.link_script.specs.Steps.{◌>>=◌}
 use Rattle.link_script.specs.Words.{fixed, keyword, direction, side, switch}
 
@@ -147,62 +150,30 @@ path_holds (path ∷ a ∷ mss ∷ b ∷ delay ∷ options) =
 abbrev IsSegment : Segment → Type 0
 IsSegment s = (s.path < most_paths) × IsInRange segment_numbers s.number
 
-segment_holds : (path from number : List ℕ) → Holds (segment path from number) IsSegment
+segment_holds : (path : List ℕ) (from : Side) (number : List ℕ) → Holds (segment path from number) IsSegment
 unfolding segment
 segment_holds path from number =
-    after (direction from) _ _ (λ side f.
     after (within path_numbers path) _ _ (λ index i.
     after (within segment_numbers number) _ _ (λ n k.
-    (path_below path index i, in_limits segment_numbers number n k))))
+    (path_below path index i, in_limits segment_numbers number n k)))
 
-segment_is : (path from number : List ℕ) (s : Segment) → segment path from number ≡ Ok s → IsSegment s
-segment_is path from number s e = IfOk-at_ok IsSegment e (segment_holds path from number)
+ticks_hold : (happens : Happens) (ticks : ℕ) → IsInRange latenesses ticks → IsHappening (with_ticks ticks happens)
+ticks_hold Lost ticks h = tt
+ticks_hold (Late _) ticks h = h
+ticks_hold (Again _) ticks h = h
+ticks_hold Stripped ticks h = tt
+ticks_hold Altered ticks h = tt
 
-drop_holds : (words : List (List ℕ)) → Holds (drop_line words) IsLine
-unfolding drop_line
-drop_holds [] = tt
-drop_holds (path ∷ []) = tt
-drop_holds (path ∷ from ∷ []) = tt
-drop_holds (path ∷ from ∷ number ∷ []) = after (segment path from number) _ _ (λ s e. segment_is path from number s e)
-drop_holds (path ∷ from ∷ number ∷ m ∷ words) = tt
-
-strip_holds : (words : List (List ℕ)) → Holds (strip_line words) IsLine
-unfolding strip_line
-strip_holds [] = tt
-strip_holds (path ∷ []) = tt
-strip_holds (path ∷ from ∷ []) = tt
-strip_holds (path ∷ from ∷ number ∷ []) = after (segment path from number) _ _ (λ s e. segment_is path from number s e)
-strip_holds (path ∷ from ∷ number ∷ m ∷ words) = tt
-
-alter_holds : (words : List (List ℕ)) → Holds (alter_line words) IsLine
-unfolding alter_line
-alter_holds [] = tt
-alter_holds (path ∷ []) = tt
-alter_holds (path ∷ from ∷ []) = tt
-alter_holds (path ∷ from ∷ number ∷ []) = after (segment path from number) _ _ (λ s e. segment_is path from number s e)
-alter_holds (path ∷ from ∷ number ∷ m ∷ words) = tt
-
-dup_holds : (words : List (List ℕ)) → Holds (dup_line words) IsLine
-unfolding dup_line
-dup_holds [] = tt
-dup_holds (path ∷ []) = tt
-dup_holds (path ∷ from ∷ []) = tt
-dup_holds (path ∷ from ∷ number ∷ []) = tt
-dup_holds (path ∷ from ∷ number ∷ ticks ∷ []) =
-    after (segment path from number) _ _ (λ s e. let at = segment_is path from number s e in
-    after (within latenesses ticks) _ _ (λ t l. (at.0, at.1, in_limits latenesses ticks t l)))
-dup_holds (path ∷ from ∷ number ∷ ticks ∷ m ∷ words) = tt
-
-late_holds : (words : List (List ℕ)) → Holds (late_line words) IsLine
-unfolding late_line
-late_holds [] = tt
-late_holds (path ∷ []) = tt
-late_holds (path ∷ from ∷ []) = tt
-late_holds (path ∷ from ∷ number ∷ []) = tt
-late_holds (path ∷ from ∷ number ∷ ticks ∷ []) =
-    after (segment path from number) _ _ (λ s e. let at = segment_is path from number s e in
-    after (within latenesses ticks) _ _ (λ t l. (at.0, at.1, in_limits latenesses ticks t l)))
-late_holds (path ∷ from ∷ number ∷ ticks ∷ m ∷ words) = tt
+on_segment_holds : (happens : Happens) (words : List (List ℕ)) → Holds (on_segment_line happens words) IsLine
+unfolding on_segment_line
+on_segment_holds happens [] = tt
+on_segment_holds happens (path ∷ []) = tt
+on_segment_holds happens (path ∷ from ∷ []) = tt
+on_segment_holds happens (path ∷ from ∷ number ∷ more) =
+    after (direction from) _ _ (λ side f.
+    after (ticks_word happens more) _ _ (λ ticks w.
+    after (segment path side number) _ _ (λ s e. let at = IfOk-at_ok IsSegment e (segment_holds path side number) in
+    after (within latenesses ticks) _ _ (λ t l. (at.0, at.1, ticks_hold happens t (in_limits latenesses ticks t l))))))
 
 -- ---- ticks
 
@@ -284,11 +255,11 @@ after_keyword first.Checksum words = checksum_holds words
 after_keyword first.Short words = short_holds words
 after_keyword first.Buffer words = buffer_holds words
 after_keyword first.Path words = path_holds words
-after_keyword first.Drop words = drop_holds words
-after_keyword first.Strip words = strip_holds words
-after_keyword first.Alter words = alter_holds words
-after_keyword first.Dup words = dup_holds words
-after_keyword first.Late words = late_holds words
+after_keyword first.Drop words = on_segment_holds Lost words
+after_keyword first.Strip words = on_segment_holds Stripped words
+after_keyword first.Alter words = on_segment_holds Altered words
+after_keyword first.Dup words = on_segment_holds (Again 0) words
+after_keyword first.Late words = on_segment_holds (Late 0) words
 after_keyword first.StripAll words = strip_all_holds words
 after_keyword first.Die words = die_holds words
 after_keyword first.Prio words = prio_holds words

@@ -15,7 +15,8 @@ use Rattle.link_script.specs.declared.line.Line.TheVariants.{Header, Seed, Buffe
 use Rattle.link_script.specs.declared.script.PathLine.{PathLine}
 use Rattle.link_script.specs.declared.script.Script.{Script}
 use Rattle.link_script.specs.declared.script.ScriptLine.{ScriptLine}
-use Rattle.link_script.specs.declared.script.ScriptLine.TheVariants.{Drop}
+use Rattle.link_script.specs.declared.script.Happens.TheVariants.{Lost, Late, Again, Stripped, Altered}
+use Rattle.link_script.specs.declared.script.ScriptLine.TheVariants.{OnSegment}
 use Rattle.link_script.specs.Places.{is_end}
 use Rattle.link_script.specs.Reading.{in_place, later_line, seen_after, read_on, blank, with_line, script_of, reading}
 use Rattle.link_script.specs.Scripts.{IsPath, IsEvent, OpensPlainly, HasRanges}
@@ -36,7 +37,11 @@ begins ([] ∷ words) = false
 begins ((octet ∷ word) ∷ words) = not (octet == 35)
 
 begins_event : (event : ScriptLine) → begins (event_words event) ≡ true
-begins_event (Drop path from number) = refl
+begins_event (OnSegment segment Lost) = refl
+begins_event (OnSegment segment (Late ticks)) = refl
+begins_event (OnSegment segment (Again ticks)) = refl
+begins_event (OnSegment segment Stripped) = refl
+begins_event (OnSegment segment Altered) = refl
 begins_event event = refl
 
 begins_line : (line : Line) → begins (line_words line) ≡ true

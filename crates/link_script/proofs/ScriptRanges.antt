@@ -11,7 +11,7 @@ use Rattle.link_script.specs.declared.line.Line.TheVariants.{Header, Seed, Check
 use Rattle.link_script.specs.declared.script.PathLine.{PathLine}
 use Rattle.link_script.specs.declared.script.Script.{Script}
 use Rattle.link_script.specs.declared.script.ScriptLine.{ScriptLine}
-use Rattle.link_script.specs.declared.script.ScriptLine.TheVariants.{Drop, Strip, Alter, Dup, Late, StripAll, Die, Prio, Add, Remove, FastClose}
+use Rattle.link_script.specs.declared.script.ScriptLine.TheVariants.{OnSegment, StripAll, Die, Prio, Add, Remove, FastClose}
 use Rattle.link_script.specs.Places.{path_named, lacks, is_misplaced, settle_one}
 use Rattle.link_script.specs.Reading.{blank, with_line}
 use Rattle.link_script.specs.Scripts.{IsInRange, IsPath, OpensPlainly, IsEvent, SettleApart}
@@ -43,11 +43,7 @@ pub record EventsKept (paths : ℕ) (events : List ScriptLine) : Type 0 where
 
 -- a line that has its ranges speaks of a path that is there, where it isn't misplaced
 named : (limit paths : ℕ) (event : ScriptLine) → IsEvent limit event → lacks paths (path_named event) ≡ false → IsEvent paths event
-named limit paths (Drop path from number) h m = (leb-false paths path m, h.1)
-named limit paths (Strip path from number) h m = (leb-false paths path m, h.1)
-named limit paths (Alter path from number) h m = (leb-false paths path m, h.1)
-named limit paths (Dup path from number ticks) h m = (leb-false paths path m, h.1, h.2)
-named limit paths (Late path from number ticks) h m = (leb-false paths path m, h.1, h.2)
+named limit paths (OnSegment segment happens) h m = (leb-false paths segment.path m, h.1, h.2)
 named limit paths (StripAll path from tick) h m = (leb-false paths path m, h.1)
 named limit paths (Die path tick) h m = (leb-false paths path m, h.1)
 named limit paths (Prio path side tick on) h m = (leb-false paths path m, h.1)
@@ -57,11 +53,7 @@ named limit paths (FastClose side tick) h m = h
 
 -- more paths are no harm
 pub wider : (paths more : ℕ) (event : ScriptLine) → paths ≤ more → IsEvent paths event → IsEvent more event
-wider paths more (Drop path from number) le h = (omega (arith, h.0), h.1)
-wider paths more (Strip path from number) le h = (omega (arith, h.0), h.1)
-wider paths more (Alter path from number) le h = (omega (arith, h.0), h.1)
-wider paths more (Dup path from number ticks) le h = (omega (arith, h.0), h.1, h.2)
-wider paths more (Late path from number ticks) le h = (omega (arith, h.0), h.1, h.2)
+wider paths more (OnSegment segment happens) le h = (omega (arith, h.0), h.1, h.2)
 wider paths more (StripAll path from tick) le h = (omega (arith, h.0), h.1)
 wider paths more (Die path tick) le h = (omega (arith, h.0), h.1)
 wider paths more (Prio path side tick on) le h = (omega (arith, h.0), h.1)

@@ -11,13 +11,16 @@ use Rattle.link_script.specs.Ranges.{seeds, buffers, path_numbers, segment_sizes
 use Rattle.link_script.specs.declared.line.Line.{Line}
 use Rattle.link_script.specs.declared.line.Line.TheVariants.{Header, Seed, Checksum, Short, Buffer, Path, Event, End}
 use Rattle.link_script.specs.declared.script.PathLine.{PathLine}
+use Rattle.link_script.specs.declared.script.Happens.{Happens}
+use Rattle.link_script.specs.declared.script.Happens.TheVariants.{Lost, Late, Again, Stripped, Altered}
+use Rattle.link_script.specs.declared.script.Segment.{Segment}
 use Rattle.link_script.specs.declared.script.ScriptLine.{ScriptLine}
-use Rattle.link_script.specs.declared.script.ScriptLine.TheVariants.{Drop, Strip, Alter, Dup, Late, StripAll, Die, Prio, Add, Remove, FastClose}
-use Rattle.link_script.specs.Lines.{seed_line, checksum_line, short_line, buffer_line, path_options, may_have, path_of, path_line, segment, drop_line, strip_line, alter_line, dup_line, late_line, strip_all_line, die_line, prio_line, add_line, remove_line, fast_close_line, end_line, line_of}
+use Rattle.link_script.specs.declared.script.ScriptLine.TheVariants.{OnSegment, StripAll, Die, Prio, Add, Remove, FastClose}
+use Rattle.link_script.specs.Lines.{seed_line, checksum_line, short_line, buffer_line, path_options, may_have, path_of, path_line, segment, ticks_word, on_segment_line, strip_all_line, die_line, prio_line, add_line, remove_line, fast_close_line, end_line, line_of}
 use Rattle.link_script.specs.Numbers.{within}
-use Rattle.link_script.specs.Scripts.{IsInRange, IsPath, IsEvent}
+use Rattle.link_script.specs.Scripts.{IsInRange, IsPath, IsHappening, IsEvent}
 use Rattle.link_script.specs.Words.{fixed, keyword, direction, direction_word, side, switch, switch_word}
-use Rattle.link_script.specs.Writing.{backup_words, event_words, line_words}
+use Rattle.link_script.specs.Writing.{backup_words, segment_words, happens_words, event_words, line_words}
 use Rattle.link_script.proofs.LineRanges.{most_paths, IsLine}
 use Rattle.link_script.proofs.WrittenWords.{IsPlain, ArePlain, plain_number, number_again, later_path}
 
@@ -64,19 +67,27 @@ plain_within limits n small h = plain_number n (omega (arith, h.most))
 plain_path : (n : ℕ) → n < most_paths → IsPlain (decimal n)
 plain_path n h = plain_number n (omega arith)
 
+no_ticks : within latenesses (codes "0") ≡ Ok 0
+unfolding within
+no_ticks = refl
+
 -- ---- the lines of segments and ticks
 
-segment_again : (path : ℕ) (from : Side) (number : ℕ) → path < most_paths → IsInRange segment_numbers number → segment (decimal path) (direction_word from) (decimal number) ≡ Ok (record { path = path; from = from; number = number })
+segment_again : (s : Segment) → s.path < most_paths → IsInRange segment_numbers s.number → segment (decimal s.path) s.from (decimal s.number) ≡ Ok s
 unfolding segment
-segment_again path from number h n = rw (direction_again from, path_again path h, again segment_numbers number (omega arith) n) refl
+segment_again s h n = rw (path_again s.path h, again segment_numbers s.number (omega arith) n) refl
+
+happening_again : (s : Segment) (happens : Happens) → IsEvent most_paths (OnSegment s happens) → line_of (event_words (OnSegment s happens)) ≡ Ok (Event (OnSegment s happens))
+unfolding line_of keyword on_segment_line ticks_word
+happening_again s Lost h = rw (direction_again s.from, segment_again s h.0 h.1, no_ticks) refl
+happening_again s (Late ticks) h = rw (direction_again s.from, segment_again s h.0 h.1, again latenesses ticks (omega arith) h.2) refl
+happening_again s (Again ticks) h = rw (direction_again s.from, segment_again s h.0 h.1, again latenesses ticks (omega arith) h.2) refl
+happening_again s Stripped h = rw (direction_again s.from, segment_again s h.0 h.1, no_ticks) refl
+happening_again s Altered h = rw (direction_again s.from, segment_again s h.0 h.1, no_ticks) refl
 
 event_again : (event : ScriptLine) → IsEvent most_paths event → line_of (event_words event) ≡ Ok (Event event)
-unfolding line_of keyword drop_line strip_line alter_line dup_line late_line strip_all_line die_line prio_line add_line fixed remove_line fast_close_line
-event_again (Drop path from number) h = rw (segment_again path from number h.0 h.1) refl
-event_again (Strip path from number) h = rw (segment_again path from number h.0 h.1) refl
-event_again (Alter path from number) h = rw (segment_again path from number h.0 h.1) refl
-event_again (Dup path from number ticks) h = rw (segment_again path from number h.0 h.1, again latenesses ticks (omega arith) h.2) refl
-event_again (Late path from number ticks) h = rw (segment_again path from number h.0 h.1, again latenesses ticks (omega arith) h.2) refl
+unfolding line_of keyword strip_all_line die_line prio_line add_line fixed remove_line fast_close_line
+event_again (OnSegment s happens) h = happening_again s happens h
 event_again (StripAll path from tick) h = rw (direction_again from, path_again path h.0, again run_ticks tick (omega arith) h.1) refl
 event_again (Die path tick) h = rw (path_again path h.0, again run_ticks tick (omega arith) h.1) refl
 event_again (Prio path which tick on) h = rw (side_again which, switch_again on, path_again path h.0, again run_ticks tick (omega arith) h.1) refl
@@ -84,12 +95,24 @@ event_again (Add id tick) h = rw (again address_ids id (omega arith) h.0, again 
 event_again (Remove which id tick) h = rw (side_again which, again address_ids id (omega arith) h.0, again run_ticks tick (omega arith) h.1) refl
 event_again (FastClose which tick) h = rw (side_again which, again run_ticks tick (omega arith) h) refl
 
+plain_happening : (s : Segment) (happens : Happens) → IsEvent most_paths (OnSegment s happens) → ArePlain (event_words (OnSegment s happens))
+plain_happening s happens h = by happens h.2
+  where
+    path : IsPlain (decimal s.path)
+    path = plain_path s.path h.0
+
+    number : IsPlain (decimal s.number)
+    number = plain_within segment_numbers s.number (omega arith) h.1
+
+    by : (happens : Happens) → IsHappening happens → ArePlain (happens_words happens (segment_words s))
+    by Lost _ = (refl, (path, (plain_direction s.from, (number, tt))))
+    by (Late ticks) late = (refl, (path, (plain_direction s.from, (number, (plain_within latenesses ticks (omega arith) late, tt)))))
+    by (Again ticks) late = (refl, (path, (plain_direction s.from, (number, (plain_within latenesses ticks (omega arith) late, tt)))))
+    by Stripped _ = (refl, (path, (plain_direction s.from, (number, tt))))
+    by Altered _ = (refl, (path, (plain_direction s.from, (number, tt))))
+
 plain_event : (event : ScriptLine) → IsEvent most_paths event → ArePlain (event_words event)
-plain_event (Drop path from number) h = (refl, (plain_path path h.0, (plain_direction from, (plain_within segment_numbers number (omega arith) h.1, tt))))
-plain_event (Strip path from number) h = (refl, (plain_path path h.0, (plain_direction from, (plain_within segment_numbers number (omega arith) h.1, tt))))
-plain_event (Alter path from number) h = (refl, (plain_path path h.0, (plain_direction from, (plain_within segment_numbers number (omega arith) h.1, tt))))
-plain_event (Dup path from number ticks) h = (refl, (plain_path path h.0, (plain_direction from, (plain_within segment_numbers number (omega arith) h.1, (plain_within latenesses ticks (omega arith) h.2, tt)))))
-plain_event (Late path from number ticks) h = (refl, (plain_path path h.0, (plain_direction from, (plain_within segment_numbers number (omega arith) h.1, (plain_within latenesses ticks (omega arith) h.2, tt)))))
+plain_event (OnSegment s happens) h = plain_happening s happens h
 plain_event (StripAll path from tick) h = (refl, (plain_path path h.0, (plain_direction from, (plain_within run_ticks tick (omega arith) h.1, tt))))
 plain_event (Die path tick) h = (refl, (plain_path path h.0, (plain_within run_ticks tick (omega arith) h.1, tt)))
 plain_event (Prio path which tick on) h = (refl, (plain_path path h.0, (plain_side which, (plain_within run_ticks tick (omega arith) h.1, (plain_switch on, tt)))))

@@ -12,8 +12,9 @@ use Rattle.link_script.specs.declared.line.Line.TheVariants.{Header, Seed, Check
 use Rattle.link_script.specs.declared.place.Subject.{Subject}
 use Rattle.link_script.specs.declared.script.PathLine.{PathLine}
 use Rattle.link_script.specs.declared.script.Script.{Script}
+use Rattle.link_script.specs.declared.script.Happens.TheVariants.{Lost, Late, Again, Stripped, Altered}
 use Rattle.link_script.specs.declared.script.ScriptLine.{ScriptLine}
-use Rattle.link_script.specs.declared.script.ScriptLine.TheVariants.{Drop, Strip, Alter, Dup, Late, StripAll, Die, Prio, Add, Remove, FastClose}
+use Rattle.link_script.specs.declared.script.ScriptLine.TheVariants.{OnSegment, StripAll, Die, Prio, Add, Remove, FastClose}
 use Rattle.link_script.specs.Places.{is_path, is_end, path_named, lacks, is_out_of_order, settled_by, are_same, settle_one, is_repeated}
 use Rattle.link_script.specs.Reading.{in_place}
 use Rattle.link_script.specs.Scripts.{IsEvent, SettleApart, HasRanges}
@@ -64,19 +65,35 @@ one_before line paths goes count apart = record {
 -- ---- settings
 
 seed_apart : (n : ℕ) → IsApart (Seed n)
-seed_apart n (Drop path from number) = refl
+seed_apart n (OnSegment segment Lost) = refl
+seed_apart n (OnSegment segment (Late ticks)) = refl
+seed_apart n (OnSegment segment (Again ticks)) = refl
+seed_apart n (OnSegment segment Stripped) = refl
+seed_apart n (OnSegment segment Altered) = refl
 seed_apart n event = refl
 
 checksum_apart : (on : Bool) → IsApart (Checksum on)
-checksum_apart on (Drop path from number) = refl
+checksum_apart on (OnSegment segment Lost) = refl
+checksum_apart on (OnSegment segment (Late ticks)) = refl
+checksum_apart on (OnSegment segment (Again ticks)) = refl
+checksum_apart on (OnSegment segment Stripped) = refl
+checksum_apart on (OnSegment segment Altered) = refl
 checksum_apart on event = refl
 
 short_apart : (on : Bool) → IsApart (Short on)
-short_apart on (Drop path from number) = refl
+short_apart on (OnSegment segment Lost) = refl
+short_apart on (OnSegment segment (Late ticks)) = refl
+short_apart on (OnSegment segment (Again ticks)) = refl
+short_apart on (OnSegment segment Stripped) = refl
+short_apart on (OnSegment segment Altered) = refl
 short_apart on event = refl
 
 buffer_apart : (octets : ℕ) → IsApart (Buffer octets)
-buffer_apart octets (Drop path from number) = refl
+buffer_apart octets (OnSegment segment Lost) = refl
+buffer_apart octets (OnSegment segment (Late ticks)) = refl
+buffer_apart octets (OnSegment segment (Again ticks)) = refl
+buffer_apart octets (OnSegment segment Stripped) = refl
+buffer_apart octets (OnSegment segment Altered) = refl
 buffer_apart octets event = refl
 
 either_before : (b : Bool) (line : Line) → Before (line ∷ []) 0 → Before (cond b [] (line ∷ [])) 0
@@ -156,11 +173,7 @@ placed_paths index (path ∷ paths) seen h =
 -- ---- events
 
 there : (paths : ℕ) (event : ScriptLine) → 0 < paths → IsEvent paths event → lacks paths (path_named event) ≡ false
-there paths (Drop path from number) some h = lt-leb paths path h.0
-there paths (Strip path from number) some h = lt-leb paths path h.0
-there paths (Alter path from number) some h = lt-leb paths path h.0
-there paths (Dup path from number ticks) some h = lt-leb paths path h.0
-there paths (Late path from number ticks) some h = lt-leb paths path h.0
+there paths (OnSegment segment happens) some h = lt-leb paths segment.path h.0
 there paths (StripAll path from tick) some h = lt-leb paths path h.0
 there paths (Die path tick) some h = lt-leb paths path h.0
 there paths (Prio path side tick on) some h = lt-leb paths path h.0

@@ -5,8 +5,11 @@ use Rattle.link_script.specs.declared.fault.ScriptKind.TheVariants.{Word}
 use Rattle.link_script.specs.Ranges.{seeds, buffers, path_numbers, first_path_number, segment_sizes, delays, segment_numbers, latenesses, run_ticks, address_ids}
 use Rattle.link_script.specs.declared.line.Line.{Line}
 use Rattle.link_script.specs.declared.line.Line.TheVariants as line
-use Rattle.link_script.specs.declared.script.ScriptLine.TheVariants.{Drop, Strip, Alter, Dup, Late, StripAll, Die, Prio, Add, Remove, FastClose}
-use Rattle.link_script.specs.declared.segment.Segment.{Segment}
+use Rattle.link_script.specs.declared.script.ScriptLine.TheVariants.{OnSegment, StripAll, Die, Prio, Add, Remove, FastClose}
+use Rattle.link_script.specs.declared.script.Happens.{Happens}
+use Rattle.link_script.specs.declared.script.Happens.TheVariants.{Lost, Late, Again, Stripped, Altered}
+use Rattle.link_script.specs.declared.script.Segment.{Segment}
+use Rattle.sides.specs.declared.side.Side.{Side}
 use Rattle.link_script.specs.declared.word.Keyword.{Keyword}
 use Rattle.link_script.specs.declared.word.Keyword.TheVariants as first
 use Rattle.link_script.specs.Numbers.{within}
@@ -79,50 +82,39 @@ path_line (path ∷ a ∷ mss ∷ b ∷ delay ∷ options) = do
   if may_have path options then path_of path mss delay option.0 option.1 else Err Word
 path_line words = Err Word
 
--- I DIR N
-unfoldable pub segment : List ℕ → List ℕ → List ℕ → Result Segment ScriptKind
+-- I N of a segment from this side
+unfoldable pub segment : List ℕ → Side → List ℕ → Result Segment ScriptKind
 segment path from number = do
-  side ← direction from
   index ← within path_numbers path
   n ← within segment_numbers number
-  Ok (record { path = index; from = side; number = n })
+  Ok (record { path = index; from = from; number = n })
 
--- drop I DIR N
-unfoldable pub drop_line : List (List ℕ) → Result Line ScriptKind
-drop_line (path ∷ from ∷ number ∷ []) = do
-  s ← segment path from number
-  Ok (line.Event (Drop s.path s.from s.number))
-drop_line words = Err Word
+-- the word of the ticks, which are told where a segment comes late or again; else they are 0
+unfoldable pub ticks_word : Happens → List (List ℕ) → Result (List ℕ) ScriptKind
+ticks_word (Late _) (ticks ∷ []) = Ok ticks
+ticks_word (Again _) (ticks ∷ []) = Ok ticks
+ticks_word Lost [] = Ok (codes "0")
+ticks_word Stripped [] = Ok (codes "0")
+ticks_word Altered [] = Ok (codes "0")
+ticks_word happens words = Err Word
 
--- strip I DIR N
-unfoldable pub strip_line : List (List ℕ) → Result Line ScriptKind
-strip_line (path ∷ from ∷ number ∷ []) = do
-  s ← segment path from number
-  Ok (line.Event (Strip s.path s.from s.number))
-strip_line words = Err Word
+-- late by so many ticks, or again after so many
+abbrev pub with_ticks : ℕ → Happens → Happens
+with_ticks ticks (Late _) = Late ticks
+with_ticks ticks (Again _) = Again ticks
+with_ticks ticks Lost = Lost
+with_ticks ticks Stripped = Stripped
+with_ticks ticks Altered = Altered
 
--- alter I DIR N
-unfoldable pub alter_line : List (List ℕ) → Result Line ScriptKind
-alter_line (path ∷ from ∷ number ∷ []) = do
-  s ← segment path from number
-  Ok (line.Event (Alter s.path s.from s.number))
-alter_line words = Err Word
-
--- dup I DIR N TICKS
-unfoldable pub dup_line : List (List ℕ) → Result Line ScriptKind
-dup_line (path ∷ from ∷ number ∷ ticks ∷ []) = do
-  s ← segment path from number
+-- I DIR N of a segment to which this happens, and TICKS in the place of its own where it comes late or again
+unfoldable pub on_segment_line : Happens → List (List ℕ) → Result Line ScriptKind
+on_segment_line happens (path ∷ from ∷ number ∷ more) = do
+  side ← direction from
+  ticks ← ticks_word happens more
+  s ← segment path side number
   t ← within latenesses ticks
-  Ok (line.Event (Dup s.path s.from s.number t))
-dup_line words = Err Word
-
--- late I DIR N TICKS
-unfoldable pub late_line : List (List ℕ) → Result Line ScriptKind
-late_line (path ∷ from ∷ number ∷ ticks ∷ []) = do
-  s ← segment path from number
-  t ← within latenesses ticks
-  Ok (line.Event (Late s.path s.from s.number t))
-late_line words = Err Word
+  Ok (line.Event (OnSegment s (with_ticks t happens)))
+on_segment_line happens words = Err Word
 
 -- strip-all I DIR TICK
 unfoldable pub strip_all_line : List (List ℕ) → Result Line ScriptKind
@@ -189,11 +181,11 @@ line_after first.Checksum words = checksum_line words
 line_after first.Short words = short_line words
 line_after first.Buffer words = buffer_line words
 line_after first.Path words = path_line words
-line_after first.Drop words = drop_line words
-line_after first.Strip words = strip_line words
-line_after first.Alter words = alter_line words
-line_after first.Dup words = dup_line words
-line_after first.Late words = late_line words
+line_after first.Drop words = on_segment_line Lost words
+line_after first.Strip words = on_segment_line Stripped words
+line_after first.Alter words = on_segment_line Altered words
+line_after first.Dup words = on_segment_line (Again 0) words
+line_after first.Late words = on_segment_line (Late 0) words
 line_after first.StripAll words = strip_all_line words
 line_after first.Die words = die_line words
 line_after first.Prio words = prio_line words

@@ -7,9 +7,11 @@ use Rattle.link_script.specs.declared.line.Line.{Line}
 use Rattle.link_script.specs.declared.line.Line.TheVariants.{Header, Seed, Checksum, Short, Buffer, Path, Event, End}
 use Rattle.link_script.specs.declared.place.Subject.{Subject}
 use Rattle.link_script.specs.declared.place.Subject.TheVariants as settles
+use Rattle.link_script.specs.declared.script.Happens.{Happens}
+use Rattle.link_script.specs.declared.script.Happens.TheVariants.{Lost, Late, Again, Stripped, Altered}
 use Rattle.link_script.specs.declared.script.ScriptLine.{ScriptLine}
-use Rattle.link_script.specs.declared.script.ScriptLine.TheVariants.{Drop, Strip, Alter, Dup, Late, StripAll, Die, Prio, Add, Remove, FastClose}
-use Rattle.link_script.specs.declared.segment.Segment.{Segment}
+use Rattle.link_script.specs.declared.script.ScriptLine.TheVariants.{OnSegment, StripAll, Die, Prio, Add, Remove, FastClose}
+use Rattle.link_script.specs.declared.script.Segment.{Segment}
 
 abbrev pub is_path : Line → Bool
 is_path (Path index path) = true
@@ -21,11 +23,7 @@ is_end line = false
 
 -- the path that a line names
 abbrev pub path_named : ScriptLine → Option ℕ
-path_named (Drop path from number) = Some path
-path_named (Strip path from number) = Some path
-path_named (Alter path from number) = Some path
-path_named (Dup path from number ticks) = Some path
-path_named (Late path from number ticks) = Some path
+path_named (OnSegment segment happens) = Some segment.path
 path_named (StripAll path from tick) = Some path
 path_named (Die path tick) = Some path
 path_named (Prio path side tick on) = Some path
@@ -54,13 +52,17 @@ is_misplaced paths End = paths == 0
 abbrev pub is_out_of_order : List Line → Line → Bool
 is_out_of_order seen line = list_any is_end seen || is_misplaced (count_by is_path seen) line
 
+-- what of a segment this settles
+abbrev pub settled_of : Segment → Happens → Subject
+settled_of segment Lost = settles.Arrival segment
+settled_of segment (Late ticks) = settles.Arrival segment
+settled_of segment (Again ticks) = settles.Arrival segment
+settled_of segment Stripped = settles.Options segment
+settled_of segment Altered = settles.Payload segment
+
 -- what a line settles, so that no second line may settle it again
 abbrev pub settled_by_event : ScriptLine → Option Subject
-settled_by_event (Drop path from number) = Some (settles.Arrival (record { path = path; from = from; number = number }))
-settled_by_event (Dup path from number ticks) = Some (settles.Arrival (record { path = path; from = from; number = number }))
-settled_by_event (Late path from number ticks) = Some (settles.Arrival (record { path = path; from = from; number = number }))
-settled_by_event (Strip path from number) = Some (settles.Options (record { path = path; from = from; number = number }))
-settled_by_event (Alter path from number) = Some (settles.Payload (record { path = path; from = from; number = number }))
+settled_by_event (OnSegment segment happens) = Some (settled_of segment happens)
 settled_by_event (StripAll path from tick) = Some (settles.AllOptions path from)
 settled_by_event (Die path tick) = Some (settles.Death path)
 settled_by_event (FastClose side tick) = Some (settles.FastClose side)

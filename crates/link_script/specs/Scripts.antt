@@ -6,8 +6,10 @@ use Rattle.link_script.specs.Ranges.{most_lines, seeds, buffers, path_numbers, s
 use Rattle.link_script.specs.declared.line.Line.TheVariants.{Event}
 use Rattle.link_script.specs.declared.script.PathLine.{PathLine}
 use Rattle.link_script.specs.declared.script.Script.{Script}
+use Rattle.link_script.specs.declared.script.Happens.{Happens}
+use Rattle.link_script.specs.declared.script.Happens.TheVariants.{Lost, Late, Again, Stripped, Altered}
 use Rattle.link_script.specs.declared.script.ScriptLine.{ScriptLine}
-use Rattle.link_script.specs.declared.script.ScriptLine.TheVariants.{Drop, Strip, Alter, Dup, Late, StripAll, Die, Prio, Add, Remove, FastClose}
+use Rattle.link_script.specs.declared.script.ScriptLine.TheVariants.{OnSegment, StripAll, Die, Prio, Add, Remove, FastClose}
 use Rattle.link_script.specs.Places.{settle_one}
 use Rattle.link_script.specs.Reading.{reading}
 use Rattle.link_script.specs.Writing.{lines_of}
@@ -31,13 +33,17 @@ abbrev pub OpensPlainly : List PathLine → Type 0
 OpensPlainly [] = Unit {0}
 OpensPlainly (path ∷ paths) = (path.join ≡ 0) × (path.backup ≡ false)
 
+-- the ticks by which a segment is late, or comes again, are in range
+abbrev pub IsHappening : Happens → Type 0
+IsHappening (Late ticks) = IsInRange latenesses ticks
+IsHappening (Again ticks) = IsInRange latenesses ticks
+IsHappening Lost = Unit {0}
+IsHappening Stripped = Unit {0}
+IsHappening Altered = Unit {0}
+
 -- a line of what happens: its numbers are in range, and a path that it names is one of so many
 abbrev pub IsEvent : ℕ → ScriptLine → Type 0
-IsEvent paths (Drop path from number) = (path < paths) × IsInRange segment_numbers number
-IsEvent paths (Strip path from number) = (path < paths) × IsInRange segment_numbers number
-IsEvent paths (Alter path from number) = (path < paths) × IsInRange segment_numbers number
-IsEvent paths (Dup path from number ticks) = (path < paths) × IsInRange segment_numbers number × IsInRange latenesses ticks
-IsEvent paths (Late path from number ticks) = (path < paths) × IsInRange segment_numbers number × IsInRange latenesses ticks
+IsEvent paths (OnSegment segment happens) = (segment.path < paths) × IsInRange segment_numbers segment.number × IsHappening happens
 IsEvent paths (StripAll path from tick) = (path < paths) × IsInRange run_ticks tick
 IsEvent paths (Die path tick) = (path < paths) × IsInRange run_ticks tick
 IsEvent paths (Prio path side tick on) = (path < paths) × IsInRange run_ticks tick

@@ -8,13 +8,27 @@ use Rattle.link_script.specs.declared.line.Line.{Line}
 use Rattle.link_script.specs.declared.line.Line.TheVariants.{Header, Seed, Checksum, Short, Buffer, Path, Event, End}
 use Rattle.link_script.specs.declared.script.PathLine.{PathLine}
 use Rattle.link_script.specs.declared.script.Script.{Script}
+use Rattle.link_script.specs.declared.script.Happens.{Happens}
+use Rattle.link_script.specs.declared.script.Happens.TheVariants.{Lost, Late, Again, Stripped, Altered}
 use Rattle.link_script.specs.declared.script.ScriptLine.{ScriptLine}
-use Rattle.link_script.specs.declared.script.ScriptLine.TheVariants.{Drop, Strip, Alter, Dup, Late, StripAll, Die, Prio, Add, Remove, FastClose}
+use Rattle.link_script.specs.declared.script.ScriptLine.TheVariants.{OnSegment, StripAll, Die, Prio, Add, Remove, FastClose}
+use Rattle.link_script.specs.declared.script.Segment.{Segment}
+use Rattle.link_script.specs.declared.writing.Word.{Word}
+use Rattle.link_script.specs.declared.writing.Word.TheVariants.{Text, Number}
 use Rattle.link_script.specs.Words.{direction_word, switch_word}
 
 -- words with a space between each two
 abbrev pub spaced : List (List ℕ) → List ℕ
 spaced words = join_with_byte 32 words
+
+-- the octets of a word
+abbrev pub shown : Word → List ℕ
+shown (Text word) = word.now
+shown (Number n) = decimal n
+
+-- words, each behind a space
+abbrev pub behind : List Word → List ℕ
+behind words = flat_map (λ word. 32 ∷ shown word) words
 
 -- `join TICK`, left out for tick 0
 abbrev pub join_words : ℕ → List (List ℕ)
@@ -28,13 +42,21 @@ backup_words backup = if backup then codes "backup" ∷ [] else []
 abbrev pub path_words : PathLine → List (List ℕ)
 path_words path = codes "mss" ∷ decimal path.mss ∷ codes "delay" ∷ decimal path.delay ∷ (join_words path.join ++ backup_words path.backup)
 
+-- I DIR N
+abbrev pub segment_words : Segment → List (List ℕ)
+segment_words s = decimal s.path ∷ direction_word s.from ∷ decimal s.number ∷ []
+
+-- what happens to the segment of these words, its keyword first
+abbrev pub happens_words : Happens → List (List ℕ) → List (List ℕ)
+happens_words Lost segment = codes "drop" ∷ segment
+happens_words (Late ticks) segment = codes "late" ∷ (segment ++ decimal ticks ∷ [])
+happens_words (Again ticks) segment = codes "dup" ∷ (segment ++ decimal ticks ∷ [])
+happens_words Stripped segment = codes "strip" ∷ segment
+happens_words Altered segment = codes "alter" ∷ segment
+
 -- a line of what happens, its keyword first
 abbrev pub event_words : ScriptLine → List (List ℕ)
-event_words (Drop path from number) = codes "drop" ∷ decimal path ∷ direction_word from ∷ decimal number ∷ []
-event_words (Strip path from number) = codes "strip" ∷ decimal path ∷ direction_word from ∷ decimal number ∷ []
-event_words (Alter path from number) = codes "alter" ∷ decimal path ∷ direction_word from ∷ decimal number ∷ []
-event_words (Dup path from number ticks) = codes "dup" ∷ decimal path ∷ direction_word from ∷ decimal number ∷ decimal ticks ∷ []
-event_words (Late path from number ticks) = codes "late" ∷ decimal path ∷ direction_word from ∷ decimal number ∷ decimal ticks ∷ []
+event_words (OnSegment segment happens) = happens_words happens (segment_words segment)
 event_words (StripAll path from tick) = codes "strip-all" ∷ decimal path ∷ direction_word from ∷ decimal tick ∷ []
 event_words (Die path tick) = codes "die" ∷ decimal path ∷ decimal tick ∷ []
 event_words (Prio path side tick on) = codes "prio" ∷ decimal path ∷ side_word side ∷ decimal tick ∷ switch_word on ∷ []
@@ -52,14 +74,6 @@ line_words (Buffer octets) = codes "buffer" ∷ decimal octets ∷ []
 line_words (Path index path) = codes "path" ∷ decimal index ∷ path_words path
 line_words (Event event) = event_words event
 line_words End = codes "end" ∷ []
-
--- what stands after the number of a path, as text
-abbrev pub path_text : PathLine → List ℕ
-path_text path = spaced (path_words path)
-
--- a line of what happens as text, without its LF
-abbrev pub event_text : ScriptLine → List ℕ
-event_text event = spaced (event_words event)
 
 -- any line as text, without its LF
 abbrev pub line_text : Line → List ℕ

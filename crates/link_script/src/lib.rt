@@ -24,5 +24,5 @@ pub use laws::{scripts_have_their_ranges, written_is_read_again};
 pub use lists::{PathLines, ScriptLines};
 pub use number::is_numeral;
 pub use reading::parse;
-pub use script::{PathLine, Script, ScriptLine};
+pub use script::{Happens, PathLine, Script, ScriptLine, Segment};
 pub use writing::text;

@@ -7,8 +7,8 @@ use crate::fault::ScriptKind;
 use crate::limits::{BUFFERS, SEEDS};
 use crate::number::read_number;
 use crate::path::read_path;
-use crate::script::{PathLine, ScriptLine};
-use crate::segment::{read_alter, read_drop, read_dup, read_late, read_strip};
+use crate::script::{Happens, PathLine, ScriptLine};
+use crate::segment::read_on_segment;
 use crate::tick::{read_add, read_die, read_fast_close, read_prio, read_remove, read_strip_all};
 use crate::word::{Keyword, read_switch};
 
@@ -94,11 +94,11 @@ pub fn read_line(words: &[&[u8]]) -> Result<Line, ScriptKind>
         Keyword::Short => read_short(rest),
         Keyword::Buffer => read_buffer(rest),
         Keyword::Path => read_path(rest),
-        Keyword::Drop => read_drop(rest),
-        Keyword::Strip => read_strip(rest),
-        Keyword::Alter => read_alter(rest),
-        Keyword::Dup => read_dup(rest),
-        Keyword::Late => read_late(rest),
+        Keyword::Drop => read_on_segment(Happens::Lost, rest),
+        Keyword::Strip => read_on_segment(Happens::Stripped, rest),
+        Keyword::Alter => read_on_segment(Happens::Altered, rest),
+        Keyword::Dup => read_on_segment(Happens::Again(0), rest),
+        Keyword::Late => read_on_segment(Happens::Late(0), rest),
         Keyword::StripAll => read_strip_all(rest),
         Keyword::Die => read_die(rest),
         Keyword::Prio => read_prio(rest),

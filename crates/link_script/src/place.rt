@@ -2,11 +2,10 @@
 
 ghost use Rattle.std.specs.Prelude.{◌≡◌, count_by};
 ghost use Rattle.std.specs.List.{list_any};
-ghost use Rattle.link_script.specs.Places.{is_path, is_end, is_misplaced, is_out_of_order, settled_by_event, settled_by, is_same, settle_one, is_repeated};
+ghost use Rattle.link_script.specs.Places.{is_path, is_end, is_misplaced, is_out_of_order, settled_of, settled_by_event, settled_by, is_same, settle_one, is_repeated};
 
 use crate::line::Line;
-use crate::script::ScriptLine;
-use crate::segment::Segment;
+use crate::script::{Happens, ScriptLine, Segment};
 use sides::Side;
 
 /// What a line settles, so that no second line may settle it again.
@@ -76,29 +75,22 @@ pub fn is_out_of_order(seen: &[Line], line: &Line) -> bool
     has_ended(seen) || is_misplaced(count_paths(seen), line)
 }
 
+/// What of a segment this settles.
+fn settled_of(segment: Segment, happens: Happens) -> Subject
+    ensures { result ≡ settled_of segment happens }
+{
+    match happens {
+        Happens::Lost | Happens::Late(_) | Happens::Again(_) => Subject::Arrival(segment),
+        Happens::Stripped => Subject::Options(segment),
+        Happens::Altered => Subject::Payload(segment),
+    }
+}
+
 fn settled_by_event(event: &ScriptLine) -> Option<Subject>
     ensures { result ≡ settled_by_event event.now }
 {
     match *event {
-        ScriptLine::Drop { path, from, number }
-        | ScriptLine::Dup {
-            path,
-            from,
-            number,
-            ..
-        }
-        | ScriptLine::Late {
-            path,
-            from,
-            number,
-            ..
-        } => { Some(Subject::Arrival(Segment { path, from, number })) }
-        ScriptLine::Strip { path, from, number } => {
-            Some(Subject::Options(Segment { path, from, number }))
-        }
-        ScriptLine::Alter { path, from, number } => {
-            Some(Subject::Payload(Segment { path, from, number }))
-        }
+        ScriptLine::OnSegment(segment, happens) => Some(settled_of(segment, happens)),
         ScriptLine::StripAll { path, from, .. } => Some(Subject::AllOptions { path, from }),
         ScriptLine::Die { path, .. } => Some(Subject::Death { path }),
         ScriptLine::FastClose { side, .. } => Some(Subject::FastClose { side }),

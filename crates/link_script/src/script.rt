@@ -34,44 +34,37 @@ pub struct PathLine {
     pub backup: bool,
 }
 
+/// One segment of a link: the `number`-th that the link of a path takes from a side, the first being 1.
+#[derive(Clone, Copy, PartialEq, Eq)]
+pub struct Segment {
+    pub path: u8,
+    /// The side that sends it.
+    pub from: Side,
+    pub number: u32,
+}
+
+/// What happens to a segment on its way.
+#[derive(Clone, Copy)]
+pub enum Happens {
+    /// It doesn't arrive.
+    Lost,
+    /// It arrives so many ticks late.
+    Late(u32),
+    /// It arrives twice, the second time so many ticks after the first.
+    Again(u32),
+    /// It arrives without its Multipath TCP options.
+    Stripped,
+    /// It arrives with the lowest bit of its first payload octet turned.
+    Altered,
+}
+
 /// What happens to one segment, to one direction of a link, to a path or to a side.
 ///
-/// `path` is the number of a path. `from` is the side that sends, and `number` counts the segments that the link of
-/// the path takes from it, the first being 1. `tick` is a tick of the run, and `ticks` is how many pass.
+/// `path` is the number of a path, and `from` the side that sends. `tick` is a tick of the run.
 #[derive(Clone, Copy)]
 pub enum ScriptLine {
-    /// The segment doesn't arrive.
-    Drop {
-        path: u8,
-        from: Side,
-        number: u32,
-    },
-    /// The segment arrives without its Multipath TCP options.
-    Strip {
-        path: u8,
-        from: Side,
-        number: u32,
-    },
-    /// The segment arrives with the lowest bit of its first payload octet turned.
-    Alter {
-        path: u8,
-        from: Side,
-        number: u32,
-    },
-    /// The segment arrives twice, the second time so many ticks after the first.
-    Dup {
-        path: u8,
-        from: Side,
-        number: u32,
-        ticks: u32,
-    },
-    /// The segment arrives so many ticks late.
-    Late {
-        path: u8,
-        from: Side,
-        number: u32,
-        ticks: u32,
-    },
+    /// What happens to one segment.
+    OnSegment(Segment, Happens),
     /// Each segment that is sent at the tick or later arrives without its Multipath TCP options.
     StripAll {
         path: u8,
@@ -117,11 +110,7 @@ impl ScriptLine {
         ensures { result ≡ path_named self.now }
     {
         match *self {
-            ScriptLine::Drop { path, .. }
-            | ScriptLine::Strip { path, .. }
-            | ScriptLine::Alter { path, .. }
-            | ScriptLine::Dup { path, .. }
-            | ScriptLine::Late { path, .. }
+            ScriptLine::OnSegment(Segment { path, .. }, _)
             | ScriptLine::StripAll { path, .. }
             | ScriptLine::Die { path, .. }
             | ScriptLine::Prio { path, .. } => Some(path),

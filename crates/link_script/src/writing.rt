@@ -1,18 +1,19 @@
 //! Writes a script.
 
-ghost use Rattle.std.specs.Prelude.{◌≡◌, ◌++◌, Some, Ok, OnOk, IfOk, string_bytes};
+ghost use Rattle.std.specs.Prelude.{◌≡◌, ◌∷◌, [], ◌++◌, map, Ok, OnOk, IfOk, string_bytes};
 ghost use Rattle.std.specs.List.{flat_map};
 ghost use Rattle.link_script.specs.Reading.{reading};
 ghost use Rattle.link_script.specs.Scripts.{IsScript};
 ghost use Rattle.link_script.specs.Words.{direction_word, switch_word};
-ghost use Rattle.link_script.specs.Writing.{path_text, event_text, line_text, ended, seed_lines, checksum_lines, short_lines, buffer_lines, path_lines, event_lines, text_of};
+ghost use Rattle.link_script.specs.declared.line.Line.TheVariants.{Path, Event};
+ghost use Rattle.link_script.specs.declared.script.ScriptLine.TheVariants.{OnSegment, StripAll, Prio};
+ghost use Rattle.link_script.specs.Writing.{spaced, shown, behind, ended, seed_lines, checksum_lines, short_lines, buffer_lines, path_lines, event_lines, text_of};
 
 use crate::limits::{DEFAULT_BUFFER, DEFAULT_SEED};
 use crate::line::Line;
-use crate::script::{PathLine, Script, ScriptLine};
+use crate::script::{Happens, PathLine, Script, ScriptLine, Segment};
 use sides::Side;
 use std::alloc::{AllocError, Global};
-use std::fmt;
 
 fn direction_text(from: Side) -> &'static str
     ensures { result.now ≡ direction_word from }
@@ -29,95 +30,148 @@ fn switch_text(on: bool) -> &'static str
     if on { "on" } else { "off" }
 }
 
-/// What stands after the number of a path.
-impl fmt::Display for PathLine {
-    ghost output = { λ path. Some (path_text path) };
+/// A word of a line.
+#[derive(Clone, Copy)]
+pub enum Word {
+    Text(&'static str),
+    Number(u64),
+}
 
-    fn fmt<W: fmt::Write>(&self, f: &mut fmt::Formatter<W>) -> fmt::Result {
-        let PathLine {
-            mss,
-            delay,
-            join,
-            backup,
-        } = *self;
-        match (join, backup) {
-            (0, false) => write!(f, "mss {mss} delay {delay}"),
-            (0, true) => write!(f, "mss {mss} delay {delay} backup"),
-            (_, false) => write!(f, "mss {mss} delay {delay} join {join}"),
-            (_, true) => write!(f, "mss {mss} delay {delay} join {join} backup"),
+fn put_word(text: &mut String, word: Word) -> Result<(), AllocError>
+    ensures { OnOk result (string_bytes text.new ≡ string_bytes text.old ++ shown word) }
+{
+    match word {
+        Word::Text(word) => text.push_str(word),
+        Word::Number(number) => write!(text, "{number}"),
+    }
+}
+
+/// Puts each word behind a space.
+fn put_words(text: &mut String, words: &[Word]) -> Result<(), AllocError>
+    ensures { OnOk result (string_bytes text.new ≡ string_bytes text.old ++ behind words.now) }
+{
+    for word in words {
+        text.push_str(" ")?;
+        put_word(text, *word)?;
+    }
+    Ok(())
+}
+
+/// Writes a line: its keyword, and the other words each behind a space.
+#[tactic(auto, using(crate::proofs::Words::spaced_behind))]
+fn put_spaced(text: &mut String, keyword: &str, words: &[Word]) -> Result<(), AllocError>
+    ensures { OnOk result (string_bytes text.new ≡
+        string_bytes text.old ++ (spaced (keyword.now ∷ map shown words.now) ++ 10 ∷ [])) }
+{
+    text.push_str(keyword)?;
+    put_words(text, words)?;
+    text.push_str("\n")
+}
+
+fn put_on_segment(text: &mut String, segment: Segment, happens: Happens) -> Result<(), AllocError>
+    ensures { OnOk result (string_bytes text.new ≡
+        string_bytes text.old ++ ended (Event (OnSegment segment happens))) }
+{
+    let path = Word::Number(u64::from(segment.path));
+    let from = Word::Text(direction_text(segment.from));
+    let number = Word::Number(u64::from(segment.number));
+    match happens {
+        Happens::Lost => put_spaced(text, "drop", &[path, from, number]),
+        Happens::Late(ticks) => {
+            let ticks = Word::Number(u64::from(ticks));
+            put_spaced(text, "late", &[path, from, number, ticks])
+        }
+        Happens::Again(ticks) => {
+            let ticks = Word::Number(u64::from(ticks));
+            put_spaced(text, "dup", &[path, from, number, ticks])
+        }
+        Happens::Stripped => put_spaced(text, "strip", &[path, from, number]),
+        Happens::Altered => put_spaced(text, "alter", &[path, from, number]),
+    }
+}
+
+fn put_strip_all(text: &mut String, path: u8, from: Side, tick: u64) -> Result<(), AllocError>
+    ensures { OnOk result (string_bytes text.new ≡
+        string_bytes text.old ++ ended (Event (StripAll path from tick))) }
+{
+    let path = Word::Number(u64::from(path));
+    let from = Word::Text(direction_text(from));
+    put_spaced(text, "strip-all", &[path, from, Word::Number(tick)])
+}
+
+fn put_prio(text: &mut String, path: u8, side: Side, tick: u64, on: bool) -> Result<(), AllocError>
+    ensures { OnOk result (string_bytes text.new ≡
+        string_bytes text.old ++ ended (Event (Prio path side tick on))) }
+{
+    let path = Word::Number(u64::from(path));
+    let side = Word::Text(side.word());
+    let on = Word::Text(switch_text(on));
+    put_spaced(text, "prio", &[path, side, Word::Number(tick), on])
+}
+
+fn put_event(text: &mut String, event: ScriptLine) -> Result<(), AllocError>
+    ensures { OnOk result (string_bytes text.new ≡ string_bytes text.old ++ ended (Event event)) }
+{
+    match event {
+        ScriptLine::OnSegment(segment, happens) => put_on_segment(text, segment, happens),
+        ScriptLine::StripAll { path, from, tick } => put_strip_all(text, path, from, tick),
+        ScriptLine::Die { path, tick } => {
+            let path = Word::Number(u64::from(path));
+            put_spaced(text, "die", &[path, Word::Number(tick)])
+        }
+        ScriptLine::Prio {
+            path,
+            side,
+            tick,
+            on,
+        } => put_prio(text, path, side, tick, on),
+        ScriptLine::Add { id, tick } => {
+            let id = Word::Number(u64::from(id));
+            put_spaced(text, "add", &[Word::Text("b"), id, Word::Number(tick)])
+        }
+        ScriptLine::Remove { side, id, tick } => {
+            let id = Word::Number(u64::from(id));
+            let side = Word::Text(side.word());
+            put_spaced(text, "remove", &[side, id, Word::Number(tick)])
+        }
+        ScriptLine::FastClose { side, tick } => {
+            let side = Word::Text(side.word());
+            put_spaced(text, "fastclose", &[side, Word::Number(tick)])
         }
     }
 }
 
-/// The line of a script.
-impl fmt::Display for ScriptLine {
-    ghost output = { λ event. Some (event_text event) };
-
-    fn fmt<W: fmt::Write>(&self, f: &mut fmt::Formatter<W>) -> fmt::Result {
-        match *self {
-            ScriptLine::Drop { path, from, number } => {
-                write!(f, "drop {path} {} {number}", direction_text(from))
-            }
-            ScriptLine::Strip { path, from, number } => {
-                write!(f, "strip {path} {} {number}", direction_text(from))
-            }
-            ScriptLine::Alter { path, from, number } => {
-                write!(f, "alter {path} {} {number}", direction_text(from))
-            }
-            ScriptLine::Dup {
-                path,
-                from,
-                number,
-                ticks,
-            } => write!(f, "dup {path} {} {number} {ticks}", direction_text(from)),
-            ScriptLine::Late {
-                path,
-                from,
-                number,
-                ticks,
-            } => write!(f, "late {path} {} {number} {ticks}", direction_text(from)),
-            ScriptLine::StripAll { path, from, tick } => {
-                write!(f, "strip-all {path} {} {tick}", direction_text(from))
-            }
-            ScriptLine::Die { path, tick } => write!(f, "die {path} {tick}"),
-            ScriptLine::Prio {
-                path,
-                side,
-                tick,
-                on,
-            } => write!(f, "prio {path} {} {tick} {}", side.word(), switch_text(on)),
-            ScriptLine::Add { id, tick } => write!(f, "add b {id} {tick}"),
-            ScriptLine::Remove { side, id, tick } => {
-                write!(f, "remove {} {id} {tick}", side.word())
-            }
-            ScriptLine::FastClose { side, tick } => {
-                write!(f, "fastclose {} {tick}", side.word())
-            }
-        }
+fn put_path(text: &mut String, index: u64, path: PathLine) -> Result<(), AllocError>
+    ensures { OnOk result (string_bytes text.new ≡
+        string_bytes text.old ++ ended (Path index path)) }
+{
+    let index = Word::Number(index);
+    let (a, mss) = (Word::Text("mss"), Word::Number(u64::from(path.mss)));
+    let (b, delay) = (Word::Text("delay"), Word::Number(u64::from(path.delay)));
+    let (c, join) = (Word::Text("join"), Word::Number(path.join));
+    let d = Word::Text("backup");
+    match (path.join, path.backup) {
+        (0, false) => put_spaced(text, "path", &[index, a, mss, b, delay]),
+        (0, true) => put_spaced(text, "path", &[index, a, mss, b, delay, d]),
+        (_, false) => put_spaced(text, "path", &[index, a, mss, b, delay, c, join]),
+        (_, true) => put_spaced(text, "path", &[index, a, mss, b, delay, c, join, d]),
     }
 }
 
-impl fmt::Display for Line {
-    ghost output = { λ line. Some (line_text line) };
-
-    fn fmt<W: fmt::Write>(&self, f: &mut fmt::Formatter<W>) -> fmt::Result {
-        match self {
-            Line::Header => write!(f, "mptcp-script 1"),
-            Line::Seed(seed) => write!(f, "seed {seed}"),
-            Line::Checksum(on) => write!(f, "checksum {}", switch_text(*on)),
-            Line::Short(on) => write!(f, "short {}", switch_text(*on)),
-            Line::Buffer(octets) => write!(f, "buffer {octets}"),
-            Line::Path { index, line } => write!(f, "path {index} {line}"),
-            Line::Event(event) => write!(f, "{event}"),
-            Line::End => write!(f, "end"),
-        }
-    }
-}
-
+/// Writes a line, with its LF.
 fn put(text: &mut String, line: &Line) -> Result<(), AllocError>
     ensures { OnOk result (string_bytes text.new ≡ string_bytes text.old ++ ended line.now) }
 {
-    writeln!(text, "{line}")
+    match *line {
+        Line::Header => put_spaced(text, "mptcp-script", &[Word::Text("1")]),
+        Line::Seed(seed) => put_spaced(text, "seed", &[Word::Number(seed)]),
+        Line::Checksum(on) => put_spaced(text, "checksum", &[Word::Text(switch_text(on))]),
+        Line::Short(on) => put_spaced(text, "short", &[Word::Text(switch_text(on))]),
+        Line::Buffer(octets) => put_spaced(text, "buffer", &[Word::Number(octets)]),
+        Line::Path { index, line } => put_path(text, index, line),
+        Line::Event(event) => put_event(text, event),
+        Line::End => put_spaced(text, "end", &[]),
+    }
 }
 
 fn put_seed(text: &mut String, seed: u64) -> Result<(), AllocError>

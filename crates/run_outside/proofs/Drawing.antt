@@ -11,12 +11,14 @@ use Rattle.rand_chacha.specs.ChaCha.{ChaCha, key_of, word_at, next_word}
 use Rattle.link_script.specs.declared.limits.Limits.{Limits}
 use Rattle.link_script.specs.declared.line.Line.{Line as ScriptText}
 use Rattle.link_script.specs.declared.line.Line.TheVariants.{Header, Seed, End}
-use Rattle.link_script.specs.declared.script.ScriptLine.TheVariants.{Drop, Die}
+use Rattle.link_script.specs.declared.script.Happens.TheVariants.{Lost}
+use Rattle.link_script.specs.declared.script.ScriptLine.{ScriptLine}
+use Rattle.link_script.specs.declared.script.ScriptLine.TheVariants.{OnSegment, Die}
 use Rattle.link_script.specs.Ranges.{seeds, buffers, segment_sizes, delays, segment_numbers, run_ticks}
 use Rattle.link_script.specs.Scripts.{IsInRange, IsPath, IsEvent, SettleApart, HasRanges}
 use Rattle.link_script.specs.Writing.{seed_lines, checksum_lines, short_lines, buffer_lines, path_lines, event_lines, lines_of}
 use Rattle.sides.specs.declared.side.Side.TheVariants.{A, B}
-use Rattle.run_outside.specs.MadeInput.{words_at, path_line, made_paths, made_lines, drawn_octets, made_script}
+use Rattle.run_outside.specs.MadeInput.{words_at, path_line, segment, made_paths, made_lines, drawn_octets, made_script}
 
 -- ---- drawing
 
@@ -99,16 +101,22 @@ paths_fit =
     (All-cons IsPath (path_line 1000 30 200) (path_line 800 40 300 ∷ []) (path_fits 1000 30 200 (omega arith) (omega arith) (omega arith) (omega arith) (omega arith))
     (All-cons IsPath (path_line 800 40 300) [] (path_fits 800 40 300 (omega arith) (omega arith) (omega arith) (omega arith) (omega arith)) (All-nil IsPath))))
 
+abbrev lost_at_a : ScriptLine
+lost_at_a = OnSegment (segment 0 A 50) Lost
+
+abbrev lost_at_b : ScriptLine
+lost_at_b = OnSegment (segment 1 B 20) Lost
+
 lines_fit : All (IsEvent 4) made_lines
 lines_fit =
-    All-cons (IsEvent 4) (Drop 0 A 50) (Drop 1 B 20 ∷ Die 3 2000 ∷ []) (omega arith, in_range segment_numbers 50 (omega arith) (omega arith))
-    (All-cons (IsEvent 4) (Drop 1 B 20) (Die 3 2000 ∷ []) (omega arith, in_range segment_numbers 20 (omega arith) (omega arith))
+    All-cons (IsEvent 4) lost_at_a (lost_at_b ∷ Die 3 2000 ∷ []) (omega arith, in_range segment_numbers 50 (omega arith) (omega arith), tt)
+    (All-cons (IsEvent 4) lost_at_b (Die 3 2000 ∷ []) (omega arith, in_range segment_numbers 20 (omega arith) (omega arith), tt)
     (All-cons (IsEvent 4) (Die 3 2000) [] (omega arith, in_range run_ticks 2000 (omega arith) (omega arith)) (All-nil (IsEvent 4))))
 
 lines_apart : AllPairs SettleApart made_lines
 lines_apart =
-    pairs_cons SettleApart (Drop 0 A 50) (Drop 1 B 20 ∷ Die 3 2000 ∷ []) (All-cons (SettleApart (Drop 0 A 50)) (Drop 1 B 20) (Die 3 2000 ∷ []) refl (All-cons (SettleApart (Drop 0 A 50)) (Die 3 2000) [] refl (All-nil (SettleApart (Drop 0 A 50)))))
-    (pairs_cons SettleApart (Drop 1 B 20) (Die 3 2000 ∷ []) (All-cons (SettleApart (Drop 1 B 20)) (Die 3 2000) [] refl (All-nil (SettleApart (Drop 1 B 20))))
+    pairs_cons SettleApart lost_at_a (lost_at_b ∷ Die 3 2000 ∷ []) (All-cons (SettleApart lost_at_a) lost_at_b (Die 3 2000 ∷ []) refl (All-cons (SettleApart lost_at_a) (Die 3 2000) [] refl (All-nil (SettleApart lost_at_a))))
+    (pairs_cons SettleApart lost_at_b (Die 3 2000 ∷ []) (All-cons (SettleApart lost_at_b) (Die 3 2000) [] refl (All-nil (SettleApart lost_at_b)))
     (pairs_cons SettleApart (Die 3 2000) [] (All-nil (SettleApart (Die 3 2000))) (pairs_nil SettleApart)))
 
 one_line : (b : Bool) (number : ℕ) → length {A = ScriptText} (if b then [] else Seed number ∷ []) ≤ 1

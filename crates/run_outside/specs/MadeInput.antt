@@ -5,9 +5,12 @@ use Rattle.key_material.specs.Drawing.{cipher_key, drawn_word}
 use Rattle.rand_chacha.specs.ChaCha.{ChaCha, key_of}
 use Rattle.link_script.specs.declared.script.PathLine.{PathLine}
 use Rattle.link_script.specs.declared.script.Script.{Script}
+use Rattle.link_script.specs.declared.script.Happens.TheVariants.{Lost}
 use Rattle.link_script.specs.declared.script.ScriptLine.{ScriptLine}
-use Rattle.link_script.specs.declared.script.ScriptLine.TheVariants.{Drop, Die}
+use Rattle.link_script.specs.declared.script.ScriptLine.TheVariants.{OnSegment, Die}
+use Rattle.link_script.specs.declared.script.Segment.{Segment}
 use Rattle.sides.specs.declared.side.Side.TheVariants.{A, B}
+use Rattle.sides.specs.declared.side.Side.{Side}
 
 -- a path that is no backup
 abbrev pub path_line : ℕ → ℕ → ℕ → PathLine
@@ -17,9 +20,12 @@ path_line mss delay join = record { mss = mss; delay = delay; join = join; backu
 abbrev pub made_paths : List PathLine
 made_paths = path_line 1400 10 0 ∷ path_line 1200 20 100 ∷ path_line 1000 30 200 ∷ path_line 800 40 300 ∷ []
 
+abbrev pub segment : ℕ → Side → ℕ → Segment
+segment path from number = record { path = path; from = from; number = number }
+
 -- two segments are lost, and path 3 dies
 abbrev pub made_lines : List ScriptLine
-made_lines = Drop 0 A 50 ∷ Drop 1 B 20 ∷ Die 3 2000 ∷ []
+made_lines = OnSegment (segment 0 A 50) Lost ∷ OnSegment (segment 1 B 20) Lost ∷ Die 3 2000 ∷ []
 
 -- the script of a number
 abbrev pub made_script : ℕ → Script

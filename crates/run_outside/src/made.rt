@@ -2,10 +2,10 @@
 
 ghost use Rattle.std.specs.Prelude.{◌≡◌, ◌≤◌, ◌^◌, IfOk};
 ghost use Rattle.link_script.specs.Scripts.{HasRanges};
-ghost use Rattle.run_outside.specs.MadeInput.{words_at, drawn_octets, path_line, made_paths, made_lines, made_script, made_file};
+ghost use Rattle.run_outside.specs.MadeInput.{words_at, drawn_octets, path_line, made_paths, segment, made_lines, made_script, made_file};
 
 use crate::input::Input;
-use link_script::{PathLine, PathLines, Script, ScriptLine, ScriptLines};
+use link_script::{Happens, PathLine, PathLines, Script, ScriptLine, ScriptLines, Segment};
 use octet_text::Text;
 use rand_chacha::ChaCha20Rng;
 use rand_core::SeedableRng;
@@ -68,21 +68,19 @@ fn made_paths(alloc: Global) -> Result<PathLines, AllocError>
     Ok(PathLines::from(lines))
 }
 
+fn segment(path: u8, from: Side, number: u32) -> Segment
+    ensures { result ≡ segment path from number }
+{
+    Segment { path, from, number }
+}
+
 /// Two segments are lost, and path 3 dies.
 fn made_lines(alloc: Global) -> Result<ScriptLines, AllocError>
     ensures { IfOk result (λ lines. lines ≡ made_lines) }
 {
     let lines = vec![in alloc;
-        ScriptLine::Drop {
-            path: 0,
-            from: Side::A,
-            number: 50,
-        },
-        ScriptLine::Drop {
-            path: 1,
-            from: Side::B,
-            number: 20,
-        },
+        ScriptLine::OnSegment(segment(0, Side::A, 50), Happens::Lost),
+        ScriptLine::OnSegment(segment(1, Side::B, 20), Happens::Lost),
         ScriptLine::Die {
             path: 3,
             tick: 2000,

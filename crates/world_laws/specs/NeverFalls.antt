@@ -9,7 +9,8 @@ use Rattle.link_model.specs.Fate.{is_stripped}
 use Rattle.link_model.specs.Steps.{lines_of}
 use Rattle.link_script.specs.declared.script.Script.{Script}
 use Rattle.link_script.specs.declared.script.ScriptLine.{ScriptLine}
-use Rattle.link_script.specs.declared.script.ScriptLine.TheVariants.{Strip, StripAll}
+use Rattle.link_script.specs.declared.script.Happens.TheVariants.{Stripped}
+use Rattle.link_script.specs.declared.script.ScriptLine.TheVariants.{OnSegment, StripAll}
 use Rattle.path_core.specs.Values.{Carried, values}
 use Rattle.world_laws.specs.ModesSoFar.{was_ever}
 use Rattle.world_laws.specs.Openings.{Start, opened_world, start_of}
@@ -28,7 +29,7 @@ IsWhole start = (path : ℕ) → StripsNothing (lines_of path start.lines)
 
 -- by this line options are taken away, of one segment or of all from a tick on
 abbrev pub strips_options : ScriptLine → Bool
-strips_options (Strip path from number) = true
+strips_options (OnSegment segment Stripped) = true
 strips_options (StripAll path from tick) = true
 strips_options _ = false
 

@@ -3,7 +3,8 @@ use Rattle.std.specs.Prelude.{ℕ, ◌≡◌, ◌-◌, ◌^◌, ◌<◌, Bool, t
 use Rattle.std.specs.List.{list_any}
 use Rattle.link_script.specs.declared.script.Script.{Script}
 use Rattle.link_script.specs.declared.script.ScriptLine.{ScriptLine}
-use Rattle.link_script.specs.declared.script.ScriptLine.TheVariants.{Alter}
+use Rattle.link_script.specs.declared.script.Happens.TheVariants.{Altered}
+use Rattle.link_script.specs.declared.script.ScriptLine.TheVariants.{OnSegment}
 use Rattle.link_script.specs.Scripts.{HasRanges}
 use Rattle.path_core.specs.Octets.{octets}
 use Rattle.path_core.specs.Values.{values}
@@ -28,7 +29,7 @@ use Rattle.world_laws.specs.Worlds.{WorldState, Turn, world_run}
 
 -- by this line the payload of a segment is altered
 abbrev pub alters_payload : ScriptLine → Bool
-alters_payload (Alter path from number) = true
+alters_payload (OnSegment segment Altered) = true
 alters_payload _ = false
 
 -- no payload is altered by any line

@@ -6,7 +6,8 @@ use Rattle.key_material.proofs.Bounds.{drawn_word_below}
 use Rattle.link_model.specs.Steps.{is_path}
 use Rattle.link_script.specs.declared.script.PathLine.{PathLine}
 use Rattle.link_script.specs.declared.script.Script.{Script}
-use Rattle.link_script.specs.declared.script.ScriptLine.TheVariants.{Alter}
+use Rattle.link_script.specs.declared.script.Happens.TheVariants.{Altered}
+use Rattle.link_script.specs.declared.script.ScriptLine.TheVariants.{OnSegment}
 use Rattle.link_script.specs.Scripts.{IsPath}
 use Rattle.world_laws.specs.PlainScripts.{alters_payload, IsPlainScript, IsShortScript, ScriptsFit, ScriptsKeepAnyway, CheckedScriptsKeepOctets, ScriptsAreShownOfValues, PlainScriptsStartPlainly, PlainScriptsKeepAllPromises, ScriptsCanRun}
 use Rattle.world_laws.proofs.Promises.AbortsHaveACause.{aborts_have_cause_in_octets}
@@ -41,7 +42,7 @@ module _ (such test : ScriptLine → Bool) (among : (line : ScriptLine) → such
       by false rest = rest
 
 never_alters : (from : Side) (number : ℕ) (line : ScriptLine) → alters_payload line ≡ false → is_altered_by from number line ≡ false
-never_alters from number (Alter path side named) is = cc
+never_alters from number (OnSegment segment Altered) is = cc
 never_alters from number line is = refl
 
 alters_nothing : (path : ℕ) (lines : List ScriptLine) → list_any alters_payload lines ≡ false → AltersNothing (lines_of path lines)

@@ -12,7 +12,8 @@ use Rattle.world_laws.proofs.Words.{world_run, IsPlain, PathView, side_of, answe
 use Rattle.world_laws.proofs.Worlds.Turns.{turn_so}
 use Rattle.control_book.specs.Steps as controlling
 use Rattle.fallback_state.specs.Table.{breaks, stays}
-use Rattle.link_script.specs.declared.script.ScriptLine.TheVariants.{Strip, StripAll}
+use Rattle.link_script.specs.declared.script.Happens.TheVariants.{Stripped}
+use Rattle.link_script.specs.declared.script.ScriptLine.TheVariants.{OnSegment, StripAll}
 use Rattle.world_laws.specs.ModesSoFar.{was_ever}
 use Rattle.world_laws.specs.NeverFalls.{IsPromisedWhole, IsPromisedWholeOfOctets, IsWhole, NeverFalls, WholeScriptsNeverFall, is_fallen_back, strips_options}
 use Rattle.world_laws.proofs.Falls.ByTheJournal.{Was, was_more, was_now, was_wider}
@@ -405,7 +406,7 @@ never_in_octets start turns plain whole fit =
     subst NeverFalls (sym (run_fresh start turns plain.size fit)) (λ s. h s)
 
 never_strips : (from : Side) (number now : ℕ) (line : ScriptLine) → strips_options line ≡ false → is_stripped_by from number now line ≡ false
-never_strips from number now (Strip path side named) is = absurd (false≢true (sym is))
+never_strips from number now (OnSegment segment Stripped) is = absurd (false≢true (sym is))
 never_strips from number now (StripAll path side tick) is = absurd (false≢true (sym is))
 never_strips from number now line is = refl
 

@@ -1,4 +1,4 @@
-use Rattle.std.proofs.Common.{◌≡◌, ◌∙◌, sym, refl, arith}
+use Rattle.std.proofs.Common.{◌∙◌, sym, refl, arith}
 use Rattle.link_model.proofs.Fates.{fate_here, fate_later, fate_at_end}
 use Rattle.link_model.proofs.fate.fate_of.Goals as goal
 

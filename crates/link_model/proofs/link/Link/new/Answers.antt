@@ -1,4 +1,4 @@
-use Rattle.std.proofs.Common.{◌≡◌, refl, false, arith}
+use Rattle.std.proofs.Common.{refl, false}
 use Rattle.link_script.specs.declared.script.PathLine.{PathLine}
 use Rattle.link_model.proofs.Ranges.{delay_at, limits_of}
 use Rattle.link_model.proofs.link.Link.new.Goals as goal
@@ -6,9 +6,9 @@ use Rattle.link_model.proofs.link.Link.new.Goals as goal
 pub invariant_of-result : goal.invariant_of-result
 invariant_of-result c =
     let blank : PathLine = record { mss = 0; delay = 0; join = 0; backup = false } in
-    rw (c.in_ok-lines.ensures, c.as_slice.ensures, c.as_slice-2.ensures, c.from.ensures, c.new.ensures.items) (limits_of c.args.script.now c.args.path blank c.requires.ranges c.requires.path, tt)
+    rw (c.in_ok-lines.ensures, c.as_slice.ensures, c.as_slice-2.ensures, c.from.ensures) (limits_of c.args.script.now c.args.path blank c.requires.ranges c.requires.path)
 
 pub returns : goal.returns
 returns c =
     let blank : PathLine = record { mss = 0; delay = 0; join = 0; backup = false } in
-    rw (c.in_ok-lines.ensures, c.as_slice.ensures, c.as_slice-2.ensures, c.from.ensures, c.new.ensures.items, delay_at c.args.path c.args.script.now.paths blank c.requires.path) refl
+    rw (c.in_ok-lines.ensures, c.as_slice.ensures, c.as_slice-2.ensures, c.from.ensures, c.new.ensures, delay_at c.args.path c.args.script.now.paths blank c.requires.path) refl

@@ -1,4 +1,4 @@
-use Rattle.std.proofs.Common.{◌≡◌, ◌∙◌, sym, ap, subst, refl}
+use Rattle.std.proofs.Common.{refl}
 use Rattle.link_model.proofs.link.Link.send.Goals as goal
 
 pub returns-clause-after : goal.returns-clause-after

@@ -2,7 +2,7 @@ use Rattle.std.proofs.Common.{rules, arith, not}
 use Rattle.std.proofs.lemmas.List.Sorted.{IsPartitionPoint-from_clause}
 use Rattle.link_model.specs.Steps.{comes_before}
 use Rattle.link_model.proofs.Placing.{parted, put_at_point}
-use Rattle.link_model.proofs.link.place_before.Goals as goal
+use Rattle.link_model.proofs.flights.place_before.Goals as goal
 
 pub returns-clause-place : goal.returns-clause-place
 returns-clause-place c =

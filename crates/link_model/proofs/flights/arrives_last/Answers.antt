@@ -1,7 +1,7 @@
 use Rattle.std.proofs.Common.{◌∙◌, sym, ap, arith}
 use Rattle.link_model.specs.Steps.{comes_before}
 use Rattle.link_model.proofs.Placing.{behind_last, not_true}
-use Rattle.link_model.proofs.link.arrives_last.Goals as goal
+use Rattle.link_model.proofs.flights.arrives_last.Goals as goal
 
 pub returns-in-Some : goal.returns-in-Some
 returns-in-Some c = record {

@@ -1,7 +1,7 @@
 use Rattle.std.proofs.Common.{◌∙◌, sym, subst}
 use Rattle.link_model.specs.Order.{AreInOrder}
 use Rattle.link_model.proofs.Order.{in_order_with}
-use Rattle.link_model.proofs.link.put_flight.Goals as goal
+use Rattle.link_model.proofs.flights.put_flight.Goals as goal
 
 pub returns-then-arrives_last-clause-order : goal.returns-then-arrives_last-clause-order
 returns-then-arrives_last-clause-order c =
