@@ -25,12 +25,13 @@ use Rattle.run_trace.specs.Rates.{rates_of}
 use Rattle.run_trace.specs.Trace.{trace_of}
 use Rattle.run_words.specs.Lines.{Work, replay}
 use Rattle.world_laws.specs.Worlds.{AreLawful, WorldState}
+use Rattle.mptcp_view.specs.Asking.{Asking}
 use Rattle.mptcp_view.specs.Cutting.{IsRead}
 use Rattle.mptcp_view.specs.Telling.{untold}
 use Rattle.mptcp_view.specs.declared.cutting.Extent.{Extent}
-use Rattle.mptcp_view.specs.Views.{AreInputs, Asking, HoldsCut, IsOutFault, IsViewAnswer, IsViewFault, IsViewFrom, IsViewOf, Shows, WithView, base_in, first_world, out_calls}
-use Rattle.mptcp_view.specs.declared.showing.View.{View}
-use Rattle.mptcp_view.specs.declared.showing.View.TheVariants.{Summary}
+use Rattle.mptcp_view.specs.Views.{AreInputs, HoldsCut, IsOutFault, IsViewAnswer, IsViewFault, IsViewFrom, IsViewOf, Shows, WithView, base_in, first_world, out_calls}
+use Rattle.mptcp_view.specs.declared.asking.View.{View}
+use Rattle.mptcp_view.specs.declared.asking.View.TheVariants.{Summary}
 use Rattle.mptcp_view.proofs.Refusing.{late, out_refused}
 
 -- the table of what a trace carries
