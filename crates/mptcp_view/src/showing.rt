@@ -304,9 +304,10 @@ pub fn show<O: Outside, P: Progress>(
     }
 }
 
-/// Writes the view that the words ask for: a first word `capture`, `summary`, `picture` or `text`, behind `capture` the words `--at a` or
-/// `--at b` where they are wanted, and five names. No name is empty, and OUT is none of the inputs. It tells how far the turns of the log are made. Of the ports only that of OUT, `ReadByB`, is touched.
-/// The answer is how much of the log is shown: where it was cut off, as that of a run that was killed, its whole rounds.
+/// Writes the view that the words ask for: a first word `capture`, `summary`, `picture` or `text`, behind `capture` the words `--at
+/// a` or `--at b` where they are wanted, and five names. No name is empty, and OUT is none of the inputs. It tells how far the turns
+/// of the log are made. Of the ports only that of OUT, `ReadByB`, is touched. The answer is how much of the log is shown: where it
+/// was cut off, as that of a run that was killed, its whole rounds.
 ///
 /// # Errors
 ///
