@@ -17,6 +17,7 @@ use Rattle.link_trace.specs.declared.carried.Base.{Base}
 use Rattle.link_trace.specs.declared.sent.Sent.{Sent}
 use Rattle.path_core.specs.Octets.{octets}
 use Rattle.path_core.specs.Start.{key_of}
+use Rattle.path_core.specs.State.{PathState}
 use Rattle.pcap_text.specs.Blocks.{capture_text}
 use Rattle.run_log.specs.declared.turn.Turn as logged
 use Rattle.run_outside.specs.Inputs.{AreWithinLimits, IsLoggedFault, content_of, opening_count}
@@ -58,7 +59,7 @@ base_in script = base_of (key_of script.seed 0) (key_of script.seed 2) script.ch
 
 -- the tick at which a run ended: clocks meet as a round ends, so that of path 0, which is the actor 2
 abbrev pub end_of : WorldState (List ℕ) → ℕ
-end_of w = unwrap_or (option_map (λ p. p.clock) (path_at 2 w.crew)) 0
+end_of w = unwrap_or (option_map (λ (p : PathState (List ℕ)). p.clock) (path_at 2 w.crew)) 0
 
 -- the capture of what this side sees of these segments, by tick
 abbrev pub IsCaptureAt : Side → Script → ℕ → List Sent → List ℕ → Type 0

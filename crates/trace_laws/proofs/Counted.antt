@@ -63,7 +63,7 @@ file_short start fit B = let short = fit.short_b in omega (arith, short)
 -- ---- in another order
 
 contains_at : {X : Type 0} (xs : List X) (i : ℕ) (x : X) → slice_get xs i ≡ Some x → Contains xs x
-contains_at xs i x at = (i, (slice_get_within xs i x at, get_or_from_slice_get xs i x x at))
+contains_at xs i x at = (i, slice_get_within xs i x at, get_or_from_slice_get xs i x x at)
 
 -- what is at a place of one list is somewhere in the other one
 moved_at : {X : Type 0} (xs ys : List X) → IsPermutation xs ys → (i : ℕ) (x : X) → slice_get xs i ≡ Some x → (j : ℕ) × (slice_get ys j ≡ Some x)
