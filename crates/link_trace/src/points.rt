@@ -1,7 +1,7 @@
 //! What passes the interfaces of one side: what it sends, and what arrives there.
 
 ghost use Rattle.std.specs.Prelude.{◌≡◌, ◌++◌, ◌∷◌, [], Some, IfOk, OnOk};
-ghost use Rattle.link_trace.specs.Points.{arrived_octets, copies_over, copy_at, seen_at, seen_of};
+ghost use Rattle.link_trace.specs.Points.{arrived_octets, copies_over, copy_at, delay_on, seen_at, seen_of};
 ghost use Rattle.link_trace.specs.Ticks.{AreByTick};
 
 use crate::sent::Sent;
@@ -70,18 +70,28 @@ fn put_copy(
     Ok(())
 }
 
-/// Puts the copies of a segment that arrive over a path with this delay.
+/// For how many ticks a segment is on its way over the path of this number.
+fn delay_on(path: u8, paths: &[PathLine]) -> Option<u32>
+    ensures { result ≡ delay_on path paths.now }
+{
+    match paths.get(usize::from(path)) {
+        None => None,
+        Some(line) => Some(line.delay),
+    }
+}
+
+/// Puts the copies of a segment that arrive after so many ticks.
 fn put_copies(
     alloc: Global,
     seen: &mut Vec<Sent>,
     sent: &Sent,
-    line: &PathLine,
+    delay: u32,
     end: u64,
 ) -> Result<(), AllocError>
     ensures { OnOk result (seen.new.items ≡
-        seen.old.items ++ copies_over (Some line.now) end sent.now) }
+        seen.old.items ++ copies_over (Some delay) end sent.now) }
 {
-    let on_time = u128::from(sent.tick) + u128::from(line.delay);
+    let on_time = u128::from(sent.tick) + u128::from(delay);
     match sent.fate.arrival {
         Fate::Lost => Ok(()),
         Fate::OnTime => put_copy(alloc, seen, sent, on_time, end),
@@ -108,8 +118,8 @@ fn put_seen(
     if sent.from == side {
         return put_sent(seen, sent);
     }
-    match paths.get(usize::from(sent.path)) {
-        Some(line) => put_copies(alloc, seen, sent, line, end),
+    match delay_on(sent.path, paths) {
+        Some(delay) => put_copies(alloc, seen, sent, delay, end),
         None => Ok(()),
     }
 }
