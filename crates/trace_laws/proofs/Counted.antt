@@ -6,11 +6,11 @@ use Rattle.std.proofs.lemmas.List.Sorted.{Contains-permutation, IsPermutation-sy
 use Rattle.std.proofs.lemmas.Option.{get_or_from_slice_get, same_Some, slice_get-get_or, slice_get_within}
 use Rattle.sides.specs.declared.side.Side.{Side}
 use Rattle.sides.specs.declared.side.Side.TheVariants.{A, B}
-use Rattle.stream_lanes.specs.Words.{Every, Has}
+use Rattle.stream_lanes.specs.Words.{Every}
 use Rattle.actor_desk.specs.Words.{pick}
 use Rattle.link_trace.specs.declared.sent.Sent.{Sent}
 use Rattle.link_trace.specs.declared.carried.Carried.{Carried}
-use Rattle.link_trace.specs.Carrying.{all_carried, carried_behind, carried_of, shifts_after}
+use Rattle.link_trace.specs.Carrying.{all_carried, carried_behind, carried_of}
 use Rattle.link_trace.specs.FirstOctets.{EachEndsBy, EndsBy, OneHasOctet}
 use Rattle.link_trace.specs.Rows.{capped, first_octets_from, rows_of}
 use Rattle.link_trace.proofs.FirstOctets.{first_octets}
