@@ -52,9 +52,13 @@ pub capture_shown : {V E : Type 0} (items : V → List ℕ) (side : Side) (scrip
     → count ≡ length script.paths → put ≡ seen → AreByTick (seen_at side lines end told) seen
     → (r : Result V E) → IfOk r (λ text. items text ≡ capture_text (blocks_of side count put)) → IfOk r (λ shown. IsCaptureAt side script end told (items shown))
 capture_shown items side script end told seen lines count put lines_are count_is put_is by_tick (Err e) h = tt
-capture_shown items side script end told seen lines count put lines_are count_is put_is by_tick (Ok text) h =
-    (seen, (subst (λ (ls : List PathLine). AreByTick (seen_at side ls end told) seen) lines_are by_tick,
-    h ∙ ap (λ (n : ℕ). capture_text (blocks_of side n put)) count_is ∙ ap (λ (s : List Sent). capture_text (blocks_of side (length script.paths) s)) put_is))
+capture_shown items side script end told seen lines count put lines_are count_is put_is by_tick (Ok text) h = (
+  seen,
+  (
+    subst (λ (ls : List PathLine). AreByTick (seen_at side ls end told) seen) lines_are by_tick,
+    h ∙ ap (λ (n : ℕ). capture_text (blocks_of side n put)) count_is ∙ ap (λ (s : List Sent). capture_text (blocks_of side (length script.paths) s)) put_is,
+  ),
+)
 
 -- a view of segments that stand by tick
 pub shown_in_order : {V E : Type 0} (items : V → List ℕ) (view : View) (script : Script) (w : WorldState (List ℕ)) (trace told put : List Sent) → put ≡ told → AreByTick trace told

@@ -1,5 +1,5 @@
 -- What the words of a command line ask for: a view, and the inputs of a replay.
-use Rattle.std.specs.Prelude.{ℕ, Bool, not, ◌&&◌, ◌||◌, if◌then◌else◌, Option, Some, None, option_map, List, [], ◌∷◌, codes}
+use Rattle.std.specs.Prelude.{ℕ, ◌==◌, Bool, not, ◌&&◌, ◌||◌, if◌then◌else◌, Option, Some, None, option_map, List, [], ◌∷◌, codes, length}
 use Rattle.std.specs.Str.{bytes_eq}
 use Rattle.sides.specs.declared.side.Side.{Side}
 use Rattle.sides.specs.declared.side.Side.TheVariants.{A, B}
@@ -68,9 +68,17 @@ asked_of messages view script file_a file_b log out =
     if are_names messages script file_a file_b log out
     then option_map (λ view. record { view = view; line = line_with script file_a file_b log out }) view else None
 
--- a view's name, or its name and an option in two words, and then five names
-abbrev pub asked_in : Bool → List (List ℕ) → Option Asking
-asked_in messages (word ∷ script ∷ file_a ∷ file_b ∷ log ∷ out ∷ []) = asked_of messages (view_named word) script file_a file_b log out
-asked_in messages (word ∷ option ∷ value ∷ script ∷ file_a ∷ file_b ∷ log ∷ out ∷ []) =
+-- a view's name and five names
+abbrev pub asked_plainly : Bool → List (List ℕ) → Option Asking
+asked_plainly messages (word ∷ script ∷ file_a ∷ file_b ∷ log ∷ out ∷ []) = asked_of messages (view_named word) script file_a file_b log out
+asked_plainly messages words = None
+
+-- a view's name, an option of it in two words, and five names
+abbrev pub asked_with : Bool → List (List ℕ) → Option Asking
+asked_with messages (word ∷ option ∷ value ∷ script ∷ file_a ∷ file_b ∷ log ∷ out ∷ []) =
     asked_of messages (view_at word option value) script file_a file_b log out
-asked_in messages words = None
+asked_with messages words = None
+
+-- eight words have an option
+abbrev pub asked_in : Bool → List (List ℕ) → Option Asking
+asked_in messages words = if length words == 8 then asked_with messages words else asked_plainly messages words

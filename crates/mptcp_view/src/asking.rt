@@ -2,7 +2,7 @@
 
 ghost use Rattle.std.specs.Prelude.{◌≡◌, map, option_map, IfSome, string_bytes};
 ghost use Rattle.run_words.specs.Lines.{as_line, is_given, replay};
-ghost use Rattle.mptcp_view.specs.Asking.{are_given, are_names, are_read_apart, as_asked, asked_in, asked_of, is_apart, side_named, view_at, view_named};
+ghost use Rattle.mptcp_view.specs.Asking.{are_given, are_names, are_read_apart, as_asked, asked_in, asked_of, asked_plainly, asked_with, is_apart, side_named, view_at, view_named};
 
 use run_words::{CommandLine, Mode};
 use sides::Side;
@@ -135,30 +135,53 @@ fn asked_of<'a>(
     }
 }
 
-/// A view's name, or its name and an option in two words, and then five names, as `asked_of` takes them.
+/// A view's name and five names.
+fn asked_plainly(messages: bool, words: &[String]) -> Option<Asked<'_>>
+    ensures asked { option_map as_asked result ≡
+        asked_plainly messages (map string_bytes words.now) }
+    ensures log { IfSome result (λ asked. (as_line asked.line).work ≡ replay asked.log.now) }
+{
+    let [word, script, file_a, file_b, log, out] = words else {
+        return None;
+    };
+    asked_of(
+        messages,
+        view_named(word.as_str()),
+        script.as_str(),
+        file_a.as_str(),
+        file_b.as_str(),
+        log.as_str(),
+        out.as_str(),
+    )
+}
+
+/// A view's name, an option of it in two words, and five names.
+fn asked_with(messages: bool, words: &[String]) -> Option<Asked<'_>>
+    ensures asked { option_map as_asked result ≡ asked_with messages (map string_bytes words.now) }
+    ensures log { IfSome result (λ asked. (as_line asked.line).work ≡ replay asked.log.now) }
+{
+    let [word, option, value, script, file_a, file_b, log, out] = words else {
+        return None;
+    };
+    asked_of(
+        messages,
+        view_at(word.as_str(), option.as_str(), value.as_str()),
+        script.as_str(),
+        file_a.as_str(),
+        file_b.as_str(),
+        log.as_str(),
+        out.as_str(),
+    )
+}
+
+/// A view's name, an option of it in two words where there is one, and five names, as `asked_of` takes them.
 pub fn asked_by(messages: bool, words: &[String]) -> Option<Asked<'_>>
     ensures asked { option_map as_asked result ≡ asked_in messages (map string_bytes words.now) }
     ensures log { IfSome result (λ asked. (as_line asked.line).work ≡ replay asked.log.now) }
 {
-    match words {
-        [word, script, file_a, file_b, log, out] => asked_of(
-            messages,
-            view_named(word.as_str()),
-            script.as_str(),
-            file_a.as_str(),
-            file_b.as_str(),
-            log.as_str(),
-            out.as_str(),
-        ),
-        [word, option, value, script, file_a, file_b, log, out] => asked_of(
-            messages,
-            view_at(word.as_str(), option.as_str(), value.as_str()),
-            script.as_str(),
-            file_a.as_str(),
-            file_b.as_str(),
-            log.as_str(),
-            out.as_str(),
-        ),
-        _ => None,
+    if words.len() == 8 {
+        asked_with(messages, words)
+    } else {
+        asked_plainly(messages, words)
     }
 }
