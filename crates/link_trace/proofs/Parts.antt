@@ -4,6 +4,7 @@ use mathlib.Core.List.{append_assoc}
 use Rattle.std.proofs.lemmas.List.{at_drop_more}
 use Rattle.std.specs.Fmt.{decimal}
 use Rattle.std.specs.List.{flat_map}
+use Rattle.sides.specs.declared.side.Side.{Side}
 use Rattle.link_trace.specs.declared.sent.Sent.{Sent}
 use Rattle.link_trace.specs.Captures.{interfaces, packet_of}
 use Rattle.pcap_text.specs.Blocks.{Block, Interface, block_text, capture_text}
@@ -12,9 +13,9 @@ pub captured_then : (xs ys : List Block) → capture_text (xs ++ ys) ≡ capture
 captured_then [] ys = refl
 captured_then (b ∷ xs) ys = rw (captured_then xs ys) (sym (append_assoc (block_text b) (capture_text xs) (capture_text ys)))
 
-pub captured_each : (xs : List Sent) → capture_text (map packet_of xs) ≡ flat_map (λ s. block_text (packet_of s)) xs
-captured_each [] = refl
-captured_each (s ∷ xs) = ap (λ rest. block_text (packet_of s) ++ rest) (captured_each xs)
+pub captured_each : (side : Side) (xs : List Sent) → capture_text (map (packet_of side) xs) ≡ flat_map (λ s. block_text (packet_of side s)) xs
+captured_each side [] = refl
+captured_each side (s ∷ xs) = ap (λ rest. block_text (packet_of side s) ++ rest) (captured_each side xs)
 
 -- what is put part by part: the old text, the next part, all that is left
 parts_more : (old part rest left whole new : List ℕ) → left ≡ part ++ rest → old ++ left ≡ whole → new ≡ old ++ part → new ++ rest ≡ whole

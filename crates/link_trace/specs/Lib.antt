@@ -1,6 +1,7 @@
 pub mod Multipath
 pub mod Fates
 pub mod Captures
+pub mod Points
 pub mod Meanings
 pub mod Shifts
 pub mod Carrying
@@ -14,3 +15,4 @@ pub mod Marks
 pub mod Pictures
 pub mod Strokes
 pub mod Tables
+pub mod Ticks

@@ -5,7 +5,7 @@ ghost use Rattle.std.specs.Fmt.{decimal};
 ghost use Rattle.std.specs.List.{flat_map};
 ghost use Rattle.link_model.specs.Fate.{ticks_of};
 ghost use Rattle.pcap_text.specs.Blocks.{Interface, block_text, capture_text};
-ghost use Rattle.link_trace.specs.Captures.{blocks_of, direction_of, interfaces, ipv4_packet, packet_of, segment_len};
+ghost use Rattle.link_trace.specs.Captures.{blocks_of, direction_at, interfaces, ipv4_packet, packet_of, segment_len};
 ghost use Rattle.link_trace.specs.Fates.{fate_words};
 
 use crate::fate::put_fate;
@@ -16,13 +16,14 @@ use segment_wire::addresses_from;
 use sides::Side;
 use std::alloc::{AllocError, Global};
 
-/// Seen from A.
-fn direction_of(from: Side) -> Direction
-    ensures { result ≡ direction_of from }
+/// As this side sees it.
+fn direction_at(side: Side, from: Side) -> Direction
+    ensures { result ≡ direction_at side from }
 {
-    match from {
-        Side::A => Direction::Outbound,
-        Side::B => Direction::Inbound,
+    if from == side {
+        Direction::Outbound
+    } else {
+        Direction::Inbound
     }
 }
 
@@ -78,13 +79,13 @@ fn comment_of(alloc: Global, fate: &SegmentFate) -> Result<String, AllocError>
 }
 
 /// The block of a segment, with its fate as comment.
-fn packet_of(alloc: Global, sent: &Sent) -> Result<Vec<u8>, AllocError>
-    ensures { IfOk result (λ block. block.items ≡ block_text (packet_of sent.now)) }
+fn packet_of(alloc: Global, side: Side, sent: &Sent) -> Result<Vec<u8>, AllocError>
+    ensures { IfOk result (λ block. block.items ≡ block_text (packet_of side sent.now)) }
 {
     let seen = Seen {
         interface: u32::from(sent.path),
         millisecond: sent.tick,
-        direction: direction_of(sent.from),
+        direction: direction_at(side, sent.from),
     };
     let comment = comment_of(alloc, &sent.fate)?;
     let octets = ipv4_packet(alloc, sent)?;
@@ -128,32 +129,47 @@ fn put_interfaces(alloc: Global, capture: &mut Vec<u8>, paths: usize) -> Result<
     Ok(())
 }
 
-fn put_packet(alloc: Global, capture: &mut Vec<u8>, sent: &Sent) -> Result<(), AllocError>
+fn put_packet(
+    alloc: Global,
+    capture: &mut Vec<u8>,
+    side: Side,
+    sent: &Sent,
+) -> Result<(), AllocError>
     ensures { OnOk result (capture.new.items ≡
-        capture.old.items ++ block_text (packet_of sent.now)) }
+        capture.old.items ++ block_text (packet_of side sent.now)) }
 {
-    let block = packet_of(alloc, sent)?;
+    let block = packet_of(alloc, side, sent)?;
     capture.extend_from_slice(&block)
 }
 
 /// Puts the blocks of the segments.
-fn put_packets(alloc: Global, capture: &mut Vec<u8>, trace: &[Sent]) -> Result<(), AllocError>
+fn put_packets(
+    alloc: Global,
+    capture: &mut Vec<u8>,
+    side: Side,
+    trace: &[Sent],
+) -> Result<(), AllocError>
     ensures { OnOk result (capture.new.items ≡
-        capture.old.items ++ flat_map (λ s. block_text (packet_of s)) trace.now) }
+        capture.old.items ++ flat_map (λ s. block_text (packet_of side s)) trace.now) }
 {
     for sent in trace {
-        put_packet(alloc, capture, sent)?;
+        put_packet(alloc, capture, side, sent)?;
     }
     Ok(())
 }
 
-/// The capture of a trace over so many paths.
+/// The capture of a trace over so many paths: outbound is what this side sends.
 #[tactic(auto, using(crate::proofs::Parts::captured_then, crate::proofs::Parts::captured_each))]
-pub fn capture(alloc: Global, paths: usize, trace: &[Sent]) -> Result<Vec<u8>, AllocError>
-    ensures { IfOk result (λ octets. octets.items ≡ capture_text (blocks_of paths trace.now)) }
+pub fn capture(
+    alloc: Global,
+    side: Side,
+    paths: usize,
+    trace: &[Sent],
+) -> Result<Vec<u8>, AllocError>
+    ensures { IfOk result (λ octets. octets.items ≡ capture_text (blocks_of side paths trace.now)) }
 {
     let mut capture = section(alloc)?;
     put_interfaces(alloc, &mut capture, paths)?;
-    put_packets(alloc, &mut capture, trace)?;
+    put_packets(alloc, &mut capture, side, trace)?;
     Ok(capture)
 }

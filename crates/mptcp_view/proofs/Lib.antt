@@ -2,3 +2,4 @@ mod Refusing
 mod Answering
 mod RoundsGathered
 mod LinesTold
+mod Words

@@ -14,8 +14,9 @@ use Rattle.run_outside.specs.Ports.{IsUntouched, Ports}
 use Rattle.run_outside.proofs.Calls.{Told, adds_none, all_then, cut_none, cut_over, cut_then}
 use Rattle.run_log.specs.declared.turn.Turn as logged
 use Rattle.world_core.specs.Logged.{all_turns}
+use Rattle.mptcp_view.specs.Asking.{Asking}
 use Rattle.mptcp_view.specs.Cutting.{IsRead, IsUnread}
-use Rattle.mptcp_view.specs.Views.{AreInputs, Asking, HoldsCut, IsBeforeOut, IsCut, IsOutFault, IsTurnsFault, IsViewAnswer, IsViewFault}
+use Rattle.mptcp_view.specs.Views.{AreInputs, HoldsCut, IsBeforeOut, IsCut, IsOutFault, IsTurnsFault, IsViewAnswer, IsViewFault}
 use Rattle.mptcp_view.specs.declared.cutting.Extent.{Extent}
 
 module _ (content : List ℕ → Option (List ℕ)) (asked : Asking) (held holds : Ports) (told tells : Told) (loads_old loads_new : ℕ) (old new : Port → ℕ) where

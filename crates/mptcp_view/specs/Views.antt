@@ -1,6 +1,5 @@
--- What the words ask for, what OUT then shows, and why it doesn't.
-use Rattle.std.specs.Prelude.{◌≡◌, ◌≢◌, ◌⊎◌, Result, Ok, IfOk, IfErr, ℕ, ◌+◌, ◌^◌, ◌≤◌, Bool, not, ◌&&◌, ◌||◌, if◌then◌else◌, Option, Some, None, option_map, IfSome, List, [], ◌∷◌, ◌++◌, length, take, codes}
-use Rattle.std.specs.Str.{bytes_eq}
+-- What OUT shows of what the words ask for, and why it doesn't.
+use Rattle.std.specs.Prelude.{◌≡◌, ◌≢◌, ◌⊎◌, Result, Ok, IfOk, IfErr, ℕ, ◌+◌, ◌^◌, ◌≤◌, Option, Some, None, option_map, unwrap_or, IfSome, List, [], ◌∷◌, ◌++◌, length, take}
 use Rattle.world_core.specs.Logged.{all_turns}
 use Rattle.outside_kit.specs.Calls.{Call, Made}
 use Rattle.outside_kit.specs.Calls as call
@@ -11,11 +10,14 @@ use Rattle.link_script.specs.declared.script.Script.{Script}
 use Rattle.link_trace.specs.Captures.{blocks_of}
 use Rattle.link_trace.specs.Carrying.{all_carried, base_of}
 use Rattle.link_trace.specs.Lines.{lines_of}
+use Rattle.link_trace.specs.Points.{seen_at}
 use Rattle.link_trace.specs.Tables.{summary_of}
+use Rattle.link_trace.specs.Ticks.{AreByTick}
 use Rattle.link_trace.specs.declared.carried.Base.{Base}
 use Rattle.link_trace.specs.declared.sent.Sent.{Sent}
 use Rattle.path_core.specs.Octets.{octets}
 use Rattle.path_core.specs.Start.{key_of}
+use Rattle.path_core.specs.State.{PathState}
 use Rattle.pcap_text.specs.Blocks.{capture_text}
 use Rattle.run_log.specs.declared.turn.Turn as logged
 use Rattle.run_outside.specs.Inputs.{AreWithinLimits, IsLoggedFault, content_of, opening_count}
@@ -32,67 +34,18 @@ use Rattle.run_trace.specs.Rates.{rates_of}
 use Rattle.run_trace.specs.Trace.{StopsAt, trace_of}
 use Rattle.run_trace.specs.declared.making.TraceFault.{TraceFault}
 use Rattle.run_trace.specs.declared.making.TraceFault.TheVariants as fault
-use Rattle.run_words.specs.Lines.{Line, as_line, is_given, replay}
+use Rattle.run_words.specs.Lines.{Line}
+use Rattle.sides.specs.declared.side.Side.{Side}
+use Rattle.sides.specs.declared.side.Side.TheVariants.{A}
+use Rattle.world_core.specs.Looking.{path_at}
 use Rattle.world_laws.specs.Openings.{opened_world, start_of}
 use Rattle.world_laws.specs.Worlds.{AreLawful, Turn, WorldState, world_run}
+use Rattle.mptcp_view.specs.Asking.{Asking}
 use Rattle.mptcp_view.specs.Cutting.{IsRead, IsUnread}
 use Rattle.mptcp_view.specs.Telling.{untold}
+use Rattle.mptcp_view.specs.declared.asking.View.{View}
+use Rattle.mptcp_view.specs.declared.asking.View.TheVariants.{Capture, Summary, Picture, Text}
 use Rattle.mptcp_view.specs.declared.cutting.Extent.{Extent}
-use Rattle.mptcp_view.specs.declared.showing.Asked.{Asked}
-use Rattle.mptcp_view.specs.declared.showing.View.{View}
-use Rattle.mptcp_view.specs.declared.showing.View.TheVariants.{Capture, Summary, Picture, Text}
-
--- ---- the words
-
-abbrev pub view_named : List ℕ → Option View
-view_named word =
-    if bytes_eq word (codes "capture") then Some Capture
-    else (if bytes_eq word (codes "summary") then Some Summary
-    else (if bytes_eq word (codes "picture") then Some Picture
-    else (if bytes_eq word (codes "text") then Some Text else None)))
-
--- what is asked for: a view of a replay
-pub record Asking : Type 0 where
-  pub view : View
-  pub line : Line
-
-abbrev pub as_asked : Asked → Asking
-as_asked asked = record { view = asked.view; line = as_line asked.line }
-
--- the inputs of a replay of this log
-abbrev pub line_with : List ℕ → List ℕ → List ℕ → List ℕ → List ℕ → Line
-line_with script file_a file_b log out = record {
-  work = replay log;
-  names = record { script = script; file_a = file_a; file_b = file_b; read_by_b = out; read_by_a = out };
-}
-
--- no name is empty
-abbrev pub are_given : List ℕ → List ℕ → List ℕ → List ℕ → List ℕ → Bool
-are_given script file_a file_b log out = is_given script && (is_given file_a && (is_given file_b && (is_given log && is_given out)))
-
--- OUT has the name of none of these
-abbrev pub is_apart : List ℕ → List ℕ → List ℕ → List ℕ → List ℕ → Bool
-is_apart out script file_a file_b log =
-    not (bytes_eq out script) && (not (bytes_eq out file_a) && (not (bytes_eq out file_b) && not (bytes_eq out log)))
-
--- neither file has the name of the script or of the log, which are read as they stand
-abbrev pub are_read_apart : List ℕ → List ℕ → List ℕ → List ℕ → Bool
-are_read_apart script file_a file_b log =
-    not (bytes_eq file_a script) && (not (bytes_eq file_a log) && (not (bytes_eq file_b script) && not (bytes_eq file_b log)))
-
--- these can be the names, of a run of messages too where that is asked
-abbrev pub are_names : Bool → List ℕ → List ℕ → List ℕ → List ℕ → List ℕ → Bool
-are_names messages script file_a file_b log out =
-    are_given script file_a file_b log out
-    && (is_apart out script file_a file_b log && (not messages || are_read_apart script file_a file_b log))
-
--- six words, of which the first names a view; none of the names is empty, and OUT is none of the inputs; of a run of messages neither
--- file is the script or the log
-abbrev pub asked_in : Bool → List (List ℕ) → Option Asking
-asked_in messages (word ∷ script ∷ file_a ∷ file_b ∷ log ∷ out ∷ []) =
-    if are_names messages script file_a file_b log out
-    then option_map (λ view. record { view = view; line = line_with script file_a file_b log out }) (view_named word) else None
-asked_in messages words = None
 
 -- ---- the view
 
@@ -104,18 +57,33 @@ first_world input = opened_world (start_of input.script input.file_a input.file_
 abbrev pub base_in : Script → Base
 base_in script = base_of (key_of script.seed 0) (key_of script.seed 2) script.checksum
 
--- a view of what was sent in a run of this script, which ended with this world
+-- the tick at which a run ended: clocks meet as a round ends, so that of path 0, which is the actor 2
+abbrev pub end_of : WorldState (List ℕ) → ℕ
+end_of w = unwrap_or (option_map (λ (p : PathState (List ℕ)). p.clock) (path_at 2 w.crew)) 0
+
+-- the capture of what this side sees of these segments, by tick
+abbrev pub IsCaptureAt : Side → Script → ℕ → List Sent → List ℕ → Type 0
+IsCaptureAt side script end told shown =
+    (seen : List Sent) × (AreByTick (seen_at side script.paths end told) seen × (shown ≡ capture_text (blocks_of side (length script.paths) seen)))
+
+-- a view of these segments of a run of this script, which ended with this world
 abbrev pub IsViewFrom : View → Script → WorldState (List ℕ) → List Sent → List ℕ → Type 0
-IsViewFrom Capture script w trace shown = shown ≡ capture_text (blocks_of (length script.paths) trace)
-IsViewFrom Summary script w trace shown = shown ≡ summary_of (rates_of w.crew) (all_carried (base_in script) (initials_in script) trace)
-IsViewFrom Text script w trace shown = shown ≡ lines_of script.checksum trace
+-- as they are handed to the links, with directions as A sees them
+IsViewFrom (Capture None) script w told shown = shown ≡ capture_text (blocks_of A (length script.paths) told)
+IsViewFrom (Capture (Some side)) script w told shown = IsCaptureAt side script (end_of w) told shown
+IsViewFrom Summary script w told shown = shown ≡ summary_of (rates_of w.crew) (all_carried (base_in script) (initials_in script) told)
+IsViewFrom Text script w told shown = shown ≡ lines_of script.checksum told
 -- 2 MiB at most
-IsViewFrom Picture script w trace shown = length shown ≤ 2 ^ 21
+IsViewFrom Picture script w told shown = length shown ≤ 2 ^ 21
+
+-- the segments stand by tick
+abbrev pub IsShownByTick : View → Script → WorldState (List ℕ) → List Sent → List ℕ → Type 0
+IsShownByTick view script w trace shown = (told : List Sent) × (AreByTick trace told × IsViewFrom view script w told shown)
 
 -- a view of what these turns send
 abbrev pub IsViewOf : View → Input → List Turn → List ℕ → Type 0
 IsViewOf view input turns shown =
-    IsViewFrom view input.script (world_run octets turns (first_world input)) (trace_of turns (first_world input)) shown
+    IsShownByTick view input.script (world_run octets turns (first_world input)) (trace_of turns (first_world input)) shown
 
 -- ---- the inputs
 

@@ -5,10 +5,12 @@ ghost use Rattle.outside_kit.specs.declared.port.Port.{Port};
 ghost use Rattle.message_pipe.specs.Lined.{lined_content};
 ghost use Rattle.run_words.specs.Lines.{as_line, replay};
 ghost use Rattle.run_outside.specs.declared.status.Status.TheVariants.{Usage};
-ghost use Rattle.mptcp_view.specs.Views.{IsViewAnswer, as_asked, asked_in};
+ghost use Rattle.mptcp_view.specs.Asking.{as_asked, asked_in};
+ghost use Rattle.mptcp_view.specs.Views.{IsViewAnswer};
 
+use crate::asking::{Asked, asked_by};
 use crate::cutting::Extent;
-use crate::showing::{Asked, asked_by, show};
+use crate::showing::show;
 use message_pipe::FramedOutside;
 use outside_kit::Outside;
 use run_outside::Status;

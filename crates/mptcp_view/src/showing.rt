@@ -1,6 +1,6 @@
-//! What the words of a command line ask for: the log's steps made again, and one view of what was sent.
+//! The log's steps made again, and one view of what was sent.
 
-ghost use Rattle.std.specs.Prelude.{◌≡◌, ◌≢◌, ◌++◌, ◌↔◌, ◌<◌, ◌≤◌, ◌^◌, false, Err, None, [], ◌∷◌, map, option_map, IfOk, IfErr, IfSome, OnOk, OnErr, string_bytes};
+ghost use Rattle.std.specs.Prelude.{◌≡◌, ◌≢◌, ◌++◌, ◌↔◌, ◌<◌, ◌≤◌, ◌^◌, false, Err, None, [], ◌∷◌, map, IfOk, IfErr, IfSome, OnOk, OnErr, string_bytes};
 ghost use Rattle.outside_kit.specs.Calls as call;
 ghost use Rattle.outside_kit.specs.Outside.{HoldsAfter, HoldsPrefix};
 ghost use Rattle.outside_kit.specs.declared.port.Port.{Port};
@@ -9,53 +9,31 @@ ghost use Rattle.path_core.specs.Octets.{octets};
 ghost use Rattle.link_trace.specs.Carrying.{all_carried};
 ghost use Rattle.run_trace.specs.Initials.{initials_in};
 ghost use Rattle.run_trace.specs.Trace.{place_of, trace_of};
-ghost use Rattle.run_words.specs.Lines.{as_line, is_given, replay};
+ghost use Rattle.run_words.specs.Lines.{as_line, replay};
 ghost use Rattle.run_outside.specs.Plan.{AddsAll, AddsCut};
 ghost use Rattle.run_outside.specs.Ports.{IsUntouched};
 ghost use Rattle.run_outside.specs.declared.status.Status.TheVariants.{Usage};
 ghost use Rattle.world_core.specs.Kept.{standing};
 ghost use Rattle.world_core.specs.Logged.{all_turns};
 ghost use Rattle.world_laws.specs.Worlds.{AreLawful};
+ghost use Rattle.mptcp_view.specs.Asking.{as_asked, asked_in};
 ghost use Rattle.mptcp_view.specs.Telling.{untold};
-ghost use Rattle.mptcp_view.specs.Views.{HoldsCut, IsBeforeOut, IsOutFault, IsTurnsFault, IsUntold, IsViewAnswer, IsViewFault, IsViewFrom, IsViewOf, Shows, are_given, are_names, are_read_apart, as_asked, asked_in, base_in, first_world, is_apart, out_calls, stopped_at, view_named};
+ghost use Rattle.mptcp_view.specs.Views.{HoldsCut, IsBeforeOut, IsCaptureAt, IsOutFault, IsShownByTick, IsTurnsFault, IsUntold, IsViewAnswer, IsViewFault, IsViewFrom, IsViewOf, Shows, base_in, end_of, first_world, out_calls, stopped_at};
 
+use crate::asking::{Asked, View, asked_by};
 use crate::cutting::{Extent, ReadLog, read_shown};
 use crate::telling::untold;
 use link_script::{Script, ScriptLine};
-use link_trace::{Base, Carried, Death, Sent, all_carried, capture, lines, picture, summary};
+use link_trace::{
+    Base, Carried, Death, Sent, all_carried, capture, lines, picture, put_by_tick, seen_at, summary,
+};
 use outside_kit::{Outside, Port, PutFault};
 use path_core::key_of;
 use run_outside::{Input, Logged, Status, load_logged, opening_count};
 use run_trace::{Progress, TraceFault, gather, initials_in, rates_of};
-use run_words::{CommandLine, Mode};
+use sides::Side;
 use std::alloc::{AllocError, Global};
 use world_core::World;
-
-/// What is shown of a run.
-#[derive(Clone, Copy)]
-pub enum View {
-    /// A capture in the pcapng format.
-    Capture,
-    /// A table by path and direction.
-    Summary,
-    /// A drawing in SVG.
-    Picture,
-    /// A line for each segment.
-    Text,
-}
-
-/// The view of this name.
-fn view_named(word: &str) -> Option<View>
-    ensures { result ≡ view_named word.now }
-{
-    match word {
-        "capture" => Some(View::Capture),
-        "summary" => Some(View::Summary),
-        "picture" => Some(View::Picture),
-        "text" => Some(View::Text),
-        _ => None,
-    }
-}
 
 /// The numbers from which those of a run count.
 fn base_in(script: &Script) -> Base
@@ -99,31 +77,72 @@ fn deaths_in(alloc: Global, world: &World, lines: &[ScriptLine]) -> Result<Vec<D
     Ok(deaths)
 }
 
-/// A view of what was sent in a run of this script, which ended with this world.
+/// The tick at which a run ended that ended with this world. Clocks meet as a round ends, so it is that of path 0, which is the actor 2.
+fn end_of(world: &World) -> u64
+    ensures { result ≡ end_of world.now.state }
+{
+    match world.path(2) {
+        None => 0,
+        Some(path) => path.tick(),
+    }
+}
+
+/// The capture of what a side sees of these segments of a run that ended at this tick.
+fn capture_at(
+    alloc: Global,
+    side: Side,
+    script: &Script,
+    end: u64,
+    told: &[Sent],
+) -> Result<Vec<u8>, AllocError>
+    ensures { IfOk result (λ shown. IsCaptureAt side script.now end told.now shown.items) }
+{
+    let paths = script.paths.as_slice();
+    let seen = seen_at(alloc, side, paths, end, told)?;
+    capture(alloc, side, paths.len(), &seen)
+}
+
+/// A view of these segments of a run of this script, which ended with this world.
 fn shown(
     alloc: Global,
     view: View,
     script: &Script,
     world: &World,
-    trace: &[Sent],
+    told: &[Sent],
 ) -> Result<Vec<u8>, AllocError>
     ensures { IfOk result (λ shown.
-        IsViewFrom view script.now world.now.state trace.now shown.items) }
+        IsViewFrom view script.now world.now.state told.now shown.items) }
 {
     let paths = script.paths.as_slice().len();
     match view {
-        View::Capture => capture(alloc, paths, trace),
+        View::Capture(None) => capture(alloc, Side::A, paths, told),
+        View::Capture(Some(side)) => capture_at(alloc, side, script, end_of(world), told),
         View::Summary => {
-            let carried = carried_in(alloc, script, trace)?;
+            let carried = carried_in(alloc, script, told)?;
             summary(alloc, &rates_of(alloc, world)?, &carried)
         }
         View::Picture => {
-            let carried = carried_in(alloc, script, trace)?;
+            let carried = carried_in(alloc, script, told)?;
             let deaths = deaths_in(alloc, world, script.lines.as_slice())?;
             picture(alloc, paths, &deaths, &carried)
         }
-        View::Text => lines(alloc, script.checksum, trace),
+        View::Text => lines(alloc, script.checksum, told),
     }
+}
+
+/// A view of what was sent in a run of this script, which ended with this world: its segments stand by tick.
+fn shown_by_tick(
+    alloc: Global,
+    view: View,
+    script: &Script,
+    world: &World,
+    mut trace: Vec<Sent>,
+) -> Result<Vec<u8>, AllocError>
+    ensures { IfOk result (λ shown.
+        IsShownByTick view script.now world.now.state trace.items shown.items) }
+{
+    put_by_tick(&mut trace)?;
+    shown(alloc, view, script, world, &trace)
 }
 
 /// The status of turns that weren't all made, behind so many lines of the log.
@@ -229,7 +248,7 @@ fn view_from<P: Progress>(
         Err(fault) => return Err(stopped(fault, opening_count(&read.part))),
     };
     are_told(alloc, &read.part, &trace)?;
-    match shown(alloc, view, &input.script, world, &trace) {
+    match shown_by_tick(alloc, view, &input.script, world, trace) {
         Ok(shown) => Ok(shown),
         Err(_) => Err(Status::Memory),
     }
@@ -262,88 +281,6 @@ fn view_of<P: Progress>(
     shown
 }
 
-fn is_given(word: &str) -> bool
-    ensures { result ≡ is_given word.now }
-{
-    !word.is_empty()
-}
-
-/// Whether no name is empty.
-fn are_given(script: &str, file_a: &str, file_b: &str, log: &str, out: &str) -> bool
-    ensures { result ≡ are_given script.now file_a.now file_b.now log.now out.now }
-{
-    is_given(script) && is_given(file_a) && is_given(file_b) && is_given(log) && is_given(out)
-}
-
-/// Whether OUT has the name of none of the inputs.
-fn is_apart(out: &str, script: &str, file_a: &str, file_b: &str, log: &str) -> bool
-    ensures { result ≡ is_apart out.now script.now file_a.now file_b.now log.now }
-{
-    out != script && out != file_a && out != file_b && out != log
-}
-
-/// Whether neither file has the name of the script or of the log.
-fn are_read_apart(script: &str, file_a: &str, file_b: &str, log: &str) -> bool
-    ensures { result ≡ are_read_apart script.now file_a.now file_b.now log.now }
-{
-    file_a != script && file_a != log && file_b != script && file_b != log
-}
-
-/// Whether these can be the names of the inputs and of OUT, of a run of messages too where that is asked.
-fn are_names(messages: bool, script: &str, file_a: &str, file_b: &str, log: &str, out: &str) -> bool
-    ensures { result ≡ are_names messages script.now file_a.now file_b.now log.now out.now }
-{
-    are_given(script, file_a, file_b, log, out)
-        && is_apart(out, script, file_a, file_b, log)
-        && (!messages || are_read_apart(script, file_a, file_b, log))
-}
-
-/// What the words ask for: a view, and the inputs of a replay.
-#[derive(Clone, Copy)]
-pub struct Asked<'a> {
-    pub view: View,
-    pub line: CommandLine<'a>,
-    pub log: &'a str,
-}
-
-/// Six words, of which the first names a view; no name is empty, and OUT is none of the inputs. Of a run of messages neither file is the
-/// script or the log.
-pub fn asked_by(messages: bool, words: &[String]) -> Option<Asked<'_>>
-    ensures asked { option_map as_asked result ≡ asked_in messages (map string_bytes words.now) }
-    ensures log { IfSome result (λ asked. (as_line asked.line).work ≡ replay asked.log.now) }
-{
-    let [word, script, file_a, file_b, log, out] = words else {
-        return None;
-    };
-    if !are_names(
-        messages,
-        script.as_str(),
-        file_a.as_str(),
-        file_b.as_str(),
-        log.as_str(),
-        out.as_str(),
-    ) {
-        return None;
-    }
-    match view_named(word.as_str()) {
-        None => None,
-        Some(view) => Some(Asked {
-            view,
-            line: CommandLine {
-                mode: Mode::Replay {
-                    order: log.as_str(),
-                },
-                script: script.as_str(),
-                file_a: file_a.as_str(),
-                file_b: file_b.as_str(),
-                read_by_b: out.as_str(),
-                read_by_a: out.as_str(),
-            },
-            log: log.as_str(),
-        }),
-    }
-}
-
 /// Makes the turns of the log again, or of its whole rounds, and writes the view of what they send.
 pub fn show<O: Outside, P: Progress>(
     alloc: Global,
@@ -367,9 +304,10 @@ pub fn show<O: Outside, P: Progress>(
     }
 }
 
-/// Writes the view that the words ask for: six words, of which the first is `capture`, `summary`, `picture` or `text`. No name is empty,
-/// and OUT is none of the inputs. It tells how far the turns of the log are made. Of the ports only that of OUT, `ReadByB`, is touched.
-/// The answer is how much of the log is shown: where it was cut off, as that of a run that was killed, its whole rounds.
+/// Writes the view that the words ask for: a first word `capture`, `summary`, `picture` or `text`, behind `capture` the words `--at
+/// a` or `--at b` where they are wanted, and five names. No name is empty, and OUT is none of the inputs. It tells how far the turns
+/// of the log are made. Of the ports only that of OUT, `ReadByB`, is touched. The answer is how much of the log is shown: where it
+/// was cut off, as that of a run that was killed, its whole rounds.
 ///
 /// # Errors
 ///

@@ -6,6 +6,6 @@ use Rattle.link_trace.proofs.packets.put_packets.Goals as goal
 
 pub loop-sent-preserved : goal.loop-sent-preserved
 loop-sent-preserved c =
-    segment_more (λ s. block_text (packet_of s)) c.args.trace.now c.loop-sent.sent-index c.sent-item.result c.sent-item.result
+    segment_more (λ s. block_text (packet_of c.args.side s)) c.args.trace.now c.loop-sent.sent-index c.sent-item.result c.sent-item.result
     c.loop-sent.capture.items _ _ (omega (arith, c.loop-sent-test.true, c.loop-sent.auto.sent-index-end)) c.sent-item.is c.loop-sent.invariant
     c.in_ok-put_packet.ensures

@@ -6,5 +6,5 @@ use Rattle.link_trace.proofs.packets.put_packets.Given as goal
 
 abbrev pub invariant-loop-sent : goal.invariant-loop-sent
 invariant-loop-sent l =
-    l.capture.items ++ flat_map (λ s. block_text (packet_of s)) (drop l.sent-index l.trace)
-    ≡ l.initial.capture.items ++ flat_map (λ s. block_text (packet_of s)) l.trace
+    l.capture.items ++ flat_map (λ s. block_text (packet_of l.side s)) (drop l.sent-index l.trace)
+    ≡ l.initial.capture.items ++ flat_map (λ s. block_text (packet_of l.side s)) l.trace

@@ -1,4 +1,4 @@
-use Rattle.mptcp_view.specs.Views.{as_asked}
+use Rattle.mptcp_view.specs.Asking.{as_asked}
 use Rattle.mptcp_view.proofs.Refusing.{unbegun}
 use Rattle.mptcp_view.proofs.messages.show_messages.Goals as goal
 

@@ -1,6 +1,7 @@
 use Rattle.std.proofs.Common.{sym, subst, None, string_bytes}
 use Rattle.message_pipe.specs.Lined.{lined_content}
-use Rattle.mptcp_view.specs.Views.{IsViewAnswer, as_asked}
+use Rattle.mptcp_view.specs.Asking.{as_asked}
+use Rattle.mptcp_view.specs.Views.{IsViewAnswer}
 use Rattle.mptcp_view.proofs.messages.show_over_frames.Goals as goal
 
 pub returns : goal.returns

@@ -2,7 +2,8 @@ use Rattle.std.proofs.Common.{sym, subst}
 use Rattle.std.proofs.lemmas.Result.{err_from_is_err_and}
 use Rattle.world_core.specs.Logged.{all_turns}
 use Rattle.outside_kit.specs.declared.port.Port.TheVariants.{ReadByB}
-use Rattle.mptcp_view.specs.Views.{IsViewOf, as_asked}
+use Rattle.mptcp_view.specs.Asking.{as_asked}
+use Rattle.mptcp_view.specs.Views.{IsViewOf}
 use Rattle.mptcp_view.proofs.Answering.{answered, are_inputs, refused_early, refused_late, refused_where_cut, shown_where_ok}
 use Rattle.mptcp_view.proofs.Refusing.{inputs_refused, log_refused, turns_refused}
 use Rattle.mptcp_view.proofs.showing.show.Goals as goal
