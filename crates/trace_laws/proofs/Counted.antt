@@ -1,14 +1,16 @@
 -- Once a run is delivered the table counts each octet of both files as sent for the first time just once.
 use Rattle.std.proofs.Common.{◌≡◌, refl, sym, ◌∙◌, ap, subst, ℕ, zero, suc, ◌^◌, ◌<◌, ◌⊎◌, inl, inr, Some, List, [], ◌∷◌, length, map, arith}
-use Rattle.std.specs.List.{slice_get}
-use Rattle.std.proofs.lemmas.Option.{same_Some}
+use Rattle.std.specs.List.{Contains, slice_get}
+use Rattle.std.specs.List.Sorted.{IsPermutation}
+use Rattle.std.proofs.lemmas.List.Sorted.{Contains-permutation, IsPermutation-sym}
+use Rattle.std.proofs.lemmas.Option.{get_or_from_slice_get, same_Some, slice_get-get_or, slice_get_within}
 use Rattle.sides.specs.declared.side.Side.{Side}
 use Rattle.sides.specs.declared.side.Side.TheVariants.{A, B}
-use Rattle.stream_lanes.specs.Words.{Every, Has}
+use Rattle.stream_lanes.specs.Words.{Every}
 use Rattle.actor_desk.specs.Words.{pick}
 use Rattle.link_trace.specs.declared.sent.Sent.{Sent}
 use Rattle.link_trace.specs.declared.carried.Carried.{Carried}
-use Rattle.link_trace.specs.Carrying.{all_carried, carried_behind, carried_of, shifts_after}
+use Rattle.link_trace.specs.Carrying.{all_carried, carried_behind, carried_of}
 use Rattle.link_trace.specs.FirstOctets.{EachEndsBy, EndsBy, OneHasOctet}
 use Rattle.link_trace.specs.Rows.{capped, first_octets_from, rows_of}
 use Rattle.link_trace.proofs.FirstOctets.{first_octets}
@@ -16,7 +18,7 @@ use Rattle.run_trace.specs.Initials.{initials_of}
 use Rattle.run_trace.specs.Trace.{trace_of}
 use Rattle.world_laws.specs.Openings.{Start, opened_world}
 use Rattle.world_laws.specs.Promises.{NumbersFit}
-use Rattle.trace_laws.specs.Counting.{DeliveredFilesWereCounted, base_from, carried_by}
+use Rattle.trace_laws.specs.Counting.{DeliveredFilesWereCounted, base_from}
 use Rattle.trace_laws.specs.Sending.{ended}
 use Rattle.trace_laws.proofs.Going.{CarriesTold, delivered_were_told}
 use Rattle.trace_laws.proofs.MomentFacts.{GoodSent, carried_from, moment_facts, trace_good}
@@ -58,13 +60,29 @@ file_short : (start : Start) → NumbersFit start → (s : Side) → length (pic
 file_short start fit A = let short = fit.short_a in omega (arith, short)
 file_short start fit B = let short = fit.short_b in omega (arith, short)
 
+-- ---- in another order
+
+contains_at : {X : Type 0} (xs : List X) (i : ℕ) (x : X) → slice_get xs i ≡ Some x → Contains xs x
+contains_at xs i x at = (i, slice_get_within xs i x at, get_or_from_slice_get xs i x x at)
+
+-- what is at a place of one list is somewhere in the other one
+moved_at : {X : Type 0} (xs ys : List X) → IsPermutation xs ys → (i : ℕ) (x : X) → slice_get xs i ≡ Some x → (j : ℕ) × (slice_get ys j ≡ Some x)
+moved_at xs ys same i x at =
+    let there = Contains-permutation xs ys x same (contains_at xs i x at) in (there.0, slice_get-get_or ys there.0 x there.1 ∙ ap Some there.2)
+
+every_moved : {X : Type 0} {P : X → Type 0} (xs ys : List X) → IsPermutation xs ys → Every P xs → Every P ys
+every_moved xs ys same h = record {
+  each = λ i x at. let there = moved_at ys xs (IsPermutation-sym xs ys same) i x at in h.each there.0 x there.1;
+}
+
 pub delivered_were_counted : DeliveredFilesWereCounted
-delivered_were_counted start turns plain fit lawful delivered s rates many =
+delivered_were_counted start turns plain fit lawful delivered told same s rates many =
     let trace = trace_of (ended turns) (opened_world start) in let small = file_short start fit s in
-    let good = trace_good start (ended turns) (opened_world start) (λ more. moment_facts start more plain fit) in
-    let counted = first_octets rates (alone start trace) s (length (pick s start.file_a start.file_b)) (omega (arith, small))
-    (each_ends start s (length rates) trace many good)
+    let good = every_moved trace told same (trace_good start (ended turns) (opened_world start) (λ more. moment_facts start more plain fit)) in
+    let counted = first_octets rates (alone start told) s (length (pick s start.file_a start.file_b)) (omega (arith, small))
+    (each_ends start s (length rates) told many good)
     (λ at below.
     let has = delivered_were_told start turns plain fit lawful delivered s at below in
-    one_has start s at has.at has.item trace has.there has.holds) in
-    ap (λ (cs : List Carried). capped (first_octets_from s (rows_of rates cs))) (each_alone start trace good) ∙ ap capped counted ∙ omega (arith, small)
+    let there = moved_at trace told same has.at has.item has.there in
+    one_has start s at there.0 has.item told there.1 has.holds) in
+    ap (λ (cs : List Carried). capped (first_octets_from s (rows_of rates cs))) (each_alone start told good) ∙ ap capped counted ∙ omega (arith, small)

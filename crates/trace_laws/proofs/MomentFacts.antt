@@ -1,5 +1,5 @@
 -- What each path is at every moment, over links that alter no payload, for who reads what it sends.
-use Rattle.std.proofs.Common.{◌≡◌, refl, sym, ◌∙◌, ap, subst, ℕ, zero, suc, ◌+◌, ◌%◌, ◌==◌, ◌&&◌, ◌||◌, ◌^◌, ◌<◌, ◌≤◌, ◌⊎◌, inl, inr, ⊎_elim, Bool, true, false, not, Result, Ok, Err, Option, Some, None, option_map, option_and_then, List, [], ◌∷◌, ◌++◌, length, length-append, map, arith}
+use Rattle.std.proofs.Common.{◌≡◌, refl, sym, ◌∙◌, ap, subst, ℕ, zero, suc, ◌%◌, ◌==◌, ◌&&◌, ◌||◌, ◌^◌, ◌<◌, ◌≤◌, ◌⊎◌, inl, inr, ⊎_elim, Bool, true, false, not, Result, Ok, Err, Option, Some, None, option_map, option_and_then, List, [], ◌∷◌, length, length-append, arith}
 use Rattle.std.specs.List.{slice_get}
 use Rattle.std.specs.Option.{IfSome, option_to_list}
 use Rattle.std.proofs.lemmas.Bool.{and_parts, both_ways, false≢true}
@@ -10,8 +10,7 @@ use Rattle.octet_text.specs.Prefix.{IsPrefix}
 use Rattle.key_material.specs.KeyDigest.{idsn_of}
 use Rattle.segment_wire.specs.declared.reading.SegmentFault.{SegmentFault}
 use Rattle.segment_wire.specs.Segment.{Segment}
-use Rattle.path_segments.specs.Spelled.{PlainSegment}
-use Rattle.path_segments.specs.Spelling.{numbers_of, whole_number}
+use Rattle.path_segments.specs.Spelling.{numbers_of}
 use Rattle.subflow_send.specs.declared.record.RecordKind.{RecordKind}
 use Rattle.subflow_send.specs.declared.record.RecordKind.TheVariants.{Syn, Data, Fin}
 use Rattle.subflow_send.specs.Records.{Record}
@@ -39,7 +38,7 @@ use Rattle.path_core.specs.Emission.{first_unsent}
 use Rattle.path_core.specs.End.{PathEnd}
 use Rattle.path_core.specs.Looking.{departing, departing_as, first_sends}
 use Rattle.path_core.specs.Octets.{made, octets}
-use Rattle.path_core.specs.DssOut.{is_first_piece, place_numbered}
+use Rattle.path_core.specs.DssOut.{place_numbered}
 use Rattle.path_core.specs.OptionsOut.{record_or_ack, record_said}
 use Rattle.path_core.specs.Shown.{shown_path}
 use Rattle.path_core.specs.State.{PathState, end_at, path_of}
@@ -51,19 +50,19 @@ use Rattle.run_trace.specs.Trace.{sent_as, sent_at, sent_by, sent_next, trace_of
 use Rattle.world_core.specs.Looking.{crew_path, member_path}
 use Rattle.world_laws.specs.declared.member.Member.TheVariants.{App, Path}
 use Rattle.world_laws.specs.Actors.{Actor, ActorCrew}
-use Rattle.world_laws.specs.Fresh.{shown_crew, shown_member, shown_world}
+use Rattle.world_laws.specs.Fresh.{shown_crew, shown_member}
 use Rattle.world_laws.specs.Openings.{PathPlan, Start, opened_world, path_begins}
 use Rattle.world_laws.specs.Promises.{IsPlain, NumbersFit}
 use Rattle.world_laws.specs.Worlds.{Turn, WorldState, after_turn, world_run}
 use Rattle.world_laws.proofs.Lanes.Beginning.{each_run_shows}
 use Rattle.world_laws.proofs.Worlds.CastLifting.{each_actor, path_actor, writes_the_files}
-use Rattle.world_laws.proofs.Worlds.Casts.{Walker, walking, world_of}
+use Rattle.world_laws.proofs.Worlds.Casts.{Walker, walking}
 use Rattle.world_laws.proofs.Lanes.Doing.{place_is}
 use Rattle.world_laws.proofs.Lanes.OfAWorld.{IsSteady, PathIsSteady, PathThere, StandsSo, WorldShows, duo_of, first_duo, free_run, plainly, plainly_free}
 use Rattle.world_laws.proofs.Promises.Made.{run_fresh}
 use Rattle.world_laws.proofs.Lanes.Records.{every_find}
 use Rattle.world_laws.proofs.Lanes.Saying.{every_one}
-use Rattle.world_laws.proofs.Lanes.Showing.{EndShows, KindShows, OwnIs, RecordShows}
+use Rattle.world_laws.proofs.Lanes.Showing.{EndShows, KindShows, OwnIs}
 use Rattle.world_laws.proofs.Worlds.Steady.{always_steady}
 use Rattle.world_laws.proofs.Numbers.TellSmall.{EndTells, RecordKindTells, RecordTells}
 use Rattle.world_laws.proofs.Numbers.PathSteps.{PathTells}

@@ -1,32 +1,30 @@
 -- Over links that alter no payload each segment with a payload tells where it stands in its side's file.
-use Rattle.std.proofs.Common.{◌≡◌, refl, sym, ◌∙◌, ap, subst, ℕ, zero, suc, ◌+◌, ◌-◌, ◌%◌, ◌==◌, ◌&&◌, ◌^◌, ◌<◌, ◌≤◌, min, ◌⊎◌, inl, inr, ⊎_elim, Bool, true, false, not, if◌then◌else◌, Result, Ok, Err, Option, Some, None, option_map, find, List, [], ◌∷◌, ◌++◌, length, length-append, drop, map, All, arith}
+use Rattle.std.proofs.Common.{◌≡◌, refl, sym, ◌∙◌, ap, subst, ℕ, suc, ◌+◌, ◌-◌, ◌%◌, ◌^◌, ◌<◌, ◌≤◌, ◌⊎◌, inl, inr, Bool, true, false, if◌then◌else◌, Result, Ok, Err, Option, Some, None, option_map, List, [], ◌∷◌, length, All, arith}
 use Rattle.std.specs.List.{slice_get}
 use Rattle.std.specs.Option.{IfSome}
-use Rattle.std.proofs.lemmas.Bool.{and_parts, both_ways, false≢true, eqb-true, true≢false}
 use Rattle.std.proofs.lemmas.List.Elements.{All-head}
-use Rattle.std.proofs.lemmas.Option.{same_Some, slice_get_within}
+use Rattle.std.proofs.lemmas.Option.{slice_get_within}
 use Rattle.sides.specs.declared.side.Side.{Side}
 use Rattle.sides.specs.declared.side.Side.TheVariants.{A, B}
 use Rattle.key_material.specs.KeyDigest.{idsn_of}
 use Rattle.segment_wire.specs.declared.head.Addresses.{Addresses}
 use Rattle.segment_wire.specs.declared.reading.SegmentFault.{SegmentFault}
 use Rattle.segment_wire.specs.declared.reading.SegmentFault.TheVariants.{Short, DataOffset, OptionLength, Checksum}
-use Rattle.segment_wire.specs.Reading.{has_broken_option, has_wrong_checksum, has_wrong_offset, header_len, is_short, segment_in, segment_meaning}
+use Rattle.segment_wire.specs.Reading.{has_broken_option, has_wrong_checksum, has_wrong_offset, is_short, segment_in, segment_meaning}
 use Rattle.segment_wire.specs.Segment.{Segment}
-use Rattle.path_segments.specs.Options.{PlainOption, said_option}
+use Rattle.path_segments.specs.Options.{PlainOption}
 use Rattle.path_segments.specs.Spelled.{CanSayOption, PlainSegment}
 use Rattle.path_segments.specs.Spelling.{numbers_of}
-use Rattle.subflow_send.specs.declared.record.RecordKind.{RecordKind}
-use Rattle.subflow_send.specs.declared.record.RecordKind.TheVariants.{Syn, Data, Fin}
+use Rattle.subflow_send.specs.declared.record.RecordKind.TheVariants.{Data}
 use Rattle.subflow_send.specs.Records.{Record}
 use Rattle.subflow_send.specs.Rules.{is_unsent}
 use Rattle.subflow_tcp.specs.Emitting.{is_syn}
 use Rattle.subflow_tcp.specs.State.{has_records}
-use Rattle.stream_lanes.specs.Holding.{Holds, IsHonest, IsRight, LaneHolds}
+use Rattle.stream_lanes.specs.Holding.{IsHonest, IsRight, LaneHolds}
 use Rattle.stream_lanes.specs.Lane.{Cell, Lane, Mapping}
 use Rattle.stream_lanes.specs.View.{View}
-use Rattle.stream_lanes.specs.Words.{Every, From}
-use Rattle.stream_lanes.proofs.Lists.{Every-append, Every-map, in_map}
+use Rattle.stream_lanes.specs.Words.{Every}
+use Rattle.stream_lanes.proofs.Lists.{in_map}
 use Rattle.actor_desk.specs.Words.{pick}
 use Rattle.link_trace.specs.declared.carried.Base.{Base}
 use Rattle.link_trace.specs.declared.carried.PathInitials.{PathInitials}
@@ -50,7 +48,7 @@ use Rattle.path_agenda.specs.declared.duty.StepDuty.TheVariants as steps_of
 use Rattle.path_agenda.specs.declared.heard.Heard.{Heard}
 use Rattle.path_agenda.specs.declared.heard.Heard.TheVariants as says
 use Rattle.link_trace.specs.declared.carried.Carried.{Carried}
-use Rattle.path_core.specs.Octets.{made, octets}
+use Rattle.path_core.specs.Octets.{made}
 use Rattle.path_core.specs.OptionsOut.{ack_said, carried_said, noted_said, record_options, record_or_ack, record_said, reset_said, syn_ack_said}
 use Rattle.path_core.specs.DssOut.{checksum_told, first_piece_options, infinite_or, is_first_piece, mapped_options, owes_mapping, piece_mapping, piece_options, place_numbered, plain_options}
 use Rattle.path_core.specs.DataFin.{is_data_fin_owed}
@@ -58,15 +56,13 @@ use Rattle.path_agenda.specs.declared.notice.OwnNotice.{OwnNotice}
 use Rattle.path_segments.specs.declared.segment.PathMapping.TheVariants.{Infinite}
 use Rattle.path_segments.specs.declared.segment.PathOption.TheVariants.{Capable, Dss}
 use Rattle.mptcp_options.specs.declared.capable.CapableKeys.TheVariants.{WithData}
-use Rattle.path_core.specs.Said.{said_by}
 use Rattle.path_core.specs.State.{PathState, end_at, path_of}
 use Rattle.path_core.specs.Profile.{Profile}
 use Rattle.run_trace.specs.Initials.{initials_of}
-use Rattle.run_trace.specs.Trace.{sent_as}
 use Rattle.world_laws.specs.Openings.{Start}
 use Rattle.world_laws.proofs.Lanes.Records.{every_at, every_find}
-use Rattle.world_laws.proofs.Lanes.Showing.{EndShows, HasMapping, IsPiece, KindShows, OwnIs, PathShows, RecordShows}
-use Rattle.world_laws.proofs.Numbers.TellSmall.{EndTells, OptionTells, PairTells, RecordKindTells, RecordTells, SegmentTells, record_said_tells}
+use Rattle.world_laws.proofs.Lanes.Showing.{HasMapping}
+use Rattle.world_laws.proofs.Numbers.TellSmall.{EndTells, OptionTells, PairTells, RecordTells, SegmentTells, record_said_tells}
 use Rattle.trace_laws.specs.Counting.{base_from}
 use Rattle.trace_laws.specs.Sending.{payload_in}
 use Rattle.trace_laws.proofs.Handing.{made_payload}

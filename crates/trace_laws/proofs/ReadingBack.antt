@@ -1,7 +1,7 @@
 -- What the octets of a payload's segment tell of its place, read as any trace is.
-use Rattle.std.proofs.Common.{◌≡◌, refl, sym, ◌∙◌, ap, subst, ℕ, zero, suc, ◌+◌, ◌-◌, ◌%◌, ◌==◌, ◌&&◌, ◌^◌, ◌<◌, ◌≤◌, nat_lt, min, Bool, true, false, if◌then◌else◌, Result, Ok, Err, Option, Some, None, unwrap_or, List, [], ◌∷◌, ◌++◌, length, replicate, append_assoc, append-nil, arith}
+use Rattle.std.proofs.Common.{◌≡◌, refl, ◌∙◌, ap, ℕ, zero, suc, ◌+◌, ◌-◌, ◌%◌, ◌==◌, ◌&&◌, ◌^◌, ◌<◌, ◌≤◌, nat_lt, Bool, true, false, if◌then◌else◌, Result, Ok, Err, Option, Some, None, unwrap_or, List, [], ◌∷◌, ◌++◌, length, replicate, append-nil, arith}
 use Rattle.std.specs.Option.{option_or}
-use Rattle.std.proofs.lemmas.Bool.{eq-eqb, ne_eqb}
+use Rattle.std.proofs.lemmas.Bool.{ne_eqb}
 use Rattle.sides.specs.declared.side.Side.{Side}
 use Rattle.sides.specs.Side.{peer}
 use Rattle.key_material.specs.KeyDigest.{idsn_of}
@@ -9,7 +9,6 @@ use Rattle.mptcp_options.specs.declared.capable.CapableKeys.{CapableKeys}
 use Rattle.mptcp_options.specs.declared.dss.DataNumber.TheVariants.{Low, Whole}
 use Rattle.mptcp_options.specs.declared.dss.DssMap.{DssMap}
 use Rattle.mptcp_options.specs.Value as wire
-use Rattle.mptcp_options.specs.Meaning.{option_meaning}
 use Rattle.mptcp_options.specs.Text.{Fits, HasForm, option_text}
 use Rattle.mptcp_options.proofs.OptionLaws.{read_again}
 use Rattle.segment_wire.specs.declared.reading.SegmentFault.{SegmentFault}
@@ -19,19 +18,18 @@ use Rattle.segment_wire.specs.Segment.{Segment}
 use Rattle.segment_wire.proofs.Again.{segment_meaning-written}
 use Rattle.segment_wire.proofs.Appended.{IsOption, option_octets-append}
 use Rattle.segment_wire.specs.Paths.{addresses_from}
-use Rattle.path_segments.specs.declared.segment.PathMapping.{PathMapping}
 use Rattle.path_segments.specs.declared.segment.PathMapping.TheVariants.{Bytes, Infinite}
 use Rattle.path_segments.specs.declared.segment.PathOption.TheVariants.{Capable, Dss}
 use Rattle.path_segments.specs.declared.spelling.Spelling.{Spelling}
 use Rattle.path_segments.specs.Options.{PlainOption, said_mapping, said_option}
-use Rattle.path_segments.specs.Spelled.{CanSay, PlainSegment, options_text, padded, padding, spelled, spelled_text, syn_text, unpadded_options}
+use Rattle.path_segments.specs.Spelled.{CanSay, PlainSegment, options_text, padded, padding, spelled, spelled_text, syn_text}
 use Rattle.path_segments.specs.Spelling.{data_number, numbers_of, subflow_number, whole_number}
 use Rattle.path_segments.proofs.SegmentsAgain.{four, written}
 use Rattle.link_trace.specs.declared.carried.Base.{Base}
 use Rattle.link_trace.specs.declared.carried.PathInitials.{PathInitials}
 use Rattle.link_trace.specs.declared.sent.Sent.{Sent}
-use Rattle.link_trace.specs.Carrying.{behind, carried_in, carried_of, carries, dss_in, dss_read, first_byte, first_number, initial_in, low_half, low_number, mapped, no_dss, payload_len, place_mapped, place_of, shift_by, shift_told, shifted, shifts_after, shifts_in, value_dss}
-use Rattle.link_trace.specs.Shifts.{is_in_force, shift_in, with_shift}
+use Rattle.link_trace.specs.Carrying.{behind, carried_in, carried_of, carries, dss_in, dss_read, first_byte, first_number, initial_in, low_number, mapped, no_dss, payload_len, place_mapped, place_of, shift_told, shifted, shifts_after, shifts_in, value_dss}
+use Rattle.link_trace.specs.Shifts.{shift_in, with_shift}
 use Rattle.link_trace.specs.Meanings.{meaning_in}
 
 -- ---- the segment

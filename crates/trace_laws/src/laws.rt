@@ -18,7 +18,8 @@ pub fn delivered_files_were_sent()
 {}
 
 /// A law: where a run is delivered as a round ends the table by path and direction counts as many octets that were sent for the first
-/// time as the file has. It holds of each script that alters no payload, over files shorter than 2^31 - 2 octets.
+/// time as the file has, in whatever order its segments are told. It holds of each script that alters no payload, over files shorter
+/// than 2^31 - 2 octets.
 pub fn delivered_files_were_counted()
     ensures { DeliveredFilesWereCounted }
 {}
