@@ -8,16 +8,16 @@ pub trait Steps {
     fn step(&mut self, case: &mut Case<'_>, name: &str);
 }
 
-/// Takes all steps that the case still has, and puts their answers, each but the first behind a blank. An empty answer isn't told.
+/// Takes all steps that the case still has, and puts their answers, each behind a blank where something stands before it. An empty
+/// answer isn't told.
 pub fn put_steps<S: Steps>(case: &mut Case<'_>, state: &mut S) {
-    let start = case.answered();
     for step in case.rest().split(' ') {
-        put_step(case, state, step, start);
+        put_step(case, state, step);
     }
 }
 
-fn put_step<'a, S: Steps>(case: &mut Case<'a>, state: &mut S, step: &'a str, start: usize) {
-    let is_first = case.answered() == start;
+fn put_step<'a, S: Steps>(case: &mut Case<'a>, state: &mut S, step: &'a str) {
+    let is_first = case.answered() == 0;
     if !is_first {
         case.put(" ");
     }
