@@ -1,0 +1,4 @@
+mod Walks
+mod Tags
+mod Extensions
+mod Parts

@@ -1,0 +1,11 @@
+pub mod Order
+pub mod Captured
+pub mod Steps
+pub mod Records
+pub mod Blocks
+pub mod ReadBlocks
+pub mod Captures
+pub mod Link
+pub mod Internet
+pub mod Carried
+pub mod Seen

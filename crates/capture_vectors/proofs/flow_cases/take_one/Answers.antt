@@ -1,0 +1,5 @@
+use Rattle.seen_connections.proofs.Last.{last_at_most}
+use Rattle.capture_vectors.proofs.flow_cases.take_one.Goals as goal
+
+pub returns-in_ok-take : goal.returns-in_ok-take
+returns-in_ok-take c = last_at_most c.args.seen.now c.take.new.self _ c.args.number _ _ c.in_ok-take.ensures.ok
