@@ -33,13 +33,11 @@ run_proved() {
     exec "$program" "$@"
 }
 
-# run_unproved FILE WORD..: runs a program that was built without a proof, and says so. Its allocator answers where memory runs out, as the
-# proved program's does, and what is left at the end isn't looked for.
+# run_unproved FILE WORD..: ends with a run of a program that was built without a proof, and says so.
 run_unproved() {
     local built=$1
     shift
     echo "$name: this run isn't proved; 'rt ci' proves and builds the program, which is then used" >&2
-    export ASAN_OPTIONS=${ASAN_OPTIONS-allocator_may_return_null=1:detect_leaks=0}
     [ -n "$work" ] || exec "$built" "$@"
     "$built" "$@"
     exit
