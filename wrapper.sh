@@ -66,7 +66,7 @@ build() {
     command -v rt >/dev/null || answer 70 "no program is built, and 'rt', which builds one, isn't on the path"
     echo "$name: the program is built without a proof first, which takes some minutes" >&2
     work=$(mktemp -d) && trap clean_up EXIT && mkfifo "$work/fifo" && touch "$work/begun" || exit 70
-    (exec 8>"$work/fifo" && cp "$(find "$work" -type f -name program)" "$work/$name") 2>/dev/null 9>&- &
+    (exec 8>"$work/fifo" && cp "$(find "$work" -type f -name program)" "$work/copy" && mv "$work/copy" "$work/$name") 2>/dev/null 9>&- &
     (cd "$crate" && TMPDIR=$work exec rt try --seconds 600 -- "${@/#FIFO/$work/fifo}") >"$work/said" 2>&1 </dev/null 9>&- &
     wait $!
     if ! [ -x "$work/$name" ]; then
