@@ -1,4 +1,10 @@
 -- The places that a run gives, by position.
+--
+-- A loop that walks along a partial function: one call tells its value at a position and how far all after it is alike
+-- (`IsStretch` of `dss_mapping`). The invariant 'all below is so' then closes with no answer.
+--
+-- A run or part that is put into an ordered list: a recursion for what it takes up, one lemma for the places and one
+-- for the order, each by cases of one Bool in a `where`, with the induction hypothesis handed over as a function.
 use Rattle.std.proofs.Common.{◌≡◌, ℕ, ◌+◌, ◌-◌, ◌<◌, ◌≤◌, true, false, nat_le, nat_lt, ◌&&◌, cond, Option, Some, List, [], ◌∷◌, refl, sym, ap, ◌∙◌, zero, suc, ⊎_elim, arith}
 use Rattle.std.specs.Ordering.{nat_cmp, eq_by_cmp}
 use Rattle.std.specs.Cmp.{nat_cmp_total}

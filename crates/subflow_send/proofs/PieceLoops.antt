@@ -1,4 +1,8 @@
 -- What the loops over the pieces have come to at an index.
+--
+-- A loop that changes a deque by index: a recursion with the number of places to pass over and the number to change
+-- (`unsent_between`), one step lemma, one for the end. A read and a write of one element are two variables, each with
+-- `x ≡ get_or xs i x`.
 use Rattle.std.proofs.Common.{◌≡◌, ℕ, zero, suc, ◌+◌, ◌<◌, ◌≤◌, Bool, true, false, nat_le, nat_lt, if◌then◌else◌, Option, Some, None, List, [], ◌∷◌, ◌++◌, length, get_or, set, take, drop, map, find, refl, sym, ap, ◌∙◌, arith}
 use Rattle.std.specs.Prelude.{slice_get, unwrap_or}
 use Rattle.std.specs.List.{list_any, sum_by}
