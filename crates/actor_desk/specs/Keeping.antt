@@ -25,6 +25,6 @@ abbrev pub ReassemblyStaysSmall : Type 0
 ReassemblyStaysSmall =
     (book : Arriving) (call : ReassemblyCall) → arriving.CanAsk call → IsReceivedSmall book → IsReceivedSmall (arriving.after_call book call)
 
--- and each keeps the rows of a control book right
+-- a call that can be asked keeps the rows of a control book right
 abbrev pub ControlStaysRight : Type 0
 ControlStaysRight = (book : Control) (call : ControlCall) → can_ask call → HasRightRows book → HasRightRows (control.after book call)

@@ -39,7 +39,7 @@ pub record Sent : Type 0 where
   pub keys : ℕ
   -- what it tells of the other direction
   pub telling : Telling
-  -- its window in octets, and the first position that its sender hadn't passed
+  -- the window in octets that the segment tells, and the first position that its sender hadn't passed
   pub window : ℕ
   pub edge : ℕ
 
@@ -58,7 +58,7 @@ abbrev pub is_opening : Brings → Bool
 is_opening OpensSubflow = true
 is_opening _ = false
 
--- it shows the keys, so that it has no Data ACK; it is the third segment
+-- the segment shows both keys, and has no Data ACK for that: the third of the handshake, or a first piece
 abbrev pub shows_keys : Brings → Bool
 shows_keys ShowsKeys = true
 shows_keys (FirstPiece octets) = true
@@ -74,13 +74,13 @@ is_news ShowsKeys = false
 is_news Acknowledges = false
 is_news _ = true
 
--- it brings bytes
+-- the segment brings a piece of the stream
 abbrev pub is_piece : Brings → Bool
 is_piece (FirstPiece octets) = true
 is_piece (Piece octets) = true
 is_piece _ = false
 
--- it is to be acknowledged
+-- the segment is to be acknowledged
 abbrev pub is_owed : Brings → Bool
 is_owed Acknowledges = false
 is_owed _ = true
@@ -90,14 +90,14 @@ abbrev pub data_fin_of : Brings → ℕ
 data_fin_of (EndsStream place) = 1
 data_fin_of _ = 0
 
--- it brings bytes or a FIN
+-- the segment brings bytes or a FIN
 abbrev pub is_solid : Brings → Bool
 is_solid (FirstPiece octets) = not (is_nil octets)
 is_solid (Piece octets) = not (is_nil octets)
 is_solid EndsSubflow = true
 is_solid _ = false
 
--- the same copy stands in the lane of what it brings and in the lane of what it acknowledges
+-- the copy of a segment, the same in the lane of what it brings and in the lane of what it acknowledges
 abbrev pub copy_in : Sent → Copy
 copy_in x = record {
   at = x.at;
@@ -176,7 +176,7 @@ pub record FliesAs (c : Profile) (keys : Keys) (from : Side) (f : Flight Carried
   pub to : f.to ≡ peer from
   pub carried : f.carried ≡ carried_by c.spelling from (said c keys from x)
 
--- these copies are those segments, one for one
+-- the copies under way are the segments from this side, one for one
 abbrev pub FlyAs : Profile → Keys → Side → List (Flight Carried) → List Sent → Type 0
 FlyAs c keys from [] [] = Unit {0}
 FlyAs c keys from (f ∷ fs) (x ∷ xs) = FliesAs c keys from f x × FlyAs c keys from fs xs

@@ -1,4 +1,4 @@
--- That the copy which arrives next is lent exactly where the path's next ask takes one from the link.
+-- The copy which arrives next is lent exactly where the path's next ask takes one from the link.
 use Rattle.std.specs.Prelude.{ℕ, ◌≡◌, Bool, true, false, is_some, Option, Some, List}
 use Rattle.actor_desk.specs.declared.ask.Ask.{Ask}
 use Rattle.actor_desk.specs.declared.ask.Ask.TheVariants as asks

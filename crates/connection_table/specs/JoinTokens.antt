@@ -1,4 +1,4 @@
--- Which token a copy shows that comes to B: that of B's key (RFC 8684, section 3.2).
+-- The token that a copy shows which comes to B, if it shows one, is that of B's key (RFC 8684, section 3.2).
 use Rattle.std.specs.Prelude.{ℕ, ◌≡◌, Some, List, slice_get}
 use Rattle.path_segments.specs.Heard.{HeardSegment}
 use Rattle.sides.specs.declared.side.Side.TheVariants.{B}

@@ -15,7 +15,7 @@ goes_on_still e = goes_on (outcome_of e.world.state.crew)
 
 -- ---- one connection of a table
 
--- it hasn't failed, and both of its files are short
+-- the connection hasn't failed, and both of its files are short
 pub record Runs (e : Entry) : Type 0 where
   pub stands : Stands e
   pub short : IsShortEntry e
@@ -57,6 +57,6 @@ EachRound P old new = AllZip (Made P) old new
 
 -- ---- serial rounds
 
--- this is the connection after at most so many serial rounds
+-- a connection after at most so many serial rounds
 abbrev pub IsSerialEnd : ℕ → Connection → Connection → Type 0
 IsSerialEnd most first w = (rounds : List (List ℕ)) × AreRounds octets most rounds first × (w ≡ after_rounds octets rounds first)

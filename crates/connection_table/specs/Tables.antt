@@ -40,7 +40,7 @@ first_of input = opened_world (start_of input.script input.file_a input.file_b)
 abbrev pub opened_entry : Input → Entry
 opened_entry input = record { input = input; turns = []; world = standing (first_of input) }
 
--- it hasn't failed for want of memory
+-- the connection hasn't failed for want of memory
 abbrev pub Stands : Entry → Type 0
 Stands e = e.world.failed ≡ false
 

@@ -25,7 +25,7 @@ is_living Living = true
 is_living Opening = false
 is_living Idle = false
 
--- it lives or opens
+-- the path lives or opens
 abbrev pub is_standing : Phase → Bool
 is_standing Living = true
 is_standing Opening = true

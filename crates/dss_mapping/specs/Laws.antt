@@ -29,12 +29,12 @@ abbrev pub LearningAgrees : Type 0
 LearningAgrees = (places : ℕ → ℕ) (v : Mappings) (kept : KeptMapping) (answer : Learn) → AllAgree places v
     → Agrees places (run_of kept) → AllAgree places (after_learn kept answer v)
 
--- so does an infinite mapping
+-- an infinite mapping whose places are the record's keeps all in agreement, whatever is answered
 abbrev pub InfiniteAgrees : Type 0
 InfiniteAgrees = (places : ℕ → ℕ) (v : Mappings) (pos place : ℕ) (answer : Learn) → AllAgree places v
     → Agrees places (infinite_run pos place) → AllAgree places (after_infinite pos place answer v)
 
--- and letting mappings go
+-- mappings that are let go leave the others in agreement
 abbrev pub ForgettingAgrees : Type 0
 ForgettingAgrees = (places : ℕ → ℕ) (v : Mappings) (pos : ℕ) → AllAgree places v → AllAgree places (after_forget pos v)
 
