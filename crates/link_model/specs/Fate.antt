@@ -26,7 +26,7 @@ arrival_told (Again ticks) = Some (fate.Twice ticks)
 arrival_told Stripped = None
 arrival_told Altered = None
 
--- this fate, where the line names the segment
+-- the fate that a line tells, where it names the segment
 abbrev pub told_if : Bool → Option Fate → Option Fate
 told_if named told = if named then told else None
 

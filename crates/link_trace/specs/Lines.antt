@@ -20,7 +20,7 @@ way_word B = codes "b > a"
 abbrev pub initials_of : List Sent → Sent → Initials
 initials_of trace s = record { own = initial_of s.path s.from trace; peer = initial_of s.path (peer s.from) trace }
 
--- its tick, its path, its direction
+-- a segment's tick, path and direction, as its line begins
 abbrev pub place_words : Sent → List ℕ
 place_words s = decimal s.tick ++ (codes " path " ++ (decimal s.path ++ (codes " " ++ (way_word s.from ++ codes ": "))))
 
