@@ -35,7 +35,7 @@ is_silent phase.Waiting = true
 is_silent phase.Listen = true
 is_silent _ = false
 
--- it dies without one
+-- an end that is to be reset and never sent a segment dies without one
 abbrev pub leaves_silently : PathEnd → Bool
 leaves_silently e = is_silent e.tcp.state && e.notices.reset
 
@@ -49,7 +49,7 @@ answered_leave_noted s p = goes_on s (died (end_at s p)) (replaced (duties.Ask (
 
 -- ---- MP_FASTCLOSE goes out
 
--- it was never sent, both SYNs are acknowledged, and the end may send a DSS, or fell back
+-- MP_FASTCLOSE was never sent, both SYNs are acknowledged, and the end may send a DSS, or fell back
 abbrev pub is_fast_close_due : PathEnd → Bool
 is_fast_close_due e = is_connected e.tcp.state && (is_carried e.notices && (e.modes.clear || e.modes.identity))
 
