@@ -26,7 +26,7 @@ name_of input.FileA line = Some line.names.file_a
 name_of input.FileB line = Some line.names.file_b
 name_of input.Order line = order_of line.work
 
--- its content, where that is told
+-- the content of an input, where it is told
 abbrev pub content_of : (List ℕ → Option (List ℕ)) → Line → Named → Option (List ℕ)
 content_of content line named = option_and_then content (name_of named line)
 

@@ -1,4 +1,4 @@
--- Which calls the loads of a run make.
+-- The calls that the loads of a run make.
 use Rattle.std.specs.Prelude.{List, Option}
 use Rattle.outside_kit.specs.Calls.{Call, Made}
 use Rattle.run_words.specs.Lines.{Line}

@@ -13,6 +13,6 @@ abbrev pub initials_of : List PathPlan → List PathInitials
 initials_of [] = []
 initials_of (plan ∷ plans) = plan_initials plan ∷ initials_of plans
 
--- those of a script
+-- the initial numbers of each path of a script, path 0 first
 abbrev pub initials_in : Script → List PathInitials
 initials_in script = initials_of (plans_from script 0 script.paths)

@@ -33,7 +33,7 @@ line_in _ = None
 abbrev pub lines_in : List Note → List SentLine
 lines_in notes = flat_map (λ note. option_to_list (line_in note.ask)) notes
 
--- that of a segment (RFC 9293, section 3.1)
+-- what a step tells of a segment that it hands to the link (RFC 9293, section 3.1)
 abbrev pub line_of : Sent → SentLine
 line_of s = record {
   from = s.from;

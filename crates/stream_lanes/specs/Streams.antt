@@ -131,7 +131,7 @@ after f (AbortRead by_peer) d = record d { arrived = after_arrival d.arrived (Ab
 after f (Moves path move) d = moves f path move (slice_get d.lanes path) d
 after f (Asks path) d = asks_at path (slice_get d.lanes path) d
 
--- so many paths, none of which has sent anything
+-- a direction with a number of paths, none of which has sent anything
 abbrev pub opening_direction : Bool → Bool → ℕ → ℕ → ℕ → Direction
 opening_direction alters checked paths buffer capacity = record {
   send = opened_send buffer;
