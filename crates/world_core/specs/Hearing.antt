@@ -17,7 +17,7 @@ told_by notes = record { end = was_told tells_end notes; abort = was_told tells_
 abbrev pub told_of : Reply → Told
 told_of reply = record { end = tells_end reply; abort = tells_abort reply }
 
--- and by more
+-- what was told before, or by more
 abbrev pub with_told : Told → Told → Told
 with_told more told = record { end = told.end || more.end; abort = told.abort || more.abort }
 

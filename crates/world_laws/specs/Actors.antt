@@ -26,12 +26,12 @@ module _ {C : Type 0} where
   abbrev pub member_asks : Codec C → Actor C → Option Ask
   member_asks k = of_kind app_asks_of (asks_of k)
 
-  -- its turn ended
+  -- the actor's turn ended
   abbrev pub is_over : Actor C → Bool
   is_over (App a) = is_nil a.agenda
   is_over (Path p) = is_nil p.agenda
 
-  -- it takes a reply
+  -- the actor takes a reply
   abbrev pub member_takes : Codec C → Reply → Actor C → Actor C
   member_takes k r = within_kind (app_takes r) (takes k r)
 

@@ -20,6 +20,6 @@ module _ {C : Type 0} where
   EndsAgree (App a) = Unit {0}
   EndsAgree (Path p) = (s : Side) → NothingClashes (end_at s p).receiving.mappings
 
-  -- so it is on every path
+  -- no mapping that is still to be treated clashes, at both ends of every path
   pub record MappingsAgree (w : WorldState C) : Type 0 where
     pub each : (actor : ℕ) (c : ActorCrew C) → slice_get w.crew actor ≡ Some c → EndsAgree c.member

@@ -32,8 +32,8 @@ use Rattle.world_laws.specs.Worlds.{WorldState}
 
 -- ---- checksums
 
--- that of a mapping of so many octets of a side's stream from this place on: over the data number with 64 bits, the relative subflow
--- number, the length, and the octets
+-- the checksum of a mapping of `len` octets of a side's stream from this place on: over the data number with 64 bits,
+-- the relative subflow number, the length, and the octets
 abbrev pub sum_over : Spelling → Side → List ℕ → ℕ → ℕ → ℕ → ℕ
 sum_over spelling s written place position len =
     dss_checksum

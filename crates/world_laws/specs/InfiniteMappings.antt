@@ -37,7 +37,7 @@ IsUnder place position Data c s r =
 IsUnder place position Syn c s r = Unit {0}
 IsUnder place position Fin c s r = Unit {0}
 
--- so does each that an end may still send
+-- an infinite mapping gives each octet of data that the end may still send, from its position on, the octet's own place
 abbrev pub MappingIsRight : Profile → Side → PathEnd → Option (PathMapping ℕ) → Type 0
 MappingIsRight c s e (Some (Infinite place position)) = Every (λ r. IsUnder place position r.kind c s r) e.tcp.send.records
 MappingIsRight c s e _ = Unit {0}

@@ -17,7 +17,7 @@ use Rattle.world_laws.specs.declared.member.Member.TheVariants.{App, Path}
 use Rattle.world_laws.specs.Actors.{Actor, ActorCrew}
 use Rattle.world_laws.specs.Worlds.{WorldState}
 
--- it lacks no MP_JOIN, and no HMAC of it is wrong
+-- the copy lacks no MP_JOIN, and no HMAC of it is wrong
 abbrev pub IsWelcome : Judged → Type 0
 IsWelcome (As meaning) = Unit {0}
 IsWelcome Asks = Unit {0}
