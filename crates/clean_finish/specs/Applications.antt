@@ -46,7 +46,7 @@ ReadsAsALane =
     → (most : ℕ) → 1 ≤ most
     → ReaderGoes k s p w (app_takes (replies.Reassembly (read_reply most b)) a) (after_read most b))
 
--- what it does else leaves what it reads, and its turn may be over only where it was told the end
+-- what an application does besides leaves what it reads; its turn may be over only where it was told the end
 abbrev pub FollowsAsALane : Type 0
 FollowsAsALane =
     WithBook {B = Arriving}

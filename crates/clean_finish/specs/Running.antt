@@ -342,7 +342,7 @@ abbrev pub fin_in : Brings → List ℕ
 fin_in (EndsStream place) = place ∷ []
 fin_in _ = []
 
--- they are known once all that the copy says was heard
+-- the ends of the stream that a copy brings are known once all that it says was heard
 abbrev pub fins_at : Treatment → Brings → List ℕ
 fins_at AtFirst b = []
 fins_at AfterOne b = []
@@ -395,7 +395,7 @@ pub record TreatsCopy (q : Side) (keys : Keys) (at : Treatment) (told : Bool) (b
   pub held_edge : x.end.treated.held_edge ≡ (if is_nil (octets_of b) then None else Some x.end.tcp.recv.edge)
   pub owes : x.owes ≡ is_owed b
   pub came : 1 ≤ x.back.control_came
-  -- what it acknowledges is acknowledged by the subflow
+  -- the subflow acknowledges what the segment does
   pub una : x.end.tcp.send.una ≡ sent.edge
   pub high : sent.edge ≤ x.end.tcp.send.nxt
   pub rests : x.out.control_acked < sent.telling.seen → x.out.timer ≡ None
@@ -528,7 +528,7 @@ ArePlain (d ∷ ds) = (is_plain d ≡ true) × IsBefore d ds × ArePlain ds
 abbrev pub IsMapped : Side → Bench → Type 0
 IsMapped q x = 1 ≤ x.waiting → (r : Record) → first_unsent x.end ≡ Some r → r.mapping ≡ mapping_of x.profile q x.out.granted r.pos r.piece
 
--- at both ends
+-- nothing is in hand at either end
 abbrev pub AreBetween : Bench → Bench → Type 0
 AreBetween a b = IsBetween A a × IsBetween B b
 

@@ -37,7 +37,7 @@ pub record Sent : Type 0 where
   -- how many of SYN and FIN were sent, and how often the keys were shown, itself among them
   pub control : ℕ
   pub keys : ℕ
-  -- what it tells of the other direction
+  -- what the segment tells of the other direction
   pub telling : Telling
   -- the window in octets that the segment tells, and the first position that its sender hadn't passed
   pub window : ℕ
@@ -68,7 +68,7 @@ abbrev pub is_third : Brings → Bool
 is_third ShowsKeys = true
 is_third _ = false
 
--- what it brings is taken after all that it says: bytes, a DATA_FIN, a FIN
+-- the segment brings bytes, a DATA_FIN or a FIN, or opens the subflow: taken after all that it says
 abbrev pub is_news : Brings → Bool
 is_news ShowsKeys = false
 is_news Acknowledges = false
@@ -209,7 +209,7 @@ CountsAs control keys control_then keys_then (Piece octets) =
 CountsAs control keys control_then keys_then EndsSubflow = (control ≡ 1) × (control_then ≡ 2) × (keys_then ≡ keys)
 CountsAs control keys control_then keys_then _ = (1 ≤ control) × (control_then ≡ control) × (keys_then ≡ keys)
 
--- what it acknowledges of a stream of so many octets: the Data ACK isn't ahead of the position, and the FIN comes last
+-- a segment acknowledges a stream of `total` octets: its Data ACK isn't ahead of the position, and the FIN comes last
 pub record AcknowledgesAs (total : ℕ) (x : Sent) : Type 0 where
   pub some : 1 ≤ x.edge
   pub bytes : min x.telling.next total ≤ x.edge - 1
@@ -238,8 +238,8 @@ BringsAs own low edge (FirstPiece octets) = (edge ≡ 1) × (low ≡ 0)
 BringsAs own low edge (EndsStream place) = place ≡ own
 BringsAs own low edge _ = Unit {0}
 
--- They follow one another, after so many octets, SYN and FIN, and keys. They acknowledge a stream of `total` octets, and are
--- of one of `own`.
+-- Segments follow one another, after so many octets, SYN and FIN, and keys. They acknowledge a stream of `total`
+-- octets, and are of one of `own`.
 abbrev pub Follow : ℕ → ℕ → ℕ → Side → ℕ → ℕ → ℕ → List Sent → Type 0
 Follow least total own s low control keys [] = Unit {0}
 Follow least total own s low control keys (x ∷ xs) =

@@ -53,7 +53,7 @@ pub record Hand : Type 0 where
   pub brings : Bool
   pub tells : Bool
 
--- as it still stands in the lane of what it brings, and in that of what it acknowledges
+-- the segment as long as it stands in the lane of what it brings, or in that of what it acknowledges
 abbrev pub sent_if : Bool → Sent → List Sent
 sent_if true x = x ∷ []
 sent_if false x = []

@@ -36,7 +36,7 @@ module _ {C : Type 0} (k : Codec C) (token : ℕ) where
   ShowsTokenNext (App a) = Unit {0}
   ShowsTokenNext (Path p) = NextShowsToken p
 
-  -- on every path
+  -- the copy that arrives next on each path shows the token, where it asks to join
   pub record JoinsShowToken (w : WorldState C) : Type 0 where
     pub each : (actor : ℕ) (c : ActorCrew C) → slice_get w.crew actor ≡ Some c → ShowsTokenNext c.member
 

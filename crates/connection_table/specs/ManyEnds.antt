@@ -128,7 +128,7 @@ abbrev pub puts_from : ℕ → List Connection → List Call
 puts_from number [] = []
 puts_from number (w ∷ ws) = call.Put Log (connection_line number w) ∷ puts_from (suc number) ws
 
--- of each connection the line of its own serial run was put, behind the loads of all
+-- the line of each connection's own serial run was put, behind the loads of all
 pub record AllPut (content : Contents) (words : NamedList) (log : Option (List ℕ) × Option (List ℕ)) (calls : Option (List Made) × Option (List Made)) : Type 0 where
   pub worlds : List Connection
   pub of : AreOfList content words worlds

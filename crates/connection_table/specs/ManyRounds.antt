@@ -51,7 +51,7 @@ RoundMade = Made (RoundTo octets)
 abbrev pub RoundIfGoing : Connection → Connection → Type 0
 RoundIfGoing w v = OneOf (goes_on (outcome_of w.crew)) (RoundTo octets w v) (v ≡ w)
 
--- of each connection
+-- P holds of how each connection of a table stood and how it stands
 abbrev pub EachRound : (Connection → Connection → Type 0) → List Entry → List Entry → Type 0
 EachRound P old new = AllZip (Made P) old new
 

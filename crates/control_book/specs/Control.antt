@@ -16,7 +16,7 @@ pub record Control : Type 0 where
   pub side : Side
   -- the side's key, and the peer's
   pub keys : Keys
-  -- how it stands to Multipath TCP
+  -- how the side stands to Multipath TCP
   pub fall : Fall
   -- the paths of the connection
   pub paths : List PathState

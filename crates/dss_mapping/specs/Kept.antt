@@ -33,7 +33,7 @@ place_by runs tail p = option_or (place_among p runs) (tail_at tail p)
 pub record AgreeAmong (told : Run) (runs : List Run) : Type 0 where
   pub each : (p : ℕ) → told.pos ≤ p → p < told.to → IfSome (place_among p runs) (λ place. place ≡ place_in p told)
 
--- they touch or have a position in common, and one distance between place and position
+-- two runs touch or have a position in common, and have one distance between place and position
 abbrev pub joins : Run → Run → Bool
 joins told run =
     let p = max run.pos told.pos in

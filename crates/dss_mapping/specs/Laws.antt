@@ -47,7 +47,7 @@ LearnedPlaces = (v : Mappings) (kept : KeptMapping) (p : ℕ)
 abbrev pub ForgottenAreNotTold : Type 0
 ForgottenAreNotTold = (v : Mappings) (pos p : ℕ) → p < pos → mapping_at (after_forget pos v) p ≡ None
 
--- from there on the same are told as before
+-- from the position up to which mappings were let go, the same are told as before
 abbrev pub OthersAreTold : Type 0
 OthersAreTold = (v : Mappings) (pos p : ℕ) → pos ≤ p → mapping_at (after_forget pos v) p ≡ mapping_at v p
 

@@ -31,7 +31,7 @@ pub record MappingStore : Type 0 where
   pub mappings : Mappings
   pub ready : ℕ
 
--- how it is stored
+-- how mappings are stored
 abbrev pub mappings_code : Coded Mappings
 mappings_code =
     code_by (Places × (Option Run × (List KeptMapping × (ℕ × List KeptMapping))))

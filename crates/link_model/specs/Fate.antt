@@ -76,7 +76,7 @@ abbrev pub has_died_by : ℕ → ScriptLine → Bool
 has_died_by now (Die path tick) = nat_le tick now
 has_died_by now line = false
 
--- by one of these lines it is dead at this tick, so that nothing arrives then: at one tick lines come before copies
+-- by one of these lines a link is dead at this tick, so that nothing arrives then: at one tick lines come before copies
 abbrev pub is_dead_at : List ScriptLine → ℕ → Bool
 is_dead_at lines now = list_any (has_died_by now) lines
 

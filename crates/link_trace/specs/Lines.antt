@@ -28,7 +28,7 @@ place_words s = decimal s.tick ++ (codes " path " ++ (decimal s.path ++ (codes "
 abbrev pub note_words : SegmentFate → List ℕ
 note_words f = if is_plain f then [] else codes " (" ++ (fate_words f ++ codes ")")
 
--- what it is and what becomes of it; the line ends with LF
+-- the line of a segment: what it is and what becomes of it; LF ends the line
 abbrev pub line_of : Bool → List Sent → Sent → List ℕ
 line_of checksums trace s =
     place_words s ++ (words_of (initials_of trace s) checksums (meaning_in s) ++ (note_words s.fate ++ 10 ∷ []))

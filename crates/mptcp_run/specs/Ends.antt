@@ -68,7 +68,7 @@ module _ (loads : List Call) (line : Line) (task : Task) (held holds : Ports)
     pub calls : AddsCut (plan_of loads line (puts_so_far task (ports.turns ++ ports.more))) status
         told tells
 
-  -- or at its last line, which wasn't put whole
+  -- the run was cut off at its last line, which wasn't put whole
   pub record IsCutAtLine (status : Status) : Type 0 where
     pub turns : List Turn
     pub are : AreTurnsOf task.course turns (first_world task)

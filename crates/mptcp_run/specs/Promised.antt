@@ -56,7 +56,7 @@ pub record IsPromisedTask (task : Task) : Type 0 where
 abbrev pub HoldsPrefixOf : Option (List ℕ) → Option (List ℕ) → List ℕ → Type 0
 HoldsPrefixOf old new file = IfSome old (λ _. IsSomeAnd new (λ text. IsPrefix text file))
 
--- or what it held, where it wasn't bound
+-- a port that told what it held holds a prefix of this file, or what it held, where it wasn't bound
 abbrev pub HoldsPrefixIfBound : Option (List ℕ) → Option (List ℕ) → List ℕ → Type 0
 HoldsPrefixIfBound old new file =
     IfSome old (λ held. (new ≡ Some held) ⊎ IsSomeAnd new (λ text. IsPrefix text file))
@@ -82,7 +82,7 @@ module _ (file_a file_b : Option (List ℕ)) (old new : Port → Option (List �
     pub read_by_b : IfSome file_a (λ file. HoldsPrefixOf (old ReadByB) (new ReadByB) file)
     pub read_by_a : IfSome file_b (λ file. HoldsPrefixOf (old ReadByA) (new ReadByA) file)
 
-  -- or what the port held, where it wasn't bound
+  -- what each reader's port holds is a prefix of what the other side writes, or what it held, where it wasn't bound
   pub record ReadersHavePrefixesIfBound : Type 0 where
     pub read_by_b : IfSome file_a (λ file. HoldsPrefixIfBound (old ReadByB) (new ReadByB) file)
     pub read_by_a : IfSome file_b (λ file. HoldsPrefixIfBound (old ReadByA) (new ReadByA) file)
@@ -185,7 +185,7 @@ CutRunsGivePrefixes =
     (task : Task) (old new : Port → Option (List ℕ)) → IsPlainTask task → HoldsSomeRounds task old new
     → ReadersHavePrefixesIfBound (Some task.file_a) (Some task.file_b) old new
 
--- or at its last line
+-- in a run cut off at its last line, where nothing is altered, each reader's port holds a prefix of the other's file
 abbrev pub LinesCutGivePrefixes : Type 0
 LinesCutGivePrefixes =
     (task : Task) (turns : List Turn) (old new : Port → Option (List ℕ)) → IsPlainTask task

@@ -166,7 +166,7 @@ module _ (content : List ℕ → Option (List ℕ)) (asked : Asking) (held holds
   Shows extent = WithView content asked (λ read shown. (read ≡ extent)
       × (HoldsAfter (held port.ReadByB) (holds port.ReadByB) (λ _. shown) × AddsAll (view_calls asked.line shown) told tells))
 
-  -- such a view was made, and not written whole
+  -- a view of what was asked was made, and not written whole
   abbrev pub IsCut : Status → Type 0
   IsCut s = WithView content asked (λ read shown.
       HoldsCut (held port.ReadByB) (holds port.ReadByB) shown × AddsCut (view_calls asked.line shown) s told tells)
@@ -185,7 +185,7 @@ module _ (content : List ℕ → Option (List ℕ)) (asked : Asking) (held holds
   IsViewFault loads_old loads_new old new s =
       IsLoggedFault content asked.line loads_old loads_new s × InputAdds asked.line (loads_of asked.line) told tells s
 
-  -- how it ends, of a run of messages too: then the files of these contents are the frames of their lines
+  -- how a view ends, of a run of messages too: then the files of these contents are the frames of their lines
   pub record IsViewAnswer (loads_old loads_new : ℕ) (old new : Port → ℕ) (result : Result Extent Status) : Type 0 where
     pub shown : IfOk result Shows
     pub fault : IfErr result (IsViewFault loads_old loads_new old new)

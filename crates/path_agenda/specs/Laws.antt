@@ -76,6 +76,6 @@ pub record ChainsEnd (s : Side) (index reason : ℕ) : Type 0 where
   pub reset : weights (duties.Ask (ask_duties.Leave s) ∷ []) < weights (duties.Send (send_duties.Reset s) ∷ [])
   pub leave : weights (duties.Ask (ask_duties.Dead s) ∷ []) < weights (duties.Ask (ask_duties.Leave s) ∷ [])
 
--- at both sides, whatever the thing and the reason
+-- at both sides, whatever the thing and the reason, what takes the place of a duty is less than the duty was
 abbrev pub EveryChainEnds : Type 0
 EveryChainEnds = (s : Side) (index reason : ℕ) → ChainsEnd s index reason

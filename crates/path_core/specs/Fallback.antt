@@ -106,7 +106,7 @@ abbrev pub breaks_by_ack : Profile → PathEnd → Bool
 breaks_by_ack c e =
     lacks_data_ack e && ((is_joined c && not e.modes.covered) || (is_sure e.modes.mode && nat_le 2 e.modes.plain_acks))
 
--- else it is told, as long as the side isn't sure
+-- an acknowledgement without a Data ACK breaks the path, or is told, as long as the side isn't sure
 abbrev pub plain_ack_stands : Profile → PathEnd → Bool
 plain_ack_stands c e = breaks_by_ack c e || (lacks_data_ack e && is_starting e.modes.mode)
 

@@ -191,7 +191,7 @@ abbrev pub copy_arriving : Option Event → PathState (List ℕ) → Option Arri
 copy_arriving (Some (happenings.Arrives due)) p = arrived due p
 copy_arriving _ p = None
 
--- only where the duty of events stands first
+-- the copy that arrives next, only where the duty of events stands first
 abbrev pub first_arrival : List Duty → PathState (List ℕ) → Option Arrived
 first_arrival (duties.Step steps_of.Events ∷ ds) p = copy_arriving (next_event p) p
 first_arrival _ p = None
