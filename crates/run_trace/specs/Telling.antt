@@ -29,7 +29,7 @@ line_in (asks.Local (steps.Sent from number payload checksum)) =
     Some (record { from = from; number = number; payload = payload; checksum = checksum })
 line_in _ = None
 
--- among these steps
+-- what these steps tell of segments that they hand to the links
 abbrev pub lines_in : List Note → List SentLine
 lines_in notes = flat_map (λ note. option_to_list (line_in note.ask)) notes
 

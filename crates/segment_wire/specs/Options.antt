@@ -55,7 +55,7 @@ plain_options options = options_after 0 0 options
 unfoldable pub placed_options : Ptr → List ℕ → List (Ptr × List ℕ)
 placed_options start options = map (λ o. (ptr_add octet o.0 start, o.1)) (plain_options options)
 
--- their octets alone
+-- the octets of each option
 abbrev pub option_octets : List ℕ → List (List ℕ)
 option_octets options = map (λ o. o.1) (plain_options options)
 

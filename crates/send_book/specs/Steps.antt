@@ -53,7 +53,7 @@ is_for path (Some owner) = owner == path
 abbrev pub first_free : ℕ → Sending → Option ℕ
 first_free path b = if is_for path b.owner then position (is_free_for path) b.marks else None
 
--- from there on, all bytes in a row that the path may take, below the edge, and no more than max
+-- how many bytes in a row the path may take from a byte on, below the edge, and no more than max
 abbrev pub run_len : ℕ → ℕ → Sending → ℕ → ℕ
 run_len path max b from = min max (min (b.edge - from) (prefix_len (is_free_for path) (drop from b.marks)))
 
@@ -130,7 +130,7 @@ after_ack next window b =
 abbrev pub return_reply : ℕ → Sending → SendReply
 return_reply path b = Returned (count_by (is_held_by path) b.marks)
 
--- they are free again, for paths that have not tried them
+-- the bytes that the path held are free again, for paths that have not tried them
 abbrev pub after_return : ℕ → Sending → Sending
 after_return path b = record b { marks = map (returned path) b.marks }
 

@@ -114,7 +114,7 @@ abbrev pub app_asks_first : List AppDuty → AppState → Option Ask
 app_asks_first [] a = None
 app_asks_first (d ∷ ds) a = Some (app_ask d a)
 
--- what it asks next; nothing where its turn is over
+-- what the application asks next; nothing where its turn is over
 abbrev pub app_asks_of : AppState → Option Ask
 app_asks_of a = app_asks_first a.agenda a
 

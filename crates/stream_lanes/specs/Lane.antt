@@ -85,7 +85,7 @@ pub record Lane : Type 0 where
   pub fin_in : Bool
   -- the receiver's end has to ask what is to be acknowledged before it sends anything
   pub due : Bool
-  -- what it was told then at the last time
+  -- what the receiver's end was told to acknowledge at the last time
   pub latest : Told
   pub asking : Ask
 

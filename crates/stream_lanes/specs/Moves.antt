@@ -135,7 +135,7 @@ abbrev pub sends_piece : Bool → Option Mapping → Lane → Lane
 sends_piece mapped None p = p
 sends_piece mapped (Some m) p = record p { datas = p.datas ++ piece_of mapped p m ∷ [] }
 
--- only over links that alter payload
+-- a copy is altered only over links that alter payload
 abbrev pub sends_altered : Bool → Option Mapping → Lane → Lane
 sends_altered mapped None p = p
 sends_altered mapped (Some m) p = if p.alters then record p { datas = p.datas ++ altered_piece_of mapped p m ∷ [] } else p
@@ -168,7 +168,7 @@ hears_fin (Some pos) p = if pos == p.edge then record p { fin_in = true } else p
 abbrev pub in_order : ℕ → Lane → List ℕ
 in_order count p = take count (filled p.kept)
 
--- all of them are in the mapping
+-- the bytes from the edge on are all in the mapping
 abbrev pub lies_in : Mapping → List ℕ → Lane → Bool
 lies_in m bytes p = nat_le m.pos p.edge && nat_le (p.edge + length bytes) (m.pos + m.len)
 

@@ -108,7 +108,7 @@ may_go path pos s p =
     p.opened && (is_gathered path s && (nat_le pos (length p.sent)
     && (list_all (λ c. nat_lt c.place (acked_len s.marks)) (take pos p.sent) && rises (acked_len s.marks) (drop pos p.sent))))
 
--- then the path goes by that mapping, and the book is given to it alone; else nothing changes
+-- a path that may go by an infinite mapping does, and the book is given to it alone; else nothing changes
 abbrev pub goes_infinite : ℕ → ℕ → Option Lane → Direction → Direction
 goes_infinite path pos None d = d
 goes_infinite path pos (Some p) d =

@@ -148,7 +148,7 @@ after_interruption s = record s { congestion = interrupted s.congestion }
 abbrev pub after_row : AckKind → Told → Copy → EndState → EndState
 after_row kind told c s = if is_duplicate kind told c s then after_duplicate s else after_interruption s
 
--- what it told is kept for the comparison with the next one
+-- what a segment told is kept for the comparison with the next one
 abbrev pub after_telling : Told → EndState → EndState
 after_telling told s = record s { congestion = with_told told s.congestion }
 

@@ -9,11 +9,11 @@ use Rattle.world_laws.specs.Outcomes.{tells_end, tells_abort, was_told, notes_of
 use Rattle.world_core.specs.declared.hearing.Told.{Told}
 use Rattle.world_core.specs.declared.hearing.Hearing.{Hearing}
 
--- by these steps
+-- what these steps tell
 abbrev pub told_by : List Note → Told
 told_by notes = record { end = was_told tells_end notes; abort = was_told tells_abort notes }
 
--- by one reply
+-- what one reply tells
 abbrev pub told_of : Reply → Told
 told_of reply = record { end = tells_end reply; abort = tells_abort reply }
 

@@ -1,4 +1,5 @@
--- Rounds by tick: each step is the one that stands earliest, so that what a path does at a tick rests on steps at that tick or before alone.
+-- Rounds by tick: each step is the one that stands earliest, so that what a path does at a tick rests on steps at that
+-- tick or before alone.
 use Rattle.std.specs.Prelude.{ℕ, zero, suc, ◌≡◌, ◌≤◌, true, false, if◌then◌else◌, Option, Some, None, option_and_then, List, [], ◌∷◌, ◌++◌, slice_get}
 use Rattle.std.specs.Option.{option_to_list}
 use Rattle.actor_desk.specs.declared.ask.Reply.{Reply}

@@ -17,12 +17,12 @@ use Rattle.world_laws.specs.Members.{of_kind, within_kind}
 abbrev pub Actor : Type 0 → Type 0
 Actor C = Member AppState (PathState C)
 
--- with its pass and its steps
+-- an actor with its pass and its steps
 abbrev pub ActorCrew : Type 0 → Type 0
 ActorCrew C = Crew (Actor C)
 
 module _ {C : Type 0} where
-  -- what it asks: nothing where its turn ended
+  -- what the actor asks: nothing where its turn ended
   abbrev pub member_asks : Codec C → Actor C → Option Ask
   member_asks k = of_kind app_asks_of (asks_of k)
 

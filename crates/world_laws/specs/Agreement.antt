@@ -15,7 +15,7 @@ abbrev pub NothingClashes : Mappings → Type 0
 NothingClashes v = Every (λ heard. clashes heard v ≡ false) v.held
 
 module _ {C : Type 0} where
-  -- at both ends of a path
+  -- no mapping clashes at either end of a path
   abbrev pub EndsAgree : Actor C → Type 0
   EndsAgree (App a) = Unit {0}
   EndsAgree (Path p) = (s : Side) → NothingClashes (end_at s p).receiving.mappings

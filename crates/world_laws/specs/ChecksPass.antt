@@ -86,7 +86,7 @@ tells_failure _ = false
 abbrev pub note_tells_failure : Note → Bool
 note_tells_failure note = tells_failure note.ask
 
--- none was, neither side knows of a failed path, and neither sends or receives by an infinite mapping
+-- no failed check was told, neither side knows of a failed path, and neither sends or receives by an infinite mapping
 pub record ChecksPass {C : Type 0} (w : WorldState C) : Type 0 where
   pub checks : (actor : ℕ) → list_any note_tells_failure (notes_at actor w.crew) ≡ false
   pub unfailed : (s : Side) → (control_of s (books_in w.books)).fall.failed ≡ None

@@ -44,7 +44,7 @@ module _ {C : Type 0} where
   abbrev pub is_fallen : Side → WorldState C → Bool
   is_fallen s w = is_identity (control_of s (books_in w.books)).fall.mode
 
-  -- or was, by its control book's journal
+  -- the side is in plain TCP, or was, by its control book's journal
   abbrev pub has_fallen : Side → WorldState C → Bool
   has_fallen s w = was_ever is_identity s w
 

@@ -22,7 +22,7 @@ use Rattle.world_laws.specs.Worlds.{WorldState}
 
 -- ---- what an application was told
 
--- the end of the stream
+-- the reply tells the end of the stream
 abbrev pub tells_end : Reply → Bool
 tells_end (replies.Reassembly reassembly_replies.End) = true
 tells_end _ = false

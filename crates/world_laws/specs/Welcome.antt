@@ -34,6 +34,6 @@ module _ {C : Type 0} (k : Codec C) where
   WelcomesNext (App a) = Unit {0}
   WelcomesNext (Path p) = NextIsWelcome p
 
-  -- on every path
+  -- the copy that arrives next on every path is welcome
   pub record EachCopyIsWelcome (w : WorldState C) : Type 0 where
     pub each : (actor : ℕ) (c : ActorCrew C) → slice_get w.crew actor ≡ Some c → WelcomesNext c.member
