@@ -39,7 +39,7 @@ is_silent _ = false
 abbrev pub leaves_silently : PathEnd → Bool
 leaves_silently e = is_silent e.tcp.state && e.notices.reset
 
--- an end that sent a segment sends its reset first
+-- an end that is to be reset and takes segments sends its reset first
 abbrev pub resets_noted : PathEnd → Bool
 resets_noted e = not (is_closed_to_segments e.tcp.state) && e.notices.reset
 
