@@ -26,11 +26,11 @@ use Rattle.actor_desk.specs.Words.{pick}
 abbrev pub SendJournal : Type 0
 SendJournal = Journaled Sending SendCall SendReply
 
--- the same of a reassembly book
+-- a reassembly book with its journal: as it was opened, and every entry since
 abbrev pub ReassemblyJournal : Type 0
 ReassemblyJournal = Journaled Arriving ReassemblyCall ReassemblyReply
 
--- and of a control book
+-- a control book with its journal: as it was opened, and every entry since
 abbrev pub ControlJournal : Type 0
 ControlJournal = Journaled Control ControlCall ControlReply
 
@@ -102,14 +102,14 @@ after_send_entry s call pass b = record b {
   send_b = pick s b.send_b (after_entering sending.reply_to sending.after_call b.send_b pass call);
 }
 
--- the same of a reassembly book
+-- the call is entered in the asked reassembly book's journal, and the other five stay
 abbrev pub after_reassembly_entry : Side → ReassemblyCall → Pass → StampedBooks → StampedBooks
 after_reassembly_entry s call pass b = record b {
   reassembly_a = pick s (after_entering arriving.reply_to arriving.after_call b.reassembly_a pass call) b.reassembly_a;
   reassembly_b = pick s b.reassembly_b (after_entering arriving.reply_to arriving.after_call b.reassembly_b pass call);
 }
 
--- and of a control book
+-- the call is entered in the asked control book's journal, and the other five stay
 abbrev pub after_control_entry : Side → ControlCall → Pass → StampedBooks → StampedBooks
 after_control_entry s call pass b = record b {
   control_a = pick s (after_entering controlling.reply_to control.after b.control_a pass call) b.control_a;

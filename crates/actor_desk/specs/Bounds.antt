@@ -79,7 +79,7 @@ pub record IsReceivedSmall (b : Arriving) : Type 0 where
   pub ends : IfSome b.known_end (λ e. e ≤ 2 ^ 62)
   pub room : b.capacity ≤ 1048576
 
--- so it is with the books of both sides, and each row that is kept is its path's own and can be linked
+-- the books of both sides are small, and each row that a control book keeps is its path's own and can be linked
 pub record AreSmall (books : SixBooks) : Type 0 where
   pub send_a : IsWrittenSmall books.send_a
   pub send_b : IsWrittenSmall books.send_b
@@ -94,10 +94,10 @@ pub record AreSmall (books : SixBooks) : Type 0 where
 abbrev pub OpenedBooksAreSmall : Type 0
 OpenedBooksAreSmall = (buffer key_a key_b : ℕ) → buffer ≤ 1048576 → AreSmall (opened_books buffer key_a key_b)
 
--- and each call that meets its conditions keeps them so
+-- a call that meets its conditions leaves small books small
 abbrev pub BooksStaySmall : Type 0
 BooksStaySmall = (books : SixBooks) (x : Ask) → AreSmall books → CanBeAsked x → AreSmall (after_ask x books)
 
--- so their replies are within bounds
+-- small books whose streams are tiled reply within bounds to each call that meets its conditions
 abbrev pub BooksAnswerWithinBounds : Type 0
 BooksAnswerWithinBounds = (books : SixBooks) (x : Ask) → AreTiled books → AreSmall books → CanBeAsked x → IsBounded x (reply_of books x)

@@ -50,14 +50,14 @@ after_send_call s call books = record books {
   send_b = pick s books.send_b (sending_steps.after_call books.send_b call);
 }
 
--- the same of a reassembly book
+-- the asked reassembly book after the call; the other five stay
 abbrev pub after_reassembly_call : Side → ReassemblyCall → SixBooks → SixBooks
 after_reassembly_call s call books = record books {
   reassembly_a = pick s (arriving_steps.after_call books.reassembly_a call) books.reassembly_a;
   reassembly_b = pick s books.reassembly_b (arriving_steps.after_call books.reassembly_b call);
 }
 
--- and of a control book
+-- the asked control book after the call; the other five stay
 abbrev pub after_control_call : Side → ControlCall → SixBooks → SixBooks
 after_control_call s call books = record books {
   control_a = pick s (control_steps.after books.control_a call) books.control_a;

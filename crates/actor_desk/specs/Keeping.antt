@@ -20,11 +20,11 @@ HasRightRows c = RowsAreRight c.paths
 abbrev pub SendStaysSmall : Type 0
 SendStaysSmall = (book : Sending) (call : SendCall) → sending.CanAsk call → IsWrittenSmall book → IsWrittenSmall (sending.after_call book call)
 
--- nor a reassembly book
+-- no call that meets its conditions makes a reassembly book too large
 abbrev pub ReassemblyStaysSmall : Type 0
 ReassemblyStaysSmall =
     (book : Arriving) (call : ReassemblyCall) → arriving.CanAsk call → IsReceivedSmall book → IsReceivedSmall (arriving.after_call book call)
 
--- and each keeps the rows of a control book right
+-- a call that can be asked keeps the rows of a control book right
 abbrev pub ControlStaysRight : Type 0
 ControlStaysRight = (book : Control) (call : ControlCall) → can_ask call → HasRightRows book → HasRightRows (control.after book call)

@@ -1,4 +1,4 @@
--- Which replies a call can have, whatever book gives them.
+-- The replies that a call can have, whatever book gives them.
 use Rattle.std.specs.Prelude.{ℕ, ◌≡◌, ◌+◌, ◌≤◌, List, length, Option, Some, None}
 use Rattle.send_book.specs.declared.call.SendCall.{SendCall}
 use Rattle.send_book.specs.declared.call.SendCall.TheVariants as send_calls

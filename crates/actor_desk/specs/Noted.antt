@@ -50,7 +50,7 @@ with_note (asks.Control s call) note notes = record notes {
 }
 with_note (asks.Local step) note notes = notes
 
--- the same of a desk that may note nothing, as others ask its books too
+-- the notes with one more at the book that it asks; a desk that keeps none, as others ask its books too, keeps none
 abbrev pub noted : Option BookNotes → Note → Option BookNotes
 noted None note = None
 noted (Some notes) note = Some (with_note note.ask note notes)

@@ -3,7 +3,7 @@ use Rattle.std.specs.Prelude.{Bool, true, false, List, [], ◌∷◌}
 use Rattle.sides.specs.declared.side.Side.{Side}
 use Rattle.sides.specs.declared.side.Side.TheVariants.{A, B}
 
--- that of A or that of B
+-- A's or B's of two values, by the side
 abbrev pub pick : {X : Type 0} → Side → X → X → X
 pick A a b = a
 pick B a b = b

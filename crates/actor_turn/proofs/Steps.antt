@@ -1,4 +1,8 @@
 -- A turn, step by step: what its notes come to with one more.
+--
+-- What is true of a turn is one record (`Went`, `Stopped`, `Turned`) over a list of notes, with folds for what comes
+-- after them (`member_after`, `stamp_after`, `noted_all`): one step more is one lemma (`goes_on` in `proofs/Steps`),
+-- and of the functions of `turning` only the loop has an answer.
 use Rattle.std.proofs.Common.{◌≡◌, refl, sym, ◌∙◌, ap, subst, ℕ, List, [], ◌∷◌, ◌++◌, Option, Some, None, Result, Ok, Err, append_assoc, arith}
 use Rattle.std.proofs.lemmas.List.{append-nil}
 use Rattle.std.specs.Prelude.{◌<◌, ◌^◌, length, OnOk, OnErr, MatchOption, MatchResult}

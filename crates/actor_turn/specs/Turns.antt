@@ -76,7 +76,7 @@ module _ {A : Type 0} (asks : A → Option Ask) (takes : Reply → A → A) wher
     pub actor : new.pass.actor ≡ old.pass.actor
     pub holds : P note
 
-  -- these notes were appended, each a step of the member. The pass stands at the last one's stamp or above
+  -- the notes were appended, each a step of the member; the pass stands at the last one's stamp or above
   pub record IsTurned (old new : Crew A) (notes : List Note) : Type 0 where
     pub list : new.list ≡ old.list ++ notes
     pub steps : AreSteps old.pass.actor old.member old.pass.stamp notes

@@ -1,4 +1,12 @@
 -- Bytes that are put where none are.
+--
+-- Pieces in order behind a list of places: what is to be put is one recursion over pieces and bytes (`fresh`), the list
+-- with it another (`filled_in`), so that one lemma says what its places are, and another that putting the parts one by
+-- one comes to it (`with_pieces-fresh`). Lemmas on `replicate a None ++ (map Some bytes ++ ..)` take the numbers as
+-- variables.
+--
+-- A list that ends with a place that has a byte is kept so by `drop` and by putting; only a cut at the end needs a word
+-- of its own (`cut`, `gap_before`).
 use Rattle.std.proofs.Common.{◌≡◌, ℕ, zero, suc, ◌+◌, ◌-◌, ◌<◌, ◌≤◌, max, min, Option, Some, None, List, [], ◌∷◌, ◌++◌, length, take, drop, map, replicate, refl, sym, ap, ◌∙◌, subst, arith, ⊎_elim, append-nil}
 use Rattle.std.specs.List.{sum_by}
 use Rattle.std.proofs.lemmas.Bool.{cases_lt}

@@ -32,7 +32,7 @@ cut_front to p = record { at = max p.at to; bytes = drop (to - p.at) p.bytes }
 abbrev pub cut_end : ℕ → Piece → Piece
 cut_end to p = record { at = p.at; bytes = take (to - p.at) p.bytes }
 
--- those of the bytes from this position on that stand in no piece
+-- the bytes from a position on that stand in none of the pieces, as pieces
 abbrev pub fresh : ℕ → List ℕ → List Piece → List Piece
 fresh at bytes [] = piece_of at bytes
 fresh at bytes (p ∷ ps) =

@@ -65,7 +65,7 @@ places_with at bytes v = merged v.places (drop v.from (by_place at bytes))
 abbrev pub after_put : ℕ → List ℕ → PlacedBytes → PlacedBytes
 after_put at bytes v = record v { places = places_with at bytes v; incoming = None }
 
--- they are held, to be kept later
+-- bytes that come at a position are held, to be kept later
 abbrev pub after_hold : ℕ → List ℕ → PlacedBytes → PlacedBytes
 after_hold at bytes v = record v { incoming = Some (places_with at bytes v) }
 

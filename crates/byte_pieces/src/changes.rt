@@ -29,7 +29,7 @@ fn push_part(
     Ok(())
 }
 
-/// Those of these bytes that stand in no piece, copied.
+/// The parts of these bytes that stand in no piece, copied.
 pub(crate) fn fresh_parts(
     alloc: Global,
     pieces: &VecDeque<Piece>,

@@ -50,7 +50,7 @@ fn made_at(place: u32) -> u8 {
     (place % 251) as u8
 }
 
-/// So many made octets.
+/// Made octets, so many.
 fn made(alloc: Global, count: u32) -> Result<Vec<u8>, AllocError> {
     (0..count).map(made_at).collect(alloc)
 }

@@ -1,4 +1,8 @@
 -- A copy arrives at A: both lanes at its tick, as A sees them, and the segment that it carries.
+--
+-- An arrival has three parts: which copy it is, and both lanes at its tick (`proofs/ArrivesAtA`, `ArrivesAtB`); what
+-- the end makes of it (`SynHeard`, `AnswerHeard`, `TakenOwn`); the world then (`SynArrived`, `AnswerArrived`,
+-- `CopyArrived`).
 use Rattle.clean_finish.proofs.Words.{◌≡◌, refl, sym, subst, ap, ◌∙◌, ℕ, ◌+◌, ◌<◌, ◌≤◌, max, false, inl, Option, List, [], ◌∷◌, ◌++◌, map, arith, A, B, Meaning}
 use Rattle.clean_finish.proofs.Words.{meaning_of, Flight, going_to, due_of, meant, Duty, StepDuty, SixBooks, AppState, Carried, values, copy_of, copy_taken}
 use Rattle.clean_finish.proofs.Words.{PathState, is_joined, Setting, Copy, Lane, all_left, Going, first_at, PathPlan, Start, Hand, brings_in, Sent, Keys}

@@ -1,4 +1,8 @@
 -- A copy that is no SYN arrives: what its end knows of it, and the world from its side.
+--
+-- A state that a Bool or an answer chooses is written with the choice inside the field that differs, so that all other
+-- fields compute; that it is what the machine makes is one equation at the end, and `subst` over the end or the state
+-- as a whole (`judged_is` of `proofs/CopyComes`).
 use Rattle.clean_finish.proofs.Words.{◌≡◌, refl, sym, subst, ap, ◌∙◌, ℕ, ◌+◌, ◌-◌, ◌<◌, ◌≤◌, min, nat_lt, Bool, true, false, not, ◌&&◌, ◌||◌, if◌then◌else◌}
 use Rattle.clean_finish.proofs.Words.{◌⊎◌, inl, inr, Option, None, List, [], ◌∷◌, length, map, arith, Some, nat_le, ◌^◌, both_ways, cases_lt, and_parts, lt-ltb}
 use Rattle.clean_finish.proofs.Words.{le-ltb, lt-leb, list_any, Side, A, B, peer, KeptMapping, after_hold_mappings, Receiving, after_hold, AckKind, Duplicate}

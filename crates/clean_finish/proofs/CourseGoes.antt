@@ -1,4 +1,7 @@
 -- From the opening on, in whatever order the steps of a round come, both lanes are a course of rounds.
+--
+-- Rounds know nothing of duties: they take the two tables as one record (`DutiesGoOn`), so that they were written
+-- beside them.
 use Rattle.clean_finish.proofs.Words.{◌≡◌, refl, sym, subst, ap, ℕ, ◌+◌, ◌≤◌, true, ◌&&◌, None, List, [], ◌∷◌, map, arith, Some, suc, le_refl, zero, and_parts}
 use Rattle.clean_finish.proofs.Words.{slice_get, Side, A, B, Duty, start_of_turn, is_nil, reassembly_of, books_in, AppDuty, AppState, app_ask, start_of_app}
 use Rattle.clean_finish.proofs.Words.{Carried, values, PathState, with_agenda, ask_for, answers, Setting, Lane, all_left, Going, opens_round, first_lane, Round}

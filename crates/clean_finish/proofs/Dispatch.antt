@@ -1,4 +1,8 @@
 -- All duties of a path over a clean link go on.
+--
+-- What is in hand is a recursion on the duty that stands first (`Treats`): no case is left to be shown impossible. Each
+-- duty is a lemma from `Facing` to `Facing`, and one from `Runs` to `Runs` that adds the path, the link and what is in
+-- hand.
 use Rattle.clean_finish.proofs.Words.{sym, subst, Profile, Setting, PathPlan, Start, path_begins, IsSetting}
 use Rattle.clean_finish.proofs.AnswersDuties.{duty_answered}
 use Rattle.clean_finish.proofs.Onward.{DutiesGoOn}

@@ -1,4 +1,7 @@
 -- Nothing changes where a duty more stands ahead.
+--
+-- A duty that two templates share (Acknowledge) has a sum in `Treats`; the lemma of each summand takes it as an
+-- argument beside the relation, and `subst` over the rest of the turn goes under both (`third_answered`).
 use Rattle.clean_finish.proofs.Words.{ℕ, ◌≤◌, Bool, ◌⊎◌, inl, inr, ⊎_elim, List, ◌∷◌, Side, peer, Duty, Profile, PathEnd, Setting, Lane, Stage, Sender}
 use Rattle.clean_finish.proofs.Words.{Receiver, Keys, Facing, Half, Has, StageIs, HasNotBegun}
 

@@ -1,5 +1,9 @@
 -- A connection of empty files goes on as lanes: all that happens comes in the first round, and the others bring
 -- nothing.
+--
+-- A long run by given numbers (`clean_finish`, `proofs/Example`): each state is the one before with a move made, as
+-- `abbrev`s, and each comparison is `leb-true _ _ refl`, which computes. `omega` reads all states in reach at each of
+-- them, and gives up after ten.
 use Rattle.clean_finish.proofs.Words.{◌≡◌, refl, ℕ, ◌+◌, ◌-◌, ◌<◌, ◌≤◌, min, nat_lt, true, false, inl, inr, None, List, [], ◌∷◌, arith, suc, le_refl, zero}
 use Rattle.clean_finish.proofs.Words.{nat_le, both_ways, ltb-true, leb-true, Setting, Copy, Lane, Stage, all_left, data_ack, window_edge, pending, Move, MaySay}
 use Rattle.clean_finish.proofs.Words.{MaySend, MayMove, MayHearAck, MayRefuse, MaySkip, HasEmitted, IsBefore, closes, ends_writing, ends_reading, asks, says}

@@ -1,4 +1,9 @@
 -- B treats the first thing that a copy says: a DSS, or A's keys.
+--
+-- The treatment of a copy is one record (`TreatsCopy`) with how far it is and what the copy brings as parameters:
+-- functions of the two say what is still in a hand, learned, kept or to be told, so most fields of one stage are those
+-- of the next. The kind of the copy is a variable until a duty needs it; then `subst` along 'it is this kind' makes all
+-- of them compute (`proofs/FirstAtB`).
 use Rattle.clean_finish.proofs.Words.{◌≡◌, refl, sym, subst, ap, ◌∙◌, ℕ, ◌-◌, Bool, true, false, not, ◌⊎◌, inl, inr, ⊎_elim, Option, List, ◌∷◌, Some, both_ways}
 use Rattle.clean_finish.proofs.Words.{B, window_told, Duty, StepDuty, heard_and, payload_came, Heard, SixBooks, reply_of, after_ask, AppState, Carried, values}
 use Rattle.clean_finish.proofs.Words.{PathState, with_agenda, with_end, answered_item, item_ask, item_of, item_passed, item_stands, Setting, Lane, all_left}

@@ -1,4 +1,8 @@
 -- Each duty that comes to nothing is passed.
+--
+-- All duties stand in two tables, a line a duty (`proofs/PassesDuties`, `AnswersDuties`). What can't come is told by
+-- the relation: by its side, by `is_plain`, or by a field that makes its test false; a duty by a number that no
+-- template has is `⊥` in `Treats`, or the lemma before it would owe the same again.
 use Rattle.clean_finish.proofs.Words.{◌≡◌, refl, sym, subst, ap, ℕ, true, false, ◌||◌, Option, List, ◌∷◌, suc, zero, is_some, both_ways, is_starting, A, B}
 use Rattle.clean_finish.proofs.Words.{Duty, SendDuty, StepDuty, AskDuty, SilentDuty, SixBooks, AppState, Carried, PathState, with_agenda, stands, passed}
 use Rattle.clean_finish.proofs.Words.{Setting, Lane, all_left, Going, PathPlan, Start, Keys, IsSetting, Runs, keys_in, fin_duties}

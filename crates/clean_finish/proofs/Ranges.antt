@@ -1,4 +1,7 @@
 -- The numbers of a clean script are in the ranges that `pace` assumes, and the bound has room for its rounds.
+--
+-- Side facts over numbers are lemmas with the numbers as arguments: `omega` beside a `Facing` reads all of its fields
+-- and gives up. A number that only stands under `+` or `min` in what follows is an explicit argument.
 use Rattle.clean_finish.proofs.Words.{◌≡◌, subst, ℕ, ◌+◌, ◌-◌, ◌≤◌, min, List, [], ◌∷◌, arith, Some, ◌*◌, ◌/◌, mul-le-mul_right, PathLine, IsInRange, IsPath}
 use Rattle.clean_finish.proofs.Words.{ScriptLine, payload_of, segments, bound_of, enough_on, setting_of}
 use Rattle.std.proofs.lemmas.Grind.{div_ceil_times}

@@ -1,4 +1,9 @@
 -- An end sends a segment: both lanes and the link, whatever it brings.
+--
+-- A segment is one record for both lanes (`Sent`), which says what it brings and what it tells; that a copy on the link
+-- is that segment is one equation (`FliesAs`). Sending puts one at the end (`proofs/Sendings`, for every kind), and an
+-- arrival moves it to a hand, from which the lane of what it brings and the lane of what it acknowledges take it one
+-- after the other (`proofs/Hands`).
 use Rattle.clean_finish.proofs.Words.{◌≡◌, refl, sym, subst, ℕ, ◌+◌, ◌≤◌, Bool, true, false, ◌⊎◌, inl, Option, List, [], ◌∷◌, ◌++◌, arith, Side, peer, Flight}
 use Rattle.clean_finish.proofs.Words.{Duty, StepDuty, Profile, Carried, PathEnd, Setting, Lane, Move, MaySay, says, goes_back, said_by, sends, AreTaken, Hand}
 use Rattle.clean_finish.proofs.Words.{EndIs, WayIs, brings_still, Sent, Keys, BringsAs, copy_in, CountsAs, TellsAs, AcknowledgesAs, ShowsFirst, FliesAs, Facing}

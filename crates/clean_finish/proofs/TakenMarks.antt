@@ -1,4 +1,8 @@
 -- The marks of a send book whose bytes go on one path: those that it took come first, and what a call makes of them.
+--
+-- Bytes that wait are a number of the relation (`waiting`): a grant changes the book and the records and is no move;
+-- the sending is the move. The book's marks are `AreTaken`: so many that the path took, and free ones behind them
+-- (`proofs/TakenMarks`), so where the next ones are is an equation.
 use Rattle.clean_finish.proofs.Words.{◌≡◌, refl, sym, ap, ◌∙◌, ℕ, ◌+◌, ◌-◌, ◌≤◌, min, Bool, true, false, cond, List, [], ◌∷◌, ◌++◌, length, map, All, arith}
 use Rattle.clean_finish.proofs.Words.{suc, zero, drop, replicate, take, both_ways, All-nil, All-cons, All-head, All-tail, position_or_len, prefix_len}
 use Rattle.clean_finish.proofs.Words.{acked_len, Acked, Held, Free, no_paths, ByteMark, is_acked, is_free_for, given, one_if, AreTaken, IsFree}

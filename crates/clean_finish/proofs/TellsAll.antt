@@ -1,4 +1,9 @@
 -- What an end tells on each segment that has a DSS: all that came, and its window.
+--
+-- What several segments tell alike stands once: `proofs/TellsAll` has what an end tells with each DSS, what that
+-- acknowledges, and why it may; FIN, bytes and the acknowledgement of a copy each add what they bring. A sending is
+-- `sent_off` for every kind, with the end that it leaves as an argument; what a segment brings is taken by its lane in
+-- one lemma for every kind (`brought`), with the parts of the end that change as arguments.
 use Rattle.clean_finish.proofs.Words.{◌≡◌, refl, sym, subst, ap, ◌∙◌, ℕ, ◌+◌, ◌-◌, ◌<◌, ◌≤◌, min, Bool, false, List, arith, le_refl, Side, A, B, peer, State}
 use Rattle.clean_finish.proofs.Words.{window_told, Duty, pick, Profile, Setting, Telling, Lane, is_whole, all_left, data_ack, Going, Covers, may_tell}
 use Rattle.clean_finish.proofs.Words.{brings_still, IsPhase, Sent, Keys, AcknowledgesAs, dss_from, IsSetting, Facing, Half, Opening, Listening, HalfOpen, Open}

@@ -1,4 +1,8 @@
 -- B takes the third segment: A's keys, which were told before, and what it acknowledges.
+--
+-- A duty at which both lanes take the copy (the third segment) is two lemmas over `Facing`, with the duty put back
+-- between them (`duty_more`; `proofs/ThirdTaken`). Where a lane hears what no book is told, that the book stays so is
+-- an equation (`proofs/BookStays`), and `subst` over all six books at the end.
 use Rattle.clean_finish.proofs.Words.{◌≡◌, refl, sym, subst, ap, ◌∙◌, ℕ, ◌+◌, ◌<◌, ◌≤◌, min, max, nat_lt, true, false, if◌then◌else◌, inl, inr, Option, None}
 use Rattle.clean_finish.proofs.Words.{List, ◌∷◌, ◌++◌, length, arith, Some, le_refl, both_ways, le-ltb, A, B, SendBook, SendCall, Duty, SendDuty, StepDuty}
 use Rattle.clean_finish.proofs.Words.{payload_came, SixBooks, after_ask, Ask, AppState, Carried, PathState, with_agenda, Setting, Lane, all_left, Sender}

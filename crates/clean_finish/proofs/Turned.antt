@@ -1,4 +1,8 @@
 -- The world as the other side sees it, and with books that are equal.
+--
+-- One side's view: `Facing` (`specs/Running`) says of a path and of both of its lanes what one side sees of them, with
+-- the side a variable, and all that a side has as one record (`Half`). A duty of either side is one lemma; `from_a` and
+-- `from_b` (`proofs/Turned`) turn the view, and compute.
 use Rattle.clean_finish.proofs.Words.{◌≡◌, subst, A, B, SixBooks, AppState, Carried, PathState, Setting, Lane, ControlIs, Keys, FacesOfB, FacesOfA, AppsShow}
 
 module _ (keys : Keys) (k j : Setting) (s v : Lane) (a b : AppState) where

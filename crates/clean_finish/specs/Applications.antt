@@ -20,33 +20,33 @@ abbrev pub WithBook : {B : Type 0}
 WithBook {B} P = (k : Setting) (s : Lane) (t : ℕ) (p : Stage) (w : Lane) (a : AppState) (b : B) → Going k s t p w
     → P k s p w a b
 
--- it writes, as far as its book has room; files are of 16 MiB at most
+-- an application writes as its lane does, as far as its book has room; files are of 16 MiB at most
 abbrev pub WritesAsALane : Type 0
 WritesAsALane =
     WithBook {B = Sending} (λ k s p w a b. WriterShows k w a b → a.agenda ≡ Write ∷ Close ∷ Read ∷ End ∷ []
     → 1 ≤ length a.rest → k.total ≤ 16777216
     → WriterGoes k s p w (app_takes (replies.Send (write_reply (offered a) b)) a) (after_write (offered a) b))
 
--- it closes its stream
+-- an application that has nothing left to write closes its stream as its lane does
 abbrev pub ClosesAsALane : Type 0
 ClosesAsALane =
     WithBook {B = Sending} (λ k s p w a b. WriterShows k w a b → a.agenda ≡ Close ∷ Read ∷ End ∷ [] → a.rest ≡ []
     → WriterGoes k s p w (app_takes (replies.Send (close_reply b)) a) (after_close b))
 
--- its next turn begins
+-- a writing application's next turn begins as its lane's does
 abbrev pub BeginsToWriteAsALane : Type 0
 BeginsToWriteAsALane =
     WithBook {B = Sending} (λ k s p w a b. WriterIs k w.written w.closed w.acked a b → w.writer_over ≡ false
     → WriterGoes k s p w (app_next_round a) b)
 
--- it reads at most so many octets at once
+-- an application reads as its lane does, at most `most` octets at once
 abbrev pub ReadsAsALane : Type 0
 ReadsAsALane =
     WithBook {B = Arriving} (λ k s p w a b. ReaderShows k w a b → a.agenda ≡ Read ∷ End ∷ [] → a.told ≡ false
     → (most : ℕ) → 1 ≤ most
     → ReaderGoes k s p w (app_takes (replies.Reassembly (read_reply most b)) a) (after_read most b))
 
--- what it does else leaves what it reads, and its turn may be over only where it was told the end
+-- what an application does besides leaves what it reads; its turn may be over only where it was told the end
 abbrev pub FollowsAsALane : Type 0
 FollowsAsALane =
     WithBook {B = Arriving}
@@ -54,7 +54,7 @@ FollowsAsALane =
     → (is_reading a.agenda ≡ false → a.told ≡ true) → w.reader_over ≡ false
     → ReaderGoes k s p w a b)
 
--- its next turn begins
+-- a reading application's next turn begins as its lane's does
 abbrev pub BeginsToReadAsALane : Type 0
 BeginsToReadAsALane =
     WithBook {B = Arriving}

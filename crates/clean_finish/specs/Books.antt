@@ -24,7 +24,7 @@ pub record AsksAsALane (k : Setting) (w : Lane) (b : Arriving) : Type 0 where
   pub next : next_wanted b ≡ data_ack k w
   pub edge : MayAsk k (next_wanted b + window_told false (window b)) w
 
--- so it is wherever a lane shows in a book
+-- wherever a lane shows in a reassembly book, AckOut asks as the lane does
 abbrev pub AckOutAsksAsLanes : Type 0
 AckOutAsksAsLanes = (k : Setting) (w : Lane) (b : Arriving) → Numbers k w → ReceiverIs k w b → AsksAsALane k w b
 

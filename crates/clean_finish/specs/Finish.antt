@@ -1,4 +1,4 @@
--- That a clean script finishes, in whatever order the steps within the rounds come.
+-- A clean script finishes, in whatever order the steps within the rounds come.
 use Rattle.std.specs.Prelude.{ℕ, suc, ◌≡◌, ◌≤◌, ◌⊎◌, List, [], ◌∷◌, length, Some}
 use Rattle.link_script.specs.declared.script.Script.{Script}
 use Rattle.link_script.specs.Scripts.{HasRanges}

@@ -29,7 +29,7 @@ SettlesAsALane = (reason restart : Bool) (now : ℕ) (t : Timing)
 abbrev pub IsLong : Timing → Type 0
 IsLong t = 1000 ≤ t.rtt.rto
 
--- it stays so as long as no timer runs out
+-- a timeout stays a second or more as long as no timer runs out
 pub record StaysLong : Type 0 where
   pub first : IsLong opening
   pub heard : (t : Timing) → IsLong t → IsLong (heard t)
@@ -61,7 +61,7 @@ abbrev pub copy_of : {C : Type 0} → Side → C → ℕ → LinkState C → Fli
 copy_of from carried now link =
     record { tick = now + link.delay; to = peer from; number = next_number from link; carried = carried }
 
--- so it is with each copy that stands first on a link
+-- each copy that stands first on a link is found as the one that is due, and is gone once it was delivered
 abbrev pub HeadsArrive : Type 0
 HeadsArrive = (f : Flight (List ℕ)) (rest : List (Flight (List ℕ))) (link : LinkState (List ℕ))
     → HeadArrives f rest (record link { under_way = f ∷ rest })

@@ -20,7 +20,7 @@ abbrev pub end_known : ℕ → ℕ → Option ℕ
 end_known zero total = None
 end_known (suc n) total = Some total
 
--- So much is read and received, got in this round, told (0 or 1), and so many DATA_FINs came.
+-- The application and its book show what is read, got in this round and told (0 or 1), and how many DATA_FINs came.
 pub record ReaderIs (k : Setting) (read came got told : ℕ) (a : AppState) (b : Arriving) : Type 0 where
   pub bytes : read ≡ b.read
   pub count : got ≡ a.count
@@ -29,10 +29,10 @@ pub record ReaderIs (k : Setting) (read came got told : ℕ) (a : AppState) (b :
   pub whole : a.told ≡ true → b.read ≡ k.total
   pub buffer : a.buffer ≡ k.buffer
   pub unaborted : b.aborted ≡ None
-  -- it never stops the connection
+  -- the application never stops the connection
   pub stays : a.stops_in ≡ None
 
--- These are the lane's numbers; its reader's turn is over where the application has nothing more to write, to close or to read.
+-- A lane shows in an application and its book; its reader's turn is over where nothing is left to write, close or read.
 pub record ReaderShows (k : Setting) (w : Lane) (a : AppState) (b : Arriving) : Type 0 where
   pub numbers : ReaderIs k w.read w.data_fin_came w.got w.told_end a b
   pub received : w.received ≡ received b

@@ -81,7 +81,7 @@ pub record StageIs (s r : Side) (ds : List Duty) (asked owes : Bool) (p : Stage)
 
 -- ---- a lane, with its books and applications
 
--- so many moves lead from the lane as the round began, with everything still to be done, to this lane and stage
+-- some moves lead from the lane as the round began, with everything still to be done, to this lane and stage
 pub record LaneStands (k : Setting) (begun : Lane) (stage : Stage) (lane : Lane) : Type 0 where
   pub count : ℕ
   pub moves : Moves k begun count all_left begun stage lane
@@ -314,7 +314,7 @@ heard_by keys next window Acknowledges = says.Dss ∷ says.DataAck next window �
 heard_by keys next window (EndsStream place) = says.Dss ∷ says.DataAck next window ∷ says.DataFin place ∷ []
 heard_by keys next window EndsSubflow = says.Dss ∷ says.DataAck next window ∷ []
 
--- its lane has still to take what it brings, and what it acknowledges
+-- the lane has still to take what the segment brings (`brings_at`), and what it acknowledges (`tells_at`)
 abbrev pub brings_at : Treatment → Brings → Bool
 brings_at AtFirst b = true
 brings_at AfterOne b = not (is_third b)
@@ -329,7 +329,7 @@ tells_at AfterTwo b = false
 tells_at AfterAll b = false
 tells_at AfterKeeping b = false
 
--- its mapping is learned
+-- the segment's mapping is learned
 abbrev pub is_learned : Treatment → Brings → Bool
 is_learned AtFirst b = false
 is_learned AfterOne b = false
@@ -342,7 +342,7 @@ abbrev pub fin_in : Brings → List ℕ
 fin_in (EndsStream place) = place ∷ []
 fin_in _ = []
 
--- they are known once all that the copy says was heard
+-- the ends of the stream that a copy brings are known once all that it says was heard
 abbrev pub fins_at : Treatment → Brings → List ℕ
 fins_at AtFirst b = []
 fins_at AfterOne b = []
@@ -359,7 +359,7 @@ abbrev pub incoming_at : Treatment → List ℕ → Option (List (Option ℕ))
 incoming_at AfterKeeping octets = None
 incoming_at _ octets = if is_nil octets then None else Some (map Some octets)
 
--- its mapping, as the end of this side learns it
+-- the mapping of a segment's payload, as the end of this side learns it
 abbrev pub kept_piece : Profile → Side → Sent → List ℕ → KeptMapping
 kept_piece c q x octets = kept_of c q x.low (x.low + x.control) (length octets) false
     (checksum_in c (bare_mapping c (peer q) x.low (x.low + x.control) (length octets)) octets)
@@ -395,7 +395,7 @@ pub record TreatsCopy (q : Side) (keys : Keys) (at : Treatment) (told : Bool) (b
   pub held_edge : x.end.treated.held_edge ≡ (if is_nil (octets_of b) then None else Some x.end.tcp.recv.edge)
   pub owes : x.owes ≡ is_owed b
   pub came : 1 ≤ x.back.control_came
-  -- what it acknowledges is acknowledged by the subflow
+  -- the subflow acknowledges what the segment does
   pub una : x.end.tcp.send.una ≡ sent.edge
   pub high : sent.edge ≤ x.end.tcp.send.nxt
   pub rests : x.out.control_acked < sent.telling.seen → x.out.timer ≡ None
@@ -423,7 +423,7 @@ pub record TreatsLast (q : Side) (x : Bench) : Type 0 where
   pub answered : min 1 x.back.control_came ≤ x.out.control_sent
   pub ready : q ≡ A → min 1 x.back.control_came ≤ x.out.ready
   pub shown : q ≡ A → x.out.ready ≤ x.out.keys_sent
-  -- it may use the DSS
+  -- the side may use the DSS
   pub clear : 1 ≤ x.out.clear
   pub mapped : NoneMapped x.end.tcp.recv.edge x.end.receiving.mappings x.end.receiving.mapped_data_fin
   pub least : q ≡ B → min 65535 x.profile.buffer ≤ x.out.edge
@@ -493,7 +493,7 @@ is_plain (duties.Step step_duties.Events) = true
 is_plain duties.End = true
 is_plain _ = false
 
--- it asks for the window of this side; it sends its SYN
+-- the duty asks for the window of this side
 abbrev pub is_window : Side → Duty → Bool
 is_window s (duties.Ask (ask_duties.Window q)) = same_side s q
 is_window s _ = false
@@ -528,7 +528,7 @@ ArePlain (d ∷ ds) = (is_plain d ≡ true) × IsBefore d ds × ArePlain ds
 abbrev pub IsMapped : Side → Bench → Type 0
 IsMapped q x = 1 ≤ x.waiting → (r : Record) → first_unsent x.end ≡ Some r → r.mapping ≡ mapping_of x.profile q x.out.granted r.pos r.piece
 
--- at both ends
+-- nothing is in hand at either end
 abbrev pub AreBetween : Bench → Bench → Type 0
 AreBetween a b = IsBetween A a × IsBetween B b
 
@@ -661,7 +661,7 @@ abbrev pub FacesOfA : Keys → Setting → Setting → Lane → Lane → AppStat
 FacesOfA keys k j s v a b books p =
     Facing A keys k j p.profile s v (half A a books p) (half B b books p) p.clock p.until p.agenda
 
--- and as B sees it
+-- as B sees the world, of which `s` and `v` are the lanes as the round began
 abbrev pub FacesOfB : Keys → Setting → Setting → Lane → Lane → AppState → AppState → SixBooks → PathState Carried → Type 0
 FacesOfB keys k j s v a b books p =
     Facing B keys j k p.profile v s (half B b books p) (half A a books p) p.clock p.until p.agenda
@@ -674,7 +674,7 @@ pub record Runs (start : Start) (plan : PathPlan) (k j : Setting) (s v : Lane) (
   pub open faces use *
   pub treats : Treats (keys_in start) (own_bench faces) (other_bench faces) p.agenda
 
--- the same of a world whose paths are just this one
+-- a world whose paths are just one runs as a path does, with the lanes `s` and `v` as the round began
 pub record Running (start : Start) (plan : PathPlan) (k j : Setting) (s v : Lane) (t : Cast Carried) : Type 0 where
   pub walker : Walker Carried
   pub alone : t.paths ≡ walker ∷ []

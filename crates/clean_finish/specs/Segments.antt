@@ -37,9 +37,9 @@ pub record Sent : Type 0 where
   -- how many of SYN and FIN were sent, and how often the keys were shown, itself among them
   pub control : ℕ
   pub keys : ℕ
-  -- what it tells of the other direction
+  -- what the segment tells of the other direction
   pub telling : Telling
-  -- its window in octets, and the first position that its sender hadn't passed
+  -- the window in octets that the segment tells, and the first position that its sender hadn't passed
   pub window : ℕ
   pub edge : ℕ
 
@@ -58,7 +58,7 @@ abbrev pub is_opening : Brings → Bool
 is_opening OpensSubflow = true
 is_opening _ = false
 
--- it shows the keys, so that it has no Data ACK; it is the third segment
+-- the segment shows both keys, and has no Data ACK for that: the third of the handshake, or a first piece
 abbrev pub shows_keys : Brings → Bool
 shows_keys ShowsKeys = true
 shows_keys (FirstPiece octets) = true
@@ -68,19 +68,19 @@ abbrev pub is_third : Brings → Bool
 is_third ShowsKeys = true
 is_third _ = false
 
--- what it brings is taken after all that it says: bytes, a DATA_FIN, a FIN
+-- the segment brings bytes, a DATA_FIN or a FIN, or opens the subflow: taken after all that it says
 abbrev pub is_news : Brings → Bool
 is_news ShowsKeys = false
 is_news Acknowledges = false
 is_news _ = true
 
--- it brings bytes
+-- the segment brings a piece of the stream
 abbrev pub is_piece : Brings → Bool
 is_piece (FirstPiece octets) = true
 is_piece (Piece octets) = true
 is_piece _ = false
 
--- it is to be acknowledged
+-- the segment is to be acknowledged
 abbrev pub is_owed : Brings → Bool
 is_owed Acknowledges = false
 is_owed _ = true
@@ -90,14 +90,14 @@ abbrev pub data_fin_of : Brings → ℕ
 data_fin_of (EndsStream place) = 1
 data_fin_of _ = 0
 
--- it brings bytes or a FIN
+-- the segment brings bytes or a FIN
 abbrev pub is_solid : Brings → Bool
 is_solid (FirstPiece octets) = not (is_nil octets)
 is_solid (Piece octets) = not (is_nil octets)
 is_solid EndsSubflow = true
 is_solid _ = false
 
--- the same copy stands in the lane of what it brings and in the lane of what it acknowledges
+-- the copy of a segment, the same in the lane of what it brings and in the lane of what it acknowledges
 abbrev pub copy_in : Sent → Copy
 copy_in x = record {
   at = x.at;
@@ -176,7 +176,7 @@ pub record FliesAs (c : Profile) (keys : Keys) (from : Side) (f : Flight Carried
   pub to : f.to ≡ peer from
   pub carried : f.carried ≡ carried_by c.spelling from (said c keys from x)
 
--- these copies are those segments, one for one
+-- the copies under way are the segments from this side, one for one
 abbrev pub FlyAs : Profile → Keys → Side → List (Flight Carried) → List Sent → Type 0
 FlyAs c keys from [] [] = Unit {0}
 FlyAs c keys from (f ∷ fs) (x ∷ xs) = FliesAs c keys from f x × FlyAs c keys from fs xs
@@ -209,7 +209,7 @@ CountsAs control keys control_then keys_then (Piece octets) =
 CountsAs control keys control_then keys_then EndsSubflow = (control ≡ 1) × (control_then ≡ 2) × (keys_then ≡ keys)
 CountsAs control keys control_then keys_then _ = (1 ≤ control) × (control_then ≡ control) × (keys_then ≡ keys)
 
--- what it acknowledges of a stream of so many octets: the Data ACK isn't ahead of the position, and the FIN comes last
+-- a segment acknowledges a stream of `total` octets: its Data ACK isn't ahead of the position, and the FIN comes last
 pub record AcknowledgesAs (total : ℕ) (x : Sent) : Type 0 where
   pub some : 1 ≤ x.edge
   pub bytes : min x.telling.next total ≤ x.edge - 1
@@ -238,8 +238,8 @@ BringsAs own low edge (FirstPiece octets) = (edge ≡ 1) × (low ≡ 0)
 BringsAs own low edge (EndsStream place) = place ≡ own
 BringsAs own low edge _ = Unit {0}
 
--- They follow one another, after so many octets, SYN and FIN, and keys. They acknowledge a stream of `total` octets, and are
--- of one of `own`.
+-- Segments follow one another, after so many octets, SYN and FIN, and keys. They acknowledge a stream of `total`
+-- octets, and are of one of `own`.
 abbrev pub Follow : ℕ → ℕ → ℕ → Side → ℕ → ℕ → ℕ → List Sent → Type 0
 Follow least total own s low control keys [] = Unit {0}
 Follow least total own s low control keys (x ∷ xs) =

@@ -53,7 +53,7 @@ pub record Hand : Type 0 where
   pub brings : Bool
   pub tells : Bool
 
--- as it still stands in the lane of what it brings, and in that of what it acknowledges
+-- the segment as long as it stands in the lane of what it brings, or in that of what it acknowledges
 abbrev pub sent_if : Bool → Sent → List Sent
 sent_if true x = x ∷ []
 sent_if false x = []
@@ -71,7 +71,7 @@ abbrev pub last_told : Telling → Option Hand → Telling
 last_told t None = t
 last_told t (Some h) = if h.tells then h.sent.telling else t
 
--- its lane has still to take what it brings
+-- the lane has still to take what the segment in hand brings
 abbrev pub brings_still : Option Hand → Bool
 brings_still None = false
 brings_still (Some h) = h.brings
@@ -241,7 +241,7 @@ pub data IsPlainMode (mode : Mode) : Type 0 where
 abbrev pub IsMapping : Modes → Type 0
 IsMapping m = (m.identity ≡ false) × (m.own_infinite ≡ None) × (m.peer_infinite ≡ None) × (m.failed_mapping ≡ None)
 
--- It has the peer's key, and both may be used, from one moment on: A has B's by the SYN/ACK, and B has A's as A shows it.
+-- A side has the peer's key from one moment on, and both may be used: A has B's by the SYN/ACK, B A's as A shows it.
 -- B may use the DSS from then on, and A once it heard one.
 pub record ModesAre (s : Side) (keys : Keys) (out : Sender) (back : Receiver) (m : Modes) : Type 0 where
   pub mode : IsPlainMode m.mode

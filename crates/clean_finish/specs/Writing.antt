@@ -14,7 +14,7 @@ is_writing (Write ∷ ds) = true
 is_writing (Close ∷ ds) = true
 is_writing _ = false
 
--- So much is written, closed (0 or 1) and heard to be acknowledged.
+-- The application and its book show what is written, closed (0 or 1) and heard to be acknowledged.
 pub record WriterIs (k : Setting) (written closed acked : ℕ) (a : AppState) (b : Sending) : Type 0 where
   pub file : length b.written + length a.rest ≡ k.total
   pub bytes : written ≡ length b.written
@@ -26,10 +26,10 @@ pub record WriterIs (k : Setting) (written closed acked : ℕ) (a : AppState) (b
   pub offers : a.buffer ≡ k.buffer
   pub buffer : b.buffer ≡ k.buffer
   pub unaborted : b.aborted ≡ false
-  -- it never stops the connection
+  -- the application never stops the connection
   pub stays : a.stops_in ≡ None
 
--- These are the lane's numbers; its writer's turn is over where the application has nothing more to write or to close.
+-- A lane shows in an application and its book; its writer's turn is over where nothing is left to write or to close.
 pub record WriterShows (k : Setting) (w : Lane) (a : AppState) (b : Sending) : Type 0 where
   pub numbers : WriterIs k w.written w.closed w.acked a b
   pub over : w.writer_over ≡ not (is_writing a.agenda)

@@ -37,7 +37,7 @@ abbrev pub after_calls : List Call → Entry → Entry
 after_calls [] e = e
 after_calls (call ∷ calls) e = after_calls calls (after_call call e)
 
--- it can be answered so: a step of one that has failed wants memory
+-- the call can be answered: a step by a connection that stands, or a failure that stops it and shows as before
 abbrev pub CanCall : Call → Entry → Type 0
 CanCall (Steps actor) e = Stands e
 CanCall (Fails actor after) e = IsStopped e after
@@ -84,7 +84,7 @@ abbrev pub CanBe : Event → List Entry → Type 0
 CanBe (Admits input) table = CanAdmit input table
 CanBe (Calls connection call) table = IsSomeAnd (entry_at connection table) (CanCall call)
 
--- so can each of these calls, after those before it
+-- each of the calls can come to the table after those before it
 abbrev pub CanAllBe : List Event → List Entry → Type 0
 CanAllBe [] table = Unit {0}
 CanAllBe (event ∷ events) table = CanBe event table × CanAllBe events (after_event event table)
@@ -104,7 +104,7 @@ pub record IsShortTable (table : List Entry) : Type 0 where
   pub alone : (number : ℕ) (e : Entry) → entry_at number table ≡ Some e → StandsAlone e
   pub short : (number : ℕ) (e : Entry) → entry_at number table ≡ Some e → IsShortEntry e
 
--- this is a connection after its own calls alone; where none of them wanted memory it is what its own input and turns come to
+-- a connection is what its own calls make of it; where none wanted memory, what its own input and turns come to
 pub record IsIsolated (calls : List Call) (before : Entry) (now : Option Entry) : Type 0 where
   pub own : now ≡ Some (after_calls calls before)
   pub alone : NoneFailed calls → Stands before

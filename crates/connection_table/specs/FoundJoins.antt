@@ -1,4 +1,4 @@
--- That the copy which B's end takes as a join is found by the token by which it asks (RFC 8684, section 3.2).
+-- The copy which B's end takes as a join is found by the token by which it asks (RFC 8684, section 3.2).
 use Rattle.std.specs.Prelude.{ℕ, ◌≡◌, true, Some, None, List, slice_get}
 use Rattle.sides.specs.declared.side.Side.TheVariants.{A, B}
 use Rattle.join_handshake.specs.declared.hearing.JoinSyn.{JoinSyn}

@@ -8,7 +8,7 @@ use Rattle.connection_table.specs.Scripts.{LeavesPayload, listed_reading}
 abbrev pub Contents : Type 0
 Contents = List ℕ → Option (List ℕ)
 
--- its files have 65,536 octets at most
+-- an input's files have 65,536 octets at most
 pub record IsShort (input : Input) : Type 0 where
   pub file_a : length input.file_a ≤ 65536
   pub file_b : length input.file_b ≤ 65536
@@ -17,14 +17,14 @@ pub record IsShort (input : Input) : Type 0 where
 abbrev pub IsWithin : Contents → List ℕ → Type 0
 IsWithin content name = IfSome (content name) (λ told. length told ≤ 65536)
 
--- so has each content of a connection of these names
+-- what is told of each name of a connection has 65,536 octets at most
 pub record AreWithin (content : Contents) (names : Names) : Type 0 where
   pub script : IsWithin content names.script
   pub file_a : IsWithin content names.file_a
   pub file_b : IsWithin content names.file_b
 
--- this is what a connection of these names begins with, as far as the contents are told; none is longer than its limit, and no payload
--- is altered
+-- an input is what a connection of these names begins with, as far as the contents are told; none is longer than
+-- its limit, and no payload is altered
 pub record IsInput (content : Contents) (names : Names) (input : Input) : Type 0 where
   pub script : IfSome (content names.script) (λ told. listed_reading told ≡ Ok input.script)
   pub within : IsWithin content names.script

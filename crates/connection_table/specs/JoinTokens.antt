@@ -1,4 +1,4 @@
--- Which token a copy shows that comes to B: that of B's key (RFC 8684, section 3.2).
+-- The token that a copy shows which comes to B, if it shows one, is that of B's key (RFC 8684, section 3.2).
 use Rattle.std.specs.Prelude.{ℕ, ◌≡◌, Some, List, slice_get}
 use Rattle.path_segments.specs.Heard.{HeardSegment}
 use Rattle.sides.specs.declared.side.Side.TheVariants.{B}
@@ -36,7 +36,7 @@ module _ {C : Type 0} (k : Codec C) (token : ℕ) where
   ShowsTokenNext (App a) = Unit {0}
   ShowsTokenNext (Path p) = NextShowsToken p
 
-  -- on every path
+  -- the copy that arrives next on each path shows the token, where it asks to join
   pub record JoinsShowToken (w : WorldState C) : Type 0 where
     pub each : (actor : ℕ) (c : ActorCrew C) → slice_get w.crew actor ≡ Some c → ShowsTokenNext c.member
 

@@ -33,7 +33,7 @@ names_by (script ∷ file_a ∷ file_b ∷ []) =
     if is_name script && is_name file_a && is_name file_b then Some (record { script = script; file_a = file_a; file_b = file_b }) else None
 names_by _ = None
 
--- its parts between spaces
+-- the three names of a line, the parts between its spaces
 abbrev pub names_in : List ℕ → Option Names
 names_in line = names_by (slice_split (λ octet. octet == 32) line)
 
@@ -64,7 +64,7 @@ list_reading list = lines_reading (text_lines list)
 
 -- ---- an answer
 
--- it is what was read, or the line that is out of form; for want of memory it says nothing
+-- an answer is what was read, or the line that is out of form; for want of memory it says nothing
 abbrev pub IsReading : {X Y : Type 0} → (X → Y) → Result X ListFault → Result Y ℕ → Type 0
 IsReading view (Ok x) read = read ≡ Ok (view x)
 IsReading view (Err (Line number)) read = read ≡ Err number

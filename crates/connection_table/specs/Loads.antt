@@ -1,4 +1,4 @@
--- Which loads a run of many connections makes, line by line.
+-- The loads that a run of many connections makes, line by line.
 use Rattle.std.specs.Prelude.{ℕ, ◌≡◌, ◌⊎◌, ◌+◌, List, [], ◌∷◌, ◌++◌, map, flat_map, take, slice_get, Option, Some, IfOk, IfSome}
 use Rattle.outside_kit.specs.Calls.{Call, Made}
 use Rattle.outside_kit.specs.Calls as call
@@ -11,7 +11,7 @@ use Rattle.connection_table.specs.Inputs.{Contents}
 
 -- ---- a connection
 
--- its script and both files
+-- the loads of a connection: its script and both files
 abbrev pub loads_of : Names → List Call
 loads_of names = call.Load names.script ∷ call.Load names.file_a ∷ call.Load names.file_b ∷ []
 
@@ -30,11 +30,11 @@ pub record AddsFirst (plan : List Call) (old new : Option (List Made)) : Type 0 
   pub plan_is : plan ≡ made ++ behind
   pub adds : AddsAll made old new
 
--- so it was, or the last of them failed
+-- the first calls of a plan were made, and at most the last of them failed
 abbrev pub AddsCut : List Call → Option (List Made) → Option (List Made) → Type 0
 AddsCut plan old new = AddsFirst plan old new ⊎ AddsToFailed [] plan old new
 
--- its loads end a run with this answer: up to one that failed, or all of them, and for want of memory anywhere between
+-- a connection's loads where they end a run: up to one that failed, or all, and for want of memory anywhere between
 abbrev pub InputAdds : List Call → Option (List Made) → Option (List Made) → Many → Type 0
 InputAdds plan old new (ends.Load line) = AddsToFailed [] plan old new
 InputAdds plan old new (ends.TooLong line) = AddsToFailed [] plan old new

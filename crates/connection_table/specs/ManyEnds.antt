@@ -38,7 +38,7 @@ HaveOwnTokens inputs = AreApart (map (λ (input : Input). key_token input.script
 
 -- ---- the connections of the list
 
--- these are the inputs of these names, one for one
+-- the inputs are those of the names, one for one
 abbrev pub AreInputs : Contents → List Names → List Input → Type 0
 AreInputs content [] [] = Unit {0}
 AreInputs content [] (input ∷ inputs) = ⊥
@@ -79,7 +79,7 @@ pub record IsTableOf (content : Contents) (words : NamedList) (old new : Option 
 
 -- ---- causes
 
--- its token, which one that is there may have
+-- a connection isn't admitted: one that is there holds its token, or memory is wanting
 abbrev pub IsAdmitFault : ℕ → Option ℕ → Many → Type 0
 IsAdmitFault entry holder (ends.SameToken line named) = (line ≡ entry + 1) × (holder ≡ Some named)
 IsAdmitFault entry holder ends.Memory = Unit {0}
@@ -101,7 +101,7 @@ pub record IsListedFault (content : Contents) (names : List Names) (old new : �
 
 -- ---- the lines
 
--- these are the connections after at most so many serial rounds of each by itself
+-- the connections stand after at most so many serial rounds of each by itself
 abbrev pub AreSerial : ℕ → List Input → List Connection → Type 0
 AreSerial most inputs ws = AllZip (λ (input : Input) (w : Connection). IsSerialEnd most (first_of input) w) inputs ws
 
@@ -128,7 +128,7 @@ abbrev pub puts_from : ℕ → List Connection → List Call
 puts_from number [] = []
 puts_from number (w ∷ ws) = call.Put Log (connection_line number w) ∷ puts_from (suc number) ws
 
--- of each connection the line of its own serial run was put, behind the loads of all
+-- the line of each connection's own serial run was put, behind the loads of all
 pub record AllPut (content : Contents) (words : NamedList) (log : Option (List ℕ) × Option (List ℕ)) (calls : Option (List Made) × Option (List Made)) : Type 0 where
   pub worlds : List Connection
   pub of : AreOfList content words worlds
@@ -143,7 +143,7 @@ pub record SomePut (P : List Call → List Call → Option (List Made) → Optio
   pub lines : HoldsPrefix log.0 log.1 (lines_from 0 worlds)
   pub calls_made : P (loads_of_list words of.names) (puts_from 0 worlds) calls.0 calls.1
 
--- these loads and puts, up to a put that failed, or to any of them, which may have failed
+-- loads and puts were made up to a put that failed (`UpToPut`), or up to any call, which may have failed (`UpToAny`)
 abbrev pub UpToPut : List Call → List Call → Option (List Made) → Option (List Made) → Type 0
 UpToPut loads puts old new = AddsToFailed loads puts old new
 
@@ -209,7 +209,7 @@ pub record IsValidInput (content : Contents) (names : Names) (input : Input) : T
   pub file_b : content names.file_b ≡ Some input.file_b
   pub short : IsShort input
 
--- so is each content of these connections, one for one
+-- each content of these connections is valid, one for one
 abbrev pub AreValidInputs : Contents → List Names → List Input → Type 0
 AreValidInputs content [] [] = Unit {0}
 AreValidInputs content [] (input ∷ inputs) = ⊥

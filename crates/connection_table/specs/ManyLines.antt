@@ -18,7 +18,7 @@ connection_line number w =
     codes "connection " ++ (decimal number ++ (codes " " ++ (outcome_word (told_outcome (outcome_of w.crew))
     ++ (codes " " ++ (shown (output_of B w) ++ (codes " " ++ (shown (output_of A w) ++ codes "\n")))))))
 
--- those of the connections from this number on
+-- the lines of connections, numbered from this number on
 abbrev pub lines_from : ℕ → List Connection → List ℕ
 lines_from number [] = []
 lines_from number (w ∷ ws) = connection_line number w ++ lines_from (suc number) ws

@@ -15,7 +15,7 @@ goes_on_still e = goes_on (outcome_of e.world.state.crew)
 
 -- ---- one connection of a table
 
--- it hasn't failed, and both of its files are short
+-- the connection hasn't failed, and both of its files are short
 pub record Runs (e : Entry) : Type 0 where
   pub stands : Stands e
   pub short : IsShortEntry e
@@ -51,12 +51,12 @@ RoundMade = Made (RoundTo octets)
 abbrev pub RoundIfGoing : Connection → Connection → Type 0
 RoundIfGoing w v = OneOf (goes_on (outcome_of w.crew)) (RoundTo octets w v) (v ≡ w)
 
--- of each connection
+-- P holds of how each connection of a table stood and how it stands
 abbrev pub EachRound : (Connection → Connection → Type 0) → List Entry → List Entry → Type 0
 EachRound P old new = AllZip (Made P) old new
 
 -- ---- serial rounds
 
--- this is the connection after at most so many serial rounds
+-- a connection after at most so many serial rounds
 abbrev pub IsSerialEnd : ℕ → Connection → Connection → Type 0
 IsSerialEnd most first w = (rounds : List (List ℕ)) × AreRounds octets most rounds first × (w ≡ after_rounds octets rounds first)

@@ -44,7 +44,7 @@ arriving_at_listener actor crew = if listens_at actor crew then arriving_at_b ac
 abbrev pub arriving_in : ℕ → Entry → Option Arrived
 arriving_in actor e = if e.world.failed then None else arriving_at_listener actor e.world.state.crew
 
--- where it goes
+-- the connection that an arrived copy goes to, by the token by which it asks to join
 abbrev pub routed : Option Arrived → List Entry → Route
 routed None table = NotJoin
 routed (Some arrived) table = route_by (join_token arrived.addresses arrived.octets) table

@@ -23,7 +23,7 @@ abbrev pub meant_token : Meaning → Option ℕ
 meant_token (Known (Join (Syn backup id token nonce))) = Some token
 meant_token _ = None
 
--- the same of an option's octets
+-- the token of an option's octets, where they are an MP_JOIN that has the form of a SYN
 abbrev pub option_token : List ℕ → Option ℕ
 option_token option = meant_token (option_meaning option Bool.false)
 
@@ -35,6 +35,6 @@ asks_to_open segment = segment.head.syn && not segment.head.ack_set
 abbrev pub segment_token : Segment → Option ℕ
 segment_token segment = if asks_to_open segment then option_and_then option_token (first_join segment.options) else None
 
--- that of octets that went between these addresses
+-- the token by which octets that went between these addresses ask to join
 abbrev pub join_token : Addresses → List ℕ → Option ℕ
 join_token addresses octets = option_and_then segment_token (result_ok (segment_meaning addresses octets))

@@ -61,7 +61,7 @@ abbrev pub is_alter : ScriptLine → Bool
 is_alter (OnSegment segment Altered) = true
 is_alter _ = false
 
--- it has its ranges, and by none of its lines a payload is altered
+-- a script has its ranges, and by none of its lines a payload is altered
 pub record LeavesPayload (script : Script) : Type 0 where
   pub ranges : HasRanges script
   pub unaltered : list_any is_alter script.lines ≡ false

@@ -22,7 +22,7 @@ ends e = not e.world.failed && all_over e.world.state.crew
 abbrev pub after_end : Entry → Entry
 after_end e = if ends e then record e { turns = e.turns ++ Round ∷ []; world = standing (end_round e.world.state) } else e
 
--- it failed for want of memory by a step: its outcome and lists show as they did
+-- a connection failed for want of memory by a step: its outcome and lists show as they did
 pub record IsStopped (before after : Entry) : Type 0 where
   pub input : after.input ≡ before.input
   pub turns : after.turns ≡ before.turns

@@ -22,14 +22,14 @@ Connection = WorldState (List ℕ)
 -- ---- a connection
 
 pub record Entry : Type 0 where
-  -- what it began with
+  -- the input that the connection began with
   pub input : Input
   -- each step that was made on it, and each end of a round
   pub turns : List noted.Turn
-  -- how it stands
+  -- the state that the connection has come to
   pub world : Kept
 
--- what it began with
+-- the input that a connection began with
 abbrev pub input_of : Entry → Input
 input_of e = e.input
 
@@ -40,11 +40,11 @@ first_of input = opened_world (start_of input.script input.file_a input.file_b)
 abbrev pub opened_entry : Input → Entry
 opened_entry input = record { input = input; turns = []; world = standing (first_of input) }
 
--- it hasn't failed for want of memory
+-- the connection hasn't failed for want of memory
 abbrev pub Stands : Entry → Type 0
 Stands e = e.world.failed ≡ false
 
--- then it is what its own input and turns come to, and each turn could be made
+-- a connection that hasn't failed is what its own input and turns come to, and each turn could be made
 pub record StandsAlone (e : Entry) : Type 0 where
   pub is : Stands e → e.world.state ≡ world_run octets (all_turns e.turns) (first_of e.input)
   pub lawful : Stands e → AreLawful octets (all_turns e.turns) (first_of e.input)

@@ -5,7 +5,7 @@ use Rattle.path_segments.specs.declared.segment.PathOption.{PathOption}
 use Rattle.path_segments.specs.declared.segment.PathOption.TheVariants.{Join}
 use Rattle.stream_lanes.specs.Words.{Every}
 
--- where it asks to join, it shows this token
+-- an option that asks to join shows this token
 abbrev pub ShowsToken : ℕ → PathOption (Option ℕ) (List ℕ) → Type 0
 ShowsToken token (Join (Syn backup id shown nonce)) = shown ≡ token
 ShowsToken token _ = Unit {0}

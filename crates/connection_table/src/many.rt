@@ -24,7 +24,7 @@ pub enum Many {
     TooLong {
         line: u64,
     },
-    /// This line of the list is out of form, or one too many.
+    /// A line of the list, which is out of form, or one too many.
     List {
         line: u64,
     },

@@ -3,10 +3,10 @@
 /// Where a segment goes that comes to a listener.
 #[derive(Clone, Copy)]
 pub enum Route {
-    /// It asks to join the connection with this number.
+    /// The segment asks to join the connection with this number.
     To(u8),
-    /// It asks to join, and no connection has this token.
+    /// The segment asks to join, and no connection has this token.
     Unknown { token: u32 },
-    /// It doesn't ask to join.
+    /// The segment doesn't ask to join.
     NotJoin,
 }

@@ -12,13 +12,13 @@ use Rattle.control_book.specs.declared.book.Notices.{Notices}
 use Rattle.control_book.specs.Registry.{opening_paths}
 
 pub record Control : Type 0 where
-  -- which side this is
+  -- the side whose book it is
   pub side : Side
-  -- its key, and the peer's
+  -- the side's key, and the peer's
   pub keys : Keys
-  -- how it stands to Multipath TCP
+  -- how the side stands to Multipath TCP
   pub fall : Fall
-  -- its paths
+  -- the paths of the connection
   pub paths : List PathState
   -- the addresses, and the backups
   pub addresses : Addresses Address

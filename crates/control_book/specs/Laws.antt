@@ -60,7 +60,7 @@ abbrev pub ResetStays : Type 0
 ResetStays = (calls : List ControlCall) (c : Control) (path : ℕ) → notice_on c path ≡ notice.Reset
     → list_any is_fast_close calls ≡ false → notice_on (after_all calls c) path ≡ notice.Reset
 
--- and always where its address was removed
+-- a path whose address was removed is told to reset at every look
 abbrev pub RemovedResets : Type 0
 RemovedResets = (calls : List ControlCall) (c : Control) (path : ℕ) → (state_of c.paths path).removed ≡ true
     → notice_on (after_all calls c) path ≡ notice.Reset
@@ -74,8 +74,8 @@ AnnouncementStays = (calls : List ControlCall) (c : Control) (id : ℕ) → is_m
 abbrev pub RowsStayRight : Type 0
 RowsStayRight = (calls : List ControlCall) (side : Side) (key : ℕ) → CanAskAll calls → RowsAreRight (after_all calls (new_control side key)).paths
 
--- so the rows that are told beside one that came meet the conditions of the linked increase: each can be linked, and the
--- one that came is among them
+-- rows that are told beside one that came meet the conditions of the linked increase: each can be linked, and that
+-- one is among them
 abbrev pub RowsCanGrow : Type 0
 RowsCanGrow = (paths : List PathState) (came : Row) → RowsAreRight paths → IsInRange came → came.path < 16
     → All IsInRange (rows_with paths came) × Contains (rows_with paths came) came

@@ -25,7 +25,7 @@ is_living Living = true
 is_living Opening = false
 is_living Idle = false
 
--- it lives or opens
+-- the path lives or opens
 abbrev pub is_standing : Phase → Bool
 is_standing Living = true
 is_standing Opening = true
@@ -42,7 +42,7 @@ lives paths path = is_living (state_of paths path).phase
 abbrev pub stands : List PathState → ℕ → Bool
 stands paths path = is_standing (state_of paths path).phase
 
--- another path lives or opens
+-- a path other than this one lives or opens
 unfoldable pub stands_beside : List PathState → ℕ → ℕ → Bool
 stands_beside paths path other = not (other == path) && stands paths other
 
@@ -53,7 +53,7 @@ sole paths path = not (list_any (stands_beside paths path) every_path)
 abbrev pub lowest_living : List PathState → Option ℕ
 lowest_living paths = position (λ state. is_living state.phase) paths
 
--- another path lives, and is no backup
+-- a path other than this one lives, and is no backup
 unfoldable pub serves_beside : List PathState → List Bool → ℕ → ℕ → Bool
 serves_beside paths backups path other = not (other == path) && lives paths other && not (is_member backups other)
 

@@ -75,7 +75,7 @@ pub enum ControlCall {
     Removed {
         id: u8,
     },
-    /// This side ends the connection at once.
+    /// The side ends the connection at once.
     FastClose,
     /// The peer ends the connection at once, and shows this key.
     FastHeard {

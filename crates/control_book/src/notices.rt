@@ -87,7 +87,7 @@ pub(crate) fn withdraw_on(withdrawals: &mut [IdSet], paths: &[PathState], id: u8
     withdraw_among(withdrawals, paths, id, &every_path());
 }
 
-/// The same of these paths.
+/// The id is to be taken back on each living path among these but its own.
 fn withdraw_among(withdrawals: &mut [IdSet], paths: &[PathState], id: u8, among: &[u8])
     ensures { withdrawals.new ≡ fold (withdrawn_on id paths.now) withdrawals.old among.now }
 {

@@ -10,11 +10,11 @@ use linked_increase::{Row, Rows};
 /// How far a path is.
 #[derive(Clone, Copy)]
 pub enum Phase {
-    /// It neither lives nor opens.
+    /// The path neither lives nor opens.
     Idle,
-    /// It opens.
+    /// The path opens.
     Opening,
-    /// It lives.
+    /// The path lives.
     Living,
 }
 
@@ -177,7 +177,7 @@ pub(crate) fn rows_with(paths: &[PathState], came: Row) -> Rows
     rows_among(paths, came, &every_path())
 }
 
-/// The same of these paths.
+/// The rows of the living paths among these, and the one that just came.
 fn rows_among(paths: &[PathState], came: Row, among: &[u8]) -> Rows
     requires { length among.now ≤ 16 }
     ensures { result ≡ filter_map (told_row paths.now came) among.now }

@@ -1,4 +1,14 @@
 -- The places that a run gives, by position.
+--
+-- A loop that walks along a partial function: one call tells its value at a position and how far all after it is alike
+-- (`IsStretch` of `dss_mapping`). The invariant 'all below is so' then closes with no answer.
+--
+-- A run or part that is put into an ordered list: a recursion for what it takes up, one lemma for the places and one
+-- for the order, each by cases of one Bool in a `where`, with the induction hypothesis handed over as a function.
+--
+-- A slot beside a store that is filled while failing is allowed: the value tells what the store will be (`incoming`,
+-- the places once the parts are put), so that keeping is one `rw` and the invariant says that there is room. Room of a
+-- `Vec` is a number in the value (`ready`), apart from the rest, so that records above can leave it out.
 use Rattle.std.proofs.Common.{◌≡◌, ℕ, ◌+◌, ◌-◌, ◌<◌, ◌≤◌, true, false, nat_le, nat_lt, ◌&&◌, cond, Option, Some, List, [], ◌∷◌, refl, sym, ap, ◌∙◌, zero, suc, ⊎_elim, arith}
 use Rattle.std.specs.Ordering.{nat_cmp, eq_by_cmp}
 use Rattle.std.specs.Cmp.{nat_cmp_total}

@@ -25,7 +25,7 @@ abbrev pub place_among : ℕ → List Run → Option ℕ
 place_among p [] = None
 place_among p (run ∷ runs) = if covers p run then Some (place_in p run) else place_among p runs
 
--- and by the infinite one
+-- the place of a position by these runs, or else by the infinite one
 abbrev pub place_by : List Run → Option Run → ℕ → Option ℕ
 place_by runs tail p = option_or (place_among p runs) (tail_at tail p)
 
@@ -33,7 +33,7 @@ place_by runs tail p = option_or (place_among p runs) (tail_at tail p)
 pub record AgreeAmong (told : Run) (runs : List Run) : Type 0 where
   pub each : (p : ℕ) → told.pos ≤ p → p < told.to → IfSome (place_among p runs) (λ place. place ≡ place_in p told)
 
--- they touch or have a position in common, and one distance between place and position
+-- two runs touch or have a position in common, and have one distance between place and position
 abbrev pub joins : Run → Run → Bool
 joins told run =
     let p = max run.pos told.pos in
@@ -55,7 +55,7 @@ pub record IsKept (runs : List Run) (tail : Option Run) : Type 0 where
 abbrev pub joined : Run → Run → Run
 joined told run = record { pos = min told.pos run.pos; place = min told.place run.place; to = max told.to run.to }
 
--- it ends before the told run begins, or there and with another distance
+-- the run ends before the told run begins, or there and with another distance
 abbrev pub lies_before : Run → Run → Bool
 lies_before told run = nat_le run.to told.pos && not (joins told run)
 

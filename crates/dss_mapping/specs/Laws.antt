@@ -29,12 +29,12 @@ abbrev pub LearningAgrees : Type 0
 LearningAgrees = (places : ℕ → ℕ) (v : Mappings) (kept : KeptMapping) (answer : Learn) → AllAgree places v
     → Agrees places (run_of kept) → AllAgree places (after_learn kept answer v)
 
--- so does an infinite mapping
+-- an infinite mapping whose places are the record's keeps all in agreement, whatever is answered
 abbrev pub InfiniteAgrees : Type 0
 InfiniteAgrees = (places : ℕ → ℕ) (v : Mappings) (pos place : ℕ) (answer : Learn) → AllAgree places v
     → Agrees places (infinite_run pos place) → AllAgree places (after_infinite pos place answer v)
 
--- and letting mappings go
+-- mappings that are let go leave the others in agreement
 abbrev pub ForgettingAgrees : Type 0
 ForgettingAgrees = (places : ℕ → ℕ) (v : Mappings) (pos : ℕ) → AllAgree places v → AllAgree places (after_forget pos v)
 
@@ -47,7 +47,7 @@ LearnedPlaces = (v : Mappings) (kept : KeptMapping) (p : ℕ)
 abbrev pub ForgottenAreNotTold : Type 0
 ForgottenAreNotTold = (v : Mappings) (pos p : ℕ) → p < pos → mapping_at (after_forget pos v) p ≡ None
 
--- from there on the same are told as before
+-- from the position up to which mappings were let go, the same are told as before
 abbrev pub OthersAreTold : Type 0
 OthersAreTold = (v : Mappings) (pos p : ℕ) → pos ≤ p → mapping_at (after_forget pos v) p ≡ mapping_at v p
 

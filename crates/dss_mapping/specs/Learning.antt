@@ -19,11 +19,11 @@ abbrev pub clash_from : ℕ → ℕ → Run → Mappings → Option Learn
 clash_from zero at told v = None
 clash_from (suc count) at told v = clash_or (place_at v at) at told (clash_from count (suc at) told v)
 
--- the same of all positions of the told run
+-- the first position of the told run that has another place than the told one, and both places
 abbrev pub clash_of : Run → Mappings → Option Learn
 clash_of told v = clash_from (told.to - told.pos) told.pos told v
 
--- so many positions from this one on have a place
+-- each of so many positions from this one on has a place
 abbrev pub all_covered : ℕ → ℕ → Mappings → Bool
 all_covered zero at v = true
 all_covered (suc count) at v = is_some (place_at v at) && all_covered count (suc at) v
@@ -53,7 +53,7 @@ clashes kept v = is_some (clash_of (run_of kept) v)
 
 -- ---- mappings that are held until they are treated, one after the other
 
--- its places are at most 2^62
+-- the mapping's places are at most 2^62
 abbrev pub IsWithin : KeptMapping → Type 0
 IsWithin kept = kept.place + octets_of kept ≤ 2 ^ 62
 
@@ -65,14 +65,14 @@ abbrev pub others_of : List KeptMapping → List KeptMapping
 others_of [] = []
 others_of (kept ∷ others) = others
 
--- these are held, in place of those that were
+-- the told mappings are held, in place of those that were
 abbrev pub after_hold : List KeptMapping → Mappings → Mappings
 after_hold told v = record v { held = told }
 
 abbrev pub first_held : Mappings → Option KeptMapping
 first_held v = first_of v.held
 
--- so does the mapping, where there is one
+-- there is a mapping, and it gives a position another place
 abbrev pub clashes_if : Option KeptMapping → Mappings → Bool
 clashes_if None v = false
 clashes_if (Some kept) v = clashes kept v

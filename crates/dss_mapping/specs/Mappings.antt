@@ -31,7 +31,7 @@ pub record MappingStore : Type 0 where
   pub mappings : Mappings
   pub ready : ℕ
 
--- how it is stored
+-- how mappings are stored
 abbrev pub mappings_code : Coded Mappings
 mappings_code =
     code_by (Places × (Option Run × (List KeptMapping × (ℕ × List KeptMapping))))
@@ -39,7 +39,7 @@ mappings_code =
     (λ v. (v.places, (v.tail, (v.live, (v.forgotten, v.held)))))
     (λ p. record { places = p.0; tail = p.1.0; live = p.1.1.0; forgotten = p.1.1.1.0; held = p.1.1.1.1 }) (λ _. refl)
 
--- the same with the room beside them
+-- how mappings are stored with the room beside them
 abbrev pub store_code : Coded MappingStore
 store_code =
     code_by (Mappings × ℕ) (coded× mappings_code coded_ℕ) (λ v. (v.mappings, v.ready)) (λ p. record { mappings = p.0; ready = p.1 }) (λ _. refl)

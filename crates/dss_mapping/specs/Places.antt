@@ -8,7 +8,7 @@ use Rattle.dss_mapping.specs.declared.run.Run.{Run}
 abbrev pub Places : Type 0
 Places = FinMap nat_cmp ℕ
 
--- so many positions from pos on have the places from place on, whatever they had
+-- the places where so many positions from pos on have those from place on, whatever they had
 unfoldable pub placed : ℕ → ℕ → ℕ → Places → Places
 placed pos place zero places = places
 placed pos place (suc count) places = insert (placed (pos + 1) (place + 1) count places) pos place

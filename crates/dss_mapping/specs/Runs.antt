@@ -14,6 +14,6 @@ place_in p run = run.place + (p - run.pos)
 abbrev pub infinite_run : ℕ → ℕ → Run
 infinite_run pos place = record { pos = pos; place = place; to = 2 ^ 64 - 1 - (place - pos) }
 
--- its positions and its places are numbers of 64 bits
+-- a run's positions and places are numbers of 64 bits
 abbrev pub IsSound : Run → Type 0
 IsSound run = (run.place + (run.to - run.pos) < 2 ^ 64) × (run.to < 2 ^ 64)

@@ -3,7 +3,7 @@ use seq_units::Pos;
 /// What becomes of a mapping that is told.
 #[derive(Clone, Copy, Debug)]
 pub enum Learn {
-    /// It is kept now: it has a position that had no place.
+    /// The mapping is kept now: some position of it had no place.
     New,
     /// Each of its positions has that place already; all stays as it was.
     Same,

@@ -3,16 +3,17 @@ ghost use Rattle.std.specs.Prelude.{◌≡◌};
 /// How a side uses Multipath TCP.
 #[derive(Clone, Copy, Debug, PartialEq, Eq)]
 pub enum Mode {
-    /// It does, and does not know yet that the peer and all on the way do.
+    /// The side asks for Multipath TCP, and does not know yet that the peer and all on the way speak it.
     Starting,
-    /// It knows: it accepted a mapping or a DATA_FIN of the peer, or a Data ACK that covers a byte or its DATA_FIN.
+    /// The side knows that the peer speaks Multipath TCP: a mapping or a DATA_FIN of the peer was accepted, or a Data ACK that
+    /// covers a byte or the DATA_FIN.
     Sure,
-    /// It fell back to plain TCP on its only path: each place of the data stream is that of the subflow (RFC 8684,
-    /// section 3.7).
+    /// The side fell back to plain TCP on its only path: each place of the data stream is that of the subflow (RFC 8684, section
+    /// 3.7).
     Identity,
-    /// It sends under an infinite mapping, after the peer's MP_FAIL.
+    /// The side sends under an infinite mapping, after the peer's MP_FAIL.
     InfiniteSend,
-    /// It receives under the peer's infinite mapping, after its own MP_FAIL.
+    /// The side receives under the peer's infinite mapping, after its own MP_FAIL.
     InfiniteReceive,
     /// Both.
     InfiniteBoth,
@@ -101,11 +102,11 @@ pub enum Event {
 pub enum Verdict {
     /// Nothing.
     Stay,
-    /// It is in this mode from now on.
+    /// The side is in this mode from now on.
     Went(Mode),
-    /// It tells the failed checksum by MP_FAIL on the path.
+    /// The side tells the failed checksum by MP_FAIL on the path.
     SendFail,
-    /// It breaks the path by a reset with MP_TCPRST and this reason (RFC 8684, section 3.6).
+    /// The side breaks the path by a reset with MP_TCPRST and this reason (RFC 8684, section 3.6).
     BreakPath(u8),
 }
 
@@ -116,7 +117,7 @@ pub struct Fall {
     pub mode: Mode,
     /// Both keys came with its own as the second: the peer knows it.
     pub confirmed: bool,
-    /// It began or answered a join.
+    /// The side began or answered a join.
     pub joined: bool,
     /// The path on which a checksum was wrong while that path was the sole one.
     pub failed: Option<u8>,

@@ -1,4 +1,4 @@
--- That the woven order makes of the world what was made.
+-- The woven order makes of the world what was made.
 use Rattle.std.specs.Prelude.{ℕ, ◌≡◌, List}
 use Rattle.actor_desk.specs.Journals.{ArePaired, order_of}
 use Rattle.path_core.specs.Codec.{Codec}

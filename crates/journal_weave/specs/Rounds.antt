@@ -17,7 +17,7 @@ pub record IsWovenRound (actors : List ℕ) (w : WorldState (List ℕ)) : Type 0
   pub over : all_over (world_run octets (steps_by actors) w).crew ≡ true
   pub in_order : actors ≡ order_of (greatest 0 w.crew) (lists_of (world_run octets (steps_by actors) w).crew)
 
--- these steps of a round lead from this world to that one, where each turn has ended
+-- the steps of a woven round lead from one world to another, where each turn has ended
 pub record WeavesTo (w v : WorldState (List ℕ)) (actors : List ℕ) : Type 0 where
   pub round : IsWovenRound actors w
   pub leads : world_run octets (steps_by actors) w ≡ v

@@ -13,7 +13,7 @@ fn is_journal<O: Book>(book: &Stamped<O>)
     let _journal = book.journal();
 }
 
-/// So it is of all six.
+/// What the calls of all six journals were answered, and their stamps, are those of the books.
 pub(crate) fn are_journals(books: &Books)
     ensures { AreJournals books.now }
 {

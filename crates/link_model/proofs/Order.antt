@@ -1,4 +1,7 @@
 -- Copies are kept in the order of their arrival.
+--
+-- A Boolean order of three numbers: go by `⊎` of `<` and `≡` (`less_is`, `less_before` in `link_model/proofs/Order`);
+-- `grind` alone splits too often.
 use Rattle.std.proofs.Common.{◌≡◌, ◌∙◌, refl, sym, ℕ, zero, suc, ◌<◌, ◌≤◌, ◌⊎◌, inl, inr, Bool, true, false, cond, List, [], ◌∷◌, remove, Option, Some, None, IfSome, subst, arith}
 use Rattle.std.specs.Prelude.{nat_lt, ◌==◌, ◌&&◌, ◌||◌, position}
 use Rattle.std.specs.List.{AllByRecursion}

@@ -26,7 +26,7 @@ arrival_told (Again ticks) = Some (fate.Twice ticks)
 arrival_told Stripped = None
 arrival_told Altered = None
 
--- this fate, where the line names the segment
+-- the fate that a line tells, where it names the segment
 abbrev pub told_if : Bool → Option Fate → Option Fate
 told_if named told = if named then told else None
 
@@ -76,7 +76,7 @@ abbrev pub has_died_by : ℕ → ScriptLine → Bool
 has_died_by now (Die path tick) = nat_le tick now
 has_died_by now line = false
 
--- by one of these lines it is dead at this tick, so that nothing arrives then: at one tick lines come before copies
+-- by one of these lines a link is dead at this tick, so that nothing arrives then: at one tick lines come before copies
 abbrev pub is_dead_at : List ScriptLine → ℕ → Bool
 is_dead_at lines now = list_any (has_died_by now) lines
 

@@ -118,7 +118,7 @@ abbrev pub without : {C : Type 0} → Option ℕ → List (Flight C) → List (F
 without (Some place) flights = remove flights place
 without None flights = flights
 
--- it is under way no more
+-- the copy that is due is under way no more
 abbrev pub after_delivery : {C : Type 0} → Due → LinkState C → LinkState C
 after_delivery due link = record link { under_way = without (position (is_due due) link.under_way) link.under_way }
 

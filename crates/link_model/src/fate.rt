@@ -13,7 +13,7 @@ use sides::Side;
 pub enum Fate {
     /// Once, after the delay of the link.
     OnTime,
-    /// It doesn't.
+    /// The segment doesn't arrive.
     Lost,
     /// Once, so many ticks later.
     Late {
@@ -32,9 +32,9 @@ pub enum Fate {
 pub struct SegmentFate {
     /// When it arrives, and how often.
     pub arrival: Fate,
-    /// It arrives without its Multipath TCP options.
+    /// The segment arrives without its Multipath TCP options.
     pub stripped: bool,
-    /// It arrives with the lowest bit of its first payload octet turned.
+    /// The segment arrives with the lowest bit of its first payload octet turned.
     pub altered: bool,
 }
 

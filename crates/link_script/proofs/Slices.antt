@@ -1,4 +1,7 @@
 -- A slice of words that is known by its length.
+--
+-- Several arms by slice length with `?` inside leave exits open: lemmas `two_words`, `three_words`
+-- (`link_script/proofs/Slices`) and `err_from_is_err_and`.
 use Rattle.std.proofs.Common.{◌≡◌, ℕ, List, [], ◌∷◌, length, get_or, map, refl, arith}
 use Rattle.std.specs.Borrow.{Bor}
 

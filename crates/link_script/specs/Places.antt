@@ -70,7 +70,7 @@ settled_by_event (Prio path side tick on) = None
 settled_by_event (Add id tick) = None
 settled_by_event (Remove side id tick) = None
 
--- the same of every line; the header, a path and the end settle nothing
+-- the subject that a line settles; the header, a path and the end settle nothing
 abbrev pub settled_by : Line → Option Subject
 settled_by (Seed n) = Some settles.Seed
 settled_by (Checksum on) = Some settles.Checksum

@@ -46,15 +46,15 @@ pub struct Segment {
 /// What happens to a segment on its way.
 #[derive(Clone, Copy)]
 pub enum Happens {
-    /// It doesn't arrive.
+    /// The segment doesn't arrive.
     Lost,
-    /// It arrives so many ticks late.
+    /// The segment arrives so many ticks late.
     Late(u32),
-    /// It arrives twice, the second time so many ticks after the first.
+    /// The segment arrives twice, the second time so many ticks after the first.
     Again(u32),
-    /// It arrives without its Multipath TCP options.
+    /// The segment arrives without its Multipath TCP options.
     Stripped,
-    /// It arrives with the lowest bit of its first payload octet turned.
+    /// The segment arrives with the lowest bit of its first payload octet turned.
     Altered,
 }
 

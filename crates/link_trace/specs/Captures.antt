@@ -30,7 +30,7 @@ abbrev pub packet_of : Side → Sent → Block
 packet_of side s =
     Packet (record { interface = s.path; millisecond = s.tick; direction = direction_at side s.from }) (ipv4_packet s) (fate_words s.fate)
 
--- so many paths, the first of this number
+-- the interfaces of so many paths, the first one of this number
 abbrev pub interfaces : ℕ → ℕ → List Block
 interfaces zero path = []
 interfaces (suc more) path = Interface (codes "path " ++ decimal path) ∷ interfaces more (path + 1)

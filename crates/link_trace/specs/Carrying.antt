@@ -90,7 +90,7 @@ abbrev pub place_mapped : Option DssMap → ℕ → ℕ → Option ℕ
 place_mapped None first position = None
 place_mapped (Some map) first position = mapped map first position
 
--- so far behind its position stands the place, in a direction of a path that sends without mappings of pieces
+-- the place of a position, so far behind it, in a direction of a path that sends without mappings of pieces
 abbrev pub shifted : Option ℕ → ℕ → Option ℕ
 shifted shift position = option_map (λ by. (position + by) % 2 ^ 32) shift
 
@@ -151,7 +151,7 @@ shift_told None first len = None
 shift_told (Some map) first len =
     if map.length == 0 && nat_lt 0 len then Some (behind (behind (low_number map.number) first) map.relative) else None
 
--- that of a segment
+-- how far behind its position a segment's infinite mapping has the place
 abbrev pub shift_by : Base → Side → Segment → Option ℕ
 shift_by base from segment =
     shift_told (dss_in base.checksums (option_octets segment.options)).mapping (first_byte base from) (payload_len segment)

@@ -14,7 +14,7 @@ abbrev pub is_lost : Fate → Bool
 is_lost Lost = true
 is_lost _ = false
 
--- it arrives once, on time and as it was sent
+-- the segment arrives once, on time and as it was sent
 abbrev pub is_plain : SegmentFate → Bool
 is_plain f = is_on_time f.arrival && (not f.stripped && not f.altered)
 

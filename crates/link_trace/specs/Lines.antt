@@ -20,7 +20,7 @@ way_word B = codes "b > a"
 abbrev pub initials_of : List Sent → Sent → Initials
 initials_of trace s = record { own = initial_of s.path s.from trace; peer = initial_of s.path (peer s.from) trace }
 
--- its tick, its path, its direction
+-- a segment's tick, path and direction, as its line begins
 abbrev pub place_words : Sent → List ℕ
 place_words s = decimal s.tick ++ (codes " path " ++ (decimal s.path ++ (codes " " ++ (way_word s.from ++ codes ": "))))
 
@@ -28,7 +28,7 @@ place_words s = decimal s.tick ++ (codes " path " ++ (decimal s.path ++ (codes "
 abbrev pub note_words : SegmentFate → List ℕ
 note_words f = if is_plain f then [] else codes " (" ++ (fate_words f ++ codes ")")
 
--- what it is and what becomes of it; the line ends with LF
+-- the line of a segment: what it is and what becomes of it; LF ends the line
 abbrev pub line_of : Bool → List Sent → Sent → List ℕ
 line_of checksums trace s =
     place_words s ++ (words_of (initials_of trace s) checksums (meaning_in s) ++ (note_words s.fate ++ 10 ∷ []))

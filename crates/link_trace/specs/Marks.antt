@@ -6,7 +6,7 @@ use Rattle.link_trace.specs.declared.marks.Scale.{Scale}
 use Rattle.link_trace.specs.declared.strokes.Stroke.{Stroke}
 use Rattle.link_trace.specs.Rows.{capped}
 
--- so much of a length as a part is of a whole
+-- a length in the proportion of a part to its whole, rounded down
 abbrev pub part_of : ℕ → ℕ → ℕ → ℕ
 part_of len part whole = capped (len * min part whole) / max whole 1
 

@@ -20,7 +20,7 @@ use Rattle.std.specs.Prelude.{slice_index}
 abbrev pub hexadecimal : ℕ → List ℕ
 hexadecimal n = codes "0x" ++ digits 16 false n
 
--- this word, or nothing
+-- the word where the flag is set, or nothing
 abbrev pub word_if : Bool → List ℕ → List ℕ
 word_if flag word = if flag then word else []
 
@@ -90,7 +90,7 @@ v4_words octets =
     codes " " ++ decimal (slice_index octets 0) ++ codes "." ++ decimal (slice_index octets 1)
     ++ codes "." ++ decimal (slice_index octets 2) ++ codes "." ++ decimal (slice_index octets 3)
 
--- its octets in hexadecimal, with nothing between them
+-- an IPv6 address's octets in hexadecimal, with nothing between them
 abbrev pub v6_words : List ℕ → List ℕ
 v6_words octets = codes " " ++ encode_lower octets
 

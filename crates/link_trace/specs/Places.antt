@@ -7,7 +7,7 @@ use Rattle.range_marks.specs.Marks.{Marks, after_extend, after_mark, marks_len}
 abbrev pub grown : ℕ → Marks Bool → Marks Bool
 grown to places = after_extend (to - marks_len places) false places
 
--- so many octets from this place on are carried too
+-- the carried places after a payload of so many octets from this place on
 abbrev pub with_payload : ℕ → ℕ → Marks Bool → Marks Bool
 with_payload place len places = if len == 0 then places else after_mark place (place + len) true (grown (place + len) places)
 

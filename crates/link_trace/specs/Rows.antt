@@ -126,7 +126,7 @@ abbrev pub octets_from : Side → List Row → ℕ
 octets_from side [] = 0
 octets_from side (row ∷ rows) = if_from side row row.octets + octets_from side rows
 
--- those at places that were carried for the first time
+-- the octets of payloads at places that were carried for the first time
 abbrev pub first_octets_from : Side → List Row → ℕ
 first_octets_from side [] = 0
 first_octets_from side (row ∷ rows) = if_from side row row.fresh + first_octets_from side rows

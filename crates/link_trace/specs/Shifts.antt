@@ -14,7 +14,7 @@ abbrev pub is_in_force : Option ℕ → ℕ → Bool
 is_in_force None by = false
 is_in_force (Some other) by = other == by
 
--- and one more, where an infinite mapping came that says something new
+-- the shifts, and one more where an infinite mapping came that says something new
 abbrev pub with_shift : Option ℕ → ℕ → Side → List Shift → List Shift
 with_shift None path from shifts = shifts
 with_shift (Some by) path from shifts =

@@ -40,7 +40,7 @@ place_columns row = aligned 4 row.path ++ (way_column row.from ++ (optional_colu
 abbrev pub octets_columns : Row → List ℕ
 octets_columns row = column row.segments ++ (column row.octets ++ (column row.again ++ column row.moved))
 
--- these, the segments that were lost, and the rate; the row ends with LF
+-- a row: its place, segments and octets, the segments that were lost, and the rate; the row ends with LF
 abbrev pub row_words : Row → List ℕ
 row_words row = place_columns row ++ (octets_columns row ++ (column row.lost ++ (rate_columns row.rate ++ 10 ∷ [])))
 

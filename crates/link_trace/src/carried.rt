@@ -44,7 +44,7 @@ pub struct Carried {
 pub struct Base {
     /// The low half of the number of the first byte of A's stream.
     pub first_a: u32,
-    /// That of B's stream.
+    /// The low half of the number of the first byte of B's stream.
     pub first_b: u32,
     /// Whether checksums of data are used.
     pub checksums: bool,
@@ -93,7 +93,7 @@ fn first_number(key: u64) -> u32
 }
 
 impl Base {
-    /// That of a run with these keys of A and B, which uses checksums of data or doesn't.
+    /// The base of a run with these keys of A and B, which uses checksums of data or doesn't.
     pub fn of(key_a: u64, key_b: u64, checksums: bool) -> Base
         ensures { result ≡ base_of key_a key_b checksums }
     {
@@ -160,7 +160,7 @@ fn place_mapped(map: Option<DssMap>, first: u32, position: u32) -> Option<u32>
     }
 }
 
-/// So far behind its position stands the place, in a direction of a path that sends without mappings of pieces.
+/// The place of a position, which stands so far behind it in a direction of a path that sends without mappings of pieces.
 fn shifted(shift: Option<u32>, position: u32) -> Option<u32>
     ensures { result ≡ shifted shift position }
 {
@@ -264,7 +264,7 @@ fn shift_told(map: Option<DssMap>, first: u32, len: u32) -> Option<u32>
     }
 }
 
-/// That of a segment.
+/// How far the place stands behind the position by the infinite mapping that a segment tells, if any.
 fn shift_by(base: &Base, from: Side, segment: &SegmentRef<'_>) -> Option<u32>
     ensures { result ≡ shift_by base.now from (segment_of segment.now) }
 {

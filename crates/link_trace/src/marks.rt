@@ -31,7 +31,7 @@ pub struct Panel {
     pub name: &'static str,
 }
 
-/// So much of a length as a part is of a whole.
+/// As much of a length as a part is of a whole.
 pub fn part_of(length: u64, part: u64, whole: u64) -> u64
     ensures { result ≡ part_of length part whole }
 {

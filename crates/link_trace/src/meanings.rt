@@ -18,7 +18,7 @@ fn syn_in(sent: &Sent) -> Option<u32>
     }
 }
 
-/// That of a SYN of this side on this path.
+/// The sequence number of a SYN of this side on this path.
 fn syn_of(path: u8, from: Side, sent: &Sent) -> Option<u32>
     ensures { result ≡ syn_of path from sent.now }
 {

@@ -18,7 +18,7 @@ pub struct Rate {
     pub rtt: Option<u32>,
 }
 
-/// Those of both ends of a path.
+/// The rates of both ends of a path.
 #[derive(Clone, Copy)]
 pub struct Rates {
     pub a: Rate,
@@ -39,11 +39,11 @@ pub struct Row {
     pub segments: usize,
     /// Octets of payload, each as often as it was sent.
     pub octets: u64,
-    /// Those of them at places that the direction had carried before, at positions that were sent before on this path.
+    /// Octets of payload at places that the direction had carried before, at positions that were sent before on this path.
     pub again: u64,
-    /// Those at places that the direction had carried before, at new positions.
+    /// Octets of payload at places that the direction had carried before, at new positions.
     pub moved: u64,
-    /// Those at places that no segment of the direction had carried before.
+    /// Octets of payload at places that no segment of the direction had carried before.
     pub fresh: u64,
     /// Segments that a line of the script lets go lost.
     pub lost: usize,
@@ -150,7 +150,7 @@ fn again_by(path: usize, edge: u64, repeated: u64, carried: &Carried) -> u64
     below(carried.position, carried.len, edge).min(repeated)
 }
 
-/// Those that moved.
+/// Octets of a segment of this path that moved: repeated ones at new positions.
 fn moved_by(path: usize, edge: u64, repeated: u64, carried: &Carried) -> u64
     ensures { result ≡ moved_by path edge repeated carried.now }
 {
@@ -160,7 +160,7 @@ fn moved_by(path: usize, edge: u64, repeated: u64, carried: &Carried) -> u64
     repeated.saturating_sub(below(carried.position, carried.len, edge))
 }
 
-/// Those at places that weren't carried before.
+/// Octets of a segment of this path at places that weren't carried before.
 fn fresh_by(path: usize, repeated: u64, carried: &Carried) -> u64
     ensures { result ≡ fresh_by path repeated carried.now }
 {
@@ -285,7 +285,7 @@ pub fn rows_of(alloc: Global, rates: &[Rates], carried: &[Carried]) -> Result<Ve
     Ok(rows)
 }
 
-/// So many octets where the row is of this direction.
+/// The octets, where the row is of this direction; else none.
 fn if_from(side: Side, row: &Row, octets: u64) -> u64
     ensures { result ≡ if_from side row.now octets }
 {
@@ -304,7 +304,7 @@ pub fn octets_from(side: Side, rows: &[Row]) -> u64
     octets
 }
 
-/// Those that were sent for the first time.
+/// The octets of a direction that were sent for the first time.
 #[tactic(auto, using(crate::proofs::Sums::capped_more))]
 pub fn first_octets_from(side: Side, rows: &[Row]) -> u64
     ensures { result ≡ capped (first_octets_from side rows.now) }

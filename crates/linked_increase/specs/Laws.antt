@@ -20,7 +20,7 @@ pub record IsSumRoundedDown (m : Row) (rows : List Row) : Type 0 where
   pub at_most : IsAtMost (whole (scaled_sum m rows)) (times (rate_sum rows) (whole m.rtt))
   pub close : IsBelow (times (rate_sum rows) (whole m.rtt)) (whole (scaled_sum m rows + length rows))
 
--- so it is for every row m
+-- for every row m the sum in integers is at most the exact sum times rtt_m, and less than one a row below it
 abbrev pub SumRoundsDown : Type 0
 SumRoundsDown = (m : Row) (rows : List Row) → AreLinked rows → IsSumRoundedDown m rows
 

@@ -50,6 +50,6 @@ abbrev pub told_of : Option Estimate → ℕ
 told_of None = 1000
 told_of (Some e) = max 1 (srtt_of e)
 
--- the same of a timing
+-- a timing's smoothed round-trip time, at least 1; 1,000 ticks until it is known
 abbrev pub rtt_told : Timing → ℕ
 rtt_told t = told_of t.rtt.estimate

@@ -58,17 +58,17 @@ abbrev pub grown_by : ℕ → Option Pending → Congestion → Congestion
 grown_by growth None c = c
 grown_by growth (Some p) c = record c { reno = reno.after_ack p.acked growth c.reno; pending = None }
 
--- the same of the growth that the window waits for, if it does
+-- the growth that the window waits for, if it does, is this one, in octets
 abbrev pub after_growth : ℕ → Congestion → Congestion
 after_growth growth c = grown_by growth c.pending c
 
--- the same place, or both times none
+-- both places are the same, or there is none both times
 abbrev pub is_same_place : Option ℕ → Option ℕ → Bool
 is_same_place None None = true
 is_same_place (Some p) (Some q) = p == q
 is_same_place _ _ = false
 
--- the same place, and the same window
+-- both times the place is the same, and the window
 abbrev pub is_same_told : Told → Told → Bool
 is_same_told t u = is_same_place t.place u.place && t.window == u.window
 

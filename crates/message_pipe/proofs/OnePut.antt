@@ -1,4 +1,9 @@
 -- Each put below for a reader is one message.
+--
+-- What was done with a value so far, as the calls that were made on an outside, is a ghost field in a struct of no
+-- bytes (`Trace` of `message_pipe`, `also_owns = ftrue`, with a code that says how the logic stores it). The two
+-- functions that pick it have walks by hand, two pages each; all others see `result.calls ≡ self.now.calls ++ noted
+-- _made.now ∷ []`, and one `rw` of that in the invariant's answer.
 use Rattle.std.proofs.Common.{◌≡◌, refl, sym, ◌∙◌, ap, subst, ℕ, Bool, List, [], ◌∷◌, ◌++◌, map, None, append_assoc, append-nil}
 use Rattle.std.proofs.lemmas.List.{map-append}
 use Rattle.outside_kit.specs.declared.port.Port.TheVariants.{ReadByA, ReadByB, Log}

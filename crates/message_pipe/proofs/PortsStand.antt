@@ -1,4 +1,13 @@
 -- A port keeps showing the messages that came whole.
+--
+-- An `Outside` over another one: helpers over `O: Outside` and one port, each with one record of what stays elsewhere
+-- (`StaysElsewhere` of `message_pipe`), and one clause that takes any facts on the port from before to after (`(first :
+-- ..) → PortStands .. → PortStands ..`). Then every clause of the trait closes alone, and of each method the invariant
+-- alone asks for an answer, one line a port.
+--
+-- What a type has to remember of a value that contracts alone see, such as what an outside told at first, is the ghost
+-- member of a type parameter; the invariant names it (`N.held`). The function over `N` takes the outside and gives it
+-- back; its caller picks `N` at `Brand` in `Invariants.antt` (`run_over_frames`, `run_line` of `mptcp_run`).
 use Rattle.std.proofs.Common.{◌≡◌, ℕ, ◌≤◌, List, ◌++◌, length, take, drop, Option, Some, None, sym, ◌∙◌, ap, subst, append_assoc, arith}
 use Rattle.std.specs.Prelude.{◌≢◌, IfSome, IsSome, IsSomeAnd, Result, Ok, Err, OnOk, OnErr, IfErr}
 use Rattle.std.proofs.lemmas.List.{drop-append-le, take-append-drop}

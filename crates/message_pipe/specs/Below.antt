@@ -1,5 +1,5 @@
--- Which calls come to the outside below, by those that are made on one whose readers' ports have lines: a piece for a reader's port as
--- one put for each message that it completes.
+-- The calls that come to the outside below, by those that are made on one whose readers' ports have lines: a piece
+-- for a reader's port as one put for each message that it completes.
 use Rattle.std.specs.Prelude.{◌≡◌, ℕ, Bool, true, false, List, [], ◌∷◌, ◌++◌, map, drop, Option, None, ◌⊎◌, IfSome, IsSomeAnd}
 use Rattle.outside_kit.specs.declared.port.Port.{Port}
 use Rattle.outside_kit.specs.declared.port.Port.TheVariants as port
@@ -26,7 +26,7 @@ puts_of to messages = map (λ message. call.Put to (line_of message)) messages
 abbrev pub AreAdded : List Made → Option (List Made) → Option (List Made) → Type 0
 AreAdded more old new = IfSome new (λ after. IsSomeAnd old (λ before. after ≡ before ++ more))
 
--- this of a call that succeeded, or else that
+-- the first of two properties where a call succeeded, or else the second
 abbrev pub ByMade : Bool → Type 0 → Type 0 → Type 0
 ByMade true this that = this
 ByMade false this that = that
@@ -36,7 +36,7 @@ abbrev pub AllMade : List Made → Type 0
 AllMade [] = Unit {0}
 AllMade (one ∷ more) = (one.ok ≡ true) × AllMade more
 
--- these are the first calls of a plan, in its order; only the last one may have failed
+-- the calls made are the first ones of a plan, in its order; only the last one may have failed
 abbrev pub AreFirstMade : List Call → List Made → Type 0
 AreFirstMade plan [] = Unit {0}
 AreFirstMade [] (one ∷ more) = ⊥

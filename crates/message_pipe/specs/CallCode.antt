@@ -5,7 +5,7 @@ use mathlib.Core.Path.{ap}
 use Rattle.outside_kit.specs.declared.port.Port.TheVariants.{ReadByA, ReadByB, Log}
 use Rattle.outside_kit.specs.Calls.{Call, Made, Load, Bind, Put}
 
--- which call it is, and of which port
+-- a call's kind and port, as one number
 abbrev kind_of : Call → ℕ
 kind_of (Load name) = 0
 kind_of (Bind ReadByA name) = 1
@@ -15,7 +15,7 @@ kind_of (Put ReadByA piece) = 4
 kind_of (Put ReadByB piece) = 5
 kind_of (Put Log piece) = 6
 
--- its name or piece
+-- a call's name or piece
 abbrev text_of : Call → List ℕ
 text_of (Load name) = name
 text_of (Bind port name) = name

@@ -25,7 +25,7 @@ told_length octets = number_at w32 octets 0
 abbrev pub has_frame : List ℕ → Bool
 has_frame octets = nat_le 4 (length octets) && nat_le (told_length octets) (length octets - 4)
 
--- its message
+-- the message of the first frame, where it is whole
 abbrev pub first_message : List ℕ → Option (List ℕ)
 first_message octets = if has_frame octets then Some (take (told_length octets) (drop 4 octets)) else None
 

@@ -11,7 +11,7 @@ abbrev pub after_use : Use → List ℕ → List ℕ
 after_use (Feed piece) held = held ++ piece
 after_use Next held = behind_first held
 
--- and after these uses, the first one first
+-- the octets that are held after some uses, the first one first
 abbrev pub after_uses : List Use → List ℕ → List ℕ
 after_uses [] held = held
 after_uses (use_ ∷ uses) held = after_uses uses (after_use use_ held)
@@ -45,7 +45,7 @@ pub record IsReadAgain (message behind : List ℕ) : Type 0 where
   pub first : first_message (frame_of message ++ behind) ≡ Some message
   pub rest : behind_first (frame_of message ++ behind) ≡ behind
 
--- so it is with every message below 2^32 octets
+-- every message below 2^32 octets is read again from its frame, whatever follows it
 abbrev pub FramesAreReadAgain : Type 0
 FramesAreReadAgain = (message behind : List ℕ) → length message < 2 ^ 32 → IsReadAgain message behind
 

@@ -47,7 +47,7 @@ impl Trace {
         Trace {}
     }
 
-    /// And this one behind them.
+    /// The calls so far, and one more behind them.
     #[inline(always)]
     pub(crate) fn then(&self, _made: &MadeCall<'_>) -> Trace
         ensures { result.calls ≡ self.now.calls ++ noted _made.now ∷ [] }

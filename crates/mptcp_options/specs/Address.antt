@@ -15,7 +15,7 @@ abbrev pub add_addr_body : Bool → ℕ → Address → Option ℕ → Option �
 add_addr_body echo id address port hmac =
     bit_or 0x30 (flag_if echo 0x01) ∷ id ∷ octets_of address ++ optional w16 port ++ optional w64 hmac
 
--- the same of REMOVE_ADDR
+-- the octets of a REMOVE_ADDR after kind and length
 abbrev pub remove_addr_body : List ℕ → List ℕ
 remove_addr_body ids = 0x40 ∷ ids
 

@@ -111,7 +111,7 @@ fin_at octets = let flags = octet octets 3 in has_mapping flags && is_set flags 
 abbrev pub DssHasForm : Bool → Option DssMap → Bool → Type 0
 DssHasForm checksum mapping fin = IfSome mapping (λ m. is_some m.checksum ≡ checksum) × IfNone mapping (fin ≡ false)
 
--- it is below 2^64, or 2^32 where four octets tell it
+-- a data number is below 2^64, or 2^32 where four octets tell it
 abbrev pub DataNumberFits : DataNumber → Type 0
 DataNumberFits (Whole n) = n < 2 ^ 64
 DataNumberFits (Low n) = n < 2 ^ 32

@@ -63,7 +63,7 @@ pub enum MpOption<'a> {
 /// What the octets of an option say.
 #[derive(Clone, Copy)]
 pub enum Read<'a> {
-    /// This option.
+    /// An option of this version.
     Known(MpOption<'a>),
     /// An option of another kind, of a subtype or version that there isn't, or an MP_CAPABLE that offers no
     /// HMAC-SHA256 or wants an extension: it is passed over as if it were absent.

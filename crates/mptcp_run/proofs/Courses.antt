@@ -1,4 +1,10 @@
 -- The turns of a course, from what the rounds or turns of a loop come to.
+--
+-- Three kinds of turns share their words: `CourseMade` and `CourseCut` speak of lists of turns of a course, with the
+-- ports and the calls of the same turns. A loop counts backwards in its own words (`proofs/Folding`), and is turned
+-- into these once, at its end (`proofs/Courses`); all lemmas above are over any course. Loops of rounds share their
+-- lemmas (`proofs/RoundsMade`): a kind of rounds is a record (`IsKind`) of the turns of one, and of how those of
+-- several are made of it (`serial_kind`, `timed_kind`, `woven_kind`).
 use Rattle.std.proofs.Common.{◌≡◌, refl, sym, ◌∙◌, ap, subst, ℕ, zero, suc, Bool, true, false, inl, List, [], ◌∷◌, ◌++◌, length, Option, arith}
 use Rattle.path_core.specs.Octets.{octets}
 use Rattle.world_laws.specs.Outcomes.{outcome_of}

@@ -1,4 +1,9 @@
 -- The turns that the steps of each round tell, by stamp, then actor: they are lawful, and each round ends as it did.
+--
+-- What was put reads back: that the numbers of a line are numbers of their types is a clause of the function that
+-- writes it, and goes up as a field beside the text (`RoundsFit`), so that the law on the log needs no type. What the
+-- world has to give is told by laws of it: that rows are in range (`proofs/RowsInRange`), and that each round by stamp,
+-- then actor, ends as it did (`proofs/LogWoven`, over `StepsWeave`).
 use Rattle.std.proofs.Common.{◌≡◌, refl, sym, ◌∙◌, ap, subst, ℕ, true, List, [], ◌∷◌, ◌++◌, map}
 use Rattle.actor_desk.specs.declared.ask.Note.{Note}
 use Rattle.actor_desk.specs.Journals.{order_of}

@@ -1,4 +1,10 @@
 -- What the readers' ports show after a run over the frames of lines.
+--
+-- A call that runs another one over an outside of its own (`run_messages`) stands on that one's public clauses alone:
+-- one record keeps the inner answer with what was put for each port (`IsRunOverFrames`), and what the ports show
+-- follows from it by the status, in one lemma with a line a row (`shown_by` in `proofs/MessagesShown`). It was proved
+-- over a stand-in of the crate, of the statuses, the rows' fields that it reads and a `run` that answers `Memory`, in
+-- half a minute a check.
 use Rattle.std.proofs.Common.{◌≡◌, refl, sym, ◌∙◌, ap, subst, ℕ, ◌+◌, ◌≤◌, ◌<◌, ◌^◌, Bool, true, false, not, if◌then◌else◌, List, [], ◌∷◌, ◌++◌, map, length, Option, Some, None, IfSome, IsSome, IsNone, inl, inr, ◌⊎◌, length-append, append-nil, arith}
 use Rattle.std.specs.Prelude.{◌==◌, ◌||◌, ◌&&◌, IsSomeAnd, option_map, option_and_then}
 use Rattle.std.specs.List.{onto_first}

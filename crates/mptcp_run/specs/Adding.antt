@@ -1,4 +1,4 @@
--- Which calls the parts of a run make.
+-- The calls that the parts of a run make.
 use Rattle.std.specs.Prelude.{ℕ, List, [], Option}
 use Rattle.outside_kit.specs.Calls.{Call}
 use Rattle.world_laws.specs.Worlds.{Turn, end_round}

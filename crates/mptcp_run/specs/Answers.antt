@@ -45,8 +45,7 @@ pub record HasRun (task : Task) (status : Status) (puts : List Call) (held holds
   pub checked : task.script.checksum ≡ true
       → CheckedReadersAreRight task status (world_after task whole.turns) held holds
 
--- It stopped at a turn that can't be made: the ports hold the rounds before, and these are their
--- puts.
+-- A run stopped at a turn that can't be made: the ports hold the rounds before, and the puts are those of these rounds.
 pub record HasStopped (task : Task) (opening line : ℕ) (puts : List Call) (held holds : Ports) : Type 0 where
   pub stopped : IsStopped task opening line held holds
   pub puts_are : puts ≡ puts_so_far task stopped.before
@@ -114,7 +113,7 @@ module _ (content : List ℕ → Option (List ℕ)) (line : Line) (loads_before 
         → ReadersHavePrefixes (content line.names.file_a) (content line.names.file_b) held holds
     pub calls : AddsAll (plan_of (loads_of line) line puts) told tells
 
-  -- and each reader was told the end: its port holds as many octets as the other side's file has,
+  -- each reader was told the end: its port holds as many octets as the other side's file has,
   -- and where no line of the script alters a payload, that file
   pub record DeliveredRow : Type 0 where
     pub row : EndRow Delivered
@@ -150,7 +149,7 @@ module _ (made : Bench) (loads_before loads : ℕ) (faults_before faults : Port 
         held holds
     pub calls : AddsAll (plan_of [] made.line (all_puts made.task whole.turns)) told tells
 
-  -- it was cut off
+  -- the run was cut off
   pub record MadeCutRow (status : Status) : Type 0 where
     pub cut : IsCut [] made.line made.task held holds told tells status
     pub prefixes : ReadersHavePrefixesIfBound (Some made.task.file_a) (Some made.task.file_b)

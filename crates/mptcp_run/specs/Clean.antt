@@ -12,7 +12,7 @@ use Rattle.run_outside.specs.Ports.{Ports}
 use Rattle.mptcp_run.specs.Answers.{IsAnswer}
 use Rattle.mptcp_run.specs.Task.{Task, Course, rounds, threads, told, task_of}
 
--- so many rounds may be made, where they aren't told by a log
+-- a course isn't told by a log, and may have this many rounds
 abbrev pub AsksRounds : ℕ → Course → Type 0
 AsksRounds least (rounds schedule most) = least ≤ most
 AsksRounds least (threads most) = least ≤ most
@@ -30,7 +30,7 @@ DeliversIfClean content line loads_before loads faults_before faults status =
     → ((port : Port) → HasRisen (faults_before port) (faults port) → ⊥)
     → (status ≡ Delivered) ⊎ (status ≡ Memory)
 
--- so it is of each answer
+-- every answer to a command line delivers where its run is clean
 abbrev pub CleanRunsDeliver : Type 0
 CleanRunsDeliver =
     (content : List ℕ → Option (List ℕ)) (line : Line) (loads_before loads : ℕ) (faults_before faults : Port → ℕ) (held holds : Ports)

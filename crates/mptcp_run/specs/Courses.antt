@@ -23,8 +23,8 @@ pub record CourseMade (course : Course) (opening : Option (List ℕ)) (w v : Con
   pub ports : HoldsEnds opening 0 w (round_ends turns w) old new
   pub calls : AddsAll (puts_by_round opening 0 w (round_ends turns w)) before after
 
--- Those of its first rounds were, and a run ends with this status: the ports grew by what these
--- put, and by a part of what the next one puts, whose last call that was made ended the run.
+-- The first rounds of a course were made, and a run ends with this status: the ports grew by what they put, and by
+-- a part of what the next round puts, whose last call that was made ended the run.
 pub record CourseCut (course : Course) (opening : Option (List ℕ)) (w : Connection) (old new : Ports)
     (before after : Option (List Made)) (status : Status) : Type 0 where
   pub turns : List Turn

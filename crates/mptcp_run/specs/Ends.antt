@@ -36,7 +36,7 @@ pub record HoldsCut (task : Task) (turns more : List Turn) (old new : Ports) : T
   pub log : HoldsMore (old Log) (new Log) []
       (IsBetween (log_so_far task turns) (log_so_far task (turns ++ more)))
 
--- so it is for the first rounds of the task, and one more at most
+-- the ports hold what the first rounds of the task put, and of one more at most a part
 pub record HoldsSomeRounds (task : Task) (old new : Ports) : Type 0 where
   pub turns : List Turn
   pub more : List Turn
@@ -62,13 +62,13 @@ module _ (loads : List Call) (line : Line) (task : Task) (held holds : Ports)
     pub whole : IsWhole task status held holds
     pub calls : AddsAll (plan_of loads line (all_puts task whole.turns)) told tells
 
-  -- it was cut off while it was bound or in its rounds
+  -- the run was cut off while its ports were bound or in its rounds
   pub record IsCutInRounds (status : Status) : Type 0 where
     pub ports : HoldsSomeRounds task held holds
     pub calls : AddsCut (plan_of loads line (puts_so_far task (ports.turns ++ ports.more))) status
         told tells
 
-  -- or at its last line, which wasn't put whole
+  -- the run was cut off at its last line, which wasn't put whole
   pub record IsCutAtLine (status : Status) : Type 0 where
     pub turns : List Turn
     pub are : AreTurnsOf task.course turns (first_world task)

@@ -16,7 +16,7 @@ HasRounds (rounds schedule most) = 1 ≤ most
 HasRounds (threads most) = 1 ≤ most
 HasRounds (told order) = (prefix : List Turn) × (order ≡ prefix ++ Turn.Round ∷ [])
 
--- the same connection, and these turns
+-- a task of the same connection whose turns are told, and which keeps a log
 abbrev pub replayed : Task → List Turn → Task
 replayed task order = record { script = task.script; file_a = task.file_a; file_b = task.file_b; course = told order; report = report.Log }
 
@@ -43,7 +43,7 @@ pub record HoldTheSame (old new before after : Port → Option (List ℕ)) : Typ
 
 -- ---- laws
 
--- so it is of each run of at most sixteen paths that keeps a log and came to its own end
+-- each run of some rounds and at most sixteen paths that keeps a log and came to its own end is told by it
 abbrev pub WholeRunsAreTold : Type 0
 WholeRunsAreTold = (task : Task) (status : Status) (old new : Port → Option (List ℕ)) → task.report ≡ report.Log → length task.script.paths ≤ 16 → HasRounds task.course
     → (whole : IsWhole task status old new)

@@ -50,8 +50,8 @@ module _ {X : Type 0} (opening : Option (List ℕ)) (number : ℕ) where
     pub puts : Puts (round_puts opening number last w) loads_before loads faults_before faults
         told tells result
 
-  -- This turn was made in this world, whose last round ended with that one, and the run goes on; or
-  -- it stands in this line of the log and can't be made, or its round wasn't put whole.
+  -- A turn was made in world `w`, whose last round ended with `last`, and the run goes on; or it stands in this line
+  -- of the log and can't be made, or its round wasn't put whole.
   pub record TurnMade (turn : Turn) (last w : Connection) (line : ℕ) (run : Run)
       (loads_before loads : ℕ) (faults_before faults : Port → ℕ)
       (held holds : Port → Option (List ℕ)) (told tells : Option (List Made))

@@ -52,7 +52,7 @@ module _ (file_a file_b : Option (List ℕ)) (old new : Ports) where
     pub read_by_b : IfSome file_a (λ file. HoldsAfter (old ReadByB) (new ReadByB) (λ _. message_lines (text_lines file)))
     pub read_by_a : IfSome file_b (λ file. HoldsAfter (old ReadByA) (new ReadByA) (λ _. message_lines (text_lines file)))
 
-  -- its first lines, each whole
+  -- the first lines of the other side's file, each whole
   pub record ReadersShowFirstLines : Type 0 where
     pub read_by_b : IfSome file_a (λ file. ShowsFirstLines file (old ReadByB) (new ReadByB))
     pub read_by_a : IfSome file_b (λ file. ShowsFirstLines file (old ReadByA) (new ReadByA))

@@ -1,4 +1,4 @@
--- Which calls a run of messages makes on its outside, where it comes to its own end.
+-- The calls that a run of messages makes on its outside, where it comes to its own end.
 use Rattle.std.specs.Prelude.{◌≡◌, ℕ, List, [], ◌∷◌, ◌++◌, map, Option, IfSome}
 use Rattle.outside_kit.specs.declared.port.Port.TheVariants as port
 use Rattle.outside_kit.specs.Calls.{Call, Made}

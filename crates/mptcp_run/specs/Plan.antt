@@ -19,16 +19,16 @@ use Rattle.run_outside.specs.Plan.{puts_of}
 abbrev pub read_in : Side → Connection → Connection → List ℕ
 read_in s last w = drop (length (output_of s last)) (output_of s w)
 
--- those of the round from this world to that one
+-- the puts of the round from this world to that one
 abbrev pub round_puts : Option (List ℕ) → ℕ → Connection → Connection → List Call
 round_puts opening number last w = puts_of (read_in B last w) (read_in A last w) (round_text opening number (round_steps last w))
 
--- those of rounds, of which the first has this number
+-- the puts of rounds, of which the first has this number
 abbrev pub puts_by_round : Option (List ℕ) → ℕ → Connection → List Connection → List Call
 puts_by_round opening number last [] = []
 puts_by_round opening number last (w ∷ ends) = round_puts opening number last w ++ puts_by_round opening (suc number) w ends
 
--- those of the rounds that these turns end
+-- the puts of the rounds that these turns end
 abbrev pub puts_so_far : Task → List Turn → List Call
 puts_so_far task turns = puts_by_round (opening_in task) 0 (first_world task) (ends_of task turns)
 

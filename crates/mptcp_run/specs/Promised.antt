@@ -29,7 +29,7 @@ use Rattle.mptcp_run.specs.Task.{Connection, Task, Course, rounds, threads, told
 abbrev pub IsShortTask : Task → Type 0
 IsShortTask task = IsShortScript task.script task.file_a task.file_b
 
--- and no line of the script alters a payload
+-- both files are short, and no line of the script alters a payload
 abbrev pub IsPlainTask : Task → Type 0
 IsPlainTask task = IsPlainScript task.script task.file_a task.file_b
 
@@ -47,7 +47,7 @@ EndsWithRound (rounds schedule most) = Unit {0}
 EndsWithRound (threads most) = Unit {0}
 EndsWithRound (told order) = (prefix : List Turn) × (order ≡ prefix ++ Turn.Round ∷ [])
 
--- its files are short, and its last turn is the end of a round
+-- the task's files are short, and its last turn is the end of a round
 pub record IsPromisedTask (task : Task) : Type 0 where
   pub short : IsShortTask task
   pub ends : EndsWithRound task.course
@@ -56,7 +56,7 @@ pub record IsPromisedTask (task : Task) : Type 0 where
 abbrev pub HoldsPrefixOf : Option (List ℕ) → Option (List ℕ) → List ℕ → Type 0
 HoldsPrefixOf old new file = IfSome old (λ _. IsSomeAnd new (λ text. IsPrefix text file))
 
--- or what it held, where it wasn't bound
+-- a port that told what it held holds a prefix of this file, or what it held, where it wasn't bound
 abbrev pub HoldsPrefixIfBound : Option (List ℕ) → Option (List ℕ) → List ℕ → Type 0
 HoldsPrefixIfBound old new file =
     IfSome old (λ held. (new ≡ Some held) ⊎ IsSomeAnd new (λ text. IsPrefix text file))
@@ -72,17 +72,17 @@ module _ (file_a file_b : Option (List ℕ)) (old new : Port → Option (List �
     pub read_by_b : IfSome file_a (λ file. HoldsAfter (old ReadByB) (new ReadByB) (λ _. file))
     pub read_by_a : IfSome file_b (λ file. HoldsAfter (old ReadByA) (new ReadByA) (λ _. file))
 
-  -- it has as many octets
+  -- what each reader's port holds has as many octets as the other side writes
   pub record ReadersHaveAsMany : Type 0 where
     pub read_by_b : IfSome file_a (λ file. HoldsAsMany (old ReadByB) (new ReadByB) file)
     pub read_by_a : IfSome file_b (λ file. HoldsAsMany (old ReadByA) (new ReadByA) file)
 
-  -- it is a prefix of that
+  -- what each reader's port holds is a prefix of what the other side writes
   pub record ReadersHavePrefixes : Type 0 where
     pub read_by_b : IfSome file_a (λ file. HoldsPrefixOf (old ReadByB) (new ReadByB) file)
     pub read_by_a : IfSome file_b (λ file. HoldsPrefixOf (old ReadByA) (new ReadByA) file)
 
-  -- or what the port held, where it wasn't bound
+  -- what each reader's port holds is a prefix of what the other side writes, or what it held, where it wasn't bound
   pub record ReadersHavePrefixesIfBound : Type 0 where
     pub read_by_b : IfSome file_a (λ file. HoldsPrefixIfBound (old ReadByB) (new ReadByB) file)
     pub read_by_a : IfSome file_b (λ file. HoldsPrefixIfBound (old ReadByA) (new ReadByA) file)
@@ -99,7 +99,7 @@ pub record HoldsWhatIsRight (status : Status) (old new : Option (List ℕ)) (fil
   pub prefix : HoldsPrefixOf old new file
   pub whole : status ≡ Delivered → HoldsAfter old new (λ _. file)
 
--- so it is of the sides that haven't fallen back by these turns
+-- where its side hasn't fallen back by these turns, each reader's port holds what is right
 pub record CheckedReadersAreRight (task : Task) (status : Status) (w : Connection) (old new : Port → Option (List ℕ)) : Type 0 where
   pub read_by_b : fell_back B w ≡ false → HoldsWhatIsRight status (old ReadByB) (new ReadByB) task.file_a
   pub read_by_a : fell_back A w ≡ false → HoldsWhatIsRight status (old ReadByA) (new ReadByA) task.file_b
@@ -116,7 +116,7 @@ pub record IsKept (task : Task) (turns : List Turn) : Type 0 where
   pub promises : AltersNone task.script → KeepsAllPromises (world_after task turns)
   -- What was written is a prefix of the side's file, and all of it where the stream was closed.
   pub files : WritesTheFiles (start_of task.script task.file_a task.file_b) (world_after task turns)
-  -- It is the connection over segments as values, shown in octets.
+  -- The connection is the one over segments as values, shown in octets.
   pub values : IsShownOfValues (start_of task.script task.file_a task.file_b) turns
   -- The round that goes on ends on each path at its tick; and where all turns are over, all that
   -- was due is done.
@@ -124,7 +124,7 @@ pub record IsKept (task : Task) (turns : List Turn) : Type 0 where
   pub done : all_over (world_after task turns).crew ≡ true
       → RoundIsDone (round_of octets (start_of task.script task.file_a task.file_b) turns) (world_after task turns)
 
--- so it is after all turns, in whatever order
+-- a task's promises are kept after all turns, in whatever order
 abbrev pub IsAlwaysKept : Task → Type 0
 IsAlwaysKept task = (turns : List Turn) → IsKept task turns
 
@@ -134,12 +134,12 @@ IsAlwaysKept task = (turns : List Turn) → IsKept task turns
 abbrev pub LoadedTasksArePromised : Type 0
 LoadedTasksArePromised = (content : List ℕ → Option (List ℕ)) (line : Line) → AreWithinLimits content line → IfSome (task_of content line) IsPromisedTask
 
--- which is plain where no line of its script alters a payload
+-- the task of a command line within its limits is plain where no line of its script alters a payload
 abbrev pub LoadedTasksArePlain : Type 0
 LoadedTasksArePlain = (content : List ℕ → Option (List ℕ)) (line : Line) → AreWithinLimits content line
     → IfSome (task_of content line) (λ task. AltersNone task.script → IsPlainTask task)
 
--- so each task with short files keeps its promises, after any turns
+-- each task with short files keeps its promises, after any turns
 abbrev pub ShortTasksAreKept : Type 0
 ShortTasksAreKept = (task : Task) (turns : List Turn) → IsShortTask task → IsKept task turns
 
@@ -161,7 +161,7 @@ WholeRunsGivePrefixes =
     (task : Task) (status : Status) (old new : Port → Option (List ℕ)) → IsPlainTask task
     → IsWhole task status old new → ReadersHavePrefixes (Some task.file_a) (Some task.file_b) old new
 
--- and at Delivered the whole files
+-- at Delivered, where nothing is altered, each reader's port holds the whole file of the other side
 abbrev pub DeliveredRunsGiveFiles : Type 0
 DeliveredRunsGiveFiles =
     (task : Task) (old new : Port → Option (List ℕ)) → IsPlainTask task → EndsWithRound task.course
@@ -185,7 +185,7 @@ CutRunsGivePrefixes =
     (task : Task) (old new : Port → Option (List ℕ)) → IsPlainTask task → HoldsSomeRounds task old new
     → ReadersHavePrefixesIfBound (Some task.file_a) (Some task.file_b) old new
 
--- or at its last line
+-- in a run cut off at its last line, where nothing is altered, each reader's port holds a prefix of the other's file
 abbrev pub LinesCutGivePrefixes : Type 0
 LinesCutGivePrefixes =
     (task : Task) (turns : List Turn) (old new : Port → Option (List ℕ)) → IsPlainTask task

@@ -139,7 +139,7 @@ AreFirst Are most turns more =
     × ((n ≤ most)
     × (Are n turns × ((more ≡ []) ⊎ ((suc n ≤ most) × Are (suc n) (turns ++ more)))))
 
--- these are the turns of the first rounds of a task, and those of the next one, or none
+-- the turns are those of the first rounds of a task, and `more` those of the next one, or none
 abbrev pub AreFirstOf : Course → List Turn → List Turn → Connection → Type 0
 AreFirstOf (way.rounds schedule most) turns more w = AreFirst (λ n ts. AreRoundsBy schedule n ts w) most turns more
 AreFirstOf (way.threads most) turns more w = AreFirst (λ n ts. AreWovenRounds n ts w) most turns more

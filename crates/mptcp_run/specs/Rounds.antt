@@ -52,7 +52,7 @@ pub record HoldsEnds (opening : Option (List ℕ)) (number : ℕ) (w : Connectio
   pub log : HoldsMore (old port.Log) (new port.Log) [] (λ text. text ≡ log_text opening number (steps_by_round w ends))
   pub fits : RoundsFit opening number (steps_by_round w ends)
 
--- these were put whole, and of those a part
+-- the rounds of `low` were put whole, and a part of what those of `high` put beyond them
 pub record HoldsPart (opening : Option (List ℕ)) (number : ℕ) (w : Connection) (low high : List Connection) (old new : Port → Option (List ℕ)) : Type 0 where
   pub read_by_b : HoldsMore (old port.ReadByB) (new port.ReadByB) (output_of B w) (IsBetween (output_of B (last_end w low)) (output_of B (last_end w high)))
   pub read_by_a : HoldsMore (old port.ReadByA) (new port.ReadByA) (output_of A w) (IsBetween (output_of A (last_end w low)) (output_of A (last_end w high)))

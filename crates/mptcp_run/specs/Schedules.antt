@@ -19,7 +19,7 @@ abbrev pub RoundBy : Schedule → WorldState (List ℕ) → WorldState (List ℕ
 RoundBy Serial w v = RoundTo octets w v
 RoundBy Timed w v = TimedRoundTo octets w v
 
--- these are the turns of at most so many rounds; the last one is the first after which the connection doesn't go on
+-- the turns of at most so many rounds; the last one is the first after which the connection doesn't go on
 abbrev pub AreRoundsBy : Schedule → ℕ → List Turn → WorldState (List ℕ) → Type 0
 AreRoundsBy Serial most turns w = IsSerial octets most turns w
 AreRoundsBy Timed most turns w = IsTimed octets most turns w

@@ -20,13 +20,13 @@ use Rattle.mptcp_run.specs.declared.schedule.Schedule.TheVariants.{Serial, Timed
 abbrev pub Connection : Type 0
 Connection = WorldState (List ℕ)
 
--- which turns the actors take
+-- the turns that the actors take
 pub data Course : Type 0 where
   -- by a schedule, at most so many rounds
   rounds : Schedule → ℕ → Course
   -- at most so many rounds, each with its steps by stamp, then actor, as threads come to make them
   threads : ℕ → Course
-  -- these
+  -- told ones, in order
   told : List Turn → Course
 
 pub record Task : Type 0 where
@@ -42,7 +42,7 @@ pub record Task : Type 0 where
 abbrev pub first_world : Task → Connection
 first_world task = opened_world (start_of task.script task.file_a task.file_b)
 
--- these are all turns of a course
+-- all turns of a course
 abbrev pub AreTurnsOf : Course → List Turn → Connection → Type 0
 AreTurnsOf (rounds schedule most) turns w = AreRoundsBy schedule most turns w
 AreTurnsOf (threads most) turns w = AreWovenRounds most turns w

@@ -10,7 +10,7 @@ abbrev pub has_order : {X E : Type 0} → Result X E → Bool
 has_order (Ok order) = true
 has_order (Err e) = false
 
--- these are the steps of a round from this world on, up to its end, and the world after them
+-- the actors make the steps of a round from this world on, up to its end, and the other world stands after them
 pub record IsWoven (w : Connection) (next : Kept) (actors : List ℕ) : Type 0 where
   pub weaves : WeavesTo w next.state actors
   pub stands : next.failed ≡ false

@@ -44,6 +44,6 @@ AreAtMost (suc most) (v ∷ ends) =
 pub record AreWovenRounds (most : ℕ) (turns : List Turn) (w : Connection) : Type 0 where
   -- Each can be made.
   pub lawful : AreLawful octets turns w
-  -- They are the steps of each round by stamp, then actor, and its end.
+  -- The turns are the steps of each round by stamp, then actor, and its end.
   pub in_order : turns ≡ turns_told (steps_by_round w (round_ends turns w))
   pub few : AreAtMost most (round_ends turns w)

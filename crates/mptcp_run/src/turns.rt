@@ -10,13 +10,13 @@ use run_outside::Replay;
 /// Which turns a run takes.
 #[derive(Drop)]
 pub enum Turns<'a> {
-    /// Those of a schedule, of at most so many rounds.
+    /// The turns of a schedule, of at most so many rounds.
     Scheduled {
         schedule: Schedule,
         rounds: u32,
         report: Report,
     },
-    /// Those of a log; the run keeps a log itself.
+    /// The turns of a log; the run keeps a log itself.
     Logged(&'a Replay),
 }
 

@@ -55,14 +55,14 @@ abbrev pub are_read_apart : List ℕ → List ℕ → List ℕ → List ℕ → 
 are_read_apart script file_a file_b log =
     not (bytes_eq file_a script) && (not (bytes_eq file_a log) && (not (bytes_eq file_b script) && not (bytes_eq file_b log)))
 
--- these can be the names, of a run of messages too where that is asked
+-- the names can be those of a view, and of a run of messages where that is asked
 abbrev pub are_names : Bool → List ℕ → List ℕ → List ℕ → List ℕ → List ℕ → Bool
 are_names messages script file_a file_b log out =
     are_given script file_a file_b log out
     && (is_apart out script file_a file_b log && (not messages || are_read_apart script file_a file_b log))
 
--- this view of what these names are; none of them is empty, and OUT is none of the inputs; of a run of messages neither file is the
--- script or the log
+-- what is asked: a view of what has these names. None of them is empty, and OUT is none of the inputs; of a run of
+-- messages neither file is the script or the log.
 abbrev pub asked_of : Bool → Option View → List ℕ → List ℕ → List ℕ → List ℕ → List ℕ → Option Asking
 asked_of messages view script file_a file_b log out =
     if are_names messages script file_a file_b log out

@@ -27,12 +27,12 @@ rounds_in number before (line ∷ lines) =
 abbrev pub whole_rounds : List ℕ → List ℕ
 whole_rounds log = rounds_in 0 [] (text_lines log) ++ codes "outcome rounds\n"
 
--- so much of a log are these octets; its whole rounds are read only where it isn't a log as it stands
+-- the octets are this much of a log; its whole rounds are read only where it isn't a log as it stands
 abbrev pub IsPart : Extent → Script → List ℕ → List ℕ → Type 0
 IsPart Whole script log part = part ≡ log
 IsPart WholeRounds script log part = IsErr (log_reading script log) × (part ≡ whole_rounds log)
 
--- and these their turns
+-- the octets are this much of a log, and the turns are what they say
 abbrev pub IsRead : Script → List ℕ → Extent → List ℕ → List Turn → Type 0
 IsRead script log extent part turns = IsPart extent script log part × (log_reading script part ≡ Ok turns)
 

@@ -28,7 +28,7 @@ is_sent line = bytes_eq (first_word (step_words line)) (codes "me") && bytes_eq 
 abbrev pub payload_told : List ℕ → ℕ
 payload_told octets = length octets - header_len octets
 
--- its checksum field
+-- a segment's checksum field (RFC 9293, section 3.1)
 abbrev pub checksum_told : List ℕ → ℕ
 checksum_told octets = slice_index octets 16 * 256 + slice_index octets 17
 

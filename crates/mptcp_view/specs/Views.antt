@@ -87,7 +87,7 @@ IsViewOf view input turns shown =
 
 -- ---- the inputs
 
--- these are the inputs of the line and this the log, as far as they are told, and each is within its limit
+-- the inputs and the log are those of the line, as far as they are told, and each is within its limit
 pub record AreInputs (content : List ℕ → Option (List ℕ)) (line : Line) (input : Input) (log : List ℕ) : Type 0 where
   pub within : AreWithinLimits content line
   pub script : IfSome (content line.names.script) (λ told. reading told ≡ Ok input.script)
@@ -99,7 +99,7 @@ pub record AreInputs (content : List ℕ → Option (List ℕ)) (line : Line) (i
 abbrev pub WithInputs : (List ℕ → Option (List ℕ)) → Line → (Input → List ℕ → Type 0) → Type 0
 WithInputs content line P = (input : Input) × ((log : List ℕ) × (AreInputs content line input log × P input log))
 
--- and this, of what is read of the log: so much of it, these octets, and their turns
+-- P holds of some inputs of this line and of what is read of its log: how much of it, its octets, and their turns
 abbrev pub WithTurns : (List ℕ → Option (List ℕ)) → Line → (Extent → Input → List ℕ → List Turn → Type 0) → Type 0
 WithTurns content line P = WithInputs content line (λ input log.
     (extent : Extent) × ((part : List ℕ) × ((turns : List logged.Turn)
@@ -133,7 +133,7 @@ IsOutFault old new _ = ⊥
 
 -- ---- why nothing is shown
 
--- this line of the log tells another segment than the one that is sent
+-- a line of the log tells another segment than the one that is sent
 abbrev pub IsUntold : List ℕ → List Sent → Status → Type 0
 IsUntold log trace (status.Log line) = untold log trace ≡ Some line
 IsUntold log trace status.Memory = Unit {0}
@@ -152,7 +152,7 @@ abbrev pub stopped_at : ℕ → TraceFault → Status
 stopped_at lines (fault.Turn place) = status.Log (lines + place + 1)
 stopped_at lines fault.Memory = status.Memory
 
--- it comes before OUT is made anew; want of memory may come at any time
+-- the status comes before OUT is made anew; want of memory, which may come at any time, isn't among those
 abbrev pub IsBeforeOut : Status → Type 0
 IsBeforeOut (status.Put at) = ⊥
 IsBeforeOut status.Memory = ⊥
@@ -166,7 +166,7 @@ module _ (content : List ℕ → Option (List ℕ)) (asked : Asking) (held holds
   Shows extent = WithView content asked (λ read shown. (read ≡ extent)
       × (HoldsAfter (held port.ReadByB) (holds port.ReadByB) (λ _. shown) × AddsAll (view_calls asked.line shown) told tells))
 
-  -- such a view was made, and not written whole
+  -- a view of what was asked was made, and not written whole
   abbrev pub IsCut : Status → Type 0
   IsCut s = WithView content asked (λ read shown.
       HoldsCut (held port.ReadByB) (holds port.ReadByB) shown × AddsCut (view_calls asked.line shown) s told tells)
@@ -185,7 +185,7 @@ module _ (content : List ℕ → Option (List ℕ)) (asked : Asking) (held holds
   IsViewFault loads_old loads_new old new s =
       IsLoggedFault content asked.line loads_old loads_new s × InputAdds asked.line (loads_of asked.line) told tells s
 
-  -- how it ends, of a run of messages too: then the files of these contents are the frames of their lines
+  -- how a view ends, of a run of messages too: then the files of these contents are the frames of their lines
   pub record IsViewAnswer (loads_old loads_new : ℕ) (old new : Port → ℕ) (result : Result Extent Status) : Type 0 where
     pub shown : IfOk result Shows
     pub fault : IfErr result (IsViewFault loads_old loads_new old new)

@@ -100,8 +100,8 @@ pub struct Asked<'a> {
     pub log: &'a str,
 }
 
-/// This view of what the names are. None of them is empty, and OUT is none of the inputs. Of a run of messages neither file is the script
-/// or the log.
+/// What the words ask for: the view of what the names are. None of them is empty, and OUT is none of the inputs. Of a run of
+/// messages neither file is the script or the log.
 fn asked_of<'a>(
     messages: bool,
     view: Option<View>,

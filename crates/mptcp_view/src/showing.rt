@@ -212,7 +212,7 @@ fn write_out<O: Outside>(outside: &mut O, out: &str, shown: &[u8]) -> Result<(),
     }
 }
 
-/// That the lines of a log tell just the segments of a trace.
+/// The lines of a log tell just the segments of a trace, or the fault says where they don't.
 fn are_told(alloc: Global, log: &[u8], trace: &[Sent]) -> Result<(), Status>
     ensures told { OnOk result (untold log.now trace.now ≡ None) }
     ensures fault { IfErr result (IsUntold log.now trace.now) }

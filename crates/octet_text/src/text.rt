@@ -103,7 +103,7 @@ impl Text {
         }
     }
 
-    /// The same text, whose copies and parts share its octets from now on. No octet is copied.
+    /// A text whose copies and parts share its octets from now on. No octet is copied.
     pub fn share(self) -> Result<Self, AllocError>
         ensures { IfOk result (λ text. text ≡ self) }
     {

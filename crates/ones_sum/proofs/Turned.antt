@@ -1,4 +1,6 @@
 -- One bit turned moves a sum by a power of two that is no multiple of 65,535.
+--
+-- `bit_xor x (2 ^ k)` is x plus or minus 2^k: `xor_block` twice and `shr_split` (`ones_sum/proofs/Turned`).
 use Rattle.std.proofs.Common.{◌≡◌, ◌≢◌, ℕ, ◌+◌, ◌*◌, ◌/◌, ◌%◌, ◌^◌, ◌<◌, ◌⊎◌, inl, inr, List, length, get_or, sym, ap, ◌∙◌, arith}
 use Rattle.std.specs.Prelude.{bit_xor}
 use Rattle.std.proofs.lemmas.Nat.{xor_block, xor_comm, pow_pos, pow_below, shr_split, mod_below}

@@ -27,6 +27,6 @@ call_of (kept.Load name) = Load (string_bytes name)
 call_of (kept.Bind port name) = Bind port (string_bytes name)
 call_of (kept.Put port piece) = Put port piece.items
 
--- and whether it succeeded
+-- a recorded call by its octets, and whether it succeeded
 abbrev pub made_of : RecordedCall → Made
 made_of kept = record { call = call_of kept.call; ok = kept.ok }

@@ -20,9 +20,9 @@ enum Place {
 struct Meeting {
     actor: u8,
     place: Place,
-    /// It has come.
+    /// The actor has come.
     came: AtomicBool,
-    /// It saw that all had come.
+    /// The actor saw that all had come.
     saw_all: AtomicBool,
 }
 

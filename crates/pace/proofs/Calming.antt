@@ -1,5 +1,9 @@
 -- Rounds follow one another, and no timer runs out: each of them has waited for at most seven rounds, since
 -- the eighth brings news.
+--
+-- Why no timer runs out: the eighth round after the last news brings news, and nine pass before a timer does. So
+-- `HasWaited` counts the rounds of a timer from the end of the round of the last news, and at the eighth there is a
+-- contradiction, not a new case.
 use Rattle.std.proofs.Common.{◌≡◌, refl, sym, subst, ℕ, suc, ◌+◌, ◌<◌, ◌≤◌, true, ◌⊎◌, inl, inr, ⊎_elim, Option, Some, None, IfSome, le_refl, arith}
 use Rattle.std.proofs.lemmas.Bool.{cases_lt}
 use Rattle.pace.specs.Lane.{Setting, Lane, all_left, none_left}

@@ -1,4 +1,8 @@
 -- Segments that arrive keep what holds of a lane.
+--
+-- What stands first on its way: a lemma over the lane with `c ∷ rest` in place of its list, where all computes, and one
+-- `subst` of the whole invariant along `w.datas ≡ c ∷ rest` (`with_datas` of `proofs/Hearing`), in place of one in each
+-- field.
 use Rattle.std.proofs.Common.{◌≡◌, refl, subst, ℕ, ◌+◌, ◌-◌, ◌≤◌, max, nat_lt, Bool, true, false, cond, ◌⊎◌, inl, inr, ⊎_elim, List, ◌∷◌, Option, Some, None, IfSome, arith}
 use Rattle.std.proofs.lemmas.Bool.{both_ways, cases_lt, ltb-false}
 use Rattle.pace.specs.Lane.{Setting, Copy, Lane, Stage, data_ack}

@@ -1,4 +1,22 @@
 -- Each move keeps what holds of a lane, and so do many.
+--
+-- One record of inequalities, one `omega`: it proves a declared record by its fields, 20 at once, and reads those of a
+-- hypothesis. Give it `h.numbers`, not `h`. Flags are numbers too (0 or 1, `max` where they rise), so that no rule goes
+-- by cases on them.
+--
+-- What a move leaves alone is passed on whole (`flags = h.flags`): the groups of an invariant are `abbrev`s of records
+-- without a name, over the lane. Two of these are equal where their fields' types are, so they are the same before and
+-- after a move that touches none of their fields; two declared records over different lanes never are. A lemma of a
+-- move has a line a group.
+--
+-- `record r { f = .. }` keeps the type of `r`: an invariant over the new state has to be written with all its fields.
+--
+-- Records in a record are opened (`pub open sender use *`), so that `w.acked` stands for `w.sender.acked`; a change
+-- still names both.
+--
+-- Moves are a family with the state as index, each constructor with one record of conditions: its lemma takes that
+-- record, and the dispatch is a line a move (`proofs/Moving`). Conditions stand as inequalities, as `min 1 x ≤ y`,
+-- where `omega` is to read them.
 use Rattle.std.proofs.Common.{ℕ, zero, suc, subst₂}
 use Rattle.pace.specs.Lane.{Setting, Lane, Stage}
 use Rattle.pace.specs.Going.{Going}

@@ -1,5 +1,9 @@
 -- What some rounds, one after the other, have brought: segments arrive, a payload more is read, something is
 -- acknowledged, the end is told.
+--
+-- No ranking, and nothing of each step: numbers that only grow, and inequalities between their values at the ends of
+-- rounds. Seven rounds are one lemma, with the lanes between as names and one `omega` at its end; what is sent arrives
+-- within two (`arrives` of `proofs/Passing`).
 use Rattle.std.proofs.Common.{refl, sym, subst, ℕ, ◌+◌, ◌<◌, ◌≤◌, min, ◌⊎◌, inl, inr, ⊎_elim, List, [], ◌∷◌, arith}
 use Rattle.std.proofs.lemmas.Bool.{cases_lt}
 use Rattle.pace.specs.Lane.{Setting, Copy, Lane, none_left}

@@ -18,7 +18,7 @@ pub record Passed (k : Setting) (w u : Lane) : Type 0 where
   pub writer : u.writer_over ≡ true
   pub reader : u.reader_over ≡ true
 
--- so many rounds lead from w to u
+-- a number of rounds leads from w to u
 abbrev pub Trail : Setting → ℕ → Lane → Lane → Type 0
 Trail k zero w u = w ≡ u
 Trail k (suc n) w u = (v : Lane) × Trail k n w v × Passed k v u
@@ -56,7 +56,7 @@ tick_by k w (waits h) = h.base.until + 800
 abbrev pub calm_tick : (k : Setting) (w : Lane) → Calm k w → ℕ
 calm_tick k w c = tick_by k w c.still
 
--- the same of both lanes of a connection, from w and v to u and x, linked at the end of each round
+-- a number of rounds leads both lanes of a connection from w and v to u and x, linked at the end of each round
 abbrev pub LinkedTrail : Setting → Setting → ℕ → Lane → Lane → Lane → Lane → Type 0
 LinkedTrail k j zero w v u x = (w ≡ u) × (v ≡ x)
 LinkedTrail k j (suc n) w v u x = (y : Lane) × (z : Lane) × LinkedTrail k j n w v y z

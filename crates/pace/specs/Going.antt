@@ -121,7 +121,7 @@ IsSet (Some x) = Unit {0}
 abbrev pub IsOld : Lane → Lane → Type 0
 IsOld s w = IsSet s.timer × (w.acked ≤ s.acked) × (w.control_acked ≤ s.control_acked)
 
--- The timer runs for a reason and runs out no earlier than t; it is an old one, or began in this round.
+-- A timer that runs does so for a reason and runs out no earlier than t; it is an old one, or began in this round.
 abbrev pub TimerIs : Setting → Lane → ℕ → Lane → Type 0
 TimerIs k s t w = record {
   late : IfSome w.timer (λ x. Reason k w × (t ≤ x));

@@ -47,7 +47,7 @@ pub record Writer : Type 0 where
   pub written : ℕ
   -- 1 once the stream is closed
   pub closed : ℕ
-  -- its turn of this round is over
+  -- the writer's turn of this round is over
   pub writer_over : Bool
 
 -- The reading application.
@@ -57,7 +57,7 @@ pub record Reader : Type 0 where
   pub got : ℕ
   -- 1 once it was told the end
   pub told_end : ℕ
-  -- its turn of this round is over
+  -- the reader's turn of this round is over
   pub reader_over : Bool
 
 -- The end that sends the bytes, with the send book of its side. Flags count as numbers, so that they only

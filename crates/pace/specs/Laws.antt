@@ -22,7 +22,7 @@ Always P = (k : Setting) → HasRanges k → (s : Lane) (t : ℕ) (p : Stage) (w
 
 -- ---- what holds
 
--- it holds as the first round begins, where the congestion window takes three payloads or more
+-- what holds within a round holds as the first one begins, where the congestion window takes two payloads or more
 abbrev pub LanesBegin : Type 0
 LanesBegin = (k : Setting) → HasRanges k → (window : ℕ) → k.payload + k.payload ≤ window
     → Going k (first_lane window) k.rto all_left (first_lane window)
@@ -31,7 +31,7 @@ LanesBegin = (k : Setting) → HasRanges k → (window : ℕ) → k.payload + k.
 abbrev pub MovesKeepIt : Type 0
 MovesKeepIt = Always (λ k s t p w. (q : Stage) (u : Lane) → Move k s p w q u → Going k s t q u)
 
--- it holds as a round begins where the one before left the lane calm
+-- what holds within a round holds as one begins where the one before left the lane calm
 abbrev pub CalmRoundsBegin : Type 0
 CalmRoundsBegin = (k : Setting) → HasRanges k → (w : Lane) (c : Calm k w)
     → Going k (opens_round w) (calm_tick k w c) all_left (opens_round w)
@@ -52,7 +52,7 @@ abbrev pub FirstRoundsEndCalm : Type 0
 FirstRoundsEndCalm = (k : Setting) → HasRanges k → (window : ℕ) (u : Lane) → k.payload + k.payload ≤ window
     → Round k (first_lane window) u → Calm k u
 
--- so does each round after it, and it is a round in which all held
+-- each round from a calm lane leaves it calm, with the turns of both applications and the path over
 abbrev pub LaterRoundsEndCalm : Type 0
 LaterRoundsEndCalm = (k : Setting) → HasRanges k → (w u : Lane) → Calm k w → Round k (opens_round w) u
     → Passed k w u × Calm k u

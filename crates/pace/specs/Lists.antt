@@ -8,18 +8,18 @@ abbrev pub In : Copy → List Copy → Type 0
 In c [] = ⊥
 In c (x ∷ xs) = (c ≡ x) ⊎ In c xs
 
--- one of them has it
+-- one of the copies has P
 pub record OneHas (P : Copy → Type 0) (cs : List Copy) : Type 0 where
   pub copy : Copy
   pub among : In copy cs
   pub has : P copy
 
--- they arrive in their order, from one tick on and no later than another
+-- the copies arrive in their order, from one tick on and no later than another
 abbrev pub Timed : ℕ → List Copy → ℕ → Type 0
 Timed from [] to = from ≤ to
 Timed from (c ∷ cs) to = (from ≤ c.at) × Timed c.at cs to
 
--- their bytes are those from one place up to another, in order
+-- the copies' bytes are those from one place up to another, in order
 abbrev pub Chain : ℕ → List Copy → ℕ → Type 0
 Chain low [] high = low ≡ high
 Chain low (c ∷ cs) high = (c.low ≡ low) × (low ≤ c.high) × Chain c.high cs high

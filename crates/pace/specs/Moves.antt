@@ -94,7 +94,7 @@ pub record MayHearData (p : Stage) (ask : Bool) (c : Copy) (rest : List Copy) (w
   pub news : (c.low < c.high) ⊎ ((0 < c.data_fin) ⊎ ((w.control_came < c.control) ⊎ (w.keys_came < c.keys)))
   pub asked : ask ≡ false → (p.ask ≡ false) × (c.high ≤ c.low) × (c.data_fin ≤ 0)
 
--- it brings nothing new, and only acknowledges
+-- The segment that is first on its way brings nothing new, and only acknowledges.
 pub record MaySkip (p : Stage) (c : Copy) (rest : List Copy) (w : Lane) : Type 0 where
   pub first : w.datas ≡ c ∷ rest
   pub turn : p.wait ≡ true

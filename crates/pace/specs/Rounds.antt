@@ -4,7 +4,7 @@ use Rattle.pace.specs.Lane.{Setting, Lane, Stage, all_left, none_left}
 use Rattle.pace.specs.Rules.{opens_round, first_lane}
 use Rattle.pace.specs.Moves.{Move}
 
--- so many moves within a round that began at s, from one stage and lane to another
+-- a number of moves within a round that began at s, from one stage and lane to another
 abbrev pub Moves : Setting → Lane → ℕ → Stage → Lane → Stage → Lane → Type 0
 Moves k s zero p w q u = (p ≡ q) × (w ≡ u)
 Moves k s (suc n) p w q u = (r : Stage) × (v : Lane) × Moves k s n p w r v × Move k s r v q u

@@ -15,7 +15,7 @@ closed_by n w = record w { writer = record w.writer { closed = n } }
 abbrev pub writer_ended : Lane → Lane
 writer_ended w = record w { writer = record w.writer { writer_over = true } }
 
--- so many octets more were read
+-- the reader has read this many octets more
 abbrev pub has_read : ℕ → Lane → Lane
 has_read n w = record w { reader = record w.reader { read = w.read + n; got = w.got + n } }
 
@@ -29,7 +29,7 @@ reader_ended n w = record w { reader = record w.reader { reader_over = true; tol
 abbrev pub asked_out : Setting → ℕ → Lane → Lane
 asked_out k limit w = record w { receiver = record w.receiver { next = data_ack k w; limit = limit } }
 
--- it sends a segment
+-- the receiving end sends a segment
 abbrev pub said_by : Copy → Lane → Lane
 said_by x w = record w {
   receiver = record w.receiver { told = x.telling; said = max w.said x.data_fin };
@@ -38,7 +38,7 @@ said_by x w = record w {
 
 -- ---- what the sending end sends
 
--- It sends a segment, and a Bool says whether the last grant stands as refused for a shut window.
+-- The sending end sends a segment, and a Bool says whether the last grant stands as refused for a shut window.
 abbrev pub sends : Bool → Copy → Lane → Lane
 sends shut x w = record w {
   sender = record w.sender {
@@ -78,7 +78,7 @@ settled_by runs rto w = record w {
 abbrev pub rested : Lane → Lane
 rested w = record w { sender = record w.sender { timer = None } }
 
--- it may send bytes, and may use the DSS
+-- the sending end may send bytes, and may use the DSS
 abbrev pub flagged : ℕ → ℕ → Lane → Lane
 flagged ready clear w = record w { sender = record w.sender { ready = ready; clear = clear } }
 
@@ -104,7 +104,7 @@ hears_data c rest w = record w {
   way = record w.way { datas = rest };
 }
 
--- the same of a segment that brings nothing new
+-- the receiving end took a segment that brings nothing new
 abbrev pub skipped : List Copy → Lane → Lane
 skipped rest w = record w { way = record w.way { datas = rest } }
 

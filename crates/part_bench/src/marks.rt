@@ -4,7 +4,7 @@ ghost use Rattle.range_marks.specs.Marks.{marks_len};
 use range_marks::RangeMarks;
 use std::alloc::{AllocError, Global};
 
-/// So many places, one with the mark `false`, the next with `true`, and so on.
+/// Marks of so many places, one `false`, the next `true`, and so on.
 pub fn alternating(alloc: Global, places: u64) -> Result<RangeMarks<bool>, AllocError>
     requires { places < 2 ^ 63 }
     ensures { IfOk result (λ marks. marks_len marks ≡ places) }

@@ -3,7 +3,7 @@ ghost use Rattle.std.specs.Prelude.{◌≡◌, ◌^◌, ◌<◌, ◌≤◌, leng
 use ones_sum::{fold, sum_more};
 use std::alloc::{AllocError, Global};
 
-/// So many octets, counted up from 0.
+/// Octets that are counted up from 0, so many.
 pub fn octets(alloc: Global, count: u32) -> Result<Vec<u8>, AllocError>
     ensures { IfOk result (λ octets. length octets.items ≡ count) }
 {

@@ -1,4 +1,9 @@
 -- What is done stands in front of what is still to be done.
+--
+-- A list that only loses its first element is an `ArrayVec` that stays, and the number of those that are done: the view
+-- is `drop done items`, and of four calls `pop` and `replace_first` have an answer of one line (`proofs/Done` of
+-- `path_agenda`). Parts are put together before the struct is made, since its value doesn't tell how much room those
+-- that are done take.
 use Rattle.std.proofs.Common.{◌≡◌, sym, ◌∙◌, ap, ℕ, ◌+◌, ◌<◌, length, drop, List}
 use Rattle.std.proofs.Math.ListN.{set}
 use Rattle.std.specs.List.{refill}

@@ -61,7 +61,7 @@ abbrev pub heard_and : Side → ℕ → ℕ → List Duty → List Duty
 heard_and s from zero ds = ds
 heard_and s from (suc count) ds = duties.Step (step_duties.Heard s from) ∷ heard_and s (from + 1) count ds
 
--- its acknowledgement, its payload, and what follows from them
+-- what a copy's acknowledgement and payload ask for, and what follows from them
 abbrev pub payload_came : Side → List Duty
 payload_came s =
     duties.Step (step_duties.PlainAck s) ∷ duties.Ask (ask_duties.SubflowAck s) ∷ duties.Ask (ask_duties.PlainData s)

@@ -25,13 +25,13 @@ templates s count reason id =
     start_of_turn ∷ rest_of_turn ∷ emission s ∷ syn_came s ∷ syn_ack_came s ∷ join_came s ∷ refuses s ∷ join_answered s ∷ copy_came s count ∷ syn_again s ∷ answers s
     ∷ answers_dead s ∷ expired s ∷ expired_for_ever s ∷ announces s id ∷ withdraws s id ∷ stops s ∷ leaves s ∷ breaks s reason ∷ resets s reason ∷ []
 
--- so it is with each of them
+-- every template ends once, whatever its side, count, reason and id
 abbrev pub EveryTemplateEnds : Type 0
 EveryTemplateEnds = (s : Side) (count reason id : ℕ) → list_all ends_once (templates s count reason id) ≡ true
 
 -- ---- what takes the place of a duty
 
--- it is less than the duty was
+-- what takes the place of a duty is less than the duty was
 pub record ChainsEnd (s : Side) (index reason : ℕ) : Type 0 where
   -- a break in the place of what a copy said, or of bytes, or of the end of the stream
   pub heard : weights (breaks s reason) < weights (duties.Step (step_duties.Heard s index) ∷ [])
@@ -76,6 +76,6 @@ pub record ChainsEnd (s : Side) (index reason : ℕ) : Type 0 where
   pub reset : weights (duties.Ask (ask_duties.Leave s) ∷ []) < weights (duties.Send (send_duties.Reset s) ∷ [])
   pub leave : weights (duties.Ask (ask_duties.Dead s) ∷ []) < weights (duties.Ask (ask_duties.Leave s) ∷ [])
 
--- at both sides, whatever the thing and the reason
+-- at both sides, whatever the thing and the reason, what takes the place of a duty is less than the duty was
 abbrev pub EveryChainEnds : Type 0
 EveryChainEnds = (s : Side) (index reason : ℕ) → ChainsEnd s index reason

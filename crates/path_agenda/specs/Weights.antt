@@ -62,7 +62,7 @@ weight (duties.Send (send_duties.Resend s)) = 0
 weight (duties.Silent d) = 0
 weight duties.End = 0
 
--- and each duty itself
+-- the weights of a list of duties, with one for each duty itself
 abbrev pub weights : List Duty → ℕ
 weights [] = 0
 weights (d ∷ ds) = 1 + (weight d + weights ds)

@@ -1,7 +1,7 @@
 -- Words on the lists of an agenda.
 use Rattle.std.specs.Prelude.{Option, Some, None, List, [], ◌∷◌}
 
--- another one in the place of the first
+-- the list with another first member
 abbrev pub replaced : {X : Type 0} → X → List X → List X
 replaced y [] = []
 replaced y (x ∷ xs) = y ∷ xs

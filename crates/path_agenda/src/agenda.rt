@@ -12,7 +12,7 @@ use std::marker::Model;
 #[derive(Drop)]
 pub struct Agenda {
     duties: ArrayVec<Duty, 72>,
-    /// So many of them, from the first on, are done.
+    /// How many of the duties are done, from the first on.
     done: usize,
 }
 
@@ -28,7 +28,7 @@ impl Model for Agenda {
 }
 
 impl Agenda {
-    /// These duties, in this order: at most 72. Takes no memory.
+    /// An agenda of these duties, in this order: at most 72. Takes no memory.
     pub fn of(duties: &[Duty]) -> Self
         requires { length duties.now ≤ 72 }
         ensures { result ≡ duties.now }
@@ -41,7 +41,8 @@ impl Agenda {
         }
     }
 
-    /// These duties in four parts, one behind the other, and then the rest of the turn: at most 70 in all before it. Takes no memory.
+    /// An agenda of duties in four parts, one behind the other, and then the rest of the turn: at most 70 in all before it. Takes
+    /// no memory.
     pub(crate) fn of_parts(first: &[Duty], second: &[Duty], third: &[Duty], fourth: &[Duty]) -> Self
         requires { length first.now + length second.now + length third.now + length fourth.now ≤
             70 }

@@ -70,7 +70,7 @@ pub enum AskDuty {
     // ---- the peer's fast close
     /// The peer closed the connection at once: tells the send book (RFC 8684, section 3.5).
     AbortSend(Side),
-    /// And the reassembly book.
+    /// The peer closed the connection at once: tells the reassembly book (RFC 8684, section 3.5).
     AbortReceive(Side),
     // ---- a line of the script
     /// The side is to announce the address of this id: tells it (RFC 8684, section 3.4.1).

@@ -9,7 +9,7 @@ pub enum Heard {
     /// A DSS came, whatever it says.
     #[default]
     Dss,
-    /// So many bytes of the hearer's stream have come in order, the DATA_FIN among them; so many octets more are taken.
+    /// How many bytes of the hearer's stream have come in order, the DATA_FIN among them, and how many octets more are taken.
     DataAck { next: u64, window: u32 },
     /// A mapping: the next one of those that the end holds. With `fin` its last number is the DATA_FIN's (section 3.3.3).
     Mapping { fin: bool },

@@ -13,7 +13,7 @@ use mptcp_options::JoinForm;
 /// The things that a copy says. There are at most 37 in forty octets of options: those of one REMOVE_ADDR, each id being one.
 pub type Items = ArrayVec<Heard, 37>;
 
-/// It says that a DSS came.
+/// Whether a thing says that a DSS came.
 fn is_dss(item: Heard) -> bool
     ensures { result ≡ is_dss item }
 {

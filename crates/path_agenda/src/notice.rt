@@ -5,7 +5,7 @@ use key_material::Address;
 /// What the peer notes.
 #[derive(Clone, Copy)]
 pub enum PeerNotice {
-    /// It announces this address under the id, perhaps with a port, and shows by this HMAC that it is the peer (ADD_ADDR,
+    /// The peer announces this address under the id, perhaps with a port, and shows by this HMAC that it is the peer (ADD_ADDR,
     /// section 3.4.1).
     AddAddr {
         id: u8,
@@ -13,11 +13,11 @@ pub enum PeerNotice {
         port: Option<u16>,
         hmac: u64,
     },
-    /// It echoes the announcement of this id (section 3.4.1).
+    /// The peer echoes the announcement of this id (section 3.4.1).
     AddEcho {
         id: u8,
     },
-    /// It takes the address of this id back (REMOVE_ADDR, section 3.4.2).
+    /// The peer takes the address of this id back (REMOVE_ADDR, section 3.4.2).
     Removed {
         id: u8,
     },
@@ -30,17 +30,17 @@ pub enum PeerNotice {
 /// What the own side notes.
 #[derive(Clone, Copy)]
 pub enum OwnNotice {
-    /// It announces its address 10.0.id.2, without a port (ADD_ADDR, section 3.4.1).
+    /// The side announces its address 10.0.id.2, without a port (ADD_ADDR, section 3.4.1).
     AddAddr {
         id: u8,
     },
-    /// It echoes an announcement, with the id, the address and the port of the copy that it answers (section 3.4.1).
+    /// The side echoes an announcement, with the id, the address and the port of the copy that it answers (section 3.4.1).
     AddEcho {
         id: u8,
         address: Address,
         port: Option<u16>,
     },
-    /// It takes the address of this id back (REMOVE_ADDR, section 3.4.2).
+    /// The side takes the address of this id back (REMOVE_ADDR, section 3.4.2).
     Removes {
         id: u8,
     },

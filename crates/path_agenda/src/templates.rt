@@ -50,7 +50,7 @@ impl Agenda {
         )
     }
 
-    /// These duties, 63 at most, and then what an end sends.
+    /// An agenda of these duties, 63 at most, and then what an end sends.
     fn before_emission(first: &[Duty], side: Side) -> Self
         requires { length first.now ≤ 63 }
         ensures { result ≡ first.now ++ emission side }
@@ -230,7 +230,7 @@ impl Agenda {
     }
 }
 
-/// So many things that a copy says, in their order.
+/// A duty for each of the things that a copy says, in their order.
 fn things_heard(side: Side, count: usize) -> ArrayVec<Duty, 37>
     requires { count ≤ 37 }
     ensures { result.items ≡ heard_and side 0 count [] }

@@ -1,4 +1,11 @@
 -- What is to be done after a verdict: the send book is told of a fall, a path is broken, or the duty is done.
+--
+-- What follows a verdict is one function of the reply (`fell_duties`), and `proofs/Fallen` (`after_a_verdict`) says
+-- what holds of each agenda that may follow. What a reply changes in an end stays apart (`after_fell`), so an end's
+-- other changes stand around it.
+--
+-- A mode in which options don't count empties the segment's list of options before anything reads it (`options_heard`),
+-- so no rule on options has a case for it.
 use Rattle.std.proofs.Common.{ℕ, Bool, true, false, List}
 use Rattle.sides.specs.declared.side.Side.{Side}
 use Rattle.fallback_state.specs.declared.fall.Mode.TheVariants.{Starting, Sure, Identity, InfiniteSend, InfiniteReceive, InfiniteBoth, Aborted}

@@ -1,4 +1,7 @@
 -- Things put one after the other.
+--
+-- What a silent duty needs room for is held before: each store's value has how much is ready, and the view of what is
+-- around it forgets that.
 use Rattle.std.proofs.Common.{◌≡◌, refl, ap, List, [], ◌∷◌, ◌++◌}
 use Rattle.path_agenda.specs.declared.heard.Heard.{Heard}
 

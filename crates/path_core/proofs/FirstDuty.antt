@@ -1,4 +1,13 @@
 -- What the first duty of an agenda comes to.
+--
+-- `PathState` and an end lend parts of themselves (`end_mut`, `specs/Lending.antt` of `path_core`), so that a rule's
+-- method on it is one to three lines and proves with no file. What holds between steps alone, as that the first duty
+-- comes to something, is the invariant of a second struct over it (`Path`), whose methods are whole steps; rules ask
+-- for it by `requires`. Of some 500 functions 42 have a file.
+--
+-- A condition of a lower call that no invariant gives belongs into the callee's clauses, into an invariant, or is made
+-- weaker below: each test that answers want of memory in its place had such a way out (a count that stands still, a
+-- bound that `hear` tells).
 use Rattle.std.proofs.Common.{◌≡◌, refl, sym, ap, subst, ◌∙◌, Bool, true, false, if◌then◌else◌, is_none, Some, None, List, [], ◌∷◌, drop}
 use Rattle.actor_desk.specs.Words.{tail_of}
 use Rattle.actor_desk.specs.declared.ask.Reply.{Reply}

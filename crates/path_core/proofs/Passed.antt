@@ -1,4 +1,8 @@
 -- Duties that are passed: the first two numbers don't rise, and the third falls.
+--
+-- What no end of ours sends is heard by one more field of an end, which laws of worlds say is `None`: bundled with
+-- another field of the invariant's record (`HoldsShow` with the mappings that are held), it passes through every rule
+-- that touches neither. A silent change that writes its `if`s inside the fields keeps all else by `refl`.
 use Rattle.std.proofs.Common.{◌≡◌, refl, ap, ◌<◌, ◌≤◌, ◌⊎◌, inl, inr, ◌||◌, Bool, true, false, if◌then◌else◌, List, [], ◌∷◌, arith}
 use Rattle.sides.specs.declared.side.Side.{Side}
 use Rattle.sides.specs.declared.side.Side.TheVariants.{A, B}

@@ -1,4 +1,8 @@
 -- Every segment that an end sends can be said.
+--
+-- One definition by cases on the kind of a segment (`said_by`) serves asking and sending; that it can be said is a
+-- lemma about the definition (`proofs/Sayable`), with what is lent, the window and the path's number as premises, which
+-- the code shows by reading them first.
 use Rattle.std.proofs.Common.{◌≡◌, refl, subst, ap, ℕ, ◌-◌, ◌^◌, ◌≤◌, Bool, true, false, not, ◌&&◌, if◌then◌else◌, Option, Some, None, is_some, List, [], ◌∷◌, ◌++◌, length, length-append, arith}
 use Rattle.std.proofs.lemmas.List.{append-nil}
 use Rattle.std.proofs.lemmas.List.Elements.{All-nil, All-cons}

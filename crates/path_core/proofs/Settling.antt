@@ -1,4 +1,7 @@
 -- Passing a duty looks at nothing of the agenda.
+--
+-- The loop of `settle`: the invariant `settles_down l.self ≡ settles_down l.fn.self` and the measure `length
+-- l.self.agenda`; passing looks at nothing of the agenda (`proofs/Settling` of `path_core`, one `refl` a duty).
 use Rattle.std.proofs.Common.{◌≡◌, refl, ap, ◌∙◌, Bool, if◌then◌else◌, List, [], ◌∷◌}
 use Rattle.path_agenda.specs.declared.duty.Duty.{Duty}
 use Rattle.path_agenda.specs.declared.duty.Duty.TheVariants as duties

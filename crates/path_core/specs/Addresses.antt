@@ -59,7 +59,7 @@ notice_call path (notes.AddEcho id) = control_calls.Echoed id
 notice_call path (notes.Removed id) = control_calls.Removed id
 notice_call path (notes.Prio backup) = control_calls.Backup path backup
 
--- it is told to the side
+-- what the peer noted on this path is told to the side
 abbrev pub notice_ask : {C : Type 0} → Side → PeerNotice → PathState C → Ask
 notice_ask s notice p = asks.Control s (notice_call (path_of p) notice)
 

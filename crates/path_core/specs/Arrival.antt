@@ -88,8 +88,8 @@ abbrev pub outgoing_reset : ResetNumbers ℕ → Outgoing
 outgoing_reset reset =
     record { position = reset.at; acknowledged = reset.acknowledged; syn = false; fin = false; rst = true; length = 0 }
 
--- it stands at what the copy acknowledges; without that at number 0, and acknowledges all that the copy occupies
--- (RFC 9293, section 3.10.7.1)
+-- the reset that answers a copy stands at what the copy acknowledges; without that at number 0, and acknowledges all
+-- that the copy occupies (RFC 9293, section 3.10.7.1)
 abbrev pub reset_by : Profile → Side → Option HeardPosition → HeardPosition → ℕ → Outgoing
 reset_by c s acknowledged position occupied =
     outgoing_reset (reset_numbers (position_numbered c s 0) (λ first n. first + n) (option_map (position_meant c s) acknowledged)
@@ -110,12 +110,12 @@ abbrev pub asked_in : Meaning → List HeardOption → Modes → Modes
 asked_in means.Opens options m = record m { capable_asked = list_any asks_capable options }
 asked_in _ options m = m
 
--- its payload is held where it is taken
+-- a copy's payload is held where the copy is taken
 abbrev pub with_payload : Meaning → List ℕ → EndState → EndState
 with_payload (means.Taken position acknowledged) octets tcp = if is_nil octets then tcp else after_holding position octets tcp
 with_payload meaning octets tcp = tcp
 
--- so are its mappings
+-- a copy's payload is held where the copy is taken, and the mappings that it told
 abbrev pub with_held : List KeptMapping → HeardSegment → Meaning → PathEnd → PathEnd
 with_held told h meaning e = record e {
   tcp = with_payload meaning h.payload e.tcp;
@@ -164,11 +164,11 @@ abbrev pub after_judged : Profile → Side → ℕ → HeardSegment → Judged �
 after_judged c s now h verdict e =
     copy_judged (is_joined c) (held_of c s h) (reset_for c s h) s now h (taken_as verdict) e
 
--- the same, where the end itself judges the copy
+-- the end after a copy that it judges itself, with the mappings and the answer of that copy
 abbrev pub segment_heard : Bool → List KeptMapping → Outgoing → Side → ℕ → HeardSegment → PathEnd → PathEnd
 segment_heard joined told answer s now h e = copy_judged joined told answer s now h (taken_as (judged_in joined s h e)) e
 
--- and what is to be done then
+-- what is to be done after a copy, by what it means
 abbrev pub template_by : Bool → Side → ℕ → Meaning → List Duty
 template_by joined s count means.Ignored = emission s
 template_by joined s count means.Unwanted = answers_dead s

@@ -36,11 +36,11 @@ reset_on k s reason ds p = sent_on k s (reset_of s reason p) (died (end_at s p))
 
 -- ---- a break
 
--- its first step: where bytes or an end were told, what is to be acknowledged is asked once more
+-- a break's first step asks once more what is to be acknowledged, where bytes or an end were told, or else resets
 abbrev pub break_ask : {C : Type 0} → Codec C → Side → ℕ → PathState C → Ask
 break_ask k s reason p = if (end_at s p).treated.asked then ack_out_ask s else sends k s (reset_of s (Some reason) p) p
 
--- then the end is reset; where nothing was told, it was reset at once and gives back what it holds
+-- after a break's first step the end is reset; where nothing was told it was at once, and gives back what it holds
 abbrev pub answered_break : {C : Type 0} → Codec C → Side → ℕ → Reply → PathState C → PathState C
 answered_break k s reason r p =
     if (end_at s p).treated.asked then answered_ack_out s r (resets s reason) p

@@ -42,7 +42,7 @@ is_data_fin_news fin v = fin && (v.fin_sent && not v.close.own_acked)
 abbrev pub is_news : ℕ → Bool → Sending → Bool
 is_news next fin v = list_any (is_newly_heard v.heard next) v.granted || is_data_fin_news fin v
 
--- so many bytes of the stream are acknowledged, the DATA_FIN among them or not
+-- bytes of the stream up to this place are acknowledged, with the DATA_FIN or without
 abbrev pub after_acked : ℕ → Bool → Sending → Sending
 after_acked next fin v = record v {
   heard = max v.heard next;
@@ -122,7 +122,7 @@ acked_in next _ v = v
 abbrev pub data_fin_segment : {C : Type 0} → Side → PathState C → PlainSegment
 data_fin_segment s p = ack_said p.profile s (end_at s p).tcp.send.nxt (end_at s p).sending.known_end (end_at s p)
 
--- and from now on DATA_FIN counts as sent
+-- the acknowledgement that carries the DATA_FIN is sent, and from now on the DATA_FIN counts as sent
 abbrev pub having_sent_data_fin : {C : Type 0} → Side → PathState C → PathEnd
 having_sent_data_fin s p =
     let e = having_sent to_send.Ack p.clock (data_fin_segment s p) (end_at s p) in record e { sending = with_data_fin_sent e.sending }
@@ -177,7 +177,7 @@ abbrev pub place_passed : Modes → Option ℕ → ℕ → Option ℕ
 place_passed m None edge = None
 place_passed m (Some position) edge = if nat_lt position edge then fin_place m position else None
 
--- it is told once, also where it was passed before
+-- the end of the stream that a passed FIN stands for, where it wasn't told yet
 abbrev pub plain_fin : PathEnd → Option ℕ
 plain_fin e = if e.receiving.fin_told then None else place_passed e.modes e.tcp.fin_at e.tcp.recv.edge
 

@@ -34,7 +34,7 @@ use Rattle.path_core.specs.Choices.{is_side_a}
 abbrev pub piece_in : KeptMapping → EndState → Piece
 piece_in kept s = named_piece kept s.recv.edge (filled s.recv.places)
 
--- so many octets from the edge on, the first of which has this place
+-- the octets that were found in order from the edge on, as a piece at the place of the first one
 abbrev pub piece_from : InOrder → EndState → Piece
 piece_from found s = piece_of_order found (filled s.recv.places)
 
@@ -42,7 +42,7 @@ piece_from found s = piece_of_order found (filled s.recv.places)
 abbrev pub is_whole : KeptMapping → EndState → Bool
 is_whole kept s = is_there kept s.recv.edge (length (filled s.recv.places))
 
--- and the checksum is that of its octets
+-- with checksums: the mapping's checksum is that of its octets
 abbrev pub is_right : KeptMapping → EndState → Bool
 is_right kept s = has_its_sum kept (filled s.recv.places)
 
@@ -105,7 +105,7 @@ abbrev pub failing_by : Bool → Option KeptMapping → EndState → Option Kept
 failing_by checksums None s = None
 failing_by checksums (Some kept) s = if is_wrong checksums kept s then Some kept else None
 
--- the same, of what the end has at its edge
+-- the mapping at the end's edge, where its octets are all there and aren't those that it was made for
 abbrev pub failing_mapping : Profile → PathEnd → Option KeptMapping
 failing_mapping c e = failing_by c.spelling.checksums (mapping_here e) e.tcp
 
@@ -115,7 +115,7 @@ forgotten_by checksums None e = e
 forgotten_by checksums (Some kept) e =
     if is_wrong checksums kept e.tcp then record e { tcp = record e.tcp { recv = after_forget_from kept.pos e.tcp.recv } } else e
 
--- so it is where the check fails at the edge; else nothing changes
+-- where the check fails at the edge, every octet from the mapping on is forgotten; else nothing changes
 abbrev pub after_check : Profile → PathEnd → PathEnd
 after_check c e = forgotten_by c.spelling.checksums (mapping_here e) e
 
@@ -150,7 +150,7 @@ abbrev pub fins_and : Option ℕ → List ℕ → List ℕ
 fins_and None fins = fins
 fins_and (Some place) fins = if nat_lt (length fins) 3 then fins ++ place ∷ [] else fins
 
--- it is told next, and waits no more
+-- the DATA_FIN that the edge reached is told next, and waits no more
 abbrev pub with_data_fin_reached : PathEnd → PathEnd
 with_data_fin_reached e = record e {
   receiving = record e.receiving {

@@ -57,7 +57,7 @@ checksum_heard checksum = unwrap_or checksum 0
 abbrev pub is_mapping : ℕ → ℕ → ℕ → Bool
 is_mapping place position count = nat_lt 0 position && nat_le (place + count) (2 ^ 62)
 
--- such a mapping says that it is there, and whether a DATA_FIN stands behind its bytes; any other says nothing
+-- a mapping of bytes says that it is there, and whether a DATA_FIN stands behind them; any other says nothing
 abbrev pub mapping_items : ℕ → ℕ → ℕ → Bool → List Heard
 mapping_items place position count fin = if is_mapping place position count then says.Mapping fin ∷ [] else []
 

@@ -70,7 +70,7 @@ abbrev pub infinite_options : InfiniteMapping → PathEnd → List PlainOption
 infinite_options mapping e =
     Dss (Some e.receiving.next) (if owes_mapping e then Some (Infinite mapping.place mapping.position) else None) ∷ []
 
--- those, or else the options that an end has without such a mapping
+-- the options with the infinite mapping, or else those that an end has without one
 abbrev pub infinite_or : Option InfiniteMapping → List PlainOption → PathEnd → List PlainOption
 infinite_or None options e = options
 infinite_or (Some mapping) options e = infinite_options mapping e
@@ -85,7 +85,7 @@ abbrev pub fail_options : Option ℕ → List PlainOption
 fail_options None = []
 fail_options (Some place) = Fail place ∷ []
 
--- it is told by each acknowledgement that has no DATA_FIN, until the peer's infinite mapping came
+-- a failed check is told by each acknowledgement that has no DATA_FIN, until the peer's infinite mapping came
 abbrev pub fail_beside : Option ℕ → Modes → List PlainOption
 fail_beside (Some fin) m = []
 fail_beside None m = fail_options (if receives_infinite m.mode then None else m.failed_mapping)

@@ -155,45 +155,13 @@ ask_for k duties.End p = asks.Local steps.End
 
 abbrev pub passed : {C : Type 0} → Duty → PathState C → PathState C
 passed (duties.Ask (ask_duties.CheckFailed s)) p = with_end s (after_check p.profile (end_at s p)) p
-passed (duties.Ask ask_duties.JoinAgain) p = p
-passed (duties.Ask (ask_duties.Window s)) p = p
-passed (duties.Ask (ask_duties.SynHeard s)) p = p
-passed (duties.Ask (ask_duties.SynAnswered s)) p = p
-passed (duties.Ask (ask_duties.PlainHandshake s)) p = p
-passed (duties.Ask (ask_duties.PeerKey s)) p = p
-passed (duties.Ask (ask_duties.JoinHeard s)) p = p
-passed (duties.Ask (ask_duties.Opened s)) p = p
-passed (duties.Ask (ask_duties.Live s)) p = p
-passed (duties.Ask (ask_duties.AckHeard s)) p = p
-passed (duties.Ask (ask_duties.FailHeard s)) p = p
-passed (duties.Ask (ask_duties.SubflowAck s)) p = p
-passed (duties.Ask (ask_duties.PlainData s)) p = p
-passed (duties.Ask (ask_duties.GoIdentity s)) p = p
-passed (duties.Ask (ask_duties.Edge s)) p = p
-passed (duties.Ask (ask_duties.HeardFin s index)) p = p
-passed (duties.Ask (ask_duties.SubflowFin s)) p = p
-passed (duties.Ask (ask_duties.AckOut s)) p = p
-passed (duties.Ask (ask_duties.Rate s)) p = p
-passed (duties.Ask (ask_duties.Return s)) p = p
-passed (duties.Ask (ask_duties.AbortSend s)) p = p
-passed (duties.Ask (ask_duties.AbortReceive s)) p = p
-passed (duties.Ask (ask_duties.Announce s id)) p = p
-passed (duties.Ask (ask_duties.Withdraw s id)) p = p
-passed (duties.Ask (ask_duties.LeaveNoted s)) p = p
-passed (duties.Ask (ask_duties.BreakAck s reason)) p = p
-passed (duties.Ask (ask_duties.Leave s)) p = p
-passed (duties.Ask (ask_duties.Dead s)) p = p
 passed (duties.Step (step_duties.Heard s index)) p = with_end s (item_passed s (item_of index (end_at s p)) (end_at s p)) p
 passed (duties.Step (step_duties.PlainAck s)) p = with_end s (with_plain_ack (end_at s p)) p
 passed (duties.Step (step_duties.Unmapped s)) p = with_end s (after_pieces (end_at s p)) p
-passed (duties.Step (step_duties.Look s)) p = p
-passed (duties.Step (step_duties.Data s)) p = p
-passed (duties.Step step_duties.Events) p = p
-passed (duties.Send d) p = p
 passed (duties.Silent (silent_duties.Timer s)) p = with_end s (after_timer p.clock (end_at s p)) p
 passed (duties.Silent (silent_duties.Keep s)) p = with_end s (after_keep s (end_at s p)) p
 passed (duties.Silent (silent_duties.PassFin s)) p = with_end s (after_pass_fin (end_at s p)) p
-passed duties.End p = p
+passed d p = p
 
 -- ---- what its reply makes of the path
 

@@ -39,7 +39,7 @@ use Rattle.path_core.specs.Sending.{Sending}
 abbrev pub first_unsent : PathEnd → Option Record
 first_unsent e = find is_unsent e.tcp.send.records
 
--- that record's segment; an acknowledgement where there is none
+-- the segment of the first record that is to be sent; an acknowledgement where there is none
 abbrev pub unsent_segment : {C : Type 0} → Side → PathState C → PlainSegment
 unsent_segment s p = record_or_ack p.profile s (first_unsent (end_at s p)) (end_at s p)
 
@@ -134,7 +134,7 @@ answered_syn k s p = sent_on k s (unsent_segment s p) (having_sent_unsent s p) (
 abbrev pub first_record : PathEnd → Option Record
 first_record e = slice_get e.tcp.send.records 0
 
--- that record's segment; an acknowledgement where there is none
+-- the segment of the first record that isn't acknowledged; an acknowledgement where there is none
 abbrev pub first_segment : {C : Type 0} → Side → PathState C → PlainSegment
 first_segment s p = record_or_ack p.profile s (first_record (end_at s p)) (end_at s p)
 
@@ -162,7 +162,7 @@ abbrev pub outgoing_or : Option Outgoing → Outgoing → Outgoing
 outgoing_or (Some outgoing) other = outgoing
 outgoing_or None other = other
 
--- it has no option
+-- the reset, without options, that a dead end sends for a copy
 abbrev pub dead_answer : {C : Type 0} → Side → PathState C → PlainSegment
 dead_answer s p = let e = end_at s p in segment_of p.profile (outgoing_or e.treated.answer (reset_segment e.tcp)) [] [] e
 

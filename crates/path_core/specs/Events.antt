@@ -80,14 +80,14 @@ abbrev pub step_for : ℕ → Option Event → Ask
 step_for path None = asks.Local steps.End
 step_for path (Some event) = step_of path event
 
--- it comes before the round's end, and is there: a copy is under way, and a timer runs
+-- an event comes before the round's end, and is there: a copy is under way, and a timer runs
 abbrev pub CanHappen : {C : Type 0} → Event → PathState C → Type 0
 CanHappen (happenings.Joins tick) p = tick < p.until
 CanHappen (happenings.Takes line) p = line.tick < p.until
 CanHappen (happenings.Arrives due) p = (due.tick < p.until) × IsSome (arriving due p.link)
 CanHappen (happenings.Fires s tick) p = (tick < p.until) × IsSome (end_at s p).tcp.timing.timer
 
--- it is dead, or never heard anything
+-- the end is dead, or never heard anything
 abbrev pub is_dead_or_listening : EndPhase → Bool
 is_dead_or_listening phase.Listen = true
 is_dead_or_listening phase.Dead = true

@@ -66,7 +66,7 @@ abbrev pub after_steps : {C : Type 0} → Codec C → ℕ → PathRun C → Path
 after_steps k zero w = w
 after_steps k (suc n) w = after_steps k n (path_step k (asks_of k w.path) w)
 
--- so many of its steps
+-- a number of the path's steps, the first one first
 abbrev pub steps_made : {C : Type 0} → Codec C → ℕ → PathRun C → List Step
 steps_made k zero w = []
 steps_made k (suc n) w = step_told (asks_of k w.path) w.books (steps_made k n (path_step k (asks_of k w.path) w))

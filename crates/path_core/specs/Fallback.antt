@@ -96,17 +96,17 @@ answered_identity s p = goes_on s (in_identity (end_at s p)) (left p) p
 
 -- ---- an acknowledgement without a Data ACK
 
--- it acknowledges data for the first time and has no Data ACK, though the side sends with mappings of pieces
+-- the copy acknowledges data for the first time and has no Data ACK, though the side sends with mappings of pieces
 abbrev pub lacks_data_ack : PathEnd → Bool
 lacks_data_ack e = e.treated.plain_ack && not (sends_plainly e.modes)
 
--- It breaks a path that joined, as long as no Data ACK covered something on it. The third without a Data ACK between them breaks
--- the path of a side that is sure.
+-- An acknowledgement without a Data ACK breaks a path that joined, as long as no Data ACK covered something on it.
+-- The third one without a Data ACK between them breaks the path of a side that is sure.
 abbrev pub breaks_by_ack : Profile → PathEnd → Bool
 breaks_by_ack c e =
     lacks_data_ack e && ((is_joined c && not e.modes.covered) || (is_sure e.modes.mode && nat_le 2 e.modes.plain_acks))
 
--- else it is told, as long as the side isn't sure
+-- an acknowledgement without a Data ACK breaks the path, or is told, as long as the side isn't sure
 abbrev pub plain_ack_stands : Profile → PathEnd → Bool
 plain_ack_stands c e = breaks_by_ack c e || (lacks_data_ack e && is_starting e.modes.mode)
 
@@ -114,7 +114,7 @@ plain_ack_stands c e = breaks_by_ack c e || (lacks_data_ack e && is_starting e.m
 abbrev pub plain_ack_ask : {C : Type 0} → Codec C → Side → PathState C → Ask
 plain_ack_ask k s p = if breaks_by_ack p.profile (end_at s p) then break_ask k s 6 p else fell_ask s events.PlainAck p
 
--- and counts
+-- an acknowledgement of data without a Data ACK counts
 abbrev pub with_plain_ack : PathEnd → PathEnd
 with_plain_ack e =
     record e { modes = record e.modes { plain_acks = (if lacks_data_ack e then one_more e.modes.plain_acks else e.modes.plain_acks) } }
@@ -126,11 +126,11 @@ answered_plain_ack k s r p =
 
 -- ---- an acknowledgement where the side sends without mappings
 
--- it stands for a Data ACK of all before its position (RFC 8684, section 3.7)
+-- an acknowledgement stands for a Data ACK of all before its position (RFC 8684, section 3.7)
 abbrev pub plain_next : PathEnd → Option ℕ
 plain_next e = bytes_acknowledged e.modes e.treated.acknowledged
 
--- it is told, unless a Data ACK of the same copy was
+-- the subflow's acknowledgement is told as a Data ACK, unless one of the same copy was
 abbrev pub subflow_ack_stands : PathEnd → Bool
 subflow_ack_stands e = is_some (plain_next e) && not e.treated.data_ack_taken
 
@@ -205,7 +205,7 @@ abbrev pub infinite_in : Reply → PathEnd → Option InfiniteMapping
 infinite_in (replies.Send (send_replies.Infinite from)) e = Some (infinite_from from e)
 infinite_in _ e = None
 
--- it is kept until the verdict comes
+-- the infinite mapping is kept until the verdict comes
 abbrev pub with_infinite : Reply → PathEnd → PathEnd
 with_infinite r e = record e { treated = record e.treated { infinite_mapping = infinite_in r e } }
 

@@ -35,25 +35,25 @@ is_silent phase.Waiting = true
 is_silent phase.Listen = true
 is_silent _ = false
 
--- it dies without one
+-- an end that is to be reset and never sent a segment dies without one
 abbrev pub leaves_silently : PathEnd → Bool
 leaves_silently e = is_silent e.tcp.state && e.notices.reset
 
--- any other sends its reset first
+-- an end that is to be reset and takes segments sends its reset first
 abbrev pub resets_noted : PathEnd → Bool
 resets_noted e = not (is_closed_to_segments e.tcp.state) && e.notices.reset
 
--- what it holds was given back, and the control book is told next
+-- what the end held was given back: it is dead, and the control book is told next
 abbrev pub answered_leave_noted : {C : Type 0} → Side → PathState C → PathState C
 answered_leave_noted s p = goes_on s (died (end_at s p)) (replaced (duties.Ask (ask_duties.Dead s)) p.agenda) p
 
 -- ---- MP_FASTCLOSE goes out
 
--- it was never sent, both SYNs are acknowledged, and the end may send a DSS, or fell back
+-- MP_FASTCLOSE was never sent, both SYNs are acknowledged, and the end may send a DSS, or fell back
 abbrev pub is_fast_close_due : PathEnd → Bool
 is_fast_close_due e = is_connected e.tcp.state && (is_carried e.notices && (e.modes.clear || e.modes.identity))
 
--- with the key that the end carries
+-- MP_FASTCLOSE with the key that the end carries
 abbrev pub fast_close_of : {C : Type 0} → Side → PathState C → PlainSegment
 fast_close_of s p = carried_said p.profile s (end_at s p).notices.carrier (end_at s p)
 
@@ -77,7 +77,7 @@ abbrev pub is_stopped_by : Reply → Bool
 is_stopped_by (replies.Control control_replies.Stopped) = true
 is_stopped_by _ = false
 
--- then both books are told, and the end is reset; another key is passed over
+-- by the side's own key both books are told, and the end is reset; another key is passed over
 abbrev pub answered_fast_heard : {C : Type 0} → Side → Reply → PathState C → PathState C
 answered_fast_heard s r p = with_agenda (if is_stopped_by r then stops s else left p) p
 

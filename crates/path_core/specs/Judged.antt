@@ -26,7 +26,7 @@ is_passed_over rst items e = is_half_open e.tcp.state && (not rst && is_none (th
 abbrev pub is_forged : List Heard → PathEnd → Bool
 is_forged items e = is_half_open e.tcp.state && not (is_third_right items e.modes)
 
--- it is what it means to the subflow, or ignored
+-- the copy is what it means to the subflow, or ignored where it is passed over
 abbrev pub unless_passed_over : Bool → List Heard → Meaning → PathEnd → Judged
 unless_passed_over rst items meaning e = if is_passed_over rst items e then judged.As means.Ignored else judged.As meaning
 

@@ -102,7 +102,7 @@ module _ {C : Type 0} where
   abbrev pub ack_sends : Side → PathState C → Option ToSend
   ack_sends s p = if breaks_by_ack p.profile (end_at s p) then broken_by s 6 p else None
 
-  -- which segment a duty sends that sends, asks or takes an event, as the path stands
+  -- the segment that a duty sends that sends, asks or takes an event, as the path stands
   abbrev pub step_sends : StepDuty → PathState C → Option ToSend
   step_sends (steps_of.Data s) p = unsent_sends s (first_unsent (end_at s p))
   step_sends (steps_of.Heard s index) p = heard_sends s (item_of index (end_at s p)) p
@@ -110,7 +110,7 @@ module _ {C : Type 0} where
   step_sends (steps_of.Unmapped s) p = broken_by s 6 p
   step_sends _ p = None
 
-  -- which segment a duty sends, if it sends one
+  -- the segment that a duty sends, if it sends one
   abbrev pub duty_sends : Duty → PathState C → Option ToSend
   duty_sends (duties.Send d) p = send_of d
   duty_sends (duties.Step d) p = step_sends d p
@@ -137,11 +137,11 @@ departing p = option_map (departing_as p) (first_sends p.agenda p)
 abbrev pub step_told : Departing → Ask
 step_told d = asks.Local (steps.Sent d.from d.number (length (drop (header_len d.octets) d.octets)) (number_at w16 d.octets 16))
 
--- its octets are a segment of its side on the path of this number
+-- a departing segment's octets are a segment of its side on the path of this number
 abbrev pub IsSegmentOn : ℕ → Departing → Type 0
 IsSegmentOn path d = IsOk (segment_meaning (addresses_from path d.from) d.octets)
 
--- that it tells it
+-- the path's next step is the one that tells the segment that departs, if one does
 abbrev pub IsTold : Option Departing → PathState (List ℕ) → Type 0
 IsTold d p = IfSome d (λ d. asks_of octets p ≡ Some (step_told d))
 
@@ -191,7 +191,7 @@ abbrev pub copy_arriving : Option Event → PathState (List ℕ) → Option Arri
 copy_arriving (Some (happenings.Arrives due)) p = arrived due p
 copy_arriving _ p = None
 
--- only where the duty of events stands first
+-- the copy that arrives next, only where the duty of events stands first
 abbrev pub first_arrival : List Duty → PathState (List ℕ) → Option Arrived
 first_arrival (duties.Step steps_of.Events ∷ ds) p = copy_arriving (next_event p) p
 first_arrival _ p = None
@@ -203,7 +203,7 @@ next_arrival p = first_arrival p.agenda p
 -- ---- the tick of the next step
 
 module _ {C : Type 0} where
-  -- that of an event, where there is one, and never one that is past
+  -- the tick of an event, never one that is past; the path's clock where there is none
   abbrev pub tick_with : Option Event → PathState C → ℕ
   tick_with None p = p.clock
   tick_with (Some event) p = max p.clock (tick_of event)

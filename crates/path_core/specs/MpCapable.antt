@@ -88,7 +88,7 @@ after_keys r keys e = record e { modes = keys_in r keys e.modes; treated = recor
 abbrev pub is_opened_by_keys : PathEnd → Bool
 is_opened_by_keys e = e.treated.opened && is_some (keys_heard e.treated.items)
 
--- by one without any option, as long as neither Multipath TCP nor plain TCP is settled
+-- the end left SynReceived by a copy without any option, while neither Multipath TCP nor plain TCP is settled
 abbrev pub is_opened_plainly : PathEnd → Bool
 is_opened_plainly e = e.treated.opened && (not e.treated.has_option && is_starting e.modes.mode)
 

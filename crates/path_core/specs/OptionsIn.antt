@@ -58,7 +58,7 @@ abbrev pub has_data_ack : HeardOption → Bool
 has_data_ack (Dss (Some next) mapping) = true
 has_data_ack _ = false
 
--- so many octets of data are acknowledged for the first time; what opens an end acknowledges its SYN alone
+-- the octets that a copy acknowledges for the first time; one that opens an end acknowledges the end's SYN alone
 abbrev pub octets_acked : Arrival → ℕ
 octets_acked (Took (New octets) new fin) = octets
 octets_acked _ = 0
@@ -72,7 +72,7 @@ abbrev pub owes_by : Meaning → List Heard → Bool
 owes_by (means.Taken position acknowledged) items = list_any wants_ack items
 owes_by _ items = false
 
--- it establishes the end
+-- the copy establishes the end
 abbrev pub opens_by : Meaning → EndPhase → Bool
 opens_by (means.Taken position acknowledged) state = is_half_open state
 opens_by (means.Accepts acknowledged) state = true

@@ -42,7 +42,7 @@ due_by_now p =
 abbrev pub held : PathEnd → ℕ
 held e = length (filled e.tcp.recv.places)
 
--- at both ends
+-- octets in order that the edges of both ends haven't passed yet
 abbrev pub bytes_left : {C : Type 0} → PathState C → ℕ
 bytes_left p = held p.a + held p.b
 
@@ -67,6 +67,6 @@ abbrev pub work : PathEnd → ℕ
 work e =
     2 * (e.tcp.congestion.reno.window - outstanding e.tcp.send.una e.tcp.send.records) + unsent_count e.tcp.send.records + notes_left e.notices
 
--- at both ends
+-- what both ends may still send and note
 abbrev pub sendings_left : {C : Type 0} → PathState C → ℕ
 sendings_left p = work p.a + work p.b

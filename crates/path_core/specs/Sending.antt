@@ -17,7 +17,7 @@ pub record Sending : Type 0 where
   pub heard : ℕ
   -- the pieces that were granted to this end and aren't below all that it heard, by position and places
   pub granted : List GrantedPiece
-  -- one of them, or the DATA_FIN, was acknowledged since the timer was settled last
+  -- a granted piece, or the DATA_FIN, was acknowledged since the timer was settled last
   pub news : Bool
 
 -- nothing was granted, sent or acknowledged yet

@@ -32,7 +32,7 @@ octets_of spelling carried =
     let whole = made spelling carried.from carried.segment in
     if carried.stripped then octets_stripped spelling.path carried.from whole else whole
 
--- the same path, the copies on its link as octets
+-- the path with the copies on its link as octets
 abbrev pub shown_path : PathState Carried → PathState (List ℕ)
 shown_path p = record {
   profile = p.profile;
@@ -87,11 +87,11 @@ SentCanBeAltered p = IfSome (first_sends p.agenda p) (CanBeAltered p)
 abbrev pub AsksTheSame : Type 0
 AsksTheSame = (p : PathState Carried) → asks_of octets (shown_path p) ≡ asks_of values p
 
--- and it takes each reply as that one does, shown over octets
+-- a path over octets takes each reply as the path over values does, shown over octets
 abbrev pub TakesTheSame : Type 0
 TakesTheSame = (r : Reply) (p : PathState Carried) → SentCanBeAltered p → NextIsFresh p
     → takes octets r (shown_path p) ≡ shown_path (takes values r p)
 
--- and a round begins with both alike
+-- a round begins with the path over octets and the path over values alike
 abbrev pub BeginsTheSame : Type 0
 BeginsTheSame = (p : PathState Carried) → next_round (shown_path p) ≡ shown_path (next_round p)

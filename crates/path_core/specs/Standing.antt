@@ -80,11 +80,11 @@ abbrev pub window_in : Reply → Receiving → Receiving
 window_in (replies.Reassembly (reassembly_replies.Ack next window)) v = record v { next = next; window = window }
 window_in _ v = v
 
--- it was told what is to be acknowledged, so nothing is left to be asked
+-- the end was told what is to be acknowledged, and nothing of that is left to be asked
 abbrev pub after_ack_out : Reply → PathEnd → PathEnd
 after_ack_out r e = record e { receiving = window_in r e.receiving; treated = record e.treated { asked = false } }
 
--- and then these are to be done
+-- the end was told what is to be acknowledged, and these duties come next
 abbrev pub answered_ack_out : {C : Type 0} → Side → Reply → List Duty → PathState C → PathState C
 answered_ack_out s r ds p = goes_on s (after_ack_out r (end_at s p)) ds p
 

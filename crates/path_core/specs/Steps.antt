@@ -28,7 +28,7 @@ abbrev pub asks_first : {C : Type 0} → Codec C → List Duty → PathState C �
 asks_first k [] p = None
 asks_first k (d ∷ ds) p = Some (ask_for k d p)
 
--- what it asks: nothing where its turn ended
+-- what the path asks: nothing where its turn ended
 abbrev pub asks_of : {C : Type 0} → Codec C → PathState C → Option Ask
 asks_of k p = asks_first k p.agenda p
 

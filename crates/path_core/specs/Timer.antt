@@ -12,7 +12,7 @@ use Rattle.path_core.specs.State.{PathState, end_at, goes_on}
 
 -- ---- when it runs
 
--- it is settled by the reasons of the subflow and of the streams, by the third MP_JOIN, and by the fast close
+-- the timer is settled by the reasons of the subflow and of the streams, by the third MP_JOIN, and by the fast close
 abbrev pub after_timer : ℕ → PathEnd → PathEnd
 after_timer now e = record e {
   tcp = after_settling (is_waiting e || (e.modes.owes_third || e.notices.fast_closed)) e.sending.news now e.tcp;

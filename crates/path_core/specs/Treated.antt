@@ -11,9 +11,9 @@ pub record Treated : Type 0 where
   pub items : List Heard
   -- the end became established by it
   pub opened : Bool
-  -- its keys were told already
+  -- the copy's keys were told already
   pub keys_told : Bool
-  -- it has an option of Multipath TCP
+  -- the copy has an option of Multipath TCP
   pub has_option : Bool
   -- the ends of the stream that are to be told: those of its DATA_FINs, and of one that the edge reached
   pub fins : List ℕ
@@ -23,11 +23,11 @@ pub record Treated : Type 0 where
   pub answer : Option Outgoing
   -- the window that it told
   pub window : ℕ
-  -- it acknowledges data for the first time, and has no Data ACK
+  -- the copy acknowledges data for the first time, and has no Data ACK
   pub plain_ack : Bool
   -- the position that it acknowledges
   pub acknowledged : ℕ
-  -- its Data ACK was told to the send book
+  -- the copy's Data ACK was told to the send book
   pub data_ack_taken : Bool
   -- the receive edge at its arrival, where its payload has the octet there and isn't dropped
   pub held_edge : Option ℕ

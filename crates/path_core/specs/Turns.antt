@@ -1,4 +1,4 @@
--- That a turn ends, whatever it is answered.
+-- A turn ends, whatever it is answered.
 use Rattle.std.specs.Prelude.{◌≡◌, ◌≤◌, true, Some, List, [], ◌∷◌}
 use Rattle.actor_desk.specs.declared.ask.Ask.{Ask}
 use Rattle.actor_desk.specs.declared.ask.Reply.{Reply}
@@ -34,6 +34,6 @@ pub record TakesTime {C : Type 0} (p : PathState C) : Type 0 where
 abbrev pub EveryTurnEnds : {C : Type 0} → Codec C → Type 0
 EveryTurnEnds {C} k = (p : PathState C) → TakesTime p → IsSettled p → Ends k p
 
--- so does each turn that a round begins
+-- Each turn that a round begins ends, whatever replies of the asked kind come.
 abbrev pub EveryRoundEnds : {C : Type 0} → Codec C → Type 0
 EveryRoundEnds {C} k = (p : PathState C) → TakesTime p → Ends k (next_round p)

@@ -16,7 +16,7 @@ pub record Carried : Type 0 where
   pub segment : PlainSegment
   pub stripped : Bool
 
--- as it leaves the side
+-- a segment as it leaves the side
 abbrev pub carried_by : Spelling → Side → PlainSegment → Carried
 carried_by spelling s segment = record { from = s; segment = segment; stripped = false }
 

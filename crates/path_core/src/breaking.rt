@@ -73,7 +73,7 @@ impl PathState {
         )
     }
 
-    /// It is told that the end is dead.
+    /// The control book is told that the end is dead.
     pub(crate) fn dead_ask(&self, side: Side) -> Ask
         ensures value { result ≡ dead_ask side self.now }
         ensures able { CanBeAsked result }
@@ -127,7 +127,8 @@ impl PathState {
         )
     }
 
-    /// That step is made. At an error all is as it was.
+    /// The first step of a break is made: the reply tells what is to be acknowledged, or the reset was sent. At an error all is as
+    /// it was.
     pub(crate) fn answer_break(
         &mut self,
         side: Side,

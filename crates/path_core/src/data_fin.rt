@@ -134,7 +134,7 @@ impl PathEnd {
 }
 
 impl Sending {
-    /// So many bytes of the stream are acknowledged, where the Data ACK was taken.
+    /// Bytes of the stream are acknowledged up to a place, where the Data ACK was taken.
     pub(crate) fn take_ack_reply(&mut self, next: u64, reply: &Reply)
         requires { next < 2 ^ 62 }
         ensures { self.new ≡ acked_in next reply.now self.old }
@@ -209,7 +209,7 @@ impl PathState {
         }
     }
 
-    /// It was told; one that the book refuses breaks the path.
+    /// The peer's FIN was told as the end of its stream; one that the book refuses breaks the path.
     pub(crate) fn answer_plain_fin(&mut self, side: Side, reply: &Reply)
         ensures { self.new ≡ answered_plain_fin side (is_fin_set reply.now) self.old }
     {

@@ -25,7 +25,7 @@ use sides::Side;
 use std::alloc::{AllocError, Global};
 use subflow_tcp::Parts;
 
-/// So many octets of these parts, in order, as a text that is shared. Takes memory for them.
+/// The first octets of these parts, in order, as a text that is shared. Takes memory for them.
 fn text_of(alloc: Global, parts: Parts<'_>, count: u64) -> Result<Text, AllocError>
     ensures octets { IfOk result (λ text. text ≡ take count (concat parts.entry)) }
     ensures few { IfOk result (λ text. length text ≤ count) }
@@ -235,7 +235,7 @@ impl PathEnd {
         self.is_unmapped() && self.modes.mode == Mode::Sure && 3 <= self.times_unmapped()
     }
 
-    /// It is counted.
+    /// An octet that came without a mapping is counted.
     fn count_unmapped(&mut self)
         ensures { self.new ≡ after_unmapped self.old }
     {
@@ -331,7 +331,7 @@ impl PathState {
         }
     }
 
-    /// The same, of these bytes.
+    /// What was placed of these bytes is behind the edge; what the book refuses breaks the path.
     fn answer_found(&mut self, side: Side, found: InOrder, reply: &Reply)
         ensures { self.new ≡
             answered_piece side (Some (piece_from found (end_at side self.old).tcp))

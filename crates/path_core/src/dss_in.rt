@@ -182,7 +182,7 @@ impl Profile {
         }
     }
 
-    /// The same, where it counts.
+    /// A mapping that is heard, as it is kept, where it counts.
     fn held_if(
         &self,
         side: Side,
@@ -299,7 +299,7 @@ impl PathEnd {
         }
     }
 
-    /// So many bytes of the stream are acknowledged, where the Data ACK was taken.
+    /// Bytes of the stream are acknowledged up to a place, where the Data ACK was taken.
     pub(crate) fn take_ack_reply(&mut self, next: u64, reply: &Reply)
         requires { next < 2 ^ 62 }
         ensures { self.new ≡ with_acked next reply.now self.old }

@@ -192,34 +192,7 @@ impl PathState {
     {
         match duty {
             AskDuty::CheckFailed(side) => self.check(side),
-            AskDuty::JoinAgain
-            | AskDuty::Window(_)
-            | AskDuty::SynHeard(_)
-            | AskDuty::SynAnswered(_)
-            | AskDuty::PlainHandshake(_)
-            | AskDuty::PeerKey(_)
-            | AskDuty::JoinHeard(_)
-            | AskDuty::Opened(_)
-            | AskDuty::Live(_)
-            | AskDuty::AckHeard(_)
-            | AskDuty::FailHeard(_)
-            | AskDuty::SubflowAck(_)
-            | AskDuty::PlainData(_)
-            | AskDuty::GoIdentity(_)
-            | AskDuty::Edge(_)
-            | AskDuty::HeardFin { .. }
-            | AskDuty::SubflowFin(_)
-            | AskDuty::AckOut(_)
-            | AskDuty::Rate(_)
-            | AskDuty::Return(_)
-            | AskDuty::AbortSend(_)
-            | AskDuty::AbortReceive(_)
-            | AskDuty::Announce { .. }
-            | AskDuty::Withdraw { .. }
-            | AskDuty::LeaveNoted(_)
-            | AskDuty::BreakAck { .. }
-            | AskDuty::Leave(_)
-            | AskDuty::Dead(_) => {}
+            _ => {}
         }
     }
 

@@ -225,7 +225,7 @@ impl PathEnd {
         }
     }
 
-    /// So it is with the mapping whose check failed, if any.
+    /// The verdict on a failed check is noted with the mapping whose check failed, if any.
     fn note_failure(&mut self, failing: Option<KeptMapping>, reply: &Reply)
         ensures { self.new ≡ with_failure failing reply.now self.old }
     {
@@ -260,7 +260,7 @@ impl PathEnd {
         InfiniteMapping { position, place }
     }
 
-    /// That mapping, where the book gave its bytes to the path.
+    /// The infinite mapping that an end goes by, where the book gave its bytes to the path.
     fn infinite_in(&self, reply: &Reply) -> Option<InfiniteMapping>
         ensures { result ≡ infinite_in reply.now self.now }
     {
@@ -380,7 +380,7 @@ impl PathState {
         }
     }
 
-    /// That was answered. At an error all is as it was.
+    /// An acknowledgement without a Data ACK was answered: the break's first step, or the verdict. At an error all is as it was.
     pub(crate) fn answer_plain_ack(&mut self, side: Side, reply: &Reply) -> Result<(), AllocError>
         requires { IsAckBounded reply.now }
         ensures ok { OnOk result (self.new ≡ answered_plain_ack octets side reply.now self.old) }
@@ -437,7 +437,7 @@ impl PathState {
         }
     }
 
-    /// That was answered.
+    /// An MP_FAIL was answered, by the send book where it was asked, else by the control book.
     pub(crate) fn answer_fail(&mut self, side: Side, reply: &Reply)
         ensures { self.new ≡ answered_fail side reply.now self.old }
     {

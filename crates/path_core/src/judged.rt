@@ -19,7 +19,7 @@ pub enum Judged {
     Asks,
     /// A SYN without an MP_JOIN, on a path that joins.
     Lacks,
-    /// It joins the path by a wrong HMAC, or answers a join without one.
+    /// A copy that joins the path by a wrong HMAC, or answers a join without one.
     Forged,
 }
 

@@ -55,7 +55,7 @@ fn put_both(items: &mut Items, own: u64, peer: u64)
     put(items, Heard::Keys { own, peer });
 }
 
-/// These keys are told to the control book.
+/// The control book is told of these keys.
 pub(crate) fn keys_ask(side: Side, keys: Option<KeyPair>) -> Ask
     ensures value { result ≡ keys_ask side keys }
     ensures able { CanBeAsked result }
@@ -201,7 +201,7 @@ impl PathState {
         }
     }
 
-    /// It is told that the path lives, as a backup where the peer's SYN said so.
+    /// The control book is told that the path lives, as a backup where the peer's SYN said so.
     pub(crate) fn live_ask(&self, side: Side) -> Ask
         ensures value { result ≡ live_ask side self.now }
         ensures able { CanBeAsked result }

@@ -311,7 +311,7 @@ impl PathState {
         join_asked(self.end(side).treated.items())
     }
 
-    /// It is asked whether the path may join.
+    /// The control book is asked whether the path may join.
     pub(crate) fn join_heard_ask(&self, side: Side) -> Ask
         ensures value { result ≡ join_heard_ask side (asked_at side self.now) self.now }
         ensures able { CanBeAsked result }
@@ -346,7 +346,7 @@ impl PathState {
         }
     }
 
-    /// It was told whether the path may join.
+    /// The control book answered whether the path may join.
     pub(crate) fn answer_join_heard(&mut self, side: Side, reply: &Reply)
         ensures { self.new ≡ answered_join_heard side reply.now self.old }
     {

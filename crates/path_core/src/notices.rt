@@ -82,7 +82,7 @@ impl Notices {
         self.queue.pop_front();
     }
 
-    /// This is to be noted behind all others. At an error all is as it was.
+    /// A notice is to be told behind all others. At an error all is as it was.
     pub(crate) fn push(&mut self, notice: OwnNotice) -> Result<(), AllocError>
         ensures ok { OnOk result (self.new ≡ queued notice self.old) }
         ensures err { OnErr result (self.new ≡ self.old) }

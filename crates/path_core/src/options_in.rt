@@ -69,7 +69,7 @@ pub(crate) fn fill_items(items: &mut Items, joined: bool, side: Side, heard: &He
     }
 }
 
-/// The same segment without its options.
+/// A segment as it is heard without its options.
 fn without_options<'a>(heard: &HeardSegment<'a>) -> HeardSegment<'a>
     ensures { heard_value result ≡ record (heard_value heard.now) { options = [] } }
 {
@@ -137,7 +137,7 @@ pub(crate) fn owes_by(meaning: Meaning, items: &[Heard]) -> bool
     }
 }
 
-/// It establishes the end.
+/// Whether a segment of this meaning establishes the end.
 pub(crate) fn opens_by(meaning: Meaning, state: State) -> bool
     ensures { result ≡ opens_by meaning state }
 {
@@ -175,7 +175,7 @@ fn has_data_ack(heard: &HeardSegment<'_>) -> bool
     false
 }
 
-/// So many octets of data are acknowledged for the first time; what opens an end acknowledges its SYN alone.
+/// How many octets of data are acknowledged for the first time; what opens an end acknowledges its SYN alone.
 fn octets_acked(arrival: Arrival) -> u64
     ensures { result ≡ octets_acked arrival }
 {

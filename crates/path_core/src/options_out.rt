@@ -73,7 +73,7 @@ fn has_address(notice: OwnNotice)
     }
 }
 
-/// So has one that may be there.
+/// The address of an echo that may be there has 16 octets at most.
 fn may_have_address(notice: Option<OwnNotice>)
     ensures { IfSome notice HasAddress }
 {

@@ -15,9 +15,9 @@ use subflow_tcp::Outgoing;
 pub(crate) enum SaidOptions {
     /// None.
     Nothing,
-    /// This one.
+    /// One option.
     One(Saying),
-    /// These, the first one first.
+    /// Two options, the first one first.
     Two(Saying, Saying),
 }
 
@@ -69,7 +69,7 @@ pub(crate) enum SegmentKind {
     FastClose,
 }
 
-/// The same option, its id lent.
+/// An option as it is written, its id lent.
 fn lent(option: &Saying) -> PathOption<u64, &[u8]>
     ensures { plain_option result ≡ option.now }
 {
@@ -113,7 +113,7 @@ fn lent(option: &Saying) -> PathOption<u64, &[u8]>
 }
 
 impl SaidOptions {
-    /// This one, and the other behind it, if any.
+    /// The options of a segment that says one, and perhaps another behind it.
     pub(crate) fn first_and(first: Saying, second: Option<Saying>) -> Self
         ensures { said_options result ≡ first ∷ options_by second }
     {
@@ -123,7 +123,7 @@ impl SaidOptions {
         }
     }
 
-    /// This one, if any.
+    /// The options of a segment that says one at most.
     pub(crate) fn of(option: Option<Saying>) -> Self
         ensures { said_options result ≡ options_by option }
     {
@@ -138,7 +138,7 @@ impl<'a> Said<'a> {
     ghost use Rattle.path_core.specs.Octets.{made, sum_of};
     ghost use Rattle.path_core.specs.Said.{plain_said, CanBeSaid};
 
-    /// The same segment, with its options lent.
+    /// A segment to be written, with its options lent.
     fn with_options<'b>(
         &self,
         options: &'b [PathOption<u64, &'b [u8]>],

@@ -108,7 +108,7 @@ impl Sending {
         self.known_end = known.or(self.known_end);
     }
 
-    /// So many bytes of the stream are acknowledged, fewer than 2^62, the DATA_FIN among them or not. Takes no memory.
+    /// Bytes of the stream are acknowledged up to a place, fewer than 2^62, the DATA_FIN among them or not. Takes no memory.
     pub(crate) fn acknowledge(&mut self, next: u64, fin: bool)
         requires { next < 2 ^ 62 }
         ensures { self.new ≡ after_acked next fin self.old }

@@ -30,7 +30,7 @@ pub(crate) fn is_connected(state: State) -> bool
     )
 }
 
-/// It is asked what is to be acknowledged.
+/// The reassembly book is asked what is to be acknowledged.
 pub(crate) fn ack_out_ask(side: Side) -> Ask
     ensures value { result ≡ ack_out_ask side }
     ensures able { CanBeAsked result }
@@ -123,7 +123,7 @@ impl PathEnd {
         is_connected(self.tcp.state()) && self.has_grown(profile)
     }
 
-    /// It was told what is to be acknowledged, so nothing is left to be asked.
+    /// The reassembly book told what is to be acknowledged, and nothing is left to be asked.
     pub(crate) fn take_ack_out_reply(&mut self, reply: &Reply)
         requires { IsAckBounded reply.now }
         ensures { self.new ≡ after_ack_out reply.now self.old }
@@ -136,7 +136,7 @@ impl PathEnd {
 }
 
 impl PathState {
-    /// It is asked how the side stands.
+    /// The control book is asked how the side stands.
     pub(crate) fn look_ask(&self, side: Side) -> Ask
         ensures value { result ≡ look_ask side self.now }
         ensures able { CanBeAsked result }
@@ -164,7 +164,7 @@ impl PathState {
         Ok(())
     }
 
-    /// It was told what is to be acknowledged, and the first duty is done.
+    /// The reassembly book told what is to be acknowledged, and the first duty is done.
     pub(crate) fn ack_out(&mut self, side: Side, reply: &Reply)
         requires { IsAckBounded reply.now }
         ensures { self.new ≡ answered_ack_out side reply.now (left self.old) self.old }
@@ -173,7 +173,7 @@ impl PathState {
         self.done();
     }
 
-    /// It was told what is to be acknowledged, and the break goes on.
+    /// The reassembly book told what is to be acknowledged, and the break goes on.
     pub(crate) fn ack_out_breaking(&mut self, side: Side, reply: &Reply, reason: u8)
         requires { IsAckBounded reply.now }
         ensures { self.new ≡ answered_ack_out side reply.now (resets side reason) self.old }

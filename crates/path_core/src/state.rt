@@ -117,7 +117,7 @@ impl PathState {
         self.agenda.replace_first(duty);
     }
 
-    /// These duties are to be done, and no others.
+    /// The duties of this agenda are to be done, and no others.
     pub(crate) fn sets_about(&mut self, agenda: Agenda)
         ensures { self.new ≡ with_agenda agenda self.old }
     {

@@ -21,7 +21,7 @@ pub(crate) struct Treated {
     pub opened: bool,
     /// Its keys were told already.
     pub keys_told: bool,
-    /// It has an option of Multipath TCP.
+    /// The copy has an option of Multipath TCP.
     pub has_option: bool,
     /// The ends of the stream that are to be told, in their order: those of its DATA_FINs, and of one that the edge reached.
     fins: ArrayVec<u64, 3>,
@@ -31,7 +31,7 @@ pub(crate) struct Treated {
     pub answer: Option<Outgoing>,
     /// The window that it told, in octets.
     pub window: u32,
-    /// It acknowledges data for the first time, and has no Data ACK.
+    /// The copy acknowledges data for the first time, and has no Data ACK.
     pub plain_ack: bool,
     /// The position that it acknowledges.
     acknowledged: Pos,
@@ -136,7 +136,7 @@ impl Treated {
         self.infinite_mapping = None;
     }
 
-    /// It acknowledges this position, at most 2^62, and has the octet at this receive edge, or not.
+    /// The copy acknowledges this position, at most 2^62, and has the octet at this receive edge, or not.
     pub(crate) fn note_positions(&mut self, acknowledged: Pos, held_edge: Option<Pos>)
         requires { acknowledged ≤ 2 ^ 62 }
         ensures { self.new ≡
@@ -177,7 +177,7 @@ impl Treated {
         self.fins.as_slice().get(usize::from(index)).copied()
     }
 
-    /// This end of the stream, at most 2^62, is to be told; a fourth one counts no more.
+    /// An end of the stream, at most 2^62, is to be told; a fourth one counts no more.
     pub(crate) fn note_data_fin(&mut self, place: u64)
         requires { place ≤ 2 ^ 62 }
         ensures { self.new ≡ record self.old { fins = fins_and (Some place) self.old.fins } }

@@ -25,7 +25,7 @@ meant_mapping (Bytes place position len fin checksum) = Bytes (Some place) (Some
 meant_mapping (End place checksum) = End (Some place) checksum
 meant_mapping (Infinite place position) = Infinite (Some place) (Some position)
 
--- so does each number of an option
+-- each number of an option means what it was made of
 abbrev pub meant_option : PlainOption → PathOption (Option ℕ) (List ℕ)
 meant_option (Capable flag_a flag_c keys) = Capable flag_a flag_c keys
 meant_option (Join form) = Join form
@@ -41,7 +41,7 @@ meant_option (Reset transient reason) = Reset transient reason
 abbrev pub window_told : Bool → ℕ → ℕ
 window_told syn window = if syn then min 65535 window else 32 * (window / 32)
 
--- and of a segment, whose window is the one that the octets tell
+-- each number of a segment means what it was made of, and its window is the one that the octets tell
 abbrev pub meant : PlainSegment → PathSegment HeardPosition (List (PathOption (Option ℕ) (List ℕ))) (List ℕ)
 meant s = record {
   position = At s.position;
@@ -61,7 +61,7 @@ meant s = record {
 abbrev pub IsPositionFresh : ℕ → ℕ → Type 0
 IsPositionFresh expected position = IsNear (2 ^ 32) (pos position -ℤ pos expected)
 
--- so is a place that is sent with four octets; each place has a position below 2 ^ 62 behind it
+-- a place that is sent with four octets is less than half the numbers away; each has a position below 2^62 behind it
 pub record IsPlaceFresh (short : Bool) (expected place : ℕ) : Type 0 where
   pub below : place + 1 < 2 ^ 62
   pub near : short ≡ true → IsNear (2 ^ 32) (pos place -ℤ pos expected)
@@ -79,7 +79,7 @@ IsMappingFresh short expected (End place checksum) = IsPlaceFresh short expected
 IsMappingFresh short expected (Infinite place position) =
     IsPlaceFresh short expected.place place × IsPositionFresh expected.edge position
 
--- so are those of a DSS, and the place of MP_FAIL, which has eight octets always; other options have none
+-- the numbers of a DSS are fresh, and the place of MP_FAIL, which has eight octets always; other options have none
 abbrev pub IsOptionFresh : Bool → Expected → PlainOption → Type 0
 IsOptionFresh short expected (Dss next mapping) =
     IfSome next (IsPlaceFresh short expected.told) × IfSome mapping (IsMappingFresh short expected)

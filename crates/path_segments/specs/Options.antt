@@ -56,7 +56,7 @@ ends_stream (Bytes place position len fin checksum) = fin
 ends_stream (End place checksum) = true
 ends_stream (Infinite place position) = false
 
--- the same of a mapping, where there is one
+-- flag F: there is a mapping, and it ends with the DATA_FIN
 abbrev pub mapping_ends_stream : Option (PathMapping ℕ) → Bool
 mapping_ends_stream None = false
 mapping_ends_stream (Some mapping) = ends_stream mapping

@@ -84,7 +84,7 @@ spelled spelling from s = record {
 abbrev pub spelled_text : Spelling → Side → PlainSegment → List ℕ
 spelled_text spelling from s = segment_text (addresses_from spelling.path from) (spelled spelling from s)
 
--- their checksum field
+-- the checksum field of the octets on the link
 abbrev pub spelled_sum : Spelling → Side → PlainSegment → ℕ
 spelled_sum spelling from s = checksum_field (addresses_from spelling.path from) (spelled spelling from s)
 

@@ -21,7 +21,7 @@ subflow_number spelling side position = number_of (2 ^ 32) (numbers_of spelling 
 abbrev pub whole_number : Spelling → Side → ℕ → ℕ
 whole_number spelling side place = number_of (2 ^ 64) (numbers_of spelling side).idsn.0 (place + 1)
 
--- the same as it stands in a DSS: all of it, or the low half
+-- the number of a place as it stands in a DSS: all of it, or the low half
 abbrev pub data_number : Spelling → Side → ℕ → DataNumber
 data_number spelling side place =
     if spelling.short then Low (whole_number spelling side place % 2 ^ 32) else Whole (whole_number spelling side place)

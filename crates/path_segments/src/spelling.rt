@@ -53,7 +53,7 @@ impl Spelling {
         number64(self.numbers(side).idsn, place).0.wrapping_add(1)
     }
 
-    /// The same as wide as this connection writes it in a DSS.
+    /// The data number of a place of a side's stream, as wide as this connection writes it in a DSS.
     pub(crate) fn data_number(&self, side: Side, place: u64) -> DataNumber
         ensures { result ≡ data_number self.now side place }
     {

@@ -1,4 +1,9 @@
 -- Pieces that rise: what the first one and the last one tell of all.
+--
+-- A list that is mostly in order (`GrantedPieces` of `path_store`): a flag beside it, of which the invariant says that
+-- where it is set the list rises; each call has a function for the list that rises and one for any. `link_model` keeps
+-- its copies in order and puts the next one behind the last or by halves: one lemma says which copies stand before it
+-- (`parted`), and both ways are read off it.
 use Rattle.std.proofs.Common.{◌≡◌, refl, sym, ap, ℕ, zero, suc, ◌-◌, ◌<◌, ◌≤◌, Bool, true, false, not, List, [], ◌∷◌, ◌++◌, length, get_or, drop, arith}
 use Rattle.std.specs.Prelude.{nat_lt, max, filter}
 use Rattle.std.specs.List.{list_any}

@@ -32,7 +32,7 @@ behind piece = piece.position + (piece.to - piece.from)
 abbrev pub follows : GrantedPiece → GrantedPiece → Bool
 follows before piece = piece.position == behind before && piece.from == before.to
 
--- so is each of these, and the last one stands before this position
+-- each piece follows the one before it, and the last one stands right before this position
 abbrev pub rises_from : GrantedPiece → List GrantedPiece → ℕ → Bool
 rises_from before [] end = behind before == end
 rises_from before (piece ∷ pieces) end = follows before piece && rises_from piece pieces end
@@ -46,7 +46,7 @@ is_tail (piece ∷ pieces) end = rises_from piece pieces end
 abbrev pub has_place : ℕ → GrantedPiece → Bool
 has_place place piece = nat_le piece.from place && nat_lt place piece.to
 
--- its position there; those from 2^64 - 1 on count as one
+-- the position of a place in its piece, or `next` without a piece; those from 2^64 - 1 on count as one
 abbrev pub position_in : ℕ → ℕ → Option GrantedPiece → ℕ
 position_in next place None = next
 position_in next place (Some piece) = min (piece.position + (place - piece.from)) (2 ^ 64 - 1)

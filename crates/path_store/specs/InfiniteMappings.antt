@@ -10,7 +10,7 @@ below_limit place = if nat_lt place (2 ^ 62) then Some place else None
 abbrev pub place_under : InfiniteMapping → ℕ → Option ℕ
 place_under mapping position = below_limit (mapping.place + (position - mapping.position))
 
--- such a mapping is there, and begins at this position or before it
+-- an infinite mapping is there, and begins at this position or before it
 abbrev pub covers : Option InfiniteMapping → ℕ → Bool
 covers None position = false
 covers (Some mapping) position = nat_le mapping.position position

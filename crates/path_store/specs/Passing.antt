@@ -1,4 +1,4 @@
--- Which of the octets in order at a receive edge a mapping lets pass (RFC 8684, section 3.3.1).
+-- The octets in order at a receive edge that a mapping lets pass (RFC 8684, section 3.3.1).
 use Rattle.std.specs.Prelude.{ℕ, ◌+◌, ◌-◌, ◌^◌, min, Bool, ◌&&◌, ◌==◌, nat_lt, nat_le, if◌then◌else◌, Option, Some, None, List, length, take}
 use Rattle.dss_checksum.specs.Checksum.{dss_checksum}
 use Rattle.dss_mapping.specs.declared.kept.KeptMapping.{KeptMapping}
@@ -14,7 +14,7 @@ pub record Piece : Type 0 where
 abbrev pub some_piece : Piece → Option Piece
 some_piece piece = if nat_lt 0 (length piece.octets) then Some piece else None
 
--- so many of the octets in order, the first of which has this place
+-- the octets that were found to pass, the first ones in order, as a piece at the first one's place
 abbrev pub piece_of_order : InOrder → List ℕ → Piece
 piece_of_order found octets = record { place = found.place; octets = take found.count octets }
 
@@ -31,7 +31,7 @@ abbrev pub is_there : KeptMapping → ℕ → ℕ → Bool
 is_there kept edge held =
     kept.pos == edge && (nat_lt 0 (octets_of kept) && (nat_le (octets_of kept) held && nat_le (kept.place + octets_of kept) (2 ^ 62)))
 
--- and the checksum is that of its octets, with its whole length
+-- the mapping's checksum is that of its octets, with its whole length
 abbrev pub has_its_sum : KeptMapping → List ℕ → Bool
 has_its_sum kept octets = dss_checksum kept.mapping (take (octets_of kept) octets) == kept.mapping.checksum
 

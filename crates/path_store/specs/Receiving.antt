@@ -11,9 +11,9 @@ pub record Receiving : Type 0 where
   pub window : ℕ
   -- the edge of the window that the last segment told
   pub told_edge : ℕ
-  -- which place each position has
+  -- the place that each position has
   pub mappings : Mappings
-  -- so often, up to three times, the byte at this position was the next one and came without a mapping
+  -- how often, up to three times, the byte at this position was the next one and came without a mapping
   pub unmapped : ℕ
   pub unmapped_at : ℕ
   -- the peer's FIN was told as the end of its stream
@@ -21,7 +21,7 @@ pub record Receiving : Type 0 where
   -- a DATA_FIN behind bytes that the edge hasn't passed yet
   pub mapped_data_fin : Option MappedDataFin
 
--- the same, and for how many mappings more there is room
+-- what was told of the stream, and for how many mappings more there is room
 pub record ReceivingStore : Type 0 where
   pub receiving : Receiving
   pub ready : ℕ

@@ -21,9 +21,9 @@ pub struct Receiving {
     told_edge: u64,
     /// Which place each position has.
     pub mappings: Mappings,
-    /// So often, up to three times, the byte at the next position was the next one and came without a mapping.
+    /// How often, up to three times, the byte at `unmapped_at` came as the next one and without a mapping.
     unmapped: u64,
-    /// That position.
+    /// The position at which such a byte came last.
     unmapped_at: Pos,
     /// The peer's FIN was told as the end of its stream.
     pub fin_told: bool,

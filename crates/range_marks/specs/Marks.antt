@@ -18,7 +18,7 @@ module _ {M : Type 0} where
   abbrev pub mark_at : Marks M → ℕ → Option M
   mark_at v place = if nat_lt place v.forgotten then None else slice_get v.marks (place - v.forgotten)
 
-  -- so many places more, with this mark
+  -- the marks with `count` places more, each with this mark
   abbrev pub after_extend : ℕ → M → Marks M → Marks M
   after_extend count mark v = record v { marks = v.marks ++ replicate count mark }
 
@@ -41,7 +41,7 @@ module _ {M : Type 0} where
   abbrev pub part : ℕ → ℕ → Marks M → List M
   part from to v = take (to - from) (drop (from - v.forgotten) v.marks)
 
-  -- these marks more
+  -- the marks with some more behind them
   abbrev pub followed_by : List M → Marks M → Marks M
   followed_by marks v = record v { marks = v.marks ++ marks }
 

@@ -48,7 +48,7 @@ module _ {M : Type 0} where
       if nat_lt run.from place then record run { to = min run.to place } ∷ runs_below place runs
       else []
 
-  -- these are the runs of the marks, as few as can be
+  -- the runs are those of the marks, as few as can be
   pub record AreRunsOf (v : Marks M) (runs : List (Run M)) : Type 0 where
     pub places : LieSideBySide v.forgotten (marks_len v) runs
     pub marks : marks_of runs ≡ v.marks

@@ -117,7 +117,7 @@ impl<M: Mark> RangeMarks<M> {
         })
     }
 
-    /// These marks, but with this mark at the places from `from` on and below `to`.
+    /// The marks with this one at the places from `from` on and below `to`.
     fn marked(&self, from: u64, to: u64, mark: M) -> Result<Self, AllocError>
         requires kept { self.now.forgotten ≤ from }
         requires order { from < to }

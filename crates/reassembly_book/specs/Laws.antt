@@ -27,7 +27,7 @@ abbrev pub joined : ReassemblyCall → Arriving → List (Option ℕ) → List (
 joined (Place at bytes) b came = if is_taken at bytes b then merged came (by_place at bytes) else came
 joined _ b came = came
 
--- the same after these calls, the first one first
+-- the byte that came first for each place, after some calls, the first one first
 abbrev pub came_by : List ReassemblyCall → Arriving → List (Option ℕ) → List (Option ℕ)
 came_by [] b came = came
 came_by (call ∷ calls) b came = came_by calls (after_call b call) (joined call b came)

@@ -92,7 +92,7 @@ reading None max b = bytes_reply (take max (filled b.places)) b
 abbrev pub read_reply : ℕ → Arriving → ReassemblyReply
 read_reply max b = reading b.aborted max b
 
--- so many bytes are read, as far as they have arrived without a gap
+-- bytes are read, `count` of them at most, as far as they have arrived without a gap
 abbrev pub after_reading : ℕ → Arriving → Arriving
 after_reading count b =
     let n = min count (length (filled b.places)) in

@@ -6,7 +6,7 @@ use std::alloc::AllocError;
 /// What a reassembly book can be asked.
 #[derive(Drop)]
 pub enum ReassemblyCall {
-    /// These bytes have arrived for the places from `at` on. `at` and their number add up to at most 2^62.
+    /// Bytes have arrived for the places from `at` on. `at` and their number add up to at most 2^62.
     Place {
         /// The place of the first byte.
         at: u64,
@@ -35,7 +35,7 @@ pub enum ReassemblyCall {
 /// What a reassembly book answers.
 #[derive(Drop)]
 pub enum ReassemblyReply {
-    /// So many places were empty and have their byte now.
+    /// How many places were empty and have their byte now.
     Placed(u64),
     /// A byte is at or past the edge of what is taken.
     Beyond {

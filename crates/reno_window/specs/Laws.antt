@@ -35,7 +35,7 @@ abbrev pub after_repeated_expiries : List ℕ → Window → Window
 after_repeated_expiries [] w = w
 after_repeated_expiries (flight ∷ flights) w = after_expiry flight true (after_repeated_expiries flights w)
 
--- they leave the threshold that the first loss set
+-- repeated expiries leave the threshold that the first loss set
 abbrev pub RepeatedExpiriesHoldTheThreshold : Type 0
 RepeatedExpiriesHoldTheThreshold = (flights : List ℕ) (w : Window)
     → (after_repeated_expiries flights w).ssthresh ≡ w.ssthresh

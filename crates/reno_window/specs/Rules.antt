@@ -18,7 +18,7 @@ initial_window mss = segments_at_first mss * mss
 abbrev pub opening : ℕ → Window
 opening mss = record { mss = mss; window = initial_window mss; ssthresh = 1048576; in_fast_recovery = false }
 
--- so many octets more
+-- the window is larger by some octets, as far as a window gets
 abbrev pub grown : ℕ → Window → Window
 grown octets w = record w { window = capped (w.window + octets) }
 

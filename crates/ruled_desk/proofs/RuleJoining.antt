@@ -1,4 +1,7 @@
 -- Seats are split off and joined, and the table is closed.
+--
+-- `Split` and `Join` are functions of views alone: who is out is kept beside the table, by number, with an inequality
+-- between parts and those who are out as the invariant of the root's model (`1024 <= parts + how_many out`).
 use Rattle.std.proofs.Common.{◌≡◌, refl, sym, ◌∙◌, ap, subst, ℕ, ◌+◌, ◌-◌, ◌≤◌, ◌⊎◌, inl, inr, ⊎_elim, Bool, true, false, ◌||◌, List, [], ◌∷◌, ◌++◌, length, set, Option, Some, arith}
 use mathlib.Core.Option.{some}
 use lib.ListN.{get_elem?}

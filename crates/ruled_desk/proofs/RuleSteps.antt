@@ -1,4 +1,7 @@
 -- Each step of a seat keeps the rule.
+--
+-- A slot leaves home at the step on a word that tells its seat so; `exchange` then changes what the seat carries. So a
+-- step on a word sees the book as it was put back, and the word that counts entries comes after that `exchange`.
 use Rattle.std.proofs.Common.{◌≡◌, refl, sym, ◌∙◌, ap, subst, ℕ, zero, suc, ◌+◌, ◌-◌, ◌%◌, ◌^◌, ◌≤◌, eqb, Bool, true, false, List, [], ◌∷◌, length, set, Option, Some, arith, MatchBool}
 use Rattle.std.proofs.lemmas.Bool.Decides.{nat_tests}
 use Rattle.std.specs.Prelude.{slice_index}

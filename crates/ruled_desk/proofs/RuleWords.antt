@@ -1,4 +1,7 @@
 -- What the rule of a book's table tells of its seats.
+--
+-- The key of a table can be a `Snapshot` of what was put into its slot: it is a type's argument there, and does no harm
+-- to `Send` and `Sync`. So what a lock was given is a value of the table and no type has to name it.
 use Rattle.std.proofs.Common.{◌≡◌, refl, sym, ap, subst, ℕ, zero, suc, ◌+◌, ◌%◌, ◌^◌, ◌<◌, ◌≤◌, ◌≢◌, inl, inr, ⊎_elim, eqb, Bool, true, false, List, [], ◌∷◌, ◌++◌, length, set, Option, MatchBool, append_assoc, arith}
 use Rattle.std.proofs.lemmas.List.{append-nil}
 use Rattle.std.proofs.lemmas.Bool.Decides.{nat_tests}

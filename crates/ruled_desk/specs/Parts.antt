@@ -37,7 +37,7 @@ pub record AreLeft (out : List Bool) (s : Seats) : Type 0 where
 abbrev pub less_one : {C R : Type 0} → seat.Seated C R → seat.Seated C R
 less_one s = record s { parts = s.parts - 1 }
 
--- so is each of the six
+-- the six seats with one part less each
 abbrev pub one_part_less : Seats → Seats
 one_part_less s = record {
   send_a = less_one s.send_a;

@@ -63,7 +63,7 @@ module _ {A : Type 0} where
   abbrev pub IsUsedUp : Rider A → Type 0
   IsUsedUp rider = (2 ^ 62 - 1 ≤ rider.crew.pass.stamp) ⊎ NotesFull rider.pass
 
-  -- so it is with one of them
+  -- no stamp is left to one of the riders
   abbrev pub OneIsUsedUp : List (Rider A) → Type 0
   OneIsUsedUp riders = (i : ℕ) × (i < length riders) × ((d : Rider A) → IsUsedUp (slice_index_or riders i d))
 

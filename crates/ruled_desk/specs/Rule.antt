@@ -74,19 +74,19 @@ module _ {B E : Type 0} where
   abbrev pub spent : View B E
   spent = view 0 [] [] [] false
 
-  -- it waits with this ticket
+  -- the seat waits with this ticket
   abbrev pub waits : ℕ → View B E → View B E
   waits ticket v = view v.parts (ticket ∷ []) v.took v.own v.full
 
-  -- it is served: it has this book, and no ticket any more
+  -- the seat is served: it has this book, and no ticket any more
   abbrev pub takes_turn : B → View B E → View B E
   takes_turn book v = view v.parts [] (book ∷ []) v.own v.full
 
-  -- it added this entry, and has the book with it
+  -- the seat added this entry, and has the book with it
   abbrev pub adds : B → E → View B E → View B E
   adds book entry v = view v.parts v.tickets (book ∷ []) (v.own ++ entry ∷ []) v.full
 
-  -- it has the book no more; a full journal may be noted
+  -- the seat has the book no more; a full journal may be noted
   abbrev pub serves : Bool → View B E → View B E
   serves full v = view v.parts v.tickets [] v.own (full || v.full)
 
@@ -94,7 +94,7 @@ module _ {B E : Type 0} where
   abbrev pub IsDrawn : Me (Option B) (View B E) → ℕ → Me (Option B) (View B E) → Type 0
   IsDrawn me found after = (ticket : ℕ) × (found ≡ ticket % 2 ^ 64) × (after ≡ (waits ticket me.0, me.1))
 
-  -- it has taken the book out of the slot
+  -- the seat has taken the book out of the slot
   abbrev pub HasTaken : Me (Option B) (View B E) → Me (Option B) (View B E) → Type 0
   HasTaken me after = (book : B) × (after ≡ (takes_turn book me.0, (0, Some book) ∷ []))
 
@@ -120,7 +120,7 @@ module _ {B E : Type 0} where
 
   -- ---- where a seat stands in a call
 
-  -- it waits with the ticket that this number shows
+  -- the seat waits with the ticket that this number shows
   pub record IsWaiting (me : Me (Option B) (View B E)) (shown : ℕ) : Type 0 where
     pub ticket : ℕ
     pub drawn : shown ≡ ticket % 2 ^ 64
@@ -128,12 +128,12 @@ module _ {B E : Type 0} where
     pub took : me.0.took ≡ []
     pub holds : me.1 ≡ []
 
-  -- it has this book, and the slot is empty
+  -- the seat has this book, and the slot is empty
   pub record HasTurn (me : Me (Option B) (View B E)) (book : B) : Type 0 where
     pub took : me.0.took ≡ book ∷ []
     pub slot : me.1 ≡ (0, None) ∷ []
 
-  -- it has had this book since it took the slot, which is empty now
+  -- the seat has had this book since it took the slot, which is empty now
   abbrev pub IsOut : B → Me (Option B) (View B E) → Me (Option B) (View B E) → Type 0
   IsOut book me after = after ≡ (takes_turn book me.0, (0, None) ∷ [])
 
@@ -149,7 +149,7 @@ module _ {O C R : Type 0} where
       → Me (Option (Journaled O C R)) (View (Journaled O C R) (Entry C R)) → Type 0
   Adds step me found after = IsAdded me after
 
-  -- it has this book and has put it into the slot. Where the journal is to be noted as full, it is
+  -- the seat has this book and has put it into the slot; where its journal is to be noted as full, it is full
   pub record IsBack (full : Bool) (me : Me (Option (Journaled O C R)) (View (Journaled O C R) (Entry C R))) : Type 0 where
     pub book : Journaled O C R
     pub took : me.0.took ≡ book ∷ []
@@ -163,7 +163,7 @@ module _ {O C R : Type 0} where
     pub turn : HasTurn me book
     pub grew : now ≡ grown book (entry ∷ [])
 
-  -- it is at rest again, with these entries more of its own
+  -- the seat is at rest again, with some entries more of its own
   abbrev pub IsDone : List (Entry C R) → Bool → Me (Option (Journaled O C R)) (View (Journaled O C R) (Entry C R))
       → Me (Option (Journaled O C R)) (View (Journaled O C R) (Entry C R)) → Type 0
   IsDone more full me after = after ≡ (view me.0.parts me.0.tickets [] (me.0.own ++ more) (full || me.0.full), [])

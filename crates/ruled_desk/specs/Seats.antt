@@ -18,7 +18,7 @@ pub record Seated (C R : Type 0) : Type 0 where
   pub own : List (Entry C R)
   pub full : Bool
 
--- the same without the parts
+-- a seat without its parts: of which table it is, its own entries, and whether it notes that the journal is full
 pub record Known (C R : Type 0) : Type 0 where
   pub table : TableId
   pub own : List (Entry C R)

@@ -80,7 +80,7 @@ pub record AreOf (desk : SixLocked) (books : SixKnown) : Type 0 where
   pub control_a : books.control_a.table ≡ desk.control_a.table
   pub control_b : books.control_b.table ≡ desk.control_b.table
 
--- these entries behind those that were known; a full journal is noted where either notes it
+-- more entries stand behind those that were known; a full journal is noted where either notes it
 abbrev pub known_more : {C R : Type 0} → Known C R → Known C R → Known C R
 known_more k more = known k.table (k.own ++ more.own) (k.full || more.full)
 
@@ -123,7 +123,7 @@ how_many (one ∷ out) = bit one + how_many out
 abbrev pub passed_out : ℕ → Rooted → Rooted
 passed_out actor root = record root { out = slice_set root.out actor true }
 
--- it is out no more
+-- the pass of an actor is out no more, and what is known stays
 abbrev pub passed_back : ℕ → Rooted → Rooted
 passed_back actor root = record root { out = slice_set root.out actor false }
 
@@ -151,7 +151,7 @@ origin_at desk = record {
   control_b = desk.control_b.start.opening;
 }
 
--- it is noted that the journal of the asked book is full
+-- the journal of the asked book is noted as full
 abbrev pub notes_full : Ask → SixKnown → Bool
 notes_full (asks.Send s call) books = pick s books.send_a.full books.send_b.full
 notes_full (asks.Reassembly s call) books = pick s books.reassembly_a.full books.reassembly_b.full

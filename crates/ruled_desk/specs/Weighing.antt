@@ -1,4 +1,5 @@
--- Sums over lists, by which two lists are compared: they have the same members, each as often, where they weigh the same however their members are weighed.
+-- Sums over lists, by which two lists are compared: they have the same members, each as often, where they weigh the
+-- same however their members are weighed.
 use Rattle.std.specs.Prelude.{ℕ, zero, suc, ◌+◌, List, [], ◌∷◌, Bool, true, false}
 
 -- the weights of all members, added up

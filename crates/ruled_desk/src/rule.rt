@@ -20,7 +20,7 @@ pub struct View<B, E> {
     pub took: LinkedList<B>,
     /// The entries that it added to the journal.
     pub own: LinkedList<E>,
-    /// It saw the journal's last stamp used up.
+    /// The seat saw the journal's last stamp used up.
     pub full: bool,
 }
 
@@ -97,7 +97,7 @@ impl<B, E> Play<Option<B>, View<B, E>> for Serve {
     ghost then = { Serves false };
 }
 
-/// So it is, and the journal is noted to be full.
+/// The book is back, the next ticket is served, and the journal is noted to be full.
 pub struct ServeFull;
 
 impl<B, E> Play<Option<B>, View<B, E>> for ServeFull {

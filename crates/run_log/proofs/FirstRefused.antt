@@ -1,4 +1,6 @@
 -- The line of a fault is the first one that no log has there.
+--
+-- The first refused line: reading as a walk over states; from every state the rest of some log is written down.
 use Rattle.std.proofs.Common.{◌≡◌, ℕ, suc, ◌+◌, ◌^◌, ◌<◌, ◌≤◌, Bool, true, false, cond, List, [], ◌∷◌, ◌++◌, length, take, Option, Some, None, Result, Ok, Err, refl, ap, sym, ◌∙◌, subst, arith}
 use Rattle.std.specs.Prelude.{codes, is_ok}
 use Rattle.octet_text.specs.Lines.{text_lines}

@@ -1,4 +1,12 @@
 -- Two notes with one line are told alike.
+--
+-- That a text tells its value: a reading of words in `proofs/` by `cond (bytes_eq word (codes ..))`, total and with no
+-- fault, and one line a variant, `refl` or `rw (again n h, ..) refl`. All facts of words at once stand in one Bool test
+-- (`is_plain`: octets that are seen, 1 to 20 of them), so that fixed words are `refl`.
+--
+-- That numbers behind a reference fit their types is a clause of the function that reads them (`fits`), where the
+-- `match` copies them out; a record's numbers go by value through a function. For a loop over rows `All-more` and
+-- `take_all`.
 use Rattle.std.proofs.Common.{◌≡◌, ℕ, ◌<◌, ◌≤◌, true, false, cond, eqb, List, [], ◌∷◌, ◌++◌, length, refl, ap, sym, ◌∙◌, append_assoc, arith}
 use Rattle.std.specs.Prelude.{codes}
 use Rattle.std.specs.Fmt.{decimal}

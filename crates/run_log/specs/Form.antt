@@ -31,7 +31,7 @@ format_line line =
 abbrev pub width_line : ℕ → List ℕ → Option Taken
 width_line width line = if bytes_eq line (width_text width) then Some (silent Keys) else None
 
--- then the keys stand, and behind them the first turn
+-- behind the format, and the width where one stands, come the keys, and behind them the first turn
 abbrev pub keys_line : List ℕ → Option Taken
 keys_line line = if is_keys_line line then Some (silent (Turns 0 false)) else None
 

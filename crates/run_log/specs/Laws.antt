@@ -51,7 +51,7 @@ ReadsToItsTurns = (actors width key_a key_b : ℕ) (first : List Note) (rounds :
 abbrev pub BeginsALog : ℕ → ℕ → List (List ℕ) → Type 0
 BeginsALog actors width lines = (more : List (List ℕ)) × IsOk (read_on actors width 1 Format [] (lines ++ more))
 
--- so many lines begin a log, and with the next one, if there is one, no log begins
+-- the first `before` lines begin a log, and with the next one, if there is one, no log begins
 pub record IsFirstRefused (actors width : ℕ) (lines : List (List ℕ)) (before : ℕ) : Type 0 where
   pub few : before ≤ length lines
   pub begins : BeginsALog actors width (take before lines)

@@ -60,7 +60,7 @@ ended line = line ++ 10 ∷ []
 abbrev pub opening_lines : ℕ → ℕ → ℕ → List (List ℕ)
 opening_lines width key_a key_b = codes "mptcp-log 2" ∷ width_text width ∷ keys_text key_a key_b ∷ []
 
--- the same of format 1, which names no width
+-- the lines with which a log of format 1 opens, which names no width
 abbrev pub old_opening_lines : ℕ → ℕ → List (List ℕ)
 old_opening_lines key_a key_b = codes "mptcp-log 1" ∷ keys_text key_a key_b ∷ []
 

@@ -1,4 +1,7 @@
 -- Calls that were added, one part after the other.
+--
+-- A plan of calls that may be used up lets a call follow its last one: that a call didn't succeed is a word of its own
+-- (`AreShortOf`).
 use Rattle.std.proofs.Common.{◌≡◌, refl, sym, ◌∙◌, ap, subst, Bool, true, false, List, [], ◌∷◌, ◌++◌, map, Option, Some, None, append_assoc}
 use Rattle.std.proofs.lemmas.List.{append-nil}
 use Rattle.outside_kit.specs.Calls.{Call, Made}

@@ -26,7 +26,7 @@ name_of input.FileA line = Some line.names.file_a
 name_of input.FileB line = Some line.names.file_b
 name_of input.Order line = order_of line.work
 
--- its content, where that is told
+-- the content of an input, where it is told
 abbrev pub content_of : (List ℕ → Option (List ℕ)) → Line → Named → Option (List ℕ)
 content_of content line named = option_and_then content (name_of named line)
 
@@ -63,13 +63,13 @@ IsInputFault content line old new (Script at kind) =
     AreFirstWithinLimits content line × IfSome (content line.names.script) (λ told. reading told ≡ Err (script_fault.Line at kind))
 IsInputFault content line old new status = IsLoadsFault content line old new status
 
--- or what a run of the steps of a log loads: a load, or the script, all loads being done
+-- what a run of the steps of a log loads ends it with this status: a load, or the script, all loads being done
 abbrev pub IsLoggedFault : (List ℕ → Option (List ℕ)) → Line → ℕ → ℕ → Status → Type 0
 IsLoggedFault content line old new (Script at kind) =
     ((named : Named) → IsWithinLimit content line named) × IfSome (content line.names.script) (λ told. reading told ≡ Err (script_fault.Line at kind))
 IsLoggedFault content line old new status = IsLoadsFault content line old new status
 
--- or the form of the log, all loads being done and the script being valid
+-- what a replay loads ends it with this status: a load, the script, or the form of the log, the script being valid
 abbrev pub IsReplayInputFault : (List ℕ → Option (List ℕ)) → Line → ℕ → ℕ → Status → Type 0
 IsReplayInputFault content line old new (Script at kind) =
     ((named : Named) → IsWithinLimit content line named) × IfSome (content line.names.script) (λ told. reading told ≡ Err (script_fault.Line at kind))

@@ -1,4 +1,4 @@
--- Which calls the loads of a run make.
+-- The calls that the loads of a run make.
 use Rattle.std.specs.Prelude.{List, Option}
 use Rattle.outside_kit.specs.Calls.{Call, Made}
 use Rattle.run_words.specs.Lines.{Line}
@@ -13,7 +13,7 @@ LoadsAdd line plan old new (TooLong named) = AddsLoadsTo named line old new
 LoadsAdd line plan old new Memory = AddsCut plan Memory old new
 LoadsAdd line plan old new status = ⊥
 
--- or what they gave does, when all were made
+-- the loads of this plan, or what they gave when all were made, end a run with this status
 abbrev pub InputAdds : Line → List Call → Option (List Made) → Option (List Made) → Status → Type 0
 InputAdds line plan old new (Script at kind) = AddsAll plan old new
 InputAdds line plan old new (Log at) = AddsAll plan old new

@@ -35,7 +35,7 @@ NotesFit (Some opening) steps = AllByRecursion NoteFits steps
 abbrev pub RoundFits : Option (List ℕ) → ℕ → List Note → Type 0
 RoundFits opening number steps = IsLong number × NotesFit opening steps
 
--- those of rounds, of which the first has this number
+-- the numbers of rounds, of which the first is this one, are such, and those of their logged notes
 abbrev pub RoundsFit : Option (List ℕ) → ℕ → List (List Note) → Type 0
 RoundsFit opening number [] = Unit {0}
 RoundsFit opening number (steps ∷ more) = RoundFits opening number steps × RoundsFit opening (suc number) more

@@ -36,7 +36,7 @@ Ends (call.Put port piece) (Put named) = named ≡ port
 Ends call Memory = Unit {0}
 Ends call status = ⊥
 
--- this where a call succeeded, or else that
+-- the first of two properties where a call succeeded, or else the second
 abbrev pub IfSucceeded : Bool → Type 0 → Type 0 → Type 0
 IfSucceeded true this that = this
 IfSucceeded false this that = that
@@ -48,18 +48,18 @@ AreCutAt plan status [] = status ≡ Memory
 AreCutAt [] status (made ∷ more) = ⊥
 AreCutAt (call ∷ plan) status (made ∷ more) = (made.call ≡ call) × IfSucceeded made.ok (AreCutAt plan status more) ((more ≡ []) × Ends call status)
 
--- these calls were added
+-- the first calls of a plan were added, up to one that failed, or to the want of memory
 abbrev pub AddsCut : List Call → Status → Option (List Made) → Option (List Made) → Type 0
 AddsCut plan status old new = (made : List Made) × (AreCutAt plan status made × Adds made old new)
 
--- So it was, and not behind the last call of the plan: one of them failed, or wasn't made for want of memory.
+-- Some call of a plan failed, or wasn't made for want of memory; the calls before it were made, in their order.
 abbrev pub AreShortOf : List Call → Status → List Made → Type 0
 AreShortOf [] status made = ⊥
 AreShortOf (call ∷ plan) status [] = status ≡ Memory
 AreShortOf (call ∷ plan) status (made ∷ more) =
     (made.call ≡ call) × IfSucceeded made.ok (AreShortOf plan status more) ((more ≡ []) × Ends call status)
 
--- these calls were added
+-- the first calls of a plan were added, of which one failed, or wasn't made for want of memory
 abbrev pub AddsShort : List Call → Status → Option (List Made) → Option (List Made) → Type 0
 AddsShort plan status old new =
     (made : List Made) × (AreShortOf plan status made × Adds made old new)
@@ -74,7 +74,7 @@ load_of (Some name) = call.Load name ∷ []
 abbrev pub first_loads : Line → List Call
 first_loads line = call.Load line.names.script ∷ call.Load line.names.file_a ∷ call.Load line.names.file_b ∷ []
 
--- and the log, in `replay`
+-- the loads of a run: the script, both files, and in `replay` the log
 abbrev pub loads_of : Line → List Call
 loads_of line = first_loads line ++ load_of (order_of line.work)
 
@@ -109,6 +109,6 @@ puts_of read_by_b read_by_a lines = put_of port.ReadByB read_by_b ++ (put_of por
 
 -- ---- all calls of a run
 
--- these loads, the binds of both readers, and these puts
+-- all calls of a run: its loads, the binds of both readers, and its puts
 abbrev pub plan_of : List Call → Line → List Call → List Call
 plan_of loads line puts = loads ++ (binds_of line ++ puts)

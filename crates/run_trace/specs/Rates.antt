@@ -22,7 +22,7 @@ module _ {C : Type 0} where
   abbrev pub rates_in : PathState C → Rates
   rates_in p = record { a = rate_at A p; b = rate_at B p }
 
-  -- of each path among these actors, in their order: path 0 first
+  -- the rates of each path among these actors, in their order: path 0 first
   abbrev pub rates_of : List (ActorCrew C) → List Rates
   rates_of crew = flat_map (λ c. option_to_list (option_map rates_in (member_path c.member))) crew
 

@@ -29,11 +29,11 @@ line_in (asks.Local (steps.Sent from number payload checksum)) =
     Some (record { from = from; number = number; payload = payload; checksum = checksum })
 line_in _ = None
 
--- among these steps
+-- what these steps tell of segments that they hand to the links
 abbrev pub lines_in : List Note → List SentLine
 lines_in notes = flat_map (λ note. option_to_list (line_in note.ask)) notes
 
--- that of a segment (RFC 9293, section 3.1)
+-- what a step tells of a segment that it hands to the link (RFC 9293, section 3.1)
 abbrev pub line_of : Sent → SentLine
 line_of s = record {
   from = s.from;

@@ -43,7 +43,7 @@ abbrev pub trace_of : List Turn → WorldState (List ℕ) → List Sent
 trace_of [] w = []
 trace_of (turn ∷ turns) w = sent_at turn w ++ trace_of turns (after_turn octets turn w)
 
--- its octets are a segment between the addresses of its path
+-- the octets are a segment between the addresses of its path
 abbrev pub IsWhole : Sent → Type 0
 IsWhole s = IsOk (segment_meaning (addresses_from s.path s.from) s.octets)
 
@@ -72,7 +72,7 @@ IsTraceFault turns w fault.Memory = Unit {0}
 abbrev pub FailedOrIs : Kept → Kept → Type 0
 FailedOrIs new old = (new.failed ≡ true) ⊎ (new ≡ old)
 
--- it stands behind so many of these turns
+-- the world stands behind the first `count` of the turns
 abbrev pub StandsBehind : ℕ → List Turn → WorldState (List ℕ) → Kept → Type 0
 StandsBehind count turns w v = v ≡ standing (world_run octets (take count turns) w)
 

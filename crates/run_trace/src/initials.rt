@@ -10,7 +10,7 @@ use link_script::{PathLine, Script};
 use link_trace::PathInitials;
 use std::alloc::{AllocError, Global};
 
-/// Those of the path of this number, as the seed draws them.
+/// The initial numbers of the path of this number, as the seed draws them.
 fn path_initials(script: &Script, path: u64) -> PathInitials
     requires { path + 1 < 2 ^ 63 }
     ensures { (line : PathLine) → result ≡ plan_initials (plan_of script.now path line) }
@@ -21,7 +21,7 @@ fn path_initials(script: &Script, path: u64) -> PathInitials
     }
 }
 
-/// Those of each of these lines, the first of which is that of path 0.
+/// The initial numbers of each of these lines, the first of which is that of path 0.
 fn initials_of(
     alloc: Global,
     script: &Script,
@@ -37,7 +37,7 @@ fn initials_of(
     Ok(initials)
 }
 
-/// Those of each path of a script, path 0 first.
+/// The initial numbers of each path of a script, path 0 first.
 pub fn initials_in(alloc: Global, script: &Script) -> Result<Vec<PathInitials>, AllocError>
     ensures { IfOk result (λ initials. initials.items ≡ initials_in script.now) }
 {

@@ -2,6 +2,6 @@
 
 /// Who is told how far the turns of a log are made.
 pub trait Progress {
-    /// So many of so many turns are made.
+    /// Tells how many of how many turns are made.
     fn made(&mut self, turns: u64, of: usize);
 }

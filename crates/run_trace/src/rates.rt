@@ -10,7 +10,7 @@ use sides::Side;
 use std::alloc::{AllocError, Global};
 use world_core::World;
 
-/// Those of a side's end.
+/// The rate of a side's end.
 fn rate_at(side: Side, path: &Path) -> Rate
     ensures { result ≡ rate_at side path.now }
 {
@@ -40,7 +40,7 @@ fn keep(rates: &mut Vec<Rates>, path: Option<&Path>) -> Result<(), AllocError>
     Ok(())
 }
 
-/// Those of both ends of each path, path 0 first.
+/// The rates of both ends of each path, path 0 first.
 pub fn rates_of(alloc: Global, world: &World) -> Result<Vec<Rates>, AllocError>
     ensures { IfOk result (λ rates. rates.items ≡ rates_of world.now.state.crew) }
 {

@@ -1,4 +1,7 @@
 -- When parts find their places, and which rows they make.
+--
+-- A lookup in rows is compared with the list of parts; what may stand once is proved there (`proofs/Placing.antt`), not
+-- in the walk.
 use Rattle.std.proofs.Common.{◌≡◌, ◌∙◌, ◌<◌, ◌≤◌, ℕ, zero, suc, Bool, true, false, cond, not, ◌&&◌, ◌||◌, refl, sym, ap, List, [], ◌∷◌, ◌++◌, Option, Some, None, true≢false, codes, arith, append_assoc, append-nil}
 use Rattle.std.specs.Prelude.{slice_get}
 use Rattle.std.specs.Str.{bytes_eq}

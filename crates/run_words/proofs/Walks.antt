@@ -1,4 +1,13 @@
 -- The whole walk of `clap`: its fault and its rows are those of the parts of the words.
+--
+-- A parse by `clap` (`run_words`): a command without groups, defaults or rules between arguments is simple, and then
+-- `try_get_matches_from` is exact both ways by `fault_of` and `matches_of` over `app_of` of the command, which the
+-- builders compute; `is_simple_and_free` is `refl`. One private function for each argument that is added, at most four
+-- calls in one function. Write the filled-in rules as one function of id, long name and index (`plain`), so that the
+-- use of a rule computes at variables; then relate kinds of fault, rows and the own reading by `Agrees` (both or
+-- neither), compose it by `agrees_then` in the order in which `clap` settles what is pending, and go by one word
+-- (`one_step`) and by what the word looks like (`by_look`). A name lookup is a `find` over literals: four Bools and
+-- their cases (`by_long`).
 use Rattle.std.proofs.Common.{◌≡◌, ◌∙◌, ℕ, Bool, true, false, ◌||◌, refl, sym, ap, subst, List, [], ◌∷◌, map, Option, Some, None}
 use Rattle.std.specs.Prelude.{string_bytes, String}
 use Rattle.std.specs.Global.{Global}

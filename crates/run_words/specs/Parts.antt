@@ -48,7 +48,7 @@ abbrev pub part_in : Option Choice → Word → Option Part
 part_in (Some choice) word = Some (option choice (after_first is_equals word))
 part_in None word = if is_dashed word then None else Some (name word)
 
--- the same, by what stands before the word's first `=`
+-- a word as a part, by what stands before its first `=`
 abbrev pub part_of : Word → Option Part
 part_of word = part_in (choice_of (before_first is_equals word)) word
 

@@ -30,59 +30,6 @@ fn with_name<'a>(alloc: Global, form: Command<'a>, name: &'a str) -> Result<Comm
     form.arg(Arg::new(alloc, name))
 }
 
-/// The form with two options more, of these names.
-fn with_two_options<'a>(
-    alloc: Global,
-    form: Command<'a>,
-    first: &'a str,
-    second: &'a str,
-) -> Result<Command<'a>, AllocError>
-    ensures { IfOk result (λ made. app_of made ≡
-        form_is.with_option second.entry.now
-        (form_is.with_option first.entry.now (app_of form.entry))) }
-{
-    let form = with_option(alloc, form, first)?;
-    with_option(alloc, form, second)
-}
-
-/// The form with its four options.
-fn with_options<'a>(alloc: Global, form: Command<'a>) -> Result<Command<'a>, AllocError>
-    ensures { IfOk result (λ made. app_of made ≡ form_is.with_options (app_of form.entry)) }
-{
-    let form = with_two_options(alloc, form, "mode", "rounds")?;
-    with_two_options(alloc, form, "order", "number")
-}
-
-/// The form with two names more.
-fn with_two_names<'a>(
-    alloc: Global,
-    form: Command<'a>,
-    first: &'a str,
-    second: &'a str,
-) -> Result<Command<'a>, AllocError>
-    ensures { IfOk result (λ made. app_of made ≡
-        form_is.with_name second.entry.now
-        (form_is.with_name first.entry.now (app_of form.entry))) }
-{
-    let form = with_name(alloc, form, first)?;
-    with_name(alloc, form, second)
-}
-
-/// The form with the names of what is read.
-fn with_inputs<'a>(alloc: Global, form: Command<'a>) -> Result<Command<'a>, AllocError>
-    ensures { IfOk result (λ made. app_of made ≡ form_is.with_inputs (app_of form.entry)) }
-{
-    let form = with_name(alloc, form, "script")?;
-    with_two_names(alloc, form, "file_a", "file_b")
-}
-
-/// The form with the names of what is written.
-fn with_outputs<'a>(alloc: Global, form: Command<'a>) -> Result<Command<'a>, AllocError>
-    ensures { IfOk result (λ made. app_of made ≡ form_is.with_outputs (app_of form.entry)) }
-{
-    with_two_names(alloc, form, "read_by_b", "read_by_a")
-}
-
 /// A form of which nothing is said yet.
 fn plain_form<'a>(alloc: Global) -> Command<'a>
     ensures { app_of result ≡ form_is.plain_form }
@@ -96,9 +43,15 @@ fn plain_form<'a>(alloc: Global) -> Command<'a>
 fn line_form<'a>(alloc: Global) -> Result<Command<'a>, AllocError>
     ensures { IfOk result (λ made. app_of made ≡ form_is.line_form) }
 {
-    let form = with_options(alloc, plain_form(alloc))?;
-    let form = with_inputs(alloc, form)?;
-    with_outputs(alloc, form)
+    let form = with_option(alloc, plain_form(alloc), "mode")?;
+    let form = with_option(alloc, form, "rounds")?;
+    let form = with_option(alloc, form, "order")?;
+    let form = with_option(alloc, form, "number")?;
+    let form = with_name(alloc, form, "script")?;
+    let form = with_name(alloc, form, "file_a")?;
+    let form = with_name(alloc, form, "file_b")?;
+    let form = with_name(alloc, form, "read_by_b")?;
+    with_name(alloc, form, "read_by_a")
 }
 
 /// Want of memory, or else words that break the form.

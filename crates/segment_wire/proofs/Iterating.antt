@@ -1,4 +1,11 @@
 -- The options that an iterator gives, as a list of octets, for callers that go over them.
+--
+-- Options without fuel: recursion on the list with the number of octets still to pass over; lemmas named `..-skip` lead
+-- from there to `drop`. One function that says what stands at the front, whose clause says what that means for all
+-- (`IsFront`), serves an iterator and a test with an invariant of two lines.
+--
+-- A `for` over `options()` has the invariant `F (octets_alone (options_left l.option-iterator)) ≡ F (option_octets ..)`
+-- and no answer. After `parse` of what was written use its clause `written` with `readable` of `write`.
 use Rattle.std.proofs.Common.{◌≡◌, ℕ, List, [], ◌∷◌, map, refl, ap}
 use Rattle.std.specs.Borrow.{u8 as octet}
 use Rattle.std.specs.Ptr.{Ptr, ptr_add}

@@ -1,4 +1,8 @@
 -- What was read is written again.
+--
+-- The other way round, from what was read to what is written, go by as many variables as octets: a section over `a0 ..
+-- a19 rest`, and `cells 20 0 octets` (`segment_wire/proofs/Rewritten`). Join records and lists by an opaque function
+-- and `cc`, which knows no eta.
 use Rattle.std.proofs.Common.{◌≡◌, ℕ, zero, suc, ◌+◌, ◌-◌, ◌*◌, ◌/◌, ◌<◌, ◌≤◌, inl, inr, Bool, true, false, cond, eqb, List, [], ◌∷◌, ◌++◌, length, get_or, drop, Result, Ok, Err, refl, sym, ap, ◌∙◌, subst, arith}
 use Rattle.std.specs.Prelude.{not, nat_lt, ◌==◌, bit_and, bit_or, if◌then◌else◌, All}
 use Rattle.std.specs.Int.{w16, w32, to_be_bytes}

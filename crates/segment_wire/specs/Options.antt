@@ -51,11 +51,11 @@ options_after place zero (suc (suc kind) ∷ len ∷ rest) =
 abbrev pub plain_options : List ℕ → List (ℕ × List ℕ)
 plain_options options = options_after 0 0 options
 
--- the same, where the first octet lies at this address
+-- the options with their addresses, where the first octet lies at this one
 unfoldable pub placed_options : Ptr → List ℕ → List (Ptr × List ℕ)
 placed_options start options = map (λ o. (ptr_add octet o.0 start, o.1)) (plain_options options)
 
--- their octets alone
+-- the octets of each option
 abbrev pub option_octets : List ℕ → List (List ℕ)
 option_octets options = map (λ o. o.1) (plain_options options)
 

@@ -76,7 +76,7 @@ segment_meaning addresses octets =
 abbrev pub segment_of : SegmentRef → Segment
 segment_of lent = record { head = lent.head; options = lent.options.now; payload = lent.payload.now }
 
--- the same of a result
+-- the segment that is lent, or the fault
 abbrev pub as_segment : Result SegmentRef SegmentFault → Result Segment SegmentFault
 as_segment (Ok lent) = Ok (segment_of lent)
 as_segment (Err fault) = Err fault

@@ -17,7 +17,7 @@ pub fn covered_sum(addresses: &Addresses, segment: &[u8]) -> u16
     ones_sum::fold(ones_sum::sum_more(before, segment))
 }
 
-/// The same sum over a segment that is lent in parts: the fixed header, the options and the payload.
+/// The sum of `covered_sum`, over a segment that is lent in parts: the fixed header, the options and the payload.
 pub fn covered_sum_of_parts(
     addresses: &Addresses,
     header: &[u8; 20],

@@ -1,4 +1,7 @@
 -- Elements of lists by place, and the elements from the first on that pass a test.
+--
+-- Loops over runs (`RangeMarks::runs`): a definition by recursion on the list of runs for each loop, and the invariant
+-- that what is left gives the same answer as all. Lemmas lead from there to the marks by place.
 use Rattle.std.proofs.Common.{◌≡◌, refl, ◌∙◌, ap, ℕ, zero, suc, ◌+◌, ◌-◌, ◌<◌, ◌≤◌, Bool, true, false, not, cond, List, [], ◌∷◌, ◌++◌, length, take, drop, map, replicate, Some, arith}
 use Rattle.std.proofs.lemmas.Grind.{common_steps}
 use Rattle.std.proofs.lemmas.Option.{slice_get-map}

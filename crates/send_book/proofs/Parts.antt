@@ -1,4 +1,7 @@
 -- The parts of the written octets, by place.
+--
+-- What one part of a list of parts lies in (`Written` of `send_book`): all that a search by halves has to promise is
+-- that the parts before it end in time; that it is the last such place is no fact of the contract.
 use Rattle.std.proofs.Common.{◌≡◌, ◌∙◌, refl, sym, ap, ℕ, zero, suc, ◌+◌, ◌-◌, ◌<◌, ◌≤◌, min, List, [], ◌∷◌, ◌++◌, length, get_or, take, drop, append-nil, append_assoc, length-append, length-drop, ⊎_elim, arith}
 use Rattle.std.specs.List.Sorted.{IsNonDecreasingBy}
 use Rattle.std.proofs.lemmas.Bool.{cases_lt}

@@ -40,7 +40,7 @@ after_write bytes b =
 abbrev pub close_reply : Sending → SendReply
 close_reply b = if b.aborted then Shut else Closed
 
--- and else nothing more is written
+-- Close: nothing more is written; an aborted book stays as it is
 abbrev pub after_close : Sending → Sending
 after_close b = if b.aborted then b else record b { closed = true }
 
@@ -53,7 +53,7 @@ is_for path (Some owner) = owner == path
 abbrev pub first_free : ℕ → Sending → Option ℕ
 first_free path b = if is_for path b.owner then position (is_free_for path) b.marks else None
 
--- from there on, all bytes in a row that the path may take, below the edge, and no more than max
+-- how many bytes in a row the path may take from a byte on, below the edge, and no more than max
 abbrev pub run_len : ℕ → ℕ → Sending → ℕ → ℕ
 run_len path max b from = min max (min (b.edge - from) (prefix_len (is_free_for path) (drop from b.marks)))
 
@@ -63,7 +63,7 @@ span_from path max b from =
     if nat_le b.edge from then Err WindowShut
     else Ok (record { from = from; to = from + run_len path max b from })
 
--- the same from the first byte that it may take, if there is one
+-- what the path is given from the first byte that it may take, if there is one
 abbrev pub span_at : ℕ → ℕ → Sending → Option ℕ → Result Span Why
 span_at path max b None = Err NothingFree
 span_at path max b (Some from) = span_from path max b from
@@ -130,7 +130,7 @@ after_ack next window b =
 abbrev pub return_reply : ℕ → Sending → SendReply
 return_reply path b = Returned (count_by (is_held_by path) b.marks)
 
--- they are free again, for paths that have not tried them
+-- the bytes that the path held are free again, for paths that have not tried them
 abbrev pub after_return : ℕ → Sending → Sending
 after_return path b = record b { marks = map (returned path) b.marks }
 
@@ -144,7 +144,7 @@ tried_first path (mark ∷ marks) =
 abbrev pub is_gathered : ℕ → Sending → Bool
 is_gathered path b = is_none b.owner && tried_first path (drop (acked_len b.marks) b.marks)
 
--- it begins at the first byte that isn't acknowledged, or is refused
+-- GoInfinite: the mapping begins at the first byte that isn't acknowledged, or is refused
 abbrev pub infinite_reply : ℕ → Sending → SendReply
 infinite_reply path b = if is_gathered path b then Infinite (acked_len b.marks) else Scattered
 

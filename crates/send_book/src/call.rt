@@ -70,13 +70,13 @@ pub enum Why {
 /// What a send book answers.
 #[derive(Drop)]
 pub enum SendReply {
-    /// So many of the offered bytes were taken.
+    /// How many of the offered bytes were taken.
     Taken(u64),
     /// No more bytes are taken from now on.
     Closed,
     /// The book is closed or aborted.
     Shut,
-    /// These bytes are the path's to send.
+    /// Bytes that are the path's to send.
     Granted {
         /// Their places.
         span: Span,

@@ -30,7 +30,7 @@ fn append_part(
     Ok(())
 }
 
-/// These marks, of which those of the span are moved.
+/// A copy of the marks, of which those of the span are moved.
 pub(crate) fn moved(
     alloc: Global,
     marks: &RangeMarks<ByteMark>,

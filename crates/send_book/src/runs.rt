@@ -16,11 +16,11 @@ impl Mark for ByteMark {
 /// What is done to a mark.
 #[derive(Clone, Copy)]
 pub(crate) enum Move {
-    /// It stays.
+    /// The mark stays.
     Keep,
     /// The byte is given to this path.
     Give(u8),
-    /// This path gives the byte back.
+    /// A path gives the byte back.
     TakeBack(u8),
 }
 

@@ -135,7 +135,7 @@ fn part_of(alloc: Global, parts: &[Part], from: u64, to: u64) -> Result<Text, Al
     )
 }
 
-// So many octets of these parts behind the first `skip`. Where the first part has them all they are shared.
+// Octets of these parts behind the first `skip`, `count` of them. Where the first part has them all they are shared.
 fn cut(alloc: Global, parts: &[Part], skip: usize, count: usize) -> Result<Text, AllocError>
     requires { skip + count < 2 ^ 64 }
     ensures { IfOk result (λ text. text ≡ take count (drop skip (joined parts.now))) }
@@ -148,7 +148,7 @@ fn cut(alloc: Global, parts: &[Part], skip: usize, count: usize) -> Result<Text,
     gather(alloc, parts, skip, count)
 }
 
-// So many octets of these parts behind the first `skip`, copied together.
+// Octets of these parts behind the first `skip`, `count` of them, copied together.
 fn gather(alloc: Global, parts: &[Part], skip: usize, count: usize) -> Result<Text, AllocError>
     ensures { IfOk result (λ text. text ≡ take count (drop skip (joined parts.now))) }
 {

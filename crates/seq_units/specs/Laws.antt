@@ -8,7 +8,7 @@ abbrev pub EachNumberMeansAPosition : ℕ → Type 0
 EachNumberMeansAPosition space =
     (base expected number : ℕ) → number < space → (p : ℤ) × IsMeant space base expected number p
 
--- and no second one
+-- beside an expected position no number means two positions
 abbrev pub NoNumberMeansTwoPositions : ℕ → Type 0
 NoNumberMeansTwoPositions space = (base expected number : ℕ) (p q : ℤ)
     → IsMeant space base expected number p → IsMeant space base expected number q → p ≡ q

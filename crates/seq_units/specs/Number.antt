@@ -8,7 +8,7 @@ use Rattle.std.specs.Int.{int_rem_euclid}
 abbrev pub number_of : ℕ → ℕ → ℕ → ℕ
 number_of space base p = (base + p) % space
 
--- the same of a position that may lie before the start: the number is base + p modulo the space
+-- the number of a position that may lie before the start: base + p modulo the space
 abbrev pub HasNumber : ℕ → ℕ → ℤ → ℕ → Type 0
 HasNumber space base p number = int_rem_euclid (pos base +ℤ p) (pos space) ≡ pos number
 
@@ -33,6 +33,6 @@ position_near space base expected number =
     if nat_lt (numbers_ahead space base expected number) (space / 2) then Some on
     else (if nat_lt on space then None else Some (on - space))
 
--- that position, if it is below a limit
+-- the position, if it is below a limit
 abbrev pub below : ℕ → Option ℕ → Option ℕ
 below limit p = option_and_then (λ q. if nat_lt q limit then Some q else None) p

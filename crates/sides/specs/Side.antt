@@ -8,7 +8,7 @@ abbrev pub peer : Side → Side
 peer A = B
 peer B = A
 
--- its word in scripts and logs
+-- a side's word in scripts and logs
 abbrev pub side_word : Side → List ℕ
 side_word A = codes "a"
 side_word B = codes "b"

@@ -21,7 +21,7 @@ module _ {O C R : Type 0} (reply_to : O → C → R) (after : O → C → O) whe
       (entry.reply ≡ reply_to book entry.call) × (entry.stamp ≡ max last entry.seen + 1) × (entry.stamp < 2 ^ 62)
       × IsJournal (after book entry.call) entry.stamp entries
 
-  -- this book is what its journal makes of the book that it was opened with, whose journal begins at stamp 0
+  -- a book is what its journal makes of the one that it was opened with, whose journal begins at stamp 0
   pub record IsReplay (opening : O) (journal : List (Entry C R)) (book : O) : Type 0 where
     pub is_journal : IsJournal opening 0 journal
     pub book_is : book ≡ replay opening journal

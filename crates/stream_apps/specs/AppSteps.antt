@@ -19,12 +19,12 @@ use Rattle.actor_desk.specs.Words.{is_nil, tail_of}
 abbrev pub start_of_app : List AppDuty
 start_of_app = FastClose ∷ AbortSend ∷ AbortReceive ∷ Write ∷ Close ∷ Read ∷ End ∷ []
 
--- it stops the connection in this round
+-- the application stops the connection in this round
 abbrev pub is_due : Option ℕ → Bool
 is_due (Some rounds) = rounds == 0
 is_due None = false
 
--- so it is one round later
+-- the rounds that end before the stop, one round later; none once the stop came
 abbrev pub a_round_less : Option ℕ → Option ℕ
 a_round_less (Some rounds) = if rounds == 0 then None else Some (rounds - 1)
 a_round_less None = None
@@ -82,7 +82,7 @@ ends_in (replies.Reassembly reassembly_replies.End) = true
 ends_in (replies.Reassembly (reassembly_replies.Aborted by_peer)) = true
 ends_in _ = false
 
--- it reads on where bytes came, and too few of them in this turn
+-- the application reads on where bytes came, and too few of them in this turn
 abbrev pub app_reads_on : List ℕ → AppState → Bool
 app_reads_on bytes a = not (is_nil bytes) && nat_lt (a.count + length bytes) a.buffer
 
@@ -114,7 +114,7 @@ abbrev pub app_asks_first : List AppDuty → AppState → Option Ask
 app_asks_first [] a = None
 app_asks_first (d ∷ ds) a = Some (app_ask d a)
 
--- what it asks next; nothing where its turn is over
+-- what the application asks next; nothing where its turn is over
 abbrev pub app_asks_of : AppState → Option Ask
 app_asks_of a = app_asks_first a.agenda a
 
@@ -123,7 +123,7 @@ abbrev pub asks_bytes : List AppDuty → Bool
 asks_bytes (Write ∷ ds) = true
 asks_bytes _ = false
 
--- the same of the first of these duties
+-- the first of the duties is answered
 abbrev pub app_answers : List AppDuty → Reply → AppState → AppState
 app_answers [] r a = a
 app_answers (d ∷ ds) r a = app_answered d r a
@@ -132,7 +132,7 @@ app_answers (d ∷ ds) r a = app_answered d r a
 abbrev pub app_settles_down : AppState → AppState
 app_settles_down a = app_settled a.agenda a
 
--- it takes a reply, and stands before the next duty that comes to something
+-- the application takes a reply, and stands before the next duty that comes to something
 abbrev pub app_takes : Reply → AppState → AppState
 app_takes r a = app_settles_down (app_answers a.agenda r a)
 

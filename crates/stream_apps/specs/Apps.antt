@@ -9,9 +9,9 @@ pub record AppState : Type 0 where
   pub buffer : ℕ
   -- what of its file isn't written yet
   pub rest : List ℕ
-  -- it told that it writes no more
+  -- the application told that it writes no more
   pub closed : Bool
-  -- it was told that the stream ended, or was aborted
+  -- the application was told that the stream ended, or was aborted
   pub told : Bool
   -- octets that it read in this turn
   pub count : ℕ

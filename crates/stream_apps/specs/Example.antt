@@ -32,7 +32,7 @@ abbrev pub after_app_steps : ℕ → AppRun → AppRun
 after_app_steps zero w = w
 after_app_steps (suc n) w = after_app_steps n (app_step (app_asks_of w.app) w)
 
--- so many of its steps
+-- a number of the application's steps, the first one first
 abbrev pub app_steps_made : ℕ → AppRun → List Step
 app_steps_made zero w = []
 app_steps_made (suc n) w = step_told (app_asks_of w.app) w.books (app_steps_made n (app_step (app_asks_of w.app) w))
@@ -73,7 +73,7 @@ turn_of_b =
 abbrev pub app_that_stops : AppRun
 app_that_stops = record { app = first_app_turn side.A 65536 hello (Some 99); books = opened_books 65536 8938189255999614177 5210603713849882493 }
 
--- it stops the connection first; then its file isn't taken, and a read tells that it aborted
+-- the application stops the connection first; then its file isn't taken, and a read tells that it aborted
 abbrev pub turn_that_stops : List Step
 turn_that_stops =
     step (asks.Control side.A control_calls.FastClose) (replies.Control control_replies.Noted)

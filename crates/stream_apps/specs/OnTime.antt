@@ -8,12 +8,12 @@ use Rattle.stream_apps.specs.Apps.{AppState}
 use Rattle.stream_apps.specs.AppSteps.{app_asks_of, app_takes, app_next_round}
 use Rattle.stream_apps.specs.Starts.{first_app_turn}
 
--- it took these replies, whatever they are
+-- the application took these replies, whatever they are
 abbrev pub after_replies : List Reply → AppState → AppState
 after_replies [] a = a
 after_replies (r ∷ rs) a = after_replies rs (app_takes r a)
 
--- and began a round after each of these lists of replies
+-- the application began a round after each list of replies
 abbrev pub after_rounds : List (List Reply) → AppState → AppState
 after_rounds [] a = a
 after_rounds (rs ∷ rounds) a = after_rounds rounds (app_next_round (after_replies rs a))
@@ -27,9 +27,9 @@ abbrev pub AsksFastClose : AppState → Type 0
 AsksFastClose a = app_asks_of a ≡ Some (asks.Control a.side control_calls.FastClose)
 
 pub record StopsOnTime : Type 0 where
-  -- so it is as a round begins, where that is the round of the tick
+  -- as a round begins an application asks for a fast close, exactly where that is the round of its tick
   pub due : (s : Side) (buffer : ℕ) (file : List ℕ) (tick : ℕ) (rounds : List (List Reply))
       → AsksFastClose (after_rounds rounds (first_app_turn s buffer file (Some tick))) ↔ HoldsTick (length rounds) tick
-  -- and never where there is no tick
+  -- an application without a tick never begins a round with a fast close
   pub never : (s : Side) (buffer : ℕ) (file : List ℕ) (rounds : List (List Reply))
       → AsksFastClose (after_rounds rounds (first_app_turn s buffer file None)) → ⊥

@@ -1,4 +1,4 @@
--- That a turn of an application ends, whatever it is answered.
+-- A turn of an application ends, whatever it is answered.
 use Rattle.std.specs.Prelude.{◌≡◌, true, Some, IfSome, List, [], ◌∷◌}
 use Rattle.actor_desk.specs.declared.ask.Ask.{Ask}
 use Rattle.actor_desk.specs.declared.ask.Reply.{Reply}

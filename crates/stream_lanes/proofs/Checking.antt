@@ -1,4 +1,13 @@
 -- Bytes that came: each is the record's, or the first of a piece, with its lowest bit turned.
+--
+-- Altered payload is one bit of the view that falls, `exact`: no link alters anything, or every mapping is checked and
+-- the receiver did not fall. Only two facts are guarded by it, that a byte in the book is the written one and that the
+-- reader's are; lengths, places, acknowledgements and ends need no guard. What is on the way is `Came`: the record's
+-- byte, or the first of a piece with its lowest bit turned. Pieces are apart and copies have the bounds of a piece, so
+-- parts of different copies of a mapping are those of one of two texts (`came_cases`), and a second alteration needs no
+-- case of its own. What links do and whether mappings are checked are constants of a lane (`alters`, `checked`), so
+-- that no new move looks at a mode. What is said of windows is guarded by `alters ≡ false`: an old acknowledgement of
+-- the subflow may tell one that is too large.
 use Rattle.stream_lanes.proofs.Words.{◌≡◌, refl, sym, ◌∙◌, ap, subst, ℕ, zero, suc, ◌+◌, ◌<◌, ◌≤◌, Bool, true, false, ◌==◌, List, [], ◌∷◌, length, Some, arith}
 use Rattle.stream_lanes.proofs.Words.{◌⊎◌, inl, inr, ◌^◌, bit_xor, and_parts, both_ways, eqb-true, slice_get, slice_get_within, same_Some, Mapping, Cell}
 use Rattle.stream_lanes.proofs.Words.{are_same, From, Came, IsByteOf, IsPiece, AreApart, Starts, as_sent, turned}

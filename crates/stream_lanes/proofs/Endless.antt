@@ -1,4 +1,11 @@
 -- Infinite mappings: what is sent, heard and taken by one.
+--
+-- An infinite mapping (`IsEndless`) is right and stays so by facts that only grow: all places below the next one that
+-- it gives are spent for the path, the others are new, and no other path is granted anything (`IsAlone`: the book has
+-- this owner, or a side fell to plain TCP and so no join is ever answered). The same `grant_is_next` then serves a
+-- grant in plain TCP and by an infinite mapping. That received bytes aren't new (`far` of `proofs/Directions`) is all
+-- that an acknowledgement needs to keep new bytes new. What the receiver's edge passed is in its book (`PassedHolds`),
+-- so what the subflow acknowledges was received.
 use Rattle.stream_lanes.proofs.Words.{◌≡◌, refl, sym, ◌∙◌, subst, ℕ, suc, ◌+◌, ◌-◌, ◌<◌, ◌≤◌, min, max, true, ⊎_elim, List, [], ◌∷◌, ◌++◌, length, Option, Some}
 use Rattle.stream_lanes.proofs.Words.{None, arith, ◌&&◌, nat_le, and_parts, both_ways, eqb-true, cases_lt, leb-true, slice_get, IfSome, AckCopy, Pair, Lane}
 use Rattle.stream_lanes.proofs.Words.{Cell, AskAckIn, AskFin, place_by, shifted, hears_sub, sends_pair, sends_fin_pair, takes_pair, ends_pair, is_whole}

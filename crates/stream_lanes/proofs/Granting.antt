@@ -1,4 +1,9 @@
 -- What a lane makes of the reply to its grant.
+--
+-- A call that is generalised over a decision: `by_decision (r) → decision .. ≡ r → ..` with the state as `given_by path
+-- r s`.
+--
+-- What a definition computes to is passed to `subst` as a function of the Bool or Option that decides.
 use Rattle.stream_lanes.proofs.Words.{◌≡◌, refl, sym, ◌∙◌, ap, subst, ℕ, ◌+◌, ◌-◌, ◌<◌, ◌≤◌, Bool, true, false, not, ⊎_elim, List, [], ◌∷◌, ◌++◌, length, drop}
 use Rattle.stream_lanes.proofs.Words.{Some, None, Result, Ok, Err, position, if◌then◌else◌, arith, ◌⊎◌, ◌&&◌, inl, inr, and_parts, cases_lt, slice_get}
 use Rattle.stream_lanes.proofs.Words.{length-take, length-drop, map-append, length-map, length-append, IfSome, option_map, slice_get_within, Arriving, received}

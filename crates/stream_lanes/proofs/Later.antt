@@ -1,4 +1,7 @@
 -- The books went on from one view to another: what held of a lane then holds now.
+--
+-- `Later Q v u`: the books went on from one view to another. One lemma, `lane_later`, carries a lane over it; so a step
+-- of one path or application is proved for all other lanes at once.
 use Rattle.stream_lanes.proofs.Words.{◌≡◌, sym, ◌∙◌, ap, ℕ, ◌≤◌, Bool, true, List, ◌++◌, length, Option, Some, arith, ◌⊎◌, inl, inr, slice_get, Arriving}
 use Rattle.stream_lanes.proofs.Words.{AckCopy, Pair, Ask, Lane, Cell, AskAckIn, AskPlace, AskFin, place_by, Every, IsEnd, IsIn, View, IsAll, IsSent}
 use Rattle.stream_lanes.proofs.Words.{ArrivedHolds, RecordHolds, AloneHolds, ModeHolds, EndsHold, IsFin, HeardHolds, IsAck, ReceiverHolds, PlaceHolds, AskHolds}

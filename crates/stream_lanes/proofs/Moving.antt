@@ -1,4 +1,55 @@
 -- Every move of a lane keeps what holds of it.
+--
+-- Windows are part of it: an acknowledgement with its window reaches no further than the receiver takes, and while no
+-- AckOut is due the position with the window of the latest one doesn't either. Without that `Beyond` isn't excluded.
+--
+-- A branch is a lemma over the Bool with both cases, `held_if`, `step_if`; a lookup is a function of the `Option`, and
+-- the lemma takes `slice_get .. ≡ o`. A rule's case is then one line of the dispatch.
+--
+-- Wrong rules were tried as edits of the definitions. For each the lemma of that rule is no longer proved, and where a
+-- run is named, that run computes to a breach with it:
+--
+-- Bytes are placed in the order of their arrival: `want_place_held` (`Placing`): the second half comes first on path 1:
+-- the reader gets `efgh`.
+--
+-- AckOut tells the highest place: `lane_asks` at AckOut (`ack_out_held`): the second half alone came: all eight bytes
+-- are acknowledged, none was received.
+--
+-- Return acknowledges: `after_held` at Return (`return_step`), `return_moves`: four bytes are acknowledged, none was
+-- received.
+--
+-- A byte is granted to a path twice, since Return forgets who tried it: the same: a path has 16 bytes of a stream of
+-- eight.
+--
+-- A FIN at any time, or once the end is known: `send_fin_held` (`Ending`): in plain TCP the reader has `abcd` and is
+-- told the end.
+--
+-- An acknowledgement before AckOut: `moved_held` at SendAck (`send_ack_held`): in plain TCP with room for four bytes
+-- the next four are answered `Beyond`.
+--
+-- A fall after a join (A; B): `falls_a_goes`; `falls_b_goes` (`Duos`): the second half came on path 0: four bytes are
+-- acknowledged, none was received.
+--
+-- A join is answered after the fall: `hears_goes`: B fell and answered.
+--
+-- A path that no join opened asks for bytes: `moved_held` at Open (`open_held`).
+--
+-- The subflow's acknowledgement always stands for the stream's: `hear_ack_held`: four bytes are acknowledged, none was
+-- received.
+--
+-- A larger window than was told: `send_ack_held`: eight bytes where four are taken: `Beyond`.
+--
+-- The edge passes a gap: `row` (`Placing`): the second half first: the reader gets `efgh`.
+--
+-- A FIN counts before the bytes before it: `hear_fin_held`.
+--
+-- A FIN is the end outside plain TCP: `moved_held` at WantFin (`want_fin_held`).
+--
+-- A mapping gives places past its end: `want_place_held`.
+--
+-- A byte of a grant is recorded one place on: `granted_held`.
+--
+-- A reader reads on after an abort: `read_step`, `aborted_is_no_end`.
 use Rattle.stream_lanes.proofs.Words.{refl, ℕ, nat_lt, ◌&&◌, and_parts, ltb-true, slice_get, Lane, AskGrant, AskAckOut, Flags, Move, moved, View, LaneHolds}
 use Rattle.stream_lanes.proofs.Words.{Open, LookAtSender, LookAtReceiver, WantGrant, HearAck, HearSubAck, SendPiece, SendAltered, SendDataFin, SendFin}
 use Rattle.stream_lanes.proofs.Words.{SendPair, SendPlainPair, SendFinPair, Hear, Learn, HearDataFin, HearFin, Forget, WantPlace, WantPlacePlain, WantFin}

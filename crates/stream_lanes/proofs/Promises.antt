@@ -1,4 +1,7 @@
 -- The promises, from what holds of a connection.
+--
+-- Conditions that fall, conclusions that rise: what is said of plain TCP holds as long as no join was answered
+-- (`alone`), and is said of every copy from the beginning on; so a fall needs nothing new of old copies.
 use Rattle.stream_lanes.proofs.Words.{◌≡◌, refl, sym, ◌∙◌, ap, subst, ℕ, zero, suc, ◌+◌, ◌-◌, ◌<◌, ◌≤◌, true, false, not, List, [], ◌∷◌, ◌++◌, length, take}
 use Rattle.stream_lanes.proofs.Words.{drop, replicate, Some, arith, ◌&&◌, ◌||◌, ◌^◌, or_left, or_right, not-true, and_from, true≢false, slice_get, list_all}
 use Rattle.stream_lanes.proofs.Words.{length-take, length-drop, take-append-drop, length-map, take_all, slice_get_within, same_Some, received, acked_len}

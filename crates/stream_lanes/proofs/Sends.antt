@@ -1,4 +1,6 @@
 -- What each call of a send book makes of it and of its view.
+--
+-- One record a call of a book (`SendStep`, `ReceiveStep`): its view went on, and what holds of the books holds again.
 use Rattle.stream_lanes.proofs.Words.{◌≡◌, refl, sym, ◌∙◌, ap, subst, ℕ, ◌+◌, ◌-◌, ◌<◌, ◌≤◌, min, max, Bool, true, false, nat_lt, ⊎_elim, List, [], ◌++◌}
 use Rattle.stream_lanes.proofs.Words.{length, take, drop, map, replicate, Option, Some, None, Result, Ok, Err, if◌then◌else◌, arith, ◌||◌, is_none, or_cases}
 use Rattle.stream_lanes.proofs.Words.{and_parts, both_ways, ltb-true, ltb-false, or_parts, slice_get, length-take, length-drop, length-replicate, append-nil}

@@ -1,4 +1,8 @@
 -- What holds of the view of two books, and numbers of theirs.
+--
+-- A view of the books and modes (`specs/View.antt`): a record of what a lane may rely on, mostly numbers that only
+-- grow. Each fact of a lane speaks of the view and of the lane's own fields; one group of facts a record, over fields
+-- and not over the lane, so that a move passes the groups on that it doesn't touch.
 use Rattle.stream_lanes.proofs.Words.{◌≡◌, refl, sym, ◌∙◌, ap, ℕ, zero, suc, ◌+◌, ◌-◌, ◌<◌, ◌≤◌, Bool, true, false, not, ◌==◌, ⊎_elim, List, length, Option}
 use Rattle.stream_lanes.proofs.Words.{Some, None, if◌then◌else◌, arith, ◌⊎◌, ◌&&◌, ◌||◌, inl, inr, or_left, or_right, both_ways, not-true, eqb-true, cases_lt}
 use Rattle.stream_lanes.proofs.Words.{eq-eqb, slice_get, same_Some, Arriving, filled, received, edge, Sending, acked_len, Flags, From, view_of, all_in, end_of}

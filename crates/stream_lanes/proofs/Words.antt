@@ -1,4 +1,8 @@
 -- Words that several files of these proofs use, given on.
+--
+-- Words on lists as records of functions: `Every`, `From`, `Cells`, `Has` over `slice_get xs i ≡ Some x`, with `n ≡
+-- first + i →` for the number. Being records, they need no arguments where they are used, and append, drop, take and
+-- put are one case split each, with no induction.
 pub use Rattle.std.proofs.Common.{◌≡◌, refl, sym, ◌∙◌, ap, subst, ℕ, zero, suc, ◌+◌, ◌-◌, ◌<◌, ◌≤◌, min, max, Bool, true, false, not, cond, nat_lt, ◌==◌, ⊎_elim, List, [], ◌∷◌, ◌++◌, length, get_or, take, drop, map, replicate, Option, Some, None, Result, Ok, Err, position, if◌then◌else◌, arith, ◌⊎◌, ◌&&◌, ◌||◌, inl, inr, set, is_some, nat_le, ◌^◌, is_none, bit_xor, count_by}
 pub use Rattle.std.proofs.lemmas.Bool.{or_cases, or_left, or_right, and_parts, false≢true, both_ways, not-true, eqb-true, cases_lt, ltb-true, eq-eqb, le-ltb, ltb-false, leb-true, or_parts, cases_eq, and_from, or_from, true≢false, and_right}
 pub use Rattle.std.specs.List.{slice_get, list_all, position_or_len}

@@ -95,6 +95,6 @@ opening_over alters checked paths buffer capacity = record {
   ba = opening_direction alters checked paths buffer capacity;
 }
 
--- the same over links that alter nothing, where no check is needed
+-- two sides before their first event, over links that alter nothing, where no check is needed
 abbrev pub opening : ℕ → ℕ → ℕ → Duo
 opening paths buffer capacity = opening_over false false paths buffer capacity

@@ -24,12 +24,12 @@ abbrev pub acknowledges : ℕ → ℕ → List Event
 acknowledges path copy =
     on path WantAckOut ∷ ask path ∷ on path (SendAck 100 100 100) ∷ on path (HearAck copy) ∷ ask path ∷ []
 
--- the same by the subflow's acknowledgement
+-- the receiver's end asks what to acknowledge, says so, and the sender's end hears it by the subflow's acknowledgement
 abbrev pub acknowledges_by_the_subflow : ℕ → List Event
 acknowledges_by_the_subflow copy =
     on 0 WantAckOut ∷ ask 0 ∷ on 0 (SendAck 100 100 100) ∷ on 0 (HearSubAck copy 100) ∷ ask 0 ∷ []
 
--- it hears a copy, learns its mapping, and places four of its bytes
+-- the receiver's end hears a copy, learns its mapping, and places four of its bytes
 abbrev pub takes_copy : ℕ → ℕ → ℕ → List Event
 takes_copy path copy mapping =
     on path (Hear copy 4) ∷ on path (Learn copy) ∷ on path (WantPlace mapping 4) ∷ ask path ∷ []
@@ -95,7 +95,7 @@ run_with_an_altered_copy = flat_map (λ part. part) (
 abbrev pub after_the_altered_run : Duo
 after_the_altered_run = after_events run_with_an_altered_copy (opening_over true true 1 16 8)
 
--- the same copy after a fall to plain TCP, where nothing is checked
+-- a run in plain TCP over links that alter payload: the first copy is altered, and nothing is checked
 abbrev pub run_altered_in_plain_tcp : List Event
 run_altered_in_plain_tcp = flat_map (λ part. part) (
     (on 0 Open ∷ acknowledges 0 0)

@@ -170,7 +170,8 @@ pub record IsPassed (path : ℕ) (v : View) (sent : List Cell) (upto : ℕ) : Ty
   pub bytes : (pos : ℕ) (c : Cell) → pos < upto → slice_get sent pos ≡ Some c → IsIn v c.place
   pub past : length sent < upto → AllGranted path v
 
--- so it is up to the receive edge and up to each acknowledgement sent; a FIN that came stands behind all bytes ever granted
+-- what the receiver's end passed holds up to its edge, and up to each acknowledgement sent; a FIN that came stands
+-- behind all bytes ever granted
 pub record PassedHolds (path : ℕ) (v : View) (sent : List Cell) (edge : ℕ) (fin_in : Bool) (acks : List AckCopy) : Type 0 where
   pub bytes : IsPassed path v sent edge
   pub fin : fin_in ≡ true → (edge ≡ length sent) × AllGranted path v

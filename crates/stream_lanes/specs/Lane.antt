@@ -7,7 +7,7 @@ pub record Cell : Type 0 where
   pub place : ℕ
   pub byte : ℕ
 
--- so many bytes from the position `pos` on have the places from `place` on
+-- bytes from the position `pos` on, `len` of them, have the places from `place` on
 pub record Mapping : Type 0 where
   pub pos : ℕ
   pub place : ℕ
@@ -58,9 +58,9 @@ pub record Lane : Type 0 where
   pub known_end : Option ℕ
   -- the greatest place up to which the book took its acknowledgements
   pub heard : ℕ
-  -- it was told that DATA_FIN is acknowledged
+  -- the sender's end was told that DATA_FIN is acknowledged
   pub fin_acked : Bool
-  -- it knows that its side fell back to plain TCP
+  -- the sender's end knows that its side fell back to plain TCP
   pub sender_plain : Bool
   -- the infinite mapping that it goes by since its book is its alone, and those ever sent
   pub pair : Option Pair
@@ -76,16 +76,16 @@ pub record Lane : Type 0 where
   pub kept : List (Option ℕ)
   -- the mappings that it learned
   pub maps : List Mapping
-  -- it knows that its side fell back to plain TCP, or to an infinite mapping
+  -- the receiver's end knows that its side fell back to plain TCP, or to an infinite mapping
   pub receiver_plain : Bool
   pub receiver_loose : Bool
   -- the infinite mapping that it took
   pub taken : Option Pair
   -- the FIN has come in order
   pub fin_in : Bool
-  -- it has to ask what is to be acknowledged before it sends anything
+  -- the receiver's end has to ask what is to be acknowledged before it sends anything
   pub due : Bool
-  -- what it was told then at the last time
+  -- what the receiver's end was told to acknowledge at the last time
   pub latest : Told
   pub asking : Ask
 
@@ -119,6 +119,6 @@ new_lane = record {
   asking = Nothing;
 }
 
--- the same over links that may alter payload, or may not, with mappings that are checked or not
+-- a lane before its first segment, over links that may alter payload or not, with mappings that are checked or not
 abbrev pub lane_over : Bool → Bool → Lane
 lane_over alters checked = record new_lane { alters = alters; checked = checked }

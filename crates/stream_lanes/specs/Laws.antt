@@ -33,11 +33,11 @@ use Rattle.stream_lanes.specs.Duo.{Modes, Duo, Event, after_event, after_events,
 abbrev pub Always : (Duo → Type 0) → Type 0
 Always P = (paths buffer capacity : ℕ) (events : List Event) → P (after_events events (opening paths buffer capacity))
 
--- the same over links that may alter payload, where mappings are checked
+-- P holds at every moment of a connection over links that may alter payload, where mappings are checked
 abbrev pub AlwaysChecked : (Duo → Type 0) → Type 0
 AlwaysChecked P = (paths buffer capacity : ℕ) (events : List Event) → P (after_events events (opening_over true true paths buffer capacity))
 
--- and over any links, with mappings that are checked or not
+-- P holds at every moment of a connection over any links, with mappings that are checked or not
 abbrev pub AlwaysAny : (Duo → Type 0) → Type 0
 AlwaysAny P = (alters checked : Bool) (paths buffer capacity : ℕ) (events : List Event) → P (after_events events (opening_over alters checked paths buffer capacity))
 
@@ -75,7 +75,7 @@ pub record NothingCame (d later : Direction) : Type 0 where
   pub read : later.reader ≡ d.reader
   pub written : later.send.written ≡ d.send.written
 
--- so it is in both directions, whatever events follow
+-- in both directions nothing is read or written after the end was told, whatever events follow
 abbrev pub NothingFollowsTheEnd : Duo → Type 0
 NothingFollowsTheEnd w = (more : List Event) → (w.ab.reader.told ≡ true → NothingCame w.ab (after_events more w).ab)
     × (w.ba.reader.told ≡ true → NothingCame w.ba (after_events more w).ba)
@@ -112,7 +112,7 @@ pub data StepsOrStays (count : ℕ) (p q : Pipe) : Type 0 where
   stays : q ≡ p → StepsOrStays count p q
   steps : IsStep count p q → StepsOrStays count p q
 
--- so does the pipe of a direction that becomes the later one
+-- the pipe of a direction that becomes the later one stays, or makes one step that it allows
 abbrev pub IsOneStepOrNone : Direction → Direction → Type 0
 IsOneStepOrNone d later = StepsOrStays (received d.arrived) (pipe_of d) (pipe_of later)
 

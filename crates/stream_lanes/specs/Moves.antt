@@ -31,16 +31,18 @@ pub data Move : Type 0 where
   LookAtReceiver : Move
   -- the sender's end is about to ask for bytes
   WantGrant : (max : ℕ) (standby : Bool) → Move
-  -- it hears an acknowledgement, or takes what the subflow acknowledges up to a position by its infinite mapping
+  -- the sender's end hears an acknowledgement, or takes what the subflow acknowledges up to a position by its infinite
+  -- mapping
   HearAck : (copy : ℕ) → Move
   HearSubAck : (copy upto : ℕ) → Move
-  -- it sends the bytes of a grant, for the first time or again, with its mapping or without
+  -- the sender's end sends the bytes of a grant, for the first time or again, with its mapping or without
   SendPiece : (piece : ℕ) (mapped : Bool) → Move
-  -- it does, and the link turns the lowest bit of the first byte
+  -- the sender's end sends the bytes of a grant, and the link turns the lowest bit of the first byte
   SendAltered : (piece : ℕ) (mapped : Bool) → Move
   SendDataFin : Move
   SendFin : Move
-  -- it sends its infinite mapping, from so many positions further on, or in plain TCP that of a position, and a FIN by it
+  -- the sender's end sends its infinite mapping, from some positions further on, or in plain TCP that of a position,
+  -- and a FIN by it
   SendPair : (shift : ℕ) → Move
   SendPlainPair : (pos : ℕ) → Move
   SendFinPair : Move
@@ -49,19 +51,20 @@ pub data Move : Type 0 where
   Learn : (copy : ℕ) → Move
   HearDataFin : (copy : ℕ) → Move
   HearFin : (copy : ℕ) → Move
-  -- it forgets all bytes that came from a position on
+  -- the receiver's end forgets all bytes that came from a position on
   Forget : (from : ℕ) → Move
-  -- it is about to place so many of the bytes that came in order, by a mapping or, in plain TCP, by their positions
+  -- the receiver's end is about to place some of the bytes that came in order, by a mapping or, in plain TCP, by their
+  -- positions
   WantPlace : (mapping count : ℕ) → Move
   WantPlacePlain : (count : ℕ) → Move
-  -- it is about to take the FIN for the end of the stream, in plain TCP
+  -- the receiver's end is about to take the FIN for the end of the stream, in plain TCP
   WantFin : Move
-  -- it takes an infinite mapping, and is about to place bytes, or to take the FIN for the end, by it
+  -- the receiver's end takes an infinite mapping, and is about to place bytes, or to take the FIN for the end, by it
   TakePair : (copy : ℕ) → Move
   WantPlacePair : (count : ℕ) → Move
   WantFinPair : Move
   WantAckOut : Move
-  -- it acknowledges what it was told at the last time, or less, with a window as large or smaller
+  -- the receiver's end acknowledges what it was told at the last time, or less, with a window as large or smaller
   SendAck : (next window sub : ℕ) → Move
 
 -- the bytes and the places of a record, by position
@@ -107,7 +110,7 @@ piece_of mapped p m = record {
   mapping = if mapped then Some m else None;
 }
 
--- the same copy, altered on the way: the lowest bit of its first byte is turned
+-- a copy with the bytes of a grant, altered on the way: the lowest bit of its first byte is turned
 abbrev pub altered_piece_of : Bool → Lane → Mapping → DataCopy
 altered_piece_of mapped p m = record {
   pos = m.pos;
@@ -132,7 +135,7 @@ abbrev pub sends_piece : Bool → Option Mapping → Lane → Lane
 sends_piece mapped None p = p
 sends_piece mapped (Some m) p = record p { datas = p.datas ++ piece_of mapped p m ∷ [] }
 
--- only over links that alter payload
+-- a copy is altered only over links that alter payload
 abbrev pub sends_altered : Bool → Option Mapping → Lane → Lane
 sends_altered mapped None p = p
 sends_altered mapped (Some m) p = if p.alters then record p { datas = p.datas ++ altered_piece_of mapped p m ∷ [] } else p
@@ -165,11 +168,11 @@ hears_fin (Some pos) p = if pos == p.edge then record p { fin_in = true } else p
 abbrev pub in_order : ℕ → Lane → List ℕ
 in_order count p = take count (filled p.kept)
 
--- all of them are in the mapping
+-- the bytes from the edge on are all in the mapping
 abbrev pub lies_in : Mapping → List ℕ → Lane → Bool
 lies_in m bytes p = nat_le m.pos p.edge && nat_le (p.edge + length bytes) (m.pos + m.len)
 
--- the same bytes
+-- both have the same bytes
 abbrev pub are_same : List ℕ → List ℕ → Bool
 are_same [] [] = true
 are_same (x ∷ xs) (y ∷ ys) = (x == y) && are_same xs ys
@@ -223,7 +226,7 @@ places_pair count None p = p
 places_pair count (Some m) p =
     if p.receiver_loose && nat_le m.pos p.edge then record p { asking = AskPlace (place_by m p.edge) (in_order count p) } else p
 
--- and takes a FIN that came in order for the end
+-- a side that fell to an infinite mapping takes a FIN that came in order for the end, from its position on
 abbrev pub ends_pair : Option Pair → Lane → Lane
 ends_pair None p = p
 ends_pair (Some m) p = if p.receiver_loose && (p.fin_in && nat_le m.pos p.edge) then record p { asking = AskFin (place_by m p.edge) } else p

@@ -108,7 +108,7 @@ may_go path pos s p =
     p.opened && (is_gathered path s && (nat_le pos (length p.sent)
     && (list_all (λ c. nat_lt c.place (acked_len s.marks)) (take pos p.sent) && rises (acked_len s.marks) (drop pos p.sent))))
 
--- then the path goes by that mapping, and the book is given to it alone; else nothing changes
+-- a path that may go by an infinite mapping does, and the book is given to it alone; else nothing changes
 abbrev pub goes_infinite : ℕ → ℕ → Option Lane → Direction → Direction
 goes_infinite path pos None d = d
 goes_infinite path pos (Some p) d =
@@ -131,7 +131,7 @@ after f (AbortRead by_peer) d = record d { arrived = after_arrival d.arrived (Ab
 after f (Moves path move) d = moves f path move (slice_get d.lanes path) d
 after f (Asks path) d = asks_at path (slice_get d.lanes path) d
 
--- so many paths, none of which has sent anything
+-- a direction with a number of paths, none of which has sent anything
 abbrev pub opening_direction : Bool → Bool → ℕ → ℕ → ℕ → Direction
 opening_direction alters checked paths buffer capacity = record {
   send = opened_send buffer;

@@ -4,7 +4,7 @@ use Rattle.subflow_recv.specs.Receiving.{Receiving, filled, window_end, is_outsi
 
 -- what can happen to a side to which parts of one list of octets come
 pub data Event : Type 0 where
-  -- so many octets from this one on come
+  -- a number of octets, from this one on, come
   Comes : ℕ → ℕ → Event
   -- the edge moves over so many positions
   Advances : ℕ → Event
@@ -22,7 +22,7 @@ abbrev pub after_events : ℕ → List ℕ → List Event → Receiving → Rece
 after_events start octets [] v = v
 after_events start octets (event ∷ events) v = after_events start octets events (after_event start octets event v)
 
--- these octets are the first of those of the list from the edge on
+-- the octets that came in order are the first ones of the list from the edge on
 abbrev pub IsHeldPrefix : ℕ → List ℕ → Receiving → Type 0
 IsHeldPrefix start octets v = filled v.places ≡ take (length (filled v.places)) (drop (v.edge - start) octets)
 

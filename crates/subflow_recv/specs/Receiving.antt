@@ -32,7 +32,7 @@ is_outside pos payload v =
 abbrev pub places_with : ℕ → List ℕ → Receiving → List (Option ℕ)
 places_with pos octets v = merged v.places (drop v.edge (by_place pos octets))
 
--- they are kept; this and any other change of the side lets go of the payload that is held
+-- octets that come are kept; any change of the side lets go of the payload that is held
 abbrev pub with_octets : ℕ → List ℕ → Receiving → Receiving
 with_octets pos octets v = record v { places = places_with pos octets v; incoming = None }
 

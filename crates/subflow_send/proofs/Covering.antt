@@ -1,4 +1,7 @@
 -- What an acknowledgement covers, and how many octets the records have.
+--
+-- A list that tiles: the tiling as a predicate on spans (`map span_of records`), so that a change that keeps the spans
+-- keeps it by one equation of lists.
 use Rattle.std.proofs.Common.{◌≡◌, ℕ, ◌+◌, ◌-◌, ◌<◌, ◌≤◌, min, max, Bool, true, false, nat_le, nat_lt, if◌then◌else◌, Option, Some, None, List, [], ◌∷◌, ◌++◌, map, refl, sym, ap, ◌∙◌, subst, ⊎_elim, true≢false, arith}
 use Rattle.std.specs.Prelude.{is_some, IsSome, unwrap_or}
 use Rattle.std.specs.List.{sum_by}

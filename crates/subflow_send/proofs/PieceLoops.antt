@@ -1,4 +1,13 @@
 -- What the loops over the pieces have come to at an index.
+--
+-- A loop that changes a deque by index: a recursion with the number of places to pass over and the number to change
+-- (`unsent_between`), one step lemma, one for the end. A read and a write of one element are two variables, each with
+-- `x ≡ get_or xs i x`.
+--
+-- A list with numbers kept beside it (how far it was searched, a sum over it) is a struct of its own with a model whose
+-- value is the list (`PieceQueue` of `subflow_send`): the numbers are its invariant, changes by place are `set` at an
+-- index with a clause over every default (`(d : Piece) → new ≡ set old i (f (get_or old i d))`), and the records above
+-- go on speaking of the list alone.
 use Rattle.std.proofs.Common.{◌≡◌, ℕ, zero, suc, ◌+◌, ◌<◌, ◌≤◌, Bool, true, false, nat_le, nat_lt, if◌then◌else◌, Option, Some, None, List, [], ◌∷◌, ◌++◌, length, get_or, set, take, drop, map, find, refl, sym, ap, ◌∙◌, arith}
 use Rattle.std.specs.Prelude.{slice_get, unwrap_or}
 use Rattle.std.specs.List.{list_any, sum_by}

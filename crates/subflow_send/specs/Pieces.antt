@@ -72,7 +72,7 @@ abbrev pub first_is_covered : ℕ → List Piece → Bool
 first_is_covered pos [] = false
 first_is_covered pos (p ∷ ps) = nat_le (piece_end p) pos
 
--- this piece is sent once more
+-- a piece is sent once more
 abbrev pub sent_piece : ℕ → Piece → Piece
 sent_piece now p = record p { sending = sent_again now p.sending }
 

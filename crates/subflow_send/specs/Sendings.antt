@@ -2,7 +2,7 @@
 use Rattle.std.specs.Prelude.{ℕ, ◌+◌, ◌==◌, min, true, false, if◌then◌else◌}
 use Rattle.subflow_send.specs.declared.record.Sending.{Sending}
 
--- it is to be sent for the first time
+-- a record is to be sent for the first time
 abbrev pub never_sent : Sending
 never_sent = record { times = 0; first = 0; unsent = true; first_at_expiry = false }
 
@@ -15,10 +15,10 @@ sent_again now s = record {
   first_at_expiry = s.first_at_expiry;
 }
 
--- it was the first one at an expiry
+-- a record was the first one at an expiry
 abbrev pub first_at_an_expiry : Sending → Sending
 first_at_an_expiry s = record s { first_at_expiry = true }
 
--- it is to be sent again
+-- a record is to be sent again
 abbrev pub to_be_sent : Sending → Sending
 to_be_sent s = record s { unsent = true }

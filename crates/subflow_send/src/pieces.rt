@@ -60,7 +60,7 @@ impl Piece {
 }
 
 impl Sending {
-    /// It was never sent, and is to be sent.
+    /// A record that was never sent, and is to be sent.
     pub(crate) const NEVER: Sending = Sending {
         times: 0,
         first: 0,
@@ -80,7 +80,7 @@ impl Sending {
         }
     }
 
-    /// It was the first one at an expiry.
+    /// A record that was the first one at an expiry.
     pub(crate) fn first_at_an_expiry(self) -> Sending
         ensures { result ≡ first_at_an_expiry self }
     {

@@ -18,9 +18,9 @@ pub struct Sending {
     pub times: u32,
     /// The tick of its first sending; 0 before that.
     pub first: u64,
-    /// It is to be sent: it never was, or an expiry marked it.
+    /// The record is to be sent: it never was, or an expiry marked it.
     pub unsent: bool,
-    /// It was the first unacknowledged record at an expiry.
+    /// The record was the first unacknowledged one at an expiry.
     pub first_at_expiry: bool,
 }
 
@@ -42,12 +42,12 @@ pub struct RecordRef<'a> {
 /// What an acknowledgement of a position tells.
 #[derive(Clone, Copy, Debug)]
 pub enum AckKind {
-    /// It is above SND.UNA and at most SND.NXT: so many octets of data are acknowledged for the first time.
+    /// The acknowledgement is above SND.UNA and at most SND.NXT: so many octets of data are acknowledged for the first time.
     New(u64),
-    /// It is SND.UNA.
+    /// The acknowledgement is SND.UNA.
     Duplicate,
-    /// It is below SND.UNA.
+    /// The acknowledgement is below SND.UNA.
     Old,
-    /// It is above SND.NXT: it acknowledges what was never sent.
+    /// The acknowledgement is above SND.NXT: what it acknowledges was never sent.
     Future,
 }

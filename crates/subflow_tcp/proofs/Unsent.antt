@@ -1,4 +1,7 @@
 -- Where no record is to be sent, sending the first of them changes nothing.
+--
+-- Where a callee has a condition that a definition hasn't (`sent` wants a record to send), test it in code and show by
+-- a lemma that the definition changes nothing else (`proofs/Unsent`).
 use Rattle.std.proofs.Common.{◌≡◌, ℕ, Bool, true, false, if◌then◌else◌, Option, Some, None, List, [], ◌∷◌, find, refl, sym, ap}
 use Rattle.std.specs.Prelude.{is_some}
 use Rattle.std.specs.Option.{option_map}

@@ -140,7 +140,7 @@ after_sending to_send.First now s = record s { due = record s.due { first = fals
 after_sending to_send.Unsent now s = record s { send = after_sent now s.send }
 after_sending to_send.Fin now s = record s { send = after_fin_sent now s.send }
 
--- the same, where there is an occasion
+-- the end after a segment was sent at an occasion, where there is one
 abbrev pub after_emitting : Option Occasion → ℕ → EndState → EndState
 after_emitting None now s = s
 after_emitting (Some occasion) now s = after_sending occasion now s
@@ -153,6 +153,6 @@ after_emission now s = after_emitting (next_occasion s) now s
 abbrev pub piece_of : Record → List ℕ
 piece_of r = r.piece
 
--- those of the record at its position; a segment of no octets has none
+-- a segment's octets are those of the record at its position; a segment of no octets has none
 abbrev pub payload_of : Emission → EndState → List ℕ
 payload_of e s = if e.length == 0 then [] else option_map_or piece_of (find (stands_at e.pos) s.send.records) []

@@ -42,16 +42,17 @@ is_repeated_syn c s = not s.numbers.opens && (c.syn && (not c.rst && (is_none c.
 abbrev pub is_in_window : ℕ → ℕ → Bool
 is_in_window edge pos = nat_le edge pos && nat_lt pos (edge + 1048576)
 
--- it occupies positions, and the last one lies in the window
+-- the copy occupies positions, and the last one lies in the window
 abbrev pub ends_in_window : ℕ → ℕ → ℕ → Bool
 ends_in_window edge pos len = nat_lt 0 len && is_in_window edge (pos + (len - 1))
 
--- it has no octets, and stands at the right edge, the position after the window, as what a peer sends that has filled the window
+-- the copy has no octets, and stands at the right edge, the position after the window, as what a peer sends that has
+-- filled the window
 abbrev pub is_at_right_edge : ℕ → ℕ → ℕ → Bool
 is_at_right_edge edge pos octets = octets == 0 && pos == edge + 1048576
 
--- it begins in the window, or ends there, or has no octets and stands at the right edge (RFC 9293, section 3.10.7.4, which has not
--- the last)
+-- the copy begins in the window, or ends there, or has no octets and stands at the right edge (RFC 9293, section
+-- 3.10.7.4, which has not the last)
 abbrev pub is_acceptable : ℕ → ℕ → Copy → Bool
 is_acceptable edge pos c =
     is_in_window edge pos || (ends_in_window edge pos (occupied c) || is_at_right_edge edge pos (length c.payload))

@@ -21,7 +21,7 @@ FiredTimersRest = (now : ℕ) (s : EndState) → IsWithinBounds s.timing.rtt.rto
 abbrev pub IsSettled : ℕ → EndState → Option ℕ → Type 0
 IsSettled now s timer = (timer ≡ None) ⊎ ((timer ≡ s.timing.timer) ⊎ (timer ≡ Some (now + s.timing.rtt.rto)))
 
--- so it is, whatever reasons there are
+-- whatever reasons there are, settling stops the timer, keeps it, or sets it to the timeout from now on
 abbrev pub SettlingSetsTheTimeout : Type 0
 SettlingSetsTheTimeout = (on restart : Bool) (now : ℕ) (s : EndState) → IsSettled now s (after_settling on restart now s).timing.timer
 
@@ -30,7 +30,7 @@ abbrev pub NoTimerWithoutAReason : Type 0
 NoTimerWithoutAReason = (on restart : Bool) (now : ℕ) (s : EndState) → is_timed on s ≡ false
     → (after_settling on restart now s).timing.timer ≡ None
 
--- and with one a timer runs
+-- with a reason a timer runs
 abbrev pub TimerWithAReason : Type 0
 TimerWithAReason = (on restart : Bool) (now : ℕ) (s : EndState) → is_timed on s ≡ true
     → IsSome (after_settling on restart now s).timing.timer

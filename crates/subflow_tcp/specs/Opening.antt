@@ -13,7 +13,7 @@ use Rattle.subflow_tcp.specs.State.{EndState}
 abbrev pub nothing_came : Receiving
 nothing_came = record { edge = 1; window = 1048576; places = []; incoming = None }
 
--- its SYN is to be sent as soon as the state lets it
+-- an end before its first segment; its SYN is to be sent as soon as the state lets it
 abbrev pub new_end : State → Bool → ℕ → ℕ → ℕ → EndState
 new_end state opens path own mss = record {
   numbers = record { path = path; opens = opens; own = own; peer = None };

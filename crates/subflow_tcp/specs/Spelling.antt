@@ -106,7 +106,7 @@ reset_head n reset = record {
   window = 0;
 }
 
--- such a reset, for a segment of this header that occupies so many numbers
+-- the reset that answers a segment of this header, which occupies so many numbers
 abbrev pub reset_answer : Numbers → Head → ℕ → Head
 reset_answer n head occupied =
     reset_head n (reset_numbers 0 (number_of (2 ^ 32)) (if head.ack_set then Some head.ack else None) head.seq occupied)

@@ -110,7 +110,7 @@ after_ack_kind Duplicate since now s = s
 after_ack_kind Old since now s = s
 after_ack_kind Future since now s = s
 
--- this position is acknowledged at the tick `now`
+-- the position is acknowledged at the tick `now`
 abbrev pub after_acknowledgement : ℕ → ℕ → EndState → EndState
 after_acknowledgement pos now s =
     after_ack_kind (ack_kind pos s.send) (sample_of pos s.send) now (record s { send = after_acknowledge pos s.send })
@@ -120,7 +120,7 @@ abbrev pub is_empty : List ℕ → Bool
 is_empty [] = true
 is_empty (octet ∷ octets) = false
 
--- it acknowledges SND.UNA again
+-- the copy acknowledges SND.UNA again
 abbrev pub is_ack_again : AckKind → Bool
 is_ack_again Duplicate = true
 is_ack_again (New octets) = false
@@ -148,7 +148,7 @@ after_interruption s = record s { congestion = interrupted s.congestion }
 abbrev pub after_row : AckKind → Told → Copy → EndState → EndState
 after_row kind told c s = if is_duplicate kind told c s then after_duplicate s else after_interruption s
 
--- what it told is kept for the comparison with the next one
+-- what a segment told is kept for the comparison with the next one
 abbrev pub after_telling : Told → EndState → EndState
 after_telling told s = record s { congestion = with_told told s.congestion }
 
@@ -232,7 +232,7 @@ arrival_of means.Ahead hint c s = AckNow
 arrival_of (means.Taken pos acknowledged) hint c s =
     if is_half_open s.state then Opened else Took (ack_kind acknowledged s.send) (kept_new hint.keep pos c.payload s) c.fin
 
--- so many octets are new, where it was taken
+-- a number of octets are new, where the copy was taken
 abbrev pub with_new : ℕ → Arrival → Arrival
 with_new new (Took ack before fin) = Took ack new fin
 with_new new arrival = arrival

@@ -7,7 +7,7 @@ use crate::end::Subflow;
 use crate::taking::flight_told;
 use crate::verdicts::Fired;
 
-/// This many expiries in a row may come before the one that ends the end.
+/// How many expiries in a row may come before the one that ends the end.
 const PATIENCE: u8 = 5;
 
 impl Subflow {

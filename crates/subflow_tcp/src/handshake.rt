@@ -4,9 +4,9 @@ ghost use Rattle.subflow_tcp.specs.States.{is_closed_to_segments, may_finish, af
 /// How far an end is: the states of RFC 9293, section 3.3.2, and two of before and after.
 #[derive(Clone, Copy, Debug, PartialEq, Eq)]
 pub enum State {
-    /// It is to open later, and drops whatever comes.
+    /// The end is to open later, and drops whatever comes.
     Waiting,
-    /// It waits for a SYN.
+    /// The end waits for a SYN.
     Listen,
     /// Its SYN is to be acknowledged by a SYN/ACK.
     SynSent,
@@ -26,7 +26,7 @@ pub enum State {
     LastAck,
     /// Both FINs passed, and its own is acknowledged. It stays so.
     TimeWait,
-    /// It sends nothing more but resets.
+    /// The end sends nothing more but resets.
     Dead,
 }
 

@@ -82,7 +82,7 @@ impl Subflow {
         }
     }
 
-    /// The same as `keep_if`, for a payload of at most 65,535 octets.
+    /// As `keep_if`, for a payload of at most 65,535 octets.
     fn keep_few(&mut self, keep: bool, pos: Pos, payload: &[u8]) -> Result<u32, AllocError>
         requires bound { pos + length payload.now ≤ 2 ^ 62 }
         requires small { length payload.now ≤ 65535 }

@@ -30,7 +30,7 @@ fn first_fin(fin_at: Option<Pos>, fin: bool, pos: Pos) -> Option<Pos>
     }
 }
 
-/// It acknowledges SND.UNA again.
+/// Whether an acknowledgement is of SND.UNA again.
 fn is_ack_again(kind: AckKind) -> bool
     ensures { result ≡ is_ack_again kind }
 {

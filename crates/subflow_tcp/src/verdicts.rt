@@ -10,7 +10,7 @@ use subflow_send::AckKind;
 pub enum Meaning {
     /// The end passes it over.
     Ignored,
-    /// It came for a dead end, which answers by a reset.
+    /// A segment for a dead end, which answers by a reset.
     Unwanted,
     /// A SYN opens the listening end.
     Opens,
@@ -21,15 +21,15 @@ pub enum Meaning {
     },
     /// The SYN that opened the end came again.
     RepeatedSyn,
-    /// It lies outside the receive window.
+    /// A segment outside the receive window.
     Outside,
-    /// It is a reset that ends the end.
+    /// A reset that ends the end.
     Kills,
-    /// It is a reset or a SYN that only looks like the peer's (RFC 5961).
+    /// A reset or a SYN that only looks like the peer's (RFC 5961).
     Challenged,
-    /// It lies in the window and acknowledges nothing, or not yet the SYN/ACK.
+    /// A segment in the window that acknowledges nothing, or not yet the SYN/ACK.
     Unacknowledging,
-    /// It acknowledges what was never sent.
+    /// A segment that acknowledges what was never sent.
     Ahead,
     /// Its acknowledgement and its payload count.
     Taken {
@@ -43,18 +43,18 @@ pub enum Meaning {
 /// What an end answers to a segment that arrived.
 #[derive(Clone, Copy, Debug)]
 pub enum Arrival {
-    /// It was dropped without an acknowledgement.
+    /// The segment was dropped without an acknowledgement.
     Dropped,
-    /// It was dropped, and an acknowledgement is due; for the SYN that came again, and at a half-open end, that is the
+    /// The segment was dropped, and an acknowledgement is due; for the SYN that came again, and at a half-open end, that is the
     /// SYN/ACK.
     AckNow,
-    /// It was dropped, and a challenge is due: an acknowledgement.
+    /// The segment was dropped, and a challenge is due: an acknowledgement.
     Challenge,
     /// A reset ended the end.
     Killed,
     /// The end left Listen, SynSent or SynReceived by it.
     Opened,
-    /// It was taken.
+    /// The segment was taken.
     Took {
         /// What its acknowledgement told.
         ack: AckKind,
@@ -66,7 +66,7 @@ pub enum Arrival {
 }
 
 impl Arrival {
-    /// So many octets are new, where it was taken.
+    /// The arrival with so many new octets, where the segment was taken.
     pub(crate) fn with_new(self, new: u32) -> Arrival
         ensures { result ≡ with_new new self }
     {
@@ -84,6 +84,6 @@ pub enum Fired {
     Again,
     /// No record is unacknowledged: the layer above sends what it owes, or a probe.
     Probe,
-    /// It was the sixth in a row: the end is dead, and its reset is due.
+    /// The expiry was the sixth in a row: the end is dead, and its reset is due.
     Died,
 }

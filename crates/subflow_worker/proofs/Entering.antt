@@ -1,4 +1,9 @@
 -- A book under its lock, after a call.
+--
+-- What lies under a lock is known by its type alone: `Held` of `subflow_worker` has the invariant that its journal
+-- begins with the one that a type parameter names, and a fact that no call ends (`Kept`, whose law is a method: a ghost
+-- member can't cite its own crate's proofs). A type that is picked at `Brand` stands in no signature, so `LockedDesk`
+-- is made and taken apart in one function over its name (`round_at`), and `threaded_round` picks it.
 use Rattle.std.proofs.Common.{◌≡◌, sym, ◌∙◌, ap, subst, [], ◌∷◌, ◌++◌, Result, Ok, Err, append_assoc}
 use Rattle.std.specs.Prelude.{OnOk, OnErr}
 use Rattle.stamped_book.specs.declared.stamped.Pass.{Pass}

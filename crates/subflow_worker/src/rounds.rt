@@ -69,7 +69,7 @@ impl<N: Naming, G: Gate, R: Wait> LockedSeat<'_, N, G, R> {
         ask_send(&mut held, pass, call)
     }
 
-    // The same at a reassembly book.
+    // One call at a reassembly book, whose lock is held no longer than that.
     fn at_reassembly<S: Start<ReassemblyBook>>(
         &self,
         lock: &Mutex<Held<ReassemblyBook, S>>,
@@ -88,7 +88,7 @@ impl<N: Naming, G: Gate, R: Wait> LockedSeat<'_, N, G, R> {
         ask_reassembly(&mut held, pass, call)
     }
 
-    // The same at a control book.
+    // One call at a control book, whose lock is held no longer than that.
     fn at_control<S: Start<ControlBook>>(
         &self,
         lock: &Mutex<Held<ControlBook, S>>,

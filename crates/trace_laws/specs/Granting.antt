@@ -1,4 +1,4 @@
--- Which octets of a stream the steps of a run grant to paths.
+-- The octets of a stream that the steps of a run grant to paths.
 use Rattle.std.specs.Prelude.{◌≡◌, ℕ, ◌<◌, ◌≤◌, List, length}
 use Rattle.sides.specs.declared.side.Side.{Side}
 use Rattle.actor_desk.specs.Words.{pick}

@@ -1,4 +1,4 @@
--- Which octets of a file the segments of a trace carry.
+-- The octets of a file that the segments of a trace carry.
 use Rattle.std.specs.Prelude.{◌≡◌, ℕ, ◌+◌, ◌<◌, ◌≤◌, List, [], ◌∷◌, ◌++◌, length, take, drop}
 use Rattle.sides.specs.declared.side.Side.{Side}
 use Rattle.segment_wire.specs.Reading.{header_len}

@@ -54,7 +54,7 @@ pub record IsStreamAsFar (v w : OwnStream) : Type 0 where
 pub record IsEndAsFar (e f : PathEnd) : Type 0 where
   pub subflow : IsSubflowAsFar e.tcp f.tcp
   pub stream : IsStreamAsFar e.sending f.sending
-  -- it may send a DSS
+  -- the end may send a DSS
   pub clear : e.modes.clear ≡ true → f.modes.clear ≡ true
 
 -- ---- a path
@@ -69,7 +69,7 @@ pub record IsPathAsFar {C : Type 0} (p q : PathState C) : Type 0 where
 
 -- ---- a side
 
--- its send book: what is written, each acknowledged byte, the edge of the peer's window, and the end
+-- a side's send book: what is written, each acknowledged byte, the edge of the peer's window, and the end
 pub record IsSendAsFar (b c : Sending) : Type 0 where
   pub written : IsPrefix b.written c.written
   pub closed : b.closed ≡ true → c.closed ≡ true
@@ -77,7 +77,7 @@ pub record IsSendAsFar (b c : Sending) : Type 0 where
   pub edge : b.edge ≤ c.edge
   pub fin : b.fin ≡ true → c.fin ≡ true
 
--- its reassembly book: how much is read, and received without a gap, and where the peer's stream ends
+-- a side's reassembly book: how much is read, and received without a gap, and where the peer's stream ends
 pub record IsArrivalAsFar (b c : Arriving) : Type 0 where
   pub read : b.read ≤ c.read
   pub received : received b ≤ received c

@@ -51,7 +51,7 @@ pub data SubflowStep (now : ℕ) (s : EndState) : EndState → Type 0 where
   -- A's end of a path that joins opens, and B's takes the SYN
   begins : s.state ≡ Waiting → SubflowStep now s (after_begin s)
   joins : (window : ℕ) → s.state ≡ Listen → SubflowStep now s (after_syn (unkept None) (syn_alone window) s)
-  -- it dies
+  -- the end dies
   dies : SubflowStep now s (after_death false s)
 
 -- one after the other
@@ -63,7 +63,7 @@ pub data SubflowSteps (now : ℕ) (s : EndState) : EndState → Type 0 where
 
 pub data StreamStep (v : Sending) : Sending → Type 0 where
   stays : StreamStep v v
-  -- so many bytes, and the DATA_FIN or not, are acknowledged
+  -- bytes up to a place are acknowledged, with the DATA_FIN or without
   hears : (next : ℕ) (fin : Bool) → StreamStep v (after_acked next fin v)
   -- the peer's DATA_FIN came
   closes : StreamStep v (after_peer_data_fin v)

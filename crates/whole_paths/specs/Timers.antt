@@ -12,7 +12,7 @@ pub record IsNear (now : ℕ) (t : Timing) : Type 0 where
   pub timer : IfSome t.timer (λ tick. tick ≤ now + 60000)
   pub timeout : IsWithinBounds t.rtt.rto
 
--- at both ends; and the path's clock isn't past the round's end
+-- the timers of both ends are near, and the path's clock isn't past the round's end
 pub record TimersAreNear {C : Type 0} (p : PathState C) : Type 0 where
   pub clock : p.clock ≤ p.until
   pub a : IsNear p.clock p.a.tcp.timing

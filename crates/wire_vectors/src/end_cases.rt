@@ -107,7 +107,7 @@ fn arrive(case: &mut Case<'_>, end: &mut Subflow) {
     arrive_as(case, end, octets.as_slice(), tick);
 }
 
-/// These octets come at this tick.
+/// Octets of a segment come to the end at this tick.
 fn arrive_as(case: &mut Case<'_>, end: &mut Subflow, octets: &[u8], tick: u32) {
     let Ok(segment) = parse(octets, &ADDRESSES) else {
         return case.refuse();

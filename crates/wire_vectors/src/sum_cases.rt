@@ -21,7 +21,7 @@ fn put_sum(case: &mut Case<'_>, octets: &[u8]) {
     case.put_numbers(" ", &[total, u64::from(ones_sum::fold(total))]);
 }
 
-/// So many octets of any value.
+/// Octets of any value, so many.
 fn made(alloc: Global, count: u16) -> Result<Vec<u8>, AllocError> {
     let mut octets = Vec::new(alloc);
     for place in 0..u32::from(count) {

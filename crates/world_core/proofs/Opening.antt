@@ -1,4 +1,7 @@
 -- The paths that a connection begins with are those of the script.
+--
+-- A loop that opens what a script lists has the invariant that what stands and what is left make the whole
+-- (`paths_left` of `proofs/Opening`): one lemma puts one more, and after the last one nothing is left.
 use Rattle.std.proofs.Common.{◌≡◌, refl, sym, ◌∙◌, ap, ℕ, zero, suc, ◌+◌, ◌<◌, ◌≤◌, List, [], ◌∷◌, ◌++◌, length, drop, arith}
 use Rattle.link_script.specs.declared.script.PathLine.{PathLine}
 use Rattle.link_script.specs.declared.script.Script.{Script}

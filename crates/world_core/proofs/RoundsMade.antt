@@ -1,4 +1,9 @@
 -- Turns and rounds, one after the other.
+--
+-- Loops whose promise is an existential (turns, rounds, a run) have the invariant by continuation: what the rest comes
+-- to, the whole does, `(v : _) → TurnTo now v → TurnTo start v`. Each goal is then one lemma (`proofs/RoundsMade`).
+--
+-- A turn's loop ends by the stamp, `2 ^ 62 - stamp`: a step tells that the actor's stamp rose and is below 2^62.
 use Rattle.std.proofs.Common.{◌≡◌, refl, sym, ◌∙◌, ap, subst, ℕ, suc, true, false, [], ◌∷◌}
 use Rattle.path_core.specs.Codec.{Codec}
 use Rattle.world_laws.specs.Serial.{TurnTo, AreTurns, after_turns}

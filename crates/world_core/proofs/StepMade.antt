@@ -1,4 +1,13 @@
 -- A step of one actor, as one of the world: what comes of it, and that the world stays sound.
+--
+-- What can fail last is the actor's `take`, so an error leaves each actor as it was, and the outcome too
+-- (`ShowsTheSame`).
+--
+-- Clauses of a callee at Ok that a caller's clause needs together: `both_ok`, `each_ok`, `both_err` (`proofs/Lists`),
+-- and one lemma a clause over the lent element, its place and the element written back (`advance_..` of
+-- `proofs/StepMade`).
+--
+-- In a method of a struct with a model the value before is `c.self.inside`'s view: `subst` along `c.self.view_is`.
 use Rattle.std.proofs.Common.{◌≡◌, refl, sym, ◌∙◌, ap, subst, ℕ, ◌+◌, ◌^◌, ◌<◌, Bool, true, false, not, is_some, ⊎_elim, Option, Some, None, List, [], ◌∷◌, length, set, Result, IfOk, OnOk, OnErr, arith}
 use Rattle.std.proofs.lemmas.Bool.{both_ways}
 use Rattle.std.proofs.lemmas.List.{length-append}

@@ -11,6 +11,6 @@ abbrev pub StepsAsValues : ℕ → WorldState (List ℕ) → WorldState (List �
 StepsAsValues actor before after = (w : WorldState Carried) → before ≡ shown_world w → IsFreshTurn (Turn.Step actor) w
     → after ≡ shown_world (world_step values actor w)
 
--- and so at the end of a round
+-- Where the world before a round's end is one over values, shown in octets, so is the one after it.
 abbrev pub EndsAsValues : WorldState (List ℕ) → WorldState (List ℕ) → Type 0
 EndsAsValues before after = (w : WorldState Carried) → before ≡ shown_world w → after ≡ shown_world (end_round w)

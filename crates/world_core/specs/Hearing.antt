@@ -9,15 +9,15 @@ use Rattle.world_laws.specs.Outcomes.{tells_end, tells_abort, was_told, notes_of
 use Rattle.world_core.specs.declared.hearing.Told.{Told}
 use Rattle.world_core.specs.declared.hearing.Hearing.{Hearing}
 
--- by these steps
+-- what these steps tell
 abbrev pub told_by : List Note → Told
 told_by notes = record { end = was_told tells_end notes; abort = was_told tells_abort notes }
 
--- by one reply
+-- what one reply tells
 abbrev pub told_of : Reply → Told
 told_of reply = record { end = tells_end reply; abort = tells_abort reply }
 
--- and by more
+-- what was told before, or by more
 abbrev pub with_told : Told → Told → Told
 with_told more told = record { end = told.end || more.end; abort = told.abort || more.abort }
 

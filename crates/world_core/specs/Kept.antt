@@ -18,7 +18,7 @@ pub record Kept : Type 0 where
 abbrev pub world : List (ActorCrew (List ℕ)) → StampedBooks → WorldState (List ℕ)
 world crew books = record { crew = crew; books = books }
 
--- it hasn't failed
+-- a world that hasn't failed
 abbrev pub standing : WorldState (List ℕ) → Kept
 standing w = record { failed = false; state = w }
 

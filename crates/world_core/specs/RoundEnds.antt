@@ -27,7 +27,7 @@ last_end w (v ∷ ends) = last_end v ends
 abbrev pub round_steps : Connection → Connection → List Note
 round_steps w v = in_order (greatest 0 w.crew) (lists_of v.crew)
 
--- those of each round
+-- the steps of each round
 abbrev pub steps_by_round : Connection → List Connection → List (List Note)
 steps_by_round w [] = []
 steps_by_round w (v ∷ ends) = round_steps w v ∷ steps_by_round v ends

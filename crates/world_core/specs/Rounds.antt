@@ -5,7 +5,7 @@ use Rattle.world_laws.specs.Serial.{AreTurns, after_turns, after_round}
 use Rattle.world_laws.specs.Worlds.{WorldState}
 
 module _ {C : Type 0} (k : Codec C) where
-  -- this is the world after the turns of so many actors, from this one on
+  -- the turns of a number of actors, from this one on, lead from one world to the other
   abbrev pub TurnsFrom : ℕ → ℕ → WorldState C → WorldState C → Type 0
   TurnsFrom more actor w v = (counts : List ℕ) × AreTurns k more actor counts w × (v ≡ after_turns k actor counts w)
 

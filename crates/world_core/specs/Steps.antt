@@ -33,7 +33,7 @@ note_by (Some c) books = note_if (member_asks octets c.member) books c.pass
 abbrev pub next_note : ℕ → WorldState (List ℕ) → Option Note
 next_note actor w = note_by (slice_get w.crew actor) w.books
 
--- that note was made, or the turn had ended
+-- an actor's step was made, with its note, or its turn had ended
 abbrev pub stepped_by : Option Note → Stepped
 stepped_by None = Ended
 stepped_by (Some note) = Made note

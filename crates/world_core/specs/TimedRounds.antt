@@ -1,4 +1,5 @@
--- Rounds by tick: each step is the one that stands earliest, so that what a path does at a tick rests on steps at that tick or before alone.
+-- Rounds by tick: each step is the one that stands earliest, so that what a path does at a tick rests on steps at that
+-- tick or before alone.
 use Rattle.std.specs.Prelude.{ℕ, zero, suc, ◌≡◌, ◌≤◌, true, false, if◌then◌else◌, Option, Some, None, option_and_then, List, [], ◌∷◌, ◌++◌, slice_get}
 use Rattle.std.specs.Option.{option_to_list}
 use Rattle.actor_desk.specs.declared.ask.Reply.{Reply}
@@ -50,22 +51,22 @@ module _ {C : Type 0} (k : Codec C) where
   AreInTime [] w = Unit {0}
   AreInTime (actor ∷ order) w = IsNext actor w.crew × AreInTime order (world_step k actor w)
 
-  -- and each turn is over behind them
+  -- each of these steps was the next, and each turn is over behind them
   pub record AreTimedTurns (order : List ℕ) (w : WorldState C) : Type 0 where
     pub steps : AreInTime order w
     pub over : all_over (world_run k (steps_by order) w).crew ≡ true
 
-  -- this is the world after such turns
+  -- the turns of a timed round lead from one world to the other
   pub record TimedTurnsTo (w v : WorldState C) : Type 0 where
     pub order : List ℕ
     pub turns : AreTimedTurns order w
     pub world : v ≡ world_run k (steps_by order) w
 
-  -- and the end of their round
+  -- the world after the turns of a timed round, and the round's end
   abbrev pub after_timed : List ℕ → WorldState C → WorldState C
   after_timed order w = end_round (world_run k (steps_by order) w)
 
-  -- this is the world after a round
+  -- a timed round leads from one world to the other
   pub record TimedRoundTo (w v : WorldState C) : Type 0 where
     pub order : List ℕ
     pub turns : AreTimedTurns order w
@@ -87,7 +88,7 @@ module _ {C : Type 0} (k : Codec C) where
       AreTimedTurns order w
       × OneOf (goes_on (outcome_of (after_timed order w).crew)) (AreTimedRounds most rounds (after_timed order w)) (rounds ≡ [])
 
-  -- these are the turns of at most so many rounds
+  -- the turns of at most so many timed rounds
   abbrev pub IsTimed : ℕ → List Turn → WorldState C → Type 0
   IsTimed most turns w = (rounds : List (List ℕ)) × AreTimedRounds most rounds w × (turns ≡ turns_by rounds)
 

@@ -5,7 +5,7 @@ use Rattle.world_laws.specs.Actors.{ActorCrew, is_over}
 use Rattle.world_laws.specs.Timely.{CanBegin, IsTimelyMember}
 
 module _ {C : Type 0} where
-  -- it has fewer than 2^57 notes, and began no more rounds
+  -- the actor has fewer than 2^57 notes, and began no more rounds
   pub record IsTimelyCrew (c : ActorCrew C) : Type 0 where
     pub few : length c.list < 2 ^ 57
     pub timely : IsTimelyMember (length c.list) c.member
@@ -13,7 +13,7 @@ module _ {C : Type 0} where
   abbrev pub AreTimely : List (ActorCrew C) → Type 0
   AreTimely crew = Every IsTimelyCrew crew
 
-  -- its turn ended, and it can begin a round
+  -- the actor's turn ended, and it can begin a round
   pub record IsReady (c : ActorCrew C) : Type 0 where
     pub over : is_over c.member ≡ true
     pub can : CanBegin c.member

@@ -23,7 +23,7 @@ pub record GrewAbove (top : ℕ) (before after : List Note) : Type 0 where
   pub below : Every (λ note. note.stamp ≤ top) before
   pub above : Every (λ note. top < note.stamp) more
 
--- so grew each of these lists
+-- each of these lists of notes up to a stamp has more of them now, all above it
 abbrev pub AllGrewAbove : ℕ → List (List Note) → List (List Note) → Type 0
 AllGrewAbove top [] [] = Unit {0}
 AllGrewAbove top [] (after ∷ lists) = ⊥

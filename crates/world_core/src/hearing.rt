@@ -13,7 +13,7 @@ use reassembly_book::ReassemblyReply;
 pub(crate) struct Told {
     /// The end of its stream.
     pub end: bool,
-    /// That the peer aborted the connection.
+    /// The peer's abort of the connection.
     pub abort: bool,
 }
 
@@ -120,7 +120,7 @@ impl Hearing {
         }
     }
 
-    /// This was told more, to this actor.
+    /// An actor was told this more.
     pub fn take_told(&mut self, actor: u8, told: Told)
         ensures { self.new ≡ heard_told actor told self.old }
     {

@@ -17,21 +17,21 @@ use Rattle.world_laws.specs.Members.{of_kind, within_kind}
 abbrev pub Actor : Type 0 → Type 0
 Actor C = Member AppState (PathState C)
 
--- with its pass and its steps
+-- an actor with its pass and its steps
 abbrev pub ActorCrew : Type 0 → Type 0
 ActorCrew C = Crew (Actor C)
 
 module _ {C : Type 0} where
-  -- what it asks: nothing where its turn ended
+  -- what the actor asks: nothing where its turn ended
   abbrev pub member_asks : Codec C → Actor C → Option Ask
   member_asks k = of_kind app_asks_of (asks_of k)
 
-  -- its turn ended
+  -- the actor's turn ended
   abbrev pub is_over : Actor C → Bool
   is_over (App a) = is_nil a.agenda
   is_over (Path p) = is_nil p.agenda
 
-  -- it takes a reply
+  -- the actor takes a reply
   abbrev pub member_takes : Codec C → Reply → Actor C → Actor C
   member_takes k r = within_kind (app_takes r) (takes k r)
 

@@ -15,11 +15,11 @@ abbrev pub NothingClashes : Mappings → Type 0
 NothingClashes v = Every (λ heard. clashes heard v ≡ false) v.held
 
 module _ {C : Type 0} where
-  -- at both ends of a path
+  -- no mapping clashes at either end of a path
   abbrev pub EndsAgree : Actor C → Type 0
   EndsAgree (App a) = Unit {0}
   EndsAgree (Path p) = (s : Side) → NothingClashes (end_at s p).receiving.mappings
 
-  -- so it is on every path
+  -- no mapping that is still to be treated clashes, at both ends of every path
   pub record MappingsAgree (w : WorldState C) : Type 0 where
     pub each : (actor : ℕ) (c : ActorCrew C) → slice_get w.crew actor ≡ Some c → EndsAgree c.member

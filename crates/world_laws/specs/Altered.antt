@@ -64,7 +64,7 @@ module _ {C : Type 0} where
   PrefixUntilTheFall w = (fell_back B w ≡ false → IsPrefix (output_of B w) (written_by A w).written)
       × (fell_back A w ≡ false → IsPrefix (output_of A w) (written_by B w).written)
 
-  -- and what was placed until then is right for ever
+  -- as long as its side hasn't fallen back, what a reader's side placed is right for ever
   abbrev pub PlacedUntilTheFall : Codec C → WorldState C → Type 0
   PlacedUntilTheFall k w = (more : List Turn) → (fell_back B w ≡ false → StaysRight A B w (world_run k more w))
       × (fell_back A w ≡ false → StaysRight B A w (world_run k more w))
@@ -82,7 +82,7 @@ module _ {C : Type 0} where
 abbrev pub HoldsChecked : (WorldState Carried → Type 0) → Type 0
 HoldsChecked P = (start : Start) (turns : List Turn) → HasRoom start → start.checksums ≡ true → P (world_run values turns (opened_world start))
 
--- and over octets
+-- P holds over octets, where mappings are checked
 abbrev pub HoldsCheckedOfOctets : (WorldState (List ℕ) → Type 0) → Type 0
 HoldsCheckedOfOctets P =
     (start : Start) (turns : List Turn) → HasRoom start → NumbersFit start → start.checksums ≡ true → P (world_run octets turns (opened_world start))

@@ -97,6 +97,6 @@ module _ {C : Type 0} where
       IfSome (first_sends p.agenda p)
       (λ t. (id : ℕ) → is_announcement id (segment_sent p t) ≡ true → WasTold t.from id notes (control_journal t.from books).journal)
 
-  -- so it is with every path
+  -- every path announces as it was told
   pub record AnnouncementsEnd (w : WorldState C) : Type 0 where
     pub each : (actor : ℕ) (c : ActorCrew C) → slice_get w.crew actor ≡ Some c → AnnouncesAsTold w.books c.list c.member

@@ -20,41 +20,41 @@ use Rattle.path_agenda.specs.declared.duty.StepDuty.TheVariants as step_duties
 use Rattle.path_core.specs.Emission.{payload_size}
 use Rattle.path_core.specs.State.{PathState, path_of}
 
--- which kinds of asks
+-- the kinds of asks that may be made
 pub record May : Type 0 where
   -- the control book is asked how side and path stand
   pub look : Bool
-  -- it is told a key, or both
+  -- the control book is told a key, or both
   pub keys : Bool
-  -- it is told what happened of Multipath TCP
+  -- the control book is told what happened of Multipath TCP
   pub fell : Bool
-  -- it is asked whether the path may join
+  -- the control book is asked whether the path may join
   pub joins : Bool
-  -- it is told that the path lives or is dead
+  -- the control book is told that the path lives or is dead
   pub lives : Bool
-  -- it is told what the peer notes, or its fast close
+  -- the control book is told what the peer notes, or its fast close
   pub notes : Bool
-  -- it is told of an address that is announced or taken back
+  -- the control book is told of an address that is announced or taken back
   pub addresses : Bool
-  -- it is told window and round-trip time
+  -- the control book is told window and round-trip time
   pub rate : Bool
   -- the send book is asked for bytes
   pub grant : Bool
-  -- it is told an acknowledgement
+  -- the send book is told an acknowledgement
   pub ack_in : Bool
-  -- bytes are given back to it
+  -- bytes are given back to the send book
   pub returns : Bool
-  -- it is told that the side fell back
+  -- the send book is told that the side fell back
   pub falls : Bool
-  -- it is to give itself to the path alone
+  -- the send book is to give itself to the path alone
   pub alone : Bool
   -- a book is told of the fast close
   pub stops : Bool
   -- the reassembly book is given bytes
   pub place : Bool
-  -- it is told the end of the stream
+  -- the reassembly book is told the end of the stream
   pub fin : Bool
-  -- it is asked what is to be acknowledged
+  -- the reassembly book is asked what is to be acknowledged
   pub ack_out : Bool
   -- an event is told
   pub happens : Bool
@@ -208,7 +208,7 @@ IsOwnCall own (control_calls.Backup path on) = path ≡ own
 IsOwnCall own (control_calls.Rate path window rtt) = path ≡ own
 IsOwnCall own _ = Unit {0}
 
--- it names the path itself, and asks for a full segment's payload
+-- an ask that names a path names this one, and one for bytes asks for a full segment's payload
 abbrev pub IsOwn : {C : Type 0} → PathState C → Ask → Type 0
 IsOwn p (asks.Control t call) = IsOwnCall (path_of p) call
 IsOwn p (asks.Send t (send_calls.Grant path max standby)) = (path ≡ path_of p) × (max ≡ payload_size p.profile)

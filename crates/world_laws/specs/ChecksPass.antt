@@ -32,8 +32,8 @@ use Rattle.world_laws.specs.Worlds.{WorldState}
 
 -- ---- checksums
 
--- that of a mapping of so many octets of a side's stream from this place on: over the data number with 64 bits, the relative subflow
--- number, the length, and the octets
+-- the checksum of a mapping of `len` octets of a side's stream from this place on: over the data number with 64 bits,
+-- the relative subflow number, the length, and the octets
 abbrev pub sum_over : Spelling → Side → List ℕ → ℕ → ℕ → ℕ → ℕ
 sum_over spelling s written place position len =
     dss_checksum
@@ -86,7 +86,7 @@ tells_failure _ = false
 abbrev pub note_tells_failure : Note → Bool
 note_tells_failure note = tells_failure note.ask
 
--- none was, neither side knows of a failed path, and neither sends or receives by an infinite mapping
+-- no failed check was told, neither side knows of a failed path, and neither sends or receives by an infinite mapping
 pub record ChecksPass {C : Type 0} (w : WorldState C) : Type 0 where
   pub checks : (actor : ℕ) → list_any note_tells_failure (notes_at actor w.crew) ≡ false
   pub unfailed : (s : Side) → (control_of s (books_in w.books)).fall.failed ≡ None

@@ -34,7 +34,7 @@ IsAtPlace Data c s r = suc (place_numbered c s r.mapping.number) ≡ r.pos
 IsAtPlace Syn c s r = Unit {0}
 IsAtPlace Fin c s r = Unit {0}
 
--- so has each, and each mapping that the end learned
+-- each record of data has the place before its position, and so has each mapping that the end learned
 pub record EndIsPlain (c : Profile) (s : Side) (e : PathEnd) : Type 0 where
   pub records : Every (λ r. IsAtPlace r.kind c s r) e.tcp.send.records
   pub learned : Every (λ kept. suc kept.place ≡ kept.pos) e.receiving.mappings.live
@@ -44,7 +44,7 @@ module _ {C : Type 0} where
   abbrev pub is_fallen : Side → WorldState C → Bool
   is_fallen s w = is_identity (control_of s (books_in w.books)).fall.mode
 
-  -- or was, by its control book's journal
+  -- the side is in plain TCP, or was, by its control book's journal
   abbrev pub has_fallen : Side → WorldState C → Bool
   has_fallen s w = was_ever is_identity s w
 
@@ -52,7 +52,7 @@ module _ {C : Type 0} where
   abbrev pub is_stopped : Side → WorldState C → Bool
   is_stopped s w = is_aborted (control_of s (books_in w.books)).fall.mode
 
-  -- it began a join, or answered one
+  -- the side began a join, or answered one
   abbrev pub has_joined : Side → WorldState C → Bool
   has_joined s w = (control_of s (books_in w.books)).fall.joined
 
@@ -67,7 +67,7 @@ module _ {C : Type 0} where
     pub answered : (s : Side) → has_fallen s w ≡ true → has_joined B w ≡ false
     pub only : (s : Side) → has_fallen s w ≡ true → OnlyFirstAsked w
 
-  -- and it stays in plain TCP until the connection is stopped
+  -- a side that fell stays in plain TCP until the connection is stopped
   abbrev pub FallsLast : Codec C → WorldState C → Type 0
   FallsLast k w =
       (s : Side) (more : List Turn) → has_fallen s w ≡ true → (is_fallen s (world_run k more w) || is_stopped s (world_run k more w)) ≡ true
@@ -77,12 +77,12 @@ module _ {C : Type 0} where
   PathIsPlain (App a) = Unit {0}
   PathIsPlain (Path p) = (s : Side) → EndIsPlain p.profile s (end_at s p)
 
-  -- so it is on path 0 where a side fell
+  -- where a side fell, on path 0 positions are places
   pub record PositionsArePlaces (w : WorldState C) : Type 0 where
     pub each : (s : Side) → has_fallen s w ≡ true → (c : ActorCrew C) → slice_get w.crew 2 ≡ Some c → PathIsPlain c.member
 
-  -- So it was at each moment before: each record of data that path 0 had at that moment, also one that is acknowledged since, has the
-  -- place before its position. The first world is that of the moment, and a side falls by the turns that follow, or fell before.
+  -- Where a side falls by the turns that follow, or fell before, on path 0 positions are places already: each record of
+  -- data that it has, also one that is acknowledged when the side falls, has the place before its position.
   abbrev pub PositionsWerePlaces : Codec C → WorldState C → Type 0
   PositionsWerePlaces k w =
       (s : Side) (more : List Turn) → has_fallen s (world_run k more w) ≡ true → (c : ActorCrew C) → slice_get w.crew 2 ≡ Some c → PathIsPlain c.member

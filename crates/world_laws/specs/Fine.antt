@@ -25,7 +25,7 @@ abbrev pub AreStamped : {C R : Type 0} → ℕ → List (Entry C R) → Type 0
 AreStamped last [] = Unit {0}
 AreStamped last (entry ∷ entries) = (entry.stamp ≡ max last entry.seen + 1) × AreStamped entry.stamp entries
 
--- so it is in the journal of each book
+-- in the journal of each book a stamp is one more than the greater of the one before it and of what the asker had seen
 pub record BooksAreStamped (books : StampedBooks) : Type 0 where
   pub send_a : AreStamped 0 books.send_a.journal
   pub send_b : AreStamped 0 books.send_b.journal

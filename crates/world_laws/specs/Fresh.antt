@@ -27,7 +27,7 @@ abbrev pub IsFreshTurn : Turn → WorldState Carried → Type 0
 IsFreshTurn (Turn.Step actor) w = IsFreshCrew (slice_get w.crew actor)
 IsFreshTurn Turn.Round w = Unit {0}
 
--- so is each turn in the world that those before it lead to
+-- each turn is fresh in the world that those before it lead to
 abbrev pub AreFresh : List Turn → WorldState Carried → Type 0
 AreFresh [] w = Unit {0}
 AreFresh (turn ∷ turns) w = IsFreshTurn turn w × AreFresh turns (after_turn values turn w)

@@ -37,7 +37,7 @@ IsUnder place position Data c s r =
 IsUnder place position Syn c s r = Unit {0}
 IsUnder place position Fin c s r = Unit {0}
 
--- so does each that an end may still send
+-- an infinite mapping gives each octet of data that the end may still send, from its position on, the octet's own place
 abbrev pub MappingIsRight : Profile → Side → PathEnd → Option (PathMapping ℕ) → Type 0
 MappingIsRight c s e (Some (Infinite place position)) = Every (λ r. IsUnder place position r.kind c s r) e.tcp.send.records
 MappingIsRight c s e _ = Unit {0}
@@ -47,7 +47,7 @@ abbrev pub OptionIsRight : Profile → Side → PathEnd → PlainOption → Type
 OptionIsRight c s e (Dss next mapping) = MappingIsRight c s e mapping
 OptionIsRight c s e _ = Unit {0}
 
--- of each copy under way, for the end that sent it
+-- the infinite mappings of a copy under way are right, for the end that sent it
 abbrev pub FlightIsRight : PathState Carried → Flight Carried → Type 0
 FlightIsRight p f = Every (OptionIsRight p.profile (peer f.to) (end_at (peer f.to) p)) f.carried.segment.options
 
@@ -56,7 +56,7 @@ abbrev pub PathIsRight : Actor Carried → Type 0
 PathIsRight (App a) = Unit {0}
 PathIsRight (Path p) = Every (FlightIsRight p) p.link.under_way
 
--- on every path
+-- the infinite mappings on every path are right
 pub record InfiniteMappingsAreRight (w : WorldState Carried) : Type 0 where
   pub each : (actor : ℕ) (c : ActorCrew Carried) → slice_get w.crew actor ≡ Some c → PathIsRight c.member
 
@@ -81,6 +81,6 @@ module _ {C : Type 0} (k : Codec C) where
   ActorHearsRight (App a) = Unit {0}
   ActorHearsRight (Path p) = NextIsRight p
 
-  -- on every path
+  -- the infinite mappings that arrive next on every path are heard right
   pub record InfiniteMappingsAreHeardRight (w : WorldState C) : Type 0 where
     pub each : (actor : ℕ) (c : ActorCrew C) → slice_get w.crew actor ≡ Some c → ActorHearsRight c.member

@@ -15,11 +15,11 @@ abbrev pub asks_for_a : Note → Bool
 asks_for_a note = asks_grant A note.ask
 
 module _ {C : Type 0} where
-  -- none was, by these steps
+  -- bytes of A's stream weren't asked for by these steps of a path that joins, as long as A may not use the DSS on it
   abbrev pub WaitsSo : List Note → Actor C → Type 0
   WaitsSo notes (App a) = Unit {0}
   WaitsSo notes (Path p) = is_joined p.profile ≡ true → p.a.modes.clear ≡ false → list_any asks_for_a notes ≡ false
 
-  -- so it is on every path
+  -- no path that joins asks for bytes of A's stream before A may use the DSS on it
   pub record JoinsWait (w : WorldState C) : Type 0 where
     pub each : (actor : ℕ) (c : ActorCrew C) → slice_get w.crew actor ≡ Some c → WaitsSo c.list c.member

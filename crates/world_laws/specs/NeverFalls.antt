@@ -49,7 +49,7 @@ NeverFalls w = (s : Side) → was_ever is_fallen_back s w ≡ false
 abbrev pub IsPromisedWhole : (WorldState Carried → Type 0) → Type 0
 IsPromisedWhole P = (start : Start) (turns : List Turn) → IsPlain start → IsWhole start → P (world_run values turns (opened_world start))
 
--- and over octets
+-- P holds where nothing is altered or stripped, over octets
 abbrev pub IsPromisedWholeOfOctets : (WorldState (List ℕ) → Type 0) → Type 0
 IsPromisedWholeOfOctets P =
     (start : Start) (turns : List Turn) → IsPlain start → IsWhole start → NumbersFit start → P (world_run octets turns (opened_world start))

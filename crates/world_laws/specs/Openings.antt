@@ -129,7 +129,7 @@ module _ {C : Type 0} where
   abbrev pub new_path : Start → ℕ → PathPlan → ActorCrew C
   new_path start number plan = new_crew (2 + number) (Path (first_turn (path_begins start number plan) start.lines))
 
-  -- these paths, the first of which has this number
+  -- the paths of these plans, of which the first has this number
   abbrev pub paths_from : Start → ℕ → List PathPlan → List (ActorCrew C)
   paths_from start number [] = []
   paths_from start number (plan ∷ plans) = new_path start number plan ∷ paths_from start (suc number) plans

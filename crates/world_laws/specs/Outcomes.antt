@@ -22,17 +22,17 @@ use Rattle.world_laws.specs.Worlds.{WorldState}
 
 -- ---- what an application was told
 
--- the end of the stream
+-- the reply tells the end of the stream
 abbrev pub tells_end : Reply → Bool
 tells_end (replies.Reassembly reassembly_replies.End) = true
 tells_end _ = false
 
--- that it was aborted, by either side
+-- the reply tells that the stream was aborted, by either side
 abbrev pub tells_stop : Reply → Bool
 tells_stop (replies.Reassembly (reassembly_replies.Aborted by_peer)) = true
 tells_stop _ = false
 
--- that the peer aborted it
+-- the reply tells that the peer aborted the stream
 abbrev pub tells_abort : Reply → Bool
 tells_abort (replies.Reassembly (reassembly_replies.Aborted by_peer)) = by_peer
 tells_abort _ = false
@@ -48,7 +48,7 @@ was_told test notes = list_any (note_tells test) notes
 abbrev pub bytes_noted : Note → List ℕ
 bytes_noted note = bytes_in note.reply
 
--- those of these steps, in their order
+-- the bytes that these steps read, in their order
 abbrev pub read_by : List Note → List ℕ
 read_by notes = flat_map bytes_noted notes
 

@@ -79,18 +79,19 @@ pub record KeepsAnyway (w : WorldState (List ℕ)) : Type 0 where
   pub infinite : InfiniteMappingsAreHeardRight octets w
   pub whole : PositionsWerePlaces octets w
 
--- so it keeps these promises, whatever the order of the steps
+-- by a script with short files all is kept that is promised whatever is altered, in whatever order the steps come
 abbrev pub ScriptsKeepAnyway : Type 0
 ScriptsKeepAnyway =
     (script : Script) (file_a file_b : List ℕ) (turns : List Turn) → IsShortScript script file_a file_b
     → KeepsAnyway (world_run octets turns (opened_world (start_of script file_a file_b)))
 
--- and where mappings are checked: until its side falls back, a reader has a prefix of what was written, and what was placed is right
+-- where mappings are checked: until its side falls back, a reader has a prefix of what was written, and what was placed
+-- is right
 pub record KeepsChecked (w : WorldState (List ℕ)) : Type 0 where
   pub prefix : PrefixUntilTheFall w
   pub placed : PlacedUntilTheFall octets w
 
--- so it is by every such script with checksums, whatever the order of the steps
+-- by a script with short files and checksums, what is checked is kept, in whatever order the steps come
 abbrev pub CheckedScriptsKeepOctets : Type 0
 CheckedScriptsKeepOctets =
     (script : Script) (file_a file_b : List ℕ) (turns : List Turn) → IsShortScript script file_a file_b → script.checksum ≡ true
@@ -106,7 +107,7 @@ pub record IsShownOfValues (start : Start) (turns : List Turn) : Type 0 where
   pub infinite : InfiniteMappingsAreRight (world_run values turns (opened_world start))
   pub sums : ChecksumsAreRight (world_run values turns (opened_world start))
 
--- so it is by every such script, whatever the order of the steps
+-- a connection by a script with short files is one over values, shown in octets, in whatever order the steps come
 abbrev pub ScriptsAreShownOfValues : Type 0
 ScriptsAreShownOfValues =
     (script : Script) (file_a file_b : List ℕ) (turns : List Turn)
@@ -126,7 +127,7 @@ pub record KeepsAllPromises (w : WorldState (List ℕ)) : Type 0 where
   pub checks : ChecksPass w
   pub anyway : KeepsAnyway w
 
--- so it keeps all promises, whatever the order of the steps
+-- a connection whose script alters no payload keeps all promises, in whatever order the steps come
 abbrev pub PlainScriptsKeepAllPromises : Type 0
 PlainScriptsKeepAllPromises =
     (script : Script) (file_a file_b : List ℕ) (turns : List Turn) → IsPlainScript script file_a file_b

@@ -100,7 +100,7 @@ module _ {C : Type 0} where
     pub read : output_of reader later ≡ output_of reader w
     pub written : (written_by writer later).written ≡ (written_by writer w).written
 
-  -- so it is in both directions, whatever turns follow
+  -- after the end was told nothing is read or written, in both directions, whatever turns follow
   abbrev pub NothingFollows : Codec C → WorldState C → Type 0
   NothingFollows k w = (more : List Turn) → (was_told_end B w ≡ true → NothingCame A B w (world_run k more w)) × (was_told_end A w ≡ true → NothingCame B A w (world_run k more w))
 
@@ -133,7 +133,7 @@ module _ {C : Type 0} where
 abbrev pub IsPromised : (WorldState Carried → Type 0) → Type 0
 IsPromised P = (start : Start) (turns : List Turn) → IsPlain start → P (world_run values turns (opened_world start))
 
--- and over octets
+-- P holds of plain connections over octets
 abbrev pub IsPromisedOfOctets : (WorldState (List ℕ) → Type 0) → Type 0
 IsPromisedOfOctets P = (start : Start) (turns : List Turn) → IsPlain start → NumbersFit start → P (world_run octets turns (opened_world start))
 
@@ -143,7 +143,7 @@ IsPromisedOfOctets P = (start : Start) (turns : List Turn) → IsPlain start →
 abbrev pub HoldsAnyway : (WorldState Carried → Type 0) → Type 0
 HoldsAnyway P = (start : Start) (turns : List Turn) → HasRoom start → P (world_run values turns (opened_world start))
 
--- and over octets
+-- P holds of connections over octets, whatever is altered
 abbrev pub HoldsAnywayOfOctets : (WorldState (List ℕ) → Type 0) → Type 0
 HoldsAnywayOfOctets P = (start : Start) (turns : List Turn) → HasRoom start → NumbersFit start → P (world_run octets turns (opened_world start))
 
@@ -153,7 +153,7 @@ HoldsAnywayOfOctets P = (start : Start) (turns : List Turn) → HasRoom start �
 abbrev pub EveryListIsFresh : Type 0
 EveryListIsFresh = (start : Start) (turns : List Turn) → HasRoom start → NumbersFit start → AreFresh turns (opened_world start)
 
--- so a world over octets is the world over segments as values, shown in octets
+-- a world over octets is the world over segments as values, shown in octets
 abbrev pub OctetsAreValuesShown : Type 0
 OctetsAreValuesShown =
     (start : Start) (turns : List Turn) → HasRoom start → NumbersFit start

@@ -71,7 +71,7 @@ module _ {C : Type 0} where
 -- ---- laws, over every list of turns
 
 module _ {C : Type 0} (k : Codec C) where
-  -- so it is at every moment
+  -- at every moment the round that goes on ends on each path at its tick
   abbrev pub RoundsEndOnTime : Type 0
   RoundsEndOnTime =
       (start : Start) (turns : List Turn) → EndsOnTime (round_of k start turns) (reached k start turns)
@@ -82,7 +82,7 @@ module _ {C : Type 0} (k : Codec C) where
       (start : Start) (turns : List Turn) → all_over (reached k start turns).crew ≡ true
       → RoundIsDone (round_of k start turns) (reached k start turns)
 
-  -- so at each end of a round in lawful turns, as serial turns are
+  -- at each end of a round in lawful turns, as serial turns are, all that was due is done
   abbrev pub LawfulRoundsAreDone : Type 0
   LawfulRoundsAreDone =
       (start : Start) (before later : List Turn)

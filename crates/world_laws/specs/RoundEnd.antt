@@ -25,8 +25,8 @@ pub record EndsWithNone (notes : List Note) : Type 0 where
   pub parts : notes ≡ earlier ++ read ∷ end ∷ []
   pub none : read.reply ≡ replies.Reassembly reassembly_replies.NoneYet
 
--- It was told that the stream ended or was aborted; or it read, in this turn, at least as many octets as a side buffers; or
--- its last read found nothing.
+-- The reader was told that the stream ended or was aborted; or it read, in this turn, at least as many octets as a side
+-- buffers; or its last read found nothing.
 pub data IsReaderDone (a : AppState) (notes : List Note) : Type 0 where
   Told : a.told ≡ true → IsReaderDone a notes
   Enough : a.buffer ≤ a.count → IsReaderDone a notes

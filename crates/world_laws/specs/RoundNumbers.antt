@@ -76,7 +76,7 @@ frees_bytes B edge (asks.Send B (send_calls.AckIn next window)) reply = nat_lt e
 frees_bytes B edge (asks.Send B (send_calls.Return path)) reply = gives_back reply
 frees_bytes _ edge _ reply = false
 
--- it is so, after this stamp
+-- a note after this stamp tells of more that may be left to be taken of the side's stream
 abbrev pub frees_after : Side → ℕ → ℕ → Note → Bool
 frees_after s stamp edge note = nat_lt stamp note.stamp && frees_bytes s edge note.ask note.reply
 

@@ -11,14 +11,14 @@ abbrev pub goes_on : Outcome → Bool
 goes_on Going = true
 goes_on _ = false
 
--- this where the test is met, else that
+-- the first of two properties where the test is met, else the second
 abbrev pub OneOf : Bool → Type 0 → Type 0 → Type 0
 OneOf true this that = this
 OneOf false this that = that
 
 -- ---- the turns that numbers of steps say
 
--- so many steps of an actor, and then these turns
+-- a number of steps of an actor, and then these turns
 abbrev pub steps_and : ℕ → ℕ → List Turn → List Turn
 steps_and actor zero rest = rest
 steps_and actor (suc n) rest = Turn.Step actor ∷ steps_and actor n rest
@@ -46,7 +46,7 @@ module _ {C : Type 0} (k : Codec C) where
   IsTurn actor zero w = is_going actor w ≡ false
   IsTurn actor (suc n) w = (is_going actor w ≡ true) × IsTurn actor n (world_step k actor w)
 
-  -- this is the world after an actor's turn
+  -- an actor's turn leads from one world to the other
   abbrev pub TurnTo : ℕ → WorldState C → WorldState C → Type 0
   TurnTo actor w v = (n : ℕ) × IsTurn actor n w × (v ≡ after_steps actor n w)
 
@@ -63,7 +63,7 @@ module _ {C : Type 0} (k : Codec C) where
   after_turns actor [] w = w
   after_turns actor (n ∷ counts) w = after_turns (suc actor) counts (after_steps actor n w)
 
-  -- and after the end of that round
+  -- the world after the turns of a serial round, and the round's end
   abbrev pub after_round : List ℕ → WorldState C → WorldState C
   after_round counts w = end_round (after_turns 0 counts w)
 
@@ -77,6 +77,6 @@ module _ {C : Type 0} (k : Codec C) where
       AreTurns (length w.crew) 0 counts w
       × OneOf (goes_on (outcome_of (after_round counts w).crew)) (AreRounds most rounds (after_round counts w)) (rounds ≡ [])
 
-  -- these are the turns of at most so many rounds
+  -- the turns of at most so many serial rounds
   abbrev pub IsSerial : ℕ → List Turn → WorldState C → Type 0
   IsSerial most turns w = (rounds : List (List ℕ)) × AreRounds most rounds w × (turns ≡ spelled rounds)

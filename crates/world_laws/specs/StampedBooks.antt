@@ -11,7 +11,7 @@ use Rattle.actor_desk.specs.Journals.{send_note, reassembly_note, control_note}
 abbrev pub answer_to : StampedBooks → Ask → Reply
 answer_to books ask = reply_of (books_in books) ask
 
--- those of the send books, of the reassembly books and of the control books, A's first each time
+-- the journals of the send books, the reassembly books and the control books, A's first each time
 abbrev pub journals_of : StampedBooks → List (List Note)
 journals_of books =
     map (send_note side.A) books.send_a.journal ∷ map (send_note side.B) books.send_b.journal

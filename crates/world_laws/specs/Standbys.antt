@@ -49,6 +49,6 @@ abbrev pub GrantsAreFree : Side → Bool → List Note → Type 0
 GrantsAreFree s before [] = Unit {0}
 GrantsAreFree s before (note ∷ notes) = (grants_bytes s note ≡ true → before ≡ false) × GrantsAreFree s (standby_after s note before) notes
 
--- so it is of each actor
+-- each step that grants bytes, of whatever actor, is one of a path that doesn't stand by
 abbrev pub BackupsGetNothing : {C : Type 0} → WorldState C → Type 0
 BackupsGetNothing w = (s : Side) (actor : ℕ) → GrantsAreFree s false (notes_at actor w.crew)

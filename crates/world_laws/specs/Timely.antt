@@ -22,6 +22,6 @@ module _ {C : Type 0} where
   abbrev pub CanBegin : Actor C → Type 0
   CanBegin = HoldsOfKind (λ app. Unit {0}) (λ path. path.until ≤ 100 * 2 ^ 57)
 
-  -- so it is with each actor and the steps that it made
+  -- each path has a step for every round that it began, but for the one that goes on
   pub record EachRoundHasAStep (w : WorldState C) : Type 0 where
     pub each : (actor : ℕ) (c : ActorCrew C) → slice_get w.crew actor ≡ Some c → IsTimelyMember (length c.list) c.member

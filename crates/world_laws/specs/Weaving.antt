@@ -61,7 +61,7 @@ module _ {C : Type 0} where
     list = c.list ++ note ∷ [];
   }
 
-  -- and after those of all these notes
+  -- the actor after the steps of all these notes
   abbrev pub after_notes : Codec C → List Note → ActorCrew C → ActorCrew C
   after_notes k [] c = c
   after_notes k (note ∷ notes) c = after_notes k notes (after_note k note c)
@@ -112,7 +112,7 @@ module _ {C : Type 0} where
   abbrev pub woven : ℕ → WorldState C → List Turn
   woven top w = steps_by (order_of top (lists_of w.crew))
 
-  -- those of whole rounds that have these numbers of steps, each round with its end
+  -- the woven turns of whole rounds that have these numbers of steps, each round with its end
   abbrev pub woven_rounds : Codec C → List (List ℕ) → WorldState C → List Turn
   woven_rounds k [] w = []
   woven_rounds k (counts ∷ rounds) w =

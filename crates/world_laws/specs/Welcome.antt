@@ -17,7 +17,7 @@ use Rattle.world_laws.specs.declared.member.Member.TheVariants.{App, Path}
 use Rattle.world_laws.specs.Actors.{Actor, ActorCrew}
 use Rattle.world_laws.specs.Worlds.{WorldState}
 
--- it lacks no MP_JOIN, and no HMAC of it is wrong
+-- the copy lacks no MP_JOIN, and no HMAC of it is wrong
 abbrev pub IsWelcome : Judged → Type 0
 IsWelcome (As meaning) = Unit {0}
 IsWelcome Asks = Unit {0}
@@ -34,6 +34,6 @@ module _ {C : Type 0} (k : Codec C) where
   WelcomesNext (App a) = Unit {0}
   WelcomesNext (Path p) = NextIsWelcome p
 
-  -- on every path
+  -- the copy that arrives next on every path is welcome
   pub record EachCopyIsWelcome (w : WorldState C) : Type 0 where
     pub each : (actor : ℕ) (c : ActorCrew C) → slice_get w.crew actor ≡ Some c → WelcomesNext c.member

@@ -98,7 +98,7 @@ module _ {C : Type 0} where
   IsLawfulTurn (Turn.Step actor) w = is_going actor w ≡ true
   IsLawfulTurn Turn.Round w = all_over w.crew ≡ true
 
-  -- so is each turn in the world that those before it lead to
+  -- each turn is lawful in the world that those before it lead to
   abbrev pub AreLawful : Codec C → List Turn → WorldState C → Type 0
   AreLawful k [] w = Unit {0}
   AreLawful k (turn ∷ turns) w = IsLawfulTurn turn w × AreLawful k turns (after_turn k turn w)

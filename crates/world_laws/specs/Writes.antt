@@ -36,7 +36,7 @@ use Rattle.path_core.specs.Profile.{Profile}
 
 -- ---- the parts
 
--- which parts of an end may be written
+-- the parts of an end that may be written
 pub record EndWrites : Type 0 where
   -- the subflow
   pub numbers : Bool
@@ -240,8 +240,8 @@ pub record Only (w : EndWrites) (e f : PathEnd) : Type 0 where
 
 -- ---- of a path
 
--- which parts of a path may be written: those of the end of the duty's side, those of the other end, the link, and the clock with
--- what waits to happen
+-- the parts of a path that may be written: those of the end of the duty's side, those of the other end, the link, and
+-- the clock with what waits to happen
 pub record Writes : Type 0 where
   pub own : EndWrites
   pub other : EndWrites

@@ -5,7 +5,7 @@ use sides::Side;
 /// How a connection stands.
 #[derive(Clone, Copy)]
 pub enum Outcome {
-    /// It goes on.
+    /// The connection goes on.
     Going,
     /// Both readers were told the end of what they read.
     Delivered,

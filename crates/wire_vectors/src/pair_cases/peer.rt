@@ -31,9 +31,9 @@ const WINDOW: u16 = 32_768;
 pub enum Closes {
     /// As soon as all its octets are pushed.
     Unasked,
-    /// So, and after the peer's FIN.
+    /// As soon as all its octets are pushed and the peer's FIN came.
     Second,
-    /// It doesn't.
+    /// The side doesn't close.
     Never,
 }
 
@@ -62,7 +62,7 @@ fn made(place: u64) -> u8 {
     (place % 251) as u8
 }
 
-/// So many octets from a place on.
+/// Made octets from a place on, so many.
 fn made_piece(alloc: Global, place: u32, length: u32) -> Result<Vec<u8>, AllocError> {
     let first = u64::from(place);
     (first..first + u64::from(length)).map(made).collect(alloc)

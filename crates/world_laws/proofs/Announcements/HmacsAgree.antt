@@ -1,5 +1,11 @@
 -- No step is answered that an announcement has a wrong HMAC, whatever the script does: only B announces addresses, once its book was
 -- told both keys, and A shows these once its own book has B's.
+--
+-- That an announcement shows the right HMAC (`proofs/Announcements/HmacsAgree`) is one more deed, that a side's book
+-- has the peer's key (`Keyed`). A shows both keys once its book did so, B's book is confirmed by these alone, a
+-- confirmed book alone announces, and A's is never confirmed: so each announcement in a queue is B's, and where it is
+-- heard the book has the key. What holds of all that an end has to note is kept by one set of lemmas over any predicate
+-- (`proofs/Announcements/Queued`).
 use Rattle.world_laws.proofs.Words.{refl, ℕ, true, List, [], ◌∷◌, Carried, values, Always, opened_world, WorldState, Turn, after_turn, world_run}
 use Rattle.world_laws.proofs.Words.{AddressesAreRight, tells_bad_address}
 use Rattle.world_laws.proofs.Joins.TokensAgree.{WorldMet, opened_met, turn_met}

@@ -1,5 +1,10 @@
 -- An id whose announcement is due is wanted by the calls that the control book took: since it was to be announced last, neither its echo
 -- nor its removal was heard.
+--
+-- What holds of a value whose type a crate keeps to itself is said and proved without its name: `IfSome (first_sends
+-- ..) (λ t. ..)` in a law, and its cases by what it is made of (`first_noted` of `world_laws` goes by the duty, not by
+-- the kind of the segment). A definition of a library that the crate doesn't use is met through one that uses it
+-- (`with_address` of `world_laws/proofs/Announcements/Wanted` is a field of `after_announce`).
 use Rattle.world_laws.proofs.Words.{◌≡◌, refl, sym, ◌∙◌, ap, subst, ℕ, ◌&&◌, ◌||◌, ◌==◌, inl, inr, Bool, true, false, if◌then◌else◌, Option, Some, None, List}
 use Rattle.world_laws.proofs.Words.{[], ◌∷◌, ◌++◌, length, replicate, is_some, set, get_or-set_same, get_or-set_other, both_ways, false≢true, cases_lt}
 use Rattle.world_laws.proofs.Words.{get_or_past, get_or-replicate, set_past, Mode, Entry, is_member, lowest, no_ids, Addresses, address_of, after_announce}

@@ -1,4 +1,13 @@
 -- Where bytes or an end were told to a reassembly book, the book is asked what is to be acknowledged before the end sends anything.
+--
+-- The book is asked before anything is sent (`proofs/Asks/AckOutDuties`, `AckOutBeforeSending`): after bytes or an end
+-- were told, the duty that asks what is to be acknowledged is ahead, and nothing but tellings before it (`guarded`).
+-- One table says of each duty that it tells nothing and leaves the agenda in shape (`Goes`); the seven that tell or ask
+-- are spoken of one by one.
+--
+-- That something is done within a turn goes by the agenda: a test of lists of duties (`comes`: the duty is ahead,
+-- behind others that leave the end as it has to be), which each step keeps until the duty was done, and which no list
+-- has as the turn ends.
 use Rattle.world_laws.proofs.Words.{◌&&◌, ◌||◌, Bool, true, false, List, [], ◌∷◌, Side, same_side, Duty, StepDuty, AskDuty, SilentDuty}
 
 -- ---- what is to be done before

@@ -1,4 +1,8 @@
 -- A side that fell back to plain TCP did so rightly.
+--
+-- A fact of a past step by a fact of now: that no path but path 0 ever asked for bytes, where a side fell, is said the
+-- other way round: who asked for bytes there did it after B joined (`asked_after` in `proofs/Falls/AreRight`), which a
+-- step keeps.
 use Rattle.world_laws.proofs.Words.{◌≡◌, refl, sym, ◌∙◌, ap, subst, ℕ, suc, ◌+◌, ◌||◌, not, ⊎_elim, Bool, true, false, Option, Some, None, List}
 use Rattle.world_laws.proofs.Words.{[], ◌∷◌, ◌++◌, length, arith, or_cases, and_parts, both_ways, false≢true, or_from, same_Some, list_any, slice_get}
 use Rattle.world_laws.proofs.Words.{IfSome, is_identity, Side, A, B, is_aborted, SendCall, KeptMapping, Record, RecordKind, Syn, Data, Fin, may_finish, Duty}

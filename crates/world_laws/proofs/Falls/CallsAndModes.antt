@@ -1,4 +1,13 @@
 -- What a call of a control book is to the modes of the two directions: a side falls back, begins a join or answers one, or all is as before.
+--
+-- The modes of the lanes are a function of the six books (`modes_by`), so a call of a control book is silent events of
+-- them (`control_moves` in `proofs/Falls/CallsAndModes`), whatever the path makes of its reply. What an end knows of
+-- its side (`Knowledge` in `proofs/Lanes/Showing`) is the flags of its two lanes: they look at the modes just before
+-- the send book is told (`look_moves`), and each rule of an end that speaks of plain TCP takes the flag in place of the
+-- mode.
+--
+-- What may be so since a mode forgot it (a stop) counts as so: a rising bit read off the present mode (`is_plain`,
+-- `is_loose`) needs no history, where the law excepts that mode.
 use Rattle.world_laws.proofs.Words.{◌≡◌, refl, sym, ◌∙◌, ap, ◌&&◌, not, inl, inr, ◌⊎◌, Bool, true, false, if◌then◌else◌, List, [], ◌∷◌, Fall, Side, A, B}
 use Rattle.world_laws.proofs.Words.{ControlCall, Ask, SixBooks, after_ask, Duo, after_events, falls_a, falls_b, begins_join, sends_join, hears_join, Lane}
 use Rattle.world_laws.proofs.Words.{Reader, FallA, FallB, LoosenA, LoosenB, BeginJoin, SendJoin, HearJoin}

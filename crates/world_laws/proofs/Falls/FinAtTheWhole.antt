@@ -1,4 +1,9 @@
 -- In plain TCP the FIN of an end goes out where its lane was granted all bytes, or all were acknowledged.
+--
+-- A FIN ends a whole stream after a fallback: spans that were granted reach no further than the positions that were
+-- sent, whose places are their positions; and under an own infinite mapping a piece that ends where the stream does is
+-- the record's last, since places rise from the first open piece up to the mapping, and from the mapping on (`RisesTo`,
+-- `proofs/Falls/FinAtTheWhole`).
 use Rattle.world_laws.proofs.Words.{◌≡◌, refl, sym, ◌∙◌, ap, subst, ℕ, zero, suc, ◌+◌, ◌-◌, ◌≤◌, ◌||◌, ◌==◌, not, min, max, ⊎_elim, Bool, true, false}
 use Rattle.world_laws.proofs.Words.{if◌then◌else◌, Option, Some, None, List, [], ◌∷◌, length, arith, ◌<◌, eqb-true, eq-eqb, or_cases, false≢true, or_right}
 use Rattle.world_laws.proofs.Words.{cases_lt, or_left, same_Some, slice_get_within, slice_get, IfSome, Side, A, B, peer, Sending, GrantedPiece, granted_to}

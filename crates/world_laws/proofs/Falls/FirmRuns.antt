@@ -1,4 +1,9 @@
 -- Where a side hasn't fallen back after a run, by its control book's journal, no turn of the run made it fall: it may be firm.
+--
+-- A constant for what doesn't come: whether a side fell back can't be read off its book once that was stopped, only off
+-- the journal. So the lanes of a run take it from outside: a side that hasn't fallen back by the run's end is `firm`
+-- (`Links`), no turn before makes it fall (`proofs/Falls/FirmRuns`), and at the end it is firm no more, by moves
+-- (`softens` in `proofs/Falls/CallsAndModes`).
 use Rattle.world_laws.proofs.Words.{◌≡◌, refl, sym, ◌∙◌, ap, subst, ℕ, zero, suc, Bool, true, false, Some, List, [], ◌∷◌, ◌++◌, both_ways, false≢true}
 use Rattle.world_laws.proofs.Words.{slice_get, Mode, is_identity, Side, Duty, StepDuty, AskDuty, Ask, StampedBooks, books_in, SixBooks, control_of, after_ask}
 use Rattle.world_laws.proofs.Words.{PathState, end_at, asks_first, Carried, values, item_ask, item_of, in_map, App, Path, Actor, ActorCrew, member_asks, Always}

@@ -1,5 +1,8 @@
 -- A path that joins the connection does nothing before it is begun, and nothing where it died before: its ends say nothing, nothing
 -- is under way, no timer runs, and what it has to do comes to nothing, but that it asks whether it may begin.
+--
+-- A path that hasn't joined is silent: both of its ends are shut, and no duty wakes one as long as no join is begun
+-- (`proofs/Joins/Asleep`); so its lanes stay as they were opened.
 use Rattle.world_laws.proofs.Words.{◌≡◌, refl, sym, ◌∙◌, ap, subst, ℕ, ◌+◌, ◌&&◌, ◌||◌, not, nat_lt, nat_le, Bool, true, false, if◌then◌else◌, Option, Some}
 use Rattle.world_laws.proofs.Words.{None, List, [], ◌∷◌, ◌++◌, is_none, and_parts, and_from, false≢true, same_Some, list_all, IfSome, option_and_then, Side, A}
 use Rattle.world_laws.proofs.Words.{B, ScriptLine, Control, is_sure, join_waits, begin, join_begin_reply, Record, is_closed_to_segments, is_opening, is_dead}

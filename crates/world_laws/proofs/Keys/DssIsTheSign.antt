@@ -1,5 +1,10 @@
 -- At an end of A nothing but a DSS is told to its control book as the sign of Multipath TCP: each acknowledgement, mapping and end of
 -- the stream that a copy says comes behind a DSS, and that one clears the end. So the end is clear before it tells one.
+--
+-- An order of things heard (a sign of Multipath TCP comes behind a DSS): the list of things as a recursion with a Bool
+-- that rises (`Led`), the agenda as a recursion with the number that is next (`Follows`), and a step is either one that
+-- keeps both or begins anew (`proofs/Keys/DssIsTheSign`); so `proofs/Keys/SureMaySend` needs no case of what a copy
+-- said.
 use Rattle.world_laws.proofs.Words.{◌≡◌, refl, sym, ap, subst, ℕ, zero, suc, ◌+◌, ◌||◌, inl, inr, ◌⊎◌, ⊎_elim, Bool, true, false, if◌then◌else◌, Option, Some}
 use Rattle.world_laws.proofs.Words.{None, List, [], ◌∷◌, ◌++◌, length, map, arith, both_ways, false≢true, or_right, or_left, flat_map, FallEvent, Address, Side}
 use Rattle.world_laws.proofs.Words.{A, B, JoinForm, CapableKeys, Sender, JoinSyn, KeptMapping, Record, is_dead, Meaning, is_sixth, arriving, after_delivery}

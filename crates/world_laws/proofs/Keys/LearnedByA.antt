@@ -1,4 +1,7 @@
 -- Every step of path 0 keeps that A's side has B's key, or is past being sure, where B answered, and where it may tell a sign of B.
+--
+-- A fact on the books in a path's invariant is a type `T` that the path's facts are said with
+-- (`proofs/Keys/LearnedByA`); a step gives `T → U`.
 use Rattle.world_laws.proofs.Words.{◌≡◌, refl, sym, ◌∙◌, ap, subst, ℕ, ◌||◌, inl, inr, ◌⊎◌, Bool, true, false, if◌then◌else◌, Option, Some, None, List, [], ◌∷◌}
 use Rattle.world_laws.proofs.Words.{◌++◌, length, is_some, or_parts, both_ways, false≢true, IfSome, Verdict, Mode, FallEvent, is_starting, Side, A, B}
 use Rattle.world_laws.proofs.Words.{ControlCall, ControlReply, KeptMapping, is_dead, is_waiting, Meaning, is_sixth, after_expiry, Outgoing}

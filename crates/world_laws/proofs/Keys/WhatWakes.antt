@@ -1,4 +1,10 @@
 -- Which steps wake an end, and which duties say what an end that began says.
+--
+-- What an end knows is a record of its keys and nonces (`known_in`), with which most rules change nothing by `refl`.
+-- What it has to know for its SYN holds of an end that is up, open or with a timer that runs (`is_up`), and of one
+-- whose agenda says so (`speaks`); that no rule wakes an end is one record, `NoWaking` (`proofs/Keys/WhatWakes`). Facts
+-- that hold where each join began with the right key stand behind a Bool, so that one development serves every script
+-- and plain ones (`right` in `proofs/Keys/AreDrawn`).
 use Rattle.world_laws.proofs.Words.{◌≡◌, refl, sym, ◌∙◌, ap, subst, ℕ, zero, suc, ◌+◌, ◌&&◌, ◌||◌, not, nat_lt, nat_le, Bool, true, false, if◌then◌else◌}
 use Rattle.world_laws.proofs.Words.{Option, Some, None, List, [], ◌∷◌, is_some, false≢true, list_any, IfSome, option_and_then, Side, A, B, same_side, AckKind}
 use Rattle.world_laws.proofs.Words.{after_acknowledge, ack_kind, sample_of, is_closed_to_segments, is_waiting, Meaning, after_sending, EndState, EndPhase}

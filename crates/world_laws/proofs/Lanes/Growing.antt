@@ -1,4 +1,10 @@
 -- What was sent on a lane stays, so what the ends and the copies have to do with the lanes stays as these go on.
+--
+-- How a lane goes on is an equation to a record with new fields (`SenderGoes`, `ReceiverGoes`): after one `subst` all
+-- that is said of the other end computes (`proofs/Lanes/Growing`).
+--
+-- A lemma over a lane that grew (`SenderGoes out q`) takes what stays as an equation on the lane itself (`q.pair ≡
+-- out.pair`), which computes, and not on the fields of the record that another lemma gives, which doesn't unfold.
 use Rattle.world_laws.proofs.Words.{◌≡◌, refl, sym, ◌∙◌, ap, subst, ℕ, zero, suc, ◌+◌, ◌-◌, ◌≤◌, inl, inr, ◌⊎◌, ⊎_elim, Bool, true, false, Option, Some, None}
 use Rattle.world_laws.proofs.Words.{List, [], ◌∷◌, ◌++◌, length, take, drop, arith, lt-ltb, length-append, length-drop, length-map, append-nil, map-append}
 use Rattle.world_laws.proofs.Words.{IfSome, Side, dss_checksum, with_turned_bit, CapableKeys, WithData, KeptMapping, Receiving, SendState, is_behind, EndPhase}

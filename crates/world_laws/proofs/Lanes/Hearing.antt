@@ -1,4 +1,7 @@
 -- What the rules of a subflow leave of what its end shows.
+--
+-- Facts by cases on an enum under an `if` need a record around them, else nothing infers the arms (`Fitting` in
+-- `proofs/Lanes/Hearing`).
 use Rattle.world_laws.proofs.Words.{◌≡◌, refl, ◌∙◌, ap, ℕ, zero, suc, ◌&&◌, ◌==◌, nat_lt, nat_le, inl, inr, ◌⊎◌, ⊎_elim, Bool, true, false, if◌then◌else◌}
 use Rattle.world_laws.proofs.Words.{Option, Some, None, List, [], ◌∷◌, take, arith, ◌<◌, and_parts, slice_get, Side, KeptMapping, Receiving, SendState, Meaning}
 use Rattle.world_laws.proofs.Words.{EndState, is_at_limit, EndPhase, Copy, Profile, Lane}

@@ -1,5 +1,19 @@
 -- What the two directions of a connection show of its world, and what a step of the world is there: moves of the lanes, at most
 -- one call of a book, and moves again.
+--
+-- A path among the others: what a turn shows is said of one path's two lanes (`duo_at`), with the lanes and modes of
+-- the others as a variable (`Others` in `proofs/Lanes/OfAWorld`); `proofs/Lanes/EveryTurn` puts them back into the
+-- lists. An event of one lane is one of the list (`there_again`, `moved_there` in `proofs/Lanes/Roads`).
+--
+-- Links that alter (`Links`, `Carries` of `proofs/Lanes/OfAWorld`) are a constant of the lanes that a run is shown on.
+-- Where they may alter, every piece stands there twice, as it was sent and with a bit turned (`IsPiece.turned`), and a
+-- grant sends both at once: so an alteration is no move, and nothing has to be said of the turn that makes it. A lane
+-- hears bytes when they are kept beside the edge, not when they are held for it: the first byte for a position stays on
+-- both sides then (`keeps_held` of `proofs/Lanes/Taking`).
+--
+-- What a turn needs of the world is one record, `IsSteady` (`proofs/Lanes/OfAWorld`), and a premise of the law on
+-- turns; that it holds at every moment is proved apart from the lanes (`proofs/Worlds/Steady`), so none of its parts is
+-- carried through the rules of an end.
 use Rattle.world_laws.proofs.Words.{◌≡◌, refl, sym, ◌∙◌, ap, ℕ, zero, suc, ◌-◌, ◌≤◌, ◌&&◌, not, Bool, true, false, Option, Some, None, List, [], ◌∷◌, ◌++◌}
 use Rattle.world_laws.proofs.Words.{length, ◌<◌, ◌^◌, set, and_parts, and_from, both_ways, false≢true, true≢false, slice_get, list_all, Side, A, B, ControlCall}
 use Rattle.world_laws.proofs.Words.{is_sure, ReassemblyCall, SendCall, may_finish, lines_of, Duty, StepDuty, AskDuty, Heard, Ask, books_in, SixBooks, send_of}

@@ -1,5 +1,12 @@
 -- What the receiver's half of an end makes of the lanes: mappings that are learned, bytes that are placed, an end that is told, and
 -- the FIN.
+--
+-- A checksum is followed from the grant to the check beside the mapping that it is told with: `IsSummed` (of a record,
+-- of a copy's option) and `KeptSummed` (of a mapping that was heard) say that it is that of the bytes of the lane's
+-- record there, which only grows. So where a whole mapping with a right checksum has come, its bytes are those that
+-- were sent (`piece_passes` of `proofs/Lanes/Placing`, by `came_cases` and `checksum_shows` of `stream_lanes`), and a
+-- lane that checks lets pass what the end does. Lanes check only where the connection uses checksums
+-- (`Carries.checks`).
 use Rattle.world_laws.proofs.Words.{◌≡◌, refl, sym, ◌∙◌, ap, subst, ℕ, zero, suc, ◌+◌, ◌-◌, ◌≤◌, ◌&&◌, ◌||◌, ◌==◌, not, nat_lt, nat_le, inl, inr, ◌⊎◌, ⊎_elim}
 use Rattle.world_laws.proofs.Words.{Bool, true, false, if◌then◌else◌, Option, Some, None, List, [], ◌∷◌, length, take, drop, arith, is_some, ◌<◌, ◌^◌, find}
 use Rattle.world_laws.proofs.Words.{◌*◌, ◌/◌, filter, ltb-true, eqb-true, eq-eqb, and_parts, and_from, both_ways, false≢true, leb-true, length-take}

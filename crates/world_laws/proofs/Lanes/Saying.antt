@@ -1,4 +1,8 @@
 -- Each segment that an end sends shows what its lanes have, and so does each copy of it.
+--
+-- What an end has to do with its lanes is a product of statements on single fields, an `abbrev` over both lanes
+-- (`PairsShow` of `world_laws`): then it holds, without a word, wherever other fields of the end or of a lane change. A
+-- record with the lanes as parameters is built anew each time.
 use Rattle.world_laws.proofs.Words.{◌≡◌, refl, sym, ◌∙◌, ap, subst, ℕ, zero, suc, ◌-◌, ◌&&◌, ◌==◌, not, inl, inr, Bool, true, false, cond, if◌then◌else◌}
 use Rattle.world_laws.proofs.Words.{Option, Some, None, List, [], ◌∷◌, unwrap_or, eqb-true, and_parts, both_ways, false≢true, not-true, same_Some, slice_get}
 use Rattle.world_laws.proofs.Words.{IfSome, Side, A, B, Sender, Record, RecordKind, Syn, Data, Fin, is_fin, is_opening, fin_position, is_syn, record_segment}

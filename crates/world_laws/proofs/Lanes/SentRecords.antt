@@ -1,5 +1,14 @@
 -- What the record of an end has to do with the pieces that were granted to it: each stands at its position, they have all bytes that
 -- aren't acknowledged, and where they stand together at the end of the record an infinite mapping is right.
+--
+-- An own infinite mapping is the lane's from the send book's answer on, and is kept with the copy until the verdict, so
+-- no fact on the agenda between the two is needed. What is known of the record (`SentShows`) is that each piece that
+-- isn't acknowledged stands at its position, and that these have all bytes the end didn't hear acknowledged; with a
+-- book that gathers, that is each condition of the lane's guard (`proofs/Lanes/SentRecords`,
+-- `proofs/Falls/GivenToOnePath`). Where MP_FAIL comes behind the own FIN the mapping begins behind that, where no
+-- lane's does: an alternative (`PairTold`) says so, and an acknowledgement is taken up to a position (`HearSubAck`). It
+-- is told on the lane once; in plain TCP that of each position just before its segment goes out (`paired_step` of
+-- `proofs/Lanes/Answering`).
 use Rattle.world_laws.proofs.Words.{◌≡◌, refl, sym, ◌∙◌, ap, subst, ℕ, zero, suc, ◌+◌, ◌-◌, ◌≤◌, ◌&&◌, ◌==◌, max, nat_lt, nat_le, inl, inr, ◌⊎◌, ⊎_elim, Bool}
 use Rattle.world_laws.proofs.Words.{true, false, if◌then◌else◌, Option, Some, None, List, [], ◌∷◌, ◌++◌, length, take, drop, arith, ◌<◌, ◌^◌, lt-ltb, le-ltb}
 use Rattle.world_laws.proofs.Words.{eqb-true, eq-eqb, and_parts, and_from, both_ways, false≢true, cases_lt, le-leb, length-append, same_Some, slice_get_within}

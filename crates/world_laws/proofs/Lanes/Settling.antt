@@ -1,4 +1,7 @@
 -- The duties that come to nothing are passed, and the lanes go on by moves alone.
+--
+-- Moves, a call, moves (`Answered`): nothing is said of an order among moves, so settling duties after a reply is more
+-- moves behind it, and rounds and the opening are the same lemma without a call (`settles` in `proofs/Lanes/Settling`).
 use Rattle.world_laws.proofs.Words.{◌≡◌, refl, ℕ, Bool, true, false, if◌then◌else◌, Option, Some, None, List, [], ◌∷◌, IfSome, Side, A, B, Duty, SendDuty}
 use Rattle.world_laws.proofs.Words.{StepDuty, AskDuty, SilentDuty, Heard, SixBooks, pick, stands, passed, PathEnd, PathState, end_at, with_end, with_agenda}
 use Rattle.world_laws.proofs.Words.{settled, Carried, after_timer, mapping_here, after_keep, after_pieces, after_check, after_pass_fin, with_learned}

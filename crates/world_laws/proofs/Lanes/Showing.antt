@@ -1,5 +1,10 @@
 -- What the ends of a path and the copies on its link have to do with the two lanes that the path is shown as. Positions of a
 -- path count its SYN, those of a lane its bytes alone.
+--
+-- A lane keeps all that was ever sent, so a witness for each copy that may be sent is put there as soon as it may be,
+-- whether it is sent or not: acknowledgements at the reply to AckOut, the piece at its grant, the end at the refusal
+-- that told it. So a segment shows its lane at any time, and no fact on the agenda is needed (`proofs/Lanes/Showing`,
+-- `Doing`).
 use Rattle.world_laws.proofs.Words.{◌≡◌, ℕ, suc, ◌+◌, ◌-◌, ◌≤◌, ◌⊎◌, Bool, true, false, Option, Some, None, List, [], length, take, drop, is_some, slice_get}
 use Rattle.world_laws.proofs.Words.{IfSome, Side, A, B, ScriptLine, dss_checksum, with_turned_bit, CapableKeys, WithData, KeptMapping, Receiving, Record}
 use Rattle.world_laws.proofs.Words.{SendState, RecordKind, Syn, Data, Fin, EndPhase, is_altered, PlainOption, PlainSegment, Capable, Dss, Fail, window_told}

@@ -1,4 +1,9 @@
 -- A step of the path that one side's end makes: moves of the lanes, the call of a book, moves again, and what the path shows then.
+--
+-- Rules by side: a rule of an end speaks of the lane that its side sends on and the one that it hears, with the side a
+-- variable (`pick s ab ba`); only the few lemmas that put an end back into the path go by cases on the side
+-- (`proofs/Lanes/Sides`). What a rule gives is one record (`Did`), and a duty is one line of the dispatch
+-- (`proofs/Lanes/Stepping`).
 use Rattle.world_laws.proofs.Words.{◌≡◌, refl, sym, ◌∙◌, ap, ℕ, Bool, true, Option, Some, None, List, [], ◌∷◌, length, set, Side, A, B, peer, ReassemblyCall}
 use Rattle.world_laws.proofs.Words.{ReassemblyReply, arrival_reply, Place, AckOut, SendCall, send_reply, AckIn, ReturnBytes, SendReply, PlainSegment, Duty, Ask}
 use Rattle.world_laws.proofs.Words.{SixBooks, send_of, reassembly_of, after_ask, pick, PathEnd, PathState, end_at, goes_on, Carried, values, Profile, sent_on}

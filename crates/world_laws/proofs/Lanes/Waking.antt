@@ -1,4 +1,13 @@
 -- A join is begun once A's side is sure: the lanes of the path open, and the path shows on them as before.
+--
+-- A path joins by silent events of the lanes that come before its step: once A's side is sure, a join is begun, sent
+-- and answered, and both lanes of the path open (`open_moves` of `proofs/Lanes/Waking`, `Readied` of
+-- `proofs/Lanes/EveryTurn`). Whether the path begins by that step, and when B answers, doesn't matter to the lanes. Two
+-- facts make it right: A's side is sure, and joins, only where A may send a DSS on path 0 (`SureIsClear`,
+-- `proofs/Keys/SureMaySend`), and on a path that joins A asks for nothing before it may send one (`grants_clear` of
+-- `proofs/Joins/NoBytesBeforeClear`). An end that may send a DSS always may (`proofs/Falls/ClearStays`), and the record
+-- of a lane stays the same unless its path asks for bytes (`proofs/Places/UntouchedTillAsked`, over the events of a
+-- turn), so no rule of an end has to speak of either.
 use Rattle.world_laws.proofs.Words.{◌≡◌, refl, sym, ◌∙◌, ap, ℕ, ◌||◌, ◌==◌, Bool, true, false, if◌then◌else◌, Some, List, [], ◌∷◌, set, append-nil, set-set}
 use Rattle.world_laws.proofs.Words.{slice_get, Side, A, B, Arriving, Sending, PlainSegment, Duty, SixBooks, pick, PathEnd, PathState, end_at, goes_on, Carried}
 use Rattle.world_laws.proofs.Words.{in_identity, Profile, Every-map, after_event, AckCopy, Lane, Reader, ToB, ToA, Flags, Moves, Open, LookAtSender}

@@ -1,4 +1,9 @@
 -- What happens on a path by itself leaves the numbers that its ends and its copies tell small.
+--
+-- Copies without options: what an invariant says of a copy is said of the segment that was made, so that whether its
+-- options were taken away is no matter until it arrives. There two Bools, stripped and fallen, choose between `meant
+-- sg` and `meant (record sg { options = [] })`, and the rule for what arrives is applied to either (`heard_tells` in
+-- `proofs/Numbers/Events`).
 use Rattle.world_laws.proofs.Words.{◌≡◌, refl, ℕ, zero, suc, ◌+◌, Bool, true, false, if◌then◌else◌, Option, Some, None, List, [], ◌∷◌, ◌++◌, length, find}
 use Rattle.world_laws.proofs.Words.{position, false≢true, IfSome, Side, A, B, peer, same_side, is_dead, Meaning, is_sixth, is_due, arriving, after_delivery}
 use Rattle.world_laws.proofs.Words.{Due, Flight, PlainSegment, meant, LineAction, rest_of_turn, emission, heard_and, payload_came, leaves, announces, withdraws}

@@ -1,4 +1,10 @@
 -- Every turn of the world leaves the numbers that its path tells small, and so each copy that arrives is fresh.
+--
+-- Small numbers (`proofs/Numbers`) are an invariant beside the one of the lanes: a predicate on each end and each copy
+-- (`EndTells`, `SegmentTells`), with a lemma a rule, and the same dispatch, settling and events. What a reply brings is
+-- bounded by the lane after the call (`LaneIsShort` of `after_holds`), so nothing is said of marks. Over the world it
+-- is a predicate on actors by cases, so that what the next one takes is read off `slice_get`
+-- (`proofs/Numbers/EveryTurn`).
 use Rattle.world_laws.proofs.Words.{◌≡◌, refl, sym, ◌∙◌, ap, subst, ℕ, zero, suc, ◌+◌, ◌-◌, ◌≤◌, ⊎_elim, Bool, true, false, if◌then◌else◌, Option, Some, None}
 use Rattle.world_laws.proofs.Words.{List, [], ◌∷◌, ◌++◌, length, map, arith, is_some, ◌<◌, ◌^◌, and_parts, length-append, same_Some, slice_get_within}
 use Rattle.world_laws.proofs.Words.{slice_get, list_all, IfSome, Side, A, B, ReassemblyCall, Arriving, places_after, fin_clash, after_reading, Sending, Record}

@@ -1,4 +1,7 @@
 -- The keys that control books have, and those that they answer, have 64 bits: each key that a path tells one was heard or drawn.
+--
+-- Keys in replies: what a control book answers has keys of 64 bits since each key that is told to it was heard or drawn
+-- (`proofs/Numbers/KeysFit`, an invariant on both books beside the one on paths).
 use Rattle.world_laws.proofs.Words.{◌≡◌, refl, sym, ◌∙◌, ℕ, ◌||◌, ◌==◌, not, Bool, true, false, if◌then◌else◌, Option, Some, None, List, arith, ◌<◌, false≢true}
 use Rattle.world_laws.proofs.Words.{IfSome, lowest, token_of, Side, A, B, JoinSyn, ControlCall, ControlReply, Notice, standby, sole, Control, withdrawals_on}
 use Rattle.world_laws.proofs.Words.{peer_or_zero, carries, address_notice, look_reply, ReassemblyCall, Duty, StepDuty, AskDuty, Heard, KeyPair, key_heard}

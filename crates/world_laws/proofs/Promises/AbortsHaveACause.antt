@@ -1,4 +1,10 @@
 -- A reader is told of an abort by its peer only where the peer's application asked for a fast close, and its own side accepted it.
+--
+-- Why a reader was told something (an abort by its peer, `proofs/Promises/AbortsHaveACause`): what sides did is one
+-- family of facts (`Deed`), with which all that is said of keys is said too. An end carries MP_FASTCLOSE, a copy says
+-- it, and a thing heard is one, only where the side closed; and a path tells a reassembly book of it only where the
+-- side was stopped (`Voice.Aborts`). Where nothing is said of it the facts are `NoMore`, so one development serves
+-- every law on keys and this one. What holds is a test of notes and journals, which only rises.
 use Rattle.world_laws.proofs.Words.{◌≡◌, refl, sym, ◌∙◌, ap, subst, true, list_any, Side, A, B, peer, Carried, values, note_asks_fast_close, PeerStopped}
 use Rattle.world_laws.proofs.Words.{AbortsHaveCause, Always, opened_world, WorldState, world_run, HoldsAnywayOfOctets, shown_world, notes_of, was_told}
 use Rattle.world_laws.proofs.Words.{tells_abort}

@@ -1,5 +1,9 @@
 -- An end of a path ends its turn only where it may ask for nothing more, or was refused: after each thing that could let it ask
 -- the duty that asks is ahead, or the end is to die.
+--
+-- What must still come in a turn is a test on the agenda that computes (`is_followed`, `is_owed` in
+-- `proofs/Rounds/EndsRefused`), so that each template is `refl`: either the duty that asks is ahead, or the end is
+-- paid.
 use Rattle.world_laws.proofs.Words.{◌≡◌, refl, sym, ◌∙◌, ap, ℕ, zero, suc, ◌+◌, ◌&&◌, ◌||◌, not, inl, inr, ◌⊎◌, ⊎_elim, Bool, true, false, if◌then◌else◌}
 use Rattle.world_laws.proofs.Words.{Option, Some, None, List, [], ◌∷◌, ◌++◌, length, and_parts, both_ways, false≢true, true≢false, not-true, same_Some}
 use Rattle.world_laws.proofs.Words.{FallEvent, Side, A, B, peer, same_side, JoinSyn, Record, Meaning, is_sixth, EndPhase, arriving, after_delivery}

@@ -1,4 +1,7 @@
 -- What each actor keeps with its steps, the world keeps over every list of turns.
+--
+-- What each actor keeps with its steps is lifted to the world once (`proofs/Rounds/Lifting`); an answer that no step is
+-- given is in no note (`proofs/Promises/NoSuchNote`).
 use Rattle.world_laws.proofs.Words.{◌≡◌, refl, subst, ℕ, zero, suc, ⊎_elim, Bool, true, false, if◌then◌else◌, Option, Some, None, List, [], ◌∷◌, map, and_parts}
 use Rattle.world_laws.proofs.Words.{same_Some, slice_get, A, B, Ask, StampedBooks, first_app_turn, Codec, in_map, in_set, Every, App, ActorCrew, member_asks}
 use Rattle.world_laws.proofs.Words.{is_over, PathPlan, Start, new_crew, new_path, opened_world, WorldState, Turn, crew_after, asked, stepped, world_step}

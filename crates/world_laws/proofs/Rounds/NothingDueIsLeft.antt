@@ -1,4 +1,8 @@
 -- A turn of a path is over only where nothing is due before the round's end.
+--
+-- The shape of an agenda: a predicate on the list of duties by cases on the first one, with `Ahead` for what must still
+-- come; answers are spoken of at `with_agenda (d ∷ ds) p`, where all computes, and `p` is that by eta
+-- (`proofs/Rounds/NothingDueIsLeft`).
 use Rattle.world_laws.proofs.Words.{◌≡◌, refl, sym, subst, ℕ, zero, suc, ◌+◌, inl, inr, ◌⊎◌, Bool, true, false, if◌then◌else◌, Option, Some, None, List, []}
 use Rattle.world_laws.proofs.Words.{◌∷◌, ◌++◌, length, is_some, true≢false, Verdict, Mode, Side, A, B, JoinSyn, ControlReply, Record, is_dead, Meaning}
 use Rattle.world_laws.proofs.Words.{is_sixth, arriving, after_delivery, HeardSegment, LineAction, Piece, rest_of_turn, emission, heard_and, payload_came}

@@ -1,4 +1,7 @@
 -- Serial turns are lawful: each step is one of an actor whose turn hasn't ended, and each round ends where all turns did.
+--
+-- Turns by numbers of steps: `IsTurn`, `AreTurns`, `AreRounds` are recursions on numbers and lists of numbers, and the
+-- list of turns is spelled from them (`Serial`); that there is one at most is 30 lines.
 use Rattle.world_laws.proofs.Words.{◌≡◌, refl, sym, ◌∙◌, ap, subst, ℕ, zero, suc, ◌+◌, ◌≤◌, ◌&&◌, not, inl, inr, ◌⊎◌, Bool, true, false, Option, Some, None}
 use Rattle.world_laws.proofs.Words.{List, [], ◌∷◌, length, arith, ◌<◌, cases_eq, true≢false, cases_lt, length-set, slice_get_past, slice_get, Ask, Codec}
 use Rattle.world_laws.proofs.Words.{set_other, ActorCrew, member_asks, is_over, WorldState, Turn, crew_after, asked, stepped, world_step, all_over, end_round}

@@ -1,4 +1,9 @@
 -- An order that fits what actors and books did is lawful, and drives the world there: its first step leaves a world that the rest fits.
+--
+-- Weaving: what fits an order is said by its parts (`OrderFits`): each actor's notes of it are the steps that it made,
+-- each book's what its journal gained. The first note then is the step that the world makes, and the rest fits the
+-- world after it (`proofs/Weaving/DrivesTheWorld`). That the order by stamp has these parts: two lists that climb and
+-- have the same notes are one (`same_notes` of `proofs/Weaving/TheOrder`), with `In` in place of indices.
 use Rattle.world_laws.proofs.Words.{◌≡◌, refl, sym, ◌∙◌, ap, subst, ℕ, suc, not, inl, inr, ⊎_elim, true, false, cond, Some, List, [], ◌∷◌, length, map, arith}
 use Rattle.world_laws.proofs.Words.{◌<◌, eq-eqb, ne_eqb, length-set, same_Some, slice_get, Duty, Ask, Note, is_nil, AppDuty, AppState, app_asks_first, Codec}
 use Rattle.world_laws.proofs.Words.{PathState, asks_first, in_set, App, Path, Actor, ActorCrew, member_asks, is_over, WorldState, crew_after, asked, stepped}

@@ -1,4 +1,8 @@
 -- Notes in lists of lists, and lists and journals that have the same ones.
+--
+-- Pairing: `Contains` goes by index; turn it into `Occurs`, a recursion over lists of lists
+-- (`proofs/Weaving/Occurring`), and say of a step that both sides are `Grown` by one note. `From-put` of `stream_lanes`
+-- puts the actor that stepped back among the others.
 use Rattle.world_laws.proofs.Words.{◌≡◌, refl, sym, subst, ℕ, zero, suc, inl, inr, ◌⊎◌, ⊎_elim, true, false, List, [], ◌∷◌, ◌++◌, length, arith, ◌<◌, both_ways}
 use Rattle.world_laws.proofs.Words.{Contains, slice_index_or, Note, is_local, ArePaired}
 

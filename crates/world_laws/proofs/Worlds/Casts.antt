@@ -1,4 +1,9 @@
 -- The world of two applications and the paths, and what is written in it.
+--
+-- A world of known actors: `Cast` says that a world is `world_of` a record with both applications, the list of the
+-- paths and the books (`proofs/Worlds/Casts`). A step then is a step of an application, or that of the path at a place
+-- of the list (`next_cast`), and what holds of the world is a record over the fields. An ask at the stamped books is
+-- that call at the six books by `books_after` (`proofs/Weaving/Journals`).
 use Rattle.world_laws.proofs.Words.{◌≡◌, refl, sym, ◌∙◌, ap, subst, ℕ, zero, suc, ◌+◌, not, ⊎_elim, true, false, Option, Some, None, List, [], ◌∷◌, ◌++◌, take}
 use Rattle.world_laws.proofs.Words.{map, arith, set, and_parts, both_ways, false≢true, append-nil, same_Some, slice_get, Pass, raised, Side, A, B, SendCall}
 use Rattle.world_laws.proofs.Words.{Sending, Duty, Ask, Note, Reply, StampedBooks, books_in, unasked, stamp_of, after_entry, SixBooks, send_of, reply_of}
