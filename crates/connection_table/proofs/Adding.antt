@@ -24,12 +24,8 @@ module _ (made behind : List Call) (failing : Call) (a b c : Told) (before : Add
   load_adds line content old new (Load named) fault = to_failed
   load_adds line content old new (TooLong named) fault = to_failed
   load_adds line content old new Memory fault = inr to_failed
-  load_adds line content old new Done fault = tt
-  load_adds line content old new Usage fault = tt
-  load_adds line content old new (Listing at) fault = tt
   load_adds line content old new (Script entry at kind) fault = absurd fault
-  load_adds line content old new (SameToken at holder) fault = tt
-  load_adds line content old new Put fault = tt
+  load_adds line content old new _ fault = tt
 
 -- three of them, one after the other
 pub all_made : (x y z : Call) (a b c d : Told) → AddsAll (x ∷ []) a b → AddsAll (y ∷ []) b c → AddsAll (z ∷ []) c d → AddsAll (x ∷ y ∷ z ∷ []) a d
@@ -45,8 +41,4 @@ script_adds plan a b entry text (Script named line kind) all fault = all
 script_adds plan a b entry text (Load line) all fault = absurd fault
 script_adds plan a b entry text (TooLong line) all fault = absurd fault
 script_adds plan a b entry text Memory all fault = all_cut plan a b all
-script_adds plan a b entry text Done all fault = tt
-script_adds plan a b entry text Usage all fault = tt
-script_adds plan a b entry text (Listing line) all fault = tt
-script_adds plan a b entry text (SameToken line holder) all fault = tt
-script_adds plan a b entry text Put all fault = tt
+script_adds plan a b entry text _ all fault = tt

@@ -77,11 +77,7 @@ module _ (c d : Contents) (same : (name : List ℕ) → c name ≡ d name) where
     fault_of_same entry names (TooLong line) fault = (fault.0, long_of_same names fault.1)
     fault_of_same entry names (Script named line kind) fault = (fault.0, (within_of_same names fault.1.0, if_told names.script _ fault.1.1))
     fault_of_same entry names Memory fault = tt
-    fault_of_same entry names Done fault = absurd fault
-    fault_of_same entry names Usage fault = absurd fault
-    fault_of_same entry names (Listing line) fault = absurd fault
-    fault_of_same entry names (SameToken line holder) fault = absurd fault
-    fault_of_same entry names Put fault = absurd fault
+    fault_of_same entry names _ fault = absurd fault
 
     at_of_same : (inputs : List Input) (names : Names) (many : Many) → AtFault c inputs names middle new many → AtFault d inputs names old new many
     at_of_same inputs names (SameToken line holder) fault = (fault.0, (fault.1.0, (input_of_same names fault.1.0 fault.1.1.0, fault.1.1.1)))
@@ -89,10 +85,7 @@ module _ (c d : Contents) (same : (name : List ℕ) → c name ≡ d name) where
     at_of_same inputs names (TooLong line) fault = fault_of_same (length inputs) names (TooLong line) fault
     at_of_same inputs names (Script named line kind) fault = fault_of_same (length inputs) names (Script named line kind) fault
     at_of_same inputs names Memory fault = tt
-    at_of_same inputs names Done fault = absurd fault
-    at_of_same inputs names Usage fault = absurd fault
-    at_of_same inputs names (Listing line) fault = absurd fault
-    at_of_same inputs names Put fault = absurd fault
+    at_of_same inputs names _ fault = absurd fault
 
     pub listed_of_same : (names : List Names) (many : Many) → IsListedFault c names middle new many → IsListedFault d names old new many
     listed_of_same names many fault = record {
@@ -123,11 +116,7 @@ module _ (content : Contents) (before behind : List Names) (at : Names) (table :
     at_input entry (TooLong line) is fault = subst (λ n. IsInputFault n content at old new (TooLong line)) is fault
     at_input entry (Script named line kind) is fault = subst (λ n. IsInputFault n content at old new (Script named line kind)) is fault
     at_input entry Memory is fault = tt
-    at_input entry Done is fault = absurd fault
-    at_input entry Usage is fault = absurd fault
-    at_input entry (Listing line) is fault = absurd fault
-    at_input entry (SameToken line holder) is fault = absurd fault
-    at_input entry Put is fault = absurd fault
+    at_input entry _ is fault = absurd fault
 
     -- its loads or its script
     pub unloaded : (many : Many) → IsInputFault (length table) content at old new many → IsListedFault content (before ++ at ∷ behind) old new many
@@ -141,13 +130,7 @@ module _ (content : Contents) (before behind : List Names) (at : Names) (table :
       (input, (is, ap (holder_of (key_token input.script)) (sym are.table_is) ∙ fault.1)),
     )
     at_token input Memory is fault = tt
-    at_token input Done is fault = absurd fault
-    at_token input Usage is fault = absurd fault
-    at_token input (Load line) is fault = absurd fault
-    at_token input (TooLong line) is fault = absurd fault
-    at_token input (Listing line) is fault = absurd fault
-    at_token input (Script named line kind) is fault = absurd fault
-    at_token input Put is fault = absurd fault
+    at_token input _ is fault = absurd fault
 
     pub refused : (input : Input) (many : Many) → IsInput content at input → IsAdmitFault (length table) (holder_of (key_token input.script) table) many
         → IsListedFault content (before ++ at ∷ behind) old new many

@@ -137,10 +137,4 @@ module _ (i : ℕ) (table : List Entry) (a b c : Told) (within : i < length tabl
   pub put_ends : (many : Many) → PutAdds one b c many → PutAdds (puts_from 0 (map state_of table)) a c many
   put_ends Put cut = subst (λ plan. AddsToFailed [] plan a c) (sym whole_is.1) (failed_within (puts_upto 0 i table) one whole_is.0 a b c before cut)
   put_ends Memory cut = subst (λ plan. AddsCut plan a c) (sym whole_is.1) (cut_within (puts_upto 0 i table) one whole_is.0 a b c before cut)
-  put_ends Done cut = tt
-  put_ends Usage cut = tt
-  put_ends (Load line) cut = tt
-  put_ends (TooLong line) cut = tt
-  put_ends (Listing line) cut = tt
-  put_ends (Script entry line kind) cut = tt
-  put_ends (SameToken line holder) cut = tt
+  put_ends _ cut = tt

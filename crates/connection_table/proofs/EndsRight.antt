@@ -7,7 +7,6 @@ use Rattle.std.proofs.lemmas.List.Elements.{All-cons, All-head, All-nil, All-tai
 use Rattle.sides.specs.declared.side.Side.TheVariants.{A, B}
 use Rattle.octet_text.specs.Prefix.{IsPrefix}
 use Rattle.link_script.specs.declared.script.ScriptLine.{ScriptLine}
-use Rattle.link_script.specs.declared.script.ScriptLine.TheVariants as happens
 use Rattle.run_outside.specs.declared.input.Input.{Input}
 use Rattle.path_core.specs.Octets.{octets}
 use Rattle.world_core.specs.Rounds.{after_rounds}
@@ -34,7 +33,7 @@ use Rattle.connection_table.specs.Tables.{Connection, first_of, opened_entry}
 -- ---- a script that leaves payload
 
 same_test : (line : ScriptLine) → alters_payload line ≡ is_alter line
-same_test (happens.Drop path from number) = refl
+same_test (ScriptLine.Drop path from number) = refl
 same_test _ = refl
 
 leaves_all : (lines : List ScriptLine) → list_any is_alter lines ≡ false → list_any alters_payload lines ≡ false

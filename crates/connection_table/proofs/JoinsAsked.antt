@@ -10,10 +10,8 @@ use Rattle.link_model.specs.declared.flight.Due.{Due}
 use Rattle.link_model.specs.declared.flight.Flight.{Flight}
 use Rattle.link_model.specs.Steps.{arriving}
 use Rattle.path_agenda.specs.declared.duty.Duty.{Duty}
-use Rattle.path_agenda.specs.declared.duty.Duty.TheVariants as duties
-use Rattle.path_agenda.specs.declared.duty.StepDuty.TheVariants as steps_of
+use Rattle.path_agenda.specs.declared.duty.StepDuty.{StepDuty}
 use Rattle.path_core.specs.declared.events.Event.{Event}
-use Rattle.path_core.specs.declared.events.Event.TheVariants as happenings
 use Rattle.path_core.specs.Arrival.{expected_by, heard_in}
 use Rattle.path_core.specs.Events.{next_event}
 use Rattle.path_core.specs.Looking.{Arrived, arrived, arrived_as, copy_arriving, first_arrival}
@@ -30,7 +28,7 @@ use Rattle.connection_table.proofs.TokensShown.{octets_show_the_token}
 -- ---- a copy that comes to B, and asks to join by a token
 
 module _ (key : ℕ) (p : PathState (List ℕ)) (shows : NextShowsToken octets key p) (numbered : path_of p ≡ p.profile.spelling.path) where
-  copy_shows : (due : Due) (f : Flight (List ℕ)) (token : ℕ) → next_event p ≡ Some (happenings.Arrives due) → due.to ≡ B → arriving due p.link ≡ Some f
+  copy_shows : (due : Due) (f : Flight (List ℕ)) (token : ℕ) → next_event p ≡ Some (Event.Arrives due) → due.to ≡ B → arriving due p.link ≡ Some f
       → join_token (addresses_from (path_of p) (peer due.to)) f.carried ≡ Some token → token ≡ key
   copy_shows due f token next at_b there asks =
       token_heard p.profile.spelling (peer due.to) (expected_by (end_at due.to p)) key f.carried token
@@ -38,7 +36,7 @@ module _ (key : ℕ) (p : PathState (List ℕ)) (shows : NextShowsToken octets k
       (sym (ap (λ n. addresses_from n (peer due.to)) numbered)) ∙ asks)
       (λ heard is. shows due heard next at_b (ap (λ o. heard_in octets due.to o p) there ∙ is))
 
-  arrived_shows : (due : Due) (a : Arrived) (token : ℕ) → next_event p ≡ Some (happenings.Arrives due) → arrived due p ≡ Some a → a.to ≡ B
+  arrived_shows : (due : Due) (a : Arrived) (token : ℕ) → next_event p ≡ Some (Event.Arrives due) → arrived due p ≡ Some a → a.to ≡ B
       → join_token a.addresses a.octets ≡ Some token → token ≡ key
   arrived_shows due a token next is to asks = by (arriving due p.link) refl is
     where
@@ -50,14 +48,11 @@ module _ (key : ℕ) (p : PathState (List ℕ)) (shows : NextShowsToken octets k
 
   event_shows : (o : Option Event) (a : Arrived) (token : ℕ) → next_event p ≡ o → copy_arriving o p ≡ Some a → a.to ≡ B
       → join_token a.addresses a.octets ≡ Some token → token ≡ key
-  event_shows None a token next is to asks = cc
-  event_shows (Some (happenings.Joins tick)) a token next is to asks = cc
-  event_shows (Some (happenings.Takes line)) a token next is to asks = cc
-  event_shows (Some (happenings.Arrives due)) a token next is to asks = arrived_shows due a token next is to asks
-  event_shows (Some (happenings.Fires s tick)) a token next is to asks = cc
+  event_shows (Some (Event.Arrives due)) a token next is to asks = arrived_shows due a token next is to asks
+  event_shows _ a token next is to asks = cc
 
   agenda_shows : (ds : List Duty) (a : Arrived) (token : ℕ) → first_arrival ds p ≡ Some a → a.to ≡ B → join_token a.addresses a.octets ≡ Some token → token ≡ key
-  agenda_shows (duties.Step steps_of.Events ∷ ds) a token is to asks = event_shows (next_event p) a token refl is to asks
+  agenda_shows (Duty.Step StepDuty.Events ∷ ds) a token is to asks = event_shows (next_event p) a token refl is to asks
   agenda_shows _ a token is to asks = cc
 
 -- ---- of a world

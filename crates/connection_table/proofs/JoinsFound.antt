@@ -30,10 +30,8 @@ use Rattle.path_segments.specs.Spelled.{PlainSegment, CanSay, spelled_text}
 use Rattle.path_segments.specs.Spelling.{subflow_number}
 use Rattle.actor_desk.specs.Words.{is_nil}
 use Rattle.path_agenda.specs.declared.duty.Duty.{Duty}
-use Rattle.path_agenda.specs.declared.duty.Duty.TheVariants as duties
-use Rattle.path_agenda.specs.declared.duty.StepDuty.TheVariants as steps_of
+use Rattle.path_agenda.specs.declared.duty.StepDuty.{StepDuty}
 use Rattle.path_core.specs.declared.events.Event.{Event}
-use Rattle.path_core.specs.declared.events.Event.TheVariants as happenings
 use Rattle.path_core.specs.Arrival.{expected_by}
 use Rattle.path_core.specs.OptionsIn.{items_in, items_of}
 use Rattle.path_core.specs.Events.{next_event}
@@ -164,7 +162,7 @@ module _ (p : PathState Carried) (fresh : NextIsFresh p) (roles : HasRoles p) (n
     carried_found : join_token (addresses_from spelling.path A) (octets_of spelling carried) ≡ Some asked.token
     carried_found = ⊎_elim (λ near. by_near near) (λ far. by_far far) is.fresh
 
-  module _ (due : Due) (next : next_event p ≡ Some (happenings.Arrives due)) where
+  module _ (due : Due) (next : next_event p ≡ Some (Event.Arrives due)) where
     abbrev as_copy : Flight Carried → Arrived
     as_copy f = arrived_as (path_of p) due.to (shown_flight (octets_of spelling) f)
 
@@ -191,15 +189,15 @@ module _ (p : PathState Carried) (fresh : NextIsFresh p) (roles : HasRoles p) (n
 
   event_found : (o : Option Event) → next_event p ≡ o → copy_arriving o (shown_path p) ≡ Some copy → join_token copy.addresses copy.octets ≡ Some asked.token
   event_found None next is = cc
-  event_found (Some (happenings.Joins tick)) next is = cc
-  event_found (Some (happenings.Takes line)) next is = cc
-  event_found (Some (happenings.Arrives due)) next is =
+  event_found (Some (Event.Joins tick)) next is = cc
+  event_found (Some (Event.Takes line)) next is = cc
+  event_found (Some (Event.Arrives due)) next is =
       due_found due next (arriving due p.link) refl
       (ap (option_map (arrived_as (path_of p) due.to)) (sym (same_arriving (octets_of spelling) due p.link.under_way)) ∙ is)
-  event_found (Some (happenings.Fires s tick)) next is = cc
+  event_found (Some (Event.Fires s tick)) next is = cc
 
   next_found : (ds : List Duty) → first_arrival ds (shown_path p) ≡ Some copy → join_token copy.addresses copy.octets ≡ Some asked.token
-  next_found (duties.Step steps_of.Events ∷ ds) is = event_found (next_event p) refl (ap (λ o. copy_arriving o (shown_path p)) (sym (same_event p)) ∙ is)
+  next_found (Duty.Step StepDuty.Events ∷ ds) is = event_found (next_event p) refl (ap (λ o. copy_arriving o (shown_path p)) (sym (same_event p)) ∙ is)
   next_found _ is = cc
 
 -- ---- of a world

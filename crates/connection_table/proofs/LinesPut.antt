@@ -107,10 +107,4 @@ no_part (Some held) b text same = (0, same ∙ ap Some (sym (append-nil held)))
 pub put_fault_later : (old middle new : ℕ) (many : Many) → old ≤ middle → IsPutFault middle new many → IsPutFault old new many
 put_fault_later old middle new Put few fault = risen_later old middle new few fault
 put_fault_later old middle new Memory few fault = tt
-put_fault_later old middle new Done few fault = absurd fault
-put_fault_later old middle new Usage few fault = absurd fault
-put_fault_later old middle new (Load line) few fault = absurd fault
-put_fault_later old middle new (TooLong line) few fault = absurd fault
-put_fault_later old middle new (Listing line) few fault = absurd fault
-put_fault_later old middle new (Script entry line kind) few fault = absurd fault
-put_fault_later old middle new (SameToken line holder) few fault = absurd fault
+put_fault_later old middle new _ few fault = absurd fault

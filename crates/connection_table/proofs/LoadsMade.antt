@@ -94,11 +94,9 @@ module _ (listed : List Listed) (i : ℕ) (e : Listed) (within : i < length list
     entry_cut content old new (TooLong line) fault adds = to_line line fault.0 adds
     entry_cut content old new (Script named line kind) fault adds = through_line (named + 1) (ap (λ n. n + 1) fault.0) adds
     entry_cut content old new Memory fault adds = of_lines adds
-    entry_cut content old new Done fault adds = tt
-    entry_cut content old new Usage fault adds = tt
     entry_cut content old new (Listing line) fault adds = absurd fault
     entry_cut content old new (SameToken line holder) fault adds = absurd fault
-    entry_cut content old new Put fault adds = tt
+    entry_cut content old new _ fault adds = tt
 
     -- its token is another's
     pub entry_made : (holder : Option ℕ) (many : Many) → IsAdmitFault entry holder many → AddsAll (loads_of at_i) b c → LinesAdd Lines a c many
@@ -107,10 +105,7 @@ module _ (listed : List Listed) (i : ℕ) (e : Listed) (within : i < length list
     entry_made holder Done fault own = tt
     entry_made holder Usage fault own = tt
     entry_made holder Put fault own = tt
-    entry_made holder (Load line) fault own = absurd fault
-    entry_made holder (TooLong line) fault own = absurd fault
-    entry_made holder (Listing line) fault own = absurd fault
-    entry_made holder (Script entry line kind) fault own = absurd fault
+    entry_made holder _ fault own = absurd fault
 
 -- ---- the list
 
@@ -165,12 +160,10 @@ module _ (content : Contents) (words : NamedList) where
         plan_is = refl;
         adds = one;
       })
-      by Done fault = tt
-      by Usage fault = tt
-      by Put fault = tt
       by (Listing line) fault = absurd fault
       by (Script entry line kind) fault = absurd fault
       by (SameToken line holder) fault = absurd fault
+      by _ fault = tt
 
   -- it is out of form
   pub list_refused : (a b : Told) (list : List ℕ) (many : Many) → IsListFault list many → AddsAll (call.Load words.list ∷ []) a b → ListAdds content words a b many
@@ -187,10 +180,7 @@ module _ (content : Contents) (words : NamedList) where
       by Done fault = tt
       by Usage fault = tt
       by Put fault = tt
-      by (Load line) fault = absurd fault
-      by (TooLong line) fault = absurd fault
-      by (Script entry line kind) fault = absurd fault
-      by (SameToken line holder) fault = absurd fault
+      by _ fault = absurd fault
 
   -- a connection of it ended the run
   pub listed_ends : (a b c : Told) (bytes : List ℕ) (names : List Names) (many : Many) → IfSome (content words.list) (λ told. bytes ≡ told) → list_reading bytes ≡ Ok names
@@ -224,6 +214,4 @@ module _ (content : Contents) (words : NamedList) where
       behind_list (SameToken line holder) adds = behind_through line adds
       behind_list (Listing line) adds = behind_through 0 adds
       behind_list Memory adds = cut_behind (call.Load words.list ∷ []) (joined (map loads_of names)) a b c one adds
-      behind_list Done adds = tt
-      behind_list Usage adds = tt
-      behind_list Put adds = tt
+      behind_list _ adds = tt

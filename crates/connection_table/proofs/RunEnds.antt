@@ -51,9 +51,7 @@ module _ (content : Contents) (words : NamedList) (old new : ℕ) (bytes : List 
   one_refused (SameToken line holder) fault = of_listed (SameToken line holder) fault
   one_refused Memory fault = tt
   one_refused (Listing line) fault = absurd (caused (Listing line) ⊥ (λ e. cc) (λ inputs at h. h) fault)
-  one_refused Done fault = caused Done ⊥ (λ e. cc) (λ inputs at h. h) fault
-  one_refused Usage fault = caused Usage ⊥ (λ e. cc) (λ inputs at h. h) fault
-  one_refused Put fault = caused Put ⊥ (λ e. cc) (λ inputs at h. h) fault
+  one_refused many fault = caused many ⊥ (λ e. cc) (λ inputs at h. h) fault
 
 -- what they begin with is within the limit, and leaves payload as it is
 all_short : (content : Contents) (names : List Names) (inputs : List Input) → AreInputs content names inputs → All IsShort inputs
@@ -118,14 +116,10 @@ module _ (content : Contents) (words : NamedList) (l0 l1 p0 p1 : ℕ) (held hold
   -- nothing was put
   pub ends_unput : (many : Many) → IsLoadingFault content words l0 l1 many → holds ≡ held → ListAdds content words a c many → Ends many
   ends_unput Memory fault same calls = inl (record { log_is = same; calls_made = calls })
-  ends_unput (Load line) fault same calls = (fault, record { log_is = same; calls_made = calls })
-  ends_unput (TooLong line) fault same calls = (fault, record { log_is = same; calls_made = calls })
-  ends_unput (Listing line) fault same calls = (fault, record { log_is = same; calls_made = calls })
-  ends_unput (Script entry line kind) fault same calls = (fault, record { log_is = same; calls_made = calls })
-  ends_unput (SameToken line holder) fault same calls = (fault, record { log_is = same; calls_made = calls })
   ends_unput Done fault same calls = absurd fault
   ends_unput Usage fault same calls = absurd fault
   ends_unput Put fault same calls = absurd fault
+  ends_unput _ fault same calls = (fault, record { log_is = same; calls_made = calls })
 
   -- memory was wanting in the rounds, behind all loads
   pub ends_unmade : (table : List Entry) → IsTableOf content words a c table → holds ≡ held → Ends Memory
@@ -157,9 +151,4 @@ module _ (content : Contents) (words : NamedList) (l0 l1 p0 p1 : ℕ) (held hold
     ends_cut Memory part fault calls =
         inr (record { worlds = map state_of table; of = ended; lines = part; calls_made = cut_behind (loads_of_list words of.names) puts a b c of.calls calls })
     ends_cut Done part fault calls = absurd fault
-    ends_cut Usage part fault calls = absurd fault
-    ends_cut (Load line) part fault calls = absurd fault
-    ends_cut (TooLong line) part fault calls = absurd fault
-    ends_cut (Listing line) part fault calls = absurd fault
-    ends_cut (Script entry line kind) part fault calls = absurd fault
-    ends_cut (SameToken line holder) part fault calls = absurd fault
+    ends_cut _ part fault calls = absurd fault

@@ -9,7 +9,6 @@ use Rattle.link_script.specs.declared.script.ScriptLine.{ScriptLine}
 use Rattle.link_script.specs.declared.script.ScriptLine.TheVariants.{Drop, Strip, Alter, Dup, Late, StripAll, Die, Prio, Add, Remove, FastClose}
 use Rattle.link_script.specs.Places.{same_side}
 use Rattle.link_model.specs.declared.fate.Fate.{Fate}
-use Rattle.link_model.specs.declared.fate.Fate.TheVariants as fate
 use Rattle.link_model.specs.declared.flight.Flight.{Flight}
 use Rattle.link_model.specs.Fate.{is_named, fate_told, told_if, told_or, fate_of, is_stripped, is_altered}
 use Rattle.link_model.specs.State.{LinkState}
@@ -22,12 +21,12 @@ told_nothing : (b named : Bool) (f : Fate) → b ≡ false → told_if (b && nam
 told_nothing b named f e = ap (λ (t : Bool). told_if (t && named) f) e
 
 none_told : (from : Side) (number : ℕ) (line : ScriptLine) → moves from line ≡ false → fate_told from number line ≡ None
-none_told from number (Drop path side named) e = told_nothing (same_side side from) _ fate.Lost e
-none_told from number (Late path side named ticks) e = told_nothing (same_side side from) _ (fate.Late ticks) e
-none_told from number (Dup path side named ticks) e = told_nothing (same_side side from) _ (fate.Twice ticks) e
+none_told from number (Drop path side named) e = told_nothing (same_side side from) _ Fate.Lost e
+none_told from number (Late path side named ticks) e = told_nothing (same_side side from) _ (Fate.Late ticks) e
+none_told from number (Dup path side named ticks) e = told_nothing (same_side side from) _ (Fate.Twice ticks) e
 none_told from number line e = refl
 
-pub on_time : (from : Side) (number : ℕ) (lines : List ScriptLine) → AllByRecursion (λ line. moves from line ≡ false) lines → fate_of from number lines ≡ fate.OnTime
+pub on_time : (from : Side) (number : ℕ) (lines : List ScriptLine) → AllByRecursion (λ line. moves from line ≡ false) lines → fate_of from number lines ≡ Fate.OnTime
 on_time from number [] plain = refl
 on_time from number (line ∷ lines) plain =
     ap (λ (t : Option Fate). told_or t (fate_of from number lines)) (none_told from number line plain.0) ∙ on_time from number lines plain.1

@@ -10,7 +10,6 @@ use Rattle.link_script.specs.declared.script.ScriptLine.TheVariants.{Drop, Strip
 use Rattle.link_script.specs.Places.{path_named}
 use Rattle.link_script.specs.Scripts.{HasRanges, IsEvent}
 use Rattle.link_model.specs.declared.fate.Fate.{Fate}
-use Rattle.link_model.specs.declared.fate.Fate.TheVariants as fate
 use Rattle.link_model.specs.Fate.{is_named, fate_told, told_if, told_or, fate_of, ticks_of}
 use Rattle.link_model.specs.State.{HasLimits, ticks_told}
 use Rattle.link_model.specs.Steps.{delay_of, is_path, lines_of}
@@ -42,9 +41,9 @@ told_is_short from number line false f other short rest = rest
 
 fate_is_short : (from : Side) (number : ℕ) (line : ScriptLine) (other : Fate) → ticks_told line ≤ 100000 → ticks_of other ≤ 100000
     → ticks_of (told_or (fate_told from number line) other) ≤ 100000
-fate_is_short from number (Drop path side named) other short rest = told_is_short from number (Drop path side named) (is_named from number side named) fate.Lost other (omega arith) rest
-fate_is_short from number (Late path side named ticks) other short rest = told_is_short from number (Late path side named ticks) (is_named from number side named) (fate.Late ticks) other short rest
-fate_is_short from number (Dup path side named ticks) other short rest = told_is_short from number (Dup path side named ticks) (is_named from number side named) (fate.Twice ticks) other short rest
+fate_is_short from number (Drop path side named) other short rest = told_is_short from number (Drop path side named) (is_named from number side named) Fate.Lost other (omega arith) rest
+fate_is_short from number (Late path side named ticks) other short rest = told_is_short from number (Late path side named ticks) (is_named from number side named) (Fate.Late ticks) other short rest
+fate_is_short from number (Dup path side named ticks) other short rest = told_is_short from number (Dup path side named ticks) (is_named from number side named) (Fate.Twice ticks) other short rest
 fate_is_short from number line other short rest = rest
 
 fates_are_short : (from : Side) (number : ℕ) (lines : List ScriptLine) → AllByRecursion (λ line. ticks_told line ≤ 100000) lines → ticks_of (fate_of from number lines) ≤ 100000

@@ -51,23 +51,16 @@ named limit paths (Late path from number ticks) h m = (leb-false paths path m, h
 named limit paths (StripAll path from tick) h m = (leb-false paths path m, h.1)
 named limit paths (Die path tick) h m = (leb-false paths path m, h.1)
 named limit paths (Prio path side tick on) h m = (leb-false paths path m, h.1)
-named limit paths (Add id tick) h m = h
-named limit paths (Remove side id tick) h m = h
-named limit paths (FastClose side tick) h m = h
+named limit paths _ h m = h
 
 -- more paths are no harm
 pub wider : (paths more : ℕ) (event : ScriptLine) → paths ≤ more → IsEvent paths event → IsEvent more event
-wider paths more (Drop path from number) le h = (omega (arith, h.0), h.1)
-wider paths more (Strip path from number) le h = (omega (arith, h.0), h.1)
-wider paths more (Alter path from number) le h = (omega (arith, h.0), h.1)
 wider paths more (Dup path from number ticks) le h = (omega (arith, h.0), h.1, h.2)
 wider paths more (Late path from number ticks) le h = (omega (arith, h.0), h.1, h.2)
-wider paths more (StripAll path from tick) le h = (omega (arith, h.0), h.1)
-wider paths more (Die path tick) le h = (omega (arith, h.0), h.1)
-wider paths more (Prio path side tick on) le h = (omega (arith, h.0), h.1)
 wider paths more (Add id tick) le h = h
 wider paths more (Remove side id tick) le h = h
 wider paths more (FastClose side tick) le h = h
+wider paths more _ le h = (omega (arith, h.0), h.1)
 
 each_apart : (events : List ScriptLine) (event : ScriptLine) → list_any (λ r. settle_one (Event r) (Event event)) events ≡ false → (k : ℕ) (d : ScriptLine) → k < length events → SettleApart (get_or events k d) event
 each_apart [] event h k d lt = absurd (omega arith)

@@ -5,7 +5,6 @@ use Rattle.std.specs.Result.{result_ok}
 use Rattle.world_core.specs.Logged.{turn_of, all_turns}
 use Rattle.sides.specs.declared.side.Side.{Side}
 use Rattle.outside_kit.specs.declared.port.Port.{Port}
-use Rattle.outside_kit.specs.declared.port.Port.TheVariants as port
 use Rattle.outside_kit.specs.Calls.{Call}
 use Rattle.outside_kit.specs.Outside.{HoldsAfter}
 use Rattle.link_script.specs.declared.script.Script.{Script}
@@ -16,8 +15,8 @@ use Rattle.stream_apps.specs.Starts.{fast_close_of}
 use Rattle.world_laws.specs.PlainScripts.{AltersNone}
 use Rattle.world_laws.specs.Worlds.{Turn}
 use Rattle.world_laws.proofs.Promises.OfScripts.{short_of}
-use Rattle.mptcp_run.specs.declared.report.Report.TheVariants as report
-use Rattle.run_outside.specs.declared.status.Named.TheVariants as input
+use Rattle.mptcp_run.specs.declared.report.Report.{Report}
+use Rattle.run_outside.specs.declared.status.Named.{Named}
 use Rattle.run_outside.specs.declared.status.Status.{Status}
 use Rattle.run_outside.specs.declared.status.Status.TheVariants.{Delivered, Rounds, NoPath, Aborted, Usage, Script as ScriptStatus, Load, Put, TooLong, Memory, Log}
 use Rattle.run_outside.specs.Loading.{InputAdds}
@@ -58,15 +57,15 @@ module _ {X : Type 0} where
 
 task_known : (s a b : Option (List ℕ)) (c : Script → Option Course) (input : Input) (course : Course)
     → IfSome s (λ text. reading text ≡ Ok input.script) → IfSome a (λ text. input.file_a ≡ text) → IfSome b (λ text. input.file_b ≡ text) → IfSome (c input.script) (λ x. x ≡ course)
-    → IfSome (option_and_then script_in s >>= λ script. a >>= λ file_a. b >>= λ file_b. c script >>= λ x. Some (record { script = script; file_a = file_a; file_b = file_b; course = x; report = report.Log }))
+    → IfSome (option_and_then script_in s >>= λ script. a >>= λ file_a. b >>= λ file_b. c script >>= λ x. Some (record { script = script; file_a = file_a; file_b = file_b; course = x; report = Report.Log }))
     (λ (t : Task). t ≡ task_from input course)
 task_known None a b c input course script file_a file_b way = tt
 task_known (Some s) a b c input course script file_a file_b way =
-    subst (λ (o : Option Script). IfSome (o >>= λ script. a >>= λ file_a. b >>= λ file_b. c script >>= λ x. Some (record { script = script; file_a = file_a; file_b = file_b; course = x; report = report.Log }))
+    subst (λ (o : Option Script). IfSome (o >>= λ script. a >>= λ file_a. b >>= λ file_b. c script >>= λ x. Some (record { script = script; file_a = file_a; file_b = file_b; course = x; report = Report.Log }))
     (λ (t : Task). t ≡ task_from input course)) (sym (ap result_ok script)) (by a b (c input.script) file_a file_b way)
   where
     by : (a b : Option (List ℕ)) (c : Option Course) → IfSome a (λ text. input.file_a ≡ text) → IfSome b (λ text. input.file_b ≡ text) → IfSome c (λ x. x ≡ course)
-        → IfSome (a >>= λ file_a. b >>= λ file_b. c >>= λ x. Some (record { script = input.script; file_a = file_a; file_b = file_b; course = x; report = report.Log })) (λ (t : Task). t ≡ task_from input course)
+        → IfSome (a >>= λ file_a. b >>= λ file_b. c >>= λ x. Some (record { script = input.script; file_a = file_a; file_b = file_b; course = x; report = Report.Log })) (λ (t : Task). t ≡ task_from input course)
     by None b c file_a file_b way = tt
     by (Some a) None c file_a file_b way = tt
     by (Some a) (Some b) None file_a file_b way = tt
@@ -128,9 +127,9 @@ module _ (a b c : Ports) (same : (p : Port) → b p ≡ a p) where
     are = h.are;
     status_is = h.status_is;
     ports = record {
-      read_by_b = after_from (a port.ReadByB) (b port.ReadByB) (c port.ReadByB) _ (same port.ReadByB) h.ports.read_by_b;
-      read_by_a = after_from (a port.ReadByA) (b port.ReadByA) (c port.ReadByA) _ (same port.ReadByA) h.ports.read_by_a;
-      log = after_from (a port.Log) (b port.Log) (c port.Log) _ (same port.Log) h.ports.log;
+      read_by_b = after_from (a Port.ReadByB) (b Port.ReadByB) (c Port.ReadByB) _ (same Port.ReadByB) h.ports.read_by_b;
+      read_by_a = after_from (a Port.ReadByA) (b Port.ReadByA) (c Port.ReadByA) _ (same Port.ReadByA) h.ports.read_by_a;
+      log = after_from (a Port.Log) (b Port.Log) (c Port.Log) _ (same Port.Log) h.ports.log;
       fits = h.ports.fits;
     };
   }
@@ -142,17 +141,17 @@ module _ (a b c : Ports) (same : (p : Port) → b p ≡ a p) where
     are = h.are;
     one = h.one;
     ports = record {
-      read_by_b = within_from _ (a port.ReadByB) (b port.ReadByB) (c port.ReadByB) _ _ (same port.ReadByB) h.ports.read_by_b;
-      read_by_a = within_from _ (a port.ReadByA) (b port.ReadByA) (c port.ReadByA) _ _ (same port.ReadByA) h.ports.read_by_a;
-      log = more_from (a port.Log) (b port.Log) (c port.Log) [] _ (same port.Log) h.ports.log;
+      read_by_b = within_from _ (a Port.ReadByB) (b Port.ReadByB) (c Port.ReadByB) _ _ (same Port.ReadByB) h.ports.read_by_b;
+      read_by_a = within_from _ (a Port.ReadByA) (b Port.ReadByA) (c Port.ReadByA) _ _ (same Port.ReadByA) h.ports.read_by_a;
+      log = more_from (a Port.Log) (b Port.Log) (c Port.Log) [] _ (same Port.Log) h.ports.log;
     };
   }
 
   line_from : (task : Task) (turns : List Turn) → HoldsToLine task turns b c → HoldsToLine task turns a c
   line_from task turns h = record {
-    read_by_b = after_from (a port.ReadByB) (b port.ReadByB) (c port.ReadByB) _ (same port.ReadByB) h.read_by_b;
-    read_by_a = after_from (a port.ReadByA) (b port.ReadByA) (c port.ReadByA) _ (same port.ReadByA) h.read_by_a;
-    log = more_from (a port.Log) (b port.Log) (c port.Log) [] _ (same port.Log) h.log;
+    read_by_b = after_from (a Port.ReadByB) (b Port.ReadByB) (c Port.ReadByB) _ (same Port.ReadByB) h.read_by_b;
+    read_by_a = after_from (a Port.ReadByA) (b Port.ReadByA) (c Port.ReadByA) _ (same Port.ReadByA) h.read_by_a;
+    log = more_from (a Port.Log) (b Port.Log) (c Port.Log) [] _ (same Port.Log) h.log;
   }
 
   stopped_from : (task : Task) (opening line : ℕ) → IsStopped task opening line b c → IsStopped task opening line a c
@@ -165,9 +164,9 @@ module _ (a b c : Ports) (same : (p : Port) → b p ≡ a p) where
     refused = h.refused;
     line_is = h.line_is;
     ports = record {
-      read_by_b = after_from (a port.ReadByB) (b port.ReadByB) (c port.ReadByB) _ (same port.ReadByB) h.ports.read_by_b;
-      read_by_a = after_from (a port.ReadByA) (b port.ReadByA) (c port.ReadByA) _ (same port.ReadByA) h.ports.read_by_a;
-      log = after_from (a port.Log) (b port.Log) (c port.Log) _ (same port.Log) h.ports.log;
+      read_by_b = after_from (a Port.ReadByB) (b Port.ReadByB) (c Port.ReadByB) _ (same Port.ReadByB) h.ports.read_by_b;
+      read_by_a = after_from (a Port.ReadByA) (b Port.ReadByA) (c Port.ReadByA) _ (same Port.ReadByA) h.ports.read_by_a;
+      log = after_from (a Port.Log) (b Port.Log) (c Port.Log) _ (same Port.Log) h.ports.log;
       fits = h.ports.fits;
     };
   }
@@ -217,8 +216,8 @@ cut_prefixes loads line task held holds ta tb status plain (inl h) = cut_runs_gi
 cut_prefixes loads line task held holds ta tb status plain (inr h) =
     let p = lines_cut_give_prefixes task h.turns held holds plain h.ports in
     record {
-      read_by_b = bound_or_not (held port.ReadByB) (holds port.ReadByB) task.file_a p.read_by_b;
-      read_by_a = bound_or_not (held port.ReadByA) (holds port.ReadByA) task.file_b p.read_by_a;
+      read_by_b = bound_or_not (held Port.ReadByB) (holds Port.ReadByB) task.file_a p.read_by_b;
+      read_by_a = bound_or_not (held Port.ReadByA) (holds Port.ReadByA) task.file_b p.read_by_a;
     }
 
 -- the calls alone
@@ -245,10 +244,10 @@ ok_known r x is = subst (λ q. IsOk q) (sym is) refl
 module _ (content : List ℕ → Option (List ℕ)) (line : Line) where
   -- of a run that reads no log
   pub unordered_within : order_of line.work ≡ None → AreFirstWithinLimits content line → AreWithinLimits content line
-  unordered_within none h input.Script = h.0
-  unordered_within none h input.FileA = h.1.0
-  unordered_within none h input.FileB = h.1.1
-  unordered_within none h input.Order = subst (λ (o : Option (List ℕ)). IfSome (option_and_then content o) (λ told. length told ≤ limit_of input.Order)) (sym none) tt
+  unordered_within none h Named.Script = h.0
+  unordered_within none h Named.FileA = h.1.0
+  unordered_within none h Named.FileB = h.1.1
+  unordered_within none h Named.Order = subst (λ (o : Option (List ℕ)). IfSome (option_and_then content o) (λ told. length told ≤ limit_of Named.Order)) (sym none) tt
 
   pub script_valid : (script : Script) → IfSome (content line.names.script) (λ text. reading text ≡ Ok script) → HasValidScript content line
   script_valid script h = some_weaker (content line.names.script) _ _ (λ text is. ok_known (reading text) script is) h
@@ -261,7 +260,7 @@ module _ (content : List ℕ → Option (List ℕ)) (line : Line) where
       → IfSome (content line.names.script) (λ text. reading text ≡ Ok script) → IfSome (content log) (λ text. log_reading script text ≡ Ok turns)
       → HasValidOrder content line
   replay_order log turns script is read h =
-      known_script (content line.names.script) script (λ s. IfSome (content_of content line input.Order) (λ told. IsOk (log_reading s told))) read
+      known_script (content line.names.script) script (λ s. IfSome (content_of content line Named.Order) (λ told. IsOk (log_reading s told))) read
       (subst (λ w. IfSome (option_and_then content (order_of w)) (λ told. IsOk (log_reading script told))) (sym is)
       (some_weaker (content log) _ _ (λ text same. ok_known (log_reading script text) turns same) h))
 
@@ -288,13 +287,7 @@ module _ (content : List ℕ → Option (List ℕ)) (line : Line) (loads_before 
     calls = subst (λ xs. AddsAll xs ta tb) plan_is calls;
   }
   input_answer plan Memory is still h plan_is calls = inl (record { untouched = still; calls = subst (λ xs. AddsCut xs Memory ta tb) plan_is calls })
-  input_answer plan Delivered is still h plan_is calls = absurd h
-  input_answer plan Rounds is still h plan_is calls = absurd h
-  input_answer plan NoPath is still h plan_is calls = absurd h
-  input_answer plan (Aborted reader) is still h plan_is calls = absurd h
-  input_answer plan Usage is still h plan_is calls = absurd h
-  input_answer plan (Put p) is still h plan_is calls = absurd h
-  input_answer plan (Log at) is still h plan_is calls = absurd h
+  input_answer plan _ is still h plan_is calls = absurd h
 
   -- what a run of the turns of a log reads does
   pub replay_input_answer : (log : List ℕ) (status : Status) → line.work ≡ replay log → IsUntouched held holds faults_before faults
@@ -312,12 +305,7 @@ module _ (content : List ℕ → Option (List ℕ)) (line : Line) (loads_before 
     calls = calls;
   })
   replay_input_answer log Memory is still h calls = inl (record { untouched = still; calls = calls })
-  replay_input_answer log Delivered is still h calls = absurd h
-  replay_input_answer log Rounds is still h calls = absurd h
-  replay_input_answer log NoPath is still h calls = absurd h
-  replay_input_answer log (Aborted reader) is still h calls = absurd h
-  replay_input_answer log Usage is still h calls = absurd h
-  replay_input_answer log (Put p) is still h calls = absurd h
+  replay_input_answer log _ is still h calls = absurd h
 
   -- ---- behind the loads
 
@@ -365,7 +353,7 @@ module _ (content : List ℕ → Option (List ℕ)) (line : Line) (loads_before 
     }
 
     -- a run came to its own end
-    module _ (kept : task.report ≡ report.Log) (some : HasRounds task.course) (ends : EndsWithRound task.course) where
+    module _ (kept : task.report ≡ Report.Log) (some : HasRounds task.course) (ends : EndsWithRound task.course) where
       end_row : (status : Status) → CameToEnd (loads_of line) line task held holds ta tb status
           → EndRow content line loads_before loads faults_before faults held holds ta tb status
       end_row status h = record {
@@ -392,13 +380,7 @@ module _ (content : List ℕ → Option (List ℕ)) (line : Line) (loads_before 
       end_answer Rounds h = end_row Rounds h
       end_answer NoPath h = end_row NoPath h
       end_answer (Aborted reader) h = end_row (Aborted reader) h
-      end_answer Usage h = absurd h.ended
-      end_answer (ScriptStatus at kind) h = absurd h.ended
-      end_answer (Load named) h = absurd h.ended
-      end_answer (Put p) h = absurd h.ended
-      end_answer (TooLong named) h = absurd h.ended
-      end_answer Memory h = absurd h.ended
-      end_answer (Log at) h = absurd h.ended
+      end_answer _ h = absurd h.ended
 
     -- it was cut off
     cut_row : (status : Status) → IsCut (loads_of line) line task held holds ta tb status
@@ -469,12 +451,7 @@ module _ (made : Bench) (plain : IsPlainTask made.task) (unstopped : (s : Side) 
   made_end_answer (Aborted reader) ends h =
       absurd (never_stopped made.task h.whole.turns reader unstopped (whole_runs_have_cause made.task (Aborted reader) held holds made_short h.whole))
   made_end_answer Usage ends h = absurd h.ended
-  made_end_answer (ScriptStatus at kind) ends h = absurd h.ended
-  made_end_answer (Load named) ends h = absurd h.ended
-  made_end_answer (Put p) ends h = absurd h.ended
-  made_end_answer (TooLong named) ends h = absurd h.ended
-  made_end_answer Memory ends h = absurd h.ended
-  made_end_answer (Log at) ends h = absurd h.ended
+  made_end_answer _ ends h = absurd h.ended
 
   made_cut_row : (status : Status) → IsCut [] made.line made.task held holds ta tb status
       → MadeCutRow made loads_before loads faults_before faults held holds ta tb status

@@ -12,12 +12,12 @@ use Rattle.clean_finish.specs.Finish.{rounds_in}
 use Rattle.clean_finish.proofs.Finished.{clean_scripts_finish, clean_scripts_go_on}
 use Rattle.path_core.specs.Octets.{octets}
 use Rattle.run_words.specs.Lines.{Line, Work, run, serial, replay, bench}
-use Rattle.run_outside.specs.declared.status.Named.TheVariants as input
+use Rattle.run_outside.specs.declared.status.Named.{Named}
 use Rattle.run_outside.specs.declared.status.Status.{Status}
 use Rattle.run_outside.specs.declared.status.Status.TheVariants.{Delivered, Rounds, NoPath, Aborted, Usage, Script as BadScript, Load, Put, TooLong, Memory, Log}
 use Rattle.run_outside.specs.Inputs.{AreWithinLimits, order_of}
 use Rattle.world_core.specs.RoundEnds.{round_ends, last_end}
-use Rattle.world_laws.specs.declared.outcome.Outcome.TheVariants as outcome
+use Rattle.world_laws.specs.declared.outcome.Outcome.{Outcome}
 use Rattle.world_laws.specs.Outcomes.{outcome_of}
 use Rattle.world_laws.specs.Serial.{goes_on, OneOf, spelled, after_round, AreRounds}
 use Rattle.world_laws.specs.Worlds.{Turn, world_step, end_round, world_run}
@@ -109,7 +109,7 @@ logged_course content script (replay log) x e some = log_is_told _ x e
 loaded_task : (content : List ℕ → Option (List ℕ)) (line : Line) → AreWithinLimits content line → IfSome (task_of content line) (λ task. IsLoadedTask line.work task)
 loaded_task content line within =
     task_is (λ task. IsLoadedTask line.work task) (content line.names.script) (content line.names.file_a) (content line.names.file_b) (λ script. course_of content script line.work)
-    (within input.FileA) (within input.FileB)
+    (within Named.FileA) (within Named.FileB)
     (λ text script file_a file_b x e few_a few_b is. record {
       ranges = read_has_ranges text script e;
       small_a = few_a;
@@ -119,11 +119,11 @@ loaded_task content line within =
 
 -- its outcome, in whatever order the steps of a round came
 delivers : (work : Work) (task : Task) → IsLoadedTask work task → HasEnoughRounds task → (turns : List Turn) → AreTurnsOf task.course turns (first_world task)
-    → outcome_of (world_after task turns).crew ≡ outcome.Delivered
+    → outcome_of (world_after task turns).crew ≡ Outcome.Delivered
 delivers work task loaded rounded turns are = by (enough task.script (length task.file_a) (length task.file_b)) refl rounded
   where
     by : (o : Option ℕ) → enough task.script (length task.file_a) (length task.file_b) ≡ o → IsSomeAnd o (λ least. AsksRounds least task.course)
-        → outcome_of (world_after task turns).crew ≡ outcome.Delivered
+        → outcome_of (world_after task turns).crew ≡ Outcome.Delivered
     by None e asks = absurd asks
     by (Some least) e asks =
         let lawful = course_lawful task.course turns (first_world task) are in
@@ -153,13 +153,7 @@ module _ (content : List ℕ → Option (List ℕ)) (line : Line) (loads_before 
     ended_delivers Rounds answer ended = row_delivers Rounds answer
     ended_delivers NoPath answer ended = row_delivers NoPath answer
     ended_delivers (Aborted reader) answer ended = row_delivers (Aborted reader) answer
-    ended_delivers Usage answer ended = absurd ended
-    ended_delivers (BadScript at kind) answer ended = absurd ended
-    ended_delivers (Load named) answer ended = absurd ended
-    ended_delivers (Put port) answer ended = absurd ended
-    ended_delivers (TooLong named) answer ended = absurd ended
-    ended_delivers Memory answer ended = absurd ended
-    ended_delivers (Log at) answer ended = absurd ended
+    ended_delivers _ answer ended = absurd ended
 
     unlogged : IsSome (order_of line.work) → ⊥
     unlogged some = by (task_of content line) clean (loaded_task content line within)

@@ -15,7 +15,6 @@ use Rattle.world_laws.specs.Serial.{spelled, after_round, AreRounds}
 use Rattle.world_laws.specs.Worlds.{Turn, world_step, end_round}
 use Rattle.world_laws.proofs.Rounds.SerialIsOne.{serial_is_one}
 use Rattle.mptcp_run.specs.declared.report.Report.{Report}
-use Rattle.mptcp_run.specs.declared.report.Report.TheVariants as report
 use Rattle.run_outside.specs.declared.status.Status.{Status}
 use Rattle.mptcp_run.specs.Logged.{HasRounds, IsSettled, replayed, TellsTheRun, LogTellsTheRun, WholeRunsAreTold, WholeRunsAgree}
 use Rattle.mptcp_run.specs.Promised.{EndsWithRound}
@@ -88,7 +87,7 @@ width_fits script = by script.short
 
 -- a task with a log
 abbrev logged : Script → List ℕ → List ℕ → Course → Task
-logged script file_a file_b course = record { script = script; file_a = file_a; file_b = file_b; course = course; report = report.Log }
+logged script file_a file_b course = record { script = script; file_a = file_a; file_b = file_b; course = course; report = Report.Log }
 
 -- this task with such a report
 abbrev reporting : Task → Report → Task
@@ -96,7 +95,7 @@ reporting task r = record { script = task.script; file_a = task.file_a; file_b =
 
 -- the line of the outcome
 abbrev outcome_line : Connection → List ℕ
-outcome_line w = last_line_of report.Log 0 w
+outcome_line w = last_line_of Report.Log 0 w
 
 module _ (script : Script) (file_a file_b : List ℕ) (way : Course) (status : Status) (old new : Port → Option (List ℕ)) (few : length script.paths ≤ 16) (has : HasRounds way)
     (whole : IsWhole (logged script file_a file_b way) status old new) where
@@ -155,9 +154,9 @@ pub whole_runs_are_told : WholeRunsAreTold
 whole_runs_are_told task status old new kept few has whole =
     by task.report kept whole
   where
-    by : (r : Report) → r ≡ report.Log → (whole : IsWhole (reporting task r) status old new) → LogTellsTheRun (reporting task r) whole.turns status old new
-    by report.Log is whole = whole_run_is_told task.script task.file_a task.file_b task.course status old new few has whole
-    by (report.Summary number) is whole = cc
+    by : (r : Report) → r ≡ Report.Log → (whole : IsWhole (reporting task r) status old new) → LogTellsTheRun (reporting task r) whole.turns status old new
+    by Report.Log is whole = whole_run_is_told task.script task.file_a task.file_b task.course status old new few has whole
+    by (Report.Summary number) is whole = cc
 
 -- ---- runs of one task
 

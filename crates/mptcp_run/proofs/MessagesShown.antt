@@ -22,7 +22,7 @@ use Rattle.message_pipe.specs.Lined.{lined_content, lined_holds, PortsStand}
 use Rattle.message_pipe.proofs.CallsBelow.{none_added}
 use Rattle.message_pipe.proofs.LinesAgain.{whole_ports_show_all_lines, ports_show_first_lines, refused_ports_show_prefixes}
 use Rattle.run_words.specs.Lines.{Line, line_of}
-use Rattle.run_outside.specs.declared.status.Named.TheVariants as input
+use Rattle.run_outside.specs.declared.status.Named.{Named}
 use Rattle.run_outside.specs.declared.status.Status.{Status}
 use Rattle.run_outside.specs.declared.status.Status.TheVariants.{Delivered, Rounds, NoPath, Aborted, Usage, Script, Load, Put, TooLong, Memory, Log}
 use Rattle.mptcp_run.specs.Answers.{EndRow, HasRun, IsAnswer}
@@ -301,10 +301,10 @@ module _ (content : List ℕ → Option (List ℕ)) (line : Line) (loads_before 
   told_b = file_b_is content line.names.file_a line.names.file_b
 
   small_a : AreWithinLimits frames_of line → IfSome file_a (λ text. length text < 2 ^ 32)
-  small_a within = small_file file_a (frames_of line.names.file_a) told_a (within input.FileA)
+  small_a within = small_file file_a (frames_of line.names.file_a) told_a (within Named.FileA)
 
   small_b : AreWithinLimits frames_of line → IfSome file_b (λ text. length text < 2 ^ 32)
-  small_b within = small_file file_b (frames_of line.names.file_b) told_b (within input.FileB)
+  small_b within = small_file file_b (frames_of line.names.file_b) told_b (within Named.FileB)
 
   -- where all calls succeeded no line was refused
   unrefused : (plan : List Call) → made ≡ map succeeded plan → (a.refused ≡ None) × (b.refused ≡ None)
@@ -343,10 +343,8 @@ module _ (content : List ℕ → Option (List ℕ)) (line : Line) (loads_before 
   shown_by Memory none (inr h) = cut_shown h.read.within (h.prefixes none)
   shown_by (Log at) none (inl h) = nothing_is_cut file_a file_b held holds (none_shown h.untouched)
   shown_by (Log at) none (inr h) = part_shown h.read.within (h.prefixes none)
-  shown_by (Script at kind) none h = none_shown h.untouched
-  shown_by (Load named) none h = none_shown h.untouched
-  shown_by (TooLong named) none h = none_shown h.untouched
   shown_by Usage none h = absurd h
+  shown_by _ none h = none_shown h.untouched
 
   -- the calls of a run that came to its own end
   end_called : (ended : Status) → End ended → (AreWithinLimits frames_of line → (pieces : List (List ℕ)) → AreMessages (passed_of b) pieces → IfSome file_a (λ file. AreLines ended file pieces))

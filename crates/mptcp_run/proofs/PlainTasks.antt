@@ -14,8 +14,8 @@ use Rattle.world_laws.specs.PlainScripts.{AltersNone}
 use Rattle.world_laws.specs.Worlds.{Turn}
 use Rattle.run_outside.specs.declared.input.Input.{Input}
 use Rattle.run_outside.specs.Loaded.{IsLoaded}
-use Rattle.mptcp_run.specs.declared.report.Report.TheVariants as report
-use Rattle.run_outside.specs.declared.status.Named.TheVariants as input
+use Rattle.mptcp_run.specs.declared.report.Report.{Report}
+use Rattle.run_outside.specs.declared.status.Named.{Named}
 use Rattle.mptcp_run.specs.Promised.{IsPlainTask, IsShortInput, EndsWithRound, IsPromisedTask, LoadedTasksArePromised, LoadedTasksArePlain}
 use Rattle.link_script.specs.Reading.{reading}
 use Rattle.run_outside.specs.Reading.{script_in, actors_of, width_of, log_reading, EndsInRound}
@@ -49,21 +49,21 @@ course_ends content script (bench most number) = tt
 -- what holds of each task of a valid script and of files within their limits
 pub task_is : (P : Task → Type 0) (s a b : Option (List ℕ)) (c : Script → Option Course) → IfSome a (λ file. length file ≤ 16777216) → IfSome b (λ file. length file ≤ 16777216)
     → ((text : List ℕ) (script : Script) (file_a file_b : List ℕ) (x : Course) → reading text ≡ Ok script → length file_a ≤ 16777216 → length file_b ≤ 16777216
-    → c script ≡ Some x → P (record { script = script; file_a = file_a; file_b = file_b; course = x; report = report.Log }))
-    → IfSome (option_and_then script_in s >>= λ script. a >>= λ file_a. b >>= λ file_b. c script >>= λ x. Some (record { script = script; file_a = file_a; file_b = file_b; course = x; report = report.Log })) P
+    → c script ≡ Some x → P (record { script = script; file_a = file_a; file_b = file_b; course = x; report = Report.Log }))
+    → IfSome (option_and_then script_in s >>= λ script. a >>= λ file_a. b >>= λ file_b. c script >>= λ x. Some (record { script = script; file_a = file_a; file_b = file_b; course = x; report = Report.Log })) P
 task_is P None a b c few_a few_b each = tt
 task_is P (Some text) a b c few_a few_b each = by (reading text) refl
   where
     with : (script : Script) → reading text ≡ Ok script → (a b : Option (List ℕ)) (x : Option Course) → c script ≡ x
         → IfSome a (λ file. length file ≤ 16777216) → IfSome b (λ file. length file ≤ 16777216)
-        → IfSome (a >>= λ file_a. b >>= λ file_b. x >>= λ y. Some (record { script = script; file_a = file_a; file_b = file_b; course = y; report = report.Log })) P
+        → IfSome (a >>= λ file_a. b >>= λ file_b. x >>= λ y. Some (record { script = script; file_a = file_a; file_b = file_b; course = y; report = Report.Log })) P
     with script e None b x is few_a few_b = tt
     with script e (Some a) None x is few_a few_b = tt
     with script e (Some a) (Some b) None is few_a few_b = tt
     with script e (Some a) (Some b) (Some x) is few_a few_b = each text script a b x e few_a few_b is
 
     by : (r : Result Script ScriptFault) → reading text ≡ r
-        → IfSome (result_ok r >>= λ script. a >>= λ file_a. b >>= λ file_b. c script >>= λ x. Some (record { script = script; file_a = file_a; file_b = file_b; course = x; report = report.Log })) P
+        → IfSome (result_ok r >>= λ script. a >>= λ file_a. b >>= λ file_b. c script >>= λ x. Some (record { script = script; file_a = file_a; file_b = file_b; course = x; report = Report.Log })) P
     by (Err f) e = tt
     by (Ok script) e = with script e a b (c script) refl few_a few_b
 
@@ -78,16 +78,12 @@ short_input input read = record {
 pub loaded_tasks_are_promised : LoadedTasksArePromised
 loaded_tasks_are_promised content line within =
     task_is IsPromisedTask (content line.names.script) (content line.names.file_a) (content line.names.file_b) (λ script. course_of content script line.work)
-    (within input.FileA) (within input.FileB) promised
+    (within Named.FileA) (within Named.FileB) promised
   where
     promised : (text : List ℕ) (script : Script) (file_a file_b : List ℕ) (x : Course) → reading text ≡ Ok script → length file_a ≤ 16777216 → length file_b ≤ 16777216
-        → course_of content script line.work ≡ Some x → IsPromisedTask (record { script = script; file_a = file_a; file_b = file_b; course = x; report = report.Log })
+        → course_of content script line.work ≡ Some x → IsPromisedTask (record { script = script; file_a = file_a; file_b = file_b; course = x; report = Report.Log })
     promised text script file_a file_b x e few_a few_b is = record {
-      short = record {
-        ranges = read_has_ranges text script e;
-        short_a = omega (arith, few_a);
-        short_b = omega (arith, few_b);
-      };
+      short = record { ranges = read_has_ranges text script e; short_a = omega (arith, few_a); short_b = omega (arith, few_b) };
       ends = subst (λ (o : Option Course). IfSome o EndsWithRound) is (course_ends content script line.work);
     }
 

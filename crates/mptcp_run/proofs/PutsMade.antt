@@ -2,7 +2,6 @@
 use Rattle.std.proofs.Common.{◌≡◌, refl, sym, ◌∙◌, ap, subst, ℕ, List, [], ◌∷◌, ◌++◌, drop, length, Option, Result, Ok, Err, OnOk, OnErr}
 use Rattle.std.proofs.Math.Seq.{drop-append_seam}
 use Rattle.outside_kit.specs.declared.port.Port.{Port}
-use Rattle.outside_kit.specs.declared.port.Port.TheVariants as port
 use Rattle.sides.specs.declared.side.Side.TheVariants.{A, B}
 use Rattle.outside_kit.specs.Outside.{HoldsAfter, HoldsPrefix}
 use Rattle.path_core.specs.Octets.{octets}
@@ -79,10 +78,10 @@ module _ {X : Type 0} (made : List ℕ) (last w : Connection) (opening : Option 
     (b_is : read_by_b ≡ read_by (drop (made_at 1 made) (notes_at 1 w.crew))) (a_is : read_by_a ≡ read_by (drop (made_at 0 made) (notes_at 0 w.crew)))
     (lines_are : lines ≡ round_text opening number (since made (lists_of w.crew))) (h : IsSince last made w) (few : IsLong number) (fit : NotesFit opening (since made (lists_of w.crew)))
     (l m : ℕ) (f g : Port → ℕ) (a b : Told) where
-  pub piece_put : (r : Result X Status) → OnOk r (HoldsAfter (old port.ReadByB) (new port.ReadByB) (λ held. held ++ read_by_b))
-      → OnOk r (HoldsAfter (old port.ReadByA) (new port.ReadByA) (λ held. held ++ read_by_a)) → OnOk r (HoldsAfter (old port.Log) (new port.Log) (λ held. held ++ lines))
-      → OnErr r (HoldsPrefix (old port.ReadByB) (new port.ReadByB) read_by_b) → OnErr r (HoldsPrefix (old port.ReadByA) (new port.ReadByA) read_by_a)
-      → OnErr r (HoldsPrefix (old port.Log) (new port.Log) lines) → Puts (puts_of read_by_b read_by_a lines) l m f g a b r → RoundPut opening number last w l m f g old new a b r
+  pub piece_put : (r : Result X Status) → OnOk r (HoldsAfter (old Port.ReadByB) (new Port.ReadByB) (λ held. held ++ read_by_b))
+      → OnOk r (HoldsAfter (old Port.ReadByA) (new Port.ReadByA) (λ held. held ++ read_by_a)) → OnOk r (HoldsAfter (old Port.Log) (new Port.Log) (λ held. held ++ lines))
+      → OnErr r (HoldsPrefix (old Port.ReadByB) (new Port.ReadByB) read_by_b) → OnErr r (HoldsPrefix (old Port.ReadByA) (new Port.ReadByA) read_by_a)
+      → OnErr r (HoldsPrefix (old Port.Log) (new Port.Log) lines) → Puts (puts_of read_by_b read_by_a lines) l m f g a b r → RoundPut opening number last w l m f g old new a b r
   piece_put (Ok x) by_b by_a log b_part a_part log_part puts = record {
     whole = round_held made last w opening number old new read_by_b read_by_a lines b_is a_is lines_are h few fit by_b by_a log;
     part = tt;

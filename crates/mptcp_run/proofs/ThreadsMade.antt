@@ -92,10 +92,6 @@ less_none P most h = let is : most - 0 ≡ most = omega arith in subst P is h
 -- behind the end of a round by threads
 pub woven_goes : (w : Connection) (mid next : Kept) (actors : List ℕ) → IsWoven w mid actors → next ≡ standing (end_round mid.state) → GoesTo w next
 woven_goes w mid next actors h is = record {
-  round = record {
-    actors = actors;
-    round = h.weaves.round;
-    world = ap (λ (k : Kept). k.state) is ∙ ap end_round (sym h.weaves.leads);
-  };
+  round = record { actors = actors; round = h.weaves.round; world = ap (λ (k : Kept). k.state) is ∙ ap end_round (sym h.weaves.leads) };
   stands = ap (λ (k : Kept). k.failed) is;
 }

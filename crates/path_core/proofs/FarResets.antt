@@ -22,10 +22,8 @@ use Rattle.path_segments.specs.Laws.{IsPositionFresh, meant}
 use Rattle.path_segments.proofs.ChangedSegments.{stripped_means, stripped_is_heard}
 use Rattle.path_segments.proofs.SegmentsAgain.{four, written, heard_as_meant}
 use Rattle.subflow_tcp.specs.declared.handshake.State.{State as EndPhase}
-use Rattle.subflow_tcp.specs.declared.handshake.State.TheVariants as phase
 use Rattle.subflow_tcp.specs.declared.segments.Outgoing.{Outgoing}
 use Rattle.subflow_tcp.specs.declared.verdicts.Meaning.{Meaning}
-use Rattle.subflow_tcp.specs.declared.verdicts.Meaning.TheVariants as means
 use Rattle.subflow_tcp.specs.Judging.{is_in_window, ends_in_window, is_at_right_edge, is_acceptable, is_repeated_syn, meaning_answering, meaning_within, meaning_connected, meaning_at, meaning_of}
 use Rattle.subflow_tcp.specs.Segments.{Copy, occupied}
 use Rattle.subflow_tcp.specs.State.{EndState, is_at_limit}
@@ -124,8 +122,8 @@ module _ (c : Copy) (pos : ℕ) (tcp : EndState) (far : tcp.recv.edge + 2 ^ 31 �
 
   connected : meaning_connected nowhere tcp ≡ meaning_connected placed tcp
   connected =
-      ap (λ (b : Bool). if is_at_limit tcp then means.Ignored
-      else (if is_repeated_syn placed tcp then means.RepeatedSyn else (if b then meaning_within pos placed tcp else means.Ignored)))
+      ap (λ (b : Bool). if is_at_limit tcp then Meaning.Ignored
+      else (if is_repeated_syn placed tcp then Meaning.RepeatedSyn else (if b then meaning_within pos placed tcp else Meaning.Ignored)))
       (sym (far_unacceptable tcp.recv.edge pos placed far))
 
   answering : (acknowledged : Option ℕ) → meaning_answering acknowledged nowhere tcp ≡ meaning_answering acknowledged placed tcp
@@ -133,10 +131,10 @@ module _ (c : Copy) (pos : ℕ) (tcp : EndState) (far : tcp.recv.edge + 2 ^ 31 �
   answering (Some acknowledged) = refl
 
   by_phase : (state : EndPhase) → meaning_at state nowhere tcp ≡ meaning_at state placed tcp
-  by_phase phase.Dead = refl
-  by_phase phase.Waiting = refl
-  by_phase phase.Listen = refl
-  by_phase phase.SynSent = ap (λ (m : Meaning). if is_at_limit tcp then means.Ignored else m) (answering c.acknowledged)
+  by_phase EndPhase.Dead = refl
+  by_phase EndPhase.Waiting = refl
+  by_phase EndPhase.Listen = refl
+  by_phase EndPhase.SynSent = ap (λ (m : Meaning). if is_at_limit tcp then Meaning.Ignored else m) (answering c.acknowledged)
   by_phase _ = connected
 
   pub same_meaning : meaning_of nowhere tcp ≡ meaning_of placed tcp
@@ -151,7 +149,7 @@ same_answer c s position another occupied None some = absurd (cc some)
 
 module _ (items : List Heard) (now number : ℕ) (h : HeardSegment) where
   same_effect : (answer : Outgoing) (m : Meaning) (e : PathEnd) → after_copy items answer now (unplaced number h) m e ≡ after_copy items answer now h m e
-  same_effect answer means.Ignored e = refl
+  same_effect answer Meaning.Ignored e = refl
   same_effect answer _ e = refl
 
 module _ (s : Side) (now number : ℕ) (h : HeardSegment) where

@@ -203,10 +203,7 @@ module _ (joined : Bool) (s : Side) (window : ℕ) (spelling : Spelling) (from :
       ))
   value_few (wire.AddAddr echo id address port hmac) = inl (omega (arith, address_few echo id address port hmac))
   value_few (wire.RemoveAddr ids) = inr (omega (arith, removed_few ids))
-  value_few (wire.Prio backup) = inl (omega arith)
-  value_few (wire.Fail number) = inl (omega arith)
-  value_few (wire.FastClose key) = inl (omega arith)
-  value_few (wire.Reset transient reason) = inl (omega arith)
+  value_few _ = inl (omega arith)
 
   -- ---- all of them
 

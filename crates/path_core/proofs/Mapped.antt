@@ -67,12 +67,10 @@ within_keys c B (WithData sender receiver len checksum) = by (nat_lt 0 len) (wit
     by false within = All-nil IsWithin
 
 within_map : (c : Profile) (s : Side) (mapping : Option (PathMapping (Option ℕ))) → All IsWithin (map_held c s mapping)
-within_map c s None = All-nil IsWithin
 within_map c s (Some (Bytes None position len fin checksum)) = All-nil IsWithin
 within_map c s (Some (Bytes (Some place) None len fin checksum)) = All-nil IsWithin
 within_map c s (Some (Bytes (Some place) (Some position) len fin checksum)) = within_if c s place position len fin checksum
-within_map c s (Some (End place checksum)) = All-nil IsWithin
-within_map c s (Some (Infinite place position)) = All-nil IsWithin
+within_map c s _ = All-nil IsWithin
 
 within_in : (c : Profile) (s : Side) (option : HeardOption) → All IsWithin (held_in c s option)
 within_in c s (Capable flag_a flag_c keys) = by (is_joined c)
@@ -80,14 +78,8 @@ within_in c s (Capable flag_a flag_c keys) = by (is_joined c)
     by : (joined : Bool) → All IsWithin (if joined then [] else key_held c s keys)
     by true = All-nil IsWithin
     by false = within_keys c s keys
-within_in c s (Join form) = All-nil IsWithin
 within_in c s (Dss next mapping) = within_map c s mapping
-within_in c s (AddAddr echo id address port hmac) = All-nil IsWithin
-within_in c s (Remove ids) = All-nil IsWithin
-within_in c s (Prio backup) = All-nil IsWithin
-within_in c s (Fail place) = All-nil IsWithin
-within_in c s (FastClose key) = All-nil IsWithin
-within_in c s (Reset transient reason) = All-nil IsWithin
+within_in c s _ = All-nil IsWithin
 
 pub all_within : (c : Profile) (s : Side) (options : List HeardOption) → All IsWithin (flat_map (held_in c s) options)
 all_within c s [] = All-nil IsWithin

@@ -8,7 +8,7 @@ use Rattle.key_material.specs.JoinHmac.{join_a160_of}
 use Rattle.path_core.specs.declared.modes.Modes.{Modes}
 use Rattle.mptcp_options.specs.declared.join.JoinForm.{JoinForm}
 use Rattle.path_agenda.specs.declared.heard.Heard.{Heard}
-use Rattle.path_agenda.specs.declared.heard.JoinStep.TheVariants as step
+use Rattle.path_agenda.specs.declared.heard.JoinStep.{JoinStep}
 use Rattle.path_agenda.specs.Items.{join_heard}
 use Rattle.join_handshake.specs.Heard.{third_heard}
 use Rattle.path_core.specs.MpJoin.{is_hmac_right, is_third_right, join_value, peer_key_of, third_in}
@@ -29,7 +29,7 @@ third_is_taken (Some hmac) m false right = by (pointwise ◌==◌ hmac (hmac_of_
     by true is = absurd (false≢true (right.1 (ap Some ((octets_decide hmac (hmac_of_a m)).0 is))))
     by false is = sym is
 
-module _ {E : Type 0} (items : List Heard) (m : Modes) (form : JoinForm) (found : join_heard step.Third items ≡ Some form) where
+module _ {E : Type 0} (items : List Heard) (m : Modes) (form : JoinForm) (found : join_heard JoinStep.Third items ≡ Some form) where
   pub third_is_right : (heard : Result (Unit {0}) E) → (IsOk heard ↔ (third_heard (join_value (Some form)) ≡ Some (hmac_of_a m))) → is_ok heard ≡ is_third_right items m
   third_is_right (Ok x) right = third_is_taken (third_in items) m true (λ is. ap (λ o. third_heard (join_value o)) found ∙ right.0 refl, λ same. refl)
   third_is_right (Err e) right =

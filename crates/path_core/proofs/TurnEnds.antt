@@ -2,11 +2,10 @@
 use Rattle.std.proofs.Common.{◌≡◌, refl, sym, ap, subst, ◌<◌, ◌⊎◌, inl, inr, Bool, true, false, if◌then◌else◌, List, [], ◌∷◌, arith}
 use Rattle.actor_desk.specs.declared.ask.Reply.{Reply}
 use Rattle.path_agenda.specs.declared.duty.Duty.{Duty}
-use Rattle.path_agenda.specs.declared.duty.Duty.TheVariants as duties
-use Rattle.path_agenda.specs.declared.duty.AskDuty.TheVariants as ask_duties
-use Rattle.path_agenda.specs.declared.duty.SendDuty.TheVariants as send_duties
-use Rattle.path_agenda.specs.declared.duty.SilentDuty.TheVariants as silent_duties
-use Rattle.path_agenda.specs.declared.duty.StepDuty.TheVariants as step_duties
+use Rattle.path_agenda.specs.declared.duty.AskDuty.{AskDuty}
+use Rattle.path_agenda.specs.declared.duty.SendDuty.{SendDuty}
+use Rattle.path_agenda.specs.declared.duty.SilentDuty.{SilentDuty}
+use Rattle.path_agenda.specs.declared.duty.StepDuty.{StepDuty}
 use Rattle.path_core.specs.Codec.{Codec}
 use Rattle.path_core.specs.Duties.{stands, ask_for, passed, answered}
 use Rattle.actor_desk.specs.Kinds.{IsOfKind}
@@ -52,10 +51,10 @@ module _ {C : Type 0} where
 
   -- the agenda is of no account
   same_stands : (d : Duty) (ds : List Duty) (p : PathState C) → stands d p ≡ true → stands d (with_agenda (d ∷ ds) p) ≡ true
-  same_stands (duties.Ask ask_duties.JoinAgain) ds p is = is
-  same_stands (duties.Step (step_duties.Look s)) ds p is = is
-  same_stands (duties.Send (send_duties.ResetNoted s)) ds p is = is
-  same_stands (duties.Silent (silent_duties.Timer s)) ds p is = is
+  same_stands (Duty.Ask AskDuty.JoinAgain) ds p is = is
+  same_stands (Duty.Step (StepDuty.Look s)) ds p is = is
+  same_stands (Duty.Send (SendDuty.ResetNoted s)) ds p is = is
+  same_stands (Duty.Silent (SilentDuty.Timer s)) ds p is = is
   same_stands _ ds p is = is
 
   settled_settled : (ds : List Duty) (p : PathState C) → IsSettled (settled ds p)

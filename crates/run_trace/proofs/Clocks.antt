@@ -8,10 +8,9 @@ use Rattle.actor_desk.specs.declared.ask.Reply.{Reply}
 use Rattle.actor_desk.specs.Words.{tail_of}
 use Rattle.path_agenda.specs.Agenda.{emission, leaves}
 use Rattle.path_agenda.specs.declared.duty.Duty.{Duty}
-use Rattle.path_agenda.specs.declared.duty.Duty.TheVariants as duties
-use Rattle.path_agenda.specs.declared.duty.AskDuty.TheVariants as ask_duties
-use Rattle.path_agenda.specs.declared.duty.SilentDuty.TheVariants as silent_duties
-use Rattle.path_agenda.specs.declared.duty.StepDuty.TheVariants as step_duties
+use Rattle.path_agenda.specs.declared.duty.AskDuty.{AskDuty}
+use Rattle.path_agenda.specs.declared.duty.SilentDuty.{SilentDuty}
+use Rattle.path_agenda.specs.declared.duty.StepDuty.{StepDuty}
 use Rattle.path_agenda.specs.declared.heard.Heard.{Heard}
 use Rattle.path_core.specs.Codec.{Codec}
 use Rattle.path_core.specs.Duties.{passed, answered}
@@ -20,9 +19,7 @@ use Rattle.path_core.specs.MpJoin.{join_begun, is_never}
 use Rattle.path_core.specs.State.{at_tick, PathState}
 use Rattle.path_core.specs.Arrival.{copy_heard, heard_in}
 use Rattle.path_store.specs.declared.lines.LineAction.{LineAction}
-use Rattle.path_store.specs.declared.lines.LineAction.TheVariants as actions
 use Rattle.path_core.specs.declared.events.Event.{Event}
-use Rattle.path_core.specs.declared.events.Event.TheVariants as happenings
 use Rattle.path_core.specs.Steps.{answers, takes, begins_turn}
 use Rattle.link_model.specs.Steps.{arriving, after_delivery}
 use Rattle.world_laws.specs.Writes.{Writes, OnlyAt, PathView, writes, side_of}
@@ -63,11 +60,11 @@ module _ {C : Type 0} where
   either_keeps false q r p x y = y
 
   passed_keeps : (d : Duty) (p : PathState C) → Keeps p (passed d p)
-  passed_keeps (duties.Silent (silent_duties.Timer s)) p = refl
-  passed_keeps (duties.Step (step_duties.Heard s index)) p = refl
-  passed_keeps (duties.Silent (silent_duties.Keep s)) p = refl
-  passed_keeps (duties.Ask (ask_duties.CheckFailed s)) p = refl
-  passed_keeps (duties.Silent (silent_duties.PassFin s)) p = refl
+  passed_keeps (Duty.Silent (SilentDuty.Timer s)) p = refl
+  passed_keeps (Duty.Step (StepDuty.Heard s index)) p = refl
+  passed_keeps (Duty.Silent (SilentDuty.Keep s)) p = refl
+  passed_keeps (Duty.Ask (AskDuty.CheckFailed s)) p = refl
+  passed_keeps (Duty.Silent (SilentDuty.PassFin s)) p = refl
   passed_keeps _ p = refl
 
   -- where the tick may not be written
@@ -78,10 +75,8 @@ module _ {C : Type 0} where
   keeps_last = record { agenda = λ ds p. refl; chains = λ p q r x y. y ∙ x; passes = λ d p. passed_keeps d p }
 
   line_keeps : (action : LineAction) (p : PathState C) → Keeps p (after_line action p)
-  line_keeps actions.Die p = refl
-  line_keeps (actions.Prio s backup) p = refl
-  line_keeps (actions.Announce s id) p = refl
-  line_keeps (actions.Withdraw s id) p = refl
+  line_keeps LineAction.Die p = refl
+  line_keeps _ p = refl
 
   copy_keeps : (s : Side) (heard : Option HeardSegment) (p : PathState C) → Keeps p (copy_heard s heard p)
   copy_keeps s None p = refl
@@ -92,16 +87,16 @@ module _ {C : Type 0} where
 
   event_climbs : (k : Codec C) (event : Option Event) (r : Reply) (p : PathState C) → IfSome event (λ e. tick_of e < p.until) → Climbs p (happens_if k event r p)
   event_climbs k None r p soon = stays p _ refl
-  event_climbs k (Some (happenings.Joins tick)) r p soon =
+  event_climbs k (Some (Event.Joins tick)) r p soon =
       comes_to tick p _ (begun_keeps r (leaves A) (emission A) (record (at_tick tick p) { joined_at = None })) soon
-  event_climbs k (Some (happenings.Takes line)) r p soon =
+  event_climbs k (Some (Event.Takes line)) r p soon =
       comes_to line.tick p _ (line_keeps line.action (record (at_tick line.tick p) { lines = tail_of p.lines })) soon
-  event_climbs k (Some (happenings.Arrives due)) r p soon =
+  event_climbs k (Some (Event.Arrives due)) r p soon =
       comes_to due.tick p _ (copy_keeps due.to (heard_in k due.to (arriving due p.link) p) (record (at_tick due.tick p) { link = after_delivery due p.link })) soon
-  event_climbs k (Some (happenings.Fires s tick)) r p soon = comes_to tick p _ refl soon
+  event_climbs k (Some (Event.Fires s tick)) r p soon = comes_to tick p _ refl soon
 
   answered_climbs : (k : Codec C) (d : Duty) (r : Reply) (p : PathState C) → Climbs p (answered k d r p)
-  answered_climbs k (duties.Step step_duties.Events) r p = event_climbs k (next_event p) r p (next_is_soon p)
+  answered_climbs k (Duty.Step StepDuty.Events) r p = event_climbs k (next_event p) r p (next_is_soon p)
   answered_climbs k d r p = stays p _ (kept_by (side_of d) (writes d) p _ refl (writes_no_more k d r p))
 
   answers_climbs : (k : Codec C) (ds : List Duty) (r : Reply) (p : PathState C) → Climbs p (answers k ds r p)

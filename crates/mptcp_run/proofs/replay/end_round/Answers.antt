@@ -22,14 +22,7 @@ put_round-requires-clause-made g c =
 pub returns-then-not-end_round-clause-turn : goal.returns-then-not-end_round-clause-turn
 returns-then-not-end_round-clause-turn g c last under =
     let refused = not_over _ _ _ c.end_round.ensures.over under.stands c.if-not-end_round.true in
-    record {
-      under = tt;
-      whole = tt;
-      made = tt;
-      stops = (refl, (refused, ((λ port. refl), adds_none _)));
-      fault = tt;
-      only = only_none _ _;
-    }
+    record { under = tt; whole = tt; made = tt; stops = (refl, (refused, ((λ port. refl), adds_none _))); fault = tt; only = only_none _ _ }
 
 pub returns-clause-turn : goal.returns-clause-turn
 returns-clause-turn g c last under =

@@ -4,7 +4,7 @@ use Rattle.world_core.specs.Logged.{all_turns}
 use Rattle.outside_kit.specs.declared.port.Port.TheVariants.{ReadByA, ReadByB}
 use Rattle.run_words.specs.Lines.{as_line}
 use Rattle.run_log.specs.declared.turn.Turn.{Turn}
-use Rattle.mptcp_run.specs.declared.report.Report.TheVariants as report
+use Rattle.mptcp_run.specs.declared.report.Report.{Report}
 use Rattle.mptcp_run.specs.Courses.{CourseMade, LogStops}
 use Rattle.mptcp_run.specs.Task.{Task, task_from, first_world}
 use Rattle.mptcp_run.specs.Task as course
@@ -15,7 +15,7 @@ use Rattle.mptcp_run.proofs.Starting.{opened_at, replay_done, replay_stops, repl
 use Rattle.mptcp_run.proofs.top_call.take_turns.Goals as goal
 
 pub make_turns-requires-clause-begins : goal.make_turns-requires-clause-begins
-make_turns-requires-clause-begins g c = opened_at c.args.input.now report.Log c.args.run.now c.requires.opened
+make_turns-requires-clause-begins g c = opened_at c.args.input.now Report.Log c.args.run.now c.requires.opened
 
 pub returns-in_err-bind_readers-clause-err : goal.returns-in_err-bind_readers-clause-err
 returns-in_err-bind_readers-clause-err g c =
