@@ -1,13 +1,7 @@
 -- The loads of a connection, up to one that failed.
-use Rattle.std.proofs.Common.{◌≡◌, refl, sym, subst, inl, inr, ℕ, List, [], ◌∷◌, ◌++◌, Option, map}
-use Rattle.std.proofs.lemmas.List.{append-nil}
-use Rattle.outside_kit.specs.Calls.{Call}
-use Rattle.run_outside.specs.Plan.{succeeded, failed, Adds, AddsAll}
-use Rattle.run_outside.proofs.Calls.{Told, adds_then, all_then}
-use Rattle.connection_table.specs.declared.many.Many.{Many}
-use Rattle.connection_table.specs.declared.many.Many.TheVariants.{Done, Usage, Load, TooLong, List as Listing, Script, SameToken, Put, Memory}
-use Rattle.connection_table.specs.Causes.{IsLoadFault, IsScriptFault}
-use Rattle.connection_table.specs.Loads.{AddsCut, AddsFirst, AddsToFailed, InputAdds}
+use Rattle.connection_table.proofs.Words.{◌≡◌, refl, sym, subst, ℕ, Option, List, [], ◌∷◌, ◌++◌, map, inr, inl, append-nil, Call, succeeded, failed, Adds}
+use Rattle.connection_table.proofs.Words.{AddsAll, Told, adds_then, all_then, Many, Done, Usage, Load, TooLong, Listing, Script, SameToken, Put, Memory}
+use Rattle.connection_table.proofs.Words.{IsLoadFault, IsScriptFault, AddsCut, AddsToFailed, InputAdds, AddsFirst}
 
 -- this load failed, behind those of a plan before it
 module _ (made behind : List Call) (failing : Call) (a b c : Told) (before : AddsAll made a b) (one : Adds (failed failing ∷ []) b c) where

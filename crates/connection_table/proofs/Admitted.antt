@@ -1,17 +1,9 @@
 -- The connections of a list, loaded and admitted one after the other.
-use Rattle.std.proofs.Common.{◌≡◌, refl, sym, ◌∙◌, ap, subst, ℕ, zero, suc, ◌+◌, ◌<◌, ◌≤◌, ◌⊎◌, inl, inr, List, [], ◌∷◌, ◌++◌, length, get_or, map, take, drop, None, arith}
-use Rattle.std.specs.Prelude.{IfSome}
-use Rattle.std.proofs.lemmas.List.{length-append, length-map, map-append, take_more}
-use Rattle.run_outside.specs.declared.input.Input.{Input}
-use Rattle.run_outside.proofs.PortsLemmas.{risen_later}
-use Rattle.connection_table.specs.Lists.{Names, as_names}
-use Rattle.connection_table.specs.declared.list.Listed.{Listed}
-use Rattle.connection_table.specs.declared.many.Many.{Many}
-use Rattle.connection_table.specs.declared.many.Many.TheVariants.{Done, Usage, Load, TooLong, List as Listing, Script, SameToken, Put, Memory}
-use Rattle.connection_table.specs.Causes.{IsInputFault}
-use Rattle.connection_table.specs.Inputs.{AreWithin, Contents, IsInput, IsLong}
-use Rattle.connection_table.specs.ManyEnds.{AreAdmitted, AreInputs, AtFault, IsAdmitFault, IsListedFault}
-use Rattle.connection_table.specs.Tables.{Entry, holder_of, key_token, opened_entry}
+use Rattle.connection_table.proofs.Words.{◌≡◌, refl, sym, ◌∙◌, ap, subst, ℕ, zero, suc, ◌+◌, ◌<◌, ◌≤◌, None, List, [], ◌∷◌, ◌++◌, length, map, arith, inr}
+use Rattle.connection_table.proofs.Words.{get_or, inl, take, ◌⊎◌, drop, length-append, length-map, map-append, take_more, IfSome, Input, risen_later, Many}
+use Rattle.connection_table.proofs.Words.{Done, Usage, Load, TooLong, Listing, Script, SameToken, Put, Memory, IsInputFault, Names, as_names, Listed, AreWithin}
+use Rattle.connection_table.proofs.Words.{Contents, IsInput, IsLong, AreAdmitted, AreInputs, AtFault, IsListedFault, IsAdmitFault, Entry, key_token}
+use Rattle.connection_table.proofs.Words.{opened_entry, holder_of}
 use Rattle.connection_table.proofs.OwnTokens.{apart_more}
 
 -- ---- a connection more

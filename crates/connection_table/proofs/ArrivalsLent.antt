@@ -1,40 +1,30 @@
 -- The copy that arrives next is lent exactly where the path's next ask takes one from the link.
-use Rattle.std.proofs.Common.{◌≡◌, refl, sym, ◌∙◌, ap, subst, ℕ, ◌<◌, nat_lt, Bool, true, false, if◌then◌else◌, is_some, Option, Some, None, option_and_then, option_map, List, [], ◌∷◌}
-use Rattle.std.proofs.lemmas.Bool.{ltb-true}
-use Rattle.sides.specs.declared.side.Side.{Side}
-use Rattle.link_model.specs.declared.flight.Due.{Due}
-use Rattle.link_model.specs.declared.flight.Flight.{Flight}
-use Rattle.link_model.specs.Steps.{arriving}
+use Rattle.connection_table.proofs.Words.{◌≡◌, refl, sym, ◌∙◌, ap, subst, ℕ, ◌<◌, Bool, true, false, Option, Some, None, List, [], ◌∷◌, if◌then◌else◌}
+use Rattle.connection_table.proofs.Words.{option_map, option_and_then, nat_lt, is_some, ltb-true, Side, Due, Flight, arriving, Duty, StepDuty, Event, before}
+use Rattle.connection_table.proofs.Words.{earliest, next_event, step_for, tick_of, join_heard_ask, asked_at, Arrived, arrived, arrived_as, copy_arriving}
+use Rattle.connection_table.proofs.Words.{first_arrival, next_arrival, octets, PathState, end_at, path_of}
 use Rattle.send_book.specs.declared.call.SendCall.{SendCall}
 use Rattle.subflow_send.specs.Records.{Record}
 use Rattle.loss_recovery.specs.declared.windows.Pending.{Pending}
 use Rattle.join_handshake.specs.declared.hearing.JoinSyn.{JoinSyn}
 use Rattle.actor_desk.specs.declared.ask.Ask.{Ask}
-use Rattle.path_agenda.specs.declared.duty.Duty.{Duty}
 use Rattle.path_agenda.specs.declared.duty.AskDuty.{AskDuty}
 use Rattle.path_agenda.specs.declared.duty.SendDuty.{SendDuty}
-use Rattle.path_agenda.specs.declared.duty.StepDuty.{StepDuty}
 use Rattle.path_agenda.specs.declared.heard.Heard.{Heard}
 use Rattle.path_agenda.specs.declared.keys.KeyPair.{KeyPair}
 use Rattle.path_agenda.specs.Items.{key_heard, keys_heard}
 use Rattle.fallback_state.specs.declared.fall.Event.TheVariants as events
-use Rattle.path_core.specs.declared.events.Event.{Event}
 use Rattle.path_core.specs.Breaking.{reset_of, break_ask}
 use Rattle.path_store.specs.Passing.{Piece}
 use Rattle.path_core.specs.Duties.{ask_for}
 use Rattle.path_core.specs.Emission.{first_unsent, data_ask}
-use Rattle.path_core.specs.Events.{before, earliest, next_event, step_for, tick_of}
 use Rattle.path_core.specs.Fallback.{fell_ask, may_go_infinite, breaks_by_ack, plain_next, plain_ack_in}
 use Rattle.path_core.specs.Handover.{sends}
-use Rattle.path_core.specs.MpJoin.{join_heard_ask, asked_at}
-use Rattle.path_core.specs.Looking.{Arrived, arrived, arrived_as, copy_arriving, first_arrival, next_arrival}
-use Rattle.path_core.specs.Octets.{octets}
 use Rattle.path_core.specs.MpCapable.{peer_key_ask, opened_ask}
 use Rattle.path_core.specs.Deliver.{piece_of, piece_ask}
 use Rattle.path_core.specs.DataFin.{data_fin_of, fin_ask, plain_fin}
 use Rattle.path_core.specs.Rate.{rate_ask}
 use Rattle.path_core.specs.Standing.{ack_out_ask}
-use Rattle.path_core.specs.State.{PathState, end_at, path_of}
 use Rattle.path_core.specs.Steps.{asks_first, asks_of}
 use Rattle.path_core.specs.DssIn.{is_clash}
 use Rattle.path_core.specs.Treating.{item_of, item_ask}

@@ -1,27 +1,12 @@
 -- By which token octets that come to B ask to join.
-use Rattle.std.proofs.Common.{◌≡◌, refl, sym, ◌∙◌, ap, subst, ℕ, Option, Some, None, option_map, List, ◌∷◌}
-use Rattle.std.proofs.lemmas.Option.{same_Some}
-use Rattle.sides.specs.declared.side.Side.TheVariants.{B}
-use Rattle.sides.specs.Side.{peer}
+use Rattle.connection_table.proofs.Words.{◌≡◌, refl, sym, ◌∙◌, ap, subst, ℕ, Option, Some, None, List, ◌∷◌, option_map, same_Some, B, peer, addresses_from, Due}
+use Rattle.connection_table.proofs.Words.{Flight, arriving, Duty, StepDuty, Event, next_event, Arrived, arrived, arrived_as, copy_arriving, first_arrival}
+use Rattle.connection_table.proofs.Words.{octets, PathState, end_at, path_of, expected_by, App, Path, Actor, join_token, NextShowsToken, ShowsTokenNext}
+use Rattle.connection_table.proofs.Words.{AsksByTokenNext, JoinsAskByTheToken}
 use Rattle.key_material.specs.KeyDigest.{token_of}
 use Rattle.segment_wire.specs.declared.head.Addresses.{Addresses}
-use Rattle.segment_wire.specs.Paths.{addresses_from}
-use Rattle.link_model.specs.declared.flight.Due.{Due}
-use Rattle.link_model.specs.declared.flight.Flight.{Flight}
-use Rattle.link_model.specs.Steps.{arriving}
-use Rattle.path_agenda.specs.declared.duty.Duty.{Duty}
-use Rattle.path_agenda.specs.declared.duty.StepDuty.{StepDuty}
-use Rattle.path_core.specs.declared.events.Event.{Event}
-use Rattle.path_core.specs.Arrival.{expected_by, heard_in}
-use Rattle.path_core.specs.Events.{next_event}
-use Rattle.path_core.specs.Looking.{Arrived, arrived, arrived_as, copy_arriving, first_arrival}
-use Rattle.path_core.specs.Octets.{octets}
-use Rattle.path_core.specs.State.{PathState, end_at, path_of}
-use Rattle.world_laws.specs.declared.member.Member.TheVariants.{App, Path}
-use Rattle.world_laws.specs.Actors.{Actor}
-use Rattle.connection_table.specs.Routing.{join_token}
+use Rattle.path_core.specs.Arrival.{heard_in}
 use Rattle.connection_table.proofs.Heard.{token_heard}
-use Rattle.connection_table.specs.JoinTokens.{AsksByTokenNext, JoinsAskByTheToken, NextShowsToken, ShowsTokenNext}
 use Rattle.connection_table.proofs.PathsNamed.{HasNumber, paths_have_their_numbers}
 use Rattle.connection_table.proofs.TokensShown.{octets_show_the_token}
 

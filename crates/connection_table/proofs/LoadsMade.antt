@@ -1,24 +1,13 @@
 -- The loads of a list, line by line.
-use Rattle.std.proofs.Common.{◌≡◌, refl, sym, ◌∙◌, ap, subst, inl, inr, ℕ, zero, suc, ◌+◌, ◌<◌, Option, Some, None, Result, Ok, Err, List, [], ◌∷◌, ◌++◌, length, get_or, map, take, append_assoc, arith}
-use Rattle.std.specs.Prelude.{IfOk, IfSome}
-use Rattle.std.specs.List.{slice_get}
+use Rattle.connection_table.proofs.Words.{◌≡◌, refl, sym, ◌∙◌, ap, subst, ℕ, zero, suc, ◌+◌, ◌<◌, Option, Some, None, List, [], ◌∷◌, ◌++◌, append_assoc, length}
+use Rattle.connection_table.proofs.Words.{map, arith, inr, get_or, inl, Err, Ok, take, Result, map-append, take_more, append-nil, take-map, IfSome, IfOk}
+use Rattle.connection_table.proofs.Words.{slice_get, same_Some, Call, succeeded, failed, Adds, AddsAll, Told, adds_then, all_then, Many, Done, Usage, Load}
+use Rattle.connection_table.proofs.Words.{TooLong, Listing, Script, SameToken, Put, Memory, IsInputFault, IsListFault, IsLoadFault, AddsCut, AddsLoadsThrough}
+use Rattle.connection_table.proofs.Words.{AddsLoadsTo, AddsToFailed, InputAdds, LinesAdd, ListAdds, joined, loads_by_line, loads_of, Names, as_names}
+use Rattle.connection_table.proofs.Words.{list_reading, Listed, Contents, IsAdmitFault, NamedList}
 use Rattle.std.proofs.lemmas.Grind.{flat_map-append}
-use Rattle.std.proofs.lemmas.List.{append-nil, map-append, take-map, take_more}
-use Rattle.std.proofs.lemmas.Option.{same_Some}
-use Rattle.outside_kit.specs.Calls.{Call}
 use Rattle.outside_kit.specs.Calls as call
-use Rattle.run_outside.specs.Plan.{succeeded, failed, Adds, AddsAll}
-use Rattle.run_outside.proofs.Calls.{Told, adds_then, all_then}
-use Rattle.connection_table.specs.Lists.{Names, as_names, list_reading}
-use Rattle.connection_table.specs.ListWords.{NamedList}
-use Rattle.connection_table.specs.declared.list.Listed.{Listed}
-use Rattle.connection_table.specs.declared.many.Many.{Many}
-use Rattle.connection_table.specs.declared.many.Many.TheVariants.{Done, Usage, Load, TooLong, List as Listing, Script, SameToken, Put, Memory}
-use Rattle.connection_table.specs.Causes.{IsInputFault, IsListFault, IsLoadFault}
-use Rattle.connection_table.specs.Inputs.{Contents}
-use Rattle.connection_table.specs.Loads.{AddsCut, AddsLoadsThrough, AddsLoadsTo, AddsToFailed, InputAdds, LinesAdd, ListAdds, joined, loads_by_line, loads_of}
 use Rattle.connection_table.proofs.Adding.{all_cut}
-use Rattle.connection_table.specs.ManyEnds.{IsAdmitFault}
 use Rattle.connection_table.proofs.CallsMade.{cut_behind, cut_within, failed_then}
 
 -- ---- the connections

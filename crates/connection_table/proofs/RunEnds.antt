@@ -1,28 +1,15 @@
 -- How a run of a list ends: from its loads, its rounds and its lines.
-use Rattle.std.proofs.Common.{◌≡◌, refl, sym, ap, subst, ℕ, ◌⊎◌, inl, inr, Option, List, [], ◌∷◌, ◌++◌, map}
-use Rattle.std.specs.List.{All}
-use Rattle.std.specs.Prelude.{IfOk, IfSome, ◌≢◌}
-use Rattle.std.proofs.lemmas.List.Elements.{All-nil, All-cons}
-use Rattle.std.proofs.lemmas.Option.{IfSome_then}
-use Rattle.outside_kit.specs.Calls.{Call, Made}
-use Rattle.outside_kit.specs.Outside.{HasRisen, HoldsAfter, HoldsPrefix}
-use Rattle.run_outside.specs.declared.input.Input.{Input}
-use Rattle.connection_table.specs.Lists.{Names}
-use Rattle.connection_table.specs.ListWords.{NamedList}
-use Rattle.connection_table.specs.declared.many.Many.{Many}
-use Rattle.connection_table.specs.declared.many.Many.TheVariants.{Done, Usage, Load, TooLong, List as Listing, Script, SameToken, Put, Memory}
-use Rattle.connection_table.specs.Inputs.{Contents, IsShort}
-use Rattle.connection_table.specs.Loads.{AddsCut, AddsFirst, AddsToFailed, LinesAdd, ListAdds, joined, loads_by_line}
-use Rattle.connection_table.specs.Scripts.{LeavesPayload}
+use Rattle.connection_table.proofs.Words.{◌≡◌, refl, sym, ap, subst, ℕ, Option, List, [], ◌∷◌, ◌++◌, map, inr, inl, ◌⊎◌, IfSome, IfOk, ◌≢◌, All, All-nil}
+use Rattle.connection_table.proofs.Words.{All-cons, IfSome_then, Call, HasRisen, HoldsAfter, HoldsPrefix, AddsAll, Told, all_then, Input, Many, Done, Usage}
+use Rattle.connection_table.proofs.Words.{Load, TooLong, Listing, Script, SameToken, Put, Memory, AddsCut, AddsToFailed, LinesAdd, ListAdds, joined}
+use Rattle.connection_table.proofs.Words.{loads_by_line, AddsFirst, Names, Contents, IsShort, AllPut, AreAdmitted, AreInputs, AreListed, AreOfList, AreSerial}
+use Rattle.connection_table.proofs.Words.{AtFault, IsEnd, IsListedFault, IsLoadingFault, IsOfListed, IsPutFault, IsTableOf, NonePut, PutAdds, Says, SomePut}
+use Rattle.connection_table.proofs.Words.{UpToAny, UpToPut, loads_of_list, puts_from, Entry, opened_entry, LeavesPayload, state_of, lines_of, EachRound}
+use Rattle.connection_table.proofs.Words.{IsSerialEnd, NamedList}
+use Rattle.outside_kit.specs.Calls.{Made}
 use Rattle.connection_table.proofs.Adding.{all_cut}
-use Rattle.connection_table.specs.ManyEnds.{AllPut, AreAdmitted, AreInputs, AreListed, AreOfList, AreSerial, AtFault, IsEnd, IsListedFault, IsLoadingFault, IsOfListed, IsPutFault, IsTableOf, NonePut, PutAdds, Says, SomePut, UpToAny, UpToPut, loads_of_list, puts_from}
-use Rattle.connection_table.specs.ManyLines.{lines_of, state_of}
-use Rattle.connection_table.specs.ManyRounds.{EachRound, IsSerialEnd}
-use Rattle.connection_table.specs.Tables.{Entry, opened_entry}
 use Rattle.connection_table.proofs.CallsMade.{cut_behind, failed_behind}
 use Rattle.connection_table.proofs.EndsRight.{all_end_right}
-use Rattle.run_outside.specs.Plan.{AddsAll}
-use Rattle.run_outside.proofs.Calls.{Told, all_then}
 
 -- ---- before any line is put
 

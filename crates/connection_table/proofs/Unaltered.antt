@@ -1,15 +1,13 @@
 -- A script of which no line begins with `alter` alters no payload.
-use Rattle.std.proofs.Common.{◌≡◌, refl, sym, ◌∙◌, ap, subst, ℕ, suc, ◌+◌, Bool, true, false, ◌||◌, cond, List, [], ◌∷◌, ◌++◌, Option, Some, None, Result, Ok, Err}
-use Rattle.std.specs.Prelude.{IfOk, codes, nat_lt}
-use Rattle.std.specs.List.{find, list_any, position_from}
+use Rattle.connection_table.proofs.Words.{◌≡◌, refl, sym, ◌∙◌, ap, subst, ℕ, suc, ◌+◌, Bool, true, false, Option, Some, None, List, [], ◌∷◌, ◌++◌, Err, Ok}
+use Rattle.connection_table.proofs.Words.{cond, Result, ◌||◌, IfOk, codes, list_any, position_from, both_ways, or_from, or_parts, fold-append, IfOk-at_ok}
+use Rattle.connection_table.proofs.Words.{text_lines, is_end, is_out_of_order, is_repeated, LeavesPayload, first_alter, is_alter, is_alter_first, is_alter_line}
+use Rattle.std.specs.Prelude.{nat_lt}
+use Rattle.std.specs.List.{find}
 use Rattle.std.specs.Option.{ok_or}
 use Rattle.std.specs.Str.{bytes_eq}
-use Rattle.std.proofs.lemmas.Bool.{both_ways, or_from, or_parts}
 use Rattle.std.proofs.lemmas.List.Folds.{list_any-append}
-use Rattle.std.proofs.lemmas.List.Sums.{fold-append}
-use Rattle.std.proofs.lemmas.Result.{IfOk-at_ok}
 use Rattle.std.proofs.lemmas.Slice.Eq.{bytes_eq-Decides}
-use Rattle.octet_text.specs.Lines.{text_lines}
 use Rattle.link_script.specs.declared.fault.ScriptFault.{ScriptFault}
 use Rattle.link_script.specs.declared.fault.ScriptKind.{ScriptKind}
 use Rattle.link_script.specs.declared.line.Line.{Line}
@@ -17,13 +15,11 @@ use Rattle.link_script.specs.declared.script.Script.{Script}
 use Rattle.link_script.specs.declared.word.Keyword.{Keyword}
 use Rattle.link_script.specs.Lines.{seed_line, checksum_line, short_line, buffer_line, path_options, may_have, path_of, path_line, segment, drop_line, strip_line, alter_line, dup_line, late_line, strip_all_line, die_line, prio_line, add_line, remove_line, fast_close_line, end_line, line_after, line_of}
 use Rattle.link_script.specs.Numbers.{within}
-use Rattle.link_script.specs.Places.{is_end, is_out_of_order, is_repeated}
 use Rattle.link_script.specs.Ranges.{most_lines, seeds, buffers, path_numbers, segment_sizes, delays, latenesses, run_ticks, address_ids}
 use Rattle.link_script.specs.Reading.{first_line, in_place, later_line, next_line, at_line, seen_after, read_on, blank, with_line, script_of, reading}
 use Rattle.link_script.specs.Steps.{◌>>=◌}
 use Rattle.link_script.specs.Words.{fixed, keyword, keyword_word, keywords, direction, side, switch, words_of, is_passed_over}
 use Rattle.link_script.proofs.ReadRanges.{read_has_ranges}
-use Rattle.connection_table.specs.Scripts.{LeavesPayload, first_alter, is_alter, is_alter_first, is_alter_line}
 
 -- ---- a line by its words
 

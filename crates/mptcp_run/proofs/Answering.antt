@@ -1,41 +1,20 @@
 -- What each status of a run says, from what its parts say.
-use Rattle.std.proofs.Common.{◌≡◌, refl, sym, ap, subst, ℕ, ◌≤◌, inl, inr, List, [], ◌++◌, Option, Some, None, Result, Ok, IfSome, IsSome, length}
-use Rattle.std.specs.Prelude.{option_and_then, option_map, map, IsOk, IsSomeAnd}
-use Rattle.std.specs.Result.{result_ok}
-use Rattle.world_core.specs.Logged.{turn_of, all_turns}
-use Rattle.sides.specs.declared.side.Side.{Side}
-use Rattle.outside_kit.specs.declared.port.Port.{Port}
-use Rattle.outside_kit.specs.Calls.{Call}
-use Rattle.outside_kit.specs.Outside.{HoldsAfter}
-use Rattle.link_script.specs.declared.script.Script.{Script}
-use Rattle.run_words.specs.Lines.{Line, run, serial, replay, ◌>>=◌}
+use Rattle.mptcp_run.proofs.Words.{◌≡◌, refl, sym, ap, subst, ℕ, ◌≤◌, List, [], ◌++◌, length, Option, Some, None, IfSome, IsSome, inl, inr, Result, Ok}
+use Rattle.mptcp_run.proofs.Words.{option_map, option_and_then, IsSomeAnd, IsOk, result_ok, run, serial, replay, Line, ◌>>=◌, Port, Call, HoldsAfter, Side}
+use Rattle.mptcp_run.proofs.Words.{Script, reading, fast_close_of, Input, Named, Status, Delivered, Rounds, NoPath, Aborted, Usage, ScriptStatus, Load, Put}
+use Rattle.mptcp_run.proofs.Words.{TooLong, Memory, Log, limit_of, order_of, content_of, AreFirstWithinLimits, IsInputFault, IsReplayInputFault, opening_count}
+use Rattle.mptcp_run.proofs.Words.{AreWithinLimits, HasValidScript, HasValidOrder, loads_of, plan_of, AddsAll, AddsCut, IsUntouched, IsPortsFault, HoldsMore}
+use Rattle.mptcp_run.proofs.Words.{HoldsWithin, Ports, script_in, log_reading, script_of, Told, all_then, cut_then, short_then, short_cut, Turn, AltersNone}
+use Rattle.mptcp_run.proofs.Words.{turn_of, all_turns, Task, Course, rounds, threads, told, course_of, task_of, task_from, turns_in, Report, WasRead, HasRun}
+use Rattle.mptcp_run.proofs.Words.{HasStopped, TurnRow, CutRow, EndRow, IsAnswer, MadeEndRow, MadeCutRow, MadeRow, IsMadeAnswer, HoldsSomeRounds, HoldsToLine}
+use Rattle.mptcp_run.proofs.Words.{CameToEnd, IsCut, IsHalted, ReplayEnds, Bench, puts_so_far, all_puts, IsPlainTask, IsShortTask, EndsWithRound, HoldsPrefixOf}
+use Rattle.mptcp_run.proofs.Words.{HoldsPrefixIfBound, NoneIsAltered, ReadersHaveFiles, ReadersHaveAsMany, ReadersHavePrefixes, ReadersHavePrefixesIfBound}
+use Rattle.mptcp_run.proofs.Words.{IsAlwaysKept, IsWhole, IsStopped, IsReplayFault}
+use Rattle.std.specs.Prelude.{map}
 use Rattle.run_log.specs.declared.turn.Turn as log_turn
-use Rattle.run_outside.specs.declared.input.Input.{Input}
-use Rattle.stream_apps.specs.Starts.{fast_close_of}
-use Rattle.world_laws.specs.PlainScripts.{AltersNone}
-use Rattle.world_laws.specs.Worlds.{Turn}
 use Rattle.world_laws.proofs.Promises.OfScripts.{short_of}
-use Rattle.mptcp_run.specs.declared.report.Report.{Report}
-use Rattle.run_outside.specs.declared.status.Named.{Named}
-use Rattle.run_outside.specs.declared.status.Status.{Status}
-use Rattle.run_outside.specs.declared.status.Status.TheVariants.{Delivered, Rounds, NoPath, Aborted, Usage, Script as ScriptStatus, Load, Put, TooLong, Memory, Log}
 use Rattle.run_outside.specs.Loading.{InputAdds}
-use Rattle.mptcp_run.specs.Answers.{WasRead, HasRun, HasStopped, TurnRow, CutRow, EndRow, IsAnswer, MadeEndRow, MadeCutRow, MadeRow, IsMadeAnswer}
-use Rattle.run_outside.specs.Causes.{limit_of}
-use Rattle.mptcp_run.specs.Ends.{HoldsSomeRounds, HoldsToLine, CameToEnd, IsCut, IsHalted, ReplayEnds}
-use Rattle.run_outside.specs.Inputs.{order_of, content_of, AreFirstWithinLimits, IsInputFault, IsReplayInputFault, opening_count, AreWithinLimits, HasValidScript, HasValidOrder}
 use Rattle.mptcp_run.specs.Logged.{HasRounds}
-use Rattle.mptcp_run.specs.Made.{Bench}
-use Rattle.run_outside.specs.Plan.{AddsAll, AddsCut, plan_of, loads_of}
-use Rattle.mptcp_run.specs.Plan.{puts_so_far, all_puts}
-use Rattle.run_outside.specs.Ports.{IsUntouched, IsPortsFault, HoldsMore, HoldsWithin, Ports}
-use Rattle.mptcp_run.specs.Promised.{IsPlainTask, IsShortTask, EndsWithRound, IsAlwaysKept, HoldsPrefixOf, HoldsPrefixIfBound, NoneIsAltered, ReadersHaveAsMany, ReadersHaveFiles, ReadersHavePrefixes, ReadersHavePrefixesIfBound}
-use Rattle.mptcp_run.specs.Putting.{IsWhole, IsStopped}
-use Rattle.mptcp_run.specs.Replaying.{IsReplayFault}
-use Rattle.link_script.specs.Reading.{reading}
-use Rattle.run_outside.specs.Reading.{script_in, script_of, log_reading}
-use Rattle.mptcp_run.specs.Task.{Task, Course, rounds, threads, told, task_from, turns_in, course_of, task_of}
-use Rattle.run_outside.proofs.Calls.{Told, all_then, cut_then, short_then, short_cut}
 use Rattle.mptcp_run.proofs.Unstopped.{never_stopped}
 use Rattle.mptcp_run.proofs.Logged.{whole_runs_are_told}
 use Rattle.mptcp_run.proofs.Promised.{plain_of, short_tasks_are_kept, checked_runs_are_right, delivered_runs_give_as_many, whole_runs_give_prefixes, whole_runs_have_cause, delivered_runs_give_files, stopped_runs_give_prefixes, cut_runs_give_prefixes, lines_cut_give_prefixes}

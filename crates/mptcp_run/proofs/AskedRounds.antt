@@ -1,13 +1,12 @@
 -- A serial run is asked for one round at least, and the number of a made input is at most 256.
-use Rattle.std.proofs.Common.{◌≡◌, refl, subst, ℕ, ◌≤◌, Bool, true, false, ◌&&◌, if◌then◌else◌, List, Option, Some, None, IfSome, arith}
-use Rattle.std.specs.Prelude.{nat_le, codes, option_map}
+use Rattle.mptcp_run.proofs.Words.{◌≡◌, refl, subst, ℕ, ◌≤◌, Bool, true, false, if◌then◌else◌, List, Option, Some, None, IfSome, arith, ◌&&◌, option_map}
+use Rattle.mptcp_run.proofs.Words.{nat_le, codes, and_parts, leb-true, at_most_once, values_of, names_of, names_in, Work, run, serial, replay, bench, Names}
+use Rattle.mptcp_run.proofs.Words.{Line, ◌>>=◌, is_given, work_in, line_of_parts, line_of, AsksInRange}
 use Rattle.std.specs.Str.{bytes_eq}
 use Rattle.std.specs.Str.Parse.{digits_value}
-use Rattle.std.proofs.lemmas.Bool.{and_parts, leb-true}
 use Rattle.run_words.specs.Numbers.{is_numeral, number_within}
 use Rattle.run_words.specs.Parts.{Word, Part, parts_of, mode_option, rounds_option, order_option, number_option}
-use Rattle.run_words.specs.Lines.{at_most_once, values_of, names_of, names_in, Work, run, serial, replay, bench, Names, Line, ◌>>=◌, is_given, rounds_in, work_in, line_of_parts, line_of}
-use Rattle.mptcp_run.specs.Asked.{AsksInRange}
+use Rattle.run_words.specs.Lines.{rounds_in}
 
 abbrev Asks : Line → Type 0
 Asks line = AsksInRange line.work

@@ -1,20 +1,9 @@
 -- What the words ask for, and what stands at each answer to them.
-use Rattle.std.proofs.Common.{◌≡◌, refl, sym, ap, subst, ℕ, ◌≤◌, inl, inr, List, Option, Some, None, IfSome}
-use Rattle.std.specs.Prelude.{option_and_then}
-use Rattle.outside_kit.specs.declared.port.Port.{Port}
-use Rattle.run_words.specs.Lines.{Line, bench, line_of}
-use Rattle.run_outside.specs.declared.status.Status.{Status}
-use Rattle.run_outside.specs.declared.status.Status.TheVariants.{Delivered, Usage, Memory}
-use Rattle.mptcp_run.specs.Answers.{IsAnswer, IsMadeAnswer, NothingWasRun}
-use Rattle.mptcp_run.specs.Asked.{asked_in, if_run}
-use Rattle.mptcp_run.specs.Made.{Bench, made_task, bench_by, bench_of, bench_in}
-use Rattle.run_outside.specs.Causes.{IsWordsFault}
-use Rattle.run_outside.specs.Plan.{loads_of}
-use Rattle.mptcp_run.specs.Promised.{NoneIsAltered, ReadersHaveAsMany, ReadersHaveFiles}
-use Rattle.mptcp_run.specs.Task.{first_world}
+use Rattle.mptcp_run.proofs.Words.{◌≡◌, refl, sym, ap, subst, ℕ, ◌≤◌, List, Option, Some, None, IfSome, inl, inr, option_and_then, bench, Line, line_of, Port}
+use Rattle.mptcp_run.proofs.Words.{Status, Delivered, Usage, Memory, IsWordsFault, loads_of, Ports, Told, adds_none, cut_none, first_world, IsAnswer}
+use Rattle.mptcp_run.proofs.Words.{IsMadeAnswer, NothingWasRun, Bench, made_task, bench_by, bench_of, bench_in, NoneIsAltered, ReadersHaveFiles}
+use Rattle.mptcp_run.proofs.Words.{ReadersHaveAsMany, asked_in, if_run}
 use Rattle.mptcp_run.proofs.Answering.{made_cut_answer}
-use Rattle.run_outside.proofs.Calls.{Told, adds_none, cut_none}
-use Rattle.run_outside.specs.Ports.{Ports}
 use Rattle.mptcp_run.proofs.MadeTasks.{made_is_plain, of_words, made_is_unstopped}
 use Rattle.mptcp_run.proofs.Courses.{no_round}
 use Rattle.mptcp_run.proofs.Performing.{nothing_made}

@@ -1,39 +1,22 @@
 -- A run of a clean script, with rounds that are enough for it, delivers both files.
-use Rattle.std.proofs.Common.{◌≡◌, refl, sym, ◌∙◌, ap, subst, ℕ, zero, suc, ◌≤◌, inl, inr, ◌⊎◌, ⊎_elim, Bool, true, false, List, [], ◌∷◌, length, Option, Some, None, IfSome, IsSome, arith}
-use Rattle.std.specs.Prelude.{IsSomeAnd, option_map}
-use Rattle.std.proofs.lemmas.Bool.{both_ways}
-use Rattle.std.proofs.lemmas.Option.{same_Some}
-use Rattle.outside_kit.specs.declared.port.Port.{Port}
-use Rattle.link_script.specs.declared.script.Script.{Script}
+use Rattle.mptcp_run.proofs.Words.{◌≡◌, refl, sym, ◌∙◌, ap, subst, ℕ, ◌≤◌, Bool, true, false, List, [], ◌∷◌, length, Option, Some, None, IfSome, IsSome, inl}
+use Rattle.mptcp_run.proofs.Words.{inr, ◌⊎◌, arith, suc, zero, ⊎_elim, option_map, IsSomeAnd, both_ways, same_Some, Work, run, serial, replay, bench, Line}
+use Rattle.mptcp_run.proofs.Words.{Port, Script, octets, Named, Status, Delivered, Rounds, NoPath, Aborted, Usage, Load, Put, TooLong, Memory, Log, BadScript}
+use Rattle.mptcp_run.proofs.Words.{order_of, AreWithinLimits, Ports, Told, goes_on, OneOf, AreRounds, spelled, after_round, Turn, world_step, end_round}
+use Rattle.mptcp_run.proofs.Words.{world_run, outcome_of, round_ends, last_end, Connection, Task, Course, rounds, threads, told, first_world, course_of}
+use Rattle.mptcp_run.proofs.Words.{task_of, AreTurnsOf, HasRun, EndRow, IsAnswer, HasEnded, status_of, world_after, AreAtMost}
 use Rattle.link_script.specs.Scripts.{HasRanges}
 use Rattle.link_script.proofs.ReadRanges.{read_has_ranges}
 use Rattle.clean_finish.specs.Bound.{enough}
 use Rattle.clean_finish.specs.Finish.{rounds_in}
 use Rattle.clean_finish.proofs.Finished.{clean_scripts_finish, clean_scripts_go_on}
-use Rattle.path_core.specs.Octets.{octets}
-use Rattle.run_words.specs.Lines.{Line, Work, run, serial, replay, bench}
-use Rattle.run_outside.specs.declared.status.Named.{Named}
-use Rattle.run_outside.specs.declared.status.Status.{Status}
-use Rattle.run_outside.specs.declared.status.Status.TheVariants.{Delivered, Rounds, NoPath, Aborted, Usage, Script as BadScript, Load, Put, TooLong, Memory, Log}
-use Rattle.run_outside.specs.Inputs.{AreWithinLimits, order_of}
-use Rattle.world_core.specs.RoundEnds.{round_ends, last_end}
 use Rattle.world_laws.specs.declared.outcome.Outcome.{Outcome}
-use Rattle.world_laws.specs.Outcomes.{outcome_of}
-use Rattle.world_laws.specs.Serial.{goes_on, OneOf, spelled, after_round, AreRounds}
-use Rattle.world_laws.specs.Worlds.{Turn, world_step, end_round, world_run}
-use Rattle.mptcp_run.specs.Answers.{IsAnswer, EndRow, HasRun}
 use Rattle.mptcp_run.specs.Clean.{AsksRounds, HasEnoughRounds, DeliversIfClean, CleanRunsDeliver}
-use Rattle.mptcp_run.specs.Ends.{HasEnded}
-use Rattle.mptcp_run.specs.Putting.{status_of, world_after}
-use Rattle.mptcp_run.specs.Task.{Connection, Task, Course, rounds, threads, told, first_world, course_of, task_of, AreTurnsOf}
-use Rattle.mptcp_run.specs.WovenRounds.{AreAtMost}
 use Rattle.mptcp_run.proofs.Complete.{valid_inputs_are_run}
 use Rattle.mptcp_run.proofs.Courses.{counts_ends}
 use Rattle.mptcp_run.proofs.LogWoven.{course_lawful}
 use Rattle.mptcp_run.proofs.PlainTasks.{task_is}
 use Rattle.mptcp_run.proofs.Promised.{last_end_of_course}
-use Rattle.run_outside.proofs.Calls.{Told}
-use Rattle.run_outside.specs.Ports.{Ports}
 
 -- ---- how many rounds were made
 

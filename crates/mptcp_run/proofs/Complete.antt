@@ -1,17 +1,11 @@
 -- Words whose inputs are told, within their limits and valid are run.
-use Rattle.std.proofs.Common.{◌≡◌, refl, ℕ, ◌<◌, ◌≤◌, inl, inr, ◌⊎◌, List, Option, Some, None, Result, Ok, Err, IfSome, IsSome, length, arith}
-use Rattle.std.specs.Prelude.{option_and_then, IsOk, IsSomeAnd}
+use Rattle.mptcp_run.proofs.Words.{◌≡◌, refl, ℕ, ◌≤◌, ◌<◌, List, length, Option, Some, None, IfSome, IsSome, inl, inr, ◌⊎◌, arith, Result, Ok, Err}
+use Rattle.mptcp_run.proofs.Words.{option_and_then, IsSomeAnd, IsOk, Line, reading, Named, Status, Delivered, Rounds, NoPath, Aborted, Usage, Load, Put}
+use Rattle.mptcp_run.proofs.Words.{TooLong, Memory, Log, limit_of, order_of, content_of, name_of, IsValid, TurnRow, IsAnswer, FormRow, ValidInputsAreRun}
+use Rattle.mptcp_run.proofs.Words.{HasEnded}
 use Rattle.link_script.specs.declared.fault.ScriptKind.{ScriptKind}
 use Rattle.link_script.specs.declared.fault.ScriptFault.{ScriptFault}
-use Rattle.run_words.specs.Lines.{Line}
-use Rattle.run_outside.specs.declared.status.Named.{Named}
-use Rattle.run_outside.specs.declared.status.Status.{Status}
-use Rattle.run_outside.specs.declared.status.Status.TheVariants.{Delivered, Rounds, NoPath, Aborted, Usage, Script, Load, Put, TooLong, Memory, Log}
-use Rattle.mptcp_run.specs.Answers.{IsAnswer, FormRow, TurnRow, ValidInputsAreRun}
-use Rattle.run_outside.specs.Causes.{limit_of}
-use Rattle.mptcp_run.specs.Ends.{HasEnded}
-use Rattle.run_outside.specs.Inputs.{name_of, order_of, content_of, IsValid}
-use Rattle.link_script.specs.Reading.{reading}
+use Rattle.run_outside.specs.declared.status.Status.TheVariants.{Script}
 
 not_ok : {X E : Type 0} (r : Result X E) (e : E) → r ≡ Err e → IsOk r → ⊥
 not_ok (Ok x) e is ok = cc (is)

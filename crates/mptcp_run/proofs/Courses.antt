@@ -1,20 +1,9 @@
 -- The turns of a course, from what the rounds or turns of a loop come to.
-use Rattle.std.proofs.Common.{◌≡◌, refl, sym, ◌∙◌, ap, subst, ℕ, zero, suc, Bool, true, false, inl, List, [], ◌∷◌, ◌++◌, length, Option, arith}
-use Rattle.path_core.specs.Octets.{octets}
-use Rattle.world_laws.specs.Outcomes.{outcome_of}
-use Rattle.world_laws.specs.Serial.{goes_on, OneOf, round_and, steps_and, after_steps, after_turns, AreRounds, IsSerial}
-use Rattle.world_laws.specs.Worlds.{Turn, world_step, end_round, world_run}
-use Rattle.world_core.specs.Rounds.{RoundTo}
-use Rattle.world_core.specs.RoundEnds.{round_ends}
-use Rattle.run_outside.specs.declared.status.Status.{Status}
-use Rattle.run_outside.specs.declared.status.Status.TheVariants.{Put, Memory, Log}
-use Rattle.mptcp_run.specs.Courses.{CourseMade, CourseCut, LogStops}
-use Rattle.mptcp_run.specs.Putting.{AreFirstOf}
-use Rattle.mptcp_run.specs.Task.{Connection}
+use Rattle.mptcp_run.proofs.Words.{◌≡◌, refl, sym, ◌∙◌, ap, subst, ℕ, Bool, true, false, List, [], ◌∷◌, ◌++◌, length, Option, inl, arith, suc, zero, octets}
+use Rattle.mptcp_run.proofs.Words.{Status, Put, Memory, Log, Ports, Told, goes_on, OneOf, round_and, steps_and, after_steps, after_turns, AreRounds, IsSerial}
+use Rattle.mptcp_run.proofs.Words.{Turn, world_step, end_round, world_run, outcome_of, RoundTo, round_ends, Connection, AreFirstOf, AreWovenRounds, CourseMade}
+use Rattle.mptcp_run.proofs.Words.{CourseCut, LogStops}
 use Rattle.mptcp_run.specs.Task as course
-use Rattle.mptcp_run.specs.WovenRounds.{AreWovenRounds}
-use Rattle.run_outside.proofs.Calls.{Told}
-use Rattle.run_outside.specs.Ports.{Ports}
 use Rattle.mptcp_run.proofs.Folding.{RoundsPut, RoundsCut, TurnsPut, TurnsCut, TurnsFault}
 use Rattle.mptcp_run.proofs.RoundsMade.{IsKind}
 

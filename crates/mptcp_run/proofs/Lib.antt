@@ -31,3 +31,4 @@ mod CleanRuns
 mod MessagesCalled
 mod MessagesClean
 mod Unstopped
+mod Words

@@ -1,21 +1,12 @@
 -- The turns that the steps of each round tell, by stamp, then actor: they are lawful, and each round ends as it did.
-use Rattle.std.proofs.Common.{◌≡◌, refl, sym, ◌∙◌, ap, subst, ℕ, true, List, [], ◌∷◌, ◌++◌, map}
-use Rattle.actor_desk.specs.declared.ask.Note.{Note}
+use Rattle.mptcp_run.proofs.Words.{◌≡◌, refl, sym, ◌∙◌, ap, subst, ℕ, true, List, [], ◌∷◌, ◌++◌, map, Note, octets, turns_of_round, turns_of, Turn, world_step}
+use Rattle.mptcp_run.proofs.Words.{all_over, greatest, end_round, world_run, AreLawful, IsFine, lists_of, run_append, lawful_append, steps_weave, turn_of}
+use Rattle.mptcp_run.proofs.Words.{round_ends, last_end, round_steps, steps_by_round, Begins, Connection, Course, rounds, threads, told, AreTurnsOf, turns_told}
 use Rattle.actor_desk.specs.Journals.{order_of}
 use Rattle.run_log.specs.declared.turn.Turn as log_turn
-use Rattle.run_log.specs.Laws.{turns_of_round, turns_of}
-use Rattle.path_core.specs.Octets.{octets}
-use Rattle.world_laws.specs.Fine.{IsFine, lists_of}
 use Rattle.world_laws.specs.Weaving.{steps_by, woven}
-use Rattle.world_laws.specs.Worlds.{Turn, world_step, all_over, end_round, greatest, world_run, AreLawful}
 use Rattle.world_laws.proofs.Weaving.Paired.{step_fine}
 use Rattle.world_laws.proofs.Rounds.SerialIsLawful.{rounds_lawful}
-use Rattle.world_laws.proofs.Weaving.WholeRounds.{run_append, lawful_append, steps_weave}
-use Rattle.world_core.specs.RoundEnds.{round_ends, last_end, round_steps, steps_by_round}
-use Rattle.world_core.specs.Logged.{turn_of}
-use Rattle.mptcp_run.specs.Rounds.{Begins}
-use Rattle.mptcp_run.specs.Task.{Connection, Course, rounds, threads, told, AreTurnsOf}
-use Rattle.mptcp_run.specs.WovenRounds.{turns_told}
 use Rattle.mptcp_run.proofs.UnderWay.{lists_at_end, next_begins}
 
 -- ---- the turns that notes tell

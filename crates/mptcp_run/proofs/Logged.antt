@@ -1,34 +1,19 @@
 -- The log of a run that came to its own end tells that run.
-use Rattle.std.proofs.Common.{◌≡◌, refl, sym, ◌∙◌, ap, subst, ℕ, zero, suc, ◌≤◌, ◌<◌, Bool, true, false, if◌then◌else◌, Option, Some, List, [], ◌∷◌, ◌++◌, length, arith}
-use Rattle.outside_kit.specs.Outside.{HoldsAfter}
-use Rattle.outside_kit.specs.declared.port.Port.{Port}
-use Rattle.outside_kit.specs.declared.port.Port.TheVariants.{ReadByA, ReadByB, Log}
-use Rattle.sides.specs.declared.side.Side.TheVariants.{A, B}
-use Rattle.actor_desk.specs.declared.ask.Note.{Note}
-use Rattle.path_core.specs.Octets.{octets}
+use Rattle.mptcp_run.proofs.Words.{◌≡◌, refl, sym, ◌∙◌, ap, subst, ℕ, ◌≤◌, ◌<◌, Bool, true, false, if◌then◌else◌, List, [], ◌∷◌, ◌++◌, length, Option, Some}
+use Rattle.mptcp_run.proofs.Words.{arith, suc, zero, Port, HoldsAfter, ReadByA, ReadByB, A, B, Script, Note, octets, Status, actors_of, width_of, log_text}
+use Rattle.mptcp_run.proofs.Words.{RoundsFit, whole_more, more_weaker, AreRounds, spelled, after_round, Turn, world_step, end_round, outcome_of, output_of}
+use Rattle.mptcp_run.proofs.Words.{Start, PathPlan, plans_from, paths_from, opened_world, start_of, told_outcome, round_ends, last_end, steps_by_round}
+use Rattle.mptcp_run.proofs.Words.{Connection, Task, Course, rounds, threads, told, first_world, AreTurnsOf, turns_in, Report, EndsWithRound, log_opening}
+use Rattle.mptcp_run.proofs.Words.{opening_in, status_of, last_line_of, last_line, steps_so_far, read_so_far, log_so_far, world_after, IsWhole, turns_told}
+use Rattle.mptcp_run.proofs.Words.{AreAtMost}
+use Rattle.outside_kit.specs.declared.port.Port.TheVariants.{Log}
 use Rattle.path_core.specs.Start.{drawn_of}
 use Rattle.link_script.specs.declared.script.PathLine.{PathLine}
-use Rattle.link_script.specs.declared.script.Script.{Script}
-use Rattle.world_laws.specs.Openings.{Start, PathPlan, plans_from, paths_from, opened_world, start_of}
-use Rattle.world_laws.specs.Outcomes.{outcome_of, output_of}
-use Rattle.world_laws.specs.Serial.{spelled, after_round, AreRounds}
-use Rattle.world_laws.specs.Worlds.{Turn, world_step, end_round}
 use Rattle.world_laws.proofs.Rounds.SerialIsOne.{serial_is_one}
-use Rattle.mptcp_run.specs.declared.report.Report.{Report}
-use Rattle.run_outside.specs.declared.status.Status.{Status}
 use Rattle.mptcp_run.specs.Logged.{HasRounds, IsSettled, replayed, TellsTheRun, LogTellsTheRun, WholeRunsAreTold, WholeRunsAgree}
-use Rattle.mptcp_run.specs.Promised.{EndsWithRound}
-use Rattle.world_core.specs.RoundEnds.{round_ends, last_end, steps_by_round}
-use Rattle.world_core.specs.Logged.{told_outcome}
-use Rattle.run_outside.specs.LogText.{log_text, RoundsFit}
-use Rattle.mptcp_run.specs.Putting.{log_opening, opening_in, status_of, last_line_of, last_line, steps_so_far, read_so_far, log_so_far, world_after, IsWhole}
-use Rattle.run_outside.specs.Reading.{actors_of, width_of}
-use Rattle.mptcp_run.specs.Task.{Connection, Task, Course, rounds, threads, told, first_world, turns_in, AreTurnsOf}
-use Rattle.mptcp_run.specs.WovenRounds.{turns_told, AreAtMost}
 use Rattle.mptcp_run.proofs.LogAgain.{log_read, rounds_logged}
 use Rattle.mptcp_run.proofs.LogWoven.{AreWoven, turns_woven, told_to_the_end, course_lawful}
 use Rattle.mptcp_run.proofs.Courses.{counts_ends}
-use Rattle.run_outside.proofs.PortsLemmas.{whole_more, more_weaker}
 use Rattle.mptcp_run.proofs.Promised.{last_end_of_course}
 use Rattle.mptcp_run.proofs.UnderWay.{opened_begins}
 

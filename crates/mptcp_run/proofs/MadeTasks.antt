@@ -1,18 +1,10 @@
 -- The made input of each number that can be asked for is plain, and is run in rounds.
-use Rattle.std.proofs.Common.{◌≡◌, refl, ℕ, ◌*◌, ◌≤◌, List, Option, Some, None, IfSome, arith}
-use Rattle.std.specs.Prelude.{option_and_then}
-use Rattle.sides.specs.declared.side.Side.{Side}
-use Rattle.sides.specs.declared.side.Side.TheVariants.{A, B}
-use Rattle.stream_apps.specs.Starts.{fast_close_of}
+use Rattle.mptcp_run.proofs.Words.{◌≡◌, refl, ℕ, ◌≤◌, List, Option, Some, None, IfSome, arith, ◌*◌, option_and_then, Work, run, serial, replay, bench, Line}
+use Rattle.mptcp_run.proofs.Words.{line_of, Side, A, B, fast_close_of, Input, rounds, task_with, Bench, made_task, bench_by, bench_of, bench_in, IsPlainTask}
+use Rattle.mptcp_run.proofs.Words.{AsksInRange}
 use Rattle.run_outside.specs.MadeInput.{made_file, made_script}
-use Rattle.mptcp_run.specs.Made.{made_task, Bench, bench_by, bench_of, bench_in}
-use Rattle.run_outside.specs.declared.input.Input.{Input}
 use Rattle.mptcp_run.specs.declared.report.Report.TheVariants.{Summary}
-use Rattle.mptcp_run.specs.Task.{rounds, task_with}
-use Rattle.mptcp_run.specs.Asked.{AsksInRange}
-use Rattle.mptcp_run.specs.Promised.{IsPlainTask}
 use Rattle.mptcp_run.proofs.AskedRounds.{line_asks}
-use Rattle.run_words.specs.Lines.{Line, Work, run, serial, replay, bench, line_of}
 use Rattle.run_outside.proofs.Drawing.{octets_many, script_in_range}
 
 pub made_is_plain : (number most : ℕ) → number ≤ 256 → IsPlainTask (made_task number most)

@@ -1,27 +1,12 @@
 -- A run from its binds to its last line.
-use Rattle.std.proofs.Common.{◌≡◌, refl, sym, ◌∙◌, ap, subst, ℕ, inl, inr, List, [], ◌∷◌, ◌++◌, take, Option, Some, None, arith}
-use Rattle.std.proofs.lemmas.List.{append_assoc}
-use Rattle.outside_kit.specs.Calls.{Call}
+use Rattle.mptcp_run.proofs.Words.{◌≡◌, refl, sym, ◌∙◌, ap, subst, ℕ, List, [], ◌∷◌, ◌++◌, Option, Some, None, inl, inr, arith, take, append_assoc, Line, Port}
+use Rattle.mptcp_run.proofs.Words.{Call, HoldsAfter, HoldsPrefix, A, B, Status, Memory, binds_of, AddsAll, AddsCut, AddsShort, HoldsMore, HoldsWithin, Ports}
+use Rattle.mptcp_run.proofs.Words.{IsBetween, Told, adds_none, all_then, cut_then, cut_longer, cut_none, short_then, IsPrefix-refl, IsPrefix-append}
+use Rattle.mptcp_run.proofs.Words.{nothing_more, all_held, part_held, all_behind, taken_part, Turn, outcome_of, HoldsEnds, HoldsPart, Connection, Task}
+use Rattle.mptcp_run.proofs.Words.{first_world, HoldsToLine, CameToEnd, IsCut, HasEnded, HoldsCut, puts_so_far, opening_in, status_of, last_line, read_so_far}
+use Rattle.mptcp_run.proofs.Words.{log_so_far, AreFirstOf, ends_of, HoldsRounds, HoldsRun, CourseMade, CourseCut}
 use Rattle.outside_kit.specs.Calls as call
-use Rattle.outside_kit.specs.declared.port.Port.{Port}
-use Rattle.sides.specs.declared.side.Side.TheVariants.{A, B}
-use Rattle.outside_kit.specs.Outside.{HoldsAfter, HoldsPrefix}
-use Rattle.run_words.specs.Lines.{Line}
 use Rattle.world_laws.specs.declared.outcome.Outcome.{Outcome}
-use Rattle.world_laws.specs.Outcomes.{outcome_of}
-use Rattle.world_laws.specs.Worlds.{Turn}
-use Rattle.run_outside.specs.declared.status.Status.{Status}
-use Rattle.run_outside.specs.declared.status.Status.TheVariants.{Memory}
-use Rattle.mptcp_run.specs.Courses.{CourseMade, CourseCut}
-use Rattle.mptcp_run.specs.Ends.{HasEnded, HoldsCut, HoldsToLine, CameToEnd, IsCut}
-use Rattle.run_outside.specs.Plan.{AddsAll, AddsCut, AddsShort, binds_of}
-use Rattle.mptcp_run.specs.Plan.{puts_so_far}
-use Rattle.run_outside.specs.Ports.{HoldsMore, HoldsWithin, IsBetween, Ports}
-use Rattle.mptcp_run.specs.Putting.{opening_in, status_of, last_line, ends_of, read_so_far, log_so_far, HoldsRounds, HoldsRun, AreFirstOf}
-use Rattle.mptcp_run.specs.Rounds.{HoldsEnds, HoldsPart}
-use Rattle.mptcp_run.specs.Task.{Connection, Task, first_world}
-use Rattle.run_outside.proofs.Calls.{Told, adds_none, all_then, cut_then, cut_longer, cut_none, short_then}
-use Rattle.run_outside.proofs.PortsLemmas.{IsPrefix-refl, IsPrefix-append, nothing_more, all_held, part_held, all_behind, taken_part}
 
 -- the readers' ports were bound
 pub record AreBound (a b : Ports) : Type 0 where

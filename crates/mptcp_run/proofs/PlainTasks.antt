@@ -1,25 +1,14 @@
 -- The task of a command line is short, plain where its script alters nothing, and its last turn is the end of a round.
-use Rattle.std.proofs.Common.{◌≡◌, refl, ◌∙◌, ap, subst, ℕ, ◌≤◌, List, [], ◌∷◌, ◌++◌, length, map, Option, Some, None, Result, Ok, Err, IfSome, arith}
-use Rattle.std.specs.Prelude.{option_and_then, option_map}
-use Rattle.std.specs.Result.{result_ok}
-use Rattle.world_core.specs.Logged.{turn_of}
+use Rattle.mptcp_run.proofs.Words.{◌≡◌, refl, ◌∙◌, ap, subst, ℕ, ◌≤◌, List, [], ◌∷◌, ◌++◌, map, length, Option, Some, None, IfSome, arith, Result, Ok, Err}
+use Rattle.mptcp_run.proofs.Words.{option_map, option_and_then, result_ok, Work, run, serial, replay, bench, ◌>>=◌, Script, reading, Input, Named, script_in}
+use Rattle.mptcp_run.proofs.Words.{actors_of, width_of, log_reading, EndsInRound, Turn, AltersNone, turn_of, Task, Course, told, course_of, task_of, turns_in}
+use Rattle.mptcp_run.proofs.Words.{Report, IsPlainTask, EndsWithRound, IsShortInput, IsPromisedTask, LoadedTasksArePromised, LoadedTasksArePlain}
 use Rattle.link_script.specs.declared.fault.ScriptFault.{ScriptFault}
-use Rattle.link_script.specs.declared.script.Script.{Script}
 use Rattle.link_script.proofs.ReadRanges.{read_has_ranges}
-use Rattle.run_words.specs.Lines.{Work, run, serial, replay, bench, ◌>>=◌}
 use Rattle.run_log.specs.declared.fault.LogFault.{LogFault}
 use Rattle.run_log.specs.declared.turn.Turn as logged_turn
 use Rattle.run_log.specs.declared.turn.Turn.TheVariants as logged
-use Rattle.world_laws.specs.PlainScripts.{AltersNone}
-use Rattle.world_laws.specs.Worlds.{Turn}
-use Rattle.run_outside.specs.declared.input.Input.{Input}
 use Rattle.run_outside.specs.Loaded.{IsLoaded}
-use Rattle.mptcp_run.specs.declared.report.Report.{Report}
-use Rattle.run_outside.specs.declared.status.Named.{Named}
-use Rattle.mptcp_run.specs.Promised.{IsPlainTask, IsShortInput, EndsWithRound, IsPromisedTask, LoadedTasksArePromised, LoadedTasksArePlain}
-use Rattle.link_script.specs.Reading.{reading}
-use Rattle.run_outside.specs.Reading.{script_in, actors_of, width_of, log_reading, EndsInRound}
-use Rattle.mptcp_run.specs.Task.{Task, Course, told, turns_in, course_of, task_of}
 use Rattle.run_outside.proofs.LogEnds.{log_ends}
 use Rattle.mptcp_run.proofs.Promised.{plain_of}
 

@@ -1,27 +1,17 @@
 -- The readers' ports hold prefixes of the files.
-use Rattle.std.proofs.Common.{◌≡◌, refl, sym, ◌∙◌, ap, subst, ℕ, zero, suc, ◌+◌, inl, inr, ◌⊎◌, Bool, true, false, ◌&&◌, List, [], ◌∷◌, ◌++◌, length, length-append, Option, Some, None, arith}
-use Rattle.std.specs.Prelude.{IsSomeAnd}
-use Rattle.std.proofs.lemmas.List.{append_assoc, append-nil}
-use Rattle.outside_kit.specs.Outside.{HoldsAfter}
-use Rattle.sides.specs.declared.side.Side.TheVariants.{A, B}
-use Rattle.octet_text.specs.Prefix.{IsPrefix}
-use Rattle.path_core.specs.Octets.{octets}
+use Rattle.mptcp_run.proofs.Words.{◌≡◌, refl, sym, ◌∙◌, ap, subst, ℕ, ◌+◌, Bool, true, false, List, [], ◌∷◌, ◌++◌, length, Option, Some, None, inl, inr, ◌⊎◌}
+use Rattle.mptcp_run.proofs.Words.{arith, suc, zero, ◌&&◌, append-nil, append_assoc, IsSomeAnd, HoldsAfter, IsPrefix, A, B, octets, Status, Delivered}
+use Rattle.mptcp_run.proofs.Words.{HoldsWithin, round_and, steps_and, spelled, Turn, world_step, end_round, world_run, AltersNone, outcome_by, outcome_of}
+use Rattle.mptcp_run.proofs.Words.{output_of, tells_abort, tells_end, was_told, notes_of, start_of, round_ends, last_end, Connection, Task, Course, rounds}
+use Rattle.mptcp_run.proofs.Words.{threads, told, first_world, AreTurnsOf, IsPlainTask, IsShortTask, IsAbortCaused, EndsWithRound, HoldsAsMany, HoldsPrefixOf}
+use Rattle.mptcp_run.proofs.Words.{HoldsPrefixIfBound, HoldsWhatIsRight, ShortTasksAreKept, WholeRunsGivePrefixes, WholeRunsHaveCause, DeliveredRunsGiveAsMany}
+use Rattle.mptcp_run.proofs.Words.{CheckedRunsAreRight, DeliveredRunsGiveFiles, StoppedRunsGivePrefixes, CutRunsGivePrefixes, LinesCutGivePrefixes, status_of}
+use Rattle.mptcp_run.proofs.Words.{read_so_far, world_after}
+use Rattle.std.proofs.Common.{length-append}
 use Rattle.world_laws.specs.AbortCause.{PeerStopped}
-use Rattle.world_laws.specs.Openings.{start_of}
-use Rattle.world_laws.specs.Outcomes.{outcome_by, outcome_of, output_of, tells_abort, tells_end, was_told, notes_of}
-use Rattle.world_laws.specs.Serial.{steps_and, round_and, spelled}
-use Rattle.world_laws.specs.Worlds.{Turn, world_step, end_round, world_run}
-use Rattle.world_laws.specs.PlainScripts.{AltersNone}
 use Rattle.world_laws.proofs.Promises.OfScripts.{short_of, scripts_keep_anyway, checked_scripts_keep_octets, plain_scripts_keep_all_promises, scripts_are_shown_of_values}
 use Rattle.world_laws.proofs.Rounds.DoneByTheEnd.{rounds_end_on_time, rounds_are_done}
 use Rattle.world_laws.proofs.Worlds.CastLifting.{writes_the_files}
-use Rattle.run_outside.specs.declared.status.Status.{Status}
-use Rattle.run_outside.specs.declared.status.Status.TheVariants.{Delivered}
-use Rattle.run_outside.specs.Ports.{HoldsWithin}
-use Rattle.world_core.specs.RoundEnds.{round_ends, last_end}
-use Rattle.mptcp_run.specs.Putting.{status_of, read_so_far, world_after}
-use Rattle.mptcp_run.specs.Promised.{IsPlainTask, IsShortTask, IsAbortCaused, EndsWithRound, HoldsAsMany, HoldsPrefixOf, HoldsPrefixIfBound, HoldsWhatIsRight, ShortTasksAreKept, WholeRunsGivePrefixes, WholeRunsHaveCause, DeliveredRunsGiveAsMany, CheckedRunsAreRight, DeliveredRunsGiveFiles, StoppedRunsGivePrefixes, CutRunsGivePrefixes, LinesCutGivePrefixes}
-use Rattle.mptcp_run.specs.Task.{Connection, Task, Course, rounds, threads, told, first_world, AreTurnsOf}
 use Rattle.mptcp_run.proofs.RoundsWoven.{woven_to_the_end}
 
 -- ---- prefixes

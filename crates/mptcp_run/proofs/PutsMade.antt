@@ -1,28 +1,12 @@
 -- The calls of a round's end, and of the turns of a log.
-use Rattle.std.proofs.Common.{◌≡◌, refl, sym, ◌∙◌, ap, subst, ℕ, List, [], ◌∷◌, ◌++◌, drop, length, Option, Result, Ok, Err, OnOk, OnErr}
+use Rattle.mptcp_run.proofs.Words.{◌≡◌, refl, sym, ◌∙◌, ap, subst, ℕ, List, [], ◌∷◌, ◌++◌, length, Option, Result, Ok, Err, drop, OnErr, Port, HoldsAfter}
+use Rattle.mptcp_run.proofs.Words.{HoldsPrefix, A, B, octets, IsLong, Status, AddsAll, AddsCut, puts_of, Told, all_then, cut_then, cut_longer, NotesFit}
+use Rattle.mptcp_run.proofs.Words.{round_text, puts_by, Puts, Turn, after_turn, lists_of, notes_at, read_by, IsSince, made_at, since, round_ends, Connection}
+use Rattle.mptcp_run.proofs.Words.{read_in, round_puts, puts_by_round, last_after, rounds_after, RoundPut}
+use Rattle.std.proofs.Common.{OnOk}
 use Rattle.std.proofs.Math.Seq.{drop-append_seam}
-use Rattle.outside_kit.specs.declared.port.Port.{Port}
-use Rattle.sides.specs.declared.side.Side.TheVariants.{A, B}
-use Rattle.outside_kit.specs.Outside.{HoldsAfter, HoldsPrefix}
-use Rattle.path_core.specs.Octets.{octets}
-use Rattle.world_laws.specs.Fine.{lists_of}
-use Rattle.world_laws.specs.Outcomes.{notes_at, read_by}
-use Rattle.world_laws.specs.Worlds.{Turn, after_turn}
-use Rattle.run_outside.specs.declared.status.Status.{Status}
 use Rattle.mptcp_run.specs.Adding.{turn_puts}
-use Rattle.run_outside.specs.Plan.{AddsAll, AddsCut, puts_of}
-use Rattle.mptcp_run.specs.Plan.{read_in, round_puts, puts_by_round}
-use Rattle.world_core.specs.RoundEnds.{round_ends}
-use Rattle.run_outside.specs.LogText.{round_text, NotesFit}
-use Rattle.run_outside.specs.Calling.{Puts}
-use Rattle.run_log.specs.Fitting.{IsLong}
-use Rattle.mptcp_run.specs.Making.{RoundPut}
-use Rattle.mptcp_run.specs.Replaying.{last_after, rounds_after}
-use Rattle.mptcp_run.specs.Task.{Connection}
-use Rattle.world_core.specs.Weaving.{IsSince, made_at, since}
-use Rattle.run_outside.proofs.Calls.{Told, all_then, cut_then, cut_longer}
 use Rattle.world_core.proofs.SinceRound.{read_grew, steps_since}
-use Rattle.run_outside.proofs.Calling.{puts_by}
 use Rattle.mptcp_run.proofs.RoundSteps.{round_held, round_part}
 
 -- ---- one round

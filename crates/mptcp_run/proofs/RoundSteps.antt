@@ -1,21 +1,9 @@
 -- A round that was made: its steps, what its readers have read, and what the ports hold then.
-use Rattle.std.proofs.Common.{◌≡◌, refl, sym, ◌∙◌, ap, subst, ℕ, suc, Option, List, [], ◌∷◌, ◌++◌, drop}
-use Rattle.std.proofs.lemmas.List.{append-nil}
-use Rattle.outside_kit.specs.declared.port.Port.{Port}
-use Rattle.sides.specs.declared.side.Side.TheVariants.{A, B}
-use Rattle.outside_kit.specs.Outside.{HoldsAfter, HoldsPrefix}
-use Rattle.octet_text.specs.Prefix.{IsPrefix}
-use Rattle.run_log.specs.Fitting.{IsLong}
-use Rattle.world_laws.specs.Fine.{lists_of}
-use Rattle.world_laws.specs.Outcomes.{read_by, notes_at, output_of}
+use Rattle.mptcp_run.proofs.Words.{◌≡◌, refl, sym, ◌∙◌, ap, subst, ℕ, List, [], ◌∷◌, ◌++◌, Option, suc, drop, append-nil, Port, HoldsAfter, HoldsPrefix}
+use Rattle.mptcp_run.proofs.Words.{IsPrefix, A, B, IsLong, IsBetween, NotesFit, round_text, log_text, IsPrefix-refl, nothing_more, whole_more, IsPrefix-behind}
+use Rattle.mptcp_run.proofs.Words.{part_more, more_then, more_behind, lists_of, output_of, notes_at, read_by, IsSince, made_at, since, last_end, round_steps}
+use Rattle.mptcp_run.proofs.Words.{steps_by_round, HoldsRound, HoldsEnds, HoldsPart, Connection}
 use Rattle.world_core.proofs.SinceRound.{steps_since, read_grew}
-use Rattle.run_outside.specs.Ports.{IsBetween}
-use Rattle.world_core.specs.RoundEnds.{round_steps, steps_by_round, last_end}
-use Rattle.run_outside.specs.LogText.{NotesFit, round_text, log_text}
-use Rattle.mptcp_run.specs.Rounds.{HoldsRound, HoldsEnds, HoldsPart}
-use Rattle.mptcp_run.specs.Task.{Connection}
-use Rattle.world_core.specs.Weaving.{IsSince, made_at, since}
-use Rattle.run_outside.proofs.PortsLemmas.{IsPrefix-refl, IsPrefix-behind, whole_more, part_more, nothing_more, more_then, more_behind}
 
 module _ (made : List ℕ) (last w : Connection) (opening : Option (List ℕ)) (number : ℕ) (old new : Port → Option (List ℕ)) (read_by_b read_by_a lines : List ℕ)
     (b_is : read_by_b ≡ read_by (drop (made_at 1 made) (notes_at 1 w.crew))) (a_is : read_by_a ≡ read_by (drop (made_at 0 made) (notes_at 0 w.crew)))

@@ -1,21 +1,10 @@
 -- Rounds whose steps stand by stamp, then actor: how one is made of any steps, and what many of them come to.
-use Rattle.std.proofs.Common.{◌≡◌, refl, sym, ◌∙◌, ap, subst, ℕ, suc, false, List, [], ◌∷◌, ◌++◌, map, length, append_assoc}
-use Rattle.std.proofs.lemmas.List.{append-nil}
-use Rattle.actor_desk.specs.declared.ask.Note.{Note}
+use Rattle.mptcp_run.proofs.Words.{◌≡◌, refl, sym, ◌∙◌, ap, subst, ℕ, false, List, [], ◌∷◌, ◌++◌, map, length, suc, append-nil, Note, octets, Turn, world_step}
+use Rattle.mptcp_run.proofs.Words.{greatest, world_run, AreLawful, lists_of, run_append, lawful_append, IsSince, AllGrewAbove, round_ends, last_end}
+use Rattle.mptcp_run.proofs.Words.{round_steps, steps_by_round, Kept, Begins, AtRound, Connection, GoesOn, WovenTo, turns_told, AreAtMost, AreWovenRounds, Run}
+use Rattle.std.proofs.Common.{append_assoc}
 use Rattle.actor_desk.specs.Journals.{order_of}
-use Rattle.path_core.specs.Octets.{octets}
-use Rattle.world_laws.specs.Fine.{lists_of}
 use Rattle.world_laws.specs.Weaving.{steps_by}
-use Rattle.world_laws.specs.Worlds.{Turn, world_step, greatest, world_run, AreLawful}
-use Rattle.world_laws.proofs.Weaving.WholeRounds.{run_append, lawful_append}
-use Rattle.world_core.specs.RoundEnds.{round_ends, last_end, round_steps, steps_by_round}
-use Rattle.world_core.specs.Kept.{Kept}
-use Rattle.world_core.specs.Weaving.{AllGrewAbove, IsSince}
-use Rattle.mptcp_run.specs.declared.rounds.Run.{Run}
-use Rattle.mptcp_run.specs.Replaying.{GoesOn}
-use Rattle.mptcp_run.specs.Rounds.{AtRound, Begins}
-use Rattle.mptcp_run.specs.Task.{Connection}
-use Rattle.mptcp_run.specs.WovenRounds.{WovenTo, turns_told, AreAtMost, AreWovenRounds}
 use Rattle.mptcp_run.proofs.Courses.{one_true, one_false, one_both}
 use Rattle.mptcp_run.proofs.LogWoven.{steps_end, steps_fine, told_to_the_end}
 use Rattle.mptcp_run.proofs.RoundsMade.{IsKind}

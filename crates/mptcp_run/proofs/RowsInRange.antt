@@ -1,9 +1,8 @@
 -- The rows that a note tells are in range, in every connection: a path tells its window and its round-trip time within their ranges.
-use Rattle.std.proofs.Common.{◌≡◌, refl, sym, subst, ℕ, ◌+◌, ◌<◌, ⊎_elim, Bool, true, false, if◌then◌else◌, Option, Some, None, List, [], ◌∷◌, map, arith, length, ◌≤◌}
-use Rattle.std.proofs.lemmas.Option.{same_Some, slice_get_within}
-use Rattle.std.specs.List.{slice_get}
-use Rattle.sides.specs.declared.side.Side.{Side}
-use Rattle.sides.specs.declared.side.Side.TheVariants.{A, B}
+use Rattle.mptcp_run.proofs.Words.{◌≡◌, refl, sym, subst, ℕ, ◌+◌, ◌≤◌, ◌<◌, Bool, true, false, if◌then◌else◌, List, [], ◌∷◌, map, length, Option, Some, None}
+use Rattle.mptcp_run.proofs.Words.{arith, ⊎_elim, slice_get, same_Some, slice_get_within, Side, A, B, Note, Ask, Reply, books_in, HasRowsInRange, in_map}
+use Rattle.mptcp_run.proofs.Words.{in_set, Actor, ActorCrew, member_asks, member_takes, member_next, WorldState, Turn, note_of, crew_after, asked, stepped}
+use Rattle.mptcp_run.proofs.Words.{world_step, all_over, greatest, begins, end_round, after_turn, world_run, Start, opened_world, path_begins, App, Path}
 use Rattle.subflow_send.specs.Records.{Record}
 use Rattle.loss_recovery.specs.declared.windows.Pending.{Pending}
 use Rattle.reassembly_book.specs.declared.call.ReassemblyCall.{ReassemblyCall}
@@ -14,11 +13,6 @@ use Rattle.control_book.specs.Calls.{can_ask}
 use Rattle.control_book.specs.Laws.{RowsAreRight}
 use Rattle.control_book.proofs.RowsRight.{right_once, rows_stay_right}
 use Rattle.stream_lanes.specs.Words.{Every}
-use Rattle.stream_lanes.proofs.Lists.{in_set, in_map}
-use Rattle.actor_desk.specs.declared.ask.Ask.{Ask}
-use Rattle.actor_desk.specs.declared.ask.Note.{Note}
-use Rattle.actor_desk.specs.declared.ask.Reply.{Reply}
-use Rattle.actor_desk.specs.Books.{books_in}
 use Rattle.actor_desk.specs.Bounds.{IsSmallControl}
 use Rattle.actor_desk.specs.Desk.{SixBooks, reply_of, after_ask}
 use Rattle.actor_desk.specs.Kinds.{IsControlKind}
@@ -56,12 +50,7 @@ use Rattle.path_core.specs.Steps.{asks_first, begins_turn}
 use Rattle.path_core.specs.DssIn.{is_clash, mapping_ask}
 use Rattle.path_core.specs.Fallback.{fell_ask, breaks_by_ack, plain_ack_ask}
 use Rattle.path_core.specs.Treating.{item_ask, item_of}
-use Rattle.run_log.specs.Laws.{HasRowsInRange}
-use Rattle.world_laws.specs.declared.member.Member.TheVariants.{App, Path}
-use Rattle.world_laws.specs.Actors.{Actor, ActorCrew, member_asks, member_takes, member_next}
-use Rattle.world_laws.specs.Openings.{Start, path_begins, opened_world}
 use Rattle.world_laws.specs.StampedBooks.{answer_to}
-use Rattle.world_laws.specs.Worlds.{WorldState, Turn, note_of, crew_after, asked, stepped, world_step, all_over, greatest, begins, end_round, after_turn, world_run}
 use Rattle.world_laws.proofs.Weaving.Journals.{books_after}
 use Rattle.world_laws.proofs.Weaving.Occurring.{In, in_grown}
 use Rattle.world_laws.proofs.Rounds.Frame.{takes_keeps, first_keeps}

@@ -1,29 +1,11 @@
 -- A run that was opened, and how it goes on.
-use Rattle.std.proofs.Common.{◌≡◌, refl, sym, ◌∙◌, ap, subst, ℕ, ◌+◌, List, [], Option, length}
-use Rattle.outside_kit.specs.declared.port.Port.{Port}
-use Rattle.run_words.specs.Lines.{Line}
-use Rattle.run_outside.specs.declared.input.Input.{Input}
-use Rattle.world_core.specs.Kept.{Kept}
-use Rattle.world_laws.specs.Openings.{start_of, opened_world}
-use Rattle.world_laws.specs.Outcomes.{outcome_of}
-use Rattle.world_laws.specs.Worlds.{Turn}
-use Rattle.mptcp_run.specs.declared.report.Report.{Report}
-use Rattle.mptcp_run.specs.declared.rounds.Run.{Run}
-use Rattle.run_outside.specs.declared.status.Status.{Status}
-use Rattle.run_outside.specs.declared.status.Status.TheVariants.{Delivered, Put, Memory, Log}
-use Rattle.mptcp_run.specs.Courses.{CourseMade, CourseCut, LogStops}
-use Rattle.mptcp_run.specs.Ends.{CameToEnd, IsCut, ReplayEnds}
-use Rattle.run_outside.specs.Plan.{AddsAll, AddsShort, binds_of}
-use Rattle.run_outside.specs.Ports.{NeverFall, IsPortsFault, Ports}
-use Rattle.world_core.specs.RoundEnds.{round_ends}
-use Rattle.mptcp_run.specs.Putting.{opening_of, opening_in, status_of, ends_of, world_after, last_line, last_line_of}
-use Rattle.mptcp_run.specs.Replaying.{IsReplayFault}
-use Rattle.mptcp_run.specs.Rounds.{Begins, AtRound, IsOpened}
-use Rattle.mptcp_run.specs.Task.{Connection, Course, Task, task_with, task_from, first_world}
+use Rattle.mptcp_run.proofs.Words.{◌≡◌, refl, sym, ◌∙◌, ap, subst, ℕ, ◌+◌, List, [], length, Option, Line, Port, Input, Status, Delivered, Put, Memory, Log}
+use Rattle.mptcp_run.proofs.Words.{binds_of, AddsAll, AddsShort, IsPortsFault, Ports, NeverFall, Told, all_then, risen_later, Turn, outcome_of, opened_world}
+use Rattle.mptcp_run.proofs.Words.{start_of, round_ends, Kept, Begins, AtRound, IsOpened, Connection, Task, Course, first_world, task_from, task_with, Report}
+use Rattle.mptcp_run.proofs.Words.{CameToEnd, IsCut, ReplayEnds, opening_in, status_of, last_line_of, last_line, world_after, ends_of, opening_of}
+use Rattle.mptcp_run.proofs.Words.{IsReplayFault, CourseMade, CourseCut, LogStops, Run}
 use Rattle.mptcp_run.specs.Task as course
-use Rattle.run_outside.proofs.Calls.{Told, all_then}
 use Rattle.mptcp_run.proofs.Performing.{AreBound, LogGrew, LogGrewPart, rounds_held, line_put, line_done, line_short, rounds_short}
-use Rattle.run_outside.proofs.PortsLemmas.{risen_later}
 use Rattle.mptcp_run.proofs.UnderWay.{opened_begins}
 
 module _ (input : Input) (kind : Report) (run : Run) (h : IsOpened input kind run) where

@@ -1,16 +1,10 @@
 -- The next world of a run by threads.
-use Rattle.std.proofs.Common.{◌≡◌, refl, sym, ◌∙◌, ap, subst, ℕ, ◌-◌, Bool, true, false, not, Result, List, arith}
-use Rattle.std.specs.Prelude.{Ok, Err, IfOk, IfErr, OnOk}
-use Rattle.actor_desk.specs.Books.{StampedBooks}
-use Rattle.world_laws.specs.Actors.{ActorCrew}
-use Rattle.world_laws.specs.Fine.{IsFine}
+use Rattle.mptcp_run.proofs.Words.{◌≡◌, refl, sym, ◌∙◌, ap, subst, ℕ, Bool, true, false, not, List, arith, Result, ◌-◌, IfOk, StampedBooks, ActorCrew, greatest}
+use Rattle.mptcp_run.proofs.Words.{end_round, IsFine, Kept, IsInRoundAbove, IsSound, standing, world, Begins, Connection}
+use Rattle.std.specs.Prelude.{Ok, Err, IfErr, OnOk}
 use Rattle.world_laws.specs.Weaving as weaving
-use Rattle.world_laws.specs.Worlds.{end_round, greatest}
 use Rattle.journal_weave.specs.Rounds.{HaveTurned, WeavesTo}
-use Rattle.world_core.specs.Kept.{Kept, IsInRoundAbove, IsSound, standing, world}
 use Rattle.world_core.proofs.InRound.{steps_in_round}
-use Rattle.mptcp_run.specs.Rounds.{Begins}
-use Rattle.mptcp_run.specs.Task.{Connection}
 use Rattle.mptcp_run.specs.Threads.{GoesTo, IsWoven, has_order}
 use Rattle.mptcp_run.proofs.LogWoven.{steps_fine}
 use Rattle.mptcp_run.proofs.TurnsTimely.{each_timely}

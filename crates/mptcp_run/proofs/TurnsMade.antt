@@ -1,23 +1,9 @@
 -- The turns of a log, made and put one after the other.
-use Rattle.std.proofs.Common.{◌≡◌, refl, sym, ap, subst, ℕ, suc, ◌+◌, ◌≤◌, inl, inr, List, [], ◌∷◌, ◌++◌, length, Option, arith}
-use Rattle.outside_kit.specs.declared.port.Port.{Port}
-use Rattle.sides.specs.declared.side.Side.TheVariants.{A, B}
-use Rattle.path_core.specs.Octets.{octets}
-use Rattle.world_laws.specs.Outcomes.{output_of}
-use Rattle.world_core.specs.Kept.{Kept, standing}
-use Rattle.world_laws.specs.Worlds.{Turn, end_round, after_turn, IsLawfulTurn}
-use Rattle.run_outside.specs.declared.status.Status.{Status}
-use Rattle.run_outside.specs.declared.status.Status.TheVariants.{Put, Memory, Log}
+use Rattle.mptcp_run.proofs.Words.{◌≡◌, refl, sym, ap, subst, ℕ, ◌+◌, ◌≤◌, List, [], ◌∷◌, ◌++◌, length, Option, inl, inr, arith, suc, Port, A, B, octets}
+use Rattle.mptcp_run.proofs.Words.{Status, Put, Memory, Log, AddsAll, HoldsMore, Ports, IsBetween, Told, adds_none, cut_none, log_text, IsPrefix-refl, Turn}
+use Rattle.mptcp_run.proofs.Words.{end_round, after_turn, IsLawfulTurn, output_of, round_ends, last_end, steps_by_round, Kept, standing, HoldsEnds, HoldsPart}
+use Rattle.mptcp_run.proofs.Words.{Connection, TurnStops, last_after, rounds_after, TurnHolds, TurnCut}
 use Rattle.mptcp_run.specs.Adding.{turn_puts}
-use Rattle.run_outside.specs.Plan.{AddsAll}
-use Rattle.run_outside.specs.Ports.{HoldsMore, IsBetween, Ports}
-use Rattle.world_core.specs.RoundEnds.{round_ends, last_end, steps_by_round}
-use Rattle.run_outside.specs.LogText.{log_text}
-use Rattle.mptcp_run.specs.Replaying.{last_after, rounds_after, TurnHolds, TurnCut, TurnStops}
-use Rattle.mptcp_run.specs.Rounds.{HoldsEnds, HoldsPart}
-use Rattle.mptcp_run.specs.Task.{Connection}
-use Rattle.run_outside.proofs.Calls.{Told, adds_none, cut_none}
-use Rattle.run_outside.proofs.PortsLemmas.{IsPrefix-refl}
 use Rattle.mptcp_run.proofs.PutsMade.{puts_more, puts_cut_more, puts_cut}
 use Rattle.mptcp_run.proofs.RoundSteps.{nothing_part, nothing_ends, ends_more, part_behind}
 use Rattle.mptcp_run.proofs.Folding.{TurnsPut, TurnRefused, TurnsCut, TurnsFault}

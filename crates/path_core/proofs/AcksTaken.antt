@@ -1,12 +1,8 @@
 -- A copy that is taken acknowledges a position that was sent.
-use Rattle.std.proofs.Common.{◌≡◌, refl, sym, subst, inl, inr, ℕ, ◌≤◌, ◌&&◌, ◌==◌, Bool, true, false, nat_lt, if◌then◌else◌, unwrap_or, Option, Some, None, arith}
-use Rattle.subflow_tcp.specs.declared.handshake.State.{State}
-use Rattle.subflow_tcp.specs.declared.verdicts.Meaning.{Meaning}
-use Rattle.subflow_tcp.specs.Judging.{is_syn_alone, is_acceptable, is_repeated_syn, meaning_answer, meaning_answering, meaning_opening, meaning_outside, meaning_acknowledging, meaning_within, meaning_placed, meaning_connected, meaning_at}
-use Rattle.subflow_tcp.specs.Segments.{Copy}
-use Rattle.subflow_tcp.specs.State.{EndState, is_at_limit}
-use Rattle.subflow_tcp.specs.States.{is_half_open}
-use Rattle.path_core.specs.Arrival.{IsTakenAs}
+use Rattle.path_core.proofs.Words.{◌≡◌, inl, inr, refl, sym, subst, ℕ, ◌≤◌, ◌&&◌, nat_lt, Bool, true, false, if◌then◌else◌, Option, Some, None, arith, ◌==◌}
+use Rattle.path_core.proofs.Words.{unwrap_or, State, Meaning, is_syn_alone, is_acceptable, is_repeated_syn, meaning_answer, meaning_answering, meaning_opening}
+use Rattle.path_core.proofs.Words.{meaning_outside, meaning_acknowledging, meaning_within, meaning_placed, meaning_connected, meaning_at, Copy, EndState}
+use Rattle.path_core.proofs.Words.{is_at_limit, is_half_open, IsTakenAs}
 
 module _ (c : Copy) (s : EndState) where
   pub record IsSent (acknowledged : ℕ) : Type 0 where

@@ -1,27 +1,13 @@
 -- What a copy says names places below 2^62.
-use Rattle.std.proofs.Common.{◌≡◌, refl, ℕ, ◌^◌, nat_lt, nat_le, Bool, true, false, if◌then◌else◌, List, [], ◌∷◌, ◌++◌, Option, Some, None, All, map}
-use Rattle.std.specs.List.{flat_map}
-use Rattle.std.proofs.lemmas.Bool.{ltb-true, leb-true}
-use Rattle.std.proofs.lemmas.List.Elements.{All-nil, All-cons, All-append}
-use Rattle.sides.specs.declared.side.Side.{Side}
-use Rattle.sides.specs.declared.side.Side.TheVariants.{A, B}
+use Rattle.path_core.proofs.Words.{◌≡◌, refl, ℕ, nat_le, nat_lt, Bool, true, false, if◌then◌else◌, Option, Some, None, List, [], ◌∷◌, ◌++◌, map, ◌^◌, All}
+use Rattle.path_core.proofs.Words.{flat_map, ltb-true, leb-true, All-nil, All-cons, All-append, Side, A, B, JoinForm, Answer, Third, CapableKeys, NoKey, Sender}
+use Rattle.path_core.proofs.Words.{Both, WithData, Capable, Join, Dss, AddAddr, Remove, Prio, Fail, FastClose, Reset, PathMapping, Bytes, End, Infinite, Heard}
+use Rattle.path_core.proofs.Words.{IsFair, HeardOption, is_mapping, mapping_items, ack_items, data_fin_items, infinite_items, map_items, first_items, key_items}
+use Rattle.path_core.proofs.Words.{join_items, item_removed, address_items, items_in}
 use Rattle.dss_mapping.specs.Mappings.{octets_in}
-use Rattle.mptcp_options.specs.declared.join.JoinForm.{JoinForm}
-use Rattle.mptcp_options.specs.declared.join.JoinForm.TheVariants.{Syn, Answer, Third}
-use Rattle.mptcp_options.specs.declared.capable.CapableKeys.{CapableKeys}
-use Rattle.mptcp_options.specs.declared.capable.CapableKeys.TheVariants.{NoKey, Sender, Both, WithData}
-use Rattle.path_segments.specs.declared.segment.PathOption.TheVariants.{Capable, Join, Dss, AddAddr, Remove, Prio, Fail, FastClose, Reset}
-use Rattle.path_segments.specs.declared.segment.PathMapping.{PathMapping}
-use Rattle.path_segments.specs.declared.segment.PathMapping.TheVariants.{Bytes, End, Infinite}
+use Rattle.mptcp_options.specs.declared.join.JoinForm.TheVariants.{Syn}
 use Rattle.key_material.specs.declared.address.Address.{Address}
-use Rattle.path_agenda.specs.declared.heard.Heard.{Heard}
 use Rattle.path_agenda.specs.declared.notice.PeerNotice.{PeerNotice}
-use Rattle.path_core.specs.DssIn.{HeardOption, is_mapping, mapping_items, ack_items, data_fin_items, infinite_items, map_items, first_items}
-use Rattle.path_core.specs.MpCapable.{key_items}
-use Rattle.path_core.specs.MpJoin.{join_items}
-use Rattle.path_core.specs.Addresses.{address_items, item_removed}
-use Rattle.path_core.specs.OptionsIn.{items_in}
-use Rattle.path_agenda.specs.Items.{IsFair}
 
 fair_ack : (next : Option (Option ℕ)) (window : ℕ) → All IsFair (ack_items next window)
 fair_ack None window = All-nil IsFair

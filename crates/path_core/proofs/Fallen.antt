@@ -1,16 +1,7 @@
 -- What is to be done after a verdict: the send book is told of a fall, a path is broken, or the duty is done.
-use Rattle.std.proofs.Common.{ℕ, Bool, true, false, List}
-use Rattle.sides.specs.declared.side.Side.{Side}
+use Rattle.path_core.proofs.Words.{ℕ, Bool, true, false, List, Verdict, Side, ControlReply, resets, breaks, replaced, Duty, AskDuty, Reply, fell_duties}
+use Rattle.path_core.proofs.Words.{breaks_by, PathState, end_at, left}
 use Rattle.fallback_state.specs.declared.fall.Mode.TheVariants.{Starting, Sure, Identity, InfiniteSend, InfiniteReceive, InfiniteBoth, Aborted}
-use Rattle.fallback_state.specs.declared.fall.Verdict.{Verdict}
-use Rattle.control_book.specs.declared.call.ControlReply.{ControlReply}
-use Rattle.actor_desk.specs.declared.ask.Reply.{Reply}
-use Rattle.path_agenda.specs.Agenda.{breaks, resets}
-use Rattle.path_agenda.specs.Words.{replaced}
-use Rattle.path_agenda.specs.declared.duty.Duty.{Duty}
-use Rattle.path_agenda.specs.declared.duty.AskDuty.{AskDuty}
-use Rattle.path_core.specs.Fallback.{breaks_by, fell_duties}
-use Rattle.path_core.specs.State.{PathState, end_at, left}
 
 broken_so : (P : List Duty → Type 0) (asked : Bool) (s : Side) (reason : ℕ) → P (breaks s reason) → P (resets s reason)
     → P (breaks_by asked s reason)

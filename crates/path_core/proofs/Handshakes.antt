@@ -1,17 +1,13 @@
 -- MP_CAPABLE at a path is that of the handshake.
-use Rattle.std.proofs.Common.{◌≡◌, ◌≢◌, refl, sym, ap, subst, ℕ, [], ◌∷◌, Option, Bool, true, false, Some, None, if◌then◌else◌, ◌||◌, ◌==◌, arith}
+use Rattle.path_core.proofs.Words.{◌≡◌, refl, sym, ap, subst, ℕ, ◌||◌, Bool, true, false, if◌then◌else◌, Option, Some, None, [], ◌∷◌, arith, ◌==◌, ◌≢◌}
+use Rattle.path_core.proofs.Words.{CapableKeys, NoKey, Sender, Both, WithData, ControlReply, Capable, Profile}
 use Rattle.control_book.specs.Control.{Control}
 use Rattle.control_book.specs.Replies.{reply_to}
 use Rattle.control_book.specs.declared.call.ControlCall.{ControlCall}
-use Rattle.control_book.specs.declared.call.ControlReply.{ControlReply}
-use Rattle.mptcp_options.specs.declared.capable.CapableKeys.{CapableKeys}
-use Rattle.mptcp_options.specs.declared.capable.CapableKeys.TheVariants.{NoKey, Sender, Both, WithData}
 use Rattle.mptcp_options.specs.Value as wire
 use Rattle.capable_handshake.specs.Said.{first_data_option}
-use Rattle.path_segments.specs.declared.segment.PathOption.TheVariants.{Capable}
 use Rattle.path_core.specs.Handshakes.{CapableIsHeard, ChecksumsAreThose, KeysAreConfirmed, CapableIsTheHandshake}
 use Rattle.path_core.specs.Unnumbered.{unnumbered}
-use Rattle.path_core.specs.Profile.{Profile}
 
 -- the first data says flag A where its mapping has a checksum, and that is where checksums are used
 pub first_is_said : (checksums : Bool) (own peer len checksum : ℕ)

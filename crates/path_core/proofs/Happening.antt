@@ -1,36 +1,21 @@
 -- Events: ticks pass, or one event less is due.
-use Rattle.std.proofs.Common.{◌≡◌, refl, ℕ, ◌+◌, ◌<◌, ◌≤◌, ◌⊎◌, inl, inr, ⊎_elim, max, nat_le, nat_lt, Bool, true, false, if◌then◌else◌, List, [], ◌∷◌, length, Option, Some, None, is_some, option_and_then, position, subst, arith}
-use Rattle.std.proofs.lemmas.Bool.{cases_lt, ltb-true, leb-false, eq-eqb, lt-ltb}
-use Rattle.path_segments.specs.Heard.{HeardSegment}
-use Rattle.sides.specs.declared.side.Side.{Side}
-use Rattle.sides.specs.declared.side.Side.TheVariants.{A, B}
+use Rattle.path_core.proofs.Words.{◌≡◌, ◌⊎◌, inl, inr, refl, subst, ℕ, ◌+◌, ◌<◌, ◌≤◌, nat_le, nat_lt, Bool, true, false, if◌then◌else◌, Option, Some, None}
+use Rattle.path_core.proofs.Words.{List, [], ◌∷◌, length, arith, is_some, ⊎_elim, position, max, option_and_then, cases_lt, ltb-true, leb-false, eq-eqb, lt-ltb}
+use Rattle.path_core.proofs.Words.{Side, A, B, EndPhase, is_dead, after_arrival, is_due, next_due, arriving, after_delivery, without, due_of, Flight}
+use Rattle.path_core.proofs.Words.{HeardSegment, emission, announces, withdraws, leaves, Reply, tail_of, Then, Less, copy_of, judged_in, after_judged}
+use Rattle.path_core.proofs.Words.{template_of, told_at, copy_heard, with_payload, copy_taken, never_joined, is_never, keys_begun, opened_by, is_joined}
+use Rattle.path_core.proofs.Words.{joins_at_tick, with_priority, options_heard, hint_of, items_of, owes_by, at_tick, PathState, end_at, goes_on, taken_as}
+use Rattle.path_core.proofs.Words.{PathEnd, died, Codec, TakesTime, tick_of, next_join, next_line, next_copy, earlier, earliest, before, next_event, after_line}
+use Rattle.path_core.proofs.Words.{line_taken, happens, happens_if, CanHappen, died_unless_dead, ticks_left, one_if_due, due_copies, due_timer, due_by_now}
+use Rattle.path_core.proofs.Words.{due_lines}
 use Rattle.link_script.specs.Places.{same_side}
-use Rattle.link_model.specs.declared.flight.Flight.{Flight}
-use Rattle.link_model.specs.Steps.{due_of, is_due, without, next_due, arriving, after_delivery}
-use Rattle.subflow_tcp.specs.States.{is_dead, is_waiting}
-use Rattle.subflow_tcp.specs.declared.handshake.State.{State as EndPhase}
-use Rattle.subflow_tcp.specs.Taking.{after_arrival}
-use Rattle.path_core.specs.OptionsIn.{options_heard, hint_of, items_of, owes_by}
-use Rattle.path_core.specs.Arrival.{copy_of, with_payload, judged_in, after_judged, template_of, told_at, copy_heard, heard_in, copy_taken}
-use Rattle.path_core.specs.Judged.{taken_as}
-use Rattle.path_core.specs.MpJoin.{is_never, keys_begun, opened_by, is_joined, never_joined, joins_at_tick}
+use Rattle.subflow_tcp.specs.States.{is_waiting}
+use Rattle.path_core.specs.Arrival.{heard_in}
 use Rattle.path_core.proofs.Joined.{never_rests, opened_rests}
-use Rattle.actor_desk.specs.declared.ask.Reply.{Reply}
-use Rattle.path_agenda.specs.Agenda.{emission, announces, withdraws, leaves}
-use Rattle.path_core.specs.Codec.{Codec}
-use Rattle.path_core.specs.End.{PathEnd, died}
-use Rattle.path_core.specs.Events.{tick_of, next_join, next_line, next_copy, earlier, earliest, before, next_event, after_line, line_taken, happens, happens_if, CanHappen}
 use Rattle.path_core.specs.Timer.{next_fire, timer_fired}
-use Rattle.path_core.specs.Breaking.{died_unless_dead}
-use Rattle.path_core.specs.Addresses.{with_priority}
-use Rattle.path_core.specs.State.{at_tick, PathState, end_at, goes_on}
 use Rattle.path_core.specs.declared.events.Event.{Event}
-use Rattle.path_core.specs.Ranks.{ticks_left, one_if_due, due_copies, due_lines, due_timer, due_by_now}
 use Rattle.path_store.specs.declared.lines.LineLeft.{LineLeft}
 use Rattle.path_store.specs.declared.lines.LineAction.{LineAction}
-use Rattle.path_core.specs.Turns.{TakesTime}
-use Rattle.actor_desk.specs.Words.{tail_of}
-use Rattle.actor_desk.proofs.Falling.{Then, Less}
 use Rattle.path_core.proofs.Ranking.{Rests, same_rests, Calm, goes_calm, agenda_calm, Lower, Lowers}
 use Rattle.path_core.proofs.Resting.{to_rests, held_settles, owing_settles, fired_rests}
 

@@ -1,28 +1,15 @@
 -- What a reply of the asked kind, within bounds, gives the rules.
-use Rattle.std.proofs.Common.{◌≡◌, ℕ, ◌≤◌, subst, false, is_some, Option, Some, None, List, [], ◌∷◌, arith}
+use Rattle.path_core.proofs.Words.{◌≡◌, subst, ℕ, ◌≤◌, false, Option, Some, None, List, [], ◌∷◌, arith, is_some, Side, ControlReply, Record, first_of, Duty}
+use Rattle.path_core.proofs.Words.{AskDuty, StepDuty, Reply, Ask, IsOfKind, octets, PathState, end_at, ask_for, asks_first, first_unsent, grant_ask, data_ask}
+use Rattle.path_core.proofs.Words.{grant_in}
 use Rattle.std.specs.Prelude.{All}
-use Rattle.sides.specs.declared.side.Side.{Side}
 use Rattle.send_book.specs.declared.call.SendReply.{SendReply}
-use Rattle.subflow_send.specs.Records.{Record}
-use Rattle.path_agenda.specs.declared.duty.Duty.{Duty}
-use Rattle.path_agenda.specs.declared.duty.AskDuty.{AskDuty}
-use Rattle.path_agenda.specs.declared.duty.StepDuty.{StepDuty}
-use Rattle.path_agenda.specs.Words.{first_of}
 use Rattle.reassembly_book.specs.declared.call.ReassemblyReply.{ReassemblyReply}
 use Rattle.control_book.specs.declared.call.ControlCall.{ControlCall}
-use Rattle.control_book.specs.declared.call.ControlReply.{ControlReply}
-use Rattle.actor_desk.specs.declared.ask.Ask.{Ask}
-use Rattle.actor_desk.specs.declared.ask.Reply.{Reply}
 use Rattle.linked_increase.specs.declared.rows.Row.{Row}
 use Rattle.linked_increase.specs.Paths.{IsInRange}
-use Rattle.actor_desk.specs.Kinds.{IsOfKind}
 use Rattle.actor_desk.specs.Bounds.{IsBounded, TakesReply}
 use Rattle.path_core.specs.Replies.{IsAckBounded, AreRowsInRange, IsGrantSendable, IsGrantFit}
-use Rattle.path_core.specs.Duties.{ask_for}
-use Rattle.path_core.specs.Emission.{first_unsent, grant_ask, grant_in, data_ask}
-use Rattle.path_core.specs.Octets.{octets}
-use Rattle.path_core.specs.State.{PathState, end_at}
-use Rattle.path_core.specs.Steps.{asks_first}
 
 pub acks_bounded : (x : Option Ask) (r : Reply) → TakesReply x r → IsAckBounded r
 acks_bounded None r takes = absurd takes

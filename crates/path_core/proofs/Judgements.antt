@@ -1,15 +1,6 @@
 -- What a copy is taken as: what it means, or nothing.
-use Rattle.std.proofs.Common.{◌≡◌, inl, inr, subst, Bool, true, false, if◌then◌else◌, List, is_some}
-use Rattle.subflow_tcp.specs.Judging.{meaning_of}
-use Rattle.subflow_tcp.specs.Segments.{Copy}
-use Rattle.subflow_tcp.specs.State.{EndState}
-use Rattle.subflow_tcp.specs.declared.verdicts.Meaning.{Meaning}
-use Rattle.path_agenda.specs.declared.heard.Heard.{Heard}
-use Rattle.path_core.specs.Judged.{is_ignored, is_passed_over, is_forged, join_judged, judged_of, taken_as}
-use Rattle.path_core.specs.Arrival.{IsTakenAs}
-use Rattle.path_core.specs.End.{PathEnd}
-use Rattle.path_core.specs.MpJoin.{join_asked, join_answer}
-use Rattle.path_core.specs.declared.judged.Judged.{Judged}
+use Rattle.path_core.proofs.Words.{◌≡◌, inl, inr, subst, Bool, true, false, if◌then◌else◌, List, is_some, Meaning, meaning_of, Copy, EndState, Heard, IsTakenAs}
+use Rattle.path_core.proofs.Words.{join_asked, join_answer, Judged, is_ignored, is_passed_over, is_forged, join_judged, judged_of, taken_as, PathEnd}
 
 -- what isn't taken as nothing is taken as what it means
 pub taken_for : (m : Meaning) (c : Copy) (s : EndState) → IsTakenAs m c s → is_ignored m ≡ false → m ≡ meaning_of c s

@@ -1,65 +1,32 @@
 -- Each reply of the asked kind lowers the numbers of a turn.
-use Rattle.std.proofs.Common.{◌≡◌, refl, ap, subst, ℕ, ◌+◌, ◌-◌, ◌<◌, ◌≤◌, ◌&&◌, not, nat_lt, is_some, Bool, true, false, if◌then◌else◌, List, [], ◌∷◌, length, Option, Some, None, arith}
-use Rattle.std.proofs.lemmas.Bool.{leb-true, ltb-true}
-use Rattle.sides.specs.declared.side.Side.{Side}
-use Rattle.sides.specs.declared.side.Side.TheVariants.{A, B}
-use Rattle.path_segments.specs.Spelled.{PlainSegment}
+use Rattle.path_core.proofs.Words.{◌≡◌, refl, ap, subst, ℕ, ◌+◌, ◌-◌, ◌<◌, ◌≤◌, ◌&&◌, nat_lt, Bool, true, false, if◌then◌else◌, Option, Some, None, List, []}
+use Rattle.path_core.proofs.Words.{◌∷◌, length, arith, is_some, not, ltb-true, leb-true, Side, A, B, JoinSyn, SendCall, filled, Record, EndState, may_finish}
+use Rattle.path_core.proofs.Words.{Occasion, PlainSegment, Piece, some_piece, InfiniteMapping, Heard, key_heard, keys_heard, leaves, resets, breaks, stops}
+use Rattle.path_core.proofs.Words.{replaced, Duty, AskDuty, StepDuty, KeyPair, SendDuty, SilentDuty, weight, weights, OwnNotice, Reply, is_nil, tail_of, Then}
+use Rattle.path_core.proofs.Words.{Ask, IsOfKind, IsSomeOf, with_learned, is_clash, with_data_fin, is_acked, told_next, with_acked, answered_mapping}
+use Rattle.path_core.proofs.Words.{syn_ack_of, with_peer_key, answered_peer_key, after_keys, answered_opened, never_joined, join_begun, with_mode_refused}
+use Rattle.path_core.proofs.Words.{is_never, keys_begun, opened_by, joined_by, asked_at, join_taken, is_note_due, note_of, having_noted, answered_note}
+use Rattle.path_core.proofs.Words.{after_peer_notice, after_fell, fell_duties, answered_fell, in_identity, after_check_failed, answered_check_failed}
+use Rattle.path_core.proofs.Words.{is_infinite_receive, after_infinite, answered_infinite, may_go_infinite, with_infinite, book_answered, is_infinite_send}
+use Rattle.path_core.proofs.Words.{after_fail_heard, answered_fail_heard, breaks_by_ack, with_plain_ack, answered_plain_ack, with_plain_acked, PathState}
+use Rattle.path_core.proofs.Words.{end_at, with_agenda, goes_on, left, path_of, PathEnd, died, Profile, Codec, stands, ask_for, answered, data_fin_segment}
+use Rattle.path_core.proofs.Words.{having_sent_data_fin, fin_segment_of, having_sent_fin, is_fin_set, with_peer_data_fin, answered_fin_heard, with_fin_told}
+use Rattle.path_core.proofs.Words.{answered_plain_fin, first_unsent, unsent_segment, having_sent_unsent, may_ask, data_stands, payload_size, grant_ask}
+use Rattle.path_core.proofs.Words.{data_ask, Grant, grant_in, granted, refused, answered_grant, answered_data, first_segment, answer_occasion, answer_of}
+use Rattle.path_core.proofs.Words.{dead_answer, resend_occasion, resend_of, TakesTime, refusal_of, reset_of, reset_on, answered_break, work, having_asked}
+use Rattle.path_core.proofs.Words.{piece_of, is_placed, placed, answered_piece, plain_piece, infinite_piece, piece_by, mapping_here, next_piece, after_piece}
+use Rattle.path_core.proofs.Words.{after_rate, having_sent, sent_on, may_note, after_look, after_ack_out, answered_ack_out, ack_segment, acknowledges, item_of}
+use Rattle.path_core.proofs.Words.{answered_item}
 use Rattle.send_book.specs.declared.call.SendReply.{SendReply}
-use Rattle.subflow_send.specs.Records.{Record}
 use Rattle.subflow_send.specs.declared.record.RecordKind.TheVariants.{Data}
 use Rattle.subflow_send.specs.Sendings.{never_sent}
 use Rattle.subflow_tcp.specs.Sizes.{room}
-use Rattle.subflow_tcp.specs.States.{may_finish}
-use Rattle.subflow_tcp.specs.declared.segments.Occasion.{Occasion}
-use Rattle.send_book.specs.declared.call.SendCall.{SendCall}
-use Rattle.actor_desk.specs.declared.ask.Ask.{Ask}
-use Rattle.actor_desk.specs.declared.ask.Reply.{Reply}
-use Rattle.path_agenda.specs.declared.duty.Duty.{Duty}
-use Rattle.path_agenda.specs.declared.duty.AskDuty.{AskDuty}
-use Rattle.path_agenda.specs.declared.duty.SendDuty.{SendDuty}
-use Rattle.path_agenda.specs.declared.duty.SilentDuty.{SilentDuty}
-use Rattle.path_agenda.specs.declared.duty.StepDuty.{StepDuty}
-use Rattle.path_agenda.specs.declared.heard.Heard.{Heard}
-use Rattle.path_agenda.specs.Agenda.{breaks, resets, leaves, stops}
-use Rattle.path_core.specs.Breaking.{reset_of, reset_on, answered_break, refusal_of}
-use Rattle.path_core.specs.Codec.{Codec}
 use Rattle.path_core.specs.FastClose.{fast_close_of, having_fast_closed, is_stopped_by}
-use Rattle.path_core.specs.Addresses.{is_note_due, note_of, having_noted, answered_note, after_peer_notice}
-use Rattle.path_core.specs.Duties.{stands, ask_for, answered}
-use Rattle.path_core.specs.Emission.{first_unsent, unsent_segment, having_sent_unsent, may_ask, data_stands, payload_size, grant_ask, data_ask, Grant, grant_in, granted, refused, answered_grant, answered_data, first_segment, answer_occasion, answer_of, dead_answer, resend_occasion, resend_of}
-use Rattle.path_core.specs.DataFin.{data_fin_segment, having_sent_data_fin, fin_segment_of, having_sent_fin, is_fin_set, with_peer_data_fin, answered_fin_heard, with_fin_told, answered_plain_fin}
-use Rattle.path_core.specs.End.{PathEnd, died}
-use Rattle.path_core.specs.MpJoin.{never_joined, join_begun, with_mode_refused, is_never, keys_begun, opened_by, joined_by, asked_at, join_taken}
-use Rattle.path_agenda.specs.declared.keys.KeyPair.{KeyPair}
-use Rattle.join_handshake.specs.declared.hearing.JoinSyn.{JoinSyn}
 use Rattle.path_core.proofs.Joined.{never_rests, opened_rests, joined_rests}
-use Rattle.actor_desk.specs.Kinds.{IsOfKind, IsSomeOf}
-use Rattle.path_agenda.specs.Items.{key_heard, keys_heard}
 use Rattle.fallback_state.specs.declared.fall.Event.{Event}
-use Rattle.path_core.specs.Fallback.{after_fell, fell_duties, answered_fell, in_identity, after_check_failed, answered_check_failed, is_infinite_receive, after_infinite, answered_infinite, may_go_infinite, with_infinite, book_answered, is_infinite_send, after_fail_heard, answered_fail_heard, breaks_by_ack, with_plain_ack, answered_plain_ack, with_plain_acked}
-use Rattle.path_core.specs.MpCapable.{syn_ack_of, with_peer_key, answered_peer_key, after_keys, answered_opened}
-use Rattle.path_core.specs.Deliver.{having_asked, piece_of, is_placed, placed, answered_piece, plain_piece, infinite_piece, piece_by, mapping_here, next_piece, after_piece}
-use Rattle.path_core.specs.Rate.{after_rate}
 use Rattle.path_core.specs.Deliver as passing
-use Rattle.path_store.specs.Passing.{Piece, some_piece}
 use Rattle.path_store.specs.InfiniteMappings.{covers}
-use Rattle.path_store.specs.declared.infinite_mapping.InfiniteMapping.{InfiniteMapping}
-use Rattle.subflow_recv.specs.Receiving.{filled}
-use Rattle.subflow_tcp.specs.State.{EndState}
-use Rattle.path_agenda.specs.Weights.{weight, weights}
-use Rattle.path_core.specs.Ranks.{work}
-use Rattle.path_core.specs.Handover.{having_sent, sent_on}
-use Rattle.path_core.specs.Standing.{may_note, after_look, after_ack_out, answered_ack_out, ack_segment, acknowledges}
 use Rattle.path_core.specs.DssOut.{mapping_of}
-use Rattle.path_core.specs.State.{PathState, end_at, with_agenda, goes_on, left, path_of}
-use Rattle.path_core.specs.Profile.{Profile}
-use Rattle.path_core.specs.DssIn.{is_clash, is_acked, told_next, with_acked, answered_mapping, with_data_fin, with_learned}
-use Rattle.path_core.specs.Treating.{answered_item, item_of}
-use Rattle.path_core.specs.Turns.{TakesTime}
-use Rattle.path_agenda.specs.Words.{replaced}
-use Rattle.path_agenda.specs.declared.notice.OwnNotice.{OwnNotice}
-use Rattle.actor_desk.specs.Words.{is_nil, tail_of}
-use Rattle.actor_desk.proofs.Falling.{Then}
 use Rattle.path_core.proofs.Happening.{event_lowers}
 use Rattle.path_core.proofs.Ranking.{Rests, same_rests, goes_calm, sent_calm, agenda_calm, Lowers, lowers}
 use Rattle.path_core.proofs.Resting.{sent_same, check_failed_same, sending_same, receiving_same}

@@ -1,22 +1,12 @@
 -- The mappings that a copy says lie within the places, and the one at the edge begins there or before.
-use Rattle.std.proofs.Common.{◌≡◌, refl, ℕ, ◌+◌, ◌^◌, ◌≤◌, nat_lt, nat_le, ◌&&◌, Bool, true, false, if◌then◌else◌, List, [], ◌∷◌, Option, Some, None, All, IfSome, find, cond}
-use Rattle.std.specs.List.{flat_map}
-use Rattle.std.proofs.lemmas.Bool.{leb-true}
-use Rattle.std.proofs.lemmas.List.Elements.{All-nil, All-cons, All-append}
-use Rattle.sides.specs.declared.side.Side.{Side}
-use Rattle.sides.specs.declared.side.Side.TheVariants.{A, B}
-use Rattle.dss_mapping.specs.declared.kept.KeptMapping.{KeptMapping}
+use Rattle.path_core.proofs.Words.{◌≡◌, refl, ℕ, ◌+◌, ◌≤◌, ◌&&◌, nat_le, nat_lt, Bool, true, false, if◌then◌else◌, Option, Some, None, List, [], ◌∷◌, ◌^◌, All}
+use Rattle.path_core.proofs.Words.{cond, find, flat_map, leb-true, All-nil, All-cons, All-append, Side, A, B, CapableKeys, NoKey, Sender, Both, WithData}
+use Rattle.path_core.proofs.Words.{KeptMapping, Capable, Join, Dss, AddAddr, Remove, Prio, Fail, FastClose, Reset, PathMapping, Bytes, End, Infinite}
+use Rattle.path_core.proofs.Words.{HeardOption, held_in, checksum_heard, held_if, key_held, map_held, kept_of, is_joined, Profile}
+use Rattle.std.proofs.Common.{IfSome}
 use Rattle.dss_mapping.specs.Learning.{IsWithin}
 use Rattle.dss_mapping.specs.Mappings.{Mappings, mapping_at, octets_in, run_of}
 use Rattle.dss_mapping.specs.Runs.{covers}
-use Rattle.mptcp_options.specs.declared.capable.CapableKeys.{CapableKeys}
-use Rattle.mptcp_options.specs.declared.capable.CapableKeys.TheVariants.{NoKey, Sender, Both, WithData}
-use Rattle.path_segments.specs.declared.segment.PathOption.TheVariants.{Capable, Join, Dss, AddAddr, Remove, Prio, Fail, FastClose, Reset}
-use Rattle.path_segments.specs.declared.segment.PathMapping.{PathMapping}
-use Rattle.path_segments.specs.declared.segment.PathMapping.TheVariants.{Bytes, End, Infinite}
-use Rattle.path_core.specs.DssIn.{HeardOption, checksum_heard, held_if, key_held, map_held, held_in, kept_of}
-use Rattle.path_core.specs.MpJoin.{is_joined}
-use Rattle.path_core.specs.Profile.{Profile}
 
 -- ---- the mapping at the edge
 

@@ -1,13 +1,8 @@
 -- What is held doesn't change what a copy means.
-use Rattle.std.proofs.Common.{◌≡◌, refl, sym, ap, ◌∙◌, inl, inr, ℕ, ◌==◌, Bool, true, false, if◌then◌else◌, Option, Some, None, List}
-use Rattle.actor_desk.specs.Words.{is_nil}
-use Rattle.subflow_tcp.specs.declared.handshake.State.{State}
-use Rattle.subflow_tcp.specs.declared.verdicts.Meaning.{Meaning}
-use Rattle.subflow_tcp.specs.Judging.{is_acceptable, is_repeated_syn, meaning_answering, meaning_opening, meaning_outside, meaning_acknowledging, meaning_within, meaning_placed, meaning_connected, meaning_at, meaning_of}
-use Rattle.subflow_tcp.specs.Segments.{Copy}
-use Rattle.subflow_tcp.specs.State.{EndState, is_at_limit}
-use Rattle.subflow_tcp.specs.Taking.{after_holding}
-use Rattle.path_core.specs.Arrival.{IsTakenAs, with_payload}
+use Rattle.path_core.proofs.Words.{◌≡◌, inl, inr, refl, sym, ap, ◌∙◌, ℕ, Bool, true, false, if◌then◌else◌, Option, Some, None, List, ◌==◌, State, Meaning}
+use Rattle.path_core.proofs.Words.{is_acceptable, is_repeated_syn, meaning_answering, meaning_opening, meaning_outside, meaning_acknowledging, meaning_within}
+use Rattle.path_core.proofs.Words.{meaning_placed, meaning_connected, meaning_at, meaning_of, Copy, EndState, is_at_limit, after_holding, is_nil, IsTakenAs}
+use Rattle.path_core.proofs.Words.{with_payload}
 
 module _ (position : ℕ) (octets : List ℕ) (s : EndState) where
   abbrev held : EndState

@@ -1,25 +1,11 @@
 -- Duties that are passed: the first two numbers don't rise, and the third falls.
-use Rattle.std.proofs.Common.{◌≡◌, refl, ap, ◌<◌, ◌≤◌, ◌⊎◌, inl, inr, ◌||◌, Bool, true, false, if◌then◌else◌, List, [], ◌∷◌, arith}
-use Rattle.sides.specs.declared.side.Side.{Side}
-use Rattle.sides.specs.declared.side.Side.TheVariants.{A, B}
+use Rattle.path_core.proofs.Words.{◌≡◌, ◌⊎◌, inl, inr, refl, ap, ◌<◌, ◌≤◌, ◌||◌, Bool, true, false, if◌then◌else◌, List, [], ◌∷◌, arith, Side, A, B, Duty}
+use Rattle.path_core.proofs.Words.{AskDuty, StepDuty, SendDuty, SilentDuty, weights, with_plain_ack, PathState, end_at, with_agenda, with_end, PathEnd, stands}
+use Rattle.path_core.proofs.Words.{passed, settled, after_pass_fin, TakesTime, mapping_here, after_keep, after_check, after_pieces, item_of, item_passed}
 use Rattle.subflow_tcp.specs.Closing.{is_fin_next}
 use Rattle.subflow_tcp.specs.Expiring.{is_timed}
-use Rattle.path_agenda.specs.declared.duty.Duty.{Duty}
-use Rattle.path_agenda.specs.declared.duty.AskDuty.{AskDuty}
-use Rattle.path_agenda.specs.declared.duty.SendDuty.{SendDuty}
-use Rattle.path_agenda.specs.declared.duty.SilentDuty.{SilentDuty}
-use Rattle.path_agenda.specs.declared.duty.StepDuty.{StepDuty}
-use Rattle.path_core.specs.DataFin.{is_waiting, after_pass_fin}
-use Rattle.path_core.specs.Duties.{stands, passed}
+use Rattle.path_core.specs.DataFin.{is_waiting}
 use Rattle.path_core.specs.Timer.{after_timer}
-use Rattle.path_core.specs.End.{PathEnd}
-use Rattle.path_core.specs.Deliver.{mapping_here, after_check, after_pieces, after_keep}
-use Rattle.path_agenda.specs.Weights.{weights}
-use Rattle.path_core.specs.State.{PathState, end_at, with_end, with_agenda}
-use Rattle.path_core.specs.Steps.{settled}
-use Rattle.path_core.specs.Treating.{item_of, item_passed}
-use Rattle.path_core.specs.Fallback.{with_plain_ack}
-use Rattle.path_core.specs.Turns.{TakesTime}
 use Rattle.path_core.proofs.Ranking.{Rests, same_rests, Calm}
 use Rattle.path_core.proofs.Resting.{to_rests, item_same, keep_same, check_same, pass_fin_same, settled_settles}
 

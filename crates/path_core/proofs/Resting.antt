@@ -1,37 +1,23 @@
 -- Which changes of an end leave its timer at rest: none that is due is set, and the timeout takes time.
-use Rattle.std.proofs.Common.{◌≡◌, refl, ap, ◌∙◌, subst, ℕ, ◌+◌, ◌*◌, ◌≤◌, min, Bool, true, false, if◌then◌else◌, ◌||◌, is_none, Option, Some, None, List, [], ◌∷◌, arith}
-use Rattle.sides.specs.declared.side.Side.{Side}
+use Rattle.path_core.proofs.Words.{◌≡◌, refl, ap, subst, ◌∙◌, ℕ, ◌+◌, ◌*◌, ◌≤◌, ◌||◌, Bool, true, false, if◌then◌else◌, Option, Some, None, List, [], ◌∷◌}
+use Rattle.path_core.proofs.Words.{arith, is_none, min, Verdict, Side, ControlReply, KeptMapping, after_forget_from, Meaning, Copy, EndState, after_arrival}
+use Rattle.path_core.proofs.Words.{after_payload, after_hearing, after_established, after_acknowledgement, after_ack_kind, is_duplicate, told_by}
+use Rattle.path_core.proofs.Words.{after_duplicate, after_interruption, after_death, after_keeping_held, after_dropping_held, Occasion, InfiniteMapping, Heard}
+use Rattle.path_core.proofs.Words.{Reply, with_payload, owing_if, with_learned, with_data_fin, with_skipped, counts, after_fell, after_check_failed}
+use Rattle.path_core.proofs.Words.{with_failure, receiving_infinite, sending_infinite, PathEnd, one_if_due, due_timer, mapping_here, after_keep, is_wrong}
+use Rattle.path_core.proofs.Words.{forgotten_by, failing_by, is_dropped, item_passed}
 use Rattle.rtt_timer.specs.Timer.{Timer}
 use Rattle.loss_recovery.specs.declared.timers.Timing.{Timing}
 use Rattle.loss_recovery.specs.Timers as timers
-use Rattle.dss_mapping.specs.declared.kept.KeptMapping.{KeptMapping}
 use Rattle.subflow_send.specs.declared.record.AckKind.{AckKind}
 use Rattle.subflow_send.specs.declared.record.AckKind.TheVariants.{New, Duplicate, Old, Future}
 use Rattle.subflow_send.specs.Rules.{ack_kind, sample_of, after_acknowledge}
-use Rattle.subflow_recv.specs.Receiving.{after_forget_from}
 use Rattle.subflow_tcp.specs.declared.handshake.State.TheVariants.{Established}
 use Rattle.subflow_tcp.specs.declared.segments.Hint.{Hint}
-use Rattle.subflow_tcp.specs.declared.segments.Occasion.{Occasion}
-use Rattle.subflow_tcp.specs.declared.verdicts.Meaning.{Meaning}
 use Rattle.subflow_tcp.specs.Closing.{after_passing_fin}
 use Rattle.subflow_tcp.specs.Emitting.{after_sending}
 use Rattle.subflow_tcp.specs.Expiring.{is_sixth, after_fire, after_expiry}
-use Rattle.subflow_tcp.specs.Segments.{Copy}
-use Rattle.subflow_tcp.specs.State.{EndState}
-use Rattle.subflow_tcp.specs.Taking.{after_arrival, after_payload, after_hearing, after_established, after_acknowledgement, after_ack_kind, is_duplicate, told_by, after_duplicate, after_interruption, after_death, after_keeping_held, after_dropping_held}
-use Rattle.path_core.specs.Arrival.{owing_if, with_payload}
-use Rattle.path_agenda.specs.declared.heard.Heard.{Heard}
-use Rattle.path_core.specs.End.{PathEnd}
-use Rattle.control_book.specs.declared.call.ControlReply.{ControlReply}
 use Rattle.fallback_state.specs.declared.fall.Event.{Event}
-use Rattle.fallback_state.specs.declared.fall.Verdict.{Verdict}
-use Rattle.actor_desk.specs.declared.ask.Reply.{Reply}
-use Rattle.path_core.specs.Deliver.{is_wrong, forgotten_by, failing_by, mapping_here, is_dropped, after_keep}
-use Rattle.path_core.specs.DssIn.{with_learned, with_skipped, counts, with_data_fin}
-use Rattle.path_core.specs.Fallback.{with_failure, after_check_failed, after_fell, receiving_infinite, sending_infinite}
-use Rattle.path_store.specs.declared.infinite_mapping.InfiniteMapping.{InfiniteMapping}
-use Rattle.path_core.specs.Ranks.{one_if_due, due_timer}
-use Rattle.path_core.specs.Treating.{item_passed}
 use Rattle.path_core.proofs.Ranking.{Rests, late_isn't}
 
 -- ---- timings

@@ -1,53 +1,32 @@
 -- Every segment that an end sends can be said.
-use Rattle.std.proofs.Common.{◌≡◌, refl, subst, ap, ℕ, ◌-◌, ◌^◌, ◌≤◌, Bool, true, false, not, ◌&&◌, if◌then◌else◌, Option, Some, None, is_some, List, [], ◌∷◌, ◌++◌, length, length-append, arith}
+use Rattle.path_core.proofs.Words.{◌≡◌, refl, ap, subst, ℕ, ◌-◌, ◌≤◌, ◌&&◌, Bool, true, false, if◌then◌else◌, Option, Some, None, List, [], ◌∷◌, ◌++◌, length}
+use Rattle.path_core.proofs.Words.{length-append, arith, ◌^◌, is_some, not, All-nil, All-cons, IfSome, Side, peer, A, B, JoinForm, Answer, Third, CapableKeys}
+use Rattle.path_core.proofs.Words.{NoKey, Sender, Both, WithData, option_text, Record, record_of, has_records, Spelling, syn_text, options_text, CanSayOption}
+use Rattle.path_core.proofs.Words.{Capable, Dss, FastClose, Infinite, data_number, InfiniteMapping, first_of, OwnNotice, CanBeSaid, said_by, is_joined}
+use Rattle.path_core.proofs.Words.{peer_key_of, join_options, third_options, PathEnd, Profile, is_data_fin_owed, first_unsent, first_record, outgoing_or}
+use Rattle.path_core.proofs.Words.{ack_resent, SegmentKind}
 use Rattle.std.proofs.lemmas.List.{append-nil}
-use Rattle.std.proofs.lemmas.List.Elements.{All-nil, All-cons}
-use Rattle.std.specs.Prelude.{All, IfSome}
-use Rattle.sides.specs.declared.side.Side.{Side}
-use Rattle.sides.specs.declared.side.Side.TheVariants.{A, B}
-use Rattle.sides.specs.Side.{peer}
-use Rattle.mptcp_options.specs.declared.capable.CapableKeys.{CapableKeys}
-use Rattle.mptcp_options.specs.declared.capable.CapableKeys.TheVariants.{NoKey, Sender, Both, WithData}
-use Rattle.mptcp_options.specs.declared.join.JoinForm.TheVariants.{Answer, Third}
-use Rattle.mptcp_options.specs.declared.join.JoinForm.{JoinForm}
+use Rattle.std.specs.Prelude.{All}
 use Rattle.key_material.specs.JoinHmac.{join_a160_of, join_b64_of}
 use Rattle.key_material.specs.KeyDigest.{token_of}
 use Rattle.key_material.proofs.Bounds.{length-join_a160_of}
 use Rattle.mptcp_options.specs.declared.dss.DataNumber.{DataNumber}
 use Rattle.mptcp_options.specs.declared.dss.DataNumber.TheVariants.{Whole, Low}
-use Rattle.mptcp_options.specs.Text.{option_text}
 use Rattle.mptcp_options.specs.Value as wire
 use Rattle.std.specs.Int.{w16, w64}
 use Rattle.key_material.specs.Address.{octets_of}
 use Rattle.mptcp_options.specs.Octets.{optional}
-use Rattle.path_segments.specs.declared.segment.PathOption.TheVariants.{Capable, Dss, FastClose}
-use Rattle.path_segments.specs.declared.segment.PathMapping.TheVariants.{Infinite}
-use Rattle.path_segments.specs.declared.spelling.Spelling.{Spelling}
 use Rattle.path_segments.specs.Options.{PlainOption, said_option, relative_number}
-use Rattle.path_segments.specs.Spelled.{syn_text, options_text, CanSayOption}
-use Rattle.path_segments.specs.Spelling.{data_number}
 use Rattle.subflow_send.specs.declared.record.RecordKind.{RecordKind}
 use Rattle.subflow_send.specs.declared.record.RecordKind.TheVariants.{Syn, Data, Fin}
-use Rattle.subflow_send.specs.Records.{Record, record_of}
 use Rattle.subflow_send.specs.declared.record.RecordRef.{RecordRef}
 use Rattle.std.specs.Option.{option_map}
 use Rattle.subflow_tcp.specs.declared.segments.Outgoing.{Outgoing}
-use Rattle.path_agenda.specs.declared.notice.OwnNotice.{OwnNotice}
-use Rattle.path_agenda.specs.Words.{first_of}
-use Rattle.path_core.specs.End.{PathEnd}
-use Rattle.path_core.specs.MpJoin.{is_joined, peer_key_of, join_options, third_options}
 use Rattle.path_core.specs.declared.modes.Modes.{Modes}
-use Rattle.path_store.specs.declared.infinite_mapping.InfiniteMapping.{InfiniteMapping}
 use Rattle.path_core.specs.Modes.{receives_infinite}
 use Rattle.path_core.specs.DssOut.{fail_options, fail_beside, infinite_options, infinite_or, mapped_options, checksum_told, data_fin_mapping, is_first_piece, first_piece_options, piece_options, owes_mapping, plain_options, fin_options, piece_mapping}
 use Rattle.path_core.specs.OptionsOut.{broken_options, capable_options, syn_options, key_options, opening_options, ack_options, own_reset, record_options, reset_options, segment_of, ack_said, noted_said, carried_said, record_or_ack, syn_ack_said, notice_option, dss_and, HasAddress}
-use Rattle.path_core.specs.declared.said.SegmentKind.{SegmentKind}
 use Rattle.subflow_tcp.specs.Emitting.{ack_at, record_segment, syn_ack_segment, fin_position, fin_segment, reset_segment}
-use Rattle.subflow_tcp.specs.State.{has_records}
-use Rattle.path_core.specs.DataFin.{is_data_fin_owed}
-use Rattle.path_core.specs.Emission.{first_unsent, first_record, outgoing_or, ack_resent}
-use Rattle.path_core.specs.Said.{CanBeSaid, said_by}
-use Rattle.path_core.specs.Profile.{Profile}
 
 -- ---- lengths
 

@@ -1,63 +1,27 @@
 -- What a step hands to the link is what it tells, and no other step tells a segment.
-use Rattle.std.proofs.Common.{◌≡◌, refl, sym, ap, subst, ◌∙◌, ℕ, ◌+◌, ◌%◌, ◌^◌, ◌<◌, Bool, true, false, if◌then◌else◌, Result, Ok, Err, Option, Some, None, option_map, List, [], ◌∷◌, ◌++◌, length, length-append, drop, arith}
-use Rattle.std.specs.Prelude.{IfOk, IfSome, IsOk, IsSome, replicate}
+use Rattle.path_core.proofs.Words.{◌≡◌, refl, sym, ap, subst, ◌∙◌, ℕ, ◌+◌, ◌<◌, Bool, true, false, if◌then◌else◌, Option, Some, None, List, [], ◌∷◌, ◌++◌}
+use Rattle.path_core.proofs.Words.{length, drop, length-append, arith, ◌^◌, Ok, ◌%◌, IfSome, replicate, drop_at, drop-drop, length-replicate, Side, peer}
+use Rattle.path_core.proofs.Words.{segment_meaning, header_len, Segment, fixed_header, octets_with, segment_text, segment_meaning-written, addresses_from}
+use Rattle.path_core.proofs.Words.{JoinSyn, SendCall, Record, next_number, Flight, Spelling, PlainSegment, padding, padded, unpadded_options, spelled, four}
+use Rattle.path_core.proofs.Words.{written, Piece, Heard, key_heard, keys_heard, leaves, resets, Duty, AskDuty, StepDuty, KeyPair, SendDuty, SilentDuty, Reply}
+use Rattle.path_core.proofs.Words.{Ask, made, octets, sum_of, CanBeSaid, with_learned, is_clash, peer_key_ask, opened_ask, asked_at, join_heard_ask, after_fell}
+use Rattle.path_core.proofs.Words.{fell_duties, may_go_infinite, breaks_by_ack, with_plain_ack, fell_ask, plain_next, plain_ack_in, PathState, end_at}
+use Rattle.path_core.proofs.Words.{with_agenda, goes_on, path_of, Codec, stands, ask_for, passed, answered, settled, settles_down, asks_first, answers}
+use Rattle.path_core.proofs.Words.{data_fin_of, fin_ask, plain_fin, first_unsent, data_ask, answered_data, next_event, step_for, reset_of, reset_on, break_ask}
+use Rattle.path_core.proofs.Words.{answered_break, piece_of, piece_ask, rate_ask, sends, handed, answered_ack_out, ack_out_ask, item_of, item_ask}
+use Rattle.path_core.proofs.Words.{answered_item, SegmentKind, Arrived, arrived_as, to_send, broken_by, heard_sends, send_of, unsent_sends, duty_sends}
+use Rattle.path_core.proofs.Words.{first_sends, departing, departing_as, step_told, tells_a_segment, segment_sent, HandsOrTellsNone, EachSegmentIsTold, IsTold}
+use Rattle.std.proofs.Common.{Result, Err, option_map}
+use Rattle.std.specs.Prelude.{IfOk, IsOk, IsSome}
 use Rattle.std.specs.Int.{w16}
-use Rattle.std.proofs.lemmas.List.{drop_at, drop-drop, length-replicate}
 use Rattle.std.proofs.lemmas.Nat.{from_be_bytes-to_be_bytes_2}
 use Rattle.octet_text.specs.Octets.{number_at}
-use Rattle.link_model.specs.declared.flight.Flight.{Flight}
-use Rattle.link_model.specs.Steps.{next_number}
-use Rattle.segment_wire.specs.Reading.{header_len, segment_meaning}
-use Rattle.segment_wire.proofs.Again.{segment_meaning-written}
-use Rattle.segment_wire.specs.Segment.{Segment, fixed_header, octets_with, segment_text}
-use Rattle.segment_wire.specs.Paths.{addresses_from}
-use Rattle.path_segments.specs.declared.spelling.Spelling.{Spelling}
-use Rattle.path_segments.proofs.SegmentsAgain.{four, written}
-use Rattle.path_segments.specs.Spelled.{PlainSegment, padding, padded, unpadded_options, spelled}
-use Rattle.sides.specs.declared.side.Side.{Side}
-use Rattle.sides.specs.Side.{peer}
-use Rattle.send_book.specs.declared.call.SendCall.{SendCall}
-use Rattle.subflow_send.specs.Records.{Record}
 use Rattle.loss_recovery.specs.declared.windows.Pending.{Pending}
-use Rattle.join_handshake.specs.declared.hearing.JoinSyn.{JoinSyn}
-use Rattle.actor_desk.specs.declared.ask.Ask.{Ask}
 use Rattle.actor_desk.specs.declared.ask.LocalStep.{LocalStep}
-use Rattle.actor_desk.specs.declared.ask.Reply.{Reply}
-use Rattle.path_agenda.specs.declared.duty.Duty.{Duty}
-use Rattle.path_agenda.specs.declared.duty.AskDuty.{AskDuty}
-use Rattle.path_agenda.specs.declared.duty.SendDuty.{SendDuty}
-use Rattle.path_agenda.specs.declared.duty.SilentDuty.{SilentDuty}
-use Rattle.path_agenda.specs.declared.duty.StepDuty.{StepDuty}
-use Rattle.path_agenda.specs.declared.heard.Heard.{Heard}
-use Rattle.path_agenda.specs.declared.keys.KeyPair.{KeyPair}
-use Rattle.path_agenda.specs.Agenda.{leaves, resets}
-use Rattle.path_agenda.specs.Items.{key_heard, keys_heard}
 use Rattle.fallback_state.specs.declared.fall.Event.TheVariants as events
 use Rattle.path_core.specs.declared.events.Event.{Event}
 use Rattle.path_core.specs.declared.looking.Departing.{Departing}
 use Rattle.path_core.specs.declared.looking.ToSend.{ToSend}
-use Rattle.path_core.specs.declared.said.SegmentKind.{SegmentKind}
-use Rattle.path_core.specs.Breaking.{reset_of, reset_on, break_ask, answered_break}
-use Rattle.path_core.specs.Codec.{Codec}
-use Rattle.path_store.specs.Passing.{Piece}
-use Rattle.path_core.specs.Duties.{stands, ask_for, passed, answered}
-use Rattle.path_core.specs.Emission.{first_unsent, data_ask, answered_data}
-use Rattle.path_core.specs.Events.{next_event, step_for}
-use Rattle.path_core.specs.Fallback.{after_fell, fell_ask, fell_duties, may_go_infinite, breaks_by_ack, with_plain_ack, plain_next, plain_ack_in}
-use Rattle.path_core.specs.Handover.{sends, handed}
-use Rattle.path_core.specs.MpJoin.{join_heard_ask, asked_at}
-use Rattle.path_core.specs.Looking.{Arrived, arrived_as, to_send, broken_by, heard_sends, send_of, unsent_sends, duty_sends, first_sends, departing, departing_as, step_told, tells_a_segment, segment_sent, HandsOrTellsNone, EachSegmentIsTold, IsTold}
-use Rattle.path_core.specs.Octets.{made, octets, sum_of}
-use Rattle.path_core.specs.MpCapable.{peer_key_ask, opened_ask}
-use Rattle.path_core.specs.Deliver.{piece_of, piece_ask}
-use Rattle.path_core.specs.DataFin.{data_fin_of, fin_ask, plain_fin}
-use Rattle.path_core.specs.Rate.{rate_ask}
-use Rattle.path_core.specs.Standing.{ack_out_ask, answered_ack_out}
-use Rattle.path_core.specs.Said.{CanBeSaid}
-use Rattle.path_core.specs.State.{PathState, end_at, goes_on, path_of, with_agenda}
-use Rattle.path_core.specs.Steps.{settled, settles_down, asks_first, answers}
-use Rattle.path_core.specs.DssIn.{with_learned, is_clash}
-use Rattle.path_core.specs.Treating.{item_of, item_ask, answered_item}
 
 -- ---- asks that tell no segment
 

@@ -1,13 +1,6 @@
 -- Passing a duty looks at nothing of the agenda.
-use Rattle.std.proofs.Common.{◌≡◌, refl, ap, ◌∙◌, Bool, if◌then◌else◌, List, [], ◌∷◌}
-use Rattle.path_agenda.specs.declared.duty.Duty.{Duty}
-use Rattle.path_agenda.specs.declared.duty.AskDuty.{AskDuty}
-use Rattle.path_agenda.specs.declared.duty.SendDuty.{SendDuty}
-use Rattle.path_agenda.specs.declared.duty.SilentDuty.{SilentDuty}
-use Rattle.path_agenda.specs.declared.duty.StepDuty.{StepDuty}
-use Rattle.path_core.specs.Duties.{stands, passed}
-use Rattle.path_core.specs.State.{PathState, with_agenda}
-use Rattle.path_core.specs.Steps.{settled}
+use Rattle.path_core.proofs.Words.{◌≡◌, refl, ap, ◌∙◌, Bool, if◌then◌else◌, List, [], ◌∷◌, Duty, AskDuty, StepDuty, SendDuty, SilentDuty, PathState}
+use Rattle.path_core.proofs.Words.{with_agenda, stands, passed, settled}
 
 module _ {C : Type 0} where
   pub stands_anyway : (d : Duty) (es : List Duty) (p : PathState C) → stands d (with_agenda es p) ≡ stands d p

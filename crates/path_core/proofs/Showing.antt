@@ -1,80 +1,40 @@
 -- A path over octets is the path over values, shown: one clause for each duty.
-use Rattle.std.proofs.lemmas.List.{length-map, take-map, drop-map, map-append}
-use Rattle.std.specs.List.{position_or_len}
-use Rattle.std.proofs.Common.{◌≡◌, refl, sym, ap, ◌∙◌, ℕ, ◌+◌, ◌^◌, ◌≤◌, ◌⊎◌, inl, inr, subst, nat_lt, not, ◌&&◌, Bool, true, false, cond, if◌then◌else◌, List, [], ◌∷◌, map, Option, Some, None, find, position, is_some}
+use Rattle.path_core.proofs.Words.{◌≡◌, ◌⊎◌, inl, inr, refl, sym, ap, subst, ◌∙◌, ℕ, ◌+◌, ◌≤◌, ◌&&◌, nat_lt, Bool, true, false, if◌then◌else◌, Option, Some}
+use Rattle.path_core.proofs.Words.{None, List, [], ◌∷◌, map, ◌^◌, is_some, not, cond, find, position, position_or_len, length-map, take-map, drop-map}
+use Rattle.path_core.proofs.Words.{map-append, Verdict, FallEvent, Side, peer, A, B, JoinSyn, ControlReply, SendCall, Record, Occasion, segments_sent}
+use Rattle.path_core.proofs.Words.{next_number, is_due, next_due, arriving, after_delivery, without, after_send, changed, arrivals, with_flights, one_more}
+use Rattle.path_core.proofs.Words.{Flight, Spelling, PlainSegment, Expected, IsFresh, meant, subflow_number, HeardSegment, Piece, Heard, key_heard, keys_heard}
+use Rattle.path_core.proofs.Words.{emission, leaves, resets, start_of_turn, replaced, Duty, AskDuty, StepDuty, KeyPair, SendDuty, SilentDuty, Reply, tail_of}
+use Rattle.path_core.proofs.Words.{Ask, copy_heard, copy_taken, expected_by, octets, CanBeSaid, octets_of, shown_path, CanBeAltered, SentCanBeAltered}
+use Rattle.path_core.proofs.Words.{IsFarReset, IsFreshCopy, NextIsFresh, Carried, as_arrived, values, with_learned, is_clash, with_data_fin, is_acked}
+use Rattle.path_core.proofs.Words.{told_next, with_acked, syn_ack_of, answered_peer_key, answered_opened, peer_key_ask, opened_ask, never_joined, is_never}
+use Rattle.path_core.proofs.Words.{keys_begun, opened_by, asked_at, join_taken, join_heard_ask, note_of, having_noted, after_fell, fell_duties, answered_fell}
+use Rattle.path_core.proofs.Words.{after_check_failed, after_infinite, may_go_infinite, book_answered, after_fail_heard, breaks_by_ack, with_plain_ack}
+use Rattle.path_core.proofs.Words.{fell_ask, at_tick, PathState, end_at, with_agenda, goes_on, left, path_of, PathEnd, died, stands, ask_for, passed, answered}
+use Rattle.path_core.proofs.Words.{settled, settles_down, asks_first, asks_of, answers, takes, next_round, data_fin_segment, having_sent_data_fin}
+use Rattle.path_core.proofs.Words.{fin_segment_of, having_sent_fin, is_fin_set, answered_fin_heard, answered_plain_fin, first_unsent, unsent_segment}
+use Rattle.path_core.proofs.Words.{having_sent_unsent, data_ask, Grant, grant_in, answered_grant, answered_data, first_segment, answer_occasion, answer_of}
+use Rattle.path_core.proofs.Words.{dead_answer, resend_occasion, resend_of, next_event, after_line, happens_if, step_for, refusal_of, reset_of, reset_on}
+use Rattle.path_core.proofs.Words.{break_ask, answered_break, piece_of, is_placed, answered_piece, rate_ask, sends, having_sent, handed, sent_on}
+use Rattle.path_core.proofs.Words.{answered_ack_out, ack_segment, ack_out_ask, item_of, item_ask, answered_item, SegmentKind, to_send, broken_by, heard_sends}
+use Rattle.path_core.proofs.Words.{unsent_sends, duty_sends, first_sends}
 use Rattle.std.specs.Option.{IfSome, IsSome, option_map}
-use Rattle.sides.specs.declared.side.Side.{Side}
-use Rattle.sides.specs.declared.side.Side.TheVariants.{A, B}
 use Rattle.link_model.specs.declared.flight.Due.{Due}
-use Rattle.link_model.specs.declared.flight.Flight.{Flight}
 use Rattle.link_model.specs.Fate.{fate_of, is_stripped, is_altered}
 use Rattle.link_model.specs.Laws.{with_copies_shown, shown_flight}
 use Rattle.link_model.specs.State.{LinkState}
 use Rattle.outside_kit.specs.Memory.{one_more as counted}
-use Rattle.sides.specs.Side.{peer}
-use Rattle.link_model.specs.Steps.{segments_sent, next_number, is_due, next_due, arriving, after_delivery, without, after_send, changed, arrivals, with_flights, one_more}
 use Rattle.link_model.proofs.Shown.{sent_shown}
 use Rattle.path_segments.specs.declared.position.HeardPosition.TheVariants.{At}
-use Rattle.path_segments.specs.declared.spelling.Spelling.{Spelling}
-use Rattle.path_segments.specs.Spelling.{subflow_number}
-use Rattle.path_segments.specs.Spelled.{PlainSegment}
-use Rattle.actor_desk.specs.declared.ask.Reply.{Reply}
-use Rattle.path_agenda.specs.declared.duty.Duty.{Duty}
-use Rattle.path_agenda.specs.declared.duty.AskDuty.{AskDuty}
-use Rattle.path_agenda.specs.declared.duty.SendDuty.{SendDuty}
-use Rattle.path_agenda.specs.declared.duty.SilentDuty.{SilentDuty}
-use Rattle.path_agenda.specs.declared.duty.StepDuty.{StepDuty}
-use Rattle.path_core.specs.Duties.{stands, ask_for, passed, answered}
-use Rattle.path_segments.specs.declared.expected.Expected.{Expected}
-use Rattle.path_segments.specs.Laws.{IsFresh, meant}
-use Rattle.path_segments.specs.Heard.{HeardSegment}
 use Rattle.path_core.proofs.ChangedCopies.{octets_changed}
 use Rattle.path_core.proofs.CopiesRead.{near_read, far_read}
 use Rattle.path_core.proofs.FarResets.{far_treated}
-use Rattle.path_core.specs.Arrival.{expected_by, copy_heard, heard_in, copy_taken}
-use Rattle.actor_desk.specs.Words.{tail_of}
-use Rattle.subflow_tcp.specs.declared.segments.Occasion.{Occasion}
-use Rattle.path_core.specs.MpJoin.{never_joined, is_never, keys_begun, opened_by, asked_at, join_heard_ask, join_taken}
-use Rattle.path_core.specs.Events.{after_line, happens_if, step_for, next_event}
-use Rattle.path_core.specs.State.{at_tick, PathState, end_at, with_agenda, goes_on, left, path_of}
-use Rattle.path_core.specs.End.{died, PathEnd}
+use Rattle.path_core.specs.Arrival.{heard_in}
 use Rattle.path_core.specs.declared.events.Event.{Event}
-use Rattle.control_book.specs.declared.call.ControlReply.{ControlReply}
 use Rattle.fallback_state.specs.declared.fall.Mode.TheVariants.{Identity}
-use Rattle.fallback_state.specs.declared.fall.Verdict.{Verdict}
-use Rattle.fallback_state.specs.declared.fall.Event.{Event as FallEvent}
-use Rattle.send_book.specs.declared.call.SendCall.{SendCall}
-use Rattle.actor_desk.specs.declared.ask.Ask.{Ask}
-use Rattle.subflow_send.specs.Records.{Record}
-use Rattle.path_agenda.specs.declared.heard.Heard.{Heard}
-use Rattle.path_agenda.specs.Agenda.{resets, leaves, emission, start_of_turn}
-use Rattle.path_agenda.specs.Items.{key_heard, keys_heard}
-use Rattle.path_agenda.specs.Words.{replaced}
-use Rattle.path_agenda.specs.declared.keys.KeyPair.{KeyPair}
-use Rattle.join_handshake.specs.declared.hearing.JoinSyn.{JoinSyn}
-use Rattle.path_core.specs.Fallback.{after_check_failed, after_infinite, may_go_infinite, book_answered, after_fail_heard, fell_ask, after_fell, fell_duties, answered_fell, breaks_by_ack, with_plain_ack}
-use Rattle.path_core.specs.Breaking.{refusal_of, reset_of, reset_on, break_ask, answered_break}
 use Rattle.path_core.specs.FastClose.{fast_close_of, having_fast_closed}
-use Rattle.path_core.specs.Addresses.{note_of, having_noted}
 use Rattle.path_store.specs.declared.lines.LineAction.{LineAction}
-use Rattle.path_core.specs.Emission.{first_unsent, data_ask, unsent_segment, having_sent_unsent, Grant, grant_in, answered_grant, answered_data, first_segment, answer_occasion, resend_occasion, answer_of, dead_answer, resend_of}
-use Rattle.path_core.specs.DataFin.{data_fin_segment, having_sent_data_fin, fin_segment_of, having_sent_fin, is_fin_set, answered_fin_heard, answered_plain_fin}
-use Rattle.path_core.specs.MpCapable.{syn_ack_of, peer_key_ask, answered_peer_key, opened_ask, answered_opened}
 use Rattle.loss_recovery.specs.declared.windows.Pending.{Pending}
-use Rattle.path_core.specs.Deliver.{piece_of, is_placed, answered_piece}
-use Rattle.path_core.specs.Rate.{rate_ask}
-use Rattle.path_core.specs.DssIn.{with_learned, is_clash, is_acked, told_next, with_acked, with_data_fin}
-use Rattle.path_store.specs.Passing.{Piece}
-use Rattle.path_core.specs.Standing.{ack_out_ask, answered_ack_out, ack_segment}
-use Rattle.path_core.specs.Treating.{item_of, item_ask, answered_item}
-use Rattle.path_core.specs.Octets.{octets}
-use Rattle.path_core.specs.declared.said.SegmentKind.{SegmentKind}
-use Rattle.path_core.specs.Handover.{sends, having_sent, handed, sent_on}
-use Rattle.path_core.specs.Looking.{broken_by, duty_sends, first_sends, heard_sends, to_send, unsent_sends}
-use Rattle.path_core.specs.Said.{CanBeSaid}
-use Rattle.path_core.specs.Shown.{octets_of, shown_path, CanBeAltered, SentCanBeAltered, IsFarReset, IsFreshCopy, NextIsFresh}
-use Rattle.path_core.specs.Steps.{settled, settles_down, asks_first, asks_of, answers, takes, next_round}
-use Rattle.path_core.specs.Values.{Carried, as_arrived, values}
 
 -- ---- the next event
 

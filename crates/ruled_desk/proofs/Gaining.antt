@@ -1,23 +1,14 @@
 -- What the passes of a round note is what the actors' lists gained, so the journals gained it.
-use Rattle.std.proofs.Common.{◌≡◌, refl, sym, ◌∙◌, ap, subst, ℕ, zero, suc, ◌<◌, ◌⊎◌, inl, inr, Bool, false, List, [], ◌∷◌, ◌++◌, length, map, Option, Some, None, arith}
-use Rattle.std.proofs.lemmas.List.{map-append, append_cancel_left, get_or-map, length-map}
-use Rattle.std.specs.Prelude.{All, MatchOption}
-use Rattle.std.specs.List.{Contains, slice_index_or}
+use Rattle.ruled_desk.proofs.Words.{◌≡◌, refl, sym, ◌∙◌, ap, subst, ℕ, zero, suc, ◌<◌, ◌⊎◌, inl, inr, Bool, false, List, [], ◌∷◌, ◌++◌, length, map, Option}
+use Rattle.ruled_desk.proofs.Words.{Some, None, arith, map-append, append_cancel_left, get_or-map, length-map, MatchOption, All, slice_index_or, Journaled}
+use Rattle.ruled_desk.proofs.Words.{Entry, Ask, Note, Reply, is_local, send_note, reassembly_note, control_note, NotesOneMore, noted_all, GainsJust, Rider}
+use Rattle.ruled_desk.proofs.Words.{Rode, all_joined, given_pass, known_with, notes_held, SixLocked, SixKnown, Passed, nothing_known, AllGainJust, all_known}
+use Rattle.ruled_desk.proofs.Words.{notes_by}
+use Rattle.std.specs.List.{Contains}
 use Rattle.sides.specs.declared.side.Side.{Side}
-use Rattle.actor_desk.specs.declared.ask.Ask.{Ask}
-use Rattle.actor_desk.specs.declared.ask.Note.{Note}
-use Rattle.actor_desk.specs.declared.ask.Reply.{Reply}
-use Rattle.stamped_book.specs.Journal.{Journaled}
-use Rattle.stamped_book.specs.declared.stamped.Entry.{Entry}
 use Rattle.actor_desk.specs.Books.{StampedBooks}
-use Rattle.actor_desk.specs.Journals.{is_local, send_note, reassembly_note, control_note}
 use Rattle.actor_desk.specs.Noted.{BookNotes, notes_in, with_note}
-use Rattle.actor_turn.specs.Turns.{NotesOneMore, noted_all}
-use Rattle.ruled_desk.specs.declared.rider.Rider.{Rider}
 use Rattle.ruled_desk.specs.Gaining.{by_book, list_at, GoesOn, IsGained, GainAlike}
-use Rattle.ruled_desk.specs.Riding.{Rode, all_joined, given_pass, known_with, notes_held}
-use Rattle.ruled_desk.specs.Seats.{GainsJust}
-use Rattle.ruled_desk.specs.SixSeats.{SixLocked, SixKnown, Passed, AllGainJust, all_known, nothing_known, notes_by}
 
 -- ---- who stands in a list
 

@@ -1,28 +1,14 @@
 -- A round over six books, from what its desk promises of each rider.
-use Rattle.std.proofs.Common.{◌≡◌, refl, sym, ◌∙◌, ap, subst, ℕ, zero, suc, ◌-◌, ◌^◌, ◌<◌, ◌≤◌, ◌⊎◌, ◌↔◌, inl, inr, Bool, true, false, ◌||◌, List, [], ◌∷◌, ◌++◌, length, map, take, drop, Option, Some, None, Result, Ok, Err, arith}
+use Rattle.ruled_desk.proofs.Words.{◌≡◌, refl, sym, ◌∙◌, ap, subst, ℕ, zero, suc, ◌-◌, ◌^◌, ◌<◌, ◌≤◌, ◌⊎◌, ◌↔◌, inl, inr, Bool, true, false, ◌||◌, List, []}
+use Rattle.ruled_desk.proofs.Words.{◌∷◌, ◌++◌, length, map, take, drop, Option, Some, None, Result, Ok, Err, arith, get_or-map, length-map, append-nil, OnOk}
+use Rattle.ruled_desk.proofs.Words.{All, slice_index_or, list_any, Journaled, Entry, Refusal, Memory, Stamps, Ask, Note, Reply, send_note, reassembly_note}
+use Rattle.ruled_desk.proofs.Words.{control_note, Crew, is_refused, Turned, HasLastStamp, GainsJust, Rider, AreNumbered, HasPass, NotesFull, OneIsUsedUp, Rode}
+use Rattle.ruled_desk.proofs.Words.{all_joined, given_pass, is_rider_refused, known_with, pass_taken, SixLocked, SixKnown, Passed, nothing_known, AllGainJust}
+use Rattle.ruled_desk.proofs.Words.{all_known, notes_full, AllTurned, AreActors, EndsAsTurns, IsWholeRound, OneIsFull, OneKnowsLast, crew_of, without_pass}
 use Rattle.std.proofs.Math.Seq.{take-append_seam}
-use Rattle.std.proofs.lemmas.List.{append-nil, get_or-map, length-map}
-use Rattle.std.specs.Prelude.{All, OnOk}
-use Rattle.stamped_book.specs.declared.stamped.Refusal.{Refusal}
-use Rattle.stamped_book.specs.declared.stamped.Refusal.TheVariants.{Memory, Stamps}
-use Rattle.std.specs.List.{list_any, slice_index_or}
 use Rattle.sides.specs.declared.side.Side.{Side}
-use Rattle.stamped_book.specs.declared.stamped.Entry.{Entry}
-use Rattle.actor_desk.specs.declared.actor.Crew.{Crew}
-use Rattle.actor_desk.specs.declared.ask.Ask.{Ask}
-use Rattle.actor_desk.specs.declared.ask.Note.{Note}
-use Rattle.actor_desk.specs.declared.ask.Reply.{Reply}
 use Rattle.actor_desk.specs.Books.{StampedBooks}
-use Rattle.actor_desk.specs.Journals.{send_note, reassembly_note, control_note}
 use Rattle.actor_turn.specs.Extending.{Extends, BooksExtend}
-use Rattle.actor_turn.specs.Turns.{Turned, is_refused}
-use Rattle.ruled_desk.specs.declared.rider.Rider.{Rider}
-use Rattle.ruled_desk.specs.Growing.{HasLastStamp}
-use Rattle.ruled_desk.specs.Riding.{AreNumbered, HasPass, NotesFull, OneIsUsedUp, Rode, all_joined, given_pass, is_rider_refused, known_with, pass_taken}
-use Rattle.ruled_desk.specs.Seats.{GainsJust}
-use Rattle.stamped_book.specs.Journal.{Journaled}
-use Rattle.ruled_desk.specs.SixSeats.{SixLocked, SixKnown, Passed, AllGainJust, all_known, nothing_known, notes_full}
-use Rattle.ruled_desk.specs.WholeRounds.{AllTurned, AreActors, EndsAsTurns, IsWholeRound, OneIsFull, OneKnowsLast, crew_of, without_pass}
 use Rattle.ruled_desk.proofs.Gaining.{In, any_of, gain_alike, in_contains}
 
 module _ {A : Type 0} where

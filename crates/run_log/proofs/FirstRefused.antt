@@ -1,17 +1,10 @@
 -- The line of a fault is the first one that no log has there.
-use Rattle.std.proofs.Common.{◌≡◌, ℕ, suc, ◌+◌, ◌^◌, ◌<◌, ◌≤◌, Bool, true, false, cond, List, [], ◌∷◌, ◌++◌, length, take, Option, Some, None, Result, Ok, Err, refl, ap, sym, ◌∙◌, subst, arith}
-use Rattle.std.specs.Prelude.{codes, is_ok}
-use Rattle.octet_text.specs.Lines.{text_lines}
-use Rattle.run_log.specs.declared.fault.LogFault.{LogFault}
-use Rattle.run_log.specs.declared.form.Expected.{Expected}
-use Rattle.run_log.specs.declared.form.Expected.TheVariants.{Format, Width, Keys, Turns, Nothing}
+use Rattle.run_log.proofs.Words.{◌≡◌, ℕ, suc, ◌+◌, ◌^◌, ◌<◌, ◌≤◌, Bool, true, false, List, [], ◌∷◌, ◌++◌, length, take, Some, None, Result, Ok, refl, ap, sym}
+use Rattle.run_log.proofs.Words.{◌∙◌, arith, cond, Option, subst, Err, codes, is_ok, text_lines, LogFault, Expected, Format, Width, Keys, Turns, Nothing, Turn}
+use Rattle.run_log.proofs.Words.{round_text, width_text, keys_text, outcome_text, IsLong, HasRoundBelow, is_nothing, taken_line, read_on, reading, turn_list}
+use Rattle.run_log.proofs.Words.{BeginsALog, IsFirstRefused, RefusesTheFirst}
 use Rattle.run_log.specs.declared.form.Taken.{Taken}
 use Rattle.run_log.specs.declared.outcome.Outcome.{Outcome}
-use Rattle.run_log.specs.declared.turn.Turn.{Turn}
-use Rattle.run_log.specs.Lines.{round_text, width_text, keys_text, outcome_text}
-use Rattle.run_log.specs.Fitting.{IsLong}
-use Rattle.run_log.specs.Form.{HasRoundBelow, is_nothing, turn_list, taken_line, read_on, reading}
-use Rattle.run_log.specs.Laws.{BeginsALog, IsFirstRefused, RefusesTheFirst}
 use Rattle.run_log.proofs.LogReads.{bytes_same, round_no_step, outcome_no_step, outcome_again, keys_again}
 use Rattle.run_log.proofs.Walking.{IsBelow, taken_below}
 

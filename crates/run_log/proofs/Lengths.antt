@@ -1,36 +1,14 @@
 -- What is asked and answered has 1 to 400 octets, all of which can be printed.
-use Rattle.std.proofs.Common.{◌≡◌, ℕ, ◌*◌, ◌<◌, ◌≤◌, true, ◌&&◌, List, [], ◌∷◌, ◌++◌, length, refl, ap, ◌∙◌, arith, length-append}
-use Rattle.std.specs.Prelude.{nat_lt, nat_le, codes, All}
-use Rattle.std.specs.Fmt.{decimal}
-use Rattle.std.specs.List.{list_all, AllByRecursion, flat_map}
-use Rattle.std.proofs.lemmas.Bool.{and_parts, and_from, ltb-true, leb-true, le-leb}
-use Rattle.std.proofs.lemmas.Bool.Decides.{nat_tests}
-use Rattle.std.proofs.lemmas.Fmt.{length-decimal-le}
+use Rattle.run_log.proofs.Words.{◌≡◌, ℕ, ◌<◌, ◌≤◌, true, ◌&&◌, List, [], ◌∷◌, ◌++◌, length, refl, ap, ◌∙◌, arith, length-append, ◌*◌, nat_lt, nat_le, codes}
+use Rattle.run_log.proofs.Words.{All, decimal, list_all, AllByRecursion, flat_map, and_parts, and_from, ltb-true, leb-true, le-leb, nat_tests}
+use Rattle.run_log.proofs.Words.{length-decimal-le, recursion_from_All, Row, Event, Verdict, Address, octets_of, spaced, Notice, ControlCall, ControlReply}
+use Rattle.run_log.proofs.Words.{ReassemblyCall, ReassemblyReply, SendCall, SendReply, Ask, LocalStep, IsByte, HeardFits, RowFits, AskFits, HasItsOctets}
+use Rattle.run_log.proofs.Words.{ReplyFits, RowsFit, HasRowsInRange, verdict_words, notice_words, send_call_words, reassembly_call_words, heard_words}
+use Rattle.run_log.proofs.Words.{control_call_words, local_words, ask_words, send_reply_words, reassembly_reply_words, row_words, control_reply_words}
+use Rattle.run_log.proofs.Words.{reply_text, is_printable, are_words}
 use Rattle.std.proofs.lemmas.List.Folds.{list_all-append}
-use Rattle.std.proofs.lemmas.List.Elements.{recursion_from_All}
-use Rattle.link_script.specs.Writing.{spaced}
-use Rattle.fallback_state.specs.declared.fall.Event.{Event}
-use Rattle.fallback_state.specs.declared.fall.Verdict.{Verdict}
-use Rattle.control_book.specs.declared.call.Notice.{Notice}
-use Rattle.key_material.specs.declared.address.Address.{Address}
-use Rattle.key_material.specs.Address.{octets_of}
-use Rattle.linked_increase.specs.declared.rows.Row.{Row}
 use Rattle.linked_increase.specs.Paths.{IsInRange}
-use Rattle.send_book.specs.declared.call.SendCall.{SendCall}
-use Rattle.send_book.specs.declared.call.SendReply.{SendReply}
-use Rattle.reassembly_book.specs.declared.call.ReassemblyCall.{ReassemblyCall}
-use Rattle.reassembly_book.specs.declared.call.ReassemblyReply.{ReassemblyReply}
-use Rattle.control_book.specs.declared.call.ControlCall.{ControlCall}
-use Rattle.control_book.specs.declared.call.ControlReply.{ControlReply}
-use Rattle.actor_desk.specs.declared.ask.Ask.{Ask}
-use Rattle.actor_desk.specs.declared.ask.LocalStep.{LocalStep}
 use Rattle.actor_desk.specs.declared.ask.Reply.{Reply}
-use Rattle.run_log.specs.Words.{verdict_words, notice_words}
-use Rattle.run_log.specs.Calls.{send_call_words, reassembly_call_words, heard_words, control_call_words, local_words, ask_words}
-use Rattle.run_log.specs.Replies.{send_reply_words, reassembly_reply_words, row_words, control_reply_words, reply_text}
-use Rattle.run_log.specs.Fields.{is_printable, are_words}
-use Rattle.run_log.specs.Fitting.{IsByte, HasItsOctets, HeardFits, RowFits, RowsFit, AskFits, ReplyFits}
-use Rattle.run_log.specs.Laws.{HasRowsInRange}
 use Rattle.run_log.proofs.PlainWords.{is_seen, IsPlain, ArePlain, plain_ask, plain_send_reply, plain_reassembly_reply, plain_control_reply}
 use Rattle.run_log.proofs.Spacing.{behind, spaced_behind, heard_is, rows_is}
 

@@ -1,31 +1,14 @@
 -- Two notes with one line are told alike.
-use Rattle.std.proofs.Common.{◌≡◌, ℕ, ◌<◌, ◌≤◌, true, false, cond, eqb, List, [], ◌∷◌, ◌++◌, length, refl, ap, sym, ◌∙◌, append_assoc, arith}
-use Rattle.std.specs.Prelude.{codes}
-use Rattle.std.specs.Fmt.{decimal}
-use Rattle.std.specs.List.{list_all}
-use Rattle.std.specs.Str.{bytes_eq}
-use Rattle.std.specs.Str.Parse.{digits_value}
-use Rattle.std.proofs.lemmas.Bool.{and_parts}
-use Rattle.std.proofs.lemmas.Bool.Decides.{nat_tests}
-use Rattle.std.proofs.lemmas.Fmt.{digits_value-decimal}
-use Rattle.std.proofs.lemmas.List.{append-nil}
+use Rattle.run_log.proofs.Words.{◌≡◌, ℕ, ◌<◌, ◌≤◌, true, false, eqb, List, [], ◌∷◌, ◌++◌, length, refl, ap, sym, ◌∙◌, arith, append_assoc, cond, codes, decimal}
+use Rattle.run_log.proofs.Words.{list_all, and_parts, nat_tests, digits_value-decimal, bytes_eq, digits_value, append-nil, Side, spaced, digits, ControlReply}
+use Rattle.run_log.proofs.Words.{Ask, object_of, step_text, AskFits, ReplyFits, NoteFits, LinesTellTheirNotes, object_word, ask_words, send_reply_words}
+use Rattle.run_log.proofs.Words.{reassembly_reply_words, control_reply_words, reply_text}
 use Rattle.link_script.specs.Words.{words_of}
-use Rattle.link_script.proofs.Numerals.{digits}
-use Rattle.link_script.specs.Writing.{spaced}
 use Rattle.sides.specs.declared.object.Object.{Object}
-use Rattle.sides.specs.declared.side.Side.{Side}
-use Rattle.control_book.specs.declared.call.ControlReply.{ControlReply}
-use Rattle.actor_desk.specs.declared.ask.Ask.{Ask}
 use Rattle.actor_desk.specs.declared.ask.Note.{Note}
 use Rattle.actor_desk.specs.declared.ask.Reply.{Reply}
 use Rattle.actor_desk.specs.Kinds.{IsOfKind}
-use Rattle.run_log.specs.Words.{object_word}
-use Rattle.run_log.specs.Calls.{ask_words}
-use Rattle.run_log.specs.Replies.{send_reply_words, reassembly_reply_words, control_reply_words, reply_text}
-use Rattle.run_log.specs.Lines.{object_of, step_text}
-use Rattle.run_log.specs.Fitting.{AskFits, ReplyFits, NoteFits}
 use Rattle.run_log.specs.Telling.{told_ask, told_reply, as_told}
-use Rattle.run_log.specs.Laws.{LinesTellTheirNotes}
 use Rattle.run_log.proofs.PlainWords.{is_seen, ArePlain, plain_ask, plain_send_reply, plain_reassembly_reply, plain_control_reply}
 use Rattle.run_log.proofs.Lengths.{plain_seen, counted, ask_within, few_send_reply, few_reassembly_reply}
 use Rattle.run_log.proofs.LogReads.{number_seen, seen_object, step_shape, no_space}

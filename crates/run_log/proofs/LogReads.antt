@@ -1,39 +1,22 @@
 -- The log of some rounds reads to their turns.
-use Rattle.std.proofs.Common.{◌≡◌, ℕ, suc, ◌+◌, ◌/◌, ◌%◌, ◌^◌, ◌<◌, ◌≤◌, Bool, true, false, eqb, ltb, ◌&&◌, List, [], ◌∷◌, ◌++◌, length, take, drop, map, Some, None, Result, Ok, refl, ap, sym, ◌∙◌, arith, append_assoc, length-append, rules}
-use Rattle.std.specs.Prelude.{nat_le, codes, ◌==◌, slice_index}
-use Rattle.std.specs.Fmt.{decimal}
+use Rattle.run_log.proofs.Words.{◌≡◌, ℕ, suc, ◌+◌, ◌/◌, ◌%◌, ◌^◌, ◌<◌, ◌≤◌, Bool, true, false, eqb, ltb, ◌&&◌, List, [], ◌∷◌, ◌++◌, length, take, drop, map}
+use Rattle.run_log.proofs.Words.{Some, None, Result, Ok, refl, ap, sym, ◌∙◌, arith, append_assoc, length-append, rules, nat_le, codes, ◌==◌, slice_index}
+use Rattle.run_log.proofs.Words.{decimal, list_all, position_or_len, AllByRecursion, flat_map, and_parts, and_from, le-leb, lt-ltb, agree_below_at, nat_tests}
+use Rattle.run_log.proofs.Words.{digits_decimal, digits_value-decimal, decimal_nonempty, length-decimal-le, recursion_from_All, bytes_eq, text_lines, Side}
+use Rattle.run_log.proofs.Words.{spaced, digits, LogFault, Expected, Format, Turns, Turn, object_of, step_text, round_text, width_text, key_word, keys_text}
+use Rattle.run_log.proofs.Words.{outcome_text, ended, opening_lines, old_opening_lines, round_lines, rounds_lines, IsLong, taken_line, read_on, reading}
+use Rattle.run_log.proofs.Words.{CanBeLogged, turns_of_round, turns_of, log_behind, ReadsToItsTurns, object_word, ask_words, reply_text, field, is_number}
+use Rattle.run_log.proofs.Words.{actor_of, is_object, is_printable, step_actor, is_lower_hex, is_key, is_keys_line, is_outcome_line}
 use Rattle.std.specs.Int.{w64, to_be_bytes}
-use Rattle.std.specs.List.{list_all, position_or_len, AllByRecursion, flat_map}
-use Rattle.std.specs.Str.{bytes_eq}
 use Rattle.std.proofs.Math.Seq.{take-append_seam, drop-append-add}
-use Rattle.std.proofs.lemmas.Bool.{and_parts, and_from, lt-ltb, le-leb, agree_below_at}
-use Rattle.std.proofs.lemmas.Bool.Decides.{nat_tests}
-use Rattle.std.proofs.lemmas.Fmt.{digits_decimal, digits_value-decimal, decimal_nonempty, length-decimal-le}
-use Rattle.std.proofs.lemmas.List.Elements.{recursion_from_All}
 use Rattle.hex.specs.Hex.{lower_digits, encode_with, encode_lower}
 use Rattle.hex.proofs.HexLemmas.{length-encode_with}
 use Rattle.key_material.proofs.Octets.{AreOctets-to_be_bytes}
 use Rattle.link_script.specs.Numbers.{is_numeral}
-use Rattle.link_script.proofs.Numerals.{digits}
-use Rattle.link_script.specs.Writing.{spaced}
 use Rattle.sides.specs.declared.object.Object.{Object}
-use Rattle.sides.specs.declared.side.Side.{Side}
-use Rattle.octet_text.specs.Lines.{text_lines}
 use Rattle.actor_desk.specs.declared.ask.Note.{Note}
-use Rattle.run_log.specs.declared.fault.LogFault.{LogFault}
-use Rattle.run_log.specs.declared.form.Expected.{Expected}
-use Rattle.run_log.specs.declared.form.Expected.TheVariants.{Format, Turns}
 use Rattle.run_log.specs.declared.outcome.Outcome.{Outcome}
-use Rattle.run_log.specs.declared.turn.Turn.{Turn}
 use Rattle.run_log.specs.declared.turn.Turn.TheVariants.{Step}
-use Rattle.run_log.specs.Words.{object_word}
-use Rattle.run_log.specs.Calls.{ask_words}
-use Rattle.run_log.specs.Replies.{reply_text}
-use Rattle.run_log.specs.Lines.{object_of, step_text, round_text, width_text, key_word, keys_text, outcome_text, ended, opening_lines, old_opening_lines, round_lines, rounds_lines}
-use Rattle.run_log.specs.Fields.{field, is_number, actor_of, is_object, is_printable, step_actor, is_lower_hex, is_key, is_keys_line, is_outcome_line}
-use Rattle.run_log.specs.Fitting.{IsLong}
-use Rattle.run_log.specs.Form.{taken_line, read_on, reading}
-use Rattle.run_log.specs.Laws.{CanBeLogged, turns_of_round, turns_of, log_behind, ReadsToItsTurns}
 use Rattle.run_log.proofs.PlainWords.{is_seen, plain_number}
 use Rattle.run_log.proofs.Lengths.{plain_seen, printable_word, printable_both, words_again}
 

@@ -1,36 +1,15 @@
 -- Each word of a log is made of octets that are seen: it holds neither a space nor an end of a line.
-use Rattle.std.proofs.Common.{◌≡◌, ℕ, Bool, true, false, not, ◌&&◌, List, [], ◌∷◌, ◌++◌, Option, Some, None, length, map, refl, arith}
-use Rattle.std.specs.Prelude.{nat_lt, nat_le, ◌==◌}
-use Rattle.std.specs.Char.{is_ascii_digit}
-use Rattle.std.specs.Fmt.{decimal}
-use Rattle.std.specs.List.{list_all, AllByRecursion, flat_map}
-use Rattle.std.proofs.lemmas.Bool.{and_parts, and_from, lt-ltb, le-leb}
-use Rattle.std.proofs.lemmas.Bool.Decides.{nat_tests}
-use Rattle.std.proofs.lemmas.Fmt.{digits_decimal, decimal_nonempty, length-decimal-le}
-use Rattle.std.proofs.lemmas.List.Elements.{recursion_from_All}
-use Rattle.link_script.proofs.Numerals.{digits}
-use Rattle.fallback_state.specs.declared.fall.Event.{Event}
+use Rattle.run_log.proofs.Words.{◌≡◌, ℕ, Bool, true, false, ◌&&◌, List, [], ◌∷◌, ◌++◌, length, map, Some, None, refl, arith, Option, not, nat_lt, nat_le, ◌==◌}
+use Rattle.run_log.proofs.Words.{decimal, list_all, AllByRecursion, flat_map, and_parts, and_from, le-leb, lt-ltb, nat_tests, digits_decimal, decimal_nonempty}
+use Rattle.run_log.proofs.Words.{length-decimal-le, recursion_from_All, is_ascii_digit, Row, Event, Verdict, Address, octets_of, Side, digits, Notice}
+use Rattle.run_log.proofs.Words.{ControlCall, ControlReply, ReassemblyCall, ReassemblyReply, SendCall, SendReply, Ask, LocalStep, IsLong, IsByte, OptionFits}
+use Rattle.run_log.proofs.Words.{SendCallFits, SendReplyFits, ReassemblyCallFits, ReassemblyReplyFits, HeardFits, ControlCallFits, VerdictFits, NoticeFits}
+use Rattle.run_log.proofs.Words.{RowFits, ControlReplyFits, LocalFits, AskFits, flag_word, optional_word, reason_word, mode_word, event_words, verdict_words}
+use Rattle.run_log.proofs.Words.{notice_words, send_call_words, reassembly_call_words, heard_words, control_call_words, local_words, ask_words}
+use Rattle.run_log.proofs.Words.{send_reply_words, reassembly_reply_words, row_words, control_reply_words}
 use Rattle.fallback_state.specs.declared.fall.Mode.{Mode}
-use Rattle.fallback_state.specs.declared.fall.Verdict.{Verdict}
-use Rattle.control_book.specs.declared.call.Notice.{Notice}
-use Rattle.key_material.specs.declared.address.Address.{Address}
-use Rattle.key_material.specs.Address.{octets_of}
-use Rattle.linked_increase.specs.declared.rows.Row.{Row}
 use Rattle.send_book.specs.declared.call.Why.{Why}
-use Rattle.sides.specs.declared.side.Side.{Side}
 use Rattle.sides.specs.Side.{side_word}
-use Rattle.send_book.specs.declared.call.SendCall.{SendCall}
-use Rattle.send_book.specs.declared.call.SendReply.{SendReply}
-use Rattle.reassembly_book.specs.declared.call.ReassemblyCall.{ReassemblyCall}
-use Rattle.reassembly_book.specs.declared.call.ReassemblyReply.{ReassemblyReply}
-use Rattle.control_book.specs.declared.call.ControlCall.{ControlCall}
-use Rattle.control_book.specs.declared.call.ControlReply.{ControlReply}
-use Rattle.actor_desk.specs.declared.ask.Ask.{Ask}
-use Rattle.actor_desk.specs.declared.ask.LocalStep.{LocalStep}
-use Rattle.run_log.specs.Words.{flag_word, optional_word, reason_word, mode_word, event_words, verdict_words, notice_words}
-use Rattle.run_log.specs.Calls.{send_call_words, reassembly_call_words, heard_words, control_call_words, local_words, ask_words}
-use Rattle.run_log.specs.Replies.{send_reply_words, reassembly_reply_words, row_words, control_reply_words}
-use Rattle.run_log.specs.Fitting.{IsLong, IsByte, OptionFits, SendCallFits, SendReplyFits, ReassemblyCallFits, ReassemblyReplyFits, HeardFits, ControlCallFits, VerdictFits, NoticeFits, RowFits, ControlReplyFits, LocalFits, AskFits}
 
 -- an octet that is seen, and isn't '='
 abbrev pub is_seen : ℕ → Bool

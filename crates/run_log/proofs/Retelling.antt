@@ -1,37 +1,15 @@
 -- A note is read again from the words of its line, as far as the line tells it.
-use Rattle.std.proofs.Common.{◌≡◌, ℕ, Bool, true, false, cond, eqb, List, [], ◌∷◌, ◌++◌, length, map, Option, Some, None, refl, ap, ◌∙◌, arith}
-use Rattle.std.specs.Prelude.{codes, replicate}
-use Rattle.std.specs.Char.{is_ascii_digit}
-use Rattle.std.specs.Fmt.{decimal}
-use Rattle.std.specs.List.{list_all, AllByRecursion, flat_map}
-use Rattle.std.specs.Str.{bytes_eq}
-use Rattle.std.specs.Str.Parse.{digits_value}
-use Rattle.std.proofs.lemmas.Bool.{and_parts}
-use Rattle.std.proofs.lemmas.Bool.Decides.{nat_tests}
-use Rattle.std.proofs.lemmas.Fmt.{digits_decimal, digits_value-decimal}
-use Rattle.std.proofs.lemmas.List.Elements.{recursion_from_All}
-use Rattle.link_script.proofs.Numerals.{digits}
-use Rattle.fallback_state.specs.declared.fall.Event.{Event}
+use Rattle.run_log.proofs.Words.{◌≡◌, ℕ, Bool, true, false, eqb, List, [], ◌∷◌, ◌++◌, length, map, Some, None, refl, ap, ◌∙◌, arith, cond, Option, codes}
+use Rattle.run_log.proofs.Words.{replicate, decimal, list_all, AllByRecursion, flat_map, and_parts, nat_tests, digits_decimal, digits_value-decimal}
+use Rattle.run_log.proofs.Words.{recursion_from_All, bytes_eq, digits_value, is_ascii_digit, Row, Event, Verdict, Address, octets_of, Side, digits, Notice}
+use Rattle.run_log.proofs.Words.{ControlCall, ControlReply, ReassemblyCall, ReassemblyReply, SendCall, SendReply, LocalStep, IsLong, IsByte, OptionFits}
+use Rattle.run_log.proofs.Words.{SendCallFits, SendReplyFits, ReassemblyCallFits, ReassemblyReplyFits, HeardFits, ControlCallFits, VerdictFits, NoticeFits}
+use Rattle.run_log.proofs.Words.{RowFits, ControlReplyFits, LocalFits, HasItsOctets, flag_word, optional_word, reason_word, mode_word, event_words}
+use Rattle.run_log.proofs.Words.{verdict_words, notice_words, send_call_words, reassembly_call_words, heard_words, control_call_words, local_words}
+use Rattle.run_log.proofs.Words.{send_reply_words, reassembly_reply_words, row_words, control_reply_words}
 use Rattle.fallback_state.specs.declared.fall.Mode.{Mode}
-use Rattle.fallback_state.specs.declared.fall.Verdict.{Verdict}
-use Rattle.control_book.specs.declared.call.Notice.{Notice}
-use Rattle.key_material.specs.declared.address.Address.{Address}
-use Rattle.key_material.specs.Address.{octets_of}
-use Rattle.linked_increase.specs.declared.rows.Row.{Row}
 use Rattle.send_book.specs.declared.call.Why.{Why}
-use Rattle.sides.specs.declared.side.Side.{Side}
 use Rattle.sides.specs.Side.{side_word}
-use Rattle.send_book.specs.declared.call.SendCall.{SendCall}
-use Rattle.send_book.specs.declared.call.SendReply.{SendReply}
-use Rattle.reassembly_book.specs.declared.call.ReassemblyCall.{ReassemblyCall}
-use Rattle.reassembly_book.specs.declared.call.ReassemblyReply.{ReassemblyReply}
-use Rattle.control_book.specs.declared.call.ControlCall.{ControlCall}
-use Rattle.control_book.specs.declared.call.ControlReply.{ControlReply}
-use Rattle.actor_desk.specs.declared.ask.LocalStep.{LocalStep}
-use Rattle.run_log.specs.Words.{flag_word, optional_word, reason_word, mode_word, event_words, verdict_words, notice_words}
-use Rattle.run_log.specs.Calls.{send_call_words, reassembly_call_words, heard_words, control_call_words, local_words}
-use Rattle.run_log.specs.Replies.{send_reply_words, reassembly_reply_words, row_words, control_reply_words}
-use Rattle.run_log.specs.Fitting.{IsLong, IsByte, OptionFits, SendCallFits, SendReplyFits, ReassemblyCallFits, ReassemblyReplyFits, HasItsOctets, HeardFits, ControlCallFits, VerdictFits, NoticeFits, RowFits, ControlReplyFits, LocalFits}
 use Rattle.run_log.specs.Telling.{told_send_call, told_reassembly_call, told_send_reply, told_reassembly_reply}
 
 -- ---- single words

@@ -1,19 +1,10 @@
 -- Reading line after line, as a loop does.
-use Rattle.std.proofs.Common.{◌≡◌, ℕ, suc, ◌+◌, ◌<◌, Bool, true, false, cond, ◌&&◌, eqb, List, [], ◌∷◌, length, Option, Some, None, Result, Ok, Err, refl, sym, ap, subst, ◌∙◌, add-one, arith}
-use Rattle.std.proofs.lemmas.Bool.{eqb-true}
-use Rattle.std.proofs.lemmas.List.{nil_from_length}
-use Rattle.run_log.specs.declared.fault.LogFault.{LogFault}
-use Rattle.run_log.specs.declared.form.Expected.{Expected}
-use Rattle.run_log.specs.declared.form.Expected.TheVariants.{Format, Width, Keys, Turns, Nothing}
+use Rattle.run_log.proofs.Words.{◌≡◌, ℕ, suc, ◌+◌, ◌<◌, Bool, true, false, eqb, ◌&&◌, List, [], ◌∷◌, length, Some, None, Result, Ok, refl, ap, sym, ◌∙◌, arith}
+use Rattle.run_log.proofs.Words.{cond, Option, subst, Err, add-one, codes, eqb-true, bytes_eq, nil_from_length, text_lines, LogFault, Expected, Format, Width}
+use Rattle.run_log.proofs.Words.{Keys, Turns, Nothing, Turn, round_text, width_text, Fails, HasRoundBelow, is_nothing, silent, tells, step_or, end_line}
+use Rattle.run_log.proofs.Words.{after_line, taken_line, read_on, reading, step_actor, is_keys_line, is_outcome_line}
 use Rattle.run_log.specs.declared.form.Taken.{Taken}
-use Rattle.run_log.specs.Fields.{step_actor, is_keys_line, is_outcome_line}
-use Rattle.run_log.specs.Lines.{round_text, width_text}
-use Rattle.std.specs.Prelude.{codes}
 use Rattle.run_log.specs.declared.turn.Turn.TheVariants.{Round}
-use Rattle.std.specs.Str.{bytes_eq}
-use Rattle.octet_text.specs.Lines.{text_lines}
-use Rattle.run_log.specs.declared.turn.Turn.{Turn}
-use Rattle.run_log.specs.Form.{Fails, HasRoundBelow, is_nothing, silent, tells, step_or, end_line, after_line, taken_line, read_on, reading}
 
 module _ (actors width : ℕ) where
   pub goes_on : (number : ℕ) (expected next : Expected) (turns now : List Turn) (rest line after : List ℕ) (whole : Result (List Turn) LogFault)

@@ -1,5 +1,4 @@
-use Rattle.std.proofs.Common.{◌≡◌, ◌≤◌, ◌+◌, length}
-use Rattle.connection_table.specs.Scripts.{first_alter}
+use Rattle.connection_table.proofs.Words.{◌≡◌, ◌+◌, ◌≤◌, length, first_alter}
 use Rattle.connection_table.proofs.AlterLines.{alter_from}
 use Rattle.connection_table.proofs.listed_script.first_alter.Given as goal
 

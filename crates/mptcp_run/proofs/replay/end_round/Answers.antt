@@ -1,15 +1,6 @@
-use Rattle.std.proofs.Common.{◌∙◌, refl, sym, ap, subst, map, length, ◌∷◌, []}
-use Rattle.std.proofs.lemmas.Result.{on_ok_weaker, on_err_weaker}
-use Rattle.world_core.specs.Kept.{Kept}
-use Rattle.world_laws.specs.Fine.{lists_of}
-use Rattle.run_outside.specs.Plan.{AddsAll, AddsCut}
-use Rattle.mptcp_run.specs.Plan.{round_puts}
-use Rattle.mptcp_run.specs.Rounds.{HoldsRound, HoldsPart}
-use Rattle.world_core.specs.Weaving.{IsSince}
-use Rattle.run_outside.proofs.Calling.{only_none}
-use Rattle.run_outside.proofs.Calls.{adds_none}
+use Rattle.mptcp_run.proofs.Words.{refl, sym, ◌∙◌, ap, subst, [], ◌∷◌, map, length, on_ok_weaker, on_err_weaker, AddsAll, AddsCut, adds_none, IfErr-map}
+use Rattle.mptcp_run.proofs.Words.{only_none, lists_of, IsSince, Kept, HoldsRound, HoldsPart, round_puts}
 use Rattle.mptcp_run.proofs.Turning.{end_since, end_length, under_end, round_stops, ended_parts, not_over}
-use Rattle.run_outside.proofs.PortsLemmas.{IfErr-map}
 use Rattle.mptcp_run.proofs.Starting.{replay_cause}
 use Rattle.mptcp_run.proofs.replay.end_round.Goals as goal
 

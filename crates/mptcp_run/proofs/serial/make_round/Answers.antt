@@ -1,15 +1,6 @@
-use Rattle.std.proofs.Common.{◌∙◌, refl, sym, ap, subst, map, length, inl, inr}
-use Rattle.std.proofs.lemmas.Result.{on_ok_weaker}
-use Rattle.path_core.specs.Octets.{octets}
-use Rattle.world_laws.specs.Fine.{lists_of}
-use Rattle.world_core.specs.Kept.{Kept}
-use Rattle.world_core.specs.Rounds.{RoundTo}
-use Rattle.mptcp_run.specs.Making.{RoundMade}
-use Rattle.mptcp_run.specs.Rounds.{Begins}
+use Rattle.mptcp_run.proofs.Words.{refl, sym, ◌∙◌, ap, subst, map, length, inl, inr, on_ok_weaker, octets, adds_none, IfErr-both, OnOk-both, only_none}
+use Rattle.mptcp_run.proofs.Words.{lists_of, RoundTo, Kept, Begins, RoundMade}
 use Rattle.mptcp_run.proofs.AllTurns.{round_begins, round_since, since_length}
-use Rattle.run_outside.proofs.Calling.{only_none}
-use Rattle.run_outside.proofs.Calls.{adds_none}
-use Rattle.run_outside.proofs.PortsLemmas.{OnOk-both, IfErr-both}
 use Rattle.mptcp_run.proofs.serial.make_round.Goals as goal
 
 pub put_round-requires-clause-made : goal.put_round-requires-clause-made

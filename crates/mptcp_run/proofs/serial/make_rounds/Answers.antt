@@ -1,10 +1,4 @@
-use Rattle.std.proofs.Common.{◌∙◌, sym, ap, ◌+◌, ◌-◌, arith}
-use Rattle.std.proofs.lemmas.Result.{err_from_is_err_and}
-use Rattle.path_core.specs.Octets.{octets}
-use Rattle.world_core.specs.Rounds.{RoundTo}
-use Rattle.world_laws.specs.Serial.{IsSerial}
-use Rattle.run_outside.proofs.Calling.{only_then}
-use Rattle.run_outside.proofs.PortsLemmas.{fault_after}
+use Rattle.mptcp_run.proofs.Words.{sym, ◌∙◌, ap, ◌+◌, arith, ◌-◌, err_from_is_err_and, octets, fault_after, only_then, IsSerial, RoundTo}
 use Rattle.mptcp_run.proofs.Courses.{serial_kind, serial_made, serial_cut}
 use Rattle.mptcp_run.proofs.RoundsMade.{put_more, put_last, cut_later, cut_now, rounds_over}
 use Rattle.mptcp_run.proofs.serial.make_rounds.Goals as goal

@@ -1,12 +1,6 @@
-use Rattle.std.proofs.Common.{◌≡◌, ◌≤◌, ◌-◌, ℕ, List}
-use Rattle.path_core.specs.Octets.{octets}
-use Rattle.world_laws.specs.Serial.{IsSerial}
-use Rattle.world_laws.specs.Worlds.{Turn}
-use Rattle.run_outside.specs.Calling.{OnlyPuts}
-use Rattle.mptcp_run.specs.Rounds.{AtRound}
+use Rattle.mptcp_run.proofs.Words.{◌≡◌, ℕ, ◌≤◌, List, ◌-◌, octets, OnlyPuts, IsSerial, Turn, AtRound, Connection}
 use Rattle.mptcp_run.proofs.serial.make_rounds.Given as goal
 use Rattle.mptcp_run.proofs.Folding.{RoundsPut, RoundsCut}
-use Rattle.mptcp_run.specs.Task.{Connection}
 
 abbrev serial : ℕ → List Turn → Connection → Type 0
 serial n ts w = IsSerial octets n ts w

@@ -1,12 +1,8 @@
-use Rattle.std.proofs.Common.{arith}
-use Rattle.outside_kit.specs.declared.port.Port.TheVariants.{ReadByA, ReadByB}
-use Rattle.run_words.specs.Lines.{as_line}
-use Rattle.mptcp_run.specs.Task.{Task, task_from, first_world}
+use Rattle.mptcp_run.proofs.Words.{arith, as_line, ReadByA, ReadByB, fault_after, IfErr-map, IfErr-both, IfOk-and, b_isnt_log, a_isnt_log, Task, first_world}
+use Rattle.mptcp_run.proofs.Words.{task_from, Report}
 use Rattle.mptcp_run.specs.Task as course
-use Rattle.mptcp_run.specs.declared.report.Report.{Report}
 use Rattle.mptcp_run.proofs.Courses.{no_woven_round}
 use Rattle.mptcp_run.proofs.Performing.{binds_short}
-use Rattle.run_outside.proofs.PortsLemmas.{IfOk-and, IfErr-both, IfErr-map, fault_after, b_isnt_log, a_isnt_log}
 use Rattle.mptcp_run.proofs.Starting.{opened_at, course_done, course_short, course_line_short}
 use Rattle.mptcp_run.proofs.ThreadsMade.{when_ok, when_err}
 use Rattle.mptcp_run.proofs.top_call.take_threaded_rounds.Goals as goal
