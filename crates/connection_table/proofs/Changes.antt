@@ -1,20 +1,10 @@
 -- What is made of one connection of a table, and of each one after the other.
-use Rattle.std.proofs.Common.{◌≡◌, refl, sym, ◌∙◌, ap, subst, ℕ, zero, suc, ◌+◌, ◌-◌, ◌^◌, ◌<◌, ◌≤◌, Bool, true, false, Option, Some, None, List, [], ◌∷◌, ◌++◌, length, if◌then◌else◌, arith}
-use Rattle.std.specs.Prelude.{IsSomeAnd}
-use Rattle.std.specs.List.{All, slice_get, slice_set}
-use Rattle.std.proofs.lemmas.List.Elements.{All-nil, All-cons, All-head, All-tail}
-use Rattle.std.proofs.lemmas.Option.{same_Some}
-use Rattle.run_outside.specs.declared.input.Input.{Input}
-use Rattle.world_core.specs.Steps.{StampRises, is_made, stamp_at}
+use Rattle.connection_table.proofs.Words.{◌≡◌, refl, sym, ◌∙◌, ap, subst, ℕ, zero, suc, ◌+◌, ◌-◌, ◌^◌, ◌<◌, ◌≤◌, Bool, true, false, Option, Some, None, List}
+use Rattle.connection_table.proofs.Words.{[], ◌∷◌, ◌++◌, length, arith, if◌then◌else◌, IsSomeAnd, All, slice_get, slice_set, All-nil, All-cons, All-head}
+use Rattle.connection_table.proofs.Words.{All-tail, same_Some, octets, Step, Input, is_going, world_step, StampRises, is_made, stamp_at, standing, Connection}
+use Rattle.connection_table.proofs.Words.{Entry, Stands, entry_at, with_entry, IsShortEntry, EachRound, Runs, StepMade, Changes, home_of, after_step}
 use Rattle.world_core.specs.declared.stepped.Stepped.{Stepped}
-use Rattle.world_core.specs.Kept.{standing}
-use Rattle.run_log.specs.declared.turn.Turn.TheVariants.{Step}
-use Rattle.path_core.specs.Octets.{octets}
-use Rattle.world_laws.specs.Worlds.{is_going, world_step}
-use Rattle.connection_table.specs.ManyRounds.{Changes, EachRound, Made, Runs, StepMade}
-use Rattle.connection_table.specs.Routes.{home_of}
-use Rattle.connection_table.specs.Steps.{after_step}
-use Rattle.connection_table.specs.Tables.{Connection, Entry, IsShortEntry, Stands, entry_at, with_entry}
+use Rattle.connection_table.specs.ManyRounds.{Made}
 use Rattle.connection_table.proofs.Placed.{set_back, set_there}
 
 -- ---- what holds of a connection that may be there

@@ -1,27 +1,17 @@
 -- What a kept connection keeps: it stands alone, it has a path, and there is room for the end of its round.
-use Rattle.std.proofs.Common.{◌≡◌, refl, sym, ◌∙◌, ap, subst, ℕ, zero, suc, ◌+◌, ◌<◌, Bool, true, false, ◌&&◌, ◌||◌, if◌then◌else◌, Option, Some, None, List, [], ◌∷◌, ◌++◌, length, map, arith}
-use Rattle.std.specs.List.{list_any, slice_get, slice_set}
-use Rattle.std.proofs.lemmas.Bool.{false≢true}
-use Rattle.std.proofs.lemmas.List.{map-append}
-use Rattle.std.proofs.lemmas.Option.{same_Some}
+use Rattle.connection_table.proofs.Words.{◌≡◌, refl, sym, ◌∙◌, ap, subst, ℕ, zero, suc, ◌+◌, ◌<◌, ◌&&◌, Bool, true, false, Option, Some, None, List, [], ◌∷◌}
+use Rattle.connection_table.proofs.Words.{◌++◌, length, map, arith, if◌then◌else◌, ◌||◌, map-append, slice_get, slice_set, list_any, false≢true, same_Some}
+use Rattle.connection_table.proofs.Words.{octets, PathState, Step, Round, Input, AreLawful, after_turn, all_over, begins, crew_after, end_round, greatest}
+use Rattle.connection_table.proofs.Words.{is_going, stepped, asked, world_run, world_step, PathPlan, Start, paths_from, plans_from, start_of, App, Path, Actor}
+use Rattle.connection_table.proofs.Words.{ActorCrew, is_over, member_asks, member_next, member_takes, standing, turn_of, all_turns, Connection, Entry, IsHeld}
+use Rattle.connection_table.proofs.Words.{Stands, StandsAlone, first_of, has_path, is_path, is_path_crew, key_token, opened_entry}
 use Rattle.run_log.specs.declared.turn.Turn as noted
-use Rattle.run_log.specs.declared.turn.Turn.TheVariants.{Step, Round}
 use Rattle.link_script.specs.declared.script.Script.{Script}
 use Rattle.link_script.specs.declared.script.PathLine.{PathLine}
 use Rattle.actor_desk.specs.declared.ask.Ask.{Ask}
 use Rattle.actor_desk.specs.declared.ask.Reply.{Reply}
-use Rattle.path_core.specs.Octets.{octets}
-use Rattle.path_core.specs.State.{PathState}
-use Rattle.run_outside.specs.declared.input.Input.{Input}
-use Rattle.world_core.specs.Kept.{standing}
-use Rattle.world_core.specs.Logged.{turn_of, all_turns}
-use Rattle.world_laws.specs.declared.member.Member.TheVariants.{App, Path}
-use Rattle.world_laws.specs.Actors.{Actor, ActorCrew, is_over, member_asks, member_next, member_takes}
-use Rattle.world_laws.specs.Openings.{PathPlan, Start, paths_from, plans_from, start_of}
-use Rattle.world_laws.specs.Worlds.{AreLawful, after_turn, all_over, begins, crew_after, end_round, greatest, is_going, stepped, asked, world_run, world_step}
 use Rattle.world_laws.proofs.Rounds.Frame.{first_stands}
 use Rattle.world_laws.proofs.Weaving.WholeRounds.{run_append, lawful_append}
-use Rattle.connection_table.specs.Tables.{Connection, Entry, IsHeld, Stands, StandsAlone, first_of, has_path, is_path, is_path_crew, key_token, opened_entry}
 
 -- ---- it stands alone
 

@@ -1,25 +1,15 @@
 -- Each join is routed to its own connection.
-use Rattle.std.proofs.Common.{◌≡◌, refl, sym, ◌∙◌, ap, subst, ℕ, Bool, true, false, if◌then◌else◌, Option, Some, None, option_and_then, List}
-use Rattle.std.specs.Prelude.{IsSomeAnd}
-use Rattle.std.specs.List.{slice_get}
-use Rattle.std.proofs.lemmas.Option.{same_Some}
-use Rattle.sides.specs.declared.side.Side.{Side}
-use Rattle.sides.specs.declared.side.Side.TheVariants.{A, B}
-use Rattle.path_core.specs.Looking.{Arrived, next_arrival}
+use Rattle.connection_table.proofs.Words.{◌≡◌, refl, sym, ◌∙◌, ap, subst, ℕ, Bool, true, false, Option, Some, None, List, if◌then◌else◌, option_and_then}
+use Rattle.connection_table.proofs.Words.{IsSomeAnd, slice_get, same_Some, Side, A, B, Arrived, next_arrival, start_of, App, Path, Actor, ActorCrew, all_turns}
+use Rattle.connection_table.proofs.Words.{Entry, Stands, StandsAlone, key_token, entry_at, holder_of, IsTable, IsShortEntry, EachIsRoutedHome, EachJoinIsRouted}
+use Rattle.connection_table.proofs.Words.{IsJoinNext, arriving_at_b, arriving_at_listener, arriving_in, home_by, home_of, if_at_b, only_at_b, route_by, routed}
+use Rattle.connection_table.proofs.Words.{to_holder, join_token, AsksByTokenNext, JoinsAskByToken}
 use Rattle.world_core.specs.Looking.{crew_path, listens_at, member_path}
-use Rattle.world_core.specs.Logged.{all_turns}
-use Rattle.world_laws.specs.declared.member.Member.TheVariants.{App, Path}
-use Rattle.world_laws.specs.Actors.{Actor, ActorCrew}
-use Rattle.world_laws.specs.Openings.{start_of}
 use Rattle.world_laws.proofs.Promises.OfScripts.{scripts_fit}
-use Rattle.connection_table.specs.Routing.{join_token}
 use Rattle.connection_table.specs.FoundJoins.{FindsJoinNext, FindsJoins, IsHeardAsJoin}
-use Rattle.connection_table.specs.JoinTokens.{AsksByTokenNext, JoinsAskByToken}
 use Rattle.connection_table.proofs.JoinsAsked.{joins_ask}
 use Rattle.connection_table.proofs.JoinsFound.{joins_are_found}
-use Rattle.connection_table.specs.Routes.{EachIsRoutedHome, EachJoinIsRouted, IsJoinNext, arriving_at_b, arriving_at_listener, arriving_in, home_by, home_of, if_at_b, only_at_b, route_by, routed, to_holder}
 use Rattle.connection_table.specs.declared.route.Route.TheVariants.{To}
-use Rattle.connection_table.specs.Tables.{Entry, IsShortEntry, IsTable, Stands, StandsAlone, entry_at, holder_of, key_token}
 
 -- what comes to B arrives there
 at_b : (o : Option Arrived) (a : Arrived) → option_and_then only_at_b o ≡ Some a → (o ≡ Some a) × (a.to ≡ B)

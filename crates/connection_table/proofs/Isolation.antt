@@ -1,18 +1,10 @@
 -- Each connection of a table is what its own calls alone make of it.
-use Rattle.std.proofs.Common.{◌≡◌, ◌≢◌, refl, sym, ◌∙◌, ap, subst, ℕ, Bool, true, false, if◌then◌else◌, ⊎_elim, Option, Some, None, List, [], ◌∷◌, ◌++◌}
-use Rattle.std.specs.Prelude.{◌==◌, IsSomeAnd}
-use Rattle.std.proofs.lemmas.Bool.{eq-eqb, eqb-true, false≢true}
-use Rattle.std.proofs.lemmas.Option.{same_Some}
-use Rattle.run_log.specs.declared.turn.Turn.TheVariants.{Step, Round}
-use Rattle.path_core.specs.Octets.{octets}
-use Rattle.run_outside.specs.declared.input.Input.{Input}
-use Rattle.stream_lanes.proofs.Lists.{in_append, in_more, in_one, in_set, set_other}
-use Rattle.world_core.specs.Kept.{standing}
-use Rattle.world_core.specs.Logged.{all_turns}
-use Rattle.world_laws.specs.Worlds.{end_round, is_going, world_run, world_step}
+use Rattle.connection_table.proofs.Words.{◌≡◌, refl, sym, ◌∙◌, ap, subst, ⊎_elim, ℕ, Bool, true, false, Option, Some, None, List, [], ◌∷◌, ◌++◌, if◌then◌else◌}
+use Rattle.connection_table.proofs.Words.{◌==◌, IsSomeAnd, eqb-true, false≢true, eq-eqb, same_Some, octets, Step, Round, Input, in_append, in_more, in_one}
+use Rattle.connection_table.proofs.Words.{in_set, set_other, end_round, is_going, world_run, world_step, standing, all_turns, Entry, Stands, StandsAlone}
+use Rattle.connection_table.proofs.Words.{first_of, opened_entry, entry_at, with_entry, IsShortEntry, after_end, after_step}
+use Rattle.std.proofs.Common.{◌≢◌}
 use Rattle.connection_table.specs.Calls.{Call, CanAllBe, CanBe, CanCall, EachIsIsolated, Event, IsIsolated, IsShortTable, NoneFailed, after_call, after_calls, after_event, after_events, call_made, called_at, own_calls, put_call}
-use Rattle.connection_table.specs.Steps.{after_end, after_step}
-use Rattle.connection_table.specs.Tables.{Entry, IsShortEntry, Stands, StandsAlone, entry_at, first_of, opened_entry, with_entry}
 use Rattle.connection_table.proofs.Held.{alone_more, stopped_alone}
 use Rattle.connection_table.proofs.Holders.{table_admits, table_stays}
 use Rattle.connection_table.proofs.Home.{each_is_routed_home}

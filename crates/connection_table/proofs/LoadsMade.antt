@@ -1,24 +1,13 @@
 -- The loads of a list, line by line.
-use Rattle.std.proofs.Common.{◌≡◌, refl, sym, ◌∙◌, ap, subst, inl, inr, ℕ, zero, suc, ◌+◌, ◌<◌, Option, Some, None, Result, Ok, Err, List, [], ◌∷◌, ◌++◌, length, get_or, map, take, append_assoc, arith}
-use Rattle.std.specs.Prelude.{IfOk, IfSome}
-use Rattle.std.specs.List.{slice_get}
+use Rattle.connection_table.proofs.Words.{◌≡◌, refl, sym, ◌∙◌, ap, subst, ℕ, zero, suc, ◌+◌, ◌<◌, Option, Some, None, List, [], ◌∷◌, ◌++◌, append_assoc, length}
+use Rattle.connection_table.proofs.Words.{map, arith, inr, get_or, inl, Err, Ok, take, Result, map-append, take_more, append-nil, take-map, IfSome, IfOk}
+use Rattle.connection_table.proofs.Words.{slice_get, same_Some, Call, succeeded, failed, Adds, AddsAll, Told, adds_then, all_then, Many, Done, Usage, Load}
+use Rattle.connection_table.proofs.Words.{TooLong, Listing, Script, SameToken, Put, Memory, IsInputFault, IsListFault, IsLoadFault, AddsCut, AddsLoadsThrough}
+use Rattle.connection_table.proofs.Words.{AddsLoadsTo, AddsToFailed, InputAdds, LinesAdd, ListAdds, joined, loads_by_line, loads_of, Names, as_names}
+use Rattle.connection_table.proofs.Words.{list_reading, Listed, Contents, IsAdmitFault, NamedList}
 use Rattle.std.proofs.lemmas.Grind.{flat_map-append}
-use Rattle.std.proofs.lemmas.List.{append-nil, map-append, take-map, take_more}
-use Rattle.std.proofs.lemmas.Option.{same_Some}
-use Rattle.outside_kit.specs.Calls.{Call}
 use Rattle.outside_kit.specs.Calls as call
-use Rattle.run_outside.specs.Plan.{succeeded, failed, Adds, AddsAll}
-use Rattle.run_outside.proofs.Calls.{Told, adds_then, all_then}
-use Rattle.connection_table.specs.Lists.{Names, as_names, list_reading}
-use Rattle.connection_table.specs.ListWords.{NamedList}
-use Rattle.connection_table.specs.declared.list.Listed.{Listed}
-use Rattle.connection_table.specs.declared.many.Many.{Many}
-use Rattle.connection_table.specs.declared.many.Many.TheVariants.{Done, Usage, Load, TooLong, List as Listing, Script, SameToken, Put, Memory}
-use Rattle.connection_table.specs.Causes.{IsInputFault, IsListFault, IsLoadFault}
-use Rattle.connection_table.specs.Inputs.{Contents}
-use Rattle.connection_table.specs.Loads.{AddsCut, AddsLoadsThrough, AddsLoadsTo, AddsToFailed, InputAdds, LinesAdd, ListAdds, joined, loads_by_line, loads_of}
 use Rattle.connection_table.proofs.Adding.{all_cut}
-use Rattle.connection_table.specs.ManyEnds.{IsAdmitFault}
 use Rattle.connection_table.proofs.CallsMade.{cut_behind, cut_within, failed_then}
 
 -- ---- the connections
@@ -94,11 +83,9 @@ module _ (listed : List Listed) (i : ℕ) (e : Listed) (within : i < length list
     entry_cut content old new (TooLong line) fault adds = to_line line fault.0 adds
     entry_cut content old new (Script named line kind) fault adds = through_line (named + 1) (ap (λ n. n + 1) fault.0) adds
     entry_cut content old new Memory fault adds = of_lines adds
-    entry_cut content old new Done fault adds = tt
-    entry_cut content old new Usage fault adds = tt
     entry_cut content old new (Listing line) fault adds = absurd fault
     entry_cut content old new (SameToken line holder) fault adds = absurd fault
-    entry_cut content old new Put fault adds = tt
+    entry_cut content old new _ fault adds = tt
 
     -- its token is another's
     pub entry_made : (holder : Option ℕ) (many : Many) → IsAdmitFault entry holder many → AddsAll (loads_of at_i) b c → LinesAdd Lines a c many
@@ -107,10 +94,7 @@ module _ (listed : List Listed) (i : ℕ) (e : Listed) (within : i < length list
     entry_made holder Done fault own = tt
     entry_made holder Usage fault own = tt
     entry_made holder Put fault own = tt
-    entry_made holder (Load line) fault own = absurd fault
-    entry_made holder (TooLong line) fault own = absurd fault
-    entry_made holder (Listing line) fault own = absurd fault
-    entry_made holder (Script entry line kind) fault own = absurd fault
+    entry_made holder _ fault own = absurd fault
 
 -- ---- the list
 
@@ -165,12 +149,10 @@ module _ (content : Contents) (words : NamedList) where
         plan_is = refl;
         adds = one;
       })
-      by Done fault = tt
-      by Usage fault = tt
-      by Put fault = tt
       by (Listing line) fault = absurd fault
       by (Script entry line kind) fault = absurd fault
       by (SameToken line holder) fault = absurd fault
+      by _ fault = tt
 
   -- it is out of form
   pub list_refused : (a b : Told) (list : List ℕ) (many : Many) → IsListFault list many → AddsAll (call.Load words.list ∷ []) a b → ListAdds content words a b many
@@ -187,10 +169,7 @@ module _ (content : Contents) (words : NamedList) where
       by Done fault = tt
       by Usage fault = tt
       by Put fault = tt
-      by (Load line) fault = absurd fault
-      by (TooLong line) fault = absurd fault
-      by (Script entry line kind) fault = absurd fault
-      by (SameToken line holder) fault = absurd fault
+      by _ fault = absurd fault
 
   -- a connection of it ended the run
   pub listed_ends : (a b c : Told) (bytes : List ℕ) (names : List Names) (many : Many) → IfSome (content words.list) (λ told. bytes ≡ told) → list_reading bytes ≡ Ok names
@@ -224,6 +203,4 @@ module _ (content : Contents) (words : NamedList) where
       behind_list (SameToken line holder) adds = behind_through line adds
       behind_list (Listing line) adds = behind_through 0 adds
       behind_list Memory adds = cut_behind (call.Load words.list ∷ []) (joined (map loads_of names)) a b c one adds
-      behind_list Done adds = tt
-      behind_list Usage adds = tt
-      behind_list Put adds = tt
+      behind_list _ adds = tt

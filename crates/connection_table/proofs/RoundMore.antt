@@ -1,18 +1,11 @@
 -- A round more of a connection, and of each one of a table.
-use Rattle.std.proofs.Common.{◌≡◌, refl, sym, ◌∙◌, ap, subst, ℕ, zero, suc, ◌+◌, ◌-◌, ◌<◌, ◌≤◌, Bool, true, false, List, [], ◌∷◌, ◌++◌, length, map, if◌then◌else◌, not, ◌&&◌, arith}
-use Rattle.std.specs.List.{All}
-use Rattle.std.proofs.lemmas.List.Elements.{All-nil, All-cons}
-use Rattle.path_core.specs.Octets.{octets}
-use Rattle.run_log.specs.declared.turn.Turn.TheVariants.{Round, Step}
-use Rattle.world_core.specs.Kept.{Kept, standing}
-use Rattle.world_core.specs.Rounds.{RoundTo, TurnsFrom, after_rounds}
+use Rattle.connection_table.proofs.Words.{◌≡◌, refl, sym, ◌∙◌, ap, subst, ℕ, zero, suc, ◌+◌, ◌-◌, ◌<◌, ◌≤◌, ◌&&◌, Bool, true, false, List, [], ◌∷◌, ◌++◌}
+use Rattle.connection_table.proofs.Words.{length, map, arith, if◌then◌else◌, not, All, All-nil, All-cons, octets, Step, Round, all_over, begins, end_round}
+use Rattle.connection_table.proofs.Words.{greatest, is_going, world_step, outcome_of, AreRounds, OneOf, after_round, goes_on, TurnTo, AreTurns, Kept, standing}
+use Rattle.connection_table.proofs.Words.{RoundTo, TurnsFrom, after_rounds, Connection, Entry, Stands, EachRound, IsSerialEnd, RoundIfGoing, RoundMade, Runs}
+use Rattle.connection_table.proofs.Words.{StepMade, TurnMade, TurnsMade, goes_on_still, after_end, after_step, ends}
 use Rattle.world_core.proofs.RoundsMade.{turn_more, turn_over, turns_more, turns_over, turns_round}
-use Rattle.world_laws.specs.Outcomes.{outcome_of}
-use Rattle.world_laws.specs.Serial.{AreRounds, AreTurns, OneOf, TurnTo, after_round, goes_on}
-use Rattle.world_laws.specs.Worlds.{all_over, begins, end_round, greatest, is_going, world_step}
-use Rattle.connection_table.specs.ManyRounds.{EachRound, IsSerialEnd, Made, RoundIfGoing, RoundMade, Runs, StepMade, TurnMade, TurnsMade, goes_on_still}
-use Rattle.connection_table.specs.Steps.{after_end, after_step, ends}
-use Rattle.connection_table.specs.Tables.{Connection, Entry, Stands}
+use Rattle.connection_table.specs.ManyRounds.{Made}
 
 -- ---- rounds of one connection
 

@@ -9,10 +9,8 @@ use Rattle.stream_lanes.specs.Words.{Every}
 use Rattle.stream_lanes.proofs.Lists.{Every-nil, Every-append}
 use Rattle.actor_desk.specs.Bounds.{TakesReply}
 use Rattle.actor_desk.specs.declared.ask.Ask.{Ask}
-use Rattle.actor_desk.specs.declared.ask.Ask.TheVariants as asks
 use Rattle.actor_desk.specs.declared.ask.Note.{Note}
 use Rattle.actor_desk.specs.declared.ask.Reply.{Reply}
-use Rattle.actor_desk.specs.declared.ask.Reply.TheVariants as replies
 use Rattle.actor_desk.specs.Journals.{is_local}
 use Rattle.actor_desk.specs.Words.{is_nil}
 use Rattle.path_agenda.specs.declared.duty.Duty.{Duty}
@@ -41,14 +39,12 @@ TurnOf c d = Turned (member_asks octets) (member_takes octets) c d
 
 -- ---- the steps of one actor
 
-local_done : (x : Ask) (r : Reply) → is_local x ≡ true → TakesReply (Some x) r → r ≡ replies.Done
-local_done (asks.Local step) replies.Done is h = refl
-local_done (asks.Local step) (replies.Send reply) is h = absurd h.0
-local_done (asks.Local step) (replies.Reassembly reply) is h = absurd h.0
-local_done (asks.Local step) (replies.Control reply) is h = absurd h.0
-local_done (asks.Send s call) r is h = cc
-local_done (asks.Reassembly s call) r is h = cc
-local_done (asks.Control s call) r is h = cc
+local_done : (x : Ask) (r : Reply) → is_local x ≡ true → TakesReply (Some x) r → r ≡ Reply.Done
+local_done (Ask.Local step) Reply.Done is h = refl
+local_done (Ask.Local step) (Reply.Send reply) is h = absurd h.0
+local_done (Ask.Local step) (Reply.Reassembly reply) is h = absurd h.0
+local_done (Ask.Local step) (Reply.Control reply) is h = absurd h.0
+local_done _ r is h = cc
 
 steps_of : (notes : List Note) (c : Crew) → AreSteps (member_asks octets) (member_takes octets) c.pass.actor c.member c.pass.stamp notes → AreStepsOf octets notes c
 steps_of [] c h = tt

@@ -1,6 +1,5 @@
 -- Things put one after the other.
-use Rattle.std.proofs.Common.{◌≡◌, refl, ap, List, [], ◌∷◌, ◌++◌}
-use Rattle.path_agenda.specs.declared.heard.Heard.{Heard}
+use Rattle.path_core.proofs.Words.{◌≡◌, refl, ap, List, [], ◌∷◌, ◌++◌, Heard}
 
 pub append-assoc : (xs ys zs : List Heard) → (xs ++ ys) ++ zs ≡ xs ++ (ys ++ zs)
 append-assoc [] ys zs = refl

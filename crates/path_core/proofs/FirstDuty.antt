@@ -1,14 +1,8 @@
 -- What the first duty of an agenda comes to.
-use Rattle.std.proofs.Common.{◌≡◌, refl, sym, ap, subst, ◌∙◌, Bool, true, false, if◌then◌else◌, is_none, Some, None, List, [], ◌∷◌, drop}
-use Rattle.actor_desk.specs.Words.{tail_of}
-use Rattle.actor_desk.specs.declared.ask.Reply.{Reply}
-use Rattle.path_agenda.specs.declared.duty.Duty.{Duty}
-use Rattle.path_core.specs.Codec.{Codec}
-use Rattle.path_core.specs.Duties.{stands, ask_for, passed, answered}
+use Rattle.path_core.proofs.Words.{◌≡◌, refl, sym, ap, subst, ◌∙◌, Bool, true, false, if◌then◌else◌, Some, None, List, [], ◌∷◌, drop, is_none, first_of, Duty}
+use Rattle.path_core.proofs.Words.{Reply, tail_of, PathState, with_agenda, Codec, stands, ask_for, passed, answered, settled, settles_down, asks_first, answers}
+use Rattle.path_core.proofs.Words.{passable, passable_of}
 use Rattle.path_core.specs.Replies.{asks_bytes, asks_bytes_first, needs_memory, needs_memory_first}
-use Rattle.path_core.specs.State.{PathState, with_agenda}
-use Rattle.path_core.specs.Steps.{settled, settles_down, passable, passable_of, asks_first, answers}
-use Rattle.path_agenda.specs.Words.{first_of}
 use Rattle.path_core.proofs.Settling.{passes_anyway, settles_anyway}
 
 -- the agenda without it

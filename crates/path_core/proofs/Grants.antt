@@ -1,17 +1,7 @@
 -- What may be sent where a duty stands, and what a grant brings.
-use Rattle.std.proofs.Common.{◌≡◌, refl, ◌^◌, ◌<◌, ◌≤◌, Bool, true, false, ◌&&◌, ◌||◌, not, is_some, Option, Some, None, arith}
-use Rattle.std.specs.Prelude.{IsTrue, nat_le}
-use Rattle.std.proofs.lemmas.Bool.{leb-false}
-use Rattle.sides.specs.declared.side.Side.{Side}
-use Rattle.subflow_send.specs.Records.{Record}
-use Rattle.subflow_tcp.specs.State.{EndState, is_at_limit}
-use Rattle.subflow_tcp.specs.States.{may_finish}
-use Rattle.path_core.specs.DataFin.{is_fin_due}
-use Rattle.path_core.specs.Emission.{may_ask, data_stands}
-use Rattle.path_core.specs.End.{PathEnd}
-use Rattle.path_core.specs.State.{PathState}
-use Rattle.path_core.specs.Profile.{Profile}
-use Rattle.path_core.specs.Turns.{TakesTime}
+use Rattle.path_core.proofs.Words.{◌≡◌, refl, ◌<◌, ◌≤◌, ◌&&◌, ◌||◌, Bool, true, false, Option, Some, None, arith, ◌^◌, is_some, not, leb-false, IsTrue, Side}
+use Rattle.path_core.proofs.Words.{Record, EndState, is_at_limit, may_finish, PathState, PathEnd, Profile, is_fin_due, may_ask, data_stands, TakesTime}
+use Rattle.std.specs.Prelude.{nat_le}
 
 first_true : (a b : Bool) → (a && b) ≡ true → a ≡ true
 first_true true b is = refl

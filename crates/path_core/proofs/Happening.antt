@@ -1,38 +1,21 @@
 -- Events: ticks pass, or one event less is due.
-use Rattle.std.proofs.Common.{◌≡◌, refl, ℕ, ◌+◌, ◌<◌, ◌≤◌, ◌⊎◌, inl, inr, ⊎_elim, max, nat_le, nat_lt, Bool, true, false, if◌then◌else◌, List, [], ◌∷◌, length, Option, Some, None, is_some, option_and_then, position, subst, arith}
-use Rattle.std.proofs.lemmas.Bool.{cases_lt, ltb-true, leb-false, eq-eqb, lt-ltb}
-use Rattle.path_segments.specs.Heard.{HeardSegment}
-use Rattle.sides.specs.declared.side.Side.{Side}
-use Rattle.sides.specs.declared.side.Side.TheVariants.{A, B}
+use Rattle.path_core.proofs.Words.{◌≡◌, ◌⊎◌, inl, inr, refl, subst, ℕ, ◌+◌, ◌<◌, ◌≤◌, nat_le, nat_lt, Bool, true, false, if◌then◌else◌, Option, Some, None}
+use Rattle.path_core.proofs.Words.{List, [], ◌∷◌, length, arith, is_some, ⊎_elim, position, max, option_and_then, cases_lt, ltb-true, leb-false, eq-eqb, lt-ltb}
+use Rattle.path_core.proofs.Words.{Side, A, B, EndPhase, is_dead, after_arrival, is_due, next_due, arriving, after_delivery, without, due_of, Flight}
+use Rattle.path_core.proofs.Words.{HeardSegment, emission, announces, withdraws, leaves, Reply, tail_of, Then, Less, copy_of, judged_in, after_judged}
+use Rattle.path_core.proofs.Words.{template_of, told_at, copy_heard, with_payload, copy_taken, never_joined, is_never, keys_begun, opened_by, is_joined}
+use Rattle.path_core.proofs.Words.{joins_at_tick, with_priority, options_heard, hint_of, items_of, owes_by, at_tick, PathState, end_at, goes_on, taken_as}
+use Rattle.path_core.proofs.Words.{PathEnd, died, Codec, TakesTime, tick_of, next_join, next_line, next_copy, earlier, earliest, before, next_event, after_line}
+use Rattle.path_core.proofs.Words.{line_taken, happens, happens_if, CanHappen, died_unless_dead, ticks_left, one_if_due, due_copies, due_timer, due_by_now}
+use Rattle.path_core.proofs.Words.{due_lines}
 use Rattle.link_script.specs.Places.{same_side}
-use Rattle.link_model.specs.declared.flight.Flight.{Flight}
-use Rattle.link_model.specs.Steps.{due_of, is_due, without, next_due, arriving, after_delivery}
-use Rattle.subflow_tcp.specs.States.{is_dead, is_waiting}
-use Rattle.subflow_tcp.specs.declared.handshake.State.{State as EndPhase}
-use Rattle.subflow_tcp.specs.Taking.{after_arrival}
-use Rattle.path_core.specs.OptionsIn.{options_heard, hint_of, items_of, owes_by}
-use Rattle.path_core.specs.Arrival.{copy_of, with_payload, judged_in, after_judged, template_of, told_at, copy_heard, heard_in, copy_taken}
-use Rattle.path_core.specs.Judged.{taken_as}
-use Rattle.path_core.specs.MpJoin.{is_never, keys_begun, opened_by, is_joined, never_joined, joins_at_tick}
+use Rattle.subflow_tcp.specs.States.{is_waiting}
+use Rattle.path_core.specs.Arrival.{heard_in}
 use Rattle.path_core.proofs.Joined.{never_rests, opened_rests}
-use Rattle.actor_desk.specs.declared.ask.Reply.{Reply}
-use Rattle.path_agenda.specs.Agenda.{emission, announces, withdraws, leaves}
-use Rattle.path_core.specs.Codec.{Codec}
-use Rattle.path_core.specs.End.{PathEnd, died}
-use Rattle.path_core.specs.Events.{tick_of, next_join, next_line, next_copy, earlier, earliest, before, next_event, after_line, line_taken, happens, happens_if, CanHappen}
 use Rattle.path_core.specs.Timer.{next_fire, timer_fired}
-use Rattle.path_core.specs.Breaking.{died_unless_dead}
-use Rattle.path_core.specs.Addresses.{with_priority}
-use Rattle.path_core.specs.State.{at_tick, PathState, end_at, goes_on}
 use Rattle.path_core.specs.declared.events.Event.{Event}
-use Rattle.path_core.specs.declared.events.Event.TheVariants as happenings
-use Rattle.path_core.specs.Ranks.{ticks_left, one_if_due, due_copies, due_lines, due_timer, due_by_now}
 use Rattle.path_store.specs.declared.lines.LineLeft.{LineLeft}
 use Rattle.path_store.specs.declared.lines.LineAction.{LineAction}
-use Rattle.path_store.specs.declared.lines.LineAction.TheVariants as actions
-use Rattle.path_core.specs.Turns.{TakesTime}
-use Rattle.actor_desk.specs.Words.{tail_of}
-use Rattle.actor_desk.proofs.Falling.{Then, Less}
 use Rattle.path_core.proofs.Ranking.{Rests, same_rests, Calm, goes_calm, agenda_calm, Lower, Lowers}
 use Rattle.path_core.proofs.Resting.{to_rests, held_settles, owing_settles, fired_rests}
 
@@ -97,10 +80,7 @@ module _ {C : Type 0} where
       → (q.clock ≡ p.clock → tick ≤ p.clock → due_by_now q < due_by_now p) → TakesTime q → Passes p q
   passes_by p q tick soon until clock fewer time = ⊎_elim
       (λ later. record { fewer = Then.Falls (omega (arith, later, soon, until, clock)); time = time })
-      (λ now. record {
-        fewer = Then.Stays (omega (arith, now, until, clock)) (fewer (omega (arith, now, clock)) now);
-        time = time;
-      })
+      (λ now. record { fewer = Then.Stays (omega (arith, now, until, clock)) (fewer (omega (arith, now, clock)) now); time = time })
       (cases_lt p.clock tick)
 
   -- what follows raises none of the two
@@ -157,17 +137,17 @@ module _ {C : Type 0} where
       one_less = rw is refl
 
   line_calm : (action : LineAction) (p : PathState C) → TakesTime p → Calm p (after_line action p)
-  line_calm actions.Die p t =
+  line_calm LineAction.Die p t =
       let a = dead_rests p.clock p.a in let b = dead_rests p.clock p.b in
       record {
         ticks = omega arith;
         due = omega (arith, a.due, b.due);
         time = record { delay = t.delay; timer_a = a.timeout t.timer_a; timer_b = b.timeout t.timer_b };
       }
-  line_calm (actions.Prio s backup) p t =
+  line_calm (LineAction.Prio s backup) p t =
       goes_calm s (with_priority backup (end_at s p)) (emission s) p t (same_rests p.clock (end_at s p) (with_priority backup (end_at s p)) refl)
-  line_calm (actions.Announce s id) p t = agenda_calm (announces s id) p t
-  line_calm (actions.Withdraw s id) p t = agenda_calm (withdraws s id) p t
+  line_calm (LineAction.Announce s id) p t = agenda_calm (announces s id) p t
+  line_calm (LineAction.Withdraw s id) p t = agenda_calm (withdraws s id) p t
 
   line_lowers : (line : LineLeft) (lines : List LineLeft) (p : PathState C) → TakesTime p → p.lines ≡ line ∷ lines → line.tick < p.until
       → Lowers p (line_taken line p)
@@ -238,9 +218,9 @@ module _ {C : Type 0} where
   by_join k r p state None event t is e soon = cc
   by_join k r p state (Some tick) event t is e soon = by (is_waiting state) e
     where
-      by : (b : Bool) → (if b then Some (happenings.Joins tick) else None) ≡ Some event → Lowers p (happens k event r p)
+      by : (b : Bool) → (if b then Some (Event.Joins tick) else None) ≡ Some event → Lowers p (happens k event r p)
       by true e =
-          let same : happenings.Joins tick ≡ event = cc in
+          let same : Event.Joins tick ≡ event = cc in
           subst (λ x. tick_of x < p.until → Lowers p (happens k x r p)) same (λ soon. join_lowers r tick p t is soon) soon
       by false e = cc
 
@@ -248,21 +228,21 @@ module _ {C : Type 0} where
       → tick_of event < p.until → Lowers p (happens k event r p)
   by_line k r p [] event t is e soon = cc
   by_line k r p (line ∷ lines) event t is e soon =
-      let same : happenings.Takes line ≡ event = cc in
+      let same : Event.Takes line ≡ event = cc in
       subst (λ x. tick_of x < p.until → Lowers p (happens k x r p)) same (λ soon. line_lowers line lines p t is soon) soon
 
   by_copy : (k : Codec C) (r : Reply) (p : PathState C) (flights : List (Flight C)) (event : Event) → TakesTime p → p.link.under_way ≡ flights
       → next_copy (next_due flights) ≡ Some event → tick_of event < p.until → Lowers p (happens k event r p)
   by_copy k r p [] event t is e soon = cc
   by_copy k r p (f ∷ flights) event t is e soon =
-      let same : happenings.Arrives (due_of f) ≡ event = cc in
+      let same : Event.Arrives (due_of f) ≡ event = cc in
       subst (λ x. tick_of x < p.until → Lowers p (happens k x r p)) same (λ soon. copy_lowers k f flights p t is soon) soon
 
   by_timer : (k : Codec C) (s : Side) (r : Reply) (p : PathState C) (timer : Option ℕ) (event : Event) → TakesTime p → (end_at s p).tcp.timing.timer ≡ timer
       → next_fire s timer ≡ Some event → tick_of event < p.until → Lowers p (happens k event r p)
   by_timer k s r p None event t is e soon = cc
   by_timer k s r p (Some tick) event t is e soon =
-      let same : happenings.Fires s tick ≡ event = cc in
+      let same : Event.Fires s tick ≡ event = cc in
       subst (λ x. tick_of x < p.until → Lowers p (happens k x r p)) same (λ soon. fire_lowers s tick p t is soon) soon
 
   pub event_lowers : (k : Codec C) (r : Reply) (p : PathState C) → TakesTime p → is_some (next_event p) ≡ true → Lowers p (happens_if k (next_event p) r p)
@@ -294,21 +274,21 @@ module _ {C : Type 0} where
   can_join p state None event e soon = cc
   can_join p state (Some tick) event e soon = by (is_waiting state) e
     where
-      by : (b : Bool) → (if b then Some (happenings.Joins tick) else None) ≡ Some event → CanHappen event p
+      by : (b : Bool) → (if b then Some (Event.Joins tick) else None) ≡ Some event → CanHappen event p
       by true e =
-          let same : happenings.Joins tick ≡ event = cc in subst (λ x. tick_of x < p.until → CanHappen x p) same (λ soon. soon) soon
+          let same : Event.Joins tick ≡ event = cc in subst (λ x. tick_of x < p.until → CanHappen x p) same (λ soon. soon) soon
       by false e = cc
 
   can_take : (p : PathState C) (lines : List LineLeft) (event : Event) → next_line lines ≡ Some event → tick_of event < p.until → CanHappen event p
   can_take p [] event e soon = cc
   can_take p (line ∷ lines) event e soon =
-      let same : happenings.Takes line ≡ event = cc in subst (λ x. tick_of x < p.until → CanHappen x p) same (λ soon. soon) soon
+      let same : Event.Takes line ≡ event = cc in subst (λ x. tick_of x < p.until → CanHappen x p) same (λ soon. soon) soon
 
   can_arrive : (p : PathState C) (flights : List (Flight C)) (event : Event) → p.link.under_way ≡ flights → next_copy (next_due flights) ≡ Some event
       → tick_of event < p.until → CanHappen event p
   can_arrive p [] event is e soon = cc
   can_arrive p (f ∷ flights) event is e soon =
-      let same : happenings.Arrives (due_of f) ≡ event = cc in subst (λ x. tick_of x < p.until → CanHappen x p) same (λ soon. (soon, there)) soon
+      let same : Event.Arrives (due_of f) ≡ event = cc in subst (λ x. tick_of x < p.until → CanHappen x p) same (λ soon. (soon, there)) soon
     where
       there : is_some (arriving (due_of f) p.link) ≡ true
       there = rw (is, head_is_due f) refl
@@ -317,7 +297,7 @@ module _ {C : Type 0} where
       → tick_of event < p.until → CanHappen event p
   can_fire s p None event is e soon = cc
   can_fire s p (Some tick) event is e soon =
-      let same : happenings.Fires s tick ≡ event = cc in
+      let same : Event.Fires s tick ≡ event = cc in
       subst (λ x. tick_of x < p.until → CanHappen x p) same (λ soon. (soon, rw is refl)) soon
 
   -- the earliest event can happen where it comes before the round's end

@@ -1,22 +1,12 @@
 -- The mappings that a copy says lie within the places, and the one at the edge begins there or before.
-use Rattle.std.proofs.Common.{◌≡◌, refl, ℕ, ◌+◌, ◌^◌, ◌≤◌, nat_lt, nat_le, ◌&&◌, Bool, true, false, if◌then◌else◌, List, [], ◌∷◌, Option, Some, None, All, IfSome, find, cond}
-use Rattle.std.specs.List.{flat_map}
-use Rattle.std.proofs.lemmas.Bool.{leb-true}
-use Rattle.std.proofs.lemmas.List.Elements.{All-nil, All-cons, All-append}
-use Rattle.sides.specs.declared.side.Side.{Side}
-use Rattle.sides.specs.declared.side.Side.TheVariants.{A, B}
-use Rattle.dss_mapping.specs.declared.kept.KeptMapping.{KeptMapping}
+use Rattle.path_core.proofs.Words.{◌≡◌, refl, ℕ, ◌+◌, ◌≤◌, ◌&&◌, nat_le, nat_lt, Bool, true, false, if◌then◌else◌, Option, Some, None, List, [], ◌∷◌, ◌^◌, All}
+use Rattle.path_core.proofs.Words.{cond, find, flat_map, leb-true, All-nil, All-cons, All-append, Side, A, B, CapableKeys, NoKey, Sender, Both, WithData}
+use Rattle.path_core.proofs.Words.{KeptMapping, Capable, Join, Dss, AddAddr, Remove, Prio, Fail, FastClose, Reset, PathMapping, Bytes, End, Infinite}
+use Rattle.path_core.proofs.Words.{HeardOption, held_in, checksum_heard, held_if, key_held, map_held, kept_of, is_joined, Profile}
+use Rattle.std.proofs.Common.{IfSome}
 use Rattle.dss_mapping.specs.Learning.{IsWithin}
 use Rattle.dss_mapping.specs.Mappings.{Mappings, mapping_at, octets_in, run_of}
 use Rattle.dss_mapping.specs.Runs.{covers}
-use Rattle.mptcp_options.specs.declared.capable.CapableKeys.{CapableKeys}
-use Rattle.mptcp_options.specs.declared.capable.CapableKeys.TheVariants.{NoKey, Sender, Both, WithData}
-use Rattle.path_segments.specs.declared.segment.PathOption.TheVariants.{Capable, Join, Dss, AddAddr, Remove, Prio, Fail, FastClose, Reset}
-use Rattle.path_segments.specs.declared.segment.PathMapping.{PathMapping}
-use Rattle.path_segments.specs.declared.segment.PathMapping.TheVariants.{Bytes, End, Infinite}
-use Rattle.path_core.specs.DssIn.{HeardOption, checksum_heard, held_if, key_held, map_held, held_in, kept_of}
-use Rattle.path_core.specs.MpJoin.{is_joined}
-use Rattle.path_core.specs.Profile.{Profile}
 
 -- ---- the mapping at the edge
 
@@ -67,12 +57,10 @@ within_keys c B (WithData sender receiver len checksum) = by (nat_lt 0 len) (wit
     by false within = All-nil IsWithin
 
 within_map : (c : Profile) (s : Side) (mapping : Option (PathMapping (Option ℕ))) → All IsWithin (map_held c s mapping)
-within_map c s None = All-nil IsWithin
 within_map c s (Some (Bytes None position len fin checksum)) = All-nil IsWithin
 within_map c s (Some (Bytes (Some place) None len fin checksum)) = All-nil IsWithin
 within_map c s (Some (Bytes (Some place) (Some position) len fin checksum)) = within_if c s place position len fin checksum
-within_map c s (Some (End place checksum)) = All-nil IsWithin
-within_map c s (Some (Infinite place position)) = All-nil IsWithin
+within_map c s _ = All-nil IsWithin
 
 within_in : (c : Profile) (s : Side) (option : HeardOption) → All IsWithin (held_in c s option)
 within_in c s (Capable flag_a flag_c keys) = by (is_joined c)
@@ -80,14 +68,8 @@ within_in c s (Capable flag_a flag_c keys) = by (is_joined c)
     by : (joined : Bool) → All IsWithin (if joined then [] else key_held c s keys)
     by true = All-nil IsWithin
     by false = within_keys c s keys
-within_in c s (Join form) = All-nil IsWithin
 within_in c s (Dss next mapping) = within_map c s mapping
-within_in c s (AddAddr echo id address port hmac) = All-nil IsWithin
-within_in c s (Remove ids) = All-nil IsWithin
-within_in c s (Prio backup) = All-nil IsWithin
-within_in c s (Fail place) = All-nil IsWithin
-within_in c s (FastClose key) = All-nil IsWithin
-within_in c s (Reset transient reason) = All-nil IsWithin
+within_in c s _ = All-nil IsWithin
 
 pub all_within : (c : Profile) (s : Side) (options : List HeardOption) → All IsWithin (flat_map (held_in c s) options)
 all_within c s [] = All-nil IsWithin

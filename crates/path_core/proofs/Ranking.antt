@@ -1,23 +1,11 @@
 -- What lowers the numbers of a turn, and what doesn't raise the first two.
-use Rattle.std.proofs.Common.{◌≡◌, refl, ◌∙◌, ℕ, ◌+◌, ◌<◌, ◌≤◌, Bool, true, false, cond, if◌then◌else◌, nat_le, List, [], ◌∷◌, arith}
-use Rattle.std.proofs.lemmas.Bool.{leb-true}
-use Rattle.sides.specs.declared.side.Side.{Side}
-use Rattle.sides.specs.declared.side.Side.TheVariants.{A, B}
-use Rattle.link_model.specs.declared.flight.Flight.{Flight}
+use Rattle.path_core.proofs.Words.{◌≡◌, refl, ◌∙◌, ℕ, ◌+◌, ◌<◌, ◌≤◌, nat_le, Bool, true, false, if◌then◌else◌, List, [], ◌∷◌, arith, cond, leb-true, Side, A, B}
+use Rattle.path_core.proofs.Words.{after_send, arrivals, with_flights, comes_before, with_flight, Flight, PlainSegment, Duty, weights, Then, Less, PathState}
+use Rattle.path_core.proofs.Words.{end_at, with_agenda, goes_on, PathEnd, Codec, TakesTime, ticks_left, one_if_due, due_copies, due_timer, due_by_now}
+use Rattle.path_core.proofs.Words.{bytes_left, sendings_left, sent_on}
 use Rattle.link_model.specs.declared.fate.Fate.{Fate}
 use Rattle.link_model.specs.declared.fate.Fate.TheVariants.{OnTime, Lost, Late, Twice}
 use Rattle.link_model.specs.State.{LinkState}
-use Rattle.link_model.specs.Steps.{comes_before, with_flight, with_flights, arrivals, after_send}
-use Rattle.path_segments.specs.Spelled.{PlainSegment}
-use Rattle.path_agenda.specs.declared.duty.Duty.{Duty}
-use Rattle.path_core.specs.Codec.{Codec}
-use Rattle.path_core.specs.End.{PathEnd}
-use Rattle.path_agenda.specs.Weights.{weights}
-use Rattle.path_core.specs.Ranks.{ticks_left, one_if_due, due_copies, due_timer, due_by_now, bytes_left, sendings_left}
-use Rattle.path_core.specs.Handover.{sent_on}
-use Rattle.path_core.specs.State.{PathState, end_at, with_agenda, goes_on}
-use Rattle.path_core.specs.Turns.{TakesTime}
-use Rattle.actor_desk.proofs.Falling.{Then, Less}
 
 -- ---- copies
 

@@ -1,19 +1,11 @@
 -- Records that are sent and pushed, and octets that the edge passes, by their numbers.
-use Rattle.std.proofs.Common.{◌≡◌, refl, subst, ℕ, zero, suc, ◌+◌, ◌-◌, ◌^◌, ◌≤◌, nat_lt, Bool, true, false, ◌&&◌, cond, if◌then◌else◌, List, [], ◌∷◌, ◌++◌, length, take, drop, find, Option, Some, None, arith}
-use Rattle.std.specs.List.{sum_by}
-use Rattle.std.proofs.lemmas.List.{length-take}
+use Rattle.path_core.proofs.Words.{◌≡◌, refl, subst, ℕ, zero, suc, ◌+◌, ◌-◌, ◌≤◌, ◌&&◌, nat_lt, Bool, true, false, if◌then◌else◌, Option, Some, None, List, []}
+use Rattle.path_core.proofs.Words.{◌∷◌, ◌++◌, length, take, drop, arith, ◌^◌, cond, find, sum_by, ltb-true, length-take, KeptMapping, filled, Record, EndState}
+use Rattle.path_core.proofs.Words.{Piece, some_piece, count_in, InfiniteMapping, outstanding, unsent_count, infinite_piece, piece_by, piece_in, is_whole}
+use Rattle.path_core.proofs.Words.{is_right, piece_at}
 use Rattle.std.proofs.lemmas.List.Sums.{sum_by-cons}
-use Rattle.std.proofs.lemmas.Bool.{ltb-true}
-use Rattle.dss_mapping.specs.declared.kept.KeptMapping.{KeptMapping}
-use Rattle.subflow_recv.specs.Receiving.{filled}
-use Rattle.subflow_send.specs.Records.{Record}
 use Rattle.subflow_send.specs.Rules.{is_unsent, first_unsent_sent, acknowledged_in, octets_under_way}
-use Rattle.subflow_tcp.specs.State.{EndState}
-use Rattle.path_store.specs.Passing.{Piece, some_piece, count_in}
-use Rattle.path_core.specs.Deliver.{piece_in, is_whole, is_right, piece_by, piece_at, infinite_piece}
-use Rattle.path_store.specs.declared.infinite_mapping.InfiniteMapping.{InfiniteMapping}
 use Rattle.path_store.specs.InfiniteMappings.{place_under}
-use Rattle.path_core.specs.Ranks.{outstanding, unsent_count}
 
 pub sent_count : (now : ℕ) (rs : List Record) (r : Record) → find is_unsent rs ≡ Some r → unsent_count (first_unsent_sent now rs) + 1 ≡ unsent_count rs
 sent_count now [] r e = cc

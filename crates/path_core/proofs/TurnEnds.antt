@@ -1,22 +1,8 @@
 -- A turn ends: each reply lowers the numbers, and settling lowers them too.
-use Rattle.std.proofs.Common.{◌≡◌, refl, sym, ap, subst, ◌<◌, ◌⊎◌, inl, inr, Bool, true, false, if◌then◌else◌, List, [], ◌∷◌, arith}
-use Rattle.actor_desk.specs.declared.ask.Reply.{Reply}
-use Rattle.path_agenda.specs.declared.duty.Duty.{Duty}
-use Rattle.path_agenda.specs.declared.duty.Duty.TheVariants as duties
-use Rattle.path_agenda.specs.declared.duty.AskDuty.TheVariants as ask_duties
-use Rattle.path_agenda.specs.declared.duty.SendDuty.TheVariants as send_duties
-use Rattle.path_agenda.specs.declared.duty.SilentDuty.TheVariants as silent_duties
-use Rattle.path_agenda.specs.declared.duty.StepDuty.TheVariants as step_duties
-use Rattle.path_core.specs.Codec.{Codec}
-use Rattle.path_core.specs.Duties.{stands, ask_for, passed, answered}
-use Rattle.actor_desk.specs.Kinds.{IsOfKind}
-use Rattle.path_agenda.specs.Weights.{weights}
-use Rattle.path_core.specs.Ranks.{ticks_left, due_by_now, bytes_left, sendings_left}
-use Rattle.path_core.specs.State.{PathState, with_agenda}
-use Rattle.path_core.specs.Steps.{settled, settles_down, asks_first, answers, begins_turn}
-use Rattle.path_agenda.specs.Agenda.{start_of_turn}
-use Rattle.path_core.specs.Turns.{Ends, TakesTime, FirstStands, IsSettled}
-use Rattle.actor_desk.proofs.Falling.{Ending, Then, less-ends, then-ends}
+use Rattle.path_core.proofs.Words.{◌≡◌, ◌⊎◌, inl, inr, refl, sym, ap, subst, ◌<◌, Bool, true, false, if◌then◌else◌, List, [], ◌∷◌, arith, start_of_turn, Duty}
+use Rattle.path_core.proofs.Words.{AskDuty, StepDuty, SendDuty, SilentDuty, weights, Reply, Ending, Then, less-ends, then-ends, IsOfKind, PathState}
+use Rattle.path_core.proofs.Words.{with_agenda, Codec, stands, ask_for, passed, answered, settled, settles_down, asks_first, answers, begins_turn, Ends}
+use Rattle.path_core.proofs.Words.{TakesTime, FirstStands, IsSettled, ticks_left, due_by_now, bytes_left, sendings_left}
 use Rattle.path_core.proofs.Lowering.{answered_lowers}
 use Rattle.path_core.proofs.Passed.{settled_lower}
 use Rattle.path_core.proofs.Ranking.{Calm, Rest, Lower, Lowers}
@@ -52,10 +38,10 @@ module _ {C : Type 0} where
 
   -- the agenda is of no account
   same_stands : (d : Duty) (ds : List Duty) (p : PathState C) → stands d p ≡ true → stands d (with_agenda (d ∷ ds) p) ≡ true
-  same_stands (duties.Ask ask_duties.JoinAgain) ds p is = is
-  same_stands (duties.Step (step_duties.Look s)) ds p is = is
-  same_stands (duties.Send (send_duties.ResetNoted s)) ds p is = is
-  same_stands (duties.Silent (silent_duties.Timer s)) ds p is = is
+  same_stands (Duty.Ask AskDuty.JoinAgain) ds p is = is
+  same_stands (Duty.Step (StepDuty.Look s)) ds p is = is
+  same_stands (Duty.Send (SendDuty.ResetNoted s)) ds p is = is
+  same_stands (Duty.Silent (SilentDuty.Timer s)) ds p is = is
   same_stands _ ds p is = is
 
   settled_settled : (ds : List Duty) (p : PathState C) → IsSettled (settled ds p)

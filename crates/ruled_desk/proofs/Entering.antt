@@ -1,15 +1,9 @@
 -- A book that lies in a slot, after a call; and whether its journal is full.
-use Rattle.std.proofs.Common.{◌≡◌, refl, sym, ◌∙◌, subst, ℕ, ◌-◌, ◌^◌, ◌<◌, ◌≤◌, ◌⊎◌, inl, inr, ⊎_elim, eqb, leb, Bool, true, false, List, [], ◌∷◌, Result, Ok, Err, arith}
-use Rattle.std.proofs.lemmas.Bool.Decides.{nat_tests}
-use Rattle.std.specs.Prelude.{OnOk, OnErr}
+use Rattle.ruled_desk.proofs.Words.{◌≡◌, refl, sym, ◌∙◌, subst, ℕ, ◌-◌, ◌^◌, ◌<◌, ◌≤◌, ◌⊎◌, inl, inr, Bool, true, false, List, [], ◌∷◌, Result, Ok, Err, arith}
+use Rattle.ruled_desk.proofs.Words.{⊎_elim, eqb, leb, OnOk, OnErr, nat_tests, Journaled, Rise, book_of, last_stamp, Entry, Refusal, Stamps, HasLastStamp}
 use Rattle.stamped_book.specs.declared.stamped.Pass.{Pass}
-use Rattle.stamped_book.specs.declared.stamped.Entry.{Entry}
-use Rattle.stamped_book.specs.declared.stamped.Refusal.{Refusal}
-use Rattle.stamped_book.specs.declared.stamped.Refusal.TheVariants.{Stamps}
-use Rattle.stamped_book.specs.Journal.{Journaled, Rise, book_of, last_stamp}
 use Rattle.stamped_book.specs.Entering.{entry_of, after_entering, next_stamp}
 use Rattle.stamped_book.proofs.Journals.{replay-append}
-use Rattle.ruled_desk.specs.Growing.{HasLastStamp}
 
 -- what a call keeps is kept, where the call is entered and where it is refused
 pub stays_sound : {O C R E : Type 0} (reply_to : O → C → R) (after : O → C → O) (sound : O → Type 0) (s t : Journaled O C R) (pass : Pass) (call : C)

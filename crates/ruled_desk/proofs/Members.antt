@@ -1,18 +1,9 @@
 -- Lists that weigh the same however their members are weighed have the same members; and what the closed table gives.
-use Rattle.std.proofs.Common.{◌≡◌, refl, sym, ◌∙◌, ap, subst, ℕ, zero, suc, ◌<◌, ◌≤◌, eqb, Bool, true, false, ◌&&◌, List, [], ◌∷◌, length, Option, Some, None, arith}
-use Rattle.std.proofs.lemmas.Bool.Decides.{nat_tests}
+use Rattle.ruled_desk.proofs.Words.{◌≡◌, refl, sym, ◌∙◌, ap, subst, ℕ, zero, suc, ◌<◌, ◌≤◌, Bool, true, false, List, [], ◌∷◌, length, Option, Some, None, arith}
+use Rattle.ruled_desk.proofs.Words.{eqb, ◌&&◌, nat_tests, slice_index_or, some, some-injective, get_elem?, TableId, Journaled, Entry, View, HasLastStamp, grown}
+use Rattle.ruled_desk.proofs.Words.{GainsJust, Locked, Seated, locked, seated, weigh, bit}
 use Rattle.std.specs.Prelude.{Contains}
-use Rattle.std.specs.List.{slice_index_or}
 use base.Stored.{Gv, gnil, gnum, gcons, Coded}
-use mathlib.Core.Option.{some, some-injective}
-use lib.ListN.{get_elem?}
-use Rattle.stamped_book.specs.Journal.{Journaled}
-use Rattle.stamped_book.specs.declared.stamped.Entry.{Entry}
-use Rattle.ruled_desk.specs.declared.rule.View.{View}
-use Rattle.ruled_desk.specs.Growing.{HasLastStamp, grown}
-use Rattle.atomic_table.specs.Seated.{TableId}
-use Rattle.ruled_desk.specs.Seats.{GainsJust, Locked, Seated, locked, seated}
-use Rattle.ruled_desk.specs.Weighing.{weigh, bit}
 use Rattle.ruled_desk.proofs.RuleJoining.{Closes}
 use Rattle.ruled_desk.proofs.RuleWords.{grown-none}
 

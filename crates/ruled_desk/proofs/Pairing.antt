@@ -1,9 +1,7 @@
 -- Lists and journals that gain alike stay paired.
-use Rattle.std.proofs.Common.{◌≡◌, sym, ◌∙◌, subst, ℕ, ◌<◌, ◌⊎◌, inl, inr, false, List, [], ◌++◌, length, arith}
-use Rattle.std.proofs.lemmas.List.{get_or_default}
+use Rattle.ruled_desk.proofs.Words.{◌≡◌, sym, ◌∙◌, subst, ℕ, ◌<◌, ◌⊎◌, inl, inr, false, List, [], ◌++◌, length, arith, get_or_default, Note, is_local}
+use Rattle.ruled_desk.proofs.Words.{ArePaired}
 use Rattle.std.specs.List.{Contains}
-use Rattle.actor_desk.specs.declared.ask.Note.{Note}
-use Rattle.actor_desk.specs.Journals.{ArePaired, is_local}
 use Rattle.ruled_desk.specs.Gaining.{GainAlike, GoesOn, IsGained, list_at}
 use Rattle.ruled_desk.proofs.Gaining.{In, contains_in, in_append, in_contains, in_left, in_right}
 

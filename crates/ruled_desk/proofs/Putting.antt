@@ -1,12 +1,6 @@
 -- The book goes back: what the seat is then.
-use Rattle.std.proofs.Common.{◌≡◌, sym, ◌∙◌, ap, ℕ, Bool, true, false, ◌||◌, List, [], ◌∷◌, Option, Some, None}
-use Rattle.std.proofs.lemmas.List.{append-nil}
-use Rattle.atomic_table.specs.Table.{rest}
-use Rattle.stamped_book.specs.Journal.{Journaled}
-use Rattle.stamped_book.specs.declared.stamped.Entry.{Entry}
-use Rattle.ruled_desk.specs.declared.rule.View.{View}
-use Rattle.ruled_desk.specs.Growing.{HasLastStamp, grown}
-use Rattle.ruled_desk.specs.Rule.{HasTurn, HasOneMore, IsAdded, IsBack, IsDone, IsServed, view, adds, serves}
+use Rattle.ruled_desk.proofs.Words.{◌≡◌, sym, ◌∙◌, ap, ℕ, Bool, true, false, ◌||◌, List, [], ◌∷◌, Option, Some, None, append-nil, rest, Journaled, Entry, View}
+use Rattle.ruled_desk.proofs.Words.{HasLastStamp, grown, HasTurn, HasOneMore, IsDone, view, IsAdded, IsServed, adds, serves, IsBack}
 use Rattle.ruled_desk.proofs.RuleSteps.{Mine}
 
 module _ {O C R : Type 0} where

@@ -1,19 +1,12 @@
 -- A rider's turn, from what a turn at its seat promises.
-use Rattle.std.proofs.Common.{◌≡◌, refl, sym, ◌∙◌, ap, subst, ℕ, zero, suc, ◌-◌, ◌^◌, ◌<◌, ◌≤◌, ◌⊎◌, inl, inr, Bool, true, false, ◌||◌, List, [], ◌∷◌, length, Option, Some, None, Result, Ok, Err, arith}
-use Rattle.std.specs.Prelude.{OnOk, OnErr, MatchOption, MatchResult, All}
-use Rattle.std.specs.List.{list_any, slice_index_or}
-use Rattle.stamped_book.specs.declared.stamped.Refusal.{Refusal}
-use Rattle.stamped_book.specs.declared.stamped.Refusal.TheVariants.{Memory, Stamps}
-use Rattle.actor_desk.specs.declared.ask.Ask.{Ask}
-use Rattle.actor_desk.specs.declared.ask.Reply.{Reply}
-use Rattle.actor_desk.specs.declared.actor.Crew.{Crew}
+use Rattle.ruled_desk.proofs.Words.{◌≡◌, refl, sym, ◌∙◌, ap, subst, ℕ, zero, suc, ◌-◌, ◌^◌, ◌<◌, ◌≤◌, ◌⊎◌, inl, inr, Bool, true, false, ◌||◌, List, [], ◌∷◌}
+use Rattle.ruled_desk.proofs.Words.{length, Option, Some, None, Result, Ok, Err, arith, OnOk, OnErr, MatchOption, MatchResult, All, slice_index_or, list_any}
+use Rattle.ruled_desk.proofs.Words.{Refusal, Memory, Stamps, Ask, Reply, Crew, Went, Stopped, NotesOneMore, is_refused, refused_by, noted_all, stamp_after}
+use Rattle.ruled_desk.proofs.Words.{Rider, HasPass, NotesFull, OneIsUsedUp, Rode, is_rider_refused, notes_held, IsUsedUp, SixLocked, AreOf, names_of, Passed}
+use Rattle.ruled_desk.proofs.Words.{notes_by, notes_full}
 use Rattle.actor_desk.specs.Noted.{BookNotes}
-use Rattle.actor_turn.specs.Turns.{Went, Stopped, NotesOneMore, is_refused, refused_by, noted_all, stamp_after}
 use Rattle.actor_turn.specs.Turns as turns
-use Rattle.ruled_desk.specs.declared.rider.Rider.{Rider}
-use Rattle.ruled_desk.specs.SixSeats.{SixLocked, Passed, AreOf, names_of, notes_by, notes_full}
 use Rattle.ruled_desk.proofs.Outs.{same_tables}
-use Rattle.ruled_desk.specs.Riding.{HasPass, IsUsedUp, NotesFull, OneIsUsedUp, Rode, is_rider_refused, notes_held}
 
 module _ {A : Type 0} (asks : A → Option Ask) (takes : Reply → A → A) where
   -- what used the stamps up

@@ -1,15 +1,7 @@
 -- Seats are split off and joined, and the table is closed.
-use Rattle.std.proofs.Common.{◌≡◌, refl, sym, ◌∙◌, ap, subst, ℕ, ◌+◌, ◌-◌, ◌≤◌, ◌⊎◌, inl, inr, ⊎_elim, Bool, true, false, ◌||◌, List, [], ◌∷◌, ◌++◌, length, set, Option, Some, arith}
-use mathlib.Core.Option.{some}
-use lib.ListN.{get_elem?}
-use Rattle.atomic_table.specs.Table.{Splits, Joins, Final, Seen}
-use Rattle.atomic_table.proofs.Lists.{at_set, at_snoc}
-use Rattle.stamped_book.specs.Journal.{Journaled}
-use Rattle.stamped_book.specs.declared.stamped.Entry.{Entry}
-use Rattle.ruled_desk.specs.declared.rule.View.{View}
-use Rattle.ruled_desk.specs.Weighing.{weigh, bit}
-use Rattle.ruled_desk.specs.Growing.{HasLastStamp, grown}
-use Rattle.ruled_desk.specs.Rule.{Fits, IsRuled, IsAtRest, homed, without_part, newcomer, joined, spent}
+use Rattle.ruled_desk.proofs.Words.{◌≡◌, refl, sym, ◌∙◌, ap, subst, ℕ, ◌-◌, ◌≤◌, ◌⊎◌, inl, inr, Bool, true, false, ◌||◌, List, [], ◌∷◌, ◌++◌, length, Option}
+use Rattle.ruled_desk.proofs.Words.{Some, arith, ◌+◌, set, ⊎_elim, some, get_elem?, Splits, Joins, Final, Seen, at_set, at_snoc, Journaled, Entry, View}
+use Rattle.ruled_desk.proofs.Words.{HasLastStamp, grown, IsAtRest, IsRuled, homed, Fits, without_part, newcomer, joined, spent, weigh, bit}
 use Rattle.ruled_desk.proofs.Weights.{weigh-append, weigh-set, weigh-alone}
 use Rattle.ruled_desk.proofs.RuleWords.{fits-set}
 

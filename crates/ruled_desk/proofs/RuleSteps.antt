@@ -1,17 +1,8 @@
 -- Each step of a seat keeps the rule.
-use Rattle.std.proofs.Common.{◌≡◌, refl, sym, ◌∙◌, ap, subst, ℕ, zero, suc, ◌+◌, ◌-◌, ◌%◌, ◌^◌, ◌≤◌, eqb, Bool, true, false, List, [], ◌∷◌, length, set, Option, Some, arith, MatchBool}
-use Rattle.std.proofs.lemmas.Bool.Decides.{nat_tests}
-use Rattle.std.specs.Prelude.{slice_index}
-use mathlib.Core.Option.{some, none, some-injective, some-ne-none}
-use lib.ListN.{get_elem?}
-use Rattle.atomic_table.specs.Table.{State, Me, Act, keeps, takes, Allows, Valid, stepped, carried_after, opening}
-use Rattle.atomic_table.proofs.Lists.{set_again}
-use Rattle.stamped_book.specs.Journal.{Journaled}
-use Rattle.stamped_book.specs.declared.stamped.Entry.{Entry}
-use Rattle.ruled_desk.specs.declared.rule.View.{View}
-use Rattle.ruled_desk.specs.Weighing.{weigh, span, bit}
-use Rattle.ruled_desk.specs.Growing.{grown}
-use Rattle.ruled_desk.specs.Rule.{Fits, IsRuled, IsAtRest, homed, first_view, waits, takes_turn, IsDrawn, IsLooked}
+use Rattle.ruled_desk.proofs.Words.{◌≡◌, refl, sym, ◌∙◌, ap, subst, ℕ, zero, suc, ◌-◌, ◌^◌, ◌≤◌, Bool, true, false, List, [], ◌∷◌, length, Option, Some, arith}
+use Rattle.ruled_desk.proofs.Words.{◌+◌, set, eqb, ◌%◌, MatchBool, slice_index, nat_tests, some, none, some-injective, some-ne-none, get_elem?, State, Me, Act}
+use Rattle.ruled_desk.proofs.Words.{keeps, takes, Allows, Valid, stepped, carried_after, opening, set_again, Journaled, Entry, View, grown, IsDrawn, IsAtRest}
+use Rattle.ruled_desk.proofs.Words.{takes_turn, waits, IsRuled, homed, Fits, first_view, IsLooked, weigh, span, bit}
 use Rattle.ruled_desk.proofs.Weights.{weigh-set, span-snoc}
 use Rattle.ruled_desk.proofs.RuleWords.{grown-none, fits-set, none-hold, few-wait, waits-among, first-turn}
 

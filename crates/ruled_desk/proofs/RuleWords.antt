@@ -1,17 +1,7 @@
 -- What the rule of a book's table tells of its seats.
-use Rattle.std.proofs.Common.{◌≡◌, refl, sym, ap, subst, ℕ, zero, suc, ◌+◌, ◌%◌, ◌^◌, ◌<◌, ◌≤◌, ◌≢◌, inl, inr, ⊎_elim, eqb, Bool, true, false, List, [], ◌∷◌, ◌++◌, length, set, Option, MatchBool, append_assoc, arith}
-use Rattle.std.proofs.lemmas.List.{append-nil}
-use Rattle.std.proofs.lemmas.Bool.Decides.{nat_tests}
-use mathlib.Core.Option.{some}
-use lib.ListN.{get_elem?}
-use Rattle.atomic_table.specs.Table.{State, Me}
-use Rattle.atomic_table.proofs.Lists.{at_set, one_turn}
-use Rattle.stamped_book.specs.Journal.{Journaled}
-use Rattle.stamped_book.specs.declared.stamped.Entry.{Entry}
-use Rattle.ruled_desk.specs.declared.rule.View.{View}
-use Rattle.ruled_desk.specs.Weighing.{weigh, span, bit}
-use Rattle.ruled_desk.specs.Growing.{HasLastStamp, grown}
-use Rattle.ruled_desk.specs.Rule.{Fits, IsRuled, IsWaiting, IsLooked, HasTaken}
+use Rattle.ruled_desk.proofs.Words.{◌≡◌, refl, sym, ap, subst, ℕ, zero, suc, ◌^◌, ◌<◌, ◌≤◌, inl, inr, Bool, true, false, List, [], ◌∷◌, ◌++◌, length, Option}
+use Rattle.ruled_desk.proofs.Words.{arith, ◌+◌, set, ⊎_elim, eqb, ◌≢◌, ◌%◌, MatchBool, append_assoc, append-nil, nat_tests, some, get_elem?, State, Me, at_set}
+use Rattle.ruled_desk.proofs.Words.{one_turn, Journaled, Entry, View, HasLastStamp, grown, IsWaiting, HasTaken, IsRuled, Fits, IsLooked, weigh, span, bit}
 use Rattle.ruled_desk.proofs.Weights.{weigh-one, weigh-two, weigh-le, span-ones}
 
 pub one_out : (b : Bool) → 1 ≤ bit b → b ≡ true

@@ -7,8 +7,7 @@ use Rattle.std.proofs.lemmas.List.Elements.{filter-append}
 use Rattle.std.proofs.lemmas.Option.{same_Some}
 use Rattle.std.specs.Option.{option_to_list}
 use Rattle.actor_desk.specs.declared.ask.Ask.{Ask}
-use Rattle.actor_desk.specs.declared.ask.Ask.TheVariants as asks
-use Rattle.actor_desk.specs.declared.ask.LocalStep.TheVariants as steps
+use Rattle.actor_desk.specs.declared.ask.LocalStep.{LocalStep}
 use Rattle.actor_desk.specs.declared.ask.Note.{Note}
 use Rattle.path_core.proofs.SegmentsTold.{each_segment_is_told, outgoing_told}
 use Rattle.path_core.specs.declared.looking.Departing.{Departing}
@@ -19,7 +18,6 @@ use Rattle.path_core.specs.Steps.{asks_of}
 use Rattle.stream_apps.specs.Apps.{AppState}
 use Rattle.stream_apps.specs.AppSteps.{app_ask, app_asks_first, app_asks_of}
 use Rattle.stream_apps.specs.declared.duty.AppDuty.{AppDuty}
-use Rattle.stream_apps.specs.declared.duty.AppDuty.TheVariants as app_duties
 use Rattle.world_core.specs.Looking.{crew_path, member_path}
 use Rattle.world_laws.specs.Actors.{Actor, ActorCrew, member_asks}
 use Rattle.world_laws.specs.declared.member.Member.TheVariants.{App, Path}
@@ -80,7 +78,7 @@ quiet_adds i n (Some ask) c w there quiet = by (cases_eq i n)
 -- ---- who tells none
 
 quiet_ask : (ask : Ask) → tells_a_segment (Some ask) ≡ false → line_in ask ≡ None
-quiet_ask (asks.Local (steps.Sent from number payload checksum)) none = absurd (true≢false none)
+quiet_ask (Ask.Local (LocalStep.Sent from number payload checksum)) none = absurd (true≢false none)
 quiet_ask _ none = refl
 
 quiet : (o : Option Ask) → tells_a_segment o ≡ false → IfSome o (λ ask. line_in ask ≡ None)
@@ -88,13 +86,8 @@ quiet None none = tt
 quiet (Some ask) none = quiet_ask ask none
 
 app_quiet : (d : AppDuty) (a : AppState) → line_in (app_ask d a) ≡ None
-app_quiet app_duties.FastClose a = refl
-app_quiet app_duties.AbortSend a = refl
-app_quiet app_duties.AbortReceive a = refl
-app_quiet app_duties.Write a = refl
-app_quiet app_duties.Close a = refl
-app_quiet app_duties.Read a = refl
-app_quiet app_duties.End a = refl
+app_quiet AppDuty.FastClose a = refl
+app_quiet _ a = refl
 
 apps_quiet : (ds : List AppDuty) (a : AppState) → IfSome (app_asks_first ds a) (λ ask. line_in ask ≡ None)
 apps_quiet [] a = tt

@@ -5,7 +5,7 @@ use Rattle.clap.specs.Words.{Row, Text}
 use Rattle.clap.specs.Kinds.{Kinds, or_else}
 use Rattle.clap.specs.Walk.{Held, arg_by_id, has_row, settled_rows, used, without, with_values}
 use Rattle.clap.specs.Faults.{settle_fault, use_fault}
-use Rattle.clap.specs.declared.builder.value_parser.ValueParser.TheVariants as vp
+use Rattle.clap.specs.declared.builder.value_parser.ValueParser.{ValueParser}
 use Rattle.clap.specs.declared.builder.value_parser.Reading.{Reading}
 use Rattle.clap.specs.declared.parser.matches.ValueSource.TheVariants.{CommandLine}
 use Rattle.clap.specs.Values.{reading_of}
@@ -16,7 +16,7 @@ use Rattle.run_words.proofs.Rules.{by_choice, form_rules, name_id, plain}
 -- ---- one use of an option or a name
 
 abbrev pub row : Text → Text → Row
-row id v = record { id = id; values = v ∷ []; count = None; source = Some CommandLine; reading = reading_of vp.String }
+row id v = record { id = id; values = v ∷ []; count = None; source = Some CommandLine; reading = reading_of ValueParser.String }
 
 -- the rows with one more, where the id has none yet
 abbrev pub new : Text → Text → List Row → Option (List Row)
@@ -97,7 +97,7 @@ use_agrees id l i v rows = go (has_row id rows) refl
   where
     go : (b : Bool) → has_row id rows ≡ b → Agrees (use_fault false (plain id l i) (v ∷ []) rows) (used (plain id l i) (v ∷ []) rows) (new id v rows)
     go true e = rw e tt
-    go false e = rw e (ap (λ x. with_values id (reading_of vp.String) CommandLine (v ∷ []) x) (without_none id rows e) ∙ with_none id (reading_of vp.String) (v ∷ []) rows e)
+    go false e = rw e (ap (λ x. with_values id (reading_of ValueParser.String) CommandLine (v ∷ []) x) (without_none id rows e) ∙ with_none id (reading_of ValueParser.String) (v ∷ []) rows e)
 
 -- ---- what is pending
 

@@ -75,12 +75,7 @@ settles_lower m a lower = by (settled_lower m.agenda m) lower
 
 same_stands : (d : AppDuty) (ds : List AppDuty) (a : AppState) → app_stands d a ≡ true → app_stands d (record a { agenda = d ∷ ds }) ≡ true
 same_stands FastClose ds a is = is
-same_stands AbortSend ds a is = is
-same_stands AbortReceive ds a is = is
-same_stands Write ds a is = is
-same_stands Close ds a is = is
-same_stands Read ds a is = is
-same_stands End ds a is = is
+same_stands _ ds a is = is
 
 settled_settled : (ds : List AppDuty) (a : AppState) → IsAppSettled (app_settled ds a)
 settled_settled [] a = tt

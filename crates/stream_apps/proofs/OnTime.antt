@@ -22,12 +22,7 @@ settled_keeps (d ∷ ds) a = by (app_stands d a) (settled_keeps ds a)
 
 answered_keeps : (d : AppDuty) (r : Reply) (a : AppState) → (app_answered d r a).stops_in ≡ a.stops_in
 answered_keeps FastClose r a = refl
-answered_keeps AbortSend r a = refl
-answered_keeps AbortReceive r a = refl
-answered_keeps Write r a = refl
-answered_keeps Close r a = refl
-answered_keeps Read r a = refl
-answered_keeps End r a = refl
+answered_keeps _ r a = refl
 
 answers_keep : (ds : List AppDuty) (r : Reply) (a : AppState) → (app_answers ds r a).stops_in ≡ a.stops_in
 answers_keep [] r a = refl

@@ -1,6 +1,4 @@
-use Rattle.std.proofs.Common.{◌≡◌, ◌≤◌}
-use Rattle.std.specs.List.{All}
-use Rattle.connection_table.specs.ManyRounds.{EachRound, IsSerialEnd, Runs}
+use Rattle.connection_table.proofs.Words.{◌≡◌, ◌≤◌, All, EachRound, IsSerialEnd, Runs}
 use Rattle.connection_table.proofs.rounds.make_rounds.Given as goal
 
 -- so many rounds were made of each

@@ -1,6 +1,4 @@
-use Rattle.std.proofs.Common.{◌≡◌, ◌+◌, ◌≤◌, ◌++◌}
-use Rattle.std.specs.Prelude.{vec_len, vec_capacity}
-use Rattle.ruled_desk.specs.WholeRounds.{crew_of}
+use Rattle.ruled_desk.proofs.Words.{◌≡◌, ◌≤◌, ◌++◌, ◌+◌, vec_len, vec_capacity, crew_of}
 use Rattle.ruled_desk.proofs.mounting.dismount.Given as goal
 
 -- the actors so far and the riders that are left are all
