@@ -10,7 +10,6 @@ use Rattle.link_script.specs.declared.script.ScriptLine.{ScriptLine}
 use Rattle.link_script.specs.declared.script.ScriptLine.TheVariants.{OnSegment}
 use Rattle.link_script.specs.Places.{same_side}
 use Rattle.link_model.specs.declared.fate.Fate.{Fate}
-use Rattle.link_model.specs.declared.fate.Fate.TheVariants as fate
 use Rattle.link_model.specs.declared.flight.Flight.{Flight}
 use Rattle.link_model.specs.Fate.{is_named, fate_told, told_if, told_or, fate_of}
 use Rattle.link_model.specs.State.{LinkState}
@@ -27,14 +26,14 @@ nothing_told true = refl
 nothing_told false = refl
 
 none_told : (from : Side) (number : ℕ) (line : ScriptLine) → moves from line ≡ false → fate_told from number line ≡ None
-none_told from number (OnSegment s Lost) e = told_nothing (same_side s.from from) _ (Some fate.Lost) e
-none_told from number (OnSegment s (Late ticks)) e = told_nothing (same_side s.from from) _ (Some (fate.Late ticks)) e
-none_told from number (OnSegment s (Again ticks)) e = told_nothing (same_side s.from from) _ (Some (fate.Twice ticks)) e
+none_told from number (OnSegment s Lost) e = told_nothing (same_side s.from from) _ (Some Fate.Lost) e
+none_told from number (OnSegment s (Late ticks)) e = told_nothing (same_side s.from from) _ (Some (Fate.Late ticks)) e
+none_told from number (OnSegment s (Again ticks)) e = told_nothing (same_side s.from from) _ (Some (Fate.Twice ticks)) e
 none_told from number (OnSegment s Stripped) e = nothing_told (is_named from number s)
 none_told from number (OnSegment s Altered) e = nothing_told (is_named from number s)
 none_told from number line e = refl
 
-pub on_time : (from : Side) (number : ℕ) (lines : List ScriptLine) → AllByRecursion (λ line. moves from line ≡ false) lines → fate_of from number lines ≡ fate.OnTime
+pub on_time : (from : Side) (number : ℕ) (lines : List ScriptLine) → AllByRecursion (λ line. moves from line ≡ false) lines → fate_of from number lines ≡ Fate.OnTime
 on_time from number [] plain = refl
 on_time from number (line ∷ lines) plain =
     ap (λ (t : Option Fate). told_or t (fate_of from number lines)) (none_told from number line plain.0) ∙ on_time from number lines plain.1

@@ -1,9 +1,19 @@
 -- After the turns of all actors each turn has ended.
-use Rattle.mptcp_run.proofs.Words.{◌≡◌, refl, sym, ◌∙◌, ap, subst, ℕ, ◌+◌, ◌<◌, Bool, true, false, not, List, [], ◌∷◌, map, length, Option, Some, None, arith}
-use Rattle.mptcp_run.proofs.Words.{suc, zero, ◌&&◌, set, slice_get, length-map, Note, Ask, octets, set_other, ActorCrew, member_asks, is_over, after_steps}
-use Rattle.mptcp_run.proofs.Words.{after_turns, IsTurn, AreTurns, crew_after, asked, stepped, world_step, all_over, greatest, goes, is_going, lists_of, RoundTo}
-use Rattle.mptcp_run.proofs.Words.{IsSince, AllGrewAbove, Begins, Connection}
-use Rattle.std.proofs.Common.{◌==◌}
+use Rattle.std.proofs.Common.{◌≡◌, refl, sym, ◌∙◌, ap, subst, ℕ, zero, suc, ◌+◌, ◌<◌, Bool, true, false, ◌&&◌, not, Option, Some, None, List, [], ◌∷◌, set, length, map, ◌==◌, arith}
+use Rattle.std.specs.List.{slice_get}
+use Rattle.std.proofs.lemmas.List.{length-map}
+use Rattle.actor_desk.specs.declared.ask.Note.{Note}
+use Rattle.stream_lanes.proofs.Lists.{set_other}
+use Rattle.actor_desk.specs.declared.ask.Ask.{Ask}
+use Rattle.path_core.specs.Octets.{octets}
+use Rattle.world_laws.specs.Actors.{ActorCrew, member_asks, is_over}
+use Rattle.world_laws.specs.Serial.{after_steps, IsTurn, AreTurns, after_turns}
+use Rattle.world_laws.specs.Worlds.{crew_after, asked, stepped, world_step, goes, is_going, all_over, greatest}
+use Rattle.world_laws.specs.Fine.{lists_of}
+use Rattle.world_core.specs.Rounds.{RoundTo}
+use Rattle.mptcp_run.specs.Rounds.{Begins}
+use Rattle.mptcp_run.specs.Task.{Connection}
+use Rattle.world_core.specs.Weaving.{AllGrewAbove, IsSince}
 use Rattle.mptcp_run.proofs.UnderWay.{begins_going, turns_go, next_begins, lists_at_end}
 
 -- a step of an actor leaves the turns of the others

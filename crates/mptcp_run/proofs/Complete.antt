@@ -1,18 +1,25 @@
 -- Words whose inputs are told, within their limits and valid are run.
-use Rattle.mptcp_run.proofs.Words.{◌≡◌, refl, ℕ, ◌≤◌, ◌<◌, List, length, Option, Some, None, IfSome, IsSome, inl, inr, ◌⊎◌, arith, Result, Ok, Err}
-use Rattle.mptcp_run.proofs.Words.{option_and_then, IsSomeAnd, IsOk, Line, reading, Named, Status, Delivered, Rounds, NoPath, Aborted, Usage, Load, Put}
-use Rattle.mptcp_run.proofs.Words.{TooLong, Memory, Log, limit_of, order_of, content_of, name_of, IsValid, TurnRow, IsAnswer, FormRow, ValidInputsAreRun}
-use Rattle.mptcp_run.proofs.Words.{HasEnded}
+use Rattle.std.proofs.Common.{◌≡◌, refl, ℕ, ◌<◌, ◌≤◌, inl, inr, ◌⊎◌, List, Option, Some, None, Result, Ok, Err, IfSome, IsSome, length, arith}
+use Rattle.std.specs.Prelude.{option_and_then, IsOk, IsSomeAnd}
 use Rattle.link_script.specs.declared.fault.ScriptKind.{ScriptKind}
-use Rattle.link_script.specs.declared.fault.ScriptFault.{ScriptFault}
-use Rattle.run_outside.specs.declared.status.Status.TheVariants.{Script}
+use Rattle.link_script.specs.declared.fault.ScriptFault.TheVariants as script_fault
+use Rattle.run_words.specs.Lines.{Line}
+use Rattle.run_outside.specs.declared.status.Named.{Named}
+use Rattle.run_outside.specs.declared.status.Named.TheVariants as input
+use Rattle.run_outside.specs.declared.status.Status.{Status}
+use Rattle.run_outside.specs.declared.status.Status.TheVariants.{Delivered, Rounds, NoPath, Aborted, Usage, Script, Load, Put, TooLong, Memory, Log}
+use Rattle.mptcp_run.specs.Answers.{IsAnswer, FormRow, TurnRow, ValidInputsAreRun}
+use Rattle.run_outside.specs.Causes.{limit_of}
+use Rattle.mptcp_run.specs.Ends.{HasEnded}
+use Rattle.run_outside.specs.Inputs.{name_of, order_of, content_of, IsValid}
+use Rattle.link_script.specs.Reading.{reading}
 
 not_ok : {X E : Type 0} (r : Result X E) (e : E) → r ≡ Err e → IsOk r → ⊥
 not_ok (Ok x) e is ok = cc (is)
 not_ok (Err f) e is ok = cc (ok)
 
 no_such_script : (o : Option (List ℕ)) (at : ℕ) (kind : ScriptKind) → IsSomeAnd o (λ text. IsOk (reading text))
-    → IfSome o (λ text. reading text ≡ Err (ScriptFault.Line at kind)) → ⊥
+    → IfSome o (λ text. reading text ≡ Err (script_fault.Line at kind)) → ⊥
 no_such_script None at kind valid cause = valid
 no_such_script (Some text) at kind valid cause = not_ok (reading text) _ cause valid
 
@@ -30,10 +37,10 @@ module _ (content : List ℕ → Option (List ℕ)) where
   told_order (Some log) P known valid = told_script (content log) P valid
 
   told_input : (line : Line) (named : Named) → IsValid content line → IsSome (name_of named line) → IsSome (content_of content line named)
-  told_input line Named.Script valid named = told_script (content line.names.script) _ valid.script
-  told_input line Named.FileA valid named = valid.file_a
-  told_input line Named.FileB valid named = valid.file_b
-  told_input line Named.Order valid named = told_order (order_of line.work) _ named valid.order
+  told_input line input.Script valid named = told_script (content line.names.script) _ valid.script
+  told_input line input.FileA valid named = valid.file_a
+  told_input line input.FileB valid named = valid.file_b
+  told_input line input.Order valid named = told_order (order_of line.work) _ named valid.order
 
 pub valid_inputs_are_run : ValidInputsAreRun
 valid_inputs_are_run content line loads_before loads faults_before faults held holds told tells status answer valid loads_fine ports_fine = by status answer
@@ -45,6 +52,10 @@ valid_inputs_are_run content line loads_before loads faults_before faults held h
 
     by : (status : Status) → IsAnswer content line loads_before loads faults_before faults held holds told tells status
         → HasEnded status ⊎ ((status ≡ Memory) ⊎ ((at : ℕ) × ((status ≡ Log at) × IsSome (order_of line.work))))
+    by Delivered a = inl tt
+    by Rounds a = inl tt
+    by NoPath a = inl tt
+    by (Aborted reader) a = inl tt
     by Memory a = inr (inl refl)
     by (Log at) a = inr (inr (at, (refl, by_log at a)))
     by Usage a = absurd a
@@ -52,4 +63,3 @@ valid_inputs_are_run content line loads_before loads faults_before faults held h
     by (TooLong named) a = absurd (not_too_long (content_of content line named) (limit_of named) (told_input content line named valid a.cause.0) (valid.within named) a.cause.1.0)
     by (Script at kind) a = absurd (no_such_script (content line.names.script) at kind valid.script a.cause)
     by (Put port) a = absurd (ports_fine port a.0)
-    by _ a = inl tt

@@ -1,7 +1,17 @@
 -- What the rounds and turns that are left come to, as a loop goes on.
-use Rattle.mptcp_run.proofs.Words.{Port, Made, octets, Status, Put, Memory, Log, AddsAll, AddsCut, Turn, world_run, AreLawful, IsLawfulTurn, round_ends}
-use Rattle.mptcp_run.proofs.Words.{HoldsEnds, HoldsPart, Connection, puts_by_round, AreFirst}
 use Rattle.std.specs.Prelude.{◌≡◌, ℕ, ◌+◌, ◌≤◌, List, ◌∷◌, ◌++◌, length, Option}
+use Rattle.outside_kit.specs.declared.port.Port.{Port}
+use Rattle.outside_kit.specs.Calls.{Made}
+use Rattle.path_core.specs.Octets.{octets}
+use Rattle.world_laws.specs.Worlds.{Turn, world_run, AreLawful, IsLawfulTurn}
+use Rattle.run_outside.specs.declared.status.Status.{Status}
+use Rattle.run_outside.specs.declared.status.Status.TheVariants.{Put, Memory, Log}
+use Rattle.run_outside.specs.Plan.{AddsAll, AddsCut}
+use Rattle.mptcp_run.specs.Plan.{puts_by_round}
+use Rattle.world_core.specs.RoundEnds.{round_ends}
+use Rattle.mptcp_run.specs.Putting.{AreFirst}
+use Rattle.mptcp_run.specs.Rounds.{HoldsEnds, HoldsPart}
+use Rattle.mptcp_run.specs.Task.{Connection}
 
 -- ---- rounds of a kind
 

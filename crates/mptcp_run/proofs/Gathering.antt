@@ -1,6 +1,10 @@
 -- The texts and the order of a round, gathered part by part.
-use Rattle.mptcp_run.proofs.Words.{◌≡◌, refl, sym, ◌∙◌, ap, ℕ, ◌+◌, ◌<◌, List, [], ◌∷◌, ◌++◌, map, length, arith, take, sum, ActorCrew, lists_of, notes_at}
+use Rattle.std.proofs.Common.{◌≡◌, refl, sym, ◌∙◌, ap, ℕ, ◌+◌, ◌<◌, List, [], ◌∷◌, ◌++◌, map, take, length, arith}
+use Rattle.std.specs.List.{sum}
 use Rattle.std.proofs.lemmas.List.Sums.{sum_by-append}
+use Rattle.world_laws.specs.Actors.{ActorCrew}
+use Rattle.world_laws.specs.Fine.{lists_of}
+use Rattle.world_laws.specs.Outcomes.{notes_at}
 use Rattle.world_core.proofs.Gathering.{made_more}
 
 -- ---- how many notes all actors have

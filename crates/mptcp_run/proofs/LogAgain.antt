@@ -1,17 +1,35 @@
 -- The text of a run's log is read as the turns that its notes tell.
-use Rattle.mptcp_run.proofs.Words.{◌≡◌, refl, sym, ◌∙◌, ap, subst, ℕ, ◌+◌, ◌≤◌, ◌<◌, ◌^◌, List, [], ◌∷◌, ◌++◌, map, length, Option, Some, inl, inr, arith, suc}
-use Rattle.mptcp_run.proofs.Words.{slice_get, flat_map, AllByRecursion, append-nil, append_assoc, option_map, result_ok, slice_get_within, Script, Note}
-use Rattle.mptcp_run.proofs.Words.{in_order, octets, NoteFits, HasRowsInRange, CanBeLogged, log_behind, actors_of, width_of, log_text, RoundsFit, ActorCrew}
-use Rattle.mptcp_run.proofs.Words.{Turn, world_step, greatest, end_round, after_turn, world_run, lists_of, Start, opened_world, run_append, turn_of, round_ends}
-use Rattle.mptcp_run.proofs.Words.{round_steps, steps_by_round, Connection, turns_in, turns_told}
+use Rattle.std.proofs.Common.{◌≡◌, refl, sym, ◌∙◌, ap, subst, ℕ, suc, ◌+◌, ◌<◌, ◌≤◌, ◌^◌, Option, Some, inl, inr, List, [], ◌∷◌, ◌++◌, map, length, arith}
+use Rattle.std.specs.Prelude.{option_map}
+use Rattle.std.specs.List.{slice_get, flat_map, AllByRecursion}
+use Rattle.std.specs.Result.{result_ok}
 use Rattle.std.proofs.lemmas.Grind.{flat_map-append}
+use Rattle.std.proofs.lemmas.List.{append-nil, append_assoc}
+use Rattle.std.proofs.lemmas.Option.{slice_get_within}
+use Rattle.actor_desk.specs.declared.ask.Note.{Note}
+use Rattle.actor_desk.specs.Journals.{in_order}
 use Rattle.run_log.specs.declared.outcome.Outcome.{Outcome}
+use Rattle.run_log.specs.Fitting.{NoteFits}
+use Rattle.run_log.specs.Laws.{HasRowsInRange, CanBeLogged, log_behind}
 use Rattle.run_log.specs.Lines.{ended, opening_lines, round_lines, rounds_lines, outcome_text}
 use Rattle.run_log.proofs.LogReads.{reads_to_its_turns}
+use Rattle.path_core.specs.Octets.{octets}
+use Rattle.world_laws.specs.Actors.{ActorCrew}
+use Rattle.world_laws.specs.Fine.{lists_of}
+use Rattle.world_laws.specs.Openings.{Start, opened_world}
+use Rattle.world_laws.specs.Worlds.{Turn, world_step, end_round, greatest, after_turn, world_run}
 use Rattle.world_laws.proofs.Weaving.Occurring.{In, Occurs}
 use Rattle.world_laws.proofs.Rounds.DoneByTheEnd.{stays_fine}
 use Rattle.world_laws.proofs.Weaving.TheOrder.{in_order_of}
+use Rattle.world_laws.proofs.Weaving.WholeRounds.{run_append}
+use Rattle.world_core.specs.RoundEnds.{round_ends, round_steps, steps_by_round}
+use Rattle.world_core.specs.Logged.{turn_of}
+use Rattle.run_outside.specs.LogText.{log_text, RoundsFit}
+use Rattle.link_script.specs.declared.script.Script.{Script}
+use Rattle.run_outside.specs.Reading.{actors_of, width_of}
+use Rattle.mptcp_run.specs.Task.{Connection, turns_in}
 use Rattle.mptcp_run.proofs.AllTurns.{step_length}
+use Rattle.mptcp_run.specs.WovenRounds.{turns_told}
 use Rattle.mptcp_run.proofs.LogWoven.{turns_read}
 use Rattle.mptcp_run.proofs.RowsInRange.{rows_in_range}
 use Rattle.mptcp_run.proofs.Turning.{end_length}

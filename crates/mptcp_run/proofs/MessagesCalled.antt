@@ -1,16 +1,21 @@
 -- The calls on the outside of a run of messages that came to its own end.
-use Rattle.mptcp_run.proofs.Words.{◌≡◌, refl, sym, ◌∙◌, ap, subst, ℕ, ◌<◌, ◌^◌, List, [], ◌∷◌, ◌++◌, map, length, Option, Some, None, IfSome, map-append, Line}
-use Rattle.mptcp_run.proofs.Words.{Call, Made, Bind, ReadByB, IsPrefix, Status, order_of, succeeded, Adds, load_of, loads_of, binds_of, plan_of, Task}
-use Rattle.std.proofs.Common.{append_assoc}
-use Rattle.outside_kit.specs.declared.port.Port.TheVariants.{Log}
-use Rattle.outside_kit.specs.Calls.{Load, Put}
+use Rattle.std.proofs.Common.{◌≡◌, refl, sym, ◌∙◌, ap, subst, ℕ, ◌<◌, ◌^◌, List, [], ◌∷◌, ◌++◌, map, length, Option, Some, None, IfSome, append_assoc}
+use Rattle.std.proofs.lemmas.List.{map-append}
+use Rattle.outside_kit.specs.declared.port.Port.TheVariants.{ReadByB, Log}
+use Rattle.outside_kit.specs.Calls.{Call, Made, Load, Bind, Put}
 use Rattle.octet_text.specs.Lines.{text_lines}
+use Rattle.octet_text.specs.Prefix.{IsPrefix}
 use Rattle.message_pipe.specs.Lines.{framed, line_of}
 use Rattle.message_pipe.specs.Below.{AllMade, Passed, Readers, no_readers, AreBelow}
 use Rattle.message_pipe.specs.OnePut.{pieces_in, AreMessages}
 use Rattle.message_pipe.proofs.LinesAgain.{all_ones, front_ones, lines_have}
 use Rattle.message_pipe.proofs.OnePut.{one_by_one}
+use Rattle.run_words.specs.Lines.{Line}
+use Rattle.run_outside.specs.declared.status.Status.{Status}
+use Rattle.run_outside.specs.Inputs.{order_of}
+use Rattle.run_outside.specs.Plan.{succeeded, Adds, load_of, loads_of, binds_of, plan_of}
 use Rattle.mptcp_run.specs.MessagesCalls.{EndsWithLine, AreFirstLines, AreLines, CalledToEnd}
+use Rattle.mptcp_run.specs.Task.{Task}
 
 -- ---- calls that succeeded, one after the other
 

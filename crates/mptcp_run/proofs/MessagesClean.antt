@@ -1,7 +1,13 @@
 -- A run of messages over a clean script.
-use Rattle.mptcp_run.proofs.Words.{ℕ, List, [], Option, Some, None, IfSome, inl, inr, Line, Port, Made, lined_content, lined_holds, Status, Ports}
-use Rattle.mptcp_run.proofs.Words.{IsMessagesAnswer}
+use Rattle.std.proofs.Common.{ℕ, List, [], Option, Some, None, IfSome, inl, inr}
+use Rattle.outside_kit.specs.declared.port.Port.{Port}
+use Rattle.outside_kit.specs.Calls.{Made}
+use Rattle.message_pipe.specs.Lined.{lined_content, lined_holds}
+use Rattle.run_words.specs.Lines.{Line}
+use Rattle.run_outside.specs.declared.status.Status.{Status}
+use Rattle.run_outside.specs.Ports.{Ports}
 use Rattle.mptcp_run.specs.Clean.{DeliversIfClean}
+use Rattle.mptcp_run.specs.Messages.{IsMessagesAnswer}
 use Rattle.mptcp_run.proofs.CleanRuns.{clean_runs_deliver}
 
 module _ (content : List ℕ → Option (List ℕ)) (loads_before loads : ℕ) (faults_before faults : Port → ℕ) (held holds : Ports) (told tells : Option (List Made)) (status : Status) where

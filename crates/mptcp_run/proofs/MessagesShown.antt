@@ -1,29 +1,45 @@
 -- What the readers' ports show after a run over the frames of lines.
-use Rattle.mptcp_run.proofs.Words.{◌≡◌, refl, sym, ◌∙◌, ap, subst, ℕ, ◌+◌, ◌≤◌, ◌<◌, ◌^◌, Bool, true, false, not, if◌then◌else◌, List, [], ◌∷◌, ◌++◌, map}
-use Rattle.mptcp_run.proofs.Words.{length, Option, Some, None, IfSome, IsSome, IsNone, inl, inr, ◌⊎◌, arith, onto_first, option_map, option_and_then, IsSomeAnd}
-use Rattle.mptcp_run.proofs.Words.{and_parts, both_ways, not-true, Line, line_of, Port, Call, Made, HoldsAfter, ReadByA, ReadByB, IsPrefix, lined_content}
-use Rattle.mptcp_run.proofs.Words.{lined_holds, PortsStand, Named, Status, Delivered, Rounds, NoPath, Aborted, Usage, Load, Put, TooLong, Memory, Log}
-use Rattle.mptcp_run.proofs.Words.{IsWordsFault, AreWithinLimits, succeeded, loads_of, plan_of, IsUntouched, Ports, script_in, AltersNone, Task, task_of}
-use Rattle.mptcp_run.proofs.Words.{HasRun, EndRow, IsAnswer, HasEnded, puts_so_far, HoldsPrefixOf, HoldsPrefixIfBound, NoneIsAltered, ReadersHaveFiles}
-use Rattle.mptcp_run.proofs.Words.{ReadersHavePrefixes, ReadersHavePrefixesIfBound, last_line, asked_in, is_run, ReadersShowLines, ReadersShowFirstLines}
-use Rattle.mptcp_run.proofs.Words.{ReadersShowPrefixes, ReadersShowNothing, ReadersShow, IsRunOverFrames, IsMessagesAnswer, is_apart, takes_messages}
-use Rattle.mptcp_run.proofs.Words.{if_messages, messages_in}
-use Rattle.std.proofs.Common.{length-append, append-nil}
-use Rattle.std.specs.Prelude.{◌==◌, ◌||◌, ◌&&◌}
+use Rattle.std.proofs.Common.{◌≡◌, refl, sym, ◌∙◌, ap, subst, ℕ, ◌+◌, ◌≤◌, ◌<◌, ◌^◌, Bool, true, false, not, if◌then◌else◌, List, [], ◌∷◌, ◌++◌, map, length, Option, Some, None, IfSome, IsSome, IsNone, inl, inr, ◌⊎◌, length-append, append-nil, arith}
+use Rattle.std.specs.Prelude.{◌==◌, ◌||◌, ◌&&◌, IsSomeAnd, option_map, option_and_then}
+use Rattle.std.specs.List.{onto_first}
 use Rattle.std.specs.Str.{bytes_eq}
+use Rattle.std.proofs.lemmas.Bool.{and_parts, both_ways, not-true}
 use Rattle.std.proofs.lemmas.Slice.Eq.{bytes_eq-Decides}
+use Rattle.outside_kit.specs.declared.port.Port.{Port}
+use Rattle.outside_kit.specs.declared.port.Port.TheVariants.{ReadByA, ReadByB}
 use Rattle.outside_kit.specs.declared.outside.PutFault.{PutFault}
+use Rattle.outside_kit.specs.Calls.{Call, Made}
+use Rattle.outside_kit.specs.Outside.{HoldsAfter}
 use Rattle.octet_text.specs.Lines.{text_lines}
+use Rattle.octet_text.specs.Prefix.{IsPrefix}
 use Rattle.message_pipe.specs.Frames.{frame_of, frames}
 use Rattle.message_pipe.specs.Lines.{message_lines, framed}
 use Rattle.message_pipe.specs.LinesShown.{ShowsFirstLines}
 use Rattle.message_pipe.specs.Showing.{Counted, ShowsPrefix, PortStands}
 use Rattle.message_pipe.specs.Below.{AllMade, CallsStand, passed_of, readers_of}
 use Rattle.message_pipe.specs.OnePut.{AreMessages}
+use Rattle.message_pipe.specs.Lined.{lined_content, lined_holds, PortsStand}
 use Rattle.message_pipe.proofs.CallsBelow.{none_added}
 use Rattle.message_pipe.proofs.LinesAgain.{whole_ports_show_all_lines, ports_show_first_lines, refused_ports_show_prefixes}
-use Rattle.run_outside.specs.declared.status.Status.TheVariants.{Script}
+use Rattle.run_words.specs.Lines.{Line, line_of}
+use Rattle.run_outside.specs.declared.status.Named.TheVariants as input
+use Rattle.run_outside.specs.declared.status.Status.{Status}
+use Rattle.run_outside.specs.declared.status.Status.TheVariants.{Delivered, Rounds, NoPath, Aborted, Usage, Script, Load, Put, TooLong, Memory, Log}
+use Rattle.mptcp_run.specs.Answers.{EndRow, HasRun, IsAnswer}
+use Rattle.mptcp_run.specs.Ends.{HasEnded}
 use Rattle.mptcp_run.specs.MessagesCalls.{AreFirstLines, AreLines, CalledToEnd, EndsWithLine}
+use Rattle.mptcp_run.specs.Plan.{puts_so_far}
+use Rattle.mptcp_run.specs.Putting.{last_line}
+use Rattle.mptcp_run.specs.Task.{Task, task_of}
+use Rattle.mptcp_run.specs.Asked.{asked_in, is_run}
+use Rattle.mptcp_run.specs.Messages.{ReadersShowLines, ReadersShowFirstLines, ReadersShowPrefixes, ReadersShowNothing, ReadersShow, IsRunOverFrames, IsMessagesAnswer, is_apart, takes_messages, if_messages, messages_in}
+use Rattle.run_outside.specs.Causes.{IsWordsFault}
+use Rattle.run_outside.specs.Plan.{loads_of, plan_of, succeeded}
+use Rattle.run_outside.specs.Ports.{IsUntouched, Ports}
+use Rattle.mptcp_run.specs.Promised.{HoldsPrefixOf, HoldsPrefixIfBound, NoneIsAltered, ReadersHaveFiles, ReadersHavePrefixes, ReadersHavePrefixesIfBound}
+use Rattle.run_outside.specs.Inputs.{AreWithinLimits}
+use Rattle.run_outside.specs.Reading.{script_in}
+use Rattle.world_laws.specs.PlainScripts.{AltersNone}
 use Rattle.mptcp_run.proofs.Asking.{asked_is}
 use Rattle.mptcp_run.proofs.MessagesCalled.{all_lines, all_made, called_to_end, first_lines}
 
@@ -285,10 +301,10 @@ module _ (content : List ℕ → Option (List ℕ)) (line : Line) (loads_before 
   told_b = file_b_is content line.names.file_a line.names.file_b
 
   small_a : AreWithinLimits frames_of line → IfSome file_a (λ text. length text < 2 ^ 32)
-  small_a within = small_file file_a (frames_of line.names.file_a) told_a (within Named.FileA)
+  small_a within = small_file file_a (frames_of line.names.file_a) told_a (within input.FileA)
 
   small_b : AreWithinLimits frames_of line → IfSome file_b (λ text. length text < 2 ^ 32)
-  small_b within = small_file file_b (frames_of line.names.file_b) told_b (within Named.FileB)
+  small_b within = small_file file_b (frames_of line.names.file_b) told_b (within input.FileB)
 
   -- where all calls succeeded no line was refused
   unrefused : (plan : List Call) → made ≡ map succeeded plan → (a.refused ≡ None) × (b.refused ≡ None)
@@ -327,8 +343,10 @@ module _ (content : List ℕ → Option (List ℕ)) (line : Line) (loads_before 
   shown_by Memory none (inr h) = cut_shown h.read.within (h.prefixes none)
   shown_by (Log at) none (inl h) = nothing_is_cut file_a file_b held holds (none_shown h.untouched)
   shown_by (Log at) none (inr h) = part_shown h.read.within (h.prefixes none)
+  shown_by (Script at kind) none h = none_shown h.untouched
+  shown_by (Load named) none h = none_shown h.untouched
+  shown_by (TooLong named) none h = none_shown h.untouched
   shown_by Usage none h = absurd h
-  shown_by _ none h = none_shown h.untouched
 
   -- the calls of a run that came to its own end
   end_called : (ended : Status) → End ended → (AreWithinLimits frames_of line → (pieces : List (List ℕ)) → AreMessages (passed_of b) pieces → IfSome file_a (λ file. AreLines ended file pieces))

@@ -1,10 +1,22 @@
 -- A turn of a log that was made, from what its step or its round's end made.
-use Rattle.mptcp_run.proofs.Words.{◌≡◌, refl, sym, subst, ℕ, List, Option, inl, Result, on_ok_weaker, Port, octets, Status, Memory, Log, Told, adds_none}
-use Rattle.mptcp_run.proofs.Words.{IfErr-map, OnOk-holds, only_none, Turn, world_step, turn_of, Kept, standing, Connection, UnderWay, StepFault, TurnStops}
-use Rattle.mptcp_run.proofs.Words.{IsReplayFault, round_turn, Run, TurnMade}
-use Rattle.std.proofs.Common.{OnOk, IfErr}
+use Rattle.std.proofs.Common.{◌≡◌, refl, sym, subst, ℕ, List, Option, Result, OnOk, IfErr, inl}
+use Rattle.std.proofs.lemmas.Result.{on_ok_weaker}
+use Rattle.outside_kit.specs.declared.port.Port.{Port}
+use Rattle.path_core.specs.Octets.{octets}
 use Rattle.run_log.specs.declared.turn.Turn as log_turn
 use Rattle.run_log.specs.declared.turn.Turn.TheVariants as logged
+use Rattle.world_core.specs.Kept.{Kept, standing}
+use Rattle.world_core.specs.Logged.{turn_of}
+use Rattle.world_laws.specs.Worlds.{Turn, world_step}
+use Rattle.mptcp_run.specs.declared.rounds.Run.{Run}
+use Rattle.run_outside.specs.declared.status.Status.{Status}
+use Rattle.run_outside.specs.declared.status.Status.TheVariants.{Memory, Log}
+use Rattle.mptcp_run.specs.Making.{TurnMade}
+use Rattle.mptcp_run.specs.Replaying.{UnderWay, StepFault, TurnStops, IsReplayFault, round_turn}
+use Rattle.mptcp_run.specs.Task.{Connection}
+use Rattle.run_outside.proofs.Calls.{Told, adds_none}
+use Rattle.run_outside.proofs.Calling.{only_none}
+use Rattle.run_outside.proofs.PortsLemmas.{OnOk-holds, IfErr-map}
 use Rattle.mptcp_run.proofs.Turning.{under_step}
 
 -- a step that wasn't made, as a turn: it makes no call

@@ -1,30 +1,46 @@
 -- A run from its binds to its last line.
-use Rattle.mptcp_run.proofs.Words.{◌≡◌, refl, sym, ◌∙◌, ap, subst, ℕ, List, [], ◌∷◌, ◌++◌, Option, Some, None, inl, inr, arith, take, append_assoc, Line, Port}
-use Rattle.mptcp_run.proofs.Words.{Call, HoldsAfter, HoldsPrefix, A, B, Status, Memory, binds_of, AddsAll, AddsCut, AddsShort, HoldsMore, HoldsWithin, Ports}
-use Rattle.mptcp_run.proofs.Words.{IsBetween, Told, adds_none, all_then, cut_then, cut_longer, cut_none, short_then, IsPrefix-refl, IsPrefix-append}
-use Rattle.mptcp_run.proofs.Words.{nothing_more, all_held, part_held, all_behind, taken_part, Turn, outcome_of, HoldsEnds, HoldsPart, Connection, Task}
-use Rattle.mptcp_run.proofs.Words.{first_world, HoldsToLine, CameToEnd, IsCut, HasEnded, HoldsCut, puts_so_far, opening_in, status_of, last_line, read_so_far}
-use Rattle.mptcp_run.proofs.Words.{log_so_far, AreFirstOf, ends_of, HoldsRounds, HoldsRun, CourseMade, CourseCut}
+use Rattle.std.proofs.Common.{◌≡◌, refl, sym, ◌∙◌, ap, subst, ℕ, inl, inr, List, [], ◌∷◌, ◌++◌, take, Option, Some, None, arith}
+use Rattle.std.proofs.lemmas.List.{append_assoc}
+use Rattle.outside_kit.specs.Calls.{Call}
 use Rattle.outside_kit.specs.Calls as call
+use Rattle.outside_kit.specs.declared.port.Port.TheVariants as port
+use Rattle.sides.specs.declared.side.Side.TheVariants.{A, B}
+use Rattle.outside_kit.specs.Outside.{HoldsAfter, HoldsPrefix}
+use Rattle.run_words.specs.Lines.{Line}
 use Rattle.world_laws.specs.declared.outcome.Outcome.{Outcome}
+use Rattle.world_laws.specs.declared.outcome.Outcome.TheVariants as outcome
+use Rattle.world_laws.specs.Outcomes.{outcome_of}
+use Rattle.world_laws.specs.Worlds.{Turn}
+use Rattle.run_outside.specs.declared.status.Status.{Status}
+use Rattle.run_outside.specs.declared.status.Status.TheVariants.{Memory}
+use Rattle.mptcp_run.specs.Courses.{CourseMade, CourseCut}
+use Rattle.mptcp_run.specs.Ends.{HasEnded, HoldsCut, HoldsToLine, CameToEnd, IsCut}
+use Rattle.run_outside.specs.Plan.{AddsAll, AddsCut, AddsShort, binds_of}
+use Rattle.mptcp_run.specs.Plan.{puts_so_far}
+use Rattle.run_outside.specs.Ports.{HoldsMore, HoldsWithin, IsBetween, Ports}
+use Rattle.mptcp_run.specs.Putting.{opening_in, status_of, last_line, ends_of, read_so_far, log_so_far, HoldsRounds, HoldsRun, AreFirstOf}
+use Rattle.mptcp_run.specs.Rounds.{HoldsEnds, HoldsPart}
+use Rattle.mptcp_run.specs.Task.{Connection, Task, first_world}
+use Rattle.run_outside.proofs.Calls.{Told, adds_none, all_then, cut_then, cut_longer, cut_none, short_then}
+use Rattle.run_outside.proofs.PortsLemmas.{IsPrefix-refl, IsPrefix-append, nothing_more, all_held, part_held, all_behind, taken_part}
 
 -- the readers' ports were bound
 pub record AreBound (a b : Ports) : Type 0 where
-  pub read_by_b : HoldsAfter (a Port.ReadByB) (b Port.ReadByB) (λ _. [])
-  pub read_by_a : HoldsAfter (a Port.ReadByA) (b Port.ReadByA) (λ _. [])
-  pub log : b Port.Log ≡ a Port.Log
+  pub read_by_b : HoldsAfter (a port.ReadByB) (b port.ReadByB) (λ _. [])
+  pub read_by_a : HoldsAfter (a port.ReadByA) (b port.ReadByA) (λ _. [])
+  pub log : b port.Log ≡ a port.Log
 
 -- a line was put to the log
 pub record LogGrew (line : List ℕ) (c d : Ports) : Type 0 where
-  pub read_by_b : d Port.ReadByB ≡ c Port.ReadByB
-  pub read_by_a : d Port.ReadByA ≡ c Port.ReadByA
-  pub log : HoldsAfter (c Port.Log) (d Port.Log) (λ held. held ++ line)
+  pub read_by_b : d port.ReadByB ≡ c port.ReadByB
+  pub read_by_a : d port.ReadByA ≡ c port.ReadByA
+  pub log : HoldsAfter (c port.Log) (d port.Log) (λ held. held ++ line)
 
 -- or a part of it
 pub record LogGrewPart (line : List ℕ) (c d : Ports) : Type 0 where
-  pub read_by_b : d Port.ReadByB ≡ c Port.ReadByB
-  pub read_by_a : d Port.ReadByA ≡ c Port.ReadByA
-  pub log : HoldsPrefix (c Port.Log) (d Port.Log) line
+  pub read_by_b : d port.ReadByB ≡ c port.ReadByB
+  pub read_by_a : d port.ReadByA ≡ c port.ReadByA
+  pub log : HoldsPrefix (c port.Log) (d port.Log) line
 
 -- ---- what the ports hold, by the ends of rounds
 
@@ -35,9 +51,9 @@ more_from a b c before P same h = subst (λ o. HoldsMore o c before P) same h
 pub rounds_held : (task : Task) (turns : List Turn) (a b c : Ports) → AreBound a b → HoldsEnds (opening_in task) 0 (first_world task) (ends_of task turns) b c
     → HoldsRounds task turns a c
 rounds_held task turns a b c bound h = record {
-  read_by_b = all_held (a Port.ReadByB) (b Port.ReadByB) (c Port.ReadByB) (read_so_far B task turns) bound.read_by_b h.read_by_b;
-  read_by_a = all_held (a Port.ReadByA) (b Port.ReadByA) (c Port.ReadByA) (read_so_far A task turns) bound.read_by_a h.read_by_a;
-  log = all_behind (a Port.Log) (c Port.Log) (log_so_far task turns) (more_from (a Port.Log) (b Port.Log) (c Port.Log) [] _ bound.log h.log);
+  read_by_b = all_held (a port.ReadByB) (b port.ReadByB) (c port.ReadByB) (read_so_far B task turns) bound.read_by_b h.read_by_b;
+  read_by_a = all_held (a port.ReadByA) (b port.ReadByA) (c port.ReadByA) (read_so_far A task turns) bound.read_by_a h.read_by_a;
+  log = all_behind (a port.Log) (c port.Log) (log_so_far task turns) (more_from (a port.Log) (b port.Log) (c port.Log) [] _ bound.log h.log);
   fits = h.fits;
 }
 
@@ -49,10 +65,10 @@ after_append (Some held) c d x y h k = subst (λ o. HoldsAfter o d (λ all. all 
 pub run_held : (task : Task) (turns : List Turn) (line : List ℕ) (a c d : Ports) → line ≡ last_line task turns → HoldsRounds task turns a c → LogGrew line c d
     → HoldsRun task turns a d
 run_held task turns line a c d is h k = record {
-  read_by_b = subst (λ o. HoldsAfter (a Port.ReadByB) o (λ _. read_so_far B task turns)) (sym k.read_by_b) h.read_by_b;
-  read_by_a = subst (λ o. HoldsAfter (a Port.ReadByA) o (λ _. read_so_far A task turns)) (sym k.read_by_a) h.read_by_a;
-  log = subst (λ last. HoldsAfter (a Port.Log) (d Port.Log) (λ held. held ++ (log_so_far task turns ++ last))) is
-      (after_append (a Port.Log) (c Port.Log) (d Port.Log) (log_so_far task turns) line h.log k.log);
+  read_by_b = subst (λ o. HoldsAfter (a port.ReadByB) o (λ _. read_so_far B task turns)) (sym k.read_by_b) h.read_by_b;
+  read_by_a = subst (λ o. HoldsAfter (a port.ReadByA) o (λ _. read_so_far A task turns)) (sym k.read_by_a) h.read_by_a;
+  log = subst (λ last. HoldsAfter (a port.Log) (d port.Log) (λ held. held ++ (log_so_far task turns ++ last))) is
+      (after_append (a port.Log) (c port.Log) (d port.Log) (log_so_far task turns) line h.log k.log);
   fits = h.fits;
 }
 
@@ -62,18 +78,18 @@ run_held task turns line a c d is h k = record {
 part_cut : (task : Task) (turns more : List Turn) (a b c : Ports) → AreBound a b
     → HoldsPart (opening_in task) 0 (first_world task) (ends_of task turns) (ends_of task (turns ++ more)) b c → HoldsCut task turns more a c
 part_cut task turns more a b c bound h = record {
-  read_by_b = part_held (turns ++ more ≡ []) (a Port.ReadByB) (b Port.ReadByB) (c Port.ReadByB) _ _ bound.read_by_b h.read_by_b;
-  read_by_a = part_held (turns ++ more ≡ []) (a Port.ReadByA) (b Port.ReadByA) (c Port.ReadByA) _ _ bound.read_by_a h.read_by_a;
-  log = more_from (a Port.Log) (b Port.Log) (c Port.Log) [] _ bound.log h.log;
+  read_by_b = part_held (turns ++ more ≡ []) (a port.ReadByB) (b port.ReadByB) (c port.ReadByB) _ _ bound.read_by_b h.read_by_b;
+  read_by_a = part_held (turns ++ more ≡ []) (a port.ReadByA) (b port.ReadByA) (c port.ReadByA) _ _ bound.read_by_a h.read_by_a;
+  log = more_from (a port.Log) (b port.Log) (c port.Log) [] _ bound.log h.log;
 }
 
 -- nothing was put yet, and maybe not all was bound
-pub begin_cut : (task : Task) (a b : Ports) → HoldsWithin (Unit {0}) (a Port.ReadByB) (b Port.ReadByB) [] [] → HoldsWithin (Unit {0}) (a Port.ReadByA) (b Port.ReadByA) [] []
-    → b Port.Log ≡ a Port.Log → HoldsCut task [] [] a b
+pub begin_cut : (task : Task) (a b : Ports) → HoldsWithin (Unit {0}) (a port.ReadByB) (b port.ReadByB) [] [] → HoldsWithin (Unit {0}) (a port.ReadByA) (b port.ReadByA) [] []
+    → b port.Log ≡ a port.Log → HoldsCut task [] [] a b
 begin_cut task a b read_by_b read_by_a log = record {
-  read_by_b = within _ refl (a Port.ReadByB) (b Port.ReadByB) read_by_b;
-  read_by_a = within _ refl (a Port.ReadByA) (b Port.ReadByA) read_by_a;
-  log = nothing_more (a Port.Log) (b Port.Log) [] _ log (record { least = IsPrefix-refl []; most = IsPrefix-refl [] });
+  read_by_b = within _ refl (a port.ReadByB) (b port.ReadByB) read_by_b;
+  read_by_a = within _ refl (a port.ReadByA) (b port.ReadByA) read_by_a;
+  log = nothing_more (a port.Log) (b port.Log) [] _ log (record { least = IsPrefix-refl []; most = IsPrefix-refl [] });
 }
   where
     within : (U : Type 0) → U → (a b : Option (List ℕ)) → HoldsWithin (Unit {0}) a b [] [] → HoldsWithin U a b [] []
@@ -88,7 +104,10 @@ after_part (Some held) c d x y h k =
       x ++ take put.0 y,
       (
         put.1 ∙ ap Some (append_assoc held x (take put.0 y)),
-        record { least = IsPrefix-append x (take put.0 y); most = taken_part x y put.0 },
+        record {
+          least = IsPrefix-append x (take put.0 y);
+          most = taken_part x y put.0;
+        },
       ),
     )
 
@@ -96,21 +115,23 @@ after_part (Some held) c d x y h k =
 pub line_held : (task : Task) (turns : List Turn) (line : List ℕ) (a c d : Ports) → line ≡ last_line task turns → HoldsRounds task turns a c → LogGrewPart line c d
     → HoldsToLine task turns a d
 line_held task turns line a c d is h k = record {
-  read_by_b = subst (λ o. HoldsAfter (a Port.ReadByB) o (λ _. read_so_far B task turns)) (sym k.read_by_b) h.read_by_b;
-  read_by_a = subst (λ o. HoldsAfter (a Port.ReadByA) o (λ _. read_so_far A task turns)) (sym k.read_by_a) h.read_by_a;
-  log = subst (λ last. HoldsMore (a Port.Log) (d Port.Log) [] (IsBetween (log_so_far task turns) (log_so_far task turns ++ last))) is
-      (after_part (a Port.Log) (c Port.Log) (d Port.Log) (log_so_far task turns) line h.log k.log);
+  read_by_b = subst (λ o. HoldsAfter (a port.ReadByB) o (λ _. read_so_far B task turns)) (sym k.read_by_b) h.read_by_b;
+  read_by_a = subst (λ o. HoldsAfter (a port.ReadByA) o (λ _. read_so_far A task turns)) (sym k.read_by_a) h.read_by_a;
+  log = subst (λ last. HoldsMore (a port.Log) (d port.Log) [] (IsBetween (log_so_far task turns) (log_so_far task turns ++ last))) is
+      (after_part (a port.Log) (c port.Log) (d port.Log) (log_so_far task turns) line h.log k.log);
 }
 
 -- ---- with the calls
 
 pub has_ended : (o : Outcome) (status : Status) → status ≡ status_of o → HasEnded status
-has_ended Outcome.Going status is = subst HasEnded (sym is) tt
-has_ended _ status is = subst HasEnded (sym is) tt
+has_ended outcome.Going status is = subst HasEnded (sym is) tt
+has_ended outcome.Delivered status is = subst HasEnded (sym is) tt
+has_ended (outcome.Aborted reader) status is = subst HasEnded (sym is) tt
+has_ended outcome.NoPath status is = subst HasEnded (sym is) tt
 
 -- the put of a line
 abbrev pub line_put : List ℕ → List Call
-line_put line = call.Put Port.Log line ∷ []
+line_put line = call.Put port.Log line ∷ []
 
 module _ (line : Line) (task : Task) (ha hb hc : Ports) (held : AreBound ha hb) (a b c : Told) (bound : AddsAll (binds_of line) a b) where
   -- behind all turns
@@ -149,8 +170,8 @@ module _ (line : Line) (task : Task) (ha hb hc : Ports) (held : AreBound ha hb) 
 
 -- not all was bound
 pub binds_short : (line : Line) (task : Task) (ha hb : Ports) (a b : Told) (status : Status) → AreFirstOf task.course [] [] (first_world task)
-    → HoldsWithin (Unit {0}) (ha Port.ReadByB) (hb Port.ReadByB) [] [] → HoldsWithin (Unit {0}) (ha Port.ReadByA) (hb Port.ReadByA) [] []
-    → hb Port.Log ≡ ha Port.Log → AddsCut (binds_of line) status a b → IsCut [] line task ha hb a b status
+    → HoldsWithin (Unit {0}) (ha port.ReadByB) (hb port.ReadByB) [] [] → HoldsWithin (Unit {0}) (ha port.ReadByA) (hb port.ReadByA) [] []
+    → hb port.Log ≡ ha port.Log → AddsCut (binds_of line) status a b → IsCut [] line task ha hb a b status
 binds_short line task ha hb a b status none read_by_b read_by_a log h = inl (record {
   ports = record { turns = []; more = []; are = none; one = omega arith; ports = begin_cut task ha hb read_by_b read_by_a log };
   calls = cut_longer (binds_of line) [] status a b h;
@@ -159,7 +180,7 @@ binds_short line task ha hb a b status none read_by_b read_by_a log h = inl (rec
 -- nothing was made, for want of memory
 pub nothing_made : (line : Line) (task : Task) (ha : Ports) (a : Told) → AreFirstOf task.course [] [] (first_world task) → IsCut [] line task ha ha a a Memory
 nothing_made line task ha a none =
-    binds_short line task ha ha a a Memory none (unbound (ha Port.ReadByB)) (unbound (ha Port.ReadByA)) refl (cut_none (binds_of line) Memory a a refl (adds_none a))
+    binds_short line task ha ha a a Memory none (unbound (ha port.ReadByB)) (unbound (ha port.ReadByA)) refl (cut_none (binds_of line) Memory a a refl (adds_none a))
   where
     unbound : (old : Option (List ℕ)) → HoldsWithin (Unit {0}) old old [] []
     unbound None = tt

@@ -1,12 +1,29 @@
 -- The calls of a round's end, and of the turns of a log.
-use Rattle.mptcp_run.proofs.Words.{◌≡◌, refl, sym, ◌∙◌, ap, subst, ℕ, List, [], ◌∷◌, ◌++◌, length, Option, Result, Ok, Err, drop, OnErr, Port, HoldsAfter}
-use Rattle.mptcp_run.proofs.Words.{HoldsPrefix, A, B, octets, IsLong, Status, AddsAll, AddsCut, puts_of, Told, all_then, cut_then, cut_longer, NotesFit}
-use Rattle.mptcp_run.proofs.Words.{round_text, puts_by, Puts, Turn, after_turn, lists_of, notes_at, read_by, IsSince, made_at, since, round_ends, Connection}
-use Rattle.mptcp_run.proofs.Words.{read_in, round_puts, puts_by_round, last_after, rounds_after, RoundPut}
-use Rattle.std.proofs.Common.{OnOk}
+use Rattle.std.proofs.Common.{◌≡◌, refl, sym, ◌∙◌, ap, subst, ℕ, List, [], ◌∷◌, ◌++◌, drop, length, Option, Result, Ok, Err, OnOk, OnErr}
 use Rattle.std.proofs.Math.Seq.{drop-append_seam}
+use Rattle.outside_kit.specs.declared.port.Port.{Port}
+use Rattle.outside_kit.specs.declared.port.Port.TheVariants as port
+use Rattle.sides.specs.declared.side.Side.TheVariants.{A, B}
+use Rattle.outside_kit.specs.Outside.{HoldsAfter, HoldsPrefix}
+use Rattle.path_core.specs.Octets.{octets}
+use Rattle.world_laws.specs.Fine.{lists_of}
+use Rattle.world_laws.specs.Outcomes.{notes_at, read_by}
+use Rattle.world_laws.specs.Worlds.{Turn, after_turn}
+use Rattle.run_outside.specs.declared.status.Status.{Status}
 use Rattle.mptcp_run.specs.Adding.{turn_puts}
+use Rattle.run_outside.specs.Plan.{AddsAll, AddsCut, puts_of}
+use Rattle.mptcp_run.specs.Plan.{read_in, round_puts, puts_by_round}
+use Rattle.world_core.specs.RoundEnds.{round_ends}
+use Rattle.run_outside.specs.LogText.{round_text, NotesFit}
+use Rattle.run_outside.specs.Calling.{Puts}
+use Rattle.run_log.specs.Fitting.{IsLong}
+use Rattle.mptcp_run.specs.Making.{RoundPut}
+use Rattle.mptcp_run.specs.Replaying.{last_after, rounds_after}
+use Rattle.mptcp_run.specs.Task.{Connection}
+use Rattle.world_core.specs.Weaving.{IsSince, made_at, since}
+use Rattle.run_outside.proofs.Calls.{Told, all_then, cut_then, cut_longer}
 use Rattle.world_core.proofs.SinceRound.{read_grew, steps_since}
+use Rattle.run_outside.proofs.Calling.{puts_by}
 use Rattle.mptcp_run.proofs.RoundSteps.{round_held, round_part}
 
 -- ---- one round
@@ -62,10 +79,10 @@ module _ {X : Type 0} (made : List ℕ) (last w : Connection) (opening : Option 
     (b_is : read_by_b ≡ read_by (drop (made_at 1 made) (notes_at 1 w.crew))) (a_is : read_by_a ≡ read_by (drop (made_at 0 made) (notes_at 0 w.crew)))
     (lines_are : lines ≡ round_text opening number (since made (lists_of w.crew))) (h : IsSince last made w) (few : IsLong number) (fit : NotesFit opening (since made (lists_of w.crew)))
     (l m : ℕ) (f g : Port → ℕ) (a b : Told) where
-  pub piece_put : (r : Result X Status) → OnOk r (HoldsAfter (old Port.ReadByB) (new Port.ReadByB) (λ held. held ++ read_by_b))
-      → OnOk r (HoldsAfter (old Port.ReadByA) (new Port.ReadByA) (λ held. held ++ read_by_a)) → OnOk r (HoldsAfter (old Port.Log) (new Port.Log) (λ held. held ++ lines))
-      → OnErr r (HoldsPrefix (old Port.ReadByB) (new Port.ReadByB) read_by_b) → OnErr r (HoldsPrefix (old Port.ReadByA) (new Port.ReadByA) read_by_a)
-      → OnErr r (HoldsPrefix (old Port.Log) (new Port.Log) lines) → Puts (puts_of read_by_b read_by_a lines) l m f g a b r → RoundPut opening number last w l m f g old new a b r
+  pub piece_put : (r : Result X Status) → OnOk r (HoldsAfter (old port.ReadByB) (new port.ReadByB) (λ held. held ++ read_by_b))
+      → OnOk r (HoldsAfter (old port.ReadByA) (new port.ReadByA) (λ held. held ++ read_by_a)) → OnOk r (HoldsAfter (old port.Log) (new port.Log) (λ held. held ++ lines))
+      → OnErr r (HoldsPrefix (old port.ReadByB) (new port.ReadByB) read_by_b) → OnErr r (HoldsPrefix (old port.ReadByA) (new port.ReadByA) read_by_a)
+      → OnErr r (HoldsPrefix (old port.Log) (new port.Log) lines) → Puts (puts_of read_by_b read_by_a lines) l m f g a b r → RoundPut opening number last w l m f g old new a b r
   piece_put (Ok x) by_b by_a log b_part a_part log_part puts = record {
     whole = round_held made last w opening number old new read_by_b read_by_a lines b_is a_is lines_are h few fit by_b by_a log;
     part = tt;

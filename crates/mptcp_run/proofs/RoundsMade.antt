@@ -1,10 +1,24 @@
 -- Rounds of a kind, made and put one after the other.
-use Rattle.mptcp_run.proofs.Words.{◌≡◌, refl, sym, ◌∙◌, ap, subst, ℕ, ◌+◌, ◌≤◌, true, false, List, [], ◌∷◌, ◌++◌, length, Option, inl, inr, ◌⊎◌, arith, suc}
-use Rattle.mptcp_run.proofs.Words.{append-nil, A, B, octets, Status, AddsAll, AddsCut, Ports, Told, adds_none, all_then, cut_then, cut_longer, cut_none}
-use Rattle.mptcp_run.proofs.Words.{IsPrefix-refl, goes_on, Turn, world_run, outcome_of, output_of, run_append, round_ends, HoldsEnds, HoldsPart, Connection}
-use Rattle.mptcp_run.proofs.Words.{round_puts, puts_by_round, AreFirst, RoundMade, RoundStops}
-use Rattle.std.proofs.Common.{append_assoc}
+use Rattle.std.proofs.Common.{◌≡◌, refl, sym, ◌∙◌, ap, subst, ℕ, suc, ◌+◌, ◌≤◌, true, false, inl, inr, ◌⊎◌, List, [], ◌∷◌, ◌++◌, length, Option, append_assoc, arith}
+use Rattle.std.proofs.lemmas.List.{append-nil}
+use Rattle.sides.specs.declared.side.Side.TheVariants.{A, B}
+use Rattle.path_core.specs.Octets.{octets}
+use Rattle.world_laws.specs.Outcomes.{outcome_of, output_of}
+use Rattle.world_laws.specs.Serial.{goes_on}
+use Rattle.world_laws.specs.Worlds.{Turn, world_run}
+use Rattle.world_laws.proofs.Weaving.WholeRounds.{run_append}
+use Rattle.world_core.specs.RoundEnds.{round_ends}
+use Rattle.run_outside.specs.declared.status.Status.{Status}
+use Rattle.mptcp_run.specs.Making.{RoundMade, RoundStops}
+use Rattle.run_outside.specs.Plan.{AddsAll, AddsCut}
+use Rattle.mptcp_run.specs.Plan.{round_puts, puts_by_round}
+use Rattle.mptcp_run.specs.Putting.{AreFirst}
+use Rattle.mptcp_run.specs.Rounds.{HoldsEnds, HoldsPart}
+use Rattle.mptcp_run.specs.Task.{Connection}
+use Rattle.run_outside.proofs.Calls.{Told, adds_none, all_then, cut_then, cut_longer, cut_none}
 use Rattle.mptcp_run.proofs.Folding.{RoundsPut, RoundsCut}
+use Rattle.run_outside.proofs.PortsLemmas.{IsPrefix-refl}
+use Rattle.run_outside.specs.Ports.{Ports}
 use Rattle.mptcp_run.proofs.RoundSteps.{nothing_part, nothing_ends, ends_more, part_behind}
 
 -- What a kind of rounds has: the turns of each, and those of at most so many.

@@ -1,34 +1,49 @@
 -- The rows that a note tells are in range, in every connection: a path tells its window and its round-trip time within their ranges.
-use Rattle.mptcp_run.proofs.Words.{◌≡◌, refl, sym, subst, ℕ, ◌+◌, ◌≤◌, ◌<◌, Bool, true, false, if◌then◌else◌, List, [], ◌∷◌, map, length, Option, Some, None}
-use Rattle.mptcp_run.proofs.Words.{arith, ⊎_elim, slice_get, same_Some, slice_get_within, Side, A, B, Note, Ask, Reply, books_in, HasRowsInRange, in_map}
-use Rattle.mptcp_run.proofs.Words.{in_set, Actor, ActorCrew, member_asks, member_takes, member_next, WorldState, Turn, note_of, crew_after, asked, stepped}
-use Rattle.mptcp_run.proofs.Words.{world_step, all_over, greatest, begins, end_round, after_turn, world_run, Start, opened_world, path_begins, App, Path}
+use Rattle.std.proofs.Common.{◌≡◌, refl, sym, subst, ℕ, ◌+◌, ◌<◌, ⊎_elim, Bool, true, false, if◌then◌else◌, Option, Some, None, List, [], ◌∷◌, map, arith, length, ◌≤◌}
+use Rattle.std.proofs.lemmas.Option.{same_Some, slice_get_within}
+use Rattle.std.specs.List.{slice_get}
+use Rattle.sides.specs.declared.side.Side.{Side}
+use Rattle.sides.specs.declared.side.Side.TheVariants.{A, B}
 use Rattle.subflow_send.specs.Records.{Record}
 use Rattle.loss_recovery.specs.declared.windows.Pending.{Pending}
-use Rattle.reassembly_book.specs.declared.call.ReassemblyCall.{ReassemblyCall}
+use Rattle.reassembly_book.specs.declared.call.ReassemblyCall.TheVariants as reassembly_calls
 use Rattle.fallback_state.specs.declared.fall.Event.TheVariants as events
 use Rattle.control_book.specs.declared.call.ControlCall.{ControlCall}
+use Rattle.control_book.specs.declared.call.ControlCall.TheVariants as control_calls
 use Rattle.control_book.specs.declared.call.ControlReply.{ControlReply}
+use Rattle.control_book.specs.declared.call.ControlReply.TheVariants as control_replies
 use Rattle.control_book.specs.Calls.{can_ask}
 use Rattle.control_book.specs.Laws.{RowsAreRight}
 use Rattle.control_book.proofs.RowsRight.{right_once, rows_stay_right}
 use Rattle.stream_lanes.specs.Words.{Every}
+use Rattle.stream_lanes.proofs.Lists.{in_set, in_map}
+use Rattle.actor_desk.specs.declared.ask.Ask.{Ask}
+use Rattle.actor_desk.specs.declared.ask.Ask.TheVariants as asks
+use Rattle.actor_desk.specs.declared.ask.Note.{Note}
+use Rattle.actor_desk.specs.declared.ask.Reply.{Reply}
+use Rattle.actor_desk.specs.declared.ask.Reply.TheVariants as replies
+use Rattle.actor_desk.specs.Books.{books_in}
 use Rattle.actor_desk.specs.Bounds.{IsSmallControl}
 use Rattle.actor_desk.specs.Desk.{SixBooks, reply_of, after_ask}
 use Rattle.actor_desk.specs.Kinds.{IsControlKind}
 use Rattle.actor_desk.proofs.Small.{control_small}
 use Rattle.stream_apps.specs.declared.duty.AppDuty.{AppDuty}
+use Rattle.stream_apps.specs.declared.duty.AppDuty.TheVariants as app_duties
 use Rattle.stream_apps.specs.Apps.{AppState}
 use Rattle.stream_apps.specs.AppSteps.{app_ask, app_asks_first}
 use Rattle.path_agenda.specs.declared.duty.Duty.{Duty}
-use Rattle.path_agenda.specs.declared.duty.AskDuty.{AskDuty}
-use Rattle.path_agenda.specs.declared.duty.SendDuty.{SendDuty}
-use Rattle.path_agenda.specs.declared.duty.SilentDuty.{SilentDuty}
-use Rattle.path_agenda.specs.declared.duty.StepDuty.{StepDuty}
+use Rattle.path_agenda.specs.declared.duty.Duty.TheVariants as duties
+use Rattle.path_agenda.specs.declared.duty.AskDuty.TheVariants as ask_duties
+use Rattle.path_agenda.specs.declared.duty.SendDuty.TheVariants as send_duties
+use Rattle.path_agenda.specs.declared.duty.SilentDuty.TheVariants as silent_duties
+use Rattle.path_agenda.specs.declared.duty.StepDuty.TheVariants as step_duties
 use Rattle.path_core.specs.declared.events.Event.{Event}
+use Rattle.path_core.specs.declared.events.Event.TheVariants as happening
 use Rattle.path_agenda.specs.declared.heard.Heard.{Heard}
+use Rattle.path_agenda.specs.declared.heard.Heard.TheVariants as says
 use Rattle.path_agenda.specs.declared.keys.KeyPair.{KeyPair}
 use Rattle.path_agenda.specs.declared.notice.PeerNotice.{PeerNotice}
+use Rattle.path_agenda.specs.declared.notice.PeerNotice.TheVariants as notes
 use Rattle.path_core.specs.Addresses.{notice_ask}
 use Rattle.path_core.specs.Breaking.{break_ask, reset_of}
 use Rattle.path_core.specs.Codec.{Codec}
@@ -50,7 +65,12 @@ use Rattle.path_core.specs.Steps.{asks_first, begins_turn}
 use Rattle.path_core.specs.DssIn.{is_clash, mapping_ask}
 use Rattle.path_core.specs.Fallback.{fell_ask, breaks_by_ack, plain_ack_ask}
 use Rattle.path_core.specs.Treating.{item_ask, item_of}
+use Rattle.run_log.specs.Laws.{HasRowsInRange}
+use Rattle.world_laws.specs.declared.member.Member.TheVariants.{App, Path}
+use Rattle.world_laws.specs.Actors.{Actor, ActorCrew, member_asks, member_takes, member_next}
+use Rattle.world_laws.specs.Openings.{Start, path_begins, opened_world}
 use Rattle.world_laws.specs.StampedBooks.{answer_to}
+use Rattle.world_laws.specs.Worlds.{WorldState, Turn, note_of, crew_after, asked, stepped, world_step, all_over, greatest, begins, end_round, after_turn, world_run}
 use Rattle.world_laws.proofs.Weaving.Journals.{books_after}
 use Rattle.world_laws.proofs.Weaving.Occurring.{In, in_grown}
 use Rattle.world_laws.proofs.Rounds.Frame.{takes_keeps, first_keeps}
@@ -62,12 +82,17 @@ use Rattle.world_laws.proofs.Falls.FailedChecks.{fail_asks_so, subflow_acks_so}
 
 -- a call of a control book meets its conditions
 abbrev IsFair : Ask → Type 0
-IsFair (Ask.Control s call) = can_ask call
+IsFair (asks.Control s call) = can_ask call
 IsFair _ = Unit {0}
 
 app_asks_fair : (d : AppDuty) (a : AppState) → IsFair (app_ask d a)
-app_asks_fair AppDuty.FastClose a = tt
-app_asks_fair _ a = tt
+app_asks_fair app_duties.FastClose a = tt
+app_asks_fair app_duties.AbortSend a = tt
+app_asks_fair app_duties.AbortReceive a = tt
+app_asks_fair app_duties.Write a = tt
+app_asks_fair app_duties.Close a = tt
+app_asks_fair app_duties.Read a = tt
+app_asks_fair app_duties.End a = tt
 
 module _ {C : Type 0} (k : Codec C) (p : PathState C) (low : path_of p < 16) where
   data_fair : (s : Side) (o : Option Record) → IsFair (data_ask k s o p)
@@ -75,8 +100,11 @@ module _ {C : Type 0} (k : Codec C) (p : PathState C) (low : path_of p < 16) whe
   data_fair s (Some r) = tt
 
   event_fair : (o : Option Event) → IsFair (step_for (path_of p) o)
-  event_fair (Some (Event.Joins tick)) = low
-  event_fair _ = tt
+  event_fair None = tt
+  event_fair (Some (happening.Takes line)) = tt
+  event_fair (Some (happening.Arrives due)) = tt
+  event_fair (Some (happening.Fires s tick)) = tt
+  event_fair (Some (happening.Joins tick)) = low
 
   join_heard_fair : (s : Side) (o : Option JoinSyn) → IsFair (join_heard_ask s o p)
   join_heard_fair s None = tt
@@ -93,7 +121,7 @@ module _ {C : Type 0} (k : Codec C) (p : PathState C) (low : path_of p < 16) whe
   break_fair : (s : Side) (reason : ℕ) → IsFair (break_ask k s reason p)
   break_fair s reason = by (end_at s p).treated.asked
     where
-      by : (b : Bool) → IsFair (if b then Ask.Reassembly s ReassemblyCall.AckOut else sends k s (reset_of s (Some reason) p) p)
+      by : (b : Bool) → IsFair (if b then asks.Reassembly s reassembly_calls.AckOut else sends k s (reset_of s (Some reason) p) p)
       by true = tt
       by false = tt
 
@@ -112,17 +140,24 @@ module _ {C : Type 0} (k : Codec C) (p : PathState C) (low : path_of p < 16) whe
       by false = low
 
   note_fair : (s : Side) (notice : PeerNotice) → IsFair (notice_ask s notice p)
-  note_fair s (PeerNotice.Prio backup) = low
-  note_fair s _ = tt
+  note_fair s (notes.AddAddr id address port hmac) = tt
+  note_fair s (notes.AddEcho id) = tt
+  note_fair s (notes.Removed id) = tt
+  note_fair s (notes.Prio backup) = low
 
   item_fair : (s : Side) (o : Option Heard) → IsFair (item_ask k s o p)
-  item_fair s (Some Heard.Dss) = tt
-  item_fair s (Some (Heard.Mapping fin)) = mapping_fair s
-  item_fair s (Some (Heard.DataFin place)) = low
-  item_fair s (Some (Heard.InfiniteMapping place position)) = low
-  item_fair s (Some (Heard.Notice notice)) = note_fair s notice
-  item_fair s (Some Heard.Fail) = fail_asks_so IsFair s p tt low
-  item_fair s _ = tt
+  item_fair s None = tt
+  item_fair s (Some says.Dss) = tt
+  item_fair s (Some (says.DataAck next window)) = tt
+  item_fair s (Some (says.Mapping fin)) = mapping_fair s
+  item_fair s (Some (says.DataFin place)) = low
+  item_fair s (Some (says.InfiniteMapping place position)) = low
+  item_fair s (Some (says.PeerKey key)) = tt
+  item_fair s (Some (says.Keys own peer)) = tt
+  item_fair s (Some (says.Join form)) = tt
+  item_fair s (Some (says.Notice notice)) = note_fair s notice
+  item_fair s (Some says.Fail) = fail_asks_so IsFair s p tt low
+  item_fair s (Some (says.FastClose key)) = tt
 
   piece_fair : (s : Side) (o : Option Piece) → IsFair (piece_ask s o)
   piece_fair s None = tt
@@ -137,53 +172,53 @@ module _ {C : Type 0} (k : Codec C) (p : PathState C) (low : path_of p < 16) whe
   rate_fair s (Some pending) = (low, omega arith, omega arith, omega arith, omega arith)
 
   path_asks_fair : (d : Duty) → IsFair (ask_for k d p)
-  path_asks_fair (Duty.Ask AskDuty.JoinAgain) = low
-  path_asks_fair (Duty.Ask (AskDuty.JoinHeard s)) = join_heard_fair s (asked_at s p)
-  path_asks_fair (Duty.Send (SendDuty.Refuse s)) = tt
-  path_asks_fair (Duty.Step (StepDuty.PlainAck s)) = plain_ack_fair s
-  path_asks_fair (Duty.Step (StepDuty.Look s)) = low
-  path_asks_fair (Duty.Step (StepDuty.Data s)) = data_fair s (first_unsent (end_at s p))
-  path_asks_fair (Duty.Silent (SilentDuty.Timer s)) = tt
-  path_asks_fair (Duty.Step StepDuty.Events) = event_fair (next_event p)
-  path_asks_fair (Duty.Ask (AskDuty.PlainHandshake s)) = low
-  path_asks_fair (Duty.Ask (AskDuty.PeerKey s)) = key_fair s (key_heard (end_at s p).treated.items)
-  path_asks_fair (Duty.Ask (AskDuty.Opened s)) = opens_fair s (keys_heard (end_at s p).treated.items)
-  path_asks_fair (Duty.Ask (AskDuty.Live s)) = low
-  path_asks_fair (Duty.Step (StepDuty.Heard s index)) = item_fair s (item_of index (end_at s p))
-  path_asks_fair (Duty.Ask (AskDuty.AckHeard s)) = low
-  path_asks_fair (Duty.Ask (AskDuty.FailHeard s)) = low
-  path_asks_fair (Duty.Ask (AskDuty.SubflowAck s)) = subflow_acks_so IsFair s (end_at s p) tt (λ next. tt)
-  path_asks_fair (Duty.Ask (AskDuty.PlainData s)) = low
-  path_asks_fair (Duty.Ask (AskDuty.Edge s)) = piece_fair s (piece_of s p)
-  path_asks_fair (Duty.Ask (AskDuty.CheckFailed s)) = low
-  path_asks_fair (Duty.Step (StepDuty.Unmapped s)) = break_fair s 6
-  path_asks_fair (Duty.Ask (AskDuty.HeardFin s index)) = fin_fair s (data_fin_of index (end_at s p))
-  path_asks_fair (Duty.Ask (AskDuty.SubflowFin s)) = fin_fair s (plain_fin (end_at s p))
-  path_asks_fair (Duty.Ask (AskDuty.Rate s)) = rate_fair s (end_at s p).tcp.congestion.pending
-  path_asks_fair (Duty.Ask (AskDuty.Dead s)) = low
+  path_asks_fair (duties.Ask ask_duties.JoinAgain) = low
+  path_asks_fair (duties.Ask (ask_duties.JoinHeard s)) = join_heard_fair s (asked_at s p)
+  path_asks_fair (duties.Send (send_duties.Refuse s)) = tt
+  path_asks_fair (duties.Step (step_duties.PlainAck s)) = plain_ack_fair s
+  path_asks_fair (duties.Step (step_duties.Look s)) = low
+  path_asks_fair (duties.Step (step_duties.Data s)) = data_fair s (first_unsent (end_at s p))
+  path_asks_fair (duties.Silent (silent_duties.Timer s)) = tt
+  path_asks_fair (duties.Step step_duties.Events) = event_fair (next_event p)
+  path_asks_fair (duties.Ask (ask_duties.PlainHandshake s)) = low
+  path_asks_fair (duties.Ask (ask_duties.PeerKey s)) = key_fair s (key_heard (end_at s p).treated.items)
+  path_asks_fair (duties.Ask (ask_duties.Opened s)) = opens_fair s (keys_heard (end_at s p).treated.items)
+  path_asks_fair (duties.Ask (ask_duties.Live s)) = low
+  path_asks_fair (duties.Step (step_duties.Heard s index)) = item_fair s (item_of index (end_at s p))
+  path_asks_fair (duties.Ask (ask_duties.AckHeard s)) = low
+  path_asks_fair (duties.Ask (ask_duties.FailHeard s)) = low
+  path_asks_fair (duties.Ask (ask_duties.SubflowAck s)) = subflow_acks_so IsFair s (end_at s p) tt (λ next. tt)
+  path_asks_fair (duties.Ask (ask_duties.PlainData s)) = low
+  path_asks_fair (duties.Ask (ask_duties.Edge s)) = piece_fair s (piece_of s p)
+  path_asks_fair (duties.Ask (ask_duties.CheckFailed s)) = low
+  path_asks_fair (duties.Step (step_duties.Unmapped s)) = break_fair s 6
+  path_asks_fair (duties.Ask (ask_duties.HeardFin s index)) = fin_fair s (data_fin_of index (end_at s p))
+  path_asks_fair (duties.Ask (ask_duties.SubflowFin s)) = fin_fair s (plain_fin (end_at s p))
+  path_asks_fair (duties.Ask (ask_duties.Rate s)) = rate_fair s (end_at s p).tcp.congestion.pending
+  path_asks_fair (duties.Ask (ask_duties.Dead s)) = low
   path_asks_fair _ = tt
 
 -- ---- what is answered
 
 -- rows are told to `Rate` alone, and are in range then
-rows_of_reply : (call : ControlCall) (reply : ControlReply) → IsControlKind call reply → IsSmallControl call reply → HasRowsInRange (Reply.Control reply)
-rows_of_reply (ControlCall.Look path) (ControlReply.Rows rows) kind small = absurd kind
-rows_of_reply (ControlCall.PeerKey key) (ControlReply.Rows rows) kind small = absurd kind
-rows_of_reply (ControlCall.Keys own peer) (ControlReply.Rows rows) kind small = absurd kind
-rows_of_reply (ControlCall.Fell path event) (ControlReply.Rows rows) kind small = absurd kind
-rows_of_reply (ControlCall.JoinBegin path) (ControlReply.Rows rows) kind small = absurd kind
-rows_of_reply (ControlCall.JoinHeard path token) (ControlReply.Rows rows) kind small = absurd kind
-rows_of_reply (ControlCall.Live path backup) (ControlReply.Rows rows) kind small = absurd kind
-rows_of_reply (ControlCall.Dead path) (ControlReply.Rows rows) kind small = absurd kind
-rows_of_reply (ControlCall.Backup path on) (ControlReply.Rows rows) kind small = absurd kind
-rows_of_reply (ControlCall.Announce id) (ControlReply.Rows rows) kind small = absurd kind
-rows_of_reply (ControlCall.Withdraw id) (ControlReply.Rows rows) kind small = absurd kind
-rows_of_reply (ControlCall.Heard id address port hmac) (ControlReply.Rows rows) kind small = absurd kind
-rows_of_reply (ControlCall.Echoed id) (ControlReply.Rows rows) kind small = absurd kind
-rows_of_reply (ControlCall.Removed id) (ControlReply.Rows rows) kind small = absurd kind
-rows_of_reply ControlCall.FastClose (ControlReply.Rows rows) kind small = absurd kind
-rows_of_reply (ControlCall.FastHeard key) (ControlReply.Rows rows) kind small = absurd kind
-rows_of_reply (ControlCall.Rate path window rtt) (ControlReply.Rows rows) kind small = small.in_range
+rows_of_reply : (call : ControlCall) (reply : ControlReply) → IsControlKind call reply → IsSmallControl call reply → HasRowsInRange (replies.Control reply)
+rows_of_reply (control_calls.Look path) (control_replies.Rows rows) kind small = absurd kind
+rows_of_reply (control_calls.PeerKey key) (control_replies.Rows rows) kind small = absurd kind
+rows_of_reply (control_calls.Keys own peer) (control_replies.Rows rows) kind small = absurd kind
+rows_of_reply (control_calls.Fell path event) (control_replies.Rows rows) kind small = absurd kind
+rows_of_reply (control_calls.JoinBegin path) (control_replies.Rows rows) kind small = absurd kind
+rows_of_reply (control_calls.JoinHeard path token) (control_replies.Rows rows) kind small = absurd kind
+rows_of_reply (control_calls.Live path backup) (control_replies.Rows rows) kind small = absurd kind
+rows_of_reply (control_calls.Dead path) (control_replies.Rows rows) kind small = absurd kind
+rows_of_reply (control_calls.Backup path on) (control_replies.Rows rows) kind small = absurd kind
+rows_of_reply (control_calls.Announce id) (control_replies.Rows rows) kind small = absurd kind
+rows_of_reply (control_calls.Withdraw id) (control_replies.Rows rows) kind small = absurd kind
+rows_of_reply (control_calls.Heard id address port hmac) (control_replies.Rows rows) kind small = absurd kind
+rows_of_reply (control_calls.Echoed id) (control_replies.Rows rows) kind small = absurd kind
+rows_of_reply (control_calls.Removed id) (control_replies.Rows rows) kind small = absurd kind
+rows_of_reply control_calls.FastClose (control_replies.Rows rows) kind small = absurd kind
+rows_of_reply (control_calls.FastHeard key) (control_replies.Rows rows) kind small = absurd kind
+rows_of_reply (control_calls.Rate path window rtt) (control_replies.Rows rows) kind small = small.in_range
 rows_of_reply call _ kind small = tt
 
 -- both control books keep rows that are right
@@ -192,16 +227,18 @@ record AreRight (six : SixBooks) : Type 0 where
   b : RowsAreRight six.control_b.paths
 
 reply_in_range : (six : SixBooks) (x : Ask) → IsFair x → AreRight six → HasRowsInRange (reply_of six x)
-reply_in_range six (Ask.Control A call) fair h = rows_of_reply call _ (control_kind six.control_a call) (control_small six.control_a call h.a fair)
-reply_in_range six (Ask.Control B call) fair h = rows_of_reply call _ (control_kind six.control_b call) (control_small six.control_b call h.b fair)
-reply_in_range six _ fair h = tt
+reply_in_range six (asks.Send s call) fair h = tt
+reply_in_range six (asks.Reassembly s call) fair h = tt
+reply_in_range six (asks.Control A call) fair h = rows_of_reply call _ (control_kind six.control_a call) (control_small six.control_a call h.a fair)
+reply_in_range six (asks.Control B call) fair h = rows_of_reply call _ (control_kind six.control_b call) (control_small six.control_b call h.b fair)
+reply_in_range six (asks.Local step) fair h = tt
 
 ask_right : (six : SixBooks) (x : Ask) → IsFair x → AreRight six → AreRight (after_ask x six)
-ask_right six (Ask.Send s call) fair h = record { a = h.a; b = h.b }
-ask_right six (Ask.Reassembly s call) fair h = record { a = h.a; b = h.b }
-ask_right six (Ask.Control A call) fair h = record { a = right_once six.control_a call fair h.a; b = h.b }
-ask_right six (Ask.Control B call) fair h = record { a = h.a; b = right_once six.control_b call fair h.b }
-ask_right six (Ask.Local step) fair h = h
+ask_right six (asks.Send s call) fair h = record { a = h.a; b = h.b }
+ask_right six (asks.Reassembly s call) fair h = record { a = h.a; b = h.b }
+ask_right six (asks.Control A call) fair h = record { a = right_once six.control_a call fair h.a; b = h.b }
+ask_right six (asks.Control B call) fair h = record { a = h.a; b = right_once six.control_b call fair h.b }
+ask_right six (asks.Local step) fair h = h
 
 -- ---- a world
 

@@ -1,11 +1,30 @@
 -- A run that was opened, and how it goes on.
-use Rattle.mptcp_run.proofs.Words.{◌≡◌, refl, sym, ◌∙◌, ap, subst, ℕ, ◌+◌, List, [], length, Option, Line, Port, Input, Status, Delivered, Put, Memory, Log}
-use Rattle.mptcp_run.proofs.Words.{binds_of, AddsAll, AddsShort, IsPortsFault, Ports, NeverFall, Told, all_then, risen_later, Turn, outcome_of, opened_world}
-use Rattle.mptcp_run.proofs.Words.{start_of, round_ends, Kept, Begins, AtRound, IsOpened, Connection, Task, Course, first_world, task_from, task_with, Report}
-use Rattle.mptcp_run.proofs.Words.{CameToEnd, IsCut, ReplayEnds, opening_in, status_of, last_line_of, last_line, world_after, ends_of, opening_of}
-use Rattle.mptcp_run.proofs.Words.{IsReplayFault, CourseMade, CourseCut, LogStops, Run}
+use Rattle.std.proofs.Common.{◌≡◌, refl, sym, ◌∙◌, ap, subst, ℕ, ◌+◌, List, [], Option, length}
+use Rattle.outside_kit.specs.declared.port.Port.{Port}
+use Rattle.run_words.specs.Lines.{Line}
+use Rattle.run_outside.specs.declared.input.Input.{Input}
+use Rattle.world_core.specs.Kept.{Kept}
+use Rattle.world_laws.specs.Openings.{start_of, opened_world}
+use Rattle.world_laws.specs.Outcomes.{outcome_of}
+use Rattle.world_laws.specs.Worlds.{Turn}
+use Rattle.mptcp_run.specs.declared.report.Report.{Report}
+use Rattle.mptcp_run.specs.declared.report.Report.TheVariants as report
+use Rattle.mptcp_run.specs.declared.rounds.Run.{Run}
+use Rattle.run_outside.specs.declared.status.Status.{Status}
+use Rattle.run_outside.specs.declared.status.Status.TheVariants.{Delivered, Put, Memory, Log}
+use Rattle.mptcp_run.specs.Courses.{CourseMade, CourseCut, LogStops}
+use Rattle.mptcp_run.specs.Ends.{CameToEnd, IsCut, ReplayEnds}
+use Rattle.run_outside.specs.Plan.{AddsAll, AddsShort, binds_of}
+use Rattle.run_outside.specs.Ports.{NeverFall, IsPortsFault, Ports}
+use Rattle.world_core.specs.RoundEnds.{round_ends}
+use Rattle.mptcp_run.specs.Putting.{opening_of, opening_in, status_of, ends_of, world_after, last_line, last_line_of}
+use Rattle.mptcp_run.specs.Replaying.{IsReplayFault}
+use Rattle.mptcp_run.specs.Rounds.{Begins, AtRound, IsOpened}
+use Rattle.mptcp_run.specs.Task.{Connection, Course, Task, task_with, task_from, first_world}
 use Rattle.mptcp_run.specs.Task as course
+use Rattle.run_outside.proofs.Calls.{Told, all_then}
 use Rattle.mptcp_run.proofs.Performing.{AreBound, LogGrew, LogGrewPart, rounds_held, line_put, line_done, line_short, rounds_short}
+use Rattle.run_outside.proofs.PortsLemmas.{risen_later}
 use Rattle.mptcp_run.proofs.UnderWay.{opened_begins}
 
 module _ (input : Input) (kind : Report) (run : Run) (h : IsOpened input kind run) where
@@ -32,10 +51,10 @@ line_after task count v turns many end =
     ap (λ n. last_line_of task.report n v) many ∙ ap (last_line_of task.report (length (ends_of task turns))) end
 
 -- that of a log doesn't tell how many rounds ended
-pub logged_line : (task : Task) (turns : List Turn) (count : ℕ) (v : Connection) → task.report ≡ Report.Log → v ≡ world_after task turns
-    → last_line_of Report.Log count v ≡ last_line task turns
+pub logged_line : (task : Task) (turns : List Turn) (count : ℕ) (v : Connection) → task.report ≡ report.Log → v ≡ world_after task turns
+    → last_line_of report.Log count v ≡ last_line task turns
 logged_line task turns count v kept end =
-    ap (last_line_of Report.Log (length (ends_of task turns))) end ∙ ap (λ r. last_line_of r (length (ends_of task turns)) (world_after task turns)) (sym kept)
+    ap (last_line_of report.Log (length (ends_of task turns))) end ∙ ap (λ r. last_line_of r (length (ends_of task turns)) (world_after task turns)) (sym kept)
 
 -- ---- from its first round to the last line
 
@@ -67,25 +86,25 @@ module _ (input : Input) (kind : Report) (run : Run) (h : IsOpened input kind ru
           line_short line rounds_run ha hb hc held a b c bound v made.0 (last_line_of kind count v) (line_after rounds_run count v made.0.turns made.1 made.0.world)
           status hd d grew cut
 
-module _ (input : Input) (run : Run) (h : IsOpened input Report.Log run) (line : Line) (ha hb hc : Ports) (held : AreBound ha hb) (a b c : Told)
+module _ (input : Input) (run : Run) (h : IsOpened input report.Log run) (line : Line) (ha hb hc : Ports) (held : AreBound ha hb) (a b c : Told)
     (bound : AddsAll (binds_of line) a b) (order : List Turn) where
   abbrev replay_run : Task
   replay_run = task_from input (course.told order)
 
   module _ (count : ℕ) (v : Connection) (status : Status) (hd : Ports) (d : Told) (ok : CourseMade (course.told order) run.opening run.world.state v hb hc b c) where
     told_made : CourseMade (course.told order) (opening_in replay_run) (first_world replay_run) v hb hc b c
-    told_made = as_opened input Report.Log run h (λ o w. CourseMade (course.told order) o w v hb hc b c) ok
+    told_made = as_opened input report.Log run h (λ o w. CourseMade (course.told order) o w v hb hc b c) ok
 
-    pub replay_done : status ≡ status_of (outcome_of v.crew) → LogGrew (last_line_of Report.Log count v) hc hd → AddsAll (line_put (last_line_of Report.Log count v)) c d
+    pub replay_done : status ≡ status_of (outcome_of v.crew) → LogGrew (last_line_of report.Log count v) hc hd → AddsAll (line_put (last_line_of report.Log count v)) c d
         → CameToEnd [] line (task_from input (course.told order)) ha hd a d status
     replay_done shown grew told =
-        line_done line replay_run ha hb hc held a b c bound v told_made (last_line_of Report.Log count v) (logged_line replay_run told_made.turns count v refl told_made.world)
+        line_done line replay_run ha hb hc held a b c bound v told_made (last_line_of report.Log count v) (logged_line replay_run told_made.turns count v refl told_made.world)
         status hd d shown grew told
 
-    pub replay_line_short : LogGrewPart (last_line_of Report.Log count v) hc hd → AddsShort (line_put (last_line_of Report.Log count v)) status c d
+    pub replay_line_short : LogGrewPart (last_line_of report.Log count v) hc hd → AddsShort (line_put (last_line_of report.Log count v)) status c d
         → IsCut [] line (task_from input (course.told order)) ha hd a d status
     replay_line_short grew cut =
-        line_short line replay_run ha hb hc held a b c bound v told_made (last_line_of Report.Log count v) (logged_line replay_run told_made.turns count v refl told_made.world)
+        line_short line replay_run ha hb hc held a b c bound v told_made (last_line_of report.Log count v) (logged_line replay_run told_made.turns count v refl told_made.world)
         status hd d grew cut
 
 -- ---- the turns of a log
@@ -115,12 +134,12 @@ module _ (line : Line) (task : Task) (order : List Turn) (is : task.course ≡ c
   log_stops Delivered h = absurd h
   log_stops _ h = absurd h
 
-pub replay_stops : (input : Input) (run : Run) → IsOpened input Report.Log run → (line : Line) (ha hb hc : Ports) → AreBound ha hb → (a b c : Told)
+pub replay_stops : (input : Input) (run : Run) → IsOpened input report.Log run → (line : Line) (ha hb hc : Ports) → AreBound ha hb → (a b c : Told)
     → AddsAll (binds_of line) a b → (order : List Turn) (lines : ℕ) (status : Status) → LogStops order lines run.opening run.world.state hb hc b c status
     → ReplayEnds [] line (task_from input (course.told order)) ha hc a c lines status
 replay_stops input run h line ha hb hc held a b c bound order lines status stops =
     log_stops line (task_from input (course.told order)) order refl lines ha hb hc held a b c bound status
-    (as_opened input Report.Log run h (λ o w. LogStops order lines o w hb hc b c status) stops)
+    (as_opened input report.Log run h (λ o w. LogStops order lines o w hb hc b c status) stops)
 
 -- a replay that was cut off by a port
 pub replay_is_cut : (line : Line) (task : Task) (lines : ℕ) (a b : Told) (ha hb : Ports) (before faults : Port → ℕ) (status : Status) → IsPortsFault before faults status

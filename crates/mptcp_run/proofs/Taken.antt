@@ -1,8 +1,16 @@
 -- A run that took no turn.
-use Rattle.mptcp_run.proofs.Words.{ℕ, Line, Port, Input, Memory, Ports, Told, all_turns, first_world}
+use Rattle.std.proofs.Common.{ℕ}
+use Rattle.world_core.specs.Logged.{all_turns}
+use Rattle.outside_kit.specs.declared.port.Port.{Port}
+use Rattle.run_words.specs.Lines.{Line}
+use Rattle.run_outside.specs.declared.input.Input.{Input}
+use Rattle.run_outside.specs.declared.status.Status.TheVariants.{Memory}
+use Rattle.run_outside.proofs.Calls.{Told}
+use Rattle.run_outside.specs.Ports.{Ports}
 use Rattle.mptcp_run.specs.declared.turns.Turns.{Turns}
 use Rattle.mptcp_run.specs.declared.turns.Turns.TheVariants.{Scheduled, Logged}
 use Rattle.mptcp_run.specs.Taken.{task_taken, EndsEarly, TurnsFault}
+use Rattle.mptcp_run.specs.Task.{first_world}
 use Rattle.mptcp_run.proofs.Courses.{no_round, no_turn}
 use Rattle.mptcp_run.proofs.Performing.{nothing_made}
 

@@ -1,10 +1,16 @@
 -- The next world of a run by threads.
-use Rattle.mptcp_run.proofs.Words.{◌≡◌, refl, sym, ◌∙◌, ap, subst, ℕ, Bool, true, false, not, List, arith, Result, ◌-◌, IfOk, StampedBooks, ActorCrew, greatest}
-use Rattle.mptcp_run.proofs.Words.{end_round, IsFine, Kept, IsInRoundAbove, IsSound, standing, world, Begins, Connection}
-use Rattle.std.specs.Prelude.{Ok, Err, IfErr, OnOk}
+use Rattle.std.proofs.Common.{◌≡◌, refl, sym, ◌∙◌, ap, subst, ℕ, ◌-◌, Bool, true, false, not, Result, List, arith}
+use Rattle.std.specs.Prelude.{Ok, Err, IfOk, IfErr, OnOk}
+use Rattle.actor_desk.specs.Books.{StampedBooks}
+use Rattle.world_laws.specs.Actors.{ActorCrew}
+use Rattle.world_laws.specs.Fine.{IsFine}
 use Rattle.world_laws.specs.Weaving as weaving
+use Rattle.world_laws.specs.Worlds.{end_round, greatest}
 use Rattle.journal_weave.specs.Rounds.{HaveTurned, WeavesTo}
+use Rattle.world_core.specs.Kept.{Kept, IsInRoundAbove, IsSound, standing, world}
 use Rattle.world_core.proofs.InRound.{steps_in_round}
+use Rattle.mptcp_run.specs.Rounds.{Begins}
+use Rattle.mptcp_run.specs.Task.{Connection}
 use Rattle.mptcp_run.specs.Threads.{GoesTo, IsWoven, has_order}
 use Rattle.mptcp_run.proofs.LogWoven.{steps_fine}
 use Rattle.mptcp_run.proofs.TurnsTimely.{each_timely}
@@ -86,6 +92,10 @@ less_none P most h = let is : most - 0 ≡ most = omega arith in subst P is h
 -- behind the end of a round by threads
 pub woven_goes : (w : Connection) (mid next : Kept) (actors : List ℕ) → IsWoven w mid actors → next ≡ standing (end_round mid.state) → GoesTo w next
 woven_goes w mid next actors h is = record {
-  round = record { actors = actors; round = h.weaves.round; world = ap (λ (k : Kept). k.state) is ∙ ap end_round (sym h.weaves.leads) };
+  round = record {
+    actors = actors;
+    round = h.weaves.round;
+    world = ap (λ (k : Kept). k.state) is ∙ ap end_round (sym h.weaves.leads);
+  };
   stands = ap (λ (k : Kept). k.failed) is;
 }

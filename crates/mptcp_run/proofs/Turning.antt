@@ -1,9 +1,23 @@
 -- What a turn of a log makes of a run under way.
-use Rattle.mptcp_run.proofs.Words.{◌≡◌, refl, sym, ◌∙◌, ap, subst, ℕ, Bool, true, false, not, List, [], ◌∷◌, map, length, Option, inr, Result, Ok, ◌&&◌, Err}
-use Rattle.mptcp_run.proofs.Words.{OnErr, length-map, Port, octets, Status, Put, Memory, AddsCut, IsPortsFault, Told, ActorCrew, world_step, all_over, greatest}
-use Rattle.mptcp_run.proofs.Words.{end_round, lists_of, IsSince, AllGrewAbove, Kept, standing, HoldsPart, AtRound, Connection, round_puts, UnderWay, TurnStops}
-use Rattle.mptcp_run.proofs.Words.{round_turn, GoesOn, Run}
-use Rattle.std.proofs.Common.{IfErr}
+use Rattle.std.proofs.Common.{◌≡◌, refl, sym, ◌∙◌, ap, subst, ℕ, Bool, true, false, not, ◌&&◌, inr, List, [], ◌∷◌, map, length, Result, Ok, Err, IfErr, OnErr, Option}
+use Rattle.std.proofs.lemmas.List.{length-map}
+use Rattle.outside_kit.specs.declared.port.Port.{Port}
+use Rattle.path_core.specs.Octets.{octets}
+use Rattle.world_core.specs.Kept.{Kept, standing}
+use Rattle.world_laws.specs.Actors.{ActorCrew}
+use Rattle.world_laws.specs.Fine.{lists_of}
+use Rattle.world_laws.specs.Worlds.{world_step, all_over, end_round, greatest}
+use Rattle.mptcp_run.specs.declared.rounds.Run.{Run}
+use Rattle.run_outside.specs.declared.status.Status.{Status}
+use Rattle.run_outside.specs.declared.status.Status.TheVariants.{Put, Memory}
+use Rattle.run_outside.specs.Plan.{AddsCut}
+use Rattle.mptcp_run.specs.Plan.{round_puts}
+use Rattle.run_outside.specs.Ports.{IsPortsFault}
+use Rattle.mptcp_run.specs.Replaying.{GoesOn, UnderWay, TurnStops, round_turn}
+use Rattle.mptcp_run.specs.Rounds.{AtRound, HoldsPart}
+use Rattle.mptcp_run.specs.Task.{Connection}
+use Rattle.world_core.specs.Weaving.{AllGrewAbove, IsSince}
+use Rattle.run_outside.proofs.Calls.{Told}
 use Rattle.mptcp_run.proofs.UnderWay.{step_goes, begins_going, lists_at_end, next_begins}
 use Rattle.mptcp_run.proofs.AllTurns.{since_length}
 

@@ -1,9 +1,24 @@
 -- The turns of a log, made and put one after the other.
-use Rattle.mptcp_run.proofs.Words.{◌≡◌, refl, sym, ap, subst, ℕ, ◌+◌, ◌≤◌, List, [], ◌∷◌, ◌++◌, length, Option, inl, inr, arith, suc, Port, A, B, octets}
-use Rattle.mptcp_run.proofs.Words.{Status, Put, Memory, Log, AddsAll, HoldsMore, Ports, IsBetween, Told, adds_none, cut_none, log_text, IsPrefix-refl, Turn}
-use Rattle.mptcp_run.proofs.Words.{end_round, after_turn, IsLawfulTurn, output_of, round_ends, last_end, steps_by_round, Kept, standing, HoldsEnds, HoldsPart}
-use Rattle.mptcp_run.proofs.Words.{Connection, TurnStops, last_after, rounds_after, TurnHolds, TurnCut}
+use Rattle.std.proofs.Common.{◌≡◌, refl, sym, ap, subst, ℕ, suc, ◌+◌, ◌≤◌, inl, inr, List, [], ◌∷◌, ◌++◌, length, Option, arith}
+use Rattle.outside_kit.specs.declared.port.Port.{Port}
+use Rattle.outside_kit.specs.declared.port.Port.TheVariants as port
+use Rattle.sides.specs.declared.side.Side.TheVariants.{A, B}
+use Rattle.path_core.specs.Octets.{octets}
+use Rattle.world_laws.specs.Outcomes.{output_of}
+use Rattle.world_core.specs.Kept.{Kept, standing}
+use Rattle.world_laws.specs.Worlds.{Turn, end_round, after_turn, IsLawfulTurn}
+use Rattle.run_outside.specs.declared.status.Status.{Status}
+use Rattle.run_outside.specs.declared.status.Status.TheVariants.{Put, Memory, Log}
 use Rattle.mptcp_run.specs.Adding.{turn_puts}
+use Rattle.run_outside.specs.Plan.{AddsAll}
+use Rattle.run_outside.specs.Ports.{HoldsMore, IsBetween, Ports}
+use Rattle.world_core.specs.RoundEnds.{round_ends, last_end, steps_by_round}
+use Rattle.run_outside.specs.LogText.{log_text}
+use Rattle.mptcp_run.specs.Replaying.{last_after, rounds_after, TurnHolds, TurnCut, TurnStops}
+use Rattle.mptcp_run.specs.Rounds.{HoldsEnds, HoldsPart}
+use Rattle.mptcp_run.specs.Task.{Connection}
+use Rattle.run_outside.proofs.Calls.{Told, adds_none, cut_none}
+use Rattle.run_outside.proofs.PortsLemmas.{IsPrefix-refl}
 use Rattle.mptcp_run.proofs.PutsMade.{puts_more, puts_cut_more, puts_cut}
 use Rattle.mptcp_run.proofs.RoundSteps.{nothing_part, nothing_ends, ends_more, part_behind}
 use Rattle.mptcp_run.proofs.Folding.{TurnsPut, TurnRefused, TurnsCut, TurnsFault}
@@ -15,18 +30,18 @@ more_from a b c prefix P same h = subst (λ o. HoldsMore o c prefix P) same h
 ends_from : (opening : Option (List ℕ)) (number : ℕ) (w : Connection) (ends : List Connection) (a b c : Ports) → ((p : Port) → b p ≡ a p) → HoldsEnds opening number w ends b c
     → HoldsEnds opening number w ends a c
 ends_from opening number w ends a b c same h = record {
-  read_by_b = more_from (a Port.ReadByB) (b Port.ReadByB) (c Port.ReadByB) (output_of B w) (λ text. text ≡ output_of B (last_end w ends)) (same Port.ReadByB) h.read_by_b;
-  read_by_a = more_from (a Port.ReadByA) (b Port.ReadByA) (c Port.ReadByA) (output_of A w) (λ text. text ≡ output_of A (last_end w ends)) (same Port.ReadByA) h.read_by_a;
-  log = more_from (a Port.Log) (b Port.Log) (c Port.Log) [] (λ text. text ≡ log_text opening number (steps_by_round w ends)) (same Port.Log) h.log;
+  read_by_b = more_from (a port.ReadByB) (b port.ReadByB) (c port.ReadByB) (output_of B w) (λ text. text ≡ output_of B (last_end w ends)) (same port.ReadByB) h.read_by_b;
+  read_by_a = more_from (a port.ReadByA) (b port.ReadByA) (c port.ReadByA) (output_of A w) (λ text. text ≡ output_of A (last_end w ends)) (same port.ReadByA) h.read_by_a;
+  log = more_from (a port.Log) (b port.Log) (c port.Log) [] (λ text. text ≡ log_text opening number (steps_by_round w ends)) (same port.Log) h.log;
   fits = h.fits;
 }
 
 part_from : (opening : Option (List ℕ)) (number : ℕ) (w : Connection) (low high : List Connection) (a b c : Ports) → ((p : Port) → b p ≡ a p) → HoldsPart opening number w low high b c
     → HoldsPart opening number w low high a c
 part_from opening number w low high a b c same h = record {
-  read_by_b = more_from (a Port.ReadByB) (b Port.ReadByB) (c Port.ReadByB) (output_of B w) (IsBetween (output_of B (last_end w low)) (output_of B (last_end w high))) (same Port.ReadByB) h.read_by_b;
-  read_by_a = more_from (a Port.ReadByA) (b Port.ReadByA) (c Port.ReadByA) (output_of A w) (IsBetween (output_of A (last_end w low)) (output_of A (last_end w high))) (same Port.ReadByA) h.read_by_a;
-  log = more_from (a Port.Log) (b Port.Log) (c Port.Log) [] (IsBetween (log_text opening number (steps_by_round w low)) (log_text opening number (steps_by_round w high))) (same Port.Log) h.log;
+  read_by_b = more_from (a port.ReadByB) (b port.ReadByB) (c port.ReadByB) (output_of B w) (IsBetween (output_of B (last_end w low)) (output_of B (last_end w high))) (same port.ReadByB) h.read_by_b;
+  read_by_a = more_from (a port.ReadByA) (b port.ReadByA) (c port.ReadByA) (output_of A w) (IsBetween (output_of A (last_end w low)) (output_of A (last_end w high))) (same port.ReadByA) h.read_by_a;
+  log = more_from (a port.Log) (b port.Log) (c port.Log) [] (IsBetween (log_text opening number (steps_by_round w low)) (log_text opening number (steps_by_round w high))) (same port.Log) h.log;
 }
 
 module _ (opening : Option (List ℕ)) where

@@ -1,8 +1,14 @@
 -- What the turns of a round by threads leave of how many rounds each actor has begun.
-use Rattle.mptcp_run.proofs.Words.{◌≡◌, refl, sym, ◌∙◌, ap, subst, ℕ, ◌+◌, ◌<◌, List, [], ◌∷◌, length, Some, arith, suc, zero, slice_get, slice_index_or}
-use Rattle.mptcp_run.proofs.Words.{same_Some, Note, Reply, octets, Actor, ActorCrew, member_asks, member_takes, App, Path}
+use Rattle.std.proofs.Common.{◌≡◌, refl, sym, ◌∙◌, ap, subst, ℕ, zero, suc, ◌+◌, ◌<◌, Some, List, [], ◌∷◌, length, arith}
+use Rattle.std.specs.List.{slice_get, slice_index_or}
 use Rattle.std.proofs.lemmas.List.{length-append}
+use Rattle.std.proofs.lemmas.Option.{same_Some}
+use Rattle.actor_desk.specs.declared.ask.Note.{Note}
+use Rattle.actor_desk.specs.declared.ask.Reply.{Reply}
+use Rattle.path_core.specs.Octets.{octets}
 use Rattle.actor_turn.specs.Turns.{Turned, member_after}
+use Rattle.world_laws.specs.Actors.{Actor, ActorCrew, member_asks, member_takes}
+use Rattle.world_laws.specs.declared.member.Member.TheVariants.{App, Path}
 use Rattle.world_laws.specs.Timely.{IsTimelyMember}
 use Rattle.world_laws.proofs.Rounds.Frame.{takes_keeps}
 use Rattle.world_core.specs.Timely.{IsTimelyCrew}

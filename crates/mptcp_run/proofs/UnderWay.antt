@@ -1,14 +1,29 @@
 -- A round goes on: lists grow by notes above the greatest stamp at its beginning, and the next round begins with them.
-use Rattle.mptcp_run.proofs.Words.{◌≡◌, refl, sym, ◌∙◌, ap, subst, ℕ, ◌+◌, ◌≤◌, ◌<◌, Bool, true, false, if◌then◌else◌, List, [], ◌∷◌, ◌++◌, map, length, Option}
-use Rattle.mptcp_run.proofs.Words.{Some, None, arith, suc, zero, ⊎_elim, set, max, replicate, slice_get, append-nil, append_assoc, same_Some, Script, Note, Ask}
-use Rattle.mptcp_run.proofs.Words.{StampedBooks, octets, Every-nil, Every-map, Every-push, in_map, in_set, ActorCrew, member_asks, after_steps, after_turns}
-use Rattle.mptcp_run.proofs.Words.{note_of, crew_after, asked, stepped, world_step, all_over, greatest, begins, end_round, IsFine, lists_of, Start, PathPlan}
-use Rattle.mptcp_run.proofs.Words.{plans_from, paths_from, opened_world, start_of, AllGrewAbove, GrewAbove, Kept, standing, Begins, Connection, GoesOn}
+use Rattle.std.proofs.Common.{◌≡◌, refl, sym, ◌∙◌, ap, subst, ℕ, zero, suc, ◌+◌, ◌<◌, ◌≤◌, max, Bool, true, false, if◌then◌else◌, Option, Some, None, List, [], ◌∷◌, ◌++◌, length, map, replicate, set, arith, ⊎_elim}
+use Rattle.std.proofs.lemmas.List.{append-nil, append_assoc}
+use Rattle.std.proofs.lemmas.Option.{same_Some}
+use Rattle.std.specs.List.{slice_get}
 use Rattle.stream_lanes.specs.Words.{Every}
+use Rattle.stream_lanes.proofs.Lists.{Every-nil, Every-map, Every-push, in_map, in_set}
+use Rattle.actor_desk.specs.declared.ask.Ask.{Ask}
+use Rattle.actor_desk.specs.declared.ask.Note.{Note}
+use Rattle.actor_desk.specs.Books.{StampedBooks}
+use Rattle.path_core.specs.Octets.{octets}
+use Rattle.world_laws.specs.Actors.{ActorCrew, member_asks}
+use Rattle.world_laws.specs.Fine.{IsFine, lists_of}
 use Rattle.link_script.specs.declared.script.PathLine.{PathLine}
+use Rattle.link_script.specs.declared.script.Script.{Script}
+use Rattle.world_laws.specs.Openings.{PathPlan, Start, paths_from, plans_from, start_of, opened_world}
+use Rattle.world_laws.specs.Serial.{after_steps, after_turns}
+use Rattle.world_laws.specs.Worlds.{note_of, crew_after, asked, stepped, world_step, all_over, greatest, begins, end_round}
 use Rattle.world_laws.proofs.Weaving.StampsChain.{stamp_rises, stamps_below}
 use Rattle.world_laws.proofs.Worlds.Opened.{opened_actors}
 use Rattle.world_laws.proofs.Weaving.Paired.{step_fine, ended_fine, greatest_above, greatest_ended, opened_fine}
+use Rattle.mptcp_run.specs.Rounds.{Begins}
+use Rattle.mptcp_run.specs.Replaying.{GoesOn}
+use Rattle.mptcp_run.specs.Task.{Connection}
+use Rattle.world_core.specs.Kept.{Kept, standing}
+use Rattle.world_core.specs.Weaving.{GrewAbove, AllGrewAbove}
 
 -- ---- lists
 

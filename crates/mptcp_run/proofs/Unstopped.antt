@@ -1,18 +1,30 @@
 -- Where the script has no fast close no application asks for one, so no reader is told of an abort by its peer.
-use Rattle.mptcp_run.proofs.Words.{◌≡◌, refl, sym, ◌∙◌, ap, subst, ℕ, Bool, true, false, if◌then◌else◌, List, [], ◌∷◌, map, Option, Some, None, IfSome, ⊎_elim}
-use Rattle.mptcp_run.proofs.Words.{slice_get, list_any, option_map, same_Some, Side, A, B, Ask, Reply, fast_close_of, rounds_before, untouched, first_app_turn}
-use Rattle.mptcp_run.proofs.Words.{octets, in_map, in_set, ActorCrew, member_asks, member_takes, member_next, Turn, note_of, crew_after, asked, stepped}
-use Rattle.mptcp_run.proofs.Words.{world_step, all_over, greatest, begins, end_round, world_run, notes_or, App, Connection, Task, first_world, world_after}
-use Rattle.std.proofs.Common.{◌||◌}
+use Rattle.std.proofs.Common.{◌≡◌, refl, sym, ◌∙◌, ap, subst, ⊎_elim, ℕ, Bool, true, false, ◌||◌, if◌then◌else◌, Option, Some, None, IfSome, List, [], ◌∷◌, map}
+use Rattle.std.specs.Prelude.{option_map}
+use Rattle.std.specs.List.{list_any, slice_get}
 use Rattle.std.proofs.lemmas.List.Folds.{list_any-append}
+use Rattle.std.proofs.lemmas.Option.{same_Some}
+use Rattle.sides.specs.declared.side.Side.{Side}
+use Rattle.sides.specs.declared.side.Side.TheVariants.{A, B}
 use Rattle.sides.specs.Side.{peer}
+use Rattle.actor_desk.specs.declared.ask.Ask.{Ask}
+use Rattle.actor_desk.specs.declared.ask.Reply.{Reply}
 use Rattle.actor_desk.specs.Words.{pick}
 use Rattle.stream_apps.specs.declared.duty.AppDuty.{AppDuty}
 use Rattle.stream_apps.specs.declared.duty.AppDuty.TheVariants.{FastClose, AbortSend, AbortReceive, Write, Close, Read, End}
 use Rattle.stream_apps.specs.Apps.{AppState}
 use Rattle.stream_apps.specs.AppSteps.{start_of_app, is_due, a_round_less, app_stands, app_settled, app_answers, app_asks_first, app_takes, fresh_turn, app_next_round}
+use Rattle.stream_apps.specs.Starts.{fast_close_of, rounds_before, untouched, first_app_turn}
+use Rattle.stream_lanes.proofs.Lists.{in_set, in_map}
+use Rattle.path_core.specs.Octets.{octets}
 use Rattle.world_laws.specs.AbortCause.{asks_fast_close, note_asks_fast_close, PeerStopped}
+use Rattle.world_laws.specs.Actors.{ActorCrew, member_asks, member_takes, member_next}
 use Rattle.world_laws.specs.StampedBooks.{answer_to}
+use Rattle.world_laws.specs.declared.member.Member.TheVariants.{App}
+use Rattle.world_laws.specs.Outcomes.{notes_or}
+use Rattle.world_laws.specs.Worlds.{Turn, all_over, asked, begins, crew_after, end_round, greatest, note_of, stepped, world_step, world_run}
+use Rattle.mptcp_run.specs.Putting.{world_after}
+use Rattle.mptcp_run.specs.Task.{Connection, Task, first_world}
 
 -- ---- an application that is never to stop the connection
 

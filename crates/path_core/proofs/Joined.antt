@@ -1,14 +1,8 @@
 -- A join changes no timer.
-use Rattle.std.proofs.Common.{◌≡◌, refl, ℕ, Bool, true, false, if◌then◌else◌, Option, Some, None, arith}
-use Rattle.join_handshake.specs.declared.hearing.JoinSyn.{JoinSyn}
+use Rattle.path_core.proofs.Words.{◌≡◌, refl, ℕ, Bool, true, false, if◌then◌else◌, Option, Some, None, arith, JoinSyn, EndState, after_syn, unkept, KeyPair}
+use Rattle.path_core.proofs.Words.{Reply, never_joined, opened_by, joined_by, syn_alone, is_listening, PathEnd}
 use Rattle.subflow_tcp.specs.Opening.{after_begin}
-use Rattle.subflow_tcp.specs.State.{EndState}
 use Rattle.subflow_tcp.specs.States.{is_waiting}
-use Rattle.subflow_tcp.specs.Taking.{after_syn, unkept}
-use Rattle.actor_desk.specs.declared.ask.Reply.{Reply}
-use Rattle.path_agenda.specs.declared.keys.KeyPair.{KeyPair}
-use Rattle.path_core.specs.End.{PathEnd}
-use Rattle.path_core.specs.MpJoin.{never_joined, opened_by, syn_alone, is_listening, joined_by}
 use Rattle.path_core.proofs.Ranking.{Rests, same_rests}
 
 pub never_rests : (clock : ℕ) (r : Reply) (e : PathEnd) → Rests clock e (never_joined r e)

@@ -8,10 +8,9 @@ use Rattle.actor_desk.specs.declared.ask.Reply.{Reply}
 use Rattle.actor_desk.specs.Words.{is_nil, tail_of}
 use Rattle.path_agenda.specs.Agenda.{emission, leaves}
 use Rattle.path_agenda.specs.declared.duty.Duty.{Duty}
-use Rattle.path_agenda.specs.declared.duty.Duty.TheVariants as duties
-use Rattle.path_agenda.specs.declared.duty.AskDuty.TheVariants as ask_duties
-use Rattle.path_agenda.specs.declared.duty.SilentDuty.TheVariants as silent_duties
-use Rattle.path_agenda.specs.declared.duty.StepDuty.TheVariants as step_duties
+use Rattle.path_agenda.specs.declared.duty.AskDuty.{AskDuty}
+use Rattle.path_agenda.specs.declared.duty.SilentDuty.{SilentDuty}
+use Rattle.path_agenda.specs.declared.duty.StepDuty.{StepDuty}
 use Rattle.path_agenda.specs.declared.heard.Heard.{Heard}
 use Rattle.path_core.specs.Codec.{Codec}
 use Rattle.path_core.specs.Duties.{passed, answered}
@@ -21,9 +20,7 @@ use Rattle.path_core.specs.Looking.{first_tick, next_tick, tick_with}
 use Rattle.path_core.specs.State.{at_tick, has_ended, PathState}
 use Rattle.path_core.specs.Arrival.{copy_heard, heard_in}
 use Rattle.path_store.specs.declared.lines.LineAction.{LineAction}
-use Rattle.path_store.specs.declared.lines.LineAction.TheVariants as actions
 use Rattle.path_core.specs.declared.events.Event.{Event}
-use Rattle.path_core.specs.declared.events.Event.TheVariants as happenings
 use Rattle.path_core.specs.Steps.{answers, takes, begins_turn}
 use Rattle.link_model.specs.Steps.{arriving, after_delivery}
 use Rattle.world_laws.specs.Writes.{Writes, OnlyAt, PathView, writes, side_of}
@@ -56,7 +53,7 @@ module _ {C : Type 0} where
     where
       by : (ds : List Duty) → p.clock ≤ first_tick ds p
       by [] = omega arith
-      by (duties.Step step_duties.Events ∷ ds) = event_later (next_event p) p
+      by (Duty.Step StepDuty.Events ∷ ds) = event_later (next_event p) p
       by (d ∷ ds) = omega arith
 
   -- nor behind the round's end
@@ -69,7 +66,7 @@ module _ {C : Type 0} where
     where
       by : (ds : List Duty) → first_tick ds p ≤ p.until
       by [] = before
-      by (duties.Step step_duties.Events ∷ ds) = event_within (next_event p) p (next_is_soon p) before
+      by (Duty.Step StepDuty.Events ∷ ds) = event_within (next_event p) p (next_is_soon p) before
       by (d ∷ ds) = before
 
   -- ---- what is written
@@ -83,11 +80,11 @@ module _ {C : Type 0} where
   either_keeps false q r p x y = y
 
   passed_keeps : (d : Duty) (p : PathState C) → Keeps p (passed d p)
-  passed_keeps (duties.Silent (silent_duties.Timer s)) p = refl
-  passed_keeps (duties.Step (step_duties.Heard s index)) p = refl
-  passed_keeps (duties.Silent (silent_duties.Keep s)) p = refl
-  passed_keeps (duties.Ask (ask_duties.CheckFailed s)) p = refl
-  passed_keeps (duties.Silent (silent_duties.PassFin s)) p = refl
+  passed_keeps (Duty.Silent (SilentDuty.Timer s)) p = refl
+  passed_keeps (Duty.Step (StepDuty.Heard s index)) p = refl
+  passed_keeps (Duty.Silent (SilentDuty.Keep s)) p = refl
+  passed_keeps (Duty.Ask (AskDuty.CheckFailed s)) p = refl
+  passed_keeps (Duty.Silent (SilentDuty.PassFin s)) p = refl
   passed_keeps _ p = refl
 
   -- where the tick may not be written
@@ -98,10 +95,10 @@ module _ {C : Type 0} where
   keeps_last = record { agenda = λ ds p. refl; chains = λ p q r x y. y ∙ x; passes = λ d p. passed_keeps d p }
 
   line_keeps : (action : LineAction) (p : PathState C) → Keeps p (after_line action p)
-  line_keeps actions.Die p = refl
-  line_keeps (actions.Prio s backup) p = refl
-  line_keeps (actions.Announce s id) p = refl
-  line_keeps (actions.Withdraw s id) p = refl
+  line_keeps LineAction.Die p = refl
+  line_keeps (LineAction.Prio s backup) p = refl
+  line_keeps (LineAction.Announce s id) p = refl
+  line_keeps (LineAction.Withdraw s id) p = refl
 
   copy_keeps : (s : Side) (heard : Option HeardSegment) (p : PathState C) → Keeps p (copy_heard s heard p)
   copy_keeps s None p = refl
@@ -112,14 +109,14 @@ module _ {C : Type 0} where
 
   event_comes : (k : Codec C) (event : Option Event) (r : Reply) (p : PathState C) → (happens_if k event r p).clock ≡ tick_with event p
   event_comes k None r p = refl
-  event_comes k (Some (happenings.Joins tick)) r p = begun_keeps r (leaves A) (emission A) (record (at_tick tick p) { joined_at = None })
-  event_comes k (Some (happenings.Takes line)) r p = line_keeps line.action (record (at_tick line.tick p) { lines = tail_of p.lines })
-  event_comes k (Some (happenings.Arrives due)) r p =
+  event_comes k (Some (Event.Joins tick)) r p = begun_keeps r (leaves A) (emission A) (record (at_tick tick p) { joined_at = None })
+  event_comes k (Some (Event.Takes line)) r p = line_keeps line.action (record (at_tick line.tick p) { lines = tail_of p.lines })
+  event_comes k (Some (Event.Arrives due)) r p =
       copy_keeps due.to (heard_in k due.to (arriving due p.link) p) (record (at_tick due.tick p) { link = after_delivery due p.link })
-  event_comes k (Some (happenings.Fires s tick)) r p = refl
+  event_comes k (Some (Event.Fires s tick)) r p = refl
 
   answered_comes : (k : Codec C) (d : Duty) (ds : List Duty) (r : Reply) (p : PathState C) → (answered k d r p).clock ≡ first_tick (d ∷ ds) p
-  answered_comes k (duties.Step step_duties.Events) ds r p = event_comes k (next_event p) r p
+  answered_comes k (Duty.Step StepDuty.Events) ds r p = event_comes k (next_event p) r p
   answered_comes k d ds r p = kept_by (side_of d) (writes d) p _ refl (writes_no_more k d r p)
 
   answers_comes : (k : Codec C) (ds : List Duty) (r : Reply) (p : PathState C) → is_nil ds ≡ false → (answers k ds r p).clock ≡ first_tick ds p

@@ -1,4 +1,4 @@
-use Rattle.mptcp_run.proofs.Words.{refl, inl}
+use Rattle.std.proofs.Common.{refl, inl}
 use Rattle.message_pipe.proofs.CallsBelow.{none_added}
 use Rattle.mptcp_run.proofs.messages.run_line.Goals as goal
 

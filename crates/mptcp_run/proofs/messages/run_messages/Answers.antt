@@ -1,4 +1,6 @@
-use Rattle.mptcp_run.proofs.Words.{sym, map, string_bytes, as_line, messages_in}
+use Rattle.std.proofs.Common.{sym, map, string_bytes}
+use Rattle.run_words.specs.Lines.{as_line}
+use Rattle.mptcp_run.specs.Messages.{messages_in}
 use Rattle.mptcp_run.proofs.MessagesShown.{messages_shown, messages_called, taken, not_taken, taken_is_asked, of_line, of_nothing, not_nothing, unread_messages, unread_lines, unread_called}
 use Rattle.mptcp_run.proofs.MessagesClean.{clean_if_messages}
 use Rattle.mptcp_run.proofs.Asking.{unread}

@@ -1,4 +1,8 @@
-use Rattle.mptcp_run.proofs.Words.{sym, subst, [], map, Some, IfSome, string_bytes, as_line, lined_content, lined_holds, IsAnswer, asked_in}
+use Rattle.std.proofs.Common.{sym, subst, [], map, string_bytes, IfSome, Some}
+use Rattle.message_pipe.specs.Lined.{lined_content, lined_holds}
+use Rattle.run_words.specs.Lines.{as_line}
+use Rattle.mptcp_run.specs.Answers.{IsAnswer}
+use Rattle.mptcp_run.specs.Asked.{asked_in}
 use Rattle.mptcp_run.proofs.MessagesShown.{ran_over_frames}
 use Rattle.mptcp_run.proofs.messages.run_over_frames.Goals as goal
 

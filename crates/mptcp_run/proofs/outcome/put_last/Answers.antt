@@ -1,4 +1,4 @@
-use Rattle.mptcp_run.proofs.Words.{puts_none}
+use Rattle.run_outside.proofs.Calling.{puts_none}
 use Rattle.mptcp_run.proofs.outcome.put_last.Goals as goal
 
 pub returns-in-Err-clause-puts : goal.returns-in-Err-clause-puts

@@ -1,6 +1,15 @@
-use Rattle.mptcp_run.proofs.Words.{refl, sym, ◌∙◌, ap, subst, [], ◌∷◌, map, length, on_ok_weaker, on_err_weaker, AddsAll, AddsCut, adds_none, IfErr-map}
-use Rattle.mptcp_run.proofs.Words.{only_none, lists_of, IsSince, Kept, HoldsRound, HoldsPart, round_puts}
+use Rattle.std.proofs.Common.{◌∙◌, refl, sym, ap, subst, map, length, ◌∷◌, []}
+use Rattle.std.proofs.lemmas.Result.{on_ok_weaker, on_err_weaker}
+use Rattle.world_core.specs.Kept.{Kept}
+use Rattle.world_laws.specs.Fine.{lists_of}
+use Rattle.run_outside.specs.Plan.{AddsAll, AddsCut}
+use Rattle.mptcp_run.specs.Plan.{round_puts}
+use Rattle.mptcp_run.specs.Rounds.{HoldsRound, HoldsPart}
+use Rattle.world_core.specs.Weaving.{IsSince}
+use Rattle.run_outside.proofs.Calling.{only_none}
+use Rattle.run_outside.proofs.Calls.{adds_none}
 use Rattle.mptcp_run.proofs.Turning.{end_since, end_length, under_end, round_stops, ended_parts, not_over}
+use Rattle.run_outside.proofs.PortsLemmas.{IfErr-map}
 use Rattle.mptcp_run.proofs.Starting.{replay_cause}
 use Rattle.mptcp_run.proofs.replay.end_round.Goals as goal
 
@@ -13,7 +22,14 @@ put_round-requires-clause-made g c =
 pub returns-then-not-end_round-clause-turn : goal.returns-then-not-end_round-clause-turn
 returns-then-not-end_round-clause-turn g c last under =
     let refused = not_over _ _ _ c.end_round.ensures.over under.stands c.if-not-end_round.true in
-    record { under = tt; whole = tt; made = tt; stops = (refl, (refused, ((λ port. refl), adds_none _))); fault = tt; only = only_none _ _ }
+    record {
+      under = tt;
+      whole = tt;
+      made = tt;
+      stops = (refl, (refused, ((λ port. refl), adds_none _)));
+      fault = tt;
+      only = only_none _ _;
+    }
 
 pub returns-clause-turn : goal.returns-clause-turn
 returns-clause-turn g c last under =

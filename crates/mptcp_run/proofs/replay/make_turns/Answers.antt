@@ -1,7 +1,10 @@
-use Rattle.mptcp_run.proofs.Words.{refl, sym, ap, subst, ◌+◌, map, arith, drop, drop_more, at_drop_all, err_from_is_err_and, only_none, only_then, turn_of}
-use Rattle.mptcp_run.proofs.Words.{all_turns}
+use Rattle.std.proofs.Common.{refl, sym, subst, ap, arith, map, drop, ◌+◌}
+use Rattle.std.proofs.lemmas.List.{drop_more, at_drop_all}
+use Rattle.std.proofs.lemmas.Result.{err_from_is_err_and}
+use Rattle.world_core.specs.Logged.{turn_of, all_turns}
 use Rattle.mptcp_run.proofs.Turning.{under_length, under_begins}
 use Rattle.mptcp_run.proofs.TurnsMade.{put_turn, turns_over, fault_later, fault_now, rounds_few}
+use Rattle.run_outside.proofs.Calling.{only_none, only_then}
 use Rattle.mptcp_run.proofs.Courses.{turns_made, turns_stop}
 use Rattle.mptcp_run.proofs.Starting.{cause_after}
 use Rattle.mptcp_run.proofs.replay.make_turns.Goals as goal

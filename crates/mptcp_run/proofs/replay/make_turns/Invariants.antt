@@ -1,4 +1,8 @@
-use Rattle.mptcp_run.proofs.Words.{◌≡◌, ◌+◌, ◌≤◌, length, drop, OnlyPuts, all_turns, Connection, UnderWay}
+use Rattle.std.proofs.Common.{◌≡◌, ◌≤◌, ◌+◌, drop, length}
+use Rattle.world_core.specs.Logged.{all_turns}
+use Rattle.run_outside.specs.Calling.{OnlyPuts}
+use Rattle.mptcp_run.specs.Replaying.{UnderWay}
+use Rattle.mptcp_run.specs.Task.{Connection}
 use Rattle.mptcp_run.proofs.replay.make_turns.Given as goal
 use Rattle.mptcp_run.proofs.Folding.{TurnsPut, TurnsFault}
 

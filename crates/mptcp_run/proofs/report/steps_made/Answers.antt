@@ -1,4 +1,5 @@
-use Rattle.mptcp_run.proofs.Words.{refl, ap, List, length, arith, Note}
+use Rattle.std.proofs.Common.{refl, ap, length, List, arith}
+use Rattle.actor_desk.specs.declared.ask.Note.{Note}
 use Rattle.mptcp_run.proofs.Gathering.{steps_more}
 use Rattle.mptcp_run.proofs.report.steps_made.Goals as goal
 

@@ -1,4 +1,6 @@
-use Rattle.mptcp_run.proofs.Words.{◌≡◌, ◌≤◌, ◌^◌, map, length, take, ◌*◌, sum, lists_of}
+use Rattle.std.proofs.Common.{◌≡◌, ◌≤◌, ◌*◌, ◌^◌, take, map, length}
+use Rattle.std.specs.List.{sum}
+use Rattle.world_laws.specs.Fine.{lists_of}
 use Rattle.mptcp_run.proofs.report.steps_made.Given as goal
 
 -- a list is shorter than 2^64

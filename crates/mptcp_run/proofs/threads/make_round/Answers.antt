@@ -1,7 +1,14 @@
-use Rattle.mptcp_run.proofs.Words.{refl, sym, subst, inl, inr, on_ok_weaker, adds_none, IfErr-both, OnOk-both, only_none, Kept, WovenTo, RoundMade}
+use Rattle.std.proofs.Common.{refl, sym, subst, inl, inr}
+use Rattle.std.proofs.lemmas.Result.{on_ok_weaker}
+use Rattle.world_core.specs.Kept.{Kept}
+use Rattle.mptcp_run.specs.Making.{RoundMade}
+use Rattle.mptcp_run.specs.WovenRounds.{WovenTo}
 use Rattle.mptcp_run.proofs.AllTurns.{since_length}
 use Rattle.mptcp_run.proofs.RoundsWoven.{woven_since, woven_next}
 use Rattle.mptcp_run.proofs.ThreadsMade.{when_ok}
+use Rattle.run_outside.proofs.Calling.{only_none}
+use Rattle.run_outside.proofs.Calls.{adds_none}
+use Rattle.run_outside.proofs.PortsLemmas.{OnOk-both, IfErr-both}
 use Rattle.mptcp_run.proofs.threads.make_round.Goals as goal
 
 -- the round that was made is the one that is put

@@ -1,4 +1,7 @@
-use Rattle.mptcp_run.proofs.Words.{refl, sym, ◌∙◌, ap, ◌+◌, arith, ◌-◌, fault_after, only_none, only_then, WovenTo, AreWovenRounds}
+use Rattle.std.proofs.Common.{refl, ◌∙◌, sym, ap, ◌+◌, ◌-◌, arith}
+use Rattle.mptcp_run.specs.WovenRounds.{WovenTo, AreWovenRounds}
+use Rattle.run_outside.proofs.Calling.{only_none, only_then}
+use Rattle.run_outside.proofs.PortsLemmas.{fault_after}
 use Rattle.mptcp_run.proofs.Folding.{RoundsPut, RoundsCut}
 use Rattle.mptcp_run.proofs.Courses.{woven_made, woven_cut}
 use Rattle.mptcp_run.proofs.RoundsMade.{put_more, put_last, cut_later, cut_now, rounds_over}

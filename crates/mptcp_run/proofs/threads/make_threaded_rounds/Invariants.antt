@@ -1,4 +1,7 @@
-use Rattle.mptcp_run.proofs.Words.{◌≡◌, ◌≤◌, ◌-◌, OnlyPuts, AtRound, AreWovenRounds}
+use Rattle.std.proofs.Common.{◌≡◌, ◌≤◌, ◌-◌}
+use Rattle.run_outside.specs.Calling.{OnlyPuts}
+use Rattle.mptcp_run.specs.Rounds.{AtRound}
+use Rattle.mptcp_run.specs.WovenRounds.{AreWovenRounds}
 use Rattle.mptcp_run.proofs.threads.make_threaded_rounds.Given as goal
 use Rattle.mptcp_run.proofs.Folding.{RoundsPut, RoundsCut}
 

@@ -1,4 +1,5 @@
-use Rattle.mptcp_run.proofs.Words.{err_from_is_err_and, puts_made, puts_ended}
+use Rattle.std.proofs.lemmas.Result.{err_from_is_err_and}
+use Rattle.run_outside.proofs.Calling.{puts_made, puts_ended}
 use Rattle.mptcp_run.proofs.top_call.end.Goals as goal
 
 pub returns-in_err-put_last-clause-puts : goal.returns-in_err-put_last-clause-puts

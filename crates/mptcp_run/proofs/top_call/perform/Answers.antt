@@ -1,4 +1,4 @@
-use Rattle.mptcp_run.proofs.Words.{as_line}
+use Rattle.run_words.specs.Lines.{as_line}
 use Rattle.mptcp_run.proofs.Taken.{nothing_taken, memory_alone}
 use Rattle.mptcp_run.proofs.top_call.perform.Goals as goal
 

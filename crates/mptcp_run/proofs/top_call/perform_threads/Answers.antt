@@ -1,4 +1,5 @@
-use Rattle.mptcp_run.proofs.Words.{as_line, first_world, task_from}
+use Rattle.run_words.specs.Lines.{as_line}
+use Rattle.mptcp_run.specs.Task.{task_from, first_world}
 use Rattle.mptcp_run.specs.Task as course
 use Rattle.mptcp_run.proofs.Courses.{no_woven_round}
 use Rattle.mptcp_run.proofs.Performing.{nothing_made}

@@ -1,4 +1,8 @@
-use Rattle.mptcp_run.proofs.Words.{sym, subst, map, Option, IfSome, IsNone, string_bytes, Line, as_line, IsAnswer, IsMadeAnswer, Bench, asked_in}
+use Rattle.std.proofs.Common.{sym, subst, map, string_bytes, IfSome, IsNone, Option}
+use Rattle.run_words.specs.Lines.{Line, as_line}
+use Rattle.mptcp_run.specs.Answers.{IsAnswer, IsMadeAnswer}
+use Rattle.mptcp_run.specs.Asked.{asked_in}
+use Rattle.mptcp_run.specs.Made.{Bench}
 use Rattle.mptcp_run.proofs.AskedRounds.{line_asked}
 use Rattle.mptcp_run.proofs.CleanRuns.{clean_if_asked}
 use Rattle.mptcp_run.proofs.Asking.{asked_is, bench_is, delivered_files, delivered_many, unread_answer, unread_bench, unread}

@@ -1,4 +1,9 @@
-use Rattle.mptcp_run.proofs.Words.{subst, [], Work, as_line, Task, CameToEnd, IsCut, made_task, AsksInRange}
+use Rattle.std.proofs.Common.{subst, []}
+use Rattle.run_words.specs.Lines.{Work, as_line}
+use Rattle.mptcp_run.specs.Asked.{AsksInRange}
+use Rattle.mptcp_run.specs.Ends.{CameToEnd, IsCut}
+use Rattle.mptcp_run.specs.Made.{made_task}
+use Rattle.mptcp_run.specs.Task.{Task}
 use Rattle.mptcp_run.proofs.Answering.{made_end_answer, made_cut_answer}
 use Rattle.mptcp_run.proofs.Asking.{made_by_work, made_memory}
 use Rattle.mptcp_run.proofs.MadeTasks.{made_with, made_is_plain, made_is_unstopped}

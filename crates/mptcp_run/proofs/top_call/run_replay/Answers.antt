@@ -1,4 +1,7 @@
-use Rattle.mptcp_run.proofs.Words.{refl, arith, as_line, all_turns, Task, task_from}
+use Rattle.std.proofs.Common.{refl, arith}
+use Rattle.world_core.specs.Logged.{all_turns}
+use Rattle.run_words.specs.Lines.{as_line}
+use Rattle.mptcp_run.specs.Task.{Task, task_from}
 use Rattle.mptcp_run.specs.Task as course
 use Rattle.mptcp_run.proofs.Answering.{replay_task, replay_order, end_from, replay_from, replay_input_answer, end_answer, replay_answer}
 use Rattle.mptcp_run.proofs.PlainTasks.{as_turns, short_input}

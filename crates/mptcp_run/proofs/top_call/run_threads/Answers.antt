@@ -1,8 +1,14 @@
-use Rattle.mptcp_run.proofs.Words.{refl, ap, subst, arith, Work, as_line, order_of, AddsAll, first_loads, fault_after, Task, task_from, AsksInRange}
+use Rattle.std.proofs.Common.{refl, ap, subst, arith}
+use Rattle.run_words.specs.Lines.{Work, as_line}
+use Rattle.mptcp_run.specs.Asked.{AsksInRange}
+use Rattle.run_outside.specs.Inputs.{order_of}
+use Rattle.run_outside.specs.Plan.{AddsAll, first_loads}
+use Rattle.mptcp_run.specs.Task.{Task, task_from}
 use Rattle.mptcp_run.specs.Task as course
 use Rattle.mptcp_run.proofs.PlainTasks.{short_input}
 use Rattle.mptcp_run.proofs.Answering.{threads_task, unordered_within, unordered_valid, end_from, cut_from, input_answer, end_answer, cut_answer}
 use Rattle.run_outside.proofs.Loading.{unordered_loads}
+use Rattle.run_outside.proofs.PortsLemmas.{fault_after}
 use Rattle.mptcp_run.proofs.top_call.run_threads.Goals as goal
 
 pub perform_threads-requires-clause-ranges : goal.perform_threads-requires-clause-ranges

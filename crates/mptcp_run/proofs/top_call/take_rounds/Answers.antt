@@ -1,8 +1,12 @@
-use Rattle.mptcp_run.proofs.Words.{◌∙◌, arith, err_from_is_err_and, as_line, ReadByA, ReadByB, fault_after, IfErr-map, IfErr-both, IfOk-and, b_isnt_log}
-use Rattle.mptcp_run.proofs.Words.{a_isnt_log, Task, first_world, task_with}
+use Rattle.std.proofs.Common.{◌∙◌, arith}
+use Rattle.std.proofs.lemmas.Result.{err_from_is_err_and}
+use Rattle.outside_kit.specs.declared.port.Port.TheVariants.{ReadByA, ReadByB}
+use Rattle.run_words.specs.Lines.{as_line}
+use Rattle.mptcp_run.specs.Task.{Task, task_with, first_world}
 use Rattle.mptcp_run.specs.Task as course
 use Rattle.mptcp_run.proofs.Courses.{no_round}
 use Rattle.mptcp_run.proofs.Performing.{binds_short}
+use Rattle.run_outside.proofs.PortsLemmas.{IfOk-and, IfErr-both, IfErr-map, fault_after, b_isnt_log, a_isnt_log}
 use Rattle.mptcp_run.proofs.Starting.{opened_at, course_done, course_short, course_line_short}
 use Rattle.mptcp_run.proofs.top_call.take_rounds.Goals as goal
 

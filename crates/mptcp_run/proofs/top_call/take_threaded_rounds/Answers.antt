@@ -1,14 +1,18 @@
-use Rattle.mptcp_run.proofs.Words.{arith, as_line, ReadByA, ReadByB, fault_after, IfErr-map, IfErr-both, IfOk-and, b_isnt_log, a_isnt_log, Task, first_world}
-use Rattle.mptcp_run.proofs.Words.{task_from, Report}
+use Rattle.std.proofs.Common.{arith}
+use Rattle.outside_kit.specs.declared.port.Port.TheVariants.{ReadByA, ReadByB}
+use Rattle.run_words.specs.Lines.{as_line}
+use Rattle.mptcp_run.specs.Task.{Task, task_from, first_world}
 use Rattle.mptcp_run.specs.Task as course
+use Rattle.mptcp_run.specs.declared.report.Report.TheVariants as report
 use Rattle.mptcp_run.proofs.Courses.{no_woven_round}
 use Rattle.mptcp_run.proofs.Performing.{binds_short}
+use Rattle.run_outside.proofs.PortsLemmas.{IfOk-and, IfErr-both, IfErr-map, fault_after, b_isnt_log, a_isnt_log}
 use Rattle.mptcp_run.proofs.Starting.{opened_at, course_done, course_short, course_line_short}
 use Rattle.mptcp_run.proofs.ThreadsMade.{when_ok, when_err}
 use Rattle.mptcp_run.proofs.top_call.take_threaded_rounds.Goals as goal
 
 pub make_threaded_rounds-run-requires-clause-begins : goal.make_threaded_rounds-run-requires-clause-begins
-make_threaded_rounds-run-requires-clause-begins g c κs lives = opened_at c.args.input.now Report.Log c.args.run c.requires.opened
+make_threaded_rounds-run-requires-clause-begins g c κs lives = opened_at c.args.input.now report.Log c.args.run c.requires.opened
 
 pub returns-in-Err-clause-cut : goal.returns-in-Err-clause-cut
 returns-in-Err-clause-cut g c =
@@ -22,7 +26,7 @@ returns-in-Err-clause-fault g c = c.in-Err.ensures.puts.fault
 
 pub returns-in-Err-told-clause-cut : goal.returns-in-Err-told-clause-cut
 returns-in-Err-told-clause-cut g c =
-    course_short c.args.input.now Report.Log c.args.run c.requires.opened (as_line c.args.line.now)
+    course_short c.args.input.now report.Log c.args.run c.requires.opened (as_line c.args.line.now)
     (g.O.Outside.holds c.args.outside.now) (g.O.Outside.holds c.bind_readers.new.outside) (g.O.Outside.holds c.make_threaded_rounds-run.new.outside)
     (record { read_by_b = c.in-Ok.ensures.read_by_b; read_by_a = c.in-Ok.ensures.read_by_a; log = c.bind_readers.ensures.log })
     (g.O.Outside.calls c.args.outside.now) (g.O.Outside.calls c.bind_readers.new.outside) (g.O.Outside.calls c.make_threaded_rounds-run.new.outside) c.in-Ok.ensures.puts.made
@@ -45,7 +49,7 @@ returns-in-Ok-told-clause-fault g c =
 pub returns-in-Ok-told-clause-ended : goal.returns-in-Ok-told-clause-ended
 returns-in-Ok-told-clause-ended g c =
     IfOk-and c.end-told.result
-    (λ status is grew told. course_done c.args.input.now Report.Log c.args.run c.requires.opened (as_line c.args.line.now)
+    (λ status is grew told. course_done c.args.input.now report.Log c.args.run c.requires.opened (as_line c.args.line.now)
     (g.O.Outside.holds c.args.outside.now) (g.O.Outside.holds c.bind_readers.new.outside) (g.O.Outside.holds c.make_threaded_rounds-run.new.outside)
     (record { read_by_b = c.in-Ok.ensures.read_by_b; read_by_a = c.in-Ok.ensures.read_by_a; log = c.bind_readers.ensures.log })
     (g.O.Outside.calls c.args.outside.now) (g.O.Outside.calls c.bind_readers.new.outside) (g.O.Outside.calls c.make_threaded_rounds-run.new.outside) c.in-Ok.ensures.puts.made
@@ -62,7 +66,7 @@ returns-in-Ok-told-clause-ended g c =
 pub returns-in-Ok-told-clause-cut : goal.returns-in-Ok-told-clause-cut
 returns-in-Ok-told-clause-cut g c =
     IfErr-both c.end-told.result
-    (λ status cut part. course_line_short c.args.input.now Report.Log c.args.run c.requires.opened (as_line c.args.line.now)
+    (λ status cut part. course_line_short c.args.input.now report.Log c.args.run c.requires.opened (as_line c.args.line.now)
     (g.O.Outside.holds c.args.outside.now) (g.O.Outside.holds c.bind_readers.new.outside) (g.O.Outside.holds c.make_threaded_rounds-run.new.outside)
     (record { read_by_b = c.in-Ok.ensures.read_by_b; read_by_a = c.in-Ok.ensures.read_by_a; log = c.bind_readers.ensures.log })
     (g.O.Outside.calls c.args.outside.now) (g.O.Outside.calls c.bind_readers.new.outside) (g.O.Outside.calls c.make_threaded_rounds-run.new.outside) c.in-Ok.ensures.puts.made

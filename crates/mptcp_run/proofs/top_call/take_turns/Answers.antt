@@ -1,14 +1,21 @@
-use Rattle.mptcp_run.proofs.Words.{◌∙◌, subst, List, arith, err_from_is_err_and, as_line, ReadByA, ReadByB, fault_after, IfErr-map, IfOk-and, b_isnt_log}
-use Rattle.mptcp_run.proofs.Words.{a_isnt_log, IfErr-three, all_turns, Task, first_world, task_from, Report, CourseMade, LogStops}
+use Rattle.std.proofs.Common.{◌∙◌, subst, List, arith}
+use Rattle.std.proofs.lemmas.Result.{err_from_is_err_and}
+use Rattle.world_core.specs.Logged.{all_turns}
+use Rattle.outside_kit.specs.declared.port.Port.TheVariants.{ReadByA, ReadByB}
+use Rattle.run_words.specs.Lines.{as_line}
 use Rattle.run_log.specs.declared.turn.Turn.{Turn}
+use Rattle.mptcp_run.specs.declared.report.Report.TheVariants as report
+use Rattle.mptcp_run.specs.Courses.{CourseMade, LogStops}
+use Rattle.mptcp_run.specs.Task.{Task, task_from, first_world}
 use Rattle.mptcp_run.specs.Task as course
 use Rattle.mptcp_run.proofs.Courses.{no_turn}
 use Rattle.mptcp_run.proofs.Performing.{binds_short}
+use Rattle.run_outside.proofs.PortsLemmas.{IfOk-and, IfErr-map, IfErr-three, fault_after, b_isnt_log, a_isnt_log}
 use Rattle.mptcp_run.proofs.Starting.{opened_at, replay_done, replay_stops, replay_line_short, replay_is_cut, replay_cause, cause_after}
 use Rattle.mptcp_run.proofs.top_call.take_turns.Goals as goal
 
 pub make_turns-requires-clause-begins : goal.make_turns-requires-clause-begins
-make_turns-requires-clause-begins g c = opened_at c.args.input.now Report.Log c.args.run.now c.requires.opened
+make_turns-requires-clause-begins g c = opened_at c.args.input.now report.Log c.args.run.now c.requires.opened
 
 pub returns-in_err-bind_readers-clause-err : goal.returns-in_err-bind_readers-clause-err
 returns-in_err-bind_readers-clause-err g c =

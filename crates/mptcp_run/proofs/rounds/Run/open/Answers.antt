@@ -1,4 +1,4 @@
-use Rattle.mptcp_run.proofs.Words.{refl}
+use Rattle.std.proofs.Common.{refl}
 use Rattle.mptcp_run.proofs.UnderWay.{opened_lists}
 use Rattle.mptcp_run.proofs.rounds.Run.open.Goals as goal
 

@@ -1,5 +1,7 @@
-use Rattle.mptcp_run.proofs.Words.{refl, arith, puts_none, round_puts}
+use Rattle.std.proofs.Common.{refl, arith}
+use Rattle.mptcp_run.specs.Plan.{round_puts}
 use Rattle.mptcp_run.proofs.RoundSteps.{round_untouched}
+use Rattle.run_outside.proofs.Calling.{puts_none}
 use Rattle.mptcp_run.proofs.PutsMade.{piece_put}
 use Rattle.mptcp_run.proofs.rounds.Run.put_piece.Goals as goal
 

@@ -1,5 +1,8 @@
-use Rattle.mptcp_run.proofs.Words.{refl, err_from_is_err_and, puts_none, puts_made, puts_ended, round_puts}
+use Rattle.std.proofs.Common.{refl}
+use Rattle.std.proofs.lemmas.Result.{err_from_is_err_and}
+use Rattle.mptcp_run.specs.Plan.{round_puts}
 use Rattle.mptcp_run.proofs.RoundSteps.{round_untouched}
+use Rattle.run_outside.proofs.Calling.{puts_none, puts_made, puts_ended}
 use Rattle.mptcp_run.proofs.rounds.Run.put_round.Goals as goal
 
 pub returns-clause-put : goal.returns-clause-put
