@@ -39,16 +39,9 @@ granted_kind path max standby b tile positive (Ok span) is =
     )
 
 pub send_kind : (b : Sending) (call : SendCall) → Tile b → send.CanAsk call → IsSendKind call (send.reply_to b call)
-send_kind b (SendCall.Write bytes) tile can = by (b.closed || b.aborted)
-  where
-    by : (c : Bool) → IsSendKind (SendCall.Write bytes) (if c then SendReply.Shut else SendReply.Taken (send.bytes_taken bytes b))
-    by true = tt
-    by false = omega arith
-send_kind b SendCall.Close tile can = by b.aborted
-  where
-    by : (c : Bool) → IsSendKind SendCall.Close (if c then SendReply.Shut else SendReply.Closed)
-    by true = tt
-    by false = tt
+send_kind b (SendCall.Write bytes) tile can = elim (b.closed || b.aborted) as (λ c. IsSendKind (SendCall.Write bytes) (if c then SendReply.Shut else SendReply.Taken (send.bytes_taken bytes b)))
+    [ true ↦ tt | false ↦ omega arith ]
+send_kind b SendCall.Close tile can = elim b.aborted as (λ c. IsSendKind SendCall.Close (if c then SendReply.Shut else SendReply.Closed)) [ true ↦ tt | false ↦ tt ]
 send_kind b (SendCall.Grant path max standby) tile can = granted_kind path max standby b tile can.1 (send.decision path max standby b) refl
 send_kind b (SendCall.AckIn next window) tile can = by (send.is_future next b)
   where
@@ -57,21 +50,16 @@ send_kind b (SendCall.AckIn next window) tile can = by (send.is_future next b)
     by false = tt
 send_kind b (SendCall.Return path) tile can = tt
 send_kind b SendCall.GoIdentity tile can = tt
-send_kind b (SendCall.GoInfinite path) tile can = by (send.is_gathered path b)
-  where
-    by : (c : Bool) → IsSendKind (SendCall.GoInfinite path) (if c then SendReply.Infinite (acked_len b.marks) else SendReply.Scattered)
-    by true = tt
-    by false = tt
+send_kind b (SendCall.GoInfinite path) tile can =
+    elim (send.is_gathered path b) as (λ c. IsSendKind (SendCall.GoInfinite path) (if c then SendReply.Infinite (acked_len b.marks) else SendReply.Scattered))
+    [ true ↦ tt | false ↦ tt ]
 send_kind b SendCall.Abort tile can = tt
 
 -- ---- the reassembly book
 
 read_kind : (max : ℕ) (b : Arriving) (bytes : List ℕ) → bytes ≡ take max (filled b.places) → IsReassemblyKind (ReassemblyCall.Read max) (reassembly.bytes_reply bytes b)
-read_kind max b [] is = by (reassembly.is_end b.known_end b.read)
-  where
-    by : (c : Bool) → IsReassemblyKind (ReassemblyCall.Read max) (if c then ReassemblyReply.End else ReassemblyReply.NoneYet)
-    by true = tt
-    by false = tt
+read_kind max b [] is = elim (reassembly.is_end b.known_end b.read) as (λ c. IsReassemblyKind (ReassemblyCall.Read max) (if c then ReassemblyReply.End else ReassemblyReply.NoneYet))
+    [ true ↦ tt | false ↦ tt ]
 read_kind max b (byte ∷ bytes) is =
     let len : length (byte ∷ bytes) ≡ min max (length (filled b.places)) = ap length is ∙ length-take max (filled b.places) in
     record { some = omega arith; most = omega (arith, len) }
@@ -88,11 +76,8 @@ reassembly_kind b (ReassemblyCall.Place at bytes) = by (reassembly.reaches_past 
     by true o = tt
     by false None = tt
     by false (Some e) = tt
-reassembly_kind b (ReassemblyCall.Fin at) = by (reassembly.fin_clash b.known_end at b)
-  where
-    by : (o : Option ℕ) → IsReassemblyKind (ReassemblyCall.Fin at) (reassembly.fin_reply_by o at)
-    by None = tt
-    by (Some e) = tt
+reassembly_kind b (ReassemblyCall.Fin at) = elim (reassembly.fin_clash b.known_end at b) as (λ o. IsReassemblyKind (ReassemblyCall.Fin at) (reassembly.fin_reply_by o at))
+    [ None ↦ tt | Some e ↦ tt ]
 reassembly_kind b (ReassemblyCall.Read max) = reading_kind b.aborted max b
 reassembly_kind b ReassemblyCall.AckOut = tt
 reassembly_kind b (ReassemblyCall.Abort by_peer) = tt

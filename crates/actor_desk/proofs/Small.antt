@@ -61,30 +61,18 @@ granted_small path max standby b tile small (Ok span) is =
     )
 
 pub send_small : (b : Sending) (call : SendCall) → Tile b → IsWrittenSmall b → IsSmallSend (send.reply_to b call)
-send_small b (SendCall.Write bytes) tile small = by (b.closed || b.aborted)
-  where
-    by : (c : Bool) → IsSmallSend (if c then SendReply.Shut else SendReply.Taken (send.bytes_taken bytes b))
-    by true = tt
-    by false = omega arith
-send_small b SendCall.Close tile small = by b.aborted
-  where
-    by : (c : Bool) → IsSmallSend (if c then SendReply.Shut else SendReply.Closed)
-    by true = tt
-    by false = tt
+send_small b (SendCall.Write bytes) tile small = elim (b.closed || b.aborted) as (λ c. IsSmallSend (if c then SendReply.Shut else SendReply.Taken (send.bytes_taken bytes b)))
+    [ true ↦ tt | false ↦ omega arith ]
+send_small b SendCall.Close tile small = elim b.aborted as (λ c. IsSmallSend (if c then SendReply.Shut else SendReply.Closed)) [ true ↦ tt | false ↦ tt ]
 send_small b (SendCall.Grant path max standby) tile small =
     granted_small path max standby b tile small (send.decision path max standby b) refl
-send_small b (SendCall.AckIn next window) tile small = by (send.is_future next b)
-  where
-    by : (c : Bool) → IsSmallSend (if c then SendReply.AckFuture (length b.written) else SendReply.Acked (min next (length b.written) - acked_len b.marks) (send.fin_after next b))
-    by true = omega (arith, small.written)
-    by false = omega (arith, small.written)
+send_small b (SendCall.AckIn next window) tile small =
+    elim (send.is_future next b) as (λ c. IsSmallSend (if c then SendReply.AckFuture (length b.written) else SendReply.Acked (min next (length b.written) - acked_len b.marks) (send.fin_after next b)))
+    [ true ↦ omega (arith, small.written) | false ↦ omega (arith, small.written) ]
 send_small b (SendCall.Return path) tile small = omega (arith, count_by-le-length (is_held_by path) b.marks, tile.whole, small.written)
 send_small b SendCall.GoIdentity tile small = tt
-send_small b (SendCall.GoInfinite path) tile small = by (send.is_gathered path b)
-  where
-    by : (c : Bool) → IsSmallSend (if c then SendReply.Infinite (acked_len b.marks) else SendReply.Scattered)
-    by true = omega (arith, count_by-le-length is_acked b.marks, tile.whole, small.written)
-    by false = tt
+send_small b (SendCall.GoInfinite path) tile small = elim (send.is_gathered path b) as (λ c. IsSmallSend (if c then SendReply.Infinite (acked_len b.marks) else SendReply.Scattered))
+    [ true ↦ omega (arith, count_by-le-length is_acked b.marks, tile.whole, small.written) | false ↦ tt ]
 send_small b SendCall.Abort tile small = tt
 
 -- ---- the reassembly book
@@ -129,24 +117,15 @@ placed_small at bytes b small can =
 clash_small : (o : Option ℕ) (at : ℕ) (bytes : List ℕ) (b : Arriving) → IsReceivedSmall b → at + length bytes ≤ 2 ^ 62 → IfSome o (λ e. e ≤ 2 ^ 62)
     → IsSmallReassembly (reassembly.placed_reply (reassembly.clash o at bytes) at bytes b)
 clash_small None at bytes b small can ends = placed_small at bytes b small can
-clash_small (Some e) at bytes b small can ends = by (reassembly.reaches_past e at bytes)
-  where
-    by : (c : Bool) → IsSmallReassembly (reassembly.placed_reply (if c then Some e else None) at bytes b)
-    by true = (omega (arith, ends), omega (arith, can))
-    by false = placed_small at bytes b small can
+clash_small (Some e) at bytes b small can ends = elim (reassembly.reaches_past e at bytes) as (λ c. IsSmallReassembly (reassembly.placed_reply (if c then Some e else None) at bytes b))
+    [ true ↦ (omega (arith, ends), omega (arith, can)) | false ↦ placed_small at bytes b small can ]
 
 fin_small : (o : Option ℕ) (at : ℕ) (b : Arriving) → IsReceivedSmall b → at ≤ 2 ^ 62 → IfSome o (λ e. e ≤ 2 ^ 62)
     → IsSmallReassembly (reassembly.fin_reply_by (reassembly.fin_clash o at b) at)
-fin_small None at b small can ends = by (nat_lt at (top b))
-  where
-    by : (c : Bool) → IsSmallReassembly (reassembly.fin_reply_by (if c then Some (top b) else None) at)
-    by true = (omega (arith, small.places), omega (arith, can))
-    by false = tt
-fin_small (Some e) at b small can ends = by (e == at)
-  where
-    by : (c : Bool) → IsSmallReassembly (reassembly.fin_reply_by (if c then None else Some e) at)
-    by true = tt
-    by false = (omega (arith, ends), omega (arith, can))
+fin_small None at b small can ends = elim (nat_lt at (top b)) as (λ c. IsSmallReassembly (reassembly.fin_reply_by (if c then Some (top b) else None) at))
+    [ true ↦ (omega (arith, small.places), omega (arith, can)) | false ↦ tt ]
+fin_small (Some e) at b small can ends = elim (e == at) as (λ c. IsSmallReassembly (reassembly.fin_reply_by (if c then None else Some e) at))
+    [ true ↦ tt | false ↦ (omega (arith, ends), omega (arith, can)) ]
 
 read_small : (aborted : Option Bool) (max : ℕ) (b : Arriving) → IsSmallReassembly (reassembly.reading aborted max b)
 read_small (Some by_peer) max b = tt
@@ -169,11 +148,9 @@ reassembly_small b (ReassemblyCall.Place at bytes) small can = by (reassembly.re
     by false = clash_small b.known_end at bytes b small can small.ends
 reassembly_small b (ReassemblyCall.Fin at) small can = fin_small b.known_end at b small can small.ends
 reassembly_small b (ReassemblyCall.Read max) small can = read_small b.aborted max b
-reassembly_small b ReassemblyCall.AckOut small can = by (reassembly.is_end b.known_end (received b))
-  where
-    by : (c : Bool) → IsSmallReassembly (ReassemblyReply.Ack (received b + (if c then 1 else 0)) (reassembly.window b))
-    by true = (omega (arith, filled-le b.places, small.places), omega (arith, small.room))
-    by false = (omega (arith, filled-le b.places, small.places), omega (arith, small.room))
+reassembly_small b ReassemblyCall.AckOut small can =
+    elim (reassembly.is_end b.known_end (received b)) as (λ c. IsSmallReassembly (ReassemblyReply.Ack (received b + (if c then 1 else 0)) (reassembly.window b)))
+    [ true ↦ (omega (arith, filled-le b.places, small.places), omega (arith, small.room)) | false ↦ (omega (arith, filled-le b.places, small.places), omega (arith, small.room)) ]
 reassembly_small b (ReassemblyCall.Abort by_peer) small can = tt
 
 -- ---- the control book

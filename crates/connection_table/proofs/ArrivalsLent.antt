@@ -1,8 +1,8 @@
 -- The copy that arrives next is lent exactly where the path's next ask takes one from the link.
-use Rattle.connection_table.proofs.Words.{◌≡◌, refl, sym, ◌∙◌, ap, subst, ℕ, ◌<◌, Bool, true, false, Option, Some, None, List, [], ◌∷◌, if◌then◌else◌}
-use Rattle.connection_table.proofs.Words.{option_map, option_and_then, nat_lt, is_some, ltb-true, Side, Due, Flight, arriving, Duty, StepDuty, Event, before}
-use Rattle.connection_table.proofs.Words.{earliest, next_event, step_for, tick_of, join_heard_ask, asked_at, Arrived, arrived, arrived_as, copy_arriving}
-use Rattle.connection_table.proofs.Words.{first_arrival, next_arrival, octets, PathState, end_at, path_of}
+use Rattle.connection_table.proofs.Words.{◌≡◌, refl, sym, ◌∙◌, subst, ℕ, ◌<◌, Bool, true, false, Option, Some, None, List, [], ◌∷◌, if◌then◌else◌, option_map}
+use Rattle.connection_table.proofs.Words.{option_and_then, nat_lt, is_some, ltb-true, Side, arriving, Duty, StepDuty, Event, before, earliest, next_event}
+use Rattle.connection_table.proofs.Words.{step_for, tick_of, join_heard_ask, asked_at, arrived_as, copy_arriving, first_arrival, octets, PathState, end_at}
+use Rattle.connection_table.proofs.Words.{path_of}
 use Rattle.send_book.specs.declared.call.SendCall.{SendCall}
 use Rattle.subflow_send.specs.Records.{Record}
 use Rattle.loss_recovery.specs.declared.windows.Pending.{Pending}
@@ -16,7 +16,6 @@ use Rattle.path_agenda.specs.Items.{key_heard, keys_heard}
 use Rattle.fallback_state.specs.declared.fall.Event.TheVariants as events
 use Rattle.path_core.specs.Breaking.{reset_of, break_ask}
 use Rattle.path_store.specs.Passing.{Piece}
-use Rattle.path_core.specs.Duties.{ask_for}
 use Rattle.path_core.specs.Emission.{first_unsent, data_ask}
 use Rattle.path_core.specs.Fallback.{fell_ask, may_go_infinite, breaks_by_ack, plain_next, plain_ack_in}
 use Rattle.path_core.specs.Handover.{sends}
@@ -25,7 +24,7 @@ use Rattle.path_core.specs.Deliver.{piece_of, piece_ask}
 use Rattle.path_core.specs.DataFin.{data_fin_of, fin_ask, plain_fin}
 use Rattle.path_core.specs.Rate.{rate_ask}
 use Rattle.path_core.specs.Standing.{ack_out_ask}
-use Rattle.path_core.specs.Steps.{asks_first, asks_of}
+use Rattle.path_core.specs.Steps.{asks_first}
 use Rattle.path_core.specs.DssIn.{is_clash}
 use Rattle.path_core.specs.Treating.{item_of, item_ask}
 use Rattle.path_core.proofs.Happening.{can_happen}
@@ -96,13 +95,8 @@ quiet_item s _ p = refl
 
 soon : (until : ℕ) (x : Option Event) (event : Event) → option_and_then (before until) x ≡ Some event → (x ≡ Some event) × (tick_of event < until)
 soon until None event e = cc
-soon until (Some x) event e = by (nat_lt (tick_of x) until) refl e
-  where
-    by : (b : Bool) → nat_lt (tick_of x) until ≡ b → (if b then Some x else None) ≡ Some event → (Some x ≡ Some event) × (tick_of event < until)
-    by true is e =
-        let same : x ≡ event = cc in
-        (e, subst (λ y. tick_of y < until) same (ltb-true _ _ is))
-    by false is e = cc
+soon until (Some x) event e = (elim (nat_lt (tick_of x) until) as (λ b. nat_lt (tick_of x) until ≡ b → (if b then Some x else None) ≡ Some event → (Some x ≡ Some event) × (tick_of event < until))
+    [ true ↦ λ is e. let same : x ≡ event = cc in (e, subst (λ y. tick_of y < until) same (ltb-true _ _ is)) | false ↦ λ is e. cc ]) refl e
 
 abbrev Agrees : OctetPath → List Duty → Type 0
 Agrees p ds = is_some (first_arrival ds p) ≡ takes_a_copy (asks_first octets ds p)

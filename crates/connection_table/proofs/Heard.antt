@@ -81,13 +81,10 @@ module _ (spelling : Spelling) (from : Side) (expected : Expected) (key_token : 
       by rest (suc i) x at = rest.each i x at
 
   segment_token_is : (s : Segment) (token : ℕ) → segment_token s ≡ Some token → AllShowToken key_token (heard_segment spelling from expected s).options → token ≡ key_token
-  segment_token_is s token is all = by (asks_to_open s) is
-    where
-      by : (b : Bool) → (if b then option_and_then option_token (first_join s.options) else None) ≡ Some token → token ≡ key_token
-      by false is = cc
-      by true is =
-          (join_is_known HeardShows spelling.checksums token (option_octets s.options) is
-          (all_known (known_in spelling.checksums (option_octets s.options)) all)).1.1.1
+  segment_token_is s token is all = (elim (asks_to_open s) as (λ b. (if b then option_and_then option_token (first_join s.options) else None) ≡ Some token → token ≡ key_token) [
+    | false ↦ λ is. cc
+    | true ↦ λ is. (join_is_known HeardShows spelling.checksums token (option_octets s.options) is (all_known (known_in spelling.checksums (option_octets s.options)) all)).1.1.1
+  ]) is
 
   -- where octets ask to join, and all that is heard of them shows the token of a key, they ask by that token
   pub token_heard : (octets : List ℕ) (token : ℕ) → join_token (addresses_from spelling.path from) octets ≡ Some token

@@ -61,26 +61,20 @@ next_kind (App a) = refl
 next_kind (Path p) = refl
 
 step_path : (actor : ℕ) (w : Connection) → has_path (world_step octets actor w) ≡ has_path w
-step_path actor w = by (slice_get w.crew actor) refl
+step_path actor w = (elim (slice_get w.crew actor) as (λ o. slice_get w.crew actor ≡ o → has_path (stepped octets actor o w) ≡ has_path w)
+    [ None ↦ λ there. refl | Some c ↦ λ there. ask c (member_asks octets c.member) there ]) refl
   where
     ask : (c : ActorCrew (List ℕ)) (o : Option Ask) → slice_get w.crew actor ≡ Some c → has_path (asked octets actor o c w) ≡ has_path w
     ask c None there = refl
     ask c (Some a) there = any_set is_path_crew w.crew actor c (crew_after octets a w.books c) there (takes_kind _ c.member)
-
-    by : (o : Option (ActorCrew (List ℕ))) → slice_get w.crew actor ≡ o → has_path (stepped octets actor o w) ≡ has_path w
-    by None there = refl
-    by (Some c) there = ask c (member_asks octets c.member) there
 
 begun_path : (stamp : ℕ) (crew : List (ActorCrew (List ℕ))) → list_any is_path_crew (map (begins stamp) crew) ≡ list_any is_path_crew crew
 begun_path stamp [] = refl
 begun_path stamp (c ∷ crew) = ap (λ b. b || list_any is_path_crew (map (begins stamp) crew)) (next_kind c.member) ∙ ap (λ b. is_path c.member || b) (begun_path stamp crew)
 
 end_path : (w : Connection) → has_path (end_round w) ≡ has_path w
-end_path w = by (all_over w.crew)
-  where
-    by : (b : Bool) → has_path (if b then record w { crew = map (begins (greatest 0 w.crew)) w.crew } else w) ≡ has_path w
-    by true = begun_path (greatest 0 w.crew) w.crew
-    by false = refl
+end_path w = elim (all_over w.crew) as (λ b. has_path (if b then record w { crew = map (begins (greatest 0 w.crew)) w.crew } else w) ≡ has_path w)
+    [ true ↦ begun_path (greatest 0 w.crew) w.crew | false ↦ refl ]
 
 first_path : (start : Start) (plans : List PathPlan) → 0 < length plans → list_any is_path_crew (paths_from {C = List ℕ} start 0 plans) ≡ true
 first_path start [] some = absurd (omega arith)

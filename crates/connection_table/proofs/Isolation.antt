@@ -26,11 +26,8 @@ step_goes actor e stands alone = by (is_going actor e.world.state) refl
     by false over = (alone, refl)
 
 end_goes : (e : Entry) → StandsAlone e → Goes e (after_end e)
-end_goes e alone = by (may_end e.world) refl
-  where
-    by : (b : Bool) → may_end e.world ≡ b → Goes e (if b then record e { turns = e.turns ++ Round ∷ []; world = standing (end_round e.world.state) } else e)
-    by true may = let is = may_stand e.world may in (alone_more e Round is.0 alone (is.1, tt), refl)
-    by false may = (alone, refl)
+end_goes e alone = (elim (may_end e.world) as (λ b. may_end e.world ≡ b → Goes e (if b then record e { turns = e.turns ++ Round ∷ []; world = standing (end_round e.world.state) } else e))
+    [ true ↦ λ may. let is = may_stand e.world may in (alone_more e Round is.0 alone (is.1, tt), refl) | false ↦ λ may. (alone, refl) ]) refl
 
 call_goes : (call : Call) (e : Entry) → CanCall call e → StandsAlone e → Goes e (after_call call e)
 call_goes (Call.Steps actor) e can alone = step_goes actor e can alone
@@ -40,18 +37,13 @@ call_goes Call.Ends e can alone = end_goes e alone
 -- ---- where none failed
 
 step_stands : (actor : ℕ) (e : Entry) → Stands e → Stands (after_step actor e)
-step_stands actor e stands = by (is_going actor e.world.state)
-  where
-    by : (b : Bool) → Stands (if b then record e { turns = e.turns ++ Step actor ∷ []; world = standing (world_step octets actor e.world.state) } else e)
-    by true = refl
-    by false = stands
+step_stands actor e stands =
+    elim (is_going actor e.world.state) as (λ b. Stands (if b then record e { turns = e.turns ++ Step actor ∷ []; world = standing (world_step octets actor e.world.state) } else e))
+    [ true ↦ refl | false ↦ stands ]
 
 end_stands : (e : Entry) → Stands e → Stands (after_end e)
-end_stands e stands = by (may_end e.world)
-  where
-    by : (b : Bool) → Stands (if b then record e { turns = e.turns ++ Round ∷ []; world = standing (end_round e.world.state) } else e)
-    by true = refl
-    by false = stands
+end_stands e stands = elim (may_end e.world) as (λ b. Stands (if b then record e { turns = e.turns ++ Round ∷ []; world = standing (end_round e.world.state) } else e))
+    [ true ↦ refl | false ↦ stands ]
 
 call_stands : (call : Call) (calls : List Call) (e : Entry) → NoneFailed (call ∷ calls) → Stands e → Stands (after_call call e)
 call_stands (Call.Steps actor) calls e none stands = step_stands actor e stands

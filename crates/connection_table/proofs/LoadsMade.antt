@@ -1,10 +1,10 @@
 -- The loads of a list, line by line.
 use Rattle.connection_table.proofs.Words.{◌≡◌, refl, sym, ◌∙◌, ap, subst, ℕ, zero, suc, ◌+◌, ◌<◌, Option, Some, None, List, [], ◌∷◌, ◌++◌, append_assoc, length}
 use Rattle.connection_table.proofs.Words.{map, arith, inr, get_or, inl, Err, Ok, take, Result, map-append, take_more, append-nil, take-map, IfSome, IfOk}
-use Rattle.connection_table.proofs.Words.{slice_get, same_Some, Call, succeeded, failed, Adds, AddsAll, Told, adds_then, all_then, Many, Done, Usage, Load}
-use Rattle.connection_table.proofs.Words.{TooLong, Listing, Script, SameToken, Put, Memory, IsInputFault, IsListFault, IsLoadFault, AddsCut, AddsLoadsThrough}
-use Rattle.connection_table.proofs.Words.{AddsLoadsTo, AddsToFailed, InputAdds, LinesAdd, ListAdds, joined, loads_by_line, loads_of, Names, as_names}
-use Rattle.connection_table.proofs.Words.{list_reading, Listed, Contents, IsAdmitFault, NamedList}
+use Rattle.connection_table.proofs.Words.{slice_get, Call, failed, Adds, AddsAll, Told, all_then, Many, Done, Usage, Load, TooLong, Listing, Script, SameToken}
+use Rattle.connection_table.proofs.Words.{Put, Memory, IsInputFault, IsListFault, IsLoadFault, AddsCut, AddsLoadsThrough, AddsLoadsTo, AddsToFailed, InputAdds}
+use Rattle.connection_table.proofs.Words.{LinesAdd, ListAdds, joined, loads_by_line, loads_of, Names, as_names, list_reading, Listed, Contents, IsAdmitFault}
+use Rattle.connection_table.proofs.Words.{NamedList}
 use Rattle.std.proofs.lemmas.Grind.{flat_map-append}
 use Rattle.outside_kit.specs.Calls as call
 use Rattle.connection_table.proofs.Adding.{all_cut}
@@ -190,11 +190,10 @@ module _ (content : Contents) (words : NamedList) where
       }
 
       behind_through : (line : ℕ) → AddsLoadsThrough ([] ∷ map loads_of names) line b c → AddsLoadsThrough (loads_by_line words.list names) line a c
-      behind_through line through = by (line + 1) (let some : 0 < line + 1 = omega arith in some) through
-        where
-          by : (n : ℕ) → 0 < n → AddsAll (joined (take n ([] ∷ map loads_of names))) b c → AddsAll (joined (take n (loads_by_line words.list names))) a c
-          by zero some all = absurd (omega (arith, some))
-          by (suc n) some all = all_then (call.Load words.list ∷ []) (joined (take n (map loads_of names))) a b c one all
+      behind_through line through = (elim (line + 1) as (λ n. 0 < n → AddsAll (joined (take n ([] ∷ map loads_of names))) b c → AddsAll (joined (take n (loads_by_line words.list names))) a c) [
+        | zero ↦ λ some all. absurd (omega (arith, some))
+        | suc n ↦ λ some all. all_then (call.Load words.list ∷ []) (joined (take n (map loads_of names))) a b c one all
+      ]) (let some : 0 < line + 1 = omega arith in some) through
 
       behind_list : (many : Many) → LinesAdd ([] ∷ map loads_of names) b c many → LinesAdd (loads_by_line words.list names) a c many
       behind_list (Load line) adds = behind_to line adds

@@ -131,11 +131,9 @@ stayed old stands over = record {
 -- ---- an actor's turn, step by step
 
 step_input : (actor : ℕ) (e : Entry) → (after_step actor e).input ≡ e.input
-step_input actor e = by (is_going actor e.world.state)
-  where
-    by : (b : Bool) → (if b then record e { turns = e.turns ++ Step actor ∷ []; world = standing (world_step octets actor e.world.state) } else e).input ≡ e.input
-    by true = refl
-    by false = refl
+step_input actor e =
+    elim (is_going actor e.world.state) as (λ b. (if b then record e { turns = e.turns ++ Step actor ∷ []; world = standing (world_step octets actor e.world.state) } else e).input ≡ e.input)
+    [ true ↦ refl | false ↦ refl ]
 
 -- where it goes
 step_goes : (actor : ℕ) (e : Entry) → is_going actor e.world.state ≡ true → (after_step actor e).world ≡ standing (world_step octets actor e.world.state)
@@ -200,11 +198,8 @@ turns_made n i past x y count so = record {
 }
 
 end_input : (e : Entry) → (after_end e).input ≡ e.input
-end_input e = by (ends e)
-  where
-    by : (b : Bool) → (if b then record e { turns = e.turns ++ Round ∷ []; world = standing (end_round e.world.state) } else e).input ≡ e.input
-    by true = refl
-    by false = refl
+end_input e = elim (ends e) as (λ b. (if b then record e { turns = e.turns ++ Round ∷ []; world = standing (end_round e.world.state) } else e).input ≡ e.input)
+    [ true ↦ refl | false ↦ refl ]
 
 -- and the round's end
 pub round_made : (x y z : Entry) → TurnsMade x y → z ≡ after_end y → RoundMade x z

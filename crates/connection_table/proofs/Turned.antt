@@ -11,11 +11,8 @@ may_end k = not k.failed && all_over k.state.crew
 
 -- it may end where it stands and each turn has ended
 pub may_stand : (k : Kept) → may_end k ≡ true → (k.failed ≡ false) × (all_over k.state.crew ≡ true)
-may_stand k may = by k.failed refl may
-  where
-    by : (b : Bool) → k.failed ≡ b → (not b && all_over k.state.crew) ≡ true → (k.failed ≡ false) × (all_over k.state.crew ≡ true)
-    by true stands may = absurd (false≢true may)
-    by false stands may = (stands, may)
+may_stand k may = (elim k.failed as (λ b. k.failed ≡ b → (not b && all_over k.state.crew) ≡ true → (k.failed ≡ false) × (all_over k.state.crew ≡ true))
+    [ true ↦ λ stands may. absurd (false≢true may) | false ↦ λ stands may. (stands, may) ]) refl may
 
 -- ---- a connection whose turns and world these are
 

@@ -167,11 +167,8 @@ after_keyword Keyword.End words other = end_calm words
 
 found : {X : Type 0} (test : X → Bool) (xs : List X) (x : X) → find test xs ≡ Some x → test x ≡ true
 found test [] x is = cc
-found {X} test (y ∷ xs) x is = by (test y) refl is (found test xs x)
-  where
-    by : (b : Bool) → test y ≡ b → cond b (Some y) (find test xs) ≡ Some x → (find test xs ≡ Some x → test x ≡ true) → test x ≡ true
-    by true passes is next = let same : y ≡ x = cc in subst (λ z. test z ≡ true) same passes
-    by false passes is next = next is
+found {X} test (y ∷ xs) x is = (elim (test y) as (λ b. test y ≡ b → cond b (Some y) (find test xs) ≡ Some x → (find test xs ≡ Some x → test x ≡ true) → test x ≡ true)
+    [ true ↦ λ passes is next. let same : y ≡ x = cc in subst (λ z. test z ≡ true) same passes | false ↦ λ passes is next. next is ]) refl is (found test xs x)
 
 read_word : {X : Type 0} (o : Option X) (x : X) → ok_or o ScriptKind.Word ≡ Ok x → o ≡ Some x
 read_word (Some y) x is = cc
@@ -190,11 +187,8 @@ other_word word _ other is = refl
 line_calm : (words : List (List ℕ)) → is_alter_first words ≡ false → IfOk (line_of words) IsCalm
 unfolding line_of
 line_calm [] other = tt
-line_calm (word ∷ words) other = by (keyword word) refl
-  where
-    by : (r : Result Keyword ScriptKind) → keyword word ≡ r → IfOk (r >>= λ which. line_after which words) IsCalm
-    by (Ok which) is = after_keyword which words (other_word word which other is)
-    by (Err e) is = tt
+line_calm (word ∷ words) other = (elim (keyword word) as (λ r. keyword word ≡ r → IfOk (r >>= λ which. line_after which words) IsCalm)
+    [ Ok which ↦ λ is. after_keyword which words (other_word word which other is) | Err e ↦ λ is. tt ]) refl
 
 -- ---- line after line
 
@@ -227,16 +221,9 @@ placed_calm seen l is = by (is_out_of_order seen l) (is_repeated seen l)
 
 next_calm : (seen : List Line) (text : List ℕ) → is_alter_line text ≡ false → IfOk (next_line seen text) IsCalm
 unfolding later_line
-next_calm [] text other = by (bytes_eq text (codes "mptcp-script 1"))
-  where
-    by : (b : Bool) → IfOk (cond b (Ok Line.Header) (Err ScriptKind.Header)) IsCalm
-    by true = tt
-    by false = tt
-next_calm (l ∷ seen) text other = by (line_of (words_of text)) (line_calm (words_of text) other)
-  where
-    by : (r : Result Line ScriptKind) → IfOk r IsCalm → IfOk (r >>= λ x. in_place (l ∷ seen) x) IsCalm
-    by (Ok x) is = placed_calm (l ∷ seen) x is
-    by (Err e) is = tt
+next_calm [] text other = elim (bytes_eq text (codes "mptcp-script 1")) as (λ b. IfOk (cond b (Ok Line.Header) (Err ScriptKind.Header)) IsCalm) [ true ↦ tt | false ↦ tt ]
+next_calm (l ∷ seen) text other = (elim (line_of (words_of text)) as (λ r. IfOk r IsCalm → IfOk (r >>= λ x. in_place (l ∷ seen) x) IsCalm)
+    [ Ok x ↦ λ is. placed_calm (l ∷ seen) x is | Err e ↦ λ is. tt ]) (line_calm (words_of text) other)
 
 step_calm : (number : ℕ) (seen : List Line) (text : List ℕ) → is_alter_line text ≡ false → AllCalm seen → IfOk (seen_after number seen text) AllCalm
 unfolding seen_after
@@ -251,11 +238,8 @@ step_calm number seen text other calm = by (nat_lt most_lines number) (is_passed
 
 all_calm : (texts : List (List ℕ)) (number : ℕ) (seen : List Line) → list_any is_alter_line texts ≡ false → AllCalm seen → IfOk (read_on number seen texts) AllCalm
 unfolding read_on
-all_calm [] number seen none calm = by (list_any is_end seen)
-  where
-    by : (b : Bool) → IfOk (cond b (Ok seen) (Err (ScriptFault.Line number ScriptKind.Missing))) AllCalm
-    by true = calm
-    by false = tt
+all_calm [] number seen none calm = elim (list_any is_end seen) as (λ b. IfOk (cond b (Ok seen) (Err (ScriptFault.Line number ScriptKind.Missing))) AllCalm)
+    [ true ↦ calm | false ↦ tt ]
 all_calm (text ∷ texts) number seen none calm =
     let parts = or_parts (is_alter_line text) (list_any is_alter_line texts) none in
     by (seen_after number seen text) (step_calm number seen text parts.0 calm) (λ now is. all_calm texts (suc number) now parts.1 is)
@@ -269,20 +253,14 @@ all_calm (text ∷ texts) number seen none calm =
 
 none_passes : {X : Type 0} (test : X → Bool) (number : ℕ) (xs : List X) → position_from test number xs ≡ None → list_any test xs ≡ false
 none_passes test number [] is = refl
-none_passes {X} test number (x ∷ xs) is = by (test x) is (none_passes test (number + 1) xs)
-  where
-    by : (b : Bool) → cond b (Some number) (position_from test (number + 1) xs) ≡ None → (position_from test (number + 1) xs ≡ None → list_any test xs ≡ false)
-        → (b || list_any test xs) ≡ false
-    by true is next = cc
-    by false is next = next is
+none_passes {X} test number (x ∷ xs) is =
+    (elim (test x) as (λ b. cond b (Some number) (position_from test (number + 1) xs) ≡ None → (position_from test (number + 1) xs ≡ None → list_any test xs ≡ false) → (b || list_any test xs) ≡ false)
+    [ true ↦ λ is next. cc | false ↦ λ is next. next is ]) is (none_passes test (number + 1) xs)
 
 text_calm : (text : List ℕ) → first_alter text ≡ None → IfOk (reading text) IsCalmScript
 unfolding reading
-text_calm text none = by (read_on 1 [] (text_lines text)) (all_calm (text_lines text) 1 [] (none_passes is_alter_line 1 (text_lines text) none) refl)
-  where
-    by : (r : Result (List Line) ScriptFault) → IfOk r AllCalm → IfOk (r >>= λ lines. Ok (script_of lines)) IsCalmScript
-    by (Ok lines) is = is
-    by (Err e) is = tt
+text_calm text none = (elim (read_on 1 [] (text_lines text)) as (λ r. IfOk r AllCalm → IfOk (r >>= λ lines. Ok (script_of lines)) IsCalmScript)
+    [ Ok lines ↦ λ is. is | Err e ↦ λ is. tt ]) (all_calm (text_lines text) 1 [] (none_passes is_alter_line 1 (text_lines text) none) refl)
 
 -- what is read leaves payload as it is
 pub none_leaves : (text : List ℕ) (script : Script) → first_alter text ≡ None → reading text ≡ Ok script → LeavesPayload script

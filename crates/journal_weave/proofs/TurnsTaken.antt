@@ -1,5 +1,5 @@
 -- What the turns of all actors made in a round by threads: each actor went on by steps, to the end of its turn.
-use Rattle.std.proofs.Common.{◌≡◌, refl, sym, ◌∙◌, ap, subst, ℕ, zero, suc, ◌+◌, ◌<◌, ◌≤◌, ◌&&◌, Bool, true, false, Option, Some, None, List, [], ◌∷◌, ◌++◌, length, append_assoc, arith}
+use Rattle.std.proofs.Common.{◌≡◌, refl, sym, ◌∙◌, ap, subst, ℕ, zero, suc, ◌+◌, ◌<◌, ◌≤◌, ◌&&◌, true, false, Option, Some, None, List, [], ◌∷◌, ◌++◌, length, append_assoc, arith}
 use Rattle.std.specs.Prelude.{All, MatchOption}
 use Rattle.std.specs.List.{slice_get, slice_index_or}
 use Rattle.std.proofs.lemmas.List.{append-nil}
@@ -103,11 +103,7 @@ module _ (c d : Crew) (t : TurnOf c d) (none : d.refused ≡ None) where
       }
 
   over : is_over d.member ≡ true
-  over = by (is_over d.member) refl
-    where
-      by : (b : Bool) → is_over d.member ≡ b → b ≡ true
-      by true is = refl
-      by false is = absurd (going_asks d.member is ended.0)
+  over = (elim (is_over d.member) as (λ b. is_over d.member ≡ b → b ≡ true) [ true ↦ λ is. refl | false ↦ λ is. absurd (going_asks d.member is ended.0) ]) refl
 
 -- ---- its list
 

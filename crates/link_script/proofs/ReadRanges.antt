@@ -152,11 +152,8 @@ placed_ok seen line next e =
     (order.0, repeated.0, cc)
 
 first_ok : (text : List ℕ) (line : Line) → first_line text ≡ Ok line → Header ≡ line
-first_ok text line e = is_header (bytes_eq text (codes "mptcp-script 1")) e
-  where
-    is_header : (b : Bool) → cond b (ok_line Header) (Err ScriptKind.Header) ≡ Ok line → Header ≡ line
-    is_header true h = cc
-    is_header false h = absurd cc
+first_ok text line e = (elim (bytes_eq text (codes "mptcp-script 1")) as (λ b. cond b (ok_line Header) (Err ScriptKind.Header) ≡ Ok line → Header ≡ line)
+    [ true ↦ λ h. cc | false ↦ λ h. absurd cc ]) e
 
 script_push : (seen : List Line) (line : Line) → script_of (seen ++ line ∷ []) ≡ with_line (script_of seen) line
 script_push seen line = fold-append with_line blank seen (line ∷ [])

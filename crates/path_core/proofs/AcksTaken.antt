@@ -39,11 +39,8 @@ module _ (c : Copy) (s : EndState) where
 
   placed : (o : Option ℕ) → AcknowledgesSent (meaning_placed o c s)
   placed None = outside
-  placed (Some pos) = chosen_by (is_acceptable s.recv.edge pos c)
-    where
-      chosen_by : (b : Bool) → AcknowledgesSent (if b then meaning_within pos c s else meaning_outside c)
-      chosen_by true = within pos
-      chosen_by false = outside
+  placed (Some pos) = elim (is_acceptable s.recv.edge pos c) as (λ b. AcknowledgesSent (if b then meaning_within pos c s else meaning_outside c))
+      [ true ↦ within pos | false ↦ outside ]
 
   connected : AcknowledgesSent (meaning_connected c s)
   connected =
@@ -52,16 +49,12 @@ module _ (c : Copy) (s : EndState) where
 
   answering : (o : Option ℕ) → AcknowledgesSent (meaning_answering o c s)
   answering None = tt
-  answering (Some acknowledged) = by _
+  answering (Some acknowledged) = elim _ as (λ b. AcknowledgesSent (if b then meaning_answer c acknowledged else Meaning.Ignored)) [ true ↦ answer | false ↦ tt ]
     where
       answer : AcknowledgesSent (meaning_answer c acknowledged)
       answer =
           chosen c.rst Meaning.Kills (if c.syn then Meaning.Accepts acknowledged else Meaning.Ignored) tt
           (λ _. chosen c.syn (Meaning.Accepts acknowledged) Meaning.Ignored tt (λ _. tt))
-
-      by : (b : Bool) → AcknowledgesSent (if b then meaning_answer c acknowledged else Meaning.Ignored)
-      by true = answer
-      by false = tt
 
   opening : AcknowledgesSent (meaning_opening c s)
   opening = chosen (is_at_limit s) Meaning.Ignored (meaning_answering c.acknowledged c s) tt (λ _. answering c.acknowledged)

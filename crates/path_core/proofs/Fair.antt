@@ -12,39 +12,24 @@ use Rattle.path_agenda.specs.declared.notice.PeerNotice.{PeerNotice}
 fair_ack : (next : Option (Option ℕ)) (window : ℕ) → All IsFair (ack_items next window)
 fair_ack None window = All-nil IsFair
 fair_ack (Some None) window = All-nil IsFair
-fair_ack (Some (Some next)) window = by (nat_lt next (2 ^ 62)) refl
-  where
-    by : (b : Bool) → nat_lt next (2 ^ 62) ≡ b → All IsFair (if b then Heard.DataAck next window ∷ [] else [])
-    by true is = All-cons IsFair (Heard.DataAck next window) [] (ltb-true _ _ is) (All-nil IsFair)
-    by false is = All-nil IsFair
+fair_ack (Some (Some next)) window = (elim (nat_lt next (2 ^ 62)) as (λ b. nat_lt next (2 ^ 62) ≡ b → All IsFair (if b then Heard.DataAck next window ∷ [] else []))
+    [ true ↦ λ is. All-cons IsFair (Heard.DataAck next window) [] (ltb-true _ _ is) (All-nil IsFair) | false ↦ λ is. All-nil IsFair ]) refl
 
 fair_end : (place : ℕ) → All IsFair (data_fin_items place)
-fair_end place = by (nat_le place (2 ^ 62)) refl
-  where
-    by : (b : Bool) → nat_le place (2 ^ 62) ≡ b → All IsFair (if b then Heard.DataFin place ∷ [] else [])
-    by true is = All-cons IsFair (Heard.DataFin place) [] (leb-true _ _ is) (All-nil IsFair)
-    by false is = All-nil IsFair
+fair_end place = (elim (nat_le place (2 ^ 62)) as (λ b. nat_le place (2 ^ 62) ≡ b → All IsFair (if b then Heard.DataFin place ∷ [] else []))
+    [ true ↦ λ is. All-cons IsFair (Heard.DataFin place) [] (leb-true _ _ is) (All-nil IsFair) | false ↦ λ is. All-nil IsFair ]) refl
 
 fair_mapping : (place position count : ℕ) (fin : Bool) → All IsFair (mapping_items place position count fin)
-fair_mapping place position count fin = by (is_mapping place position count)
-  where
-    by : (b : Bool) → All IsFair (if b then Heard.Mapping fin ∷ [] else [])
-    by true = All-cons IsFair (Heard.Mapping fin) [] tt (All-nil IsFair)
-    by false = All-nil IsFair
+fair_mapping place position count fin = elim (is_mapping place position count) as (λ b. All IsFair (if b then Heard.Mapping fin ∷ [] else []))
+    [ true ↦ All-cons IsFair (Heard.Mapping fin) [] tt (All-nil IsFair) | false ↦ All-nil IsFair ]
 
 fair_first : (len : ℕ) → All IsFair (first_items len)
-fair_first len = by (nat_lt 0 len) (fair_mapping 0 1 len false)
-  where
-    by : (b : Bool) → All IsFair (mapping_items 0 1 len false) → All IsFair (if b then mapping_items 0 1 len false else [])
-    by true fair = fair
-    by false fair = All-nil IsFair
+fair_first len = (elim (nat_lt 0 len) as (λ b. All IsFair (mapping_items 0 1 len false) → All IsFair (if b then mapping_items 0 1 len false else []))
+    [ true ↦ λ fair. fair | false ↦ λ fair. All-nil IsFair ]) (fair_mapping 0 1 len false)
 
 fair_infinite : (place : ℕ) (position : Option ℕ) → All IsFair (infinite_items place position)
-fair_infinite place position = by (nat_lt place (2 ^ 62))
-  where
-    by : (b : Bool) → All IsFair (if b then Heard.InfiniteMapping place position ∷ [] else [])
-    by true = All-cons IsFair (Heard.InfiniteMapping place position) [] tt (All-nil IsFair)
-    by false = All-nil IsFair
+fair_infinite place position = elim (nat_lt place (2 ^ 62)) as (λ b. All IsFair (if b then Heard.InfiniteMapping place position ∷ [] else []))
+    [ true ↦ All-cons IsFair (Heard.InfiniteMapping place position) [] tt (All-nil IsFair) | false ↦ All-nil IsFair ]
 
 fair_map : (mapping : Option (PathMapping (Option ℕ))) → All IsFair (map_items mapping)
 fair_map None = All-nil IsFair

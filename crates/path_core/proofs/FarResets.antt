@@ -4,10 +4,9 @@ use Rattle.path_core.proofs.Words.{Some, None, List, [], length, arith, ◌^◌,
 use Rattle.path_core.proofs.Words.{addresses_from, EndPhase, Meaning, is_acceptable, is_repeated_syn, meaning_answering, meaning_within, meaning_connected}
 use Rattle.path_core.proofs.Words.{meaning_at, meaning_of, is_in_window, ends_in_window, is_at_right_edge, Copy, occupied, EndState, is_at_limit, Spelling}
 use Rattle.path_core.proofs.Words.{PlainSegment, spelled, CanSay, spelled_text, stripped_means, stripped_is_heard, four, written, heard_as_meant, Expected}
-use Rattle.path_core.proofs.Words.{meant, IsPositionFresh, numbers_of, subflow_number, heard_segment, HeardSegment, Heard, position_in, copy_of}
-use Rattle.path_core.proofs.Words.{position_numbered, reset_by, reset_for, with_held, after_copy, judged_in, after_judged, template_of, told_at, copy_heard}
-use Rattle.path_core.proofs.Words.{IsFarReset, held_of, is_joined, options_heard, items_of, PathState, end_at, goes_on, Judged, judged_of, taken_as, after_join}
-use Rattle.path_core.proofs.Words.{PathEnd, Profile}
+use Rattle.path_core.proofs.Words.{meant, IsPositionFresh, numbers_of, subflow_number, heard_segment, HeardSegment, Heard, position_in, copy_of, reset_by}
+use Rattle.path_core.proofs.Words.{reset_for, with_held, after_copy, judged_in, after_judged, template_of, told_at, copy_heard, IsFarReset, held_of, is_joined}
+use Rattle.path_core.proofs.Words.{options_heard, items_of, PathState, end_at, goes_on, Judged, judged_of, taken_as, after_join, PathEnd, Profile}
 use Rattle.std.proofs.Common.{option_map}
 use Rattle.std.proofs.lemmas.Int.{ints}
 use Rattle.std.specs.Option.{IsSome}
@@ -75,11 +74,8 @@ far_outside : (edge pos : ℕ) → edge + 2 ^ 31 ≤ pos → is_in_window edge p
 far_outside edge pos far = grind arith
 
 far_end : (edge pos len : ℕ) → edge + 2 ^ 31 ≤ pos → ends_in_window edge pos len ≡ false
-far_end edge pos len far = by (nat_lt 0 len) (far_outside edge (pos + (len - 1)) (omega (arith, far)))
-  where
-    by : (b : Bool) → is_in_window edge (pos + (len - 1)) ≡ false → (b && is_in_window edge (pos + (len - 1))) ≡ false
-    by true last = last
-    by false last = refl
+far_end edge pos len far = (elim (nat_lt 0 len) as (λ b. is_in_window edge (pos + (len - 1)) ≡ false → (b && is_in_window edge (pos + (len - 1))) ≡ false)
+    [ true ↦ λ last. last | false ↦ λ last. refl ]) (far_outside edge (pos + (len - 1)) (omega (arith, far)))
 
 far_right_edge : (edge pos octets : ℕ) → edge + 2 ^ 31 ≤ pos → is_at_right_edge edge pos octets ≡ false
 far_right_edge edge pos octets far = grind arith

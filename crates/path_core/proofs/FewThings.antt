@@ -132,11 +132,8 @@ module _ (joined : Bool) (s : Side) (window : ℕ) (spelling : Spelling) (from :
   map_few (Some (Infinite (Some place) position)) = one_if _ _
 
   first_few : (len : ℕ) → length (first_items len) ≤ 1
-  first_few len = by (nat_lt 0 len) (one_if _ _)
-    where
-      by : (b : Bool) → length (mapping_items 0 1 len false) ≤ 1 → length (if b then mapping_items 0 1 len false else []) ≤ 1
-      by true few = few
-      by false few = omega arith
+  first_few len = (elim (nat_lt 0 len) as (λ b. length (mapping_items 0 1 len false) ≤ 1 → length (if b then mapping_items 0 1 len false else []) ≤ 1)
+      [ true ↦ λ few. few | false ↦ λ few. omega arith ]) (one_if _ _)
 
   keys_few : (t : Side) (keys : CapableKeys) → length (key_items t keys) ≤ 2
   keys_few A NoKey = omega arith

@@ -21,11 +21,8 @@ memory_of_first (x ∷ ds) d r p is = let same : x ≡ d = cc in ap (λ y. needs
 -- it comes to something
 pub stands_of_first : {C : Type 0} (ds : List Duty) (d : Duty) (p : PathState C) → first_of ds ≡ Some d → is_none (passable_of ds p) ≡ true → stands d p ≡ true
 stands_of_first [] d p is none = cc
-stands_of_first (x ∷ ds) d p is none = by (stands x p) refl none
-  where
-    by : (b : Bool) → stands x p ≡ b → is_none (if b then None else Some x) ≡ true → stands d p ≡ true
-    by true comes none = let same : x ≡ d = cc in ap (λ y. stands y p) (sym same) ∙ comes
-    by false comes none = cc
+stands_of_first (x ∷ ds) d p is none = (elim (stands x p) as (λ b. stands x p ≡ b → is_none (if b then None else Some x) ≡ true → stands d p ≡ true)
+    [ true ↦ λ comes none. let same : x ≡ d = cc in ap (λ y. stands y p) (sym same) ∙ comes | false ↦ λ comes none. cc ]) refl none
 
 module _ {C : Type 0} (k : Codec C) where
   pub ask_of_first : (ds : List Duty) (d : Duty) (p : PathState C) → first_of ds ≡ Some d → asks_first k ds p ≡ Some (ask_for k d p)
@@ -69,11 +66,8 @@ module _ {C : Type 0} where
 
   stays : (ds : List Duty) (p : PathState C) → p.agenda ≡ ds → passable_of ds p ≡ None → settled ds p ≡ p
   stays [] p is none = subst (λ ds. with_agenda ds p ≡ p) is refl
-  stays (d ∷ ds) p is none = by (stands d p) none
-    where
-      by : (b : Bool) → (if b then None else Some d) ≡ None → (if b then with_agenda (d ∷ ds) p else settled ds (passed d p)) ≡ p
-      by true none = subst (λ ds. with_agenda ds p ≡ p) is refl
-      by false none = cc
+  stays (d ∷ ds) p is none = (elim (stands d p) as (λ b. (if b then None else Some d) ≡ None → (if b then with_agenda (d ∷ ds) p else settled ds (passed d p)) ≡ p)
+      [ true ↦ λ none. subst (λ ds. with_agenda ds p ≡ p) is refl | false ↦ λ none. cc ]) none
 
   -- where the first one comes to something nothing changes
   pub settled_stays : (p : PathState C) → passable p ≡ None → settles_down p ≡ p

@@ -15,11 +15,8 @@ pub may_state : (c : Profile) (s : Side) (e : PathEnd) → may_ask c s e ≡ tru
 may_state c s e is = first_true _ _ is
 
 below_limit : (e : EndState) → not (is_at_limit e) ≡ true → e.send.nxt < 2 ^ 61
-below_limit e is = by (nat_le (2 ^ 61) e.send.nxt) refl is
-  where
-    by : (b : Bool) → nat_le (2 ^ 61) e.send.nxt ≡ b → not (b || nat_le (2 ^ 61) e.recv.edge) ≡ true → e.send.nxt < 2 ^ 61
-    by true above is = cc
-    by false below is = leb-false _ _ below
+below_limit e is = (elim (nat_le (2 ^ 61) e.send.nxt) as (λ b. nat_le (2 ^ 61) e.send.nxt ≡ b → not (b || nat_le (2 ^ 61) e.recv.edge) ≡ true → e.send.nxt < 2 ^ 61)
+    [ true ↦ λ above is. cc | false ↦ λ below is. leb-false _ _ below ]) refl is
 
 pub may_room : (c : Profile) (s : Side) (e : PathEnd) → may_ask c s e ≡ true → e.tcp.send.nxt < 2 ^ 61
 may_room c s e is = below_limit e.tcp (first_true _ _ (second_true _ _ (second_true _ _ is)))

@@ -22,11 +22,8 @@ use Rattle.path_core.proofs.Resting.{to_rests, held_settles, owing_settles, fire
 -- ---- lists
 
 due_now : (clock tick : ℕ) → tick ≤ clock → one_if_due clock tick ≡ 1
-due_now clock tick now = by (nat_le tick clock) refl
-  where
-    by : (b : Bool) → nat_le tick clock ≡ b → ◌≡◌ {A = ℕ} (if b then 1 else 0) 1
-    by true is = refl
-    by false is = absurd (omega (arith, leb-false _ _ is, now))
+due_now clock tick now = (elim (nat_le tick clock) as (λ b. nat_le tick clock ≡ b → ◌≡◌ {A = ℕ} (if b then 1 else 0) 1)
+    [ true ↦ λ is. refl | false ↦ λ is. absurd (omega (arith, leb-false _ _ is, now)) ]) refl
 
 same_itself : (s : Side) → same_side s s ≡ true
 same_itself A = refl
@@ -35,32 +32,22 @@ same_itself B = refl
 -- ---- a death
 
 dead_rests : (clock : ℕ) (e : PathEnd) → Rests clock e (died_unless_dead e)
-dead_rests clock e = by (is_dead e.tcp.state)
-  where
-    by : (b : Bool) → Rests clock e (if b then e else died e)
-    by true = same_rests clock e e refl
-    by false = record { due = omega arith; timeout = λ some. some }
+dead_rests clock e = elim (is_dead e.tcp.state) as (λ b. Rests clock e (if b then e else died e))
+    [ true ↦ same_rests clock e e refl | false ↦ record { due = omega arith; timeout = λ some. some } ]
 
 -- ---- the earliest event
 
 one_of_both : (x y : Option Event) (event : Event) → earlier x y ≡ Some event → (x ≡ Some event) ⊎ (y ≡ Some event)
 one_of_both None y event e = inr e
 one_of_both (Some x) None event e = inl e
-one_of_both (Some x) (Some y) event e = by (nat_le (tick_of x) (tick_of y)) e
-  where
-    by : (b : Bool) → (if b then Some x else Some y) ≡ Some event → (Some x ≡ Some event) ⊎ (Some y ≡ Some event)
-    by true e = inl e
-    by false e = inr e
+one_of_both (Some x) (Some y) event e = (elim (nat_le (tick_of x) (tick_of y)) as (λ b. (if b then Some x else Some y) ≡ Some event → (Some x ≡ Some event) ⊎ (Some y ≡ Some event))
+    [ true ↦ λ e. inl e | false ↦ λ e. inr e ]) e
 
 soon_enough : (until : ℕ) (x : Option Event) (event : Event) → option_and_then (before until) x ≡ Some event → (x ≡ Some event) × (tick_of event < until)
 soon_enough until None event e = cc
-soon_enough until (Some x) event e = by (nat_lt (tick_of x) until) refl e
-  where
-    by : (b : Bool) → nat_lt (tick_of x) until ≡ b → (if b then Some x else None) ≡ Some event → (Some x ≡ Some event) × (tick_of event < until)
-    by true is e =
-        let same : x ≡ event = cc in
-        (e, subst (λ y. tick_of y < until) same (ltb-true _ _ is))
-    by false is e = cc
+soon_enough until (Some x) event e =
+    (elim (nat_lt (tick_of x) until) as (λ b. nat_lt (tick_of x) until ≡ b → (if b then Some x else None) ≡ Some event → (Some x ≡ Some event) × (tick_of event < until))
+    [ true ↦ λ is e. let same : x ≡ event = cc in (e, subst (λ y. tick_of y < until) same (ltb-true _ _ is)) | false ↦ λ is e. cc ]) refl e
 
 module _ {C : Type 0} where
   head_is_due : (f : Flight C) → is_due (due_of f) f ≡ true
@@ -102,7 +89,10 @@ module _ {C : Type 0} where
       (record { delay = t.delay; timer_a = t.timer_a; timer_b = t.timer_b })
 
   join_calm : (r : Reply) (p : PathState C) → TakesTime p → Calm p (joins_at_tick r p)
-  join_calm r p t = by (is_never r)
+  join_calm r p t = elim (is_never r) as (λ b. Calm p (if b then goes_on A (never_joined r p.a) (leaves A) after else goes_on A (opened_by (keys_begun r) p.a) (emission A) after)) [
+    | true ↦ both _ (goes_calm A (never_joined r p.a) (leaves A) after first.time (never_rests p.clock r p.a))
+    | false ↦ both _ (goes_calm A (opened_by (keys_begun r) p.a) (emission A) after first.time (opened_rests p.clock (keys_begun r) p.a))
+  ]
     where
       after : PathState C
       after = record p { joined_at = None }
@@ -112,10 +102,6 @@ module _ {C : Type 0} where
 
       both : (q : PathState C) → Calm after q → Calm p q
       both q next = record { ticks = omega (arith, first.ticks, next.ticks); due = omega (arith, first.due, next.due); time = next.time }
-
-      by : (b : Bool) → Calm p (if b then goes_on A (never_joined r p.a) (leaves A) after else goes_on A (opened_by (keys_begun r) p.a) (emission A) after)
-      by true = both _ (goes_calm A (never_joined r p.a) (leaves A) after first.time (never_rests p.clock r p.a))
-      by false = both _ (goes_calm A (opened_by (keys_begun r) p.a) (emission A) after first.time (opened_rests p.clock (keys_begun r) p.a))
 
   join_lowers : (r : Reply) (tick : ℕ) (p : PathState C) → TakesTime p → p.joined_at ≡ Some tick → tick < p.until
       → Lowers p (joins_at_tick r (at_tick tick p))
@@ -216,13 +202,8 @@ module _ {C : Type 0} where
   by_join : (k : Codec C) (r : Reply) (p : PathState C) (state : EndPhase) (joined_at : Option ℕ) (event : Event) → TakesTime p → p.joined_at ≡ joined_at
       → next_join state joined_at ≡ Some event → tick_of event < p.until → Lowers p (happens k event r p)
   by_join k r p state None event t is e soon = cc
-  by_join k r p state (Some tick) event t is e soon = by (is_waiting state) e
-    where
-      by : (b : Bool) → (if b then Some (Event.Joins tick) else None) ≡ Some event → Lowers p (happens k event r p)
-      by true e =
-          let same : Event.Joins tick ≡ event = cc in
-          subst (λ x. tick_of x < p.until → Lowers p (happens k x r p)) same (λ soon. join_lowers r tick p t is soon) soon
-      by false e = cc
+  by_join k r p state (Some tick) event t is e soon = (elim (is_waiting state) as (λ b. (if b then Some (Event.Joins tick) else None) ≡ Some event → Lowers p (happens k event r p))
+      [ true ↦ λ e. let same : Event.Joins tick ≡ event = cc in subst (λ x. tick_of x < p.until → Lowers p (happens k x r p)) same (λ soon. join_lowers r tick p t is soon) soon | false ↦ λ e. cc ]) e
 
   by_line : (k : Codec C) (r : Reply) (p : PathState C) (lines : List LineLeft) (event : Event) → TakesTime p → p.lines ≡ lines → next_line lines ≡ Some event
       → tick_of event < p.until → Lowers p (happens k event r p)
@@ -246,7 +227,8 @@ module _ {C : Type 0} where
       subst (λ x. tick_of x < p.until → Lowers p (happens k x r p)) same (λ soon. fire_lowers s tick p t is soon) soon
 
   pub event_lowers : (k : Codec C) (r : Reply) (p : PathState C) → TakesTime p → is_some (next_event p) ≡ true → Lowers p (happens_if k (next_event p) r p)
-  event_lowers k r p t some = by (next_event p) refl some
+  event_lowers k r p t some = (elim (next_event p) as (λ x. next_event p ≡ x → is_some x ≡ true → Lowers p (happens_if k x r p))
+      [ None ↦ λ is some. cc | Some event ↦ λ is some. let found = soon_enough p.until (earliest p) event is in chosen event found.0 found.1 ]) refl some
     where
       chosen : (event : Event) → earliest p ≡ Some event → tick_of event < p.until → Lowers p (happens k event r p)
       chosen event e soon = ⊎_elim
@@ -263,21 +245,13 @@ module _ {C : Type 0} where
           (one_of_both _ _ event later))
           (one_of_both _ _ event e)
 
-      by : (x : Option Event) → next_event p ≡ x → is_some x ≡ true → Lowers p (happens_if k x r p)
-      by None is some = cc
-      by (Some event) is some = let found = soon_enough p.until (earliest p) event is in chosen event found.0 found.1
-
   -- ---- what can happen
 
   can_join : (p : PathState C) (state : EndPhase) (joined_at : Option ℕ) (event : Event) → next_join state joined_at ≡ Some event
       → tick_of event < p.until → CanHappen event p
   can_join p state None event e soon = cc
-  can_join p state (Some tick) event e soon = by (is_waiting state) e
-    where
-      by : (b : Bool) → (if b then Some (Event.Joins tick) else None) ≡ Some event → CanHappen event p
-      by true e =
-          let same : Event.Joins tick ≡ event = cc in subst (λ x. tick_of x < p.until → CanHappen x p) same (λ soon. soon) soon
-      by false e = cc
+  can_join p state (Some tick) event e soon = (elim (is_waiting state) as (λ b. (if b then Some (Event.Joins tick) else None) ≡ Some event → CanHappen event p)
+      [ true ↦ λ e. let same : Event.Joins tick ≡ event = cc in subst (λ x. tick_of x < p.until → CanHappen x p) same (λ soon. soon) soon | false ↦ λ e. cc ]) e
 
   can_take : (p : PathState C) (lines : List LineLeft) (event : Event) → next_line lines ≡ Some event → tick_of event < p.until → CanHappen event p
   can_take p [] event e soon = cc

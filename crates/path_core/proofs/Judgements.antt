@@ -13,16 +13,9 @@ module _ (rst : Bool) (items : List Heard) (e : PathEnd) (P : Meaning → Type 0
   unless_silent false m holds = holds
 
   join_taken : (m : Meaning) → P m → P (taken_as (join_judged rst items m e))
-  join_taken Meaning.Opens holds = by (is_some (join_asked items))
-    where
-      by : (asks : Bool) → P (taken_as (if asks then Judged.Asks else Judged.Lacks))
-      by true = none
-      by false = none
-  join_taken (Meaning.Accepts acknowledged) holds = by (is_some (join_answer items e.modes))
-    where
-      by : (right : Bool) → P (taken_as (if right then Judged.As (Meaning.Accepts acknowledged) else Judged.Forged))
-      by true = holds
-      by false = none
+  join_taken Meaning.Opens holds = elim (is_some (join_asked items)) as (λ asks. P (taken_as (if asks then Judged.Asks else Judged.Lacks))) [ true ↦ none | false ↦ none ]
+  join_taken (Meaning.Accepts acknowledged) holds = elim (is_some (join_answer items e.modes)) as (λ right. P (taken_as (if right then Judged.As (Meaning.Accepts acknowledged) else Judged.Forged)))
+      [ true ↦ holds | false ↦ none ]
   join_taken Meaning.RepeatedSyn holds = holds
   join_taken (Meaning.Taken position acknowledged) holds = by (is_passed_over rst items e) (is_forged items e)
     where

@@ -80,13 +80,8 @@ asked_fits c s e may =
 
 -- all that is in order is placed after a fallback
 plain_fits : (s : EndState) (piece : Piece) → some_piece (plain_piece s) ≡ Some piece → Fits s piece
-plain_fits s piece e = by (nat_lt 0 (length (filled s.recv.places))) refl e
-  where
-    by : (b : Bool) → nat_lt 0 (length (filled s.recv.places)) ≡ b → (if b then Some (plain_piece s) else None) ≡ Some piece → Fits s piece
-    by true is e =
-        let same : plain_piece s ≡ piece = cc in
-        subst (Fits s) same (record { some = omega (arith, ltb-true _ _ is); within = omega arith })
-    by false is e = cc
+plain_fits s piece e = (elim (nat_lt 0 (length (filled s.recv.places))) as (λ b. nat_lt 0 (length (filled s.recv.places)) ≡ b → (if b then Some (plain_piece s) else None) ≡ Some piece → Fits s piece)
+    [ true ↦ λ is e. let same : plain_piece s ≡ piece = cc in subst (Fits s) same (record { some = omega (arith, ltb-true _ _ is); within = omega arith }) | false ↦ λ is e. cc ]) refl e
 
 next_fits : (c : Profile) (e : PathEnd) (piece : Piece) → next_piece c e ≡ Some piece → Fits e.tcp piece
 next_fits c e piece is = by e.modes.identity (covers e.modes.peer_infinite e.tcp.recv.edge) is
@@ -281,31 +276,24 @@ module _ {C : Type 0} where
 
   break_lowers : (k : Codec C) (s : Side) (reason : ℕ) (r : Reply) (p : PathState C) → TakesTime p → 12 ≤ weights p.agenda
       → Lowers p (answered_break k s reason r p)
-  break_lowers k s reason r p t heavy = by (end_at s p).treated.asked
-    where
-      by : (b : Bool) → Lowers p (if b then answered_ack_out s r (resets s reason) p else reset_on k s (Some reason) (leaves s) p)
-      by true = goes_less s (after_ack_out r (end_at s p)) (resets s reason) p t (same_rests p.clock (end_at s p) (after_ack_out r (end_at s p)) refl) (omega (arith, heavy))
-      by false = reset_less k s (Some reason) (leaves s) p t (omega (arith, heavy))
+  break_lowers k s reason r p t heavy = elim (end_at s p).treated.asked as (λ b. Lowers p (if b then answered_ack_out s r (resets s reason) p else reset_on k s (Some reason) (leaves s) p)) [
+    | true ↦ goes_less s (after_ack_out r (end_at s p)) (resets s reason) p t (same_rests p.clock (end_at s p) (after_ack_out r (end_at s p)) refl) (omega (arith, heavy))
+    | false ↦ reset_less k s (Some reason) (leaves s) p t (omega (arith, heavy))
+  ]
 
   mapping_lowers : (k : Codec C) (s : Side) (r : Reply) (p : PathState C) → TakesTime p → Heavy s p → Lowers p (answered_mapping k s r p)
-  mapping_lowers k s r p t heavy = by (is_clash (end_at s p))
+  mapping_lowers k s r p t heavy = elim (is_clash (end_at s p)) as (λ b. Lowers p (if b then answered_break k s 1 r p else goes_on s f (fell_duties s r p) p))
+      [ true ↦ break_lowers k s 1 r p t heavy.breaks | false ↦ fell_less s f r p t (same_rests p.clock (end_at s p) f refl) heavy ]
     where
       f : PathEnd
       f = with_learned (after_fell Event.MappingHeard r (end_at s p))
 
-      by : (b : Bool) → Lowers p (if b then answered_break k s 1 r p else goes_on s f (fell_duties s r p) p)
-      by true = break_lowers k s 1 r p t heavy.breaks
-      by false = fell_less s f r p t (same_rests p.clock (end_at s p) f refl) heavy
-
   plain_ack_lowers : (k : Codec C) (s : Side) (r : Reply) (p : PathState C) → TakesTime p → Heavy s p → Lowers p (answered_plain_ack k s r p)
-  plain_ack_lowers k s r p t heavy = by (breaks_by_ack p.profile (end_at s p))
+  plain_ack_lowers k s r p t heavy = elim (breaks_by_ack p.profile (end_at s p)) as (λ b. Lowers p (if b then answered_break k s 6 r p else goes_on s f (fell_duties s r p) p))
+      [ true ↦ break_lowers k s 6 r p t heavy.breaks | false ↦ fell_less s f r p t (same_rests p.clock (end_at s p) f refl) heavy ]
     where
       f : PathEnd
       f = with_plain_ack (after_fell Event.PlainAck r (end_at s p))
-
-      by : (b : Bool) → Lowers p (if b then answered_break k s 6 r p else goes_on s f (fell_duties s r p) p)
-      by true = break_lowers k s 6 r p t heavy.breaks
-      by false = fell_less s f r p t (same_rests p.clock (end_at s p) f refl) heavy
 
   -- the peer's fast close
   fast_heard_less : (s : Side) (stopped : Bool) (p : PathState C) → TakesTime p → Heavy s p
@@ -346,11 +334,11 @@ module _ {C : Type 0} where
 
   join_less : (r : Reply) (dead living : List Duty) (p : PathState C) → TakesTime p → weights dead < weights p.agenda → weights living < weights p.agenda
       → Lowers p (join_begun r dead living p)
-  join_less r dead living p t less_dead less_living = by (is_never r)
-    where
-      by : (b : Bool) → Lowers p (if b then goes_on A (never_joined r (end_at A p)) dead p else goes_on A (opened_by (keys_begun r) (end_at A p)) living p)
-      by true = goes_less A (never_joined r p.a) dead p t (never_rests p.clock r p.a) less_dead
-      by false = goes_less A (opened_by (keys_begun r) p.a) living p t (opened_rests p.clock (keys_begun r) p.a) less_living
+  join_less r dead living p t less_dead less_living =
+      elim (is_never r) as (λ b. Lowers p (if b then goes_on A (never_joined r (end_at A p)) dead p else goes_on A (opened_by (keys_begun r) (end_at A p)) living p)) [
+        | true ↦ goes_less A (never_joined r p.a) dead p t (never_rests p.clock r p.a) less_dead
+        | false ↦ goes_less A (opened_by (keys_begun r) p.a) living p t (opened_rests p.clock (keys_begun r) p.a) less_living
+      ]
 
   taken_less : (s : Side) (keys : Option KeyPair) (asked : Option JoinSyn) (r : Reply) (p : PathState C) → TakesTime p
       → weights (replaced (Duty.Send (SendDuty.SynAck s)) p.agenda) < weights p.agenda → weights (replaced (Duty.Send (SendDuty.Refuse s)) p.agenda) < weights p.agenda

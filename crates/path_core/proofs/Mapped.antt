@@ -1,8 +1,8 @@
 -- The mappings that a copy says lie within the places, and the one at the edge begins there or before.
 use Rattle.path_core.proofs.Words.{◌≡◌, refl, ℕ, ◌+◌, ◌≤◌, ◌&&◌, nat_le, nat_lt, Bool, true, false, if◌then◌else◌, Option, Some, None, List, [], ◌∷◌, ◌^◌, All}
 use Rattle.path_core.proofs.Words.{cond, find, flat_map, leb-true, All-nil, All-cons, All-append, Side, A, B, CapableKeys, NoKey, Sender, Both, WithData}
-use Rattle.path_core.proofs.Words.{KeptMapping, Capable, Join, Dss, AddAddr, Remove, Prio, Fail, FastClose, Reset, PathMapping, Bytes, End, Infinite}
-use Rattle.path_core.proofs.Words.{HeardOption, held_in, checksum_heard, held_if, key_held, map_held, kept_of, is_joined, Profile}
+use Rattle.path_core.proofs.Words.{KeptMapping, Capable, Dss, PathMapping, Bytes, HeardOption, held_in, checksum_heard, held_if, key_held, map_held, kept_of}
+use Rattle.path_core.proofs.Words.{is_joined, Profile}
 use Rattle.std.proofs.Common.{IfSome}
 use Rattle.dss_mapping.specs.Learning.{IsWithin}
 use Rattle.dss_mapping.specs.Mappings.{Mappings, mapping_at, octets_in, run_of}
@@ -11,11 +11,8 @@ use Rattle.dss_mapping.specs.Runs.{covers}
 -- ---- the mapping at the edge
 
 begins : (p : ℕ) (kept : KeptMapping) → covers p (run_of kept) ≡ true → kept.pos ≤ p
-begins p kept is = by (nat_le kept.pos p) refl is
-  where
-    by : (b : Bool) → nat_le kept.pos p ≡ b → (b && nat_lt p (run_of kept).to) ≡ true → kept.pos ≤ p
-    by true le is = leb-true _ _ le
-    by false le is = cc
+begins p kept is = (elim (nat_le kept.pos p) as (λ b. nat_le kept.pos p ≡ b → (b && nat_lt p (run_of kept).to) ≡ true → kept.pos ≤ p)
+    [ true ↦ λ le is. leb-true _ _ le | false ↦ λ le is. cc ]) refl is
 
 found_begins : (p : ℕ) (live : List KeptMapping) → IfSome (find (λ kept. covers p (run_of kept)) live) (λ kept. kept.pos ≤ p)
 found_begins p [] = tt
@@ -50,11 +47,9 @@ within_keys c A keys = All-nil IsWithin
 within_keys c B NoKey = All-nil IsWithin
 within_keys c B (Sender sender) = All-nil IsWithin
 within_keys c B (Both sender receiver) = All-nil IsWithin
-within_keys c B (WithData sender receiver len checksum) = by (nat_lt 0 len) (within_if c B 0 1 len false checksum)
-  where
-    by : (b : Bool) → All IsWithin (held_if c B 0 1 len false checksum) → All IsWithin (if b then held_if c B 0 1 len false checksum else [])
-    by true within = within
-    by false within = All-nil IsWithin
+within_keys c B (WithData sender receiver len checksum) =
+    (elim (nat_lt 0 len) as (λ b. All IsWithin (held_if c B 0 1 len false checksum) → All IsWithin (if b then held_if c B 0 1 len false checksum else []))
+    [ true ↦ λ within. within | false ↦ λ within. All-nil IsWithin ]) (within_if c B 0 1 len false checksum)
 
 within_map : (c : Profile) (s : Side) (mapping : Option (PathMapping (Option ℕ))) → All IsWithin (map_held c s mapping)
 within_map c s (Some (Bytes None position len fin checksum)) = All-nil IsWithin
@@ -63,11 +58,8 @@ within_map c s (Some (Bytes (Some place) (Some position) len fin checksum)) = wi
 within_map c s _ = All-nil IsWithin
 
 within_in : (c : Profile) (s : Side) (option : HeardOption) → All IsWithin (held_in c s option)
-within_in c s (Capable flag_a flag_c keys) = by (is_joined c)
-  where
-    by : (joined : Bool) → All IsWithin (if joined then [] else key_held c s keys)
-    by true = All-nil IsWithin
-    by false = within_keys c s keys
+within_in c s (Capable flag_a flag_c keys) = elim (is_joined c) as (λ joined. All IsWithin (if joined then [] else key_held c s keys))
+    [ true ↦ All-nil IsWithin | false ↦ within_keys c s keys ]
 within_in c s (Dss next mapping) = within_map c s mapping
 within_in c s _ = All-nil IsWithin
 

@@ -10,11 +10,8 @@ use Rattle.link_model.specs.State.{LinkState}
 -- ---- copies
 
 pub late_isn't : (clock tick : ℕ) → clock < tick → one_if_due clock tick ≡ 0
-late_isn't clock tick later = by (nat_le tick clock) refl
-  where
-    by : (b : Bool) → nat_le tick clock ≡ b → ◌≡◌ {A = ℕ} (if b then 1 else 0) 0
-    by true is = absurd (omega (arith, leb-true _ _ is, later))
-    by false is = refl
+late_isn't clock tick later = (elim (nat_le tick clock) as (λ b. nat_le tick clock ≡ b → ◌≡◌ {A = ℕ} (if b then 1 else 0) 0)
+    [ true ↦ λ is. absurd (omega (arith, leb-true _ _ is, later)) | false ↦ λ is. refl ]) refl
 
 module _ {C : Type 0} where
   one_later : (clock : ℕ) (f : Flight C) (flights : List (Flight C)) → clock < f.tick → due_copies clock (with_flight f flights) ≡ due_copies clock flights

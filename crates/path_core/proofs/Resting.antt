@@ -10,7 +10,7 @@ use Rattle.rtt_timer.specs.Timer.{Timer}
 use Rattle.loss_recovery.specs.declared.timers.Timing.{Timing}
 use Rattle.loss_recovery.specs.Timers as timers
 use Rattle.subflow_send.specs.declared.record.AckKind.{AckKind}
-use Rattle.subflow_send.specs.declared.record.AckKind.TheVariants.{New, Duplicate, Old, Future}
+use Rattle.subflow_send.specs.declared.record.AckKind.TheVariants.{New}
 use Rattle.subflow_send.specs.Rules.{ack_kind, sample_of, after_acknowledge}
 use Rattle.subflow_tcp.specs.declared.handshake.State.TheVariants.{Established}
 use Rattle.subflow_tcp.specs.declared.segments.Hint.{Hint}
@@ -88,12 +88,9 @@ later_isn't now rto some = late_isn't now (now + rto) (omega (arith, some))
 -- a timer that ran out isn't due any more
 pub fired_rests : (now : ℕ) (s : EndState) → 1 ≤ s.timing.rtt.rto
     → (due_timer now (after_fire now s).timing.timer ≡ 0) × (1 ≤ (after_fire now s).timing.rtt.rto)
-fired_rests now s some = by (is_sixth s)
-  where
-    by : (b : Bool) → (due_timer now (if b then after_death true s else after_expiry now s).timing.timer ≡ 0)
-        × (1 ≤ (if b then after_death true s else after_expiry now s).timing.rtt.rto)
-    by true = (refl, some)
-    by false = (later_isn't now (min 60000 (2 * s.timing.rtt.rto)) (omega (arith, some)), omega (arith, some))
+fired_rests now s some =
+    elim (is_sixth s) as (λ b. (due_timer now (if b then after_death true s else after_expiry now s).timing.timer ≡ 0) × (1 ≤ (if b then after_death true s else after_expiry now s).timing.rtt.rto))
+    [ true ↦ (refl, some) | false ↦ (later_isn't now (min 60000 (2 * s.timing.rtt.rto)) (omega (arith, some)), omega (arith, some)) ]
 
 pub settled_settles : (now : ℕ) (reason restart : Bool) (t : Timing) → 1 ≤ t.rtt.rto → Settles now t (timers.settled reason restart now t)
 settled_settles now reason restart t some = record { due = by reason (is_none t.timer || (t.news || restart)); timeout = λ more. more }
@@ -124,11 +121,7 @@ item_same s (Some (Heard.DataFin place)) e = either_same (counts e) (with_data_f
 item_same s _ e = refl
 
 pub keep_same : (s : Side) (e : PathEnd) → (after_keep s e).tcp.timing ≡ e.tcp.timing
-keep_same s e = by (is_dropped s e)
-  where
-    by : (b : Bool) → (if b then after_dropping_held e.tcp else after_keeping_held e.tcp).timing ≡ e.tcp.timing
-    by true = refl
-    by false = refl
+keep_same s e = elim (is_dropped s e) as (λ b. (if b then after_dropping_held e.tcp else after_keeping_held e.tcp).timing ≡ e.tcp.timing) [ true ↦ refl | false ↦ refl ]
 
 pub check_same : (checksums : Bool) (kept : Option KeptMapping) (e : PathEnd) → (forgotten_by checksums kept e).tcp.timing ≡ e.tcp.timing
 check_same checksums None e = refl

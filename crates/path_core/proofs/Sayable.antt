@@ -163,18 +163,12 @@ third_short c s m = (record { form = tt }, third_length m.own_key (peer_key_of m
 
 capable_short : (c : Profile) (s : Side) (e : PathEnd) → AreShort c.spelling s (capable_options c s e)
 capable_short c A e = (record { form = tt }, capable_length c.spelling.checksums false NoKey)
-capable_short c B e = by (e.modes.capable_asked && not e.modes.identity)
-  where
-    by : (asked : Bool) → AreShort c.spelling B (if asked then Capable c.spelling.checksums false (Sender e.modes.own_key) ∷ [] else [])
-    by true = (record { form = tt }, capable_length c.spelling.checksums false (Sender e.modes.own_key))
-    by false = tt
+capable_short c B e = elim (e.modes.capable_asked && not e.modes.identity) as (λ asked. AreShort c.spelling B (if asked then Capable c.spelling.checksums false (Sender e.modes.own_key) ∷ [] else []))
+    [ true ↦ (record { form = tt }, capable_length c.spelling.checksums false (Sender e.modes.own_key)) | false ↦ tt ]
 
 syn_short : (c : Profile) (s : Side) (e : PathEnd) → AreShort c.spelling s (syn_options c s e)
-syn_short c s e = by (is_joined c)
-  where
-    by : (joined : Bool) → AreShort c.spelling s (if joined then join_options c s e.modes else capable_options c s e)
-    by true = join_short c s e.modes
-    by false = capable_short c s e
+syn_short c s e = elim (is_joined c) as (λ joined. AreShort c.spelling s (if joined then join_options c s e.modes else capable_options c s e))
+    [ true ↦ join_short c s e.modes | false ↦ capable_short c s e ]
 
 key_short : (c : Profile) (s : Side) (peer : Option ℕ) (e : PathEnd) → AreShort c.spelling s (key_options c s peer e)
 key_short c A None e = tt
@@ -182,11 +176,8 @@ key_short c A (Some peer) e = (record { form = tt }, capable_length c.spelling.c
 key_short c B peer e = tt
 
 opening_short : (c : Profile) (s : Side) (e : PathEnd) → AreShort c.spelling s (opening_options c s e)
-opening_short c s e = by e.modes.owes_third
-  where
-    by : (owes : Bool) → AreShort c.spelling s (if owes then third_options e.modes else key_options c s e.modes.peer_key e)
-    by true = third_short c s e.modes
-    by false = key_short c s e.modes.peer_key e
+opening_short c s e = elim e.modes.owes_third as (λ owes. AreShort c.spelling s (if owes then third_options e.modes else key_options c s e.modes.peer_key e))
+    [ true ↦ third_short c s e.modes | false ↦ key_short c s e.modes.peer_key e ]
 
 end_short : (c : Profile) (s : Side) (fin : Option ℕ) (next : ℕ) → AreShort c.spelling s (Dss (Some next) (data_fin_mapping c s fin) ∷ [])
 end_short c s None next = (record { form = (tt, refl) }, ack_length (data_number c.spelling (peer s) next) false)
@@ -268,12 +259,8 @@ mapped_short c s r e = by (is_first_piece s r e)
     )
 
 piece_short : (c : Profile) (s : Side) (r : Record) (e : PathEnd) → AreShort c.spelling s (piece_options c s r e)
-piece_short c s r e = by e.modes.identity
-  where
-    by : (identity : Bool) → AreShort c.spelling s
-        (if identity then plain_options r.pos e else infinite_or e.modes.own_infinite (mapped_options c s r e) e)
-    by true = plain_short c s r.pos e
-    by false = either_short c s e.modes.own_infinite (mapped_options c s r e) e (mapped_short c s r e)
+piece_short c s r e = elim e.modes.identity as (λ identity. AreShort c.spelling s (if identity then plain_options r.pos e else infinite_or e.modes.own_infinite (mapped_options c s r e) e))
+    [ true ↦ plain_short c s r.pos e | false ↦ either_short c s e.modes.own_infinite (mapped_options c s r e) e (mapped_short c s r e) ]
 
 fin_short : (c : Profile) (s : Side) (position : ℕ) (e : PathEnd) → AreShort c.spelling s (fin_options position e)
 fin_short c s position e = by e.modes.identity

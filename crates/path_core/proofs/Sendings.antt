@@ -19,11 +19,9 @@ sent_count now (x ∷ xs) r e = by (is_unsent x) refl (sent_count now xs r) e
 
 pub sent_outstanding : (now una : ℕ) (rs : List Record) → outstanding una (first_unsent_sent now rs) ≡ outstanding una rs
 sent_outstanding now una [] = refl
-sent_outstanding now una (x ∷ xs) = by (is_unsent x) refl (sent_outstanding now una xs)
-  where
-    by : (b : Bool) → is_unsent x ≡ b → outstanding una (first_unsent_sent now xs) ≡ outstanding una xs → outstanding una (first_unsent_sent now (x ∷ xs)) ≡ outstanding una (x ∷ xs)
-    by true is rest = rw is refl
-    by false is rest = rw is (omega (arith, rest))
+sent_outstanding now una (x ∷ xs) =
+    (elim (is_unsent x) as (λ b. is_unsent x ≡ b → outstanding una (first_unsent_sent now xs) ≡ outstanding una xs → outstanding una (first_unsent_sent now (x ∷ xs)) ≡ outstanding una (x ∷ xs))
+    [ true ↦ λ is rest. rw is refl | false ↦ λ is rest. rw is (omega (arith, rest)) ]) refl (sent_outstanding now una xs)
 
 -- where nothing is to be sent, all is under way
 pub none_unsent : (una : ℕ) (rs : List Record) → find is_unsent rs ≡ None → (unsent_count rs ≡ 0) × (sum_by (octets_under_way una) rs ≡ outstanding una rs)
@@ -44,11 +42,8 @@ pushed_outstanding una (x ∷ xs) r = omega (arith, pushed_outstanding una xs r)
 
 -- of a piece with octets one at least isn't acknowledged
 pub some_open : (una pos len : ℕ) → 1 ≤ len → 1 ≤ len - (if nat_lt una (pos + len) then una - pos else 0)
-some_open una pos len some = by (nat_lt una (pos + len)) refl
-  where
-    by : (b : Bool) → nat_lt una (pos + len) ≡ b → 1 ≤ len - (if b then una - pos else 0)
-    by true is = omega (arith, some, ltb-true una (pos + len) is)
-    by false is = omega (arith, some)
+some_open una pos len some = (elim (nat_lt una (pos + len)) as (λ b. nat_lt una (pos + len) ≡ b → 1 ≤ len - (if b then una - pos else 0))
+    [ true ↦ λ is. omega (arith, some, ltb-true una (pos + len) is) | false ↦ λ is. omega (arith, some) ]) refl
 
 pub pushed_count : (rs : List Record) (r : Record) → is_unsent r ≡ true → unsent_count (rs ++ r ∷ []) ≡ unsent_count rs + 1
 pushed_count [] r is = rw is (omega arith)

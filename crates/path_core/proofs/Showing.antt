@@ -142,12 +142,9 @@ same_passed _ p = refl
 
 pub same_settled : (ds : List Duty) (p : PathState Carried) → settled ds (shown_path p) ≡ shown_path (settled ds p)
 same_settled [] p = refl
-same_settled (d ∷ ds) p = by (stands d p) refl (same_settled ds (passed d p))
-  where
-    by : (b : Bool) → stands d p ≡ b → settled ds (shown_path (passed d p)) ≡ shown_path (settled ds (passed d p))
-        → settled (d ∷ ds) (shown_path p) ≡ shown_path (settled (d ∷ ds) p)
-    by true is rest = rw (same_stands d p, is) refl
-    by false is rest = rw (same_stands d p, is, same_passed d p) rest
+same_settled (d ∷ ds) p =
+    (elim (stands d p) as (λ b. stands d p ≡ b → settled ds (shown_path (passed d p)) ≡ shown_path (settled ds (passed d p)) → settled (d ∷ ds) (shown_path p) ≡ shown_path (settled (d ∷ ds) p))
+    [ true ↦ λ is rest. rw (same_stands d p, is) refl | false ↦ λ is rest. rw (same_stands d p, is, same_passed d p) rest ]) refl (same_settled ds (passed d p))
 
 pub asks_the_same : (p : PathState Carried) → asks_of octets (shown_path p) ≡ asks_of values p
 asks_the_same p = by p.agenda

@@ -20,11 +20,8 @@ pub third_is_taken : (form : Option (List ℕ)) (m : Modes) (taken : Bool) → (
 third_is_taken None m true right = absurd (cc (right.0 refl))
 third_is_taken None m false right = refl
 third_is_taken (Some hmac) m true right = sym ((octets_decide hmac (hmac_of_a m)).1 (same_Some hmac (hmac_of_a m) (right.0 refl)))
-third_is_taken (Some hmac) m false right = by (pointwise ◌==◌ hmac (hmac_of_a m)) refl
-  where
-    by : (same : Bool) → pointwise ◌==◌ hmac (hmac_of_a m) ≡ same → false ≡ pointwise ◌==◌ hmac (hmac_of_a m)
-    by true is = absurd (false≢true (right.1 (ap Some ((octets_decide hmac (hmac_of_a m)).0 is))))
-    by false is = sym is
+third_is_taken (Some hmac) m false right = (elim (pointwise ◌==◌ hmac (hmac_of_a m)) as (λ same. pointwise ◌==◌ hmac (hmac_of_a m) ≡ same → false ≡ pointwise ◌==◌ hmac (hmac_of_a m))
+    [ true ↦ λ is. absurd (false≢true (right.1 (ap Some ((octets_decide hmac (hmac_of_a m)).0 is)))) | false ↦ λ is. sym is ]) refl
 
 module _ {E : Type 0} (items : List Heard) (m : Modes) (form : JoinForm) (found : join_heard JoinStep.Third items ≡ Some form) where
   pub third_is_right : (heard : Result (Unit {0}) E) → (IsOk heard ↔ (third_heard (join_value (Some form)) ≡ Some (hmac_of_a m))) → is_ok heard ≡ is_third_right items m

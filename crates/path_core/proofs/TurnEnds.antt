@@ -1,5 +1,5 @@
 -- A turn ends: each reply lowers the numbers, and settling lowers them too.
-use Rattle.path_core.proofs.Words.{◌≡◌, ◌⊎◌, inl, inr, refl, sym, ap, subst, ◌<◌, Bool, true, false, if◌then◌else◌, List, [], ◌∷◌, arith, start_of_turn, Duty}
+use Rattle.path_core.proofs.Words.{◌≡◌, ◌⊎◌, inl, inr, refl, sym, ap, subst, ◌<◌, true, false, if◌then◌else◌, List, [], ◌∷◌, arith, start_of_turn, Duty}
 use Rattle.path_core.proofs.Words.{AskDuty, StepDuty, SendDuty, SilentDuty, weights, Reply, Ending, Then, less-ends, then-ends, IsOfKind, PathState}
 use Rattle.path_core.proofs.Words.{with_agenda, Codec, stands, ask_for, passed, answered, settled, settles_down, asks_first, answers, begins_turn, Ends}
 use Rattle.path_core.proofs.Words.{TakesTime, FirstStands, IsSettled, ticks_left, due_by_now, bytes_left, sendings_left}
@@ -46,11 +46,8 @@ module _ {C : Type 0} where
 
   settled_settled : (ds : List Duty) (p : PathState C) → IsSettled (settled ds p)
   settled_settled [] p = tt
-  settled_settled (d ∷ ds) p = by (stands d p) refl (settled_settled ds (passed d p))
-    where
-      by : (b : Bool) → stands d p ≡ b → IsSettled (settled ds (passed d p)) → IsSettled (if b then with_agenda (d ∷ ds) p else settled ds (passed d p))
-      by true is rest = same_stands d ds p is
-      by false is rest = rest
+  settled_settled (d ∷ ds) p = (elim (stands d p) as (λ b. stands d p ≡ b → IsSettled (settled ds (passed d p)) → IsSettled (if b then with_agenda (d ∷ ds) p else settled ds (passed d p)))
+      [ true ↦ λ is rest. same_stands d ds p is | false ↦ λ is rest. rest ]) refl (settled_settled ds (passed d p))
 
   -- ---- the turn
 

@@ -50,13 +50,10 @@ module _ {C R : Type 0} where
 -- where no stamp is left, the asker's pass stands at the last one, or the journal is full
 pub used_up : {O C R : Type 0} (s : Journaled O C R) (pass : Pass) → last_stamp 0 s.journal < 2 ^ 62 → 2 ^ 62 ≤ next_stamp s pass
     → (2 ^ 62 - 1 ≤ pass.stamp) ⊎ HasLastStamp s.journal
-used_up s pass small high = by (leb 4611686018427387903 pass.stamp) refl
-  where
-    by : (b : Bool) → leb 4611686018427387903 pass.stamp ≡ b → (2 ^ 62 - 1 ≤ pass.stamp) ⊎ HasLastStamp s.journal
-    by true e = inl (grind (arith, nat_tests))
-    by false e =
-        let low : pass.stamp < 4611686018427387903 = grind (arith, nat_tests) in
-        inr (last_there 0 s.journal (omega arith) (omega (arith, low, small, high)))
+used_up s pass small high = (elim (leb 4611686018427387903 pass.stamp) as (λ b. leb 4611686018427387903 pass.stamp ≡ b → (2 ^ 62 - 1 ≤ pass.stamp) ⊎ HasLastStamp s.journal) [
+  | true ↦ λ e. inl (grind (arith, nat_tests))
+  | false ↦ λ e. let low : pass.stamp < 4611686018427387903 = grind (arith, nat_tests) in inr (last_there 0 s.journal (omega arith) (omega (arith, low, small, high)))
+]) refl
 
 pub used_up_then : {O C R T : Type 0} (s t : Journaled O C R) (pass : Pass) (r : Result T Refusal) → last_stamp 0 s.journal < 2 ^ 62 → OnErr r (t ≡ s)
     → (r ≡ Err Stamps → 2 ^ 62 ≤ next_stamp s pass) → r ≡ Err Stamps → (2 ^ 62 - 1 ≤ pass.stamp) ⊎ HasLastStamp t.journal

@@ -26,11 +26,7 @@ both_true false b e = cc
 code_itself : (g : Gv) → same_code g g ≡ true
 unfolding same_code
 code_itself gnil = refl
-code_itself (gnum n) = by (eqb n n) refl
-  where
-    by : (b : Bool) → eqb n n ≡ b → eqb n n ≡ true
-    by true e = e
-    by false e = absurd (grind (arith, nat_tests))
+code_itself (gnum n) = (elim (eqb n n) as (λ b. eqb n n ≡ b → eqb n n ≡ true) [ true ↦ λ e. e | false ↦ λ e. absurd (grind (arith, nat_tests)) ]) refl
 code_itself (gcons a b) = ap (λ t. t && same_code b b) (code_itself a) ∙ code_itself b
 
 code_is : (g k : Gv) → same_code g k ≡ true → g ≡ k
@@ -59,14 +55,10 @@ module _ {X : Type 0} (c : Coded X) where
 
   weighs_in : (xs : List X) (e : X) → 1 ≤ weigh (is_it e) xs → Contains xs e
   weighs_in [] e some_one = absurd (omega (arith, some_one))
-  weighs_in (x ∷ xs) e some_one = by (same_code (c.code x) (c.code e)) refl (weighs_in xs e)
-    where
-      by : (b : Bool) → same_code (c.code x) (c.code e) ≡ b → (1 ≤ weigh (is_it e) xs → Contains xs e) → Contains (x ∷ xs) e
-      by true test later = (0, omega arith, c.inj x e (code_is (c.code x) (c.code e) test))
-      by false test later =
-          let none : is_it e x ≡ 0 = ap bit test in
-          let there = later (omega (arith, some_one, none)) in
-          (suc there.0, omega (arith, there.1), there.2)
+  weighs_in (x ∷ xs) e some_one = (elim (same_code (c.code x) (c.code e)) as (λ b. same_code (c.code x) (c.code e) ≡ b → (1 ≤ weigh (is_it e) xs → Contains xs e) → Contains (x ∷ xs) e) [
+    | true ↦ λ test later. (0, omega arith, c.inj x e (code_is (c.code x) (c.code e) test))
+    | false ↦ λ test later. let none : is_it e x ≡ 0 = ap bit test in let there = later (omega (arith, some_one, none)) in (suc there.0, omega (arith, there.1), there.2)
+  ]) refl (weighs_in xs e)
 
   -- what weighs the same has the same members
   pub same_members : (xs ys : List X) → ((h : X → ℕ) → weigh h xs ≡ weigh h ys) → (e : X) → Contains xs e → Contains ys e

@@ -133,7 +133,8 @@ module _ {O C R : Type 0} (start : Journaled O C R) where
       let holders : weigh (λ u. length u.took) s.views ≡ length v.took =
       weigh-alone (λ u. length u.took) (λ u. u.parts) s.views seat v at (omega (arith, all, kept.parts))
       (λ other u there none. ap length ((kept.fits other u there).ended none).1) in
-      let home : kept.out ≡ false = at_home kept.out (omega (arith, holders, kept.holders, ap length at_rest.took)) in
+      let home : kept.out ≡ false = (elim kept.out as (λ b. bit b ≡ 0 → b ≡ false)
+      [ true ↦ λ e. absurd (omega (arith, e)) | false ↦ λ e. refl ]) (omega (arith, holders, kept.holders, ap length at_rest.took)) in
       record {
         log = kept.log;
         home = f.4 0 (Some (grown start kept.log)) (ap (λ hs. get_elem? hs 0) (kept.homes ∙ ap (λ b. homed b (grown start kept.log)) home));
@@ -144,10 +145,6 @@ module _ {O C R : Type 0} (start : Journaled O C R) where
             sym mine ∙ kept.own h);
         full = here.full;
       }
-    where
-      at_home : (b : Bool) → bit b ≡ 0 → b ≡ false
-      at_home true e = absurd (omega (arith, e))
-      at_home false e = refl
 
   -- the same, beside what else is known of the words and slots
   pub closes_by : {A B : Type 0} (seat : ℕ) (v : View (Journaled O C R) (Entry C R)) (ws : List ℕ) (xs : List (Option (Journaled O C R))) → 1024 ≤ v.parts → IsAtRest v

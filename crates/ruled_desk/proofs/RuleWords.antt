@@ -92,13 +92,9 @@ module _ {O C R : Type 0} where
       → (kept.first ≤ n) × (n < kept.first + kept.count)
   waits-among start s kept seat v n at waits =
       let here : weigh (λ k. bit (eqb k n)) v.tickets ≡ bit (eqb n n) + 0 = ap (weigh (λ k. bit (eqb k n))) waits in
-      let same : bit (eqb n n) ≡ 1 = itself (eqb n n) refl in
+      let same : bit (eqb n n) ≡ 1 = (elim (eqb n n) as (λ b. eqb n n ≡ b → bit b ≡ 1) [ true ↦ λ e. refl | false ↦ λ e. absurd (grind (arith, nat_tests)) ]) refl in
       let one = weigh-one (λ u. weigh (λ k. bit (eqb k n)) u.tickets) s.views seat v at in
       span-in n kept.first kept.count (omega (arith, one, here, same, kept.tickets (λ k. bit (eqb k n))))
-    where
-      itself : (b : Bool) → eqb n n ≡ b → bit b ≡ 1
-      itself true e = refl
-      itself false e = absurd (grind (arith, nat_tests))
 
 -- the ticket that is served is the first of those that wait, where it is among them, and the book is at home
 pub first-turn : (serving first n : ℕ) (out : Bool) → (serving + bit out) % 2 ^ 64 ≡ first % 2 ^ 64 → serving ≡ n % 2 ^ 64 → first ≤ n → n < first + 1024

@@ -155,29 +155,20 @@ line_places parts line e =
 
 -- where the parts have no place, the line has no form
 line_lost : (parts : List Part) → place 1 [] parts ≡ None → line_of_parts parts ≡ None
-line_lost parts e = go (line_of_parts parts) refl
-  where
-    go : (o : Option Line) → line_of_parts parts ≡ o → o ≡ None
-    go None h = refl
-    go (Some line) h = let p = line_places parts line h in absurd (some≢none p.0 (sym e ∙ p.1))
+line_lost parts e = (elim (line_of_parts parts) as (λ o. line_of_parts parts ≡ o → o ≡ None)
+    [ None ↦ λ h. refl | Some line ↦ λ h. let p = line_places parts line h in absurd (some≢none p.0 (sym e ∙ p.1)) ]) refl
 
 -- ---- what `clap` answers
 
 pub words_taken : (words : List Text) (rows : List Row) → found_in words ≡ Some rows → line_of words ≡ line_by (λ id. first_of id rows)
 unfolding line_of
-words_taken words rows e = go (parts_of None words) e
-  where
-    go : (o : Option (List Part)) → (o >>= place 1 []) ≡ Some rows → (o >>= line_of_parts) ≡ line_by (λ id. first_of id rows)
-    go None h = absurd (some≢none rows h)
-    go (Some parts) h = line_found parts rows h
+words_taken words rows e = (elim (parts_of None words) as (λ o. (o >>= place 1 []) ≡ Some rows → (o >>= line_of_parts) ≡ line_by (λ id. first_of id rows))
+    [ None ↦ λ h. absurd (some≢none rows h) | Some parts ↦ λ h. line_found parts rows h ]) e
 
 pub words_refused : (words : List Text) → found_in words ≡ None → line_of words ≡ None
 unfolding line_of
-words_refused words e = go (parts_of None words) e
-  where
-    go : (o : Option (List Part)) → (o >>= place 1 []) ≡ None → (o >>= line_of_parts) ≡ None
-    go None h = refl
-    go (Some parts) h = line_lost parts h
+words_refused words e = (elim (parts_of None words) as (λ o. (o >>= place 1 []) ≡ None → (o >>= line_of_parts) ≡ None)
+    [ None ↦ λ h. refl | Some parts ↦ λ h. line_lost parts h ]) e
 
 abbrev any_kind : Kinds → Bool
 any_kind [] = false

@@ -53,12 +53,8 @@ tried_or_new path (x ∷ ms) i m first e = by_new (is_untouched x) refl first (�
 acked_at : (path n place : ℕ) (ms : List ByteMark) → AreAcked n ms → place < n → spent path (slice_get ms place) ≡ true
 acked_at path n place [] are below = absurd (omega (arith, are, below))
 acked_at path zero place (m ∷ ms) are below = absurd (omega (arith, below))
-acked_at path (suc n) zero (m ∷ ms) are below = is_spent m are.0
-  where
-    is_spent : (m : ByteMark) → is_acked m ≡ true → spent path (Some m) ≡ true
-    is_spent Acked e = refl
-    is_spent (Held holder tried) e = cc
-    is_spent (Free tried) e = cc
+acked_at path (suc n) zero (m ∷ ms) are below = (elim m as (λ m. is_acked m ≡ true → spent path (Some m) ≡ true)
+    [ Acked ↦ λ e. refl | Held holder tried ↦ λ e. cc | Free tried ↦ λ e. cc ]) are.0
 acked_at path (suc n) (suc place) (m ∷ ms) are below = acked_at path n place ms are.1 (omega (arith, below))
 
 module _ (f : Flags) (s : Sending) (b : Arriving) (send : SendHolds s (view_of f s b)) (path pos : ℕ) (p : Lane) (h : LaneHolds (view_of f s b) path p) (may : may_go path pos s p ≡ true) where

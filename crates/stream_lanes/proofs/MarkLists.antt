@@ -47,13 +47,10 @@ pub count_grows : (path : ℕ) (ms ns : List ByteMark)
     → ((place : ℕ) → spent path (slice_get ms place) ≡ true → spent path (slice_get ns place) ≡ true) → spent_count path ms ≤ spent_count path ns
 count_grows path [] ns h = omega arith
 count_grows path (m ∷ ms) [] h =
-    let none : spent path (Some m) ≡ false = at (spent path (Some m)) refl in
+    let none : spent path (Some m) ≡ false = (elim (spent path (Some m)) as (λ b. spent path (Some m) ≡ b → b ≡ false)
+    [ true ↦ λ e. absurd (both_ways false refl (h 0 e)) | false ↦ λ e. refl ]) refl in
     let rest = count_grows path ms [] (λ place e. h (suc place) e) in
     omega (arith, sum_by-cons (λ (x : ByteMark). cond (spent path (Some x)) 1 0) m ms, ap (λ b. cond {A = ℕ} b 1 0) none, rest)
-  where
-    at : (b : Bool) → spent path (Some m) ≡ b → b ≡ false
-    at true e = absurd (both_ways false refl (h 0 e))
-    at false e = refl
 count_grows path (m ∷ ms) (n ∷ ns) h =
     let rest = count_grows path ms ns (λ place e. h (suc place) e) in
     let head : cond {A = ℕ} (spent path (Some m)) 1 0 ≤ cond {A = ℕ} (spent path (Some n)) 1 0 = at (spent path (Some m)) (spent path (Some n)) (h 0) in
@@ -182,11 +179,7 @@ given_acked path (Free tried) = refl
 
 returned_acked : (path : ℕ) (m : ByteMark) → is_acked (returned path m) ≡ is_acked m
 returned_acked path Acked = refl
-returned_acked path (Held holder tried) = at (holder == path)
-  where
-    at : (b : Bool) → is_acked (if b then Free tried else Held holder tried) ≡ false
-    at true = refl
-    at false = refl
+returned_acked path (Held holder tried) = elim (holder == path) as (λ b. is_acked (if b then Free tried else Held holder tried) ≡ false) [ true ↦ refl | false ↦ refl ]
 returned_acked path (Free tried) = refl
 
 pub AreAcked-given : (path n : ℕ) (span : Span) (ms : List ByteMark) → span.from ≤ span.to → AreAcked n ms → AreAcked n (change_part (given path) span ms)
@@ -279,23 +272,18 @@ grant_first path max standby b span e =
 -- a book that was given to a path alone grants to it alone
 pub grant_owner : (path k max : ℕ) (standby : Bool) (b : Sending) (span : Span) → decision path max standby b ≡ Ok span → b.owner ≡ Some k → k ≡ path
 grant_owner path k max standby b span e owned =
-    at (first_free path b) refl (passed standby Backup _ span (passed _ Ended _ span e))
+    (elim (first_free path b) as (λ o. first_free path b ≡ o → span_at path max b o ≡ Ok span → k ≡ path)
+    [ None ↦ λ is h. cc | Some from ↦ λ is h. mine (is_for path b.owner) refl from is ]) refl (passed standby Backup _ span (passed _ Ended _ span e))
   where
     mine : (o : Bool) → is_for path b.owner ≡ o → (from : ℕ) → (if o then position (is_free_for path) b.marks else None) ≡ Some from → k ≡ path
     mine true is from h = eqb-true k path (sym (ap (is_for path) owned) ∙ is)
     mine false is from h = cc
 
-    at : (o : Option ℕ) → first_free path b ≡ o → span_at path max b o ≡ Ok span → k ≡ path
-    at None is h = cc
-    at (Some from) is h = mine (is_for path b.owner) refl from is
-
 -- a place that passes is one of the list
 pub position_within : {X : Type 0} (test : X → Bool) (xs : List X) (from : ℕ) → position test xs ≡ Some from → from < length xs
-position_within test xs from e = at (nat_lt (position_or_len test xs) (length xs)) refl e
-  where
-    at : (b : Bool) → nat_lt (position_or_len test xs) (length xs) ≡ b → cond b (Some (position_or_len test xs)) None ≡ Some from → from < length xs
-    at true is h = let same : position_or_len test xs ≡ from = cc in omega (arith, same, ltb-true _ _ is)
-    at false is h = cc
+position_within test xs from e =
+    (elim (nat_lt (position_or_len test xs) (length xs)) as (λ b. nat_lt (position_or_len test xs) (length xs) ≡ b → cond b (Some (position_or_len test xs)) None ≡ Some from → from < length xs)
+    [ true ↦ λ is h. let same : position_or_len test xs ≡ from = cc in omega (arith, same, ltb-true _ _ is) | false ↦ λ is h. cc ]) refl e
 
 -- where the bytes below n are spent and the others new, that is byte n
 pub grant_is_next : (path n from : ℕ) (ms : List ByteMark) → position (is_free_for path) ms ≡ Some from
@@ -362,13 +350,9 @@ new_count path (suc n) (m ∷ ms) new =
     omega (
       arith,
       sum_by-cons (λ (x : ByteMark). cond (spent path (Some x)) 1 0) m ms,
-      at (spent path (Some m)),
+      (elim (spent path (Some m)) as (λ b. cond {A = ℕ} b 1 0 ≤ 1) [ true ↦ omega arith | false ↦ omega arith ]),
       new_count path n ms (λ place mark above e. new (suc place) mark (omega (arith, above)) e),
     )
-  where
-    at : (b : Bool) → cond {A = ℕ} b 1 0 ≤ 1
-    at true = omega arith
-    at false = omega arith
 
 pub spent_upto : (path n : ℕ) (ms : List ByteMark) → ((place : ℕ) → place < n → spent path (slice_get ms place) ≡ true) → n ≤ spent_count path ms
 spent_upto path zero ms each = omega arith
@@ -413,19 +397,13 @@ tried-written path place count ms is = ⊎_elim
 
 returned_tried : (path k : ℕ) (m : ByteMark) → has_tried k (returned path m) ≡ has_tried k m
 returned_tried path k Acked = refl
-returned_tried path k (Held holder paths) = at (holder == path)
-  where
-    at : (b : Bool) → has_tried k (if b then Free paths else Held holder paths) ≡ contains k paths
-    at true = refl
-    at false = refl
+returned_tried path k (Held holder paths) = elim (holder == path) as (λ b. has_tried k (if b then Free paths else Held holder paths) ≡ contains k paths)
+    [ true ↦ refl | false ↦ refl ]
 returned_tried path k (Free paths) = refl
 
 pub tried-returned : (path k place : ℕ) (ms : List ByteMark) → tried k (slice_get (map (returned path) ms) place) ≡ true → tried k (slice_get ms place) ≡ true
-tried-returned path k place ms is = at (slice_get ms place) (ap (tried k) (sym (slice_get-map (returned path) ms place)) ∙ is)
-  where
-    at : (o : Option ByteMark) → tried k (option_map (returned path) o) ≡ true → tried k o ≡ true
-    at None e = e
-    at (Some m) e = sym (returned_tried path k m) ∙ e
+tried-returned path k place ms is = (elim (slice_get ms place) as (λ o. tried k (option_map (returned path) o) ≡ true → tried k o ≡ true)
+    [ None ↦ λ e. e | Some m ↦ λ e. sym (returned_tried path k m) ∙ e ]) (ap (tried k) (sym (slice_get-map (returned path) ms place)) ∙ is)
 
 pub tried-acked : (path place next c : ℕ) (ms : List ByteMark) → c ≡ min next (length ms) → tried path (slice_get (replicate c Acked ++ drop next ms) place) ≡ true
     → tried path (slice_get ms place) ≡ true
@@ -490,11 +468,8 @@ held-written count ms h = Every-append h (record { each = λ i m e. ap is_held_r
 
 returned_held : (path : ℕ) (m : ByteMark) → is_held_rightly m ≡ true → is_held_rightly (returned path m) ≡ true
 returned_held path Acked h = refl
-returned_held path (Held holder paths) h = at (holder == path)
-  where
-    at : (b : Bool) → is_held_rightly (if b then Free paths else Held holder paths) ≡ true
-    at true = refl
-    at false = h
+returned_held path (Held holder paths) h = elim (holder == path) as (λ b. is_held_rightly (if b then Free paths else Held holder paths) ≡ true)
+    [ true ↦ refl | false ↦ h ]
 returned_held path (Free paths) h = refl
 
 given_held : (path : ℕ) (m : ByteMark) → is_held_rightly m ≡ true → is_held_rightly (given path m) ≡ true

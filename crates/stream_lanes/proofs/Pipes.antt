@@ -89,14 +89,11 @@ module _ (f : Flags) (d : Direction) (h : DirectionHolds f d) where
 
   infinite_moves : (path pos : ℕ) (o : Option Lane) → IsOneStepOrNone d (goes_infinite path pos o d)
   infinite_moves path pos None = stays refl
-  infinite_moves path pos (Some p) = by_may (may_go path pos d.send p)
+  infinite_moves path pos (Some p) = elim (may_go path pos d.send p) as (λ may. IsOneStepOrNone d (if may then record d { send = after_send d.send (GoInfiniteBook path); lanes = lanes } else d))
+      [ true ↦ gives_moves path lanes (is_gathered path d.send) | false ↦ stays refl ]
     where
       lanes : List Lane
       lanes = set d.lanes path (record p { pair = Some (record { pos = pos; place = acked_len d.send.marks }) })
-
-      by_may : (may : Bool) → IsOneStepOrNone d (if may then record d { send = after_send d.send (GoInfiniteBook path); lanes = lanes } else d)
-      by_may true = gives_moves path lanes (is_gathered path d.send)
-      by_may false = stays refl
 
   grant_moves : (path max : ℕ) (standby : Bool) (lanes : List Lane) (r : Result Span Why) → decision path max standby d.send ≡ r
       → IsOneStepOrNone d (record d { send = given_by path r d.send; lanes = lanes })
@@ -160,7 +157,9 @@ module _ (f : Flags) (d : Direction) (h : DirectionHolds f d) where
 
   -- a read is one step of the pipe, tells the end, or is none
   reads_moves : (max : ℕ) → is_done d.reader ≡ false → IsOneStepOrNone d (reads max d)
-  reads_moves max goes = by_abort d.arrived.aborted
+  reads_moves max goes =
+      elim d.arrived.aborted as (λ o. IsOneStepOrNone d (record d { arrived = if is_some o then d.arrived else after_reading max d.arrived; reader = takes_read (reading o max d.arrived) d.reader }))
+      [ None ↦ by_bytes (take max (filled d.arrived.places)) refl | Some by_peer ↦ stays refl ]
     where
       untold : d.reader.told ≡ false
       untold = (or_parts d.reader.told d.reader.stopped goes).0
@@ -195,11 +194,6 @@ module _ (f : Flags) (d : Direction) (h : DirectionHolds f d) where
             becomes = ap (λ n. pipe d.send.written d.send.closed (d.arrived.read + n) (acked_len d.send.marks) d.reader.told) (sym count);
             tells = tt;
           })
-
-      by_abort : (o : Option Bool)
-          → IsOneStepOrNone d (record d { arrived = if is_some o then d.arrived else after_reading max d.arrived; reader = takes_read (reading o max d.arrived) d.reader })
-      by_abort None = by_bytes (take max (filled d.arrived.places)) refl
-      by_abort (Some by_peer) = stays refl
 
   read_at_moves : (max : ℕ) (done : Bool) → is_done d.reader ≡ done → IsOneStepOrNone d (if done then d else reads max d)
   read_at_moves max true is = stays refl

@@ -4,7 +4,7 @@ use Rattle.std.specs.Prelude.{◌&&◌, ◌||◌, ◌==◌}
 use Rattle.std.proofs.lemmas.Bool.{ltb-true, leb-false}
 use Rattle.subflow_tcp.specs.declared.handshake.State.{State}
 use Rattle.subflow_tcp.specs.declared.verdicts.Meaning.{Meaning}
-use Rattle.subflow_tcp.specs.States.{is_behind_fin, is_half_open, may_finish}
+use Rattle.subflow_tcp.specs.States.{is_behind_fin, is_half_open}
 use Rattle.subflow_tcp.specs.State.{EndState, IsFinTold, is_at_limit}
 use Rattle.subflow_tcp.specs.Segments.{Copy, occupied}
 use Rattle.subflow_tcp.specs.Judging.{is_syn_alone, is_repeated_syn, is_in_window, ends_in_window, is_at_right_edge, is_acceptable, meaning_outside, meaning_acknowledging, meaning_within, meaning_placed, meaning_connected, meaning_answer, meaning_answering, meaning_opening, meaning_at, meaning_of, IsBelow}
@@ -168,11 +168,8 @@ stays-meant State.TimeWait c s e = at-connected OpensNothing each-stays c s
 -- so the FIN of an end that opens isn't pushed
 pub open-meant : (c : Copy) (s : EndState) (meaning : Meaning) → IsFinTold s.send.finished s.state → meaning ≡ meaning_of c s → (OpensNothing meaning → ⊥)
     → s.send.finished ≡ false
-open-meant c s meaning told e opens = by s.send.finished told
-  where
-    by : (b : Bool) → IsFinTold b s.state → b ≡ false
-    by false h = refl
-    by true h = absurd (opens (subst OpensNothing (sym e) (stays-meant s.state c s h)))
+open-meant c s meaning told e opens = (elim s.send.finished as (λ b. IsFinTold b s.state → b ≡ false)
+    [ false ↦ λ h. refl | true ↦ λ h. absurd (opens (subst OpensNothing (sym e) (stays-meant s.state c s h))) ]) told
 
 -- ---- a payload that is kept first
 abbrev beside : List (Option ℕ) → Option (List (Option ℕ)) → EndState → EndState

@@ -383,16 +383,14 @@ round_stands start w trace h = by (all_over w.crew) refl
 
 turn_stands : (start : Start) (turn : Turn) (w : WorldState (List ℕ)) (trace : List Sent) → BooksFit start w → MomentFacts start (after_turn octets turn w) → Stands start trace w
     → Stands start (trace ++ sent_at turn w) (after_turn octets turn w)
-turn_stands start (Turn.Step i) w trace fit later h = by (slice_get w.crew i) refl later
+turn_stands start (Turn.Step i) w trace fit later h =
+    (elim (slice_get w.crew i) as (λ o. slice_get w.crew i ≡ o → MomentFacts start (stepped octets i o w) → Stands start (trace ++ option_to_list (sent_next i w)) (stepped octets i o w))
+    [ None ↦ λ there later. more_stands start trace (option_to_list (sent_next i w)) w h | Some c ↦ λ there later. at c (member_asks octets c.member) there refl later ]) refl later
   where
     at : (c : ActorCrew (List ℕ)) (o : Option Ask) → slice_get w.crew i ≡ Some c → member_asks octets c.member ≡ o → MomentFacts start (asked octets i o c w)
         → Stands start (trace ++ option_to_list (sent_next i w)) (asked octets i o c w)
     at c None there asks later = more_stands start trace (option_to_list (sent_next i w)) w h
     at c (Some ask) there asks later = step_stands start i ask c w trace fit later there asks h
-
-    by : (o : Option (ActorCrew (List ℕ))) → slice_get w.crew i ≡ o → MomentFacts start (stepped octets i o w) → Stands start (trace ++ option_to_list (sent_next i w)) (stepped octets i o w)
-    by None there later = more_stands start trace (option_to_list (sent_next i w)) w h
-    by (Some c) there later = at c (member_asks octets c.member) there refl later
 turn_stands start Turn.Round w trace fit later h = round_stands start w (trace ++ []) (more_stands start trace [] w h)
 
 run_stands : (start : Start) (turns : List Turn) (w : WorldState (List ℕ)) (trace : List Sent) → ((more : List Turn) → BooksFit start (world_run octets more w)) → Stands start trace w
@@ -494,11 +492,8 @@ trace_append (x ∷ xs) ys w =
 
 -- what was granted before a round's end was granted
 granted_before : (s : Side) (place : ℕ) (w : WorldState (List ℕ)) → WasGranted s place (end_round w).crew → WasGranted s place w.crew
-granted_before s place w h = by (all_over w.crew) h
-  where
-    by : (b : Bool) → WasGranted s place (if b then record w { crew = map (begins (greatest 0 w.crew)) w.crew } else w).crew → WasGranted s place w.crew
-    by true h = let same = same_from s h.path place (greatest 0 w.crew) 0 w.crew in let was = h.granted in record { path = h.path; granted = omega (arith, same, was) }
-    by false h = h
+granted_before s place w h = (elim (all_over w.crew) as (λ b. WasGranted s place (if b then record w { crew = map (begins (greatest 0 w.crew)) w.crew } else w).crew → WasGranted s place w.crew)
+    [ true ↦ λ h. let same = same_from s h.path place (greatest 0 w.crew) 0 w.crew in let was = h.granted in record { path = h.path; granted = omega (arith, same, was) } | false ↦ λ h. h ]) h
 
 -- what was granted by the end of a round was sent
 granted_sent : (start : Start) (trace : List Sent) (w : WorldState (List ℕ)) → Stands start trace w → all_over w.crew ≡ true → (s : Side) (place : ℕ) → WasGranted s place w.crew

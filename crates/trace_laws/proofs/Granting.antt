@@ -113,12 +113,10 @@ Grants _ d place = ⊥
 
 module _ (f : Flags) (d : Direction) (holds : DirectionHolds f d) where
   whole_piece : (path most : ℕ) (standby : Bool) → 1 ≤ most → IsWholePiece (send_reply d.send (SendCall.Grant path most standby))
-  whole_piece path most standby some = by (send_reply d.send (SendCall.Grant path most standby)) refl
-    where
-      by : (r : SendReply) → send_reply d.send (SendCall.Grant path most standby) ≡ r → IsWholePiece r
-      by (SendReply.Granted span piece) is =
-          let piece_is = granted_pieces_are_whole d.send path most standby span piece (records_fit f d holds).tile some is in (piece_is.whole, piece_is.some)
-      by _ is = tt
+  whole_piece path most standby some = (elim (send_reply d.send (SendCall.Grant path most standby)) as (λ r. send_reply d.send (SendCall.Grant path most standby) ≡ r → IsWholePiece r) [
+    | SendReply.Granted span piece ↦ λ is. let piece_is = granted_pieces_are_whole d.send path most standby span piece (records_fit f d holds).tile some is in (piece_is.whole, piece_is.some)
+    | _ ↦ λ is. tt
+  ]) refl
 
   grant_adds : (path most : ℕ) (standby : Bool) (p : Lane) → slice_get d.lanes path ≡ Some p → p.asking ≡ AskGrant most standby
       → Adds (Grants (SendCall.Grant path most standby) d) d (asks_at path (Some p) d)
@@ -250,16 +248,10 @@ call_grows B (Ask.Local step) call d holds is = subst (λ x. Grows B (AskGrants 
 
 -- the same books answer the same
 same_grants : (s : Side) (ask : Ask) (d e : Duo) (place : ℕ) → ((r : Side) → (way r e).send ≡ (way r d).send) → AskGrants s ask e place → AskGrants s ask d place
-same_grants A (Ask.Send A c) d e place same h = same_in c h
-  where
-    same_in : (c : SendCall) → Grants c e.ab place → Grants c d.ab place
-    same_in (SendCall.Grant path most standby) h = subst (λ send. covers place (send_reply send (SendCall.Grant path most standby)) ≡ true) (same A) h
-    same_in _ h = h
-same_grants B (Ask.Send B c) d e place same h = same_in c h
-  where
-    same_in : (c : SendCall) → Grants c e.ba place → Grants c d.ba place
-    same_in (SendCall.Grant path most standby) h = subst (λ send. covers place (send_reply send (SendCall.Grant path most standby)) ≡ true) (same B) h
-    same_in _ h = h
+same_grants A (Ask.Send A c) d e place same h = (elim c as (λ c. Grants c e.ab place → Grants c d.ab place)
+    [ SendCall.Grant path most standby ↦ λ h. subst (λ send. covers place (send_reply send (SendCall.Grant path most standby)) ≡ true) (same A) h | _ ↦ λ h. h ]) h
+same_grants B (Ask.Send B c) d e place same h = (elim c as (λ c. Grants c e.ba place → Grants c d.ba place)
+    [ SendCall.Grant path most standby ↦ λ h. subst (λ send. covers place (send_reply send (SendCall.Grant path most standby)) ≡ true) (same B) h | _ ↦ λ h. h ]) h
 same_grants A (Ask.Send B c) d e place same h = h
 same_grants B (Ask.Send A c) d e place same h = h
 same_grants A (Ask.Reassembly r c) d e place same h = h

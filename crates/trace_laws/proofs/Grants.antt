@@ -122,11 +122,8 @@ turn_grants s place (Turn.Step actor) d w same h = by (slice_get w.crew actor) r
     by None there (inr new) = absurd new
     by (Some c) there h = at c (member_asks values c.member) there h
 turn_grants s place Turn.Round d w same (inr new) = absurd new
-turn_grants s place Turn.Round d w same (inl old) = by (all_over w.crew)
-  where
-    by : (b : Bool) → WasGranted s place (if b then record w { crew = map (begins (greatest 0 w.crew)) w.crew } else w).crew
-    by true = let same = same_from s old.path place (greatest 0 w.crew) 0 w.crew in let was = old.granted in record { path = old.path; granted = omega (arith, same, was) }
-    by false = old
+turn_grants s place Turn.Round d w same (inl old) = elim (all_over w.crew) as (λ b. WasGranted s place (if b then record w { crew = map (begins (greatest 0 w.crew)) w.crew } else w).crew)
+    [ true ↦ let same = same_from s old.path place (greatest 0 w.crew) 0 w.crew in let was = old.granted in record { path = old.path; granted = omega (arith, same, was) } | false ↦ old ]
 
 -- ---- every list of turns
 

@@ -155,11 +155,9 @@ steady_without base x empty = by (meaning_in x) refl
 -- ---- the place of a mapping
 
 low_is : (spelling : Spelling) (side : Side) (place : ℕ) → low_number (data_number spelling side place) ≡ whole_number spelling side place % 2 ^ 32
-low_is spelling side place = by spelling.short
-  where
-    by : (b : Bool) → low_number (if b then Low (whole_number spelling side place % 2 ^ 32) else Whole (whole_number spelling side place)) ≡ whole_number spelling side place % 2 ^ 32
-    by true = refl
-    by false = refl
+low_is spelling side place =
+    elim spelling.short as (λ b. low_number (if b then Low (whole_number spelling side place % 2 ^ 32) else Whole (whole_number spelling side place)) ≡ whole_number spelling side place % 2 ^ 32)
+    [ true ↦ refl | false ↦ refl ]
 
 number_back : (idsn place : ℕ) → behind ((idsn + (place + 1)) % 2 ^ 64 % 2 ^ 32) ((idsn % 2 ^ 32 + 1) % 2 ^ 32) ≡ place % 2 ^ 32
 number_back idsn place = omega arith

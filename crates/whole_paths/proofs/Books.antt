@@ -1,14 +1,12 @@
 -- What each call makes of a book is as far as the book was.
-use Rattle.std.proofs.Common.{◌≡◌, refl, sym, ◌∙◌, ap, ℕ, ◌+◌, ◌≤◌, ◌==◌, ◌||◌, nat_lt, min, max, Bool, true, false, if◌then◌else◌, is_some, Option, Some, None, Result, Ok, Err, List, [], ◌∷◌, ◌++◌, length, take, drop, replicate, le_refl, arith}
+use Rattle.std.proofs.Common.{◌≡◌, refl, sym, ◌∙◌, ap, ℕ, ◌+◌, ◌≤◌, ◌==◌, ◌||◌, nat_lt, min, max, Bool, true, false, if◌then◌else◌, is_some, Option, Some, None, Ok, Err, List, [], ◌∷◌, ◌++◌, length, take, drop, replicate, le_refl, arith}
 use Rattle.std.proofs.lemmas.Bool.{or_left, eqb-true}
 use Rattle.std.proofs.lemmas.List.{append-nil, append_assoc}
 use Rattle.octet_text.specs.Prefix.{IsPrefix}
 use Rattle.sides.specs.declared.side.Side.{Side}
 use Rattle.sides.specs.declared.side.Side.TheVariants.{A, B}
-use Rattle.send_book.specs.declared.call.Span.{Span}
 use Rattle.send_book.specs.declared.call.SendCall.{SendCall}
 use Rattle.send_book.specs.declared.call.SendCall.TheVariants as send_calls
-use Rattle.send_book.specs.declared.call.Why.{Why}
 use Rattle.send_book.specs.declared.mark.ByteMark.TheVariants.{Acked, Free}
 use Rattle.send_book.specs.Tried.{no_paths}
 use Rattle.send_book.specs.Laws.{IsAckedAt}
@@ -66,16 +64,12 @@ module _ (b : Sending) where
         edge = le_refl b.edge;
         fin = λ is. is;
       }
-  send_up send_calls.Close = by b.aborted (acks_stay send_calls.Close)
-    where
-      by : (x : Bool) → Acks (if x then b else record b { closed = true }) → IsSendAsFar b (if x then b else record b { closed = true })
-      by true acks = marks_alone b refl refl refl refl acks
-      by false acks = record { written = prefix_stays b.written; closed = λ is. refl; acknowledged = acks; edge = le_refl b.edge; fin = λ is. is }
-  send_up (send_calls.Grant path most standby) = by (decision path most standby b) (acks_stay (send_calls.Grant path most standby))
-    where
-      by : (r : Result Span Why) → Acks (given_by path r b) → IsSendAsFar b (given_by path r b)
-      by (Ok span) acks = marks_alone _ refl refl refl refl acks
-      by (Err why) acks = marks_alone b refl refl refl refl acks
+  send_up send_calls.Close = (elim b.aborted as (λ x. Acks (if x then b else record b { closed = true }) → IsSendAsFar b (if x then b else record b { closed = true })) [
+    | true ↦ λ acks. marks_alone b refl refl refl refl acks
+    | false ↦ λ acks. record { written = prefix_stays b.written; closed = λ is. refl; acknowledged = acks; edge = le_refl b.edge; fin = λ is. is }
+  ]) (acks_stay send_calls.Close)
+  send_up (send_calls.Grant path most standby) = (elim (decision path most standby b) as (λ r. Acks (given_by path r b) → IsSendAsFar b (given_by path r b))
+      [ Ok span ↦ λ acks. marks_alone _ refl refl refl refl acks | Err why ↦ λ acks. marks_alone b refl refl refl refl acks ]) (acks_stay (send_calls.Grant path most standby))
   send_up (send_calls.AckIn next window) = by (is_future next b) (acks_stay (send_calls.AckIn next window))
     where
       acked : Sending
@@ -94,11 +88,8 @@ module _ (b : Sending) where
         edge = omega arith;
         fin = λ is. or_left b.fin (nat_lt (length b.written) next) is;
       }
-  send_up (send_calls.GoInfinite path) = by (is_gathered path b) (acks_stay (send_calls.GoInfinite path))
-    where
-      by : (x : Bool) → Acks (if x then record b { owner = Some path } else b) → IsSendAsFar b (if x then record b { owner = Some path } else b)
-      by true acks = marks_alone _ refl refl refl refl acks
-      by false acks = marks_alone b refl refl refl refl acks
+  send_up (send_calls.GoInfinite path) = (elim (is_gathered path b) as (λ x. Acks (if x then record b { owner = Some path } else b) → IsSendAsFar b (if x then record b { owner = Some path } else b))
+      [ true ↦ λ acks. marks_alone _ refl refl refl refl acks | false ↦ λ acks. marks_alone b refl refl refl refl acks ]) (acks_stay (send_calls.GoInfinite path))
   send_up (send_calls.Return path) = marks_alone _ refl refl refl refl (acks_stay (send_calls.Return path))
   send_up send_calls.GoIdentity = marks_alone _ refl refl refl refl (acks_stay send_calls.GoIdentity)
   send_up send_calls.Abort = marks_alone _ refl refl refl refl (acks_stay send_calls.Abort)
@@ -139,12 +130,8 @@ module _ (b : Arriving) where
   end_stays : (at : ℕ) (o : Option ℕ) (place : ℕ) → o ≡ Some place → b.known_end ≡ o
       → (if is_some (fin_clash o at b) then b else record b { known_end = Some at }).known_end ≡ Some place
   end_stays at None place is known = cc
-  end_stays at (Some e) place is known = by (e == at) refl
-    where
-      by : (x : Bool) → (e == at) ≡ x
-          → (if is_some (if x then None else Some e) then b else record b { known_end = Some at }).known_end ≡ Some place
-      by true same = ap (λ n. Some n) (sym (eqb-true e at same)) ∙ is
-      by false same = known ∙ is
+  end_stays at (Some e) place is known = (elim (e == at) as (λ x. (e == at) ≡ x → (if is_some (if x then None else Some e) then b else record b { known_end = Some at }).known_end ≡ Some place)
+      [ true ↦ λ same. ap (λ n. Some n) (sym (eqb-true e at same)) ∙ is | false ↦ λ same. known ∙ is ]) refl
 
   pub arrival_up : (call : ReassemblyCall) → IsArrivalAsFar b (arriving.after_call b call)
   arrival_up (reassembly_calls.Place at bytes) = by (is_taken at bytes b)

@@ -130,11 +130,8 @@ opened_steps now (Some keys) e = subflow_goes now e _ refl (by e.tcp.state refl)
     by _ is = none
 
 joining_steps : (now window : ℕ) (s : EndState) → SubflowSteps now s (after_joining_syn window s)
-joining_steps now window s = by s.state refl
-  where
-    by : (state : EndPhase) → s.state ≡ state → SubflowSteps now s (if is_listening state then after_syn (unkept None) (syn_alone window) s else s)
-    by phase.Listen is = one now s _ (joins window is)
-    by _ is = none
+joining_steps now window s = (elim s.state as (λ state. s.state ≡ state → SubflowSteps now s (if is_listening state then after_syn (unkept None) (syn_alone window) s else s))
+    [ phase.Listen ↦ λ is. one now s _ (joins window is) | _ ↦ λ is. none ]) refl
 
 -- a copy that is taken as this, with these items
 taken_steps : (now : ℕ) (items : List Heard) (c : Copy) (octets : List ℕ) (s : EndState) (m : Meaning) → IsTakenAs m c s

@@ -111,11 +111,9 @@ fire_up : (now : ℕ) (s : EndState) → IsSubflowAsFar s (after_fire now s)
 fire_up now s = either (is_sixth s) s (after_death true s) (after_expiry now s) (death_up true s) (untouched s (after_expiry now s) refl refl refl refl)
 
 sending_up : (occasion : Occasion) (now : ℕ) (s : EndState) → IsSubflowAsFar s (after_sending occasion now s)
-sending_up to_send.SynAck now s = by (s.send.una == 0)
-  where
-    by : (b : Bool) → let send : SendState = if b then after_resent now s.send else s.send in IsSubflowAsFar s (record (after_sending to_send.SynAck now s) { send = send })
-    by true = untouched s _ refl refl refl refl
-    by false = untouched s _ refl refl refl refl
+sending_up to_send.SynAck now s =
+    elim (s.send.una == 0) as (λ b. let send : SendState = if b then after_resent now s.send else s.send in IsSubflowAsFar s (record (after_sending to_send.SynAck now s) { send = send }))
+    [ true ↦ untouched s _ refl refl refl refl | false ↦ untouched s _ refl refl refl refl ]
 sending_up _ now s = untouched s _ refl refl refl refl
 
 kept_up : (s : EndState) → IsSubflowAsFar s (after_keeping_held s)

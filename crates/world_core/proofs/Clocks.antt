@@ -31,11 +31,8 @@ use Rattle.world_laws.proofs.Writes.Steps.{Lasts, unwritten, settled_lasts, begi
 
 soon : {C : Type 0} (p : PathState C) (o : Option Event) → IfSome (option_and_then (before p.until) o) (λ e. tick_of e < p.until)
 soon p None = tt
-soon p (Some x) = by (nat_lt (tick_of x) p.until) refl
-  where
-    by : (b : Bool) → nat_lt (tick_of x) p.until ≡ b → IfSome (if b then Some x else None) (λ e. tick_of e < p.until)
-    by true is = ltb-true (tick_of x) p.until is
-    by false is = tt
+soon p (Some x) = (elim (nat_lt (tick_of x) p.until) as (λ b. nat_lt (tick_of x) p.until ≡ b → IfSome (if b then Some x else None) (λ e. tick_of e < p.until))
+    [ true ↦ λ is. ltb-true (tick_of x) p.until is | false ↦ λ is. tt ]) refl
 
 next_is_soon : {C : Type 0} (p : PathState C) → IfSome (next_event p) (λ e. tick_of e < p.until)
 next_is_soon p = soon p (earliest p)

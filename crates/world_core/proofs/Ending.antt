@@ -85,11 +85,8 @@ module _ {C : Type 0} where
 
   pub ended_timely : (crew : List (ActorCrew C)) → AreTimely crew
       → AreTimely (if all_over crew then map (begins (greatest 0 crew)) crew else crew)
-  ended_timely crew h = by (all_over crew) refl
-    where
-      by : (b : Bool) → all_over crew ≡ b → AreTimely (if b then map (begins (greatest 0 crew)) crew else crew)
-      by true over = all_begun (greatest 0 crew) crew h over
-      by false over = h
+  ended_timely crew h = (elim (all_over crew) as (λ b. all_over crew ≡ b → AreTimely (if b then map (begins (greatest 0 crew)) crew else crew))
+      [ true ↦ λ over. all_begun (greatest 0 crew) crew h over | false ↦ λ over. h ]) refl
 
 -- ---- the world
 
@@ -114,18 +111,12 @@ ended_sound crew books h = record {
 }
 
 heard_ended : (crew : List (ActorCrew (List ℕ))) → heard_by (ended crew) ≡ heard_by crew
-heard_ended crew = by (all_over crew)
-  where
-    by : (b : Bool) → heard_by (if b then map (begins (greatest 0 crew)) crew else crew) ≡ heard_by crew
-    by true = heard_begun (greatest 0 crew) crew
-    by false = refl
+heard_ended crew = elim (all_over crew) as (λ b. heard_by (if b then map (begins (greatest 0 crew)) crew else crew) ≡ heard_by crew)
+    [ true ↦ heard_begun (greatest 0 crew) crew | false ↦ refl ]
 
 length_ended : (crew : List (ActorCrew (List ℕ))) → length (ended crew) ≡ length crew
-length_ended crew = by (all_over crew)
-  where
-    by : (b : Bool) → length (if b then map (begins (greatest 0 crew)) crew else crew) ≡ length crew
-    by true = length-map crew (begins (greatest 0 crew))
-    by false = refl
+length_ended crew = elim (all_over crew) as (λ b. length (if b then map (begins (greatest 0 crew)) crew else crew) ≡ length crew)
+    [ true ↦ length-map crew (begins (greatest 0 crew)) | false ↦ refl ]
 
 pub ended_kept : (crew : List (ActorCrew (List ℕ))) (books : StampedBooks) (h : Hearing) (failed : Bool) → IsKept failed (world crew books) h
     → IsKept failed (world (ended crew) books) h

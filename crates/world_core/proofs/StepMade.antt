@@ -92,11 +92,8 @@ module _ (crew : List (ActorCrew (List ℕ))) (books after : StampedBooks) (i : 
   step_goes = some_note (member_asks octets c.member) books c.pass ∙ over_asks c.member ∙ ap goes (sym there)
 
   pub step_rests : note_if (member_asks octets c.member) books c.pass ≡ None → world (set crew i d) after ≡ world crew books
-  step_rests = by (member_asks octets c.member) crew_is books_are
-    where
-      by : (o : Option Ask) → d ≡ crew_if o books c → after ≡ books_if o c.pass books → note_if o books c.pass ≡ None → world (set crew i d) after ≡ world crew books
-      by None e f nothing = step_by None e f
-      by (Some ask) e f nothing = cc
+  step_rests = (elim (member_asks octets c.member) as (λ o. d ≡ crew_if o books c → after ≡ books_if o c.pass books → note_if o books c.pass ≡ None → world (set crew i d) after ≡ world crew books)
+      [ None ↦ λ e f nothing. step_by None e f | Some ask ↦ λ e f nothing. cc ]) crew_is books_are
 
   -- ---- stamps
 
@@ -113,11 +110,10 @@ module _ (crew : List (ActorCrew (List ℕ))) (books after : StampedBooks) (i : 
   -- ---- what was told
 
   pub step_hears : heard_by (set crew i d) ≡ heard_with (note_if (member_asks octets c.member) books c.pass) i (heard_by crew)
-  step_hears = by (member_asks octets c.member) crew_is
-    where
-      by : (o : Option Ask) → d ≡ crew_if o books c → heard_by (set crew i d) ≡ heard_with (note_if o books c.pass) i (heard_by crew)
-      by None e = ap (λ x. heard_by (set crew i x)) e ∙ ap heard_by (put_again crew i c there)
-      by (Some ask) e = heard_again crew i c d (note_of books c.pass ask) there (ap (λ x. x.list) e)
+  step_hears = (elim (member_asks octets c.member) as (λ o. d ≡ crew_if o books c → heard_by (set crew i d) ≡ heard_with (note_if o books c.pass) i (heard_by crew)) [
+    | None ↦ λ e. ap (λ x. heard_by (set crew i x)) e ∙ ap heard_by (put_again crew i c there)
+    | Some ask ↦ λ e. heard_again crew i c d (note_of books c.pass ask) there (ap (λ x. x.list) e)
+  ]) crew_is
 
   -- ---- rounds
 

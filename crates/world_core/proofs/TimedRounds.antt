@@ -52,19 +52,13 @@ module _ {C : Type 0} where
   -- an actor has a tick just where its turn goes on
   tick_goes : (o : Option (ActorCrew C)) (tick : ℕ) → option_and_then (λ c. step_tick c.member) o ≡ Some tick → goes o ≡ true
   tick_goes None tick is = cc
-  tick_goes (Some c) tick is = by (is_over c.member) is
-    where
-      by : (b : Bool) → (if b then None else Some (member_tick c.member)) ≡ Some tick → not b ≡ true
-      by true is = cc
-      by false is = refl
+  tick_goes (Some c) tick is = (elim (is_over c.member) as (λ b. (if b then None else Some (member_tick c.member)) ≡ Some tick → not b ≡ true)
+      [ true ↦ λ is. cc | false ↦ λ is. refl ]) is
 
   rests : (o : Option (ActorCrew C)) → option_and_then (λ c. step_tick c.member) o ≡ None → goes o ≡ false
   rests None none = refl
-  rests (Some c) none = by (is_over c.member) none
-    where
-      by : (b : Bool) → (if b then None else Some (member_tick c.member)) ≡ None → not b ≡ false
-      by true none = refl
-      by false none = cc
+  rests (Some c) none = (elim (is_over c.member) as (λ b. (if b then None else Some (member_tick c.member)) ≡ None → not b ≡ false)
+      [ true ↦ λ none. refl | false ↦ λ none. cc ]) none
 
   pub next_goes : (actor : ℕ) (w : WorldState C) → IsNext actor w.crew → is_going actor w ≡ true
   next_goes actor w next = tick_goes (slice_get w.crew actor) next.tick next.stands
@@ -170,11 +164,8 @@ module _ {C : Type 0} where
   -- where nobody goes each turn is over
   over_if_none : (crew : List (ActorCrew C)) → ((i : ℕ) → goes (slice_get crew i) ≡ false) → all_over crew ≡ true
   over_if_none [] rest = refl
-  over_if_none (c ∷ crew) rest = by (is_over c.member) (rest 0) (over_if_none crew (λ i. rest (suc i)))
-    where
-      by : (b : Bool) → not b ≡ false → all_over crew ≡ true → (b && all_over crew) ≡ true
-      by true first behind = behind
-      by false first behind = cc
+  over_if_none (c ∷ crew) rest = (elim (is_over c.member) as (λ b. not b ≡ false → all_over crew ≡ true → (b && all_over crew) ≡ true)
+      [ true ↦ λ first behind. behind | false ↦ λ first behind. cc ]) (rest 0) (over_if_none crew (λ i. rest (suc i)))
 
   pub first_is_none : (crew : List (ActorCrew C)) (n : ℕ) (step : Option NextStep) → n ≡ length crew → IsFirstIf n step crew → IsNone step → all_over crew ≡ true
   first_is_none crew n (Some s) all h none = cc

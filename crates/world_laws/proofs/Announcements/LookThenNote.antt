@@ -13,7 +13,6 @@ use Rattle.world_laws.proofs.Words.{answered_peer_key, answered_opened, is_stopp
 use Rattle.fallback_state.specs.declared.fall.Event.TheVariants as events
 use Rattle.path_core.specs.declared.events.Event.{Event}
 use Rattle.path_agenda.specs.Agenda.{breaks}
-use Rattle.path_core.specs.Emission.{Grant}
 use Rattle.world_laws.proofs.Announcements.ToBeNoted.{IsMild}
 use Rattle.world_laws.proofs.Falls.FailedChecks.{fail_answered_so}
 use Rattle.world_laws.proofs.Standby.OneDutyLooks.{MayNotLook}
@@ -133,11 +132,9 @@ module _ {C : Type 0} (q : Side) where
 
   -- a join is begun or not, with these to be done
   begun_ready : (r : Reply) (dead living : List Duty) (p : PathState C) → IsReady q dead → IsReady q living → IsReady q (join_begun r dead living p).agenda
-  begun_ready r dead living p x y = by (is_never r)
-    where
-      by : (b : Bool) → IsReady q (if b then goes_on A (never_joined r (end_at A p)) dead p else goes_on A (opened_by (keys_begun r) (end_at A p)) living p).agenda
-      by true = x
-      by false = y
+  begun_ready r dead living p x y =
+      elim (is_never r) as (λ b. IsReady q (if b then goes_on A (never_joined r (end_at A p)) dead p else goes_on A (opened_by (keys_begun r) (end_at A p)) living p).agenda)
+      [ true ↦ x | false ↦ y ]
 
   event_ready : (k : Codec C) (o : Option Event) (r : Reply) (p : PathState C) → IsReady q (happens_if k o r p).agenda
   event_ready k None r p = tt
@@ -147,11 +144,8 @@ module _ {C : Type 0} (q : Side) where
   event_ready k (Some (Event.Fires s tick)) r p = fired_ready q (is_sixth (end_at s (at_tick tick p)).tcp) s
 
   break_ready : (k : Codec C) (s : Side) (reason : ℕ) (r : Reply) (p : PathState C) → IsReady q (answered_break k s reason r p).agenda
-  break_ready k s reason r p = by (end_at s p).treated.asked
-    where
-      by : (b : Bool) → IsReady q (if b then answered_ack_out s r (resets s reason) p else reset_on k s (Some reason) (leaves s) p).agenda
-      by true = tt
-      by false = tt
+  break_ready k s reason r p = elim (end_at s p).treated.asked as (λ b. IsReady q (if b then answered_ack_out s r (resets s reason) p else reset_on k s (Some reason) (leaves s) p).agenda)
+      [ true ↦ tt | false ↦ tt ]
 
   -- after a fall the send book is told, and a path may be broken
   fell_ready : (s : Side) (r : Reply) (p : PathState C) → IsReady q (left p) → IsReady q (replaced (Duty.Ask (AskDuty.GoIdentity s)) p.agenda) → IsReady q (fell_duties s r p)
@@ -164,11 +158,7 @@ module _ {C : Type 0} (q : Side) where
   module _ (k : Codec C) (s : Side) (r : Reply) (p : PathState C) (same : IsReady q p.agenda) (left_ready : IsReady q (left p)) (told : IsReady q (replaced (Duty.Ask (AskDuty.GoIdentity s)) p.agenda)) where
     data_ready : (o : Option Record) → IsReady q (answered_data k s o r p).agenda
     data_ready (Some record_unsent) = same
-    data_ready None = by (grant_in r)
-      where
-        by : (o : Option Grant) → IsReady q (answered_grant s o r p).agenda
-        by (Some grant) = same
-        by None = left_ready
+    data_ready None = elim (grant_in r) as (λ o. IsReady q (answered_grant s o r p).agenda) [ Some grant ↦ same | None ↦ left_ready ]
 
     piece_ready : (o : Option Piece) (taken : Bool) → IsReady q (answered_piece s o taken p).agenda
     piece_ready (Some piece) true = same
@@ -261,11 +251,8 @@ module _ {C : Type 0} where
   data_comes : (k : Codec C) (s t : Side) (first : Option Record) (ds : List Duty) (r : Reply) (p : PathState C) → comes s ds ≡ true
       → comes s (answered_data k t first r (with_agenda (Duty.Step (StepDuty.Data t) ∷ ds) p)).agenda ≡ true
   data_comes k s t (Some record_of) ds r p h = h
-  data_comes k s t None ds r p h = by (grant_in r)
-    where
-      by : (grant : Option Grant) → comes s (answered_grant t grant r (with_agenda (Duty.Step (StepDuty.Data t) ∷ ds) p)).agenda ≡ true
-      by None = h
-      by (Some grant) = h
+  data_comes k s t None ds r p h = elim (grant_in r) as (λ grant. comes s (answered_grant t grant r (with_agenda (Duty.Step (StepDuty.Data t) ∷ ds) p)).agenda ≡ true)
+      [ None ↦ h | Some grant ↦ h ]
 
   pub mild_comes : (k : Codec C) (d : Duty) → IsMild d → (s : Side) (ds : List Duty) (r : Reply) (p : PathState C) → comes s (d ∷ ds) ≡ true
       → comes s (answered k d r (with_agenda (d ∷ ds) p)).agenda ≡ true
@@ -290,11 +277,7 @@ module _ {C : Type 0} where
   mild_goes_on k (Duty.Ask (AskDuty.LeaveNoted t)) mild p on = refl
   mild_goes_on k (Duty.Ask (AskDuty.Leave t)) mild p on = refl
   mild_goes_on k (Duty.Ask (AskDuty.Dead t)) mild p on = refl
-  mild_goes_on k (Duty.Step (StepDuty.Data t)) mild p on = by (first_unsent (end_at t p))
-    where
-      by : (o : Option Record) → ends_turn (data_ask k t o p) ≡ false
-      by None = refl
-      by (Some r) = refl
+  mild_goes_on k (Duty.Step (StepDuty.Data t)) mild p on = elim (first_unsent (end_at t p)) as (λ o. ends_turn (data_ask k t o p) ≡ false) [ None ↦ refl | Some r ↦ refl ]
   mild_goes_on k (Duty.Send (SendDuty.Update t)) mild p on = refl
   mild_goes_on k (Duty.Send (SendDuty.ResetNoted t)) mild p on = refl
   mild_goes_on k (Duty.Send (SendDuty.Syn t)) mild p on = refl

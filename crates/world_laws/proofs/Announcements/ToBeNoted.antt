@@ -11,7 +11,6 @@ use Rattle.world_laws.proofs.Words.{after_peer_notice, is_kept, Writes, OnlyAt, 
 use Rattle.std.proofs.Math.Bool.{or-true}
 use Rattle.subflow_tcp.specs.States.{after_finish}
 use Rattle.path_core.specs.declared.events.Event.{Event}
-use Rattle.path_core.specs.Emission.{Grant}
 use Rattle.world_laws.proofs.Falls.FailedChecks.{infinite_came_so, fail_answered_so}
 use Rattle.world_laws.proofs.Standby.OneDutyLooks.{MayNotLook}
 use Rattle.world_laws.proofs.Writes.Paths.{writes_no_more}
@@ -70,18 +69,13 @@ no_new : (id : ℕ) (queue : List OwnNotice) (notice : OwnNotice) → is_note id
 no_new id queue notice other is = elim (pushed id queue notice is) [ inl old ↦ old | inr new ↦ absurd (both_ways (is_note id notice) other new) ]
 
 priority_end : (backup : Bool) (e : PathEnd) → EndSheds e (with_priority backup e)
-priority_end backup e id = by (is_dead e.tcp.state)
-  where
-    by : (b : Bool) → is_queued id (if b then e.notices.queue else e.notices.queue ++ OwnNotice.Prio backup ∷ []) ≡ true → is_noted id e ≡ true
-    by true h = h
-    by false h = no_new id e.notices.queue (OwnNotice.Prio backup) refl h
+priority_end backup e id = elim (is_dead e.tcp.state) as (λ b. is_queued id (if b then e.notices.queue else e.notices.queue ++ OwnNotice.Prio backup ∷ []) ≡ true → is_noted id e ≡ true)
+    [ true ↦ λ h. h | false ↦ λ h. no_new id e.notices.queue (OwnNotice.Prio backup) refl h ]
 
 echo_end : (notice : PeerNotice) (r : Reply) (e : PathEnd) → EndSheds e (after_peer_notice notice r e)
-echo_end (PeerNotice.AddAddr other address port hmac) r e id = by (is_kept r)
-  where
-    by : (b : Bool) → is_queued id (if b then e.notices.queue ++ OwnNotice.AddEcho other address port ∷ [] else e.notices.queue) ≡ true → is_noted id e ≡ true
-    by true h = no_new id e.notices.queue (OwnNotice.AddEcho other address port) refl h
-    by false h = h
+echo_end (PeerNotice.AddAddr other address port hmac) r e id =
+    elim (is_kept r) as (λ b. is_queued id (if b then e.notices.queue ++ OwnNotice.AddEcho other address port ∷ [] else e.notices.queue) ≡ true → is_noted id e ≡ true)
+    [ true ↦ λ h. no_new id e.notices.queue (OwnNotice.AddEcho other address port) refl h | false ↦ λ h. h ]
 echo_end (PeerNotice.AddEcho other) r e id = λ h. h
 echo_end (PeerNotice.Removed other) r e id = λ h. h
 echo_end (PeerNotice.Prio backup) r e id = λ h. h
@@ -252,11 +246,8 @@ module _ {C : Type 0} where
 
   data_holds : (k : Codec C) (s : Side) (first : Option Record) (r : Reply) (p : PathState C) → Holds p (answered_data k s first r p)
   data_holds k s (Some record_of) r p = side_holds s _ p _ refl refl (λ id h may. may)
-  data_holds k s None r p = by (grant_in r)
-    where
-      by : (grant : Option Grant) → Holds p (answered_grant s grant r p)
-      by None = side_holds s _ p _ refl refl (λ id h may. may)
-      by (Some grant) = side_holds s _ p _ refl refl (λ id h may. may)
+  data_holds k s None r p = elim (grant_in r) as (λ grant. Holds p (answered_grant s grant r p))
+      [ None ↦ side_holds s _ p _ refl refl (λ id h may. may) | Some grant ↦ side_holds s _ p _ refl refl (λ id h may. may) ]
 
   pub mild_holds : (k : Codec C) (d : Duty) → IsMild d → (r : Reply) (p : PathState C) → Holds p (answered k d r p)
   mild_holds k (Duty.Ask (AskDuty.Window s)) mild r p = side_holds s _ p _ refl refl (λ id h may. may)

@@ -109,11 +109,10 @@ announce_wants id other address wanted false a is h due =
 
 -- of a known id the announcement ends, and an unknown one has none
 ends_wants : (id : ℕ) (c d : Control) (wanted : Bool) → Wants id c wanted → d.addresses.due ≡ set c.addresses.due id false → Wants id (if is_known id c then d else c) false
-ends_wants id c d wanted h clears = by (is_known id c) refl
-  where
-    by : (known : Bool) → is_known id c ≡ known → Wants id (if known then d else c) false
-    by true known due = absurd (both_ways (is_member d.addresses.due id) (ap (λ xs. is_member xs id) clears ∙ cleared c.addresses.due id) due)
-    by false unknown due = absurd (both_ways (is_known id c) unknown (there_known id c (h due).0))
+ends_wants id c d wanted h clears = (elim (is_known id c) as (λ known. is_known id c ≡ known → Wants id (if known then d else c) false) [
+  | true ↦ λ known due. absurd (both_ways (is_member d.addresses.due id) (ap (λ xs. is_member xs id) clears ∙ cleared c.addresses.due id) due)
+  | false ↦ λ unknown due. absurd (both_ways (is_known id c) unknown (there_known id c (h due).0))
+]) refl
 
 abbrev echoed_book : ℕ → Control → Control
 echoed_book id c = record c { addresses = record c.addresses { due = set c.addresses.due id false } }

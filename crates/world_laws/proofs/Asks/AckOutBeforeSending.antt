@@ -184,11 +184,8 @@ module _ {C : Type 0} where
 
   -- an end that is no matter of the first duty told nothing
   pub shielded_calm : (p : PathState C) → Shielded p → (d : Duty) (ds : List Duty) → p.agenda ≡ d ∷ ds → (s : Side) → is_shield s d ≡ false → (end_at s p).treated.asked ≡ false
-  shielded_calm p h d ds is s none = by (end_at s p).treated.asked refl
-    where
-      by : (b : Bool) → (end_at s p).treated.asked ≡ b → b ≡ false
-      by false asked = refl
-      by true asked = absurd (unguarded (is_asking s d) (is_telling s d) (guarded s ds) none (subst (λ xs. guarded s xs ≡ true) is (h.asked s asked)))
+  shielded_calm p h d ds is s none = (elim (end_at s p).treated.asked as (λ b. (end_at s p).treated.asked ≡ b → b ≡ false)
+      [ false ↦ λ asked. refl | true ↦ λ asked. absurd (unguarded (is_asking s d) (is_telling s d) (guarded s ds) none (subst (λ xs. guarded s xs ≡ true) is (h.asked s asked))) ]) refl
 
   -- ---- what comes to nothing
 
@@ -447,7 +444,8 @@ module _ {C : Type 0} where
   still_asked B B e ds p calm is = calm is
 
   broken_shielded : (k : Codec C) (s : Side) (reason : ℕ) (r : Reply) (p : PathState C) → OthersCalm s p → Shielded (answered_break k s reason r p)
-  broken_shielded k s reason r p calm = by (end_at s p).treated.asked
+  broken_shielded k s reason r p calm = elim (end_at s p).treated.asked as (λ b. Shielded (if b then answered_ack_out s r (resets s reason) p else reset_on k s (Some reason) (leaves s) p))
+      [ true ↦ asked_shielded s r (resets s reason) p refl calm | false ↦ reset s calm ]
     where
       reset : (s : Side) → OthersCalm s p → Shielded (reset_on k s (Some reason) (leaves s) p)
       reset A calm = record { shape = refl; asked = at }
@@ -460,10 +458,6 @@ module _ {C : Type 0} where
           at : (t : Side) → (end_at t (reset_on k B (Some reason) (leaves B) p)).treated.asked ≡ true → guarded t (leaves B) ≡ true
           at A is = absurd (calm A refl is)
           at B is = absurd (false≢true is)
-
-      by : (b : Bool) → Shielded (if b then answered_ack_out s r (resets s reason) p else reset_on k s (Some reason) (leaves s) p)
-      by true = asked_shielded s r (resets s reason) p refl calm
-      by false = reset s calm
 
   -- ---- each reply
 
@@ -554,15 +548,9 @@ always_shielded start turns =
     (opened_lifted (λ c. MemberShielded c.member) start tt tt (λ number plan there. first_shielded (path_begins start number plan) start.lines))
   where
     stepped_so : (books : StampedBooks) (x : Ask) (c : ActorCrew Carried) → MemberShielded c.member → MemberShielded (crew_after values x books c).member
-    stepped_so books x c h = by c.member h
-      where
-        by : (m : Actor Carried) → MemberShielded m → MemberShielded (member_takes values (answer_to books x) m)
-        by (App a) h = tt
-        by (Path p) h = takes_shielded values (answer_to books x) p h
+    stepped_so books x c h = (elim c.member as (λ m. MemberShielded m → MemberShielded (member_takes values (answer_to books x) m))
+        [ App a ↦ λ h. tt | Path p ↦ λ h. takes_shielded values (answer_to books x) p h ]) h
 
     begun_so : (stamp : ℕ) (c : ActorCrew Carried) → is_over c.member ≡ true → MemberShielded c.member → MemberShielded (begins stamp c).member
-    begun_so stamp c over h = by c.member over h
-      where
-        by : (m : Actor Carried) → is_over m ≡ true → MemberShielded m → MemberShielded (member_next m)
-        by (App a) over h = tt
-        by (Path p) over h = next_shielded p over h
+    begun_so stamp c over h = (elim c.member as (λ m. is_over m ≡ true → MemberShielded m → MemberShielded (member_next m))
+        [ App a ↦ λ over h. tt | Path p ↦ λ over h. next_shielded p over h ]) over h

@@ -49,9 +49,6 @@ module _ (file rest : List ℕ) (b : Sending) (h : Writes file rest b) where
   call_keeps (SendCall.AckIn next window) leaves = ack_keeps (is_future next b) _ refl refl
   call_keeps (SendCall.Return path) leaves = record { prefix = h.prefix; whole = h.whole }
   call_keeps SendCall.GoIdentity leaves = record { prefix = h.prefix; whole = h.whole }
-  call_keeps (SendCall.GoInfinite path) leaves = infinite (is_gathered path b)
-    where
-      infinite : (c : Bool) → Writes file rest (if c then record b { owner = Some path } else b)
-      infinite true = record { prefix = h.prefix; whole = h.whole }
-      infinite false = h
+  call_keeps (SendCall.GoInfinite path) leaves = elim (is_gathered path b) as (λ c. Writes file rest (if c then record b { owner = Some path } else b))
+      [ true ↦ record { prefix = h.prefix; whole = h.whole } | false ↦ h ]
   call_keeps SendCall.Abort leaves = record { prefix = h.prefix; whole = h.whole }

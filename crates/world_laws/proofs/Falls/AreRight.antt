@@ -255,11 +255,8 @@ run_joined start = run_so values (λ w. Joined (books_in w.books) B)
 -- it answered none before either
 unanswered_before : (start : Start) (turns : List Turn) (w : WorldState Carried) → (books_in (world_run values turns w).books).control_b.fall.joined ≡ false
     → (books_in w.books).control_b.fall.joined ≡ false
-unanswered_before start turns w none = by (books_in w.books).control_b.fall.joined refl
-  where
-    by : (b : Bool) → (books_in w.books).control_b.fall.joined ≡ b → b ≡ false
-    by false is = refl
-    by true is = absurd (both_ways _ none (run_joined start turns w is))
+unanswered_before start turns w none = (elim (books_in w.books).control_b.fall.joined as (λ b. (books_in w.books).control_b.fall.joined ≡ b → b ≡ false)
+    [ false ↦ λ is. refl | true ↦ λ is. absurd (both_ways _ none (run_joined start turns w is)) ]) refl
 
 pub positions_were_places : HoldsAnyway (PositionsWerePlaces values)
 positions_were_places start turns size s more fell =

@@ -50,7 +50,9 @@ tried_spent path (Free tried) is = is
 -- of gathered bytes the path tried the first one, where it tried any
 first_tried : (path : ℕ) (x : ByteMark) (ms : List ByteMark) (i : ℕ) (m : ByteMark) → tried_first path (x ∷ ms) ≡ true → slice_get (x ∷ ms) i ≡ Some m → has_tried path m ≡ true → has_tried path x ≡ true
 first_tried path x ms zero m first e is = let same : x ≡ m = cc in ap (has_tried path) same ∙ is
-first_tried path x ms (suc i) m first e is = by (is_untouched x) first
+first_tried path x ms (suc i) m first e is =
+    (elim (is_untouched x) as (λ b. (if b then list_all is_untouched ms else (if has_tried path x then tried_first path ms else false)) ≡ true → has_tried path x ≡ true)
+    [ true ↦ λ all. absurd (both_ways (spent path (Some m)) (untouched_unspent path m (each_new ms i all e)) (tried_spent path m is)) | false ↦ λ first. own (has_tried path x) refl first ]) first
   where
     each_new : (ms : List ByteMark) (i : ℕ) → list_all is_untouched ms ≡ true → slice_get ms i ≡ Some m → is_untouched m ≡ true
     each_new [] i all e = cc
@@ -60,10 +62,6 @@ first_tried path x ms (suc i) m first e is = by (is_untouched x) first
     own : (b : Bool) → has_tried path x ≡ b → (if b then tried_first path ms else false) ≡ true → has_tried path x ≡ true
     own true has first = has
     own false has first = absurd (false≢true first)
-
-    by : (b : Bool) → (if b then list_all is_untouched ms else (if has_tried path x then tried_first path ms else false)) ≡ true → has_tried path x ≡ true
-    by true all = absurd (both_ways (spent path (Some m)) (untouched_unspent path m (each_new ms i all e)) (tried_spent path m is))
-    by false first = own (has_tried path x) refl first
 
 -- ---- the mapping
 

@@ -48,14 +48,12 @@ told_loosens B path six is = row_loosens path (sole_path six.control_b.paths pat
 
 pub call_loosens : (links : Links) (s : Side) (path : ℕ) (six : SixBooks) → let ask = Ask.Control s (ControlCall.Fell path Event.InfiniteHeard) in StaysFirm links s six ask
     → is_infinite_receive (reply_of six ask) ≡ true → (loose_at links s (after_ask ask six) ≡ true) × (plain_at links s (after_ask ask six) ≡ false)
-call_loosens links s path six firm is = by (is_firm links s) refl
+call_loosens links s path six firm is =
+    (elim (is_firm links s) as (λ b. is_firm links s ≡ b → ((not b && is_loose (control_of s books).fall) ≡ true) × ((not b && is_plain (control_of s books).fall) ≡ false))
+    [ true ↦ λ so. absurd (both_ways _ (firm so) (told_loosens s path six is).2) | false ↦ λ so. let told = told_loosens s path six is in (told.0, told.1) ]) refl
   where
     books : SixBooks
     books = after_ask (Ask.Control s (ControlCall.Fell path Event.InfiniteHeard)) six
-
-    by : (b : Bool) → is_firm links s ≡ b → ((not b && is_loose (control_of s books).fall) ≡ true) × ((not b && is_plain (control_of s books).fall) ≡ false)
-    by true so = absurd (both_ways _ (firm so) (told_loosens s path six is).2)
-    by false so = let told = told_loosens s path six is in (told.0, told.1)
 
 -- ---- the lane
 

@@ -114,11 +114,8 @@ module _ {C : Type 0} (k : Codec C) (six : SixBooks) (p : PathState C) (awake : 
 
   -- path 0, or a side that said something, and joined
   number_so : (s : Side) → speaks (Voice.Says s) p.agenda ≡ true → (path_of p ≡ 0) ⊎ HasJoined six s
-  number_so s said = by (path_of p) numbered
-    where
-      by : (n : ℕ) → is_joined p.profile ≡ nat_lt 0 n → (n ≡ 0) ⊎ HasJoined six s
-      by zero is = inl refl
-      by (suc n) is = inr (awake.known s (is ∙ lt_true 0 (suc n) (omega arith)) said)
+  number_so s said = (elim (path_of p) as (λ n. is_joined p.profile ≡ nat_lt 0 n → (n ≡ 0) ⊎ HasJoined six s)
+      [ zero ↦ λ is. inl refl | suc n ↦ λ is. inr (awake.known s (is ∙ lt_true 0 (suc n) (omega arith)) said) ]) numbered
 
   data_goes : (s : Side) (o : Option Record) → GoesSo six (data_ask k s o p)
   data_goes s None = tt

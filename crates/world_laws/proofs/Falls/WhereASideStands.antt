@@ -182,11 +182,10 @@ aborted_plain Mode.Starting = refl
 aborted_plain _ = refl
 
 stop_falls : (f : Fall) → Fallen f (goes Mode.Aborted f).0
-stop_falls f = by f.joined
-  where
-    by : (joined : Bool) → Fallen (record f { joined = joined }) (goes Mode.Aborted (record f { joined = joined })).0
-    by true = inl (record { mode = aborted_plain f.mode; joined = refl; loose = inr refl; unjoined = λ h never. absurd (false≢true never) })
-    by false = inr (record { mode = refl; was = refl; joined = refl; loose = inr refl })
+stop_falls f = elim f.joined as (λ joined. Fallen (record f { joined = joined }) (goes Mode.Aborted (record f { joined = joined })).0) [
+  | true ↦ inl (record { mode = aborted_plain f.mode; joined = refl; loose = inr refl; unjoined = λ h never. absurd (false≢true never) })
+  | false ↦ inr (record { mode = refl; was = refl; joined = refl; loose = inr refl })
+]
 
 pub event_falls : (path : ℕ) (sole : Bool) (event : FallEvent) (f : Fall) → Fallen f (fall_step f path sole event).0
 event_falls path sole FallEvent.MappingHeard f = sign_falls f

@@ -134,11 +134,7 @@ line_own (line ∷ lines) = refl
 unsure_begin : (c : Control) → is_sure c.fall.mode ≡ false → keys_begun (Reply.Control (join_begin_reply c)) ≡ None
 unsure_begin c unsure =
     ap (λ (b : Bool). keys_begun (Reply.Control (if b && is_none c.fall.failed then begin c else (if join_waits c then NotYet else Never c.fall.mode)))) unsure
-    ∙ by (join_waits c)
-  where
-    by : (b : Bool) → keys_begun (Reply.Control (if b then NotYet else Never c.fall.mode)) ≡ None
-    by true = refl
-    by false = refl
+    ∙ (elim (join_waits c) as (λ b. keys_begun (Reply.Control (if b then NotYet else Never c.fall.mode)) ≡ None) [ true ↦ refl | false ↦ refl ])
 
 unsure_step : (six : SixBooks) (path : ℕ) (o : Option Event) → is_sure six.control_a.fall.mode ≡ false → IsOwn o → keys_begun (reply_of six (step_for path o)) ≡ None
 unsure_step six path (Some (Event.Joins tick)) unsure own = unsure_begin six.control_a unsure
@@ -187,11 +183,11 @@ module _ {C : Type 0} where
 
   -- the control book began no join
   join_asleep : (r : Reply) (dead living : List Duty) (p : PathState C) → keys_begun r ≡ None → AreIdle dead → AreIdle living → IsAsleep p → IsAsleep (join_begun r dead living p)
-  join_asleep r dead living p none dead_idle living_idle h = by (is_never r)
-    where
-      by : (b : Bool) → IsAsleep (if b then goes_on A (never_joined r p.a) dead p else goes_on A (opened_by (keys_begun r) p.a) living p)
-      by true = goes_asleep A (never_joined r p.a) dead p (record { closed = refl; timer = refl }) dead_idle h
-      by false = goes_asleep A (opened_by (keys_begun r) p.a) living p (subst (λ keys. IsShut (opened_by keys p.a)) (sym none) h.a) living_idle h
+  join_asleep r dead living p none dead_idle living_idle h =
+      elim (is_never r) as (λ b. IsAsleep (if b then goes_on A (never_joined r p.a) dead p else goes_on A (opened_by (keys_begun r) p.a) living p)) [
+        | true ↦ goes_asleep A (never_joined r p.a) dead p (record { closed = refl; timer = refl }) dead_idle h
+        | false ↦ goes_asleep A (opened_by (keys_begun r) p.a) living p (subst (λ keys. IsShut (opened_by keys p.a)) (sym none) h.a) living_idle h
+      ]
 
   own_asleep : (k : Codec C) (r : Reply) (event : Event) (p : PathState C) → keys_begun r ≡ None → is_own event ≡ true → IsAsleep p → IsAsleep (happens k event r p)
   own_asleep k r (Event.Joins tick) p none own h =
@@ -217,11 +213,8 @@ module _ {C : Type 0} where
       (earlier_own (next_join p.a.tcp.state p.joined_at) (earlier (next_line p.lines) None) (join_own p.a.tcp.state p.joined_at) (earlier_own (next_line p.lines) None (line_own p.lines) tt)))
 
   events_asleep : (k : Codec C) (r : Reply) (p : PathState C) → keys_begun r ≡ None → IsAsleep p → IsAsleep (happens_if k (next_event p) r p)
-  events_asleep k r p none h = by (next_event p) (next_own p h)
-    where
-      by : (o : Option Event) → IsOwn o → IsAsleep (happens_if k o r p)
-      by None own = agenda_asleep rest_of_turn p refl h
-      by (Some event) own = own_asleep k r event p none own h
+  events_asleep k r p none h = (elim (next_event p) as (λ o. IsOwn o → IsAsleep (happens_if k o r p))
+      [ None ↦ λ own. agenda_asleep rest_of_turn p refl h | Some event ↦ λ own. own_asleep k r event p none own h ]) (next_own p h)
 
   -- ---- its duties
 
@@ -263,11 +256,8 @@ module _ {C : Type 0} where
   settled_asleep [] p idle h = agenda_asleep [] p refl h
   settled_asleep (d ∷ ds) p idle h =
       let parts = and_parts (is_idle d) (list_all is_idle ds) idle in
-      by (stands d p) (settled_asleep ds (passed d p) parts.1 (passed_asleep d p h parts.0))
-    where
-      by : (b : Bool) → IsAsleep (settled ds (passed d p)) → IsAsleep (if b then with_agenda (d ∷ ds) p else settled ds (passed d p))
-      by true rest = agenda_asleep (d ∷ ds) p idle h
-      by false rest = rest
+      (elim (stands d p) as (λ b. IsAsleep (settled ds (passed d p)) → IsAsleep (if b then with_agenda (d ∷ ds) p else settled ds (passed d p)))
+      [ true ↦ λ rest. agenda_asleep (d ∷ ds) p idle h | false ↦ λ rest. rest ]) (settled_asleep ds (passed d p) parts.1 (passed_asleep d p h parts.0))
 
   -- so it stays, whatever is replied, as long as no join is begun
   pub takes_asleep : (k : Codec C) (r : Reply) (p : PathState C) → keys_begun r ≡ None → IsSettled p → IsAsleep p → IsAsleep (takes k r p)

@@ -198,7 +198,8 @@ line_roles LineAction.Die p h =
     }
 
 begun_roles : (r : Reply) (dead living : List Duty) (p : PathState Carried) → HasRoles p → HasRoles (join_begun r dead living p)
-begun_roles r dead living p h = by (is_never r)
+begun_roles r dead living p h = elim (is_never r) as (λ b. HasRoles (if b then goes_on A (never_joined r p.a) dead p else goes_on A (opened_by (keys_begun r) p.a) living p))
+    [ true ↦ goes_roles A (never_joined r p.a) dead p (record { role = λ joins is. absurd (false≢true is); answer = tt }) h | false ↦ opens (keys_begun r) ]
   where
     begun : (b : Bool) → is_apart A (if b then after_begin p.a.tcp else p.a.tcp).state ≡ true → is_apart A p.a.tcp.state ≡ true
     begun true is = absurd (false≢true is)
@@ -208,19 +209,14 @@ begun_roles r dead living p h = by (is_never r)
     opens None = same_roles A p.a living p refl refl h
     opens (Some keys) = goes_roles A (opened_by (Some keys) p.a) living p (record { role = λ joins. begun (is_waiting p.a.tcp.state); answer = h.answer_a }) h
 
-    by : (b : Bool) → HasRoles (if b then goes_on A (never_joined r p.a) dead p else goes_on A (opened_by (keys_begun r) p.a) living p)
-    by true = goes_roles A (never_joined r p.a) dead p (record { role = λ joins is. absurd (false≢true is); answer = tt }) h
-    by false = opens (keys_begun r)
-
 fired_roles : (s : Side) (p : PathState Carried) → HasRoles p → HasRoles (timer_fired s p)
-fired_roles s p h = by (is_sixth (end_at s p).tcp)
+fired_roles s p h = elim (is_sixth (end_at s p).tcp) as (λ b. HasRoles (goes_on s (record e { tcp = (if b then after_death true e.tcp else after_expiry p.clock e.tcp) }) (template_fired b s) p)) [
+  | true ↦ goes_roles s (record e { tcp = after_death true e.tcp }) (template_fired true s) p (record { role = λ joins is. absurd (false≢true is); answer = answer_at s p h }) h
+  | false ↦ same_roles s (record e { tcp = after_expiry p.clock e.tcp }) (template_fired false s) p refl refl h
+]
   where
     e : PathEnd
     e = end_at s p
-
-    by : (b : Bool) → HasRoles (goes_on s (record e { tcp = (if b then after_death true e.tcp else after_expiry p.clock e.tcp) }) (template_fired b s) p)
-    by true = goes_roles s (record e { tcp = after_death true e.tcp }) (template_fired true s) p (record { role = λ joins is. absurd (false≢true is); answer = answer_at s p h }) h
-    by false = same_roles s (record e { tcp = after_expiry p.clock e.tcp }) (template_fired false s) p refl refl h
 
 -- ---- a copy
 

@@ -122,7 +122,11 @@ module _ (p : PathState Carried) where
   -- a sign is told by a side that joined, on a path that joins
   sign_speaks : (ds : List Duty) → signs ds ≡ true → speaks (Voice.Says A) ds ≡ true
   sign_speaks [] is = is
-  sign_speaks (d ∷ ds) is = by (is_sign_duty d) refl is (sign_speaks ds)
+  sign_speaks (d ∷ ds) is =
+      (elim (is_sign_duty d) as (λ b. is_sign_duty d ≡ b → b || signs ds ≡ true → (signs ds ≡ true → speaks (Voice.Says A) ds ≡ true) → is_said_by (Voice.Says A) d || speaks (Voice.Says A) ds ≡ true) [
+        | true ↦ λ sign is rest. ap (λ c. c || speaks (Voice.Says A) ds) (said d sign)
+        | false ↦ λ sign is rest. or_right (is_said_by (Voice.Says A) d) (speaks (Voice.Says A) ds) (rest is)
+      ]) refl is (sign_speaks ds)
     where
       said : (d : Duty) → is_sign_duty d ≡ true → is_said_by (Voice.Says A) d ≡ true
       said (Duty.Step (StepDuty.Heard A index)) is = refl
@@ -131,10 +135,6 @@ module _ (p : PathState Carried) where
       said (Duty.Ask (AskDuty.AckHeard B)) is = absurd (false≢true is)
       said (Duty.Step StepDuty.Events) is = absurd (false≢true is)
       said _ is = absurd (false≢true is)
-
-      by : (b : Bool) → is_sign_duty d ≡ b → b || signs ds ≡ true → (signs ds ≡ true → speaks (Voice.Says A) ds ≡ true) → is_said_by (Voice.Says A) d || speaks (Voice.Says A) ds ≡ true
-      by true sign is rest = ap (λ c. c || speaks (Voice.Says A) ds) (said d sign)
-      by false sign is rest = or_right (is_said_by (Voice.Says A) d) (speaks (Voice.Says A) ds) (rest is)
 
 -- ---- A's control book
 
@@ -268,11 +268,7 @@ keyed_keeps : (c d : Control) → HasKey d → (is_gone c.fall.mode ≡ true →
 keyed_keeps c d has gone = record { key = λ was. has; gone = gone; fine = λ fine. record { sure = λ is. has; joined = λ is. has } }
 
 keys_mode : (f : Fall) → (fall_step f 0 false FallEvent.KeysHeard).0.mode ≡ f.mode
-keys_mode f = by (is_identity f.mode)
-  where
-    by : (b : Bool) → (if b then stays f else (record f { confirmed = true }, Stay)).0.mode ≡ f.mode
-    by true = refl
-    by false = refl
+keys_mode f = elim (is_identity f.mode) as (λ b. (if b then stays f else (record f { confirmed = true }, Stay)).0.mode ≡ f.mode) [ true ↦ refl | false ↦ refl ]
 
 -- a stop leaves the keys, and lets the side be past being sure
 stop_keeps : (c d : Control) → d.keys ≡ c.keys → d.fall.mode ≡ Mode.Aborted → d.fall.joined ≡ c.fall.joined → Keeps c d
@@ -370,12 +366,8 @@ module _ (key_a key_b : ℕ) where
   stop_told T key c = if_so (λ z. ModeGains T (Reply.Control z)) (key == c.keys.own) ControlReply.Stopped (ControlReply.OtherKey c.keys.own) tt tt
 
   address_told : (T : Type 0) (id : ℕ) (address : Address) (port hmac : ℕ) (c : Control) → ModeGains T (Reply.Control (control.address_reply id address port hmac c))
-  address_told T id address port hmac c = by (heard_reply is_same id address (control.is_right id address port hmac c) c.addresses)
-    where
-      by : (said : AddressHeard) → ModeGains T (Reply.Control (control.told_heard said))
-      by AddressHeard.Echo = tt
-      by AddressHeard.Known = tt
-      by AddressHeard.BadHmac = tt
+  address_told T id address port hmac c = elim (heard_reply is_same id address (control.is_right id address port hmac c) c.addresses) as (λ said. ModeGains T (Reply.Control (control.told_heard said)))
+      [ AddressHeard.Echo ↦ tt | AddressHeard.Known ↦ tt | AddressHeard.BadHmac ↦ tt ]
 
   gains : (six : SixBooks) (x : Ask) → KeysAsk key_a key_b true six x → Keeps six.control_a (after_ask x six).control_a → Fine six.control_a → Gains (Knew (after_ask x six).control_a) x (reply_of six x)
   gains six (Ask.Control A call) is keeps fine = by call is keeps

@@ -1,15 +1,14 @@
 -- No copy that arrives on a path that joins is refused for what it says, unless its options were taken away.
 use Rattle.world_laws.proofs.Words.{◌≡◌, refl, sym, ◌∙◌, ap, subst, ℕ, zero, suc, ◌+◌, ◌&&◌, ◌==◌, not, ⊎_elim, Bool, true, false, if◌then◌else◌, Option, Some}
 use Rattle.world_laws.proofs.Words.{None, Ok, Err, List, [], ◌∷◌, map, is_none, is_some, unwrap_or, eq-eqb, and_parts, both_ways, false≢true, same_Some}
-use Rattle.world_laws.proofs.Words.{flat_map, IfSome, option_or, result_ok, join_a160_of, join_b64_of, Side, A, B, peer, same_side, JoinForm, Answer}
-use Rattle.world_laws.proofs.Words.{Third, JoinAnswer, BadHmac, answer_heard, answer_taken, syn_heard, third_heard, is_closed_to_segments, is_half_open}
-use Rattle.world_laws.proofs.Words.{Meaning, EndState, EndPhase, meaning_of, Copy, is_due, arriving, Flight, HeardSegment, PlainOption, PlainSegment, Join}
-use Rattle.world_laws.proofs.Words.{meant, meant_option, window_told, Heard, is_of_step, join_in, join_heard, JoinStep, Reply, books_in, SixBooks}
-use Rattle.world_laws.proofs.Words.{reply_of, is_nil, PathEnd, waiting_path, PathState, end_at, Carried, as_arrived, values, items_in, items_of, copy_of}
-use Rattle.world_laws.proofs.Words.{judged_in, heard_in, Judged, is_joined, join_answer, join_asked, peer_key_of, join_value, is_hmac_right, is_third_right}
-use Rattle.world_laws.proofs.Words.{third_in, is_forged, is_passed_over, join_judged, in_map, Every-nil, in_set, Every, App, Path, Actor}
-use Rattle.world_laws.proofs.Words.{member_takes, member_next, Always, PathPlan, Start, path_begins, new_path, opened_world, WorldState, Turn}
-use Rattle.world_laws.proofs.Words.{crew_after, greatest, begins, after_turn, world_run}
+use Rattle.world_laws.proofs.Words.{flat_map, IfSome, option_or, result_ok, join_a160_of, join_b64_of, Side, A, B, peer, same_side, JoinForm, Answer, Third}
+use Rattle.world_laws.proofs.Words.{JoinAnswer, BadHmac, answer_heard, answer_taken, syn_heard, third_heard, is_closed_to_segments, is_half_open, Meaning}
+use Rattle.world_laws.proofs.Words.{EndState, EndPhase, meaning_of, Copy, is_due, arriving, Flight, HeardSegment, PlainOption, PlainSegment, Join, meant}
+use Rattle.world_laws.proofs.Words.{meant_option, window_told, Heard, is_of_step, join_in, join_heard, JoinStep, Reply, books_in, SixBooks, reply_of, is_nil}
+use Rattle.world_laws.proofs.Words.{PathEnd, waiting_path, PathState, end_at, Carried, as_arrived, values, items_in, items_of, copy_of, judged_in, heard_in}
+use Rattle.world_laws.proofs.Words.{Judged, is_joined, join_answer, join_asked, peer_key_of, join_value, is_hmac_right, is_third_right, third_in, is_forged}
+use Rattle.world_laws.proofs.Words.{is_passed_over, join_judged, in_map, Every-nil, in_set, Every, App, Path, Actor, member_takes, member_next, Always}
+use Rattle.world_laws.proofs.Words.{PathPlan, Start, path_begins, new_path, opened_world, WorldState, Turn, crew_after, greatest, begins, world_run}
 use Rattle.world_laws.proofs.Worlds.Turns.{run_so}
 use Rattle.std.specs.Cmp.Lexicographic.{pointwise}
 use Rattle.mptcp_options.specs.declared.join.JoinForm.TheVariants.{Syn}
@@ -150,18 +149,10 @@ module _ (k : Secrets) (w : Side → Type 0) (did : Deed → Side → Type 0) (s
 
   -- A is where B never is, and the other way round
   at_b : is_apart A e.tcp.state ≡ true → s ≡ B
-  at_b apart = by s role
-    where
-      by : (s : Side) → is_apart s e.tcp.state ≡ false → s ≡ B
-      by A none = absurd (both_ways _ none apart)
-      by B none = refl
+  at_b apart = (elim s as (λ s. is_apart s e.tcp.state ≡ false → s ≡ B) [ A ↦ λ none. absurd (both_ways _ none apart) | B ↦ λ none. refl ]) role
 
   at_a : is_apart B e.tcp.state ≡ true → s ≡ A
-  at_a apart = by s role
-    where
-      by : (s : Side) → is_apart s e.tcp.state ≡ false → s ≡ A
-      by A none = refl
-      by B none = absurd (both_ways _ none apart)
+  at_a apart = (elim s as (λ s. is_apart s e.tcp.state ≡ false → s ≡ A) [ A ↦ λ none. refl | B ↦ λ none. absurd (both_ways _ none apart) ]) role
 
   asks_to_join : s ≡ B → (copy_of heard).syn ≡ true → is_some (join_asked items) ≡ true
   asks_to_join side syn = by (join_heard JoinStep.Syn items) (subst (λ t. TellsJoin t items) side (tells syn)) (λ form. of_form JoinStep.Syn items form)
@@ -183,7 +174,9 @@ module _ (k : Secrets) (w : Side → Type 0) (did : Deed → Side → Type 0) (s
       by (Some f) found form = (form f refl, found.1.1.1)
 
   not_forged : (copy_of heard).rst ≡ false → is_passed_over heard.rst items e ≡ false → is_forged items e ≡ false
-  not_forged plain heeded = by (is_half_open e.tcp.state) refl heeded
+  not_forged plain heeded =
+      (elim (is_half_open e.tcp.state) as (λ half. is_half_open e.tcp.state ≡ half → half && (not heard.rst && is_none (third_in items)) ≡ false → half && not (is_third_right items e.modes) ≡ false)
+      [ false ↦ λ is heeded. refl | true ↦ λ is heeded. ap not (third is (some_third heard.rst (third_in items) plain heeded)) ]) refl heeded
     where
       third : is_half_open e.tcp.state ≡ true → is_some (third_in items) ≡ true → is_third_right items e.modes ≡ true
       third half some =
@@ -199,10 +192,6 @@ module _ (k : Secrets) (w : Side → Type 0) (did : Deed → Side → Type 0) (s
       some_third false (Some hmac) plain none = refl
       some_third false None plain none = absurd (both_ways true none refl)
       some_third true o plain none = absurd (false≢true (sym plain))
-
-      by : (half : Bool) → is_half_open e.tcp.state ≡ half → half && (not heard.rst && is_none (third_in items)) ≡ false → half && not (is_third_right items e.modes) ≡ false
-      by false is heeded = refl
-      by true is heeded = ap not (third is (some_third heard.rst (third_in items) plain heeded))
 
   silent_welcome : (b : Bool) (m : Meaning) → IsWelcome (if b then Judged.As Meaning.Ignored else Judged.As m)
   silent_welcome true m = tt

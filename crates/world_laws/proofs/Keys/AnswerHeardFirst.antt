@@ -78,7 +78,8 @@ handshake_apart s EndPhase.Waiting is = is
 handshake_apart s _ is = is
 
 pub ack_apart : (side : Side) (pos now : ℕ) (s : EndState) → is_apart side (after_acknowledgement pos now s).state ≡ is_apart side s.state
-ack_apart side pos now s = by (ack_kind pos s.send)
+ack_apart side pos now s = elim (ack_kind pos s.send) as (λ kind. is_apart side (after_ack_kind kind (sample_of pos s.send) now t).state ≡ is_apart side s.state)
+    [ AckKind.New octets ↦ new (is_fin_acked t.send) | _ ↦ refl ]
   where
     t : EndState
     t = record s { send = after_acknowledge pos s.send }
@@ -86,10 +87,6 @@ ack_apart side pos now s = by (ack_kind pos s.send)
     new : (b : Bool) → is_apart side (if b then states.after_fin_acked s.state else s.state) ≡ is_apart side s.state
     new true = acked_apart side s.state
     new false = refl
-
-    by : (kind : AckKind) → is_apart side (after_ack_kind kind (sample_of pos s.send) now t).state ≡ is_apart side s.state
-    by (AckKind.New octets) = new (is_fin_acked t.send)
-    by _ = refl
 
 taken_apart : (side : Side) (pos acknowledged : ℕ) (hint : Hint) (now : ℕ) (c : Copy) (s : EndState) → is_apart side (after_taken pos acknowledged hint now c s).state ≡ true → is_apart side s.state ≡ true
 taken_apart side pos acknowledged hint now c s = by (is_duplicate (ack_kind acknowledged opened.send) (told_by hint c) c acked)
@@ -125,13 +122,12 @@ past_met EndPhase.Dead is = absurd (false≢true is)
 past_met _ is = refl
 
 pub fits : (c : Copy) (s : EndState) → Fits s.state c (meaning_of c s)
-fits c s = by (meaning_of c s) (means c s)
-  where
-    by : (m : Meaning) → Means c s m → Fits s.state c m
-    by Meaning.Opens is = (λ heeds. ap is_met is.0, λ accepts. is.1.0)
-    by (Meaning.Accepts acknowledged) is = (λ heeds. absurd (false≢true heeds), λ accepts. is.1.0)
-    by (Meaning.Taken pos acknowledged) is = (λ heeds. past_met s.state is.0, λ accepts. absurd (false≢true accepts))
-    by _ is = (λ heeds. absurd (false≢true heeds), λ accepts. absurd (false≢true accepts))
+fits c s = (elim (meaning_of c s) as (λ m. Means c s m → Fits s.state c m) [
+  | Meaning.Opens ↦ λ is. (λ heeds. ap is_met is.0, λ accepts. is.1.0)
+  | Meaning.Accepts acknowledged ↦ λ is. (λ heeds. absurd (false≢true heeds), λ accepts. is.1.0)
+  | Meaning.Taken pos acknowledged ↦ λ is. (λ heeds. past_met s.state is.0, λ accepts. absurd (false≢true accepts))
+  | _ ↦ λ is. (λ heeds. absurd (false≢true heeds), λ accepts. absurd (false≢true accepts))
+]) (means c s)
 
 -- ---- duties
 

@@ -310,11 +310,8 @@ module _ (k : Secrets) (right : Bool) (w : Side → Type 0) (did : Deed → Side
     )
 
     opening_is : Every (OptionIs (is_joined c) s) (opening_options c s e)
-    opening_is = by e.modes.owes_third refl
-      where
-        by : (b : Bool) → e.modes.owes_third ≡ b → Every (OptionIs (is_joined c) s) (if b then third_options e.modes else key_options c s e.modes.peer_key e)
-        by true owes = third_is (h.modes.joins owes) (h.modes.third owes)
-        by false owes = keys_say s e.modes.peer_key h.modes.own h.modes.peer_is h.modes.keyed
+    opening_is = (elim e.modes.owes_third as (λ b. e.modes.owes_third ≡ b → Every (OptionIs (is_joined c) s) (if b then third_options e.modes else key_options c s e.modes.peer_key e))
+        [ true ↦ λ owes. third_is (h.modes.joins owes) (h.modes.third owes) | false ↦ λ owes. keys_say s e.modes.peer_key h.modes.own h.modes.peer_is h.modes.keyed ]) refl
 
     fail_are : (o : Option ℕ) → (is_joined c ≡ true → OfB s (w B)) → Every (OptionIs (is_joined c) s) (fail_options o)
     fail_are None knows = Every-nil _
@@ -431,11 +428,8 @@ module _ (k : Secrets) (right : Bool) (w : Side → Type 0) (did : Deed → Side
       )
 
       syn_options_are : Every (OptionIs (is_joined c) s) (syn_options c s e)
-      syn_options_are = by (is_joined c) knows
-        where
-          by : (b : Bool) → (b ≡ true → Knows s e.modes) → Every (OptionIs b s) (if b then join_options c s e.modes else capable_options c s e)
-          by true has = join_is s h.modes.own h.modes.nonce (has refl)
-          by false has = capable_is s h.modes.own
+      syn_options_are = (elim (is_joined c) as (λ b. (b ≡ true → Knows s e.modes) → Every (OptionIs b s) (if b then join_options c s e.modes else capable_options c s e))
+          [ true ↦ λ has. join_is s h.modes.own h.modes.nonce (has refl) | false ↦ λ has. capable_is s h.modes.own ]) knows
 
       record_options_are : (kind : RecordKind) (r : Record) → Every (OptionIs (is_joined c) s) (record_options kind c s r e)
       record_options_are Syn r = syn_options_are
@@ -489,11 +483,8 @@ module _ (k : Secrets) (right : Bool) (w : Side → Type 0) (did : Deed → Side
     join_items_are B (Answer backup id hmac nonce) h = Every-nil _
 
   first_items_are : (len : ℕ) → Every (ItemIs false B) (first_items len)
-  first_items_are len = by (nat_lt 0 len) (mapping_items_are false B 0 1 len false)
-    where
-      by : (b : Bool) → Every (ItemIs false B) (mapping_items 0 1 len false) → Every (ItemIs false B) (if b then mapping_items 0 1 len false else [])
-      by true are = are
-      by false are = Every-nil _
+  first_items_are len = (elim (nat_lt 0 len) as (λ b. Every (ItemIs false B) (mapping_items 0 1 len false) → Every (ItemIs false B) (if b then mapping_items 0 1 len false else []))
+      [ true ↦ λ are. are | false ↦ λ are. Every-nil _ ]) (mapping_items_are false B 0 1 len false)
 
   key_items_are : (s : Side) (keys : CapableKeys) → KeysAre k right (peer s) keys → ShownBy (peer s) keys → Every (ItemIs false s) (key_items s keys)
   key_items_are A NoKey h shown = Every-nil _

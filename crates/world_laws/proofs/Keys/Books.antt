@@ -51,18 +51,11 @@ notice_is own other T Notice.Reset path c h = h
 
 -- a sign of the peer's, which makes a side sure
 sign_confirms : (f : Fall) → (after_sure_sign f).0.confirmed ≡ f.confirmed
-sign_confirms f = by (is_starting f.mode)
-  where
-    by : (b : Bool) → (if b then goes Mode.Sure f else stays f).0.confirmed ≡ f.confirmed
-    by true = refl
-    by false = refl
+sign_confirms f = elim (is_starting f.mode) as (λ b. (if b then goes Mode.Sure f else stays f).0.confirmed ≡ f.confirmed) [ true ↦ refl | false ↦ refl ]
 
 plain_confirms : (f : Fall) → (after_plain f).0.confirmed ≡ f.confirmed
-plain_confirms f = by (is_starting f.mode && not f.joined)
-  where
-    by : (b : Bool) → (if b then goes Mode.Identity f else stays f).0.confirmed ≡ f.confirmed
-    by true = refl
-    by false = refl
+plain_confirms f = elim (is_starting f.mode && not f.joined) as (λ b. (if b then goes Mode.Identity f else stays f).0.confirmed ≡ f.confirmed)
+    [ true ↦ refl | false ↦ refl ]
 
 infinite_confirms : (path : ℕ) (sole : Bool) (f : Fall) → (after_infinite path sole f).0.confirmed ≡ f.confirmed
 infinite_confirms path sole f = by (not (reads_mappings f.mode)) (sole && is_failed_path f.failed path) (writes_mappings f.mode && not f.joined && is_none f.failed)
@@ -263,12 +256,9 @@ fast_untold test stopped other key c =
 address_untold : (test : Reply → Bool) → test (Reply.Control ControlReply.Echo) ≡ false → test (Reply.Control ControlReply.Known) ≡ false
     → test (Reply.Control ControlReply.BadHmac) ≡ false → (id : ℕ) (address : Address) (port hmac : ℕ) (c : Control)
     → test (Reply.Control (control.address_reply id address port hmac c)) ≡ false
-address_untold test echo known bad id address port hmac c = by (heard_reply is_same id address (control.is_right id address port hmac c) c.addresses)
-  where
-    by : (said : AddressHeard) → test (Reply.Control (control.told_heard said)) ≡ false
-    by AddressHeard.Echo = echo
-    by AddressHeard.Known = known
-    by AddressHeard.BadHmac = bad
+address_untold test echo known bad id address port hmac c =
+    elim (heard_reply is_same id address (control.is_right id address port hmac c) c.addresses) as (λ said. test (Reply.Control (control.told_heard said)) ≡ false)
+    [ AddressHeard.Echo ↦ echo | AddressHeard.Known ↦ known | AddressHeard.BadHmac ↦ bad ]
 
 module _ (k : Secrets) (right : Bool) (w : Side → Type 0) (did : Deed → Side → Type 0) (s : Side) (c : Control) (h : BookIs (drawn_key k right s) (drawn_key k right (peer s)) (KeysFor k right w did s) c) where
   pub key_untold : (call : ControlCall) → AskIs k right w did (Ask.Control s call) → tells_other_key (Reply.Control (control.reply_to c call)) ≡ false

@@ -120,16 +120,12 @@ module _ (k : Secrets) (right : Bool) (w : Side → Type 0) (did : Deed → Side
 
   -- what is accepted answers the join
   accepts_answer : (rst : Bool) (items : List Heard) (m : Meaning) (e : PathEnd) (acknowledged : ℕ) → taken_as (join_judged rst items m e) ≡ Meaning.Accepts acknowledged → is_some (join_answer items e.modes) ≡ true
-  accepts_answer rst items Meaning.Opens e acknowledged is = by (is_some (join_asked items)) is
-    where
-      by : (b : Bool) → taken_as (if b then Judged.Asks else Judged.Lacks) ≡ Meaning.Accepts acknowledged → is_some (join_answer items e.modes) ≡ true
-      by true is = cc
-      by false is = cc
-  accepts_answer rst items (Meaning.Accepts at) e acknowledged is = by (is_some (join_answer items e.modes)) is
-    where
-      by : (b : Bool) → taken_as (if b then Judged.As (Meaning.Accepts at) else Judged.Forged) ≡ Meaning.Accepts acknowledged → b ≡ true
-      by true is = refl
-      by false is = cc
+  accepts_answer rst items Meaning.Opens e acknowledged is =
+      (elim (is_some (join_asked items)) as (λ b. taken_as (if b then Judged.Asks else Judged.Lacks) ≡ Meaning.Accepts acknowledged → is_some (join_answer items e.modes) ≡ true)
+      [ true ↦ λ is. cc | false ↦ λ is. cc ]) is
+  accepts_answer rst items (Meaning.Accepts at) e acknowledged is =
+      (elim (is_some (join_answer items e.modes)) as (λ b. taken_as (if b then Judged.As (Meaning.Accepts at) else Judged.Forged) ≡ Meaning.Accepts acknowledged → b ≡ true)
+      [ true ↦ λ is. refl | false ↦ λ is. cc ]) is
   accepts_answer rst items Meaning.RepeatedSyn e acknowledged is = cc
   accepts_answer rst items (Meaning.Taken pos at) e acknowledged is = by (is_passed_over rst items e) (is_forged items e) is
     where

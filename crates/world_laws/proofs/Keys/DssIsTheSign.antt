@@ -16,7 +16,6 @@ use Rattle.world_laws.proofs.Words.{after_check_failed, after_fell, fell_duties,
 use Rattle.world_laws.proofs.Words.{answered_fell, answered_peer_key, answered_opened, key_items, is_stopped_by, item_removed, address_items, item_at, if_so}
 use Rattle.path_segments.specs.declared.segment.PathOption.TheVariants.{FastClose}
 use Rattle.path_core.specs.declared.events.Event.{Event}
-use Rattle.path_core.specs.Emission.{Grant}
 use Rattle.world_laws.proofs.Writes.Ends.{item_so}
 use Rattle.world_laws.proofs.Falls.ClearStays.{maybe_end, passed_clear, answered_clear, Stays}
 use Rattle.world_laws.proofs.Falls.Verdicts.{fell_cases}
@@ -394,11 +393,11 @@ module _ {C : Type 0} where
   data_goes : (k : Codec C) (s : Side) (r : Reply) (ds : List Duty) (p : PathState C) (o : Option Record)
       → let m = with_agenda (Duty.Step (StepDuty.Data s) ∷ ds) p in let q = answered_data k s o r m in Goes (Duty.Step (StepDuty.Data s)) ds m q q.agenda
   data_goes k s r ds p (Some u) = record { recalls = side_recalls s _ (with_agenda (Duty.Step (StepDuty.Data s) ∷ ds) p) _ (recalls_all _ _ refl) refl; follows = λ n f. f }
-  data_goes k s r ds p None = by (grant_in r)
-    where
-      by : (o : Option Grant) → let m = with_agenda (Duty.Step (StepDuty.Data s) ∷ ds) p in let q = answered_grant s o r m in Goes (Duty.Step (StepDuty.Data s)) ds m q q.agenda
-      by (Some grant) = record { recalls = side_recalls s _ (with_agenda (Duty.Step (StepDuty.Data s) ∷ ds) p) _ (recalls_all _ _ refl) refl; follows = λ n f. f }
-      by None = record { recalls = side_recalls s _ (with_agenda (Duty.Step (StepDuty.Data s) ∷ ds) p) _ (recalls_all _ _ refl) refl; follows = λ n f. f }
+  data_goes k s r ds p None =
+      elim (grant_in r) as (λ o. let m = with_agenda (Duty.Step (StepDuty.Data s) ∷ ds) p in let q = answered_grant s o r m in Goes (Duty.Step (StepDuty.Data s)) ds m q q.agenda) [
+        | Some grant ↦ record { recalls = side_recalls s _ (with_agenda (Duty.Step (StepDuty.Data s) ∷ ds) p) _ (recalls_all _ _ refl) refl; follows = λ n f. f }
+        | None ↦ record { recalls = side_recalls s _ (with_agenda (Duty.Step (StepDuty.Data s) ∷ ds) p) _ (recalls_all _ _ refl) refl; follows = λ n f. f }
+      ]
 
   join_goes : (s : Side) (keys : Option KeyPair) (asked : Option JoinSyn) (r : Reply) (ds : List Duty) (p : PathState C)
       → let m = with_agenda (Duty.Ask (AskDuty.JoinHeard s) ∷ ds) p in let q = join_taken s keys asked r m in Goes (Duty.Ask (AskDuty.JoinHeard s)) ds m q q.agenda

@@ -21,27 +21,19 @@ pub look_leaves : (r : Reply) (m : Modes) → known_in (modes_told r m) ≡ know
 look_leaves (Reply.Send reply) m = refl
 look_leaves (Reply.Reassembly reply) m = refl
 look_leaves Reply.Done m = refl
-look_leaves (Reply.Control reply) m = by reply
-  where
-    by : (reply : ControlReply) → known_in (modes_told (Reply.Control reply) m) ≡ known_in m
-    by (ControlReply.Standing mode standby sole notice) = refl
-    by ControlReply.Noted = refl
-    by _ = refl
+look_leaves (Reply.Control reply) m = elim reply as (λ reply. known_in (modes_told (Reply.Control reply) m) ≡ known_in m)
+    [ ControlReply.Standing mode standby sole notice ↦ refl | ControlReply.Noted ↦ refl | _ ↦ refl ]
 
 pub verdict_leaves : (r : Reply) (m : Modes) → known_in (mode_in r m) ≡ known_in m
 verdict_leaves (Reply.Send reply) m = refl
 verdict_leaves (Reply.Reassembly reply) m = refl
 verdict_leaves Reply.Done m = refl
-verdict_leaves (Reply.Control reply) m = by reply
+verdict_leaves (Reply.Control reply) m = elim reply as (λ reply. known_in (mode_in (Reply.Control reply) m) ≡ known_in m)
+    [ ControlReply.Verdict v ↦ by_verdict v | ControlReply.Noted ↦ refl | _ ↦ refl ]
   where
     by_verdict : (v : Verdict) → known_in (mode_in (Reply.Control (ControlReply.Verdict v)) m) ≡ known_in m
     by_verdict (Verdict.Went mode) = refl
     by_verdict _ = refl
-
-    by : (reply : ControlReply) → known_in (mode_in (Reply.Control reply) m) ≡ known_in m
-    by (ControlReply.Verdict v) = by_verdict v
-    by ControlReply.Noted = refl
-    by _ = refl
 
 pub fell_leaves : (event : FallEvent) (r : Reply) (m : Modes) → known_in (fell_in event r m) ≡ known_in m
 fell_leaves FallEvent.PlainData r m = verdict_leaves r m
@@ -179,11 +171,10 @@ module _ (k : Secrets) (right : Bool) (w : Side → Type 0) (did : Deed → Side
   goes_is s e ds p own still fewer stays h = goes_by s e ds p own still (fewer_known s e ds p fewer stays h) h
 
   pub with_is : (s : Side) (e : PathEnd) (p : PathState Carried) → EndIs k right w did (is_joined p.profile) s e → Still s e p → Stays s e p → PathIs p → PathIs (with_end s e p)
-  with_is s e p own still stays h = by s (goes_is s e p.agenda p own still (λ x is. is) stays h)
-    where
-      by : (s : Side) → PathIs (goes_on s e p.agenda p) → PathIs (with_end s e p)
-      by A g = record { a = g.a; b = g.b; copies = g.copies; known = g.known; waits = g.waits }
-      by B g = record { a = g.a; b = g.b; copies = g.copies; known = g.known; waits = g.waits }
+  with_is s e p own still stays h = (elim s as (λ s. PathIs (goes_on s e p.agenda p) → PathIs (with_end s e p)) [
+    | A ↦ λ g. record { a = g.a; b = g.b; copies = g.copies; known = g.known; waits = g.waits }
+    | B ↦ λ g. record { a = g.a; b = g.b; copies = g.copies; known = g.known; waits = g.waits }
+  ]) (goes_is s e p.agenda p own still (λ x is. is) stays h)
 
   pub agenda_is : (ds : List Duty) (p : PathState Carried) → Fewer p ds → PathIs p → PathIs (with_agenda ds p)
   agenda_is ds p fewer h = record { a = h.a; b = h.b; copies = h.copies; known = by; waits = h.waits }
@@ -201,11 +192,8 @@ module _ (k : Secrets) (right : Bool) (w : Side → Type 0) (did : Deed → Side
     where
       by : (ds : List Duty) → ((x : Voice) → speaks x ds ≡ true → VoiceIs p x) → (x : Voice) → speaks x (replaced d ds) ≡ true → VoiceIs (with_end s e p) x
       by [] known x spoken = with_voice s e p stays x (known x spoken)
-      by (first ∷ ds) known x spoken = at (is_said_by x d) refl spoken
-        where
-          at : (b : Bool) → is_said_by x d ≡ b → b || speaks x ds ≡ true → VoiceIs (with_end s e p) x
-          at true said rest = own x said
-          at false said rest = with_voice s e p stays x (known x (tail_speaks x (first ∷ ds) rest))
+      by (first ∷ ds) known x spoken = (elim (is_said_by x d) as (λ b. is_said_by x d ≡ b → b || speaks x ds ≡ true → VoiceIs (with_end s e p) x)
+          [ true ↦ λ said rest. own x said | false ↦ λ said rest. with_voice s e p stays x (known x (tail_speaks x (first ∷ ds) rest)) ]) refl spoken
 
   pub stays_same : (s : Side) (e : PathEnd) (p : PathState Carried) → known_in e.modes ≡ known_in (end_at s p).modes → Stays s e p
   stays_same s e p same is knows = same_knows k right w did s (end_at s p).modes e.modes same knows
@@ -309,29 +297,28 @@ module _ (k : Secrets) (right : Bool) (w : Side → Type 0) (did : Deed → Side
 
     pub pair_found : (s : Side) (items : List Heard) → Every (ItemIs k right w did joined s) items → IfSome (keys_heard items) (PairIs s)
     pair_found s [] h = tt
-    pair_found s (item ∷ items) h = by item (h.each 0 item refl) (pair_found s items (record { each = λ i x at. h.each (suc i) x at }))
-      where
-        by : (item : Heard) → ItemIs k right w did joined s item → IfSome (keys_heard items) (PairIs s) → IfSome (keys_heard (item ∷ items)) (PairIs s)
-        by (Heard.Keys own other) pair rest = pair
-        by Heard.Dss pair rest = rest
-        by _ pair rest = rest
+    pair_found s (item ∷ items) h = (elim item as (λ item. ItemIs k right w did joined s item → IfSome (keys_heard items) (PairIs s) → IfSome (keys_heard (item ∷ items)) (PairIs s)) [
+      | Heard.Keys own other ↦ λ pair rest. pair
+      | Heard.Dss ↦ λ pair rest. rest
+      | _ ↦ λ pair rest. rest
+    ]) (h.each 0 item refl) (pair_found s items (record { each = λ i x at. h.each (suc i) x at }))
 
     abbrev pub FormIs : Side → JoinForm → Type 0
     FormIs s form = (joined ≡ true) × (IsFor s form × (w (peer s) × (right ≡ true → JoinIs k right (peer s) form)))
 
     pub join_found : (s : Side) (of_step : JoinStep) (items : List Heard) → Every (ItemIs k right w did joined s) items → IfSome (join_heard of_step items) (FormIs s)
     join_found s of_step [] h = tt
-    join_found s of_step (item ∷ items) h = by item (h.each 0 item refl) (join_found s of_step items (record { each = λ i x at. h.each (suc i) x at }))
+    join_found s of_step (item ∷ items) h =
+        (elim item as (λ item. ItemIs k right w did joined s item → IfSome (join_heard of_step items) (FormIs s) → IfSome (join_heard of_step (item ∷ items)) (FormIs s)) [
+          | Heard.Join f ↦ λ is rest. form f (is_of_step of_step f) is rest
+          | Heard.Dss ↦ λ is rest. rest
+          | _ ↦ λ is rest. rest
+        ]) (h.each 0 item refl) (join_found s of_step items (record { each = λ i x at. h.each (suc i) x at }))
       where
         form : (f : JoinForm) (b : Bool) → FormIs s f → IfSome (join_heard of_step items) (FormIs s)
             → IfSome (option_or (if b then Some f else None) (join_heard of_step items)) (FormIs s)
         form f true is rest = is
         form f false is rest = rest
-
-        by : (item : Heard) → ItemIs k right w did joined s item → IfSome (join_heard of_step items) (FormIs s) → IfSome (join_heard of_step (item ∷ items)) (FormIs s)
-        by (Heard.Join f) is rest = form f (is_of_step of_step f) is rest
-        by Heard.Dss is rest = rest
-        by _ is rest = rest
 
     -- what is asked for, and what is answered
     abbrev pub AskedIs : Side → Asked → Type 0
@@ -528,11 +515,9 @@ module _ (k : Secrets) (right : Bool) (w : Side → Type 0) (did : Deed → Side
   joined_knows s keys asked e is heard = (is.1.0, λ sure. met_needs k right s (joined_by keys asked e).modes (ap (λ n. Some n) (is.1.1 sure), (heard.1.1.1 sure).1))
 
   pub joined_waits : (keys : KeyPair) (asked : Asked) (e : PathEnd) → is_waiting (joined_by keys asked e).tcp.state ≡ true → is_waiting e.tcp.state ≡ true
-  joined_waits keys asked e = by (is_listening e.tcp.state)
-    where
-      by : (b : Bool) → is_waiting (if b then after_syn (unkept None) (syn_alone e.treated.window) e.tcp else e.tcp).state ≡ true → is_waiting e.tcp.state ≡ true
-      by true waiting = absurd (false≢true waiting)
-      by false waiting = waiting
+  joined_waits keys asked e =
+      elim (is_listening e.tcp.state) as (λ b. is_waiting (if b then after_syn (unkept None) (syn_alone e.treated.window) e.tcp else e.tcp).state ≡ true → is_waiting e.tcp.state ≡ true)
+      [ true ↦ λ waiting. absurd (false≢true waiting) | false ↦ λ waiting. waiting ]
 
 -- ---- the more sides joined
 

@@ -183,11 +183,8 @@ module _ (T : Type 0) where
 
   pub settled_met : (ds : List Duty) (p : PathState Carried) → CalmMet (with_agenda ds p) → CalmMet (settled ds p)
   settled_met [] p h = h
-  settled_met (d ∷ ds) p h = by (stands d p) (settled_met ds (passed d p) (passed_met d ds p (tail_met d ds p h)))
-    where
-      by : (b : Bool) → CalmMet (settled ds (passed d p)) → CalmMet (if b then with_agenda (d ∷ ds) p else settled ds (passed d p))
-      by true rest = h
-      by false rest = rest
+  settled_met (d ∷ ds) p h = (elim (stands d p) as (λ b. CalmMet (settled ds (passed d p)) → CalmMet (if b then with_agenda (d ∷ ds) p else settled ds (passed d p)))
+      [ true ↦ λ rest. h | false ↦ λ rest. rest ]) (settled_met ds (passed d p) (passed_met d ds p (tail_met d ds p h)))
 
   pub own_agenda : (p : PathState Carried) → CalmMet p → CalmMet (with_agenda p.agenda p)
   own_agenda p h = agenda_met p.agenda p (same_duties p.agenda) h
@@ -253,7 +250,8 @@ module _ (T : Type 0) where
 
   -- A begins a join
   pub begun_met : (r : Reply) (dead living : List Duty) (p : PathState Carried) → ModeGains r → Fewer p.agenda dead → Fewer p.agenda living → CalmMet p → CalmMet (join_begun r dead living p)
-  begun_met r dead living p gains to_dead to_living h = by (is_never r)
+  begun_met r dead living p gains to_dead to_living h = elim (is_never r) as (λ b. CalmMet (if b then goes_on A (never_joined r p.a) dead p else goes_on A (opened_by (keys_begun r) p.a) living p))
+      [ true ↦ goes_met A (never_joined r p.a) dead p (λ is. absurd (false≢true is), λ is. refused_mode r p.a.modes.mode gains is) to_dead h | false ↦ opens (keys_begun r) ]
     where
       begun : (b : Bool) → is_met (if b then after_begin p.a.tcp else p.a.tcp).state ≡ true → is_met p.a.tcp.state ≡ true
       begun true is = absurd (false≢true is)
@@ -262,10 +260,6 @@ module _ (T : Type 0) where
       opens : (o : Option KeyPair) → CalmMet (goes_on A (opened_by o p.a) living p)
       opens None = goes_met A p.a living p (same_goes A p.a p refl refl) to_living h
       opens (Some keys) = goes_met A (opened_by (Some keys) p.a) living p (state_goes A (opened_by (Some keys) p.a) p (begun (is_waiting p.a.tcp.state)) refl) to_living h
-
-      by : (b : Bool) → CalmMet (if b then goes_on A (never_joined r p.a) dead p else goes_on A (opened_by (keys_begun r) p.a) living p)
-      by true = goes_met A (never_joined r p.a) dead p (λ is. absurd (false≢true is), λ is. refused_mode r p.a.modes.mode gains is) to_dead h
-      by false = opens (keys_begun r)
 
   fired_met : (s : Side) (p : PathState Carried) → CalmMet p → CalmMet (timer_fired s p)
   fired_met s p h = by (is_sixth (end_at s p).tcp)

@@ -80,11 +80,10 @@ module _ (c : Copy) (s : EndState) where
       is_not false is = refl
 
   pub means : Means c s (meaning_of c s)
-  means = by s.state refl
-    where
-      by : (state : EndPhase) → s.state ≡ state → Means c s (meaning_at state c s)
-      by EndPhase.Dead is = either c.rst Meaning.Ignored Meaning.Unwanted (λ rst. tt) (λ rst. tt)
-      by EndPhase.Waiting is = tt
-      by EndPhase.Listen is = either (is_syn_alone c) Meaning.Opens Meaning.Ignored (alone is) (λ no. tt)
-      by EndPhase.SynSent is = either (is_at_limit s) Meaning.Ignored (meaning_answering c.acknowledged c s) (λ limit. tt) (λ limit. answering is c.acknowledged)
-      by _ is = connected (ap is_past is)
+  means = (elim s.state as (λ state. s.state ≡ state → Means c s (meaning_at state c s)) [
+    | EndPhase.Dead ↦ λ is. either c.rst Meaning.Ignored Meaning.Unwanted (λ rst. tt) (λ rst. tt)
+    | EndPhase.Waiting ↦ λ is. tt
+    | EndPhase.Listen ↦ λ is. either (is_syn_alone c) Meaning.Opens Meaning.Ignored (alone is) (λ no. tt)
+    | EndPhase.SynSent ↦ λ is. either (is_at_limit s) Meaning.Ignored (meaning_answering c.acknowledged c s) (λ limit. tt) (λ limit. answering is c.acknowledged)
+    | _ ↦ λ is. connected (ap is_past is)
+  ]) refl

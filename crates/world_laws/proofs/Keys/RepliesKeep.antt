@@ -110,15 +110,15 @@ module _ (T : Type 0) where
   is_signed s p = OfA T s (signs p.agenda ≡ true)
 
   heard_answered_met : (s : Side) (item : Heard) (r : Reply) (p : PathState Carried) → Gains T (heard_ask values s item p) r → is_signed s p → CalmMet T p → CalmMet T (answered_heard values s item r p)
-  heard_answered_met s (Heard.DataAck next window) r p gains sign h = by (is_acked r && nat_lt 0 next)
+  heard_answered_met s (Heard.DataAck next window) r p gains sign h =
+      elim (is_acked r && nat_lt 0 next) as (λ b. CalmMet T (goes_on s (with_acked next r (end_at s p)) (if b then replaced (Duty.Ask (AskDuty.AckHeard s)) p.agenda else left p) p)) [
+        | true ↦ same_met s (with_acked next r (end_at s p)) (replaced (Duty.Ask (AskDuty.AckHeard s)) p.agenda) p refl refl (told s sign) h
+        | false ↦ same_met s (with_acked next r (end_at s p)) (left p) p refl refl (tail_fewer p.agenda) h
+      ]
     where
       told : (s : Side) → is_signed s p → Fewer p.agenda (replaced (Duty.Ask (AskDuty.AckHeard s)) p.agenda)
       told A sign = replaced_fewer (Duty.Ask (AskDuty.AckHeard A)) p.agenda refl (λ is. sign)
       told B sign = replaced_fewer (Duty.Ask (AskDuty.AckHeard B)) p.agenda refl (λ is. absurd (false≢true is))
-
-      by : (b : Bool) → CalmMet T (goes_on s (with_acked next r (end_at s p)) (if b then replaced (Duty.Ask (AskDuty.AckHeard s)) p.agenda else left p) p)
-      by true = same_met s (with_acked next r (end_at s p)) (replaced (Duty.Ask (AskDuty.AckHeard s)) p.agenda) p refl refl (told s sign) h
-      by false = same_met s (with_acked next r (end_at s p)) (left p) p refl refl (tail_fewer p.agenda) h
   heard_answered_met s (Heard.Mapping fin) r p gains sign h = by (is_clash (end_at s p)) gains
     where
       by : (b : Bool) → Gains T (if b then break_ask values s 1 p else fell_ask s FallEvent.MappingHeard p) r
@@ -140,15 +140,12 @@ module _ (T : Type 0) where
           → CalmMet T (if b then book_answered s r p else answered_fell s (FallEvent.FailHeard false) r p)
       by true gains = same_met s (with_infinite r (end_at s p)) (replaced (Duty.Ask (AskDuty.FailHeard s)) p.agenda) p refl refl (fails_fewer s p.agenda) h
       by false gains = told_met s (FallEvent.FailHeard false) r p gains h
-  heard_answered_met s (Heard.FastClose key) r p gains sign h = by (is_stopped_by r)
+  heard_answered_met s (Heard.FastClose key) r p gains sign h = elim (is_stopped_by r) as (λ b. CalmMet T (with_agenda (if b then stops s else left p) p))
+      [ true ↦ agenda_met T (stops s) p (fewer s) h | false ↦ agenda_met T (left p) p (tail_fewer p.agenda) h ]
     where
       fewer : (s : Side) → Fewer p.agenda (stops s)
       fewer A = new_duties p.agenda (stops A) refl refl
       fewer B = new_duties p.agenda (stops B) refl refl
-
-      by : (b : Bool) → CalmMet T (with_agenda (if b then stops s else left p) p)
-      by true = agenda_met T (stops s) p (fewer s) h
-      by false = agenda_met T (left p) p (tail_fewer p.agenda) h
 
   item_answered_met : (s : Side) (o : Option Heard) (r : Reply) (p : PathState Carried) → Gains T (item_ask values s o p) r → is_signed s p → CalmMet T p → CalmMet T (answered_item values s o r p)
   item_answered_met s None r p gains sign h = agenda_met T (left p) p (tail_fewer p.agenda) h

@@ -109,11 +109,10 @@ pub finishing_up : (s : EndState) → NoWaking s (after_finishing s)
 finishing_up s = let same = finish_same s.state in alike_up s (after_finishing s) (record { state = same.0; waits = same.1; past = same.2; timer = refl })
 
 pub passing_up : (s : EndState) → NoWaking s (if is_fin_next s then after_passing_fin s else s)
-passing_up s = by (is_fin_next s)
-  where
-    by : (b : Bool) → NoWaking s (if b then after_passing_fin s else s)
-    by true = let same = passed_same s.state in alike_up s (after_passing_fin s) (record { state = same.0; waits = same.1; past = same.2; timer = refl })
-    by false = record { up = λ up. up; waits = λ is. is; past = λ is. is }
+passing_up s = elim (is_fin_next s) as (λ b. NoWaking s (if b then after_passing_fin s else s)) [
+  | true ↦ let same = passed_same s.state in alike_up s (after_passing_fin s) (record { state = same.0; waits = same.1; past = same.2; timer = refl })
+  | false ↦ record { up = λ up. up; waits = λ is. is; past = λ is. is }
+]
 
 -- ---- a copy
 
@@ -245,17 +244,11 @@ copy_past m owes hint now c octets s P none accepts past is =
 
 -- a lively copy comes to an open end
 lively_open : (state : EndPhase) (c : Copy) (s : EndState) → is_lively (meaning_at state c s) ≡ true → is_closed_to_segments state ≡ false
-lively_open EndPhase.Dead c s is = by c.rst is
-  where
-    by : (b : Bool) → is_lively (if b then Meaning.Ignored else Meaning.Unwanted) ≡ true → true ≡ false
-    by true is = absurd (false≢true is)
-    by false is = absurd (false≢true is)
+lively_open EndPhase.Dead c s is = (elim c.rst as (λ b. is_lively (if b then Meaning.Ignored else Meaning.Unwanted) ≡ true → true ≡ false)
+    [ true ↦ λ is. absurd (false≢true is) | false ↦ λ is. absurd (false≢true is) ]) is
 lively_open EndPhase.Waiting c s is = absurd (false≢true is)
-lively_open EndPhase.Listen c s is = by (is_syn_alone c) is
-  where
-    by : (b : Bool) → is_lively (if b then Meaning.Opens else Meaning.Ignored) ≡ true → true ≡ false
-    by true is = absurd (false≢true is)
-    by false is = absurd (false≢true is)
+lively_open EndPhase.Listen c s is = (elim (is_syn_alone c) as (λ b. is_lively (if b then Meaning.Opens else Meaning.Ignored) ≡ true → true ≡ false)
+    [ true ↦ λ is. absurd (false≢true is) | false ↦ λ is. absurd (false≢true is) ]) is
 lively_open EndPhase.SynSent c s is = refl
 lively_open _ c s is = refl
 
@@ -335,11 +328,7 @@ speaks x ds = list_any (is_said_by x) ds
 
 pub tail_speaks : (x : Voice) (ds : List Duty) → speaks x (tail_of ds) ≡ true → speaks x ds ≡ true
 tail_speaks x [] is = is
-tail_speaks x (d ∷ ds) is = by (is_said_by x d)
-  where
-    by : (b : Bool) → b || speaks x ds ≡ true
-    by true = refl
-    by false = is
+tail_speaks x (d ∷ ds) is = elim (is_said_by x d) as (λ b. b || speaks x ds ≡ true) [ true ↦ refl | false ↦ is ]
 
 pub replaced_speaks : (x : Voice) (d : Duty) (ds : List Duty) → is_said_by x d ≡ false → speaks x (replaced d ds) ≡ true → speaks x ds ≡ true
 replaced_speaks x d [] calm is = is
@@ -414,11 +403,8 @@ earlier_has P (Some x) (Some y) first other = if_so (λ z. IfSome z P) (nat_le (
 
 join_has : {C : Type 0} (p : PathState C) (state : EndPhase) (o : Option ℕ) → p.a.tcp.state ≡ state → IfSome (next_join state o) (Happens p)
 join_has p state None same = tt
-join_has p state (Some tick) same = by (is_waiting state) refl
-  where
-    by : (b : Bool) → is_waiting state ≡ b → IfSome (if b then Some (Event.Joins tick) else None) (Happens p)
-    by true waits = ap is_waiting same ∙ waits
-    by false waits = tt
+join_has p state (Some tick) same = (elim (is_waiting state) as (λ b. is_waiting state ≡ b → IfSome (if b then Some (Event.Joins tick) else None) (Happens p))
+    [ true ↦ λ waits. ap is_waiting same ∙ waits | false ↦ λ waits. tt ]) refl
 
 line_has : {C : Type 0} (p : PathState C) (lines : List LineLeft) → IfSome (next_line lines) (Happens p)
 line_has p [] = tt

@@ -269,7 +269,10 @@ module _ (six : SixBooks) (others : Others) (p : PathState Carried) (ab ba : Lan
         by (Some o) none = outgoing_says p.profile s e back.acks out shows.acks.windows fell o (Some 1) none.0 none.1
 
     pub resend_step : IsCalm → Steps (sends values s (resend_of s p) p) (answered_resend values s p)
-    resend_step calm = by (has_records e.tcp)
+    resend_step calm = elim (has_records e.tcp) as (λ some. Sends (resend_occasion e) (left p) (if some then record_or_ack p.profile s (first_record e) e else ack_resent p.profile s e)) [
+      | true ↦ record_sent calm (first_record e) (every_at 0 e.tcp.send.records shows.sender.pieces) (resend_occasion e) (left p)
+      | false ↦ occasion_step s (ack_resent p.profile s e) (resend_occasion e) (left p) (others_said e.modes.owes_third e.notices.fast_closed (is_data_fin_owed e))
+    ]
       where
         others_said : (third closed owes : Bool) → SegmentShows p.profile s back.acks out (if third then ack_said p.profile s e.tcp.send.nxt None e
             else (if closed then carried_said p.profile s e.notices.carrier e
@@ -278,10 +281,6 @@ module _ (six : SixBooks) (others : Others) (p : PathState Carried) (ab ba : Lan
         others_said false true owes = carried_shows calm e.notices.carrier
         others_said false false true = ack_says p.profile s e back.acks out shows.acks.windows fell (shows.acks.sub calm) e.tcp.send.nxt e.sending.known_end shows.sender.known_end
         others_said false false false = ack_said_shows calm (e.tcp.send.una - 1)
-
-        by : (some : Bool) → Sends (resend_occasion e) (left p) (if some then record_or_ack p.profile s (first_record e) e else ack_resent p.profile s e)
-        by true = record_sent calm (first_record e) (every_at 0 e.tcp.send.records shows.sender.pieces) (resend_occasion e) (left p)
-        by false = occasion_step s (ack_resent p.profile s e) (resend_occasion e) (left p) (others_said e.modes.owes_third e.notices.fast_closed (is_data_fin_owed e))
 
     pub reset_step : IsCalm → (reason : Option ℕ) (ds : List Duty) → Steps (sends values s (reset_of s reason p) p) (reset_on values s reason ds p)
     reset_step calm reason ds =
@@ -305,11 +304,8 @@ module _ (six : SixBooks) (others : Others) (p : PathState Carried) (ab ba : Lan
         next = shows.sender.next (unfinished_if e.tcp.state may)
 
         position : fin_position e.tcp.send ≡ suc (length out.sent)
-        position = at e.tcp.send.finished refl
-          where
-            at : (b : Bool) → e.tcp.send.finished ≡ b → ◌≡◌ {A = ℕ} (if b then e.tcp.send.nxt - 1 else e.tcp.send.nxt) (suc (length out.sent))
-            at false is = next
-            at true is = absurd (both_ways e.tcp.send.finished (shows.sender.unfinished (unfinished_if e.tcp.state may)) is)
+        position = (elim e.tcp.send.finished as (λ b. e.tcp.send.finished ≡ b → ◌≡◌ {A = ℕ} (if b then e.tcp.send.nxt - 1 else e.tcp.send.nxt) (suc (length out.sent)))
+            [ false ↦ λ is. next | true ↦ λ is. absurd (both_ways e.tcp.send.finished (shows.sender.unfinished (unfinished_if e.tcp.state may)) is) ]) refl
 
         fin_there : HasFin (with_fin_sent out).fins (fin_position e.tcp.send)
         fin_there = has_last out.fins (length out.sent) (sym position)

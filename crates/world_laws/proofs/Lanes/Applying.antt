@@ -8,16 +8,9 @@ use Rattle.send_book.specs.Steps as send
 -- ---- lists that grow
 
 pub any_more : {X : Type 0} (test : X → Bool) (xs : List X) (x : X) → list_any test (xs ++ x ∷ []) ≡ (list_any test xs || test x)
-any_more test [] x = by (test x)
-  where
-    by : (b : Bool) → (b || false) ≡ b
-    by true = refl
-    by false = refl
-any_more test (y ∷ xs) x = by (test y) (any_more test xs x)
-  where
-    by : (b : Bool) → list_any test (xs ++ x ∷ []) ≡ (list_any test xs || test x) → (b || list_any test (xs ++ x ∷ [])) ≡ ((b || list_any test xs) || test x)
-    by true rest = refl
-    by false rest = rest
+any_more test [] x = elim (test x) as (λ b. (b || false) ≡ b) [ true ↦ refl | false ↦ refl ]
+any_more test (y ∷ xs) x = (elim (test y) as (λ b. list_any test (xs ++ x ∷ []) ≡ (list_any test xs || test x) → (b || list_any test (xs ++ x ∷ [])) ≡ ((b || list_any test xs) || test x))
+    [ true ↦ λ rest. refl | false ↦ λ rest. rest ]) (any_more test xs x)
 
 read_more : (notes : List Note) (n : Note) → read_by (notes ++ n ∷ []) ≡ read_by notes ++ bytes_noted n
 read_more [] n = append-nil (bytes_noted n)
@@ -59,11 +52,8 @@ pub record Settles (a b : AppState) : Type 0 where
 
 pub settled_app : (ds : List AppDuty) (a : AppState) → Settles a (app_settled ds a)
 settled_app [] a = record { agenda = []; is = refl; settled = tt }
-settled_app (d ∷ ds) a = by (app_stands d a) refl (settled_app ds a)
-  where
-    by : (b : Bool) → app_stands d a ≡ b → Settles a (app_settled ds a) → Settles a (if b then record a { agenda = d ∷ ds } else app_settled ds a)
-    by true is rest = record { agenda = d ∷ ds; is = refl; settled = same_stands d ds a is }
-    by false is rest = rest
+settled_app (d ∷ ds) a = (elim (app_stands d a) as (λ b. app_stands d a ≡ b → Settles a (app_settled ds a) → Settles a (if b then record a { agenda = d ∷ ds } else app_settled ds a))
+    [ true ↦ λ is rest. record { agenda = d ∷ ds; is = refl; settled = same_stands d ds a is } | false ↦ λ is rest. rest ]) refl (settled_app ds a)
 
 -- ---- writing
 

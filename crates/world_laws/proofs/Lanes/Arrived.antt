@@ -75,20 +75,14 @@ module _ (c : Profile) (s : Side) (k : Knowledge) (live : List KeptMapping) (out
 -- ---- each meaning
 
 same_phase : (m : Meaning) (octets : List ℕ) (tcp : EndState) → (with_payload m octets tcp).state ≡ tcp.state
-same_phase (Meaning.Taken pos acknowledged) octets tcp = by (is_nil octets)
-  where
-    by : (b : Bool) → (if b then tcp else taking.after_holding pos octets tcp).state ≡ tcp.state
-    by true = refl
-    by false = refl
+same_phase (Meaning.Taken pos acknowledged) octets tcp = elim (is_nil octets) as (λ b. (if b then tcp else taking.after_holding pos octets tcp).state ≡ tcp.state)
+    [ true ↦ refl | false ↦ refl ]
 same_phase Meaning.Ignored octets tcp = refl
 same_phase _ octets tcp = refl
 
 same_told : (m : Meaning) (octets : List ℕ) (tcp : EndState) → (with_payload m octets tcp).congestion ≡ tcp.congestion
-same_told (Meaning.Taken pos acknowledged) octets tcp = by (is_nil octets)
-  where
-    by : (b : Bool) → (if b then tcp else taking.after_holding pos octets tcp).congestion ≡ tcp.congestion
-    by true = refl
-    by false = refl
+same_told (Meaning.Taken pos acknowledged) octets tcp = elim (is_nil octets) as (λ b. (if b then tcp else taking.after_holding pos octets tcp).congestion ≡ tcp.congestion)
+    [ true ↦ refl | false ↦ refl ]
 same_told Meaning.Ignored octets tcp = refl
 same_told _ octets tcp = refl
 
@@ -172,11 +166,8 @@ arrival_edge Meaning.Opens hint now copy tcp keep = payload_edge 1 hint copy tcp
 arrival_edge _ hint now copy tcp keep = refl
 
 held_edge : (m : Meaning) (octets : List ℕ) (tcp : EndState) → (with_payload m octets tcp).recv.edge ≡ tcp.recv.edge
-held_edge (Meaning.Taken pos acknowledged) octets tcp = by (is_nil octets)
-  where
-    by : (b : Bool) → (if b then tcp else taking.after_holding pos octets tcp).recv.edge ≡ tcp.recv.edge
-    by true = refl
-    by false = refl
+held_edge (Meaning.Taken pos acknowledged) octets tcp = elim (is_nil octets) as (λ b. (if b then tcp else taking.after_holding pos octets tcp).recv.edge ≡ tcp.recv.edge)
+    [ true ↦ refl | false ↦ refl ]
 held_edge Meaning.Ignored octets tcp = refl
 held_edge _ octets tcp = refl
 

@@ -34,11 +34,8 @@ module _ (acks : List AckCopy) (p : Lane) (window : ℕ) where
   mapping_says place position len = if_so Says (is_mapping place position len) (Heard.Mapping false ∷ []) [] (one (Heard.Mapping false) tt) (Every-nil _)
 
   first_says : (len : ℕ) → Says (first_items len)
-  first_says len = by (nat_lt 0 len) (mapping_says 0 1 len)
-    where
-      by : (b : Bool) → Says (mapping_items 0 1 len false) → Says (if b then mapping_items 0 1 len false else [])
-      by true says_it = says_it
-      by false says_it = Every-nil _
+  first_says len = (elim (nat_lt 0 len) as (λ b. Says (mapping_items 0 1 len false) → Says (if b then mapping_items 0 1 len false else []))
+      [ true ↦ λ says_it. says_it | false ↦ λ says_it. Every-nil _ ]) (mapping_says 0 1 len)
 
   map_says : (c : Profile) (from : Side) (o : Option (PathMapping ℕ)) → MappingShows c from o p → Says (map_items (option_map meant_mapping o))
   map_says c from None h = Every-nil _
@@ -111,11 +108,8 @@ module _ (c : Profile) (window : ℕ) (acks : List AckCopy) (p : Lane) where
   keys_hold B NoKey h = Every-nil _
   keys_hold B (Sender sender) h = Every-nil _
   keys_hold B (Both sender receiver) h = Every-nil _
-  keys_hold B (WithData sender receiver len checksum) h = by (nat_lt 0 len) (if_held B 0 1 len checksum h.0 h.1)
-    where
-      by : (b : Bool) → Held (held_if c B 0 1 len false checksum) → Held (if b then held_if c B 0 1 len false checksum else [])
-      by true holds = holds
-      by false holds = Every-nil _
+  keys_hold B (WithData sender receiver len checksum) h = (elim (nat_lt 0 len) as (λ b. Held (held_if c B 0 1 len false checksum) → Held (if b then held_if c B 0 1 len false checksum else []))
+      [ true ↦ λ holds. holds | false ↦ λ holds. Every-nil _ ]) (if_held B 0 1 len checksum h.0 h.1)
 
   option_holds : (s : Side) (o : PlainOption) → OptionShows c (peer s) window acks p o → Held (held_in c s (meant_option o))
   option_holds s (Capable flag_a flag_c keys) h = if_so Held (is_joined c) [] (key_held c s keys) (Every-nil _) (keys_hold s keys h)

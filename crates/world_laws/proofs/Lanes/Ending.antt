@@ -248,7 +248,7 @@ module _ (c : Profile) (s : Side) (out back : Lane) where
             unfinished = h.sender.unfinished;
             pieces = h.sender.pieces;
             known_end = known_at told;
-            same_end = same_at told;
+            same_end = elim told as (λ told. later_end told out.known_end ≡ told_last told e.sending.known_end) [ Some place ↦ refl | None ↦ h.sender.same_end ];
             heard = h.sender.heard;
             granted = h.sender.granted;
             fin_acked = h.sender.fin_acked;
@@ -266,10 +266,6 @@ module _ (c : Profile) (s : Side) (out back : Lane) where
       known_at : (told : Option ℕ) → IfSome (told_last told e.sending.known_end) (HasNumber (out.data_fins ++ known (later_end told out.known_end)))
       known_at (Some place) = has_last out.data_fins place refl
       known_at None = IfSome-map e.sending.known_end (λ n has. Has-more _ has) h.sender.known_end
-
-      same_at : (told : Option ℕ) → later_end told out.known_end ≡ told_last told e.sending.known_end
-      same_at (Some place) = refl
-      same_at None = h.sender.same_end
 
   -- ---- acknowledgements
 
@@ -326,11 +322,8 @@ module _ (c : Profile) (s : Side) (out back : Lane) where
   -- what passes a test
   pub tested : {X : Type 0} {P : X → Type 0} (test : X → Bool) (xs : List X) → Every P xs → Every P (filter test xs)
   tested test [] h = h
-  tested {X} {P} test (x ∷ xs) h = by (test x) (tested test xs (every_rest x xs h))
-    where
-      by : (b : Bool) → Every P (filter test xs) → Every P (if b then x ∷ filter test xs else filter test xs)
-      by true rest = every_cons x _ (every_first x xs h) rest
-      by false rest = rest
+  tested {X} {P} test (x ∷ xs) h = (elim (test x) as (λ b. Every P (filter test xs) → Every P (if b then x ∷ filter test xs else filter test xs))
+      [ true ↦ λ rest. every_cons x _ (every_first x xs h) rest | false ↦ λ rest. rest ]) (tested test xs (every_rest x xs h))
 
   -- an acknowledgement changes what the lane's sender knows, and nothing else
   pub heard_end : (next : ℕ) (r : SendReply) (e : PathEnd) → EndShows c s e out back

@@ -31,11 +31,8 @@ use Rattle.world_laws.proofs.Lanes.Turning.{moved_turn, moved_first, PathTurn, p
 -- what stands first after settling comes to something
 pub settled_first : (ds : List Duty) (p : PathState Carried) → IsSettled (settled ds p)
 settled_first [] p = tt
-settled_first (d ∷ ds) p = by (stands d p) refl (settled_first ds (passed d p))
-  where
-    by : (b : Bool) → stands d p ≡ b → IsSettled (settled ds (passed d p)) → IsSettled (if b then with_agenda (d ∷ ds) p else settled ds (passed d p))
-    by true is rest = stands_anyway d (d ∷ ds) p ∙ is
-    by false is rest = rest
+settled_first (d ∷ ds) p = (elim (stands d p) as (λ b. stands d p ≡ b → IsSettled (settled ds (passed d p)) → IsSettled (if b then with_agenda (d ∷ ds) p else settled ds (passed d p)))
+    [ true ↦ λ is rest. stands_anyway d (d ∷ ds) p ∙ is | false ↦ λ is rest. rest ]) refl (settled_first ds (passed d p))
 
 -- what a world is after a round's end, or without it
 abbrev end_round_of : WorldState Carried → Bool → WorldState Carried
@@ -536,11 +533,7 @@ module _ (start : Start) (can : Carries start) where
         }
 
     round_step : Stepped None here (end_round (world_of t))
-    round_step = by (all_over (world_of t).crew)
-      where
-        by : (over : Bool) → Stepped None here (end_round_of (world_of t) over)
-        by false = stays_here
-        by true = begun
+    round_step = elim (all_over (world_of t).crew) as (λ over. Stepped None here (end_round_of (world_of t) over)) [ false ↦ stays_here | true ↦ begun ]
 
     -- ---- every turn
 

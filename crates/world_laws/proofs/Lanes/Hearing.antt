@@ -64,11 +64,7 @@ under_cut n places kept u = record { each = λ i b e. take_leaves n kept i b (cu
 
 pub only_cut : (n : ℕ) (places kept : List (Option ℕ)) → Under kept places ⊎ (places ≡ []) → Under (take n kept) (cut n places) ⊎ (cut n places ≡ [])
 only_cut n places kept (inl u) = inl (record { each = λ i b e. let there = taken_there n kept i b e in cut_leaves n places i b there.0 (u.each i b there.1) })
-only_cut n places kept (inr none) = inr (ap (cut n) none ∙ nothing n)
-  where
-    nothing : (n : ℕ) → cut n [] ≡ []
-    nothing zero = refl
-    nothing (suc n) = refl
+only_cut n places kept (inr none) = inr (ap (cut n) none ∙ (elim n as (λ n. cut n [] ≡ []) [ zero ↦ refl | suc n ↦ refl ]))
 
 module _ (fin_at : Option ℕ) (live : List KeptMapping) (plain : Bool) (p : Lane) where
   -- all octets are let go, and what is held

@@ -300,7 +300,10 @@ module _ (c : Profile) (s : Side) (e : PathEnd) (acks : List AckCopy) (p : Lane)
 module _ {C : Type 0} (P : Flight C → Type 0) where
   flight_kept : (f : Flight C) (flights : List (Flight C)) → P f → Every P flights → Every P (with_flight f flights)
   flight_kept f [] here h = every_one f here
-  flight_kept f (g ∷ flights) here h = by (comes_before f g) (flight_kept f flights here (record { each = λ i x is. h.each (suc i) x is }))
+  flight_kept f (g ∷ flights) here h = (elim (comes_before f g) as (λ b. Every P (with_flight f flights) → Every P (cond b (f ∷ g ∷ flights) (g ∷ with_flight f flights))) [
+    | true ↦ λ more. put f (g ∷ flights) here h
+    | false ↦ λ more. put g (with_flight f flights) (h.each 0 g refl) more
+  ]) (flight_kept f flights here (record { each = λ i x is. h.each (suc i) x is }))
     where
       put : (x : Flight C) (xs : List (Flight C)) → P x → Every P xs → Every P (x ∷ xs)
       put x xs first rest = record { each = λ i y is. at i y is }
@@ -308,10 +311,6 @@ module _ {C : Type 0} (P : Flight C → Type 0) where
           at : (i : ℕ) (y : Flight C) → slice_get (x ∷ xs) i ≡ Some y → P y
           at zero y is = subst P (same_Some x y is) first
           at (suc i) y is = rest.each i y is
-
-      by : (b : Bool) → Every P (with_flight f flights) → Every P (cond b (f ∷ g ∷ flights) (g ∷ with_flight f flights))
-      by true more = put f (g ∷ flights) here h
-      by false more = put g (with_flight f flights) (h.each 0 g refl) more
 
   pub flights_kept : (to : Side) (number : ℕ) (carried : C) → ((tick : ℕ) → P (record { tick = tick; to = to; number = number; carried = carried })) → (ticks : List ℕ) (flights : List (Flight C))
       → Every P flights → Every P (with_flights to number carried ticks flights)

@@ -57,11 +57,11 @@ module _ (c : Profile) (s : Side) (v : SendState) (h : SenderTells c s v) where
   syn_resent_tells now = if_so (SenderTells c s) (v.una == 0) (after_resent now v) v (resent_tells now) h
 
   pub acknowledged_tells : (pos : ℕ) → SenderTells c s (after_acknowledge pos v)
-  acknowledged_tells pos = by (nat_lt v.una pos && nat_le pos v.nxt) refl
-    where
-      by : (b : Bool) → (nat_lt v.una pos && nat_le pos v.nxt) ≡ b → SenderTells c s (if b then record v { una = pos; records = uncovered pos v.records } else v)
-      by true is = record { next = h.next; unacknowledged = leb-true pos v.nxt (and_parts (nat_lt v.una pos) (nat_le pos v.nxt) is).1; records = uncovered_kept pos v.records h.records }
-      by false is = h
+  acknowledged_tells pos =
+      (elim (nat_lt v.una pos && nat_le pos v.nxt) as (λ b. (nat_lt v.una pos && nat_le pos v.nxt) ≡ b → SenderTells c s (if b then record v { una = pos; records = uncovered pos v.records } else v)) [
+        | true ↦ λ is. record { next = h.next; unacknowledged = leb-true pos v.nxt (and_parts (nat_lt v.una pos) (nat_le pos v.nxt) is).1; records = uncovered_kept pos v.records h.records }
+        | false ↦ λ is. h
+      ]) refl
 
 -- ---- modes
 
@@ -247,11 +247,10 @@ module _ (c : Profile) (s : Side) (e : PathEnd) (h : EndTells c s e) where
   -- A's end opens where the join may begin
   pub opened_tells : (o : Option KeyPair) → IfSome o AreKeys → EndTells c s (opened_by o e)
   opened_tells None keys = h
-  opened_tells (Some pair) keys = by (states.is_waiting e.tcp.state)
-    where
-      by : (b : Bool) → EndTells c s (record e { tcp = (if b then after_begin e.tcp else e.tcp); modes = with_keys pair e.modes })
-      by true = record { sender = h.sender; edge = h.edge; stream = h.stream; window = h.window; modes = keys_modes pair e.modes keys h.modes; treated = h.treated; notices = h.notices }
-      by false = with_modes (with_keys pair e.modes) (keys_modes pair e.modes keys h.modes)
+  opened_tells (Some pair) keys = elim (states.is_waiting e.tcp.state) as (λ b. EndTells c s (record e { tcp = (if b then after_begin e.tcp else e.tcp); modes = with_keys pair e.modes })) [
+    | true ↦ record { sender = h.sender; edge = h.edge; stream = h.stream; window = h.window; modes = keys_modes pair e.modes keys h.modes; treated = h.treated; notices = h.notices }
+    | false ↦ with_modes (with_keys pair e.modes) (keys_modes pair e.modes keys h.modes)
+  ]
 
   pub dss_tells : EndTells c s (after_dss s e)
   dss_tells = record {
@@ -531,11 +530,10 @@ module _ (c : Profile) (s : Side) (e : PathEnd) (h : EndTells c s e) where
   died_unless_tells = if_so (EndTells c s) (states.is_dead e.tcp.state) e (died e) h died_tells
 
   pub fired_tells : (now : ℕ) → EndTells c s (after_firing now e)
-  fired_tells now = by (expiring.is_sixth e.tcp)
-    where
-      by : (b : Bool) → EndTells c s (record e { tcp = if b then taking.after_death true e.tcp else expiring.after_expiry now e.tcp })
-      by true = dead_tells true e.treated h.treated
-      by false = record { sender = expired_tells c s e.tcp.send h.sender; edge = h.edge; stream = h.stream; window = h.window; modes = h.modes; treated = h.treated; notices = h.notices }
+  fired_tells now = elim (expiring.is_sixth e.tcp) as (λ b. EndTells c s (record e { tcp = if b then taking.after_death true e.tcp else expiring.after_expiry now e.tcp })) [
+    | true ↦ dead_tells true e.treated h.treated
+    | false ↦ record { sender = expired_tells c s e.tcp.send h.sender; edge = h.edge; stream = h.stream; window = h.window; modes = h.modes; treated = h.treated; notices = h.notices }
+  ]
 
   -- ---- what is kept
 
@@ -552,22 +550,16 @@ module _ (c : Profile) (s : Side) (e : PathEnd) (h : EndTells c s e) where
 
   pub check_tells : (checksums : Bool) (o : Option KeptMapping) → EndTells c s (forgotten_by checksums o e)
   check_tells checksums None = h
-  check_tells checksums (Some kept) = by (is_wrong checksums kept e.tcp)
-    where
-      by : (b : Bool) → EndTells c s (if b then record e { tcp = record e.tcp { recv = after_forget_from kept.pos e.tcp.recv } } else e)
-      by false = h
-      by true = same_edge (record e.tcp { recv = after_forget_from kept.pos e.tcp.recv }) refl refl
+  check_tells checksums (Some kept) = elim (is_wrong checksums kept e.tcp) as (λ b. EndTells c s (if b then record e { tcp = record e.tcp { recv = after_forget_from kept.pos e.tcp.recv } } else e))
+      [ false ↦ h | true ↦ same_edge (record e.tcp { recv = after_forget_from kept.pos e.tcp.recv }) refl refl ]
 
   pub keep_tells : EndTells c s (after_keep s e)
   keep_tells = kept_so (is_dropped s e)
     where
       kept : (b : Bool) → (if b then taking.after_dropping_held e.tcp else taking.after_keeping_held e.tcp).recv.edge ≡ e.tcp.recv.edge
       kept true = refl
-      kept false = passed (is_fin_passed e.tcp)
-        where
-          passed : (b : Bool) → (if b then without_held e.tcp.recv else after_keep_held e.tcp.recv).edge ≡ e.tcp.recv.edge
-          passed true = refl
-          passed false = refl
+      kept false = elim (is_fin_passed e.tcp) as (λ b. (if b then without_held e.tcp.recv else after_keep_held e.tcp.recv).edge ≡ e.tcp.recv.edge)
+          [ true ↦ refl | false ↦ refl ]
 
       by : (b : Bool) → EndTells c s (record e { tcp = if b then taking.after_dropping_held e.tcp else taking.after_keeping_held e.tcp })
       by true = same_edge (taking.after_dropping_held e.tcp) refl (kept true)
@@ -587,8 +579,5 @@ module _ (c : Profile) (s : Side) (e : PathEnd) (h : EndTells c s e) where
           }
 
   pub pass_fin_tells : (is_fin_next e.tcp ≡ true → IsShort (e.tcp.recv.edge + 1)) → EndTells c s (after_pass_fin e)
-  pass_fin_tells short = by (is_fin_next e.tcp) refl
-    where
-      by : (b : Bool) → is_fin_next e.tcp ≡ b → EndTells c s (record e { tcp = if b then after_passing_fin e.tcp else e.tcp })
-      by false is = h
-      by true is = record { sender = h.sender; edge = short is; stream = h.stream; window = h.window; modes = h.modes; treated = h.treated; notices = h.notices }
+  pass_fin_tells short = (elim (is_fin_next e.tcp) as (λ b. is_fin_next e.tcp ≡ b → EndTells c s (record e { tcp = if b then after_passing_fin e.tcp else e.tcp }))
+      [ false ↦ λ is. h | true ↦ λ is. record { sender = h.sender; edge = short is; stream = h.stream; window = h.window; modes = h.modes; treated = h.treated; notices = h.notices } ]) refl

@@ -1,5 +1,5 @@
 -- The sets of ids that a control book keeps have 256 members each: so each id that it tells is below 256.
-use Rattle.world_laws.proofs.Words.{◌≡◌, refl, ◌∙◌, ap, ℕ, zero, suc, Bool, true, false, if◌then◌else◌, Option, Some, None, List, [], ◌∷◌, length, arith, ◌<◌}
+use Rattle.world_laws.proofs.Words.{◌≡◌, refl, ◌∙◌, ap, ℕ, zero, suc, Bool, true, false, if◌then◌else◌, Some, None, List, [], ◌∷◌, length, arith, ◌<◌}
 use Rattle.world_laws.proofs.Words.{length-replicate, length-set, IfSome, slice_set, lowest, no_ids, Addresses, addresses_heard, addresses_removed, Address}
 use Rattle.world_laws.proofs.Words.{token_of, Side, ControlCall, Notice, with_removed, with_phase, every_path, lives, Control, no_withdrawals, new_control}
 use Rattle.world_laws.proofs.Words.{withdrawals_on, with_withdrawal, notice_on, is_sure, may_join, is_known, withdrawn, withdrawn_on, Opening}
@@ -23,11 +23,8 @@ pub record IdsFit (c : Control) : Type 0 where
   pub withdrawals : AreAllIds c.notices.withdrawals
 
 pub lowest_fits : (ids : List Bool) → AreIds ids → IfSome (lowest ids) (λ id. id < 256)
-lowest_fits ids are = by (lowest ids) refl
-  where
-    by : (o : Option ℕ) → lowest ids ≡ o → IfSome o (λ id. id < 256)
-    by None is = tt
-    by (Some id) is = let first = position-Some (λ member. member) ids id true is in let within = first.0 in omega (arith, within, are)
+lowest_fits ids are = (elim (lowest ids) as (λ o. lowest ids ≡ o → IfSome o (λ id. id < 256))
+    [ None ↦ λ is. tt | Some id ↦ λ is. let first = position-Some (λ member. member) ids id true is in let within = first.0 in omega (arith, within, are) ]) refl
 
 -- ---- sets of a path
 

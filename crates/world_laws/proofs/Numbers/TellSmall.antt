@@ -305,11 +305,8 @@ data_fits spelling side place =
     (omega arith) (omega arith)
 
 pub sum_small : (c : Profile) (mapping : Mapping) (octets : List ℕ) → checksum_in c mapping octets < 2 ^ 16
-sum_small c mapping octets = by c.spelling.checksums refl
-  where
-    by : (b : Bool) → c.spelling.checksums ≡ b → checksum_in c mapping octets < 2 ^ 16
-    by true is = rw is (omega arith)
-    by false is = rw is (omega arith)
+sum_small c mapping octets = (elim c.spelling.checksums as (λ b. c.spelling.checksums ≡ b → checksum_in c mapping octets < 2 ^ 16)
+    [ true ↦ λ is. rw is (omega arith) | false ↦ λ is. rw is (omega arith) ]) refl
 
 told_below : (c : Profile) (n : ℕ) → n < 2 ^ 16 → IsBelow (2 ^ 16) (checksum_told c n)
 told_below c n low = if_so (IsBelow (2 ^ 16)) c.spelling.checksums (Some n) None low tt
@@ -536,15 +533,12 @@ module _ (c : Profile) (s : Side) (path : c.spelling.path ≤ 15) (mss : c.mss <
   -- it stands beside a DSS
   beside_tells : (fin : Option ℕ) → IfSome fin IsShort → TwoSay c s (Dss (Some e.receiving.next) (data_fin_mapping c s fin) ∷ fail_beside fin e.modes)
   beside_tells (Some place) n = end_tells (Some place) n
-  beside_tells None n = by (receives_infinite e.modes.mode)
+  beside_tells None n = elim (receives_infinite e.modes.mode) as (λ b. TwoSay c s (Dss (Some e.receiving.next) None ∷ fail_options (if b then None else e.modes.failed_mapping)))
+      [ true ↦ end_tells None tt | false ↦ failed e.modes.failed_mapping h.modes.failed_mapping ]
     where
       failed : (o : Option ℕ) → IfSome o IsShort → TwoSay c s (Dss (Some e.receiving.next) None ∷ fail_options o)
       failed None short = end_tells None tt
       failed (Some place) short = (end_tells None tt, fail_tells place short)
-
-      by : (b : Bool) → TwoSay c s (Dss (Some e.receiving.next) None ∷ fail_options (if b then None else e.modes.failed_mapping))
-      by true = end_tells None tt
-      by false = failed e.modes.failed_mapping h.modes.failed_mapping
 
   ack_tells : (fin : Option ℕ) → IfSome fin IsShort → TwoSay c s (ack_options c s fin e)
   ack_tells fin n = by e.modes.identity e.modes.clear
@@ -775,7 +769,8 @@ module _ (c : Profile) (s : Side) (path : c.spelling.path ≤ 15) (mss : c.mss <
   none_more n short = omega (arith, short)
 
   pub reset_tells : (reason : Option ℕ) → IfSome reason (λ n. n < 256) → SegmentTells c s (reset_said c reason e)
-  reset_tells reason low = by e.modes.identity
+  reset_tells reason low = elim e.modes.identity as (λ b. SegmentTells c s (segment_of c (own_reset e) (if b then [] else broken_options e.treated.failed_mapping reason) [] e))
+      [ true ↦ said [] tt | false ↦ said (broken_options e.treated.failed_mapping reason) (broken_options_tell e.treated.failed_mapping h.treated.failed_mapping reason low) ]
     where
       at : (unsent : Bool) → IsShort (if unsent then 0 else e.tcp.send.nxt)
       at true = omega arith
@@ -783,10 +778,6 @@ module _ (c : Profile) (s : Side) (path : c.spelling.path ≤ 15) (mss : c.mss <
 
       said : (options : List PlainOption) → TwoSay c s options → SegmentTells c s (segment_of c (own_reset e) options [] e)
       said options two = plain_tells_two (own_reset e) options [] (omega arith) (inr (at (is_syn_unsent e))) tt (λ is. none_more _ (at (is_syn_unsent e))) refl two
-
-      by : (b : Bool) → SegmentTells c s (segment_of c (own_reset e) (if b then [] else broken_options e.treated.failed_mapping reason) [] e)
-      by true = said [] tt
-      by false = said (broken_options e.treated.failed_mapping reason) (broken_options_tell e.treated.failed_mapping h.treated.failed_mapping reason low)
 
   answer_tells : (o : Outgoing) (reason : Option ℕ) → IfSome reason (λ n. n < 256) → AnswerTells o → SegmentTells c s (segment_of c o (reset_options reason) [] e)
   answer_tells o reason low a = segment_tells o (reset_options reason) [] (omega arith) (stands o.acknowledged refl) a.acknowledged reaches (reset_options_tell reason low)

@@ -93,11 +93,7 @@ module _ (p : Lane) (is : p.opened ≡ true) where
 
   opened_mapping : (o : Option Mapping) → (learns_mapping o p).opened ≡ true
   opened_mapping None = is
-  opened_mapping (Some m) = by (clashes m p.maps)
-    where
-      by : (c : Bool) → (if c then p else record p { maps = p.maps ++ m ∷ [] }).opened ≡ true
-      by true = is
-      by false = is
+  opened_mapping (Some m) = elim (clashes m p.maps) as (λ c. (if c then p else record p { maps = p.maps ++ m ∷ [] }).opened ≡ true) [ true ↦ is | false ↦ is ]
 
   opened_learned : (o : Option DataCopy) → (learns o p).opened ≡ true
   opened_learned None = is
@@ -168,11 +164,8 @@ module _ (p : Lane) (is : p.opened ≡ true) where
   moved_opened f path (WantPlacePair count) = opened_place_pair count p.taken
   moved_opened f path WantFinPair = opened_end_pair p.taken
   moved_opened f path WantAckOut = is
-  moved_opened f path (SendAck next window sub) = by p.due
-    where
-      by : (c : Bool) → (if c then p else record p { acks = p.acks ++ ack_copy next window sub p ∷ [] }).opened ≡ true
-      by true = is
-      by false = is
+  moved_opened f path (SendAck next window sub) = elim p.due as (λ c. (if c then p else record p { acks = p.acks ++ ack_copy next window sub p ∷ [] }).opened ≡ true)
+      [ true ↦ is | false ↦ is ]
 
 -- ---- a direction that has a longer lane at this place
 
@@ -225,14 +218,12 @@ module _ (f : Flags) (number : ℕ) (p : Lane) (d : Direction) (h : Lasts number
 
   infinite_lasts : (path pos : ℕ) (o : Option Lane) → slice_get d.lanes path ≡ o → Lasts number p (goes_infinite path pos o d)
   infinite_lasts path pos None there = h
-  infinite_lasts path pos (Some q) there = by_may (may_go path pos d.send q)
+  infinite_lasts path pos (Some q) there =
+      elim (may_go path pos d.send q) as (λ may. Lasts number p (if may then record d { send = after_send d.send (GoInfiniteBook path); lanes = set d.lanes path r } else d))
+      [ true ↦ put_lasts path q r _ refl there (same_longer q r refl (λ is. is)) | false ↦ h ]
     where
       r : Lane
       r = record q { pair = Some (record { pos = pos; place = acked_len d.send.marks }) }
-
-      by_may : (may : Bool) → Lasts number p (if may then record d { send = after_send d.send (GoInfiniteBook path); lanes = set d.lanes path r } else d)
-      by_may true = put_lasts path q r _ refl there (same_longer q r refl (λ is. is))
-      by_may false = h
 
   after_lasts : (event : StreamEvent) → Lasts number p (after f event d)
   after_lasts GoIdentity = identity_lasts f.sender

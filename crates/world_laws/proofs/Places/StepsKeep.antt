@@ -4,8 +4,8 @@ use Rattle.world_laws.proofs.Words.{◌≡◌, refl, sym, ap, subst, ℕ, suc, �
 use Rattle.world_laws.proofs.Words.{None, List, [], ◌∷◌, ◌<◌, ltb-true, and_parts, leb-true, IfSome, Side, A, B, same_side, ReassemblyReply, KeptMapping}
 use Rattle.world_laws.proofs.Words.{Mappings, run_of, after_learn, place_at, after_forget, others_of, learn_of, learned_if, after_skip_held, after_learn_held}
 use Rattle.world_laws.proofs.Words.{covers, place_in, is_dead, is_due, arriving, after_delivery, Flight, PlainSegment, meant, LineAction, Piece, emission}
-use Rattle.world_laws.proofs.Words.{leaves, resets, Duty, SendDuty, StepDuty, AskDuty, SilentDuty, Heard, KeyPair, Reply, tail_of, passed, answered, PathEnd}
-use Rattle.world_laws.proofs.Words.{died, answered_ack_out, window_in, at_tick, PathState, end_at, goes_on, with_end, with_agenda, takes, begins_turn, Carried}
+use Rattle.world_laws.proofs.Words.{leaves, resets, Duty, SendDuty, StepDuty, AskDuty, SilentDuty, Heard, Reply, tail_of, passed, answered, PathEnd, died}
+use Rattle.world_laws.proofs.Words.{answered_ack_out, window_in, at_tick, PathState, end_at, goes_on, with_end, with_agenda, takes, begins_turn, Carried}
 use Rattle.world_laws.proofs.Words.{values, heard_in, copy_heard, told_at, reset_of, reset_on, answered_break, died_unless_dead, next_event, after_line}
 use Rattle.world_laws.proofs.Words.{happens_if, join_begun, never_joined, is_never, keys_begun, opened_by, piece_of, is_placed, answered_piece, is_clash}
 use Rattle.world_laws.proofs.Words.{with_learned, held_of, answered_heard, answered_item, item_of, item_passed, after_fell, fell_duties, sent_on, Every-nil}
@@ -77,11 +77,8 @@ window_same : (r : Reply) (v : Receiving) → (window_in r v).mappings ≡ v.map
 window_same (Reply.Send reply) v = refl
 window_same (Reply.Control reply) v = refl
 window_same Reply.Done v = refl
-window_same (Reply.Reassembly reply) v = by reply
-  where
-    by : (reply : ReassemblyReply) → (window_in (Reply.Reassembly reply) v).mappings ≡ v.mappings
-    by (ReassemblyReply.Ack next window) = refl
-    by _ = refl
+window_same (Reply.Reassembly reply) v = elim reply as (λ reply. (window_in (Reply.Reassembly reply) v).mappings ≡ v.mappings)
+    [ ReassemblyReply.Ack next window ↦ refl | _ ↦ refl ]
 
 -- ---- a path; the end of each side has a record
 
@@ -171,15 +168,11 @@ module _ (R : Side → ℕ → ℕ → Type 0) where
 
   -- A begins a join, or waits on
   begun_knows : (r : Reply) (dead living : List Duty) (p : PathState Carried) → PathKnows p → PathKnows (join_begun r dead living p)
-  begun_knows r dead living p h = by (is_never r) (opened_knows (keys_begun r))
-    where
-      opened_knows : (o : Option KeyPair) → EndKnows A (opened_by o p.a)
-      opened_knows None = h.a
-      opened_knows (Some keys) = h.a
-
-      by : (b : Bool) → EndKnows A (opened_by (keys_begun r) p.a) → PathKnows (if b then goes_on A (never_joined r p.a) dead p else goes_on A (opened_by (keys_begun r) p.a) living p)
-      by true own = goes A (never_joined r p.a) dead p h.a h
-      by false own = goes A (opened_by (keys_begun r) p.a) living p own h
+  begun_knows r dead living p h =
+      (elim (is_never r) as (λ b. EndKnows A (opened_by (keys_begun r) p.a) → PathKnows (if b then goes_on A (never_joined r p.a) dead p else goes_on A (opened_by (keys_begun r) p.a) living p)) [
+        | true ↦ λ own. goes A (never_joined r p.a) dead p h.a h
+        | false ↦ λ own. goes A (opened_by (keys_begun r) p.a) living p own h
+      ]) (elim (keys_begun r) as (λ o. EndKnows A (opened_by o p.a)) [ None ↦ h.a | Some keys ↦ h.a ])
 
   event_knows : (o : Option Event) (r : Reply) (p : PathState Carried) → CopiesTell p → PathKnows p → PathKnows (happens_if values o r p)
   event_knows None r p tell h = agenda _ p h

@@ -243,7 +243,8 @@ place_untold (ReassemblyReply.FinClash fin at) is = is
 place_untold _ is = refl
 
 read_untold : (max : ℕ) (b : Arriving) → tells_refusal (Reply.Reassembly (arriving.reading b.aborted max b)) ≡ false
-read_untold max b = by b.aborted
+read_untold max b = elim b.aborted as (λ aborted. tells_refusal (Reply.Reassembly (arriving.reading aborted max b)) ≡ false)
+    [ None ↦ by_bytes (take max (filled b.places)) | Some by_peer ↦ refl ]
   where
     by_end : (c : Bool) → tells_refusal (Reply.Reassembly (if c then ReassemblyReply.End else ReassemblyReply.NoneYet)) ≡ false
     by_end true = refl
@@ -252,10 +253,6 @@ read_untold max b = by b.aborted
     by_bytes : (bytes : List ℕ) → tells_refusal (Reply.Reassembly (arriving.bytes_reply bytes b)) ≡ false
     by_bytes [] = by_end (arriving.is_end b.known_end b.read)
     by_bytes (byte ∷ bytes) = refl
-
-    by : (aborted : Option Bool) → tells_refusal (Reply.Reassembly (arriving.reading aborted max b)) ≡ false
-    by None = by_bytes (take max (filled b.places))
-    by (Some by_peer) = refl
 
 -- what a lane asks is not refused
 lane_untold : (path : ℕ) (ask : LaneAsk) (d : Direction) → NothingIsRefused d → IsAsking path ask d → ask_refused ask d ≡ false

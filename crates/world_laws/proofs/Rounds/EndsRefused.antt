@@ -179,11 +179,8 @@ sends_records EndPhase.CloseWait is = refl
 sends_records _ is = absurd (false≢true is)
 
 unless_dead_paid : (c : Profile) (s : Side) (e : PathEnd) (refused : Bool) → IsPaid c s (died_unless_dead e) refused
-unless_dead_paid c s e refused = by (states.is_dead e.tcp.state) refl
-  where
-    by : (b : Bool) → states.is_dead e.tcp.state ≡ b → IsPaid c s (if b then e else died e) refused
-    by true is = closed_paid c s e refused (dead_is_done e.tcp.state is)
-    by false is = closed_paid c s (died e) refused refl
+unless_dead_paid c s e refused = (elim (states.is_dead e.tcp.state) as (λ b. states.is_dead e.tcp.state ≡ b → IsPaid c s (if b then e else died e) refused)
+    [ true ↦ λ is. closed_paid c s e refused (dead_is_done e.tcp.state is) | false ↦ λ is. closed_paid c s (died e) refused refl ]) refl
 
 -- what isn't asked
 not_asking : (c : Profile) (s : Side) (e : PathEnd) (refused : Bool) (o : Option Record) → first_unsent e ≡ o → data_stands c s e o ≡ false → IsPaid c s e refused
@@ -389,11 +386,10 @@ module _ {C : Type 0} where
 
     -- a join is begun or not, at its tick
     join_done : (r : Reply) → Granting (join_begun r (leaves A) (emission A) p) refused
-    join_done r = by (is_never r)
-      where
-        by : (b : Bool) → Granting (if b then goes_on A (never_joined r (end_at A p)) (leaves A) p else goes_on A (opened_by (keys_begun r) (end_at A p)) (emission A) p) refused
-        by true = on p refused A (never_joined r p.a) (leaves A) refl (inr (closed_paid p.profile A (never_joined r p.a) (refused A) refl)) (inr (paid B))
-        by false = on p refused A (opened_by (keys_begun r) p.a) (emission A) refl (inl refl) (inr (paid B))
+    join_done r = elim (is_never r) as (λ b. Granting (if b then goes_on A (never_joined r (end_at A p)) (leaves A) p else goes_on A (opened_by (keys_begun r) (end_at A p)) (emission A) p) refused) [
+      | true ↦ on p refused A (never_joined r p.a) (leaves A) refl (inr (closed_paid p.profile A (never_joined r p.a) (refused A) refl)) (inr (paid B))
+      | false ↦ on p refused A (opened_by (keys_begun r) p.a) (emission A) refl (inl refl) (inr (paid B))
+    ]
 
     fired_done : (s : Side) (e : PathEnd) (sixth : Bool) → Granting (goes_on s e (template_fired sixth s) p) refused
     fired_done A e true = on p refused A e (expired_for_ever A) refl (inl refl) (inr (paid B))
@@ -463,11 +459,10 @@ module _ {C : Type 0} where
   pub settled_done : (ds : List Duty) (p : PathState C) (refused : Side → Bool) → is_followed ds ≡ true → ((t : Side) → Pays p ds refused t) → Granting (settled ds p) refused
   settled_done [] p refused f each = agenda_on p refused [] refl each
   settled_done (d ∷ ds) p refused f each =
-      by (stands d p) refl (λ none. settled_done ds (passed d p) refused (rest_followed d ds f) (passed_pays d ds p refused none f each))
-    where
-      by : (b : Bool) → stands d p ≡ b → (stands d p ≡ false → Granting (settled ds (passed d p)) refused) → Granting (if b then with_agenda (d ∷ ds) p else settled ds (passed d p)) refused
-      by true is rest = agenda_on p refused (d ∷ ds) f each
-      by false is rest = rest is
+      (elim (stands d p) as (λ b. stands d p ≡ b → (stands d p ≡ false → Granting (settled ds (passed d p)) refused) → Granting (if b then with_agenda (d ∷ ds) p else settled ds (passed d p)) refused) [
+        | true ↦ λ is rest. agenda_on p refused (d ∷ ds) f each
+        | false ↦ λ is rest. rest is
+      ]) refl (λ none. settled_done ds (passed d p) refused (rest_followed d ds f) (passed_pays d ds p refused none f each))
 
   -- ---- replies
 
@@ -578,17 +573,17 @@ module _ {C : Type 0} where
     -- an end that waits asks again whether it may join
     again_done : (ds : List Duty) → is_followed ((Duty.Ask AskDuty.JoinAgain) ∷ ds) ≡ true → ((t : Side) → Pays (at ((Duty.Ask AskDuty.JoinAgain) ∷ ds)) ((Duty.Ask AskDuty.JoinAgain) ∷ ds) refused t)
         → Granting (join_begun r (Duty.Ask (AskDuty.Leave A) ∷ ds) ds (at ((Duty.Ask AskDuty.JoinAgain) ∷ ds))) refused
-    again_done ds f each = by (is_never r)
+    again_done ds f each =
+        elim (is_never r) as (λ b. Granting (if b then goes_on A (never_joined r p.a) (Duty.Ask (AskDuty.Leave A) ∷ ds) (at xs) else goes_on A (opened_by (keys_begun r) p.a) ds (at xs)) refused) [
+          | true ↦ touched A (never_joined r p.a) (Duty.Ask (AskDuty.Leave A) ∷ ds) rest (first_need (Duty.Ask AskDuty.JoinAgain) ds f) xs (each B)
+          | false ↦ touched A (opened_by (keys_begun r) p.a) ds rest (first_need (Duty.Ask AskDuty.JoinAgain) ds f) xs (each B)
+        ]
       where
         xs : List Duty
         xs = (Duty.Ask AskDuty.JoinAgain) ∷ ds
 
         rest : is_followed ds ≡ true
         rest = rest_followed (Duty.Ask AskDuty.JoinAgain) ds f
-
-        by : (b : Bool) → Granting (if b then goes_on A (never_joined r p.a) (Duty.Ask (AskDuty.Leave A) ∷ ds) (at xs) else goes_on A (opened_by (keys_begun r) p.a) ds (at xs)) refused
-        by true = touched A (never_joined r p.a) (Duty.Ask (AskDuty.Leave A) ∷ ds) rest (first_need (Duty.Ask AskDuty.JoinAgain) ds f) xs (each B)
-        by false = touched A (opened_by (keys_begun r) p.a) ds rest (first_need (Duty.Ask AskDuty.JoinAgain) ds f) xs (each B)
 
     join_heard_done : (s : Side) (ds : List Duty) → is_followed (Duty.Ask (AskDuty.JoinHeard s) ∷ ds) ≡ true → ((t : Side) → Pays (at (Duty.Ask (AskDuty.JoinHeard s) ∷ ds)) (Duty.Ask (AskDuty.JoinHeard s) ∷ ds) refused t)
         → (keys : Option KeyPair) (asked : Option JoinSyn) → Granting (join_taken s keys asked r (at (Duty.Ask (AskDuty.JoinHeard s) ∷ ds))) refused

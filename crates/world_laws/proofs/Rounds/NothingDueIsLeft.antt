@@ -13,7 +13,6 @@ use Rattle.world_laws.proofs.Words.{answered_peer_key, answered_opened, is_stopp
 use Rattle.fallback_state.specs.declared.fall.Event.TheVariants as events
 use Rattle.path_core.specs.declared.events.Event.{Event}
 use Rattle.path_agenda.specs.Agenda.{breaks}
-use Rattle.path_core.specs.Emission.{Grant}
 use Rattle.world_laws.proofs.Falls.FailedChecks.{fail_answered_so}
 
 -- the events of the turn, and its end, are ahead
@@ -87,11 +86,7 @@ module _ {C : Type 0} where
   same_last [] p h = h
   same_last (Duty.End ∷ ds) p h = h
   same_last (Duty.Step (StepDuty.Look s) ∷ ds) p h = absurd h
-  same_last (d ∷ ds) p h = last_or d h
-    where
-      last_or : (d : Duty) → IsLast (d ∷ ds) p → IsLast (d ∷ ds) (with_agenda (d ∷ ds) p)
-      last_or Duty.End h = h
-      last_or _ h = absurd h
+  same_last (d ∷ ds) p h = (elim d as (λ d. IsLast (d ∷ ds) p → IsLast (d ∷ ds) (with_agenda (d ∷ ds) p)) [ Duty.End ↦ λ h. h | _ ↦ λ h. absurd h ]) h
 
   settled_shaped : (ds : List Duty) (p : PathState C) → Shaped ds p → Shaped (settled ds p).agenda (settled ds p)
   settled_shaped [] p h = onto h
@@ -123,11 +118,8 @@ module _ {C : Type 0} where
 
   -- a join is begun or not, with these to be done
   begun_ahead : (r : Reply) (dead living : List Duty) (p : PathState C) → Ahead dead → Ahead living → Ahead (join_begun r dead living p).agenda
-  begun_ahead r dead living p x y = by (is_never r)
-    where
-      by : (b : Bool) → Ahead (if b then goes_on A (never_joined r (end_at A p)) dead p else goes_on A (opened_by (keys_begun r) (end_at A p)) living p).agenda
-      by true = x
-      by false = y
+  begun_ahead r dead living p x y = elim (is_never r) as (λ b. Ahead (if b then goes_on A (never_joined r (end_at A p)) dead p else goes_on A (opened_by (keys_begun r) (end_at A p)) living p).agenda)
+      [ true ↦ x | false ↦ y ]
 
   event_ahead : (k : Codec C) (o : Option Event) (r : Reply) (p : PathState C) → Ahead (happens_if k o r p).agenda
   event_ahead k None r p = refl
@@ -137,11 +129,8 @@ module _ {C : Type 0} where
   event_ahead k (Some (Event.Fires s tick)) r p = fired_ahead (is_sixth (end_at s (at_tick tick p)).tcp) s
 
   break_ahead : (k : Codec C) (s : Side) (reason : ℕ) (r : Reply) (p : PathState C) → Ahead (answered_break k s reason r p).agenda
-  break_ahead k s reason r p = by (end_at s p).treated.asked
-    where
-      by : (b : Bool) → Ahead (if b then answered_ack_out s r (resets s reason) p else reset_on k s (Some reason) (leaves s) p).agenda
-      by true = refl
-      by false = refl
+  break_ahead k s reason r p = elim (end_at s p).treated.asked as (λ b. Ahead (if b then answered_ack_out s r (resets s reason) p else reset_on k s (Some reason) (leaves s) p).agenda)
+      [ true ↦ refl | false ↦ refl ]
 
   -- after a fall the send book is told, and a path may be broken
   fell_ahead : (s : Side) (r : Reply) (p : PathState C) → Ahead (left p) → Ahead (replaced (Duty.Ask (AskDuty.GoIdentity s)) p.agenda) → Ahead (fell_duties s r p)
@@ -154,11 +143,7 @@ module _ {C : Type 0} where
   module _ (k : Codec C) (s : Side) (r : Reply) (p : PathState C) (same : Ahead p.agenda) (left_ahead : Ahead (left p)) (told : Ahead (replaced (Duty.Ask (AskDuty.GoIdentity s)) p.agenda)) where
     data_ahead : (o : Option Record) → Ahead (answered_data k s o r p).agenda
     data_ahead (Some record_unsent) = same
-    data_ahead None = by (grant_in r)
-      where
-        by : (o : Option Grant) → Ahead (answered_grant s o r p).agenda
-        by (Some grant) = same
-        by None = left_ahead
+    data_ahead None = elim (grant_in r) as (λ o. Ahead (answered_grant s o r p).agenda) [ Some grant ↦ same | None ↦ left_ahead ]
 
     piece_ahead : (o : Option Piece) (taken : Bool) → Ahead (answered_piece s o taken p).agenda
     piece_ahead (Some piece) true = same
@@ -194,11 +179,9 @@ module _ {C : Type 0} where
       told_ahead false = left_ahead
 
       mapping_ahead : Ahead (answered_mapping k s r p).agenda
-      mapping_ahead = by (is_clash (end_at s p))
-        where
-          by : (b : Bool) → Ahead (if b then answered_break k s 1 r p else goes_on s (with_learned (after_fell events.MappingHeard r (end_at s p))) (fell_duties s r p) p).agenda
-          by true = break_ahead k s 1 r p
-          by false = fell_ahead s r p left_ahead told
+      mapping_ahead =
+          elim (is_clash (end_at s p)) as (λ b. Ahead (if b then answered_break k s 1 r p else goes_on s (with_learned (after_fell events.MappingHeard r (end_at s p))) (fell_duties s r p) p).agenda)
+          [ true ↦ break_ahead k s 1 r p | false ↦ fell_ahead s r p left_ahead told ]
 
       stopped_ahead : (stopped : Bool) → Ahead (if stopped then stops s else left p)
       stopped_ahead true = refl

@@ -183,28 +183,14 @@ module _ (path written_a written_b : ℕ) (steps : List Note) (n : Note) (refuse
     heard_both : (s : Side) (ask : Ask) → IsHeardAsk path s ask → Asks (with_flag s false refused) freed (after_ask ask six)
     heard_both A (Ask.Send A call) is = heard_call A call is
     heard_both B (Ask.Send B call) is = heard_call B call is
-    heard_both A (Ask.Send B call) is = other_side call is
-      where
-        other_side : (call : SendCall) → IsHeardAsk path A (Ask.Send B call) → Asks (with_flag A false refused) freed (after_send_call B call six)
-        other_side (SendCall.AckIn next window) is = (let never : B ≡ A = is in cc)
-        other_side (SendCall.GoInfinite asker) is = (let never : B ≡ A = is.0 in cc)
-        other_side _ is = absurd is
-    heard_both B (Ask.Send A call) is = other_side call is
-      where
-        other_side : (call : SendCall) → IsHeardAsk path B (Ask.Send A call) → Asks (with_flag B false refused) freed (after_send_call A call six)
-        other_side (SendCall.AckIn next window) is = (let never : A ≡ B = is in cc)
-        other_side (SendCall.GoInfinite asker) is = (let never : A ≡ B = is.0 in cc)
-        other_side _ is = absurd is
-    heard_both s (Ask.Reassembly t call) is = lowered_with s
-      where
-        lowered_with : (s : Side) → Asks (with_flag s false refused) freed (after_ask (Ask.Reassembly t call) six)
-        lowered_with A = record { a = (lowered A).a; b = (lowered A).b }
-        lowered_with B = record { a = (lowered B).a; b = (lowered B).b }
-    heard_both s (Ask.Control t call) is = lowered_with s
-      where
-        lowered_with : (s : Side) → Asks (with_flag s false refused) freed (after_ask (Ask.Control t call) six)
-        lowered_with A = record { a = (lowered A).a; b = (lowered A).b }
-        lowered_with B = record { a = (lowered B).a; b = (lowered B).b }
+    heard_both A (Ask.Send B call) is = (elim call as (λ call. IsHeardAsk path A (Ask.Send B call) → Asks (with_flag A false refused) freed (after_send_call B call six))
+        [ SendCall.AckIn next window ↦ λ is. (let never : B ≡ A = is in cc) | SendCall.GoInfinite asker ↦ λ is. (let never : B ≡ A = is.0 in cc) | _ ↦ λ is. absurd is ]) is
+    heard_both B (Ask.Send A call) is = (elim call as (λ call. IsHeardAsk path B (Ask.Send A call) → Asks (with_flag B false refused) freed (after_send_call A call six))
+        [ SendCall.AckIn next window ↦ λ is. (let never : A ≡ B = is in cc) | SendCall.GoInfinite asker ↦ λ is. (let never : A ≡ B = is.0 in cc) | _ ↦ λ is. absurd is ]) is
+    heard_both s (Ask.Reassembly t call) is = elim s as (λ s. Asks (with_flag s false refused) freed (after_ask (Ask.Reassembly t call) six))
+        [ A ↦ record { a = (lowered A).a; b = (lowered A).b } | B ↦ record { a = (lowered B).a; b = (lowered B).b } ]
+    heard_both s (Ask.Control t call) is = elim s as (λ s. Asks (with_flag s false refused) freed (after_ask (Ask.Control t call) six))
+        [ A ↦ record { a = (lowered A).a; b = (lowered A).b } | B ↦ record { a = (lowered B).a; b = (lowered B).b } ]
     heard_both s (Ask.Local step) is = lowered s
 
   -- A grant: what other paths freed before is of no account any more.

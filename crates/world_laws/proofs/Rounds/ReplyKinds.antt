@@ -146,11 +146,8 @@ reassembly_kind b (ReassemblyCall.Place at bytes) = by (reassembly.reaches_past 
     by true o = tt
     by false None = tt
     by false (Some e) = tt
-reassembly_kind b (ReassemblyCall.Fin at) = by (reassembly.fin_clash b.known_end at b)
-  where
-    by : (o : Option ℕ) → IsReassemblyKind (ReassemblyCall.Fin at) (reassembly.fin_reply_by o at)
-    by None = tt
-    by (Some e) = tt
+reassembly_kind b (ReassemblyCall.Fin at) = elim (reassembly.fin_clash b.known_end at b) as (λ o. IsReassemblyKind (ReassemblyCall.Fin at) (reassembly.fin_reply_by o at))
+    [ None ↦ tt | Some e ↦ tt ]
 reassembly_kind b (ReassemblyCall.Read max) = reading_kind b.aborted max b
 reassembly_kind b ReassemblyCall.AckOut = tt
 reassembly_kind b (ReassemblyCall.Abort by_peer) = tt

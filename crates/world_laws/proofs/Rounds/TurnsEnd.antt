@@ -154,15 +154,12 @@ module _ {C : Type 0} where
       }
 
   pub step_steady : (k : Codec C) (actor : ℕ) (w : WorldState C) → IsSteadyWorld w → IsSteadyWorld (world_step k actor w)
-  step_steady k actor w h = by (slice_get w.crew actor) refl
+  step_steady k actor w h = (elim (slice_get w.crew actor) as (λ o. slice_get w.crew actor ≡ o → IsSteadyWorld (stepped k actor o w))
+      [ None ↦ λ there. h | Some c ↦ λ there. asks c there (member_asks k c.member) refl ]) refl
     where
       asks : (c : ActorCrew C) → slice_get w.crew actor ≡ Some c → (o : Option Ask) → member_asks k c.member ≡ o → IsSteadyWorld (asked k actor o c w)
       asks c there None is = h
       asks c there (Some x) is = asked_steady k actor w c x there is h
-
-      by : (o : Option (ActorCrew C)) → slice_get w.crew actor ≡ o → IsSteadyWorld (stepped k actor o w)
-      by None there = h
-      by (Some c) there = asks c there (member_asks k c.member) refl
 
   pub round_steady : (w : WorldState C) → IsSteadyWorld w → IsSteadyWorld (end_round w)
   round_steady w h = by (all_over w.crew)
@@ -212,11 +209,8 @@ module _ {C : Type 0} where
       (suc rest.0, (ap goes there ∙ ap (λ y. not (is_over y)) same ∙ ap not going, subst (IsTurn k actor rest.0) (sym (is_step k actor w c x there asks)) rest.1))
 
   turn_at : (k : Codec C) (actor : ℕ) (w : WorldState C) → IsSteadyWorld w → (n : ℕ) × IsTurn k actor n w
-  turn_at k actor w h = by (slice_get w.crew actor) refl
-    where
-      by : (o : Option (ActorCrew C)) → slice_get w.crew actor ≡ o → (n : ℕ) × IsTurn k actor n w
-      by None there = (0, ap goes there)
-      by (Some c) there = turn_from k actor w c c.member there refl h (ends_turn k c.member (h.crew.each actor c there))
+  turn_at k actor w h = (elim (slice_get w.crew actor) as (λ o. slice_get w.crew actor ≡ o → (n : ℕ) × IsTurn k actor n w)
+      [ None ↦ λ there. (0, ap goes there) | Some c ↦ λ there. turn_from k actor w c c.member there refl h (ends_turn k c.member (h.crew.each actor c there)) ]) refl
 
   turns_at : (k : Codec C) (more actor : ℕ) (w : WorldState C) → IsSteadyWorld w → (counts : List ℕ) × AreTurns k more actor counts w
   turns_at k zero actor w h = ([], refl)

@@ -176,11 +176,9 @@ module _ (d : Duty) (ds : List Duty) (p : PathState Carried) (h : PathIs (d ∷ 
   no_infinite place (suc index) position (x ∷ items) none is = no_infinite place index position items (or_parts (is_infinite_item x) (list_any is_infinite_item items) none).1 is
 
   never_infinite : (s : Side) (index place : ℕ) (position : Option ℕ) → item_of index (end_at s p) ≡ Some (Heard.InfiniteMapping place position) → ⊥
-  never_infinite s index place position is = by (end_at s p).modes.identity is
-    where
-      by : (b : Bool) → (if b then None else item_at index (end_at s p).treated.items) ≡ Some (Heard.InfiniteMapping place position) → ⊥
-      by true none = cc
-      by false found = no_infinite place index position (end_at s p).treated.items (end_is s (d ∷ ds) (with_agenda (d ∷ ds) p) h).base.treated.finite found
+  never_infinite s index place position is =
+      (elim (end_at s p).modes.identity as (λ b. (if b then None else item_at index (end_at s p).treated.items) ≡ Some (Heard.InfiniteMapping place position) → ⊥)
+      [ true ↦ λ none. cc | false ↦ λ found. no_infinite place index position (end_at s p).treated.items (end_is s (d ∷ ds) (with_agenda (d ∷ ds) p) h).base.treated.finite found ]) is
 
   learned_so : (s : Side) (r : Reply) → (end_at s p).modes.clear ≡ true → Steps s (with_agenda (d ∷ ds) p) (with_learned (after_fell FallEvent.MappingHeard r (end_at s p)))
   learned_so s r clear = fell_so (λ n. Steps s (with_agenda (d ∷ ds) p) (with_learned (record (end_at s p) { modes = n }))) FallEvent.MappingHeard r (end_at s p).modes

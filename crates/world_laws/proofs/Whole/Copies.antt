@@ -111,11 +111,8 @@ module _ (c : Profile) (s : Side) (e : PathEnd) (vs vt : SendState) (first : is_
       said = segment_of c (record { position = position; acknowledged = (if none then None else Some e.tcp.recv.edge); syn = false; fin = fin; rst = false; length = len }) os payload e
 
       some : (t : Side) → (s ≡ A → is_nil (map meant_option os) ≡ false) → OptionIs s (meant said)
-      some t all = one s refl all
-        where
-          one : (t : Side) → s ≡ t → (s ≡ A → is_nil (map meant_option os) ≡ false) → OptionIs t (meant said)
-          one A same all = all same
-          one B same all = carries
+      some t all = (elim s as (λ t. s ≡ t → (s ≡ A → is_nil (map meant_option os) ≡ false) → OptionIs t (meant said))
+          [ A ↦ λ same all. all same | B ↦ λ same all. carries ]) refl all
 
       by : (b : Bool) → NoneBelow e.tcp.recv.edge vs → IfSome (acknowledged_in (option_map (λ n. At n) (if b then None else Some e.tcp.recv.edge))) (λ n. NoneBelow n vs)
       by true below = tt
@@ -218,11 +215,11 @@ module _ (c : Profile) (s : Side) (e : PathEnd) (vs vt : SendState) (first : is_
   first_of_a B same b at clear is = absurd (false≢true is)
 
   mapped_tells : (r : Record) → Speaks s e → Tells (mapped_options c s r e)
-  mapped_tells r speaks = by (is_first_piece s r e) refl
-    where
-      by : (b : Bool) → is_first_piece s r e ≡ b → Tells (if b then first_piece_options c e.modes.peer_key r e else Dss (Some e.receiving.next) (Some (piece_mapping c s r)) ∷ [])
-      by true is = let a = first_of_a s refl e.modes.clear (r.pos == 1) refl is in first_tells e.modes.peer_key r a.1 (has_key speaks a.0)
-      by false is = record { some = λ same. refl; acks = λ none. absurd (false≢true (sym none)); finite = refl }
+  mapped_tells r speaks =
+      (elim (is_first_piece s r e) as (λ b. is_first_piece s r e ≡ b → Tells (if b then first_piece_options c e.modes.peer_key r e else Dss (Some e.receiving.next) (Some (piece_mapping c s r)) ∷ [])) [
+        | true ↦ λ is. let a = first_of_a s refl e.modes.clear (r.pos == 1) refl is in first_tells e.modes.peer_key r a.1 (has_key speaks a.0)
+        | false ↦ λ is. record { some = λ same. refl; acks = λ none. absurd (false≢true (sym none)); finite = refl }
+      ]) refl
 
   mapped_some : (r : Record) → Speaks s e → is_nil (map meant_option (mapped_options c s r e)) ≡ false
   mapped_some r speaks = by (is_first_piece s r e) refl
@@ -292,7 +289,8 @@ module _ (c : Profile) (s : Side) (e : PathEnd) (vs vt : SendState) (first : is_
       by false false false = ack_is (e.tcp.send.una - 1) None speaks
 
   pub resend_is : IfSome (first_record e) MaySay → Speaks s e ⊎ (is_some (first_record e) && has_records e.tcp ≡ true) → Says (resend_said c s e)
-  resend_is may speaks = by (has_records e.tcp) refl
+  resend_is may speaks = (elim (has_records e.tcp) as (λ b. has_records e.tcp ≡ b → Says (if b then record_or_ack c s (first_record e) e else ack_resent c s e))
+      [ true ↦ λ is. record_or_ack_is (first_record e) may (λ none. none_then none speaks) | false ↦ λ is. ack_resent_is (empty_then is speaks) ]) refl
     where
       none_then : first_record e ≡ None → Speaks s e ⊎ (is_some (first_record e) && has_records e.tcp ≡ true) → Speaks s e
       none_then none (inl so) = so
@@ -301,10 +299,6 @@ module _ (c : Profile) (s : Side) (e : PathEnd) (vs vt : SendState) (first : is_
       empty_then : has_records e.tcp ≡ false → Speaks s e ⊎ (is_some (first_record e) && has_records e.tcp ≡ true) → Speaks s e
       empty_then empty (inl so) = so
       empty_then empty (inr both) = absurd (both_ways (has_records e.tcp) empty (and_parts (is_some (first_record e)) (has_records e.tcp) both).1)
-
-      by : (b : Bool) → has_records e.tcp ≡ b → Says (if b then record_or_ack c s (first_record e) e else ack_resent c s e)
-      by true is = record_or_ack_is (first_record e) may (λ none. none_then none speaks)
-      by false is = ack_resent_is (empty_then is speaks)
 
 -- ---- resets
 

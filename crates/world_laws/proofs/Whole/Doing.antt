@@ -67,11 +67,8 @@ fins_some now [] some = some
 fins_some now (r ∷ rs) some = refl
 
 sent_some : (o : Occasion) (now : ℕ) (s : EndState) → is_nil s.send.records ≡ false → is_nil (after_sending o now s).send.records ≡ false
-sent_some Occasion.SynAck now s some = by (s.send.una == 0)
-  where
-    by : (b : Bool) → is_nil (if b then after_resent now s.send else s.send).records ≡ false
-    by true = first_some now s.send.records some
-    by false = some
+sent_some Occasion.SynAck now s some = elim (s.send.una == 0) as (λ b. is_nil (if b then after_resent now s.send else s.send).records ≡ false)
+    [ true ↦ first_some now s.send.records some | false ↦ some ]
 sent_some Occasion.First now s some = first_some now s.send.records some
 sent_some Occasion.Unsent now s some = unsent_some now s.send.records some
 sent_some Occasion.Fin now s some = fins_some now s.send.records some

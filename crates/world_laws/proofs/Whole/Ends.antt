@@ -197,12 +197,8 @@ is_heeded (Meaning.Accepts acknowledged) = false
 is_heeded _ = true
 
 pub means_so : (c : Copy) (s : EndState) → MeansIs c s (meaning_of c s)
-means_so c s = by (meaning_of c s) (means c s)
-  where
-    by : (m : Meaning) → Means c s m → MeansIs c s m
-    by (Meaning.Accepts acknowledged) is = (is.0, (is.1.0, is.1.1.0))
-    by (Meaning.Taken pos acknowledged) is = (is.0, (is.1.0, (is.1.1.0, (is.1.1.1.0, is.1.1.1.1.0))))
-    by _ is = is
+means_so c s = (elim (meaning_of c s) as (λ m. Means c s m → MeansIs c s m)
+    [ Meaning.Accepts acknowledged ↦ λ is. (is.0, (is.1.0, is.1.1.0)) | Meaning.Taken pos acknowledged ↦ λ is. (is.0, (is.1.0, (is.1.1.0, (is.1.1.1.0, is.1.1.1.1.0)))) | _ ↦ λ is. is ]) (means c s)
 
 -- ---- an end of which little changes
 
@@ -315,25 +311,17 @@ module _ (s : Side) (vs : SendState) (h : HeardSegment) (e : PathEnd) (told : Li
     apart : is_apart s y.state ≡ false
 
   acked_sends : (n : ℕ) (x : EndState) → Remains x.send (after_acknowledgement n now x).send
-  acked_sends n x = by (ack_kind n x.send)
-    where
-      by : (kind : AckKind) → Remains x.send (after_ack_kind kind (sample_of n x.send) now (record x { send = after_acknowledge n x.send })).send
-      by (AckKind.New octets) = acknowledged_remains x.send n
-      by _ = acknowledged_remains x.send n
+  acked_sends n x = elim (ack_kind n x.send) as (λ kind. Remains x.send (after_ack_kind kind (sample_of n x.send) now (record x { send = after_acknowledge n x.send })).send)
+      [ AckKind.New octets ↦ acknowledged_remains x.send n | _ ↦ acknowledged_remains x.send n ]
 
   acked_recv : (n : ℕ) (x : EndState) → ((after_acknowledgement n now x).recv ≡ x.recv) × ((after_acknowledgement n now x).fin_at ≡ x.fin_at)
-  acked_recv n x = by (ack_kind n x.send)
-    where
-      by : (kind : AckKind) → let y = after_ack_kind kind (sample_of n x.send) now (record x { send = after_acknowledge n x.send }) in (y.recv ≡ x.recv) × (y.fin_at ≡ x.fin_at)
-      by (AckKind.New octets) = (refl, refl)
-      by _ = (refl, refl)
+  acked_recv n x =
+      elim (ack_kind n x.send) as (λ kind. let y = after_ack_kind kind (sample_of n x.send) now (record x { send = after_acknowledge n x.send }) in (y.recv ≡ x.recv) × (y.fin_at ≡ x.fin_at))
+      [ AckKind.New octets ↦ (refl, refl) | _ ↦ (refl, refl) ]
 
   not_apart : (x y : EndPhase) → (is_apart s y ≡ true → is_apart s x ≡ true) → is_apart s x ≡ false → is_apart s y ≡ false
-  not_apart x y back none = by (is_apart s y) refl
-    where
-      by : (b : Bool) → is_apart s y ≡ b → b ≡ false
-      by true is = absurd (both_ways (is_apart s x) none (back is))
-      by false is = refl
+  not_apart x y back none = (elim (is_apart s y) as (λ b. is_apart s y ≡ b → b ≡ false)
+      [ true ↦ λ is. absurd (both_ways (is_apart s x) none (back is)) | false ↦ λ is. refl ]) refl
 
   abbrev hint : Hint
   hint = hint_of (items_of false s h)
@@ -426,17 +414,14 @@ module _ (s : Side) (vs : SendState) (h : HeardSegment) (e : PathEnd) (told : Li
 
   -- with a Data ACK nothing is acknowledged without one, and without it no byte
   acks_plainly : (pos n : ℕ) (x : EndState) → x.send ≡ e.tcp.send → Fits (Meaning.Taken pos n) → is_plain_ack (arrival_of (Meaning.Taken pos n) hint c x) h ≡ false
-  acks_plainly pos n x same fits = by (list_any has_data_ack h.options) refl
+  acks_plainly pos n x same fits = (elim (list_any has_data_ack h.options) as (λ b. list_any has_data_ack h.options ≡ b → nat_lt 0 octets && not b ≡ false)
+      [ true ↦ λ is. and_never (nat_lt 0 octets) | false ↦ λ is. ap (λ k. nat_lt 0 k && true) (no_octets n x.send (low is) (is_half_open x.state) (kept_new false pos h.payload x)) ]) refl
     where
       octets : ℕ
       octets = octets_acked (arrival_of (Meaning.Taken pos n) hint c x)
 
       low : list_any has_data_ack h.options ≡ false → NoneBelow n x.send
       low none = subst (λ v. NoneBelow n v) (sym same) (subst (λ (o : Option ℕ). IfSome o (λ k. NoneBelow k e.tcp.send)) fits.1.1.1.1 (said.acks fits.1.1.0 fits.1.0 none))
-
-      by : (b : Bool) → list_any has_data_ack h.options ≡ b → nat_lt 0 octets && not b ≡ false
-      by true is = and_never (nat_lt 0 octets)
-      by false is = ap (λ k. nat_lt 0 k && true) (no_octets n x.send (low is) (is_half_open x.state) (kept_new false pos h.payload x))
 
   plainly_held : (pos n : ℕ) (b : Bool) → Fits (Meaning.Taken pos n) → is_plain_ack (arrival_of (Meaning.Taken pos n) hint c (if b then e.tcp else after_holding pos h.payload e.tcp)) h ≡ false
   plainly_held pos n true fits = acks_plainly pos n e.tcp refl fits
@@ -561,8 +546,7 @@ module _ (s : Side) (vs : SendState) (h : HeardSegment) (e : PathEnd) (told : Li
   accepted_key n fits same = subst (λ t. SynIs (peer t) h) same (said.syn fits.1.1 fits.1.0)
 
   pub accepts_a : (n : ℕ) → Fits (Meaning.Accepts n) → s ≡ A
-  accepts_a n fits = by s refl
-    where
-      by : (t : Side) → s ≡ t → s ≡ A
-      by A same = same
-      by B same = absurd (both_ways (is_apart B EndPhase.SynSent) (subst (λ x. is_apart B x ≡ false) fits.0 (subst (λ t. is_apart t e.tcp.state ≡ false) same was.apart)) refl)
+  accepts_a n fits = (elim s as (λ t. s ≡ t → s ≡ A) [
+    | A ↦ λ same. same
+    | B ↦ λ same. absurd (both_ways (is_apart B EndPhase.SynSent) (subst (λ x. is_apart B x ≡ false) fits.0 (subst (λ t. is_apart t e.tcp.state ≡ false) same was.apart)) refl)
+  ]) refl

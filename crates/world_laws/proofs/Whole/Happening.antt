@@ -137,17 +137,14 @@ speaks_fired s ds p h up speaks = Now _ (path_any (template_fired false s) (temp
     (path_goes s ds (template_fired false s) p (fired_end s ds p h false) (fired_step s ds p h up false) (fired_fewer s ds p h false speaks) h))
 
 pub fired_holds : (s : Side) (ds : List Duty) (p : PathState Carried) → PathIs ds p → PathPlain p → is_up (end_at s p).tcp ≡ true → Holds (timer_fired s p)
-fired_holds A ds p h plain up = by (is_sixth p.a.tcp)
+fired_holds A ds p h plain up = elim (is_sixth p.a.tcp) as (λ b. Holds (goes_on A (fired_end A ds p h b) (template_fired b A) p))
+    [ true ↦ dies_fired A ds p h up | false ↦ ⊎_elim (λ knows. speaks_fired A ds p h up knows) (λ unmet. syn (opens_up A ds p h up unmet)) h.a.says ]
   where
     syn : Opens (parts_of p.a) → Holds (goes_on A (fired_end A ds p h false) (template_fired false A) p)
     syn opens =
         let f : PathEnd = fired_end A ds p h false in
         gives_back (goes_on A f (emission A) p) (goes_fewer A ds (emission A) p f (fired_step A ds p h up false) (new_fewer ds (emission A) (λ x. refl)) h)
         (record { identity = plain.a.identity; own = plain.a.own; unfinished = plain.a.unfinished }) (expired_opens A ds p h opens)
-
-    by : (b : Bool) → Holds (goes_on A (fired_end A ds p h b) (template_fired b A) p)
-    by true = dies_fired A ds p h up
-    by false = ⊎_elim (λ knows. speaks_fired A ds p h up knows) (λ unmet. syn (opens_up A ds p h up unmet)) h.a.says
 fired_holds B ds p h plain up = by (is_sixth p.b.tcp)
   where
     by : (b : Bool) → Holds (goes_on B (fired_end B ds p h b) (template_fired b B) p)

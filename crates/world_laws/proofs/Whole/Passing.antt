@@ -78,11 +78,10 @@ module _ (s : Side) (ds : List Duty) (p : PathState Carried) (h : PathIs ds p) w
   pub heard_step : (o : Option Heard) → ((fin : Bool) → o ≡ Some (Heard.Mapping fin) → counts e ≡ true → e.modes.clear ≡ true) → Steps s p (item_passed s o e)
   heard_step None clears = same_step s ds p e refl h
   heard_step (Some Heard.Dss) clears = dss_step s refl
-  heard_step (Some (Heard.Mapping fin)) clears = by (counts e) refl
-    where
-      by : (b : Bool) → counts e ≡ b → Steps s p (if b then with_learned e else with_skipped e)
-      by true is = learned_step (clears fin refl is)
-      by false is = small_step s ds p (with_skipped e) refl refl refl refl refl refl (λ is. is) (inr (refl, (refl, (refl, refl)))) treated_is h
+  heard_step (Some (Heard.Mapping fin)) clears = (elim (counts e) as (λ b. counts e ≡ b → Steps s p (if b then with_learned e else with_skipped e)) [
+    | true ↦ λ is. learned_step (clears fin refl is)
+    | false ↦ λ is. small_step s ds p (with_skipped e) refl refl refl refl refl refl (λ is. is) (inr (refl, (refl, (refl, refl)))) treated_is h
+  ]) refl
   heard_step (Some (Heard.DataFin place)) clears = either_step (counts e) (with_data_fin place e) e (same_step s ds p (with_data_fin place e) refl h) (same_step s ds p e refl h)
   heard_step (Some (Heard.DataAck next window)) clears = same_step s ds p (item_passed s (Some (Heard.DataAck next window)) e) refl h
   heard_step (Some item) clears = same_step s ds p e refl h

@@ -63,11 +63,8 @@ greatest_same known [] = refl
 greatest_same known (c ∷ crew) = greatest_same (max known c.pass.stamp) crew
 
 begins_same : (stamp : ℕ) (c : ActorCrew Carried) → begins stamp (shown_crew c) ≡ shown_crew (begins stamp c)
-begins_same stamp c = by c.member
-  where
-    by : (m : Actor Carried) → begins stamp (record (shown_crew c) { member = shown_member m }) ≡ shown_crew (begins stamp (record c { member = m }))
-    by (App a) = refl
-    by (Path p) = ap (λ q. record (begins stamp (shown_crew c)) { member = Path q }) (begins_the_same p)
+begins_same stamp c = elim c.member as (λ m. begins stamp (record (shown_crew c) { member = shown_member m }) ≡ shown_crew (begins stamp (record c { member = m })))
+    [ App a ↦ refl | Path p ↦ ap (λ q. record (begins stamp (shown_crew c)) { member = Path q }) (begins_the_same p) ]
 
 begin_all_same : (stamp : ℕ) (crew : List (ActorCrew Carried)) → map (begins stamp) (map shown_crew crew) ≡ map shown_crew (map (begins stamp) crew)
 begin_all_same stamp [] = refl

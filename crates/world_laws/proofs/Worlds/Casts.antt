@@ -49,29 +49,20 @@ settles_fares s file m b send st side writes = record {
 
 answered_fares : (file : List ℕ) (six : SixBooks) (a : AppState) (d : AppDuty) → app_stands d a ≡ true → Writes file a.rest (send_of a.side six)
     → Writes file (app_answered d (reply_of six (app_ask d a)) a).rest (send_of a.side (after_ask (app_ask d a) six))
-answered_fares file six a AppDuty.FastClose stands h = same_send a.side h
-  where
-    same_send : (s : Side) → Writes file a.rest (send_of s six) → Writes file a.rest (send_of s (after_ask (app_ask AppDuty.FastClose a) six))
-    same_send A h = h
-    same_send B h = h
+answered_fares file six a AppDuty.FastClose stands h = (elim a.side as (λ s. Writes file a.rest (send_of s six) → Writes file a.rest (send_of s (after_ask (app_ask AppDuty.FastClose a) six)))
+    [ A ↦ λ h. h | B ↦ λ h. h ]) h
 answered_fares file six a AppDuty.AbortSend stands h =
     subst (Writes file a.rest) (sym (own_after a.side SendCall.Abort six)) (record { prefix = h.prefix; whole = h.whole })
-answered_fares file six a AppDuty.AbortReceive stands h = same_send a.side h
-  where
-    same_send : (s : Side) → Writes file a.rest (send_of s six) → Writes file a.rest (send_of s (after_ask (app_ask AppDuty.AbortReceive a) six))
-    same_send A h = h
-    same_send B h = h
+answered_fares file six a AppDuty.AbortReceive stands h = (elim a.side as (λ s. Writes file a.rest (send_of s six) → Writes file a.rest (send_of s (after_ask (app_ask AppDuty.AbortReceive a) six)))
+    [ A ↦ λ h. h | B ↦ λ h. h ]) h
 answered_fares file six a AppDuty.Write stands h =
     subst (Writes file _) (sym (own_after a.side (SendCall.Write (take a.buffer a.rest)) six)) (writes_more file a.rest a.buffer (send_of a.side six) stands h)
 answered_fares file six a AppDuty.Close stands h =
     let none = is_empty a.rest (and_parts (is_nil a.rest) (not a.closed) stands).0 in
     subst (Writes file a.rest) (sym (own_after a.side SendCall.Close six))
     (subst (λ rest. Writes file rest (after_call (send_of a.side six) SendCall.Close)) (sym none) (closes file (send_of a.side six) (subst (λ rest. Writes file rest (send_of a.side six)) none h)))
-answered_fares file six a AppDuty.Read stands h = same_send a.side h
-  where
-    same_send : (s : Side) → Writes file a.rest (send_of s six) → Writes file a.rest (send_of s (after_ask (app_ask AppDuty.Read a) six))
-    same_send A h = h
-    same_send B h = h
+answered_fares file six a AppDuty.Read stands h = (elim a.side as (λ s. Writes file a.rest (send_of s six) → Writes file a.rest (send_of s (after_ask (app_ask AppDuty.Read a) six)))
+    [ A ↦ λ h. h | B ↦ λ h. h ]) h
 answered_fares file six a AppDuty.End stands h = h
 
 answered_side : (d : AppDuty) (r : Reply) (a : AppState) → (app_answered d r a).side ≡ a.side

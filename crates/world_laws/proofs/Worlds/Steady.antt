@@ -78,7 +78,8 @@ module _ (start : Start) where
       (in_set w.crew actor (crew_after values x w.books c) 2 d at)
 
   step_clear : (actor : ℕ) (w : WorldState Carried) → Since w → Joined (books_in (after_turn values (Turn.Step actor) w).books) A → FirstClear (after_turn values (Turn.Step actor) w)
-  step_clear actor w h = by (slice_get w.crew actor) refl
+  step_clear actor w h = (elim (slice_get w.crew actor) as (λ o. slice_get w.crew actor ≡ o → Joined (books_in (stepped values actor o w).books) A → FirstClear (stepped values actor o w))
+      [ None ↦ λ there joined. h.clear joined | Some c ↦ λ there joined. asking c there (member_asks values c.member) refl joined ]) refl
     where
       asking : (c : ActorCrew Carried) → slice_get w.crew actor ≡ Some c → (o : Option Ask) → member_asks values c.member ≡ o → Joined (books_in (asked values actor o c w).books) A
           → FirstClear (asked values actor o c w)
@@ -89,10 +90,6 @@ module _ (start : Start) where
           stays_clear actor x c w there
           (⊎_elim (λ before. h.clear before) (λ sure. h.ever [] sure)
           (joins_by six x (member_asks_are start.key_a start.key_b false six c.member x (h.known.crew.each actor c there) is) (subst (λ (y : SixBooks). Joined y A) now joined)))
-
-      by : (o : Option (ActorCrew Carried)) → slice_get w.crew actor ≡ o → Joined (books_in (stepped values actor o w).books) A → FirstClear (stepped values actor o w)
-      by None there joined = h.clear joined
-      by (Some c) there joined = asking c there (member_asks values c.member) refl joined
 
   round_clear : (w : WorldState Carried) → Since w → Joined (books_in (after_turn values Turn.Round w).books) A → FirstClear (after_turn values Turn.Round w)
   round_clear w h = by (all_over w.crew)
