@@ -129,15 +129,8 @@ fin_small (Some e) at b small can ends = elim (e == at) as (λ c. IsSmallReassem
 
 read_small : (aborted : Option Bool) (max : ℕ) (b : Arriving) → IsSmallReassembly (reassembly.reading aborted max b)
 read_small (Some by_peer) max b = tt
-read_small None max b = by (take max (filled b.places))
-  where
-    ending : (c : Bool) → IsSmallReassembly (if c then ReassemblyReply.End else ReassemblyReply.NoneYet)
-    ending true = tt
-    ending false = tt
-
-    by : (bytes : List ℕ) → IsSmallReassembly (reassembly.bytes_reply bytes b)
-    by [] = ending (reassembly.is_end b.known_end b.read)
-    by (byte ∷ bytes) = tt
+read_small None max b = elim (take max (filled b.places)) as (λ bytes. IsSmallReassembly (reassembly.bytes_reply bytes b))
+    [ [] ↦ elim (reassembly.is_end b.known_end b.read) as (λ c. IsSmallReassembly (if c then ReassemblyReply.End else ReassemblyReply.NoneYet)) [ true ↦ tt | false ↦ tt ] | byte ∷ bytes ↦ tt ]
 
 pub reassembly_small : (b : Arriving) (call : ReassemblyCall) → IsReceivedSmall b → reassembly.CanAsk call → IsSmallReassembly (reassembly.reply_to b call)
 reassembly_small b (ReassemblyCall.Place at bytes) small can = by (reassembly.reaches_past (reassembly.edge b) at bytes)

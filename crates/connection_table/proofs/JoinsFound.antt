@@ -13,7 +13,6 @@ use Rattle.mptcp_options.specs.Text.{Fits}
 use Rattle.mptcp_options.specs.Value as wire
 use Rattle.join_handshake.specs.declared.hearing.JoinSyn.{JoinSyn}
 use Rattle.path_segments.specs.declared.position.HeardPosition.TheVariants.{At}
-use Rattle.path_segments.specs.HeardLent.{IsExpected}
 use Rattle.path_segments.specs.Laws.{IsFresh, IsHearable, meant, meant_option, window_told}
 use Rattle.path_segments.specs.Spelling.{subflow_number}
 use Rattle.actor_desk.specs.Words.{is_nil}
@@ -30,7 +29,7 @@ use Rattle.world_laws.proofs.Keys.AnswerHeardFirst.{TellsKey, asks_first}
 use Rattle.world_laws.proofs.Promises.Made.{run_fresh}
 use Rattle.world_laws.proofs.Worlds.Finding.{find_every, one_side}
 use Rattle.connection_table.proofs.Found.{is_found}
-use Rattle.connection_table.specs.FoundJoins.{FindsJoin, FindsJoinNext, FindsJoins, IsHeardAsJoin, JoinsAreFound}
+use Rattle.connection_table.specs.FoundJoins.{FindsJoinNext, FindsJoins, IsHeardAsJoin, JoinsAreFound}
 use Rattle.connection_table.proofs.PathsNamed.{HasNumber, paths_have_their_numbers}
 use Rattle.connection_table.proofs.TokensShown.{members_fresh, same_arriving}
 
@@ -86,11 +85,10 @@ module _ (spelling : Spelling) (expected : Expected) (carried : Carried) (asked 
 
   whole_found : IsFresh spelling A expected sg → sg.syn ≡ true → sg.acknowledged ≡ None → said_to_b window sg.options ≡ Some asked
       → join_token (addresses_from spelling.path A) (spelled_text spelling A sg) ≡ Some asked.token
-  whole_found near syn alone asks = by sg.options refl
-    where
-      by : (options : List PlainOption) → sg.options ≡ options → join_token (addresses_from spelling.path A) (spelled_text spelling A sg) ≡ Some asked.token
-      by [] is = absurd (let never : None ≡ Some asked = ap (said_to_b window) (sym is) ∙ asks in cc)
-      by (o ∷ options) is = so_found near syn alone asks (asks_so sg.options (tells (ap is_nil is) syn))
+  whole_found near syn alone asks = (elim sg.options as (λ options. sg.options ≡ options → join_token (addresses_from spelling.path A) (spelled_text spelling A sg) ≡ Some asked.token) [
+    | [] ↦ λ is. absurd (let never : None ≡ Some asked = ap (said_to_b window) (sym is) ∙ asks in cc)
+    | o ∷ options ↦ λ is. so_found near syn alone asks (asks_so sg.options (tells (ap is_nil is) syn))
+  ]) refl
 
   -- without its options it asks nothing
   near_found : IsFresh spelling A expected sg → sg.syn ≡ true → sg.acknowledged ≡ None → join_asked (items_of true B (meant (as_arrived carried))) ≡ Some asked

@@ -1,12 +1,9 @@
 -- How a run of a list ends: from its loads, its rounds and its lines.
-use Rattle.connection_table.proofs.Words.{◌≡◌, refl, sym, ap, subst, ℕ, Option, List, [], ◌∷◌, ◌++◌, map, inr, inl, ◌⊎◌, IfSome, IfOk, ◌≢◌, All, All-nil}
-use Rattle.connection_table.proofs.Words.{All-cons, IfSome_then, Call, HasRisen, HoldsAfter, HoldsPrefix, AddsAll, Told, all_then, Input, Many, Done, Usage}
-use Rattle.connection_table.proofs.Words.{Load, TooLong, Listing, Script, SameToken, Put, Memory, AddsCut, AddsToFailed, LinesAdd, ListAdds, joined}
-use Rattle.connection_table.proofs.Words.{loads_by_line, AddsFirst, Names, Contents, IsShort, AllPut, AreAdmitted, AreInputs, AreListed, AreOfList, AreSerial}
-use Rattle.connection_table.proofs.Words.{AtFault, IsEnd, IsListedFault, IsLoadingFault, IsOfListed, IsPutFault, IsTableOf, NonePut, PutAdds, Says, SomePut}
-use Rattle.connection_table.proofs.Words.{UpToAny, UpToPut, loads_of_list, puts_from, Entry, opened_entry, LeavesPayload, state_of, lines_of, EachRound}
-use Rattle.connection_table.proofs.Words.{IsSerialEnd, NamedList}
-use Rattle.outside_kit.specs.Calls.{Made}
+use Rattle.connection_table.proofs.Words.{◌≡◌, refl, sym, subst, ℕ, Option, List, [], ◌∷◌, ◌++◌, map, inr, inl, ◌⊎◌, IfSome, IfOk, ◌≢◌, All, All-nil, All-cons}
+use Rattle.connection_table.proofs.Words.{IfSome_then, Call, HasRisen, HoldsAfter, HoldsPrefix, AddsAll, Told, all_then, Input, Many, Done, Usage, Load}
+use Rattle.connection_table.proofs.Words.{TooLong, Listing, Script, SameToken, Put, Memory, ListAdds, Names, Contents, IsShort, AreAdmitted, AreInputs}
+use Rattle.connection_table.proofs.Words.{AreOfList, AreSerial, AtFault, IsEnd, IsListedFault, IsLoadingFault, IsOfListed, IsPutFault, IsTableOf, PutAdds, Says}
+use Rattle.connection_table.proofs.Words.{loads_of_list, puts_from, Entry, opened_entry, LeavesPayload, state_of, lines_of, EachRound, IsSerialEnd, NamedList}
 use Rattle.connection_table.proofs.Adding.{all_cut}
 use Rattle.connection_table.proofs.CallsMade.{cut_behind, failed_behind}
 use Rattle.connection_table.proofs.EndsRight.{all_end_right}
@@ -21,11 +18,7 @@ module _ (content : Contents) (words : NamedList) (old new : ℕ) (bytes : List 
   -- what holds of the cause of one of its connections
   caused : (many : Many) (P : Type 0) → many ≢ Memory → ((inputs : List Input) (at : Names) → AtFault content inputs at old new many → P)
       → IsListedFault content names old new many → P
-  caused many P not f fault = by fault.cause
-    where
-      by : (many ≡ Memory) ⊎ ((at : Names) × ((behind : List Names) × ((names ≡ fault.before ++ at ∷ behind) × AtFault content fault.inputs at old new many))) → P
-      by (inl memory) = absurd (not memory)
-      by (inr h) = f fault.inputs h.0 h.1.1.1
+  caused many P not f fault = elim fault.cause [ inl memory ↦ absurd (not memory) | inr h ↦ f fault.inputs h.0 h.1.1.1 ]
 
   -- a connection of it can't be loaded, read or admitted
   pub one_refused : (many : Many) → IsListedFault content names old new many → IsLoadingFault content words old new many

@@ -112,7 +112,7 @@ module _ (content : Contents) (words : NamedList) (valid : IsValid content words
   IsSound many = (before behind : List Names) (at : Names) (p : Parted content before at valid.inputs) → AtFault content p.front at old new many → ⊥
 
   of_valid : (many : Many) → many ≢ Memory → IsSound many → IsOfListed content words old new many → ⊥
-  of_valid many not sound of = by fault.cause
+  of_valid many not sound of = elim fault.cause [ inl memory ↦ not memory | inr h ↦ at_one h.0 h.1.0 h.1.1.0 h.1.1.1 ]
     where
       read : (names : List Names) × (Says valid.list names × IsListedFault content names old new many)
       read = told _ of
@@ -128,10 +128,6 @@ module _ (content : Contents) (words : NamedList) (valid : IsValid content words
           let p = parted content fault.before behind at valid.inputs (subst (λ ns. AreValidInputs content ns valid.inputs) (sym names_is ∙ is) valid.valid) in
           let same : fault.inputs ≡ p.front = inputs_are content fault.before p.front fault.inputs p.before_valid fault.admitted in
           sound fault.before behind at p (subst (λ is. AtFault content is at old new many) same cause)
-
-      by : (many ≡ Memory) ⊎ ((at : Names) × ((behind : List Names) × ((read.0 ≡ fault.before ++ at ∷ behind) × AtFault content fault.inputs at old new many))) → ⊥
-      by (inl memory) = not memory
-      by (inr h) = at_one h.0 h.1.0 h.1.1.0 h.1.1.1
 
   not_too_long : (line : ℕ) → ((line ≡ 0) × IfSome (content words.list) (λ t. 65536 < length t)) ⊎ IsOfListed content words old new (TooLong line) → ⊥
   not_too_long line (inl h) = let past : 65536 < length valid.list = told _ h.1 in absurd (omega (arith, past, valid.short))

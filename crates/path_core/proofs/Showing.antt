@@ -147,11 +147,7 @@ same_settled (d ∷ ds) p =
     [ true ↦ λ is rest. rw (same_stands d p, is) refl | false ↦ λ is rest. rw (same_stands d p, is, same_passed d p) rest ]) refl (same_settled ds (passed d p))
 
 pub asks_the_same : (p : PathState Carried) → asks_of octets (shown_path p) ≡ asks_of values p
-asks_the_same p = by p.agenda
-  where
-    by : (ds : List Duty) → asks_first octets ds (shown_path p) ≡ asks_first values ds p
-    by [] = refl
-    by (d ∷ ds) = ap Some (same_asks d p)
+asks_the_same p = elim p.agenda as (λ ds. asks_first octets ds (shown_path p) ≡ asks_first values ds p) [ [] ↦ refl | d ∷ ds ↦ ap Some (same_asks d p) ]
 
 pub begins_the_same : (p : PathState Carried) → next_round (shown_path p) ≡ shown_path (next_round p)
 begins_the_same p = same_settled start_of_turn (with_agenda start_of_turn (record p { clock = p.until; until = p.until + 100 }))

@@ -27,12 +27,8 @@ module _ {C : Type 0} where
       Then.Stays (omega (arith, calm.ticks, most)) (Then.Stays (omega (arith, calm.due, many)) (rest_below m q p less rest))
 
   settles_lower : (m p : PathState C) → Lowers p m → Lowers p (settles_down m)
-  settles_lower m p lowers = by (settled_lower m.agenda m lowers.time)
-    where
-      by : ((weights (settled m.agenda m).agenda < weights m.agenda) × Calm m (settled m.agenda m)) ⊎ (settled m.agenda m ≡ with_agenda m.agenda m)
-          → Lowers p (settled m.agenda m)
-      by (inl less) = record { lower = lower_below m (settled m.agenda m) p less.1 less.0 lowers.lower; time = less.1.time }
-      by (inr same) = subst (Lowers p) (sym same) lowers
+  settles_lower m p lowers = elim (settled_lower m.agenda m lowers.time)
+      [ inl less ↦ record { lower = lower_below m (settled m.agenda m) p less.1 less.0 lowers.lower; time = less.1.time } | inr same ↦ subst (Lowers p) (sym same) lowers ]
 
   -- ---- what stands first comes to something
 
@@ -78,8 +74,5 @@ module _ {C : Type 0} where
       turn_ends k (begins_turn p) (settled_time start_of_turn begun (record { delay = t.delay; timer_a = t.timer_a; timer_b = t.timer_b })) (settled_settled start_of_turn begun)
     where
       settled_time : (ds : List Duty) (q : PathState C) → TakesTime q → TakesTime (settled ds q)
-      settled_time ds q t = by (settled_lower ds q t)
-        where
-          by : ((weights (settled ds q).agenda < weights ds) × Calm q (settled ds q)) ⊎ (settled ds q ≡ with_agenda ds q) → TakesTime (settled ds q)
-          by (inl less) = less.1.time
-          by (inr same) = subst TakesTime (sym same) (record { delay = t.delay; timer_a = t.timer_a; timer_b = t.timer_b })
+      settled_time ds q t = elim (settled_lower ds q t)
+          [ inl less ↦ less.1.time | inr same ↦ subst TakesTime (sym same) (record { delay = t.delay; timer_a = t.timer_a; timer_b = t.timer_b }) ]

@@ -33,11 +33,7 @@ module _ {X : Type 0} where
   pub in_append : (xs ys : List X) (x : X) → In x (xs ++ ys) → In x xs ⊎ In x ys
   in_append [] ys x h = inr h
   in_append (y ∷ xs) ys x (inl e) = inl (inl e)
-  in_append (y ∷ xs) ys x (inr h) = later (in_append xs ys x h)
-    where
-      later : In x xs ⊎ In x ys → In x (y ∷ xs) ⊎ In x ys
-      later (inl g) = inl (inr g)
-      later (inr g) = inr g
+  in_append (y ∷ xs) ys x (inr h) = elim (in_append xs ys x h) [ inl g ↦ inl (inr g) | inr g ↦ inr g ]
 
   pub in_left : (xs ys : List X) (x : X) → In x xs → In x (xs ++ ys)
   in_left [] ys x h = absurd h
@@ -94,11 +90,7 @@ put_in (xs ∷ xss) zero zero x y h = by (in_append xs (x ∷ []) y h)
     by (inr (inr none)) = absurd none
 put_in (xs ∷ xss) zero (suc k) x y h = inl h
 put_in (xs ∷ xss) (suc place) zero x y h = inl h
-put_in (xs ∷ xss) (suc place) (suc k) x y h = by (put_in xss place k x y h)
-  where
-    by : In y (list_at xss k) ⊎ ((x ≡ y) × (place ≡ k)) → In y (list_at xss k) ⊎ ((x ≡ y) × (suc place ≡ suc k))
-    by (inl old) = inl old
-    by (inr new) = inr (new.0, ap suc new.1)
+put_in (xs ∷ xss) (suc place) (suc k) x y h = elim (put_in xss place k x y h) [ inl old ↦ inl old | inr new ↦ inr (new.0, ap suc new.1) ]
 
 put_stays : (xss : List (List Note)) (place k : ℕ) (x y : Note) → In y (list_at xss k) → In y (list_at (put_at xss place x) k)
 put_stays [] place k x y h = h
@@ -155,17 +147,12 @@ noted_with books (note ∷ notes) = noted_with (with_note note.ask note books) n
 all_in : (books : BookNotes) (notes : List Note) (k : ℕ) (y : Note) → In y (list_at (by_book (all_with books notes)) k)
     → In y (list_at (by_book books) k) ⊎ (In y notes × (place_of y.ask ≡ k))
 all_in books [] k y h = inl h
-all_in books (note ∷ notes) k y h = by (all_in (with_note note.ask note books) notes k y h)
+all_in books (note ∷ notes) k y h = elim (all_in (with_note note.ask note books) notes k y h)
+    [ inl here ↦ first (put_in (by_book books) (place_of note.ask) k note y (subst (λ xss. In y (list_at xss k)) (put_by_book note.ask note books) here)) | inr later ↦ inr (inr later.0, later.1) ]
   where
     first : In y (list_at (by_book books) k) ⊎ ((note ≡ y) × (place_of note.ask ≡ k)) → In y (list_at (by_book books) k) ⊎ (In y (note ∷ notes) × (place_of y.ask ≡ k))
     first (inl old) = inl old
     first (inr new) = inr (inl new.0, sym (ap (λ (n : Note). place_of n.ask) new.0) ∙ new.1)
-
-    by : In y (list_at (by_book (with_note note.ask note books)) k) ⊎ (In y notes × (place_of y.ask ≡ k))
-        → In y (list_at (by_book books) k) ⊎ (In y (note ∷ notes) × (place_of y.ask ≡ k))
-    by (inl here) =
-        first (put_in (by_book books) (place_of note.ask) k note y (subst (λ xss. In y (list_at xss k)) (put_by_book note.ask note books) here))
-    by (inr later) = inr (inr later.0, later.1)
 
 all_stays : (books : BookNotes) (notes : List Note) (k : ℕ) (y : Note) → In y (list_at (by_book books) k) → In y (list_at (by_book (all_with books notes)) k)
 all_stays books [] k y h = h
@@ -211,11 +198,8 @@ pub pass_in : (desk : SixLocked) (pass : Option Passed) (notes : List Note) → 
     → (k : ℕ) (y : Note) → InPass k y pass → In y notes × (place_of y.ask ≡ k)
 pass_in desk None notes e k y h = absurd h
 pass_in desk (Some pass) notes e k y h =
-    by (all_in (notes_by (nothing_known desk)) notes k y (subst (λ b. In y (list_at (by_book b) k)) (pass_is desk pass notes e) h))
-  where
-    by : In y (list_at (by_book (notes_by (nothing_known desk))) k) ⊎ (In y notes × (place_of y.ask ≡ k)) → In y notes × (place_of y.ask ≡ k)
-    by (inl none) = absurd (none_yet desk k y none)
-    by (inr some) = some
+    elim (all_in (notes_by (nothing_known desk)) notes k y (subst (λ b. In y (list_at (by_book b) k)) (pass_is desk pass notes e) h))
+    [ inl none ↦ absurd (none_yet desk k y none) | inr some ↦ some ]
 
 none_noted : (books : BookNotes) (notes : List Note) → None ≡ noted_all (Some books) notes → ⊥
 none_noted books notes e = let clash : None ≡ Some (all_with books notes) = e ∙ noted_with books notes in cc
@@ -269,16 +253,12 @@ module _ {A : Type 0} where
   pub joined_in : (books : SixKnown) (riders : List (Rider A)) (k : ℕ) (y : Note) → In y (list_at (by_book (notes_by (all_joined books riders))) k)
       → In y (list_at (by_book (notes_by books)) k) ⊎ SomePass riders k y
   joined_in books [] k y h = inl h
-  joined_in books (rider ∷ riders) k y h = by (joined_in (known_with books rider.pass) riders k y h)
+  joined_in books (rider ∷ riders) k y h = elim (joined_in (known_with books rider.pass) riders k y h)
+      [ inl here ↦ first (with_in books rider.pass k y here) | inr later ↦ inr (suc later.0, omega (arith, later.1), λ d. later.2 d) ]
     where
       first : In y (list_at (by_book (notes_by books)) k) ⊎ InPass k y rider.pass → In y (list_at (by_book (notes_by books)) k) ⊎ SomePass (rider ∷ riders) k y
       first (inl old) = inl old
       first (inr new) = inr (0, omega arith, λ d. new)
-
-      by : In y (list_at (by_book (notes_by (known_with books rider.pass))) k) ⊎ SomePass riders k y
-          → In y (list_at (by_book (notes_by books)) k) ⊎ SomePass (rider ∷ riders) k y
-      by (inl here) = first (with_in books rider.pass k y here)
-      by (inr later) = inr (suc later.0, omega (arith, later.1), λ d. later.2 d)
 
   joined_stays : (books : SixKnown) (riders : List (Rider A)) (k : ℕ) (y : Note) → In y (list_at (by_book (notes_by books)) k)
       → In y (list_at (by_book (notes_by (all_joined books riders))) k)

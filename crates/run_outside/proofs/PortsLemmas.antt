@@ -7,7 +7,7 @@ use Rattle.outside_kit.specs.declared.port.Port.{Port}
 use Rattle.outside_kit.specs.Outside.{HasRisen, HoldsAfter, HoldsPrefix}
 use Rattle.std.proofs.lemmas.Bool.{cases_lt}
 use Rattle.run_outside.specs.declared.status.Status.{Status}
-use Rattle.run_outside.specs.declared.status.Status.TheVariants.{Delivered, Rounds, NoPath, Aborted, Usage, Script, Load, Put, TooLong, Memory, Log}
+use Rattle.run_outside.specs.declared.status.Status.TheVariants.{Put, Memory, Log}
 use Rattle.run_outside.specs.Ports.{NeverFall, IsPortsFault, HoldsMore, HoldsWithin, IsBetween}
 
 -- ---- prefixes
@@ -152,11 +152,8 @@ IfErr-three (Err e) f p q s = f e p q s
 -- a count that has risen later has risen
 pub risen_later : (old middle new : ℕ) → old ≤ middle → HasRisen middle new → HasRisen old new
 risen_later old middle new few (inl less) = inl (omega (arith, few, less))
-risen_later old middle new few (inr most) = by (cases_lt old new)
-  where
-    by : (old < new) ⊎ (new ≤ old) → HasRisen old new
-    by (inl less) = inl less
-    by (inr least) = let a = most.0 in let b = most.1 in inr (omega (arith, few, least, a, b), b)
+risen_later old middle new few (inr most) = elim (cases_lt old new)
+    [ inl less ↦ inl less | inr least ↦ let a = most.0 in let b = most.1 in inr (omega (arith, few, least, a, b), b) ]
 
 pub fault_after : (old middle new : Port → ℕ) (status : Status) → NeverFall old middle → IsPortsFault middle new status → IsPortsFault old new status
 fault_after old middle new (Put p) few fault = risen_later (old p) (middle p) (new p) (few p) fault

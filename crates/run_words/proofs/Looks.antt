@@ -79,12 +79,8 @@ by_look P a b d e (x ∷ []) = e (x ∷ []) refl
 by_look P a b d e (x ∷ y ∷ rest) = (elim (x == 45) as (λ t. (x == 45) ≡ t → P (x ∷ y ∷ rest))
     [ true ↦ λ h. subst (λ z. P (z ∷ y ∷ rest)) (sym (eqb-true x 45 h)) (second (y == 45) refl) | false ↦ λ h. e (x ∷ y ∷ rest) h ]) refl
   where
-    behind : (n : Word) → P (45 ∷ 45 ∷ n)
-    behind [] = a
-    behind (m ∷ ms) = b m ms
-
     second : (t : Bool) → (y == 45) ≡ t → P (45 ∷ y ∷ rest)
-    second true h = subst (λ z. P (45 ∷ z ∷ rest)) (sym (eqb-true y 45 h)) (behind rest)
+    second true h = subst (λ z. P (45 ∷ z ∷ rest)) (sym (eqb-true y 45 h)) (elim rest as (λ n. P (45 ∷ 45 ∷ n)) [ [] ↦ a | m ∷ ms ↦ b m ms ])
     second false h = d y rest h
 
 -- a text that begins with `-` has a character behind it

@@ -121,15 +121,10 @@ module _ (f : Flags) (d : Direction) (place byte : ℕ) (is : Written d.send pla
 
 -- a read: the reader has what it had, and the bytes that were read
 read_out : (b : Arriving) (r : Reader) (max : ℕ) → (takes_read (reading None max b) r).out ≡ r.out ++ take max (filled b.places)
-read_out b r max = by_bytes (take max (filled b.places))
-  where
-    by_end : (c : Bool) → (takes_read (if c then End else NoneYet) r).out ≡ r.out ++ []
-    by_end true = sym (append-nil r.out)
-    by_end false = sym (append-nil r.out)
-
-    by_bytes : (bytes : List ℕ) → (takes_read (bytes_reply bytes b) r).out ≡ r.out ++ bytes
-    by_bytes [] = by_end (is_end b.known_end b.read)
-    by_bytes (x ∷ bytes) = refl
+read_out b r max = elim (take max (filled b.places)) as (λ bytes. (takes_read (bytes_reply bytes b) r).out ≡ r.out ++ bytes) [
+  | [] ↦ elim (is_end b.known_end b.read) as (λ c. (takes_read (if c then End else NoneYet) r).out ≡ r.out ++ []) [ true ↦ sym (append-nil r.out) | false ↦ sym (append-nil r.out) ]
+  | x ∷ bytes ↦ refl
+]
 
 -- a byte that is filled, by its place
 filled_byte : (places : List (Option ℕ)) (i byte : ℕ) → i < length (filled places) → slice_get places i ≡ Some (Some byte) → slice_get (filled places) i ≡ Some byte

@@ -555,11 +555,8 @@ module _ {C : Type 0} where
     answered_acks _ r p h = agenda_acks (left p) p h
 
     pub takes_acks : (r : Reply) (p : PathState C) → BothAck p → BothAck (takes k r p)
-    takes_acks r p h = by p.agenda
-      where
-        by : (ds : List Duty) → BothAck (settled (answers k ds r p).agenda (answers k ds r p))
-        by [] = settled_acks p.agenda p h
-        by (d ∷ ds) = settled_acks (answered k d r p).agenda (answered k d r p) (answered_acks d r p h)
+    takes_acks r p h = elim p.agenda as (λ ds. BothAck (settled (answers k ds r p).agenda (answers k ds r p)))
+        [ [] ↦ settled_acks p.agenda p h | d ∷ ds ↦ settled_acks (answered k d r p).agenda (answered k d r p) (answered_acks d r p h) ]
 
   pub begins_acks : (p : PathState C) → BothAck p → BothAck (begins_turn p)
   begins_acks p h = settled_acks start_of_turn (with_agenda start_of_turn p) (agenda_acks start_of_turn p h)

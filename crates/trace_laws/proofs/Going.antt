@@ -293,11 +293,8 @@ new_pending start ask c w fit later ready asks s path place is = by c.member lat
 
     by : (m : Actor (List ℕ)) → MemberFacts start (member_takes octets (answer_to w.books ask) m) → IsReady m → member_asks octets m ≡ Some ask
         → Pending start s place (member_takes octets (answer_to w.books ask) m)
-    by (App a) later ready there = app a.agenda there
-      where
-        app : (todo : List AppDuty) → app_asks_first todo a ≡ Some ask → Pending start s place (member_takes octets (answer_to w.books ask) (App a))
-        app [] there = cc
-        app (d ∷ ds) there = absurd (none d ds a there)
+    by (App a) later ready there = (elim a.agenda as (λ todo. app_asks_first todo a ≡ Some ask → Pending start s place (member_takes octets (answer_to w.books ask) (App a)))
+        [ [] ↦ λ there. cc | d ∷ ds ↦ λ there. absurd (none d ds a there) ]) there
     by (Path p) later ready there =
         let reply = ap (answer_to w.books) bytes.is ∙ answer_is s bytes.most bytes.standby in
         subst (λ (r : Reply). Pending start s place (Path (takes octets r p))) (sym reply)
@@ -351,14 +348,13 @@ step_stands start i ask c w trace fit later there asks h = record {
 -- an actor whose turn ended has nothing pending
 over_none : (start : Start) (s : Side) (place : ℕ) (m : Actor (List ℕ)) → is_over m ≡ true → Pending start s place m → ⊥
 over_none start s place (App a) over pending = pending
-over_none start s place (Path p) over pending = by p.agenda refl over
+over_none start s place (Path p) over pending = (elim p.agenda as (λ todo. p.agenda ≡ todo → is_nil todo ≡ true → ⊥) [
+  | [] ↦ λ agenda over. nothing (sym (ap (λ (todo : List Duty). option_map (sent_as p) (option_map (departing_as p) (first_sends todo p))) agenda) ∙ pending.1)
+  | d ∷ ds ↦ λ agenda over. false≢true over
+]) refl over
   where
     nothing : None ≡ Some pending.0 → ⊥
     nothing is = cc
-
-    by : (todo : List Duty) → p.agenda ≡ todo → is_nil todo ≡ true → ⊥
-    by [] agenda over = nothing (sym (ap (λ (todo : List Duty). option_map (sent_as p) (option_map (departing_as p) (first_sends todo p))) agenda) ∙ pending.1)
-    by (d ∷ ds) agenda over = false≢true over
 
 over_at : (crew : List (ActorCrew (List ℕ))) (i : ℕ) (c : ActorCrew (List ℕ)) → all_over crew ≡ true → slice_get crew i ≡ Some c → is_over c.member ≡ true
 over_at [] i c over there = cc
@@ -473,11 +469,10 @@ ItemWith {X} f xs = (i : ℕ) × ((x : X) × ((slice_get xs i ≡ Some x) × (1 
 -- where the sum isn't
 item_of_sum : {X : Type 0} (f : X → ℕ) (m : ℕ) (xs : List X) → m < fold (λ n x. n + f x) m xs → ItemWith f xs
 item_of_sum f m [] more = absurd (omega (arith, more))
-item_of_sum {X} f m (x ∷ xs) more = by (cases_lt 0 (f x)) (item_of_sum f (m + f x) xs)
-  where
-    by : (0 < f x) ⊎ (f x ≤ 0) → (m + f x < fold (λ (n : ℕ) (y : X). n + f y) (m + f x) xs → ItemWith f xs) → ItemWith f (x ∷ xs)
-    by (inl some) rest = (0, (x, (refl, omega (arith, some))))
-    by (inr none) rest = let found = rest (omega (arith, more, none)) in (suc found.0, (found.1.0, (found.1.1.0, found.1.1.1)))
+item_of_sum {X} f m (x ∷ xs) more = (elim (cases_lt 0 (f x)) as (λ xx. (m + f x < fold (λ (n : ℕ) (y : X). n + f y) (m + f x) xs → ItemWith f xs) → ItemWith f (x ∷ xs)) [
+  | inl some ↦ λ rest. (0, (x, (refl, omega (arith, some))))
+  | inr none ↦ λ rest. let found = rest (omega (arith, more, none)) in (suc found.0, (found.1.0, (found.1.1.0, found.1.1.1)))
+]) (item_of_sum f (m + f x) xs)
 
 -- the turns of a lawful list end a round where all are over
 lawful_over : (turns : List Turn) (w : WorldState (List ℕ)) → AreLawful octets (ended turns) w → all_over (world_run octets turns w).crew ≡ true

@@ -144,13 +144,11 @@ module _ (f : Flags) (d : Direction) (holds : DirectionHolds f d) where
       by false = lanes_same _ f d d refl
   send_adds (SendCall.GoInfinite path) event is = event_is _ f d event (GoInfinite path is.0) is.1 (at (slice_get d.lanes path) refl)
     where
-      choose : (b : Bool) (e : Direction) → Adds (Grants (SendCall.GoInfinite path) d) d e → Adds (Grants (SendCall.GoInfinite path) d) d (if b then e else d)
-      choose true e adds = adds
-      choose false e adds = lanes_same _ f d d refl
-
       at : (o : Option Lane) → slice_get d.lanes path ≡ o → Adds (Grants (SendCall.GoInfinite path) d) d (goes_infinite path is.0 o d)
       at None there = lanes_same _ f d d refl
-      at (Some p) there = choose (may_go path is.0 d.send p) _ (put_same _ f d path p _ _ refl there refl)
+      at (Some p) there =
+          (elim (may_go path is.0 d.send p) as (λ b. (e : Direction) → Adds (Grants (SendCall.GoInfinite path) d) d e → Adds (Grants (SendCall.GoInfinite path) d) d (if b then e else d))
+          [ true ↦ λ e adds. adds | false ↦ λ e adds. lanes_same _ f d d refl ]) _ (put_same _ f d path p _ _ refl there refl)
   send_adds SendCall.Abort event is = event_is _ f d event AbortSend is (lanes_same _ f d _ refl)
 
 -- ---- both directions

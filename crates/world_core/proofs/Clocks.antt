@@ -136,14 +136,13 @@ module _ {C : Type 0} where
 
   -- by a reply
   pub takes_climbs : (k : Codec C) (r : Reply) (p : PathState C) → Climbs p (takes k r p)
-  takes_climbs k r p = by p.agenda refl
+  takes_climbs k r p = (elim p.agenda as (λ ds. p.agenda ≡ ds → Climbs p (takes k r p)) [
+    | [] ↦ λ none. comes_to p.clock (omega arith) (λ before. before) (settled_keeps k r p ∙ ap (λ ds. (answers k ds r p).clock) none)
+    | d ∷ ds ↦ λ some. comes_to (next_tick p) (next_later p) (next_within p) (takes_clock k r p (ap is_nil some))
+  ]) refl
     where
       comes_to : (tick : ℕ) → p.clock ≤ tick → (p.clock ≤ p.until → tick ≤ p.until) → (takes k r p).clock ≡ tick → Climbs p (takes k r p)
       comes_to tick later within is = record { rises = omega (arith, later, is); within = λ before. let most = within before in omega (arith, most, is) }
-
-      by : (ds : List Duty) → p.agenda ≡ ds → Climbs p (takes k r p)
-      by [] none = comes_to p.clock (omega arith) (λ before. before) (settled_keeps k r p ∙ ap (λ ds. (answers k ds r p).clock) none)
-      by (d ∷ ds) some = comes_to (next_tick p) (next_later p) (next_within p) (takes_clock k r p (ap is_nil some))
 
   pub begun_clock : (p : PathState C) → (begins_turn p).clock ≡ p.clock
   begun_clock p = begins_lasts (λ p q. Keeps p q) keeps_last p

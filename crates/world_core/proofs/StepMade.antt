@@ -49,28 +49,12 @@ going_asks (App a) going nothing = app_asks a.agenda a going nothing
 going_asks (Path p) going nothing = path_asks p.agenda p going nothing
 
 pub over_asks_none : (m : Actor (List ℕ)) → is_over m ≡ true → member_asks octets m ≡ None
-over_asks_none (App a) over = by a.agenda over
-  where
-    by : (ds : List AppDuty) → is_nil ds ≡ true → app_asks_first ds a ≡ None
-    by [] over = refl
-    by (d ∷ ds) over = cc
-over_asks_none (Path p) over = by p.agenda over
-  where
-    by : (ds : List Duty) → is_nil ds ≡ true → asks_first octets ds p ≡ None
-    by [] over = refl
-    by (d ∷ ds) over = cc
+over_asks_none (App a) over = (elim a.agenda as (λ ds. is_nil ds ≡ true → app_asks_first ds a ≡ None) [ [] ↦ λ over. refl | d ∷ ds ↦ λ over. cc ]) over
+over_asks_none (Path p) over = (elim p.agenda as (λ ds. is_nil ds ≡ true → asks_first octets ds p ≡ None) [ [] ↦ λ over. refl | d ∷ ds ↦ λ over. cc ]) over
 
 over_asks : (m : Actor (List ℕ)) → is_some (member_asks octets m) ≡ not (is_over m)
-over_asks (App a) = by a.agenda
-  where
-    by : (ds : List AppDuty) → is_some (app_asks_first ds a) ≡ not (is_nil ds)
-    by [] = refl
-    by (d ∷ ds) = refl
-over_asks (Path p) = by p.agenda
-  where
-    by : (ds : List Duty) → is_some (asks_first octets ds p) ≡ not (is_nil ds)
-    by [] = refl
-    by (d ∷ ds) = refl
+over_asks (App a) = elim a.agenda as (λ ds. is_some (app_asks_first ds a) ≡ not (is_nil ds)) [ [] ↦ refl | d ∷ ds ↦ refl ]
+over_asks (Path p) = elim p.agenda as (λ ds. is_some (asks_first octets ds p) ≡ not (is_nil ds)) [ [] ↦ refl | d ∷ ds ↦ refl ]
 
 some_note : (o : Option Ask) (books : StampedBooks) (pass : Pass) → is_some (note_if o books pass) ≡ is_some o
 some_note None books pass = refl

@@ -40,11 +40,7 @@ no_tick tick is = cc
 
 -- what holds of the first numbers and of the next one
 among : {P : ℕ → Type 0} (n : ℕ) → ((other : ℕ) → other < n → P other) → P n → (other : ℕ) → other < suc n → P other
-among {P} n low here other within = by (cases_eq other n)
-  where
-    by : (other ≡ n) ⊎ (other ≡ n → ⊥) → P other
-    by (inl same) = subst P (sym same) here
-    by (inr apart) = low other (omega (arith, within, apart))
+among {P} n low here other within = elim (cases_eq other n) [ inl same ↦ subst P (sym same) here | inr apart ↦ low other (omega (arith, within, apart)) ]
 
 module _ {C : Type 0} where
   -- ---- which step is next
@@ -265,11 +261,10 @@ module _ {C : Type 0} (k : Codec C) where
       by (Some c) there stood stands = so c (member_asks k c.member) there stood stands
 
   all_later : (actor other later : ℕ) (w : WorldState C) (next : IsNext actor w.crew) → tick_at other (world_step k actor w).crew ≡ Some later → next.tick ≤ later
-  all_later actor other later w next stands = by (cases_eq other actor)
-    where
-      by : (other ≡ actor) ⊎ (other ≡ actor → ⊥) → next.tick ≤ later
-      by (inl same) = same_later actor later w next (subst (λ i. tick_at i (world_step k actor w).crew ≡ Some later) same stands)
-      by (inr apart) = next.least other later (sym (ap (option_and_then (λ (x : ActorCrew C). step_tick x.member)) (other_stays k actor other w apart)) ∙ stands)
+  all_later actor other later w next stands = elim (cases_eq other actor) [
+    | inl same ↦ same_later actor later w next (subst (λ i. tick_at i (world_step k actor w).crew ≡ Some later) same stands)
+    | inr apart ↦ next.least other later (sym (ap (option_and_then (λ (x : ActorCrew C). step_tick x.member)) (other_stays k actor other w apart)) ∙ stands)
+  ]
 
   rise_from : (order : List ℕ) (tick : ℕ) (w : WorldState C) → ((other later : ℕ) → tick_at other w.crew ≡ Some later → tick ≤ later) → AreInTime k order w
       → RiseFrom tick (ticks_of k order w)

@@ -517,11 +517,8 @@ module _ {C : Type 0} where
 
   -- a turn that is over told nothing that wasn't asked about
   over_calm : (p : PathState C) → is_nil p.agenda ≡ true → Shielded p → (s : Side) → (end_at s p).treated.asked ≡ true → ⊥
-  over_calm p over h s asked = by p.agenda over (h.asked s asked)
-    where
-      by : (ds : List Duty) → is_nil ds ≡ true → guarded s ds ≡ true → ⊥
-      by [] over guard = false≢true guard
-      by (d ∷ ds) over guard = false≢true over
+  over_calm p over h s asked = (elim p.agenda as (λ ds. is_nil ds ≡ true → guarded s ds ≡ true → ⊥)
+      [ [] ↦ λ over guard. false≢true guard | d ∷ ds ↦ λ over guard. false≢true over ]) over (h.asked s asked)
 
   pub next_shielded : (p : PathState C) → is_nil p.agenda ≡ true → Shielded p → Shielded (next_round p)
   next_shielded p over h =

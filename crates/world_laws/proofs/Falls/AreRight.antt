@@ -70,18 +70,12 @@ module _ (p : PathState Carried) where
 module _ (key_a key_b : ℕ) where
   -- on a path that joins bytes are asked for once B answered
   member_joined : (number : ℕ) (six : SixBooks) (m : Actor Carried) (x : Ask) → member_asks values m ≡ Some x → MemberIs key_a key_b false six m → MemberIsSteady six (suc number) m → asks_some x ≡ true → Joined six B
-  member_joined number six (App a) x is h steady asks = by a.agenda is
-    where
-      by : (ds : List AppDuty) → app_asks_first ds a ≡ Some x → Joined six B
-      by [] is = cc
-      by (d ∷ ds) is = absurd (both_ways (asks_some x) (ap asks_some (sym (same_Some (app_ask d a) x is)) ∙ app_asks_none d a) asks)
-  member_joined number six (Path p) x is h steady asks = by p.agenda is h.settled
-    where
-      by : (ds : List Duty) → asks_first values ds p ≡ Some x → FirstStands ds p → Joined six B
-      by [] is first = cc
-      by (d ∷ ds) is first =
-          let found = asking_finishes p d first (ap asks_some (same_Some (ask_for values d p) x is) ∙ asks) in
-          steady.joined number refl found.0 found.1
+  member_joined number six (App a) x is h steady asks = (elim a.agenda as (λ ds. app_asks_first ds a ≡ Some x → Joined six B)
+      [ [] ↦ λ is. cc | d ∷ ds ↦ λ is. absurd (both_ways (asks_some x) (ap asks_some (sym (same_Some (app_ask d a) x is)) ∙ app_asks_none d a) asks) ]) is
+  member_joined number six (Path p) x is h steady asks = (elim p.agenda as (λ ds. asks_first values ds p ≡ Some x → FirstStands ds p → Joined six B) [
+    | [] ↦ λ is first. cc
+    | d ∷ ds ↦ λ is first. let found = asking_finishes p d first (ap asks_some (same_Some (ask_for values d p) x is) ∙ asks) in steady.joined number refl found.0 found.1
+  ]) is h.settled
 
 -- ---- worlds
 

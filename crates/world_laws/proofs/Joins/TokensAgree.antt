@@ -19,7 +19,7 @@ use Rattle.control_book.specs.Replies as control
 use Rattle.control_book.specs.Steps as controlling
 use Rattle.fallback_state.specs.Table.{stays, breaks}
 use Rattle.world_laws.proofs.Weaving.Journals.{books_after}
-use Rattle.world_laws.proofs.Falls.WhereASideStands.{Fallen, event_falls}
+use Rattle.world_laws.proofs.Falls.WhereASideStands.{event_falls}
 use Rattle.world_laws.proofs.Keys.AnswerHeardFirst.{is_sign_duty, signs}
 use Rattle.world_laws.proofs.Keys.LearnedByA.{mode_told, ModeGains, FellGains, CallGains, Gains, PathMet, more_met}
 use Rattle.world_laws.proofs.Keys.RepliesKeep.{takes_met, begun_turn}
@@ -100,15 +100,12 @@ module _ (p : PathState Carried) where
 
   -- so the path has a sign's duty where it tells one
   asked_sign : (T : Type 0) (x : Ask) → asks_of values p ≡ Some x → is_fell x ≡ true → (signs p.agenda ≡ true → T) → T
-  asked_sign T x is fell told = by p.agenda refl is
+  asked_sign T x is fell told = (elim p.agenda as (λ ds. p.agenda ≡ ds → asks_first values ds p ≡ Some x → T)
+      [ [] ↦ λ same is. cc | d ∷ ds ↦ λ same is. at d ds (is_sign_duty d) refl same (ap is_fell (same_Some _ x is) ∙ fell) ]) refl is
     where
       at : (d : Duty) (ds : List Duty) (b : Bool) → is_sign_duty d ≡ b → p.agenda ≡ d ∷ ds → is_fell (ask_for values d p) ≡ true → T
       at d ds true sign same fell = told (ap signs same ∙ ap (λ c. c || signs ds) sign)
       at d ds false sign same fell = absurd (both_ways _ (fell_signs d sign) fell)
-
-      by : (ds : List Duty) → p.agenda ≡ ds → asks_first values ds p ≡ Some x → T
-      by [] same is = cc
-      by (d ∷ ds) same is = at d ds (is_sign_duty d) refl same (ap is_fell (same_Some _ x is) ∙ fell)
 
   -- on path 0
   asked_first : (T : Type 0) (x : Ask) → asks_of values p ≡ Some x → is_fell x ≡ true → PathMet T p → T
@@ -297,11 +294,7 @@ module _ (key_a key_b : ℕ) where
       starts (inr gone) starting = absurd (both_ways _ (gone_stays_out c.fall.mode gone).0 starting)
 
       joined : (e : FallEvent) → IsSign e → (fall_step c.fall path (sole_path c.paths path) e).0.joined ≡ c.fall.joined
-      joined e is = at (event_falls path (sole_path c.paths path) e c.fall)
-        where
-          at : Fallen c.fall (fall_step c.fall path (sole_path c.paths path) e).0 → (fall_step c.fall path (sole_path c.paths path) e).0.joined ≡ c.fall.joined
-          at (inl same) = same.joined
-          at (inr fell) = fell.joined
+      joined e is = elim (event_falls path (sole_path c.paths path) e c.fall) [ inl same ↦ same.joined | inr fell ↦ fell.joined ]
 
   call_keeps : (six : SixBooks) (c : Control) (call : ControlCall) → KeysAsk key_a key_b true six (Ask.Control A call) → (is_fell (Ask.Control A call) ≡ true → Knew c) → Fine c → Keeps c (controlling.after c call)
   call_keeps six c (ControlCall.Look path) is sign fine = let same = notice_keys (control.notice_on c path) path c in same_keeps c _ same.0 same.1

@@ -201,10 +201,6 @@ announces_confirmed T c path holds = by (control.resets c path) (control.carries
     addresses None (Some id) is = tt
     addresses None None is = tt
 
-    none : (withdrawn : Option ℕ) → IfSome (announced_in (control.address_notice None withdrawn)) (λ id. T)
-    none (Some id) = tt
-    none None = tt
-
     by : (resets carries confirmed : Bool) → c.fall.confirmed ≡ confirmed
         → IfSome (announced_in (if resets then Notice.Reset
         else (if carries then Notice.Carrier (peer_or_zero c.keys.peer)
@@ -212,7 +208,7 @@ announces_confirmed T c path holds = by (control.resets c path) (control.carries
     by true carries confirmed is = tt
     by false true confirmed is = tt
     by false false true is = addresses (if is_path (lowest_living c.paths) path then lowest c.addresses.due else None) withdrawn (holds is)
-    by false false false is = none withdrawn
+    by false false false is = elim withdrawn as (λ withdrawn. IfSome (announced_in (control.address_notice None withdrawn)) (λ id. T)) [ Some id ↦ tt | None ↦ tt ]
 
 -- ---- what it answers
 

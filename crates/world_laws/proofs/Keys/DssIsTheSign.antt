@@ -630,11 +630,8 @@ module _ {C : Type 0} where
   LeadsWell p = Leads p.agenda p
 
   pub answers_lead : (k : Codec C) (r : Reply) (p : PathState C) → IsSettled p → LeadsWell p → LeadsWell (answers k p.agenda r p)
-  answers_lead k r p settled_path h = by p.agenda settled_path h
-    where
-      by : (ds : List Duty) → FirstStands ds (with_agenda ds p) → Leads ds (with_agenda ds p) → LeadsWell (answers k ds r (with_agenda ds p))
-      by [] is h = h
-      by (d ∷ ds) is h = answered_leads k d ds r p is h
+  answers_lead k r p settled_path h = (elim p.agenda as (λ ds. FirstStands ds (with_agenda ds p) → Leads ds (with_agenda ds p) → LeadsWell (answers k ds r (with_agenda ds p)))
+      [ [] ↦ λ is h. h | d ∷ ds ↦ λ is h. answered_leads k d ds r p is h ]) settled_path h
 
   pub takes_leads : (k : Codec C) (r : Reply) (p : PathState C) → IsSettled p → LeadsWell p → LeadsWell (takes k r p)
   takes_leads k r p settled_path h = let q : PathState C = answers k p.agenda r p in settled_leads q.agenda q (answers_lead k r p settled_path h)

@@ -40,11 +40,8 @@ cut_leaves (suc n) [] i b below e = cc
 cut_leaves (suc n) (Some x ∷ places) zero b below e = e
 cut_leaves (suc n) (Some x ∷ places) (suc i) b below e = cut_leaves n places i b (omega (arith, below)) e
 cut_leaves (suc n) (None ∷ places) zero b below e = cc
-cut_leaves (suc n) (None ∷ places) (suc i) b below e = behind_gap (cut n places) i b (cut_leaves n places i b (omega (arith, below)) e)
-  where
-    behind_gap : (xs : List (Option ℕ)) (i b : ℕ) → slice_get xs i ≡ Some (Some b) → slice_get (gap_before xs) (suc i) ≡ Some (Some b)
-    behind_gap [] i b e = cc
-    behind_gap (x ∷ xs) i b e = e
+cut_leaves (suc n) (None ∷ places) (suc i) b below e = (elim (cut n places) as (λ xs. (i b : ℕ) → slice_get xs i ≡ Some (Some b) → slice_get (gap_before xs) (suc i) ≡ Some (Some b))
+    [ [] ↦ λ i b e. cc | x ∷ xs ↦ λ i b e. e ]) i b (cut_leaves n places i b (omega (arith, below)) e)
 
 -- the lane forgets what the end does
 taken_there : (n : ℕ) (places : List (Option ℕ)) (i b : ℕ) → slice_get (take n places) i ≡ Some (Some b) → (i < n) × (slice_get places i ≡ Some (Some b))

@@ -475,8 +475,5 @@ module _ (finished : Bool) (nxt heard : ℕ) (granted : List GrantedPiece) (sent
 
   -- where the pieces stand together at the end of the record, the book may go
   pub gone : is_tail granted nxt ≡ true → Gone nxt place granted sent fins
-  gone tail = by granted refl tail
-    where
-      by : (pieces : List GrantedPiece) → granted ≡ pieces → is_tail pieces nxt ≡ true → Gone nxt place granted sent fins
-      by [] none tail = gone_none none
-      by (g ∷ gs) are tail = gone_some g gs are tail
+  gone tail = (elim granted as (λ pieces. granted ≡ pieces → is_tail pieces nxt ≡ true → Gone nxt place granted sent fins)
+      [ [] ↦ λ none tail. gone_none none | g ∷ gs ↦ λ are tail. gone_some g gs are tail ]) refl tail

@@ -60,11 +60,8 @@ module _ (R : ℕ → ℕ → Type 0) where
   skipped_knows v h = record { places = h.places; held = others_tell v.held h.held }
 
   learned_held : (v : Mappings) → Knows R v → Knows R (after_learn_held v)
-  learned_held v h = by v.held h.held
-    where
-      by : (xs : List KeptMapping) → AllTell xs → Knows R (after_skip_held (learned_if (first_of xs) v))
-      by [] tell = skipped_knows v h
-      by (kept ∷ xs) tell = skipped_knows _ (learned_knows kept (learn_of kept v) v (tell.each 0 kept refl) h)
+  learned_held v h = (elim v.held as (λ xs. AllTell xs → Knows R (after_skip_held (learned_if (first_of xs) v)))
+      [ [] ↦ λ tell. skipped_knows v h | kept ∷ xs ↦ λ tell. skipped_knows _ (learned_knows kept (learn_of kept v) v (tell.each 0 kept refl) h) ]) h.held
 
   forgotten_knows : (pos : ℕ) (v : Mappings) → Knows R v → Knows R (after_forget pos v)
   forgotten_knows pos v h = record { places = h.places; held = h.held }

@@ -246,12 +246,9 @@ read_untold : (max : ℕ) (b : Arriving) → tells_refusal (Reply.Reassembly (ar
 read_untold max b = elim b.aborted as (λ aborted. tells_refusal (Reply.Reassembly (arriving.reading aborted max b)) ≡ false)
     [ None ↦ by_bytes (take max (filled b.places)) | Some by_peer ↦ refl ]
   where
-    by_end : (c : Bool) → tells_refusal (Reply.Reassembly (if c then ReassemblyReply.End else ReassemblyReply.NoneYet)) ≡ false
-    by_end true = refl
-    by_end false = refl
-
     by_bytes : (bytes : List ℕ) → tells_refusal (Reply.Reassembly (arriving.bytes_reply bytes b)) ≡ false
-    by_bytes [] = by_end (arriving.is_end b.known_end b.read)
+    by_bytes [] = elim (arriving.is_end b.known_end b.read) as (λ c. tells_refusal (Reply.Reassembly (if c then ReassemblyReply.End else ReassemblyReply.NoneYet)) ≡ false)
+        [ true ↦ refl | false ↦ refl ]
     by_bytes (byte ∷ bytes) = refl
 
 -- what a lane asks is not refused

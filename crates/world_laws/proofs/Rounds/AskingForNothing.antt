@@ -39,11 +39,8 @@ flags_of notes s = last_refused s false notes
 
 module _ {C : Type 0} where
   flags_same : (ds : List Duty) (p : PathState C) (f g : Side → Bool) → ((s : Side) → f s ≡ g s) → ((s : Side) → Pays p ds f s) → (s : Side) → Pays p ds g s
-  flags_same ds p f g same each s = by (each s)
-    where
-      by : Pays p ds f s → Pays p ds g s
-      by (inl owed) = inl owed
-      by (inr paid) = inr (record { paid = λ none may. sym (same s) ∙ paid.paid none may; waits = paid.waits })
+  flags_same ds p f g same each s = elim (each s)
+      [ inl owed ↦ inl owed | inr paid ↦ inr (record { paid = λ none may. sym (same s) ∙ paid.paid none may; waits = paid.waits }) ]
 
   module _ (k : Codec C) (p : PathState C) (notes : List Note) (n : Note) where
     abbrev later : Side → Bool
@@ -143,11 +140,7 @@ module _ {C : Type 0} where
       (λ s same none. refusal_told books p x s (sym asked ∙ same) none) h.followed h.each
 
   pub begun_grants : (p : PathState C) (flags : Side → Bool) → Granting (begins_turn p) flags
-  begun_grants p flags = settled_done start_of_turn (with_agenda start_of_turn p) flags refl at
-    where
-      at : (t : Side) → Pays (with_agenda start_of_turn p) start_of_turn flags t
-      at A = inl refl
-      at B = inl refl
+  begun_grants p flags = settled_done start_of_turn (with_agenda start_of_turn p) flags refl (elim [ A ↦ inl refl | B ↦ inl refl ])
 
   next_grants : (m : Actor C) (notes : List Note) → MemberGrants (member_next m) notes
   next_grants (App a) notes = tt

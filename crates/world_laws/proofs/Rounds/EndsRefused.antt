@@ -279,16 +279,8 @@ module _ {C : Type 0} where
     resets_go B e reason other = on B e (resets B reason) refl (inl refl) (inr other)
 
     stops_done : (s : Side) → IsPaid p.profile (peer s) (end_at (peer s) p) (refused (peer s)) → Granting (with_agenda (stops s) p) refused
-    stops_done A other = agenda_on (stops A) refl each
-      where
-        each : (t : Side) → Pays p (stops A) refused t
-        each A = inl refl
-        each B = inr other
-    stops_done B other = agenda_on (stops B) refl each
-      where
-        each : (t : Side) → Pays p (stops B) refused t
-        each A = inr other
-        each B = inl refl
+    stops_done A other = agenda_on (stops A) refl (elim [ A ↦ inl refl | B ↦ inr other ])
+    stops_done B other = agenda_on (stops B) refl (elim [ A ↦ inr other | B ↦ inl refl ])
 
     break_done : (k : Codec C) (s : Side) (reason : ℕ) (r : Reply) → IsPaid p.profile (peer s) (end_at (peer s) p) (refused (peer s)) → Granting (answered_break k s reason r p) refused
     break_done k s reason r other =
@@ -301,26 +293,10 @@ module _ {C : Type 0} where
     line_done : (action : LineAction) → Granting (after_line action p) refused
     line_done (LineAction.Prio A backup) = on p refused A (with_priority backup p.a) (emission A) refl (inl refl) (inr (paid B))
     line_done (LineAction.Prio B backup) = on p refused B (with_priority backup p.b) (emission B) refl (inl refl) (inr (paid A))
-    line_done (LineAction.Announce A id) = agenda_on p refused (announces A id) refl at
-      where
-        at : (s : Side) → Pays p (announces A id) refused s
-        at A = inl refl
-        at B = inr (paid B)
-    line_done (LineAction.Announce B id) = agenda_on p refused (announces B id) refl at
-      where
-        at : (s : Side) → Pays p (announces B id) refused s
-        at A = inr (paid A)
-        at B = inl refl
-    line_done (LineAction.Withdraw A id) = agenda_on p refused (withdraws A id) refl at
-      where
-        at : (s : Side) → Pays p (withdraws A id) refused s
-        at A = inl refl
-        at B = inr (paid B)
-    line_done (LineAction.Withdraw B id) = agenda_on p refused (withdraws B id) refl at
-      where
-        at : (s : Side) → Pays p (withdraws B id) refused s
-        at A = inr (paid A)
-        at B = inl refl
+    line_done (LineAction.Announce A id) = agenda_on p refused (announces A id) refl (elim [ A ↦ inl refl | B ↦ inr (paid B) ])
+    line_done (LineAction.Announce B id) = agenda_on p refused (announces B id) refl (elim [ A ↦ inr (paid A) | B ↦ inl refl ])
+    line_done (LineAction.Withdraw A id) = agenda_on p refused (withdraws A id) refl (elim [ A ↦ inl refl | B ↦ inr (paid B) ])
+    line_done (LineAction.Withdraw B id) = agenda_on p refused (withdraws B id) refl (elim [ A ↦ inr (paid A) | B ↦ inl refl ])
     line_done LineAction.Die = record { followed = by (states.is_dead p.a.tcp.state) (states.is_dead p.b.tcp.state); each = at }
       where
         by : (a b : Bool) → is_followed ((if a then [] else Duty.Ask (AskDuty.Leave A) ∷ []) ++ ((if b then [] else Duty.Ask (AskDuty.Leave B) ∷ []) ++ rest_of_turn)) ≡ true
@@ -368,16 +344,8 @@ module _ {C : Type 0} where
     judged_done joined s now count h Judged.Forged = owed_came s (ended joined s now h Meaning.Ignored) (resets s 1) (reset_there s)
 
     emission_done : (s : Side) → Granting (with_agenda (emission s) p) refused
-    emission_done A = agenda_on p refused (emission A) refl at
-      where
-        at : (s : Side) → Pays p (emission A) refused s
-        at A = inl refl
-        at B = inr (paid B)
-    emission_done B = agenda_on p refused (emission B) refl at
-      where
-        at : (s : Side) → Pays p (emission B) refused s
-        at A = inr (paid A)
-        at B = inl refl
+    emission_done A = agenda_on p refused (emission A) refl (elim [ A ↦ inl refl | B ↦ inr (paid B) ])
+    emission_done B = agenda_on p refused (emission B) refl (elim [ A ↦ inr (paid A) | B ↦ inl refl ])
 
     copy_done : (s : Side) (o : Option HeardSegment) → Granting (copy_heard s o p) refused
     copy_done s None = emission_done s
@@ -542,10 +510,6 @@ module _ {C : Type 0} where
         paid : IsPaid p.profile (peer s) (end_at (peer s) p) (refused (peer s))
         paid = is_paid (at xs) xs refused (peer s) (not-true (is_owed (peer s) ds) need.1) (each (peer s))
 
-        told : (b : Bool) (e : PathEnd) → Granting (goes_on s e (told_next s b (at xs)) (at xs)) refused
-        told true e = touched s e (Duty.Ask (AskDuty.AckHeard s) ∷ ds) (rw (need.0, need.1, rest) refl) need.0 xs (inr paid)
-        told false e = touched s e ds rest need.0 xs (inr paid)
-
         mapping : (b : Bool) → Granting (if b then answered_break k s 1 r (at xs) else goes_on s (with_learned (after_fell FallEvent.MappingHeard r (end_at s (at xs)))) (fell_duties s r (at xs)) (at xs)) refused
         mapping true = break_done (at xs) refused k s 1 r paid
         mapping false = fell_done s _ (Duty.Step (StepDuty.Heard s index)) ds rest need.0 paid
@@ -557,7 +521,8 @@ module _ {C : Type 0} where
         by : (o : Option Heard) → Granting (answered_item k s o r (at xs)) refused
         by None = done_on ds xs rest (λ t. each t)
         by (Some Heard.Dss) = done_on ds xs rest (λ t. each t)
-        by (Some (Heard.DataAck next window)) = told _ _
+        by (Some (Heard.DataAck next window)) = (elim _ as (λ b. (e : PathEnd) → Granting (goes_on s e (told_next s b (at xs)) (at xs)) refused)
+            [ true ↦ λ e. touched s e (Duty.Ask (AskDuty.AckHeard s) ∷ ds) (rw (need.0, need.1, rest) refl) need.0 xs (inr paid) | false ↦ λ e. touched s e ds rest need.0 xs (inr paid) ]) _
         by (Some (Heard.Mapping fin)) = mapping (is_clash (end_at s p))
         by (Some (Heard.DataFin place)) = fell_done s _ (Duty.Step (StepDuty.Heard s index)) ds rest need.0 paid
         by (Some (Heard.InfiniteMapping place position)) = fell_done s _ (Duty.Step (StepDuty.Heard s index)) ds rest need.0 paid

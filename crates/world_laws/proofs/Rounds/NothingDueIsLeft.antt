@@ -89,20 +89,12 @@ module _ {C : Type 0} where
   same_last (d ∷ ds) p h = (elim d as (λ d. IsLast (d ∷ ds) p → IsLast (d ∷ ds) (with_agenda (d ∷ ds) p)) [ Duty.End ↦ λ h. h | _ ↦ λ h. absurd h ]) h
 
   settled_shaped : (ds : List Duty) (p : PathState C) → Shaped ds p → Shaped (settled ds p).agenda (settled ds p)
-  settled_shaped [] p h = onto h
-    where
-      onto : Shaped [] p → Shaped [] (with_agenda [] p)
-      onto (inl never) = absurd never
-      onto (inr none) = inr none
+  settled_shaped [] p h = elim h [ inl never ↦ absurd never | inr none ↦ inr none ]
   settled_shaped (d ∷ ds) p h = by (stands d p) refl (λ no_more. settled_shaped ds (passed d p) (next_shaped d ds p h no_more))
     where
       by : (b : Bool) → stands d p ≡ b → (stands d p ≡ false → Shaped (settled ds (passed d p)).agenda (settled ds (passed d p)))
           → Shaped (if b then with_agenda (d ∷ ds) p else settled ds (passed d p)).agenda (if b then with_agenda (d ∷ ds) p else settled ds (passed d p))
-      by true is rest = onto h
-        where
-          onto : Shaped (d ∷ ds) p → Shaped (d ∷ ds) (with_agenda (d ∷ ds) p)
-          onto (inl ahead) = inl ahead
-          onto (inr last) = inr (same_last (d ∷ ds) p last)
+      by true is rest = elim h [ inl ahead ↦ inl ahead | inr last ↦ inr (same_last (d ∷ ds) p last) ]
       by false is rest = rest is
 
   -- ---- replies
@@ -238,21 +230,12 @@ module _ {C : Type 0} where
   answered_shaped k _ ds r p h = from_left ds _ h
 
   pub takes_shaped : (k : Codec C) (r : Reply) (p : PathState C) → Shaped p.agenda p → Shaped (takes k r p).agenda (takes k r p)
-  takes_shaped k r p h = by p.agenda h
-    where
-      by : (ds : List Duty) → Shaped ds (with_agenda ds p) → Shaped (takes k r (with_agenda ds p)).agenda (takes k r (with_agenda ds p))
-      by [] h = settled_shaped [] (with_agenda [] p) h
-      by (d ∷ ds) h =
-          let q : PathState C = answered k d r (with_agenda (d ∷ ds) p) in
-          settled_shaped q.agenda q (answered_shaped k d ds r p h)
+  takes_shaped k r p h = (elim p.agenda as (λ ds. Shaped ds (with_agenda ds p) → Shaped (takes k r (with_agenda ds p)).agenda (takes k r (with_agenda ds p)))
+      [ [] ↦ λ h. settled_shaped [] (with_agenda [] p) h | d ∷ ds ↦ λ h. let q : PathState C = answered k d r (with_agenda (d ∷ ds) p) in settled_shaped q.agenda q (answered_shaped k d ds r p h) ]) h
 
   pub begun_shaped : (p : PathState C) → Shaped (settled start_of_turn (with_agenda start_of_turn p)).agenda (settled start_of_turn (with_agenda start_of_turn p))
   begun_shaped p = settled_shaped start_of_turn (with_agenda start_of_turn p) (inl refl)
 
   -- where the turn is over nothing is due
   pub nothing_due : (p : PathState C) → Shaped p.agenda p → p.agenda ≡ [] → next_event p ≡ None
-  nothing_due p h over = by (subst (λ ds. Shaped ds p) over h)
-    where
-      by : Shaped [] p → next_event p ≡ None
-      by (inl never) = absurd never
-      by (inr none) = none
+  nothing_due p h over = elim (subst (λ ds. Shaped ds p) over h) [ inl never ↦ absurd never | inr none ↦ none ]

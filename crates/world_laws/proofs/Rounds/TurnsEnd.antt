@@ -8,10 +8,8 @@ use Rattle.world_laws.proofs.Words.{ActorCrew, member_asks, member_takes, member
 use Rattle.world_laws.proofs.Words.{all_over, greatest, begins, end_round, after_turn, world_run, answer_to, outcome_of, OneOf, IsTurn, AreTurns, after_turns}
 use Rattle.world_laws.proofs.Words.{after_round, AreRounds}
 use Rattle.stream_apps.proofs.AppEnds.{app_turn_ends}
-use Rattle.path_agenda.specs.Weights.{weights}
 use Rattle.path_core.proofs.Lowering.{answered_lowers}
 use Rattle.path_core.proofs.Passed.{settled_lower}
-use Rattle.path_core.proofs.Ranking.{Calm}
 use Rattle.path_core.proofs.TurnEnds.{turn_ends}
 use Rattle.world_laws.proofs.Worlds.Settled.{settled_settled}
 use Rattle.world_laws.specs.Serial.{goes_on, after_steps}
@@ -51,11 +49,8 @@ no_rounds = []
 
 module _ {C : Type 0} where
   settled_time : (ds : List Duty) (q : PathState C) → TakesTime q → TakesTime (settled ds q)
-  settled_time ds q t = by (settled_lower ds q t)
-    where
-      by : ((weights (settled ds q).agenda < weights ds) × Calm q (settled ds q)) ⊎ (settled ds q ≡ with_agenda ds q) → TakesTime (settled ds q)
-      by (inl less) = less.1.time
-      by (inr same) = subst TakesTime (sym same) (record { delay = t.delay; timer_a = t.timer_a; timer_b = t.timer_b })
+  settled_time ds q t = elim (settled_lower ds q t)
+      [ inl less ↦ less.1.time | inr same ↦ subst TakesTime (sym same) (record { delay = t.delay; timer_a = t.timer_a; timer_b = t.timer_b }) ]
 
   takes_steady : (k : Codec C) (p : PathState C) (r : Reply) (x : Ask) (ds : List Duty) → p.agenda ≡ ds → asks_first k ds p ≡ Some x → IsOfKind x r
       → IsSteadyPath p → IsSteadyPath (takes k r p)

@@ -63,11 +63,10 @@ module _ {C : Type 0} (k : Codec C) (six : SixBooks) (p : PathState C) where
   duty_free d s = other_free d tt s
 
   ask_free : (x : Ask) → asks_of k p ≡ Some x → (s : Side) → IsFree s x
-  ask_free x is s = by p.agenda refl
-    where
-      by : (ds : List Duty) → p.agenda ≡ ds → IsFree s x
-      by [] same = let never : None ≡ Some x = sym (ap (λ xs. asks_first k xs p) same) ∙ is in cc
-      by (d ∷ ds) same = subst (IsFree s) (same_Some (ask_for k d p) x (sym (ap (λ xs. asks_first k xs p) same) ∙ is)) (duty_free d s)
+  ask_free x is s = (elim p.agenda as (λ ds. p.agenda ≡ ds → IsFree s x) [
+    | [] ↦ λ same. let never : None ≡ Some x = sym (ap (λ xs. asks_first k xs p) same) ∙ is in cc
+    | d ∷ ds ↦ λ same. subst (IsFree s) (same_Some (ask_for k d p) x (sym (ap (λ xs. asks_first k xs p) same) ∙ is)) (duty_free d s)
+  ]) refl
 
 -- ---- an application neither looks nor asks for a grant
 

@@ -460,11 +460,8 @@ settle_holds q leads (Next d ds p now calm does passes) = subst (λ xs. Holds (s
     by false is = passes is
 
 pub asks_calmly : (p : PathState Carried) → IsSettled p → Holds p → (x : Ask) → asks_of values p ≡ Some x → IsCalm x
-asks_calmly p stood (Now q h) x is = by p.agenda stood h is
-  where
-    by : (ds : List Duty) → FirstStands ds (with_agenda ds p) → PathIs ds (with_agenda ds p) → asks_first values ds (with_agenda ds p) ≡ Some x → IsCalm x
-    by [] stood h is = cc
-    by (d ∷ ds) stood h is = subst IsCalm (same_Some _ x is) (first_calm d ds p stood h)
+asks_calmly p stood (Now q h) x is = (elim p.agenda as (λ ds. FirstStands ds (with_agenda ds p) → PathIs ds (with_agenda ds p) → asks_first values ds (with_agenda ds p) ≡ Some x → IsCalm x)
+    [ [] ↦ λ stood h is. cc | d ∷ ds ↦ λ stood h is. subst IsCalm (same_Some _ x is) (first_calm d ds p stood h) ]) stood h is
 asks_calmly p stood (Next d ds q now calm does passes) x is =
     subst IsCalm (same_Some _ x (subst (λ xs. asks_first values xs p ≡ Some x) now is)) (calm (subst (λ xs. FirstStands xs p) now stood))
 
@@ -473,11 +470,8 @@ takes_holds r p stood leads plain holds =
     settle_holds (answers values p.agenda r p) (answers_lead values r p stood leads) (by holds)
   where
     by : Holds p → Holds (answers values p.agenda r p)
-    by (Now q h) = at p.agenda stood leads h
-      where
-        at : (ds : List Duty) → FirstStands ds (with_agenda ds p) → Leads ds (with_agenda ds p) → PathIs ds (with_agenda ds p) → Holds (answers values ds r (with_agenda ds p))
-        at [] stood leads h = Now _ h
-        at (d ∷ ds) stood leads h = answered_holds d ds r p (record { a = plain.a; b = plain.b; waits = plain.waits }) stood leads h
+    by (Now q h) = (elim p.agenda as (λ ds. FirstStands ds (with_agenda ds p) → Leads ds (with_agenda ds p) → PathIs ds (with_agenda ds p) → Holds (answers values ds r (with_agenda ds p)))
+        [ [] ↦ λ stood leads h. Now _ h | d ∷ ds ↦ λ stood leads h. answered_holds d ds r p (record { a = plain.a; b = plain.b; waits = plain.waits }) stood leads h ]) stood leads h
     by (Next d ds q now calm does passes) = subst (λ xs. Holds (answers values xs r p)) (sym now) (does (subst (λ xs. FirstStands xs p) now stood) r)
 
 -- whatever is left to do

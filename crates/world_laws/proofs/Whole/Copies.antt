@@ -83,11 +83,7 @@ module _ (c : Profile) (s : Side) (e : PathEnd) (vs vt : SendState) (first : is_
   Says sg = HeardIs s vs vt (meant sg)
 
   unclear_low : e.modes.clear ≡ false → NoneBelow e.tcp.recv.edge vs
-  unclear_low unclear = by low
-    where
-      by : (e.modes.clear ≡ true) ⊎ NoneBelow e.tcp.recv.edge vs → NoneBelow e.tcp.recv.edge vs
-      by (inl clear) = absurd (both_ways e.modes.clear unclear clear)
-      by (inr below) = below
+  unclear_low unclear = elim low [ inl clear ↦ absurd (both_ways e.modes.clear unclear clear) | inr below ↦ below ]
 
   -- options of a segment that acknowledges the edge
   record Tells (os : List PlainOption) : Type 0 where

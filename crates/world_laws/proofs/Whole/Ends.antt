@@ -274,18 +274,10 @@ items_finite s window (o ∷ os) none =
 
 -- a SYN of B's that shows a key has an option
 key_has_option : (h : HeardSegment) → SynIs B h → is_nil h.options ≡ false
-key_has_option h is = by h.options is
-  where
-    by : (os : List HeardOption) → SynIs B (record h { options = os }) → is_nil os ≡ false
-    by [] is = absurd (false≢true is)
-    by (o ∷ os) is = refl
+key_has_option h is = (elim h.options as (λ os. SynIs B (record h { options = os }) → is_nil os ≡ false) [ [] ↦ λ is. absurd (false≢true is) | o ∷ os ↦ λ is. refl ]) is
 
 asks_has_option : (h : HeardSegment) → SynIs A h → is_nil h.options ≡ false
-asks_has_option h is = by h.options is
-  where
-    by : (os : List HeardOption) → SynIs A (record h { options = os }) → is_nil os ≡ false
-    by [] is = absurd (false≢true is)
-    by (o ∷ os) is = refl
+asks_has_option h is = (elim h.options as (λ os. SynIs A (record h { options = os }) → is_nil os ≡ false) [ [] ↦ λ is. absurd (false≢true is) | o ∷ os ↦ λ is. refl ]) is
 
 -- the copy `h` comes to this end, whose side `s` is, from the other one, which sent `vs`
 module _ (s : Side) (vs : SendState) (h : HeardSegment) (e : PathEnd) (told : List KeptMapping) (answer : Outgoing) (now : ℕ) (resets : answer.rst ≡ true)
@@ -444,7 +436,8 @@ module _ (s : Side) (vs : SendState) (h : HeardSegment) (e : PathEnd) (told : Li
       any_some : (o : Option ℕ) → IfSome o (λ k. Unit {0})
       any_some None = tt
       any_some (Some k) = tt
-  edge_optional A same pos edge syn rst = by (subst (λ t. OptionIs (peer t) h) same (said.option rst syn))
+  edge_optional A same pos edge syn rst = elim (subst (λ t. OptionIs (peer t) h) same (said.option rst syn))
+      [ inl nil ↦ at (nat_le pos edge && nat_lt edge (pos + length h.payload)) refl nil | inr some ↦ optional (nat_le pos edge && nat_lt edge (pos + length h.payload)) some ]
     where
       at : (b : Bool) → (nat_le pos edge && nat_lt edge (pos + length h.payload)) ≡ b → is_nil h.payload ≡ true → IfSome (if b then Some edge else None) (λ k. not (is_nil h.options) ≡ true)
       at false is nil = tt
@@ -459,10 +452,6 @@ module _ (s : Side) (vs : SendState) (h : HeardSegment) (e : PathEnd) (told : Li
       optional : (b : Bool) → is_nil h.options ≡ false → IfSome (if b then Some edge else None) (λ k. not (is_nil h.options) ≡ true)
       optional true some = ap not some
       optional false some = tt
-
-      by : OptionIs B h → IfSome (edge_held (Meaning.Taken pos 0) h.payload edge) (λ k. not (is_nil h.options) ≡ true)
-      by (inl nil) = at (nat_le pos edge && nat_lt edge (pos + length h.payload)) refl nil
-      by (inr some) = optional (nat_le pos edge && nat_lt edge (pos + length h.payload)) some
 
   treated_so : (t : Treated) (held : Option ℕ) → t.items ≡ items_of false s h → t.answer ≡ Some answer → t.plain_ack ≡ false → (t.opened ≡ true → t.has_option ≡ true)
       → IfSome held (λ edge. t.has_option ≡ true) → TreatedIs t held

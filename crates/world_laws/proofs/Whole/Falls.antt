@@ -264,11 +264,8 @@ path_plain books p never known first = record {
 -- ---- a step
 
 member_may : (books : StampedBooks) (m : Actor Carried) (x : Ask) → member_asks values m ≡ Some x → MemberKnown books m → MemberStands m → MayAsk (books_in books) x
-member_may books (App a) x is known h = by a.agenda is
-  where
-    by : (ds : List AppDuty) → app_asks_first ds a ≡ Some x → MayAsk (books_in books) x
-    by [] is = cc
-    by (d ∷ ds) is = subst (MayAsk (books_in books)) (same_Some _ x is) (app_may (books_in books) d a)
+member_may books (App a) x is known h = (elim a.agenda as (λ ds. app_asks_first ds a ≡ Some x → MayAsk (books_in books) x)
+    [ [] ↦ λ is. cc | d ∷ ds ↦ λ is. subst (MayAsk (books_in books)) (same_Some _ x is) (app_may (books_in books) d a) ]) is
 member_may books (Path p) x is known h = (elim (is_joined p.profile) as (λ b. is_joined p.profile ≡ b → MayAsk (books_in books) x)
     [ true ↦ λ joins. joined p.agenda refl is joins | false ↦ λ first. calm_may (books_in books) x (asks_calmly p known.passes.settled (h first).1 x is) ]) refl
   where
