@@ -6,13 +6,7 @@ use Rattle.connection_table.proofs.Words.{IsLoadFault, IsScriptFault, AddsCut, A
 -- this load failed, behind those of a plan before it
 module _ (made behind : List Call) (failing : Call) (a b c : Told) (before : AddsAll made a b) (one : Adds (failed failing ∷ []) b c) where
   to_failed : AddsToFailed [] (made ++ failing ∷ behind) a c
-  to_failed = record {
-    made = made;
-    failing = failing;
-    behind = behind;
-    plan_is = refl;
-    adds = adds_then (map succeeded made) (failed failing ∷ []) a b c before one;
-  }
+  to_failed = record { made = made; failing = failing; behind = behind; plan_is = refl; adds = adds_then (map succeeded made) (failed failing ∷ []) a b c before one }
 
   pub load_adds : (line : ℕ) (content : Option (List ℕ)) (old new : ℕ) (many : Many) → IsLoadFault line content old new many → InputAdds (made ++ failing ∷ behind) a c many
   load_adds line content old new (Load named) fault = to_failed

@@ -57,11 +57,7 @@ module _ (c d : Contents) (same : (name : List ℕ) → c name ≡ d name) where
   long_of_same names long = record { name = long.name; among = long.among; long = if_told long.name _ long.long }
 
   within_of_same : (names : Names) → AreWithin c names → AreWithin d names
-  within_of_same names are = record {
-    script = if_told names.script _ are.script;
-    file_a = if_told names.file_a _ are.file_a;
-    file_b = if_told names.file_b _ are.file_b;
-  }
+  within_of_same names are = record { script = if_told names.script _ are.script; file_a = if_told names.file_a _ are.file_a; file_b = if_told names.file_b _ are.file_b }
 
   module _ (old middle new : ℕ) (few : old ≤ middle) where
     fault_of_same : (entry : ℕ) (names : Names) (many : Many) → IsInputFault entry c names middle new many → IsInputFault entry d names old new many

@@ -160,12 +160,7 @@ module _ (content : Contents) (words : NamedList) where
     where
       by : (many : Many) → IsListFault list many → LinesAdd LinesTold a b many
       by (Listing line) fault = one
-      by Memory fault = inl (record {
-        made = call.Load words.list ∷ [];
-        behind = joined (map loads_of (names_told (content words.list)));
-        plan_is = refl;
-        adds = one;
-      })
+      by Memory fault = inl (record { made = call.Load words.list ∷ []; behind = joined (map loads_of (names_told (content words.list))); plan_is = refl; adds = one })
       by Done fault = tt
       by Usage fault = tt
       by Put fault = tt

@@ -18,12 +18,7 @@ module _ (k : Setting) (s : Lane) (t : ℕ) (p : Stage) where
     flags = h.flags;
     timer = h.timer;
     shut = λ is. ((let old = h.shut is in omega (arith, old.0, may.more)), (h.shut is).1);
-    turns = record {
-      wrote = λ over. absurd (both_ways _ may.turn over);
-      closed = λ over. absurd (both_ways _ may.turn over);
-      read = h.turns.read;
-      told = h.turns.told;
-    };
+    turns = record { wrote = λ over. absurd (both_ways _ may.turn over); closed = λ over. absurd (both_ways _ may.turn over); read = h.turns.read; told = h.turns.told };
     repeats = h.repeats;
     asked = h.asked;
     answered = h.answered;

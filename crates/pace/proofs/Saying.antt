@@ -42,10 +42,7 @@ module _ (k : Setting) (s : Lane) (t : ℕ) (p : Stage) where
       acks_are = each_more (λ c. Covers (may_tell k w) c.telling) x w.acks may.so h.under_way.acks_are;
     };
     told_soon = inr (record { copy = x; among = in_last x w.acks; has = (le_refl _, le_refl _, le_refl _, le_refl _) });
-    none_lost = record {
-      datas = h.none_lost.datas;
-      acks = stays_more (λ c. Covers (all_heard w) c.telling) s.acks w.acks (x ∷ []) h.none_lost.acks;
-    };
+    none_lost = record { datas = h.none_lost.datas; acks = stays_more (λ c. Covers (all_heard w) c.telling) s.acks w.acks (x ∷ []) h.none_lost.acks };
     flags = h.flags;
     timer = h.timer;
     shut = h.shut;

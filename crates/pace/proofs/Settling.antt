@@ -27,15 +27,8 @@ module _ (k : Setting) (s : Lane) (t : ℕ) (p : Stage) where
           may.tell h.repeats.few;
     };
     asked = record { next = λ e. h.asked.next (may.ask e); limit = λ e. h.asked.limit (may.window e) };
-    answered = record {
-      all = λ e. h.answered.all (subst (λ (b : Bool). b ≡ false) (sym may.tell) e);
-      window = λ e. h.answered.window (may.update e);
-    };
-    emitted = record {
-      bytes = λ e. h.emitted.bytes (may.emit e);
-      known = λ e. h.emitted.known (may.emit e);
-      data_fin = λ e. h.emitted.data_fin (may.finish e);
-    };
+    answered = record { all = λ e. h.answered.all (subst (λ (b : Bool). b ≡ false) (sym may.tell) e); window = λ e. h.answered.window (may.update e) };
+    emitted = record { bytes = λ e. h.emitted.bytes (may.emit e); known = λ e. h.emitted.known (may.emit e); data_fin = λ e. h.emitted.data_fin (may.finish e) };
     none_due = λ e. h.none_due (may.wait e);
   }
 
@@ -228,11 +221,7 @@ module _ (k : Setting) (s : Lane) (t : ℕ) (p : Stage) where
     repeats = h.repeats;
     asked = h.asked;
     answered = h.answered;
-    emitted = record {
-      bytes = λ over. absurd (both_ways _ over emit);
-      known = λ over. absurd (both_ways _ over emit);
-      data_fin = h.emitted.data_fin;
-    };
+    emitted = record { bytes = λ over. absurd (both_ways _ over emit); known = λ over. absurd (both_ways _ over emit); data_fin = h.emitted.data_fin };
     none_due = h.none_due;
   }
 

@@ -125,11 +125,7 @@ module _ {C : Type 0} where
   line_calm : (action : LineAction) (p : PathState C) → TakesTime p → Calm p (after_line action p)
   line_calm LineAction.Die p t =
       let a = dead_rests p.clock p.a in let b = dead_rests p.clock p.b in
-      record {
-        ticks = omega arith;
-        due = omega (arith, a.due, b.due);
-        time = record { delay = t.delay; timer_a = a.timeout t.timer_a; timer_b = b.timeout t.timer_b };
-      }
+      record { ticks = omega arith; due = omega (arith, a.due, b.due); time = record { delay = t.delay; timer_a = a.timeout t.timer_a; timer_b = b.timeout t.timer_b } }
   line_calm (LineAction.Prio s backup) p t =
       goes_calm s (with_priority backup (end_at s p)) (emission s) p t (same_rests p.clock (end_at s p) (with_priority backup (end_at s p)) refl)
   line_calm (LineAction.Announce s id) p t = agenda_calm (announces s id) p t

@@ -353,11 +353,7 @@ module _ {C : Type 0} where
   -- ---- every duty
 
   heavy_by : (d : Duty) (ds : List Duty) (s : Side) (p : PathState C) → p.agenda ≡ d ∷ ds → 11 ≤ weight d → Heavy s p
-  heavy_by d ds s p is least = record {
-    done = rw is (omega arith);
-    falls = rw is (omega (arith, least));
-    breaks = rw is (omega (arith, least));
-  }
+  heavy_by d ds s p is least = record { done = rw is (omega arith); falls = rw is (omega (arith, least)); breaks = rw is (omega (arith, least)) }
 
   pub answered_lowers : (k : Codec C) (d : Duty) (ds : List Duty) (r : Reply) (p : PathState C) → TakesTime p → p.agenda ≡ d ∷ ds → stands d p ≡ true
       → IsOfKind (ask_for k d p) r → Lowers p (answered k d r p)

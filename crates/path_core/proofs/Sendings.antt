@@ -68,10 +68,7 @@ some_fits kept s piece e = by (nat_lt 0 (length (piece_in kept s).octets)) refl 
     by : (b : Bool) → nat_lt 0 (length (piece_in kept s).octets) ≡ b → (if b then Some (piece_in kept s) else None) ≡ Some piece → Fits s piece
     by true is e =
         let same : piece_in kept s ≡ piece = cc in
-        subst (Fits s) same (record {
-          some = omega (arith, ltb-true _ _ is);
-          within = omega (arith, length-take (count_in s.recv.edge kept) (filled s.recv.places));
-        })
+        subst (Fits s) same (record { some = omega (arith, ltb-true _ _ is); within = omega (arith, length-take (count_in s.recv.edge kept) (filled s.recv.places)) })
     by false is e = cc
 
 checked_fits : (b c : Bool) (kept : KeptMapping) (s : EndState) (piece : Piece)
@@ -95,10 +92,7 @@ placed_fits (Some place) s piece e = by (nat_lt 0 (length found.octets)) refl e
     by : (b : Bool) → nat_lt 0 (length found.octets) ≡ b → (if b then Some found else None) ≡ Some piece → Fits s piece
     by true is e =
         let same : found ≡ piece = cc in
-        subst (Fits s) same (record {
-          some = omega (arith, ltb-true _ _ is);
-          within = omega (arith, length-take (2 ^ 62 - place) (filled s.recv.places));
-        })
+        subst (Fits s) same (record { some = omega (arith, ltb-true _ _ is); within = omega (arith, length-take (2 ^ 62 - place) (filled s.recv.places)) })
     by false is e = cc
 
 pub infinite_fits : (mapping : Option InfiniteMapping) (s : EndState) (piece : Piece) → infinite_piece mapping s ≡ Some piece → Fits s piece

@@ -45,12 +45,7 @@ module _ {O C R : Type 0} where
   is_back_more me mid late held more is added =
       let slot = mid_slot me mid more.book held more.entry more.turn more.grew is in
       let that = added more.book more.entry (mid_took me mid more.book (Some held) more.turn is) slot in
-      record {
-        book = grown more.book (more.entry ∷ []);
-        took = ap (λ (m : Mine O C R). m.0.took) that;
-        slot = ap (λ (m : Mine O C R). m.1) that ∙ slot;
-        last = λ e. cc;
-      }
+      record { book = grown more.book (more.entry ∷ []); took = ap (λ (m : Mine O C R). m.0.took) that; slot = ap (λ (m : Mine O C R). m.1) that ∙ slot; last = λ e. cc }
 
   pub done_entry : (me mid late after : Mine O C R) (held : Journaled O C R) → mid ≡ (me.0, (0, Some held) ∷ rest me.1) → IsAdded mid late
       → IsServed false late after → (book : Journaled O C R) (entry : Entry C R) → HasTurn me book → held ≡ grown book (entry ∷ []) → IsDone (entry ∷ []) false me after

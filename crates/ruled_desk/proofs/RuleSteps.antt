@@ -105,11 +105,7 @@ module _ {O C R : Type 0} (start : Journaled O C R) where
   -- a seat sees that it is its turn, and has the book
   takes_over : (s : Table O C R) (kept : IsRuled start s) (seat : ℕ) (v : View (Journaled O C R) (Entry C R)) (n rest_count : ℕ) → get_elem? s.views seat ≡ some v
       → v.tickets ≡ n ∷ [] → v.took ≡ [] → kept.serving ≡ n % 2 ^ 64 → kept.count ≡ suc rest_count → n ≡ kept.first → kept.out ≡ false
-      → IsRuled start record {
-        words = set s.words 1 (slice_index s.words 1);
-        homes = set s.homes 0 none;
-        views = set s.views seat (takes_turn (grown start kept.log) v);
-      }
+      → IsRuled start record { words = set s.words 1 (slice_index s.words 1); homes = set s.homes 0 none; views = set s.views seat (takes_turn (grown start kept.log) v) }
   takes_over s kept seat v n rest_count at ticket free found some_wait first home =
       let w : View (Journaled O C R) (Entry C R) = takes_turn (grown start kept.log) v in
       let here = kept.fits seat v at in

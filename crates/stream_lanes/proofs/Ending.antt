@@ -55,11 +55,7 @@ module _ (v : View) (path : ℕ) (fits : ViewFits v) where
       let same : max (place_after 0 p.sent) (min p.heard e) ≡ e = eqb-true _ e whole in
       let after : place_after 0 p.sent ≡ length p.sent = place_after-identity 0 p.sent (h.alone alone).identity ∙ omega arith in
       ⊎_elim
-      (λ here. let at : e ≡ length p.sent = here in record {
-        last = refl;
-        left = (e, end, omega (arith, at, h.record_of.once));
-        ends = λ _. subst (IsEnd v.end) at end;
-      })
+      (λ here. let at : e ≡ length p.sent = here in record { last = refl; left = (e, end, omega (arith, at, h.record_of.once)); ends = λ _. subst (IsEnd v.end) at end })
       (λ apart. fin_after_all p h opened (⊎_elim
       (λ confirmed. (e, end, omega (arith, same, after, apart_or e (length p.sent) (min p.heard e) (rw after at same) apart, confirmed, h.heard.below)))
       (λ all. all)
@@ -114,10 +110,7 @@ module _ (v : View) (path : ℕ) (fits : ViewFits v) where
   acks_passed p h n true is below =
       let fin = h.passed.fin is in
       let end : p.edge ≡ length p.sent = fin.0 in
-      record {
-        bytes = λ pos c under e. h.passed.bytes.bytes pos c (let inside = slice_get_within p.sent pos c e in omega (arith, end, inside)) e;
-        past = λ more. fin.1;
-      }
+      record { bytes = λ pos c under e. h.passed.bytes.bytes pos c (let inside = slice_get_within p.sent pos c e in omega (arith, end, inside)) e; past = λ more. fin.1 }
   acks_passed p h n false is below =
       record {
         bytes = λ pos c under e. h.passed.bytes.bytes pos c (omega (arith, under, below)) e;

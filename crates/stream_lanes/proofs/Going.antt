@@ -150,14 +150,7 @@ module _ (f : Flags) (s : Sending) (b : Arriving) (send : SendHolds s (view_of f
         passed = now.passed;
         pairs = record {
           own = (
-            record {
-              within = within;
-              places = λ n c from e. placed_by n c from e;
-              spent = spent_by;
-              rest = new_from;
-              upto = upto;
-              owner = given refl;
-            },
+            record { within = within; places = λ n c from e. placed_by n c from e; spent = spent_by; rest = new_from; upto = upto; owner = given refl },
             omega arith,
             refl,
           );

@@ -227,9 +227,7 @@ module _ (f : Flags) (d : Direction) (h : DirectionHolds f d) (path : ℕ) (p : 
     mapped = Every-map (λ c honest. IfSome-map c.mapping mapping_short honest.mapping) lane.bytes.honest;
     data_fins = Every-map (λ e end. omega (arith, (is_end d.send e end).1)) lane.ends.named;
     fins = Every-map (λ pos fin. omega (arith, fin.last, short)) lane.fins;
-    acks = record {
-      each = λ i a e. (omega (arith, lane.bytes.acked.each i a e, short), next_short a.next (lane.receiver.copies.each i a e).stream.covers);
-    };
+    acks = record { each = λ i a e. (omega (arith, lane.bytes.acked.each i a e, short), next_short a.next (lane.receiver.copies.each i a e).stream.covers) };
     pairs = Every-map pair_short lane.pairs.told;
     edge = omega (arith, lane.bytes.within, short);
     maps = Every-map mapping_short lane.bytes.right;

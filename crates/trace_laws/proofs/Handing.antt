@@ -58,13 +58,7 @@ find_pushed (x ∷ rs) r none unsent = by (is_unsent x) none (find_pushed rs r)
 module _ (c : Profile) (s : Side) (span : Span) (piece : List ℕ) (e : PathEnd) where
   -- the record of what was granted
   abbrev pushed : Record
-  pushed = record {
-    pos = e.tcp.send.nxt;
-    kind = Data;
-    piece = piece;
-    mapping = mapping_of c s span.from e.tcp.send.nxt piece;
-    sending = never_sent;
-  }
+  pushed = record { pos = e.tcp.send.nxt; kind = Data; piece = piece; mapping = mapping_of c s span.from e.tcp.send.nxt piece; sending = never_sent }
 
   abbrev then_granted : PathEnd
   then_granted = granted c s span piece e

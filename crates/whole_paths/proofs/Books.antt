@@ -50,10 +50,7 @@ module _ (b : Sending) where
   send_up (send_calls.Write bytes) = by (b.closed || b.aborted) (acks_stay (send_calls.Write bytes))
     where
       more : Sending
-      more = record b {
-        written = b.written ++ take (bytes_taken bytes b) bytes;
-        marks = b.marks ++ replicate (bytes_taken bytes b) (Free no_paths);
-      }
+      more = record b { written = b.written ++ take (bytes_taken bytes b) bytes; marks = b.marks ++ replicate (bytes_taken bytes b) (Free no_paths) }
 
       by : (x : Bool) → Acks (if x then b else more) → IsSendAsFar b (if x then b else more)
       by true acks = marks_alone b refl refl refl refl acks
@@ -73,11 +70,7 @@ module _ (b : Sending) where
   send_up (send_calls.AckIn next window) = by (is_future next b) (acks_stay (send_calls.AckIn next window))
     where
       acked : Sending
-      acked = record b {
-        marks = replicate (min next (length b.marks)) Acked ++ drop next b.marks;
-        edge = max b.edge (next + window);
-        fin = fin_after next b;
-      }
+      acked = record b { marks = replicate (min next (length b.marks)) Acked ++ drop next b.marks; edge = max b.edge (next + window); fin = fin_after next b }
 
       by : (x : Bool) → Acks (if x then b else acked) → IsSendAsFar b (if x then b else acked)
       by true acks = marks_alone b refl refl refl refl acks
@@ -171,11 +164,7 @@ module _ (b : Arriving) where
   arrival_stays = arrival_same b refl refl refl
 
 arrival_then : (b c d : Arriving) → IsArrivalAsFar b c → IsArrivalAsFar c d → IsArrivalAsFar b d
-arrival_then b c d x y = record {
-  read = omega (arith, x.read, y.read);
-  received = omega (arith, x.received, y.received);
-  end = λ place is. y.end place (x.end place is);
-}
+arrival_then b c d x y = record { read = omega (arith, x.read, y.read); received = omega (arith, x.received, y.received); end = λ place is. y.end place (x.end place is) }
 
 -- ---- a side
 

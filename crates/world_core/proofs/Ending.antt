@@ -133,10 +133,7 @@ opened_sound start = record {
   top = 0;
   fine = opened_fine start;
   timely = opened_lifted IsTimelyCrew start (record { few = omega arith; timely = tt }) (record { few = omega arith; timely = tt })
-      (λ number plan there. record {
-        few = omega arith;
-        timely = first_timely (waiting_path (path_begins start number plan) start.lines) 0 (omega (arith));
-      });
+      (λ number plan there. record { few = omega arith; timely = first_timely (waiting_path (path_begins start number plan) start.lines) 0 (omega (arith)) });
   round = record {
     begun = opened_world start;
     begins = BeginsAbove.First refl (opened_lifted (λ (c : ActorCrew (List ℕ)). c.list ≡ []) start refl refl (λ number plan there. refl));

@@ -37,10 +37,7 @@ module _ (file rest : List ℕ) (b : Sending) (h : Writes file rest b) where
 
   ack_keeps : (c : Bool) (c_after : Sending) → c_after.written ≡ b.written → c_after.closed ≡ b.closed → Writes file rest (if c then b else c_after)
   ack_keeps true c_after written closed = h
-  ack_keeps false c_after written closed = record {
-    prefix = h.prefix ∙ ap (λ xs. xs ++ rest) (sym written);
-    whole = λ is. h.whole (sym closed ∙ is);
-  }
+  ack_keeps false c_after written closed = record { prefix = h.prefix ∙ ap (λ xs. xs ++ rest) (sym written); whole = λ is. h.whole (sym closed ∙ is) }
 
   pub call_keeps : (call : SendCall) → LeavesFile call → Writes file rest (after_call b call)
   call_keeps (SendCall.Write bytes) leaves = absurd leaves

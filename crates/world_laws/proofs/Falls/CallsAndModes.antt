@@ -25,9 +25,7 @@ then_modulated : (m n k : Modes) → Modulated m n → Modulated n k → Modulat
 then_modulated m n k x y = record { moves = λ d is. then_moved d (record d { modes = n }) (record d { modes = k }) (x.moves d is) (y.moves (record d { modes = n }) refl) }
 
 stay_modes : (m n : Modes) → n ≡ m → Modulated m n
-stay_modes m n same = record {
-  moves = λ d is. record { events = []; silent = refl; to = ap (λ x. record d { modes = x }) (same ∙ sym is) };
-}
+stay_modes m n same = record { moves = λ d is. record { events = []; silent = refl; to = ap (λ x. record d { modes = x }) (same ∙ sym is) } }
 
 -- by one event, or two
 by_events : (m n : Modes) (change : Modes → Modes) (events : List Event) → AreSilent events → ((d : Duo) → after_events events d ≡ record d { modes = change d.modes }) → n ≡ change m → Modulated m n

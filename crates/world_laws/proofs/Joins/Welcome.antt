@@ -323,9 +323,7 @@ all_roles start turns = run_roles turns (opened_world start) (opened_roles start
 -- ---- the law
 
 pub each_copy_is_welcome : Always values (λ start w. EachCopyIsWelcome values w)
-each_copy_is_welcome start turns = record {
-  each = λ actor c there. by c.member (met.keys.crew.each actor c there) (roles.each actor c there);
-}
+each_copy_is_welcome start turns = record { each = λ actor c there. by c.member (met.keys.crew.each actor c there) (roles.each actor c there) }
   where
     met : WorldMet start.key_a start.key_b (world_run values turns (opened_world start))
     met = run_met start.key_a start.key_b turns (opened_world start) (opened_met start)

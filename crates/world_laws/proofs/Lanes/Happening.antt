@@ -119,13 +119,7 @@ module _ (six : SixBooks) (others : Others) (p : PathState Carried) (ab ba : Lan
   -- ---- copies
 
   delivered : (due : Due) → PathShows p.profile (record (at_tick due.tick p) { link = after_delivery due p.link }) ab ba
-  delivered due = record {
-    profile = h.profile;
-    may = h.may;
-    a = h.a;
-    b = h.b;
-    copies = without_kept (position (is_due due) p.link.under_way) p.link.under_way h.copies;
-  }
+  delivered due = record { profile = h.profile; may = h.may; a = h.a; b = h.b; copies = without_kept (position (is_due due) p.link.under_way) p.link.under_way h.copies }
 
   -- an end that fell back hears no option
   heard_is : (sg : PlainSegment) (plain : Bool) → record (meant sg) { options = (if plain then [] else (meant sg).options) } ≡ meant (record sg { options = (if plain then [] else sg.options) })

@@ -226,10 +226,7 @@ module _ (c : Profile) (s : Side) (e : PathEnd) (acks : List AckCopy) (p : Lane)
 
       -- so it is told
       told_summed : (r : Record) → Summed r → IsSummed c s p.sent (place_numbered c s r.mapping.number) r.pos r.mapping.length (checksum_heard (checksum_told c r.mapping.checksum))
-      told_summed r h = record {
-        within = h.within;
-        right = λ uses. ap (λ (b : Bool). unwrap_or (if b then Some r.mapping.checksum else None) 0) uses ∙ h.right uses;
-      }
+      told_summed r h = record { within = h.within; right = λ uses. ap (λ (b : Bool). unwrap_or (if b then Some r.mapping.checksum else None) 0) uses ∙ h.right uses }
 
       first_says : (peer : Option ℕ) (r : Record) → is_side_a s ≡ true → e.modes.clear ≡ false → r.pos ≡ 1 → Mapped r → Summed r
           → Every (OptionShows c s (window_told false e.receiving.window) acks p) (first_piece_options c peer r e)

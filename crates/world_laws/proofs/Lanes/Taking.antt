@@ -62,9 +62,7 @@ one_further (suc edge) at [] = refl
 one_further edge at (byte ∷ bytes) = refl
 
 pub under_drop : (n : ℕ) (places kept : List (Option ℕ)) → Under places kept → Under (drop n places) (drop n kept)
-under_drop n places kept u = record {
-  each = λ i x e. slice_get-drop n kept i (n + i) refl ∙ u.each (n + i) x (in_drop n places i (n + i) (Some x) refl e);
-}
+under_drop n places kept u = record { each = λ i x e. slice_get-drop n kept i (n + i) refl ∙ u.each (n + i) x (in_drop n places i (n + i) (Some x) refl e) }
 
 nothing_left : (n : ℕ) (xs : List (Option ℕ)) → xs ≡ [] → drop n xs ≡ []
 nothing_left zero xs none = none

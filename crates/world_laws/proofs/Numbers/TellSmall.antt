@@ -99,13 +99,7 @@ syn_room (Some mss) = omega arith
 
 pub bare_tells : (c : Profile) (s : Side) (sg : PlainSegment) → SegmentTells c s sg → SegmentTells c s (record sg { options = [] })
 bare_tells c s sg h = record {
-  sayable = record {
-    path = h.sayable.path;
-    window = h.sayable.window;
-    options = All-nil (CanSayOption c.spelling s);
-    room = syn_room sg.mss;
-    fits = h.sayable.fits;
-  };
+  sayable = record { path = h.sayable.path; window = h.sayable.window; options = All-nil (CanSayOption c.spelling s); room = syn_room sg.mss; fits = h.sayable.fits };
   position = h.position;
   acknowledged = h.acknowledged;
   reaches = h.reaches;
@@ -474,10 +468,7 @@ module _ (c : Profile) (s : Side) (path : c.spelling.path ≤ 15) (mss : c.mss <
   join_tells B = record {
     can = record { form = tt };
     few = join_answer_length c.backup c.spelling.path (join_b64_of (peer_key_of e.modes) e.modes.own_key e.modes.peer_nonce e.modes.own_nonce) e.modes.own_nonce;
-    tells = record {
-      fits = (id_fits, join_b64_of_below (peer_key_of e.modes) e.modes.own_key e.modes.peer_nonce e.modes.own_nonce, h.modes.own_nonce);
-      short = tt;
-    };
+    tells = record { fits = (id_fits, join_b64_of_below (peer_key_of e.modes) e.modes.own_key e.modes.peer_nonce e.modes.own_nonce, h.modes.own_nonce); short = tt };
   }
 
   third_tells : One (third_options e.modes)
@@ -560,10 +551,7 @@ module _ (c : Profile) (s : Side) (path : c.spelling.path ≤ 15) (mss : c.mss <
       by true = record {
         can = record { form = (told_form c.spelling.checksums 0, tt) };
         few = infinite_length (data_number c.spelling s (position - 1)) (relative_number position) (checksum_told c 0);
-        tells = record {
-          fits = (tt, (data_fits c.spelling s (position - 1), omega arith, omega arith, checksum_zero));
-          short = (tt, (omega (arith, at), at));
-        };
+        tells = record { fits = (tt, (data_fits c.spelling s (position - 1), omega arith, omega arith, checksum_zero)); short = (tt, (omega (arith, at), at)) };
       }
       by false = tt
 

@@ -317,10 +317,7 @@ module _ {C : Type 0} (k : Codec C) (start : Start) where
   list_there t number x there = sym (ap notes_or (path_actor t number x there))
 
   begun_side : (path written : ℕ) (s : Side) (b : Sending) → IsOnes path written b → SideAsks path (length b.written) s [] false false b
-  begun_side path written s b h = record {
-    ones = record { tried = h.tried; whole = h.whole; grown = omega arith };
-    all = λ never alone. cc;
-  }
+  begun_side path written s b h = record { ones = record { tried = h.tried; whole = h.whole; grown = omega arith }; all = λ never alone. cc }
 
   -- a path begins a round with books that are its own, or another's
   begun_path : (number written_a written_b : ℕ) (q : PathState C) (seat : Seat) (t : Cast C) → IsOnes (path_of q) written_a (books_in t.books).send_a → IsOnes (path_of q) written_b (books_in t.books).send_b

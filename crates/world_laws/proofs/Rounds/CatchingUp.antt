@@ -77,15 +77,7 @@ is_read b = by b.aborted
   where
     by : (o : Option Bool) → IsRead b (if is_some o then b else after_reading 65536 b) (reading o 65536 b)
     by None = bytes_read b (take 65536 (filled b.places)) refl
-    by (Some by_peer) = record {
-      read = omega arith;
-      came = refl;
-      most = omega arith;
-      empty = λ nil. inr refl;
-      ended = λ ends. inr refl;
-      known = refl;
-      capacity = refl;
-    }
+    by (Some by_peer) = record { read = omega arith; came = refl; most = omega arith; empty = λ nil. inr refl; ended = λ ends. inr refl; known = refl; capacity = refl }
 
 -- ---- what arrives
 

@@ -63,11 +63,7 @@ module _ {C : Type 0} where
       let q : PathState C = answers k p.agenda r p in
       let time : TakesTime q = subst (λ xs. TakesTime (answers k xs r p)) (sym agenda) lower.time in
       let kept = takes_keeps k r p in
-      record {
-        time = settled_time q.agenda q time;
-        first = settled_settled q.agenda q;
-        payload = subst (λ c. 1 ≤ payload_size c) (sym kept.1) h.payload;
-      }
+      record { time = settled_time q.agenda q time; first = settled_settled q.agenda q; payload = subst (λ c. 1 ≤ payload_size c) (sym kept.1) h.payload }
 
   pub begun_steady : (p : PathState C) → TakesTime p → 1 ≤ payload_size p.profile → IsSteadyPath (begins_turn p)
   begun_steady p t some =

@@ -43,11 +43,7 @@ module _ {C : Type 0} where
   answered_kept k d other r p = kept_by (side_of d) (writes d) p _ refl refl (writes_no_more k d r p)
 
   keeps_lasts : Lasts (λ (p q : PathState C). Keeps p q)
-  keeps_lasts = record {
-    agenda = λ ds p. record { a = refl; b = refl };
-    chains = λ p q r x y. record { a = y.a ∙ x.a; b = y.b ∙ x.b };
-    passes = λ d p. passed_kept d p;
-  }
+  keeps_lasts = record { agenda = λ ds p. record { a = refl; b = refl }; chains = λ p q r x y. record { a = y.a ∙ x.a; b = y.b ∙ x.b }; passes = λ d p. passed_kept d p }
 
   settled_kept : (ds : List Duty) (p : PathState C) → Keeps p (settled ds p)
   settled_kept ds p = settled_lasts (λ p q. Keeps p q) keeps_lasts ds p

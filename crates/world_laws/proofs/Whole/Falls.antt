@@ -355,10 +355,7 @@ first_is start plan plain whole = record {
     nothing_is = record { plain = refl; opens = λ is. absurd (false≢true is); holds = tt; finite = refl; answer = tt }
 
 opened_upright : (start : Start) → IsPlain start → IsWhole start → Upright (opened_world start)
-opened_upright start plain whole = record {
-  never = never;
-  crew = opened_lifted CrewStands start tt tt (λ number plan there. first_turn_is number plan);
-}
+opened_upright start plain whole = record { never = never; crew = opened_lifted CrewStands start tt tt (λ number plan there. first_turn_is number plan) }
   where
     never : Never (opened_world {C = Carried} start).books
     never A was = false≢true was

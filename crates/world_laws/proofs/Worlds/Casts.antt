@@ -113,9 +113,7 @@ path_leaves_b file rest _ six leaves h = h
 
 -- one item is put, which has what all have
 pub Every-put : {X : Type 0} {P : X → Type 0} {xs : List X} (i : ℕ) (y : X) → P y → Every P xs → Every P (set xs i y)
-Every-put {X} {P} {xs} i y here h = record {
-  each = λ k x there. ⊎_elim (λ same. subst P same.1 here) (λ other. h.each k x other.1) (in_set xs i y k x there);
-}
+Every-put {X} {P} {xs} i y here h = record { each = λ k x there. ⊎_elim (λ same. subst P same.1 here) (λ other. h.each k x other.1) (in_set xs i y k x there) }
 
 -- ---- the world
 
@@ -269,13 +267,7 @@ module _ {C : Type 0} where
   abbrev pub next_cast : Cast C → Cast C
   next_cast t =
       let stamp = greatest 0 (world_of t).crew in
-      record t {
-        a = app_next_round t.a;
-        b = app_next_round t.b;
-        at_a = raised_to stamp t.at_a;
-        at_b = raised_to stamp t.at_b;
-        paths = map (walks_on stamp) t.paths;
-      }
+      record t { a = app_next_round t.a; b = app_next_round t.b; at_a = raised_to stamp t.at_a; at_b = raised_to stamp t.at_b; paths = map (walks_on stamp) t.paths }
 
   begun_are : (stamp : ℕ) (paths : List (Walker C)) → map (begins stamp) (map walking paths) ≡ map walking (map (walks_on stamp) paths)
   begun_are stamp [] = refl

@@ -113,11 +113,7 @@ module _ (start : Start) where
   })
 
   opened_since : Since (opened_world start)
-  opened_since = record {
-    known = opened_keys false start;
-    ever = λ more. sure_is_clear start more;
-    clear = λ joined. absurd (false≢true joined);
-  }
+  opened_since = record { known = opened_keys false start; ever = λ more. sure_is_clear start more; clear = λ joined. absurd (false≢true joined) }
 
 -- ---- what follows
 

@@ -38,10 +38,7 @@ fell_only w cause r e all = fell_so (λ (m : Modes). Only w e (record e { modes 
 
 -- what is to be acknowledged
 abbrev acked_so_far : ℕ → ℕ → PathEnd → PathEnd
-acked_so_far next window e = record e {
-  receiving = record e.receiving { next = next; window = window };
-  treated = record e.treated { asked = false };
-}
+acked_so_far next window e = record e { receiving = record e.receiving { next = next; window = window }; treated = record e.treated { asked = false } }
 
 acked_out_only : (w : EndWrites) (r : Reply) (e : PathEnd)
     → ((next window : ℕ) → Only w e (acked_so_far next window e)) → Only w e (after_ack_out r e)
