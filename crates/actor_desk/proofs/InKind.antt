@@ -46,8 +46,7 @@ send_kind b (SendCall.Grant path max standby) tile can = granted_kind path max s
 send_kind b (SendCall.AckIn next window) tile can = by (send.is_future next b)
   where
     by : (c : Bool) → IsSendKind (SendCall.AckIn next window) (if c then SendReply.AckFuture (length b.written) else SendReply.Acked (min next (length b.written) - acked_len b.marks) (send.fin_after next b))
-    by true = tt
-    by false = tt
+    by = elim [ true ↦ tt | false ↦ tt ]
 send_kind b (SendCall.Return path) tile can = tt
 send_kind b SendCall.GoIdentity tile can = tt
 send_kind b (SendCall.GoInfinite path) tile can =

@@ -30,8 +30,7 @@ use Rattle.actor_desk.specs.Bounds.{IsPlace, IsSmallSend, IsSmallReassembly, IsS
 -- ---- the send book
 
 written_either : (c : Bool) (one other : Sending) → IsWrittenSmall one → IsWrittenSmall other → IsWrittenSmall (if c then one else other)
-written_either true one other p q = p
-written_either false one other p q = q
+written_either = elim [ true ↦ λ one other p q. p | false ↦ λ one other p q. q ]
 
 written_given : (path : ℕ) (o : Result Span Why) (b : Sending) → IsWrittenSmall b → IsWrittenSmall (send.given_by path o b)
 written_given path (Ok span) b small = record { written = small.written }
@@ -48,8 +47,7 @@ written_small b (SendCall.GoInfinite path) small = written_either (send.is_gathe
 written_small b _ small = record { written = small.written }
 
 end_small : (c : Bool) (n : ℕ) → IsPlace n → IfSome (if c then Some n else None) IsPlace
-end_small true n small = small
-end_small false n small = tt
+end_small = elim [ true ↦ λ n small. small | false ↦ λ n small. tt ]
 
 granted_small : (path max : ℕ) (standby : Bool) (b : Sending) → Tile b → IsWrittenSmall b → (o : Result Span Why)
     → send.decision path max standby b ≡ o → IsSmallSend (send.reply_by o b)
@@ -78,8 +76,7 @@ send_small b SendCall.Abort tile small = tt
 -- ---- the reassembly book
 
 received_either : (c : Bool) (one other : Arriving) → IsReceivedSmall one → IsReceivedSmall other → IsReceivedSmall (if c then one else other)
-received_either true one other p q = p
-received_either false one other p q = q
+received_either = elim [ true ↦ λ one other p q. p | false ↦ λ one other p q. q ]
 
 pub received_small : (b : Arriving) (call : ReassemblyCall) → IsReceivedSmall b → reassembly.CanAsk call → IsReceivedSmall (reassembly.after_call b call)
 received_small b (ReassemblyCall.Place at bytes) small can =

@@ -133,8 +133,7 @@ duty_agrees (Duty.Send (SendDuty.Update s)) ds p = refl
 duty_agrees _ ds p = refl
 
 agenda_agrees : (ds : List Duty) (p : OctetPath) → Agrees p ds
-agenda_agrees [] p = refl
-agenda_agrees (d ∷ ds) p = duty_agrees d ds p
+agenda_agrees = elim [ [] ↦ λ p. refl | d ∷ ds ↦ λ p. duty_agrees d ds p ]
 
 pub each_arrival_is_lent : EachArrivalIsLent
 each_arrival_is_lent p = agenda_agrees p.agenda p

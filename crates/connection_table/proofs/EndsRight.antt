@@ -2,15 +2,14 @@
 use Rattle.connection_table.proofs.Words.{◌≡◌, refl, sym, ◌∙◌, ap, subst, ⊎_elim, ℕ, zero, suc, ◌+◌, ◌-◌, ◌^◌, ◌<◌, ◌≤◌, ◌&&◌, Bool, true, false, Option, Some}
 use Rattle.connection_table.proofs.Words.{None, List, [], ◌∷◌, ◌++◌, append_assoc, length, map, arith, IfSome, All, list_any, AllZip, and_parts, both_ways}
 use Rattle.connection_table.proofs.Words.{or_from, or_parts, All-nil, All-cons, All-head, All-tail, A, B, octets, Input, AreLawful, end_round, world_run}
-use Rattle.connection_table.proofs.Words.{world_step, Turn, start_of, notes_of, outcome_by, outcome_of, output_of, tells_abort, tells_end, was_told, AreRounds}
-use Rattle.connection_table.proofs.Words.{OneOf, after_round, after_steps, after_turns, goes_on, round_and, steps_and, after_rounds, IsShort, AreSerial}
-use Rattle.connection_table.proofs.Words.{EndsRight, Connection, first_of, opened_entry, LeavesPayload, is_alter, IsSerialEnd, Runs}
+use Rattle.connection_table.proofs.Words.{world_step, Turn, start_of, notes_of, outcome_by, outcome_of, output_of, tells_end, was_told, AreRounds, OneOf}
+use Rattle.connection_table.proofs.Words.{after_round, after_steps, after_turns, goes_on, round_and, steps_and, after_rounds, IsShort, AreSerial, EndsRight}
+use Rattle.connection_table.proofs.Words.{Connection, first_of, opened_entry, LeavesPayload, is_alter, IsSerialEnd, Runs}
 use Rattle.octet_text.specs.Prefix.{IsPrefix}
 use Rattle.link_script.specs.declared.script.ScriptLine.{ScriptLine}
 use Rattle.link_script.specs.declared.script.Happens.TheVariants.{Lost, Late, Again, Stripped, Altered}
-use Rattle.world_laws.specs.declared.outcome.Outcome.{Outcome}
-use Rattle.world_laws.specs.declared.outcome.Outcome.TheVariants.{Going, Delivered}
-use Rattle.world_laws.specs.PlainScripts.{AltersNone, IsPlainScript, KeepsAllPromises, alters_payload}
+use Rattle.world_laws.specs.declared.outcome.Outcome.TheVariants.{Delivered}
+use Rattle.world_laws.specs.PlainScripts.{IsPlainScript, KeepsAllPromises, alters_payload}
 use Rattle.world_laws.specs.Laws.{WritesTheFiles}
 use Rattle.world_laws.specs.Serial.{spelled}
 use Rattle.world_laws.proofs.Promises.OfScripts.{plain_scripts_keep_all_promises}
@@ -155,8 +154,7 @@ module _ (most : ℕ) (input : Input) (w : Connection) (short : IsShort input) (
   clean = by (enough input.script (length input.file_a) (length input.file_b)) refl
     where
       by : (o : Option ℕ) → enough input.script (length input.file_a) (length input.file_b) ≡ o → IfSome o (λ least. least ≤ most → outcome_of w.crew ≡ Delivered)
-      by None is = tt
-      by (Some least) is = λ few. finishes least is few
+      by = elim [ None ↦ λ is. tt | Some least ↦ λ is. λ few. finishes least is few ]
 
   ends_right : EndsRight most input w
   ends_right = record {

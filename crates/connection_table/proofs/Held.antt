@@ -57,8 +57,7 @@ takes_kind r (App a) = refl
 takes_kind r (Path p) = refl
 
 next_kind : (m : Actor (List ℕ)) → is_path (member_next m) ≡ is_path m
-next_kind (App a) = refl
-next_kind (Path p) = refl
+next_kind = elim [ App a ↦ refl | Path p ↦ refl ]
 
 step_path : (actor : ℕ) (w : Connection) → has_path (world_step octets actor w) ≡ has_path w
 step_path actor w = (elim (slice_get w.crew actor) as (λ o. slice_get w.crew actor ≡ o → has_path (stepped octets actor o w) ≡ has_path w)
@@ -98,8 +97,7 @@ begun_stands stamp [] is = absurd (false≢true is)
 begun_stands stamp (c ∷ crew) is = by (is_path c.member) refl is (λ rest. begun_stands stamp crew rest)
   where
     later : (b : Bool) → all_over (map (begins stamp) crew) ≡ false → (b && all_over (map (begins stamp) crew)) ≡ false
-    later true e = e
-    later false e = refl
+    later = elim [ true ↦ λ e. e | false ↦ λ e. refl ]
 
     by : (b : Bool) → is_path c.member ≡ b → (b || list_any is_path_crew crew) ≡ true → (list_any is_path_crew crew ≡ true → all_over (map (begins stamp) crew) ≡ false)
         → (is_over (member_next c.member) && all_over (map (begins stamp) crew)) ≡ false

@@ -18,11 +18,11 @@ module _ {X : Type 0} (test : X → Bool) where
       ap (λ b. cond b (Some (position_or_len test xs)) None) inside ∙ ap (λ n. Some n) first
 
   pub no_place : (xs : List X) → position test xs ≡ None → length xs ≤ position_or_len test xs
-  no_place xs none = by (nat_lt (position_or_len test xs) (length xs)) refl none
-    where
-      by : (b : Bool) → nat_lt (position_or_len test xs) (length xs) ≡ b → cond b (Some (position_or_len test xs)) None ≡ None → length xs ≤ position_or_len test xs
-      by true within is = cc
-      by false past is = ltb-false (position_or_len test xs) (length xs) past
+  no_place xs none =
+      (elim (nat_lt (position_or_len test xs) (length xs)) as (λ b. nat_lt (position_or_len test xs) (length xs) ≡ b → cond b (Some (position_or_len test xs)) None ≡ None → length xs ≤ position_or_len test xs) [
+        | true ↦ λ within is. cc
+        | false ↦ λ past is. ltb-false (position_or_len test xs) (length xs) past
+      ]) refl none
 
   -- one more behind changes nothing of a place
   place_kept : (xs : List X) (y : X) (i : ℕ) → position test xs ≡ Some i → position test (xs ++ y ∷ []) ≡ Some i

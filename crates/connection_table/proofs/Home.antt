@@ -23,8 +23,7 @@ crew_asks key actor crew a token asks is by_token = (elim (slice_get crew actor)
     [ None ↦ λ there is. cc | Some c ↦ λ there is. member c.member (asks c there) is.0 is.1 ]) refl (at_b (option_and_then next_arrival (crew_path (slice_get crew actor))) a is)
   where
     member : (m : Actor (List ℕ)) → AsksByTokenNext key m → option_and_then next_arrival (member_path m) ≡ Some a → a.to ≡ B → token ≡ key
-    member (App app) asks is to = cc
-    member (Path p) asks is to = asks a token is to by_token
+    member = elim [ App app ↦ λ asks is to. cc | Path p ↦ λ asks is to. asks a token is to by_token ]
 
 pub each_is_routed_home : EachIsRoutedHome
 each_is_routed_home table connection actor e sound there alone short =

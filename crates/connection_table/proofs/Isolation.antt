@@ -18,12 +18,11 @@ abbrev Goes : Entry → Entry → Type 0
 Goes e x = StandsAlone x × (x.input ≡ e.input)
 
 step_goes : (actor : ℕ) (e : Entry) → Stands e → StandsAlone e → Goes e (after_step actor e)
-step_goes actor e stands alone = by (is_going actor e.world.state) refl
-  where
-    by : (b : Bool) → is_going actor e.world.state ≡ b
-        → Goes e (if b then record e { turns = e.turns ++ Step actor ∷ []; world = standing (world_step octets actor e.world.state) } else e)
-    by true going = (alone_more e (Step actor) stands alone (going, tt), refl)
-    by false over = (alone, refl)
+step_goes actor e stands alone =
+    (elim (is_going actor e.world.state) as (λ b. is_going actor e.world.state ≡ b → Goes e (if b then record e { turns = e.turns ++ Step actor ∷ []; world = standing (world_step octets actor e.world.state) } else e)) [
+      | true ↦ λ going. (alone_more e (Step actor) stands alone (going, tt), refl)
+      | false ↦ λ over. (alone, refl)
+    ]) refl
 
 end_goes : (e : Entry) → StandsAlone e → Goes e (after_end e)
 end_goes e alone = (elim (may_end e.world) as (λ b. may_end e.world ≡ b → Goes e (if b then record e { turns = e.turns ++ Round ∷ []; world = standing (end_round e.world.state) } else e))

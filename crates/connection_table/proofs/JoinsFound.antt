@@ -61,8 +61,7 @@ asked_so window options asked so is =
     ap (λ (x : JoinSyn). x.token) (same_Some (asked_by options so) asked (ap (said_to_b window) (sym so.is) ∙ is))
 
 not_acknowledging : (o : Option ℕ) → option_map (λ n. At n) o ≡ None → o ≡ None
-not_acknowledging None is = refl
-not_acknowledging (Some n) is = cc
+not_acknowledging = elim [ None ↦ λ is. refl | Some n ↦ λ is. cc ]
 
 -- ---- a copy
 

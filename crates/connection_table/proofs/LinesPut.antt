@@ -1,8 +1,7 @@
 -- The lines of a table, put one after the other.
 use Rattle.connection_table.proofs.Words.{◌≡◌, refl, sym, ◌∙◌, ap, subst, ℕ, zero, suc, ◌+◌, ◌<◌, ◌≤◌, Option, Some, None, List, [], ◌∷◌, ◌++◌, append_assoc}
 use Rattle.connection_table.proofs.Words.{length, map, arith, take, drop, append-nil, take-append-drop, take-append-le, IsSomeAnd, slice_get, HoldsAfter}
-use Rattle.connection_table.proofs.Words.{HoldsPrefix, risen_later, Kept, Many, Done, Usage, Load, TooLong, Listing, Script, SameToken, Put, Memory, IsPutFault}
-use Rattle.connection_table.proofs.Words.{Entry, connection_line, line_if, lines_from, state_of}
+use Rattle.connection_table.proofs.Words.{HoldsPrefix, risen_later, Kept, Many, Put, Memory, IsPutFault, Entry, connection_line, line_if, lines_from, state_of}
 use Rattle.std.proofs.Math.Seq.{take-length}
 
 -- ---- the lines
@@ -87,8 +86,7 @@ line_part i table a b c within h k =
 
 -- nothing was put
 pub none_put : (a : Option (List ℕ)) → HoldsAfter a a (λ held. held ++ [])
-none_put None = tt
-none_put (Some held) = ap Some (sym (append-nil held))
+none_put = elim [ None ↦ tt | Some held ↦ ap Some (sym (append-nil held)) ]
 
 -- ---- faults
 

@@ -107,12 +107,10 @@ names_told None = []
 names_told (Some list) = names_in_form (list_reading list)
 
 in_form : (read : Result (List Names) ℕ) → IfOk read (λ names. names_in_form read ≡ names)
-in_form (Ok names) = refl
-in_form (Err line) = tt
+in_form = elim [ Ok names ↦ refl | Err line ↦ tt ]
 
 said_told : (told : Option (List ℕ)) → IfSome told (λ list. IfOk (list_reading list) (λ read. names_told told ≡ read))
-said_told None = tt
-said_told (Some list) = in_form (list_reading list)
+said_told = elim [ None ↦ tt | Some list ↦ in_form (list_reading list) ]
 
 said_read : (told : Option (List ℕ)) (bytes : List ℕ) (names : List Names) → IfSome told (λ list. bytes ≡ list) → list_reading bytes ≡ Ok names
     → IfSome told (λ list. IfOk (list_reading list) (λ read. names ≡ read))
@@ -176,8 +174,7 @@ module _ (content : Contents) (words : NamedList) where
       behind_to zero to = absurd (none to.cut.made to.cut.failing to.cut.behind to.own to.there to.cut.plan_is)
         where
           none : (made : List Call) (failing : Call) (behind own : List Call) → Some [] ≡ Some own → own ≡ made ++ failing ∷ behind → ⊥
-          none [] failing behind own there is = cc
-          none (x ∷ made) failing behind own there is = cc
+          none = elim [ [] ↦ λ failing behind own there is. cc | x ∷ made ↦ λ failing behind own there is. cc ]
       behind_to (suc line) to = record {
         own = to.own;
         there = to.there;

@@ -16,8 +16,7 @@ abbrev no_rounds : List (List ℕ)
 no_rounds = []
 
 none_left : (b : Bool) → OneOf b (no_rounds ≡ []) (no_rounds ≡ [])
-none_left true = refl
-none_left false = refl
+none_left = elim [ true ↦ refl | false ↦ refl ]
 
 pub first_round : (w v : Connection) → RoundTo octets w v → IsSerialEnd 1 w v
 first_round w v r = (r.0 ∷ [], (r.1, none_left (still_goes (after_round octets r.0 w))), r.2)

@@ -2,10 +2,9 @@
 -- fresh.
 use Rattle.connection_table.proofs.Words.{◌≡◌, refl, sym, ◌∙◌, ap, subst, ⊎_elim, ℕ, ◌&&◌, Bool, true, false, Option, Some, None, List, [], ◌∷◌, ◌++◌, map}
 use Rattle.connection_table.proofs.Words.{option_map, cond, find, slice_get, and_parts, same_Some, Side, A, B, peer, same_side, Syn, Answer, Third, Due, Flight}
-use Rattle.connection_table.proofs.Words.{is_due, arriving, Capable, Join, Dss, AddAddr, Remove, Prio, Fail, FastClose, Reset, PlainOption, PlainSegment}
-use Rattle.connection_table.proofs.Words.{Expected, HeardSegment, next_event, is_joined, octets, PathState, end_at, expected_by, in_map, Every, after_turn}
-use Rattle.connection_table.proofs.Words.{world_run, Turn, WorldState, Start, opened_world, App, Path, Actor, ActorCrew, HeardShowsToken, NextShowsToken}
-use Rattle.connection_table.proofs.Words.{ShowsTokenNext, JoinsShowToken, ValuesShowTheToken, OctetsShowTheToken}
+use Rattle.connection_table.proofs.Words.{is_due, arriving, Join, PlainOption, PlainSegment, Expected, HeardSegment, next_event, is_joined, octets, PathState}
+use Rattle.connection_table.proofs.Words.{end_at, expected_by, in_map, Every, after_turn, world_run, Turn, WorldState, Start, opened_world, App, Path, Actor}
+use Rattle.connection_table.proofs.Words.{ActorCrew, HeardShowsToken, NextShowsToken, ShowsTokenNext, JoinsShowToken, ValuesShowTheToken, OctetsShowTheToken}
 use Rattle.std.proofs.Common.{◌==◌}
 use Rattle.key_material.specs.KeyDigest.{token_of}
 use Rattle.link_model.specs.Laws.{shown_flight}
@@ -92,12 +91,10 @@ same_arriving show due (f ∷ flights) = by (is_due due f) (same_arriving show d
   where
     by : (b : Bool) → find (is_due due) (map (shown_flight show) flights) ≡ option_map (shown_flight show) (find (is_due due) flights)
         → cond b (Some (shown_flight show f)) (find (is_due due) (map (shown_flight show) flights)) ≡ option_map (shown_flight show) (cond b (Some f) (find (is_due due) flights))
-    by true rest = refl
-    by false rest = rest
+    by = elim [ true ↦ λ rest. refl | false ↦ λ rest. rest ]
 
 same_end_at : (s : Side) (p : PathState Carried) → end_at s (shown_path p) ≡ end_at s p
-same_end_at A p = refl
-same_end_at B p = refl
+same_end_at = elim [ A ↦ λ p. refl | B ↦ λ p. refl ]
 
 -- a fresh copy is heard as it was meant, but for the position of a far reset
 module _ (token : ℕ) (p : PathState Carried) (fresh : NextIsFresh p) (shows : NextShowsToken values token p) (due : Due) (heard : HeardSegment)

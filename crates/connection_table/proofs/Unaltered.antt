@@ -242,12 +242,10 @@ all_calm [] number seen none calm = elim (list_any is_end seen) as (λ b. IfOk (
     [ true ↦ calm | false ↦ tt ]
 all_calm (text ∷ texts) number seen none calm =
     let parts = or_parts (is_alter_line text) (list_any is_alter_line texts) none in
-    by (seen_after number seen text) (step_calm number seen text parts.0 calm) (λ now is. all_calm texts (suc number) now parts.1 is)
-  where
-    by : (r : Result (List Line) ScriptFault) → IfOk r AllCalm → ((now : List Line) → AllCalm now → IfOk (read_on (suc number) now texts) AllCalm)
-        → IfOk (r >>= λ now. read_on (suc number) now texts) AllCalm
-    by (Ok now) is next = next now is
-    by (Err e) is next = tt
+    (elim (seen_after number seen text) as (λ r. IfOk r AllCalm → ((now : List Line) → AllCalm now → IfOk (read_on (suc number) now texts) AllCalm) → IfOk (r >>= λ now. read_on (suc number) now texts) AllCalm) [
+      | Ok now ↦ λ is next. next now is
+      | Err e ↦ λ is next. tt
+    ]) (step_calm number seen text parts.0 calm) (λ now is. all_calm texts (suc number) now parts.1 is)
 
 -- ---- the whole text
 

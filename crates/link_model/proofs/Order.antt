@@ -85,13 +85,10 @@ at_most_then a b c x y z k l m (inr g) (inr f) = inr (omega (arith, f.0, g.0), w
 
 -- what comes before one comes before each that doesn't come before that
 before_onward : (a b c x y z k l m : ℕ) → before a b c x y z ≡ true → before k l m x y z ≡ false → before a b c k l m ≡ true
-before_onward a b c x y z k l m first not = by _ refl
-  where
-    by : (t : Bool) → before a b c k l m ≡ t → t ≡ true
-    by true e = refl
-    by false e =
-        let no : true ≡ false = sym (less_before k l m x y z (at_most_then a b c x y z k l m (at_most_first k l m a b c e (cases_lt k a)) (less_is a b c x y z first))) ∙ not in
-        sym no
+before_onward a b c x y z k l m first not = (elim _ as (λ t. before a b c k l m ≡ t → t ≡ true) [
+  | true ↦ λ e. refl
+  | false ↦ λ e. let no : true ≡ false = sym (less_before k l m x y z (at_most_then a b c x y z k l m (at_most_first k l m a b c e (cases_lt k a)) (less_is a b c x y z first))) ∙ not in sym no
+]) refl
 
 pub before_once : (a b c x y z : ℕ) → before a b c x y z ≡ true → before x y z a b c ≡ false
 before_once a b c x y z first = before_later a b c x y z x y z first (itself x y z)

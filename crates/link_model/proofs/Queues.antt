@@ -65,8 +65,7 @@ all_go {C = C} s (f ∷ flights) all =
     ∙ ap (λ (gs : List (Flight C)). f ∷ gs) (all_go s flights all.1)
 
 apart : (s : Side) → same_side s (peer s) ≡ false
-apart A = refl
-apart B = refl
+apart = elim [ A ↦ refl | B ↦ refl ]
 
 none_go : {C : Type 0} (s : Side) (flights : List (Flight C)) → AllByRecursion (λ f. f.to ≡ s) flights → going_to (peer s) flights ≡ []
 none_go s [] all = refl
@@ -226,8 +225,7 @@ removed_first : {X : Type 0} (p : X → Bool) (x : X) (xs : List X) → removed 
 removed_first {X = X} p x xs = by (p x) (position_or_len p xs) (length xs)
   where
     later : (b : Bool) (m : ℕ) → cond b (x ∷ remove xs m) (x ∷ xs) ≡ x ∷ cond b (remove xs m) xs
-    later true m = refl
-    later false m = refl
+    later = elim [ true ↦ λ m. refl | false ↦ λ m. refl ]
 
     one : (m : ℕ) → 1 + m ≡ suc m
     one m = omega arith
@@ -273,8 +271,7 @@ all_removed P p [] all = tt
 all_removed P p (x ∷ xs) all = subst (AllByRecursion P) (sym (removed_first p x xs)) (by (p x) (all_removed P p xs all.1))
   where
     by : (b : Bool) → AllByRecursion P (removed p xs) → AllByRecursion P (cond b xs (x ∷ removed p xs))
-    by true rest = all.1
-    by false rest = (all.0, rest)
+    by = elim [ true ↦ λ rest. all.1 | false ↦ λ rest. (all.0, rest) ]
 
 order_removed : {C : Type 0} (p : Flight C → Bool) (xs : List (Flight C)) → AreInOrder xs → AreInOrder (removed p xs)
 order_removed p xs order = elim (ltb (position_or_len p xs) (length xs)) as (λ b. AreInOrder (cond b (remove xs (position_or_len p xs)) xs))
@@ -357,8 +354,7 @@ due_first {C = C} (f ∷ fs) xs ys h q r = (elim f.to as (λ s. f.to ≡ s → S
         (sym (ap (λ (b : Bool). cond b (Some (due_of f)) (Some (due_of g))) first))
       where
         low : (b : Bool) → comes_before f g ≡ b → comes_before g f ≡ false → f.to ≡ A → g.to ≡ B → comes_before f g ≡ true
-        low true e later fa gb = e
-        low false e later fa gb = absurd (one_is_first f g fa gb e later)
+        low = elim [ true ↦ λ e later fa gb. e | false ↦ λ e later fa gb. absurd (one_is_first f g fa gb e later) ]
 
     behind : (xs ys : List (Flight C)) → ys ≡ f ∷ going_to B fs → going_to A fs ≡ xs → Some (due_of f) ≡ first_due xs ys
     behind xs [] is rest = absurd cc

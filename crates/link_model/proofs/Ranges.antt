@@ -37,12 +37,10 @@ limits_of script path d ranges within =
     }
 
 told_is_short : (b : Bool) (f other : Fate) → ticks_of f ≤ 100000 → ticks_of other ≤ 100000 → ticks_of (told_or (told_if b (Some f)) other) ≤ 100000
-told_is_short true f other short rest = short
-told_is_short false f other short rest = rest
+told_is_short = elim [ true ↦ λ f other short rest. short | false ↦ λ f other short rest. rest ]
 
 none_is_short : (b : Bool) (other : Fate) → ticks_of other ≤ 100000 → ticks_of (told_or (told_if b None) other) ≤ 100000
-none_is_short true other rest = rest
-none_is_short false other rest = rest
+none_is_short = elim [ true ↦ λ other rest. rest | false ↦ λ other rest. rest ]
 
 fate_is_short : (from : Side) (number : ℕ) (line : ScriptLine) (other : Fate) → ticks_told line ≤ 100000 → ticks_of other ≤ 100000
     → ticks_of (told_or (fate_told from number line) other) ≤ 100000

@@ -14,8 +14,7 @@ module _ (c : Copy) (s : EndState) where
   AcknowledgesSent _ = Unit {0}
 
   chosen : (b : Bool) (x y : Meaning) → AcknowledgesSent x → (b ≡ false → AcknowledgesSent y) → AcknowledgesSent (if b then x else y)
-  chosen true x y first second = first
-  chosen false x y first second = second refl
+  chosen = elim [ true ↦ λ x y first second. first | false ↦ λ x y first second. second refl ]
 
   not_ahead : (acknowledged : ℕ) → nat_lt s.send.nxt acknowledged ≡ false → acknowledged ≤ s.send.nxt
   not_ahead acknowledged low = grind (arith, low)

@@ -30,8 +30,7 @@ module _ (spelling : Spelling) (from : Side) where
   with_bit s = record s { payload = changes.with_turned_bit s.payload }
 
   length_turned : (bytes : List ℕ) → length (changes.with_turned_bit bytes) ≡ length bytes
-  length_turned [] = refl
-  length_turned (first ∷ rest) = refl
+  length_turned = elim [ [] ↦ refl | first ∷ rest ↦ refl ]
 
   bit_said : (s : PlainSegment) → CanSay spelling from s → CanSay spelling from (with_bit s)
   bit_said s can = record {

@@ -23,11 +23,8 @@ module _ {C : Type 0} (P : List Duty → Type 0) (s : Side) (p : PathState C) (f
   by_verdict Verdict.SendFail = done
 
   by_control : (reply : ControlReply) → P (fell_duties s (Reply.Control reply) p)
-  by_control (ControlReply.Verdict v) = by_verdict v
-  by_control ControlReply.Noted = done
-  by_control _ = done
+  by_control = elim [ ControlReply.Verdict v ↦ by_verdict v | ControlReply.Noted ↦ done | _ ↦ done ]
 
   -- what holds of each of these agendas holds of that which follows
   pub after_a_verdict : (r : Reply) → P (fell_duties s r p)
-  after_a_verdict (Reply.Control reply) = by_control reply
-  after_a_verdict _ = done
+  after_a_verdict = elim [ Reply.Control reply ↦ by_control reply | _ ↦ done ]

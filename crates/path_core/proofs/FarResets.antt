@@ -103,8 +103,7 @@ module _ (c : Copy) (pos : ℕ) (tcp : EndState) (far : tcp.recv.edge + 2 ^ 31 �
       (sym (far_unacceptable tcp.recv.edge pos placed far))
 
   answering : (acknowledged : Option ℕ) → meaning_answering acknowledged nowhere tcp ≡ meaning_answering acknowledged placed tcp
-  answering None = refl
-  answering (Some acknowledged) = refl
+  answering = elim [ None ↦ refl | Some acknowledged ↦ refl ]
 
   by_phase : (state : EndPhase) → meaning_at state nowhere tcp ≡ meaning_at state placed tcp
   by_phase EndPhase.Dead = refl

@@ -113,8 +113,7 @@ module _ (joined : Bool) (s : Side) (window : ℕ) (spelling : Spelling) (from :
   things option = length (items_in joined s window option)
 
   one_if : (b : Bool) (item : Heard) → length (if b then item ∷ [] else []) ≤ 1
-  one_if true item = omega arith
-  one_if false item = omega arith
+  one_if = elim [ true ↦ λ item. omega arith | false ↦ λ item. omega arith ]
 
   acks_few : (next : Option (Option ℕ)) → length (ack_items next window) ≤ 1
   acks_few None = omega arith

@@ -4,12 +4,10 @@ use Rattle.path_core.proofs.Words.{Record, EndState, is_at_limit, may_finish, Pa
 use Rattle.std.specs.Prelude.{nat_le}
 
 first_true : (a b : Bool) → (a && b) ≡ true → a ≡ true
-first_true true b is = refl
-first_true false b is = is
+first_true = elim [ true ↦ λ b is. refl | false ↦ λ b is. is ]
 
 second_true : (a b : Bool) → (a && b) ≡ true → b ≡ true
-second_true true b is = is
-second_true false b is = cc
+second_true = elim [ true ↦ λ b is. is | false ↦ λ b is. cc ]
 
 pub may_state : (c : Profile) (s : Side) (e : PathEnd) → may_ask c s e ≡ true → IsTrue (may_finish e.tcp.state)
 may_state c s e is = first_true _ _ is

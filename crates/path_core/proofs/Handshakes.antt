@@ -13,8 +13,7 @@ use Rattle.path_core.specs.Unnumbered.{unnumbered}
 pub first_is_said : (checksums : Bool) (own peer len checksum : ℕ)
     → unnumbered (first_data_option own peer len (if checksums then Some checksum else None))
     ≡ Capable checksums false (WithData own peer len (if checksums then Some checksum else None)) ∷ []
-first_is_said true own peer len checksum = refl
-first_is_said false own peer len checksum = refl
+first_is_said = elim [ true ↦ λ own peer len checksum. refl | false ↦ λ own peer len checksum. refl ]
 
 heard : (flag_a flag_c : Bool) (keys : CapableKeys) → CapableIsHeard flag_a flag_c keys
 heard flag_a flag_c NoKey = record { syn = refl; syn_ack = refl; ack = refl }
@@ -24,8 +23,7 @@ checksums : (c : Profile) → ChecksumsAreThose c
 checksums c = record { syn = same c.spelling.checksums; syn_ack = λ own_key. same c.spelling.checksums }
   where
     same : (used : Bool) → Some (used || used) ≡ Some used
-    same true = refl
-    same false = refl
+    same = elim [ true ↦ refl | false ↦ refl ]
 
 same_is : (a b : ℕ) → a ≡ b → (a == b) ≡ true
 same_is a b e = grind (arith, e)

@@ -26,8 +26,7 @@ due_now clock tick now = (elim (nat_le tick clock) as (λ b. nat_le tick clock �
     [ true ↦ λ is. refl | false ↦ λ is. absurd (omega (arith, leb-false _ _ is, now)) ]) refl
 
 same_itself : (s : Side) → same_side s s ≡ true
-same_itself A = refl
-same_itself B = refl
+same_itself = elim [ A ↦ refl | B ↦ refl ]
 
 -- ---- a death
 

@@ -9,8 +9,7 @@ taken_for m c s (inr means) some = means
 
 module _ (rst : Bool) (items : List Heard) (e : PathEnd) (P : Meaning → Type 0) (none : P Meaning.Ignored) where
   unless_silent : (silent : Bool) (m : Meaning) → P m → P (taken_as (if silent then Judged.As Meaning.Ignored else Judged.As m))
-  unless_silent true m holds = none
-  unless_silent false m holds = holds
+  unless_silent = elim [ true ↦ λ m holds. none | false ↦ λ m holds. holds ]
 
   join_taken : (m : Meaning) → P m → P (taken_as (join_judged rst items m e))
   join_taken Meaning.Opens holds = elim (is_some (join_asked items)) as (λ asks. P (taken_as (if asks then Judged.Asks else Judged.Lacks))) [ true ↦ none | false ↦ none ]
@@ -29,5 +28,4 @@ module _ (rst : Bool) (items : List Heard) (e : PathEnd) (P : Meaning → Type 0
 
   -- what holds of nothing and of the meaning holds of what it is taken as
   pub judged_taken : (joined : Bool) (m : Meaning) → P m → P (taken_as (judged_of joined rst items m e))
-  judged_taken true m holds = join_taken m holds
-  judged_taken false m holds = holds
+  judged_taken = elim [ true ↦ λ m holds. join_taken m holds | false ↦ λ m holds. holds ]

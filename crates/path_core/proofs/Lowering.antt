@@ -62,16 +62,13 @@ grant_kind path max standby s (Reply.Send (SendReply.Taken count)) grant e kind 
 grant_kind path max standby s _ grant e kind = cc
 
 first_true : (x y : Bool) → (x && y) ≡ true → x ≡ true
-first_true true y both = refl
-first_true false y both = cc
+first_true = elim [ true ↦ λ y both. refl | false ↦ λ y both. cc ]
 
 second_true : (x y : Bool) → (x && y) ≡ true → y ≡ true
-second_true true y both = both
-second_true false y both = cc
+second_true = elim [ true ↦ λ y both. both | false ↦ λ y both. cc ]
 
 one_shorter : (queue : List OwnNotice) → not (is_nil queue) ≡ true → length (tail_of queue) < length queue
-one_shorter [] some = cc
-one_shorter (notice ∷ queue) some = omega arith
+one_shorter = elim [ [] ↦ λ some. cc | notice ∷ queue ↦ λ some. omega arith ]
 
 -- what is asked for has room
 asked_fits : (c : Profile) (s : Side) (e : PathEnd) → may_ask c s e ≡ true → payload_size c ≤ room e.tcp

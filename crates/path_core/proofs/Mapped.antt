@@ -20,16 +20,14 @@ found_begins p (kept ∷ live) = by (covers p (run_of kept)) refl (found_begins 
   where
     by : (b : Bool) → covers p (run_of kept) ≡ b → IfSome (find (λ kept. covers p (run_of kept)) live) (λ kept. kept.pos ≤ p)
         → IfSome (cond b (Some kept) (find (λ kept. covers p (run_of kept)) live)) (λ kept. kept.pos ≤ p)
-    by true is rest = begins p kept is
-    by false is rest = rest
+    by = elim [ true ↦ λ is rest. begins p kept is | false ↦ λ is rest. rest ]
 
 pub mapping_begins : (v : Mappings) (p : ℕ) → IfSome (mapping_at v p) (λ kept. kept.pos ≤ p)
-mapping_begins v p = by (nat_lt p v.forgotten) (found_begins p v.live)
-  where
-    by : (b : Bool) → IfSome (find (λ kept. covers p (run_of kept)) v.live) (λ kept. kept.pos ≤ p)
-        → IfSome (if b then None else find (λ kept. covers p (run_of kept)) v.live) (λ kept. kept.pos ≤ p)
-    by true rest = tt
-    by false rest = rest
+mapping_begins v p =
+    (elim (nat_lt p v.forgotten) as (λ b. IfSome (find (λ kept. covers p (run_of kept)) v.live) (λ kept. kept.pos ≤ p) → IfSome (if b then None else find (λ kept. covers p (run_of kept)) v.live) (λ kept. kept.pos ≤ p)) [
+      | true ↦ λ rest. tt
+      | false ↦ λ rest. rest
+    ]) (found_begins p v.live)
 
 -- ---- the mappings that a copy says
 

@@ -9,8 +9,7 @@ module _ (position : ℕ) (octets : List ℕ) (s : EndState) where
   held = after_holding position octets s
 
   acknowledging : (acknowledged : Option ℕ) (pos : ℕ) → meaning_acknowledging acknowledged pos held ≡ meaning_acknowledging acknowledged pos s
-  acknowledging None pos = refl
-  acknowledging (Some acknowledged) pos = refl
+  acknowledging = elim [ None ↦ λ pos. refl | Some acknowledged ↦ λ pos. refl ]
 
   within : (pos : ℕ) (c : Copy) → meaning_within pos c held ≡ meaning_within pos c s
   within pos c =
@@ -26,8 +25,7 @@ module _ (position : ℕ) (octets : List ℕ) (s : EndState) where
       ap (λ (m : Meaning). if is_at_limit s then Meaning.Ignored else (if is_repeated_syn c s then Meaning.RepeatedSyn else m)) (placed c.position c)
 
   answering : (acknowledged : Option ℕ) (c : Copy) → meaning_answering acknowledged c held ≡ meaning_answering acknowledged c s
-  answering None c = refl
-  answering (Some acknowledged) c = refl
+  answering = elim [ None ↦ λ c. refl | Some acknowledged ↦ λ c. refl ]
 
   opening : (c : Copy) → meaning_opening c held ≡ meaning_opening c s
   opening c = ap (λ (m : Meaning). if is_at_limit s then Meaning.Ignored else m) (answering c.acknowledged c)

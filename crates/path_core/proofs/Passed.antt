@@ -23,8 +23,7 @@ module _ {C : Type 0} where
   }
 
   timeout_at : (s : Side) (p : PathState C) → TakesTime p → 1 ≤ (end_at s p).tcp.timing.rtt.rto
-  timeout_at A p t = t.timer_a
-  timeout_at B p t = t.timer_b
+  timeout_at = elim [ A ↦ λ p t. t.timer_a | B ↦ λ p t. t.timer_b ]
 
   unchanged : (p : PathState C) → TakesTime p → Calm p p
   unchanged p t = record { ticks = omega arith; due = omega arith; time = t }
@@ -83,5 +82,4 @@ module _ {C : Type 0} where
           → ((weights (if b then with_agenda (d ∷ ds) p else settled ds (passed d p)).agenda < weights (d ∷ ds))
           × Calm p (if b then with_agenda (d ∷ ds) p else settled ds (passed d p)))
           ⊎ ((if b then with_agenda (d ∷ ds) p else settled ds (passed d p)) ≡ with_agenda (d ∷ ds) p)
-      by true rest = inr refl
-      by false rest = inl (more rest)
+      by = elim [ true ↦ λ rest. inr refl | false ↦ λ rest. inl (more rest) ]

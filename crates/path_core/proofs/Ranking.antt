@@ -1,5 +1,5 @@
 -- What lowers the numbers of a turn, and what doesn't raise the first two.
-use Rattle.path_core.proofs.Words.{◌≡◌, refl, ◌∙◌, ℕ, ◌+◌, ◌<◌, ◌≤◌, nat_le, Bool, true, false, if◌then◌else◌, List, [], ◌∷◌, arith, cond, leb-true, Side, A, B}
+use Rattle.path_core.proofs.Words.{◌≡◌, refl, ◌∙◌, ℕ, ◌+◌, ◌<◌, ◌≤◌, nat_le, true, false, if◌then◌else◌, List, [], ◌∷◌, arith, cond, leb-true, Side, A, B}
 use Rattle.path_core.proofs.Words.{after_send, arrivals, with_flights, comes_before, with_flight, Flight, PlainSegment, Duty, weights, Then, Less, PathState}
 use Rattle.path_core.proofs.Words.{end_at, with_agenda, goes_on, PathEnd, Codec, TakesTime, ticks_left, one_if_due, due_copies, due_timer, due_by_now}
 use Rattle.path_core.proofs.Words.{bytes_left, sendings_left, sent_on}
@@ -16,12 +16,11 @@ late_isn't clock tick later = (elim (nat_le tick clock) as (λ b. nat_le tick cl
 module _ {C : Type 0} where
   one_later : (clock : ℕ) (f : Flight C) (flights : List (Flight C)) → clock < f.tick → due_copies clock (with_flight f flights) ≡ due_copies clock flights
   one_later clock f [] later = omega (arith, late_isn't clock f.tick later)
-  one_later clock f (g ∷ flights) later = by (comes_before f g) (one_later clock f flights later)
-    where
-      by : (b : Bool) → due_copies clock (with_flight f flights) ≡ due_copies clock flights
-          → due_copies clock (cond b (f ∷ g ∷ flights) (g ∷ with_flight f flights)) ≡ due_copies clock (g ∷ flights)
-      by true more = omega (arith, late_isn't clock f.tick later)
-      by false more = omega (arith, more)
+  one_later clock f (g ∷ flights) later =
+      (elim (comes_before f g) as (λ b. due_copies clock (with_flight f flights) ≡ due_copies clock flights → due_copies clock (cond b (f ∷ g ∷ flights) (g ∷ with_flight f flights)) ≡ due_copies clock (g ∷ flights)) [
+        | true ↦ λ more. omega (arith, late_isn't clock f.tick later)
+        | false ↦ λ more. omega (arith, more)
+      ]) (one_later clock f flights later)
 
   some_later : (clock : ℕ) (to : Side) (number : ℕ) (carried : C) (fate : Fate) (tick : ℕ) (flights : List (Flight C)) → clock < tick
       → due_copies clock (with_flights to number carried (arrivals fate tick) flights) ≡ due_copies clock flights

@@ -32,14 +32,12 @@ to_rests clock e f settles = record { due = settles.due; timeout = settles.timeo
 -- ---- sendings
 
 pub sent_same : (occasion : Occasion) (now : ℕ) (s : EndState) → (after_sending occasion now s).timing ≡ s.timing
-sent_same Occasion.Reset now s = refl
-sent_same _ now s = refl
+sent_same = elim [ Occasion.Reset ↦ λ now s. refl | _ ↦ λ now s. refl ]
 
 -- ---- arrivals
 
 sampled_time : (since : Option ℕ) (now : ℕ) (rtt : Timer) → 1 ≤ rtt.rto → 1 ≤ (timers.sampled since now rtt).rto
-sampled_time None now rtt some = some
-sampled_time (Some first) now rtt some = omega arith
+sampled_time = elim [ None ↦ λ now rtt some. some | Some first ↦ λ now rtt some. omega arith ]
 
 kind_settles : (clock : ℕ) (kind : AckKind) (since : Option ℕ) (now : ℕ) (s : EndState) → Settles clock s.timing (after_ack_kind kind since now s).timing
 kind_settles clock (New octets) since now s = record { due = omega arith; timeout = sampled_time since now s.timing.rtt }
@@ -104,16 +102,13 @@ settled_settles now reason restart t some = record { due = by reason (is_none t.
 -- ---- what is passed in silence
 
 either_same : (b : Bool) (f e : PathEnd) → f.tcp ≡ e.tcp → (if b then f else e).tcp ≡ e.tcp
-either_same true f e same = same
-either_same false f e same = refl
+either_same = elim [ true ↦ λ f e same. same | false ↦ λ f e same. refl ]
 
 either_timed : (b : Bool) (f e : PathEnd) → f.tcp.timing ≡ e.tcp.timing → (if b then f else e).tcp.timing ≡ e.tcp.timing
-either_timed true f e same = same
-either_timed false f e same = refl
+either_timed = elim [ true ↦ λ f e same. same | false ↦ λ f e same. refl ]
 
 mapping_same : (b : Bool) (e : PathEnd) → (if b then with_learned e else with_skipped e).tcp ≡ e.tcp
-mapping_same true e = refl
-mapping_same false e = refl
+mapping_same = elim [ true ↦ λ e. refl | false ↦ λ e. refl ]
 
 pub item_same : (s : Side) (item : Option Heard) (e : PathEnd) → (item_passed s item e).tcp ≡ e.tcp
 item_same s (Some (Heard.Mapping fin)) e = mapping_same (counts e) e
@@ -129,8 +124,7 @@ check_same checksums (Some kept) e =
     either_timed (is_wrong checksums kept e.tcp) (record e { tcp = record e.tcp { recv = after_forget_from kept.pos e.tcp.recv } }) e refl
 
 pub pass_fin_same : (b : Bool) (s : EndState) → (if b then after_passing_fin s else s).timing ≡ s.timing
-pass_fin_same true s = refl
-pass_fin_same false s = refl
+pass_fin_same = elim [ true ↦ λ s. refl | false ↦ λ s. refl ]
 
 -- ---- verdicts that note something
 

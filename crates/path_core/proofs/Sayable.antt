@@ -109,8 +109,7 @@ short_reset transient reason = omega arith
 
 -- a checksum stands exactly where checksums are used
 told_form : (used : Bool) (checksum : ℕ) → is_some (if used then Some checksum else None) ≡ used
-told_form true checksum = refl
-told_form false checksum = refl
+told_form = elim [ true ↦ λ checksum. refl | false ↦ λ checksum. refl ]
 
 -- ---- options
 
@@ -358,8 +357,7 @@ module _ (c : Profile) (s : Side) (e : PathEnd) (path : c.spelling.path ≤ 15) 
   syn_ack_can = says (syn_ack_segment e.tcp) (syn_options c s e) [] (syn_short c s e) (omega arith)
 
   answer_can : (syn_ack : Bool) → CanBeSaid c.spelling s (if syn_ack then syn_ack_said c s e else ack_said c s e.tcp.send.nxt None e)
-  answer_can true = syn_ack_can
-  answer_can false = ack_can e.tcp.send.nxt None
+  answer_can = elim [ true ↦ syn_ack_can | false ↦ ack_can e.tcp.send.nxt None ]
 
   pub noted_can : (notice : Option OwnNotice) → IfSome notice HasAddress → CanBeSaid c.spelling s (noted_said c s notice e)
   noted_can (Some notice) has =

@@ -52,8 +52,7 @@ module _ {C : Type 0} where
   passed_link _ p = refl
 
   either_link : (b : Bool) (p q r : PathState C) → q.link ≡ p.link → r.link ≡ p.link → (if b then q else r).link ≡ p.link
-  either_link true p q r same other = same
-  either_link false p q r same other = other
+  either_link = elim [ true ↦ λ p q r same other. same | false ↦ λ p q r same other. other ]
 
   settled_link : (ds : List Duty) (p : PathState C) → (settled ds p).link ≡ p.link
   settled_link [] p = refl
@@ -227,8 +226,7 @@ step_is p t =
     (sym (made_sum p.profile.spelling t.from (segment_sent p t)))
 
 told_where : (sent : Option ToSend) (p : PathState (List ℕ)) → HandsOrTellsNone octets p sent → IsTold (option_map (departing_as p) sent) p
-told_where None p hands = tt
-told_where (Some t) p hands = hands.told ∙ ap Some (step_is p t)
+told_where = elim [ None ↦ λ p hands. tt | Some t ↦ λ p hands. hands.told ∙ ap Some (step_is p t) ]
 
 departing_told : (p : PathState (List ℕ)) → IsTold (departing p) p
 departing_told p = told_where (first_sends p.agenda p) p (each_segment_is_told octets p)

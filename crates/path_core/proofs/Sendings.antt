@@ -14,8 +14,7 @@ sent_count now (x ∷ xs) r e = by (is_unsent x) refl (sent_count now xs r) e
     by : (b : Bool) → is_unsent x ≡ b → (find is_unsent xs ≡ Some r → unsent_count (first_unsent_sent now xs) + 1 ≡ unsent_count xs)
         → cond b (Some x) (find is_unsent xs) ≡ Some r
         → unsent_count (first_unsent_sent now (x ∷ xs)) + 1 ≡ unsent_count (x ∷ xs)
-    by true is rest e = rw is (omega arith)
-    by false is rest e = rw is (omega (arith, rest e))
+    by = elim [ true ↦ λ is rest e. rw is (omega arith) | false ↦ λ is rest e. rw is (omega (arith, rest e)) ]
 
 pub sent_outstanding : (now una : ℕ) (rs : List Record) → outstanding una (first_unsent_sent now rs) ≡ outstanding una rs
 sent_outstanding now una [] = refl
@@ -84,16 +83,13 @@ piece_fits checksums (Some kept) s piece e = checked_fits checksums (is_whole ke
 -- under an infinite mapping some of what is in order is placed
 pub placed_fits : (place : Option ℕ) (s : EndState) (piece : Piece) → piece_at place s ≡ Some piece → Fits s piece
 placed_fits None s piece e = cc
-placed_fits (Some place) s piece e = by (nat_lt 0 (length found.octets)) refl e
+placed_fits (Some place) s piece e = (elim (nat_lt 0 (length found.octets)) as (λ b. nat_lt 0 (length found.octets) ≡ b → (if b then Some found else None) ≡ Some piece → Fits s piece) [
+  | true ↦ λ is e. let same : found ≡ piece = cc in subst (Fits s) same (record { some = omega (arith, ltb-true _ _ is); within = omega (arith, length-take (2 ^ 62 - place) (filled s.recv.places)) })
+  | false ↦ λ is e. cc
+]) refl e
   where
     found : Piece
     found = record { place = place; octets = take (2 ^ 62 - place) (filled s.recv.places) }
-
-    by : (b : Bool) → nat_lt 0 (length found.octets) ≡ b → (if b then Some found else None) ≡ Some piece → Fits s piece
-    by true is e =
-        let same : found ≡ piece = cc in
-        subst (Fits s) same (record { some = omega (arith, ltb-true _ _ is); within = omega (arith, length-take (2 ^ 62 - place) (filled s.recv.places)) })
-    by false is e = cc
 
 pub infinite_fits : (mapping : Option InfiniteMapping) (s : EndState) (piece : Piece) → infinite_piece mapping s ≡ Some piece → Fits s piece
 infinite_fits None s piece e = cc

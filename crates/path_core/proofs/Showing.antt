@@ -55,8 +55,7 @@ same_stands (Duty.Step StepDuty.Events) p = ap is_some (same_event p)
 same_stands _ p = refl
 
 same_taken : (s : Side) (spelling : Spelling) (link : LinkState Carried) → segments_sent s (with_copies_shown (octets_of spelling) link) ≡ segments_sent s link
-same_taken A spelling link = refl
-same_taken B spelling link = refl
+same_taken = elim [ A ↦ λ spelling link. refl | B ↦ λ spelling link. refl ]
 
 same_sends : (s : Side) (segment : PlainSegment) (p : PathState Carried) → sends octets s segment (shown_path p) ≡ sends values s segment p
 same_sends s segment p = rw (same_taken s p.profile.spelling p.link) refl
@@ -292,8 +291,7 @@ same_plain_fin s false p = refl
 same_begun : (never : Bool) (r : Reply) (dead living : List Duty) (p : PathState Carried)
     → (if never then goes_on A (never_joined r (end_at A p)) dead (shown_path p) else goes_on A (opened_by (keys_begun r) (end_at A p)) living (shown_path p))
     ≡ shown_path (if never then goes_on A (never_joined r (end_at A p)) dead p else goes_on A (opened_by (keys_begun r) (end_at A p)) living p)
-same_begun true r dead living p = refl
-same_begun false r dead living p = refl
+same_begun = elim [ true ↦ λ r dead living p. refl | false ↦ λ r dead living p. refl ]
 
 same_join_again : (never : Bool) (r : Reply) (p : PathState Carried)
     → (if never then goes_on A (never_joined r (end_at A p)) (replaced (Duty.Ask (AskDuty.Leave A)) p.agenda) (shown_path p)
@@ -320,8 +318,7 @@ module _ (show : Carried → List ℕ) where
       by : (b : Bool) → find (is_due due) (map (shown_flight show) flights) ≡ option_map (shown_flight show) (find (is_due due) flights)
           → cond b (Some (shown_flight show f)) (find (is_due due) (map (shown_flight show) flights))
           ≡ option_map (shown_flight show) (cond b (Some f) (find (is_due due) flights))
-      by true rest = refl
-      by false rest = rest
+      by = elim [ true ↦ λ rest. refl | false ↦ λ rest. rest ]
 
   same_place : (due : Due) (flights : List (Flight Carried)) → position_or_len (is_due due) (map (shown_flight show) flights) ≡ position_or_len (is_due due) flights
   same_place due [] = refl
@@ -342,16 +339,14 @@ module _ (show : Carried → List ℕ) where
       ap (λ flights. record (with_copies_shown show link) { under_way = flights }) gone
 
 same_line : (action : LineAction) (p : PathState Carried) → after_line action (shown_path p) ≡ shown_path (after_line action p)
-same_line LineAction.Die p = refl
-same_line _ p = refl
+same_line = elim [ LineAction.Die ↦ λ p. refl | _ ↦ λ p. refl ]
 
 same_copy_heard : (s : Side) (heard : Option HeardSegment) (p : PathState Carried) → copy_heard s heard (shown_path p) ≡ shown_path (copy_heard s heard p)
 same_copy_heard s None p = refl
 same_copy_heard s (Some h) p = refl
 
 heard_ack : (acknowledged : Option ℕ) → IsSome acknowledged → IsSome (option_map (λ n. At n) acknowledged)
-heard_ack (Some n) some = refl
-heard_ack None some = absurd (cc some)
+heard_ack = elim [ Some n ↦ λ some. refl | None ↦ λ some. absurd (cc some) ]
 
 -- a fresh copy is heard as it was meant, and a far reset without its position
 same_read : (s : Side) (o : Option (Flight Carried)) (p : PathState Carried) (q : PathState (List ℕ)) → end_at s q ≡ end_at s p
@@ -453,8 +448,7 @@ same_answered _ r p said fresh = refl
 
 same_answers : (ds : List Duty) (r : Reply) (p : PathState Carried) → IfSome (first_sends ds p) (CanBeAltered p) → NextIsFresh p
     → answers octets ds r (shown_path p) ≡ shown_path (answers values ds r p)
-same_answers [] r p said fresh = refl
-same_answers (d ∷ ds) r p said fresh = same_answered d r p said fresh
+same_answers = elim [ [] ↦ λ r p said fresh. refl | d ∷ ds ↦ λ r p said fresh. same_answered d r p said fresh ]
 
 pub takes_the_same : (r : Reply) (p : PathState Carried) → SentCanBeAltered p → NextIsFresh p → takes octets r (shown_path p) ≡ shown_path (takes values r p)
 takes_the_same r p said fresh =

@@ -44,8 +44,7 @@ module _ {C R : Type 0} where
   )
     where
       hit : (b : Bool) → eqb n 4611686018427387903 ≡ b → n ≡ 4611686018427387903 → eqb n 4611686018427387903 ≡ true
-      hit true e same = e
-      hit false e same = absurd (grind (arith, nat_tests))
+      hit = elim [ true ↦ λ e same. e | false ↦ λ e same. absurd (grind (arith, nat_tests)) ]
 
 -- where no stamp is left, the asker's pass stands at the last one, or the journal is full
 pub used_up : {O C R : Type 0} (s : Journaled O C R) (pass : Pass) → last_stamp 0 s.journal < 2 ^ 62 → 2 ^ 62 ≤ next_stamp s pass

@@ -257,8 +257,7 @@ module _ {A : Type 0} where
       [ inl here ↦ first (with_in books rider.pass k y here) | inr later ↦ inr (suc later.0, omega (arith, later.1), λ d. later.2 d) ]
     where
       first : In y (list_at (by_book (notes_by books)) k) ⊎ InPass k y rider.pass → In y (list_at (by_book (notes_by books)) k) ⊎ SomePass (rider ∷ riders) k y
-      first (inl old) = inl old
-      first (inr new) = inr (0, omega arith, λ d. new)
+      first = elim [ inl old ↦ inl old | inr new ↦ inr (0, omega arith, λ d. new) ]
 
   joined_stays : (books : SixKnown) (riders : List (Rider A)) (k : ℕ) (y : Note) → In y (list_at (by_book (notes_by books)) k)
       → In y (list_at (by_book (notes_by (all_joined books riders))) k)

@@ -20,8 +20,7 @@ same_code (gcons a b) (gnum n) = false
 same_code (gcons a b) (gcons c d) = same_code a c && same_code b d
 
 both_true : (a b : Bool) → (a && b) ≡ true → (a ≡ true) × (b ≡ true)
-both_true true b e = (refl, e)
-both_true false b e = cc
+both_true = elim [ true ↦ λ b e. (refl, e) | false ↦ λ b e. cc ]
 
 code_itself : (g : Gv) → same_code g g ≡ true
 unfolding same_code
@@ -96,8 +95,7 @@ module _ {O C R : Type 0} where
   gains_nothing start book full gains = gains.new_is ∙ ap (λ log. grown start log) (none gains.gained (gains.often (λ _. 1))) ∙ sym (grown-none start)
     where
       none : (log : List (Entry C R)) → 0 ≡ weigh (λ _. 1) log → log ≡ []
-      none [] e = refl
-      none (x ∷ log) e = absurd (omega (arith, e))
+      none = elim [ [] ↦ λ e. refl | x ∷ log ↦ λ e. absurd (omega (arith, e)) ]
 
   abbrev IsLock : TableId → Journaled O C R → Locked O C R → Type 0
   IsLock table start lock = locked table start ≡ lock

@@ -83,12 +83,10 @@ refused_stamps (Some Memory) e = cc
 refused_stamps (Some Stamps) e = refl
 
 first_of : (a b : Bool) → (a || b) ≡ false → a ≡ false
-first_of false b e = refl
-first_of true b e = e
+first_of = elim [ false ↦ λ b e. refl | true ↦ λ b e. e ]
 
 rest_of : (a b : Bool) → (a || b) ≡ false → b ≡ false
-rest_of false b e = e
-rest_of true b e = cc
+rest_of = elim [ false ↦ λ b e. e | true ↦ λ b e. cc ]
 
 unrefused : (o : Option Refusal) → refused_by Memory o ≡ false → refused_by Stamps o ≡ false → o ≡ None
 unrefused None memory stamps = refl

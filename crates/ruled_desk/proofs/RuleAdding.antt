@@ -12,8 +12,7 @@ same_last [] x y e = cc
 same_last (z ∷ xs) x y e = same_last xs x y cc
 
 or_true : (a b : Bool) → (a || b) ≡ true → (a ≡ true) ⊎ (b ≡ true)
-or_true true b e = inl refl
-or_true false b e = inr e
+or_true = elim [ true ↦ λ b e. inl refl | false ↦ λ b e. inr e ]
 
 -- what the slot that was taken last has
 abbrev held_or : {X : Type 0} → X → Option X → X

@@ -58,8 +58,7 @@ module _ {O C R : Type 0} (start : Journaled O C R) where
       }
 
   or_true : (a b : Bool) → (a || b) ≡ true → (a ≡ true) ⊎ (b ≡ true)
-  or_true true b e = inl refl
-  or_true false b e = inr e
+  or_true = elim [ true ↦ λ b e. inl refl | false ↦ λ b e. inr e ]
 
   -- a seat's entries and notes go over to another
   pub joins : (seat : ℕ) (v : View (Journaled O C R) (Entry C R)) (other : ℕ) (w : View (Journaled O C R) (Entry C R)) → 1 ≤ v.parts → IsAtRest v → IsAtRest w

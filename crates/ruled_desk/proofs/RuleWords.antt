@@ -5,8 +5,7 @@ use Rattle.ruled_desk.proofs.Words.{one_turn, Journaled, Entry, View, HasLastSta
 use Rattle.ruled_desk.proofs.Weights.{weigh-one, weigh-two, weigh-le, span-ones}
 
 pub one_out : (b : Bool) → 1 ≤ bit b → b ≡ true
-one_out true some_one = refl
-one_out false some_one = absurd (omega (arith, some_one))
+one_out = elim [ true ↦ λ some_one. refl | false ↦ λ some_one. absurd (omega (arith, some_one)) ]
 
 pub length_none : {X : Type 0} (xs : List X) → length xs ≡ 0 → xs ≡ []
 length_none [] e = refl
@@ -15,14 +14,10 @@ length_none (x ∷ xs) e = absurd (omega (arith, e))
 -- a number that has weight in a span lies in it
 pub span-in : (n first count : ℕ) → 1 ≤ span (λ k. bit (eqb k n)) first count → (first ≤ n) × (n < first + count)
 span-in n first zero some_one = absurd (omega (arith, some_one))
-span-in n first (suc count) some_one = by (eqb first n) refl (span-in n (suc first) count)
-  where
-    by : (b : Bool) → eqb first n ≡ b → (1 ≤ span (λ k. bit (eqb k n)) (suc first) count → (suc first ≤ n) × (n < suc first + count)) → (first ≤ n) × (n < first + suc count)
-    by true e later = let same : first ≡ n = grind (arith, nat_tests) in (omega (arith, same), omega (arith, same))
-    by false e later =
-        let none : bit (eqb first n) ≡ 0 = ap bit e in
-        let there = later (omega (arith, some_one, none)) in
-        (omega (arith, there.0), omega (arith, there.1))
+span-in n first (suc count) some_one = (elim (eqb first n) as (λ b. eqb first n ≡ b → (1 ≤ span (λ k. bit (eqb k n)) (suc first) count → (suc first ≤ n) × (n < suc first + count)) → (first ≤ n) × (n < first + suc count)) [
+  | true ↦ λ e later. let same : first ≡ n = grind (arith, nat_tests) in (omega (arith, same), omega (arith, same))
+  | false ↦ λ e later. let none : bit (eqb first n) ≡ 0 = ap bit e in let there = later (omega (arith, some_one, none)) in (omega (arith, there.0), omega (arith, there.1))
+]) refl (span-in n (suc first) count)
 
 module _ {C R : Type 0} where
   -- a full journal stays full

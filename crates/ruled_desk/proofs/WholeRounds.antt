@@ -4,7 +4,7 @@ use Rattle.ruled_desk.proofs.Words.{◌∷◌, ◌++◌, length, map, take, drop
 use Rattle.ruled_desk.proofs.Words.{All, slice_index_or, list_any, Journaled, Entry, Refusal, Memory, Stamps, Ask, Note, Reply, send_note, reassembly_note}
 use Rattle.ruled_desk.proofs.Words.{control_note, Crew, is_refused, Turned, HasLastStamp, GainsJust, Rider, AreNumbered, HasPass, NotesFull, OneIsUsedUp, Rode}
 use Rattle.ruled_desk.proofs.Words.{all_joined, given_pass, is_rider_refused, known_with, pass_taken, SixLocked, SixKnown, Passed, nothing_known, AllGainJust}
-use Rattle.ruled_desk.proofs.Words.{all_known, notes_full, AllTurned, AreActors, EndsAsTurns, IsWholeRound, OneIsFull, OneKnowsLast, crew_of, without_pass}
+use Rattle.ruled_desk.proofs.Words.{all_known, notes_full, AreActors, EndsAsTurns, IsWholeRound, OneIsFull, OneKnowsLast, crew_of, without_pass}
 use Rattle.std.proofs.Math.Seq.{take-append_seam}
 use Rattle.sides.specs.declared.side.Side.{Side}
 use Rattle.actor_desk.specs.Books.{StampedBooks}
@@ -168,12 +168,10 @@ module _ {A : Type 0} (asks : A → Option Ask) (takes : Reply → A → A) (des
 -- ---- stamps are used up
 
 or_left : (a b : Bool) → a ≡ true → (a || b) ≡ true
-or_left true b e = refl
-or_left false b e = cc
+or_left = elim [ true ↦ λ b e. refl | false ↦ λ b e. cc ]
 
 or_right : (a b : Bool) → b ≡ true → (a || b) ≡ true
-or_right true b e = refl
-or_right false b e = e
+or_right = elim [ true ↦ λ b e. refl | false ↦ λ b e. e ]
 
 -- what was noted stays noted
 full_stays : (ask : Ask) (books more : SixKnown) → notes_full ask books ≡ true → notes_full ask (all_known books more) ≡ true

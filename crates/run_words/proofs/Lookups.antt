@@ -29,8 +29,7 @@ first_option choice position (option other v ∷ parts) = go (bytes_eq (label ot
   where
     go : (b : Bool) → bytes_eq (label other) (label choice) ≡ b → first_of (label choice) (rows_for position parts) ≡ slice_get (values_of choice parts) 0
         → first_of (label choice) (row (label other) v ∷ rows_for position parts) ≡ slice_get (values_of choice (option other v ∷ parts)) 0
-    go true e later = rw e refl
-    go false e later = rw e later
+    go = elim [ true ↦ λ e later. rw e refl | false ↦ λ e later. rw e later ]
 first_option choice position (name v ∷ parts) =
     let apart = id_differs position choice in
     rw apart (first_option choice (suc position) parts)
@@ -50,8 +49,7 @@ first_name q position (name v ∷ parts) = go (bytes_eq (id_at position) (id_at 
   where
     go : (b : Bool) → bytes_eq (id_at position) (id_at q) ≡ b → first_of (id_at q) (rows_for (suc position) parts) ≡ first_of (id_at q) (name_rows (suc position) (names_of parts))
         → first_of (id_at q) (row (id_at position) v ∷ rows_for (suc position) parts) ≡ first_of (id_at q) (row (id_at position) v ∷ name_rows (suc position) (names_of parts))
-    go true e later = rw e refl
-    go false e later = rw e later
+    go = elim [ true ↦ λ e later. rw e refl | false ↦ λ e later. rw e later ]
 
 then_all_none : {A B : Type 0} (o : Option A) (f : A → Option B) → ((x : A) → f x ≡ None) → (o >>= f) ≡ None
 then_all_none None f h = refl

@@ -31,8 +31,7 @@ ids_are_no_labels (suc (suc (suc (suc (suc zero))))) = refl
 ids_are_no_labels (suc (suc (suc (suc (suc (suc n)))))) = refl
 
 is_false : (b : Bool) → not b ≡ true → b ≡ false
-is_false true e = absurd (true≢false (sym e))
-is_false false e = refl
+is_false = elim [ true ↦ λ e. absurd (true≢false (sym e)) | false ↦ λ e. refl ]
 
 pub id_differs : (position : ℕ) (choice : Choice) → bytes_eq (id_at position) (label choice) ≡ false
 id_differs position mode_option = is_false _ (and_parts (not (bytes_eq (id_at position) (codes "mode"))) _ (ids_are_no_labels position)).0

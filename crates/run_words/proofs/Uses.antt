@@ -57,24 +57,19 @@ then_some None = refl
 then_some (Some x) = refl
 
 pub or_else_assoc : (a b d : Kinds) → or_else (or_else a b) d ≡ or_else a (or_else b d)
-or_else_assoc [] b d = refl
-or_else_assoc (k ∷ ks) b d = refl
+or_else_assoc = elim [ [] ↦ λ b d. refl | k ∷ ks ↦ λ b d. refl ]
 
 pub or_else_nil : (a : Kinds) → or_else a [] ≡ a
-or_else_nil [] = refl
-or_else_nil (k ∷ ks) = refl
+or_else_nil = elim [ [] ↦ refl | k ∷ ks ↦ refl ]
 
 pub or_nothing : (b : Bool) → (b || false) ≡ b
-or_nothing true = refl
-or_nothing false = refl
+or_nothing = elim [ true ↦ refl | false ↦ refl ]
 
 pub no_several : (b : Bool) → (b && false) ≡ false
-no_several true = refl
-no_several false = refl
+no_several = elim [ true ↦ refl | false ↦ refl ]
 
 pub or_false : (a b : Bool) → (a || b) ≡ false → (a ≡ false) × (b ≡ false)
-or_false true b e = absurd (true≢false e)
-or_false false b e = (refl, e)
+or_false = elim [ true ↦ λ b e. absurd (true≢false e) | false ↦ λ b e. (refl, e) ]
 
 pub without_none : (id : Text) (rows : List Row) → has_row id rows ≡ false → without id rows ≡ rows
 without_none id [] e = refl
@@ -93,11 +88,10 @@ with_none id how vs (r ∷ rs) e =
 
 -- a use of a rule with one value
 pub use_agrees : (id : Text) (l : Option Text) (i : Option ℕ) (v : Text) (rows : List Row) → Agrees (use_fault false (plain id l i) (v ∷ []) rows) (used (plain id l i) (v ∷ []) rows) (new id v rows)
-use_agrees id l i v rows = go (has_row id rows) refl
-  where
-    go : (b : Bool) → has_row id rows ≡ b → Agrees (use_fault false (plain id l i) (v ∷ []) rows) (used (plain id l i) (v ∷ []) rows) (new id v rows)
-    go true e = rw e tt
-    go false e = rw e (ap (λ x. with_values id (reading_of ValueParser.String) CommandLine (v ∷ []) x) (without_none id rows e) ∙ with_none id (reading_of ValueParser.String) (v ∷ []) rows e)
+use_agrees id l i v rows = (elim (has_row id rows) as (λ b. has_row id rows ≡ b → Agrees (use_fault false (plain id l i) (v ∷ []) rows) (used (plain id l i) (v ∷ []) rows) (new id v rows)) [
+  | true ↦ λ e. rw e tt
+  | false ↦ λ e. rw e (ap (λ x. with_values id (reading_of ValueParser.String) CommandLine (v ∷ []) x) (without_none id rows e) ∙ with_none id (reading_of ValueParser.String) (v ∷ []) rows e)
+]) refl
 
 -- ---- what is pending
 

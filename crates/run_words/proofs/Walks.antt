@@ -46,8 +46,7 @@ reads (word ∷ rest) texts =
 -- ---- after the walk
 
 or_true : (b : Bool) → (b || true) ≡ true
-or_true true = refl
-or_true false = refl
+or_true = elim [ true ↦ refl | false ↦ refl ]
 
 no_default : (rows : List Row) (id : Text) (l : Option Text) (i : Option ℕ) (rest : List Rule) → defaults_fault rows (plain id l i ∷ rest) ≡ defaults_fault rows rest
 unfolding defaults_fault

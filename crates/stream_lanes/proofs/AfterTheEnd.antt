@@ -88,8 +88,7 @@ moves_done f path move None d = refl
 moves_done f path move (Some p) d = refl
 
 identity_done : (fell : Bool) (d : Direction) → (if fell then with_send GoIdentityBook d else d).reader ≡ d.reader
-identity_done true d = refl
-identity_done false d = refl
+identity_done = elim [ true ↦ λ d. refl | false ↦ λ d. refl ]
 
 infinite_done : (path pos : ℕ) (o : Option Lane) (d : Direction) → (goes_infinite path pos o d).reader ≡ d.reader
 infinite_done path pos None d = refl

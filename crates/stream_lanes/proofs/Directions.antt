@@ -30,8 +30,7 @@ use Rattle.stream_lanes.proofs.Replies.{ack_held, place_held, fin_held, ack_out_
 
 -- a move leaves the record as it is
 sent_if : (c : Bool) (p q : Lane) → q.sent ≡ p.sent → (if c then q else p).sent ≡ p.sent
-sent_if true p q same = same
-sent_if false p q same = refl
+sent_if = elim [ true ↦ λ p q same. same | false ↦ λ p q same. refl ]
 
 pub moved_sent : (f : Flags) (path : ℕ) (move : Move) (p : Lane) → (moved f path move p).sent ≡ p.sent
 moved_sent f path Open p = sent_if (f.answered || path == 0) p (record p { opened = true }) refl
@@ -60,12 +59,10 @@ moved_sent f path (Hear copy count) p = elim (slice_get p.datas copy) as (λ o. 
 moved_sent f path (Learn copy) p = elim (slice_get p.datas copy) as (λ o. (learns o p).sent ≡ p.sent) [ None ↦ refl | Some d ↦ by_mapping d.mapping ]
   where
     by_clash : (c : Bool) (m : Mapping) → (if c then p else record p { maps = p.maps ++ m ∷ [] }).sent ≡ p.sent
-    by_clash true m = refl
-    by_clash false m = refl
+    by_clash = elim [ true ↦ λ m. refl | false ↦ λ m. refl ]
 
     by_mapping : (o : Option Mapping) → (learns_mapping o p).sent ≡ p.sent
-    by_mapping None = refl
-    by_mapping (Some m) = by_clash (clashes m p.maps) m
+    by_mapping = elim [ None ↦ refl | Some m ↦ by_clash (clashes m p.maps) m ]
 moved_sent f path (HearDataFin copy) p = elim (slice_get p.data_fins copy) as (λ o. (hears_data_fin o p).sent ≡ p.sent) [ None ↦ refl | Some e ↦ refl ]
 moved_sent f path (HearFin copy) p = elim (slice_get p.fins copy) as (λ o. (hears_fin o p).sent ≡ p.sent)
     [ None ↦ refl | Some pos ↦ sent_if (pos == p.edge) p (record p { fin_in = true }) refl ]
@@ -85,8 +82,7 @@ moved_sent f path (SendAck next window sub) p = elim p.due as (λ c. (if c then 
 
 -- a reply leaves the record as it is, or makes it longer
 granted_more : (r : Result Span Why) (s : Sending) (p : Lane) (place : ℕ) → HasPlace p.sent place → HasPlace (takes_grant (reply_by r s) p).sent place
-granted_more (Ok span) s p place has = Has-more _ has
-granted_more (Err why) s p place has = has
+granted_more = elim [ Ok span ↦ λ s p place has. Has-more _ has | Err why ↦ λ s p place has. has ]
 
 pub acked_sent : (next : ℕ) (r : SendReply) (p : Lane) → (takes_ack next r p).sent ≡ p.sent
 acked_sent next (AckedBytes bytes fin) p = refl
@@ -97,8 +93,7 @@ placed_sent count (Placed new) p = refl
 placed_sent count _ p = refl
 
 pub fin_sent : (r : ReassemblyReply) (p : Lane) → (takes_fin r p).sent ≡ p.sent
-fin_sent FinSet p = refl
-fin_sent _ p = refl
+fin_sent = elim [ FinSet ↦ λ p. refl | _ ↦ λ p. refl ]
 
 same_places : (p q : Lane) → q.sent ≡ p.sent → (place : ℕ) → HasPlace p.sent place → HasPlace q.sent place
 same_places p q same place has = subst (λ sent. HasPlace sent place) (sym same) has

@@ -122,8 +122,7 @@ module _ (v : View) (path : ℕ) (fits : ViewFits v) where
   send_ack_held next window sub p h = at p.due refl
     where
       fin_bound : (b : Bool) → (if b then 1 else 0) ≤ 1
-      fin_bound true = omega arith
-      fin_bound false = omega arith
+      fin_bound = elim [ true ↦ omega arith | false ↦ omega arith ]
 
       sends : p.due ≡ false → LaneHolds v path (record p { acks = p.acks ++ ack_copy next window sub p ∷ [] })
       sends idle = record {
@@ -162,5 +161,4 @@ module _ (v : View) (path : ℕ) (fits : ViewFits v) where
       }
 
       at : (due : Bool) → p.due ≡ due → LaneHolds v path (if due then p else record p { acks = p.acks ++ ack_copy next window sub p ∷ [] })
-      at true is = h
-      at false is = sends is
+      at = elim [ true ↦ λ is. h | false ↦ λ is. sends is ]

@@ -31,8 +31,7 @@ pub record FlagsFit (f : Flags) (v : View) : Type 0 where
 
 module _ (v : View) (path : ℕ) where
   pub held_if : (c : Bool) (p q : Lane) → (c ≡ true → LaneHolds v path q) → LaneHolds v path p → LaneHolds v path (if c then q else p)
-  held_if true p q allowed h = allowed refl
-  held_if false p q allowed h = h
+  held_if = elim [ true ↦ λ p q allowed h. allowed refl | false ↦ λ p q allowed h. h ]
 
   pub with_ask : (p : Lane) (a : Ask) → AskHolds v p.sent p.opened p.edge a → LaneHolds v path p → LaneHolds v path (record p { asking = a })
   with_ask p a fits h = record {
@@ -72,8 +71,7 @@ module _ (v : View) (path : ℕ) where
   }) h
     where
       opened_ask : (a : Ask) → AskHolds v p.sent p.opened p.edge a → AskHolds v p.sent true p.edge a
-      opened_ask (AskGrant max standby) fits = (refl, fits.1)
-      opened_ask _ fits = fits
+      opened_ask = elim [ AskGrant max standby ↦ λ fits. (refl, fits.1) | _ ↦ λ fits. fits ]
 
   pub look_at_sender_held : (f : Flags) (p : Lane) → FlagsFit f v → LaneHolds v path p → LaneHolds v path (record p { sender_plain = f.sender })
   look_at_sender_held f p flags h = record {
@@ -116,8 +114,7 @@ module _ (v : View) (path : ℕ) where
       copy_fits = h.receiver.copies.each copy a is
 
       by_mode : (plain : Bool) → (plain ≡ true → v.alone ≡ true) → IsAck v (if plain then a.sub else a.next) a.window
-      by_mode true alone = copy_fits.subflow (alone refl)
-      by_mode false alone = copy_fits.stream
+      by_mode = elim [ true ↦ λ alone. copy_fits.subflow (alone refl) | false ↦ λ alone. copy_fits.stream ]
 
   pub send_piece_held : (mapped : Bool) (o : Option Mapping) (piece : ℕ) (p : Lane) → slice_get p.pieces piece ≡ o → LaneHolds v path p → LaneHolds v path (sends_piece mapped o p)
   send_piece_held mapped None piece p is h = h
@@ -154,8 +151,7 @@ module _ (v : View) (path : ℕ) where
       right = h.bytes.granted.each piece m is
 
       by_mapping : (mapped : Bool) → IfSome (if mapped then Some m else None) (IsRight p.sent)
-      by_mapping true = right
-      by_mapping false = tt
+      by_mapping = elim [ true ↦ right | false ↦ tt ]
 
       by_piece : (mapped : Bool) → IfSome (if mapped then Some m else None) (IsPiece p.pieces)
       by_piece true = record { at = piece; item = m; there = is; holds = refl }
@@ -196,8 +192,7 @@ module _ (v : View) (path : ℕ) where
       right = h.bytes.granted.each piece m is
 
       by_mapping : (mapped : Bool) → IfSome (if mapped then Some m else None) (IsRight p.sent)
-      by_mapping true = right
-      by_mapping false = tt
+      by_mapping = elim [ true ↦ right | false ↦ tt ]
 
       by_piece : (mapped : Bool) → IfSome (if mapped then Some m else None) (IsPiece p.pieces)
       by_piece true = record { at = piece; item = m; there = is; holds = refl }

@@ -38,9 +38,7 @@ returned_untouched path (Held holder tried) e = cc
 returned_untouched path (Free tried) e = e
 
 acked_touched : (m : ByteMark) → is_acked m ≡ true → is_untouched m ≡ true → ⊥
-acked_touched Acked e new = cc
-acked_touched (Held holder tried) e new = cc
-acked_touched (Free tried) e new = cc
+acked_touched = elim [ Acked ↦ λ e new. cc | Held holder tried ↦ λ e new. cc | Free tried ↦ λ e new. cc ]
 
 -- where each spent byte stays spent, as many are spent at least
 pub count_grows : (path : ℕ) (ms ns : List ByteMark)
@@ -68,8 +66,7 @@ count_within path (m ∷ ms) =
     omega (arith, sum_by-cons (λ (x : ByteMark). cond (spent path (Some x)) 1 0) m ms, at (spent path (Some m)), rest)
   where
     at : (b : Bool) → cond {A = ℕ} b 1 0 ≤ 1
-    at true = omega arith
-    at false = omega arith
+    at = elim [ true ↦ omega arith | false ↦ omega arith ]
 
 -- a list is its first part, a part from there on, and the rest
 pub three_parts : {X : Type 0} (from n to : ℕ) (xs : List X) → to ≡ from + n → take from xs ++ (take n (drop from xs) ++ drop to xs) ≡ xs
@@ -256,8 +253,7 @@ grant_first path max standby b span e =
     at (first_free path b) refl (passed standby Backup _ span (passed _ Ended _ span e))
   where
     owned : (o : Bool) (from : ℕ) → (if o then position (is_free_for path) b.marks else None) ≡ Some from → position (is_free_for path) b.marks ≡ Some from
-    owned true from h = h
-    owned false from h = cc
+    owned = elim [ true ↦ λ from h. h | false ↦ λ from h. cc ]
 
     begins : (from : ℕ) (c : Bool) → (if c then Err WindowShut else Ok (record { from = from; to = from + run_len path max b from })) ≡ Ok span → from ≡ span.from
     begins from true h = cc
@@ -293,8 +289,7 @@ grant_is_next path n from ms e below new within = ⊎_elim early (λ not_early. 
     found : (b : Bool) → nat_lt (position_or_len (is_free_for path) ms) (length ms) ≡ b
         → cond b (Some (position_or_len (is_free_for path) ms)) None ≡ Some from
         → (position_or_len (is_free_for path) ms ≡ from) × (position_or_len (is_free_for path) ms < length ms)
-    found true is h = (cc, ltb-true _ _ is)
-    found false is h = cc
+    found = elim [ true ↦ λ is h. (cc, ltb-true _ _ is) | false ↦ λ is h. cc ]
 
     first : (position_or_len (is_free_for path) ms ≡ from) × (position_or_len (is_free_for path) ms < length ms)
     first = found _ refl e
@@ -324,9 +319,7 @@ acked_spent path (suc n) (m ∷ ms) h =
     omega (arith, sum_by-cons (λ (x : ByteMark). cond (spent path (Some x)) 1 0) m ms, ap (λ b. cond {A = ℕ} b 1 0) (is_spent m h.0), acked_spent path n ms h.1)
   where
     is_spent : (m : ByteMark) → is_acked m ≡ true → spent path (Some m) ≡ true
-    is_spent Acked e = refl
-    is_spent (Held holder tried) e = cc
-    is_spent (Free tried) e = cc
+    is_spent = elim [ Acked ↦ λ e. refl | Held holder tried ↦ λ e. cc | Free tried ↦ λ e. cc ]
 
 -- a byte among the acknowledged ones is not new
 pub acked_is_spent : (n place : ℕ) (ms : List ByteMark) (m : ByteMark) → AreAcked n ms → place < n → slice_get ms place ≡ Some m → is_untouched m ≡ true → ⊥
@@ -451,8 +444,7 @@ tried-given path k place span ms order within apart is =
     (cases_lt place span.from)
   where
     at : (o : Option ByteMark) → tried k (option_map (given path) o) ≡ true → tried k o ≡ true
-    at None e = e
-    at (Some m) e = sym (given_tried path k m apart) ∙ e
+    at = elim [ None ↦ λ e. e | Some m ↦ λ e. sym (given_tried path k m apart) ∙ e ]
 
 -- outside the span a grant changes nothing
 pub given_outside : (path place : ℕ) (span : Span) (ms : List ByteMark) → span.from ≤ span.to → span.to ≤ length ms → (place < span.from) ⊎ (span.to ≤ place)

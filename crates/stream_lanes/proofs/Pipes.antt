@@ -80,8 +80,7 @@ module _ (f : Flags) (d : Direction) (h : DirectionHolds f d) where
       (AreAcked-count (acked_len d.send.marks) _ (AreAcked-returned path (acked_len d.send.marks) d.send.marks h.send.first)))
 
   identity_moves : (fell : Bool) → IsOneStepOrNone d (if fell then with_send GoIdentityBook d else d)
-  identity_moves true = stays refl
-  identity_moves false = stays refl
+  identity_moves = elim [ true ↦ stays refl | false ↦ stays refl ]
 
   gives_moves : (path : ℕ) (lanes : List Lane) (gathered : Bool) → IsOneStepOrNone d (record d { send = if gathered then record d.send { owner = Some path } else d.send; lanes = lanes })
   gives_moves path lanes true = stays refl
@@ -132,12 +131,10 @@ module _ (f : Flags) (d : Direction) (h : DirectionHolds f d) where
       covered (complete closed whole is) = omega (arith, whole, h.send.whole)
 
   place_moves : (taken : Bool) (places : List (Option ℕ)) (lanes : List Lane) → IsOneStepOrNone d (record d { arrived = if taken then record d.arrived { places = places } else d.arrived; lanes = lanes })
-  place_moves true places lanes = stays refl
-  place_moves false places lanes = stays refl
+  place_moves = elim [ true ↦ λ places lanes. stays refl | false ↦ λ places lanes. stays refl ]
 
   fin_moves : (clash : Bool) (at : ℕ) (lanes : List Lane) → IsOneStepOrNone d (record d { arrived = if clash then d.arrived else record d.arrived { known_end = Some at }; lanes = lanes })
-  fin_moves true at lanes = stays refl
-  fin_moves false at lanes = stays refl
+  fin_moves = elim [ true ↦ λ at lanes. stays refl | false ↦ λ at lanes. stays refl ]
 
   asks_moves : (path : ℕ) (p : Lane) (a : Ask) → AskHolds (view_of f d.send d.arrived) p.sent p.opened p.edge a → IsOneStepOrNone d (asks path a p d)
   asks_moves path p Nothing ask = stays refl

@@ -36,8 +36,7 @@ passed_row sent m edge bytes right passed =
     (subst (From (IsByteOf sent) m.pos) (sym (same_bytes bytes (part_of sent m) parts.1)) (part_is_honest sent m right))
 
 or_rest : (c rest : Bool) → c ≡ true → (not c || rest) ≡ true → rest ≡ true
-or_rest true rest is passed = passed
-or_rest false rest is passed = cc
+or_rest = elim [ true ↦ λ rest is passed. passed | false ↦ λ rest is passed. cc ]
 
 -- bytes that came in a row end within it
 pub row_within : (alters : Bool) (pieces : List Mapping) (sent : List Cell) (edge : ℕ) (bytes : List ℕ) → edge ≤ length sent

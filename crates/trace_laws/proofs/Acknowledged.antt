@@ -86,9 +86,7 @@ acked_may EndPhase.Waiting is = is
 acked_may _ is = is
 
 handshake_may : (x : EndPhase) → states.may_finish (states.after_handshake x) ≡ true → (states.may_finish x ≡ true) ⊎ (is_half_open x ≡ true)
-handshake_may EndPhase.SynReceived is = inr refl
-handshake_may EndPhase.Waiting is = inl is
-handshake_may _ is = inl is
+handshake_may = elim [ EndPhase.SynReceived ↦ λ is. inr refl | EndPhase.Waiting ↦ λ is. inl is | _ ↦ λ is. inl is ]
 
 -- ---- an acknowledgement
 
@@ -115,8 +113,7 @@ ack_may pos now t = elim (ack_kind pos t.send) as (λ kind. states.may_finish (a
     u = record t { send = after_acknowledge pos t.send }
 
     fin : (b : Bool) → states.may_finish (if b then states.after_fin_acked t.state else t.state) ≡ true → states.may_finish t.state ≡ true
-    fin true is = acked_may t.state is
-    fin false is = is
+    fin = elim [ true ↦ λ is. acked_may t.state is | false ↦ λ is. is ]
 
 -- it is one of the SYN, or the SYN was acknowledged before
 acknowledgement_acks : (pos now : ℕ) (t : EndState) → (states.may_finish t.state ≡ true → (1 ≤ t.send.una) ⊎ ((1 ≤ pos) × (pos ≤ t.send.nxt))) → Acks (after_acknowledgement pos now t)
@@ -134,8 +131,7 @@ Fits (Meaning.Taken pos acknowledged) t = is_half_open t.state ≡ true → (1 �
 Fits _ t = Unit {0}
 
 not_zero : (n : ℕ) → (n ≡ 0 → ⊥) → 1 ≤ n
-not_zero zero apart = absurd (apart refl)
-not_zero (suc n) apart = omega arith
+not_zero = elim [ zero ↦ λ apart. absurd (apart refl) | suc n ↦ λ apart. omega arith ]
 
 module _ (c : Copy) (t : EndState) where
   outside_fits : Fits (meaning_outside c) t
@@ -203,16 +199,13 @@ module _ (c : Copy) (t : EndState) where
       [ EndPhase.Dead ↦ dead c.rst | EndPhase.Waiting ↦ tt | EndPhase.Listen ↦ listens (is_syn_alone c) | EndPhase.SynSent ↦ opens (is_at_limit t) | _ ↦ connected_fits ]
     where
       dead : (b : Bool) → Fits (if b then Meaning.Ignored else Meaning.Unwanted) t
-      dead true = tt
-      dead false = tt
+      dead = elim [ true ↦ tt | false ↦ tt ]
 
       listens : (b : Bool) → Fits (if b then Meaning.Opens else Meaning.Ignored) t
-      listens true = tt
-      listens false = tt
+      listens = elim [ true ↦ tt | false ↦ tt ]
 
       opens : (b : Bool) → Fits (if b then Meaning.Ignored else meaning_answering c.acknowledged c t) t
-      opens true = tt
-      opens false = answering_fits c.acknowledged
+      opens = elim [ true ↦ tt | false ↦ answering_fits c.acknowledged ]
 
 over_fits : (m : Meaning) (over : Bool) (t : EndState) → Fits m t → Fits (taken_as (if over then Judged.As Meaning.Ignored else Judged.As m)) t
 over_fits m true t h = tt
@@ -262,8 +255,7 @@ payload_fits (Meaning.Accepts acknowledged) octets t h = h
 payload_fits _ octets t h = tt
 
 owing_acks : (b : Bool) (t : EndState) → Acks t → Acks (owing_if b t)
-owing_acks true t h = h
-owing_acks false t h = h
+owing_acks = elim [ true ↦ λ t h. h | false ↦ λ t h. h ]
 
 heard_acks : (joined : Bool) (told : List KeptMapping) (answer : _) (s : Side) (now : ℕ) (heard : HeardSegment) (e : PathEnd) → Acks e.tcp
     → Acks (copy_judged joined told answer s now heard (taken_as (judged_in joined s heard e)) e).tcp
@@ -290,16 +282,13 @@ module _ {C : Type 0} where
     pub b : Acks p.b.tcp
 
   pub ack_at : (s : Side) (p : PathState C) → BothAck p → Acks (end_at s p).tcp
-  ack_at A p h = h.a
-  ack_at B p h = h.b
+  ack_at = elim [ A ↦ λ p h. h.a | B ↦ λ p h. h.b ]
 
   goes_acks : (s : Side) (e : PathEnd) (ds : List Duty) (p : PathState C) → Acks e.tcp → BothAck p → BothAck (goes_on s e ds p)
-  goes_acks A e ds p g h = record { a = g; b = h.b }
-  goes_acks B e ds p g h = record { a = h.a; b = g }
+  goes_acks = elim [ A ↦ λ e ds p g h. record { a = g; b = h.b } | B ↦ λ e ds p g h. record { a = h.a; b = g } ]
 
   with_acks : (s : Side) (e : PathEnd) (p : PathState C) → Acks e.tcp → BothAck p → BothAck (with_end s e p)
-  with_acks A e p g h = record { a = g; b = h.b }
-  with_acks B e p g h = record { a = h.a; b = g }
+  with_acks = elim [ A ↦ λ e p g h. record { a = g; b = h.b } | B ↦ λ e p g h. record { a = h.a; b = g } ]
 
   agenda_acks : (ds : List Duty) (p : PathState C) → BothAck p → BothAck (with_agenda ds p)
   agenda_acks ds p h = record { a = h.a; b = h.b }
@@ -370,8 +359,7 @@ module _ {C : Type 0} where
       [ true ↦ goes_acks A (never_joined r p.a) dead p (λ may. absurd (false≢true may)) h | false ↦ opens (keys_begun r) ]
     where
       begun : (b : Bool) → Acks (if b then after_begin p.a.tcp else p.a.tcp)
-      begun true = λ may. absurd (false≢true may)
-      begun false = h.a
+      begun = elim [ true ↦ λ may. absurd (false≢true may) | false ↦ h.a ]
 
       opens : (o : Option KeyPair) → BothAck (goes_on A (opened_by o p.a) living p)
       opens None = same_on A p.a living p refl refl h
@@ -398,8 +386,7 @@ module _ {C : Type 0} where
   module _ (k : Codec C) where
     -- a segment is handed over
     sent_acks : (s : Side) (sg : PlainSegment) (e : PathEnd) (ds : List Duty) (p : PathState C) → Acks e.tcp → BothAck p → BothAck (sent_on k s sg e ds p)
-    sent_acks A sg e ds p g h = record { a = g; b = h.b }
-    sent_acks B sg e ds p g h = record { a = h.a; b = g }
+    sent_acks = elim [ A ↦ λ sg e ds p g h. record { a = g; b = h.b } | B ↦ λ sg e ds p g h. record { a = h.a; b = g } ]
 
     same_sent : (s : Side) (sg : PlainSegment) (e : PathEnd) (ds : List Duty) (p : PathState C) → e.tcp.state ≡ (end_at s p).tcp.state → e.tcp.send.una ≡ (end_at s p).tcp.send.una
         → BothAck p → BothAck (sent_on k s sg e ds p)
@@ -457,11 +444,11 @@ module _ {C : Type 0} where
     item_answered s (Some item) r p h = heard_answered s item r p h
 
     plain_ack_acks : (s : Side) (r : Reply) (p : PathState C) → BothAck p → BothAck (answered_plain_ack k s r p)
-    plain_ack_acks s r p h = by (breaks_by_ack p.profile (end_at s p))
-      where
-        by : (b : Bool) → BothAck (if b then answered_break k s 6 r p else goes_on s (with_plain_ack (after_fell FallEvent.PlainAck r (end_at s p))) (fell_duties s r p) p)
-        by true = break_acks s 6 r p h
-        by false = same_on s (with_plain_ack (after_fell FallEvent.PlainAck r (end_at s p))) (fell_duties s r p) p refl refl h
+    plain_ack_acks s r p h =
+        elim (breaks_by_ack p.profile (end_at s p)) as (λ b. BothAck (if b then answered_break k s 6 r p else goes_on s (with_plain_ack (after_fell FallEvent.PlainAck r (end_at s p))) (fell_duties s r p) p)) [
+          | true ↦ break_acks s 6 r p h
+          | false ↦ same_on s (with_plain_ack (after_fell FallEvent.PlainAck r (end_at s p))) (fell_duties s r p) p refl refl h
+        ]
 
     key_acks : (s : Side) (o : Option ℕ) (r : Reply) (p : PathState C) → BothAck p → BothAck (answered_peer_key s o r p)
     key_acks s None r p h = told_acks s FallEvent.PlainHandshake r p h
@@ -491,8 +478,7 @@ module _ {C : Type 0} where
     joined_acks s (Some keys) (Some asked) r p h = goes_acks s (joined_by keys asked (end_at s p)) _ p (by (is_listening (end_at s p).tcp.state)) h
       where
         by : (b : Bool) → Acks (if b then after_syn (unkept None) (syn_alone (end_at s p).treated.window) (end_at s p).tcp else (end_at s p).tcp)
-        by true = λ may. absurd (false≢true may)
-        by false = ack_at s p h
+        by = elim [ true ↦ λ may. absurd (false≢true may) | false ↦ ack_at s p h ]
 
     occasion_acks : (s : Side) (o : Occasion) (sg : PlainSegment) (p : PathState C) → BothAck p → Acks (having_sent o p.clock sg (end_at s p)).tcp
     occasion_acks s o sg p h = elim o as (λ o. Acks (after_sending o p.clock tcp)) [ Occasion.SynAck ↦ resent (tcp.send.una == 0) | _ ↦ ack_at s p h ]
@@ -501,8 +487,7 @@ module _ {C : Type 0} where
         tcp = (end_at s p).tcp
 
         resent : (b : Bool) → Acks (record tcp { due = record tcp.due { syn_ack = false }; send = (if b then after_resent p.clock tcp.send else tcp.send) })
-        resent true = ack_at s p h
-        resent false = ack_at s p h
+        resent = elim [ true ↦ ack_at s p h | false ↦ ack_at s p h ]
 
     answered_acks : (d : Duty) (r : Reply) (p : PathState C) → BothAck p → BothAck (answered k d r p)
     answered_acks (Duty.Ask AskDuty.JoinAgain) r p h = begun_acks r (replaced (Duty.Ask (AskDuty.Leave A)) p.agenda) (left p) p h

@@ -76,8 +76,7 @@ ask_asks B path (Ask.Local step) is = absurd (false≢true is)
 
 -- no application asks for bytes
 app_asks_none : (d : AppDuty) (a : AppState) (s : Side) (path most : ℕ) (standby : Bool) → app_ask d a ≡ Ask.Send s (SendCall.Grant path most standby) → ⊥
-app_asks_none AppDuty.FastClose a s path most standby is = cc
-app_asks_none _ a s path most standby is = cc
+app_asks_none = elim [ AppDuty.FastClose ↦ λ a s path most standby is. cc | _ ↦ λ a s path most standby is. cc ]
 
 -- ---- a path asks for bytes by one duty alone
 
@@ -282,8 +281,7 @@ new_pending start ask c w fit later ready asks s path place is = by c.member lat
 
     answer_is : (s : Side) (most : ℕ) (standby : Bool)
         → answer_to w.books (Ask.Send s (SendCall.Grant path most standby)) ≡ Reply.Send (send_reply (send_of s (books_in w.books)) (SendCall.Grant path most standby))
-    answer_is A most standby = refl
-    answer_is B most standby = refl
+    answer_is = elim [ A ↦ λ most standby. refl | B ↦ λ most standby. refl ]
 
     gives_is : gives place (Reply.Send (send_reply (send_of s (books_in w.books)) (SendCall.Grant path bytes.most bytes.standby))) ≡ true
     gives_is = subst (λ (r : Reply). gives place r ≡ true) (ap (answer_to w.books) bytes.is ∙ answer_is s bytes.most bytes.standby) parts.1
@@ -374,8 +372,7 @@ round_stands start w trace h = by (all_over w.crew) refl
     }
 
     by : (b : Bool) → all_over w.crew ≡ b → Stands start trace (if b then record w { crew = map (begins (greatest 0 w.crew)) w.crew } else w)
-    by true over = next over
-    by false over = h
+    by = elim [ true ↦ λ over. next over | false ↦ λ over. h ]
 
 turn_stands : (start : Start) (turn : Turn) (w : WorldState (List ℕ)) (trace : List Sent) → BooksFit start w → MomentFacts start (after_turn octets turn w) → Stands start trace w
     → Stands start (trace ++ sent_at turn w) (after_turn octets turn w)
@@ -405,8 +402,7 @@ path_ready start lines = (settled_settled start_of_turn (with_agenda start_of_tu
     q = waiting_path start lines
 
     waits : (o : Option ℕ) → may_finish (first_state o) ≡ true → 1 ≤ 0
-    waits None may = absurd (false≢true may)
-    waits (Some tick) may = absurd (false≢true may)
+    waits = elim [ None ↦ λ may. absurd (false≢true may) | Some tick ↦ λ may. absurd (false≢true may) ]
 
 -- an actor that made no step, and is ready
 record IsNew (c : ActorCrew (List ℕ)) : Type 0 where
@@ -500,8 +496,7 @@ granted_sent start trace w h over s place granted =
     (h.told at.0 at.1.0 at.1.1.0 note.0 note.1.0 note.1.1.0 s granted.path place (is_so (grants_byte s granted.path place note.1.0) note.1.1.1))
   where
     is_so : (b : Bool) → 1 ≤ (if b then 1 else 0) → b ≡ true
-    is_so true some = refl
-    is_so false some = absurd (omega (arith, some))
+    is_so = elim [ true ↦ λ some. refl | false ↦ λ some. absurd (omega (arith, some)) ]
 
 -- each octet of the files was in a segment that told its place
 pub delivered_were_told : (start : Start) (turns : List Turn) → IsPlain start → NumbersFit start → AreLawful octets (ended turns) (opened_world start)

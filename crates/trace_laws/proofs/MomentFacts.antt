@@ -99,8 +99,7 @@ module _ (start : Start) (c : Profile) (n : ℕ) (s : Side) (e : PathEnd) (out b
       })
     where
       not_true : (b : Bool) → not b ≡ true → b ≡ false
-      not_true true is = cc
-      not_true false is = refl
+      not_true = elim [ true ↦ λ is. cc | false ↦ λ is. refl ]
 
   each_record : Every (RecordFacts start c n s e) e.tcp.send.records
   each_record = record { each = λ i r at. let told = tells.sender.records.each i r at in record_facts r r.kind refl (shows.sender.pieces.each i r at) told told.mapped }
@@ -122,8 +121,7 @@ module _ (start : Start) (n : ℕ) (plan : PathPlan) (there : slice_get start.pa
   planned = (path_begins start n plan).profile
 
   keyed_at : (s : Side) → (numbers_of planned.spelling s).idsn.0 ≡ idsn_of (pick s start.key_a start.key_b)
-  keyed_at A = refl
-  keyed_at B = refl
+  keyed_at = elim [ A ↦ refl | B ↦ refl ]
 
   initial_is : (s : Side) → initial_in (initials_of start.paths) n s ≡ (numbers_of planned.spelling s).initial.0 % 2 ^ 32
   initial_is A = ap (λ (o : Option PathInitials). initial_at o A) (initials_there start.paths n plan there)
@@ -244,8 +242,7 @@ module _ (start : Start) (turns : List Turn) (plain : IsPlain start) (fit : Numb
         told.b
 
     facts_at : (s : Side) → EndFacts start c n s (end_at s p)
-    facts_at A = facts_a
-    facts_at B = facts_b
+    facts_at = elim [ A ↦ facts_a | B ↦ facts_b ]
 
     path_facts : PathFacts start p
     path_facts = record { number = n; numbered = there.numbered; ends = λ s. subst (λ (d : Profile). EndFacts start d n s (end_at s p)) (sym there.shows.profile) (facts_at s) }
@@ -258,8 +255,7 @@ module _ (start : Start) (turns : List Turn) (plain : IsPlain start) (fit : Numb
 -- ---- over octets
 
 end_shown : (s : Side) (p : PathState Carried) → end_at s p ≡ end_at s (shown_path p)
-end_shown A p = refl
-end_shown B p = refl
+end_shown = elim [ A ↦ λ p. refl | B ↦ λ p. refl ]
 
 member_shown : (start : Start) (m : Actor Carried) → MemberFacts start m → MemberFacts start (shown_member m)
 member_shown start (App a) facts = tt
@@ -307,8 +303,7 @@ next_good start i w facts = (elim (slice_get w.crew i) as (λ o. slice_get w.cre
     [ None ↦ λ at. tt | Some c ↦ λ at. member c.member (facts i c at) ]) refl
   where
     member : (m : Actor (List ℕ)) → MemberFacts start m → IfSome (option_and_then sent_by (member_path m)) (GoodSent start)
-    member (App a) facts = tt
-    member (Path p) facts = path_sends start p facts
+    member = elim [ App a ↦ λ facts. tt | Path p ↦ λ facts. path_sends start p facts ]
 
 some_good : (start : Start) (o : Option Sent) → IfSome o (GoodSent start) → Every (GoodSent start) (option_to_list o)
 some_good start None good = Every-nil (GoodSent start)

@@ -170,8 +170,7 @@ module _ (start : Start) (p : PathState (List ℕ)) (n : ℕ) (x : Sent) (h : En
   key = pick s start.key_a start.key_b
 
   first_is : (s : Side) → first_byte base s ≡ first_number (pick s start.key_a start.key_b)
-  first_is A = refl
-  first_is B = refl
+  first_is = elim [ A ↦ refl | B ↦ refl ]
 
   module _ (r : Record) (f : DataFacts start c n s e r) (is : x.octets ≡ made c.spelling s (record_said c s r e)) where
     abbrev sg : PlainSegment
@@ -293,12 +292,10 @@ module _ (start : Start) (p : PathState (List ℕ)) (n : ℕ) (ends : (s : Side)
     of_record (Some r) (inr facts) = inr (r, (facts, refl))
 
     of_carried : (o : Option ℕ) → IsOf s (carried_said p.profile s o e_of)
-    of_carried None = inl refl
-    of_carried (Some shown) = inl refl
+    of_carried = elim [ None ↦ inl refl | Some shown ↦ inl refl ]
 
     of_noted : (o : Option OwnNotice) → IsOf s (noted_said p.profile s o e_of)
-    of_noted None = inl refl
-    of_noted (Some notice) = inl refl
+    of_noted = elim [ None ↦ inl refl | Some notice ↦ inl refl ]
 
     of_resent : IsOf s (ack_resent p.profile s e_of)
     of_resent = by e_of.modes.owes_third e_of.notices.fast_closed (is_data_fin_owed e_of)
@@ -326,12 +323,10 @@ module _ (start : Start) (p : PathState (List ℕ)) (n : ℕ) (ends : (s : Side)
 
   -- what may not be sent
   unless : (b : Bool) (o : _) → IfSome (option_map (departing_as p) o) Sends → IfSome (option_map (departing_as p) (if b then None else o)) Sends
-  unless true o sends = tt
-  unless false o sends = sends
+  unless = elim [ true ↦ λ o sends. tt | false ↦ λ o sends. sends ]
 
   only_if : (b : Bool) (o : _) → IfSome (option_map (departing_as p) o) Sends → IfSome (option_map (departing_as p) (if b then o else None)) Sends
-  only_if true o sends = sends
-  only_if false o sends = tt
+  only_if = elim [ true ↦ λ o sends. sends | false ↦ λ o sends. tt ]
 
   broken_sends : (s : Side) (reason : ℕ) → IfSome (option_map (departing_as p) (broken_by s reason p)) Sends
   broken_sends s reason = unless (end_at s p).treated.asked _ (_, (refl, inl (reset_none s reason)))

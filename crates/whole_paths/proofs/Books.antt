@@ -143,20 +143,14 @@ module _ (b : Arriving) where
   }
     where
       by_read : (x : Bool) → b.read ≤ (if x then b else record b { known_end = Some at }).read
-      by_read true = le_refl b.read
-      by_read false = le_refl b.read
+      by_read = elim [ true ↦ le_refl b.read | false ↦ le_refl b.read ]
 
       by_received : (x : Bool) → received b ≤ received (if x then b else record b { known_end = Some at })
-      by_received true = le_refl (received b)
-      by_received false = le_refl (received b)
-  arrival_up (reassembly_calls.Read most) = by (is_some b.aborted)
-    where
-      by : (x : Bool) → IsArrivalAsFar b (if x then b else after_reading most b)
-      by true = arrival_same b refl refl refl
-      by false =
-          let n : ℕ = min most (length (filled b.places)) in
-          let left = filled_left n b.places (omega arith) in
-          record { read = omega arith; received = omega (arith, left); end = λ place is. is }
+      by_received = elim [ true ↦ le_refl (received b) | false ↦ le_refl (received b) ]
+  arrival_up (reassembly_calls.Read most) = elim (is_some b.aborted) as (λ x. IsArrivalAsFar b (if x then b else after_reading most b)) [
+    | true ↦ arrival_same b refl refl refl
+    | false ↦ let n : ℕ = min most (length (filled b.places)) in let left = filled_left n b.places (omega arith) in record { read = omega arith; received = omega (arith, left); end = λ place is. is }
+  ]
   arrival_up reassembly_calls.AckOut = arrival_same b refl refl refl
   arrival_up (reassembly_calls.Abort by_peer) = arrival_same _ refl refl refl
 

@@ -72,8 +72,7 @@ end_then e f g x y = record {
 }
 
 fewer : (xs : List LineLeft) → length (tail_of xs) ≤ length xs
-fewer [] = omega arith
-fewer (x ∷ xs) = omega arith
+fewer = elim [ [] ↦ omega arith | x ∷ xs ↦ omega arith ]
 
 module _ {C : Type 0} where
   record EndsUp (p q : PathState C) : Type 0 where
@@ -183,8 +182,7 @@ module _ {C : Type 0} where
   actor_up k r (Path p) = takes_up k r p
 
   actor_next : (m : Actor C) → IsActorAsFar m (member_next m)
-  actor_next (App a) = tt
-  actor_next (Path p) = next_up p
+  actor_next = elim [ App a ↦ tt | Path p ↦ next_up p ]
 
   actor_stays : (m : Actor C) → IsActorAsFar m m
   actor_stays (App a) = tt

@@ -64,8 +64,7 @@ later : (now next : ℕ) (t : Timing) → now ≤ next → IsNear now t → IsNe
 later now next t up h = record { timer = by t.timer h.timer; timeout = h.timeout }
   where
     by : (o : Option ℕ) → IfSome o (λ tick. tick ≤ now + 60000) → IfSome o (λ tick. tick ≤ next + 60000)
-    by None low = tt
-    by (Some tick) low = omega (arith, low, up)
+    by = elim [ None ↦ λ low. tt | Some tick ↦ λ low. omega (arith, low, up) ]
 
 -- neither timer nor timeout changes
 same_near : (now : ℕ) (t u : Timing) → u.timer ≡ t.timer → u.rtt ≡ t.rtt → IsNear now t → IsNear now u
@@ -122,8 +121,7 @@ fire_near now s h = elim (is_sixth s) as (λ b. IsNear now (if b then after_deat
     [ true ↦ stopped_near now s.timing h | false ↦ let least = h.timeout.least in record { timer = omega arith; timeout = record { least = omega (arith, least); greatest = omega arith } } ]
 
 sending_near : (occasion : Occasion) (now : ℕ) (s : EndState) → (after_sending occasion now s).timing ≡ s.timing
-sending_near to_send.Reset now s = refl
-sending_near _ now s = refl
+sending_near = elim [ to_send.Reset ↦ λ now s. refl | _ ↦ λ now s. refl ]
 
 step_near : (now : ℕ) (s t : EndState) → SubflowStep now s t → IsNear now s.timing → IsNear now t.timing
 step_near now s t (arrives m hint c is) h = arrival_near m hint now c s h
@@ -250,8 +248,7 @@ module _ {C : Type 0} where
   member_near k r (Path p) h = takes_near k r p h
 
   member_begins : (m : Actor C) → IsNearMember m → IsNearMember (member_next m)
-  member_begins (App a) h = tt
-  member_begins (Path p) h = next_near p h
+  member_begins = elim [ App a ↦ λ h. tt | Path p ↦ λ h. next_near p h ]
 
   first_near : (number : ℕ) (start : Start) (plan : PathPlan) → TimersAreNear (waiting_path {C = C} (path_begins start number plan) start.lines)
   first_near number start plan = record {

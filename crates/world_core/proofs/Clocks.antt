@@ -42,8 +42,7 @@ module _ {C : Type 0} where
 
   -- it isn't past
   event_later : (event : Option Event) (p : PathState C) → p.clock ≤ tick_with event p
-  event_later None p = omega arith
-  event_later (Some event) p = omega arith
+  event_later = elim [ None ↦ λ p. omega arith | Some event ↦ λ p. omega arith ]
 
   pub next_later : (p : PathState C) → p.clock ≤ next_tick p
   next_later p = by p.agenda
@@ -55,8 +54,7 @@ module _ {C : Type 0} where
 
   -- nor behind the round's end
   event_within : (event : Option Event) (p : PathState C) → IfSome event (λ e. tick_of e < p.until) → p.clock ≤ p.until → tick_with event p ≤ p.until
-  event_within None p soon before = before
-  event_within (Some event) p soon before = omega (arith, soon, before)
+  event_within = elim [ None ↦ λ p soon before. before | Some event ↦ λ p soon before. omega (arith, soon, before) ]
 
   next_within : (p : PathState C) → p.clock ≤ p.until → next_tick p ≤ p.until
   next_within p before = by p.agenda
@@ -73,8 +71,7 @@ module _ {C : Type 0} where
   Keeps p q = q.clock ≡ p.clock
 
   either_keeps : (b : Bool) (q r p : PathState C) → Keeps p q → Keeps p r → Keeps p (if b then q else r)
-  either_keeps true q r p x y = x
-  either_keeps false q r p x y = y
+  either_keeps = elim [ true ↦ λ q r p x y. x | false ↦ λ q r p x y. y ]
 
   passed_keeps : (d : Duty) (p : PathState C) → Keeps p (passed d p)
   passed_keeps (Duty.Silent (SilentDuty.Timer s)) p = refl

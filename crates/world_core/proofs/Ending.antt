@@ -26,19 +26,16 @@ use Rattle.world_core.proofs.InRound.{ended_in_round}
 use Rattle.world_core.proofs.Showing.{heard_begun}
 
 first_of_both : (a b : Bool) → (a && b) ≡ true → a ≡ true
-first_of_both true b e = refl
-first_of_both false b e = e
+first_of_both = elim [ true ↦ λ b e. refl | false ↦ λ b e. e ]
 
 second_of_both : (a b : Bool) → (a && b) ≡ true → b ≡ true
-second_of_both true b e = e
-second_of_both false b e = cc
+second_of_both = elim [ true ↦ λ b e. e | false ↦ λ b e. cc ]
 
 module _ {C : Type 0} where
   -- ---- each turn ended
 
   can_begin : (m : Actor C) (n : ℕ) → n < 2 ^ 57 → IsTimelyMember n m → is_over m ≡ true → CanBegin m
-  can_begin (App a) n few h over = tt
-  can_begin (Path p) n few h over = omega (arith, few, h.over over)
+  can_begin = elim [ App a ↦ λ n few h over. tt | Path p ↦ λ n few h over. omega (arith, few, h.over over) ]
 
   rest_timely : (c : ActorCrew C) (crew : List (ActorCrew C)) → AreTimely (c ∷ crew) → AreTimely crew
   rest_timely c crew h = record { each = λ i x at. h.each (suc i) x at }
@@ -95,12 +92,11 @@ abbrev pub ended : List (ActorCrew (List ℕ)) → List (ActorCrew (List ℕ))
 ended crew = if all_over crew then map (begins (greatest 0 crew)) crew else crew
 
 pub ended_is : (crew : List (ActorCrew (List ℕ))) (books : StampedBooks) → world (ended crew) books ≡ end_round (world crew books)
-ended_is crew books = by (all_over crew)
-  where
-    by : (b : Bool) → world (if b then map (begins (greatest 0 crew)) crew else crew) books
-        ≡ (if b then record (world crew books) { crew = map (begins (greatest 0 crew)) crew } else world crew books)
-    by true = refl
-    by false = refl
+ended_is crew books =
+    elim (all_over crew) as (λ b. world (if b then map (begins (greatest 0 crew)) crew else crew) books ≡ (if b then record (world crew books) { crew = map (begins (greatest 0 crew)) crew } else world crew books)) [
+      | true ↦ refl
+      | false ↦ refl
+    ]
 
 pub ended_sound : (crew : List (ActorCrew (List ℕ))) (books : StampedBooks) → IsSound (world crew books) → IsSound (world (ended crew) books)
 ended_sound crew books h = record {

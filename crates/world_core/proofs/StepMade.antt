@@ -37,12 +37,10 @@ use Rattle.world_core.proofs.Showing.{heard_again, shows_other}
 -- ---- an actor whose turn hasn't ended asks
 
 app_asks : (ds : List AppDuty) (a : AppState) → is_nil ds ≡ false → app_asks_first ds a ≡ None → ⊥
-app_asks [] a going nothing = cc
-app_asks (d ∷ ds) a going nothing = cc
+app_asks = elim [ [] ↦ λ a going nothing. cc | d ∷ ds ↦ λ a going nothing. cc ]
 
 path_asks : (ds : List Duty) (p : PathState (List ℕ)) → is_nil ds ≡ false → asks_first octets ds p ≡ None → ⊥
-path_asks [] p going nothing = cc
-path_asks (d ∷ ds) p going nothing = cc
+path_asks = elim [ [] ↦ λ p going nothing. cc | d ∷ ds ↦ λ p going nothing. cc ]
 
 pub going_asks : (m : Actor (List ℕ)) → is_over m ≡ false → member_asks octets m ≡ None → ⊥
 going_asks (App a) going nothing = app_asks a.agenda a going nothing
@@ -57,8 +55,7 @@ over_asks (App a) = elim a.agenda as (λ ds. is_some (app_asks_first ds a) ≡ n
 over_asks (Path p) = elim p.agenda as (λ ds. is_some (asks_first octets ds p) ≡ not (is_nil ds)) [ [] ↦ refl | d ∷ ds ↦ refl ]
 
 some_note : (o : Option Ask) (books : StampedBooks) (pass : Pass) → is_some (note_if o books pass) ≡ is_some o
-some_note None books pass = refl
-some_note (Some ask) books pass = refl
+some_note = elim [ None ↦ λ books pass. refl | Some ask ↦ λ books pass. refl ]
 
 -- ---- the world after the step
 
@@ -88,8 +85,7 @@ module _ (crew : List (ActorCrew (List ℕ))) (books after : StampedBooks) (i : 
       (subst (λ o. GoesUp c.pass.stamp (stamp_or o)) (sym (set_same crew i d c there)) (up (by (is_over c.member) over)))
     where
       by : (b : Bool) → not b ≡ true → b ≡ false
-      by true e = cc
-      by false e = refl
+      by = elim [ true ↦ λ e. cc | false ↦ λ e. refl ]
 
   -- ---- what was told
 
@@ -149,8 +145,7 @@ module _ (crew : List (ActorCrew (List ℕ))) (books : StampedBooks) (i : ℕ) (
 -- ---- as the code makes it: at a place that was found
 
 heard_as : (o : Option Note) (i : ℕ) (h : Hearing) → heard_with o i h ≡ heard_report (told_in o) i h
-heard_as None i h = refl
-heard_as (Some note) i h = refl
+heard_as = elim [ None ↦ λ i h. refl | Some note ↦ λ i h. refl ]
 
 module _ (crew : List (ActorCrew (List ℕ))) (books after : StampedBooks) (i j : ℕ) (c d : ActorCrew (List ℕ)) (same : j ≡ i)
     (within : j < length crew) (is : c ≡ slice_index_or crew j c) where

@@ -28,12 +28,10 @@ use Rattle.world_core.specs.TimedRounds.{member_tick, step_tick, tick_at, IsNext
 use Rattle.world_core.proofs.Clocks.{next_later, takes_clock}
 
 first_over : (a b : Bool) → (a && b) ≡ true → not a ≡ false
-first_over true b over = refl
-first_over false b over = cc
+first_over = elim [ true ↦ λ b over. refl | false ↦ λ b over. cc ]
 
 rest_over : (a b : Bool) → (a && b) ≡ true → b ≡ true
-rest_over true b over = over
-rest_over false b over = cc
+rest_over = elim [ true ↦ λ b over. over | false ↦ λ b over. cc ]
 
 no_tick : {P : Type 0} (tick : ℕ) → None ≡ Some tick → P
 no_tick tick is = cc
@@ -323,8 +321,7 @@ module _ {C : Type 0} (k : Codec C) where
     where
       by : (b : Bool) → (AreTimedRounds k most rs (after_timed k o w) → AreTimedRounds k most us (after_timed k o w) → rs ≡ us)
           → OneOf b (AreTimedRounds k most rs (after_timed k o w)) (rs ≡ []) → OneOf b (AreTimedRounds k most us (after_timed k o w)) (us ≡ []) → rs ≡ us
-      by true rest x y = rest x y
-      by false rest x y = x ∙ sym y
+      by = elim [ true ↦ λ rest x y. rest x y | false ↦ λ rest x y. x ∙ sym y ]
 
   pub timed_is_one : (most : ℕ) (ts us : List Turn) (w : WorldState C) → IsTimed k most ts w → IsTimed k most us w → ts ≡ us
   timed_is_one most ts us w x y = x.2 ∙ ap turns_by (one_list_of_orders most x.0 y.0 w x.1 y.1) ∙ sym y.2

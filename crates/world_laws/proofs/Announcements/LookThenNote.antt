@@ -117,8 +117,7 @@ module _ (q : Side) where
   died_ready false false = tt
 
   fired_ready : (sixth : Bool) (s : Side) → IsReady q (template_fired sixth s)
-  fired_ready true s = tt
-  fired_ready false s = tt
+  fired_ready = elim [ true ↦ λ s. tt | false ↦ λ s. tt ]
 
 module _ {C : Type 0} (q : Side) where
   copy_ready : (s : Side) (o : Option HeardSegment) (p : PathState C) → IsReady q (copy_heard s o p).agenda
@@ -166,43 +165,36 @@ module _ {C : Type 0} (q : Side) where
     piece_ready None taken = tt
 
     plain_ack_ready : IsReady q (answered_plain_ack k s r p).agenda
-    plain_ack_ready = by (breaks_by_ack p.profile (end_at s p))
-      where
-        by : (b : Bool) → IsReady q (if b then answered_break k s 6 r p else goes_on s (with_plain_ack (after_fell events.PlainAck r (end_at s p))) (fell_duties s r p) p).agenda
-        by true = break_ready k s 6 r p
-        by false = fell_ready s r p left_ready told
+    plain_ack_ready =
+        elim (breaks_by_ack p.profile (end_at s p)) as (λ b. IsReady q (if b then answered_break k s 6 r p else goes_on s (with_plain_ack (after_fell events.PlainAck r (end_at s p))) (fell_duties s r p) p).agenda) [
+          | true ↦ break_ready k s 6 r p
+          | false ↦ fell_ready s r p left_ready told
+        ]
 
     key_ready : (o : Option ℕ) → IsReady q (answered_peer_key s o r p).agenda
-    key_ready None = fell_ready s r p left_ready told
-    key_ready (Some key) = left_ready
+    key_ready = elim [ None ↦ fell_ready s r p left_ready told | Some key ↦ left_ready ]
 
     keys_ready : (o : Option KeyPair) → IsReady q (answered_opened s o r p).agenda
-    keys_ready None = fell_ready s r p left_ready told
-    keys_ready (Some keys) = left_ready
+    keys_ready = elim [ None ↦ fell_ready s r p left_ready told | Some keys ↦ left_ready ]
 
     plain_fin_ready : (set : Bool) → IsReady q (answered_plain_fin s set p).agenda
-    plain_fin_ready true = left_ready
-    plain_fin_ready false = tt
+    plain_fin_ready = elim [ true ↦ left_ready | false ↦ tt ]
 
     fin_ready : (set : Bool) → IsReady q (answered_fin_heard s set p).agenda
-    fin_ready true = left_ready
-    fin_ready false = tt
+    fin_ready = elim [ true ↦ left_ready | false ↦ tt ]
 
     module _ (index : ℕ) (acked_ready : IsReady q (replaced (Duty.Ask (AskDuty.AckHeard s)) p.agenda)) (failed_ready : IsReady q (replaced (Duty.Ask (AskDuty.FailHeard s)) p.agenda)) where
       told_ready : (b : Bool) → IsReady q (told_next s b p)
-      told_ready true = acked_ready
-      told_ready false = left_ready
+      told_ready = elim [ true ↦ acked_ready | false ↦ left_ready ]
 
       mapping_ready : IsReady q (answered_mapping k s r p).agenda
-      mapping_ready = by (is_clash (end_at s p))
-        where
-          by : (b : Bool) → IsReady q (if b then answered_break k s 1 r p else goes_on s (with_learned (after_fell events.MappingHeard r (end_at s p))) (fell_duties s r p) p).agenda
-          by true = break_ready k s 1 r p
-          by false = fell_ready s r p left_ready told
+      mapping_ready = elim (is_clash (end_at s p)) as (λ b. IsReady q (if b then answered_break k s 1 r p else goes_on s (with_learned (after_fell events.MappingHeard r (end_at s p))) (fell_duties s r p) p).agenda) [
+        | true ↦ break_ready k s 1 r p
+        | false ↦ fell_ready s r p left_ready told
+      ]
 
       stopped_ready : (stopped : Bool) → IsReady q (if stopped then stops s else left p)
-      stopped_ready true = tt
-      stopped_ready false = left_ready
+      stopped_ready = elim [ true ↦ tt | false ↦ left_ready ]
 
       item_ready : (o : Option Heard) → IsReady q (answered_item k s o r p).agenda
       item_ready (Some (Heard.DataAck next window)) = told_ready _

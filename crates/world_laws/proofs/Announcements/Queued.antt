@@ -20,8 +20,7 @@ module _ (P : OwnNotice → Type 0) (removes : (id : ℕ) → P (OwnNotice.Remov
   tail_queued (notice ∷ queue) each = record { each = λ i x at. each.each (suc i) x at }
 
   pub first_queued : (queue : List OwnNotice) → Every P queue → IfSome (first_of queue) P
-  first_queued [] each = tt
-  first_queued (notice ∷ queue) each = each.each 0 notice refl
+  first_queued = elim [ [] ↦ λ each. tt | notice ∷ queue ↦ λ each. each.each 0 notice refl ]
 
   pub prio_queued : (backup dead : Bool) (queue : List OwnNotice) → Every P queue → Every P (if dead then queue else queue ++ OwnNotice.Prio backup ∷ [])
   prio_queued backup true queue each = each

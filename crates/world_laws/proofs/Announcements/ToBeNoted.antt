@@ -43,12 +43,10 @@ abbrev pub EndSheds : PathEnd → PathEnd → Type 0
 EndSheds e f = (id : ℕ) → is_noted id f ≡ true → is_noted id e ≡ true
 
 either_end : (b : Bool) (e f g : PathEnd) → EndSheds e f → EndSheds e g → EndSheds e (if b then f else g)
-either_end true e f g x y = x
-either_end false e f g x y = y
+either_end = elim [ true ↦ λ e f g x y. x | false ↦ λ e f g x y. y ]
 
 begun_end : (keys : Option KeyPair) (e : PathEnd) → EndSheds e (opened_by keys e)
-begun_end None e = λ id h. h
-begun_end (Some keys) e = λ id h. h
+begun_end = elim [ None ↦ λ e. λ id h. h | Some keys ↦ λ e. λ id h. h ]
 
 item_end : (s : Side) (item : Heard) (e : PathEnd) → EndSheds e (heard_passed s item e)
 item_end s Heard.Dss e = λ id h. h
@@ -131,8 +129,7 @@ module _ {C : Type 0} where
   then_sheds p q r x y = record { a = λ id h. x.a id (y.a id h); b = λ id h. x.b id (y.b id h) }
 
   either_sheds : (c : Bool) (q r p : PathState C) → Sheds p q → Sheds p r → Sheds p (if c then q else r)
-  either_sheds true q r p x y = x
-  either_sheds false q r p x y = y
+  either_sheds = elim [ true ↦ λ q r p x y. x | false ↦ λ q r p x y. y ]
 
   -- the end of a side becomes this, whatever else is on the path
   side_sheds : (s : Side) (e : PathEnd) (p q : PathState C) → q.a ≡ (goes_on s e [] p).a → q.b ≡ (goes_on s e [] p).b → EndSheds (end_at s p) e → Sheds p q
@@ -277,9 +274,7 @@ module _ {C : Type 0} where
   passed_holds _ mild p = absurd mild
 
   pub sheds_at : (s : Side) (p q : PathState C) → Sheds p q → EndSheds (end_at s p) (end_at s q)
-  sheds_at A p q x = x.a
-  sheds_at B p q x = x.b
+  sheds_at = elim [ A ↦ λ p q x. x.a | B ↦ λ p q x. x.b ]
 
   pub holds_at : (s : Side) (p q : PathState C) → Holds p q → EndHolds (end_at s p) (end_at s q)
-  holds_at A p q x = x.a
-  holds_at B p q x = x.b
+  holds_at = elim [ A ↦ λ p q x. x.a | B ↦ λ p q x. x.b ]

@@ -53,12 +53,11 @@ first_is b c address o same is = ap (λ d. is_some (if d then Some address else 
 
 inserted_own : (id : ℕ) (address : Address) (entries : List (ℕ × Address)) → is_there id (with_address entries id address) ≡ true
 inserted_own id address [] = first_is (id == id) true address None (eq-eqb id id refl) refl
-inserted_own id address (e ∷ entries) = by (id == e.0) refl (inserted_own id address entries)
-  where
-    by : (b : Bool) → (id == e.0) ≡ b → is_there id (with_address entries id address) ≡ true
-        → is_there id (if b then (e.0, address) ∷ entries else e ∷ with_address entries id address) ≡ true
-    by true same rest = first_is (id == e.0) true address (address_of id entries) same refl
-    by false other rest = first_is (id == e.0) false e.1 (address_of id (with_address entries id address)) other rest
+inserted_own id address (e ∷ entries) =
+    (elim (id == e.0) as (λ b. (id == e.0) ≡ b → is_there id (with_address entries id address) ≡ true → is_there id (if b then (e.0, address) ∷ entries else e ∷ with_address entries id address) ≡ true) [
+      | true ↦ λ same rest. first_is (id == e.0) true address (address_of id entries) same refl
+      | false ↦ λ other rest. first_is (id == e.0) false e.1 (address_of id (with_address entries id address)) other rest
+    ]) refl (inserted_own id address entries)
 
 inserted_keeps : (id other : ℕ) (address : Address) (entries : List (ℕ × Address)) → is_there id entries ≡ true → is_there id (with_address entries other address) ≡ true
 inserted_keeps id other address [] is = absurd (false≢true is)

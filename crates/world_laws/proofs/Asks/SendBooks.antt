@@ -75,8 +75,7 @@ taken_written path count (m ∷ ms) = by (is_free_for path m) (taken_written pat
   where
     by : (b : Bool) → taken_len path ms ≤ taken_len path (ms ++ replicate count (Free no_paths))
         → cond (not b) (1 + taken_len path ms) 0 ≤ cond (not b) (1 + taken_len path (ms ++ replicate count (Free no_paths))) 0
-    by true rest = omega arith
-    by false rest = omega (arith, rest)
+    by = elim [ true ↦ λ rest. omega arith | false ↦ λ rest. omega (arith, rest) ]
 
 -- bytes that change, but none to one that the path may take
 module _ (path : ℕ) (change : ByteMark → ByteMark) where
@@ -393,13 +392,11 @@ module _ (path written : ℕ) (b : Sending) (h : IsOnes path written b) where
     all_other s steps (Barred barred) = Barred (by (decision asker max standby b))
       where
         by : (o : Result Span Why) → is_for path (given_by asker o b).owner ≡ false
-        by (Err why) = barred
-        by (Ok span) = barred
+        by = elim [ Err why ↦ barred | Ok span ↦ barred ]
     all_other s steps (Stopped stopped) = Stopped (by (decision asker max standby b))
       where
         by : (o : Result Span Why) → (given_by asker o b).aborted ≡ true
-        by (Err why) = stopped
-        by (Ok span) = stopped
+        by = elim [ Err why ↦ stopped | Ok span ↦ stopped ]
 
   -- ---- a refusal
 
@@ -415,11 +412,11 @@ module _ (path written : ℕ) (b : Sending) (h : IsOnes path written b) where
 
   at_place : (most : ℕ) (o : Option ℕ) → position (is_free_for path) b.marks ≡ o → grant_in (Reply.Send (reply_by (span_at path most b o) b)) ≡ None → AllTaken b
   at_place most None is none = none_found is
-  at_place most (Some from) is none = by (nat_le b.edge from) refl none
-    where
-      by : (c : Bool) → nat_le b.edge from ≡ c → grant_in (Reply.Send (reply_by (if c then Err WindowShut else Ok (record { from = from; to = from + run_len path most b from })) b)) ≡ None → AllTaken b
-      by true edge none = shut_at from is (leb-true b.edge from edge)
-      by false edge none = cc
+  at_place most (Some from) is none =
+      (elim (nat_le b.edge from) as (λ c. nat_le b.edge from ≡ c → grant_in (Reply.Send (reply_by (if c then Err WindowShut else Ok (record { from = from; to = from + run_len path most b from })) b)) ≡ None → AllTaken b) [
+        | true ↦ λ edge none. shut_at from is (leb-true b.edge from edge)
+        | false ↦ λ edge none. cc
+      ]) refl none
 
   -- all is taken, or the path is on standby, or another one alone is given bytes, or none
   abbrev pub Refused : Bool → Type 0
@@ -446,8 +443,7 @@ module _ (path written : ℕ) (b : Sending) (h : IsOnes path written b) where
 
   -- after a refusal the book is the same
   same_given : (o : Result Span Why) → grant_in (Reply.Send (reply_by o b)) ≡ None → given_by path o b ≡ b
-  same_given (Ok span) none = cc
-  same_given (Err why) none = refl
+  same_given = elim [ Ok span ↦ λ none. cc | Err why ↦ λ none. refl ]
 
   pub grant_refused : (s : Side) (steps : List Note) (n : Note) (max : ℕ) (standby : Bool) → ((before : Bool) → standby_after s n before ≡ standby)
       → grant_in (Reply.Send (reply_by (decision path max standby b) b)) ≡ None → AskedForAll path s (steps ++ n ∷ []) written (after_call b (Grant path max standby))

@@ -32,16 +32,13 @@ abbrev asks_some : Ask → Bool
 asks_some x = asks_grant A x || asks_grant B x
 
 written_none : (s : Side) (bytes : List ℕ) → asks_some (Ask.Send s (SendCall.Write bytes)) ≡ false
-written_none A bytes = refl
-written_none B bytes = refl
+written_none = elim [ A ↦ λ bytes. refl | B ↦ λ bytes. refl ]
 
 closed_none : (s : Side) → asks_some (Ask.Send s SendCall.Close) ≡ false
-closed_none A = refl
-closed_none B = refl
+closed_none = elim [ A ↦ refl | B ↦ refl ]
 
 aborted_none : (s : Side) → asks_some (Ask.Send s SendCall.Abort) ≡ false
-aborted_none A = refl
-aborted_none B = refl
+aborted_none = elim [ A ↦ refl | B ↦ refl ]
 
 app_asks_none : (d : AppDuty) (a : AppState) → asks_some (app_ask d a) ≡ false
 app_asks_none AppDuty.AbortSend a = aborted_none a.side
@@ -140,11 +137,11 @@ falls_are_right start turns = record {
     unanswered : (s : Side) → FellBack (books_in (world_run values turns (opened_world start)).books) s
         → (books_in (world_run values turns (opened_world start)).books).control_b.fall.joined ≡ false
     unanswered B fell = fell_unjoined_at (books_in (world_run values turns (opened_world start)).books) B fell
-    unanswered A fell = by (books_in (world_run values turns (opened_world start)).books).control_b.fall.joined refl
-      where
-        by : (b : Bool) → (books_in (world_run values turns (opened_world start)).books).control_b.fall.joined ≡ b → b ≡ false
-        by false is = refl
-        by true is = absurd (both_ways _ (fell_unjoined_at (books_in (world_run values turns (opened_world start)).books) A fell) ((always_joined start turns).order is))
+    unanswered A fell =
+        (elim (books_in (world_run values turns (opened_world start)).books).control_b.fall.joined as (λ b. (books_in (world_run values turns (opened_world start)).books).control_b.fall.joined ≡ b → b ≡ false) [
+          | false ↦ λ is. refl
+          | true ↦ λ is. absurd (both_ways _ (fell_unjoined_at (books_in (world_run values turns (opened_world start)).books) A fell) ((always_joined start turns).order is))
+        ]) refl
 
     none : (number : ℕ) (c : ActorCrew Carried) → slice_get (world_run values turns (opened_world start)).crew (suc (suc (suc number))) ≡ Some c
         → (books_in (world_run values turns (opened_world start)).books).control_b.fall.joined ≡ false → (b : Bool) → list_any asks_bytes c.list ≡ b → b ≡ false
@@ -278,8 +275,7 @@ member_plain (App a) h = tt
 member_plain (Path p) h = λ s. by s
   where
     by : (s : Side) → EndIsPlain p.profile s (end_at s (shown_path p))
-    by A = h A
-    by B = h B
+    by = elim [ A ↦ h A | B ↦ h B ]
 
 places_shown : (w : WorldState Carried) → PositionsArePlaces w → PositionsArePlaces (shown_world w)
 places_shown w h = record {
@@ -291,12 +287,10 @@ pub falls_in_octets : HoldsAnywayOfOctets FallsAreRight
 falls_in_octets start turns size fit = subst FallsAreRight (sym (run_fresh start turns size fit)) (falls_shown (world_run values turns (opened_world start)) (falls_are_right start turns))
 
 same_fallen : (s : Side) (w : WorldState Carried) → (is_fallen s (shown_world w) || is_stopped s (shown_world w)) ≡ (is_fallen s w || is_stopped s w)
-same_fallen A w = refl
-same_fallen B w = refl
+same_fallen = elim [ A ↦ λ w. refl | B ↦ λ w. refl ]
 
 same_has_fallen : (s : Side) (w : WorldState Carried) → has_fallen s (shown_world w) ≡ has_fallen s w
-same_has_fallen A w = refl
-same_has_fallen B w = refl
+same_has_fallen = elim [ A ↦ λ w. refl | B ↦ λ w. refl ]
 
 pub falls_last_in_octets : HoldsAnywayOfOctets (FallsLast octets)
 falls_last_in_octets start turns size fit s more fell =

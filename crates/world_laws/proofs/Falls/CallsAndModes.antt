@@ -94,12 +94,10 @@ b_as_before links x y z plain (inr loose) joined =
     then_modulated _ (modes_with links x (record y { loose = true })) _ (b_loosens links x y) (stay_modes _ _ (ap (λ s. modes_with links x s) (stand_is (record y { loose = true }) z plain loose joined)))
 
 loosened : (firm : Bool) (f g : Fall) → Loosened f g → ((not firm && is_loose g) ≡ (not firm && is_loose f)) ⊎ ((not firm && is_loose g) ≡ true)
-loosened true f g loose = inl refl
-loosened false f g loose = loose
+loosened = elim [ true ↦ λ f g loose. inl refl | false ↦ λ f g loose. loose ]
 
 unplain : (firm : Bool) (f : Fall) → is_plain f ≡ false → (not firm && is_plain f) ≡ false
-unplain true f is = refl
-unplain false f is = is
+unplain = elim [ true ↦ λ f is. refl | false ↦ λ f is. is ]
 
 a_fell : (links : Links) (firm : Bool) (f h : Fall) (y : Stand) → FellBack f h → Modulated (modes_with links (stand_of firm f) y) (modes_with links (stand_of firm h) y)
 a_fell links true f h y fell = a_as_before links (stand_of true f) (stand_of true h) y refl (inl refl) fell.joined

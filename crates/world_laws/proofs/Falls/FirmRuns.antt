@@ -35,8 +35,7 @@ always_fell start turns =
 
 -- plain TCP is a fallback
 identity_falls : (m : Mode) → is_identity m ≡ true → is_fallback m ≡ true
-identity_falls Mode.Identity is = refl
-identity_falls _ is = absurd (false≢true is)
+identity_falls = elim [ Mode.Identity ↦ λ is. refl | _ ↦ λ is. absurd (false≢true is) ]
 
 -- ---- a turn
 

@@ -60,8 +60,7 @@ first_tried path x ms (suc i) m first e is =
     each_new (y ∷ ms) (suc i) all e = each_new ms i (and_parts (is_untouched y) (list_all is_untouched ms) all).1 e
 
     own : (b : Bool) → has_tried path x ≡ b → (if b then tried_first path ms else false) ≡ true → has_tried path x ≡ true
-    own true has first = has
-    own false has first = absurd (false≢true first)
+    own = elim [ true ↦ λ has first. has | false ↦ λ has first. absurd (false≢true first) ]
 
 -- ---- the mapping
 
@@ -149,8 +148,7 @@ module _ (f : Flags) (lanes : List Lane) (number : ℕ) (send : Sending) (arrive
       rest = nat_le pos (length p.sent) && (list_all (λ c. nat_lt c.place (acked_len send.marks)) (take pos p.sent) && rises (acked_len send.marks) (drop pos p.sent))
 
       never : (b : Bool) → b && false ≡ false
-      never true = refl
-      never false = refl
+      never = elim [ true ↦ refl | false ↦ refl ]
 
       not_may : may_go number pos send p ≡ false
       not_may = ap (λ (b : Bool). p.opened && (b && rest)) is ∙ never p.opened
@@ -277,8 +275,7 @@ hears_own v path p mapping position window next lane own has is = ⊎_elim at_pa
     asking n = record p { asking = AskAckIn n window }
 
     limited : (b : Bool) → (if b then Some (mapping.place + (position - mapping.position)) else None) ≡ Some next → mapping.place + (position - mapping.position) ≡ next
-    limited true e = same_Some _ next e
-    limited false e = cc
+    limited = elim [ true ↦ λ e. same_Some _ next e | false ↦ λ e. cc ]
 
     next_is : mapping.place + (position - mapping.position) ≡ next
     next_is = limited (nat_lt (mapping.place + (position - mapping.position)) (2 ^ 62)) is

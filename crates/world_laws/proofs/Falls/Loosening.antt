@@ -29,8 +29,7 @@ goes_loose Mode.InfiniteBoth f is = (refl, refl, refl)
 goes_loose _ f is = absurd (false≢true is)
 
 loosens_if : (b : Bool) (x y : Fall × Verdict) → RowLoosens x → RowLoosens y → RowLoosens (if b then x else y)
-loosens_if true x y h k = h
-loosens_if false x y h k = k
+loosens_if = elim [ true ↦ λ x y h k. h | false ↦ λ x y h k. k ]
 
 row_loosens : (path : ℕ) (sole : Bool) (f : Fall) → RowLoosens (fall_step f path sole Event.InfiniteHeard)
 row_loosens path sole f =

@@ -35,8 +35,7 @@ abbrev IsOwned : Sending → Type 0
 IsOwned b = is_for 0 b.owner ≡ true
 
 either_owned : (c : Bool) (b d : Sending) → IsOwned b → IsOwned d → IsOwned (if c then b else d)
-either_owned true b d x y = x
-either_owned false b d x y = y
+either_owned = elim [ true ↦ λ b d x y. x | false ↦ λ b d x y. y ]
 
 given_owned : (path : ℕ) (o : Result Span Why) (b : Sending) → IsOwned b → IsOwned (given_by path o b)
 given_owned path (Ok span) b h = h
@@ -141,8 +140,7 @@ module _ {C : Type 0} (k : Codec C) (six : SixBooks) (p : PathState C) (awake : 
   fell_owned s fell own = ⊎_elim (λ is. is) (λ joined. absurd (both_ways _ (unjoined s fell) joined)) own
     where
       unjoined : (s : Side) → FellBack six s → (control_of s six).fall.joined ≡ false
-      unjoined A is = fell_unjoined six.control_a.fall is
-      unjoined B is = fell_unjoined six.control_b.fall is
+      unjoined = elim [ A ↦ λ is. fell_unjoined six.control_a.fall is | B ↦ λ is. fell_unjoined six.control_b.fall is ]
 
   quiet_falls : (ask : Ask) → IsQuietAsk (path_of p) ask → FallsAsk six ask
   quiet_falls (Ask.Send s SendCall.GoIdentity) quiet = absurd quiet

@@ -43,8 +43,7 @@ never_opens e h = shut_is is_opening refl refl refl e.tcp.state h.closed
 
 -- what begins with a false test doesn't stand
 no : (b c : Bool) → b ≡ false → b && c ≡ true → ⊥
-no true c is stands = false≢true (sym is)
-no false c is stands = false≢true stands
+no = elim [ true ↦ λ c is stands. false≢true (sym is) | false ↦ λ c is stands. false≢true stands ]
 
 no_data : (c : Profile) (s : Side) (e : PathEnd) (o : Option Record) → IsShut e → data_stands c s e o ≡ true → ⊥
 no_data c s e (Some r) h stands = no (not (is_closed_to_segments e.tcp.state)) _ (ap not h.closed) stands
@@ -125,8 +124,7 @@ join_own state None = tt
 join_own state (Some tick) = if_so IsOwn (is_waiting_phase state) (Some (Event.Joins tick)) None refl tt
 
 line_own : (lines : List LineLeft) → IsOwn (next_line lines)
-line_own [] = tt
-line_own (line ∷ lines) = refl
+line_own = elim [ [] ↦ tt | line ∷ lines ↦ refl ]
 
 -- ---- what it is answered
 
@@ -150,8 +148,7 @@ module _ {C : Type 0} where
     pub idle : AreIdle p.agenda
 
   pub shut_at : (s : Side) (p : PathState C) → IsAsleep p → IsShut (end_at s p)
-  shut_at A p h = h.a
-  shut_at B p h = h.b
+  shut_at = elim [ A ↦ λ p h. h.a | B ↦ λ p h. h.b ]
 
   agenda_asleep : (ds : List Duty) (p : PathState C) → AreIdle ds → IsAsleep p → IsAsleep (with_agenda ds p)
   agenda_asleep ds p idle h = record { a = h.a; b = h.b; none = h.none; idle = idle }
@@ -261,16 +258,13 @@ module _ {C : Type 0} where
 
   -- so it stays, whatever is replied, as long as no join is begun
   pub takes_asleep : (k : Codec C) (r : Reply) (p : PathState C) → keys_begun r ≡ None → IsSettled p → IsAsleep p → IsAsleep (takes k r p)
-  takes_asleep k r p none settled_path h = by p.agenda refl
+  takes_asleep k r p none settled_path h = (elim p.agenda as (λ ds. p.agenda ≡ ds → IsAsleep (settles_down (answers k ds r p))) [
+    | [] ↦ λ is. settles p h
+    | d ∷ ds ↦ λ is. settles (answered k d r p) (answered_asleep k d r p none h (and_parts (is_idle d) (list_all is_idle ds) (subst AreIdle is h.idle)).0 (subst (λ xs. FirstStands xs p) is settled_path))
+  ]) refl
     where
       settles : (q : PathState C) → IsAsleep q → IsAsleep (settles_down q)
       settles q x = settled_asleep q.agenda q x.idle x
-
-      by : (ds : List Duty) → p.agenda ≡ ds → IsAsleep (settles_down (answers k ds r p))
-      by [] is = settles p h
-      by (d ∷ ds) is =
-          settles (answered k d r p)
-          (answered_asleep k d r p none h (and_parts (is_idle d) (list_all is_idle ds) (subst AreIdle is h.idle)).0 (subst (λ xs. FirstStands xs p) is settled_path))
 
   pub begins_asleep : (p : PathState C) → IsAsleep p → IsAsleep (next_round p)
   begins_asleep p h =
@@ -314,9 +308,7 @@ module _ {C : Type 0} where
   unsure_duty k six _ p unsure idle h = absurd (false≢true idle)
 
   pub begins_nothing : (k : Codec C) (six : SixBooks) (ask : Ask) (p : PathState C) → is_sure six.control_a.fall.mode ≡ false → asks_of k p ≡ Some ask → IsAsleep p → keys_begun (reply_of six ask) ≡ None
-  begins_nothing k six ask p unsure asks h = by p.agenda asks h.idle
-    where
-      by : (ds : List Duty) → asks_first k ds p ≡ Some ask → AreIdle ds → keys_begun (reply_of six ask) ≡ None
-      by [] is idle = cc
-      by (d ∷ ds) is idle =
-          subst (λ x. keys_begun (reply_of six x) ≡ None) (same_Some (ask_for k d p) ask is) (unsure_duty k six d p unsure (and_parts (is_idle d) (list_all is_idle ds) idle).0 h)
+  begins_nothing k six ask p unsure asks h = (elim p.agenda as (λ ds. asks_first k ds p ≡ Some ask → AreIdle ds → keys_begun (reply_of six ask) ≡ None) [
+    | [] ↦ λ is idle. cc
+    | d ∷ ds ↦ λ is idle. subst (λ x. keys_begun (reply_of six x) ≡ None) (same_Some (ask_for k d p) ask is) (unsure_duty k six d p unsure (and_parts (is_idle d) (list_all is_idle ds) idle).0 h)
+  ]) asks h.idle

@@ -201,8 +201,7 @@ module _ {C : Type 0} (k : Codec C) where
 
       plain : (t : Side) → is_joined (waiting_path {C = C} (path_begins start number plan) start.lines).profile ≡ true
           → (end_at t (waiting_path {C = C} (path_begins start number plan) start.lines)).modes.identity ≡ false
-      plain A joins = refl
-      plain B joins = refl
+      plain = elim [ A ↦ λ joins. refl | B ↦ λ joins. refl ]
 
   asked_wait : (t : Cast C) (x : Ask) (pass : Pass) (paths : List (Walker C)) → Every (Waits (books_in t.books)) paths → Every (Waits (books_in (after_entry x pass t.books))) paths
   asked_wait t x pass paths h = subst (λ (y : SixBooks). Every (Waits y) paths) (sym (books_after x pass t.books)) (each_waits (books_in t.books) x paths h)

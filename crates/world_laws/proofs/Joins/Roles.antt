@@ -42,12 +42,10 @@ pub record HasRoles (p : PathState Carried) : Type 0 where
   pub answer_b : IsNoSyn p.b.treated.answer
 
 pub answer_at : (s : Side) (p : PathState Carried) → HasRoles p → IsNoSyn (end_at s p).treated.answer
-answer_at A p h = h.answer_a
-answer_at B p h = h.answer_b
+answer_at = elim [ A ↦ λ p h. h.answer_a | B ↦ λ p h. h.answer_b ]
 
 pub role_at : (s : Side) (p : PathState Carried) → HasRoles p → is_joined p.profile ≡ true → is_apart s (end_at s p).tcp.state ≡ false
-role_at A p h joins = h.role_a joins
-role_at B p h joins = h.role_b joins
+role_at = elim [ A ↦ λ p h joins. h.role_a joins | B ↦ λ p h joins. h.role_b joins ]
 
 stays_false : (x y : Bool) → (y ≡ true → x ≡ true) → x ≡ false → y ≡ false
 stays_false x false more none = refl
@@ -202,8 +200,7 @@ begun_roles r dead living p h = elim (is_never r) as (λ b. HasRoles (if b then 
     [ true ↦ goes_roles A (never_joined r p.a) dead p (record { role = λ joins is. absurd (false≢true is); answer = tt }) h | false ↦ opens (keys_begun r) ]
   where
     begun : (b : Bool) → is_apart A (if b then after_begin p.a.tcp else p.a.tcp).state ≡ true → is_apart A p.a.tcp.state ≡ true
-    begun true is = absurd (false≢true is)
-    begun false is = is
+    begun = elim [ true ↦ λ is. absurd (false≢true is) | false ↦ λ is. is ]
 
     opens : (o : Option KeyPair) → HasRoles (goes_on A (opened_by o p.a) living p)
     opens None = same_roles A p.a living p refl refl h
@@ -361,8 +358,7 @@ occasion_goes s o sg p h = same_goes s (having_sent o p.clock sg (end_at s p)) p
     tcp = (end_at s p).tcp
 
     same : (o : Occasion) → (after_sending o p.clock tcp).state ≡ tcp.state
-    same Occasion.Reset = refl
-    same _ = refl
+    same = elim [ Occasion.Reset ↦ refl | _ ↦ refl ]
 
 -- where neither the phase nor what the copy said may be written, and no segment is sent
 end_kept : (w : EndWrites) (e f : PathEnd) → w.phase ≡ false → w.copy ≡ false → Only w e f → (f.tcp.state ≡ e.tcp.state) × (f.treated.answer ≡ e.treated.answer)

@@ -53,8 +53,7 @@ none_told m off _ is = refl
 
 module _ (p : PathState Carried) where
   no_fell : (s : Side) (event : FallEvent) → is_sign event ≡ false → is_fell (fell_ask s event p) ≡ false
-  no_fell A event none = none
-  no_fell B event none = refl
+  no_fell = elim [ A ↦ λ event none. none | B ↦ λ event none. refl ]
 
   no_key : (s : Side) (o : Option ℕ) → is_fell (peer_key_ask s o p) ≡ false
   no_key A None = refl
@@ -110,11 +109,11 @@ module _ (p : PathState Carried) where
   -- on path 0
   asked_first : (T : Type 0) (x : Ask) → asks_of values p ≡ Some x → is_fell x ≡ true → PathMet T p → T
   asked_first T x is fell (inl h) = asked_sign T x is fell h.signed
-  asked_first T x is fell (inr h) = by h.begins (sym (ap (λ ds. asks_first values ds p) h.agenda_is) ∙ is)
-    where
-      by : (begins : Bool) → asks_first values (if begins then Duty.Ask (AskDuty.SynAnswered A) ∷ Duty.Ask (AskDuty.PeerKey A) ∷ h.rest else Duty.Ask (AskDuty.PeerKey A) ∷ h.rest) p ≡ Some x → T
-      by true is = absurd (both_ways (is_fell (ask_for values (Duty.Ask (AskDuty.SynAnswered A)) p)) refl (ap is_fell (same_Some _ x is) ∙ fell))
-      by false is = absurd (both_ways _ (no_key A (key_heard (end_at A p).treated.items)) (ap is_fell (same_Some _ x is) ∙ fell))
+  asked_first T x is fell (inr h) =
+      (elim h.begins as (λ begins. asks_first values (if begins then Duty.Ask (AskDuty.SynAnswered A) ∷ Duty.Ask (AskDuty.PeerKey A) ∷ h.rest else Duty.Ask (AskDuty.PeerKey A) ∷ h.rest) p ≡ Some x → T) [
+        | true ↦ λ is. absurd (both_ways (is_fell (ask_for values (Duty.Ask (AskDuty.SynAnswered A)) p)) refl (ap is_fell (same_Some _ x is) ∙ fell))
+        | false ↦ λ is. absurd (both_ways _ (no_key A (key_heard (end_at A p).treated.items)) (ap is_fell (same_Some _ x is) ∙ fell))
+      ]) (sym (ap (λ ds. asks_first values ds p) h.agenda_is) ∙ is)
 
   -- a sign is told by a side that joined, on a path that joins
   sign_speaks : (ds : List Duty) → signs ds ≡ true → speaks (Voice.Says A) ds ≡ true
@@ -167,8 +166,7 @@ gone_stays_out Mode.Sure is = absurd (false≢true is)
 gone_stays_out _ is = (refl, refl)
 
 receiving_gone : (m : Mode) → is_gone (receiving m) ≡ true
-receiving_gone Mode.Starting = refl
-receiving_gone _ = refl
+receiving_gone = elim [ Mode.Starting ↦ refl | _ ↦ refl ]
 
 -- what an event makes of a fall: it is gone, or sure as before, or it starts and a sign of B came; and the verdict tells the mode
 record Turned (sign : Bool) (f : Fall) (row : Fall × Verdict) : Type 0 where
@@ -214,8 +212,7 @@ check_turned sign path sole f =
     (λ reads. turned_if sign f sole noted (breaks 6 f) (λ is. record { gone = λ gone. gone; sure = λ sure. inl sure; told = tt }) (λ isnt. breaks_turned sign 6 f))
 
 sending_gone : (m : Mode) → is_gone (sending m) ≡ true
-sending_gone Mode.Starting = refl
-sending_gone _ = refl
+sending_gone = elim [ Mode.Starting ↦ refl | _ ↦ refl ]
 
 fail_turned : (sign : Bool) (path : ℕ) (sole contiguous : Bool) (f : Fall) → Turned sign f (fall_step f path sole (FallEvent.FailHeard contiguous))
 fail_turned sign path sole contiguous f =
@@ -253,12 +250,10 @@ same_keeps c d keys fall = record {
 }
 
 if_keeps : (b : Bool) (c d e : Control) → (b ≡ true → Keeps c d) → Keeps c e → Keeps c (if b then d else e)
-if_keeps true c d e x y = x refl
-if_keeps false c d e x y = y
+if_keeps = elim [ true ↦ λ c d e x y. x refl | false ↦ λ c d e x y. y ]
 
 notice_keys : (n : Notice) (path : ℕ) (c : Control) → ((controlling.after_notice n path c).keys ≡ c.keys) × ((controlling.after_notice n path c).fall ≡ c.fall)
-notice_keys (Notice.Withdraw id) path c = (refl, refl)
-notice_keys _ path c = (refl, refl)
+notice_keys = elim [ Notice.Withdraw id ↦ λ path c. (refl, refl) | _ ↦ λ path c. (refl, refl) ]
 
 -- a book that has the key is fine
 keyed_keeps : (c d : Control) → HasKey d → (is_gone c.fall.mode ≡ true → is_gone d.fall.mode ≡ true) → Keeps c d
@@ -407,8 +402,7 @@ module _ (key_a key_b : ℕ) where
   next_member T (Path p) (inr (inr h)) over = absurd (still h.begins (ap is_nil (sym h.agenda_is) ∙ over))
     where
       still : (begins : Bool) → is_nil (if begins then Duty.Ask (AskDuty.SynAnswered A) ∷ Duty.Ask (AskDuty.PeerKey A) ∷ h.rest else Duty.Ask (AskDuty.PeerKey A) ∷ h.rest) ≡ true → ⊥
-      still true is = false≢true is
-      still false is = false≢true is
+      still = elim [ true ↦ λ is. false≢true is | false ↦ λ is. false≢true is ]
 
   -- ---- worlds
 
@@ -418,16 +412,14 @@ module _ (key_a key_b : ℕ) where
     pub fine : Fine (books_in w.books).control_a
 
   peer_key_is : (o : Option ℕ) → is_some o ≡ true → IfSome o (λ key. key ≡ key_b) → o ≡ Some key_b
-  peer_key_is None some is = absurd (false≢true some)
-  peer_key_is (Some key) some is = ap (λ n. Some n) is
+  peer_key_is = elim [ None ↦ λ some is. absurd (false≢true some) | Some key ↦ λ some is. ap (λ n. Some n) is ]
 
   knowing : (w : WorldState Carried) → WorldMet w → true ≡ true → control.is_sure (books_in w.books).control_a.fall.mode ≡ true → (books_in w.books).control_a.keys.peer ≡ Some key_b
   knowing w h right is = peer_key_is (books_in w.books).control_a.keys.peer (h.fine.sure is) h.keys.books.a.peer_is
 
   -- a fast close is no sign
   no_stop_fell : (s : Side) → is_fell (Ask.Control s ControlCall.FastClose) ≡ false
-  no_stop_fell A = refl
-  no_stop_fell B = refl
+  no_stop_fell = elim [ A ↦ refl | B ↦ refl ]
 
   -- a member that tells a sign has the key, or its side is past being sure
   app_signs : (T : Type 0) (ds : List AppDuty) (a : AppState) (x : Ask) → app_asks_first ds a ≡ Some x → is_fell x ≡ true → T

@@ -35,16 +35,16 @@ same_octets xs ys same = subst (λ zs. pointwise ◌==◌ xs zs ≡ true) same (
 -- the first MP_JOIN of a form has that form
 of_form : (of_step : JoinStep) (items : List Heard) (form : JoinForm) → join_heard of_step items ≡ Some form → is_of_step of_step form ≡ true
 of_form of_step [] form is = cc
-of_form of_step (item ∷ items) form is = by item (λ rest. of_form of_step items form rest) is
+of_form of_step (item ∷ items) form is =
+    (elim item as (λ item. (join_heard of_step items ≡ Some form → is_of_step of_step form ≡ true) → option_or (join_in of_step item) (join_heard of_step items) ≡ Some form → is_of_step of_step form ≡ true) [
+      | Heard.Join f ↦ λ later is. at f (is_of_step of_step f) later refl is
+      | Heard.Dss ↦ λ later is. later is
+      | _ ↦ λ later is. later is
+    ]) (λ rest. of_form of_step items form rest) is
   where
     at : (f : JoinForm) (b : Bool) → (join_heard of_step items ≡ Some form → is_of_step of_step form ≡ true) → is_of_step of_step f ≡ b → option_or (if b then Some f else None) (join_heard of_step items) ≡ Some form → is_of_step of_step form ≡ true
     at f true later of is = subst (λ g. is_of_step of_step g ≡ true) (same_Some f form is) of
     at f false later of is = later is
-
-    by : (item : Heard) → (join_heard of_step items ≡ Some form → is_of_step of_step form ≡ true) → option_or (join_in of_step item) (join_heard of_step items) ≡ Some form → is_of_step of_step form ≡ true
-    by (Heard.Join f) later is = at f (is_of_step of_step f) later refl is
-    by Heard.Dss later is = later is
-    by _ later is = later is
 
 -- what a SYN tells an end of this side: A hears an answer, and B that a join is asked for
 abbrev pub TellsJoin : Side → List Heard → Type 0
@@ -61,8 +61,7 @@ tells_join A sg tells some syn = tells some syn
 tells_join B sg tells some syn = first_asked (window_told sg.syn sg.window) sg.options (tells some syn)
 
 some_meant : (options : List PlainOption) → is_nil (map meant_option options) ≡ false → is_nil options ≡ false
-some_meant [] some = some
-some_meant (o ∷ options) some = refl
+some_meant = elim [ [] ↦ λ some. some | o ∷ options ↦ λ some. refl ]
 
 -- ---- an end of a path that joins
 
@@ -170,8 +169,7 @@ module _ (k : Secrets) (w : Side → Type 0) (did : Deed → Side → Type 0) (s
     where
       by : (o : Option JoinForm) → IfSome o (λ form. (true ≡ true) × (IsFor s form × (w (peer s) × ((true ≡ true) → JoinIs k true (peer s) form)))) → ((form : JoinForm) → o ≡ Some form → is_of_step JoinStep.Answer form ≡ true)
           → IfSome o (λ form. (is_of_step JoinStep.Answer form ≡ true) × ((true ≡ true) → JoinIs k true (peer s) form))
-      by None found form = tt
-      by (Some f) found form = (form f refl, found.1.1.1)
+      by = elim [ None ↦ λ found form. tt | Some f ↦ λ found form. (form f refl, found.1.1.1) ]
 
   not_forged : (copy_of heard).rst ≡ false → is_passed_over heard.rst items e ≡ false → is_forged items e ≡ false
   not_forged plain heeded =
@@ -185,8 +183,7 @@ module _ (k : Secrets) (w : Side → Type 0) (did : Deed → Side → Type 0) (s
           (found (join_heard JoinStep.Third items) (join_found k true w did true s JoinStep.Third items said))
         where
           found : (o : Option JoinForm) → IfSome o (λ form. (true ≡ true) × (IsFor s form × (w (peer s) × ((true ≡ true) → JoinIs k true (peer s) form)))) → IfSome o (λ form. (true ≡ true) → JoinIs k true (peer s) form)
-          found None is = tt
-          found (Some form) is = is.1.1.1
+          found = elim [ None ↦ λ is. tt | Some form ↦ λ is. is.1.1.1 ]
 
       some_third : (rst : Bool) (o : Option (List ℕ)) → rst ≡ false → not rst && is_none o ≡ false → is_some o ≡ true
       some_third false (Some hmac) plain none = refl
@@ -194,8 +191,7 @@ module _ (k : Secrets) (w : Side → Type 0) (did : Deed → Side → Type 0) (s
       some_third true o plain none = absurd (false≢true (sym plain))
 
   silent_welcome : (b : Bool) (m : Meaning) → IsWelcome (if b then Judged.As Meaning.Ignored else Judged.As m)
-  silent_welcome true m = tt
-  silent_welcome false m = tt
+  silent_welcome = elim [ true ↦ λ m. tt | false ↦ λ m. tt ]
 
   welcome : (m : Meaning) → FitsState e.tcp.state (copy_of heard) m → IsWelcome (join_judged heard.rst items m e)
   welcome Meaning.Opens fit =
@@ -221,8 +217,7 @@ module _ (k : Secrets) (w : Side → Type 0) (did : Deed → Side → Type 0) (s
 -- a reset is never refused
 module _ (s : Side) (e : PathEnd) (heard : HeardSegment) (reset : (copy_of heard).rst ≡ true) where
   silent_reset : (b : Bool) (m : Meaning) → IsWelcome (if b then Judged.As Meaning.Ignored else Judged.As m)
-  silent_reset true m = tt
-  silent_reset false m = tt
+  silent_reset = elim [ true ↦ λ m. tt | false ↦ λ m. tt ]
 
   reset_as : (m : Meaning) → FitsState e.tcp.state (copy_of heard) m → IsWelcome (join_judged heard.rst (items_of true s heard) m e)
   reset_as Meaning.RepeatedSyn fit = tt
@@ -314,8 +309,7 @@ opened_roles start = record { each = opened_actors (λ actor c. MemberRoles c.me
     })
       where
         apart : (number : ℕ) → is_apart A (waiting_path {C = Carried} (path_begins start number plan) start.lines).a.tcp.state ≡ false
-        apart zero = refl
-        apart (suc n) = refl
+        apart = elim [ zero ↦ refl | suc n ↦ refl ]
 
 pub all_roles : (start : Start) (turns : List Turn) → AllRoles (world_run values turns (opened_world start))
 all_roles start turns = run_roles turns (opened_world start) (opened_roles start)

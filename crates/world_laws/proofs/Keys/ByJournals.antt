@@ -38,12 +38,11 @@ any_last test (x ∷ xs) y is = (elim (test x) as (λ b. list_any test (xs ++ y 
 any_pushed : {X : Type 0} (P : Type 0) (test : X → Bool) (xs : List X) (y : X) → list_any test (xs ++ y ∷ []) ≡ true → (list_any test xs ≡ true → P) → (test y ≡ true → P) → P
 any_pushed P test [] y is old new = (elim (test y) as (λ b. b || false ≡ true → (b ≡ true → P) → P)
     [ true ↦ λ is new. new refl | false ↦ λ is new. absurd (false≢true is) ]) is new
-any_pushed P test (x ∷ xs) y is old new = by (test x) is old (any_pushed P test xs y)
-  where
-    by : (b : Bool) → b || list_any test (xs ++ y ∷ []) ≡ true → (b || list_any test xs ≡ true → P)
-        → (list_any test (xs ++ y ∷ []) ≡ true → (list_any test xs ≡ true → P) → (test y ≡ true → P) → P) → P
-    by true is old rest = old refl
-    by false is old rest = rest is old new
+any_pushed P test (x ∷ xs) y is old new =
+    (elim (test x) as (λ b. b || list_any test (xs ++ y ∷ []) ≡ true → (b || list_any test xs ≡ true → P) → (list_any test (xs ++ y ∷ []) ≡ true → (list_any test xs ≡ true → P) → (test y ≡ true → P) → P) → P) [
+      | true ↦ λ is old rest. old refl
+      | false ↦ λ is old rest. rest is old new
+    ]) is old (any_pushed P test xs y)
 
 -- ---- the control book
 
@@ -118,8 +117,7 @@ call_aborts P b (ReassemblyCall.Abort by_peer) is was aborts = (elim b.aborted a
     [ None ↦ λ is was. aborts (now by_peer is) | Some first ↦ λ is was. was is ]) is was
   where
     now : (c : Bool) → Some c ≡ Some true → ReassemblyCall.Abort c ≡ ReassemblyCall.Abort true
-    now true is = refl
-    now false is = cc
+    now = elim [ true ↦ λ is. refl | false ↦ λ is. cc ]
 
 -- a read that tells of the peer's abort was answered by a book that was aborted so
 told_so : (six : SixBooks) (a : AppState) (d : AppDuty) → tells_abort (reply_of six (app_ask d a)) ≡ true → (reassembly_of a.side six).aborted ≡ Some true
@@ -272,8 +270,7 @@ module _ (start : Start) where
   -- ---- a step of an application
 
   asks_closes : (s : Side) (x : Ask) → x ≡ Ask.Control s ControlCall.FastClose → asks_fast_close s x ≡ true
-  asks_closes A x same = ap (asks_fast_close A) same
-  asks_closes B x same = ap (asks_fast_close B) same
+  asks_closes = elim [ A ↦ λ x same. ap (asks_fast_close A) same | B ↦ λ x same. ap (asks_fast_close B) same ]
 
   other_closes : (P : Type 0) (s own : Side) (d : AppDuty) (a : AppState) → a.side ≡ own → app_ask d a ≡ Ask.Control s ControlCall.FastClose → (s ≡ own → P) → P
   other_closes P s own AppDuty.FastClose a side same is = is (sym (ap side_asked same) ∙ side)
@@ -395,8 +392,7 @@ module _ (start : Start) where
       so = path_asks start.key_a start.key_b false (Facts t) (books_in t.books) d ds w.path is knows
 
       closed : (s : Side) → Facts t Deed.Closed s → Facts u Deed.Closed s
-      closed A is = is
-      closed B is = is
+      closed = elim [ A ↦ λ is. is | B ↦ λ is. is ]
 
       stopped : (s : Side) → Facts t Deed.Stopped s → Facts u Deed.Stopped s
       stopped s is = accepts_more x w.at.pass t.books s is
@@ -443,8 +439,7 @@ module _ (start : Start) where
       aborted s is = both s (h.aborted s is)
 
       told : (s : Side) → was_told tells_abort (seat_of s (next_cast t)).list ≡ true → Caused (next_cast t) s
-      told A is = both A (h.told A is)
-      told B is = both B (h.told B is)
+      told = elim [ A ↦ λ is. both A (h.told A is) | B ↦ λ is. both B (h.told B is) ]
 
       each : (i : ℕ) (x : Walker Carried) → slice_get (next_cast t).paths i ≡ Some x → Knows (next_cast t) x.path
       each i x there =
@@ -467,16 +462,13 @@ module _ (start : Start) where
   }
     where
       carries : (s : Side) → is_some (control_of s (books_in (first_cast {C = Carried} start).books)).notices.carrier ≡ true → Facts (first_cast start) Deed.Closed s
-      carries A is = absurd (false≢true is)
-      carries B is = absurd (false≢true is)
+      carries = elim [ A ↦ λ is. absurd (false≢true is) | B ↦ λ is. absurd (false≢true is) ]
 
       aborted : (s : Side) → (reassembly_of s (books_in (first_cast {C = Carried} start).books)).aborted ≡ Some true → Caused (first_cast start) s
-      aborted A is = cc
-      aborted B is = cc
+      aborted = elim [ A ↦ λ is. cc | B ↦ λ is. cc ]
 
       told : (s : Side) → was_told tells_abort (seat_of s (first_cast start)).list ≡ true → Caused (first_cast start) s
-      told A is = absurd (false≢true is)
-      told B is = absurd (false≢true is)
+      told = elim [ A ↦ λ is. absurd (false≢true is) | B ↦ λ is. absurd (false≢true is) ]
 
   pub run_causes : (turns : List Turn) → Has start Causes (world_run values turns (opened_world start))
   run_causes turns =

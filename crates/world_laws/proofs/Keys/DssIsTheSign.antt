@@ -73,8 +73,7 @@ joins_led (JoinForm.Syn backup id token nonce) = tt
 joins_led (JoinForm.Third hmac) = tt
 
 keys_led : (keys : CapableKeys) → Led false (key_items A keys)
-keys_led (Sender sender) = (tt, tt)
-keys_led _ = tt
+keys_led = elim [ Sender sender ↦ (tt, tt) | _ ↦ tt ]
 
 address_led : (echo : Bool) (id : ℕ) (address : Address) (port hmac : Option ℕ) → Led false (address_items echo id address port hmac)
 address_led true id address port hmac = (tt, tt)
@@ -126,8 +125,7 @@ no_more zero (x ∷ items) none is = cc
 no_more (suc n) (x ∷ items) none is = (none.0, no_more n items none.1 is)
 
 nothing_before : (n : ℕ) → NoneBefore n []
-nothing_before zero = tt
-nothing_before (suc n) = tt
+nothing_before = elim [ zero ↦ tt | suc n ↦ tt ]
 
 -- ---- what is to be done
 
@@ -164,8 +162,7 @@ died_follows false true = tt
 died_follows false false = tt
 
 fired_follows : (sixth : Bool) (s : Side) → Follows 0 (template_fired sixth s)
-fired_follows true s = tt
-fired_follows false s = tt
+fired_follows = elim [ true ↦ λ s. tt | false ↦ λ s. tt ]
 
 -- ---- an end keeps what its copy said, or forgets it
 
@@ -179,12 +176,10 @@ forgets : (e f : PathEnd) → f.treated.items ≡ [] → Recalls e f
 forgets e f none = record { kept = inr none }
 
 either_recalls : (b : Bool) (e f g : PathEnd) → Recalls e f → Recalls e g → Recalls e (if b then f else g)
-either_recalls true e f g x y = x
-either_recalls false e f g x y = y
+either_recalls = elim [ true ↦ λ e f g x y. x | false ↦ λ e f g x y. y ]
 
 opened_recalls : (keys : Option KeyPair) (e : PathEnd) → Recalls e (opened_by keys e)
-opened_recalls None e = recalls_all e _ refl
-opened_recalls (Some keys) e = recalls_all e _ refl
+opened_recalls = elim [ None ↦ λ e. recalls_all e _ refl | Some keys ↦ λ e. recalls_all e _ refl ]
 
 recalled_led : (e f : PathEnd) → Recalls e f → Led false e.treated.items → Led false f.treated.items
 recalled_led e f r h = ⊎_elim (λ same. subst (Led false) (sym same) h) (λ none. subst (Led false) (sym none) tt) r.kept
@@ -325,8 +320,7 @@ module _ {C : Type 0} where
     where
       by : (b : Bool) → stands d p ≡ b → (stands d p ≡ false → Leads (settled ds (passed d p)).agenda (settled ds (passed d p)))
           → Leads (if b then with_agenda (d ∷ ds) p else settled ds (passed d p)).agenda (if b then with_agenda (d ∷ ds) p else settled ds (passed d p))
-      by true is rest = agenda_leads (d ∷ ds) p h
-      by false is rest = rest is
+      by = elim [ true ↦ λ is rest. agenda_leads (d ∷ ds) p h | false ↦ λ is rest. rest is ]
 
   -- ---- events: what is to be done then begins anew
 
@@ -336,8 +330,7 @@ module _ {C : Type 0} where
     follows : Follows 0 q.agenda
 
   either_anew : (b : Bool) (p q r : PathState C) → Anew p q → Anew p r → Anew p (if b then q else r)
-  either_anew true p q r x y = x
-  either_anew false p q r x y = y
+  either_anew = elim [ true ↦ λ p q r x y. x | false ↦ λ p q r x y. y ]
 
   anew_leads : (p q : PathState C) → Anew p q → Leads q.agenda q
   anew_leads p q x = record { led = x.led; clear = inr (record { n = 0; none = inr tt; follows = x.follows }) }
@@ -383,8 +376,7 @@ module _ {C : Type 0} where
   -- ---- replies
 
   either_goes : (b : Bool) (d : Duty) (ds : List Duty) (p q r : PathState C) → Goes d ds p q q.agenda → Goes d ds p r r.agenda → Goes d ds p (if b then q else r) (if b then q else r).agenda
-  either_goes true d ds p q r x y = x
-  either_goes false d ds p q r x y = y
+  either_goes = elim [ true ↦ λ d ds p q r x y. x | false ↦ λ d ds p q r x y. y ]
 
   begun_goes : (r : Reply) (ds : List Duty) (p : PathState C) → let m = with_agenda ((Duty.Ask AskDuty.JoinAgain) ∷ ds) p in let q = join_begun r (Duty.Ask (AskDuty.Leave A) ∷ ds) ds m in Goes (Duty.Ask AskDuty.JoinAgain) ds m q q.agenda
   begun_goes r ds p = either_goes (is_never r) (Duty.Ask AskDuty.JoinAgain) ds (with_agenda ((Duty.Ask AskDuty.JoinAgain) ∷ ds) p) _ _

@@ -72,8 +72,7 @@ module _ (k : Secrets) (right : Bool) (w : Side → Type 0) (did : Deed → Side
       [ true ↦ λ is now. was joins is | false ↦ λ is now. at s (said joins) now ]) refl now
     where
       at : (s : Side) → OfB (peer s) (w B) → is_side_a s ≡ true → w B
-      at A said own = said
-      at B said own = absurd (false≢true own)
+      at = elim [ A ↦ λ said own. said | B ↦ λ said own. absurd (false≢true own) ]
 
   -- B's end may send one where it might
   cleared_meets : (s : Side) (b : Bool) (P : Type 0) → (b ≡ true → OfB s P) → b || is_side_a s ≡ true → OfB s P
@@ -104,8 +103,7 @@ module _ (k : Secrets) (right : Bool) (w : Side → Type 0) (did : Deed → Side
   }
     where
       by : (t : Side) → Needs k right t e.modes → Needs k right t (item_passed s (Some Heard.Dss) e).modes
-      by A has = has
-      by B has = has
+      by = elim [ A ↦ λ has. has | B ↦ λ has. has ]
   passed_item joined s (Some (Heard.DataAck next window)) e said h =
       kept_end k right w did joined s e (with_data_ack next e) refl refl (record { up = λ x. x; waits = λ x. x; past = λ x. x }) h
   passed_item joined s (Some (Heard.Mapping fin)) e said h = elim (counts e) as (λ b. EndIs k right w did joined s (if b then with_learned e else with_skipped e)) [
@@ -124,8 +122,7 @@ module _ (k : Secrets) (right : Bool) (w : Side → Type 0) (did : Deed → Side
       item_so (λ f. Knows k right w did t f.modes) s o e has (signed t has) (λ next. same_knows k right w did t e.modes (with_data_ack next e).modes refl has) has has (λ place. has)
     where
       signed : (t : Side) → Knows k right w did t e.modes → Knows k right w did t (after_dss s e).modes
-      signed A has = (has.0, has.1)
-      signed B has = (has.0, has.1)
+      signed = elim [ A ↦ λ has. (has.0, has.1) | B ↦ λ has. (has.0, has.1) ]
 
   item_waits : (s : Side) (o : Option Heard) (e : PathEnd) → is_waiting (item_passed s o e).tcp.state ≡ true → is_waiting e.tcp.state ≡ true
   item_waits s o e =
@@ -162,8 +159,7 @@ module _ (k : Secrets) (right : Bool) (w : Side → Type 0) (did : Deed → Side
       (kept_end k right w did (is_joined p.profile) s (end_at s p) (with_plain_ack (end_at s p)) refl refl (record { up = λ x. x; waits = λ x. x; past = λ x. x }) (end_is k right w did s p h)) (λ is. is) (λ is has. (has.0, λ sure. by s (has.1 sure))) h
     where
       by : (t : Side) → Needs k right t (end_at s p).modes → Needs k right t (with_plain_ack (end_at s p)).modes
-      by A has = has
-      by B has = has
+      by = elim [ A ↦ λ has. has | B ↦ λ has. has ]
   passed_is (Duty.Step (StepDuty.Unmapped s)) p h =
       with_is k right w did s (after_pieces (end_at s p)) p
       (kept_end k right w did (is_joined p.profile) s (end_at s p) (after_pieces (end_at s p)) refl refl (record { up = λ x. x; waits = λ x. x; past = λ x. x }) (end_is k right w did s p h)) (λ is. is) (λ is has. has) h
@@ -279,8 +275,7 @@ module _ (k : Secrets) (right : Bool) (w : Side → Type 0) (did : Deed → Side
       calm t false false = refl
 
       still : (b : Bool) → is_waiting (if b then p.a else died p.a).tcp.state ≡ true → is_waiting p.a.tcp.state ≡ true
-      still true waiting = waiting
-      still false waiting = absurd (false≢true waiting)
+      still = elim [ true ↦ λ waiting. waiting | false ↦ λ waiting. absurd (false≢true waiting) ]
 
   line_is : (action : LineAction) (p : PathState Carried) → PathIs k right w did p → PathIs k right w did (after_line action p)
   line_is LineAction.Die p h = died_path p h
@@ -365,8 +360,7 @@ module _ (k : Secrets) (right : Bool) (w : Side → Type 0) (did : Deed → Side
   not_joined s r p said is fell = (by (is_joined p.profile) refl, (is fell).0)
     where
       by : (b : Bool) → is_joined p.profile ≡ b → b ≡ false
-      by true joins = absurd ((is fell).1 (said joins).0)
-      by false joins = refl
+      by = elim [ true ↦ λ joins. absurd ((is fell).1 (said joins).0) | false ↦ λ joins. refl ]
 
   fell_known : (s : Side) (e : PathEnd) (r : Reply) (p : PathState Carried) → Said s p → FallIs s r → Stays k right w did s e p → PathIs k right w did p
       → AreKnown k right w did (with_end s e p) (fell_duties s r p)
@@ -452,12 +446,11 @@ module _ (k : Secrets) (right : Bool) (w : Side → Type 0) (did : Deed → Side
   data_is s None r p first stands h = grant_is s (grant_in r) r p h
 
   heard_answered : (s : Side) (item : Heard) (r : Reply) (p : PathState Carried) → ItemIs k right w did (is_joined p.profile) s item → Said s p → ReplyIs (heard_ask values s item p) r → PathIs k right w did p → PathIs k right w did (answered_heard values s item r p)
-  heard_answered s (Heard.DataAck next window) r p own said is h = by (is_acked r && nat_lt 0 next)
-    where
-      by : (b : Bool) → PathIs k right w did (goes_on s (with_acked next r (end_at s p)) (if b then replaced (Duty.Ask (AskDuty.AckHeard s)) p.agenda else left p) p)
-      by true =
-          says_next s (Duty.Ask (AskDuty.AckHeard s)) (with_acked next r (end_at s p)) p (λ x telling. tells_same x s telling) refl refl (record { up = λ x. x; waits = λ x. x; past = λ x. x }) said h
-      by false = same_goes k right w did s (with_acked next r (end_at s p)) (left p) p refl refl (record { up = λ x. x; waits = λ x. x; past = λ x. x }) (none_left k right w did p) h
+  heard_answered s (Heard.DataAck next window) r p own said is h =
+      elim (is_acked r && nat_lt 0 next) as (λ b. PathIs k right w did (goes_on s (with_acked next r (end_at s p)) (if b then replaced (Duty.Ask (AskDuty.AckHeard s)) p.agenda else left p) p)) [
+        | true ↦ says_next s (Duty.Ask (AskDuty.AckHeard s)) (with_acked next r (end_at s p)) p (λ x telling. tells_same x s telling) refl refl (record { up = λ x. x; waits = λ x. x; past = λ x. x }) said h
+        | false ↦ same_goes k right w did s (with_acked next r (end_at s p)) (left p) p refl refl (record { up = λ x. x; waits = λ x. x; past = λ x. x }) (none_left k right w did p) h
+      ]
   heard_answered s (Heard.Mapping fin) r p own said is h = by (is_clash (end_at s p)) is
     where
       by : (b : Bool) → ReplyIs (if b then break_ask values s 1 p else fell_ask s FallEvent.MappingHeard p) r
@@ -627,8 +620,7 @@ module _ (k : Secrets) (right : Bool) (w : Side → Type 0) (did : Deed → Side
       if_may false n was same = was
 
       kept : (b : Bool) (key : ℕ) → did Deed.Closed s → IfSome (if b then e.notices.carrier else Some key) (λ key. did Deed.Closed s)
-      kept true key closed = was
-      kept false key closed = closed
+      kept = elim [ true ↦ λ key closed. was | false ↦ λ key closed. closed ]
 
       by : (dead : Bool) (notice : Notice) → IfSome (carrier_in notice) (λ key. did Deed.Closed s)
           → IfSome (if dead then e.notices else after_notice notice (may_note e) e.notices).carrier (λ key. did Deed.Closed s)
@@ -642,8 +634,7 @@ module _ (k : Secrets) (right : Bool) (w : Side → Type 0) (did : Deed → Side
   look_carries s _ e closed was = was
 
   identity_knows : (s : Side) (e : PathEnd) → Knows k right w did s e.modes → Knows k right w did s (in_identity e).modes
-  identity_knows A e has = has
-  identity_knows B e has = has
+  identity_knows = elim [ A ↦ λ e has. has | B ↦ λ e has. has ]
 
   answered_is : (d : Duty) (r : Reply) (p : PathState Carried) → stands d p ≡ true → ((x : Voice) → is_said_by x d ≡ true → VoiceIs k right w did p x)
       → ReplyIs (ask_for values d p) r → PathIs k right w did p → PathIs k right w did (answered values d r p)
@@ -703,8 +694,7 @@ module _ (k : Secrets) (right : Bool) (w : Side → Type 0) (did : Deed → Side
       heard_join s (keys_begun r) (asked_at s p) r p (by (asked_at s p) is) (asked_is k right w did (is_joined p.profile) s (end_at s p).treated.items (end_is k right w did s p h).items) h
     where
       by : (o : Option Asked) → ReplyIs (join_heard_ask s o p) r → IfSome o (λ x. IfSome (keys_begun r) (BeginIs k right w did s))
-      by None is = tt
-      by (Some asked) is = is
+      by = elim [ None ↦ λ is. tt | Some asked ↦ λ is. is ]
   answered_is (Duty.Send (SendDuty.Refuse s)) r p stands said is h = same_sent k right w did s _ _ _ p (refusal_is s p h) refl refl (record { up = λ x. x; waits = λ x. x; past = λ x. x }) (none_left k right w did p) h
   answered_is (Duty.Ask (AskDuty.Opened s)) r p stands said is h =
       keys_kept s (keys_heard (end_at s p).treated.items) r p (pair_found k right w did (is_joined p.profile) s (end_at s p).treated.items (end_is k right w did s p h).items) (said (Voice.Says s) (itself s)) is h

@@ -49,8 +49,7 @@ either_mode m true c d x y = x
 either_mode m false c d x y = y
 
 notice_mode : (n : Notice) (path : ℕ) (c : Control) → (controlling.after_notice n path c).fall.mode ≡ c.fall.mode
-notice_mode (Notice.Withdraw id) path c = refl
-notice_mode _ path c = refl
+notice_mode = elim [ Notice.Withdraw id ↦ λ path c. refl | _ ↦ λ path c. refl ]
 
 -- keys that are heard confirm the side, and leave its mode
 keys_mode : (fall : Fall) → (fall_keys fall).0.mode ≡ fall.mode
@@ -62,16 +61,13 @@ abbrev WasSure : Fall → Fall → Type 0
 WasSure f g = is_sure g.mode ≡ true → is_sure f.mode ≡ true
 
 row_sure : (b : Bool) (f : Fall) (x y : Fall × Verdict) → WasSure f x.0 → WasSure f y.0 → WasSure f (if b then x else y).0
-row_sure true f x y p q = p
-row_sure false f x y p q = q
+row_sure = elim [ true ↦ λ f x y p q. p | false ↦ λ f x y p q. q ]
 
 receiving_unsure : (m : Mode) → is_sure (receiving m) ≡ true → ⊥
-receiving_unsure Mode.Starting is = false≢true is
-receiving_unsure _ is = false≢true is
+receiving_unsure = elim [ Mode.Starting ↦ λ is. false≢true is | _ ↦ λ is. false≢true is ]
 
 sending_unsure : (m : Mode) → is_sure (sending m) ≡ true → ⊥
-sending_unsure Mode.Starting is = false≢true is
-sending_unsure _ is = false≢true is
+sending_unsure = elim [ Mode.Starting ↦ λ is. false≢true is | _ ↦ λ is. false≢true is ]
 
 plain_sure : (f : Fall) → WasSure f (fall_plain f).0
 plain_sure f = row_sure (is_starting f.mode && not f.joined) f (goes Mode.Identity f) (stays f) (λ is. absurd (false≢true is)) (λ is. is)
@@ -129,8 +125,7 @@ mild_sure six (Ask.Reassembly B call) mild = λ is. is
 mild_sure six (Ask.Local step) mild = λ is. is
 
 app_mild : (d : AppDuty) (a : AppState) → IsMild (app_ask d a)
-app_mild AppDuty.FastClose a = tt
-app_mild _ a = tt
+app_mild = elim [ AppDuty.FastClose ↦ λ a. tt | _ ↦ λ a. tt ]
 
 -- ---- what a path asks while A's end isn't clear
 
@@ -311,13 +306,10 @@ module _ (t : Cast Carried) (number : ℕ) (x : Walker Carried) (there : slice_g
       (clear_or_mild number refl)
 
   asleep_after : IsAsleep x.path → IsAsleep y.path ⊎ FirstIsClear (set t.paths number y)
-  asleep_after sleeps = by (is_sure six.control_a.fall.mode) refl
-    where
-      by : (b : Bool) → is_sure six.control_a.fall.mode ≡ b → IsAsleep y.path ⊎ FirstIsClear (set t.paths number y)
-      by true is = inr (first_stays (h.sure is))
-      by false is =
-          let none = begins_nothing values six ask x.path is (ap (λ xs. asks_first values xs x.path) agenda) sleeps in
-          inl (takes_asleep values (reply_of six ask) x.path none settled_here sleeps)
+  asleep_after sleeps = (elim (is_sure six.control_a.fall.mode) as (λ b. is_sure six.control_a.fall.mode ≡ b → IsAsleep y.path ⊎ FirstIsClear (set t.paths number y)) [
+    | true ↦ λ is. inr (first_stays (h.sure is))
+    | false ↦ λ is. let none = begins_nothing values six ask x.path is (ap (λ xs. asks_first values xs x.path) agenda) sleeps in inl (takes_asleep values (reply_of six ask) x.path none settled_here sleeps)
+  ]) refl
 
   others_after : (n : ℕ) (z : Walker Carried) → slice_get (set t.paths number y) (suc n) ≡ Some z → IsAsleep z.path ⊎ FirstIsClear (set t.paths number y)
   others_after n z at = ⊎_elim

@@ -68,8 +68,7 @@ pub timer_up : (now : ℕ) (e : PathEnd) → NoWaking e.tcp (after_timer now e).
 timer_up now e = record { up = by (is_closed_to_segments e.tcp.state) _; waits = λ is. is; past = λ is. is }
   where
     by : (b on : Bool) → not b || is_some (timer_settled (not b && on) e.sending.news now e.tcp.timing) ≡ true → not b || is_some e.tcp.timing.timer ≡ true
-    by false on up = refl
-    by true on up = absurd (false≢true up)
+    by = elim [ false ↦ λ on up. refl | true ↦ λ on up. absurd (false≢true up) ]
 
 pub sending_up : (o : Occasion) (now : ℕ) (s : EndState) → NoWaking s (after_sending o now s)
 sending_up Occasion.Reset now s = record { up = λ up. up; waits = λ is. is; past = λ is. is }
@@ -127,8 +126,7 @@ kind_alike : (kind : AckKind) (since : Option ℕ) (now : ℕ) (s : EndState) �
 kind_alike (AckKind.New octets) since now s = let same = by (is_fin_acked s.send) in record { state = same.0; waits = same.1; past = same.2; timer = refl }
   where
     by : (b : Bool) → Same (if b then states.after_fin_acked s.state else s.state) s.state
-    by true = acked_same s.state
-    by false = (refl, refl, refl)
+    by = elim [ true ↦ acked_same s.state | false ↦ (refl, refl, refl) ]
 kind_alike _ since now s = record { state = refl; waits = refl; past = refl; timer = refl }
 
 ack_alike : (pos now : ℕ) (s : EndState) → Alike s (after_acknowledgement pos now s)
@@ -137,8 +135,7 @@ ack_alike pos now s =
     then_alike s t (after_acknowledgement pos now s) (record { state = refl; waits = refl; past = refl; timer = refl }) (kind_alike (ack_kind pos s.send) (sample_of pos s.send) now t)
 
 row_alike : (b : Bool) (s t u : EndState) → Alike s t → Alike s u → Alike s (if b then t else u)
-row_alike true s t u x y = x
-row_alike false s t u x y = y
+row_alike = elim [ true ↦ λ s t u x y. x | false ↦ λ s t u x y. y ]
 
 owing_alike : (b : Bool) (s : EndState) → Alike s (owing_if b s)
 owing_alike true s = record { state = refl; waits = refl; past = refl; timer = refl }
@@ -258,8 +255,7 @@ module _ (rst : Bool) (items : List Heard) (e : PathEnd) where
   nothing_wakes = record { no_syn = refl; lively = λ is. absurd (false≢true is) }
 
   unless_silent : (silent : Bool) (m : Meaning) → WakesNone m e.tcp → WakesNone (taken_as (if silent then Judged.As Meaning.Ignored else Judged.As m)) e.tcp
-  unless_silent true m none = nothing_wakes
-  unless_silent false m none = none
+  unless_silent = elim [ true ↦ λ m none. nothing_wakes | false ↦ λ m none. none ]
 
   wakes_none : (m : Meaning) → (is_lively m ≡ true → is_up e.tcp ≡ true) → WakesNone (taken_as (join_judged rst items m e)) e.tcp
   wakes_none Meaning.Opens up = if_so (λ z. WakesNone (taken_as z) e.tcp) (is_some (join_asked items)) Judged.Asks Judged.Lacks nothing_wakes nothing_wakes
@@ -385,8 +381,7 @@ same_or_calm A B is = absurd (false≢true is)
 same_or_calm B A is = absurd (false≢true is)
 
 pub itself : (s : Side) → same_side s s ≡ true
-itself A = refl
-itself B = refl
+itself = elim [ A ↦ refl | B ↦ refl ]
 
 -- ---- what happens next
 
@@ -433,5 +428,4 @@ next_happens p event is = subst (λ o. IfSome o (Happens p)) is (by (earliest p)
     soon x false has = tt
 
     by : (o : Option Event) → IfSome o (Happens p) → IfSome (option_and_then (before p.until) o) (Happens p)
-    by None has = tt
-    by (Some x) has = soon x (nat_lt (tick_of x) p.until) has
+    by = elim [ None ↦ λ has. tt | Some x ↦ λ has. soon x (nat_lt (tick_of x) p.until) has ]

@@ -381,8 +381,7 @@ module _ (six : SixBooks) (others : Others) (p : PathState Carried) (ab ba : Lan
     -- ---- a join
 
     join_heard_quiet : (o : Option JoinSyn) → MayAnswer s six → IsQuiet six (join_heard_ask s o p)
-    join_heard_quiet None may = tt
-    join_heard_quiet (Some asked) may = may
+    join_heard_quiet = elim [ None ↦ λ may. tt | Some asked ↦ λ may. may ]
 
     join_by : (keys : Option KeyPair) (o : Option JoinSyn) (r : Reply) (ask : Ask) → IsQuiet six ask → IfSome o (λ asked. HasNone out.acks e.treated.window) → Steps ask (join_taken s keys o r p)
     join_by (Some keys) (Some asked) r ask is has =

@@ -17,12 +17,10 @@ read_more [] n = append-nil (bytes_noted n)
 read_more (note ∷ notes) n = ap (λ xs. bytes_noted note ++ xs) (read_more notes n) ∙ sym (append_assoc (bytes_noted note) (read_by notes) (bytes_noted n))
 
 or_false : (b : Bool) → (b || false) ≡ b
-or_false true = refl
-or_false false = refl
+or_false = elim [ true ↦ refl | false ↦ refl ]
 
 pub or_true : (b : Bool) → (b || true) ≡ true
-or_true true = refl
-or_true false = refl
+or_true = elim [ true ↦ refl | false ↦ refl ]
 
 -- ---- an application
 
@@ -41,8 +39,7 @@ pub record Reads (told : Bool) (notes : List Note) (r : Reader) : Type 0 where
 -- ---- the agenda
 
 same_stands : (d : AppDuty) (ds : List AppDuty) (a : AppState) → app_stands d a ≡ true → app_stands d (record a { agenda = d ∷ ds }) ≡ true
-same_stands AppDuty.FastClose ds a is = is
-same_stands _ ds a is = is
+same_stands = elim [ AppDuty.FastClose ↦ λ ds a is. is | _ ↦ λ ds a is. is ]
 
 -- settling changes the agenda alone, and what then stands first comes to something
 pub record Settles (a b : AppState) : Type 0 where
@@ -69,8 +66,7 @@ pub writes_more : (file rest : List ℕ) (buffer : ℕ) (b : Sending) → not (i
 writes_more file rest buffer b some h = by (b.closed || b.aborted) refl
   where
     nonempty : (xs : List ℕ) → not (is_nil xs) ≡ true → xs ≡ [] → ⊥
-    nonempty [] is e = false≢true is
-    nonempty (x ∷ xs) is e = cc
+    nonempty = elim [ [] ↦ λ is e. false≢true is | x ∷ xs ↦ λ is e. cc ]
 
     by : (shut : Bool) → (b.closed || b.aborted) ≡ shut
         → Writes file (drop (taken_in (Reply.Send (if shut then SendReply.Shut else SendReply.Taken (send.bytes_taken (take buffer rest) b)))) rest)

@@ -27,8 +27,7 @@ module _ (acks : List AckCopy) (p : Lane) (window : ℕ) where
   one item h = every_cons item [] h (Every-nil _)
 
   said_if : (b : Bool) (item : Heard) → ItemShows acks p item → Says (if b then item ∷ [] else [])
-  said_if true item h = one item h
-  said_if false item h = Every-nil _
+  said_if = elim [ true ↦ λ item h. one item h | false ↦ λ item h. Every-nil _ ]
 
   mapping_says : (place position len : ℕ) → Says (mapping_items place position len false)
   mapping_says place position len = if_so Says (is_mapping place position len) (Heard.Mapping false ∷ []) [] (one (Heard.Mapping false) tt) (Every-nil _)
@@ -67,8 +66,7 @@ module _ (acks : List AckCopy) (p : Lane) (window : ℕ) where
   join_says B (JoinForm.Answer backup id hmac nonce) = Every-nil _
 
   key_items_say : (joined : Bool) (s : Side) (keys : CapableKeys) → Says (if joined then [] else key_items s keys)
-  key_items_say true s keys = Every-nil _
-  key_items_say false s keys = keys_say s keys
+  key_items_say = elim [ true ↦ λ s keys. Every-nil _ | false ↦ λ s keys. keys_say s keys ]
 
   option_says : (c : Profile) (from : Side) (joined : Bool) (s : Side) (o : PlainOption) → OptionShows c from window acks p o → Says (items_in joined s window (meant_option o))
   option_says c from joined s (Capable flag_a flag_c keys) h = key_items_say joined s keys

@@ -10,12 +10,10 @@ use Rattle.world_laws.proofs.Lanes.Showing.{Under, Knowledge, is_unfinished, Sen
 -- ---- fewer octets
 
 gap_there : (places : List (Option ℕ)) (i b : ℕ) → slice_get (gap_before places) (suc i) ≡ Some (Some b) → slice_get places i ≡ Some (Some b)
-gap_there [] i b e = cc
-gap_there (place ∷ places) i b e = e
+gap_there = elim [ [] ↦ λ i b e. cc | place ∷ places ↦ λ i b e. e ]
 
 no_gap : (places : List (Option ℕ)) (b : ℕ) → slice_get (gap_before places) 0 ≡ Some (Some b) → ⊥
-no_gap [] b e = cc
-no_gap (place ∷ places) b e = cc
+no_gap = elim [ [] ↦ λ b e. cc | place ∷ places ↦ λ b e. cc ]
 
 pub cut_there : (n : ℕ) (places : List (Option ℕ)) (i b : ℕ) → slice_get (cut n places) i ≡ Some (Some b) → slice_get places i ≡ Some (Some b)
 cut_there zero places i b e = cc

@@ -67,8 +67,7 @@ module _ (c : Profile) (s : Side) (out back : Lane) where
 
   -- the first one that is held is passed over
   skipped_held : (xs : List KeptMapping) → Every (HeldShows c back.sent back.datas) xs → Every (HeldShows c back.sent back.datas) (others_of xs)
-  skipped_held [] h = h
-  skipped_held (kept ∷ xs) h = every_rest kept xs h
+  skipped_held = elim [ [] ↦ λ h. h | kept ∷ xs ↦ λ h. every_rest kept xs h ]
 
   pub skipped_shows : (e : PathEnd) → EndShows c s e out back → EndShows c s (with_skipped e) out back
   skipped_shows e h = record { sender = h.sender; receiver = h.receiver; acks = h.acks; told = h.told; treated = h.treated; pairs = h.pairs; held = record { each = skipped_held e.receiving.mappings.held h.held.each; summed = h.held.summed; none = h.held.none } }
@@ -221,8 +220,7 @@ module _ (c : Profile) (s : Side) (out back : Lane) where
   checks_from true kept tcp piece is uses = by (is_whole kept tcp && is_right kept tcp) refl is
     where
       by : (b : Bool) → (is_whole kept tcp && is_right kept tcp) ≡ b → (if b then some_piece (piece_in kept tcp) else None) ≡ Some piece → (is_whole kept tcp && is_right kept tcp) ≡ true
-      by true are is = are
-      by false are is = cc
+      by = elim [ true ↦ λ are is. are | false ↦ λ are is. cc ]
 
   mapped_from : (P : KeptMapping → Type 0) (v : Mappings) (edge : ℕ) (kept : KeptMapping) → mapping_at v edge ≡ Some kept → Every P v.live → P kept × (covers edge (run_of kept) ≡ true)
   mapped_from P v edge kept is h = (elim (nat_lt edge v.forgotten) as (λ b. (if b then None else find (λ m. covers edge (run_of m)) v.live) ≡ Some kept → P kept × (covers edge (run_of kept) ≡ true))
@@ -475,17 +473,17 @@ module _ (c : Profile) (s : Side) (out back : Lane) where
               omega (arith, above, enough, zero_is)
 
   pub failing_alters : (v : View) (path : ℕ) → LaneHolds v path back → (e : PathEnd) → EndShows c s e out back → IfSome (failing_by c.spelling.checksums (mapping_here e) e.tcp) (λ _. back.alters ≡ true)
-  failing_alters v path lane e h = here (receives_plainly e.modes e.tcp.recv.edge)
+  failing_alters v path lane e h =
+      elim (receives_plainly e.modes e.tcp.recv.edge) as (λ b. IfSome (failing_by c.spelling.checksums (if b then None else mapping_at e.receiving.mappings e.tcp.recv.edge) e.tcp) (λ _. back.alters ≡ true)) [
+        | true ↦ tt
+        | false ↦ found_by (mapping_at e.receiving.mappings e.tcp.recv.edge) refl
+      ]
     where
       found_by : (o : Option KeptMapping) → mapping_at e.receiving.mappings e.tcp.recv.edge ≡ o → IfSome (failing_by c.spelling.checksums o e.tcp) (λ _. back.alters ≡ true)
       found_by None at = tt
       found_by (Some kept) at =
           (elim (is_wrong c.spelling.checksums kept e.tcp) as (λ b. is_wrong c.spelling.checksums kept e.tcp ≡ b → IfSome (if b then Some kept else None) (λ _. back.alters ≡ true))
           [ true ↦ λ wrong. wrong_alters v path lane e kept at wrong h | false ↦ λ right. tt ]) refl
-
-      here : (b : Bool) → IfSome (failing_by c.spelling.checksums (if b then None else mapping_at e.receiving.mappings e.tcp.recv.edge) e.tcp) (λ _. back.alters ≡ true)
-      here true = tt
-      here false = found_by (mapping_at e.receiving.mappings e.tcp.recv.edge) refl
 
   filtered : {X : Type 0} {P : X → Type 0} (test : X → Bool) (xs : List X) → Every P xs → Every P (filter test xs)
   filtered test [] h = h
@@ -548,8 +546,7 @@ module _ (c : Profile) (s : Side) (out back : Lane) where
 
   -- behind the FIN nothing is kept
   none_there : (i byte : ℕ) → slice_get {X = Option ℕ} [] i ≡ Some (Some byte) → ⊥
-  none_there zero byte there = cc
-  none_there (suc i) byte there = cc
+  none_there = elim [ zero ↦ λ byte there. cc | suc i ↦ λ byte there. cc ]
 
   -- the lane hears the FIN, and acknowledges it where nothing is to be asked before
   module _ (v : View) (path : ℕ) (e : PathEnd) (holds : LaneHolds v path back) (h : EndShows c s e out back) where

@@ -15,8 +15,7 @@ module _ {X : Type 0} {P : X → Type 0} where
   every_cons x xs first rest = record { each = at }
     where
       at : (i : ℕ) (y : X) → slice_get (x ∷ xs) i ≡ Some y → P y
-      at zero y is = subst P (same_Some x y is) first
-      at (suc i) y is = rest.each i y is
+      at = elim [ zero ↦ λ y is. subst P (same_Some x y is) first | suc i ↦ λ y is. rest.each i y is ]
 
   pub every_rest : (x : X) (xs : List X) → Every P (x ∷ xs) → Every P xs
   every_rest x xs h = record { each = λ i y is. h.each (suc i) y is }
@@ -49,8 +48,7 @@ module _ (P : Record → Type 0) (any : (r : Record) (x : Sending) → P r → P
   fin_sent_kept now (r ∷ rs) h = every_cons _ _ (by (is_fin r.kind)) (fin_sent_kept now rs (every_rest r rs h))
     where
       by : (b : Bool) → P (if b then record r { sending = sent_again now r.sending } else r)
-      by true = any r _ (every_first r rs h)
-      by false = every_first r rs h
+      by = elim [ true ↦ any r _ (every_first r rs h) | false ↦ every_first r rs h ]
 
   unsent_again_kept : (rs : List Record) → Every P rs → Every P (map unsent_again rs)
   unsent_again_kept [] h = h

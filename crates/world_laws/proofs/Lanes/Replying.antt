@@ -52,8 +52,7 @@ fin_shows c s place e out back has h = record {
 }
   where
     by : (b : Bool) → Every (HasNumber back.data_fins) (if b then e.treated.fins ++ place ∷ [] else e.treated.fins)
-    by true = Every-push place h.treated.fins has
-    by false = h.treated.fins
+    by = elim [ true ↦ Every-push place h.treated.fins has | false ↦ h.treated.fins ]
 
 pub every_item : {X : Type 0} {P : X → Type 0} (n : ℕ) (xs : List X) → Every P xs → IfSome (item_at n xs) P
 every_item n [] h = tt
@@ -258,8 +257,7 @@ module _ (six : SixBooks) (others : Others) (p : PathState Carried) (ab ba : Lan
         end_step six others p ab ba h ready s (notice_ask s notice p) (after_peer_notice notice (reply_of six (notice_ask s notice p)) e) (left p) (quiet notice) noted
       where
         quiet : (notice : PeerNotice) → IsQuiet six (notice_ask s notice p)
-        quiet (PeerNotice.AddAddr id address port hmac) = tt
-        quiet _ = tt
+        quiet = elim [ PeerNotice.AddAddr id address port hmac ↦ tt | _ ↦ tt ]
 
         noted : EndShows p.profile s (after_peer_notice notice (reply_of six (notice_ask s notice p)) e) out back
         noted = record { sender = shows.sender; receiver = shows.receiver; acks = shows.acks; told = shows.told; treated = shows.treated; held = shows.held; pairs = shows.pairs }

@@ -27,8 +27,7 @@ grown_told growth None c = refl
 grown_told growth (Some p) c = refl
 
 waiting_unfinished : (state : EndPhase) → states.is_waiting state ≡ true → is_unfinished state ≡ true
-waiting_unfinished EndPhase.Waiting is = refl
-waiting_unfinished _ is = absurd (false≢true is)
+waiting_unfinished = elim [ EndPhase.Waiting ↦ λ is. refl | _ ↦ λ is. absurd (false≢true is) ]
 
 listening_unfinished : (state : EndPhase) → is_listening state ≡ true → is_unfinished state ≡ true
 listening_unfinished EndPhase.FinWait1 is = absurd (false≢true is)

@@ -53,8 +53,7 @@ module _ (c : Profile) (s : Side) (e : PathEnd) (acks : List AckCopy) (p : Lane)
   opening_say window false = keys_say window s e.modes.peer_key
 
   end_says : (fin : Option ℕ) → IfSome fin (HasNumber p.data_fins) → OptionShows c s (window_told false e.receiving.window) acks p (Dss (Some e.receiving.next) (data_fin_mapping c s fin))
-  end_says None h = (w.ack, tt)
-  end_says (Some place) h = (w.ack, h)
+  end_says = elim [ None ↦ λ h. (w.ack, tt) | Some place ↦ λ h. (w.ack, h) ]
 
   -- MP_FAIL
   fails_say : (window : ℕ) (o : Option ℕ) → IfSome o (λ _. p.alters ≡ true) → Every (OptionShows c s window acks p) (fail_options o)
@@ -213,8 +212,7 @@ module _ (c : Profile) (s : Side) (e : PathEnd) (acks : List AckCopy) (p : Lane)
     -- ---- records
 
     acknowledges : (opening : Bool) → IfSome (if opening then None else Some e.tcp.recv.edge) (λ n. HasSub acks (n - 1) (window_told false e.receiving.window))
-    acknowledges true = tt
-    acknowledges false = now
+    acknowledges = elim [ true ↦ tt | false ↦ now ]
 
     -- where A may send no DSS yet, its mapping from the first position begins at the first place
     module _ (first : is_side_a s ≡ true → e.modes.clear ≡ false → (place len : ℕ) → HasMapping p.datas place 1 len → place ≡ 0) where
@@ -306,8 +304,7 @@ module _ {C : Type 0} (P : Flight C → Type 0) where
       put x xs first rest = record { each = λ i y is. at i y is }
         where
           at : (i : ℕ) (y : Flight C) → slice_get (x ∷ xs) i ≡ Some y → P y
-          at zero y is = subst P (same_Some x y is) first
-          at (suc i) y is = rest.each i y is
+          at = elim [ zero ↦ λ y is. subst P (same_Some x y is) first | suc i ↦ λ y is. rest.each i y is ]
 
   pub flights_kept : (to : Side) (number : ℕ) (carried : C) → ((tick : ℕ) → P (record { tick = tick; to = to; number = number; carried = carried })) → (ticks : List ℕ) (flights : List (Flight C))
       → Every P flights → Every P (with_flights to number carried ticks flights)

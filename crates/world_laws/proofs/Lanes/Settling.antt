@@ -81,8 +81,7 @@ module _ (six : SixBooks) (others : Others) (c : Profile) where
       item_did _ has = did_nothing c s out back e shows
 
       maybe_did : (o : Option Heard) → IfSome o (ItemShows out.acks back) → Did c s (item_passed s o e) out out back back
-      maybe_did None has = did_nothing c s out back e shows
-      maybe_did (Some item) has = item_did item has
+      maybe_did = elim [ None ↦ λ has. did_nothing c s out back e shows | Some item ↦ λ has. item_did item has ]
 
     item_shows : (s : Side) (index : ℕ) (plain : Bool) → IfSome (if plain then None else item_at index (end_at s p).treated.items) (ItemShows (pick s ab ba).acks (pick s ba ab))
     item_shows s index true = tt
@@ -114,5 +113,4 @@ module _ (six : SixBooks) (others : Others) (c : Profile) where
       (settles ds (passed d p) w.ab_after w.ba_after w.shows (strolls_held six others ab w.ab_after ba w.ba_after w.ab_moves w.ba_moves holds)))
     where
       by : (b : Bool) → Strolled c (settled ds (passed d p)) ab ba → Strolled c (if b then with_agenda (d ∷ ds) p else settled ds (passed d p)) ab ba
-      by true rest = agenda_stays (d ∷ ds) p ab ba h
-      by false rest = rest
+      by = elim [ true ↦ λ rest. agenda_stays (d ∷ ds) p ab ba h | false ↦ λ rest. rest ]

@@ -29,8 +29,7 @@ one : (item : Heard) → ItemTells item → Tell (item ∷ [])
 one item h = every_cons item [] h (Every-nil ItemTells)
 
 tell_if : (b : Bool) (item : Heard) → ItemTells item → Tell (if b then item ∷ [] else [])
-tell_if true item h = one item h
-tell_if false item h = Every-nil ItemTells
+tell_if = elim [ true ↦ λ item h. one item h | false ↦ λ item h. Every-nil ItemTells ]
 
 acks_tell : (o : Option ℕ) (window : ℕ) → IfSome o IsShort → Tell (ack_items (option_map (λ n. Some n) o) window)
 acks_tell None window h = Every-nil ItemTells
@@ -120,8 +119,7 @@ module _ (c : Profile) (s : Side) where
   payload_flows pos hint copy tcp keep h = record { sender = h.sender; edge = by hint.keep keep }
     where
       by : (b : Bool) → b ≡ false → IsShort (taking.after_keeping b pos copy.payload tcp).recv.edge
-      by false is = h.edge
-      by true is = cc
+      by = elim [ false ↦ λ is. h.edge | true ↦ λ is. cc ]
 
   acknowledged_flows : (pos now : ℕ) (tcp : EndState) → Flows tcp → Flows (taking.after_acknowledgement pos now tcp)
   acknowledged_flows pos now tcp h = elim (ack_kind pos tcp.send) as (λ kind. Flows (taking.after_ack_kind kind (sample_of pos tcp.send) now (record tcp { send = after_acknowledge pos tcp.send })))

@@ -100,8 +100,7 @@ grant_written B path most standby six = given_written path (decision path most s
 -- ---- after a step of the path
 
 end_on : (s : Side) (f : PathEnd) (ds : List Duty) (p : PathState Carried) → end_at s (goes_on s f ds p) ≡ f
-end_on A f ds p = refl
-end_on B f ds p = refl
+end_on = elim [ A ↦ λ f ds p. refl | B ↦ λ f ds p. refl ]
 
 -- the lanes hold
 pub after_holds : (c : Profile) (six : SixBooks) (others : Others) (ask : Ask) (q : PathState Carried) (ab ba : Lane) (a : Answered c six others ask q ab ba)
@@ -234,7 +233,11 @@ module _ (six : SixBooks) (others : Others) (p : PathState Carried) (ab ba : Lan
 
     -- the mapping whose check fails
     failed_short : IfSome (failing_by p.profile.spelling.checksums (mapping_here e) e.tcp) (λ kept. IsShort kept.place)
-    failed_short = here (receives_plainly e.modes e.tcp.recv.edge)
+    failed_short =
+        elim (receives_plainly e.modes e.tcp.recv.edge) as (λ b. IfSome (failing_by p.profile.spelling.checksums (if b then None else mapping_at e.receiving.mappings e.tcp.recv.edge) e.tcp) (λ kept. IsShort kept.place)) [
+          | true ↦ tt
+          | false ↦ found (mapping_at e.receiving.mappings e.tcp.recv.edge) (kept_at (nat_lt e.tcp.recv.edge e.receiving.mappings.forgotten))
+        ]
       where
         found : (o : Option KeptMapping) → IfSome o (KeptShows back.maps) → IfSome (failing_by p.profile.spelling.checksums o e.tcp) (λ kept. IsShort kept.place)
         found None is = tt
@@ -244,10 +247,6 @@ module _ (six : SixBooks) (others : Others) (p : PathState Carried) (ab ba : Lan
         kept_at : (b : Bool) → IfSome (if b then None else find (λ kept. covers e.tcp.recv.edge (run_of kept)) e.receiving.mappings.live) (KeptShows back.maps)
         kept_at true = tt
         kept_at false = every_find (λ kept. covers e.tcp.recv.edge (run_of kept)) e.receiving.mappings.live shows.receiver.mapped
-
-        here : (b : Bool) → IfSome (failing_by p.profile.spelling.checksums (if b then None else mapping_at e.receiving.mappings e.tcp.recv.edge) e.tcp) (λ kept. IsShort kept.place)
-        here true = tt
-        here false = found (mapping_at e.receiving.mappings e.tcp.recv.edge) (kept_at (nat_lt e.tcp.recv.edge e.receiving.mappings.forgotten))
 
     -- the end becomes this
     on : (f : PathEnd) (ds : List Duty) → EndTells p.profile s f → AreFair ds → Tells (goes_on s f ds p)
@@ -293,8 +292,7 @@ module _ (six : SixBooks) (others : Others) (p : PathState Carried) (ab ba : Lan
         (rules.noted_out_tells p.profile s (having_sent Occasion.Ack p.clock (note_of s p) e) (rules.sent_end_tells p.profile s e tells Occasion.Ack p.clock (note_of s p))) t.agenda
       where
         first_note : (queue : List OwnNotice) → Every NoteTells queue → IfSome (first_of queue) NoteTells
-        first_note [] each = tt
-        first_note (notice ∷ queue) each = every_first notice queue each
+        first_note = elim [ [] ↦ λ each. tt | notice ∷ queue ↦ λ each. every_first notice queue each ]
 
     answer_told : SegmentTells p.profile s (answer_of s p)
     answer_told =
@@ -451,8 +449,7 @@ module _ (six : SixBooks) (others : Others) (p : PathState Carried) (ab ba : Lan
     join_told = join_by (keys_begun (reply_of six (join_heard_ask s (asked_at s p) p))) (asked_at s p) (joined_keys six short.control s (asked_at s p) p) (asked_nonce e.treated.items tells.treated.items)
 
     item_by : (o : Option Heard) → IfSome o ItemTells → Tells (answered_item values s o (reply_of six (item_ask values s o p)) p)
-    item_by None x = done_tells
-    item_by (Some item) x = heard_told item x
+    item_by = elim [ None ↦ λ x. done_tells | Some item ↦ λ x. heard_told item x ]
 
     item_told : (index : ℕ) → Tells (answered_item values s (item_of index e) (reply_of six (item_ask values s (item_of index e) p)) p)
     item_told index = item_by (item_of index e) (known_item e.modes.identity _ (every_item index e.treated.items tells.treated.items))

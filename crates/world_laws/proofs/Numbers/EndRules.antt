@@ -87,24 +87,20 @@ keys_modes keys m k h = record { own_key = k.0; peer_key = k.1; own_nonce = h.ow
 
 -- a key that was heard
 key_of : (item : Heard) → ItemTells item → IfSome (key_in item) IsKey
-key_of (Heard.PeerKey key) h = h
-key_of _ h = tt
+key_of = elim [ Heard.PeerKey key ↦ λ h. h | _ ↦ λ h. tt ]
 
 first_key : (o other : Option ℕ) → IfSome o IsKey → IfSome other IsKey → IfSome (option_or o other) IsKey
-first_key None other a b = b
-first_key (Some key) other a b = a
+first_key = elim [ None ↦ λ other a b. b | Some key ↦ λ other a b. a ]
 
 pub heard_key : (items : List Heard) → Every ItemTells items → IfSome (key_heard items) IsKey
 heard_key [] h = tt
 heard_key (item ∷ items) h = first_key (key_in item) (key_heard items) (key_of item (every_first item items h)) (heard_key items (every_rest item items h))
 
 pair_of : (item : Heard) → ItemTells item → IfSome (pair_in item) (λ k. IsKey k.peer)
-pair_of (Heard.Keys own peer) h = h.1
-pair_of _ h = tt
+pair_of = elim [ Heard.Keys own peer ↦ λ h. h.1 | _ ↦ λ h. tt ]
 
 first_pair : (o other : Option KeyPair) → IfSome o (λ k. IsKey k.peer) → IfSome other (λ k. IsKey k.peer) → IfSome (option_or o other) (λ k. IsKey k.peer)
-first_pair None other a b = b
-first_pair (Some keys) other a b = a
+first_pair = elim [ None ↦ λ other a b. b | Some keys ↦ λ other a b. a ]
 
 pub heard_keys : (items : List Heard) → Every ItemTells items → IfSome (keys_heard items) (λ k. IsKey k.peer)
 heard_keys [] h = tt
@@ -117,8 +113,7 @@ form_of step (Heard.Join form) h = if_so (λ z. IfSome z FormFits) (is_of_step s
 form_of step _ h = tt
 
 first_form : (o other : Option JoinForm) → IfSome o FormFits → IfSome other FormFits → IfSome (option_or o other) FormFits
-first_form None other a b = b
-first_form (Some form) other a b = a
+first_form = elim [ None ↦ λ other a b. b | Some form ↦ λ other a b. a ]
 
 heard_form : (step : JoinStep) (items : List Heard) → Every ItemTells items → IfSome (join_heard step items) FormFits
 heard_form step [] h = tt
@@ -137,11 +132,11 @@ answered_by_form : (own other nonce : ℕ) (o : Option JoinForm) → IfSome o Fo
     → IfSome (result_ok (answer_taken own other nonce (answer_heard (join_value o)))) (λ answer. IsNonce answer.nonce)
 answered_by_form own other nonce None h = tt
 answered_by_form own other nonce (Some (JoinForm.Syn backup id token n)) h = tt
-answered_by_form own other nonce (Some (JoinForm.Answer backup id hmac n)) h = by (hmac == join_b64_of own other nonce n)
-  where
-    by : (b : Bool) → IfSome (result_ok (if b then Ok (record { backup = backup; id = id; nonce = n }) else Err BadHmac)) (λ (answer : JoinAnswer). IsNonce answer.nonce)
-    by true = h.2
-    by false = tt
+answered_by_form own other nonce (Some (JoinForm.Answer backup id hmac n)) h =
+    elim (hmac == join_b64_of own other nonce n) as (λ b. IfSome (result_ok (if b then Ok (record { backup = backup; id = id; nonce = n }) else Err BadHmac)) (λ (answer : JoinAnswer). IsNonce answer.nonce)) [
+      | true ↦ h.2
+      | false ↦ tt
+    ]
 answered_by_form own other nonce (Some (JoinForm.Third hmac)) h = tt
 
 -- and what B answers
@@ -181,8 +176,7 @@ module _ (c : Profile) (s : Side) (e : PathEnd) (h : EndTells c s e) where
   notice_noted (Notice.Carrier other) may mode standby sole told = record { carrier = by e.notices.fast_closed; queue = h.notices.queue }
     where
       by : (closed : Bool) → IfSome (if closed then e.notices.carrier else Some other) IsKey
-      by true = h.notices.carrier
-      by false = told
+      by = elim [ true ↦ h.notices.carrier | false ↦ told ]
 
   notices_noted : (r : Reply) → NoticeTells r → NoticesTell (notices_told r e)
   notices_noted (Reply.Control (ControlReply.Standing mode standby sole notice)) told =
@@ -199,8 +193,7 @@ module _ (c : Profile) (s : Side) (e : PathEnd) (h : EndTells c s e) where
   noted_out_tells = with_notices (without_first e.notices) (record { carrier = h.notices.carrier; queue = rest e.notices.queue h.notices.queue })
     where
       rest : (queue : List OwnNotice) → Every NoteTells queue → Every NoteTells (tail_of queue)
-      rest [] each = each
-      rest (notice ∷ queue) each = every_rest notice queue each
+      rest = elim [ [] ↦ λ each. each | notice ∷ queue ↦ λ each. every_rest notice queue each ]
 
   with_queue : (queue : List OwnNotice) → Every NoteTells queue → EndTells c s (record e { notices = record e.notices { queue = queue } })
   with_queue queue told = with_notices (record e.notices { queue = queue }) (record { carrier = h.notices.carrier; queue = told })
@@ -317,8 +310,7 @@ module _ (c : Profile) (s : Side) (e : PathEnd) (h : EndTells c s e) where
   plain_acked next b short = by (is_future next b) refl
     where
       one_more : (closed : Bool) → length b.written + (if closed then 1 else 0) ≤ length b.written + 1
-      one_more true = omega arith
-      one_more false = omega arith
+      one_more = elim [ true ↦ omega arith | false ↦ omega arith ]
 
       by : (future : Bool) → is_future next b ≡ future
           → EndTells c s (record e {
@@ -466,8 +458,7 @@ module _ (c : Profile) (s : Side) (e : PathEnd) (h : EndTells c s e) where
   }
     where
       by : (known : Option ℕ) → IfSome known IsShort → IfSome (told_last known e.sending.known_end) IsShort
-      by None short = h.stream.known_end
-      by (Some place) short = short
+      by = elim [ None ↦ λ short. h.stream.known_end | Some place ↦ λ short. short ]
 
   -- ---- sendings
 

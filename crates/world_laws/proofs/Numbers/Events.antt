@@ -31,8 +31,7 @@ judged_fair joined s count (Judged.As meaning) = template_fair joined s count me
 judged_fair joined s count _ = refl
 
 fired_fair : (sixth : Bool) (s : Side) → AreFair (template_fired sixth s)
-fired_fair true s = refl
-fired_fair false s = refl
+fired_fair = elim [ true ↦ λ s. refl | false ↦ λ s. refl ]
 
 died_fair : (a b : Bool) → AreFair ((if a then [] else Duty.Ask (AskDuty.Leave A) ∷ []) ++ ((if b then [] else Duty.Ask (AskDuty.Leave B) ∷ []) ++ rest_of_turn))
 died_fair true true = refl

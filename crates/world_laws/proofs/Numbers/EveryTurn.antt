@@ -98,7 +98,10 @@ path_fresh p h due flight next there = (elim (arriving due p.link) as (λ o. o �
 
 -- each segment that it sends can be said
 sent_said : (p : PathState Carried) → PathTells p.profile p → p.profile.spelling.path ≤ 15 → SentCanBeAltered p
-sent_said p h path = by (first_sends p.agenda p)
+sent_said p h path = elim (first_sends p.agenda p) as (λ o. IfSome o (CanBeAltered p)) [
+  | None ↦ tt
+  | Some t ↦ λ altered. said_can p.profile t.from (end_at t.from p) path (tells t.from).window.window t.kind (noted (end_at t.from p).notices.queue (tells t.from).notices.queue) (unsent t.from) (first t.from)
+]
   where
     tells : (s : Side) → EndTells p.profile s (end_at s p)
     tells s = tells_at p.profile p h s
@@ -116,12 +119,6 @@ sent_said p h path = by (first_sends p.agenda p)
 
     first : (s : Side) → IfSome (first_record (end_at s p)) (λ r. length r.piece ≤ 65475)
     first s = fits s (first_record (end_at s p)) (every_at 0 (end_at s p).tcp.send.records (tells s).sender.records)
-
-    by : (o : _) → IfSome o (CanBeAltered p)
-    by None = tt
-    by (Some t) = λ altered.
-        said_can p.profile t.from (end_at t.from p) path (tells t.from).window.window t.kind
-        (noted (end_at t.from p).notices.queue (tells t.from).notices.queue) (unsent t.from) (first t.from)
 
 -- ---- worlds
 
@@ -150,8 +147,7 @@ from_cast start t tells rooms keys = record { members = each_actor (λ actor c. 
 
 -- an application tells no key
 app_tells : (d : AppDuty) (a : AppState) → AskTells (app_ask d a)
-app_tells AppDuty.FastClose a = tt
-app_tells _ a = tt
+app_tells = elim [ AppDuty.FastClose ↦ λ a. tt | _ ↦ λ a. tt ]
 
 module _ (start : Start) (plain : Carries start) (free : NoneIsFirm plain.links) (fit : NumbersFit start) where
   books_short : (t : Cast Carried) → Fare start t → RoomsAre start.buffer (books_in t.books) → BooksKeepShort (books_in t.books) → BooksAreShort (books_in t.books)
@@ -321,8 +317,7 @@ module _ (start : Start) (plain : Carries start) (free : NoneIsFirm plain.links)
     turn_fresh (Turn.Step (suc (suc number))) = subst IsFreshCrew (sym (map_there walking t.paths number)) (by (slice_get t.paths number) refl)
       where
         by : (o : Option (Walker Carried)) → slice_get t.paths number ≡ o → IsFreshCrew (option_map walking o)
-        by None there = tt
-        by (Some x) there = path_fresh_now number x there
+        by = elim [ None ↦ λ there. tt | Some x ↦ λ there. path_fresh_now number x there ]
     turn_fresh Turn.Round = tt
 
   -- ---- every list of turns
@@ -367,12 +362,10 @@ module _ (start : Start) (plain : Carries start) (free : NoneIsFirm plain.links)
   opened_short = record { written = written; room = room; control = control }
     where
       written : (s : Side) → length (send_of s (six start plain)).written + 3 ≤ 2 ^ 31
-      written A = omega arith
-      written B = omega arith
+      written = elim [ A ↦ omega arith | B ↦ omega arith ]
 
       room : (s : Side) → (reassembly_of s (six start plain)).capacity ≤ 2 ^ 20
-      room A = fit.buffer
-      room B = fit.buffer
+      room = elim [ A ↦ fit.buffer | B ↦ fit.buffer ]
 
       control : (s : Side) → ControlIsShort (control_of s (six start plain))
       control A = record { keys = record { own = fit.key_a; peer = tt }; ids = opening_fits A start.key_a }

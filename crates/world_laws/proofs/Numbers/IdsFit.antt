@@ -46,8 +46,7 @@ withdrawal_fits : (id : ℕ) (due : Bool) (path : ℕ) (sets : List (List Bool))
 withdrawal_fits id due path sets h = put_fits sets path _ (length-set (withdrawals_on sets path) id due ∙ on_fits sets path h) h
 
 either_fits : (b : Bool) (one other : List (List Bool)) → AreAllIds one → AreAllIds other → AreAllIds (if b then one else other)
-either_fits true one other x y = x
-either_fits false one other x y = y
+either_fits = elim [ true ↦ λ one other x y. x | false ↦ λ one other x y. y ]
 
 one_fits : (id : ℕ) (paths : List PathState) (sets : List (List Bool)) (path : ℕ) → AreAllIds sets → AreAllIds (withdrawn_on id paths sets path)
 unfolding withdrawn_on
@@ -60,8 +59,7 @@ each_fits id paths (path ∷ which) sets h = each_fits id paths which (withdrawn
 -- ---- each call
 
 either : (b : Bool) (c d : Control) → IdsFit c → IdsFit d → IdsFit (if b then c else d)
-either true c d x y = x
-either false c d x y = y
+either = elim [ true ↦ λ c d x y. x | false ↦ λ c d x y. y ]
 
 notice_fits : (n : Notice) (path : ℕ) (c : Control) → IdsFit c → IdsFit (after_notice n path c)
 notice_fits (Notice.Withdraw id) path c h = record { due = h.due; withdrawals = withdrawal_fits id false path c.notices.withdrawals h.withdrawals }
@@ -69,8 +67,7 @@ notice_fits _ path c h = h
 
 -- what is kept is no matter of the sets
 heard_due : (right : Bool) (id : ℕ) (address : Address) (a : Addresses Address) → (addresses_heard id address right a).due ≡ a.due
-heard_due true id address a = refl
-heard_due false id address a = refl
+heard_due = elim [ true ↦ λ id address a. refl | false ↦ λ id address a. refl ]
 
 pub call_fits : (c : Control) (asked : ControlCall) → IdsFit c → IdsFit (after c asked)
 call_fits c (ControlCall.Look path) h = notice_fits (notice_on c path) path c h

@@ -11,8 +11,7 @@ abbrev IsBounded : Sending → Type 0
 IsBounded b = length b.written ≤ 2 ^ 62 - 3
 
 either_way : (c : Bool) (x y : Sending) → IsBounded x → IsBounded y → IsBounded (if c then x else y)
-either_way true x y h g = h
-either_way false x y h g = g
+either_way = elim [ true ↦ λ x y h g. h | false ↦ λ x y h g. g ]
 
 call_bounded : (b : Sending) (call : SendCall) → IsBounded b → IsBounded (after_call b call)
 call_bounded b (Write bytes) h = either_way (b.closed || b.aborted) b _ h (
@@ -52,5 +51,4 @@ module _ {C : Type 0} (k : Codec C) where
   always_bounded start turns = run_bounded turns (opened_world start) none
     where
       none : WorldIsBounded (opened_world start)
-      none A = omega arith
-      none B = omega arith
+      none = elim [ A ↦ omega arith | B ↦ omega arith ]

@@ -95,18 +95,15 @@ module _ (R : Side → ℕ → ℕ → Type 0) where
   CopiesTell p = Every (FlightTells p) p.link.under_way
 
   pub end_knows : (s : Side) (p : PathState Carried) → PathKnows p → EndKnows s (end_at s p)
-  end_knows A p h = h.a
-  end_knows B p h = h.b
+  end_knows = elim [ A ↦ λ p h. h.a | B ↦ λ p h. h.b ]
 
   -- ---- an end goes on
 
   goes : (s : Side) (e : PathEnd) (ds : List Duty) (p : PathState Carried) → EndKnows s e → PathKnows p → PathKnows (goes_on s e ds p)
-  goes A e ds p own h = record { a = own; b = h.b }
-  goes B e ds p own h = record { a = h.a; b = own }
+  goes = elim [ A ↦ λ e ds p own h. record { a = own; b = h.b } | B ↦ λ e ds p own h. record { a = h.a; b = own } ]
 
   with_own : (s : Side) (e : PathEnd) (p : PathState Carried) → EndKnows s e → PathKnows p → PathKnows (with_end s e p)
-  with_own A e p own h = record { a = own; b = h.b }
-  with_own B e p own h = record { a = h.a; b = own }
+  with_own = elim [ A ↦ λ e p own h. record { a = own; b = h.b } | B ↦ λ e p own h. record { a = h.a; b = own } ]
 
   agenda : (ds : List Duty) (p : PathState Carried) → PathKnows p → PathKnows (with_agenda ds p)
   agenda ds p h = record { a = h.a; b = h.b }

@@ -68,8 +68,7 @@ module _ (f : Flags) (number : ℕ) (sent : List Cell) (d : Direction) (h : Gran
   event_is x y same so = subst (λ e. Granted number sent (after f e d)) (sym same) so
 
   identity_so : (fell : Bool) → Granted number sent (if fell then with_send SendCall.GoIdentity d else d)
-  identity_so true = stays_so _ refl
-  identity_so false = h
+  identity_so = elim [ true ↦ stays_so _ refl | false ↦ h ]
 
   infinite_so : (path pos : ℕ) (o : Option Lane) → slice_get d.lanes path ≡ o → Granted number sent (goes_infinite path pos o d)
   infinite_so path pos None there = h

@@ -224,8 +224,7 @@ module _ (ask : Option Ask) (d e : Duo) (t : TurnShows ask d e) where
 -- ---- nothing is refused
 
 granted_untold : (o : Result Span Why) (b : Sending) → tells_refusal (Reply.Send (sending.reply_by o b)) ≡ false
-granted_untold (Ok span) b = refl
-granted_untold (Err why) b = refl
+granted_untold = elim [ Ok span ↦ λ b. refl | Err why ↦ λ b. refl ]
 
 write_untold : (bytes : List ℕ) (b : Sending) → tells_refusal (Reply.Send (sending.write_reply bytes b)) ≡ false
 write_untold bytes b = if_so (λ z. tells_refusal (Reply.Send z) ≡ false) (b.closed || b.aborted) SendReply.Shut (SendReply.Taken (sending.bytes_taken bytes b)) refl refl
@@ -234,8 +233,7 @@ close_untold : (b : Sending) → tells_refusal (Reply.Send (sending.close_reply 
 close_untold b = if_so (λ z. tells_refusal (Reply.Send z) ≡ false) b.aborted SendReply.Shut SendReply.Closed refl refl
 
 ack_untold : (r : SendReply) → is_ack_future r ≡ false → tells_refusal (Reply.Send r) ≡ false
-ack_untold (SendReply.AckFuture written) is = is
-ack_untold _ is = refl
+ack_untold = elim [ SendReply.AckFuture written ↦ λ is. is | _ ↦ λ is. refl ]
 
 place_untold : (r : ReassemblyReply) → is_beyond_or_clash r ≡ false → tells_refusal (Reply.Reassembly r) ≡ false
 place_untold (ReassemblyReply.Beyond edge) is = is

@@ -30,8 +30,7 @@ grant_step s n before is = ap (λ (b : Bool). if b then is_no_grant n.reply else
 
 -- what is answered to a grant is a grant, or none
 answered_none : (o : Result Span Why) (b : Sending) → grant_in (Reply.Send (sending.reply_by o b)) ≡ None → is_no_grant (Reply.Send (sending.reply_by o b)) ≡ true
-answered_none (Ok span) b none = cc
-answered_none (Err why) b none = refl
+answered_none = elim [ Ok span ↦ λ b none. cc | Err why ↦ λ b none. refl ]
 
 -- the flags by the steps so far
 abbrev flags_of : List Note → Side → Bool
@@ -57,8 +56,7 @@ module _ {C : Type 0} where
         answered_done k r p later d ds other f (flags_same (d ∷ ds) (with_agenda (d ∷ ds) p) (flags_of notes) later same each)
 
     own_grant : (s : Side) → n.ask ≡ grant_ask s p → asks_grant s n.ask ≡ true
-    own_grant A is = ap (asks_grant A) is
-    own_grant B is = ap (asks_grant B) is
+    own_grant = elim [ A ↦ λ is. ap (asks_grant A) is | B ↦ λ is. ap (asks_grant B) is ]
 
     other_grant : (s t : Side) → (t ≡ s → ⊥) → n.ask ≡ grant_ask s p → asks_grant t n.ask ≡ false
     other_grant A A apart is = absurd (apart refl)

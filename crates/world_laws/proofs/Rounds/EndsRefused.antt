@@ -94,40 +94,31 @@ record IsOwedThere (s : Side) (ds : List Duty) : Type 0 where
   followed : is_followed ds ≡ true
 
 emission_there : (s : Side) → IsOwedThere s (emission s)
-emission_there A = record { owed = refl; followed = refl }
-emission_there B = record { owed = refl; followed = refl }
+emission_there = elim [ A ↦ record { owed = refl; followed = refl } | B ↦ record { owed = refl; followed = refl } ]
 
 syn_there : (s : Side) → IsOwedThere s (syn_came s)
-syn_there A = record { owed = refl; followed = refl }
-syn_there B = record { owed = refl; followed = refl }
+syn_there = elim [ A ↦ record { owed = refl; followed = refl } | B ↦ record { owed = refl; followed = refl } ]
 
 syn_ack_there : (s : Side) → IsOwedThere s (syn_ack_came s)
-syn_ack_there A = record { owed = refl; followed = refl }
-syn_ack_there B = record { owed = refl; followed = refl }
+syn_ack_there = elim [ A ↦ record { owed = refl; followed = refl } | B ↦ record { owed = refl; followed = refl } ]
 
 answered_there : (s : Side) → IsOwedThere s (join_answered s)
-answered_there A = record { owed = refl; followed = refl }
-answered_there B = record { owed = refl; followed = refl }
+answered_there = elim [ A ↦ record { owed = refl; followed = refl } | B ↦ record { owed = refl; followed = refl } ]
 
 again_there : (s : Side) → IsOwedThere s (syn_again s)
-again_there A = record { owed = refl; followed = refl }
-again_there B = record { owed = refl; followed = refl }
+again_there = elim [ A ↦ record { owed = refl; followed = refl } | B ↦ record { owed = refl; followed = refl } ]
 
 answer_there : (s : Side) → IsOwedThere s (answers s)
-answer_there A = record { owed = refl; followed = refl }
-answer_there B = record { owed = refl; followed = refl }
+answer_there = elim [ A ↦ record { owed = refl; followed = refl } | B ↦ record { owed = refl; followed = refl } ]
 
 join_there : (s : Side) → IsOwedThere s (join_came s)
-join_there A = record { owed = refl; followed = refl }
-join_there B = record { owed = refl; followed = refl }
+join_there = elim [ A ↦ record { owed = refl; followed = refl } | B ↦ record { owed = refl; followed = refl } ]
 
 refusal_there : (s : Side) → IsOwedThere s (refuses s)
-refusal_there A = record { owed = refl; followed = refl }
-refusal_there B = record { owed = refl; followed = refl }
+refusal_there = elim [ A ↦ record { owed = refl; followed = refl } | B ↦ record { owed = refl; followed = refl } ]
 
 reset_there : (s : Side) → IsOwedThere s (resets s 1)
-reset_there A = record { owed = refl; followed = refl }
-reset_there B = record { owed = refl; followed = refl }
+reset_there = elim [ A ↦ record { owed = refl; followed = refl } | B ↦ record { owed = refl; followed = refl } ]
 
 -- so many things that a copy said, and its payload
 record IsCopy (s : Side) (ds : List Duty) : Type 0 where
@@ -158,12 +149,10 @@ pub record IsPaid (c : Profile) (s : Side) (e : PathEnd) (refused : Bool) : Type
   pub waits : (r : Record) → first_unsent e ≡ Some r → states.may_finish e.tcp.state ≡ true → fits e.tcp r ≡ false
 
 finished : (state : EndPhase) → states.may_finish (states.after_finish state) ≡ false
-finished EndPhase.Waiting = refl
-finished _ = refl
+finished = elim [ EndPhase.Waiting ↦ refl | _ ↦ refl ]
 
 dead_is_done : (state : EndPhase) → states.is_dead state ≡ true → states.may_finish state ≡ false
-dead_is_done EndPhase.Dead is = refl
-dead_is_done _ is = absurd (false≢true is)
+dead_is_done = elim [ EndPhase.Dead ↦ λ is. refl | _ ↦ λ is. absurd (false≢true is) ]
 
 -- an end that can't push a FIN asks for nothing
 closed_paid : (c : Profile) (s : Side) (e : PathEnd) (refused : Bool) → states.may_finish e.tcp.state ≡ false → IsPaid c s e refused
@@ -209,8 +198,7 @@ rest_followed d ds h = (and_parts (needs d ds) (is_followed ds) h).1
 
 -- of the duties by which an end dies, the other side isn't paid
 others_none : (s : Side) (ds : List Duty) → none_owed ds ≡ true → (same_side (peer s) s || is_owed (peer s) ds) ≡ false
-others_none A ds none = none_for B ds none
-others_none B ds none = none_for A ds none
+others_none = elim [ A ↦ λ ds none. none_for B ds none | B ↦ λ ds none. none_for A ds none ]
 
 -- ---- a path
 
@@ -258,8 +246,7 @@ module _ {C : Type 0} where
     agenda_on ds followed each = record { followed = followed; each = at }
       where
         at : (s : Side) → Pays (with_agenda ds p) ds refused s
-        at A = each A
-        at B = each B
+        at = elim [ A ↦ each A | B ↦ each B ]
 
     -- ---- a break, a reset
 
@@ -370,25 +357,21 @@ module _ {C : Type 0} where
   event_done k (Some (Event.Joins tick)) r p refused paid = join_done (record (at_tick tick p) { joined_at = None }) refused at r
     where
       at : (s : Side) → IsPaid p.profile s (end_at s (record (at_tick tick p) { joined_at = None })) (refused s)
-      at A = paid A
-      at B = paid B
+      at = elim [ A ↦ paid A | B ↦ paid B ]
   event_done k (Some (Event.Takes line)) r p refused paid =
       line_done (record (at_tick line.tick p) { lines = tail_of p.lines }) refused at line.action
     where
       at : (s : Side) → IsPaid p.profile s (end_at s (record (at_tick line.tick p) { lines = tail_of p.lines })) (refused s)
-      at A = paid A
-      at B = paid B
+      at = elim [ A ↦ paid A | B ↦ paid B ]
   event_done k (Some (Event.Arrives due)) r p refused paid =
       copy_done (record (at_tick due.tick p) { link = after_delivery due p.link }) refused at due.to (heard_in k due.to (arriving due p.link) p)
     where
       at : (s : Side) → IsPaid p.profile s (end_at s (record (at_tick due.tick p) { link = after_delivery due p.link })) (refused s)
-      at A = paid A
-      at B = paid B
+      at = elim [ A ↦ paid A | B ↦ paid B ]
   event_done k (Some (Event.Fires s tick)) r p refused paid = fired_done (at_tick tick p) refused at s _ (is_sixth (end_at s (at_tick tick p)).tcp)
     where
       at : (t : Side) → IsPaid p.profile t (end_at t (at_tick tick p)) (refused t)
-      at A = paid A
-      at B = paid B
+      at = elim [ A ↦ paid A | B ↦ paid B ]
 
   -- ---- passing
 
@@ -515,8 +498,7 @@ module _ {C : Type 0} where
         mapping false = fell_done s _ (Duty.Step (StepDuty.Heard s index)) ds rest need.0 paid
 
         stopped : (b : Bool) → Granting (with_agenda (if b then stops s else left (at xs)) (at xs)) refused
-        stopped true = stops_done (at xs) refused s paid
-        stopped false = done_on ds xs rest (λ t. each t)
+        stopped = elim [ true ↦ stops_done (at xs) refused s paid | false ↦ done_on ds xs rest (λ t. each t) ]
 
         by : (o : Option Heard) → Granting (answered_item k s o r (at xs)) refused
         by None = done_on ds xs rest (λ t. each t)
@@ -623,8 +605,7 @@ module _ {C : Type 0} where
 
     -- an end that asks for bytes, where the reply leaves the duty
     own_data : (s : Side) (ds : List Duty) → is_owed s (Duty.Step (StepDuty.Data s) ∷ ds) ≡ true
-    own_data A ds = refl
-    own_data B ds = refl
+    own_data = elim [ A ↦ λ ds. refl | B ↦ λ ds. refl ]
 
     pub data_sent : (s : Side) (ds : List Duty) (u : Record) → is_followed (Duty.Step (StepDuty.Data s) ∷ ds) ≡ true → ((t : Side) → Pays (at (Duty.Step (StepDuty.Data s) ∷ ds)) (Duty.Step (StepDuty.Data s) ∷ ds) refused t)
         → Granting (answered_data k s (Some u) r (at (Duty.Step (StepDuty.Data s) ∷ ds))) refused

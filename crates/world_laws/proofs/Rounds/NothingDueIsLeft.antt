@@ -23,8 +23,7 @@ Ahead (Duty.End ∷ ds) = ⊥
 Ahead (d ∷ ds) = Ahead ds
 
 nothing_next : (o : Option Event) → is_some o ≡ false → o ≡ None
-nothing_next None is = refl
-nothing_next (Some event) is = absurd (true≢false is)
+nothing_next = elim [ None ↦ λ is. refl | Some event ↦ λ is. absurd (true≢false is) ]
 
 heard_ahead : (s : Side) (from count : ℕ) (ds : List Duty) → Ahead ds → Ahead (heard_and s from count ds)
 heard_ahead s from zero ds h = h
@@ -47,8 +46,7 @@ died_ahead false true = refl
 died_ahead false false = refl
 
 fired_ahead : (sixth : Bool) (s : Side) → Ahead (template_fired sixth s)
-fired_ahead true s = refl
-fired_ahead false s = refl
+fired_ahead = elim [ true ↦ λ s. refl | false ↦ λ s. refl ]
 
 with_ahead : {X : Type 0} (ds : List Duty) → Ahead ds ⊎ ⊥ → (Ahead ds → X) → X
 with_ahead ds (inl ahead) f = f ahead
@@ -143,32 +141,27 @@ module _ {C : Type 0} where
     piece_ahead None taken = refl
 
     plain_ack_ahead : Ahead (answered_plain_ack k s r p).agenda
-    plain_ack_ahead = by (breaks_by_ack p.profile (end_at s p))
-      where
-        by : (b : Bool) → Ahead (if b then answered_break k s 6 r p else goes_on s (with_plain_ack (after_fell events.PlainAck r (end_at s p))) (fell_duties s r p) p).agenda
-        by true = break_ahead k s 6 r p
-        by false = fell_ahead s r p left_ahead told
+    plain_ack_ahead =
+        elim (breaks_by_ack p.profile (end_at s p)) as (λ b. Ahead (if b then answered_break k s 6 r p else goes_on s (with_plain_ack (after_fell events.PlainAck r (end_at s p))) (fell_duties s r p) p).agenda) [
+          | true ↦ break_ahead k s 6 r p
+          | false ↦ fell_ahead s r p left_ahead told
+        ]
 
     key_ahead : (o : Option ℕ) → Ahead (answered_peer_key s o r p).agenda
-    key_ahead None = fell_ahead s r p left_ahead told
-    key_ahead (Some key) = left_ahead
+    key_ahead = elim [ None ↦ fell_ahead s r p left_ahead told | Some key ↦ left_ahead ]
 
     keys_ahead : (o : Option KeyPair) → Ahead (answered_opened s o r p).agenda
-    keys_ahead None = fell_ahead s r p left_ahead told
-    keys_ahead (Some keys) = left_ahead
+    keys_ahead = elim [ None ↦ fell_ahead s r p left_ahead told | Some keys ↦ left_ahead ]
 
     plain_fin_ahead : (set : Bool) → Ahead (answered_plain_fin s set p).agenda
-    plain_fin_ahead true = left_ahead
-    plain_fin_ahead false = refl
+    plain_fin_ahead = elim [ true ↦ left_ahead | false ↦ refl ]
 
     fin_ahead : (set : Bool) → Ahead (answered_fin_heard s set p).agenda
-    fin_ahead true = left_ahead
-    fin_ahead false = refl
+    fin_ahead = elim [ true ↦ left_ahead | false ↦ refl ]
 
     module _ (index : ℕ) (acked_ahead : Ahead (replaced (Duty.Ask (AskDuty.AckHeard s)) p.agenda)) (failed_ahead : Ahead (replaced (Duty.Ask (AskDuty.FailHeard s)) p.agenda)) where
       told_ahead : (b : Bool) → Ahead (told_next s b p)
-      told_ahead true = acked_ahead
-      told_ahead false = left_ahead
+      told_ahead = elim [ true ↦ acked_ahead | false ↦ left_ahead ]
 
       mapping_ahead : Ahead (answered_mapping k s r p).agenda
       mapping_ahead =
@@ -176,8 +169,7 @@ module _ {C : Type 0} where
           [ true ↦ break_ahead k s 1 r p | false ↦ fell_ahead s r p left_ahead told ]
 
       stopped_ahead : (stopped : Bool) → Ahead (if stopped then stops s else left p)
-      stopped_ahead true = refl
-      stopped_ahead false = left_ahead
+      stopped_ahead = elim [ true ↦ refl | false ↦ left_ahead ]
 
       item_ahead : (o : Option Heard) → Ahead (answered_item k s o r p).agenda
       item_ahead (Some (Heard.DataAck next window)) = told_ahead _

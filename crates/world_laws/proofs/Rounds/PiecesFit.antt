@@ -61,16 +61,13 @@ EndFits limit e = TcpFits limit e.tcp
 -- ---- states
 
 finish_never : (state : EndPhase) → states.may_finish (states.after_finish state) ≡ false
-finish_never EndPhase.Waiting = refl
-finish_never _ = refl
+finish_never = elim [ EndPhase.Waiting ↦ refl | _ ↦ refl ]
 
 passed_may : (state : EndPhase) → states.may_finish (states.after_fin_passed state) ≡ true → states.may_finish state ≡ true
-passed_may EndPhase.Established is = refl
-passed_may _ is = is
+passed_may = elim [ EndPhase.Established ↦ λ is. refl | _ ↦ λ is. is ]
 
 acked_may : (state : EndPhase) → states.may_finish (states.after_fin_acked state) ≡ true → states.may_finish state ≡ true
-acked_may EndPhase.Waiting is = is
-acked_may _ is = is
+acked_may = elim [ EndPhase.Waiting ↦ λ is. is | _ ↦ λ is. is ]
 
 -- ---- acknowledgements
 
@@ -84,8 +81,7 @@ una_stays pos v some =
     [ true ↦ λ is. let more = ltb-true v.una pos (and_parts (nat_lt v.una pos) (nat_le pos v.nxt) is).0 in let low : 1 ≤ pos = omega (arith, more) in low | false ↦ λ is. some ]) refl
 
 not_less : (x y : Bool) → (x && y) ≡ false → y ≡ true → x ≡ false
-not_less true y none is = absurd (both_ways y none is)
-not_less false y none is = refl
+not_less = elim [ true ↦ λ y none is. absurd (both_ways y none is) | false ↦ λ y none is. refl ]
 
 -- the SYN is acknowledged by a position that was sent
 una_grows : (pos : ℕ) (v : SendState) → 1 ≤ pos → pos ≤ v.nxt → 1 ≤ (after_acknowledge pos v).una
@@ -107,8 +103,7 @@ acknowledged_fits limit pos now s sizes begun = elim (ack_kind pos s.send) as (�
     fits_then = record { sizes = sizes_acked limit pos s.send sizes; begun = begun }
 
     back : (b : Bool) → states.may_finish (if b then states.after_fin_acked s.state else s.state) ≡ true → states.may_finish s.state ≡ true
-    back true is = acked_may s.state is
-    back false is = is
+    back = elim [ true ↦ λ is. acked_may s.state is | false ↦ λ is. is ]
 
 row_fits : (limit : ℕ) (b : Bool) (s : EndState) → TcpFits limit s → TcpFits limit (if b then after_duplicate s else after_interruption s)
 row_fits limit true s h = h
@@ -229,8 +224,7 @@ payload_fits limit (Meaning.Taken pos acknowledged) octets s so h = by (is_nil o
   where
     by : (b : Bool) → MeansSo (if b then s else after_holding pos octets s).state (if b then s else after_holding pos octets s).send.nxt (Meaning.Taken pos acknowledged)
         × TcpFits limit (if b then s else after_holding pos octets s)
-    by true = (so, h)
-    by false = (so, h)
+    by = elim [ true ↦ (so, h) | false ↦ (so, h) ]
 payload_fits limit _ octets s so h = (so, h)
 
 owing_fits : (limit : ℕ) (b : Bool) (s : EndState) → TcpFits limit s → TcpFits limit (owing_if b s)
@@ -276,12 +270,10 @@ module _ {C : Type 0} where
     pub b : EndFits (payload_size p.profile) p.b
 
   pub fits_at : (s : Side) (p : PathState C) → PathFits p → EndFits (payload_size p.profile) (end_at s p)
-  fits_at A p h = h.a
-  fits_at B p h = h.b
+  fits_at = elim [ A ↦ λ p h. h.a | B ↦ λ p h. h.b ]
 
   either_fits : (c : Bool) (q r : PathState C) → PathFits q → PathFits r → PathFits (if c then q else r)
-  either_fits true q r x y = x
-  either_fits false q r x y = y
+  either_fits = elim [ true ↦ λ q r x y. x | false ↦ λ q r x y. y ]
 
   -- the end of a side becomes this, whatever else is on the path
   side_fits : (s : Side) (p q : PathState C) (e : PathEnd) → q.a ≡ (goes_on s e [] p).a → q.b ≡ (goes_on s e [] p).b → q.profile ≡ p.profile → PathFits p → EndFits (payload_size p.profile) e → PathFits q
@@ -429,8 +421,7 @@ module _ {C : Type 0} where
   }
     where
       by : (o : Option ℕ) → states.may_finish (first_state o) ≡ true → 1 ≤ 0
-      by None is = absurd (false≢true is)
-      by (Some tick) is = absurd (false≢true is)
+      by = elim [ None ↦ λ is. absurd (false≢true is) | Some tick ↦ λ is. absurd (false≢true is) ]
 
   -- ---- an actor
 

@@ -20,8 +20,7 @@ use Rattle.world_laws.proofs.Worlds.Casts.{Walker, Cast, Fare, world_of, after_a
 -- ---- a step of an application at the book of its side
 
 own_after : (s : Side) (call : ReassemblyCall) (six : SixBooks) → reassembly_of s (after_reassembly_call s call six) ≡ after_call (reassembly_of s six) call
-own_after A call six = refl
-own_after B call six = refl
+own_after = elim [ A ↦ λ call six. refl | B ↦ λ call six. refl ]
 
 module _ (arrived read : ℕ) (six : SixBooks) (notes : List Note) (n : Note) where
   abbrev book_after : AppDuty → AppState → Arriving
@@ -250,8 +249,7 @@ module _ {C : Type 0} (k : Codec C) (start : Start) where
       (subst (λ books. Has start (CaughtSince (books_in books)) (end_round v)) (sym (same_books v)) ended)
 
   over_nil : (ds : List AppDuty) → not (is_nil ds) ≡ false → ds ≡ []
-  over_nil [] over = refl
-  over_nil (d ∷ ds) over = cc
+  over_nil = elim [ [] ↦ λ over. refl | d ∷ ds ↦ λ over. cc ]
 
   all_read : (arrived read : ℕ) (a : AppState) (notes : List Note) (b : Arriving) → not (is_nil a.agenda) ≡ false → Caught arrived read a notes b → (arrived ≤ length (read_by notes)) ⊎ WasStopped notes
   all_read arrived read a notes b over h =

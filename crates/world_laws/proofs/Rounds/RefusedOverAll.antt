@@ -105,8 +105,7 @@ with_flag B flag refused A = refused A
 with_flag B flag refused B = flag
 
 own_flag : (s : Side) (flag : Bool) (refused : Side → Bool) → with_flag s flag refused s ≡ flag
-own_flag A flag refused = refl
-own_flag B flag refused = refl
+own_flag = elim [ A ↦ λ flag refused. refl | B ↦ λ flag refused. refl ]
 
 never_on : {X : Type 0} → false ≡ true → X
 never_on is = absurd (false≢true is)
@@ -230,12 +229,10 @@ abbrev pub freed_then : (Side → ℕ) → Ask → Reply → (Side → Bool) →
 freed_then edges ask reply freed s = freed s || frees_bytes s (edges s) ask reply
 
 freed_before : (b c : Bool) → b || c ≡ false → b ≡ false
-freed_before true c is = is
-freed_before false c is = refl
+freed_before = elim [ true ↦ λ c is. is | false ↦ λ c is. refl ]
 
 freed_after : (b c : Bool) → b || c ≡ false → c ≡ false
-freed_after true c is = absurd (false≢true (sym is))
-freed_after false c is = is
+freed_after = elim [ true ↦ λ c is. absurd (false≢true (sym is)) | false ↦ λ c is. is ]
 
 same_freeing : (s : Side) (edge : ℕ) (b : Sending) (call : SendCall) → frees_bytes s edge (Ask.Send s call) (Reply.Send (reply_to b call)) ≡ is_freeing edge b call
 same_freeing A edge b (SendCall.AckIn next window) = refl
@@ -372,8 +369,7 @@ module _ {C : Type 0} (k : Codec C) (p : PathState C) (written_a written_b : ℕ
   first_needs d ds f = (and_parts (needs d ds) (is_followed ds) f).0
 
   own_data : (s : Side) (ds : List Duty) → is_owed s (Duty.Step (StepDuty.Data s) ∷ ds) ≡ true
-  own_data A ds = refl
-  own_data B ds = refl
+  own_data = elim [ A ↦ λ ds. refl | B ↦ λ ds. refl ]
 
   other_each : (s : Side) (xs : List Duty) (flag : Bool) → ((t : Side) → Pays (Here xs) xs refused t) → (t : Side) → (t ≡ s → ⊥) → Pays (Here xs) xs (with_flag s flag refused) t
   other_each A xs flag each A apart = absurd (apart refl)

@@ -33,8 +33,7 @@ app_asks [] a x is = cc
 app_asks (d ∷ ds) a x is = subst AsksSome (same_Some (app_ask d a) x is) (app_asks_some d a)
 
 some_app : (ds : List AppDuty) (a : AppState) (x : Ask) → app_asks_first ds a ≡ Some x → is_nil ds ≡ false
-some_app [] a x is = cc
-some_app (d ∷ ds) a x is = refl
+some_app = elim [ [] ↦ λ a x is. cc | d ∷ ds ↦ λ a x is. refl ]
 
 -- ---- a path
 

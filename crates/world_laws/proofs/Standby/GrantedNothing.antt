@@ -108,8 +108,7 @@ module _ {C : Type 0} (k : Codec C) where
       by y none = (at (looks s y) none.0, λ both. refl)
         where
           at : (b : Bool) → b ≡ false → false ≡ (if b then standby_told false (reply_of six y) else false)
-          at false is = refl
-          at true is = absurd (false≢true (sym is))
+          at = elim [ false ↦ λ is. refl | true ↦ λ is. absurd (false≢true (sym is)) ]
 
   member_asks_so : (six : SixBooks) (m : Actor C) (x : Ask) → member_asks k m ≡ Some x → Asks six m x
   member_asks_so six (App a) x is = app_asks six a a.agenda x is

@@ -9,8 +9,7 @@ use Rattle.send_book.specs.Steps.{reply_to, after_call}
 -- ---- edges
 
 either_edge : (c : Bool) (least : ℕ) (x y : Sending) → least ≤ x.edge → least ≤ y.edge → least ≤ (if c then x else y).edge
-either_edge true least x y h g = h
-either_edge false least x y h g = g
+either_edge = elim [ true ↦ λ least x y h g. h | false ↦ λ least x y h g. g ]
 
 call_edge : (b : Sending) (call : SendCall) → b.edge ≤ (after_call b call).edge
 call_edge b (Write bytes) = either_edge (b.closed || b.aborted) b.edge b _ (omega arith) (omega arith)

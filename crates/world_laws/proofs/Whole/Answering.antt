@@ -51,8 +51,7 @@ fell_fewer s d ds r p =
 -- ---- what the edge passes
 
 none_if : (b : Bool) (o : Option KeptMapping) → o ≡ None → (if b then None else o) ≡ None
-none_if true o none = refl
-none_if false o none = none
+none_if = elim [ true ↦ λ o none. refl | false ↦ λ o none. none ]
 
 none_at : (v : Mappings) (edge : ℕ) → v.live ≡ [] → mapping_at v edge ≡ None
 none_at v edge none = none_if (nat_lt edge v.forgotten) _ (rw none refl)
@@ -227,8 +226,7 @@ module _ (d : Duty) (ds : List Duty) (p : PathState Carried) (h : PathIs (d ∷ 
   refusal_is s os v finite = reset_like p.profile s (end_at s p) (end_at (peer s) p).tcp.send v (outgoing_or (end_at s p).treated.answer (reset_segment (end_at s p).tcp)) os (by (end_at s p).treated.answer (end_is s (d ∷ ds) (with_agenda (d ∷ ds) p) h).base.treated.answer) finite
     where
       by : (o : Option Outgoing) → IfSome o (λ (x : Outgoing). x.rst ≡ true) → (outgoing_or o (reset_segment (end_at s p).tcp)).rst ≡ true
-      by None is = refl
-      by (Some x) is = is
+      by = elim [ None ↦ λ is. refl | Some x ↦ λ is. is ]
 
   module _ (s : Side) (plain : Plain (end_at s p)) (speaks : Speaks s (end_at s p)) where
     low : (e : PathEnd) → ((end_at s p).modes.clear ≡ true) ⊎ NoneBelow (end_at s p).tcp.recv.edge (end_at (peer s) p).tcp.send

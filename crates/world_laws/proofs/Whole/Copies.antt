@@ -73,8 +73,7 @@ may_write A Fin e speaks = speaks
 may_write B kind e speaks = speaks
 
 fail_finite : (o : Option ℕ) → list_any is_infinite_option (map meant_option (fail_options o)) ≡ false
-fail_finite None = refl
-fail_finite (Some place) = refl
+fail_finite = elim [ None ↦ refl | Some place ↦ refl ]
 
 -- an end that didn't fall back, on path 0: it may send a DSS, or no byte of the other side lies below its edge
 module _ (c : Profile) (s : Side) (e : PathEnd) (vs vt : SendState) (first : is_joined c ≡ false) (mapped : e.modes.identity ≡ false) (own : e.modes.own_infinite ≡ None)
@@ -111,8 +110,7 @@ module _ (c : Profile) (s : Side) (e : PathEnd) (vs vt : SendState) (first : is_
           [ A ↦ λ same all. all same | B ↦ λ same all. carries ]) refl all
 
       by : (b : Bool) → NoneBelow e.tcp.recv.edge vs → IfSome (acknowledged_in (option_map (λ n. At n) (if b then None else Some e.tcp.recv.edge))) (λ n. NoneBelow n vs)
-      by true below = tt
-      by false below = below
+      by = elim [ true ↦ λ below. tt | false ↦ λ below. below ]
 
   quiet : (position : ℕ) (os : List PlainOption) → Tells os → Says (segment_of c (ack_at position e.tcp) os [] e)
   quiet position os tells = told position false false 0 os [] tells (λ is. absurd (false≢true is)) (inl refl)
@@ -126,8 +124,7 @@ module _ (c : Profile) (s : Side) (e : PathEnd) (vs vt : SendState) (first : is_
   fin_tells (Some place) os finite = record { some = λ is. refl; acks = λ none. absurd (false≢true (sym none)); finite = finite }
 
   beside_finite : (o : Option ℕ) → list_any is_infinite_option (map meant_option (fail_beside o e.modes)) ≡ false
-  beside_finite None = fail_finite _
-  beside_finite (Some place) = refl
+  beside_finite = elim [ None ↦ fail_finite _ | Some place ↦ refl ]
 
   key_tells : (t : Side) → s ≡ t → (o : Option ℕ) → e.modes.clear ≡ false → (s ≡ A → is_some o ≡ true) → Tells (key_options c t o e)
   key_tells A is (Some key) unclear has = record { some = λ same. refl; acks = λ none. unclear_low unclear; finite = refl }
@@ -221,8 +218,7 @@ module _ (c : Profile) (s : Side) (e : PathEnd) (vs vt : SendState) (first : is_
   mapped_some r speaks = by (is_first_piece s r e) refl
     where
       first_some : (o : Option ℕ) → is_some o ≡ true → is_nil (map meant_option (first_piece_options c o r e)) ≡ false
-      first_some (Some peer) has = refl
-      first_some None has = absurd (false≢true has)
+      first_some = elim [ Some peer ↦ λ has. refl | None ↦ λ has. absurd (false≢true has) ]
 
       by : (b : Bool) → is_first_piece s r e ≡ b → is_nil (map meant_option (if b then first_piece_options c e.modes.peer_key r e else Dss (Some e.receiving.next) (Some (piece_mapping c s r)) ∷ [])) ≡ false
       by true is = let a = first_of_a s refl e.modes.clear (r.pos == 1) refl is in first_some e.modes.peer_key (has_key speaks a.0)

@@ -65,8 +65,7 @@ is_spared w =
     && (not w.peer_infinite && (not w.copy && not w.held_edge))))))))))
 
 un : (b : Bool) → not b ≡ true → b ≡ false
-un false is = refl
-un true is = absurd (false≢true is)
+un = elim [ false ↦ λ is. refl | true ↦ λ is. absurd (false≢true is) ]
 
 same_parts : (a a2 : SendState) (b b2 : Receiving) (c c2 : Option ℕ) (d d2 : EndPhase) (e e2 : Timing) (f f2 : Mappings) (g g2 : Bool) (h h2 : Option ℕ) (i i2 : Bool) (j j2 : Option InfiniteMapping) (k k2 : Treated) (l l2 : Option ℕ)
     → a2 ≡ a → b2 ≡ b → c2 ≡ c → d2 ≡ d → e2 ≡ e → f2 ≡ f → g2 ≡ g → h2 ≡ h → i2 ≡ i → j2 ≡ j → k2 ≡ k → l2 ≡ l
@@ -228,8 +227,7 @@ ack_finite (Some None) window = refl
 ack_finite (Some (Some next)) window = if_so (λ z. list_any is_infinite_item z ≡ false) (nat_lt next (2 ^ 62)) (Heard.DataAck next window ∷ []) [] refl refl
 
 if_finite : (b : Bool) (item : Heard) → is_infinite_item item ≡ false → list_any is_infinite_item (if b then item ∷ [] else []) ≡ false
-if_finite true item none = ap (λ x. x || false) none
-if_finite false item none = refl
+if_finite = elim [ true ↦ λ item none. ap (λ x. x || false) none | false ↦ λ item none. refl ]
 
 map_finite : (next : Option (Option ℕ)) (mapping : Option (PathMapping (Option ℕ))) → is_infinite_option (PathOption.Dss next mapping) ≡ false → list_any is_infinite_item (map_items mapping) ≡ false
 map_finite next None none = refl
@@ -391,8 +389,7 @@ module _ (s : Side) (vs : SendState) (h : HeardSegment) (e : PathEnd) (told : Li
   -- ---- what is still to be treated of it
 
   and_never : (b : Bool) → b && false ≡ false
-  and_never true = refl
-  and_never false = refl
+  and_never = elim [ true ↦ refl | false ↦ refl ]
 
   no_octets : (n : ℕ) (x : SendState) → NoneBelow n x → (b : Bool) (new : ℕ) → octets_acked (if b then Opened else Took (ack_kind n x) new h.fin) ≡ 0
   no_octets n x low true new = refl
@@ -426,16 +423,14 @@ module _ (s : Side) (vs : SendState) (h : HeardSegment) (e : PathEnd) (told : Li
   opened_optional B same state apart half syn rst = subst (λ t. OptionIs (peer t) h) same (said.option rst syn)
 
   syn_optional : (t : Side) → SynIs t h → is_nil h.options ≡ false
-  syn_optional A is = asks_has_option h is
-  syn_optional B is = key_has_option h is
+  syn_optional = elim [ A ↦ λ is. asks_has_option h is | B ↦ λ is. key_has_option h is ]
 
   -- a payload at the edge
   edge_optional : (t : Side) → s ≡ t → (pos edge : ℕ) → h.syn ≡ false → h.rst ≡ false → IfSome (edge_held (Meaning.Taken pos 0) h.payload edge) (λ k. not (is_nil h.options) ≡ true)
   edge_optional B same pos edge syn rst = some_later (λ k. Unit {0}) _ (edge_held (Meaning.Taken pos 0) h.payload edge) (λ k any. ap not (subst (λ t. OptionIs (peer t) h) same (said.option rst syn))) (any_some (edge_held (Meaning.Taken pos 0) h.payload edge))
     where
       any_some : (o : Option ℕ) → IfSome o (λ k. Unit {0})
-      any_some None = tt
-      any_some (Some k) = tt
+      any_some = elim [ None ↦ tt | Some k ↦ tt ]
   edge_optional A same pos edge syn rst = elim (subst (λ t. OptionIs (peer t) h) same (said.option rst syn))
       [ inl nil ↦ at (nat_le pos edge && nat_lt edge (pos + length h.payload)) refl nil | inr some ↦ optional (nat_le pos edge && nat_lt edge (pos + length h.payload)) some ]
     where
@@ -446,12 +441,10 @@ module _ (s : Side) (vs : SendState) (h : HeardSegment) (e : PathEnd) (told : Li
           let low = leb-true pos edge both.0 in let high = ltb-true edge (pos + length h.payload) both.1 in let none = nil_length h.payload nil in absurd (omega (arith, low, high, none))
         where
           nil_length : (xs : List ℕ) → is_nil xs ≡ true → length xs ≡ 0
-          nil_length [] nil = refl
-          nil_length (x ∷ xs) nil = absurd (false≢true nil)
+          nil_length = elim [ [] ↦ λ nil. refl | x ∷ xs ↦ λ nil. absurd (false≢true nil) ]
 
       optional : (b : Bool) → is_nil h.options ≡ false → IfSome (if b then Some edge else None) (λ k. not (is_nil h.options) ≡ true)
-      optional true some = ap not some
-      optional false some = tt
+      optional = elim [ true ↦ λ some. ap not some | false ↦ λ some. tt ]
 
   treated_so : (t : Treated) (held : Option ℕ) → t.items ≡ items_of false s h → t.answer ≡ Some answer → t.plain_ack ≡ false → (t.opened ≡ true → t.has_option ≡ true)
       → IfSome held (λ edge. t.has_option ≡ true) → TreatedIs t held

@@ -47,8 +47,7 @@ abbrev WasPlain : Fall → Fall → Type 0
 WasPlain f g = is_identity g.mode ≡ true → is_identity f.mode ≡ true
 
 row_plain : (b : Bool) (f : Fall) (x y : Fall × Verdict) → (b ≡ true → WasPlain f x.0) → (b ≡ false → WasPlain f y.0) → WasPlain f (if b then x else y).0
-row_plain true f x y one other = one refl
-row_plain false f x y one other = other refl
+row_plain = elim [ true ↦ λ f x y one other. one refl | false ↦ λ f x y one other. other refl ]
 
 receiving_plain : (m : Mode) → is_identity (receiving m) ≡ true → ⊥
 receiving_plain Mode.Starting is = false≢true is
@@ -209,8 +208,7 @@ each_known start turns plain = record { each = λ actor c there. by actor c ther
         one p k = (fell, (k.is.waits, λ joins s spoken. (k.is.known (Voice.Says s) spoken joins).0))
           where
             fell : (s : Side) → (end_at s p).modes.identity ≡ true → Was is_identity t.books s
-            fell A is = (k.is.a.modes.fell is).1.1
-            fell B is = (k.is.b.modes.fell is).1.1
+            fell = elim [ A ↦ λ is. (k.is.a.modes.fell is).1.1 | B ↦ λ is. (k.is.b.modes.fell is).1.1 ]
 
     all : (actor : ℕ) (c : ActorCrew Carried) → slice_get w.crew actor ≡ Some c → CausesKnown w.books c.member
     all = let run = run_causes start turns in
@@ -287,8 +285,7 @@ member_begins_stands (Path p) over h = λ first.
     let both = h (ap is_joined (sym (next_profile p)) ∙ first) in (next_leads p both.0, next_holds p (over_nil p.agenda over) both.0 both.1)
   where
     over_nil : (ds : List Duty) → is_nil ds ≡ true → ds ≡ []
-    over_nil [] is = refl
-    over_nil (d ∷ ds) is = absurd (false≢true is)
+    over_nil = elim [ [] ↦ λ is. refl | d ∷ ds ↦ λ is. absurd (false≢true is) ]
 
 abbrev Finite : WorldState Carried → Type 0
 Finite w = (s : Side) → is_infinite (control_of s (books_in w.books)).fall.mode ≡ false
@@ -358,8 +355,7 @@ opened_upright : (start : Start) → IsPlain start → IsWhole start → Upright
 opened_upright start plain whole = record { never = never; crew = opened_lifted CrewStands start tt tt (λ number plan there. first_turn_is number plan) }
   where
     never : Never (opened_world {C = Carried} start).books
-    never A was = false≢true was
-    never B was = false≢true was
+    never = elim [ A ↦ λ was. false≢true was | B ↦ λ was. false≢true was ]
 
     leads : (number : ℕ) (plan : PathPlan) → LeadsWell (waiting_path {C = Carried} (path_begins start number plan) start.lines)
     leads number plan = record { led = tt; clear = inr (record { n = 0; none = inr tt; follows = tt }) }

@@ -106,8 +106,7 @@ module _ (s : Side) (ds : List Duty) (p : PathState Carried) (h : PathIs ds p) w
       spoken t x same speaks = subst (MarkIs (with_end s (fired_end false) p)) (sym same) (by s speaks)
         where
           by : (u : Side) → Speaks u (end_at u p) → Speaks u (end_at u (with_end u (record (end_at u p) { tcp = after_expiry p.clock (end_at u p).tcp }) p))
-          by A speaks = speaks
-          by B speaks = speaks
+          by = elim [ A ↦ λ speaks. speaks | B ↦ λ speaks. speaks ]
 
 -- ---- A's SYN goes out again, whatever is given back
 
@@ -289,8 +288,7 @@ left_copies va vb None fs h = h
 left_copies va vb (Some place) fs h = record { each = λ k f at. let was = in_removed fs place k f at in h.each was.0 f was.1 }
 
 comes_to : (s : Side) (p : PathState Carried) (flight : Flight Carried) → CopyTo p.a.tcp.send p.b.tcp.send s flight → HeardIs (peer s) (end_at s p).tcp.send (end_at (peer s) p).tcp.send (meant (as_arrived flight.carried))
-comes_to A p flight copy = copy
-comes_to B p flight copy = copy
+comes_to = elim [ A ↦ λ p flight copy. copy | B ↦ λ p flight copy. copy ]
 
 options_same : (e : PathEnd) (heard : HeardSegment) → e.modes.identity ≡ false → options_heard e heard ≡ heard
 options_same e heard is = rw is refl

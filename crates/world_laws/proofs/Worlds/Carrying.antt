@@ -6,12 +6,10 @@ use Rattle.world_laws.proofs.Words.{all_over, greatest, begins, end_round, after
 use Rattle.world_laws.proofs.Words.{shown_crew, shown_member, shown_world}
 
 member_asks_same : (m : Actor Carried) → member_asks octets (shown_member m) ≡ member_asks values m
-member_asks_same (App a) = refl
-member_asks_same (Path p) = asks_the_same p
+member_asks_same = elim [ App a ↦ refl | Path p ↦ asks_the_same p ]
 
 over_same : (m : Actor Carried) → is_over (shown_member m) ≡ is_over m
-over_same (App a) = refl
-over_same (Path p) = refl
+over_same = elim [ App a ↦ refl | Path p ↦ refl ]
 
 crew_same : (ask : Ask) (books : StampedBooks) (c : ActorCrew Carried) → IsFreshMember c.member
     → crew_after octets ask books (shown_crew c) ≡ shown_crew (crew_after values ask books c)
@@ -85,8 +83,7 @@ round_same w =
     by false = refl
 
 turn_same : (turn : Turn) (w : WorldState Carried) → IsFreshTurn turn w → after_turn octets turn (shown_world w) ≡ shown_world (after_turn values turn w)
-turn_same (Turn.Step actor) w fresh = step_same actor w fresh
-turn_same Turn.Round w fresh = round_same w
+turn_same = elim [ Turn.Step actor ↦ λ w fresh. step_same actor w fresh | Turn.Round ↦ λ w fresh. round_same w ]
 
 pub run_same : OctetsDoAsValues
 run_same [] w fresh = refl

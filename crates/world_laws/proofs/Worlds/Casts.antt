@@ -19,20 +19,16 @@ use Rattle.world_laws.proofs.Weaving.Journals.{books_after}
 -- ---- an application
 
 is_empty : (xs : List ℕ) → is_nil xs ≡ true → xs ≡ []
-is_empty [] is = refl
-is_empty (x ∷ xs) is = absurd (false≢true is)
+is_empty = elim [ [] ↦ λ is. refl | x ∷ xs ↦ λ is. absurd (false≢true is) ]
 
 own_after : (s : Side) (call : SendCall) (six : SixBooks) → send_of s (after_send_call s call six) ≡ after_call (send_of s six) call
-own_after A call six = refl
-own_after B call six = refl
+own_after = elim [ A ↦ λ call six. refl | B ↦ λ call six. refl ]
 
 other_after_a : (s : Side) (call : SendCall) (six : SixBooks) → s ≡ A → (after_send_call s call six).send_b ≡ six.send_b
-other_after_a A call six is = refl
-other_after_a B call six is = cc
+other_after_a = elim [ A ↦ λ call six is. refl | B ↦ λ call six is. cc ]
 
 other_after_b : (s : Side) (call : SendCall) (six : SixBooks) → s ≡ B → (after_send_call s call six).send_a ≡ six.send_a
-other_after_b B call six is = refl
-other_after_b A call six is = cc
+other_after_b = elim [ B ↦ λ call six is. refl | A ↦ λ call six is. cc ]
 
 -- an application of this side, with its file and its book
 pub record Fares (s : Side) (file : List ℕ) (a : AppState) (send : Sending) : Type 0 where
@@ -66,8 +62,7 @@ answered_fares file six a AppDuty.Read stands h = (elim a.side as (λ s. Writes 
 answered_fares file six a AppDuty.End stands h = h
 
 answered_side : (d : AppDuty) (r : Reply) (a : AppState) → (app_answered d r a).side ≡ a.side
-answered_side AppDuty.FastClose r a = refl
-answered_side _ r a = refl
+answered_side = elim [ AppDuty.FastClose ↦ λ r a. refl | _ ↦ λ r a. refl ]
 
 -- a step of an application
 app_fares : (s : Side) (file : List ℕ) (six : SixBooks) (a : AppState) (d : AppDuty) (ds : List AppDuty) → a.agenda ≡ d ∷ ds → Fares s file a (send_of s six)

@@ -67,8 +67,7 @@ module _ (start : Start) where
   takes_so r (Path p) h = (takes_clear values r p).a.0 h
 
   next_so : (m : Actor Carried) → IsClearAt m → IsClearAt (member_next m)
-  next_so (App a) h = tt
-  next_so (Path p) h = (next_clear p).a.0 h
+  next_so = elim [ App a ↦ λ h. tt | Path p ↦ λ h. (next_clear p).a.0 h ]
 
   -- as long as the path's actor takes a reply
   stays_clear : (actor : ℕ) (x : Ask) (c : ActorCrew Carried) (w : WorldState Carried) → slice_get w.crew actor ≡ Some c → FirstClear w → FirstClear (asked values actor (Some x) c w)
@@ -92,17 +91,13 @@ module _ (start : Start) where
           (joins_by six x (member_asks_are start.key_a start.key_b false six c.member x (h.known.crew.each actor c there) is) (subst (λ (y : SixBooks). Joined y A) now joined)))
 
   round_clear : (w : WorldState Carried) → Since w → Joined (books_in (after_turn values Turn.Round w).books) A → FirstClear (after_turn values Turn.Round w)
-  round_clear w h = by (all_over w.crew)
-    where
-      by : (b : Bool) → let v = if b then record w { crew = map (begins (greatest 0 w.crew)) w.crew } else w in Joined (books_in v.books) A → FirstClear v
-      by true joined d at =
-          let found = in_map (begins (greatest 0 w.crew)) w.crew 2 d at in
-          subst (λ (y : ActorCrew Carried). IsClearAt y.member) found.2 (next_so found.0.member (h.clear joined found.0 found.1))
-      by false joined d at = h.clear joined d at
+  round_clear w h = elim (all_over w.crew) as (λ b. let v = if b then record w { crew = map (begins (greatest 0 w.crew)) w.crew } else w in Joined (books_in v.books) A → FirstClear v) [
+    | true ↦ λ joined d at. let found = in_map (begins (greatest 0 w.crew)) w.crew 2 d at in subst (λ (y : ActorCrew Carried). IsClearAt y.member) found.2 (next_so found.0.member (h.clear joined found.0 found.1))
+    | false ↦ λ joined d at. h.clear joined d at
+  ]
 
   turn_clear : (turn : Turn) (w : WorldState Carried) → Since w → Joined (books_in (after_turn values turn w).books) A → FirstClear (after_turn values turn w)
-  turn_clear (Turn.Step actor) w h = step_clear actor w h
-  turn_clear Turn.Round w h = round_clear w h
+  turn_clear = elim [ Turn.Step actor ↦ λ w h. step_clear actor w h | Turn.Round ↦ λ w h. round_clear w h ]
 
   since : (turns : List Turn) (w : WorldState Carried) → Since w → Since (world_run values turns w)
   since [] w h = h
