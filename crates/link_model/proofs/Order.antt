@@ -53,7 +53,7 @@ less_before a b c x y z (inr (same, inr (equal, low))) = grind (arith, same, equ
 
 -- what doesn't come before a later one doesn't come before an earlier one
 before_later : (a b c x y z k l m : ℕ) → before a b c x y z ≡ true → before k l m x y z ≡ false → before k l m a b c ≡ false
-before_later a b c x y z k l m first not = (elim _ as (λ t. before k l m a b c ≡ t → t ≡ false)
+before_later a b c x y z k l m first not = (elim (before k l m a b c) as (λ t. before k l m a b c ≡ t → t ≡ false)
     [ false ↦ λ e. refl | true ↦ λ e. let no : true ≡ false = sym (less_before k l m x y z (crossed a b c x y z k l m (less_is a b c x y z first) (less_is k l m a b c e))) ∙ not in no ]) refl
 
 -- not after
@@ -85,7 +85,7 @@ at_most_then a b c x y z k l m (inr g) (inr f) = inr (omega (arith, f.0, g.0), w
 
 -- what comes before one comes before each that doesn't come before that
 before_onward : (a b c x y z k l m : ℕ) → before a b c x y z ≡ true → before k l m x y z ≡ false → before a b c k l m ≡ true
-before_onward a b c x y z k l m first not = (elim _ as (λ t. before a b c k l m ≡ t → t ≡ true) [
+before_onward a b c x y z k l m first not = (elim (before a b c k l m) as (λ t. before a b c k l m ≡ t → t ≡ true) [
   | true ↦ λ e. refl
   | false ↦ λ e. let no : true ≡ false = sym (less_before k l m x y z (at_most_then a b c x y z k l m (at_most_first k l m a b c e (cases_lt k a)) (less_is a b c x y z first))) ∙ not in sym no
 ]) refl
@@ -171,7 +171,7 @@ in_order_delivered due link order = elim (position (is_due due) link.under_way) 
     [ None ↦ order | Some i ↦ in_order_removed link.under_way i order ]
 
 pub behind_is : (a b c x y z : ℕ) → a ≤ x → b ≡ y → c ≤ z → before x y z a b c ≡ false
-behind_is a b c x y z tick rank number = (elim _ as (λ t. before x y z a b c ≡ t → t ≡ false) [ false ↦ λ e. refl | true ↦ λ e. never (less_is x y z a b c e) ]) refl
+behind_is a b c x y z tick rank number = (elim (before x y z a b c) as (λ t. before x y z a b c ≡ t → t ≡ false) [ false ↦ λ e. refl | true ↦ λ e. never (less_is x y z a b c e) ]) refl
   where
     never : Less x y z a b c → true ≡ false
     never (inl low) = absurd (omega (arith, tick, low))

@@ -48,8 +48,11 @@ module _ (c : Copy) (s : EndState) where
 
   answering : (o : Option ℕ) → AcknowledgesSent (meaning_answering o c s)
   answering None = tt
-  answering (Some acknowledged) = elim _ as (λ b. AcknowledgesSent (if b then meaning_answer c acknowledged else Meaning.Ignored)) [ true ↦ answer | false ↦ tt ]
+  answering (Some acknowledged) = by _
     where
+      by : (b : Bool) → AcknowledgesSent (if b then meaning_answer c acknowledged else Meaning.Ignored)
+      by = elim [ true ↦ answer | false ↦ tt ]
+
       answer : AcknowledgesSent (meaning_answer c acknowledged)
       answer =
           chosen c.rst Meaning.Kills (if c.syn then Meaning.Accepts acknowledged else Meaning.Ignored) tt

@@ -50,8 +50,7 @@ module _ (actors width : ℕ) where
   if_nothing b number turns = cond b (Ok turns) (Err (LogFault.Line number))
 
   ok_if : (b : Bool) (number : ℕ) (turns : List Turn) → is_ok (if_nothing b number turns) ≡ b
-  ok_if true number turns = refl
-  ok_if false number turns = refl
+  ok_if = elim [ true ↦ λ number turns. refl | false ↦ λ number turns. refl ]
 
   same_ok : (lines : List (List ℕ)) (number : ℕ) (expected : Expected) (turns : List Turn) → is_ok (read_on actors width number expected turns lines) ≡ rest_of_log expected lines
   unfolding read_on rest_of_log
@@ -83,8 +82,7 @@ module _ (actors width : ℕ) where
   low number _ h le = tt
 
   from_end : (b : Bool) (number n : ℕ) (turns : List Turn) → if_nothing b number turns ≡ Err (LogFault.Line n) → number ≡ n
-  from_end true number n turns e = absurd cc
-  from_end false number n turns e = ap line_in e
+  from_end = elim [ true ↦ λ number n turns e. absurd cc | false ↦ λ number n turns e. ap line_in e ]
 
   rest_step : (expected : Expected) (line : List ℕ) (one : Taken) (lines : List (List ℕ)) → taken_line actors width expected line ≡ Some one → rest_of_log expected (line ∷ lines) ≡ rest_of_log one.next lines
   unfolding rest_of_log

@@ -69,32 +69,25 @@ few_fell path Event.PlainHandshake = refl
 few_fell path _ = refl
 
 few_send_call : (call : SendCall) → IsCount 5 (send_call_words call)
-few_send_call (SendCall.Write bytes) = refl
-few_send_call _ = refl
+few_send_call = elim [ SendCall.Write bytes ↦ refl | _ ↦ refl ]
 
 few_reassembly_call : (call : ReassemblyCall) → IsCount 5 (reassembly_call_words call)
-few_reassembly_call (ReassemblyCall.Place at bytes) = refl
-few_reassembly_call _ = refl
+few_reassembly_call = elim [ ReassemblyCall.Place at bytes ↦ refl | _ ↦ refl ]
 
 few_local : (step : LocalStep) → IsCount 5 (local_words step)
-few_local (LocalStep.Arrive to copy) = refl
-few_local _ = refl
+few_local = elim [ LocalStep.Arrive to copy ↦ refl | _ ↦ refl ]
 
 pub few_send_reply : (reply : SendReply) → IsCount 6 (send_reply_words reply)
-few_send_reply (SendReply.Taken count) = refl
-few_send_reply _ = refl
+few_send_reply = elim [ SendReply.Taken count ↦ refl | _ ↦ refl ]
 
 pub few_reassembly_reply : (reply : ReassemblyReply) → IsCount 6 (reassembly_reply_words reply)
-few_reassembly_reply (ReassemblyReply.Placed count) = refl
-few_reassembly_reply _ = refl
+few_reassembly_reply = elim [ ReassemblyReply.Placed count ↦ refl | _ ↦ refl ]
 
 few_notices : (notice : Notice) → nat_le (length (notice_words notice)) 2 ≡ true
-few_notices Notice.Nothing = refl
-few_notices _ = refl
+few_notices = elim [ Notice.Nothing ↦ refl | _ ↦ refl ]
 
 few_verdicts : (verdict : Verdict) → nat_le (length (verdict_words verdict)) 2 ≡ true
-few_verdicts Verdict.Stay = refl
-few_verdicts _ = refl
+few_verdicts = elim [ Verdict.Stay ↦ refl | _ ↦ refl ]
 
 -- ---- what is asked
 
@@ -112,8 +105,7 @@ octets_short (octet ∷ octets) h =
     omega (arith, length-append (32 ∷ decimal octet) (flat_map (λ octet. 32 ∷ decimal octet) octets), length-decimal-le 3 octet (omega arith) (omega (arith, h.0)) (omega (arith, h.0)), octets_short octets h.1)
 
 few_octets : (address : Address) → HasItsOctets address → length (octets_of address) ≤ 16
-few_octets (Address.V4 octets) h = omega arith
-few_octets (Address.V6 octets) h = omega arith
+few_octets = elim [ Address.V4 octets ↦ λ h. omega arith | Address.V6 octets ↦ λ h. omega arith ]
 
 heard_short : (id : ℕ) (address : Address) (port hmac : ℕ) → HeardFits id address port hmac → IsWithin 105 (spaced (heard_words id (octets_of address) port hmac))
 heard_short id address port hmac h =

@@ -108,15 +108,13 @@ from_words (stamp ∷ actor ∷ object ∷ words) = built (digits_value 10 stamp
 from_words words = built 0 0 Object.Me (parts_of words)
 
 some_words : (words : List (List ℕ)) → 1 ≤ length (spaced words) → 0 < length words
-some_words [] h = absurd (omega arith)
-some_words (word ∷ words) h = omega arith
+some_words = elim [ [] ↦ λ h. absurd (omega arith) | word ∷ words ↦ λ h. omega arith ]
 
 some_ask : (ask : Ask) → AskFits ask → 0 < length (ask_words ask)
 some_ask ask h = some_words (ask_words ask) (ask_within ask h).0
 
 some_control_reply : (reply : ControlReply) → 0 < length (control_reply_words reply)
-some_control_reply (ControlReply.Standing mode standby sole notice) = omega arith
-some_control_reply _ = omega arith
+some_control_reply = elim [ ControlReply.Standing mode standby sole notice ↦ omega arith | _ ↦ omega arith ]
 
 -- the words of an ask and of a reply
 both_parts : (asked answered : List (List ℕ)) → ArePlain asked → 0 < length asked → ArePlain answered → 0 < length answered

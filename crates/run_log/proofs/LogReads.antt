@@ -166,8 +166,7 @@ outcome_again Outcome.Delivered = refl
 outcome_again _ = refl
 
 outcome_line : (outcome : Outcome) → IsLine (outcome_text outcome)
-outcome_line Outcome.Delivered = refl
-outcome_line _ = refl
+outcome_line = elim [ Outcome.Delivered ↦ refl | _ ↦ refl ]
 
 round_line : (number : ℕ) → IsLong number → IsLine (round_text number)
 round_line number h = printable_both (codes "round ") (decimal number) refl (printable_word (decimal number) (number_seen number h))

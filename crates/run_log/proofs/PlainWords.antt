@@ -39,28 +39,22 @@ plain_number n h =
     and_from _ _ (seen_digits (decimal n) (digits_decimal digits n h)) (and_from _ _ (lt-ltb 0 (length (decimal n)) (decimal_nonempty n h)) (le-leb (length (decimal n)) 20 (length-decimal-le 20 n (omega arith) (omega arith) h)))
 
 pub plain_flag : (on : Bool) → IsPlain (flag_word on)
-plain_flag true = refl
-plain_flag false = refl
+plain_flag = elim [ true ↦ refl | false ↦ refl ]
 
 plain_optional : (n : Option ℕ) → OptionFits n → IsPlain (optional_word n)
-plain_optional (Some n) h = plain_number n h
-plain_optional None h = refl
+plain_optional = elim [ Some n ↦ λ h. plain_number n h | None ↦ λ h. refl ]
 
 pub plain_side : (side : Side) → IsPlain (side_word side)
-plain_side Side.A = refl
-plain_side Side.B = refl
+plain_side = elim [ Side.A ↦ refl | Side.B ↦ refl ]
 
 plain_reason : (why : Why) → IsPlain (reason_word why)
-plain_reason Why.Ended = refl
-plain_reason _ = refl
+plain_reason = elim [ Why.Ended ↦ refl | _ ↦ refl ]
 
 plain_mode : (mode : Mode) → IsPlain (mode_word mode)
-plain_mode Mode.Starting = refl
-plain_mode _ = refl
+plain_mode = elim [ Mode.Starting ↦ refl | _ ↦ refl ]
 
 plain_event : (event : Event) → ArePlain (event_words event)
-plain_event (Event.FailHeard contiguous) = (refl, (plain_flag contiguous, tt))
-plain_event _ = (refl, tt)
+plain_event = elim [ Event.FailHeard contiguous ↦ (refl, (plain_flag contiguous, tt)) | _ ↦ (refl, tt) ]
 
 plain_verdict : (verdict : Verdict) → VerdictFits verdict → ArePlain (verdict_words verdict)
 plain_verdict Verdict.Stay h = (refl, tt)

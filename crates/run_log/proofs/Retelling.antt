@@ -27,8 +27,7 @@ abbrev flag_of : List ℕ → Bool
 flag_of word = bytes_eq word (codes "1")
 
 flag_again : (on : Bool) → flag_of (flag_word on) ≡ on
-flag_again true = refl
-flag_again false = refl
+flag_again = elim [ true ↦ refl | false ↦ refl ]
 
 abbrev optional_of : List ℕ → Option ℕ
 optional_of word = cond (bytes_eq word (codes "-")) None (Some (value word))
@@ -48,15 +47,13 @@ abbrev side_of : List ℕ → Side
 side_of word = cond (bytes_eq word (codes "a")) Side.A Side.B
 
 side_again : (side : Side) → side_of (side_word side) ≡ side
-side_again Side.A = refl
-side_again Side.B = refl
+side_again = elim [ Side.A ↦ refl | Side.B ↦ refl ]
 
 abbrev reason_of : List ℕ → Why
 reason_of word = cond (bytes_eq word (codes "ended")) Why.Ended (cond (bytes_eq word (codes "backup")) Why.Backup (cond (bytes_eq word (codes "free")) Why.NothingFree Why.WindowShut))
 
 reason_again : (why : Why) → reason_of (reason_word why) ≡ why
-reason_again Why.Ended = refl
-reason_again _ = refl
+reason_again = elim [ Why.Ended ↦ refl | _ ↦ refl ]
 
 abbrev mode_of : List ℕ → Mode
 mode_of word =
@@ -64,8 +61,7 @@ mode_of word =
     (cond (bytes_eq word (codes "infinitesend")) Mode.InfiniteSend (cond (bytes_eq word (codes "infinitereceive")) Mode.InfiniteReceive (cond (bytes_eq word (codes "infiniteboth")) Mode.InfiniteBoth Mode.Aborted)))))
 
 mode_again : (mode : Mode) → mode_of (mode_word mode) ≡ mode
-mode_again Mode.Starting = refl
-mode_again _ = refl
+mode_again = elim [ Mode.Starting ↦ refl | _ ↦ refl ]
 
 abbrev event_of : List (List ℕ) → Event
 event_of (word ∷ flag ∷ words) = Event.FailHeard (flag_of flag)
@@ -203,8 +199,7 @@ abbrev address_of : List ℕ → Address
 address_of octets = cond (eqb (length octets) 4) (Address.V4 octets) (Address.V6 octets)
 
 address_again : (address : Address) → HasItsOctets address → address_of (octets_of address) ≡ address
-address_again (Address.V4 octets) h = rw h refl
-address_again (Address.V6 octets) h = rw h refl
+address_again = elim [ Address.V4 octets ↦ λ h. rw h refl | Address.V6 octets ↦ λ h. rw h refl ]
 
 abbrev heard_of : List ℕ → Ends → ControlCall
 heard_of id ends = ControlCall.Heard (value id) (address_of ends.octets) ends.port ends.hmac

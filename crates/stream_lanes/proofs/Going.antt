@@ -9,6 +9,7 @@ use Rattle.stream_lanes.proofs.Lists.{item_at}
 use Rattle.stream_lanes.proofs.MarkLists.{AreAcked-within}
 use Rattle.stream_lanes.proofs.Later.{Anyone, lane_later}
 use Rattle.stream_lanes.proofs.Sends.{SendStep, go_infinite_step}
+use Rattle.stream_lanes.proofs.LaneParts.{parts, whole, new_pairs}
 
 -- each item of a list that passes as a whole passes
 each_passes : {X : Type 0} (test : X → Bool) (xs : List X) (i : ℕ) (x : X) → list_all test xs ≡ true → slice_get xs i ≡ Some x → test x ≡ true
@@ -141,25 +142,12 @@ module _ (f : Flags) (s : Sending) (b : Arriving) (send : SendHolds s (view_of f
   pub goes_held : ((n : ℕ) → AreNew n s.marks → received b ≤ n) → LaneHolds (view_of f book b) path (record p { pair = Some pair })
   goes_held far =
       let now : LaneHolds (view_of f book b) path p = lane_later goes_step.later path p tt far h in
-      record {
-        record_of = now.record_of;
-        alone = now.alone;
-        modes = now.modes;
-        bytes = now.bytes;
-        link = now.link;
-        passed = now.passed;
-        pairs = record {
-          own = (
-            record { within = within; places = λ n c from e. placed_by n c from e; spent = spent_by; rest = new_from; upto = upto; owner = given refl },
-            omega arith,
-            refl,
-          );
-          told = now.pairs.told;
-          took = now.pairs.took;
-        };
-        ends = now.ends;
-        fins = now.fins;
-        heard = now.heard;
-        receiver = now.receiver;
-        ask = now.ask;
-      }
+      whole (new_pairs (record {
+        own = (
+          record { within = within; places = λ n c from e. placed_by n c from e; spent = spent_by; rest = new_from; upto = upto; owner = given refl },
+          omega arith,
+          refl,
+        );
+        told = now.pairs.told;
+        took = now.pairs.took;
+      }) (parts now))

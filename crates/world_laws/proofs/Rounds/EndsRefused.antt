@@ -500,11 +500,14 @@ module _ {C : Type 0} where
         stopped : (b : Bool) → Granting (with_agenda (if b then stops s else left (at xs)) (at xs)) refused
         stopped = elim [ true ↦ stops_done (at xs) refused s paid | false ↦ done_on ds xs rest (λ t. each t) ]
 
+        acked : (b : Bool) (e : PathEnd) → Granting (goes_on s e (told_next s b (at xs)) (at xs)) refused
+        acked true e = touched s e (Duty.Ask (AskDuty.AckHeard s) ∷ ds) (rw (need.0, need.1, rest) refl) need.0 xs (inr paid)
+        acked false e = touched s e ds rest need.0 xs (inr paid)
+
         by : (o : Option Heard) → Granting (answered_item k s o r (at xs)) refused
         by None = done_on ds xs rest (λ t. each t)
         by (Some Heard.Dss) = done_on ds xs rest (λ t. each t)
-        by (Some (Heard.DataAck next window)) = (elim _ as (λ b. (e : PathEnd) → Granting (goes_on s e (told_next s b (at xs)) (at xs)) refused)
-            [ true ↦ λ e. touched s e (Duty.Ask (AskDuty.AckHeard s) ∷ ds) (rw (need.0, need.1, rest) refl) need.0 xs (inr paid) | false ↦ λ e. touched s e ds rest need.0 xs (inr paid) ]) _
+        by (Some (Heard.DataAck next window)) = acked _ _
         by (Some (Heard.Mapping fin)) = mapping (is_clash (end_at s p))
         by (Some (Heard.DataFin place)) = fell_done s _ (Duty.Step (StepDuty.Heard s index)) ds rest need.0 paid
         by (Some (Heard.InfiniteMapping place position)) = fell_done s _ (Duty.Step (StepDuty.Heard s index)) ds rest need.0 paid
