@@ -50,13 +50,13 @@ module _ (c : Copy) (s : EndState) where
   answering None = tt
   answering (Some acknowledged) = by _
     where
-      by : (b : Bool) → AcknowledgesSent (if b then meaning_answer c acknowledged else Meaning.Ignored)
-      by = elim [ true ↦ answer | false ↦ tt ]
-
       answer : AcknowledgesSent (meaning_answer c acknowledged)
       answer =
           chosen c.rst Meaning.Kills (if c.syn then Meaning.Accepts acknowledged else Meaning.Ignored) tt
           (λ _. chosen c.syn (Meaning.Accepts acknowledged) Meaning.Ignored tt (λ _. tt))
+
+      by : (b : Bool) → AcknowledgesSent (if b then meaning_answer c acknowledged else Meaning.Ignored)
+      by = elim [ true ↦ answer | false ↦ tt ]
 
   opening : AcknowledgesSent (meaning_opening c s)
   opening = chosen (is_at_limit s) Meaning.Ignored (meaning_answering c.acknowledged c s) tt (λ _. answering c.acknowledged)
