@@ -7,7 +7,7 @@ use Rattle.stream_lanes.proofs.Lists.{Every-push, item_at}
 use Rattle.stream_lanes.proofs.Bytes.{place_after-identity}
 use Rattle.stream_lanes.proofs.MarkLists.{acked_spent, acked_is_spent}
 use Rattle.stream_lanes.proofs.Local.{ViewFits, held_if, with_ask}
-use Rattle.stream_lanes.proofs.LaneParts.{parts, whole, new_passed, new_bytes, new_fins, new_receiver}
+use Rattle.stream_lanes.proofs.LaneParts.{parts_of, whole, new_passed, new_bytes, new_fins, new_receiver}
 
 module _ (v : View) (path : ℕ) (fits : ViewFits v) where
   -- as long as no join was answered, a path's record is no longer than what was written
@@ -69,7 +69,7 @@ module _ (v : View) (path : ℕ) (fits : ViewFits v) where
   pub send_fin_held : (p : Lane) → LaneHolds v path p → LaneHolds v path (if may_finish p then record p { fins = p.fins ++ length p.sent ∷ [] } else p)
   send_fin_held p h = held_if v path (may_finish p) p (record p { fins = p.fins ++ length p.sent ∷ [] }) (λ may.
       let both = and_parts p.opened (if p.sender_plain then is_whole p.known_end p else p.fin_acked) may in
-      whole (new_fins (Every-push (length p.sent) h.fins (by_mode p.sender_plain refl both.0 both.1)) (parts h))) h
+      whole (new_fins (Every-push (length p.sent) h.fins (by_mode p.sender_plain refl both.0 both.1)) (parts_of h))) h
     where
       by_mode : (plain : Bool) → p.sender_plain ≡ plain → p.opened ≡ true → (if plain then is_whole p.known_end p else p.fin_acked) ≡ true
           → IsFin path v p.sent (length p.sent)
@@ -135,7 +135,7 @@ module _ (v : View) (path : ℕ) (fits : ViewFits v) where
                   let both = sub_acks p h idle alone p.fin_in refl in
                   record { covers = omega (arith, both.0); reaches = λ none. let old = both.1 none in omega (arith, old) };
             });
-          }) (parts h))))
+          }) (parts_of h))))
 
       at : (due : Bool) → p.due ≡ due → LaneHolds v path (if due then p else record p { acks = p.acks ++ ack_copy next window sub p ∷ [] })
       at = elim [ true ↦ λ is. h | false ↦ λ is. sends is ]

@@ -9,7 +9,7 @@ use Rattle.stream_lanes.proofs.Lists.{item_at}
 use Rattle.stream_lanes.proofs.MarkLists.{AreAcked-within}
 use Rattle.stream_lanes.proofs.Later.{Anyone, lane_later}
 use Rattle.stream_lanes.proofs.Sends.{SendStep, go_infinite_step}
-use Rattle.stream_lanes.proofs.LaneParts.{parts, whole, new_pairs}
+use Rattle.stream_lanes.proofs.LaneParts.{parts_of, whole, new_pairs}
 
 -- each item of a list that passes as a whole passes
 each_passes : {X : Type 0} (test : X → Bool) (xs : List X) (i : ℕ) (x : X) → list_all test xs ≡ true → slice_get xs i ≡ Some x → test x ≡ true
@@ -150,4 +150,4 @@ module _ (f : Flags) (s : Sending) (b : Arriving) (send : SendHolds s (view_of f
         );
         told = now.pairs.told;
         took = now.pairs.took;
-      }) (parts now))
+      }) (parts_of now))

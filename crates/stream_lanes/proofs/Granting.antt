@@ -15,13 +15,13 @@ use Rattle.stream_lanes.proofs.Later.{But, modes_later, link_later, passes_later
 use Rattle.stream_lanes.proofs.Views.{AllIn, all_in_is, is_end}
 use Rattle.stream_lanes.proofs.Views.AllIn.{missing, complete}
 use Rattle.stream_lanes.proofs.Sends.{SendStep}
-use Rattle.stream_lanes.proofs.LaneParts.{parts, whole, new_ends, new_ask}
+use Rattle.stream_lanes.proofs.LaneParts.{parts_of, whole, new_ends, new_ask}
 
 module _ (f : Flags) (s : Sending) (b : Arriving) (path : ℕ) (p : Lane) (send : SendHolds s (view_of f s b)) (room : f.alters ≡ false → received b ≤ edge b) (h : LaneHolds (view_of f s b) path p) where
   -- nothing was granted: the end that was told is that of the stream
   refused_held : (why : Why) → LaneHolds (view_of f s b) path (takes_grant (reply_by (Err why) s) p)
   refused_held why = whole (new_ends (record { told = told (s.closed && not s.aborted) refl; named = h.ends.named })
-      (new_ask tt (parts h)))
+      (new_ask tt (parts_of h)))
     where
       told : (c : Bool) → (s.closed && not s.aborted) ≡ c → IfSome (later_end (if c then Some (length s.written) else None) p.known_end) (IsEnd (end_of s))
       told true is = ap (λ (d : Bool). if d then Some (length s.written) else None) (and_parts s.closed (not s.aborted) is).0

@@ -26,8 +26,8 @@ PartsOf v path p =
     (BytesHold p.alters p.sent p.pieces p.datas p.edge p.kept p.maps p.acks) (EndsHold v.end p.known_end p.data_fins) (Every (IsFin path v p.sent) p.fins) (HeardHolds v p.heard p.fin_acked) (ReceiverHolds v p.edge p.fin_in p.due p.latest p.acks) (AskHolds v p.sent p.opened p.edge p.asking)
 
 module _ {v : View} {path : ℕ} {p : Lane} where
-  pub parts : LaneHolds v path p → PartsOf v path p
-  parts h = record { record_of = h.record_of; alone = h.alone; modes = h.modes; link = h.link; passed = h.passed; pairs = h.pairs; bytes = h.bytes; ends = h.ends; fins = h.fins; heard = h.heard; receiver = h.receiver; ask = h.ask }
+  pub parts_of : LaneHolds v path p → PartsOf v path p
+  parts_of h = record { record_of = h.record_of; alone = h.alone; modes = h.modes; link = h.link; passed = h.passed; pairs = h.pairs; bytes = h.bytes; ends = h.ends; fins = h.fins; heard = h.heard; receiver = h.receiver; ask = h.ask }
 
   pub whole : PartsOf v path p → LaneHolds v path p
   whole h = record { record_of = h.record_of; alone = h.alone; modes = h.modes; link = h.link; passed = h.passed; pairs = h.pairs; bytes = h.bytes; ends = h.ends; fins = h.fins; heard = h.heard; receiver = h.receiver; ask = h.ask }

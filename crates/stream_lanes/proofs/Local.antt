@@ -7,7 +7,7 @@ use Rattle.stream_lanes.proofs.Words.{IsAck, AskHolds, LaneHolds, IsRight, IsPie
 use Rattle.stream_lanes.proofs.Lists.{Every-nil, Every-append, Every-push, From-map, in_one}
 use Rattle.stream_lanes.proofs.Bytes.{Cells-merged, Cells-by_place, Cells-take, From-take, part_is_honest, part_within}
 use Rattle.stream_lanes.proofs.Checking.{length-turned, turned_came}
-use Rattle.stream_lanes.proofs.LaneParts.{parts, whole, new_modes, new_link, new_passed, new_bytes, new_ends, new_receiver, new_ask}
+use Rattle.stream_lanes.proofs.LaneParts.{parts_of, whole, new_modes, new_link, new_passed, new_bytes, new_ends, new_receiver, new_ask}
 
 -- What holds of a view by itself.
 pub record ViewFits (v : View) : Type 0 where
@@ -35,7 +35,7 @@ module _ (v : View) (path : ℕ) where
   held_if = elim [ true ↦ λ p q allowed h. allowed refl | false ↦ λ p q allowed h. h ]
 
   pub with_ask : (p : Lane) (a : Ask) → AskHolds v p.sent p.opened p.edge a → LaneHolds v path p → LaneHolds v path (record p { asking = a })
-  with_ask p a fits h = whole (new_ask fits (parts h))
+  with_ask p a fits h = whole (new_ask fits (parts_of h))
 
   pub open_held : (f : Flags) (p : Lane) → FlagsFit f v → LaneHolds v path p → LaneHolds v path (if f.answered || path == 0 then record p { opened = true } else p)
   open_held f p flags h = held_if (f.answered || path == 0) p (record p { opened = true }) (λ c. (whole (new_modes (record {
@@ -44,17 +44,17 @@ module _ (v : View) (path : ℕ) where
     receiver = h.modes.receiver;
     inexact = h.modes.inexact;
   })
-      (new_ask (opened_ask p.asking h.ask) (parts h))))) h
+      (new_ask (opened_ask p.asking h.ask) (parts_of h))))) h
     where
       opened_ask : (a : Ask) → AskHolds v p.sent p.opened p.edge a → AskHolds v p.sent true p.edge a
       opened_ask = elim [ AskGrant max standby ↦ λ fits. (refl, fits.1) | _ ↦ λ fits. fits ]
 
   pub look_at_sender_held : (f : Flags) (p : Lane) → FlagsFit f v → LaneHolds v path p → LaneHolds v path (record p { sender_plain = f.sender })
-  look_at_sender_held f p flags h = whole (new_modes (record { joined = h.modes.joined; sender = flags.sender; receiver = h.modes.receiver; inexact = h.modes.inexact }) (parts h))
+  look_at_sender_held f p flags h = whole (new_modes (record { joined = h.modes.joined; sender = flags.sender; receiver = h.modes.receiver; inexact = h.modes.inexact }) (parts_of h))
 
   pub look_at_receiver_held : (f : Flags) (p : Lane) → FlagsFit f v → LaneHolds v path p → LaneHolds v path (record p { receiver_plain = f.receiver; receiver_loose = f.loose })
   look_at_receiver_held f p flags h = whole (new_modes (record { joined = h.modes.joined; sender = h.modes.sender; receiver = flags.receiver; inexact = flags.inexact })
-      (new_link (record { alters_is = h.link.alters_is; checked_is = h.link.checked_is; must = h.link.must; inexact = flags.loose }) (parts h)))
+      (new_link (record { alters_is = h.link.alters_is; checked_is = h.link.checked_is; must = h.link.must; inexact = flags.loose }) (parts_of h)))
 
   pub hear_ack_held : (o : Option AckCopy) (copy : ℕ) (p : Lane) → ViewFits v → slice_get p.acks copy ≡ o → LaneHolds v path p → LaneHolds v path (hears o p)
   hear_ack_held None copy p fits is h = h
@@ -83,7 +83,7 @@ module _ (v : View) (path : ℕ) where
     right = h.bytes.right;
     learned = h.bytes.learned;
     acked = h.bytes.acked;
-  }) (parts h))
+  }) (parts_of h))
     where
       right : IsRight p.sent m
       right = h.bytes.granted.each piece m is
@@ -111,7 +111,7 @@ module _ (v : View) (path : ℕ) where
     right = h.bytes.right;
     learned = h.bytes.learned;
     acked = h.bytes.acked;
-  }) (parts h)))) h
+  }) (parts_of h)))) h
     where
       right : IsRight p.sent m
       right = h.bytes.granted.each piece m is
@@ -133,10 +133,10 @@ module _ (v : View) (path : ℕ) where
     right = h.bytes.right;
     learned = h.bytes.learned;
     acked = h.bytes.acked;
-  }) (parts h))
+  }) (parts_of h))
 
   pub send_data_fin_held : (o : Option ℕ) (p : Lane) → p.known_end ≡ o → LaneHolds v path p → LaneHolds v path (record p { data_fins = p.data_fins ++ known o })
-  send_data_fin_held o p is h = whole (new_ends (record { told = h.ends.told; named = Every-append h.ends.named (names o (subst (λ k. IfSome k (IsEnd v.end)) is h.ends.told)) }) (parts h))
+  send_data_fin_held o p is h = whole (new_ends (record { told = h.ends.told; named = Every-append h.ends.named (names o (subst (λ k. IfSome k (IsEnd v.end)) is h.ends.told)) }) (parts_of h))
     where
       names : (o : Option ℕ) → IfSome o (IsEnd v.end) → Every (IsEnd v.end) (known o)
       names None told = Every-nil (IsEnd v.end)
@@ -153,7 +153,7 @@ module _ (v : View) (path : ℕ) where
     right = h.bytes.right;
     learned = h.bytes.learned;
     acked = h.bytes.acked;
-  }) (parts h))
+  }) (parts_of h))
 
   pub learn_held : (o : Option DataCopy) (copy : ℕ) (p : Lane) → slice_get p.datas copy ≡ o → LaneHolds v path p → LaneHolds v path (learns o p)
   learn_held None copy p is h = h
@@ -174,7 +174,7 @@ module _ (v : View) (path : ℕ) where
             right = Every-push m h.bytes.right right;
             learned = Every-push m h.bytes.learned piece;
             acked = h.bytes.acked;
-          }) (parts h))
+          }) (parts_of h))
 
   pub hear_data_fin_held : (o : Option ℕ) (copy : ℕ) (p : Lane) → slice_get p.data_fins copy ≡ o → LaneHolds v path p → LaneHolds v path (hears_data_fin o p)
   hear_data_fin_held None copy p is h = h
@@ -191,4 +191,4 @@ module _ (v : View) (path : ℕ) where
         fin = λ alone _. subst (IsEnd v.end) at ((h.fins.each copy pos is).ends alone);
         fresh = h.receiver.fresh;
         copies = h.receiver.copies;
-      }) (parts h)))) h
+      }) (parts_of h)))) h

@@ -15,7 +15,7 @@ use Rattle.stream_lanes.proofs.Local.{with_ask}
 use Rattle.stream_lanes.proofs.Views.{all_in_one, is_end as is_end_of}
 use Rattle.stream_lanes.proofs.Sends.{SendStep}
 use Rattle.stream_lanes.proofs.Arrivals.{ReceiveStep, not_clash}
-use Rattle.stream_lanes.proofs.LaneParts.{parts, whole, new_passed, new_bytes, new_heard, new_receiver, new_ask}
+use Rattle.stream_lanes.proofs.LaneParts.{parts_of, whole, new_passed, new_bytes, new_heard, new_receiver, new_ask}
 
 -- what was acknowledged counts as confirmed
 module _ (f : Flags) (s : Sending) (b : Arriving) (send : SendHolds s (view_of f s b)) (next window : ℕ) (path : ℕ) (p : Lane) where
@@ -61,7 +61,7 @@ module _ (f : Flags) (s : Sending) (b : Arriving) (send : SendHolds s (view_of f
             below = omega (arith, now.heard.below, confirmed_next is);
             fin = λ acked. ⊎_elim (λ old. now.heard.fin old) (λ new. step.holds.fin new) (or_cases p.fin_acked (fin_after next s) acked);
           })
-          (new_ask tt (parts now)))
+          (new_ask tt (parts_of now)))
 
 -- what a merge adds
 merged_right : (xs ys : List (Option ℕ)) (i x : ℕ) → slice_get ys i ≡ Some (Some x) → (y : ℕ) × (slice_get (merged xs ys) i ≡ Some (Some y))
@@ -198,7 +198,7 @@ module _ (granted : ℕ → Type 0) (f : Flags) (s : Sending) (b : Arriving) (se
             fresh = λ none alone is. absurd (true≢false is);
             copies = now.receiver.copies;
           })
-          (new_ask tt (parts now)))))
+          (new_ask tt (parts_of now)))))
 
       by_beyond : (c : Bool) → reaches_past (edge b) at bytes ≡ c
           → LaneHolds (view_of f s (after_arrival b (Place at bytes))) path (takes_placed (length bytes) (if c then Beyond (edge b) else placed_reply (clash b.known_end at bytes) at bytes b) p)
@@ -225,7 +225,7 @@ module _ (granted : ℕ → Type 0) (f : Flags) (s : Sending) (b : Arriving) (se
         fresh = λ none alone is. absurd (true≢false is);
         copies = now.receiver.copies;
       })
-          (new_ask tt (parts now)))
+          (new_ask tt (parts_of now)))
 
   pub ack_out_held : (f.alters ≡ false → received b ≤ edge b) → LaneHolds (view_of f s b) path (takes_ack_out (arrival_reply b AckOut) p)
   ack_out_held room = whole (new_receiver (record {
@@ -235,7 +235,7 @@ module _ (granted : ℕ → Type 0) (f : Flags) (s : Sending) (b : Arriving) (se
     fresh = λ none alone _. let below = room none in omega (arith, h.receiver.passed alone, below);
     copies = h.receiver.copies;
   })
-      (new_ask tt (parts h)))
+      (new_ask tt (parts_of h)))
     where
       wanted : (o : Option ℕ) → IfSome o (IsEnd (end_of s)) → (if is_end o (received b) then 1 else 0) ≤ all_in s.closed s.written (received b)
       wanted None end = omega arith
