@@ -26,6 +26,7 @@ use Rattle.world_laws.proofs.Lanes.Saying.{TellsFalls, RecordTold, ack_says, syn
 use Rattle.world_laws.proofs.Lanes.Showing.{HasMapping, HasFin, KindShows, RecordShows, EndShows, SegmentShows, PathShows, HasNone}
 use Rattle.world_laws.proofs.Lanes.Sides.{SideDid, Answered, IsQuiet, side_kept, side_sent, quiet, quiet_side, told_side}
 use Rattle.world_laws.proofs.Lanes.Strolling.{Strolled, side_shows}
+use Rattle.world_laws.proofs.Lanes.EndParts.{end_parts, end_whole, new_sender, new_pairs}
 
 -- ---- what holds of the lanes
 
@@ -66,26 +67,19 @@ falls_told c s e out back h = record { own = IfSome-map e.modes.own_infinite (λ
 
 -- an end whose lane sent the infinite mapping of a position
 pub paired_shows : (c : Profile) (s : Side) (pos : ℕ) (e : PathEnd) (out back : Lane) → EndShows c s e out back → EndShows c s e (with_plain_pair out pos) back
-paired_shows c s pos e out back h = record {
-  sender = record {
-    plain = h.sender.plain;
-    next = h.sender.next;
-    unfinished = h.sender.unfinished;
-    pieces = h.sender.pieces;
-    known_end = h.sender.known_end;
-    same_end = h.sender.same_end;
-    heard = h.sender.heard;
-    granted = h.sender.granted;
-    fin_acked = h.sender.fin_acked;
-    sent = h.sender.sent;
-  };
-  receiver = h.receiver;
-  acks = h.acks;
-  told = h.told;
-  treated = h.treated;
-  pairs = sender_pairs e.modes e.treated.infinite_mapping e.treated.failed_mapping out (with_plain_pair out pos) back (plain_pair_goes out pos) refl h.pairs;
-  held = h.held;
-}
+paired_shows c s pos e out back h = end_whole (new_sender (record {
+  plain = h.sender.plain;
+  next = h.sender.next;
+  unfinished = h.sender.unfinished;
+  pieces = h.sender.pieces;
+  known_end = h.sender.known_end;
+  same_end = h.sender.same_end;
+  heard = h.sender.heard;
+  granted = h.sender.granted;
+  fin_acked = h.sender.fin_acked;
+  sent = h.sender.sent;
+})
+    (new_pairs (sender_pairs e.modes e.treated.infinite_mapping e.treated.failed_mapping out (with_plain_pair out pos) back (plain_pair_goes out pos) refl h.pairs) (end_parts h)))
 
 -- ---- a step of the path
 

@@ -30,6 +30,7 @@ use Rattle.world_laws.proofs.Lanes.Roads.{Strolls, stays, then_strolls}
 use Rattle.world_laws.proofs.Lanes.Showing.{HasMapping, HasFin, KeptShows, HeldShows, Under, IsAtEdge, IsPastFin, ReceiverShows, EndShows, SenderShows, identity_of, knowledge_of, KeptSummed, PeerIs}
 use Rattle.world_laws.proofs.Lanes.Taking.{learned_lane, learns_it, learned_goes, learned_there, wants_place, under_drop, only_drop, acked_lane, acked_sub, acks_it, finished_lane, hears_the_fin, wants_plain, wants_pair, wants_pair_fin, same_order, filled_under}
 use Rattle.world_laws.proofs.Lanes.Doing.{take_whole, wants_plain_fin}
+use Rattle.world_laws.proofs.Lanes.EndParts.{end_parts, end_whole, new_sender, new_receiver, new_acks, new_treated, new_held}
 
 -- the maps of the lane are more
 more_maps : (recv : Receiving) (fin_at : Option ℕ) (live live_after : List KeptMapping) (plain : Bool) (p : Lane) (maps : List Mapping) → Every (KeptShows maps) live_after
@@ -116,21 +117,16 @@ module _ (c : Profile) (s : Side) (out back : Lane) where
             back_moves = learns_it back kept.place kept.pos (octets_of kept) has (agree has.at);
             sender = sender_stays out;
             receiver = learned_goes back kept.place kept.pos (octets_of kept) has (agree has.at);
-            shows = record {
-              sender = h.sender;
-              receiver = more_maps e.tcp.recv e.tcp.fin_at v.live (after_learn kept (learn_of kept v) v).live (identity_of e) back q.maps
-                  (learn_live kept (learn_of kept v) v q.maps (learned_there back kept.place kept.pos (octets_of kept) has (agree has.at))
-                  (Every-map (λ m there. Has-more _ there) h.receiver.mapped)) h.receiver;
-              acks = record { windows = h.acks.windows; latest = h.acks.latest; due = h.acks.due; sub = h.acks.sub };
-              told = h.told;
-              treated = record { items = h.treated.items; fins = h.treated.fins; answer = h.treated.answer; window = h.treated.window; sub = h.treated.sub; nothing = h.treated.nothing };
-              pairs = h.pairs;
-              held = record {
-                each = subst (λ ys. Every (HeldShows c back.sent back.datas) (others_of ys)) (sym (learn_held kept (learn_of kept v) v)) (skipped_held v.held h.held.each);
-                summed = learn_summed kept (learn_of kept v) v both.2 h.held.summed;
-                none = rw both.1 h.held.none;
-              };
-            };
+            shows = end_whole (new_receiver (more_maps e.tcp.recv e.tcp.fin_at v.live (after_learn kept (learn_of kept v) v).live (identity_of e) back q.maps
+                (learn_live kept (learn_of kept v) v q.maps (learned_there back kept.place kept.pos (octets_of kept) has (agree has.at))
+                (Every-map (λ m there. Has-more _ there) h.receiver.mapped)) h.receiver)
+                (new_acks (record { windows = h.acks.windows; latest = h.acks.latest; due = h.acks.due; sub = h.acks.sub })
+                (new_treated (record { items = h.treated.items; fins = h.treated.fins; answer = h.treated.answer; window = h.treated.window; sub = h.treated.sub; nothing = h.treated.nothing })
+                (new_held (record {
+                  each = subst (λ ys. Every (HeldShows c back.sent back.datas) (others_of ys)) (sym (learn_held kept (learn_of kept v) v)) (skipped_held v.held h.held.each);
+                  summed = learn_summed kept (learn_of kept v) v both.2 h.held.summed;
+                  none = rw both.1 h.held.none;
+                }) (end_parts h)))));
           }
 
   -- ---- other replies
@@ -159,25 +155,19 @@ module _ (c : Profile) (s : Side) (out back : Lane) where
       acks = [];
       is = rw (append-nil back.acks) refl;
     };
-    shows = record {
-      sender = h.sender;
-      receiver = record {
-        same_mode = h.receiver.same_mode;
-        edge = same_edge refl refl refl (λ position octets has. has) h.receiver.edge;
-        fin = h.receiver.fin;
-        mapped = h.receiver.mapped;
-      };
-      acks = record {
-        windows = h.acks.windows;
-        latest = h.acks.latest;
-        due = λ none. absurd (both_ways e.treated.asked none asked);
-        sub = λ none. absurd (both_ways e.treated.asked none asked);
-      };
-      told = h.told;
-      treated = record { items = h.treated.items; fins = h.treated.fins; answer = h.treated.answer; window = h.treated.window; sub = h.treated.sub; nothing = h.treated.nothing };
-      pairs = h.pairs;
-      held = h.held;
-    };
+    shows = end_whole (new_receiver (record {
+      same_mode = h.receiver.same_mode;
+      edge = same_edge refl refl refl (λ position octets has. has) h.receiver.edge;
+      fin = h.receiver.fin;
+      mapped = h.receiver.mapped;
+    })
+        (new_acks (record {
+          windows = h.acks.windows;
+          latest = h.acks.latest;
+          due = λ none. absurd (both_ways e.treated.asked none asked);
+          sub = λ none. absurd (both_ways e.treated.asked none asked);
+        })
+        (new_treated (record { items = h.treated.items; fins = h.treated.fins; answer = h.treated.answer; window = h.treated.window; sub = h.treated.sub; nothing = h.treated.nothing }) (end_parts h))));
   }
 
   -- ---- bytes
@@ -517,29 +507,24 @@ module _ (c : Profile) (s : Side) (out back : Lane) where
           acks = [];
           is = rw (append-nil back.acks) refl;
         };
-        shows = record {
-          sender = h.sender;
-          receiver = record {
-            same_mode = h.receiver.same_mode;
-            edge = inl (record {
-              edge_is = let edge_is = at.edge_is in omega (arith, edge_is);
-              under = subst (λ n. Under (drop n e.tcp.recv.places) q.kept) (sym (moved_on e.tcp.recv.edge (length piece.octets))) (under_drop (length piece.octets) e.tcp.recv.places back.kept at.under);
-              only = subst (λ n. Under q.kept (drop n e.tcp.recv.places) ⊎ (drop n e.tcp.recv.places ≡ [])) (sym (moved_on e.tcp.recv.edge (length piece.octets))) (only_drop (length piece.octets) e.tcp.recv.places back.kept at.only);
-              held = tt;
-            });
-            fin = h.receiver.fin;
-            mapped = filtered (λ kept. nat_lt (e.tcp.recv.edge + length piece.octets) (run_of kept).to) e.receiving.mappings.live h.receiver.mapped;
-          };
-          acks = record { windows = h.acks.windows; latest = h.acks.latest; due = λ none. absurd (true≢false none); sub = λ none. absurd (true≢false none) };
-          told = h.told;
-          treated = record { items = h.treated.items; fins = h.treated.fins; answer = h.treated.answer; window = h.treated.window; sub = h.treated.sub; nothing = h.treated.nothing };
-          pairs = h.pairs;
-          held = record {
-            each = h.held.each;
-            summed = filtered (λ kept. nat_lt (e.tcp.recv.edge + length piece.octets) (run_of kept).to) e.receiving.mappings.live h.held.summed;
-            none = h.held.none;
-          };
-        };
+        shows = end_whole (new_receiver (record {
+          same_mode = h.receiver.same_mode;
+          edge = inl (record {
+            edge_is = let edge_is = at.edge_is in omega (arith, edge_is);
+            under = subst (λ n. Under (drop n e.tcp.recv.places) q.kept) (sym (moved_on e.tcp.recv.edge (length piece.octets))) (under_drop (length piece.octets) e.tcp.recv.places back.kept at.under);
+            only = subst (λ n. Under q.kept (drop n e.tcp.recv.places) ⊎ (drop n e.tcp.recv.places ≡ [])) (sym (moved_on e.tcp.recv.edge (length piece.octets))) (only_drop (length piece.octets) e.tcp.recv.places back.kept at.only);
+            held = tt;
+          });
+          fin = h.receiver.fin;
+          mapped = filtered (λ kept. nat_lt (e.tcp.recv.edge + length piece.octets) (run_of kept).to) e.receiving.mappings.live h.receiver.mapped;
+        })
+            (new_acks (record { windows = h.acks.windows; latest = h.acks.latest; due = λ none. absurd (true≢false none); sub = λ none. absurd (true≢false none) })
+            (new_treated (record { items = h.treated.items; fins = h.treated.fins; answer = h.treated.answer; window = h.treated.window; sub = h.treated.sub; nothing = h.treated.nothing })
+            (new_held (record {
+              each = h.held.each;
+              summed = filtered (λ kept. nat_lt (e.tcp.recv.edge + length piece.octets) (run_of kept).to) e.receiving.mappings.live h.held.summed;
+              none = h.held.none;
+            }) (end_parts h)))));
       }
 
   -- ---- the FIN
@@ -600,20 +585,15 @@ module _ (c : Profile) (s : Side) (out back : Lane) where
               acks = [];
               is = rw (append-nil back.acks) refl;
             };
-            shows = record {
-              sender = passed_sender;
-              receiver = passed_receiver q refl refl refl refl refl;
-              acks = record {
-                windows = h.acks.windows;
-                latest = h.acks.latest;
-                due = λ none. absurd (both_ways e.treated.asked none asked);
-                sub = λ none. absurd (both_ways e.treated.asked none asked);
-              };
-              told = h.told;
-              treated = record { items = h.treated.items; fins = h.treated.fins; answer = h.treated.answer; window = h.treated.window; sub = h.treated.sub; nothing = h.treated.nothing };
-              pairs = h.pairs;
-              held = h.held;
-            };
+            shows = end_whole (new_sender passed_sender
+                (new_receiver (passed_receiver q refl refl refl refl refl)
+                (new_acks (record {
+                  windows = h.acks.windows;
+                  latest = h.acks.latest;
+                  due = λ none. absurd (both_ways e.treated.asked none asked);
+                  sub = λ none. absurd (both_ways e.treated.asked none asked);
+                })
+                (new_treated (record { items = h.treated.items; fins = h.treated.fins; answer = h.treated.answer; window = h.treated.window; sub = h.treated.sub; nothing = h.treated.nothing }) (end_parts h)))));
           }
           by false calm =
               let edge_is = near.edge_is in
@@ -639,20 +619,15 @@ module _ (c : Profile) (s : Side) (out back : Lane) where
                   acks = ack_copy e.receiving.next (32 * (e.receiving.window / 32)) (next_edge - 1) q ∷ [];
                   is = refl;
                 };
-                shows = record {
-                  sender = passed_sender;
-                  receiver = passed_receiver r refl refl refl refl refl;
-                  acks = record {
-                    windows = record { ack = Has-more _ h.acks.windows.ack; alone = Has-more _ h.acks.windows.alone; syn = Has-more _ h.acks.windows.syn };
-                    latest = h.acks.latest;
-                    due = λ none. due;
-                    sub = λ none. acked_sub q e.receiving.next e.receiving.window (next_edge - 1) h.acks.latest due most;
-                  };
-                  told = h.told;
-                  treated = record { items = h.treated.items; fins = h.treated.fins; answer = h.treated.answer; window = h.treated.window; sub = h.treated.sub; nothing = h.treated.nothing };
-                  pairs = h.pairs;
-                  held = h.held;
-                };
+                shows = end_whole (new_sender passed_sender
+                    (new_receiver (passed_receiver r refl refl refl refl refl)
+                    (new_acks (record {
+                      windows = record { ack = Has-more _ h.acks.windows.ack; alone = Has-more _ h.acks.windows.alone; syn = Has-more _ h.acks.windows.syn };
+                      latest = h.acks.latest;
+                      due = λ none. due;
+                      sub = λ none. acked_sub q e.receiving.next e.receiving.window (next_edge - 1) h.acks.latest due most;
+                    })
+                    (new_treated (record { items = h.treated.items; fins = h.treated.fins; answer = h.treated.answer; window = h.treated.window; sub = h.treated.sub; nothing = h.treated.nothing }) (end_parts h)))));
               }
 
     pub passed_fin : Did c s (after_pass_fin e) out out back back
