@@ -22,7 +22,6 @@ use Rattle.control_book.specs.Replies as controlling
 use Rattle.control_book.specs.Steps as control
 use Rattle.control_book.proofs.RowsRight.{right_once}
 use Rattle.actor_desk.specs.declared.ask.Ask.{Ask}
-use Rattle.actor_desk.specs.declared.ask.Ask.TheVariants as asks
 use Rattle.actor_desk.specs.declared.ask.Reply.{Reply}
 use Rattle.actor_desk.specs.Books.{StampedBooks, SendJournal, ReassemblyJournal, ControlJournal, books_in, after_entry, stamp_of}
 use Rattle.actor_desk.specs.Bounds.{IsWrittenSmall, IsReceivedSmall}
@@ -71,25 +70,25 @@ control_entered s t pass call r right can ok err =
 
 pub note_entered : (x : Ask) (pass : Pass) (b : StampedBooks) → is_local x ≡ false
     → notes_in (after_entry x pass b) ≡ with_note x (note_of pass (record pass { stamp = stamp_of x b pass }) x (reply_of (books_in b) x)) (notes_in b)
-note_entered (asks.Send A call) pass b book =
+note_entered (Ask.Send A call) pass b book =
     ap (λ notes. record (notes_in b) { send_a = notes })
     (map-append (send_note A) b.send_a.journal (entry_of sending.reply_to sending.after_call b.send_a pass call ∷ []))
-note_entered (asks.Send B call) pass b book =
+note_entered (Ask.Send B call) pass b book =
     ap (λ notes. record (notes_in b) { send_b = notes })
     (map-append (send_note B) b.send_b.journal (entry_of sending.reply_to sending.after_call b.send_b pass call ∷ []))
-note_entered (asks.Reassembly A call) pass b book =
+note_entered (Ask.Reassembly A call) pass b book =
     ap (λ notes. record (notes_in b) { reassembly_a = notes })
     (map-append (reassembly_note A) b.reassembly_a.journal (entry_of arriving.reply_to arriving.after_call b.reassembly_a pass call ∷ []))
-note_entered (asks.Reassembly B call) pass b book =
+note_entered (Ask.Reassembly B call) pass b book =
     ap (λ notes. record (notes_in b) { reassembly_b = notes })
     (map-append (reassembly_note B) b.reassembly_b.journal (entry_of arriving.reply_to arriving.after_call b.reassembly_b pass call ∷ []))
-note_entered (asks.Control A call) pass b book =
+note_entered (Ask.Control A call) pass b book =
     ap (λ notes. record (notes_in b) { control_a = notes })
     (map-append (control_note A) b.control_a.journal (entry_of controlling.reply_to control.after b.control_a pass call ∷ []))
-note_entered (asks.Control B call) pass b book =
+note_entered (Ask.Control B call) pass b book =
     ap (λ notes. record (notes_in b) { control_b = notes })
     (map-append (control_note B) b.control_b.journal (entry_of controlling.reply_to control.after b.control_b pass call ∷ []))
-note_entered (asks.Local step) pass b book = cc
+note_entered (Ask.Local step) pass b book = cc
 
 pub call_noted : (r : Result Reply Refusal) (x : Ask) (before after : Pass) (b t : StampedBooks) → is_local x ≡ false
     → IfOk r (λ y. y ≡ reply_of (books_in b) x) → OnOk r (t ≡ after_entry x before b) → OnOk r (after ≡ record before { stamp = stamp_of x b before })

@@ -13,9 +13,5 @@ module _ {X : Type 0} where
 
   -- a list that had a last item more, without it
   pub popped : (r : Option X) (old new xs : List X) (x : X) → IfSome r (λ y. old ≡ new ++ y ∷ []) → (IsNone r → old ≡ []) → old ≡ xs ++ x ∷ [] → new ≡ xs
-  popped None old new xs x some none is = absurd (not_nil xs (sym (none refl) ∙ is))
-    where
-      not_nil : (xs : List X) → [] ≡ xs ++ x ∷ [] → ⊥
-      not_nil [] e = cc
-      not_nil (z ∷ xs) e = cc
+  popped None old new xs x some none is = absurd ((elim xs as (λ xs. [] ≡ xs ++ x ∷ [] → ⊥) [ [] ↦ λ e. cc | z ∷ xs ↦ λ e. cc ]) (sym (none refl) ∙ is))
   popped (Some y) old new xs x some none is = same_front new xs y x (sym some ∙ is)

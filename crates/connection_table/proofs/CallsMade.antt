@@ -1,18 +1,11 @@
 -- Calls of a plan, part by part, and the puts of a table's lines.
-use Rattle.std.proofs.Common.{◌≡◌, refl, sym, ◌∙◌, ap, subst, ⊎_elim, inl, inr, Bool, ℕ, zero, suc, ◌+◌, ◌<◌, ◌≤◌, Option, Some, None, List, [], ◌∷◌, ◌++◌, append_assoc, length, map, take, drop, arith}
-use Rattle.std.specs.List.{slice_get}
-use Rattle.std.proofs.lemmas.List.{append-nil, map-append}
+use Rattle.connection_table.proofs.Words.{◌≡◌, refl, sym, ◌∙◌, ap, subst, ⊎_elim, ℕ, zero, suc, ◌+◌, ◌<◌, ◌≤◌, Bool, Option, Some, None, List, [], ◌∷◌, ◌++◌}
+use Rattle.connection_table.proofs.Words.{append_assoc, length, map, arith, inr, inl, take, drop, map-append, append-nil, slice_get, AreCallsAfter, Call}
+use Rattle.connection_table.proofs.Words.{succeeded, failed, Adds, AddsAll, Told, adds_none, adds_then, all_then, Many, Done, Usage, Load, TooLong, Listing}
+use Rattle.connection_table.proofs.Words.{Script, SameToken, Put, Memory, AddsCut, AddsToFailed, AddsFirst, PutAdds, puts_from, Entry, connection_line, line_if}
+use Rattle.connection_table.proofs.Words.{state_of}
 use Rattle.outside_kit.specs.declared.port.Port.TheVariants.{Log}
-use Rattle.outside_kit.specs.Calls.{AreCallsAfter, Call}
 use Rattle.outside_kit.specs.Calls as call
-use Rattle.run_outside.specs.Plan.{succeeded, failed, Adds, AddsAll}
-use Rattle.run_outside.proofs.Calls.{Told, adds_none, adds_then, all_then}
-use Rattle.connection_table.specs.declared.many.Many.{Many}
-use Rattle.connection_table.specs.declared.many.Many.TheVariants.{Done, Usage, Load, TooLong, List as Listing, Script, SameToken, Put, Memory}
-use Rattle.connection_table.specs.Loads.{AddsCut, AddsFirst, AddsToFailed}
-use Rattle.connection_table.specs.ManyEnds.{PutAdds, puts_from}
-use Rattle.connection_table.specs.ManyLines.{connection_line, line_if, state_of}
-use Rattle.connection_table.specs.Tables.{Entry}
 
 -- ---- one part after the other
 
@@ -137,10 +130,4 @@ module _ (i : ℕ) (table : List Entry) (a b c : Told) (within : i < length tabl
   pub put_ends : (many : Many) → PutAdds one b c many → PutAdds (puts_from 0 (map state_of table)) a c many
   put_ends Put cut = subst (λ plan. AddsToFailed [] plan a c) (sym whole_is.1) (failed_within (puts_upto 0 i table) one whole_is.0 a b c before cut)
   put_ends Memory cut = subst (λ plan. AddsCut plan a c) (sym whole_is.1) (cut_within (puts_upto 0 i table) one whole_is.0 a b c before cut)
-  put_ends Done cut = tt
-  put_ends Usage cut = tt
-  put_ends (Load line) cut = tt
-  put_ends (TooLong line) cut = tt
-  put_ends (Listing line) cut = tt
-  put_ends (Script entry line kind) cut = tt
-  put_ends (SameToken line holder) cut = tt
+  put_ends _ cut = tt

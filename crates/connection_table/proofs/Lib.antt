@@ -27,3 +27,4 @@ mod OwnTokens
 mod Admitted
 mod RunEnds
 mod ValidLists
+mod Words

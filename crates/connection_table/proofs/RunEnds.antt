@@ -1,28 +1,12 @@
 -- How a run of a list ends: from its loads, its rounds and its lines.
-use Rattle.std.proofs.Common.{◌≡◌, refl, sym, ap, subst, ℕ, ◌⊎◌, inl, inr, Option, List, [], ◌∷◌, ◌++◌, map}
-use Rattle.std.specs.List.{All}
-use Rattle.std.specs.Prelude.{IfOk, IfSome, ◌≢◌}
-use Rattle.std.proofs.lemmas.List.Elements.{All-nil, All-cons}
-use Rattle.std.proofs.lemmas.Option.{IfSome_then}
-use Rattle.outside_kit.specs.Calls.{Call, Made}
-use Rattle.outside_kit.specs.Outside.{HasRisen, HoldsAfter, HoldsPrefix}
-use Rattle.run_outside.specs.declared.input.Input.{Input}
-use Rattle.connection_table.specs.Lists.{Names}
-use Rattle.connection_table.specs.ListWords.{NamedList}
-use Rattle.connection_table.specs.declared.many.Many.{Many}
-use Rattle.connection_table.specs.declared.many.Many.TheVariants.{Done, Usage, Load, TooLong, List as Listing, Script, SameToken, Put, Memory}
-use Rattle.connection_table.specs.Inputs.{Contents, IsShort}
-use Rattle.connection_table.specs.Loads.{AddsCut, AddsFirst, AddsToFailed, LinesAdd, ListAdds, joined, loads_by_line}
-use Rattle.connection_table.specs.Scripts.{LeavesPayload}
+use Rattle.connection_table.proofs.Words.{◌≡◌, refl, sym, subst, ℕ, Option, List, [], ◌∷◌, ◌++◌, map, inr, inl, ◌⊎◌, IfSome, IfOk, ◌≢◌, All, All-nil, All-cons}
+use Rattle.connection_table.proofs.Words.{IfSome_then, Call, HasRisen, HoldsAfter, HoldsPrefix, AddsAll, Told, all_then, Input, Many, Done, Usage, Load}
+use Rattle.connection_table.proofs.Words.{TooLong, Listing, Script, SameToken, Put, Memory, ListAdds, Names, Contents, IsShort, AreAdmitted, AreInputs}
+use Rattle.connection_table.proofs.Words.{AreOfList, AreSerial, AtFault, IsEnd, IsListedFault, IsLoadingFault, IsOfListed, IsPutFault, IsTableOf, PutAdds, Says}
+use Rattle.connection_table.proofs.Words.{loads_of_list, puts_from, Entry, opened_entry, LeavesPayload, state_of, lines_of, EachRound, IsSerialEnd, NamedList}
 use Rattle.connection_table.proofs.Adding.{all_cut}
-use Rattle.connection_table.specs.ManyEnds.{AllPut, AreAdmitted, AreInputs, AreListed, AreOfList, AreSerial, AtFault, IsEnd, IsListedFault, IsLoadingFault, IsOfListed, IsPutFault, IsTableOf, NonePut, PutAdds, Says, SomePut, UpToAny, UpToPut, loads_of_list, puts_from}
-use Rattle.connection_table.specs.ManyLines.{lines_of, state_of}
-use Rattle.connection_table.specs.ManyRounds.{EachRound, IsSerialEnd}
-use Rattle.connection_table.specs.Tables.{Entry, opened_entry}
 use Rattle.connection_table.proofs.CallsMade.{cut_behind, failed_behind}
 use Rattle.connection_table.proofs.EndsRight.{all_end_right}
-use Rattle.run_outside.specs.Plan.{AddsAll}
-use Rattle.run_outside.proofs.Calls.{Told, all_then}
 
 -- ---- before any line is put
 
@@ -34,11 +18,7 @@ module _ (content : Contents) (words : NamedList) (old new : ℕ) (bytes : List 
   -- what holds of the cause of one of its connections
   caused : (many : Many) (P : Type 0) → many ≢ Memory → ((inputs : List Input) (at : Names) → AtFault content inputs at old new many → P)
       → IsListedFault content names old new many → P
-  caused many P not f fault = by fault.cause
-    where
-      by : (many ≡ Memory) ⊎ ((at : Names) × ((behind : List Names) × ((names ≡ fault.before ++ at ∷ behind) × AtFault content fault.inputs at old new many))) → P
-      by (inl memory) = absurd (not memory)
-      by (inr h) = f fault.inputs h.0 h.1.1.1
+  caused many P not f fault = elim fault.cause [ inl memory ↦ absurd (not memory) | inr h ↦ f fault.inputs h.0 h.1.1.1 ]
 
   -- a connection of it can't be loaded, read or admitted
   pub one_refused : (many : Many) → IsListedFault content names old new many → IsLoadingFault content words old new many
@@ -51,9 +31,7 @@ module _ (content : Contents) (words : NamedList) (old new : ℕ) (bytes : List 
   one_refused (SameToken line holder) fault = of_listed (SameToken line holder) fault
   one_refused Memory fault = tt
   one_refused (Listing line) fault = absurd (caused (Listing line) ⊥ (λ e. cc) (λ inputs at h. h) fault)
-  one_refused Done fault = caused Done ⊥ (λ e. cc) (λ inputs at h. h) fault
-  one_refused Usage fault = caused Usage ⊥ (λ e. cc) (λ inputs at h. h) fault
-  one_refused Put fault = caused Put ⊥ (λ e. cc) (λ inputs at h. h) fault
+  one_refused many fault = caused many ⊥ (λ e. cc) (λ inputs at h. h) fault
 
 -- what they begin with is within the limit, and leaves payload as it is
 all_short : (content : Contents) (names : List Names) (inputs : List Input) → AreInputs content names inputs → All IsShort inputs
@@ -118,14 +96,10 @@ module _ (content : Contents) (words : NamedList) (l0 l1 p0 p1 : ℕ) (held hold
   -- nothing was put
   pub ends_unput : (many : Many) → IsLoadingFault content words l0 l1 many → holds ≡ held → ListAdds content words a c many → Ends many
   ends_unput Memory fault same calls = inl (record { log_is = same; calls_made = calls })
-  ends_unput (Load line) fault same calls = (fault, record { log_is = same; calls_made = calls })
-  ends_unput (TooLong line) fault same calls = (fault, record { log_is = same; calls_made = calls })
-  ends_unput (Listing line) fault same calls = (fault, record { log_is = same; calls_made = calls })
-  ends_unput (Script entry line kind) fault same calls = (fault, record { log_is = same; calls_made = calls })
-  ends_unput (SameToken line holder) fault same calls = (fault, record { log_is = same; calls_made = calls })
   ends_unput Done fault same calls = absurd fault
   ends_unput Usage fault same calls = absurd fault
   ends_unput Put fault same calls = absurd fault
+  ends_unput _ fault same calls = (fault, record { log_is = same; calls_made = calls })
 
   -- memory was wanting in the rounds, behind all loads
   pub ends_unmade : (table : List Entry) → IsTableOf content words a c table → holds ≡ held → Ends Memory
@@ -157,9 +131,4 @@ module _ (content : Contents) (words : NamedList) (l0 l1 p0 p1 : ℕ) (held hold
     ends_cut Memory part fault calls =
         inr (record { worlds = map state_of table; of = ended; lines = part; calls_made = cut_behind (loads_of_list words of.names) puts a b c of.calls calls })
     ends_cut Done part fault calls = absurd fault
-    ends_cut Usage part fault calls = absurd fault
-    ends_cut (Load line) part fault calls = absurd fault
-    ends_cut (TooLong line) part fault calls = absurd fault
-    ends_cut (Listing line) part fault calls = absurd fault
-    ends_cut (Script entry line kind) part fault calls = absurd fault
-    ends_cut (SameToken line holder) part fault calls = absurd fault
+    ends_cut _ part fault calls = absurd fault

@@ -1,24 +1,13 @@
 -- A valid list runs to its end, unless the outside fails or memory runs out.
-use Rattle.std.proofs.Common.{◌≡◌, refl, sym, ◌∙◌, ap, ap₂, subst, ℕ, zero, suc, ◌<◌, ◌≤◌, ◌⊎◌, inl, inr, Option, Some, None, Ok, Err, List, [], ◌∷◌, ◌++◌, length, get_or, map, arith}
-use Rattle.std.specs.Prelude.{IfSome, ◌≢◌, ◌==◌}
-use Rattle.std.specs.List.{slice_get}
-use Rattle.std.proofs.lemmas.Bool.{eqb-true}
-use Rattle.std.proofs.lemmas.List.{length-map}
-use Rattle.std.proofs.lemmas.Option.{same_Some}
+use Rattle.connection_table.proofs.Words.{◌≡◌, refl, sym, ◌∙◌, ap, subst, ℕ, zero, suc, ◌<◌, ◌≤◌, Option, Some, None, List, [], ◌∷◌, ◌++◌, length, map, arith}
+use Rattle.connection_table.proofs.Words.{inr, get_or, inl, Err, Ok, ◌⊎◌, ap₂, length-map, ◌==◌, IfSome, ◌≢◌, slice_get, eqb-true, same_Some, HasRisen, Input}
+use Rattle.connection_table.proofs.Words.{Many, Done, Usage, Load, TooLong, Listing, Script, SameToken, Put, Memory, Names, list_reading, Contents, IsInput}
+use Rattle.connection_table.proofs.Words.{IsLong, AreInputs, AtFault, IsEnd, IsListedFault, IsOfListed, Says, AreApart, AreValidInputs, IsValid, IsValidInput}
+use Rattle.connection_table.proofs.Words.{Entry, key_token, opened_entry, holder_of, listed_reading, NamedList}
 use Rattle.std.proofs.lemmas.List.Quantifiers.{position-Some}
 use Rattle.link_script.specs.declared.fault.ScriptFault.TheVariants.{Line}
 use Rattle.link_script.specs.declared.fault.ScriptKind.{ScriptKind}
 use Rattle.outside_kit.specs.Calls.{Made}
-use Rattle.outside_kit.specs.Outside.{HasRisen}
-use Rattle.run_outside.specs.declared.input.Input.{Input}
-use Rattle.connection_table.specs.Lists.{Names, list_reading}
-use Rattle.connection_table.specs.ListWords.{NamedList}
-use Rattle.connection_table.specs.declared.many.Many.{Many}
-use Rattle.connection_table.specs.declared.many.Many.TheVariants.{Done, Usage, Load, TooLong, List as Listing, Script, SameToken, Put, Memory}
-use Rattle.connection_table.specs.Inputs.{Contents, IsInput, IsLong}
-use Rattle.connection_table.specs.Scripts.{listed_reading}
-use Rattle.connection_table.specs.ManyEnds.{AreApart, AreInputs, AreValidInputs, AtFault, IsEnd, IsListedFault, IsOfListed, IsValid, IsValidInput, Says}
-use Rattle.connection_table.specs.Tables.{Entry, holder_of, key_token, opened_entry}
 
 abbrev token_in : Input → ℕ
 token_in input = key_token input.script
@@ -123,7 +112,7 @@ module _ (content : Contents) (words : NamedList) (valid : IsValid content words
   IsSound many = (before behind : List Names) (at : Names) (p : Parted content before at valid.inputs) → AtFault content p.front at old new many → ⊥
 
   of_valid : (many : Many) → many ≢ Memory → IsSound many → IsOfListed content words old new many → ⊥
-  of_valid many not sound of = by fault.cause
+  of_valid many not sound of = elim fault.cause [ inl memory ↦ not memory | inr h ↦ at_one h.0 h.1.0 h.1.1.0 h.1.1.1 ]
     where
       read : (names : List Names) × (Says valid.list names × IsListedFault content names old new many)
       read = told _ of
@@ -139,10 +128,6 @@ module _ (content : Contents) (words : NamedList) (valid : IsValid content words
           let p = parted content fault.before behind at valid.inputs (subst (λ ns. AreValidInputs content ns valid.inputs) (sym names_is ∙ is) valid.valid) in
           let same : fault.inputs ≡ p.front = inputs_are content fault.before p.front fault.inputs p.before_valid fault.admitted in
           sound fault.before behind at p (subst (λ is. AtFault content is at old new many) same cause)
-
-      by : (many ≡ Memory) ⊎ ((at : Names) × ((behind : List Names) × ((read.0 ≡ fault.before ++ at ∷ behind) × AtFault content fault.inputs at old new many))) → ⊥
-      by (inl memory) = not memory
-      by (inr h) = at_one h.0 h.1.0 h.1.1.0 h.1.1.1
 
   not_too_long : (line : ℕ) → ((line ≡ 0) × IfSome (content words.list) (λ t. 65536 < length t)) ⊎ IsOfListed content words old new (TooLong line) → ⊥
   not_too_long line (inl h) = let past : 65536 < length valid.list = told _ h.1 in absurd (omega (arith, past, valid.short))

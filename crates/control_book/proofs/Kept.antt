@@ -17,9 +17,7 @@ use Rattle.address_manager.specs.Addresses.{Addresses}
 use Rattle.address_manager.specs.IdSet.{is_member}
 use Rattle.control_book.specs.declared.registry.PathState.{PathState}
 use Rattle.control_book.specs.declared.call.ControlCall.{ControlCall}
-use Rattle.control_book.specs.declared.call.ControlCall.TheVariants as call
 use Rattle.control_book.specs.declared.call.Notice.{Notice}
-use Rattle.control_book.specs.declared.call.Notice.TheVariants as notice
 use Rattle.control_book.specs.Registry.{state_of, idle}
 use Rattle.control_book.specs.Control.{Control, is_path}
 use Rattle.control_book.specs.Replies.{is_aborted, is_right, carries, resets, address_notice, notice_on}
@@ -31,12 +29,12 @@ pub either : (P : Control → Type 0) (b : Bool) (one other : Control) → P one
 either P true one other p q = p
 either P false one other p q = q
 
-pub told : (P : Control → Type 0) (n : Notice) (path : ℕ) (c : Control) → ((id : ℕ) → P (after_notice (notice.Withdraw id) path c)) → P c → P (after_notice n path c)
-told P (notice.Withdraw id) path c w p = w id
-told P notice.Nothing path c w p = p
-told P (notice.Announce id) path c w p = p
-told P (notice.Carrier key) path c w p = p
-told P notice.Reset path c w p = p
+pub told : (P : Control → Type 0) (n : Notice) (path : ℕ) (c : Control) → ((id : ℕ) → P (after_notice (Notice.Withdraw id) path c)) → P c → P (after_notice n path c)
+told P (Notice.Withdraw id) path c w p = w id
+told P Notice.Nothing path c w p = p
+told P (Notice.Announce id) path c w p = p
+told P (Notice.Carrier key) path c w p = p
+told P Notice.Reset path c w p = p
 
 left_false : (a b : Bool) → a || b ≡ false → a ≡ false
 left_false true b e = cc
@@ -56,15 +54,15 @@ rest_no test asked calls other_kind = right_false (test asked) (list_any test ca
 -- Keys.
 
 keys_once : (c : Control) (asked : ControlCall) → gives_key asked ≡ false → (after c asked).keys ≡ c.keys
-keys_once c (call.Look path) e = told (λ d. d.keys ≡ c.keys) (notice_on c path) path c (λ id. refl) refl
-keys_once c (call.PeerKey key) e = cc
-keys_once c (call.Keys own peer) e = cc
-keys_once c (call.JoinBegin path) e = either (λ d. d.keys ≡ c.keys) _ _ c refl refl
-keys_once c (call.JoinHeard path token) e = either (λ d. d.keys ≡ c.keys) _ _ c refl refl
-keys_once c (call.Withdraw id) e = either (λ d. d.keys ≡ c.keys) _ _ c refl refl
-keys_once c (call.Echoed id) e = either (λ d. d.keys ≡ c.keys) _ _ c refl refl
-keys_once c (call.Removed id) e = either (λ d. d.keys ≡ c.keys) _ _ c refl refl
-keys_once c (call.FastHeard key) e = either (λ d. d.keys ≡ c.keys) _ _ c refl refl
+keys_once c (ControlCall.Look path) e = told (λ d. d.keys ≡ c.keys) (notice_on c path) path c (λ id. refl) refl
+keys_once c (ControlCall.PeerKey key) e = cc
+keys_once c (ControlCall.Keys own peer) e = cc
+keys_once c (ControlCall.JoinBegin path) e = either (λ d. d.keys ≡ c.keys) _ _ c refl refl
+keys_once c (ControlCall.JoinHeard path token) e = either (λ d. d.keys ≡ c.keys) _ _ c refl refl
+keys_once c (ControlCall.Withdraw id) e = either (λ d. d.keys ≡ c.keys) _ _ c refl refl
+keys_once c (ControlCall.Echoed id) e = either (λ d. d.keys ≡ c.keys) _ _ c refl refl
+keys_once c (ControlCall.Removed id) e = either (λ d. d.keys ≡ c.keys) _ _ c refl refl
+keys_once c (ControlCall.FastHeard key) e = either (λ d. d.keys ≡ c.keys) _ _ c refl refl
 keys_once c _ e = refl
 
 pub keys_all : (calls : List ControlCall) (c : Control) → list_any gives_key calls ≡ false → (after_all calls c).keys ≡ c.keys
@@ -80,23 +78,17 @@ aborted_step fall path sole event is =
     (sym is) (aborted_kept fall.confirmed fall.joined fall.failed path sole event)
 
 pub aborted_once : (c : Control) (asked : ControlCall) → c.fall.mode ≡ Aborted → (after c asked).fall.mode ≡ Aborted
-aborted_once c (call.Look path) is = told (λ d. d.fall.mode ≡ Aborted) (notice_on c path) path c (λ id. is) is
-aborted_once c (call.PeerKey key) is = is
-aborted_once c (call.Keys own peer) is = either (λ d. d.fall.mode ≡ Aborted) (own == c.keys.own) (after_event 0 false KeysHeard (after_peer_key peer c)) c (aborted_step c.fall 0 false KeysHeard is) is
-aborted_once c (call.Fell path event) is = aborted_step c.fall path _ event is
-aborted_once c (call.JoinBegin path) is = either (λ d. d.fall.mode ≡ Aborted) _ _ c is is
-aborted_once c (call.JoinHeard path token) is = either (λ d. d.fall.mode ≡ Aborted) _ _ c is is
-aborted_once c (call.Live path backup) is = is
-aborted_once c (call.Dead path) is = is
-aborted_once c (call.Backup path on) is = is
-aborted_once c (call.Rate path window rtt) is = is
-aborted_once c (call.Announce id) is = is
-aborted_once c (call.Withdraw id) is = either (λ d. d.fall.mode ≡ Aborted) _ _ c is is
-aborted_once c (call.Heard id address port hmac) is = is
-aborted_once c (call.Echoed id) is = either (λ d. d.fall.mode ≡ Aborted) _ _ c is is
-aborted_once c (call.Removed id) is = either (λ d. d.fall.mode ≡ Aborted) _ _ c is is
-aborted_once c call.FastClose is = refl
-aborted_once c (call.FastHeard key) is = either (λ d. d.fall.mode ≡ Aborted) _ _ c refl is
+aborted_once c (ControlCall.Look path) is = told (λ d. d.fall.mode ≡ Aborted) (notice_on c path) path c (λ id. is) is
+aborted_once c (ControlCall.Keys own peer) is = either (λ d. d.fall.mode ≡ Aborted) (own == c.keys.own) (after_event 0 false KeysHeard (after_peer_key peer c)) c (aborted_step c.fall 0 false KeysHeard is) is
+aborted_once c (ControlCall.Fell path event) is = aborted_step c.fall path _ event is
+aborted_once c (ControlCall.JoinBegin path) is = either (λ d. d.fall.mode ≡ Aborted) _ _ c is is
+aborted_once c (ControlCall.JoinHeard path token) is = either (λ d. d.fall.mode ≡ Aborted) _ _ c is is
+aborted_once c (ControlCall.Withdraw id) is = either (λ d. d.fall.mode ≡ Aborted) _ _ c is is
+aborted_once c (ControlCall.Echoed id) is = either (λ d. d.fall.mode ≡ Aborted) _ _ c is is
+aborted_once c (ControlCall.Removed id) is = either (λ d. d.fall.mode ≡ Aborted) _ _ c is is
+aborted_once c ControlCall.FastClose is = refl
+aborted_once c (ControlCall.FastHeard key) is = either (λ d. d.fall.mode ≡ Aborted) _ _ c refl is
+aborted_once c _ is = is
 
 pub aborted_all : (calls : List ControlCall) (c : Control) → c.fall.mode ≡ Aborted → (after_all calls c).fall.mode ≡ Aborted
 aborted_all [] c is = is
@@ -122,58 +114,48 @@ removed_set paths place path state keeps is =
     ]
 
 pub removed_once : (c : Control) (asked : ControlCall) (path : ℕ) → IsRemoved c.paths path → IsRemoved (after c asked).paths path
-removed_once c (call.Look at) path is = told (λ d. IsRemoved d.paths path) (notice_on c at) at c (λ id. is) is
-removed_once c (call.PeerKey key) path is = is
-removed_once c (call.Keys own peer) path is = either (λ d. IsRemoved d.paths path) _ _ c is is
-removed_once c (call.Fell at event) path is = is
-removed_once c (call.JoinBegin at) path is = either (λ d. IsRemoved d.paths path) _ _ c (removed_set c.paths at path _ (λ h. h) is) is
-removed_once c (call.JoinHeard at token) path is = either (λ d. IsRemoved d.paths path) _ _ c is is
-removed_once c (call.Live at backup) path is = removed_set c.paths at path _ (λ h. h) is
-removed_once c (call.Dead at) path is = removed_set c.paths at path _ (λ h. h) is
-removed_once c (call.Backup at on) path is = is
-removed_once c (call.Rate at window rtt) path is = removed_set c.paths at path _ (λ h. h) is
-removed_once c (call.Announce id) path is = is
-removed_once c (call.Withdraw id) path is = either (λ d. IsRemoved d.paths path) _ _ c (removed_set c.paths id path _ (λ h. refl) is) is
-removed_once c (call.Heard id address port hmac) path is = is
-removed_once c (call.Echoed id) path is = either (λ d. IsRemoved d.paths path) _ _ c is is
-removed_once c (call.Removed id) path is = either (λ d. IsRemoved d.paths path) _ _ c (removed_set c.paths id path _ (λ h. refl) is) is
-removed_once c call.FastClose path is = is
-removed_once c (call.FastHeard key) path is = either (λ d. IsRemoved d.paths path) _ _ c is is
+removed_once c (ControlCall.Look at) path is = told (λ d. IsRemoved d.paths path) (notice_on c at) at c (λ id. is) is
+removed_once c (ControlCall.Keys own peer) path is = either (λ d. IsRemoved d.paths path) _ _ c is is
+removed_once c (ControlCall.JoinBegin at) path is = either (λ d. IsRemoved d.paths path) _ _ c (removed_set c.paths at path _ (λ h. h) is) is
+removed_once c (ControlCall.JoinHeard at token) path is = either (λ d. IsRemoved d.paths path) _ _ c is is
+removed_once c (ControlCall.Live at backup) path is = removed_set c.paths at path _ (λ h. h) is
+removed_once c (ControlCall.Dead at) path is = removed_set c.paths at path _ (λ h. h) is
+removed_once c (ControlCall.Rate at window rtt) path is = removed_set c.paths at path _ (λ h. h) is
+removed_once c (ControlCall.Withdraw id) path is = either (λ d. IsRemoved d.paths path) _ _ c (removed_set c.paths id path _ (λ h. refl) is) is
+removed_once c (ControlCall.Echoed id) path is = either (λ d. IsRemoved d.paths path) _ _ c is is
+removed_once c (ControlCall.Removed id) path is = either (λ d. IsRemoved d.paths path) _ _ c (removed_set c.paths id path _ (λ h. refl) is) is
+removed_once c (ControlCall.FastHeard key) path is = either (λ d. IsRemoved d.paths path) _ _ c is is
+removed_once c _ path is = is
 
 -- The carrier.
 
 carrier_once : (c : Control) (asked : ControlCall) → is_fast_close asked ≡ false → (after c asked).notices.carrier ≡ c.notices.carrier
-carrier_once c (call.Look path) e = told (λ d. d.notices.carrier ≡ c.notices.carrier) (notice_on c path) path c (λ id. refl) refl
-carrier_once c (call.Keys own peer) e = either (λ d. d.notices.carrier ≡ c.notices.carrier) _ _ c refl refl
-carrier_once c (call.JoinBegin path) e = either (λ d. d.notices.carrier ≡ c.notices.carrier) _ _ c refl refl
-carrier_once c (call.JoinHeard path token) e = either (λ d. d.notices.carrier ≡ c.notices.carrier) _ _ c refl refl
-carrier_once c (call.Withdraw id) e = either (λ d. d.notices.carrier ≡ c.notices.carrier) _ _ c refl refl
-carrier_once c (call.Echoed id) e = either (λ d. d.notices.carrier ≡ c.notices.carrier) _ _ c refl refl
-carrier_once c (call.Removed id) e = either (λ d. d.notices.carrier ≡ c.notices.carrier) _ _ c refl refl
-carrier_once c call.FastClose e = cc
-carrier_once c (call.FastHeard key) e = either (λ d. d.notices.carrier ≡ c.notices.carrier) _ _ c refl refl
+carrier_once c (ControlCall.Look path) e = told (λ d. d.notices.carrier ≡ c.notices.carrier) (notice_on c path) path c (λ id. refl) refl
+carrier_once c (ControlCall.Keys own peer) e = either (λ d. d.notices.carrier ≡ c.notices.carrier) _ _ c refl refl
+carrier_once c (ControlCall.JoinBegin path) e = either (λ d. d.notices.carrier ≡ c.notices.carrier) _ _ c refl refl
+carrier_once c (ControlCall.JoinHeard path token) e = either (λ d. d.notices.carrier ≡ c.notices.carrier) _ _ c refl refl
+carrier_once c (ControlCall.Withdraw id) e = either (λ d. d.notices.carrier ≡ c.notices.carrier) _ _ c refl refl
+carrier_once c (ControlCall.Echoed id) e = either (λ d. d.notices.carrier ≡ c.notices.carrier) _ _ c refl refl
+carrier_once c (ControlCall.Removed id) e = either (λ d. d.notices.carrier ≡ c.notices.carrier) _ _ c refl refl
+carrier_once c ControlCall.FastClose e = cc
+carrier_once c (ControlCall.FastHeard key) e = either (λ d. d.notices.carrier ≡ c.notices.carrier) _ _ c refl refl
 carrier_once c _ e = refl
 
 -- Why a path is told to reset.
 
 aborted_is : (mode : Mode) → is_aborted mode ≡ true → mode ≡ Aborted
 aborted_is Aborted e = refl
-aborted_is Starting e = cc
-aborted_is Sure e = cc
-aborted_is Identity e = cc
-aborted_is InfiniteSend e = cc
-aborted_is InfiniteReceive e = cc
-aborted_is InfiniteBoth e = cc
+aborted_is _ e = cc
 
-reset_to : (b : Bool) (other : Notice) → b ≡ true → (if b then notice.Reset else other) ≡ notice.Reset
+reset_to : (b : Bool) (other : Notice) → b ≡ true → (if b then Notice.Reset else other) ≡ Notice.Reset
 reset_to true other e = refl
 reset_to false other e = cc
 
-resets_to : (c : Control) (path : ℕ) → resets c path ≡ true → notice_on c path ≡ notice.Reset
+resets_to : (c : Control) (path : ℕ) → resets c path ≡ true → notice_on c path ≡ Notice.Reset
 resets_to c path is = reset_to (resets c path) _ is
 
 reset_by : (b d : Bool) (key : ℕ) (announced withdrawn : Option ℕ)
-    → (if b then notice.Reset else (if d then notice.Carrier key else address_notice announced withdrawn)) ≡ notice.Reset → b ≡ true
+    → (if b then Notice.Reset else (if d then Notice.Carrier key else address_notice announced withdrawn)) ≡ Notice.Reset → b ≡ true
 reset_by true d key announced withdrawn e = refl
 reset_by false true key announced withdrawn e = cc
 reset_by false false key (Some id) withdrawn e = cc
@@ -199,8 +181,8 @@ resets_all [] c path other_kind is = is
 resets_all (asked ∷ calls) c path other_kind is =
     resets_all calls (after c asked) path (rest_no is_fast_close asked calls other_kind) (resets_once c asked path (first_no is_fast_close asked calls other_kind) is)
 
-pub reset_stays : (calls : List ControlCall) (c : Control) (path : ℕ) → notice_on c path ≡ notice.Reset
-    → list_any is_fast_close calls ≡ false → notice_on (after_all calls c) path ≡ notice.Reset
+pub reset_stays : (calls : List ControlCall) (c : Control) (path : ℕ) → notice_on c path ≡ Notice.Reset
+    → list_any is_fast_close calls ≡ false → notice_on (after_all calls c) path ≡ Notice.Reset
 reset_stays calls c path was other_kind =
     resets_to (after_all calls c) path (resets_all calls c path other_kind (reset_by (resets c path) (carries c path) _ _ _ was))
 
@@ -208,7 +190,7 @@ removed_all : (calls : List ControlCall) (c : Control) (path : ℕ) → IsRemove
 removed_all [] c path is = is
 removed_all (asked ∷ calls) c path is = removed_all calls (after c asked) path (removed_once c asked path is)
 
-pub removed_resets : (calls : List ControlCall) (c : Control) (path : ℕ) → IsRemoved c.paths path → notice_on (after_all calls c) path ≡ notice.Reset
+pub removed_resets : (calls : List ControlCall) (c : Control) (path : ℕ) → IsRemoved c.paths path → notice_on (after_all calls c) path ≡ Notice.Reset
 removed_resets calls c path is =
     let d = after_all calls c in
     let removed : IsRemoved d.paths path = removed_all calls c path is in
@@ -240,26 +222,26 @@ abbrev IsDue : ℕ → Control → Type 0
 IsDue id c = is_member c.addresses.due id ≡ true
 
 due_once : (c : Control) (asked : ControlCall) (id : ℕ) → ends_announcement id asked ≡ false → IsDue id c → IsDue id (after c asked)
-due_once c (call.Look path) id e is = told (IsDue id) (notice_on c path) path c (λ other. is) is
-due_once c (call.PeerKey key) id e is = is
-due_once c (call.Keys own peer) id e is = either (IsDue id) _ _ c is is
-due_once c (call.Fell path event) id e is = is
-due_once c (call.JoinBegin path) id e is = either (IsDue id) _ _ c is is
-due_once c (call.JoinHeard path token) id e is = either (IsDue id) _ _ c is is
-due_once c (call.Live path backup) id e is = is
-due_once c (call.Dead path) id e is = is
-due_once c (call.Backup path on) id e is = is
-due_once c (call.Rate path window rtt) id e is = is
-due_once c (call.Announce other) id e is = member_set c.addresses.due other id true (λ same. refl) is
-due_once c (call.Withdraw other) id e is = either (IsDue id) _ _ c is is
-due_once c (call.Heard other address port hmac) id e is =
+due_once c (ControlCall.Look path) id e is = told (IsDue id) (notice_on c path) path c (λ other. is) is
+due_once c (ControlCall.PeerKey key) id e is = is
+due_once c (ControlCall.Keys own peer) id e is = either (IsDue id) _ _ c is is
+due_once c (ControlCall.Fell path event) id e is = is
+due_once c (ControlCall.JoinBegin path) id e is = either (IsDue id) _ _ c is is
+due_once c (ControlCall.JoinHeard path token) id e is = either (IsDue id) _ _ c is is
+due_once c (ControlCall.Live path backup) id e is = is
+due_once c (ControlCall.Dead path) id e is = is
+due_once c (ControlCall.Backup path on) id e is = is
+due_once c (ControlCall.Rate path window rtt) id e is = is
+due_once c (ControlCall.Announce other) id e is = member_set c.addresses.due other id true (λ same. refl) is
+due_once c (ControlCall.Withdraw other) id e is = either (IsDue id) _ _ c is is
+due_once c (ControlCall.Heard other address port hmac) id e is =
     either_addresses (λ a. is_member a.due id ≡ true) (is_right other address port hmac c) _ c.addresses is is
-due_once c (call.Echoed other) id e is =
+due_once c (ControlCall.Echoed other) id e is =
     either (IsDue id) _ _ c (member_set c.addresses.due other id false (λ same. absurd (distinct other id e same)) is) is
-due_once c (call.Removed other) id e is =
+due_once c (ControlCall.Removed other) id e is =
     either (IsDue id) _ _ c (member_set c.addresses.due other id false (λ same. absurd (distinct other id e same)) is) is
-due_once c call.FastClose id e is = is
-due_once c (call.FastHeard key) id e is = either (IsDue id) _ _ c is is
+due_once c ControlCall.FastClose id e is = is
+due_once c (ControlCall.FastHeard key) id e is = either (IsDue id) _ _ c is is
 
 pub due_all : (calls : List ControlCall) (c : Control) (id : ℕ) → IsDue id c → list_any (ends_announcement id) calls ≡ false → IsDue id (after_all calls c)
 due_all [] c id is other_kind = is

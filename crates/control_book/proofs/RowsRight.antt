@@ -10,7 +10,6 @@ use Rattle.linked_increase.specs.declared.rows.Row.{Row}
 use Rattle.linked_increase.specs.Paths.{IsInRange}
 use Rattle.control_book.specs.declared.registry.PathState.{PathState}
 use Rattle.control_book.specs.declared.call.ControlCall.{ControlCall}
-use Rattle.control_book.specs.declared.call.ControlCall.TheVariants as call
 use Rattle.control_book.specs.Registry.{every_path, opening_paths, state_of, lives, idle, told_row, rows_with}
 use Rattle.control_book.specs.Calls.{can_ask}
 use Rattle.control_book.specs.Control.{Control, new_control}
@@ -37,24 +36,22 @@ right_set paths place state all here path =
     ]
 
 pub right_once : (c : Control) (asked : ControlCall) → can_ask asked → RowsAreRight c.paths → RowsAreRight (after c asked).paths
-right_once c (call.Look path) can r = told (λ d. RowsAreRight d.paths) (notice_on c path) path c (λ id. r) r
-right_once c (call.PeerKey key) can r = r
-right_once c (call.Keys own peer) can r = either (λ d. RowsAreRight d.paths) _ _ c r r
-right_once c (call.Fell path event) can r = r
-right_once c (call.JoinBegin path) can r = either (λ d. RowsAreRight d.paths) _ _ c (right_set c.paths path _ r (r path)) r
-right_once c (call.JoinHeard path token) can r = either (λ d. RowsAreRight d.paths) _ _ c r r
-right_once c (call.Live path backup) can r = right_set c.paths path _ r (r path)
-right_once c (call.Dead path) can r = right_set c.paths path _ r (r path)
-right_once c (call.Backup path on) can r = r
-right_once c (call.Rate path window rtt) can r =
+right_once c (ControlCall.Look path) can r = told (λ d. RowsAreRight d.paths) (notice_on c path) path c (λ id. r) r
+right_once c (ControlCall.PeerKey key) can r = r
+right_once c (ControlCall.Keys own peer) can r = either (λ d. RowsAreRight d.paths) _ _ c r r
+right_once c (ControlCall.Fell path event) can r = r
+right_once c (ControlCall.JoinBegin path) can r = either (λ d. RowsAreRight d.paths) _ _ c (right_set c.paths path _ r (r path)) r
+right_once c (ControlCall.JoinHeard path token) can r = either (λ d. RowsAreRight d.paths) _ _ c r r
+right_once c (ControlCall.Live path backup) can r = right_set c.paths path _ r (r path)
+right_once c (ControlCall.Dead path) can r = right_set c.paths path _ r (r path)
+right_once c (ControlCall.Backup path on) can r = r
+right_once c (ControlCall.Rate path window rtt) can r =
     right_set c.paths path _ r (record { some_window = can.1; window = can.2; some_rtt = can.3; rtt = can.4 }, refl)
-right_once c (call.Announce id) can r = r
-right_once c (call.Withdraw id) can r = either (λ d. RowsAreRight d.paths) _ _ c (right_set c.paths id _ r (r id)) r
-right_once c (call.Heard id address port hmac) can r = r
-right_once c (call.Echoed id) can r = either (λ d. RowsAreRight d.paths) _ _ c r r
-right_once c (call.Removed id) can r = either (λ d. RowsAreRight d.paths) _ _ c (right_set c.paths id _ r (r id)) r
-right_once c call.FastClose can r = r
-right_once c (call.FastHeard key) can r = either (λ d. RowsAreRight d.paths) _ _ c r r
+right_once c (ControlCall.Withdraw id) can r = either (λ d. RowsAreRight d.paths) _ _ c (right_set c.paths id _ r (r id)) r
+right_once c (ControlCall.Echoed id) can r = either (λ d. RowsAreRight d.paths) _ _ c r r
+right_once c (ControlCall.Removed id) can r = either (λ d. RowsAreRight d.paths) _ _ c (right_set c.paths id _ r (r id)) r
+right_once c (ControlCall.FastHeard key) can r = either (λ d. RowsAreRight d.paths) _ _ c r r
+right_once c _ can r = r
 
 right_all : (calls : List ControlCall) (c : Control) → CanAskAll calls → RowsAreRight c.paths → RowsAreRight (after_all calls c).paths
 right_all [] c can r = r

@@ -79,11 +79,7 @@ record Joined (told run : Run) : Type 0 where
   pub same : run.place + told.pos ≡ told.place + run.pos
 
 joins_tells : (told run : Run) → told.pos < told.to → run.pos < run.to → joins told run ≡ true → Joined told run
-joins_tells told run h k e = record {
-  low = grind (arith, nat_tests);
-  high = grind (arith, nat_tests);
-  same = grind (arith, nat_tests);
-}
+joins_tells told run h k e = record { low = grind (arith, nat_tests); high = grind (arith, nat_tests); same = grind (arith, nat_tests) }
 
 no_join : (told run : Run) → told.pos < told.to → run.pos < run.to → joins told run ≡ false → run.pos < told.to → told.pos < run.to
     → place_in (max run.pos told.pos) run ≢ place_in (max run.pos told.pos) told

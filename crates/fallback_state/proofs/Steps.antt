@@ -34,21 +34,11 @@ pub record IsFurther (mode : Mode) : Type 0 where
 
 receiving-further : (mode : Mode) → IsFurther (receiving mode)
 receiving-further Starting = record { no_identity = λ e. cc; no_start = λ e. cc }
-receiving-further Sure = record { no_identity = λ e. cc; no_start = λ e. cc }
-receiving-further Identity = record { no_identity = λ e. cc; no_start = λ e. cc }
-receiving-further InfiniteSend = record { no_identity = λ e. cc; no_start = λ e. cc }
-receiving-further InfiniteReceive = record { no_identity = λ e. cc; no_start = λ e. cc }
-receiving-further InfiniteBoth = record { no_identity = λ e. cc; no_start = λ e. cc }
-receiving-further Aborted = record { no_identity = λ e. cc; no_start = λ e. cc }
+receiving-further _ = record { no_identity = λ e. cc; no_start = λ e. cc }
 
 sending-further : (mode : Mode) → IsFurther (sending mode)
 sending-further Starting = record { no_identity = λ e. cc; no_start = λ e. cc }
-sending-further Sure = record { no_identity = λ e. cc; no_start = λ e. cc }
-sending-further Identity = record { no_identity = λ e. cc; no_start = λ e. cc }
-sending-further InfiniteSend = record { no_identity = λ e. cc; no_start = λ e. cc }
-sending-further InfiniteReceive = record { no_identity = λ e. cc; no_start = λ e. cc }
-sending-further InfiniteBoth = record { no_identity = λ e. cc; no_start = λ e. cc }
-sending-further Aborted = record { no_identity = λ e. cc; no_start = λ e. cc }
+sending-further _ = record { no_identity = λ e. cc; no_start = λ e. cc }
 
 sure-further : IsFurther Sure
 sure-further = record { no_identity = λ e. cc; no_start = λ e. cc }

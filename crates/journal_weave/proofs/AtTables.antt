@@ -9,7 +9,7 @@ use Rattle.reassembly_book.specs.Steps as arriving
 use Rattle.control_book.specs.Replies as controlling
 use Rattle.control_book.specs.Steps as control
 use Rattle.stream_lanes.specs.Words.{Every}
-use Rattle.sides.specs.declared.side.Side.TheVariants as side
+use Rattle.sides.specs.declared.side.Side.{Side}
 use Rattle.actor_desk.specs.declared.ask.Note.{Note}
 use Rattle.actor_desk.specs.Books.{StampedBooks}
 use Rattle.actor_desk.specs.Journals.{send_note, reassembly_note, control_note}
@@ -92,15 +92,15 @@ pub books_grew : (top : ℕ) (crew after : List Crew) (books left : StampedBooks
 books_grew top crew after books left round known is =
     let above = entry_above top crew after books left round known in record {
       send_a = journal_grew sending.reply_to sending.after_call top books.send_a left.send_a round.extend.send_a is.send_a
-          (more_above top (send_note side.A) (λ e. refl) books.send_a left.send_a round.extend.send_a (above 0 (omega arith)));
+          (more_above top (send_note Side.A) (λ e. refl) books.send_a left.send_a round.extend.send_a (above 0 (omega arith)));
       send_b = journal_grew sending.reply_to sending.after_call top books.send_b left.send_b round.extend.send_b is.send_b
-          (more_above top (send_note side.B) (λ e. refl) books.send_b left.send_b round.extend.send_b (above 1 (omega arith)));
+          (more_above top (send_note Side.B) (λ e. refl) books.send_b left.send_b round.extend.send_b (above 1 (omega arith)));
       reassembly_a = journal_grew arriving.reply_to arriving.after_call top books.reassembly_a left.reassembly_a round.extend.reassembly_a is.reassembly_a
-          (more_above top (reassembly_note side.A) (λ e. refl) books.reassembly_a left.reassembly_a round.extend.reassembly_a (above 2 (omega arith)));
+          (more_above top (reassembly_note Side.A) (λ e. refl) books.reassembly_a left.reassembly_a round.extend.reassembly_a (above 2 (omega arith)));
       reassembly_b = journal_grew arriving.reply_to arriving.after_call top books.reassembly_b left.reassembly_b round.extend.reassembly_b is.reassembly_b
-          (more_above top (reassembly_note side.B) (λ e. refl) books.reassembly_b left.reassembly_b round.extend.reassembly_b (above 3 (omega arith)));
+          (more_above top (reassembly_note Side.B) (λ e. refl) books.reassembly_b left.reassembly_b round.extend.reassembly_b (above 3 (omega arith)));
       control_a = journal_grew controlling.reply_to control.after top books.control_a left.control_a round.extend.control_a is.control_a
-          (more_above top (control_note side.A) (λ e. refl) books.control_a left.control_a round.extend.control_a (above 4 (omega arith)));
+          (more_above top (control_note Side.A) (λ e. refl) books.control_a left.control_a round.extend.control_a (above 4 (omega arith)));
       control_b = journal_grew controlling.reply_to control.after top books.control_b left.control_b round.extend.control_b is.control_b
-          (more_above top (control_note side.B) (λ e. refl) books.control_b left.control_b round.extend.control_b (above 5 (omega arith)));
+          (more_above top (control_note Side.B) (λ e. refl) books.control_b left.control_b round.extend.control_b (above 5 (omega arith)));
     }

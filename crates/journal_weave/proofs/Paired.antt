@@ -7,7 +7,6 @@ use Rattle.stamped_book.specs.declared.stamped.Entry.{Entry}
 use Rattle.stamped_book.specs.Journal.{Rise}
 use Rattle.actor_desk.specs.Books.{StampedBooks}
 use Rattle.actor_desk.specs.declared.ask.Ask.{Ask}
-use Rattle.actor_desk.specs.declared.ask.Ask.TheVariants as asks
 use Rattle.actor_desk.specs.declared.ask.Note.{Note}
 use Rattle.actor_desk.specs.Journals.{is_local, ArePaired, above, in_order, send_note, reassembly_note, control_note}
 use Rattle.world_laws.specs.Fine.{NotesRise}
@@ -73,10 +72,8 @@ journals_numbered books h = (
 -- ---- books
 
 below_asked : (x : Ask) (book : ℕ) → book < 6 → book_of x ≡ book → is_local x ≡ false
-below_asked (asks.Send s call) book few is = refl
-below_asked (asks.Reassembly s call) book few is = refl
-below_asked (asks.Control s call) book few is = refl
-below_asked (asks.Local step) book few is = absurd (omega (arith, few, is))
+below_asked (Ask.Local step) book few is = absurd (omega (arith, few, is))
+below_asked _ book few is = refl
 
 mapped_at : {X Y : Type 0} (f : X → Y) (xs : List X) (i : ℕ) (y : Y) → slice_get (map f xs) i ≡ Some y → (x : X) × (slice_get xs i ≡ Some x) × (y ≡ f x)
 mapped_at f [] i y at = cc

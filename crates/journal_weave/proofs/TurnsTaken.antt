@@ -1,5 +1,5 @@
 -- What the turns of all actors made in a round by threads: each actor went on by steps, to the end of its turn.
-use Rattle.std.proofs.Common.{◌≡◌, refl, sym, ◌∙◌, ap, subst, ℕ, zero, suc, ◌+◌, ◌<◌, ◌≤◌, ◌&&◌, Bool, true, false, Option, Some, None, List, [], ◌∷◌, ◌++◌, length, append_assoc, arith}
+use Rattle.std.proofs.Common.{◌≡◌, refl, sym, ◌∙◌, ap, subst, ℕ, zero, suc, ◌+◌, ◌<◌, ◌≤◌, ◌&&◌, true, false, Option, Some, None, List, [], ◌∷◌, ◌++◌, length, append_assoc, arith}
 use Rattle.std.specs.Prelude.{All, MatchOption}
 use Rattle.std.specs.List.{slice_get, slice_index_or}
 use Rattle.std.proofs.lemmas.List.{append-nil}
@@ -9,10 +9,8 @@ use Rattle.stream_lanes.specs.Words.{Every}
 use Rattle.stream_lanes.proofs.Lists.{Every-nil, Every-append}
 use Rattle.actor_desk.specs.Bounds.{TakesReply}
 use Rattle.actor_desk.specs.declared.ask.Ask.{Ask}
-use Rattle.actor_desk.specs.declared.ask.Ask.TheVariants as asks
 use Rattle.actor_desk.specs.declared.ask.Note.{Note}
 use Rattle.actor_desk.specs.declared.ask.Reply.{Reply}
-use Rattle.actor_desk.specs.declared.ask.Reply.TheVariants as replies
 use Rattle.actor_desk.specs.Journals.{is_local}
 use Rattle.actor_desk.specs.Words.{is_nil}
 use Rattle.path_agenda.specs.declared.duty.Duty.{Duty}
@@ -41,14 +39,12 @@ TurnOf c d = Turned (member_asks octets) (member_takes octets) c d
 
 -- ---- the steps of one actor
 
-local_done : (x : Ask) (r : Reply) → is_local x ≡ true → TakesReply (Some x) r → r ≡ replies.Done
-local_done (asks.Local step) replies.Done is h = refl
-local_done (asks.Local step) (replies.Send reply) is h = absurd h.0
-local_done (asks.Local step) (replies.Reassembly reply) is h = absurd h.0
-local_done (asks.Local step) (replies.Control reply) is h = absurd h.0
-local_done (asks.Send s call) r is h = cc
-local_done (asks.Reassembly s call) r is h = cc
-local_done (asks.Control s call) r is h = cc
+local_done : (x : Ask) (r : Reply) → is_local x ≡ true → TakesReply (Some x) r → r ≡ Reply.Done
+local_done (Ask.Local step) Reply.Done is h = refl
+local_done (Ask.Local step) (Reply.Send reply) is h = absurd h.0
+local_done (Ask.Local step) (Reply.Reassembly reply) is h = absurd h.0
+local_done (Ask.Local step) (Reply.Control reply) is h = absurd h.0
+local_done _ r is h = cc
 
 steps_of : (notes : List Note) (c : Crew) → AreSteps (member_asks octets) (member_takes octets) c.pass.actor c.member c.pass.stamp notes → AreStepsOf octets notes c
 steps_of [] c h = tt
@@ -107,11 +103,7 @@ module _ (c d : Crew) (t : TurnOf c d) (none : d.refused ≡ None) where
       }
 
   over : is_over d.member ≡ true
-  over = by (is_over d.member) refl
-    where
-      by : (b : Bool) → is_over d.member ≡ b → b ≡ true
-      by true is = refl
-      by false is = absurd (going_asks d.member is ended.0)
+  over = (elim (is_over d.member) as (λ b. is_over d.member ≡ b → b ≡ true) [ true ↦ λ is. refl | false ↦ λ is. absurd (going_asks d.member is ended.0) ]) refl
 
 -- ---- its list
 

@@ -1,5 +1,5 @@
 -- Copies arrive later than they are sent.
-use Rattle.std.proofs.Common.{ℕ, ◌+◌, ◌<◌, ◌≤◌, Bool, true, false, cond, List, [], ◌∷◌, arith}
+use Rattle.std.proofs.Common.{ℕ, ◌+◌, ◌<◌, ◌≤◌, true, false, cond, List, [], ◌∷◌, arith}
 use Rattle.std.specs.List.{AllByRecursion}
 use Rattle.sides.specs.declared.side.Side.{Side}
 use Rattle.sides.specs.declared.side.Side.TheVariants.{A, B}
@@ -11,11 +11,8 @@ use Rattle.link_model.specs.Steps.{comes_before, with_flight, with_flights, arri
 
 pub all_with : {C : Type 0} (P : Flight C → Type 0) (f : Flight C) (flights : List (Flight C)) → P f → AllByRecursion P flights → AllByRecursion P (with_flight f flights)
 all_with P f [] here all = (here, tt)
-all_with P f (g ∷ flights) here all = by (comes_before f g) (all_with P f flights here all.1)
-  where
-    by : (b : Bool) → AllByRecursion P (with_flight f flights) → AllByRecursion P (cond b (f ∷ g ∷ flights) (g ∷ with_flight f flights))
-    by true rest = (here, all)
-    by false rest = (all.0, rest)
+all_with P f (g ∷ flights) here all = (elim (comes_before f g) as (λ b. AllByRecursion P (with_flight f flights) → AllByRecursion P (cond b (f ∷ g ∷ flights) (g ∷ with_flight f flights)))
+    [ true ↦ λ rest. (here, all) | false ↦ λ rest. (all.0, rest) ]) (all_with P f flights here all.1)
 
 all_launched : {C : Type 0} (P : Flight C → Type 0) (now : ℕ) (to : Side) (number : ℕ) (carried : C) (ticks : List ℕ) (flights : List (Flight C))
     → ((f : Flight C) → now < f.tick → P f) → AllByRecursion (λ tick. now < tick) ticks → AllByRecursion P flights

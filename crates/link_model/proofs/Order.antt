@@ -2,7 +2,7 @@
 --
 -- A Boolean order of three numbers: go by `⊎` of `<` and `≡` (`less_is`, `less_before` in `link_model/proofs/Order`);
 -- `grind` alone splits too often.
-use Rattle.std.proofs.Common.{◌≡◌, ◌∙◌, refl, sym, ℕ, zero, suc, ◌<◌, ◌≤◌, ◌⊎◌, inl, inr, Bool, true, false, cond, List, [], ◌∷◌, remove, Option, Some, None, IfSome, subst, arith}
+use Rattle.std.proofs.Common.{◌≡◌, ◌∙◌, refl, sym, ℕ, zero, suc, ◌<◌, ◌≤◌, ◌⊎◌, inl, inr, Bool, true, false, cond, List, [], ◌∷◌, remove, Some, None, IfSome, subst, arith}
 use Rattle.std.specs.Prelude.{nat_lt, ◌==◌, ◌&&◌, ◌||◌, position}
 use Rattle.std.specs.List.{AllByRecursion}
 use Rattle.std.proofs.lemmas.Bool.{cases_lt, true≢false}
@@ -56,13 +56,8 @@ less_before a b c x y z (inr (same, inr (equal, low))) = grind (arith, same, equ
 
 -- what doesn't come before a later one doesn't come before an earlier one
 before_later : (a b c x y z k l m : ℕ) → before a b c x y z ≡ true → before k l m x y z ≡ false → before k l m a b c ≡ false
-before_later a b c x y z k l m first not = by _ refl
-  where
-    by : (t : Bool) → before k l m a b c ≡ t → t ≡ false
-    by false e = refl
-    by true e =
-        let no : true ≡ false = sym (less_before k l m x y z (crossed a b c x y z k l m (less_is a b c x y z first) (less_is k l m a b c e))) ∙ not in
-        no
+before_later a b c x y z k l m first not = (elim (before k l m a b c) as (λ t. before k l m a b c ≡ t → t ≡ false)
+    [ false ↦ λ e. refl | true ↦ λ e. let no : true ≡ false = sym (less_before k l m x y z (crossed a b c x y z k l m (less_is a b c x y z first) (less_is k l m a b c e))) ∙ not in no ]) refl
 
 -- not after
 abbrev AtMost : ℕ → ℕ → ℕ → ℕ → ℕ → ℕ → Type 0
@@ -93,13 +88,10 @@ at_most_then a b c x y z k l m (inr g) (inr f) = inr (omega (arith, f.0, g.0), w
 
 -- what comes before one comes before each that doesn't come before that
 before_onward : (a b c x y z k l m : ℕ) → before a b c x y z ≡ true → before k l m x y z ≡ false → before a b c k l m ≡ true
-before_onward a b c x y z k l m first not = by _ refl
-  where
-    by : (t : Bool) → before a b c k l m ≡ t → t ≡ true
-    by true e = refl
-    by false e =
-        let no : true ≡ false = sym (less_before k l m x y z (at_most_then a b c x y z k l m (at_most_first k l m a b c e (cases_lt k a)) (less_is a b c x y z first))) ∙ not in
-        sym no
+before_onward a b c x y z k l m first not = (elim (before a b c k l m) as (λ t. before a b c k l m ≡ t → t ≡ true) [
+  | true ↦ λ e. refl
+  | false ↦ λ e. let no : true ≡ false = sym (less_before k l m x y z (at_most_then a b c x y z k l m (at_most_first k l m a b c e (cases_lt k a)) (less_is a b c x y z first))) ∙ not in sym no
+]) refl
 
 pub before_once : (a b c x y z : ℕ) → before a b c x y z ≡ true → before x y z a b c ≡ false
 before_once a b c x y z first = before_later a b c x y z x y z first (itself x y z)
@@ -126,11 +118,8 @@ one_is_first f g a b first second =
 
 first_with : {C : Type 0} (h f : Flight C) (flights : List (Flight C)) → comes_before f h ≡ false → IsFirst h flights → IsFirst h (with_flight f flights)
 first_with h f [] not first = (not, tt)
-first_with h f (g ∷ flights) not first = by (comes_before f g) (first_with h f flights not first.1)
-  where
-    by : (b : Bool) → IsFirst h (with_flight f flights) → IsFirst h (cond b (f ∷ g ∷ flights) (g ∷ with_flight f flights))
-    by true rest = (not, first)
-    by false rest = (first.0, rest)
+first_with h f (g ∷ flights) not first = (elim (comes_before f g) as (λ b. IsFirst h (with_flight f flights) → IsFirst h (cond b (f ∷ g ∷ flights) (g ∷ with_flight f flights)))
+    [ true ↦ λ rest. (not, first) | false ↦ λ rest. (first.0, rest) ]) (first_with h f flights not first.1)
 
 pub first_before : {C : Type 0} (f g : Flight C) (flights : List (Flight C)) → comes_before f g ≡ true → IsFirst g flights → IsFirst f flights
 first_before f g [] low first = tt
@@ -142,11 +131,10 @@ before_behind f g h first not = before_onward f.tick (rank f.to) f.number g.tick
 
 pub in_order_with : {C : Type 0} (f : Flight C) (flights : List (Flight C)) → AreInOrder flights → AreInOrder (with_flight f flights)
 in_order_with f [] order = (tt, tt)
-in_order_with f (g ∷ flights) order = by (comes_before f g) refl (in_order_with f flights order.1)
-  where
-    by : (b : Bool) → comes_before f g ≡ b → AreInOrder (with_flight f flights) → AreInOrder (cond b (f ∷ g ∷ flights) (g ∷ with_flight f flights))
-    by true e rest = ((before_once f.tick (rank f.to) f.number g.tick (rank g.to) g.number e, first_before f g flights e order.0), order)
-    by false e rest = (first_with g f flights e order.0, rest)
+in_order_with f (g ∷ flights) order = (elim (comes_before f g) as (λ b. comes_before f g ≡ b → AreInOrder (with_flight f flights) → AreInOrder (cond b (f ∷ g ∷ flights) (g ∷ with_flight f flights))) [
+  | true ↦ λ e rest. ((before_once f.tick (rank f.to) f.number g.tick (rank g.to) g.number e, first_before f g flights e order.0), order)
+  | false ↦ λ e rest. (first_with g f flights e order.0, rest)
+]) refl (in_order_with f flights order.1)
 
 pub in_order_all : {C : Type 0} (to : Side) (number : ℕ) (carried : C) (ticks : List ℕ) (flights : List (Flight C)) → AreInOrder flights
     → AreInOrder (with_flights to number carried ticks flights)
@@ -182,20 +170,13 @@ in_order_removed (f ∷ flights) zero order = order.1
 in_order_removed (f ∷ flights) (suc i) order = (first_removed f flights i order.0, in_order_removed flights i order.1)
 
 pub in_order_delivered : {C : Type 0} (due : Due) (link : LinkState C) → AreInOrder link.under_way → AreInOrder (after_delivery due link).under_way
-in_order_delivered due link order = by (position (is_due due) link.under_way)
-  where
-    by : (o : Option ℕ) → AreInOrder (without o link.under_way)
-    by None = order
-    by (Some i) = in_order_removed link.under_way i order
+in_order_delivered due link order = elim (position (is_due due) link.under_way) as (λ o. AreInOrder (without o link.under_way))
+    [ None ↦ order | Some i ↦ in_order_removed link.under_way i order ]
 
 pub behind_is : (a b c x y z : ℕ) → a ≤ x → b ≡ y → c ≤ z → before x y z a b c ≡ false
-behind_is a b c x y z tick rank number = by _ refl
+behind_is a b c x y z tick rank number = (elim (before x y z a b c) as (λ t. before x y z a b c ≡ t → t ≡ false) [ false ↦ λ e. refl | true ↦ λ e. never (less_is x y z a b c e) ]) refl
   where
     never : Less x y z a b c → true ≡ false
     never (inl low) = absurd (omega (arith, tick, low))
     never (inr (same, inl low)) = absurd (omega (arith, rank, low))
     never (inr (same, inr (equal, low))) = absurd (omega (arith, number, low))
-
-    by : (t : Bool) → before x y z a b c ≡ t → t ≡ false
-    by false e = refl
-    by true e = never (less_is x y z a b c e)

@@ -7,12 +7,10 @@ use Rattle.link_model.specs.Steps.{comes_before, with_flight}
 use Rattle.link_model.proofs.Order.{before_behind}
 
 pub not_true : (b : Bool) → not b ≡ true → b ≡ false
-not_true true e = sym e
-not_true false e = refl
+not_true = elim [ true ↦ λ e. sym e | false ↦ λ e. refl ]
 
 not_false : (b : Bool) → not b ≡ false → b ≡ true
-not_false true e = refl
-not_false false e = sym e
+not_false = elim [ true ↦ λ e. refl | false ↦ λ e. sym e ]
 
 none_at : {C : Type 0} (g : Flight C) (flights : List (Flight C)) (j : ℕ) (d : Flight C) → IsFirst g flights → j < length flights → comes_before (get_or flights j d) g ≡ false
 none_at g [] j d first within = absurd (omega (arith, within))

@@ -10,7 +10,6 @@ use Rattle.link_script.specs.declared.script.ScriptLine.{ScriptLine}
 use Rattle.link_script.specs.declared.script.ScriptLine.TheVariants.{OnSegment}
 use Rattle.link_script.specs.Places.{same_side}
 use Rattle.link_model.specs.declared.fate.Fate.{Fate}
-use Rattle.link_model.specs.declared.fate.Fate.TheVariants as fate
 use Rattle.link_model.specs.declared.flight.Flight.{Flight}
 use Rattle.link_model.specs.Fate.{is_named, fate_told, told_if, told_or, fate_of}
 use Rattle.link_model.specs.State.{LinkState}
@@ -23,18 +22,17 @@ told_nothing : (b named : Bool) (told : Option Fate) → b ≡ false → told_if
 told_nothing b named told e = ap (λ (t : Bool). told_if (t && named) told) e
 
 nothing_told : (named : Bool) → told_if named None ≡ None
-nothing_told true = refl
-nothing_told false = refl
+nothing_told = elim [ true ↦ refl | false ↦ refl ]
 
 none_told : (from : Side) (number : ℕ) (line : ScriptLine) → moves from line ≡ false → fate_told from number line ≡ None
-none_told from number (OnSegment s Lost) e = told_nothing (same_side s.from from) _ (Some fate.Lost) e
-none_told from number (OnSegment s (Late ticks)) e = told_nothing (same_side s.from from) _ (Some (fate.Late ticks)) e
-none_told from number (OnSegment s (Again ticks)) e = told_nothing (same_side s.from from) _ (Some (fate.Twice ticks)) e
+none_told from number (OnSegment s Lost) e = told_nothing (same_side s.from from) _ (Some Fate.Lost) e
+none_told from number (OnSegment s (Late ticks)) e = told_nothing (same_side s.from from) _ (Some (Fate.Late ticks)) e
+none_told from number (OnSegment s (Again ticks)) e = told_nothing (same_side s.from from) _ (Some (Fate.Twice ticks)) e
 none_told from number (OnSegment s Stripped) e = nothing_told (is_named from number s)
 none_told from number (OnSegment s Altered) e = nothing_told (is_named from number s)
 none_told from number line e = refl
 
-pub on_time : (from : Side) (number : ℕ) (lines : List ScriptLine) → AllByRecursion (λ line. moves from line ≡ false) lines → fate_of from number lines ≡ fate.OnTime
+pub on_time : (from : Side) (number : ℕ) (lines : List ScriptLine) → AllByRecursion (λ line. moves from line ≡ false) lines → fate_of from number lines ≡ Fate.OnTime
 on_time from number [] plain = refl
 on_time from number (line ∷ lines) plain =
     ap (λ (t : Option Fate). told_or t (fate_of from number lines)) (none_told from number line plain.0) ∙ on_time from number lines plain.1
@@ -46,8 +44,7 @@ side_is A B e = absurd cc
 side_is B A e = absurd cc
 
 pub same_as_itself : (a : Side) → same_side a a ≡ true
-same_as_itself A = refl
-same_as_itself B = refl
+same_as_itself = elim [ A ↦ refl | B ↦ refl ]
 
 -- a copy that goes where those went which were sent before arrives before none of them
 sent_behind : {C : Type 0} (k f : Flight C) → k.to ≡ f.to → k.tick ≤ f.tick → k.number ≤ f.number → comes_before f k ≡ false
@@ -78,13 +75,11 @@ goes_last f [] order sent = ap (λ (b : Bool). cond b (f ∷ []) []) (same_as_it
 goes_last f (g ∷ flights) order sent = by (comes_before f g) refl (same_side g.to f.to) refl (goes_last f flights order.1)
   where
     rest_sent : (b : Bool) → WereSentBefore f.number f.tick (cond b (g ∷ going_to f.to flights) (going_to f.to flights)) → WereSentBefore f.number f.tick (going_to f.to flights)
-    rest_sent true sent = sent.1
-    rest_sent false sent = sent
+    rest_sent = elim [ true ↦ λ sent. sent.1 | false ↦ λ sent. sent ]
 
     more : (t : Bool) → going_to f.to (with_flight f flights) ≡ going_to f.to flights ++ f ∷ []
         → cond t (g ∷ going_to f.to (with_flight f flights)) (going_to f.to (with_flight f flights)) ≡ cond t (g ∷ going_to f.to flights) (going_to f.to flights) ++ f ∷ []
-    more true e = ap (λ rest. g ∷ rest) e
-    more false e = e
+    more = elim [ true ↦ λ e. ap (λ rest. g ∷ rest) e | false ↦ λ e. e ]
 
     by : (b : Bool) → comes_before f g ≡ b → (t : Bool) → same_side g.to f.to ≡ t
         → (WereSentBefore f.number f.tick (going_to f.to flights) → going_to f.to (with_flight f flights) ≡ going_to f.to flights ++ f ∷ [])

@@ -1,5 +1,5 @@
 -- Two queues stand for the copies of both in the order of their arrival.
-use Rattle.std.proofs.Common.{◌≡◌, ◌∙◌, refl, sym, ap, ℕ, suc, ◌+◌, Bool, true, false, not, cond, ltb, List, [], ◌∷◌, ◌++◌, length, remove, Some, None, subst, ◌<◌, ◌≤◌, ◌⊎◌, inl, inr, arith, Result, Ok, Err, Option}
+use Rattle.std.proofs.Common.{◌≡◌, ◌∙◌, refl, sym, ap, ℕ, suc, ◌+◌, Bool, true, false, not, cond, ltb, List, [], ◌∷◌, ◌++◌, length, remove, Some, None, subst, ◌<◌, ◌≤◌, ◌⊎◌, inl, inr, arith, Result, Ok, Err}
 use Rattle.std.specs.Prelude.{OnOk, OnErr, find, position, ◌==◌, ◌&&◌}
 use Rattle.std.specs.List.{AllByRecursion, position_or_len}
 use Rattle.std.proofs.lemmas.Bool.{and_parts, false≢true, cases_lt, lt-ltb, le-ltb}
@@ -27,11 +27,8 @@ alone_before f (g ∷ flights) before = ap (λ (b : Bool). cond b (f ∷ g ∷ f
 
 before_going : {C : Type 0} (f : Flight C) (s : Side) (flights : List (Flight C)) → IsBefore f flights → IsBefore f (going_to s flights)
 before_going f s [] before = tt
-before_going f s (g ∷ flights) before = by (same_side g.to s) (before_going f s flights before.1)
-  where
-    by : (b : Bool) → IsBefore f (going_to s flights) → IsBefore f (cond b (g ∷ going_to s flights) (going_to s flights))
-    by true rest = (before.0, rest)
-    by false rest = rest
+before_going f s (g ∷ flights) before = (elim (same_side g.to s) as (λ b. IsBefore f (going_to s flights) → IsBefore f (cond b (g ∷ going_to s flights) (going_to s flights)))
+    [ true ↦ λ rest. (before.0, rest) | false ↦ λ rest. rest ]) (before_going f s flights before.1)
 
 -- a copy that goes elsewhere
 goes_elsewhere : {C : Type 0} (s : Side) (f : Flight C) (flights : List (Flight C)) → same_side f.to s ≡ false → going_to s (with_flight f flights) ≡ going_to s flights
@@ -68,8 +65,7 @@ all_go {C = C} s (f ∷ flights) all =
     ∙ ap (λ (gs : List (Flight C)). f ∷ gs) (all_go s flights all.1)
 
 apart : (s : Side) → same_side s (peer s) ≡ false
-apart A = refl
-apart B = refl
+apart = elim [ A ↦ refl | B ↦ refl ]
 
 none_go : {C : Type 0} (s : Side) (flights : List (Flight C)) → AllByRecursion (λ f. f.to ≡ s) flights → going_to (peer s) flights ≡ []
 none_go s [] all = refl
@@ -86,11 +82,8 @@ passes_by s f flights e = ap (λ (b : Bool). cond b (f ∷ going_to (peer s) fli
 -- what is true of all copies is true of the first that goes to a side
 first_is : {C : Type 0} (P : Flight C → Type 0) (s : Side) (flights : List (Flight C)) (f : Flight C) (more : List (Flight C)) → AllByRecursion P flights → going_to s flights ≡ f ∷ more → P f
 first_is P s [] f more all is = absurd cc
-first_is {C = C} P s (g ∷ flights) f more all is = by (same_side g.to s) (λ e. first_is P s flights f more all.1 e) is
-  where
-    by : (b : Bool) → (going_to s flights ≡ f ∷ more → P f) → cond b (g ∷ going_to s flights) (going_to s flights) ≡ f ∷ more → P f
-    by true rest e = let same : g ≡ f = cc in subst P same all.0
-    by false rest e = rest e
+first_is {C = C} P s (g ∷ flights) f more all is = (elim (same_side g.to s) as (λ b. (going_to s flights ≡ f ∷ more → P f) → cond b (g ∷ going_to s flights) (going_to s flights) ≡ f ∷ more → P f)
+    [ true ↦ λ rest e. let same : g ≡ f = cc in subst P same all.0 | false ↦ λ rest e. rest e ]) (λ e. first_is P s flights f more all.1 e) is
 
 -- ---- two queues in one order
 
@@ -103,16 +96,10 @@ pub record Merges {C : Type 0} (flights to_a to_b : List (Flight C)) : Type 0 wh
 -- there is one such list
 same_flights : {C : Type 0} (l m : List (Flight C)) → AreInOrder l → AreInOrder m → going_to A l ≡ going_to A m → going_to B l ≡ going_to B m → l ≡ m
 same_flights [] [] low high a b = refl
-same_flights [] (g ∷ gs) low high a b = by g.to refl
-  where
-    by : (s : Side) → g.to ≡ s → [] ≡ g ∷ gs
-    by A e = let no : [] ≡ g ∷ going_to A gs = a ∙ goes_first A g gs e in absurd cc
-    by B e = let no : [] ≡ g ∷ going_to B gs = b ∙ goes_first B g gs e in absurd cc
-same_flights (f ∷ fs) [] low high a b = by f.to refl
-  where
-    by : (s : Side) → f.to ≡ s → f ∷ fs ≡ []
-    by A e = let no : [] ≡ f ∷ going_to A fs = sym a ∙ goes_first A f fs e in absurd cc
-    by B e = let no : [] ≡ f ∷ going_to B fs = sym b ∙ goes_first B f fs e in absurd cc
+same_flights [] (g ∷ gs) low high a b = (elim g.to as (λ s. g.to ≡ s → [] ≡ g ∷ gs)
+    [ A ↦ λ e. let no : [] ≡ g ∷ going_to A gs = a ∙ goes_first A g gs e in absurd cc | B ↦ λ e. let no : [] ≡ g ∷ going_to B gs = b ∙ goes_first B g gs e in absurd cc ]) refl
+same_flights (f ∷ fs) [] low high a b = (elim f.to as (λ s. f.to ≡ s → f ∷ fs ≡ [])
+    [ A ↦ λ e. let no : [] ≡ f ∷ going_to A fs = sym a ∙ goes_first A f fs e in absurd cc | B ↦ λ e. let no : [] ≡ f ∷ going_to B fs = sym b ∙ goes_first B f fs e in absurd cc ]) refl
 same_flights {C = C} (f ∷ fs) (g ∷ gs) low high a b = by f.to g.to (λ x y. same_flights fs gs low.1 high.1 x y) refl refl
   where
     both : f ≡ g → fs ≡ gs → f ∷ fs ≡ g ∷ gs
@@ -231,18 +218,14 @@ abbrev removed : {X : Type 0} → (X → Bool) → List X → List X
 removed p xs = cond (ltb (position_or_len p xs) (length xs)) (remove xs (position_or_len p xs)) xs
 
 pub without_is : {C : Type 0} (p : Flight C → Bool) (xs : List (Flight C)) → without (position p xs) xs ≡ removed p xs
-without_is {C = C} p xs = by (ltb (position_or_len p xs) (length xs)) (position_or_len p xs)
-  where
-    by : (b : Bool) (n : ℕ) → without (cond b (Some n) None) xs ≡ cond b (remove xs n) xs
-    by true n = refl
-    by false n = refl
+without_is {C = C} p xs = (elim (ltb (position_or_len p xs) (length xs)) as (λ b. (n : ℕ) → without (cond b (Some n) None) xs ≡ cond b (remove xs n) xs)
+    [ true ↦ λ n. refl | false ↦ λ n. refl ]) (position_or_len p xs)
 
 removed_first : {X : Type 0} (p : X → Bool) (x : X) (xs : List X) → removed p (x ∷ xs) ≡ cond (p x) xs (x ∷ removed p xs)
 removed_first {X = X} p x xs = by (p x) (position_or_len p xs) (length xs)
   where
     later : (b : Bool) (m : ℕ) → cond b (x ∷ remove xs m) (x ∷ xs) ≡ x ∷ cond b (remove xs m) xs
-    later true m = refl
-    later false m = refl
+    later = elim [ true ↦ λ m. refl | false ↦ λ m. refl ]
 
     one : (m : ℕ) → 1 + m ≡ suc m
     one m = omega arith
@@ -288,15 +271,11 @@ all_removed P p [] all = tt
 all_removed P p (x ∷ xs) all = subst (AllByRecursion P) (sym (removed_first p x xs)) (by (p x) (all_removed P p xs all.1))
   where
     by : (b : Bool) → AllByRecursion P (removed p xs) → AllByRecursion P (cond b xs (x ∷ removed p xs))
-    by true rest = all.1
-    by false rest = (all.0, rest)
+    by = elim [ true ↦ λ rest. all.1 | false ↦ λ rest. (all.0, rest) ]
 
 order_removed : {C : Type 0} (p : Flight C → Bool) (xs : List (Flight C)) → AreInOrder xs → AreInOrder (removed p xs)
-order_removed p xs order = by (ltb (position_or_len p xs) (length xs))
-  where
-    by : (b : Bool) → AreInOrder (cond b (remove xs (position_or_len p xs)) xs)
-    by true = in_order_removed xs (position_or_len p xs) order
-    by false = order
+order_removed p xs order = elim (ltb (position_or_len p xs) (length xs)) as (λ b. AreInOrder (cond b (remove xs (position_or_len p xs)) xs))
+    [ true ↦ in_order_removed xs (position_or_len p xs) order | false ↦ order ]
 
 queue_removed : {C : Type 0} (p : Flight C → Bool) (s : Side) (xs : List (Flight C)) → IsQueue s xs → IsQueue s (removed p xs)
 queue_removed p s xs q = record { order = order_removed p xs q.order; all = all_removed (λ f. f.to ≡ s) p xs q.all }
@@ -361,7 +340,8 @@ found_to_b due xs ys e q r =
 
 due_first : {C : Type 0} (l xs ys : List (Flight C)) → Merges l xs ys → IsQueue A xs → IsQueue B ys → next_due l ≡ first_due xs ys
 due_first [] xs ys h q r = ap (λ (zs : List (Flight _)). first_due zs []) h.a ∙ ap (λ (zs : List (Flight _)). first_due xs zs) h.b
-due_first {C = C} (f ∷ fs) xs ys h q r = by f.to refl
+due_first {C = C} (f ∷ fs) xs ys h q r = (elim f.to as (λ s. f.to ≡ s → Some (due_of f) ≡ first_due xs ys)
+    [ A ↦ λ e. among xs ys (sym h.a ∙ goes_first A f fs e) (sym (passes_by A f fs e) ∙ h.b) e r | B ↦ λ e. behind xs ys (sym h.b ∙ goes_first B f fs e) (sym (passes_by B f fs e) ∙ h.a) ]) refl
   where
     among : (xs ys : List (Flight C)) → xs ≡ f ∷ going_to A fs → going_to B fs ≡ ys → f.to ≡ A → IsQueue B ys → Some (due_of f) ≡ first_due xs ys
     among [] ys is rest e r = absurd cc
@@ -374,8 +354,7 @@ due_first {C = C} (f ∷ fs) xs ys h q r = by f.to refl
         (sym (ap (λ (b : Bool). cond b (Some (due_of f)) (Some (due_of g))) first))
       where
         low : (b : Bool) → comes_before f g ≡ b → comes_before g f ≡ false → f.to ≡ A → g.to ≡ B → comes_before f g ≡ true
-        low true e later fa gb = e
-        low false e later fa gb = absurd (one_is_first f g fa gb e later)
+        low = elim [ true ↦ λ e later fa gb. e | false ↦ λ e later fa gb. absurd (one_is_first f g fa gb e later) ]
 
     behind : (xs ys : List (Flight C)) → ys ≡ f ∷ going_to B fs → going_to A fs ≡ xs → Some (due_of f) ≡ first_due xs ys
     behind xs [] is rest = absurd cc
@@ -385,10 +364,6 @@ due_first {C = C} (f ∷ fs) xs ys h q r = by f.to refl
         let later : comes_before g f ≡ false = first_is (λ h. comes_before h f ≡ false) A fs g xs h.order.0 rest in
         subst (λ (z : Flight C). Some (due_of f) ≡ cond (comes_before g z) (Some (due_of g)) (Some (due_of z))) (sym same)
         (sym (ap (λ (b : Bool). cond b (Some (due_of g)) (Some (due_of f))) later))
-
-    by : (s : Side) → f.to ≡ s → Some (due_of f) ≡ first_due xs ys
-    by A e = among xs ys (sym h.a ∙ goes_first A f fs e) (sym (passes_by A f fs e) ∙ h.b) e r
-    by B e = behind xs ys (sym h.b ∙ goes_first B f fs e) (sym (passes_by B f fs e) ∙ h.a)
 
 pub due_of_both : {C : Type 0} (xs ys : List (Flight C)) → IsQueue A xs → IsQueue B ys → first_due xs ys ≡ next_due (merged xs ys)
 due_of_both xs ys q r = sym (due_first (merged xs ys) xs ys (merged_is xs ys q r) q r)

@@ -11,7 +11,6 @@ use Rattle.link_script.specs.declared.script.ScriptLine.TheVariants.{OnSegment}
 use Rattle.link_script.specs.Places.{path_named}
 use Rattle.link_script.specs.Scripts.{HasRanges, IsEvent}
 use Rattle.link_model.specs.declared.fate.Fate.{Fate}
-use Rattle.link_model.specs.declared.fate.Fate.TheVariants as fate
 use Rattle.link_model.specs.Fate.{is_named, fate_told, told_if, told_or, fate_of, ticks_of}
 use Rattle.link_model.specs.State.{HasLimits, ticks_told}
 use Rattle.link_model.specs.Steps.{delay_of, is_path, lines_of}
@@ -38,18 +37,16 @@ limits_of script path d ranges within =
     }
 
 told_is_short : (b : Bool) (f other : Fate) → ticks_of f ≤ 100000 → ticks_of other ≤ 100000 → ticks_of (told_or (told_if b (Some f)) other) ≤ 100000
-told_is_short true f other short rest = short
-told_is_short false f other short rest = rest
+told_is_short = elim [ true ↦ λ f other short rest. short | false ↦ λ f other short rest. rest ]
 
 none_is_short : (b : Bool) (other : Fate) → ticks_of other ≤ 100000 → ticks_of (told_or (told_if b None) other) ≤ 100000
-none_is_short true other rest = rest
-none_is_short false other rest = rest
+none_is_short = elim [ true ↦ λ other rest. rest | false ↦ λ other rest. rest ]
 
 fate_is_short : (from : Side) (number : ℕ) (line : ScriptLine) (other : Fate) → ticks_told line ≤ 100000 → ticks_of other ≤ 100000
     → ticks_of (told_or (fate_told from number line) other) ≤ 100000
-fate_is_short from number (OnSegment s Lost) other short rest = told_is_short (is_named from number s) fate.Lost other (omega arith) rest
-fate_is_short from number (OnSegment s (Late ticks)) other short rest = told_is_short (is_named from number s) (fate.Late ticks) other short rest
-fate_is_short from number (OnSegment s (Again ticks)) other short rest = told_is_short (is_named from number s) (fate.Twice ticks) other short rest
+fate_is_short from number (OnSegment s Lost) other short rest = told_is_short (is_named from number s) Fate.Lost other (omega arith) rest
+fate_is_short from number (OnSegment s (Late ticks)) other short rest = told_is_short (is_named from number s) (Fate.Late ticks) other short rest
+fate_is_short from number (OnSegment s (Again ticks)) other short rest = told_is_short (is_named from number s) (Fate.Twice ticks) other short rest
 fate_is_short from number (OnSegment s Stripped) other short rest = none_is_short (is_named from number s) other rest
 fate_is_short from number (OnSegment s Altered) other short rest = none_is_short (is_named from number s) other rest
 fate_is_short from number line other short rest = rest

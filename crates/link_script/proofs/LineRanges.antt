@@ -10,12 +10,10 @@ use Rattle.link_script.specs.declared.fault.ScriptKind.TheVariants.{Word, Number
 use Rattle.link_script.specs.declared.limits.Limits.{Limits}
 use Rattle.link_script.specs.Ranges.{seeds, buffers, path_numbers, first_path_number, segment_sizes, delays, segment_numbers, latenesses, run_ticks, address_ids}
 use Rattle.link_script.specs.declared.line.Line.{Line}
-use Rattle.link_script.specs.declared.line.Line.TheVariants as line
 use Rattle.link_script.specs.declared.script.Happens.{Happens}
 use Rattle.link_script.specs.declared.script.Happens.TheVariants.{Lost, Late, Again, Stripped, Altered}
 use Rattle.link_script.specs.declared.script.Segment.{Segment}
 use Rattle.link_script.specs.declared.word.Keyword.{Keyword}
-use Rattle.link_script.specs.declared.word.Keyword.TheVariants as first
 use Rattle.link_script.specs.Lines.{seed_line, checksum_line, short_line, buffer_line, path_options, may_have, path_of, path_line, segment, ticks_word, with_ticks, on_segment_line, strip_all_line, die_line, prio_line, add_line, remove_line, fast_close_line, end_line, line_after, line_of}
 use Rattle.link_script.specs.Numbers.{is_numeral, is_within, within}
 use Rattle.link_script.specs.Scripts.{IsInRange, IsPath, IsHappening, IsEvent}
@@ -28,14 +26,14 @@ most_paths = path_numbers.most + 1
 
 -- a line by itself
 abbrev pub IsLine : Line → Type 0
-IsLine line.Header = Unit {0}
-IsLine (line.Seed n) = IsInRange seeds n
-IsLine (line.Checksum on) = Unit {0}
-IsLine (line.Short on) = Unit {0}
-IsLine (line.Buffer octets) = IsInRange buffers octets
-IsLine (line.Path index path) = (index < most_paths) × IsPath path × (index ≡ 0 → (path.join ≡ 0) × (path.backup ≡ false))
-IsLine (line.Event event) = IsEvent most_paths event
-IsLine line.End = Unit {0}
+IsLine Line.Header = Unit {0}
+IsLine (Line.Seed n) = IsInRange seeds n
+IsLine (Line.Checksum on) = Unit {0}
+IsLine (Line.Short on) = Unit {0}
+IsLine (Line.Buffer octets) = IsInRange buffers octets
+IsLine (Line.Path index path) = (index < most_paths) × IsPath path × (index ≡ 0 → (path.join ≡ 0) × (path.backup ≡ false))
+IsLine (Line.Event event) = IsEvent most_paths event
+IsLine Line.End = Unit {0}
 
 abbrev Holds : {A : Type 0} → Result A ScriptKind → (A → Type 0) → Type 0
 Holds r P = IfOk r P
@@ -250,23 +248,23 @@ fast_close_holds (which ∷ tick ∷ m ∷ words) = tt
 -- ---- any line
 
 after_keyword : (which : Keyword) (words : List (List ℕ)) → Holds (line_after which words) IsLine
-after_keyword first.Seed words = seed_holds words
-after_keyword first.Checksum words = checksum_holds words
-after_keyword first.Short words = short_holds words
-after_keyword first.Buffer words = buffer_holds words
-after_keyword first.Path words = path_holds words
-after_keyword first.Drop words = on_segment_holds Lost words
-after_keyword first.Strip words = on_segment_holds Stripped words
-after_keyword first.Alter words = on_segment_holds Altered words
-after_keyword first.Dup words = on_segment_holds (Again 0) words
-after_keyword first.Late words = on_segment_holds (Late 0) words
-after_keyword first.StripAll words = strip_all_holds words
-after_keyword first.Die words = die_holds words
-after_keyword first.Prio words = prio_holds words
-after_keyword first.Add words = add_holds words
-after_keyword first.Remove words = remove_holds words
-after_keyword first.FastClose words = fast_close_holds words
-after_keyword first.End words = end_holds words
+after_keyword Keyword.Seed words = seed_holds words
+after_keyword Keyword.Checksum words = checksum_holds words
+after_keyword Keyword.Short words = short_holds words
+after_keyword Keyword.Buffer words = buffer_holds words
+after_keyword Keyword.Path words = path_holds words
+after_keyword Keyword.Drop words = on_segment_holds Lost words
+after_keyword Keyword.Strip words = on_segment_holds Stripped words
+after_keyword Keyword.Alter words = on_segment_holds Altered words
+after_keyword Keyword.Dup words = on_segment_holds (Again 0) words
+after_keyword Keyword.Late words = on_segment_holds (Late 0) words
+after_keyword Keyword.StripAll words = strip_all_holds words
+after_keyword Keyword.Die words = die_holds words
+after_keyword Keyword.Prio words = prio_holds words
+after_keyword Keyword.Add words = add_holds words
+after_keyword Keyword.Remove words = remove_holds words
+after_keyword Keyword.FastClose words = fast_close_holds words
+after_keyword Keyword.End words = end_holds words
 
 line_holds : (words : List (List ℕ)) → Holds (line_of words) IsLine
 unfolding line_of

@@ -9,9 +9,7 @@ use Rattle.std.proofs.lemmas.List.Folds.{list_any-append}
 use Rattle.std.proofs.lemmas.List.Sums.{fold-append, sum_by-append}
 use Rattle.octet_text.specs.Lines.{text_lines}
 use Rattle.link_script.specs.declared.fault.ScriptFault.{ScriptFault}
-use Rattle.link_script.specs.declared.fault.ScriptFault.TheVariants as fault
 use Rattle.link_script.specs.declared.fault.ScriptKind.{ScriptKind}
-use Rattle.link_script.specs.declared.fault.ScriptKind.TheVariants as kind
 use Rattle.link_script.specs.Ranges.{most_lines}
 use Rattle.link_script.specs.declared.line.Line.{Line}
 use Rattle.link_script.specs.declared.line.Line.TheVariants.{Header, Seed, Checksum, Short, Buffer, Path, Event, End}
@@ -81,14 +79,8 @@ count_push : (seen : List Line) (line : Line) → count_by is_path (seen ++ line
 count_push seen line = omega (arith, sum_by-append (λ l. cond (is_path l) 1 0) seen (line ∷ []))
 
 count_line : (script : Script) (line : Line) → length script.paths + cond (is_path line) 1 0 ≡ length (with_line script line).paths
-count_line script Header = omega arith
-count_line script (Seed n) = omega arith
-count_line script (Checksum on) = omega arith
-count_line script (Short on) = omega arith
-count_line script (Buffer octets) = omega arith
 count_line script (Path index path) = omega (arith, length_push script.paths path)
-count_line script (Event event) = omega arith
-count_line script End = omega arith
+count_line script _ = omega arith
 
 new_line : (script : Script) (line next : Line) → IsNew script next → settle_one line next ≡ false → IsNew (with_line script line) next
 new_line script Header next new apart = new
@@ -103,14 +95,8 @@ new_line script End next new apart = new
 
 -- only `end` closes a script
 closing : (script : Script) (line : Line) (n : ℕ) → is_misplaced (length script.paths) line ≡ false → is_end line ≡ true → size script + 1 ≤ n → (0 < length (with_line script line).paths) × (size (with_line script line) + 1 ≤ n)
-closing script Header n m e room = absurd (false≢true e)
-closing script (Seed k) n m e room = absurd (false≢true e)
-closing script (Checksum on) n m e room = absurd (false≢true e)
-closing script (Short on) n m e room = absurd (false≢true e)
-closing script (Buffer octets) n m e room = absurd (false≢true e)
-closing script (Path index path) n m e room = absurd (false≢true e)
-closing script (Event event) n m e room = absurd (false≢true e)
 closing script End n m e room = let some = eqb-false _ _ m in (omega arith, room)
+closing script _ n m e room = absurd (false≢true e)
 
 last_of : (seen : List Line) (line : Line) → list_any is_end seen ≡ false → list_any is_end (seen ++ line ∷ []) ≡ true → is_end line ≡ true
 last_of seen line none e =
@@ -160,17 +146,14 @@ ok_line line = Ok line
 
 placed_ok : (seen : List Line) (line next : Line) → in_place seen line ≡ Ok next → (is_out_of_order seen line ≡ false) × (is_repeated seen line ≡ false) × (line ≡ next)
 placed_ok seen line next e =
-    let order = not_refused (is_out_of_order seen line) kind.Order (cond (is_repeated seen line) (Err kind.Repeated) (Ok line)) next e in
-    let repeated = not_refused (is_repeated seen line) kind.Repeated (ok_line line) next order.1 in
+    let order = not_refused (is_out_of_order seen line) ScriptKind.Order (cond (is_repeated seen line) (Err ScriptKind.Repeated) (Ok line)) next e in
+    let repeated = not_refused (is_repeated seen line) ScriptKind.Repeated (ok_line line) next order.1 in
     let same : ok_line line ≡ ok_line next = repeated.1 in
     (order.0, repeated.0, cc)
 
 first_ok : (text : List ℕ) (line : Line) → first_line text ≡ Ok line → Header ≡ line
-first_ok text line e = is_header (bytes_eq text (codes "mptcp-script 1")) e
-  where
-    is_header : (b : Bool) → cond b (ok_line Header) (Err kind.Header) ≡ Ok line → Header ≡ line
-    is_header true h = cc
-    is_header false h = absurd cc
+first_ok text line e = (elim (bytes_eq text (codes "mptcp-script 1")) as (λ b. cond b (ok_line Header) (Err ScriptKind.Header) ≡ Ok line → Header ≡ line)
+    [ true ↦ λ h. cc | false ↦ λ h. absurd cc ]) e
 
 script_push : (seen : List Line) (line : Line) → script_of (seen ++ line ∷ []) ≡ with_line (script_of seen) line
 script_push seen line = fold-append with_line blank seen (line ∷ [])
@@ -219,7 +202,7 @@ over_or_read false seen now r e = inr e
 sound_step : (number : ℕ) (seen : List Line) (text : List ℕ) (now : List Line) → Sound number seen (script_of seen) → seen_after number seen text ≡ Ok now → Sound (suc number) now (script_of now)
 unfolding seen_after
 sound_step number seen text now h e =
-    let few = not_refused (nat_lt most_lines number) (fault.Line number kind.TooMany) _ now e in
+    let few = not_refused (nat_lt most_lines number) (ScriptFault.Line number ScriptKind.TooMany) _ now e in
     let low = ltb-false most_lines number few.0 in
     let P : List Line → Type 0 = λ lines. Sound (suc number) lines (script_of lines) in
     elim (over_or_read (is_passed_over text) seen now _ few.1) [
@@ -234,7 +217,7 @@ sound_end : (number : ℕ) (seen all : List Line) → Sound number seen (script_
 unfolding read_on
 sound_end number seen all h e = whole (list_any is_end seen) refl e
   where
-    whole : (b : Bool) → list_any is_end seen ≡ b → cond b (ok_lines seen) (Err (fault.Line number kind.Missing)) ≡ Ok all → (m : ℕ) × Sound m all (script_of all) × (list_any is_end all ≡ true)
+    whole : (b : Bool) → list_any is_end seen ≡ b → cond b (ok_lines seen) (Err (ScriptFault.Line number ScriptKind.Missing)) ≡ Ok all → (m : ℕ) × Sound m all (script_of all) × (list_any is_end all ≡ true)
     whole true at same = let one : ok_lines seen ≡ ok_lines all = same in subst (λ (lines : List Line). (m : ℕ) × Sound m lines (script_of lines) × (list_any is_end lines ≡ true)) (cc) (number, h, at)
     whole false at same = absurd cc
 

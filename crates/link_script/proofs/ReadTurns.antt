@@ -5,7 +5,6 @@ use Rattle.std.proofs.lemmas.Bool.{eqb-true}
 use Rattle.std.proofs.lemmas.List.{nil_from_length}
 use Rattle.octet_text.specs.Lines.{text_lines}
 use Rattle.link_script.specs.declared.fault.ScriptFault.{ScriptFault}
-use Rattle.link_script.specs.declared.fault.ScriptFault.TheVariants as fault
 use Rattle.link_script.specs.declared.fault.ScriptKind.TheVariants.{Missing}
 use Rattle.link_script.specs.declared.line.Line.{Line}
 use Rattle.link_script.specs.Places.{is_end}
@@ -24,9 +23,9 @@ pub stops : (fault : ScriptFault) (number : ℕ) (seen : List Line) (rest line a
     → text_lines rest ≡ line ∷ text_lines after → Fails fault (seen_after number seen line)
     → read_on number seen (text_lines rest) ≡ whole → Fails fault whole
 unfolding read_on
-stops fault.Memory number seen rest line after whole cut refused so_far = tt
-stops (fault.Line n k) number seen rest line after whole cut refused so_far =
-    let one : read_on number seen (text_lines rest) ≡ Err (fault.Line n k) = rw (cut, refused) refl in
+stops ScriptFault.Memory number seen rest line after whole cut refused so_far = tt
+stops (ScriptFault.Line n k) number seen rest line after whole cut refused so_far =
+    let one : read_on number seen (text_lines rest) ≡ Err (ScriptFault.Line n k) = rw (cut, refused) refl in
     sym so_far ∙ one
 
 at_end : (number : ℕ) (seen : List Line) (rest : List ℕ) → eqb (length rest) 0 ≡ true → read_on number seen (text_lines rest) ≡ read_on number seen []
@@ -34,10 +33,10 @@ at_end number seen rest empty =
     ap (λ (rest : List ℕ). read_on number seen (text_lines rest)) (nil_from_length rest (eqb-true _ _ empty))
 
 pub misses : (number : ℕ) (seen : List Line) (rest : List ℕ) (whole : Result (List Line) ScriptFault)
-    → eqb (length rest) 0 ≡ true → list_any is_end seen ≡ false → read_on number seen (text_lines rest) ≡ whole → whole ≡ Err (fault.Line number Missing)
+    → eqb (length rest) 0 ≡ true → list_any is_end seen ≡ false → read_on number seen (text_lines rest) ≡ whole → whole ≡ Err (ScriptFault.Line number Missing)
 unfolding read_on
 misses number seen rest whole empty goes so_far =
-    let last : read_on number seen [] ≡ Err (fault.Line number Missing) = rw goes refl in
+    let last : read_on number seen [] ≡ Err (ScriptFault.Line number Missing) = rw goes refl in
     sym so_far ∙ at_end number seen rest empty ∙ last
 
 pub ends : (number : ℕ) (seen : List Line) (rest : List ℕ) (whole : Result (List Line) ScriptFault)

@@ -138,11 +138,8 @@ abbrev made : ℕ → Bool → Bool → ℕ → List PathLine → List ScriptLin
 made seed checksum short buffer paths lines = record { seed = seed; checksum = checksum; short = short; buffer = buffer; paths = paths; lines = lines }
 
 seed_said : (n : ℕ) → fold with_line blank (seed_lines n) ≡ made n false false 65536 [] []
-seed_said n = by (eqb n 1) refl
-  where
-    by : (b : Bool) → eqb n 1 ≡ b → fold with_line blank (cond b [] (Seed n ∷ [])) ≡ made n false false 65536 [] []
-    by true e = ap (λ (k : ℕ). made k false false 65536 [] []) (sym (eqb-true n 1 e))
-    by false e = refl
+seed_said n = (elim (eqb n 1) as (λ b. eqb n 1 ≡ b → fold with_line blank (cond b [] (Seed n ∷ [])) ≡ made n false false 65536 [] [])
+    [ true ↦ λ e. ap (λ (k : ℕ). made k false false 65536 [] []) (sym (eqb-true n 1 e)) | false ↦ λ e. refl ]) refl
 
 checksum_said : (n : ℕ) (on : Bool) → fold with_line (made n false false 65536 [] []) (checksum_lines on) ≡ made n on false 65536 [] []
 checksum_said n true = refl
@@ -153,11 +150,8 @@ short_said n on true = refl
 short_said n on false = refl
 
 buffer_said : (n : ℕ) (on low : Bool) (octets : ℕ) → fold with_line (made n on low 65536 [] []) (buffer_lines octets) ≡ made n on low octets [] []
-buffer_said n on low octets = by (eqb octets 65536) refl
-  where
-    by : (b : Bool) → eqb octets 65536 ≡ b → fold with_line (made n on low 65536 [] []) (cond b [] (Buffer octets ∷ [])) ≡ made n on low octets [] []
-    by true e = ap (λ (k : ℕ). made n on low k [] []) (sym (eqb-true octets 65536 e))
-    by false e = refl
+buffer_said n on low octets = (elim (eqb octets 65536) as (λ b. eqb octets 65536 ≡ b → fold with_line (made n on low 65536 [] []) (cond b [] (Buffer octets ∷ [])) ≡ made n on low octets [] [])
+    [ true ↦ λ e. ap (λ (k : ℕ). made n on low k [] []) (sym (eqb-true octets 65536 e)) | false ↦ λ e. refl ]) refl
 
 paths_said : (n : ℕ) (on low : Bool) (octets index : ℕ) (before paths : List PathLine) → fold with_line (made n on low octets before []) (path_lines index paths) ≡ made n on low octets (before ++ paths) []
 paths_said n on low octets index before [] = ap (λ (paths : List PathLine). made n on low octets paths []) (sym (append-nil before))

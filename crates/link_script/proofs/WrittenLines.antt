@@ -96,20 +96,19 @@ event_again (Remove which id tick) h = rw (side_again which, again address_ids i
 event_again (FastClose which tick) h = rw (side_again which, again run_ticks tick (omega arith) h) refl
 
 plain_happening : (s : Segment) (happens : Happens) → IsEvent most_paths (OnSegment s happens) → ArePlain (event_words (OnSegment s happens))
-plain_happening s happens h = by happens h.2
+plain_happening s happens h = (elim happens as (λ happens. IsHappening happens → ArePlain (happens_words happens (segment_words s))) [
+  | Lost ↦ λ _. (refl, (path, (plain_direction s.from, (number, tt))))
+  | Late ticks ↦ λ late. (refl, (path, (plain_direction s.from, (number, (plain_within latenesses ticks (omega arith) late, tt)))))
+  | Again ticks ↦ λ late. (refl, (path, (plain_direction s.from, (number, (plain_within latenesses ticks (omega arith) late, tt)))))
+  | Stripped ↦ λ _. (refl, (path, (plain_direction s.from, (number, tt))))
+  | Altered ↦ λ _. (refl, (path, (plain_direction s.from, (number, tt))))
+]) h.2
   where
     path : IsPlain (decimal s.path)
     path = plain_path s.path h.0
 
     number : IsPlain (decimal s.number)
     number = plain_within segment_numbers s.number (omega arith) h.1
-
-    by : (happens : Happens) → IsHappening happens → ArePlain (happens_words happens (segment_words s))
-    by Lost _ = (refl, (path, (plain_direction s.from, (number, tt))))
-    by (Late ticks) late = (refl, (path, (plain_direction s.from, (number, (plain_within latenesses ticks (omega arith) late, tt)))))
-    by (Again ticks) late = (refl, (path, (plain_direction s.from, (number, (plain_within latenesses ticks (omega arith) late, tt)))))
-    by Stripped _ = (refl, (path, (plain_direction s.from, (number, tt))))
-    by Altered _ = (refl, (path, (plain_direction s.from, (number, tt))))
 
 plain_event : (event : ScriptLine) → IsEvent most_paths event → ArePlain (event_words event)
 plain_event (OnSegment s happens) h = plain_happening s happens h

@@ -177,9 +177,7 @@ there paths (OnSegment segment happens) some h = lt-leb paths segment.path h.0
 there paths (StripAll path from tick) some h = lt-leb paths path h.0
 there paths (Die path tick) some h = lt-leb paths path h.0
 there paths (Prio path side tick on) some h = lt-leb paths path h.0
-there paths (Add id tick) some h = ne_eqb paths 0 (λ z. omega arith)
-there paths (Remove side id tick) some h = ne_eqb paths 0 (λ z. omega arith)
-there paths (FastClose side tick) some h = ne_eqb paths 0 (λ z. omega arith)
+there paths _ some h = ne_eqb paths 0 (λ z. omega arith)
 
 -- what stands before a event
 record Ready (seen : List Line) (paths : ℕ) (events : List ScriptLine) : Type 0 where

@@ -1,11 +1,11 @@
 -- How many places are carried, by the runs of their marks, and that there is room for a payload.
-use Rattle.std.proofs.Common.{◌≡◌, refl, sym, ◌∙◌, ap, ℕ, zero, suc, ◌+◌, ◌-◌, ◌*◌, ◌^◌, ◌<◌, ◌≤◌, min, ◌⊎◌, inl, inr, Bool, true, false, cond, if◌then◌else◌, List, [], ◌∷◌, ◌++◌, take, length, length-append, replicate, count_by, arith}
+use Rattle.std.proofs.Common.{◌≡◌, refl, ◌∙◌, ap, ℕ, zero, suc, ◌+◌, ◌-◌, ◌*◌, ◌^◌, ◌<◌, ◌≤◌, min, ◌⊎◌, inl, inr, Bool, true, false, cond, if◌then◌else◌, List, [], ◌∷◌, ◌++◌, take, length-append, replicate, count_by, arith}
 use Rattle.std.proofs.lemmas.Bool.{cases_lt}
 use Rattle.std.proofs.lemmas.List.{length-replicate}
 use Rattle.std.proofs.lemmas.List.Folds.{sum_by-replicate}
 use Rattle.std.proofs.lemmas.List.Sums.{sum_by-append}
 use Rattle.range_marks.specs.declared.run.Run.{Run}
-use Rattle.range_marks.specs.Marks.{Marks, after_extend, marks_len}
+use Rattle.range_marks.specs.Marks.{Marks, marks_len}
 use Rattle.range_marks.specs.Runs.{AreRunsOf, LieSideBySide, marks_of}
 use Rattle.range_marks.proofs.Cutting.{take_in_run, take_run}
 use Rattle.range_marks.proofs.SideBySide.{side_by_side-le}
@@ -45,11 +45,8 @@ taken_count edge from run marks is some = by (cases_lt edge run.to)
 
 carried_in-count : (edge : ℕ) (runs : List (Run Bool)) (from to others : ℕ) → LieSideBySide from to runs → others ≤ from → to < 2 ^ 63
     → carried_in edge others runs ≡ others + carried_count (take (edge - from) (marks_of runs))
-carried_in-count edge [] from to others lie few bound = none (edge - from)
-  where
-    none : (k : ℕ) → others ≡ others + carried_count (take k [])
-    none zero = omega arith
-    none (suc k) = omega arith
+carried_in-count edge [] from to others lie few bound = elim (edge - from) as (λ k. others ≡ others + carried_count (take k []))
+    [ zero ↦ omega arith | suc k ↦ omega arith ]
 carried_in-count edge (run ∷ runs) from to others lie few bound =
     by run.mark refl (λ k. carried_in-count edge runs run.to to k lie.2)
   where

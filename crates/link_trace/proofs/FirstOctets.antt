@@ -1,10 +1,10 @@
 -- The octets that were sent for the first time are as many as the places that were carried.
-use Rattle.std.proofs.Common.{◌≡◌, refl, sym, ◌∙◌, ap, subst, ℕ, zero, suc, ◌+◌, ◌-◌, ◌*◌, ◌==◌, ◌^◌, ◌<◌, ◌≤◌, min, max, ◌⊎◌, inl, inr, ⊎_elim, Bool, true, false, cond, if◌then◌else◌, Option, Some, None, List, [], ◌∷◌, ◌++◌, take, drop, filter, length, length-append, length-take, length-drop, replicate, sum_by, arith}
+use Rattle.std.proofs.Common.{◌≡◌, refl, sym, ◌∙◌, ap, subst, ℕ, zero, suc, ◌+◌, ◌-◌, ◌*◌, ◌==◌, ◌^◌, ◌<◌, ◌≤◌, ◌⊎◌, inl, inr, ⊎_elim, Bool, true, false, cond, if◌then◌else◌, Option, Some, None, List, [], ◌∷◌, ◌++◌, take, drop, filter, length, length-append, length-take, replicate, sum_by, arith}
 use Rattle.std.specs.List.{slice_get}
 use Rattle.std.proofs.lemmas.Bool.{eq-eqb, eqb-false, eqb-true, ne_eqb}
 use Rattle.std.proofs.lemmas.List.{length-replicate}
 use Rattle.std.proofs.lemmas.List.Folds.{sum_by-replicate}
-use Rattle.std.proofs.lemmas.List.Sums.{count_by-le-length, sum_by-append, sum_by-cons, sum_by-take-drop}
+use Rattle.std.proofs.lemmas.List.Sums.{count_by-le-length, sum_by-append, sum_by-cons}
 use Rattle.std.proofs.lemmas.Option.{same_Some}
 use Rattle.sides.specs.declared.side.Side.{Side}
 use Rattle.sides.specs.declared.side.Side.TheVariants.{A, B}
@@ -12,9 +12,9 @@ use Rattle.link_script.specs.Places.{same_side}
 use Rattle.range_marks.specs.Marks.{Marks, after_mark, marks_len, no_marks}
 use Rattle.link_trace.specs.declared.carried.Carried.{Carried}
 use Rattle.link_trace.specs.declared.rows.Rates.{Rates}
-use Rattle.link_trace.specs.FirstOctets.{EachEndsBy, EndsBy, FirstOctetsAreThePlaces, HasOctet, OneHasOctet}
+use Rattle.link_trace.specs.FirstOctets.{EachEndsBy, EndsBy, FirstOctetsAreThePlaces, OneHasOctet}
 use Rattle.link_trace.specs.Places.{carried_below, grown, repeated, with_carried, with_payload}
-use Rattle.link_trace.specs.Rows.{capped, first_octets_from, fresh_behind, fresh_by, is_from, rows_behind, rows_of}
+use Rattle.link_trace.specs.Rows.{capped, first_octets_from, fresh_behind, is_from, rows_behind}
 
 -- ---- sums over paths
 
@@ -54,11 +54,8 @@ sums_one at x path (suc more) from to = by (at == path) refl (sums_one at x (pat
         let later = rest past (omega (arith, to)) in omega (arith, here, later)
       where
         by_apart : (at ≡ path → ⊥) → path + 1 ≤ at
-        by_apart apart = less (at - path) refl
-          where
-            less : (d : ℕ) → at - path ≡ d → path + 1 ≤ at
-            less zero is = absurd (apart (omega (arith, is, from)))
-            less (suc d) is = omega (arith, is)
+        by_apart apart = (elim (at - path) as (λ d. at - path ≡ d → path + 1 ≤ at)
+            [ zero ↦ λ is. absurd (apart (omega (arith, is, from))) | suc d ↦ λ is. omega (arith, is) ]) refl
 
 sums_capped : (f : ℕ → ℕ) (path more : ℕ) → sums path more f < 2 ^ 64 → sums path more (λ p. capped (f p)) ≡ sums path more f
 sums_capped f path zero small = refl
@@ -367,22 +364,18 @@ side_same B A is = cc
 
 direction_lies : (paths n : ℕ) (side : Side) (cs : List Carried) → EachEndsBy paths n side cs → Lie paths n (filter (is_from side) cs)
 direction_lies paths n side [] each = tt
-direction_lies paths n side (c ∷ cs) each = by (is_from side c) refl (direction_lies paths n side cs each.1)
-  where
-    by : (b : Bool) → is_from side c ≡ b → Lie paths n (filter (is_from side) cs) → Lie paths n (if b then c ∷ filter (is_from side) cs else filter (is_from side) cs)
-    by true is rest = (each.0 (same_side_is c.from side is), rest)
-    by false is rest = rest
+direction_lies paths n side (c ∷ cs) each =
+    (elim (is_from side c) as (λ b. is_from side c ≡ b → Lie paths n (filter (is_from side) cs) → Lie paths n (if b then c ∷ filter (is_from side) cs else filter (is_from side) cs))
+    [ true ↦ λ is rest. (each.0 (same_side_is c.from side is), rest) | false ↦ λ is rest. rest ]) refl (direction_lies paths n side cs each.1)
 
 direction_has : (side : Side) (at : ℕ) (cs : List Carried) → OneHasOctet side at cs → Some_has at (filter (is_from side) cs)
 direction_has side at [] has = absurd has
 direction_has side at (c ∷ cs) (inl here) =
     subst (λ (b : Bool). Some_has at (if b then c ∷ filter (is_from side) cs else filter (is_from side) cs)) (sym (side_same c.from side here.from))
     (inl (here.place, (here.told, (here.below, here.above))))
-direction_has side at (c ∷ cs) (inr later) = by (is_from side c) (direction_has side at cs later)
-  where
-    by : (b : Bool) → Some_has at (filter (is_from side) cs) → Some_has at (if b then c ∷ filter (is_from side) cs else filter (is_from side) cs)
-    by true rest = inr rest
-    by false rest = rest
+direction_has side at (c ∷ cs) (inr later) =
+    (elim (is_from side c) as (λ b. Some_has at (filter (is_from side) cs) → Some_has at (if b then c ∷ filter (is_from side) cs else filter (is_from side) cs))
+    [ true ↦ λ rest. inr rest | false ↦ λ rest. rest ]) (direction_has side at cs later)
 
 pub first_octets : FirstOctetsAreThePlaces
 first_octets rates cs side n small each all =

@@ -3,10 +3,8 @@ use Rattle.std.proofs.Common.{◌≡◌, refl, subst, ℕ, Option, Some, None, L
 use Rattle.outside_kit.specs.Calls.{Call}
 use Rattle.outside_kit.specs.Outside.{HoldsAfter, HoldsPrefix}
 use Rattle.outside_kit.specs.declared.port.Port.{Port}
-use Rattle.outside_kit.specs.declared.port.Port.TheVariants as port
 use Rattle.run_outside.specs.declared.input.Input.{Input}
 use Rattle.run_outside.specs.declared.status.Status.{Status}
-use Rattle.run_outside.specs.declared.status.Status.TheVariants as status
 use Rattle.run_outside.specs.Inputs.{IsLoggedFault}
 use Rattle.run_outside.specs.Loading.{InputAdds}
 use Rattle.run_outside.specs.Plan.{AddsAll, AddsCut, loads_of}
@@ -23,38 +21,38 @@ module _ (content : List ℕ → Option (List ℕ)) (asked : Asking) (held holds
   -- by what is loaded
   pub inputs_refused : (s : Status) → IsLoggedFault content asked.line loads_old loads_new s → InputAdds asked.line (loads_of asked.line) told tells s
       → IsUntouched held holds old new → IsViewFault content asked held holds told tells loads_old loads_new old new s
-  inputs_refused (status.Script at kind) h adds untouched = (h, adds)
-  inputs_refused (status.Load input) h adds untouched = (h, adds)
-  inputs_refused (status.TooLong input) h adds untouched = (h, adds)
-  inputs_refused status.Memory h adds untouched = inl (untouched, adds)
+  inputs_refused (Status.Script at kind) h adds untouched = (h, adds)
+  inputs_refused (Status.Load input) h adds untouched = (h, adds)
+  inputs_refused (Status.TooLong input) h adds untouched = (h, adds)
+  inputs_refused Status.Memory h adds untouched = inl (untouched, adds)
   inputs_refused _ h adds untouched = absurd h
 
   module _ (input : Input) (log : List ℕ) (are : AreInputs content asked.line input log) (made : AddsAll (loads_of asked.line) told tells)
       (untouched : IsUntouched held holds old new) where
     -- by the log
     pub log_refused : (s : Status) → IsUnread input.script log s → IsViewFault content asked held holds told tells loads_old loads_new old new s
-    log_refused status.Memory h = inl (untouched, cut_over (loads_of asked.line) told tells made)
-    log_refused (status.Log at) h = (inl (input, (log, (are, h))), made)
+    log_refused Status.Memory h = inl (untouched, cut_over (loads_of asked.line) told tells made)
+    log_refused (Status.Log at) h = (inl (input, (log, (are, h))), made)
     log_refused _ h = absurd h
 
     -- by a turn that can't be made, or tells another segment
     pub turns_refused : (extent : Extent) (part : List ℕ) (turns : List logged.Turn) → IsRead input.script log extent part turns → (s : Status)
         → IsTurnsFault (all_turns turns) input part s → IsViewFault content asked held holds told tells loads_old loads_new old new s
-    turns_refused extent part turns read status.Memory h = inl (untouched, cut_over (loads_of asked.line) told tells made)
-    turns_refused extent part turns read (status.Log at) h = (inr (input, (log, (are, (extent, (part, (turns, (read, h))))))), made)
+    turns_refused extent part turns read Status.Memory h = inl (untouched, cut_over (loads_of asked.line) told tells made)
+    turns_refused extent part turns read (Status.Log at) h = (inr (input, (log, (are, (extent, (part, (turns, (read, h))))))), made)
     turns_refused extent part turns read _ h = absurd h
 
   -- by OUT
-  pub out_refused : (middle : ℕ) → middle ≡ old port.ReadByB → (s : Status) → IsOutFault middle (new port.ReadByB) s
+  pub out_refused : (middle : ℕ) → middle ≡ old Port.ReadByB → (s : Status) → IsOutFault middle (new Port.ReadByB) s
       → IsCut content asked held holds told tells s → IsViewFault content asked held holds told tells loads_old loads_new old new s
-  out_refused middle same (status.Put at) h cut = (subst (λ (n : ℕ). IsOutFault n (new port.ReadByB) (status.Put at)) same h, cut)
-  out_refused middle same status.Memory h cut = inr cut
+  out_refused middle same (Status.Put at) h cut = (subst (λ (n : ℕ). IsOutFault n (new Port.ReadByB) (Status.Put at)) same h, cut)
+  out_refused middle same Status.Memory h cut = inr cut
   out_refused middle same _ h cut = absurd h
 
 -- a fault of OUT comes late
 pub late : (old new : ℕ) (X : Type 0) (s : Status) → IsOutFault old new s → IsBeforeOut s → X
-late old new X (status.Put at) h before = absurd before
-late old new X status.Memory h before = absurd before
+late old new X (Status.Put at) h before = absurd before
+late old new X Status.Memory h before = absurd before
 late old new X _ h before = absurd h
 
 -- ---- OUT
@@ -90,10 +88,10 @@ cut_behind xs ys a b c first (Err s) more = cut_then xs ys s a b c first more
 
 -- nothing was begun for want of memory
 pub unbegun : (content : List ℕ → Option (List ℕ)) (asked : Asking) (held : Ports) (loads : ℕ) (faults : Port → ℕ)
-    → IsViewAnswer content asked held held None None loads loads faults faults (Err status.Memory)
+    → IsViewAnswer content asked held held None None loads loads faults faults (Err Status.Memory)
 unbegun content asked held loads faults = record {
   shown = tt;
-  fault = inl (λ at. (refl, refl), cut_none (loads_of asked.line) status.Memory None None refl (adds_none None));
+  fault = inl (λ at. (refl, refl), cut_none (loads_of asked.line) Status.Memory None None refl (adds_none None));
   untouched = λ before. absurd before;
   other_ports = λ at other. refl;
   other_counts = λ at other. refl;
@@ -101,9 +99,9 @@ unbegun content asked held loads faults = record {
 
 -- it isn't the words that are refused
 pub no_usage : (content : List ℕ → Option (List ℕ)) (asked : Asking) (held holds : Ports) (told tells : Told) (loads_old loads_new : ℕ) (old new : Port → ℕ) (r : Result Extent Status)
-    → IsViewAnswer content asked held holds told tells loads_old loads_new old new r → r ≡ Err status.Usage → ⊥
+    → IsViewAnswer content asked held holds told tells loads_old loads_new old new r → r ≡ Err Status.Usage → ⊥
 no_usage content asked held holds told tells loads_old loads_new old new r h is =
-    let fault : IsViewFault content asked held holds told tells loads_old loads_new old new status.Usage = subst (λ e. IfErr e (IsViewFault content asked held holds told tells loads_old loads_new old new)) is h.fault in
+    let fault : IsViewFault content asked held holds told tells loads_old loads_new old new Status.Usage = subst (λ e. IfErr e (IsViewFault content asked held holds told tells loads_old loads_new old new)) is h.fault in
     absurd fault.0
 
 pub not_none : {A : Type 0} (o : Option A) (a : A) → Some a ≡ o → o ≡ None → ⊥

@@ -15,13 +15,7 @@ module _ (k : Setting) (ranges : HasRanges k) where
     numbers = omega (arith, wide);
     since = omega arith;
     round = omega (arith, ranges);
-    under_way = record {
-      chain = refl;
-      datas_at = omega arith;
-      acks_at = omega arith;
-      datas_are = λ c i. absurd i;
-      acks_are = λ c i. absurd i;
-    };
+    under_way = record { chain = refl; datas_at = omega arith; acks_at = omega arith; datas_are = λ c i. absurd i; acks_are = λ c i. absurd i };
     told_soon = inl (le_refl _, le_refl _, le_refl _, le_refl _);
     none_lost = record { datas = λ c i. inl i; acks = λ c i. inl i };
     flags = record { data_fin = inl (le_refl _); control = inl (le_refl _); keys = inl (le_refl _); once = omega arith };

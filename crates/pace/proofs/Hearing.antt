@@ -120,10 +120,7 @@ module _ (k : Setting) (s : Lane) (t : ℕ) (p : Stage) where
       acks_are = h.under_way.acks_are;
     };
     told_soon = h.told_soon;
-    none_lost = record {
-      datas = stays_taken (IsDone w) (IsDone w) s.datas c cs (λ x done. done) (omega (arith, same, may)) h.none_lost.datas;
-      acks = h.none_lost.acks;
-    };
+    none_lost = record { datas = stays_taken (IsDone w) (IsDone w) s.datas c cs (λ x done. done) (omega (arith, same, may)) h.none_lost.datas; acks = h.none_lost.acks };
     flags = record {
       data_fin = flag_passed w.data_fin_sent w.data_fin_came (λ x. x.data_fin) c cs
           (omega (arith, may.data_fin)) h.flags.data_fin;

@@ -4,6 +4,7 @@ pub mod Calming
 pub mod Hearing
 pub mod Lists
 pub mod Moving
+pub mod Parts
 pub mod Passing
 pub mod Saying
 pub mod Sending

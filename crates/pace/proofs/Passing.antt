@@ -151,7 +151,8 @@ module _ (k : Setting) (ranges : HasRanges k) where
           → Passed k w4 w5
           → (w3 : Lane) → Passed k w3 w4 → (w2 : Lane) → Passed k w2 w3 → (w1 : Lane) → Passed k w1 w2 → Passed k w0 w1
           → (w0.acked < w8.acked) ⊎ (w0.control_acked < w8.control_acked)
-      go w7 p8 w6 p7 w5 p6 w4 p5 w3 p4 w2 p3 w1 p2 p1 = which reason
+      go w7 p8 w6 p7 w5 p6 w4 p5 w3 p4 w2 p3 w1 p2 p1 = elim reason
+          [ inl waits ↦ inr (control waits) | inr waits ↦ inl (⊎_elim (λ some. bytes waits.1 some) (λ all. fin waits.1 (omega (arith, waits.2, all)) all waits.0) (cases_lt w0.acked k.total)) ]
         where
           control : w0.control_acked < w0.control_sent → w0.control_acked < w8.control_acked
           control waits =
@@ -224,13 +225,6 @@ module _ (k : Setting) (ranges : HasRanges k) where
                 p7.going.since.acked,
                 p8.going.since.acked,
               )
-
-          which : Reason k w0 → (w0.acked < w8.acked) ⊎ (w0.control_acked < w8.control_acked)
-          which (inl waits) = inr (control waits)
-          which (inr waits) = inl (⊎_elim
-              (λ some. bytes waits.1 some)
-              (λ all. fin waits.1 (omega (arith, waits.2, all)) all waits.0)
-              (cases_lt w0.acked k.total))
 
   -- once all bytes are read, the end is told in six rounds
   pub six : (w0 w6 : Lane) → Ended k w0 → 1 ≤ w0.ready → 1 ≤ w0.clear → k.total ≤ w0.read → Trail k 6 w0 w6

@@ -6,27 +6,13 @@ use Rattle.pace.specs.Rules.{asked_out, said_by}
 use Rattle.pace.specs.Going.{Going, Covers, may_tell, all_heard}
 use Rattle.pace.specs.Moves.{MayAsk, MaySay}
 use Rattle.pace.proofs.Lists.{in_last, each_more, stays_more, timed_more, last_more, repeated_more}
+use Rattle.pace.proofs.Parts.{parts, whole, new_counts, new_asked, new_answered}
 
 module _ (k : Setting) (s : Lane) (t : ℕ) (p : Stage) where
   pub asked_going : (limit : ℕ) (w : Lane) → MayAsk k limit w → Going k s t p w
       → Going k s t (record p { ask = false; window = false }) (asked_out k limit w)
-  asked_going limit w may h = record {
-    numbers = omega (arith, may, h.numbers);
-    since = omega (arith, h.since);
-    round = omega (arith, h.round);
-    under_way = h.under_way;
-    told_soon = h.told_soon;
-    none_lost = h.none_lost;
-    flags = h.flags;
-    timer = h.timer;
-    shut = h.shut;
-    turns = h.turns;
-    repeats = h.repeats;
-    asked = record { next = λ _. le_refl _; limit = λ _. omega (arith, may.least, h.since.read) };
-    answered = h.answered;
-    emitted = h.emitted;
-    none_due = h.none_due;
-  }
+  asked_going limit w may h = whole (new_counts (omega (arith, may, h.numbers)) (omega (arith, h.since)) (omega (arith, h.round))
+      (new_asked (record { next = λ _. le_refl _; limit = λ _. omega (arith, may.least, h.since.read) }) (parts h)))
 
   pub said_going : (tell update : Bool) (x : Copy) (w : Lane) → MaySay k s p tell update x w → Going k s t p w
       → Going k s t (record p { tell = tell; update = update }) (said_by x w)
@@ -42,10 +28,7 @@ module _ (k : Setting) (s : Lane) (t : ℕ) (p : Stage) where
       acks_are = each_more (λ c. Covers (may_tell k w) c.telling) x w.acks may.so h.under_way.acks_are;
     };
     told_soon = inr (record { copy = x; among = in_last x w.acks; has = (le_refl _, le_refl _, le_refl _, le_refl _) });
-    none_lost = record {
-      datas = h.none_lost.datas;
-      acks = stays_more (λ c. Covers (all_heard w) c.telling) s.acks w.acks (x ∷ []) h.none_lost.acks;
-    };
+    none_lost = record { datas = h.none_lost.datas; acks = stays_more (λ c. Covers (all_heard w) c.telling) s.acks w.acks (x ∷ []) h.none_lost.acks };
     flags = h.flags;
     timer = h.timer;
     shut = h.shut;
@@ -62,20 +45,4 @@ module _ (k : Setting) (s : Lane) (t : ℕ) (p : Stage) where
 
   pub quiet_going : (w : Lane) → (1 ≤ w.ready → s.read + k.least < w.told.edge + 31 + k.threshold) → Going k s t p w
       → Going k s t (record p { update = false }) w
-  quiet_going w may h = record {
-    numbers = h.numbers;
-    since = h.since;
-    round = h.round;
-    under_way = h.under_way;
-    told_soon = h.told_soon;
-    none_lost = h.none_lost;
-    flags = h.flags;
-    timer = h.timer;
-    shut = h.shut;
-    turns = h.turns;
-    repeats = h.repeats;
-    asked = h.asked;
-    answered = record { all = h.answered.all; window = λ _. may };
-    emitted = h.emitted;
-    none_due = h.none_due;
-  }
+  quiet_going w may h = whole (new_answered (record { all = h.answered.all; window = λ _. may }) (parts h))

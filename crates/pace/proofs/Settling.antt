@@ -7,141 +7,46 @@ use Rattle.pace.specs.Lists.{first_at, repeated}
 use Rattle.pace.specs.Going.{Going, Reason, IsOld, Covers, all_heard, pending}
 use Rattle.pace.specs.Moves.{HasEmitted, MayRefuse, MayFlag, MayMove, IsBefore}
 use Rattle.pace.proofs.Lists.{stays_done, timed_moved, if_some_map}
+use Rattle.pace.proofs.Parts.{parts, whole, new_counts, new_under_way, new_asked, new_answered, new_emitted, new_none_due, new_timer, new_repeats, new_shut}
 
 module _ (k : Setting) (s : Lane) (t : ℕ) (p : Stage) where
   pub back_going : (q : Stage) (w : Lane) → IsBefore q p → Going k s t p w → Going k s t q w
-  back_going q w may h = record {
-    numbers = h.numbers;
-    since = h.since;
-    round = h.round;
-    under_way = h.under_way;
-    told_soon = h.told_soon;
-    none_lost = h.none_lost;
-    flags = h.flags;
-    timer = h.timer;
-    shut = h.shut;
-    turns = h.turns;
-    repeats = record {
-      last = h.repeats.last;
-      few = subst (λ (b : Bool). w.row + repeated w.heard w.acks + pending k (record p { tell = b }) w ≤ w.said + w.data_fin_came)
-          may.tell h.repeats.few;
-    };
-    asked = record { next = λ e. h.asked.next (may.ask e); limit = λ e. h.asked.limit (may.window e) };
-    answered = record {
-      all = λ e. h.answered.all (subst (λ (b : Bool). b ≡ false) (sym may.tell) e);
-      window = λ e. h.answered.window (may.update e);
-    };
-    emitted = record {
-      bytes = λ e. h.emitted.bytes (may.emit e);
-      known = λ e. h.emitted.known (may.emit e);
-      data_fin = λ e. h.emitted.data_fin (may.finish e);
-    };
-    none_due = λ e. h.none_due (may.wait e);
-  }
+  back_going q w may h = whole (new_repeats (record {
+    last = h.repeats.last;
+    few = subst (λ (b : Bool). w.row + repeated w.heard w.acks + pending k (record p { tell = b }) w ≤ w.said + w.data_fin_came)
+        may.tell h.repeats.few;
+  })
+      (new_asked (record { next = λ e. h.asked.next (may.ask e); limit = λ e. h.asked.limit (may.window e) })
+      (new_answered (record { all = λ e. h.answered.all (subst (λ (b : Bool). b ≡ false) (sym may.tell) e); window = λ e. h.answered.window (may.update e) })
+      (new_emitted (record { bytes = λ e. h.emitted.bytes (may.emit e); known = λ e. h.emitted.known (may.emit e); data_fin = λ e. h.emitted.data_fin (may.finish e) })
+      (new_none_due (λ e. h.none_due (may.wait e)) (parts h))))))
 
   pub refused_going : (shut : Bool) (known : ℕ) (w : Lane) → MayRefuse k s p shut known w → Going k s t p w
       → Going k s t (record p { emit = false }) (refused_by shut known w)
-  refused_going shut known w may h = record {
-    numbers = omega (arith, may.more, may.closed, h.numbers);
-    since = omega (arith, h.since);
-    round = omega (arith, h.round);
-    under_way = h.under_way;
-    told_soon = h.told_soon;
-    none_lost = h.none_lost;
-    flags = h.flags;
-    timer = h.timer;
-    shut = may.waits;
-    turns = h.turns;
-    repeats = h.repeats;
-    asked = h.asked;
-    answered = h.answered;
-    emitted = record {
-      bytes = λ _. may.emitted.bytes;
-      known = λ _. may.emitted.end;
-      data_fin = λ over clear. ⊎_elim (λ sent. sent) (λ left. absurd (both_ways _ over left)) may.finish;
-    };
-    none_due = h.none_due;
-  }
+  refused_going shut known w may h = whole (new_counts (omega (arith, may.more, may.closed, h.numbers)) (omega (arith, h.since)) (omega (arith, h.round))
+      (new_shut may.waits
+      (new_emitted (record {
+        bytes = λ _. may.emitted.bytes;
+        known = λ _. may.emitted.end;
+        data_fin = λ over clear. ⊎_elim (λ sent. sent) (λ left. absurd (both_ways _ over left)) may.finish;
+      }) (parts h))))
 
   pub emitted_going : (w : Lane) → HasEmitted k s w.known w → Going k s t p w
       → Going k s t (record p { emit = false }) w
-  emitted_going w may h = record {
-    numbers = h.numbers;
-    since = h.since;
-    round = h.round;
-    under_way = h.under_way;
-    told_soon = h.told_soon;
-    none_lost = h.none_lost;
-    flags = h.flags;
-    timer = h.timer;
-    shut = h.shut;
-    turns = h.turns;
-    repeats = h.repeats;
-    asked = h.asked;
-    answered = h.answered;
-    emitted = record { bytes = λ _. may.bytes; known = λ _. may.end; data_fin = h.emitted.data_fin };
-    none_due = h.none_due;
-  }
+  emitted_going w may h = whole (new_emitted (record { bytes = λ _. may.bytes; known = λ _. may.end; data_fin = h.emitted.data_fin }) (parts h))
 
   pub finished_going : (w : Lane) → (1 ≤ w.clear → w.known ≤ w.data_fin_sent) → Going k s t p w
       → Going k s t (record p { finish = false }) w
-  finished_going w may h = record {
-    numbers = h.numbers;
-    since = h.since;
-    round = h.round;
-    under_way = h.under_way;
-    told_soon = h.told_soon;
-    none_lost = h.none_lost;
-    flags = h.flags;
-    timer = h.timer;
-    shut = h.shut;
-    turns = h.turns;
-    repeats = h.repeats;
-    asked = h.asked;
-    answered = h.answered;
-    emitted = record { bytes = h.emitted.bytes; known = h.emitted.known; data_fin = λ _. may };
-    none_due = h.none_due;
-  }
+  finished_going w may h = whole (new_emitted (record { bytes = h.emitted.bytes; known = h.emitted.known; data_fin = λ _. may }) (parts h))
 
   pub over_going : (w : Lane) → w.until ≤ first_at w.until w.datas → w.until ≤ first_at w.until w.acks → Going k s t p w
       → Going k s t (record p { wait = false }) w
-  over_going w datas acks h = record {
-    numbers = h.numbers;
-    since = h.since;
-    round = h.round;
-    under_way = h.under_way;
-    told_soon = h.told_soon;
-    none_lost = h.none_lost;
-    flags = h.flags;
-    timer = h.timer;
-    shut = h.shut;
-    turns = h.turns;
-    repeats = h.repeats;
-    asked = h.asked;
-    answered = h.answered;
-    emitted = h.emitted;
-    none_due = λ _. (datas, acks);
-  }
+  over_going w datas acks h = whole (new_none_due (λ _. (datas, acks)) (parts h))
 
   pub settled_going : (runs : Bool) (rto : ℕ) (w : Lane) → k.rto ≤ rto → (runs ≡ true → Reason k w) → Going k s t p w
       → Going k s t p (settled_by runs rto w)
-  settled_going runs rto w long reason h = record {
-    numbers = omega (arith, h.numbers);
-    since = omega (arith, h.since);
-    round = omega (arith, h.round);
-    under_way = h.under_way;
-    told_soon = h.told_soon;
-    none_lost = h.none_lost;
-    flags = h.flags;
-    timer = record { late = late runs w.timer reason h.timer.late; anew = anew runs w.timer h.timer.anew };
-    shut = h.shut;
-    turns = h.turns;
-    repeats = h.repeats;
-    asked = h.asked;
-    answered = h.answered;
-    emitted = h.emitted;
-    none_due = h.none_due;
-  }
+  settled_going runs rto w long reason h = whole (new_counts (omega (arith, h.numbers)) (omega (arith, h.since)) (omega (arith, h.round))
+      (new_timer (record { late = late runs w.timer reason h.timer.late; anew = anew runs w.timer h.timer.anew }) (parts h)))
     where
       from_now : s.clock + k.rto ≤ w.clock + rto
       from_now = omega (arith, long, h.since.clock)
@@ -159,23 +64,8 @@ module _ (k : Setting) (s : Lane) (t : ℕ) (p : Stage) where
       anew true (Some x) old = old
 
   pub rested_going : (w : Lane) → Going k s t p w → Going k s t p (rested w)
-  rested_going w h = record {
-    numbers = omega (arith, h.numbers);
-    since = omega (arith, h.since);
-    round = omega (arith, h.round);
-    under_way = h.under_way;
-    told_soon = h.told_soon;
-    none_lost = h.none_lost;
-    flags = h.flags;
-    timer = record { late = tt; anew = inr tt };
-    shut = h.shut;
-    turns = h.turns;
-    repeats = h.repeats;
-    asked = h.asked;
-    answered = h.answered;
-    emitted = h.emitted;
-    none_due = h.none_due;
-  }
+  rested_going w h = whole (new_counts (omega (arith, h.numbers)) (omega (arith, h.since)) (omega (arith, h.round))
+      (new_timer (record { late = tt; anew = inr tt }) (parts h)))
 
   pub flagged_going : (ready clear : ℕ) (w : Lane) → MayFlag k s p ready clear w → Going k s t p w
       → Going k s t p (flagged ready clear w)
@@ -214,51 +104,18 @@ module _ (k : Setting) (s : Lane) (t : ℕ) (p : Stage) where
       still (inr bytes) = inr (bytes.0, omega (arith, bytes.1, may.ready), omega (arith, bytes.2, may.clear))
 
   pub grown_going : (n : ℕ) (w : Lane) → p.emit ≡ true → w.window ≤ n → Going k s t p w → Going k s t p (grown n w)
-  grown_going n w emit more h = record {
-    numbers = omega (arith, more, h.numbers);
-    since = omega (arith, h.since);
-    round = omega (arith, h.round);
-    under_way = h.under_way;
-    told_soon = h.told_soon;
-    none_lost = h.none_lost;
-    flags = h.flags;
-    timer = h.timer;
-    shut = h.shut;
-    turns = h.turns;
-    repeats = h.repeats;
-    asked = h.asked;
-    answered = h.answered;
-    emitted = record {
-      bytes = λ over. absurd (both_ways _ over emit);
-      known = λ over. absurd (both_ways _ over emit);
-      data_fin = h.emitted.data_fin;
-    };
-    none_due = h.none_due;
-  }
+  grown_going n w emit more h = whole (new_counts (omega (arith, more, h.numbers)) (omega (arith, h.since)) (omega (arith, h.round))
+      (new_emitted (record { bytes = λ over. absurd (both_ways _ over emit); known = λ over. absurd (both_ways _ over emit); data_fin = h.emitted.data_fin }) (parts h)))
 
   pub moved_going : (tick : ℕ) (w : Lane) → MayMove p tick w → Going k s t p w → Going k s t p (moved_to tick w)
-  moved_going tick w may h = record {
-    numbers = omega (arith, h.numbers);
-    since = omega (arith, may.later, h.since);
-    round = omega (arith, may.later, may.early, h.round);
-    under_way = record {
-      chain = h.under_way.chain;
-      datas_at = timed_moved w.clock (w.clock + k.delay) tick w.until (tick + k.delay) w.datas
-          may.datas (omega arith) (omega (arith, may.later)) h.under_way.datas_at;
-      acks_at = timed_moved w.clock (w.clock + k.delay) tick w.until (tick + k.delay) w.acks
-          may.acks (omega arith) (omega (arith, may.later)) h.under_way.acks_at;
-      datas_are = h.under_way.datas_are;
-      acks_are = h.under_way.acks_are;
-    };
-    told_soon = h.told_soon;
-    none_lost = h.none_lost;
-    flags = h.flags;
-    timer = h.timer;
-    shut = h.shut;
-    turns = h.turns;
-    repeats = h.repeats;
-    asked = h.asked;
-    answered = h.answered;
-    emitted = h.emitted;
-    none_due = λ over. absurd (both_ways _ over may.turn);
-  }
+  moved_going tick w may h = whole (new_counts (omega (arith, h.numbers)) (omega (arith, may.later, h.since)) (omega (arith, may.later, may.early, h.round))
+      (new_under_way (record {
+        chain = h.under_way.chain;
+        datas_at = timed_moved w.clock (w.clock + k.delay) tick w.until (tick + k.delay) w.datas
+            may.datas (omega arith) (omega (arith, may.later)) h.under_way.datas_at;
+        acks_at = timed_moved w.clock (w.clock + k.delay) tick w.until (tick + k.delay) w.acks
+            may.acks (omega arith) (omega (arith, may.later)) h.under_way.acks_at;
+        datas_are = h.under_way.datas_are;
+        acks_are = h.under_way.acks_are;
+      })
+      (new_none_due (λ over. absurd (both_ways _ over may.turn)) (parts h))))

@@ -88,24 +88,10 @@ module _ (k j : Setting) (ranges : HasRanges k) (others : HasRanges j) where
       go : (a ≤ m → Halves a m w v t.0 t.1) → (m < a) ⊎ (a ≤ m) → Halves a (suc m) w v u x
       go split (inl all) =
           let same : suc m ≡ a = omega (arith, within, all) in
-          record {
-            here = u;
-            there = x;
-            rest = 0;
-            sum = omega (arith, same);
-            first = subst (λ (n : ℕ). LinkedTrail k j n w v u x) same t;
-            last = (refl, refl);
-          }
+          record { here = u; there = x; rest = 0; sum = omega (arith, same); first = subst (λ (n : ℕ). LinkedTrail k j n w v u x) same t; last = (refl, refl) }
       go split (inr inner) =
           let p = split inner in
-          record {
-            here = p.here;
-            there = p.there;
-            rest = suc p.rest;
-            sum = omega (arith, p.sum);
-            first = p.first;
-            last = (t.0, t.1, p.last, t.3, t.4, t.5);
-          }
+          record { here = p.here; there = p.there; rest = suc p.rest; sum = omega (arith, p.sum); first = p.first; last = (t.0, t.1, p.last, t.3, t.4, t.5) }
 
   -- what two rounds of both lanes bring
   record Two (w v u x : Lane) : Type 0 where
@@ -182,16 +168,7 @@ module _ (k j : Setting) (ranges : HasRanges k) (others : HasRanges j) where
   rounds_of a b wide wide_back zero u x course =
       let calm = first_rounds k ranges a u wide course.0 in
       let calm_back = first_rounds j others b x wide_back course.1 in
-      record {
-        from = u;
-        from_back = x;
-        ended = calm.ended;
-        ended_back = calm_back.ended;
-        syn = course.3;
-        trail = (refl, refl);
-        calm = calm;
-        calm_back = calm_back;
-      }
+      record { from = u; from_back = x; ended = calm.ended; ended_back = calm_back.ended; syn = course.3; trail = (refl, refl); calm = calm; calm_back = calm_back }
   rounds_of a b wide wide_back (suc m) u x course =
       let before = rounds_of a b wide wide_back m course.0 course.1 course.2 in
       let next = later_rounds k ranges course.0 u before.calm course.3 in

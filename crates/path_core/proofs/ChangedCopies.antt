@@ -1,24 +1,11 @@
 -- What a link makes of the octets of a segment are the octets of what it makes of the segment.
-use Rattle.std.proofs.Common.{◌≡◌, refl, sym, ◌∙◌, ap, subst, ℕ, ◌≤◌, Bool, true, false, List, [], ◌∷◌, length, Ok}
-use Rattle.sides.specs.declared.side.Side.{Side}
-use Rattle.sides.specs.Side.{peer}
+use Rattle.path_core.proofs.Words.{◌≡◌, refl, sym, ap, subst, ◌∙◌, ℕ, ◌≤◌, Bool, true, false, List, [], ◌∷◌, length, Ok, Side, peer, segment_meaning, Segment}
+use Rattle.path_core.proofs.Words.{segment_text, CanWrite, segment_meaning-written, addresses_from, changed, Spelling, PlainSegment, spelled, CanSay}
+use Rattle.path_core.proofs.Words.{spelled_text, altered_is_said, four, written, octets, CanBeSaid, octets_of, values}
 use Rattle.link_model.specs.Octets.{octets_stripped, octets_altered}
-use Rattle.link_model.specs.Steps.{changed}
 use Rattle.segment_wire.specs.declared.head.Addresses.{Addresses}
 use Rattle.segment_wire.specs.Changes as changes
-use Rattle.segment_wire.specs.Reading.{segment_meaning}
-use Rattle.segment_wire.specs.Segment.{CanWrite, Segment, segment_text}
-use Rattle.segment_wire.proofs.Again.{segment_meaning-written}
 use Rattle.segment_wire.proofs.Changed.{others_can_be_carried}
-use Rattle.segment_wire.specs.Paths.{addresses_from}
-use Rattle.path_segments.specs.declared.spelling.Spelling.{Spelling}
-use Rattle.path_segments.specs.Spelled.{PlainSegment, CanSay, spelled, spelled_text}
-use Rattle.path_segments.proofs.ChangedSegments.{altered_is_said}
-use Rattle.path_segments.proofs.SegmentsAgain.{four, written}
-use Rattle.path_core.specs.Octets.{octets}
-use Rattle.path_core.specs.Said.{CanBeSaid}
-use Rattle.path_core.specs.Shown.{octets_of}
-use Rattle.path_core.specs.Values.{values}
 
 module _ (spelling : Spelling) (from : Side) where
   abbrev between : Addresses
@@ -43,8 +30,7 @@ module _ (spelling : Spelling) (from : Side) where
   with_bit s = record s { payload = changes.with_turned_bit s.payload }
 
   length_turned : (bytes : List ℕ) → length (changes.with_turned_bit bytes) ≡ length bytes
-  length_turned [] = refl
-  length_turned (first ∷ rest) = refl
+  length_turned = elim [ [] ↦ refl | first ∷ rest ↦ refl ]
 
   bit_said : (s : PlainSegment) → CanSay spelling from s → CanSay spelling from (with_bit s)
   bit_said s can = record {

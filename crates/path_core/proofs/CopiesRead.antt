@@ -1,21 +1,12 @@
 -- What the octets of a copy say, be its options still there or taken away.
-use Rattle.std.proofs.Common.{◌≡◌, refl, ◌∙◌, ℕ, Bool, true, false, if◌then◌else◌, List, [], Some}
-use Rattle.sides.specs.declared.side.Side.{Side}
+use Rattle.path_core.proofs.Words.{◌≡◌, refl, ◌∙◌, ℕ, Bool, true, false, if◌then◌else◌, Some, List, [], Side, addresses_from, Spelling, PlainSegment, CanSay}
+use Rattle.path_core.proofs.Words.{spelled_text, stripped_is_heard, heard_as_meant, Expected, IsFresh, meant, made, octets, octets_of, IsFarReset, Carried}
+use Rattle.path_core.proofs.Words.{as_arrived}
 use Rattle.segment_wire.specs.Changes.{text_stripped}
-use Rattle.segment_wire.specs.Paths.{addresses_from}
 use Rattle.link_model.specs.Octets as link_octets
-use Rattle.path_segments.specs.declared.expected.Expected.{Expected}
-use Rattle.path_segments.specs.declared.spelling.Spelling.{Spelling}
 use Rattle.path_segments.specs.Spelling as spelling_words
-use Rattle.path_segments.specs.Spelled.{PlainSegment, CanSay, spelled_text}
 use Rattle.path_segments.specs.Heard as hearing
 use Rattle.path_segments.specs.HeardLent.{IsExpected}
-use Rattle.path_segments.specs.Laws.{IsFresh, meant}
-use Rattle.path_segments.proofs.ChangedSegments.{stripped_is_heard}
-use Rattle.path_segments.proofs.SegmentsAgain.{heard_as_meant}
-use Rattle.path_core.specs.Octets.{made, octets}
-use Rattle.path_core.specs.Shown.{octets_of, IsFarReset}
-use Rattle.path_core.specs.Values.{Carried, as_arrived}
 use Rattle.path_core.proofs.FarResets.{unplaced, far_heard, far_stripped_heard}
 
 module _ (spelling : Spelling) (side : Side) (expected : Expected) (s : PlainSegment) where

@@ -1,45 +1,22 @@
 -- A reset far ahead of what an end expects does the same to it, whether its position is heard or not.
-use Rattle.std.proofs.Common.{◌≡◌, refl, sym, ◌∙◌, ap, ℕ, ◌+◌, ◌-◌, ◌^◌, ◌<◌, ◌≤◌, ◌⊎◌, inl, inr, ⊎_elim, nat_lt, ◌==◌, ◌&&◌, ◌||◌, Bool, true, false, if◌then◌else◌, List, [], length, Option, Some, None, option_map, arith}
-use Rattle.std.proofs.lemmas.Bool.{cases_lt}
+use Rattle.path_core.proofs.Words.{◌≡◌, ◌⊎◌, inl, inr, refl, sym, ap, ◌∙◌, ℕ, ◌+◌, ◌-◌, ◌<◌, ◌≤◌, ◌&&◌, ◌||◌, nat_lt, Bool, true, false, if◌then◌else◌, Option}
+use Rattle.path_core.proofs.Words.{Some, None, List, [], length, arith, ◌^◌, ◌==◌, ⊎_elim, cases_lt, result_ok, Side, peer, segment_meaning-written}
+use Rattle.path_core.proofs.Words.{addresses_from, EndPhase, Meaning, is_acceptable, is_repeated_syn, meaning_answering, meaning_within, meaning_connected}
+use Rattle.path_core.proofs.Words.{meaning_at, meaning_of, is_in_window, ends_in_window, is_at_right_edge, Copy, occupied, EndState, is_at_limit, Spelling}
+use Rattle.path_core.proofs.Words.{PlainSegment, spelled, CanSay, spelled_text, stripped_means, stripped_is_heard, four, written, heard_as_meant, Expected}
+use Rattle.path_core.proofs.Words.{meant, IsPositionFresh, numbers_of, subflow_number, heard_segment, HeardSegment, Heard, position_in, copy_of, reset_by}
+use Rattle.path_core.proofs.Words.{reset_for, with_held, after_copy, judged_in, after_judged, template_of, told_at, copy_heard, IsFarReset, held_of, is_joined}
+use Rattle.path_core.proofs.Words.{options_heard, items_of, PathState, end_at, goes_on, Judged, judged_of, taken_as, after_join, PathEnd, Profile}
+use Rattle.std.proofs.Common.{option_map}
 use Rattle.std.proofs.lemmas.Int.{ints}
 use Rattle.std.specs.Option.{IsSome}
-use Rattle.std.specs.Result.{result_ok}
 use Rattle.seq_units.specs.Number.{number_of, position_near}
 use Rattle.segment_wire.specs.Changes as changes
-use Rattle.segment_wire.proofs.Again.{segment_meaning-written}
-use Rattle.segment_wire.specs.Paths.{addresses_from}
-use Rattle.sides.specs.declared.side.Side.{Side}
-use Rattle.sides.specs.Side.{peer}
-use Rattle.path_segments.specs.declared.expected.Expected.{Expected}
 use Rattle.path_segments.specs.declared.position.HeardPosition.{HeardPosition}
 use Rattle.path_segments.specs.declared.position.HeardPosition.TheVariants.{At, Nowhere}
-use Rattle.path_segments.specs.declared.spelling.Spelling.{Spelling}
-use Rattle.path_segments.specs.Spelling.{numbers_of, subflow_number}
-use Rattle.path_segments.specs.Spelled.{PlainSegment, CanSay, spelled, spelled_text}
-use Rattle.path_segments.specs.Heard.{heard_in, heard_segment, HeardSegment}
+use Rattle.path_segments.specs.Heard.{heard_in}
 use Rattle.path_segments.specs.HeardLent.{IsExpected}
-use Rattle.path_segments.specs.Laws.{IsPositionFresh, meant}
-use Rattle.path_segments.proofs.ChangedSegments.{stripped_means, stripped_is_heard}
-use Rattle.path_segments.proofs.SegmentsAgain.{four, written, heard_as_meant}
-use Rattle.subflow_tcp.specs.declared.handshake.State.{State as EndPhase}
-use Rattle.subflow_tcp.specs.declared.handshake.State.TheVariants as phase
 use Rattle.subflow_tcp.specs.declared.segments.Outgoing.{Outgoing}
-use Rattle.subflow_tcp.specs.declared.verdicts.Meaning.{Meaning}
-use Rattle.subflow_tcp.specs.declared.verdicts.Meaning.TheVariants as means
-use Rattle.subflow_tcp.specs.Judging.{is_in_window, ends_in_window, is_at_right_edge, is_acceptable, is_repeated_syn, meaning_answering, meaning_within, meaning_connected, meaning_at, meaning_of}
-use Rattle.subflow_tcp.specs.Segments.{Copy, occupied}
-use Rattle.subflow_tcp.specs.State.{EndState, is_at_limit}
-use Rattle.path_agenda.specs.declared.heard.Heard.{Heard}
-use Rattle.path_core.specs.declared.judged.Judged.{Judged}
-use Rattle.path_core.specs.MpJoin.{is_joined}
-use Rattle.path_core.specs.Arrival.{position_in, copy_of, position_numbered, reset_by, reset_for, with_held, after_copy, judged_in, after_judged, template_of, told_at, copy_heard}
-use Rattle.path_core.specs.OptionsIn.{options_heard, items_of}
-use Rattle.path_core.specs.DssIn.{held_of}
-use Rattle.path_core.specs.Judged.{after_join, judged_of, taken_as}
-use Rattle.path_core.specs.End.{PathEnd}
-use Rattle.path_core.specs.Shown.{IsFarReset}
-use Rattle.path_core.specs.State.{PathState, end_at, goes_on}
-use Rattle.path_core.specs.Profile.{Profile}
 
 -- by this number, which names no position
 abbrev pub unplaced : ℕ → HeardSegment → HeardSegment
@@ -97,11 +74,8 @@ far_outside : (edge pos : ℕ) → edge + 2 ^ 31 ≤ pos → is_in_window edge p
 far_outside edge pos far = grind arith
 
 far_end : (edge pos len : ℕ) → edge + 2 ^ 31 ≤ pos → ends_in_window edge pos len ≡ false
-far_end edge pos len far = by (nat_lt 0 len) (far_outside edge (pos + (len - 1)) (omega (arith, far)))
-  where
-    by : (b : Bool) → is_in_window edge (pos + (len - 1)) ≡ false → (b && is_in_window edge (pos + (len - 1))) ≡ false
-    by true last = last
-    by false last = refl
+far_end edge pos len far = (elim (nat_lt 0 len) as (λ b. is_in_window edge (pos + (len - 1)) ≡ false → (b && is_in_window edge (pos + (len - 1))) ≡ false)
+    [ true ↦ λ last. last | false ↦ λ last. refl ]) (far_outside edge (pos + (len - 1)) (omega (arith, far)))
 
 far_right_edge : (edge pos octets : ℕ) → edge + 2 ^ 31 ≤ pos → is_at_right_edge edge pos octets ≡ false
 far_right_edge edge pos octets far = grind arith
@@ -124,19 +98,18 @@ module _ (c : Copy) (pos : ℕ) (tcp : EndState) (far : tcp.recv.edge + 2 ^ 31 �
 
   connected : meaning_connected nowhere tcp ≡ meaning_connected placed tcp
   connected =
-      ap (λ (b : Bool). if is_at_limit tcp then means.Ignored
-      else (if is_repeated_syn placed tcp then means.RepeatedSyn else (if b then meaning_within pos placed tcp else means.Ignored)))
+      ap (λ (b : Bool). if is_at_limit tcp then Meaning.Ignored
+      else (if is_repeated_syn placed tcp then Meaning.RepeatedSyn else (if b then meaning_within pos placed tcp else Meaning.Ignored)))
       (sym (far_unacceptable tcp.recv.edge pos placed far))
 
   answering : (acknowledged : Option ℕ) → meaning_answering acknowledged nowhere tcp ≡ meaning_answering acknowledged placed tcp
-  answering None = refl
-  answering (Some acknowledged) = refl
+  answering = elim [ None ↦ refl | Some acknowledged ↦ refl ]
 
   by_phase : (state : EndPhase) → meaning_at state nowhere tcp ≡ meaning_at state placed tcp
-  by_phase phase.Dead = refl
-  by_phase phase.Waiting = refl
-  by_phase phase.Listen = refl
-  by_phase phase.SynSent = ap (λ (m : Meaning). if is_at_limit tcp then means.Ignored else m) (answering c.acknowledged)
+  by_phase EndPhase.Dead = refl
+  by_phase EndPhase.Waiting = refl
+  by_phase EndPhase.Listen = refl
+  by_phase EndPhase.SynSent = ap (λ (m : Meaning). if is_at_limit tcp then Meaning.Ignored else m) (answering c.acknowledged)
   by_phase _ = connected
 
   pub same_meaning : meaning_of nowhere tcp ≡ meaning_of placed tcp
@@ -151,7 +124,7 @@ same_answer c s position another occupied None some = absurd (cc some)
 
 module _ (items : List Heard) (now number : ℕ) (h : HeardSegment) where
   same_effect : (answer : Outgoing) (m : Meaning) (e : PathEnd) → after_copy items answer now (unplaced number h) m e ≡ after_copy items answer now h m e
-  same_effect answer means.Ignored e = refl
+  same_effect answer Meaning.Ignored e = refl
   same_effect answer _ e = refl
 
 module _ (s : Side) (now number : ℕ) (h : HeardSegment) where

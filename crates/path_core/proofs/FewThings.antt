@@ -1,14 +1,14 @@
 -- Forty octets of options say 37 things at most: those of one REMOVE_ADDR with 37 ids.
-use Rattle.std.proofs.Common.{◌≡◌, ◌⊎◌, inl, inr, refl, sym, ap, subst, ◌∙◌, ℕ, zero, suc, ◌+◌, ◌-◌, ◌*◌, ◌<◌, ◌≤◌, ◌&&◌, ◌||◌, nat_le, nat_lt, Bool, true, false, if◌then◌else◌, Option, Some, None, List, [], ◌∷◌, ◌++◌, length, map, take, drop, length-append, arith}
-use Rattle.std.specs.Prelude.{Result, Ok, Err, option_map, IfSome, filter}
+use Rattle.path_core.proofs.Words.{◌≡◌, ◌⊎◌, inl, inr, refl, sym, ap, subst, ◌∙◌, ℕ, zero, suc, ◌+◌, ◌-◌, ◌*◌, ◌<◌, ◌≤◌, ◌&&◌, ◌||◌, nat_le, nat_lt, Bool, true}
+use Rattle.path_core.proofs.Words.{false, if◌then◌else◌, Option, Some, None, List, [], ◌∷◌, ◌++◌, length, map, take, drop, length-append, arith, flat_map}
+use Rattle.path_core.proofs.Words.{slice_index, leb-true, ltb-false, result_ok, IfSome, filter, length-take, length-drop, Side, peer, A, B, segment_meaning}
+use Rattle.path_core.proofs.Words.{segment_in, options_in, header_len, is_short, has_wrong_offset, has_broken_option, has_wrong_checksum, Segment}
+use Rattle.path_core.proofs.Words.{addresses_from, JoinForm, Answer, Third, CapableKeys, NoKey, Sender, Both, WithData, option_text, Spelling, Expected}
+use Rattle.path_core.proofs.Words.{Capable, Dss, PathMapping, Bytes, End, Infinite, place_heard, heard_mapping, heard_option, heard_options, heard_segment}
+use Rattle.path_core.proofs.Words.{known_or, known_in, HeardSegment, heard_value, Heard, HeardOption, mapping_items, ack_items, map_items, first_items}
+use Rattle.path_core.proofs.Words.{key_items, join_items, item_removed, address_items, items_in, SaysFew}
+use Rattle.std.specs.Prelude.{Result, Ok, Err, option_map}
 use Rattle.std.specs.Borrow.{Bor}
-use Rattle.std.specs.Result.{result_ok}
-use Rattle.std.specs.List.{flat_map, slice_index}
-use Rattle.std.proofs.lemmas.Bool.{leb-true, ltb-false}
-use Rattle.std.proofs.lemmas.List.{length-take, length-drop}
-use Rattle.sides.specs.declared.side.Side.{Side}
-use Rattle.sides.specs.declared.side.Side.TheVariants.{A, B}
-use Rattle.sides.specs.Side.{peer}
 use Rattle.key_material.specs.declared.address.Address.{Address}
 use Rattle.key_material.specs.Octets.{AreOctets}
 use Rattle.key_material.proofs.Octets.{AreOctets-take, AreOctets-drop, each_octet}
@@ -16,35 +16,16 @@ use Rattle.segment_wire.specs.declared.head.Addresses.{Addresses}
 use Rattle.segment_wire.specs.declared.reading.SegmentFault.{SegmentFault}
 use Rattle.segment_wire.specs.declared.reading.SegmentFault.TheVariants.{Short, DataOffset, OptionLength, Checksum}
 use Rattle.segment_wire.specs.Options.{options_after, option_octets}
-use Rattle.segment_wire.specs.Reading.{segment_meaning, segment_in, options_in, header_len, is_short, has_wrong_offset, has_broken_option, has_wrong_checksum}
-use Rattle.segment_wire.specs.Segment.{Segment}
-use Rattle.segment_wire.specs.Paths.{addresses_from}
-use Rattle.mptcp_options.specs.declared.capable.CapableKeys.{CapableKeys}
-use Rattle.mptcp_options.specs.declared.capable.CapableKeys.TheVariants.{NoKey, Sender, Both, WithData}
 use Rattle.mptcp_options.specs.declared.dss.DssMap.{DssMap}
-use Rattle.mptcp_options.specs.declared.join.JoinForm.{JoinForm}
-use Rattle.mptcp_options.specs.declared.join.JoinForm.TheVariants.{Syn, Answer, Third}
+use Rattle.mptcp_options.specs.declared.join.JoinForm.TheVariants.{Syn}
 use Rattle.mptcp_options.specs.Ignored.{cleared, masked, fourth_mask}
 use Rattle.mptcp_options.specs.Meaning.{option_meaning, is_of_another_kind, is_misframed}
-use Rattle.mptcp_options.specs.Text.{option_text}
 use Rattle.mptcp_options.specs.Value as wire
 use Rattle.mptcp_options.proofs.OptionLaws.{text_again}
-use Rattle.path_segments.specs.declared.expected.Expected.{Expected}
 use Rattle.path_segments.specs.declared.heard.HeardOptions.{HeardOptions}
 use Rattle.path_segments.specs.declared.position.HeardPosition.{HeardPosition}
 use Rattle.path_segments.specs.declared.segment.PathSegment.{PathSegment}
-use Rattle.path_segments.specs.HeardSegments.{heard_value}
-use Rattle.path_segments.specs.declared.segment.PathMapping.{PathMapping}
-use Rattle.path_segments.specs.declared.segment.PathMapping.TheVariants.{Bytes, End, Infinite}
-use Rattle.path_segments.specs.declared.segment.PathOption.TheVariants.{Capable, Dss}
-use Rattle.path_segments.specs.declared.spelling.Spelling.{Spelling}
-use Rattle.path_segments.specs.Heard.{place_heard, heard_mapping, heard_option, heard_options, heard_in, heard_segment, known_or, known_in, HeardSegment}
-use Rattle.path_agenda.specs.declared.heard.Heard.{Heard}
-use Rattle.path_core.specs.DssIn.{HeardOption, ack_items, mapping_items, map_items, first_items}
-use Rattle.path_core.specs.MpCapable.{key_items}
-use Rattle.path_core.specs.MpJoin.{join_items}
-use Rattle.path_core.specs.Addresses.{address_items, item_removed}
-use Rattle.path_core.specs.OptionsIn.{items_in, SaysFew}
+use Rattle.path_segments.specs.Heard.{heard_in}
 use Rattle.path_core.specs.FewThings.{is_priority, CopiesSayFew, CopiesHaveFewPriorities}
 
 -- ---- octets
@@ -132,8 +113,7 @@ module _ (joined : Bool) (s : Side) (window : ℕ) (spelling : Spelling) (from :
   things option = length (items_in joined s window option)
 
   one_if : (b : Bool) (item : Heard) → length (if b then item ∷ [] else []) ≤ 1
-  one_if true item = omega arith
-  one_if false item = omega arith
+  one_if = elim [ true ↦ λ item. omega arith | false ↦ λ item. omega arith ]
 
   acks_few : (next : Option (Option ℕ)) → length (ack_items next window) ≤ 1
   acks_few None = omega arith
@@ -151,11 +131,8 @@ module _ (joined : Bool) (s : Side) (window : ℕ) (spelling : Spelling) (from :
   map_few (Some (Infinite (Some place) position)) = one_if _ _
 
   first_few : (len : ℕ) → length (first_items len) ≤ 1
-  first_few len = by (nat_lt 0 len) (one_if _ _)
-    where
-      by : (b : Bool) → length (mapping_items 0 1 len false) ≤ 1 → length (if b then mapping_items 0 1 len false else []) ≤ 1
-      by true few = few
-      by false few = omega arith
+  first_few len = (elim (nat_lt 0 len) as (λ b. length (mapping_items 0 1 len false) ≤ 1 → length (if b then mapping_items 0 1 len false else []) ≤ 1)
+      [ true ↦ λ few. few | false ↦ λ few. omega arith ]) (one_if _ _)
 
   keys_few : (t : Side) (keys : CapableKeys) → length (key_items t keys) ≤ 2
   keys_few A NoKey = omega arith
@@ -203,10 +180,7 @@ module _ (joined : Bool) (s : Side) (window : ℕ) (spelling : Spelling) (from :
       ))
   value_few (wire.AddAddr echo id address port hmac) = inl (omega (arith, address_few echo id address port hmac))
   value_few (wire.RemoveAddr ids) = inr (omega (arith, removed_few ids))
-  value_few (wire.Prio backup) = inl (omega arith)
-  value_few (wire.Fail number) = inl (omega arith)
-  value_few (wire.FastClose key) = inl (omega arith)
-  value_few (wire.Reset transient reason) = inl (omega arith)
+  value_few _ = inl (omega arith)
 
   -- ---- all of them
 

@@ -2,8 +2,7 @@
 --
 -- What a silent duty needs room for is held before: each store's value has how much is ready, and the view of what is
 -- around it forgets that.
-use Rattle.std.proofs.Common.{◌≡◌, refl, ap, List, [], ◌∷◌, ◌++◌}
-use Rattle.path_agenda.specs.declared.heard.Heard.{Heard}
+use Rattle.path_core.proofs.Words.{◌≡◌, refl, ap, List, [], ◌∷◌, ◌++◌, Heard}
 
 pub append-assoc : (xs ys zs : List Heard) → (xs ++ ys) ++ zs ≡ xs ++ (ys ++ zs)
 append-assoc [] ys zs = refl

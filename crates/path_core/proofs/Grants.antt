@@ -1,35 +1,20 @@
 -- What may be sent where a duty stands, and what a grant brings.
-use Rattle.std.proofs.Common.{◌≡◌, refl, ◌^◌, ◌<◌, ◌≤◌, Bool, true, false, ◌&&◌, ◌||◌, not, is_some, Option, Some, None, arith}
-use Rattle.std.specs.Prelude.{IsTrue, nat_le}
-use Rattle.std.proofs.lemmas.Bool.{leb-false}
-use Rattle.sides.specs.declared.side.Side.{Side}
-use Rattle.subflow_send.specs.Records.{Record}
-use Rattle.subflow_tcp.specs.State.{EndState, is_at_limit}
-use Rattle.subflow_tcp.specs.States.{may_finish}
-use Rattle.path_core.specs.DataFin.{is_fin_due}
-use Rattle.path_core.specs.Emission.{may_ask, data_stands}
-use Rattle.path_core.specs.End.{PathEnd}
-use Rattle.path_core.specs.State.{PathState}
-use Rattle.path_core.specs.Profile.{Profile}
-use Rattle.path_core.specs.Turns.{TakesTime}
+use Rattle.path_core.proofs.Words.{◌≡◌, refl, ◌<◌, ◌≤◌, ◌&&◌, ◌||◌, Bool, true, false, Option, Some, None, arith, ◌^◌, is_some, not, leb-false, IsTrue, Side}
+use Rattle.path_core.proofs.Words.{Record, EndState, is_at_limit, may_finish, PathState, PathEnd, Profile, is_fin_due, may_ask, data_stands, TakesTime}
+use Rattle.std.specs.Prelude.{nat_le}
 
 first_true : (a b : Bool) → (a && b) ≡ true → a ≡ true
-first_true true b is = refl
-first_true false b is = is
+first_true = elim [ true ↦ λ b is. refl | false ↦ λ b is. is ]
 
 second_true : (a b : Bool) → (a && b) ≡ true → b ≡ true
-second_true true b is = is
-second_true false b is = cc
+second_true = elim [ true ↦ λ b is. is | false ↦ λ b is. cc ]
 
 pub may_state : (c : Profile) (s : Side) (e : PathEnd) → may_ask c s e ≡ true → IsTrue (may_finish e.tcp.state)
 may_state c s e is = first_true _ _ is
 
 below_limit : (e : EndState) → not (is_at_limit e) ≡ true → e.send.nxt < 2 ^ 61
-below_limit e is = by (nat_le (2 ^ 61) e.send.nxt) refl is
-  where
-    by : (b : Bool) → nat_le (2 ^ 61) e.send.nxt ≡ b → not (b || nat_le (2 ^ 61) e.recv.edge) ≡ true → e.send.nxt < 2 ^ 61
-    by true above is = cc
-    by false below is = leb-false _ _ below
+below_limit e is = (elim (nat_le (2 ^ 61) e.send.nxt) as (λ b. nat_le (2 ^ 61) e.send.nxt ≡ b → not (b || nat_le (2 ^ 61) e.recv.edge) ≡ true → e.send.nxt < 2 ^ 61)
+    [ true ↦ λ above is. cc | false ↦ λ below is. leb-false _ _ below ]) refl is
 
 pub may_room : (c : Profile) (s : Side) (e : PathEnd) → may_ask c s e ≡ true → e.tcp.send.nxt < 2 ^ 61
 may_room c s e is = below_limit e.tcp (first_true _ _ (second_true _ _ (second_true _ _ is)))

@@ -1,37 +1,29 @@
 -- MP_CAPABLE at a path is that of the handshake.
-use Rattle.std.proofs.Common.{◌≡◌, ◌≢◌, refl, sym, ap, subst, ℕ, [], ◌∷◌, Option, Bool, true, false, Some, None, if◌then◌else◌, ◌||◌, ◌==◌, arith}
+use Rattle.path_core.proofs.Words.{◌≡◌, refl, sym, ap, subst, ℕ, ◌||◌, Bool, true, false, if◌then◌else◌, Option, Some, None, [], ◌∷◌, arith, ◌==◌, ◌≢◌}
+use Rattle.path_core.proofs.Words.{CapableKeys, NoKey, Sender, Both, WithData, ControlReply, Capable, Profile}
 use Rattle.control_book.specs.Control.{Control}
 use Rattle.control_book.specs.Replies.{reply_to}
-use Rattle.control_book.specs.declared.call.ControlCall.TheVariants as control_calls
-use Rattle.control_book.specs.declared.call.ControlReply.TheVariants as control_replies
-use Rattle.mptcp_options.specs.declared.capable.CapableKeys.{CapableKeys}
-use Rattle.mptcp_options.specs.declared.capable.CapableKeys.TheVariants.{NoKey, Sender, Both, WithData}
+use Rattle.control_book.specs.declared.call.ControlCall.{ControlCall}
 use Rattle.mptcp_options.specs.Value as wire
 use Rattle.capable_handshake.specs.Said.{first_data_option}
-use Rattle.path_segments.specs.declared.segment.PathOption.TheVariants.{Capable}
 use Rattle.path_core.specs.Handshakes.{CapableIsHeard, ChecksumsAreThose, KeysAreConfirmed, CapableIsTheHandshake}
 use Rattle.path_core.specs.Unnumbered.{unnumbered}
-use Rattle.path_core.specs.Profile.{Profile}
 
 -- the first data says flag A where its mapping has a checksum, and that is where checksums are used
 pub first_is_said : (checksums : Bool) (own peer len checksum : ℕ)
     → unnumbered (first_data_option own peer len (if checksums then Some checksum else None))
     ≡ Capable checksums false (WithData own peer len (if checksums then Some checksum else None)) ∷ []
-first_is_said true own peer len checksum = refl
-first_is_said false own peer len checksum = refl
+first_is_said = elim [ true ↦ λ own peer len checksum. refl | false ↦ λ own peer len checksum. refl ]
 
 heard : (flag_a flag_c : Bool) (keys : CapableKeys) → CapableIsHeard flag_a flag_c keys
 heard flag_a flag_c NoKey = record { syn = refl; syn_ack = refl; ack = refl }
-heard flag_a flag_c (Sender sender) = record { syn = refl; syn_ack = refl; ack = refl }
-heard flag_a flag_c (Both sender receiver) = record { syn = refl; syn_ack = refl; ack = refl }
-heard flag_a flag_c (WithData sender receiver len checksum) = record { syn = refl; syn_ack = refl; ack = refl }
+heard flag_a flag_c _ = record { syn = refl; syn_ack = refl; ack = refl }
 
 checksums : (c : Profile) → ChecksumsAreThose c
 checksums c = record { syn = same c.spelling.checksums; syn_ack = λ own_key. same c.spelling.checksums }
   where
     same : (used : Bool) → Some (used || used) ≡ Some used
-    same true = refl
-    same false = refl
+    same = elim [ true ↦ refl | false ↦ refl ]
 
 same_is : (a b : ℕ) → a ≡ b → (a == b) ≡ true
 same_is a b e = grind (arith, e)
@@ -40,11 +32,11 @@ other_is : (a b : ℕ) → a ≢ b → (a == b) ≡ false
 other_is a b differs = grind (arith, differs)
 
 -- the book that has this own key notes both keys, and no others
-noted : (own peer : ℕ) (book : Control) → own ≡ book.keys.own → Some (reply_to book (control_calls.Keys own peer)) ≡ Some control_replies.Noted
+noted : (own peer : ℕ) (book : Control) → own ≡ book.keys.own → Some (reply_to book (ControlCall.Keys own peer)) ≡ Some ControlReply.Noted
 noted own peer book e = rw (same_is own book.keys.own e) refl
 
 refused : (own peer : ℕ) (book : Control) → own ≢ book.keys.own
-    → Some (reply_to book (control_calls.Keys own peer)) ≡ Some (control_replies.KeysDiffer book.keys.own)
+    → Some (reply_to book (ControlCall.Keys own peer)) ≡ Some (ControlReply.KeysDiffer book.keys.own)
 refused own peer book differs = rw (other_is own book.keys.own differs) refl
 
 abbrev second_of : Option (ℕ × ℕ) → ℕ

@@ -1,83 +1,52 @@
 -- Events: ticks pass, or one event less is due.
-use Rattle.std.proofs.Common.{◌≡◌, refl, ℕ, ◌+◌, ◌<◌, ◌≤◌, ◌⊎◌, inl, inr, ⊎_elim, max, nat_le, nat_lt, Bool, true, false, if◌then◌else◌, List, [], ◌∷◌, length, Option, Some, None, is_some, option_and_then, position, subst, arith}
-use Rattle.std.proofs.lemmas.Bool.{cases_lt, ltb-true, leb-false, eq-eqb, lt-ltb}
-use Rattle.path_segments.specs.Heard.{HeardSegment}
-use Rattle.sides.specs.declared.side.Side.{Side}
-use Rattle.sides.specs.declared.side.Side.TheVariants.{A, B}
+use Rattle.path_core.proofs.Words.{◌≡◌, ◌⊎◌, inl, inr, refl, subst, ℕ, ◌+◌, ◌<◌, ◌≤◌, nat_le, nat_lt, Bool, true, false, if◌then◌else◌, Option, Some, None}
+use Rattle.path_core.proofs.Words.{List, [], ◌∷◌, length, arith, is_some, ⊎_elim, position, max, option_and_then, cases_lt, ltb-true, leb-false, eq-eqb, lt-ltb}
+use Rattle.path_core.proofs.Words.{Side, A, B, EndPhase, is_dead, after_arrival, is_due, next_due, arriving, after_delivery, without, due_of, Flight}
+use Rattle.path_core.proofs.Words.{HeardSegment, emission, announces, withdraws, leaves, Reply, tail_of, Then, Less, copy_of, judged_in, after_judged}
+use Rattle.path_core.proofs.Words.{template_of, told_at, copy_heard, with_payload, copy_taken, never_joined, is_never, keys_begun, opened_by, is_joined}
+use Rattle.path_core.proofs.Words.{joins_at_tick, with_priority, options_heard, hint_of, items_of, owes_by, at_tick, PathState, end_at, goes_on, taken_as}
+use Rattle.path_core.proofs.Words.{PathEnd, died, Codec, TakesTime, tick_of, next_join, next_line, next_copy, earlier, earliest, before, next_event, after_line}
+use Rattle.path_core.proofs.Words.{line_taken, happens, happens_if, CanHappen, died_unless_dead, ticks_left, one_if_due, due_copies, due_timer, due_by_now}
+use Rattle.path_core.proofs.Words.{due_lines}
 use Rattle.link_script.specs.Places.{same_side}
-use Rattle.link_model.specs.declared.flight.Flight.{Flight}
-use Rattle.link_model.specs.Steps.{due_of, is_due, without, next_due, arriving, after_delivery}
-use Rattle.subflow_tcp.specs.States.{is_dead, is_waiting}
-use Rattle.subflow_tcp.specs.declared.handshake.State.{State as EndPhase}
-use Rattle.subflow_tcp.specs.Taking.{after_arrival}
-use Rattle.path_core.specs.OptionsIn.{options_heard, hint_of, items_of, owes_by}
-use Rattle.path_core.specs.Arrival.{copy_of, with_payload, judged_in, after_judged, template_of, told_at, copy_heard, heard_in, copy_taken}
-use Rattle.path_core.specs.Judged.{taken_as}
-use Rattle.path_core.specs.MpJoin.{is_never, keys_begun, opened_by, is_joined, never_joined, joins_at_tick}
+use Rattle.subflow_tcp.specs.States.{is_waiting}
+use Rattle.path_core.specs.Arrival.{heard_in}
 use Rattle.path_core.proofs.Joined.{never_rests, opened_rests}
-use Rattle.actor_desk.specs.declared.ask.Reply.{Reply}
-use Rattle.path_agenda.specs.Agenda.{emission, announces, withdraws, leaves}
-use Rattle.path_core.specs.Codec.{Codec}
-use Rattle.path_core.specs.End.{PathEnd, died}
-use Rattle.path_core.specs.Events.{tick_of, next_join, next_line, next_copy, earlier, earliest, before, next_event, after_line, line_taken, happens, happens_if, CanHappen}
 use Rattle.path_core.specs.Timer.{next_fire, timer_fired}
-use Rattle.path_core.specs.Breaking.{died_unless_dead}
-use Rattle.path_core.specs.Addresses.{with_priority}
-use Rattle.path_core.specs.State.{at_tick, PathState, end_at, goes_on}
 use Rattle.path_core.specs.declared.events.Event.{Event}
-use Rattle.path_core.specs.declared.events.Event.TheVariants as happenings
-use Rattle.path_core.specs.Ranks.{ticks_left, one_if_due, due_copies, due_lines, due_timer, due_by_now}
 use Rattle.path_store.specs.declared.lines.LineLeft.{LineLeft}
 use Rattle.path_store.specs.declared.lines.LineAction.{LineAction}
-use Rattle.path_store.specs.declared.lines.LineAction.TheVariants as actions
-use Rattle.path_core.specs.Turns.{TakesTime}
-use Rattle.actor_desk.specs.Words.{tail_of}
-use Rattle.actor_desk.proofs.Falling.{Then, Less}
 use Rattle.path_core.proofs.Ranking.{Rests, same_rests, Calm, goes_calm, agenda_calm, Lower, Lowers}
 use Rattle.path_core.proofs.Resting.{to_rests, held_settles, owing_settles, fired_rests}
 
 -- ---- lists
 
 due_now : (clock tick : ℕ) → tick ≤ clock → one_if_due clock tick ≡ 1
-due_now clock tick now = by (nat_le tick clock) refl
-  where
-    by : (b : Bool) → nat_le tick clock ≡ b → ◌≡◌ {A = ℕ} (if b then 1 else 0) 1
-    by true is = refl
-    by false is = absurd (omega (arith, leb-false _ _ is, now))
+due_now clock tick now = (elim (nat_le tick clock) as (λ b. nat_le tick clock ≡ b → ◌≡◌ {A = ℕ} (if b then 1 else 0) 1)
+    [ true ↦ λ is. refl | false ↦ λ is. absurd (omega (arith, leb-false _ _ is, now)) ]) refl
 
 same_itself : (s : Side) → same_side s s ≡ true
-same_itself A = refl
-same_itself B = refl
+same_itself = elim [ A ↦ refl | B ↦ refl ]
 
 -- ---- a death
 
 dead_rests : (clock : ℕ) (e : PathEnd) → Rests clock e (died_unless_dead e)
-dead_rests clock e = by (is_dead e.tcp.state)
-  where
-    by : (b : Bool) → Rests clock e (if b then e else died e)
-    by true = same_rests clock e e refl
-    by false = record { due = omega arith; timeout = λ some. some }
+dead_rests clock e = elim (is_dead e.tcp.state) as (λ b. Rests clock e (if b then e else died e))
+    [ true ↦ same_rests clock e e refl | false ↦ record { due = omega arith; timeout = λ some. some } ]
 
 -- ---- the earliest event
 
 one_of_both : (x y : Option Event) (event : Event) → earlier x y ≡ Some event → (x ≡ Some event) ⊎ (y ≡ Some event)
 one_of_both None y event e = inr e
 one_of_both (Some x) None event e = inl e
-one_of_both (Some x) (Some y) event e = by (nat_le (tick_of x) (tick_of y)) e
-  where
-    by : (b : Bool) → (if b then Some x else Some y) ≡ Some event → (Some x ≡ Some event) ⊎ (Some y ≡ Some event)
-    by true e = inl e
-    by false e = inr e
+one_of_both (Some x) (Some y) event e = (elim (nat_le (tick_of x) (tick_of y)) as (λ b. (if b then Some x else Some y) ≡ Some event → (Some x ≡ Some event) ⊎ (Some y ≡ Some event))
+    [ true ↦ λ e. inl e | false ↦ λ e. inr e ]) e
 
 soon_enough : (until : ℕ) (x : Option Event) (event : Event) → option_and_then (before until) x ≡ Some event → (x ≡ Some event) × (tick_of event < until)
 soon_enough until None event e = cc
-soon_enough until (Some x) event e = by (nat_lt (tick_of x) until) refl e
-  where
-    by : (b : Bool) → nat_lt (tick_of x) until ≡ b → (if b then Some x else None) ≡ Some event → (Some x ≡ Some event) × (tick_of event < until)
-    by true is e =
-        let same : x ≡ event = cc in
-        (e, subst (λ y. tick_of y < until) same (ltb-true _ _ is))
-    by false is e = cc
+soon_enough until (Some x) event e =
+    (elim (nat_lt (tick_of x) until) as (λ b. nat_lt (tick_of x) until ≡ b → (if b then Some x else None) ≡ Some event → (Some x ≡ Some event) × (tick_of event < until))
+    [ true ↦ λ is e. let same : x ≡ event = cc in (e, subst (λ y. tick_of y < until) same (ltb-true _ _ is)) | false ↦ λ is e. cc ]) refl e
 
 module _ {C : Type 0} where
   head_is_due : (f : Flight C) → is_due (due_of f) f ≡ true
@@ -97,10 +66,7 @@ module _ {C : Type 0} where
       → (q.clock ≡ p.clock → tick ≤ p.clock → due_by_now q < due_by_now p) → TakesTime q → Passes p q
   passes_by p q tick soon until clock fewer time = ⊎_elim
       (λ later. record { fewer = Then.Falls (omega (arith, later, soon, until, clock)); time = time })
-      (λ now. record {
-        fewer = Then.Stays (omega (arith, now, until, clock)) (fewer (omega (arith, now, clock)) now);
-        time = time;
-      })
+      (λ now. record { fewer = Then.Stays (omega (arith, now, until, clock)) (fewer (omega (arith, now, clock)) now); time = time })
       (cases_lt p.clock tick)
 
   -- what follows raises none of the two
@@ -122,7 +88,10 @@ module _ {C : Type 0} where
       (record { delay = t.delay; timer_a = t.timer_a; timer_b = t.timer_b })
 
   join_calm : (r : Reply) (p : PathState C) → TakesTime p → Calm p (joins_at_tick r p)
-  join_calm r p t = by (is_never r)
+  join_calm r p t = elim (is_never r) as (λ b. Calm p (if b then goes_on A (never_joined r p.a) (leaves A) after else goes_on A (opened_by (keys_begun r) p.a) (emission A) after)) [
+    | true ↦ both _ (goes_calm A (never_joined r p.a) (leaves A) after first.time (never_rests p.clock r p.a))
+    | false ↦ both _ (goes_calm A (opened_by (keys_begun r) p.a) (emission A) after first.time (opened_rests p.clock (keys_begun r) p.a))
+  ]
     where
       after : PathState C
       after = record p { joined_at = None }
@@ -132,10 +101,6 @@ module _ {C : Type 0} where
 
       both : (q : PathState C) → Calm after q → Calm p q
       both q next = record { ticks = omega (arith, first.ticks, next.ticks); due = omega (arith, first.due, next.due); time = next.time }
-
-      by : (b : Bool) → Calm p (if b then goes_on A (never_joined r p.a) (leaves A) after else goes_on A (opened_by (keys_begun r) p.a) (emission A) after)
-      by true = both _ (goes_calm A (never_joined r p.a) (leaves A) after first.time (never_rests p.clock r p.a))
-      by false = both _ (goes_calm A (opened_by (keys_begun r) p.a) (emission A) after first.time (opened_rests p.clock (keys_begun r) p.a))
 
   join_lowers : (r : Reply) (tick : ℕ) (p : PathState C) → TakesTime p → p.joined_at ≡ Some tick → tick < p.until
       → Lowers p (joins_at_tick r (at_tick tick p))
@@ -157,17 +122,13 @@ module _ {C : Type 0} where
       one_less = rw is refl
 
   line_calm : (action : LineAction) (p : PathState C) → TakesTime p → Calm p (after_line action p)
-  line_calm actions.Die p t =
+  line_calm LineAction.Die p t =
       let a = dead_rests p.clock p.a in let b = dead_rests p.clock p.b in
-      record {
-        ticks = omega arith;
-        due = omega (arith, a.due, b.due);
-        time = record { delay = t.delay; timer_a = a.timeout t.timer_a; timer_b = b.timeout t.timer_b };
-      }
-  line_calm (actions.Prio s backup) p t =
+      record { ticks = omega arith; due = omega (arith, a.due, b.due); time = record { delay = t.delay; timer_a = a.timeout t.timer_a; timer_b = b.timeout t.timer_b } }
+  line_calm (LineAction.Prio s backup) p t =
       goes_calm s (with_priority backup (end_at s p)) (emission s) p t (same_rests p.clock (end_at s p) (with_priority backup (end_at s p)) refl)
-  line_calm (actions.Announce s id) p t = agenda_calm (announces s id) p t
-  line_calm (actions.Withdraw s id) p t = agenda_calm (withdraws s id) p t
+  line_calm (LineAction.Announce s id) p t = agenda_calm (announces s id) p t
+  line_calm (LineAction.Withdraw s id) p t = agenda_calm (withdraws s id) p t
 
   line_lowers : (line : LineLeft) (lines : List LineLeft) (p : PathState C) → TakesTime p → p.lines ≡ line ∷ lines → line.tick < p.until
       → Lowers p (line_taken line p)
@@ -236,37 +197,33 @@ module _ {C : Type 0} where
   by_join : (k : Codec C) (r : Reply) (p : PathState C) (state : EndPhase) (joined_at : Option ℕ) (event : Event) → TakesTime p → p.joined_at ≡ joined_at
       → next_join state joined_at ≡ Some event → tick_of event < p.until → Lowers p (happens k event r p)
   by_join k r p state None event t is e soon = cc
-  by_join k r p state (Some tick) event t is e soon = by (is_waiting state) e
-    where
-      by : (b : Bool) → (if b then Some (happenings.Joins tick) else None) ≡ Some event → Lowers p (happens k event r p)
-      by true e =
-          let same : happenings.Joins tick ≡ event = cc in
-          subst (λ x. tick_of x < p.until → Lowers p (happens k x r p)) same (λ soon. join_lowers r tick p t is soon) soon
-      by false e = cc
+  by_join k r p state (Some tick) event t is e soon = (elim (is_waiting state) as (λ b. (if b then Some (Event.Joins tick) else None) ≡ Some event → Lowers p (happens k event r p))
+      [ true ↦ λ e. let same : Event.Joins tick ≡ event = cc in subst (λ x. tick_of x < p.until → Lowers p (happens k x r p)) same (λ soon. join_lowers r tick p t is soon) soon | false ↦ λ e. cc ]) e
 
   by_line : (k : Codec C) (r : Reply) (p : PathState C) (lines : List LineLeft) (event : Event) → TakesTime p → p.lines ≡ lines → next_line lines ≡ Some event
       → tick_of event < p.until → Lowers p (happens k event r p)
   by_line k r p [] event t is e soon = cc
   by_line k r p (line ∷ lines) event t is e soon =
-      let same : happenings.Takes line ≡ event = cc in
+      let same : Event.Takes line ≡ event = cc in
       subst (λ x. tick_of x < p.until → Lowers p (happens k x r p)) same (λ soon. line_lowers line lines p t is soon) soon
 
   by_copy : (k : Codec C) (r : Reply) (p : PathState C) (flights : List (Flight C)) (event : Event) → TakesTime p → p.link.under_way ≡ flights
       → next_copy (next_due flights) ≡ Some event → tick_of event < p.until → Lowers p (happens k event r p)
   by_copy k r p [] event t is e soon = cc
   by_copy k r p (f ∷ flights) event t is e soon =
-      let same : happenings.Arrives (due_of f) ≡ event = cc in
+      let same : Event.Arrives (due_of f) ≡ event = cc in
       subst (λ x. tick_of x < p.until → Lowers p (happens k x r p)) same (λ soon. copy_lowers k f flights p t is soon) soon
 
   by_timer : (k : Codec C) (s : Side) (r : Reply) (p : PathState C) (timer : Option ℕ) (event : Event) → TakesTime p → (end_at s p).tcp.timing.timer ≡ timer
       → next_fire s timer ≡ Some event → tick_of event < p.until → Lowers p (happens k event r p)
   by_timer k s r p None event t is e soon = cc
   by_timer k s r p (Some tick) event t is e soon =
-      let same : happenings.Fires s tick ≡ event = cc in
+      let same : Event.Fires s tick ≡ event = cc in
       subst (λ x. tick_of x < p.until → Lowers p (happens k x r p)) same (λ soon. fire_lowers s tick p t is soon) soon
 
   pub event_lowers : (k : Codec C) (r : Reply) (p : PathState C) → TakesTime p → is_some (next_event p) ≡ true → Lowers p (happens_if k (next_event p) r p)
-  event_lowers k r p t some = by (next_event p) refl some
+  event_lowers k r p t some = (elim (next_event p) as (λ x. next_event p ≡ x → is_some x ≡ true → Lowers p (happens_if k x r p))
+      [ None ↦ λ is some. cc | Some event ↦ λ is some. let found = soon_enough p.until (earliest p) event is in chosen event found.0 found.1 ]) refl some
     where
       chosen : (event : Event) → earliest p ≡ Some event → tick_of event < p.until → Lowers p (happens k event r p)
       chosen event e soon = ⊎_elim
@@ -283,32 +240,24 @@ module _ {C : Type 0} where
           (one_of_both _ _ event later))
           (one_of_both _ _ event e)
 
-      by : (x : Option Event) → next_event p ≡ x → is_some x ≡ true → Lowers p (happens_if k x r p)
-      by None is some = cc
-      by (Some event) is some = let found = soon_enough p.until (earliest p) event is in chosen event found.0 found.1
-
   -- ---- what can happen
 
   can_join : (p : PathState C) (state : EndPhase) (joined_at : Option ℕ) (event : Event) → next_join state joined_at ≡ Some event
       → tick_of event < p.until → CanHappen event p
   can_join p state None event e soon = cc
-  can_join p state (Some tick) event e soon = by (is_waiting state) e
-    where
-      by : (b : Bool) → (if b then Some (happenings.Joins tick) else None) ≡ Some event → CanHappen event p
-      by true e =
-          let same : happenings.Joins tick ≡ event = cc in subst (λ x. tick_of x < p.until → CanHappen x p) same (λ soon. soon) soon
-      by false e = cc
+  can_join p state (Some tick) event e soon = (elim (is_waiting state) as (λ b. (if b then Some (Event.Joins tick) else None) ≡ Some event → CanHappen event p)
+      [ true ↦ λ e. let same : Event.Joins tick ≡ event = cc in subst (λ x. tick_of x < p.until → CanHappen x p) same (λ soon. soon) soon | false ↦ λ e. cc ]) e
 
   can_take : (p : PathState C) (lines : List LineLeft) (event : Event) → next_line lines ≡ Some event → tick_of event < p.until → CanHappen event p
   can_take p [] event e soon = cc
   can_take p (line ∷ lines) event e soon =
-      let same : happenings.Takes line ≡ event = cc in subst (λ x. tick_of x < p.until → CanHappen x p) same (λ soon. soon) soon
+      let same : Event.Takes line ≡ event = cc in subst (λ x. tick_of x < p.until → CanHappen x p) same (λ soon. soon) soon
 
   can_arrive : (p : PathState C) (flights : List (Flight C)) (event : Event) → p.link.under_way ≡ flights → next_copy (next_due flights) ≡ Some event
       → tick_of event < p.until → CanHappen event p
   can_arrive p [] event is e soon = cc
   can_arrive p (f ∷ flights) event is e soon =
-      let same : happenings.Arrives (due_of f) ≡ event = cc in subst (λ x. tick_of x < p.until → CanHappen x p) same (λ soon. (soon, there)) soon
+      let same : Event.Arrives (due_of f) ≡ event = cc in subst (λ x. tick_of x < p.until → CanHappen x p) same (λ soon. (soon, there)) soon
     where
       there : is_some (arriving (due_of f) p.link) ≡ true
       there = rw (is, head_is_due f) refl
@@ -317,7 +266,7 @@ module _ {C : Type 0} where
       → tick_of event < p.until → CanHappen event p
   can_fire s p None event is e soon = cc
   can_fire s p (Some tick) event is e soon =
-      let same : happenings.Fires s tick ≡ event = cc in
+      let same : Event.Fires s tick ≡ event = cc in
       subst (λ x. tick_of x < p.until → CanHappen x p) same (λ soon. (soon, rw is refl)) soon
 
   -- the earliest event can happen where it comes before the round's end

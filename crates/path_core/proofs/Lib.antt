@@ -28,3 +28,4 @@ mod InBounds
 mod Settling
 mod FirstDuty
 mod LinesOf
+mod Words

@@ -1,5 +1,5 @@
 -- The line of a path is the one at its place.
-use Rattle.std.proofs.Common.{◌≡◌, refl, ℕ, zero, suc, ◌<◌, List, [], ◌∷◌, length, get_or, arith}
+use Rattle.path_core.proofs.Words.{◌≡◌, refl, ℕ, zero, suc, ◌<◌, List, [], ◌∷◌, length, arith, get_or}
 use Rattle.link_script.specs.declared.script.PathLine.{PathLine}
 use Rattle.path_core.specs.Start.{line_of}
 

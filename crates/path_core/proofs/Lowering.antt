@@ -1,69 +1,32 @@
 -- Each reply of the asked kind lowers the numbers of a turn.
-use Rattle.std.proofs.Common.{◌≡◌, refl, ap, subst, ℕ, ◌+◌, ◌-◌, ◌<◌, ◌≤◌, ◌&&◌, not, nat_lt, is_some, Bool, true, false, if◌then◌else◌, List, [], ◌∷◌, length, Option, Some, None, arith}
-use Rattle.std.proofs.lemmas.Bool.{leb-true, ltb-true}
-use Rattle.sides.specs.declared.side.Side.{Side}
-use Rattle.sides.specs.declared.side.Side.TheVariants.{A, B}
-use Rattle.path_segments.specs.Spelled.{PlainSegment}
-use Rattle.send_book.specs.declared.call.SendReply.TheVariants as send_replies
-use Rattle.subflow_send.specs.Records.{Record}
+use Rattle.path_core.proofs.Words.{◌≡◌, refl, ap, subst, ℕ, ◌+◌, ◌-◌, ◌<◌, ◌≤◌, ◌&&◌, nat_lt, Bool, true, false, if◌then◌else◌, Option, Some, None, List, []}
+use Rattle.path_core.proofs.Words.{◌∷◌, length, arith, is_some, not, ltb-true, leb-true, Side, A, B, JoinSyn, SendCall, filled, Record, EndState, may_finish}
+use Rattle.path_core.proofs.Words.{Occasion, PlainSegment, Piece, some_piece, InfiniteMapping, Heard, key_heard, keys_heard, leaves, resets, breaks, stops}
+use Rattle.path_core.proofs.Words.{replaced, Duty, AskDuty, StepDuty, KeyPair, SendDuty, SilentDuty, weight, weights, OwnNotice, Reply, is_nil, tail_of, Then}
+use Rattle.path_core.proofs.Words.{Ask, IsOfKind, IsSomeOf, with_learned, is_clash, with_data_fin, is_acked, told_next, with_acked, answered_mapping}
+use Rattle.path_core.proofs.Words.{syn_ack_of, with_peer_key, answered_peer_key, after_keys, answered_opened, never_joined, join_begun, with_mode_refused}
+use Rattle.path_core.proofs.Words.{is_never, keys_begun, opened_by, joined_by, asked_at, join_taken, is_note_due, note_of, having_noted, answered_note}
+use Rattle.path_core.proofs.Words.{after_peer_notice, after_fell, fell_duties, answered_fell, in_identity, after_check_failed, answered_check_failed}
+use Rattle.path_core.proofs.Words.{is_infinite_receive, after_infinite, answered_infinite, may_go_infinite, with_infinite, book_answered, is_infinite_send}
+use Rattle.path_core.proofs.Words.{after_fail_heard, answered_fail_heard, breaks_by_ack, with_plain_ack, answered_plain_ack, with_plain_acked, PathState}
+use Rattle.path_core.proofs.Words.{end_at, with_agenda, goes_on, left, path_of, PathEnd, died, Profile, Codec, stands, ask_for, answered, data_fin_segment}
+use Rattle.path_core.proofs.Words.{having_sent_data_fin, fin_segment_of, having_sent_fin, is_fin_set, with_peer_data_fin, answered_fin_heard, with_fin_told}
+use Rattle.path_core.proofs.Words.{answered_plain_fin, first_unsent, unsent_segment, having_sent_unsent, may_ask, data_stands, payload_size, grant_ask}
+use Rattle.path_core.proofs.Words.{data_ask, Grant, grant_in, granted, refused, answered_grant, answered_data, first_segment, answer_occasion, answer_of}
+use Rattle.path_core.proofs.Words.{dead_answer, resend_occasion, resend_of, TakesTime, refusal_of, reset_of, reset_on, answered_break, work, having_asked}
+use Rattle.path_core.proofs.Words.{piece_of, is_placed, placed, answered_piece, plain_piece, infinite_piece, piece_by, mapping_here, next_piece, after_piece}
+use Rattle.path_core.proofs.Words.{after_rate, having_sent, sent_on, may_note, after_look, after_ack_out, answered_ack_out, ack_segment, acknowledges, item_of}
+use Rattle.path_core.proofs.Words.{answered_item}
+use Rattle.send_book.specs.declared.call.SendReply.{SendReply}
 use Rattle.subflow_send.specs.declared.record.RecordKind.TheVariants.{Data}
 use Rattle.subflow_send.specs.Sendings.{never_sent}
 use Rattle.subflow_tcp.specs.Sizes.{room}
-use Rattle.subflow_tcp.specs.States.{may_finish}
-use Rattle.subflow_tcp.specs.declared.segments.Occasion.TheVariants as to_send
-use Rattle.send_book.specs.declared.call.SendCall.TheVariants as send_calls
-use Rattle.actor_desk.specs.declared.ask.Ask.TheVariants as asks
-use Rattle.actor_desk.specs.declared.ask.Reply.{Reply}
-use Rattle.actor_desk.specs.declared.ask.Reply.TheVariants as replies
-use Rattle.path_agenda.specs.declared.duty.Duty.{Duty}
-use Rattle.path_agenda.specs.declared.duty.Duty.TheVariants as duties
-use Rattle.path_agenda.specs.declared.duty.AskDuty.TheVariants as ask_duties
-use Rattle.path_agenda.specs.declared.duty.SendDuty.TheVariants as send_duties
-use Rattle.path_agenda.specs.declared.duty.SilentDuty.TheVariants as silent_duties
-use Rattle.path_agenda.specs.declared.duty.StepDuty.TheVariants as step_duties
-use Rattle.path_agenda.specs.declared.heard.Heard.{Heard}
-use Rattle.path_agenda.specs.declared.heard.Heard.TheVariants as says
-use Rattle.path_agenda.specs.Agenda.{breaks, resets, leaves, stops}
-use Rattle.path_core.specs.Breaking.{reset_of, reset_on, answered_break, refusal_of}
-use Rattle.path_core.specs.Codec.{Codec}
 use Rattle.path_core.specs.FastClose.{fast_close_of, having_fast_closed, is_stopped_by}
-use Rattle.path_core.specs.Addresses.{is_note_due, note_of, having_noted, answered_note, after_peer_notice}
-use Rattle.path_core.specs.Duties.{stands, ask_for, answered}
-use Rattle.path_core.specs.Emission.{first_unsent, unsent_segment, having_sent_unsent, may_ask, data_stands, payload_size, grant_ask, data_ask, Grant, grant_in, granted, refused, answered_grant, answered_data, first_segment, answer_occasion, answer_of, dead_answer, resend_occasion, resend_of}
-use Rattle.path_core.specs.DataFin.{data_fin_segment, having_sent_data_fin, fin_segment_of, having_sent_fin, is_fin_set, with_peer_data_fin, answered_fin_heard, with_fin_told, answered_plain_fin}
-use Rattle.path_core.specs.End.{PathEnd, died}
-use Rattle.path_core.specs.MpJoin.{never_joined, join_begun, with_mode_refused, is_never, keys_begun, opened_by, joined_by, asked_at, join_taken}
-use Rattle.path_agenda.specs.declared.keys.KeyPair.{KeyPair}
-use Rattle.join_handshake.specs.declared.hearing.JoinSyn.{JoinSyn}
 use Rattle.path_core.proofs.Joined.{never_rests, opened_rests, joined_rests}
-use Rattle.actor_desk.specs.Kinds.{IsOfKind, IsSomeOf}
-use Rattle.path_agenda.specs.Items.{key_heard, keys_heard}
 use Rattle.fallback_state.specs.declared.fall.Event.{Event}
-use Rattle.fallback_state.specs.declared.fall.Event.TheVariants as events
-use Rattle.path_core.specs.Fallback.{after_fell, fell_duties, answered_fell, in_identity, after_check_failed, answered_check_failed, is_infinite_receive, after_infinite, answered_infinite, may_go_infinite, with_infinite, book_answered, is_infinite_send, after_fail_heard, answered_fail_heard, breaks_by_ack, with_plain_ack, answered_plain_ack, with_plain_acked}
-use Rattle.path_core.specs.MpCapable.{syn_ack_of, with_peer_key, answered_peer_key, after_keys, answered_opened}
-use Rattle.path_core.specs.Deliver.{having_asked, piece_of, is_placed, placed, answered_piece, plain_piece, infinite_piece, piece_by, mapping_here, next_piece, after_piece}
-use Rattle.path_core.specs.Rate.{after_rate}
 use Rattle.path_core.specs.Deliver as passing
-use Rattle.path_store.specs.Passing.{Piece, some_piece}
 use Rattle.path_store.specs.InfiniteMappings.{covers}
-use Rattle.path_store.specs.declared.infinite_mapping.InfiniteMapping.{InfiniteMapping}
-use Rattle.subflow_recv.specs.Receiving.{filled}
-use Rattle.subflow_tcp.specs.State.{EndState}
-use Rattle.path_agenda.specs.Weights.{weight, weights}
-use Rattle.path_core.specs.Ranks.{work}
-use Rattle.path_core.specs.Handover.{having_sent, sent_on}
-use Rattle.path_core.specs.Standing.{may_note, after_look, after_ack_out, answered_ack_out, ack_segment, acknowledges}
 use Rattle.path_core.specs.DssOut.{mapping_of}
-use Rattle.path_core.specs.State.{PathState, end_at, with_agenda, goes_on, left, path_of}
-use Rattle.path_core.specs.Profile.{Profile}
-use Rattle.path_core.specs.DssIn.{is_clash, is_acked, told_next, with_acked, answered_mapping, with_data_fin, with_learned}
-use Rattle.path_core.specs.Treating.{answered_item, item_of}
-use Rattle.path_core.specs.Turns.{TakesTime}
-use Rattle.path_agenda.specs.Words.{replaced}
-use Rattle.path_agenda.specs.declared.notice.OwnNotice.{OwnNotice}
-use Rattle.actor_desk.specs.Words.{is_nil, tail_of}
-use Rattle.actor_desk.proofs.Falling.{Then}
 use Rattle.path_core.proofs.Happening.{event_lowers}
 use Rattle.path_core.proofs.Ranking.{Rests, same_rests, goes_calm, sent_calm, agenda_calm, Lowers, lowers}
 use Rattle.path_core.proofs.Resting.{sent_same, check_failed_same, sending_same, receiving_same}
@@ -92,23 +55,20 @@ granted_work c s grant e none kind fits =
 
 -- a granted piece is of the asked kind
 grant_kind : (path max : ℕ) (standby : Bool) (s : Side) (r : Reply) (grant : Grant) → grant_in r ≡ Some grant
-    → IsOfKind (asks.Send s (send_calls.Grant path max standby)) r → IsSomeOf max grant.piece
-grant_kind path max standby s (replies.Send (send_replies.Granted span piece)) grant e kind =
+    → IsOfKind (Ask.Send s (SendCall.Grant path max standby)) r → IsSomeOf max grant.piece
+grant_kind path max standby s (Reply.Send (SendReply.Granted span piece)) grant e kind =
     let same : piece ≡ grant.piece = cc in subst (IsSomeOf max) same kind.0
-grant_kind path max standby s (replies.Send (send_replies.Taken count)) grant e kind = cc
+grant_kind path max standby s (Reply.Send (SendReply.Taken count)) grant e kind = cc
 grant_kind path max standby s _ grant e kind = cc
 
 first_true : (x y : Bool) → (x && y) ≡ true → x ≡ true
-first_true true y both = refl
-first_true false y both = cc
+first_true = elim [ true ↦ λ y both. refl | false ↦ λ y both. cc ]
 
 second_true : (x y : Bool) → (x && y) ≡ true → y ≡ true
-second_true true y both = both
-second_true false y both = cc
+second_true = elim [ true ↦ λ y both. both | false ↦ λ y both. cc ]
 
 one_shorter : (queue : List OwnNotice) → not (is_nil queue) ≡ true → length (tail_of queue) < length queue
-one_shorter [] some = cc
-one_shorter (notice ∷ queue) some = omega arith
+one_shorter = elim [ [] ↦ λ some. cc | notice ∷ queue ↦ λ some. omega arith ]
 
 -- what is asked for has room
 asked_fits : (c : Profile) (s : Side) (e : PathEnd) → may_ask c s e ≡ true → payload_size c ≤ room e.tcp
@@ -117,13 +77,8 @@ asked_fits c s e may =
 
 -- all that is in order is placed after a fallback
 plain_fits : (s : EndState) (piece : Piece) → some_piece (plain_piece s) ≡ Some piece → Fits s piece
-plain_fits s piece e = by (nat_lt 0 (length (filled s.recv.places))) refl e
-  where
-    by : (b : Bool) → nat_lt 0 (length (filled s.recv.places)) ≡ b → (if b then Some (plain_piece s) else None) ≡ Some piece → Fits s piece
-    by true is e =
-        let same : plain_piece s ≡ piece = cc in
-        subst (Fits s) same (record { some = omega (arith, ltb-true _ _ is); within = omega arith })
-    by false is e = cc
+plain_fits s piece e = (elim (nat_lt 0 (length (filled s.recv.places))) as (λ b. nat_lt 0 (length (filled s.recv.places)) ≡ b → (if b then Some (plain_piece s) else None) ≡ Some piece → Fits s piece)
+    [ true ↦ λ is e. let same : plain_piece s ≡ piece = cc in subst (Fits s) same (record { some = omega (arith, ltb-true _ _ is); within = omega arith }) | false ↦ λ is e. cc ]) refl e
 
 next_fits : (c : Profile) (e : PathEnd) (piece : Piece) → next_piece c e ≡ Some piece → Fits e.tcp piece
 next_fits c e piece is = by e.modes.identity (covers e.modes.peer_infinite e.tcp.recv.edge) is
@@ -155,7 +110,7 @@ module _ {C : Type 0} where
 
   acked_less : (k : Codec C) (s : Side) (p : PathState C) → TakesTime p → weights (left p) < weights p.agenda → Lowers p (acknowledges k s p)
   acked_less k s p t less =
-      let e = end_at s p in let f : PathEnd = having_sent to_send.Ack p.clock (ack_segment s p) e in
+      let e = end_at s p in let f : PathEnd = having_sent Occasion.Ack p.clock (ack_segment s p) e in
       sent_less k s (ack_segment s p) f (left p) p t (same_rests p.clock e f refl) less
 
   -- ---- bytes that are placed
@@ -259,7 +214,7 @@ module _ {C : Type 0} where
   -- the duty is lighter than each agenda that may follow a verdict
   pub record Heavy (s : Side) (p : PathState C) : Type 0 where
     pub done : weights (left p) < weights p.agenda
-    pub falls : weights (replaced (duties.Ask (ask_duties.GoIdentity s)) p.agenda) < weights p.agenda
+    pub falls : weights (replaced (Duty.Ask (AskDuty.GoIdentity s)) p.agenda) < weights p.agenda
     pub breaks : 12 ≤ weights p.agenda
 
   fell_less : (s : Side) (e : PathEnd) (r : Reply) (p : PathState C) → TakesTime p → Rests p.clock (end_at s p) e → Heavy s p
@@ -282,30 +237,30 @@ module _ {C : Type 0} where
   fail_heard_lowers s r p t heavy =
       let e = end_at s p in let f : PathEnd = after_fail_heard r e in let mapping : Option InfiniteMapping = e.treated.infinite_mapping in
       fell_less s f r p t
-      (same_rests p.clock e f (ap (λ tcp. tcp.timing) (sending_same mapping (is_infinite_send r) (after_fell (events.FailHeard (is_some mapping)) r e)))) heavy
+      (same_rests p.clock e f (ap (λ tcp. tcp.timing) (sending_same mapping (is_infinite_send r) (after_fell (Event.FailHeard (is_some mapping)) r e)))) heavy
 
   infinite_lowers : (s : Side) (place : ℕ) (position : Option ℕ) (r : Reply) (p : PathState C) → TakesTime p → Heavy s p
       → Lowers p (answered_infinite s place position r p)
   infinite_lowers s place position r p t heavy =
       let e = end_at s p in let f : PathEnd = after_infinite place position r e in
       fell_less s f r p t
-      (same_rests p.clock e f (ap (λ tcp. tcp.timing) (receiving_same place position (is_infinite_receive r) (after_fell events.InfiniteHeard r e)))) heavy
+      (same_rests p.clock e f (ap (λ tcp. tcp.timing) (receiving_same place position (is_infinite_receive r) (after_fell Event.InfiniteHeard r e)))) heavy
 
   fail_less : (s : Side) (may : Bool) (r : Reply) (p : PathState C) → TakesTime p
-      → weights (replaced (duties.Ask (ask_duties.FailHeard s)) p.agenda) < weights p.agenda → Heavy s p
-      → Lowers p (if may then book_answered s r p else answered_fell s (events.FailHeard false) r p)
+      → weights (replaced (Duty.Ask (AskDuty.FailHeard s)) p.agenda) < weights p.agenda → Heavy s p
+      → Lowers p (if may then book_answered s r p else answered_fell s (Event.FailHeard false) r p)
   fail_less s true r p t next heavy =
       let e = end_at s p in let f : PathEnd = with_infinite r e in
-      goes_less s f (replaced (duties.Ask (ask_duties.FailHeard s)) p.agenda) p t (same_rests p.clock e f refl) next
-  fail_less s false r p t next heavy = verdict_lowers s (events.FailHeard false) r p t heavy
+      goes_less s f (replaced (Duty.Ask (AskDuty.FailHeard s)) p.agenda) p t (same_rests p.clock e f refl) next
+  fail_less s false r p t next heavy = verdict_lowers s (Event.FailHeard false) r p t heavy
 
   peer_key_lowers : (s : Side) (key : Option ℕ) (r : Reply) (p : PathState C) → TakesTime p → Heavy s p → Lowers p (answered_peer_key s key r p)
-  peer_key_lowers s None r p t heavy = verdict_lowers s events.PlainHandshake r p t heavy
+  peer_key_lowers s None r p t heavy = verdict_lowers s Event.PlainHandshake r p t heavy
   peer_key_lowers s (Some key) r p t heavy =
       let e = end_at s p in let f : PathEnd = with_peer_key (Some key) e in goes_less s f (left p) p t (same_rests p.clock e f refl) heavy.done
 
   opened_lowers : (s : Side) (keys : Option KeyPair) (r : Reply) (p : PathState C) → TakesTime p → Heavy s p → Lowers p (answered_opened s keys r p)
-  opened_lowers s None r p t heavy = verdict_lowers s events.PlainHandshake r p t heavy
+  opened_lowers s None r p t heavy = verdict_lowers s Event.PlainHandshake r p t heavy
   opened_lowers s (Some keys) r p t heavy =
       let e = end_at s p in let f : PathEnd = after_keys r (Some keys) e in goes_less s f (left p) p t (same_rests p.clock e f refl) heavy.done
 
@@ -318,31 +273,24 @@ module _ {C : Type 0} where
 
   break_lowers : (k : Codec C) (s : Side) (reason : ℕ) (r : Reply) (p : PathState C) → TakesTime p → 12 ≤ weights p.agenda
       → Lowers p (answered_break k s reason r p)
-  break_lowers k s reason r p t heavy = by (end_at s p).treated.asked
-    where
-      by : (b : Bool) → Lowers p (if b then answered_ack_out s r (resets s reason) p else reset_on k s (Some reason) (leaves s) p)
-      by true = goes_less s (after_ack_out r (end_at s p)) (resets s reason) p t (same_rests p.clock (end_at s p) (after_ack_out r (end_at s p)) refl) (omega (arith, heavy))
-      by false = reset_less k s (Some reason) (leaves s) p t (omega (arith, heavy))
+  break_lowers k s reason r p t heavy = elim (end_at s p).treated.asked as (λ b. Lowers p (if b then answered_ack_out s r (resets s reason) p else reset_on k s (Some reason) (leaves s) p)) [
+    | true ↦ goes_less s (after_ack_out r (end_at s p)) (resets s reason) p t (same_rests p.clock (end_at s p) (after_ack_out r (end_at s p)) refl) (omega (arith, heavy))
+    | false ↦ reset_less k s (Some reason) (leaves s) p t (omega (arith, heavy))
+  ]
 
   mapping_lowers : (k : Codec C) (s : Side) (r : Reply) (p : PathState C) → TakesTime p → Heavy s p → Lowers p (answered_mapping k s r p)
-  mapping_lowers k s r p t heavy = by (is_clash (end_at s p))
+  mapping_lowers k s r p t heavy = elim (is_clash (end_at s p)) as (λ b. Lowers p (if b then answered_break k s 1 r p else goes_on s f (fell_duties s r p) p))
+      [ true ↦ break_lowers k s 1 r p t heavy.breaks | false ↦ fell_less s f r p t (same_rests p.clock (end_at s p) f refl) heavy ]
     where
       f : PathEnd
-      f = with_learned (after_fell events.MappingHeard r (end_at s p))
-
-      by : (b : Bool) → Lowers p (if b then answered_break k s 1 r p else goes_on s f (fell_duties s r p) p)
-      by true = break_lowers k s 1 r p t heavy.breaks
-      by false = fell_less s f r p t (same_rests p.clock (end_at s p) f refl) heavy
+      f = with_learned (after_fell Event.MappingHeard r (end_at s p))
 
   plain_ack_lowers : (k : Codec C) (s : Side) (r : Reply) (p : PathState C) → TakesTime p → Heavy s p → Lowers p (answered_plain_ack k s r p)
-  plain_ack_lowers k s r p t heavy = by (breaks_by_ack p.profile (end_at s p))
+  plain_ack_lowers k s r p t heavy = elim (breaks_by_ack p.profile (end_at s p)) as (λ b. Lowers p (if b then answered_break k s 6 r p else goes_on s f (fell_duties s r p) p))
+      [ true ↦ break_lowers k s 6 r p t heavy.breaks | false ↦ fell_less s f r p t (same_rests p.clock (end_at s p) f refl) heavy ]
     where
       f : PathEnd
-      f = with_plain_ack (after_fell events.PlainAck r (end_at s p))
-
-      by : (b : Bool) → Lowers p (if b then answered_break k s 6 r p else goes_on s f (fell_duties s r p) p)
-      by true = break_lowers k s 6 r p t heavy.breaks
-      by false = fell_less s f r p t (same_rests p.clock (end_at s p) f refl) heavy
+      f = with_plain_ack (after_fell Event.PlainAck r (end_at s p))
 
   -- the peer's fast close
   fast_heard_less : (s : Side) (stopped : Bool) (p : PathState C) → TakesTime p → Heavy s p
@@ -350,149 +298,145 @@ module _ {C : Type 0} where
   fast_heard_less s true p t heavy = agenda_less (stops s) p t (omega (arith, heavy.breaks))
   fast_heard_less s false p t heavy = agenda_less (left p) p t heavy.done
 
-  told_less : (s : Side) (covers : Bool) (p : PathState C) → weights (left p) < weights p.agenda → weights (replaced (duties.Ask (ask_duties.AckHeard s)) p.agenda) < weights p.agenda
+  told_less : (s : Side) (covers : Bool) (p : PathState C) → weights (left p) < weights p.agenda → weights (replaced (Duty.Ask (AskDuty.AckHeard s)) p.agenda) < weights p.agenda
       → weights (told_next s covers p) < weights p.agenda
   told_less s true p less next = next
   told_less s false p less next = less
 
   heard_lowers : (k : Codec C) (s : Side) (item : Option Heard) (r : Reply) (p : PathState C) → TakesTime p
-      → weights (replaced (duties.Ask (ask_duties.AckHeard s)) p.agenda) < weights p.agenda
-      → weights (replaced (duties.Ask (ask_duties.FailHeard s)) p.agenda) < weights p.agenda → Heavy s p → Lowers p (answered_item k s item r p)
+      → weights (replaced (Duty.Ask (AskDuty.AckHeard s)) p.agenda) < weights p.agenda
+      → weights (replaced (Duty.Ask (AskDuty.FailHeard s)) p.agenda) < weights p.agenda → Heavy s p → Lowers p (answered_item k s item r p)
   heard_lowers k s None r p t next failed heavy = agenda_less (left p) p t heavy.done
-  heard_lowers k s (Some says.Dss) r p t next failed heavy = agenda_less (left p) p t heavy.done
-  heard_lowers k s (Some (says.DataAck place window)) r p t next failed heavy =
+  heard_lowers k s (Some Heard.Dss) r p t next failed heavy = agenda_less (left p) p t heavy.done
+  heard_lowers k s (Some (Heard.DataAck place window)) r p t next failed heavy =
       goes_less s (with_acked place r (end_at s p)) (told_next s (is_acked r && nat_lt 0 place) p) p t
       (same_rests p.clock (end_at s p) (with_acked place r (end_at s p)) refl) (told_less s (is_acked r && nat_lt 0 place) p heavy.done next)
-  heard_lowers k s (Some (says.Mapping fin)) r p t next failed heavy = mapping_lowers k s r p t heavy
-  heard_lowers k s (Some (says.DataFin place)) r p t next failed heavy =
-      let f : PathEnd = with_data_fin place (after_fell events.MappingHeard r (end_at s p)) in
+  heard_lowers k s (Some (Heard.Mapping fin)) r p t next failed heavy = mapping_lowers k s r p t heavy
+  heard_lowers k s (Some (Heard.DataFin place)) r p t next failed heavy =
+      let f : PathEnd = with_data_fin place (after_fell Event.MappingHeard r (end_at s p)) in
       fell_less s f r p t (same_rests p.clock (end_at s p) f refl) heavy
-  heard_lowers k s (Some (says.InfiniteMapping place position)) r p t next failed heavy = infinite_lowers s place position r p t heavy
-  heard_lowers k s (Some (says.PeerKey key)) r p t next failed heavy = agenda_less (left p) p t heavy.done
-  heard_lowers k s (Some (says.Keys own peer)) r p t next failed heavy =
+  heard_lowers k s (Some (Heard.InfiniteMapping place position)) r p t next failed heavy = infinite_lowers s place position r p t heavy
+  heard_lowers k s (Some (Heard.PeerKey key)) r p t next failed heavy = agenda_less (left p) p t heavy.done
+  heard_lowers k s (Some (Heard.Keys own peer)) r p t next failed heavy =
       goes_less s (after_keys r (Some (record { own = own; peer = peer })) (end_at s p)) (left p) p t
       (same_rests p.clock (end_at s p) (after_keys r (Some (record { own = own; peer = peer })) (end_at s p)) refl) heavy.done
-  heard_lowers k s (Some (says.Join form)) r p t next failed heavy = agenda_less (left p) p t heavy.done
-  heard_lowers k s (Some (says.Notice notice)) r p t next failed heavy =
+  heard_lowers k s (Some (Heard.Join form)) r p t next failed heavy = agenda_less (left p) p t heavy.done
+  heard_lowers k s (Some (Heard.Notice notice)) r p t next failed heavy =
       goes_less s (after_peer_notice notice r (end_at s p)) (left p) p t
       (same_rests p.clock (end_at s p) (after_peer_notice notice r (end_at s p)) refl) heavy.done
-  heard_lowers k s (Some says.Fail) r p t next failed heavy = fail_less s (may_go_infinite (end_at s p)) r p t failed heavy
-  heard_lowers k s (Some (says.FastClose key)) r p t next failed heavy = fast_heard_less s (is_stopped_by r) p t heavy
+  heard_lowers k s (Some Heard.Fail) r p t next failed heavy = fail_less s (may_go_infinite (end_at s p)) r p t failed heavy
+  heard_lowers k s (Some (Heard.FastClose key)) r p t next failed heavy = fast_heard_less s (is_stopped_by r) p t heavy
 
   -- ---- joins
 
   join_less : (r : Reply) (dead living : List Duty) (p : PathState C) → TakesTime p → weights dead < weights p.agenda → weights living < weights p.agenda
       → Lowers p (join_begun r dead living p)
-  join_less r dead living p t less_dead less_living = by (is_never r)
-    where
-      by : (b : Bool) → Lowers p (if b then goes_on A (never_joined r (end_at A p)) dead p else goes_on A (opened_by (keys_begun r) (end_at A p)) living p)
-      by true = goes_less A (never_joined r p.a) dead p t (never_rests p.clock r p.a) less_dead
-      by false = goes_less A (opened_by (keys_begun r) p.a) living p t (opened_rests p.clock (keys_begun r) p.a) less_living
+  join_less r dead living p t less_dead less_living =
+      elim (is_never r) as (λ b. Lowers p (if b then goes_on A (never_joined r (end_at A p)) dead p else goes_on A (opened_by (keys_begun r) (end_at A p)) living p)) [
+        | true ↦ goes_less A (never_joined r p.a) dead p t (never_rests p.clock r p.a) less_dead
+        | false ↦ goes_less A (opened_by (keys_begun r) p.a) living p t (opened_rests p.clock (keys_begun r) p.a) less_living
+      ]
 
   taken_less : (s : Side) (keys : Option KeyPair) (asked : Option JoinSyn) (r : Reply) (p : PathState C) → TakesTime p
-      → weights (replaced (duties.Send (send_duties.SynAck s)) p.agenda) < weights p.agenda → weights (replaced (duties.Send (send_duties.Refuse s)) p.agenda) < weights p.agenda
+      → weights (replaced (Duty.Send (SendDuty.SynAck s)) p.agenda) < weights p.agenda → weights (replaced (Duty.Send (SendDuty.Refuse s)) p.agenda) < weights p.agenda
       → Lowers p (join_taken s keys asked r p)
   taken_less s (Some keys) (Some asked) r p t less_taken less_refused =
-      goes_less s (joined_by keys asked (end_at s p)) (replaced (duties.Send (send_duties.SynAck s)) p.agenda) p t (joined_rests p.clock keys asked (end_at s p)) less_taken
-  taken_less s (Some keys) None r p t less_taken less_refused = agenda_less (replaced (duties.Send (send_duties.Refuse s)) p.agenda) p t less_refused
-  taken_less s None None r p t less_taken less_refused = agenda_less (replaced (duties.Send (send_duties.Refuse s)) p.agenda) p t less_refused
+      goes_less s (joined_by keys asked (end_at s p)) (replaced (Duty.Send (SendDuty.SynAck s)) p.agenda) p t (joined_rests p.clock keys asked (end_at s p)) less_taken
+  taken_less s (Some keys) None r p t less_taken less_refused = agenda_less (replaced (Duty.Send (SendDuty.Refuse s)) p.agenda) p t less_refused
+  taken_less s None None r p t less_taken less_refused = agenda_less (replaced (Duty.Send (SendDuty.Refuse s)) p.agenda) p t less_refused
   taken_less s None (Some asked) r p t less_taken less_refused =
-      goes_less s (with_mode_refused r (end_at s p)) (replaced (duties.Send (send_duties.Refuse s)) p.agenda) p t (same_rests p.clock (end_at s p) (with_mode_refused r (end_at s p)) refl) less_refused
+      goes_less s (with_mode_refused r (end_at s p)) (replaced (Duty.Send (SendDuty.Refuse s)) p.agenda) p t (same_rests p.clock (end_at s p) (with_mode_refused r (end_at s p)) refl) less_refused
 
   -- ---- every duty
 
   heavy_by : (d : Duty) (ds : List Duty) (s : Side) (p : PathState C) → p.agenda ≡ d ∷ ds → 11 ≤ weight d → Heavy s p
-  heavy_by d ds s p is least = record {
-    done = rw is (omega arith);
-    falls = rw is (omega (arith, least));
-    breaks = rw is (omega (arith, least));
-  }
+  heavy_by d ds s p is least = record { done = rw is (omega arith); falls = rw is (omega (arith, least)); breaks = rw is (omega (arith, least)) }
 
   pub answered_lowers : (k : Codec C) (d : Duty) (ds : List Duty) (r : Reply) (p : PathState C) → TakesTime p → p.agenda ≡ d ∷ ds → stands d p ≡ true
       → IsOfKind (ask_for k d p) r → Lowers p (answered k d r p)
-  answered_lowers k (duties.Ask ask_duties.JoinAgain) ds r p t is stands kind =
-      join_less r (replaced (duties.Ask (ask_duties.Leave A)) p.agenda) (left p) p t (rw is (omega arith)) (left_less _ ds p is)
-  answered_lowers k (duties.Step (step_duties.Look s)) ds r p t is stands kind =
+  answered_lowers k (Duty.Ask AskDuty.JoinAgain) ds r p t is stands kind =
+      join_less r (replaced (Duty.Ask (AskDuty.Leave A)) p.agenda) (left p) p t (rw is (omega arith)) (left_less _ ds p is)
+  answered_lowers k (Duty.Step (StepDuty.Look s)) ds r p t is stands kind =
       goes_less s (after_look r (end_at s p)) (left p) p t (same_rests p.clock (end_at s p) (after_look r (end_at s p)) refl) (left_less _ ds p is)
-  answered_lowers k (duties.Ask (ask_duties.LeaveNoted s)) ds r p t is stands kind =
-      goes_less s (died (end_at s p)) (replaced (duties.Ask (ask_duties.Dead s)) p.agenda) p t (record { due = omega arith; timeout = λ some. some }) (rw is (omega arith))
-  answered_lowers k (duties.Send (send_duties.ResetNoted s)) ds r p t is stands kind = reset_less k s None (replaced (duties.Ask (ask_duties.Leave s)) p.agenda) p t (rw is (omega arith))
-  answered_lowers k (duties.Ask (ask_duties.Window s)) ds r p t is stands kind =
+  answered_lowers k (Duty.Ask (AskDuty.LeaveNoted s)) ds r p t is stands kind =
+      goes_less s (died (end_at s p)) (replaced (Duty.Ask (AskDuty.Dead s)) p.agenda) p t (record { due = omega arith; timeout = λ some. some }) (rw is (omega arith))
+  answered_lowers k (Duty.Send (SendDuty.ResetNoted s)) ds r p t is stands kind = reset_less k s None (replaced (Duty.Ask (AskDuty.Leave s)) p.agenda) p t (rw is (omega arith))
+  answered_lowers k (Duty.Ask (AskDuty.Window s)) ds r p t is stands kind =
       goes_less s (after_ack_out r (end_at s p)) (left p) p t (same_rests p.clock (end_at s p) (after_ack_out r (end_at s p)) refl) (left_less _ ds p is)
-  answered_lowers k (duties.Send (send_duties.Update s)) ds r p t is stands kind = acked_less k s p t (left_less _ ds p is)
-  answered_lowers k (duties.Send (send_duties.FastClose s)) ds r p t is stands kind =
+  answered_lowers k (Duty.Send (SendDuty.Update s)) ds r p t is stands kind = acked_less k s p t (left_less _ ds p is)
+  answered_lowers k (Duty.Send (SendDuty.FastClose s)) ds r p t is stands kind =
       sent_less k s (fast_close_of s p) (having_fast_closed s p) (left p) p t (same_rests p.clock (end_at s p) (having_fast_closed s p) refl) (left_less _ ds p is)
-  answered_lowers k (duties.Send (send_duties.Notice s)) ds r p t is stands kind = note_less k s p t stands
-  answered_lowers k (duties.Send (send_duties.Syn s)) ds r p t is stands kind =
+  answered_lowers k (Duty.Send (SendDuty.Notice s)) ds r p t is stands kind = note_less k s p t stands
+  answered_lowers k (Duty.Send (SendDuty.Syn s)) ds r p t is stands kind =
       sent_less k s (unsent_segment s p) (having_sent_unsent s p) (left p) p t (same_rests p.clock (end_at s p) (having_sent_unsent s p) refl) (left_less _ ds p is)
-  answered_lowers k (duties.Step (step_duties.Data s)) ds r p t is stands kind = data_lowers k s (first_unsent (end_at s p)) r p t (left_less _ ds p is) refl stands kind
-  answered_lowers k (duties.Send (send_duties.DataFin s)) ds r p t is stands kind =
+  answered_lowers k (Duty.Step (StepDuty.Data s)) ds r p t is stands kind = data_lowers k s (first_unsent (end_at s p)) r p t (left_less _ ds p is) refl stands kind
+  answered_lowers k (Duty.Send (SendDuty.DataFin s)) ds r p t is stands kind =
       sent_less k s (data_fin_segment s p) (having_sent_data_fin s p) (left p) p t (same_rests p.clock (end_at s p) (having_sent_data_fin s p) refl) (left_less _ ds p is)
-  answered_lowers k (duties.Send (send_duties.Fin s)) ds r p t is stands kind =
+  answered_lowers k (Duty.Send (SendDuty.Fin s)) ds r p t is stands kind =
       sent_less k s (fin_segment_of s p) (having_sent_fin s p) (left p) p t (same_rests p.clock (end_at s p) (having_sent_fin s p) refl) (left_less _ ds p is)
-  answered_lowers k (duties.Silent (silent_duties.Timer s)) ds r p t is stands kind = agenda_less (left p) p t (left_less _ ds p is)
-  answered_lowers k (duties.Step step_duties.Events) ds r p t is stands kind = event_lowers k r p t stands
-  answered_lowers k (duties.Ask (ask_duties.SynHeard s)) ds r p t is stands kind = agenda_less (left p) p t (left_less _ ds p is)
-  answered_lowers k (duties.Ask (ask_duties.SynAnswered s)) ds r p t is stands kind = agenda_less (left p) p t (left_less _ ds p is)
-  answered_lowers k (duties.Ask (ask_duties.PlainHandshake s)) ds r p t is stands kind =
-      verdict_lowers s events.PlainHandshake r p t (heavy_by _ ds s p is (omega arith))
-  answered_lowers k (duties.Ask (ask_duties.PeerKey s)) ds r p t is stands kind =
+  answered_lowers k (Duty.Silent (SilentDuty.Timer s)) ds r p t is stands kind = agenda_less (left p) p t (left_less _ ds p is)
+  answered_lowers k (Duty.Step StepDuty.Events) ds r p t is stands kind = event_lowers k r p t stands
+  answered_lowers k (Duty.Ask (AskDuty.SynHeard s)) ds r p t is stands kind = agenda_less (left p) p t (left_less _ ds p is)
+  answered_lowers k (Duty.Ask (AskDuty.SynAnswered s)) ds r p t is stands kind = agenda_less (left p) p t (left_less _ ds p is)
+  answered_lowers k (Duty.Ask (AskDuty.PlainHandshake s)) ds r p t is stands kind =
+      verdict_lowers s Event.PlainHandshake r p t (heavy_by _ ds s p is (omega arith))
+  answered_lowers k (Duty.Ask (AskDuty.PeerKey s)) ds r p t is stands kind =
       peer_key_lowers s (key_heard (end_at s p).treated.items) r p t (heavy_by _ ds s p is (omega arith))
-  answered_lowers k (duties.Send (send_duties.SynAck s)) ds r p t is stands kind =
-      let e = end_at s p in let f : PathEnd = having_sent to_send.SynAck p.clock (syn_ack_of s p) e in
+  answered_lowers k (Duty.Send (SendDuty.SynAck s)) ds r p t is stands kind =
+      let e = end_at s p in let f : PathEnd = having_sent Occasion.SynAck p.clock (syn_ack_of s p) e in
       sent_less k s (syn_ack_of s p) f (left p) p t (same_rests p.clock e f refl) (left_less _ ds p is)
-  answered_lowers k (duties.Ask (ask_duties.JoinHeard s)) ds r p t is stands kind =
+  answered_lowers k (Duty.Ask (AskDuty.JoinHeard s)) ds r p t is stands kind =
       taken_less s (keys_begun r) (asked_at s p) r p t (rw is (omega arith)) (rw is (omega arith))
-  answered_lowers k (duties.Send (send_duties.Refuse s)) ds r p t is stands kind =
+  answered_lowers k (Duty.Send (SendDuty.Refuse s)) ds r p t is stands kind =
       sent_less k s (refusal_of s p) (end_at s p) (left p) p t (same_rests p.clock (end_at s p) (end_at s p) refl) (left_less _ ds p is)
-  answered_lowers k (duties.Ask (ask_duties.Opened s)) ds r p t is stands kind =
+  answered_lowers k (Duty.Ask (AskDuty.Opened s)) ds r p t is stands kind =
       opened_lowers s (keys_heard (end_at s p).treated.items) r p t (heavy_by _ ds s p is (omega arith))
-  answered_lowers k (duties.Ask (ask_duties.Live s)) ds r p t is stands kind = agenda_less (left p) p t (left_less _ ds p is)
-  answered_lowers k (duties.Step (step_duties.Heard s index)) ds r p t is stands kind =
+  answered_lowers k (Duty.Ask (AskDuty.Live s)) ds r p t is stands kind = agenda_less (left p) p t (left_less _ ds p is)
+  answered_lowers k (Duty.Step (StepDuty.Heard s index)) ds r p t is stands kind =
       heard_lowers k s (item_of index (end_at s p)) r p t (rw is (omega arith)) (rw is (omega arith)) (heavy_by _ ds s p is (omega arith))
-  answered_lowers k (duties.Ask (ask_duties.AckHeard s)) ds r p t is stands kind = verdict_lowers s events.AckHeard r p t (heavy_by _ ds s p is (omega arith))
-  answered_lowers k (duties.Step (step_duties.PlainAck s)) ds r p t is stands kind = plain_ack_lowers k s r p t (heavy_by _ ds s p is (omega arith))
-  answered_lowers k (duties.Ask (ask_duties.FailHeard s)) ds r p t is stands kind = fail_heard_lowers s r p t (heavy_by _ ds s p is (omega arith))
-  answered_lowers k (duties.Ask (ask_duties.SubflowAck s)) ds r p t is stands kind =
+  answered_lowers k (Duty.Ask (AskDuty.AckHeard s)) ds r p t is stands kind = verdict_lowers s Event.AckHeard r p t (heavy_by _ ds s p is (omega arith))
+  answered_lowers k (Duty.Step (StepDuty.PlainAck s)) ds r p t is stands kind = plain_ack_lowers k s r p t (heavy_by _ ds s p is (omega arith))
+  answered_lowers k (Duty.Ask (AskDuty.FailHeard s)) ds r p t is stands kind = fail_heard_lowers s r p t (heavy_by _ ds s p is (omega arith))
+  answered_lowers k (Duty.Ask (AskDuty.SubflowAck s)) ds r p t is stands kind =
       let e = end_at s p in let f : PathEnd = with_plain_acked r e in goes_less s f (left p) p t (same_rests p.clock e f refl) (left_less _ ds p is)
-  answered_lowers k (duties.Ask (ask_duties.PlainData s)) ds r p t is stands kind = verdict_lowers s events.PlainData r p t (heavy_by _ ds s p is (omega arith))
-  answered_lowers k (duties.Ask (ask_duties.GoIdentity s)) ds r p t is stands kind =
+  answered_lowers k (Duty.Ask (AskDuty.PlainData s)) ds r p t is stands kind = verdict_lowers s Event.PlainData r p t (heavy_by _ ds s p is (omega arith))
+  answered_lowers k (Duty.Ask (AskDuty.GoIdentity s)) ds r p t is stands kind =
       let e = end_at s p in let f : PathEnd = in_identity e in goes_less s f (left p) p t (same_rests p.clock e f refl) (left_less _ ds p is)
-  answered_lowers k (duties.Silent (silent_duties.Keep s)) ds r p t is stands kind = agenda_less (left p) p t (left_less _ ds p is)
-  answered_lowers k (duties.Ask (ask_duties.Edge s)) ds r p t is stands kind = piece_lowers s (piece_of s p) (is_placed r) p t (rw is (omega arith)) refl
-  answered_lowers k (duties.Ask (ask_duties.CheckFailed s)) ds r p t is stands kind = check_lowers s r p t (heavy_by _ ds s p is (omega arith))
-  answered_lowers k (duties.Step (step_duties.Unmapped s)) ds r p t is stands kind = break_lowers k s 6 r p t (rw is (omega arith))
-  answered_lowers k (duties.Ask (ask_duties.HeardFin s index)) ds r p t is stands kind =
+  answered_lowers k (Duty.Silent (SilentDuty.Keep s)) ds r p t is stands kind = agenda_less (left p) p t (left_less _ ds p is)
+  answered_lowers k (Duty.Ask (AskDuty.Edge s)) ds r p t is stands kind = piece_lowers s (piece_of s p) (is_placed r) p t (rw is (omega arith)) refl
+  answered_lowers k (Duty.Ask (AskDuty.CheckFailed s)) ds r p t is stands kind = check_lowers s r p t (heavy_by _ ds s p is (omega arith))
+  answered_lowers k (Duty.Step (StepDuty.Unmapped s)) ds r p t is stands kind = break_lowers k s 6 r p t (rw is (omega arith))
+  answered_lowers k (Duty.Ask (AskDuty.HeardFin s index)) ds r p t is stands kind =
       fin_lowers s (is_fin_set r) p t (left_less _ ds p is) (rw is (omega arith))
-  answered_lowers k (duties.Silent (silent_duties.PassFin s)) ds r p t is stands kind = agenda_less (left p) p t (left_less _ ds p is)
-  answered_lowers k (duties.Ask (ask_duties.SubflowFin s)) ds r p t is stands kind =
+  answered_lowers k (Duty.Silent (SilentDuty.PassFin s)) ds r p t is stands kind = agenda_less (left p) p t (left_less _ ds p is)
+  answered_lowers k (Duty.Ask (AskDuty.SubflowFin s)) ds r p t is stands kind =
       plain_fin_lowers s (is_fin_set r) p t (left_less _ ds p is) (rw is (omega arith))
-  answered_lowers k (duties.Ask (ask_duties.AckOut s)) ds r p t is stands kind =
+  answered_lowers k (Duty.Ask (AskDuty.AckOut s)) ds r p t is stands kind =
       goes_less s (after_ack_out r (end_at s p)) (left p) p t (same_rests p.clock (end_at s p) (after_ack_out r (end_at s p)) refl) (left_less _ ds p is)
-  answered_lowers k (duties.Ask (ask_duties.Rate s)) ds r p t is stands kind =
+  answered_lowers k (Duty.Ask (AskDuty.Rate s)) ds r p t is stands kind =
       let e = end_at s p in let f : PathEnd = after_rate (path_of p) p.profile.mss r e in
       goes_less s f (left p) p t (same_rests p.clock e f refl) (left_less _ ds p is)
-  answered_lowers k (duties.Send (send_duties.Acknowledge s)) ds r p t is stands kind = acked_less k s p t (left_less _ ds p is)
-  answered_lowers k (duties.Send (send_duties.Again s)) ds r p t is stands kind =
-      let e = end_at s p in let f : PathEnd = having_sent to_send.First p.clock (first_segment s p) e in
+  answered_lowers k (Duty.Send (SendDuty.Acknowledge s)) ds r p t is stands kind = acked_less k s p t (left_less _ ds p is)
+  answered_lowers k (Duty.Send (SendDuty.Again s)) ds r p t is stands kind =
+      let e = end_at s p in let f : PathEnd = having_sent Occasion.First p.clock (first_segment s p) e in
       sent_less k s (first_segment s p) f (left p) p t (same_rests p.clock e f refl) (left_less _ ds p is)
-  answered_lowers k (duties.Send (send_duties.Answer s)) ds r p t is stands kind =
+  answered_lowers k (Duty.Send (SendDuty.Answer s)) ds r p t is stands kind =
       let e = end_at s p in let f : PathEnd = having_sent (answer_occasion e) p.clock (answer_of s p) e in
       sent_less k s (answer_of s p) f (left p) p t (same_rests p.clock e f (sent_same (answer_occasion e) p.clock e.tcp)) (left_less _ ds p is)
-  answered_lowers k (duties.Send (send_duties.ResetAnswer s)) ds r p t is stands kind =
+  answered_lowers k (Duty.Send (SendDuty.ResetAnswer s)) ds r p t is stands kind =
       sent_less k s (dead_answer s p) (end_at s p) (left p) p t (same_rests p.clock (end_at s p) (end_at s p) refl) (left_less _ ds p is)
-  answered_lowers k (duties.Ask (ask_duties.Return s)) ds r p t is stands kind = agenda_less (left p) p t (left_less _ ds p is)
-  answered_lowers k (duties.Ask (ask_duties.AbortSend s)) ds r p t is stands kind = agenda_less (left p) p t (left_less _ ds p is)
-  answered_lowers k (duties.Ask (ask_duties.AbortReceive s)) ds r p t is stands kind = agenda_less (left p) p t (left_less _ ds p is)
-  answered_lowers k (duties.Ask (ask_duties.Announce s id)) ds r p t is stands kind = agenda_less (left p) p t (left_less _ ds p is)
-  answered_lowers k (duties.Ask (ask_duties.Withdraw s id)) ds r p t is stands kind = agenda_less (left p) p t (left_less _ ds p is)
-  answered_lowers k (duties.Send (send_duties.Resend s)) ds r p t is stands kind =
+  answered_lowers k (Duty.Ask (AskDuty.Return s)) ds r p t is stands kind = agenda_less (left p) p t (left_less _ ds p is)
+  answered_lowers k (Duty.Ask (AskDuty.AbortSend s)) ds r p t is stands kind = agenda_less (left p) p t (left_less _ ds p is)
+  answered_lowers k (Duty.Ask (AskDuty.AbortReceive s)) ds r p t is stands kind = agenda_less (left p) p t (left_less _ ds p is)
+  answered_lowers k (Duty.Ask (AskDuty.Announce s id)) ds r p t is stands kind = agenda_less (left p) p t (left_less _ ds p is)
+  answered_lowers k (Duty.Ask (AskDuty.Withdraw s id)) ds r p t is stands kind = agenda_less (left p) p t (left_less _ ds p is)
+  answered_lowers k (Duty.Send (SendDuty.Resend s)) ds r p t is stands kind =
       let e = end_at s p in let f : PathEnd = having_sent (resend_occasion e) p.clock (resend_of s p) e in
       sent_less k s (resend_of s p) f (left p) p t (same_rests p.clock e f (sent_same (resend_occasion e) p.clock e.tcp)) (left_less _ ds p is)
-  answered_lowers k (duties.Ask (ask_duties.BreakAck s reason)) ds r p t is stands kind =
+  answered_lowers k (Duty.Ask (AskDuty.BreakAck s reason)) ds r p t is stands kind =
       goes_less s (after_ack_out r (end_at s p)) (resets s reason) p t (same_rests p.clock (end_at s p) (after_ack_out r (end_at s p)) refl) (rw is (omega arith))
-  answered_lowers k (duties.Send (send_duties.BreakReset s reason)) ds r p t is stands kind = reset_less k s (Some reason) (leaves s) p t (rw is (omega arith))
-  answered_lowers k (duties.Send (send_duties.Reset s)) ds r p t is stands kind = reset_less k s None (replaced (duties.Ask (ask_duties.Leave s)) p.agenda) p t (rw is (omega arith))
-  answered_lowers k (duties.Ask (ask_duties.Leave s)) ds r p t is stands kind = agenda_less (replaced (duties.Ask (ask_duties.Dead s)) p.agenda) p t (rw is (omega arith))
-  answered_lowers k (duties.Ask (ask_duties.Dead s)) ds r p t is stands kind = agenda_less (left p) p t (left_less _ ds p is)
-  answered_lowers k duties.End ds r p t is stands kind = agenda_less [] p t (rw is (omega arith))
+  answered_lowers k (Duty.Send (SendDuty.BreakReset s reason)) ds r p t is stands kind = reset_less k s (Some reason) (leaves s) p t (rw is (omega arith))
+  answered_lowers k (Duty.Send (SendDuty.Reset s)) ds r p t is stands kind = reset_less k s None (replaced (Duty.Ask (AskDuty.Leave s)) p.agenda) p t (rw is (omega arith))
+  answered_lowers k (Duty.Ask (AskDuty.Leave s)) ds r p t is stands kind = agenda_less (replaced (Duty.Ask (AskDuty.Dead s)) p.agenda) p t (rw is (omega arith))
+  answered_lowers k (Duty.Ask (AskDuty.Dead s)) ds r p t is stands kind = agenda_less (left p) p t (left_less _ ds p is)
+  answered_lowers k Duty.End ds r p t is stands kind = agenda_less [] p t (rw is (omega arith))

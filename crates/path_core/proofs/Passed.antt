@@ -3,28 +3,13 @@
 -- What no end of ours sends is heard by one more field of an end, which laws of worlds say is `None`: bundled with
 -- another field of the invariant's record (`HoldsShow` with the mappings that are held), it passes through every rule
 -- that touches neither. A silent change that writes its `if`s inside the fields keeps all else by `refl`.
-use Rattle.std.proofs.Common.{◌≡◌, refl, ap, ◌<◌, ◌≤◌, ◌⊎◌, inl, inr, ◌||◌, Bool, true, false, if◌then◌else◌, List, [], ◌∷◌, arith}
-use Rattle.sides.specs.declared.side.Side.{Side}
-use Rattle.sides.specs.declared.side.Side.TheVariants.{A, B}
+use Rattle.path_core.proofs.Words.{◌≡◌, ◌⊎◌, inl, inr, refl, ap, ◌<◌, ◌≤◌, ◌||◌, Bool, true, false, if◌then◌else◌, List, [], ◌∷◌, arith, Side, A, B, Duty}
+use Rattle.path_core.proofs.Words.{AskDuty, StepDuty, SendDuty, SilentDuty, weights, with_plain_ack, PathState, end_at, with_agenda, with_end, PathEnd, stands}
+use Rattle.path_core.proofs.Words.{passed, settled, after_pass_fin, TakesTime, mapping_here, after_keep, after_check, after_pieces, item_of, item_passed}
 use Rattle.subflow_tcp.specs.Closing.{is_fin_next}
 use Rattle.subflow_tcp.specs.Expiring.{is_timed}
-use Rattle.path_agenda.specs.declared.duty.Duty.{Duty}
-use Rattle.path_agenda.specs.declared.duty.Duty.TheVariants as duties
-use Rattle.path_agenda.specs.declared.duty.AskDuty.TheVariants as ask_duties
-use Rattle.path_agenda.specs.declared.duty.SendDuty.TheVariants as send_duties
-use Rattle.path_agenda.specs.declared.duty.SilentDuty.TheVariants as silent_duties
-use Rattle.path_agenda.specs.declared.duty.StepDuty.TheVariants as step_duties
-use Rattle.path_core.specs.DataFin.{is_waiting, after_pass_fin}
-use Rattle.path_core.specs.Duties.{stands, passed}
+use Rattle.path_core.specs.DataFin.{is_waiting}
 use Rattle.path_core.specs.Timer.{after_timer}
-use Rattle.path_core.specs.End.{PathEnd}
-use Rattle.path_core.specs.Deliver.{mapping_here, after_check, after_pieces, after_keep}
-use Rattle.path_agenda.specs.Weights.{weights}
-use Rattle.path_core.specs.State.{PathState, end_at, with_end, with_agenda}
-use Rattle.path_core.specs.Steps.{settled}
-use Rattle.path_core.specs.Treating.{item_of, item_passed}
-use Rattle.path_core.specs.Fallback.{with_plain_ack}
-use Rattle.path_core.specs.Turns.{TakesTime}
 use Rattle.path_core.proofs.Ranking.{Rests, same_rests, Calm}
 use Rattle.path_core.proofs.Resting.{to_rests, item_same, keep_same, check_same, pass_fin_same, settled_settles}
 
@@ -42,8 +27,7 @@ module _ {C : Type 0} where
   }
 
   timeout_at : (s : Side) (p : PathState C) → TakesTime p → 1 ≤ (end_at s p).tcp.timing.rtt.rto
-  timeout_at A p t = t.timer_a
-  timeout_at B p t = t.timer_b
+  timeout_at = elim [ A ↦ λ p t. t.timer_a | B ↦ λ p t. t.timer_b ]
 
   unchanged : (p : PathState C) → TakesTime p → Calm p p
   unchanged p t = record { ticks = omega arith; due = omega arith; time = t }
@@ -52,31 +36,31 @@ module _ {C : Type 0} where
   then_calm p q r x y = record { ticks = omega (arith, x.ticks, y.ticks); due = omega (arith, x.due, y.due); time = y.time }
 
   passed_calm : (d : Duty) (p : PathState C) → TakesTime p → Calm p (passed d p)
-  passed_calm (duties.Silent (silent_duties.Timer s)) p t =
+  passed_calm (Duty.Silent (SilentDuty.Timer s)) p t =
       let e = end_at s p in
       end_calm s (after_timer p.clock e) p t
       (to_rests p.clock e (after_timer p.clock e)
       (settled_settles p.clock (is_timed (is_waiting e || (e.modes.owes_third || e.notices.fast_closed)) e.tcp) e.sending.news e.tcp.timing (timeout_at s p t)))
-  passed_calm (duties.Step (step_duties.Heard s index)) p t =
+  passed_calm (Duty.Step (StepDuty.Heard s index)) p t =
       let e = end_at s p in
       let f : PathEnd = item_passed s (item_of index e) e in
       end_calm s f p t (same_rests p.clock e f (ap (λ tcp. tcp.timing) (item_same s (item_of index e) e)))
-  passed_calm (duties.Step (step_duties.PlainAck s)) p t =
+  passed_calm (Duty.Step (StepDuty.PlainAck s)) p t =
       let e = end_at s p in end_calm s (with_plain_ack e) p t (same_rests p.clock e (with_plain_ack e) refl)
-  passed_calm (duties.Step (step_duties.Unmapped s)) p t =
+  passed_calm (Duty.Step (StepDuty.Unmapped s)) p t =
       let e = end_at s p in end_calm s (after_pieces e) p t (same_rests p.clock e (after_pieces e) refl)
-  passed_calm (duties.Silent (silent_duties.Keep s)) p t =
+  passed_calm (Duty.Silent (SilentDuty.Keep s)) p t =
       let e = end_at s p in end_calm s (after_keep s e) p t (same_rests p.clock e (after_keep s e) (keep_same s e))
-  passed_calm (duties.Ask (ask_duties.CheckFailed s)) p t =
+  passed_calm (Duty.Ask (AskDuty.CheckFailed s)) p t =
       let e = end_at s p in
       end_calm s (after_check p.profile e) p t
       (same_rests p.clock e (after_check p.profile e) (check_same p.profile.spelling.checksums (mapping_here e) e))
-  passed_calm (duties.Silent (silent_duties.PassFin s)) p t =
+  passed_calm (Duty.Silent (SilentDuty.PassFin s)) p t =
       let e = end_at s p in
       end_calm s (after_pass_fin e) p t (same_rests p.clock e (after_pass_fin e) (pass_fin_same (is_fin_next e.tcp) e.tcp))
-  passed_calm (duties.Ask ask_duties.JoinAgain) p t = unchanged p t
-  passed_calm (duties.Step (step_duties.Look s)) p t = unchanged p t
-  passed_calm (duties.Send (send_duties.ResetNoted s)) p t = unchanged p t
+  passed_calm (Duty.Ask AskDuty.JoinAgain) p t = unchanged p t
+  passed_calm (Duty.Step (StepDuty.Look s)) p t = unchanged p t
+  passed_calm (Duty.Send (SendDuty.ResetNoted s)) p t = unchanged p t
   passed_calm _ p t = unchanged p t
 
   -- ---- settling
@@ -102,5 +86,4 @@ module _ {C : Type 0} where
           → ((weights (if b then with_agenda (d ∷ ds) p else settled ds (passed d p)).agenda < weights (d ∷ ds))
           × Calm p (if b then with_agenda (d ∷ ds) p else settled ds (passed d p)))
           ⊎ ((if b then with_agenda (d ∷ ds) p else settled ds (passed d p)) ≡ with_agenda (d ∷ ds) p)
-      by true rest = inr refl
-      by false rest = inl (more rest)
+      by = elim [ true ↦ λ rest. inr refl | false ↦ λ rest. inl (more rest) ]

@@ -1,20 +1,12 @@
 -- The turns of a path whose first duty comes to something.
-use Rattle.std.proofs.Common.{◌≡◌, refl, ℕ, ◌+◌, Bool, true, false, if◌then◌else◌, is_none, Some, None, List, [], ◌∷◌}
-use Rattle.path_agenda.specs.declared.duty.Duty.{Duty}
-use Rattle.path_core.specs.Duties.{stands}
-use Rattle.path_core.specs.Octets.{octets}
-use Rattle.path_core.specs.State.{PathState}
-use Rattle.path_core.specs.Steps.{passable, passable_of, next_round}
-use Rattle.path_core.specs.Turns.{Ends, FirstStands, TakesTime}
+use Rattle.path_core.proofs.Words.{◌≡◌, refl, ℕ, ◌+◌, true, false, if◌then◌else◌, Some, None, List, [], ◌∷◌, is_none, Duty, octets, PathState, stands}
+use Rattle.path_core.proofs.Words.{next_round, passable, passable_of, Ends, TakesTime, FirstStands}
 use Rattle.path_core.proofs.TurnEnds.{turn_ends, begun_ends}
 
 first_stands : {C : Type 0} (ds : List Duty) (p : PathState C) → is_none (passable_of ds p) ≡ true → FirstStands ds p
 first_stands [] p none = tt
-first_stands (d ∷ ds) p none = by (stands d p) refl none
-  where
-    by : (b : Bool) → stands d p ≡ b → is_none (if b then None else Some d) ≡ true → stands d p ≡ true
-    by true comes none = comes
-    by false comes none = cc
+first_stands (d ∷ ds) p none = (elim (stands d p) as (λ b. stands d p ≡ b → is_none (if b then None else Some d) ≡ true → stands d p ≡ true)
+    [ true ↦ λ comes none. comes | false ↦ λ comes none. cc ]) refl none
 
 pub turn_is_over : (p : PathState (List ℕ)) → is_none (passable p) ≡ true → TakesTime p → Ends octets p
 turn_is_over p none time = turn_ends octets p time (first_stands p.agenda p none)

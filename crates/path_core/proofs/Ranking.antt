@@ -1,42 +1,26 @@
 -- What lowers the numbers of a turn, and what doesn't raise the first two.
-use Rattle.std.proofs.Common.{◌≡◌, refl, ◌∙◌, ℕ, ◌+◌, ◌<◌, ◌≤◌, Bool, true, false, cond, if◌then◌else◌, nat_le, List, [], ◌∷◌, arith}
-use Rattle.std.proofs.lemmas.Bool.{leb-true}
-use Rattle.sides.specs.declared.side.Side.{Side}
-use Rattle.sides.specs.declared.side.Side.TheVariants.{A, B}
-use Rattle.link_model.specs.declared.flight.Flight.{Flight}
+use Rattle.path_core.proofs.Words.{◌≡◌, refl, ◌∙◌, ℕ, ◌+◌, ◌<◌, ◌≤◌, nat_le, true, false, if◌then◌else◌, List, [], ◌∷◌, arith, cond, leb-true, Side, A, B}
+use Rattle.path_core.proofs.Words.{after_send, arrivals, with_flights, comes_before, with_flight, Flight, PlainSegment, Duty, weights, Then, Less, PathState}
+use Rattle.path_core.proofs.Words.{end_at, with_agenda, goes_on, PathEnd, Codec, TakesTime, ticks_left, one_if_due, due_copies, due_timer, due_by_now}
+use Rattle.path_core.proofs.Words.{bytes_left, sendings_left, sent_on}
 use Rattle.link_model.specs.declared.fate.Fate.{Fate}
 use Rattle.link_model.specs.declared.fate.Fate.TheVariants.{OnTime, Lost, Late, Twice}
 use Rattle.link_model.specs.State.{LinkState}
-use Rattle.link_model.specs.Steps.{comes_before, with_flight, with_flights, arrivals, after_send}
-use Rattle.path_segments.specs.Spelled.{PlainSegment}
-use Rattle.path_agenda.specs.declared.duty.Duty.{Duty}
-use Rattle.path_core.specs.Codec.{Codec}
-use Rattle.path_core.specs.End.{PathEnd}
-use Rattle.path_agenda.specs.Weights.{weights}
-use Rattle.path_core.specs.Ranks.{ticks_left, one_if_due, due_copies, due_timer, due_by_now, bytes_left, sendings_left}
-use Rattle.path_core.specs.Handover.{sent_on}
-use Rattle.path_core.specs.State.{PathState, end_at, with_agenda, goes_on}
-use Rattle.path_core.specs.Turns.{TakesTime}
-use Rattle.actor_desk.proofs.Falling.{Then, Less}
 
 -- ---- copies
 
 pub late_isn't : (clock tick : ℕ) → clock < tick → one_if_due clock tick ≡ 0
-late_isn't clock tick later = by (nat_le tick clock) refl
-  where
-    by : (b : Bool) → nat_le tick clock ≡ b → ◌≡◌ {A = ℕ} (if b then 1 else 0) 0
-    by true is = absurd (omega (arith, leb-true _ _ is, later))
-    by false is = refl
+late_isn't clock tick later = (elim (nat_le tick clock) as (λ b. nat_le tick clock ≡ b → ◌≡◌ {A = ℕ} (if b then 1 else 0) 0)
+    [ true ↦ λ is. absurd (omega (arith, leb-true _ _ is, later)) | false ↦ λ is. refl ]) refl
 
 module _ {C : Type 0} where
   one_later : (clock : ℕ) (f : Flight C) (flights : List (Flight C)) → clock < f.tick → due_copies clock (with_flight f flights) ≡ due_copies clock flights
   one_later clock f [] later = omega (arith, late_isn't clock f.tick later)
-  one_later clock f (g ∷ flights) later = by (comes_before f g) (one_later clock f flights later)
-    where
-      by : (b : Bool) → due_copies clock (with_flight f flights) ≡ due_copies clock flights
-          → due_copies clock (cond b (f ∷ g ∷ flights) (g ∷ with_flight f flights)) ≡ due_copies clock (g ∷ flights)
-      by true more = omega (arith, late_isn't clock f.tick later)
-      by false more = omega (arith, more)
+  one_later clock f (g ∷ flights) later =
+      (elim (comes_before f g) as (λ b. due_copies clock (with_flight f flights) ≡ due_copies clock flights → due_copies clock (cond b (f ∷ g ∷ flights) (g ∷ with_flight f flights)) ≡ due_copies clock (g ∷ flights)) [
+        | true ↦ λ more. omega (arith, late_isn't clock f.tick later)
+        | false ↦ λ more. omega (arith, more)
+      ]) (one_later clock f flights later)
 
   some_later : (clock : ℕ) (to : Side) (number : ℕ) (carried : C) (fate : Fate) (tick : ℕ) (flights : List (Flight C)) → clock < tick
       → due_copies clock (with_flights to number carried (arrivals fate tick) flights) ≡ due_copies clock flights

@@ -3,67 +3,42 @@
 -- One definition by cases on the kind of a segment (`said_by`) serves asking and sending; that it can be said is a
 -- lemma about the definition (`proofs/Sayable`), with what is lent, the window and the path's number as premises, which
 -- the code shows by reading them first.
-use Rattle.std.proofs.Common.{◌≡◌, refl, subst, ap, ℕ, ◌-◌, ◌^◌, ◌≤◌, Bool, true, false, not, ◌&&◌, if◌then◌else◌, Option, Some, None, is_some, List, [], ◌∷◌, ◌++◌, length, length-append, arith}
+use Rattle.path_core.proofs.Words.{◌≡◌, refl, ap, subst, ℕ, ◌-◌, ◌≤◌, ◌&&◌, Bool, true, false, if◌then◌else◌, Option, Some, None, List, [], ◌∷◌, ◌++◌, length}
+use Rattle.path_core.proofs.Words.{length-append, arith, ◌^◌, is_some, not, All-nil, All-cons, IfSome, Side, peer, A, B, JoinForm, Answer, Third, CapableKeys}
+use Rattle.path_core.proofs.Words.{NoKey, Sender, Both, WithData, option_text, Record, record_of, has_records, Spelling, syn_text, options_text, CanSayOption}
+use Rattle.path_core.proofs.Words.{Capable, Dss, FastClose, Infinite, data_number, InfiniteMapping, first_of, OwnNotice, CanBeSaid, said_by, is_joined}
+use Rattle.path_core.proofs.Words.{peer_key_of, join_options, third_options, PathEnd, Profile, is_data_fin_owed, first_unsent, first_record, outgoing_or}
+use Rattle.path_core.proofs.Words.{ack_resent, SegmentKind}
 use Rattle.std.proofs.lemmas.List.{append-nil}
-use Rattle.std.proofs.lemmas.List.Elements.{All-nil, All-cons}
-use Rattle.std.specs.Prelude.{All, IfSome}
-use Rattle.sides.specs.declared.side.Side.{Side}
-use Rattle.sides.specs.declared.side.Side.TheVariants.{A, B}
-use Rattle.sides.specs.Side.{peer}
-use Rattle.mptcp_options.specs.declared.capable.CapableKeys.{CapableKeys}
-use Rattle.mptcp_options.specs.declared.capable.CapableKeys.TheVariants.{NoKey, Sender, Both, WithData}
-use Rattle.mptcp_options.specs.declared.join.JoinForm.TheVariants.{Answer, Third}
-use Rattle.mptcp_options.specs.declared.join.JoinForm.TheVariants as join
+use Rattle.std.specs.Prelude.{All}
 use Rattle.key_material.specs.JoinHmac.{join_a160_of, join_b64_of}
 use Rattle.key_material.specs.KeyDigest.{token_of}
 use Rattle.key_material.proofs.Bounds.{length-join_a160_of}
 use Rattle.mptcp_options.specs.declared.dss.DataNumber.{DataNumber}
 use Rattle.mptcp_options.specs.declared.dss.DataNumber.TheVariants.{Whole, Low}
-use Rattle.mptcp_options.specs.Text.{option_text}
 use Rattle.mptcp_options.specs.Value as wire
 use Rattle.std.specs.Int.{w16, w64}
 use Rattle.key_material.specs.Address.{octets_of}
 use Rattle.mptcp_options.specs.Octets.{optional}
-use Rattle.path_segments.specs.declared.segment.PathOption.TheVariants.{Capable, Dss, FastClose}
-use Rattle.path_segments.specs.declared.segment.PathMapping.TheVariants.{Infinite}
-use Rattle.path_segments.specs.declared.spelling.Spelling.{Spelling}
 use Rattle.path_segments.specs.Options.{PlainOption, said_option, relative_number}
-use Rattle.path_segments.specs.Spelled.{syn_text, options_text, CanSayOption}
-use Rattle.path_segments.specs.Spelling.{data_number}
 use Rattle.subflow_send.specs.declared.record.RecordKind.{RecordKind}
 use Rattle.subflow_send.specs.declared.record.RecordKind.TheVariants.{Syn, Data, Fin}
-use Rattle.subflow_send.specs.Records.{Record, record_of}
 use Rattle.subflow_send.specs.declared.record.RecordRef.{RecordRef}
 use Rattle.std.specs.Option.{option_map}
 use Rattle.subflow_tcp.specs.declared.segments.Outgoing.{Outgoing}
-use Rattle.path_agenda.specs.declared.notice.OwnNotice.{OwnNotice}
-use Rattle.path_agenda.specs.Words.{first_of}
-use Rattle.path_agenda.specs.declared.notice.OwnNotice.TheVariants as notes
-use Rattle.path_core.specs.End.{PathEnd}
-use Rattle.path_core.specs.MpJoin.{is_joined, peer_key_of, join_options, third_options}
 use Rattle.path_core.specs.declared.modes.Modes.{Modes}
-use Rattle.path_store.specs.declared.infinite_mapping.InfiniteMapping.{InfiniteMapping}
 use Rattle.path_core.specs.Modes.{receives_infinite}
 use Rattle.path_core.specs.DssOut.{fail_options, fail_beside, infinite_options, infinite_or, mapped_options, checksum_told, data_fin_mapping, is_first_piece, first_piece_options, piece_options, owes_mapping, plain_options, fin_options, piece_mapping}
 use Rattle.path_core.specs.OptionsOut.{broken_options, capable_options, syn_options, key_options, opening_options, ack_options, own_reset, record_options, reset_options, segment_of, ack_said, noted_said, carried_said, record_or_ack, syn_ack_said, notice_option, dss_and, HasAddress}
-use Rattle.path_core.specs.declared.said.SegmentKind.{SegmentKind}
-use Rattle.path_core.specs.declared.said.SegmentKind.TheVariants as to_say
 use Rattle.subflow_tcp.specs.Emitting.{ack_at, record_segment, syn_ack_segment, fin_position, fin_segment, reset_segment}
-use Rattle.subflow_tcp.specs.State.{has_records}
-use Rattle.path_core.specs.DataFin.{is_data_fin_owed}
-use Rattle.path_core.specs.Emission.{first_unsent, first_record, outgoing_or, ack_resent}
-use Rattle.path_core.specs.Said.{CanBeSaid, said_by}
-use Rattle.path_core.specs.Profile.{Profile}
 
 -- ---- lengths
 
 capable_length : (flag_a flag_c : Bool) (keys : CapableKeys) → length (option_text (wire.Capable flag_a flag_c keys)) ≤ 28
 unfolding option_text
-capable_length flag_a flag_c NoKey = omega arith
-capable_length flag_a flag_c (Sender sender) = omega arith
-capable_length flag_a flag_c (Both sender receiver) = omega arith
 capable_length flag_a flag_c (WithData sender receiver len None) = omega arith
 capable_length flag_a flag_c (WithData sender receiver len (Some checksum)) = omega arith
+capable_length flag_a flag_c _ = omega arith
 
 ack_length : (ack : DataNumber) (fin : Bool) → length (option_text (wire.Dss (Some ack) None fin)) ≤ 28
 unfolding option_text
@@ -95,7 +70,7 @@ reset_length : (transient : Bool) (reason : ℕ) → length (option_text (wire.R
 unfolding option_text
 reset_length transient reason = omega arith
 
-join_syn_length : (backup : Bool) (id token nonce : ℕ) → length (option_text (wire.Join (join.Syn backup id token nonce))) ≤ 28
+join_syn_length : (backup : Bool) (id token nonce : ℕ) → length (option_text (wire.Join (JoinForm.Syn backup id token nonce))) ≤ 28
 unfolding option_text
 join_syn_length backup id token nonce = omega arith
 
@@ -111,13 +86,13 @@ third_length key_a key_b nonce_a nonce_b = omega (arith, length-join_a160_of key
 notice_length : (notice : OwnNotice) (m : Modes) → HasAddress notice
     → (spelling : Spelling) (from : Side) → length (option_text (said_option spelling from (notice_option notice m))) ≤ 28
 unfolding option_text
-notice_length (notes.AddAddr id) m has spelling from = omega arith
-notice_length (notes.AddEcho id address None) m has spelling from =
+notice_length (OwnNotice.AddAddr id) m has spelling from = omega arith
+notice_length (OwnNotice.AddEcho id address None) m has spelling from =
     omega (arith, has, length-append (octets_of address) (optional w16 None ++ optional w64 None), length-append (octets_of address ++ optional w16 None) (optional w64 None), length-append (octets_of address) (optional w16 None))
-notice_length (notes.AddEcho id address (Some port)) m has spelling from =
+notice_length (OwnNotice.AddEcho id address (Some port)) m has spelling from =
     omega (arith, has, length-append (octets_of address) (optional w16 (Some port) ++ optional w64 None), length-append (octets_of address ++ optional w16 (Some port)) (optional w64 None), length-append (octets_of address) (optional w16 (Some port)))
-notice_length (notes.Removes id) m has spelling from = omega arith
-notice_length (notes.Prio backup) m has spelling from = omega arith
+notice_length (OwnNotice.Removes id) m has spelling from = omega arith
+notice_length (OwnNotice.Prio backup) m has spelling from = omega arith
 
 short_ack : (ack : DataNumber) → length (option_text (wire.Dss (Some ack) None false)) ≤ 12
 unfolding option_text
@@ -138,8 +113,7 @@ short_reset transient reason = omega arith
 
 -- a checksum stands exactly where checksums are used
 told_form : (used : Bool) (checksum : ℕ) → is_some (if used then Some checksum else None) ≡ used
-told_form true checksum = refl
-told_form false checksum = refl
+told_form = elim [ true ↦ λ checksum. refl | false ↦ λ checksum. refl ]
 
 -- ---- options
 
@@ -192,18 +166,12 @@ third_short c s m = (record { form = tt }, third_length m.own_key (peer_key_of m
 
 capable_short : (c : Profile) (s : Side) (e : PathEnd) → AreShort c.spelling s (capable_options c s e)
 capable_short c A e = (record { form = tt }, capable_length c.spelling.checksums false NoKey)
-capable_short c B e = by (e.modes.capable_asked && not e.modes.identity)
-  where
-    by : (asked : Bool) → AreShort c.spelling B (if asked then Capable c.spelling.checksums false (Sender e.modes.own_key) ∷ [] else [])
-    by true = (record { form = tt }, capable_length c.spelling.checksums false (Sender e.modes.own_key))
-    by false = tt
+capable_short c B e = elim (e.modes.capable_asked && not e.modes.identity) as (λ asked. AreShort c.spelling B (if asked then Capable c.spelling.checksums false (Sender e.modes.own_key) ∷ [] else []))
+    [ true ↦ (record { form = tt }, capable_length c.spelling.checksums false (Sender e.modes.own_key)) | false ↦ tt ]
 
 syn_short : (c : Profile) (s : Side) (e : PathEnd) → AreShort c.spelling s (syn_options c s e)
-syn_short c s e = by (is_joined c)
-  where
-    by : (joined : Bool) → AreShort c.spelling s (if joined then join_options c s e.modes else capable_options c s e)
-    by true = join_short c s e.modes
-    by false = capable_short c s e
+syn_short c s e = elim (is_joined c) as (λ joined. AreShort c.spelling s (if joined then join_options c s e.modes else capable_options c s e))
+    [ true ↦ join_short c s e.modes | false ↦ capable_short c s e ]
 
 key_short : (c : Profile) (s : Side) (peer : Option ℕ) (e : PathEnd) → AreShort c.spelling s (key_options c s peer e)
 key_short c A None e = tt
@@ -211,11 +179,8 @@ key_short c A (Some peer) e = (record { form = tt }, capable_length c.spelling.c
 key_short c B peer e = tt
 
 opening_short : (c : Profile) (s : Side) (e : PathEnd) → AreShort c.spelling s (opening_options c s e)
-opening_short c s e = by e.modes.owes_third
-  where
-    by : (owes : Bool) → AreShort c.spelling s (if owes then third_options e.modes else key_options c s e.modes.peer_key e)
-    by true = third_short c s e.modes
-    by false = key_short c s e.modes.peer_key e
+opening_short c s e = elim e.modes.owes_third as (λ owes. AreShort c.spelling s (if owes then third_options e.modes else key_options c s e.modes.peer_key e))
+    [ true ↦ third_short c s e.modes | false ↦ key_short c s e.modes.peer_key e ]
 
 end_short : (c : Profile) (s : Side) (fin : Option ℕ) (next : ℕ) → AreShort c.spelling s (Dss (Some next) (data_fin_mapping c s fin) ∷ [])
 end_short c s None next = (record { form = (tt, refl) }, ack_length (data_number c.spelling (peer s) next) false)
@@ -297,12 +262,8 @@ mapped_short c s r e = by (is_first_piece s r e)
     )
 
 piece_short : (c : Profile) (s : Side) (r : Record) (e : PathEnd) → AreShort c.spelling s (piece_options c s r e)
-piece_short c s r e = by e.modes.identity
-  where
-    by : (identity : Bool) → AreShort c.spelling s
-        (if identity then plain_options r.pos e else infinite_or e.modes.own_infinite (mapped_options c s r e) e)
-    by true = plain_short c s r.pos e
-    by false = either_short c s e.modes.own_infinite (mapped_options c s r e) e (mapped_short c s r e)
+piece_short c s r e = elim e.modes.identity as (λ identity. AreShort c.spelling s (if identity then plain_options r.pos e else infinite_or e.modes.own_infinite (mapped_options c s r e) e))
+    [ true ↦ plain_short c s r.pos e | false ↦ either_short c s e.modes.own_infinite (mapped_options c s r e) e (mapped_short c s r e) ]
 
 fin_short : (c : Profile) (s : Side) (position : ℕ) (e : PathEnd) → AreShort c.spelling s (fin_options position e)
 fin_short c s position e = by e.modes.identity
@@ -391,17 +352,16 @@ module _ (c : Profile) (s : Side) (e : PathEnd) (path : c.spelling.path ≤ 15) 
       (two_room c.spelling s (Dss (Some e.receiving.next) None) option (short_ack (data_number c.spelling (peer s) e.receiving.next)) short)
 
   notice_form : (notice : OwnNotice) → CanSayOption c.spelling s (notice_option notice e.modes)
-  notice_form (notes.AddAddr id) = record { form = refl }
-  notice_form (notes.AddEcho id address port) = record { form = refl }
-  notice_form (notes.Removes id) = record { form = (omega arith, omega arith) }
-  notice_form (notes.Prio backup) = record { form = tt }
+  notice_form (OwnNotice.AddAddr id) = record { form = refl }
+  notice_form (OwnNotice.AddEcho id address port) = record { form = refl }
+  notice_form (OwnNotice.Removes id) = record { form = (omega arith, omega arith) }
+  notice_form (OwnNotice.Prio backup) = record { form = tt }
 
   pub syn_ack_can : CanBeSaid c.spelling s (syn_ack_said c s e)
   syn_ack_can = says (syn_ack_segment e.tcp) (syn_options c s e) [] (syn_short c s e) (omega arith)
 
   answer_can : (syn_ack : Bool) → CanBeSaid c.spelling s (if syn_ack then syn_ack_said c s e else ack_said c s e.tcp.send.nxt None e)
-  answer_can true = syn_ack_can
-  answer_can false = ack_can e.tcp.send.nxt None
+  answer_can = elim [ true ↦ syn_ack_can | false ↦ ack_can e.tcp.send.nxt None ]
 
   pub noted_can : (notice : Option OwnNotice) → IfSome notice HasAddress → CanBeSaid c.spelling s (noted_said c s notice e)
   noted_can (Some notice) has =
@@ -427,20 +387,20 @@ module _ (c : Profile) (s : Side) (e : PathEnd) (path : c.spelling.path ≤ 15) 
 
   pub said_can : (kind : SegmentKind) → IfSome (first_of e.notices.queue) HasAddress → IfSome (first_unsent e) (λ r. length r.piece ≤ 65475)
       → IfSome (first_record e) (λ r. length r.piece ≤ 65475) → CanBeSaid c.spelling s (said_by kind c s e)
-  said_can to_say.Notice has unsent first = noted_can (first_of e.notices.queue) has
-  said_can to_say.FastClose has unsent first = carried_can e.notices.carrier
-  said_can to_say.Ack has unsent first = ack_can e.tcp.send.nxt None
-  said_can to_say.DataFin has unsent first = ack_can e.tcp.send.nxt e.sending.known_end
-  said_can to_say.Fin has unsent first = says (fin_segment e.tcp) (fin_options (fin_position e.tcp.send) e) [] (fin_short c s (fin_position e.tcp.send) e) (omega arith)
-  said_can to_say.Unsent has unsent first = record_can (first_unsent e) unsent
-  said_can to_say.First has unsent first = record_can (first_record e) first
-  said_can to_say.SynAck has unsent first = syn_ack_can
-  said_can to_say.Answer has unsent first = answer_can e.tcp.due.syn_ack
-  said_can to_say.DeadAnswer has unsent first = says (outgoing_or e.treated.answer (reset_segment e.tcp)) [] [] tt (omega arith)
-  said_can to_say.Resend has unsent first = resend_can (has_records e.tcp) first
-  said_can to_say.Refusal has unsent first =
+  said_can SegmentKind.Notice has unsent first = noted_can (first_of e.notices.queue) has
+  said_can SegmentKind.FastClose has unsent first = carried_can e.notices.carrier
+  said_can SegmentKind.Ack has unsent first = ack_can e.tcp.send.nxt None
+  said_can SegmentKind.DataFin has unsent first = ack_can e.tcp.send.nxt e.sending.known_end
+  said_can SegmentKind.Fin has unsent first = says (fin_segment e.tcp) (fin_options (fin_position e.tcp.send) e) [] (fin_short c s (fin_position e.tcp.send) e) (omega arith)
+  said_can SegmentKind.Unsent has unsent first = record_can (first_unsent e) unsent
+  said_can SegmentKind.First has unsent first = record_can (first_record e) first
+  said_can SegmentKind.SynAck has unsent first = syn_ack_can
+  said_can SegmentKind.Answer has unsent first = answer_can e.tcp.due.syn_ack
+  said_can SegmentKind.DeadAnswer has unsent first = says (outgoing_or e.treated.answer (reset_segment e.tcp)) [] [] tt (omega arith)
+  said_can SegmentKind.Resend has unsent first = resend_can (has_records e.tcp) first
+  said_can SegmentKind.Refusal has unsent first =
       says (outgoing_or e.treated.answer (reset_segment e.tcp)) (reset_options (Some 1)) [] (reset_short c s (Some 1)) (omega arith)
-  said_can (to_say.Reset reason) has unsent first =
+  said_can (SegmentKind.Reset reason) has unsent first =
       says (own_reset e) (if e.modes.identity then [] else broken_options e.treated.failed_mapping reason) []
       (own_reset_short c s e.treated.failed_mapping reason e.modes.identity) (omega arith)
 

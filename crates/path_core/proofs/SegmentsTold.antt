@@ -1,68 +1,27 @@
 -- What a step hands to the link is what it tells, and no other step tells a segment.
-use Rattle.std.proofs.Common.{◌≡◌, refl, sym, ap, subst, ◌∙◌, ℕ, ◌+◌, ◌%◌, ◌^◌, ◌<◌, Bool, true, false, if◌then◌else◌, Result, Ok, Err, Option, Some, None, option_map, List, [], ◌∷◌, ◌++◌, length, length-append, drop, arith}
-use Rattle.std.specs.Prelude.{IfOk, IfSome, IsOk, IsSome, replicate}
+use Rattle.path_core.proofs.Words.{◌≡◌, refl, sym, ap, subst, ◌∙◌, ℕ, ◌+◌, ◌<◌, Bool, true, false, if◌then◌else◌, Option, Some, None, List, [], ◌∷◌, ◌++◌}
+use Rattle.path_core.proofs.Words.{length, drop, length-append, arith, ◌^◌, Ok, ◌%◌, IfSome, replicate, drop_at, drop-drop, length-replicate, Side, peer}
+use Rattle.path_core.proofs.Words.{segment_meaning, header_len, Segment, fixed_header, octets_with, segment_text, segment_meaning-written, addresses_from}
+use Rattle.path_core.proofs.Words.{JoinSyn, SendCall, Record, next_number, Flight, Spelling, PlainSegment, padding, padded, unpadded_options, spelled, four}
+use Rattle.path_core.proofs.Words.{written, Piece, Heard, key_heard, keys_heard, leaves, resets, Duty, AskDuty, StepDuty, KeyPair, SendDuty, SilentDuty, Reply}
+use Rattle.path_core.proofs.Words.{Ask, made, octets, sum_of, CanBeSaid, with_learned, is_clash, peer_key_ask, opened_ask, asked_at, join_heard_ask, after_fell}
+use Rattle.path_core.proofs.Words.{fell_duties, may_go_infinite, breaks_by_ack, with_plain_ack, fell_ask, plain_next, plain_ack_in, PathState, end_at}
+use Rattle.path_core.proofs.Words.{with_agenda, goes_on, path_of, Codec, stands, ask_for, passed, answered, settled, settles_down, asks_first, answers}
+use Rattle.path_core.proofs.Words.{data_fin_of, fin_ask, plain_fin, first_unsent, data_ask, answered_data, next_event, step_for, reset_of, reset_on, break_ask}
+use Rattle.path_core.proofs.Words.{answered_break, piece_of, piece_ask, rate_ask, sends, handed, answered_ack_out, ack_out_ask, item_of, item_ask}
+use Rattle.path_core.proofs.Words.{answered_item, SegmentKind, Arrived, arrived_as, to_send, broken_by, heard_sends, send_of, unsent_sends, duty_sends}
+use Rattle.path_core.proofs.Words.{first_sends, departing, departing_as, step_told, tells_a_segment, segment_sent, HandsOrTellsNone, EachSegmentIsTold, IsTold}
+use Rattle.std.proofs.Common.{Result, Err, option_map}
+use Rattle.std.specs.Prelude.{IfOk, IsOk, IsSome}
 use Rattle.std.specs.Int.{w16}
-use Rattle.std.proofs.lemmas.List.{drop_at, drop-drop, length-replicate}
 use Rattle.std.proofs.lemmas.Nat.{from_be_bytes-to_be_bytes_2}
 use Rattle.octet_text.specs.Octets.{number_at}
-use Rattle.link_model.specs.declared.flight.Flight.{Flight}
-use Rattle.link_model.specs.Steps.{next_number}
-use Rattle.segment_wire.specs.Reading.{header_len, segment_meaning}
-use Rattle.segment_wire.proofs.Again.{segment_meaning-written}
-use Rattle.segment_wire.specs.Segment.{Segment, fixed_header, octets_with, segment_text}
-use Rattle.segment_wire.specs.Paths.{addresses_from}
-use Rattle.path_segments.specs.declared.spelling.Spelling.{Spelling}
-use Rattle.path_segments.proofs.SegmentsAgain.{four, written}
-use Rattle.path_segments.specs.Spelled.{PlainSegment, padding, padded, unpadded_options, spelled}
-use Rattle.sides.specs.declared.side.Side.{Side}
-use Rattle.sides.specs.Side.{peer}
-use Rattle.send_book.specs.declared.call.SendCall.TheVariants as send_calls
-use Rattle.subflow_send.specs.Records.{Record}
 use Rattle.loss_recovery.specs.declared.windows.Pending.{Pending}
-use Rattle.join_handshake.specs.declared.hearing.JoinSyn.{JoinSyn}
-use Rattle.actor_desk.specs.declared.ask.Ask.{Ask}
-use Rattle.actor_desk.specs.declared.ask.Ask.TheVariants as asks
-use Rattle.actor_desk.specs.declared.ask.LocalStep.TheVariants as steps
-use Rattle.actor_desk.specs.declared.ask.Reply.{Reply}
-use Rattle.path_agenda.specs.declared.duty.Duty.{Duty}
-use Rattle.path_agenda.specs.declared.duty.Duty.TheVariants as duties
-use Rattle.path_agenda.specs.declared.duty.AskDuty.TheVariants as ask_duties
-use Rattle.path_agenda.specs.declared.duty.SendDuty.{SendDuty}
-use Rattle.path_agenda.specs.declared.duty.SendDuty.TheVariants as send_duties
-use Rattle.path_agenda.specs.declared.duty.SilentDuty.TheVariants as silent_duties
-use Rattle.path_agenda.specs.declared.duty.StepDuty.TheVariants as step_duties
-use Rattle.path_agenda.specs.declared.heard.Heard.{Heard}
-use Rattle.path_agenda.specs.declared.heard.Heard.TheVariants as says
-use Rattle.path_agenda.specs.declared.keys.KeyPair.{KeyPair}
-use Rattle.path_agenda.specs.Agenda.{leaves, resets}
-use Rattle.path_agenda.specs.Items.{key_heard, keys_heard}
+use Rattle.actor_desk.specs.declared.ask.LocalStep.{LocalStep}
 use Rattle.fallback_state.specs.declared.fall.Event.TheVariants as events
 use Rattle.path_core.specs.declared.events.Event.{Event}
-use Rattle.path_core.specs.declared.events.Event.TheVariants as happenings
 use Rattle.path_core.specs.declared.looking.Departing.{Departing}
 use Rattle.path_core.specs.declared.looking.ToSend.{ToSend}
-use Rattle.path_core.specs.declared.said.SegmentKind.TheVariants as kinds
-use Rattle.path_core.specs.Breaking.{reset_of, reset_on, break_ask, answered_break}
-use Rattle.path_core.specs.Codec.{Codec}
-use Rattle.path_store.specs.Passing.{Piece}
-use Rattle.path_core.specs.Duties.{stands, ask_for, passed, answered}
-use Rattle.path_core.specs.Emission.{first_unsent, data_ask, answered_data}
-use Rattle.path_core.specs.Events.{next_event, step_for}
-use Rattle.path_core.specs.Fallback.{after_fell, fell_ask, fell_duties, may_go_infinite, breaks_by_ack, with_plain_ack, plain_next, plain_ack_in}
-use Rattle.path_core.specs.Handover.{sends, handed}
-use Rattle.path_core.specs.MpJoin.{join_heard_ask, asked_at}
-use Rattle.path_core.specs.Looking.{Arrived, arrived_as, to_send, broken_by, heard_sends, send_of, unsent_sends, duty_sends, first_sends, departing, departing_as, step_told, tells_a_segment, segment_sent, HandsOrTellsNone, EachSegmentIsTold, IsTold}
-use Rattle.path_core.specs.Octets.{made, octets, sum_of}
-use Rattle.path_core.specs.MpCapable.{peer_key_ask, opened_ask}
-use Rattle.path_core.specs.Deliver.{piece_of, piece_ask}
-use Rattle.path_core.specs.DataFin.{data_fin_of, fin_ask, plain_fin}
-use Rattle.path_core.specs.Rate.{rate_ask}
-use Rattle.path_core.specs.Standing.{ack_out_ask, answered_ack_out}
-use Rattle.path_core.specs.Said.{CanBeSaid}
-use Rattle.path_core.specs.State.{PathState, end_at, goes_on, path_of, with_agenda}
-use Rattle.path_core.specs.Steps.{settled, settles_down, asks_first, answers}
-use Rattle.path_core.specs.DssIn.{with_learned, is_clash}
-use Rattle.path_core.specs.Treating.{item_of, item_ask, answered_item}
 
 -- ---- asks that tell no segment
 
@@ -80,23 +39,20 @@ quiet_ack s (Some next) window = refl
 
 quiet_event : (path : ℕ) (event : Option Event) → tells_a_segment (Some (step_for path event)) ≡ false
 quiet_event path None = refl
-quiet_event path (Some (happenings.Joins tick)) = refl
-quiet_event path (Some (happenings.Takes line)) = refl
-quiet_event path (Some (happenings.Arrives due)) = refl
-quiet_event path (Some (happenings.Fires s tick)) = refl
+quiet_event path (Some (Event.Joins tick)) = refl
+quiet_event path _ = refl
 
 module _ {C : Type 0} where
   -- ---- settling leaves the link
 
   passed_link : (d : Duty) (p : PathState C) → (passed d p).link ≡ p.link
-  passed_link (duties.Ask (ask_duties.Edge s)) p = refl
-  passed_link (duties.Step (step_duties.Heard s index)) p = refl
-  passed_link (duties.Silent (silent_duties.Timer s)) p = refl
+  passed_link (Duty.Ask (AskDuty.Edge s)) p = refl
+  passed_link (Duty.Step (StepDuty.Heard s index)) p = refl
+  passed_link (Duty.Silent (SilentDuty.Timer s)) p = refl
   passed_link _ p = refl
 
   either_link : (b : Bool) (p q r : PathState C) → q.link ≡ p.link → r.link ≡ p.link → (if b then q else r).link ≡ p.link
-  either_link true p q r same other = same
-  either_link false p q r same other = other
+  either_link = elim [ true ↦ λ p q r same other. same | false ↦ λ p q r same other. other ]
 
   settled_link : (ds : List Duty) (p : PathState C) → (settled ds p).link ≡ p.link
   settled_link [] p = refl
@@ -116,7 +72,7 @@ module _ {C : Type 0} where
   quiet_opened s (Some keys) p = refl
 
   quiet_fail : (s : Side) (may : Bool) (p : PathState C)
-      → tells_a_segment (Some (if may then asks.Send s (send_calls.GoInfinite (path_of p)) else fell_ask s (events.FailHeard false) p)) ≡ false
+      → tells_a_segment (Some (if may then Ask.Send s (SendCall.GoInfinite (path_of p)) else fell_ask s (events.FailHeard false) p)) ≡ false
   quiet_fail s true p = refl
   quiet_fail s false p = refl
 
@@ -136,7 +92,7 @@ module _ {C : Type 0} where
     told_data s (Some record_) p = (refl, λ r. refl)
 
     told_break : (s : Side) (reason : ℕ) (asked : Bool) (p : PathState C)
-        → Told (if asked then None else to_send s (kinds.Reset (Some reason)))
+        → Told (if asked then None else to_send s (SegmentKind.Reset (Some reason)))
         (if asked then ack_out_ask s else sends k s (reset_of s (Some reason) p) p)
         (λ r. if asked then answered_ack_out s r (resets s reason) p else reset_on k s (Some reason) (leaves s) p) p
     told_break s reason true p = refl
@@ -157,48 +113,48 @@ module _ {C : Type 0} where
     told_ack s false p = refl
 
     told_item : (s : Side) (item : Option Heard) (p : PathState C) → Told (heard_sends s item p) (item_ask k s item p) (λ r. answered_item k s item r p) p
-    told_item s (Some (says.Mapping fin)) p = told_mapping s (is_clash (end_at s p)) p
-    told_item s (Some says.Fail) p = quiet_fail s (may_go_infinite (end_at s p)) p
+    told_item s (Some (Heard.Mapping fin)) p = told_mapping s (is_clash (end_at s p)) p
+    told_item s (Some Heard.Fail) p = quiet_fail s (may_go_infinite (end_at s p)) p
     told_item s _ p = refl
 
     told_so : (d : Duty) (p : PathState C) → Told (duty_sends d p) (ask_for k d p) (λ r. answered k d r p) p
-    told_so (duties.Ask (ask_duties.PeerKey s)) p = quiet_peer_key s (key_heard (end_at s p).treated.items) p
-    told_so (duties.Ask (ask_duties.JoinHeard s)) p = quiet_join s (asked_at s p) p
-    told_so (duties.Ask (ask_duties.Opened s)) p = quiet_opened s (keys_heard (end_at s p).treated.items) p
-    told_so (duties.Ask (ask_duties.SubflowAck s)) p = quiet_ack s (plain_next (end_at s p)) (end_at s p).treated.window
-    told_so (duties.Ask (ask_duties.Edge s)) p = quiet_piece s (piece_of s p)
-    told_so (duties.Ask (ask_duties.HeardFin s index)) p = quiet_fin s (data_fin_of index (end_at s p))
-    told_so (duties.Ask (ask_duties.SubflowFin s)) p = quiet_fin s (plain_fin (end_at s p))
-    told_so (duties.Ask (ask_duties.Rate s)) p = quiet_rate s (end_at s p).tcp.congestion.pending p
-    told_so (duties.Step (step_duties.Data s)) p = told_data s (first_unsent (end_at s p)) p
-    told_so (duties.Step step_duties.Events) p = quiet_event (path_of p) (next_event p)
-    told_so (duties.Step (step_duties.Heard s index)) p = told_item s (item_of index (end_at s p)) p
-    told_so (duties.Step (step_duties.PlainAck s)) p = told_ack s (breaks_by_ack p.profile (end_at s p)) p
-    told_so (duties.Step (step_duties.Unmapped s)) p = told_break s 6 (end_at s p).treated.asked p
-    told_so (duties.Send (send_duties.Update s)) p = (refl, λ r. refl)
-    told_so (duties.Send (send_duties.Syn s)) p = (refl, λ r. refl)
-    told_so (duties.Send (send_duties.FastClose s)) p = (refl, λ r. refl)
-    told_so (duties.Send (send_duties.Notice s)) p = (refl, λ r. refl)
-    told_so (duties.Send (send_duties.DataFin s)) p = (refl, λ r. refl)
-    told_so (duties.Send (send_duties.Fin s)) p = (refl, λ r. refl)
-    told_so (duties.Send (send_duties.SynAck s)) p = (refl, λ r. refl)
-    told_so (duties.Send (send_duties.Refuse s)) p = (refl, λ r. refl)
-    told_so (duties.Send (send_duties.Acknowledge s)) p = (refl, λ r. refl)
-    told_so (duties.Send (send_duties.Again s)) p = (refl, λ r. refl)
-    told_so (duties.Send (send_duties.Answer s)) p = (refl, λ r. refl)
-    told_so (duties.Send (send_duties.ResetAnswer s)) p = (refl, λ r. refl)
-    told_so (duties.Send (send_duties.Resend s)) p = (refl, λ r. refl)
-    told_so (duties.Send (send_duties.BreakReset s reason)) p = (refl, λ r. refl)
-    told_so (duties.Send (send_duties.Reset s)) p = (refl, λ r. refl)
-    told_so (duties.Send (send_duties.ResetNoted s)) p = (refl, λ r. refl)
+    told_so (Duty.Ask (AskDuty.PeerKey s)) p = quiet_peer_key s (key_heard (end_at s p).treated.items) p
+    told_so (Duty.Ask (AskDuty.JoinHeard s)) p = quiet_join s (asked_at s p) p
+    told_so (Duty.Ask (AskDuty.Opened s)) p = quiet_opened s (keys_heard (end_at s p).treated.items) p
+    told_so (Duty.Ask (AskDuty.SubflowAck s)) p = quiet_ack s (plain_next (end_at s p)) (end_at s p).treated.window
+    told_so (Duty.Ask (AskDuty.Edge s)) p = quiet_piece s (piece_of s p)
+    told_so (Duty.Ask (AskDuty.HeardFin s index)) p = quiet_fin s (data_fin_of index (end_at s p))
+    told_so (Duty.Ask (AskDuty.SubflowFin s)) p = quiet_fin s (plain_fin (end_at s p))
+    told_so (Duty.Ask (AskDuty.Rate s)) p = quiet_rate s (end_at s p).tcp.congestion.pending p
+    told_so (Duty.Step (StepDuty.Data s)) p = told_data s (first_unsent (end_at s p)) p
+    told_so (Duty.Step StepDuty.Events) p = quiet_event (path_of p) (next_event p)
+    told_so (Duty.Step (StepDuty.Heard s index)) p = told_item s (item_of index (end_at s p)) p
+    told_so (Duty.Step (StepDuty.PlainAck s)) p = told_ack s (breaks_by_ack p.profile (end_at s p)) p
+    told_so (Duty.Step (StepDuty.Unmapped s)) p = told_break s 6 (end_at s p).treated.asked p
+    told_so (Duty.Send (SendDuty.Update s)) p = (refl, λ r. refl)
+    told_so (Duty.Send (SendDuty.Syn s)) p = (refl, λ r. refl)
+    told_so (Duty.Send (SendDuty.FastClose s)) p = (refl, λ r. refl)
+    told_so (Duty.Send (SendDuty.Notice s)) p = (refl, λ r. refl)
+    told_so (Duty.Send (SendDuty.DataFin s)) p = (refl, λ r. refl)
+    told_so (Duty.Send (SendDuty.Fin s)) p = (refl, λ r. refl)
+    told_so (Duty.Send (SendDuty.SynAck s)) p = (refl, λ r. refl)
+    told_so (Duty.Send (SendDuty.Refuse s)) p = (refl, λ r. refl)
+    told_so (Duty.Send (SendDuty.Acknowledge s)) p = (refl, λ r. refl)
+    told_so (Duty.Send (SendDuty.Again s)) p = (refl, λ r. refl)
+    told_so (Duty.Send (SendDuty.Answer s)) p = (refl, λ r. refl)
+    told_so (Duty.Send (SendDuty.ResetAnswer s)) p = (refl, λ r. refl)
+    told_so (Duty.Send (SendDuty.Resend s)) p = (refl, λ r. refl)
+    told_so (Duty.Send (SendDuty.BreakReset s reason)) p = (refl, λ r. refl)
+    told_so (Duty.Send (SendDuty.Reset s)) p = (refl, λ r. refl)
+    told_so (Duty.Send (SendDuty.ResetNoted s)) p = (refl, λ r. refl)
     told_so _ p = refl
 
     -- the step of a duty that sends a segment
     pub step_sent : (d : SendDuty) (t : ToSend) (p : PathState C) → Some t ≡ send_of d
-        → sends k t.from (segment_sent p t) p ≡ ask_for k (duties.Send d) p
+        → sends k t.from (segment_sent p t) p ≡ ask_for k (Duty.Send d) p
     step_sent d t p is =
-        sym (subst (λ (sent : Option ToSend). Told sent (ask_for k (duties.Send d) p) (λ r. answered k (duties.Send d) r p) p) (sym is)
-        (told_so (duties.Send d) p)).0
+        sym (subst (λ (sent : Option ToSend). Told sent (ask_for k (Duty.Send d) p) (λ r. answered k (Duty.Send d) r p) p) (sym is)
+        (told_so (Duty.Send d) p)).0
 
     -- ---- a step
 
@@ -264,14 +220,13 @@ made_sum spelling s segment = sum_is (sum_of spelling s segment) (spelled spelli
 step_is : (p : PathState (List ℕ)) (t : ToSend) → sends octets t.from (segment_sent p t) p ≡ step_told (departing_as p t)
 step_is p t =
     let text : List ℕ = made p.profile.spelling t.from (segment_sent p t) in
-    ap (λ (n : ℕ). asks.Local (steps.Sent t.from (next_number t.from p.link) n (sum_of p.profile.spelling t.from (segment_sent p t))))
+    ap (λ (n : ℕ). Ask.Local (LocalStep.Sent t.from (next_number t.from p.link) n (sum_of p.profile.spelling t.from (segment_sent p t))))
     (sym (ap length (made_payload p.profile.spelling t.from (segment_sent p t))))
-    ∙ ap (λ (n : ℕ). asks.Local (steps.Sent t.from (next_number t.from p.link) (length (drop (header_len text) text)) n))
+    ∙ ap (λ (n : ℕ). Ask.Local (LocalStep.Sent t.from (next_number t.from p.link) (length (drop (header_len text) text)) n))
     (sym (made_sum p.profile.spelling t.from (segment_sent p t)))
 
 told_where : (sent : Option ToSend) (p : PathState (List ℕ)) → HandsOrTellsNone octets p sent → IsTold (option_map (departing_as p) sent) p
-told_where None p hands = tt
-told_where (Some t) p hands = hands.told ∙ ap Some (step_is p t)
+told_where = elim [ None ↦ λ p hands. tt | Some t ↦ λ p hands. hands.told ∙ ap Some (step_is p t) ]
 
 departing_told : (p : PathState (List ℕ)) → IsTold (departing p) p
 departing_told p = told_where (first_sends p.agenda p) p (each_segment_is_told octets p)

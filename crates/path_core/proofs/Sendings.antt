@@ -1,19 +1,11 @@
 -- Records that are sent and pushed, and octets that the edge passes, by their numbers.
-use Rattle.std.proofs.Common.{◌≡◌, refl, subst, ℕ, zero, suc, ◌+◌, ◌-◌, ◌^◌, ◌≤◌, nat_lt, Bool, true, false, ◌&&◌, cond, if◌then◌else◌, List, [], ◌∷◌, ◌++◌, length, take, drop, find, Option, Some, None, arith}
-use Rattle.std.specs.List.{sum_by}
-use Rattle.std.proofs.lemmas.List.{length-take}
+use Rattle.path_core.proofs.Words.{◌≡◌, refl, subst, ℕ, zero, suc, ◌+◌, ◌-◌, ◌≤◌, ◌&&◌, nat_lt, Bool, true, false, if◌then◌else◌, Option, Some, None, List, []}
+use Rattle.path_core.proofs.Words.{◌∷◌, ◌++◌, length, take, drop, arith, ◌^◌, cond, find, sum_by, ltb-true, length-take, KeptMapping, filled, Record, EndState}
+use Rattle.path_core.proofs.Words.{Piece, some_piece, count_in, InfiniteMapping, outstanding, unsent_count, infinite_piece, piece_by, piece_in, is_whole}
+use Rattle.path_core.proofs.Words.{is_right, piece_at}
 use Rattle.std.proofs.lemmas.List.Sums.{sum_by-cons}
-use Rattle.std.proofs.lemmas.Bool.{ltb-true}
-use Rattle.dss_mapping.specs.declared.kept.KeptMapping.{KeptMapping}
-use Rattle.subflow_recv.specs.Receiving.{filled}
-use Rattle.subflow_send.specs.Records.{Record}
 use Rattle.subflow_send.specs.Rules.{is_unsent, first_unsent_sent, acknowledged_in, octets_under_way}
-use Rattle.subflow_tcp.specs.State.{EndState}
-use Rattle.path_store.specs.Passing.{Piece, some_piece, count_in}
-use Rattle.path_core.specs.Deliver.{piece_in, is_whole, is_right, piece_by, piece_at, infinite_piece}
-use Rattle.path_store.specs.declared.infinite_mapping.InfiniteMapping.{InfiniteMapping}
 use Rattle.path_store.specs.InfiniteMappings.{place_under}
-use Rattle.path_core.specs.Ranks.{outstanding, unsent_count}
 
 pub sent_count : (now : ℕ) (rs : List Record) (r : Record) → find is_unsent rs ≡ Some r → unsent_count (first_unsent_sent now rs) + 1 ≡ unsent_count rs
 sent_count now [] r e = cc
@@ -22,16 +14,13 @@ sent_count now (x ∷ xs) r e = by (is_unsent x) refl (sent_count now xs r) e
     by : (b : Bool) → is_unsent x ≡ b → (find is_unsent xs ≡ Some r → unsent_count (first_unsent_sent now xs) + 1 ≡ unsent_count xs)
         → cond b (Some x) (find is_unsent xs) ≡ Some r
         → unsent_count (first_unsent_sent now (x ∷ xs)) + 1 ≡ unsent_count (x ∷ xs)
-    by true is rest e = rw is (omega arith)
-    by false is rest e = rw is (omega (arith, rest e))
+    by = elim [ true ↦ λ is rest e. rw is (omega arith) | false ↦ λ is rest e. rw is (omega (arith, rest e)) ]
 
 pub sent_outstanding : (now una : ℕ) (rs : List Record) → outstanding una (first_unsent_sent now rs) ≡ outstanding una rs
 sent_outstanding now una [] = refl
-sent_outstanding now una (x ∷ xs) = by (is_unsent x) refl (sent_outstanding now una xs)
-  where
-    by : (b : Bool) → is_unsent x ≡ b → outstanding una (first_unsent_sent now xs) ≡ outstanding una xs → outstanding una (first_unsent_sent now (x ∷ xs)) ≡ outstanding una (x ∷ xs)
-    by true is rest = rw is refl
-    by false is rest = rw is (omega (arith, rest))
+sent_outstanding now una (x ∷ xs) =
+    (elim (is_unsent x) as (λ b. is_unsent x ≡ b → outstanding una (first_unsent_sent now xs) ≡ outstanding una xs → outstanding una (first_unsent_sent now (x ∷ xs)) ≡ outstanding una (x ∷ xs))
+    [ true ↦ λ is rest. rw is refl | false ↦ λ is rest. rw is (omega (arith, rest)) ]) refl (sent_outstanding now una xs)
 
 -- where nothing is to be sent, all is under way
 pub none_unsent : (una : ℕ) (rs : List Record) → find is_unsent rs ≡ None → (unsent_count rs ≡ 0) × (sum_by (octets_under_way una) rs ≡ outstanding una rs)
@@ -52,11 +41,8 @@ pushed_outstanding una (x ∷ xs) r = omega (arith, pushed_outstanding una xs r)
 
 -- of a piece with octets one at least isn't acknowledged
 pub some_open : (una pos len : ℕ) → 1 ≤ len → 1 ≤ len - (if nat_lt una (pos + len) then una - pos else 0)
-some_open una pos len some = by (nat_lt una (pos + len)) refl
-  where
-    by : (b : Bool) → nat_lt una (pos + len) ≡ b → 1 ≤ len - (if b then una - pos else 0)
-    by true is = omega (arith, some, ltb-true una (pos + len) is)
-    by false is = omega (arith, some)
+some_open una pos len some = (elim (nat_lt una (pos + len)) as (λ b. nat_lt una (pos + len) ≡ b → 1 ≤ len - (if b then una - pos else 0))
+    [ true ↦ λ is. omega (arith, some, ltb-true una (pos + len) is) | false ↦ λ is. omega (arith, some) ]) refl
 
 pub pushed_count : (rs : List Record) (r : Record) → is_unsent r ≡ true → unsent_count (rs ++ r ∷ []) ≡ unsent_count rs + 1
 pushed_count [] r is = rw is (omega arith)
@@ -81,10 +67,7 @@ some_fits kept s piece e = by (nat_lt 0 (length (piece_in kept s).octets)) refl 
     by : (b : Bool) → nat_lt 0 (length (piece_in kept s).octets) ≡ b → (if b then Some (piece_in kept s) else None) ≡ Some piece → Fits s piece
     by true is e =
         let same : piece_in kept s ≡ piece = cc in
-        subst (Fits s) same (record {
-          some = omega (arith, ltb-true _ _ is);
-          within = omega (arith, length-take (count_in s.recv.edge kept) (filled s.recv.places));
-        })
+        subst (Fits s) same (record { some = omega (arith, ltb-true _ _ is); within = omega (arith, length-take (count_in s.recv.edge kept) (filled s.recv.places)) })
     by false is e = cc
 
 checked_fits : (b c : Bool) (kept : KeptMapping) (s : EndState) (piece : Piece)
@@ -100,19 +83,13 @@ piece_fits checksums (Some kept) s piece e = checked_fits checksums (is_whole ke
 -- under an infinite mapping some of what is in order is placed
 pub placed_fits : (place : Option ℕ) (s : EndState) (piece : Piece) → piece_at place s ≡ Some piece → Fits s piece
 placed_fits None s piece e = cc
-placed_fits (Some place) s piece e = by (nat_lt 0 (length found.octets)) refl e
+placed_fits (Some place) s piece e = (elim (nat_lt 0 (length found.octets)) as (λ b. nat_lt 0 (length found.octets) ≡ b → (if b then Some found else None) ≡ Some piece → Fits s piece) [
+  | true ↦ λ is e. let same : found ≡ piece = cc in subst (Fits s) same (record { some = omega (arith, ltb-true _ _ is); within = omega (arith, length-take (2 ^ 62 - place) (filled s.recv.places)) })
+  | false ↦ λ is e. cc
+]) refl e
   where
     found : Piece
     found = record { place = place; octets = take (2 ^ 62 - place) (filled s.recv.places) }
-
-    by : (b : Bool) → nat_lt 0 (length found.octets) ≡ b → (if b then Some found else None) ≡ Some piece → Fits s piece
-    by true is e =
-        let same : found ≡ piece = cc in
-        subst (Fits s) same (record {
-          some = omega (arith, ltb-true _ _ is);
-          within = omega (arith, length-take (2 ^ 62 - place) (filled s.recv.places));
-        })
-    by false is e = cc
 
 pub infinite_fits : (mapping : Option InfiniteMapping) (s : EndState) (piece : Piece) → infinite_piece mapping s ≡ Some piece → Fits s piece
 infinite_fits None s piece e = cc

@@ -2,30 +2,22 @@
 --
 -- The loop of `settle`: the invariant `settles_down l.self ≡ settles_down l.fn.self` and the measure `length
 -- l.self.agenda`; passing looks at nothing of the agenda (`proofs/Settling` of `path_core`, one `refl` a duty).
-use Rattle.std.proofs.Common.{◌≡◌, refl, ap, ◌∙◌, Bool, if◌then◌else◌, List, [], ◌∷◌}
-use Rattle.path_agenda.specs.declared.duty.Duty.{Duty}
-use Rattle.path_agenda.specs.declared.duty.Duty.TheVariants as duties
-use Rattle.path_agenda.specs.declared.duty.AskDuty.TheVariants as ask_duties
-use Rattle.path_agenda.specs.declared.duty.SendDuty.TheVariants as send_duties
-use Rattle.path_agenda.specs.declared.duty.SilentDuty.TheVariants as silent_duties
-use Rattle.path_agenda.specs.declared.duty.StepDuty.TheVariants as step_duties
-use Rattle.path_core.specs.Duties.{stands, passed}
-use Rattle.path_core.specs.State.{PathState, with_agenda}
-use Rattle.path_core.specs.Steps.{settled}
+use Rattle.path_core.proofs.Words.{◌≡◌, refl, ap, ◌∙◌, Bool, if◌then◌else◌, List, [], ◌∷◌, Duty, AskDuty, StepDuty, SendDuty, SilentDuty, PathState}
+use Rattle.path_core.proofs.Words.{with_agenda, stands, passed, settled}
 
 module _ {C : Type 0} where
   pub stands_anyway : (d : Duty) (es : List Duty) (p : PathState C) → stands d (with_agenda es p) ≡ stands d p
-  stands_anyway (duties.Ask ask_duties.JoinAgain) es p = refl
-  stands_anyway (duties.Step (step_duties.Look s)) es p = refl
-  stands_anyway (duties.Send (send_duties.ResetNoted s)) es p = refl
-  stands_anyway (duties.Silent (silent_duties.Timer s)) es p = refl
+  stands_anyway (Duty.Ask AskDuty.JoinAgain) es p = refl
+  stands_anyway (Duty.Step (StepDuty.Look s)) es p = refl
+  stands_anyway (Duty.Send (SendDuty.ResetNoted s)) es p = refl
+  stands_anyway (Duty.Silent (SilentDuty.Timer s)) es p = refl
   stands_anyway _ es p = refl
 
   pub passes_anyway : (d : Duty) (es : List Duty) (p : PathState C) → passed d (with_agenda es p) ≡ with_agenda es (passed d p)
-  passes_anyway (duties.Ask ask_duties.JoinAgain) es p = refl
-  passes_anyway (duties.Step (step_duties.Look s)) es p = refl
-  passes_anyway (duties.Send (send_duties.ResetNoted s)) es p = refl
-  passes_anyway (duties.Silent (silent_duties.Timer s)) es p = refl
+  passes_anyway (Duty.Ask AskDuty.JoinAgain) es p = refl
+  passes_anyway (Duty.Step (StepDuty.Look s)) es p = refl
+  passes_anyway (Duty.Send (SendDuty.ResetNoted s)) es p = refl
+  passes_anyway (Duty.Silent (SilentDuty.Timer s)) es p = refl
   passes_anyway _ es p = refl
 
   -- what stands in the agenda doesn't matter

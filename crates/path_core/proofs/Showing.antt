@@ -1,86 +1,40 @@
 -- A path over octets is the path over values, shown: one clause for each duty.
-use Rattle.std.proofs.lemmas.List.{length-map, take-map, drop-map, map-append}
-use Rattle.std.specs.List.{position_or_len}
-use Rattle.std.proofs.Common.{◌≡◌, refl, sym, ap, ◌∙◌, ℕ, ◌+◌, ◌^◌, ◌≤◌, ◌⊎◌, inl, inr, subst, nat_lt, not, ◌&&◌, Bool, true, false, cond, if◌then◌else◌, List, [], ◌∷◌, map, Option, Some, None, find, position, is_some}
+use Rattle.path_core.proofs.Words.{◌≡◌, ◌⊎◌, inl, inr, refl, sym, ap, subst, ◌∙◌, ℕ, ◌+◌, ◌≤◌, ◌&&◌, nat_lt, Bool, true, false, if◌then◌else◌, Option, Some}
+use Rattle.path_core.proofs.Words.{None, List, [], ◌∷◌, map, ◌^◌, is_some, not, cond, find, position, position_or_len, length-map, take-map, drop-map}
+use Rattle.path_core.proofs.Words.{map-append, Verdict, FallEvent, Side, peer, A, B, JoinSyn, ControlReply, SendCall, Record, Occasion, segments_sent}
+use Rattle.path_core.proofs.Words.{next_number, is_due, next_due, arriving, after_delivery, without, after_send, changed, arrivals, with_flights, one_more}
+use Rattle.path_core.proofs.Words.{Flight, Spelling, PlainSegment, Expected, IsFresh, meant, subflow_number, HeardSegment, Piece, Heard, key_heard, keys_heard}
+use Rattle.path_core.proofs.Words.{emission, leaves, resets, start_of_turn, replaced, Duty, AskDuty, StepDuty, KeyPair, SendDuty, SilentDuty, Reply, tail_of}
+use Rattle.path_core.proofs.Words.{Ask, copy_heard, copy_taken, expected_by, octets, CanBeSaid, octets_of, shown_path, CanBeAltered, SentCanBeAltered}
+use Rattle.path_core.proofs.Words.{IsFarReset, IsFreshCopy, NextIsFresh, Carried, as_arrived, values, with_learned, is_clash, with_data_fin, is_acked}
+use Rattle.path_core.proofs.Words.{told_next, with_acked, syn_ack_of, answered_peer_key, answered_opened, peer_key_ask, opened_ask, never_joined, is_never}
+use Rattle.path_core.proofs.Words.{keys_begun, opened_by, asked_at, join_taken, join_heard_ask, note_of, having_noted, after_fell, fell_duties, answered_fell}
+use Rattle.path_core.proofs.Words.{after_check_failed, after_infinite, may_go_infinite, book_answered, after_fail_heard, breaks_by_ack, with_plain_ack}
+use Rattle.path_core.proofs.Words.{fell_ask, at_tick, PathState, end_at, with_agenda, goes_on, left, path_of, PathEnd, died, stands, ask_for, passed, answered}
+use Rattle.path_core.proofs.Words.{settled, settles_down, asks_first, asks_of, answers, takes, next_round, data_fin_segment, having_sent_data_fin}
+use Rattle.path_core.proofs.Words.{fin_segment_of, having_sent_fin, is_fin_set, answered_fin_heard, answered_plain_fin, first_unsent, unsent_segment}
+use Rattle.path_core.proofs.Words.{having_sent_unsent, data_ask, Grant, grant_in, answered_grant, answered_data, first_segment, answer_occasion, answer_of}
+use Rattle.path_core.proofs.Words.{dead_answer, resend_occasion, resend_of, next_event, after_line, happens_if, step_for, refusal_of, reset_of, reset_on}
+use Rattle.path_core.proofs.Words.{break_ask, answered_break, piece_of, is_placed, answered_piece, rate_ask, sends, having_sent, handed, sent_on}
+use Rattle.path_core.proofs.Words.{answered_ack_out, ack_segment, ack_out_ask, item_of, item_ask, answered_item, SegmentKind, to_send, broken_by, heard_sends}
+use Rattle.path_core.proofs.Words.{unsent_sends, duty_sends, first_sends}
 use Rattle.std.specs.Option.{IfSome, IsSome, option_map}
-use Rattle.sides.specs.declared.side.Side.{Side}
-use Rattle.sides.specs.declared.side.Side.TheVariants.{A, B}
 use Rattle.link_model.specs.declared.flight.Due.{Due}
-use Rattle.link_model.specs.declared.flight.Flight.{Flight}
 use Rattle.link_model.specs.Fate.{fate_of, is_stripped, is_altered}
 use Rattle.link_model.specs.Laws.{with_copies_shown, shown_flight}
 use Rattle.link_model.specs.State.{LinkState}
 use Rattle.outside_kit.specs.Memory.{one_more as counted}
-use Rattle.sides.specs.Side.{peer}
-use Rattle.link_model.specs.Steps.{segments_sent, next_number, is_due, next_due, arriving, after_delivery, without, after_send, changed, arrivals, with_flights, one_more}
 use Rattle.link_model.proofs.Shown.{sent_shown}
 use Rattle.path_segments.specs.declared.position.HeardPosition.TheVariants.{At}
-use Rattle.path_segments.specs.declared.spelling.Spelling.{Spelling}
-use Rattle.path_segments.specs.Spelling.{subflow_number}
-use Rattle.path_segments.specs.Spelled.{PlainSegment}
-use Rattle.actor_desk.specs.declared.ask.Reply.{Reply}
-use Rattle.actor_desk.specs.declared.ask.Reply.TheVariants as replies
-use Rattle.path_agenda.specs.declared.duty.Duty.{Duty}
-use Rattle.path_agenda.specs.declared.duty.Duty.TheVariants as duties
-use Rattle.path_agenda.specs.declared.duty.AskDuty.TheVariants as ask_duties
-use Rattle.path_agenda.specs.declared.duty.SendDuty.TheVariants as send_duties
-use Rattle.path_agenda.specs.declared.duty.SilentDuty.TheVariants as silent_duties
-use Rattle.path_agenda.specs.declared.duty.StepDuty.TheVariants as step_duties
-use Rattle.path_core.specs.Duties.{stands, ask_for, passed, answered}
-use Rattle.path_segments.specs.declared.expected.Expected.{Expected}
-use Rattle.path_segments.specs.Laws.{IsFresh, meant}
-use Rattle.path_segments.specs.Heard.{HeardSegment}
 use Rattle.path_core.proofs.ChangedCopies.{octets_changed}
 use Rattle.path_core.proofs.CopiesRead.{near_read, far_read}
 use Rattle.path_core.proofs.FarResets.{far_treated}
-use Rattle.path_core.specs.Arrival.{expected_by, copy_heard, heard_in, copy_taken}
-use Rattle.actor_desk.specs.Words.{tail_of}
-use Rattle.subflow_tcp.specs.declared.segments.Occasion.TheVariants as to_send
-use Rattle.path_core.specs.MpJoin.{never_joined, is_never, keys_begun, opened_by, asked_at, join_heard_ask, join_taken}
-use Rattle.path_core.specs.Events.{after_line, happens_if, step_for, next_event}
-use Rattle.path_core.specs.State.{at_tick, PathState, end_at, with_agenda, goes_on, left, path_of}
-use Rattle.path_core.specs.End.{died, PathEnd}
+use Rattle.path_core.specs.Arrival.{heard_in}
 use Rattle.path_core.specs.declared.events.Event.{Event}
-use Rattle.path_core.specs.declared.events.Event.TheVariants as happenings
-use Rattle.control_book.specs.declared.call.ControlReply.TheVariants as control_replies
 use Rattle.fallback_state.specs.declared.fall.Mode.TheVariants.{Identity}
-use Rattle.fallback_state.specs.declared.fall.Verdict.TheVariants as verdicts
-use Rattle.fallback_state.specs.declared.fall.Event.{Event as FallEvent}
-use Rattle.fallback_state.specs.declared.fall.Event.TheVariants as events
-use Rattle.send_book.specs.declared.call.SendCall.TheVariants as send_calls
-use Rattle.actor_desk.specs.declared.ask.Ask.TheVariants as asks
-use Rattle.subflow_send.specs.Records.{Record}
-use Rattle.path_agenda.specs.declared.heard.Heard.{Heard}
-use Rattle.path_agenda.specs.declared.heard.Heard.TheVariants as says
-use Rattle.path_agenda.specs.Agenda.{resets, leaves, emission, start_of_turn}
-use Rattle.path_agenda.specs.Items.{key_heard, keys_heard}
-use Rattle.path_agenda.specs.Words.{replaced}
-use Rattle.path_agenda.specs.declared.keys.KeyPair.{KeyPair}
-use Rattle.join_handshake.specs.declared.hearing.JoinSyn.{JoinSyn}
-use Rattle.path_core.specs.Fallback.{after_check_failed, after_infinite, may_go_infinite, book_answered, after_fail_heard, fell_ask, after_fell, fell_duties, answered_fell, breaks_by_ack, with_plain_ack}
-use Rattle.path_core.specs.Breaking.{refusal_of, reset_of, reset_on, break_ask, answered_break}
 use Rattle.path_core.specs.FastClose.{fast_close_of, having_fast_closed}
-use Rattle.path_core.specs.Addresses.{note_of, having_noted}
 use Rattle.path_store.specs.declared.lines.LineAction.{LineAction}
-use Rattle.path_store.specs.declared.lines.LineAction.TheVariants as actions
-use Rattle.path_core.specs.Emission.{first_unsent, data_ask, unsent_segment, having_sent_unsent, Grant, grant_in, answered_grant, answered_data, first_segment, answer_occasion, resend_occasion, answer_of, dead_answer, resend_of}
-use Rattle.path_core.specs.DataFin.{data_fin_segment, having_sent_data_fin, fin_segment_of, having_sent_fin, is_fin_set, answered_fin_heard, answered_plain_fin}
-use Rattle.path_core.specs.MpCapable.{syn_ack_of, peer_key_ask, answered_peer_key, opened_ask, answered_opened}
 use Rattle.loss_recovery.specs.declared.windows.Pending.{Pending}
-use Rattle.path_core.specs.Deliver.{piece_of, is_placed, answered_piece}
-use Rattle.path_core.specs.Rate.{rate_ask}
-use Rattle.path_core.specs.DssIn.{with_learned, is_clash, is_acked, told_next, with_acked, with_data_fin}
-use Rattle.path_store.specs.Passing.{Piece}
-use Rattle.path_core.specs.Standing.{ack_out_ask, answered_ack_out, ack_segment}
-use Rattle.path_core.specs.Treating.{item_of, item_ask, answered_item}
-use Rattle.path_core.specs.Octets.{octets}
-use Rattle.path_core.specs.declared.said.SegmentKind.TheVariants as kinds
-use Rattle.path_core.specs.Handover.{sends, having_sent, handed, sent_on}
-use Rattle.path_core.specs.Looking.{broken_by, duty_sends, first_sends, heard_sends, to_send, unsent_sends}
-use Rattle.path_core.specs.Said.{CanBeSaid}
-use Rattle.path_core.specs.Shown.{octets_of, shown_path, CanBeAltered, SentCanBeAltered, IsFarReset, IsFreshCopy, NextIsFresh}
-use Rattle.path_core.specs.Steps.{settled, settles_down, asks_first, asks_of, answers, takes, next_round}
-use Rattle.path_core.specs.Values.{Carried, as_arrived, values}
 
 -- ---- the next event
 
@@ -94,15 +48,14 @@ same_event p = rw (same_due p p.link.under_way) refl
 -- ---- what stands, and what is passed
 
 same_stands : (d : Duty) (p : PathState Carried) → stands d (shown_path p) ≡ stands d p
-same_stands (duties.Ask ask_duties.JoinAgain) p = refl
-same_stands (duties.Send (send_duties.ResetNoted s)) p = refl
-same_stands (duties.Silent (silent_duties.Timer s)) p = refl
-same_stands (duties.Step step_duties.Events) p = ap is_some (same_event p)
+same_stands (Duty.Ask AskDuty.JoinAgain) p = refl
+same_stands (Duty.Send (SendDuty.ResetNoted s)) p = refl
+same_stands (Duty.Silent (SilentDuty.Timer s)) p = refl
+same_stands (Duty.Step StepDuty.Events) p = ap is_some (same_event p)
 same_stands _ p = refl
 
 same_taken : (s : Side) (spelling : Spelling) (link : LinkState Carried) → segments_sent s (with_copies_shown (octets_of spelling) link) ≡ segments_sent s link
-same_taken A spelling link = refl
-same_taken B spelling link = refl
+same_taken = elim [ A ↦ λ spelling link. refl | B ↦ λ spelling link. refl ]
 
 same_sends : (s : Side) (segment : PlainSegment) (p : PathState Carried) → sends octets s segment (shown_path p) ≡ sends values s segment p
 same_sends s segment p = rw (same_taken s p.profile.spelling p.link) refl
@@ -136,14 +89,14 @@ same_rate s None p = refl
 same_rate s (Some pending) p = refl
 
 same_fail : (s : Side) (may : Bool) (p : PathState Carried)
-    → (if may then asks.Send s (send_calls.GoInfinite (path_of (shown_path p))) else fell_ask s (events.FailHeard false) (shown_path p))
-    ≡ (if may then asks.Send s (send_calls.GoInfinite (path_of p)) else fell_ask s (events.FailHeard false) p)
+    → (if may then Ask.Send s (SendCall.GoInfinite (path_of (shown_path p))) else fell_ask s (FallEvent.FailHeard false) (shown_path p))
+    ≡ (if may then Ask.Send s (SendCall.GoInfinite (path_of p)) else fell_ask s (FallEvent.FailHeard false) p)
 same_fail s true p = refl
 same_fail s false p = refl
 
 same_item : (s : Side) (item : Option Heard) (p : PathState Carried) → item_ask octets s item (shown_path p) ≡ item_ask values s item p
-same_item s (Some (says.Mapping fin)) p = same_break_or s (is_clash (end_at s p)) 1 events.MappingHeard p
-same_item s (Some says.Fail) p = same_fail s (may_go_infinite (end_at s p)) p
+same_item s (Some (Heard.Mapping fin)) p = same_break_or s (is_clash (end_at s p)) 1 FallEvent.MappingHeard p
+same_item s (Some Heard.Fail) p = same_fail s (may_go_infinite (end_at s p)) p
 same_item s _ p = refl
 
 same_join : (s : Side) (asked : Option JoinSyn) (p : PathState Carried) → join_heard_ask s asked (shown_path p) ≡ join_heard_ask s asked p
@@ -151,56 +104,49 @@ same_join s None p = refl
 same_join s (Some asked) p = refl
 
 same_asks : (d : Duty) (p : PathState Carried) → ask_for octets d (shown_path p) ≡ ask_for values d p
-same_asks (duties.Send (send_duties.ResetNoted s)) p = same_sends s (reset_of s None p) p
-same_asks (duties.Send (send_duties.Update s)) p = same_sends s (ack_segment s p) p
-same_asks (duties.Send (send_duties.FastClose s)) p = same_sends s (fast_close_of s p) p
-same_asks (duties.Send (send_duties.Notice s)) p = same_sends s (note_of s p) p
-same_asks (duties.Send (send_duties.Syn s)) p = same_sends s (unsent_segment s p) p
-same_asks (duties.Step (step_duties.Data s)) p = same_data s (first_unsent (end_at s p)) p
-same_asks (duties.Send (send_duties.DataFin s)) p = same_sends s (data_fin_segment s p) p
-same_asks (duties.Send (send_duties.Fin s)) p = same_sends s (fin_segment_of s p) p
-same_asks (duties.Silent (silent_duties.Timer s)) p = refl
-same_asks (duties.Step step_duties.Events) p = ap (step_for (path_of p)) (same_event p)
-same_asks (duties.Ask (ask_duties.PeerKey s)) p = same_peer_key s (key_heard (end_at s p).treated.items) p
-same_asks (duties.Send (send_duties.SynAck s)) p = same_sends s (syn_ack_of s p) p
-same_asks (duties.Ask (ask_duties.JoinHeard s)) p = same_join s (asked_at s p) p
-same_asks (duties.Send (send_duties.Refuse s)) p = same_sends s (refusal_of s p) p
-same_asks (duties.Ask (ask_duties.Opened s)) p = same_opened s (keys_heard (end_at s p).treated.items) p
-same_asks (duties.Step (step_duties.Heard s index)) p = same_item s (item_of index (end_at s p)) p
-same_asks (duties.Step (step_duties.PlainAck s)) p = same_break_or s (breaks_by_ack p.profile (end_at s p)) 6 events.PlainAck p
-same_asks (duties.Step (step_duties.Unmapped s)) p = same_break s (end_at s p).treated.asked 6 p
-same_asks (duties.Ask (ask_duties.Rate s)) p = same_rate s (end_at s p).tcp.congestion.pending p
-same_asks (duties.Send (send_duties.Acknowledge s)) p = same_sends s (ack_segment s p) p
-same_asks (duties.Send (send_duties.Again s)) p = same_sends s (first_segment s p) p
-same_asks (duties.Send (send_duties.Answer s)) p = same_sends s (answer_of s p) p
-same_asks (duties.Send (send_duties.ResetAnswer s)) p = same_sends s (dead_answer s p) p
-same_asks (duties.Send (send_duties.Resend s)) p = same_sends s (resend_of s p) p
-same_asks (duties.Send (send_duties.BreakReset s reason)) p = same_sends s (reset_of s (Some reason) p) p
-same_asks (duties.Send (send_duties.Reset s)) p = same_sends s (reset_of s None p) p
+same_asks (Duty.Send (SendDuty.ResetNoted s)) p = same_sends s (reset_of s None p) p
+same_asks (Duty.Send (SendDuty.Update s)) p = same_sends s (ack_segment s p) p
+same_asks (Duty.Send (SendDuty.FastClose s)) p = same_sends s (fast_close_of s p) p
+same_asks (Duty.Send (SendDuty.Notice s)) p = same_sends s (note_of s p) p
+same_asks (Duty.Send (SendDuty.Syn s)) p = same_sends s (unsent_segment s p) p
+same_asks (Duty.Step (StepDuty.Data s)) p = same_data s (first_unsent (end_at s p)) p
+same_asks (Duty.Send (SendDuty.DataFin s)) p = same_sends s (data_fin_segment s p) p
+same_asks (Duty.Send (SendDuty.Fin s)) p = same_sends s (fin_segment_of s p) p
+same_asks (Duty.Silent (SilentDuty.Timer s)) p = refl
+same_asks (Duty.Step StepDuty.Events) p = ap (step_for (path_of p)) (same_event p)
+same_asks (Duty.Ask (AskDuty.PeerKey s)) p = same_peer_key s (key_heard (end_at s p).treated.items) p
+same_asks (Duty.Send (SendDuty.SynAck s)) p = same_sends s (syn_ack_of s p) p
+same_asks (Duty.Ask (AskDuty.JoinHeard s)) p = same_join s (asked_at s p) p
+same_asks (Duty.Send (SendDuty.Refuse s)) p = same_sends s (refusal_of s p) p
+same_asks (Duty.Ask (AskDuty.Opened s)) p = same_opened s (keys_heard (end_at s p).treated.items) p
+same_asks (Duty.Step (StepDuty.Heard s index)) p = same_item s (item_of index (end_at s p)) p
+same_asks (Duty.Step (StepDuty.PlainAck s)) p = same_break_or s (breaks_by_ack p.profile (end_at s p)) 6 FallEvent.PlainAck p
+same_asks (Duty.Step (StepDuty.Unmapped s)) p = same_break s (end_at s p).treated.asked 6 p
+same_asks (Duty.Ask (AskDuty.Rate s)) p = same_rate s (end_at s p).tcp.congestion.pending p
+same_asks (Duty.Send (SendDuty.Acknowledge s)) p = same_sends s (ack_segment s p) p
+same_asks (Duty.Send (SendDuty.Again s)) p = same_sends s (first_segment s p) p
+same_asks (Duty.Send (SendDuty.Answer s)) p = same_sends s (answer_of s p) p
+same_asks (Duty.Send (SendDuty.ResetAnswer s)) p = same_sends s (dead_answer s p) p
+same_asks (Duty.Send (SendDuty.Resend s)) p = same_sends s (resend_of s p) p
+same_asks (Duty.Send (SendDuty.BreakReset s reason)) p = same_sends s (reset_of s (Some reason) p) p
+same_asks (Duty.Send (SendDuty.Reset s)) p = same_sends s (reset_of s None p) p
 same_asks _ p = refl
 
 same_passed : (d : Duty) (p : PathState Carried) → passed d (shown_path p) ≡ shown_path (passed d p)
-same_passed (duties.Ask ask_duties.JoinAgain) p = refl
-same_passed (duties.Step (step_duties.Look s)) p = refl
-same_passed (duties.Send (send_duties.ResetNoted s)) p = refl
-same_passed (duties.Silent (silent_duties.Timer s)) p = refl
+same_passed (Duty.Ask AskDuty.JoinAgain) p = refl
+same_passed (Duty.Step (StepDuty.Look s)) p = refl
+same_passed (Duty.Send (SendDuty.ResetNoted s)) p = refl
+same_passed (Duty.Silent (SilentDuty.Timer s)) p = refl
 same_passed _ p = refl
 
 pub same_settled : (ds : List Duty) (p : PathState Carried) → settled ds (shown_path p) ≡ shown_path (settled ds p)
 same_settled [] p = refl
-same_settled (d ∷ ds) p = by (stands d p) refl (same_settled ds (passed d p))
-  where
-    by : (b : Bool) → stands d p ≡ b → settled ds (shown_path (passed d p)) ≡ shown_path (settled ds (passed d p))
-        → settled (d ∷ ds) (shown_path p) ≡ shown_path (settled (d ∷ ds) p)
-    by true is rest = rw (same_stands d p, is) refl
-    by false is rest = rw (same_stands d p, is, same_passed d p) rest
+same_settled (d ∷ ds) p =
+    (elim (stands d p) as (λ b. stands d p ≡ b → settled ds (shown_path (passed d p)) ≡ shown_path (settled ds (passed d p)) → settled (d ∷ ds) (shown_path p) ≡ shown_path (settled (d ∷ ds) p))
+    [ true ↦ λ is rest. rw (same_stands d p, is) refl | false ↦ λ is rest. rw (same_stands d p, is, same_passed d p) rest ]) refl (same_settled ds (passed d p))
 
 pub asks_the_same : (p : PathState Carried) → asks_of octets (shown_path p) ≡ asks_of values p
-asks_the_same p = by p.agenda
-  where
-    by : (ds : List Duty) → asks_first octets ds (shown_path p) ≡ asks_first values ds p
-    by [] = refl
-    by (d ∷ ds) = ap Some (same_asks d p)
+asks_the_same p = elim p.agenda as (λ ds. asks_first octets ds (shown_path p) ≡ asks_first values ds p) [ [] ↦ refl | d ∷ ds ↦ ap Some (same_asks d p) ]
 
 pub begins_the_same : (p : PathState Carried) → next_round (shown_path p) ≡ shown_path (next_round p)
 begins_the_same p = same_settled start_of_turn (with_agenda start_of_turn (record p { clock = p.until; until = p.until + 100 }))
@@ -253,12 +199,12 @@ same_sent s segment e ds p said = ap (λ (link : LinkState (List ℕ)). record (
 -- ---- what is answered
 
 same_reset : (s : Side) (reason : Option ℕ) (ds : List Duty) (p : PathState Carried)
-    → CanBeAltered p (record { from = s; kind = kinds.Reset reason })
+    → CanBeAltered p (record { from = s; kind = SegmentKind.Reset reason })
     → reset_on octets s reason ds (shown_path p) ≡ shown_path (reset_on values s reason ds p)
 same_reset s reason ds p said = same_sent s (reset_of s reason p) (died (end_at s p)) ds p said
 
 same_broken : (s : Side) (asked : Bool) (reason : ℕ) (r : Reply) (p : PathState Carried)
-    → IfSome (if asked then None else to_send s (kinds.Reset (Some reason))) (CanBeAltered p)
+    → IfSome (if asked then None else to_send s (SegmentKind.Reset (Some reason))) (CanBeAltered p)
     → (if asked then answered_ack_out s r (resets s reason) (shown_path p) else reset_on octets s (Some reason) (leaves s) (shown_path p))
     ≡ shown_path (if asked then answered_ack_out s r (resets s reason) p else reset_on values s (Some reason) (leaves s) p)
 same_broken s true reason r p said = refl
@@ -267,8 +213,8 @@ same_broken s false reason r p said = same_reset s (Some reason) (leaves s) p sa
 -- ---- what follows from a verdict
 
 same_fell_duties : (s : Side) (r : Reply) (p : PathState Carried) → fell_duties s r (shown_path p) ≡ fell_duties s r p
-same_fell_duties s (replies.Control (control_replies.Verdict (verdicts.Went Identity))) p = refl
-same_fell_duties s (replies.Control (control_replies.Verdict (verdicts.BreakPath reason))) p = refl
+same_fell_duties s (Reply.Control (ControlReply.Verdict (Verdict.Went Identity))) p = refl
+same_fell_duties s (Reply.Control (ControlReply.Verdict (Verdict.BreakPath reason))) p = refl
 same_fell_duties s _ p = refl
 
 same_fallen : (s : Side) (r : Reply) (e : PathEnd) (p : PathState Carried)
@@ -287,12 +233,12 @@ same_broken_or s false reason r e p said = same_fallen s r e p
 
 same_peer_key_answered : (s : Side) (key : Option ℕ) (r : Reply) (p : PathState Carried)
     → answered_peer_key s key r (shown_path p) ≡ shown_path (answered_peer_key s key r p)
-same_peer_key_answered s None r p = same_fell s events.PlainHandshake r p
+same_peer_key_answered s None r p = same_fell s FallEvent.PlainHandshake r p
 same_peer_key_answered s (Some key) r p = refl
 
 same_opened_answered : (s : Side) (keys : Option KeyPair) (r : Reply) (p : PathState Carried)
     → answered_opened s keys r (shown_path p) ≡ shown_path (answered_opened s keys r p)
-same_opened_answered s None r p = same_fell s events.PlainHandshake r p
+same_opened_answered s None r p = same_fell s FallEvent.PlainHandshake r p
 same_opened_answered s (Some keys) r p = refl
 
 same_told : (s : Side) (covers : Bool) (p : PathState Carried) → told_next s covers (shown_path p) ≡ told_next s covers p
@@ -300,27 +246,23 @@ same_told s true p = refl
 same_told s false p = refl
 
 same_failed : (s : Side) (may : Bool) (r : Reply) (p : PathState Carried)
-    → (if may then book_answered s r (shown_path p) else answered_fell s (events.FailHeard false) r (shown_path p))
-    ≡ shown_path (if may then book_answered s r p else answered_fell s (events.FailHeard false) r p)
+    → (if may then book_answered s r (shown_path p) else answered_fell s (FallEvent.FailHeard false) r (shown_path p))
+    ≡ shown_path (if may then book_answered s r p else answered_fell s (FallEvent.FailHeard false) r p)
 same_failed s true r p = refl
-same_failed s false r p = same_fell s (events.FailHeard false) r p
+same_failed s false r p = same_fell s (FallEvent.FailHeard false) r p
 
 same_heard : (s : Side) (item : Option Heard) (r : Reply) (p : PathState Carried) → IfSome (heard_sends s item p) (CanBeAltered p)
     → answered_item octets s item r (shown_path p) ≡ shown_path (answered_item values s item r p)
 same_heard s None r p said = refl
-same_heard s (Some says.Dss) r p said = refl
-same_heard s (Some (says.DataAck next window)) r p said =
+same_heard s (Some Heard.Dss) r p said = refl
+same_heard s (Some (Heard.DataAck next window)) r p said =
     ap (λ ds. goes_on s (with_acked next r (end_at s p)) ds (shown_path p)) (same_told s (is_acked r && nat_lt 0 next) p)
-same_heard s (Some (says.Mapping fin)) r p said =
-    same_broken_or s (is_clash (end_at s p)) 1 r (with_learned (after_fell events.MappingHeard r (end_at s p))) p said
-same_heard s (Some (says.DataFin place)) r p said = same_fallen s r (with_data_fin place (after_fell events.MappingHeard r (end_at s p))) p
-same_heard s (Some (says.InfiniteMapping place position)) r p said = same_fallen s r (after_infinite place position r (end_at s p)) p
-same_heard s (Some (says.PeerKey key)) r p said = refl
-same_heard s (Some (says.Keys own peer)) r p said = refl
-same_heard s (Some (says.Join form)) r p said = refl
-same_heard s (Some (says.Notice notice)) r p said = refl
-same_heard s (Some says.Fail) r p said = same_failed s (may_go_infinite (end_at s p)) r p
-same_heard s (Some (says.FastClose key)) r p said = refl
+same_heard s (Some (Heard.Mapping fin)) r p said =
+    same_broken_or s (is_clash (end_at s p)) 1 r (with_learned (after_fell FallEvent.MappingHeard r (end_at s p))) p said
+same_heard s (Some (Heard.DataFin place)) r p said = same_fallen s r (with_data_fin place (after_fell FallEvent.MappingHeard r (end_at s p))) p
+same_heard s (Some (Heard.InfiniteMapping place position)) r p said = same_fallen s r (after_infinite place position r (end_at s p)) p
+same_heard s (Some Heard.Fail) r p said = same_failed s (may_go_infinite (end_at s p)) r p
+same_heard s _ r p said = refl
 
 same_grant : (s : Side) (o : Option Grant) (r : Reply) (p : PathState Carried) → answered_grant s o r (shown_path p) ≡ shown_path (answered_grant s o r p)
 same_grant s None r p = refl
@@ -349,15 +291,14 @@ same_plain_fin s false p = refl
 same_begun : (never : Bool) (r : Reply) (dead living : List Duty) (p : PathState Carried)
     → (if never then goes_on A (never_joined r (end_at A p)) dead (shown_path p) else goes_on A (opened_by (keys_begun r) (end_at A p)) living (shown_path p))
     ≡ shown_path (if never then goes_on A (never_joined r (end_at A p)) dead p else goes_on A (opened_by (keys_begun r) (end_at A p)) living p)
-same_begun true r dead living p = refl
-same_begun false r dead living p = refl
+same_begun = elim [ true ↦ λ r dead living p. refl | false ↦ λ r dead living p. refl ]
 
 same_join_again : (never : Bool) (r : Reply) (p : PathState Carried)
-    → (if never then goes_on A (never_joined r (end_at A p)) (replaced (duties.Ask (ask_duties.Leave A)) p.agenda) (shown_path p)
+    → (if never then goes_on A (never_joined r (end_at A p)) (replaced (Duty.Ask (AskDuty.Leave A)) p.agenda) (shown_path p)
     else goes_on A (opened_by (keys_begun r) (end_at A p)) (left p) (shown_path p))
-    ≡ shown_path (if never then goes_on A (never_joined r (end_at A p)) (replaced (duties.Ask (ask_duties.Leave A)) p.agenda) p
+    ≡ shown_path (if never then goes_on A (never_joined r (end_at A p)) (replaced (Duty.Ask (AskDuty.Leave A)) p.agenda) p
     else goes_on A (opened_by (keys_begun r) (end_at A p)) (left p) p)
-same_join_again never r p = same_begun never r (replaced (duties.Ask (ask_duties.Leave A)) p.agenda) (left p) p
+same_join_again never r p = same_begun never r (replaced (Duty.Ask (AskDuty.Leave A)) p.agenda) (left p) p
 
 same_join_taken : (s : Side) (keys : Option KeyPair) (asked : Option JoinSyn) (r : Reply) (p : PathState Carried)
     → join_taken s keys asked r (shown_path p) ≡ shown_path (join_taken s keys asked r p)
@@ -377,8 +318,7 @@ module _ (show : Carried → List ℕ) where
       by : (b : Bool) → find (is_due due) (map (shown_flight show) flights) ≡ option_map (shown_flight show) (find (is_due due) flights)
           → cond b (Some (shown_flight show f)) (find (is_due due) (map (shown_flight show) flights))
           ≡ option_map (shown_flight show) (cond b (Some f) (find (is_due due) flights))
-      by true rest = refl
-      by false rest = rest
+      by = elim [ true ↦ λ rest. refl | false ↦ λ rest. rest ]
 
   same_place : (due : Due) (flights : List (Flight Carried)) → position_or_len (is_due due) (map (shown_flight show) flights) ≡ position_or_len (is_due due) flights
   same_place due [] = refl
@@ -399,18 +339,14 @@ module _ (show : Carried → List ℕ) where
       ap (λ flights. record (with_copies_shown show link) { under_way = flights }) gone
 
 same_line : (action : LineAction) (p : PathState Carried) → after_line action (shown_path p) ≡ shown_path (after_line action p)
-same_line actions.Die p = refl
-same_line (actions.Prio s backup) p = refl
-same_line (actions.Announce s id) p = refl
-same_line (actions.Withdraw s id) p = refl
+same_line = elim [ LineAction.Die ↦ λ p. refl | _ ↦ λ p. refl ]
 
 same_copy_heard : (s : Side) (heard : Option HeardSegment) (p : PathState Carried) → copy_heard s heard (shown_path p) ≡ shown_path (copy_heard s heard p)
 same_copy_heard s None p = refl
 same_copy_heard s (Some h) p = refl
 
 heard_ack : (acknowledged : Option ℕ) → IsSome acknowledged → IsSome (option_map (λ n. At n) acknowledged)
-heard_ack (Some n) some = refl
-heard_ack None some = absurd (cc some)
+heard_ack = elim [ Some n ↦ λ some. refl | None ↦ λ some. absurd (cc some) ]
 
 -- a fresh copy is heard as it was meant, and a far reset without its position
 same_read : (s : Side) (o : Option (Flight Carried)) (p : PathState Carried) (q : PathState (List ℕ)) → end_at s q ≡ end_at s p
@@ -448,72 +384,71 @@ same_copy due p fresh =
     ∙ same_copy_heard due.to heard (record (at_tick due.tick p) { link = after_delivery due p.link })
 
 same_happening : (o : Option Event) (r : Reply) (p : PathState Carried)
-    → ((due : Due) (flight : Flight Carried) → o ≡ Some (happenings.Arrives due) → arriving due p.link ≡ Some flight → IsFreshCopy p due.to flight.carried)
+    → ((due : Due) (flight : Flight Carried) → o ≡ Some (Event.Arrives due) → arriving due p.link ≡ Some flight → IsFreshCopy p due.to flight.carried)
     → happens_if octets o r (shown_path p) ≡ shown_path (happens_if values o r p)
 same_happening None r p fresh = refl
-same_happening (Some (happenings.Joins tick)) r p fresh =
+same_happening (Some (Event.Joins tick)) r p fresh =
     same_begun (is_never r) r (leaves A) (emission A) (record (at_tick tick p) { joined_at = None })
-same_happening (Some (happenings.Takes line)) r p fresh = same_line line.action (record (at_tick line.tick p) { lines = tail_of p.lines })
-same_happening (Some (happenings.Arrives due)) r p fresh = same_copy due p (λ flight is. fresh due flight refl is)
-same_happening (Some (happenings.Fires s tick)) r p fresh = refl
+same_happening (Some (Event.Takes line)) r p fresh = same_line line.action (record (at_tick line.tick p) { lines = tail_of p.lines })
+same_happening (Some (Event.Arrives due)) r p fresh = same_copy due p (λ flight is. fresh due flight refl is)
+same_happening (Some (Event.Fires s tick)) r p fresh = refl
 
 -- ---- every duty
 
 same_answered : (d : Duty) (r : Reply) (p : PathState Carried) → IfSome (duty_sends d p) (CanBeAltered p) → NextIsFresh p
     → answered octets d r (shown_path p) ≡ shown_path (answered values d r p)
-same_answered (duties.Ask ask_duties.JoinAgain) r p said fresh = same_join_again (is_never r) r p
-same_answered (duties.Step (step_duties.Look s)) r p said fresh = refl
-same_answered (duties.Ask (ask_duties.LeaveNoted s)) r p said fresh = refl
-same_answered (duties.Send (send_duties.ResetNoted s)) r p said fresh = same_reset s None (replaced (duties.Ask (ask_duties.Leave s)) p.agenda) p said
-same_answered (duties.Ask (ask_duties.Window s)) r p said fresh = refl
-same_answered (duties.Send (send_duties.Update s)) r p said fresh = same_sent s (ack_segment s p) (having_sent to_send.Ack p.clock (ack_segment s p) (end_at s p)) (left p) p said
-same_answered (duties.Send (send_duties.FastClose s)) r p said fresh = same_sent s (fast_close_of s p) (having_fast_closed s p) (left p) p said
-same_answered (duties.Send (send_duties.Notice s)) r p said fresh = same_sent s (note_of s p) (having_noted s p) p.agenda p said
-same_answered (duties.Send (send_duties.Syn s)) r p said fresh = same_sent s (unsent_segment s p) (having_sent_unsent s p) (left p) p said
-same_answered (duties.Step (step_duties.Data s)) r p said fresh = same_data_answered s (first_unsent (end_at s p)) r p said
-same_answered (duties.Send (send_duties.DataFin s)) r p said fresh = same_sent s (data_fin_segment s p) (having_sent_data_fin s p) (left p) p said
-same_answered (duties.Send (send_duties.Fin s)) r p said fresh = same_sent s (fin_segment_of s p) (having_sent_fin s p) (left p) p said
-same_answered (duties.Silent (silent_duties.Timer s)) r p said fresh = refl
-same_answered (duties.Step step_duties.Events) r p said fresh =
+same_answered (Duty.Ask AskDuty.JoinAgain) r p said fresh = same_join_again (is_never r) r p
+same_answered (Duty.Step (StepDuty.Look s)) r p said fresh = refl
+same_answered (Duty.Ask (AskDuty.LeaveNoted s)) r p said fresh = refl
+same_answered (Duty.Send (SendDuty.ResetNoted s)) r p said fresh = same_reset s None (replaced (Duty.Ask (AskDuty.Leave s)) p.agenda) p said
+same_answered (Duty.Ask (AskDuty.Window s)) r p said fresh = refl
+same_answered (Duty.Send (SendDuty.Update s)) r p said fresh = same_sent s (ack_segment s p) (having_sent Occasion.Ack p.clock (ack_segment s p) (end_at s p)) (left p) p said
+same_answered (Duty.Send (SendDuty.FastClose s)) r p said fresh = same_sent s (fast_close_of s p) (having_fast_closed s p) (left p) p said
+same_answered (Duty.Send (SendDuty.Notice s)) r p said fresh = same_sent s (note_of s p) (having_noted s p) p.agenda p said
+same_answered (Duty.Send (SendDuty.Syn s)) r p said fresh = same_sent s (unsent_segment s p) (having_sent_unsent s p) (left p) p said
+same_answered (Duty.Step (StepDuty.Data s)) r p said fresh = same_data_answered s (first_unsent (end_at s p)) r p said
+same_answered (Duty.Send (SendDuty.DataFin s)) r p said fresh = same_sent s (data_fin_segment s p) (having_sent_data_fin s p) (left p) p said
+same_answered (Duty.Send (SendDuty.Fin s)) r p said fresh = same_sent s (fin_segment_of s p) (having_sent_fin s p) (left p) p said
+same_answered (Duty.Silent (SilentDuty.Timer s)) r p said fresh = refl
+same_answered (Duty.Step StepDuty.Events) r p said fresh =
     ap (λ o. happens_if octets o r (shown_path p)) (same_event p) ∙ same_happening (next_event p) r p fresh
-same_answered (duties.Ask (ask_duties.SynHeard s)) r p said fresh = refl
-same_answered (duties.Ask (ask_duties.SynAnswered s)) r p said fresh = refl
-same_answered (duties.Ask (ask_duties.PlainHandshake s)) r p said fresh = same_fell s events.PlainHandshake r p
-same_answered (duties.Ask (ask_duties.PeerKey s)) r p said fresh = same_peer_key_answered s (key_heard (end_at s p).treated.items) r p
-same_answered (duties.Send (send_duties.SynAck s)) r p said fresh = same_sent s (syn_ack_of s p) (having_sent to_send.SynAck p.clock (syn_ack_of s p) (end_at s p)) (left p) p said
-same_answered (duties.Ask (ask_duties.JoinHeard s)) r p said fresh = same_join_taken s (keys_begun r) (asked_at s p) r p
-same_answered (duties.Send (send_duties.Refuse s)) r p said fresh = same_sent s (refusal_of s p) (end_at s p) (left p) p said
-same_answered (duties.Ask (ask_duties.Opened s)) r p said fresh = same_opened_answered s (keys_heard (end_at s p).treated.items) r p
-same_answered (duties.Ask (ask_duties.Live s)) r p said fresh = refl
-same_answered (duties.Step (step_duties.Heard s index)) r p said fresh = same_heard s (item_of index (end_at s p)) r p said
-same_answered (duties.Ask (ask_duties.AckHeard s)) r p said fresh = same_fell s events.AckHeard r p
-same_answered (duties.Step (step_duties.PlainAck s)) r p said fresh =
-    same_broken_or s (breaks_by_ack p.profile (end_at s p)) 6 r (with_plain_ack (after_fell events.PlainAck r (end_at s p))) p said
-same_answered (duties.Ask (ask_duties.FailHeard s)) r p said fresh = same_fallen s r (after_fail_heard r (end_at s p)) p
-same_answered (duties.Ask (ask_duties.SubflowAck s)) r p said fresh = refl
-same_answered (duties.Ask (ask_duties.PlainData s)) r p said fresh = same_fell s events.PlainData r p
-same_answered (duties.Ask (ask_duties.GoIdentity s)) r p said fresh = refl
-same_answered (duties.Silent (silent_duties.Keep s)) r p said fresh = refl
-same_answered (duties.Ask (ask_duties.Edge s)) r p said fresh = same_piece s (piece_of s p) (is_placed r) p
-same_answered (duties.Ask (ask_duties.CheckFailed s)) r p said fresh =
+same_answered (Duty.Ask (AskDuty.SynHeard s)) r p said fresh = refl
+same_answered (Duty.Ask (AskDuty.SynAnswered s)) r p said fresh = refl
+same_answered (Duty.Ask (AskDuty.PlainHandshake s)) r p said fresh = same_fell s FallEvent.PlainHandshake r p
+same_answered (Duty.Ask (AskDuty.PeerKey s)) r p said fresh = same_peer_key_answered s (key_heard (end_at s p).treated.items) r p
+same_answered (Duty.Send (SendDuty.SynAck s)) r p said fresh = same_sent s (syn_ack_of s p) (having_sent Occasion.SynAck p.clock (syn_ack_of s p) (end_at s p)) (left p) p said
+same_answered (Duty.Ask (AskDuty.JoinHeard s)) r p said fresh = same_join_taken s (keys_begun r) (asked_at s p) r p
+same_answered (Duty.Send (SendDuty.Refuse s)) r p said fresh = same_sent s (refusal_of s p) (end_at s p) (left p) p said
+same_answered (Duty.Ask (AskDuty.Opened s)) r p said fresh = same_opened_answered s (keys_heard (end_at s p).treated.items) r p
+same_answered (Duty.Ask (AskDuty.Live s)) r p said fresh = refl
+same_answered (Duty.Step (StepDuty.Heard s index)) r p said fresh = same_heard s (item_of index (end_at s p)) r p said
+same_answered (Duty.Ask (AskDuty.AckHeard s)) r p said fresh = same_fell s FallEvent.AckHeard r p
+same_answered (Duty.Step (StepDuty.PlainAck s)) r p said fresh =
+    same_broken_or s (breaks_by_ack p.profile (end_at s p)) 6 r (with_plain_ack (after_fell FallEvent.PlainAck r (end_at s p))) p said
+same_answered (Duty.Ask (AskDuty.FailHeard s)) r p said fresh = same_fallen s r (after_fail_heard r (end_at s p)) p
+same_answered (Duty.Ask (AskDuty.SubflowAck s)) r p said fresh = refl
+same_answered (Duty.Ask (AskDuty.PlainData s)) r p said fresh = same_fell s FallEvent.PlainData r p
+same_answered (Duty.Ask (AskDuty.GoIdentity s)) r p said fresh = refl
+same_answered (Duty.Silent (SilentDuty.Keep s)) r p said fresh = refl
+same_answered (Duty.Ask (AskDuty.Edge s)) r p said fresh = same_piece s (piece_of s p) (is_placed r) p
+same_answered (Duty.Ask (AskDuty.CheckFailed s)) r p said fresh =
     same_fallen s r (after_check_failed p.profile.spelling.checksums r (end_at s p)) p
-same_answered (duties.Step (step_duties.Unmapped s)) r p said fresh = same_broken s (end_at s p).treated.asked 6 r p said
-same_answered (duties.Ask (ask_duties.HeardFin s index)) r p said fresh = same_fin s (is_fin_set r) p
-same_answered (duties.Silent (silent_duties.PassFin s)) r p said fresh = refl
-same_answered (duties.Ask (ask_duties.SubflowFin s)) r p said fresh = same_plain_fin s (is_fin_set r) p
-same_answered (duties.Send (send_duties.Acknowledge s)) r p said fresh = same_sent s (ack_segment s p) (having_sent to_send.Ack p.clock (ack_segment s p) (end_at s p)) (left p) p said
-same_answered (duties.Send (send_duties.Again s)) r p said fresh = same_sent s (first_segment s p) (having_sent to_send.First p.clock (first_segment s p) (end_at s p)) (left p) p said
-same_answered (duties.Send (send_duties.Answer s)) r p said fresh = same_sent s (answer_of s p) (having_sent (answer_occasion (end_at s p)) p.clock (answer_of s p) (end_at s p)) (left p) p said
-same_answered (duties.Send (send_duties.ResetAnswer s)) r p said fresh = same_sent s (dead_answer s p) (end_at s p) (left p) p said
-same_answered (duties.Send (send_duties.Resend s)) r p said fresh = same_sent s (resend_of s p) (having_sent (resend_occasion (end_at s p)) p.clock (resend_of s p) (end_at s p)) (left p) p said
-same_answered (duties.Send (send_duties.BreakReset s reason)) r p said fresh = same_reset s (Some reason) (leaves s) p said
-same_answered (duties.Send (send_duties.Reset s)) r p said fresh = same_reset s None (replaced (duties.Ask (ask_duties.Leave s)) p.agenda) p said
+same_answered (Duty.Step (StepDuty.Unmapped s)) r p said fresh = same_broken s (end_at s p).treated.asked 6 r p said
+same_answered (Duty.Ask (AskDuty.HeardFin s index)) r p said fresh = same_fin s (is_fin_set r) p
+same_answered (Duty.Silent (SilentDuty.PassFin s)) r p said fresh = refl
+same_answered (Duty.Ask (AskDuty.SubflowFin s)) r p said fresh = same_plain_fin s (is_fin_set r) p
+same_answered (Duty.Send (SendDuty.Acknowledge s)) r p said fresh = same_sent s (ack_segment s p) (having_sent Occasion.Ack p.clock (ack_segment s p) (end_at s p)) (left p) p said
+same_answered (Duty.Send (SendDuty.Again s)) r p said fresh = same_sent s (first_segment s p) (having_sent Occasion.First p.clock (first_segment s p) (end_at s p)) (left p) p said
+same_answered (Duty.Send (SendDuty.Answer s)) r p said fresh = same_sent s (answer_of s p) (having_sent (answer_occasion (end_at s p)) p.clock (answer_of s p) (end_at s p)) (left p) p said
+same_answered (Duty.Send (SendDuty.ResetAnswer s)) r p said fresh = same_sent s (dead_answer s p) (end_at s p) (left p) p said
+same_answered (Duty.Send (SendDuty.Resend s)) r p said fresh = same_sent s (resend_of s p) (having_sent (resend_occasion (end_at s p)) p.clock (resend_of s p) (end_at s p)) (left p) p said
+same_answered (Duty.Send (SendDuty.BreakReset s reason)) r p said fresh = same_reset s (Some reason) (leaves s) p said
+same_answered (Duty.Send (SendDuty.Reset s)) r p said fresh = same_reset s None (replaced (Duty.Ask (AskDuty.Leave s)) p.agenda) p said
 same_answered _ r p said fresh = refl
 
 same_answers : (ds : List Duty) (r : Reply) (p : PathState Carried) → IfSome (first_sends ds p) (CanBeAltered p) → NextIsFresh p
     → answers octets ds r (shown_path p) ≡ shown_path (answers values ds r p)
-same_answers [] r p said fresh = refl
-same_answers (d ∷ ds) r p said fresh = same_answered d r p said fresh
+same_answers = elim [ [] ↦ λ r p said fresh. refl | d ∷ ds ↦ λ r p said fresh. same_answered d r p said fresh ]
 
 pub takes_the_same : (r : Reply) (p : PathState Carried) → SentCanBeAltered p → NextIsFresh p → takes octets r (shown_path p) ≡ shown_path (takes values r p)
 takes_the_same r p said fresh =

@@ -1,17 +1,14 @@
 -- A third MP_JOIN is taken exactly where its HMAC is that of the handshake.
-use Rattle.std.proofs.Common.{◌≡◌, ◌↔◌, refl, sym, ap, subst, ◌∙◌, ℕ, List, Option, Some, None, Result, Ok, Err, Bool, true, false, ◌==◌}
-use Rattle.std.proofs.lemmas.Bool.{eq-eqb, eqb-true, false≢true}
+use Rattle.path_core.proofs.Words.{◌≡◌, refl, sym, ap, subst, ◌∙◌, ℕ, Bool, true, false, Option, Some, None, List, ◌==◌, Ok, ◌↔◌, eq-eqb, eqb-true, false≢true}
+use Rattle.path_core.proofs.Words.{is_ok, JoinForm, Heard, join_heard, peer_key_of, is_hmac_right, is_third_right, join_value, third_in}
+use Rattle.std.proofs.Common.{Result, Err}
 use Rattle.std.proofs.lemmas.Option.{same_Some}
-use Rattle.std.specs.Result.{IsOk, is_ok}
+use Rattle.std.specs.Result.{IsOk}
 use Rattle.std.specs.Cmp.Lexicographic.{pointwise, pointwise_decides}
 use Rattle.key_material.specs.JoinHmac.{join_a160_of}
 use Rattle.path_core.specs.declared.modes.Modes.{Modes}
-use Rattle.mptcp_options.specs.declared.join.JoinForm.{JoinForm}
-use Rattle.path_agenda.specs.declared.heard.Heard.{Heard}
-use Rattle.path_agenda.specs.declared.heard.JoinStep.TheVariants as step
-use Rattle.path_agenda.specs.Items.{join_heard}
+use Rattle.path_agenda.specs.declared.heard.JoinStep.{JoinStep}
 use Rattle.join_handshake.specs.Heard.{third_heard}
-use Rattle.path_core.specs.MpJoin.{is_hmac_right, is_third_right, join_value, peer_key_of, third_in}
 
 octets_decide : (a b : List ℕ) → (pointwise ◌==◌ a b ≡ true → a ≡ b) × (a ≡ b → pointwise ◌==◌ a b ≡ true)
 octets_decide = pointwise_decides (λ a b. (eqb-true a b, eq-eqb a b))
@@ -23,13 +20,10 @@ pub third_is_taken : (form : Option (List ℕ)) (m : Modes) (taken : Bool) → (
 third_is_taken None m true right = absurd (cc (right.0 refl))
 third_is_taken None m false right = refl
 third_is_taken (Some hmac) m true right = sym ((octets_decide hmac (hmac_of_a m)).1 (same_Some hmac (hmac_of_a m) (right.0 refl)))
-third_is_taken (Some hmac) m false right = by (pointwise ◌==◌ hmac (hmac_of_a m)) refl
-  where
-    by : (same : Bool) → pointwise ◌==◌ hmac (hmac_of_a m) ≡ same → false ≡ pointwise ◌==◌ hmac (hmac_of_a m)
-    by true is = absurd (false≢true (right.1 (ap Some ((octets_decide hmac (hmac_of_a m)).0 is))))
-    by false is = sym is
+third_is_taken (Some hmac) m false right = (elim (pointwise ◌==◌ hmac (hmac_of_a m)) as (λ same. pointwise ◌==◌ hmac (hmac_of_a m) ≡ same → false ≡ pointwise ◌==◌ hmac (hmac_of_a m))
+    [ true ↦ λ is. absurd (false≢true (right.1 (ap Some ((octets_decide hmac (hmac_of_a m)).0 is)))) | false ↦ λ is. sym is ]) refl
 
-module _ {E : Type 0} (items : List Heard) (m : Modes) (form : JoinForm) (found : join_heard step.Third items ≡ Some form) where
+module _ {E : Type 0} (items : List Heard) (m : Modes) (form : JoinForm) (found : join_heard JoinStep.Third items ≡ Some form) where
   pub third_is_right : (heard : Result (Unit {0}) E) → (IsOk heard ↔ (third_heard (join_value (Some form)) ≡ Some (hmac_of_a m))) → is_ok heard ≡ is_third_right items m
   third_is_right (Ok x) right = third_is_taken (third_in items) m true (λ is. ap (λ o. third_heard (join_value o)) found ∙ right.0 refl, λ same. refl)
   third_is_right (Err e) right =

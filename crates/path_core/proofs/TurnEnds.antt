@@ -1,22 +1,8 @@
 -- A turn ends: each reply lowers the numbers, and settling lowers them too.
-use Rattle.std.proofs.Common.{◌≡◌, refl, sym, ap, subst, ◌<◌, ◌⊎◌, inl, inr, Bool, true, false, if◌then◌else◌, List, [], ◌∷◌, arith}
-use Rattle.actor_desk.specs.declared.ask.Reply.{Reply}
-use Rattle.path_agenda.specs.declared.duty.Duty.{Duty}
-use Rattle.path_agenda.specs.declared.duty.Duty.TheVariants as duties
-use Rattle.path_agenda.specs.declared.duty.AskDuty.TheVariants as ask_duties
-use Rattle.path_agenda.specs.declared.duty.SendDuty.TheVariants as send_duties
-use Rattle.path_agenda.specs.declared.duty.SilentDuty.TheVariants as silent_duties
-use Rattle.path_agenda.specs.declared.duty.StepDuty.TheVariants as step_duties
-use Rattle.path_core.specs.Codec.{Codec}
-use Rattle.path_core.specs.Duties.{stands, ask_for, passed, answered}
-use Rattle.actor_desk.specs.Kinds.{IsOfKind}
-use Rattle.path_agenda.specs.Weights.{weights}
-use Rattle.path_core.specs.Ranks.{ticks_left, due_by_now, bytes_left, sendings_left}
-use Rattle.path_core.specs.State.{PathState, with_agenda}
-use Rattle.path_core.specs.Steps.{settled, settles_down, asks_first, answers, begins_turn}
-use Rattle.path_agenda.specs.Agenda.{start_of_turn}
-use Rattle.path_core.specs.Turns.{Ends, TakesTime, FirstStands, IsSettled}
-use Rattle.actor_desk.proofs.Falling.{Ending, Then, less-ends, then-ends}
+use Rattle.path_core.proofs.Words.{◌≡◌, ◌⊎◌, inl, inr, refl, sym, ap, subst, ◌<◌, true, false, if◌then◌else◌, List, [], ◌∷◌, arith, start_of_turn, Duty}
+use Rattle.path_core.proofs.Words.{AskDuty, StepDuty, SendDuty, SilentDuty, weights, Reply, Ending, Then, less-ends, then-ends, IsOfKind, PathState}
+use Rattle.path_core.proofs.Words.{with_agenda, Codec, stands, ask_for, passed, answered, settled, settles_down, asks_first, answers, begins_turn, Ends}
+use Rattle.path_core.proofs.Words.{TakesTime, FirstStands, IsSettled, ticks_left, due_by_now, bytes_left, sendings_left}
 use Rattle.path_core.proofs.Lowering.{answered_lowers}
 use Rattle.path_core.proofs.Passed.{settled_lower}
 use Rattle.path_core.proofs.Ranking.{Calm, Rest, Lower, Lowers}
@@ -41,30 +27,23 @@ module _ {C : Type 0} where
       Then.Stays (omega (arith, calm.ticks, most)) (Then.Stays (omega (arith, calm.due, many)) (rest_below m q p less rest))
 
   settles_lower : (m p : PathState C) → Lowers p m → Lowers p (settles_down m)
-  settles_lower m p lowers = by (settled_lower m.agenda m lowers.time)
-    where
-      by : ((weights (settled m.agenda m).agenda < weights m.agenda) × Calm m (settled m.agenda m)) ⊎ (settled m.agenda m ≡ with_agenda m.agenda m)
-          → Lowers p (settled m.agenda m)
-      by (inl less) = record { lower = lower_below m (settled m.agenda m) p less.1 less.0 lowers.lower; time = less.1.time }
-      by (inr same) = subst (Lowers p) (sym same) lowers
+  settles_lower m p lowers = elim (settled_lower m.agenda m lowers.time)
+      [ inl less ↦ record { lower = lower_below m (settled m.agenda m) p less.1 less.0 lowers.lower; time = less.1.time } | inr same ↦ subst (Lowers p) (sym same) lowers ]
 
   -- ---- what stands first comes to something
 
   -- the agenda is of no account
   same_stands : (d : Duty) (ds : List Duty) (p : PathState C) → stands d p ≡ true → stands d (with_agenda (d ∷ ds) p) ≡ true
-  same_stands (duties.Ask ask_duties.JoinAgain) ds p is = is
-  same_stands (duties.Step (step_duties.Look s)) ds p is = is
-  same_stands (duties.Send (send_duties.ResetNoted s)) ds p is = is
-  same_stands (duties.Silent (silent_duties.Timer s)) ds p is = is
+  same_stands (Duty.Ask AskDuty.JoinAgain) ds p is = is
+  same_stands (Duty.Step (StepDuty.Look s)) ds p is = is
+  same_stands (Duty.Send (SendDuty.ResetNoted s)) ds p is = is
+  same_stands (Duty.Silent (SilentDuty.Timer s)) ds p is = is
   same_stands _ ds p is = is
 
   settled_settled : (ds : List Duty) (p : PathState C) → IsSettled (settled ds p)
   settled_settled [] p = tt
-  settled_settled (d ∷ ds) p = by (stands d p) refl (settled_settled ds (passed d p))
-    where
-      by : (b : Bool) → stands d p ≡ b → IsSettled (settled ds (passed d p)) → IsSettled (if b then with_agenda (d ∷ ds) p else settled ds (passed d p))
-      by true is rest = same_stands d ds p is
-      by false is rest = rest
+  settled_settled (d ∷ ds) p = (elim (stands d p) as (λ b. stands d p ≡ b → IsSettled (settled ds (passed d p)) → IsSettled (if b then with_agenda (d ∷ ds) p else settled ds (passed d p)))
+      [ true ↦ λ is rest. same_stands d ds p is | false ↦ λ is rest. rest ]) refl (settled_settled ds (passed d p))
 
   -- ---- the turn
 
@@ -95,8 +74,5 @@ module _ {C : Type 0} where
       turn_ends k (begins_turn p) (settled_time start_of_turn begun (record { delay = t.delay; timer_a = t.timer_a; timer_b = t.timer_b })) (settled_settled start_of_turn begun)
     where
       settled_time : (ds : List Duty) (q : PathState C) → TakesTime q → TakesTime (settled ds q)
-      settled_time ds q t = by (settled_lower ds q t)
-        where
-          by : ((weights (settled ds q).agenda < weights ds) × Calm q (settled ds q)) ⊎ (settled ds q ≡ with_agenda ds q) → TakesTime (settled ds q)
-          by (inl less) = less.1.time
-          by (inr same) = subst TakesTime (sym same) (record { delay = t.delay; timer_a = t.timer_a; timer_b = t.timer_b })
+      settled_time ds q t = elim (settled_lower ds q t)
+          [ inl less ↦ less.1.time | inr same ↦ subst TakesTime (sym same) (record { delay = t.delay; timer_a = t.timer_a; timer_b = t.timer_b }) ]

@@ -40,12 +40,6 @@ module _ (spelling : Spelling) (from : Side) (expected : Expected) (is : IsExpec
 
   pub option_again : (o : PlainOption) → IsOptionFresh spelling.short expected o
       → heard_option spelling from expected (said_option spelling from o) ≡ meant_option o
-  option_again (Capable flag_a flag_c keys) fresh = refl
-  option_again (Join form) fresh = refl
   option_again (Dss next mapping) fresh = rw (ack_again_if next fresh.0, mapping_again_if mapping fresh.1) refl
-  option_again (AddAddr echo id address port hmac) fresh = refl
-  option_again (Remove ids) fresh = refl
-  option_again (Prio backup) fresh = refl
   option_again (Fail place) fresh = ap Fail (whole_again spelling (peer from) expected.told place is.told fresh.below)
-  option_again (FastClose key) fresh = refl
-  option_again (Reset transient reason) fresh = refl
+  option_again _ fresh = refl

@@ -57,11 +57,8 @@ none_heard heard next x (y ∷ xs) not low = rw (not_heard x.from y.from heard n
 pub first_tells : (heard next : ℕ) (pieces : List GrantedPiece) (d : GrantedPiece) → 0 < length pieces → Rise pieces
     → is_newly_heard heard next (get_or pieces 0 d) ≡ list_any (is_newly_heard heard next) pieces
 first_tells heard next [] d some rise = absurd (omega (arith, some))
-first_tells heard next (x ∷ xs) d some rise = by (is_newly_heard heard next x) refl
-  where
-    by : (b : Bool) → is_newly_heard heard next x ≡ b → b ≡ list_any (is_newly_heard heard next) (x ∷ xs)
-    by true e = rw e refl
-    by false e = rw e (sym (none_heard heard next x xs e rise.0))
+first_tells heard next (x ∷ xs) d some rise = (elim (is_newly_heard heard next x) as (λ b. is_newly_heard heard next x ≡ b → b ≡ list_any (is_newly_heard heard next) (x ∷ xs))
+    [ true ↦ λ e. rw e refl | false ↦ λ e. rw e (sym (none_heard heard next x xs e rise.0)) ]) refl
 
 -- ---- what is acknowledged whole
 
@@ -75,11 +72,7 @@ all_open heard x (y ∷ xs) is low = rw (still_open x.to y.to heard low.0.1 is) 
 -- where the first one is acknowledged whole
 pub first_goes : (heard : ℕ) (pieces : List GrantedPiece) (d : GrantedPiece) → not (is_open heard (get_or pieces 0 d)) ≡ true → filter (is_open heard) (drop 1 pieces) ≡ filter (is_open heard) pieces
 first_goes heard [] d not = refl
-first_goes heard (x ∷ xs) d closed = rw (by (is_open heard x) closed) refl
-  where
-    by : (b : Bool) → not b ≡ true → b ≡ false
-    by true e = sym e
-    by false e = refl
+first_goes heard (x ∷ xs) d closed = rw ((elim (is_open heard x) as (λ b. not b ≡ true → b ≡ false) [ true ↦ λ e. sym e | false ↦ λ e. refl ]) closed) refl
 
 -- and where it isn't
 pub all_stay : (heard : ℕ) (pieces : List GrantedPiece) (d : GrantedPiece) → Rise pieces → not (is_open heard (get_or pieces 0 d)) ≡ false → filter (is_open heard) pieces ≡ pieces

@@ -13,10 +13,7 @@ use Rattle.pipe_model.specs.Runs.{next, after_steps, given_by, written_by, piece
 
 written-after : (step : PipeStep) (p : Pipe) → (after step p).written ≡ p.written ++ given_by step
 written-after (Write bytes) p = refl
-written-after Close p = sym (append-nil p.written)
-written-after (Read count) p = sym (append-nil p.written)
-written-after (Ack to received) p = sym (append-nil p.written)
-written-after TellEnd p = sym (append-nil p.written)
+written-after _ p = sym (append-nil p.written)
 
 written-next : (step : PipeStep) (p : Pipe) → (next step p).written ≡ p.written ++ (if is_none (refusal step p) then given_by step else [])
 written-next step p =

@@ -63,9 +63,7 @@ module _ {M : Type 0} where
 
   forgotten-change : (change : Change M) (v : Marks M) → v.forgotten ≤ (after_change change v).forgotten
   forgotten-change (Extend count mark) v = omega arith
-  forgotten-change (Put from to mark) v = omega arith
-  forgotten-change (DropFront to) v = omega arith
-  forgotten-change (CutBack to) v = omega arith
+  forgotten-change _ v = omega arith
 
   forgotten-changes : (changes : List (Change M)) (v : Marks M) → v.forgotten ≤ (after_changes changes v).forgotten
   forgotten-changes [] v = omega arith

@@ -31,11 +31,7 @@ filled-split (suc n) (suc k) (Some byte ∷ places) e = ap (λ rest. Some byte �
 
 bytes_of-bytes_reply : (bytes : List ℕ) (b : Arriving) → bytes_of (bytes_reply bytes b) ≡ bytes
 bytes_of-bytes_reply (byte ∷ bytes) b = refl
-bytes_of-bytes_reply [] b = at (is_end b.known_end b.read)
-  where
-    at : (c : Bool) → bytes_of (if c then End else NoneYet) ≡ []
-    at true = refl
-    at false = refl
+bytes_of-bytes_reply [] b = elim (is_end b.known_end b.read) as (λ c. bytes_of (if c then End else NoneYet) ≡ []) [ true ↦ refl | false ↦ refl ]
 
 none_of-place : (o : Option ℕ) (c : Bool) (at : ℕ) (bytes : List ℕ) (b : Arriving)
     → bytes_of (if c then Beyond (edge b) else placed_reply o at bytes b) ≡ []

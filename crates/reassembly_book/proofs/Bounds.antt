@@ -78,16 +78,13 @@ sound-taken at bytes b sound inside None e none = record {
 }
 sound-taken at bytes b sound inside (Some e) is none =
     let ends : top b ≤ e = subst (λ o. IfSome o (λ k. top b ≤ k)) (sym is) sound.ends in
-    let below : reaches_past e at bytes ≡ false = at_end (reaches_past e at bytes) none in
+    let below : reaches_past e at bytes ≡ false = (elim (reaches_past e at bytes) as (λ c. is_some (if c then Some e else None) ≡ false → c ≡ false)
+    [ true ↦ λ h. cc | false ↦ λ h. refl ]) none in
     record {
       ends = subst (λ o. IfSome o (λ k. top (record b { places = places_after at bytes b }) ≤ k)) is
           (omega (arith, length-merged b.places (drop b.read (by_place at bytes)), length-by_place at b.read e bytes below, ends));
       fits = omega (arith, length-merged b.places (drop b.read (by_place at bytes)), length-by_place at b.read (edge b) bytes inside, sound.fits);
     }
-  where
-    at_end : (c : Bool) → is_some (if c then Some e else None) ≡ false → c ≡ false
-    at_end true h = cc
-    at_end false h = refl
 
 sound-place : (at : ℕ) (bytes : List ℕ) (b : Arriving) (past known : Bool) → IsSound b → reaches_past (edge b) at bytes ≡ past
     → is_some (clash b.known_end at bytes) ≡ known
@@ -98,19 +95,13 @@ sound-place at bytes b false false sound p k = sound-taken at bytes b sound p b.
 
 sound-fin : (at : ℕ) (b : Arriving) (o : Option ℕ) → o ≡ b.known_end → IsSound b
     → IsSound (if is_some (fin_clash o at b) then b else record b { known_end = Some at })
-sound-fin at b None is sound = by (nat_lt at (top b)) refl
-  where
-    by : (c : Bool) → nat_lt at (top b) ≡ c → IsSound (if is_some (if c then Some (top b) else None) then b else record b { known_end = Some at })
-    by true e = sound
-    by false e = record { ends = ltb-false _ _ e; fits = sound.fits }
-sound-fin at b (Some e) is sound = by (e == at) refl
+sound-fin at b None is sound = (elim (nat_lt at (top b)) as (λ c. nat_lt at (top b) ≡ c → IsSound (if is_some (if c then Some (top b) else None) then b else record b { known_end = Some at }))
+    [ true ↦ λ e. sound | false ↦ λ e. record { ends = ltb-false _ _ e; fits = sound.fits } ]) refl
+sound-fin at b (Some e) is sound = (elim (e == at) as (λ c. (e == at) ≡ c → IsSound (if is_some (if c then None else Some e) then b else record b { known_end = Some at }))
+    [ true ↦ λ same. record { ends = subst (λ k. top b ≤ k) (eqb-true e at same) ends; fits = sound.fits } | false ↦ λ same. sound ]) refl
   where
     ends : top b ≤ e
     ends = subst (λ o. IfSome o (λ k. top b ≤ k)) (sym is) sound.ends
-
-    by : (c : Bool) → (e == at) ≡ c → IsSound (if is_some (if c then None else Some e) then b else record b { known_end = Some at })
-    by true same = record { ends = subst (λ k. top b ≤ k) (eqb-true e at same) ends; fits = sound.fits }
-    by false same = sound
 
 IfSome-map : (o : Option ℕ) (P Q : ℕ → Type 0) → ((k : ℕ) → P k → Q k) → IfSome o P → IfSome o Q
 IfSome-map None P Q f h = tt

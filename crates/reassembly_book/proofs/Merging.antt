@@ -118,17 +118,9 @@ closing (suc k) places [] rest e f = absurd (omega (arith, e))
 closing zero places (byte ∷ front) rest e f = absurd (omega (arith, e))
 closing (suc k) [] (byte ∷ front) [] e f =
     ap (λ left. Some byte ∷ left)
-    (ap (λ left. map Some front ++ left) (sym (drop-nothing k)) ∙ closing k [] front [] (omega (arith, e)) (free k))
-  where
-    free : (k : ℕ) → IsFree k []
-    free zero = tt
-    free (suc k) = tt
+    (ap (λ left. map Some front ++ left) (sym (drop-nothing k)) ∙ closing k [] front [] (omega (arith, e)) (elim k as (λ k. IsFree k []) [ zero ↦ tt | suc k ↦ tt ]))
 closing (suc k) [] (byte ∷ front) (other ∷ rest) e f =
-    ap (λ left. Some byte ∷ left) (closing k [] front (other ∷ rest) (omega (arith, e)) (free k))
-  where
-    free : (k : ℕ) → IsFree k []
-    free zero = tt
-    free (suc k) = tt
+    ap (λ left. Some byte ∷ left) (closing k [] front (other ∷ rest) (omega (arith, e)) (elim k as (λ k. IsFree k []) [ zero ↦ tt | suc k ↦ tt ]))
 closing (suc k) (None ∷ places) (byte ∷ front) [] e f =
     ap (λ left. Some byte ∷ left)
     (ap (λ left. map Some front ++ drop k left) (sym (merged-nil places)) ∙ closing k places front [] (omega (arith, e)) f)

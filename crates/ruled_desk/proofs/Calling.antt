@@ -1,15 +1,8 @@
 -- A call at a book's table, from the ticket to the seat at rest.
-use Rattle.std.proofs.Common.{◌≡◌, sym, ◌∙◌, ap, subst, ℕ, Bool, true, false, ◌||◌, List, [], ◌∷◌, ◌++◌, Some, Result, Ok, Err}
-use Rattle.std.proofs.lemmas.List.{append-nil}
-use Rattle.std.specs.Prelude.{IfOk, OnErr}
-use Rattle.stamped_book.specs.Journal.{Journaled}
-use Rattle.stamped_book.specs.declared.stamped.Entry.{Entry}
-use Rattle.atomic_table.specs.Seated.{TableId}
-use Rattle.ruled_desk.specs.declared.rule.View.{View}
-use Rattle.ruled_desk.specs.Growing.{grown}
-use Rattle.ruled_desk.specs.Rule.{HasTurn, HasOneMore, IsDone, IsDrawn, IsWaiting, IsAtRest, HasTaken, IsOut, view, takes_turn, waits}
+use Rattle.ruled_desk.proofs.Words.{◌≡◌, sym, ◌∙◌, ap, subst, ℕ, Bool, true, false, ◌||◌, List, [], ◌∷◌, ◌++◌, Some, Result, Ok, Err, append-nil, OnErr, IfOk}
+use Rattle.ruled_desk.proofs.Words.{TableId, Journaled, Entry, View, grown, HasTurn, HasOneMore, IsDone, IsDrawn, IsWaiting, IsAtRest, HasTaken, IsOut, view}
+use Rattle.ruled_desk.proofs.Words.{takes_turn, waits, Seated, seated}
 use Rattle.ruled_desk.specs.Called.{IsCalled, IsRefused}
-use Rattle.ruled_desk.specs.Seats.{Seated, seated}
 use Rattle.ruled_desk.proofs.RuleSteps.{Mine}
 
 module _ {O C R : Type 0} where

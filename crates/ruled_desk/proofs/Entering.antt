@@ -1,15 +1,9 @@
 -- A book that lies in a slot, after a call; and whether its journal is full.
-use Rattle.std.proofs.Common.{◌≡◌, refl, sym, ◌∙◌, subst, ℕ, ◌-◌, ◌^◌, ◌<◌, ◌≤◌, ◌⊎◌, inl, inr, ⊎_elim, eqb, leb, Bool, true, false, List, [], ◌∷◌, Result, Ok, Err, arith}
-use Rattle.std.proofs.lemmas.Bool.Decides.{nat_tests}
-use Rattle.std.specs.Prelude.{OnOk, OnErr}
+use Rattle.ruled_desk.proofs.Words.{◌≡◌, refl, sym, ◌∙◌, subst, ℕ, ◌-◌, ◌^◌, ◌<◌, ◌≤◌, ◌⊎◌, inl, inr, Bool, true, false, List, [], ◌∷◌, Result, Ok, Err, arith}
+use Rattle.ruled_desk.proofs.Words.{⊎_elim, eqb, leb, OnOk, OnErr, nat_tests, Journaled, Rise, book_of, last_stamp, Entry, Refusal, Stamps, HasLastStamp}
 use Rattle.stamped_book.specs.declared.stamped.Pass.{Pass}
-use Rattle.stamped_book.specs.declared.stamped.Entry.{Entry}
-use Rattle.stamped_book.specs.declared.stamped.Refusal.{Refusal}
-use Rattle.stamped_book.specs.declared.stamped.Refusal.TheVariants.{Stamps}
-use Rattle.stamped_book.specs.Journal.{Journaled, Rise, book_of, last_stamp}
 use Rattle.stamped_book.specs.Entering.{entry_of, after_entering, next_stamp}
 use Rattle.stamped_book.proofs.Journals.{replay-append}
-use Rattle.ruled_desk.specs.Growing.{HasLastStamp}
 
 -- what a call keeps is kept, where the call is entered and where it is refused
 pub stays_sound : {O C R E : Type 0} (reply_to : O → C → R) (after : O → C → O) (sound : O → Type 0) (s t : Journaled O C R) (pass : Pass) (call : C)
@@ -50,19 +44,15 @@ module _ {C R : Type 0} where
   )
     where
       hit : (b : Bool) → eqb n 4611686018427387903 ≡ b → n ≡ 4611686018427387903 → eqb n 4611686018427387903 ≡ true
-      hit true e same = e
-      hit false e same = absurd (grind (arith, nat_tests))
+      hit = elim [ true ↦ λ e same. e | false ↦ λ e same. absurd (grind (arith, nat_tests)) ]
 
 -- where no stamp is left, the asker's pass stands at the last one, or the journal is full
 pub used_up : {O C R : Type 0} (s : Journaled O C R) (pass : Pass) → last_stamp 0 s.journal < 2 ^ 62 → 2 ^ 62 ≤ next_stamp s pass
     → (2 ^ 62 - 1 ≤ pass.stamp) ⊎ HasLastStamp s.journal
-used_up s pass small high = by (leb 4611686018427387903 pass.stamp) refl
-  where
-    by : (b : Bool) → leb 4611686018427387903 pass.stamp ≡ b → (2 ^ 62 - 1 ≤ pass.stamp) ⊎ HasLastStamp s.journal
-    by true e = inl (grind (arith, nat_tests))
-    by false e =
-        let low : pass.stamp < 4611686018427387903 = grind (arith, nat_tests) in
-        inr (last_there 0 s.journal (omega arith) (omega (arith, low, small, high)))
+used_up s pass small high = (elim (leb 4611686018427387903 pass.stamp) as (λ b. leb 4611686018427387903 pass.stamp ≡ b → (2 ^ 62 - 1 ≤ pass.stamp) ⊎ HasLastStamp s.journal) [
+  | true ↦ λ e. inl (grind (arith, nat_tests))
+  | false ↦ λ e. let low : pass.stamp < 4611686018427387903 = grind (arith, nat_tests) in inr (last_there 0 s.journal (omega arith) (omega (arith, low, small, high)))
+]) refl
 
 pub used_up_then : {O C R T : Type 0} (s t : Journaled O C R) (pass : Pass) (r : Result T Refusal) → last_stamp 0 s.journal < 2 ^ 62 → OnErr r (t ≡ s)
     → (r ≡ Err Stamps → 2 ^ 62 ≤ next_stamp s pass) → r ≡ Err Stamps → (2 ^ 62 - 1 ≤ pass.stamp) ⊎ HasLastStamp t.journal

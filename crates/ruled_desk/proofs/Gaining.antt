@@ -1,24 +1,14 @@
 -- What the passes of a round note is what the actors' lists gained, so the journals gained it.
-use Rattle.std.proofs.Common.{◌≡◌, refl, sym, ◌∙◌, ap, subst, ℕ, zero, suc, ◌<◌, ◌⊎◌, inl, inr, Bool, false, List, [], ◌∷◌, ◌++◌, length, map, Option, Some, None, arith}
-use Rattle.std.proofs.lemmas.List.{map-append, append_cancel_left, get_or-map, length-map}
-use Rattle.std.specs.Prelude.{All, MatchOption}
-use Rattle.std.specs.List.{Contains, slice_index_or}
-use Rattle.sides.specs.declared.side.Side.TheVariants as side
-use Rattle.actor_desk.specs.declared.ask.Ask.{Ask}
-use Rattle.actor_desk.specs.declared.ask.Ask.TheVariants as asks
-use Rattle.actor_desk.specs.declared.ask.Note.{Note}
-use Rattle.actor_desk.specs.declared.ask.Reply.{Reply}
-use Rattle.stamped_book.specs.Journal.{Journaled}
-use Rattle.stamped_book.specs.declared.stamped.Entry.{Entry}
+use Rattle.ruled_desk.proofs.Words.{◌≡◌, refl, sym, ◌∙◌, ap, subst, ℕ, zero, suc, ◌<◌, ◌⊎◌, inl, inr, Bool, false, List, [], ◌∷◌, ◌++◌, length, map, Option}
+use Rattle.ruled_desk.proofs.Words.{Some, None, arith, map-append, append_cancel_left, get_or-map, length-map, MatchOption, All, slice_index_or, Journaled}
+use Rattle.ruled_desk.proofs.Words.{Entry, Ask, Note, Reply, is_local, send_note, reassembly_note, control_note, NotesOneMore, noted_all, GainsJust, Rider}
+use Rattle.ruled_desk.proofs.Words.{Rode, all_joined, given_pass, known_with, notes_held, SixLocked, SixKnown, Passed, nothing_known, AllGainJust, all_known}
+use Rattle.ruled_desk.proofs.Words.{notes_by}
+use Rattle.std.specs.List.{Contains}
+use Rattle.sides.specs.declared.side.Side.{Side}
 use Rattle.actor_desk.specs.Books.{StampedBooks}
-use Rattle.actor_desk.specs.Journals.{is_local, send_note, reassembly_note, control_note}
 use Rattle.actor_desk.specs.Noted.{BookNotes, notes_in, with_note}
-use Rattle.actor_turn.specs.Turns.{NotesOneMore, noted_all}
-use Rattle.ruled_desk.specs.declared.rider.Rider.{Rider}
 use Rattle.ruled_desk.specs.Gaining.{by_book, list_at, GoesOn, IsGained, GainAlike}
-use Rattle.ruled_desk.specs.Riding.{Rode, all_joined, given_pass, known_with, notes_held}
-use Rattle.ruled_desk.specs.Seats.{GainsJust}
-use Rattle.ruled_desk.specs.SixSeats.{SixLocked, SixKnown, Passed, AllGainJust, all_known, nothing_known, notes_by}
 
 -- ---- who stands in a list
 
@@ -43,11 +33,7 @@ module _ {X : Type 0} where
   pub in_append : (xs ys : List X) (x : X) → In x (xs ++ ys) → In x xs ⊎ In x ys
   in_append [] ys x h = inr h
   in_append (y ∷ xs) ys x (inl e) = inl (inl e)
-  in_append (y ∷ xs) ys x (inr h) = later (in_append xs ys x h)
-    where
-      later : In x xs ⊎ In x ys → In x (y ∷ xs) ⊎ In x ys
-      later (inl g) = inl (inr g)
-      later (inr g) = inr g
+  in_append (y ∷ xs) ys x (inr h) = elim (in_append xs ys x h) [ inl g ↦ inl (inr g) | inr g ↦ inr g ]
 
   pub in_left : (xs ys : List X) (x : X) → In x xs → In x (xs ++ ys)
   in_left [] ys x h = absurd h
@@ -104,11 +90,7 @@ put_in (xs ∷ xss) zero zero x y h = by (in_append xs (x ∷ []) y h)
     by (inr (inr none)) = absurd none
 put_in (xs ∷ xss) zero (suc k) x y h = inl h
 put_in (xs ∷ xss) (suc place) zero x y h = inl h
-put_in (xs ∷ xss) (suc place) (suc k) x y h = by (put_in xss place k x y h)
-  where
-    by : In y (list_at xss k) ⊎ ((x ≡ y) × (place ≡ k)) → In y (list_at xss k) ⊎ ((x ≡ y) × (suc place ≡ suc k))
-    by (inl old) = inl old
-    by (inr new) = inr (new.0, ap suc new.1)
+put_in (xs ∷ xss) (suc place) (suc k) x y h = elim (put_in xss place k x y h) [ inl old ↦ inl old | inr new ↦ inr (new.0, ap suc new.1) ]
 
 put_stays : (xss : List (List Note)) (place k : ℕ) (x y : Note) → In y (list_at xss k) → In y (list_at (put_at xss place x) k)
 put_stays [] place k x y h = h
@@ -126,31 +108,31 @@ put_there (xs ∷ xss) (suc place) x within = put_there xss place x (omega (arit
 
 -- its place among the six; none of them where nobody is asked
 abbrev place_of : Ask → ℕ
-place_of (asks.Send side.A call) = 0
-place_of (asks.Send side.B call) = 1
-place_of (asks.Reassembly side.A call) = 2
-place_of (asks.Reassembly side.B call) = 3
-place_of (asks.Control side.A call) = 4
-place_of (asks.Control side.B call) = 5
-place_of (asks.Local step) = 6
+place_of (Ask.Send Side.A call) = 0
+place_of (Ask.Send Side.B call) = 1
+place_of (Ask.Reassembly Side.A call) = 2
+place_of (Ask.Reassembly Side.B call) = 3
+place_of (Ask.Control Side.A call) = 4
+place_of (Ask.Control Side.B call) = 5
+place_of (Ask.Local step) = 6
 
 asked_place : (ask : Ask) → is_local ask ≡ false → place_of ask < 6
-asked_place (asks.Send side.A call) e = omega arith
-asked_place (asks.Send side.B call) e = omega arith
-asked_place (asks.Reassembly side.A call) e = omega arith
-asked_place (asks.Reassembly side.B call) e = omega arith
-asked_place (asks.Control side.A call) e = omega arith
-asked_place (asks.Control side.B call) e = omega arith
-asked_place (asks.Local step) e = cc
+asked_place (Ask.Send Side.A call) e = omega arith
+asked_place (Ask.Send Side.B call) e = omega arith
+asked_place (Ask.Reassembly Side.A call) e = omega arith
+asked_place (Ask.Reassembly Side.B call) e = omega arith
+asked_place (Ask.Control Side.A call) e = omega arith
+asked_place (Ask.Control Side.B call) e = omega arith
+asked_place (Ask.Local step) e = cc
 
 put_by_book : (ask : Ask) (note : Note) (notes : BookNotes) → by_book (with_note ask note notes) ≡ put_at (by_book notes) (place_of ask) note
-put_by_book (asks.Send side.A call) note notes = refl
-put_by_book (asks.Send side.B call) note notes = refl
-put_by_book (asks.Reassembly side.A call) note notes = refl
-put_by_book (asks.Reassembly side.B call) note notes = refl
-put_by_book (asks.Control side.A call) note notes = refl
-put_by_book (asks.Control side.B call) note notes = refl
-put_by_book (asks.Local step) note notes = refl
+put_by_book (Ask.Send Side.A call) note notes = refl
+put_by_book (Ask.Send Side.B call) note notes = refl
+put_by_book (Ask.Reassembly Side.A call) note notes = refl
+put_by_book (Ask.Reassembly Side.B call) note notes = refl
+put_by_book (Ask.Control Side.A call) note notes = refl
+put_by_book (Ask.Control Side.B call) note notes = refl
+put_by_book (Ask.Local step) note notes = refl
 
 -- ---- the notes of a turn, by book
 
@@ -165,17 +147,12 @@ noted_with books (note ∷ notes) = noted_with (with_note note.ask note books) n
 all_in : (books : BookNotes) (notes : List Note) (k : ℕ) (y : Note) → In y (list_at (by_book (all_with books notes)) k)
     → In y (list_at (by_book books) k) ⊎ (In y notes × (place_of y.ask ≡ k))
 all_in books [] k y h = inl h
-all_in books (note ∷ notes) k y h = by (all_in (with_note note.ask note books) notes k y h)
+all_in books (note ∷ notes) k y h = elim (all_in (with_note note.ask note books) notes k y h)
+    [ inl here ↦ first (put_in (by_book books) (place_of note.ask) k note y (subst (λ xss. In y (list_at xss k)) (put_by_book note.ask note books) here)) | inr later ↦ inr (inr later.0, later.1) ]
   where
     first : In y (list_at (by_book books) k) ⊎ ((note ≡ y) × (place_of note.ask ≡ k)) → In y (list_at (by_book books) k) ⊎ (In y (note ∷ notes) × (place_of y.ask ≡ k))
     first (inl old) = inl old
     first (inr new) = inr (inl new.0, sym (ap (λ (n : Note). place_of n.ask) new.0) ∙ new.1)
-
-    by : In y (list_at (by_book (with_note note.ask note books)) k) ⊎ (In y notes × (place_of y.ask ≡ k))
-        → In y (list_at (by_book books) k) ⊎ (In y (note ∷ notes) × (place_of y.ask ≡ k))
-    by (inl here) =
-        first (put_in (by_book books) (place_of note.ask) k note y (subst (λ xss. In y (list_at xss k)) (put_by_book note.ask note books) here))
-    by (inr later) = inr (inr later.0, later.1)
 
 all_stays : (books : BookNotes) (notes : List Note) (k : ℕ) (y : Note) → In y (list_at (by_book books) k) → In y (list_at (by_book (all_with books notes)) k)
 all_stays books [] k y h = h
@@ -221,11 +198,8 @@ pub pass_in : (desk : SixLocked) (pass : Option Passed) (notes : List Note) → 
     → (k : ℕ) (y : Note) → InPass k y pass → In y notes × (place_of y.ask ≡ k)
 pass_in desk None notes e k y h = absurd h
 pass_in desk (Some pass) notes e k y h =
-    by (all_in (notes_by (nothing_known desk)) notes k y (subst (λ b. In y (list_at (by_book b) k)) (pass_is desk pass notes e) h))
-  where
-    by : In y (list_at (by_book (notes_by (nothing_known desk))) k) ⊎ (In y notes × (place_of y.ask ≡ k)) → In y notes × (place_of y.ask ≡ k)
-    by (inl none) = absurd (none_yet desk k y none)
-    by (inr some) = some
+    elim (all_in (notes_by (nothing_known desk)) notes k y (subst (λ b. In y (list_at (by_book b) k)) (pass_is desk pass notes e) h))
+    [ inl none ↦ absurd (none_yet desk k y none) | inr some ↦ some ]
 
 none_noted : (books : BookNotes) (notes : List Note) → None ≡ noted_all (Some books) notes → ⊥
 none_noted books notes e = let clash : None ≡ Some (all_with books notes) = e ∙ noted_with books notes in cc
@@ -242,12 +216,12 @@ in_pass desk (Some pass) notes e y h within =
 known_zips : (books more : SixKnown) → by_book (notes_by (all_known books more)) ≡ zipped (by_book (notes_by books)) (by_book (notes_by more))
 known_zips books more =
     rw (
-      map-append (send_note side.A) books.send_a.own more.send_a.own,
-      map-append (send_note side.B) books.send_b.own more.send_b.own,
-      map-append (reassembly_note side.A) books.reassembly_a.own more.reassembly_a.own,
-      map-append (reassembly_note side.B) books.reassembly_b.own more.reassembly_b.own,
-      map-append (control_note side.A) books.control_a.own more.control_a.own,
-      map-append (control_note side.B) books.control_b.own more.control_b.own,
+      map-append (send_note Side.A) books.send_a.own more.send_a.own,
+      map-append (send_note Side.B) books.send_b.own more.send_b.own,
+      map-append (reassembly_note Side.A) books.reassembly_a.own more.reassembly_a.own,
+      map-append (reassembly_note Side.B) books.reassembly_b.own more.reassembly_b.own,
+      map-append (control_note Side.A) books.control_a.own more.control_a.own,
+      map-append (control_note Side.B) books.control_b.own more.control_b.own,
     ) refl
 
 known_at : (books more : SixKnown) (k : ℕ)
@@ -279,16 +253,11 @@ module _ {A : Type 0} where
   pub joined_in : (books : SixKnown) (riders : List (Rider A)) (k : ℕ) (y : Note) → In y (list_at (by_book (notes_by (all_joined books riders))) k)
       → In y (list_at (by_book (notes_by books)) k) ⊎ SomePass riders k y
   joined_in books [] k y h = inl h
-  joined_in books (rider ∷ riders) k y h = by (joined_in (known_with books rider.pass) riders k y h)
+  joined_in books (rider ∷ riders) k y h = elim (joined_in (known_with books rider.pass) riders k y h)
+      [ inl here ↦ first (with_in books rider.pass k y here) | inr later ↦ inr (suc later.0, omega (arith, later.1), λ d. later.2 d) ]
     where
       first : In y (list_at (by_book (notes_by books)) k) ⊎ InPass k y rider.pass → In y (list_at (by_book (notes_by books)) k) ⊎ SomePass (rider ∷ riders) k y
-      first (inl old) = inl old
-      first (inr new) = inr (0, omega arith, λ d. new)
-
-      by : In y (list_at (by_book (notes_by (known_with books rider.pass))) k) ⊎ SomePass riders k y
-          → In y (list_at (by_book (notes_by books)) k) ⊎ SomePass (rider ∷ riders) k y
-      by (inl here) = first (with_in books rider.pass k y here)
-      by (inr later) = inr (suc later.0, omega (arith, later.1), λ d. later.2 d)
+      first = elim [ inl old ↦ inl old | inr new ↦ inr (0, omega arith, λ d. new) ]
 
   joined_stays : (books : SixKnown) (riders : List (Rider A)) (k : ℕ) (y : Note) → In y (list_at (by_book (notes_by books)) k)
       → In y (list_at (by_book (notes_by (all_joined books riders))) k)
@@ -307,12 +276,12 @@ module _ (before after : StampedBooks) (known : SixKnown) (gains : AllGainJust b
   -- the gained entries, as notes
   abbrev gained_notes : BookNotes
   gained_notes = record {
-    send_a = map (send_note side.A) gains.send_a.gained;
-    send_b = map (send_note side.B) gains.send_b.gained;
-    reassembly_a = map (reassembly_note side.A) gains.reassembly_a.gained;
-    reassembly_b = map (reassembly_note side.B) gains.reassembly_b.gained;
-    control_a = map (control_note side.A) gains.control_a.gained;
-    control_b = map (control_note side.B) gains.control_b.gained;
+    send_a = map (send_note Side.A) gains.send_a.gained;
+    send_b = map (send_note Side.B) gains.send_b.gained;
+    reassembly_a = map (reassembly_note Side.A) gains.reassembly_a.gained;
+    reassembly_b = map (reassembly_note Side.B) gains.reassembly_b.gained;
+    control_a = map (control_note Side.A) gains.control_a.gained;
+    control_b = map (control_note Side.B) gains.control_b.gained;
   }
 
   grew : {O C R : Type 0} (f : Entry C R → Note) (old new : Journaled O C R) (own : List (Entry C R)) (full : Bool) → (g : GainsJust old new own full)
@@ -322,33 +291,33 @@ module _ (before after : StampedBooks) (known : SixKnown) (gains : AllGainJust b
   after_zips : by_book (notes_in after) ≡ zipped (by_book (notes_in before)) (by_book gained_notes)
   after_zips =
       rw (
-        grew (send_note side.A) before.send_a after.send_a known.send_a.own known.send_a.full gains.send_a,
-        grew (send_note side.B) before.send_b after.send_b known.send_b.own known.send_b.full gains.send_b,
-        grew (reassembly_note side.A) before.reassembly_a after.reassembly_a known.reassembly_a.own known.reassembly_a.full gains.reassembly_a,
-        grew (reassembly_note side.B) before.reassembly_b after.reassembly_b known.reassembly_b.own known.reassembly_b.full gains.reassembly_b,
-        grew (control_note side.A) before.control_a after.control_a known.control_a.own known.control_a.full gains.control_a,
-        grew (control_note side.B) before.control_b after.control_b known.control_b.own known.control_b.full gains.control_b,
+        grew (send_note Side.A) before.send_a after.send_a known.send_a.own known.send_a.full gains.send_a,
+        grew (send_note Side.B) before.send_b after.send_b known.send_b.own known.send_b.full gains.send_b,
+        grew (reassembly_note Side.A) before.reassembly_a after.reassembly_a known.reassembly_a.own known.reassembly_a.full gains.reassembly_a,
+        grew (reassembly_note Side.B) before.reassembly_b after.reassembly_b known.reassembly_b.own known.reassembly_b.full gains.reassembly_b,
+        grew (control_note Side.A) before.control_a after.control_a known.control_a.own known.control_a.full gains.control_a,
+        grew (control_note Side.B) before.control_b after.control_b known.control_b.own known.control_b.full gains.control_b,
       ) refl
 
   gained_at : (k : ℕ) → list_at (by_book (notes_in after)) k ≡ list_at (by_book (notes_in before)) k ++ list_at (by_book gained_notes) k
   gained_at k = ap (λ xss. list_at xss k) after_zips ∙ at_zipped (by_book (notes_in before)) (by_book gained_notes) k refl
 
   gained_in : (k : ℕ) (y : Note) → In y (list_at (by_book gained_notes) k) → In y (list_at (by_book (notes_by known)) k)
-  gained_in zero y h = same_map (send_note side.A) gains.send_a.gained known.send_a.own gains.send_a.others y h
-  gained_in (suc zero) y h = same_map (send_note side.B) gains.send_b.gained known.send_b.own gains.send_b.others y h
-  gained_in (suc (suc zero)) y h = same_map (reassembly_note side.A) gains.reassembly_a.gained known.reassembly_a.own gains.reassembly_a.others y h
-  gained_in (suc (suc (suc zero))) y h = same_map (reassembly_note side.B) gains.reassembly_b.gained known.reassembly_b.own gains.reassembly_b.others y h
-  gained_in (suc (suc (suc (suc zero)))) y h = same_map (control_note side.A) gains.control_a.gained known.control_a.own gains.control_a.others y h
-  gained_in (suc (suc (suc (suc (suc zero))))) y h = same_map (control_note side.B) gains.control_b.gained known.control_b.own gains.control_b.others y h
+  gained_in zero y h = same_map (send_note Side.A) gains.send_a.gained known.send_a.own gains.send_a.others y h
+  gained_in (suc zero) y h = same_map (send_note Side.B) gains.send_b.gained known.send_b.own gains.send_b.others y h
+  gained_in (suc (suc zero)) y h = same_map (reassembly_note Side.A) gains.reassembly_a.gained known.reassembly_a.own gains.reassembly_a.others y h
+  gained_in (suc (suc (suc zero))) y h = same_map (reassembly_note Side.B) gains.reassembly_b.gained known.reassembly_b.own gains.reassembly_b.others y h
+  gained_in (suc (suc (suc (suc zero)))) y h = same_map (control_note Side.A) gains.control_a.gained known.control_a.own gains.control_a.others y h
+  gained_in (suc (suc (suc (suc (suc zero))))) y h = same_map (control_note Side.B) gains.control_b.gained known.control_b.own gains.control_b.others y h
   gained_in (suc (suc (suc (suc (suc (suc k)))))) y h = h
 
   known_in : (k : ℕ) (y : Note) → In y (list_at (by_book (notes_by known)) k) → In y (list_at (by_book gained_notes) k)
-  known_in zero y h = same_map (send_note side.A) known.send_a.own gains.send_a.gained gains.send_a.known y h
-  known_in (suc zero) y h = same_map (send_note side.B) known.send_b.own gains.send_b.gained gains.send_b.known y h
-  known_in (suc (suc zero)) y h = same_map (reassembly_note side.A) known.reassembly_a.own gains.reassembly_a.gained gains.reassembly_a.known y h
-  known_in (suc (suc (suc zero))) y h = same_map (reassembly_note side.B) known.reassembly_b.own gains.reassembly_b.gained gains.reassembly_b.known y h
-  known_in (suc (suc (suc (suc zero)))) y h = same_map (control_note side.A) known.control_a.own gains.control_a.gained gains.control_a.known y h
-  known_in (suc (suc (suc (suc (suc zero))))) y h = same_map (control_note side.B) known.control_b.own gains.control_b.gained gains.control_b.known y h
+  known_in zero y h = same_map (send_note Side.A) known.send_a.own gains.send_a.gained gains.send_a.known y h
+  known_in (suc zero) y h = same_map (send_note Side.B) known.send_b.own gains.send_b.gained gains.send_b.known y h
+  known_in (suc (suc zero)) y h = same_map (reassembly_note Side.A) known.reassembly_a.own gains.reassembly_a.gained gains.reassembly_a.known y h
+  known_in (suc (suc (suc zero))) y h = same_map (reassembly_note Side.B) known.reassembly_b.own gains.reassembly_b.gained gains.reassembly_b.known y h
+  known_in (suc (suc (suc (suc zero)))) y h = same_map (control_note Side.A) known.control_a.own gains.control_a.gained gains.control_a.known y h
+  known_in (suc (suc (suc (suc (suc zero))))) y h = same_map (control_note Side.B) known.control_b.own gains.control_b.gained gains.control_b.known y h
   known_in (suc (suc (suc (suc (suc (suc k)))))) y h = h
 
   -- what a journal gained is known, and what is known it gained
@@ -363,11 +332,7 @@ module _ (before after : StampedBooks) (known : SixKnown) (gains : AllGainJust b
 
   pub known_gained : (k : ℕ) (y : Note) → In y (list_at (by_book (notes_by known)) k)
       → IsGained (list_at (by_book (notes_in before)) k) (list_at (by_book (notes_in after)) k) y
-  known_gained k y h = record {
-    gained = list_at (by_book gained_notes) k;
-    new_is = gained_at k;
-    stands = in_contains _ y (known_in k y h);
-  }
+  known_gained k y h = record { gained = list_at (by_book gained_notes) k; new_is = gained_at k; stands = in_contains _ y (known_in k y h) }
 
 -- ---- a whole round
 

@@ -13,3 +13,4 @@ mod Entering
 mod Putting
 mod Members
 mod Calling
+mod Words

@@ -1,18 +1,9 @@
 -- Lists that weigh the same however their members are weighed have the same members; and what the closed table gives.
-use Rattle.std.proofs.Common.{◌≡◌, refl, sym, ◌∙◌, ap, subst, ℕ, zero, suc, ◌<◌, ◌≤◌, eqb, Bool, true, false, ◌&&◌, List, [], ◌∷◌, length, Option, Some, None, arith}
-use Rattle.std.proofs.lemmas.Bool.Decides.{nat_tests}
+use Rattle.ruled_desk.proofs.Words.{◌≡◌, refl, sym, ◌∙◌, ap, subst, ℕ, zero, suc, ◌<◌, ◌≤◌, Bool, true, false, List, [], ◌∷◌, length, Option, Some, None, arith}
+use Rattle.ruled_desk.proofs.Words.{eqb, ◌&&◌, nat_tests, slice_index_or, some, some-injective, get_elem?, TableId, Journaled, Entry, View, HasLastStamp, grown}
+use Rattle.ruled_desk.proofs.Words.{GainsJust, Locked, Seated, locked, seated, weigh, bit}
 use Rattle.std.specs.Prelude.{Contains}
-use Rattle.std.specs.List.{slice_index_or}
 use base.Stored.{Gv, gnil, gnum, gcons, Coded}
-use mathlib.Core.Option.{some, some-injective}
-use lib.ListN.{get_elem?}
-use Rattle.stamped_book.specs.Journal.{Journaled}
-use Rattle.stamped_book.specs.declared.stamped.Entry.{Entry}
-use Rattle.ruled_desk.specs.declared.rule.View.{View}
-use Rattle.ruled_desk.specs.Growing.{HasLastStamp, grown}
-use Rattle.atomic_table.specs.Seated.{TableId}
-use Rattle.ruled_desk.specs.Seats.{GainsJust, Locked, Seated, locked, seated}
-use Rattle.ruled_desk.specs.Weighing.{weigh, bit}
 use Rattle.ruled_desk.proofs.RuleJoining.{Closes}
 use Rattle.ruled_desk.proofs.RuleWords.{grown-none}
 
@@ -29,17 +20,12 @@ same_code (gcons a b) (gnum n) = false
 same_code (gcons a b) (gcons c d) = same_code a c && same_code b d
 
 both_true : (a b : Bool) → (a && b) ≡ true → (a ≡ true) × (b ≡ true)
-both_true true b e = (refl, e)
-both_true false b e = cc
+both_true = elim [ true ↦ λ b e. (refl, e) | false ↦ λ b e. cc ]
 
 code_itself : (g : Gv) → same_code g g ≡ true
 unfolding same_code
 code_itself gnil = refl
-code_itself (gnum n) = by (eqb n n) refl
-  where
-    by : (b : Bool) → eqb n n ≡ b → eqb n n ≡ true
-    by true e = e
-    by false e = absurd (grind (arith, nat_tests))
+code_itself (gnum n) = (elim (eqb n n) as (λ b. eqb n n ≡ b → eqb n n ≡ true) [ true ↦ λ e. e | false ↦ λ e. absurd (grind (arith, nat_tests)) ]) refl
 code_itself (gcons a b) = ap (λ t. t && same_code b b) (code_itself a) ∙ code_itself b
 
 code_is : (g k : Gv) → same_code g k ≡ true → g ≡ k
@@ -68,14 +54,10 @@ module _ {X : Type 0} (c : Coded X) where
 
   weighs_in : (xs : List X) (e : X) → 1 ≤ weigh (is_it e) xs → Contains xs e
   weighs_in [] e some_one = absurd (omega (arith, some_one))
-  weighs_in (x ∷ xs) e some_one = by (same_code (c.code x) (c.code e)) refl (weighs_in xs e)
-    where
-      by : (b : Bool) → same_code (c.code x) (c.code e) ≡ b → (1 ≤ weigh (is_it e) xs → Contains xs e) → Contains (x ∷ xs) e
-      by true test later = (0, omega arith, c.inj x e (code_is (c.code x) (c.code e) test))
-      by false test later =
-          let none : is_it e x ≡ 0 = ap bit test in
-          let there = later (omega (arith, some_one, none)) in
-          (suc there.0, omega (arith, there.1), there.2)
+  weighs_in (x ∷ xs) e some_one = (elim (same_code (c.code x) (c.code e)) as (λ b. same_code (c.code x) (c.code e) ≡ b → (1 ≤ weigh (is_it e) xs → Contains xs e) → Contains (x ∷ xs) e) [
+    | true ↦ λ test later. (0, omega arith, c.inj x e (code_is (c.code x) (c.code e) test))
+    | false ↦ λ test later. let none : is_it e x ≡ 0 = ap bit test in let there = later (omega (arith, some_one, none)) in (suc there.0, omega (arith, there.1), there.2)
+  ]) refl (weighs_in xs e)
 
   -- what weighs the same has the same members
   pub same_members : (xs ys : List X) → ((h : X → ℕ) → weigh h xs ≡ weigh h ys) → (e : X) → Contains xs e → Contains ys e
@@ -113,8 +95,7 @@ module _ {O C R : Type 0} where
   gains_nothing start book full gains = gains.new_is ∙ ap (λ log. grown start log) (none gains.gained (gains.often (λ _. 1))) ∙ sym (grown-none start)
     where
       none : (log : List (Entry C R)) → 0 ≡ weigh (λ _. 1) log → log ≡ []
-      none [] e = refl
-      none (x ∷ log) e = absurd (omega (arith, e))
+      none = elim [ [] ↦ λ e. refl | x ∷ log ↦ λ e. absurd (omega (arith, e)) ]
 
   abbrev IsLock : TableId → Journaled O C R → Locked O C R → Type 0
   IsLock table start lock = locked table start ≡ lock

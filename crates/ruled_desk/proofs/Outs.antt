@@ -1,11 +1,8 @@
 -- How many passes are out, and which tables names stand for.
-use Rattle.std.proofs.Common.{◌≡◌, refl, sym, ◌∙◌, ap, ℕ, zero, suc, ◌+◌, ◌<◌, ◌≤◌, Bool, true, false, List, [], ◌∷◌, ◌++◌, length, arith}
-use Rattle.std.specs.Prelude.{slice_set}
-use Rattle.atomic_table.specs.Seated.{TableId}
+use Rattle.ruled_desk.proofs.Words.{◌≡◌, refl, sym, ◌∙◌, ap, ℕ, zero, suc, ◌<◌, ◌≤◌, Bool, true, false, List, [], ◌∷◌, ◌++◌, length, arith, ◌+◌, slice_set}
+use Rattle.ruled_desk.proofs.Words.{TableId, SixLocked, SixKnown, AreOf, how_many, is_out, numbers_of, names_of, bit, AreLeft, EachHas, both_seats}
+use Rattle.ruled_desk.proofs.Words.{one_part_less}
 use Rattle.ruled_desk.specs.declared.seats.Seats.{Seats}
-use Rattle.ruled_desk.specs.Parts.{AreLeft, EachHas, both_seats, one_part_less}
-use Rattle.ruled_desk.specs.Weighing.{bit}
-use Rattle.ruled_desk.specs.SixSeats.{SixLocked, SixKnown, AreOf, how_many, is_out, numbers_of, names_of}
 
 pub many-most : (out : List Bool) → how_many out ≤ length out
 many-most [] = omega arith

@@ -1,9 +1,7 @@
 -- Lists and journals that gain alike stay paired.
-use Rattle.std.proofs.Common.{◌≡◌, sym, ◌∙◌, subst, ℕ, ◌<◌, ◌⊎◌, inl, inr, false, List, [], ◌++◌, length, arith}
-use Rattle.std.proofs.lemmas.List.{get_or_default}
+use Rattle.ruled_desk.proofs.Words.{◌≡◌, sym, ◌∙◌, subst, ℕ, ◌<◌, ◌⊎◌, inl, inr, false, List, [], ◌++◌, length, arith, get_or_default, Note, is_local}
+use Rattle.ruled_desk.proofs.Words.{ArePaired}
 use Rattle.std.specs.List.{Contains}
-use Rattle.actor_desk.specs.declared.ask.Note.{Note}
-use Rattle.actor_desk.specs.Journals.{ArePaired, is_local}
 use Rattle.ruled_desk.specs.Gaining.{GainAlike, GoesOn, IsGained, list_at}
 use Rattle.ruled_desk.proofs.Gaining.{In, contains_in, in_append, in_contains, in_left, in_right}
 
@@ -16,11 +14,8 @@ has_place lists place within = (place, within, get_or_default lists place (list_
 
 -- of a list that goes on a note is an old one or a new one
 old_or_new : (old new : List Note) (note : Note) → GoesOn old new → Contains new note → Contains old note ⊎ IsGained old new note
-old_or_new old new note on has = by (in_append old on.gained note (subst (In note) on.new_is (contains_in new note has)))
-  where
-    by : In note old ⊎ In note on.gained → Contains old note ⊎ IsGained old new note
-    by (inl before) = inl (in_contains old note before)
-    by (inr behind) = inr (record { gained = on.gained; new_is = on.new_is; stands = in_contains on.gained note behind })
+old_or_new old new note on has = elim (in_append old on.gained note (subst (In note) on.new_is (contains_in new note has)))
+    [ inl before ↦ inl (in_contains old note before) | inr behind ↦ inr (record { gained = on.gained; new_is = on.new_is; stands = in_contains on.gained note behind }) ]
 
 still_there : (old new : List Note) (note : Note) → GoesOn old new → Contains old note → Contains new note
 still_there old new note on has =

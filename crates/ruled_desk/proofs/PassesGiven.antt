@@ -1,10 +1,7 @@
 -- Passes that are given to all riders and taken back, one after the other.
-use Rattle.std.proofs.Common.{◌≡◌, ◌≢◌, refl, ◌∙◌, ap, subst, ℕ, zero, suc, ◌+◌, ◌<◌, ◌≤◌, ◌⊎◌, inl, inr, eqb, Bool, true, false, List, [], ◌∷◌, ◌++◌, length, map, take, drop, get_or, replicate, Option, Some, None, arith}
-use Rattle.std.proofs.lemmas.Bool.Decides.{nat_tests}
-use Rattle.std.specs.Prelude.{slice_set}
-use Rattle.ruled_desk.specs.declared.rider.Rider.{Rider}
-use Rattle.ruled_desk.specs.Riding.{AreNumbered, all_joined, known_with}
-use Rattle.ruled_desk.specs.SixSeats.{SixLocked, SixKnown, Passed, AreOf, is_out, nobody_out, nothing_known}
+use Rattle.ruled_desk.proofs.Words.{◌≡◌, refl, ◌∙◌, ap, subst, ℕ, zero, suc, ◌<◌, ◌≤◌, ◌⊎◌, inl, inr, Bool, true, false, List, [], ◌∷◌, ◌++◌, length, map, take}
+use Rattle.ruled_desk.proofs.Words.{drop, Option, Some, None, arith, ◌+◌, eqb, ◌≢◌, get_or, replicate, slice_set, nat_tests, Rider, AreNumbered, all_joined}
+use Rattle.ruled_desk.proofs.Words.{known_with, SixLocked, SixKnown, AreOf, is_out, nobody_out, Passed, nothing_known}
 
 -- ---- who is out
 

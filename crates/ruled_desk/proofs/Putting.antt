@@ -1,12 +1,6 @@
 -- The book goes back: what the seat is then.
-use Rattle.std.proofs.Common.{◌≡◌, sym, ◌∙◌, ap, ℕ, Bool, true, false, ◌||◌, List, [], ◌∷◌, Option, Some, None}
-use Rattle.std.proofs.lemmas.List.{append-nil}
-use Rattle.atomic_table.specs.Table.{rest}
-use Rattle.stamped_book.specs.Journal.{Journaled}
-use Rattle.stamped_book.specs.declared.stamped.Entry.{Entry}
-use Rattle.ruled_desk.specs.declared.rule.View.{View}
-use Rattle.ruled_desk.specs.Growing.{HasLastStamp, grown}
-use Rattle.ruled_desk.specs.Rule.{HasTurn, HasOneMore, IsAdded, IsBack, IsDone, IsServed, view, adds, serves}
+use Rattle.ruled_desk.proofs.Words.{◌≡◌, sym, ◌∙◌, ap, ℕ, Bool, true, false, ◌||◌, List, [], ◌∷◌, Option, Some, None, append-nil, rest, Journaled, Entry, View}
+use Rattle.ruled_desk.proofs.Words.{HasLastStamp, grown, HasTurn, HasOneMore, IsDone, view, IsAdded, IsServed, adds, serves, IsBack}
 use Rattle.ruled_desk.proofs.RuleSteps.{Mine}
 
 module _ {O C R : Type 0} where
@@ -51,12 +45,7 @@ module _ {O C R : Type 0} where
   is_back_more me mid late held more is added =
       let slot = mid_slot me mid more.book held more.entry more.turn more.grew is in
       let that = added more.book more.entry (mid_took me mid more.book (Some held) more.turn is) slot in
-      record {
-        book = grown more.book (more.entry ∷ []);
-        took = ap (λ (m : Mine O C R). m.0.took) that;
-        slot = ap (λ (m : Mine O C R). m.1) that ∙ slot;
-        last = λ e. cc;
-      }
+      record { book = grown more.book (more.entry ∷ []); took = ap (λ (m : Mine O C R). m.0.took) that; slot = ap (λ (m : Mine O C R). m.1) that ∙ slot; last = λ e. cc }
 
   pub done_entry : (me mid late after : Mine O C R) (held : Journaled O C R) → mid ≡ (me.0, (0, Some held) ∷ rest me.1) → IsAdded mid late
       → IsServed false late after → (book : Journaled O C R) (entry : Entry C R) → HasTurn me book → held ≡ grown book (entry ∷ []) → IsDone (entry ∷ []) false me after

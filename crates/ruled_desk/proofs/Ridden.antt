@@ -1,30 +1,19 @@
 -- A rider's turn, from what a turn at its seat promises.
-use Rattle.std.proofs.Common.{◌≡◌, refl, sym, ◌∙◌, ap, subst, ℕ, zero, suc, ◌-◌, ◌^◌, ◌<◌, ◌≤◌, ◌⊎◌, inl, inr, Bool, true, false, ◌||◌, List, [], ◌∷◌, length, Option, Some, None, Result, Ok, Err, arith}
-use Rattle.std.specs.Prelude.{OnOk, OnErr, MatchOption, MatchResult, All}
-use Rattle.std.specs.List.{list_any, slice_index_or}
-use Rattle.stamped_book.specs.declared.stamped.Refusal.{Refusal}
-use Rattle.stamped_book.specs.declared.stamped.Refusal.TheVariants.{Memory, Stamps}
-use Rattle.actor_desk.specs.declared.ask.Ask.{Ask}
-use Rattle.actor_desk.specs.declared.ask.Reply.{Reply}
-use Rattle.actor_desk.specs.declared.actor.Crew.{Crew}
+use Rattle.ruled_desk.proofs.Words.{◌≡◌, refl, sym, ◌∙◌, ap, subst, ℕ, zero, suc, ◌-◌, ◌^◌, ◌<◌, ◌≤◌, ◌⊎◌, inl, inr, Bool, true, false, ◌||◌, List, [], ◌∷◌}
+use Rattle.ruled_desk.proofs.Words.{length, Option, Some, None, Result, Ok, Err, arith, OnOk, OnErr, MatchOption, MatchResult, All, slice_index_or, list_any}
+use Rattle.ruled_desk.proofs.Words.{Refusal, Memory, Stamps, Ask, Reply, Crew, Went, Stopped, NotesOneMore, refused_by, noted_all, stamp_after, Rider, HasPass}
+use Rattle.ruled_desk.proofs.Words.{NotesFull, OneIsUsedUp, Rode, is_rider_refused, notes_held, IsUsedUp, SixLocked, AreOf, names_of, Passed, notes_by}
+use Rattle.ruled_desk.proofs.Words.{notes_full}
 use Rattle.actor_desk.specs.Noted.{BookNotes}
-use Rattle.actor_turn.specs.Turns.{Went, Stopped, NotesOneMore, is_refused, refused_by, noted_all, stamp_after}
 use Rattle.actor_turn.specs.Turns as turns
-use Rattle.ruled_desk.specs.declared.rider.Rider.{Rider}
-use Rattle.ruled_desk.specs.SixSeats.{SixLocked, Passed, AreOf, names_of, notes_by, notes_full}
 use Rattle.ruled_desk.proofs.Outs.{same_tables}
-use Rattle.ruled_desk.specs.Riding.{HasPass, IsUsedUp, NotesFull, OneIsUsedUp, Rode, is_rider_refused, notes_held}
 
 module _ {A : Type 0} (asks : A → Option Ask) (takes : Reply → A → A) where
   -- what used the stamps up
   pub used_up : (crew : Crew A) (pass : Passed) → turns.IsUsedUp asks (λ ask p. (2 ^ 62 - 1 ≤ p.stamp) ⊎ (notes_full ask pass.books ≡ true)) crew
       → (2 ^ 62 - 1 ≤ crew.pass.stamp) ⊎ NotesFull (Some pass)
   used_up crew pass (inl late) = inl late
-  used_up crew pass (inr some) = by some.2
-    where
-      by : (2 ^ 62 - 1 ≤ crew.pass.stamp) ⊎ (notes_full some.0 pass.books ≡ true) → (2 ^ 62 - 1 ≤ crew.pass.stamp) ⊎ NotesFull (Some pass)
-      by (inl late) = inl late
-      by (inr full) = inr (some.0, full)
+  used_up crew pass (inr some) = elim some.2 [ inl late ↦ inl late | inr full ↦ inr (some.0, full) ]
 
   pub rode : {T : Type 0} (desk : SixLocked) (old new : Rider A) (r : Result T Refusal) (before after : Option BookNotes) → HasPass desk new
       → notes_held old.pass ≡ before → notes_held new.pass ≡ after → OnOk r (Went asks takes old.crew new.crew before after)
@@ -94,12 +83,10 @@ refused_stamps (Some Memory) e = cc
 refused_stamps (Some Stamps) e = refl
 
 first_of : (a b : Bool) → (a || b) ≡ false → a ≡ false
-first_of false b e = refl
-first_of true b e = e
+first_of = elim [ false ↦ λ b e. refl | true ↦ λ b e. e ]
 
 rest_of : (a b : Bool) → (a || b) ≡ false → b ≡ false
-rest_of false b e = e
-rest_of true b e = cc
+rest_of = elim [ false ↦ λ b e. e | true ↦ λ b e. cc ]
 
 unrefused : (o : Option Refusal) → refused_by Memory o ≡ false → refused_by Stamps o ≡ false → o ≡ None
 unrefused None memory stamps = refl

@@ -1,14 +1,7 @@
 -- The holder's steps keep the rule: its entry is added, and the next ticket is served.
-use Rattle.std.proofs.Common.{◌≡◌, refl, sym, ◌∙◌, ap, subst, ℕ, ◌+◌, ◌%◌, ◌^◌, ◌⊎◌, inl, inr, ⊎_elim, Bool, true, false, ◌||◌, List, [], ◌∷◌, ◌++◌, length, set, Option, Some, None, arith}
-use Rattle.std.specs.Prelude.{slice_index}
-use mathlib.Core.Option.{some}
-use Rattle.atomic_table.specs.Table.{keeps, gives, Allows, put_back, rest}
-use Rattle.stamped_book.specs.Journal.{Journaled}
-use Rattle.stamped_book.specs.declared.stamped.Entry.{Entry}
-use Rattle.ruled_desk.specs.declared.rule.View.{View}
-use Rattle.ruled_desk.specs.Weighing.{weigh, bit}
-use Rattle.ruled_desk.specs.Growing.{HasLastStamp, grown}
-use Rattle.ruled_desk.specs.Rule.{IsRuled, homed, adds, serves, IsAdded, IsServed}
+use Rattle.ruled_desk.proofs.Words.{◌≡◌, refl, sym, ◌∙◌, ap, subst, ℕ, ◌^◌, ◌⊎◌, inl, inr, Bool, true, false, ◌||◌, List, [], ◌∷◌, ◌++◌, length, Option, Some}
+use Rattle.ruled_desk.proofs.Words.{None, arith, ◌+◌, set, ⊎_elim, ◌%◌, slice_index, some, keeps, Allows, rest, gives, put_back, Journaled, Entry, View}
+use Rattle.ruled_desk.proofs.Words.{HasLastStamp, grown, IsRuled, homed, IsAdded, IsServed, adds, serves, weigh, bit}
 use Rattle.ruled_desk.proofs.Weights.{weigh-append, weigh-set}
 use Rattle.ruled_desk.proofs.RuleWords.{last-more, grown-grown, fits-set, holds-alone}
 use Rattle.ruled_desk.proofs.RuleSteps.{Mine}
@@ -19,8 +12,7 @@ same_last [] x y e = cc
 same_last (z ∷ xs) x y e = same_last xs x y cc
 
 or_true : (a b : Bool) → (a || b) ≡ true → (a ≡ true) ⊎ (b ≡ true)
-or_true true b e = inl refl
-or_true false b e = inr e
+or_true = elim [ true ↦ λ b e. inl refl | false ↦ λ b e. inr e ]
 
 -- what the slot that was taken last has
 abbrev held_or : {X : Type 0} → X → Option X → X

@@ -2,17 +2,9 @@
 --
 -- `Split` and `Join` are functions of views alone: who is out is kept beside the table, by number, with an inequality
 -- between parts and those who are out as the invariant of the root's model (`1024 <= parts + how_many out`).
-use Rattle.std.proofs.Common.{◌≡◌, refl, sym, ◌∙◌, ap, subst, ℕ, ◌+◌, ◌-◌, ◌≤◌, ◌⊎◌, inl, inr, ⊎_elim, Bool, true, false, ◌||◌, List, [], ◌∷◌, ◌++◌, length, set, Option, Some, arith}
-use mathlib.Core.Option.{some}
-use lib.ListN.{get_elem?}
-use Rattle.atomic_table.specs.Table.{Splits, Joins, Final, Seen}
-use Rattle.atomic_table.proofs.Lists.{at_set, at_snoc}
-use Rattle.stamped_book.specs.Journal.{Journaled}
-use Rattle.stamped_book.specs.declared.stamped.Entry.{Entry}
-use Rattle.ruled_desk.specs.declared.rule.View.{View}
-use Rattle.ruled_desk.specs.Weighing.{weigh, bit}
-use Rattle.ruled_desk.specs.Growing.{HasLastStamp, grown}
-use Rattle.ruled_desk.specs.Rule.{Fits, IsRuled, IsAtRest, homed, without_part, newcomer, joined, spent}
+use Rattle.ruled_desk.proofs.Words.{◌≡◌, refl, sym, ◌∙◌, ap, subst, ℕ, ◌-◌, ◌≤◌, ◌⊎◌, inl, inr, Bool, true, false, ◌||◌, List, [], ◌∷◌, ◌++◌, length, Option}
+use Rattle.ruled_desk.proofs.Words.{Some, arith, ◌+◌, set, ⊎_elim, some, get_elem?, Splits, Joins, Final, Seen, at_set, at_snoc, Journaled, Entry, View}
+use Rattle.ruled_desk.proofs.Words.{HasLastStamp, grown, IsAtRest, IsRuled, homed, Fits, without_part, newcomer, joined, spent, weigh, bit}
 use Rattle.ruled_desk.proofs.Weights.{weigh-append, weigh-set, weigh-alone}
 use Rattle.ruled_desk.proofs.RuleWords.{fits-set}
 
@@ -69,8 +61,7 @@ module _ {O C R : Type 0} (start : Journaled O C R) where
       }
 
   or_true : (a b : Bool) → (a || b) ≡ true → (a ≡ true) ⊎ (b ≡ true)
-  or_true true b e = inl refl
-  or_true false b e = inr e
+  or_true = elim [ true ↦ λ b e. inl refl | false ↦ λ b e. inr e ]
 
   -- a seat's entries and notes go over to another
   pub joins : (seat : ℕ) (v : View (Journaled O C R) (Entry C R)) (other : ℕ) (w : View (Journaled O C R) (Entry C R)) → 1 ≤ v.parts → IsAtRest v → IsAtRest w
@@ -144,7 +135,8 @@ module _ {O C R : Type 0} (start : Journaled O C R) where
       let holders : weigh (λ u. length u.took) s.views ≡ length v.took =
       weigh-alone (λ u. length u.took) (λ u. u.parts) s.views seat v at (omega (arith, all, kept.parts))
       (λ other u there none. ap length ((kept.fits other u there).ended none).1) in
-      let home : kept.out ≡ false = at_home kept.out (omega (arith, holders, kept.holders, ap length at_rest.took)) in
+      let home : kept.out ≡ false = (elim kept.out as (λ b. bit b ≡ 0 → b ≡ false)
+      [ true ↦ λ e. absurd (omega (arith, e)) | false ↦ λ e. refl ]) (omega (arith, holders, kept.holders, ap length at_rest.took)) in
       record {
         log = kept.log;
         home = f.4 0 (Some (grown start kept.log)) (ap (λ hs. get_elem? hs 0) (kept.homes ∙ ap (λ b. homed b (grown start kept.log)) home));
@@ -155,10 +147,6 @@ module _ {O C R : Type 0} (start : Journaled O C R) where
             sym mine ∙ kept.own h);
         full = here.full;
       }
-    where
-      at_home : (b : Bool) → bit b ≡ 0 → b ≡ false
-      at_home true e = absurd (omega (arith, e))
-      at_home false e = refl
 
   -- the same, beside what else is known of the words and slots
   pub closes_by : {A B : Type 0} (seat : ℕ) (v : View (Journaled O C R) (Entry C R)) (ws : List ℕ) (xs : List (Option (Journaled O C R))) → 1024 ≤ v.parts → IsAtRest v

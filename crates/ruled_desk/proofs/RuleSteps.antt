@@ -2,19 +2,10 @@
 --
 -- A slot leaves home at the step on a word that tells its seat so; `exchange` then changes what the seat carries. So a
 -- step on a word sees the book as it was put back, and the word that counts entries comes after that `exchange`.
-use Rattle.std.proofs.Common.{◌≡◌, refl, sym, ◌∙◌, ap, subst, ℕ, zero, suc, ◌+◌, ◌-◌, ◌%◌, ◌^◌, ◌≤◌, eqb, Bool, true, false, List, [], ◌∷◌, length, set, Option, Some, arith, MatchBool}
-use Rattle.std.proofs.lemmas.Bool.Decides.{nat_tests}
-use Rattle.std.specs.Prelude.{slice_index}
-use mathlib.Core.Option.{some, none, some-injective, some-ne-none}
-use lib.ListN.{get_elem?}
-use Rattle.atomic_table.specs.Table.{State, Me, Act, keeps, takes, Allows, Valid, stepped, carried_after, opening}
-use Rattle.atomic_table.proofs.Lists.{set_again}
-use Rattle.stamped_book.specs.Journal.{Journaled}
-use Rattle.stamped_book.specs.declared.stamped.Entry.{Entry}
-use Rattle.ruled_desk.specs.declared.rule.View.{View}
-use Rattle.ruled_desk.specs.Weighing.{weigh, span, bit}
-use Rattle.ruled_desk.specs.Growing.{grown}
-use Rattle.ruled_desk.specs.Rule.{Fits, IsRuled, IsAtRest, homed, first_view, waits, takes_turn, IsDrawn, IsLooked}
+use Rattle.ruled_desk.proofs.Words.{◌≡◌, refl, sym, ◌∙◌, ap, subst, ℕ, zero, suc, ◌-◌, ◌^◌, ◌≤◌, Bool, true, false, List, [], ◌∷◌, length, Option, Some, arith}
+use Rattle.ruled_desk.proofs.Words.{◌+◌, set, eqb, ◌%◌, MatchBool, slice_index, nat_tests, some, none, some-injective, some-ne-none, get_elem?, State, Me, Act}
+use Rattle.ruled_desk.proofs.Words.{keeps, takes, Allows, Valid, stepped, carried_after, opening, set_again, Journaled, Entry, View, grown, IsDrawn, IsAtRest}
+use Rattle.ruled_desk.proofs.Words.{takes_turn, waits, IsRuled, homed, Fits, first_view, IsLooked, weigh, span, bit}
 use Rattle.ruled_desk.proofs.Weights.{weigh-set, span-snoc}
 use Rattle.ruled_desk.proofs.RuleWords.{grown-none, fits-set, none-hold, few-wait, waits-among, first-turn}
 
@@ -117,11 +108,7 @@ module _ {O C R : Type 0} (start : Journaled O C R) where
   -- a seat sees that it is its turn, and has the book
   takes_over : (s : Table O C R) (kept : IsRuled start s) (seat : ℕ) (v : View (Journaled O C R) (Entry C R)) (n rest_count : ℕ) → get_elem? s.views seat ≡ some v
       → v.tickets ≡ n ∷ [] → v.took ≡ [] → kept.serving ≡ n % 2 ^ 64 → kept.count ≡ suc rest_count → n ≡ kept.first → kept.out ≡ false
-      → IsRuled start record {
-        words = set s.words 1 (slice_index s.words 1);
-        homes = set s.homes 0 none;
-        views = set s.views seat (takes_turn (grown start kept.log) v);
-      }
+      → IsRuled start record { words = set s.words 1 (slice_index s.words 1); homes = set s.homes 0 none; views = set s.views seat (takes_turn (grown start kept.log) v) }
   takes_over s kept seat v n rest_count at ticket free found some_wait first home =
       let w : View (Journaled O C R) (Entry C R) = takes_turn (grown start kept.log) v in
       let here = kept.fits seat v at in

@@ -2,24 +2,13 @@
 --
 -- The key of a table can be a `Snapshot` of what was put into its slot: it is a type's argument there, and does no harm
 -- to `Send` and `Sync`. So what a lock was given is a value of the table and no type has to name it.
-use Rattle.std.proofs.Common.{◌≡◌, refl, sym, ap, subst, ℕ, zero, suc, ◌+◌, ◌%◌, ◌^◌, ◌<◌, ◌≤◌, ◌≢◌, inl, inr, ⊎_elim, eqb, Bool, true, false, List, [], ◌∷◌, ◌++◌, length, set, Option, MatchBool, append_assoc, arith}
-use Rattle.std.proofs.lemmas.List.{append-nil}
-use Rattle.std.proofs.lemmas.Bool.Decides.{nat_tests}
-use mathlib.Core.Option.{some}
-use lib.ListN.{get_elem?}
-use Rattle.atomic_table.specs.Table.{State, Me}
-use Rattle.atomic_table.proofs.Lists.{at_set, one_turn}
-use Rattle.stamped_book.specs.Journal.{Journaled}
-use Rattle.stamped_book.specs.declared.stamped.Entry.{Entry}
-use Rattle.ruled_desk.specs.declared.rule.View.{View}
-use Rattle.ruled_desk.specs.Weighing.{weigh, span, bit}
-use Rattle.ruled_desk.specs.Growing.{HasLastStamp, grown}
-use Rattle.ruled_desk.specs.Rule.{Fits, IsRuled, IsWaiting, IsLooked, HasTaken}
+use Rattle.ruled_desk.proofs.Words.{◌≡◌, refl, sym, ap, subst, ℕ, zero, suc, ◌^◌, ◌<◌, ◌≤◌, inl, inr, Bool, true, false, List, [], ◌∷◌, ◌++◌, length, Option}
+use Rattle.ruled_desk.proofs.Words.{arith, ◌+◌, set, ⊎_elim, eqb, ◌≢◌, ◌%◌, MatchBool, append_assoc, append-nil, nat_tests, some, get_elem?, State, Me, at_set}
+use Rattle.ruled_desk.proofs.Words.{one_turn, Journaled, Entry, View, HasLastStamp, grown, IsWaiting, HasTaken, IsRuled, Fits, IsLooked, weigh, span, bit}
 use Rattle.ruled_desk.proofs.Weights.{weigh-one, weigh-two, weigh-le, span-ones}
 
 pub one_out : (b : Bool) → 1 ≤ bit b → b ≡ true
-one_out true some_one = refl
-one_out false some_one = absurd (omega (arith, some_one))
+one_out = elim [ true ↦ λ some_one. refl | false ↦ λ some_one. absurd (omega (arith, some_one)) ]
 
 pub length_none : {X : Type 0} (xs : List X) → length xs ≡ 0 → xs ≡ []
 length_none [] e = refl
@@ -28,14 +17,10 @@ length_none (x ∷ xs) e = absurd (omega (arith, e))
 -- a number that has weight in a span lies in it
 pub span-in : (n first count : ℕ) → 1 ≤ span (λ k. bit (eqb k n)) first count → (first ≤ n) × (n < first + count)
 span-in n first zero some_one = absurd (omega (arith, some_one))
-span-in n first (suc count) some_one = by (eqb first n) refl (span-in n (suc first) count)
-  where
-    by : (b : Bool) → eqb first n ≡ b → (1 ≤ span (λ k. bit (eqb k n)) (suc first) count → (suc first ≤ n) × (n < suc first + count)) → (first ≤ n) × (n < first + suc count)
-    by true e later = let same : first ≡ n = grind (arith, nat_tests) in (omega (arith, same), omega (arith, same))
-    by false e later =
-        let none : bit (eqb first n) ≡ 0 = ap bit e in
-        let there = later (omega (arith, some_one, none)) in
-        (omega (arith, there.0), omega (arith, there.1))
+span-in n first (suc count) some_one = (elim (eqb first n) as (λ b. eqb first n ≡ b → (1 ≤ span (λ k. bit (eqb k n)) (suc first) count → (suc first ≤ n) × (n < suc first + count)) → (first ≤ n) × (n < first + suc count)) [
+  | true ↦ λ e later. let same : first ≡ n = grind (arith, nat_tests) in (omega (arith, same), omega (arith, same))
+  | false ↦ λ e later. let none : bit (eqb first n) ≡ 0 = ap bit e in let there = later (omega (arith, some_one, none)) in (omega (arith, there.0), omega (arith, there.1))
+]) refl (span-in n (suc first) count)
 
 module _ {C R : Type 0} where
   -- a full journal stays full
@@ -105,13 +90,9 @@ module _ {O C R : Type 0} where
       → (kept.first ≤ n) × (n < kept.first + kept.count)
   waits-among start s kept seat v n at waits =
       let here : weigh (λ k. bit (eqb k n)) v.tickets ≡ bit (eqb n n) + 0 = ap (weigh (λ k. bit (eqb k n))) waits in
-      let same : bit (eqb n n) ≡ 1 = itself (eqb n n) refl in
+      let same : bit (eqb n n) ≡ 1 = (elim (eqb n n) as (λ b. eqb n n ≡ b → bit b ≡ 1) [ true ↦ λ e. refl | false ↦ λ e. absurd (grind (arith, nat_tests)) ]) refl in
       let one = weigh-one (λ u. weigh (λ k. bit (eqb k n)) u.tickets) s.views seat v at in
       span-in n kept.first kept.count (omega (arith, one, here, same, kept.tickets (λ k. bit (eqb k n))))
-    where
-      itself : (b : Bool) → eqb n n ≡ b → bit b ≡ 1
-      itself true e = refl
-      itself false e = absurd (grind (arith, nat_tests))
 
 -- the ticket that is served is the first of those that wait, where it is among them, and the book is at home
 pub first-turn : (serving first n : ℕ) (out : Bool) → (serving + bit out) % 2 ^ 64 ≡ first % 2 ^ 64 → serving ≡ n % 2 ^ 64 → first ≤ n → n < first + 1024

@@ -1,8 +1,6 @@
 -- Sums over lists, and what they tell of one member.
-use Rattle.std.proofs.Common.{◌≡◌, refl, sym, ap, ℕ, zero, suc, ◌+◌, ◌≤◌, ◌≢◌, List, [], ◌∷◌, ◌++◌, set, arith}
-use mathlib.Core.Option.{some, some-injective, some-ne-none}
-use lib.ListN.{get_elem?}
-use Rattle.ruled_desk.specs.Weighing.{weigh, span}
+use Rattle.ruled_desk.proofs.Words.{◌≡◌, refl, sym, ap, ℕ, zero, suc, ◌≤◌, List, [], ◌∷◌, ◌++◌, arith, ◌+◌, set, ◌≢◌, some, some-injective, some-ne-none}
+use Rattle.ruled_desk.proofs.Words.{get_elem?, weigh, span}
 
 module _ {X : Type 0} where
   pub weigh-append : (h : X → ℕ) (xs ys : List X) → weigh h (xs ++ ys) ≡ weigh h xs + weigh h ys

@@ -1,29 +1,14 @@
 -- A round over six books, from what its desk promises of each rider.
-use Rattle.std.proofs.Common.{◌≡◌, refl, sym, ◌∙◌, ap, subst, ℕ, zero, suc, ◌-◌, ◌^◌, ◌<◌, ◌≤◌, ◌⊎◌, ◌↔◌, inl, inr, Bool, true, false, ◌||◌, List, [], ◌∷◌, ◌++◌, length, map, take, drop, Option, Some, None, Result, Ok, Err, arith}
+use Rattle.ruled_desk.proofs.Words.{◌≡◌, refl, sym, ◌∙◌, ap, subst, ℕ, zero, suc, ◌-◌, ◌^◌, ◌<◌, ◌≤◌, ◌⊎◌, ◌↔◌, inl, inr, Bool, true, false, ◌||◌, List, []}
+use Rattle.ruled_desk.proofs.Words.{◌∷◌, ◌++◌, length, map, take, drop, Option, Some, None, Result, Ok, Err, arith, get_or-map, length-map, append-nil, OnOk}
+use Rattle.ruled_desk.proofs.Words.{All, slice_index_or, list_any, Journaled, Entry, Refusal, Memory, Stamps, Ask, Note, Reply, send_note, reassembly_note}
+use Rattle.ruled_desk.proofs.Words.{control_note, Crew, is_refused, Turned, HasLastStamp, GainsJust, Rider, AreNumbered, HasPass, NotesFull, OneIsUsedUp, Rode}
+use Rattle.ruled_desk.proofs.Words.{all_joined, given_pass, is_rider_refused, known_with, pass_taken, SixLocked, SixKnown, Passed, nothing_known, AllGainJust}
+use Rattle.ruled_desk.proofs.Words.{all_known, notes_full, AreActors, EndsAsTurns, IsWholeRound, OneIsFull, OneKnowsLast, crew_of, without_pass}
 use Rattle.std.proofs.Math.Seq.{take-append_seam}
-use Rattle.std.proofs.lemmas.List.{append-nil, get_or-map, length-map}
-use Rattle.std.specs.Prelude.{All, OnOk}
-use Rattle.stamped_book.specs.declared.stamped.Refusal.{Refusal}
-use Rattle.stamped_book.specs.declared.stamped.Refusal.TheVariants.{Memory, Stamps}
-use Rattle.std.specs.List.{list_any, slice_index_or}
-use Rattle.sides.specs.declared.side.Side.TheVariants as side
-use Rattle.stamped_book.specs.declared.stamped.Entry.{Entry}
-use Rattle.actor_desk.specs.declared.actor.Crew.{Crew}
-use Rattle.actor_desk.specs.declared.ask.Ask.{Ask}
-use Rattle.actor_desk.specs.declared.ask.Ask.TheVariants as asks
-use Rattle.actor_desk.specs.declared.ask.Note.{Note}
-use Rattle.actor_desk.specs.declared.ask.Reply.{Reply}
+use Rattle.sides.specs.declared.side.Side.{Side}
 use Rattle.actor_desk.specs.Books.{StampedBooks}
-use Rattle.actor_desk.specs.Journals.{send_note, reassembly_note, control_note}
 use Rattle.actor_turn.specs.Extending.{Extends, BooksExtend}
-use Rattle.actor_turn.specs.Turns.{Turned, is_refused}
-use Rattle.ruled_desk.specs.declared.rider.Rider.{Rider}
-use Rattle.ruled_desk.specs.Growing.{HasLastStamp}
-use Rattle.ruled_desk.specs.Riding.{AreNumbered, HasPass, NotesFull, OneIsUsedUp, Rode, all_joined, given_pass, is_rider_refused, known_with, pass_taken}
-use Rattle.ruled_desk.specs.Seats.{GainsJust}
-use Rattle.stamped_book.specs.Journal.{Journaled}
-use Rattle.ruled_desk.specs.SixSeats.{SixLocked, SixKnown, Passed, AllGainJust, all_known, nothing_known, notes_full}
-use Rattle.ruled_desk.specs.WholeRounds.{AllTurned, AreActors, EndsAsTurns, IsWholeRound, OneIsFull, OneKnowsLast, crew_of, without_pass}
 use Rattle.ruled_desk.proofs.Gaining.{In, any_of, gain_alike, in_contains}
 
 module _ {A : Type 0} where
@@ -183,31 +168,29 @@ module _ {A : Type 0} (asks : A → Option Ask) (takes : Reply → A → A) (des
 -- ---- stamps are used up
 
 or_left : (a b : Bool) → a ≡ true → (a || b) ≡ true
-or_left true b e = refl
-or_left false b e = cc
+or_left = elim [ true ↦ λ b e. refl | false ↦ λ b e. cc ]
 
 or_right : (a b : Bool) → b ≡ true → (a || b) ≡ true
-or_right true b e = refl
-or_right false b e = e
+or_right = elim [ true ↦ λ b e. refl | false ↦ λ b e. e ]
 
 -- what was noted stays noted
 full_stays : (ask : Ask) (books more : SixKnown) → notes_full ask books ≡ true → notes_full ask (all_known books more) ≡ true
-full_stays (asks.Send side.A call) books more e = or_left books.send_a.full more.send_a.full e
-full_stays (asks.Send side.B call) books more e = or_left books.send_b.full more.send_b.full e
-full_stays (asks.Reassembly side.A call) books more e = or_left books.reassembly_a.full more.reassembly_a.full e
-full_stays (asks.Reassembly side.B call) books more e = or_left books.reassembly_b.full more.reassembly_b.full e
-full_stays (asks.Control side.A call) books more e = or_left books.control_a.full more.control_a.full e
-full_stays (asks.Control side.B call) books more e = or_left books.control_b.full more.control_b.full e
-full_stays (asks.Local step) books more e = e
+full_stays (Ask.Send Side.A call) books more e = or_left books.send_a.full more.send_a.full e
+full_stays (Ask.Send Side.B call) books more e = or_left books.send_b.full more.send_b.full e
+full_stays (Ask.Reassembly Side.A call) books more e = or_left books.reassembly_a.full more.reassembly_a.full e
+full_stays (Ask.Reassembly Side.B call) books more e = or_left books.reassembly_b.full more.reassembly_b.full e
+full_stays (Ask.Control Side.A call) books more e = or_left books.control_a.full more.control_a.full e
+full_stays (Ask.Control Side.B call) books more e = or_left books.control_b.full more.control_b.full e
+full_stays (Ask.Local step) books more e = e
 
 full_there : (ask : Ask) (books more : SixKnown) → notes_full ask more ≡ true → notes_full ask (all_known books more) ≡ true
-full_there (asks.Send side.A call) books more e = or_right books.send_a.full more.send_a.full e
-full_there (asks.Send side.B call) books more e = or_right books.send_b.full more.send_b.full e
-full_there (asks.Reassembly side.A call) books more e = or_right books.reassembly_a.full more.reassembly_a.full e
-full_there (asks.Reassembly side.B call) books more e = or_right books.reassembly_b.full more.reassembly_b.full e
-full_there (asks.Control side.A call) books more e = or_right books.control_a.full more.control_a.full e
-full_there (asks.Control side.B call) books more e = or_right books.control_b.full more.control_b.full e
-full_there (asks.Local step) books more e = e
+full_there (Ask.Send Side.A call) books more e = or_right books.send_a.full more.send_a.full e
+full_there (Ask.Send Side.B call) books more e = or_right books.send_b.full more.send_b.full e
+full_there (Ask.Reassembly Side.A call) books more e = or_right books.reassembly_a.full more.reassembly_a.full e
+full_there (Ask.Reassembly Side.B call) books more e = or_right books.reassembly_b.full more.reassembly_b.full e
+full_there (Ask.Control Side.A call) books more e = or_right books.control_a.full more.control_a.full e
+full_there (Ask.Control Side.B call) books more e = or_right books.control_b.full more.control_b.full e
+full_there (Ask.Local step) books more e = e
 
 full_with : (ask : Ask) (books : SixKnown) (pass : Option Passed) → notes_full ask books ≡ true → notes_full ask (known_with books pass) ≡ true
 full_with ask books None e = e
@@ -238,25 +221,25 @@ last_note f keeps (e ∷ entries) (inl here) = (f e, inl refl, keeps e ∙ here)
 last_note f keeps (e ∷ entries) (inr there) = let later = last_note f keeps entries there in (later.0, inr later.1, later.2)
 
 full_book : (before after : StampedBooks) (known : SixKnown) → AllGainJust before after known → (ask : Ask) → notes_full ask known ≡ true → OneIsFull after
-full_book before after known gains (asks.Send side.A call) e =
-    let l = last_note (send_note side.A) (λ x. refl) after.send_a.journal (gains.send_a.last e) in
+full_book before after known gains (Ask.Send Side.A call) e =
+    let l = last_note (send_note Side.A) (λ x. refl) after.send_a.journal (gains.send_a.last e) in
     record { book = 0; note = l.0; stands = in_contains _ l.0 l.1; last = l.2 }
-full_book before after known gains (asks.Send side.B call) e =
-    let l = last_note (send_note side.B) (λ x. refl) after.send_b.journal (gains.send_b.last e) in
+full_book before after known gains (Ask.Send Side.B call) e =
+    let l = last_note (send_note Side.B) (λ x. refl) after.send_b.journal (gains.send_b.last e) in
     record { book = 1; note = l.0; stands = in_contains _ l.0 l.1; last = l.2 }
-full_book before after known gains (asks.Reassembly side.A call) e =
-    let l = last_note (reassembly_note side.A) (λ x. refl) after.reassembly_a.journal (gains.reassembly_a.last e) in
+full_book before after known gains (Ask.Reassembly Side.A call) e =
+    let l = last_note (reassembly_note Side.A) (λ x. refl) after.reassembly_a.journal (gains.reassembly_a.last e) in
     record { book = 2; note = l.0; stands = in_contains _ l.0 l.1; last = l.2 }
-full_book before after known gains (asks.Reassembly side.B call) e =
-    let l = last_note (reassembly_note side.B) (λ x. refl) after.reassembly_b.journal (gains.reassembly_b.last e) in
+full_book before after known gains (Ask.Reassembly Side.B call) e =
+    let l = last_note (reassembly_note Side.B) (λ x. refl) after.reassembly_b.journal (gains.reassembly_b.last e) in
     record { book = 3; note = l.0; stands = in_contains _ l.0 l.1; last = l.2 }
-full_book before after known gains (asks.Control side.A call) e =
-    let l = last_note (control_note side.A) (λ x. refl) after.control_a.journal (gains.control_a.last e) in
+full_book before after known gains (Ask.Control Side.A call) e =
+    let l = last_note (control_note Side.A) (λ x. refl) after.control_a.journal (gains.control_a.last e) in
     record { book = 4; note = l.0; stands = in_contains _ l.0 l.1; last = l.2 }
-full_book before after known gains (asks.Control side.B call) e =
-    let l = last_note (control_note side.B) (λ x. refl) after.control_b.journal (gains.control_b.last e) in
+full_book before after known gains (Ask.Control Side.B call) e =
+    let l = last_note (control_note Side.B) (λ x. refl) after.control_b.journal (gains.control_b.last e) in
     record { book = 5; note = l.0; stands = in_contains _ l.0 l.1; last = l.2 }
-full_book before after known gains (asks.Local step) e = cc
+full_book before after known gains (Ask.Local step) e = cc
 
 module _ {A : Type 0} where
   pub whole_used_up : (books : SixKnown) (riders : List (Rider A)) (before after : StampedBooks) → AllGainJust before after (all_joined books riders)

@@ -1,20 +1,12 @@
 -- The line of a fault is the first one that no log has there.
 --
 -- The first refused line: reading as a walk over states; from every state the rest of some log is written down.
-use Rattle.std.proofs.Common.{◌≡◌, ℕ, suc, ◌+◌, ◌^◌, ◌<◌, ◌≤◌, Bool, true, false, cond, List, [], ◌∷◌, ◌++◌, length, take, Option, Some, None, Result, Ok, Err, refl, ap, sym, ◌∙◌, subst, arith}
-use Rattle.std.specs.Prelude.{codes, is_ok}
-use Rattle.octet_text.specs.Lines.{text_lines}
-use Rattle.run_log.specs.declared.fault.LogFault.{LogFault}
-use Rattle.run_log.specs.declared.fault.LogFault.TheVariants as fault
-use Rattle.run_log.specs.declared.form.Expected.{Expected}
-use Rattle.run_log.specs.declared.form.Expected.TheVariants.{Format, Width, Keys, Turns, Nothing}
+use Rattle.run_log.proofs.Words.{◌≡◌, ℕ, suc, ◌+◌, ◌^◌, ◌<◌, ◌≤◌, Bool, true, false, List, [], ◌∷◌, ◌++◌, length, take, Some, None, Result, Ok, refl, ap, sym}
+use Rattle.run_log.proofs.Words.{◌∙◌, arith, cond, Option, subst, Err, codes, is_ok, text_lines, LogFault, Expected, Format, Width, Keys, Turns, Nothing, Turn}
+use Rattle.run_log.proofs.Words.{round_text, width_text, keys_text, outcome_text, IsLong, HasRoundBelow, is_nothing, taken_line, read_on, reading, turn_list}
+use Rattle.run_log.proofs.Words.{BeginsALog, IsFirstRefused, RefusesTheFirst}
 use Rattle.run_log.specs.declared.form.Taken.{Taken}
-use Rattle.run_log.specs.declared.outcome.Outcome.TheVariants as outcomes
-use Rattle.run_log.specs.declared.turn.Turn.{Turn}
-use Rattle.run_log.specs.Lines.{round_text, width_text, keys_text, outcome_text}
-use Rattle.run_log.specs.Fitting.{IsLong}
-use Rattle.run_log.specs.Form.{HasRoundBelow, is_nothing, turn_list, taken_line, read_on, reading}
-use Rattle.run_log.specs.Laws.{BeginsALog, IsFirstRefused, RefusesTheFirst}
+use Rattle.run_log.specs.declared.outcome.Outcome.{Outcome}
 use Rattle.run_log.proofs.LogReads.{bytes_same, round_no_step, outcome_no_step, outcome_again, keys_again}
 use Rattle.run_log.proofs.Walking.{IsBelow, taken_below}
 
@@ -31,8 +23,8 @@ module _ (actors width : ℕ) where
   -- ---- every beginning can be finished
 
   finish_turns : ℕ → Bool → List (List ℕ)
-  finish_turns round true = outcome_text outcomes.Rounds ∷ []
-  finish_turns round false = round_text round ∷ outcome_text outcomes.Rounds ∷ []
+  finish_turns round true = outcome_text Outcome.Rounds ∷ []
+  finish_turns round false = round_text round ∷ outcome_text Outcome.Rounds ∷ []
 
   finish : Expected → List (List ℕ)
   finish Format = codes "mptcp-log 1" ∷ keys_text 0 0 ∷ finish_turns 0 false
@@ -43,8 +35,8 @@ module _ (actors width : ℕ) where
 
   turns_finish : (round : ℕ) (may_end : Bool) → IsLong round → rest_of_log (Turns round may_end) (finish_turns round may_end) ≡ true
   unfolding rest_of_log finish_turns taken_line
-  turns_finish round true h = rw (outcome_no_step actors outcomes.Rounds, outcome_again outcomes.Rounds) refl
-  turns_finish round false h = rw (round_no_step actors round h, bytes_same (round_text round), outcome_no_step actors outcomes.Rounds, outcome_again outcomes.Rounds) refl
+  turns_finish round true h = rw (outcome_no_step actors Outcome.Rounds, outcome_again Outcome.Rounds) refl
+  turns_finish round false h = rw (round_no_step actors round h, bytes_same (round_text round), outcome_no_step actors Outcome.Rounds, outcome_again Outcome.Rounds) refl
 
   finishes : (expected : Expected) → HasRoundBelow (2 ^ 64) expected → rest_of_log expected (finish expected) ≡ true
   unfolding rest_of_log finish taken_line
@@ -57,11 +49,10 @@ module _ (actors width : ℕ) where
   -- ---- reading is Ok exactly for the rest of a log
 
   abbrev if_nothing : Bool → ℕ → List Turn → Result (List Turn) LogFault
-  if_nothing b number turns = cond b (Ok turns) (Err (fault.Line number))
+  if_nothing b number turns = cond b (Ok turns) (Err (LogFault.Line number))
 
   ok_if : (b : Bool) (number : ℕ) (turns : List Turn) → is_ok (if_nothing b number turns) ≡ b
-  ok_if true number turns = refl
-  ok_if false number turns = refl
+  ok_if = elim [ true ↦ λ number turns. refl | false ↦ λ number turns. refl ]
 
   same_ok : (lines : List (List ℕ)) (number : ℕ) (expected : Expected) (turns : List Turn) → is_ok (read_on actors width number expected turns lines) ≡ rest_of_log expected lines
   unfolding read_on rest_of_log
@@ -82,22 +73,18 @@ module _ (actors width : ℕ) where
     refused : before < length lines → (others : List (List ℕ)) → rest_of_log expected (take (suc before) lines ++ others) ≡ false
 
   abbrev line_in : Result (List Turn) LogFault → ℕ
-  line_in (Err (fault.Line number)) = number
+  line_in (Err (LogFault.Line number)) = number
   line_in r = 0
 
   abbrev StopsAt : ℕ → ℕ → Expected → List (List ℕ) → Type 0
   StopsAt n number expected lines = (before : ℕ) × (n ≡ number + before) × Stops expected lines before
 
   low : (number : ℕ) (expected : Expected) → HasRoundBelow number expected → number ≤ 2 ^ 64 → HasRoundBelow (2 ^ 64) expected
-  low number Format h le = tt
-  low number Width h le = tt
-  low number Keys h le = tt
   low number (Turns round may_end) h le = omega arith
-  low number Nothing h le = tt
+  low number _ h le = tt
 
-  from_end : (b : Bool) (number n : ℕ) (turns : List Turn) → if_nothing b number turns ≡ Err (fault.Line n) → number ≡ n
-  from_end true number n turns e = absurd cc
-  from_end false number n turns e = ap line_in e
+  from_end : (b : Bool) (number n : ℕ) (turns : List Turn) → if_nothing b number turns ≡ Err (LogFault.Line n) → number ≡ n
+  from_end = elim [ true ↦ λ number n turns e. absurd cc | false ↦ λ number n turns e. ap line_in e ]
 
   rest_step : (expected : Expected) (line : List ℕ) (one : Taken) (lines : List (List ℕ)) → taken_line actors width expected line ≡ Some one → rest_of_log expected (line ∷ lines) ≡ rest_of_log one.next lines
   unfolding rest_of_log
@@ -108,7 +95,7 @@ module _ (actors width : ℕ) where
   rest_none expected line lines q = rw q refl
 
   stops : (lines : List (List ℕ)) (number : ℕ) (expected : Expected) (turns : List Turn) (n : ℕ) → HasRoundBelow number expected → number + length lines ≤ 2 ^ 64
-      → read_on actors width number expected turns lines ≡ Err (fault.Line n) → StopsAt n number expected lines
+      → read_on actors width number expected turns lines ≡ Err (LogFault.Line n) → StopsAt n number expected lines
   unfolding read_on rest_of_log
   stops [] number expected turns n below few e =
       let same = from_end (is_nothing expected) number n turns e in
@@ -117,7 +104,7 @@ module _ (actors width : ℕ) where
   stops (line ∷ lines) number expected turns n below few e = by (stops lines) (taken_line actors width expected line) refl
     where
       by : ((number : ℕ) (expected : Expected) (turns : List Turn) (n : ℕ) → HasRoundBelow number expected → number + length lines ≤ 2 ^ 64
-          → read_on actors width number expected turns lines ≡ Err (fault.Line n) → StopsAt n number expected lines)
+          → read_on actors width number expected turns lines ≡ Err (LogFault.Line n) → StopsAt n number expected lines)
           → (o : Option Taken) → taken_line actors width expected line ≡ o → StopsAt n number expected (line ∷ lines)
       by rest (Some one) q =
           let step : read_on actors width number expected turns (line ∷ lines) ≡ read_on actors width (suc number) one.next (turns ++ turn_list one.turn) lines = rw q refl in
@@ -127,13 +114,13 @@ module _ (actors width : ℕ) where
           let none : later.0 < length lines → (others : List (List ℕ)) → rest_of_log expected (line ∷ (take (suc later.0) lines ++ others)) ≡ false = λ l others. rest_step expected line one (take (suc later.0) lines ++ others) q ∙ later.2.refused l others in
           (suc later.0, omega (arith, later.1), record { few = omega (arith, later.2.few); more = later.2.more; begins = begun; refused = λ l others. none (omega arith) others })
       by rest None q =
-          let step : read_on actors width number expected turns (line ∷ lines) ≡ Err (fault.Line number) = rw q refl in
+          let step : read_on actors width number expected turns (line ∷ lines) ≡ Err (LogFault.Line number) = rw q refl in
           let same : number ≡ n = ap line_in (sym step ∙ e) in
           let begun = finishes expected (low number expected below (omega arith)) in
           let none : (others : List (List ℕ)) → rest_of_log expected (line ∷ others) ≡ false = λ others. rest_none expected line others q in
           (0, omega (arith, same), record { few = omega arith; more = finish expected; begins = begun; refused = λ l others. none others })
 
-  first_refused : (text : List ℕ) (number : ℕ) → IsLong (length (text_lines text)) → reading actors width text ≡ Err (fault.Line number)
+  first_refused : (text : List ℕ) (number : ℕ) → IsLong (length (text_lines text)) → reading actors width text ≡ Err (LogFault.Line number)
       → (before : ℕ) × (number ≡ suc before) × IsFirstRefused actors width (text_lines text) before
   unfolding reading
   first_refused text number long e =

@@ -1,49 +1,14 @@
 -- What is asked and answered has 1 to 400 octets, all of which can be printed.
-use Rattle.std.proofs.Common.{◌≡◌, ℕ, ◌*◌, ◌<◌, ◌≤◌, true, ◌&&◌, List, [], ◌∷◌, ◌++◌, length, refl, ap, ◌∙◌, arith, length-append}
-use Rattle.std.specs.Prelude.{nat_lt, nat_le, codes, All}
-use Rattle.std.specs.Fmt.{decimal}
-use Rattle.std.specs.List.{list_all, AllByRecursion, flat_map}
-use Rattle.std.proofs.lemmas.Bool.{and_parts, and_from, ltb-true, leb-true, le-leb}
-use Rattle.std.proofs.lemmas.Bool.Decides.{nat_tests}
-use Rattle.std.proofs.lemmas.Fmt.{length-decimal-le}
+use Rattle.run_log.proofs.Words.{◌≡◌, ℕ, ◌<◌, ◌≤◌, true, ◌&&◌, List, [], ◌∷◌, ◌++◌, length, refl, ap, ◌∙◌, arith, length-append, ◌*◌, nat_lt, nat_le, codes}
+use Rattle.run_log.proofs.Words.{All, decimal, list_all, AllByRecursion, flat_map, and_parts, and_from, ltb-true, leb-true, le-leb, nat_tests}
+use Rattle.run_log.proofs.Words.{length-decimal-le, recursion_from_All, Row, Event, Verdict, Address, octets_of, spaced, Notice, ControlCall, ControlReply}
+use Rattle.run_log.proofs.Words.{ReassemblyCall, ReassemblyReply, SendCall, SendReply, Ask, LocalStep, IsByte, HeardFits, RowFits, AskFits, HasItsOctets}
+use Rattle.run_log.proofs.Words.{ReplyFits, RowsFit, HasRowsInRange, verdict_words, notice_words, send_call_words, reassembly_call_words, heard_words}
+use Rattle.run_log.proofs.Words.{control_call_words, local_words, ask_words, send_reply_words, reassembly_reply_words, row_words, control_reply_words}
+use Rattle.run_log.proofs.Words.{reply_text, is_printable, are_words}
 use Rattle.std.proofs.lemmas.List.Folds.{list_all-append}
-use Rattle.std.proofs.lemmas.List.Elements.{recursion_from_All}
-use Rattle.link_script.specs.Writing.{spaced}
-use Rattle.fallback_state.specs.declared.fall.Event.{Event}
-use Rattle.fallback_state.specs.declared.fall.Event.TheVariants as events
-use Rattle.fallback_state.specs.declared.fall.Verdict.{Verdict}
-use Rattle.fallback_state.specs.declared.fall.Verdict.TheVariants as verdicts
-use Rattle.control_book.specs.declared.call.Notice.{Notice}
-use Rattle.control_book.specs.declared.call.Notice.TheVariants as notices
-use Rattle.key_material.specs.declared.address.Address.{Address}
-use Rattle.key_material.specs.declared.address.Address.TheVariants as addresses
-use Rattle.key_material.specs.Address.{octets_of}
-use Rattle.linked_increase.specs.declared.rows.Row.{Row}
 use Rattle.linked_increase.specs.Paths.{IsInRange}
-use Rattle.send_book.specs.declared.call.SendCall.{SendCall}
-use Rattle.send_book.specs.declared.call.SendCall.TheVariants as send_calls
-use Rattle.send_book.specs.declared.call.SendReply.{SendReply}
-use Rattle.send_book.specs.declared.call.SendReply.TheVariants as send_replies
-use Rattle.reassembly_book.specs.declared.call.ReassemblyCall.{ReassemblyCall}
-use Rattle.reassembly_book.specs.declared.call.ReassemblyCall.TheVariants as reassembly_calls
-use Rattle.reassembly_book.specs.declared.call.ReassemblyReply.{ReassemblyReply}
-use Rattle.reassembly_book.specs.declared.call.ReassemblyReply.TheVariants as reassembly_replies
-use Rattle.control_book.specs.declared.call.ControlCall.{ControlCall}
-use Rattle.control_book.specs.declared.call.ControlCall.TheVariants as control_calls
-use Rattle.control_book.specs.declared.call.ControlReply.{ControlReply}
-use Rattle.control_book.specs.declared.call.ControlReply.TheVariants as control_replies
-use Rattle.actor_desk.specs.declared.ask.Ask.{Ask}
-use Rattle.actor_desk.specs.declared.ask.Ask.TheVariants as asks
-use Rattle.actor_desk.specs.declared.ask.LocalStep.{LocalStep}
-use Rattle.actor_desk.specs.declared.ask.LocalStep.TheVariants as steps
 use Rattle.actor_desk.specs.declared.ask.Reply.{Reply}
-use Rattle.actor_desk.specs.declared.ask.Reply.TheVariants as replies
-use Rattle.run_log.specs.Words.{verdict_words, notice_words}
-use Rattle.run_log.specs.Calls.{send_call_words, reassembly_call_words, heard_words, control_call_words, local_words, ask_words}
-use Rattle.run_log.specs.Replies.{send_reply_words, reassembly_reply_words, row_words, control_reply_words, reply_text}
-use Rattle.run_log.specs.Fields.{is_printable, are_words}
-use Rattle.run_log.specs.Fitting.{IsByte, HasItsOctets, HeardFits, RowFits, RowsFit, AskFits, ReplyFits}
-use Rattle.run_log.specs.Laws.{HasRowsInRange}
 use Rattle.run_log.proofs.PlainWords.{is_seen, IsPlain, ArePlain, plain_ask, plain_send_reply, plain_reassembly_reply, plain_control_reply}
 use Rattle.run_log.proofs.Spacing.{behind, spaced_behind, heard_is, rows_is}
 
@@ -99,48 +64,30 @@ counted most words h =
     let parts = and_parts (nat_lt 0 (length words)) (nat_le (length words) most) h in
     (ltb-true 0 (length words) parts.0, leb-true (length words) most parts.1)
 
-few_fell : (path : ℕ) (event : Event) → IsCount 5 (control_call_words (control_calls.Fell path event))
-few_fell path events.PlainHandshake = refl
+few_fell : (path : ℕ) (event : Event) → IsCount 5 (control_call_words (ControlCall.Fell path event))
+few_fell path Event.PlainHandshake = refl
 few_fell path _ = refl
 
 few_send_call : (call : SendCall) → IsCount 5 (send_call_words call)
-few_send_call (send_calls.Write bytes) = refl
-few_send_call _ = refl
+few_send_call = elim [ SendCall.Write bytes ↦ refl | _ ↦ refl ]
 
 few_reassembly_call : (call : ReassemblyCall) → IsCount 5 (reassembly_call_words call)
-few_reassembly_call (reassembly_calls.Place at bytes) = refl
-few_reassembly_call (reassembly_calls.Fin at) = refl
-few_reassembly_call (reassembly_calls.Read max) = refl
-few_reassembly_call reassembly_calls.AckOut = refl
-few_reassembly_call (reassembly_calls.Abort by_peer) = refl
+few_reassembly_call = elim [ ReassemblyCall.Place at bytes ↦ refl | _ ↦ refl ]
 
 few_local : (step : LocalStep) → IsCount 5 (local_words step)
-few_local (steps.Arrive to copy) = refl
-few_local (steps.Fire side) = refl
-few_local (steps.Line number) = refl
-few_local (steps.Sent from copy length sum) = refl
-few_local steps.End = refl
+few_local = elim [ LocalStep.Arrive to copy ↦ refl | _ ↦ refl ]
 
 pub few_send_reply : (reply : SendReply) → IsCount 6 (send_reply_words reply)
-few_send_reply (send_replies.Taken count) = refl
-few_send_reply _ = refl
+few_send_reply = elim [ SendReply.Taken count ↦ refl | _ ↦ refl ]
 
 pub few_reassembly_reply : (reply : ReassemblyReply) → IsCount 6 (reassembly_reply_words reply)
-few_reassembly_reply (reassembly_replies.Placed count) = refl
-few_reassembly_reply _ = refl
+few_reassembly_reply = elim [ ReassemblyReply.Placed count ↦ refl | _ ↦ refl ]
 
 few_notices : (notice : Notice) → nat_le (length (notice_words notice)) 2 ≡ true
-few_notices notices.Nothing = refl
-few_notices (notices.Announce id) = refl
-few_notices (notices.Withdraw id) = refl
-few_notices (notices.Carrier key) = refl
-few_notices notices.Reset = refl
+few_notices = elim [ Notice.Nothing ↦ refl | _ ↦ refl ]
 
 few_verdicts : (verdict : Verdict) → nat_le (length (verdict_words verdict)) 2 ≡ true
-few_verdicts verdicts.Stay = refl
-few_verdicts (verdicts.Went mode) = refl
-few_verdicts verdicts.SendFail = refl
-few_verdicts (verdicts.BreakPath reason) = refl
+few_verdicts = elim [ Verdict.Stay ↦ refl | _ ↦ refl ]
 
 -- ---- what is asked
 
@@ -158,8 +105,7 @@ octets_short (octet ∷ octets) h =
     omega (arith, length-append (32 ∷ decimal octet) (flat_map (λ octet. 32 ∷ decimal octet) octets), length-decimal-le 3 octet (omega arith) (omega (arith, h.0)) (omega (arith, h.0)), octets_short octets h.1)
 
 few_octets : (address : Address) → HasItsOctets address → length (octets_of address) ≤ 16
-few_octets (addresses.V4 octets) h = omega arith
-few_octets (addresses.V6 octets) h = omega arith
+few_octets = elim [ Address.V4 octets ↦ λ h. omega arith | Address.V6 octets ↦ λ h. omega arith ]
 
 heard_short : (id : ℕ) (address : Address) (port hmac : ℕ) → HeardFits id address port hmac → IsWithin 105 (spaced (heard_words id (octets_of address) port hmac))
 heard_short id address port hmac h =
@@ -176,32 +122,18 @@ heard_short id address port hmac h =
     (omega (arith, whole, front, named, back, last), omega (arith, whole, front, named, back, last, ids, ports, hmacs, each, few_octets address h.1.0.count))
 
 pub ask_within : (ask : Ask) → AskFits ask → IsWithin 105 (spaced (ask_words ask))
-ask_within (asks.Send side call) h = few_words 5 105 (send_call_words call) (plain_ask (asks.Send side call) h) (few_send_call call) (omega arith)
-ask_within (asks.Reassembly side call) h = few_words 5 105 (reassembly_call_words call) (plain_ask (asks.Reassembly side call) h) (few_reassembly_call call) (omega arith)
-ask_within (asks.Local step) h = few_words 5 105 (local_words step) (plain_ask (asks.Local step) h) (few_local step) (omega arith)
-ask_within (asks.Control side call) h = by call h
+ask_within (Ask.Send side call) h = few_words 5 105 (send_call_words call) (plain_ask (Ask.Send side call) h) (few_send_call call) (omega arith)
+ask_within (Ask.Reassembly side call) h = few_words 5 105 (reassembly_call_words call) (plain_ask (Ask.Reassembly side call) h) (few_reassembly_call call) (omega arith)
+ask_within (Ask.Local step) h = few_words 5 105 (local_words step) (plain_ask (Ask.Local step) h) (few_local step) (omega arith)
+ask_within (Ask.Control side call) h = by call h
   where
-    few : (call : ControlCall) → AskFits (asks.Control side call) → IsCount 5 (control_call_words call) → IsWithin 105 (spaced (control_call_words call))
-    few call h count = few_words 5 105 (control_call_words call) (plain_ask (asks.Control side call) h) count (omega arith)
+    few : (call : ControlCall) → AskFits (Ask.Control side call) → IsCount 5 (control_call_words call) → IsWithin 105 (spaced (control_call_words call))
+    few call h count = few_words 5 105 (control_call_words call) (plain_ask (Ask.Control side call) h) count (omega arith)
 
-    by : (call : ControlCall) → AskFits (asks.Control side call) → IsWithin 105 (spaced (control_call_words call))
-    by (control_calls.Look path) h = few (control_calls.Look path) h refl
-    by (control_calls.PeerKey key) h = few (control_calls.PeerKey key) h refl
-    by (control_calls.Keys own peer) h = few (control_calls.Keys own peer) h refl
-    by (control_calls.Fell path event) h = few (control_calls.Fell path event) h (few_fell path event)
-    by (control_calls.JoinBegin path) h = few (control_calls.JoinBegin path) h refl
-    by (control_calls.JoinHeard path token) h = few (control_calls.JoinHeard path token) h refl
-    by (control_calls.Live path backup) h = few (control_calls.Live path backup) h refl
-    by (control_calls.Dead path) h = few (control_calls.Dead path) h refl
-    by (control_calls.Backup path on) h = few (control_calls.Backup path on) h refl
-    by (control_calls.Rate path window rtt) h = few (control_calls.Rate path window rtt) h refl
-    by (control_calls.Announce id) h = few (control_calls.Announce id) h refl
-    by (control_calls.Withdraw id) h = few (control_calls.Withdraw id) h refl
-    by (control_calls.Heard id address port hmac) h = heard_short id address port hmac h
-    by (control_calls.Echoed id) h = few (control_calls.Echoed id) h refl
-    by (control_calls.Removed id) h = few (control_calls.Removed id) h refl
-    by control_calls.FastClose h = few control_calls.FastClose h refl
-    by (control_calls.FastHeard key) h = few (control_calls.FastHeard key) h refl
+    by : (call : ControlCall) → AskFits (Ask.Control side call) → IsWithin 105 (spaced (control_call_words call))
+    by (ControlCall.Fell path event) h = few (ControlCall.Fell path event) h (few_fell path event)
+    by (ControlCall.Heard id address port hmac) h = heard_short id address port hmac h
+    by call h = few call h refl
 
 -- ---- what is answered
 
@@ -224,44 +156,32 @@ rows_short rows h range =
     let each = each_row_short rows (recursion_from_All RowFits rows h.each) (recursion_from_All IsInRange rows range) in
     (omega (arith, whole, front), omega (arith, whole, front, each, h.few))
 
-control_reply_within : (reply : ControlReply) → ReplyFits (replies.Control reply) → HasRowsInRange (replies.Control reply) → IsWithin 292 (spaced (control_reply_words reply))
-control_reply_within (control_replies.Standing mode standby sole notice) h range =
-    let words = control_reply_words (control_replies.Standing mode standby sole notice) in
+control_reply_within : (reply : ControlReply) → ReplyFits (Reply.Control reply) → HasRowsInRange (Reply.Control reply) → IsWithin 292 (spaced (control_reply_words reply))
+control_reply_within (ControlReply.Standing mode standby sole notice) h range =
+    let words = control_reply_words (ControlReply.Standing mode standby sole notice) in
     let most : length words ≤ 6 = omega (arith, leb-true (length (notice_words notice)) 2 (few_notices notice)) in
-    (some_word words (plain_control_reply (control_replies.Standing mode standby sole notice) h) (omega arith), omega (arith, words_short words 6 (plain_control_reply (control_replies.Standing mode standby sole notice) h) most))
-control_reply_within (control_replies.Verdict verdict) h range =
-    let words = control_reply_words (control_replies.Verdict verdict) in
+    (some_word words (plain_control_reply (ControlReply.Standing mode standby sole notice) h) (omega arith), omega (arith, words_short words 6 (plain_control_reply (ControlReply.Standing mode standby sole notice) h) most))
+control_reply_within (ControlReply.Verdict verdict) h range =
+    let words = control_reply_words (ControlReply.Verdict verdict) in
     let most : length words ≤ 6 = omega (arith, leb-true (length (verdict_words verdict)) 2 (few_verdicts verdict)) in
-    (some_word words (plain_control_reply (control_replies.Verdict verdict) h) (omega arith), omega (arith, words_short words 6 (plain_control_reply (control_replies.Verdict verdict) h) most))
-control_reply_within (control_replies.Rows rows) h range = rows_short rows h range
-control_reply_within control_replies.Noted h range = few_words 6 292 (control_reply_words control_replies.Noted) (plain_control_reply control_replies.Noted h) refl (omega arith)
-control_reply_within (control_replies.KeysDiffer own) h range = few_words 6 292 (control_reply_words (control_replies.KeysDiffer own)) (plain_control_reply (control_replies.KeysDiffer own) h) refl (omega arith)
-control_reply_within (control_replies.Begin own peer) h range = few_words 6 292 (control_reply_words (control_replies.Begin own peer)) (plain_control_reply (control_replies.Begin own peer) h) refl (omega arith)
-control_reply_within control_replies.NotYet h range = few_words 6 292 (control_reply_words control_replies.NotYet) (plain_control_reply control_replies.NotYet h) refl (omega arith)
-control_reply_within (control_replies.Never mode) h range = few_words 6 292 (control_reply_words (control_replies.Never mode)) (plain_control_reply (control_replies.Never mode) h) refl (omega arith)
-control_reply_within (control_replies.UnknownToken own) h range = few_words 6 292 (control_reply_words (control_replies.UnknownToken own)) (plain_control_reply (control_replies.UnknownToken own) h) refl (omega arith)
-control_reply_within control_replies.NotConfirmed h range = few_words 6 292 (control_reply_words control_replies.NotConfirmed) (plain_control_reply control_replies.NotConfirmed h) refl (omega arith)
-control_reply_within (control_replies.Fallen mode) h range = few_words 6 292 (control_reply_words (control_replies.Fallen mode)) (plain_control_reply (control_replies.Fallen mode) h) refl (omega arith)
-control_reply_within control_replies.Echo h range = few_words 6 292 (control_reply_words control_replies.Echo) (plain_control_reply control_replies.Echo h) refl (omega arith)
-control_reply_within control_replies.BadHmac h range = few_words 6 292 (control_reply_words control_replies.BadHmac) (plain_control_reply control_replies.BadHmac h) refl (omega arith)
-control_reply_within control_replies.Known h range = few_words 6 292 (control_reply_words control_replies.Known) (plain_control_reply control_replies.Known h) refl (omega arith)
-control_reply_within control_replies.Stopped h range = few_words 6 292 (control_reply_words control_replies.Stopped) (plain_control_reply control_replies.Stopped h) refl (omega arith)
-control_reply_within (control_replies.OtherKey own) h range = few_words 6 292 (control_reply_words (control_replies.OtherKey own)) (plain_control_reply (control_replies.OtherKey own) h) refl (omega arith)
+    (some_word words (plain_control_reply (ControlReply.Verdict verdict) h) (omega arith), omega (arith, words_short words 6 (plain_control_reply (ControlReply.Verdict verdict) h) most))
+control_reply_within (ControlReply.Rows rows) h range = rows_short rows h range
+control_reply_within reply h range = few_words 6 292 (control_reply_words reply) (plain_control_reply reply h) refl (omega arith)
 
 pub plain_reply : (reply : Reply) → ReplyFits reply → list_all is_printable (reply_text reply) ≡ true
-plain_reply (replies.Send reply) h = printable_both (codes " = ") (spaced (send_reply_words reply)) refl (printable_words (send_reply_words reply) (plain_send_reply reply h))
-plain_reply (replies.Reassembly reply) h = printable_both (codes " = ") (spaced (reassembly_reply_words reply)) refl (printable_words (reassembly_reply_words reply) (plain_reassembly_reply reply h))
-plain_reply (replies.Control reply) h = printable_both (codes " = ") (spaced (control_reply_words reply)) refl (printable_words (control_reply_words reply) (plain_control_reply reply h))
-plain_reply replies.Done h = refl
+plain_reply (Reply.Send reply) h = printable_both (codes " = ") (spaced (send_reply_words reply)) refl (printable_words (send_reply_words reply) (plain_send_reply reply h))
+plain_reply (Reply.Reassembly reply) h = printable_both (codes " = ") (spaced (reassembly_reply_words reply)) refl (printable_words (reassembly_reply_words reply) (plain_reassembly_reply reply h))
+plain_reply (Reply.Control reply) h = printable_both (codes " = ") (spaced (control_reply_words reply)) refl (printable_words (control_reply_words reply) (plain_control_reply reply h))
+plain_reply Reply.Done h = refl
 
 reply_short : (reply : Reply) → ReplyFits reply → HasRowsInRange reply → length (reply_text reply) ≤ 295
-reply_short (replies.Send reply) h range =
+reply_short (Reply.Send reply) h range =
     omega (arith, length-append (codes " = ") (spaced (send_reply_words reply)), (few_words 6 292 (send_reply_words reply) (plain_send_reply reply h) (few_send_reply reply) (omega arith)).1)
-reply_short (replies.Reassembly reply) h range =
+reply_short (Reply.Reassembly reply) h range =
     omega (arith, length-append (codes " = ") (spaced (reassembly_reply_words reply)), (few_words 6 292 (reassembly_reply_words reply) (plain_reassembly_reply reply h) (few_reassembly_reply reply) (omega arith)).1)
-reply_short (replies.Control reply) h range =
+reply_short (Reply.Control reply) h range =
     omega (arith, length-append (codes " = ") (spaced (control_reply_words reply)), (control_reply_within reply h range).1)
-reply_short replies.Done h range = omega arith
+reply_short Reply.Done h range = omega arith
 
 -- ---- both
 

@@ -7,37 +7,16 @@
 -- That numbers behind a reference fit their types is a clause of the function that reads them (`fits`), where the
 -- `match` copies them out; a record's numbers go by value through a function. For a loop over rows `All-more` and
 -- `take_all`.
-use Rattle.std.proofs.Common.{◌≡◌, ℕ, ◌<◌, ◌≤◌, true, false, cond, eqb, List, [], ◌∷◌, ◌++◌, length, refl, ap, sym, ◌∙◌, append_assoc, arith}
-use Rattle.std.specs.Prelude.{codes}
-use Rattle.std.specs.Fmt.{decimal}
-use Rattle.std.specs.List.{list_all}
-use Rattle.std.specs.Str.{bytes_eq}
-use Rattle.std.specs.Str.Parse.{digits_value}
-use Rattle.std.proofs.lemmas.Bool.{and_parts}
-use Rattle.std.proofs.lemmas.Bool.Decides.{nat_tests}
-use Rattle.std.proofs.lemmas.Fmt.{digits_value-decimal}
-use Rattle.std.proofs.lemmas.List.{append-nil}
+use Rattle.run_log.proofs.Words.{◌≡◌, ℕ, ◌<◌, ◌≤◌, true, false, eqb, List, [], ◌∷◌, ◌++◌, length, refl, ap, sym, ◌∙◌, arith, append_assoc, cond, codes, decimal}
+use Rattle.run_log.proofs.Words.{list_all, and_parts, nat_tests, digits_value-decimal, bytes_eq, digits_value, append-nil, Side, spaced, digits, ControlReply}
+use Rattle.run_log.proofs.Words.{Ask, object_of, step_text, AskFits, ReplyFits, NoteFits, LinesTellTheirNotes, object_word, ask_words, send_reply_words}
+use Rattle.run_log.proofs.Words.{reassembly_reply_words, control_reply_words, reply_text}
 use Rattle.link_script.specs.Words.{words_of}
-use Rattle.link_script.proofs.Numerals.{digits}
-use Rattle.link_script.specs.Writing.{spaced}
 use Rattle.sides.specs.declared.object.Object.{Object}
-use Rattle.sides.specs.declared.object.Object.TheVariants as objects
-use Rattle.sides.specs.declared.side.Side.TheVariants as sides
-use Rattle.control_book.specs.declared.call.ControlReply.{ControlReply}
-use Rattle.control_book.specs.declared.call.ControlReply.TheVariants as control_replies
-use Rattle.actor_desk.specs.declared.ask.Ask.{Ask}
-use Rattle.actor_desk.specs.declared.ask.Ask.TheVariants as asks
 use Rattle.actor_desk.specs.declared.ask.Note.{Note}
 use Rattle.actor_desk.specs.declared.ask.Reply.{Reply}
-use Rattle.actor_desk.specs.declared.ask.Reply.TheVariants as replies
 use Rattle.actor_desk.specs.Kinds.{IsOfKind}
-use Rattle.run_log.specs.Words.{object_word}
-use Rattle.run_log.specs.Calls.{ask_words}
-use Rattle.run_log.specs.Replies.{send_reply_words, reassembly_reply_words, control_reply_words, reply_text}
-use Rattle.run_log.specs.Lines.{object_of, step_text}
-use Rattle.run_log.specs.Fitting.{AskFits, ReplyFits, NoteFits}
 use Rattle.run_log.specs.Telling.{told_ask, told_reply, as_told}
-use Rattle.run_log.specs.Laws.{LinesTellTheirNotes}
 use Rattle.run_log.proofs.PlainWords.{is_seen, ArePlain, plain_ask, plain_send_reply, plain_reassembly_reply, plain_control_reply}
 use Rattle.run_log.proofs.Lengths.{plain_seen, counted, ask_within, few_send_reply, few_reassembly_reply}
 use Rattle.run_log.proofs.LogReads.{number_seen, seen_object, step_shape, no_space}
@@ -105,47 +84,45 @@ parts_alone (word ∷ words) h = rw (no_equals word (plain_seen word h.0), parts
 
 abbrev object_named : List ℕ → Object
 object_named word =
-    cond (bytes_eq word (codes "sa")) (objects.Send sides.A) (cond (bytes_eq word (codes "sb")) (objects.Send sides.B) (cond (bytes_eq word (codes "ra")) (objects.Reassembly sides.A)
-    (cond (bytes_eq word (codes "rb")) (objects.Reassembly sides.B) (cond (bytes_eq word (codes "ca")) (objects.Control sides.A) (cond (bytes_eq word (codes "cb")) (objects.Control sides.B) objects.Me)))))
+    cond (bytes_eq word (codes "sa")) (Object.Send Side.A) (cond (bytes_eq word (codes "sb")) (Object.Send Side.B) (cond (bytes_eq word (codes "ra")) (Object.Reassembly Side.A)
+    (cond (bytes_eq word (codes "rb")) (Object.Reassembly Side.B) (cond (bytes_eq word (codes "ca")) (Object.Control Side.A) (cond (bytes_eq word (codes "cb")) (Object.Control Side.B) Object.Me)))))
 
 object_again : (object : Object) → object_named (object_word object) ≡ object
-object_again (objects.Send sides.A) = refl
-object_again (objects.Send sides.B) = refl
-object_again (objects.Reassembly sides.A) = refl
-object_again (objects.Reassembly sides.B) = refl
-object_again (objects.Control sides.A) = refl
-object_again (objects.Control sides.B) = refl
-object_again objects.Me = refl
+object_again (Object.Send Side.A) = refl
+object_again (Object.Send Side.B) = refl
+object_again (Object.Reassembly Side.A) = refl
+object_again (Object.Reassembly Side.B) = refl
+object_again (Object.Control Side.A) = refl
+object_again (Object.Control Side.B) = refl
+object_again Object.Me = refl
 
 abbrev ask_of : Object → List (List ℕ) → Ask
-ask_of (objects.Send side) words = asks.Send side (send_call_of words)
-ask_of (objects.Reassembly side) words = asks.Reassembly side (reassembly_call_of words)
-ask_of (objects.Control side) words = asks.Control side (control_call_of words)
-ask_of objects.Me words = asks.Local (local_of words)
+ask_of (Object.Send side) words = Ask.Send side (send_call_of words)
+ask_of (Object.Reassembly side) words = Ask.Reassembly side (reassembly_call_of words)
+ask_of (Object.Control side) words = Ask.Control side (control_call_of words)
+ask_of Object.Me words = Ask.Local (local_of words)
 
 abbrev reply_of : Object → List (List ℕ) → Reply
-reply_of (objects.Send side) words = replies.Send (send_reply_of words)
-reply_of (objects.Reassembly side) words = replies.Reassembly (reassembly_reply_of words)
-reply_of (objects.Control side) words = replies.Control (control_reply_of words)
-reply_of objects.Me words = replies.Done
+reply_of (Object.Send side) words = Reply.Send (send_reply_of words)
+reply_of (Object.Reassembly side) words = Reply.Reassembly (reassembly_reply_of words)
+reply_of (Object.Control side) words = Reply.Control (control_reply_of words)
+reply_of Object.Me words = Reply.Done
 
 abbrev built : ℕ → ℕ → Object → Parts → Note
 built stamp actor object parts = record { stamp = stamp; seen = 0; actor = actor; ask = ask_of object parts.asked; reply = reply_of object parts.answered }
 
 abbrev from_words : List (List ℕ) → Note
 from_words (stamp ∷ actor ∷ object ∷ words) = built (digits_value 10 stamp) (digits_value 10 actor) (object_named object) (parts_of words)
-from_words words = built 0 0 objects.Me (parts_of words)
+from_words words = built 0 0 Object.Me (parts_of words)
 
 some_words : (words : List (List ℕ)) → 1 ≤ length (spaced words) → 0 < length words
-some_words [] h = absurd (omega arith)
-some_words (word ∷ words) h = omega arith
+some_words = elim [ [] ↦ λ h. absurd (omega arith) | word ∷ words ↦ λ h. omega arith ]
 
 some_ask : (ask : Ask) → AskFits ask → 0 < length (ask_words ask)
 some_ask ask h = some_words (ask_words ask) (ask_within ask h).0
 
 some_control_reply : (reply : ControlReply) → 0 < length (control_reply_words reply)
-some_control_reply (control_replies.Standing mode standby sole notice) = omega arith
-some_control_reply _ = omega arith
+some_control_reply = elim [ ControlReply.Standing mode standby sole notice ↦ omega arith | _ ↦ omega arith ]
 
 -- the words of an ask and of a reply
 both_parts : (asked answered : List (List ℕ)) → ArePlain asked → 0 < length asked → ArePlain answered → 0 < length answered
@@ -156,32 +133,32 @@ both_parts asked answered h some k others =
 
 by_kind : (ask : Ask) (reply : Reply) (stamp actor : ℕ) → AskFits ask → ReplyFits reply → IsOfKind ask reply
     → built stamp actor (object_of ask) (parts_of (words_of (spaced (ask_words ask) ++ reply_text reply))) ≡ record { stamp = stamp; seen = 0; actor = actor; ask = told_ask ask; reply = told_reply reply }
-by_kind (asks.Send side call) (replies.Send reply) stamp actor h k kind =
-    let parts = both_parts (ask_words (asks.Send side call)) (send_reply_words reply) (plain_ask (asks.Send side call) h) (some_ask (asks.Send side call) h) (plain_send_reply reply k) (counted 6 (send_reply_words reply) (few_send_reply reply)).0 in
-    ap (built stamp actor (objects.Send side)) parts ∙ rw (send_call_again call h, send_reply_again reply k) refl
-by_kind (asks.Reassembly side call) (replies.Reassembly reply) stamp actor h k kind =
-    let parts = both_parts (ask_words (asks.Reassembly side call)) (reassembly_reply_words reply) (plain_ask (asks.Reassembly side call) h) (some_ask (asks.Reassembly side call) h) (plain_reassembly_reply reply k) (counted 6 (reassembly_reply_words reply) (few_reassembly_reply reply)).0 in
-    ap (built stamp actor (objects.Reassembly side)) parts ∙ rw (reassembly_call_again call h, reassembly_reply_again reply k) refl
-by_kind (asks.Control side call) (replies.Control reply) stamp actor h k kind =
-    let parts = both_parts (ask_words (asks.Control side call)) (control_reply_words reply) (plain_ask (asks.Control side call) h) (some_ask (asks.Control side call) h) (plain_control_reply reply k) (some_control_reply reply) in
-    ap (built stamp actor (objects.Control side)) parts ∙ rw (control_call_again call h, control_reply_again reply k) refl
-by_kind (asks.Local step) replies.Done stamp actor h k kind =
-    let whole = append-nil (spaced (ask_words (asks.Local step))) in
-    let words = ap words_of whole ∙ spaced_words (ask_words (asks.Local step)) (plain_ask (asks.Local step) h) (some_ask (asks.Local step) h) in
-    let parts = ap parts_of words ∙ parts_alone (ask_words (asks.Local step)) (plain_ask (asks.Local step) h) in
-    ap (built stamp actor objects.Me) parts ∙ rw (local_again step h) refl
-by_kind (asks.Send side call) (replies.Reassembly reply) stamp actor h k kind = absurd kind
-by_kind (asks.Send side call) (replies.Control reply) stamp actor h k kind = absurd kind
-by_kind (asks.Send side call) replies.Done stamp actor h k kind = absurd kind
-by_kind (asks.Reassembly side call) (replies.Send reply) stamp actor h k kind = absurd kind
-by_kind (asks.Reassembly side call) (replies.Control reply) stamp actor h k kind = absurd kind
-by_kind (asks.Reassembly side call) replies.Done stamp actor h k kind = absurd kind
-by_kind (asks.Control side call) (replies.Send reply) stamp actor h k kind = absurd kind
-by_kind (asks.Control side call) (replies.Reassembly reply) stamp actor h k kind = absurd kind
-by_kind (asks.Control side call) replies.Done stamp actor h k kind = absurd kind
-by_kind (asks.Local step) (replies.Send reply) stamp actor h k kind = absurd kind
-by_kind (asks.Local step) (replies.Reassembly reply) stamp actor h k kind = absurd kind
-by_kind (asks.Local step) (replies.Control reply) stamp actor h k kind = absurd kind
+by_kind (Ask.Send side call) (Reply.Send reply) stamp actor h k kind =
+    let parts = both_parts (ask_words (Ask.Send side call)) (send_reply_words reply) (plain_ask (Ask.Send side call) h) (some_ask (Ask.Send side call) h) (plain_send_reply reply k) (counted 6 (send_reply_words reply) (few_send_reply reply)).0 in
+    ap (built stamp actor (Object.Send side)) parts ∙ rw (send_call_again call h, send_reply_again reply k) refl
+by_kind (Ask.Reassembly side call) (Reply.Reassembly reply) stamp actor h k kind =
+    let parts = both_parts (ask_words (Ask.Reassembly side call)) (reassembly_reply_words reply) (plain_ask (Ask.Reassembly side call) h) (some_ask (Ask.Reassembly side call) h) (plain_reassembly_reply reply k) (counted 6 (reassembly_reply_words reply) (few_reassembly_reply reply)).0 in
+    ap (built stamp actor (Object.Reassembly side)) parts ∙ rw (reassembly_call_again call h, reassembly_reply_again reply k) refl
+by_kind (Ask.Control side call) (Reply.Control reply) stamp actor h k kind =
+    let parts = both_parts (ask_words (Ask.Control side call)) (control_reply_words reply) (plain_ask (Ask.Control side call) h) (some_ask (Ask.Control side call) h) (plain_control_reply reply k) (some_control_reply reply) in
+    ap (built stamp actor (Object.Control side)) parts ∙ rw (control_call_again call h, control_reply_again reply k) refl
+by_kind (Ask.Local step) Reply.Done stamp actor h k kind =
+    let whole = append-nil (spaced (ask_words (Ask.Local step))) in
+    let words = ap words_of whole ∙ spaced_words (ask_words (Ask.Local step)) (plain_ask (Ask.Local step) h) (some_ask (Ask.Local step) h) in
+    let parts = ap parts_of words ∙ parts_alone (ask_words (Ask.Local step)) (plain_ask (Ask.Local step) h) in
+    ap (built stamp actor Object.Me) parts ∙ rw (local_again step h) refl
+by_kind (Ask.Send side call) (Reply.Reassembly reply) stamp actor h k kind = absurd kind
+by_kind (Ask.Send side call) (Reply.Control reply) stamp actor h k kind = absurd kind
+by_kind (Ask.Send side call) Reply.Done stamp actor h k kind = absurd kind
+by_kind (Ask.Reassembly side call) (Reply.Send reply) stamp actor h k kind = absurd kind
+by_kind (Ask.Reassembly side call) (Reply.Control reply) stamp actor h k kind = absurd kind
+by_kind (Ask.Reassembly side call) Reply.Done stamp actor h k kind = absurd kind
+by_kind (Ask.Control side call) (Reply.Send reply) stamp actor h k kind = absurd kind
+by_kind (Ask.Control side call) (Reply.Reassembly reply) stamp actor h k kind = absurd kind
+by_kind (Ask.Control side call) Reply.Done stamp actor h k kind = absurd kind
+by_kind (Ask.Local step) (Reply.Send reply) stamp actor h k kind = absurd kind
+by_kind (Ask.Local step) (Reply.Reassembly reply) stamp actor h k kind = absurd kind
+by_kind (Ask.Local step) (Reply.Control reply) stamp actor h k kind = absurd kind
 
 note_again : (note : Note) → NoteFits note → IsOfKind note.ask note.reply → from_words (words_of (step_text note)) ≡ as_told note
 note_again note f kind =

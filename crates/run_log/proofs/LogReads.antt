@@ -1,41 +1,22 @@
 -- The log of some rounds reads to their turns.
-use Rattle.std.proofs.Common.{◌≡◌, ℕ, suc, ◌+◌, ◌/◌, ◌%◌, ◌^◌, ◌<◌, ◌≤◌, Bool, true, false, eqb, ltb, ◌&&◌, List, [], ◌∷◌, ◌++◌, length, take, drop, map, Some, None, Result, Ok, refl, ap, sym, ◌∙◌, arith, append_assoc, length-append, rules}
-use Rattle.std.specs.Prelude.{nat_le, codes, ◌==◌, slice_index}
-use Rattle.std.specs.Fmt.{decimal}
+use Rattle.run_log.proofs.Words.{◌≡◌, ℕ, suc, ◌+◌, ◌/◌, ◌%◌, ◌^◌, ◌<◌, ◌≤◌, Bool, true, false, eqb, ltb, ◌&&◌, List, [], ◌∷◌, ◌++◌, length, take, drop, map}
+use Rattle.run_log.proofs.Words.{Some, None, Result, Ok, refl, ap, sym, ◌∙◌, arith, append_assoc, length-append, rules, nat_le, codes, ◌==◌, slice_index}
+use Rattle.run_log.proofs.Words.{decimal, list_all, position_or_len, AllByRecursion, flat_map, and_parts, and_from, le-leb, lt-ltb, agree_below_at, nat_tests}
+use Rattle.run_log.proofs.Words.{digits_decimal, digits_value-decimal, decimal_nonempty, length-decimal-le, recursion_from_All, bytes_eq, text_lines, Side}
+use Rattle.run_log.proofs.Words.{spaced, digits, LogFault, Expected, Format, Turns, Turn, object_of, step_text, round_text, width_text, key_word, keys_text}
+use Rattle.run_log.proofs.Words.{outcome_text, ended, opening_lines, old_opening_lines, round_lines, rounds_lines, IsLong, taken_line, read_on, reading}
+use Rattle.run_log.proofs.Words.{CanBeLogged, turns_of_round, turns_of, log_behind, ReadsToItsTurns, object_word, ask_words, reply_text, field, is_number}
+use Rattle.run_log.proofs.Words.{actor_of, is_object, is_printable, step_actor, is_lower_hex, is_key, is_keys_line, is_outcome_line}
 use Rattle.std.specs.Int.{w64, to_be_bytes}
-use Rattle.std.specs.List.{list_all, position_or_len, AllByRecursion, flat_map}
-use Rattle.std.specs.Str.{bytes_eq}
 use Rattle.std.proofs.Math.Seq.{take-append_seam, drop-append-add}
-use Rattle.std.proofs.lemmas.Bool.{and_parts, and_from, lt-ltb, le-leb, agree_below_at}
-use Rattle.std.proofs.lemmas.Bool.Decides.{nat_tests}
-use Rattle.std.proofs.lemmas.Fmt.{digits_decimal, digits_value-decimal, decimal_nonempty, length-decimal-le}
-use Rattle.std.proofs.lemmas.List.Elements.{recursion_from_All}
 use Rattle.hex.specs.Hex.{lower_digits, encode_with, encode_lower}
 use Rattle.hex.proofs.HexLemmas.{length-encode_with}
 use Rattle.key_material.proofs.Octets.{AreOctets-to_be_bytes}
 use Rattle.link_script.specs.Numbers.{is_numeral}
-use Rattle.link_script.proofs.Numerals.{digits}
-use Rattle.link_script.specs.Writing.{spaced}
 use Rattle.sides.specs.declared.object.Object.{Object}
-use Rattle.sides.specs.declared.object.Object.TheVariants as objects
-use Rattle.sides.specs.declared.side.Side.TheVariants as sides
-use Rattle.octet_text.specs.Lines.{text_lines}
 use Rattle.actor_desk.specs.declared.ask.Note.{Note}
-use Rattle.run_log.specs.declared.fault.LogFault.{LogFault}
-use Rattle.run_log.specs.declared.form.Expected.{Expected}
-use Rattle.run_log.specs.declared.form.Expected.TheVariants.{Format, Turns}
 use Rattle.run_log.specs.declared.outcome.Outcome.{Outcome}
-use Rattle.run_log.specs.declared.outcome.Outcome.TheVariants as outcomes
-use Rattle.run_log.specs.declared.turn.Turn.{Turn}
 use Rattle.run_log.specs.declared.turn.Turn.TheVariants.{Step}
-use Rattle.run_log.specs.Words.{object_word}
-use Rattle.run_log.specs.Calls.{ask_words}
-use Rattle.run_log.specs.Replies.{reply_text}
-use Rattle.run_log.specs.Lines.{object_of, step_text, round_text, width_text, key_word, keys_text, outcome_text, ended, opening_lines, old_opening_lines, round_lines, rounds_lines}
-use Rattle.run_log.specs.Fields.{field, is_number, actor_of, is_object, is_printable, step_actor, is_lower_hex, is_key, is_keys_line, is_outcome_line}
-use Rattle.run_log.specs.Fitting.{IsLong}
-use Rattle.run_log.specs.Form.{taken_line, read_on, reading}
-use Rattle.run_log.specs.Laws.{CanBeLogged, turns_of_round, turns_of, log_behind, ReadsToItsTurns}
 use Rattle.run_log.proofs.PlainWords.{is_seen, plain_number}
 use Rattle.run_log.proofs.Lengths.{plain_seen, printable_word, printable_both, words_again}
 
@@ -110,22 +91,22 @@ actor_again actors n l h =
     rw (number, digits_value-decimal digits n h, lt-ltb n actors l) refl
 
 pub seen_object : (object : Object) → IsSeen (object_word object)
-seen_object (objects.Send sides.A) = refl
-seen_object (objects.Send sides.B) = refl
-seen_object (objects.Reassembly sides.A) = refl
-seen_object (objects.Reassembly sides.B) = refl
-seen_object (objects.Control sides.A) = refl
-seen_object (objects.Control sides.B) = refl
-seen_object objects.Me = refl
+seen_object (Object.Send Side.A) = refl
+seen_object (Object.Send Side.B) = refl
+seen_object (Object.Reassembly Side.A) = refl
+seen_object (Object.Reassembly Side.B) = refl
+seen_object (Object.Control Side.A) = refl
+seen_object (Object.Control Side.B) = refl
+seen_object Object.Me = refl
 
 object_again : (object : Object) → is_object (object_word object) ≡ true
-object_again (objects.Send sides.A) = refl
-object_again (objects.Send sides.B) = refl
-object_again (objects.Reassembly sides.A) = refl
-object_again (objects.Reassembly sides.B) = refl
-object_again (objects.Control sides.A) = refl
-object_again (objects.Control sides.B) = refl
-object_again objects.Me = refl
+object_again (Object.Send Side.A) = refl
+object_again (Object.Send Side.B) = refl
+object_again (Object.Reassembly Side.A) = refl
+object_again (Object.Reassembly Side.B) = refl
+object_again (Object.Control Side.A) = refl
+object_again (Object.Control Side.B) = refl
+object_again Object.Me = refl
 
 pub number_seen : (n : ℕ) → IsLong n → IsSeen (decimal n)
 number_seen n h = plain_seen (decimal n) (plain_number n h)
@@ -174,23 +155,18 @@ pub round_no_step : (actors number : ℕ) → IsLong number → step_actor actor
 round_no_step actors number h = no_step actors (codes "round") (decimal number) refl (number_seen number h)
 
 pub outcome_no_step : (actors : ℕ) (outcome : Outcome) → step_actor actors (outcome_text outcome) ≡ None
-outcome_no_step actors outcomes.Delivered = no_step actors (codes "outcome") (codes "delivered") refl refl
-outcome_no_step actors outcomes.Rounds = no_step actors (codes "outcome") (codes "rounds") refl refl
-outcome_no_step actors outcomes.NoPath = no_step actors (codes "outcome") (codes "no-path") refl refl
-outcome_no_step actors outcomes.Aborted = no_step actors (codes "outcome") (codes "aborted") refl refl
+outcome_no_step actors Outcome.Delivered = no_step actors (codes "outcome") (codes "delivered") refl refl
+outcome_no_step actors Outcome.Rounds = no_step actors (codes "outcome") (codes "rounds") refl refl
+outcome_no_step actors Outcome.NoPath = no_step actors (codes "outcome") (codes "no-path") refl refl
+outcome_no_step actors Outcome.Aborted = no_step actors (codes "outcome") (codes "aborted") refl refl
 
 pub outcome_again : (outcome : Outcome) → is_outcome_line (outcome_text outcome) ≡ true
 unfolding field
-outcome_again outcomes.Delivered = refl
-outcome_again outcomes.Rounds = refl
-outcome_again outcomes.NoPath = refl
-outcome_again outcomes.Aborted = refl
+outcome_again Outcome.Delivered = refl
+outcome_again _ = refl
 
 outcome_line : (outcome : Outcome) → IsLine (outcome_text outcome)
-outcome_line outcomes.Delivered = refl
-outcome_line outcomes.Rounds = refl
-outcome_line outcomes.NoPath = refl
-outcome_line outcomes.Aborted = refl
+outcome_line = elim [ Outcome.Delivered ↦ refl | _ ↦ refl ]
 
 round_line : (number : ℕ) → IsLong number → IsLine (round_text number)
 round_line number h = printable_both (codes "round ") (decimal number) refl (printable_word (decimal number) (number_seen number h))

@@ -1,19 +1,11 @@
 -- A word of digits is text, and `parse` reads it.
-use Rattle.std.proofs.Common.{◌≡◌, ℕ, ◌<◌, ◌^◌, true, List, length, Result, Ok, Err, refl}
-use Rattle.std.specs.Prelude.{nat_lt, MatchResult, IsOk}
+use Rattle.run_log.proofs.Words.{◌≡◌, ℕ, ◌^◌, ◌<◌, true, List, length, Result, Ok, refl, Err, nat_lt, MatchResult, IsOk, list_all, and_parts, ltb-true}
+use Rattle.run_log.proofs.Words.{IsAscii-from_digits, IsUtf8, digits_value, ParsesUnsigned, is_ascii_digit, AreDigits, digits, is_number}
 use Rattle.std.specs.Borrow.{Bor}
-use Rattle.std.specs.List.{list_all}
-use Rattle.std.specs.Char.{is_ascii_digit}
 use Rattle.std.specs.Option.{SomeIff}
 use Rattle.std.specs.Result.{OkIff, result_ok}
-use Rattle.std.specs.Str.{IsUtf8}
-use Rattle.std.specs.Str.Parse.{digits_value, ParsesUnsigned}
-use Rattle.std.proofs.lemmas.Bool.{and_parts, ltb-true}
 use Rattle.std.proofs.lemmas.Str.{IsUtf8-from_ascii}
 use Rattle.std.proofs.lemmas.Str.Parse.{parse_digits}
-use Rattle.std.proofs.lemmas.Fmt.{IsAscii-from_digits}
-use Rattle.link_script.proofs.Numerals.{AreDigits, digits}
-use Rattle.run_log.specs.Fields.{is_number}
 
 -- what a number is
 pub number_parts : (word : List ℕ) → is_number word ≡ true → (0 < length word) × AreDigits word

@@ -1,13 +1,6 @@
 -- Words with a space between each two, as a first word and others that each stand behind a space.
-use Rattle.std.proofs.Common.{◌≡◌, ℕ, List, [], ◌∷◌, ◌++◌, map, refl, ap, sym, ◌∙◌, append_assoc}
-use Rattle.std.specs.Prelude.{codes}
-use Rattle.std.specs.Fmt.{decimal}
-use Rattle.std.specs.List.{flat_map}
-use Rattle.std.proofs.lemmas.List.{append-nil}
-use Rattle.link_script.specs.Writing.{spaced}
-use Rattle.linked_increase.specs.declared.rows.Row.{Row}
-use Rattle.run_log.specs.Calls.{heard_words}
-use Rattle.run_log.specs.Replies.{row_words}
+use Rattle.run_log.proofs.Words.{◌≡◌, ℕ, List, [], ◌∷◌, ◌++◌, map, refl, ap, sym, ◌∙◌, append_assoc, codes, decimal, flat_map, append-nil, Row, spaced}
+use Rattle.run_log.proofs.Words.{heard_words, row_words}
 
 -- each word behind a space
 abbrev pub behind : List (List ℕ) → List ℕ

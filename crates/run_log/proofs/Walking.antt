@@ -1,20 +1,10 @@
 -- Reading line after line, as a loop does.
-use Rattle.std.proofs.Common.{◌≡◌, ℕ, suc, ◌+◌, ◌<◌, Bool, true, false, cond, ◌&&◌, eqb, List, [], ◌∷◌, length, Option, Some, None, Result, Ok, Err, refl, sym, ap, subst, ◌∙◌, add-one, arith}
-use Rattle.std.proofs.lemmas.Bool.{eqb-true}
-use Rattle.std.proofs.lemmas.List.{nil_from_length}
-use Rattle.run_log.specs.declared.fault.LogFault.{LogFault}
-use Rattle.run_log.specs.declared.fault.LogFault.TheVariants as fault
-use Rattle.run_log.specs.declared.form.Expected.{Expected}
-use Rattle.run_log.specs.declared.form.Expected.TheVariants.{Format, Width, Keys, Turns, Nothing}
+use Rattle.run_log.proofs.Words.{◌≡◌, ℕ, suc, ◌+◌, ◌<◌, Bool, true, false, eqb, ◌&&◌, List, [], ◌∷◌, length, Some, None, Result, Ok, refl, ap, sym, ◌∙◌, arith}
+use Rattle.run_log.proofs.Words.{cond, Option, subst, Err, add-one, codes, eqb-true, bytes_eq, nil_from_length, text_lines, LogFault, Expected, Format, Width}
+use Rattle.run_log.proofs.Words.{Keys, Turns, Nothing, Turn, round_text, width_text, Fails, HasRoundBelow, is_nothing, silent, tells, step_or, end_line}
+use Rattle.run_log.proofs.Words.{after_line, taken_line, read_on, reading, step_actor, is_keys_line, is_outcome_line}
 use Rattle.run_log.specs.declared.form.Taken.{Taken}
-use Rattle.run_log.specs.Fields.{step_actor, is_keys_line, is_outcome_line}
-use Rattle.run_log.specs.Lines.{round_text, width_text}
-use Rattle.std.specs.Prelude.{codes}
 use Rattle.run_log.specs.declared.turn.Turn.TheVariants.{Round}
-use Rattle.std.specs.Str.{bytes_eq}
-use Rattle.octet_text.specs.Lines.{text_lines}
-use Rattle.run_log.specs.declared.turn.Turn.{Turn}
-use Rattle.run_log.specs.Form.{Fails, HasRoundBelow, is_nothing, silent, tells, step_or, end_line, after_line, taken_line, read_on, reading}
 
 module _ (actors width : ℕ) where
   pub goes_on : (number : ℕ) (expected next : Expected) (turns now : List Turn) (rest line after : List ℕ) (whole : Result (List Turn) LogFault)
@@ -30,9 +20,9 @@ module _ (actors width : ℕ) where
       → text_lines rest ≡ line ∷ text_lines after → Fails f (after_line number turns (taken_line actors width expected line))
       → read_on actors width number expected turns (text_lines rest) ≡ whole → Fails f whole
   unfolding read_on
-  stops fault.Memory number expected turns rest line after whole cut refused so_far = tt
-  stops (fault.Line n) number expected turns rest line after whole cut refused so_far =
-      let step : read_on actors width number expected turns (text_lines rest) ≡ Err (fault.Line n) = rw (cut, refused) refl in
+  stops LogFault.Memory number expected turns rest line after whole cut refused so_far = tt
+  stops (LogFault.Line n) number expected turns rest line after whole cut refused so_far =
+      let step : read_on actors width number expected turns (text_lines rest) ≡ Err (LogFault.Line n) = rw (cut, refused) refl in
       sym so_far ∙ step
 
   at_last : (number : ℕ) (expected : Expected) (turns : List Turn) (rest : List ℕ) → eqb (length rest) 0 ≡ true
@@ -41,10 +31,10 @@ module _ (actors width : ℕ) where
       ap (λ (rest : List ℕ). read_on actors width number expected turns (text_lines rest)) (nil_from_length rest (eqb-true _ _ empty))
 
   pub misses : (number : ℕ) (expected : Expected) (turns : List Turn) (rest : List ℕ) (whole : Result (List Turn) LogFault)
-      → eqb (length rest) 0 ≡ true → is_nothing expected ≡ false → read_on actors width number expected turns (text_lines rest) ≡ whole → whole ≡ Err (fault.Line number)
+      → eqb (length rest) 0 ≡ true → is_nothing expected ≡ false → read_on actors width number expected turns (text_lines rest) ≡ whole → whole ≡ Err (LogFault.Line number)
   unfolding read_on
   misses number expected turns rest whole empty more so_far =
-      let last : read_on actors width number expected turns [] ≡ Err (fault.Line number) = rw more refl in
+      let last : read_on actors width number expected turns [] ≡ Err (LogFault.Line number) = rw more refl in
       sym so_far ∙ at_last number expected turns rest empty ∙ last
 
   pub ends : (number : ℕ) (expected : Expected) (turns : List Turn) (rest : List ℕ) (whole : Result (List Turn) LogFault)

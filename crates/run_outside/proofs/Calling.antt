@@ -35,22 +35,12 @@ puts_first call l m f g a b e ends fault counted unloaded added = record {
 
 -- no call was made, for want of memory
 pub puts_none : {X : Type 0} (plan : List Call) (l : ℕ) (f : Port → ℕ) (a : Told) → Puts {X = X} plan l l f f a a (Err Memory)
-puts_none plan l f a = record {
-  made = tt;
-  cut = cut_none plan Memory a a refl (adds_none a);
-  fault = tt;
-  only = only_none l f;
-}
+puts_none plan l f a = record { made = tt; cut = cut_none plan Memory a a refl (adds_none a); fault = tt; only = only_none l f }
 
 -- a part that ended a run, as the whole has it
 pub puts_longer : {X Y : Type 0} (xs ys : List Call) (l m : ℕ) (f g : Port → ℕ) (a b : Told) (e : Status) → Puts {X = X} xs l m f g a b (Err e)
     → Puts {X = Y} (xs ++ ys) l m f g a b (Err e)
-puts_longer xs ys l m f g a b e h = record {
-  made = tt;
-  cut = cut_longer xs ys e a b h.cut;
-  fault = h.fault;
-  only = h.only;
-}
+puts_longer xs ys l m f g a b e h = record { made = tt; cut = cut_longer xs ys e a b h.cut; fault = h.fault; only = h.only }
 
 pub puts_ended : {X Y : Type 0} (xs : List Call) (l m : ℕ) (f g : Port → ℕ) (a b : Told) (e : Status) → Puts {X = X} xs l m f g a b (Err e)
     → Puts {X = Y} xs l m f g a b (Err e)
@@ -92,11 +82,7 @@ loads_ended xs ys l m f g o n a b r e h = record { made = tt; counted = h.counte
 -- what is made of it is no matter
 pub loads_any : {X Y : Type 0} (xs : List Call) (l m : ℕ) (f g : Port → ℕ) (o n : Port → Option (List ℕ)) (a b : Told) (x : X) (r : Result Y Status)
     → Loads xs l m f g o n a b (Ok x) → Loads xs l m f g o n a b r
-loads_any xs l m f g o n a b x r h = record {
-  made = OnOk-holds r (AddsAll xs a b) h.made;
-  counted = h.counted;
-  untouched = h.untouched;
-}
+loads_any xs l m f g o n a b x r h = record { made = OnOk-holds r (AddsAll xs a b) h.made; counted = h.counted; untouched = h.untouched }
 
 pub loads_by : {X : Type 0} (xs ys : List Call) (l m : ℕ) (f g : Port → ℕ) (o n : Port → Option (List ℕ)) (a b : Told) (r : Result X Status) → xs ≡ ys
     → Loads xs l m f g o n a b r → Loads ys l m f g o n a b r

@@ -10,7 +10,7 @@ use Rattle.run_log.specs.declared.form.Expected.{Expected}
 use Rattle.run_log.specs.declared.form.Expected.TheVariants.{Format, Width, Keys, Turns, Nothing}
 use Rattle.run_log.specs.declared.form.Taken.{Taken}
 use Rattle.run_log.specs.declared.turn.Turn as logged_turn
-use Rattle.run_log.specs.declared.turn.Turn.TheVariants as logged
+use Rattle.run_log.specs.declared.turn.Turn.{Turn}
 use Rattle.run_log.specs.Fields.{step_actor, is_keys_line, is_outcome_line}
 use Rattle.run_log.specs.Form.{silent, tells, taken_line, turn_list, step_or, end_line, at_end, after_line, read_on, reading}
 use Rattle.run_log.specs.Lines.{round_text, width_text}
@@ -39,7 +39,7 @@ format_keeps false true turns = tt
 format_keeps false false turns = tt
 
 round_keeps : (b c : Bool) (round : ℕ) (turns : LogTurns) → (c ≡ true → EndsInRound turns)
-    → Keeps turns (cond b (Some (tells logged.Round (Turns (suc round) true))) (cond c (Some (silent Nothing)) None))
+    → Keeps turns (cond b (Some (tells Turn.Round (Turns (suc round) true))) (cond c (Some (silent Nothing)) None))
 round_keeps true c round turns h = (turns, refl)
 round_keeps false true round turns h = subst EndsInRound (sym (append-nil turns)) (h refl)
 round_keeps false false round turns h = tt
@@ -65,10 +65,7 @@ ok_turns turns = Ok turns
 
 end_ends : (number : ℕ) (expected : Expected) (turns all : LogTurns) → MayEnd expected turns → at_end number expected turns ≡ Ok all → EndsInRound all
 end_ends number Nothing turns all h e = let same : ok_turns turns ≡ ok_turns all = e in subst EndsInRound (cc) h
-end_ends number Format turns all h e = absurd cc
-end_ends number Width turns all h e = absurd cc
-end_ends number Keys turns all h e = absurd cc
-end_ends number (Turns round may_end) turns all h e = absurd cc
+end_ends number _ turns all h e = absurd cc
 
 read_ends : (lines : List (List ℕ)) (actors width number : ℕ) (expected : Expected) (turns all : LogTurns) → MayEnd expected turns
     → read_on actors width number expected turns lines ≡ Ok all → EndsInRound all

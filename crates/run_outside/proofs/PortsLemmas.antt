@@ -4,11 +4,10 @@ use Rattle.std.proofs.Math.Seq.{take-length}
 use Rattle.std.proofs.lemmas.List.{append-nil, take-append-drop}
 use Rattle.octet_text.specs.Prefix.{IsPrefix}
 use Rattle.outside_kit.specs.declared.port.Port.{Port}
-use Rattle.outside_kit.specs.declared.port.Port.TheVariants as port
 use Rattle.outside_kit.specs.Outside.{HasRisen, HoldsAfter, HoldsPrefix}
 use Rattle.std.proofs.lemmas.Bool.{cases_lt}
 use Rattle.run_outside.specs.declared.status.Status.{Status}
-use Rattle.run_outside.specs.declared.status.Status.TheVariants.{Delivered, Rounds, NoPath, Aborted, Usage, Script, Load, Put, TooLong, Memory, Log}
+use Rattle.run_outside.specs.declared.status.Status.TheVariants.{Put, Memory, Log}
 use Rattle.run_outside.specs.Ports.{NeverFall, IsPortsFault, HoldsMore, HoldsWithin, IsBetween}
 
 -- ---- prefixes
@@ -153,11 +152,8 @@ IfErr-three (Err e) f p q s = f e p q s
 -- a count that has risen later has risen
 pub risen_later : (old middle new : ℕ) → old ≤ middle → HasRisen middle new → HasRisen old new
 risen_later old middle new few (inl less) = inl (omega (arith, few, less))
-risen_later old middle new few (inr most) = by (cases_lt old new)
-  where
-    by : (old < new) ⊎ (new ≤ old) → HasRisen old new
-    by (inl less) = inl less
-    by (inr least) = let a = most.0 in let b = most.1 in inr (omega (arith, few, least, a, b), b)
+risen_later old middle new few (inr most) = elim (cases_lt old new)
+    [ inl less ↦ inl less | inr least ↦ let a = most.0 in let b = most.1 in inr (omega (arith, few, least, a, b), b) ]
 
 pub fault_after : (old middle new : Port → ℕ) (status : Status) → NeverFall old middle → IsPortsFault middle new status → IsPortsFault old new status
 fault_after old middle new (Put p) few fault = risen_later (old p) (middle p) (new p) (few p) fault
@@ -166,20 +162,20 @@ fault_after old middle new _ few fault = absurd fault
 
 -- ---- ports are distinct
 
-pub b_isnt_log : port.ReadByB ≡ port.Log → ⊥
+pub b_isnt_log : Port.ReadByB ≡ Port.Log → ⊥
 b_isnt_log e = cc (e)
 
-pub a_isnt_log : port.ReadByA ≡ port.Log → ⊥
+pub a_isnt_log : Port.ReadByA ≡ Port.Log → ⊥
 a_isnt_log e = cc (e)
 
 -- a call of one port lets no count fall
 pub never_falls : (p : Port) (old new : Port → ℕ) → old p ≤ new p → ((other : Port) → (other ≡ p → ⊥) → new other ≡ old other) → NeverFall old new
-never_falls port.ReadByA old new h k port.ReadByA = h
-never_falls port.ReadByA old new h k port.ReadByB = let same = k port.ReadByB (λ e. cc (e)) in omega (arith, same)
-never_falls port.ReadByA old new h k port.Log = let same = k port.Log (λ e. cc (e)) in omega (arith, same)
-never_falls port.ReadByB old new h k port.ReadByA = let same = k port.ReadByA (λ e. cc (e)) in omega (arith, same)
-never_falls port.ReadByB old new h k port.ReadByB = h
-never_falls port.ReadByB old new h k port.Log = let same = k port.Log (λ e. cc (e)) in omega (arith, same)
-never_falls port.Log old new h k port.ReadByA = let same = k port.ReadByA (λ e. cc (e)) in omega (arith, same)
-never_falls port.Log old new h k port.ReadByB = let same = k port.ReadByB (λ e. cc (e)) in omega (arith, same)
-never_falls port.Log old new h k port.Log = h
+never_falls Port.ReadByA old new h k Port.ReadByA = h
+never_falls Port.ReadByA old new h k Port.ReadByB = let same = k Port.ReadByB (λ e. cc (e)) in omega (arith, same)
+never_falls Port.ReadByA old new h k Port.Log = let same = k Port.Log (λ e. cc (e)) in omega (arith, same)
+never_falls Port.ReadByB old new h k Port.ReadByA = let same = k Port.ReadByA (λ e. cc (e)) in omega (arith, same)
+never_falls Port.ReadByB old new h k Port.ReadByB = h
+never_falls Port.ReadByB old new h k Port.Log = let same = k Port.Log (λ e. cc (e)) in omega (arith, same)
+never_falls Port.Log old new h k Port.ReadByA = let same = k Port.ReadByA (λ e. cc (e)) in omega (arith, same)
+never_falls Port.Log old new h k Port.ReadByB = let same = k Port.ReadByB (λ e. cc (e)) in omega (arith, same)
+never_falls Port.Log old new h k Port.Log = h

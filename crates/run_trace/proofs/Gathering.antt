@@ -7,7 +7,7 @@ use Rattle.path_core.specs.Octets.{octets}
 use Rattle.link_trace.specs.declared.sent.Sent.{Sent}
 use Rattle.world_laws.specs.Worlds.{AreLawful, IsLawfulTurn, Turn, WorldState, after_turn, world_run}
 use Rattle.world_core.specs.Kept.{Kept}
-use Rattle.run_trace.specs.declared.making.TraceFault.TheVariants as fault
+use Rattle.run_trace.specs.declared.making.TraceFault.{TraceFault}
 use Rattle.run_trace.specs.Trace.{FailedOrIs, IsWhole, StandsAtFault, StandsBehind, StopsAt, can_be_made, sent_at, trace_of}
 
 lawful_turn : (t : Turn) (w : WorldState (List ℕ)) → can_be_made t w ≡ true → IsLawfulTurn t w
@@ -81,6 +81,6 @@ module _ (order left : List Turn) (start : WorldState (List ℕ)) (old : Kept) (
 
   -- memory was wanting in the next one
   pub stands_cut : (new : Kept) → Gathers order left start old.state trace place → old.failed ≡ false → FailedOrIs new old
-      → StandsAtFault fault.Memory order start new
+      → StandsAtFault TraceFault.Memory order start new
   stands_cut new g stands (inl failed) = inl failed
   stands_cut new g stands (inr same) = inr (place, same ∙ stands_here g stands)

@@ -1,5 +1,5 @@
 -- Each path of a connection stands two behind its number among the actors, and at no tick behind its round's end.
-use Rattle.std.proofs.Common.{◌≡◌, refl, sym, ap, subst, ◌∙◌, ℕ, zero, suc, ◌+◌, ◌≤◌, ◌⊎◌, inl, inr, Bool, true, false, if◌then◌else◌, Option, Some, None, List, [], ◌∷◌, map, set, slice_get, arith}
+use Rattle.std.proofs.Common.{◌≡◌, refl, sym, ap, subst, ◌∙◌, ℕ, zero, suc, ◌+◌, ◌≤◌, ◌⊎◌, inl, inr, true, false, if◌then◌else◌, Option, Some, None, List, [], ◌∷◌, map, set, slice_get, arith}
 use Rattle.std.proofs.lemmas.Option.{same_Some}
 use Rattle.actor_desk.specs.declared.ask.Ask.{Ask}
 use Rattle.actor_desk.specs.declared.ask.Reply.{Reply}
@@ -21,11 +21,7 @@ set_got [] i j d x is = inl is
 set_got (y ∷ xs) zero zero d x is = inr (refl, sym (same_Some d x is))
 set_got (y ∷ xs) zero (suc j) d x is = inl is
 set_got (y ∷ xs) (suc i) zero d x is = inl is
-set_got {X = X} (y ∷ xs) (suc i) (suc j) d x is = by (set_got xs i j d x is)
-  where
-    by : (slice_get xs j ≡ Some x) ⊎ ((j ≡ i) × (x ≡ d)) → (slice_get xs j ≡ Some x) ⊎ ((suc j ≡ suc i) × (x ≡ d))
-    by (inl same) = inl same
-    by (inr new) = inr (ap suc new.0, new.1)
+set_got {X = X} (y ∷ xs) (suc i) (suc j) d x is = elim (set_got xs i j d x is) [ inl same ↦ inl same | inr new ↦ inr (ap suc new.0, new.1) ]
 
 pub map_got : {X : Type 0} (f : X → X) (xs : List X) (j : ℕ) (y : X) → slice_get (map f xs) j ≡ Some y → (x : X) × ((slice_get xs j ≡ Some x) × (y ≡ f x))
 map_got f [] j y is = cc
@@ -56,36 +52,26 @@ abbrev pub AreNumbered : List (ActorCrew (List ℕ)) → Type 0
 AreNumbered crew = (i : ℕ) (c : ActorCrew (List ℕ)) → slice_get crew i ≡ Some c → StandsAt i c.member
 
 one_numbered : (crew : List (ActorCrew (List ℕ))) (i : ℕ) (d : ActorCrew (List ℕ)) → AreNumbered crew → StandsAt i d.member → AreNumbered (set crew i d)
-one_numbered crew i d h stands j x is = by (set_got crew i j d x is)
-  where
-    by : (slice_get crew j ≡ Some x) ⊎ ((j ≡ i) × (x ≡ d)) → StandsAt j x.member
-    by (inl same) = h j x same
-    by (inr new) =
-        subst (λ (n : ℕ). StandsAt n x.member) (sym new.0) (subst (λ (y : ActorCrew (List ℕ)). StandsAt i y.member) (sym new.1) stands)
+one_numbered crew i d h stands j x is = elim (set_got crew i j d x is)
+    [ inl same ↦ h j x same | inr new ↦ subst (λ (n : ℕ). StandsAt n x.member) (sym new.0) (subst (λ (y : ActorCrew (List ℕ)). StandsAt i y.member) (sym new.1) stands) ]
 
 step_numbered : (i : ℕ) (w : WorldState (List ℕ)) → AreNumbered w.crew → AreNumbered (world_step octets i w).crew
-step_numbered i w h = by (slice_get w.crew i) refl
+step_numbered i w h = (elim (slice_get w.crew i) as (λ o. slice_get w.crew i ≡ o → AreNumbered (stepped octets i o w).crew)
+    [ None ↦ λ there. h | Some c ↦ λ there. so (member_asks octets c.member) c there ]) refl
   where
     so : (o : Option Ask) (c : ActorCrew (List ℕ)) → slice_get w.crew i ≡ Some c → AreNumbered (asked octets i o c w).crew
     so None c there = h
     so (Some ask) c there =
         one_numbered w.crew i (crew_after octets ask w.books c) h (takes_stands i (answer_to w.books ask) c.member (h i c there))
 
-    by : (o : Option (ActorCrew (List ℕ))) → slice_get w.crew i ≡ o → AreNumbered (stepped octets i o w).crew
-    by None there = h
-    by (Some c) there = so (member_asks octets c.member) c there
-
 round_numbered : (w : WorldState (List ℕ)) → AreNumbered w.crew → AreNumbered (end_round w).crew
-round_numbered w h = by (all_over w.crew)
+round_numbered w h = elim (all_over w.crew) as (λ b. AreNumbered (if b then record w { crew = map (begins (greatest 0 w.crew)) w.crew } else w).crew)
+    [ true ↦ next | false ↦ h ]
   where
     next : AreNumbered (map (begins (greatest 0 w.crew)) w.crew)
     next j d is =
         let g = map_got (begins (greatest 0 w.crew)) w.crew j d is in
         subst (λ (y : ActorCrew (List ℕ)). StandsAt j y.member) (sym g.1.1) (next_stands j g.0.member (h j g.0 g.1.0))
-
-    by : (b : Bool) → AreNumbered (if b then record w { crew = map (begins (greatest 0 w.crew)) w.crew } else w).crew
-    by true = next
-    by false = h
 
 pub turn_numbered : (t : Turn) (w : WorldState (List ℕ)) → AreNumbered w.crew → AreNumbered (after_turn octets t w).crew
 turn_numbered (Turn.Step i) w h = step_numbered i w h

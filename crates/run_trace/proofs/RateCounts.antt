@@ -1,5 +1,5 @@
 -- Each path of a connection has its windows and round-trip times.
-use Rattle.std.proofs.Common.{◌≡◌, refl, sym, ◌∙◌, ap, ℕ, zero, suc, ◌+◌, Bool, true, false, if◌then◌else◌, Option, Some, None, List, [], ◌∷◌, map, set, slice_get, length, arith}
+use Rattle.std.proofs.Common.{◌≡◌, refl, sym, ◌∙◌, ap, ℕ, zero, suc, ◌+◌, true, false, if◌then◌else◌, Option, Some, None, List, [], ◌∷◌, map, set, slice_get, length, arith}
 use Rattle.std.proofs.lemmas.Option.{same_Some}
 use Rattle.actor_desk.specs.declared.ask.Ask.{Ask}
 use Rattle.actor_desk.specs.declared.ask.Reply.{Reply}
@@ -22,11 +22,8 @@ count (c ∷ crew) = paths_in c.member + count crew
 
 rates_counted : (crew : List (ActorCrew (List ℕ))) → length (rates_of crew) ≡ count crew
 rates_counted [] = refl
-rates_counted (c ∷ crew) = by c.member (rates_counted crew)
-  where
-    by : (m : Actor (List ℕ)) → length (rates_of crew) ≡ count crew → length (rates_of (record c { member = m } ∷ crew)) ≡ paths_in m + count crew
-    by (App a) rest = omega (arith, rest)
-    by (Path p) rest = omega (arith, rest)
+rates_counted (c ∷ crew) = (elim c.member as (λ m. length (rates_of crew) ≡ count crew → length (rates_of (record c { member = m } ∷ crew)) ≡ paths_in m + count crew)
+    [ App a ↦ λ rest. omega (arith, rest) | Path p ↦ λ rest. omega (arith, rest) ]) (rates_counted crew)
 
 takes_in : (r : Reply) (m : Actor (List ℕ)) → paths_in (member_takes octets r m) ≡ paths_in m
 takes_in r (App a) = refl
@@ -48,22 +45,16 @@ map_counted stamp [] = refl
 map_counted stamp (c ∷ crew) = let here = next_in c.member in let rest = map_counted stamp crew in omega (arith, here, rest)
 
 step_counted : (i : ℕ) (w : WorldState (List ℕ)) → count (world_step octets i w).crew ≡ count w.crew
-step_counted i w = by (slice_get w.crew i) refl
+step_counted i w = (elim (slice_get w.crew i) as (λ o. slice_get w.crew i ≡ o → count (stepped octets i o w).crew ≡ count w.crew)
+    [ None ↦ λ there. refl | Some c ↦ λ there. so (member_asks octets c.member) c there ]) refl
   where
     so : (o : Option Ask) (c : ActorCrew (List ℕ)) → slice_get w.crew i ≡ Some c → count (asked octets i o c w).crew ≡ count w.crew
     so None c there = refl
     so (Some ask) c there = set_counted w.crew i c (crew_after octets ask w.books c) there (takes_in (answer_to w.books ask) c.member)
 
-    by : (o : Option (ActorCrew (List ℕ))) → slice_get w.crew i ≡ o → count (stepped octets i o w).crew ≡ count w.crew
-    by None there = refl
-    by (Some c) there = so (member_asks octets c.member) c there
-
 round_counted : (w : WorldState (List ℕ)) → count (end_round w).crew ≡ count w.crew
-round_counted w = by (all_over w.crew)
-  where
-    by : (b : Bool) → count (if b then record w { crew = map (begins (greatest 0 w.crew)) w.crew } else w).crew ≡ count w.crew
-    by true = map_counted (greatest 0 w.crew) w.crew
-    by false = refl
+round_counted w = elim (all_over w.crew) as (λ b. count (if b then record w { crew = map (begins (greatest 0 w.crew)) w.crew } else w).crew ≡ count w.crew)
+    [ true ↦ map_counted (greatest 0 w.crew) w.crew | false ↦ refl ]
 
 run_counted : (turns : List Turn) (w : WorldState (List ℕ)) → count (world_run octets turns w).crew ≡ count w.crew
 run_counted [] w = refl

@@ -42,38 +42,27 @@ Reached tick n crew = (c : ActorCrew (List ℕ)) → slice_get crew n ≡ Some c
 
 one_reached : (tick i n : ℕ) (crew : List (ActorCrew (List ℕ))) (c d : ActorCrew (List ℕ)) → slice_get crew i ≡ Some c
     → (NotBefore tick c.member → NotBefore tick d.member) → Reached tick n crew → Reached tick n (set crew i d)
-one_reached tick i n crew c d there later h x is = by (set_got crew i n d x is)
-  where
-    by : (slice_get crew n ≡ Some x) ⊎ ((n ≡ i) × (x ≡ d)) → NotBefore tick x.member
-    by (inl same) = h x same
-    by (inr new) =
-        subst (λ (y : ActorCrew (List ℕ)). NotBefore tick y.member) (sym new.1)
-        (later (h c (subst (λ (m : ℕ). slice_get crew m ≡ Some c) (sym new.0) there)))
+one_reached tick i n crew c d there later h x is = elim (set_got crew i n d x is)
+    [ inl same ↦ h x same | inr new ↦ subst (λ (y : ActorCrew (List ℕ)). NotBefore tick y.member) (sym new.1) (later (h c (subst (λ (m : ℕ). slice_get crew m ≡ Some c) (sym new.0) there))) ]
 
 step_reached : (tick i n : ℕ) (w : WorldState (List ℕ)) → Reached tick n w.crew → Reached tick n (world_step octets i w).crew
-step_reached tick i n w h = by (slice_get w.crew i) refl
+step_reached tick i n w h = (elim (slice_get w.crew i) as (λ o. slice_get w.crew i ≡ o → Reached tick n (stepped octets i o w).crew)
+    [ None ↦ λ there. h | Some c ↦ λ there. so (member_asks octets c.member) c there ]) refl
   where
     so : (o : Option Ask) (c : ActorCrew (List ℕ)) → slice_get w.crew i ≡ Some c → Reached tick n (asked octets i o c w).crew
     so None c there = h
     so (Some ask) c there =
         one_reached tick i n w.crew c (crew_after octets ask w.books c) there (takes_later tick (answer_to w.books ask) c.member) h
 
-    by : (o : Option (ActorCrew (List ℕ))) → slice_get w.crew i ≡ o → Reached tick n (stepped octets i o w).crew
-    by None there = h
-    by (Some c) there = so (member_asks octets c.member) c there
-
 round_reached : (tick n : ℕ) (w : WorldState (List ℕ)) → AreNumbered w.crew → Reached tick n w.crew → Reached tick n (end_round w).crew
-round_reached tick n w numbered h = by (all_over w.crew)
+round_reached tick n w numbered h = elim (all_over w.crew) as (λ b. Reached tick n (if b then record w { crew = map (begins (greatest 0 w.crew)) w.crew } else w).crew)
+    [ true ↦ next | false ↦ h ]
   where
     next : Reached tick n (map (begins (greatest 0 w.crew)) w.crew)
     next d is =
         let g = map_got (begins (greatest 0 w.crew)) w.crew n d is in
         subst (λ (y : ActorCrew (List ℕ)). NotBefore tick y.member) (sym g.1.1)
         (next_later tick n g.0.member (h g.0 g.1.0) (numbered n g.0 g.1.0))
-
-    by : (b : Bool) → Reached tick n (if b then record w { crew = map (begins (greatest 0 w.crew)) w.crew } else w).crew
-    by true = next
-    by false = h
 
 -- ---- who sends
 
@@ -87,7 +76,8 @@ record Sends (i : ℕ) (w : WorldState (List ℕ)) (s : Sent) : Type 0 where
   number : s.path ≡ path_of path
 
 who_sends : (i : ℕ) (w : WorldState (List ℕ)) (s : Sent) → sent_next i w ≡ Some s → Sends i w s
-who_sends i w s is = by (slice_get w.crew i) refl is
+who_sends i w s is = (elim (slice_get w.crew i) as (λ o. slice_get w.crew i ≡ o → option_and_then sent_by (crew_path o) ≡ Some s → Sends i w s)
+    [ None ↦ λ there is. cc | Some c ↦ λ there is. so c.member c there refl is ]) refl is
   where
     at_tick : (p : PathState (List ℕ)) (c : ActorCrew (List ℕ)) → slice_get w.crew i ≡ Some c → c.member ≡ Path p
         → (o : Option Departing) → option_map (sent_as p) o ≡ Some s → Sends i w s
@@ -106,10 +96,6 @@ who_sends i w s is = by (slice_get w.crew i) refl is
         → option_and_then sent_by (member_path m) ≡ Some s → Sends i w s
     so (App a) c there member is = cc
     so (Path p) c there member is = at_tick p c there member (departing p) is
-
-    by : (o : Option (ActorCrew (List ℕ))) → slice_get w.crew i ≡ o → option_and_then sent_by (crew_path o) ≡ Some s → Sends i w s
-    by None there is = cc
-    by (Some c) there is = so c.member c there refl is
 
 -- its actor stands two behind its number
 sender_at : (i : ℕ) (w : WorldState (List ℕ)) (s : Sent) → AreNumbered w.crew → Sends i w s → i ≡ suc (suc s.path)

@@ -7,8 +7,7 @@ use Rattle.std.proofs.lemmas.List.Elements.{filter-append}
 use Rattle.std.proofs.lemmas.Option.{same_Some}
 use Rattle.std.specs.Option.{option_to_list}
 use Rattle.actor_desk.specs.declared.ask.Ask.{Ask}
-use Rattle.actor_desk.specs.declared.ask.Ask.TheVariants as asks
-use Rattle.actor_desk.specs.declared.ask.LocalStep.TheVariants as steps
+use Rattle.actor_desk.specs.declared.ask.LocalStep.{LocalStep}
 use Rattle.actor_desk.specs.declared.ask.Note.{Note}
 use Rattle.path_core.proofs.SegmentsTold.{each_segment_is_told, outgoing_told}
 use Rattle.path_core.specs.declared.looking.Departing.{Departing}
@@ -19,7 +18,6 @@ use Rattle.path_core.specs.Steps.{asks_of}
 use Rattle.stream_apps.specs.Apps.{AppState}
 use Rattle.stream_apps.specs.AppSteps.{app_ask, app_asks_first, app_asks_of}
 use Rattle.stream_apps.specs.declared.duty.AppDuty.{AppDuty}
-use Rattle.stream_apps.specs.declared.duty.AppDuty.TheVariants as app_duties
 use Rattle.world_core.specs.Looking.{crew_path, member_path}
 use Rattle.world_laws.specs.Actors.{Actor, ActorCrew, member_asks}
 use Rattle.world_laws.specs.declared.member.Member.TheVariants.{App, Path}
@@ -69,18 +67,15 @@ other_adds i n ask c w other =
 quiet_adds : (i n : ℕ) (o : Option Ask) (c : ActorCrew (List ℕ)) (w : WorldState (List ℕ)) → slice_get w.crew i ≡ Some c
     → IfSome o (λ ask. line_in ask ≡ None) → Adds n [] w (asked octets i o c w)
 quiet_adds i n None c w there quiet = sym (append-nil (lines_in (notes_at n w.crew)))
-quiet_adds i n (Some ask) c w there quiet = by (cases_eq i n)
-  where
-    by : (i ≡ n) ⊎ (i ≡ n → ⊥) → Adds n [] w (asked octets i (Some ask) c w)
-    by (inl same) =
-        subst (λ (m : ℕ). Adds m [] w (asked octets i (Some ask) c w)) same
-        (same_adds i ask c w there ∙ ap (λ (o : Option SentLine). lines_in (notes_at i w.crew) ++ option_to_list o) quiet)
-    by (inr other) = other_adds i n ask c w other
+quiet_adds i n (Some ask) c w there quiet = elim (cases_eq i n) [
+  | inl same ↦ subst (λ (m : ℕ). Adds m [] w (asked octets i (Some ask) c w)) same (same_adds i ask c w there ∙ ap (λ (o : Option SentLine). lines_in (notes_at i w.crew) ++ option_to_list o) quiet)
+  | inr other ↦ other_adds i n ask c w other
+]
 
 -- ---- who tells none
 
 quiet_ask : (ask : Ask) → tells_a_segment (Some ask) ≡ false → line_in ask ≡ None
-quiet_ask (asks.Local (steps.Sent from number payload checksum)) none = absurd (true≢false none)
+quiet_ask (Ask.Local (LocalStep.Sent from number payload checksum)) none = absurd (true≢false none)
 quiet_ask _ none = refl
 
 quiet : (o : Option Ask) → tells_a_segment o ≡ false → IfSome o (λ ask. line_in ask ≡ None)
@@ -88,13 +83,8 @@ quiet None none = tt
 quiet (Some ask) none = quiet_ask ask none
 
 app_quiet : (d : AppDuty) (a : AppState) → line_in (app_ask d a) ≡ None
-app_quiet app_duties.FastClose a = refl
-app_quiet app_duties.AbortSend a = refl
-app_quiet app_duties.AbortReceive a = refl
-app_quiet app_duties.Write a = refl
-app_quiet app_duties.Close a = refl
-app_quiet app_duties.Read a = refl
-app_quiet app_duties.End a = refl
+app_quiet AppDuty.FastClose a = refl
+app_quiet _ a = refl
 
 apps_quiet : (ds : List AppDuty) (a : AppState) → IfSome (app_asks_first ds a) (λ ask. line_in ask ≡ None)
 apps_quiet [] a = tt
@@ -141,7 +131,9 @@ told_by p = outgoing_told {E = Unit {0}} p (Ok (departing p)) refl
 
 step_adds : (i path : ℕ) (w : WorldState (List ℕ)) → AreNumbered w.crew
     → Adds (suc (suc path)) (map line_of (on_path path (option_to_list (sent_next i w)))) w (world_step octets i w)
-step_adds i path w h = by (slice_get w.crew i) refl
+step_adds i path w h =
+    (elim (slice_get w.crew i) as (λ o. slice_get w.crew i ≡ o → Adds (suc (suc path)) (map line_of (on_path path (option_to_list (option_and_then sent_by (crew_path o))))) w (stepped octets i o w))
+    [ None ↦ λ there. sym (append-nil (lines_in (notes_at (suc (suc path)) w.crew))) | Some c ↦ λ there. so c.member c there (h i c there) ]) refl
   where
     so : (m : Actor (List ℕ)) (c : ActorCrew (List ℕ)) → slice_get w.crew i ≡ Some c → StandsAt i m
         → Adds (suc (suc path)) (map line_of (on_path path (option_to_list (option_and_then sent_by (member_path m))))) w
@@ -150,22 +142,14 @@ step_adds i path w h = by (slice_get w.crew i) refl
     so (Path p) c there stands =
         path_adds i path (first_sends p.agenda p) p c w there stands.0 (each_segment_is_told octets p) (told_by p)
 
-    by : (o : Option (ActorCrew (List ℕ))) → slice_get w.crew i ≡ o
-        → Adds (suc (suc path)) (map line_of (on_path path (option_to_list (option_and_then sent_by (crew_path o))))) w (stepped octets i o w)
-    by None there = sym (append-nil (lines_in (notes_at (suc (suc path)) w.crew)))
-    by (Some c) there = so c.member c there (h i c there)
-
 notes_begun : (stamp : ℕ) (crew : List (ActorCrew (List ℕ))) (n : ℕ) → notes_at n (map (begins stamp) crew) ≡ notes_at n crew
 notes_begun stamp [] n = refl
 notes_begun stamp (c ∷ crew) zero = refl
 notes_begun stamp (c ∷ crew) (suc n) = notes_begun stamp crew n
 
 round_adds : (n : ℕ) (w : WorldState (List ℕ)) → Adds n [] w (end_round w)
-round_adds n w = by (all_over w.crew)
-  where
-    by : (b : Bool) → Adds n [] w (if b then record w { crew = map (begins (greatest 0 w.crew)) w.crew } else w)
-    by true = ap lines_in (notes_begun (greatest 0 w.crew) w.crew n) ∙ sym (append-nil (lines_in (notes_at n w.crew)))
-    by false = sym (append-nil (lines_in (notes_at n w.crew)))
+round_adds n w = elim (all_over w.crew) as (λ b. Adds n [] w (if b then record w { crew = map (begins (greatest 0 w.crew)) w.crew } else w))
+    [ true ↦ ap lines_in (notes_begun (greatest 0 w.crew) w.crew n) ∙ sym (append-nil (lines_in (notes_at n w.crew))) | false ↦ sym (append-nil (lines_in (notes_at n w.crew))) ]
 
 turn_adds : (t : Turn) (path : ℕ) (w : WorldState (List ℕ)) → AreNumbered w.crew
     → Adds (suc (suc path)) (map line_of (on_path path (sent_at t w))) w (after_turn octets t w)

@@ -40,11 +40,8 @@ written_long order_option = refl
 written_long number_option = refl
 
 pub no_choice : (word : Word) → looks_long word ≡ false → choice_of word ≡ None
-no_choice word e = go (choice_of word) refl
-  where
-    go : (o : Option Choice) → choice_of word ≡ o → o ≡ None
-    go None is = refl
-    go (Some choice) is = absurd (true≢false (sym (written_long choice) ∙ ap looks_long (choice_written word choice is) ∙ e))
+no_choice word e = (elim (choice_of word) as (λ o. choice_of word ≡ o → o ≡ None)
+    [ None ↦ λ is. refl | Some choice ↦ λ is. absurd (true≢false (sym (written_long choice) ∙ ap looks_long (choice_written word choice is) ∙ e)) ]) refl
 
 pub looks-take : (n : ℕ) (word : Word) → looks_long word ≡ false → looks_long (take n word) ≡ false
 looks-take zero word e = refl
@@ -66,11 +63,10 @@ pub record IsPlain (word : Word) : Type 0 where
 
 pub is_plain : (word : Word) → is_dashed word ≡ false → IsPlain word
 is_plain [] e = record { ending = refl; long = refl; short = refl; choice = no_choice [] refl; joined = no_choice_joined [] refl; dashed = refl }
-is_plain (x ∷ []) e = go (x == 45) refl
-  where
-    go : (b : Bool) → (x == 45) ≡ b → IsPlain (x ∷ [])
-    go true h = record { ending = no_several (x == 45); long = rw h refl; short = rw h refl; choice = no_choice (x ∷ []) refl; joined = no_choice_joined (x ∷ []) refl; dashed = refl }
-    go false h = record { ending = no_several (x == 45); long = rw h refl; short = rw h refl; choice = no_choice (x ∷ []) refl; joined = no_choice_joined (x ∷ []) refl; dashed = refl }
+is_plain (x ∷ []) e = (elim (x == 45) as (λ b. (x == 45) ≡ b → IsPlain (x ∷ [])) [
+  | true ↦ λ h. record { ending = no_several (x == 45); long = rw h refl; short = rw h refl; choice = no_choice (x ∷ []) refl; joined = no_choice_joined (x ∷ []) refl; dashed = refl }
+  | false ↦ λ h. record { ending = no_several (x == 45); long = rw h refl; short = rw h refl; choice = no_choice (x ∷ []) refl; joined = no_choice_joined (x ∷ []) refl; dashed = refl }
+]) refl
 is_plain (x ∷ y ∷ rest) e =
     let alone : looks_long (x ∷ y ∷ rest) ≡ false = rw e refl in
     record { ending = rw e refl; long = rw e refl; short = rw e refl; choice = no_choice (x ∷ y ∷ rest) alone; joined = no_choice_joined (x ∷ y ∷ rest) alone; dashed = e }
@@ -80,19 +76,12 @@ pub by_look : (P : Word → Type 0) → P (45 ∷ 45 ∷ []) → ((m : ℕ) (ms 
     → ((word : Word) → is_dashed word ≡ false → P word) → (word : Word) → P word
 by_look P a b d e [] = e [] refl
 by_look P a b d e (x ∷ []) = e (x ∷ []) refl
-by_look P a b d e (x ∷ y ∷ rest) = first (x == 45) refl
+by_look P a b d e (x ∷ y ∷ rest) = (elim (x == 45) as (λ t. (x == 45) ≡ t → P (x ∷ y ∷ rest))
+    [ true ↦ λ h. subst (λ z. P (z ∷ y ∷ rest)) (sym (eqb-true x 45 h)) (second (y == 45) refl) | false ↦ λ h. e (x ∷ y ∷ rest) h ]) refl
   where
-    behind : (n : Word) → P (45 ∷ 45 ∷ n)
-    behind [] = a
-    behind (m ∷ ms) = b m ms
-
     second : (t : Bool) → (y == 45) ≡ t → P (45 ∷ y ∷ rest)
-    second true h = subst (λ z. P (45 ∷ z ∷ rest)) (sym (eqb-true y 45 h)) (behind rest)
+    second true h = subst (λ z. P (45 ∷ z ∷ rest)) (sym (eqb-true y 45 h)) (elim rest as (λ n. P (45 ∷ 45 ∷ n)) [ [] ↦ a | m ∷ ms ↦ b m ms ])
     second false h = d y rest h
-
-    first : (t : Bool) → (x == 45) ≡ t → P (x ∷ y ∷ rest)
-    first true h = subst (λ z. P (z ∷ y ∷ rest)) (sym (eqb-true x 45 h)) (second (y == 45) refl)
-    first false h = e (x ∷ y ∷ rest) h
 
 -- a text that begins with `-` has a character behind it
 pub has_character : (y : ℕ) (rest : Word) → IsUtf8 (45 ∷ y ∷ rest) → (x : ℕ) × (slice_get (chars (y ∷ rest)) 0 ≡ Some x)
@@ -147,9 +136,5 @@ option_first choice v (Some parts) position rows = refl
 pub name_first : (v : Text) (o : Option (List Part)) (position : ℕ) (rows : List Row)
     → place_name (name_id position) v rows (λ r. o >>= place (suc position) r) ≡ (with_part (Some (name v)) o >>= place position rows)
 unfolding place
-name_first v None position rows = go (name_id position)
-  where
-    go : (id : Option Text) → place_name id v rows (λ r. None) ≡ None
-    go None = refl
-    go (Some id) = then_none (new id v rows)
+name_first v None position rows = elim (name_id position) as (λ id. place_name id v rows (λ r. None) ≡ None) [ None ↦ refl | Some id ↦ then_none (new id v rows) ]
 name_first v (Some parts) position rows = refl

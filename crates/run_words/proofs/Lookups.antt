@@ -29,8 +29,7 @@ first_option choice position (option other v ∷ parts) = go (bytes_eq (label ot
   where
     go : (b : Bool) → bytes_eq (label other) (label choice) ≡ b → first_of (label choice) (rows_for position parts) ≡ slice_get (values_of choice parts) 0
         → first_of (label choice) (row (label other) v ∷ rows_for position parts) ≡ slice_get (values_of choice (option other v ∷ parts)) 0
-    go true e later = rw e refl
-    go false e later = rw e later
+    go = elim [ true ↦ λ e later. rw e refl | false ↦ λ e later. rw e later ]
 first_option choice position (name v ∷ parts) =
     let apart = id_differs position choice in
     rw apart (first_option choice (suc position) parts)
@@ -50,8 +49,7 @@ first_name q position (name v ∷ parts) = go (bytes_eq (id_at position) (id_at 
   where
     go : (b : Bool) → bytes_eq (id_at position) (id_at q) ≡ b → first_of (id_at q) (rows_for (suc position) parts) ≡ first_of (id_at q) (name_rows (suc position) (names_of parts))
         → first_of (id_at q) (row (id_at position) v ∷ rows_for (suc position) parts) ≡ first_of (id_at q) (row (id_at position) v ∷ name_rows (suc position) (names_of parts))
-    go true e later = rw e refl
-    go false e later = rw e later
+    go = elim [ true ↦ λ e later. rw e refl | false ↦ λ e later. rw e later ]
 
 then_all_none : {A B : Type 0} (o : Option A) (f : A → Option B) → ((x : A) → f x ≡ None) → (o >>= f) ≡ None
 then_all_none None f h = refl
@@ -155,29 +153,20 @@ line_places parts line e =
 
 -- where the parts have no place, the line has no form
 line_lost : (parts : List Part) → place 1 [] parts ≡ None → line_of_parts parts ≡ None
-line_lost parts e = go (line_of_parts parts) refl
-  where
-    go : (o : Option Line) → line_of_parts parts ≡ o → o ≡ None
-    go None h = refl
-    go (Some line) h = let p = line_places parts line h in absurd (some≢none p.0 (sym e ∙ p.1))
+line_lost parts e = (elim (line_of_parts parts) as (λ o. line_of_parts parts ≡ o → o ≡ None)
+    [ None ↦ λ h. refl | Some line ↦ λ h. let p = line_places parts line h in absurd (some≢none p.0 (sym e ∙ p.1)) ]) refl
 
 -- ---- what `clap` answers
 
 pub words_taken : (words : List Text) (rows : List Row) → found_in words ≡ Some rows → line_of words ≡ line_by (λ id. first_of id rows)
 unfolding line_of
-words_taken words rows e = go (parts_of None words) e
-  where
-    go : (o : Option (List Part)) → (o >>= place 1 []) ≡ Some rows → (o >>= line_of_parts) ≡ line_by (λ id. first_of id rows)
-    go None h = absurd (some≢none rows h)
-    go (Some parts) h = line_found parts rows h
+words_taken words rows e = (elim (parts_of None words) as (λ o. (o >>= place 1 []) ≡ Some rows → (o >>= line_of_parts) ≡ line_by (λ id. first_of id rows))
+    [ None ↦ λ h. absurd (some≢none rows h) | Some parts ↦ λ h. line_found parts rows h ]) e
 
 pub words_refused : (words : List Text) → found_in words ≡ None → line_of words ≡ None
 unfolding line_of
-words_refused words e = go (parts_of None words) e
-  where
-    go : (o : Option (List Part)) → (o >>= place 1 []) ≡ None → (o >>= line_of_parts) ≡ None
-    go None h = refl
-    go (Some parts) h = line_lost parts h
+words_refused words e = (elim (parts_of None words) as (λ o. (o >>= place 1 []) ≡ None → (o >>= line_of_parts) ≡ None)
+    [ None ↦ λ h. refl | Some parts ↦ λ h. line_lost parts h ]) e
 
 abbrev any_kind : Kinds → Bool
 any_kind [] = false

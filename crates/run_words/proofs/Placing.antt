@@ -34,8 +34,7 @@ ids_are_no_labels (suc (suc (suc (suc (suc zero))))) = refl
 ids_are_no_labels (suc (suc (suc (suc (suc (suc n)))))) = refl
 
 is_false : (b : Bool) → not b ≡ true → b ≡ false
-is_false true e = absurd (true≢false (sym e))
-is_false false e = refl
+is_false = elim [ true ↦ λ e. absurd (true≢false (sym e)) | false ↦ λ e. refl ]
 
 pub id_differs : (position : ℕ) (choice : Choice) → bytes_eq (id_at position) (label choice) ≡ false
 id_differs position mode_option = is_false _ (and_parts (not (bytes_eq (id_at position) (codes "mode"))) _ (ids_are_no_labels position)).0
@@ -55,11 +54,8 @@ same_bytes : (xs ys : Text) → bytes_eq xs ys ≡ true → bytes_eq ys xs ≡ t
 same_bytes xs ys e = (bytes_eq-Decides ys xs).1 (sym ((bytes_eq-Decides xs ys).0 e))
 
 other_way : (xs ys : Text) → bytes_eq xs ys ≡ false → bytes_eq ys xs ≡ false
-other_way xs ys e = go (bytes_eq ys xs) refl
-  where
-    go : (b : Bool) → bytes_eq ys xs ≡ b → b ≡ false
-    go true h = absurd (true≢false (sym (same_bytes ys xs h) ∙ e))
-    go false h = refl
+other_way xs ys e = (elim (bytes_eq ys xs) as (λ b. bytes_eq ys xs ≡ b → b ≡ false)
+    [ true ↦ λ h. absurd (true≢false (sym (same_bytes ys xs h) ∙ e)) | false ↦ λ h. refl ]) refl
 
 pub label_differs : (choice : Choice) (position : ℕ) → bytes_eq (label choice) (id_at position) ≡ false
 label_differs choice position = other_way (id_at position) (label choice) (id_differs position choice)
@@ -80,7 +76,8 @@ position_again (suc (suc (suc (suc (suc (suc n)))))) id e = absurd (some≢none 
 
 -- another position has another id
 pub ids_differ : (p q : ℕ) (id : Text) → name_id p ≡ Some id → p < q → bytes_eq (id_at p) (id_at q) ≡ false
-ids_differ p q id known lt = go (bytes_eq (id_at p) (id_at q)) refl
+ids_differ p q id known lt = (elim (bytes_eq (id_at p) (id_at q)) as (λ b. bytes_eq (id_at p) (id_at q) ≡ b → b ≡ false)
+    [ true ↦ λ e. absurd (other (name_id q) refl ((bytes_eq-Decides (id_at p) (id_at q)).0 e)) | false ↦ λ e. refl ]) refl
   where
     other : (o : Option Text) → name_id q ≡ o → id_at p ≡ id_at q → ⊥
     other (Some j) e same =
@@ -91,28 +88,20 @@ ids_differ p q id known lt = go (bytes_eq (id_at p) (id_at q)) refl
         let first : p ≡ 0 = sym (position_again p id known) ∙ ap position_of same ∙ nowhere in
         some≢none id (sym (ap name_id first) ∙ known)
 
-    go : (b : Bool) → bytes_eq (id_at p) (id_at q) ≡ b → b ≡ false
-    go true e = absurd (other (name_id q) refl ((bytes_eq-Decides (id_at p) (id_at q)).0 e))
-    go false e = refl
-
 -- ---- a row more
 
 pub has_row-append : (id : Text) (rows : List Row) (r : Row) → has_row id (rows ++ r ∷ []) ≡ (has_row id rows || bytes_eq r.id id)
 has_row-append id [] r = or_nothing (bytes_eq r.id id)
-has_row-append id (x ∷ rows) r = go (bytes_eq x.id id) (has_row-append id rows r)
-  where
-    go : (b : Bool) → has_row id (rows ++ r ∷ []) ≡ (has_row id rows || bytes_eq r.id id) → (b || has_row id (rows ++ r ∷ [])) ≡ (b || has_row id rows || bytes_eq r.id id)
-    go true e = refl
-    go false e = e
+has_row-append id (x ∷ rows) r =
+    (elim (bytes_eq x.id id) as (λ b. has_row id (rows ++ r ∷ []) ≡ (has_row id rows || bytes_eq r.id id) → (b || has_row id (rows ++ r ∷ [])) ≡ (b || has_row id rows || bytes_eq r.id id))
+    [ true ↦ λ e. refl | false ↦ λ e. e ]) (has_row-append id rows r)
 
 -- what a place that was found tells
 pub new_found : (id v : Text) (rows : List Row) (f : List Row → Option (List Row)) (found : List Row) → (new id v rows >>= f) ≡ Some found
     → (has_row id rows ≡ false) × (f (rows ++ row id v ∷ []) ≡ Some found)
-new_found id v rows f found = go (has_row id rows) refl
-  where
-    go : (b : Bool) → has_row id rows ≡ b → (cond b None (Some (rows ++ row id v ∷ [])) >>= f) ≡ Some found → (has_row id rows ≡ false) × (f (rows ++ row id v ∷ []) ≡ Some found)
-    go true e h = absurd (some≢none found h)
-    go false e h = (e, h)
+new_found id v rows f found =
+    (elim (has_row id rows) as (λ b. has_row id rows ≡ b → (cond b None (Some (rows ++ row id v ∷ [])) >>= f) ≡ Some found → (has_row id rows ≡ false) × (f (rows ++ row id v ∷ []) ≡ Some found))
+    [ true ↦ λ e h. absurd (some≢none found h) | false ↦ λ e h. (e, h) ]) refl
 
 pub name_found : (o : Option Text) (v : Text) (rows : List Row) (f : List Row → Option (List Row)) (found : List Row) → place_name o v rows f ≡ Some found
     → (id : Text) × ((o ≡ Some id) × (has_row id rows ≡ false) × (f (rows ++ row id v ∷ []) ≡ Some found))
@@ -238,20 +227,14 @@ module _ (other : Choice) (v : Word) (parts : List Part) (rows : List Row) (once
       one_alone v (values_of choice parts) p.0 (ap at_most_once (sym (values_same other choice v parts same)) ∙ p.1)
 
   pub first_time : has_row (label other) rows ≡ false
-  first_time = go (has_row (label other) rows) refl
-    where
-      go : (b : Bool) → has_row (label other) rows ≡ b → b ≡ false
-      go true e =
-          let same = (bytes_eq-Decides (label other) (label other)).1 refl in
-          absurd (cons_not_nil v (values_of other parts) (sym (values_same other other v parts same) ∙ no_more other e))
-      go false e = refl
+  first_time = (elim (has_row (label other) rows) as (λ b. has_row (label other) rows ≡ b → b ≡ false) [
+    | true ↦ λ e. let same = (bytes_eq-Decides (label other) (label other)).1 refl in absurd (cons_not_nil v (values_of other parts) (sym (values_same other other v parts same) ∙ no_more other e))
+    | false ↦ λ e. refl
+  ]) refl
 
   pub once_behind : Once parts
-  once_behind choice = go (bytes_eq (label other) (label choice)) refl
-    where
-      go : (b : Bool) → bytes_eq (label other) (label choice) ≡ b → (o : Option Word) × (at_most_once (values_of choice parts) ≡ Some o)
-      go true same = (None, ap at_most_once (alone choice same))
-      go false same = let p = once choice in (p.0, ap at_most_once (sym (values_other other choice v parts same)) ∙ p.1)
+  once_behind choice = (elim (bytes_eq (label other) (label choice)) as (λ b. bytes_eq (label other) (label choice) ≡ b → (o : Option Word) × (at_most_once (values_of choice parts) ≡ Some o))
+      [ true ↦ λ same. (None, ap at_most_once (alone choice same)) | false ↦ λ same. let p = once choice in (p.0, ap at_most_once (sym (values_other other choice v parts same)) ∙ p.1) ]) refl
 
   pub no_more_behind : NoMore with_row parts
   no_more_behind choice there = go (bytes_eq (label other) (label choice)) refl

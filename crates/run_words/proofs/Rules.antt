@@ -11,7 +11,7 @@ use Rattle.clap.specs.Lexer.{usize_max}
 use Rattle.clap.specs.Walk.{arg_by_id, arg_by_index, arg_by_long}
 use Rattle.clap.specs.Simple.{Shape, built}
 use Rattle.clap.specs.declared.builder.action.ArgAction.TheVariants.{Set}
-use Rattle.clap.specs.declared.builder.value_parser.ValueParser.TheVariants as vp
+use Rattle.clap.specs.declared.builder.value_parser.ValueParser.{ValueParser}
 use Rattle.run_words.specs.Parts.{Choice, mode_option, rounds_option, order_option, number_option, label, choice_of}
 use Rattle.run_words.specs.Form.{line_form}
 
@@ -31,7 +31,7 @@ plain id long index = record {
   defaults = [];
   missing = [];
   trailing_var_arg = false;
-  parser = Some vp.String;
+  parser = Some ValueParser.String;
   ignore_case = false;
   required = false;
   is_simple = true;

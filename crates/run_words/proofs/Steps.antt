@@ -6,7 +6,7 @@ use Rattle.std.specs.Prelude.{option_map}
 use Rattle.clap.specs.Words.{Row, Text}
 use Rattle.clap.specs.Lexer.{has_byte, long_of, short_of}
 use Rattle.clap.specs.Kinds.{Kinds, or_else}
-use Rattle.clap.specs.Walk.{Held, Walk, Waiting, idle, option as waits_for, arg_by_id, arg_by_index, arg_by_long, arg_by_short, has_row, settled, settled_rows, used, without, with_values, at_row, walked, walk, nothing_held, finished, to_positional, value}
+use Rattle.clap.specs.Walk.{Walk, Waiting, idle, option as waits_for, arg_by_index, arg_by_long, settled, settled_rows, used, walked, to_positional, value}
 use Rattle.clap.specs.Faults.{settle_fault, turn_fault, walk_fault, step_fault, use_fault}
 use Rattle.clap.specs.declared.error.kind.ErrorKind.TheVariants.{UnknownArgument, InvalidValue}
 use Rattle.run_words.specs.Parts.{Word, Choice, mode_option, rounds_option, order_option, number_option, label, written, choice_of, option, name, is_dashed, is_equals, with_part, parts_of}
@@ -94,11 +94,8 @@ trails (word ∷ rest) pending reading settles waiting rows position =
 
 -- a cut that makes an option of a word that is none is at a `=`
 pub has_equals : (m : ℕ) (ms : Word) (choice : Choice) → choice_of (45 ∷ 45 ∷ m ∷ ms) ≡ None → choice_of (45 ∷ 45 ∷ before_first is_equals (m ∷ ms)) ≡ Some choice → has_byte 61 (m ∷ ms) ≡ true
-has_equals m ms choice whole cut = go (has_byte 61 (m ∷ ms)) refl
-  where
-    go : (b : Bool) → has_byte 61 (m ∷ ms) ≡ b → b ≡ true
-    go true e = refl
-    go false e = absurd (some≢none choice (sym whole ∙ ap (λ n. choice_of (45 ∷ 45 ∷ n)) (sym (uncut (m ∷ ms) e)) ∙ cut))
+has_equals m ms choice whole cut = (elim (has_byte 61 (m ∷ ms)) as (λ b. has_byte 61 (m ∷ ms) ≡ b → b ≡ true)
+    [ true ↦ λ e. refl | false ↦ λ e. absurd (some≢none choice (sym whole ∙ ap (λ n. choice_of (45 ∷ 45 ∷ n)) (sym (uncut (m ∷ ms) e)) ∙ cut)) ]) refl
 
 pub record Reads (words : List Text) : Type 0 where
   pub free : (pending : Option (Text × List Text)) (reading : List Row → Option (List Row)) → Settles pending reading → (rows : List Row) (position : ℕ)

@@ -5,7 +5,7 @@ use Rattle.clap.specs.Words.{Row, Text}
 use Rattle.clap.specs.Kinds.{Kinds, or_else}
 use Rattle.clap.specs.Walk.{Held, arg_by_id, has_row, settled_rows, used, without, with_values}
 use Rattle.clap.specs.Faults.{settle_fault, use_fault}
-use Rattle.clap.specs.declared.builder.value_parser.ValueParser.TheVariants as vp
+use Rattle.clap.specs.declared.builder.value_parser.ValueParser.{ValueParser}
 use Rattle.clap.specs.declared.builder.value_parser.Reading.{Reading}
 use Rattle.clap.specs.declared.parser.matches.ValueSource.TheVariants.{CommandLine}
 use Rattle.clap.specs.Values.{reading_of}
@@ -16,7 +16,7 @@ use Rattle.run_words.proofs.Rules.{by_choice, form_rules, name_id, plain}
 -- ---- one use of an option or a name
 
 abbrev pub row : Text → Text → Row
-row id v = record { id = id; values = v ∷ []; count = None; source = Some CommandLine; reading = reading_of vp.String }
+row id v = record { id = id; values = v ∷ []; count = None; source = Some CommandLine; reading = reading_of ValueParser.String }
 
 -- the rows with one more, where the id has none yet
 abbrev pub new : Text → Text → List Row → Option (List Row)
@@ -57,24 +57,19 @@ then_some None = refl
 then_some (Some x) = refl
 
 pub or_else_assoc : (a b d : Kinds) → or_else (or_else a b) d ≡ or_else a (or_else b d)
-or_else_assoc [] b d = refl
-or_else_assoc (k ∷ ks) b d = refl
+or_else_assoc = elim [ [] ↦ λ b d. refl | k ∷ ks ↦ λ b d. refl ]
 
 pub or_else_nil : (a : Kinds) → or_else a [] ≡ a
-or_else_nil [] = refl
-or_else_nil (k ∷ ks) = refl
+or_else_nil = elim [ [] ↦ refl | k ∷ ks ↦ refl ]
 
 pub or_nothing : (b : Bool) → (b || false) ≡ b
-or_nothing true = refl
-or_nothing false = refl
+or_nothing = elim [ true ↦ refl | false ↦ refl ]
 
 pub no_several : (b : Bool) → (b && false) ≡ false
-no_several true = refl
-no_several false = refl
+no_several = elim [ true ↦ refl | false ↦ refl ]
 
 pub or_false : (a b : Bool) → (a || b) ≡ false → (a ≡ false) × (b ≡ false)
-or_false true b e = absurd (true≢false e)
-or_false false b e = (refl, e)
+or_false = elim [ true ↦ λ b e. absurd (true≢false e) | false ↦ λ b e. (refl, e) ]
 
 pub without_none : (id : Text) (rows : List Row) → has_row id rows ≡ false → without id rows ≡ rows
 without_none id [] e = refl
@@ -93,11 +88,10 @@ with_none id how vs (r ∷ rs) e =
 
 -- a use of a rule with one value
 pub use_agrees : (id : Text) (l : Option Text) (i : Option ℕ) (v : Text) (rows : List Row) → Agrees (use_fault false (plain id l i) (v ∷ []) rows) (used (plain id l i) (v ∷ []) rows) (new id v rows)
-use_agrees id l i v rows = go (has_row id rows) refl
-  where
-    go : (b : Bool) → has_row id rows ≡ b → Agrees (use_fault false (plain id l i) (v ∷ []) rows) (used (plain id l i) (v ∷ []) rows) (new id v rows)
-    go true e = rw e tt
-    go false e = rw e (ap (λ x. with_values id (reading_of vp.String) CommandLine (v ∷ []) x) (without_none id rows e) ∙ with_none id (reading_of vp.String) (v ∷ []) rows e)
+use_agrees id l i v rows = (elim (has_row id rows) as (λ b. has_row id rows ≡ b → Agrees (use_fault false (plain id l i) (v ∷ []) rows) (used (plain id l i) (v ∷ []) rows) (new id v rows)) [
+  | true ↦ λ e. rw e tt
+  | false ↦ λ e. rw e (ap (λ x. with_values id (reading_of ValueParser.String) CommandLine (v ∷ []) x) (without_none id rows e) ∙ with_none id (reading_of ValueParser.String) (v ∷ []) rows e)
+]) refl
 
 -- ---- what is pending
 

@@ -16,7 +16,7 @@ use Rattle.std.specs.Str.{IsUtf8}
 use Rattle.std.proofs.lemmas.Str.{IsUtf8-string_bytes}
 use Rattle.clap.specs.Words.{Rule, Row, Text}
 use Rattle.clap.specs.Kinds.{or_else}
-use Rattle.clap.specs.Walk.{idle, has_row, settled, with_default, nothing_held, option as waits_for, finished, walk}
+use Rattle.clap.specs.Walk.{idle, has_row, settled, with_default, nothing_held}
 use Rattle.clap.specs.Simple.{built, matches_of}
 use Rattle.clap.specs.Faults.{fault_of, settle_fault, walk_fault, defaults_fault, is_simple_and_free}
 use Rattle.clap.proofs.FaultLemmas.{leaf_fault}
@@ -55,23 +55,16 @@ reads (word ∷ rest) texts =
 -- ---- after the walk
 
 or_true : (b : Bool) → (b || true) ≡ true
-or_true true = refl
-or_true false = refl
+or_true = elim [ true ↦ refl | false ↦ refl ]
 
 no_default : (rows : List Row) (id : Text) (l : Option Text) (i : Option ℕ) (rest : List Rule) → defaults_fault rows (plain id l i ∷ rest) ≡ defaults_fault rows rest
 unfolding defaults_fault
-no_default rows id l i rest = go (has_row id rows) refl
-  where
-    go : (b : Bool) → has_row id rows ≡ b → defaults_fault rows (plain id l i ∷ rest) ≡ defaults_fault rows rest
-    go true e = rw e refl
-    go false e = rw e refl
+no_default rows id l i rest = (elim (has_row id rows) as (λ b. has_row id rows ≡ b → defaults_fault rows (plain id l i ∷ rest) ≡ defaults_fault rows rest)
+    [ true ↦ λ e. rw e refl | false ↦ λ e. rw e refl ]) refl
 
 keeps : (rows : List Row) (id : Text) (l : Option Text) (i : Option ℕ) → with_default rows (plain id l i) ≡ rows
-keeps rows id l i = go (has_row id rows) refl
-  where
-    go : (b : Bool) → has_row id rows ≡ b → with_default rows (plain id l i) ≡ rows
-    go true e = rw e refl
-    go false e = rw e refl
+keeps rows id l i = (elim (has_row id rows) as (λ b. has_row id rows ≡ b → with_default rows (plain id l i) ≡ rows)
+    [ true ↦ λ e. rw e refl | false ↦ λ e. rw e refl ]) refl
 
 -- rules without a default, as a list of what differs
 abbrev Ids : Type 0

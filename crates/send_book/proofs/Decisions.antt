@@ -1,5 +1,5 @@
 -- What is granted: a part of the marks, all of whose bytes the path may take.
-use Rattle.std.proofs.Common.{◌≡◌, refl, ◌∙◌, subst, ℕ, ◌+◌, ◌-◌, ◌<◌, ◌≤◌, Bool, true, false, cond, nat_lt, nat_le, if◌then◌else◌, List, length, drop, Option, Some, None, Result, Ok, Err, position, arith}
+use Rattle.std.proofs.Common.{◌≡◌, refl, ◌∙◌, subst, ℕ, ◌+◌, ◌-◌, ◌<◌, ◌≤◌, Bool, true, false, cond, nat_lt, nat_le, if◌then◌else◌, List, length, drop, Some, None, Result, Ok, Err, position, arith}
 use Rattle.std.proofs.lemmas.Bool.{ltb-true, leb-false}
 use Rattle.std.specs.List.{slice_get, prefix_len, position_or_len}
 use Rattle.std.proofs.lemmas.List.{length-drop}
@@ -78,19 +78,13 @@ span_from-MayTake path max b from span first e = owned (is_for path b.owner) fir
 pub decision-MayTake : (path max : ℕ) (standby : Bool) (b : Sending) (span : Span)
     → decision path max standby b ≡ Ok span → MayTake path max b span
 decision-MayTake path max standby b span e =
-    at (first_free path b) refl (passed_over standby Backup _ span (passed_over _ Ended _ span e))
-  where
-    at : (o : Option ℕ) → first_free path b ≡ o → span_at path max b o ≡ Ok span → MayTake path max b span
-    at None is e = cc
-    at (Some from) is e = span_from-MayTake path max b from span is e
+    (elim (first_free path b) as (λ o. first_free path b ≡ o → span_at path max b o ≡ Ok span → MayTake path max b span)
+    [ None ↦ λ is e. cc | Some from ↦ λ is e. span_from-MayTake path max b from span is e ]) refl (passed_over standby Backup _ span (passed_over _ Ended _ span e))
 
 -- a byte that is found is one of the written ones
 pub first_free-within : (path : ℕ) (b : Sending) (from : ℕ) → first_free path b ≡ Some from → from < length b.marks
-first_free-within path b from e = owned (is_for path b.owner) e
-  where
-    owned : (o : Bool) → (if o then position (is_free_for path) b.marks else None) ≡ Some from → from < length b.marks
-    owned true at = let where_is = found b.marks (is_free_for path) from at in omega (arith, where_is)
-    owned false at = cc
+first_free-within path b from e = (elim (is_for path b.owner) as (λ o. (if o then position (is_free_for path) b.marks else None) ≡ Some from → from < length b.marks)
+    [ true ↦ λ at. let where_is = found b.marks (is_free_for path) from at in omega (arith, where_is) | false ↦ λ at. cc ]) e
 
 pub run_len-within : (path max : ℕ) (b : Sending) (from : ℕ) → first_free path b ≡ Some from → from + run_len path max b from ≤ length b.marks
 run_len-within path max b from e =

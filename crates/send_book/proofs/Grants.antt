@@ -98,10 +98,8 @@ module _ (test : Option ByteMark → Bool) (stays : Stays test) (place : ℕ) wh
 
 -- acknowledged
 abbrev acked_there : Option ByteMark → Bool
-acked_there None = false
 acked_there (Some Acked) = true
-acked_there (Some (Held path tried)) = false
-acked_there (Some (Free tried)) = false
+acked_there _ = false
 
 acked_there-stays : Stays acked_there
 acked_there-stays = record {
@@ -120,10 +118,8 @@ acked_there-stays = record {
 }
 
 acked_there-Acked : (o : Option ByteMark) → acked_there o ≡ true → o ≡ Some Acked
-acked_there-Acked None h = cc
 acked_there-Acked (Some Acked) h = refl
-acked_there-Acked (Some (Held path tried)) h = cc
-acked_there-Acked (Some (Free tried)) h = cc
+acked_there-Acked _ h = cc
 
 pub acknowledged_stays : (calls : List SendCall) (b : Sending) (place : ℕ) → IsAckedAt place b → IsAckedAt place (after_calls calls b)
 acknowledged_stays calls b place acked =
@@ -224,10 +220,7 @@ module _ (path place : ℕ) where
   spent-not_granted (Grant asker max standby) b h =
       asked_by_another asker max b (decision asker max standby b) (asker == path) refl (decision-MayTake asker max standby b) h
   spent-not_granted (AckIn next window) b h = refl
-  spent-not_granted (Return other) b h = refl
-  spent-not_granted GoIdentity b h = refl
-  spent-not_granted (GoInfinite other) b h = refl
-  spent-not_granted Abort b h = refl
+  spent-not_granted _ b h = refl
 
   granted-spent : (call : SendCall) (b : Sending) → (is_asked_by path call && covers place (reply_to b call)) ≡ true
       → spent path (slice_get (after_call b call).marks place) ≡ true
@@ -236,10 +229,7 @@ module _ (path place : ℕ) where
   granted-spent (Grant asker max standby) b h =
       asked_by_itself asker max b (decision asker max standby b) (asker == path) refl (decision-MayTake asker max standby b) h
   granted-spent (AckIn next window) b h = cc
-  granted-spent (Return other) b h = cc
-  granted-spent GoIdentity b h = cc
-  granted-spent (GoInfinite other) b h = cc
-  granted-spent Abort b h = cc
+  granted-spent _ b h = cc
 
   never_again : (calls : List SendCall) (b : Sending) → spent path (slice_get b.marks place) ≡ true → times_granted path place calls b ≡ 0
   never_again [] b h = refl
@@ -293,10 +283,8 @@ nothing_granted (Write bytes) b h = not_granted-if (b.closed || b.aborted) _ _ r
 nothing_granted Close b h = not_granted-if b.aborted _ _ refl refl
 nothing_granted (Grant path max standby) b h = rw h refl
 nothing_granted (AckIn next window) b h = not_granted-if (is_future next b) _ _ refl refl
-nothing_granted (Return path) b h = refl
-nothing_granted GoIdentity b h = refl
 nothing_granted (GoInfinite path) b h = not_granted-if (is_gathered path b) _ _ refl refl
-nothing_granted Abort b h = refl
+nothing_granted _ b h = refl
 
 pub nothing_after_an_abort : (calls : List SendCall) (call : SendCall) (b : Sending) → b.aborted ≡ true
     → is_grant (reply_to (after_calls calls b) call) ≡ false

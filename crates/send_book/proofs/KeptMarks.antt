@@ -113,16 +113,13 @@ first_free-runs path kept runs are =
 
 first_in-after : (path : ℕ) (runs : List (Run ByteMark)) (from to : ℕ) → LieSideBySide from to runs → IfSome (first_in path runs) (λ place. from ≤ place)
 first_in-after path [] from to lie = tt
-first_in-after path (run ∷ runs) from to lie = by (is_free_for path run.mark) (first_in-after path runs run.to to lie.2)
+first_in-after path (run ∷ runs) from to lie =
+    (elim (is_free_for path run.mark) as (λ b. IfSome (first_in path runs) (λ place. run.to ≤ place) → IfSome (if b then Some run.from else first_in path runs) (λ place. from ≤ place))
+    [ true ↦ λ rest. omega (arith, lie.0) | false ↦ λ rest. later (first_in path runs) rest ]) (first_in-after path runs run.to to lie.2)
   where
     later : (o : Option ℕ) → IfSome o (λ place. run.to ≤ place) → IfSome o (λ place. from ≤ place)
     later None h = tt
     later (Some place) h = omega (arith, h, lie.1)
-
-    by : (b : Bool) → IfSome (first_in path runs) (λ place. run.to ≤ place)
-        → IfSome (if b then Some run.from else first_in path runs) (λ place. from ≤ place)
-    by true rest = omega (arith, lie.0)
-    by false rest = later (first_in path runs) rest
 
 pub first_free-after : (path : ℕ) (kept : Marks ByteMark) (runs : List (Run ByteMark)) → AreRunsOf kept runs
     → list_all (λ m. not (is_acked m)) kept.marks ≡ true

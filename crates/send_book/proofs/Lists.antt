@@ -49,11 +49,8 @@ module _ {X : Type 0} where
 
   pub prefix_len-le : (p : X → Bool) (xs : List X) → prefix_len p xs ≤ length xs
   prefix_len-le p [] = omega arith
-  prefix_len-le p (x ∷ xs) = first (p x) (prefix_len-le p xs)
-    where
-      first : (b : Bool) → prefix_len p xs ≤ length xs → cond b (1 + prefix_len p xs) 0 ≤ length (x ∷ xs)
-      first true rest = omega (arith, rest)
-      first false rest = omega arith
+  prefix_len-le p (x ∷ xs) = (elim (p x) as (λ b. prefix_len p xs ≤ length xs → cond b (1 + prefix_len p xs) 0 ≤ length (x ∷ xs))
+      [ true ↦ λ rest. omega (arith, rest) | false ↦ λ rest. omega arith ]) (prefix_len-le p xs)
 
   -- where an element passes, at least one does from the first such on
   pub prefix_len-position : (p : X → Bool) (xs : List X) → position_or_len p xs < length xs → 1 ≤ prefix_len p (drop (position_or_len p xs) xs)

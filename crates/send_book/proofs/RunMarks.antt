@@ -53,12 +53,8 @@ module _ {X : Type 0} (p : X → Bool) where
 
   pub count_by-none : (xs : List X) → list_all (λ x. not (p x)) xs ≡ true → count_by p xs ≡ 0
   count_by-none [] none = refl
-  count_by-none (x ∷ xs) none = first (p x) refl none (count_by-none xs)
-    where
-      first : (b : Bool) → p x ≡ b → (not b && list_all (λ x. not (p x)) xs) ≡ true
-          → (list_all (λ x. not (p x)) xs ≡ true → count_by p xs ≡ 0) → count_by p (x ∷ xs) ≡ 0
-      first true is none rest = cc
-      first false is none rest = count_by-cons x xs ∙ rw is (omega (arith, rest none))
+  count_by-none (x ∷ xs) none = (elim (p x) as (λ b. p x ≡ b → (not b && list_all (λ x. not (p x)) xs) ≡ true → (list_all (λ x. not (p x)) xs ≡ true → count_by p xs ≡ 0) → count_by p (x ∷ xs) ≡ 0)
+      [ true ↦ λ is none rest. cc | false ↦ λ is none rest. count_by-cons x xs ∙ rw is (omega (arith, rest none)) ]) refl none (count_by-none xs)
 
 pub map-same : {X Y : Type 0} (f : X → Y) (n : ℕ) (x : X) (xs : List X) → map f (replicate n x ++ xs) ≡ replicate n (f x) ++ map f xs
 map-same f zero x xs = refl

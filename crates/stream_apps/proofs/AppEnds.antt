@@ -75,20 +75,12 @@ settles_lower m a lower = by (settled_lower m.agenda m) lower
 
 same_stands : (d : AppDuty) (ds : List AppDuty) (a : AppState) → app_stands d a ≡ true → app_stands d (record a { agenda = d ∷ ds }) ≡ true
 same_stands FastClose ds a is = is
-same_stands AbortSend ds a is = is
-same_stands AbortReceive ds a is = is
-same_stands Write ds a is = is
-same_stands Close ds a is = is
-same_stands Read ds a is = is
-same_stands End ds a is = is
+same_stands _ ds a is = is
 
 settled_settled : (ds : List AppDuty) (a : AppState) → IsAppSettled (app_settled ds a)
 settled_settled [] a = tt
-settled_settled (d ∷ ds) a = by (app_stands d a) refl (settled_settled ds a)
-  where
-    by : (b : Bool) → app_stands d a ≡ b → IsAppSettled (app_settled ds a) → IsAppSettled (if b then record a { agenda = d ∷ ds } else app_settled ds a)
-    by true is rest = same_stands d ds a is
-    by false is rest = rest
+settled_settled (d ∷ ds) a = (elim (app_stands d a) as (λ b. app_stands d a ≡ b → IsAppSettled (app_settled ds a) → IsAppSettled (if b then record a { agenda = d ∷ ds } else app_settled ds a))
+    [ true ↦ λ is rest. same_stands d ds a is | false ↦ λ is rest. rest ]) refl (settled_settled ds a)
 
 -- ---- the turn
 

@@ -14,20 +14,12 @@ use Rattle.stream_apps.specs.Starts.{untouched, first_app_turn}
 
 settled_keeps : (ds : List AppDuty) (a : AppState) → (app_settled ds a).stops_in ≡ a.stops_in
 settled_keeps [] a = refl
-settled_keeps (d ∷ ds) a = by (app_stands d a) (settled_keeps ds a)
-  where
-    by : (b : Bool) → (app_settled ds a).stops_in ≡ a.stops_in → (if b then record a { agenda = d ∷ ds } else app_settled ds a).stops_in ≡ a.stops_in
-    by true rest = refl
-    by false rest = rest
+settled_keeps (d ∷ ds) a = (elim (app_stands d a) as (λ b. (app_settled ds a).stops_in ≡ a.stops_in → (if b then record a { agenda = d ∷ ds } else app_settled ds a).stops_in ≡ a.stops_in)
+    [ true ↦ λ rest. refl | false ↦ λ rest. rest ]) (settled_keeps ds a)
 
 answered_keeps : (d : AppDuty) (r : Reply) (a : AppState) → (app_answered d r a).stops_in ≡ a.stops_in
 answered_keeps FastClose r a = refl
-answered_keeps AbortSend r a = refl
-answered_keeps AbortReceive r a = refl
-answered_keeps Write r a = refl
-answered_keeps Close r a = refl
-answered_keeps Read r a = refl
-answered_keeps End r a = refl
+answered_keeps _ r a = refl
 
 answers_keep : (ds : List AppDuty) (r : Reply) (a : AppState) → (app_answers ds r a).stops_in ≡ a.stops_in
 answers_keep [] r a = refl
@@ -71,12 +63,8 @@ due_after (suc n) rounds = by (rounds == 0) refl (due_after n (rounds - 1))
         let none : rounds ≡ 0 = eqb-true rounds 0 is in
         (λ due. absurd (false≢true (sym (none_due n) ∙ due)), λ same. absurd (omega (arith, none, same)))
     by false is rest =
-        let some : 1 ≤ rounds = some_left rounds is in
+        let some : 1 ≤ rounds = (elim rounds as (λ m. (m == 0) ≡ false → 1 ≤ m) [ zero ↦ λ is. absurd (false≢true (sym is)) | suc m ↦ λ is. omega arith ]) is in
         (λ due. let same = rest.0 due in omega (arith, some, same), λ same. rest.1 (omega (arith, some, same)))
-      where
-        some_left : (m : ℕ) → (m == 0) ≡ false → 1 ≤ m
-        some_left zero is = absurd (false≢true (sym is))
-        some_left (suc m) is = omega arith
 
 -- ---- what it asks as a round begins
 

@@ -2,9 +2,8 @@
 use Rattle.std.proofs.Common.{◌≡◌, refl, ◌∙◌, subst, ℕ, zero, suc, ◌≤◌, nat_eq, List, [], ◌∷◌, length, drop, arith}
 use Rattle.std.proofs.lemmas.List.{length-take}
 use Rattle.std.proofs.Math.Dec.{eqb-zero-suc, eqb-suc-suc}
-use Rattle.send_book.specs.declared.call.SendReply.TheVariants as send_replies
+use Rattle.send_book.specs.declared.call.SendReply.{SendReply}
 use Rattle.actor_desk.specs.declared.ask.Reply.{Reply}
-use Rattle.actor_desk.specs.declared.ask.Reply.TheVariants as replies
 use Rattle.actor_desk.specs.Kinds.{AnswersTo}
 use Rattle.actor_desk.specs.Words.{is_nil}
 use Rattle.stream_apps.specs.declared.duty.AppDuty.{AppDuty}
@@ -21,7 +20,7 @@ all-written (suc written) (byte ∷ file) within = eqb-suc-suc written (length f
 
 -- no more is taken than is left
 taken-offered : (ds : List AppDuty) (reply : Reply) (a : AppState) → AnswersTo (app_asks_first (Write ∷ ds) a) reply → taken_in reply ≤ length a.rest
-taken-offered ds (replies.Send (send_replies.Taken count)) a kind = omega (arith, kind, length-take a.buffer a.rest)
+taken-offered ds (Reply.Send (SendReply.Taken count)) a kind = omega (arith, kind, length-take a.buffer a.rest)
 taken-offered ds _ a kind = omega arith
 
 pub taken-within : (ds : List AppDuty) (reply : Reply) (a : AppState) → a.agenda ≡ Write ∷ ds → AnswersTo (app_asks_of a) reply → taken_in reply ≤ length a.rest

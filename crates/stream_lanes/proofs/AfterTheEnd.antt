@@ -88,8 +88,7 @@ moves_done f path move None d = refl
 moves_done f path move (Some p) d = refl
 
 identity_done : (fell : Bool) (d : Direction) → (if fell then with_send GoIdentityBook d else d).reader ≡ d.reader
-identity_done true d = refl
-identity_done false d = refl
+identity_done = elim [ true ↦ λ d. refl | false ↦ λ d. refl ]
 
 infinite_done : (path pos : ℕ) (o : Option Lane) (d : Direction) → (goes_infinite path pos o d).reader ≡ d.reader
 infinite_done path pos None d = refl
@@ -114,22 +113,16 @@ after_done f _ d done = refl
 pub done_ab : (events : List Event) (w : Duo) → is_done w.ab.reader ≡ true → (after_events events w).ab.reader ≡ w.ab.reader
 done_ab [] w done = refl
 done_ab (event ∷ events) w done =
-    let one : (after_event event w).ab.reader ≡ w.ab.reader = at event in
+    let one : (after_event event w).ab.reader ≡ w.ab.reader = (elim event as (λ event. (after_event event w).ab.reader ≡ w.ab.reader)
+    [ ToB event ↦ after_done (flags_ab w.modes) event w.ab done | _ ↦ refl ]) in
     done_ab events (after_event event w) (ap is_done one ∙ done) ∙ one
-  where
-    at : (event : Event) → (after_event event w).ab.reader ≡ w.ab.reader
-    at (ToB event) = after_done (flags_ab w.modes) event w.ab done
-    at _ = refl
 
 pub done_ba : (events : List Event) (w : Duo) → is_done w.ba.reader ≡ true → (after_events events w).ba.reader ≡ w.ba.reader
 done_ba [] w done = refl
 done_ba (event ∷ events) w done =
-    let one : (after_event event w).ba.reader ≡ w.ba.reader = at event in
+    let one : (after_event event w).ba.reader ≡ w.ba.reader = (elim event as (λ event. (after_event event w).ba.reader ≡ w.ba.reader)
+    [ ToA event ↦ after_done (flags_ba w.modes) event w.ba done | _ ↦ refl ]) in
     done_ba events (after_event event w) (ap is_done one ∙ done) ∙ one
-  where
-    at : (event : Event) → (after_event event w).ba.reader ≡ w.ba.reader
-    at (ToA event) = after_done (flags_ba w.modes) event w.ba done
-    at _ = refl
 
 pub shut_ab : (events : List Event) (w : Duo) → w.ab.send.closed ≡ true → (after_events events w).ab.send.written ≡ w.ab.send.written
 shut_ab [] w closed = refl

@@ -131,16 +131,10 @@ module _ (granted : ℕ → Type 0) (f : Flags) (s : Sending) (b : Arriving) (se
       ap (λ (c : Bool). if c then None else Some e) (eq-eqb e at (omega (arith, (is_end_of s at is).1, (is_end_of s e end).1)))
 
   pub same_step : (r : Reader) → ReaderHolds (view_of f s b) b r → ReceiveStep granted f s b b r
-  same_step r reader = record {
-    later = went_on f s b b (omega arith) (omega arith) within (λ place is. is);
-    send = send;
-    arrived = arrived;
-    reader = reader;
-  }
+  same_step r reader = record { later = went_on f s b b (omega arith) (omega arith) within (λ place is. is); send = send; arrived = arrived; reader = reader }
 
   receive_if : (taken : Bool) (c : Arriving) (r : Reader) → ReaderHolds (view_of f s b) b r → (taken ≡ true → ReceiveStep granted f s b c r) → ReceiveStep granted f s b (if taken then c else b) r
-  receive_if true c r reader takes = takes refl
-  receive_if false c r reader takes = same_step r reader
+  receive_if = elim [ true ↦ λ c r reader takes. takes refl | false ↦ λ c r reader takes. same_step r reader ]
 
   pub place_step : (at : ℕ) (bytes : List ℕ) (r : Reader) → From (IsSent granted (view_of f s b)) at bytes → ReaderHolds (view_of f s b) b r → ReceiveStep granted f s b (after_call b (Place at bytes)) r
   place_step at bytes r row reader = receive_if (is_taken at bytes b) c r reader (λ _. takes)

@@ -128,9 +128,7 @@ honest_more alters pieces others sent more d h = record {
 
 -- the part of a record that a mapping names
 pub part_is_honest : (sent : List Cell) (m : Mapping) → IsRight sent m → From (IsByteOf sent) m.pos (take m.len (drop m.pos (bytes_of sent)))
-part_is_honest sent m h = record {
-  each = λ i n x n_is e. in_drop m.pos (bytes_of sent) i n x n_is (in_take m.len (drop m.pos (bytes_of sent)) i x e).0;
-}
+part_is_honest sent m h = record { each = λ i n x n_is e. in_drop m.pos (bytes_of sent) i n x n_is (in_take m.len (drop m.pos (bytes_of sent)) i x e).0 }
 
 pub part_within : (sent : List Cell) (m : Mapping) → IsRight sent m → m.pos + length (take m.len (drop m.pos (bytes_of sent))) ≤ length sent
 part_within sent m h = omega (arith, h.within, length-take m.len (drop m.pos (bytes_of sent)))
@@ -160,9 +158,7 @@ place_after-identity before [] h = omega arith
 place_after-identity before (c ∷ cells) h =
     let here : c.place ≡ before = h.each 0 before c (omega arith) refl in
     let next : suc c.place ≡ suc before = ap suc here in
-    let rest : From (λ pos c. c.place ≡ pos) (suc before) cells = record {
-      each = λ i n x n_is e. h.each (suc i) n x (omega (arith, n_is)) e;
-    } in
+    let rest : From (λ pos c. c.place ≡ pos) (suc before) cells = record { each = λ i n x n_is e. h.each (suc i) n x (omega (arith, n_is)) e } in
     rw next (omega (arith, place_after-identity (suc before) cells rest))
 
 -- a place of a record, by its position

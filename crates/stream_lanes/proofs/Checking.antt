@@ -18,8 +18,7 @@ use Rattle.dss_checksum.proofs.Joining.{turned-back}
 use Rattle.stream_lanes.proofs.Bytes.{byte_within}
 
 pub length-turned : (bytes : List ℕ) → length (with_bit_turned bytes 0 0) ≡ length bytes
-length-turned [] = refl
-length-turned (byte ∷ bytes) = refl
+length-turned = elim [ [] ↦ refl | byte ∷ bytes ↦ refl ]
 
 -- a part of the record with its first byte turned
 pub turned_came : (alters : Bool) (pieces : List Mapping) (sent : List Cell) (m : Mapping) → alters ≡ true → Starts pieces m.pos

@@ -23,8 +23,7 @@ abbrev PlacedIn : Direction → ℕ → ℕ → Type 0
 PlacedIn d place byte = Placed d.reader.out d.arrived.read d.arrived.places place byte
 
 cell_is : (o : Option (Option ℕ)) (byte : ℕ) → flattened o ≡ Some byte → o ≡ Some (Some byte)
-cell_is None byte e = cc
-cell_is (Some cell) byte e = ap Some e
+cell_is = elim [ None ↦ λ byte e. cc | Some cell ↦ λ byte e. ap Some e ]
 
 pub to_placed : (d : Direction) (place byte : ℕ) → content d place ≡ Some byte → PlacedIn d place byte
 to_placed d place byte e = at (nat_lt place d.arrived.read) refl e
@@ -35,18 +34,16 @@ to_placed d place byte e = at (nat_lt place d.arrived.read) refl e
     at false is e = stands (ltb-false place d.arrived.read is) (cell_is (slice_get d.arrived.places (place - d.arrived.read)) byte e)
 
 pub from_placed : (d : Direction) (place byte : ℕ) → PlacedIn d place byte → content d place ≡ Some byte
-from_placed d place byte (was_read below e) = at (nat_lt place d.arrived.read) refl
-  where
-    at : (c : Bool) → nat_lt place d.arrived.read ≡ c
-        → (if c then slice_get d.reader.out place else flattened (slice_get d.arrived.places (place - d.arrived.read))) ≡ Some byte
-    at true is = e
-    at false is = absurd (omega (arith, ltb-false place d.arrived.read is, below))
-from_placed d place byte (stands from e) = at (nat_lt place d.arrived.read) refl
-  where
-    at : (c : Bool) → nat_lt place d.arrived.read ≡ c
-        → (if c then slice_get d.reader.out place else flattened (slice_get d.arrived.places (place - d.arrived.read))) ≡ Some byte
-    at true is = absurd (omega (arith, ltb-true place d.arrived.read is, from))
-    at false is = ap flattened e
+from_placed d place byte (was_read below e) =
+    (elim (nat_lt place d.arrived.read) as (λ c. nat_lt place d.arrived.read ≡ c → (if c then slice_get d.reader.out place else flattened (slice_get d.arrived.places (place - d.arrived.read))) ≡ Some byte) [
+      | true ↦ λ is. e
+      | false ↦ λ is. absurd (omega (arith, ltb-false place d.arrived.read is, below))
+    ]) refl
+from_placed d place byte (stands from e) =
+    (elim (nat_lt place d.arrived.read) as (λ c. nat_lt place d.arrived.read ≡ c → (if c then slice_get d.reader.out place else flattened (slice_get d.arrived.places (place - d.arrived.read))) ≡ Some byte) [
+      | true ↦ λ is. absurd (omega (arith, ltb-true place d.arrived.read is, from))
+      | false ↦ λ is. ap flattened e
+    ]) refl
 
 -- of an exact receiver it is the written one
 pub placed_right : (f : Flags) (d : Direction) → is_exact f ≡ true → DirectionHolds f d → (place byte : ℕ) → PlacedIn d place byte → slice_get d.send.written place ≡ Some byte
@@ -93,8 +90,7 @@ module _ (f : Flags) (d : Direction) (place byte : ℕ) (is : Written d.send pla
   reads_write max false = is
 
   identity_writes : (fell : Bool) → Written (if fell then with_send GoIdentityBook d else d).send place byte
-  identity_writes true = is
-  identity_writes false = is
+  identity_writes = elim [ true ↦ is | false ↦ is ]
 
   infinite_writes : (path pos : ℕ) (o : Option Lane) → Written (goes_infinite path pos o d).send place byte
   infinite_writes path pos None = is
@@ -121,15 +117,10 @@ module _ (f : Flags) (d : Direction) (place byte : ℕ) (is : Written d.send pla
 
 -- a read: the reader has what it had, and the bytes that were read
 read_out : (b : Arriving) (r : Reader) (max : ℕ) → (takes_read (reading None max b) r).out ≡ r.out ++ take max (filled b.places)
-read_out b r max = by_bytes (take max (filled b.places))
-  where
-    by_end : (c : Bool) → (takes_read (if c then End else NoneYet) r).out ≡ r.out ++ []
-    by_end true = sym (append-nil r.out)
-    by_end false = sym (append-nil r.out)
-
-    by_bytes : (bytes : List ℕ) → (takes_read (bytes_reply bytes b) r).out ≡ r.out ++ bytes
-    by_bytes [] = by_end (is_end b.known_end b.read)
-    by_bytes (x ∷ bytes) = refl
+read_out b r max = elim (take max (filled b.places)) as (λ bytes. (takes_read (bytes_reply bytes b) r).out ≡ r.out ++ bytes) [
+  | [] ↦ elim (is_end b.known_end b.read) as (λ c. (takes_read (if c then End else NoneYet) r).out ≡ r.out ++ []) [ true ↦ sym (append-nil r.out) | false ↦ sym (append-nil r.out) ]
+  | x ∷ bytes ↦ refl
+]
 
 -- a byte that is filled, by its place
 filled_byte : (places : List (Option ℕ)) (i byte : ℕ) → i < length (filled places) → slice_get places i ≡ Some (Some byte) → slice_get (filled places) i ≡ Some byte
@@ -166,8 +157,7 @@ module _ (f : Flags) (d : Direction) (place byte : ℕ) (size : length d.reader.
 
   fin_if : (clash : Bool) (at : ℕ) → Placed d.reader.out (if clash then d.arrived else record d.arrived { known_end = Some at }).read
       (if clash then d.arrived else record d.arrived { known_end = Some at }).places place byte
-  fin_if true at = is
-  fin_if false at = is
+  fin_if = elim [ true ↦ λ at. is | false ↦ λ at. is ]
 
   asks_place : (path : ℕ) (a : Ask) (p : Lane) → PlacedIn (asks path a p d) place byte
   asks_place path (AskPlace at bytes) p = place_if (is_taken at bytes d.arrived) at bytes
@@ -193,8 +183,7 @@ module _ (f : Flags) (d : Direction) (place byte : ℕ) (size : length d.reader.
       by_abort (Some by_peer) = is
 
   identity_places : (fell : Bool) → PlacedIn (if fell then with_send GoIdentityBook d else d) place byte
-  identity_places true = is
-  identity_places false = is
+  identity_places = elim [ true ↦ is | false ↦ is ]
 
   infinite_places : (path pos : ℕ) (o : Option Lane) → PlacedIn (goes_infinite path pos o d) place byte
   infinite_places path pos None = is

@@ -3,8 +3,8 @@ use Rattle.stream_lanes.proofs.Words.{◌≡◌, refl, sym, ◌∙◌, ap, subst
 use Rattle.stream_lanes.proofs.Words.{◌++◌, length, take, Option, Some, None, Result, Ok, Err, if◌then◌else◌, arith, ◌&&◌, ◌||◌, set, nat_le, cases_lt}
 use Rattle.stream_lanes.proofs.Words.{slice_get, take-append-le, Place, Fin, AckOut, ReadBytes, AbortReading, Arriving, filled, received, after_arrival}
 use Rattle.stream_lanes.proofs.Words.{arrival_reply, edge, Placed, FinSet, Span, Why, WriteBytes, CloseBook, Grant, AckIn, ReturnBytes, GoIdentityBook}
-use Rattle.stream_lanes.proofs.Words.{GoInfiniteBook, AbortBook, Sending, acked_len, after_send, decision, send_reply, reply_by, AckedBytes, DataCopy, AckCopy}
-use Rattle.stream_lanes.proofs.Words.{Mapping, Pair, Ask, Lane, Nothing, AskGrant, AskAckIn, AskPlace, AskFin, AskAckOut, Flags, Move, moved, place_by, shifted}
+use Rattle.stream_lanes.proofs.Words.{GoInfiniteBook, AbortBook, Sending, acked_len, after_send, decision, send_reply, reply_by, AckedBytes, AckCopy, Mapping}
+use Rattle.stream_lanes.proofs.Words.{Pair, Ask, Lane, Nothing, AskGrant, AskAckIn, AskPlace, AskFin, AskAckOut, Flags, Move, moved, place_by, shifted}
 use Rattle.stream_lanes.proofs.Words.{hears_sub, sends_pair, sends_fin_pair, takes_pair, places_pair, ends_pair, is_whole, takes_grant, takes_ack, takes_placed}
 use Rattle.stream_lanes.proofs.Words.{takes_fin, takes_ack_out, hears, sends_piece, sends_altered, altered_piece_of, keeps, learns_mapping, learns}
 use Rattle.stream_lanes.proofs.Words.{hears_data_fin, hears_fin, places, passes, clashes, lies_in, in_order, may_finish, ack_copy, Reader, Direction}
@@ -30,111 +30,59 @@ use Rattle.stream_lanes.proofs.Replies.{ack_held, place_held, fin_held, ack_out_
 
 -- a move leaves the record as it is
 sent_if : (c : Bool) (p q : Lane) → q.sent ≡ p.sent → (if c then q else p).sent ≡ p.sent
-sent_if true p q same = same
-sent_if false p q same = refl
+sent_if = elim [ true ↦ λ p q same. same | false ↦ λ p q same. refl ]
 
 pub moved_sent : (f : Flags) (path : ℕ) (move : Move) (p : Lane) → (moved f path move p).sent ≡ p.sent
 moved_sent f path Open p = sent_if (f.answered || path == 0) p (record p { opened = true }) refl
 moved_sent f path LookAtSender p = refl
 moved_sent f path LookAtReceiver p = refl
 moved_sent f path (WantGrant max standby) p = sent_if (p.opened && nat_lt 0 max) p (record p { asking = AskGrant max standby }) refl
-moved_sent f path (HearAck copy) p = at (slice_get p.acks copy)
-  where
-    at : (o : Option AckCopy) → (hears o p).sent ≡ p.sent
-    at None = refl
-    at (Some a) = refl
+moved_sent f path (HearAck copy) p = elim (slice_get p.acks copy) as (λ o. (hears o p).sent ≡ p.sent) [ None ↦ refl | Some a ↦ refl ]
 moved_sent f path (HearSubAck copy upto) p = at (slice_get p.acks copy) p.pair
   where
     at : (o : Option AckCopy) (q : Option Pair) → (hears_sub upto o q p).sent ≡ p.sent
     at None q = refl
     at (Some a) None = refl
     at (Some a) (Some m) = sent_if p.alters p (record p { asking = AskAckIn (place_by m (min upto a.sub)) a.window }) refl
-moved_sent f path (SendPiece piece mapped) p = at (slice_get p.pieces piece)
-  where
-    at : (o : Option Mapping) → (sends_piece mapped o p).sent ≡ p.sent
-    at None = refl
-    at (Some m) = refl
-moved_sent f path (SendAltered piece mapped) p = at (slice_get p.pieces piece)
-  where
-    at : (o : Option Mapping) → (sends_altered mapped o p).sent ≡ p.sent
-    at None = refl
-    at (Some m) = sent_if p.alters p (record p { datas = p.datas ++ altered_piece_of mapped p m ∷ [] }) refl
+moved_sent f path (SendPiece piece mapped) p = elim (slice_get p.pieces piece) as (λ o. (sends_piece mapped o p).sent ≡ p.sent) [ None ↦ refl | Some m ↦ refl ]
+moved_sent f path (SendAltered piece mapped) p = elim (slice_get p.pieces piece) as (λ o. (sends_altered mapped o p).sent ≡ p.sent)
+    [ None ↦ refl | Some m ↦ sent_if p.alters p (record p { datas = p.datas ++ altered_piece_of mapped p m ∷ [] }) refl ]
 moved_sent f path SendDataFin p = refl
 moved_sent f path SendFin p = sent_if (may_finish p) p (record p { fins = p.fins ++ length p.sent ∷ [] }) refl
-moved_sent f path (SendPair shift) p = at p.pair
-  where
-    at : (o : Option Pair) → (sends_pair shift o p).sent ≡ p.sent
-    at None = refl
-    at (Some m) = sent_if (nat_le (m.pos + shift) (length p.sent)) p (record p { pairs = p.pairs ++ shifted shift m ∷ [] }) refl
+moved_sent f path (SendPair shift) p = elim p.pair as (λ o. (sends_pair shift o p).sent ≡ p.sent)
+    [ None ↦ refl | Some m ↦ sent_if (nat_le (m.pos + shift) (length p.sent)) p (record p { pairs = p.pairs ++ shifted shift m ∷ [] }) refl ]
 moved_sent f path (SendPlainPair pos) p =
     sent_if (p.sender_plain && (p.opened && nat_le pos (length p.sent))) p (record p { pairs = p.pairs ++ record { pos = pos; place = pos } ∷ [] }) refl
-moved_sent f path SendFinPair p = at p.pair
-  where
-    at : (o : Option Pair) → (sends_fin_pair o p).sent ≡ p.sent
-    at None = refl
-    at (Some m) = sent_if (p.opened && is_whole p.known_end p) p (record p { fins = p.fins ++ length p.sent ∷ [] }) refl
-moved_sent f path (Hear copy count) p = at (slice_get p.datas copy)
-  where
-    at : (o : Option DataCopy) → (keeps count o p).sent ≡ p.sent
-    at None = refl
-    at (Some d) = refl
-moved_sent f path (Learn copy) p = at (slice_get p.datas copy)
+moved_sent f path SendFinPair p = elim p.pair as (λ o. (sends_fin_pair o p).sent ≡ p.sent)
+    [ None ↦ refl | Some m ↦ sent_if (p.opened && is_whole p.known_end p) p (record p { fins = p.fins ++ length p.sent ∷ [] }) refl ]
+moved_sent f path (Hear copy count) p = elim (slice_get p.datas copy) as (λ o. (keeps count o p).sent ≡ p.sent) [ None ↦ refl | Some d ↦ refl ]
+moved_sent f path (Learn copy) p = elim (slice_get p.datas copy) as (λ o. (learns o p).sent ≡ p.sent) [ None ↦ refl | Some d ↦ by_mapping d.mapping ]
   where
     by_clash : (c : Bool) (m : Mapping) → (if c then p else record p { maps = p.maps ++ m ∷ [] }).sent ≡ p.sent
-    by_clash true m = refl
-    by_clash false m = refl
+    by_clash = elim [ true ↦ λ m. refl | false ↦ λ m. refl ]
 
     by_mapping : (o : Option Mapping) → (learns_mapping o p).sent ≡ p.sent
-    by_mapping None = refl
-    by_mapping (Some m) = by_clash (clashes m p.maps) m
-
-    at : (o : Option DataCopy) → (learns o p).sent ≡ p.sent
-    at None = refl
-    at (Some d) = by_mapping d.mapping
-moved_sent f path (HearDataFin copy) p = at (slice_get p.data_fins copy)
-  where
-    at : (o : Option ℕ) → (hears_data_fin o p).sent ≡ p.sent
-    at None = refl
-    at (Some e) = refl
-moved_sent f path (HearFin copy) p = at (slice_get p.fins copy)
-  where
-    at : (o : Option ℕ) → (hears_fin o p).sent ≡ p.sent
-    at None = refl
-    at (Some pos) = sent_if (pos == p.edge) p (record p { fin_in = true }) refl
+    by_mapping = elim [ None ↦ refl | Some m ↦ by_clash (clashes m p.maps) m ]
+moved_sent f path (HearDataFin copy) p = elim (slice_get p.data_fins copy) as (λ o. (hears_data_fin o p).sent ≡ p.sent) [ None ↦ refl | Some e ↦ refl ]
+moved_sent f path (HearFin copy) p = elim (slice_get p.fins copy) as (λ o. (hears_fin o p).sent ≡ p.sent)
+    [ None ↦ refl | Some pos ↦ sent_if (pos == p.edge) p (record p { fin_in = true }) refl ]
 moved_sent f path (Forget from) p = refl
-moved_sent f path (WantPlace mapping count) p = at (slice_get p.maps mapping)
-  where
-    at : (o : Option Mapping) → (places count o p).sent ≡ p.sent
-    at None = refl
-    at (Some m) = sent_if (lies_in m (in_order count p) p && passes m (in_order count p) p) p (record p { asking = AskPlace _ (in_order count p) }) refl
+moved_sent f path (WantPlace mapping count) p = elim (slice_get p.maps mapping) as (λ o. (places count o p).sent ≡ p.sent)
+    [ None ↦ refl | Some m ↦ sent_if (lies_in m (in_order count p) p && passes m (in_order count p) p) p (record p { asking = AskPlace _ (in_order count p) }) refl ]
 moved_sent f path (WantPlacePlain count) p = sent_if p.receiver_plain p (record p { asking = AskPlace p.edge (in_order count p) }) refl
 moved_sent f path WantFin p = sent_if (p.receiver_plain && p.fin_in) p (record p { asking = AskFin p.edge }) refl
-moved_sent f path (TakePair copy) p = at (slice_get p.pairs copy)
-  where
-    at : (o : Option Pair) → (takes_pair o p).sent ≡ p.sent
-    at None = refl
-    at (Some m) = refl
-moved_sent f path (WantPlacePair count) p = at p.taken
-  where
-    at : (o : Option Pair) → (places_pair count o p).sent ≡ p.sent
-    at None = refl
-    at (Some m) = sent_if (p.receiver_loose && nat_le m.pos p.edge) p (record p { asking = AskPlace (place_by m p.edge) (in_order count p) }) refl
-moved_sent f path WantFinPair p = at p.taken
-  where
-    at : (o : Option Pair) → (ends_pair o p).sent ≡ p.sent
-    at None = refl
-    at (Some m) = sent_if (p.receiver_loose && (p.fin_in && nat_le m.pos p.edge)) p (record p { asking = AskFin (place_by m p.edge) }) refl
+moved_sent f path (TakePair copy) p = elim (slice_get p.pairs copy) as (λ o. (takes_pair o p).sent ≡ p.sent) [ None ↦ refl | Some m ↦ refl ]
+moved_sent f path (WantPlacePair count) p = elim p.taken as (λ o. (places_pair count o p).sent ≡ p.sent)
+    [ None ↦ refl | Some m ↦ sent_if (p.receiver_loose && nat_le m.pos p.edge) p (record p { asking = AskPlace (place_by m p.edge) (in_order count p) }) refl ]
+moved_sent f path WantFinPair p = elim p.taken as (λ o. (ends_pair o p).sent ≡ p.sent)
+    [ None ↦ refl | Some m ↦ sent_if (p.receiver_loose && (p.fin_in && nat_le m.pos p.edge)) p (record p { asking = AskFin (place_by m p.edge) }) refl ]
 moved_sent f path WantAckOut p = refl
-moved_sent f path (SendAck next window sub) p = at p.due
-  where
-    at : (c : Bool) → (if c then p else record p { acks = p.acks ++ ack_copy next window sub p ∷ [] }).sent ≡ p.sent
-    at true = refl
-    at false = refl
+moved_sent f path (SendAck next window sub) p = elim p.due as (λ c. (if c then p else record p { acks = p.acks ++ ack_copy next window sub p ∷ [] }).sent ≡ p.sent)
+    [ true ↦ refl | false ↦ refl ]
 
 -- a reply leaves the record as it is, or makes it longer
 granted_more : (r : Result Span Why) (s : Sending) (p : Lane) (place : ℕ) → HasPlace p.sent place → HasPlace (takes_grant (reply_by r s) p).sent place
-granted_more (Ok span) s p place has = Has-more _ has
-granted_more (Err why) s p place has = has
+granted_more = elim [ Ok span ↦ λ s p place has. Has-more _ has | Err why ↦ λ s p place has. has ]
 
 pub acked_sent : (next : ℕ) (r : SendReply) (p : Lane) → (takes_ack next r p).sent ≡ p.sent
 acked_sent next (AckedBytes bytes fin) p = refl
@@ -145,8 +93,7 @@ placed_sent count (Placed new) p = refl
 placed_sent count _ p = refl
 
 pub fin_sent : (r : ReassemblyReply) (p : Lane) → (takes_fin r p).sent ≡ p.sent
-fin_sent FinSet p = refl
-fin_sent _ p = refl
+fin_sent = elim [ FinSet ↦ λ p. refl | _ ↦ λ p. refl ]
 
 same_places : (p q : Lane) → q.sent ≡ p.sent → (place : ℕ) → HasPlace p.sent place → HasPlace q.sent place
 same_places p q same place has = subst (λ sent. HasPlace sent place) (sym same) has

@@ -168,16 +168,8 @@ with_modes w n h go = record {
 }
 
 pub after_event_held : (event : Event) (w : Duo) → Holds w → Holds (after_event event w)
-after_event_held (ToB event) w h = record {
-  modes = h.modes;
-  ab = after_held (flags_ab w.modes) w.ab h.ab (fallen_ab w.modes h.modes) event;
-  ba = h.ba;
-}
-after_event_held (ToA event) w h = record {
-  modes = h.modes;
-  ab = h.ab;
-  ba = after_held (flags_ba w.modes) w.ba h.ba (fallen_ba w.modes h.modes) event;
-}
+after_event_held (ToB event) w h = record { modes = h.modes; ab = after_held (flags_ab w.modes) w.ab h.ab (fallen_ab w.modes h.modes) event; ba = h.ba }
+after_event_held (ToA event) w h = record { modes = h.modes; ab = h.ab; ba = after_held (flags_ba w.modes) w.ba h.ba (fallen_ba w.modes h.modes) event }
 after_event_held FallA w h = with_modes w (falls_a w.modes) h (falls_a_goes w.modes h.modes)
 after_event_held FallB w h = with_modes w (falls_b w.modes) h (falls_b_goes w.modes h.modes)
 after_event_held LoosenA w h = with_modes w (record w.modes { loose_a = true }) h (loosens_a_goes w.modes h.modes)

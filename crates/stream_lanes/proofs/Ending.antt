@@ -7,6 +7,7 @@ use Rattle.stream_lanes.proofs.Lists.{Every-push, item_at}
 use Rattle.stream_lanes.proofs.Bytes.{place_after-identity}
 use Rattle.stream_lanes.proofs.MarkLists.{acked_spent, acked_is_spent}
 use Rattle.stream_lanes.proofs.Local.{ViewFits, held_if, with_ask}
+use Rattle.stream_lanes.proofs.LaneParts.{parts_of, whole, new_passed, new_bytes, new_fins, new_receiver}
 
 module _ (v : View) (path : ℕ) (fits : ViewFits v) where
   -- as long as no join was answered, a path's record is no longer than what was written
@@ -55,11 +56,7 @@ module _ (v : View) (path : ℕ) (fits : ViewFits v) where
       let same : max (place_after 0 p.sent) (min p.heard e) ≡ e = eqb-true _ e whole in
       let after : place_after 0 p.sent ≡ length p.sent = place_after-identity 0 p.sent (h.alone alone).identity ∙ omega arith in
       ⊎_elim
-      (λ here. let at : e ≡ length p.sent = here in record {
-        last = refl;
-        left = (e, end, omega (arith, at, h.record_of.once));
-        ends = λ _. subst (IsEnd v.end) at end;
-      })
+      (λ here. let at : e ≡ length p.sent = here in record { last = refl; left = (e, end, omega (arith, at, h.record_of.once)); ends = λ _. subst (IsEnd v.end) at end })
       (λ apart. fin_after_all p h opened (⊎_elim
       (λ confirmed. (e, end, omega (arith, same, after, apart_or e (length p.sent) (min p.heard e) (rw after at same) apart, confirmed, h.heard.below)))
       (λ all. all)
@@ -72,20 +69,7 @@ module _ (v : View) (path : ℕ) (fits : ViewFits v) where
   pub send_fin_held : (p : Lane) → LaneHolds v path p → LaneHolds v path (if may_finish p then record p { fins = p.fins ++ length p.sent ∷ [] } else p)
   send_fin_held p h = held_if v path (may_finish p) p (record p { fins = p.fins ++ length p.sent ∷ [] }) (λ may.
       let both = and_parts p.opened (if p.sender_plain then is_whole p.known_end p else p.fin_acked) may in
-      record {
-        record_of = h.record_of;
-        alone = h.alone;
-        modes = h.modes;
-        bytes = h.bytes;
-        link = h.link;
-        passed = h.passed;
-        pairs = h.pairs;
-        ends = h.ends;
-        fins = Every-push (length p.sent) h.fins (by_mode p.sender_plain refl both.0 both.1);
-        heard = h.heard;
-        receiver = h.receiver;
-        ask = h.ask;
-      }) h
+      whole (new_fins (Every-push (length p.sent) h.fins (by_mode p.sender_plain refl both.0 both.1)) (parts_of h))) h
     where
       by_mode : (plain : Bool) → p.sender_plain ≡ plain → p.opened ≡ true → (if plain then is_whole p.known_end p else p.fin_acked) ≡ true
           → IsFin path v p.sent (length p.sent)
@@ -114,10 +98,7 @@ module _ (v : View) (path : ℕ) (fits : ViewFits v) where
   acks_passed p h n true is below =
       let fin = h.passed.fin is in
       let end : p.edge ≡ length p.sent = fin.0 in
-      record {
-        bytes = λ pos c under e. h.passed.bytes.bytes pos c (let inside = slice_get_within p.sent pos c e in omega (arith, end, inside)) e;
-        past = λ more. fin.1;
-      }
+      record { bytes = λ pos c under e. h.passed.bytes.bytes pos c (let inside = slice_get_within p.sent pos c e in omega (arith, end, inside)) e; past = λ more. fin.1 }
   acks_passed p h n false is below =
       record {
         bytes = λ pos c under e. h.passed.bytes.bytes pos c (omega (arith, under, below)) e;
@@ -129,45 +110,32 @@ module _ (v : View) (path : ℕ) (fits : ViewFits v) where
   send_ack_held next window sub p h = at p.due refl
     where
       fin_bound : (b : Bool) → (if b then 1 else 0) ≤ 1
-      fin_bound true = omega arith
-      fin_bound false = omega arith
+      fin_bound = elim [ true ↦ omega arith | false ↦ omega arith ]
 
       sends : p.due ≡ false → LaneHolds v path (record p { acks = p.acks ++ ack_copy next window sub p ∷ [] })
-      sends idle = record {
-        record_of = h.record_of;
-        alone = h.alone;
-        modes = h.modes;
-        bytes = record {
-          granted = h.bytes.granted;
-          apart = h.bytes.apart;
-          honest = h.bytes.honest;
-          within = h.bytes.within;
-          came = h.bytes.came;
-          right = h.bytes.right;
-          learned = h.bytes.learned;
-          acked = Every-push (ack_copy next window sub p) h.bytes.acked (omega (arith, h.bytes.within, fin_bound p.fin_in));
-        };
-        link = h.link;
-        passed = record { bytes = h.passed.bytes; fin = h.passed.fin; copies = Every-push (ack_copy next window sub p) h.passed.copies (acks_passed p h (ack_copy next window sub p).sub p.fin_in refl (omega arith)) };
-        pairs = h.pairs;
-        ends = h.ends;
-        fins = h.fins;
-        heard = h.heard;
-        receiver = record {
-          told = h.receiver.told;
-          passed = h.receiver.passed;
-          fin = h.receiver.fin;
-          fresh = h.receiver.fresh;
-          copies = Every-push (ack_copy next window sub p) h.receiver.copies (record {
-            stream = record { covers = omega (arith, h.receiver.told.covers); reaches = λ none. let old = h.receiver.told.reaches none in omega (arith, old) };
-            subflow = λ alone.
-                let both = sub_acks p h idle alone p.fin_in refl in
-                record { covers = omega (arith, both.0); reaches = λ none. let old = both.1 none in omega (arith, old) };
-          });
-        };
-        ask = h.ask;
-      }
+      sends idle = whole (new_passed (record { bytes = h.passed.bytes; fin = h.passed.fin; copies = Every-push (ack_copy next window sub p) h.passed.copies (acks_passed p h (ack_copy next window sub p).sub p.fin_in refl (omega arith)) })
+          (new_bytes (record {
+            granted = h.bytes.granted;
+            apart = h.bytes.apart;
+            honest = h.bytes.honest;
+            within = h.bytes.within;
+            came = h.bytes.came;
+            right = h.bytes.right;
+            learned = h.bytes.learned;
+            acked = Every-push (ack_copy next window sub p) h.bytes.acked (omega (arith, h.bytes.within, fin_bound p.fin_in));
+          })
+          (new_receiver (record {
+            told = h.receiver.told;
+            passed = h.receiver.passed;
+            fin = h.receiver.fin;
+            fresh = h.receiver.fresh;
+            copies = Every-push (ack_copy next window sub p) h.receiver.copies (record {
+              stream = record { covers = omega (arith, h.receiver.told.covers); reaches = λ none. let old = h.receiver.told.reaches none in omega (arith, old) };
+              subflow = λ alone.
+                  let both = sub_acks p h idle alone p.fin_in refl in
+                  record { covers = omega (arith, both.0); reaches = λ none. let old = both.1 none in omega (arith, old) };
+            });
+          }) (parts_of h))))
 
       at : (due : Bool) → p.due ≡ due → LaneHolds v path (if due then p else record p { acks = p.acks ++ ack_copy next window sub p ∷ [] })
-      at true is = h
-      at false is = sends is
+      at = elim [ true ↦ λ is. h | false ↦ λ is. sends is ]

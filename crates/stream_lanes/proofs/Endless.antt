@@ -15,6 +15,7 @@ use Rattle.stream_lanes.proofs.Lists.{Every-push, item_at}
 use Rattle.stream_lanes.proofs.MarkLists.{new_count, spent_upto, spent_below, acked_spent}
 use Rattle.stream_lanes.proofs.Local.{ViewFits, held_if, with_ask}
 use Rattle.stream_lanes.proofs.Ending.{alone_within}
+use Rattle.stream_lanes.proofs.LaneParts.{parts_of, whole, new_pairs, new_fins}
 
 module _ (v : View) (path : ℕ) (fits : ViewFits v) where
   -- where the path is granted nothing more, the place after its record is the end
@@ -66,20 +67,7 @@ module _ (v : View) (path : ℕ) (fits : ViewFits v) where
   -- ---- what is sent
 
   with_pairs : (p : Lane) (pairs : List Pair) → Every (IsEndless path v p.sent) pairs → LaneHolds v path p → LaneHolds v path (record p { pairs = pairs })
-  with_pairs p pairs told h = record {
-    record_of = h.record_of;
-    alone = h.alone;
-    modes = h.modes;
-    bytes = h.bytes;
-    link = h.link;
-    passed = h.passed;
-    pairs = record { own = h.pairs.own; told = told; took = h.pairs.took };
-    ends = h.ends;
-    fins = h.fins;
-    heard = h.heard;
-    receiver = h.receiver;
-    ask = h.ask;
-  }
+  with_pairs p pairs told h = whole (new_pairs (record { own = h.pairs.own; told = told; took = h.pairs.took }) (parts_of h))
 
   shift_endless : (sent : List Cell) (m : Pair) (shift : ℕ) → m.pos + shift ≤ length sent → IsEndless path v sent m → IsEndless path v sent (shifted shift m)
   shift_endless sent m shift inside h =
@@ -179,39 +167,13 @@ module _ (v : View) (path : ℕ) (fits : ViewFits v) where
   send_fin_pair_held (Some m) p is h = held_if v path (p.opened && is_whole p.known_end p) p (record p { fins = p.fins ++ length p.sent ∷ [] }) (λ may.
       let both = and_parts p.opened (is_whole p.known_end p) may in
       let own = subst (λ o. IfSome o (λ m. IsEndless path v p.sent m × (m.place ≤ v.acked) × (v.owner ≡ Some path))) is h.pairs.own in
-      record {
-        record_of = h.record_of;
-        alone = h.alone;
-        modes = h.modes;
-        bytes = h.bytes;
-        link = h.link;
-        passed = h.passed;
-        pairs = h.pairs;
-        ends = h.ends;
-        fins = Every-push (length p.sent) h.fins (fin_by_pair p m own.0 h both.0 p.known_end refl both.1);
-        heard = h.heard;
-        receiver = h.receiver;
-        ask = h.ask;
-      }) h
+      whole (new_fins (Every-push (length p.sent) h.fins (fin_by_pair p m own.0 h both.0 p.known_end refl both.1)) (parts_of h))) h
 
   -- ---- what is taken
 
   pub take_pair_held : (o : Option Pair) (copy : ℕ) (p : Lane) → slice_get p.pairs copy ≡ o → LaneHolds v path p → LaneHolds v path (takes_pair o p)
   take_pair_held None copy p is h = h
-  take_pair_held (Some m) copy p is h = record {
-    record_of = h.record_of;
-    alone = h.alone;
-    modes = h.modes;
-    bytes = h.bytes;
-    link = h.link;
-    passed = h.passed;
-    pairs = record { own = h.pairs.own; told = h.pairs.told; took = h.pairs.told.each copy m is };
-    ends = h.ends;
-    fins = h.fins;
-    heard = h.heard;
-    receiver = h.receiver;
-    ask = h.ask;
-  }
+  take_pair_held (Some m) copy p is h = whole (new_pairs (record { own = h.pairs.own; told = h.pairs.told; took = h.pairs.told.each copy m is }) (parts_of h))
 
   pub want_fin_pair_held : (o : Option Pair) (p : Lane) → p.taken ≡ o → LaneHolds v path p → LaneHolds v path (ends_pair o p)
   want_fin_pair_held None p is h = h

@@ -9,6 +9,7 @@ use Rattle.stream_lanes.proofs.Lists.{item_at}
 use Rattle.stream_lanes.proofs.MarkLists.{AreAcked-within}
 use Rattle.stream_lanes.proofs.Later.{Anyone, lane_later}
 use Rattle.stream_lanes.proofs.Sends.{SendStep, go_infinite_step}
+use Rattle.stream_lanes.proofs.LaneParts.{parts_of, whole, new_pairs}
 
 -- each item of a list that passes as a whole passes
 each_passes : {X : Type 0} (test : X → Bool) (xs : List X) (i : ℕ) (x : X) → list_all test xs ≡ true → slice_get xs i ≡ Some x → test x ≡ true
@@ -53,12 +54,8 @@ tried_or_new path (x ∷ ms) i m first e = by_new (is_untouched x) refl first (�
 acked_at : (path n place : ℕ) (ms : List ByteMark) → AreAcked n ms → place < n → spent path (slice_get ms place) ≡ true
 acked_at path n place [] are below = absurd (omega (arith, are, below))
 acked_at path zero place (m ∷ ms) are below = absurd (omega (arith, below))
-acked_at path (suc n) zero (m ∷ ms) are below = is_spent m are.0
-  where
-    is_spent : (m : ByteMark) → is_acked m ≡ true → spent path (Some m) ≡ true
-    is_spent Acked e = refl
-    is_spent (Held holder tried) e = cc
-    is_spent (Free tried) e = cc
+acked_at path (suc n) zero (m ∷ ms) are below = (elim m as (λ m. is_acked m ≡ true → spent path (Some m) ≡ true)
+    [ Acked ↦ λ e. refl | Held holder tried ↦ λ e. cc | Free tried ↦ λ e. cc ]) are.0
 acked_at path (suc n) (suc place) (m ∷ ms) are below = acked_at path n place ms are.1 (omega (arith, below))
 
 module _ (f : Flags) (s : Sending) (b : Arriving) (send : SendHolds s (view_of f s b)) (path pos : ℕ) (p : Lane) (h : LaneHolds (view_of f s b) path p) (may : may_go path pos s p ≡ true) where
@@ -145,32 +142,12 @@ module _ (f : Flags) (s : Sending) (b : Arriving) (send : SendHolds s (view_of f
   pub goes_held : ((n : ℕ) → AreNew n s.marks → received b ≤ n) → LaneHolds (view_of f book b) path (record p { pair = Some pair })
   goes_held far =
       let now : LaneHolds (view_of f book b) path p = lane_later goes_step.later path p tt far h in
-      record {
-        record_of = now.record_of;
-        alone = now.alone;
-        modes = now.modes;
-        bytes = now.bytes;
-        link = now.link;
-        passed = now.passed;
-        pairs = record {
-          own = (
-            record {
-              within = within;
-              places = λ n c from e. placed_by n c from e;
-              spent = spent_by;
-              rest = new_from;
-              upto = upto;
-              owner = given refl;
-            },
-            omega arith,
-            refl,
-          );
-          told = now.pairs.told;
-          took = now.pairs.took;
-        };
-        ends = now.ends;
-        fins = now.fins;
-        heard = now.heard;
-        receiver = now.receiver;
-        ask = now.ask;
-      }
+      whole (new_pairs (record {
+        own = (
+          record { within = within; places = λ n c from e. placed_by n c from e; spent = spent_by; rest = new_from; upto = upto; owner = given refl },
+          omega arith,
+          refl,
+        );
+        told = now.pairs.told;
+        took = now.pairs.took;
+      }) (parts_of now))

@@ -5,13 +5,12 @@
 --
 -- What a definition computes to is passed to `subst` as a function of the Bool or Option that decides.
 use Rattle.stream_lanes.proofs.Words.{◌≡◌, refl, sym, ◌∙◌, ap, subst, ℕ, ◌+◌, ◌-◌, ◌<◌, ◌≤◌, Bool, true, false, not, ⊎_elim, List, [], ◌∷◌, ◌++◌, length, drop}
-use Rattle.stream_lanes.proofs.Words.{Some, None, Result, Ok, Err, position, if◌then◌else◌, arith, ◌⊎◌, ◌&&◌, inl, inr, and_parts, cases_lt, slice_get}
-use Rattle.stream_lanes.proofs.Words.{length-take, length-drop, map-append, length-map, length-append, IfSome, option_map, slice_get_within, Arriving, received}
-use Rattle.stream_lanes.proofs.Words.{edge, Span, Why, Grant, Sending, decision, given_by, change_part, reply_by, slice_get-changed_inside}
-use Rattle.stream_lanes.proofs.Words.{slice_get-append_right, ByteMark, is_free_for, MayTake, decision-MayTake, spent-given, Mapping, Pair, Lane, Cell, Flags}
-use Rattle.stream_lanes.proofs.Words.{place_by, takes_grant, places_of, cells_from, later_end, Every, view_of, end_of, IsEnd, AloneHolds, IsFin, LaneHolds}
-use Rattle.stream_lanes.proofs.Words.{CellFits, IsPassed, PassedHolds, IsEndless, PairsHold, SendHolds, IsRight, HasPlace, AreApart, spent, spent_count, AreNew}
-use Rattle.stream_lanes.proofs.Words.{tried}
+use Rattle.stream_lanes.proofs.Words.{Some, None, Ok, Err, position, if◌then◌else◌, arith, ◌⊎◌, ◌&&◌, inl, inr, and_parts, cases_lt, slice_get, length-take}
+use Rattle.stream_lanes.proofs.Words.{length-drop, map-append, length-map, length-append, IfSome, option_map, slice_get_within, Arriving, received, edge, Span}
+use Rattle.stream_lanes.proofs.Words.{Why, Grant, Sending, decision, given_by, change_part, reply_by, slice_get-changed_inside, slice_get-append_right}
+use Rattle.stream_lanes.proofs.Words.{ByteMark, is_free_for, MayTake, decision-MayTake, spent-given, Mapping, Pair, Lane, Cell, Flags, place_by, takes_grant}
+use Rattle.stream_lanes.proofs.Words.{places_of, cells_from, later_end, Every, view_of, end_of, IsEnd, AloneHolds, IsFin, LaneHolds, CellFits, IsPassed}
+use Rattle.stream_lanes.proofs.Words.{PassedHolds, IsEndless, PairsHold, SendHolds, IsRight, HasPlace, AreApart, spent, spent_count, AreNew, tried}
 use Rattle.send_book.specs.Marks.{given}
 use Rattle.send_book.specs.Steps.{after_call, reply_to, part_of}
 use Rattle.stream_lanes.proofs.Lists.{Every-map, Every-append, Every-push, From-append, Cells-map, in_append, in_one, in_drop, in_take, item_at, Has-more, IfSome-map}
@@ -21,24 +20,13 @@ use Rattle.stream_lanes.proofs.Later.{But, modes_later, link_later, passes_later
 use Rattle.stream_lanes.proofs.Views.{AllIn, all_in_is, is_end}
 use Rattle.stream_lanes.proofs.Views.AllIn.{missing, complete}
 use Rattle.stream_lanes.proofs.Sends.{SendStep}
+use Rattle.stream_lanes.proofs.LaneParts.{parts_of, whole, new_ends, new_ask}
 
 module _ (f : Flags) (s : Sending) (b : Arriving) (path : ℕ) (p : Lane) (send : SendHolds s (view_of f s b)) (room : f.alters ≡ false → received b ≤ edge b) (h : LaneHolds (view_of f s b) path p) where
   -- nothing was granted: the end that was told is that of the stream
   refused_held : (why : Why) → LaneHolds (view_of f s b) path (takes_grant (reply_by (Err why) s) p)
-  refused_held why = record {
-    record_of = h.record_of;
-    alone = h.alone;
-    modes = h.modes;
-    bytes = h.bytes;
-    link = h.link;
-    passed = h.passed;
-    pairs = h.pairs;
-    ends = record { told = told (s.closed && not s.aborted) refl; named = h.ends.named };
-    fins = h.fins;
-    heard = h.heard;
-    receiver = h.receiver;
-    ask = tt;
-  }
+  refused_held why = whole (new_ends (record { told = told (s.closed && not s.aborted) refl; named = h.ends.named })
+      (new_ask tt (parts_of h)))
     where
       told : (c : Bool) → (s.closed && not s.aborted) ≡ c → IfSome (later_end (if c then Some (length s.written) else None) p.known_end) (IsEnd (end_of s))
       told true is = ap (λ (d : Bool). if d then Some (length s.written) else None) (and_parts s.closed (not s.aborted) is).0
@@ -270,9 +258,8 @@ module _ (f : Flags) (s : Sending) (b : Arriving) (path : ℕ) (p : Lane) (send 
 
   pub grant_held : (max : ℕ) (standby : Bool) → p.opened ≡ true → 1 ≤ max → SendStep (But path) f s (after_call s (Grant path max standby)) b
       → LaneHolds (view_of f (after_call s (Grant path max standby)) b) path (takes_grant (reply_to s (Grant path max standby)) p)
-  grant_held max standby opened some step = by_decision (decision path max standby s) refl step
-    where
-      by_decision : (r : Result Span Why) → decision path max standby s ≡ r → SendStep (But path) f s (given_by path r s) b
-          → LaneHolds (view_of f (given_by path r s) b) path (takes_grant (reply_by r s) p)
-      by_decision (Err why) is step = refused_held why
-      by_decision (Ok span) is step = granted_held max standby span opened some is (decision-MayTake path max standby s span is) step
+  grant_held max standby opened some step =
+      (elim (decision path max standby s) as (λ r. decision path max standby s ≡ r → SendStep (But path) f s (given_by path r s) b → LaneHolds (view_of f (given_by path r s) b) path (takes_grant (reply_by r s) p)) [
+        | Err why ↦ λ is step. refused_held why
+        | Ok span ↦ λ is step. granted_held max standby span opened some is (decision-MayTake path max standby s span is) step
+      ]) refl step

@@ -121,10 +121,7 @@ module _ {Q : ℕ → Type 0} {v u : View} (l : Later Q v u) where
   granted_later path h = (h.0, l.end h.0 h.1, omega (arith, h.2, count_later path))
 
   pub passes_later : (path : ℕ) (sent : List Cell) (upto : ℕ) → IsPassed path v sent upto → IsPassed path u sent upto
-  passes_later path sent upto h = record {
-    bytes = λ pos c below e. l.placed c.place (h.bytes pos c below e);
-    past = λ more. granted_later path (h.past more);
-  }
+  passes_later path sent upto h = record { bytes = λ pos c below e. l.placed c.place (h.bytes pos c below e); past = λ more. granted_later path (h.past more) }
 
   pub passed_later : (path : ℕ) (sent : List Cell) (edge : ℕ) (fin_in : Bool) (acks : List AckCopy) → PassedHolds path v sent edge fin_in acks → PassedHolds path u sent edge fin_in acks
   passed_later path sent edge fin_in acks h = record {

@@ -9,6 +9,7 @@ pub mod Ending
 pub mod Endless
 pub mod Going
 pub mod Granting
+pub mod LaneParts
 pub mod Later
 pub mod Lists
 pub mod Local

@@ -81,9 +81,7 @@ module _ {X : Type 0} where
   Every-map f h = record { each = λ i x e. f x (h.each i x e) }
 
   pub Every-append : {P : X → Type 0} {xs ys : List X} → Every P xs → Every P ys → Every P (xs ++ ys)
-  Every-append {P} {xs} {ys} h k = record {
-    each = λ i x e. ⊎_elim (λ left. h.each i x left) (λ right. k.each (i - length xs) x right.1) (in_append xs ys i x e);
-  }
+  Every-append {P} {xs} {ys} h k = record { each = λ i x e. ⊎_elim (λ left. h.each i x left) (λ right. k.each (i - length xs) x right.1) (in_append xs ys i x e) }
 
   pub Every-push : {P : X → Type 0} {xs : List X} (y : X) → Every P xs → P y → Every P (xs ++ y ∷ [])
   Every-push {P} {xs} y h k = Every-append h (record { each = λ i x e. let one = in_one y x i e in subst P one.1 k })
@@ -110,9 +108,7 @@ module _ {X : Type 0} where
   Cells-map f h = record { each = λ i n x n_is e. f n x (h.each i n x n_is e) }
 
   pub Cells-drop : {P : ℕ → X → Type 0} {first : ℕ} {xs : List (Option X)} (count : ℕ) → Cells P first xs → Cells P (first + count) (drop count xs)
-  Cells-drop {P} {first} {xs} count h = record {
-    each = λ i n x n_is e. h.each (count + i) n x (omega (arith, n_is)) (in_drop count xs i (count + i) (Some x) refl e);
-  }
+  Cells-drop {P} {first} {xs} count h = record { each = λ i n x n_is e. h.each (count + i) n x (omega (arith, n_is)) (in_drop count xs i (count + i) (Some x) refl e) }
 
   pub Has-map : {P Q : X → Type 0} {xs : List X} → ((x : X) → P x → Q x) → Has P xs → Has Q xs
   Has-map f h = record { at = h.at; item = h.item; there = h.there; holds = f h.item h.holds }

@@ -7,6 +7,7 @@ use Rattle.stream_lanes.proofs.Words.{IsAck, AskHolds, LaneHolds, IsRight, IsPie
 use Rattle.stream_lanes.proofs.Lists.{Every-nil, Every-append, Every-push, From-map, in_one}
 use Rattle.stream_lanes.proofs.Bytes.{Cells-merged, Cells-by_place, Cells-take, From-take, part_is_honest, part_within}
 use Rattle.stream_lanes.proofs.Checking.{length-turned, turned_came}
+use Rattle.stream_lanes.proofs.LaneParts.{parts_of, whole, new_modes, new_link, new_passed, new_bytes, new_ends, new_receiver, new_ask}
 
 -- What holds of a view by itself.
 pub record ViewFits (v : View) : Type 0 where
@@ -31,81 +32,29 @@ pub record FlagsFit (f : Flags) (v : View) : Type 0 where
 
 module _ (v : View) (path : ℕ) where
   pub held_if : (c : Bool) (p q : Lane) → (c ≡ true → LaneHolds v path q) → LaneHolds v path p → LaneHolds v path (if c then q else p)
-  held_if true p q allowed h = allowed refl
-  held_if false p q allowed h = h
+  held_if = elim [ true ↦ λ p q allowed h. allowed refl | false ↦ λ p q allowed h. h ]
 
   pub with_ask : (p : Lane) (a : Ask) → AskHolds v p.sent p.opened p.edge a → LaneHolds v path p → LaneHolds v path (record p { asking = a })
-  with_ask p a fits h = record {
-    record_of = h.record_of;
-    alone = h.alone;
-    modes = h.modes;
-    bytes = h.bytes;
-    link = h.link;
-    passed = h.passed;
-    pairs = h.pairs;
-    ends = h.ends;
-    fins = h.fins;
-    heard = h.heard;
-    receiver = h.receiver;
-    ask = fits;
-  }
+  with_ask p a fits h = whole (new_ask fits (parts_of h))
 
   pub open_held : (f : Flags) (p : Lane) → FlagsFit f v → LaneHolds v path p → LaneHolds v path (if f.answered || path == 0 then record p { opened = true } else p)
-  open_held f p flags h = held_if (f.answered || path == 0) p (record p { opened = true }) (λ c. record {
-    record_of = h.record_of;
-    alone = h.alone;
-    modes = record {
-      joined = λ _ alone. ⊎_elim (λ answered. absurd (both_ways _ (flags.answered answered) alone)) (λ zero. eqb-true path 0 zero) (or_cases f.answered (path == 0) c);
-      sender = h.modes.sender;
-      receiver = h.modes.receiver;
-      inexact = h.modes.inexact;
-    };
-    bytes = h.bytes;
-    link = h.link;
-    passed = h.passed;
-    pairs = h.pairs;
-    ends = h.ends;
-    fins = h.fins;
-    heard = h.heard;
-    receiver = h.receiver;
-    ask = opened_ask p.asking h.ask;
-  }) h
+  open_held f p flags h = held_if (f.answered || path == 0) p (record p { opened = true }) (λ c. (whole (new_modes (record {
+    joined = λ _ alone. ⊎_elim (λ answered. absurd (both_ways _ (flags.answered answered) alone)) (λ zero. eqb-true path 0 zero) (or_cases f.answered (path == 0) c);
+    sender = h.modes.sender;
+    receiver = h.modes.receiver;
+    inexact = h.modes.inexact;
+  })
+      (new_ask (opened_ask p.asking h.ask) (parts_of h))))) h
     where
       opened_ask : (a : Ask) → AskHolds v p.sent p.opened p.edge a → AskHolds v p.sent true p.edge a
-      opened_ask (AskGrant max standby) fits = (refl, fits.1)
-      opened_ask _ fits = fits
+      opened_ask = elim [ AskGrant max standby ↦ λ fits. (refl, fits.1) | _ ↦ λ fits. fits ]
 
   pub look_at_sender_held : (f : Flags) (p : Lane) → FlagsFit f v → LaneHolds v path p → LaneHolds v path (record p { sender_plain = f.sender })
-  look_at_sender_held f p flags h = record {
-    record_of = h.record_of;
-    alone = h.alone;
-    modes = record { joined = h.modes.joined; sender = flags.sender; receiver = h.modes.receiver; inexact = h.modes.inexact };
-    bytes = h.bytes;
-    link = h.link;
-    passed = h.passed;
-    pairs = h.pairs;
-    ends = h.ends;
-    fins = h.fins;
-    heard = h.heard;
-    receiver = h.receiver;
-    ask = h.ask;
-  }
+  look_at_sender_held f p flags h = whole (new_modes (record { joined = h.modes.joined; sender = flags.sender; receiver = h.modes.receiver; inexact = h.modes.inexact }) (parts_of h))
 
   pub look_at_receiver_held : (f : Flags) (p : Lane) → FlagsFit f v → LaneHolds v path p → LaneHolds v path (record p { receiver_plain = f.receiver; receiver_loose = f.loose })
-  look_at_receiver_held f p flags h = record {
-    record_of = h.record_of;
-    alone = h.alone;
-    modes = record { joined = h.modes.joined; sender = h.modes.sender; receiver = flags.receiver; inexact = flags.inexact };
-    bytes = h.bytes;
-    link = record { alters_is = h.link.alters_is; checked_is = h.link.checked_is; must = h.link.must; inexact = flags.loose };
-    passed = h.passed;
-    pairs = h.pairs;
-    ends = h.ends;
-    fins = h.fins;
-    heard = h.heard;
-    receiver = h.receiver;
-    ask = h.ask;
-  }
+  look_at_receiver_held f p flags h = whole (new_modes (record { joined = h.modes.joined; sender = h.modes.sender; receiver = flags.receiver; inexact = flags.inexact })
+      (new_link (record { alters_is = h.link.alters_is; checked_is = h.link.checked_is; must = h.link.must; inexact = flags.loose }) (parts_of h)))
 
   pub hear_ack_held : (o : Option AckCopy) (copy : ℕ) (p : Lane) → ViewFits v → slice_get p.acks copy ≡ o → LaneHolds v path p → LaneHolds v path (hears o p)
   hear_ack_held None copy p fits is h = h
@@ -116,46 +65,31 @@ module _ (v : View) (path : ℕ) where
       copy_fits = h.receiver.copies.each copy a is
 
       by_mode : (plain : Bool) → (plain ≡ true → v.alone ≡ true) → IsAck v (if plain then a.sub else a.next) a.window
-      by_mode true alone = copy_fits.subflow (alone refl)
-      by_mode false alone = copy_fits.stream
+      by_mode = elim [ true ↦ λ alone. copy_fits.subflow (alone refl) | false ↦ λ alone. copy_fits.stream ]
 
   pub send_piece_held : (mapped : Bool) (o : Option Mapping) (piece : ℕ) (p : Lane) → slice_get p.pieces piece ≡ o → LaneHolds v path p → LaneHolds v path (sends_piece mapped o p)
   send_piece_held mapped None piece p is h = h
-  send_piece_held mapped (Some m) piece p is h = record {
-    record_of = h.record_of;
-    alone = h.alone;
-    modes = h.modes;
-    bytes = record {
-      granted = h.bytes.granted;
-      apart = h.bytes.apart;
-      honest = Every-push (piece_of mapped p m) h.bytes.honest (record {
-        within = part_within p.sent m right;
-        bytes = From-map (λ pos byte is. as_sent is) (part_is_honest p.sent m right);
-        mapping = by_mapping mapped;
-        piece = by_piece mapped;
-      });
-      within = h.bytes.within;
-      came = h.bytes.came;
-      right = h.bytes.right;
-      learned = h.bytes.learned;
-      acked = h.bytes.acked;
-    };
-    link = h.link;
-    passed = h.passed;
-    pairs = h.pairs;
-    ends = h.ends;
-    fins = h.fins;
-    heard = h.heard;
-    receiver = h.receiver;
-    ask = h.ask;
-  }
+  send_piece_held mapped (Some m) piece p is h = whole (new_bytes (record {
+    granted = h.bytes.granted;
+    apart = h.bytes.apart;
+    honest = Every-push (piece_of mapped p m) h.bytes.honest (record {
+      within = part_within p.sent m right;
+      bytes = From-map (λ pos byte is. as_sent is) (part_is_honest p.sent m right);
+      mapping = by_mapping mapped;
+      piece = by_piece mapped;
+    });
+    within = h.bytes.within;
+    came = h.bytes.came;
+    right = h.bytes.right;
+    learned = h.bytes.learned;
+    acked = h.bytes.acked;
+  }) (parts_of h))
     where
       right : IsRight p.sent m
       right = h.bytes.granted.each piece m is
 
       by_mapping : (mapped : Bool) → IfSome (if mapped then Some m else None) (IsRight p.sent)
-      by_mapping true = right
-      by_mapping false = tt
+      by_mapping = elim [ true ↦ right | false ↦ tt ]
 
       by_piece : (mapped : Bool) → IfSome (if mapped then Some m else None) (IsPiece p.pieces)
       by_piece true = record { at = piece; item = m; there = is; holds = refl }
@@ -163,86 +97,46 @@ module _ (v : View) (path : ℕ) where
 
   pub send_altered_held : (mapped : Bool) (o : Option Mapping) (piece : ℕ) (p : Lane) → slice_get p.pieces piece ≡ o → LaneHolds v path p → LaneHolds v path (sends_altered mapped o p)
   send_altered_held mapped None piece p is h = h
-  send_altered_held mapped (Some m) piece p is h = held_if p.alters p (record p { datas = p.datas ++ altered_piece_of mapped p m ∷ [] }) (λ alters. record {
-    record_of = h.record_of;
-    alone = h.alone;
-    modes = h.modes;
-    bytes = record {
-      granted = h.bytes.granted;
-      apart = h.bytes.apart;
-      honest = Every-push (altered_piece_of mapped p m) h.bytes.honest (record {
-        within = omega (arith, part_within p.sent m right, length-turned (part_of p.sent m));
-        bytes = turned_came p.alters p.pieces p.sent m alters (record { at = piece; item = m; there = is; holds = refl }) (part_of p.sent m) (part_is_honest p.sent m right);
-        mapping = by_mapping mapped;
-        piece = by_piece mapped;
-      });
-      within = h.bytes.within;
-      came = h.bytes.came;
-      right = h.bytes.right;
-      learned = h.bytes.learned;
-      acked = h.bytes.acked;
-    };
-    link = h.link;
-    passed = h.passed;
-    pairs = h.pairs;
-    ends = h.ends;
-    fins = h.fins;
-    heard = h.heard;
-    receiver = h.receiver;
-    ask = h.ask;
-  }) h
+  send_altered_held mapped (Some m) piece p is h = held_if p.alters p (record p { datas = p.datas ++ altered_piece_of mapped p m ∷ [] }) (λ alters. (whole (new_bytes (record {
+    granted = h.bytes.granted;
+    apart = h.bytes.apart;
+    honest = Every-push (altered_piece_of mapped p m) h.bytes.honest (record {
+      within = omega (arith, part_within p.sent m right, length-turned (part_of p.sent m));
+      bytes = turned_came p.alters p.pieces p.sent m alters (record { at = piece; item = m; there = is; holds = refl }) (part_of p.sent m) (part_is_honest p.sent m right);
+      mapping = by_mapping mapped;
+      piece = by_piece mapped;
+    });
+    within = h.bytes.within;
+    came = h.bytes.came;
+    right = h.bytes.right;
+    learned = h.bytes.learned;
+    acked = h.bytes.acked;
+  }) (parts_of h)))) h
     where
       right : IsRight p.sent m
       right = h.bytes.granted.each piece m is
 
       by_mapping : (mapped : Bool) → IfSome (if mapped then Some m else None) (IsRight p.sent)
-      by_mapping true = right
-      by_mapping false = tt
+      by_mapping = elim [ true ↦ right | false ↦ tt ]
 
       by_piece : (mapped : Bool) → IfSome (if mapped then Some m else None) (IsPiece p.pieces)
       by_piece true = record { at = piece; item = m; there = is; holds = refl }
       by_piece false = tt
 
   pub forget_held : (from : ℕ) (p : Lane) → LaneHolds v path p → LaneHolds v path (record p { kept = take (from - p.edge) p.kept })
-  forget_held from p h = record {
-    record_of = h.record_of;
-    alone = h.alone;
-    modes = h.modes;
-    bytes = record {
-      granted = h.bytes.granted;
-      apart = h.bytes.apart;
-      honest = h.bytes.honest;
-      within = h.bytes.within;
-      came = Cells-take (from - p.edge) h.bytes.came;
-      right = h.bytes.right;
-      learned = h.bytes.learned;
-      acked = h.bytes.acked;
-    };
-    link = h.link;
-    passed = h.passed;
-    pairs = h.pairs;
-    ends = h.ends;
-    fins = h.fins;
-    heard = h.heard;
-    receiver = h.receiver;
-    ask = h.ask;
-  }
+  forget_held from p h = whole (new_bytes (record {
+    granted = h.bytes.granted;
+    apart = h.bytes.apart;
+    honest = h.bytes.honest;
+    within = h.bytes.within;
+    came = Cells-take (from - p.edge) h.bytes.came;
+    right = h.bytes.right;
+    learned = h.bytes.learned;
+    acked = h.bytes.acked;
+  }) (parts_of h))
 
   pub send_data_fin_held : (o : Option ℕ) (p : Lane) → p.known_end ≡ o → LaneHolds v path p → LaneHolds v path (record p { data_fins = p.data_fins ++ known o })
-  send_data_fin_held o p is h = record {
-    record_of = h.record_of;
-    alone = h.alone;
-    modes = h.modes;
-    bytes = h.bytes;
-    link = h.link;
-    passed = h.passed;
-    pairs = h.pairs;
-    ends = record { told = h.ends.told; named = Every-append h.ends.named (names o (subst (λ k. IfSome k (IsEnd v.end)) is h.ends.told)) };
-    fins = h.fins;
-    heard = h.heard;
-    receiver = h.receiver;
-    ask = h.ask;
-  }
+  send_data_fin_held o p is h = whole (new_ends (record { told = h.ends.told; named = Every-append h.ends.named (names o (subst (λ k. IfSome k (IsEnd v.end)) is h.ends.told)) }) (parts_of h))
     where
       names : (o : Option ℕ) → IfSome o (IsEnd v.end) → Every (IsEnd v.end) (known o)
       names None told = Every-nil (IsEnd v.end)
@@ -250,29 +144,16 @@ module _ (v : View) (path : ℕ) where
 
   pub hear_held : (count : ℕ) (o : Option DataCopy) (copy : ℕ) (p : Lane) → slice_get p.datas copy ≡ o → LaneHolds v path p → LaneHolds v path (keeps count o p)
   hear_held count None copy p is h = h
-  hear_held count (Some d) copy p is h = record {
-    record_of = h.record_of;
-    alone = h.alone;
-    modes = h.modes;
-    bytes = record {
-      granted = h.bytes.granted;
-      apart = h.bytes.apart;
-      honest = h.bytes.honest;
-      within = h.bytes.within;
-      came = Cells-merged h.bytes.came (Cells-by_place p.edge (From-take count (h.bytes.honest.each copy d is).bytes));
-      right = h.bytes.right;
-      learned = h.bytes.learned;
-      acked = h.bytes.acked;
-    };
-    link = h.link;
-    passed = h.passed;
-    pairs = h.pairs;
-    ends = h.ends;
-    fins = h.fins;
-    heard = h.heard;
-    receiver = h.receiver;
-    ask = h.ask;
-  }
+  hear_held count (Some d) copy p is h = whole (new_bytes (record {
+    granted = h.bytes.granted;
+    apart = h.bytes.apart;
+    honest = h.bytes.honest;
+    within = h.bytes.within;
+    came = Cells-merged h.bytes.came (Cells-by_place p.edge (From-take count (h.bytes.honest.each copy d is).bytes));
+    right = h.bytes.right;
+    learned = h.bytes.learned;
+    acked = h.bytes.acked;
+  }) (parts_of h))
 
   pub learn_held : (o : Option DataCopy) (copy : ℕ) (p : Lane) → slice_get p.datas copy ≡ o → LaneHolds v path p → LaneHolds v path (learns o p)
   learn_held None copy p is h = h
@@ -284,29 +165,16 @@ module _ (v : View) (path : ℕ) where
         where
           by_clash : (c : Bool) → LaneHolds v path (if c then p else record p { maps = p.maps ++ m ∷ [] })
           by_clash true = h
-          by_clash false = record {
-            record_of = h.record_of;
-            alone = h.alone;
-            modes = h.modes;
-            bytes = record {
-              granted = h.bytes.granted;
-              apart = h.bytes.apart;
-              honest = h.bytes.honest;
-              within = h.bytes.within;
-              came = h.bytes.came;
-              right = Every-push m h.bytes.right right;
-              learned = Every-push m h.bytes.learned piece;
-              acked = h.bytes.acked;
-            };
-            link = h.link;
-            passed = h.passed;
-            pairs = h.pairs;
-            ends = h.ends;
-            fins = h.fins;
-            heard = h.heard;
-            receiver = h.receiver;
-            ask = h.ask;
-          }
+          by_clash false = whole (new_bytes (record {
+            granted = h.bytes.granted;
+            apart = h.bytes.apart;
+            honest = h.bytes.honest;
+            within = h.bytes.within;
+            came = h.bytes.came;
+            right = Every-push m h.bytes.right right;
+            learned = Every-push m h.bytes.learned piece;
+            acked = h.bytes.acked;
+          }) (parts_of h))
 
   pub hear_data_fin_held : (o : Option ℕ) (copy : ℕ) (p : Lane) → slice_get p.data_fins copy ≡ o → LaneHolds v path p → LaneHolds v path (hears_data_fin o p)
   hear_data_fin_held None copy p is h = h
@@ -316,23 +184,11 @@ module _ (v : View) (path : ℕ) where
   hear_fin_held None copy p is h = h
   hear_fin_held (Some pos) copy p is h = held_if (pos == p.edge) p (record p { fin_in = true }) (λ here.
       let at : pos ≡ p.edge = eqb-true pos p.edge here in
-      record {
-        record_of = h.record_of;
-        alone = h.alone;
-        modes = h.modes;
-        bytes = h.bytes;
-        link = h.link;
-        passed = record { bytes = h.passed.bytes; fin = λ _. let fin = h.fins.each copy pos is in (sym at ∙ fin.last, fin.left); copies = h.passed.copies };
-        pairs = h.pairs;
-        ends = h.ends;
-        fins = h.fins;
-        heard = h.heard;
-        receiver = record {
-          told = h.receiver.told;
-          passed = h.receiver.passed;
-          fin = λ alone _. subst (IsEnd v.end) at ((h.fins.each copy pos is).ends alone);
-          fresh = h.receiver.fresh;
-          copies = h.receiver.copies;
-        };
-        ask = h.ask;
-      }) h
+      whole (new_passed (record { bytes = h.passed.bytes; fin = λ _. let fin = h.fins.each copy pos is in (sym at ∙ fin.last, fin.left); copies = h.passed.copies })
+      (new_receiver (record {
+        told = h.receiver.told;
+        passed = h.receiver.passed;
+        fin = λ alone _. subst (IsEnd v.end) at ((h.fins.each copy pos is).ends alone);
+        fresh = h.receiver.fresh;
+        copies = h.receiver.copies;
+      }) (parts_of h)))) h

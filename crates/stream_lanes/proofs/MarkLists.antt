@@ -38,22 +38,17 @@ returned_untouched path (Held holder tried) e = cc
 returned_untouched path (Free tried) e = e
 
 acked_touched : (m : ByteMark) → is_acked m ≡ true → is_untouched m ≡ true → ⊥
-acked_touched Acked e new = cc
-acked_touched (Held holder tried) e new = cc
-acked_touched (Free tried) e new = cc
+acked_touched = elim [ Acked ↦ λ e new. cc | Held holder tried ↦ λ e new. cc | Free tried ↦ λ e new. cc ]
 
 -- where each spent byte stays spent, as many are spent at least
 pub count_grows : (path : ℕ) (ms ns : List ByteMark)
     → ((place : ℕ) → spent path (slice_get ms place) ≡ true → spent path (slice_get ns place) ≡ true) → spent_count path ms ≤ spent_count path ns
 count_grows path [] ns h = omega arith
 count_grows path (m ∷ ms) [] h =
-    let none : spent path (Some m) ≡ false = at (spent path (Some m)) refl in
+    let none : spent path (Some m) ≡ false = (elim (spent path (Some m)) as (λ b. spent path (Some m) ≡ b → b ≡ false)
+    [ true ↦ λ e. absurd (both_ways false refl (h 0 e)) | false ↦ λ e. refl ]) refl in
     let rest = count_grows path ms [] (λ place e. h (suc place) e) in
     omega (arith, sum_by-cons (λ (x : ByteMark). cond (spent path (Some x)) 1 0) m ms, ap (λ b. cond {A = ℕ} b 1 0) none, rest)
-  where
-    at : (b : Bool) → spent path (Some m) ≡ b → b ≡ false
-    at true e = absurd (both_ways false refl (h 0 e))
-    at false e = refl
 count_grows path (m ∷ ms) (n ∷ ns) h =
     let rest = count_grows path ms ns (λ place e. h (suc place) e) in
     let head : cond {A = ℕ} (spent path (Some m)) 1 0 ≤ cond {A = ℕ} (spent path (Some n)) 1 0 = at (spent path (Some m)) (spent path (Some n)) (h 0) in
@@ -71,8 +66,7 @@ count_within path (m ∷ ms) =
     omega (arith, sum_by-cons (λ (x : ByteMark). cond (spent path (Some x)) 1 0) m ms, at (spent path (Some m)), rest)
   where
     at : (b : Bool) → cond {A = ℕ} b 1 0 ≤ 1
-    at true = omega arith
-    at false = omega arith
+    at = elim [ true ↦ omega arith | false ↦ omega arith ]
 
 -- a list is its first part, a part from there on, and the rest
 pub three_parts : {X : Type 0} (from n to : ℕ) (xs : List X) → to ≡ from + n → take from xs ++ (take n (drop from xs) ++ drop to xs) ≡ xs
@@ -182,11 +176,7 @@ given_acked path (Free tried) = refl
 
 returned_acked : (path : ℕ) (m : ByteMark) → is_acked (returned path m) ≡ is_acked m
 returned_acked path Acked = refl
-returned_acked path (Held holder tried) = at (holder == path)
-  where
-    at : (b : Bool) → is_acked (if b then Free tried else Held holder tried) ≡ false
-    at true = refl
-    at false = refl
+returned_acked path (Held holder tried) = elim (holder == path) as (λ b. is_acked (if b then Free tried else Held holder tried) ≡ false) [ true ↦ refl | false ↦ refl ]
 returned_acked path (Free tried) = refl
 
 pub AreAcked-given : (path n : ℕ) (span : Span) (ms : List ByteMark) → span.from ≤ span.to → AreAcked n ms → AreAcked n (change_part (given path) span ms)
@@ -263,8 +253,7 @@ grant_first path max standby b span e =
     at (first_free path b) refl (passed standby Backup _ span (passed _ Ended _ span e))
   where
     owned : (o : Bool) (from : ℕ) → (if o then position (is_free_for path) b.marks else None) ≡ Some from → position (is_free_for path) b.marks ≡ Some from
-    owned true from h = h
-    owned false from h = cc
+    owned = elim [ true ↦ λ from h. h | false ↦ λ from h. cc ]
 
     begins : (from : ℕ) (c : Bool) → (if c then Err WindowShut else Ok (record { from = from; to = from + run_len path max b from })) ≡ Ok span → from ≡ span.from
     begins from true h = cc
@@ -279,23 +268,18 @@ grant_first path max standby b span e =
 -- a book that was given to a path alone grants to it alone
 pub grant_owner : (path k max : ℕ) (standby : Bool) (b : Sending) (span : Span) → decision path max standby b ≡ Ok span → b.owner ≡ Some k → k ≡ path
 grant_owner path k max standby b span e owned =
-    at (first_free path b) refl (passed standby Backup _ span (passed _ Ended _ span e))
+    (elim (first_free path b) as (λ o. first_free path b ≡ o → span_at path max b o ≡ Ok span → k ≡ path)
+    [ None ↦ λ is h. cc | Some from ↦ λ is h. mine (is_for path b.owner) refl from is ]) refl (passed standby Backup _ span (passed _ Ended _ span e))
   where
     mine : (o : Bool) → is_for path b.owner ≡ o → (from : ℕ) → (if o then position (is_free_for path) b.marks else None) ≡ Some from → k ≡ path
     mine true is from h = eqb-true k path (sym (ap (is_for path) owned) ∙ is)
     mine false is from h = cc
 
-    at : (o : Option ℕ) → first_free path b ≡ o → span_at path max b o ≡ Ok span → k ≡ path
-    at None is h = cc
-    at (Some from) is h = mine (is_for path b.owner) refl from is
-
 -- a place that passes is one of the list
 pub position_within : {X : Type 0} (test : X → Bool) (xs : List X) (from : ℕ) → position test xs ≡ Some from → from < length xs
-position_within test xs from e = at (nat_lt (position_or_len test xs) (length xs)) refl e
-  where
-    at : (b : Bool) → nat_lt (position_or_len test xs) (length xs) ≡ b → cond b (Some (position_or_len test xs)) None ≡ Some from → from < length xs
-    at true is h = let same : position_or_len test xs ≡ from = cc in omega (arith, same, ltb-true _ _ is)
-    at false is h = cc
+position_within test xs from e =
+    (elim (nat_lt (position_or_len test xs) (length xs)) as (λ b. nat_lt (position_or_len test xs) (length xs) ≡ b → cond b (Some (position_or_len test xs)) None ≡ Some from → from < length xs)
+    [ true ↦ λ is h. let same : position_or_len test xs ≡ from = cc in omega (arith, same, ltb-true _ _ is) | false ↦ λ is h. cc ]) refl e
 
 -- where the bytes below n are spent and the others new, that is byte n
 pub grant_is_next : (path n from : ℕ) (ms : List ByteMark) → position (is_free_for path) ms ≡ Some from
@@ -305,8 +289,7 @@ grant_is_next path n from ms e below new within = ⊎_elim early (λ not_early. 
     found : (b : Bool) → nat_lt (position_or_len (is_free_for path) ms) (length ms) ≡ b
         → cond b (Some (position_or_len (is_free_for path) ms)) None ≡ Some from
         → (position_or_len (is_free_for path) ms ≡ from) × (position_or_len (is_free_for path) ms < length ms)
-    found true is h = (cc, ltb-true _ _ is)
-    found false is h = cc
+    found = elim [ true ↦ λ is h. (cc, ltb-true _ _ is) | false ↦ λ is h. cc ]
 
     first : (position_or_len (is_free_for path) ms ≡ from) × (position_or_len (is_free_for path) ms < length ms)
     first = found _ refl e
@@ -336,9 +319,7 @@ acked_spent path (suc n) (m ∷ ms) h =
     omega (arith, sum_by-cons (λ (x : ByteMark). cond (spent path (Some x)) 1 0) m ms, ap (λ b. cond {A = ℕ} b 1 0) (is_spent m h.0), acked_spent path n ms h.1)
   where
     is_spent : (m : ByteMark) → is_acked m ≡ true → spent path (Some m) ≡ true
-    is_spent Acked e = refl
-    is_spent (Held holder tried) e = cc
-    is_spent (Free tried) e = cc
+    is_spent = elim [ Acked ↦ λ e. refl | Held holder tried ↦ λ e. cc | Free tried ↦ λ e. cc ]
 
 -- a byte among the acknowledged ones is not new
 pub acked_is_spent : (n place : ℕ) (ms : List ByteMark) (m : ByteMark) → AreAcked n ms → place < n → slice_get ms place ≡ Some m → is_untouched m ≡ true → ⊥
@@ -362,13 +343,9 @@ new_count path (suc n) (m ∷ ms) new =
     omega (
       arith,
       sum_by-cons (λ (x : ByteMark). cond (spent path (Some x)) 1 0) m ms,
-      at (spent path (Some m)),
+      (elim (spent path (Some m)) as (λ b. cond {A = ℕ} b 1 0 ≤ 1) [ true ↦ omega arith | false ↦ omega arith ]),
       new_count path n ms (λ place mark above e. new (suc place) mark (omega (arith, above)) e),
     )
-  where
-    at : (b : Bool) → cond {A = ℕ} b 1 0 ≤ 1
-    at true = omega arith
-    at false = omega arith
 
 pub spent_upto : (path n : ℕ) (ms : List ByteMark) → ((place : ℕ) → place < n → spent path (slice_get ms place) ≡ true) → n ≤ spent_count path ms
 spent_upto path zero ms each = omega arith
@@ -413,19 +390,13 @@ tried-written path place count ms is = ⊎_elim
 
 returned_tried : (path k : ℕ) (m : ByteMark) → has_tried k (returned path m) ≡ has_tried k m
 returned_tried path k Acked = refl
-returned_tried path k (Held holder paths) = at (holder == path)
-  where
-    at : (b : Bool) → has_tried k (if b then Free paths else Held holder paths) ≡ contains k paths
-    at true = refl
-    at false = refl
+returned_tried path k (Held holder paths) = elim (holder == path) as (λ b. has_tried k (if b then Free paths else Held holder paths) ≡ contains k paths)
+    [ true ↦ refl | false ↦ refl ]
 returned_tried path k (Free paths) = refl
 
 pub tried-returned : (path k place : ℕ) (ms : List ByteMark) → tried k (slice_get (map (returned path) ms) place) ≡ true → tried k (slice_get ms place) ≡ true
-tried-returned path k place ms is = at (slice_get ms place) (ap (tried k) (sym (slice_get-map (returned path) ms place)) ∙ is)
-  where
-    at : (o : Option ByteMark) → tried k (option_map (returned path) o) ≡ true → tried k o ≡ true
-    at None e = e
-    at (Some m) e = sym (returned_tried path k m) ∙ e
+tried-returned path k place ms is = (elim (slice_get ms place) as (λ o. tried k (option_map (returned path) o) ≡ true → tried k o ≡ true)
+    [ None ↦ λ e. e | Some m ↦ λ e. sym (returned_tried path k m) ∙ e ]) (ap (tried k) (sym (slice_get-map (returned path) ms place)) ∙ is)
 
 pub tried-acked : (path place next c : ℕ) (ms : List ByteMark) → c ≡ min next (length ms) → tried path (slice_get (replicate c Acked ++ drop next ms) place) ≡ true
     → tried path (slice_get ms place) ≡ true
@@ -473,8 +444,7 @@ tried-given path k place span ms order within apart is =
     (cases_lt place span.from)
   where
     at : (o : Option ByteMark) → tried k (option_map (given path) o) ≡ true → tried k o ≡ true
-    at None e = e
-    at (Some m) e = sym (given_tried path k m apart) ∙ e
+    at = elim [ None ↦ λ e. e | Some m ↦ λ e. sym (given_tried path k m apart) ∙ e ]
 
 -- outside the span a grant changes nothing
 pub given_outside : (path place : ℕ) (span : Span) (ms : List ByteMark) → span.from ≤ span.to → span.to ≤ length ms → (place < span.from) ⊎ (span.to ≤ place)
@@ -490,11 +460,8 @@ held-written count ms h = Every-append h (record { each = λ i m e. ap is_held_r
 
 returned_held : (path : ℕ) (m : ByteMark) → is_held_rightly m ≡ true → is_held_rightly (returned path m) ≡ true
 returned_held path Acked h = refl
-returned_held path (Held holder paths) h = at (holder == path)
-  where
-    at : (b : Bool) → is_held_rightly (if b then Free paths else Held holder paths) ≡ true
-    at true = refl
-    at false = h
+returned_held path (Held holder paths) h = elim (holder == path) as (λ b. is_held_rightly (if b then Free paths else Held holder paths) ≡ true)
+    [ true ↦ refl | false ↦ h ]
 returned_held path (Free paths) h = refl
 
 given_held : (path : ℕ) (m : ByteMark) → is_held_rightly m ≡ true → is_held_rightly (given path m) ≡ true

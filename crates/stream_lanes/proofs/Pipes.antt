@@ -80,8 +80,7 @@ module _ (f : Flags) (d : Direction) (h : DirectionHolds f d) where
       (AreAcked-count (acked_len d.send.marks) _ (AreAcked-returned path (acked_len d.send.marks) d.send.marks h.send.first)))
 
   identity_moves : (fell : Bool) → IsOneStepOrNone d (if fell then with_send GoIdentityBook d else d)
-  identity_moves true = stays refl
-  identity_moves false = stays refl
+  identity_moves = elim [ true ↦ stays refl | false ↦ stays refl ]
 
   gives_moves : (path : ℕ) (lanes : List Lane) (gathered : Bool) → IsOneStepOrNone d (record d { send = if gathered then record d.send { owner = Some path } else d.send; lanes = lanes })
   gives_moves path lanes true = stays refl
@@ -89,14 +88,11 @@ module _ (f : Flags) (d : Direction) (h : DirectionHolds f d) where
 
   infinite_moves : (path pos : ℕ) (o : Option Lane) → IsOneStepOrNone d (goes_infinite path pos o d)
   infinite_moves path pos None = stays refl
-  infinite_moves path pos (Some p) = by_may (may_go path pos d.send p)
+  infinite_moves path pos (Some p) = elim (may_go path pos d.send p) as (λ may. IsOneStepOrNone d (if may then record d { send = after_send d.send (GoInfiniteBook path); lanes = lanes } else d))
+      [ true ↦ gives_moves path lanes (is_gathered path d.send) | false ↦ stays refl ]
     where
       lanes : List Lane
       lanes = set d.lanes path (record p { pair = Some (record { pos = pos; place = acked_len d.send.marks }) })
-
-      by_may : (may : Bool) → IsOneStepOrNone d (if may then record d { send = after_send d.send (GoInfiniteBook path); lanes = lanes } else d)
-      by_may true = gives_moves path lanes (is_gathered path d.send)
-      by_may false = stays refl
 
   grant_moves : (path max : ℕ) (standby : Bool) (lanes : List Lane) (r : Result Span Why) → decision path max standby d.send ≡ r
       → IsOneStepOrNone d (record d { send = given_by path r d.send; lanes = lanes })
@@ -135,12 +131,10 @@ module _ (f : Flags) (d : Direction) (h : DirectionHolds f d) where
       covered (complete closed whole is) = omega (arith, whole, h.send.whole)
 
   place_moves : (taken : Bool) (places : List (Option ℕ)) (lanes : List Lane) → IsOneStepOrNone d (record d { arrived = if taken then record d.arrived { places = places } else d.arrived; lanes = lanes })
-  place_moves true places lanes = stays refl
-  place_moves false places lanes = stays refl
+  place_moves = elim [ true ↦ λ places lanes. stays refl | false ↦ λ places lanes. stays refl ]
 
   fin_moves : (clash : Bool) (at : ℕ) (lanes : List Lane) → IsOneStepOrNone d (record d { arrived = if clash then d.arrived else record d.arrived { known_end = Some at }; lanes = lanes })
-  fin_moves true at lanes = stays refl
-  fin_moves false at lanes = stays refl
+  fin_moves = elim [ true ↦ λ at lanes. stays refl | false ↦ λ at lanes. stays refl ]
 
   asks_moves : (path : ℕ) (p : Lane) (a : Ask) → AskHolds (view_of f d.send d.arrived) p.sent p.opened p.edge a → IsOneStepOrNone d (asks path a p d)
   asks_moves path p Nothing ask = stays refl
@@ -160,7 +154,9 @@ module _ (f : Flags) (d : Direction) (h : DirectionHolds f d) where
 
   -- a read is one step of the pipe, tells the end, or is none
   reads_moves : (max : ℕ) → is_done d.reader ≡ false → IsOneStepOrNone d (reads max d)
-  reads_moves max goes = by_abort d.arrived.aborted
+  reads_moves max goes =
+      elim d.arrived.aborted as (λ o. IsOneStepOrNone d (record d { arrived = if is_some o then d.arrived else after_reading max d.arrived; reader = takes_read (reading o max d.arrived) d.reader }))
+      [ None ↦ by_bytes (take max (filled d.arrived.places)) refl | Some by_peer ↦ stays refl ]
     where
       untold : d.reader.told ≡ false
       untold = (or_parts d.reader.told d.reader.stopped goes).0
@@ -195,11 +191,6 @@ module _ (f : Flags) (d : Direction) (h : DirectionHolds f d) where
             becomes = ap (λ n. pipe d.send.written d.send.closed (d.arrived.read + n) (acked_len d.send.marks) d.reader.told) (sym count);
             tells = tt;
           })
-
-      by_abort : (o : Option Bool)
-          → IsOneStepOrNone d (record d { arrived = if is_some o then d.arrived else after_reading max d.arrived; reader = takes_read (reading o max d.arrived) d.reader })
-      by_abort None = by_bytes (take max (filled d.arrived.places)) refl
-      by_abort (Some by_peer) = stays refl
 
   read_at_moves : (max : ℕ) (done : Bool) → is_done d.reader ≡ done → IsOneStepOrNone d (if done then d else reads max d)
   read_at_moves max true is = stays refl

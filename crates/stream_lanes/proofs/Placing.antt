@@ -36,19 +36,15 @@ passed_row sent m edge bytes right passed =
     (subst (From (IsByteOf sent) m.pos) (sym (same_bytes bytes (part_of sent m) parts.1)) (part_is_honest sent m right))
 
 or_rest : (c rest : Bool) → c ≡ true → (not c || rest) ≡ true → rest ≡ true
-or_rest true rest is passed = passed
-or_rest false rest is passed = cc
+or_rest = elim [ true ↦ λ rest is passed. passed | false ↦ λ rest is passed. cc ]
 
 -- bytes that came in a row end within it
 pub row_within : (alters : Bool) (pieces : List Mapping) (sent : List Cell) (edge : ℕ) (bytes : List ℕ) → edge ≤ length sent
     → From (Came alters pieces sent) edge bytes → edge + length bytes ≤ length sent
-row_within alters pieces sent edge bytes within row = at (length bytes) refl
-  where
-    at : (n : ℕ) → length bytes ≡ n → edge + length bytes ≤ length sent
-    at zero is = omega (arith, within, is)
-    at (suc n) is =
-        let last = item_at bytes n (omega (arith, is)) in
-        omega (arith, came_within alters pieces sent (edge + n) last.0 (row.each n (edge + n) last.0 refl last.1), is)
+row_within alters pieces sent edge bytes within row = (elim (length bytes) as (λ n. length bytes ≡ n → edge + length bytes ≤ length sent) [
+  | zero ↦ λ is. omega (arith, within, is)
+  | suc n ↦ λ is. let last = item_at bytes n (omega (arith, is)) in omega (arith, came_within alters pieces sent (edge + n) last.0 (row.each n (edge + n) last.0 refl last.1), is)
+]) refl
 
 module _ (v : View) (path : ℕ) (p : Lane) (h : LaneHolds v path p) (count : ℕ) where
   row : From (Came p.alters p.pieces p.sent) p.edge (in_order count p)

@@ -68,12 +68,7 @@ first_acked zero ms are = refl
 first_acked (suc n) [] are = absurd (omega (arith, are))
 first_acked (suc n) (m ∷ ms) are =
     let rest = first_acked n ms are.1 in
-    rw (is_the_acked m are.0) (ap (λ xs. Acked ∷ xs) rest)
-  where
-    is_the_acked : (m : ByteMark) → is_acked m ≡ true → m ≡ Acked
-    is_the_acked Acked e = refl
-    is_the_acked (Held path paths) e = cc
-    is_the_acked (Free paths) e = cc
+    rw ((elim m as (λ m. is_acked m ≡ true → m ≡ Acked) [ Acked ↦ λ e. refl | Held path paths ↦ λ e. cc | Free paths ↦ λ e. cc ]) are.0) (ap (λ xs. Acked ∷ xs) rest)
 
 all_held_rightly : (ms : List ByteMark) → ((i : ℕ) (m : ByteMark) → slice_get ms i ≡ Some m → is_held_rightly m ≡ true) → list_all is_held_rightly ms ≡ true
 all_held_rightly [] each = refl
@@ -235,9 +230,7 @@ module _ (f : Flags) (d : Direction) (h : DirectionHolds f d) (path : ℕ) (p : 
     mapped = Every-map (λ c honest. IfSome-map c.mapping mapping_short honest.mapping) lane.bytes.honest;
     data_fins = Every-map (λ e end. omega (arith, (is_end d.send e end).1)) lane.ends.named;
     fins = Every-map (λ pos fin. omega (arith, fin.last, short)) lane.fins;
-    acks = record {
-      each = λ i a e. (omega (arith, lane.bytes.acked.each i a e, short), next_short a.next (lane.receiver.copies.each i a e).stream.covers);
-    };
+    acks = record { each = λ i a e. (omega (arith, lane.bytes.acked.each i a e, short), next_short a.next (lane.receiver.copies.each i a e).stream.covers) };
     pairs = Every-map pair_short lane.pairs.told;
     edge = omega (arith, lane.bytes.within, short);
     maps = Every-map mapping_short lane.bytes.right;

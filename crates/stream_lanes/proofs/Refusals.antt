@@ -33,11 +33,8 @@ no_clash sent m (n ∷ maps) right all =
 
 copy_agrees : (v : View) (path : ℕ) (p : Lane) → LaneHolds v path p → (copy : ℕ) (o : Option DataCopy) → slice_get p.datas copy ≡ o → copy_clashes o p ≡ false
 copy_agrees v path p h copy None is = refl
-copy_agrees v path p h copy (Some d) is = at d.mapping (h.bytes.honest.each copy d is).mapping
-  where
-    at : (o : Option Mapping) → IfSome o (IsRight p.sent) → mapping_clashes o p ≡ false
-    at None right = refl
-    at (Some m) right = no_clash p.sent m p.maps right (λ i n e. h.bytes.right.each i n e)
+copy_agrees v path p h copy (Some d) is = (elim d.mapping as (λ o. IfSome o (IsRight p.sent) → mapping_clashes o p ≡ false)
+    [ None ↦ λ right. refl | Some m ↦ λ right. no_clash p.sent m p.maps right (λ i n e. h.bytes.right.each i n e) ]) (h.bytes.honest.each copy d is).mapping
 
 move_taken : (v : View) (path : ℕ) (p : Lane) → LaneHolds v path p → (move : Move) → move_refused move p ≡ false
 move_taken v path p h (Learn copy) = copy_agrees v path p h copy (slice_get p.datas copy) refl

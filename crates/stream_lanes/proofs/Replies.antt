@@ -15,6 +15,7 @@ use Rattle.stream_lanes.proofs.Local.{with_ask}
 use Rattle.stream_lanes.proofs.Views.{all_in_one, is_end as is_end_of}
 use Rattle.stream_lanes.proofs.Sends.{SendStep}
 use Rattle.stream_lanes.proofs.Arrivals.{ReceiveStep, not_clash}
+use Rattle.stream_lanes.proofs.LaneParts.{parts_of, whole, new_passed, new_bytes, new_heard, new_receiver, new_ask}
 
 -- what was acknowledged counts as confirmed
 module _ (f : Flags) (s : Sending) (b : Arriving) (send : SendHolds s (view_of f s b)) (next window : ℕ) (path : ℕ) (p : Lane) where
@@ -56,23 +57,11 @@ module _ (f : Flags) (s : Sending) (b : Arriving) (send : SendHolds s (view_of f
       by_future true is step = with_ask (view_of f s b) path p Nothing tt h
       by_future false is step =
           let now = lane_later step.later path p tt far h in
-          record {
-            record_of = now.record_of;
-            alone = now.alone;
-            modes = now.modes;
-            bytes = now.bytes;
-            link = now.link;
-            passed = now.passed;
-            pairs = now.pairs;
-            ends = now.ends;
-            fins = now.fins;
-            heard = record {
-              below = omega (arith, now.heard.below, confirmed_next is);
-              fin = λ acked. ⊎_elim (λ old. now.heard.fin old) (λ new. step.holds.fin new) (or_cases p.fin_acked (fin_after next s) acked);
-            };
-            receiver = now.receiver;
-            ask = tt;
-          }
+          whole (new_heard (record {
+            below = omega (arith, now.heard.below, confirmed_next is);
+            fin = λ acked. ⊎_elim (λ old. now.heard.fin old) (λ new. step.holds.fin new) (or_cases p.fin_acked (fin_after next s) acked);
+          })
+          (new_ask tt (parts_of now)))
 
 -- what a merge adds
 merged_right : (xs ys : List (Option ℕ)) (i x : ℕ) → slice_get ys i ≡ Some (Some x) → (y : ℕ) × (slice_get (merged xs ys) i ≡ Some (Some y))
@@ -184,42 +173,32 @@ module _ (granted : ℕ → Type 0) (f : Flags) (s : Sending) (b : Arriving) (se
       takes : (new : ℕ) → after_arrival b (Place at bytes) ≡ record b { places = places_after at bytes b }
           → received (after_arrival b (Place at bytes)) ≡ b.read + length (filled (merged b.places (drop b.read (by_place at bytes))))
           → LaneHolds (view_of f s (after_arrival b (Place at bytes))) path (takes_placed (length bytes) (Placed new) p)
-      takes new is same = record {
-        record_of = now.record_of;
-        alone = now.alone;
-        modes = now.modes;
-        bytes = record {
-          granted = h.bytes.granted;
-          apart = h.bytes.apart;
-          honest = h.bytes.honest;
-          within = ask.within;
-          came = Cells-drop (length bytes) h.bytes.came;
-          right = h.bytes.right;
-          learned = h.bytes.learned;
-          acked = h.bytes.acked;
-        };
-        link = now.link;
-        passed = record {
-          bytes = passes is;
-          fin = λ in_order.
-              let old = now.passed.fin in_order in
-              let end = old.0 in let within = ask.within in
-              (omega (arith, end, within), old.1);
-          copies = now.passed.copies;
-        };
-        pairs = now.pairs;
-        ends = now.ends;
-        fins = now.fins;
-        heard = now.heard;
-        receiver = record {
-          told = now.receiver.told;
-          passed = λ alone. passed bytes refl alone same;
-          fin = λ alone is. ends bytes refl alone (h.receiver.fin alone is);
-          fresh = λ none alone is. absurd (true≢false is);
-          copies = now.receiver.copies;
-        };
-        ask = tt;
-      }
+      takes new is same = whole (new_passed (record {
+        bytes = passes is;
+        fin = λ in_order.
+            let old = now.passed.fin in_order in
+            let end = old.0 in let within = ask.within in
+            (omega (arith, end, within), old.1);
+        copies = now.passed.copies;
+      })
+          (new_bytes (record {
+            granted = h.bytes.granted;
+            apart = h.bytes.apart;
+            honest = h.bytes.honest;
+            within = ask.within;
+            came = Cells-drop (length bytes) h.bytes.came;
+            right = h.bytes.right;
+            learned = h.bytes.learned;
+            acked = h.bytes.acked;
+          })
+          (new_receiver (record {
+            told = now.receiver.told;
+            passed = λ alone. passed bytes refl alone same;
+            fin = λ alone is. ends bytes refl alone (h.receiver.fin alone is);
+            fresh = λ none alone is. absurd (true≢false is);
+            copies = now.receiver.copies;
+          })
+          (new_ask tt (parts_of now)))))
 
       by_beyond : (c : Bool) → reaches_past (edge b) at bytes ≡ c
           → LaneHolds (view_of f s (after_arrival b (Place at bytes))) path (takes_placed (length bytes) (if c then Beyond (edge b) else placed_reply (clash b.known_end at bytes) at bytes b) p)
@@ -239,48 +218,24 @@ module _ (granted : ℕ → Type 0) (f : Flags) (s : Sending) (b : Arriving) (se
 
       by_clash : (o : Option ℕ) → LaneHolds (view_of f s (after_arrival b (Fin at))) path (takes_fin (fin_reply_by o at) p)
       by_clash (Some fin) = with_ask (view_of f s (after_arrival b (Fin at))) path p Nothing tt now
-      by_clash None = record {
-        record_of = now.record_of;
-        alone = now.alone;
-        modes = now.modes;
-        bytes = now.bytes;
-        link = now.link;
-        passed = now.passed;
-        pairs = now.pairs;
-        ends = now.ends;
-        fins = now.fins;
-        heard = now.heard;
-        receiver = record {
-          told = now.receiver.told;
-          passed = now.receiver.passed;
-          fin = now.receiver.fin;
-          fresh = λ none alone is. absurd (true≢false is);
-          copies = now.receiver.copies;
-        };
-        ask = tt;
-      }
+      by_clash None = whole (new_receiver (record {
+        told = now.receiver.told;
+        passed = now.receiver.passed;
+        fin = now.receiver.fin;
+        fresh = λ none alone is. absurd (true≢false is);
+        copies = now.receiver.copies;
+      })
+          (new_ask tt (parts_of now)))
 
   pub ack_out_held : (f.alters ≡ false → received b ≤ edge b) → LaneHolds (view_of f s b) path (takes_ack_out (arrival_reply b AckOut) p)
-  ack_out_held room = record {
-    record_of = h.record_of;
-    alone = h.alone;
-    modes = h.modes;
-    bytes = h.bytes;
-    link = h.link;
-    passed = h.passed;
-    pairs = h.pairs;
-    ends = h.ends;
-    fins = h.fins;
-    heard = h.heard;
-    receiver = record {
-      told = record { covers = omega (arith, wanted b.known_end arrived.end); reaches = λ none. let below = room none in omega (arith, wanted b.known_end arrived.end, below) };
-      passed = h.receiver.passed;
-      fin = h.receiver.fin;
-      fresh = λ none alone _. let below = room none in omega (arith, h.receiver.passed alone, below);
-      copies = h.receiver.copies;
-    };
-    ask = tt;
-  }
+  ack_out_held room = whole (new_receiver (record {
+    told = record { covers = omega (arith, wanted b.known_end arrived.end); reaches = λ none. let below = room none in omega (arith, wanted b.known_end arrived.end, below) };
+    passed = h.receiver.passed;
+    fin = h.receiver.fin;
+    fresh = λ none alone _. let below = room none in omega (arith, h.receiver.passed alone, below);
+    copies = h.receiver.copies;
+  })
+      (new_ask tt (parts_of h)))
     where
       wanted : (o : Option ℕ) → IfSome o (IsEnd (end_of s)) → (if is_end o (received b) then 1 else 0) ≤ all_in s.closed s.written (received b)
       wanted None end = omega arith

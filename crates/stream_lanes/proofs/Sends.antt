@@ -81,12 +81,10 @@ module _ (f : Flags) (s : Sending) (b : Arriving) (h : SendHolds s (view_of f s 
       counted = same_acked t.marks (AreAcked-written (acked_len s.marks) n s.marks h.first)
 
       none_in : (c : Bool) (written : List ℕ) (count : ℕ) → c ≡ false → all_in c written count ≡ 0
-      none_in true written count e = cc
-      none_in false written count e = refl
+      none_in = elim [ true ↦ λ written count e. cc | false ↦ λ written count e. refl ]
 
       not_closed : (c : Bool) (len other e : ℕ) → c ≡ false → IsEnd (if c then Some len else None) e → IsEnd (if c then Some other else None) e
-      not_closed true len other e is end = cc
-      not_closed false len other e is end = end
+      not_closed = elim [ true ↦ λ len other e is end. cc | false ↦ λ len other e is end. end ]
 
       writes : (s.closed || s.aborted) ≡ false → SendStep Anyone f s t b
       writes may = record {
@@ -132,12 +130,10 @@ module _ (f : Flags) (s : Sending) (b : Arriving) (h : SendHolds s (view_of f s 
   close_step = step_if s.aborted s (record s { closed = true }) (λ shut. same_book) (λ may. closes)
     where
       ends : (c : Bool) (e : ℕ) → IsEnd (if c then Some (length s.written) else None) e → IsEnd (Some (length s.written)) e
-      ends true e is = is
-      ends false e is = cc
+      ends = elim [ true ↦ λ e is. is | false ↦ λ e is. cc ]
 
       grows : (c : Bool) (count : ℕ) → all_in c s.written count ≤ all_in true s.written count
-      grows true count = omega arith
-      grows false count = omega arith
+      grows = elim [ true ↦ λ count. omega arith | false ↦ λ count. omega arith ]
 
       closes : SendStep Anyone f s (record s { closed = true }) b
       closes = record {
@@ -305,8 +301,7 @@ module _ (f : Flags) (s : Sending) (b : Arriving) (h : SendHolds s (view_of f s 
               past (stays-after_call (spent path) (spent-stays path) place (AckIn next window) s is)
 
           is_closed : (d : Bool) → s.closed ≡ d → length s.written < next → next ≤ length s.written + (if d then 1 else 0) → s.closed ≡ true
-          is_closed true is more less = is
-          is_closed false is more less = absurd (omega (arith, more, less))
+          is_closed = elim [ true ↦ λ is more less. is | false ↦ λ is more less. absurd (omega (arith, more, less)) ]
 
           closed_end : length s.written < next → IsAll (view_of f (record s { marks = marks; edge = max s.edge (next + window); fin = fin_after next s }) b)
           closed_end more =

@@ -18,11 +18,8 @@ pub data AllIn (closed : Bool) (written : List ℕ) (count : ℕ) : Type 0 where
 
 pub all_in_is : (closed : Bool) (written : List ℕ) (count : ℕ) → AllIn closed written count
 all_in_is false written count = missing refl
-all_in_is true written count = at (length written == count) refl
-  where
-    at : (b : Bool) → (length written == count) ≡ b → AllIn true written count
-    at true is = complete refl (eqb-true _ _ is) (ap (λ (b : Bool). if b then 1 else 0) is)
-    at false is = missing (ap (λ (b : Bool). if b then 1 else 0) is)
+all_in_is true written count = (elim (length written == count) as (λ b. (length written == count) ≡ b → AllIn true written count)
+    [ true ↦ λ is. complete refl (eqb-true _ _ is) (ap (λ (b : Bool). if b then 1 else 0) is) | false ↦ λ is. missing (ap (λ (b : Bool). if b then 1 else 0) is) ]) refl
 
 pub all_in_one : (closed : Bool) (written : List ℕ) (count : ℕ) → closed ≡ true → length written ≡ count → all_in closed written count ≡ 1
 all_in_one true written count closed is = ap (λ (b : Bool). if b then 1 else 0) (eq-eqb (length written) count is)
@@ -37,11 +34,8 @@ all_in_bound closed written count = at (all_in_is closed written count)
 
 -- an end is that of a closed stream
 pub is_end : (s : Sending) (e : ℕ) → IsEnd (end_of s) e → (s.closed ≡ true) × (length s.written ≡ e)
-is_end s e h = at s.closed refl h
-  where
-    at : (c : Bool) → s.closed ≡ c → (if c then Some (length s.written) else None) ≡ Some e → (s.closed ≡ true) × (length s.written ≡ e)
-    at true is h = (is, same_Some _ _ h)
-    at false is h = cc
+is_end s e h = (elim s.closed as (λ c. s.closed ≡ c → (if c then Some (length s.written) else None) ≡ Some e → (s.closed ≡ true) × (length s.written ≡ e))
+    [ true ↦ λ is h. (is, same_Some _ _ h) | false ↦ λ is h. cc ]) refl h
 
 pub end_is : (s : Sending) → s.closed ≡ true → IsEnd (end_of s) (length s.written)
 end_is s closed = rw closed refl
@@ -49,13 +43,10 @@ end_is s closed = rw closed refl
 -- items in a row that all lie below a bound end at it or before
 pub row_below : {P : ℕ → ℕ → Type 0} (bound first : ℕ) (bytes : List ℕ) → ((n x : ℕ) → P n x → n < bound) → first ≤ bound → From P first bytes
     → first + length bytes ≤ bound
-row_below {P} bound first bytes below within row = at (length bytes) refl
-  where
-    at : (n : ℕ) → length bytes ≡ n → first + length bytes ≤ bound
-    at zero is = omega (arith, within, is)
-    at (suc n) is =
-        let last = item_at bytes n (omega (arith, is)) in
-        omega (arith, below (first + n) last.0 (row.each n (first + n) last.0 refl last.1), is)
+row_below {P} bound first bytes below within row = (elim (length bytes) as (λ n. length bytes ≡ n → first + length bytes ≤ bound) [
+  | zero ↦ λ is. omega (arith, within, is)
+  | suc n ↦ λ is. let last = item_at bytes n (omega (arith, is)) in omega (arith, below (first + n) last.0 (row.each n (first + n) last.0 refl last.1), is)
+]) refl
 
 pub received_written : {granted : ℕ → Type 0} (v : View) (b : Arriving) → ArrivedHolds granted v b → received b ≤ length v.written
 received_written v b h =

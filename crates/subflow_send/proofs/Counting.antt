@@ -29,11 +29,7 @@ none_under_way [] = refl
 none_under_way (p ∷ ps) = omega (arith, none_under_way ps, sum_by-cons piece_under_way (unsent_piece p) (map unsent_piece ps))
 
 pub counted-all_unsent : (ps : List Piece) → IsCounted (map unsent_piece ps) 0 0
-counted-all_unsent ps = record {
-  within = omega arith;
-  before = λ k d less. absurd (omega arith);
-  octets = sym (none_under_way ps);
-}
+counted-all_unsent ps = record { within = omega arith; before = λ k d less. absurd (omega arith); octets = sym (none_under_way ps) }
 
 -- the first piece is marked, and no other one is under way
 pub counted-expired : (p q : Piece) (ps : List Piece) (s u s' u' : ℕ) → IsCounted (p ∷ ps) s u → is_unsent_piece q ≡ is_unsent_piece p → s' ≡ min s 1 → u' ≡ piece_under_way q

@@ -160,11 +160,9 @@ no_piece now (p ∷ ps) none =
 sent-fin : (now pos : ℕ) (fin : Option Sending) → IsSome (option_map (fin_record pos) (unsent_sending fin))
     → first_unsent_sent now (fin_records pos fin) ≡ fin_records pos (option_map (sent_again now) fin)
 sent-fin now pos None some = cc
-sent-fin now pos (Some s) some = fin-flag s.unsent refl some
-  where
-    fin-flag : (b : Bool) → s.unsent ≡ b → IsSome (option_map (fin_record pos) (if b then Some s else None)) → first_unsent_sent now (fin_record pos s ∷ []) ≡ fin_record pos (sent_again now s) ∷ []
-    fin-flag true e some = ap (λ (b : Bool). if b then fin_record pos (sent_again now s) ∷ [] else fin_record pos s ∷ []) e
-    fin-flag false e some = cc
+sent-fin now pos (Some s) some =
+    (elim s.unsent as (λ b. s.unsent ≡ b → IsSome (option_map (fin_record pos) (if b then Some s else None)) → first_unsent_sent now (fin_record pos s ∷ []) ≡ fin_record pos (sent_again now s) ∷ [])
+    [ true ↦ λ e some. ap (λ (b : Bool). if b then fin_record pos (sent_again now s) ∷ [] else fin_record pos s ∷ []) e | false ↦ λ e some. cc ]) refl some
 
 pub sent_all-fin : (now : ℕ) (syn : Option Sending) (ps : List Piece) (pos : ℕ) (fin : Option Sending) → unsent_sending syn ≡ None → list_any is_unsent_piece ps ≡ false
     → IsSome (find is_unsent (all_records syn ps pos fin))

@@ -5,8 +5,8 @@ use Rattle.std.specs.Option.{IsSome}
 use Rattle.subflow_send.specs.Rules.{ack_kind, sample_of, after_acknowledge}
 use Rattle.subflow_tcp.specs.declared.handshake.State.TheVariants.{Established}
 use Rattle.subflow_tcp.specs.declared.segments.Hint.{Hint}
-use Rattle.subflow_tcp.specs.declared.segments.Occasion.TheVariants as to_send
-use Rattle.subflow_tcp.specs.declared.verdicts.Meaning.TheVariants as means
+use Rattle.subflow_tcp.specs.declared.segments.Occasion.{Occasion}
+use Rattle.subflow_tcp.specs.declared.verdicts.Meaning.{Meaning}
 use Rattle.subflow_tcp.specs.Segments.{Copy}
 use Rattle.subflow_tcp.specs.State.{EndState}
 use Rattle.subflow_tcp.specs.Taking.{after_payload, after_hearing, after_established, after_acknowledgement, is_duplicate, told_by, after_duplicate, after_interruption, after_death}
@@ -61,24 +61,16 @@ taken_keeps acknowledged now hint c s within calm h =
     le_trans first second
 
 pub arrivals_keep : ArrivalsKeepTheWindow
-arrivals_keep means.Ignored hint now c s within calm h = omega arith
-arrivals_keep means.Unwanted hint now c s within calm h = omega arith
-arrivals_keep means.Opens hint now c s within calm h = omega arith
-arrivals_keep (means.Accepts acknowledged) hint now c s within calm h =
+arrivals_keep (Meaning.Accepts acknowledged) hint now c s within calm h =
     let opened : EndState = record (after_hearing (after_payload 1 hint c s)) { state = Established } in
     (kind_grows (ack_kind acknowledged s.send) (sample_of acknowledged s.send) now (record opened { send = after_acknowledge acknowledged s.send }) within calm).window
-arrivals_keep means.RepeatedSyn hint now c s within calm h = omega arith
-arrivals_keep means.Outside hint now c s within calm h = omega arith
-arrivals_keep means.Kills hint now c s within calm h = omega arith
-arrivals_keep means.Challenged hint now c s within calm h = omega arith
-arrivals_keep means.Unacknowledging hint now c s within calm h = omega arith
-arrivals_keep means.Ahead hint now c s within calm h = omega arith
-arrivals_keep (means.Taken pos acknowledged) hint now c s within calm h =
+arrivals_keep (Meaning.Taken pos acknowledged) hint now c s within calm h =
     taken_keeps acknowledged now hint c (after_established (after_hearing (after_payload pos hint c s))) within calm h
+arrivals_keep _ hint now c s within calm h = omega arith
 
 pub growths_keep : GrowthsKeepTheWindow
 growths_keep growth s within calm = growth_keeps growth s.congestion.pending s.congestion within calm
 
 pub sendings_keep : SendingsKeepTheWindow
-sendings_keep to_send.Reset now s = refl
+sendings_keep Occasion.Reset now s = refl
 sendings_keep _ now s = refl

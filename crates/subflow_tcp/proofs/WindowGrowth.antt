@@ -42,9 +42,7 @@ acknowledged_grows octets rtt c within calm =
 pub kind_grows : (kind : AckKind) (since : Option ℕ) (now : ℕ) (s : EndState) → s.congestion.reno.window ≤ 1048576 → s.congestion.reno.in_fast_recovery ≡ false
     → Grows s.congestion.reno (after_ack_kind kind since now s).congestion.reno
 kind_grows (New octets) since now s within calm = acknowledged_grows octets _ s.congestion within calm
-kind_grows Duplicate since now s within calm = same_grows s.congestion.reno within calm
-kind_grows Old since now s within calm = same_grows s.congestion.reno within calm
-kind_grows Future since now s within calm = same_grows s.congestion.reno within calm
+kind_grows _ since now s within calm = same_grows s.congestion.reno within calm
 
 -- a duplicate that begins no fast recovery
 duplicate_choice : (r d : Bool) (x y z : Congestion) (w : ℕ) → r ≡ false → y.reno.window ≡ w → z.reno.in_fast_recovery ≡ true

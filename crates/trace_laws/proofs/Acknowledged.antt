@@ -86,46 +86,34 @@ acked_may EndPhase.Waiting is = is
 acked_may _ is = is
 
 handshake_may : (x : EndPhase) → states.may_finish (states.after_handshake x) ≡ true → (states.may_finish x ≡ true) ⊎ (is_half_open x ≡ true)
-handshake_may EndPhase.SynReceived is = inr refl
-handshake_may EndPhase.Waiting is = inl is
-handshake_may _ is = inl is
+handshake_may = elim [ EndPhase.SynReceived ↦ λ is. inr refl | EndPhase.Waiting ↦ λ is. inl is | _ ↦ λ is. inl is ]
 
 -- ---- an acknowledgement
 
 una_more : (pos : ℕ) (v : SendState) → v.una ≤ (after_acknowledge pos v).una
-una_more pos v = by (nat_lt v.una pos && nat_le pos v.nxt) refl
-  where
-    by : (b : Bool) → (nat_lt v.una pos && nat_le pos v.nxt) ≡ b → v.una ≤ (if b then record v { una = pos; records = uncovered pos v.records } else v).una
-    by true is = let l = ltb-true v.una pos (and_parts (nat_lt v.una pos) (nat_le pos v.nxt) is).0 in omega (arith, l)
-    by false is = omega arith
+una_more pos v =
+    (elim (nat_lt v.una pos && nat_le pos v.nxt) as (λ b. (nat_lt v.una pos && nat_le pos v.nxt) ≡ b → v.una ≤ (if b then record v { una = pos; records = uncovered pos v.records } else v).una)
+    [ true ↦ λ is. let l = ltb-true v.una pos (and_parts (nat_lt v.una pos) (nat_le pos v.nxt) is).0 in omega (arith, l) | false ↦ λ is. omega arith ]) refl
 
 una_some : (pos : ℕ) (v : SendState) → 1 ≤ pos → pos ≤ v.nxt → 1 ≤ (after_acknowledge pos v).una
-una_some pos v some within = by (nat_lt v.una pos) refl
-  where
-    by : (x : Bool) → nat_lt v.una pos ≡ x → 1 ≤ (if x && nat_le pos v.nxt then record v { una = pos; records = uncovered pos v.records } else v).una
-    by true is = subst (λ (b : Bool). 1 ≤ (if b then record v { una = pos; records = uncovered pos v.records } else v).una) (sym (le-leb pos v.nxt within)) some
-    by false is = let l = ltb-false v.una pos is in omega (arith, some, l)
+una_some pos v some within = (elim (nat_lt v.una pos) as (λ x. nat_lt v.una pos ≡ x → 1 ≤ (if x && nat_le pos v.nxt then record v { una = pos; records = uncovered pos v.records } else v).una) [
+  | true ↦ λ is. subst (λ (b : Bool). 1 ≤ (if b then record v { una = pos; records = uncovered pos v.records } else v).una) (sym (le-leb pos v.nxt within)) some
+  | false ↦ λ is. let l = ltb-false v.una pos is in omega (arith, some, l)
+]) refl
 
 ack_send : (pos now : ℕ) (t : EndState) → (after_acknowledgement pos now t).send ≡ after_acknowledge pos t.send
-ack_send pos now t = by (ack_kind pos t.send)
-  where
-    by : (kind : AckKind) → (after_ack_kind kind (sample_of pos t.send) now (record t { send = after_acknowledge pos t.send })).send ≡ after_acknowledge pos t.send
-    by (AckKind.New octets) = refl
-    by _ = refl
+ack_send pos now t = elim (ack_kind pos t.send) as (λ kind. (after_ack_kind kind (sample_of pos t.send) now (record t { send = after_acknowledge pos t.send })).send ≡ after_acknowledge pos t.send)
+    [ AckKind.New octets ↦ refl | _ ↦ refl ]
 
 ack_may : (pos now : ℕ) (t : EndState) → states.may_finish (after_acknowledgement pos now t).state ≡ true → states.may_finish t.state ≡ true
-ack_may pos now t = by (ack_kind pos t.send)
+ack_may pos now t = elim (ack_kind pos t.send) as (λ kind. states.may_finish (after_ack_kind kind (sample_of pos t.send) now u).state ≡ true → states.may_finish t.state ≡ true)
+    [ AckKind.New octets ↦ λ is. fin (is_fin_acked u.send) is | _ ↦ λ is. is ]
   where
     u : EndState
     u = record t { send = after_acknowledge pos t.send }
 
     fin : (b : Bool) → states.may_finish (if b then states.after_fin_acked t.state else t.state) ≡ true → states.may_finish t.state ≡ true
-    fin true is = acked_may t.state is
-    fin false is = is
-
-    by : (kind : AckKind) → states.may_finish (after_ack_kind kind (sample_of pos t.send) now u).state ≡ true → states.may_finish t.state ≡ true
-    by (AckKind.New octets) is = fin (is_fin_acked u.send) is
-    by _ is = is
+    fin = elim [ true ↦ λ is. acked_may t.state is | false ↦ λ is. is ]
 
 -- it is one of the SYN, or the SYN was acknowledged before
 acknowledgement_acks : (pos now : ℕ) (t : EndState) → (states.may_finish t.state ≡ true → (1 ≤ t.send.una) ⊎ ((1 ≤ pos) × (pos ≤ t.send.nxt))) → Acks (after_acknowledgement pos now t)
@@ -143,16 +131,11 @@ Fits (Meaning.Taken pos acknowledged) t = is_half_open t.state ≡ true → (1 �
 Fits _ t = Unit {0}
 
 not_zero : (n : ℕ) → (n ≡ 0 → ⊥) → 1 ≤ n
-not_zero zero apart = absurd (apart refl)
-not_zero (suc n) apart = omega arith
+not_zero = elim [ zero ↦ λ apart. absurd (apart refl) | suc n ↦ λ apart. omega arith ]
 
 module _ (c : Copy) (t : EndState) where
   outside_fits : Fits (meaning_outside c) t
-  outside_fits = by c.rst
-    where
-      by : (b : Bool) → Fits (if b then Meaning.Ignored else Meaning.Outside) t
-      by true = tt
-      by false = tt
+  outside_fits = elim c.rst as (λ b. Fits (if b then Meaning.Ignored else Meaning.Outside) t) [ true ↦ tt | false ↦ tt ]
 
   answer_fits : (acknowledged : ℕ) → 1 ≤ acknowledged → acknowledged ≤ t.send.nxt → Fits (meaning_answer c acknowledged) t
   answer_fits acknowledged some within = by c.rst c.syn
@@ -200,11 +183,8 @@ module _ (c : Copy) (t : EndState) where
 
   placed_fits : (o : Option ℕ) → Fits (meaning_placed o c t) t
   placed_fits None = outside_fits
-  placed_fits (Some pos) = by (is_acceptable t.recv.edge pos c)
-    where
-      by : (b : Bool) → Fits (if b then meaning_within pos c t else meaning_outside c) t
-      by true = within_fits pos
-      by false = outside_fits
+  placed_fits (Some pos) = elim (is_acceptable t.recv.edge pos c) as (λ b. Fits (if b then meaning_within pos c t else meaning_outside c) t)
+      [ true ↦ within_fits pos | false ↦ outside_fits ]
 
   connected_fits : Fits (meaning_connected c t) t
   connected_fits = by (is_at_limit t) (is_repeated_syn c t)
@@ -215,26 +195,17 @@ module _ (c : Copy) (t : EndState) where
       by false false = placed_fits c.position
 
   meaning_fits : Fits (meaning_of c t) t
-  meaning_fits = at t.state
+  meaning_fits = elim t.state as (λ x. Fits (meaning_at x c t) t)
+      [ EndPhase.Dead ↦ dead c.rst | EndPhase.Waiting ↦ tt | EndPhase.Listen ↦ listens (is_syn_alone c) | EndPhase.SynSent ↦ opens (is_at_limit t) | _ ↦ connected_fits ]
     where
       dead : (b : Bool) → Fits (if b then Meaning.Ignored else Meaning.Unwanted) t
-      dead true = tt
-      dead false = tt
+      dead = elim [ true ↦ tt | false ↦ tt ]
 
       listens : (b : Bool) → Fits (if b then Meaning.Opens else Meaning.Ignored) t
-      listens true = tt
-      listens false = tt
+      listens = elim [ true ↦ tt | false ↦ tt ]
 
       opens : (b : Bool) → Fits (if b then Meaning.Ignored else meaning_answering c.acknowledged c t) t
-      opens true = tt
-      opens false = answering_fits c.acknowledged
-
-      at : (x : EndPhase) → Fits (meaning_at x c t) t
-      at EndPhase.Dead = dead c.rst
-      at EndPhase.Waiting = tt
-      at EndPhase.Listen = listens (is_syn_alone c)
-      at EndPhase.SynSent = opens (is_at_limit t)
-      at _ = connected_fits
+      opens = elim [ true ↦ tt | false ↦ answering_fits c.acknowledged ]
 
 over_fits : (m : Meaning) (over : Bool) (t : EndState) → Fits m t → Fits (taken_as (if over then Judged.As Meaning.Ignored else Judged.As m)) t
 over_fits m true t h = tt
@@ -243,16 +214,11 @@ over_fits m false t h = h
 -- a path that joins takes it as what it means, or not at all
 judged_fits : (joined rst : Bool) (items : List Heard) (m : Meaning) (e : PathEnd) (t : EndState) → Fits m t → Fits (taken_as (judged_of joined rst items m e)) t
 judged_fits false rst items m e t h = h
-judged_fits true rst items Meaning.Opens e t h = by (is_some (join_asked items))
-  where
-    by : (b : Bool) → Fits (taken_as (if b then Judged.Asks else Judged.Lacks)) t
-    by true = tt
-    by false = tt
-judged_fits true rst items (Meaning.Accepts acknowledged) e t h = by (is_some (join_answer items e.modes))
-  where
-    by : (b : Bool) → Fits (taken_as (if b then Judged.As (Meaning.Accepts acknowledged) else Judged.Forged)) t
-    by true = h
-    by false = tt
+judged_fits true rst items Meaning.Opens e t h = elim (is_some (join_asked items)) as (λ b. Fits (taken_as (if b then Judged.Asks else Judged.Lacks)) t)
+    [ true ↦ tt | false ↦ tt ]
+judged_fits true rst items (Meaning.Accepts acknowledged) e t h =
+    elim (is_some (join_answer items e.modes)) as (λ b. Fits (taken_as (if b then Judged.As (Meaning.Accepts acknowledged) else Judged.Forged)) t)
+    [ true ↦ h | false ↦ tt ]
 judged_fits true rst items Meaning.RepeatedSyn e t h = tt
 judged_fits true rst items (Meaning.Taken pos acknowledged) e t h = by (is_passed_over rst items e) (is_forged items e)
   where
@@ -264,11 +230,7 @@ judged_fits true rst items Meaning.Ignored e t h = over_fits Meaning.Ignored (is
 judged_fits true rst items m e t h = over_fits m (is_passed_over rst items e) t h
 
 row_acks : (kind : AckKind) (told : Told) (c : Copy) (t : EndState) → Acks t → Acks (after_row kind told c t)
-row_acks kind told c t h = by (is_duplicate kind told c t)
-  where
-    by : (b : Bool) → Acks (if b then after_duplicate t else after_interruption t)
-    by true = h
-    by false = h
+row_acks kind told c t h = elim (is_duplicate kind told c t) as (λ b. Acks (if b then after_duplicate t else after_interruption t)) [ true ↦ h | false ↦ h ]
 
 arrival_acks : (m : Meaning) (hint : Hint) (now : ℕ) (c : Copy) (t : EndState) → Fits m t → Acks t → Acks (after_arrival m hint now c t)
 arrival_acks Meaning.Opens hint now c t fits h = λ may. absurd (false≢true may)
@@ -282,26 +244,18 @@ arrival_acks (Meaning.Taken pos acknowledged) hint now c t fits h =
 arrival_acks _ hint now c t fits h = h
 
 payload_acks : (m : Meaning) (octets : List ℕ) (t : EndState) → Acks t → Acks (with_payload m octets t)
-payload_acks (Meaning.Taken pos acknowledged) octets t h = by (is_nil octets)
-  where
-    by : (b : Bool) → Acks (if b then t else after_holding pos octets t)
-    by true = h
-    by false = h
+payload_acks (Meaning.Taken pos acknowledged) octets t h = elim (is_nil octets) as (λ b. Acks (if b then t else after_holding pos octets t)) [ true ↦ h | false ↦ h ]
 payload_acks Meaning.Ignored octets t h = h
 payload_acks _ octets t h = h
 
 payload_fits : (m : Meaning) (octets : List ℕ) (t : EndState) → Fits m t → Fits m (with_payload m octets t)
-payload_fits (Meaning.Taken pos acknowledged) octets t h = by (is_nil octets)
-  where
-    by : (b : Bool) → Fits (Meaning.Taken pos acknowledged) (if b then t else after_holding pos octets t)
-    by true = h
-    by false = h
+payload_fits (Meaning.Taken pos acknowledged) octets t h = elim (is_nil octets) as (λ b. Fits (Meaning.Taken pos acknowledged) (if b then t else after_holding pos octets t))
+    [ true ↦ h | false ↦ h ]
 payload_fits (Meaning.Accepts acknowledged) octets t h = h
 payload_fits _ octets t h = tt
 
 owing_acks : (b : Bool) (t : EndState) → Acks t → Acks (owing_if b t)
-owing_acks true t h = h
-owing_acks false t h = h
+owing_acks = elim [ true ↦ λ t h. h | false ↦ λ t h. h ]
 
 heard_acks : (joined : Bool) (told : List KeptMapping) (answer : _) (s : Side) (now : ℕ) (heard : HeardSegment) (e : PathEnd) → Acks e.tcp
     → Acks (copy_judged joined told answer s now heard (taken_as (judged_in joined s heard e)) e).tcp
@@ -318,11 +272,7 @@ dead_acks : (e : PathEnd) → Acks (died e).tcp
 dead_acks e may = absurd (false≢true may)
 
 unless_dead : (e : PathEnd) → Acks e.tcp → Acks (died_unless_dead e).tcp
-unless_dead e h = by (is_dead e.tcp.state)
-  where
-    by : (b : Bool) → Acks (if b then e else died e).tcp
-    by true = h
-    by false = dead_acks e
+unless_dead e h = elim (is_dead e.tcp.state) as (λ b. Acks (if b then e else died e).tcp) [ true ↦ h | false ↦ dead_acks e ]
 
 -- ---- a path
 
@@ -332,16 +282,13 @@ module _ {C : Type 0} where
     pub b : Acks p.b.tcp
 
   pub ack_at : (s : Side) (p : PathState C) → BothAck p → Acks (end_at s p).tcp
-  ack_at A p h = h.a
-  ack_at B p h = h.b
+  ack_at = elim [ A ↦ λ p h. h.a | B ↦ λ p h. h.b ]
 
   goes_acks : (s : Side) (e : PathEnd) (ds : List Duty) (p : PathState C) → Acks e.tcp → BothAck p → BothAck (goes_on s e ds p)
-  goes_acks A e ds p g h = record { a = g; b = h.b }
-  goes_acks B e ds p g h = record { a = h.a; b = g }
+  goes_acks = elim [ A ↦ λ e ds p g h. record { a = g; b = h.b } | B ↦ λ e ds p g h. record { a = h.a; b = g } ]
 
   with_acks : (s : Side) (e : PathEnd) (p : PathState C) → Acks e.tcp → BothAck p → BothAck (with_end s e p)
-  with_acks A e p g h = record { a = g; b = h.b }
-  with_acks B e p g h = record { a = h.a; b = g }
+  with_acks = elim [ A ↦ λ e p g h. record { a = g; b = h.b } | B ↦ λ e p g h. record { a = h.a; b = g } ]
 
   agenda_acks : (ds : List Duty) (p : PathState C) → BothAck p → BothAck (with_agenda ds p)
   agenda_acks ds p h = record { a = h.a; b = h.b }
@@ -359,29 +306,21 @@ module _ {C : Type 0} where
   item_goes s None p h = ack_at s p h
   item_goes s (Some Heard.Dss) p h = same_goes s (item_passed s (Some Heard.Dss) (end_at s p)) p refl refl h
   item_goes s (Some (Heard.DataAck next window)) p h = ack_at s p h
-  item_goes s (Some (Heard.Mapping fin)) p h = by (counts (end_at s p))
-    where
-      by : (b : Bool) → Acks (if b then with_learned (end_at s p) else with_skipped (end_at s p)).tcp
-      by true = same_goes s (with_learned (end_at s p)) p refl refl h
-      by false = same_goes s (with_skipped (end_at s p)) p refl refl h
-  item_goes s (Some (Heard.DataFin place)) p h = by (counts (end_at s p))
-    where
-      by : (b : Bool) → Acks (if b then with_data_fin place (end_at s p) else end_at s p).tcp
-      by true = same_goes s (with_data_fin place (end_at s p)) p refl refl h
-      by false = ack_at s p h
+  item_goes s (Some (Heard.Mapping fin)) p h = elim (counts (end_at s p)) as (λ b. Acks (if b then with_learned (end_at s p) else with_skipped (end_at s p)).tcp)
+      [ true ↦ same_goes s (with_learned (end_at s p)) p refl refl h | false ↦ same_goes s (with_skipped (end_at s p)) p refl refl h ]
+  item_goes s (Some (Heard.DataFin place)) p h = elim (counts (end_at s p)) as (λ b. Acks (if b then with_data_fin place (end_at s p) else end_at s p).tcp)
+      [ true ↦ same_goes s (with_data_fin place (end_at s p)) p refl refl h | false ↦ ack_at s p h ]
   item_goes s (Some Heard.Fail) p h = ack_at s p h
   item_goes s _ p h = ack_at s p h
 
   edge_goes : (s : Side) (checksums : Bool) (o : Option KeptMapping) (p : PathState C) → BothAck p → Acks (forgotten_by checksums o (end_at s p)).tcp
   edge_goes s checksums None p h = ack_at s p h
-  edge_goes s checksums (Some kept) p h = by (is_wrong checksums kept (end_at s p).tcp)
+  edge_goes s checksums (Some kept) p h =
+      elim (is_wrong checksums kept (end_at s p).tcp) as (λ b. Acks (if b then record e { tcp = record e.tcp { recv = after_forget_from kept.pos e.tcp.recv } } else e).tcp)
+      [ true ↦ same_goes s (record e { tcp = record e.tcp { recv = after_forget_from kept.pos e.tcp.recv } }) p refl refl h | false ↦ ack_at s p h ]
     where
       e : PathEnd
       e = end_at s p
-
-      by : (b : Bool) → Acks (if b then record e { tcp = record e.tcp { recv = after_forget_from kept.pos e.tcp.recv } } else e).tcp
-      by true = same_goes s (record e { tcp = record e.tcp { recv = after_forget_from kept.pos e.tcp.recv } }) p refl refl h
-      by false = ack_at s p h
 
   keep_goes : (s : Side) (b : Bool) (p : PathState C) → BothAck p → Acks (if b then after_dropping_held (end_at s p).tcp else after_keeping_held (end_at s p).tcp)
   keep_goes s true p h = same_acks (end_at s p).tcp (after_dropping_held (end_at s p).tcp) refl refl (ack_at s p h)
@@ -404,11 +343,8 @@ module _ {C : Type 0} where
 
   pub settled_acks : (ds : List Duty) (p : PathState C) → BothAck p → BothAck (settled ds p)
   settled_acks [] p h = agenda_acks [] p h
-  settled_acks (d ∷ ds) p h = by (stands d p) (settled_acks ds (passed d p) (passed_acks d p h))
-    where
-      by : (b : Bool) → BothAck (settled ds (passed d p)) → BothAck (if b then with_agenda (d ∷ ds) p else settled ds (passed d p))
-      by true rest = agenda_acks (d ∷ ds) p h
-      by false rest = rest
+  settled_acks (d ∷ ds) p h = (elim (stands d p) as (λ b. BothAck (settled ds (passed d p)) → BothAck (if b then with_agenda (d ∷ ds) p else settled ds (passed d p)))
+      [ true ↦ λ rest. agenda_acks (d ∷ ds) p h | false ↦ λ rest. rest ]) (settled_acks ds (passed d p) (passed_acks d p h))
 
   -- ---- events
 
@@ -419,29 +355,24 @@ module _ {C : Type 0} where
   line_acks LineAction.Die p h = record { a = unless_dead p.a h.a; b = unless_dead p.b h.b }
 
   begun_acks : (r : Reply) (dead living : List Duty) (p : PathState C) → BothAck p → BothAck (join_begun r dead living p)
-  begun_acks r dead living p h = by (is_never r)
+  begun_acks r dead living p h = elim (is_never r) as (λ b. BothAck (if b then goes_on A (never_joined r p.a) dead p else goes_on A (opened_by (keys_begun r) p.a) living p))
+      [ true ↦ goes_acks A (never_joined r p.a) dead p (λ may. absurd (false≢true may)) h | false ↦ opens (keys_begun r) ]
     where
       begun : (b : Bool) → Acks (if b then after_begin p.a.tcp else p.a.tcp)
-      begun true = λ may. absurd (false≢true may)
-      begun false = h.a
+      begun = elim [ true ↦ λ may. absurd (false≢true may) | false ↦ h.a ]
 
       opens : (o : Option KeyPair) → BothAck (goes_on A (opened_by o p.a) living p)
       opens None = same_on A p.a living p refl refl h
       opens (Some keys) = goes_acks A (opened_by (Some keys) p.a) living p (begun (is_waiting p.a.tcp.state)) h
 
-      by : (b : Bool) → BothAck (if b then goes_on A (never_joined r p.a) dead p else goes_on A (opened_by (keys_begun r) p.a) living p)
-      by true = goes_acks A (never_joined r p.a) dead p (λ may. absurd (false≢true may)) h
-      by false = opens (keys_begun r)
-
   fired_acks : (s : Side) (p : PathState C) → BothAck p → BothAck (timer_fired s p)
-  fired_acks s p h = by (is_sixth (end_at s p).tcp)
+  fired_acks s p h = elim (is_sixth (end_at s p).tcp) as (λ b. BothAck (goes_on s (record e { tcp = (if b then after_death true e.tcp else after_expiry p.clock e.tcp) }) (template_fired b s) p)) [
+    | true ↦ goes_acks s (record e { tcp = after_death true e.tcp }) (template_fired true s) p (λ may. absurd (false≢true may)) h
+    | false ↦ same_on s (record e { tcp = after_expiry p.clock e.tcp }) (template_fired false s) p refl refl h
+  ]
     where
       e : PathEnd
       e = end_at s p
-
-      by : (b : Bool) → BothAck (goes_on s (record e { tcp = (if b then after_death true e.tcp else after_expiry p.clock e.tcp) }) (template_fired b s) p)
-      by true = goes_acks s (record e { tcp = after_death true e.tcp }) (template_fired true s) p (λ may. absurd (false≢true may)) h
-      by false = same_on s (record e { tcp = after_expiry p.clock e.tcp }) (template_fired false s) p refl refl h
 
   copy_acks : (s : Side) (o : Option HeardSegment) (p : PathState C) → BothAck p → BothAck (copy_heard s o p)
   copy_acks s None p h = agenda_acks (emission s) p h
@@ -455,8 +386,7 @@ module _ {C : Type 0} where
   module _ (k : Codec C) where
     -- a segment is handed over
     sent_acks : (s : Side) (sg : PlainSegment) (e : PathEnd) (ds : List Duty) (p : PathState C) → Acks e.tcp → BothAck p → BothAck (sent_on k s sg e ds p)
-    sent_acks A sg e ds p g h = record { a = g; b = h.b }
-    sent_acks B sg e ds p g h = record { a = h.a; b = g }
+    sent_acks = elim [ A ↦ λ sg e ds p g h. record { a = g; b = h.b } | B ↦ λ sg e ds p g h. record { a = h.a; b = g } ]
 
     same_sent : (s : Side) (sg : PlainSegment) (e : PathEnd) (ds : List Duty) (p : PathState C) → e.tcp.state ≡ (end_at s p).tcp.state → e.tcp.send.una ≡ (end_at s p).tcp.send.una
         → BothAck p → BothAck (sent_on k s sg e ds p)
@@ -478,11 +408,8 @@ module _ {C : Type 0} where
     reset_acks s reason ds p h = sent_acks s (reset_of s reason p) (died (end_at s p)) ds p (dead_acks (end_at s p)) h
 
     break_acks : (s : Side) (reason : ℕ) (r : Reply) (p : PathState C) → BothAck p → BothAck (answered_break k s reason r p)
-    break_acks s reason r p h = by (end_at s p).treated.asked
-      where
-        by : (b : Bool) → BothAck (if b then answered_ack_out s r (resets s reason) p else reset_on k s (Some reason) (leaves s) p)
-        by true = same_on s (after_ack_out r (end_at s p)) (resets s reason) p refl refl h
-        by false = reset_acks s (Some reason) (leaves s) p h
+    break_acks s reason r p h = elim (end_at s p).treated.asked as (λ b. BothAck (if b then answered_ack_out s r (resets s reason) p else reset_on k s (Some reason) (leaves s) p))
+        [ true ↦ same_on s (after_ack_out r (end_at s p)) (resets s reason) p refl refl h | false ↦ reset_acks s (Some reason) (leaves s) p h ]
 
     told_acks : (s : Side) (event : FallEvent) (r : Reply) (p : PathState C) → BothAck p → BothAck (answered_fell s event r p)
     told_acks s event r p h = same_on s (after_fell event r (end_at s p)) (fell_duties s r p) p refl refl h
@@ -500,11 +427,9 @@ module _ {C : Type 0} where
 
     heard_answered : (s : Side) (item : Heard) (r : Reply) (p : PathState C) → BothAck p → BothAck (answered_heard k s item r p)
     heard_answered s (Heard.DataAck next window) r p h = same_on s (with_acked next r (end_at s p)) _ p refl refl h
-    heard_answered s (Heard.Mapping fin) r p h = by (is_clash (end_at s p))
-      where
-        by : (b : Bool) → BothAck (if b then answered_break k s 1 r p else goes_on s (with_learned (after_fell FallEvent.MappingHeard r (end_at s p))) (fell_duties s r p) p)
-        by true = break_acks s 1 r p h
-        by false = same_on s (with_learned (after_fell FallEvent.MappingHeard r (end_at s p))) (fell_duties s r p) p refl refl h
+    heard_answered s (Heard.Mapping fin) r p h =
+        elim (is_clash (end_at s p)) as (λ b. BothAck (if b then answered_break k s 1 r p else goes_on s (with_learned (after_fell FallEvent.MappingHeard r (end_at s p))) (fell_duties s r p) p))
+        [ true ↦ break_acks s 1 r p h | false ↦ same_on s (with_learned (after_fell FallEvent.MappingHeard r (end_at s p))) (fell_duties s r p) p refl refl h ]
     heard_answered s (Heard.DataFin place) r p h = same_on s (with_data_fin place (after_fell FallEvent.MappingHeard r (end_at s p))) (fell_duties s r p) p refl refl h
     heard_answered s (Heard.InfiniteMapping place position) r p h =
         infinite_came_so (λ e. BothAck (goes_on s e (fell_duties s r p) p)) place position r (end_at s p) (λ other. same_on s (infinite_so r other (end_at s p)) (fell_duties s r p) p refl refl h)
@@ -519,11 +444,11 @@ module _ {C : Type 0} where
     item_answered s (Some item) r p h = heard_answered s item r p h
 
     plain_ack_acks : (s : Side) (r : Reply) (p : PathState C) → BothAck p → BothAck (answered_plain_ack k s r p)
-    plain_ack_acks s r p h = by (breaks_by_ack p.profile (end_at s p))
-      where
-        by : (b : Bool) → BothAck (if b then answered_break k s 6 r p else goes_on s (with_plain_ack (after_fell FallEvent.PlainAck r (end_at s p))) (fell_duties s r p) p)
-        by true = break_acks s 6 r p h
-        by false = same_on s (with_plain_ack (after_fell FallEvent.PlainAck r (end_at s p))) (fell_duties s r p) p refl refl h
+    plain_ack_acks s r p h =
+        elim (breaks_by_ack p.profile (end_at s p)) as (λ b. BothAck (if b then answered_break k s 6 r p else goes_on s (with_plain_ack (after_fell FallEvent.PlainAck r (end_at s p))) (fell_duties s r p) p)) [
+          | true ↦ break_acks s 6 r p h
+          | false ↦ same_on s (with_plain_ack (after_fell FallEvent.PlainAck r (end_at s p))) (fell_duties s r p) p refl refl h
+        ]
 
     key_acks : (s : Side) (o : Option ℕ) (r : Reply) (p : PathState C) → BothAck p → BothAck (answered_peer_key s o r p)
     key_acks s None r p h = told_acks s FallEvent.PlainHandshake r p h
@@ -553,22 +478,16 @@ module _ {C : Type 0} where
     joined_acks s (Some keys) (Some asked) r p h = goes_acks s (joined_by keys asked (end_at s p)) _ p (by (is_listening (end_at s p).tcp.state)) h
       where
         by : (b : Bool) → Acks (if b then after_syn (unkept None) (syn_alone (end_at s p).treated.window) (end_at s p).tcp else (end_at s p).tcp)
-        by true = λ may. absurd (false≢true may)
-        by false = ack_at s p h
+        by = elim [ true ↦ λ may. absurd (false≢true may) | false ↦ ack_at s p h ]
 
     occasion_acks : (s : Side) (o : Occasion) (sg : PlainSegment) (p : PathState C) → BothAck p → Acks (having_sent o p.clock sg (end_at s p)).tcp
-    occasion_acks s o sg p h = by o
+    occasion_acks s o sg p h = elim o as (λ o. Acks (after_sending o p.clock tcp)) [ Occasion.SynAck ↦ resent (tcp.send.una == 0) | _ ↦ ack_at s p h ]
       where
         tcp : EndState
         tcp = (end_at s p).tcp
 
         resent : (b : Bool) → Acks (record tcp { due = record tcp.due { syn_ack = false }; send = (if b then after_resent p.clock tcp.send else tcp.send) })
-        resent true = ack_at s p h
-        resent false = ack_at s p h
-
-        by : (o : Occasion) → Acks (after_sending o p.clock tcp)
-        by Occasion.SynAck = resent (tcp.send.una == 0)
-        by _ = ack_at s p h
+        resent = elim [ true ↦ ack_at s p h | false ↦ ack_at s p h ]
 
     answered_acks : (d : Duty) (r : Reply) (p : PathState C) → BothAck p → BothAck (answered k d r p)
     answered_acks (Duty.Ask AskDuty.JoinAgain) r p h = begun_acks r (replaced (Duty.Ask (AskDuty.Leave A)) p.agenda) (left p) p h
@@ -621,11 +540,8 @@ module _ {C : Type 0} where
     answered_acks _ r p h = agenda_acks (left p) p h
 
     pub takes_acks : (r : Reply) (p : PathState C) → BothAck p → BothAck (takes k r p)
-    takes_acks r p h = by p.agenda
-      where
-        by : (ds : List Duty) → BothAck (settled (answers k ds r p).agenda (answers k ds r p))
-        by [] = settled_acks p.agenda p h
-        by (d ∷ ds) = settled_acks (answered k d r p).agenda (answered k d r p) (answered_acks d r p h)
+    takes_acks r p h = elim p.agenda as (λ ds. BothAck (settled (answers k ds r p).agenda (answers k ds r p)))
+        [ [] ↦ settled_acks p.agenda p h | d ∷ ds ↦ settled_acks (answered k d r p).agenda (answered k d r p) (answered_acks d r p h) ]
 
   pub begins_acks : (p : PathState C) → BothAck p → BothAck (begins_turn p)
   begins_acks p h = settled_acks start_of_turn (with_agenda start_of_turn p) (agenda_acks start_of_turn p h)

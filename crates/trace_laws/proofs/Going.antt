@@ -76,8 +76,7 @@ ask_asks B path (Ask.Local step) is = absurd (false≢true is)
 
 -- no application asks for bytes
 app_asks_none : (d : AppDuty) (a : AppState) (s : Side) (path most : ℕ) (standby : Bool) → app_ask d a ≡ Ask.Send s (SendCall.Grant path most standby) → ⊥
-app_asks_none AppDuty.FastClose a s path most standby is = cc
-app_asks_none _ a s path most standby is = cc
+app_asks_none = elim [ AppDuty.FastClose ↦ λ a s path most standby is. cc | _ ↦ λ a s path most standby is. cc ]
 
 -- ---- a path asks for bytes by one duty alone
 
@@ -282,8 +281,7 @@ new_pending start ask c w fit later ready asks s path place is = by c.member lat
 
     answer_is : (s : Side) (most : ℕ) (standby : Bool)
         → answer_to w.books (Ask.Send s (SendCall.Grant path most standby)) ≡ Reply.Send (send_reply (send_of s (books_in w.books)) (SendCall.Grant path most standby))
-    answer_is A most standby = refl
-    answer_is B most standby = refl
+    answer_is = elim [ A ↦ λ most standby. refl | B ↦ λ most standby. refl ]
 
     gives_is : gives place (Reply.Send (send_reply (send_of s (books_in w.books)) (SendCall.Grant path bytes.most bytes.standby))) ≡ true
     gives_is = subst (λ (r : Reply). gives place r ≡ true) (ap (answer_to w.books) bytes.is ∙ answer_is s bytes.most bytes.standby) parts.1
@@ -293,11 +291,8 @@ new_pending start ask c w fit later ready asks s path place is = by c.member lat
 
     by : (m : Actor (List ℕ)) → MemberFacts start (member_takes octets (answer_to w.books ask) m) → IsReady m → member_asks octets m ≡ Some ask
         → Pending start s place (member_takes octets (answer_to w.books ask) m)
-    by (App a) later ready there = app a.agenda there
-      where
-        app : (todo : List AppDuty) → app_asks_first todo a ≡ Some ask → Pending start s place (member_takes octets (answer_to w.books ask) (App a))
-        app [] there = cc
-        app (d ∷ ds) there = absurd (none d ds a there)
+    by (App a) later ready there = (elim a.agenda as (λ todo. app_asks_first todo a ≡ Some ask → Pending start s place (member_takes octets (answer_to w.books ask) (App a)))
+        [ [] ↦ λ there. cc | d ∷ ds ↦ λ there. absurd (none d ds a there) ]) there
     by (Path p) later ready there =
         let reply = ap (answer_to w.books) bytes.is ∙ answer_is s bytes.most bytes.standby in
         subst (λ (r : Reply). Pending start s place (Path (takes octets r p))) (sym reply)
@@ -351,14 +346,13 @@ step_stands start i ask c w trace fit later there asks h = record {
 -- an actor whose turn ended has nothing pending
 over_none : (start : Start) (s : Side) (place : ℕ) (m : Actor (List ℕ)) → is_over m ≡ true → Pending start s place m → ⊥
 over_none start s place (App a) over pending = pending
-over_none start s place (Path p) over pending = by p.agenda refl over
+over_none start s place (Path p) over pending = (elim p.agenda as (λ todo. p.agenda ≡ todo → is_nil todo ≡ true → ⊥) [
+  | [] ↦ λ agenda over. nothing (sym (ap (λ (todo : List Duty). option_map (sent_as p) (option_map (departing_as p) (first_sends todo p))) agenda) ∙ pending.1)
+  | d ∷ ds ↦ λ agenda over. false≢true over
+]) refl over
   where
     nothing : None ≡ Some pending.0 → ⊥
     nothing is = cc
-
-    by : (todo : List Duty) → p.agenda ≡ todo → is_nil todo ≡ true → ⊥
-    by [] agenda over = nothing (sym (ap (λ (todo : List Duty). option_map (sent_as p) (option_map (departing_as p) (first_sends todo p))) agenda) ∙ pending.1)
-    by (d ∷ ds) agenda over = false≢true over
 
 over_at : (crew : List (ActorCrew (List ℕ))) (i : ℕ) (c : ActorCrew (List ℕ)) → all_over crew ≡ true → slice_get crew i ≡ Some c → is_over c.member ≡ true
 over_at [] i c over there = cc
@@ -378,21 +372,18 @@ round_stands start w trace h = by (all_over w.crew) refl
     }
 
     by : (b : Bool) → all_over w.crew ≡ b → Stands start trace (if b then record w { crew = map (begins (greatest 0 w.crew)) w.crew } else w)
-    by true over = next over
-    by false over = h
+    by = elim [ true ↦ λ over. next over | false ↦ λ over. h ]
 
 turn_stands : (start : Start) (turn : Turn) (w : WorldState (List ℕ)) (trace : List Sent) → BooksFit start w → MomentFacts start (after_turn octets turn w) → Stands start trace w
     → Stands start (trace ++ sent_at turn w) (after_turn octets turn w)
-turn_stands start (Turn.Step i) w trace fit later h = by (slice_get w.crew i) refl later
+turn_stands start (Turn.Step i) w trace fit later h =
+    (elim (slice_get w.crew i) as (λ o. slice_get w.crew i ≡ o → MomentFacts start (stepped octets i o w) → Stands start (trace ++ option_to_list (sent_next i w)) (stepped octets i o w))
+    [ None ↦ λ there later. more_stands start trace (option_to_list (sent_next i w)) w h | Some c ↦ λ there later. at c (member_asks octets c.member) there refl later ]) refl later
   where
     at : (c : ActorCrew (List ℕ)) (o : Option Ask) → slice_get w.crew i ≡ Some c → member_asks octets c.member ≡ o → MomentFacts start (asked octets i o c w)
         → Stands start (trace ++ option_to_list (sent_next i w)) (asked octets i o c w)
     at c None there asks later = more_stands start trace (option_to_list (sent_next i w)) w h
     at c (Some ask) there asks later = step_stands start i ask c w trace fit later there asks h
-
-    by : (o : Option (ActorCrew (List ℕ))) → slice_get w.crew i ≡ o → MomentFacts start (stepped octets i o w) → Stands start (trace ++ option_to_list (sent_next i w)) (stepped octets i o w)
-    by None there later = more_stands start trace (option_to_list (sent_next i w)) w h
-    by (Some c) there later = at c (member_asks octets c.member) there refl later
 turn_stands start Turn.Round w trace fit later h = round_stands start w (trace ++ []) (more_stands start trace [] w h)
 
 run_stands : (start : Start) (turns : List Turn) (w : WorldState (List ℕ)) (trace : List Sent) → ((more : List Turn) → BooksFit start (world_run octets more w)) → Stands start trace w
@@ -411,8 +402,7 @@ path_ready start lines = (settled_settled start_of_turn (with_agenda start_of_tu
     q = waiting_path start lines
 
     waits : (o : Option ℕ) → may_finish (first_state o) ≡ true → 1 ≤ 0
-    waits None may = absurd (false≢true may)
-    waits (Some tick) may = absurd (false≢true may)
+    waits = elim [ None ↦ λ may. absurd (false≢true may) | Some tick ↦ λ may. absurd (false≢true may) ]
 
 -- an actor that made no step, and is ready
 record IsNew (c : ActorCrew (List ℕ)) : Type 0 where
@@ -475,11 +465,10 @@ ItemWith {X} f xs = (i : ℕ) × ((x : X) × ((slice_get xs i ≡ Some x) × (1 
 -- where the sum isn't
 item_of_sum : {X : Type 0} (f : X → ℕ) (m : ℕ) (xs : List X) → m < fold (λ n x. n + f x) m xs → ItemWith f xs
 item_of_sum f m [] more = absurd (omega (arith, more))
-item_of_sum {X} f m (x ∷ xs) more = by (cases_lt 0 (f x)) (item_of_sum f (m + f x) xs)
-  where
-    by : (0 < f x) ⊎ (f x ≤ 0) → (m + f x < fold (λ (n : ℕ) (y : X). n + f y) (m + f x) xs → ItemWith f xs) → ItemWith f (x ∷ xs)
-    by (inl some) rest = (0, (x, (refl, omega (arith, some))))
-    by (inr none) rest = let found = rest (omega (arith, more, none)) in (suc found.0, (found.1.0, (found.1.1.0, found.1.1.1)))
+item_of_sum {X} f m (x ∷ xs) more = (elim (cases_lt 0 (f x)) as (λ xx. (m + f x < fold (λ (n : ℕ) (y : X). n + f y) (m + f x) xs → ItemWith f xs) → ItemWith f (x ∷ xs)) [
+  | inl some ↦ λ rest. (0, (x, (refl, omega (arith, some))))
+  | inr none ↦ λ rest. let found = rest (omega (arith, more, none)) in (suc found.0, (found.1.0, (found.1.1.0, found.1.1.1)))
+]) (item_of_sum f (m + f x) xs)
 
 -- the turns of a lawful list end a round where all are over
 lawful_over : (turns : List Turn) (w : WorldState (List ℕ)) → AreLawful octets (ended turns) w → all_over (world_run octets turns w).crew ≡ true
@@ -494,11 +483,8 @@ trace_append (x ∷ xs) ys w =
 
 -- what was granted before a round's end was granted
 granted_before : (s : Side) (place : ℕ) (w : WorldState (List ℕ)) → WasGranted s place (end_round w).crew → WasGranted s place w.crew
-granted_before s place w h = by (all_over w.crew) h
-  where
-    by : (b : Bool) → WasGranted s place (if b then record w { crew = map (begins (greatest 0 w.crew)) w.crew } else w).crew → WasGranted s place w.crew
-    by true h = let same = same_from s h.path place (greatest 0 w.crew) 0 w.crew in let was = h.granted in record { path = h.path; granted = omega (arith, same, was) }
-    by false h = h
+granted_before s place w h = (elim (all_over w.crew) as (λ b. WasGranted s place (if b then record w { crew = map (begins (greatest 0 w.crew)) w.crew } else w).crew → WasGranted s place w.crew)
+    [ true ↦ λ h. let same = same_from s h.path place (greatest 0 w.crew) 0 w.crew in let was = h.granted in record { path = h.path; granted = omega (arith, same, was) } | false ↦ λ h. h ]) h
 
 -- what was granted by the end of a round was sent
 granted_sent : (start : Start) (trace : List Sent) (w : WorldState (List ℕ)) → Stands start trace w → all_over w.crew ≡ true → (s : Side) (place : ℕ) → WasGranted s place w.crew
@@ -510,8 +496,7 @@ granted_sent start trace w h over s place granted =
     (h.told at.0 at.1.0 at.1.1.0 note.0 note.1.0 note.1.1.0 s granted.path place (is_so (grants_byte s granted.path place note.1.0) note.1.1.1))
   where
     is_so : (b : Bool) → 1 ≤ (if b then 1 else 0) → b ≡ true
-    is_so true some = refl
-    is_so false some = absurd (omega (arith, some))
+    is_so = elim [ true ↦ λ some. refl | false ↦ λ some. absurd (omega (arith, some)) ]
 
 -- each octet of the files was in a segment that told its place
 pub delivered_were_told : (start : Start) (turns : List Turn) → IsPlain start → NumbersFit start → AreLawful octets (ended turns) (opened_world start)

@@ -113,12 +113,10 @@ Grants _ d place = ⊥
 
 module _ (f : Flags) (d : Direction) (holds : DirectionHolds f d) where
   whole_piece : (path most : ℕ) (standby : Bool) → 1 ≤ most → IsWholePiece (send_reply d.send (SendCall.Grant path most standby))
-  whole_piece path most standby some = by (send_reply d.send (SendCall.Grant path most standby)) refl
-    where
-      by : (r : SendReply) → send_reply d.send (SendCall.Grant path most standby) ≡ r → IsWholePiece r
-      by (SendReply.Granted span piece) is =
-          let piece_is = granted_pieces_are_whole d.send path most standby span piece (records_fit f d holds).tile some is in (piece_is.whole, piece_is.some)
-      by _ is = tt
+  whole_piece path most standby some = (elim (send_reply d.send (SendCall.Grant path most standby)) as (λ r. send_reply d.send (SendCall.Grant path most standby) ≡ r → IsWholePiece r) [
+    | SendReply.Granted span piece ↦ λ is. let piece_is = granted_pieces_are_whole d.send path most standby span piece (records_fit f d holds).tile some is in (piece_is.whole, piece_is.some)
+    | _ ↦ λ is. tt
+  ]) refl
 
   grant_adds : (path most : ℕ) (standby : Bool) (p : Lane) → slice_get d.lanes path ≡ Some p → p.asking ≡ AskGrant most standby
       → Adds (Grants (SendCall.Grant path most standby) d) d (asks_at path (Some p) d)
@@ -146,13 +144,11 @@ module _ (f : Flags) (d : Direction) (holds : DirectionHolds f d) where
       by false = lanes_same _ f d d refl
   send_adds (SendCall.GoInfinite path) event is = event_is _ f d event (GoInfinite path is.0) is.1 (at (slice_get d.lanes path) refl)
     where
-      choose : (b : Bool) (e : Direction) → Adds (Grants (SendCall.GoInfinite path) d) d e → Adds (Grants (SendCall.GoInfinite path) d) d (if b then e else d)
-      choose true e adds = adds
-      choose false e adds = lanes_same _ f d d refl
-
       at : (o : Option Lane) → slice_get d.lanes path ≡ o → Adds (Grants (SendCall.GoInfinite path) d) d (goes_infinite path is.0 o d)
       at None there = lanes_same _ f d d refl
-      at (Some p) there = choose (may_go path is.0 d.send p) _ (put_same _ f d path p _ _ refl there refl)
+      at (Some p) there =
+          (elim (may_go path is.0 d.send p) as (λ b. (e : Direction) → Adds (Grants (SendCall.GoInfinite path) d) d e → Adds (Grants (SendCall.GoInfinite path) d) d (if b then e else d))
+          [ true ↦ λ e adds. adds | false ↦ λ e adds. lanes_same _ f d d refl ]) _ (put_same _ f d path p _ _ refl there refl)
   send_adds SendCall.Abort event is = event_is _ f d event AbortSend is (lanes_same _ f d _ refl)
 
 -- ---- both directions
@@ -250,16 +246,10 @@ call_grows B (Ask.Local step) call d holds is = subst (λ x. Grows B (AskGrants 
 
 -- the same books answer the same
 same_grants : (s : Side) (ask : Ask) (d e : Duo) (place : ℕ) → ((r : Side) → (way r e).send ≡ (way r d).send) → AskGrants s ask e place → AskGrants s ask d place
-same_grants A (Ask.Send A c) d e place same h = same_in c h
-  where
-    same_in : (c : SendCall) → Grants c e.ab place → Grants c d.ab place
-    same_in (SendCall.Grant path most standby) h = subst (λ send. covers place (send_reply send (SendCall.Grant path most standby)) ≡ true) (same A) h
-    same_in _ h = h
-same_grants B (Ask.Send B c) d e place same h = same_in c h
-  where
-    same_in : (c : SendCall) → Grants c e.ba place → Grants c d.ba place
-    same_in (SendCall.Grant path most standby) h = subst (λ send. covers place (send_reply send (SendCall.Grant path most standby)) ≡ true) (same B) h
-    same_in _ h = h
+same_grants A (Ask.Send A c) d e place same h = (elim c as (λ c. Grants c e.ab place → Grants c d.ab place)
+    [ SendCall.Grant path most standby ↦ λ h. subst (λ send. covers place (send_reply send (SendCall.Grant path most standby)) ≡ true) (same A) h | _ ↦ λ h. h ]) h
+same_grants B (Ask.Send B c) d e place same h = (elim c as (λ c. Grants c e.ba place → Grants c d.ba place)
+    [ SendCall.Grant path most standby ↦ λ h. subst (λ send. covers place (send_reply send (SendCall.Grant path most standby)) ≡ true) (same B) h | _ ↦ λ h. h ]) h
 same_grants A (Ask.Send B c) d e place same h = h
 same_grants B (Ask.Send A c) d e place same h = h
 same_grants A (Ask.Reassembly r c) d e place same h = h

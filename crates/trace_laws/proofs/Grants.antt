@@ -74,20 +74,16 @@ SameBooks d w = (s : Side) → (way s d).send ≡ send_of s (books_in w.books)
 -- what an ask grants its note says
 note_grants : (s : Side) (ask : Ask) (pass : Pass) (d : Duo) (w : WorldState Carried) (place : ℕ) → SameBooks d w → AskGrants s ask d place
     → (path : ℕ) × (grants_byte s path place (note_of w.books pass ask) ≡ true)
-note_grants A (Ask.Send A c) pass d w place same h = by c h
-  where
-    by : (c : SendCall) → Grants c d.ab place → (path : ℕ) × (grants_byte A path place (note_of w.books pass (Ask.Send A c)) ≡ true)
-    by (SendCall.Grant path most standby) h =
-        (path, and_from (path == path) _ (eq-eqb path path refl) (subst (λ send. covers place (send_reply send (SendCall.Grant path most standby)) ≡ true) (same A) h))
-    by (SendCall.Write bytes) h = absurd h
-    by _ h = absurd h
-note_grants B (Ask.Send B c) pass d w place same h = by c h
-  where
-    by : (c : SendCall) → Grants c d.ba place → (path : ℕ) × (grants_byte B path place (note_of w.books pass (Ask.Send B c)) ≡ true)
-    by (SendCall.Grant path most standby) h =
-        (path, and_from (path == path) _ (eq-eqb path path refl) (subst (λ send. covers place (send_reply send (SendCall.Grant path most standby)) ≡ true) (same B) h))
-    by (SendCall.Write bytes) h = absurd h
-    by _ h = absurd h
+note_grants A (Ask.Send A c) pass d w place same h = (elim c as (λ c. Grants c d.ab place → (path : ℕ) × (grants_byte A path place (note_of w.books pass (Ask.Send A c)) ≡ true)) [
+  | SendCall.Grant path most standby ↦ λ h. (path, and_from (path == path) _ (eq-eqb path path refl) (subst (λ send. covers place (send_reply send (SendCall.Grant path most standby)) ≡ true) (same A) h))
+  | SendCall.Write bytes ↦ λ h. absurd h
+  | _ ↦ λ h. absurd h
+]) h
+note_grants B (Ask.Send B c) pass d w place same h = (elim c as (λ c. Grants c d.ba place → (path : ℕ) × (grants_byte B path place (note_of w.books pass (Ask.Send B c)) ≡ true)) [
+  | SendCall.Grant path most standby ↦ λ h. (path, and_from (path == path) _ (eq-eqb path path refl) (subst (λ send. covers place (send_reply send (SendCall.Grant path most standby)) ≡ true) (same B) h))
+  | SendCall.Write bytes ↦ λ h. absurd h
+  | _ ↦ λ h. absurd h
+]) h
 note_grants A (Ask.Send B c) pass d w place same h = absurd h
 note_grants B (Ask.Send A c) pass d w place same h = absurd h
 note_grants A (Ask.Reassembly r c) pass d w place same h = absurd h
@@ -122,11 +118,8 @@ turn_grants s place (Turn.Step actor) d w same h = by (slice_get w.crew actor) r
     by None there (inr new) = absurd new
     by (Some c) there h = at c (member_asks values c.member) there h
 turn_grants s place Turn.Round d w same (inr new) = absurd new
-turn_grants s place Turn.Round d w same (inl old) = by (all_over w.crew)
-  where
-    by : (b : Bool) → WasGranted s place (if b then record w { crew = map (begins (greatest 0 w.crew)) w.crew } else w).crew
-    by true = let same = same_from s old.path place (greatest 0 w.crew) 0 w.crew in let was = old.granted in record { path = old.path; granted = omega (arith, same, was) }
-    by false = old
+turn_grants s place Turn.Round d w same (inl old) = elim (all_over w.crew) as (λ b. WasGranted s place (if b then record w { crew = map (begins (greatest 0 w.crew)) w.crew } else w).crew)
+    [ true ↦ let same = same_from s old.path place (greatest 0 w.crew) 0 w.crew in let was = old.granted in record { path = old.path; granted = omega (arith, same, was) } | false ↦ old ]
 
 -- ---- every list of turns
 
@@ -235,5 +228,4 @@ delivered_were_granted start turns plain fit delivered s place below =
     there r told = sym (same_told r v) ∙ ap (was_told_end r) (sym is) ∙ told
 
     told : (s : Side) → was_told_end (pick s B A) v ≡ true
-    told A = there B both.1
-    told B = there A both.0
+    told = elim [ A ↦ there B both.1 | B ↦ there A both.0 ]

@@ -52,19 +52,12 @@ find_pushed (x ∷ rs) r none unsent = by (is_unsent x) none (find_pushed rs r)
   where
     by : (b : Bool) → (if b then Some x else find is_unsent rs) ≡ None → (find is_unsent rs ≡ None → is_unsent r ≡ true → find is_unsent (rs ++ r ∷ []) ≡ Some r)
         → (if b then Some x else find is_unsent (rs ++ r ∷ [])) ≡ Some r
-    by true none rest = cc
-    by false none rest = rest none unsent
+    by = elim [ true ↦ λ none rest. cc | false ↦ λ none rest. rest none unsent ]
 
 module _ (c : Profile) (s : Side) (span : Span) (piece : List ℕ) (e : PathEnd) where
   -- the record of what was granted
   abbrev pushed : Record
-  pushed = record {
-    pos = e.tcp.send.nxt;
-    kind = Data;
-    piece = piece;
-    mapping = mapping_of c s span.from e.tcp.send.nxt piece;
-    sending = never_sent;
-  }
+  pushed = record { pos = e.tcp.send.nxt; kind = Data; piece = piece; mapping = mapping_of c s span.from e.tcp.send.nxt piece; sending = never_sent }
 
   abbrev then_granted : PathEnd
   then_granted = granted c s span piece e
@@ -153,12 +146,10 @@ module _ (s : Side) (ds : List Duty) (span : Span) (piece : List ℕ) (p : PathS
   q = goes_on s (granted p.profile s span piece (end_at s p)) (Duty.Step (StepDuty.Data s) ∷ ds) p
 
   end_is : (s : Side) (e : PathEnd) (ds : List Duty) (p : PathState (List ℕ)) → end_at s (goes_on s e ds p) ≡ e
-  end_is A e ds p = refl
-  end_is B e ds p = refl
+  end_is = elim [ A ↦ λ e ds p. refl | B ↦ λ e ds p. refl ]
 
   profile_is : (s : Side) (e : PathEnd) (ds : List Duty) (p : PathState (List ℕ)) → (goes_on s e ds p).profile ≡ p.profile
-  profile_is A e ds p = refl
-  profile_is B e ds p = refl
+  profile_is = elim [ A ↦ λ e ds p. refl | B ↦ λ e ds p. refl ]
 
   stands_so : may_ask p.profile s (end_at s p) ≡ true → Acks (end_at s p).tcp → length piece ≤ payload_size p.profile → first_unsent (end_at s p) ≡ None
       → stands (Duty.Step (StepDuty.Data s)) q ≡ true

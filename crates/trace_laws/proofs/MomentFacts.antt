@@ -1,5 +1,5 @@
 -- What each path is at every moment, over links that alter no payload, for who reads what it sends.
-use Rattle.std.proofs.Common.{◌≡◌, refl, sym, ◌∙◌, ap, subst, ℕ, zero, suc, ◌%◌, ◌==◌, ◌&&◌, ◌||◌, ◌^◌, ◌<◌, ◌≤◌, ◌⊎◌, inl, inr, ⊎_elim, Bool, true, false, not, Result, Ok, Err, Option, Some, None, option_map, option_and_then, List, [], ◌∷◌, length, length-append, arith}
+use Rattle.std.proofs.Common.{◌≡◌, refl, sym, ◌∙◌, ap, subst, ℕ, zero, suc, ◌%◌, ◌==◌, ◌&&◌, ◌||◌, ◌^◌, ◌<◌, ◌≤◌, ◌⊎◌, inl, inr, ⊎_elim, Bool, true, false, not, Ok, Err, Option, Some, None, option_map, option_and_then, List, [], ◌∷◌, length, length-append, arith}
 use Rattle.std.specs.List.{slice_get}
 use Rattle.std.specs.Option.{IfSome, option_to_list}
 use Rattle.std.proofs.lemmas.Bool.{and_parts, both_ways, false≢true}
@@ -8,8 +8,6 @@ use Rattle.sides.specs.declared.side.Side.{Side}
 use Rattle.sides.specs.declared.side.Side.TheVariants.{A, B}
 use Rattle.octet_text.specs.Prefix.{IsPrefix}
 use Rattle.key_material.specs.KeyDigest.{idsn_of}
-use Rattle.segment_wire.specs.declared.reading.SegmentFault.{SegmentFault}
-use Rattle.segment_wire.specs.Segment.{Segment}
 use Rattle.path_segments.specs.Spelling.{numbers_of}
 use Rattle.subflow_send.specs.declared.record.RecordKind.{RecordKind}
 use Rattle.subflow_send.specs.declared.record.RecordKind.TheVariants.{Syn, Data, Fin}
@@ -31,7 +29,6 @@ use Rattle.link_trace.specs.declared.sent.Sent.{Sent}
 use Rattle.link_trace.specs.Carrying.{carried_in, carried_of, initial_at, initial_in, shifts_after}
 use Rattle.link_trace.specs.FirstOctets.{EndsBy}
 use Rattle.link_trace.specs.Meanings.{meaning_in}
-use Rattle.path_store.specs.declared.infinite_mapping.InfiniteMapping.{InfiniteMapping}
 use Rattle.path_core.specs.declared.looking.Departing.{Departing}
 use Rattle.path_agenda.specs.declared.duty.Duty.{Duty}
 use Rattle.path_core.specs.Emission.{first_unsent}
@@ -79,11 +76,8 @@ module _ (start : Start) (c : Profile) (n : ℕ) (s : Side) (e : PathEnd) (out b
     (unclear : is_side_a s ≡ true → e.modes.clear ≡ false → (out.sent ≡ []) ⊎ ((n ≡ 0) × (v.alone ≡ true))) where
   -- no check of the peer's fails, so that it goes by no infinite mapping
   own_none : e.modes.own_infinite ≡ None
-  own_none = by e.modes.own_infinite shows.pairs.0
-    where
-      by : (o : Option InfiniteMapping) → IfSome o (OwnIs out.pair out.pairs out.fins out.alters) → o ≡ None
-      by None own = refl
-      by (Some mapping) own = absurd (both_ways out.alters unaltered own.may)
+  own_none = (elim e.modes.own_infinite as (λ o. IfSome o (OwnIs out.pair out.pairs out.fins out.alters) → o ≡ None)
+      [ None ↦ λ own. refl | Some mapping ↦ λ own. absurd (both_ways out.alters unaltered own.may) ]) shows.pairs.0
 
   record_facts : (r : Record) (kind : RecordKind) → r.kind ≡ kind → KindShows c s out.alters out.sent out.datas out.fins kind r → RecordTells c s r → RecordKindTells c s kind r → RecordFacts start c n s e r
   record_facts r Syn is shown told kept = inl shown
@@ -105,8 +99,7 @@ module _ (start : Start) (c : Profile) (n : ℕ) (s : Side) (e : PathEnd) (out b
       })
     where
       not_true : (b : Bool) → not b ≡ true → b ≡ false
-      not_true true is = cc
-      not_true false is = refl
+      not_true = elim [ true ↦ λ is. cc | false ↦ λ is. refl ]
 
   each_record : Every (RecordFacts start c n s e) e.tcp.send.records
   each_record = record { each = λ i r at. let told = tells.sender.records.each i r at in record_facts r r.kind refl (shows.sender.pieces.each i r at) told told.mapped }
@@ -128,8 +121,7 @@ module _ (start : Start) (n : ℕ) (plan : PathPlan) (there : slice_get start.pa
   planned = (path_begins start n plan).profile
 
   keyed_at : (s : Side) → (numbers_of planned.spelling s).idsn.0 ≡ idsn_of (pick s start.key_a start.key_b)
-  keyed_at A = refl
-  keyed_at B = refl
+  keyed_at = elim [ A ↦ refl | B ↦ refl ]
 
   initial_is : (s : Side) → initial_in (initials_of start.paths) n s ≡ (numbers_of planned.spelling s).initial.0 % 2 ^ 32
   initial_is A = ap (λ (o : Option PathInitials). initial_at o A) (initials_there start.paths n plan there)
@@ -211,11 +203,8 @@ module _ (start : Start) (turns : List Turn) (plain : IsPlain start) (fit : Numb
 
     -- an end in plain TCP is one of path 0
     first_path : (s : Side) → (end_at s p).modes.identity ≡ true → n ≡ 0
-    first_path s identity = by n refl
-      where
-        by : (k : ℕ) → n ≡ k → n ≡ 0
-        by zero is = is
-        by (suc k) is = absurd (both_ways (end_at s p).modes.identity (steady.mode k is s) identity)
+    first_path s identity = (elim n as (λ k. n ≡ k → n ≡ 0)
+        [ zero ↦ λ is. is | suc k ↦ λ is. absurd (both_ways (end_at s p).modes.identity (steady.mode k is s) identity) ]) refl
 
     holds_ab : LaneHolds (view_of (flags_ab duo.modes) duo.ab.send duo.ab.arrived) n there.ab
     holds_ab = holds.ab.lanes.each n n there.ab (omega arith) there.ab_there
@@ -225,15 +214,12 @@ module _ (start : Start) (turns : List Turn) (plain : IsPlain start) (fit : Numb
 
     -- as long as A may send no DSS, a path that joins was granted nothing, and no join was answered
     unclear_a : p.a.modes.clear ≡ false → (there.ab.sent ≡ []) ⊎ ((n ≡ 0) × (not six.control_b.fall.joined ≡ true))
-    unclear_a unclear = by n refl there.stands
+    unclear_a unclear = (elim n as (λ k. n ≡ k → StandsSo k p there.ab there.ba → (there.ab.sent ≡ []) ⊎ ((n ≡ 0) × (not six.control_b.fall.joined ≡ true)))
+        [ zero ↦ λ is stands. inr (is, alone six.control_b.fall.joined refl is) | suc k ↦ λ is stands. inl (stands unclear) ]) refl there.stands
       where
         alone : (b : Bool) → six.control_b.fall.joined ≡ b → n ≡ 0 → not b ≡ true
         alone true is first = absurd (both_ways p.a.modes.clear unclear (steady.clear first is))
         alone false is first = refl
-
-        by : (k : ℕ) → n ≡ k → StandsSo k p there.ab there.ba → (there.ab.sent ≡ []) ⊎ ((n ≡ 0) × (not six.control_b.fall.joined ≡ true))
-        by zero is stands = inr (is, alone six.control_b.fall.joined refl is)
-        by (suc k) is stands = inl (stands unclear)
 
     facts_a : EndFacts start c n A p.a
     facts_a =
@@ -256,8 +242,7 @@ module _ (start : Start) (turns : List Turn) (plain : IsPlain start) (fit : Numb
         told.b
 
     facts_at : (s : Side) → EndFacts start c n s (end_at s p)
-    facts_at A = facts_a
-    facts_at B = facts_b
+    facts_at = elim [ A ↦ facts_a | B ↦ facts_b ]
 
     path_facts : PathFacts start p
     path_facts = record { number = n; numbered = there.numbered; ends = λ s. subst (λ (d : Profile). EndFacts start d n s (end_at s p)) (sym there.shows.profile) (facts_at s) }
@@ -270,8 +255,7 @@ module _ (start : Start) (turns : List Turn) (plain : IsPlain start) (fit : Numb
 -- ---- over octets
 
 end_shown : (s : Side) (p : PathState Carried) → end_at s p ≡ end_at s (shown_path p)
-end_shown A p = refl
-end_shown B p = refl
+end_shown = elim [ A ↦ λ p. refl | B ↦ λ p. refl ]
 
 member_shown : (start : Start) (m : Actor Carried) → MemberFacts start m → MemberFacts start (shown_member m)
 member_shown start (App a) facts = tt
@@ -292,11 +276,8 @@ moment_facts start turns plain fit =
 
 -- whose side it is, and which path
 pub carried_from : (base : Base) (initials : List PathInitials) (x : Sent) → (carried_of base initials [] x).from ≡ x.from
-carried_from base initials x = by (meaning_in x)
-  where
-    by : (o : Result Segment SegmentFault) → (carried_in base x (initial_in initials x.path x.from) [] o).from ≡ x.from
-    by (Err fault) = refl
-    by (Ok segment) = refl
+carried_from base initials x = elim (meaning_in x) as (λ o. (carried_in base x (initial_in initials x.path x.from) [] o).from ≡ x.from)
+    [ Err fault ↦ refl | Ok segment ↦ refl ]
 
 -- it is on one of the paths, its payload ends within its side's file, and it tells no infinite mapping that says anything new
 pub record GoodSent (start : Start) (x : Sent) : Type 0 where
@@ -318,15 +299,11 @@ path_sends start p facts = by (departing p) (first_sent p.agenda)
         let ends = sent_ends start p facts.number facts.ends facts.numbered (sent_as p d) refl sends.0 sends.1.0 sends.1.1 in record { path = ends.0; ends = ends.1; steady = ends.2 }
 
 next_good : (start : Start) (i : ℕ) (w : WorldState (List ℕ)) → MomentFacts start w → IfSome (sent_next i w) (GoodSent start)
-next_good start i w facts = by (slice_get w.crew i) refl
+next_good start i w facts = (elim (slice_get w.crew i) as (λ o. slice_get w.crew i ≡ o → IfSome (option_and_then sent_by (crew_path o)) (GoodSent start))
+    [ None ↦ λ at. tt | Some c ↦ λ at. member c.member (facts i c at) ]) refl
   where
     member : (m : Actor (List ℕ)) → MemberFacts start m → IfSome (option_and_then sent_by (member_path m)) (GoodSent start)
-    member (App a) facts = tt
-    member (Path p) facts = path_sends start p facts
-
-    by : (o : Option (ActorCrew (List ℕ))) → slice_get w.crew i ≡ o → IfSome (option_and_then sent_by (crew_path o)) (GoodSent start)
-    by None at = tt
-    by (Some c) at = member c.member (facts i c at)
+    member = elim [ App a ↦ λ facts. tt | Path p ↦ λ facts. path_sends start p facts ]
 
 some_good : (start : Start) (o : Option Sent) → IfSome o (GoodSent start) → Every (GoodSent start) (option_to_list o)
 some_good start None good = Every-nil (GoodSent start)

@@ -170,8 +170,7 @@ module _ (start : Start) (p : PathState (List ℕ)) (n : ℕ) (x : Sent) (h : En
   key = pick s start.key_a start.key_b
 
   first_is : (s : Side) → first_byte base s ≡ first_number (pick s start.key_a start.key_b)
-  first_is A = refl
-  first_is B = refl
+  first_is = elim [ A ↦ refl | B ↦ refl ]
 
   module _ (r : Record) (f : DataFacts start c n s e r) (is : x.octets ≡ made c.spelling s (record_said c s r e)) where
     abbrev sg : PlainSegment
@@ -293,12 +292,10 @@ module _ (start : Start) (p : PathState (List ℕ)) (n : ℕ) (ends : (s : Side)
     of_record (Some r) (inr facts) = inr (r, (facts, refl))
 
     of_carried : (o : Option ℕ) → IsOf s (carried_said p.profile s o e_of)
-    of_carried None = inl refl
-    of_carried (Some shown) = inl refl
+    of_carried = elim [ None ↦ inl refl | Some shown ↦ inl refl ]
 
     of_noted : (o : Option OwnNotice) → IsOf s (noted_said p.profile s o e_of)
-    of_noted None = inl refl
-    of_noted (Some notice) = inl refl
+    of_noted = elim [ None ↦ inl refl | Some notice ↦ inl refl ]
 
     of_resent : IsOf s (ack_resent p.profile s e_of)
     of_resent = by e_of.modes.owes_third e_of.notices.fast_closed (is_data_fin_owed e_of)
@@ -317,27 +314,19 @@ module _ (start : Start) (p : PathState (List ℕ)) (n : ℕ) (ends : (s : Side)
     of_unsent = of_record (first_unsent e_of) (every_find is_unsent e_of.tcp.send.records (ends s).records)
 
     of_resend : IsOf s (resend_said p.profile s e_of)
-    of_resend = by (has_records e_of.tcp)
-      where
-        by : (b : Bool) → IsOf s (if b then record_or_ack p.profile s (first_record e_of) e_of else ack_resent p.profile s e_of)
-        by true = of_first
-        by false = of_resent
+    of_resend = elim (has_records e_of.tcp) as (λ b. IsOf s (if b then record_or_ack p.profile s (first_record e_of) e_of else ack_resent p.profile s e_of))
+        [ true ↦ of_first | false ↦ of_resent ]
 
     of_answer : IsOf s (answer_said p.profile s e_of)
-    of_answer = by e_of.tcp.due.syn_ack
-      where
-        by : (b : Bool) → IsOf s (if b then syn_ack_said p.profile s e_of else ack_said p.profile s e_of.tcp.send.nxt None e_of)
-        by true = inl refl
-        by false = inl refl
+    of_answer = elim e_of.tcp.due.syn_ack as (λ b. IsOf s (if b then syn_ack_said p.profile s e_of else ack_said p.profile s e_of.tcp.send.nxt None e_of))
+        [ true ↦ inl refl | false ↦ inl refl ]
 
   -- what may not be sent
   unless : (b : Bool) (o : _) → IfSome (option_map (departing_as p) o) Sends → IfSome (option_map (departing_as p) (if b then None else o)) Sends
-  unless true o sends = tt
-  unless false o sends = sends
+  unless = elim [ true ↦ λ o sends. tt | false ↦ λ o sends. sends ]
 
   only_if : (b : Bool) (o : _) → IfSome (option_map (departing_as p) o) Sends → IfSome (option_map (departing_as p) (if b then o else None)) Sends
-  only_if true o sends = sends
-  only_if false o sends = tt
+  only_if = elim [ true ↦ λ o sends. sends | false ↦ λ o sends. tt ]
 
   broken_sends : (s : Side) (reason : ℕ) → IfSome (option_map (departing_as p) (broken_by s reason p)) Sends
   broken_sends s reason = unless (end_at s p).treated.asked _ (_, (refl, inl (reset_none s reason)))
@@ -377,21 +366,15 @@ module _ (start : Start) (p : PathState (List ℕ)) (n : ℕ) (ends : (s : Side)
     read_as = carried_of (base_from start) (initials_of start.paths) [] x
 
     empty_carried : sg.payload ≡ [] → read_as.len ≡ 0
-    empty_carried none = by (meaning_in x) refl
+    empty_carried none = (elim (meaning_in x) as (λ o. meaning_in x ≡ o → (carried_in (base_from start) x (initial_in (initials_of start.paths) x.path x.from) [] o).len ≡ 0)
+        [ Err fault ↦ λ means. refl | Ok segment ↦ λ means. let same = ap length (payload_of _ x.octets segment means ∙ payload_none) in omega (arith, same) ]) refl
       where
         payload_none : payload_in x.octets ≡ []
         payload_none = ap payload_in is ∙ made_payload p.profile.spelling x.from sg ∙ none
 
-        by : (o : Result Segment SegmentFault) → meaning_in x ≡ o → (carried_in (base_from start) x (initial_in (initials_of start.paths) x.path x.from) [] o).len ≡ 0
-        by (Err fault) means = refl
-        by (Ok segment) means = let same = ap length (payload_of _ x.octets segment means ∙ payload_none) in omega (arith, same)
-
     path_is : read_as.path ≡ x.path
-    path_is = by (meaning_in x)
-      where
-        by : (o : Result Segment SegmentFault) → (carried_in (base_from start) x (initial_in (initials_of start.paths) x.path x.from) [] o).path ≡ x.path
-        by (Err fault) = refl
-        by (Ok segment) = refl
+    path_is = elim (meaning_in x) as (λ o. (carried_in (base_from start) x (initial_in (initials_of start.paths) x.path x.from) [] o).path ≡ x.path)
+        [ Err fault ↦ refl | Ok segment ↦ refl ]
 
     empty_steady : sg.payload ≡ [] → shifts_after (base_from start) x [] ≡ []
     empty_steady none =

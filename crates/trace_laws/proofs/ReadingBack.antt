@@ -50,8 +50,7 @@ unfolding option_text
 text_is option = record { kind = omega arith; len = omega arith; low = omega arith }
 
 zeros_none : (n : ℕ) → option_octets (replicate n 0) ≡ []
-zeros_none zero = refl
-zeros_none (suc n) = refl
+zeros_none = elim [ zero ↦ refl | suc n ↦ refl ]
 
 -- of one option, with its padding
 one_read : (v : wire.OptionValue) (checksums : Bool) (k : ℕ) → HasForm checksums v → Fits v
@@ -140,8 +139,7 @@ no_payload None first len none = refl
 no_payload (Some map) first len none = ap (λ (n : ℕ). if map.length == 0 && nat_lt 0 n then Some (behind (behind (low_number map.number) first) map.relative) else None) none ∙ by (map.length == 0)
   where
     by : (b : Bool) → (if b && false then Some (behind (behind (low_number map.number) first) map.relative) else None) ≡ None
-    by true = refl
-    by false = refl
+    by = elim [ true ↦ refl | false ↦ refl ]
 
 pub steady_without : (base : Base) (x : Sent) → ((segment : Segment) → meaning_in x ≡ Ok segment → payload_len segment ≡ 0) → shifts_after base x [] ≡ []
 steady_without base x empty = by (meaning_in x) refl
@@ -155,11 +153,9 @@ steady_without base x empty = by (meaning_in x) refl
 -- ---- the place of a mapping
 
 low_is : (spelling : Spelling) (side : Side) (place : ℕ) → low_number (data_number spelling side place) ≡ whole_number spelling side place % 2 ^ 32
-low_is spelling side place = by spelling.short
-  where
-    by : (b : Bool) → low_number (if b then Low (whole_number spelling side place % 2 ^ 32) else Whole (whole_number spelling side place)) ≡ whole_number spelling side place % 2 ^ 32
-    by true = refl
-    by false = refl
+low_is spelling side place =
+    elim spelling.short as (λ b. low_number (if b then Low (whole_number spelling side place % 2 ^ 32) else Whole (whole_number spelling side place)) ≡ whole_number spelling side place % 2 ^ 32)
+    [ true ↦ refl | false ↦ refl ]
 
 number_back : (idsn place : ℕ) → behind ((idsn + (place + 1)) % 2 ^ 64 % 2 ^ 32) ((idsn % 2 ^ 32 + 1) % 2 ^ 32) ≡ place % 2 ^ 32
 number_back idsn place = omega arith

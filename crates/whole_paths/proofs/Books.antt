@@ -1,14 +1,12 @@
 -- What each call makes of a book is as far as the book was.
-use Rattle.std.proofs.Common.{◌≡◌, refl, sym, ◌∙◌, ap, ℕ, ◌+◌, ◌≤◌, ◌==◌, ◌||◌, nat_lt, min, max, Bool, true, false, if◌then◌else◌, is_some, Option, Some, None, Result, Ok, Err, List, [], ◌∷◌, ◌++◌, length, take, drop, replicate, le_refl, arith}
+use Rattle.std.proofs.Common.{◌≡◌, refl, sym, ◌∙◌, ap, ℕ, ◌+◌, ◌≤◌, ◌==◌, ◌||◌, nat_lt, min, max, Bool, true, false, if◌then◌else◌, is_some, Option, Some, None, Ok, Err, List, [], ◌∷◌, ◌++◌, length, take, drop, replicate, le_refl, arith}
 use Rattle.std.proofs.lemmas.Bool.{or_left, eqb-true}
 use Rattle.std.proofs.lemmas.List.{append-nil, append_assoc}
 use Rattle.octet_text.specs.Prefix.{IsPrefix}
 use Rattle.sides.specs.declared.side.Side.{Side}
 use Rattle.sides.specs.declared.side.Side.TheVariants.{A, B}
-use Rattle.send_book.specs.declared.call.Span.{Span}
 use Rattle.send_book.specs.declared.call.SendCall.{SendCall}
 use Rattle.send_book.specs.declared.call.SendCall.TheVariants as send_calls
-use Rattle.send_book.specs.declared.call.Why.{Why}
 use Rattle.send_book.specs.declared.mark.ByteMark.TheVariants.{Acked, Free}
 use Rattle.send_book.specs.Tried.{no_paths}
 use Rattle.send_book.specs.Laws.{IsAckedAt}
@@ -52,10 +50,7 @@ module _ (b : Sending) where
   send_up (send_calls.Write bytes) = by (b.closed || b.aborted) (acks_stay (send_calls.Write bytes))
     where
       more : Sending
-      more = record b {
-        written = b.written ++ take (bytes_taken bytes b) bytes;
-        marks = b.marks ++ replicate (bytes_taken bytes b) (Free no_paths);
-      }
+      more = record b { written = b.written ++ take (bytes_taken bytes b) bytes; marks = b.marks ++ replicate (bytes_taken bytes b) (Free no_paths) }
 
       by : (x : Bool) → Acks (if x then b else more) → IsSendAsFar b (if x then b else more)
       by true acks = marks_alone b refl refl refl refl acks
@@ -66,24 +61,16 @@ module _ (b : Sending) where
         edge = le_refl b.edge;
         fin = λ is. is;
       }
-  send_up send_calls.Close = by b.aborted (acks_stay send_calls.Close)
-    where
-      by : (x : Bool) → Acks (if x then b else record b { closed = true }) → IsSendAsFar b (if x then b else record b { closed = true })
-      by true acks = marks_alone b refl refl refl refl acks
-      by false acks = record { written = prefix_stays b.written; closed = λ is. refl; acknowledged = acks; edge = le_refl b.edge; fin = λ is. is }
-  send_up (send_calls.Grant path most standby) = by (decision path most standby b) (acks_stay (send_calls.Grant path most standby))
-    where
-      by : (r : Result Span Why) → Acks (given_by path r b) → IsSendAsFar b (given_by path r b)
-      by (Ok span) acks = marks_alone _ refl refl refl refl acks
-      by (Err why) acks = marks_alone b refl refl refl refl acks
+  send_up send_calls.Close = (elim b.aborted as (λ x. Acks (if x then b else record b { closed = true }) → IsSendAsFar b (if x then b else record b { closed = true })) [
+    | true ↦ λ acks. marks_alone b refl refl refl refl acks
+    | false ↦ λ acks. record { written = prefix_stays b.written; closed = λ is. refl; acknowledged = acks; edge = le_refl b.edge; fin = λ is. is }
+  ]) (acks_stay send_calls.Close)
+  send_up (send_calls.Grant path most standby) = (elim (decision path most standby b) as (λ r. Acks (given_by path r b) → IsSendAsFar b (given_by path r b))
+      [ Ok span ↦ λ acks. marks_alone _ refl refl refl refl acks | Err why ↦ λ acks. marks_alone b refl refl refl refl acks ]) (acks_stay (send_calls.Grant path most standby))
   send_up (send_calls.AckIn next window) = by (is_future next b) (acks_stay (send_calls.AckIn next window))
     where
       acked : Sending
-      acked = record b {
-        marks = replicate (min next (length b.marks)) Acked ++ drop next b.marks;
-        edge = max b.edge (next + window);
-        fin = fin_after next b;
-      }
+      acked = record b { marks = replicate (min next (length b.marks)) Acked ++ drop next b.marks; edge = max b.edge (next + window); fin = fin_after next b }
 
       by : (x : Bool) → Acks (if x then b else acked) → IsSendAsFar b (if x then b else acked)
       by true acks = marks_alone b refl refl refl refl acks
@@ -94,11 +81,8 @@ module _ (b : Sending) where
         edge = omega arith;
         fin = λ is. or_left b.fin (nat_lt (length b.written) next) is;
       }
-  send_up (send_calls.GoInfinite path) = by (is_gathered path b) (acks_stay (send_calls.GoInfinite path))
-    where
-      by : (x : Bool) → Acks (if x then record b { owner = Some path } else b) → IsSendAsFar b (if x then record b { owner = Some path } else b)
-      by true acks = marks_alone _ refl refl refl refl acks
-      by false acks = marks_alone b refl refl refl refl acks
+  send_up (send_calls.GoInfinite path) = (elim (is_gathered path b) as (λ x. Acks (if x then record b { owner = Some path } else b) → IsSendAsFar b (if x then record b { owner = Some path } else b))
+      [ true ↦ λ acks. marks_alone _ refl refl refl refl acks | false ↦ λ acks. marks_alone b refl refl refl refl acks ]) (acks_stay (send_calls.GoInfinite path))
   send_up (send_calls.Return path) = marks_alone _ refl refl refl refl (acks_stay (send_calls.Return path))
   send_up send_calls.GoIdentity = marks_alone _ refl refl refl refl (acks_stay send_calls.GoIdentity)
   send_up send_calls.Abort = marks_alone _ refl refl refl refl (acks_stay send_calls.Abort)
@@ -139,12 +123,8 @@ module _ (b : Arriving) where
   end_stays : (at : ℕ) (o : Option ℕ) (place : ℕ) → o ≡ Some place → b.known_end ≡ o
       → (if is_some (fin_clash o at b) then b else record b { known_end = Some at }).known_end ≡ Some place
   end_stays at None place is known = cc
-  end_stays at (Some e) place is known = by (e == at) refl
-    where
-      by : (x : Bool) → (e == at) ≡ x
-          → (if is_some (if x then None else Some e) then b else record b { known_end = Some at }).known_end ≡ Some place
-      by true same = ap (λ n. Some n) (sym (eqb-true e at same)) ∙ is
-      by false same = known ∙ is
+  end_stays at (Some e) place is known = (elim (e == at) as (λ x. (e == at) ≡ x → (if is_some (if x then None else Some e) then b else record b { known_end = Some at }).known_end ≡ Some place)
+      [ true ↦ λ same. ap (λ n. Some n) (sym (eqb-true e at same)) ∙ is | false ↦ λ same. known ∙ is ]) refl
 
   pub arrival_up : (call : ReassemblyCall) → IsArrivalAsFar b (arriving.after_call b call)
   arrival_up (reassembly_calls.Place at bytes) = by (is_taken at bytes b)
@@ -163,20 +143,14 @@ module _ (b : Arriving) where
   }
     where
       by_read : (x : Bool) → b.read ≤ (if x then b else record b { known_end = Some at }).read
-      by_read true = le_refl b.read
-      by_read false = le_refl b.read
+      by_read = elim [ true ↦ le_refl b.read | false ↦ le_refl b.read ]
 
       by_received : (x : Bool) → received b ≤ received (if x then b else record b { known_end = Some at })
-      by_received true = le_refl (received b)
-      by_received false = le_refl (received b)
-  arrival_up (reassembly_calls.Read most) = by (is_some b.aborted)
-    where
-      by : (x : Bool) → IsArrivalAsFar b (if x then b else after_reading most b)
-      by true = arrival_same b refl refl refl
-      by false =
-          let n : ℕ = min most (length (filled b.places)) in
-          let left = filled_left n b.places (omega arith) in
-          record { read = omega arith; received = omega (arith, left); end = λ place is. is }
+      by_received = elim [ true ↦ le_refl (received b) | false ↦ le_refl (received b) ]
+  arrival_up (reassembly_calls.Read most) = elim (is_some b.aborted) as (λ x. IsArrivalAsFar b (if x then b else after_reading most b)) [
+    | true ↦ arrival_same b refl refl refl
+    | false ↦ let n : ℕ = min most (length (filled b.places)) in let left = filled_left n b.places (omega arith) in record { read = omega arith; received = omega (arith, left); end = λ place is. is }
+  ]
   arrival_up reassembly_calls.AckOut = arrival_same b refl refl refl
   arrival_up (reassembly_calls.Abort by_peer) = arrival_same _ refl refl refl
 
@@ -184,11 +158,7 @@ module _ (b : Arriving) where
   arrival_stays = arrival_same b refl refl refl
 
 arrival_then : (b c d : Arriving) → IsArrivalAsFar b c → IsArrivalAsFar c d → IsArrivalAsFar b d
-arrival_then b c d x y = record {
-  read = omega (arith, x.read, y.read);
-  received = omega (arith, x.received, y.received);
-  end = λ place is. y.end place (x.end place is);
-}
+arrival_then b c d x y = record { read = omega (arith, x.read, y.read); received = omega (arith, x.received, y.received); end = λ place is. y.end place (x.end place is) }
 
 -- ---- a side
 

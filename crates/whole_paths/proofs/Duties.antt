@@ -101,8 +101,7 @@ acked_steps : (next : ℕ) (r : Reply) (v : Sending) → StreamStep v (acked_in 
 acked_steps next r v = acked_so (λ w. StreamStep v w) next r v (λ fin. stream.hears next fin) stream.stays
 
 plainly_steps : (next : Option ℕ) (r : Reply) (v : Sending) → StreamStep v (plainly_acked next r v)
-plainly_steps None r v = stream.stays
-plainly_steps (Some next) r v = acked_steps next r v
+plainly_steps = elim [ None ↦ λ r v. stream.stays | Some next ↦ λ r v. acked_steps next r v ]
 
 refused_steps : (r : Reply) (v : Sending) → StreamStep v (refused_in r v)
 refused_steps r v = refused_so (λ w. StreamStep v w) r v (λ shut known. stream.is_refused shut known)
@@ -130,11 +129,8 @@ opened_steps now (Some keys) e = subflow_goes now e _ refl (by e.tcp.state refl)
     by _ is = none
 
 joining_steps : (now window : ℕ) (s : EndState) → SubflowSteps now s (after_joining_syn window s)
-joining_steps now window s = by s.state refl
-  where
-    by : (state : EndPhase) → s.state ≡ state → SubflowSteps now s (if is_listening state then after_syn (unkept None) (syn_alone window) s else s)
-    by phase.Listen is = one now s _ (joins window is)
-    by _ is = none
+joining_steps now window s = (elim s.state as (λ state. s.state ≡ state → SubflowSteps now s (if is_listening state then after_syn (unkept None) (syn_alone window) s else s))
+    [ phase.Listen ↦ λ is. one now s _ (joins window is) | _ ↦ λ is. none ]) refl
 
 -- a copy that is taken as this, with these items
 taken_steps : (now : ℕ) (items : List Heard) (c : Copy) (octets : List ℕ) (s : EndState) (m : Meaning) → IsTakenAs m c s
@@ -148,12 +144,10 @@ taken_steps now items c octets s m taken = ⊎_elim
     arrived = after_arrival m (hint_of items) now c (with_payload m octets s)
 
     hold : (b : Bool) (pos : ℕ) → SubflowSteps now s (if b then s else after_holding pos octets s)
-    hold true pos = none
-    hold false pos = one now s _ (holds pos octets)
+    hold = elim [ true ↦ λ pos. none | false ↦ λ pos. one now s _ (holds pos octets) ]
 
     held : (x : Meaning) → SubflowSteps now s (with_payload x octets s)
-    held (means.Taken pos acknowledged) = hold (is_nil octets) pos
-    held _ = none
+    held = elim [ means.Taken pos acknowledged ↦ hold (is_nil octets) pos | _ ↦ none ]
 
     owing : (b : Bool) → SubflowSteps now s arrived → SubflowSteps now s (owing_if b arrived)
     owing true steps = more arrived (owing_if true arrived) steps owes
@@ -178,8 +172,7 @@ module _ {C : Type 0} where
   }
 
   either : (c : Bool) (q r p : PathState C) → PathStep p q → PathStep p r → PathStep p (if c then q else r)
-  either true q r p x y = x
-  either false q r p x y = y
+  either = elim [ true ↦ λ q r p x y. x | false ↦ λ q r p x y. y ]
 
   -- the end of a side becomes this, whatever else is on the path
   side : (s : Side) (e : PathEnd) (p q : PathState C) → EndStep q.clock (end_at s p) e → q.a ≡ (goes_on s e [] p).a → q.b ≡ (goes_on s e [] p).b → PathStep p q
@@ -227,16 +220,14 @@ module _ {C : Type 0} where
       t = (end_at s p).tcp
 
       kept : (b : Bool) → SubflowSteps p.clock t (if b then after_dropping_held t else after_keeping_held t)
-      kept true = one p.clock t _ drops
-      kept false = one p.clock t _ keeps
+      kept = elim [ true ↦ one p.clock t _ drops | false ↦ one p.clock t _ keeps ]
   passed_steps (duties.Silent (silent_duties.PassFin s)) p = side s _ p _ (subflow_goes p.clock (end_at s p) _ refl (over (is_fin_next (end_at s p).tcp) refl)) refl refl
     where
       t : EndState
       t = (end_at s p).tcp
 
       over : (b : Bool) → is_fin_next t ≡ b → SubflowSteps p.clock t (if b then after_passing_fin t else t)
-      over true is = one p.clock t _ (passes is)
-      over false is = none
+      over = elim [ true ↦ λ is. one p.clock t _ (passes is) | false ↦ λ is. none ]
   passed_steps (duties.Send (send_duties.Update s)) p = both_rest p p refl refl
   passed_steps _ p = both_rest p p refl refl
 

@@ -22,7 +22,6 @@ use Rattle.path_agenda.specs.declared.duty.StepDuty.TheVariants as step_duties
 use Rattle.path_store.specs.declared.lines.LineAction.{LineAction}
 use Rattle.path_store.specs.declared.lines.LineAction.TheVariants as actions
 use Rattle.path_store.specs.declared.lines.LineLeft.{LineLeft}
-use Rattle.path_segments.specs.Heard.{HeardSegment}
 use Rattle.path_core.specs.Arrival.{copy_heard, heard_in}
 use Rattle.path_core.specs.Codec.{Codec}
 use Rattle.path_core.specs.Duties.{passed, answered}
@@ -73,8 +72,7 @@ end_then e f g x y = record {
 }
 
 fewer : (xs : List LineLeft) → length (tail_of xs) ≤ length xs
-fewer [] = omega arith
-fewer (x ∷ xs) = omega arith
+fewer = elim [ [] ↦ omega arith | x ∷ xs ↦ omega arith ]
 
 module _ {C : Type 0} where
   record EndsUp (p q : PathState C) : Type 0 where
@@ -123,26 +121,17 @@ module _ {C : Type 0} where
 
   lines_left : (k : Codec C) (o : Option Event) (r : Reply) (p : PathState C) → length (happens_if k o r p).lines ≤ length p.lines
   lines_left k None r p = le_refl (length p.lines)
-  lines_left k (Some (happenings.Joins tick)) r p = by (is_never r)
+  lines_left k (Some (happenings.Joins tick)) r p =
+      elim (is_never r) as (λ b. length (if b then goes_on A (never_joined r (end_at A q)) (leaves A) q else goes_on A (opened_by (keys_begun r) (end_at A q)) (emission A) q).lines ≤ length p.lines)
+      [ true ↦ le_refl (length p.lines) | false ↦ le_refl (length p.lines) ]
     where
       q : PathState C
       q = record (at_tick tick p) { joined_at = None }
-
-      by : (b : Bool) → length (if b then goes_on A (never_joined r (end_at A q)) (leaves A) q else goes_on A (opened_by (keys_begun r) (end_at A q)) (emission A) q).lines ≤ length p.lines
-      by true = le_refl (length p.lines)
-      by false = le_refl (length p.lines)
-  lines_left k (Some (happenings.Takes line)) r p = by line.action
-    where
-      by : (action : LineAction) → length (after_line action (record (at_tick line.tick p) { lines = tail_of p.lines })).lines ≤ length p.lines
-      by actions.Die = fewer p.lines
-      by (actions.Prio s backup) = fewer p.lines
-      by (actions.Announce s id) = fewer p.lines
-      by (actions.Withdraw s id) = fewer p.lines
-  lines_left k (Some (happenings.Arrives due)) r p = by (heard_in k due.to (arriving due p.link) p)
-    where
-      by : (o : Option HeardSegment) → length (copy_heard due.to o (record (at_tick due.tick p) { link = after_delivery due p.link })).lines ≤ length p.lines
-      by None = le_refl (length p.lines)
-      by (Some heard) = le_refl (length p.lines)
+  lines_left k (Some (happenings.Takes line)) r p = elim line.action as (λ action. length (after_line action (record (at_tick line.tick p) { lines = tail_of p.lines })).lines ≤ length p.lines)
+      [ actions.Die ↦ fewer p.lines | actions.Prio s backup ↦ fewer p.lines | actions.Announce s id ↦ fewer p.lines | actions.Withdraw s id ↦ fewer p.lines ]
+  lines_left k (Some (happenings.Arrives due)) r p =
+      elim (heard_in k due.to (arriving due p.link) p) as (λ o. length (copy_heard due.to o (record (at_tick due.tick p) { link = after_delivery due p.link })).lines ≤ length p.lines)
+      [ None ↦ le_refl (length p.lines) | Some heard ↦ le_refl (length p.lines) ]
   lines_left k (Some (happenings.Fires s tick)) r p = le_refl (length p.lines)
 
   passed_frame : (d : Duty) (p : PathState C) → Frame p (passed d p)
@@ -193,8 +182,7 @@ module _ {C : Type 0} where
   actor_up k r (Path p) = takes_up k r p
 
   actor_next : (m : Actor C) → IsActorAsFar m (member_next m)
-  actor_next (App a) = tt
-  actor_next (Path p) = next_up p
+  actor_next = elim [ App a ↦ tt | Path p ↦ next_up p ]
 
   actor_stays : (m : Actor C) → IsActorAsFar m m
   actor_stays (App a) = tt

@@ -30,18 +30,13 @@ use Rattle.whole_paths.specs.EndSteps.SubflowSteps.{none, more}
 -- ---- the states
 
 stage_most : (s : State) → stage s ≤ 7
-stage_most Waiting = omega arith
-stage_most _ = omega arith
+stage_most = elim [ Waiting ↦ omega arith | _ ↦ omega arith ]
 
 finish_up : (s : State) → stage s ≤ stage (after_finish s)
-finish_up Established = omega arith
-finish_up CloseWait = omega arith
-finish_up _ = omega arith
+finish_up = elim [ Established ↦ omega arith | CloseWait ↦ omega arith | _ ↦ omega arith ]
 
 fin_acked_up : (s : State) → stage s ≤ stage (after_fin_acked s)
-fin_acked_up FinWait1 = omega arith
-fin_acked_up Closing = omega arith
-fin_acked_up _ = omega arith
+fin_acked_up = elim [ FinWait1 ↦ omega arith | Closing ↦ omega arith | _ ↦ omega arith ]
 
 fin_passed_up : (s : State) → stage s ≤ stage (after_fin_passed s)
 fin_passed_up Established = omega arith
@@ -50,8 +45,7 @@ fin_passed_up FinWait2 = omega arith
 fin_passed_up _ = omega arith
 
 handshake_up : (s : State) → stage s ≤ stage (after_handshake s)
-handshake_up SynReceived = omega arith
-handshake_up _ = omega arith
+handshake_up = elim [ SynReceived ↦ omega arith | _ ↦ omega arith ]
 
 -- ---- the parts of an end
 
@@ -81,16 +75,14 @@ moved s t una nxt edge state = record { acknowledged = omega (arith, una); pushe
 
 -- one of two
 either : (b : Bool) (s t u : EndState) → IsSubflowAsFar s t → IsSubflowAsFar s u → IsSubflowAsFar s (if b then t else u)
-either true s t u x y = x
-either false s t u x y = y
+either = elim [ true ↦ λ s t u x y. x | false ↦ λ s t u x y. y ]
 
 at_most : (n : ℕ) (s : EndState) (state : State) → s.state ≡ state → stage state ≤ n → stage s.state ≤ n
 at_most n s state is few = subst (λ x. stage x ≤ n) (sym is) few
 
 -- whichever of two receiving sides it has
 edge_stays : (b : Bool) (v w : Receiving) (n : ℕ) → v.edge ≡ n → w.edge ≡ n → (if b then v else w).edge ≡ n
-edge_stays true v w n first second = first
-edge_stays false v w n first second = second
+edge_stays = elim [ true ↦ λ v w n first second. first | false ↦ λ v w n first second. second ]
 
 acknowledge_up : (pos : ℕ) (v : SendState) → (v.una ≤ (after_acknowledge pos v).una) × (v.nxt ≤ (after_acknowledge pos v).nxt)
 acknowledge_up pos v = by (nat_lt v.una pos && nat_le pos v.nxt) refl
@@ -111,11 +103,9 @@ fire_up : (now : ℕ) (s : EndState) → IsSubflowAsFar s (after_fire now s)
 fire_up now s = either (is_sixth s) s (after_death true s) (after_expiry now s) (death_up true s) (untouched s (after_expiry now s) refl refl refl refl)
 
 sending_up : (occasion : Occasion) (now : ℕ) (s : EndState) → IsSubflowAsFar s (after_sending occasion now s)
-sending_up to_send.SynAck now s = by (s.send.una == 0)
-  where
-    by : (b : Bool) → let send : SendState = if b then after_resent now s.send else s.send in IsSubflowAsFar s (record (after_sending to_send.SynAck now s) { send = send })
-    by true = untouched s _ refl refl refl refl
-    by false = untouched s _ refl refl refl refl
+sending_up to_send.SynAck now s =
+    elim (s.send.una == 0) as (λ b. let send : SendState = if b then after_resent now s.send else s.send in IsSubflowAsFar s (record (after_sending to_send.SynAck now s) { send = send }))
+    [ true ↦ untouched s _ refl refl refl refl | false ↦ untouched s _ refl refl refl refl ]
 sending_up _ now s = untouched s _ refl refl refl refl
 
 kept_up : (s : EndState) → IsSubflowAsFar s (after_keeping_held s)
@@ -137,8 +127,7 @@ ack_up pos now s =
     acked = record s { send = after_acknowledge pos s.send }
 
     new : (b : Bool) → stage s.state ≤ stage (if b then after_fin_acked s.state else s.state)
-    new true = fin_acked_up s.state
-    new false = le_refl (stage s.state)
+    new = elim [ true ↦ fin_acked_up s.state | false ↦ le_refl (stage s.state) ]
 
     by : (kind : AckKind) → IsSubflowAsFar acked (after_ack_kind kind (sample_of pos s.send) now acked)
     by (New octets) = moved acked _ refl refl refl (new (is_fin_acked acked.send))
@@ -153,8 +142,7 @@ heard_ack_up pos hint now c s = goes_on s acked (after_heard_ack pos hint now c 
     acked = after_acknowledgement pos now s
 
     by : (b : Bool) → IsSubflowAsFar acked (after_telling (told_by hint c) (if b then after_duplicate acked else after_interruption acked))
-    by true = untouched acked _ refl refl refl refl
-    by false = untouched acked _ refl refl refl refl
+    by = elim [ true ↦ untouched acked _ refl refl refl refl | false ↦ untouched acked _ refl refl refl refl ]
 
 taken_up : (pos acknowledged : ℕ) (hint : Hint) (now : ℕ) (c : Copy) (s : EndState) → IsSubflowAsFar s (after_taken pos acknowledged hint now c s)
 taken_up pos acknowledged hint now c s =

@@ -5,12 +5,10 @@ use Rattle.std.proofs.lemmas.Option.{same_Some}
 use Rattle.std.specs.Option.{option_and_then}
 use Rattle.sides.specs.declared.side.Side.{Side}
 use Rattle.sides.specs.declared.side.Side.TheVariants.{A}
-use Rattle.path_segments.specs.Heard.{HeardSegment}
 use Rattle.link_model.specs.Steps.{arriving, after_delivery}
 use Rattle.rtt_timer.specs.Estimates.{IsWithinBounds}
 use Rattle.loss_recovery.specs.declared.timers.Timing.{Timing}
 use Rattle.loss_recovery.specs.Timers.{timer_settled, measured, stopped, heard}
-use Rattle.subflow_send.specs.declared.record.AckKind.{AckKind}
 use Rattle.subflow_send.specs.declared.record.AckKind.TheVariants.{New, Duplicate, Old, Future}
 use Rattle.subflow_send.specs.Rules.{ack_kind, after_acknowledge, sample_of}
 use Rattle.subflow_tcp.specs.declared.handshake.State.TheVariants.{Established}
@@ -66,8 +64,7 @@ later : (now next : ℕ) (t : Timing) → now ≤ next → IsNear now t → IsNe
 later now next t up h = record { timer = by t.timer h.timer; timeout = h.timeout }
   where
     by : (o : Option ℕ) → IfSome o (λ tick. tick ≤ now + 60000) → IfSome o (λ tick. tick ≤ next + 60000)
-    by None low = tt
-    by (Some tick) low = omega (arith, low, up)
+    by = elim [ None ↦ λ low. tt | Some tick ↦ λ low. omega (arith, low, up) ]
 
 -- neither timer nor timeout changes
 same_near : (now : ℕ) (t u : Timing) → u.timer ≡ t.timer → u.rtt ≡ t.rtt → IsNear now t → IsNear now u
@@ -85,32 +82,22 @@ measured_near (Some first) at now t h = record { timer = h.timer; timeout = reco
 
 settled_near : (reason restart : Bool) (now : ℕ) (t : Timing) → IsNear now t → IfSome (timer_settled reason restart now t) (λ tick. tick ≤ now + 60000)
 settled_near false restart now t h = tt
-settled_near true restart now t h = by (is_none t.timer || (t.news || restart))
-  where
-    by : (b : Bool) → IfSome (if b then Some (now + t.rtt.rto) else t.timer) (λ tick. tick ≤ now + 60000)
-    by true = let most = h.timeout.greatest in omega (arith, most)
-    by false = h.timer
+settled_near true restart now t h = elim (is_none t.timer || (t.news || restart)) as (λ b. IfSome (if b then Some (now + t.rtt.rto) else t.timer) (λ tick. tick ≤ now + 60000))
+    [ true ↦ let most = h.timeout.greatest in omega (arith, most) | false ↦ h.timer ]
 
 -- ---- what a segment makes of it
 
 ack_near : (pos at now : ℕ) (s : EndState) → IsNear now s.timing → IsNear now (after_acknowledgement pos at s).timing
-ack_near pos at now s h = by (ack_kind pos s.send)
-  where
-    by : (kind : AckKind) → IsNear now (after_ack_kind kind (sample_of pos s.send) at (record s { send = after_acknowledge pos s.send })).timing
-    by (New octets) = measured_near (sample_of pos s.send) at now s.timing h
-    by Duplicate = h
-    by Old = h
-    by Future = h
+ack_near pos at now s h = elim (ack_kind pos s.send) as (λ kind. IsNear now (after_ack_kind kind (sample_of pos s.send) at (record s { send = after_acknowledge pos s.send })).timing)
+    [ New octets ↦ measured_near (sample_of pos s.send) at now s.timing h | Duplicate ↦ h | Old ↦ h | Future ↦ h ]
 
 heard_ack_near : (pos : ℕ) (hint : Hint) (at now : ℕ) (c : Copy) (s : EndState) → IsNear now s.timing → IsNear now (after_heard_ack pos hint at c s).timing
-heard_ack_near pos hint at now c s h = by (is_duplicate (ack_kind pos s.send) (told_by hint c) c acked)
+heard_ack_near pos hint at now c s h =
+    elim (is_duplicate (ack_kind pos s.send) (told_by hint c) c acked) as (λ b. IsNear now (after_telling (told_by hint c) (if b then after_duplicate acked else after_interruption acked)).timing)
+    [ true ↦ ack_near pos at now s h | false ↦ ack_near pos at now s h ]
   where
     acked : EndState
     acked = after_acknowledgement pos at s
-
-    by : (b : Bool) → IsNear now (after_telling (told_by hint c) (if b then after_duplicate acked else after_interruption acked)).timing
-    by true = ack_near pos at now s h
-    by false = ack_near pos at now s h
 
 -- an acceptable segment ends the row of expiries
 hearing_near : (now : ℕ) (s : EndState) → IsNear now s.timing → IsNear now (after_hearing s).timing
@@ -130,15 +117,11 @@ arrival_near _ hint now c s h = h
 -- ---- each step, and many
 
 fire_near : (now : ℕ) (s : EndState) → IsNear now s.timing → IsNear now (after_fire now s).timing
-fire_near now s h = by (is_sixth s)
-  where
-    by : (b : Bool) → IsNear now (if b then after_death true s else after_expiry now s).timing
-    by true = stopped_near now s.timing h
-    by false = let least = h.timeout.least in record { timer = omega arith; timeout = record { least = omega (arith, least); greatest = omega arith } }
+fire_near now s h = elim (is_sixth s) as (λ b. IsNear now (if b then after_death true s else after_expiry now s).timing)
+    [ true ↦ stopped_near now s.timing h | false ↦ let least = h.timeout.least in record { timer = omega arith; timeout = record { least = omega (arith, least); greatest = omega arith } } ]
 
 sending_near : (occasion : Occasion) (now : ℕ) (s : EndState) → (after_sending occasion now s).timing ≡ s.timing
-sending_near to_send.Reset now s = refl
-sending_near _ now s = refl
+sending_near = elim [ to_send.Reset ↦ λ now s. refl | _ ↦ λ now s. refl ]
 
 step_near : (now : ℕ) (s t : EndState) → SubflowStep now s t → IsNear now s.timing → IsNear now t.timing
 step_near now s t (arrives m hint c is) h = arrival_near m hint now c s h
@@ -167,35 +150,23 @@ steps_near now s t (more u v steps step) h = step_near now u t step (steps_near 
 
 in_time : (until : ℕ) (o : Option Event) (event : Event) → option_and_then (before until) o ≡ Some event → tick_of event < until
 in_time until None event is = cc
-in_time until (Some x) event is = by (nat_lt (tick_of x) until) refl is
-  where
-    by : (b : Bool) → nat_lt (tick_of x) until ≡ b → (if b then Some x else None) ≡ Some event → tick_of event < until
-    by true early same = subst (λ y. tick_of y < until) (same_Some x event same) (ltb-true (tick_of x) until early)
-    by false early same = cc
+in_time until (Some x) event is = (elim (nat_lt (tick_of x) until) as (λ b. nat_lt (tick_of x) until ≡ b → (if b then Some x else None) ≡ Some event → tick_of event < until)
+    [ true ↦ λ early same. subst (λ y. tick_of y < until) (same_Some x event same) (ltb-true (tick_of x) until early) | false ↦ λ early same. cc ]) refl is
 
 module _ {C : Type 0} where
   -- an event moves the clock to its tick
   happens_clock : (k : Codec C) (event : Event) (r : Reply) (p : PathState C) → (happens_if k (Some event) r p).clock ≡ max p.clock (tick_of event)
-  happens_clock k (happenings.Joins tick) r p = by (is_never r)
+  happens_clock k (happenings.Joins tick) r p =
+      elim (is_never r) as (λ b. (if b then goes_on A (never_joined r (end_at A q)) (leaves A) q else goes_on A (opened_by (keys_begun r) (end_at A q)) (emission A) q).clock ≡ max p.clock tick)
+      [ true ↦ refl | false ↦ refl ]
     where
       q : PathState C
       q = record (at_tick tick p) { joined_at = None }
-
-      by : (b : Bool) → (if b then goes_on A (never_joined r (end_at A q)) (leaves A) q else goes_on A (opened_by (keys_begun r) (end_at A q)) (emission A) q).clock ≡ max p.clock tick
-      by true = refl
-      by false = refl
-  happens_clock k (happenings.Takes line) r p = by line.action
-    where
-      by : (action : LineAction) → (after_line action (record (at_tick line.tick p) { lines = tail_of p.lines })).clock ≡ max p.clock line.tick
-      by actions.Die = refl
-      by (actions.Prio s backup) = refl
-      by (actions.Announce s id) = refl
-      by (actions.Withdraw s id) = refl
-  happens_clock k (happenings.Arrives due) r p = by (heard_in k due.to (arriving due p.link) p)
-    where
-      by : (o : Option HeardSegment) → (copy_heard due.to o (record (at_tick due.tick p) { link = after_delivery due p.link })).clock ≡ max p.clock due.tick
-      by None = refl
-      by (Some heard) = refl
+  happens_clock k (happenings.Takes line) r p = elim line.action as (λ action. (after_line action (record (at_tick line.tick p) { lines = tail_of p.lines })).clock ≡ max p.clock line.tick)
+      [ actions.Die ↦ refl | actions.Prio s backup ↦ refl | actions.Announce s id ↦ refl | actions.Withdraw s id ↦ refl ]
+  happens_clock k (happenings.Arrives due) r p =
+      elim (heard_in k due.to (arriving due p.link) p) as (λ o. (copy_heard due.to o (record (at_tick due.tick p) { link = after_delivery due p.link })).clock ≡ max p.clock due.tick)
+      [ None ↦ refl | Some heard ↦ refl ]
   happens_clock k (happenings.Fires s tick) r p = refl
 
   -- the clock goes on, to the round's end at most, which stays
@@ -277,8 +248,7 @@ module _ {C : Type 0} where
   member_near k r (Path p) h = takes_near k r p h
 
   member_begins : (m : Actor C) → IsNearMember m → IsNearMember (member_next m)
-  member_begins (App a) h = tt
-  member_begins (Path p) h = next_near p h
+  member_begins = elim [ App a ↦ λ h. tt | Path p ↦ λ h. next_near p h ]
 
   first_near : (number : ℕ) (start : Start) (plan : PathPlan) → TimersAreNear (waiting_path {C = C} (path_begins start number plan) start.lines)
   first_near number start plan = record {

@@ -8,10 +8,9 @@ use Rattle.actor_desk.specs.declared.ask.Reply.{Reply}
 use Rattle.actor_desk.specs.Words.{is_nil, tail_of}
 use Rattle.path_agenda.specs.Agenda.{emission, leaves}
 use Rattle.path_agenda.specs.declared.duty.Duty.{Duty}
-use Rattle.path_agenda.specs.declared.duty.Duty.TheVariants as duties
-use Rattle.path_agenda.specs.declared.duty.AskDuty.TheVariants as ask_duties
-use Rattle.path_agenda.specs.declared.duty.SilentDuty.TheVariants as silent_duties
-use Rattle.path_agenda.specs.declared.duty.StepDuty.TheVariants as step_duties
+use Rattle.path_agenda.specs.declared.duty.AskDuty.{AskDuty}
+use Rattle.path_agenda.specs.declared.duty.SilentDuty.{SilentDuty}
+use Rattle.path_agenda.specs.declared.duty.StepDuty.{StepDuty}
 use Rattle.path_agenda.specs.declared.heard.Heard.{Heard}
 use Rattle.path_core.specs.Codec.{Codec}
 use Rattle.path_core.specs.Duties.{passed, answered}
@@ -21,9 +20,7 @@ use Rattle.path_core.specs.Looking.{first_tick, next_tick, tick_with}
 use Rattle.path_core.specs.State.{at_tick, has_ended, PathState}
 use Rattle.path_core.specs.Arrival.{copy_heard, heard_in}
 use Rattle.path_store.specs.declared.lines.LineAction.{LineAction}
-use Rattle.path_store.specs.declared.lines.LineAction.TheVariants as actions
 use Rattle.path_core.specs.declared.events.Event.{Event}
-use Rattle.path_core.specs.declared.events.Event.TheVariants as happenings
 use Rattle.path_core.specs.Steps.{answers, takes, begins_turn}
 use Rattle.link_model.specs.Steps.{arriving, after_delivery}
 use Rattle.world_laws.specs.Writes.{Writes, OnlyAt, PathView, writes, side_of}
@@ -34,11 +31,8 @@ use Rattle.world_laws.proofs.Writes.Steps.{Lasts, unwritten, settled_lasts, begi
 
 soon : {C : Type 0} (p : PathState C) (o : Option Event) → IfSome (option_and_then (before p.until) o) (λ e. tick_of e < p.until)
 soon p None = tt
-soon p (Some x) = by (nat_lt (tick_of x) p.until) refl
-  where
-    by : (b : Bool) → nat_lt (tick_of x) p.until ≡ b → IfSome (if b then Some x else None) (λ e. tick_of e < p.until)
-    by true is = ltb-true (tick_of x) p.until is
-    by false is = tt
+soon p (Some x) = (elim (nat_lt (tick_of x) p.until) as (λ b. nat_lt (tick_of x) p.until ≡ b → IfSome (if b then Some x else None) (λ e. tick_of e < p.until))
+    [ true ↦ λ is. ltb-true (tick_of x) p.until is | false ↦ λ is. tt ]) refl
 
 next_is_soon : {C : Type 0} (p : PathState C) → IfSome (next_event p) (λ e. tick_of e < p.until)
 next_is_soon p = soon p (earliest p)
@@ -48,28 +42,26 @@ module _ {C : Type 0} where
 
   -- it isn't past
   event_later : (event : Option Event) (p : PathState C) → p.clock ≤ tick_with event p
-  event_later None p = omega arith
-  event_later (Some event) p = omega arith
+  event_later = elim [ None ↦ λ p. omega arith | Some event ↦ λ p. omega arith ]
 
   pub next_later : (p : PathState C) → p.clock ≤ next_tick p
   next_later p = by p.agenda
     where
       by : (ds : List Duty) → p.clock ≤ first_tick ds p
       by [] = omega arith
-      by (duties.Step step_duties.Events ∷ ds) = event_later (next_event p) p
+      by (Duty.Step StepDuty.Events ∷ ds) = event_later (next_event p) p
       by (d ∷ ds) = omega arith
 
   -- nor behind the round's end
   event_within : (event : Option Event) (p : PathState C) → IfSome event (λ e. tick_of e < p.until) → p.clock ≤ p.until → tick_with event p ≤ p.until
-  event_within None p soon before = before
-  event_within (Some event) p soon before = omega (arith, soon, before)
+  event_within = elim [ None ↦ λ p soon before. before | Some event ↦ λ p soon before. omega (arith, soon, before) ]
 
   next_within : (p : PathState C) → p.clock ≤ p.until → next_tick p ≤ p.until
   next_within p before = by p.agenda
     where
       by : (ds : List Duty) → first_tick ds p ≤ p.until
       by [] = before
-      by (duties.Step step_duties.Events ∷ ds) = event_within (next_event p) p (next_is_soon p) before
+      by (Duty.Step StepDuty.Events ∷ ds) = event_within (next_event p) p (next_is_soon p) before
       by (d ∷ ds) = before
 
   -- ---- what is written
@@ -79,15 +71,14 @@ module _ {C : Type 0} where
   Keeps p q = q.clock ≡ p.clock
 
   either_keeps : (b : Bool) (q r p : PathState C) → Keeps p q → Keeps p r → Keeps p (if b then q else r)
-  either_keeps true q r p x y = x
-  either_keeps false q r p x y = y
+  either_keeps = elim [ true ↦ λ q r p x y. x | false ↦ λ q r p x y. y ]
 
   passed_keeps : (d : Duty) (p : PathState C) → Keeps p (passed d p)
-  passed_keeps (duties.Silent (silent_duties.Timer s)) p = refl
-  passed_keeps (duties.Step (step_duties.Heard s index)) p = refl
-  passed_keeps (duties.Silent (silent_duties.Keep s)) p = refl
-  passed_keeps (duties.Ask (ask_duties.CheckFailed s)) p = refl
-  passed_keeps (duties.Silent (silent_duties.PassFin s)) p = refl
+  passed_keeps (Duty.Silent (SilentDuty.Timer s)) p = refl
+  passed_keeps (Duty.Step (StepDuty.Heard s index)) p = refl
+  passed_keeps (Duty.Silent (SilentDuty.Keep s)) p = refl
+  passed_keeps (Duty.Ask (AskDuty.CheckFailed s)) p = refl
+  passed_keeps (Duty.Silent (SilentDuty.PassFin s)) p = refl
   passed_keeps _ p = refl
 
   -- where the tick may not be written
@@ -98,10 +89,10 @@ module _ {C : Type 0} where
   keeps_last = record { agenda = λ ds p. refl; chains = λ p q r x y. y ∙ x; passes = λ d p. passed_keeps d p }
 
   line_keeps : (action : LineAction) (p : PathState C) → Keeps p (after_line action p)
-  line_keeps actions.Die p = refl
-  line_keeps (actions.Prio s backup) p = refl
-  line_keeps (actions.Announce s id) p = refl
-  line_keeps (actions.Withdraw s id) p = refl
+  line_keeps LineAction.Die p = refl
+  line_keeps (LineAction.Prio s backup) p = refl
+  line_keeps (LineAction.Announce s id) p = refl
+  line_keeps (LineAction.Withdraw s id) p = refl
 
   copy_keeps : (s : Side) (heard : Option HeardSegment) (p : PathState C) → Keeps p (copy_heard s heard p)
   copy_keeps s None p = refl
@@ -112,14 +103,14 @@ module _ {C : Type 0} where
 
   event_comes : (k : Codec C) (event : Option Event) (r : Reply) (p : PathState C) → (happens_if k event r p).clock ≡ tick_with event p
   event_comes k None r p = refl
-  event_comes k (Some (happenings.Joins tick)) r p = begun_keeps r (leaves A) (emission A) (record (at_tick tick p) { joined_at = None })
-  event_comes k (Some (happenings.Takes line)) r p = line_keeps line.action (record (at_tick line.tick p) { lines = tail_of p.lines })
-  event_comes k (Some (happenings.Arrives due)) r p =
+  event_comes k (Some (Event.Joins tick)) r p = begun_keeps r (leaves A) (emission A) (record (at_tick tick p) { joined_at = None })
+  event_comes k (Some (Event.Takes line)) r p = line_keeps line.action (record (at_tick line.tick p) { lines = tail_of p.lines })
+  event_comes k (Some (Event.Arrives due)) r p =
       copy_keeps due.to (heard_in k due.to (arriving due p.link) p) (record (at_tick due.tick p) { link = after_delivery due p.link })
-  event_comes k (Some (happenings.Fires s tick)) r p = refl
+  event_comes k (Some (Event.Fires s tick)) r p = refl
 
   answered_comes : (k : Codec C) (d : Duty) (ds : List Duty) (r : Reply) (p : PathState C) → (answered k d r p).clock ≡ first_tick (d ∷ ds) p
-  answered_comes k (duties.Step step_duties.Events) ds r p = event_comes k (next_event p) r p
+  answered_comes k (Duty.Step StepDuty.Events) ds r p = event_comes k (next_event p) r p
   answered_comes k d ds r p = kept_by (side_of d) (writes d) p _ refl (writes_no_more k d r p)
 
   answers_comes : (k : Codec C) (ds : List Duty) (r : Reply) (p : PathState C) → is_nil ds ≡ false → (answers k ds r p).clock ≡ first_tick ds p
@@ -142,14 +133,13 @@ module _ {C : Type 0} where
 
   -- by a reply
   pub takes_climbs : (k : Codec C) (r : Reply) (p : PathState C) → Climbs p (takes k r p)
-  takes_climbs k r p = by p.agenda refl
+  takes_climbs k r p = (elim p.agenda as (λ ds. p.agenda ≡ ds → Climbs p (takes k r p)) [
+    | [] ↦ λ none. comes_to p.clock (omega arith) (λ before. before) (settled_keeps k r p ∙ ap (λ ds. (answers k ds r p).clock) none)
+    | d ∷ ds ↦ λ some. comes_to (next_tick p) (next_later p) (next_within p) (takes_clock k r p (ap is_nil some))
+  ]) refl
     where
       comes_to : (tick : ℕ) → p.clock ≤ tick → (p.clock ≤ p.until → tick ≤ p.until) → (takes k r p).clock ≡ tick → Climbs p (takes k r p)
       comes_to tick later within is = record { rises = omega (arith, later, is); within = λ before. let most = within before in omega (arith, most, is) }
-
-      by : (ds : List Duty) → p.agenda ≡ ds → Climbs p (takes k r p)
-      by [] none = comes_to p.clock (omega arith) (λ before. before) (settled_keeps k r p ∙ ap (λ ds. (answers k ds r p).clock) none)
-      by (d ∷ ds) some = comes_to (next_tick p) (next_later p) (next_within p) (takes_clock k r p (ap is_nil some))
 
   pub begun_clock : (p : PathState C) → (begins_turn p).clock ≡ p.clock
   begun_clock p = begins_lasts (λ p q. Keeps p q) keeps_last p

@@ -26,19 +26,16 @@ use Rattle.world_core.proofs.InRound.{ended_in_round}
 use Rattle.world_core.proofs.Showing.{heard_begun}
 
 first_of_both : (a b : Bool) → (a && b) ≡ true → a ≡ true
-first_of_both true b e = refl
-first_of_both false b e = e
+first_of_both = elim [ true ↦ λ b e. refl | false ↦ λ b e. e ]
 
 second_of_both : (a b : Bool) → (a && b) ≡ true → b ≡ true
-second_of_both true b e = e
-second_of_both false b e = cc
+second_of_both = elim [ true ↦ λ b e. e | false ↦ λ b e. cc ]
 
 module _ {C : Type 0} where
   -- ---- each turn ended
 
   can_begin : (m : Actor C) (n : ℕ) → n < 2 ^ 57 → IsTimelyMember n m → is_over m ≡ true → CanBegin m
-  can_begin (App a) n few h over = tt
-  can_begin (Path p) n few h over = omega (arith, few, h.over over)
+  can_begin = elim [ App a ↦ λ n few h over. tt | Path p ↦ λ n few h over. omega (arith, few, h.over over) ]
 
   rest_timely : (c : ActorCrew C) (crew : List (ActorCrew C)) → AreTimely (c ∷ crew) → AreTimely crew
   rest_timely c crew h = record { each = λ i x at. h.each (suc i) x at }
@@ -85,11 +82,8 @@ module _ {C : Type 0} where
 
   pub ended_timely : (crew : List (ActorCrew C)) → AreTimely crew
       → AreTimely (if all_over crew then map (begins (greatest 0 crew)) crew else crew)
-  ended_timely crew h = by (all_over crew) refl
-    where
-      by : (b : Bool) → all_over crew ≡ b → AreTimely (if b then map (begins (greatest 0 crew)) crew else crew)
-      by true over = all_begun (greatest 0 crew) crew h over
-      by false over = h
+  ended_timely crew h = (elim (all_over crew) as (λ b. all_over crew ≡ b → AreTimely (if b then map (begins (greatest 0 crew)) crew else crew))
+      [ true ↦ λ over. all_begun (greatest 0 crew) crew h over | false ↦ λ over. h ]) refl
 
 -- ---- the world
 
@@ -98,12 +92,11 @@ abbrev pub ended : List (ActorCrew (List ℕ)) → List (ActorCrew (List ℕ))
 ended crew = if all_over crew then map (begins (greatest 0 crew)) crew else crew
 
 pub ended_is : (crew : List (ActorCrew (List ℕ))) (books : StampedBooks) → world (ended crew) books ≡ end_round (world crew books)
-ended_is crew books = by (all_over crew)
-  where
-    by : (b : Bool) → world (if b then map (begins (greatest 0 crew)) crew else crew) books
-        ≡ (if b then record (world crew books) { crew = map (begins (greatest 0 crew)) crew } else world crew books)
-    by true = refl
-    by false = refl
+ended_is crew books =
+    elim (all_over crew) as (λ b. world (if b then map (begins (greatest 0 crew)) crew else crew) books ≡ (if b then record (world crew books) { crew = map (begins (greatest 0 crew)) crew } else world crew books)) [
+      | true ↦ refl
+      | false ↦ refl
+    ]
 
 pub ended_sound : (crew : List (ActorCrew (List ℕ))) (books : StampedBooks) → IsSound (world crew books) → IsSound (world (ended crew) books)
 ended_sound crew books h = record {
@@ -114,18 +107,12 @@ ended_sound crew books h = record {
 }
 
 heard_ended : (crew : List (ActorCrew (List ℕ))) → heard_by (ended crew) ≡ heard_by crew
-heard_ended crew = by (all_over crew)
-  where
-    by : (b : Bool) → heard_by (if b then map (begins (greatest 0 crew)) crew else crew) ≡ heard_by crew
-    by true = heard_begun (greatest 0 crew) crew
-    by false = refl
+heard_ended crew = elim (all_over crew) as (λ b. heard_by (if b then map (begins (greatest 0 crew)) crew else crew) ≡ heard_by crew)
+    [ true ↦ heard_begun (greatest 0 crew) crew | false ↦ refl ]
 
 length_ended : (crew : List (ActorCrew (List ℕ))) → length (ended crew) ≡ length crew
-length_ended crew = by (all_over crew)
-  where
-    by : (b : Bool) → length (if b then map (begins (greatest 0 crew)) crew else crew) ≡ length crew
-    by true = length-map crew (begins (greatest 0 crew))
-    by false = refl
+length_ended crew = elim (all_over crew) as (λ b. length (if b then map (begins (greatest 0 crew)) crew else crew) ≡ length crew)
+    [ true ↦ length-map crew (begins (greatest 0 crew)) | false ↦ refl ]
 
 pub ended_kept : (crew : List (ActorCrew (List ℕ))) (books : StampedBooks) (h : Hearing) (failed : Bool) → IsKept failed (world crew books) h
     → IsKept failed (world (ended crew) books) h
@@ -142,10 +129,7 @@ opened_sound start = record {
   top = 0;
   fine = opened_fine start;
   timely = opened_lifted IsTimelyCrew start (record { few = omega arith; timely = tt }) (record { few = omega arith; timely = tt })
-      (λ number plan there. record {
-        few = omega arith;
-        timely = first_timely (waiting_path (path_begins start number plan) start.lines) 0 (omega (arith));
-      });
+      (λ number plan there. record { few = omega arith; timely = first_timely (waiting_path (path_begins start number plan) start.lines) 0 (omega (arith)) });
   round = record {
     begun = opened_world start;
     begins = BeginsAbove.First refl (opened_lifted (λ (c : ActorCrew (List ℕ)). c.list ≡ []) start refl refl (λ number plan there. refl));

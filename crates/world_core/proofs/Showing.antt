@@ -16,8 +16,7 @@ use Rattle.world_core.specs.Hearing.{told_by, told_more, heard_more, heard_by, S
 -- ---- one note more
 
 or_false : (b : Bool) → (b || false) ≡ b
-or_false true = refl
-or_false false = refl
+or_false = elim [ true ↦ refl | false ↦ refl ]
 
 told_once : (test : Reply → Bool) (notes : List Note) (n : Note) → was_told test (notes ++ n ∷ []) ≡ (was_told test notes || test n.reply)
 told_once test notes n = list_any-append (note_tells test) notes (n ∷ []) ∙ ap (λ b. was_told test notes || b) (or_false (test n.reply))

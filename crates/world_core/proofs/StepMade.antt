@@ -46,44 +46,25 @@ use Rattle.world_core.proofs.Showing.{heard_again, shows_other}
 -- ---- an actor whose turn hasn't ended asks
 
 app_asks : (ds : List AppDuty) (a : AppState) → is_nil ds ≡ false → app_asks_first ds a ≡ None → ⊥
-app_asks [] a going nothing = cc
-app_asks (d ∷ ds) a going nothing = cc
+app_asks = elim [ [] ↦ λ a going nothing. cc | d ∷ ds ↦ λ a going nothing. cc ]
 
 path_asks : (ds : List Duty) (p : PathState (List ℕ)) → is_nil ds ≡ false → asks_first octets ds p ≡ None → ⊥
-path_asks [] p going nothing = cc
-path_asks (d ∷ ds) p going nothing = cc
+path_asks = elim [ [] ↦ λ p going nothing. cc | d ∷ ds ↦ λ p going nothing. cc ]
 
 pub going_asks : (m : Actor (List ℕ)) → is_over m ≡ false → member_asks octets m ≡ None → ⊥
 going_asks (App a) going nothing = app_asks a.agenda a going nothing
 going_asks (Path p) going nothing = path_asks p.agenda p going nothing
 
 pub over_asks_none : (m : Actor (List ℕ)) → is_over m ≡ true → member_asks octets m ≡ None
-over_asks_none (App a) over = by a.agenda over
-  where
-    by : (ds : List AppDuty) → is_nil ds ≡ true → app_asks_first ds a ≡ None
-    by [] over = refl
-    by (d ∷ ds) over = cc
-over_asks_none (Path p) over = by p.agenda over
-  where
-    by : (ds : List Duty) → is_nil ds ≡ true → asks_first octets ds p ≡ None
-    by [] over = refl
-    by (d ∷ ds) over = cc
+over_asks_none (App a) over = (elim a.agenda as (λ ds. is_nil ds ≡ true → app_asks_first ds a ≡ None) [ [] ↦ λ over. refl | d ∷ ds ↦ λ over. cc ]) over
+over_asks_none (Path p) over = (elim p.agenda as (λ ds. is_nil ds ≡ true → asks_first octets ds p ≡ None) [ [] ↦ λ over. refl | d ∷ ds ↦ λ over. cc ]) over
 
 over_asks : (m : Actor (List ℕ)) → is_some (member_asks octets m) ≡ not (is_over m)
-over_asks (App a) = by a.agenda
-  where
-    by : (ds : List AppDuty) → is_some (app_asks_first ds a) ≡ not (is_nil ds)
-    by [] = refl
-    by (d ∷ ds) = refl
-over_asks (Path p) = by p.agenda
-  where
-    by : (ds : List Duty) → is_some (asks_first octets ds p) ≡ not (is_nil ds)
-    by [] = refl
-    by (d ∷ ds) = refl
+over_asks (App a) = elim a.agenda as (λ ds. is_some (app_asks_first ds a) ≡ not (is_nil ds)) [ [] ↦ refl | d ∷ ds ↦ refl ]
+over_asks (Path p) = elim p.agenda as (λ ds. is_some (asks_first octets ds p) ≡ not (is_nil ds)) [ [] ↦ refl | d ∷ ds ↦ refl ]
 
 some_note : (o : Option Ask) (books : StampedBooks) (pass : Pass) → is_some (note_if o books pass) ≡ is_some o
-some_note None books pass = refl
-some_note (Some ask) books pass = refl
+some_note = elim [ None ↦ λ books pass. refl | Some ask ↦ λ books pass. refl ]
 
 -- ---- the world after the step
 
@@ -101,11 +82,8 @@ module _ (crew : List (ActorCrew (List ℕ))) (books after : StampedBooks) (i : 
   step_goes = some_note (member_asks octets c.member) books c.pass ∙ over_asks c.member ∙ ap goes (sym there)
 
   pub step_rests : note_if (member_asks octets c.member) books c.pass ≡ None → world (set crew i d) after ≡ world crew books
-  step_rests = by (member_asks octets c.member) crew_is books_are
-    where
-      by : (o : Option Ask) → d ≡ crew_if o books c → after ≡ books_if o c.pass books → note_if o books c.pass ≡ None → world (set crew i d) after ≡ world crew books
-      by None e f nothing = step_by None e f
-      by (Some ask) e f nothing = cc
+  step_rests = (elim (member_asks octets c.member) as (λ o. d ≡ crew_if o books c → after ≡ books_if o c.pass books → note_if o books c.pass ≡ None → world (set crew i d) after ≡ world crew books)
+      [ None ↦ λ e f nothing. step_by None e f | Some ask ↦ λ e f nothing. cc ]) crew_is books_are
 
   -- ---- stamps
 
@@ -116,17 +94,15 @@ module _ (crew : List (ActorCrew (List ℕ))) (books after : StampedBooks) (i : 
       (subst (λ o. GoesUp c.pass.stamp (stamp_or o)) (sym (set_same crew i d c there)) (up (by (is_over c.member) over)))
     where
       by : (b : Bool) → not b ≡ true → b ≡ false
-      by true e = cc
-      by false e = refl
+      by = elim [ true ↦ λ e. cc | false ↦ λ e. refl ]
 
   -- ---- what was told
 
   pub step_hears : heard_by (set crew i d) ≡ heard_with (note_if (member_asks octets c.member) books c.pass) i (heard_by crew)
-  step_hears = by (member_asks octets c.member) crew_is
-    where
-      by : (o : Option Ask) → d ≡ crew_if o books c → heard_by (set crew i d) ≡ heard_with (note_if o books c.pass) i (heard_by crew)
-      by None e = ap (λ x. heard_by (set crew i x)) e ∙ ap heard_by (put_again crew i c there)
-      by (Some ask) e = heard_again crew i c d (note_of books c.pass ask) there (ap (λ x. x.list) e)
+  step_hears = (elim (member_asks octets c.member) as (λ o. d ≡ crew_if o books c → heard_by (set crew i d) ≡ heard_with (note_if o books c.pass) i (heard_by crew)) [
+    | None ↦ λ e. ap (λ x. heard_by (set crew i x)) e ∙ ap heard_by (put_again crew i c there)
+    | Some ask ↦ λ e. heard_again crew i c d (note_of books c.pass ask) there (ap (λ x. x.list) e)
+  ]) crew_is
 
   -- ---- rounds
 
@@ -178,8 +154,7 @@ module _ (crew : List (ActorCrew (List ℕ))) (books : StampedBooks) (i : ℕ) (
 -- ---- as the code makes it: at a place that was found
 
 heard_as : (o : Option Note) (i : ℕ) (h : Hearing) → heard_with o i h ≡ heard_report (told_in o) i h
-heard_as None i h = refl
-heard_as (Some note) i h = refl
+heard_as = elim [ None ↦ λ i h. refl | Some note ↦ λ i h. refl ]
 
 module _ (crew : List (ActorCrew (List ℕ))) (books after : StampedBooks) (i j : ℕ) (c d : ActorCrew (List ℕ)) (same : j ≡ i)
     (within : j < length crew) (is : c ≡ slice_index_or crew j c) where

@@ -28,23 +28,17 @@ use Rattle.world_core.specs.TimedRounds.{member_tick, step_tick, tick_at, IsNext
 use Rattle.world_core.proofs.Clocks.{next_later, takes_clock}
 
 first_over : (a b : Bool) → (a && b) ≡ true → not a ≡ false
-first_over true b over = refl
-first_over false b over = cc
+first_over = elim [ true ↦ λ b over. refl | false ↦ λ b over. cc ]
 
 rest_over : (a b : Bool) → (a && b) ≡ true → b ≡ true
-rest_over true b over = over
-rest_over false b over = cc
+rest_over = elim [ true ↦ λ b over. over | false ↦ λ b over. cc ]
 
 no_tick : {P : Type 0} (tick : ℕ) → None ≡ Some tick → P
 no_tick tick is = cc
 
 -- what holds of the first numbers and of the next one
 among : {P : ℕ → Type 0} (n : ℕ) → ((other : ℕ) → other < n → P other) → P n → (other : ℕ) → other < suc n → P other
-among {P} n low here other within = by (cases_eq other n)
-  where
-    by : (other ≡ n) ⊎ (other ≡ n → ⊥) → P other
-    by (inl same) = subst P (sym same) here
-    by (inr apart) = low other (omega (arith, within, apart))
+among {P} n low here other within = elim (cases_eq other n) [ inl same ↦ subst P (sym same) here | inr apart ↦ low other (omega (arith, within, apart)) ]
 
 module _ {C : Type 0} where
   -- ---- which step is next
@@ -52,19 +46,13 @@ module _ {C : Type 0} where
   -- an actor has a tick just where its turn goes on
   tick_goes : (o : Option (ActorCrew C)) (tick : ℕ) → option_and_then (λ c. step_tick c.member) o ≡ Some tick → goes o ≡ true
   tick_goes None tick is = cc
-  tick_goes (Some c) tick is = by (is_over c.member) is
-    where
-      by : (b : Bool) → (if b then None else Some (member_tick c.member)) ≡ Some tick → not b ≡ true
-      by true is = cc
-      by false is = refl
+  tick_goes (Some c) tick is = (elim (is_over c.member) as (λ b. (if b then None else Some (member_tick c.member)) ≡ Some tick → not b ≡ true)
+      [ true ↦ λ is. cc | false ↦ λ is. refl ]) is
 
   rests : (o : Option (ActorCrew C)) → option_and_then (λ c. step_tick c.member) o ≡ None → goes o ≡ false
   rests None none = refl
-  rests (Some c) none = by (is_over c.member) none
-    where
-      by : (b : Bool) → (if b then None else Some (member_tick c.member)) ≡ None → not b ≡ false
-      by true none = refl
-      by false none = cc
+  rests (Some c) none = (elim (is_over c.member) as (λ b. (if b then None else Some (member_tick c.member)) ≡ None → not b ≡ false)
+      [ true ↦ λ none. refl | false ↦ λ none. cc ]) none
 
   pub next_goes : (actor : ℕ) (w : WorldState C) → IsNext actor w.crew → is_going actor w ≡ true
   next_goes actor w next = tick_goes (slice_get w.crew actor) next.tick next.stands
@@ -170,11 +158,8 @@ module _ {C : Type 0} where
   -- where nobody goes each turn is over
   over_if_none : (crew : List (ActorCrew C)) → ((i : ℕ) → goes (slice_get crew i) ≡ false) → all_over crew ≡ true
   over_if_none [] rest = refl
-  over_if_none (c ∷ crew) rest = by (is_over c.member) (rest 0) (over_if_none crew (λ i. rest (suc i)))
-    where
-      by : (b : Bool) → not b ≡ false → all_over crew ≡ true → (b && all_over crew) ≡ true
-      by true first behind = behind
-      by false first behind = cc
+  over_if_none (c ∷ crew) rest = (elim (is_over c.member) as (λ b. not b ≡ false → all_over crew ≡ true → (b && all_over crew) ≡ true)
+      [ true ↦ λ first behind. behind | false ↦ λ first behind. cc ]) (rest 0) (over_if_none crew (λ i. rest (suc i)))
 
   pub first_is_none : (crew : List (ActorCrew C)) (n : ℕ) (step : Option NextStep) → n ≡ length crew → IsFirstIf n step crew → IsNone step → all_over crew ≡ true
   first_is_none crew n (Some s) all h none = cc
@@ -274,11 +259,10 @@ module _ {C : Type 0} (k : Codec C) where
       by (Some c) there stood stands = so c (member_asks k c.member) there stood stands
 
   all_later : (actor other later : ℕ) (w : WorldState C) (next : IsNext actor w.crew) → tick_at other (world_step k actor w).crew ≡ Some later → next.tick ≤ later
-  all_later actor other later w next stands = by (cases_eq other actor)
-    where
-      by : (other ≡ actor) ⊎ (other ≡ actor → ⊥) → next.tick ≤ later
-      by (inl same) = same_later actor later w next (subst (λ i. tick_at i (world_step k actor w).crew ≡ Some later) same stands)
-      by (inr apart) = next.least other later (sym (ap (option_and_then (λ (x : ActorCrew C). step_tick x.member)) (other_stays k actor other w apart)) ∙ stands)
+  all_later actor other later w next stands = elim (cases_eq other actor) [
+    | inl same ↦ same_later actor later w next (subst (λ i. tick_at i (world_step k actor w).crew ≡ Some later) same stands)
+    | inr apart ↦ next.least other later (sym (ap (option_and_then (λ (x : ActorCrew C). step_tick x.member)) (other_stays k actor other w apart)) ∙ stands)
+  ]
 
   rise_from : (order : List ℕ) (tick : ℕ) (w : WorldState C) → ((other later : ℕ) → tick_at other w.crew ≡ Some later → tick ≤ later) → AreInTime k order w
       → RiseFrom tick (ticks_of k order w)
@@ -337,8 +321,7 @@ module _ {C : Type 0} (k : Codec C) where
     where
       by : (b : Bool) → (AreTimedRounds k most rs (after_timed k o w) → AreTimedRounds k most us (after_timed k o w) → rs ≡ us)
           → OneOf b (AreTimedRounds k most rs (after_timed k o w)) (rs ≡ []) → OneOf b (AreTimedRounds k most us (after_timed k o w)) (us ≡ []) → rs ≡ us
-      by true rest x y = rest x y
-      by false rest x y = x ∙ sym y
+      by = elim [ true ↦ λ rest x y. rest x y | false ↦ λ rest x y. x ∙ sym y ]
 
   pub timed_is_one : (most : ℕ) (ts us : List Turn) (w : WorldState C) → IsTimed k most ts w → IsTimed k most us w → ts ≡ us
   timed_is_one most ts us w x y = x.2 ∙ ap turns_by (one_list_of_orders most x.0 y.0 w x.1 y.1) ∙ sym y.2

@@ -1,6 +1,7 @@
 pub mod Roads
 pub mod SentRecords
 pub mod Showing
+pub mod EndParts
 pub mod Growing
 pub mod Saying
 pub mod Records

@@ -324,11 +324,8 @@ module _ {C : Type 0} (k : Codec C) where
 
   -- a turn that is over has nothing left to announce
   over_none : (s : Side) (Told : ℕ → Type 0) (p : PathState C) → is_nil p.agenda ≡ true → Knows s Told p.agenda p → (id : ℕ) → is_noted id (end_at s p) ≡ true → ⊥
-  over_none s Told p over h id noted = by p.agenda over (h.each id noted).2
-    where
-      by : (ds : List Duty) → is_nil ds ≡ true → comes s ds ≡ true → ⊥
-      by [] over ahead = false≢true ahead
-      by (d ∷ ds) over ahead = false≢true over
+  over_none s Told p over h id noted = (elim p.agenda as (λ ds. is_nil ds ≡ true → comes s ds ≡ true → ⊥)
+      [ [] ↦ λ over ahead. false≢true ahead | d ∷ ds ↦ λ over ahead. false≢true over ]) over (h.each id noted).2
 
   begins_knows : (s : Side) (Told : ℕ → Type 0) (p : PathState C) → ((id : ℕ) → is_noted id (end_at s p) ≡ true → ⊥) → Knows s Told (begins_turn p).agenda (begins_turn p)
   begins_knows s Told p none = settled_knows k s Told start_of_turn (with_agenda start_of_turn p) (record { ready = start_ready s; each = λ id noted. absurd (none id noted) })

@@ -13,7 +13,6 @@ use Rattle.world_laws.proofs.Words.{answered_peer_key, answered_opened, is_stopp
 use Rattle.fallback_state.specs.declared.fall.Event.TheVariants as events
 use Rattle.path_core.specs.declared.events.Event.{Event}
 use Rattle.path_agenda.specs.Agenda.{breaks}
-use Rattle.path_core.specs.Emission.{Grant}
 use Rattle.world_laws.proofs.Announcements.ToBeNoted.{IsMild}
 use Rattle.world_laws.proofs.Falls.FailedChecks.{fail_answered_so}
 use Rattle.world_laws.proofs.Standby.OneDutyLooks.{MayNotLook}
@@ -118,8 +117,7 @@ module _ (q : Side) where
   died_ready false false = tt
 
   fired_ready : (sixth : Bool) (s : Side) → IsReady q (template_fired sixth s)
-  fired_ready true s = tt
-  fired_ready false s = tt
+  fired_ready = elim [ true ↦ λ s. tt | false ↦ λ s. tt ]
 
 module _ {C : Type 0} (q : Side) where
   copy_ready : (s : Side) (o : Option HeardSegment) (p : PathState C) → IsReady q (copy_heard s o p).agenda
@@ -133,11 +131,9 @@ module _ {C : Type 0} (q : Side) where
 
   -- a join is begun or not, with these to be done
   begun_ready : (r : Reply) (dead living : List Duty) (p : PathState C) → IsReady q dead → IsReady q living → IsReady q (join_begun r dead living p).agenda
-  begun_ready r dead living p x y = by (is_never r)
-    where
-      by : (b : Bool) → IsReady q (if b then goes_on A (never_joined r (end_at A p)) dead p else goes_on A (opened_by (keys_begun r) (end_at A p)) living p).agenda
-      by true = x
-      by false = y
+  begun_ready r dead living p x y =
+      elim (is_never r) as (λ b. IsReady q (if b then goes_on A (never_joined r (end_at A p)) dead p else goes_on A (opened_by (keys_begun r) (end_at A p)) living p).agenda)
+      [ true ↦ x | false ↦ y ]
 
   event_ready : (k : Codec C) (o : Option Event) (r : Reply) (p : PathState C) → IsReady q (happens_if k o r p).agenda
   event_ready k None r p = tt
@@ -147,11 +143,8 @@ module _ {C : Type 0} (q : Side) where
   event_ready k (Some (Event.Fires s tick)) r p = fired_ready q (is_sixth (end_at s (at_tick tick p)).tcp) s
 
   break_ready : (k : Codec C) (s : Side) (reason : ℕ) (r : Reply) (p : PathState C) → IsReady q (answered_break k s reason r p).agenda
-  break_ready k s reason r p = by (end_at s p).treated.asked
-    where
-      by : (b : Bool) → IsReady q (if b then answered_ack_out s r (resets s reason) p else reset_on k s (Some reason) (leaves s) p).agenda
-      by true = tt
-      by false = tt
+  break_ready k s reason r p = elim (end_at s p).treated.asked as (λ b. IsReady q (if b then answered_ack_out s r (resets s reason) p else reset_on k s (Some reason) (leaves s) p).agenda)
+      [ true ↦ tt | false ↦ tt ]
 
   -- after a fall the send book is told, and a path may be broken
   fell_ready : (s : Side) (r : Reply) (p : PathState C) → IsReady q (left p) → IsReady q (replaced (Duty.Ask (AskDuty.GoIdentity s)) p.agenda) → IsReady q (fell_duties s r p)
@@ -164,11 +157,7 @@ module _ {C : Type 0} (q : Side) where
   module _ (k : Codec C) (s : Side) (r : Reply) (p : PathState C) (same : IsReady q p.agenda) (left_ready : IsReady q (left p)) (told : IsReady q (replaced (Duty.Ask (AskDuty.GoIdentity s)) p.agenda)) where
     data_ready : (o : Option Record) → IsReady q (answered_data k s o r p).agenda
     data_ready (Some record_unsent) = same
-    data_ready None = by (grant_in r)
-      where
-        by : (o : Option Grant) → IsReady q (answered_grant s o r p).agenda
-        by (Some grant) = same
-        by None = left_ready
+    data_ready None = elim (grant_in r) as (λ o. IsReady q (answered_grant s o r p).agenda) [ Some grant ↦ same | None ↦ left_ready ]
 
     piece_ready : (o : Option Piece) (taken : Bool) → IsReady q (answered_piece s o taken p).agenda
     piece_ready (Some piece) true = same
@@ -176,43 +165,36 @@ module _ {C : Type 0} (q : Side) where
     piece_ready None taken = tt
 
     plain_ack_ready : IsReady q (answered_plain_ack k s r p).agenda
-    plain_ack_ready = by (breaks_by_ack p.profile (end_at s p))
-      where
-        by : (b : Bool) → IsReady q (if b then answered_break k s 6 r p else goes_on s (with_plain_ack (after_fell events.PlainAck r (end_at s p))) (fell_duties s r p) p).agenda
-        by true = break_ready k s 6 r p
-        by false = fell_ready s r p left_ready told
+    plain_ack_ready =
+        elim (breaks_by_ack p.profile (end_at s p)) as (λ b. IsReady q (if b then answered_break k s 6 r p else goes_on s (with_plain_ack (after_fell events.PlainAck r (end_at s p))) (fell_duties s r p) p).agenda) [
+          | true ↦ break_ready k s 6 r p
+          | false ↦ fell_ready s r p left_ready told
+        ]
 
     key_ready : (o : Option ℕ) → IsReady q (answered_peer_key s o r p).agenda
-    key_ready None = fell_ready s r p left_ready told
-    key_ready (Some key) = left_ready
+    key_ready = elim [ None ↦ fell_ready s r p left_ready told | Some key ↦ left_ready ]
 
     keys_ready : (o : Option KeyPair) → IsReady q (answered_opened s o r p).agenda
-    keys_ready None = fell_ready s r p left_ready told
-    keys_ready (Some keys) = left_ready
+    keys_ready = elim [ None ↦ fell_ready s r p left_ready told | Some keys ↦ left_ready ]
 
     plain_fin_ready : (set : Bool) → IsReady q (answered_plain_fin s set p).agenda
-    plain_fin_ready true = left_ready
-    plain_fin_ready false = tt
+    plain_fin_ready = elim [ true ↦ left_ready | false ↦ tt ]
 
     fin_ready : (set : Bool) → IsReady q (answered_fin_heard s set p).agenda
-    fin_ready true = left_ready
-    fin_ready false = tt
+    fin_ready = elim [ true ↦ left_ready | false ↦ tt ]
 
     module _ (index : ℕ) (acked_ready : IsReady q (replaced (Duty.Ask (AskDuty.AckHeard s)) p.agenda)) (failed_ready : IsReady q (replaced (Duty.Ask (AskDuty.FailHeard s)) p.agenda)) where
       told_ready : (b : Bool) → IsReady q (told_next s b p)
-      told_ready true = acked_ready
-      told_ready false = left_ready
+      told_ready = elim [ true ↦ acked_ready | false ↦ left_ready ]
 
       mapping_ready : IsReady q (answered_mapping k s r p).agenda
-      mapping_ready = by (is_clash (end_at s p))
-        where
-          by : (b : Bool) → IsReady q (if b then answered_break k s 1 r p else goes_on s (with_learned (after_fell events.MappingHeard r (end_at s p))) (fell_duties s r p) p).agenda
-          by true = break_ready k s 1 r p
-          by false = fell_ready s r p left_ready told
+      mapping_ready = elim (is_clash (end_at s p)) as (λ b. IsReady q (if b then answered_break k s 1 r p else goes_on s (with_learned (after_fell events.MappingHeard r (end_at s p))) (fell_duties s r p) p).agenda) [
+        | true ↦ break_ready k s 1 r p
+        | false ↦ fell_ready s r p left_ready told
+      ]
 
       stopped_ready : (stopped : Bool) → IsReady q (if stopped then stops s else left p)
-      stopped_ready true = tt
-      stopped_ready false = left_ready
+      stopped_ready = elim [ true ↦ tt | false ↦ left_ready ]
 
       item_ready : (o : Option Heard) → IsReady q (answered_item k s o r p).agenda
       item_ready (Some (Heard.DataAck next window)) = told_ready _
@@ -261,11 +243,8 @@ module _ {C : Type 0} where
   data_comes : (k : Codec C) (s t : Side) (first : Option Record) (ds : List Duty) (r : Reply) (p : PathState C) → comes s ds ≡ true
       → comes s (answered_data k t first r (with_agenda (Duty.Step (StepDuty.Data t) ∷ ds) p)).agenda ≡ true
   data_comes k s t (Some record_of) ds r p h = h
-  data_comes k s t None ds r p h = by (grant_in r)
-    where
-      by : (grant : Option Grant) → comes s (answered_grant t grant r (with_agenda (Duty.Step (StepDuty.Data t) ∷ ds) p)).agenda ≡ true
-      by None = h
-      by (Some grant) = h
+  data_comes k s t None ds r p h = elim (grant_in r) as (λ grant. comes s (answered_grant t grant r (with_agenda (Duty.Step (StepDuty.Data t) ∷ ds) p)).agenda ≡ true)
+      [ None ↦ h | Some grant ↦ h ]
 
   pub mild_comes : (k : Codec C) (d : Duty) → IsMild d → (s : Side) (ds : List Duty) (r : Reply) (p : PathState C) → comes s (d ∷ ds) ≡ true
       → comes s (answered k d r (with_agenda (d ∷ ds) p)).agenda ≡ true
@@ -290,11 +269,7 @@ module _ {C : Type 0} where
   mild_goes_on k (Duty.Ask (AskDuty.LeaveNoted t)) mild p on = refl
   mild_goes_on k (Duty.Ask (AskDuty.Leave t)) mild p on = refl
   mild_goes_on k (Duty.Ask (AskDuty.Dead t)) mild p on = refl
-  mild_goes_on k (Duty.Step (StepDuty.Data t)) mild p on = by (first_unsent (end_at t p))
-    where
-      by : (o : Option Record) → ends_turn (data_ask k t o p) ≡ false
-      by None = refl
-      by (Some r) = refl
+  mild_goes_on k (Duty.Step (StepDuty.Data t)) mild p on = elim (first_unsent (end_at t p)) as (λ o. ends_turn (data_ask k t o p) ≡ false) [ None ↦ refl | Some r ↦ refl ]
   mild_goes_on k (Duty.Send (SendDuty.Update t)) mild p on = refl
   mild_goes_on k (Duty.Send (SendDuty.ResetNoted t)) mild p on = refl
   mild_goes_on k (Duty.Send (SendDuty.Syn t)) mild p on = refl

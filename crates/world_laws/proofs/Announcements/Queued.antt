@@ -20,8 +20,7 @@ module _ (P : OwnNotice → Type 0) (removes : (id : ℕ) → P (OwnNotice.Remov
   tail_queued (notice ∷ queue) each = record { each = λ i x at. each.each (suc i) x at }
 
   pub first_queued : (queue : List OwnNotice) → Every P queue → IfSome (first_of queue) P
-  first_queued [] each = tt
-  first_queued (notice ∷ queue) each = each.each 0 notice refl
+  first_queued = elim [ [] ↦ λ each. tt | notice ∷ queue ↦ λ each. each.each 0 notice refl ]
 
   pub prio_queued : (backup dead : Bool) (queue : List OwnNotice) → Every P queue → Every P (if dead then queue else queue ++ OwnNotice.Prio backup ∷ [])
   prio_queued backup true queue each = each
@@ -41,10 +40,8 @@ module _ (P : OwnNotice → Type 0) (removes : (id : ℕ) → P (OwnNotice.Remov
   told_queued _ may n said each = each
 
   pub look_queued : (r : Reply) (e : PathEnd) → IfSome (announced_told r) (λ id. P (OwnNotice.AddAddr id)) → Every P e.notices.queue → Every P (notices_told r e).queue
-  look_queued (Reply.Control (ControlReply.Standing mode standby sole notice)) e said each = by (is_dead e.tcp.state)
-    where
-      by : (dead : Bool) → Every P (if dead then e.notices else after_notice notice (may_note e) e.notices).queue
-      by true = each
-      by false = told_queued notice (may_note e) e.notices said each
+  look_queued (Reply.Control (ControlReply.Standing mode standby sole notice)) e said each =
+      elim (is_dead e.tcp.state) as (λ dead. Every P (if dead then e.notices else after_notice notice (may_note e) e.notices).queue)
+      [ true ↦ each | false ↦ told_queued notice (may_note e) e.notices said each ]
   look_queued (Reply.Control ControlReply.Noted) e said each = each
   look_queued _ e said each = each

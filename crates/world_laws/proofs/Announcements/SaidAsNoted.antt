@@ -17,15 +17,13 @@ module _ (id : ℕ) (c : Profile) (s : Side) (e : PathEnd) where
   HasNone options = list_any (announces id) options ≡ false
 
   either_none : (b : Bool) (xs ys : List PlainOption) → HasNone xs → HasNone ys → HasNone (if b then xs else ys)
-  either_none true xs ys x y = x
-  either_none false xs ys x y = y
+  either_none = elim [ true ↦ λ xs ys x y. x | false ↦ λ xs ys x y. y ]
 
   plain_none : (position : ℕ) → HasNone (plain_options position e)
   plain_none position = either_none (owes_mapping e) _ [] refl refl
 
   join_none : (s : Side) → HasNone (join_options c s e.modes)
-  join_none A = refl
-  join_none B = refl
+  join_none = elim [ A ↦ refl | B ↦ refl ]
 
   capable_none : (s : Side) → HasNone (capable_options c s e)
   capable_none A = refl
@@ -43,8 +41,7 @@ module _ (id : ℕ) (c : Profile) (s : Side) (e : PathEnd) where
   opening_none = either_none e.modes.owes_third (third_options e.modes) (key_options c s e.modes.peer_key e) refl (key_none s e.modes.peer_key)
 
   fail_none : (o : Option ℕ) → HasNone (fail_options o)
-  fail_none None = refl
-  fail_none (Some place) = refl
+  fail_none = elim [ None ↦ refl | Some place ↦ refl ]
 
   beside_none : (fin : Option ℕ) → HasNone (fail_beside fin e.modes)
   beside_none (Some fin) = refl
@@ -54,12 +51,10 @@ module _ (id : ℕ) (c : Profile) (s : Side) (e : PathEnd) where
   ack_none fin = either_none e.modes.identity [] _ refl (either_none e.modes.clear _ (opening_options c s e) (beside_none fin) opening_none)
 
   first_none : (key : Option ℕ) (r : Record) → HasNone (first_piece_options c key r e)
-  first_none None r = refl
-  first_none (Some key) r = refl
+  first_none = elim [ None ↦ λ r. refl | Some key ↦ λ r. refl ]
 
   infinite_none : (o : Option InfiniteMapping) (options : List PlainOption) → HasNone options → HasNone (infinite_or o options e)
-  infinite_none None options none = none
-  infinite_none (Some mapping) options none = refl
+  infinite_none = elim [ None ↦ λ options none. none | Some mapping ↦ λ options none. refl ]
 
   piece_none : (r : Record) → HasNone (piece_options c s r e)
   piece_none r =
@@ -71,9 +66,7 @@ module _ (id : ℕ) (c : Profile) (s : Side) (e : PathEnd) where
   fin_none position = either_none e.modes.identity (plain_options position e) _ (plain_none position) (infinite_none e.modes.own_infinite _ refl)
 
   kind_none : (kind : RecordKind) (r : Record) → HasNone (record_options kind c s r e)
-  kind_none Syn r = syn_none
-  kind_none Data r = piece_none r
-  kind_none Fin r = fin_none r.pos
+  kind_none = elim [ Syn ↦ λ r. syn_none | Data ↦ λ r. piece_none r | Fin ↦ λ r. fin_none r.pos ]
 
   broken_none : (failed reason : Option ℕ) → HasNone (broken_options failed reason)
   broken_none failed None = refl
@@ -86,16 +79,13 @@ module _ (id : ℕ) (c : Profile) (s : Side) (e : PathEnd) where
   SaysNone segment = is_announcement id segment ≡ false
 
   either_says : (b : Bool) (x y : PlainSegment) → SaysNone x → SaysNone y → SaysNone (if b then x else y)
-  either_says true x y g h = g
-  either_says false x y g h = h
+  either_says = elim [ true ↦ λ x y g h. g | false ↦ λ x y g h. h ]
 
   record_says : (o : Option Record) → SaysNone (record_or_ack c s o e)
-  record_says None = ack_none None
-  record_says (Some r) = kind_none r.kind r
+  record_says = elim [ None ↦ ack_none None | Some r ↦ kind_none r.kind r ]
 
   carried_says : (key : Option ℕ) → SaysNone (carried_said c s key e)
-  carried_says None = ack_none None
-  carried_says (Some key) = refl
+  carried_says = elim [ None ↦ ack_none None | Some key ↦ refl ]
 
   resent_says : SaysNone (ack_resent c s e)
   resent_says =

@@ -11,7 +11,6 @@ use Rattle.world_laws.proofs.Words.{after_peer_notice, is_kept, Writes, OnlyAt, 
 use Rattle.std.proofs.Math.Bool.{or-true}
 use Rattle.subflow_tcp.specs.States.{after_finish}
 use Rattle.path_core.specs.declared.events.Event.{Event}
-use Rattle.path_core.specs.Emission.{Grant}
 use Rattle.world_laws.proofs.Falls.FailedChecks.{infinite_came_so, fail_answered_so}
 use Rattle.world_laws.proofs.Standby.OneDutyLooks.{MayNotLook}
 use Rattle.world_laws.proofs.Writes.Paths.{writes_no_more}
@@ -44,12 +43,10 @@ abbrev pub EndSheds : PathEnd → PathEnd → Type 0
 EndSheds e f = (id : ℕ) → is_noted id f ≡ true → is_noted id e ≡ true
 
 either_end : (b : Bool) (e f g : PathEnd) → EndSheds e f → EndSheds e g → EndSheds e (if b then f else g)
-either_end true e f g x y = x
-either_end false e f g x y = y
+either_end = elim [ true ↦ λ e f g x y. x | false ↦ λ e f g x y. y ]
 
 begun_end : (keys : Option KeyPair) (e : PathEnd) → EndSheds e (opened_by keys e)
-begun_end None e = λ id h. h
-begun_end (Some keys) e = λ id h. h
+begun_end = elim [ None ↦ λ e. λ id h. h | Some keys ↦ λ e. λ id h. h ]
 
 item_end : (s : Side) (item : Heard) (e : PathEnd) → EndSheds e (heard_passed s item e)
 item_end s Heard.Dss e = λ id h. h
@@ -70,18 +67,13 @@ no_new : (id : ℕ) (queue : List OwnNotice) (notice : OwnNotice) → is_note id
 no_new id queue notice other is = elim (pushed id queue notice is) [ inl old ↦ old | inr new ↦ absurd (both_ways (is_note id notice) other new) ]
 
 priority_end : (backup : Bool) (e : PathEnd) → EndSheds e (with_priority backup e)
-priority_end backup e id = by (is_dead e.tcp.state)
-  where
-    by : (b : Bool) → is_queued id (if b then e.notices.queue else e.notices.queue ++ OwnNotice.Prio backup ∷ []) ≡ true → is_noted id e ≡ true
-    by true h = h
-    by false h = no_new id e.notices.queue (OwnNotice.Prio backup) refl h
+priority_end backup e id = elim (is_dead e.tcp.state) as (λ b. is_queued id (if b then e.notices.queue else e.notices.queue ++ OwnNotice.Prio backup ∷ []) ≡ true → is_noted id e ≡ true)
+    [ true ↦ λ h. h | false ↦ λ h. no_new id e.notices.queue (OwnNotice.Prio backup) refl h ]
 
 echo_end : (notice : PeerNotice) (r : Reply) (e : PathEnd) → EndSheds e (after_peer_notice notice r e)
-echo_end (PeerNotice.AddAddr other address port hmac) r e id = by (is_kept r)
-  where
-    by : (b : Bool) → is_queued id (if b then e.notices.queue ++ OwnNotice.AddEcho other address port ∷ [] else e.notices.queue) ≡ true → is_noted id e ≡ true
-    by true h = no_new id e.notices.queue (OwnNotice.AddEcho other address port) refl h
-    by false h = h
+echo_end (PeerNotice.AddAddr other address port hmac) r e id =
+    elim (is_kept r) as (λ b. is_queued id (if b then e.notices.queue ++ OwnNotice.AddEcho other address port ∷ [] else e.notices.queue) ≡ true → is_noted id e ≡ true)
+    [ true ↦ λ h. no_new id e.notices.queue (OwnNotice.AddEcho other address port) refl h | false ↦ λ h. h ]
 echo_end (PeerNotice.AddEcho other) r e id = λ h. h
 echo_end (PeerNotice.Removed other) r e id = λ h. h
 echo_end (PeerNotice.Prio backup) r e id = λ h. h
@@ -137,8 +129,7 @@ module _ {C : Type 0} where
   then_sheds p q r x y = record { a = λ id h. x.a id (y.a id h); b = λ id h. x.b id (y.b id h) }
 
   either_sheds : (c : Bool) (q r p : PathState C) → Sheds p q → Sheds p r → Sheds p (if c then q else r)
-  either_sheds true q r p x y = x
-  either_sheds false q r p x y = y
+  either_sheds = elim [ true ↦ λ q r p x y. x | false ↦ λ q r p x y. y ]
 
   -- the end of a side becomes this, whatever else is on the path
   side_sheds : (s : Side) (e : PathEnd) (p q : PathState C) → q.a ≡ (goes_on s e [] p).a → q.b ≡ (goes_on s e [] p).b → EndSheds (end_at s p) e → Sheds p q
@@ -252,11 +243,8 @@ module _ {C : Type 0} where
 
   data_holds : (k : Codec C) (s : Side) (first : Option Record) (r : Reply) (p : PathState C) → Holds p (answered_data k s first r p)
   data_holds k s (Some record_of) r p = side_holds s _ p _ refl refl (λ id h may. may)
-  data_holds k s None r p = by (grant_in r)
-    where
-      by : (grant : Option Grant) → Holds p (answered_grant s grant r p)
-      by None = side_holds s _ p _ refl refl (λ id h may. may)
-      by (Some grant) = side_holds s _ p _ refl refl (λ id h may. may)
+  data_holds k s None r p = elim (grant_in r) as (λ grant. Holds p (answered_grant s grant r p))
+      [ None ↦ side_holds s _ p _ refl refl (λ id h may. may) | Some grant ↦ side_holds s _ p _ refl refl (λ id h may. may) ]
 
   pub mild_holds : (k : Codec C) (d : Duty) → IsMild d → (r : Reply) (p : PathState C) → Holds p (answered k d r p)
   mild_holds k (Duty.Ask (AskDuty.Window s)) mild r p = side_holds s _ p _ refl refl (λ id h may. may)
@@ -286,9 +274,7 @@ module _ {C : Type 0} where
   passed_holds _ mild p = absurd mild
 
   pub sheds_at : (s : Side) (p q : PathState C) → Sheds p q → EndSheds (end_at s p) (end_at s q)
-  sheds_at A p q x = x.a
-  sheds_at B p q x = x.b
+  sheds_at = elim [ A ↦ λ p q x. x.a | B ↦ λ p q x. x.b ]
 
   pub holds_at : (s : Side) (p q : PathState C) → Holds p q → EndHolds (end_at s p) (end_at s q)
-  holds_at A p q x = x.a
-  holds_at B p q x = x.b
+  holds_at = elim [ A ↦ λ p q x. x.a | B ↦ λ p q x. x.b ]

@@ -58,12 +58,11 @@ first_is b c address o same is = ap (λ d. is_some (if d then Some address else 
 
 inserted_own : (id : ℕ) (address : Address) (entries : List (ℕ × Address)) → is_there id (with_address entries id address) ≡ true
 inserted_own id address [] = first_is (id == id) true address None (eq-eqb id id refl) refl
-inserted_own id address (e ∷ entries) = by (id == e.0) refl (inserted_own id address entries)
-  where
-    by : (b : Bool) → (id == e.0) ≡ b → is_there id (with_address entries id address) ≡ true
-        → is_there id (if b then (e.0, address) ∷ entries else e ∷ with_address entries id address) ≡ true
-    by true same rest = first_is (id == e.0) true address (address_of id entries) same refl
-    by false other rest = first_is (id == e.0) false e.1 (address_of id (with_address entries id address)) other rest
+inserted_own id address (e ∷ entries) =
+    (elim (id == e.0) as (λ b. (id == e.0) ≡ b → is_there id (with_address entries id address) ≡ true → is_there id (if b then (e.0, address) ∷ entries else e ∷ with_address entries id address) ≡ true) [
+      | true ↦ λ same rest. first_is (id == e.0) true address (address_of id entries) same refl
+      | false ↦ λ other rest. first_is (id == e.0) false e.1 (address_of id (with_address entries id address)) other rest
+    ]) refl (inserted_own id address entries)
 
 inserted_keeps : (id other : ℕ) (address : Address) (entries : List (ℕ × Address)) → is_there id entries ≡ true → is_there id (with_address entries other address) ≡ true
 inserted_keeps id other address [] is = absurd (false≢true is)
@@ -114,11 +113,10 @@ announce_wants id other address wanted false a is h due =
 
 -- of a known id the announcement ends, and an unknown one has none
 ends_wants : (id : ℕ) (c d : Control) (wanted : Bool) → Wants id c wanted → d.addresses.due ≡ set c.addresses.due id false → Wants id (if is_known id c then d else c) false
-ends_wants id c d wanted h clears = by (is_known id c) refl
-  where
-    by : (known : Bool) → is_known id c ≡ known → Wants id (if known then d else c) false
-    by true known due = absurd (both_ways (is_member d.addresses.due id) (ap (λ xs. is_member xs id) clears ∙ cleared c.addresses.due id) due)
-    by false unknown due = absurd (both_ways (is_known id c) unknown (there_known id c (h due).0))
+ends_wants id c d wanted h clears = (elim (is_known id c) as (λ known. is_known id c ≡ known → Wants id (if known then d else c) false) [
+  | true ↦ λ known due. absurd (both_ways (is_member d.addresses.due id) (ap (λ xs. is_member xs id) clears ∙ cleared c.addresses.due id) due)
+  | false ↦ λ unknown due. absurd (both_ways (is_known id c) unknown (there_known id c (h due).0))
+]) refl
 
 abbrev echoed_book : ℕ → Control → Control
 echoed_book id c = record c { addresses = record c.addresses { due = set c.addresses.due id false } }

@@ -85,8 +85,7 @@ heard_sheltered s from zero ds h = h
 heard_sheltered s from (suc count) ds h = heard_sheltered s (from + 1) count ds h
 
 payload_sheltered : (s : Side) → is_sheltered (payload_came s) ≡ true
-payload_sheltered A = refl
-payload_sheltered B = refl
+payload_sheltered = elim [ A ↦ refl | B ↦ refl ]
 
 template_sheltered : (joined : Bool) (s : Side) (count : ℕ) (m : Meaning) → is_sheltered (template_by joined s count m) ≡ true
 template_sheltered true s count (Meaning.Accepts acknowledged) = refl
@@ -105,20 +104,16 @@ died_sheltered false true = refl
 died_sheltered false false = refl
 
 fired_sheltered : (sixth : Bool) (s : Side) → is_sheltered (template_fired sixth s) ≡ true
-fired_sheltered true s = refl
-fired_sheltered false s = refl
+fired_sheltered = elim [ true ↦ λ s. refl | false ↦ λ s. refl ]
 
 breaks_guarded : (s : Side) (reason : ℕ) → guarded s (breaks s reason) ≡ true
-breaks_guarded A reason = refl
-breaks_guarded B reason = refl
+breaks_guarded = elim [ A ↦ λ reason. refl | B ↦ λ reason. refl ]
 
 edge_guarded : (s : Side) (ds : List Duty) → guarded s ds ≡ true → guarded s (Duty.Ask (AskDuty.Edge s) ∷ ds) ≡ true
-edge_guarded A ds h = h
-edge_guarded B ds h = h
+edge_guarded = elim [ A ↦ λ ds h. h | B ↦ λ ds h. h ]
 
 identity_guarded : (s : Side) (ds : List Duty) → guarded s ds ≡ true → guarded s (Duty.Ask (AskDuty.GoIdentity s) ∷ ds) ≡ true
-identity_guarded A ds h = h
-identity_guarded B ds h = h
+identity_guarded = elim [ A ↦ λ ds h. h | B ↦ λ ds h. h ]
 
 -- ---- an end
 
@@ -127,12 +122,10 @@ abbrev EndCalms : PathEnd → PathEnd → Type 0
 EndCalms e f = f.treated.asked ≡ true → e.treated.asked ≡ true
 
 either_end : (b : Bool) (e f g : PathEnd) → EndCalms e f → EndCalms e g → EndCalms e (if b then f else g)
-either_end true e f g x y = x
-either_end false e f g x y = y
+either_end = elim [ true ↦ λ e f g x y. x | false ↦ λ e f g x y. y ]
 
 begun_end : (keys : Option KeyPair) (e : PathEnd) → EndCalms e (opened_by keys e)
-begun_end None e h = h
-begun_end (Some keys) e h = h
+begun_end = elim [ None ↦ λ e h. h | Some keys ↦ λ e h. h ]
 
 item_end : (s : Side) (item : Heard) (e : PathEnd) → EndCalms e (heard_passed s item e)
 item_end s (Heard.Mapping fin) e = either_end (counts e) e (with_learned e) (with_skipped e) (λ h. h) (λ h. h)
@@ -159,8 +152,7 @@ module _ {C : Type 0} where
     b : EndCalms p.b q.b
 
   calms_at : (s : Side) (p q : PathState C) → Calms p q → EndCalms (end_at s p) (end_at s q)
-  calms_at A p q x = x.a
-  calms_at B p q x = x.b
+  calms_at = elim [ A ↦ λ p q x. x.a | B ↦ λ p q x. x.b ]
 
   -- the end of a side becomes this, whatever else is on the path
   side_calms : (s : Side) (e : PathEnd) (p q : PathState C) → EndCalms (end_at s p) e → q.a ≡ (goes_on s e [] p).a → q.b ≡ (goes_on s e [] p).b → Calms p q
@@ -184,11 +176,8 @@ module _ {C : Type 0} where
 
   -- an end that is no matter of the first duty told nothing
   pub shielded_calm : (p : PathState C) → Shielded p → (d : Duty) (ds : List Duty) → p.agenda ≡ d ∷ ds → (s : Side) → is_shield s d ≡ false → (end_at s p).treated.asked ≡ false
-  shielded_calm p h d ds is s none = by (end_at s p).treated.asked refl
-    where
-      by : (b : Bool) → (end_at s p).treated.asked ≡ b → b ≡ false
-      by false asked = refl
-      by true asked = absurd (unguarded (is_asking s d) (is_telling s d) (guarded s ds) none (subst (λ xs. guarded s xs ≡ true) is (h.asked s asked)))
+  shielded_calm p h d ds is s none = (elim (end_at s p).treated.asked as (λ b. (end_at s p).treated.asked ≡ b → b ≡ false)
+      [ false ↦ λ asked. refl | true ↦ λ asked. absurd (unguarded (is_asking s d) (is_telling s d) (guarded s ds) none (subst (λ xs. guarded s xs ≡ true) is (h.asked s asked))) ]) refl
 
   -- ---- what comes to nothing
 
@@ -215,8 +204,7 @@ module _ {C : Type 0} where
     shape : is_sheltered q.agenda ≡ true
 
   either_goes : (c : Bool) (q r p : PathState C) → Goes p q → Goes p r → Goes p (if c then q else r)
-  either_goes true q r p x y = x
-  either_goes false q r p x y = y
+  either_goes = elim [ true ↦ λ q r p x y. x | false ↦ λ q r p x y. y ]
 
   side_goes : (s : Side) (e : PathEnd) (p q : PathState C) → EndCalms (end_at s p) e → q.a ≡ (goes_on s e [] p).a → q.b ≡ (goes_on s e [] p).b → is_sheltered q.agenda ≡ true → Goes p q
   side_goes s e p q x same_a same_b shape = record { calms = side_calms s e p q x same_a same_b; shape = shape }
@@ -392,13 +380,11 @@ module _ {C : Type 0} where
   told_shielded A e es p shape own other = record { shape = shape; asked = at }
     where
       at : (t : Side) → (end_at t (goes_on A e es p)).treated.asked ≡ true → guarded t es ≡ true
-      at A is = own is
-      at B is = other B refl is
+      at = elim [ A ↦ λ is. own is | B ↦ λ is. other B refl is ]
   told_shielded B e es p shape own other = record { shape = shape; asked = at }
     where
       at : (t : Side) → (end_at t (goes_on B e es p)).treated.asked ≡ true → guarded t es ≡ true
-      at A is = other A refl is
-      at B is = own is
+      at = elim [ A ↦ λ is. other A refl is | B ↦ λ is. own is ]
 
   -- the other side told nothing
   abbrev OthersCalm : Side → PathState C → Type 0
@@ -447,23 +433,18 @@ module _ {C : Type 0} where
   still_asked B B e ds p calm is = calm is
 
   broken_shielded : (k : Codec C) (s : Side) (reason : ℕ) (r : Reply) (p : PathState C) → OthersCalm s p → Shielded (answered_break k s reason r p)
-  broken_shielded k s reason r p calm = by (end_at s p).treated.asked
+  broken_shielded k s reason r p calm = elim (end_at s p).treated.asked as (λ b. Shielded (if b then answered_ack_out s r (resets s reason) p else reset_on k s (Some reason) (leaves s) p))
+      [ true ↦ asked_shielded s r (resets s reason) p refl calm | false ↦ reset s calm ]
     where
       reset : (s : Side) → OthersCalm s p → Shielded (reset_on k s (Some reason) (leaves s) p)
       reset A calm = record { shape = refl; asked = at }
         where
           at : (t : Side) → (end_at t (reset_on k A (Some reason) (leaves A) p)).treated.asked ≡ true → guarded t (leaves A) ≡ true
-          at A is = absurd (false≢true is)
-          at B is = absurd (calm B refl is)
+          at = elim [ A ↦ λ is. absurd (false≢true is) | B ↦ λ is. absurd (calm B refl is) ]
       reset B calm = record { shape = refl; asked = at }
         where
           at : (t : Side) → (end_at t (reset_on k B (Some reason) (leaves B) p)).treated.asked ≡ true → guarded t (leaves B) ≡ true
-          at A is = absurd (calm A refl is)
-          at B is = absurd (false≢true is)
-
-      by : (b : Bool) → Shielded (if b then answered_ack_out s r (resets s reason) p else reset_on k s (Some reason) (leaves s) p)
-      by true = asked_shielded s r (resets s reason) p refl calm
-      by false = reset s calm
+          at = elim [ A ↦ λ is. absurd (calm A refl is) | B ↦ λ is. absurd (false≢true is) ]
 
   -- ---- each reply
 
@@ -523,11 +504,8 @@ module _ {C : Type 0} where
 
   -- a turn that is over told nothing that wasn't asked about
   over_calm : (p : PathState C) → is_nil p.agenda ≡ true → Shielded p → (s : Side) → (end_at s p).treated.asked ≡ true → ⊥
-  over_calm p over h s asked = by p.agenda over (h.asked s asked)
-    where
-      by : (ds : List Duty) → is_nil ds ≡ true → guarded s ds ≡ true → ⊥
-      by [] over guard = false≢true guard
-      by (d ∷ ds) over guard = false≢true over
+  over_calm p over h s asked = (elim p.agenda as (λ ds. is_nil ds ≡ true → guarded s ds ≡ true → ⊥)
+      [ [] ↦ λ over guard. false≢true guard | d ∷ ds ↦ λ over guard. false≢true over ]) over (h.asked s asked)
 
   pub next_shielded : (p : PathState C) → is_nil p.agenda ≡ true → Shielded p → Shielded (next_round p)
   next_shielded p over h =
@@ -538,8 +516,7 @@ module _ {C : Type 0} where
   first_shielded start lines = settled_shielded start_of_turn (with_agenda start_of_turn (waiting_path start lines)) refl at
     where
       at : (s : Side) → (end_at s (with_agenda start_of_turn (waiting_path {C = C} start lines))).treated.asked ≡ true → guarded s start_of_turn ≡ true
-      at A is = absurd (false≢true is)
-      at B is = absurd (false≢true is)
+      at = elim [ A ↦ λ is. absurd (false≢true is) | B ↦ λ is. absurd (false≢true is) ]
 
 -- ---- the world
 
@@ -554,15 +531,9 @@ always_shielded start turns =
     (opened_lifted (λ c. MemberShielded c.member) start tt tt (λ number plan there. first_shielded (path_begins start number plan) start.lines))
   where
     stepped_so : (books : StampedBooks) (x : Ask) (c : ActorCrew Carried) → MemberShielded c.member → MemberShielded (crew_after values x books c).member
-    stepped_so books x c h = by c.member h
-      where
-        by : (m : Actor Carried) → MemberShielded m → MemberShielded (member_takes values (answer_to books x) m)
-        by (App a) h = tt
-        by (Path p) h = takes_shielded values (answer_to books x) p h
+    stepped_so books x c h = (elim c.member as (λ m. MemberShielded m → MemberShielded (member_takes values (answer_to books x) m))
+        [ App a ↦ λ h. tt | Path p ↦ λ h. takes_shielded values (answer_to books x) p h ]) h
 
     begun_so : (stamp : ℕ) (c : ActorCrew Carried) → is_over c.member ≡ true → MemberShielded c.member → MemberShielded (begins stamp c).member
-    begun_so stamp c over h = by c.member over h
-      where
-        by : (m : Actor Carried) → is_over m ≡ true → MemberShielded m → MemberShielded (member_next m)
-        by (App a) over h = tt
-        by (Path p) over h = next_shielded p over h
+    begun_so stamp c over h = (elim c.member as (λ m. is_over m ≡ true → MemberShielded m → MemberShielded (member_next m))
+        [ App a ↦ λ over h. tt | Path p ↦ λ over h. next_shielded p over h ]) over h

@@ -37,10 +37,7 @@ module _ (file rest : List ℕ) (b : Sending) (h : Writes file rest b) where
 
   ack_keeps : (c : Bool) (c_after : Sending) → c_after.written ≡ b.written → c_after.closed ≡ b.closed → Writes file rest (if c then b else c_after)
   ack_keeps true c_after written closed = h
-  ack_keeps false c_after written closed = record {
-    prefix = h.prefix ∙ ap (λ xs. xs ++ rest) (sym written);
-    whole = λ is. h.whole (sym closed ∙ is);
-  }
+  ack_keeps false c_after written closed = record { prefix = h.prefix ∙ ap (λ xs. xs ++ rest) (sym written); whole = λ is. h.whole (sym closed ∙ is) }
 
   pub call_keeps : (call : SendCall) → LeavesFile call → Writes file rest (after_call b call)
   call_keeps (SendCall.Write bytes) leaves = absurd leaves
@@ -49,9 +46,6 @@ module _ (file rest : List ℕ) (b : Sending) (h : Writes file rest b) where
   call_keeps (SendCall.AckIn next window) leaves = ack_keeps (is_future next b) _ refl refl
   call_keeps (SendCall.Return path) leaves = record { prefix = h.prefix; whole = h.whole }
   call_keeps SendCall.GoIdentity leaves = record { prefix = h.prefix; whole = h.whole }
-  call_keeps (SendCall.GoInfinite path) leaves = infinite (is_gathered path b)
-    where
-      infinite : (c : Bool) → Writes file rest (if c then record b { owner = Some path } else b)
-      infinite true = record { prefix = h.prefix; whole = h.whole }
-      infinite false = h
+  call_keeps (SendCall.GoInfinite path) leaves = elim (is_gathered path b) as (λ c. Writes file rest (if c then record b { owner = Some path } else b))
+      [ true ↦ record { prefix = h.prefix; whole = h.whole } | false ↦ h ]
   call_keeps SendCall.Abort leaves = record { prefix = h.prefix; whole = h.whole }

@@ -64,11 +64,8 @@ returned_tried path asker (Held holder tried) h = if_so (IsTried path) (holder =
 returned_taken : (path : ℕ) (m : ByteMark) → IsTried path m → is_free_for path m ≡ false → is_free_for path (returned path m) ≡ false
 returned_taken path Acked h none = refl
 returned_taken path (Free tried) h none = none
-returned_taken path (Held holder tried) h none = by (holder == path) refl
-  where
-    by : (b : Bool) → (holder == path) ≡ b → is_free_for path (if b then Free tried else Held holder tried) ≡ false
-    by true is = ap not (h (eqb-true holder path is))
-    by false is = refl
+returned_taken path (Held holder tried) h none = (elim (holder == path) as (λ b. (holder == path) ≡ b → is_free_for path (if b then Free tried else Held holder tried) ≡ false)
+    [ true ↦ λ is. ap not (h (eqb-true holder path is)) | false ↦ λ is. refl ]) refl
 
 -- ---- how many are taken
 
@@ -78,8 +75,7 @@ taken_written path count (m ∷ ms) = by (is_free_for path m) (taken_written pat
   where
     by : (b : Bool) → taken_len path ms ≤ taken_len path (ms ++ replicate count (Free no_paths))
         → cond (not b) (1 + taken_len path ms) 0 ≤ cond (not b) (1 + taken_len path (ms ++ replicate count (Free no_paths))) 0
-    by true rest = omega arith
-    by false rest = omega (arith, rest)
+    by = elim [ true ↦ λ rest. omega arith | false ↦ λ rest. omega (arith, rest) ]
 
 -- bytes that change, but none to one that the path may take
 module _ (path : ℕ) (change : ByteMark → ByteMark) where
@@ -88,13 +84,10 @@ module _ (path : ℕ) (change : ByteMark → ByteMark) where
 
   -- one byte more in front
   taken_first : (m n : ByteMark) (ms ns : List ByteMark) → (is_free_for path m ≡ false → is_free_for path n ≡ false) → taken_len path ms ≤ taken_len path ns → taken_len path (m ∷ ms) ≤ taken_len path (n ∷ ns)
-  taken_first m n ms ns takes rest = by (is_free_for path m) refl
-    where
-      by : (b : Bool) → is_free_for path m ≡ b → cond (not b) (1 + taken_len path ms) 0 ≤ cond (not (is_free_for path n)) (1 + taken_len path ns) 0
-      by true is = omega arith
-      by false is =
-          let same : is_free_for path n ≡ false = takes is in
-          subst (λ (c : Bool). 1 + taken_len path ms ≤ cond (not c) (1 + taken_len path ns) 0) (sym same) (omega (arith, rest))
+  taken_first m n ms ns takes rest = (elim (is_free_for path m) as (λ b. is_free_for path m ≡ b → cond (not b) (1 + taken_len path ms) 0 ≤ cond (not (is_free_for path n)) (1 + taken_len path ns) 0) [
+    | true ↦ λ is. omega arith
+    | false ↦ λ is. let same : is_free_for path n ≡ false = takes is in subst (λ (c : Bool). 1 + taken_len path ms ≤ cond (not c) (1 + taken_len path ns) 0) (sym same) (omega (arith, rest))
+  ]) refl
 
   taken_changed : (ms : List ByteMark) → Every Takes ms → taken_len path ms ≤ taken_len path (map change ms)
   taken_changed [] h = omega arith
@@ -160,19 +153,14 @@ all_acked path (Free tried ∷ ms) h =
 
 pub any_last : (test : Note → Bool) (steps : List Note) (n : Note) → test n ≡ true → list_any test (steps ++ n ∷ []) ≡ true
 any_last test [] n is = ap (λ b. b || false) is
-any_last test (m ∷ steps) n is = by (test m) (any_last test steps n is)
-  where
-    by : (b : Bool) → list_any test (steps ++ n ∷ []) ≡ true → (b || list_any test (steps ++ n ∷ [])) ≡ true
-    by true rest = refl
-    by false rest = rest
+any_last test (m ∷ steps) n is = (elim (test m) as (λ b. list_any test (steps ++ n ∷ []) ≡ true → (b || list_any test (steps ++ n ∷ [])) ≡ true)
+    [ true ↦ λ rest. refl | false ↦ λ rest. rest ]) (any_last test steps n is)
 
 pub any_more : (test : Note → Bool) (steps more : List Note) → list_any test steps ≡ true → list_any test (steps ++ more) ≡ true
 any_more test [] more is = absurd (false≢true is)
-any_more test (m ∷ steps) more is = by (test m) is (any_more test steps more)
-  where
-    by : (b : Bool) → (b || list_any test steps) ≡ true → (list_any test steps ≡ true → list_any test (steps ++ more) ≡ true) → (b || list_any test (steps ++ more)) ≡ true
-    by true is rest = refl
-    by false is rest = rest is
+any_more test (m ∷ steps) more is =
+    (elim (test m) as (λ b. (b || list_any test steps) ≡ true → (list_any test steps ≡ true → list_any test (steps ++ more) ≡ true) → (b || list_any test (steps ++ more)) ≡ true)
+    [ true ↦ λ is rest. refl | false ↦ λ is rest. rest is ]) is (any_more test steps more)
 
 pub last_more : (s : Side) (before : Bool) (steps : List Note) (n : Note) → last_on_standby s before (steps ++ n ∷ []) ≡ standby_after s n (last_on_standby s before steps)
 last_more s before [] n = refl
@@ -315,11 +303,8 @@ module _ (path written : ℕ) (b : Sending) (h : IsOnes path written b) where
       }).owner ≡ false
       by true = barred
       by false = barred
-  barred_after Close is falls barred = by b.aborted
-    where
-      by : (aborted : Bool) → is_for path (if aborted then b else record b { closed = true }).owner ≡ false
-      by true = barred
-      by false = barred
+  barred_after Close is falls barred = elim b.aborted as (λ aborted. is_for path (if aborted then b else record b { closed = true }).owner ≡ false)
+      [ true ↦ barred | false ↦ barred ]
   barred_after (Return asker) is falls barred = barred
   barred_after GoIdentity is falls barred = barred_fell b.owner barred falls
   barred_after Abort is falls barred = barred
@@ -335,11 +320,7 @@ module _ (path written : ℕ) (b : Sending) (h : IsOnes path written b) where
       }).aborted ≡ true
       by true = stopped
       by false = stopped
-  stopped_after Close is stopped = by b.aborted
-    where
-      by : (aborted : Bool) → (if aborted then b else record b { closed = true }).aborted ≡ true
-      by true = stopped
-      by false = stopped
+  stopped_after Close is stopped = elim b.aborted as (λ aborted. (if aborted then b else record b { closed = true }).aborted ≡ true) [ true ↦ stopped | false ↦ stopped ]
   stopped_after (Return asker) is stopped = stopped
   stopped_after GoIdentity is stopped = stopped
   stopped_after Abort is stopped = refl
@@ -411,38 +392,31 @@ module _ (path written : ℕ) (b : Sending) (h : IsOnes path written b) where
     all_other s steps (Barred barred) = Barred (by (decision asker max standby b))
       where
         by : (o : Result Span Why) → is_for path (given_by asker o b).owner ≡ false
-        by (Err why) = barred
-        by (Ok span) = barred
+        by = elim [ Err why ↦ barred | Ok span ↦ barred ]
     all_other s steps (Stopped stopped) = Stopped (by (decision asker max standby b))
       where
         by : (o : Result Span Why) → (given_by asker o b).aborted ≡ true
-        by (Err why) = stopped
-        by (Ok span) = stopped
+        by = elim [ Err why ↦ stopped | Ok span ↦ stopped ]
 
   -- ---- a refusal
 
   -- nothing is left, or it is past the edge
   none_found : position (is_free_for path) b.marks ≡ None → AllTaken b
-  none_found is = by (nat_lt (taken_len path b.marks) (length b.marks)) refl is
-    where
-      by : (c : Bool) → nat_lt (taken_len path b.marks) (length b.marks) ≡ c → cond c (Some (taken_len path b.marks)) None ≡ None → AllTaken b
-      by true below is = cc
-      by false above is = let most = ltb-false (taken_len path b.marks) (length b.marks) above in omega (arith, most, h.whole, h.grown)
+  none_found is =
+      (elim (nat_lt (taken_len path b.marks) (length b.marks)) as (λ c. nat_lt (taken_len path b.marks) (length b.marks) ≡ c → cond c (Some (taken_len path b.marks)) None ≡ None → AllTaken b)
+      [ true ↦ λ below is. cc | false ↦ λ above is. let most = ltb-false (taken_len path b.marks) (length b.marks) above in omega (arith, most, h.whole, h.grown) ]) refl is
 
   shut_at : (from : ℕ) → position (is_free_for path) b.marks ≡ Some from → b.edge ≤ from → AllTaken b
-  shut_at from is edge = by (nat_lt (taken_len path b.marks) (length b.marks)) is
-    where
-      by : (c : Bool) → cond c (Some (taken_len path b.marks)) None ≡ Some from → AllTaken b
-      by true is = let same : taken_len path b.marks ≡ from = cc in omega (arith, same, edge)
-      by false is = cc
+  shut_at from is edge = (elim (nat_lt (taken_len path b.marks) (length b.marks)) as (λ c. cond c (Some (taken_len path b.marks)) None ≡ Some from → AllTaken b)
+      [ true ↦ λ is. let same : taken_len path b.marks ≡ from = cc in omega (arith, same, edge) | false ↦ λ is. cc ]) is
 
   at_place : (most : ℕ) (o : Option ℕ) → position (is_free_for path) b.marks ≡ o → grant_in (Reply.Send (reply_by (span_at path most b o) b)) ≡ None → AllTaken b
   at_place most None is none = none_found is
-  at_place most (Some from) is none = by (nat_le b.edge from) refl none
-    where
-      by : (c : Bool) → nat_le b.edge from ≡ c → grant_in (Reply.Send (reply_by (if c then Err WindowShut else Ok (record { from = from; to = from + run_len path most b from })) b)) ≡ None → AllTaken b
-      by true edge none = shut_at from is (leb-true b.edge from edge)
-      by false edge none = cc
+  at_place most (Some from) is none =
+      (elim (nat_le b.edge from) as (λ c. nat_le b.edge from ≡ c → grant_in (Reply.Send (reply_by (if c then Err WindowShut else Ok (record { from = from; to = from + run_len path most b from })) b)) ≡ None → AllTaken b) [
+        | true ↦ λ edge none. shut_at from is (leb-true b.edge from edge)
+        | false ↦ λ edge none. cc
+      ]) refl none
 
   -- all is taken, or the path is on standby, or another one alone is given bytes, or none
   abbrev pub Refused : Bool → Type 0
@@ -469,8 +443,7 @@ module _ (path written : ℕ) (b : Sending) (h : IsOnes path written b) where
 
   -- after a refusal the book is the same
   same_given : (o : Result Span Why) → grant_in (Reply.Send (reply_by o b)) ≡ None → given_by path o b ≡ b
-  same_given (Ok span) none = cc
-  same_given (Err why) none = refl
+  same_given = elim [ Ok span ↦ λ none. cc | Err why ↦ λ none. refl ]
 
   pub grant_refused : (s : Side) (steps : List Note) (n : Note) (max : ℕ) (standby : Bool) → ((before : Bool) → standby_after s n before ≡ standby)
       → grant_in (Reply.Send (reply_by (decision path max standby b) b)) ≡ None → AskedForAll path s (steps ++ n ∷ []) written (after_call b (Grant path max standby))

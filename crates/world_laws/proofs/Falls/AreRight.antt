@@ -36,16 +36,13 @@ abbrev asks_some : Ask → Bool
 asks_some x = asks_grant A x || asks_grant B x
 
 written_none : (s : Side) (bytes : List ℕ) → asks_some (Ask.Send s (SendCall.Write bytes)) ≡ false
-written_none A bytes = refl
-written_none B bytes = refl
+written_none = elim [ A ↦ λ bytes. refl | B ↦ λ bytes. refl ]
 
 closed_none : (s : Side) → asks_some (Ask.Send s SendCall.Close) ≡ false
-closed_none A = refl
-closed_none B = refl
+closed_none = elim [ A ↦ refl | B ↦ refl ]
 
 aborted_none : (s : Side) → asks_some (Ask.Send s SendCall.Abort) ≡ false
-aborted_none A = refl
-aborted_none B = refl
+aborted_none = elim [ A ↦ refl | B ↦ refl ]
 
 app_asks_none : (d : AppDuty) (a : AppState) → asks_some (app_ask d a) ≡ false
 app_asks_none AppDuty.AbortSend a = aborted_none a.side
@@ -74,18 +71,12 @@ module _ (p : PathState Carried) where
 module _ (key_a key_b : ℕ) where
   -- on a path that joins bytes are asked for once B answered
   member_joined : (number : ℕ) (six : SixBooks) (m : Actor Carried) (x : Ask) → member_asks values m ≡ Some x → MemberIs key_a key_b false six m → MemberIsSteady six (suc number) m → asks_some x ≡ true → Joined six B
-  member_joined number six (App a) x is h steady asks = by a.agenda is
-    where
-      by : (ds : List AppDuty) → app_asks_first ds a ≡ Some x → Joined six B
-      by [] is = cc
-      by (d ∷ ds) is = absurd (both_ways (asks_some x) (ap asks_some (sym (same_Some (app_ask d a) x is)) ∙ app_asks_none d a) asks)
-  member_joined number six (Path p) x is h steady asks = by p.agenda is h.settled
-    where
-      by : (ds : List Duty) → asks_first values ds p ≡ Some x → FirstStands ds p → Joined six B
-      by [] is first = cc
-      by (d ∷ ds) is first =
-          let found = asking_finishes p d first (ap asks_some (same_Some (ask_for values d p) x is) ∙ asks) in
-          steady.joined number refl found.0 found.1
+  member_joined number six (App a) x is h steady asks = (elim a.agenda as (λ ds. app_asks_first ds a ≡ Some x → Joined six B)
+      [ [] ↦ λ is. cc | d ∷ ds ↦ λ is. absurd (both_ways (asks_some x) (ap asks_some (sym (same_Some (app_ask d a) x is)) ∙ app_asks_none d a) asks) ]) is
+  member_joined number six (Path p) x is h steady asks = (elim p.agenda as (λ ds. asks_first values ds p ≡ Some x → FirstStands ds p → Joined six B) [
+    | [] ↦ λ is first. cc
+    | d ∷ ds ↦ λ is first. let found = asking_finishes p d first (ap asks_some (same_Some (ask_for values d p) x is) ∙ asks) in steady.joined number refl found.0 found.1
+  ]) is h.settled
 
 -- ---- worlds
 
@@ -150,11 +141,11 @@ falls_are_right start turns = record {
     unanswered : (s : Side) → FellBack (books_in (world_run values turns (opened_world start)).books) s
         → (books_in (world_run values turns (opened_world start)).books).control_b.fall.joined ≡ false
     unanswered B fell = fell_unjoined_at (books_in (world_run values turns (opened_world start)).books) B fell
-    unanswered A fell = by (books_in (world_run values turns (opened_world start)).books).control_b.fall.joined refl
-      where
-        by : (b : Bool) → (books_in (world_run values turns (opened_world start)).books).control_b.fall.joined ≡ b → b ≡ false
-        by false is = refl
-        by true is = absurd (both_ways _ (fell_unjoined_at (books_in (world_run values turns (opened_world start)).books) A fell) ((always_joined start turns).order is))
+    unanswered A fell =
+        (elim (books_in (world_run values turns (opened_world start)).books).control_b.fall.joined as (λ b. (books_in (world_run values turns (opened_world start)).books).control_b.fall.joined ≡ b → b ≡ false) [
+          | false ↦ λ is. refl
+          | true ↦ λ is. absurd (both_ways _ (fell_unjoined_at (books_in (world_run values turns (opened_world start)).books) A fell) ((always_joined start turns).order is))
+        ]) refl
 
     none : (number : ℕ) (c : ActorCrew Carried) → slice_get (world_run values turns (opened_world start)).crew (suc (suc (suc number))) ≡ Some c
         → (books_in (world_run values turns (opened_world start)).books).control_b.fall.joined ≡ false → (b : Bool) → list_any asks_bytes c.list ≡ b → b ≡ false
@@ -259,11 +250,8 @@ run_joined start = run_so values (λ w. Joined (books_in w.books) B)
 -- it answered none before either
 unanswered_before : (start : Start) (turns : List Turn) (w : WorldState Carried) → (books_in (world_run values turns w).books).control_b.fall.joined ≡ false
     → (books_in w.books).control_b.fall.joined ≡ false
-unanswered_before start turns w none = by (books_in w.books).control_b.fall.joined refl
-  where
-    by : (b : Bool) → (books_in w.books).control_b.fall.joined ≡ b → b ≡ false
-    by false is = refl
-    by true is = absurd (both_ways _ none (run_joined start turns w is))
+unanswered_before start turns w none = (elim (books_in w.books).control_b.fall.joined as (λ b. (books_in w.books).control_b.fall.joined ≡ b → b ≡ false)
+    [ false ↦ λ is. refl | true ↦ λ is. absurd (both_ways _ none (run_joined start turns w is)) ]) refl
 
 pub positions_were_places : HoldsAnyway (PositionsWerePlaces values)
 positions_were_places start turns size s more fell =
@@ -291,8 +279,7 @@ member_plain (App a) h = tt
 member_plain (Path p) h = λ s. by s
   where
     by : (s : Side) → EndIsPlain p.profile s (end_at s (shown_path p))
-    by A = h A
-    by B = h B
+    by = elim [ A ↦ h A | B ↦ h B ]
 
 places_shown : (w : WorldState Carried) → PositionsArePlaces w → PositionsArePlaces (shown_world w)
 places_shown w h = record {
@@ -304,12 +291,10 @@ pub falls_in_octets : HoldsAnywayOfOctets FallsAreRight
 falls_in_octets start turns size fit = subst FallsAreRight (sym (run_fresh start turns size fit)) (falls_shown (world_run values turns (opened_world start)) (falls_are_right start turns))
 
 same_fallen : (s : Side) (w : WorldState Carried) → (is_fallen s (shown_world w) || is_stopped s (shown_world w)) ≡ (is_fallen s w || is_stopped s w)
-same_fallen A w = refl
-same_fallen B w = refl
+same_fallen = elim [ A ↦ λ w. refl | B ↦ λ w. refl ]
 
 same_has_fallen : (s : Side) (w : WorldState Carried) → has_fallen s (shown_world w) ≡ has_fallen s w
-same_has_fallen A w = refl
-same_has_fallen B w = refl
+same_has_fallen = elim [ A ↦ λ w. refl | B ↦ λ w. refl ]
 
 pub falls_last_in_octets : HoldsAnywayOfOctets (FallsLast octets)
 falls_last_in_octets start turns size fit s more fell =

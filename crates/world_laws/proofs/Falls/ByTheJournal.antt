@@ -9,12 +9,10 @@ use Rattle.control_book.specs.Steps as control
 use Rattle.world_laws.specs.ModesSoFar.{was_by, was_in}
 
 or_first : (a b : Bool) → a ≡ true → (a || b) ≡ true
-or_first true b is = refl
-or_first false b is = absurd (false≢true is)
+or_first = elim [ true ↦ λ b is. refl | false ↦ λ b is. absurd (false≢true is) ]
 
 or_second : (a b : Bool) → b ≡ true → (a || b) ≡ true
-or_second true b is = refl
-or_second false b is = is
+or_second = elim [ true ↦ λ b is. refl | false ↦ λ b is. is ]
 
 -- ---- a journal
 

@@ -34,9 +34,7 @@ then_modulated : (m n k : Modes) → Modulated m n → Modulated n k → Modulat
 then_modulated m n k x y = record { moves = λ d is. then_moved d (record d { modes = n }) (record d { modes = k }) (x.moves d is) (y.moves (record d { modes = n }) refl) }
 
 stay_modes : (m n : Modes) → n ≡ m → Modulated m n
-stay_modes m n same = record {
-  moves = λ d is. record { events = []; silent = refl; to = ap (λ x. record d { modes = x }) (same ∙ sym is) };
-}
+stay_modes m n same = record { moves = λ d is. record { events = []; silent = refl; to = ap (λ x. record d { modes = x }) (same ∙ sym is) } }
 
 -- by one event, or two
 by_events : (m n : Modes) (change : Modes → Modes) (events : List Event) → AreSilent events → ((d : Duo) → after_events events d ≡ record d { modes = change d.modes }) → n ≡ change m → Modulated m n
@@ -105,12 +103,10 @@ b_as_before links x y z plain (inr loose) joined =
     then_modulated _ (modes_with links x (record y { loose = true })) _ (b_loosens links x y) (stay_modes _ _ (ap (λ s. modes_with links x s) (stand_is (record y { loose = true }) z plain loose joined)))
 
 loosened : (firm : Bool) (f g : Fall) → Loosened f g → ((not firm && is_loose g) ≡ (not firm && is_loose f)) ⊎ ((not firm && is_loose g) ≡ true)
-loosened true f g loose = inl refl
-loosened false f g loose = loose
+loosened = elim [ true ↦ λ f g loose. inl refl | false ↦ λ f g loose. loose ]
 
 unplain : (firm : Bool) (f : Fall) → is_plain f ≡ false → (not firm && is_plain f) ≡ false
-unplain true f is = refl
-unplain false f is = is
+unplain = elim [ true ↦ λ f is. refl | false ↦ λ f is. is ]
 
 a_fell : (links : Links) (firm : Bool) (f h : Fall) (y : Stand) → FellBack f h → Modulated (modes_with links (stand_of firm f) y) (modes_with links (stand_of firm h) y)
 a_fell links true f h y fell = a_as_before links (stand_of true f) (stand_of true h) y refl (inl refl) fell.joined

@@ -55,12 +55,10 @@ untold_call s (ControlCall.Fell path event) harmless = untold_event s path event
 untold_call s _ harmless = refl
 
 untold : (x : Ask) → IsHarmless x → tells_failure x ≡ false
-untold (Ask.Control s call) harmless = untold_call s call harmless
-untold _ harmless = refl
+untold = elim [ Ask.Control s call ↦ λ harmless. untold_call s call harmless | _ ↦ λ harmless. refl ]
 
 app_harmless : (d : AppDuty) (a : AppState) → IsHarmless (app_ask d a)
-app_harmless AppDuty.FastClose a = tt
-app_harmless _ a = tt
+app_harmless = elim [ AppDuty.FastClose ↦ λ a. tt | _ ↦ λ a. tt ]
 
 -- ---- a path
 
@@ -103,8 +101,7 @@ module _ (p : PathState Carried) (h : PathPasses p) where
   plain_ack_harmless s = if_so IsHarmless (breaks_by_ack p.profile (end_at s p)) (break_ask values s 6 p) (fell_ask s FallEvent.PlainAck p) (break_harmless s 6) tt
 
   notice_harmless : (notice : PeerNotice) → CallIsHarmless (notice_call (path_of p) notice)
-  notice_harmless (PeerNotice.AddAddr id address port hmac) = tt
-  notice_harmless _ = tt
+  notice_harmless = elim [ PeerNotice.AddAddr id address port hmac ↦ tt | _ ↦ tt ]
 
   item_harmless : (s : Side) (o : Option Heard) → IsHarmless (item_ask values s o p)
   item_harmless s (Some (Heard.Mapping fin)) = mapping_harmless s
@@ -247,14 +244,12 @@ pub no_failure_is_told : IsPromised NoFailureIsTold
 no_failure_is_told start turns plain = record { each = λ actor c there. by c.member ((each_passes start turns plain).each actor c there) }
   where
     by : (m : Actor Carried) → MemberPasses m → TellsNoFailure m
-    by (App a) h = tt
-    by (Path p) h = h.copies
+    by = elim [ App a ↦ λ h. tt | Path p ↦ λ h. h.copies ]
 
 -- ---- control books
 
 either_unfailed : (b : Bool) (c d : Control) → IsUnfailed c.fall → IsUnfailed d.fall → IsUnfailed (if b then c else d).fall
-either_unfailed true c d x y = x
-either_unfailed false c d x y = y
+either_unfailed = elim [ true ↦ λ c d x y. x | false ↦ λ c d x y. y ]
 
 -- an MP_FAIL after which no infinite mapping can be sent changes nothing
 fail_unfailed : (fall : Fall) (only : Bool) → IsUnfailed fall → IsUnfailed (fall_step fall 0 only (FallEvent.FailHeard false)).0
@@ -277,8 +272,7 @@ module _ (c : Control) (u : IsUnfailed c.fall) where
   joined_unfailed = record { finite = u.finite; unfailed = u.unfailed }
 
   look_unfailed : (n : Notice) (path : ℕ) → IsUnfailed (controlling.after_notice n path c).fall
-  look_unfailed (Notice.Withdraw id) path = u
-  look_unfailed _ path = u
+  look_unfailed = elim [ Notice.Withdraw id ↦ λ path. u | _ ↦ λ path. u ]
 
   call_unfailed : (call : ControlCall) → CallIsHarmless call → IsUnfailed (controlling.after c call).fall
   call_unfailed (ControlCall.Look path) harmless = look_unfailed (replying.notice_on c path) path
@@ -351,16 +345,13 @@ passing_checks : (w : WorldState Carried) → Passing w → ChecksPass w
 passing_checks w h = record { checks = λ actor. by (slice_get w.crew actor) (λ c there. h.notes actor c there); unfailed = unfailed; finite = finite }
   where
     by : (o : Option (ActorCrew Carried)) → ((c : ActorCrew Carried) → o ≡ Some c → list_any note_tells_failure c.list ≡ false) → list_any note_tells_failure (notes_or o) ≡ false
-    by None each = refl
-    by (Some c) each = each c refl
+    by = elim [ None ↦ λ each. refl | Some c ↦ λ each. each c refl ]
 
     unfailed : (s : Side) → (control_of s (books_in w.books)).fall.failed ≡ None
-    unfailed A = h.books.0.unfailed
-    unfailed B = h.books.1.unfailed
+    unfailed = elim [ A ↦ h.books.0.unfailed | B ↦ h.books.1.unfailed ]
 
     finite : (s : Side) → is_infinite (control_of s (books_in w.books)).fall.mode ≡ false
-    finite A = h.books.0.finite
-    finite B = h.books.1.finite
+    finite = elim [ A ↦ h.books.0.finite | B ↦ h.books.1.finite ]
 
 pub checks_pass : IsPromised ChecksPass
 checks_pass start turns plain =

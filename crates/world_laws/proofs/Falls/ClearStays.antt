@@ -16,8 +16,7 @@ use Rattle.world_laws.proofs.Writes.Steps.{both_ends, Lasts, unwritten, takes_la
 
 -- what is clear was clear, or became so
 pub unclear_before : (b c : Bool) → (b ≡ true → c ≡ true) → c ≡ false → b ≡ false
-unclear_before false c on is = refl
-unclear_before true c on is = absurd (both_ways c is (on refl))
+unclear_before = elim [ false ↦ λ c on is. refl | true ↦ λ c on is. absurd (both_ways c is (on refl)) ]
 
 -- ---- what is known of the modes
 
@@ -35,8 +34,7 @@ keyed_clear (Reply.Control ControlReply.Noted) (Some keys) m = (λ h. refl, λ h
 keyed_clear _ keys m = (λ h. h, λ h. h)
 
 with_answer_clear : (o : Option JoinAnswer) (m : Modes) → Stays m (with_answer o m)
-with_answer_clear None m = (λ h. h, λ h. h)
-with_answer_clear (Some answer) m = (λ h. h, λ h. h)
+with_answer_clear = elim [ None ↦ λ m. (λ h. h, λ h. h) | Some answer ↦ λ m. (λ h. h, λ h. h) ]
 
 answered_clear_in : (meaning : Meaning) (items : List Heard) (m : Modes) → Stays m (answered_in meaning items m)
 answered_clear_in (Meaning.Accepts acknowledged) items m = with_answer_clear (join_answer items m) m
@@ -47,8 +45,7 @@ cleared_clear (Meaning.Taken position acknowledged) state m = (λ h. or_left m.c
 cleared_clear _ state m = (λ h. h, λ h. h)
 
 asked_clear : (meaning : Meaning) (options : List HeardOption) (m : Modes) → Stays m (asked_in meaning options m)
-asked_clear Meaning.Opens options m = (λ h. h, λ h. h)
-asked_clear _ options m = (λ h. h, λ h. h)
+asked_clear = elim [ Meaning.Opens ↦ λ options m. (λ h. h, λ h. h) | _ ↦ λ options m. (λ h. h, λ h. h) ]
 
 heard_clear : (joined : Bool) (meaning : Meaning) (items : List Heard) (state : EndPhase) (m : Modes) → Stays m (if joined then cleared_in meaning state (answered_in meaning items m) else m)
 heard_clear true meaning items state m =
@@ -61,12 +58,10 @@ abbrev EndStays : PathEnd → PathEnd → Type 0
 EndStays e f = Stays e.modes f.modes
 
 either_end : (b : Bool) (e f g : PathEnd) → EndStays e f → EndStays e g → EndStays e (if b then f else g)
-either_end true e f g x y = x
-either_end false e f g x y = y
+either_end = elim [ true ↦ λ e f g x y. x | false ↦ λ e f g x y. y ]
 
 begun_end : (keys : Option KeyPair) (e : PathEnd) → EndStays e (opened_by keys e)
-begun_end None e = (λ h. h, λ h. h)
-begun_end (Some keys) e = (λ h. h, λ h. h)
+begun_end = elim [ None ↦ λ e. (λ h. h, λ h. h) | Some keys ↦ λ e. (λ h. h, λ h. h) ]
 
 pub maybe_end : (s : Side) (o : Option Heard) (e : PathEnd) → EndStays e (item_passed s o e)
 maybe_end s o e =
@@ -93,8 +88,7 @@ module _ {C : Type 0} where
   then_clear p q r x y = record { a = then_stays p.a.modes q.a.modes r.a.modes x.a y.a; b = then_stays p.b.modes q.b.modes r.b.modes x.b y.b }
 
   either_clear : (c : Bool) (q r p : PathState C) → Clears p q → Clears p r → Clears p (if c then q else r)
-  either_clear true q r p x y = x
-  either_clear false q r p x y = y
+  either_clear = elim [ true ↦ λ q r p x y. x | false ↦ λ q r p x y. y ]
 
   -- the end of a side becomes this, whatever else is on the path
   side_clear : (s : Side) (e : PathEnd) (p q : PathState C) → EndStays (end_at s p) e → q.a ≡ (goes_on s e [] p).a → q.b ≡ (goes_on s e [] p).b → Clears p q

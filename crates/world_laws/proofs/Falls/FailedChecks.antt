@@ -111,11 +111,7 @@ infinite_came_so P place position r e all = by position (is_infinite_receive r)
 
 -- nothing is asked, or the send book is told an acknowledgement
 pub subflow_acks_so : (P : Ask → Type 0) (s : Side) (e : PathEnd) → P (Ask.Local LocalStep.End) → ((next : ℕ) → P (Ask.Send s (SendCall.AckIn next e.treated.window))) → P (subflow_ack_ask s e)
-subflow_acks_so P s e none some = by (plain_next e)
-  where
-    by : (o : Option ℕ) → P (plain_ack_in s o e.treated.window)
-    by None = none
-    by (Some next) = some next
+subflow_acks_so P s e none some = elim (plain_next e) as (λ o. P (plain_ack_in s o e.treated.window)) [ None ↦ none | Some next ↦ some next ]
 
 -- ---- MP_FAIL
 

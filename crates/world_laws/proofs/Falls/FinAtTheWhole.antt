@@ -46,11 +46,8 @@ in_range (x ∷ xs) (suc n) is within = in_range xs n is (omega (arith, within))
 
 -- and none past the end of the stream
 end_is : (s : Sending) (e : ℕ) → end_of s ≡ Some e → e ≡ length s.written
-end_is s e is = by s.closed is
-  where
-    by : (b : Bool) → (if b then Some (length s.written) else None) ≡ Some e → e ≡ length s.written
-    by true is = same_Some e (length s.written) (sym is)
-    by false is = cc
+end_is s e is = (elim s.closed as (λ b. (if b then Some (length s.written) else None) ≡ Some e → e ≡ length s.written)
+    [ true ↦ λ is. same_Some e (length s.written) (sym is) | false ↦ λ is. cc ]) is
 
 sent_within : (v : View) (path : ℕ) (p : Lane) → LaneHolds v path p → From (λ pos c. c.place ≡ pos) 0 p.sent → (n : ℕ) → length p.sent ≡ n → n ≤ length v.written
 sent_within v path p h identity zero is = omega arith

@@ -40,8 +40,7 @@ always_fell start turns =
 
 -- plain TCP is a fallback
 identity_falls : (m : Mode) → is_identity m ≡ true → is_fallback m ≡ true
-identity_falls Mode.Identity is = refl
-identity_falls _ is = absurd (false≢true is)
+identity_falls = elim [ Mode.Identity ↦ λ is. refl | _ ↦ λ is. absurd (false≢true is) ]
 
 -- ---- a turn
 
@@ -93,11 +92,8 @@ module _ (links : Links) where
 
   -- what hasn't fallen by a later moment hasn't before
   unfallen_before : (turns : List Turn) (w : WorldState Carried) → Unfallen (world_run values turns w) → Unfallen w
-  unfallen_before turns w none s firm = by (fell_back s w) refl
-    where
-      by : (b : Bool) → fell_back s w ≡ b → b ≡ false
-      by false fell = refl
-      by true fell = absurd (both_ways _ (none s firm) (run_was is_fallback values s turns w fell))
+  unfallen_before turns w none s firm = (elim (fell_back s w) as (λ b. fell_back s w ≡ b → b ≡ false)
+      [ false ↦ λ fell. refl | true ↦ λ fell. absurd (both_ways _ (none s firm) (run_was is_fallback values s turns w fell)) ]) refl
 
   firm_on : (start : Start) (done turns : List Turn) → let w = world_run values done (opened_world start) in Unfallen (world_run values turns w) → RunIsFirm links turns w
   firm_on start done [] none = tt

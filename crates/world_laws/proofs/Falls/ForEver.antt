@@ -75,9 +75,7 @@ ever_fallen start turns s fell = (run_ever turns (opened_world start) unfallen).
     unfallen = record { fell = never; right = free }
       where
         never : (s : Side) → Fell (opened_world {C = Carried} start).books s → FellBack (books_in (opened_world {C = Carried} start).books) s
-        never A fell = fell
-        never B fell = fell
+        never = elim [ A ↦ λ fell. fell | B ↦ λ fell. fell ]
 
         free : (s : Side) → IsUnjoined (control_of s (books_in (opened_world {C = Carried} start).books)).fall
-        free A is = refl
-        free B is = refl
+        free = elim [ A ↦ λ is. refl | B ↦ λ is. refl ]

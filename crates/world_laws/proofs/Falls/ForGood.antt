@@ -23,12 +23,10 @@ abbrev GoesUnread : Fall → Fall → Type 0
 GoesUnread f g = Unread f.mode → Unread g.mode
 
 unread_if : (b : Bool) (f : Fall) (x y : Fall × Verdict) → (b ≡ true → GoesUnread f x.0) → (b ≡ false → GoesUnread f y.0) → GoesUnread f (if b then x else y).0
-unread_if true f x y is isnt = is refl
-unread_if false f x y is isnt = isnt refl
+unread_if = elim [ true ↦ λ f x y is isnt. is refl | false ↦ λ f x y is isnt. isnt refl ]
 
 starting_reads : (m : Mode) → is_starting m ≡ true → Unread m → ⊥
-starting_reads Mode.Starting is unread = false≢true (sym unread)
-starting_reads _ is unread = false≢true is
+starting_reads = elim [ Mode.Starting ↦ λ is unread. false≢true (sym unread) | _ ↦ λ is unread. false≢true is ]
 
 sending_unread : (m : Mode) → writes_mappings m ≡ true → Unread m → Unread (sending m)
 sending_unread Mode.Identity writes unread = absurd (false≢true writes)
@@ -38,12 +36,10 @@ sending_unread Mode.Aborted writes unread = absurd (false≢true writes)
 sending_unread _ writes unread = absurd (false≢true (sym unread))
 
 receiving_unread : (m : Mode) → Unread (receiving m)
-receiving_unread Mode.Starting = refl
-receiving_unread _ = refl
+receiving_unread = elim [ Mode.Starting ↦ refl | _ ↦ refl ]
 
 not_twice : (b : Bool) → not b ≡ false → b ≡ true
-not_twice true is = refl
-not_twice false is = absurd (false≢true (sym is))
+not_twice = elim [ true ↦ λ is. refl | false ↦ λ is. absurd (false≢true (sym is)) ]
 
 plain_unread : (f : Fall) → GoesUnread f (if is_starting f.mode && not f.joined then goes Mode.Identity f else stays f).0
 plain_unread f = unread_if (is_starting f.mode && not f.joined) f (goes Mode.Identity f) (stays f) (λ is unread. refl) (λ isnt unread. unread)
@@ -81,12 +77,10 @@ event_unread path sole FallEvent.Stop f = λ unread. refl
 -- ---- one call
 
 if_unread : (b : Bool) (f : Fall) (c d : Control) → GoesUnread f c.fall → GoesUnread f d.fall → GoesUnread f (if b then c else d).fall
-if_unread true f c d x y = x
-if_unread false f c d x y = y
+if_unread = elim [ true ↦ λ f c d x y. x | false ↦ λ f c d x y. y ]
 
 notice_unread : (n : Notice) (path : ℕ) (c : Control) → GoesUnread c.fall (controlling.after_notice n path c).fall
-notice_unread (Notice.Withdraw id) path c = λ unread. unread
-notice_unread _ path c = λ unread. unread
+notice_unread = elim [ Notice.Withdraw id ↦ λ path c. λ unread. unread | _ ↦ λ path c. λ unread. unread ]
 
 call_unread : (c : Control) (call : ControlCall) → GoesUnread c.fall (controlling.after c call).fall
 call_unread c (ControlCall.Look path) = notice_unread (control.notice_on c path) path c

@@ -26,6 +26,7 @@ use Rattle.world_laws.proofs.Lanes.SentRecords.{SentShows, RisesTo, Gone, gone}
 use Rattle.world_laws.proofs.Lanes.Showing.{HasPair, HasFin, HasSub, PairTold, OwnIs, EndShows, PathShows}
 use Rattle.world_laws.proofs.Lanes.Sides.{SideDid, Answered, side_answered, side_kept}
 use Rattle.world_laws.proofs.Lanes.Strolling.{out_holds}
+use Rattle.world_laws.proofs.Lanes.EndParts.{end_parts, end_whole, new_sender, new_receiver, new_treated, new_pairs}
 
 -- ---- marks
 
@@ -50,7 +51,9 @@ tried_spent path (Free tried) is = is
 -- of gathered bytes the path tried the first one, where it tried any
 first_tried : (path : ℕ) (x : ByteMark) (ms : List ByteMark) (i : ℕ) (m : ByteMark) → tried_first path (x ∷ ms) ≡ true → slice_get (x ∷ ms) i ≡ Some m → has_tried path m ≡ true → has_tried path x ≡ true
 first_tried path x ms zero m first e is = let same : x ≡ m = cc in ap (has_tried path) same ∙ is
-first_tried path x ms (suc i) m first e is = by (is_untouched x) first
+first_tried path x ms (suc i) m first e is =
+    (elim (is_untouched x) as (λ b. (if b then list_all is_untouched ms else (if has_tried path x then tried_first path ms else false)) ≡ true → has_tried path x ≡ true)
+    [ true ↦ λ all. absurd (both_ways (spent path (Some m)) (untouched_unspent path m (each_new ms i all e)) (tried_spent path m is)) | false ↦ λ first. own (has_tried path x) refl first ]) first
   where
     each_new : (ms : List ByteMark) (i : ℕ) → list_all is_untouched ms ≡ true → slice_get ms i ≡ Some m → is_untouched m ≡ true
     each_new [] i all e = cc
@@ -58,12 +61,7 @@ first_tried path x ms (suc i) m first e is = by (is_untouched x) first
     each_new (y ∷ ms) (suc i) all e = each_new ms i (and_parts (is_untouched y) (list_all is_untouched ms) all).1 e
 
     own : (b : Bool) → has_tried path x ≡ b → (if b then tried_first path ms else false) ≡ true → has_tried path x ≡ true
-    own true has first = has
-    own false has first = absurd (false≢true first)
-
-    by : (b : Bool) → (if b then list_all is_untouched ms else (if has_tried path x then tried_first path ms else false)) ≡ true → has_tried path x ≡ true
-    by true all = absurd (both_ways (spent path (Some m)) (untouched_unspent path m (each_new ms i all e)) (tried_spent path m is))
-    by false first = own (has_tried path x) refl first
+    own = elim [ true ↦ λ has first. has | false ↦ λ has first. absurd (false≢true first) ]
 
 -- ---- the mapping
 
@@ -151,8 +149,7 @@ module _ (f : Flags) (lanes : List Lane) (number : ℕ) (send : Sending) (arrive
       rest = nat_le pos (length p.sent) && (list_all (λ c. nat_lt c.place (acked_len send.marks)) (take pos p.sent) && rises (acked_len send.marks) (drop pos p.sent))
 
       never : (b : Bool) → b && false ≡ false
-      never true = refl
-      never false = refl
+      never = elim [ true ↦ refl | false ↦ refl ]
 
       not_may : may_go number pos send p ≡ false
       not_may = ap (λ (b : Bool). p.opened && (b && rest)) is ∙ never p.opened
@@ -182,53 +179,40 @@ module _ (c : Profile) (s : Side) (out back : Lane) where
   -- it goes on by what the book answered
   pub with_mapping : (e : PathEnd) (own : Option InfiniteMapping) → IfSome own (OwnIs out.pair out.pairs out.fins out.alters) → EndShows c s e out back
       → EndShows c s (record e { treated = record e.treated { infinite_mapping = own } }) out back
-  with_mapping e own is h = record {
-    sender = h.sender;
-    receiver = h.receiver;
-    acks = h.acks;
-    told = h.told;
-    treated = record { items = h.treated.items; fins = h.treated.fins; answer = h.treated.answer; window = h.treated.window; sub = h.treated.sub; nothing = h.treated.nothing };
-    pairs = (h.pairs.0, h.pairs.1, h.pairs.2, is, h.pairs.4, h.pairs.5);
-    held = h.held;
-  }
+  with_mapping e own is h = end_whole (new_treated (record { items = h.treated.items; fins = h.treated.fins; answer = h.treated.answer; window = h.treated.window; sub = h.treated.sub; nothing = h.treated.nothing })
+      (new_pairs ((h.pairs.0, h.pairs.1, h.pairs.2, is, h.pairs.4, h.pairs.5)) (end_parts h)))
 
   -- the lane that the book was given to
   pub given_shows : (m : Pair) (e : PathEnd) → (IfSome e.modes.own_infinite (OwnIs out.pair out.pairs out.fins out.alters) → e.modes.own_infinite ≡ None) → out.alters ≡ true
       → (g : Gone e.tcp.send.nxt m.place e.sending.granted out.sent out.fins) → m.pos ≡ g.pos → EndShows c s e out back
       → EndShows c s (record e { treated = record e.treated { infinite_mapping = Some (infinite_from m.place e) } }) (with_pair_told m out) back
-  given_shows m e none alters g at h = record {
-    sender = record {
-      plain = h.sender.plain;
-      next = h.sender.next;
-      unfinished = h.sender.unfinished;
-      pieces = h.sender.pieces;
-      known_end = h.sender.known_end;
-      same_end = h.sender.same_end;
-      heard = h.sender.heard;
-      granted = h.sender.granted;
-      fin_acked = h.sender.fin_acked;
-      sent = record {
-        next = h.sender.sent.next;
-        fin = h.sender.sent.fin;
-        pieces = h.sender.sent.pieces;
-        covered = h.sender.sent.covered;
-        rising = subst (λ pos. RisesAt (record { pos = pos; place = m.place })) (sym at) g.rising;
-      };
+  given_shows m e none alters g at h = end_whole (new_sender (record {
+    plain = h.sender.plain;
+    next = h.sender.next;
+    unfinished = h.sender.unfinished;
+    pieces = h.sender.pieces;
+    known_end = h.sender.known_end;
+    same_end = h.sender.same_end;
+    heard = h.sender.heard;
+    granted = h.sender.granted;
+    fin_acked = h.sender.fin_acked;
+    sent = record {
+      next = h.sender.sent.next;
+      fin = h.sender.sent.fin;
+      pieces = h.sender.sent.pieces;
+      covered = h.sender.sent.covered;
+      rising = subst (λ pos. RisesAt (record { pos = pos; place = m.place })) (sym at) g.rising;
     };
-    receiver = h.receiver;
-    acks = h.acks;
-    told = h.told;
-    treated = record { items = h.treated.items; fins = h.treated.fins; answer = h.treated.answer; window = h.treated.window; sub = h.treated.sub; nothing = h.treated.nothing };
-    pairs = (
-      subst (λ o. IfSome o (OwnIs (Some m) (with_pair_told m out).pairs out.fins out.alters)) (sym (none h.pairs.0)) tt,
-      h.pairs.1,
-      h.pairs.2,
-      record { item = m; there = refl; place_is = refl; position_is = stands; told = said stands; may = alters },
-      h.pairs.4,
-      h.pairs.5,
-    );
-    held = h.held;
-  }
+  })
+      (new_treated (record { items = h.treated.items; fins = h.treated.fins; answer = h.treated.answer; window = h.treated.window; sub = h.treated.sub; nothing = h.treated.nothing })
+      (new_pairs ((
+        subst (λ o. IfSome o (OwnIs (Some m) (with_pair_told m out).pairs out.fins out.alters)) (sym (none h.pairs.0)) tt,
+        h.pairs.1,
+        h.pairs.2,
+        record { item = m; there = refl; place_is = refl; position_is = stands; told = said stands; may = alters },
+        h.pairs.4,
+        h.pairs.5,
+      )) (end_parts h))))
     where
       RisesAt : Pair → Type 0
       RisesAt = RisesTo out.sent e.sending.granted
@@ -247,26 +231,20 @@ module _ (c : Profile) (s : Side) (out back : Lane) where
   pub sends_by : (o : Option InfiniteMapping) (b : Bool) (e : PathEnd) → e.treated.infinite_mapping ≡ o → EndShows c s e out back → EndShows c s (sending_infinite o b e) out back
   sends_by None b e is h = h
   sends_by (Some mapping) false e is h = h
-  sends_by (Some mapping) true e is h = record {
-    sender = record {
-      plain = h.sender.plain;
-      next = h.sender.next;
-      unfinished = h.sender.unfinished;
-      pieces = h.sender.pieces;
-      known_end = h.sender.known_end;
-      same_end = h.sender.same_end;
-      heard = h.sender.heard;
-      granted = h.sender.granted;
-      fin_acked = h.sender.fin_acked;
-      sent = h.sender.sent;
-    };
-    receiver = record { same_mode = h.receiver.same_mode; edge = h.receiver.edge; fin = h.receiver.fin; mapped = h.receiver.mapped };
-    acks = h.acks;
-    told = h.told;
-    treated = h.treated;
-    pairs = (subst (λ o. IfSome o (OwnIs out.pair out.pairs out.fins out.alters)) is h.pairs.3, h.pairs.1, h.pairs.2, h.pairs.3, h.pairs.4, h.pairs.5);
-    held = h.held;
-  }
+  sends_by (Some mapping) true e is h = end_whole (new_sender (record {
+    plain = h.sender.plain;
+    next = h.sender.next;
+    unfinished = h.sender.unfinished;
+    pieces = h.sender.pieces;
+    known_end = h.sender.known_end;
+    same_end = h.sender.same_end;
+    heard = h.sender.heard;
+    granted = h.sender.granted;
+    fin_acked = h.sender.fin_acked;
+    sent = h.sender.sent;
+  })
+      (new_receiver (record { same_mode = h.receiver.same_mode; edge = h.receiver.edge; fin = h.receiver.fin; mapped = h.receiver.mapped })
+      (new_pairs ((subst (λ o. IfSome o (OwnIs out.pair out.pairs out.fins out.alters)) is h.pairs.3, h.pairs.1, h.pairs.2, h.pairs.3, h.pairs.4, h.pairs.5)) (end_parts h))))
 
 -- ---- what the subflow acknowledges
 
@@ -279,8 +257,7 @@ hears_own v path p mapping position window next lane own has is = ⊎_elim at_pa
     asking n = record p { asking = AskAckIn n window }
 
     limited : (b : Bool) → (if b then Some (mapping.place + (position - mapping.position)) else None) ≡ Some next → mapping.place + (position - mapping.position) ≡ next
-    limited true e = same_Some _ next e
-    limited false e = cc
+    limited = elim [ true ↦ λ e. same_Some _ next e | false ↦ λ e. cc ]
 
     next_is : mapping.place + (position - mapping.position) ≡ next
     next_is = limited (nat_lt (mapping.place + (position - mapping.position)) (2 ^ 62)) is

@@ -16,6 +16,7 @@ use Rattle.world_laws.proofs.Lanes.Roads.{Strolls, stays, one_move, put_there}
 use Rattle.world_laws.proofs.Lanes.Showing.{PairTold, PeerIs, HasFin, EndShows, PathShows}
 use Rattle.world_laws.proofs.Lanes.Sides.{SideDid, Answered}
 use Rattle.world_laws.proofs.Lanes.Strolling.{did_on_path}
+use Rattle.world_laws.proofs.Lanes.EndParts.{end_parts, end_whole, new_receiver, new_acks, new_treated, new_pairs}
 
 -- ---- the verdict
 
@@ -29,8 +30,7 @@ goes_loose Mode.InfiniteBoth f is = (refl, refl, refl)
 goes_loose _ f is = absurd (false≢true is)
 
 loosens_if : (b : Bool) (x y : Fall × Verdict) → RowLoosens x → RowLoosens y → RowLoosens (if b then x else y)
-loosens_if true x y h k = h
-loosens_if false x y h k = k
+loosens_if = elim [ true ↦ λ x y h k. h | false ↦ λ x y h k. k ]
 
 row_loosens : (path : ℕ) (sole : Bool) (f : Fall) → RowLoosens (fall_step f path sole Event.InfiniteHeard)
 row_loosens path sole f =
@@ -48,14 +48,12 @@ told_loosens B path six is = row_loosens path (sole_path six.control_b.paths pat
 
 pub call_loosens : (links : Links) (s : Side) (path : ℕ) (six : SixBooks) → let ask = Ask.Control s (ControlCall.Fell path Event.InfiniteHeard) in StaysFirm links s six ask
     → is_infinite_receive (reply_of six ask) ≡ true → (loose_at links s (after_ask ask six) ≡ true) × (plain_at links s (after_ask ask six) ≡ false)
-call_loosens links s path six firm is = by (is_firm links s) refl
+call_loosens links s path six firm is =
+    (elim (is_firm links s) as (λ b. is_firm links s ≡ b → ((not b && is_loose (control_of s books).fall) ≡ true) × ((not b && is_plain (control_of s books).fall) ≡ false))
+    [ true ↦ λ so. absurd (both_ways _ (firm so) (told_loosens s path six is).2) | false ↦ λ so. let told = told_loosens s path six is in (told.0, told.1) ]) refl
   where
     books : SixBooks
     books = after_ask (Ask.Control s (ControlCall.Fell path Event.InfiniteHeard)) six
-
-    by : (b : Bool) → is_firm links s ≡ b → ((not b && is_loose (control_of s books).fall) ≡ true) × ((not b && is_plain (control_of s books).fall) ≡ false)
-    by true so = absurd (both_ways _ (firm so) (told_loosens s path six is).2)
-    by false so = let told = told_loosens s path six is in (told.0, told.1)
 
 -- ---- the lane
 
@@ -154,15 +152,10 @@ module _ (c : Profile) (s : Side) (out back : Lane) where
       back_moves = strolls;
       sender = sender_stays out;
       receiver = taken_goes t;
-      shows = record {
-        sender = h.sender;
-        receiver = record { same_mode = sym above; edge = same_edge refl refl refl (λ position octets has. has) h.receiver.edge; fin = h.receiver.fin; mapped = h.receiver.mapped };
-        acks = record { windows = h.acks.windows; latest = h.acks.latest; due = h.acks.due; sub = h.acks.sub };
-        told = h.told;
-        treated = record { items = h.treated.items; fins = h.treated.fins; answer = h.treated.answer; window = h.treated.window; sub = h.treated.sub; nothing = h.treated.nothing };
-        pairs = (h.pairs.0, peer, λ above some. refl, h.pairs.3, h.pairs.4, h.pairs.5);
-        held = h.held;
-      };
+      shows = end_whole (new_receiver (record { same_mode = sym above; edge = same_edge refl refl refl (λ position octets has. has) h.receiver.edge; fin = h.receiver.fin; mapped = h.receiver.mapped })
+          (new_acks (record { windows = h.acks.windows; latest = h.acks.latest; due = h.acks.due; sub = h.acks.sub })
+          (new_treated (record { items = h.treated.items; fins = h.treated.fins; answer = h.treated.answer; window = h.treated.window; sub = h.treated.sub; nothing = h.treated.nothing })
+          (new_pairs ((h.pairs.0, peer, λ above some. refl, h.pairs.3, h.pairs.4, h.pairs.5)) (end_parts h)))));
     }
 
     pub taken_end : PairTold back.pairs back.fins place position → Did c s (with_peer_infinite place position e) out out back (loosened back)

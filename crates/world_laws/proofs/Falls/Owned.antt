@@ -35,8 +35,7 @@ abbrev IsOwned : Sending → Type 0
 IsOwned b = is_for 0 b.owner ≡ true
 
 either_owned : (c : Bool) (b d : Sending) → IsOwned b → IsOwned d → IsOwned (if c then b else d)
-either_owned true b d x y = x
-either_owned false b d x y = y
+either_owned = elim [ true ↦ λ b d x y. x | false ↦ λ b d x y. y ]
 
 given_owned : (path : ℕ) (o : Result Span Why) (b : Sending) → IsOwned b → IsOwned (given_by path o b)
 given_owned path (Ok span) b h = h
@@ -114,11 +113,8 @@ module _ {C : Type 0} (k : Codec C) (six : SixBooks) (p : PathState C) (awake : 
 
   -- path 0, or a side that said something, and joined
   number_so : (s : Side) → speaks (Voice.Says s) p.agenda ≡ true → (path_of p ≡ 0) ⊎ HasJoined six s
-  number_so s said = by (path_of p) numbered
-    where
-      by : (n : ℕ) → is_joined p.profile ≡ nat_lt 0 n → (n ≡ 0) ⊎ HasJoined six s
-      by zero is = inl refl
-      by (suc n) is = inr (awake.known s (is ∙ lt_true 0 (suc n) (omega arith)) said)
+  number_so s said = (elim (path_of p) as (λ n. is_joined p.profile ≡ nat_lt 0 n → (n ≡ 0) ⊎ HasJoined six s)
+      [ zero ↦ λ is. inl refl | suc n ↦ λ is. inr (awake.known s (is ∙ lt_true 0 (suc n) (omega arith)) said) ]) numbered
 
   data_goes : (s : Side) (o : Option Record) → GoesSo six (data_ask k s o p)
   data_goes s None = tt
@@ -144,8 +140,7 @@ module _ {C : Type 0} (k : Codec C) (six : SixBooks) (p : PathState C) (awake : 
   fell_owned s fell own = ⊎_elim (λ is. is) (λ joined. absurd (both_ways _ (unjoined s fell) joined)) own
     where
       unjoined : (s : Side) → FellBack six s → (control_of s six).fall.joined ≡ false
-      unjoined A is = fell_unjoined six.control_a.fall is
-      unjoined B is = fell_unjoined six.control_b.fall is
+      unjoined = elim [ A ↦ λ is. fell_unjoined six.control_a.fall is | B ↦ λ is. fell_unjoined six.control_b.fall is ]
 
   quiet_falls : (ask : Ask) → IsQuietAsk (path_of p) ask → FallsAsk six ask
   quiet_falls (Ask.Send s SendCall.GoIdentity) quiet = absurd quiet

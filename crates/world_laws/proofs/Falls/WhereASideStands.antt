@@ -51,12 +51,10 @@ starting_tight Mode.Aborted is = absurd (false≢true is)
 starting_tight _ is = refl
 
 receiving_loose : (m : Mode) → loose_of (receiving m) ≡ true
-receiving_loose Mode.Starting = refl
-receiving_loose _ = refl
+receiving_loose = elim [ Mode.Starting ↦ refl | _ ↦ refl ]
 
 sending_loose : (m : Mode) → writes_mappings m ≡ true → loose_of (sending m) ≡ loose_of m
-sending_loose Mode.Aborted is = absurd (false≢true is)
-sending_loose _ is = refl
+sending_loose = elim [ Mode.Aborted ↦ λ is. absurd (false≢true is) | _ ↦ λ is. refl ]
 
 -- ---- what becomes of a fall
 
@@ -104,33 +102,26 @@ writes_plain Mode.Aborted joined is = absurd (false≢true is)
 writes_plain _ joined is = refl
 
 receiving_plain : (m : Mode) (joined : Bool) → plain_of (receiving m) joined ≡ false
-receiving_plain Mode.Starting joined = refl
-receiving_plain _ joined = refl
+receiving_plain = elim [ Mode.Starting ↦ λ joined. refl | _ ↦ λ joined. refl ]
 
 sending_plain : (m : Mode) (joined : Bool) → plain_of (sending m) joined ≡ false
-sending_plain Mode.Starting joined = refl
-sending_plain _ joined = refl
+sending_plain = elim [ Mode.Starting ↦ λ joined. refl | _ ↦ λ joined. refl ]
 
 receiving_apart : (m : Mode) → is_identity (receiving m) ≡ false
-receiving_apart Mode.Starting = refl
-receiving_apart _ = refl
+receiving_apart = elim [ Mode.Starting ↦ refl | _ ↦ refl ]
 
 sending_apart : (m : Mode) → is_identity (sending m) ≡ false
-sending_apart Mode.Starting = refl
-sending_apart _ = refl
+sending_apart = elim [ Mode.Starting ↦ refl | _ ↦ refl ]
 
 -- of a row that applies where this holds
 fallen_if : (b : Bool) (f : Fall) (x y : Fall × Verdict) → (b ≡ true → Fallen f x.0) → (b ≡ false → Fallen f y.0) → Fallen f (if b then x else y).0
-fallen_if true f x y is isnt = is refl
-fallen_if false f x y is isnt = isnt refl
+fallen_if = elim [ true ↦ λ f x y is isnt. is refl | false ↦ λ f x y is isnt. isnt refl ]
 
 not_twice : (b : Bool) → not b ≡ false → b ≡ true
-not_twice true is = refl
-not_twice false is = absurd (false≢true (sym is))
+not_twice = elim [ true ↦ λ is. refl | false ↦ λ is. absurd (false≢true (sym is)) ]
 
 not_true : (b : Bool) → not b ≡ true → b ≡ false
-not_true true is = absurd (false≢true is)
-not_true false is = refl
+not_true = elim [ true ↦ λ is. absurd (false≢true is) | false ↦ λ is. refl ]
 
 sign_falls : (f : Fall) → Fallen f (if is_starting f.mode then goes Mode.Sure f else stays f).0
 sign_falls f =
@@ -178,15 +169,13 @@ keys_falls f =
 
 -- where a side is stopped: one that joined nothing may have fallen back before
 aborted_plain : (m : Mode) → false ≡ plain_of m true
-aborted_plain Mode.Starting = refl
-aborted_plain _ = refl
+aborted_plain = elim [ Mode.Starting ↦ refl | _ ↦ refl ]
 
 stop_falls : (f : Fall) → Fallen f (goes Mode.Aborted f).0
-stop_falls f = by f.joined
-  where
-    by : (joined : Bool) → Fallen (record f { joined = joined }) (goes Mode.Aborted (record f { joined = joined })).0
-    by true = inl (record { mode = aborted_plain f.mode; joined = refl; loose = inr refl; unjoined = λ h never. absurd (false≢true never) })
-    by false = inr (record { mode = refl; was = refl; joined = refl; loose = inr refl })
+stop_falls f = elim f.joined as (λ joined. Fallen (record f { joined = joined }) (goes Mode.Aborted (record f { joined = joined })).0) [
+  | true ↦ inl (record { mode = aborted_plain f.mode; joined = refl; loose = inr refl; unjoined = λ h never. absurd (false≢true never) })
+  | false ↦ inr (record { mode = refl; was = refl; joined = refl; loose = inr refl })
+]
 
 pub event_falls : (path : ℕ) (sole : Bool) (event : FallEvent) (f : Fall) → Fallen f (fall_step f path sole event).0
 event_falls path sole FallEvent.MappingHeard f = sign_falls f
@@ -207,16 +196,14 @@ Called (ControlCall.JoinHeard path token) f g = SameFall f g ⊎ HasJoined f g
 Called call f g = Fallen f g
 
 if_fallen : (b : Bool) (f : Fall) (c d : Control) → Fallen f c.fall → Fallen f d.fall → Fallen f (if b then c else d).fall
-if_fallen true f c d x y = x
-if_fallen false f c d x y = y
+if_fallen = elim [ true ↦ λ f c d x y. x | false ↦ λ f c d x y. y ]
 
 if_joined : (b : Bool) (c : Control) (d : Control) → (b ≡ true → HasJoined c.fall d.fall) → SameFall c.fall (if b then d else c).fall ⊎ HasJoined c.fall (if b then d else c).fall
 if_joined true c d is = inr (is refl)
 if_joined false c d is = inl (record { mode = refl; joined = refl; loose = inl refl; unjoined = λ h. h })
 
 notice_falls : (n : Notice) (path : ℕ) (c : Control) → Fallen c.fall (controlling.after_notice n path c).fall
-notice_falls (Notice.Withdraw id) path c = same_fall c.fall
-notice_falls _ path c = same_fall c.fall
+notice_falls = elim [ Notice.Withdraw id ↦ λ path c. same_fall c.fall | _ ↦ λ path c. same_fall c.fall ]
 
 sure_plain : (m : Mode) (joined : Bool) → control.is_sure m ≡ true → plain_of m joined ≡ false
 sure_plain Mode.Identity joined is = absurd (false≢true is)
@@ -229,12 +216,10 @@ begun_plain Mode.Aborted joined is = absurd (false≢true is)
 begun_plain _ joined is = refl
 
 sure_apart : (m : Mode) → control.is_sure m ≡ true → is_identity m ≡ false
-sure_apart Mode.Identity is = absurd (false≢true is)
-sure_apart _ is = refl
+sure_apart = elim [ Mode.Identity ↦ λ is. absurd (false≢true is) | _ ↦ λ is. refl ]
 
 begun_apart : (m : Mode) → control.is_starting m || control.is_sure m ≡ true → is_identity m ≡ false
-begun_apart Mode.Identity is = absurd (false≢true is)
-begun_apart _ is = refl
+begun_apart = elim [ Mode.Identity ↦ λ is. absurd (false≢true is) | _ ↦ λ is. refl ]
 
 pub call_falls : (c : Control) (call : ControlCall) → Called call c.fall (controlling.after c call).fall
 call_falls c (ControlCall.Look path) = notice_falls (control.notice_on c path) path c
@@ -317,8 +302,7 @@ fell_unjoined f is = plain_unjoined f.mode f.joined is
 
 -- one in plain TCP that joined nothing is
 identity_plain : (m : Mode) (joined : Bool) → is_identity m ≡ true → joined ≡ false → plain_of m joined ≡ true
-identity_plain Mode.Identity joined is none = ap not none
-identity_plain _ joined is none = absurd (false≢true is)
+identity_plain = elim [ Mode.Identity ↦ λ joined is none. ap not none | _ ↦ λ joined is none. absurd (false≢true is) ]
 
 pub fell_plain : (f : Fall) → IsUnjoined f → is_identity f.mode ≡ true → is_plain f ≡ true
 fell_plain f h is = identity_plain f.mode f.joined is (h is)
@@ -342,16 +326,13 @@ abbrev pub RowFalls : Fall × Verdict → Type 0
 RowFalls row = tells_fall row.1 ≡ true → (is_plain row.0 ≡ true) × (row.0.joined ≡ false) × (is_identity row.0.mode ≡ true)
 
 row_if : (b : Bool) (x y : Fall × Verdict) → (b ≡ true → RowFalls x) → (b ≡ false → RowFalls y) → RowFalls (if b then x else y)
-row_if true x y is isnt = is refl
-row_if false x y is isnt = isnt refl
+row_if = elim [ true ↦ λ x y is isnt. is refl | false ↦ λ x y is isnt. isnt refl ]
 
 receiving_tells : (m : Mode) → tells_fall (Verdict.Went (receiving m)) ≡ false
-receiving_tells Mode.Starting = refl
-receiving_tells _ = refl
+receiving_tells = elim [ Mode.Starting ↦ refl | _ ↦ refl ]
 
 sending_tells : (m : Mode) → tells_fall (Verdict.Went (sending m)) ≡ false
-sending_tells Mode.Starting = refl
-sending_tells _ = refl
+sending_tells = elim [ Mode.Starting ↦ refl | _ ↦ refl ]
 
 calm_row : (row : Fall × Verdict) → tells_fall row.1 ≡ false → RowFalls row
 calm_row row calm tells = absurd (false≢true (sym calm ∙ tells))

@@ -140,8 +140,7 @@ module _ (key_a key_b number : ℕ) (six : SixBooks) (p : PathState Carried) (nu
   joins_at n is = ap (λ m. nat_lt 0 m) (numbered ∙ is) ∙ lt-ltb 0 (suc n) (omega arith)
 
   asks_join : (o : Option Asked) → is_some o ≡ true → IfSome o (AskedIs (with_nonces key_a key_b false h.nonce_a h.nonce_b) false (Joined six) (Past six NoMore) (is_joined p.profile) B) → Joined six A
-  asks_join None some is = absurd (false≢true some)
-  asks_join (Some asked) some is = is.1.1.0
+  asks_join = elim [ None ↦ λ some is. absurd (false≢true some) | Some asked ↦ λ some is. is.1.1.0 ]
 
   duty_joined : (d : Duty) (ds : List Duty) → p.agenda ≡ d ∷ ds → FirstStands (d ∷ ds) p → DutyJoined six d
   duty_joined (Duty.Ask (AskDuty.JoinHeard B)) ds is first =

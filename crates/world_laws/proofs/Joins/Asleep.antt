@@ -46,8 +46,7 @@ never_opens e h = shut_is is_opening refl refl refl e.tcp.state h.closed
 
 -- what begins with a false test doesn't stand
 no : (b c : Bool) → b ≡ false → b && c ≡ true → ⊥
-no true c is stands = false≢true (sym is)
-no false c is stands = false≢true stands
+no = elim [ true ↦ λ c is stands. false≢true (sym is) | false ↦ λ c is stands. false≢true stands ]
 
 no_data : (c : Profile) (s : Side) (e : PathEnd) (o : Option Record) → IsShut e → data_stands c s e o ≡ true → ⊥
 no_data c s e (Some r) h stands = no (not (is_closed_to_segments e.tcp.state)) _ (ap not h.closed) stands
@@ -128,8 +127,7 @@ join_own state None = tt
 join_own state (Some tick) = if_so IsOwn (is_waiting_phase state) (Some (Event.Joins tick)) None refl tt
 
 line_own : (lines : List LineLeft) → IsOwn (next_line lines)
-line_own [] = tt
-line_own (line ∷ lines) = refl
+line_own = elim [ [] ↦ tt | line ∷ lines ↦ refl ]
 
 -- ---- what it is answered
 
@@ -137,11 +135,7 @@ line_own (line ∷ lines) = refl
 unsure_begin : (c : Control) → is_sure c.fall.mode ≡ false → keys_begun (Reply.Control (join_begin_reply c)) ≡ None
 unsure_begin c unsure =
     ap (λ (b : Bool). keys_begun (Reply.Control (if b && is_none c.fall.failed then begin c else (if join_waits c then NotYet else Never c.fall.mode)))) unsure
-    ∙ by (join_waits c)
-  where
-    by : (b : Bool) → keys_begun (Reply.Control (if b then NotYet else Never c.fall.mode)) ≡ None
-    by true = refl
-    by false = refl
+    ∙ (elim (join_waits c) as (λ b. keys_begun (Reply.Control (if b then NotYet else Never c.fall.mode)) ≡ None) [ true ↦ refl | false ↦ refl ])
 
 unsure_step : (six : SixBooks) (path : ℕ) (o : Option Event) → is_sure six.control_a.fall.mode ≡ false → IsOwn o → keys_begun (reply_of six (step_for path o)) ≡ None
 unsure_step six path (Some (Event.Joins tick)) unsure own = unsure_begin six.control_a unsure
@@ -157,8 +151,7 @@ module _ {C : Type 0} where
     pub idle : AreIdle p.agenda
 
   pub shut_at : (s : Side) (p : PathState C) → IsAsleep p → IsShut (end_at s p)
-  shut_at A p h = h.a
-  shut_at B p h = h.b
+  shut_at = elim [ A ↦ λ p h. h.a | B ↦ λ p h. h.b ]
 
   agenda_asleep : (ds : List Duty) (p : PathState C) → AreIdle ds → IsAsleep p → IsAsleep (with_agenda ds p)
   agenda_asleep ds p idle h = record { a = h.a; b = h.b; none = h.none; idle = idle }
@@ -190,11 +183,11 @@ module _ {C : Type 0} where
 
   -- the control book began no join
   join_asleep : (r : Reply) (dead living : List Duty) (p : PathState C) → keys_begun r ≡ None → AreIdle dead → AreIdle living → IsAsleep p → IsAsleep (join_begun r dead living p)
-  join_asleep r dead living p none dead_idle living_idle h = by (is_never r)
-    where
-      by : (b : Bool) → IsAsleep (if b then goes_on A (never_joined r p.a) dead p else goes_on A (opened_by (keys_begun r) p.a) living p)
-      by true = goes_asleep A (never_joined r p.a) dead p (record { closed = refl; timer = refl }) dead_idle h
-      by false = goes_asleep A (opened_by (keys_begun r) p.a) living p (subst (λ keys. IsShut (opened_by keys p.a)) (sym none) h.a) living_idle h
+  join_asleep r dead living p none dead_idle living_idle h =
+      elim (is_never r) as (λ b. IsAsleep (if b then goes_on A (never_joined r p.a) dead p else goes_on A (opened_by (keys_begun r) p.a) living p)) [
+        | true ↦ goes_asleep A (never_joined r p.a) dead p (record { closed = refl; timer = refl }) dead_idle h
+        | false ↦ goes_asleep A (opened_by (keys_begun r) p.a) living p (subst (λ keys. IsShut (opened_by keys p.a)) (sym none) h.a) living_idle h
+      ]
 
   own_asleep : (k : Codec C) (r : Reply) (event : Event) (p : PathState C) → keys_begun r ≡ None → is_own event ≡ true → IsAsleep p → IsAsleep (happens k event r p)
   own_asleep k r (Event.Joins tick) p none own h =
@@ -220,11 +213,8 @@ module _ {C : Type 0} where
       (earlier_own (next_join p.a.tcp.state p.joined_at) (earlier (next_line p.lines) None) (join_own p.a.tcp.state p.joined_at) (earlier_own (next_line p.lines) None (line_own p.lines) tt)))
 
   events_asleep : (k : Codec C) (r : Reply) (p : PathState C) → keys_begun r ≡ None → IsAsleep p → IsAsleep (happens_if k (next_event p) r p)
-  events_asleep k r p none h = by (next_event p) (next_own p h)
-    where
-      by : (o : Option Event) → IsOwn o → IsAsleep (happens_if k o r p)
-      by None own = agenda_asleep rest_of_turn p refl h
-      by (Some event) own = own_asleep k r event p none own h
+  events_asleep k r p none h = (elim (next_event p) as (λ o. IsOwn o → IsAsleep (happens_if k o r p))
+      [ None ↦ λ own. agenda_asleep rest_of_turn p refl h | Some event ↦ λ own. own_asleep k r event p none own h ]) (next_own p h)
 
   -- ---- its duties
 
@@ -266,24 +256,18 @@ module _ {C : Type 0} where
   settled_asleep [] p idle h = agenda_asleep [] p refl h
   settled_asleep (d ∷ ds) p idle h =
       let parts = and_parts (is_idle d) (list_all is_idle ds) idle in
-      by (stands d p) (settled_asleep ds (passed d p) parts.1 (passed_asleep d p h parts.0))
-    where
-      by : (b : Bool) → IsAsleep (settled ds (passed d p)) → IsAsleep (if b then with_agenda (d ∷ ds) p else settled ds (passed d p))
-      by true rest = agenda_asleep (d ∷ ds) p idle h
-      by false rest = rest
+      (elim (stands d p) as (λ b. IsAsleep (settled ds (passed d p)) → IsAsleep (if b then with_agenda (d ∷ ds) p else settled ds (passed d p)))
+      [ true ↦ λ rest. agenda_asleep (d ∷ ds) p idle h | false ↦ λ rest. rest ]) (settled_asleep ds (passed d p) parts.1 (passed_asleep d p h parts.0))
 
   -- so it stays, whatever is replied, as long as no join is begun
   pub takes_asleep : (k : Codec C) (r : Reply) (p : PathState C) → keys_begun r ≡ None → IsSettled p → IsAsleep p → IsAsleep (takes k r p)
-  takes_asleep k r p none settled_path h = by p.agenda refl
+  takes_asleep k r p none settled_path h = (elim p.agenda as (λ ds. p.agenda ≡ ds → IsAsleep (settles_down (answers k ds r p))) [
+    | [] ↦ λ is. settles p h
+    | d ∷ ds ↦ λ is. settles (answered k d r p) (answered_asleep k d r p none h (and_parts (is_idle d) (list_all is_idle ds) (subst AreIdle is h.idle)).0 (subst (λ xs. FirstStands xs p) is settled_path))
+  ]) refl
     where
       settles : (q : PathState C) → IsAsleep q → IsAsleep (settles_down q)
       settles q x = settled_asleep q.agenda q x.idle x
-
-      by : (ds : List Duty) → p.agenda ≡ ds → IsAsleep (settles_down (answers k ds r p))
-      by [] is = settles p h
-      by (d ∷ ds) is =
-          settles (answered k d r p)
-          (answered_asleep k d r p none h (and_parts (is_idle d) (list_all is_idle ds) (subst AreIdle is h.idle)).0 (subst (λ xs. FirstStands xs p) is settled_path))
 
   pub begins_asleep : (p : PathState C) → IsAsleep p → IsAsleep (next_round p)
   begins_asleep p h =
@@ -327,9 +311,7 @@ module _ {C : Type 0} where
   unsure_duty k six _ p unsure idle h = absurd (false≢true idle)
 
   pub begins_nothing : (k : Codec C) (six : SixBooks) (ask : Ask) (p : PathState C) → is_sure six.control_a.fall.mode ≡ false → asks_of k p ≡ Some ask → IsAsleep p → keys_begun (reply_of six ask) ≡ None
-  begins_nothing k six ask p unsure asks h = by p.agenda asks h.idle
-    where
-      by : (ds : List Duty) → asks_first k ds p ≡ Some ask → AreIdle ds → keys_begun (reply_of six ask) ≡ None
-      by [] is idle = cc
-      by (d ∷ ds) is idle =
-          subst (λ x. keys_begun (reply_of six x) ≡ None) (same_Some (ask_for k d p) ask is) (unsure_duty k six d p unsure (and_parts (is_idle d) (list_all is_idle ds) idle).0 h)
+  begins_nothing k six ask p unsure asks h = (elim p.agenda as (λ ds. asks_first k ds p ≡ Some ask → AreIdle ds → keys_begun (reply_of six ask) ≡ None) [
+    | [] ↦ λ is idle. cc
+    | d ∷ ds ↦ λ is idle. subst (λ x. keys_begun (reply_of six x) ≡ None) (same_Some (ask_for k d p) ask is) (unsure_duty k six d p unsure (and_parts (is_idle d) (list_all is_idle ds) idle).0 h)
+  ]) asks h.idle

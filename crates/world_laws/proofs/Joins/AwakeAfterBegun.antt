@@ -1,25 +1,24 @@
 -- An end of a path that joins does nothing before its side's book joined, and never falls back: over octets as over values.
 use Rattle.world_laws.proofs.Words.{◌≡◌, refl, sym, ◌∙◌, ap, subst, ℕ, ◌&&◌, ◌||◌, not, nat_lt, inl, inr, ◌⊎◌, ⊎_elim, Bool, true, false, if◌then◌else◌, Option}
 use Rattle.world_laws.proofs.Words.{Some, None, List, [], ◌∷◌, ◌++◌, length, is_some, both_ways, false≢true, FallEvent, Side, A, B, same_side, JoinSyn}
-use Rattle.world_laws.proofs.Words.{JoinAnswer, ControlCall, ControlReply, SendCall, KeptMapping, Record, is_closed_to_segments, is_dead}
-use Rattle.world_laws.proofs.Words.{Meaning, is_sixth, after_expiry, EndState, EndPhase, Occasion, Outgoing, after_death, after_dropping_held}
-use Rattle.world_laws.proofs.Words.{after_keeping_held, arriving, after_delivery, HeardSegment, PlainSegment, LineAction, Piece, rest_of_turn, emission, leaves}
-use Rattle.world_laws.proofs.Words.{resets, stops, announces, withdraws, start_of_turn, Duty, SendDuty, StepDuty, AskDuty, SilentDuty, Heard, KeyPair, replaced}
-use Rattle.world_laws.proofs.Words.{key_heard, keys_heard, Ask, Reply, tail_of, Codec, stands, ask_for, passed, answered, PathEnd, died, answered_ack_out}
-use Rattle.world_laws.proofs.Words.{after_look, modes_told, after_ack_out, at_tick, PathState, end_at, goes_on, with_end, with_agenda, left, path_of, settled}
-use Rattle.world_laws.proofs.Words.{answers, asks_of, asks_first, takes, begins_turn, hint_of, items_of, owes_by, options_heard, after_judged, asked_in}
-use Rattle.world_laws.proofs.Words.{copy_judged, copy_of, judged_in, reset_for, template_by, template_judged, template_of, with_held, heard_in, copy_heard}
-use Rattle.world_laws.proofs.Words.{reset_of, reset_on, answered_break, refusal_of, break_ask, answered_data, answered_grant, first_unsent, grant_in}
-use Rattle.world_laws.proofs.Words.{answer_occasion, answer_of, dead_answer, resend_occasion, resend_of, Judged, next_event, step_for, after_line, happens_if}
-use Rattle.world_laws.proofs.Words.{join_begun, never_joined, asked_at, is_never, join_taken, keys_begun, opened_by, with_mode_refused, is_joined}
-use Rattle.world_laws.proofs.Words.{join_heard_ask, join_answer, after_timer, template_fired, timer_fired, mapping_here, piece_of, is_placed}
-use Rattle.world_laws.proofs.Words.{answered_piece, forgotten_by, after_keep, after_pieces, is_dropped, after_check, fin_segment_of, having_sent_fin}
-use Rattle.world_laws.proofs.Words.{answered_plain_fin, answered_fin_heard, is_fin_set, after_pass_fin, is_clash, with_learned, with_data_fin, with_skipped}
-use Rattle.world_laws.proofs.Words.{held_of, HeardOption, with_acked, after_dss, with_data_ack, heard_ask, item_ask, answered_heard, answered_item, item_of}
-use Rattle.world_laws.proofs.Words.{item_passed, fell_ask, after_fell, fell_duties, plain_ack_ask, answered_plain_ack, with_plain_ack, breaks_by_ack}
-use Rattle.world_laws.proofs.Words.{may_go_infinite, book_answered, answered_fell, with_infinite, fell_in, is_fall, in_identity, after_keys, peer_key_ask}
-use Rattle.world_laws.proofs.Words.{opened_ask, answered_peer_key, answered_opened, with_peer_key, keys_in, is_stopped_by, with_priority, after_peer_notice}
-use Rattle.world_laws.proofs.Words.{sent_on, answered_in, cleared_in, taken_as, with_answer, Modes, if_so}
+use Rattle.world_laws.proofs.Words.{ControlCall, ControlReply, SendCall, KeptMapping, Record, is_closed_to_segments, is_dead, Meaning, is_sixth, after_expiry}
+use Rattle.world_laws.proofs.Words.{EndState, EndPhase, Occasion, Outgoing, after_death, after_dropping_held, after_keeping_held, arriving, after_delivery}
+use Rattle.world_laws.proofs.Words.{HeardSegment, PlainSegment, LineAction, Piece, rest_of_turn, emission, leaves, resets, stops, announces, withdraws}
+use Rattle.world_laws.proofs.Words.{start_of_turn, Duty, SendDuty, StepDuty, AskDuty, SilentDuty, Heard, KeyPair, replaced, key_heard, keys_heard, Ask, Reply}
+use Rattle.world_laws.proofs.Words.{tail_of, Codec, stands, ask_for, passed, answered, PathEnd, died, answered_ack_out, after_look, modes_told, after_ack_out}
+use Rattle.world_laws.proofs.Words.{at_tick, PathState, end_at, goes_on, with_end, with_agenda, left, path_of, settled, answers, asks_of, asks_first, takes}
+use Rattle.world_laws.proofs.Words.{begins_turn, hint_of, items_of, owes_by, options_heard, after_judged, asked_in, copy_judged, copy_of, judged_in, reset_for}
+use Rattle.world_laws.proofs.Words.{template_by, template_judged, template_of, with_held, heard_in, copy_heard, reset_of, reset_on, answered_break, refusal_of}
+use Rattle.world_laws.proofs.Words.{break_ask, answered_data, answered_grant, first_unsent, grant_in, answer_occasion, answer_of, dead_answer, resend_occasion}
+use Rattle.world_laws.proofs.Words.{resend_of, Judged, next_event, step_for, after_line, happens_if, join_begun, never_joined, asked_at, is_never, join_taken}
+use Rattle.world_laws.proofs.Words.{keys_begun, opened_by, with_mode_refused, is_joined, join_heard_ask, join_answer, after_timer, template_fired, timer_fired}
+use Rattle.world_laws.proofs.Words.{mapping_here, piece_of, is_placed, answered_piece, forgotten_by, after_keep, after_pieces, is_dropped, after_check}
+use Rattle.world_laws.proofs.Words.{fin_segment_of, having_sent_fin, answered_plain_fin, answered_fin_heard, is_fin_set, after_pass_fin, is_clash, with_learned}
+use Rattle.world_laws.proofs.Words.{with_data_fin, with_skipped, held_of, HeardOption, with_acked, after_dss, with_data_ack, heard_ask, item_ask}
+use Rattle.world_laws.proofs.Words.{answered_heard, answered_item, item_of, item_passed, fell_ask, after_fell, fell_duties, plain_ack_ask, answered_plain_ack}
+use Rattle.world_laws.proofs.Words.{with_plain_ack, breaks_by_ack, may_go_infinite, book_answered, answered_fell, with_infinite, fell_in, is_fall, in_identity}
+use Rattle.world_laws.proofs.Words.{after_keys, peer_key_ask, opened_ask, answered_peer_key, answered_opened, with_peer_key, keys_in, is_stopped_by}
+use Rattle.world_laws.proofs.Words.{with_priority, after_peer_notice, sent_on, answered_in, cleared_in, taken_as, with_answer, Modes, if_so}
 use Rattle.path_agenda.specs.Agenda.{breaks}
 use Rattle.path_core.specs.declared.events.Event.{Event}
 use Rattle.path_core.specs.DssIn.{is_acked}
@@ -85,11 +84,8 @@ asked_identity Meaning.Ignored options modes = refl
 asked_identity _ options modes = refl
 
 join_identity : (m : Meaning) (state : EndPhase) (items : List Heard) (modes : Modes) → (cleared_in m state (answered_in m items modes)).identity ≡ modes.identity
-join_identity (Meaning.Accepts acknowledged) state items modes = by (join_answer items modes)
-  where
-    by : (o : Option JoinAnswer) → (with_answer o modes).identity ≡ modes.identity
-    by None = refl
-    by (Some answer) = refl
+join_identity (Meaning.Accepts acknowledged) state items modes = elim (join_answer items modes) as (λ o. (with_answer o modes).identity ≡ modes.identity)
+    [ None ↦ refl | Some answer ↦ refl ]
 join_identity (Meaning.Taken pos acknowledged) state items modes = refl
 join_identity _ state items modes = refl
 
@@ -275,18 +271,18 @@ module _ {C : Type 0} (k : Codec C) (W F : Side → Type 0) where
 
   -- A begins a join where its book does
   begun_awake : (r : Reply) (dead living : List Duty) (p : PathState C) → (is_some (keys_begun r) ≡ true → W A) → Less p.agenda dead → Less p.agenda living → Awake p → Awake (join_begun r dead living p)
-  begun_awake r dead living p begins to_dead to_living h = by (is_never r)
+  begun_awake r dead living p begins to_dead to_living h = elim (is_never r) as (λ b. Awake (if b then goes_on A (never_joined r p.a) dead p else goes_on A (opened_by (keys_begun r) p.a) living p))
+      [ true ↦ goes A (never_joined r p.a) dead p (died_goes A p) to_dead h | false ↦ opens (keys_begun r) begins ]
     where
       opens : (o : Option KeyPair) → (is_some o ≡ true → W A) → Awake (goes_on A (opened_by o p.a) living p)
       opens None begins = same A p.a living p refl refl refl to_living h
       opens (Some keys) begins = begins_on A (opened_by (Some keys) p.a) living p (begins refl) refl (λ t other is. to_living.said t is) (λ t is. to_living.falls t is) h
 
-      by : (b : Bool) → Awake (if b then goes_on A (never_joined r p.a) dead p else goes_on A (opened_by (keys_begun r) p.a) living p)
-      by true = goes A (never_joined r p.a) dead p (died_goes A p) to_dead h
-      by false = opens (keys_begun r) begins
-
   fired_awake : (s : Side) (p : PathState C) → is_up (end_at s p).tcp ≡ true → Awake p → Awake (timer_fired s p)
-  fired_awake s p up h = by (is_sixth (end_at s p).tcp)
+  fired_awake s p up h = elim (is_sixth (end_at s p).tcp) as (λ b. Awake (goes_on s (record e { tcp = (if b then after_death true e.tcp else after_expiry p.clock e.tcp) }) (template_fired b s) p)) [
+    | true ↦ goes s (record e { tcp = after_death true e.tcp }) (template_fired true s) p (λ is. absurd (false≢true is), refl) (new_less p.agenda _ (λ t. refl) (λ t. refl)) h
+    | false ↦ goes_by s (record e { tcp = after_expiry p.clock e.tcp }) (template_fired false s) p (λ is. up, refl) (λ t. own t s up) (λ t is. absurd (false≢true is)) h
+  ]
     where
       e : PathEnd
       e = end_at s p
@@ -296,10 +292,6 @@ module _ {C : Type 0} (k : Codec C) (W F : Side → Type 0) where
       own B B up joins is = h.woken B joins up
       own A B up joins is = absurd (false≢true is)
       own B A up joins is = absurd (false≢true is)
-
-      by : (b : Bool) → Awake (goes_on s (record e { tcp = (if b then after_death true e.tcp else after_expiry p.clock e.tcp) }) (template_fired b s) p)
-      by true = goes s (record e { tcp = after_death true e.tcp }) (template_fired true s) p (λ is. absurd (false≢true is), refl) (new_less p.agenda _ (λ t. refl) (λ t. refl)) h
-      by false = goes_by s (record e { tcp = after_expiry p.clock e.tcp }) (template_fired false s) p (λ is. up, refl) (λ t. own t s up) (λ t is. absurd (false≢true is)) h
 
   -- ---- a copy
 
@@ -392,11 +384,10 @@ module _ {C : Type 0} (k : Codec C) (W F : Side → Type 0) where
   reset_awake s reason ds p less h = sent s (reset_of s reason p) (died (end_at s p)) ds p (died_goes s p) less h
 
   break_awake : (s : Side) (reason : ℕ) (r : Reply) (p : PathState C) → Awake p → Awake (answered_break k s reason r p)
-  break_awake s reason r p h = by (end_at s p).treated.asked
-    where
-      by : (b : Bool) → Awake (if b then answered_ack_out s r (resets s reason) p else reset_on k s (Some reason) (leaves s) p)
-      by true = same s (after_ack_out r (end_at s p)) (resets s reason) p refl refl refl (new_less p.agenda _ (λ t. refl) (λ t. refl)) h
-      by false = reset_awake s (Some reason) (leaves s) p (new_less p.agenda _ (λ t. refl) (λ t. refl)) h
+  break_awake s reason r p h = elim (end_at s p).treated.asked as (λ b. Awake (if b then answered_ack_out s r (resets s reason) p else reset_on k s (Some reason) (leaves s) p)) [
+    | true ↦ same s (after_ack_out r (end_at s p)) (resets s reason) p refl refl refl (new_less p.agenda _ (λ t. refl) (λ t. refl)) h
+    | false ↦ reset_awake s (Some reason) (leaves s) p (new_less p.agenda _ (λ t. refl) (λ t. refl)) h
+  ]
 
   -- the side said so, and joined
   abbrev Said : Side → PathState C → Type 0
@@ -410,11 +401,7 @@ module _ {C : Type 0} (k : Codec C) (W F : Side → Type 0) where
       (λ reason is. absurd (false≢true is)) (λ reason is. absurd (false≢true is)) (λ is. tail_speaks (Voice.Says t) p.agenda is)
 
   unjoined : (s : Side) (p : PathState C) → Said s p → (W s → ⊥) → is_joined p.profile ≡ false
-  unjoined s p said never = by (is_joined p.profile) said
-    where
-      by : (b : Bool) → (b ≡ true → W s) → b ≡ false
-      by true said = absurd (never (said refl))
-      by false said = refl
+  unjoined s p said never = (elim (is_joined p.profile) as (λ b. (b ≡ true → W s) → b ≡ false) [ true ↦ λ said. absurd (never (said refl)) | false ↦ λ said. refl ]) said
 
   verdict_falls : (s t : Side) (r : Reply) (p : PathState C) → Said s p → FallSo s r → Awake p → speaks (Voice.Falls t) (fell_duties s r p) ≡ true → (is_joined p.profile ≡ false) × F t
   verdict_falls s t r p said so h =
@@ -451,11 +438,11 @@ module _ {C : Type 0} (k : Codec C) (W F : Side → Type 0) where
       (λ t is. h.falls t (replaced_speaks (Voice.Falls t) d p.agenda (calm t) is)) h
 
   heard_answered_awake : (s : Side) (item : Heard) (r : Reply) (p : PathState C) → Said s p → So (heard_ask k s item p) r → Awake p → Awake (answered_heard k s item r p)
-  heard_answered_awake s (Heard.DataAck next window) r p said so h = by (is_acked r && nat_lt 0 next)
-    where
-      by : (b : Bool) → Awake (goes_on s (with_acked next r (end_at s p)) (if b then replaced (Duty.Ask (AskDuty.AckHeard s)) p.agenda else left p) p)
-      by true = says_next s (Duty.Ask (AskDuty.AckHeard s)) (with_acked next r (end_at s p)) p (λ t. refl) (λ t. refl) (same_goes s (with_acked next r (end_at s p)) p refl refl refl) said h
-      by false = same s (with_acked next r (end_at s p)) (left p) p refl refl refl (tail_less p.agenda) h
+  heard_answered_awake s (Heard.DataAck next window) r p said so h =
+      elim (is_acked r && nat_lt 0 next) as (λ b. Awake (goes_on s (with_acked next r (end_at s p)) (if b then replaced (Duty.Ask (AskDuty.AckHeard s)) p.agenda else left p) p)) [
+        | true ↦ says_next s (Duty.Ask (AskDuty.AckHeard s)) (with_acked next r (end_at s p)) p (λ t. refl) (λ t. refl) (same_goes s (with_acked next r (end_at s p)) p refl refl refl) said h
+        | false ↦ same s (with_acked next r (end_at s p)) (left p) p refl refl refl (tail_less p.agenda) h
+      ]
   heard_answered_awake s (Heard.Mapping fin) r p said so h = by (is_clash (end_at s p)) so
     where
       by : (b : Bool) → So (if b then break_ask k s 1 p else fell_ask s FallEvent.MappingHeard p) r

@@ -73,11 +73,8 @@ module _ {C : Type 0} (k : Codec C) where
   -- where A asks for bytes it may send a DSS on a path that joins
   pub grants_clear : (p : PathState C) (d : Duty) → stands d p ≡ true → is_joined p.profile ≡ true → p.a.modes.clear ≡ false → p.a.modes.identity ≡ false → asks_grant A (ask_for k d p) ≡ false
   grants_clear p (Duty.Step (StepDuty.Data A)) is joins unclear plain = data_clear p (first_unsent p.a) joins unclear plain is
-  grants_clear p (Duty.Step (StepDuty.Data B)) is joins unclear plain = by (first_unsent p.b)
-    where
-      by : (o : Option Record) → asks_grant A (data_ask k B o p) ≡ false
-      by (Some r) = refl
-      by None = refl
+  grants_clear p (Duty.Step (StepDuty.Data B)) is joins unclear plain = elim (first_unsent p.b) as (λ o. asks_grant A (data_ask k B o p) ≡ false)
+      [ Some r ↦ refl | None ↦ refl ]
   grants_clear p (Duty.Ask AskDuty.JoinAgain) is joins unclear plain = asks_nothing p (Duty.Ask AskDuty.JoinAgain) tt
   grants_clear p (Duty.Send (SendDuty.Update s)) is joins unclear plain = asks_nothing p (Duty.Send (SendDuty.Update s)) tt
   grants_clear p (Duty.Silent (SilentDuty.Timer s)) is joins unclear plain = asks_nothing p (Duty.Silent (SilentDuty.Timer s)) tt
@@ -204,8 +201,7 @@ module _ {C : Type 0} (k : Codec C) where
 
       plain : (t : Side) → is_joined (waiting_path {C = C} (path_begins start number plan) start.lines).profile ≡ true
           → (end_at t (waiting_path {C = C} (path_begins start number plan) start.lines)).modes.identity ≡ false
-      plain A joins = refl
-      plain B joins = refl
+      plain = elim [ A ↦ λ joins. refl | B ↦ λ joins. refl ]
 
   asked_wait : (t : Cast C) (x : Ask) (pass : Pass) (paths : List (Walker C)) → Every (Waits (books_in t.books)) paths → Every (Waits (books_in (after_entry x pass t.books))) paths
   asked_wait t x pass paths h = subst (λ (y : SixBooks). Every (Waits y) paths) (sym (books_after x pass t.books)) (each_waits (books_in t.books) x paths h)

@@ -21,12 +21,10 @@ same_arriving show due (f ∷ flights) = by (is_due due f) (same_arriving show d
   where
     by : (b : Bool) → find (is_due due) (map (shown_flight show) flights) ≡ option_map (shown_flight show) (find (is_due due) flights)
         → cond b (Some (shown_flight show f)) (find (is_due due) (map (shown_flight show) flights)) ≡ option_map (shown_flight show) (cond b (Some f) (find (is_due due) flights))
-    by true rest = refl
-    by false rest = rest
+    by = elim [ true ↦ λ rest. refl | false ↦ λ rest. rest ]
 
 pub same_end_at : (s : Side) (p : PathState Carried) → end_at s (shown_path p) ≡ end_at s p
-same_end_at A p = refl
-same_end_at B p = refl
+same_end_at = elim [ A ↦ λ p. refl | B ↦ λ p. refl ]
 
 -- a fresh copy is heard as it was meant, or it is a reset
 module _ (p : PathState Carried) (fresh : NextIsFresh p) (welcomes : NextIsWelcome values p) (due : Due) (heard : HeardSegment) (next : next_event p ≡ Some (Event.Arrives due))

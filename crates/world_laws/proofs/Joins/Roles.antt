@@ -42,12 +42,10 @@ pub record HasRoles (p : PathState Carried) : Type 0 where
   pub answer_b : IsNoSyn p.b.treated.answer
 
 pub answer_at : (s : Side) (p : PathState Carried) → HasRoles p → IsNoSyn (end_at s p).treated.answer
-answer_at A p h = h.answer_a
-answer_at B p h = h.answer_b
+answer_at = elim [ A ↦ λ p h. h.answer_a | B ↦ λ p h. h.answer_b ]
 
 pub role_at : (s : Side) (p : PathState Carried) → HasRoles p → is_joined p.profile ≡ true → is_apart s (end_at s p).tcp.state ≡ false
-role_at A p h joins = h.role_a joins
-role_at B p h joins = h.role_b joins
+role_at = elim [ A ↦ λ p h joins. h.role_a joins | B ↦ λ p h joins. h.role_b joins ]
 
 stays_false : (x y : Bool) → (y ≡ true → x ≡ true) → x ≡ false → y ≡ false
 stays_false x false more none = refl
@@ -198,29 +196,24 @@ line_roles LineAction.Die p h =
     }
 
 begun_roles : (r : Reply) (dead living : List Duty) (p : PathState Carried) → HasRoles p → HasRoles (join_begun r dead living p)
-begun_roles r dead living p h = by (is_never r)
+begun_roles r dead living p h = elim (is_never r) as (λ b. HasRoles (if b then goes_on A (never_joined r p.a) dead p else goes_on A (opened_by (keys_begun r) p.a) living p))
+    [ true ↦ goes_roles A (never_joined r p.a) dead p (record { role = λ joins is. absurd (false≢true is); answer = tt }) h | false ↦ opens (keys_begun r) ]
   where
     begun : (b : Bool) → is_apart A (if b then after_begin p.a.tcp else p.a.tcp).state ≡ true → is_apart A p.a.tcp.state ≡ true
-    begun true is = absurd (false≢true is)
-    begun false is = is
+    begun = elim [ true ↦ λ is. absurd (false≢true is) | false ↦ λ is. is ]
 
     opens : (o : Option KeyPair) → HasRoles (goes_on A (opened_by o p.a) living p)
     opens None = same_roles A p.a living p refl refl h
     opens (Some keys) = goes_roles A (opened_by (Some keys) p.a) living p (record { role = λ joins. begun (is_waiting p.a.tcp.state); answer = h.answer_a }) h
 
-    by : (b : Bool) → HasRoles (if b then goes_on A (never_joined r p.a) dead p else goes_on A (opened_by (keys_begun r) p.a) living p)
-    by true = goes_roles A (never_joined r p.a) dead p (record { role = λ joins is. absurd (false≢true is); answer = tt }) h
-    by false = opens (keys_begun r)
-
 fired_roles : (s : Side) (p : PathState Carried) → HasRoles p → HasRoles (timer_fired s p)
-fired_roles s p h = by (is_sixth (end_at s p).tcp)
+fired_roles s p h = elim (is_sixth (end_at s p).tcp) as (λ b. HasRoles (goes_on s (record e { tcp = (if b then after_death true e.tcp else after_expiry p.clock e.tcp) }) (template_fired b s) p)) [
+  | true ↦ goes_roles s (record e { tcp = after_death true e.tcp }) (template_fired true s) p (record { role = λ joins is. absurd (false≢true is); answer = answer_at s p h }) h
+  | false ↦ same_roles s (record e { tcp = after_expiry p.clock e.tcp }) (template_fired false s) p refl refl h
+]
   where
     e : PathEnd
     e = end_at s p
-
-    by : (b : Bool) → HasRoles (goes_on s (record e { tcp = (if b then after_death true e.tcp else after_expiry p.clock e.tcp) }) (template_fired b s) p)
-    by true = goes_roles s (record e { tcp = after_death true e.tcp }) (template_fired true s) p (record { role = λ joins is. absurd (false≢true is); answer = answer_at s p h }) h
-    by false = same_roles s (record e { tcp = after_expiry p.clock e.tcp }) (template_fired false s) p refl refl h
 
 -- ---- a copy
 
@@ -365,8 +358,7 @@ occasion_goes s o sg p h = same_goes s (having_sent o p.clock sg (end_at s p)) p
     tcp = (end_at s p).tcp
 
     same : (o : Occasion) → (after_sending o p.clock tcp).state ≡ tcp.state
-    same Occasion.Reset = refl
-    same _ = refl
+    same = elim [ Occasion.Reset ↦ refl | _ ↦ refl ]
 
 -- where neither the phase nor what the copy said may be written, and no segment is sent
 end_kept : (w : EndWrites) (e f : PathEnd) → w.phase ≡ false → w.copy ≡ false → Only w e f → (f.tcp.state ≡ e.tcp.state) × (f.treated.answer ≡ e.treated.answer)

@@ -19,7 +19,7 @@ use Rattle.control_book.specs.Replies as control
 use Rattle.control_book.specs.Steps as controlling
 use Rattle.fallback_state.specs.Table.{stays, breaks}
 use Rattle.world_laws.proofs.Weaving.Journals.{books_after}
-use Rattle.world_laws.proofs.Falls.WhereASideStands.{Fallen, event_falls}
+use Rattle.world_laws.proofs.Falls.WhereASideStands.{event_falls}
 use Rattle.world_laws.proofs.Keys.AnswerHeardFirst.{is_sign_duty, signs}
 use Rattle.world_laws.proofs.Keys.LearnedByA.{mode_told, ModeGains, FellGains, CallGains, Gains, PathMet, more_met}
 use Rattle.world_laws.proofs.Keys.RepliesKeep.{takes_met, begun_turn}
@@ -53,8 +53,7 @@ none_told m off _ is = refl
 
 module _ (p : PathState Carried) where
   no_fell : (s : Side) (event : FallEvent) → is_sign event ≡ false → is_fell (fell_ask s event p) ≡ false
-  no_fell A event none = none
-  no_fell B event none = refl
+  no_fell = elim [ A ↦ λ event none. none | B ↦ λ event none. refl ]
 
   no_key : (s : Side) (o : Option ℕ) → is_fell (peer_key_ask s o p) ≡ false
   no_key A None = refl
@@ -100,29 +99,30 @@ module _ (p : PathState Carried) where
 
   -- so the path has a sign's duty where it tells one
   asked_sign : (T : Type 0) (x : Ask) → asks_of values p ≡ Some x → is_fell x ≡ true → (signs p.agenda ≡ true → T) → T
-  asked_sign T x is fell told = by p.agenda refl is
+  asked_sign T x is fell told = (elim p.agenda as (λ ds. p.agenda ≡ ds → asks_first values ds p ≡ Some x → T)
+      [ [] ↦ λ same is. cc | d ∷ ds ↦ λ same is. at d ds (is_sign_duty d) refl same (ap is_fell (same_Some _ x is) ∙ fell) ]) refl is
     where
       at : (d : Duty) (ds : List Duty) (b : Bool) → is_sign_duty d ≡ b → p.agenda ≡ d ∷ ds → is_fell (ask_for values d p) ≡ true → T
       at d ds true sign same fell = told (ap signs same ∙ ap (λ c. c || signs ds) sign)
       at d ds false sign same fell = absurd (both_ways _ (fell_signs d sign) fell)
 
-      by : (ds : List Duty) → p.agenda ≡ ds → asks_first values ds p ≡ Some x → T
-      by [] same is = cc
-      by (d ∷ ds) same is = at d ds (is_sign_duty d) refl same (ap is_fell (same_Some _ x is) ∙ fell)
-
   -- on path 0
   asked_first : (T : Type 0) (x : Ask) → asks_of values p ≡ Some x → is_fell x ≡ true → PathMet T p → T
   asked_first T x is fell (inl h) = asked_sign T x is fell h.signed
-  asked_first T x is fell (inr h) = by h.begins (sym (ap (λ ds. asks_first values ds p) h.agenda_is) ∙ is)
-    where
-      by : (begins : Bool) → asks_first values (if begins then Duty.Ask (AskDuty.SynAnswered A) ∷ Duty.Ask (AskDuty.PeerKey A) ∷ h.rest else Duty.Ask (AskDuty.PeerKey A) ∷ h.rest) p ≡ Some x → T
-      by true is = absurd (both_ways (is_fell (ask_for values (Duty.Ask (AskDuty.SynAnswered A)) p)) refl (ap is_fell (same_Some _ x is) ∙ fell))
-      by false is = absurd (both_ways _ (no_key A (key_heard (end_at A p).treated.items)) (ap is_fell (same_Some _ x is) ∙ fell))
+  asked_first T x is fell (inr h) =
+      (elim h.begins as (λ begins. asks_first values (if begins then Duty.Ask (AskDuty.SynAnswered A) ∷ Duty.Ask (AskDuty.PeerKey A) ∷ h.rest else Duty.Ask (AskDuty.PeerKey A) ∷ h.rest) p ≡ Some x → T) [
+        | true ↦ λ is. absurd (both_ways (is_fell (ask_for values (Duty.Ask (AskDuty.SynAnswered A)) p)) refl (ap is_fell (same_Some _ x is) ∙ fell))
+        | false ↦ λ is. absurd (both_ways _ (no_key A (key_heard (end_at A p).treated.items)) (ap is_fell (same_Some _ x is) ∙ fell))
+      ]) (sym (ap (λ ds. asks_first values ds p) h.agenda_is) ∙ is)
 
   -- a sign is told by a side that joined, on a path that joins
   sign_speaks : (ds : List Duty) → signs ds ≡ true → speaks (Voice.Says A) ds ≡ true
   sign_speaks [] is = is
-  sign_speaks (d ∷ ds) is = by (is_sign_duty d) refl is (sign_speaks ds)
+  sign_speaks (d ∷ ds) is =
+      (elim (is_sign_duty d) as (λ b. is_sign_duty d ≡ b → b || signs ds ≡ true → (signs ds ≡ true → speaks (Voice.Says A) ds ≡ true) → is_said_by (Voice.Says A) d || speaks (Voice.Says A) ds ≡ true) [
+        | true ↦ λ sign is rest. ap (λ c. c || speaks (Voice.Says A) ds) (said d sign)
+        | false ↦ λ sign is rest. or_right (is_said_by (Voice.Says A) d) (speaks (Voice.Says A) ds) (rest is)
+      ]) refl is (sign_speaks ds)
     where
       said : (d : Duty) → is_sign_duty d ≡ true → is_said_by (Voice.Says A) d ≡ true
       said (Duty.Step (StepDuty.Heard A index)) is = refl
@@ -131,10 +131,6 @@ module _ (p : PathState Carried) where
       said (Duty.Ask (AskDuty.AckHeard B)) is = absurd (false≢true is)
       said (Duty.Step StepDuty.Events) is = absurd (false≢true is)
       said _ is = absurd (false≢true is)
-
-      by : (b : Bool) → is_sign_duty d ≡ b → b || signs ds ≡ true → (signs ds ≡ true → speaks (Voice.Says A) ds ≡ true) → is_said_by (Voice.Says A) d || speaks (Voice.Says A) ds ≡ true
-      by true sign is rest = ap (λ c. c || speaks (Voice.Says A) ds) (said d sign)
-      by false sign is rest = or_right (is_said_by (Voice.Says A) d) (speaks (Voice.Says A) ds) (rest is)
 
 -- ---- A's control book
 
@@ -170,8 +166,7 @@ gone_stays_out Mode.Sure is = absurd (false≢true is)
 gone_stays_out _ is = (refl, refl)
 
 receiving_gone : (m : Mode) → is_gone (receiving m) ≡ true
-receiving_gone Mode.Starting = refl
-receiving_gone _ = refl
+receiving_gone = elim [ Mode.Starting ↦ refl | _ ↦ refl ]
 
 -- what an event makes of a fall: it is gone, or sure as before, or it starts and a sign of B came; and the verdict tells the mode
 record Turned (sign : Bool) (f : Fall) (row : Fall × Verdict) : Type 0 where
@@ -217,8 +212,7 @@ check_turned sign path sole f =
     (λ reads. turned_if sign f sole noted (breaks 6 f) (λ is. record { gone = λ gone. gone; sure = λ sure. inl sure; told = tt }) (λ isnt. breaks_turned sign 6 f))
 
 sending_gone : (m : Mode) → is_gone (sending m) ≡ true
-sending_gone Mode.Starting = refl
-sending_gone _ = refl
+sending_gone = elim [ Mode.Starting ↦ refl | _ ↦ refl ]
 
 fail_turned : (sign : Bool) (path : ℕ) (sole contiguous : Bool) (f : Fall) → Turned sign f (fall_step f path sole (FallEvent.FailHeard contiguous))
 fail_turned sign path sole contiguous f =
@@ -256,23 +250,17 @@ same_keeps c d keys fall = record {
 }
 
 if_keeps : (b : Bool) (c d e : Control) → (b ≡ true → Keeps c d) → Keeps c e → Keeps c (if b then d else e)
-if_keeps true c d e x y = x refl
-if_keeps false c d e x y = y
+if_keeps = elim [ true ↦ λ c d e x y. x refl | false ↦ λ c d e x y. y ]
 
 notice_keys : (n : Notice) (path : ℕ) (c : Control) → ((controlling.after_notice n path c).keys ≡ c.keys) × ((controlling.after_notice n path c).fall ≡ c.fall)
-notice_keys (Notice.Withdraw id) path c = (refl, refl)
-notice_keys _ path c = (refl, refl)
+notice_keys = elim [ Notice.Withdraw id ↦ λ path c. (refl, refl) | _ ↦ λ path c. (refl, refl) ]
 
 -- a book that has the key is fine
 keyed_keeps : (c d : Control) → HasKey d → (is_gone c.fall.mode ≡ true → is_gone d.fall.mode ≡ true) → Keeps c d
 keyed_keeps c d has gone = record { key = λ was. has; gone = gone; fine = λ fine. record { sure = λ is. has; joined = λ is. has } }
 
 keys_mode : (f : Fall) → (fall_step f 0 false FallEvent.KeysHeard).0.mode ≡ f.mode
-keys_mode f = by (is_identity f.mode)
-  where
-    by : (b : Bool) → (if b then stays f else (record f { confirmed = true }, Stay)).0.mode ≡ f.mode
-    by true = refl
-    by false = refl
+keys_mode f = elim (is_identity f.mode) as (λ b. (if b then stays f else (record f { confirmed = true }, Stay)).0.mode ≡ f.mode) [ true ↦ refl | false ↦ refl ]
 
 -- a stop leaves the keys, and lets the side be past being sure
 stop_keeps : (c d : Control) → d.keys ≡ c.keys → d.fall.mode ≡ Mode.Aborted → d.fall.joined ≡ c.fall.joined → Keeps c d
@@ -301,11 +289,7 @@ module _ (key_a key_b : ℕ) where
       starts (inr gone) starting = absurd (both_ways _ (gone_stays_out c.fall.mode gone).0 starting)
 
       joined : (e : FallEvent) → IsSign e → (fall_step c.fall path (sole_path c.paths path) e).0.joined ≡ c.fall.joined
-      joined e is = at (event_falls path (sole_path c.paths path) e c.fall)
-        where
-          at : Fallen c.fall (fall_step c.fall path (sole_path c.paths path) e).0 → (fall_step c.fall path (sole_path c.paths path) e).0.joined ≡ c.fall.joined
-          at (inl same) = same.joined
-          at (inr fell) = fell.joined
+      joined e is = elim (event_falls path (sole_path c.paths path) e c.fall) [ inl same ↦ same.joined | inr fell ↦ fell.joined ]
 
   call_keeps : (six : SixBooks) (c : Control) (call : ControlCall) → KeysAsk key_a key_b true six (Ask.Control A call) → (is_fell (Ask.Control A call) ≡ true → Knew c) → Fine c → Keeps c (controlling.after c call)
   call_keeps six c (ControlCall.Look path) is sign fine = let same = notice_keys (control.notice_on c path) path c in same_keeps c _ same.0 same.1
@@ -370,12 +354,8 @@ module _ (key_a key_b : ℕ) where
   stop_told T key c = if_so (λ z. ModeGains T (Reply.Control z)) (key == c.keys.own) ControlReply.Stopped (ControlReply.OtherKey c.keys.own) tt tt
 
   address_told : (T : Type 0) (id : ℕ) (address : Address) (port hmac : ℕ) (c : Control) → ModeGains T (Reply.Control (control.address_reply id address port hmac c))
-  address_told T id address port hmac c = by (heard_reply is_same id address (control.is_right id address port hmac c) c.addresses)
-    where
-      by : (said : AddressHeard) → ModeGains T (Reply.Control (control.told_heard said))
-      by AddressHeard.Echo = tt
-      by AddressHeard.Known = tt
-      by AddressHeard.BadHmac = tt
+  address_told T id address port hmac c = elim (heard_reply is_same id address (control.is_right id address port hmac c) c.addresses) as (λ said. ModeGains T (Reply.Control (control.told_heard said)))
+      [ AddressHeard.Echo ↦ tt | AddressHeard.Known ↦ tt | AddressHeard.BadHmac ↦ tt ]
 
   gains : (six : SixBooks) (x : Ask) → KeysAsk key_a key_b true six x → Keeps six.control_a (after_ask x six).control_a → Fine six.control_a → Gains (Knew (after_ask x six).control_a) x (reply_of six x)
   gains six (Ask.Control A call) is keeps fine = by call is keeps
@@ -422,8 +402,7 @@ module _ (key_a key_b : ℕ) where
   next_member T (Path p) (inr (inr h)) over = absurd (still h.begins (ap is_nil (sym h.agenda_is) ∙ over))
     where
       still : (begins : Bool) → is_nil (if begins then Duty.Ask (AskDuty.SynAnswered A) ∷ Duty.Ask (AskDuty.PeerKey A) ∷ h.rest else Duty.Ask (AskDuty.PeerKey A) ∷ h.rest) ≡ true → ⊥
-      still true is = false≢true is
-      still false is = false≢true is
+      still = elim [ true ↦ λ is. false≢true is | false ↦ λ is. false≢true is ]
 
   -- ---- worlds
 
@@ -433,16 +412,14 @@ module _ (key_a key_b : ℕ) where
     pub fine : Fine (books_in w.books).control_a
 
   peer_key_is : (o : Option ℕ) → is_some o ≡ true → IfSome o (λ key. key ≡ key_b) → o ≡ Some key_b
-  peer_key_is None some is = absurd (false≢true some)
-  peer_key_is (Some key) some is = ap (λ n. Some n) is
+  peer_key_is = elim [ None ↦ λ some is. absurd (false≢true some) | Some key ↦ λ some is. ap (λ n. Some n) is ]
 
   knowing : (w : WorldState Carried) → WorldMet w → true ≡ true → control.is_sure (books_in w.books).control_a.fall.mode ≡ true → (books_in w.books).control_a.keys.peer ≡ Some key_b
   knowing w h right is = peer_key_is (books_in w.books).control_a.keys.peer (h.fine.sure is) h.keys.books.a.peer_is
 
   -- a fast close is no sign
   no_stop_fell : (s : Side) → is_fell (Ask.Control s ControlCall.FastClose) ≡ false
-  no_stop_fell A = refl
-  no_stop_fell B = refl
+  no_stop_fell = elim [ A ↦ refl | B ↦ refl ]
 
   -- a member that tells a sign has the key, or its side is past being sure
   app_signs : (T : Type 0) (ds : List AppDuty) (a : AppState) (x : Ask) → app_asks_first ds a ≡ Some x → is_fell x ≡ true → T

@@ -1,15 +1,14 @@
 -- No copy that arrives on a path that joins is refused for what it says, unless its options were taken away.
 use Rattle.world_laws.proofs.Words.{◌≡◌, refl, sym, ◌∙◌, ap, subst, ℕ, zero, suc, ◌+◌, ◌&&◌, ◌==◌, not, ⊎_elim, Bool, true, false, if◌then◌else◌, Option, Some}
 use Rattle.world_laws.proofs.Words.{None, Ok, Err, List, [], ◌∷◌, map, is_none, is_some, unwrap_or, eq-eqb, and_parts, both_ways, false≢true, same_Some}
-use Rattle.world_laws.proofs.Words.{flat_map, IfSome, option_or, result_ok, join_a160_of, join_b64_of, Side, A, B, peer, same_side, JoinForm, Answer}
-use Rattle.world_laws.proofs.Words.{Third, JoinAnswer, BadHmac, answer_heard, answer_taken, syn_heard, third_heard, is_closed_to_segments, is_half_open}
-use Rattle.world_laws.proofs.Words.{Meaning, EndState, EndPhase, meaning_of, Copy, is_due, arriving, Flight, HeardSegment, PlainOption, PlainSegment, Join}
-use Rattle.world_laws.proofs.Words.{meant, meant_option, window_told, Heard, is_of_step, join_in, join_heard, JoinStep, Reply, books_in, SixBooks}
-use Rattle.world_laws.proofs.Words.{reply_of, is_nil, PathEnd, waiting_path, PathState, end_at, Carried, as_arrived, values, items_in, items_of, copy_of}
-use Rattle.world_laws.proofs.Words.{judged_in, heard_in, Judged, is_joined, join_answer, join_asked, peer_key_of, join_value, is_hmac_right, is_third_right}
-use Rattle.world_laws.proofs.Words.{third_in, is_forged, is_passed_over, join_judged, in_map, Every-nil, in_set, Every, App, Path, Actor}
-use Rattle.world_laws.proofs.Words.{member_takes, member_next, Always, PathPlan, Start, path_begins, new_path, opened_world, WorldState, Turn}
-use Rattle.world_laws.proofs.Words.{crew_after, greatest, begins, after_turn, world_run}
+use Rattle.world_laws.proofs.Words.{flat_map, IfSome, option_or, result_ok, join_a160_of, join_b64_of, Side, A, B, peer, same_side, JoinForm, Answer, Third}
+use Rattle.world_laws.proofs.Words.{JoinAnswer, BadHmac, answer_heard, answer_taken, syn_heard, third_heard, is_closed_to_segments, is_half_open, Meaning}
+use Rattle.world_laws.proofs.Words.{EndState, EndPhase, meaning_of, Copy, is_due, arriving, Flight, HeardSegment, PlainOption, PlainSegment, Join, meant}
+use Rattle.world_laws.proofs.Words.{meant_option, window_told, Heard, is_of_step, join_in, join_heard, JoinStep, Reply, books_in, SixBooks, reply_of, is_nil}
+use Rattle.world_laws.proofs.Words.{PathEnd, waiting_path, PathState, end_at, Carried, as_arrived, values, items_in, items_of, copy_of, judged_in, heard_in}
+use Rattle.world_laws.proofs.Words.{Judged, is_joined, join_answer, join_asked, peer_key_of, join_value, is_hmac_right, is_third_right, third_in, is_forged}
+use Rattle.world_laws.proofs.Words.{is_passed_over, join_judged, in_map, Every-nil, in_set, Every, App, Path, Actor, member_takes, member_next, Always}
+use Rattle.world_laws.proofs.Words.{PathPlan, Start, path_begins, new_path, opened_world, WorldState, Turn, crew_after, greatest, begins, world_run}
 use Rattle.world_laws.proofs.Worlds.Turns.{run_so}
 use Rattle.std.specs.Cmp.Lexicographic.{pointwise}
 use Rattle.mptcp_options.specs.declared.join.JoinForm.TheVariants.{Syn}
@@ -36,16 +35,16 @@ same_octets xs ys same = subst (λ zs. pointwise ◌==◌ xs zs ≡ true) same (
 -- the first MP_JOIN of a form has that form
 of_form : (of_step : JoinStep) (items : List Heard) (form : JoinForm) → join_heard of_step items ≡ Some form → is_of_step of_step form ≡ true
 of_form of_step [] form is = cc
-of_form of_step (item ∷ items) form is = by item (λ rest. of_form of_step items form rest) is
+of_form of_step (item ∷ items) form is =
+    (elim item as (λ item. (join_heard of_step items ≡ Some form → is_of_step of_step form ≡ true) → option_or (join_in of_step item) (join_heard of_step items) ≡ Some form → is_of_step of_step form ≡ true) [
+      | Heard.Join f ↦ λ later is. at f (is_of_step of_step f) later refl is
+      | Heard.Dss ↦ λ later is. later is
+      | _ ↦ λ later is. later is
+    ]) (λ rest. of_form of_step items form rest) is
   where
     at : (f : JoinForm) (b : Bool) → (join_heard of_step items ≡ Some form → is_of_step of_step form ≡ true) → is_of_step of_step f ≡ b → option_or (if b then Some f else None) (join_heard of_step items) ≡ Some form → is_of_step of_step form ≡ true
     at f true later of is = subst (λ g. is_of_step of_step g ≡ true) (same_Some f form is) of
     at f false later of is = later is
-
-    by : (item : Heard) → (join_heard of_step items ≡ Some form → is_of_step of_step form ≡ true) → option_or (join_in of_step item) (join_heard of_step items) ≡ Some form → is_of_step of_step form ≡ true
-    by (Heard.Join f) later is = at f (is_of_step of_step f) later refl is
-    by Heard.Dss later is = later is
-    by _ later is = later is
 
 -- what a SYN tells an end of this side: A hears an answer, and B that a join is asked for
 abbrev pub TellsJoin : Side → List Heard → Type 0
@@ -62,8 +61,7 @@ tells_join A sg tells some syn = tells some syn
 tells_join B sg tells some syn = first_asked (window_told sg.syn sg.window) sg.options (tells some syn)
 
 some_meant : (options : List PlainOption) → is_nil (map meant_option options) ≡ false → is_nil options ≡ false
-some_meant [] some = some
-some_meant (o ∷ options) some = refl
+some_meant = elim [ [] ↦ λ some. some | o ∷ options ↦ λ some. refl ]
 
 -- ---- an end of a path that joins
 
@@ -150,18 +148,10 @@ module _ (k : Secrets) (w : Side → Type 0) (did : Deed → Side → Type 0) (s
 
   -- A is where B never is, and the other way round
   at_b : is_apart A e.tcp.state ≡ true → s ≡ B
-  at_b apart = by s role
-    where
-      by : (s : Side) → is_apart s e.tcp.state ≡ false → s ≡ B
-      by A none = absurd (both_ways _ none apart)
-      by B none = refl
+  at_b apart = (elim s as (λ s. is_apart s e.tcp.state ≡ false → s ≡ B) [ A ↦ λ none. absurd (both_ways _ none apart) | B ↦ λ none. refl ]) role
 
   at_a : is_apart B e.tcp.state ≡ true → s ≡ A
-  at_a apart = by s role
-    where
-      by : (s : Side) → is_apart s e.tcp.state ≡ false → s ≡ A
-      by A none = refl
-      by B none = absurd (both_ways _ none apart)
+  at_a apart = (elim s as (λ s. is_apart s e.tcp.state ≡ false → s ≡ A) [ A ↦ λ none. refl | B ↦ λ none. absurd (both_ways _ none apart) ]) role
 
   asks_to_join : s ≡ B → (copy_of heard).syn ≡ true → is_some (join_asked items) ≡ true
   asks_to_join side syn = by (join_heard JoinStep.Syn items) (subst (λ t. TellsJoin t items) side (tells syn)) (λ form. of_form JoinStep.Syn items form)
@@ -179,11 +169,12 @@ module _ (k : Secrets) (w : Side → Type 0) (did : Deed → Side → Type 0) (s
     where
       by : (o : Option JoinForm) → IfSome o (λ form. (true ≡ true) × (IsFor s form × (w (peer s) × ((true ≡ true) → JoinIs k true (peer s) form)))) → ((form : JoinForm) → o ≡ Some form → is_of_step JoinStep.Answer form ≡ true)
           → IfSome o (λ form. (is_of_step JoinStep.Answer form ≡ true) × ((true ≡ true) → JoinIs k true (peer s) form))
-      by None found form = tt
-      by (Some f) found form = (form f refl, found.1.1.1)
+      by = elim [ None ↦ λ found form. tt | Some f ↦ λ found form. (form f refl, found.1.1.1) ]
 
   not_forged : (copy_of heard).rst ≡ false → is_passed_over heard.rst items e ≡ false → is_forged items e ≡ false
-  not_forged plain heeded = by (is_half_open e.tcp.state) refl heeded
+  not_forged plain heeded =
+      (elim (is_half_open e.tcp.state) as (λ half. is_half_open e.tcp.state ≡ half → half && (not heard.rst && is_none (third_in items)) ≡ false → half && not (is_third_right items e.modes) ≡ false)
+      [ false ↦ λ is heeded. refl | true ↦ λ is heeded. ap not (third is (some_third heard.rst (third_in items) plain heeded)) ]) refl heeded
     where
       third : is_half_open e.tcp.state ≡ true → is_some (third_in items) ≡ true → is_third_right items e.modes ≡ true
       third half some =
@@ -192,21 +183,15 @@ module _ (k : Secrets) (w : Side → Type 0) (did : Deed → Side → Type 0) (s
           (found (join_heard JoinStep.Third items) (join_found k true w did true s JoinStep.Third items said))
         where
           found : (o : Option JoinForm) → IfSome o (λ form. (true ≡ true) × (IsFor s form × (w (peer s) × ((true ≡ true) → JoinIs k true (peer s) form)))) → IfSome o (λ form. (true ≡ true) → JoinIs k true (peer s) form)
-          found None is = tt
-          found (Some form) is = is.1.1.1
+          found = elim [ None ↦ λ is. tt | Some form ↦ λ is. is.1.1.1 ]
 
       some_third : (rst : Bool) (o : Option (List ℕ)) → rst ≡ false → not rst && is_none o ≡ false → is_some o ≡ true
       some_third false (Some hmac) plain none = refl
       some_third false None plain none = absurd (both_ways true none refl)
       some_third true o plain none = absurd (false≢true (sym plain))
 
-      by : (half : Bool) → is_half_open e.tcp.state ≡ half → half && (not heard.rst && is_none (third_in items)) ≡ false → half && not (is_third_right items e.modes) ≡ false
-      by false is heeded = refl
-      by true is heeded = ap not (third is (some_third heard.rst (third_in items) plain heeded))
-
   silent_welcome : (b : Bool) (m : Meaning) → IsWelcome (if b then Judged.As Meaning.Ignored else Judged.As m)
-  silent_welcome true m = tt
-  silent_welcome false m = tt
+  silent_welcome = elim [ true ↦ λ m. tt | false ↦ λ m. tt ]
 
   welcome : (m : Meaning) → FitsState e.tcp.state (copy_of heard) m → IsWelcome (join_judged heard.rst items m e)
   welcome Meaning.Opens fit =
@@ -232,8 +217,7 @@ module _ (k : Secrets) (w : Side → Type 0) (did : Deed → Side → Type 0) (s
 -- a reset is never refused
 module _ (s : Side) (e : PathEnd) (heard : HeardSegment) (reset : (copy_of heard).rst ≡ true) where
   silent_reset : (b : Bool) (m : Meaning) → IsWelcome (if b then Judged.As Meaning.Ignored else Judged.As m)
-  silent_reset true m = tt
-  silent_reset false m = tt
+  silent_reset = elim [ true ↦ λ m. tt | false ↦ λ m. tt ]
 
   reset_as : (m : Meaning) → FitsState e.tcp.state (copy_of heard) m → IsWelcome (join_judged heard.rst (items_of true s heard) m e)
   reset_as Meaning.RepeatedSyn fit = tt
@@ -325,8 +309,7 @@ opened_roles start = record { each = opened_actors (λ actor c. MemberRoles c.me
     })
       where
         apart : (number : ℕ) → is_apart A (waiting_path {C = Carried} (path_begins start number plan) start.lines).a.tcp.state ≡ false
-        apart zero = refl
-        apart (suc n) = refl
+        apart = elim [ zero ↦ refl | suc n ↦ refl ]
 
 pub all_roles : (start : Start) (turns : List Turn) → AllRoles (world_run values turns (opened_world start))
 all_roles start turns = run_roles turns (opened_world start) (opened_roles start)
@@ -334,9 +317,7 @@ all_roles start turns = run_roles turns (opened_world start) (opened_roles start
 -- ---- the law
 
 pub each_copy_is_welcome : Always values (λ start w. EachCopyIsWelcome values w)
-each_copy_is_welcome start turns = record {
-  each = λ actor c there. by c.member (met.keys.crew.each actor c there) (roles.each actor c there);
-}
+each_copy_is_welcome start turns = record { each = λ actor c there. by c.member (met.keys.crew.each actor c there) (roles.each actor c there) }
   where
     met : WorldMet start.key_a start.key_b (world_run values turns (opened_world start))
     met = run_met start.key_a start.key_b turns (opened_world start) (opened_met start)

@@ -43,8 +43,7 @@ payload_met (Meaning.Taken pos acknowledged) (octet ∷ octets) s = refl
 payload_met _ octets s = refl
 
 owing_state : (b : Bool) (s : EndState) → (owing_if b s).state ≡ s.state
-owing_state true s = refl
-owing_state false s = refl
+owing_state = elim [ true ↦ λ s. refl | false ↦ λ s. refl ]
 
 -- A's end never has the peer's SYN before its own was answered, and B's never opens
 abbrev pub is_apart : Side → EndPhase → Bool
@@ -78,31 +77,27 @@ handshake_apart s EndPhase.Waiting is = is
 handshake_apart s _ is = is
 
 pub ack_apart : (side : Side) (pos now : ℕ) (s : EndState) → is_apart side (after_acknowledgement pos now s).state ≡ is_apart side s.state
-ack_apart side pos now s = by (ack_kind pos s.send)
+ack_apart side pos now s = elim (ack_kind pos s.send) as (λ kind. is_apart side (after_ack_kind kind (sample_of pos s.send) now t).state ≡ is_apart side s.state)
+    [ AckKind.New octets ↦ new (is_fin_acked t.send) | _ ↦ refl ]
   where
     t : EndState
     t = record s { send = after_acknowledge pos s.send }
 
     new : (b : Bool) → is_apart side (if b then states.after_fin_acked s.state else s.state) ≡ is_apart side s.state
-    new true = acked_apart side s.state
-    new false = refl
-
-    by : (kind : AckKind) → is_apart side (after_ack_kind kind (sample_of pos s.send) now t).state ≡ is_apart side s.state
-    by (AckKind.New octets) = new (is_fin_acked t.send)
-    by _ = refl
+    new = elim [ true ↦ acked_apart side s.state | false ↦ refl ]
 
 taken_apart : (side : Side) (pos acknowledged : ℕ) (hint : Hint) (now : ℕ) (c : Copy) (s : EndState) → is_apart side (after_taken pos acknowledged hint now c s).state ≡ true → is_apart side s.state ≡ true
-taken_apart side pos acknowledged hint now c s = by (is_duplicate (ack_kind acknowledged opened.send) (told_by hint c) c acked)
+taken_apart side pos acknowledged hint now c s =
+    elim (is_duplicate (ack_kind acknowledged opened.send) (told_by hint c) c acked) as (λ b. is_apart side (if b then after_duplicate acked else after_interruption acked).state ≡ true → is_apart side s.state ≡ true) [
+      | true ↦ λ is. handshake_apart side s.state (sym (ack_apart side acknowledged now opened) ∙ is)
+      | false ↦ λ is. handshake_apart side s.state (sym (ack_apart side acknowledged now opened) ∙ is)
+    ]
   where
     opened : EndState
     opened = after_established (after_hearing (after_payload pos hint c s))
 
     acked : EndState
     acked = after_acknowledgement acknowledged now opened
-
-    by : (b : Bool) → is_apart side (if b then after_duplicate acked else after_interruption acked).state ≡ true → is_apart side s.state ≡ true
-    by true is = handshake_apart side s.state (sym (ack_apart side acknowledged now opened) ∙ is)
-    by false is = handshake_apart side s.state (sym (ack_apart side acknowledged now opened) ∙ is)
 
 -- what a copy means that is met, or answers
 abbrev pub is_accepts : Meaning → Bool
@@ -125,13 +120,12 @@ past_met EndPhase.Dead is = absurd (false≢true is)
 past_met _ is = refl
 
 pub fits : (c : Copy) (s : EndState) → Fits s.state c (meaning_of c s)
-fits c s = by (meaning_of c s) (means c s)
-  where
-    by : (m : Meaning) → Means c s m → Fits s.state c m
-    by Meaning.Opens is = (λ heeds. ap is_met is.0, λ accepts. is.1.0)
-    by (Meaning.Accepts acknowledged) is = (λ heeds. absurd (false≢true heeds), λ accepts. is.1.0)
-    by (Meaning.Taken pos acknowledged) is = (λ heeds. past_met s.state is.0, λ accepts. absurd (false≢true accepts))
-    by _ is = (λ heeds. absurd (false≢true heeds), λ accepts. absurd (false≢true accepts))
+fits c s = (elim (meaning_of c s) as (λ m. Means c s m → Fits s.state c m) [
+  | Meaning.Opens ↦ λ is. (λ heeds. ap is_met is.0, λ accepts. is.1.0)
+  | Meaning.Accepts acknowledged ↦ λ is. (λ heeds. absurd (false≢true heeds), λ accepts. is.1.0)
+  | Meaning.Taken pos acknowledged ↦ λ is. (λ heeds. past_met s.state is.0, λ accepts. absurd (false≢true accepts))
+  | _ ↦ λ is. (λ heeds. absurd (false≢true heeds), λ accepts. absurd (false≢true accepts))
+]) (means c s)
 
 -- ---- duties
 
@@ -226,13 +220,11 @@ syn_tells c s e o payload = by (is_joined c) s
     by false s = tt
 
 record_tells : (c : Profile) (s : Side) (e : PathEnd) (r : Record) → TellsKey (is_joined c) (peer s) (record_said c s r e)
-record_tells c s e r = by r.kind refl
-  where
-    by : (kind : RecordKind) → r.kind ≡ kind → TellsKey (is_joined c) (peer s) (record_said c s r e)
-    by RecordKind.Syn is =
-        subst (λ kind. TellsKey (is_joined c) (peer s) (segment_of c (record_segment e.tcp r) (record_options kind c s r e) r.piece e)) (sym is) (syn_tells c s e (record_segment e.tcp r) r.piece)
-    by RecordKind.Data is = no_syn (is_joined c) s (record_said c s r e) (ap is_syn is)
-    by RecordKind.Fin is = no_syn (is_joined c) s (record_said c s r e) (ap is_syn is)
+record_tells c s e r = (elim r.kind as (λ kind. r.kind ≡ kind → TellsKey (is_joined c) (peer s) (record_said c s r e)) [
+  | RecordKind.Syn ↦ λ is. subst (λ kind. TellsKey (is_joined c) (peer s) (segment_of c (record_segment e.tcp r) (record_options kind c s r e) r.piece e)) (sym is) (syn_tells c s e (record_segment e.tcp r) r.piece)
+  | RecordKind.Data ↦ λ is. no_syn (is_joined c) s (record_said c s r e) (ap is_syn is)
+  | RecordKind.Fin ↦ λ is. no_syn (is_joined c) s (record_said c s r e) (ap is_syn is)
+]) refl
 
 pub record_or_ack_tells : (c : Profile) (s : Side) (e : PathEnd) (o : Option Record) → TellsKey (is_joined c) (peer s) (record_or_ack c s o e)
 record_or_ack_tells c s e None = no_syn (is_joined c) s (ack_said c s e.tcp.send.nxt None e) refl

@@ -93,8 +93,7 @@ at_b A P same is = cc
 at_b B P same is = is
 
 pub twice : (s : Side) → peer (peer s) ≡ s
-twice A = refl
-twice B = refl
+twice = elim [ A ↦ refl | B ↦ refl ]
 
 -- the forms that an end of this side hears
 abbrev pub IsFor : Side → JoinForm → Type 0
@@ -153,16 +152,14 @@ module _ (k : Secrets) (right : Bool) where
   Needs B m = HasMet B m
 
   pub met_needs : (s : Side) (m : Modes) → HasMet s m → Needs s m
-  met_needs A m h = h.0
-  met_needs B m h = h
+  met_needs = elim [ A ↦ λ m h. h.0 | B ↦ λ m h. h ]
 
   pub same_needs : (s : Side) (m n : Modes) → known_in n ≡ known_in m → Needs s m → Needs s n
   same_needs A m n same h = ap (λ (x : Known). x.peer_key) same ∙ h
   same_needs B m n same h = (ap (λ (x : Known). x.peer_key) same ∙ h.0, ap (λ (x : Known). x.peer_nonce) same ∙ h.1)
 
   pub needs_key : (s : Side) (m : Modes) → Needs s m → HasKey s m
-  needs_key A m h = h
-  needs_key B m h = h.0
+  needs_key = elim [ A ↦ λ m h. h | B ↦ λ m h. h.0 ]
 
 -- And that the control book of a side began a join, or answered one; and what else the side did.
 module _ (k : Secrets) (right : Bool) (w : Side → Type 0) (did : Deed → Side → Type 0) where
@@ -253,8 +250,7 @@ module _ (k : Secrets) (right : Bool) (w : Side → Type 0) (did : Deed → Side
 
   -- B's side joined where its end knows what it has to
   pub knows_b : (s : Side) (m : Modes) → Knows s m → OfB s (w B)
-  knows_b A m has = tt
-  knows_b B m has = has.0
+  knows_b = elim [ A ↦ λ m has. tt | B ↦ λ m has. has.0 ]
 
   pub same_knows : (s : Side) (m n : Modes) → known_in n ≡ known_in m → Knows s m → Knows s n
   same_knows s m n same h = (h.0, λ sure. same_needs k right s m n same (h.1 sure))
@@ -310,15 +306,11 @@ module _ (k : Secrets) (right : Bool) (w : Side → Type 0) (did : Deed → Side
     )
 
     opening_is : Every (OptionIs (is_joined c) s) (opening_options c s e)
-    opening_is = by e.modes.owes_third refl
-      where
-        by : (b : Bool) → e.modes.owes_third ≡ b → Every (OptionIs (is_joined c) s) (if b then third_options e.modes else key_options c s e.modes.peer_key e)
-        by true owes = third_is (h.modes.joins owes) (h.modes.third owes)
-        by false owes = keys_say s e.modes.peer_key h.modes.own h.modes.peer_is h.modes.keyed
+    opening_is = (elim e.modes.owes_third as (λ b. e.modes.owes_third ≡ b → Every (OptionIs (is_joined c) s) (if b then third_options e.modes else key_options c s e.modes.peer_key e))
+        [ true ↦ λ owes. third_is (h.modes.joins owes) (h.modes.third owes) | false ↦ λ owes. keys_say s e.modes.peer_key h.modes.own h.modes.peer_is h.modes.keyed ]) refl
 
     fail_are : (o : Option ℕ) → (is_joined c ≡ true → OfB s (w B)) → Every (OptionIs (is_joined c) s) (fail_options o)
-    fail_are None knows = Every-nil _
-    fail_are (Some place) knows = every_one _ knows
+    fail_are = elim [ None ↦ λ knows. Every-nil _ | Some place ↦ λ knows. every_one _ knows ]
 
     beside_are : (fin : Option ℕ) → (is_joined c ≡ true → OfB s (w B)) → Every (OptionIs (is_joined c) s) (fail_beside fin e.modes)
     beside_are (Some fin) knows = Every-nil _
@@ -342,8 +334,7 @@ module _ (k : Secrets) (right : Bool) (w : Side → Type 0) (did : Deed → Side
     first_are None r is keyed = Every-nil _
 
     pub reset_options_are : (reason : Option ℕ) → Every (OptionIs (is_joined c) s) (reset_options reason)
-    reset_options_are None = Every-nil _
-    reset_options_are (Some reason) = every_one _ tt
+    reset_options_are = elim [ None ↦ Every-nil _ | Some reason ↦ every_one _ tt ]
 
     broken_are : (failed reason : Option ℕ) → (is_joined c ≡ true → IfSome failed (λ place. OfB s (w B))) → Every (OptionIs (is_joined c) s) (broken_options failed reason)
     broken_are failed None knows = Every-nil _
@@ -390,8 +381,7 @@ module _ (k : Secrets) (right : Bool) (w : Side → Type 0) (did : Deed → Side
 
       -- with its own infinite mapping, or as it is else
       infinite_or_are : (o : Option InfiniteMapping) (options : List PlainOption) → Every (OptionIs (is_joined c) s) options → Every (OptionIs (is_joined c) s) (infinite_or o options e)
-      infinite_or_are None options each = each
-      infinite_or_are (Some mapping) options each = every_one _ dss_known
+      infinite_or_are = elim [ None ↦ λ options each. each | Some mapping ↦ λ options each. every_one _ dss_known ]
 
       mapped_are : (r : Record) → Every (OptionIs (is_joined c) s) (mapped_options c s r e)
       mapped_are r =
@@ -431,11 +421,8 @@ module _ (k : Secrets) (right : Bool) (w : Side → Type 0) (did : Deed → Side
       )
 
       syn_options_are : Every (OptionIs (is_joined c) s) (syn_options c s e)
-      syn_options_are = by (is_joined c) knows
-        where
-          by : (b : Bool) → (b ≡ true → Knows s e.modes) → Every (OptionIs b s) (if b then join_options c s e.modes else capable_options c s e)
-          by true has = join_is s h.modes.own h.modes.nonce (has refl)
-          by false has = capable_is s h.modes.own
+      syn_options_are = (elim (is_joined c) as (λ b. (b ≡ true → Knows s e.modes) → Every (OptionIs b s) (if b then join_options c s e.modes else capable_options c s e))
+          [ true ↦ λ has. join_is s h.modes.own h.modes.nonce (has refl) | false ↦ λ has. capable_is s h.modes.own ]) knows
 
       record_options_are : (kind : RecordKind) (r : Record) → Every (OptionIs (is_joined c) s) (record_options kind c s r e)
       record_options_are Syn r = syn_options_are
@@ -446,8 +433,7 @@ module _ (k : Secrets) (right : Bool) (w : Side → Type 0) (did : Deed → Side
       syn_ack_is = syn_options_are
 
       pub record_or_ack_is : (o : Option Record) → SegmentIs c s (record_or_ack c s o e)
-      record_or_ack_is None = ack_options_are None
-      record_or_ack_is (Some r) = record_options_are r.kind r
+      record_or_ack_is = elim [ None ↦ ack_options_are None | Some r ↦ record_options_are r.kind r ]
 
   -- ---- what a copy says, which the peer sent
 
@@ -489,11 +475,8 @@ module _ (k : Secrets) (right : Bool) (w : Side → Type 0) (did : Deed → Side
     join_items_are B (Answer backup id hmac nonce) h = Every-nil _
 
   first_items_are : (len : ℕ) → Every (ItemIs false B) (first_items len)
-  first_items_are len = by (nat_lt 0 len) (mapping_items_are false B 0 1 len false)
-    where
-      by : (b : Bool) → Every (ItemIs false B) (mapping_items 0 1 len false) → Every (ItemIs false B) (if b then mapping_items 0 1 len false else [])
-      by true are = are
-      by false are = Every-nil _
+  first_items_are len = (elim (nat_lt 0 len) as (λ b. Every (ItemIs false B) (mapping_items 0 1 len false) → Every (ItemIs false B) (if b then mapping_items 0 1 len false else []))
+      [ true ↦ λ are. are | false ↦ λ are. Every-nil _ ]) (mapping_items_are false B 0 1 len false)
 
   key_items_are : (s : Side) (keys : CapableKeys) → KeysAre k right (peer s) keys → ShownBy (peer s) keys → Every (ItemIs false s) (key_items s keys)
   key_items_are A NoKey h shown = Every-nil _

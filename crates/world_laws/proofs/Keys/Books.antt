@@ -51,18 +51,11 @@ notice_is own other T Notice.Reset path c h = h
 
 -- a sign of the peer's, which makes a side sure
 sign_confirms : (f : Fall) → (after_sure_sign f).0.confirmed ≡ f.confirmed
-sign_confirms f = by (is_starting f.mode)
-  where
-    by : (b : Bool) → (if b then goes Mode.Sure f else stays f).0.confirmed ≡ f.confirmed
-    by true = refl
-    by false = refl
+sign_confirms f = elim (is_starting f.mode) as (λ b. (if b then goes Mode.Sure f else stays f).0.confirmed ≡ f.confirmed) [ true ↦ refl | false ↦ refl ]
 
 plain_confirms : (f : Fall) → (after_plain f).0.confirmed ≡ f.confirmed
-plain_confirms f = by (is_starting f.mode && not f.joined)
-  where
-    by : (b : Bool) → (if b then goes Mode.Identity f else stays f).0.confirmed ≡ f.confirmed
-    by true = refl
-    by false = refl
+plain_confirms f = elim (is_starting f.mode && not f.joined) as (λ b. (if b then goes Mode.Identity f else stays f).0.confirmed ≡ f.confirmed)
+    [ true ↦ refl | false ↦ refl ]
 
 infinite_confirms : (path : ℕ) (sole : Bool) (f : Fall) → (after_infinite path sole f).0.confirmed ≡ f.confirmed
 infinite_confirms path sole f = by (not (reads_mappings f.mode)) (sole && is_failed_path f.failed path) (writes_mappings f.mode && not f.joined && is_none f.failed)
@@ -126,12 +119,10 @@ call_is k right w did s c _ is h = same_book _ _ _ c _ refl refl h
 
 -- a book that joined stays so
 either_joined : (b : Bool) (c d : Control) → c.fall.joined ≡ true → d.fall.joined ≡ true → (if b then c else d).fall.joined ≡ true
-either_joined true c d x y = x
-either_joined false c d x y = y
+either_joined = elim [ true ↦ λ c d x y. x | false ↦ λ c d x y. y ]
 
 either_fall : (b : Bool) (f g : Fall × Verdict) → f.0.joined ≡ true → g.0.joined ≡ true → (if b then f else g).0.joined ≡ true
-either_fall true f g x y = x
-either_fall false f g x y = y
+either_fall = elim [ true ↦ λ f g x y. x | false ↦ λ f g x y. y ]
 
 fell_joined : (path : ℕ) (sole : Bool) (e : FallEvent) (f : Fall) → f.joined ≡ true → (fall_step f path sole e).0.joined ≡ true
 fell_joined path sole FallEvent.MappingHeard f is = either_fall (is_starting f.mode) _ _ is is
@@ -147,8 +138,7 @@ fell_joined path sole (FallEvent.FailHeard contiguous) f is = either_fall (not (
 fell_joined path sole FallEvent.Stop f is = is
 
 notice_joined : (n : Notice) (path : ℕ) (c : Control) → c.fall.joined ≡ true → (controlling.after_notice n path c).fall.joined ≡ true
-notice_joined (Notice.Withdraw id) path c is = is
-notice_joined _ path c is = is
+notice_joined = elim [ Notice.Withdraw id ↦ λ path c is. is | _ ↦ λ path c is. is ]
 
 pub call_joined : (c : Control) (call : ControlCall) → c.fall.joined ≡ true → (controlling.after c call).fall.joined ≡ true
 call_joined c (ControlCall.Look path) is = notice_joined (control.notice_on c path) path c is
@@ -166,12 +156,10 @@ call_joined c _ is = is
 
 -- a book that has the peer's key keeps one
 either_keyed : (b : Bool) (c d : Control) → is_some c.keys.peer ≡ true → is_some d.keys.peer ≡ true → is_some (if b then c else d).keys.peer ≡ true
-either_keyed true c d x y = x
-either_keyed false c d x y = y
+either_keyed = elim [ true ↦ λ c d x y. x | false ↦ λ c d x y. y ]
 
 notice_keyed : (n : Notice) (path : ℕ) (c : Control) → is_some c.keys.peer ≡ true → is_some (controlling.after_notice n path c).keys.peer ≡ true
-notice_keyed (Notice.Withdraw id) path c is = is
-notice_keyed _ path c is = is
+notice_keyed = elim [ Notice.Withdraw id ↦ λ path c is. is | _ ↦ λ path c is. is ]
 
 pub call_keyed : (c : Control) (call : ControlCall) → is_some c.keys.peer ≡ true → is_some (controlling.after c call).keys.peer ≡ true
 call_keyed c (ControlCall.Look path) is = notice_keyed (control.notice_on c path) path c is
@@ -193,8 +181,7 @@ noted_keyed own other c = by (own == c.keys.own)
   where
     by : (b : Bool) → is_noted (Reply.Control (if b then ControlReply.Noted else ControlReply.KeysDiffer c.keys.own)) ≡ true
         → is_some (if b then controlling.after_event 0 false FallEvent.KeysHeard (controlling.after_peer_key other c) else c).keys.peer ≡ true
-    by true noted = refl
-    by false noted = absurd (false≢true noted)
+    by = elim [ true ↦ λ noted. refl | false ↦ λ noted. absurd (false≢true noted) ]
 
 -- it announces an address once it is confirmed
 pub announces_confirmed : (T : Type 0) (c : Control) (path : ℕ) → (c.fall.confirmed ≡ true → T) → IfSome (announced_in (control.notice_on c path)) (λ id. T)
@@ -208,10 +195,6 @@ announces_confirmed T c path holds = by (control.resets c path) (control.carries
     addresses None (Some id) is = tt
     addresses None None is = tt
 
-    none : (withdrawn : Option ℕ) → IfSome (announced_in (control.address_notice None withdrawn)) (λ id. T)
-    none (Some id) = tt
-    none None = tt
-
     by : (resets carries confirmed : Bool) → c.fall.confirmed ≡ confirmed
         → IfSome (announced_in (if resets then Notice.Reset
         else (if carries then Notice.Carrier (peer_or_zero c.keys.peer)
@@ -219,7 +202,7 @@ announces_confirmed T c path holds = by (control.resets c path) (control.carries
     by true carries confirmed is = tt
     by false true confirmed is = tt
     by false false true is = addresses (if is_path (lowest_living c.paths) path then lowest c.addresses.due else None) withdrawn (holds is)
-    by false false false is = none withdrawn
+    by false false false is = elim withdrawn as (λ withdrawn. IfSome (announced_in (control.address_notice None withdrawn)) (λ id. T)) [ Some id ↦ tt | None ↦ tt ]
 
 -- ---- what it answers
 
@@ -263,12 +246,9 @@ fast_untold test stopped other key c =
 address_untold : (test : Reply → Bool) → test (Reply.Control ControlReply.Echo) ≡ false → test (Reply.Control ControlReply.Known) ≡ false
     → test (Reply.Control ControlReply.BadHmac) ≡ false → (id : ℕ) (address : Address) (port hmac : ℕ) (c : Control)
     → test (Reply.Control (control.address_reply id address port hmac c)) ≡ false
-address_untold test echo known bad id address port hmac c = by (heard_reply is_same id address (control.is_right id address port hmac c) c.addresses)
-  where
-    by : (said : AddressHeard) → test (Reply.Control (control.told_heard said)) ≡ false
-    by AddressHeard.Echo = echo
-    by AddressHeard.Known = known
-    by AddressHeard.BadHmac = bad
+address_untold test echo known bad id address port hmac c =
+    elim (heard_reply is_same id address (control.is_right id address port hmac c) c.addresses) as (λ said. test (Reply.Control (control.told_heard said)) ≡ false)
+    [ AddressHeard.Echo ↦ echo | AddressHeard.Known ↦ known | AddressHeard.BadHmac ↦ bad ]
 
 module _ (k : Secrets) (right : Bool) (w : Side → Type 0) (did : Deed → Side → Type 0) (s : Side) (c : Control) (h : BookIs (drawn_key k right s) (drawn_key k right (peer s)) (KeysFor k right w did s) c) where
   pub key_untold : (call : ControlCall) → AskIs k right w did (Ask.Control s call) → tells_other_key (Reply.Control (control.reply_to c call)) ≡ false
@@ -307,8 +287,7 @@ module _ (k : Secrets) (right : Bool) (w : Side → Type 0) (did : Deed → Side
   right_told id address false is = absurd (false≢true is)
 
   peer_known : (o : Option ℕ) → is_some o ≡ true → IfSome o (λ key. key ≡ drawn_key k right (peer s)) → o ≡ Some (drawn_key k right (peer s))
-  peer_known None some is = absurd (false≢true some)
-  peer_known (Some key) some is = ap (λ n. Some n) is
+  peer_known = elim [ None ↦ λ some is. absurd (false≢true some) | Some key ↦ λ some is. ap (λ n. Some n) is ]
 
   pub address_right : right ≡ true → (did Deed.Keyed s → is_some c.keys.peer ≡ true) → (call : ControlCall) → AskIs k right w did (Ask.Control s call) → tells_bad_address (Reply.Control (control.reply_to c call)) ≡ false
   address_right sure keyed (ControlCall.Look path) is = refl

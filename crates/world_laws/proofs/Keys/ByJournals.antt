@@ -25,34 +25,24 @@ use Rattle.world_laws.proofs.Falls.WhereASideStands.{row_falls}
 -- one that has such an element has it for ever
 any_more : {X : Type 0} (test : X → Bool) (xs ys : List X) → list_any test xs ≡ true → list_any test (xs ++ ys) ≡ true
 any_more test [] ys is = absurd (false≢true is)
-any_more test (x ∷ xs) ys is = by (test x) is (any_more test xs ys)
-  where
-    by : (b : Bool) → b || list_any test xs ≡ true → (list_any test xs ≡ true → list_any test (xs ++ ys) ≡ true) → b || list_any test (xs ++ ys) ≡ true
-    by true is rest = refl
-    by false is rest = rest is
+any_more test (x ∷ xs) ys is = (elim (test x) as (λ b. b || list_any test xs ≡ true → (list_any test xs ≡ true → list_any test (xs ++ ys) ≡ true) → b || list_any test (xs ++ ys) ≡ true)
+    [ true ↦ λ is rest. refl | false ↦ λ is rest. rest is ]) is (any_more test xs ys)
 
 -- so has one whose last element is such
 any_last : {X : Type 0} (test : X → Bool) (xs : List X) (y : X) → test y ≡ true → list_any test (xs ++ y ∷ []) ≡ true
 any_last test [] y is = ap (λ b. b || false) is
-any_last test (x ∷ xs) y is = by (test x) (any_last test xs y is)
-  where
-    by : (b : Bool) → list_any test (xs ++ y ∷ []) ≡ true → b || list_any test (xs ++ y ∷ []) ≡ true
-    by true rest = refl
-    by false rest = rest
+any_last test (x ∷ xs) y is = (elim (test x) as (λ b. list_any test (xs ++ y ∷ []) ≡ true → b || list_any test (xs ++ y ∷ []) ≡ true)
+    [ true ↦ λ rest. refl | false ↦ λ rest. rest ]) (any_last test xs y is)
 
 -- and no other
 any_pushed : {X : Type 0} (P : Type 0) (test : X → Bool) (xs : List X) (y : X) → list_any test (xs ++ y ∷ []) ≡ true → (list_any test xs ≡ true → P) → (test y ≡ true → P) → P
-any_pushed P test [] y is old new = by (test y) is new
-  where
-    by : (b : Bool) → b || false ≡ true → (b ≡ true → P) → P
-    by true is new = new refl
-    by false is new = absurd (false≢true is)
-any_pushed P test (x ∷ xs) y is old new = by (test x) is old (any_pushed P test xs y)
-  where
-    by : (b : Bool) → b || list_any test (xs ++ y ∷ []) ≡ true → (b || list_any test xs ≡ true → P)
-        → (list_any test (xs ++ y ∷ []) ≡ true → (list_any test xs ≡ true → P) → (test y ≡ true → P) → P) → P
-    by true is old rest = old refl
-    by false is old rest = rest is old new
+any_pushed P test [] y is old new = (elim (test y) as (λ b. b || false ≡ true → (b ≡ true → P) → P)
+    [ true ↦ λ is new. new refl | false ↦ λ is new. absurd (false≢true is) ]) is new
+any_pushed P test (x ∷ xs) y is old new =
+    (elim (test x) as (λ b. b || list_any test (xs ++ y ∷ []) ≡ true → (b || list_any test xs ≡ true → P) → (list_any test (xs ++ y ∷ []) ≡ true → (list_any test xs ≡ true → P) → (test y ≡ true → P) → P) → P) [
+      | true ↦ λ is old rest. old refl
+      | false ↦ λ is old rest. rest is old new
+    ]) is old (any_pushed P test xs y)
 
 -- ---- the control book
 
@@ -81,11 +71,8 @@ if_carries P true c d is same was = was (sym (ap is_some same) ∙ is)
 if_carries P false c d is same was = was is
 
 call_carries : (P : Type 0) (c : Control) (call : ControlCall) → is_some (control.after c call).notices.carrier ≡ true → (is_some c.notices.carrier ≡ true → P) → (call ≡ ControlCall.FastClose → P) → P
-call_carries P c (ControlCall.Look path) is was closes = by (controlling.notice_on c path) is
-  where
-    by : (n : Notice) → is_some (control.after_notice n path c).notices.carrier ≡ true → P
-    by (Notice.Withdraw id) is = was is
-    by _ is = was is
+call_carries P c (ControlCall.Look path) is was closes = (elim (controlling.notice_on c path) as (λ n. is_some (control.after_notice n path c).notices.carrier ≡ true → P)
+    [ Notice.Withdraw id ↦ λ is. was is | _ ↦ λ is. was is ]) is
 call_carries P c (ControlCall.PeerKey key) is was closes = was is
 call_carries P c (ControlCall.Keys own other) is was closes = if_carries P (own == c.keys.own) c _ is refl was
 call_carries P c (ControlCall.Fell path event) is was closes = was is
@@ -119,76 +106,42 @@ stopped_accepts key _ is = absurd (false≢true is)
 
 -- it is aborted by the call that says so alone
 call_aborts : (P : Type 0) (b : Arriving) (call : ReassemblyCall) → (after_call b call).aborted ≡ Some true → (b.aborted ≡ Some true → P) → (call ≡ ReassemblyCall.Abort true → P) → P
-call_aborts P b (ReassemblyCall.Place at bytes) is was aborts = by (is_taken at bytes b) is
-  where
-    by : (c : Bool) → (if c then record b { places = places_after at bytes b } else b).aborted ≡ Some true → P
-    by true is = was is
-    by false is = was is
-call_aborts P b (ReassemblyCall.Fin at) is was aborts = by (is_some (fin_clash b.known_end at b)) is
-  where
-    by : (c : Bool) → (if c then b else record b { known_end = Some at }).aborted ≡ Some true → P
-    by true is = was is
-    by false is = was is
-call_aborts P b (ReassemblyCall.Read max) is was aborts = by (is_some b.aborted) is
-  where
-    by : (c : Bool) → (if c then b else after_reading max b).aborted ≡ Some true → P
-    by true is = was is
-    by false is = was is
+call_aborts P b (ReassemblyCall.Place at bytes) is was aborts = (elim (is_taken at bytes b) as (λ c. (if c then record b { places = places_after at bytes b } else b).aborted ≡ Some true → P)
+    [ true ↦ λ is. was is | false ↦ λ is. was is ]) is
+call_aborts P b (ReassemblyCall.Fin at) is was aborts = (elim (is_some (fin_clash b.known_end at b)) as (λ c. (if c then b else record b { known_end = Some at }).aborted ≡ Some true → P)
+    [ true ↦ λ is. was is | false ↦ λ is. was is ]) is
+call_aborts P b (ReassemblyCall.Read max) is was aborts = (elim (is_some b.aborted) as (λ c. (if c then b else after_reading max b).aborted ≡ Some true → P)
+    [ true ↦ λ is. was is | false ↦ λ is. was is ]) is
 call_aborts P b ReassemblyCall.AckOut is was aborts = was is
-call_aborts P b (ReassemblyCall.Abort by_peer) is was aborts = by b.aborted is was
+call_aborts P b (ReassemblyCall.Abort by_peer) is was aborts = (elim b.aborted as (λ o. first_abort o by_peer ≡ Some true → (o ≡ Some true → P) → P)
+    [ None ↦ λ is was. aborts (now by_peer is) | Some first ↦ λ is was. was is ]) is was
   where
     now : (c : Bool) → Some c ≡ Some true → ReassemblyCall.Abort c ≡ ReassemblyCall.Abort true
-    now true is = refl
-    now false is = cc
-
-    by : (o : Option Bool) → first_abort o by_peer ≡ Some true → (o ≡ Some true → P) → P
-    by None is was = aborts (now by_peer is)
-    by (Some first) is was = was is
+    now = elim [ true ↦ λ is. refl | false ↦ λ is. cc ]
 
 -- a read that tells of the peer's abort was answered by a book that was aborted so
 told_so : (six : SixBooks) (a : AppState) (d : AppDuty) → tells_abort (reply_of six (app_ask d a)) ≡ true → (reassembly_of a.side six).aborted ≡ Some true
-told_so six a AppDuty.FastClose is = by a.side is
-  where
-    by : (s : Side) → tells_abort (reply_of six (app_ask AppDuty.FastClose (record a { side = s }))) ≡ true → (reassembly_of s six).aborted ≡ Some true
-    by A is = absurd (false≢true is)
-    by B is = absurd (false≢true is)
-told_so six a AppDuty.AbortSend is = by a.side is
-  where
-    by : (s : Side) → tells_abort (reply_of six (app_ask AppDuty.AbortSend (record a { side = s }))) ≡ true → (reassembly_of s six).aborted ≡ Some true
-    by A is = absurd (false≢true is)
-    by B is = absurd (false≢true is)
-told_so six a AppDuty.AbortReceive is = by a.side is
-  where
-    by : (s : Side) → tells_abort (reply_of six (app_ask AppDuty.AbortReceive (record a { side = s }))) ≡ true → (reassembly_of s six).aborted ≡ Some true
-    by A is = absurd (false≢true is)
-    by B is = absurd (false≢true is)
-told_so six a AppDuty.Write is = by a.side is
-  where
-    by : (s : Side) → tells_abort (reply_of six (app_ask AppDuty.Write (record a { side = s }))) ≡ true → (reassembly_of s six).aborted ≡ Some true
-    by A is = absurd (false≢true is)
-    by B is = absurd (false≢true is)
-told_so six a AppDuty.Close is = by a.side is
-  where
-    by : (s : Side) → tells_abort (reply_of six (app_ask AppDuty.Close (record a { side = s }))) ≡ true → (reassembly_of s six).aborted ≡ Some true
-    by A is = absurd (false≢true is)
-    by B is = absurd (false≢true is)
-told_so six a AppDuty.Read is = by a.side is
+told_so six a AppDuty.FastClose is = (elim a.side as (λ s. tells_abort (reply_of six (app_ask AppDuty.FastClose (record a { side = s }))) ≡ true → (reassembly_of s six).aborted ≡ Some true)
+    [ A ↦ λ is. absurd (false≢true is) | B ↦ λ is. absurd (false≢true is) ]) is
+told_so six a AppDuty.AbortSend is = (elim a.side as (λ s. tells_abort (reply_of six (app_ask AppDuty.AbortSend (record a { side = s }))) ≡ true → (reassembly_of s six).aborted ≡ Some true)
+    [ A ↦ λ is. absurd (false≢true is) | B ↦ λ is. absurd (false≢true is) ]) is
+told_so six a AppDuty.AbortReceive is = (elim a.side as (λ s. tells_abort (reply_of six (app_ask AppDuty.AbortReceive (record a { side = s }))) ≡ true → (reassembly_of s six).aborted ≡ Some true)
+    [ A ↦ λ is. absurd (false≢true is) | B ↦ λ is. absurd (false≢true is) ]) is
+told_so six a AppDuty.Write is = (elim a.side as (λ s. tells_abort (reply_of six (app_ask AppDuty.Write (record a { side = s }))) ≡ true → (reassembly_of s six).aborted ≡ Some true)
+    [ A ↦ λ is. absurd (false≢true is) | B ↦ λ is. absurd (false≢true is) ]) is
+told_so six a AppDuty.Close is = (elim a.side as (λ s. tells_abort (reply_of six (app_ask AppDuty.Close (record a { side = s }))) ≡ true → (reassembly_of s six).aborted ≡ Some true)
+    [ A ↦ λ is. absurd (false≢true is) | B ↦ λ is. absurd (false≢true is) ]) is
+told_so six a AppDuty.Read is = (elim a.side as (λ s. tells_abort (reply_of six (app_ask AppDuty.Read (record a { side = s }))) ≡ true → (reassembly_of s six).aborted ≡ Some true)
+    [ A ↦ λ is. told six.reassembly_a.aborted six.reassembly_a is | B ↦ λ is. told six.reassembly_b.aborted six.reassembly_b is ]) is
   where
     unread : (bytes : List ℕ) (b : Arriving) → tells_abort (Reply.Reassembly (bytes_reply bytes b)) ≡ false
-    unread [] b = at (is_end b.known_end b.read)
-      where
-        at : (ends : Bool) → tells_abort (Reply.Reassembly (if ends then ReassemblyReply.End else ReassemblyReply.NoneYet)) ≡ false
-        at true = refl
-        at false = refl
+    unread [] b = elim (is_end b.known_end b.read) as (λ ends. tells_abort (Reply.Reassembly (if ends then ReassemblyReply.End else ReassemblyReply.NoneYet)) ≡ false)
+        [ true ↦ refl | false ↦ refl ]
     unread (byte ∷ bytes) b = refl
 
     told : (o : Option Bool) (b : Arriving) → tells_abort (Reply.Reassembly (reading o 65536 b)) ≡ true → o ≡ Some true
     told (Some by_peer) b is = ap (λ c. Some c) is
     told None b is = absurd (false≢true (sym (unread (take 65536 (filled b.places)) b) ∙ is))
-
-    by : (s : Side) → tells_abort (reply_of six (app_ask AppDuty.Read (record a { side = s }))) ≡ true → (reassembly_of s six).aborted ≡ Some true
-    by A is = told six.reassembly_a.aborted six.reassembly_a is
-    by B is = told six.reassembly_b.aborted six.reassembly_b is
 told_so six a AppDuty.End is = absurd (false≢true is)
 
 -- ---- worlds
@@ -283,16 +236,10 @@ module _ (start : Start) where
     carries_on (Ask.Control A call) same B is = rises Deed.Closed B (h.carries B is)
     carries_on (Ask.Control B call) same A is = rises Deed.Closed A (h.carries A is)
     carries_on (Ask.Control B call) same B is = call_carries (Facts u Deed.Closed B) six.control_b call is (λ was. rises Deed.Closed B (h.carries B was)) (λ closes. g.closes B (same ∙ ap (λ c. Ask.Control B c) closes))
-    carries_on (Ask.Send A call) same s is = kept s is
-      where
-        kept : (s : Side) → is_some (control_of s (after_ask (Ask.Send A call) six)).notices.carrier ≡ true → Facts u Deed.Closed s
-        kept A is = rises Deed.Closed A (h.carries A is)
-        kept B is = rises Deed.Closed B (h.carries B is)
-    carries_on (Ask.Send B call) same s is = kept s is
-      where
-        kept : (s : Side) → is_some (control_of s (after_ask (Ask.Send B call) six)).notices.carrier ≡ true → Facts u Deed.Closed s
-        kept A is = rises Deed.Closed A (h.carries A is)
-        kept B is = rises Deed.Closed B (h.carries B is)
+    carries_on (Ask.Send A call) same s is = (elim s as (λ s. is_some (control_of s (after_ask (Ask.Send A call) six)).notices.carrier ≡ true → Facts u Deed.Closed s)
+        [ A ↦ λ is. rises Deed.Closed A (h.carries A is) | B ↦ λ is. rises Deed.Closed B (h.carries B is) ]) is
+    carries_on (Ask.Send B call) same s is = (elim s as (λ s. is_some (control_of s (after_ask (Ask.Send B call) six)).notices.carrier ≡ true → Facts u Deed.Closed s)
+        [ A ↦ λ is. rises Deed.Closed A (h.carries A is) | B ↦ λ is. rises Deed.Closed B (h.carries B is) ]) is
     carries_on (Ask.Reassembly other call) same A is = rises Deed.Closed A (h.carries A is)
     carries_on (Ask.Reassembly other call) same B is = rises Deed.Closed B (h.carries B is)
     carries_on (Ask.Local step) same s is = rises Deed.Closed s (h.carries s is)
@@ -323,8 +270,7 @@ module _ (start : Start) where
   -- ---- a step of an application
 
   asks_closes : (s : Side) (x : Ask) → x ≡ Ask.Control s ControlCall.FastClose → asks_fast_close s x ≡ true
-  asks_closes A x same = ap (asks_fast_close A) same
-  asks_closes B x same = ap (asks_fast_close B) same
+  asks_closes = elim [ A ↦ λ x same. ap (asks_fast_close A) same | B ↦ λ x same. ap (asks_fast_close B) same ]
 
   other_closes : (P : Type 0) (s own : Side) (d : AppDuty) (a : AppState) → a.side ≡ own → app_ask d a ≡ Ask.Control s ControlCall.FastClose → (s ≡ own → P) → P
   other_closes P s own AppDuty.FastClose a side same is = is (sym (ap side_asked same) ∙ side)
@@ -446,8 +392,7 @@ module _ (start : Start) where
       so = path_asks start.key_a start.key_b false (Facts t) (books_in t.books) d ds w.path is knows
 
       closed : (s : Side) → Facts t Deed.Closed s → Facts u Deed.Closed s
-      closed A is = is
-      closed B is = is
+      closed = elim [ A ↦ λ is. is | B ↦ λ is. is ]
 
       stopped : (s : Side) → Facts t Deed.Stopped s → Facts u Deed.Stopped s
       stopped s is = accepts_more x w.at.pass t.books s is
@@ -494,8 +439,7 @@ module _ (start : Start) where
       aborted s is = both s (h.aborted s is)
 
       told : (s : Side) → was_told tells_abort (seat_of s (next_cast t)).list ≡ true → Caused (next_cast t) s
-      told A is = both A (h.told A is)
-      told B is = both B (h.told B is)
+      told = elim [ A ↦ λ is. both A (h.told A is) | B ↦ λ is. both B (h.told B is) ]
 
       each : (i : ℕ) (x : Walker Carried) → slice_get (next_cast t).paths i ≡ Some x → Knows (next_cast t) x.path
       each i x there =
@@ -518,16 +462,13 @@ module _ (start : Start) where
   }
     where
       carries : (s : Side) → is_some (control_of s (books_in (first_cast {C = Carried} start).books)).notices.carrier ≡ true → Facts (first_cast start) Deed.Closed s
-      carries A is = absurd (false≢true is)
-      carries B is = absurd (false≢true is)
+      carries = elim [ A ↦ λ is. absurd (false≢true is) | B ↦ λ is. absurd (false≢true is) ]
 
       aborted : (s : Side) → (reassembly_of s (books_in (first_cast {C = Carried} start).books)).aborted ≡ Some true → Caused (first_cast start) s
-      aborted A is = cc
-      aborted B is = cc
+      aborted = elim [ A ↦ λ is. cc | B ↦ λ is. cc ]
 
       told : (s : Side) → was_told tells_abort (seat_of s (first_cast start)).list ≡ true → Caused (first_cast start) s
-      told A is = absurd (false≢true is)
-      told B is = absurd (false≢true is)
+      told = elim [ A ↦ λ is. absurd (false≢true is) | B ↦ λ is. absurd (false≢true is) ]
 
   pub run_causes : (turns : List Turn) → Has start Causes (world_run values turns (opened_world start))
   run_causes turns =

@@ -56,12 +56,10 @@ module _ (k : Secrets) (right : Bool) (w : Side → Type 0) (did : Deed → Side
   }
     where
       by : (c : Bool) → m.clear ≡ c → c || b ≡ true → w B
-      by true is now = h.cleared refl is
-      by false is now = half now
+      by = elim [ true ↦ λ is now. h.cleared refl is | false ↦ λ is now. half now ]
 
       stay : (s : Side) → Needs k right s m → Needs k right s (record m { clear = m.clear || b })
-      stay A has = has
-      stay B has = has
+      stay = elim [ A ↦ λ has. has | B ↦ λ has. has ]
 
   told_join : (s : Side) (items : List Heard) (m : Meaning) (state : EndPhase) (modes : Modes) → Every (ItemIs k right w did true s) items → (is_lively m ≡ true → Knows k right w did s modes)
       → (is_half_open state ≡ true → w B) → ModesAre k right w did true s modes → JoinTold s modes (cleared_in m state (answered_in m items modes))
@@ -120,16 +118,12 @@ module _ (k : Secrets) (right : Bool) (w : Side → Type 0) (did : Deed → Side
 
   -- what is accepted answers the join
   accepts_answer : (rst : Bool) (items : List Heard) (m : Meaning) (e : PathEnd) (acknowledged : ℕ) → taken_as (join_judged rst items m e) ≡ Meaning.Accepts acknowledged → is_some (join_answer items e.modes) ≡ true
-  accepts_answer rst items Meaning.Opens e acknowledged is = by (is_some (join_asked items)) is
-    where
-      by : (b : Bool) → taken_as (if b then Judged.Asks else Judged.Lacks) ≡ Meaning.Accepts acknowledged → is_some (join_answer items e.modes) ≡ true
-      by true is = cc
-      by false is = cc
-  accepts_answer rst items (Meaning.Accepts at) e acknowledged is = by (is_some (join_answer items e.modes)) is
-    where
-      by : (b : Bool) → taken_as (if b then Judged.As (Meaning.Accepts at) else Judged.Forged) ≡ Meaning.Accepts acknowledged → b ≡ true
-      by true is = refl
-      by false is = cc
+  accepts_answer rst items Meaning.Opens e acknowledged is =
+      (elim (is_some (join_asked items)) as (λ b. taken_as (if b then Judged.Asks else Judged.Lacks) ≡ Meaning.Accepts acknowledged → is_some (join_answer items e.modes) ≡ true)
+      [ true ↦ λ is. cc | false ↦ λ is. cc ]) is
+  accepts_answer rst items (Meaning.Accepts at) e acknowledged is =
+      (elim (is_some (join_answer items e.modes)) as (λ b. taken_as (if b then Judged.As (Meaning.Accepts at) else Judged.Forged) ≡ Meaning.Accepts acknowledged → b ≡ true)
+      [ true ↦ λ is. refl | false ↦ λ is. cc ]) is
   accepts_answer rst items Meaning.RepeatedSyn e acknowledged is = cc
   accepts_answer rst items (Meaning.Taken pos at) e acknowledged is = by (is_passed_over rst items e) (is_forged items e) is
     where
@@ -137,41 +131,41 @@ module _ (k : Secrets) (right : Bool) (w : Side → Type 0) (did : Deed → Side
       by true c is = cc
       by false true is = cc
       by false false is = cc
-  accepts_answer rst items Meaning.Ignored e acknowledged is = silent (is_passed_over rst items e) is
-    where
-      silent : (b : Bool) → taken_as (if b then Judged.As Meaning.Ignored else Judged.As Meaning.Ignored) ≡ Meaning.Accepts acknowledged → is_some (join_answer items e.modes) ≡ true
-      silent true is = cc
-      silent false is = cc
-  accepts_answer rst items Meaning.Unwanted e acknowledged is = silent (is_passed_over rst items e) is
-    where
-      silent : (b : Bool) → taken_as (if b then Judged.As Meaning.Ignored else Judged.As Meaning.Unwanted) ≡ Meaning.Accepts acknowledged → is_some (join_answer items e.modes) ≡ true
-      silent true is = cc
-      silent false is = cc
-  accepts_answer rst items Meaning.Outside e acknowledged is = silent (is_passed_over rst items e) is
-    where
-      silent : (b : Bool) → taken_as (if b then Judged.As Meaning.Ignored else Judged.As Meaning.Outside) ≡ Meaning.Accepts acknowledged → is_some (join_answer items e.modes) ≡ true
-      silent true is = cc
-      silent false is = cc
-  accepts_answer rst items Meaning.Kills e acknowledged is = silent (is_passed_over rst items e) is
-    where
-      silent : (b : Bool) → taken_as (if b then Judged.As Meaning.Ignored else Judged.As Meaning.Kills) ≡ Meaning.Accepts acknowledged → is_some (join_answer items e.modes) ≡ true
-      silent true is = cc
-      silent false is = cc
-  accepts_answer rst items Meaning.Challenged e acknowledged is = silent (is_passed_over rst items e) is
-    where
-      silent : (b : Bool) → taken_as (if b then Judged.As Meaning.Ignored else Judged.As Meaning.Challenged) ≡ Meaning.Accepts acknowledged → is_some (join_answer items e.modes) ≡ true
-      silent true is = cc
-      silent false is = cc
-  accepts_answer rst items Meaning.Unacknowledging e acknowledged is = silent (is_passed_over rst items e) is
-    where
-      silent : (b : Bool) → taken_as (if b then Judged.As Meaning.Ignored else Judged.As Meaning.Unacknowledging) ≡ Meaning.Accepts acknowledged → is_some (join_answer items e.modes) ≡ true
-      silent true is = cc
-      silent false is = cc
-  accepts_answer rst items Meaning.Ahead e acknowledged is = silent (is_passed_over rst items e) is
-    where
-      silent : (b : Bool) → taken_as (if b then Judged.As Meaning.Ignored else Judged.As Meaning.Ahead) ≡ Meaning.Accepts acknowledged → is_some (join_answer items e.modes) ≡ true
-      silent true is = cc
-      silent false is = cc
+  accepts_answer rst items Meaning.Ignored e acknowledged is =
+      (elim (is_passed_over rst items e) as (λ b. taken_as (if b then Judged.As Meaning.Ignored else Judged.As Meaning.Ignored) ≡ Meaning.Accepts acknowledged → is_some (join_answer items e.modes) ≡ true) [
+        | true ↦ λ is. cc
+        | false ↦ λ is. cc
+      ]) is
+  accepts_answer rst items Meaning.Unwanted e acknowledged is =
+      (elim (is_passed_over rst items e) as (λ b. taken_as (if b then Judged.As Meaning.Ignored else Judged.As Meaning.Unwanted) ≡ Meaning.Accepts acknowledged → is_some (join_answer items e.modes) ≡ true) [
+        | true ↦ λ is. cc
+        | false ↦ λ is. cc
+      ]) is
+  accepts_answer rst items Meaning.Outside e acknowledged is =
+      (elim (is_passed_over rst items e) as (λ b. taken_as (if b then Judged.As Meaning.Ignored else Judged.As Meaning.Outside) ≡ Meaning.Accepts acknowledged → is_some (join_answer items e.modes) ≡ true) [
+        | true ↦ λ is. cc
+        | false ↦ λ is. cc
+      ]) is
+  accepts_answer rst items Meaning.Kills e acknowledged is =
+      (elim (is_passed_over rst items e) as (λ b. taken_as (if b then Judged.As Meaning.Ignored else Judged.As Meaning.Kills) ≡ Meaning.Accepts acknowledged → is_some (join_answer items e.modes) ≡ true) [
+        | true ↦ λ is. cc
+        | false ↦ λ is. cc
+      ]) is
+  accepts_answer rst items Meaning.Challenged e acknowledged is =
+      (elim (is_passed_over rst items e) as (λ b. taken_as (if b then Judged.As Meaning.Ignored else Judged.As Meaning.Challenged) ≡ Meaning.Accepts acknowledged → is_some (join_answer items e.modes) ≡ true) [
+        | true ↦ λ is. cc
+        | false ↦ λ is. cc
+      ]) is
+  accepts_answer rst items Meaning.Unacknowledging e acknowledged is =
+      (elim (is_passed_over rst items e) as (λ b. taken_as (if b then Judged.As Meaning.Ignored else Judged.As Meaning.Unacknowledging) ≡ Meaning.Accepts acknowledged → is_some (join_answer items e.modes) ≡ true) [
+        | true ↦ λ is. cc
+        | false ↦ λ is. cc
+      ]) is
+  accepts_answer rst items Meaning.Ahead e acknowledged is =
+      (elim (is_passed_over rst items e) as (λ b. taken_as (if b then Judged.As Meaning.Ignored else Judged.As Meaning.Ahead) ≡ Meaning.Accepts acknowledged → is_some (join_answer items e.modes) ≡ true) [
+        | true ↦ λ is. cc
+        | false ↦ λ is. cc
+      ]) is
 
   -- what it makes due is said by an end that is up
   template_is : (s t : Side) (count : ℕ) (v : Judged) (tcp : EndState) → WakesNone (taken_as v) tcp → speaks (Voice.Says t) (template_judged true s count v) ≡ true → (t ≡ s) × (is_up tcp ≡ true)

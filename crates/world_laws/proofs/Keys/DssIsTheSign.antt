@@ -21,7 +21,6 @@ use Rattle.world_laws.proofs.Words.{after_check_failed, after_fell, fell_duties,
 use Rattle.world_laws.proofs.Words.{answered_fell, answered_peer_key, answered_opened, key_items, is_stopped_by, item_removed, address_items, item_at, if_so}
 use Rattle.path_segments.specs.declared.segment.PathOption.TheVariants.{FastClose}
 use Rattle.path_core.specs.declared.events.Event.{Event}
-use Rattle.path_core.specs.Emission.{Grant}
 use Rattle.world_laws.proofs.Writes.Ends.{item_so}
 use Rattle.world_laws.proofs.Falls.ClearStays.{maybe_end, passed_clear, answered_clear, Stays}
 use Rattle.world_laws.proofs.Falls.Verdicts.{fell_cases}
@@ -79,8 +78,7 @@ joins_led (JoinForm.Syn backup id token nonce) = tt
 joins_led (JoinForm.Third hmac) = tt
 
 keys_led : (keys : CapableKeys) → Led false (key_items A keys)
-keys_led (Sender sender) = (tt, tt)
-keys_led _ = tt
+keys_led = elim [ Sender sender ↦ (tt, tt) | _ ↦ tt ]
 
 address_led : (echo : Bool) (id : ℕ) (address : Address) (port hmac : Option ℕ) → Led false (address_items echo id address port hmac)
 address_led true id address port hmac = (tt, tt)
@@ -132,8 +130,7 @@ no_more zero (x ∷ items) none is = cc
 no_more (suc n) (x ∷ items) none is = (none.0, no_more n items none.1 is)
 
 nothing_before : (n : ℕ) → NoneBefore n []
-nothing_before zero = tt
-nothing_before (suc n) = tt
+nothing_before = elim [ zero ↦ tt | suc n ↦ tt ]
 
 -- ---- what is to be done
 
@@ -170,8 +167,7 @@ died_follows false true = tt
 died_follows false false = tt
 
 fired_follows : (sixth : Bool) (s : Side) → Follows 0 (template_fired sixth s)
-fired_follows true s = tt
-fired_follows false s = tt
+fired_follows = elim [ true ↦ λ s. tt | false ↦ λ s. tt ]
 
 -- ---- an end keeps what its copy said, or forgets it
 
@@ -185,12 +181,10 @@ forgets : (e f : PathEnd) → f.treated.items ≡ [] → Recalls e f
 forgets e f none = record { kept = inr none }
 
 either_recalls : (b : Bool) (e f g : PathEnd) → Recalls e f → Recalls e g → Recalls e (if b then f else g)
-either_recalls true e f g x y = x
-either_recalls false e f g x y = y
+either_recalls = elim [ true ↦ λ e f g x y. x | false ↦ λ e f g x y. y ]
 
 opened_recalls : (keys : Option KeyPair) (e : PathEnd) → Recalls e (opened_by keys e)
-opened_recalls None e = recalls_all e _ refl
-opened_recalls (Some keys) e = recalls_all e _ refl
+opened_recalls = elim [ None ↦ λ e. recalls_all e _ refl | Some keys ↦ λ e. recalls_all e _ refl ]
 
 recalled_led : (e f : PathEnd) → Recalls e f → Led false e.treated.items → Led false f.treated.items
 recalled_led e f r h = ⊎_elim (λ same. subst (Led false) (sym same) h) (λ none. subst (Led false) (sym none) tt) r.kept
@@ -331,8 +325,7 @@ module _ {C : Type 0} where
     where
       by : (b : Bool) → stands d p ≡ b → (stands d p ≡ false → Leads (settled ds (passed d p)).agenda (settled ds (passed d p)))
           → Leads (if b then with_agenda (d ∷ ds) p else settled ds (passed d p)).agenda (if b then with_agenda (d ∷ ds) p else settled ds (passed d p))
-      by true is rest = agenda_leads (d ∷ ds) p h
-      by false is rest = rest is
+      by = elim [ true ↦ λ is rest. agenda_leads (d ∷ ds) p h | false ↦ λ is rest. rest is ]
 
   -- ---- events: what is to be done then begins anew
 
@@ -342,8 +335,7 @@ module _ {C : Type 0} where
     follows : Follows 0 q.agenda
 
   either_anew : (b : Bool) (p q r : PathState C) → Anew p q → Anew p r → Anew p (if b then q else r)
-  either_anew true p q r x y = x
-  either_anew false p q r x y = y
+  either_anew = elim [ true ↦ λ p q r x y. x | false ↦ λ p q r x y. y ]
 
   anew_leads : (p q : PathState C) → Anew p q → Leads q.agenda q
   anew_leads p q x = record { led = x.led; clear = inr (record { n = 0; none = inr tt; follows = x.follows }) }
@@ -389,8 +381,7 @@ module _ {C : Type 0} where
   -- ---- replies
 
   either_goes : (b : Bool) (d : Duty) (ds : List Duty) (p q r : PathState C) → Goes d ds p q q.agenda → Goes d ds p r r.agenda → Goes d ds p (if b then q else r) (if b then q else r).agenda
-  either_goes true d ds p q r x y = x
-  either_goes false d ds p q r x y = y
+  either_goes = elim [ true ↦ λ d ds p q r x y. x | false ↦ λ d ds p q r x y. y ]
 
   begun_goes : (r : Reply) (ds : List Duty) (p : PathState C) → let m = with_agenda ((Duty.Ask AskDuty.JoinAgain) ∷ ds) p in let q = join_begun r (Duty.Ask (AskDuty.Leave A) ∷ ds) ds m in Goes (Duty.Ask AskDuty.JoinAgain) ds m q q.agenda
   begun_goes r ds p = either_goes (is_never r) (Duty.Ask AskDuty.JoinAgain) ds (with_agenda ((Duty.Ask AskDuty.JoinAgain) ∷ ds) p) _ _
@@ -399,11 +390,11 @@ module _ {C : Type 0} where
   data_goes : (k : Codec C) (s : Side) (r : Reply) (ds : List Duty) (p : PathState C) (o : Option Record)
       → let m = with_agenda (Duty.Step (StepDuty.Data s) ∷ ds) p in let q = answered_data k s o r m in Goes (Duty.Step (StepDuty.Data s)) ds m q q.agenda
   data_goes k s r ds p (Some u) = record { recalls = side_recalls s _ (with_agenda (Duty.Step (StepDuty.Data s) ∷ ds) p) _ (recalls_all _ _ refl) refl; follows = λ n f. f }
-  data_goes k s r ds p None = by (grant_in r)
-    where
-      by : (o : Option Grant) → let m = with_agenda (Duty.Step (StepDuty.Data s) ∷ ds) p in let q = answered_grant s o r m in Goes (Duty.Step (StepDuty.Data s)) ds m q q.agenda
-      by (Some grant) = record { recalls = side_recalls s _ (with_agenda (Duty.Step (StepDuty.Data s) ∷ ds) p) _ (recalls_all _ _ refl) refl; follows = λ n f. f }
-      by None = record { recalls = side_recalls s _ (with_agenda (Duty.Step (StepDuty.Data s) ∷ ds) p) _ (recalls_all _ _ refl) refl; follows = λ n f. f }
+  data_goes k s r ds p None =
+      elim (grant_in r) as (λ o. let m = with_agenda (Duty.Step (StepDuty.Data s) ∷ ds) p in let q = answered_grant s o r m in Goes (Duty.Step (StepDuty.Data s)) ds m q q.agenda) [
+        | Some grant ↦ record { recalls = side_recalls s _ (with_agenda (Duty.Step (StepDuty.Data s) ∷ ds) p) _ (recalls_all _ _ refl) refl; follows = λ n f. f }
+        | None ↦ record { recalls = side_recalls s _ (with_agenda (Duty.Step (StepDuty.Data s) ∷ ds) p) _ (recalls_all _ _ refl) refl; follows = λ n f. f }
+      ]
 
   join_goes : (s : Side) (keys : Option KeyPair) (asked : Option JoinSyn) (r : Reply) (ds : List Duty) (p : PathState C)
       → let m = with_agenda (Duty.Ask (AskDuty.JoinHeard s) ∷ ds) p in let q = join_taken s keys asked r m in Goes (Duty.Ask (AskDuty.JoinHeard s)) ds m q q.agenda
@@ -636,11 +627,8 @@ module _ {C : Type 0} where
   LeadsWell p = Leads p.agenda p
 
   pub answers_lead : (k : Codec C) (r : Reply) (p : PathState C) → IsSettled p → LeadsWell p → LeadsWell (answers k p.agenda r p)
-  answers_lead k r p settled_path h = by p.agenda settled_path h
-    where
-      by : (ds : List Duty) → FirstStands ds (with_agenda ds p) → Leads ds (with_agenda ds p) → LeadsWell (answers k ds r (with_agenda ds p))
-      by [] is h = h
-      by (d ∷ ds) is h = answered_leads k d ds r p is h
+  answers_lead k r p settled_path h = (elim p.agenda as (λ ds. FirstStands ds (with_agenda ds p) → Leads ds (with_agenda ds p) → LeadsWell (answers k ds r (with_agenda ds p)))
+      [ [] ↦ λ is h. h | d ∷ ds ↦ λ is h. answered_leads k d ds r p is h ]) settled_path h
 
   pub takes_leads : (k : Codec C) (r : Reply) (p : PathState C) → IsSettled p → LeadsWell p → LeadsWell (takes k r p)
   takes_leads k r p settled_path h = let q : PathState C = answers k p.agenda r p in settled_leads q.agenda q (answers_lead k r p settled_path h)

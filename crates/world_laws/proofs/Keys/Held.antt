@@ -21,27 +21,18 @@ pub look_leaves : (r : Reply) (m : Modes) → known_in (modes_told r m) ≡ know
 look_leaves (Reply.Send reply) m = refl
 look_leaves (Reply.Reassembly reply) m = refl
 look_leaves Reply.Done m = refl
-look_leaves (Reply.Control reply) m = by reply
-  where
-    by : (reply : ControlReply) → known_in (modes_told (Reply.Control reply) m) ≡ known_in m
-    by (ControlReply.Standing mode standby sole notice) = refl
-    by ControlReply.Noted = refl
-    by _ = refl
+look_leaves (Reply.Control reply) m = elim reply as (λ reply. known_in (modes_told (Reply.Control reply) m) ≡ known_in m)
+    [ ControlReply.Standing mode standby sole notice ↦ refl | ControlReply.Noted ↦ refl | _ ↦ refl ]
 
 pub verdict_leaves : (r : Reply) (m : Modes) → known_in (mode_in r m) ≡ known_in m
 verdict_leaves (Reply.Send reply) m = refl
 verdict_leaves (Reply.Reassembly reply) m = refl
 verdict_leaves Reply.Done m = refl
-verdict_leaves (Reply.Control reply) m = by reply
+verdict_leaves (Reply.Control reply) m = elim reply as (λ reply. known_in (mode_in (Reply.Control reply) m) ≡ known_in m)
+    [ ControlReply.Verdict v ↦ by_verdict v | ControlReply.Noted ↦ refl | _ ↦ refl ]
   where
     by_verdict : (v : Verdict) → known_in (mode_in (Reply.Control (ControlReply.Verdict v)) m) ≡ known_in m
-    by_verdict (Verdict.Went mode) = refl
-    by_verdict _ = refl
-
-    by : (reply : ControlReply) → known_in (mode_in (Reply.Control reply) m) ≡ known_in m
-    by (ControlReply.Verdict v) = by_verdict v
-    by ControlReply.Noted = refl
-    by _ = refl
+    by_verdict = elim [ Verdict.Went mode ↦ refl | _ ↦ refl ]
 
 pub fell_leaves : (event : FallEvent) (r : Reply) (m : Modes) → known_in (fell_in event r m) ≡ known_in m
 fell_leaves FallEvent.PlainData r m = verdict_leaves r m
@@ -65,8 +56,7 @@ in_removed (y ∷ xs) (suc i) (suc k) x is = let rest = in_removed xs i k x is i
 
 -- an end that opens is open
 pub opening_open : (state : EndPhase) → is_opening state ≡ true → is_closed_to_segments state ≡ false
-opening_open EndPhase.SynSent is = refl
-opening_open _ is = absurd (false≢true is)
+opening_open = elim [ EndPhase.SynSent ↦ λ is. refl | _ ↦ λ is. absurd (false≢true is) ]
 
 -- an end that may finish is open
 pub finish_open : (state : EndPhase) → may_finish state ≡ true → is_closed_to_segments state ≡ false
@@ -76,8 +66,7 @@ finish_open EndPhase.Waiting is = absurd (false≢true is)
 finish_open _ is = absurd (false≢true is)
 
 pub not_closed : (b : Bool) → not b ≡ true → b ≡ false
-not_closed false is = refl
-not_closed true is = absurd (false≢true is)
+not_closed = elim [ false ↦ λ is. refl | true ↦ λ is. absurd (false≢true is) ]
 
 -- an event that a path tells: not both keys, and no end of the connection
 abbrev pub IsSign : FallEvent → Type 0
@@ -118,8 +107,7 @@ module _ (k : Secrets) (right : Bool) (w : Side → Type 0) (did : Deed → Side
     pub waits : is_waiting p.a.tcp.state ≡ true → is_joined p.profile ≡ true
 
   pub end_is : (s : Side) (p : PathState Carried) → PathIs p → EndIs k right w did (is_joined p.profile) s (end_at s p)
-  end_is A p h = h.a
-  end_is B p h = h.b
+  end_is = elim [ A ↦ λ p h. h.a | B ↦ λ p h. h.b ]
 
   -- ---- an end goes on
 
@@ -179,11 +167,10 @@ module _ (k : Secrets) (right : Bool) (w : Side → Type 0) (did : Deed → Side
   goes_is s e ds p own still fewer stays h = goes_by s e ds p own still (fewer_known s e ds p fewer stays h) h
 
   pub with_is : (s : Side) (e : PathEnd) (p : PathState Carried) → EndIs k right w did (is_joined p.profile) s e → Still s e p → Stays s e p → PathIs p → PathIs (with_end s e p)
-  with_is s e p own still stays h = by s (goes_is s e p.agenda p own still (λ x is. is) stays h)
-    where
-      by : (s : Side) → PathIs (goes_on s e p.agenda p) → PathIs (with_end s e p)
-      by A g = record { a = g.a; b = g.b; copies = g.copies; known = g.known; waits = g.waits }
-      by B g = record { a = g.a; b = g.b; copies = g.copies; known = g.known; waits = g.waits }
+  with_is s e p own still stays h = (elim s as (λ s. PathIs (goes_on s e p.agenda p) → PathIs (with_end s e p)) [
+    | A ↦ λ g. record { a = g.a; b = g.b; copies = g.copies; known = g.known; waits = g.waits }
+    | B ↦ λ g. record { a = g.a; b = g.b; copies = g.copies; known = g.known; waits = g.waits }
+  ]) (goes_is s e p.agenda p own still (λ x is. is) stays h)
 
   pub agenda_is : (ds : List Duty) (p : PathState Carried) → Fewer p ds → PathIs p → PathIs (with_agenda ds p)
   agenda_is ds p fewer h = record { a = h.a; b = h.b; copies = h.copies; known = by; waits = h.waits }
@@ -201,11 +188,8 @@ module _ (k : Secrets) (right : Bool) (w : Side → Type 0) (did : Deed → Side
     where
       by : (ds : List Duty) → ((x : Voice) → speaks x ds ≡ true → VoiceIs p x) → (x : Voice) → speaks x (replaced d ds) ≡ true → VoiceIs (with_end s e p) x
       by [] known x spoken = with_voice s e p stays x (known x spoken)
-      by (first ∷ ds) known x spoken = at (is_said_by x d) refl spoken
-        where
-          at : (b : Bool) → is_said_by x d ≡ b → b || speaks x ds ≡ true → VoiceIs (with_end s e p) x
-          at true said rest = own x said
-          at false said rest = with_voice s e p stays x (known x (tail_speaks x (first ∷ ds) rest))
+      by (first ∷ ds) known x spoken = (elim (is_said_by x d) as (λ b. is_said_by x d ≡ b → b || speaks x ds ≡ true → VoiceIs (with_end s e p) x)
+          [ true ↦ λ said rest. own x said | false ↦ λ said rest. with_voice s e p stays x (known x (tail_speaks x (first ∷ ds) rest)) ]) refl spoken
 
   pub stays_same : (s : Side) (e : PathEnd) (p : PathState Carried) → known_in e.modes ≡ known_in (end_at s p).modes → Stays s e p
   stays_same s e p same is knows = same_knows k right w did s (end_at s p).modes e.modes same knows
@@ -296,42 +280,40 @@ module _ (k : Secrets) (right : Bool) (w : Side → Type 0) (did : Deed → Side
   module _ (joined : Bool) where
     pub key_found : (s : Side) (items : List Heard) → Every (ItemIs k right w did joined s) items → IfSome (key_heard items) (λ key. key ≡ drawn_key k right (peer s))
     key_found s [] h = tt
-    key_found s (item ∷ items) h = by item (h.each 0 item refl) (key_found s items (record { each = λ i x at. h.each (suc i) x at }))
-      where
-        by : (item : Heard) → ItemIs k right w did joined s item → IfSome (key_heard items) (λ key. key ≡ drawn_key k right (peer s))
-            → IfSome (key_heard (item ∷ items)) (λ key. key ≡ drawn_key k right (peer s))
-        by (Heard.PeerKey key) own rest = own
-        by Heard.Dss own rest = rest
-        by _ own rest = rest
+    key_found s (item ∷ items) h =
+        (elim item as (λ item. ItemIs k right w did joined s item → IfSome (key_heard items) (λ key. key ≡ drawn_key k right (peer s)) → IfSome (key_heard (item ∷ items)) (λ key. key ≡ drawn_key k right (peer s))) [
+          | Heard.PeerKey key ↦ λ own rest. own
+          | Heard.Dss ↦ λ own rest. rest
+          | _ ↦ λ own rest. rest
+        ]) (h.each 0 item refl) (key_found s items (record { each = λ i x at. h.each (suc i) x at }))
 
     abbrev pub PairIs : Side → KeyPair → Type 0
     PairIs s keys = (joined ≡ false) × ((keys.own ≡ drawn_key k right s) × (keys.peer ≡ drawn_key k right (peer s)) × KeysFor k right w did s)
 
     pub pair_found : (s : Side) (items : List Heard) → Every (ItemIs k right w did joined s) items → IfSome (keys_heard items) (PairIs s)
     pair_found s [] h = tt
-    pair_found s (item ∷ items) h = by item (h.each 0 item refl) (pair_found s items (record { each = λ i x at. h.each (suc i) x at }))
-      where
-        by : (item : Heard) → ItemIs k right w did joined s item → IfSome (keys_heard items) (PairIs s) → IfSome (keys_heard (item ∷ items)) (PairIs s)
-        by (Heard.Keys own other) pair rest = pair
-        by Heard.Dss pair rest = rest
-        by _ pair rest = rest
+    pair_found s (item ∷ items) h = (elim item as (λ item. ItemIs k right w did joined s item → IfSome (keys_heard items) (PairIs s) → IfSome (keys_heard (item ∷ items)) (PairIs s)) [
+      | Heard.Keys own other ↦ λ pair rest. pair
+      | Heard.Dss ↦ λ pair rest. rest
+      | _ ↦ λ pair rest. rest
+    ]) (h.each 0 item refl) (pair_found s items (record { each = λ i x at. h.each (suc i) x at }))
 
     abbrev pub FormIs : Side → JoinForm → Type 0
     FormIs s form = (joined ≡ true) × (IsFor s form × (w (peer s) × (right ≡ true → JoinIs k right (peer s) form)))
 
     pub join_found : (s : Side) (of_step : JoinStep) (items : List Heard) → Every (ItemIs k right w did joined s) items → IfSome (join_heard of_step items) (FormIs s)
     join_found s of_step [] h = tt
-    join_found s of_step (item ∷ items) h = by item (h.each 0 item refl) (join_found s of_step items (record { each = λ i x at. h.each (suc i) x at }))
+    join_found s of_step (item ∷ items) h =
+        (elim item as (λ item. ItemIs k right w did joined s item → IfSome (join_heard of_step items) (FormIs s) → IfSome (join_heard of_step (item ∷ items)) (FormIs s)) [
+          | Heard.Join f ↦ λ is rest. form f (is_of_step of_step f) is rest
+          | Heard.Dss ↦ λ is rest. rest
+          | _ ↦ λ is rest. rest
+        ]) (h.each 0 item refl) (join_found s of_step items (record { each = λ i x at. h.each (suc i) x at }))
       where
         form : (f : JoinForm) (b : Bool) → FormIs s f → IfSome (join_heard of_step items) (FormIs s)
             → IfSome (option_or (if b then Some f else None) (join_heard of_step items)) (FormIs s)
         form f true is rest = is
         form f false is rest = rest
-
-        by : (item : Heard) → ItemIs k right w did joined s item → IfSome (join_heard of_step items) (FormIs s) → IfSome (join_heard of_step (item ∷ items)) (FormIs s)
-        by (Heard.Join f) is rest = form f (is_of_step of_step f) is rest
-        by Heard.Dss is rest = rest
-        by _ is rest = rest
 
     -- what is asked for, and what is answered
     abbrev pub AskedIs : Side → Asked → Type 0
@@ -339,8 +321,7 @@ module _ (k : Secrets) (right : Bool) (w : Side → Type 0) (did : Deed → Side
         (joined ≡ true) × ((s ≡ B) × (w (peer s) × (right ≡ true → (asked.token ≡ token_of (drawn_key k right s)) × (asked.nonce ≡ drawn_nonce k right (peer s)))))
 
     syn_at_b : (s : Side) (backup : Bool) (id token nonce : ℕ) → IsFor s (JoinSyn backup id token nonce) → s ≡ B
-    syn_at_b A backup id token nonce is = absurd is
-    syn_at_b B backup id token nonce is = refl
+    syn_at_b = elim [ A ↦ λ backup id token nonce is. absurd is | B ↦ λ backup id token nonce is. refl ]
 
     asked_for : (s : Side) (o : Option JoinForm) → IfSome o (FormIs s) → IfSome (syn_heard (join_value o)) (AskedIs s)
     asked_for s None is = tt
@@ -364,19 +345,18 @@ module _ (k : Secrets) (right : Bool) (w : Side → Type 0) (did : Deed → Side
     AnswerIs s answer = (s ≡ A) × (w (peer s) × (right ≡ true → answer.nonce ≡ drawn_nonce k right (peer s)))
 
     answer_at_a : (s : Side) (backup : Bool) (id hmac nonce : ℕ) → IsFor s (Answer backup id hmac nonce) → s ≡ A
-    answer_at_a A backup id hmac nonce is = refl
-    answer_at_a B backup id hmac nonce is = absurd is
+    answer_at_a = elim [ A ↦ λ backup id hmac nonce is. refl | B ↦ λ backup id hmac nonce is. absurd is ]
 
     answered_so : (s : Side) (m : Modes) (o : Option JoinForm) → IfSome o (FormIs s)
         → IfSome (result_ok (answer_taken m.own_key (peer_key_of m) m.own_nonce (answer_heard (join_value o)))) (AnswerIs s)
     answered_so s m None is = tt
     answered_so s m (Some (JoinSyn backup id token nonce)) is = tt
     answered_so s m (Some (Third hmac)) is = tt
-    answered_so s m (Some (Answer backup id hmac nonce)) is = by (hmac == join_b64_of m.own_key (peer_key_of m) m.own_nonce nonce)
-      where
-        by : (b : Bool) → IfSome (result_ok (if b then Ok (record { backup = backup; id = id; nonce = nonce }) else Err BadHmac)) (AnswerIs s)
-        by true = (answer_at_a s backup id hmac nonce is.1.0, (is.1.1.0, λ sure. (is.1.1.1 sure).1))
-        by false = tt
+    answered_so s m (Some (Answer backup id hmac nonce)) is =
+        elim (hmac == join_b64_of m.own_key (peer_key_of m) m.own_nonce nonce) as (λ b. IfSome (result_ok (if b then Ok (record { backup = backup; id = id; nonce = nonce }) else Err BadHmac)) (AnswerIs s)) [
+          | true ↦ (answer_at_a s backup id hmac nonce is.1.0, (is.1.1.0, λ sure. (is.1.1.1 sure).1))
+          | false ↦ tt
+        ]
 
     pub answer_is_right : (s : Side) (m : Modes) (items : List Heard) → Every (ItemIs k right w did joined s) items → IfSome (join_answer items m) (AnswerIs s)
     answer_is_right s m items h = answered_so s m (join_heard JoinStep.Answer items) (join_found s JoinStep.Answer items h)
@@ -490,8 +470,7 @@ module _ (k : Secrets) (right : Bool) (w : Side → Type 0) (did : Deed → Side
   }
     where
       begun : (b : Bool) → is_past (if b then after_begin e.tcp else e.tcp).state ≡ true → is_past e.tcp.state ≡ true
-      begun true so = absurd (false≢true so)
-      begun false so = so
+      begun = elim [ true ↦ λ so. absurd (false≢true so) | false ↦ λ so. so ]
   opened_end B (Some keys) e is h a = cc
 
   pub opened_stays : (o : Option KeyPair) (e : PathEnd) → IfSome o (BeginIs A) → Knows k right w did A e.modes → Knows k right w did A (opened_by o e).modes
@@ -528,18 +507,15 @@ module _ (k : Secrets) (right : Bool) (w : Side → Type 0) (did : Deed → Side
   joined_knows s keys asked e is heard = (is.1.0, λ sure. met_needs k right s (joined_by keys asked e).modes (ap (λ n. Some n) (is.1.1 sure), (heard.1.1.1 sure).1))
 
   pub joined_waits : (keys : KeyPair) (asked : Asked) (e : PathEnd) → is_waiting (joined_by keys asked e).tcp.state ≡ true → is_waiting e.tcp.state ≡ true
-  joined_waits keys asked e = by (is_listening e.tcp.state)
-    where
-      by : (b : Bool) → is_waiting (if b then after_syn (unkept None) (syn_alone e.treated.window) e.tcp else e.tcp).state ≡ true → is_waiting e.tcp.state ≡ true
-      by true waiting = absurd (false≢true waiting)
-      by false waiting = waiting
+  joined_waits keys asked e =
+      elim (is_listening e.tcp.state) as (λ b. is_waiting (if b then after_syn (unkept None) (syn_alone e.treated.window) e.tcp else e.tcp).state ≡ true → is_waiting e.tcp.state ≡ true)
+      [ true ↦ λ waiting. absurd (false≢true waiting) | false ↦ λ waiting. waiting ]
 
 -- ---- the more sides joined
 
 module _ (k : Secrets) (right : Bool) (w u : Side → Type 0) (did does : Deed → Side → Type 0) (more : (s : Side) → w s → u s) (further : (d : Deed) (s : Side) → did d s → does d s) where
   more_b : (s : Side) → OfB s (w B) → OfB s (u B)
-  more_b A h = h
-  more_b B h = more B h
+  more_b = elim [ A ↦ λ h. h | B ↦ λ h. more B h ]
 
   more_shown : (s : Side) (keys : CapableKeys) → ShownBy k right w did s keys → ShownBy k right u does s keys
   more_shown s NoKey h = h
@@ -553,8 +529,7 @@ module _ (k : Secrets) (right : Bool) (w u : Side → Type 0) (did does : Deed �
   more_address s false id address port None h = h
 
   more_for : (s : Side) → KeysFor k right w did s → KeysFor k right u does s
-  more_for A h = h
-  more_for B h = further Deed.Keyed A h
+  more_for = elim [ A ↦ λ h. h | B ↦ λ h. further Deed.Keyed A h ]
 
   more_heard : (s : Side) (notice : PeerNotice) → PeerNoteIs k right w did s notice → PeerNoteIs k right u does s notice
   more_heard s (PeerNotice.AddAddr id address port hmac) h = (h.0, further Deed.Keyed s h.1)
@@ -607,16 +582,13 @@ module _ (k : Secrets) (right : Bool) (w u : Side → Type 0) (did does : Deed �
   }
     where
       failed : (o : Option ℕ) → IfSome o (λ place. OfB s (w B)) → IfSome o (λ place. OfB s (u B))
-      failed None joins = tt
-      failed (Some place) joins = more_b s joins
+      failed = elim [ None ↦ λ joins. tt | Some place ↦ λ joins. more_b s joins ]
 
       has : (o : Option ℕ) → IfSome o (λ key. did Deed.Keyed s) → IfSome o (λ key. does Deed.Keyed s)
-      has None keyed = tt
-      has (Some key) keyed = further Deed.Keyed s keyed
+      has = elim [ None ↦ λ keyed. tt | Some key ↦ λ keyed. further Deed.Keyed s keyed ]
 
       by : (o : Option ℕ) → IfSome o (λ key. did Deed.Closed s) → IfSome o (λ key. does Deed.Closed s)
-      by None closed = tt
-      by (Some key) closed = further Deed.Closed s closed
+      by = elim [ None ↦ λ closed. tt | Some key ↦ λ closed. further Deed.Closed s closed ]
 
   pub more_is : (p : PathState Carried) → PathIs k right w did p → PathIs k right u does p
   more_is p h = record {

@@ -61,8 +61,7 @@ module _ (T : Type 0) where
 
   verdict_mode : (v : Verdict) (m : Modes) → ModeGains (Reply.Control (ControlReply.Verdict v)) → is_starting (mode_in (Reply.Control (ControlReply.Verdict v)) m).mode ≡ false
       → (is_starting m.mode ≡ false) ⊎ T
-  verdict_mode (Verdict.Went mode) m gains is = inr (gains is)
-  verdict_mode _ m gains is = inl is
+  verdict_mode = elim [ Verdict.Went mode ↦ λ m gains is. inr (gains is) | _ ↦ λ m gains is. inl is ]
 
   told_mode : (r : Reply) (m : Modes) → ModeGains r → is_starting (mode_in r m).mode ≡ false → (is_starting m.mode ≡ false) ⊎ T
   told_mode (Reply.Control (ControlReply.Verdict v)) m gains is = verdict_mode v m gains is
@@ -132,8 +131,7 @@ module _ (T : Type 0) where
 
   -- with another mode
   pub told_goes : (s : Side) (e : PathEnd) (p : PathState Carried) → e.tcp.state ≡ (end_at s p).tcp.state → OfA s (is_starting e.modes.mode ≡ false → (is_starting p.a.modes.mode ≡ false) ⊎ T) → Goes s p e
-  told_goes A e p state mode = (λ is. ap is_met (sym state) ∙ is, mode)
-  told_goes B e p state mode = tt
+  told_goes = elim [ A ↦ λ e p state mode. (λ is. ap is_met (sym state) ∙ is, mode) | B ↦ λ e p state mode. tt ]
 
   -- with another state, in which it is met where it was
   pub state_goes : (s : Side) (e : PathEnd) (p : PathState Carried) → (is_met e.tcp.state ≡ true → is_met (end_at s p).tcp.state ≡ true) → e.modes.mode ≡ (end_at s p).modes.mode → Goes s p e
@@ -186,11 +184,8 @@ module _ (T : Type 0) where
 
   pub settled_met : (ds : List Duty) (p : PathState Carried) → CalmMet (with_agenda ds p) → CalmMet (settled ds p)
   settled_met [] p h = h
-  settled_met (d ∷ ds) p h = by (stands d p) (settled_met ds (passed d p) (passed_met d ds p (tail_met d ds p h)))
-    where
-      by : (b : Bool) → CalmMet (settled ds (passed d p)) → CalmMet (if b then with_agenda (d ∷ ds) p else settled ds (passed d p))
-      by true rest = h
-      by false rest = rest
+  settled_met (d ∷ ds) p h = (elim (stands d p) as (λ b. CalmMet (settled ds (passed d p)) → CalmMet (if b then with_agenda (d ∷ ds) p else settled ds (passed d p)))
+      [ true ↦ λ rest. h | false ↦ λ rest. rest ]) (settled_met ds (passed d p) (passed_met d ds p (tail_met d ds p h)))
 
   pub own_agenda : (p : PathState Carried) → CalmMet p → CalmMet (with_agenda p.agenda p)
   own_agenda p h = agenda_met p.agenda p (same_duties p.agenda) h
@@ -256,22 +251,21 @@ module _ (T : Type 0) where
 
   -- A begins a join
   pub begun_met : (r : Reply) (dead living : List Duty) (p : PathState Carried) → ModeGains r → Fewer p.agenda dead → Fewer p.agenda living → CalmMet p → CalmMet (join_begun r dead living p)
-  begun_met r dead living p gains to_dead to_living h = by (is_never r)
+  begun_met r dead living p gains to_dead to_living h = elim (is_never r) as (λ b. CalmMet (if b then goes_on A (never_joined r p.a) dead p else goes_on A (opened_by (keys_begun r) p.a) living p))
+      [ true ↦ goes_met A (never_joined r p.a) dead p (λ is. absurd (false≢true is), λ is. refused_mode r p.a.modes.mode gains is) to_dead h | false ↦ opens (keys_begun r) ]
     where
       begun : (b : Bool) → is_met (if b then after_begin p.a.tcp else p.a.tcp).state ≡ true → is_met p.a.tcp.state ≡ true
-      begun true is = absurd (false≢true is)
-      begun false is = is
+      begun = elim [ true ↦ λ is. absurd (false≢true is) | false ↦ λ is. is ]
 
       opens : (o : Option KeyPair) → CalmMet (goes_on A (opened_by o p.a) living p)
       opens None = goes_met A p.a living p (same_goes A p.a p refl refl) to_living h
       opens (Some keys) = goes_met A (opened_by (Some keys) p.a) living p (state_goes A (opened_by (Some keys) p.a) p (begun (is_waiting p.a.tcp.state)) refl) to_living h
 
-      by : (b : Bool) → CalmMet (if b then goes_on A (never_joined r p.a) dead p else goes_on A (opened_by (keys_begun r) p.a) living p)
-      by true = goes_met A (never_joined r p.a) dead p (λ is. absurd (false≢true is), λ is. refused_mode r p.a.modes.mode gains is) to_dead h
-      by false = opens (keys_begun r)
-
   fired_met : (s : Side) (p : PathState Carried) → CalmMet p → CalmMet (timer_fired s p)
-  fired_met s p h = by (is_sixth (end_at s p).tcp)
+  fired_met s p h = elim (is_sixth (end_at s p).tcp) as (λ b. CalmMet (goes_on s (record e { tcp = (if b then after_death true e.tcp else after_expiry p.clock e.tcp) }) (template_fired b s) p)) [
+    | true ↦ goes_met s (record e { tcp = after_death true e.tcp }) (template_fired true s) p (state_goes s (record e { tcp = after_death true e.tcp }) p (λ is. absurd (false≢true is)) refl) (calm true s) h
+    | false ↦ goes_met s (record e { tcp = after_expiry p.clock e.tcp }) (template_fired false s) p (same_goes s (record e { tcp = after_expiry p.clock e.tcp }) p refl refl) (calm false s) h
+  ]
     where
       e : PathEnd
       e = end_at s p
@@ -281,11 +275,6 @@ module _ (T : Type 0) where
       calm true B = new_duties p.agenda _ refl refl
       calm false A = new_duties p.agenda _ refl refl
       calm false B = new_duties p.agenda _ refl refl
-
-      by : (b : Bool) → CalmMet (goes_on s (record e { tcp = (if b then after_death true e.tcp else after_expiry p.clock e.tcp) }) (template_fired b s) p)
-      by true =
-          goes_met s (record e { tcp = after_death true e.tcp }) (template_fired true s) p (state_goes s (record e { tcp = after_death true e.tcp }) p (λ is. absurd (false≢true is)) refl) (calm true s) h
-      by false = goes_met s (record e { tcp = after_expiry p.clock e.tcp }) (template_fired false s) p (same_goes s (record e { tcp = after_expiry p.clock e.tcp }) p refl refl) (calm false s) h
 
   -- ---- a copy
 
@@ -350,8 +339,7 @@ module _ (T : Type 0) where
   copy_met s None p h = inl (agenda_met (emission s) p (calm s) h)
     where
       calm : (s : Side) → Fewer p.agenda (emission s)
-      calm A = new_duties p.agenda _ refl refl
-      calm B = new_duties p.agenda _ refl refl
+      calm = elim [ A ↦ new_duties p.agenda _ refl refl | B ↦ new_duties p.agenda _ refl refl ]
   copy_met s (Some heard) p h = heard_met p.clock s heard p h
 
   pub event_met : (o : Option Event) (r : Reply) (p : PathState Carried) → Gains (step_for (path_of p) o) r → CalmMet p → PathMet (happens_if values o r p)

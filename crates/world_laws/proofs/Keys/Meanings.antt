@@ -30,8 +30,7 @@ module _ (c : Copy) (s : EndState) where
   Is = Means c s
 
   either : (b : Bool) (x y : Meaning) → (b ≡ true → Is x) → (b ≡ false → Is y) → Is (if b then x else y)
-  either true x y first second = first refl
-  either false x y first second = second refl
+  either = elim [ true ↦ λ x y first second. first refl | false ↦ λ x y first second. second refl ]
 
   module _ (past : is_past s.state ≡ true) where
     acknowledging : (o : Option ℕ) (pos : ℕ) → c.acknowledged ≡ o → c.position ≡ Some pos → c.rst ≡ false → c.syn ≡ false → Is (meaning_acknowledging o pos s)
@@ -76,15 +75,13 @@ module _ (c : Copy) (s : EndState) where
       (listens, (syn.0, (is_not c.rst rst.0, is_not c.fin fin.0)))
     where
       is_not : (b : Bool) → not b ≡ true → b ≡ false
-      is_not true is = absurd (false≢true is)
-      is_not false is = refl
+      is_not = elim [ true ↦ λ is. absurd (false≢true is) | false ↦ λ is. refl ]
 
   pub means : Means c s (meaning_of c s)
-  means = by s.state refl
-    where
-      by : (state : EndPhase) → s.state ≡ state → Means c s (meaning_at state c s)
-      by EndPhase.Dead is = either c.rst Meaning.Ignored Meaning.Unwanted (λ rst. tt) (λ rst. tt)
-      by EndPhase.Waiting is = tt
-      by EndPhase.Listen is = either (is_syn_alone c) Meaning.Opens Meaning.Ignored (alone is) (λ no. tt)
-      by EndPhase.SynSent is = either (is_at_limit s) Meaning.Ignored (meaning_answering c.acknowledged c s) (λ limit. tt) (λ limit. answering is c.acknowledged)
-      by _ is = connected (ap is_past is)
+  means = (elim s.state as (λ state. s.state ≡ state → Means c s (meaning_at state c s)) [
+    | EndPhase.Dead ↦ λ is. either c.rst Meaning.Ignored Meaning.Unwanted (λ rst. tt) (λ rst. tt)
+    | EndPhase.Waiting ↦ λ is. tt
+    | EndPhase.Listen ↦ λ is. either (is_syn_alone c) Meaning.Opens Meaning.Ignored (alone is) (λ no. tt)
+    | EndPhase.SynSent ↦ λ is. either (is_at_limit s) Meaning.Ignored (meaning_answering c.acknowledged c s) (λ limit. tt) (λ limit. answering is c.acknowledged)
+    | _ ↦ λ is. connected (ap is_past is)
+  ]) refl

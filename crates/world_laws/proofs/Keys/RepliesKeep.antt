@@ -29,8 +29,7 @@ module _ (T : Type 0) where
 
   -- B's and A's own templates
   leaves_fewer : (s : Side) (ds : List Duty) → Fewer ds (leaves s)
-  leaves_fewer A ds = new_duties ds (leaves A) refl refl
-  leaves_fewer B ds = new_duties ds (leaves B) refl refl
+  leaves_fewer = elim [ A ↦ λ ds. new_duties ds (leaves A) refl refl | B ↦ λ ds. new_duties ds (leaves B) refl refl ]
 
   resets_fewer : (s : Side) (reason : ℕ) (ds : List Duty) → Fewer ds (resets s reason)
   resets_fewer A reason ds = new_duties ds (resets A reason) refl refl
@@ -110,15 +109,15 @@ module _ (T : Type 0) where
   is_signed s p = OfA T s (signs p.agenda ≡ true)
 
   heard_answered_met : (s : Side) (item : Heard) (r : Reply) (p : PathState Carried) → Gains T (heard_ask values s item p) r → is_signed s p → CalmMet T p → CalmMet T (answered_heard values s item r p)
-  heard_answered_met s (Heard.DataAck next window) r p gains sign h = by (is_acked r && nat_lt 0 next)
+  heard_answered_met s (Heard.DataAck next window) r p gains sign h =
+      elim (is_acked r && nat_lt 0 next) as (λ b. CalmMet T (goes_on s (with_acked next r (end_at s p)) (if b then replaced (Duty.Ask (AskDuty.AckHeard s)) p.agenda else left p) p)) [
+        | true ↦ same_met s (with_acked next r (end_at s p)) (replaced (Duty.Ask (AskDuty.AckHeard s)) p.agenda) p refl refl (told s sign) h
+        | false ↦ same_met s (with_acked next r (end_at s p)) (left p) p refl refl (tail_fewer p.agenda) h
+      ]
     where
       told : (s : Side) → is_signed s p → Fewer p.agenda (replaced (Duty.Ask (AskDuty.AckHeard s)) p.agenda)
       told A sign = replaced_fewer (Duty.Ask (AskDuty.AckHeard A)) p.agenda refl (λ is. sign)
       told B sign = replaced_fewer (Duty.Ask (AskDuty.AckHeard B)) p.agenda refl (λ is. absurd (false≢true is))
-
-      by : (b : Bool) → CalmMet T (goes_on s (with_acked next r (end_at s p)) (if b then replaced (Duty.Ask (AskDuty.AckHeard s)) p.agenda else left p) p)
-      by true = same_met s (with_acked next r (end_at s p)) (replaced (Duty.Ask (AskDuty.AckHeard s)) p.agenda) p refl refl (told s sign) h
-      by false = same_met s (with_acked next r (end_at s p)) (left p) p refl refl (tail_fewer p.agenda) h
   heard_answered_met s (Heard.Mapping fin) r p gains sign h = by (is_clash (end_at s p)) gains
     where
       by : (b : Bool) → Gains T (if b then break_ask values s 1 p else fell_ask s FallEvent.MappingHeard p) r
@@ -140,15 +139,11 @@ module _ (T : Type 0) where
           → CalmMet T (if b then book_answered s r p else answered_fell s (FallEvent.FailHeard false) r p)
       by true gains = same_met s (with_infinite r (end_at s p)) (replaced (Duty.Ask (AskDuty.FailHeard s)) p.agenda) p refl refl (fails_fewer s p.agenda) h
       by false gains = told_met s (FallEvent.FailHeard false) r p gains h
-  heard_answered_met s (Heard.FastClose key) r p gains sign h = by (is_stopped_by r)
+  heard_answered_met s (Heard.FastClose key) r p gains sign h = elim (is_stopped_by r) as (λ b. CalmMet T (with_agenda (if b then stops s else left p) p))
+      [ true ↦ agenda_met T (stops s) p (fewer s) h | false ↦ agenda_met T (left p) p (tail_fewer p.agenda) h ]
     where
       fewer : (s : Side) → Fewer p.agenda (stops s)
-      fewer A = new_duties p.agenda (stops A) refl refl
-      fewer B = new_duties p.agenda (stops B) refl refl
-
-      by : (b : Bool) → CalmMet T (with_agenda (if b then stops s else left p) p)
-      by true = agenda_met T (stops s) p (fewer s) h
-      by false = agenda_met T (left p) p (tail_fewer p.agenda) h
+      fewer = elim [ A ↦ new_duties p.agenda (stops A) refl refl | B ↦ new_duties p.agenda (stops B) refl refl ]
 
   item_answered_met : (s : Side) (o : Option Heard) (r : Reply) (p : PathState Carried) → Gains T (item_ask values s o p) r → is_signed s p → CalmMet T p → CalmMet T (answered_item values s o r p)
   item_answered_met s None r p gains sign h = agenda_met T (left p) p (tail_fewer p.agenda) h
@@ -204,8 +199,7 @@ module _ (T : Type 0) where
       listening _ is = absurd (false≢true is)
 
       listens : (b : Bool) → is_listening p.a.tcp.state ≡ b → is_met (if b then after_syn (unkept None) (syn_alone p.a.treated.window) p.a.tcp else p.a.tcp).state ≡ true → is_met p.a.tcp.state ≡ true
-      listens true is met = listening p.a.tcp.state is
-      listens false is met = met
+      listens = elim [ true ↦ λ is met. listening p.a.tcp.state is | false ↦ λ is met. met ]
   joined_met B (Some keys) (Some asked) r p gains h =
       goes_met T B (joined_by keys asked p.b) (replaced (Duty.Send (SendDuty.SynAck B)) p.agenda) p tt (other_fewer (Duty.Send (SendDuty.SynAck B)) p.agenda refl refl) h
 
@@ -216,8 +210,7 @@ module _ (T : Type 0) where
       tcp = (end_at s p).tcp
 
       same : (o : Occasion) → (after_sending o p.clock tcp).state ≡ tcp.state
-      same Occasion.Reset = refl
-      same _ = refl
+      same = elim [ Occasion.Reset ↦ refl | _ ↦ refl ]
 
   look_goes : (s : Side) (r : Reply) (p : PathState Carried) → Gains T (Ask.Control s (ControlCall.Look (path_of p))) r → Goes T s p (after_look r (end_at s p))
   look_goes A r p gains = told_goes T A (after_look r p.a) p refl (λ is. look_mode T r p.a.modes gains.0 is)
@@ -255,8 +248,7 @@ module _ (T : Type 0) where
   answered_met (Duty.Step (StepDuty.Heard s index)) r p none sign gains h = inl (item_answered_met s (item_of index (end_at s p)) r p gains (by s sign) h)
     where
       by : (s : Side) → (is_sign_duty (Duty.Step (StepDuty.Heard s index)) ≡ true → signs p.agenda ≡ true) → is_signed s p
-      by A sign = sign refl
-      by B sign = tt
+      by = elim [ A ↦ λ sign. sign refl | B ↦ λ sign. tt ]
   answered_met (Duty.Ask (AskDuty.AckHeard s)) r p none sign gains h = inl (told_met s FallEvent.AckHeard r p gains h)
   answered_met (Duty.Ask (AskDuty.FailHeard s)) r p none sign gains h =
       inl (fail_heard_so (λ e. CalmMet T (goes_on s e (fell_duties s r p) p)) r (end_at s p)
@@ -313,8 +305,7 @@ module _ (T : Type 0) where
           (fell_cases (λ ds. is_calm ds ≡ true) A p r (λ fell. ap (λ ds. is_calm (replaced (Duty.Ask (AskDuty.GoIdentity A)) ds)) same ∙ h.calm) (λ reason. refl) (λ reason. refl) (calm_tail same)) known
 
       told : (o : Option ℕ) → Gains T (peer_key_ask A o p) r → T
-      told None gain = gain.1
-      told (Some key) gain = gain.1
+      told = elim [ None ↦ λ gain. gain.1 | Some key ↦ λ gain. gain.1 ]
 
       by : (begins : Bool) → p.agenda ≡ (if begins then Duty.Ask (AskDuty.SynAnswered A) ∷ Duty.Ask (AskDuty.PeerKey A) ∷ h.rest else Duty.Ask (AskDuty.PeerKey A) ∷ h.rest) → PathMet T (takes values r p)
       by true same =

@@ -68,15 +68,11 @@ module _ (k : Secrets) (right : Bool) (w : Side → Type 0) (did : Deed → Side
 
   -- a DSS lets A's end send one, too
   cleared_by : (joined : Bool) (s : Side) (m : Modes) → ItemIs k right w did joined s Heard.Dss → (joined ≡ true → m.clear ≡ true → w B) → joined ≡ true → m.clear || is_side_a s ≡ true → w B
-  cleared_by joined s m said was joins now = by m.clear refl now
+  cleared_by joined s m said was joins now = (elim m.clear as (λ b. m.clear ≡ b → b || is_side_a s ≡ true → w B)
+      [ true ↦ λ is now. was joins is | false ↦ λ is now. at s (said joins) now ]) refl now
     where
       at : (s : Side) → OfB (peer s) (w B) → is_side_a s ≡ true → w B
-      at A said own = said
-      at B said own = absurd (false≢true own)
-
-      by : (b : Bool) → m.clear ≡ b → b || is_side_a s ≡ true → w B
-      by true is now = was joins is
-      by false is now = at s (said joins) now
+      at = elim [ A ↦ λ said own. said | B ↦ λ said own. absurd (false≢true own) ]
 
   -- B's end may send one where it might
   cleared_meets : (s : Side) (b : Bool) (P : Type 0) → (b ≡ true → OfB s P) → b || is_side_a s ≡ true → OfB s P
@@ -107,15 +103,13 @@ module _ (k : Secrets) (right : Bool) (w : Side → Type 0) (did : Deed → Side
   }
     where
       by : (t : Side) → Needs k right t e.modes → Needs k right t (item_passed s (Some Heard.Dss) e).modes
-      by A has = has
-      by B has = has
+      by = elim [ A ↦ λ has. has | B ↦ λ has. has ]
   passed_item joined s (Some (Heard.DataAck next window)) e said h =
       kept_end k right w did joined s e (with_data_ack next e) refl refl (record { up = λ x. x; waits = λ x. x; past = λ x. x }) h
-  passed_item joined s (Some (Heard.Mapping fin)) e said h = by (counts e)
-    where
-      by : (b : Bool) → EndIs k right w did joined s (if b then with_learned e else with_skipped e)
-      by true = record { modes = h.modes; items = h.items; woken = h.woken; past = h.past; carries = h.carries; queued = h.queued; failing = h.failing }
-      by false = record { modes = h.modes; items = h.items; woken = h.woken; past = h.past; carries = h.carries; queued = h.queued; failing = h.failing }
+  passed_item joined s (Some (Heard.Mapping fin)) e said h = elim (counts e) as (λ b. EndIs k right w did joined s (if b then with_learned e else with_skipped e)) [
+    | true ↦ record { modes = h.modes; items = h.items; woken = h.woken; past = h.past; carries = h.carries; queued = h.queued; failing = h.failing }
+    | false ↦ record { modes = h.modes; items = h.items; woken = h.woken; past = h.past; carries = h.carries; queued = h.queued; failing = h.failing }
+  ]
   passed_item joined s (Some (Heard.DataFin place)) e said h =
       if_so (EndIs k right w did joined s) (counts e) (with_data_fin place e) e
       (record { modes = h.modes; items = h.items; woken = h.woken; past = h.past; carries = h.carries; queued = h.queued; failing = h.failing }) h
@@ -128,8 +122,7 @@ module _ (k : Secrets) (right : Bool) (w : Side → Type 0) (did : Deed → Side
       item_so (λ f. Knows k right w did t f.modes) s o e has (signed t has) (λ next. same_knows k right w did t e.modes (with_data_ack next e).modes refl has) has has (λ place. has)
     where
       signed : (t : Side) → Knows k right w did t e.modes → Knows k right w did t (after_dss s e).modes
-      signed A has = (has.0, has.1)
-      signed B has = (has.0, has.1)
+      signed = elim [ A ↦ λ has. (has.0, has.1) | B ↦ λ has. (has.0, has.1) ]
 
   item_waits : (s : Side) (o : Option Heard) (e : PathEnd) → is_waiting (item_passed s o e).tcp.state ≡ true → is_waiting e.tcp.state ≡ true
   item_waits s o e =
@@ -166,8 +159,7 @@ module _ (k : Secrets) (right : Bool) (w : Side → Type 0) (did : Deed → Side
       (kept_end k right w did (is_joined p.profile) s (end_at s p) (with_plain_ack (end_at s p)) refl refl (record { up = λ x. x; waits = λ x. x; past = λ x. x }) (end_is k right w did s p h)) (λ is. is) (λ is has. (has.0, λ sure. by s (has.1 sure))) h
     where
       by : (t : Side) → Needs k right t (end_at s p).modes → Needs k right t (with_plain_ack (end_at s p)).modes
-      by A has = has
-      by B has = has
+      by = elim [ A ↦ λ has. has | B ↦ λ has. has ]
   passed_is (Duty.Step (StepDuty.Unmapped s)) p h =
       with_is k right w did s (after_pieces (end_at s p)) p
       (kept_end k right w did (is_joined p.profile) s (end_at s p) (after_pieces (end_at s p)) refl refl (record { up = λ x. x; waits = λ x. x; past = λ x. x }) (end_is k right w did s p h)) (λ is. is) (λ is has. has) h
@@ -213,11 +205,8 @@ module _ (k : Secrets) (right : Bool) (w : Side → Type 0) (did : Deed → Side
 
   settled_is : (ds : List Duty) (p : PathState Carried) → AreKnown k right w did p ds → PathIs k right w did p → PathIs k right w did (settled ds p)
   settled_is [] p known h = agenda_by [] p known h
-  settled_is (d ∷ ds) p known h = by (stands d p) (settled_is ds (passed d p) (passed_known d ds p (tail_known d ds p known)) (passed_is d p h))
-    where
-      by : (b : Bool) → PathIs k right w did (settled ds (passed d p)) → PathIs k right w did (if b then with_agenda (d ∷ ds) p else settled ds (passed d p))
-      by true rest = agenda_by (d ∷ ds) p known h
-      by false rest = rest
+  settled_is (d ∷ ds) p known h = (elim (stands d p) as (λ b. PathIs k right w did (settled ds (passed d p)) → PathIs k right w did (if b then with_agenda (d ∷ ds) p else settled ds (passed d p)))
+      [ true ↦ λ rest. agenda_by (d ∷ ds) p known h | false ↦ λ rest. rest ]) (settled_is ds (passed d p) (passed_known d ds p (tail_known d ds p known)) (passed_is d p h))
 
   -- ---- what is asked, and answered
 
@@ -286,8 +275,7 @@ module _ (k : Secrets) (right : Bool) (w : Side → Type 0) (did : Deed → Side
       calm t false false = refl
 
       still : (b : Bool) → is_waiting (if b then p.a else died p.a).tcp.state ≡ true → is_waiting p.a.tcp.state ≡ true
-      still true waiting = waiting
-      still false waiting = absurd (false≢true waiting)
+      still = elim [ true ↦ λ waiting. waiting | false ↦ λ waiting. absurd (false≢true waiting) ]
 
   line_is : (action : LineAction) (p : PathState Carried) → PathIs k right w did p → PathIs k right w did (after_line action p)
   line_is LineAction.Die p h = died_path p h
@@ -310,11 +298,9 @@ module _ (k : Secrets) (right : Bool) (w : Side → Type 0) (did : Deed → Side
 
       open_waits : (o : Option KeyPair) → is_waiting (opened_by o p.a).tcp.state ≡ true → is_waiting p.a.tcp.state ≡ true
       open_waits None waiting = waiting
-      open_waits (Some keys) waiting = at (is_waiting p.a.tcp.state) refl waiting
-        where
-          at : (b : Bool) → is_waiting p.a.tcp.state ≡ b → is_waiting (if b then after_begin p.a.tcp else p.a.tcp).state ≡ true → is_waiting p.a.tcp.state ≡ true
-          at true waits waiting = waits
-          at false waits waiting = waiting
+      open_waits (Some keys) waiting =
+          (elim (is_waiting p.a.tcp.state) as (λ b. is_waiting p.a.tcp.state ≡ b → is_waiting (if b then after_begin p.a.tcp else p.a.tcp).state ≡ true → is_waiting p.a.tcp.state ≡ true)
+          [ true ↦ λ waits waiting. waits | false ↦ λ waits waiting. waiting ]) refl waiting
 
       by : (b : Bool) → PathIs k right w did (if b then goes_on A (never_joined r p.a) dead p else goes_on A (opened_by (keys_begun r) p.a) living p)
       by true = goes_is k right w did A (never_joined r p.a) dead p (refused_is k right w did (is_joined p.profile) A r (died p.a) (died_is k right w did (is_joined p.profile) A p.a h.a)) (λ waiting. absurd (false≢true waiting)) to_dead (λ is has. has) h
@@ -357,14 +343,11 @@ module _ (k : Secrets) (right : Bool) (w : Side → Type 0) (did : Deed → Side
           let parts = and_parts (f.tick == due.tick) (same_side f.to due.to && f.number == due.copy) found.1 in
           let to = one_side f.to due.to (and_parts (same_side f.to due.to) (f.number == due.copy) parts.1).0 in
           subst (λ s. SegmentIs k right w did p.profile (peer s) f.carried.segment) to found.0
-  event_is (Some (Event.Fires s tick)) r p next is h = at_side s (next_happens p (Event.Fires s tick) next)
+  event_is (Some (Event.Fires s tick)) r p next is h = (elim s as (λ t. is_up (end_at t p).tcp ≡ true → PathIs k right w did (timer_fired t (at_tick tick p)))
+      [ A ↦ λ up. fired_is A (at_tick tick p) up h_q | B ↦ λ up. fired_is B (at_tick tick p) up h_q ]) (next_happens p (Event.Fires s tick) next)
     where
       h_q : PathIs k right w did (at_tick tick p)
       h_q = record { a = h.a; b = h.b; copies = h.copies; known = h.known; waits = h.waits }
-
-      at_side : (t : Side) → is_up (end_at t p).tcp ≡ true → PathIs k right w did (timer_fired t (at_tick tick p))
-      at_side A up = fired_is A (at_tick tick p) up h_q
-      at_side B up = fired_is B (at_tick tick p) up h_q
 
   -- ---- replies
 
@@ -377,8 +360,7 @@ module _ (k : Secrets) (right : Bool) (w : Side → Type 0) (did : Deed → Side
   not_joined s r p said is fell = (by (is_joined p.profile) refl, (is fell).0)
     where
       by : (b : Bool) → is_joined p.profile ≡ b → b ≡ false
-      by true joins = absurd ((is fell).1 (said joins).0)
-      by false joins = refl
+      by = elim [ true ↦ λ joins. absurd ((is fell).1 (said joins).0) | false ↦ λ joins. refl ]
 
   fell_known : (s : Side) (e : PathEnd) (r : Reply) (p : PathState Carried) → Said s p → FallIs s r → Stays k right w did s e p → PathIs k right w did p
       → AreKnown k right w did (with_end s e p) (fell_duties s r p)
@@ -442,11 +424,10 @@ module _ (k : Secrets) (right : Bool) (w : Side → Type 0) (did : Deed → Side
       (died_is k right w did (is_joined p.profile) s (end_at s p) (end_is k right w did s p h)) (λ waiting. absurd (false≢true waiting)) fewer (λ is has. has) h
 
   break_is : (s : Side) (reason : ℕ) (r : Reply) (p : PathState Carried) → PathIs k right w did p → PathIs k right w did (answered_break values s reason r p)
-  break_is s reason r p h = by (end_at s p).treated.asked
-    where
-      by : (b : Bool) → PathIs k right w did (if b then answered_ack_out s r (resets s reason) p else reset_on values s (Some reason) (leaves s) p)
-      by true = same_goes k right w did s _ _ p refl refl (record { up = λ x. x; waits = λ x. x; past = λ x. x }) (λ t spoken. absurd (false≢true spoken)) h
-      by false = reset_is s (Some reason) (leaves s) p (λ t spoken. absurd (false≢true spoken)) h
+  break_is s reason r p h = elim (end_at s p).treated.asked as (λ b. PathIs k right w did (if b then answered_ack_out s r (resets s reason) p else reset_on values s (Some reason) (leaves s) p)) [
+    | true ↦ same_goes k right w did s _ _ p refl refl (record { up = λ x. x; waits = λ x. x; past = λ x. x }) (λ t spoken. absurd (false≢true spoken)) h
+    | false ↦ reset_is s (Some reason) (leaves s) p (λ t spoken. absurd (false≢true spoken)) h
+  ]
 
   grant_is : (s : Side) (o : Option Grant) (r : Reply) (p : PathState Carried) → PathIs k right w did p → PathIs k right w did (answered_grant s o r p)
   grant_is s None r p h = same_goes k right w did s _ _ p refl refl (record { up = λ x. x; waits = λ x. x; past = λ x. x }) (none_left k right w did p) h
@@ -465,12 +446,11 @@ module _ (k : Secrets) (right : Bool) (w : Side → Type 0) (did : Deed → Side
   data_is s None r p first stands h = grant_is s (grant_in r) r p h
 
   heard_answered : (s : Side) (item : Heard) (r : Reply) (p : PathState Carried) → ItemIs k right w did (is_joined p.profile) s item → Said s p → ReplyIs (heard_ask values s item p) r → PathIs k right w did p → PathIs k right w did (answered_heard values s item r p)
-  heard_answered s (Heard.DataAck next window) r p own said is h = by (is_acked r && nat_lt 0 next)
-    where
-      by : (b : Bool) → PathIs k right w did (goes_on s (with_acked next r (end_at s p)) (if b then replaced (Duty.Ask (AskDuty.AckHeard s)) p.agenda else left p) p)
-      by true =
-          says_next s (Duty.Ask (AskDuty.AckHeard s)) (with_acked next r (end_at s p)) p (λ x telling. tells_same x s telling) refl refl (record { up = λ x. x; waits = λ x. x; past = λ x. x }) said h
-      by false = same_goes k right w did s (with_acked next r (end_at s p)) (left p) p refl refl (record { up = λ x. x; waits = λ x. x; past = λ x. x }) (none_left k right w did p) h
+  heard_answered s (Heard.DataAck next window) r p own said is h =
+      elim (is_acked r && nat_lt 0 next) as (λ b. PathIs k right w did (goes_on s (with_acked next r (end_at s p)) (if b then replaced (Duty.Ask (AskDuty.AckHeard s)) p.agenda else left p) p)) [
+        | true ↦ says_next s (Duty.Ask (AskDuty.AckHeard s)) (with_acked next r (end_at s p)) p (λ x telling. tells_same x s telling) refl refl (record { up = λ x. x; waits = λ x. x; past = λ x. x }) said h
+        | false ↦ same_goes k right w did s (with_acked next r (end_at s p)) (left p) p refl refl (record { up = λ x. x; waits = λ x. x; past = λ x. x }) (none_left k right w did p) h
+      ]
   heard_answered s (Heard.Mapping fin) r p own said is h = by (is_clash (end_at s p)) is
     where
       by : (b : Bool) → ReplyIs (if b then break_ask values s 1 p else fell_ask s FallEvent.MappingHeard p) r
@@ -502,7 +482,8 @@ module _ (k : Secrets) (right : Bool) (w : Side → Type 0) (did : Deed → Side
       by true is =
           says_next s (Duty.Ask (AskDuty.FailHeard s)) (with_infinite r (end_at s p)) p (λ x telling. tells_same x s telling) refl refl (record { up = λ x. x; waits = λ x. x; past = λ x. x }) said h
       by false is = told_is s (FallEvent.FailHeard false) r p said is h
-  heard_answered s (Heard.FastClose key) r p own said is h = by (is_stopped_by r) is
+  heard_answered s (Heard.FastClose key) r p own said is h = (elim (is_stopped_by r) as (λ b. (b ≡ true → did Deed.Stopped s) → PathIs k right w did (with_agenda (if b then stops s else left p) p))
+      [ true ↦ λ stopped. agenda_by (stops s) p (known s (stopped refl) own) h | false ↦ λ stopped. agenda_is k right w did _ p (none_left k right w did p) h ]) is
     where
       known : (t : Side) → did Deed.Stopped t → did Deed.Closed (peer t) → (x : Voice) → speaks x (stops t) ≡ true → VoiceIs k right w did p x
       known A stopped closed (Voice.Aborts A) spoken = (stopped, closed)
@@ -511,10 +492,6 @@ module _ (k : Secrets) (right : Bool) (w : Side → Type 0) (did : Deed → Side
       known B stopped closed (Voice.Aborts A) spoken = absurd (false≢true spoken)
       known t stopped closed (Voice.Says u) spoken = absurd (false≢true spoken)
       known t stopped closed (Voice.Falls u) spoken = absurd (false≢true spoken)
-
-      by : (b : Bool) → (b ≡ true → did Deed.Stopped s) → PathIs k right w did (with_agenda (if b then stops s else left p) p)
-      by true stopped = agenda_by (stops s) p (known s (stopped refl) own) h
-      by false stopped = agenda_is k right w did _ p (none_left k right w did p) h
 
   item_answered : (s : Side) (o : Option Heard) (r : Reply) (p : PathState Carried) → IfSome o (ItemIs k right w did (is_joined p.profile) s) → Said s p → ReplyIs (item_ask values s o p) r → PathIs k right w did p → PathIs k right w did (answered_item values s o r p)
   item_answered s None r p own said is h = agenda_is k right w did _ p (none_left k right w did p) h
@@ -643,8 +620,7 @@ module _ (k : Secrets) (right : Bool) (w : Side → Type 0) (did : Deed → Side
       if_may false n was same = was
 
       kept : (b : Bool) (key : ℕ) → did Deed.Closed s → IfSome (if b then e.notices.carrier else Some key) (λ key. did Deed.Closed s)
-      kept true key closed = was
-      kept false key closed = closed
+      kept = elim [ true ↦ λ key closed. was | false ↦ λ key closed. closed ]
 
       by : (dead : Bool) (notice : Notice) → IfSome (carrier_in notice) (λ key. did Deed.Closed s)
           → IfSome (if dead then e.notices else after_notice notice (may_note e) e.notices).carrier (λ key. did Deed.Closed s)
@@ -658,8 +634,7 @@ module _ (k : Secrets) (right : Bool) (w : Side → Type 0) (did : Deed → Side
   look_carries s _ e closed was = was
 
   identity_knows : (s : Side) (e : PathEnd) → Knows k right w did s e.modes → Knows k right w did s (in_identity e).modes
-  identity_knows A e has = has
-  identity_knows B e has = has
+  identity_knows = elim [ A ↦ λ e has. has | B ↦ λ e has. has ]
 
   answered_is : (d : Duty) (r : Reply) (p : PathState Carried) → stands d p ≡ true → ((x : Voice) → is_said_by x d ≡ true → VoiceIs k right w did p x)
       → ReplyIs (ask_for values d p) r → PathIs k right w did p → PathIs k right w did (answered values d r p)
@@ -719,8 +694,7 @@ module _ (k : Secrets) (right : Bool) (w : Side → Type 0) (did : Deed → Side
       heard_join s (keys_begun r) (asked_at s p) r p (by (asked_at s p) is) (asked_is k right w did (is_joined p.profile) s (end_at s p).treated.items (end_is k right w did s p h).items) h
     where
       by : (o : Option Asked) → ReplyIs (join_heard_ask s o p) r → IfSome o (λ x. IfSome (keys_begun r) (BeginIs k right w did s))
-      by None is = tt
-      by (Some asked) is = is
+      by = elim [ None ↦ λ is. tt | Some asked ↦ λ is. is ]
   answered_is (Duty.Send (SendDuty.Refuse s)) r p stands said is h = same_sent k right w did s _ _ _ p (refusal_is s p h) refl refl (record { up = λ x. x; waits = λ x. x; past = λ x. x }) (none_left k right w did p) h
   answered_is (Duty.Ask (AskDuty.Opened s)) r p stands said is h =
       keys_kept s (keys_heard (end_at s p).treated.items) r p (pair_found k right w did (is_joined p.profile) s (end_at s p).treated.items (end_is k right w did s p h).items) (said (Voice.Says s) (itself s)) is h

@@ -49,32 +49,25 @@ either_mode m true c d x y = x
 either_mode m false c d x y = y
 
 notice_mode : (n : Notice) (path : ℕ) (c : Control) → (controlling.after_notice n path c).fall.mode ≡ c.fall.mode
-notice_mode (Notice.Withdraw id) path c = refl
-notice_mode _ path c = refl
+notice_mode = elim [ Notice.Withdraw id ↦ λ path c. refl | _ ↦ λ path c. refl ]
 
 -- keys that are heard confirm the side, and leave its mode
 keys_mode : (fall : Fall) → (fall_keys fall).0.mode ≡ fall.mode
-keys_mode fall = by (is_identity fall.mode)
-  where
-    by : (b : Bool) → (if b then stays fall else (record fall { confirmed = true }, Stay)).0.mode ≡ fall.mode
-    by true = refl
-    by false = refl
+keys_mode fall = elim (is_identity fall.mode) as (λ b. (if b then stays fall else (record fall { confirmed = true }, Stay)).0.mode ≡ fall.mode)
+    [ true ↦ refl | false ↦ refl ]
 
 -- a side that is sure now was sure before
 abbrev WasSure : Fall → Fall → Type 0
 WasSure f g = is_sure g.mode ≡ true → is_sure f.mode ≡ true
 
 row_sure : (b : Bool) (f : Fall) (x y : Fall × Verdict) → WasSure f x.0 → WasSure f y.0 → WasSure f (if b then x else y).0
-row_sure true f x y p q = p
-row_sure false f x y p q = q
+row_sure = elim [ true ↦ λ f x y p q. p | false ↦ λ f x y p q. q ]
 
 receiving_unsure : (m : Mode) → is_sure (receiving m) ≡ true → ⊥
-receiving_unsure Mode.Starting is = false≢true is
-receiving_unsure _ is = false≢true is
+receiving_unsure = elim [ Mode.Starting ↦ λ is. false≢true is | _ ↦ λ is. false≢true is ]
 
 sending_unsure : (m : Mode) → is_sure (sending m) ≡ true → ⊥
-sending_unsure Mode.Starting is = false≢true is
-sending_unsure _ is = false≢true is
+sending_unsure = elim [ Mode.Starting ↦ λ is. false≢true is | _ ↦ λ is. false≢true is ]
 
 plain_sure : (f : Fall) → WasSure f (fall_plain f).0
 plain_sure f = row_sure (is_starting f.mode && not f.joined) f (goes Mode.Identity f) (stays f) (λ is. absurd (false≢true is)) (λ is. is)
@@ -118,11 +111,8 @@ call_mode c _ none mild = refl
 call_sure : (c : Control) (call : ControlCall) → IsMildCall call A → WasSure c.fall (controlling.after c call).fall
 call_sure c (ControlCall.Fell path event) mild = event_sure path (sole_path c.paths path) event c.fall mild
 call_sure c ControlCall.FastClose mild = λ is. absurd (false≢true is)
-call_sure c (ControlCall.FastHeard key) mild = by (key == c.keys.own)
-  where
-    by : (b : Bool) → WasSure c.fall (if b then controlling.after_event 0 false FallEvent.Stop c else c).fall
-    by true = λ is. absurd (false≢true is)
-    by false = λ is. is
+call_sure c (ControlCall.FastHeard key) mild = elim (key == c.keys.own) as (λ b. WasSure c.fall (if b then controlling.after_event 0 false FallEvent.Stop c else c).fall)
+    [ true ↦ λ is. absurd (false≢true is) | false ↦ λ is. is ]
 call_sure c call mild = λ is. ap is_sure (sym (call_mode c call tt mild)) ∙ is
 
 mild_sure : (six : SixBooks) (x : Ask) → IsMild x → WasSure six.control_a.fall (after_ask x six).control_a.fall
@@ -135,8 +125,7 @@ mild_sure six (Ask.Reassembly B call) mild = λ is. is
 mild_sure six (Ask.Local step) mild = λ is. is
 
 app_mild : (d : AppDuty) (a : AppState) → IsMild (app_ask d a)
-app_mild AppDuty.FastClose a = tt
-app_mild _ a = tt
+app_mild = elim [ AppDuty.FastClose ↦ λ a. tt | _ ↦ λ a. tt ]
 
 -- ---- what a path asks while A's end isn't clear
 
@@ -208,11 +197,8 @@ module _ (p : PathState Carried) where
   item_a index ds above _ is h unclear = tt
 
   item_mild : (index : ℕ) (ds : List Duty) → Leads (Duty.Step (StepDuty.Heard A index) ∷ ds) p → p.a.modes.clear ≡ false → IsMild (item_ask values A (item_of index p.a) p)
-  item_mild index ds h unclear = by p.a.modes.identity refl
-    where
-      by : (b : Bool) → p.a.modes.identity ≡ b → IsMild (item_ask values A (if b then None else item_at index p.a.treated.items) p)
-      by true plain = tt
-      by false above = item_a index ds above (item_at index p.a.treated.items) refl h unclear
+  item_mild index ds h unclear = (elim p.a.modes.identity as (λ b. p.a.modes.identity ≡ b → IsMild (item_ask values A (if b then None else item_at index p.a.treated.items) p))
+      [ true ↦ λ plain. tt | false ↦ λ above. item_a index ds above (item_at index p.a.treated.items) refl h unclear ]) refl
 
   first_mild : (d : Duty) (ds : List Duty) → Leads (d ∷ ds) p → p.a.modes.clear ≡ false → IsMild (ask_for values d p)
   first_mild (Duty.Send (SendDuty.Update s)) ds h unclear = tt
@@ -262,11 +248,8 @@ module _ (p : PathState Carried) where
 
 settled_first : (ds : List Duty) (p : PathState Carried) → IsSettled (settled ds p)
 settled_first [] p = tt
-settled_first (d ∷ ds) p = by (stands d p) refl (settled_first ds (passed d p))
-  where
-    by : (b : Bool) → stands d p ≡ b → IsSettled (settled ds (passed d p)) → IsSettled (if b then with_agenda (d ∷ ds) p else settled ds (passed d p))
-    by true is rest = stands_anyway d (d ∷ ds) p ∙ is
-    by false is rest = rest
+settled_first (d ∷ ds) p = (elim (stands d p) as (λ b. stands d p ≡ b → IsSettled (settled ds (passed d p)) → IsSettled (if b then with_agenda (d ∷ ds) p else settled ds (passed d p)))
+    [ true ↦ λ is rest. stands_anyway d (d ∷ ds) p ∙ is | false ↦ λ is rest. rest ]) refl (settled_first ds (passed d p))
 
 record Surely (t : Cast Carried) : Type 0 where
   settled : Every (λ x. IsSettled x.path) t.paths
@@ -308,11 +291,8 @@ module _ (t : Cast Carried) (number : ℕ) (x : Walker Carried) (there : slice_g
   asleep_mild sleeps = idle_mild x.path d (and_parts (is_idle d) (list_all is_idle ds) (subst AreIdle agenda sleeps.idle)).0
 
   clear_or_mild : (n : ℕ) → number ≡ n → FirstIsClear (set t.paths number y) ⊎ IsMild ask
-  clear_or_mild zero is = by x.path.a.modes.clear refl
-    where
-      by : (b : Bool) → x.path.a.modes.clear ≡ b → FirstIsClear (set t.paths number y) ⊎ IsMild ask
-      by true clear = inl (own_clear is clear)
-      by false unclear = inr (first_mild x.path d ds leads_here unclear)
+  clear_or_mild zero is = (elim x.path.a.modes.clear as (λ b. x.path.a.modes.clear ≡ b → FirstIsClear (set t.paths number y) ⊎ IsMild ask)
+      [ true ↦ λ clear. inl (own_clear is clear) | false ↦ λ unclear. inr (first_mild x.path d ds leads_here unclear) ]) refl
   clear_or_mild (suc n) is = ⊎_elim
       (λ sleeps. inr (asleep_mild sleeps))
       (λ clear. inl (first_stays clear))
@@ -326,13 +306,10 @@ module _ (t : Cast Carried) (number : ℕ) (x : Walker Carried) (there : slice_g
       (clear_or_mild number refl)
 
   asleep_after : IsAsleep x.path → IsAsleep y.path ⊎ FirstIsClear (set t.paths number y)
-  asleep_after sleeps = by (is_sure six.control_a.fall.mode) refl
-    where
-      by : (b : Bool) → is_sure six.control_a.fall.mode ≡ b → IsAsleep y.path ⊎ FirstIsClear (set t.paths number y)
-      by true is = inr (first_stays (h.sure is))
-      by false is =
-          let none = begins_nothing values six ask x.path is (ap (λ xs. asks_first values xs x.path) agenda) sleeps in
-          inl (takes_asleep values (reply_of six ask) x.path none settled_here sleeps)
+  asleep_after sleeps = (elim (is_sure six.control_a.fall.mode) as (λ b. is_sure six.control_a.fall.mode ≡ b → IsAsleep y.path ⊎ FirstIsClear (set t.paths number y)) [
+    | true ↦ λ is. inr (first_stays (h.sure is))
+    | false ↦ λ is. let none = begins_nothing values six ask x.path is (ap (λ xs. asks_first values xs x.path) agenda) sleeps in inl (takes_asleep values (reply_of six ask) x.path none settled_here sleeps)
+  ]) refl
 
   others_after : (n : ℕ) (z : Walker Carried) → slice_get (set t.paths number y) (suc n) ≡ Some z → IsAsleep z.path ⊎ FirstIsClear (set t.paths number y)
   others_after n z at = ⊎_elim

@@ -453,8 +453,7 @@ module _ (key_a key_b : ℕ) (right : Bool) where
       gone = Past (after_ask x six) later
 
   if_any : (o : Option ℕ) → IfSome o (λ key. Unit {0})
-  if_any None = tt
-  if_any (Some key) = tt
+  if_any = elim [ None ↦ tt | Some key ↦ tt ]
 
   -- of which nothing is said
   says_no_more : (six : SixBooks) (x : Ask) → Tells NoMore x (reply_of six x)
@@ -551,16 +550,13 @@ opened_path also right start number plan = record {
     first_end number = (waiting_path {C = Carried} (path_begins start number plan) start.lines).a.tcp
 
     waits_up : (number : ℕ) → nat_lt 0 number ≡ true → is_up (first_end number) ≡ false
-    waits_up zero joined = absurd (false≢true joined)
-    waits_up (suc n) joined = refl
+    waits_up = elim [ zero ↦ λ joined. absurd (false≢true joined) | suc n ↦ λ joined. refl ]
 
     waits_past : (number : ℕ) → is_past (first_end number).state ≡ false
-    waits_past zero = refl
-    waits_past (suc n) = refl
+    waits_past = elim [ zero ↦ refl | suc n ↦ refl ]
 
     waits_there : (number : ℕ) → is_waiting (first_end number).state ≡ true → nat_lt 0 number ≡ true
-    waits_there zero waits = absurd (false≢true waits)
-    waits_there (suc n) waits = lt-ltb 0 (suc n) (omega arith)
+    waits_there = elim [ zero ↦ λ waits. absurd (false≢true waits) | suc n ↦ λ waits. lt-ltb 0 (suc n) (omega arith) ]
 
 pub opened_keys : (right : Bool) (start : Start) → WorldIs start.key_a start.key_b right (opened_world start)
 opened_keys right start = record {

@@ -74,8 +74,7 @@ pub timer_up : (now : ℕ) (e : PathEnd) → NoWaking e.tcp (after_timer now e).
 timer_up now e = record { up = by (is_closed_to_segments e.tcp.state) _; waits = λ is. is; past = λ is. is }
   where
     by : (b on : Bool) → not b || is_some (timer_settled (not b && on) e.sending.news now e.tcp.timing) ≡ true → not b || is_some e.tcp.timing.timer ≡ true
-    by false on up = refl
-    by true on up = absurd (false≢true up)
+    by = elim [ false ↦ λ on up. refl | true ↦ λ on up. absurd (false≢true up) ]
 
 pub sending_up : (o : Occasion) (now : ℕ) (s : EndState) → NoWaking s (after_sending o now s)
 sending_up Occasion.Reset now s = record { up = λ up. up; waits = λ is. is; past = λ is. is }
@@ -115,11 +114,10 @@ pub finishing_up : (s : EndState) → NoWaking s (after_finishing s)
 finishing_up s = let same = finish_same s.state in alike_up s (after_finishing s) (record { state = same.0; waits = same.1; past = same.2; timer = refl })
 
 pub passing_up : (s : EndState) → NoWaking s (if is_fin_next s then after_passing_fin s else s)
-passing_up s = by (is_fin_next s)
-  where
-    by : (b : Bool) → NoWaking s (if b then after_passing_fin s else s)
-    by true = let same = passed_same s.state in alike_up s (after_passing_fin s) (record { state = same.0; waits = same.1; past = same.2; timer = refl })
-    by false = record { up = λ up. up; waits = λ is. is; past = λ is. is }
+passing_up s = elim (is_fin_next s) as (λ b. NoWaking s (if b then after_passing_fin s else s)) [
+  | true ↦ let same = passed_same s.state in alike_up s (after_passing_fin s) (record { state = same.0; waits = same.1; past = same.2; timer = refl })
+  | false ↦ record { up = λ up. up; waits = λ is. is; past = λ is. is }
+]
 
 -- ---- a copy
 
@@ -134,8 +132,7 @@ kind_alike : (kind : AckKind) (since : Option ℕ) (now : ℕ) (s : EndState) �
 kind_alike (AckKind.New octets) since now s = let same = by (is_fin_acked s.send) in record { state = same.0; waits = same.1; past = same.2; timer = refl }
   where
     by : (b : Bool) → Same (if b then states.after_fin_acked s.state else s.state) s.state
-    by true = acked_same s.state
-    by false = (refl, refl, refl)
+    by = elim [ true ↦ acked_same s.state | false ↦ (refl, refl, refl) ]
 kind_alike _ since now s = record { state = refl; waits = refl; past = refl; timer = refl }
 
 ack_alike : (pos now : ℕ) (s : EndState) → Alike s (after_acknowledgement pos now s)
@@ -144,8 +141,7 @@ ack_alike pos now s =
     then_alike s t (after_acknowledgement pos now s) (record { state = refl; waits = refl; past = refl; timer = refl }) (kind_alike (ack_kind pos s.send) (sample_of pos s.send) now t)
 
 row_alike : (b : Bool) (s t u : EndState) → Alike s t → Alike s u → Alike s (if b then t else u)
-row_alike true s t u x y = x
-row_alike false s t u x y = y
+row_alike = elim [ true ↦ λ s t u x y. x | false ↦ λ s t u x y. y ]
 
 owing_alike : (b : Bool) (s : EndState) → Alike s (owing_if b s)
 owing_alike true s = record { state = refl; waits = refl; past = refl; timer = refl }
@@ -251,17 +247,11 @@ copy_past m owes hint now c octets s P none accepts past is =
 
 -- a lively copy comes to an open end
 lively_open : (state : EndPhase) (c : Copy) (s : EndState) → is_lively (meaning_at state c s) ≡ true → is_closed_to_segments state ≡ false
-lively_open EndPhase.Dead c s is = by c.rst is
-  where
-    by : (b : Bool) → is_lively (if b then Meaning.Ignored else Meaning.Unwanted) ≡ true → true ≡ false
-    by true is = absurd (false≢true is)
-    by false is = absurd (false≢true is)
+lively_open EndPhase.Dead c s is = (elim c.rst as (λ b. is_lively (if b then Meaning.Ignored else Meaning.Unwanted) ≡ true → true ≡ false)
+    [ true ↦ λ is. absurd (false≢true is) | false ↦ λ is. absurd (false≢true is) ]) is
 lively_open EndPhase.Waiting c s is = absurd (false≢true is)
-lively_open EndPhase.Listen c s is = by (is_syn_alone c) is
-  where
-    by : (b : Bool) → is_lively (if b then Meaning.Opens else Meaning.Ignored) ≡ true → true ≡ false
-    by true is = absurd (false≢true is)
-    by false is = absurd (false≢true is)
+lively_open EndPhase.Listen c s is = (elim (is_syn_alone c) as (λ b. is_lively (if b then Meaning.Opens else Meaning.Ignored) ≡ true → true ≡ false)
+    [ true ↦ λ is. absurd (false≢true is) | false ↦ λ is. absurd (false≢true is) ]) is
 lively_open EndPhase.SynSent c s is = refl
 lively_open _ c s is = refl
 
@@ -271,8 +261,7 @@ module _ (rst : Bool) (items : List Heard) (e : PathEnd) where
   nothing_wakes = record { no_syn = refl; lively = λ is. absurd (false≢true is) }
 
   unless_silent : (silent : Bool) (m : Meaning) → WakesNone m e.tcp → WakesNone (taken_as (if silent then Judged.As Meaning.Ignored else Judged.As m)) e.tcp
-  unless_silent true m none = nothing_wakes
-  unless_silent false m none = none
+  unless_silent = elim [ true ↦ λ m none. nothing_wakes | false ↦ λ m none. none ]
 
   wakes_none : (m : Meaning) → (is_lively m ≡ true → is_up e.tcp ≡ true) → WakesNone (taken_as (join_judged rst items m e)) e.tcp
   wakes_none Meaning.Opens up = if_so (λ z. WakesNone (taken_as z) e.tcp) (is_some (join_asked items)) Judged.Asks Judged.Lacks nothing_wakes nothing_wakes
@@ -341,11 +330,7 @@ speaks x ds = list_any (is_said_by x) ds
 
 pub tail_speaks : (x : Voice) (ds : List Duty) → speaks x (tail_of ds) ≡ true → speaks x ds ≡ true
 tail_speaks x [] is = is
-tail_speaks x (d ∷ ds) is = by (is_said_by x d)
-  where
-    by : (b : Bool) → b || speaks x ds ≡ true
-    by true = refl
-    by false = is
+tail_speaks x (d ∷ ds) is = elim (is_said_by x d) as (λ b. b || speaks x ds ≡ true) [ true ↦ refl | false ↦ is ]
 
 pub replaced_speaks : (x : Voice) (d : Duty) (ds : List Duty) → is_said_by x d ≡ false → speaks x (replaced d ds) ≡ true → speaks x ds ≡ true
 replaced_speaks x d [] calm is = is
@@ -402,8 +387,7 @@ same_or_calm A B is = absurd (false≢true is)
 same_or_calm B A is = absurd (false≢true is)
 
 pub itself : (s : Side) → same_side s s ≡ true
-itself A = refl
-itself B = refl
+itself = elim [ A ↦ refl | B ↦ refl ]
 
 -- ---- what happens next
 
@@ -420,11 +404,8 @@ earlier_has P (Some x) (Some y) first other = if_so (λ z. IfSome z P) (nat_le (
 
 join_has : {C : Type 0} (p : PathState C) (state : EndPhase) (o : Option ℕ) → p.a.tcp.state ≡ state → IfSome (next_join state o) (Happens p)
 join_has p state None same = tt
-join_has p state (Some tick) same = by (is_waiting state) refl
-  where
-    by : (b : Bool) → is_waiting state ≡ b → IfSome (if b then Some (Event.Joins tick) else None) (Happens p)
-    by true waits = ap is_waiting same ∙ waits
-    by false waits = tt
+join_has p state (Some tick) same = (elim (is_waiting state) as (λ b. is_waiting state ≡ b → IfSome (if b then Some (Event.Joins tick) else None) (Happens p))
+    [ true ↦ λ waits. ap is_waiting same ∙ waits | false ↦ λ waits. tt ]) refl
 
 line_has : {C : Type 0} (p : PathState C) (lines : List LineLeft) → IfSome (next_line lines) (Happens p)
 line_has p [] = tt
@@ -453,5 +434,4 @@ next_happens p event is = subst (λ o. IfSome o (Happens p)) is (by (earliest p)
     soon x false has = tt
 
     by : (o : Option Event) → IfSome o (Happens p) → IfSome (option_and_then (before p.until) o) (Happens p)
-    by None has = tt
-    by (Some x) has = soon x (nat_lt (tick_of x) p.until) has
+    by = elim [ None ↦ λ has. tt | Some x ↦ λ has. soon x (nat_lt (tick_of x) p.until) has ]

@@ -26,6 +26,7 @@ use Rattle.world_laws.proofs.Lanes.Saying.{TellsFalls, RecordTold, ack_says, syn
 use Rattle.world_laws.proofs.Lanes.Showing.{HasMapping, HasFin, KindShows, RecordShows, EndShows, SegmentShows, PathShows, HasNone}
 use Rattle.world_laws.proofs.Lanes.Sides.{SideDid, Answered, IsQuiet, side_kept, side_sent, quiet, quiet_side, told_side}
 use Rattle.world_laws.proofs.Lanes.Strolling.{Strolled, side_shows}
+use Rattle.world_laws.proofs.Lanes.EndParts.{end_parts, end_whole, new_sender, new_pairs}
 
 -- ---- what holds of the lanes
 
@@ -66,26 +67,19 @@ falls_told c s e out back h = record { own = IfSome-map e.modes.own_infinite (λ
 
 -- an end whose lane sent the infinite mapping of a position
 pub paired_shows : (c : Profile) (s : Side) (pos : ℕ) (e : PathEnd) (out back : Lane) → EndShows c s e out back → EndShows c s e (with_plain_pair out pos) back
-paired_shows c s pos e out back h = record {
-  sender = record {
-    plain = h.sender.plain;
-    next = h.sender.next;
-    unfinished = h.sender.unfinished;
-    pieces = h.sender.pieces;
-    known_end = h.sender.known_end;
-    same_end = h.sender.same_end;
-    heard = h.sender.heard;
-    granted = h.sender.granted;
-    fin_acked = h.sender.fin_acked;
-    sent = h.sender.sent;
-  };
-  receiver = h.receiver;
-  acks = h.acks;
-  told = h.told;
-  treated = h.treated;
-  pairs = sender_pairs e.modes e.treated.infinite_mapping e.treated.failed_mapping out (with_plain_pair out pos) back (plain_pair_goes out pos) refl h.pairs;
-  held = h.held;
-}
+paired_shows c s pos e out back h = end_whole (new_sender (record {
+  plain = h.sender.plain;
+  next = h.sender.next;
+  unfinished = h.sender.unfinished;
+  pieces = h.sender.pieces;
+  known_end = h.sender.known_end;
+  same_end = h.sender.same_end;
+  heard = h.sender.heard;
+  granted = h.sender.granted;
+  fin_acked = h.sender.fin_acked;
+  sent = h.sender.sent;
+})
+    (new_pairs (sender_pairs e.modes e.treated.infinite_mapping e.treated.failed_mapping out (with_plain_pair out pos) back (plain_pair_goes out pos) refl h.pairs) (end_parts h)))
 
 -- ---- a step of the path
 
@@ -269,7 +263,10 @@ module _ (six : SixBooks) (others : Others) (p : PathState Carried) (ab ba : Lan
         by (Some o) none = outgoing_says p.profile s e back.acks out shows.acks.windows fell o (Some 1) none.0 none.1
 
     pub resend_step : IsCalm → Steps (sends values s (resend_of s p) p) (answered_resend values s p)
-    resend_step calm = by (has_records e.tcp)
+    resend_step calm = elim (has_records e.tcp) as (λ some. Sends (resend_occasion e) (left p) (if some then record_or_ack p.profile s (first_record e) e else ack_resent p.profile s e)) [
+      | true ↦ record_sent calm (first_record e) (every_at 0 e.tcp.send.records shows.sender.pieces) (resend_occasion e) (left p)
+      | false ↦ occasion_step s (ack_resent p.profile s e) (resend_occasion e) (left p) (others_said e.modes.owes_third e.notices.fast_closed (is_data_fin_owed e))
+    ]
       where
         others_said : (third closed owes : Bool) → SegmentShows p.profile s back.acks out (if third then ack_said p.profile s e.tcp.send.nxt None e
             else (if closed then carried_said p.profile s e.notices.carrier e
@@ -278,10 +275,6 @@ module _ (six : SixBooks) (others : Others) (p : PathState Carried) (ab ba : Lan
         others_said false true owes = carried_shows calm e.notices.carrier
         others_said false false true = ack_says p.profile s e back.acks out shows.acks.windows fell (shows.acks.sub calm) e.tcp.send.nxt e.sending.known_end shows.sender.known_end
         others_said false false false = ack_said_shows calm (e.tcp.send.una - 1)
-
-        by : (some : Bool) → Sends (resend_occasion e) (left p) (if some then record_or_ack p.profile s (first_record e) e else ack_resent p.profile s e)
-        by true = record_sent calm (first_record e) (every_at 0 e.tcp.send.records shows.sender.pieces) (resend_occasion e) (left p)
-        by false = occasion_step s (ack_resent p.profile s e) (resend_occasion e) (left p) (others_said e.modes.owes_third e.notices.fast_closed (is_data_fin_owed e))
 
     pub reset_step : IsCalm → (reason : Option ℕ) (ds : List Duty) → Steps (sends values s (reset_of s reason p) p) (reset_on values s reason ds p)
     reset_step calm reason ds =
@@ -305,11 +298,8 @@ module _ (six : SixBooks) (others : Others) (p : PathState Carried) (ab ba : Lan
         next = shows.sender.next (unfinished_if e.tcp.state may)
 
         position : fin_position e.tcp.send ≡ suc (length out.sent)
-        position = at e.tcp.send.finished refl
-          where
-            at : (b : Bool) → e.tcp.send.finished ≡ b → ◌≡◌ {A = ℕ} (if b then e.tcp.send.nxt - 1 else e.tcp.send.nxt) (suc (length out.sent))
-            at false is = next
-            at true is = absurd (both_ways e.tcp.send.finished (shows.sender.unfinished (unfinished_if e.tcp.state may)) is)
+        position = (elim e.tcp.send.finished as (λ b. e.tcp.send.finished ≡ b → ◌≡◌ {A = ℕ} (if b then e.tcp.send.nxt - 1 else e.tcp.send.nxt) (suc (length out.sent)))
+            [ false ↦ λ is. next | true ↦ λ is. absurd (both_ways e.tcp.send.finished (shows.sender.unfinished (unfinished_if e.tcp.state may)) is) ]) refl
 
         fin_there : HasFin (with_fin_sent out).fins (fin_position e.tcp.send)
         fin_there = has_last out.fins (length out.sent) (sym position)
@@ -385,8 +375,7 @@ module _ (six : SixBooks) (others : Others) (p : PathState Carried) (ab ba : Lan
     -- ---- a join
 
     join_heard_quiet : (o : Option JoinSyn) → MayAnswer s six → IsQuiet six (join_heard_ask s o p)
-    join_heard_quiet None may = tt
-    join_heard_quiet (Some asked) may = may
+    join_heard_quiet = elim [ None ↦ λ may. tt | Some asked ↦ λ may. may ]
 
     join_by : (keys : Option KeyPair) (o : Option JoinSyn) (r : Reply) (ask : Ask) → IsQuiet six ask → IfSome o (λ asked. HasNone out.acks e.treated.window) → Steps ask (join_taken s keys o r p)
     join_by (Some keys) (Some asked) r ask is has =

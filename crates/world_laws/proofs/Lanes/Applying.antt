@@ -8,28 +8,19 @@ use Rattle.send_book.specs.Steps as send
 -- ---- lists that grow
 
 pub any_more : {X : Type 0} (test : X → Bool) (xs : List X) (x : X) → list_any test (xs ++ x ∷ []) ≡ (list_any test xs || test x)
-any_more test [] x = by (test x)
-  where
-    by : (b : Bool) → (b || false) ≡ b
-    by true = refl
-    by false = refl
-any_more test (y ∷ xs) x = by (test y) (any_more test xs x)
-  where
-    by : (b : Bool) → list_any test (xs ++ x ∷ []) ≡ (list_any test xs || test x) → (b || list_any test (xs ++ x ∷ [])) ≡ ((b || list_any test xs) || test x)
-    by true rest = refl
-    by false rest = rest
+any_more test [] x = elim (test x) as (λ b. (b || false) ≡ b) [ true ↦ refl | false ↦ refl ]
+any_more test (y ∷ xs) x = (elim (test y) as (λ b. list_any test (xs ++ x ∷ []) ≡ (list_any test xs || test x) → (b || list_any test (xs ++ x ∷ [])) ≡ ((b || list_any test xs) || test x))
+    [ true ↦ λ rest. refl | false ↦ λ rest. rest ]) (any_more test xs x)
 
 read_more : (notes : List Note) (n : Note) → read_by (notes ++ n ∷ []) ≡ read_by notes ++ bytes_noted n
 read_more [] n = append-nil (bytes_noted n)
 read_more (note ∷ notes) n = ap (λ xs. bytes_noted note ++ xs) (read_more notes n) ∙ sym (append_assoc (bytes_noted note) (read_by notes) (bytes_noted n))
 
 or_false : (b : Bool) → (b || false) ≡ b
-or_false true = refl
-or_false false = refl
+or_false = elim [ true ↦ refl | false ↦ refl ]
 
 pub or_true : (b : Bool) → (b || true) ≡ true
-or_true true = refl
-or_true false = refl
+or_true = elim [ true ↦ refl | false ↦ refl ]
 
 -- ---- an application
 
@@ -48,8 +39,7 @@ pub record Reads (told : Bool) (notes : List Note) (r : Reader) : Type 0 where
 -- ---- the agenda
 
 same_stands : (d : AppDuty) (ds : List AppDuty) (a : AppState) → app_stands d a ≡ true → app_stands d (record a { agenda = d ∷ ds }) ≡ true
-same_stands AppDuty.FastClose ds a is = is
-same_stands _ ds a is = is
+same_stands = elim [ AppDuty.FastClose ↦ λ ds a is. is | _ ↦ λ ds a is. is ]
 
 -- settling changes the agenda alone, and what then stands first comes to something
 pub record Settles (a b : AppState) : Type 0 where
@@ -59,11 +49,8 @@ pub record Settles (a b : AppState) : Type 0 where
 
 pub settled_app : (ds : List AppDuty) (a : AppState) → Settles a (app_settled ds a)
 settled_app [] a = record { agenda = []; is = refl; settled = tt }
-settled_app (d ∷ ds) a = by (app_stands d a) refl (settled_app ds a)
-  where
-    by : (b : Bool) → app_stands d a ≡ b → Settles a (app_settled ds a) → Settles a (if b then record a { agenda = d ∷ ds } else app_settled ds a)
-    by true is rest = record { agenda = d ∷ ds; is = refl; settled = same_stands d ds a is }
-    by false is rest = rest
+settled_app (d ∷ ds) a = (elim (app_stands d a) as (λ b. app_stands d a ≡ b → Settles a (app_settled ds a) → Settles a (if b then record a { agenda = d ∷ ds } else app_settled ds a))
+    [ true ↦ λ is rest. record { agenda = d ∷ ds; is = refl; settled = same_stands d ds a is } | false ↦ λ is rest. rest ]) refl (settled_app ds a)
 
 -- ---- writing
 
@@ -79,8 +66,7 @@ pub writes_more : (file rest : List ℕ) (buffer : ℕ) (b : Sending) → not (i
 writes_more file rest buffer b some h = by (b.closed || b.aborted) refl
   where
     nonempty : (xs : List ℕ) → not (is_nil xs) ≡ true → xs ≡ [] → ⊥
-    nonempty [] is e = false≢true is
-    nonempty (x ∷ xs) is e = cc
+    nonempty = elim [ [] ↦ λ is e. false≢true is | x ∷ xs ↦ λ is e. cc ]
 
     by : (shut : Bool) → (b.closed || b.aborted) ≡ shut
         → Writes file (drop (taken_in (Reply.Send (if shut then SendReply.Shut else SendReply.Taken (send.bytes_taken (take buffer rest) b)))) rest)

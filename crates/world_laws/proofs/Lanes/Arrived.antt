@@ -60,8 +60,7 @@ module _ (c : Profile) (s : Side) (k : Knowledge) (live : List KeptMapping) (out
   payload_held sg (Meaning.Taken pos acknowledged) tcp fits said h = by (is_nil sg.payload) refl
     where
       nonempty : (xs : List ℕ) → is_nil xs ≡ false → xs ≡ [] → ⊥
-      nonempty [] is e = false≢true (sym is)
-      nonempty (x ∷ xs) is e = cc
+      nonempty = elim [ [] ↦ λ is e. false≢true (sym is) | x ∷ xs ↦ λ is e. cc ]
 
       by : (b : Bool) → is_nil sg.payload ≡ b → Held (if b then tcp else taking.after_holding pos sg.payload tcp)
       by true is = not_held tcp h
@@ -75,20 +74,14 @@ module _ (c : Profile) (s : Side) (k : Knowledge) (live : List KeptMapping) (out
 -- ---- each meaning
 
 same_phase : (m : Meaning) (octets : List ℕ) (tcp : EndState) → (with_payload m octets tcp).state ≡ tcp.state
-same_phase (Meaning.Taken pos acknowledged) octets tcp = by (is_nil octets)
-  where
-    by : (b : Bool) → (if b then tcp else taking.after_holding pos octets tcp).state ≡ tcp.state
-    by true = refl
-    by false = refl
+same_phase (Meaning.Taken pos acknowledged) octets tcp = elim (is_nil octets) as (λ b. (if b then tcp else taking.after_holding pos octets tcp).state ≡ tcp.state)
+    [ true ↦ refl | false ↦ refl ]
 same_phase Meaning.Ignored octets tcp = refl
 same_phase _ octets tcp = refl
 
 same_told : (m : Meaning) (octets : List ℕ) (tcp : EndState) → (with_payload m octets tcp).congestion ≡ tcp.congestion
-same_told (Meaning.Taken pos acknowledged) octets tcp = by (is_nil octets)
-  where
-    by : (b : Bool) → (if b then tcp else taking.after_holding pos octets tcp).congestion ≡ tcp.congestion
-    by true = refl
-    by false = refl
+same_told (Meaning.Taken pos acknowledged) octets tcp = elim (is_nil octets) as (λ b. (if b then tcp else taking.after_holding pos octets tcp).congestion ≡ tcp.congestion)
+    [ true ↦ refl | false ↦ refl ]
 same_told Meaning.Ignored octets tcp = refl
 same_told _ octets tcp = refl
 
@@ -149,15 +142,13 @@ payload_edge : (pos : ℕ) (hint : Hint) (copy : Copy) (tcp : EndState) → hint
 payload_edge pos hint copy tcp keep = ap (λ (b : Bool). (if taking.is_kept b tcp then after_accept pos copy.payload tcp.recv else tcp.recv).edge) keep
 
 kind_edge : (kind : AckKind) (since : Option ℕ) (now : ℕ) (tcp : EndState) → (taking.after_ack_kind kind since now tcp).recv ≡ tcp.recv
-kind_edge (AckKind.New octets) since now tcp = refl
-kind_edge _ since now tcp = refl
+kind_edge = elim [ AckKind.New octets ↦ λ since now tcp. refl | _ ↦ λ since now tcp. refl ]
 
 ack_edge : (pos now : ℕ) (tcp : EndState) → (taking.after_acknowledgement pos now tcp).recv ≡ tcp.recv
 ack_edge pos now tcp = kind_edge (ack_kind pos tcp.send) (sample_of pos tcp.send) now (record tcp { send = after_acknowledge pos tcp.send })
 
 row_edge : (b : Bool) (tcp : EndState) → (if b then taking.after_duplicate tcp else taking.after_interruption tcp).recv ≡ tcp.recv
-row_edge true tcp = refl
-row_edge false tcp = refl
+row_edge = elim [ true ↦ λ tcp. refl | false ↦ λ tcp. refl ]
 
 arrival_edge : (m : Meaning) (hint : Hint) (now : ℕ) (copy : Copy) (tcp : EndState) → hint.keep ≡ false → (taking.after_arrival m hint now copy tcp).recv.edge ≡ tcp.recv.edge
 arrival_edge (Meaning.Taken pos acknowledged) hint now copy tcp keep =
@@ -172,17 +163,13 @@ arrival_edge Meaning.Opens hint now copy tcp keep = payload_edge 1 hint copy tcp
 arrival_edge _ hint now copy tcp keep = refl
 
 held_edge : (m : Meaning) (octets : List ℕ) (tcp : EndState) → (with_payload m octets tcp).recv.edge ≡ tcp.recv.edge
-held_edge (Meaning.Taken pos acknowledged) octets tcp = by (is_nil octets)
-  where
-    by : (b : Bool) → (if b then tcp else taking.after_holding pos octets tcp).recv.edge ≡ tcp.recv.edge
-    by true = refl
-    by false = refl
+held_edge (Meaning.Taken pos acknowledged) octets tcp = elim (is_nil octets) as (λ b. (if b then tcp else taking.after_holding pos octets tcp).recv.edge ≡ tcp.recv.edge)
+    [ true ↦ refl | false ↦ refl ]
 held_edge Meaning.Ignored octets tcp = refl
 held_edge _ octets tcp = refl
 
 owing_edge : (b : Bool) (tcp : EndState) → (owing_if b tcp).recv.edge ≡ tcp.recv.edge
-owing_edge true tcp = refl
-owing_edge false tcp = refl
+owing_edge = elim [ true ↦ λ tcp. refl | false ↦ λ tcp. refl ]
 
 -- where something is there, what holds anyway
 if_some : {X P : Type 0} (o : Option X) → P → IfSome o (λ x. P)
@@ -219,8 +206,7 @@ acknowledged_shows_in c from acks p sg (Meaning.Taken position acknowledged) u f
   where
     by : (o : Option ℕ) → acknowledged_in (option_map (λ n. At n) o) ≡ Some acknowledged → IfSome o (λ n. HasSub acks (n - 1) (window_told sg.syn sg.window))
         → HasSub acks (unwrap_or (acknowledged_in (option_map (λ n. At n) o)) 0 - 1) (window_told sg.syn sg.window)
-    by None is has = cc
-    by (Some n) is has = has
+    by = elim [ None ↦ λ is has. cc | Some n ↦ λ is has. has ]
 acknowledged_shows_in c from acks p sg Meaning.Ignored u fits said = sub_of_none _ said.window
 acknowledged_shows_in c from acks p sg _ u fits said = sub_of_none _ said.window
 

@@ -27,18 +27,14 @@ module _ (acks : List AckCopy) (p : Lane) (window : ℕ) where
   one item h = every_cons item [] h (Every-nil _)
 
   said_if : (b : Bool) (item : Heard) → ItemShows acks p item → Says (if b then item ∷ [] else [])
-  said_if true item h = one item h
-  said_if false item h = Every-nil _
+  said_if = elim [ true ↦ λ item h. one item h | false ↦ λ item h. Every-nil _ ]
 
   mapping_says : (place position len : ℕ) → Says (mapping_items place position len false)
   mapping_says place position len = if_so Says (is_mapping place position len) (Heard.Mapping false ∷ []) [] (one (Heard.Mapping false) tt) (Every-nil _)
 
   first_says : (len : ℕ) → Says (first_items len)
-  first_says len = by (nat_lt 0 len) (mapping_says 0 1 len)
-    where
-      by : (b : Bool) → Says (mapping_items 0 1 len false) → Says (if b then mapping_items 0 1 len false else [])
-      by true says_it = says_it
-      by false says_it = Every-nil _
+  first_says len = (elim (nat_lt 0 len) as (λ b. Says (mapping_items 0 1 len false) → Says (if b then mapping_items 0 1 len false else []))
+      [ true ↦ λ says_it. says_it | false ↦ λ says_it. Every-nil _ ]) (mapping_says 0 1 len)
 
   map_says : (c : Profile) (from : Side) (o : Option (PathMapping ℕ)) → MappingShows c from o p → Says (map_items (option_map meant_mapping o))
   map_says c from None h = Every-nil _
@@ -70,8 +66,7 @@ module _ (acks : List AckCopy) (p : Lane) (window : ℕ) where
   join_says B (JoinForm.Answer backup id hmac nonce) = Every-nil _
 
   key_items_say : (joined : Bool) (s : Side) (keys : CapableKeys) → Says (if joined then [] else key_items s keys)
-  key_items_say true s keys = Every-nil _
-  key_items_say false s keys = keys_say s keys
+  key_items_say = elim [ true ↦ λ s keys. Every-nil _ | false ↦ λ s keys. keys_say s keys ]
 
   option_says : (c : Profile) (from : Side) (joined : Bool) (s : Side) (o : PlainOption) → OptionShows c from window acks p o → Says (items_in joined s window (meant_option o))
   option_says c from joined s (Capable flag_a flag_c keys) h = key_items_say joined s keys
@@ -111,11 +106,8 @@ module _ (c : Profile) (window : ℕ) (acks : List AckCopy) (p : Lane) where
   keys_hold B NoKey h = Every-nil _
   keys_hold B (Sender sender) h = Every-nil _
   keys_hold B (Both sender receiver) h = Every-nil _
-  keys_hold B (WithData sender receiver len checksum) h = by (nat_lt 0 len) (if_held B 0 1 len checksum h.0 h.1)
-    where
-      by : (b : Bool) → Held (held_if c B 0 1 len false checksum) → Held (if b then held_if c B 0 1 len false checksum else [])
-      by true holds = holds
-      by false holds = Every-nil _
+  keys_hold B (WithData sender receiver len checksum) h = (elim (nat_lt 0 len) as (λ b. Held (held_if c B 0 1 len false checksum) → Held (if b then held_if c B 0 1 len false checksum else []))
+      [ true ↦ λ holds. holds | false ↦ λ holds. Every-nil _ ]) (if_held B 0 1 len checksum h.0 h.1)
 
   option_holds : (s : Side) (o : PlainOption) → OptionShows c (peer s) window acks p o → Held (held_in c s (meant_option o))
   option_holds s (Capable flag_a flag_c keys) h = if_so Held (is_joined c) [] (key_held c s keys) (Every-nil _) (keys_hold s keys h)

@@ -112,11 +112,8 @@ module _ (start : Start) (can : Carries start) where
 
   -- what the script alters the links may
   may_alter : (number : ℕ) (from : Side) (n : ℕ) → is_altered from n (lines_of number start.lines) ≡ true → can.links.alters ≡ true
-  may_alter number from n is = by can.links.alters refl
-    where
-      by : (b : Bool) → can.links.alters ≡ b → b ≡ true
-      by true same = refl
-      by false same = absurd (both_ways _ ((can.may same number).alters from n) is)
+  may_alter number from n is = (elim can.links.alters as (λ b. can.links.alters ≡ b → b ≡ true)
+      [ true ↦ λ same. refl | false ↦ λ same. absurd (both_ways _ ((can.may same number).alters from n) is) ]) refl
 
   first_may : (number : ℕ) → MayAlter (lines_of number start.lines) can.links.alters can.links.alters
   first_may number = record { a = may_alter number A; b = may_alter number B }

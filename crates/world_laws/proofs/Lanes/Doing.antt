@@ -217,8 +217,7 @@ module _ (span : Span) (piece : List ℕ) (p : Lane) where
 
   -- that copy is there, with the link's own word for it
   same_turned : (octets : List ℕ) → with_bit_turned octets 0 0 ≡ with_turned_bit octets
-  same_turned [] = refl
-  same_turned (first ∷ rest) = refl
+  same_turned = elim [ [] ↦ refl | first ∷ rest ↦ refl ]
 
   pub turned_granted : (position : ℕ) → suc (length p.sent) ≡ position → p.alters ≡ true → HasData with_piece.datas position (with_turned_bit piece)
   turned_granted position at may =

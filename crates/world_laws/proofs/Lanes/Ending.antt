@@ -15,6 +15,7 @@ use Rattle.world_laws.proofs.Lanes.Roads.{moves, Strolls, stays}
 use Rattle.world_laws.proofs.Lanes.SentRecords.{granted_sent, heard_sent, finished_sent}
 use Rattle.world_laws.proofs.Lanes.Showing.{HasNumber, HasFin, KindShows, RecordShows, is_unfinished, TreatedShows, EndShows, HasNone, IsAtEdge, IsGrantedTo, IsPastFin, OwnIs, PeerIs, PairsShow}
 use Rattle.world_laws.proofs.Lanes.Records.{every_cons, every_first, every_rest}
+use Rattle.world_laws.proofs.Lanes.EndParts.{end_parts, end_whole, new_sender, new_receiver, new_acks, new_told, new_treated, new_pairs}
 
 -- an end that may finish hasn't finished
 pub unfinished_if : (state : EndPhase) → states.may_finish state ≡ true → is_unfinished state ≡ true
@@ -73,26 +74,20 @@ module _ (c : Profile) (s : Side) (out back : Lane) where
 
   -- an end falls back by one rule alone
   pub with_modes : (e : PathEnd) (m : Modes) → Alike m e.modes → EndShows c s e out back → EndShows c s (record e { modes = m }) out back
-  with_modes e m same h = record {
-    sender = record {
-      plain = h.sender.plain ∙ sym same.identity;
-      next = h.sender.next;
-      unfinished = h.sender.unfinished;
-      pieces = h.sender.pieces;
-      known_end = h.sender.known_end;
-      same_end = h.sender.same_end;
-      heard = h.sender.heard;
-      granted = h.sender.granted;
-      fin_acked = h.sender.fin_acked;
-      sent = h.sender.sent;
-    };
-    receiver = record { same_mode = h.receiver.same_mode ∙ sym same.identity; edge = h.receiver.edge; fin = h.receiver.fin; mapped = h.receiver.mapped };
-    acks = h.acks;
-    told = h.told;
-    treated = h.treated;
-    pairs = alike_pairs m e.modes e.treated.infinite_mapping e.treated.failed_mapping out back same h.pairs;
-    held = h.held;
-  }
+  with_modes e m same h = end_whole (new_sender (record {
+    plain = h.sender.plain ∙ sym same.identity;
+    next = h.sender.next;
+    unfinished = h.sender.unfinished;
+    pieces = h.sender.pieces;
+    known_end = h.sender.known_end;
+    same_end = h.sender.same_end;
+    heard = h.sender.heard;
+    granted = h.sender.granted;
+    fin_acked = h.sender.fin_acked;
+    sent = h.sender.sent;
+  })
+      (new_receiver (record { same_mode = h.receiver.same_mode ∙ sym same.identity; edge = h.receiver.edge; fin = h.receiver.fin; mapped = h.receiver.mapped })
+      (new_pairs (alike_pairs m e.modes e.treated.infinite_mapping e.treated.failed_mapping out back same h.pairs) (end_parts h))))
 
   -- ---- the reply to AckOut
 
@@ -115,20 +110,14 @@ module _ (c : Profile) (s : Side) (out back : Lane) where
         back_moves = record { by = ack_moves next window sub; calm = refl; to = refl };
         sender = sender_stays out;
         receiver = told_goes next window sub back;
-        shows = record {
-          sender = h.sender;
-          receiver = record { same_mode = h.receiver.same_mode; edge = same_edge refl refl refl (λ position octets has. has) h.receiver.edge; fin = h.receiver.fin; mapped = h.receiver.mapped };
-          acks = record {
-            windows = told_windows next window sub back;
-            latest = refl;
-            due = λ asked. refl;
-            sub = λ asked. told_sub next window sub back (covered e.tcp.recv _ h.receiver.edge);
-          };
-          told = h.told;
-          treated = record { items = h.treated.items; fins = h.treated.fins; answer = h.treated.answer; window = h.treated.window; sub = h.treated.sub; nothing = h.treated.nothing };
-          pairs = h.pairs;
-          held = h.held;
-        };
+        shows = end_whole (new_receiver (record { same_mode = h.receiver.same_mode; edge = same_edge refl refl refl (λ position octets has. has) h.receiver.edge; fin = h.receiver.fin; mapped = h.receiver.mapped })
+            (new_acks (record {
+              windows = told_windows next window sub back;
+              latest = refl;
+              due = λ asked. refl;
+              sub = λ asked. told_sub next window sub back (covered e.tcp.recv _ h.receiver.edge);
+            })
+            (new_treated (record { items = h.treated.items; fins = h.treated.fins; answer = h.treated.answer; window = h.treated.window; sub = h.treated.sub; nothing = h.treated.nothing }) (end_parts h))));
       }
 
   -- ---- grants
@@ -197,36 +186,31 @@ module _ (c : Profile) (s : Side) (out back : Lane) where
         back_moves = stays back;
         sender = g;
         receiver = receiver_stays back;
-        shows = record {
-          sender = record {
-            plain = h.sender.plain;
-            next = λ un. omega (arith, at, l);
-            unfinished = h.sender.unfinished;
-            pieces = Every-push _ (same_pieces q (longer q g) e.tcp.send h.sender.pieces) (record {
-              octets = Has-more (altered_granted span piece out) (has_last out.datas (copy_granted span piece out) (record { position_is = sym at; octets_are = refl }));
-              turned = λ may. turned_granted span piece out e.tcp.send.nxt (sym at) may;
-              mapping = Has-more (altered_granted span piece out) (has_last out.datas (copy_granted span piece out) (record {
-                mapping = _;
-                there = refl;
-                is = record { place_is = sym (place_is c s span.from e.tcp.send.nxt (length piece) fit.small); position_is = sym at; len_is = refl };
-              }));
-              summed = granted_summed span piece out c s e.tcp.send.nxt (sym at) fit.small;
-            });
-            known_end = h.sender.known_end;
-            same_end = h.sender.same_end;
-            heard = h.sender.heard;
-            granted = Every-push (granted_at e.tcp.send.nxt span) (Every-map (λ old g. record { last = g.last; last_is = g.last_is; has = Has-more (cells_from span.from piece) g.has }) h.sender.granted) (last_of out.sent e.tcp.send.nxt span piece fit);
-            fin_acked = h.sender.fin_acked;
-            sent = granted_sent e.tcp.send.nxt e.sending.heard span.from span.to piece e.sending.granted out.sent out.fins out.pair at fit.whole fit.some e.tcp.send.finished h.sender.sent
-                (h.sender.unfinished (unfinished_if e.tcp.state may));
-          };
-          receiver = h.receiver;
-          acks = h.acks;
-          told = receiving_same q g e h;
-          treated = treated_same q g e h;
-          pairs = pairs_same q g e refl h;
-          held = h.held;
-        };
+        shows = end_whole (new_sender (record {
+          plain = h.sender.plain;
+          next = λ un. omega (arith, at, l);
+          unfinished = h.sender.unfinished;
+          pieces = Every-push _ (same_pieces q (longer q g) e.tcp.send h.sender.pieces) (record {
+            octets = Has-more (altered_granted span piece out) (has_last out.datas (copy_granted span piece out) (record { position_is = sym at; octets_are = refl }));
+            turned = λ may. turned_granted span piece out e.tcp.send.nxt (sym at) may;
+            mapping = Has-more (altered_granted span piece out) (has_last out.datas (copy_granted span piece out) (record {
+              mapping = _;
+              there = refl;
+              is = record { place_is = sym (place_is c s span.from e.tcp.send.nxt (length piece) fit.small); position_is = sym at; len_is = refl };
+            }));
+            summed = granted_summed span piece out c s e.tcp.send.nxt (sym at) fit.small;
+          });
+          known_end = h.sender.known_end;
+          same_end = h.sender.same_end;
+          heard = h.sender.heard;
+          granted = Every-push (granted_at e.tcp.send.nxt span) (Every-map (λ old g. record { last = g.last; last_is = g.last_is; has = Has-more (cells_from span.from piece) g.has }) h.sender.granted) (last_of out.sent e.tcp.send.nxt span piece fit);
+          fin_acked = h.sender.fin_acked;
+          sent = granted_sent e.tcp.send.nxt e.sending.heard span.from span.to piece e.sending.granted out.sent out.fins out.pair at fit.whole fit.some e.tcp.send.finished h.sender.sent
+              (h.sender.unfinished (unfinished_if e.tcp.state may));
+        })
+            (new_told (receiving_same q g e h)
+            (new_treated (treated_same q g e h)
+            (new_pairs (pairs_same q g e refl h) (end_parts h)))));
       }
 
   pub refused_end : (why : Why) (told : Option ℕ) (e : PathEnd) → EndShows c s e out back
@@ -241,35 +225,24 @@ module _ (c : Profile) (s : Side) (out back : Lane) where
         back_moves = stays back;
         sender = g;
         receiver = receiver_stays back;
-        shows = record {
-          sender = record {
-            plain = h.sender.plain;
-            next = h.sender.next;
-            unfinished = h.sender.unfinished;
-            pieces = h.sender.pieces;
-            known_end = known_at told;
-            same_end = same_at told;
-            heard = h.sender.heard;
-            granted = h.sender.granted;
-            fin_acked = h.sender.fin_acked;
-            sent = h.sender.sent;
-          };
-          receiver = h.receiver;
-          acks = h.acks;
-          told = h.told;
-          treated = treated_same q g e h;
-          pairs = h.pairs;
-          held = h.held;
-        };
+        shows = end_whole (new_sender (record {
+          plain = h.sender.plain;
+          next = h.sender.next;
+          unfinished = h.sender.unfinished;
+          pieces = h.sender.pieces;
+          known_end = known_at told;
+          same_end = elim told as (λ told. later_end told out.known_end ≡ told_last told e.sending.known_end) [ Some place ↦ refl | None ↦ h.sender.same_end ];
+          heard = h.sender.heard;
+          granted = h.sender.granted;
+          fin_acked = h.sender.fin_acked;
+          sent = h.sender.sent;
+        })
+            (new_treated (treated_same q g e h) (end_parts h)));
       }
     where
       known_at : (told : Option ℕ) → IfSome (told_last told e.sending.known_end) (HasNumber (out.data_fins ++ known (later_end told out.known_end)))
       known_at (Some place) = has_last out.data_fins place refl
       known_at None = IfSome-map e.sending.known_end (λ n has. Has-more _ has) h.sender.known_end
-
-      same_at : (told : Option ℕ) → later_end told out.known_end ≡ told_last told e.sending.known_end
-      same_at (Some place) = refl
-      same_at None = h.sender.same_end
 
   -- ---- acknowledgements
 
@@ -301,36 +274,25 @@ module _ (c : Profile) (s : Side) (out back : Lane) where
     back_moves = stays back;
     sender = idle_goes;
     receiver = receiver_stays back;
-    shows = record {
-      sender = record {
-        plain = h.sender.plain;
-        next = h.sender.next;
-        unfinished = h.sender.unfinished;
-        pieces = h.sender.pieces;
-        known_end = h.sender.known_end;
-        same_end = h.sender.same_end;
-        heard = h.sender.heard;
-        granted = h.sender.granted;
-        fin_acked = h.sender.fin_acked;
-        sent = h.sender.sent;
-      };
-      receiver = h.receiver;
-      acks = h.acks;
-      told = h.told;
-      treated = h.treated;
-      pairs = h.pairs;
-      held = h.held;
-    };
+    shows = end_whole (new_sender (record {
+      plain = h.sender.plain;
+      next = h.sender.next;
+      unfinished = h.sender.unfinished;
+      pieces = h.sender.pieces;
+      known_end = h.sender.known_end;
+      same_end = h.sender.same_end;
+      heard = h.sender.heard;
+      granted = h.sender.granted;
+      fin_acked = h.sender.fin_acked;
+      sent = h.sender.sent;
+    }) (end_parts h));
   }
 
   -- what passes a test
   pub tested : {X : Type 0} {P : X → Type 0} (test : X → Bool) (xs : List X) → Every P xs → Every P (filter test xs)
   tested test [] h = h
-  tested {X} {P} test (x ∷ xs) h = by (test x) (tested test xs (every_rest x xs h))
-    where
-      by : (b : Bool) → Every P (filter test xs) → Every P (if b then x ∷ filter test xs else filter test xs)
-      by true rest = every_cons x _ (every_first x xs h) rest
-      by false rest = rest
+  tested {X} {P} test (x ∷ xs) h = (elim (test x) as (λ b. Every P (filter test xs) → Every P (if b then x ∷ filter test xs else filter test xs))
+      [ true ↦ λ rest. every_cons x _ (every_first x xs h) rest | false ↦ λ rest. rest ]) (tested test xs (every_rest x xs h))
 
   -- an acknowledgement changes what the lane's sender knows, and nothing else
   pub heard_end : (next : ℕ) (r : SendReply) (e : PathEnd) → EndShows c s e out back
@@ -355,26 +317,18 @@ module _ (c : Profile) (s : Side) (out back : Lane) where
       is = rw (append-nil out.sent, append-nil out.datas, append-nil out.data_fins, append-nil out.fins, append-nil out.pairs) refl;
     };
     receiver = receiver_stays back;
-    shows = record {
-      sender = record {
-        plain = h.sender.plain;
-        next = h.sender.next;
-        unfinished = h.sender.unfinished;
-        pieces = h.sender.pieces;
-        known_end = h.sender.known_end;
-        same_end = h.sender.same_end;
-        heard = ap (λ n. max n next) h.sender.heard;
-        granted = tested (is_open (max e.sending.heard next)) e.sending.granted h.sender.granted;
-        fin_acked = λ is. ⊎_elim (λ old. or_left out.fin_acked fin (h.sender.fin_acked old)) (λ new. or_right out.fin_acked fin new) (or_cases e.sending.close.own_acked fin is);
-        sent = heard_sent e.tcp.send.finished e.tcp.send.nxt e.sending.heard next e.sending.granted out.sent out.fins out.pair h.sender.sent;
-      };
-      receiver = h.receiver;
-      acks = h.acks;
-      told = h.told;
-      treated = h.treated;
-      pairs = h.pairs;
-      held = h.held;
-    };
+    shows = end_whole (new_sender (record {
+      plain = h.sender.plain;
+      next = h.sender.next;
+      unfinished = h.sender.unfinished;
+      pieces = h.sender.pieces;
+      known_end = h.sender.known_end;
+      same_end = h.sender.same_end;
+      heard = ap (λ n. max n next) h.sender.heard;
+      granted = tested (is_open (max e.sending.heard next)) e.sending.granted h.sender.granted;
+      fin_acked = λ is. ⊎_elim (λ old. or_left out.fin_acked fin (h.sender.fin_acked old)) (λ new. or_right out.fin_acked fin new) (or_cases e.sending.close.own_acked fin is);
+      sent = heard_sent e.tcp.send.finished e.tcp.send.nxt e.sending.heard next e.sending.granted out.sent out.fins out.pair h.sender.sent;
+    }) (end_parts h));
   }
   heard_end next (SendReply.Taken count) e h = idle_end e h
   heard_end next _ e h = idle_end e h
@@ -401,26 +355,18 @@ module _ (c : Profile) (s : Side) (out back : Lane) where
       is = rw (append-nil out.sent, append-nil out.datas, append-nil out.data_fins, append-nil out.fins, append-nil out.pairs) refl;
     };
     receiver = receiver_stays back;
-    shows = record {
-      sender = record {
-        plain = h.sender.plain;
-        next = h.sender.next;
-        unfinished = h.sender.unfinished;
-        pieces = h.sender.pieces;
-        known_end = h.sender.known_end;
-        same_end = h.sender.same_end;
-        heard = (let same : max out.heard 0 ≡ out.heard = omega arith in same ∙ h.sender.heard);
-        granted = h.sender.granted;
-        fin_acked = λ is. or_left out.fin_acked fin (h.sender.fin_acked is);
-        sent = h.sender.sent;
-      };
-      receiver = h.receiver;
-      acks = h.acks;
-      told = h.told;
-      treated = h.treated;
-      pairs = h.pairs;
-      held = h.held;
-    };
+    shows = end_whole (new_sender (record {
+      plain = h.sender.plain;
+      next = h.sender.next;
+      unfinished = h.sender.unfinished;
+      pieces = h.sender.pieces;
+      known_end = h.sender.known_end;
+      same_end = h.sender.same_end;
+      heard = (let same : max out.heard 0 ≡ out.heard = omega arith in same ∙ h.sender.heard);
+      granted = h.sender.granted;
+      fin_acked = λ is. or_left out.fin_acked fin (h.sender.fin_acked is);
+      sent = h.sender.sent;
+    }) (end_parts h));
   }
   unheard_end (SendReply.Taken count) e h = idle_end e h
   unheard_end _ e h = idle_end e h
@@ -433,27 +379,22 @@ module _ (c : Profile) (s : Side) (out back : Lane) where
       let q : Lane = with_fin_sent out in
       let g : SenderGoes out q = fin_goes out in
       let at : e.tcp.send.nxt ≡ suc (length out.sent) = h.sender.next (unfinished_if e.tcp.state may) in
-      record {
-        sender = record {
-          plain = h.sender.plain;
-          next = λ un. absurd (both_ways _ (finished_if e.tcp.state may) un);
-          unfinished = λ un. absurd (both_ways _ (finished_if e.tcp.state may) un);
-          pieces = Every-push _ (same_pieces q (longer q g) e.tcp.send h.sender.pieces) (refl, has_last out.fins _ (sym at));
-          known_end = h.sender.known_end;
-          same_end = h.sender.same_end;
-          heard = h.sender.heard;
-          granted = h.sender.granted;
-          fin_acked = h.sender.fin_acked;
-          sent = finished_sent e.tcp.send.finished e.tcp.send.nxt e.sending.heard e.sending.granted out.sent out.fins (out.fins ++ length out.sent ∷ []) out.pair h.sender.sent
-              (has_last out.fins (length out.sent) (sym at));
-        };
-        receiver = h.receiver;
-        acks = h.acks;
-        told = receiving_same q g e h;
-        treated = treated_same q g e h;
-        pairs = pairs_same q g e refl h;
-        held = h.held;
-      }
+      end_whole (new_sender (record {
+        plain = h.sender.plain;
+        next = λ un. absurd (both_ways _ (finished_if e.tcp.state may) un);
+        unfinished = λ un. absurd (both_ways _ (finished_if e.tcp.state may) un);
+        pieces = Every-push _ (same_pieces q (longer q g) e.tcp.send h.sender.pieces) (refl, has_last out.fins _ (sym at));
+        known_end = h.sender.known_end;
+        same_end = h.sender.same_end;
+        heard = h.sender.heard;
+        granted = h.sender.granted;
+        fin_acked = h.sender.fin_acked;
+        sent = finished_sent e.tcp.send.finished e.tcp.send.nxt e.sending.heard e.sending.granted out.sent out.fins (out.fins ++ length out.sent ∷ []) out.pair h.sender.sent
+            (has_last out.fins (length out.sent) (sym at));
+      })
+      (new_told (receiving_same q g e h)
+      (new_treated (treated_same q g e h)
+      (new_pairs (pairs_same q g e refl h) (end_parts h)))))
     where
       finished_if : (state : EndPhase) → states.may_finish state ≡ true → is_unfinished (states.after_finish state) ≡ false
       finished_if EndPhase.Established is = refl

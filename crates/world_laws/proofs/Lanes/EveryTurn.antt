@@ -31,11 +31,8 @@ use Rattle.world_laws.proofs.Lanes.Turning.{moved_turn, moved_first, PathTurn, p
 -- what stands first after settling comes to something
 pub settled_first : (ds : List Duty) (p : PathState Carried) → IsSettled (settled ds p)
 settled_first [] p = tt
-settled_first (d ∷ ds) p = by (stands d p) refl (settled_first ds (passed d p))
-  where
-    by : (b : Bool) → stands d p ≡ b → IsSettled (settled ds (passed d p)) → IsSettled (if b then with_agenda (d ∷ ds) p else settled ds (passed d p))
-    by true is rest = stands_anyway d (d ∷ ds) p ∙ is
-    by false is rest = rest
+settled_first (d ∷ ds) p = (elim (stands d p) as (λ b. stands d p ≡ b → IsSettled (settled ds (passed d p)) → IsSettled (if b then with_agenda (d ∷ ds) p else settled ds (passed d p)))
+    [ true ↦ λ is rest. stands_anyway d (d ∷ ds) p ∙ is | false ↦ λ is rest. rest ]) refl (settled_first ds (passed d p))
 
 -- what a world is after a round's end, or without it
 abbrev end_round_of : WorldState Carried → Bool → WorldState Carried
@@ -50,8 +47,7 @@ path_asked_is : (number : ℕ) (t : Cast Carried) → asked_in (Turn.Step (suc (
 path_asked_is number t = ap asked_by (map_there walking t.paths number) ∙ by (slice_get t.paths number)
   where
     by : (o : Option (Walker Carried)) → asked_by (option_map walking o) ≡ path_asks o
-    by None = refl
-    by (Some x) = refl
+    by = elim [ None ↦ refl | Some x ↦ refl ]
 
 module _ (start : Start) (can : Carries start) where
   -- a step as it is, whatever is asked
@@ -137,20 +133,17 @@ module _ (start : Start) (can : Carries start) where
 
   -- so do lanes that open where they may
   if_opened : (b : Bool) (p : Lane) → p.opened ≡ true → (lane_if b p).opened ≡ true
-  if_opened true p is = refl
-  if_opened false p is = is
+  if_opened = elim [ true ↦ λ p is. refl | false ↦ λ p is. is ]
 
   if_sent : (b : Bool) (p : Lane) → (lane_if b p).sent ≡ p.sent
-  if_sent true p = refl
-  if_sent false p = refl
+  if_sent = elim [ true ↦ λ p. refl | false ↦ λ p. refl ]
 
   stands_open : (b : Bool) (number : ℕ) (p : PathState Carried) (ab ba : Lane) → StandsSo number p ab ba → StandsSo number p (lane_if b ab) (lane_if b ba)
   stands_open b zero p ab ba h = (if_opened b ab h.0, if_opened b ba h.1)
   stands_open b (suc number) p ab ba h = λ unclear. if_sent b ab ∙ h unclear
 
   those_open : (b : Bool) (p : PathState Carried) (ab ba : Lane) → KnowsThose ab ba p → KnowsThose (lane_if b ab) (lane_if b ba) p
-  those_open true p ab ba h = h
-  those_open false p ab ba h = h
+  those_open = elim [ true ↦ λ p ab ba h. h | false ↦ λ p ab ba h. h ]
 
   numbered_by : (number : ℕ) (plan : PathPlan) (p : PathState Carried) → p.profile ≡ (path_begins start number plan).profile → p.profile.spelling.path ≡ number
   numbered_by number plan p is = ap (λ d. d.spelling.path) is
@@ -363,8 +356,7 @@ module _ (start : Start) (can : Carries start) where
           }
         where
           opens_by : (b : Bool) (q : Lane) → b ≡ true → (lane_if (b || number == 0) q).opened ≡ true
-          opens_by true q is = refl
-          opens_by false q is = absurd (false≢true is)
+          opens_by = elim [ true ↦ λ q is. refl | false ↦ λ q is. absurd (false≢true is) ]
 
           joins_open : (s : Side) → six.control_b.fall.joined ≡ true → (pick s (lane_if (may_open six number) path.ab) (lane_if (may_open six number) path.ba)).opened ≡ true
           joins_open A is = opens_by six.control_b.fall.joined path.ab is
@@ -536,11 +528,7 @@ module _ (start : Start) (can : Carries start) where
         }
 
     round_step : Stepped None here (end_round (world_of t))
-    round_step = by (all_over (world_of t).crew)
-      where
-        by : (over : Bool) → Stepped None here (end_round_of (world_of t) over)
-        by false = stays_here
-        by true = begun
+    round_step = elim (all_over (world_of t).crew) as (λ over. Stepped None here (end_round_of (world_of t) over)) [ false ↦ stays_here | true ↦ begun ]
 
     -- ---- every turn
 

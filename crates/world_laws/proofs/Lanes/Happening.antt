@@ -31,11 +31,9 @@ without_kept (Some place) flights h = removed_kept flights place h
 
 pub found_due : (due : Due) (flights : List (Flight Carried)) (f : Flight Carried) → find (is_due due) flights ≡ Some f → is_due due f ≡ true
 found_due due [] f is = cc
-found_due due (g ∷ flights) f is = by (is_due due g) refl is (λ rest. found_due due flights f rest)
-  where
-    by : (b : Bool) → is_due due g ≡ b → (if b then Some g else find (is_due due) flights) ≡ Some f → (find (is_due due) flights ≡ Some f → is_due due f ≡ true) → is_due due f ≡ true
-    by true passes is more = let same : g ≡ f = cc in subst (λ x. is_due due x ≡ true) same passes
-    by false passes is more = more is
+found_due due (g ∷ flights) f is =
+    (elim (is_due due g) as (λ b. is_due due g ≡ b → (if b then Some g else find (is_due due) flights) ≡ Some f → (find (is_due due) flights ≡ Some f → is_due due f ≡ true) → is_due due f ≡ true)
+    [ true ↦ λ passes is more. let same : g ≡ f = cc in subst (λ x. is_due due x ≡ true) same passes | false ↦ λ passes is more. more is ]) refl is (λ rest. found_due due flights f rest)
 
 -- a copy to a side is heard by the end of that side
 heard_by : (c : Profile) (s to : Side) (ab ba : Lane) (sg : PlainSegment) → same_side to s ≡ true → FlightShows c ab ba to sg → SegmentShows c (peer s) (pick s ab ba).acks (pick s ba ab) sg
@@ -121,13 +119,7 @@ module _ (six : SixBooks) (others : Others) (p : PathState Carried) (ab ba : Lan
   -- ---- copies
 
   delivered : (due : Due) → PathShows p.profile (record (at_tick due.tick p) { link = after_delivery due p.link }) ab ba
-  delivered due = record {
-    profile = h.profile;
-    may = h.may;
-    a = h.a;
-    b = h.b;
-    copies = without_kept (position (is_due due) p.link.under_way) p.link.under_way h.copies;
-  }
+  delivered due = record { profile = h.profile; may = h.may; a = h.a; b = h.b; copies = without_kept (position (is_due due) p.link.under_way) p.link.under_way h.copies }
 
   -- an end that fell back hears no option
   heard_is : (sg : PlainSegment) (plain : Bool) → record (meant sg) { options = (if plain then [] else (meant sg).options) } ≡ meant (record sg { options = (if plain then [] else sg.options) })
@@ -190,16 +182,16 @@ module _ (six : SixBooks) (others : Others) (p : PathState Carried) (ab ba : Lan
 
   -- it is begun or not, with these to be done
   pub join_step : (ask : Ask) (r : Reply) (dead living : List Duty) (q : PathState Carried) → IsQuiet six ask → AreCalm q → PathShows p.profile q ab ba → Steps ask (join_begun r dead living q)
-  join_step ask r dead living q is calm x = by (is_never r)
+  join_step ask r dead living q is calm x =
+      elim (is_never r) as (λ b. Steps ask (if b then goes_on A (never_joined r (end_at A q)) dead q else goes_on A (opened_by (keys_begun r) (end_at A q)) living q)) [
+        | true ↦ becomes (never_joined r q.a) dead (refused_shows p.profile A ab ba r (died q.a) (died_end_shows p.profile A ab ba q.a (calm A) x.a))
+        | false ↦ becomes (opened_by (keys_begun r) q.a) living (opened_shows p.profile A ab ba (keys_begun r) q.a x.a)
+      ]
     where
       becomes : (e : PathEnd) (ds : List Duty) → EndShows p.profile A e ab ba → Steps ask (goes_on A e ds q)
       becomes e ds shows =
           quiet_side p.profile six others A q (goes_on A e ds q) ab ba ask x is
           (side_kept p.profile q ab ba x A ab ba e ds (did_nothing p.profile A ab ba e shows))
-
-      by : (b : Bool) → Steps ask (if b then goes_on A (never_joined r (end_at A q)) dead q else goes_on A (opened_by (keys_begun r) (end_at A q)) living q)
-      by true = becomes (never_joined r q.a) dead (refused_shows p.profile A ab ba r (died q.a) (died_end_shows p.profile A ab ba q.a (calm A) x.a))
-      by false = becomes (opened_by (keys_begun r) q.a) living (opened_shows p.profile A ab ba (keys_begun r) q.a x.a)
 
   -- ---- the earliest
 

@@ -13,12 +13,10 @@ use Rattle.world_laws.proofs.Lanes.Showing.{Under, Knowledge, is_unfinished, Sen
 -- ---- fewer octets
 
 gap_there : (places : List (Option ℕ)) (i b : ℕ) → slice_get (gap_before places) (suc i) ≡ Some (Some b) → slice_get places i ≡ Some (Some b)
-gap_there [] i b e = cc
-gap_there (place ∷ places) i b e = e
+gap_there = elim [ [] ↦ λ i b e. cc | place ∷ places ↦ λ i b e. e ]
 
 no_gap : (places : List (Option ℕ)) (b : ℕ) → slice_get (gap_before places) 0 ≡ Some (Some b) → ⊥
-no_gap [] b e = cc
-no_gap (place ∷ places) b e = cc
+no_gap = elim [ [] ↦ λ b e. cc | place ∷ places ↦ λ b e. cc ]
 
 pub cut_there : (n : ℕ) (places : List (Option ℕ)) (i b : ℕ) → slice_get (cut n places) i ≡ Some (Some b) → slice_get places i ≡ Some (Some b)
 cut_there zero places i b e = cc
@@ -43,11 +41,8 @@ cut_leaves (suc n) [] i b below e = cc
 cut_leaves (suc n) (Some x ∷ places) zero b below e = e
 cut_leaves (suc n) (Some x ∷ places) (suc i) b below e = cut_leaves n places i b (omega (arith, below)) e
 cut_leaves (suc n) (None ∷ places) zero b below e = cc
-cut_leaves (suc n) (None ∷ places) (suc i) b below e = behind_gap (cut n places) i b (cut_leaves n places i b (omega (arith, below)) e)
-  where
-    behind_gap : (xs : List (Option ℕ)) (i b : ℕ) → slice_get xs i ≡ Some (Some b) → slice_get (gap_before xs) (suc i) ≡ Some (Some b)
-    behind_gap [] i b e = cc
-    behind_gap (x ∷ xs) i b e = e
+cut_leaves (suc n) (None ∷ places) (suc i) b below e = (elim (cut n places) as (λ xs. (i b : ℕ) → slice_get xs i ≡ Some (Some b) → slice_get (gap_before xs) (suc i) ≡ Some (Some b))
+    [ [] ↦ λ i b e. cc | x ∷ xs ↦ λ i b e. e ]) i b (cut_leaves n places i b (omega (arith, below)) e)
 
 -- the lane forgets what the end does
 taken_there : (n : ℕ) (places : List (Option ℕ)) (i b : ℕ) → slice_get (take n places) i ≡ Some (Some b) → (i < n) × (slice_get places i ≡ Some (Some b))
@@ -67,11 +62,7 @@ under_cut n places kept u = record { each = λ i b e. take_leaves n kept i b (cu
 
 pub only_cut : (n : ℕ) (places kept : List (Option ℕ)) → Under kept places ⊎ (places ≡ []) → Under (take n kept) (cut n places) ⊎ (cut n places ≡ [])
 only_cut n places kept (inl u) = inl (record { each = λ i b e. let there = taken_there n kept i b e in cut_leaves n places i b there.0 (u.each i b there.1) })
-only_cut n places kept (inr none) = inr (ap (cut n) none ∙ nothing n)
-  where
-    nothing : (n : ℕ) → cut n [] ≡ []
-    nothing zero = refl
-    nothing (suc n) = refl
+only_cut n places kept (inr none) = inr (ap (cut n) none ∙ (elim n as (λ n. cut n [] ≡ []) [ zero ↦ refl | suc n ↦ refl ]))
 
 module _ (fin_at : Option ℕ) (live : List KeptMapping) (plain : Bool) (p : Lane) where
   -- all octets are let go, and what is held

@@ -37,6 +37,7 @@ use Rattle.world_laws.proofs.Lanes.Roads.{Strolls, stays, then_strolls}
 use Rattle.world_laws.proofs.Lanes.Showing.{HasMapping, HasFin, KeptShows, HeldShows, Under, IsAtEdge, IsPastFin, ReceiverShows, EndShows, SenderShows, identity_of, knowledge_of, KeptSummed, PeerIs}
 use Rattle.world_laws.proofs.Lanes.Taking.{learned_lane, learns_it, learned_goes, learned_there, wants_place, under_drop, only_drop, acked_lane, acked_sub, acks_it, finished_lane, hears_the_fin, wants_plain, wants_pair, wants_pair_fin, same_order, filled_under}
 use Rattle.world_laws.proofs.Lanes.Doing.{take_whole, wants_plain_fin}
+use Rattle.world_laws.proofs.Lanes.EndParts.{end_parts, end_whole, new_sender, new_receiver, new_acks, new_treated, new_held}
 
 -- the maps of the lane are more
 more_maps : (recv : Receiving) (fin_at : Option ℕ) (live live_after : List KeptMapping) (plain : Bool) (p : Lane) (maps : List Mapping) → Every (KeptShows maps) live_after
@@ -74,8 +75,7 @@ module _ (c : Profile) (s : Side) (out back : Lane) where
 
   -- the first one that is held is passed over
   skipped_held : (xs : List KeptMapping) → Every (HeldShows c back.sent back.datas) xs → Every (HeldShows c back.sent back.datas) (others_of xs)
-  skipped_held [] h = h
-  skipped_held (kept ∷ xs) h = every_rest kept xs h
+  skipped_held = elim [ [] ↦ λ h. h | kept ∷ xs ↦ λ h. every_rest kept xs h ]
 
   pub skipped_shows : (e : PathEnd) → EndShows c s e out back → EndShows c s (with_skipped e) out back
   skipped_shows e h = record { sender = h.sender; receiver = h.receiver; acks = h.acks; told = h.told; treated = h.treated; pairs = h.pairs; held = record { each = skipped_held e.receiving.mappings.held h.held.each; summed = h.held.summed; none = h.held.none } }
@@ -124,21 +124,16 @@ module _ (c : Profile) (s : Side) (out back : Lane) where
             back_moves = learns_it back kept.place kept.pos (octets_of kept) has (agree has.at);
             sender = sender_stays out;
             receiver = learned_goes back kept.place kept.pos (octets_of kept) has (agree has.at);
-            shows = record {
-              sender = h.sender;
-              receiver = more_maps e.tcp.recv e.tcp.fin_at v.live (after_learn kept (learn_of kept v) v).live (identity_of e) back q.maps
-                  (learn_live kept (learn_of kept v) v q.maps (learned_there back kept.place kept.pos (octets_of kept) has (agree has.at))
-                  (Every-map (λ m there. Has-more _ there) h.receiver.mapped)) h.receiver;
-              acks = record { windows = h.acks.windows; latest = h.acks.latest; due = h.acks.due; sub = h.acks.sub };
-              told = h.told;
-              treated = record { items = h.treated.items; fins = h.treated.fins; answer = h.treated.answer; window = h.treated.window; sub = h.treated.sub; nothing = h.treated.nothing };
-              pairs = h.pairs;
-              held = record {
-                each = subst (λ ys. Every (HeldShows c back.sent back.datas) (others_of ys)) (sym (learn_held kept (learn_of kept v) v)) (skipped_held v.held h.held.each);
-                summed = learn_summed kept (learn_of kept v) v both.2 h.held.summed;
-                none = rw both.1 h.held.none;
-              };
-            };
+            shows = end_whole (new_receiver (more_maps e.tcp.recv e.tcp.fin_at v.live (after_learn kept (learn_of kept v) v).live (identity_of e) back q.maps
+                (learn_live kept (learn_of kept v) v q.maps (learned_there back kept.place kept.pos (octets_of kept) has (agree has.at))
+                (Every-map (λ m there. Has-more _ there) h.receiver.mapped)) h.receiver)
+                (new_acks (record { windows = h.acks.windows; latest = h.acks.latest; due = h.acks.due; sub = h.acks.sub })
+                (new_treated (record { items = h.treated.items; fins = h.treated.fins; answer = h.treated.answer; window = h.treated.window; sub = h.treated.sub; nothing = h.treated.nothing })
+                (new_held (record {
+                  each = subst (λ ys. Every (HeldShows c back.sent back.datas) (others_of ys)) (sym (learn_held kept (learn_of kept v) v)) (skipped_held v.held h.held.each);
+                  summed = learn_summed kept (learn_of kept v) v both.2 h.held.summed;
+                  none = rw both.1 h.held.none;
+                }) (end_parts h)))));
           }
 
   -- ---- other replies
@@ -167,25 +162,19 @@ module _ (c : Profile) (s : Side) (out back : Lane) where
       acks = [];
       is = rw (append-nil back.acks) refl;
     };
-    shows = record {
-      sender = h.sender;
-      receiver = record {
-        same_mode = h.receiver.same_mode;
-        edge = same_edge refl refl refl (λ position octets has. has) h.receiver.edge;
-        fin = h.receiver.fin;
-        mapped = h.receiver.mapped;
-      };
-      acks = record {
-        windows = h.acks.windows;
-        latest = h.acks.latest;
-        due = λ none. absurd (both_ways e.treated.asked none asked);
-        sub = λ none. absurd (both_ways e.treated.asked none asked);
-      };
-      told = h.told;
-      treated = record { items = h.treated.items; fins = h.treated.fins; answer = h.treated.answer; window = h.treated.window; sub = h.treated.sub; nothing = h.treated.nothing };
-      pairs = h.pairs;
-      held = h.held;
-    };
+    shows = end_whole (new_receiver (record {
+      same_mode = h.receiver.same_mode;
+      edge = same_edge refl refl refl (λ position octets has. has) h.receiver.edge;
+      fin = h.receiver.fin;
+      mapped = h.receiver.mapped;
+    })
+        (new_acks (record {
+          windows = h.acks.windows;
+          latest = h.acks.latest;
+          due = λ none. absurd (both_ways e.treated.asked none asked);
+          sub = λ none. absurd (both_ways e.treated.asked none asked);
+        })
+        (new_treated (record { items = h.treated.items; fins = h.treated.fins; answer = h.treated.answer; window = h.treated.window; sub = h.treated.sub; nothing = h.treated.nothing }) (end_parts h))));
   }
 
   -- ---- bytes
@@ -204,26 +193,23 @@ module _ (c : Profile) (s : Side) (out back : Lane) where
 
   found : {X : Type 0} {P : X → Type 0} (test : X → Bool) (xs : List X) (x : X) → find test xs ≡ Some x → Every P xs → P x × (test x ≡ true)
   found test [] x is h = cc
-  found {X} {P} test (y ∷ xs) x is h = by (test y) refl is (λ rest. found test xs x rest (every_rest y xs h))
-    where
-      by : (b : Bool) → test y ≡ b → (if b then Some y else find test xs) ≡ Some x → (find test xs ≡ Some x → P x × (test x ≡ true)) → P x × (test x ≡ true)
-      by true passes is more = let same : y ≡ x = same_Some y x is in subst (λ z. P z × (test z ≡ true)) same (every_first y xs h, passes)
-      by false passes is more = more is
+  found {X} {P} test (y ∷ xs) x is h = (elim (test y) as (λ b. test y ≡ b → (if b then Some y else find test xs) ≡ Some x → (find test xs ≡ Some x → P x × (test x ≡ true)) → P x × (test x ≡ true)) [
+    | true ↦ λ passes is more. let same : y ≡ x = same_Some y x is in subst (λ z. P z × (test z ≡ true)) same (every_first y xs h, passes)
+    | false ↦ λ passes is more. more is
+  ]) refl is (λ rest. found test xs x rest (every_rest y xs h))
 
   some_from : (found piece : Piece) → some_piece found ≡ Some piece → (piece ≡ found) × (0 < length piece.octets)
-  some_from found piece is = by (nat_lt 0 (length found.octets)) refl is
-    where
-      by : (b : Bool) → nat_lt 0 (length found.octets) ≡ b → (if b then Some found else None) ≡ Some piece → (piece ≡ found) × (0 < length piece.octets)
-      by true some is = let same : found ≡ piece = same_Some found piece is in (sym same, subst (λ x. 0 < length x.octets) same (ltb-true 0 (length found.octets) some))
-      by false none is = cc
+  some_from found piece is =
+      (elim (nat_lt 0 (length found.octets)) as (λ b. nat_lt 0 (length found.octets) ≡ b → (if b then Some found else None) ≡ Some piece → (piece ≡ found) × (0 < length piece.octets)) [
+        | true ↦ λ some is. let same : found ≡ piece = same_Some found piece is in (sym same, subst (λ x. 0 < length x.octets) same (ltb-true 0 (length found.octets) some))
+        | false ↦ λ none is. cc
+      ]) refl is
 
   checked_from : (checksums : Bool) (kept : KeptMapping) (tcp : EndState) (piece : Piece) → checked_piece checksums kept tcp ≡ Some piece → some_piece (piece_in kept tcp) ≡ Some piece
   checked_from false kept tcp piece is = is
-  checked_from true kept tcp piece is = by (is_whole kept tcp && is_right kept tcp) is
-    where
-      by : (b : Bool) → (if b then some_piece (piece_in kept tcp) else None) ≡ Some piece → some_piece (piece_in kept tcp) ≡ Some piece
-      by true is = is
-      by false is = cc
+  checked_from true kept tcp piece is =
+      (elim (is_whole kept tcp && is_right kept tcp) as (λ b. (if b then some_piece (piece_in kept tcp) else None) ≡ Some piece → some_piece (piece_in kept tcp) ≡ Some piece)
+      [ true ↦ λ is. is | false ↦ λ is. cc ]) is
 
   checks_from : (checksums : Bool) (kept : KeptMapping) (tcp : EndState) (piece : Piece) → checked_piece checksums kept tcp ≡ Some piece → checksums ≡ true
       → (is_whole kept tcp && is_right kept tcp) ≡ true
@@ -231,15 +217,11 @@ module _ (c : Profile) (s : Side) (out back : Lane) where
   checks_from true kept tcp piece is uses = by (is_whole kept tcp && is_right kept tcp) refl is
     where
       by : (b : Bool) → (is_whole kept tcp && is_right kept tcp) ≡ b → (if b then some_piece (piece_in kept tcp) else None) ≡ Some piece → (is_whole kept tcp && is_right kept tcp) ≡ true
-      by true are is = are
-      by false are is = cc
+      by = elim [ true ↦ λ are is. are | false ↦ λ are is. cc ]
 
   mapped_from : (P : KeptMapping → Type 0) (v : Mappings) (edge : ℕ) (kept : KeptMapping) → mapping_at v edge ≡ Some kept → Every P v.live → P kept × (covers edge (run_of kept) ≡ true)
-  mapped_from P v edge kept is h = by (nat_lt edge v.forgotten) is
-    where
-      by : (b : Bool) → (if b then None else find (λ m. covers edge (run_of m)) v.live) ≡ Some kept → P kept × (covers edge (run_of kept) ≡ true)
-      by true is = cc
-      by false is = found (λ m. covers edge (run_of m)) v.live kept is h
+  mapped_from P v edge kept is h = (elim (nat_lt edge v.forgotten) as (λ b. (if b then None else find (λ m. covers edge (run_of m)) v.live) ≡ Some kept → P kept × (covers edge (run_of kept) ≡ true))
+      [ true ↦ λ is. cc | false ↦ λ is. found (λ m. covers edge (run_of m)) v.live kept is h ]) is
 
   piece_from : (e : PathEnd) (piece : Piece) → piece_by c.spelling.checksums (mapping_at e.receiving.mappings e.tcp.recv.edge) e.tcp ≡ Some piece → EndShows c s e out back → NextPiece e piece
   piece_from e piece is h = by (mapping_at e.receiving.mappings e.tcp.recv.edge) refl is
@@ -326,11 +308,8 @@ module _ (c : Profile) (s : Side) (out back : Lane) where
         and_from (named.pos == back.edge) (are_same ready_bytes (part_of back.sent named)) (eq-eqb named.pos back.edge begins_there) (same_are ready_bytes (part_of back.sent named) same)
 
     piece_passes : passes named ready_bytes back ≡ true
-    piece_passes = by back.checked refl
-      where
-        by : (b : Bool) → back.checked ≡ b → passes named ready_bytes back ≡ true
-        by false none = ap (λ (b : Bool). not b || tests_pass) none
-        by true is = ap (λ (b : Bool). not b || tests_pass) is ∙ all_pass is
+    piece_passes = (elim back.checked as (λ b. back.checked ≡ b → passes named ready_bytes back ≡ true)
+        [ false ↦ λ none. ap (λ (b : Bool). not b || tests_pass) none | true ↦ λ is. ap (λ (b : Bool). not b || tests_pass) is ∙ all_pass is ]) refl
 
   wants_piece : (v : View) (path : ℕ) → LaneHolds v path back → (back.checked ≡ true → c.spelling.checksums ≡ true) → (e : PathEnd) (piece : Piece) → NextPiece e piece → EndShows c s e out back
       → Strolls back (record back { asking = AskPlace piece.place piece.octets })
@@ -491,27 +470,22 @@ module _ (c : Profile) (s : Side) (out back : Lane) where
               omega (arith, above, enough, zero_is)
 
   pub failing_alters : (v : View) (path : ℕ) → LaneHolds v path back → (e : PathEnd) → EndShows c s e out back → IfSome (failing_by c.spelling.checksums (mapping_here e) e.tcp) (λ _. back.alters ≡ true)
-  failing_alters v path lane e h = here (receives_plainly e.modes e.tcp.recv.edge)
+  failing_alters v path lane e h =
+      elim (receives_plainly e.modes e.tcp.recv.edge) as (λ b. IfSome (failing_by c.spelling.checksums (if b then None else mapping_at e.receiving.mappings e.tcp.recv.edge) e.tcp) (λ _. back.alters ≡ true)) [
+        | true ↦ tt
+        | false ↦ found_by (mapping_at e.receiving.mappings e.tcp.recv.edge) refl
+      ]
     where
       found_by : (o : Option KeptMapping) → mapping_at e.receiving.mappings e.tcp.recv.edge ≡ o → IfSome (failing_by c.spelling.checksums o e.tcp) (λ _. back.alters ≡ true)
       found_by None at = tt
-      found_by (Some kept) at = by (is_wrong c.spelling.checksums kept e.tcp) refl
-        where
-          by : (b : Bool) → is_wrong c.spelling.checksums kept e.tcp ≡ b → IfSome (if b then Some kept else None) (λ _. back.alters ≡ true)
-          by true wrong = wrong_alters v path lane e kept at wrong h
-          by false right = tt
-
-      here : (b : Bool) → IfSome (failing_by c.spelling.checksums (if b then None else mapping_at e.receiving.mappings e.tcp.recv.edge) e.tcp) (λ _. back.alters ≡ true)
-      here true = tt
-      here false = found_by (mapping_at e.receiving.mappings e.tcp.recv.edge) refl
+      found_by (Some kept) at =
+          (elim (is_wrong c.spelling.checksums kept e.tcp) as (λ b. is_wrong c.spelling.checksums kept e.tcp ≡ b → IfSome (if b then Some kept else None) (λ _. back.alters ≡ true))
+          [ true ↦ λ wrong. wrong_alters v path lane e kept at wrong h | false ↦ λ right. tt ]) refl
 
   filtered : {X : Type 0} {P : X → Type 0} (test : X → Bool) (xs : List X) → Every P xs → Every P (filter test xs)
   filtered test [] h = h
-  filtered {X} {P} test (x ∷ xs) h = by (test x) (filtered test xs (every_rest x xs h))
-    where
-      by : (b : Bool) → Every P (filter test xs) → Every P (if b then x ∷ filter test xs else filter test xs)
-      by true rest = every_cons x _ (every_first x xs h) rest
-      by false rest = rest
+  filtered {X} {P} test (x ∷ xs) h = (elim (test x) as (λ b. Every P (filter test xs) → Every P (if b then x ∷ filter test xs else filter test xs))
+      [ true ↦ λ rest. every_cons x _ (every_first x xs h) rest | false ↦ λ rest. rest ]) (filtered test xs (every_rest x xs h))
 
   moved_on : (edge count : ℕ) → edge + count - edge ≡ count
   moved_on edge count = omega arith
@@ -540,37 +514,31 @@ module _ (c : Profile) (s : Side) (out back : Lane) where
           acks = [];
           is = rw (append-nil back.acks) refl;
         };
-        shows = record {
-          sender = h.sender;
-          receiver = record {
-            same_mode = h.receiver.same_mode;
-            edge = inl (record {
-              edge_is = let edge_is = at.edge_is in omega (arith, edge_is);
-              under = subst (λ n. Under (drop n e.tcp.recv.places) q.kept) (sym (moved_on e.tcp.recv.edge (length piece.octets))) (under_drop (length piece.octets) e.tcp.recv.places back.kept at.under);
-              only = subst (λ n. Under q.kept (drop n e.tcp.recv.places) ⊎ (drop n e.tcp.recv.places ≡ [])) (sym (moved_on e.tcp.recv.edge (length piece.octets))) (only_drop (length piece.octets) e.tcp.recv.places back.kept at.only);
-              held = tt;
-            });
-            fin = h.receiver.fin;
-            mapped = filtered (λ kept. nat_lt (e.tcp.recv.edge + length piece.octets) (run_of kept).to) e.receiving.mappings.live h.receiver.mapped;
-          };
-          acks = record { windows = h.acks.windows; latest = h.acks.latest; due = λ none. absurd (true≢false none); sub = λ none. absurd (true≢false none) };
-          told = h.told;
-          treated = record { items = h.treated.items; fins = h.treated.fins; answer = h.treated.answer; window = h.treated.window; sub = h.treated.sub; nothing = h.treated.nothing };
-          pairs = h.pairs;
-          held = record {
-            each = h.held.each;
-            summed = filtered (λ kept. nat_lt (e.tcp.recv.edge + length piece.octets) (run_of kept).to) e.receiving.mappings.live h.held.summed;
-            none = h.held.none;
-          };
-        };
+        shows = end_whole (new_receiver (record {
+          same_mode = h.receiver.same_mode;
+          edge = inl (record {
+            edge_is = let edge_is = at.edge_is in omega (arith, edge_is);
+            under = subst (λ n. Under (drop n e.tcp.recv.places) q.kept) (sym (moved_on e.tcp.recv.edge (length piece.octets))) (under_drop (length piece.octets) e.tcp.recv.places back.kept at.under);
+            only = subst (λ n. Under q.kept (drop n e.tcp.recv.places) ⊎ (drop n e.tcp.recv.places ≡ [])) (sym (moved_on e.tcp.recv.edge (length piece.octets))) (only_drop (length piece.octets) e.tcp.recv.places back.kept at.only);
+            held = tt;
+          });
+          fin = h.receiver.fin;
+          mapped = filtered (λ kept. nat_lt (e.tcp.recv.edge + length piece.octets) (run_of kept).to) e.receiving.mappings.live h.receiver.mapped;
+        })
+            (new_acks (record { windows = h.acks.windows; latest = h.acks.latest; due = λ none. absurd (true≢false none); sub = λ none. absurd (true≢false none) })
+            (new_treated (record { items = h.treated.items; fins = h.treated.fins; answer = h.treated.answer; window = h.treated.window; sub = h.treated.sub; nothing = h.treated.nothing })
+            (new_held (record {
+              each = h.held.each;
+              summed = filtered (λ kept. nat_lt (e.tcp.recv.edge + length piece.octets) (run_of kept).to) e.receiving.mappings.live h.held.summed;
+              none = h.held.none;
+            }) (end_parts h)))));
       }
 
   -- ---- the FIN
 
   -- behind the FIN nothing is kept
   none_there : (i byte : ℕ) → slice_get {X = Option ℕ} [] i ≡ Some (Some byte) → ⊥
-  none_there zero byte there = cc
-  none_there (suc i) byte there = cc
+  none_there = elim [ zero ↦ λ byte there. cc | suc i ↦ λ byte there. cc ]
 
   -- the lane hears the FIN, and acknowledges it where nothing is to be asked before
   module _ (v : View) (path : ℕ) (e : PathEnd) (holds : LaneHolds v path back) (h : EndShows c s e out back) where
@@ -624,20 +592,15 @@ module _ (c : Profile) (s : Side) (out back : Lane) where
               acks = [];
               is = rw (append-nil back.acks) refl;
             };
-            shows = record {
-              sender = passed_sender;
-              receiver = passed_receiver q refl refl refl refl refl;
-              acks = record {
-                windows = h.acks.windows;
-                latest = h.acks.latest;
-                due = λ none. absurd (both_ways e.treated.asked none asked);
-                sub = λ none. absurd (both_ways e.treated.asked none asked);
-              };
-              told = h.told;
-              treated = record { items = h.treated.items; fins = h.treated.fins; answer = h.treated.answer; window = h.treated.window; sub = h.treated.sub; nothing = h.treated.nothing };
-              pairs = h.pairs;
-              held = h.held;
-            };
+            shows = end_whole (new_sender passed_sender
+                (new_receiver (passed_receiver q refl refl refl refl refl)
+                (new_acks (record {
+                  windows = h.acks.windows;
+                  latest = h.acks.latest;
+                  due = λ none. absurd (both_ways e.treated.asked none asked);
+                  sub = λ none. absurd (both_ways e.treated.asked none asked);
+                })
+                (new_treated (record { items = h.treated.items; fins = h.treated.fins; answer = h.treated.answer; window = h.treated.window; sub = h.treated.sub; nothing = h.treated.nothing }) (end_parts h)))));
           }
           by false calm =
               let edge_is = near.edge_is in
@@ -663,24 +626,20 @@ module _ (c : Profile) (s : Side) (out back : Lane) where
                   acks = ack_copy e.receiving.next (32 * (e.receiving.window / 32)) (next_edge - 1) q ∷ [];
                   is = refl;
                 };
-                shows = record {
-                  sender = passed_sender;
-                  receiver = passed_receiver r refl refl refl refl refl;
-                  acks = record {
-                    windows = record { ack = Has-more _ h.acks.windows.ack; alone = Has-more _ h.acks.windows.alone; syn = Has-more _ h.acks.windows.syn };
-                    latest = h.acks.latest;
-                    due = λ none. due;
-                    sub = λ none. acked_sub q e.receiving.next e.receiving.window (next_edge - 1) h.acks.latest due most;
-                  };
-                  told = h.told;
-                  treated = record { items = h.treated.items; fins = h.treated.fins; answer = h.treated.answer; window = h.treated.window; sub = h.treated.sub; nothing = h.treated.nothing };
-                  pairs = h.pairs;
-                  held = h.held;
-                };
+                shows = end_whole (new_sender passed_sender
+                    (new_receiver (passed_receiver r refl refl refl refl refl)
+                    (new_acks (record {
+                      windows = record { ack = Has-more _ h.acks.windows.ack; alone = Has-more _ h.acks.windows.alone; syn = Has-more _ h.acks.windows.syn };
+                      latest = h.acks.latest;
+                      due = λ none. due;
+                      sub = λ none. acked_sub q e.receiving.next e.receiving.window (next_edge - 1) h.acks.latest due most;
+                    })
+                    (new_treated (record { items = h.treated.items; fins = h.treated.fins; answer = h.treated.answer; window = h.treated.window; sub = h.treated.sub; nothing = h.treated.nothing }) (end_parts h)))));
               }
 
     pub passed_fin : Did c s (after_pass_fin e) out out back back
-    passed_fin = by (is_fin_next e.tcp) refl
+    passed_fin = (elim (is_fin_next e.tcp) as (λ b. is_fin_next e.tcp ≡ b → Did c s (record e { tcp = if b then after_passing_fin e.tcp else e.tcp }) out out back back)
+        [ false ↦ λ is. did_nothing c s out back e h | true ↦ λ is. by_fin e.tcp.fin_at refl (and_parts (is_at e.tcp.recv.edge e.tcp.fin_at) _ is).0 h.receiver.fin ]) refl
       where
         by_fin : (o : Option ℕ) → e.tcp.fin_at ≡ o → is_at e.tcp.recv.edge o ≡ true → IfSome o (HasFin back.fins) → Did c s (record e { tcp = after_passing_fin e.tcp }) out out back back
         by_fin None fin_is is has = absurd (false≢true is)
@@ -694,16 +653,12 @@ module _ (c : Profile) (s : Side) (out back : Lane) where
                 let edge_is = past.edge_is in
                 omega (arith, same_at, edge_is, same)
 
-        by : (b : Bool) → is_fin_next e.tcp ≡ b → Did c s (record e { tcp = if b then after_passing_fin e.tcp else e.tcp }) out out back back
-        by false is = did_nothing c s out back e h
-        by true is =
-            by_fin e.tcp.fin_at refl (and_parts (is_at e.tcp.recv.edge e.tcp.fin_at) _ is).0 h.receiver.fin
-
   -- ---- the FIN as the end of the stream
 
   -- where the peer sends without mappings, its FIN that was passed is asked for as the end
   pub plain_fin_came : (v : View) (path : ℕ) (e : PathEnd) (place : ℕ) → LaneHolds v path back → EndShows c s e out back → plain_fin e ≡ Some place → Strolls back (record back { asking = AskFin place })
-  plain_fin_came v path e place holds h is = untold e.receiving.fin_told is
+  plain_fin_came v path e place holds h is = (elim e.receiving.fin_told as (λ b. (if b then None else place_passed e.modes e.tcp.fin_at e.tcp.recv.edge) ≡ Some place → Wants)
+      [ true ↦ λ is. cc | false ↦ λ is. passed e.tcp.fin_at refl h.receiver.fin is ]) is
     where
       Wants : Type 0
       Wants = Strolls back (record back { asking = AskFin place })
@@ -747,7 +702,3 @@ module _ (c : Profile) (s : Side) (out back : Lane) where
           at true behind is (inr past) =
               let same : position ≡ suc back.edge = same_Some position (suc back.edge) (sym fin_is ∙ past.at_is) in
               by_mode position same past.fin_in e.modes.identity refl is
-
-      untold : (b : Bool) → (if b then None else place_passed e.modes e.tcp.fin_at e.tcp.recv.edge) ≡ Some place → Wants
-      untold true is = cc
-      untold false is = passed e.tcp.fin_at refl h.receiver.fin is

@@ -1,6 +1,6 @@
 -- What is sent, acknowledged or marked leaves the records with the octets and mappings that they were granted with.
-use Rattle.world_laws.proofs.Words.{◌≡◌, refl, subst, ℕ, zero, suc, ◌&&◌, ◌==◌, nat_lt, nat_le, Bool, true, false, if◌then◌else◌, Option, Some, None, List, []}
-use Rattle.world_laws.proofs.Words.{◌∷◌, map, same_Some, slice_get, IfSome, Side, Record, SendState, RecordKind, Syn, Data, Fin, is_unsent, uncovered}
+use Rattle.world_laws.proofs.Words.{◌≡◌, refl, subst, ℕ, zero, suc, ◌&&◌, ◌==◌, nat_lt, nat_le, Bool, true, false, if◌then◌else◌, Some, None, List, [], ◌∷◌}
+use Rattle.world_laws.proofs.Words.{map, same_Some, slice_get, IfSome, Side, Record, SendState, RecordKind, Syn, Data, Fin, is_unsent, uncovered}
 use Rattle.world_laws.proofs.Words.{first_unsent_sent, first_sent, unsent_again, expired_records, after_acknowledge, after_sent, after_resent, after_expired}
 use Rattle.world_laws.proofs.Words.{after_fin_sent, is_fin, syn_resent, EndPhase, Occasion, PlainSegment, PathEnd, Profile, having_sent, Every, Lane, if_so}
 use Rattle.std.specs.List.{find}
@@ -9,14 +9,14 @@ use Rattle.subflow_send.specs.Records.{end_of}
 use Rattle.subflow_send.specs.Rules.{fin_sent}
 use Rattle.subflow_send.specs.Sendings.{sent_again}
 use Rattle.world_laws.proofs.Lanes.Showing.{KindShows, RecordShows, Knowledge, SenderShows, EndShows}
+use Rattle.world_laws.proofs.Lanes.EndParts.{end_parts, end_whole, new_sender}
 
 module _ {X : Type 0} {P : X → Type 0} where
   pub every_cons : (x : X) (xs : List X) → P x → Every P xs → Every P (x ∷ xs)
   every_cons x xs first rest = record { each = at }
     where
       at : (i : ℕ) (y : X) → slice_get (x ∷ xs) i ≡ Some y → P y
-      at zero y is = subst P (same_Some x y is) first
-      at (suc i) y is = rest.each i y is
+      at = elim [ zero ↦ λ y is. subst P (same_Some x y is) first | suc i ↦ λ y is. rest.each i y is ]
 
   pub every_rest : (x : X) (xs : List X) → Every P (x ∷ xs) → Every P xs
   every_rest x xs h = record { each = λ i y is. h.each (suc i) y is }
@@ -26,28 +26,19 @@ module _ {X : Type 0} {P : X → Type 0} where
 
   pub every_find : (test : X → Bool) (xs : List X) → Every P xs → IfSome (find test xs) P
   every_find test [] h = tt
-  every_find test (x ∷ xs) h = by (test x) (every_find test xs (every_rest x xs h))
-    where
-      by : (b : Bool) → IfSome (find test xs) P → IfSome (if b then Some x else find test xs) P
-      by true rest = every_first x xs h
-      by false rest = rest
+  every_find test (x ∷ xs) h = (elim (test x) as (λ b. IfSome (find test xs) P → IfSome (if b then Some x else find test xs) P)
+      [ true ↦ λ rest. every_first x xs h | false ↦ λ rest. rest ]) (every_find test xs (every_rest x xs h))
 
   pub every_at : (i : ℕ) (xs : List X) → Every P xs → IfSome (slice_get xs i) P
-  every_at i xs h = by (slice_get xs i) refl
-    where
-      by : (o : Option X) → slice_get xs i ≡ o → IfSome o P
-      by None is = tt
-      by (Some x) is = h.each i x is
+  every_at i xs h = (elim (slice_get xs i) as (λ o. slice_get xs i ≡ o → IfSome o P) [ None ↦ λ is. tt | Some x ↦ λ is. h.each i x is ]) refl
 
 -- a fact of a record that doesn't depend on how it was sent
 module _ (P : Record → Type 0) (any : (r : Record) (x : Sending) → P r → P (record r { sending = x })) where
   pub unsent_sent_kept : (now : ℕ) (rs : List Record) → Every P rs → Every P (first_unsent_sent now rs)
   unsent_sent_kept now [] h = h
-  unsent_sent_kept now (r ∷ rs) h = by (is_unsent r) (unsent_sent_kept now rs (every_rest r rs h))
-    where
-      by : (b : Bool) → Every P (first_unsent_sent now rs) → Every P (if b then record r { sending = sent_again now r.sending } ∷ rs else r ∷ first_unsent_sent now rs)
-      by true more = every_cons _ rs (any r _ (every_first r rs h)) (every_rest r rs h)
-      by false more = every_cons r _ (every_first r rs h) more
+  unsent_sent_kept now (r ∷ rs) h =
+      (elim (is_unsent r) as (λ b. Every P (first_unsent_sent now rs) → Every P (if b then record r { sending = sent_again now r.sending } ∷ rs else r ∷ first_unsent_sent now rs))
+      [ true ↦ λ more. every_cons _ rs (any r _ (every_first r rs h)) (every_rest r rs h) | false ↦ λ more. every_cons r _ (every_first r rs h) more ]) (unsent_sent_kept now rs (every_rest r rs h))
 
   pub first_sent_kept : (now : ℕ) (rs : List Record) → Every P rs → Every P (first_sent now rs)
   first_sent_kept now [] h = h
@@ -58,8 +49,7 @@ module _ (P : Record → Type 0) (any : (r : Record) (x : Sending) → P r → P
   fin_sent_kept now (r ∷ rs) h = every_cons _ _ (by (is_fin r.kind)) (fin_sent_kept now rs (every_rest r rs h))
     where
       by : (b : Bool) → P (if b then record r { sending = sent_again now r.sending } else r)
-      by true = any r _ (every_first r rs h)
-      by false = every_first r rs h
+      by = elim [ true ↦ any r _ (every_first r rs h) | false ↦ every_first r rs h ]
 
   unsent_again_kept : (rs : List Record) → Every P rs → Every P (map unsent_again rs)
   unsent_again_kept [] h = h
@@ -71,11 +61,8 @@ module _ (P : Record → Type 0) (any : (r : Record) (x : Sending) → P r → P
 
 pub uncovered_kept : {P : Record → Type 0} (pos : ℕ) (rs : List Record) → Every P rs → Every P (uncovered pos rs)
 uncovered_kept pos [] h = h
-uncovered_kept {P} pos (r ∷ rs) h = by (nat_le (end_of r) pos) (uncovered_kept pos rs (every_rest r rs h))
-  where
-    by : (b : Bool) → Every P (uncovered pos rs) → Every P (if b then uncovered pos rs else r ∷ rs)
-    by true more = more
-    by false more = h
+uncovered_kept {P} pos (r ∷ rs) h = (elim (nat_le (end_of r) pos) as (λ b. Every P (uncovered pos rs) → Every P (if b then uncovered pos rs else r ∷ rs))
+    [ true ↦ λ more. more | false ↦ λ more. h ]) (uncovered_kept pos rs (every_rest r rs h))
 
 -- ---- the sending half
 
@@ -144,41 +131,9 @@ pub sent_end : (c : Profile) (s : Side) (out back : Lane) (occasion : Occasion) 
     → EndShows c s (having_sent occasion now sg e) out back
 sent_end c s out back Occasion.Reset now sg e h = record { sender = h.sender; receiver = h.receiver; acks = h.acks; told = h.told; treated = h.treated; held = h.held; pairs = h.pairs }
 sent_end c s out back Occasion.Answer now sg e h = record { sender = h.sender; receiver = h.receiver; acks = h.acks; told = h.told; treated = h.treated; held = h.held; pairs = h.pairs }
-sent_end c s out back Occasion.SynAck now sg e h = record {
-  sender = syn_resent_shows c s _ out now e.tcp.state e.tcp.send h.sender;
-  receiver = h.receiver;
-  acks = h.acks;
-  told = h.told;
-  treated = h.treated;
-  pairs = h.pairs;
-  held = h.held;
-}
+sent_end c s out back Occasion.SynAck now sg e h = end_whole (new_sender (syn_resent_shows c s _ out now e.tcp.state e.tcp.send h.sender) (end_parts h))
 sent_end c s out back Occasion.Ack now sg e h = record { sender = h.sender; receiver = h.receiver; acks = h.acks; told = h.told; treated = h.treated; held = h.held; pairs = h.pairs }
 sent_end c s out back Occasion.Probe now sg e h = record { sender = h.sender; receiver = h.receiver; acks = h.acks; told = h.told; treated = h.treated; held = h.held; pairs = h.pairs }
-sent_end c s out back Occasion.First now sg e h = record {
-  sender = resent_shows c s _ out now e.tcp.state e.tcp.send h.sender;
-  receiver = h.receiver;
-  acks = h.acks;
-  told = h.told;
-  treated = h.treated;
-  pairs = h.pairs;
-  held = h.held;
-}
-sent_end c s out back Occasion.Unsent now sg e h = record {
-  sender = sent_shows c s _ out now e.tcp.state e.tcp.send h.sender;
-  receiver = h.receiver;
-  acks = h.acks;
-  told = h.told;
-  treated = h.treated;
-  pairs = h.pairs;
-  held = h.held;
-}
-sent_end c s out back Occasion.Fin now sg e h = record {
-  sender = fin_sent_shows c s _ out now e.tcp.state e.tcp.send h.sender;
-  receiver = h.receiver;
-  acks = h.acks;
-  told = h.told;
-  treated = h.treated;
-  pairs = h.pairs;
-  held = h.held;
-}
+sent_end c s out back Occasion.First now sg e h = end_whole (new_sender (resent_shows c s _ out now e.tcp.state e.tcp.send h.sender) (end_parts h))
+sent_end c s out back Occasion.Unsent now sg e h = end_whole (new_sender (sent_shows c s _ out now e.tcp.state e.tcp.send h.sender) (end_parts h))
+sent_end c s out back Occasion.Fin now sg e h = end_whole (new_sender (fin_sent_shows c s _ out now e.tcp.state e.tcp.send h.sender) (end_parts h))

@@ -36,24 +36,16 @@ use Rattle.world_laws.proofs.Lanes.Strolling.{agrees, out_holds, back_holds}
 use Rattle.world_laws.proofs.Lanes.Sides.{SideDid, side_kept, grant_side, ack_reply_at, ack_side, place_reply_at, place_side, fin_reply_at, fin_side, IsQuiet}
 use Rattle.world_laws.proofs.Lanes.Waking.{look_moves, looked_out, looked_back, path_looks}
 use Rattle.world_laws.proofs.Lanes.Roads.{Strolls, stays}
+use Rattle.world_laws.proofs.Lanes.EndParts.{end_parts, end_whole, new_treated}
 
 -- ---- ends
 
 -- an end of the stream that is told later
 pub fin_shows : (c : Profile) (s : Side) (place : ℕ) (e : PathEnd) (out back : Lane) → HasNumber back.data_fins place → EndShows c s e out back → EndShows c s (with_data_fin place e) out back
-fin_shows c s place e out back has h = record {
-  sender = h.sender;
-  receiver = h.receiver;
-  acks = h.acks;
-  told = h.told;
-  treated = record { items = h.treated.items; fins = by (nat_lt (length e.treated.fins) 3); answer = h.treated.answer; window = h.treated.window; sub = h.treated.sub; nothing = h.treated.nothing };
-  pairs = h.pairs;
-  held = h.held;
-}
+fin_shows c s place e out back has h = end_whole (new_treated (record { items = h.treated.items; fins = by (nat_lt (length e.treated.fins) 3); answer = h.treated.answer; window = h.treated.window; sub = h.treated.sub; nothing = h.treated.nothing }) (end_parts h))
   where
     by : (b : Bool) → Every (HasNumber back.data_fins) (if b then e.treated.fins ++ place ∷ [] else e.treated.fins)
-    by true = Every-push place h.treated.fins has
-    by false = h.treated.fins
+    by = elim [ true ↦ Every-push place h.treated.fins has | false ↦ h.treated.fins ]
 
 pub every_item : {X : Type 0} {P : X → Type 0} (n : ℕ) (xs : List X) → Every P xs → IfSome (item_at n xs) P
 every_item n [] h = tt
@@ -258,8 +250,7 @@ module _ (six : SixBooks) (others : Others) (p : PathState Carried) (ab ba : Lan
         end_step six others p ab ba h ready s (notice_ask s notice p) (after_peer_notice notice (reply_of six (notice_ask s notice p)) e) (left p) (quiet notice) noted
       where
         quiet : (notice : PeerNotice) → IsQuiet six (notice_ask s notice p)
-        quiet (PeerNotice.AddAddr id address port hmac) = tt
-        quiet _ = tt
+        quiet = elim [ PeerNotice.AddAddr id address port hmac ↦ tt | _ ↦ tt ]
 
         noted : EndShows p.profile s (after_peer_notice notice (reply_of six (notice_ask s notice p)) e) out back
         noted = record { sender = shows.sender; receiver = shows.receiver; acks = shows.acks; told = shows.told; treated = shows.treated; held = shows.held; pairs = shows.pairs }

@@ -98,8 +98,7 @@ module _ (lanes : List Lane) (number : ℕ) (send : Sending) (arrived : Arriving
   put_twice s b p q = ap (λ others. direction s b others reader) (set-set lanes number p q)
 
   asks_there : (a : LaneAsk) (p : Lane) → asks number a p (with_lane p) ≡ with_asked a p
-  asks_there Nothing p = refl
-  asks_there _ p = put_twice _ _ p _
+  asks_there = elim [ Nothing ↦ λ p. refl | _ ↦ λ p. put_twice _ _ p _ ]
 
   module _ (f : Flags) (within : number < length lanes) where
     pub moved_there : (m : Move) (p : Lane) → is_calm m ≡ true → after f (Moves number m) (with_lane p) ≡ with_lane (move m p)

@@ -21,14 +21,14 @@ use Rattle.world_laws.proofs.Lanes.Ending.{Did, did_nothing, Alike, with_modes}
 use Rattle.world_laws.proofs.Lanes.Growing.{past_behind, sender_stays}
 use Rattle.world_laws.proofs.Lanes.Roads.{stays}
 use Rattle.world_laws.proofs.Lanes.Taking.{forgets_lane, forgets, forgets_goes, keeps_held}
+use Rattle.world_laws.proofs.Lanes.EndParts.{end_parts, end_whole, new_sender, new_receiver, new_acks, new_told, new_treated, new_pairs, new_held}
 
 grown_told : (growth : ℕ) (o : Option Pending) (c : Congestion) → (windows.grown_by growth o c).told ≡ c.told
 grown_told growth None c = refl
 grown_told growth (Some p) c = refl
 
 waiting_unfinished : (state : EndPhase) → states.is_waiting state ≡ true → is_unfinished state ≡ true
-waiting_unfinished EndPhase.Waiting is = refl
-waiting_unfinished _ is = absurd (false≢true is)
+waiting_unfinished = elim [ EndPhase.Waiting ↦ λ is. refl | _ ↦ λ is. absurd (false≢true is) ]
 
 listening_unfinished : (state : EndPhase) → is_listening state ≡ true → is_unfinished state ≡ true
 listening_unfinished EndPhase.FinWait1 is = absurd (false≢true is)
@@ -90,37 +90,14 @@ module _ (c : Profile) (s : Side) (out back : Lane) where
 
   -- a check failed, which acknowledgements tell, or the reset of the path
   pub failure_shows : (o : Option KeptMapping) (r : Reply) (e : PathEnd) → IfSome o (λ _. out.alters ≡ true) → Shows e → Shows (with_failure o r e)
-  failure_shows (Some kept) (Reply.Control (ControlReply.Verdict Verdict.SendFail)) e may h = record {
-    sender = h.sender;
-    receiver = h.receiver;
-    acks = h.acks;
-    told = h.told;
-    treated = h.treated;
-    pairs = (h.pairs.0, h.pairs.1, h.pairs.2, h.pairs.3, may, h.pairs.5);
-    held = h.held;
-  }
-  failure_shows (Some kept) (Reply.Control (ControlReply.Verdict (Verdict.BreakPath reason))) e may h = record {
-    sender = h.sender;
-    receiver = h.receiver;
-    acks = h.acks;
-    told = h.told;
-    treated = record { items = h.treated.items; fins = h.treated.fins; answer = h.treated.answer; window = h.treated.window; sub = h.treated.sub; nothing = h.treated.nothing };
-    pairs = (h.pairs.0, h.pairs.1, h.pairs.2, h.pairs.3, h.pairs.4, may);
-    held = h.held;
-  }
+  failure_shows (Some kept) (Reply.Control (ControlReply.Verdict Verdict.SendFail)) e may h = end_whole (new_pairs ((h.pairs.0, h.pairs.1, h.pairs.2, h.pairs.3, may, h.pairs.5)) (end_parts h))
+  failure_shows (Some kept) (Reply.Control (ControlReply.Verdict (Verdict.BreakPath reason))) e may h = end_whole (new_treated (record { items = h.treated.items; fins = h.treated.fins; answer = h.treated.answer; window = h.treated.window; sub = h.treated.sub; nothing = h.treated.nothing })
+      (new_pairs ((h.pairs.0, h.pairs.1, h.pairs.2, h.pairs.3, h.pairs.4, may)) (end_parts h)))
   failure_shows _ r e may h = h
 
   -- a Data ACK was taken
   pub noted_shows : (next : ℕ) (e : PathEnd) → Shows e → Shows (record e { modes = covered_by next e.modes; treated = record e.treated { data_ack_taken = true } })
-  noted_shows next e h = record {
-    sender = h.sender;
-    receiver = h.receiver;
-    acks = h.acks;
-    told = h.told;
-    treated = record { items = h.treated.items; fins = h.treated.fins; answer = h.treated.answer; window = h.treated.window; sub = h.treated.sub; nothing = h.treated.nothing };
-    pairs = h.pairs;
-    held = h.held;
-  }
+  noted_shows next e h = end_whole (new_treated (record { items = h.treated.items; fins = h.treated.fins; answer = h.treated.answer; window = h.treated.window; sub = h.treated.sub; nothing = h.treated.nothing }) (end_parts h))
 
   -- an acknowledgement without a Data ACK counts
   pub plain_ack_shows : (e : PathEnd) → Shows e → Shows (with_plain_ack e)
@@ -128,22 +105,15 @@ module _ (c : Profile) (s : Side) (out back : Lane) where
 
   -- so does a byte without a mapping; and no DATA_FIN waits behind bytes
   pub unmapped_shows : (e : PathEnd) → Shows e → Shows (after_pieces e)
-  unmapped_shows e h = record {
-    sender = h.sender;
-    receiver = h.receiver;
-    acks = h.acks;
-    told = h.told;
-    treated = record {
-      items = h.treated.items;
-      fins = rw (h.held.none) h.treated.fins;
-      answer = h.treated.answer;
-      window = h.treated.window;
-      sub = h.treated.sub;
-      nothing = h.treated.nothing;
-    };
-    pairs = h.pairs;
-    held = record { each = h.held.each; summed = h.held.summed; none = rw (h.held.none) refl };
-  }
+  unmapped_shows e h = end_whole (new_treated (record {
+    items = h.treated.items;
+    fins = rw (h.held.none) h.treated.fins;
+    answer = h.treated.answer;
+    window = h.treated.window;
+    sub = h.treated.sub;
+    nothing = h.treated.nothing;
+  })
+      (new_held (record { each = h.held.each; summed = h.held.summed; none = rw (h.held.none) refl }) (end_parts h)))
 
   pub fin_told_shows : (e : PathEnd) → Shows e → Shows (with_fin_told e)
   fin_told_shows e h = record { sender = h.sender; receiver = h.receiver; acks = h.acks; told = h.told; treated = h.treated; held = h.held; pairs = h.pairs }
@@ -155,15 +125,7 @@ module _ (c : Profile) (s : Side) (out back : Lane) where
   key_shows key e h = record { sender = h.sender; receiver = h.receiver; acks = h.acks; told = h.told; treated = h.treated; held = h.held; pairs = h.pairs }
 
   pub keys_show : (r : Reply) (keys : Option KeyPair) (e : PathEnd) → Shows e → Shows (after_keys r keys e)
-  keys_show r keys e shows = let h = with_modes c s out back e (keys_in r keys e.modes) (keyed_alike r keys e.modes) shows in record {
-    sender = h.sender;
-    receiver = h.receiver;
-    acks = h.acks;
-    told = h.told;
-    treated = record { items = h.treated.items; fins = h.treated.fins; answer = h.treated.answer; window = h.treated.window; sub = h.treated.sub; nothing = h.treated.nothing };
-    pairs = h.pairs;
-    held = h.held;
-  }
+  keys_show r keys e shows = let h = with_modes c s out back e (keys_in r keys e.modes) (keyed_alike r keys e.modes) shows in (end_whole (new_treated (record { items = h.treated.items; fins = h.treated.fins; answer = h.treated.answer; window = h.treated.window; sub = h.treated.sub; nothing = h.treated.nothing }) (end_parts h)))
 
   pub peer_end_shows : (e : PathEnd) → Shows e → Shows (with_peer_data_fin e)
   peer_end_shows e h = record { sender = h.sender; receiver = h.receiver; acks = h.acks; told = h.told; treated = h.treated; held = h.held; pairs = h.pairs }
@@ -172,29 +134,13 @@ module _ (c : Profile) (s : Side) (out back : Lane) where
   timer_shows now e h = record { sender = h.sender; receiver = h.receiver; acks = h.acks; told = h.told; treated = h.treated; held = h.held; pairs = h.pairs }
 
   pub rate_shows : (path mss : ℕ) (r : Reply) (e : PathEnd) → Shows e → Shows (after_rate path mss r e)
-  rate_shows path mss r e h = record {
-    sender = h.sender;
-    receiver = h.receiver;
-    acks = h.acks;
-    told = subst (λ told. HasNone out.acks told.window) (sym (grown_told _ e.tcp.congestion.pending e.tcp.congestion)) h.told;
-    treated = h.treated;
-    pairs = h.pairs;
-    held = h.held;
-  }
+  rate_shows path mss r e h = end_whole (new_told (subst (λ told. HasNone out.acks told.window) (sym (grown_told _ e.tcp.congestion.pending e.tcp.congestion)) h.told) (end_parts h))
 
   -- ---- a join
 
   -- the waiting end opens
   opened_state : (b : Bool) (e : PathEnd) → (b ≡ true → is_unfinished e.tcp.state ≡ true) → Shows e → Shows (record e { tcp = if b then after_begin e.tcp else e.tcp })
-  opened_state true e un h = record {
-    sender = state_shows c s _ out e.tcp.state EndPhase.SynSent e.tcp.send (λ x. un refl) h.sender;
-    receiver = h.receiver;
-    acks = h.acks;
-    told = h.told;
-    treated = h.treated;
-    pairs = h.pairs;
-    held = h.held;
-  }
+  opened_state true e un h = end_whole (new_sender (state_shows c s _ out e.tcp.state EndPhase.SynSent e.tcp.send (λ x. un refl) h.sender) (end_parts h))
   opened_state false e un h = h
 
   -- a join is refused, which tells the mode
@@ -252,15 +198,7 @@ module _ (c : Profile) (s : Side) (out back : Lane) where
     where
       by : (b : Bool) → Shows (record e { tcp = if b then taking.after_death true e.tcp else expiring.after_expiry now e.tcp })
       by true = dead_tcp true e e.treated h.treated (λ none. none) h.pairs h
-      by false = record {
-        sender = expired_shows c s _ out e.tcp.state e.tcp.send h.sender;
-        receiver = h.receiver;
-        acks = h.acks;
-        told = h.told;
-        treated = h.treated;
-        pairs = h.pairs;
-        held = h.held;
-      }
+      by false = end_whole (new_sender (expired_shows c s _ out e.tcp.state e.tcp.send h.sender) (end_parts h))
 
   -- ---- what is kept
 
@@ -293,15 +231,9 @@ module _ (c : Profile) (s : Side) (out back : Lane) where
         back_moves = forgets back (kept.pos - 1);
         sender = sender_stays out;
         receiver = forgets_goes back (kept.pos - 1);
-        shows = record {
-          sender = h.sender;
-          receiver = record { same_mode = h.receiver.same_mode; edge = cut_edge h.receiver.edge; fin = h.receiver.fin; mapped = h.receiver.mapped };
-          acks = record { windows = h.acks.windows; latest = h.acks.latest; due = h.acks.due; sub = h.acks.sub };
-          told = h.told;
-          treated = record { items = h.treated.items; fins = h.treated.fins; answer = h.treated.answer; window = h.treated.window; sub = h.treated.sub; nothing = h.treated.nothing };
-          pairs = h.pairs;
-          held = h.held;
-        };
+        shows = end_whole (new_receiver (record { same_mode = h.receiver.same_mode; edge = cut_edge h.receiver.edge; fin = h.receiver.fin; mapped = h.receiver.mapped })
+            (new_acks (record { windows = h.acks.windows; latest = h.acks.latest; due = h.acks.due; sub = h.acks.sub })
+            (new_treated (record { items = h.treated.items; fins = h.treated.fins; answer = h.treated.answer; window = h.treated.window; sub = h.treated.sub; nothing = h.treated.nothing }) (end_parts h))));
       }
 
   pub keep_did : (e : PathEnd) → Shows e → Did c s (after_keep s e) out out back back
@@ -318,29 +250,13 @@ module _ (c : Profile) (s : Side) (out back : Lane) where
       }) (λ none. none) shows.pairs shows
 
       by : (b : Bool) → Did c s (record e { tcp = if b then taking.after_dropping_held e.tcp else taking.after_keeping_held e.tcp; treated = (record e.treated { held_edge = (if is_not_kept s e then None else e.treated.held_edge) }) }) out out back back
-      by true = did_nothing c s out back _ (record {
-        sender = h.sender;
-        receiver = dropped_shows e.tcp.fin_at e.receiving.mappings.live (identity_of e) back e.tcp.recv h.receiver;
-        acks = h.acks;
-        told = h.told;
-        treated = h.treated;
-        pairs = h.pairs;
-        held = h.held;
-      })
+      by true = did_nothing c s out back _ ((end_whole (new_receiver (dropped_shows e.tcp.fin_at e.receiving.mappings.live (identity_of e) back e.tcp.recv h.receiver) (end_parts h))))
       by false = kept_by (is_behind e.tcp.fin_at e.tcp.recv.edge) refl h.receiver.edge
         where
           -- what is held is kept by the lane too
           kept_by : (passed : Bool) → is_behind e.tcp.fin_at e.tcp.recv.edge ≡ passed → IsAtEdge e.tcp.recv back ⊎ IsPastFin e.tcp.fin_at e.tcp.recv back
               → Did c s (record e { tcp = record e.tcp { recv = (if passed then without_held e.tcp.recv else after_keep_held e.tcp.recv) }; treated = (record e.treated { held_edge = (if is_not_kept s e then None else e.treated.held_edge) }) }) out out back back
-          kept_by true is edge = did_nothing c s out back _ (record {
-            sender = h.sender;
-            receiver = dropped_shows e.tcp.fin_at e.receiving.mappings.live (identity_of e) back e.tcp.recv h.receiver;
-            acks = h.acks;
-            told = h.told;
-            treated = h.treated;
-            pairs = h.pairs;
-            held = h.held;
-          })
+          kept_by true is edge = did_nothing c s out back _ ((end_whole (new_receiver (dropped_shows e.tcp.fin_at e.receiving.mappings.live (identity_of e) back e.tcp.recv h.receiver) (end_parts h))))
           kept_by false is (inr past) = absurd (both_ways _ is (past_behind e.tcp.fin_at e.tcp.recv back past))
           kept_by false is (inl at) =
               let k = keeps_held back e.tcp.recv at in

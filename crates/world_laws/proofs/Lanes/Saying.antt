@@ -57,8 +57,7 @@ module _ (c : Profile) (s : Side) (e : PathEnd) (acks : List AckCopy) (p : Lane)
   opening_say window false = keys_say window s e.modes.peer_key
 
   end_says : (fin : Option ℕ) → IfSome fin (HasNumber p.data_fins) → OptionShows c s (window_told false e.receiving.window) acks p (Dss (Some e.receiving.next) (data_fin_mapping c s fin))
-  end_says None h = (w.ack, tt)
-  end_says (Some place) h = (w.ack, h)
+  end_says = elim [ None ↦ λ h. (w.ack, tt) | Some place ↦ λ h. (w.ack, h) ]
 
   -- MP_FAIL
   fails_say : (window : ℕ) (o : Option ℕ) → IfSome o (λ _. p.alters ≡ true) → Every (OptionShows c s window acks p) (fail_options o)
@@ -217,8 +216,7 @@ module _ (c : Profile) (s : Side) (e : PathEnd) (acks : List AckCopy) (p : Lane)
     -- ---- records
 
     acknowledges : (opening : Bool) → IfSome (if opening then None else Some e.tcp.recv.edge) (λ n. HasSub acks (n - 1) (window_told false e.receiving.window))
-    acknowledges true = tt
-    acknowledges false = now
+    acknowledges = elim [ true ↦ tt | false ↦ now ]
 
     -- where A may send no DSS yet, its mapping from the first position begins at the first place
     module _ (first : is_side_a s ≡ true → e.modes.clear ≡ false → (place len : ℕ) → HasMapping p.datas place 1 len → place ≡ 0) where
@@ -230,10 +228,7 @@ module _ (c : Profile) (s : Side) (e : PathEnd) (acks : List AckCopy) (p : Lane)
 
       -- so it is told
       told_summed : (r : Record) → Summed r → IsSummed c s p.sent (place_numbered c s r.mapping.number) r.pos r.mapping.length (checksum_heard (checksum_told c r.mapping.checksum))
-      told_summed r h = record {
-        within = h.within;
-        right = λ uses. ap (λ (b : Bool). unwrap_or (if b then Some r.mapping.checksum else None) 0) uses ∙ h.right uses;
-      }
+      told_summed r h = record { within = h.within; right = λ uses. ap (λ (b : Bool). unwrap_or (if b then Some r.mapping.checksum else None) 0) uses ∙ h.right uses }
 
       first_says : (peer : Option ℕ) (r : Record) → is_side_a s ≡ true → e.modes.clear ≡ false → r.pos ≡ 1 → Mapped r → Summed r
           → Every (OptionShows c s (window_told false e.receiving.window) acks p) (first_piece_options c peer r e)
@@ -304,18 +299,16 @@ module _ (c : Profile) (s : Side) (e : PathEnd) (acks : List AckCopy) (p : Lane)
 module _ {C : Type 0} (P : Flight C → Type 0) where
   flight_kept : (f : Flight C) (flights : List (Flight C)) → P f → Every P flights → Every P (with_flight f flights)
   flight_kept f [] here h = every_one f here
-  flight_kept f (g ∷ flights) here h = by (comes_before f g) (flight_kept f flights here (record { each = λ i x is. h.each (suc i) x is }))
+  flight_kept f (g ∷ flights) here h = (elim (comes_before f g) as (λ b. Every P (with_flight f flights) → Every P (cond b (f ∷ g ∷ flights) (g ∷ with_flight f flights))) [
+    | true ↦ λ more. put f (g ∷ flights) here h
+    | false ↦ λ more. put g (with_flight f flights) (h.each 0 g refl) more
+  ]) (flight_kept f flights here (record { each = λ i x is. h.each (suc i) x is }))
     where
       put : (x : Flight C) (xs : List (Flight C)) → P x → Every P xs → Every P (x ∷ xs)
       put x xs first rest = record { each = λ i y is. at i y is }
         where
           at : (i : ℕ) (y : Flight C) → slice_get (x ∷ xs) i ≡ Some y → P y
-          at zero y is = subst P (same_Some x y is) first
-          at (suc i) y is = rest.each i y is
-
-      by : (b : Bool) → Every P (with_flight f flights) → Every P (cond b (f ∷ g ∷ flights) (g ∷ with_flight f flights))
-      by true more = put f (g ∷ flights) here h
-      by false more = put g (with_flight f flights) (h.each 0 g refl) more
+          at = elim [ zero ↦ λ y is. subst P (same_Some x y is) first | suc i ↦ λ y is. rest.each i y is ]
 
   pub flights_kept : (to : Side) (number : ℕ) (carried : C) → ((tick : ℕ) → P (record { tick = tick; to = to; number = number; carried = carried })) → (ticks : List ℕ) (flights : List (Flight C))
       → Every P flights → Every P (with_flights to number carried ticks flights)

@@ -161,23 +161,17 @@ has_tested {X} {P} test (y ∷ xs) zero x there passes h =
     let same : y ≡ x = cc in
     subst (Has P) (sym (ap (λ (b : Bool). if b then y ∷ filter test xs else filter test xs) (ap test same ∙ passes)))
     (record { at = 0; item = y; there = refl; holds = subst P (sym same) h })
-has_tested {X} {P} test (y ∷ xs) (suc at) x there passes h = by (test y) (has_tested test xs at x there passes h)
-  where
-    by : (b : Bool) → Has P (filter test xs) → Has P (if b then y ∷ filter test xs else filter test xs)
-    by true rest = record { at = suc rest.at; item = rest.item; there = rest.there; holds = rest.holds }
-    by false rest = rest
+has_tested {X} {P} test (y ∷ xs) (suc at) x there passes h = (elim (test y) as (λ b. Has P (filter test xs) → Has P (if b then y ∷ filter test xs else filter test xs))
+    [ true ↦ λ rest. record { at = suc rest.at; item = rest.item; there = rest.there; holds = rest.holds } | false ↦ λ rest. rest ]) (has_tested test xs at x there passes h)
 
 all_tested : {X : Type 0} {P : X → Type 0} (test : X → Bool) (xs : List X) → Every P xs → Every P (filter test xs)
 all_tested test [] h = h
-all_tested {X} {P} test (x ∷ xs) h = by (test x) (all_tested test xs (record { each = λ i y e. h.each (suc i) y e }))
+all_tested {X} {P} test (x ∷ xs) h = (elim (test x) as (λ b. Every P (filter test xs) → Every P (if b then x ∷ filter test xs else filter test xs))
+    [ true ↦ λ rest. record { each = put rest } | false ↦ λ rest. rest ]) (all_tested test xs (record { each = λ i y e. h.each (suc i) y e }))
   where
     put : Every P (filter test xs) → (i : ℕ) (y : X) → slice_get (x ∷ filter test xs) i ≡ Some y → P y
     put rest zero y e = let same : x ≡ y = cc in subst P same (h.each 0 x refl)
     put rest (suc i) y e = rest.each i y e
-
-    by : (b : Bool) → Every P (filter test xs) → Every P (if b then x ∷ filter test xs else filter test xs)
-    by true rest = record { each = put rest }
-    by false rest = rest
 
 -- so much more is acknowledged
 pub heard_sent : (finished : Bool) (nxt heard next : ℕ) (granted : List GrantedPiece) (sent : List Cell) (fins : List ℕ) (pair : Option Pair) → SentShows finished nxt heard granted sent fins pair
@@ -283,11 +277,7 @@ module _ (sent : List Cell) where
   has_first place g over under = and_from (nat_le g.from place) (nat_lt place g.to) (le-leb g.from place over) (lt-ltb place g.to under)
 
   past_first : (place : ℕ) (g : GrantedPiece) → g.to ≤ place → has_place place g ≡ false
-  past_first place g past = by (nat_le g.from place)
-    where
-      by : (b : Bool) → b && nat_lt place g.to ≡ false
-      by true = le-ltb place g.to past
-      by false = refl
+  past_first place g past = elim (nat_le g.from place) as (λ b. b && nat_lt place g.to ≡ false) [ true ↦ le-ltb place g.to past | false ↦ refl ]
 
   found_here : (place : ℕ) (g : GrantedPiece) (gs : List GrantedPiece) → g.from ≤ place → place < g.to → Found place g gs
   found_here place g gs over inside = record {
@@ -494,8 +484,5 @@ module _ (finished : Bool) (nxt heard : ℕ) (granted : List GrantedPiece) (sent
 
   -- where the pieces stand together at the end of the record, the book may go
   pub gone : is_tail granted nxt ≡ true → Gone nxt place granted sent fins
-  gone tail = by granted refl tail
-    where
-      by : (pieces : List GrantedPiece) → granted ≡ pieces → is_tail pieces nxt ≡ true → Gone nxt place granted sent fins
-      by [] none tail = gone_none none
-      by (g ∷ gs) are tail = gone_some g gs are tail
+  gone tail = (elim granted as (λ pieces. granted ≡ pieces → is_tail pieces nxt ≡ true → Gone nxt place granted sent fins)
+      [ [] ↦ λ none tail. gone_none none | g ∷ gs ↦ λ are tail. gone_some g gs are tail ]) refl tail

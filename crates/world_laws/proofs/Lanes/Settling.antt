@@ -16,6 +16,7 @@ use Rattle.world_laws.proofs.Lanes.RulesLeaveAlone.{dss_shows, timer_shows, chec
 use Rattle.world_laws.proofs.Lanes.Showing.{ItemShows, EndShows, PathShows}
 use Rattle.world_laws.proofs.Lanes.Sides.{longer_link}
 use Rattle.world_laws.proofs.Lanes.Strolling.{Strolled, strolls_held, agrees, back_holds, side_shows, did_on_path}
+use Rattle.world_laws.proofs.Lanes.EndParts.{end_parts, end_whole}
 
 -- whether a duty comes to something doesn't depend on the agenda
 pub stands_anyway : (d : Duty) (es : List Duty) (p : PathState Carried) → stands d (with_agenda es p) ≡ stands d p
@@ -65,15 +66,7 @@ module _ (six : SixBooks) (others : Others) (c : Profile) where
       -- a thing that a copy said
       item_did : (item : Heard) → ItemShows out.acks back item → Did c s (heard_passed s item e) out out back back
       item_did Heard.Dss has = did_nothing c s out back (after_dss s e) (dss_shows c s out back e shows)
-      item_did (Heard.DataAck next window) has = did_nothing c s out back (with_data_ack next e) (record {
-        sender = shows.sender;
-        receiver = shows.receiver;
-        acks = shows.acks;
-        told = shows.told;
-        treated = shows.treated;
-        pairs = shows.pairs;
-        held = shows.held;
-      })
+      item_did (Heard.DataAck next window) has = did_nothing c s out back (with_data_ack next e) ((end_whole (end_parts shows)))
       item_did (Heard.Mapping fin) has =
           if_so (λ z. Did c s z out out back back) (counts e) (with_learned e) (with_skipped e)
           (learned_end c s out back e (agrees six others s ab ba holds) shows) (did_nothing c s out back (with_skipped e) (skipped_shows c s out back e shows))
@@ -84,8 +77,7 @@ module _ (six : SixBooks) (others : Others) (c : Profile) where
       item_did _ has = did_nothing c s out back e shows
 
       maybe_did : (o : Option Heard) → IfSome o (ItemShows out.acks back) → Did c s (item_passed s o e) out out back back
-      maybe_did None has = did_nothing c s out back e shows
-      maybe_did (Some item) has = item_did item has
+      maybe_did = elim [ None ↦ λ has. did_nothing c s out back e shows | Some item ↦ λ has. item_did item has ]
 
     item_shows : (s : Side) (index : ℕ) (plain : Bool) → IfSome (if plain then None else item_at index (end_at s p).treated.items) (ItemShows (pick s ab ba).acks (pick s ba ab))
     item_shows s index true = tt
@@ -117,5 +109,4 @@ module _ (six : SixBooks) (others : Others) (c : Profile) where
       (settles ds (passed d p) w.ab_after w.ba_after w.shows (strolls_held six others ab w.ab_after ba w.ba_after w.ab_moves w.ba_moves holds)))
     where
       by : (b : Bool) → Strolled c (settled ds (passed d p)) ab ba → Strolled c (if b then with_agenda (d ∷ ds) p else settled ds (passed d p)) ab ba
-      by true rest = agenda_stays (d ∷ ds) p ab ba h
-      by false rest = rest
+      by = elim [ true ↦ λ rest. agenda_stays (d ∷ ds) p ab ba h | false ↦ λ rest. rest ]

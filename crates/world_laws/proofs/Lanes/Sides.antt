@@ -240,12 +240,10 @@ module _ (c : Profile) (six : SixBooks) (others : Others) where
   placed_asking count _ p x = refl
 
   fin_asking : (r : ReassemblyReply) (p : Lane) (x : LaneAsk) → takes_fin r (record p { asking = x }) ≡ takes_fin r p
-  fin_asking ReassemblyReply.FinSet p x = refl
-  fin_asking _ p x = refl
+  fin_asking = elim [ ReassemblyReply.FinSet ↦ λ p x. refl | _ ↦ λ p x. refl ]
 
   told_asking : (r : ReassemblyReply) (p : Lane) (x : LaneAsk) → takes_ack_out r (record p { asking = x }) ≡ takes_ack_out r p
-  told_asking (ReassemblyReply.Ack next window) p x = refl
-  told_asking _ p x = refl
+  told_asking = elim [ ReassemblyReply.Ack next window ↦ λ p x. refl | _ ↦ λ p x. refl ]
 
   module _ (at : ℕ) (bytes : List ℕ) where
     abbrev pub place_reply_at : Side → ReassemblyReply

@@ -31,8 +31,7 @@ module _ (six : SixBooks) (others : Others) (p : PathState Carried) (ab ba : Lan
   Answers d = Makes (ask_for values d p) (answered values d (reply_of six (ask_for values d p)) p)
 
   tiles : (s : Side) → length (send_of s six).marks ≡ length (send_of s six).written
-  tiles A = holds.ab.send.whole
-  tiles B = holds.ba.send.whole
+  tiles = elim [ A ↦ holds.ab.send.whole | B ↦ holds.ba.send.whole ]
 
   module _ (s : Side) where
     abbrev e : PathEnd

@@ -83,13 +83,11 @@ module _ (six : SixBooks) (others : Others) where
   -- what holds of the lane that a side sends on, and of the one that it hears
   pub out_holds : (s : Side) (ab ba : Lane) → Holds (duo_at six ab ba others)
       → LaneHolds (view_of (flags_of others.links s six) (send_of s six) (reassembly_of (peer s) six)) others.number (pick s ab ba)
-  out_holds A ab ba h = ab_holds six others ab ba h
-  out_holds B ab ba h = ba_holds six others ab ba h
+  out_holds = elim [ A ↦ λ ab ba h. ab_holds six others ab ba h | B ↦ λ ab ba h. ba_holds six others ab ba h ]
 
   pub back_holds : (s : Side) (ab ba : Lane) → Holds (duo_at six ab ba others)
       → LaneHolds (view_of (flags_of others.links (peer s) six) (send_of (peer s) six) (reassembly_of s six)) others.number (pick s ba ab)
-  back_holds A ab ba h = ba_holds six others ab ba h
-  back_holds B ab ba h = ab_holds six others ab ba h
+  back_holds = elim [ A ↦ λ ab ba h. ba_holds six others ab ba h | B ↦ λ ab ba h. ab_holds six others ab ba h ]
 
   -- a mapping that comes on a lane never clashes
   pub agrees : (s : Side) (ab ba : Lane) → Holds (duo_at six ab ba others) → (copy : ℕ) → copy_clashes (slice_get (pick s ba ab).datas copy) (pick s ba ab) ≡ false
@@ -173,8 +171,7 @@ handed_shows {c} s out back sg p shows h =
     carried = changed stripped altered (is_stripped s (next_number s p.link) p.clock p.link.lines) (is_altered s (next_number s p.link) p.link.lines) (carried_by p.profile.spelling s sg)
 
     own_may : (s : Side) → MayAlter p.link.lines (pick s out back).alters (pick s back out).alters → (n : ℕ) → is_altered s n p.link.lines ≡ true → out.alters ≡ true
-    own_may A may n is = may.a n is
-    own_may B may n is = may.b n is
+    own_may = elim [ A ↦ λ may n is. may.a n is | B ↦ λ may n is. may.b n is ]
 
     changed_shows : (strips alters : Bool) → (alters ≡ true → out.alters ≡ true) → SegmentShows c s back.acks out (changed stripped altered strips alters (carried_by p.profile.spelling s sg)).segment
     changed_shows false false may = shows
@@ -183,8 +180,7 @@ handed_shows {c} s out back sg p shows h =
     changed_shows true true may = altered_shows c s back.acks out sg (may refl) shows
 
     to_peer : (s : Side) → SegmentShows c s back.acks out carried.segment → FlightShows c (pick s out back) (pick s back out) (peer s) carried.segment
-    to_peer A shows = shows
-    to_peer B shows = shows
+    to_peer = elim [ A ↦ λ shows. shows | B ↦ λ shows. shows ]
 
 -- ---- a side's end did something
 

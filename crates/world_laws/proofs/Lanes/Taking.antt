@@ -62,13 +62,10 @@ one_further (suc edge) at [] = refl
 one_further edge at (byte ∷ bytes) = refl
 
 pub under_drop : (n : ℕ) (places kept : List (Option ℕ)) → Under places kept → Under (drop n places) (drop n kept)
-under_drop n places kept u = record {
-  each = λ i x e. slice_get-drop n kept i (n + i) refl ∙ u.each (n + i) x (in_drop n places i (n + i) (Some x) refl e);
-}
+under_drop n places kept u = record { each = λ i x e. slice_get-drop n kept i (n + i) refl ∙ u.each (n + i) x (in_drop n places i (n + i) (Some x) refl e) }
 
 nothing_left : (n : ℕ) (xs : List (Option ℕ)) → xs ≡ [] → drop n xs ≡ []
-nothing_left zero xs none = none
-nothing_left (suc n) xs none = ap (drop (suc n)) none
+nothing_left = elim [ zero ↦ λ xs none. none | suc n ↦ λ xs none. ap (drop (suc n)) none ]
 
 pub only_drop : (n : ℕ) (places kept : List (Option ℕ)) → Under kept places ⊎ (places ≡ []) → Under (drop n kept) (drop n places) ⊎ (drop n places ≡ [])
 only_drop n places kept (inl u) = inl (under_drop n kept places u)

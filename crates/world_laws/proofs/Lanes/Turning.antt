@@ -96,8 +96,7 @@ unread a notes reader is h = sym h.done_is ∙ not-true a.told is
 
 -- a reader that isn't done reads
 reads_if : (b : Bool) (most : ℕ) (d : Direction) → b ≡ false → (if b then d else reads most d) ≡ reads most d
-reads_if true most d is = cc
-reads_if false most d is = refl
+reads_if = elim [ true ↦ λ most d is. cc | false ↦ λ most d is. refl ]
 
 module _ (links : Links) (six : SixBooks) (lanes_ab lanes_ba : List Lane) (reader_a reader_b : Reader) (x : AppState) (notes : List Note) (n : Note) where
   -- that of A reads from B, and writes to it

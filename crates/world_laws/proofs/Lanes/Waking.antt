@@ -185,8 +185,7 @@ abbrev pub lane_if : Bool → Lane → Lane
 lane_if b p = if b then opened_lane p else p
 
 pub path_opens_if : (b : Bool) (c : Profile) (p : PathState Carried) (ab ba : Lane) → PathShows c p ab ba → PathShows c p (lane_if b ab) (lane_if b ba)
-path_opens_if true c p ab ba h = path_opens c p ab ba h
-path_opens_if false c p ab ba h = h
+path_opens_if = elim [ true ↦ λ c p ab ba h. path_opens c p ab ba h | false ↦ λ c p ab ba h. h ]
 
 -- a lane of a direction may open once a join was answered, and that of path 0 always
 abbrev pub may_open : SixBooks → ℕ → Bool

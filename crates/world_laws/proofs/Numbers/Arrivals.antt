@@ -29,8 +29,7 @@ one : (item : Heard) → ItemTells item → Tell (item ∷ [])
 one item h = every_cons item [] h (Every-nil ItemTells)
 
 tell_if : (b : Bool) (item : Heard) → ItemTells item → Tell (if b then item ∷ [] else [])
-tell_if true item h = one item h
-tell_if false item h = Every-nil ItemTells
+tell_if = elim [ true ↦ λ item h. one item h | false ↦ λ item h. Every-nil ItemTells ]
 
 acks_tell : (o : Option ℕ) (window : ℕ) → IfSome o IsShort → Tell (ack_items (option_map (λ n. Some n) o) window)
 acks_tell None window h = Every-nil ItemTells
@@ -40,11 +39,8 @@ mapping_tells : (place position count : ℕ) (fin : Bool) → Tell (mapping_item
 mapping_tells place position count fin = tell_if (is_mapping place position count) (Heard.Mapping fin) tt
 
 first_tells : (len : ℕ) → Tell (first_items len)
-first_tells len = by (nat_lt 0 len) (mapping_tells 0 1 len false)
-  where
-    by : (b : Bool) → Tell (mapping_items 0 1 len false) → Tell (if b then mapping_items 0 1 len false else [])
-    by true tells = tells
-    by false tells = Every-nil ItemTells
+first_tells len = (elim (nat_lt 0 len) as (λ b. Tell (mapping_items 0 1 len false) → Tell (if b then mapping_items 0 1 len false else []))
+    [ true ↦ λ tells. tells | false ↦ λ tells. Every-nil ItemTells ]) (mapping_tells 0 1 len false)
 
 map_tells : (o : Option (PathMapping ℕ)) → IfSome o MappingIsShort → Tell (map_items (option_map meant_mapping o))
 map_tells None h = Every-nil ItemTells
@@ -123,15 +119,11 @@ module _ (c : Profile) (s : Side) where
   payload_flows pos hint copy tcp keep h = record { sender = h.sender; edge = by hint.keep keep }
     where
       by : (b : Bool) → b ≡ false → IsShort (taking.after_keeping b pos copy.payload tcp).recv.edge
-      by false is = h.edge
-      by true is = cc
+      by = elim [ false ↦ λ is. h.edge | true ↦ λ is. cc ]
 
   acknowledged_flows : (pos now : ℕ) (tcp : EndState) → Flows tcp → Flows (taking.after_acknowledgement pos now tcp)
-  acknowledged_flows pos now tcp h = by (ack_kind pos tcp.send)
-    where
-      by : (kind : AckKind) → Flows (taking.after_ack_kind kind (sample_of pos tcp.send) now (record tcp { send = after_acknowledge pos tcp.send }))
-      by (AckKind.New octets) = record { sender = acknowledged_tells c s tcp.send h.sender pos; edge = h.edge }
-      by _ = record { sender = acknowledged_tells c s tcp.send h.sender pos; edge = h.edge }
+  acknowledged_flows pos now tcp h = elim (ack_kind pos tcp.send) as (λ kind. Flows (taking.after_ack_kind kind (sample_of pos tcp.send) now (record tcp { send = after_acknowledge pos tcp.send })))
+      [ AckKind.New octets ↦ record { sender = acknowledged_tells c s tcp.send h.sender pos; edge = h.edge } | _ ↦ record { sender = acknowledged_tells c s tcp.send h.sender pos; edge = h.edge } ]
 
   row_flows : (kind : AckKind) (told : Told) (copy : Copy) (tcp : EndState) → Flows tcp → Flows (taking.after_row kind told copy tcp)
   row_flows kind told copy tcp h =

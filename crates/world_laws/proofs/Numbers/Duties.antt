@@ -100,8 +100,7 @@ grant_written B path most standby six = given_written path (decision path most s
 -- ---- after a step of the path
 
 end_on : (s : Side) (f : PathEnd) (ds : List Duty) (p : PathState Carried) → end_at s (goes_on s f ds p) ≡ f
-end_on A f ds p = refl
-end_on B f ds p = refl
+end_on = elim [ A ↦ λ f ds p. refl | B ↦ λ f ds p. refl ]
 
 -- the lanes hold
 pub after_holds : (c : Profile) (six : SixBooks) (others : Others) (ask : Ask) (q : PathState Carried) (ab ba : Lane) (a : Answered c six others ask q ab ba)
@@ -131,18 +130,10 @@ IsLow (Verdict.BreakPath reason) = reason < 256
 IsLow _ = Unit {0}
 
 plain_low : (fall : Fall) → IsLow (after_plain fall).1
-plain_low fall = by (is_starting fall.mode && not fall.joined)
-  where
-    by : (b : Bool) → IsLow (if b then goes Identity fall else falling.stays fall).1
-    by true = tt
-    by false = tt
+plain_low fall = elim (is_starting fall.mode && not fall.joined) as (λ b. IsLow (if b then goes Identity fall else falling.stays fall).1) [ true ↦ tt | false ↦ tt ]
 
 sign_low : (fall : Fall) → IsLow (after_sure_sign fall).1
-sign_low fall = by (is_starting fall.mode)
-  where
-    by : (b : Bool) → IsLow (if b then goes Sure fall else falling.stays fall).1
-    by true = tt
-    by false = tt
+sign_low fall = elim (is_starting fall.mode) as (λ b. IsLow (if b then goes Sure fall else falling.stays fall).1) [ true ↦ tt | false ↦ tt ]
 
 infinite_low : (path : ℕ) (sole : Bool) (fall : Fall) → IsLow (after_infinite path sole fall).1
 infinite_low path sole fall = by (not (reads_mappings fall.mode)) (sole && is_failed_path fall.failed path) (writes_mappings fall.mode && not fall.joined && is_none fall.failed)
@@ -155,11 +146,8 @@ infinite_low path sole fall = by (not (reads_mappings fall.mode)) (sole && is_fa
     by false false false = omega arith
 
 keys_low : (fall : Fall) → IsLow (falling.after_keys fall).1
-keys_low fall = by (is_identity fall.mode)
-  where
-    by : (b : Bool) → IsLow (if b then falling.stays fall else (record fall { confirmed = true }, Verdict.Stay)).1
-    by true = tt
-    by false = tt
+keys_low fall = elim (is_identity fall.mode) as (λ b. IsLow (if b then falling.stays fall else (record fall { confirmed = true }, Verdict.Stay)).1)
+    [ true ↦ tt | false ↦ tt ]
 
 check_low : (path : ℕ) (sole : Bool) (fall : Fall) → IsLow (after_failed_check path sole fall).1
 check_low path sole fall = by (not (reads_mappings fall.mode)) sole
@@ -196,14 +184,11 @@ verdict_fair s p (Verdict.Went InfiniteSend) low fair = tail_fair p.agenda fair
 verdict_fair s p (Verdict.Went InfiniteReceive) low fair = tail_fair p.agenda fair
 verdict_fair s p (Verdict.Went InfiniteBoth) low fair = tail_fair p.agenda fair
 verdict_fair s p (Verdict.Went Aborted) low fair = tail_fair p.agenda fair
-verdict_fair s p (Verdict.BreakPath reason) low fair = by (end_at s p).treated.asked
+verdict_fair s p (Verdict.BreakPath reason) low fair = elim (end_at s p).treated.asked as (λ b. AreFair (breaks_by b s reason))
+    [ true ↦ and_from (nat_lt reason 256) true octet refl | false ↦ and_from (nat_lt reason 256) true octet refl ]
   where
     octet : nat_lt reason 256 ≡ true
     octet = lt_true reason 256 low
-
-    by : (b : Bool) → AreFair (breaks_by b s reason)
-    by true = and_from (nat_lt reason 256) true octet refl
-    by false = and_from (nat_lt reason 256) true octet refl
 verdict_fair s p Verdict.Stay low fair = tail_fair p.agenda fair
 verdict_fair s p Verdict.SendFail low fair = tail_fair p.agenda fair
 
@@ -243,31 +228,25 @@ module _ (six : SixBooks) (others : Others) (p : PathState Carried) (ab ba : Lan
 
     -- the infinite mapping that the end goes by
     own_pair : IfSome e.modes.own_infinite PairTells
-    own_pair = by e.modes.own_infinite shows.pairs.0
-      where
-        by : (o : Option InfiniteMapping) → IfSome o (OwnIs out.pair out.pairs out.fins out.alters) → IfSome o PairTells
-        by None is = tt
-        by (Some mapping) is = own_tells _ others.number out (out_holds six others s ab ba holds) out_is (short.written s) mapping is
+    own_pair = (elim e.modes.own_infinite as (λ o. IfSome o (OwnIs out.pair out.pairs out.fins out.alters) → IfSome o PairTells)
+        [ None ↦ λ is. tt | Some mapping ↦ λ is. own_tells _ others.number out (out_holds six others s ab ba holds) out_is (short.written s) mapping is ]) shows.pairs.0
 
     -- the mapping whose check fails
     failed_short : IfSome (failing_by p.profile.spelling.checksums (mapping_here e) e.tcp) (λ kept. IsShort kept.place)
-    failed_short = here (receives_plainly e.modes e.tcp.recv.edge)
+    failed_short =
+        elim (receives_plainly e.modes e.tcp.recv.edge) as (λ b. IfSome (failing_by p.profile.spelling.checksums (if b then None else mapping_at e.receiving.mappings e.tcp.recv.edge) e.tcp) (λ kept. IsShort kept.place)) [
+          | true ↦ tt
+          | false ↦ found (mapping_at e.receiving.mappings e.tcp.recv.edge) (kept_at (nat_lt e.tcp.recv.edge e.receiving.mappings.forgotten))
+        ]
       where
         found : (o : Option KeptMapping) → IfSome o (KeptShows back.maps) → IfSome (failing_by p.profile.spelling.checksums o e.tcp) (λ kept. IsShort kept.place)
         found None is = tt
-        found (Some kept) is = by (is_wrong p.profile.spelling.checksums kept e.tcp)
-          where
-            by : (b : Bool) → IfSome (if b then Some kept else None) (λ (kept : KeptMapping). IsShort kept.place)
-            by false = tt
-            by true = let low = back_is.maps.each is.at is.item is.there in let same = is.holds.place_is in let written = short.written (peer s) in omega (arith, low, same, written)
+        found (Some kept) is = elim (is_wrong p.profile.spelling.checksums kept e.tcp) as (λ b. IfSome (if b then Some kept else None) (λ (kept : KeptMapping). IsShort kept.place))
+            [ false ↦ tt | true ↦ let low = back_is.maps.each is.at is.item is.there in let same = is.holds.place_is in let written = short.written (peer s) in omega (arith, low, same, written) ]
 
         kept_at : (b : Bool) → IfSome (if b then None else find (λ kept. covers e.tcp.recv.edge (run_of kept)) e.receiving.mappings.live) (KeptShows back.maps)
         kept_at true = tt
         kept_at false = every_find (λ kept. covers e.tcp.recv.edge (run_of kept)) e.receiving.mappings.live shows.receiver.mapped
-
-        here : (b : Bool) → IfSome (failing_by p.profile.spelling.checksums (if b then None else mapping_at e.receiving.mappings e.tcp.recv.edge) e.tcp) (λ kept. IsShort kept.place)
-        here true = tt
-        here false = found (mapping_at e.receiving.mappings e.tcp.recv.edge) (kept_at (nat_lt e.tcp.recv.edge e.receiving.mappings.forgotten))
 
     -- the end becomes this
     on : (f : PathEnd) (ds : List Duty) → EndTells p.profile s f → AreFair ds → Tells (goes_on s f ds p)
@@ -313,8 +292,7 @@ module _ (six : SixBooks) (others : Others) (p : PathState Carried) (ab ba : Lan
         (rules.noted_out_tells p.profile s (having_sent Occasion.Ack p.clock (note_of s p) e) (rules.sent_end_tells p.profile s e tells Occasion.Ack p.clock (note_of s p))) t.agenda
       where
         first_note : (queue : List OwnNotice) → Every NoteTells queue → IfSome (first_of queue) NoteTells
-        first_note [] each = tt
-        first_note (notice ∷ queue) each = every_first notice queue each
+        first_note = elim [ [] ↦ λ each. tt | notice ∷ queue ↦ λ each. every_first notice queue each ]
 
     answer_told : SegmentTells p.profile s (answer_of s p)
     answer_told =
@@ -381,13 +359,10 @@ module _ (six : SixBooks) (others : Others) (p : PathState Carried) (ab ba : Lan
             on (with_plain_ack f) (fell_duties s r p) (rules.plain_ack_tells p.profile s f (rules.fell_tells p.profile s e tells Event.PlainAck r)) (fell_fair Event.PlainAck)
 
     subflow_ack_told : Tells (answered_subflow_ack s (reply_of six (subflow_ack_ask s e)) p)
-    subflow_ack_told = by (plain_next e)
-      where
-        by : (o : Option ℕ) → Tells (goes_on s (record e { sending = plainly_acked o (reply_of six (plain_ack_in s o e.treated.window)) e.sending }) (left p) p)
-        by None = on _ (left p) (rules.unacked p.profile s e tells (reply_of six (plain_ack_in s None e.treated.window))) left_fair
-        by (Some next) =
-            let written = short.written s in
-            on _ (left p) (rules.plain_acked p.profile s e tells next (send_of s six) (omega (arith, written))) left_fair
+    subflow_ack_told = elim (plain_next e) as (λ o. Tells (goes_on s (record e { sending = plainly_acked o (reply_of six (plain_ack_in s o e.treated.window)) e.sending }) (left p) p)) [
+      | None ↦ on _ (left p) (rules.unacked p.profile s e tells (reply_of six (plain_ack_in s None e.treated.window))) left_fair
+      | Some next ↦ let written = short.written s in on _ (left p) (rules.plain_acked p.profile s e tells next (send_of s six) (omega (arith, written))) left_fair
+    ]
 
     -- ---- a check that failed, and MP_FAIL
 
@@ -456,11 +431,8 @@ module _ (six : SixBooks) (others : Others) (p : PathState Carried) (ab ba : Lan
         on (after_peer_notice notice (reply_of six (notice_ask s notice p)) e) (left p)
         (rules.peer_notice_tells p.profile s e tells notice (reply_of six (notice_ask s notice p)) x) left_fair
     heard_told Heard.Fail x = failed_told
-    heard_told (Heard.FastClose key) x = stopped_told (is_stopped_by (reply_of six (fast_heard_ask s key)))
-      where
-        stopped_told : (b : Bool) → Tells (with_agenda (if b then stops s else left p) p)
-        stopped_told true = tells_agenda p.profile p t (stops s) refl
-        stopped_told false = done_tells
+    heard_told (Heard.FastClose key) x = elim (is_stopped_by (reply_of six (fast_heard_ask s key))) as (λ b. Tells (with_agenda (if b then stops s else left p) p))
+        [ true ↦ tells_agenda p.profile p t (stops s) refl | false ↦ done_tells ]
 
     -- ---- the SYN of a join
 
@@ -477,8 +449,7 @@ module _ (six : SixBooks) (others : Others) (p : PathState Carried) (ab ba : Lan
     join_told = join_by (keys_begun (reply_of six (join_heard_ask s (asked_at s p) p))) (asked_at s p) (joined_keys six short.control s (asked_at s p) p) (asked_nonce e.treated.items tells.treated.items)
 
     item_by : (o : Option Heard) → IfSome o ItemTells → Tells (answered_item values s o (reply_of six (item_ask values s o p)) p)
-    item_by None x = done_tells
-    item_by (Some item) x = heard_told item x
+    item_by = elim [ None ↦ λ x. done_tells | Some item ↦ λ x. heard_told item x ]
 
     item_told : (index : ℕ) → Tells (answered_item values s (item_of index e) (reply_of six (item_ask values s (item_of index e) p)) p)
     item_told index = item_by (item_of index e) (known_item e.modes.identity _ (every_item index e.treated.items tells.treated.items))
@@ -500,11 +471,7 @@ module _ (six : SixBooks) (others : Others) (p : PathState Carried) (ab ba : Lan
     next_is may = shows.sender.next (unfinished_if e.tcp.state may)
 
     marks_whole : length (send_of s six).marks ≡ length (send_of s six).written
-    marks_whole = by s
-      where
-        by : (s : Side) → length (send_of s six).marks ≡ length (send_of s six).written
-        by A = holds.ab.send.whole
-        by B = holds.ba.send.whole
+    marks_whole = elim s as (λ s. length (send_of s six).marks ≡ length (send_of s six).written) [ A ↦ holds.ab.send.whole | B ↦ holds.ba.send.whole ]
 
     module _ (may : states.may_finish e.tcp.state ≡ true) where
       abbrev grant : Ask
@@ -555,11 +522,10 @@ module _ (six : SixBooks) (others : Others) (p : PathState Carried) (ab ba : Lan
 
     -- the lane that the side hears, with other fields
     heard_holds : (q : Lane) → Strolls back q → LaneHolds (view_of (flags_of others.links (peer s) six) (send_of (peer s) six) (reassembly_of s six)) others.number q
-    heard_holds = by s
-      where
-        by : (s : Side) (q : Lane) → Strolls (pick s ba ab) q → LaneHolds (view_of (flags_of others.links (peer s) six) (send_of (peer s) six) (reassembly_of s six)) others.number q
-        by A q x = back_holds six others A ab q (strolls_held six others ab ab ba q (stays ab) x holds)
-        by B q x = back_holds six others B q ba (strolls_held six others ab q ba ba x (stays ba) holds)
+    heard_holds = elim s as (λ s. (q : Lane) → Strolls (pick s ba ab) q → LaneHolds (view_of (flags_of others.links (peer s) six) (send_of (peer s) six) (reassembly_of s six)) others.number q) [
+      | A ↦ λ q x. back_holds six others A ab q (strolls_held six others ab ab ba q (stays ab) x holds)
+      | B ↦ λ q x. back_holds six others B q ba (strolls_held six others ab q ba ba x (stays ba) holds)
+    ]
 
     broken : Tells (goes_on s (having_asked e) (breaks s 1) p)
     broken = on (having_asked e) (breaks s 1) (rules.asked_tells p.profile s e tells) refl

@@ -57,11 +57,11 @@ module _ (c : Profile) (s : Side) (v : SendState) (h : SenderTells c s v) where
   syn_resent_tells now = if_so (SenderTells c s) (v.una == 0) (after_resent now v) v (resent_tells now) h
 
   pub acknowledged_tells : (pos : ℕ) → SenderTells c s (after_acknowledge pos v)
-  acknowledged_tells pos = by (nat_lt v.una pos && nat_le pos v.nxt) refl
-    where
-      by : (b : Bool) → (nat_lt v.una pos && nat_le pos v.nxt) ≡ b → SenderTells c s (if b then record v { una = pos; records = uncovered pos v.records } else v)
-      by true is = record { next = h.next; unacknowledged = leb-true pos v.nxt (and_parts (nat_lt v.una pos) (nat_le pos v.nxt) is).1; records = uncovered_kept pos v.records h.records }
-      by false is = h
+  acknowledged_tells pos =
+      (elim (nat_lt v.una pos && nat_le pos v.nxt) as (λ b. (nat_lt v.una pos && nat_le pos v.nxt) ≡ b → SenderTells c s (if b then record v { una = pos; records = uncovered pos v.records } else v)) [
+        | true ↦ λ is. record { next = h.next; unacknowledged = leb-true pos v.nxt (and_parts (nat_lt v.una pos) (nat_le pos v.nxt) is).1; records = uncovered_kept pos v.records h.records }
+        | false ↦ λ is. h
+      ]) refl
 
 -- ---- modes
 
@@ -87,24 +87,20 @@ keys_modes keys m k h = record { own_key = k.0; peer_key = k.1; own_nonce = h.ow
 
 -- a key that was heard
 key_of : (item : Heard) → ItemTells item → IfSome (key_in item) IsKey
-key_of (Heard.PeerKey key) h = h
-key_of _ h = tt
+key_of = elim [ Heard.PeerKey key ↦ λ h. h | _ ↦ λ h. tt ]
 
 first_key : (o other : Option ℕ) → IfSome o IsKey → IfSome other IsKey → IfSome (option_or o other) IsKey
-first_key None other a b = b
-first_key (Some key) other a b = a
+first_key = elim [ None ↦ λ other a b. b | Some key ↦ λ other a b. a ]
 
 pub heard_key : (items : List Heard) → Every ItemTells items → IfSome (key_heard items) IsKey
 heard_key [] h = tt
 heard_key (item ∷ items) h = first_key (key_in item) (key_heard items) (key_of item (every_first item items h)) (heard_key items (every_rest item items h))
 
 pair_of : (item : Heard) → ItemTells item → IfSome (pair_in item) (λ k. IsKey k.peer)
-pair_of (Heard.Keys own peer) h = h.1
-pair_of _ h = tt
+pair_of = elim [ Heard.Keys own peer ↦ λ h. h.1 | _ ↦ λ h. tt ]
 
 first_pair : (o other : Option KeyPair) → IfSome o (λ k. IsKey k.peer) → IfSome other (λ k. IsKey k.peer) → IfSome (option_or o other) (λ k. IsKey k.peer)
-first_pair None other a b = b
-first_pair (Some keys) other a b = a
+first_pair = elim [ None ↦ λ other a b. b | Some keys ↦ λ other a b. a ]
 
 pub heard_keys : (items : List Heard) → Every ItemTells items → IfSome (keys_heard items) (λ k. IsKey k.peer)
 heard_keys [] h = tt
@@ -117,8 +113,7 @@ form_of step (Heard.Join form) h = if_so (λ z. IfSome z FormFits) (is_of_step s
 form_of step _ h = tt
 
 first_form : (o other : Option JoinForm) → IfSome o FormFits → IfSome other FormFits → IfSome (option_or o other) FormFits
-first_form None other a b = b
-first_form (Some form) other a b = a
+first_form = elim [ None ↦ λ other a b. b | Some form ↦ λ other a b. a ]
 
 heard_form : (step : JoinStep) (items : List Heard) → Every ItemTells items → IfSome (join_heard step items) FormFits
 heard_form step [] h = tt
@@ -137,11 +132,11 @@ answered_by_form : (own other nonce : ℕ) (o : Option JoinForm) → IfSome o Fo
     → IfSome (result_ok (answer_taken own other nonce (answer_heard (join_value o)))) (λ answer. IsNonce answer.nonce)
 answered_by_form own other nonce None h = tt
 answered_by_form own other nonce (Some (JoinForm.Syn backup id token n)) h = tt
-answered_by_form own other nonce (Some (JoinForm.Answer backup id hmac n)) h = by (hmac == join_b64_of own other nonce n)
-  where
-    by : (b : Bool) → IfSome (result_ok (if b then Ok (record { backup = backup; id = id; nonce = n }) else Err BadHmac)) (λ (answer : JoinAnswer). IsNonce answer.nonce)
-    by true = h.2
-    by false = tt
+answered_by_form own other nonce (Some (JoinForm.Answer backup id hmac n)) h =
+    elim (hmac == join_b64_of own other nonce n) as (λ b. IfSome (result_ok (if b then Ok (record { backup = backup; id = id; nonce = n }) else Err BadHmac)) (λ (answer : JoinAnswer). IsNonce answer.nonce)) [
+      | true ↦ h.2
+      | false ↦ tt
+    ]
 answered_by_form own other nonce (Some (JoinForm.Third hmac)) h = tt
 
 -- and what B answers
@@ -181,8 +176,7 @@ module _ (c : Profile) (s : Side) (e : PathEnd) (h : EndTells c s e) where
   notice_noted (Notice.Carrier other) may mode standby sole told = record { carrier = by e.notices.fast_closed; queue = h.notices.queue }
     where
       by : (closed : Bool) → IfSome (if closed then e.notices.carrier else Some other) IsKey
-      by true = h.notices.carrier
-      by false = told
+      by = elim [ true ↦ h.notices.carrier | false ↦ told ]
 
   notices_noted : (r : Reply) → NoticeTells r → NoticesTell (notices_told r e)
   notices_noted (Reply.Control (ControlReply.Standing mode standby sole notice)) told =
@@ -199,8 +193,7 @@ module _ (c : Profile) (s : Side) (e : PathEnd) (h : EndTells c s e) where
   noted_out_tells = with_notices (without_first e.notices) (record { carrier = h.notices.carrier; queue = rest e.notices.queue h.notices.queue })
     where
       rest : (queue : List OwnNotice) → Every NoteTells queue → Every NoteTells (tail_of queue)
-      rest [] each = each
-      rest (notice ∷ queue) each = every_rest notice queue each
+      rest = elim [ [] ↦ λ each. each | notice ∷ queue ↦ λ each. every_rest notice queue each ]
 
   with_queue : (queue : List OwnNotice) → Every NoteTells queue → EndTells c s (record e { notices = record e.notices { queue = queue } })
   with_queue queue told = with_notices (record e.notices { queue = queue }) (record { carrier = h.notices.carrier; queue = told })
@@ -247,11 +240,10 @@ module _ (c : Profile) (s : Side) (e : PathEnd) (h : EndTells c s e) where
   -- A's end opens where the join may begin
   pub opened_tells : (o : Option KeyPair) → IfSome o AreKeys → EndTells c s (opened_by o e)
   opened_tells None keys = h
-  opened_tells (Some pair) keys = by (states.is_waiting e.tcp.state)
-    where
-      by : (b : Bool) → EndTells c s (record e { tcp = (if b then after_begin e.tcp else e.tcp); modes = with_keys pair e.modes })
-      by true = record { sender = h.sender; edge = h.edge; stream = h.stream; window = h.window; modes = keys_modes pair e.modes keys h.modes; treated = h.treated; notices = h.notices }
-      by false = with_modes (with_keys pair e.modes) (keys_modes pair e.modes keys h.modes)
+  opened_tells (Some pair) keys = elim (states.is_waiting e.tcp.state) as (λ b. EndTells c s (record e { tcp = (if b then after_begin e.tcp else e.tcp); modes = with_keys pair e.modes })) [
+    | true ↦ record { sender = h.sender; edge = h.edge; stream = h.stream; window = h.window; modes = keys_modes pair e.modes keys h.modes; treated = h.treated; notices = h.notices }
+    | false ↦ with_modes (with_keys pair e.modes) (keys_modes pair e.modes keys h.modes)
+  ]
 
   pub dss_tells : EndTells c s (after_dss s e)
   dss_tells = record {
@@ -318,8 +310,7 @@ module _ (c : Profile) (s : Side) (e : PathEnd) (h : EndTells c s e) where
   plain_acked next b short = by (is_future next b) refl
     where
       one_more : (closed : Bool) → length b.written + (if closed then 1 else 0) ≤ length b.written + 1
-      one_more true = omega arith
-      one_more false = omega arith
+      one_more = elim [ true ↦ omega arith | false ↦ omega arith ]
 
       by : (future : Bool) → is_future next b ≡ future
           → EndTells c s (record e {
@@ -467,8 +458,7 @@ module _ (c : Profile) (s : Side) (e : PathEnd) (h : EndTells c s e) where
   }
     where
       by : (known : Option ℕ) → IfSome known IsShort → IfSome (told_last known e.sending.known_end) IsShort
-      by None short = h.stream.known_end
-      by (Some place) short = short
+      by = elim [ None ↦ λ short. h.stream.known_end | Some place ↦ λ short. short ]
 
   -- ---- sendings
 
@@ -531,11 +521,10 @@ module _ (c : Profile) (s : Side) (e : PathEnd) (h : EndTells c s e) where
   died_unless_tells = if_so (EndTells c s) (states.is_dead e.tcp.state) e (died e) h died_tells
 
   pub fired_tells : (now : ℕ) → EndTells c s (after_firing now e)
-  fired_tells now = by (expiring.is_sixth e.tcp)
-    where
-      by : (b : Bool) → EndTells c s (record e { tcp = if b then taking.after_death true e.tcp else expiring.after_expiry now e.tcp })
-      by true = dead_tells true e.treated h.treated
-      by false = record { sender = expired_tells c s e.tcp.send h.sender; edge = h.edge; stream = h.stream; window = h.window; modes = h.modes; treated = h.treated; notices = h.notices }
+  fired_tells now = elim (expiring.is_sixth e.tcp) as (λ b. EndTells c s (record e { tcp = if b then taking.after_death true e.tcp else expiring.after_expiry now e.tcp })) [
+    | true ↦ dead_tells true e.treated h.treated
+    | false ↦ record { sender = expired_tells c s e.tcp.send h.sender; edge = h.edge; stream = h.stream; window = h.window; modes = h.modes; treated = h.treated; notices = h.notices }
+  ]
 
   -- ---- what is kept
 
@@ -552,22 +541,16 @@ module _ (c : Profile) (s : Side) (e : PathEnd) (h : EndTells c s e) where
 
   pub check_tells : (checksums : Bool) (o : Option KeptMapping) → EndTells c s (forgotten_by checksums o e)
   check_tells checksums None = h
-  check_tells checksums (Some kept) = by (is_wrong checksums kept e.tcp)
-    where
-      by : (b : Bool) → EndTells c s (if b then record e { tcp = record e.tcp { recv = after_forget_from kept.pos e.tcp.recv } } else e)
-      by false = h
-      by true = same_edge (record e.tcp { recv = after_forget_from kept.pos e.tcp.recv }) refl refl
+  check_tells checksums (Some kept) = elim (is_wrong checksums kept e.tcp) as (λ b. EndTells c s (if b then record e { tcp = record e.tcp { recv = after_forget_from kept.pos e.tcp.recv } } else e))
+      [ false ↦ h | true ↦ same_edge (record e.tcp { recv = after_forget_from kept.pos e.tcp.recv }) refl refl ]
 
   pub keep_tells : EndTells c s (after_keep s e)
   keep_tells = kept_so (is_dropped s e)
     where
       kept : (b : Bool) → (if b then taking.after_dropping_held e.tcp else taking.after_keeping_held e.tcp).recv.edge ≡ e.tcp.recv.edge
       kept true = refl
-      kept false = passed (is_fin_passed e.tcp)
-        where
-          passed : (b : Bool) → (if b then without_held e.tcp.recv else after_keep_held e.tcp.recv).edge ≡ e.tcp.recv.edge
-          passed true = refl
-          passed false = refl
+      kept false = elim (is_fin_passed e.tcp) as (λ b. (if b then without_held e.tcp.recv else after_keep_held e.tcp.recv).edge ≡ e.tcp.recv.edge)
+          [ true ↦ refl | false ↦ refl ]
 
       by : (b : Bool) → EndTells c s (record e { tcp = if b then taking.after_dropping_held e.tcp else taking.after_keeping_held e.tcp })
       by true = same_edge (taking.after_dropping_held e.tcp) refl (kept true)
@@ -587,8 +570,5 @@ module _ (c : Profile) (s : Side) (e : PathEnd) (h : EndTells c s e) where
           }
 
   pub pass_fin_tells : (is_fin_next e.tcp ≡ true → IsShort (e.tcp.recv.edge + 1)) → EndTells c s (after_pass_fin e)
-  pass_fin_tells short = by (is_fin_next e.tcp) refl
-    where
-      by : (b : Bool) → is_fin_next e.tcp ≡ b → EndTells c s (record e { tcp = if b then after_passing_fin e.tcp else e.tcp })
-      by false is = h
-      by true is = record { sender = h.sender; edge = short is; stream = h.stream; window = h.window; modes = h.modes; treated = h.treated; notices = h.notices }
+  pass_fin_tells short = (elim (is_fin_next e.tcp) as (λ b. is_fin_next e.tcp ≡ b → EndTells c s (record e { tcp = if b then after_passing_fin e.tcp else e.tcp }))
+      [ false ↦ λ is. h | true ↦ λ is. record { sender = h.sender; edge = short is; stream = h.stream; window = h.window; modes = h.modes; treated = h.treated; notices = h.notices } ]) refl

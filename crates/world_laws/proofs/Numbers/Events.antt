@@ -6,8 +6,8 @@
 -- `proofs/Numbers/Events`).
 use Rattle.world_laws.proofs.Words.{◌≡◌, refl, ℕ, zero, suc, ◌+◌, Bool, true, false, if◌then◌else◌, Option, Some, None, List, [], ◌∷◌, ◌++◌, length, find}
 use Rattle.world_laws.proofs.Words.{position, false≢true, IfSome, Side, A, B, peer, same_side, is_dead, Meaning, is_sixth, is_due, arriving, after_delivery}
-use Rattle.world_laws.proofs.Words.{Due, Flight, PlainSegment, meant, LineAction, rest_of_turn, emission, heard_and, payload_came, leaves, announces, withdraws}
-use Rattle.world_laws.proofs.Words.{Duty, AskDuty, Reply, tail_of, PathEnd, died, at_tick, PathState, end_at, goes_on, Carried, as_arrived, values, items_of}
+use Rattle.world_laws.proofs.Words.{Due, PlainSegment, meant, LineAction, rest_of_turn, emission, heard_and, payload_came, leaves, announces, withdraws, Duty}
+use Rattle.world_laws.proofs.Words.{AskDuty, Reply, tail_of, PathEnd, died, at_tick, PathState, end_at, goes_on, Carried, as_arrived, values, items_of}
 use Rattle.world_laws.proofs.Words.{after_judged, judged_in, template_by, template_judged, template_of, heard_in, copy_heard, told_at, copy_taken, Judged}
 use Rattle.world_laws.proofs.Words.{after_line, happens, happens_if, join_begun, never_joined, is_never, keys_begun, opened_by, is_joined, template_fired}
 use Rattle.world_laws.proofs.Words.{after_firing, timer_fired, with_priority, Profile, Every-nil, if_so}
@@ -36,8 +36,7 @@ judged_fair joined s count (Judged.As meaning) = template_fair joined s count me
 judged_fair joined s count _ = refl
 
 fired_fair : (sixth : Bool) (s : Side) → AreFair (template_fired sixth s)
-fired_fair true s = refl
-fired_fair false s = refl
+fired_fair = elim [ true ↦ λ s. refl | false ↦ λ s. refl ]
 
 died_fair : (a b : Bool) → AreFair ((if a then [] else Duty.Ask (AskDuty.Leave A) ∷ []) ++ ((if b then [] else Duty.Ask (AskDuty.Leave B) ∷ []) ++ rest_of_turn))
 died_fair true true = refl
@@ -54,11 +53,11 @@ told_to c B A carried same h = absurd (false≢true same)
 
 -- the copy that is due
 pub due_tells : (c : Profile) (p : PathState Carried) → PathTells c p → (due : Due) → IfSome (arriving due p.link) (λ f. CopyTells c due.to f.carried)
-due_tells c p h due = by (find (is_due due) p.link.under_way) refl (every_find (is_due due) p.link.under_way h.copies)
-  where
-    by : (o : Option (Flight Carried)) → find (is_due due) p.link.under_way ≡ o → IfSome o (λ f. CopyTells c f.to f.carried) → IfSome o (λ f. CopyTells c due.to f.carried)
-    by None found tells = tt
-    by (Some f) found tells = told_to c due.to f.to f.carried (side_is due f (found_due due p.link.under_way f found)) tells
+due_tells c p h due =
+    (elim (find (is_due due) p.link.under_way) as (λ o. find (is_due due) p.link.under_way ≡ o → IfSome o (λ f. CopyTells c f.to f.carried) → IfSome o (λ f. CopyTells c due.to f.carried)) [
+      | None ↦ λ found tells. tt
+      | Some f ↦ λ found tells. told_to c due.to f.to f.carried (side_is due f (found_due due p.link.under_way f found)) tells
+    ]) refl (every_find (is_due due) p.link.under_way h.copies)
 
 module _ (p : PathState Carried) (h : PathTells p.profile p) where
   abbrev Tells : PathState Carried → Type 0
@@ -112,12 +111,10 @@ module _ (p : PathState Carried) (h : PathTells p.profile p) where
       (bare_tells p.profile (peer due.to) carried.segment tells) tells
 
   copy_tells : (due : Due) → Tells (copy_taken values due p)
-  copy_tells due = by (arriving due p.link) (due_tells p.profile p h due)
-    where
-      by : (o : Option (Flight Carried)) → IfSome o (λ f. CopyTells p.profile due.to f.carried) → Tells (copy_heard due.to (heard_in values due.to o p) (after due))
-      by None tells = tells_agenda p.profile (after due) (delivered due) (emission due.to) refl
-      by (Some f) tells =
-          heard_tells due (end_at due.to (after due)).modes.identity (as_arrived f.carried) (arrived due f.carried tells.segment)
+  copy_tells due = (elim (arriving due p.link) as (λ o. IfSome o (λ f. CopyTells p.profile due.to f.carried) → Tells (copy_heard due.to (heard_in values due.to o p) (after due))) [
+    | None ↦ λ tells. tells_agenda p.profile (after due) (delivered due) (emission due.to) refl
+    | Some f ↦ λ tells. heard_tells due (end_at due.to (after due)).modes.identity (as_arrived f.carried) (arrived due f.carried tells.segment)
+  ]) (due_tells p.profile p h due)
 
   -- ---- timers
 
@@ -129,11 +126,10 @@ module _ (p : PathState Carried) (h : PathTells p.profile p) where
 
   -- it is begun or not, with these to be done
   pub join_tells : (r : Reply) (dead living : List Duty) (q : PathState Carried) → IfSome (keys_begun r) AreKeys → AreFair dead → AreFair living → Tells q → Tells (join_begun r dead living q)
-  join_tells r dead living q keys dead_fair living_fair x = by (is_never r)
-    where
-      by : (b : Bool) → Tells (if b then goes_on A (never_joined r q.a) dead q else goes_on A (opened_by (keys_begun r) q.a) living q)
-      by true = tells_on p.profile q x A (never_joined r q.a) dead (join_refused_tells p.profile A (died q.a) (died_tells p.profile A q.a x.a) r) dead_fair
-      by false = tells_on p.profile q x A (opened_by (keys_begun r) q.a) living (opened_tells p.profile A q.a x.a (keys_begun r) keys) living_fair
+  join_tells r dead living q keys dead_fair living_fair x = elim (is_never r) as (λ b. Tells (if b then goes_on A (never_joined r q.a) dead q else goes_on A (opened_by (keys_begun r) q.a) living q)) [
+    | true ↦ tells_on p.profile q x A (never_joined r q.a) dead (join_refused_tells p.profile A (died q.a) (died_tells p.profile A q.a x.a) r) dead_fair
+    | false ↦ tells_on p.profile q x A (opened_by (keys_begun r) q.a) living (opened_tells p.profile A q.a x.a (keys_begun r) keys) living_fair
+  ]
 
   -- ---- the earliest
 

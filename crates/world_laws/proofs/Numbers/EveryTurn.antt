@@ -8,7 +8,7 @@
 use Rattle.world_laws.proofs.Words.{◌≡◌, refl, sym, ◌∙◌, ap, subst, ℕ, zero, suc, ◌+◌, ◌-◌, ◌≤◌, ⊎_elim, Bool, true, false, if◌then◌else◌, Option, Some, None}
 use Rattle.world_laws.proofs.Words.{List, [], ◌∷◌, ◌++◌, length, map, arith, is_some, ◌<◌, ◌^◌, and_parts, length-append, same_Some, slice_get_within}
 use Rattle.world_laws.proofs.Words.{slice_get, list_all, IfSome, Side, A, B, ReassemblyCall, Arriving, places_after, fin_clash, after_reading, Sending, Record}
-use Rattle.world_laws.proofs.Words.{is_unsent, EndPhase, new_end, arriving, Flight, start_of_turn, Duty, OwnNotice, first_of, Ask, books_in, SixBooks, send_of}
+use Rattle.world_laws.proofs.Words.{is_unsent, EndPhase, new_end, arriving, start_of_turn, Duty, OwnNotice, first_of, Ask, books_in, SixBooks, send_of}
 use Rattle.world_laws.proofs.Words.{reassembly_of, control_of, reply_of, after_ask, AppDuty, AppState, app_ask, app_asks_first, stands, ask_for, answered}
 use Rattle.world_laws.proofs.Words.{opening_end, first_sends, first_state, first_turn, PathState, end_at, with_agenda, settles_down, answers, asks_first, takes}
 use Rattle.world_laws.proofs.Words.{next_round, FirstStands, IsSettled, Carried, values, expected_by, first_unsent, first_record, HasAddress, Profile}
@@ -45,21 +45,11 @@ use Rattle.world_laws.proofs.Lanes.Saying.{every_one}
 -- ---- the room of a reassembly book never changes
 
 call_room : (b : Arriving) (call : ReassemblyCall) → (after_call b call).capacity ≡ b.capacity
-call_room b (ReassemblyCall.Place at bytes) = by (is_taken at bytes b)
-  where
-    by : (c : Bool) → (if c then record b { places = places_after at bytes b } else b).capacity ≡ b.capacity
-    by true = refl
-    by false = refl
-call_room b (ReassemblyCall.Fin at) = by (is_some (fin_clash b.known_end at b))
-  where
-    by : (c : Bool) → (if c then b else record b { known_end = Some at }).capacity ≡ b.capacity
-    by true = refl
-    by false = refl
-call_room b (ReassemblyCall.Read most) = by (is_some b.aborted)
-  where
-    by : (c : Bool) → (if c then b else after_reading most b).capacity ≡ b.capacity
-    by true = refl
-    by false = refl
+call_room b (ReassemblyCall.Place at bytes) = elim (is_taken at bytes b) as (λ c. (if c then record b { places = places_after at bytes b } else b).capacity ≡ b.capacity)
+    [ true ↦ refl | false ↦ refl ]
+call_room b (ReassemblyCall.Fin at) = elim (is_some (fin_clash b.known_end at b)) as (λ c. (if c then b else record b { known_end = Some at }).capacity ≡ b.capacity)
+    [ true ↦ refl | false ↦ refl ]
+call_room b (ReassemblyCall.Read most) = elim (is_some b.aborted) as (λ c. (if c then b else after_reading most b).capacity ≡ b.capacity) [ true ↦ refl | false ↦ refl ]
 call_room b ReassemblyCall.AckOut = refl
 call_room b (ReassemblyCall.Abort by_peer) = refl
 
@@ -99,7 +89,8 @@ opening_tells c s state opens path own key nonce is drawn = record {
 -- ---- freshness of a path
 
 path_fresh : (p : PathState Carried) → PathTells p.profile p → NextIsFresh p
-path_fresh p h due flight next there = by (arriving due p.link) there (due_tells p.profile p h due)
+path_fresh p h due flight next there = (elim (arriving due p.link) as (λ o. o ≡ Some flight → IfSome o (λ f. CopyTells p.profile due.to f.carried) → IsFreshCopy p due.to flight.carried)
+    [ None ↦ λ is tells. cc | Some f ↦ λ is tells. fresh (subst (λ x. CopyTells p.profile due.to x.carried) (same_Some f flight is) tells) ]) there (due_tells p.profile p h due)
   where
     fresh : CopyTells p.profile due.to flight.carried → IsFreshCopy p due.to flight.carried
     fresh tells =
@@ -111,13 +102,12 @@ path_fresh p h due flight next there = by (arriving due p.link) there (due_tells
           fresh = fresh_or_far p.profile _ (expected_by (end_at due.to p)) flight.carried.segment tells.segment end;
         }
 
-    by : (o : Option (Flight Carried)) → o ≡ Some flight → IfSome o (λ f. CopyTells p.profile due.to f.carried) → IsFreshCopy p due.to flight.carried
-    by None is tells = cc
-    by (Some f) is tells = fresh (subst (λ x. CopyTells p.profile due.to x.carried) (same_Some f flight is) tells)
-
 -- each segment that it sends can be said
 sent_said : (p : PathState Carried) → PathTells p.profile p → p.profile.spelling.path ≤ 15 → SentCanBeAltered p
-sent_said p h path = by (first_sends p.agenda p)
+sent_said p h path = elim (first_sends p.agenda p) as (λ o. IfSome o (CanBeAltered p)) [
+  | None ↦ tt
+  | Some t ↦ λ altered. said_can p.profile t.from (end_at t.from p) path (tells t.from).window.window t.kind (noted (end_at t.from p).notices.queue (tells t.from).notices.queue) (unsent t.from) (first t.from)
+]
   where
     tells : (s : Side) → EndTells p.profile s (end_at s p)
     tells s = tells_at p.profile p h s
@@ -135,12 +125,6 @@ sent_said p h path = by (first_sends p.agenda p)
 
     first : (s : Side) → IfSome (first_record (end_at s p)) (λ r. length r.piece ≤ 65475)
     first s = fits s (first_record (end_at s p)) (every_at 0 (end_at s p).tcp.send.records (tells s).sender.records)
-
-    by : (o : _) → IfSome o (CanBeAltered p)
-    by None = tt
-    by (Some t) = λ altered.
-        said_can p.profile t.from (end_at t.from p) path (tells t.from).window.window t.kind
-        (noted (end_at t.from p).notices.queue (tells t.from).notices.queue) (unsent t.from) (first t.from)
 
 -- ---- worlds
 
@@ -169,8 +153,7 @@ from_cast start t tells rooms keys = record { members = each_actor (λ actor c. 
 
 -- an application tells no key
 app_tells : (d : AppDuty) (a : AppState) → AskTells (app_ask d a)
-app_tells AppDuty.FastClose a = tt
-app_tells _ a = tt
+app_tells = elim [ AppDuty.FastClose ↦ λ a. tt | _ ↦ λ a. tt ]
 
 module _ (start : Start) (plain : Carries start) (free : NoneIsFirm plain.links) (fit : NumbersFit start) where
   books_short : (t : Cast Carried) → Fare start t → RoomsAre start.buffer (books_in t.books) → BooksKeepShort (books_in t.books) → BooksAreShort (books_in t.books)
@@ -313,16 +296,14 @@ module _ (start : Start) (plain : Carries start) (free : NoneIsFirm plain.links)
         (subst BooksKeepShort (sym (books_after ask t.at_b.pass t.books)) (later_keys ask (app_tells duty t.b)))
 
     round_tells : WorldTells start (end_round (world_of t))
-    round_tells = by (all_over (world_of t).crew)
+    round_tells =
+        elim (all_over (world_of t).crew) as (λ over. WorldTells start (if over then record (world_of t) { crew = map (begins (greatest 0 (world_of t).crew)) (world_of t).crew } else world_of t))
+        [ false ↦ unmoved | true ↦ subst (WorldTells start) (sym (next_is t)) (from_cast start (next_cast t) next tells.rooms tells.keys) ]
       where
         next : (n : ℕ) (y : Walker Carried) → slice_get (next_cast t).paths n ≡ Some y → TellsAt start n y.path
         next n y at =
             let found = in_map (walks_on (greatest 0 (world_of t).crew)) t.paths n y at in
             subst (λ z. TellsAt start n z.path) found.2 (planned n found.0 found.1 _ (begun_tells n found.0 found.1))
-
-        by : (over : Bool) → WorldTells start (if over then record (world_of t) { crew = map (begins (greatest 0 (world_of t).crew)) (world_of t).crew } else world_of t)
-        by false = unmoved
-        by true = subst (WorldTells start) (sym (next_is t)) (from_cast start (next_cast t) next tells.rooms tells.keys)
 
     turn_told : (turn : Turn) → WorldTells start (after_turn values turn (world_of t))
     turn_told (Turn.Step zero) = a_tells t.a.agenda
@@ -342,8 +323,7 @@ module _ (start : Start) (plain : Carries start) (free : NoneIsFirm plain.links)
     turn_fresh (Turn.Step (suc (suc number))) = subst IsFreshCrew (sym (map_there walking t.paths number)) (by (slice_get t.paths number) refl)
       where
         by : (o : Option (Walker Carried)) → slice_get t.paths number ≡ o → IsFreshCrew (option_map walking o)
-        by None there = tt
-        by (Some x) there = path_fresh_now number x there
+        by = elim [ None ↦ λ there. tt | Some x ↦ λ there. path_fresh_now number x there ]
     turn_fresh Turn.Round = tt
 
   -- ---- every list of turns
@@ -388,12 +368,10 @@ module _ (start : Start) (plain : Carries start) (free : NoneIsFirm plain.links)
   opened_short = record { written = written; room = room; control = control }
     where
       written : (s : Side) → length (send_of s (six start plain)).written + 3 ≤ 2 ^ 31
-      written A = omega arith
-      written B = omega arith
+      written = elim [ A ↦ omega arith | B ↦ omega arith ]
 
       room : (s : Side) → (reassembly_of s (six start plain)).capacity ≤ 2 ^ 20
-      room A = fit.buffer
-      room B = fit.buffer
+      room = elim [ A ↦ fit.buffer | B ↦ fit.buffer ]
 
       control : (s : Side) → ControlIsShort (control_of s (six start plain))
       control A = record { keys = record { own = fit.key_a; peer = tt }; ids = opening_fits A start.key_a }

@@ -1,5 +1,5 @@
 -- The sets of ids that a control book keeps have 256 members each: so each id that it tells is below 256.
-use Rattle.world_laws.proofs.Words.{◌≡◌, refl, ◌∙◌, ap, ℕ, zero, suc, Bool, true, false, if◌then◌else◌, Option, Some, None, List, [], ◌∷◌, length, arith, ◌<◌}
+use Rattle.world_laws.proofs.Words.{◌≡◌, refl, ◌∙◌, ap, ℕ, zero, suc, Bool, true, false, if◌then◌else◌, Some, None, List, [], ◌∷◌, length, arith, ◌<◌}
 use Rattle.world_laws.proofs.Words.{length-replicate, length-set, IfSome, slice_set, lowest, no_ids, Addresses, addresses_heard, addresses_removed, Address}
 use Rattle.world_laws.proofs.Words.{token_of, Side, ControlCall, Notice, with_removed, with_phase, every_path, lives, Control, no_withdrawals, new_control}
 use Rattle.world_laws.proofs.Words.{withdrawals_on, with_withdrawal, notice_on, is_sure, may_join, is_known, withdrawn, withdrawn_on, Opening}
@@ -23,11 +23,8 @@ pub record IdsFit (c : Control) : Type 0 where
   pub withdrawals : AreAllIds c.notices.withdrawals
 
 pub lowest_fits : (ids : List Bool) → AreIds ids → IfSome (lowest ids) (λ id. id < 256)
-lowest_fits ids are = by (lowest ids) refl
-  where
-    by : (o : Option ℕ) → lowest ids ≡ o → IfSome o (λ id. id < 256)
-    by None is = tt
-    by (Some id) is = let first = position-Some (λ member. member) ids id true is in let within = first.0 in omega (arith, within, are)
+lowest_fits ids are = (elim (lowest ids) as (λ o. lowest ids ≡ o → IfSome o (λ id. id < 256))
+    [ None ↦ λ is. tt | Some id ↦ λ is. let first = position-Some (λ member. member) ids id true is in let within = first.0 in omega (arith, within, are) ]) refl
 
 -- ---- sets of a path
 
@@ -49,8 +46,7 @@ withdrawal_fits : (id : ℕ) (due : Bool) (path : ℕ) (sets : List (List Bool))
 withdrawal_fits id due path sets h = put_fits sets path _ (length-set (withdrawals_on sets path) id due ∙ on_fits sets path h) h
 
 either_fits : (b : Bool) (one other : List (List Bool)) → AreAllIds one → AreAllIds other → AreAllIds (if b then one else other)
-either_fits true one other x y = x
-either_fits false one other x y = y
+either_fits = elim [ true ↦ λ one other x y. x | false ↦ λ one other x y. y ]
 
 one_fits : (id : ℕ) (paths : List PathState) (sets : List (List Bool)) (path : ℕ) → AreAllIds sets → AreAllIds (withdrawn_on id paths sets path)
 unfolding withdrawn_on
@@ -63,8 +59,7 @@ each_fits id paths (path ∷ which) sets h = each_fits id paths which (withdrawn
 -- ---- each call
 
 either : (b : Bool) (c d : Control) → IdsFit c → IdsFit d → IdsFit (if b then c else d)
-either true c d x y = x
-either false c d x y = y
+either = elim [ true ↦ λ c d x y. x | false ↦ λ c d x y. y ]
 
 notice_fits : (n : Notice) (path : ℕ) (c : Control) → IdsFit c → IdsFit (after_notice n path c)
 notice_fits (Notice.Withdraw id) path c h = record { due = h.due; withdrawals = withdrawal_fits id false path c.notices.withdrawals h.withdrawals }
@@ -72,8 +67,7 @@ notice_fits _ path c h = h
 
 -- what is kept is no matter of the sets
 heard_due : (right : Bool) (id : ℕ) (address : Address) (a : Addresses Address) → (addresses_heard id address right a).due ≡ a.due
-heard_due true id address a = refl
-heard_due false id address a = refl
+heard_due = elim [ true ↦ λ id address a. refl | false ↦ λ id address a. refl ]
 
 pub call_fits : (c : Control) (asked : ControlCall) → IdsFit c → IdsFit (after c asked)
 call_fits c (ControlCall.Look path) h = notice_fits (notice_on c path) path c h

@@ -24,8 +24,7 @@ use Rattle.world_laws.proofs.Writes.Asks.{asks_no_more}
 -- ---- what a control book answers
 
 peer_short : (o : Option ℕ) → IfSome o IsKey → IsKey (peer_or_zero o)
-peer_short None h = omega arith
-peer_short (Some key) h = h
+peer_short = elim [ None ↦ λ h. omega arith | Some key ↦ λ h. h ]
 
 module _ (c : Control) (h : KeysAreShort c.keys) where
   both_short : AreKeys (record { own = c.keys.own; peer = peer_or_zero c.keys.peer })
@@ -51,8 +50,7 @@ module _ (c : Control) (h : KeysAreShort c.keys) where
 
 -- the key of a fast close is the peer's, and ids are those of the book's sets
 announced_fits : (b : Bool) (ids : List Bool) → AreIds ids → IfSome (if b then lowest ids else None) (λ id. id < 256)
-announced_fits true ids are = lowest_fits ids are
-announced_fits false ids are = tt
+announced_fits = elim [ true ↦ λ ids are. lowest_fits ids are | false ↦ λ ids are. tt ]
 
 notice_key : (c : Control) (h : ControlIsShort c) (path : ℕ) → NoticeTells (Reply.Control (look_reply path c))
 notice_key c h path =
@@ -97,12 +95,10 @@ AskTells (Ask.Control s call) = CallTells call
 AskTells _ = Unit {0}
 
 either_short : (b : Bool) (c d : Control) → KeysAreShort c.keys → KeysAreShort d.keys → KeysAreShort (if b then c else d).keys
-either_short true c d x y = x
-either_short false c d x y = y
+either_short = elim [ true ↦ λ c d x y. x | false ↦ λ c d x y. y ]
 
 notice_short : (n : Notice) (path : ℕ) (c : Control) → KeysAreShort c.keys → KeysAreShort (controlling.after_notice n path c).keys
-notice_short (Notice.Withdraw id) path c h = h
-notice_short _ path c h = h
+notice_short = elim [ Notice.Withdraw id ↦ λ path c h. h | _ ↦ λ path c h. h ]
 
 call_short : (c : Control) (call : ControlCall) → CallTells call → KeysAreShort c.keys → KeysAreShort (controlling.after c call).keys
 call_short c (ControlCall.Look path) told h = notice_short (control.notice_on c path) path c h

@@ -74,8 +74,7 @@ module _ (six : SixBooks) (others : Others) (ab ba : Lane) (holds : Holds (duo_a
   received_short B = received_written _ six.reassembly_b holds.ab.arrived
 
   one_more_at_most : (b : Bool) (n : ℕ) → n + (if b then 1 else 0) ≤ n + 1
-  one_more_at_most true n = omega arith
-  one_more_at_most false n = omega arith
+  one_more_at_most = elim [ true ↦ λ n. omega arith | false ↦ λ n. omega arith ]
 
   -- what is to be acknowledged
   pub next_short : (s : Side) → IsShort (next_wanted (reassembly_of s six))
@@ -92,15 +91,13 @@ module _ (six : SixBooks) (others : Others) (ab ba : Lane) (holds : Holds (duo_a
   out_short s = sent_short six others ab ba holds s
 
   pub back_short : (s : Side) → LaneIsShort (length (send_of (peer s) six).written) (pick s ba ab)
-  back_short A = sent_short six others ab ba holds B
-  back_short B = sent_short six others ab ba holds A
+  back_short = elim [ A ↦ sent_short six others ab ba holds B | B ↦ sent_short six others ab ba holds A ]
 
 -- ---- an end goes on
 
 module _ (c : Profile) (p : PathState Carried) (h : PathTells c p) where
   pub tells_at : (s : Side) → EndTells c s (end_at s p)
-  tells_at A = h.a
-  tells_at B = h.b
+  tells_at = elim [ A ↦ h.a | B ↦ h.b ]
 
   pub tells_on : (s : Side) (e : PathEnd) (ds : List Duty) → EndTells c s e → AreFair ds → PathTells c (goes_on s e ds p)
   tells_on A e ds tells fair = record { a = tells; b = h.b; copies = h.copies; agenda = fair }
@@ -134,8 +131,7 @@ module _ (c : Profile) (p : PathState Carried) (h : PathTells c p) where
       more : (t : Side) → Every (λ f. CopyTells c f.to f.carried) (with_flights (peer s) (next_number s p.link) carried (arrivals (fate_of s (next_number s p.link) p.link.lines) (p.clock + p.link.delay)) p.link.under_way)
           → Every (λ f. CopyTells c f.to f.carried)
           (one_more t (record p.link { under_way = with_flights (peer s) (next_number s p.link) carried (arrivals (fate_of s (next_number s p.link) p.link.lines) (p.clock + p.link.delay)) p.link.under_way })).under_way
-      more A copies = copies
-      more B copies = copies
+      more = elim [ A ↦ λ copies. copies | B ↦ λ copies. copies ]
 
   pub tells_sent : (s : Side) (sg : PlainSegment) (e : PathEnd) (ds : List Duty) → SegmentTells c s sg → EndTells c s e → AreFair ds
       → PathTells c (sent_on values s sg e ds p)

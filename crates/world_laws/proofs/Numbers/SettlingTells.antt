@@ -61,5 +61,4 @@ module _ (six : SixBooks) (others : Others) (c : Profile) (short : BooksAreShort
       (passed_tells p ab ba h holds t d) (and_parts (is_fair d) (list_all is_fair ds) fair).1)
     where
       by : (b : Bool) → PathTells c (settled ds (passed d p)) → PathTells c (if b then with_agenda (d ∷ ds) p else settled ds (passed d p))
-      by true rest = tells_agenda c p t (d ∷ ds) fair
-      by false rest = rest
+      by = elim [ true ↦ λ rest. tells_agenda c p t (d ∷ ds) fair | false ↦ λ rest. rest ]

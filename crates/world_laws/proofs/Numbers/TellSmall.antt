@@ -72,8 +72,7 @@ pub record SegmentTells (c : Profile) (s : Side) (sg : PlainSegment) : Type 0 wh
 
 -- with a bit of its payload turned it tells the same
 length-turned : (octets : List ℕ) → length (with_turned_bit octets) ≡ length octets
-length-turned [] = refl
-length-turned (first ∷ rest) = refl
+length-turned = elim [ [] ↦ refl | first ∷ rest ↦ refl ]
 
 pub altered_tells : (c : Profile) (s : Side) (sg : PlainSegment) → SegmentTells c s sg → SegmentTells c s (record sg { payload = with_turned_bit sg.payload })
 altered_tells c s sg h = record {
@@ -94,18 +93,11 @@ altered_tells c s sg h = record {
 
 -- without its options it tells less
 syn_room : (mss : Option ℕ) → length (syn_text mss ++ []) ≤ 40
-syn_room None = omega arith
-syn_room (Some mss) = omega arith
+syn_room = elim [ None ↦ omega arith | Some mss ↦ omega arith ]
 
 pub bare_tells : (c : Profile) (s : Side) (sg : PlainSegment) → SegmentTells c s sg → SegmentTells c s (record sg { options = [] })
 bare_tells c s sg h = record {
-  sayable = record {
-    path = h.sayable.path;
-    window = h.sayable.window;
-    options = All-nil (CanSayOption c.spelling s);
-    room = syn_room sg.mss;
-    fits = h.sayable.fits;
-  };
+  sayable = record { path = h.sayable.path; window = h.sayable.window; options = All-nil (CanSayOption c.spelling s); room = syn_room sg.mss; fits = h.sayable.fits };
   position = h.position;
   acknowledged = h.acknowledged;
   reaches = h.reaches;
@@ -145,12 +137,10 @@ module _ (short : Bool) (x : Expected) (h : IsShortly x) where
   mapping_near (Infinite place position) m = (near_place short x.place place h.place m.0, near x.edge position h.edge m.1)
 
   mappings_near : (o : Option (PathMapping ℕ)) → IfSome o MappingIsShort → IfSome o (IsMappingFresh short x)
-  mappings_near None m = tt
-  mappings_near (Some mapping) m = mapping_near mapping m
+  mappings_near = elim [ None ↦ λ m. tt | Some mapping ↦ λ m. mapping_near mapping m ]
 
   numbers_near : (o : Option ℕ) → IfSome o IsShort → IfSome o (IsPlaceFresh short x.told)
-  numbers_near None n = tt
-  numbers_near (Some next) n = near_place short x.told next h.told n
+  numbers_near = elim [ None ↦ λ n. tt | Some next ↦ λ n. near_place short x.told next h.told n ]
 
   option_near : (o : PlainOption) → OptionIsShort o → IsOptionFresh short x o
   option_near (Dss next mapping) o = (numbers_near next o.0, mappings_near mapping o.1)
@@ -235,8 +225,7 @@ ItemTells _ = Unit {0}
 
 -- none after a fallback
 pub known_item : (identity : Bool) (o : Option Heard) → IfSome o ItemTells → IfSome (if identity then None else o) ItemTells
-known_item true o h = tt
-known_item false o h = h
+known_item = elim [ true ↦ λ o h. tt | false ↦ λ o h. h ]
 
 -- the answer of a dead end, and of an end that refuses, is a reset
 pub record AnswerTells (o : Outgoing) : Type 0 where
@@ -305,11 +294,8 @@ data_fits spelling side place =
     (omega arith) (omega arith)
 
 pub sum_small : (c : Profile) (mapping : Mapping) (octets : List ℕ) → checksum_in c mapping octets < 2 ^ 16
-sum_small c mapping octets = by c.spelling.checksums refl
-  where
-    by : (b : Bool) → c.spelling.checksums ≡ b → checksum_in c mapping octets < 2 ^ 16
-    by true is = rw is (omega arith)
-    by false is = rw is (omega arith)
+sum_small c mapping octets = (elim c.spelling.checksums as (λ b. c.spelling.checksums ≡ b → checksum_in c mapping octets < 2 ^ 16)
+    [ true ↦ λ is. rw is (omega arith) | false ↦ λ is. rw is (omega arith) ]) refl
 
 told_below : (c : Profile) (n : ℕ) → n < 2 ^ 16 → IsBelow (2 ^ 16) (checksum_told c n)
 told_below c n low = if_so (IsBelow (2 ^ 16)) c.spelling.checksums (Some n) None low tt
@@ -372,8 +358,7 @@ third_length key_a key_b nonce_a nonce_b = omega (arith, length-join_a160_of key
 
 -- a checksum stands exactly where checksums are used
 told_form : (used : Bool) (checksum : ℕ) → is_some (if used then Some checksum else None) ≡ used
-told_form true checksum = refl
-told_form false checksum = refl
+told_form = elim [ true ↦ λ checksum. refl | false ↦ λ checksum. refl ]
 
 -- an option that can be said in 28 octets, and tells
 record Says (c : Profile) (s : Side) (o : PlainOption) : Type 0 where
@@ -477,10 +462,7 @@ module _ (c : Profile) (s : Side) (path : c.spelling.path ≤ 15) (mss : c.mss <
   join_tells B = record {
     can = record { form = tt };
     few = join_answer_length c.backup c.spelling.path (join_b64_of (peer_key_of e.modes) e.modes.own_key e.modes.peer_nonce e.modes.own_nonce) e.modes.own_nonce;
-    tells = record {
-      fits = (id_fits, join_b64_of_below (peer_key_of e.modes) e.modes.own_key e.modes.peer_nonce e.modes.own_nonce, h.modes.own_nonce);
-      short = tt;
-    };
+    tells = record { fits = (id_fits, join_b64_of_below (peer_key_of e.modes) e.modes.own_key e.modes.peer_nonce e.modes.own_nonce, h.modes.own_nonce); short = tt };
   }
 
   third_tells : One (third_options e.modes)
@@ -536,15 +518,12 @@ module _ (c : Profile) (s : Side) (path : c.spelling.path ≤ 15) (mss : c.mss <
   -- it stands beside a DSS
   beside_tells : (fin : Option ℕ) → IfSome fin IsShort → TwoSay c s (Dss (Some e.receiving.next) (data_fin_mapping c s fin) ∷ fail_beside fin e.modes)
   beside_tells (Some place) n = end_tells (Some place) n
-  beside_tells None n = by (receives_infinite e.modes.mode)
+  beside_tells None n = elim (receives_infinite e.modes.mode) as (λ b. TwoSay c s (Dss (Some e.receiving.next) None ∷ fail_options (if b then None else e.modes.failed_mapping)))
+      [ true ↦ end_tells None tt | false ↦ failed e.modes.failed_mapping h.modes.failed_mapping ]
     where
       failed : (o : Option ℕ) → IfSome o IsShort → TwoSay c s (Dss (Some e.receiving.next) None ∷ fail_options o)
       failed None short = end_tells None tt
       failed (Some place) short = (end_tells None tt, fail_tells place short)
-
-      by : (b : Bool) → TwoSay c s (Dss (Some e.receiving.next) None ∷ fail_options (if b then None else e.modes.failed_mapping))
-      by true = end_tells None tt
-      by false = failed e.modes.failed_mapping h.modes.failed_mapping
 
   ack_tells : (fin : Option ℕ) → IfSome fin IsShort → TwoSay c s (ack_options c s fin e)
   ack_tells fin n = by e.modes.identity e.modes.clear
@@ -566,10 +545,7 @@ module _ (c : Profile) (s : Side) (path : c.spelling.path ≤ 15) (mss : c.mss <
       by true = record {
         can = record { form = (told_form c.spelling.checksums 0, tt) };
         few = infinite_length (data_number c.spelling s (position - 1)) (relative_number position) (checksum_told c 0);
-        tells = record {
-          fits = (tt, (data_fits c.spelling s (position - 1), omega arith, omega arith, checksum_zero));
-          short = (tt, (omega (arith, at), at));
-        };
+        tells = record { fits = (tt, (data_fits c.spelling s (position - 1), omega arith, omega arith, checksum_zero)); short = (tt, (omega (arith, at), at)) };
       }
       by false = tt
 
@@ -592,8 +568,7 @@ module _ (c : Profile) (s : Side) (path : c.spelling.path ≤ 15) (mss : c.mss <
       by false = end_tells None tt
 
   infinite_or_tells : (o : Option InfiniteMapping) → IfSome o PairTells → (os : List PlainOption) → One os → One (infinite_or o os e)
-  infinite_or_tells None own os one = one
-  infinite_or_tells (Some mapping) own os one = infinite_tells mapping own
+  infinite_or_tells = elim [ None ↦ λ own os one. one | Some mapping ↦ λ own os one. infinite_tells mapping own ]
 
   fin_tells : IfSome e.modes.own_infinite PairTells → (position : ℕ) → IsShort position → One (fin_options position e)
   fin_tells own position at =
@@ -639,12 +614,10 @@ module _ (c : Profile) (s : Side) (path : c.spelling.path ≤ 15) (mss : c.mss <
   record_options_tell own Fin r at m = fin_tells own r.pos at
 
   mss_is : (syn : Bool) → is_some (if syn then Some c.mss else None) ≡ syn
-  mss_is true = refl
-  mss_is false = refl
+  mss_is = elim [ true ↦ refl | false ↦ refl ]
 
   mss_low : (syn : Bool) → IfSome (if syn then Some c.mss else None) (λ n. n < 2 ^ 16)
-  mss_low true = mss
-  mss_low false = tt
+  mss_low = elim [ true ↦ mss | false ↦ tt ]
 
   segment_tells : (o : Outgoing) (options : List PlainOption) (payload : List ℕ) → length payload ≤ 65475
       → IsStray o.rst o.acknowledged o.position ⊎ IsShort o.position → IfSome o.acknowledged IsShort → (o.acknowledged ≡ None → IsShort (o.position + occupied (copy_of (meant (segment_of c o options payload e)))))
@@ -686,16 +659,13 @@ module _ (c : Profile) (s : Side) (path : c.spelling.path ≤ 15) (mss : c.mss <
   ack_said_tells position fin at n = plain_tells_two (ack_at position e.tcp) (ack_options c s fin e) [] (omega arith) (inr at) h.edge (λ is. none_is _ is) refl (ack_tells fin n)
 
   ack_or_none : (opening : Bool) → IfSome (if opening then None else Some e.tcp.recv.edge) IsShort
-  ack_or_none true = tt
-  ack_or_none false = h.edge
+  ack_or_none = elim [ true ↦ tt | false ↦ h.edge ]
 
   at_of : (r : Record) → RecordTells c s r → IsShort r.pos
   at_of r t = let reaches = t.reaches in omega (arith, reaches)
 
   one_at_most : (kind : RecordKind) (n : ℕ) → n + (one_if (is_syn kind) + one_if (is_fin kind)) ≤ n + 1
-  one_at_most Syn n = omega arith
-  one_at_most Data n = omega arith
-  one_at_most Fin n = omega arith
+  one_at_most = elim [ Syn ↦ λ n. omega arith | Data ↦ λ n. omega arith | Fin ↦ λ n. omega arith ]
 
   record_reaches : (r : Record) → RecordTells c s r → IsShort (r.pos + occupied (copy_of (meant (record_said c s r e))))
   record_reaches r t = let reaches = t.reaches in let most = one_at_most r.kind (r.pos + length r.piece) in omega (arith, reaches, most)
@@ -775,18 +745,14 @@ module _ (c : Profile) (s : Side) (path : c.spelling.path ≤ 15) (mss : c.mss <
   none_more n short = omega (arith, short)
 
   pub reset_tells : (reason : Option ℕ) → IfSome reason (λ n. n < 256) → SegmentTells c s (reset_said c reason e)
-  reset_tells reason low = by e.modes.identity
+  reset_tells reason low = elim e.modes.identity as (λ b. SegmentTells c s (segment_of c (own_reset e) (if b then [] else broken_options e.treated.failed_mapping reason) [] e))
+      [ true ↦ said [] tt | false ↦ said (broken_options e.treated.failed_mapping reason) (broken_options_tell e.treated.failed_mapping h.treated.failed_mapping reason low) ]
     where
       at : (unsent : Bool) → IsShort (if unsent then 0 else e.tcp.send.nxt)
-      at true = omega arith
-      at false = h.sender.next
+      at = elim [ true ↦ omega arith | false ↦ h.sender.next ]
 
       said : (options : List PlainOption) → TwoSay c s options → SegmentTells c s (segment_of c (own_reset e) options [] e)
       said options two = plain_tells_two (own_reset e) options [] (omega arith) (inr (at (is_syn_unsent e))) tt (λ is. none_more _ (at (is_syn_unsent e))) refl two
-
-      by : (b : Bool) → SegmentTells c s (segment_of c (own_reset e) (if b then [] else broken_options e.treated.failed_mapping reason) [] e)
-      by true = said [] tt
-      by false = said (broken_options e.treated.failed_mapping reason) (broken_options_tell e.treated.failed_mapping h.treated.failed_mapping reason low)
 
   answer_tells : (o : Outgoing) (reason : Option ℕ) → IfSome reason (λ n. n < 256) → AnswerTells o → SegmentTells c s (segment_of c o (reset_options reason) [] e)
   answer_tells o reason low a = segment_tells o (reset_options reason) [] (omega arith) (stands o.acknowledged refl) a.acknowledged reaches (reset_options_tell reason low)
@@ -803,11 +769,10 @@ module _ (c : Profile) (s : Side) (path : c.spelling.path ≤ 15) (mss : c.mss <
           omega (arith, short, syn, fin)
 
   answered_tells : (reason : Option ℕ) → IfSome reason (λ n. n < 256) → SegmentTells c s (segment_of c (outgoing_or e.treated.answer (reset_segment e.tcp)) (reset_options reason) [] e)
-  answered_tells reason low = by e.treated.answer h.treated.answer
-    where
-      by : (o : Option Outgoing) → IfSome o AnswerTells → SegmentTells c s (segment_of c (outgoing_or o (reset_segment e.tcp)) (reset_options reason) [] e)
-      by None a = answer_tells (reset_segment e.tcp) reason low (record { rst = refl; low = let next = h.sender.next in omega (arith, next); acknowledged = tt; reaches = λ is. h.sender.next; syn = refl; fin = refl })
-      by (Some o) a = answer_tells o reason low a
+  answered_tells reason low = (elim e.treated.answer as (λ o. IfSome o AnswerTells → SegmentTells c s (segment_of c (outgoing_or o (reset_segment e.tcp)) (reset_options reason) [] e)) [
+    | None ↦ λ a. answer_tells (reset_segment e.tcp) reason low (record { rst = refl; low = let next = h.sender.next in omega (arith, next); acknowledged = tt; reaches = λ is. h.sender.next; syn = refl; fin = refl })
+    | Some o ↦ λ a. answer_tells o reason low a
+  ]) h.treated.answer
 
   -- the answer of a dead end, and a refusal
   pub dead_answer_tells : SegmentTells c s (segment_of c (outgoing_or e.treated.answer (reset_segment e.tcp)) [] [] e)

@@ -1,8 +1,7 @@
 -- A send book never has more than 2^62 - 3 bytes, whatever it is asked.
-use Rattle.world_laws.proofs.Words.{sym, subst, ◌-◌, ◌≤◌, ◌||◌, Bool, true, false, if◌then◌else◌, Result, Ok, Err, List, length}
-use Rattle.world_laws.proofs.Words.{take, arith, ◌^◌, length-append, length-take, Side, A, B, Span, Why, SendCall, Sending, bytes_taken}
-use Rattle.world_laws.proofs.Words.{decision, given_by, is_future, is_gathered, AckIn, Ask, books_in, SixBooks, send_of, after_ask, Codec}
-use Rattle.world_laws.proofs.Words.{Start, opened_world, WorldState, Turn, world_run}
+use Rattle.world_laws.proofs.Words.{sym, subst, ◌-◌, ◌≤◌, ◌||◌, Bool, true, false, if◌then◌else◌, Ok, Err, List, length, take, arith, ◌^◌, length-append}
+use Rattle.world_laws.proofs.Words.{length-take, Side, A, B, SendCall, Sending, bytes_taken, decision, given_by, is_future, is_gathered, AckIn, Ask, books_in}
+use Rattle.world_laws.proofs.Words.{SixBooks, send_of, after_ask, Codec, Start, opened_world, WorldState, Turn, world_run}
 use Rattle.world_laws.proofs.Worlds.Turns.{run_so}
 use Rattle.send_book.specs.declared.call.SendCall.TheVariants.{Write, Close, Grant, GoInfinite}
 use Rattle.send_book.specs.Steps.{after_call}
@@ -12,8 +11,7 @@ abbrev IsBounded : Sending → Type 0
 IsBounded b = length b.written ≤ 2 ^ 62 - 3
 
 either_way : (c : Bool) (x y : Sending) → IsBounded x → IsBounded y → IsBounded (if c then x else y)
-either_way true x y h g = h
-either_way false x y h g = g
+either_way = elim [ true ↦ λ x y h g. h | false ↦ λ x y h g. g ]
 
 call_bounded : (b : Sending) (call : SendCall) → IsBounded b → IsBounded (after_call b call)
 call_bounded b (Write bytes) h = either_way (b.closed || b.aborted) b _ h (
@@ -21,11 +19,7 @@ call_bounded b (Write bytes) h = either_way (b.closed || b.aborted) b _ h (
     let room : bytes_taken bytes b ≤ 2 ^ 62 - 3 - length b.written = omega arith in
     omega (arith, h, one, two, room))
 call_bounded b Close h = either_way b.aborted b _ h h
-call_bounded b (Grant path max standby) h = by (decision path max standby b)
-  where
-    by : (o : Result Span Why) → IsBounded (given_by path o b)
-    by (Ok span) = h
-    by (Err why) = h
+call_bounded b (Grant path max standby) h = elim (decision path max standby b) as (λ o. IsBounded (given_by path o b)) [ Ok span ↦ h | Err why ↦ h ]
 call_bounded b (AckIn next window) h = either_way (is_future next b) b _ h h
 call_bounded b (GoInfinite path) h = either_way (is_gathered path b) _ b h h
 call_bounded b _ h = h
@@ -57,5 +51,4 @@ module _ {C : Type 0} (k : Codec C) where
   always_bounded start turns = run_bounded turns (opened_world start) none
     where
       none : WorldIsBounded (opened_world start)
-      none A = omega arith
-      none B = omega arith
+      none = elim [ A ↦ omega arith | B ↦ omega arith ]

@@ -49,8 +49,7 @@ granted_longer (Ok span) b p = record { more = _; is = refl; opened = λ is. is 
 granted_longer (Err why) b p = same_longer p _ refl (λ is. is)
 
 pub ack_out_sent : (r : ReassemblyReply) (p : Lane) → (takes_ack_out r p).sent ≡ p.sent
-ack_out_sent (Ack next window) p = refl
-ack_out_sent _ p = refl
+ack_out_sent = elim [ Ack next window ↦ λ p. refl | _ ↦ λ p. refl ]
 
 -- replies leave a lane open
 acked_opened : (next : ℕ) (r : SendReply) (p : Lane) → (takes_ack next r p).opened ≡ p.opened
@@ -62,22 +61,18 @@ placed_opened count (Placed new) p = refl
 placed_opened count _ p = refl
 
 fin_opened : (r : ReassemblyReply) (p : Lane) → (takes_fin r p).opened ≡ p.opened
-fin_opened FinSet p = refl
-fin_opened _ p = refl
+fin_opened = elim [ FinSet ↦ λ p. refl | _ ↦ λ p. refl ]
 
 ack_out_opened : (r : ReassemblyReply) (p : Lane) → (takes_ack_out r p).opened ≡ p.opened
-ack_out_opened (Ack next window) p = refl
-ack_out_opened _ p = refl
+ack_out_opened = elim [ Ack next window ↦ λ p. refl | _ ↦ λ p. refl ]
 
 -- and so do its moves
 opened_if : (c : Bool) (p q : Lane) → (p.opened ≡ true → q.opened ≡ true) → p.opened ≡ true → (if c then q else p).opened ≡ true
-opened_if true p q more is = more is
-opened_if false p q more is = is
+opened_if = elim [ true ↦ λ p q more is. more is | false ↦ λ p q more is. is ]
 
 module _ (p : Lane) (is : p.opened ≡ true) where
   opened_ack : (o : Option AckCopy) → (hears o p).opened ≡ true
-  opened_ack None = is
-  opened_ack (Some a) = is
+  opened_ack = elim [ None ↦ is | Some a ↦ is ]
 
   opened_piece : (mapped : Bool) (o : Option Mapping) → (sends_piece mapped o p).opened ≡ true
   opened_piece mapped None = is
@@ -93,19 +88,13 @@ module _ (p : Lane) (is : p.opened ≡ true) where
 
   opened_mapping : (o : Option Mapping) → (learns_mapping o p).opened ≡ true
   opened_mapping None = is
-  opened_mapping (Some m) = by (clashes m p.maps)
-    where
-      by : (c : Bool) → (if c then p else record p { maps = p.maps ++ m ∷ [] }).opened ≡ true
-      by true = is
-      by false = is
+  opened_mapping (Some m) = elim (clashes m p.maps) as (λ c. (if c then p else record p { maps = p.maps ++ m ∷ [] }).opened ≡ true) [ true ↦ is | false ↦ is ]
 
   opened_learned : (o : Option DataCopy) → (learns o p).opened ≡ true
-  opened_learned None = is
-  opened_learned (Some d) = opened_mapping d.mapping
+  opened_learned = elim [ None ↦ is | Some d ↦ opened_mapping d.mapping ]
 
   opened_end : (o : Option ℕ) → (hears_data_fin o p).opened ≡ true
-  opened_end None = is
-  opened_end (Some e) = is
+  opened_end = elim [ None ↦ is | Some e ↦ is ]
 
   opened_fin : (o : Option ℕ) → (hears_fin o p).opened ≡ true
   opened_fin None = is
@@ -129,8 +118,7 @@ module _ (p : Lane) (is : p.opened ≡ true) where
   opened_fin_pair (Some m) = opened_if (p.opened && is_whole p.known_end p) p (record p { fins = p.fins ++ length p.sent ∷ [] }) (λ x. x) is
 
   opened_taken : (o : Option Pair) → (takes_pair o p).opened ≡ true
-  opened_taken None = is
-  opened_taken (Some m) = is
+  opened_taken = elim [ None ↦ is | Some m ↦ is ]
 
   opened_place_pair : (count : ℕ) (o : Option Pair) → (places_pair count o p).opened ≡ true
   opened_place_pair count None = is
@@ -168,11 +156,8 @@ module _ (p : Lane) (is : p.opened ≡ true) where
   moved_opened f path (WantPlacePair count) = opened_place_pair count p.taken
   moved_opened f path WantFinPair = opened_end_pair p.taken
   moved_opened f path WantAckOut = is
-  moved_opened f path (SendAck next window sub) = by p.due
-    where
-      by : (c : Bool) → (if c then p else record p { acks = p.acks ++ ack_copy next window sub p ∷ [] }).opened ≡ true
-      by true = is
-      by false = is
+  moved_opened f path (SendAck next window sub) = elim p.due as (λ c. (if c then p else record p { acks = p.acks ++ ack_copy next window sub p ∷ [] }).opened ≡ true)
+      [ true ↦ is | false ↦ is ]
 
 -- ---- a direction that has a longer lane at this place
 
@@ -220,19 +205,16 @@ module _ (f : Flags) (number : ℕ) (p : Lane) (d : Direction) (h : Lasts number
   reads_on max false = stays (reads max d) refl
 
   identity_lasts : (fell : Bool) → Lasts number p (if fell then with_send GoIdentityBook d else d)
-  identity_lasts true = stays _ refl
-  identity_lasts false = h
+  identity_lasts = elim [ true ↦ stays _ refl | false ↦ h ]
 
   infinite_lasts : (path pos : ℕ) (o : Option Lane) → slice_get d.lanes path ≡ o → Lasts number p (goes_infinite path pos o d)
   infinite_lasts path pos None there = h
-  infinite_lasts path pos (Some q) there = by_may (may_go path pos d.send q)
+  infinite_lasts path pos (Some q) there =
+      elim (may_go path pos d.send q) as (λ may. Lasts number p (if may then record d { send = after_send d.send (GoInfiniteBook path); lanes = set d.lanes path r } else d))
+      [ true ↦ put_lasts path q r _ refl there (same_longer q r refl (λ is. is)) | false ↦ h ]
     where
       r : Lane
       r = record q { pair = Some (record { pos = pos; place = acked_len d.send.marks }) }
-
-      by_may : (may : Bool) → Lasts number p (if may then record d { send = after_send d.send (GoInfiniteBook path); lanes = set d.lanes path r } else d)
-      by_may true = put_lasts path q r _ refl there (same_longer q r refl (λ is. is))
-      by_may false = h
 
   after_lasts : (event : StreamEvent) → Lasts number p (after f event d)
   after_lasts GoIdentity = identity_lasts f.sender

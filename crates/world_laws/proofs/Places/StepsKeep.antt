@@ -4,8 +4,8 @@ use Rattle.world_laws.proofs.Words.{◌≡◌, refl, sym, ap, subst, ℕ, suc, �
 use Rattle.world_laws.proofs.Words.{None, List, [], ◌∷◌, ◌<◌, ltb-true, and_parts, leb-true, IfSome, Side, A, B, same_side, ReassemblyReply, KeptMapping}
 use Rattle.world_laws.proofs.Words.{Mappings, run_of, after_learn, place_at, after_forget, others_of, learn_of, learned_if, after_skip_held, after_learn_held}
 use Rattle.world_laws.proofs.Words.{covers, place_in, is_dead, is_due, arriving, after_delivery, Flight, PlainSegment, meant, LineAction, Piece, emission}
-use Rattle.world_laws.proofs.Words.{leaves, resets, Duty, SendDuty, StepDuty, AskDuty, SilentDuty, Heard, KeyPair, Reply, tail_of, passed, answered, PathEnd}
-use Rattle.world_laws.proofs.Words.{died, answered_ack_out, window_in, at_tick, PathState, end_at, goes_on, with_end, with_agenda, takes, begins_turn, Carried}
+use Rattle.world_laws.proofs.Words.{leaves, resets, Duty, SendDuty, StepDuty, AskDuty, SilentDuty, Heard, Reply, tail_of, passed, answered, PathEnd, died}
+use Rattle.world_laws.proofs.Words.{answered_ack_out, window_in, at_tick, PathState, end_at, goes_on, with_end, with_agenda, takes, begins_turn, Carried}
 use Rattle.world_laws.proofs.Words.{values, heard_in, copy_heard, told_at, reset_of, reset_on, answered_break, died_unless_dead, next_event, after_line}
 use Rattle.world_laws.proofs.Words.{happens_if, join_begun, never_joined, is_never, keys_begun, opened_by, piece_of, is_placed, answered_piece, is_clash}
 use Rattle.world_laws.proofs.Words.{with_learned, held_of, answered_heard, answered_item, item_of, item_passed, after_fell, fell_duties, sent_on, Every-nil}
@@ -60,11 +60,8 @@ module _ (R : ℕ → ℕ → Type 0) where
   skipped_knows v h = record { places = h.places; held = others_tell v.held h.held }
 
   learned_held : (v : Mappings) → Knows R v → Knows R (after_learn_held v)
-  learned_held v h = by v.held h.held
-    where
-      by : (xs : List KeptMapping) → AllTell xs → Knows R (after_skip_held (learned_if (first_of xs) v))
-      by [] tell = skipped_knows v h
-      by (kept ∷ xs) tell = skipped_knows _ (learned_knows kept (learn_of kept v) v (tell.each 0 kept refl) h)
+  learned_held v h = (elim v.held as (λ xs. AllTell xs → Knows R (after_skip_held (learned_if (first_of xs) v)))
+      [ [] ↦ λ tell. skipped_knows v h | kept ∷ xs ↦ λ tell. skipped_knows _ (learned_knows kept (learn_of kept v) v (tell.each 0 kept refl) h) ]) h.held
 
   forgotten_knows : (pos : ℕ) (v : Mappings) → Knows R v → Knows R (after_forget pos v)
   forgotten_knows pos v h = record { places = h.places; held = h.held }
@@ -77,11 +74,8 @@ window_same : (r : Reply) (v : Receiving) → (window_in r v).mappings ≡ v.map
 window_same (Reply.Send reply) v = refl
 window_same (Reply.Control reply) v = refl
 window_same Reply.Done v = refl
-window_same (Reply.Reassembly reply) v = by reply
-  where
-    by : (reply : ReassemblyReply) → (window_in (Reply.Reassembly reply) v).mappings ≡ v.mappings
-    by (ReassemblyReply.Ack next window) = refl
-    by _ = refl
+window_same (Reply.Reassembly reply) v = elim reply as (λ reply. (window_in (Reply.Reassembly reply) v).mappings ≡ v.mappings)
+    [ ReassemblyReply.Ack next window ↦ refl | _ ↦ refl ]
 
 -- ---- a path; the end of each side has a record
 
@@ -101,18 +95,15 @@ module _ (R : Side → ℕ → ℕ → Type 0) where
   CopiesTell p = Every (FlightTells p) p.link.under_way
 
   pub end_knows : (s : Side) (p : PathState Carried) → PathKnows p → EndKnows s (end_at s p)
-  end_knows A p h = h.a
-  end_knows B p h = h.b
+  end_knows = elim [ A ↦ λ p h. h.a | B ↦ λ p h. h.b ]
 
   -- ---- an end goes on
 
   goes : (s : Side) (e : PathEnd) (ds : List Duty) (p : PathState Carried) → EndKnows s e → PathKnows p → PathKnows (goes_on s e ds p)
-  goes A e ds p own h = record { a = own; b = h.b }
-  goes B e ds p own h = record { a = h.a; b = own }
+  goes = elim [ A ↦ λ e ds p own h. record { a = own; b = h.b } | B ↦ λ e ds p own h. record { a = h.a; b = own } ]
 
   with_own : (s : Side) (e : PathEnd) (p : PathState Carried) → EndKnows s e → PathKnows p → PathKnows (with_end s e p)
-  with_own A e p own h = record { a = own; b = h.b }
-  with_own B e p own h = record { a = h.a; b = own }
+  with_own = elim [ A ↦ λ e p own h. record { a = own; b = h.b } | B ↦ λ e p own h. record { a = h.a; b = own } ]
 
   agenda : (ds : List Duty) (p : PathState Carried) → PathKnows p → PathKnows (with_agenda ds p)
   agenda ds p h = record { a = h.a; b = h.b }
@@ -171,15 +162,11 @@ module _ (R : Side → ℕ → ℕ → Type 0) where
 
   -- A begins a join, or waits on
   begun_knows : (r : Reply) (dead living : List Duty) (p : PathState Carried) → PathKnows p → PathKnows (join_begun r dead living p)
-  begun_knows r dead living p h = by (is_never r) (opened_knows (keys_begun r))
-    where
-      opened_knows : (o : Option KeyPair) → EndKnows A (opened_by o p.a)
-      opened_knows None = h.a
-      opened_knows (Some keys) = h.a
-
-      by : (b : Bool) → EndKnows A (opened_by (keys_begun r) p.a) → PathKnows (if b then goes_on A (never_joined r p.a) dead p else goes_on A (opened_by (keys_begun r) p.a) living p)
-      by true own = goes A (never_joined r p.a) dead p h.a h
-      by false own = goes A (opened_by (keys_begun r) p.a) living p own h
+  begun_knows r dead living p h =
+      (elim (is_never r) as (λ b. EndKnows A (opened_by (keys_begun r) p.a) → PathKnows (if b then goes_on A (never_joined r p.a) dead p else goes_on A (opened_by (keys_begun r) p.a) living p)) [
+        | true ↦ λ own. goes A (never_joined r p.a) dead p h.a h
+        | false ↦ λ own. goes A (opened_by (keys_begun r) p.a) living p own h
+      ]) (elim (keys_begun r) as (λ o. EndKnows A (opened_by o p.a)) [ None ↦ h.a | Some keys ↦ h.a ])
 
   event_knows : (o : Option Event) (r : Reply) (p : PathState Carried) → CopiesTell p → PathKnows p → PathKnows (happens_if values o r p)
   event_knows None r p tell h = agenda _ p h

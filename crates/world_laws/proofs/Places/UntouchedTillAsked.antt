@@ -68,19 +68,16 @@ module _ (f : Flags) (number : ℕ) (sent : List Cell) (d : Direction) (h : Gran
   event_is x y same so = subst (λ e. Granted number sent (after f e d)) (sym same) so
 
   identity_so : (fell : Bool) → Granted number sent (if fell then with_send SendCall.GoIdentity d else d)
-  identity_so true = stays_so _ refl
-  identity_so false = h
+  identity_so = elim [ true ↦ stays_so _ refl | false ↦ h ]
 
   infinite_so : (path pos : ℕ) (o : Option Lane) → slice_get d.lanes path ≡ o → Granted number sent (goes_infinite path pos o d)
   infinite_so path pos None there = h
-  infinite_so path pos (Some q) there = by (may_go path pos d.send q)
+  infinite_so path pos (Some q) there =
+      elim (may_go path pos d.send q) as (λ may. Granted number sent (if may then record d { send = after_send d.send (SendCall.GoInfinite path); lanes = set d.lanes path r } else d))
+      [ true ↦ put_so path q r _ refl there refl | false ↦ h ]
     where
       r : Lane
       r = record q { pair = Some (record { pos = pos; place = acked_len d.send.marks }) }
-
-      by : (may : Bool) → Granted number sent (if may then record d { send = after_send d.send (SendCall.GoInfinite path); lanes = set d.lanes path r } else d)
-      by true = put_so path q r _ refl there refl
-      by false = h
 
   send_so : (c : SendCall) (event : StreamEvent) → asks_grant A (Ask.Send A c) ≡ false → SendCallIs c d event → Granted number sent (after f event d)
   send_so (SendCall.Write bytes) event none is = event_is event (Write bytes) is (stays_so _ refl)

@@ -16,21 +16,12 @@ use Rattle.world_laws.proofs.Weaving.Journals.{books_after}
 
 -- an aborted book stays so, by the same side
 call_aborted : (by_peer : Bool) (b : Arriving) (call : ReassemblyCall) → b.aborted ≡ Some by_peer → (after_call b call).aborted ≡ Some by_peer
-call_aborted by_peer b (ReassemblyCall.Place at bytes) is = by (is_taken at bytes b)
-  where
-    by : (c : Bool) → (if c then record b { places = places_after at bytes b } else b).aborted ≡ Some by_peer
-    by true = is
-    by false = is
-call_aborted by_peer b (ReassemblyCall.Fin at) is = by (is_some (fin_clash b.known_end at b))
-  where
-    by : (c : Bool) → (if c then b else record b { known_end = Some at }).aborted ≡ Some by_peer
-    by true = is
-    by false = is
-call_aborted by_peer b (ReassemblyCall.Read max) is = by (is_some b.aborted)
-  where
-    by : (c : Bool) → (if c then b else after_reading max b).aborted ≡ Some by_peer
-    by true = is
-    by false = is
+call_aborted by_peer b (ReassemblyCall.Place at bytes) is = elim (is_taken at bytes b) as (λ c. (if c then record b { places = places_after at bytes b } else b).aborted ≡ Some by_peer)
+    [ true ↦ is | false ↦ is ]
+call_aborted by_peer b (ReassemblyCall.Fin at) is = elim (is_some (fin_clash b.known_end at b)) as (λ c. (if c then b else record b { known_end = Some at }).aborted ≡ Some by_peer)
+    [ true ↦ is | false ↦ is ]
+call_aborted by_peer b (ReassemblyCall.Read max) is = elim (is_some b.aborted) as (λ c. (if c then b else after_reading max b).aborted ≡ Some by_peer)
+    [ true ↦ is | false ↦ is ]
 call_aborted by_peer b ReassemblyCall.AckOut is = is
 call_aborted by_peer b (ReassemblyCall.Abort other) is = ap (λ o. first_abort o other) is
 
@@ -53,39 +44,16 @@ ask_aborted by_peer s six (Ask.Local step) is = is
 
 -- what the application of the side is answered
 app_told : (by_peer : Bool) (six : SixBooks) (a : AppState) (d : AppDuty) → (reassembly_of a.side six).aborted ≡ Some by_peer → TellsAbortAlone by_peer (reply_of six (app_ask d a))
-app_told by_peer six a FastClose is = by a.side
-  where
-    by : (s : Side) → TellsAbortAlone by_peer (reply_of six (app_ask FastClose (record a { side = s })))
-    by A = tt
-    by B = tt
-app_told by_peer six a AbortSend is = by a.side
-  where
-    by : (s : Side) → TellsAbortAlone by_peer (reply_of six (app_ask AbortSend (record a { side = s })))
-    by A = tt
-    by B = tt
-app_told by_peer six a AbortReceive is = by a.side
-  where
-    by : (s : Side) → TellsAbortAlone by_peer (reply_of six (app_ask AbortReceive (record a { side = s })))
-    by A = tt
-    by B = tt
-app_told by_peer six a Write is = by a.side
-  where
-    by : (s : Side) → TellsAbortAlone by_peer (reply_of six (app_ask Write (record a { side = s })))
-    by A = tt
-    by B = tt
-app_told by_peer six a Close is = by a.side
-  where
-    by : (s : Side) → TellsAbortAlone by_peer (reply_of six (app_ask Close (record a { side = s })))
-    by A = tt
-    by B = tt
-app_told by_peer six a Read is = by a.side is
+app_told by_peer six a FastClose is = elim a.side as (λ s. TellsAbortAlone by_peer (reply_of six (app_ask FastClose (record a { side = s })))) [ A ↦ tt | B ↦ tt ]
+app_told by_peer six a AbortSend is = elim a.side as (λ s. TellsAbortAlone by_peer (reply_of six (app_ask AbortSend (record a { side = s })))) [ A ↦ tt | B ↦ tt ]
+app_told by_peer six a AbortReceive is = elim a.side as (λ s. TellsAbortAlone by_peer (reply_of six (app_ask AbortReceive (record a { side = s })))) [ A ↦ tt | B ↦ tt ]
+app_told by_peer six a Write is = elim a.side as (λ s. TellsAbortAlone by_peer (reply_of six (app_ask Write (record a { side = s })))) [ A ↦ tt | B ↦ tt ]
+app_told by_peer six a Close is = elim a.side as (λ s. TellsAbortAlone by_peer (reply_of six (app_ask Close (record a { side = s })))) [ A ↦ tt | B ↦ tt ]
+app_told by_peer six a Read is = (elim a.side as (λ s. (reassembly_of s six).aborted ≡ Some by_peer → TellsAbortAlone by_peer (reply_of six (app_ask Read (record a { side = s }))))
+    [ A ↦ λ is. told six.reassembly_a is | B ↦ λ is. told six.reassembly_b is ]) is
   where
     told : (b : Arriving) → b.aborted ≡ Some by_peer → TellsAbortAlone by_peer (Reply.Reassembly (reading b.aborted 65536 b))
     told b none = subst (λ (o : Option Bool). TellsAbortAlone by_peer (Reply.Reassembly (reading o 65536 b))) (sym none) refl
-
-    by : (s : Side) → (reassembly_of s six).aborted ≡ Some by_peer → TellsAbortAlone by_peer (reply_of six (app_ask Read (record a { side = s })))
-    by A is = told six.reassembly_a is
-    by B is = told six.reassembly_b is
 app_told by_peer six a End is = tt
 
 -- such answers bring no byte

@@ -16,8 +16,7 @@ use Rattle.world_laws.proofs.Keys.ByJournals.{Caused, run_causes, seat_of}
 -- ---- the law
 
 cast_notes : (s : Side) (t : Cast Carried) → notes_of s (world_of t).crew ≡ (seat_of s t).list
-cast_notes A t = refl
-cast_notes B t = refl
+cast_notes = elim [ A ↦ λ t. refl | B ↦ λ t. refl ]
 
 cast_stopped : (s : Side) (t : Cast Carried) → Caused t s → PeerStopped s (world_of t)
 cast_stopped s t is = record { asked = subst (λ notes. list_any (note_asks_fast_close (peer s)) notes ≡ true) (sym (cast_notes (peer s) t)) is.1; accepted = is.0 }

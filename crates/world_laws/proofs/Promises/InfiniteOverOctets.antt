@@ -25,8 +25,7 @@ module _ (c : Profile) (s : Side) (e : PathEnd) where
   mapping_meant _ right = tt
 
   option_meant : (o : PlainOption) → OptionIsRight c s e o → HeardOptionIsRight c s e (meant_option o)
-  option_meant (Dss next mapping) right = mapping_meant mapping right
-  option_meant _ right = tt
+  option_meant = elim [ Dss next mapping ↦ λ right. mapping_meant mapping right | _ ↦ λ right. tt ]
 
   options_meant : (options : List PlainOption) → Every (OptionIsRight c s e) options → Every (HeardOptionIsRight c s e) (map meant_option options)
   options_meant options right = record {
@@ -85,8 +84,7 @@ path_hears_right p fresh rights due heard next is =
 -- ---- worlds
 
 member_hears : (m : Actor Carried) → IsFreshMember m → PathIsRight m → ActorHearsRight octets (shown_member m)
-member_hears (App a) fresh right = tt
-member_hears (Path p) fresh right = path_hears_right p fresh.next right
+member_hears = elim [ App a ↦ λ fresh right. tt | Path p ↦ λ fresh right. path_hears_right p fresh.next right ]
 
 pub infinite_mappings_are_heard_right : HoldsAnywayOfOctets (InfiniteMappingsAreHeardRight octets)
 infinite_mappings_are_heard_right start turns size fit = subst (InfiniteMappingsAreHeardRight octets) (sym (run_fresh start turns size fit)) (record { each = at })

@@ -1,7 +1,7 @@
 -- An answer that no step is given is in no note.
-use Rattle.world_laws.proofs.Words.{◌≡◌, refl, sym, ◌∙◌, ap, subst, ℕ, ⊎_elim, Bool, false, Option, Some, None, List, [], ◌∷◌, ◌++◌, or_parts, or_from}
-use Rattle.world_laws.proofs.Words.{slice_get, Ask, Note, Reply, Codec, in_map, in_set, ActorCrew, member_asks, Start, opened_world, WorldState, Turn}
-use Rattle.world_laws.proofs.Words.{crew_after, asked, greatest, begins, after_turn, note_of, answer_to, notes_at, was_told, notes_or}
+use Rattle.world_laws.proofs.Words.{◌≡◌, refl, sym, ◌∙◌, ap, subst, ℕ, ⊎_elim, Bool, false, Some, None, List, [], ◌∷◌, ◌++◌, or_parts, or_from, slice_get, Ask}
+use Rattle.world_laws.proofs.Words.{Note, Reply, Codec, in_map, in_set, ActorCrew, member_asks, Start, opened_world, WorldState, Turn, crew_after, asked}
+use Rattle.world_laws.proofs.Words.{greatest, begins, after_turn, note_of, answer_to, notes_at, was_told, notes_or}
 use Rattle.world_laws.proofs.Worlds.Turns.{turn_so}
 use Rattle.world_laws.proofs.Worlds.Opened.{opened_actors}
 
@@ -18,11 +18,8 @@ module _ (test : Reply → Bool) where
     NoneTold w = (i : ℕ) (c : ActorCrew C) → slice_get w.crew i ≡ Some c → was_told test c.list ≡ false
 
     pub from_each : (w : WorldState C) → NoneTold w → (actor : ℕ) → was_told test (notes_at actor w.crew) ≡ false
-    from_each w h actor = by (slice_get w.crew actor) refl
-      where
-        by : (o : Option (ActorCrew C)) → slice_get w.crew actor ≡ o → was_told test (notes_or o) ≡ false
-        by None is = refl
-        by (Some c) is = h actor c is
+    from_each w h actor = (elim (slice_get w.crew actor) as (λ o. slice_get w.crew actor ≡ o → was_told test (notes_or o) ≡ false)
+        [ None ↦ λ is. refl | Some c ↦ λ is. h actor c is ]) refl
 
     asked_none : (actor : ℕ) (w : WorldState C) (c : ActorCrew C) (x : Ask) → slice_get w.crew actor ≡ Some c → test (answer_to w.books x) ≡ false → NoneTold w
         → NoneTold (asked k actor (Some x) c w)

@@ -32,14 +32,12 @@ use Rattle.world_laws.proofs.Promises.Made.{keep_their_word_in_octets, keep_coun
 module _ (such test : ScriptLine → Bool) (among : (line : ScriptLine) → such line ≡ false → test line ≡ false) where
   pub none_passes : (path : ℕ) (lines : List ScriptLine) → list_any such lines ≡ false → list_any test (lines_of path lines) ≡ false
   none_passes path [] is = refl
-  none_passes path (line ∷ lines) is = by (is_path path (path_named line)) (none_passes path lines parts.1)
+  none_passes path (line ∷ lines) is =
+      (elim (is_path path (path_named line)) as (λ b. list_any test (lines_of path lines) ≡ false → list_any test (cond b (line ∷ lines_of path lines) (lines_of path lines)) ≡ false)
+      [ true ↦ λ rest. or_from (test line) (list_any test (lines_of path lines)) (among line parts.0) rest | false ↦ λ rest. rest ]) (none_passes path lines parts.1)
     where
       parts : (such line ≡ false) × (list_any such lines ≡ false)
       parts = or_parts (such line) (list_any such lines) is
-
-      by : (b : Bool) → list_any test (lines_of path lines) ≡ false → list_any test (cond b (line ∷ lines_of path lines) (lines_of path lines)) ≡ false
-      by true rest = or_from (test line) (list_any test (lines_of path lines)) (among line parts.0) rest
-      by false rest = rest
 
 never_alters : (from : Side) (number : ℕ) (line : ScriptLine) → alters_payload line ≡ false → is_altered_by from number line ≡ false
 never_alters from number (OnSegment segment Altered) is = cc

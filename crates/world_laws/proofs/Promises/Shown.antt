@@ -224,8 +224,7 @@ module _ (ask : Option Ask) (d e : Duo) (t : TurnShows ask d e) where
 -- ---- nothing is refused
 
 granted_untold : (o : Result Span Why) (b : Sending) → tells_refusal (Reply.Send (sending.reply_by o b)) ≡ false
-granted_untold (Ok span) b = refl
-granted_untold (Err why) b = refl
+granted_untold = elim [ Ok span ↦ λ b. refl | Err why ↦ λ b. refl ]
 
 write_untold : (bytes : List ℕ) (b : Sending) → tells_refusal (Reply.Send (sending.write_reply bytes b)) ≡ false
 write_untold bytes b = if_so (λ z. tells_refusal (Reply.Send z) ≡ false) (b.closed || b.aborted) SendReply.Shut (SendReply.Taken (sending.bytes_taken bytes b)) refl refl
@@ -234,8 +233,7 @@ close_untold : (b : Sending) → tells_refusal (Reply.Send (sending.close_reply 
 close_untold b = if_so (λ z. tells_refusal (Reply.Send z) ≡ false) b.aborted SendReply.Shut SendReply.Closed refl refl
 
 ack_untold : (r : SendReply) → is_ack_future r ≡ false → tells_refusal (Reply.Send r) ≡ false
-ack_untold (SendReply.AckFuture written) is = is
-ack_untold _ is = refl
+ack_untold = elim [ SendReply.AckFuture written ↦ λ is. is | _ ↦ λ is. refl ]
 
 place_untold : (r : ReassemblyReply) → is_beyond_or_clash r ≡ false → tells_refusal (Reply.Reassembly r) ≡ false
 place_untold (ReassemblyReply.Beyond edge) is = is
@@ -243,19 +241,13 @@ place_untold (ReassemblyReply.FinClash fin at) is = is
 place_untold _ is = refl
 
 read_untold : (max : ℕ) (b : Arriving) → tells_refusal (Reply.Reassembly (arriving.reading b.aborted max b)) ≡ false
-read_untold max b = by b.aborted
+read_untold max b = elim b.aborted as (λ aborted. tells_refusal (Reply.Reassembly (arriving.reading aborted max b)) ≡ false)
+    [ None ↦ by_bytes (take max (filled b.places)) | Some by_peer ↦ refl ]
   where
-    by_end : (c : Bool) → tells_refusal (Reply.Reassembly (if c then ReassemblyReply.End else ReassemblyReply.NoneYet)) ≡ false
-    by_end true = refl
-    by_end false = refl
-
     by_bytes : (bytes : List ℕ) → tells_refusal (Reply.Reassembly (arriving.bytes_reply bytes b)) ≡ false
-    by_bytes [] = by_end (arriving.is_end b.known_end b.read)
+    by_bytes [] = elim (arriving.is_end b.known_end b.read) as (λ c. tells_refusal (Reply.Reassembly (if c then ReassemblyReply.End else ReassemblyReply.NoneYet)) ≡ false)
+        [ true ↦ refl | false ↦ refl ]
     by_bytes (byte ∷ bytes) = refl
-
-    by : (aborted : Option Bool) → tells_refusal (Reply.Reassembly (arriving.reading aborted max b)) ≡ false
-    by None = by_bytes (take max (filled b.places))
-    by (Some by_peer) = refl
 
 -- what a lane asks is not refused
 lane_untold : (path : ℕ) (ask : LaneAsk) (d : Direction) → NothingIsRefused d → IsAsking path ask d → ask_refused ask d ≡ false

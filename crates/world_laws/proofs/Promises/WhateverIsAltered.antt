@@ -63,8 +63,7 @@ module _ (start : Start) (turns : List Turn) (size : HasRoom start) (uses : star
   }
 
   unfallen : Unfallen until.links w
-  unfallen A firm = not-true (fell_back A w) firm
-  unfallen B firm = not-true (fell_back B w) firm
+  unfallen = elim [ A ↦ λ firm. not-true (fell_back A w) firm | B ↦ λ firm. not-true (fell_back B w) firm ]
 
   at : Reached until.links start w
   at = each_run_shows start until turns (firm_run until.links start turns unfallen)

@@ -317,10 +317,7 @@ module _ {C : Type 0} (k : Codec C) (start : Start) where
   list_there t number x there = sym (ap notes_or (path_actor t number x there))
 
   begun_side : (path written : ℕ) (s : Side) (b : Sending) → IsOnes path written b → SideAsks path (length b.written) s [] false false b
-  begun_side path written s b h = record {
-    ones = record { tried = h.tried; whole = h.whole; grown = omega arith };
-    all = λ never alone. cc;
-  }
+  begun_side path written s b h = record { ones = record { tried = h.tried; whole = h.whole; grown = omega arith }; all = λ never alone. cc }
 
   -- a path begins a round with books that are its own, or another's
   begun_path : (number written_a written_b : ℕ) (q : PathState C) (seat : Seat) (t : Cast C) → IsOnes (path_of q) written_a (books_in t.books).send_a → IsOnes (path_of q) written_b (books_in t.books).send_b
@@ -379,8 +376,7 @@ module _ {C : Type 0} (k : Codec C) (start : Start) where
           subst (λ z. (path_of z.path ≡ n) × (is_joined z.path.profile ≡ nat_lt 0 n)) (sym found.2) (kept.2, ap is_joined kept.1)
 
       owned : (s : Side) → OwnerSo (books_in (first_cast {C = C} start).books) s
-      owned A = inl refl
-      owned B = inl refl
+      owned = elim [ A ↦ inl refl | B ↦ inl refl ]
 
       asking : (x : Walker C) → slice_get (first_cast {C = C} start).paths number ≡ Some x → PathAsking number (lists_at (world_of (first_cast start))) 0 0 (edges_at (first_cast {C = C} start).books) x (first_cast start)
       asking x there =
@@ -432,8 +428,7 @@ module _ {C : Type 0} (k : Codec C) (start : Start) where
       g = h.asking x there
 
       side_all : (s : Side) → g.flags s ≡ true → g.freed s ≡ false → AskedForAll (path_of x.path) s g.steps (length (written_by s u).written) (send_of s (books_in t.books))
-      side_all A on alone = g.both.a.all on alone
-      side_all B on alone = g.both.b.all on alone
+      side_all = elim [ A ↦ λ on alone. g.both.a.all on alone | B ↦ λ on alone. g.both.b.all on alone ]
 
       paid : IsPaid x.path.profile s (end_at s x.path) (g.flags s)
       paid = is_paid x.path x.path.agenda g.flags s (ap (is_owed s) over) (g.granting.each s)

@@ -30,8 +30,7 @@ grant_step s n before is = ap (λ (b : Bool). if b then is_no_grant n.reply else
 
 -- what is answered to a grant is a grant, or none
 answered_none : (o : Result Span Why) (b : Sending) → grant_in (Reply.Send (sending.reply_by o b)) ≡ None → is_no_grant (Reply.Send (sending.reply_by o b)) ≡ true
-answered_none (Ok span) b none = cc
-answered_none (Err why) b none = refl
+answered_none = elim [ Ok span ↦ λ b none. cc | Err why ↦ λ b none. refl ]
 
 -- the flags by the steps so far
 abbrev flags_of : List Note → Side → Bool
@@ -39,11 +38,8 @@ flags_of notes s = last_refused s false notes
 
 module _ {C : Type 0} where
   flags_same : (ds : List Duty) (p : PathState C) (f g : Side → Bool) → ((s : Side) → f s ≡ g s) → ((s : Side) → Pays p ds f s) → (s : Side) → Pays p ds g s
-  flags_same ds p f g same each s = by (each s)
-    where
-      by : Pays p ds f s → Pays p ds g s
-      by (inl owed) = inl owed
-      by (inr paid) = inr (record { paid = λ none may. sym (same s) ∙ paid.paid none may; waits = paid.waits })
+  flags_same ds p f g same each s = elim (each s)
+      [ inl owed ↦ inl owed | inr paid ↦ inr (record { paid = λ none may. sym (same s) ∙ paid.paid none may; waits = paid.waits }) ]
 
   module _ (k : Codec C) (p : PathState C) (notes : List Note) (n : Note) where
     abbrev later : Side → Bool
@@ -60,8 +56,7 @@ module _ {C : Type 0} where
         answered_done k r p later d ds other f (flags_same (d ∷ ds) (with_agenda (d ∷ ds) p) (flags_of notes) later same each)
 
     own_grant : (s : Side) → n.ask ≡ grant_ask s p → asks_grant s n.ask ≡ true
-    own_grant A is = ap (asks_grant A) is
-    own_grant B is = ap (asks_grant B) is
+    own_grant = elim [ A ↦ λ is. ap (asks_grant A) is | B ↦ λ is. ap (asks_grant B) is ]
 
     other_grant : (s t : Side) → (t ≡ s → ⊥) → n.ask ≡ grant_ask s p → asks_grant t n.ask ≡ false
     other_grant A A apart is = absurd (apart refl)
@@ -143,11 +138,7 @@ module _ {C : Type 0} where
       (λ s same none. refusal_told books p x s (sym asked ∙ same) none) h.followed h.each
 
   pub begun_grants : (p : PathState C) (flags : Side → Bool) → Granting (begins_turn p) flags
-  begun_grants p flags = settled_done start_of_turn (with_agenda start_of_turn p) flags refl at
-    where
-      at : (t : Side) → Pays (with_agenda start_of_turn p) start_of_turn flags t
-      at A = inl refl
-      at B = inl refl
+  begun_grants p flags = settled_done start_of_turn (with_agenda start_of_turn p) flags refl (elim [ A ↦ inl refl | B ↦ inl refl ])
 
   next_grants : (m : Actor C) (notes : List Note) → MemberGrants (member_next m) notes
   next_grants (App a) notes = tt

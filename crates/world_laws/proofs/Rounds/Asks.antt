@@ -4,8 +4,7 @@ use Rattle.world_laws.proofs.Rounds.ReplyKinds.{AsksSome}
 use Rattle.world_laws.proofs.Writes.Asks.{asks_no_more}
 
 pub app_asks_some : (d : AppDuty) (a : AppState) → AsksSome (app_ask d a)
-app_asks_some AppDuty.FastClose a = tt
-app_asks_some _ a = tt
+app_asks_some = elim [ AppDuty.FastClose ↦ λ a. tt | _ ↦ λ a. tt ]
 
 module _ {C : Type 0} (k : Codec C) (p : PathState C) (some : 1 ≤ payload_size p.profile) where
   -- a path asks for a full segment's payload

@@ -27,8 +27,7 @@ pub record IsRead (b c : Arriving) (r : ReassemblyReply) : Type 0 where
   pub capacity : c.capacity ≡ b.capacity
 
 end_known : (o : Option ℕ) (read : ℕ) → is_end o read ≡ true → o ≡ Some read
-end_known None read is = cc
-end_known (Some e) read is = ap (λ n. Some n) (eqb-true e read is)
+end_known = elim [ None ↦ λ read is. cc | Some e ↦ λ read is. ap (λ n. Some n) (eqb-true e read is) ]
 
 module _ (b : Arriving) where
   left : min 65536 (length (filled b.places)) + length (filled (drop (min 65536 (length (filled b.places))) b.places)) ≡ length (filled b.places)
@@ -73,19 +72,10 @@ module _ (b : Arriving) where
       }
 
 pub is_read : (b : Arriving) → IsRead b (after_call b (ReassemblyCall.Read 65536)) (reply_to b (ReassemblyCall.Read 65536))
-is_read b = by b.aborted
-  where
-    by : (o : Option Bool) → IsRead b (if is_some o then b else after_reading 65536 b) (reading o 65536 b)
-    by None = bytes_read b (take 65536 (filled b.places)) refl
-    by (Some by_peer) = record {
-      read = omega arith;
-      came = refl;
-      most = omega arith;
-      empty = λ nil. inr refl;
-      ended = λ ends. inr refl;
-      known = refl;
-      capacity = refl;
-    }
+is_read b = elim b.aborted as (λ o. IsRead b (if is_some o then b else after_reading 65536 b) (reading o 65536 b)) [
+  | None ↦ bytes_read b (take 65536 (filled b.places)) refl
+  | Some by_peer ↦ record { read = omega arith; came = refl; most = omega arith; empty = λ nil. inr refl; ended = λ ends. inr refl; known = refl; capacity = refl }
+]
 
 -- ---- what arrives
 
@@ -128,16 +118,13 @@ arrives b (ReassemblyCall.Fin at) is = record {
 }
   where
     read : (c : Bool) → (if c then b else record b { known_end = Some at }).read ≡ b.read
-    read true = refl
-    read false = refl
+    read = elim [ true ↦ refl | false ↦ refl ]
 
     same_received : (c : Bool) → received (if c then b else record b { known_end = Some at }) ≡ received b
-    same_received true = refl
-    same_received false = refl
+    same_received = elim [ true ↦ refl | false ↦ refl ]
 
     capacity : (c : Bool) → (if c then b else record b { known_end = Some at }).capacity ≡ b.capacity
-    capacity true = refl
-    capacity false = refl
+    capacity = elim [ true ↦ refl | false ↦ refl ]
 arrives b ReassemblyCall.AckOut is = stays_grown b
 arrives b (ReassemblyCall.Read max) is = absurd is
 arrives b (ReassemblyCall.Abort by_peer) is = aborts by_peer b
@@ -188,13 +175,10 @@ Ahead done (FastClose ∷ ds) = ds ≡ AbortSend ∷ AbortReceive ∷ Write ∷ 
 
 -- all that had arrived is read where the end was told
 data_fin_reached : (arrived : ℕ) (a : AppState) (notes : List Note) (b : Arriving) → Reading a notes b → arrived ≤ received b → a.told ≡ true → IsThrough arrived b.read notes
-data_fin_reached arrived a notes b h within told = by (h.told told)
-  where
-    by : (b.known_end ≡ Some b.read) ⊎ WasStopped notes → IsThrough arrived b.read notes
-    by (inr stopped) = inr stopped
-    by (inl known) =
-        let ends : b.read + length b.places ≤ b.read = subst (λ o. IfSome o (λ e. b.read + length b.places ≤ e)) known h.sound.ends in
-        let l = filled-le b.places in inl (omega (arith, ends, l, within))
+data_fin_reached arrived a notes b h within told = elim (h.told told) [
+  | inr stopped ↦ inr stopped
+  | inl known ↦ let ends : b.read + length b.places ≤ b.read = subst (λ o. IfSome o (λ e. b.read + length b.places ≤ e)) known h.sound.ends in let l = filled-le b.places in inl (omega (arith, ends, l, within))
+]
 
 passed_ahead : (done : Type 0) (d : AppDuty) (ds : List AppDuty) (a : AppState) → app_stands d a ≡ false → (a.told ≡ true → done) → Ahead done (d ∷ ds) → Ahead done ds
 passed_ahead done Read ds a none told h = subst (Ahead done) (sym h) (refl, told (not-false a.told none))
@@ -203,11 +187,11 @@ passed_ahead done _ ds a none told h = subst (Ahead done) (sym h) refl
 
 settled_ahead : (done : Type 0) (ds : List AppDuty) (a : AppState) → (a.told ≡ true → done) → Ahead done ds → Ahead done (app_settled ds a).agenda
 settled_ahead done [] a told h = h
-settled_ahead done (d ∷ ds) a told h = by (app_stands d a) refl (λ none. settled_ahead done ds a told (passed_ahead done d ds a none told h))
-  where
-    by : (b : Bool) → app_stands d a ≡ b → (app_stands d a ≡ false → Ahead done (app_settled ds a).agenda) → Ahead done (if b then record a { agenda = d ∷ ds } else app_settled ds a).agenda
-    by true is rest = h
-    by false is rest = rest is
+settled_ahead done (d ∷ ds) a told h =
+    (elim (app_stands d a) as (λ b. app_stands d a ≡ b → (app_stands d a ≡ false → Ahead done (app_settled ds a).agenda) → Ahead done (if b then record a { agenda = d ∷ ds } else app_settled ds a).agenda) [
+      | true ↦ λ is rest. h
+      | false ↦ λ is rest. rest is
+    ]) refl (λ none. settled_ahead done ds a told (passed_ahead done d ds a none told h))
 
 pub record Caught (arrived read : ℕ) (a : AppState) (notes : List Note) (b : Arriving) : Type 0 where
   pub reading : Reading a notes b
@@ -313,8 +297,7 @@ module _ (arrived read : ℕ) (a : AppState) (notes : List Note) (n : Note) wher
         (and_cases (not (is_nil (bytes_in (Reply.Reassembly x)))) (nat_lt (a.count + length (bytes_in (Reply.Reassembly x))) a.buffer) off)
       where
         nothing : (bytes : List ℕ) → not (is_nil bytes) ≡ false → bytes ≡ []
-        nothing [] nil = refl
-        nothing (byte ∷ bytes) nil = cc
+        nothing = elim [ [] ↦ λ nil. refl | byte ∷ bytes ↦ λ nil. cc ]
 
     pub read_ahead : InRound arrived read a b → (ds : List AppDuty) → ds ≡ End ∷ [] → (on : Bool) → app_reads_on (bytes_in (Reply.Reassembly x)) a ≡ on
         → Ahead (IsThrough arrived c.read (notes ++ n ∷ [])) (if on then Read ∷ ds else ds)

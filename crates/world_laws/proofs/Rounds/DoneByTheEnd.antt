@@ -40,8 +40,7 @@ module _ {C : Type 0} (k : Codec C) where
       }
 
       by : (o : Option (ActorCrew C)) → slice_get w.crew actor ≡ o → Every (λ c. EndsAt tick c.member) (stepped k actor o w).crew
-      by None there = h
-      by (Some c) there = asks c there (member_asks k c.member)
+      by = elim [ None ↦ λ there. h | Some c ↦ λ there. asks c there (member_asks k c.member) ]
 
   next_all_on : (tick stamp : ℕ) (crew : List (ActorCrew C)) → Every (λ c. EndsAt tick c.member) crew → Every (λ c. EndsAt (tick + 100) c.member) (map (begins stamp) crew)
   next_all_on tick stamp crew h = record {

@@ -98,40 +98,31 @@ record IsOwedThere (s : Side) (ds : List Duty) : Type 0 where
   followed : is_followed ds ≡ true
 
 emission_there : (s : Side) → IsOwedThere s (emission s)
-emission_there A = record { owed = refl; followed = refl }
-emission_there B = record { owed = refl; followed = refl }
+emission_there = elim [ A ↦ record { owed = refl; followed = refl } | B ↦ record { owed = refl; followed = refl } ]
 
 syn_there : (s : Side) → IsOwedThere s (syn_came s)
-syn_there A = record { owed = refl; followed = refl }
-syn_there B = record { owed = refl; followed = refl }
+syn_there = elim [ A ↦ record { owed = refl; followed = refl } | B ↦ record { owed = refl; followed = refl } ]
 
 syn_ack_there : (s : Side) → IsOwedThere s (syn_ack_came s)
-syn_ack_there A = record { owed = refl; followed = refl }
-syn_ack_there B = record { owed = refl; followed = refl }
+syn_ack_there = elim [ A ↦ record { owed = refl; followed = refl } | B ↦ record { owed = refl; followed = refl } ]
 
 answered_there : (s : Side) → IsOwedThere s (join_answered s)
-answered_there A = record { owed = refl; followed = refl }
-answered_there B = record { owed = refl; followed = refl }
+answered_there = elim [ A ↦ record { owed = refl; followed = refl } | B ↦ record { owed = refl; followed = refl } ]
 
 again_there : (s : Side) → IsOwedThere s (syn_again s)
-again_there A = record { owed = refl; followed = refl }
-again_there B = record { owed = refl; followed = refl }
+again_there = elim [ A ↦ record { owed = refl; followed = refl } | B ↦ record { owed = refl; followed = refl } ]
 
 answer_there : (s : Side) → IsOwedThere s (answers s)
-answer_there A = record { owed = refl; followed = refl }
-answer_there B = record { owed = refl; followed = refl }
+answer_there = elim [ A ↦ record { owed = refl; followed = refl } | B ↦ record { owed = refl; followed = refl } ]
 
 join_there : (s : Side) → IsOwedThere s (join_came s)
-join_there A = record { owed = refl; followed = refl }
-join_there B = record { owed = refl; followed = refl }
+join_there = elim [ A ↦ record { owed = refl; followed = refl } | B ↦ record { owed = refl; followed = refl } ]
 
 refusal_there : (s : Side) → IsOwedThere s (refuses s)
-refusal_there A = record { owed = refl; followed = refl }
-refusal_there B = record { owed = refl; followed = refl }
+refusal_there = elim [ A ↦ record { owed = refl; followed = refl } | B ↦ record { owed = refl; followed = refl } ]
 
 reset_there : (s : Side) → IsOwedThere s (resets s 1)
-reset_there A = record { owed = refl; followed = refl }
-reset_there B = record { owed = refl; followed = refl }
+reset_there = elim [ A ↦ record { owed = refl; followed = refl } | B ↦ record { owed = refl; followed = refl } ]
 
 -- so many things that a copy said, and its payload
 record IsCopy (s : Side) (ds : List Duty) : Type 0 where
@@ -162,12 +153,10 @@ pub record IsPaid (c : Profile) (s : Side) (e : PathEnd) (refused : Bool) : Type
   pub waits : (r : Record) → first_unsent e ≡ Some r → states.may_finish e.tcp.state ≡ true → fits e.tcp r ≡ false
 
 finished : (state : EndPhase) → states.may_finish (states.after_finish state) ≡ false
-finished EndPhase.Waiting = refl
-finished _ = refl
+finished = elim [ EndPhase.Waiting ↦ refl | _ ↦ refl ]
 
 dead_is_done : (state : EndPhase) → states.is_dead state ≡ true → states.may_finish state ≡ false
-dead_is_done EndPhase.Dead is = refl
-dead_is_done _ is = absurd (false≢true is)
+dead_is_done = elim [ EndPhase.Dead ↦ λ is. refl | _ ↦ λ is. absurd (false≢true is) ]
 
 -- an end that can't push a FIN asks for nothing
 closed_paid : (c : Profile) (s : Side) (e : PathEnd) (refused : Bool) → states.may_finish e.tcp.state ≡ false → IsPaid c s e refused
@@ -183,11 +172,8 @@ sends_records EndPhase.CloseWait is = refl
 sends_records _ is = absurd (false≢true is)
 
 unless_dead_paid : (c : Profile) (s : Side) (e : PathEnd) (refused : Bool) → IsPaid c s (died_unless_dead e) refused
-unless_dead_paid c s e refused = by (states.is_dead e.tcp.state) refl
-  where
-    by : (b : Bool) → states.is_dead e.tcp.state ≡ b → IsPaid c s (if b then e else died e) refused
-    by true is = closed_paid c s e refused (dead_is_done e.tcp.state is)
-    by false is = closed_paid c s (died e) refused refl
+unless_dead_paid c s e refused = (elim (states.is_dead e.tcp.state) as (λ b. states.is_dead e.tcp.state ≡ b → IsPaid c s (if b then e else died e) refused)
+    [ true ↦ λ is. closed_paid c s e refused (dead_is_done e.tcp.state is) | false ↦ λ is. closed_paid c s (died e) refused refl ]) refl
 
 -- what isn't asked
 not_asking : (c : Profile) (s : Side) (e : PathEnd) (refused : Bool) (o : Option Record) → first_unsent e ≡ o → data_stands c s e o ≡ false → IsPaid c s e refused
@@ -216,8 +202,7 @@ rest_followed d ds h = (and_parts (needs d ds) (is_followed ds) h).1
 
 -- of the duties by which an end dies, the other side isn't paid
 others_none : (s : Side) (ds : List Duty) → none_owed ds ≡ true → (same_side (peer s) s || is_owed (peer s) ds) ≡ false
-others_none A ds none = none_for B ds none
-others_none B ds none = none_for A ds none
+others_none = elim [ A ↦ λ ds none. none_for B ds none | B ↦ λ ds none. none_for A ds none ]
 
 -- ---- a path
 
@@ -265,8 +250,7 @@ module _ {C : Type 0} where
     agenda_on ds followed each = record { followed = followed; each = at }
       where
         at : (s : Side) → Pays (with_agenda ds p) ds refused s
-        at A = each A
-        at B = each B
+        at = elim [ A ↦ each A | B ↦ each B ]
 
     -- ---- a break, a reset
 
@@ -286,16 +270,8 @@ module _ {C : Type 0} where
     resets_go B e reason other = on B e (resets B reason) refl (inl refl) (inr other)
 
     stops_done : (s : Side) → IsPaid p.profile (peer s) (end_at (peer s) p) (refused (peer s)) → Granting (with_agenda (stops s) p) refused
-    stops_done A other = agenda_on (stops A) refl each
-      where
-        each : (t : Side) → Pays p (stops A) refused t
-        each A = inl refl
-        each B = inr other
-    stops_done B other = agenda_on (stops B) refl each
-      where
-        each : (t : Side) → Pays p (stops B) refused t
-        each A = inr other
-        each B = inl refl
+    stops_done A other = agenda_on (stops A) refl (elim [ A ↦ inl refl | B ↦ inr other ])
+    stops_done B other = agenda_on (stops B) refl (elim [ A ↦ inr other | B ↦ inl refl ])
 
     break_done : (k : Codec C) (s : Side) (reason : ℕ) (r : Reply) → IsPaid p.profile (peer s) (end_at (peer s) p) (refused (peer s)) → Granting (answered_break k s reason r p) refused
     break_done k s reason r other =
@@ -308,26 +284,10 @@ module _ {C : Type 0} where
     line_done : (action : LineAction) → Granting (after_line action p) refused
     line_done (LineAction.Prio A backup) = on p refused A (with_priority backup p.a) (emission A) refl (inl refl) (inr (paid B))
     line_done (LineAction.Prio B backup) = on p refused B (with_priority backup p.b) (emission B) refl (inl refl) (inr (paid A))
-    line_done (LineAction.Announce A id) = agenda_on p refused (announces A id) refl at
-      where
-        at : (s : Side) → Pays p (announces A id) refused s
-        at A = inl refl
-        at B = inr (paid B)
-    line_done (LineAction.Announce B id) = agenda_on p refused (announces B id) refl at
-      where
-        at : (s : Side) → Pays p (announces B id) refused s
-        at A = inr (paid A)
-        at B = inl refl
-    line_done (LineAction.Withdraw A id) = agenda_on p refused (withdraws A id) refl at
-      where
-        at : (s : Side) → Pays p (withdraws A id) refused s
-        at A = inl refl
-        at B = inr (paid B)
-    line_done (LineAction.Withdraw B id) = agenda_on p refused (withdraws B id) refl at
-      where
-        at : (s : Side) → Pays p (withdraws B id) refused s
-        at A = inr (paid A)
-        at B = inl refl
+    line_done (LineAction.Announce A id) = agenda_on p refused (announces A id) refl (elim [ A ↦ inl refl | B ↦ inr (paid B) ])
+    line_done (LineAction.Announce B id) = agenda_on p refused (announces B id) refl (elim [ A ↦ inr (paid A) | B ↦ inl refl ])
+    line_done (LineAction.Withdraw A id) = agenda_on p refused (withdraws A id) refl (elim [ A ↦ inl refl | B ↦ inr (paid B) ])
+    line_done (LineAction.Withdraw B id) = agenda_on p refused (withdraws B id) refl (elim [ A ↦ inr (paid A) | B ↦ inl refl ])
     line_done LineAction.Die = record { followed = by (states.is_dead p.a.tcp.state) (states.is_dead p.b.tcp.state); each = at }
       where
         by : (a b : Bool) → is_followed ((if a then [] else Duty.Ask (AskDuty.Leave A) ∷ []) ++ ((if b then [] else Duty.Ask (AskDuty.Leave B) ∷ []) ++ rest_of_turn)) ≡ true
@@ -375,16 +335,8 @@ module _ {C : Type 0} where
     judged_done joined s now count h Judged.Forged = owed_came s (ended joined s now h Meaning.Ignored) (resets s 1) (reset_there s)
 
     emission_done : (s : Side) → Granting (with_agenda (emission s) p) refused
-    emission_done A = agenda_on p refused (emission A) refl at
-      where
-        at : (s : Side) → Pays p (emission A) refused s
-        at A = inl refl
-        at B = inr (paid B)
-    emission_done B = agenda_on p refused (emission B) refl at
-      where
-        at : (s : Side) → Pays p (emission B) refused s
-        at A = inr (paid A)
-        at B = inl refl
+    emission_done A = agenda_on p refused (emission A) refl (elim [ A ↦ inl refl | B ↦ inr (paid B) ])
+    emission_done B = agenda_on p refused (emission B) refl (elim [ A ↦ inr (paid A) | B ↦ inl refl ])
 
     copy_done : (s : Side) (o : Option HeardSegment) → Granting (copy_heard s o p) refused
     copy_done s None = emission_done s
@@ -393,11 +345,10 @@ module _ {C : Type 0} where
 
     -- a join is begun or not, at its tick
     join_done : (r : Reply) → Granting (join_begun r (leaves A) (emission A) p) refused
-    join_done r = by (is_never r)
-      where
-        by : (b : Bool) → Granting (if b then goes_on A (never_joined r (end_at A p)) (leaves A) p else goes_on A (opened_by (keys_begun r) (end_at A p)) (emission A) p) refused
-        by true = on p refused A (never_joined r p.a) (leaves A) refl (inr (closed_paid p.profile A (never_joined r p.a) (refused A) refl)) (inr (paid B))
-        by false = on p refused A (opened_by (keys_begun r) p.a) (emission A) refl (inl refl) (inr (paid B))
+    join_done r = elim (is_never r) as (λ b. Granting (if b then goes_on A (never_joined r (end_at A p)) (leaves A) p else goes_on A (opened_by (keys_begun r) (end_at A p)) (emission A) p) refused) [
+      | true ↦ on p refused A (never_joined r p.a) (leaves A) refl (inr (closed_paid p.profile A (never_joined r p.a) (refused A) refl)) (inr (paid B))
+      | false ↦ on p refused A (opened_by (keys_begun r) p.a) (emission A) refl (inl refl) (inr (paid B))
+    ]
 
     fired_done : (s : Side) (e : PathEnd) (sixth : Bool) → Granting (goes_on s e (template_fired sixth s) p) refused
     fired_done A e true = on p refused A e (expired_for_ever A) refl (inl refl) (inr (paid B))
@@ -410,25 +361,21 @@ module _ {C : Type 0} where
   event_done k (Some (Event.Joins tick)) r p refused paid = join_done (record (at_tick tick p) { joined_at = None }) refused at r
     where
       at : (s : Side) → IsPaid p.profile s (end_at s (record (at_tick tick p) { joined_at = None })) (refused s)
-      at A = paid A
-      at B = paid B
+      at = elim [ A ↦ paid A | B ↦ paid B ]
   event_done k (Some (Event.Takes line)) r p refused paid =
       line_done (record (at_tick line.tick p) { lines = tail_of p.lines }) refused at line.action
     where
       at : (s : Side) → IsPaid p.profile s (end_at s (record (at_tick line.tick p) { lines = tail_of p.lines })) (refused s)
-      at A = paid A
-      at B = paid B
+      at = elim [ A ↦ paid A | B ↦ paid B ]
   event_done k (Some (Event.Arrives due)) r p refused paid =
       copy_done (record (at_tick due.tick p) { link = after_delivery due p.link }) refused at due.to (heard_in k due.to (arriving due p.link) p)
     where
       at : (s : Side) → IsPaid p.profile s (end_at s (record (at_tick due.tick p) { link = after_delivery due p.link })) (refused s)
-      at A = paid A
-      at B = paid B
+      at = elim [ A ↦ paid A | B ↦ paid B ]
   event_done k (Some (Event.Fires s tick)) r p refused paid = fired_done (at_tick tick p) refused at s _ (is_sixth (end_at s (at_tick tick p)).tcp)
     where
       at : (t : Side) → IsPaid p.profile t (end_at t (at_tick tick p)) (refused t)
-      at A = paid A
-      at B = paid B
+      at = elim [ A ↦ paid A | B ↦ paid B ]
 
   -- ---- passing
 
@@ -467,11 +414,10 @@ module _ {C : Type 0} where
   pub settled_done : (ds : List Duty) (p : PathState C) (refused : Side → Bool) → is_followed ds ≡ true → ((t : Side) → Pays p ds refused t) → Granting (settled ds p) refused
   settled_done [] p refused f each = agenda_on p refused [] refl each
   settled_done (d ∷ ds) p refused f each =
-      by (stands d p) refl (λ none. settled_done ds (passed d p) refused (rest_followed d ds f) (passed_pays d ds p refused none f each))
-    where
-      by : (b : Bool) → stands d p ≡ b → (stands d p ≡ false → Granting (settled ds (passed d p)) refused) → Granting (if b then with_agenda (d ∷ ds) p else settled ds (passed d p)) refused
-      by true is rest = agenda_on p refused (d ∷ ds) f each
-      by false is rest = rest is
+      (elim (stands d p) as (λ b. stands d p ≡ b → (stands d p ≡ false → Granting (settled ds (passed d p)) refused) → Granting (if b then with_agenda (d ∷ ds) p else settled ds (passed d p)) refused) [
+        | true ↦ λ is rest. agenda_on p refused (d ∷ ds) f each
+        | false ↦ λ is rest. rest is
+      ]) refl (λ none. settled_done ds (passed d p) refused (rest_followed d ds f) (passed_pays d ds p refused none f each))
 
   -- ---- replies
 
@@ -551,22 +497,21 @@ module _ {C : Type 0} where
         paid : IsPaid p.profile (peer s) (end_at (peer s) p) (refused (peer s))
         paid = is_paid (at xs) xs refused (peer s) (not-true (is_owed (peer s) ds) need.1) (each (peer s))
 
-        told : (b : Bool) (e : PathEnd) → Granting (goes_on s e (told_next s b (at xs)) (at xs)) refused
-        told true e = touched s e (Duty.Ask (AskDuty.AckHeard s) ∷ ds) (rw (need.0, need.1, rest) refl) need.0 xs (inr paid)
-        told false e = touched s e ds rest need.0 xs (inr paid)
-
         mapping : (b : Bool) → Granting (if b then answered_break k s 1 r (at xs) else goes_on s (with_learned (after_fell FallEvent.MappingHeard r (end_at s (at xs)))) (fell_duties s r (at xs)) (at xs)) refused
         mapping true = break_done (at xs) refused k s 1 r paid
         mapping false = fell_done s _ (Duty.Step (StepDuty.Heard s index)) ds rest need.0 paid
 
         stopped : (b : Bool) → Granting (with_agenda (if b then stops s else left (at xs)) (at xs)) refused
-        stopped true = stops_done (at xs) refused s paid
-        stopped false = done_on ds xs rest (λ t. each t)
+        stopped = elim [ true ↦ stops_done (at xs) refused s paid | false ↦ done_on ds xs rest (λ t. each t) ]
+
+        acked : (b : Bool) (e : PathEnd) → Granting (goes_on s e (told_next s b (at xs)) (at xs)) refused
+        acked true e = touched s e (Duty.Ask (AskDuty.AckHeard s) ∷ ds) (rw (need.0, need.1, rest) refl) need.0 xs (inr paid)
+        acked false e = touched s e ds rest need.0 xs (inr paid)
 
         by : (o : Option Heard) → Granting (answered_item k s o r (at xs)) refused
         by None = done_on ds xs rest (λ t. each t)
         by (Some Heard.Dss) = done_on ds xs rest (λ t. each t)
-        by (Some (Heard.DataAck next window)) = told _ _
+        by (Some (Heard.DataAck next window)) = acked _ _
         by (Some (Heard.Mapping fin)) = mapping (is_clash (end_at s p))
         by (Some (Heard.DataFin place)) = fell_done s _ (Duty.Step (StepDuty.Heard s index)) ds rest need.0 paid
         by (Some (Heard.InfiniteMapping place position)) = fell_done s _ (Duty.Step (StepDuty.Heard s index)) ds rest need.0 paid
@@ -582,17 +527,17 @@ module _ {C : Type 0} where
     -- an end that waits asks again whether it may join
     again_done : (ds : List Duty) → is_followed ((Duty.Ask AskDuty.JoinAgain) ∷ ds) ≡ true → ((t : Side) → Pays (at ((Duty.Ask AskDuty.JoinAgain) ∷ ds)) ((Duty.Ask AskDuty.JoinAgain) ∷ ds) refused t)
         → Granting (join_begun r (Duty.Ask (AskDuty.Leave A) ∷ ds) ds (at ((Duty.Ask AskDuty.JoinAgain) ∷ ds))) refused
-    again_done ds f each = by (is_never r)
+    again_done ds f each =
+        elim (is_never r) as (λ b. Granting (if b then goes_on A (never_joined r p.a) (Duty.Ask (AskDuty.Leave A) ∷ ds) (at xs) else goes_on A (opened_by (keys_begun r) p.a) ds (at xs)) refused) [
+          | true ↦ touched A (never_joined r p.a) (Duty.Ask (AskDuty.Leave A) ∷ ds) rest (first_need (Duty.Ask AskDuty.JoinAgain) ds f) xs (each B)
+          | false ↦ touched A (opened_by (keys_begun r) p.a) ds rest (first_need (Duty.Ask AskDuty.JoinAgain) ds f) xs (each B)
+        ]
       where
         xs : List Duty
         xs = (Duty.Ask AskDuty.JoinAgain) ∷ ds
 
         rest : is_followed ds ≡ true
         rest = rest_followed (Duty.Ask AskDuty.JoinAgain) ds f
-
-        by : (b : Bool) → Granting (if b then goes_on A (never_joined r p.a) (Duty.Ask (AskDuty.Leave A) ∷ ds) (at xs) else goes_on A (opened_by (keys_begun r) p.a) ds (at xs)) refused
-        by true = touched A (never_joined r p.a) (Duty.Ask (AskDuty.Leave A) ∷ ds) rest (first_need (Duty.Ask AskDuty.JoinAgain) ds f) xs (each B)
-        by false = touched A (opened_by (keys_begun r) p.a) ds rest (first_need (Duty.Ask AskDuty.JoinAgain) ds f) xs (each B)
 
     join_heard_done : (s : Side) (ds : List Duty) → is_followed (Duty.Ask (AskDuty.JoinHeard s) ∷ ds) ≡ true → ((t : Side) → Pays (at (Duty.Ask (AskDuty.JoinHeard s) ∷ ds)) (Duty.Ask (AskDuty.JoinHeard s) ∷ ds) refused t)
         → (keys : Option KeyPair) (asked : Option JoinSyn) → Granting (join_taken s keys asked r (at (Duty.Ask (AskDuty.JoinHeard s) ∷ ds))) refused
@@ -667,8 +612,7 @@ module _ {C : Type 0} where
 
     -- an end that asks for bytes, where the reply leaves the duty
     own_data : (s : Side) (ds : List Duty) → is_owed s (Duty.Step (StepDuty.Data s) ∷ ds) ≡ true
-    own_data A ds = refl
-    own_data B ds = refl
+    own_data = elim [ A ↦ λ ds. refl | B ↦ λ ds. refl ]
 
     pub data_sent : (s : Side) (ds : List Duty) (u : Record) → is_followed (Duty.Step (StepDuty.Data s) ∷ ds) ≡ true → ((t : Side) → Pays (at (Duty.Step (StepDuty.Data s) ∷ ds)) (Duty.Step (StepDuty.Data s) ∷ ds) refused t)
         → Granting (answered_data k s (Some u) r (at (Duty.Step (StepDuty.Data s) ∷ ds))) refused

@@ -1,7 +1,7 @@
 -- What a path keeps: no reply moves the end of its round or changes its profile or its number. A round's beginning moves the end by
 -- 100 ticks.
-use Rattle.world_laws.proofs.Words.{◌≡◌, refl, ◌∙◌, ap, Bool, true, false, if◌then◌else◌, Side, start_of_turn, Duty, AskDuty, Reply, tail_of, is_nil, Codec}
-use Rattle.world_laws.proofs.Words.{stands, PathState, with_agenda, path_of, settled, takes, begins_turn, Writes, OnlyAt, PathView, writes, side_of}
+use Rattle.world_laws.proofs.Words.{◌≡◌, refl, ◌∙◌, ap, true, false, if◌then◌else◌, Side, start_of_turn, Duty, AskDuty, Reply, tail_of, is_nil, Codec, stands}
+use Rattle.world_laws.proofs.Words.{PathState, with_agenda, path_of, settled, takes, begins_turn, Writes, OnlyAt, PathView, writes, side_of}
 use Rattle.world_laws.proofs.Writes.Paths.{writes_no_more, passes_no_more}
 use Rattle.world_laws.proofs.Writes.Steps.{Lasts, takes_lasts, begins_lasts}
 
@@ -31,11 +31,8 @@ module _ {C : Type 0} where
 
   -- something is to be done when a round begins
   pub first_stands : (p : PathState C) → is_nil (begins_turn p).agenda ≡ false
-  first_stands p = by (stands (Duty.Ask AskDuty.JoinAgain) q)
+  first_stands p = elim (stands (Duty.Ask AskDuty.JoinAgain) q) as (λ b. is_nil (if b then with_agenda start_of_turn q else settled (tail_of start_of_turn) q).agenda ≡ false)
+      [ true ↦ refl | false ↦ refl ]
     where
       q : PathState C
       q = with_agenda start_of_turn p
-
-      by : (b : Bool) → is_nil (if b then with_agenda start_of_turn q else settled (tail_of start_of_turn) q).agenda ≡ false
-      by true = refl
-      by false = refl

@@ -48,8 +48,7 @@ module _ {C : Type 0} (k : Codec C) (P : ActorCrew C → Type 0)
       by false over = h
 
   turn_lifted : (turn : Turn) (w : WorldState C) → Every P w.crew → Every P (after_turn k turn w).crew
-  turn_lifted (Turn.Step actor) w h = step_lifted actor w h
-  turn_lifted Turn.Round w h = round_lifted w h
+  turn_lifted = elim [ Turn.Step actor ↦ λ w h. step_lifted actor w h | Turn.Round ↦ λ w h. round_lifted w h ]
 
   pub run_lifted : (turns : List Turn) (w : WorldState C) → Every P w.crew → Every P (world_run k turns w).crew
   run_lifted [] w h = h

@@ -17,7 +17,6 @@ use Rattle.world_laws.proofs.Words.{answered_peer_key, answered_opened, is_stopp
 use Rattle.fallback_state.specs.declared.fall.Event.TheVariants as events
 use Rattle.path_core.specs.declared.events.Event.{Event}
 use Rattle.path_agenda.specs.Agenda.{breaks}
-use Rattle.path_core.specs.Emission.{Grant}
 use Rattle.world_laws.proofs.Falls.FailedChecks.{fail_answered_so}
 
 -- the events of the turn, and its end, are ahead
@@ -28,8 +27,7 @@ Ahead (Duty.End ∷ ds) = ⊥
 Ahead (d ∷ ds) = Ahead ds
 
 nothing_next : (o : Option Event) → is_some o ≡ false → o ≡ None
-nothing_next None is = refl
-nothing_next (Some event) is = absurd (true≢false is)
+nothing_next = elim [ None ↦ λ is. refl | Some event ↦ λ is. absurd (true≢false is) ]
 
 heard_ahead : (s : Side) (from count : ℕ) (ds : List Duty) → Ahead ds → Ahead (heard_and s from count ds)
 heard_ahead s from zero ds h = h
@@ -52,8 +50,7 @@ died_ahead false true = refl
 died_ahead false false = refl
 
 fired_ahead : (sixth : Bool) (s : Side) → Ahead (template_fired sixth s)
-fired_ahead true s = refl
-fired_ahead false s = refl
+fired_ahead = elim [ true ↦ λ s. refl | false ↦ λ s. refl ]
 
 with_ahead : {X : Type 0} (ds : List Duty) → Ahead ds ⊎ ⊥ → (Ahead ds → X) → X
 with_ahead ds (inl ahead) f = f ahead
@@ -91,27 +88,15 @@ module _ {C : Type 0} where
   same_last [] p h = h
   same_last (Duty.End ∷ ds) p h = h
   same_last (Duty.Step (StepDuty.Look s) ∷ ds) p h = absurd h
-  same_last (d ∷ ds) p h = last_or d h
-    where
-      last_or : (d : Duty) → IsLast (d ∷ ds) p → IsLast (d ∷ ds) (with_agenda (d ∷ ds) p)
-      last_or Duty.End h = h
-      last_or _ h = absurd h
+  same_last (d ∷ ds) p h = (elim d as (λ d. IsLast (d ∷ ds) p → IsLast (d ∷ ds) (with_agenda (d ∷ ds) p)) [ Duty.End ↦ λ h. h | _ ↦ λ h. absurd h ]) h
 
   settled_shaped : (ds : List Duty) (p : PathState C) → Shaped ds p → Shaped (settled ds p).agenda (settled ds p)
-  settled_shaped [] p h = onto h
-    where
-      onto : Shaped [] p → Shaped [] (with_agenda [] p)
-      onto (inl never) = absurd never
-      onto (inr none) = inr none
+  settled_shaped [] p h = elim h [ inl never ↦ absurd never | inr none ↦ inr none ]
   settled_shaped (d ∷ ds) p h = by (stands d p) refl (λ no_more. settled_shaped ds (passed d p) (next_shaped d ds p h no_more))
     where
       by : (b : Bool) → stands d p ≡ b → (stands d p ≡ false → Shaped (settled ds (passed d p)).agenda (settled ds (passed d p)))
           → Shaped (if b then with_agenda (d ∷ ds) p else settled ds (passed d p)).agenda (if b then with_agenda (d ∷ ds) p else settled ds (passed d p))
-      by true is rest = onto h
-        where
-          onto : Shaped (d ∷ ds) p → Shaped (d ∷ ds) (with_agenda (d ∷ ds) p)
-          onto (inl ahead) = inl ahead
-          onto (inr last) = inr (same_last (d ∷ ds) p last)
+      by true is rest = elim h [ inl ahead ↦ inl ahead | inr last ↦ inr (same_last (d ∷ ds) p last) ]
       by false is rest = rest is
 
   -- ---- replies
@@ -127,11 +112,8 @@ module _ {C : Type 0} where
 
   -- a join is begun or not, with these to be done
   begun_ahead : (r : Reply) (dead living : List Duty) (p : PathState C) → Ahead dead → Ahead living → Ahead (join_begun r dead living p).agenda
-  begun_ahead r dead living p x y = by (is_never r)
-    where
-      by : (b : Bool) → Ahead (if b then goes_on A (never_joined r (end_at A p)) dead p else goes_on A (opened_by (keys_begun r) (end_at A p)) living p).agenda
-      by true = x
-      by false = y
+  begun_ahead r dead living p x y = elim (is_never r) as (λ b. Ahead (if b then goes_on A (never_joined r (end_at A p)) dead p else goes_on A (opened_by (keys_begun r) (end_at A p)) living p).agenda)
+      [ true ↦ x | false ↦ y ]
 
   event_ahead : (k : Codec C) (o : Option Event) (r : Reply) (p : PathState C) → Ahead (happens_if k o r p).agenda
   event_ahead k None r p = refl
@@ -141,11 +123,8 @@ module _ {C : Type 0} where
   event_ahead k (Some (Event.Fires s tick)) r p = fired_ahead (is_sixth (end_at s (at_tick tick p)).tcp) s
 
   break_ahead : (k : Codec C) (s : Side) (reason : ℕ) (r : Reply) (p : PathState C) → Ahead (answered_break k s reason r p).agenda
-  break_ahead k s reason r p = by (end_at s p).treated.asked
-    where
-      by : (b : Bool) → Ahead (if b then answered_ack_out s r (resets s reason) p else reset_on k s (Some reason) (leaves s) p).agenda
-      by true = refl
-      by false = refl
+  break_ahead k s reason r p = elim (end_at s p).treated.asked as (λ b. Ahead (if b then answered_ack_out s r (resets s reason) p else reset_on k s (Some reason) (leaves s) p).agenda)
+      [ true ↦ refl | false ↦ refl ]
 
   -- after a fall the send book is told, and a path may be broken
   fell_ahead : (s : Side) (r : Reply) (p : PathState C) → Ahead (left p) → Ahead (replaced (Duty.Ask (AskDuty.GoIdentity s)) p.agenda) → Ahead (fell_duties s r p)
@@ -158,11 +137,7 @@ module _ {C : Type 0} where
   module _ (k : Codec C) (s : Side) (r : Reply) (p : PathState C) (same : Ahead p.agenda) (left_ahead : Ahead (left p)) (told : Ahead (replaced (Duty.Ask (AskDuty.GoIdentity s)) p.agenda)) where
     data_ahead : (o : Option Record) → Ahead (answered_data k s o r p).agenda
     data_ahead (Some record_unsent) = same
-    data_ahead None = by (grant_in r)
-      where
-        by : (o : Option Grant) → Ahead (answered_grant s o r p).agenda
-        by (Some grant) = same
-        by None = left_ahead
+    data_ahead None = elim (grant_in r) as (λ o. Ahead (answered_grant s o r p).agenda) [ Some grant ↦ same | None ↦ left_ahead ]
 
     piece_ahead : (o : Option Piece) (taken : Bool) → Ahead (answered_piece s o taken p).agenda
     piece_ahead (Some piece) true = same
@@ -170,43 +145,35 @@ module _ {C : Type 0} where
     piece_ahead None taken = refl
 
     plain_ack_ahead : Ahead (answered_plain_ack k s r p).agenda
-    plain_ack_ahead = by (breaks_by_ack p.profile (end_at s p))
-      where
-        by : (b : Bool) → Ahead (if b then answered_break k s 6 r p else goes_on s (with_plain_ack (after_fell events.PlainAck r (end_at s p))) (fell_duties s r p) p).agenda
-        by true = break_ahead k s 6 r p
-        by false = fell_ahead s r p left_ahead told
+    plain_ack_ahead =
+        elim (breaks_by_ack p.profile (end_at s p)) as (λ b. Ahead (if b then answered_break k s 6 r p else goes_on s (with_plain_ack (after_fell events.PlainAck r (end_at s p))) (fell_duties s r p) p).agenda) [
+          | true ↦ break_ahead k s 6 r p
+          | false ↦ fell_ahead s r p left_ahead told
+        ]
 
     key_ahead : (o : Option ℕ) → Ahead (answered_peer_key s o r p).agenda
-    key_ahead None = fell_ahead s r p left_ahead told
-    key_ahead (Some key) = left_ahead
+    key_ahead = elim [ None ↦ fell_ahead s r p left_ahead told | Some key ↦ left_ahead ]
 
     keys_ahead : (o : Option KeyPair) → Ahead (answered_opened s o r p).agenda
-    keys_ahead None = fell_ahead s r p left_ahead told
-    keys_ahead (Some keys) = left_ahead
+    keys_ahead = elim [ None ↦ fell_ahead s r p left_ahead told | Some keys ↦ left_ahead ]
 
     plain_fin_ahead : (set : Bool) → Ahead (answered_plain_fin s set p).agenda
-    plain_fin_ahead true = left_ahead
-    plain_fin_ahead false = refl
+    plain_fin_ahead = elim [ true ↦ left_ahead | false ↦ refl ]
 
     fin_ahead : (set : Bool) → Ahead (answered_fin_heard s set p).agenda
-    fin_ahead true = left_ahead
-    fin_ahead false = refl
+    fin_ahead = elim [ true ↦ left_ahead | false ↦ refl ]
 
     module _ (index : ℕ) (acked_ahead : Ahead (replaced (Duty.Ask (AskDuty.AckHeard s)) p.agenda)) (failed_ahead : Ahead (replaced (Duty.Ask (AskDuty.FailHeard s)) p.agenda)) where
       told_ahead : (b : Bool) → Ahead (told_next s b p)
-      told_ahead true = acked_ahead
-      told_ahead false = left_ahead
+      told_ahead = elim [ true ↦ acked_ahead | false ↦ left_ahead ]
 
       mapping_ahead : Ahead (answered_mapping k s r p).agenda
-      mapping_ahead = by (is_clash (end_at s p))
-        where
-          by : (b : Bool) → Ahead (if b then answered_break k s 1 r p else goes_on s (with_learned (after_fell events.MappingHeard r (end_at s p))) (fell_duties s r p) p).agenda
-          by true = break_ahead k s 1 r p
-          by false = fell_ahead s r p left_ahead told
+      mapping_ahead =
+          elim (is_clash (end_at s p)) as (λ b. Ahead (if b then answered_break k s 1 r p else goes_on s (with_learned (after_fell events.MappingHeard r (end_at s p))) (fell_duties s r p) p).agenda)
+          [ true ↦ break_ahead k s 1 r p | false ↦ fell_ahead s r p left_ahead told ]
 
       stopped_ahead : (stopped : Bool) → Ahead (if stopped then stops s else left p)
-      stopped_ahead true = refl
-      stopped_ahead false = left_ahead
+      stopped_ahead = elim [ true ↦ refl | false ↦ left_ahead ]
 
       item_ahead : (o : Option Heard) → Ahead (answered_item k s o r p).agenda
       item_ahead (Some (Heard.DataAck next window)) = told_ahead _
@@ -259,21 +226,12 @@ module _ {C : Type 0} where
   answered_shaped k _ ds r p h = from_left ds _ h
 
   pub takes_shaped : (k : Codec C) (r : Reply) (p : PathState C) → Shaped p.agenda p → Shaped (takes k r p).agenda (takes k r p)
-  takes_shaped k r p h = by p.agenda h
-    where
-      by : (ds : List Duty) → Shaped ds (with_agenda ds p) → Shaped (takes k r (with_agenda ds p)).agenda (takes k r (with_agenda ds p))
-      by [] h = settled_shaped [] (with_agenda [] p) h
-      by (d ∷ ds) h =
-          let q : PathState C = answered k d r (with_agenda (d ∷ ds) p) in
-          settled_shaped q.agenda q (answered_shaped k d ds r p h)
+  takes_shaped k r p h = (elim p.agenda as (λ ds. Shaped ds (with_agenda ds p) → Shaped (takes k r (with_agenda ds p)).agenda (takes k r (with_agenda ds p)))
+      [ [] ↦ λ h. settled_shaped [] (with_agenda [] p) h | d ∷ ds ↦ λ h. let q : PathState C = answered k d r (with_agenda (d ∷ ds) p) in settled_shaped q.agenda q (answered_shaped k d ds r p h) ]) h
 
   pub begun_shaped : (p : PathState C) → Shaped (settled start_of_turn (with_agenda start_of_turn p)).agenda (settled start_of_turn (with_agenda start_of_turn p))
   begun_shaped p = settled_shaped start_of_turn (with_agenda start_of_turn p) (inl refl)
 
   -- where the turn is over nothing is due
   pub nothing_due : (p : PathState C) → Shaped p.agenda p → p.agenda ≡ [] → next_event p ≡ None
-  nothing_due p h over = by (subst (λ ds. Shaped ds p) over h)
-    where
-      by : Shaped [] p → next_event p ≡ None
-      by (inl never) = absurd never
-      by (inr none) = none
+  nothing_due p h over = elim (subst (λ ds. Shaped ds p) over h) [ inl never ↦ absurd never | inr none ↦ none ]

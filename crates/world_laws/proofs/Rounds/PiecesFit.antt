@@ -3,7 +3,7 @@
 use Rattle.world_laws.proofs.Words.{◌≡◌, refl, sym, ap, subst, ℕ, ◌+◌, ◌-◌, ◌≤◌, ◌&&◌, ◌==◌, not, min, nat_lt, nat_le, Bool, true, false, if◌then◌else◌, Option}
 use Rattle.world_laws.proofs.Words.{Some, None, Result, Ok, Err, List, [], ◌∷◌, length, drop, arith, ltb-true, and_parts, and_from, both_ways, false≢true}
 use Rattle.world_laws.proofs.Words.{ltb-false, leb-true, le-leb, length-take, length-drop, same_Some, Side, A, B, ScriptLine, JoinSyn, Span, Why, SendBook}
-use Rattle.world_laws.proofs.Words.{decision-MayTake, KeptMapping, Record, SendState, AckKind, is_unsent, uncovered, after_acknowledge, after_resent, ack_kind}
+use Rattle.world_laws.proofs.Words.{decision-MayTake, KeptMapping, Record, SendState, is_unsent, uncovered, after_acknowledge, after_resent, ack_kind}
 use Rattle.world_laws.proofs.Words.{sample_of, Meaning, is_sixth, after_expiry, after_fire, after_sending, EndState, is_at_limit, EndPhase, Occasion}
 use Rattle.world_laws.proofs.Words.{after_death, after_dropping_held, after_keeping_held, after_holding, is_fin_acked, after_ack_kind, after_acknowledgement}
 use Rattle.world_laws.proofs.Words.{is_duplicate, after_duplicate, after_interruption, told_by, after_payload, after_hearing, after_established, after_taken}
@@ -61,48 +61,40 @@ EndFits limit e = TcpFits limit e.tcp
 -- ---- states
 
 finish_never : (state : EndPhase) → states.may_finish (states.after_finish state) ≡ false
-finish_never EndPhase.Waiting = refl
-finish_never _ = refl
+finish_never = elim [ EndPhase.Waiting ↦ refl | _ ↦ refl ]
 
 passed_may : (state : EndPhase) → states.may_finish (states.after_fin_passed state) ≡ true → states.may_finish state ≡ true
-passed_may EndPhase.Established is = refl
-passed_may _ is = is
+passed_may = elim [ EndPhase.Established ↦ λ is. refl | _ ↦ λ is. is ]
 
 acked_may : (state : EndPhase) → states.may_finish (states.after_fin_acked state) ≡ true → states.may_finish state ≡ true
-acked_may EndPhase.Waiting is = is
-acked_may _ is = is
+acked_may = elim [ EndPhase.Waiting ↦ λ is. is | _ ↦ λ is. is ]
 
 -- ---- acknowledgements
 
 sizes_acked : (limit pos : ℕ) (v : SendState) → Every (IsSmall limit) v.records → Every (IsSmall limit) (after_acknowledge pos v).records
-sizes_acked limit pos v h = by (nat_lt v.una pos && nat_le pos v.nxt)
-  where
-    by : (b : Bool) → Every (IsSmall limit) (if b then record v { una = pos; records = uncovered pos v.records } else v).records
-    by true = uncovered_kept pos v.records h
-    by false = h
+sizes_acked limit pos v h = elim (nat_lt v.una pos && nat_le pos v.nxt) as (λ b. Every (IsSmall limit) (if b then record v { una = pos; records = uncovered pos v.records } else v).records)
+    [ true ↦ uncovered_kept pos v.records h | false ↦ h ]
 
 una_stays : (pos : ℕ) (v : SendState) → 1 ≤ v.una → 1 ≤ (after_acknowledge pos v).una
-una_stays pos v some = by (nat_lt v.una pos && nat_le pos v.nxt) refl
-  where
-    by : (b : Bool) → (nat_lt v.una pos && nat_le pos v.nxt) ≡ b → 1 ≤ (if b then record v { una = pos; records = uncovered pos v.records } else v).una
-    by true is = let more = ltb-true v.una pos (and_parts (nat_lt v.una pos) (nat_le pos v.nxt) is).0 in let low : 1 ≤ pos = omega (arith, more) in low
-    by false is = some
+una_stays pos v some =
+    (elim (nat_lt v.una pos && nat_le pos v.nxt) as (λ b. (nat_lt v.una pos && nat_le pos v.nxt) ≡ b → 1 ≤ (if b then record v { una = pos; records = uncovered pos v.records } else v).una)
+    [ true ↦ λ is. let more = ltb-true v.una pos (and_parts (nat_lt v.una pos) (nat_le pos v.nxt) is).0 in let low : 1 ≤ pos = omega (arith, more) in low | false ↦ λ is. some ]) refl
 
 not_less : (x y : Bool) → (x && y) ≡ false → y ≡ true → x ≡ false
-not_less true y none is = absurd (both_ways y none is)
-not_less false y none is = refl
+not_less = elim [ true ↦ λ y none is. absurd (both_ways y none is) | false ↦ λ y none is. refl ]
 
 -- the SYN is acknowledged by a position that was sent
 una_grows : (pos : ℕ) (v : SendState) → 1 ≤ pos → pos ≤ v.nxt → 1 ≤ (after_acknowledge pos v).una
-una_grows pos v some sent = by (nat_lt v.una pos && nat_le pos v.nxt) refl
-  where
-    by : (b : Bool) → (nat_lt v.una pos && nat_le pos v.nxt) ≡ b → 1 ≤ (if b then record v { una = pos; records = uncovered pos v.records } else v).una
-    by true is = some
-    by false is = let least = ltb-false v.una pos (not_less (nat_lt v.una pos) (nat_le pos v.nxt) is (le-leb pos v.nxt sent)) in let low : 1 ≤ v.una = omega (arith, least, some) in low
+una_grows pos v some sent =
+    (elim (nat_lt v.una pos && nat_le pos v.nxt) as (λ b. (nat_lt v.una pos && nat_le pos v.nxt) ≡ b → 1 ≤ (if b then record v { una = pos; records = uncovered pos v.records } else v).una) [
+      | true ↦ λ is. some
+      | false ↦ λ is. let least = ltb-false v.una pos (not_less (nat_lt v.una pos) (nat_le pos v.nxt) is (le-leb pos v.nxt sent)) in let low : 1 ≤ v.una = omega (arith, least, some) in low
+    ]) refl
 
 acknowledged_fits : (limit pos now : ℕ) (s : EndState) → Every (IsSmall limit) s.send.records → (states.may_finish s.state ≡ true → 1 ≤ (after_acknowledge pos s.send).una)
     → TcpFits limit (after_acknowledgement pos now s)
-acknowledged_fits limit pos now s sizes begun = by (ack_kind pos s.send)
+acknowledged_fits limit pos now s sizes begun = elim (ack_kind pos s.send) as (λ kind. TcpFits limit (after_ack_kind kind (sample_of pos s.send) now t))
+    [ New octets ↦ record { sizes = fits_then.sizes; begun = λ is. begun (back (is_fin_acked t.send) is) } | _ ↦ fits_then ]
   where
     t : EndState
     t = record s { send = after_acknowledge pos s.send }
@@ -111,12 +103,7 @@ acknowledged_fits limit pos now s sizes begun = by (ack_kind pos s.send)
     fits_then = record { sizes = sizes_acked limit pos s.send sizes; begun = begun }
 
     back : (b : Bool) → states.may_finish (if b then states.after_fin_acked s.state else s.state) ≡ true → states.may_finish s.state ≡ true
-    back true is = acked_may s.state is
-    back false is = is
-
-    by : (kind : AckKind) → TcpFits limit (after_ack_kind kind (sample_of pos s.send) now t)
-    by (New octets) = record { sizes = fits_then.sizes; begun = λ is. begun (back (is_fin_acked t.send) is) }
-    by _ = fits_then
+    back = elim [ true ↦ λ is. acked_may s.state is | false ↦ λ is. is ]
 
 row_fits : (limit : ℕ) (b : Bool) (s : EndState) → TcpFits limit s → TcpFits limit (if b then after_duplicate s else after_interruption s)
 row_fits limit true s h = h
@@ -130,12 +117,8 @@ MeansSo state nxt (Meaning.Taken pos acknowledged) = states.is_half_open state �
 MeansSo state nxt _ = Unit {0}
 
 meant_so : (c : Copy) (s : EndState) → MeansSo s.state s.send.nxt (meaning_of c s)
-meant_so c s = by (meaning_of c s) (means c s)
-  where
-    by : (m : Meaning) → Means c s m → MeansSo s.state s.send.nxt m
-    by (Meaning.Accepts acknowledged) is = is.1.1.1
-    by (Meaning.Taken pos acknowledged) is = is.1.1.1.1.1
-    by _ is = tt
+meant_so c s = (elim (meaning_of c s) as (λ m. Means c s m → MeansSo s.state s.send.nxt m)
+    [ Meaning.Accepts acknowledged ↦ λ is. is.1.1.1 | Meaning.Taken pos acknowledged ↦ λ is. is.1.1.1.1.1 | _ ↦ λ is. tt ]) (means c s)
 
 -- ---- an end of a subflow
 
@@ -241,8 +224,7 @@ payload_fits limit (Meaning.Taken pos acknowledged) octets s so h = by (is_nil o
   where
     by : (b : Bool) → MeansSo (if b then s else after_holding pos octets s).state (if b then s else after_holding pos octets s).send.nxt (Meaning.Taken pos acknowledged)
         × TcpFits limit (if b then s else after_holding pos octets s)
-    by true = (so, h)
-    by false = (so, h)
+    by = elim [ true ↦ (so, h) | false ↦ (so, h) ]
 payload_fits limit _ octets s so h = (so, h)
 
 owing_fits : (limit : ℕ) (b : Bool) (s : EndState) → TcpFits limit s → TcpFits limit (owing_if b s)
@@ -288,12 +270,10 @@ module _ {C : Type 0} where
     pub b : EndFits (payload_size p.profile) p.b
 
   pub fits_at : (s : Side) (p : PathState C) → PathFits p → EndFits (payload_size p.profile) (end_at s p)
-  fits_at A p h = h.a
-  fits_at B p h = h.b
+  fits_at = elim [ A ↦ λ p h. h.a | B ↦ λ p h. h.b ]
 
   either_fits : (c : Bool) (q r : PathState C) → PathFits q → PathFits r → PathFits (if c then q else r)
-  either_fits true q r x y = x
-  either_fits false q r x y = y
+  either_fits = elim [ true ↦ λ q r x y. x | false ↦ λ q r x y. y ]
 
   -- the end of a side becomes this, whatever else is on the path
   side_fits : (s : Side) (p q : PathState C) (e : PathEnd) → q.a ≡ (goes_on s e [] p).a → q.b ≡ (goes_on s e [] p).b → q.profile ≡ p.profile → PathFits p → EndFits (payload_size p.profile) e → PathFits q
@@ -441,8 +421,7 @@ module _ {C : Type 0} where
   }
     where
       by : (o : Option ℕ) → states.may_finish (first_state o) ≡ true → 1 ≤ 0
-      by None is = absurd (false≢true is)
-      by (Some tick) is = absurd (false≢true is)
+      by = elim [ None ↦ λ is. absurd (false≢true is) | Some tick ↦ λ is. absurd (false≢true is) ]
 
   -- ---- an actor
 

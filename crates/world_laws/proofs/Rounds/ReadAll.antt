@@ -1,7 +1,7 @@
 -- Where the turn of an application is over, it has read all that had arrived without a gap as the round began, or was told of an abort.
-use Rattle.world_laws.proofs.Words.{◌≡◌, refl, sym, ◌∙◌, ap, subst, ℕ, ◌+◌, ◌≤◌, not, inl, inr, ◌⊎◌, ⊎_elim, Bool, true, false, if◌then◌else◌, Option, Some}
-use Rattle.world_laws.proofs.Words.{List, [], ◌∷◌, ◌++◌, length, map, arith, slice_get, Side, A, B, ReassemblyCall, Arriving, received, new_arriving, Duty, Ask}
-use Rattle.world_laws.proofs.Words.{Note, Reply, books_in, SixBooks, reassembly_of, reply_of, after_ask, after_reassembly_call, is_nil, pick, AppDuty, AppState}
+use Rattle.world_laws.proofs.Words.{◌≡◌, refl, sym, ◌∙◌, ap, subst, ℕ, ◌+◌, ◌≤◌, not, inl, inr, ◌⊎◌, ⊎_elim, true, false, if◌then◌else◌, Option, Some, List, []}
+use Rattle.world_laws.proofs.Words.{◌∷◌, ◌++◌, length, map, arith, slice_get, Side, A, B, ReassemblyCall, Arriving, received, new_arriving, Duty, Ask, Note}
+use Rattle.world_laws.proofs.Words.{Reply, books_in, SixBooks, reassembly_of, reply_of, after_ask, after_reassembly_call, is_nil, pick, AppDuty, AppState}
 use Rattle.world_laws.proofs.Words.{fresh_turn, start_of_app, app_ask, bytes_in, app_reads_on, app_settled, app_takes, untouched, first_app_turn, AbortReceive}
 use Rattle.world_laws.proofs.Words.{Codec, ask_for, Start, opened_world, WorldState, Turn, all_over, greatest, begins, end_round, world_run, note_of, is_going}
 use Rattle.world_laws.proofs.Words.{BeginsRound, InEachRound, ReadersCaughtUp, notes_of, output_of, read_by}
@@ -20,8 +20,7 @@ use Rattle.world_laws.proofs.Worlds.Casts.{Walker, Cast, Fare, world_of, after_a
 -- ---- a step of an application at the book of its side
 
 own_after : (s : Side) (call : ReassemblyCall) (six : SixBooks) → reassembly_of s (after_reassembly_call s call six) ≡ after_call (reassembly_of s six) call
-own_after A call six = refl
-own_after B call six = refl
+own_after = elim [ A ↦ λ call six. refl | B ↦ λ call six. refl ]
 
 module _ (arrived read : ℕ) (six : SixBooks) (notes : List Note) (n : Note) where
   abbrev book_after : AppDuty → AppState → Arriving
@@ -235,11 +234,8 @@ module _ {C : Type 0} (k : Codec C) (start : Start) where
   ReadersAt v t = Readers k start t × (t.books ≡ v.books)
 
   same_books : (v : WorldState C) → (end_round v).books ≡ v.books
-  same_books v = by (all_over v.crew)
-    where
-      by : (b : Bool) → (if b then record v { crew = map (begins (greatest 0 v.crew)) v.crew } else v).books ≡ v.books
-      by true = refl
-      by false = refl
+  same_books v = elim (all_over v.crew) as (λ b. (if b then record v { crew = map (begins (greatest 0 v.crew)) v.crew } else v).books ≡ v.books)
+      [ true ↦ refl | false ↦ refl ]
 
   begun_has : (u : WorldState C) → BeginsRound k start u → Has start (CaughtSince (books_in u.books)) u
   begun_has u (BeginsRound.First is) = subst (λ w. Has start (CaughtSince (books_in w.books)) w) (sym is) opened_has
@@ -253,8 +249,7 @@ module _ {C : Type 0} (k : Codec C) (start : Start) where
       (subst (λ books. Has start (CaughtSince (books_in books)) (end_round v)) (sym (same_books v)) ended)
 
   over_nil : (ds : List AppDuty) → not (is_nil ds) ≡ false → ds ≡ []
-  over_nil [] over = refl
-  over_nil (d ∷ ds) over = cc
+  over_nil = elim [ [] ↦ λ over. refl | d ∷ ds ↦ λ over. cc ]
 
   all_read : (arrived read : ℕ) (a : AppState) (notes : List Note) (b : Arriving) → not (is_nil a.agenda) ≡ false → Caught arrived read a notes b → (arrived ≤ length (read_by notes)) ⊎ WasStopped notes
   all_read arrived read a notes b over h =

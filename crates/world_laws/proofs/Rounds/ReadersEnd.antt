@@ -47,8 +47,7 @@ same_done ds a notes (IsReaderDone.Enough most) = IsReaderDone.Enough most
 same_done ds a notes (IsReaderDone.Nothing last) = IsReaderDone.Nothing last
 
 same_ready : (d : AppDuty) (ds es : List AppDuty) (a : AppState) (notes : List Note) → Ready (d ∷ ds) a notes → Ready (d ∷ ds) (record a { agenda = es }) notes
-same_ready End ds es a notes h = (h.0, same_read es a notes h.1)
-same_ready _ ds es a notes h = h
+same_ready = elim [ End ↦ λ ds es a notes h. (h.0, same_read es a notes h.1) | _ ↦ λ ds es a notes h. h ]
 
 -- ---- settling
 
@@ -63,18 +62,15 @@ settled_ready (d ∷ ds) a notes h = by (app_stands d a) refl (λ none. settled_
   where
     by : (b : Bool) → app_stands d a ≡ b → (app_stands d a ≡ false → Ready (app_settled ds a).agenda (app_settled ds a) notes)
         → Ready (if b then record a { agenda = d ∷ ds } else app_settled ds a).agenda (if b then record a { agenda = d ∷ ds } else app_settled ds a) notes
-    by true is rest = same_ready d ds (d ∷ ds) a notes h
-    by false is rest = rest is
+    by = elim [ true ↦ λ is rest. same_ready d ds (d ∷ ds) a notes h | false ↦ λ is rest. rest is ]
 
 -- ---- a read
 
 or_true : (b : Bool) → (b || true) ≡ true
-or_true true = refl
-or_true false = refl
+or_true = elim [ true ↦ refl | false ↦ refl ]
 
 some_there : (bytes : List ℕ) → 1 ≤ length bytes → not (is_nil bytes) ≡ false → ⊥
-some_there [] some is = omega (arith, some)
-some_there (byte ∷ bytes) some is = cc
+some_there = elim [ [] ↦ λ some is. omega (arith, some) | byte ∷ bytes ↦ λ some is. cc ]
 
 -- after a reply that ends the reading
 read_ends : (a : AppState) (ds : List AppDuty) (notes : List Note) (n : Note) (max : ℕ) (r : ReassemblyReply) → n.reply ≡ Reply.Reassembly r → IsReassemblyKind (ReassemblyCall.Read max) r

@@ -105,8 +105,7 @@ with_flag B flag refused A = refused A
 with_flag B flag refused B = flag
 
 own_flag : (s : Side) (flag : Bool) (refused : Side → Bool) → with_flag s flag refused s ≡ flag
-own_flag A flag refused = refl
-own_flag B flag refused = refl
+own_flag = elim [ A ↦ λ flag refused. refl | B ↦ λ flag refused. refl ]
 
 never_on : {X : Type 0} → false ≡ true → X
 never_on is = absurd (false≢true is)
@@ -183,28 +182,14 @@ module _ (path written_a written_b : ℕ) (steps : List Note) (n : Note) (refuse
     heard_both : (s : Side) (ask : Ask) → IsHeardAsk path s ask → Asks (with_flag s false refused) freed (after_ask ask six)
     heard_both A (Ask.Send A call) is = heard_call A call is
     heard_both B (Ask.Send B call) is = heard_call B call is
-    heard_both A (Ask.Send B call) is = other_side call is
-      where
-        other_side : (call : SendCall) → IsHeardAsk path A (Ask.Send B call) → Asks (with_flag A false refused) freed (after_send_call B call six)
-        other_side (SendCall.AckIn next window) is = (let never : B ≡ A = is in cc)
-        other_side (SendCall.GoInfinite asker) is = (let never : B ≡ A = is.0 in cc)
-        other_side _ is = absurd is
-    heard_both B (Ask.Send A call) is = other_side call is
-      where
-        other_side : (call : SendCall) → IsHeardAsk path B (Ask.Send A call) → Asks (with_flag B false refused) freed (after_send_call A call six)
-        other_side (SendCall.AckIn next window) is = (let never : A ≡ B = is in cc)
-        other_side (SendCall.GoInfinite asker) is = (let never : A ≡ B = is.0 in cc)
-        other_side _ is = absurd is
-    heard_both s (Ask.Reassembly t call) is = lowered_with s
-      where
-        lowered_with : (s : Side) → Asks (with_flag s false refused) freed (after_ask (Ask.Reassembly t call) six)
-        lowered_with A = record { a = (lowered A).a; b = (lowered A).b }
-        lowered_with B = record { a = (lowered B).a; b = (lowered B).b }
-    heard_both s (Ask.Control t call) is = lowered_with s
-      where
-        lowered_with : (s : Side) → Asks (with_flag s false refused) freed (after_ask (Ask.Control t call) six)
-        lowered_with A = record { a = (lowered A).a; b = (lowered A).b }
-        lowered_with B = record { a = (lowered B).a; b = (lowered B).b }
+    heard_both A (Ask.Send B call) is = (elim call as (λ call. IsHeardAsk path A (Ask.Send B call) → Asks (with_flag A false refused) freed (after_send_call B call six))
+        [ SendCall.AckIn next window ↦ λ is. (let never : B ≡ A = is in cc) | SendCall.GoInfinite asker ↦ λ is. (let never : B ≡ A = is.0 in cc) | _ ↦ λ is. absurd is ]) is
+    heard_both B (Ask.Send A call) is = (elim call as (λ call. IsHeardAsk path B (Ask.Send A call) → Asks (with_flag B false refused) freed (after_send_call A call six))
+        [ SendCall.AckIn next window ↦ λ is. (let never : A ≡ B = is in cc) | SendCall.GoInfinite asker ↦ λ is. (let never : A ≡ B = is.0 in cc) | _ ↦ λ is. absurd is ]) is
+    heard_both s (Ask.Reassembly t call) is = elim s as (λ s. Asks (with_flag s false refused) freed (after_ask (Ask.Reassembly t call) six))
+        [ A ↦ record { a = (lowered A).a; b = (lowered A).b } | B ↦ record { a = (lowered B).a; b = (lowered B).b } ]
+    heard_both s (Ask.Control t call) is = elim s as (λ s. Asks (with_flag s false refused) freed (after_ask (Ask.Control t call) six))
+        [ A ↦ record { a = (lowered A).a; b = (lowered A).b } | B ↦ record { a = (lowered B).a; b = (lowered B).b } ]
     heard_both s (Ask.Local step) is = lowered s
 
   -- A grant: what other paths freed before is of no account any more.
@@ -244,12 +229,10 @@ abbrev pub freed_then : (Side → ℕ) → Ask → Reply → (Side → Bool) →
 freed_then edges ask reply freed s = freed s || frees_bytes s (edges s) ask reply
 
 freed_before : (b c : Bool) → b || c ≡ false → b ≡ false
-freed_before true c is = is
-freed_before false c is = refl
+freed_before = elim [ true ↦ λ c is. is | false ↦ λ c is. refl ]
 
 freed_after : (b c : Bool) → b || c ≡ false → c ≡ false
-freed_after true c is = absurd (false≢true (sym is))
-freed_after false c is = is
+freed_after = elim [ true ↦ λ c is. absurd (false≢true (sym is)) | false ↦ λ c is. is ]
 
 same_freeing : (s : Side) (edge : ℕ) (b : Sending) (call : SendCall) → frees_bytes s edge (Ask.Send s call) (Reply.Send (reply_to b call)) ≡ is_freeing edge b call
 same_freeing A edge b (SendCall.AckIn next window) = refl
@@ -386,8 +369,7 @@ module _ {C : Type 0} (k : Codec C) (p : PathState C) (written_a written_b : ℕ
   first_needs d ds f = (and_parts (needs d ds) (is_followed ds) f).0
 
   own_data : (s : Side) (ds : List Duty) → is_owed s (Duty.Step (StepDuty.Data s) ∷ ds) ≡ true
-  own_data A ds = refl
-  own_data B ds = refl
+  own_data = elim [ A ↦ λ ds. refl | B ↦ λ ds. refl ]
 
   other_each : (s : Side) (xs : List Duty) (flag : Bool) → ((t : Side) → Pays (Here xs) xs refused t) → (t : Side) → (t ≡ s → ⊥) → Pays (Here xs) xs (with_flag s flag refused) t
   other_each A xs flag each A apart = absurd (apart refl)

@@ -17,8 +17,7 @@ pub record IsMarked (b : Sending) : Type 0 where
   pub whole : length b.marks ≡ length b.written
 
 either_marked : (c : Bool) (x y : Sending) → IsMarked x → IsMarked y → IsMarked (if c then x else y)
-either_marked true x y p q = p
-either_marked false x y p q = q
+either_marked = elim [ true ↦ λ x y p q. p | false ↦ λ x y p q. q ]
 
 given_marked : (path max : ℕ) (standby : Bool) (b : Sending) → IsMarked b → (r : Result Span Why) → send.decision path max standby b ≡ r
     → IsMarked (send.given_by path r b)
@@ -117,8 +116,7 @@ send_kind b (SendCall.Grant path max standby) h some = granted_kind path max sta
 send_kind b (SendCall.AckIn next window) h some = by (send.is_future next b)
   where
     by : (c : Bool) → IsSendKind (SendCall.AckIn next window) (if c then SendReply.AckFuture (length b.written) else SendReply.Acked (min next (length b.written) - acked_len b.marks) (send.fin_after next b))
-    by true = tt
-    by false = tt
+    by = elim [ true ↦ tt | false ↦ tt ]
 send_kind b (SendCall.Return path) h some = tt
 send_kind b SendCall.GoIdentity h some = tt
 send_kind b (SendCall.GoInfinite path) h some =
@@ -146,11 +144,8 @@ reassembly_kind b (ReassemblyCall.Place at bytes) = by (reassembly.reaches_past 
     by true o = tt
     by false None = tt
     by false (Some e) = tt
-reassembly_kind b (ReassemblyCall.Fin at) = by (reassembly.fin_clash b.known_end at b)
-  where
-    by : (o : Option ℕ) → IsReassemblyKind (ReassemblyCall.Fin at) (reassembly.fin_reply_by o at)
-    by None = tt
-    by (Some e) = tt
+reassembly_kind b (ReassemblyCall.Fin at) = elim (reassembly.fin_clash b.known_end at b) as (λ o. IsReassemblyKind (ReassemblyCall.Fin at) (reassembly.fin_reply_by o at))
+    [ None ↦ tt | Some e ↦ tt ]
 reassembly_kind b (ReassemblyCall.Read max) = reading_kind b.aborted max b
 reassembly_kind b ReassemblyCall.AckOut = tt
 reassembly_kind b (ReassemblyCall.Abort by_peer) = tt

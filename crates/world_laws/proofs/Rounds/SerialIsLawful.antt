@@ -14,26 +14,19 @@ module _ {C : Type 0} where
   -- ---- a step leaves the other actors as they are
 
   pub other_stays : (k : Codec C) (actor i : ℕ) (w : WorldState C) → (i ≡ actor → ⊥) → slice_get (world_step k actor w).crew i ≡ slice_get w.crew i
-  other_stays k actor i w apart = by (slice_get w.crew actor)
+  other_stays k actor i w apart = elim (slice_get w.crew actor) as (λ o. slice_get (stepped k actor o w).crew i ≡ slice_get w.crew i)
+      [ None ↦ refl | Some c ↦ asks c (member_asks k c.member) ]
     where
       asks : (c : ActorCrew C) (o : Option Ask) → slice_get (asked k actor o c w).crew i ≡ slice_get w.crew i
       asks c None = refl
       asks c (Some x) = set_other w.crew actor (crew_after k x w.books c) i apart
 
-      by : (o : Option (ActorCrew C)) → slice_get (stepped k actor o w).crew i ≡ slice_get w.crew i
-      by None = refl
-      by (Some c) = asks c (member_asks k c.member)
-
   pub as_many : (k : Codec C) (actor : ℕ) (w : WorldState C) → length (world_step k actor w).crew ≡ length w.crew
-  as_many k actor w = by (slice_get w.crew actor)
+  as_many k actor w = elim (slice_get w.crew actor) as (λ o. length (stepped k actor o w).crew ≡ length w.crew) [ None ↦ refl | Some c ↦ asks c (member_asks k c.member) ]
     where
       asks : (c : ActorCrew C) (o : Option Ask) → length (asked k actor o c w).crew ≡ length w.crew
       asks c None = refl
       asks c (Some x) = length-set w.crew actor (crew_after k x w.books c)
-
-      by : (o : Option (ActorCrew C)) → length (stepped k actor o w).crew ≡ length w.crew
-      by None = refl
-      by (Some c) = asks c (member_asks k c.member)
 
   others_stay : (k : Codec C) (actor n i : ℕ) (w : WorldState C) → (i ≡ actor → ⊥) → slice_get (after_steps k actor n w).crew i ≡ slice_get w.crew i
   others_stay k actor zero i w apart = refl
@@ -51,11 +44,8 @@ module _ {C : Type 0} where
 
   all_over_from : (crew : List (ActorCrew C)) → ((i : ℕ) → goes (slice_get crew i) ≡ false) → all_over crew ≡ true
   all_over_from [] over = refl
-  all_over_from (c ∷ crew) over = by (is_over c.member) (over 0) (all_over_from crew (λ i. over (suc i)))
-    where
-      by : (b : Bool) → not b ≡ false → all_over crew ≡ true → (b && all_over crew) ≡ true
-      by true first rest = rest
-      by false first rest = absurd (true≢false first)
+  all_over_from (c ∷ crew) over = (elim (is_over c.member) as (λ b. not b ≡ false → all_over crew ≡ true → (b && all_over crew) ≡ true)
+      [ true ↦ λ first rest. rest | false ↦ λ first rest. absurd (true≢false first) ]) (over 0) (all_over_from crew (λ i. over (suc i)))
 
   -- with one actor more
   over_with : (k : Codec C) (actor n : ℕ) (w : WorldState C) → IsTurn k actor n w → ((i : ℕ) → i < actor → is_going i w ≡ false) → (j : ℕ) → j < suc actor

@@ -8,10 +8,8 @@ use Rattle.world_laws.proofs.Words.{ActorCrew, member_asks, member_takes, member
 use Rattle.world_laws.proofs.Words.{all_over, greatest, begins, end_round, after_turn, world_run, answer_to, outcome_of, OneOf, IsTurn, AreTurns, after_turns}
 use Rattle.world_laws.proofs.Words.{after_round, AreRounds}
 use Rattle.stream_apps.proofs.AppEnds.{app_turn_ends}
-use Rattle.path_agenda.specs.Weights.{weights}
 use Rattle.path_core.proofs.Lowering.{answered_lowers}
 use Rattle.path_core.proofs.Passed.{settled_lower}
-use Rattle.path_core.proofs.Ranking.{Calm}
 use Rattle.path_core.proofs.TurnEnds.{turn_ends}
 use Rattle.world_laws.proofs.Worlds.Settled.{settled_settled}
 use Rattle.world_laws.specs.Serial.{goes_on, after_steps}
@@ -35,8 +33,7 @@ app_asks [] a x is = cc
 app_asks (d ∷ ds) a x is = subst AsksSome (same_Some (app_ask d a) x is) (app_asks_some d a)
 
 some_app : (ds : List AppDuty) (a : AppState) (x : Ask) → app_asks_first ds a ≡ Some x → is_nil ds ≡ false
-some_app [] a x is = cc
-some_app (d ∷ ds) a x is = refl
+some_app = elim [ [] ↦ λ a x is. cc | d ∷ ds ↦ λ a x is. refl ]
 
 -- ---- a path
 
@@ -51,11 +48,8 @@ no_rounds = []
 
 module _ {C : Type 0} where
   settled_time : (ds : List Duty) (q : PathState C) → TakesTime q → TakesTime (settled ds q)
-  settled_time ds q t = by (settled_lower ds q t)
-    where
-      by : ((weights (settled ds q).agenda < weights ds) × Calm q (settled ds q)) ⊎ (settled ds q ≡ with_agenda ds q) → TakesTime (settled ds q)
-      by (inl less) = less.1.time
-      by (inr same) = subst TakesTime (sym same) (record { delay = t.delay; timer_a = t.timer_a; timer_b = t.timer_b })
+  settled_time ds q t = elim (settled_lower ds q t)
+      [ inl less ↦ less.1.time | inr same ↦ subst TakesTime (sym same) (record { delay = t.delay; timer_a = t.timer_a; timer_b = t.timer_b }) ]
 
   takes_steady : (k : Codec C) (p : PathState C) (r : Reply) (x : Ask) (ds : List Duty) → p.agenda ≡ ds → asks_first k ds p ≡ Some x → IsOfKind x r
       → IsSteadyPath p → IsSteadyPath (takes k r p)
@@ -68,11 +62,7 @@ module _ {C : Type 0} where
       let q : PathState C = answers k p.agenda r p in
       let time : TakesTime q = subst (λ xs. TakesTime (answers k xs r p)) (sym agenda) lower.time in
       let kept = takes_keeps k r p in
-      record {
-        time = settled_time q.agenda q time;
-        first = settled_settled q.agenda q;
-        payload = subst (λ c. 1 ≤ payload_size c) (sym kept.1) h.payload;
-      }
+      record { time = settled_time q.agenda q time; first = settled_settled q.agenda q; payload = subst (λ c. 1 ≤ payload_size c) (sym kept.1) h.payload }
 
   pub begun_steady : (p : PathState C) → TakesTime p → 1 ≤ payload_size p.profile → IsSteadyPath (begins_turn p)
   begun_steady p t some =
@@ -154,15 +144,12 @@ module _ {C : Type 0} where
       }
 
   pub step_steady : (k : Codec C) (actor : ℕ) (w : WorldState C) → IsSteadyWorld w → IsSteadyWorld (world_step k actor w)
-  step_steady k actor w h = by (slice_get w.crew actor) refl
+  step_steady k actor w h = (elim (slice_get w.crew actor) as (λ o. slice_get w.crew actor ≡ o → IsSteadyWorld (stepped k actor o w))
+      [ None ↦ λ there. h | Some c ↦ λ there. asks c there (member_asks k c.member) refl ]) refl
     where
       asks : (c : ActorCrew C) → slice_get w.crew actor ≡ Some c → (o : Option Ask) → member_asks k c.member ≡ o → IsSteadyWorld (asked k actor o c w)
       asks c there None is = h
       asks c there (Some x) is = asked_steady k actor w c x there is h
-
-      by : (o : Option (ActorCrew C)) → slice_get w.crew actor ≡ o → IsSteadyWorld (stepped k actor o w)
-      by None there = h
-      by (Some c) there = asks c there (member_asks k c.member) refl
 
   pub round_steady : (w : WorldState C) → IsSteadyWorld w → IsSteadyWorld (end_round w)
   round_steady w h = by (all_over w.crew)
@@ -212,11 +199,8 @@ module _ {C : Type 0} where
       (suc rest.0, (ap goes there ∙ ap (λ y. not (is_over y)) same ∙ ap not going, subst (IsTurn k actor rest.0) (sym (is_step k actor w c x there asks)) rest.1))
 
   turn_at : (k : Codec C) (actor : ℕ) (w : WorldState C) → IsSteadyWorld w → (n : ℕ) × IsTurn k actor n w
-  turn_at k actor w h = by (slice_get w.crew actor) refl
-    where
-      by : (o : Option (ActorCrew C)) → slice_get w.crew actor ≡ o → (n : ℕ) × IsTurn k actor n w
-      by None there = (0, ap goes there)
-      by (Some c) there = turn_from k actor w c c.member there refl h (ends_turn k c.member (h.crew.each actor c there))
+  turn_at k actor w h = (elim (slice_get w.crew actor) as (λ o. slice_get w.crew actor ≡ o → (n : ℕ) × IsTurn k actor n w)
+      [ None ↦ λ there. (0, ap goes there) | Some c ↦ λ there. turn_from k actor w c c.member there refl h (ends_turn k c.member (h.crew.each actor c there)) ]) refl
 
   turns_at : (k : Codec C) (more actor : ℕ) (w : WorldState C) → IsSteadyWorld w → (counts : List ℕ) × AreTurns k more actor counts w
   turns_at k zero actor w h = ([], refl)

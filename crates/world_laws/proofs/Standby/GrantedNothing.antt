@@ -30,11 +30,9 @@ free_push s before (note ∷ notes) n h free = (h.0, free_push s (standby_after 
 -- a path that stands by gets none
 no_backup : (path max : ℕ) (standby : Bool) (b : Sending) → is_grant (Reply.Send (reply_by (decision path max standby b) b)) ≡ true → standby ≡ false
 no_backup path max false b grants = refl
-no_backup path max true b grants = by (b.aborted || (b.closed && (acked_len b.marks == length b.written))) grants
-  where
-    by : (x : Bool) → is_grant (Reply.Send (reply_by (if x then Err Ended else Err Backup) b)) ≡ true → true ≡ false
-    by true grants = absurd (false≢true grants)
-    by false grants = absurd (false≢true grants)
+no_backup path max true b grants =
+    (elim (b.aborted || (b.closed && (acked_len b.marks == length b.written))) as (λ x. is_grant (Reply.Send (reply_by (if x then Err Ended else Err Backup) b)) ≡ true → true ≡ false)
+    [ true ↦ λ grants. absurd (false≢true grants) | false ↦ λ grants. absurd (false≢true grants) ]) grants
 
 module _ {C : Type 0} (k : Codec C) (six : SixBooks) (p : PathState C) where
   -- where this duty's ask is granted bytes, its end was told that the path doesn't stand by
@@ -65,11 +63,10 @@ module _ {C : Type 0} (k : Codec C) (six : SixBooks) (p : PathState C) where
   duty_free d s = other_free d tt s
 
   ask_free : (x : Ask) → asks_of k p ≡ Some x → (s : Side) → IsFree s x
-  ask_free x is s = by p.agenda refl
-    where
-      by : (ds : List Duty) → p.agenda ≡ ds → IsFree s x
-      by [] same = let never : None ≡ Some x = sym (ap (λ xs. asks_first k xs p) same) ∙ is in cc
-      by (d ∷ ds) same = subst (IsFree s) (same_Some (ask_for k d p) x (sym (ap (λ xs. asks_first k xs p) same) ∙ is)) (duty_free d s)
+  ask_free x is s = (elim p.agenda as (λ ds. p.agenda ≡ ds → IsFree s x) [
+    | [] ↦ λ same. let never : None ≡ Some x = sym (ap (λ xs. asks_first k xs p) same) ∙ is in cc
+    | d ∷ ds ↦ λ same. subst (IsFree s) (same_Some (ask_for k d p) x (sym (ap (λ xs. asks_first k xs p) same) ∙ is)) (duty_free d s)
+  ]) refl
 
 -- ---- an application neither looks nor asks for a grant
 
@@ -111,8 +108,7 @@ module _ {C : Type 0} (k : Codec C) where
       by y none = (at (looks s y) none.0, λ both. refl)
         where
           at : (b : Bool) → b ≡ false → false ≡ (if b then standby_told false (reply_of six y) else false)
-          at false is = refl
-          at true is = absurd (false≢true (sym is))
+          at = elim [ false ↦ λ is. refl | true ↦ λ is. absurd (false≢true (sym is)) ]
 
   member_asks_so : (six : SixBooks) (m : Actor C) (x : Ask) → member_asks k m ≡ Some x → Asks six m x
   member_asks_so six (App a) x is = app_asks six a a.agenda x is
@@ -159,11 +155,8 @@ module _ {C : Type 0} (k : Codec C) where
       knows number plan B = (begins_kept (waiting_path {C = C} (path_begins start number plan) start.lines)).b
 
   notes_free : (w : WorldState C) → AllFree w → BackupsGetNothing w
-  notes_free w h s actor = by (slice_get w.crew actor) refl
-    where
-      by : (o : Option (ActorCrew C)) → slice_get w.crew actor ≡ o → GrantsAreFree s false (notes_or o)
-      by None is = tt
-      by (Some c) is = (h actor c is).free s
+  notes_free w h s actor = (elim (slice_get w.crew actor) as (λ o. slice_get w.crew actor ≡ o → GrantsAreFree s false (notes_or o))
+      [ None ↦ λ is. tt | Some c ↦ λ is. (h actor c is).free s ]) refl
 
 pub backups_get_nothing : {C : Type 0} (k : Codec C) → Always k (λ start w. BackupsGetNothing w)
 backups_get_nothing k start turns = notes_free k (world_run k turns (opened_world start)) (run_free k turns (opened_world start) (opened_free k start))

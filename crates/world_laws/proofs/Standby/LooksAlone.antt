@@ -43,11 +43,7 @@ module _ {C : Type 0} where
   answered_kept k d other r p = kept_by (side_of d) (writes d) p _ refl refl (writes_no_more k d r p)
 
   keeps_lasts : Lasts (λ (p q : PathState C). Keeps p q)
-  keeps_lasts = record {
-    agenda = λ ds p. record { a = refl; b = refl };
-    chains = λ p q r x y. record { a = y.a ∙ x.a; b = y.b ∙ x.b };
-    passes = λ d p. passed_kept d p;
-  }
+  keeps_lasts = record { agenda = λ ds p. record { a = refl; b = refl }; chains = λ p q r x y. record { a = y.a ∙ x.a; b = y.b ∙ x.b }; passes = λ d p. passed_kept d p }
 
   settled_kept : (ds : List Duty) (p : PathState C) → Keeps p (settled ds p)
   settled_kept ds p = settled_lasts (λ p q. Keeps p q) keeps_lasts ds p
@@ -70,12 +66,10 @@ module _ {C : Type 0} where
   other_stands k d r p other t = kept t (answered_kept k d other r p) ∙ same (looks t (ask_for k d p)) (look_isn't t (ask_for k d p) (looks_none k p d other))
     where
       kept : (t : Side) → Keeps p (answered k d r p) → (end_at t (answered k d r p)).modes.standby ≡ (end_at t p).modes.standby
-      kept A h = h.a
-      kept B h = h.b
+      kept = elim [ A ↦ λ h. h.a | B ↦ λ h. h.b ]
 
       same : (b : Bool) → b ≡ false → (end_at t p).modes.standby ≡ (if b then standby_told (end_at t p).modes.standby r else (end_at t p).modes.standby)
-      same false none = refl
-      same true none = absurd (false≢true (sym none))
+      same = elim [ false ↦ λ none. refl | true ↦ λ none. absurd (false≢true (sym none)) ]
 
   answered_stands : (k : Codec C) (d : Duty) (r : Reply) (p : PathState C) → Stands k d r p
   answered_stands k (Duty.Step step) r p = step_stands step
@@ -92,8 +86,7 @@ module _ {C : Type 0} where
   takes_stands k x r p asks t = by p.agenda refl
     where
       kept : (t : Side) (q : PathState C) → Keeps q (settles_down q) → (end_at t (settles_down q)).modes.standby ≡ (end_at t q).modes.standby
-      kept A q h = h.a
-      kept B q h = h.b
+      kept = elim [ A ↦ λ q h. h.a | B ↦ λ q h. h.b ]
 
       by : (ds : List Duty) → p.agenda ≡ ds
           → (end_at t (settles_down (answers k ds r p))).modes.standby ≡ (if looks t x then standby_told (end_at t p).modes.standby r else (end_at t p).modes.standby)

@@ -23,8 +23,7 @@ ours_other : (n : Note) (i : ℕ) (order : List Note) → (i ≡ n.actor → ⊥
 ours_other n i order apart = ap (λ b. cond b (n ∷ ours i order) (ours i order)) (ne_eqb n.actor i (λ same. apart (sym same)))
 
 some_app : (ds : List AppDuty) (a : AppState) (x : Ask) → app_asks_first ds a ≡ Some x → is_nil ds ≡ false
-some_app [] a x is = cc
-some_app (d ∷ ds) a x is = refl
+some_app = elim [ [] ↦ λ a x is. cc | d ∷ ds ↦ λ a x is. refl ]
 
 same_list : {X : Type 0} (xs ys : List X) → length xs ≡ length ys → ((i : ℕ) (x y : X) → slice_get xs i ≡ Some x → slice_get ys i ≡ Some y → y ≡ x) → xs ≡ ys
 same_list [] [] many each = refl

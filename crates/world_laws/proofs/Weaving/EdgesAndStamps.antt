@@ -1,25 +1,20 @@
 -- The edges of send books, and the stamps of their journals, as asks are entered.
-use Rattle.world_laws.proofs.Words.{◌≡◌, refl, ◌∙◌, ap, ℕ, ◌≤◌, ◌&&◌, ◌||◌, nat_lt, Bool, true, false, if◌then◌else◌, Result, Ok, Err, [], ◌∷◌, arith, ◌<◌}
-use Rattle.world_laws.proofs.Words.{false≢true, ltb-false, Pass, entry_of, after_entering, next_stamp, last_stamp, last_stamp-append, Side, A, B, Span, Why}
-use Rattle.world_laws.proofs.Words.{SendCall, Sending, decision, given_by, is_future, is_gathered, AckIn, Ask, Reply, StampedBooks, stamp_of, after_entry}
-use Rattle.world_laws.proofs.Words.{SendJournal, SixBooks, send_of, after_ask, pick, asks_grant, frees_bytes}
+use Rattle.world_laws.proofs.Words.{◌≡◌, refl, ◌∙◌, ap, ℕ, ◌≤◌, ◌&&◌, ◌||◌, nat_lt, Bool, true, false, if◌then◌else◌, Ok, Err, [], ◌∷◌, arith, ◌<◌, false≢true}
+use Rattle.world_laws.proofs.Words.{ltb-false, Pass, entry_of, after_entering, next_stamp, last_stamp, last_stamp-append, Side, A, B, SendCall, Sending}
+use Rattle.world_laws.proofs.Words.{decision, given_by, is_future, is_gathered, AckIn, Ask, Reply, StampedBooks, stamp_of, after_entry, SendJournal, SixBooks}
+use Rattle.world_laws.proofs.Words.{send_of, after_ask, pick, asks_grant, frees_bytes}
 use Rattle.send_book.specs.declared.call.SendCall.TheVariants.{Write, Close, Grant, GoInfinite}
 use Rattle.send_book.specs.Steps.{reply_to, after_call}
 
 -- ---- edges
 
 either_edge : (c : Bool) (least : ℕ) (x y : Sending) → least ≤ x.edge → least ≤ y.edge → least ≤ (if c then x else y).edge
-either_edge true least x y h g = h
-either_edge false least x y h g = g
+either_edge = elim [ true ↦ λ least x y h g. h | false ↦ λ least x y h g. g ]
 
 call_edge : (b : Sending) (call : SendCall) → b.edge ≤ (after_call b call).edge
 call_edge b (Write bytes) = either_edge (b.closed || b.aborted) b.edge b _ (omega arith) (omega arith)
 call_edge b Close = either_edge b.aborted b.edge b _ (omega arith) (omega arith)
-call_edge b (Grant path most standby) = by (decision path most standby b)
-  where
-    by : (o : Result Span Why) → b.edge ≤ (given_by path o b).edge
-    by (Ok span) = omega arith
-    by (Err why) = omega arith
+call_edge b (Grant path most standby) = elim (decision path most standby b) as (λ o. b.edge ≤ (given_by path o b).edge) [ Ok span ↦ omega arith | Err why ↦ omega arith ]
 call_edge b (AckIn next window) = either_edge (is_future next b) b.edge b _ (omega arith) (omega arith)
 call_edge b (GoInfinite path) = either_edge (is_gathered path b) b.edge _ b (omega arith) (omega arith)
 call_edge b _ = omega arith
@@ -85,11 +80,8 @@ freeing_entered B edge (Ask.Local step) reply pass books is = absurd (false≢tr
 -- ---- tests
 
 pub lt_true : (a b : ℕ) → a < b → nat_lt a b ≡ true
-lt_true a b below = by (nat_lt a b) refl
-  where
-    by : (c : Bool) → nat_lt a b ≡ c → c ≡ true
-    by true is = refl
-    by false is = let most = ltb-false a b is in absurd (omega (arith, below, most))
+lt_true a b below = (elim (nat_lt a b) as (λ c. nat_lt a b ≡ c → c ≡ true)
+    [ true ↦ λ is. refl | false ↦ λ is. let most = ltb-false a b is in absurd (omega (arith, below, most)) ]) refl
 
 pub both_true : {a b : Bool} → a ≡ true → b ≡ true → (a && b) ≡ true
 both_true {a} {b} first second = ap (λ c. c && b) first ∙ second

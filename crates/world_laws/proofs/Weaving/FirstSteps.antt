@@ -85,11 +85,8 @@ module _ {O C R : Type 0} (reply_to : O → C → R) (after : O → C → O) (ma
 
   -- a journal that gained nothing
   pub nothing_fits : (old new : Journaled O C R) → Fits [] old new → old ≡ new
-  nothing_fits old new h = by h.entries h.notes_are h.is
-    where
-      by : (entries : List (Entry C R)) → [] ≡ map make entries → new ≡ record old { journal = old.journal ++ entries } → old ≡ new
-      by [] notes_are is = sym (is ∙ ap (λ journal. record old { journal = journal }) (append-nil old.journal))
-      by (e ∷ entries) notes_are is = cc
+  nothing_fits old new h = (elim h.entries as (λ entries. [] ≡ map make entries → new ≡ record old { journal = old.journal ++ entries } → old ≡ new)
+      [ [] ↦ λ notes_are is. sym (is ∙ ap (λ journal. record old { journal = journal }) (append-nil old.journal)) | e ∷ entries ↦ λ notes_are is. cc ]) h.notes_are h.is
 
 -- ---- all six
 

@@ -91,8 +91,7 @@ of_book make number each entries n there =
     let found = in_mapped make entries n there in ap (λ m. book_of_ask m.ask) (sym found.2) ∙ each found.0
 
 not_local : (ask : Ask) (number : ℕ) → book_of_ask ask ≡ number → number < 6 → is_local ask ≡ false
-not_local (Ask.Local step) number is small = absurd (omega (arith, is, small))
-not_local _ number is small = refl
+not_local = elim [ Ask.Local step ↦ λ number is small. absurd (omega (arith, is, small)) | _ ↦ λ number is small. refl ]
 
 module _ {C : Type 0} where
   -- ---- what an actor gained

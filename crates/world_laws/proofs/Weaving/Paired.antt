@@ -100,11 +100,8 @@ module _ {C : Type 0} where
   }
 
   pub step_fine : (k : Codec C) (actor top : ℕ) (w : WorldState C) → IsFine top w → IsFine top (world_step k actor w)
-  step_fine k actor top w h = by (slice_get w.crew actor) refl
-    where
-      by : (o : Option (ActorCrew C)) → slice_get w.crew actor ≡ o → IsFine top (stepped k actor o w)
-      by None there = h
-      by (Some c) there = asked_fine k actor top (member_asks k c.member) c w there h
+  step_fine k actor top w h = (elim (slice_get w.crew actor) as (λ o. slice_get w.crew actor ≡ o → IsFine top (stepped k actor o w))
+      [ None ↦ λ there. h | Some c ↦ λ there. asked_fine k actor top (member_asks k c.member) c w there h ]) refl
 
   -- ---- the end of a round
 
@@ -149,11 +146,8 @@ module _ {C : Type 0} where
   }
 
   pub round_fine : (top : ℕ) (w : WorldState C) → IsFine top w → IsFine (top_after Turn.Round w top) (end_round w)
-  round_fine top w h = by (all_over w.crew)
-    where
-      by : (b : Bool) → IsFine (if b then greatest 0 w.crew else top) (if b then record w { crew = map (begins (greatest 0 w.crew)) w.crew } else w)
-      by true = begun_fine top w h
-      by false = h
+  round_fine top w h = elim (all_over w.crew) as (λ b. IsFine (if b then greatest 0 w.crew else top) (if b then record w { crew = map (begins (greatest 0 w.crew)) w.crew } else w))
+      [ true ↦ begun_fine top w h | false ↦ h ]
 
   -- where each turn was over, by the greatest stamp as the round ended, which each actor knows then
   pub ended_fine : (top : ℕ) (w : WorldState C) → all_over w.crew ≡ true → IsFine top w → IsFine (greatest 0 w.crew) (end_round w)
@@ -180,11 +174,8 @@ module _ {C : Type 0} where
 
   -- the end of a round leaves the greatest stamp
   pub greatest_ended : (w : WorldState C) → greatest 0 (end_round w).crew ≡ greatest 0 w.crew
-  greatest_ended w = by (all_over w.crew)
-    where
-      by : (b : Bool) → greatest 0 (if b then record w { crew = map (begins (greatest 0 w.crew)) w.crew } else w).crew ≡ greatest 0 w.crew
-      by true = greatest_begun w.crew
-      by false = refl
+  greatest_ended w = elim (all_over w.crew) as (λ b. greatest 0 (if b then record w { crew = map (begins (greatest 0 w.crew)) w.crew } else w).crew ≡ greatest 0 w.crew)
+      [ true ↦ greatest_begun w.crew | false ↦ refl ]
 
   -- ---- all turns
 

@@ -64,14 +64,7 @@ chained_more top known notes n h is rises local = record {
 
 -- a round begins: the actor knows the greatest stamp
 pub chained_anew : (top : ℕ) (notes : List Note) → Every (λ n. n.stamp ≤ top) notes → IsChainedAbove top top notes
-chained_anew top notes below = record {
-  earlier = notes;
-  later = [];
-  parts = sym (append-nil notes);
-  below = below;
-  chained = tt;
-  known_is = refl;
-}
+chained_anew top notes below = record { earlier = notes; later = []; parts = sym (append-nil notes); below = below; chained = tt; known_is = refl }
 
 -- ---- journals
 

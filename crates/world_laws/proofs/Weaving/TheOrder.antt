@@ -95,19 +95,13 @@ filter_in test (x ∷ xs) n there passes = by (test x) refl (λ later. filter_in
 
 pub filter_climbs : (test : Note → Bool) (xs : List Note) → Climbs xs → Climbs (filter test xs)
 filter_climbs test [] h = tt
-filter_climbs test (x ∷ xs) h = by (test x) (filter_climbs test xs h.1)
-  where
-    by : (b : Bool) → Climbs (filter test xs) → Climbs (cond b (x ∷ filter test xs) (filter test xs))
-    by true rest = ((λ y there. h.0 y (in_filter test xs y there).0), rest)
-    by false rest = rest
+filter_climbs test (x ∷ xs) h = (elim (test x) as (λ b. Climbs (filter test xs) → Climbs (cond b (x ∷ filter test xs) (filter test xs)))
+    [ true ↦ λ rest. ((λ y there. h.0 y (in_filter test xs y there).0), rest) | false ↦ λ rest. rest ]) (filter_climbs test xs h.1)
 
 filter_stamps : (test : Note → Bool) (xs : List Note) → StampsClimb xs → StampsClimb (filter test xs)
 filter_stamps test [] h = tt
-filter_stamps test (x ∷ xs) h = by (test x) (filter_stamps test xs h.1)
-  where
-    by : (b : Bool) → StampsClimb (filter test xs) → StampsClimb (cond b (x ∷ filter test xs) (filter test xs))
-    by true rest = ((λ y there. h.0 y (in_filter test xs y there).0), rest)
-    by false rest = rest
+filter_stamps test (x ∷ xs) h = (elim (test x) as (λ b. StampsClimb (filter test xs) → StampsClimb (cond b (x ∷ filter test xs) (filter test xs)))
+    [ true ↦ λ rest. ((λ y there. h.0 y (in_filter test xs y there).0), rest) | false ↦ λ rest. rest ]) (filter_stamps test xs h.1)
 
 -- ---- two lists that climb and have the same notes are one
 
@@ -163,7 +157,10 @@ with_in x n (y ∷ notes) there = by (comes_first x y) (λ h. with_in x n notes 
 
 with_climbs : (x : Note) (notes : List Note) → Climbs notes → ((y : Note) → In y notes → Before x y ⊎ Before y x) → Climbs (with_note x notes)
 with_climbs x [] h either = ((λ y none. absurd none), tt)
-with_climbs x (y ∷ notes) h either = by (comes_first x y) refl (with_climbs x notes h.1 (λ z there. either z (inr there)))
+with_climbs x (y ∷ notes) h either = (elim (comes_first x y) as (λ b. comes_first x y ≡ b → Climbs (with_note x notes) → Climbs (if b then x ∷ y ∷ notes else y ∷ with_note x notes)) [
+  | true ↦ λ is rest. (sooner (first_before x y is), h)
+  | false ↦ λ is rest. ((λ z there. later (second_of is (either y (inl refl))) z (in_with x z notes there)), rest)
+]) refl (with_climbs x notes h.1 (λ z there. either z (inr there)))
   where
     later : Before y x → (z : Note) → (x ≡ z) ⊎ In z notes → Before y z
     later first z (inl same) = subst (Before y) same first
@@ -176,10 +173,6 @@ with_climbs x (y ∷ notes) h either = by (comes_first x y) refl (with_climbs x 
     second_of : comes_first x y ≡ false → Before x y ⊎ Before y x → Before y x
     second_of is (inl sooner_one) = absurd (not_first x y is sooner_one)
     second_of is (inr second) = second
-
-    by : (b : Bool) → comes_first x y ≡ b → Climbs (with_note x notes) → Climbs (if b then x ∷ y ∷ notes else y ∷ with_note x notes)
-    by true is rest = (sooner (first_before x y is), h)
-    by false is rest = ((λ z there. later (second_of is (either y (inl refl))) z (in_with x z notes there)), rest)
 
 -- ---- an actor's notes more
 

@@ -186,15 +186,12 @@ module _ {C : Type 0} where
       }
 
   pub step_working : (k : Codec C) (top actor : ℕ) (w v : WorldState C) → Working k top w v → Working k top w (world_step k actor v)
-  step_working k top actor w v h = by (slice_get v.crew actor) refl (step_fine k actor top v h.fine)
+  step_working k top actor w v h = (elim (slice_get v.crew actor) as (λ o. slice_get v.crew actor ≡ o → IsFine top (stepped k actor o v) → Working k top w (stepped k actor o v))
+      [ None ↦ λ there fine. h | Some d ↦ λ there fine. asks d there (member_asks k d.member) refl fine ]) refl (step_fine k actor top v h.fine)
     where
       asks : (d : ActorCrew C) → slice_get v.crew actor ≡ Some d → (o : Option Ask) → member_asks k d.member ≡ o → IsFine top (asked k actor o d v) → Working k top w (asked k actor o d v)
       asks d there None is fine = h
       asks d there (Some x) is fine = asked_working k top w v actor d x h there is fine
-
-      by : (o : Option (ActorCrew C)) → slice_get v.crew actor ≡ o → IsFine top (stepped k actor o v) → Working k top w (stepped k actor o v)
-      by None there fine = h
-      by (Some d) there fine = asks d there (member_asks k d.member) refl fine
 
   pub worked : (k : Codec C) (top : ℕ) (w v : WorldState C) → Working k top w v → Worked k top w v
   worked k top w v h = record { crew = h.crew; books = h.books; paired = h.fine.paired top }

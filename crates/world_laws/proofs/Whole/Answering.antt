@@ -51,8 +51,7 @@ fell_fewer s d ds r p =
 -- ---- what the edge passes
 
 none_if : (b : Bool) (o : Option KeptMapping) → o ≡ None → (if b then None else o) ≡ None
-none_if true o none = refl
-none_if false o none = none
+none_if = elim [ true ↦ λ o none. refl | false ↦ λ o none. none ]
 
 none_at : (v : Mappings) (edge : ℕ) → v.live ≡ [] → mapping_at v edge ≡ None
 none_at v edge none = none_if (nat_lt edge v.forgotten) _ (rw none refl)
@@ -176,11 +175,9 @@ module _ (d : Duty) (ds : List Duty) (p : PathState Carried) (h : PathIs (d ∷ 
   no_infinite place (suc index) position (x ∷ items) none is = no_infinite place index position items (or_parts (is_infinite_item x) (list_any is_infinite_item items) none).1 is
 
   never_infinite : (s : Side) (index place : ℕ) (position : Option ℕ) → item_of index (end_at s p) ≡ Some (Heard.InfiniteMapping place position) → ⊥
-  never_infinite s index place position is = by (end_at s p).modes.identity is
-    where
-      by : (b : Bool) → (if b then None else item_at index (end_at s p).treated.items) ≡ Some (Heard.InfiniteMapping place position) → ⊥
-      by true none = cc
-      by false found = no_infinite place index position (end_at s p).treated.items (end_is s (d ∷ ds) (with_agenda (d ∷ ds) p) h).base.treated.finite found
+  never_infinite s index place position is =
+      (elim (end_at s p).modes.identity as (λ b. (if b then None else item_at index (end_at s p).treated.items) ≡ Some (Heard.InfiniteMapping place position) → ⊥)
+      [ true ↦ λ none. cc | false ↦ λ found. no_infinite place index position (end_at s p).treated.items (end_is s (d ∷ ds) (with_agenda (d ∷ ds) p) h).base.treated.finite found ]) is
 
   learned_so : (s : Side) (r : Reply) → (end_at s p).modes.clear ≡ true → Steps s (with_agenda (d ∷ ds) p) (with_learned (after_fell FallEvent.MappingHeard r (end_at s p)))
   learned_so s r clear = fell_so (λ n. Steps s (with_agenda (d ∷ ds) p) (with_learned (record (end_at s p) { modes = n }))) FallEvent.MappingHeard r (end_at s p).modes
@@ -229,8 +226,7 @@ module _ (d : Duty) (ds : List Duty) (p : PathState Carried) (h : PathIs (d ∷ 
   refusal_is s os v finite = reset_like p.profile s (end_at s p) (end_at (peer s) p).tcp.send v (outgoing_or (end_at s p).treated.answer (reset_segment (end_at s p).tcp)) os (by (end_at s p).treated.answer (end_is s (d ∷ ds) (with_agenda (d ∷ ds) p) h).base.treated.answer) finite
     where
       by : (o : Option Outgoing) → IfSome o (λ (x : Outgoing). x.rst ≡ true) → (outgoing_or o (reset_segment (end_at s p).tcp)).rst ≡ true
-      by None is = refl
-      by (Some x) is = is
+      by = elim [ None ↦ λ is. refl | Some x ↦ λ is. is ]
 
   module _ (s : Side) (plain : Plain (end_at s p)) (speaks : Speaks s (end_at s p)) where
     low : (e : PathEnd) → ((end_at s p).modes.clear ≡ true) ⊎ NoneBelow (end_at s p).tcp.recv.edge (end_at (peer s) p).tcp.send
@@ -462,11 +458,8 @@ settle_holds q leads (Next d ds p now calm does passes) = subst (λ xs. Holds (s
     by false is = passes is
 
 pub asks_calmly : (p : PathState Carried) → IsSettled p → Holds p → (x : Ask) → asks_of values p ≡ Some x → IsCalm x
-asks_calmly p stood (Now q h) x is = by p.agenda stood h is
-  where
-    by : (ds : List Duty) → FirstStands ds (with_agenda ds p) → PathIs ds (with_agenda ds p) → asks_first values ds (with_agenda ds p) ≡ Some x → IsCalm x
-    by [] stood h is = cc
-    by (d ∷ ds) stood h is = subst IsCalm (same_Some _ x is) (first_calm d ds p stood h)
+asks_calmly p stood (Now q h) x is = (elim p.agenda as (λ ds. FirstStands ds (with_agenda ds p) → PathIs ds (with_agenda ds p) → asks_first values ds (with_agenda ds p) ≡ Some x → IsCalm x)
+    [ [] ↦ λ stood h is. cc | d ∷ ds ↦ λ stood h is. subst IsCalm (same_Some _ x is) (first_calm d ds p stood h) ]) stood h is
 asks_calmly p stood (Next d ds q now calm does passes) x is =
     subst IsCalm (same_Some _ x (subst (λ xs. asks_first values xs p ≡ Some x) now is)) (calm (subst (λ xs. FirstStands xs p) now stood))
 
@@ -475,11 +468,8 @@ takes_holds r p stood leads plain holds =
     settle_holds (answers values p.agenda r p) (answers_lead values r p stood leads) (by holds)
   where
     by : Holds p → Holds (answers values p.agenda r p)
-    by (Now q h) = at p.agenda stood leads h
-      where
-        at : (ds : List Duty) → FirstStands ds (with_agenda ds p) → Leads ds (with_agenda ds p) → PathIs ds (with_agenda ds p) → Holds (answers values ds r (with_agenda ds p))
-        at [] stood leads h = Now _ h
-        at (d ∷ ds) stood leads h = answered_holds d ds r p (record { a = plain.a; b = plain.b; waits = plain.waits }) stood leads h
+    by (Now q h) = (elim p.agenda as (λ ds. FirstStands ds (with_agenda ds p) → Leads ds (with_agenda ds p) → PathIs ds (with_agenda ds p) → Holds (answers values ds r (with_agenda ds p)))
+        [ [] ↦ λ stood leads h. Now _ h | d ∷ ds ↦ λ stood leads h. answered_holds d ds r p (record { a = plain.a; b = plain.b; waits = plain.waits }) stood leads h ]) stood leads h
     by (Next d ds q now calm does passes) = subst (λ xs. Holds (answers values xs r p)) (sym now) (does (subst (λ xs. FirstStands xs p) now stood) r)
 
 -- whatever is left to do

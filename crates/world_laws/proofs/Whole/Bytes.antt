@@ -28,10 +28,7 @@ pub record NoneAt (n : ℕ) (v : SendState) : Type 0 where
 
 -- below the next position none lies then
 pub none_below_next : (n : ℕ) (v : SendState) → NoneBelow n v → NoneAt n v → NoneBelow (suc n) v
-none_below_next n v below at = record {
-  reached = at.reached;
-  above = record { each = λ i r there. by r (below.above.each i r there) (at.beside.each i r there) };
-}
+none_below_next n v below at = record { reached = at.reached; above = record { each = λ i r there. by r (below.above.each i r there) (at.beside.each i r there) } }
   where
     by : (r : Record) → IsAbove n r → IsBeside n r → IsAbove (suc n) r
     by r (inl none) beside = inl none

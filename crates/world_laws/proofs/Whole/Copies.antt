@@ -73,8 +73,7 @@ may_write A Fin e speaks = speaks
 may_write B kind e speaks = speaks
 
 fail_finite : (o : Option ℕ) → list_any is_infinite_option (map meant_option (fail_options o)) ≡ false
-fail_finite None = refl
-fail_finite (Some place) = refl
+fail_finite = elim [ None ↦ refl | Some place ↦ refl ]
 
 -- an end that didn't fall back, on path 0: it may send a DSS, or no byte of the other side lies below its edge
 module _ (c : Profile) (s : Side) (e : PathEnd) (vs vt : SendState) (first : is_joined c ≡ false) (mapped : e.modes.identity ≡ false) (own : e.modes.own_infinite ≡ None)
@@ -83,11 +82,7 @@ module _ (c : Profile) (s : Side) (e : PathEnd) (vs vt : SendState) (first : is_
   Says sg = HeardIs s vs vt (meant sg)
 
   unclear_low : e.modes.clear ≡ false → NoneBelow e.tcp.recv.edge vs
-  unclear_low unclear = by low
-    where
-      by : (e.modes.clear ≡ true) ⊎ NoneBelow e.tcp.recv.edge vs → NoneBelow e.tcp.recv.edge vs
-      by (inl clear) = absurd (both_ways e.modes.clear unclear clear)
-      by (inr below) = below
+  unclear_low unclear = elim low [ inl clear ↦ absurd (both_ways e.modes.clear unclear clear) | inr below ↦ below ]
 
   -- options of a segment that acknowledges the edge
   record Tells (os : List PlainOption) : Type 0 where
@@ -111,15 +106,11 @@ module _ (c : Profile) (s : Side) (e : PathEnd) (vs vt : SendState) (first : is_
       said = segment_of c (record { position = position; acknowledged = (if none then None else Some e.tcp.recv.edge); syn = false; fin = fin; rst = false; length = len }) os payload e
 
       some : (t : Side) → (s ≡ A → is_nil (map meant_option os) ≡ false) → OptionIs s (meant said)
-      some t all = one s refl all
-        where
-          one : (t : Side) → s ≡ t → (s ≡ A → is_nil (map meant_option os) ≡ false) → OptionIs t (meant said)
-          one A same all = all same
-          one B same all = carries
+      some t all = (elim s as (λ t. s ≡ t → (s ≡ A → is_nil (map meant_option os) ≡ false) → OptionIs t (meant said))
+          [ A ↦ λ same all. all same | B ↦ λ same all. carries ]) refl all
 
       by : (b : Bool) → NoneBelow e.tcp.recv.edge vs → IfSome (acknowledged_in (option_map (λ n. At n) (if b then None else Some e.tcp.recv.edge))) (λ n. NoneBelow n vs)
-      by true below = tt
-      by false below = below
+      by = elim [ true ↦ λ below. tt | false ↦ λ below. below ]
 
   quiet : (position : ℕ) (os : List PlainOption) → Tells os → Says (segment_of c (ack_at position e.tcp) os [] e)
   quiet position os tells = told position false false 0 os [] tells (λ is. absurd (false≢true is)) (inl refl)
@@ -133,8 +124,7 @@ module _ (c : Profile) (s : Side) (e : PathEnd) (vs vt : SendState) (first : is_
   fin_tells (Some place) os finite = record { some = λ is. refl; acks = λ none. absurd (false≢true (sym none)); finite = finite }
 
   beside_finite : (o : Option ℕ) → list_any is_infinite_option (map meant_option (fail_beside o e.modes)) ≡ false
-  beside_finite None = fail_finite _
-  beside_finite (Some place) = refl
+  beside_finite = elim [ None ↦ fail_finite _ | Some place ↦ refl ]
 
   key_tells : (t : Side) → s ≡ t → (o : Option ℕ) → e.modes.clear ≡ false → (s ≡ A → is_some o ≡ true) → Tells (key_options c t o e)
   key_tells A is (Some key) unclear has = record { some = λ same. refl; acks = λ none. unclear_low unclear; finite = refl }
@@ -218,18 +208,17 @@ module _ (c : Profile) (s : Side) (e : PathEnd) (vs vt : SendState) (first : is_
   first_of_a B same b at clear is = absurd (false≢true is)
 
   mapped_tells : (r : Record) → Speaks s e → Tells (mapped_options c s r e)
-  mapped_tells r speaks = by (is_first_piece s r e) refl
-    where
-      by : (b : Bool) → is_first_piece s r e ≡ b → Tells (if b then first_piece_options c e.modes.peer_key r e else Dss (Some e.receiving.next) (Some (piece_mapping c s r)) ∷ [])
-      by true is = let a = first_of_a s refl e.modes.clear (r.pos == 1) refl is in first_tells e.modes.peer_key r a.1 (has_key speaks a.0)
-      by false is = record { some = λ same. refl; acks = λ none. absurd (false≢true (sym none)); finite = refl }
+  mapped_tells r speaks =
+      (elim (is_first_piece s r e) as (λ b. is_first_piece s r e ≡ b → Tells (if b then first_piece_options c e.modes.peer_key r e else Dss (Some e.receiving.next) (Some (piece_mapping c s r)) ∷ [])) [
+        | true ↦ λ is. let a = first_of_a s refl e.modes.clear (r.pos == 1) refl is in first_tells e.modes.peer_key r a.1 (has_key speaks a.0)
+        | false ↦ λ is. record { some = λ same. refl; acks = λ none. absurd (false≢true (sym none)); finite = refl }
+      ]) refl
 
   mapped_some : (r : Record) → Speaks s e → is_nil (map meant_option (mapped_options c s r e)) ≡ false
   mapped_some r speaks = by (is_first_piece s r e) refl
     where
       first_some : (o : Option ℕ) → is_some o ≡ true → is_nil (map meant_option (first_piece_options c o r e)) ≡ false
-      first_some (Some peer) has = refl
-      first_some None has = absurd (false≢true has)
+      first_some = elim [ Some peer ↦ λ has. refl | None ↦ λ has. absurd (false≢true has) ]
 
       by : (b : Bool) → is_first_piece s r e ≡ b → is_nil (map meant_option (if b then first_piece_options c e.modes.peer_key r e else Dss (Some e.receiving.next) (Some (piece_mapping c s r)) ∷ [])) ≡ false
       by true is = let a = first_of_a s refl e.modes.clear (r.pos == 1) refl is in first_some e.modes.peer_key (has_key speaks a.0)
@@ -292,7 +281,8 @@ module _ (c : Profile) (s : Side) (e : PathEnd) (vs vt : SendState) (first : is_
       by false false false = ack_is (e.tcp.send.una - 1) None speaks
 
   pub resend_is : IfSome (first_record e) MaySay → Speaks s e ⊎ (is_some (first_record e) && has_records e.tcp ≡ true) → Says (resend_said c s e)
-  resend_is may speaks = by (has_records e.tcp) refl
+  resend_is may speaks = (elim (has_records e.tcp) as (λ b. has_records e.tcp ≡ b → Says (if b then record_or_ack c s (first_record e) e else ack_resent c s e))
+      [ true ↦ λ is. record_or_ack_is (first_record e) may (λ none. none_then none speaks) | false ↦ λ is. ack_resent_is (empty_then is speaks) ]) refl
     where
       none_then : first_record e ≡ None → Speaks s e ⊎ (is_some (first_record e) && has_records e.tcp ≡ true) → Speaks s e
       none_then none (inl so) = so
@@ -301,10 +291,6 @@ module _ (c : Profile) (s : Side) (e : PathEnd) (vs vt : SendState) (first : is_
       empty_then : has_records e.tcp ≡ false → Speaks s e ⊎ (is_some (first_record e) && has_records e.tcp ≡ true) → Speaks s e
       empty_then empty (inl so) = so
       empty_then empty (inr both) = absurd (both_ways (has_records e.tcp) empty (and_parts (is_some (first_record e)) (has_records e.tcp) both).1)
-
-      by : (b : Bool) → has_records e.tcp ≡ b → Says (if b then record_or_ack c s (first_record e) e else ack_resent c s e)
-      by true is = record_or_ack_is (first_record e) may (λ none. none_then none speaks)
-      by false is = ack_resent_is (empty_then is speaks)
 
 -- ---- resets
 

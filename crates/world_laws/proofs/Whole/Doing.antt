@@ -27,8 +27,7 @@ pub record PathPlain (p : PathState Carried) : Type 0 where
   pub waits : is_waiting p.a.tcp.state ≡ false
 
 pub plain_at : (s : Side) (p : PathState Carried) → PathPlain p → Plain (end_at s p)
-plain_at A p h = h.a
-plain_at B p h = h.b
+plain_at = elim [ A ↦ λ p h. h.a | B ↦ λ p h. h.b ]
 
 -- ---- states
 
@@ -59,19 +58,15 @@ first_some now [] some = some
 first_some now (r ∷ rs) some = refl
 
 pub expired_some : (rs : List Record) → is_nil rs ≡ false → is_nil (expired_records rs) ≡ false
-expired_some [] some = some
-expired_some (r ∷ rs) some = refl
+expired_some = elim [ [] ↦ λ some. some | r ∷ rs ↦ λ some. refl ]
 
 fins_some : (now : ℕ) (rs : List Record) → is_nil rs ≡ false → is_nil (map (fin_sent now) rs) ≡ false
 fins_some now [] some = some
 fins_some now (r ∷ rs) some = refl
 
 sent_some : (o : Occasion) (now : ℕ) (s : EndState) → is_nil s.send.records ≡ false → is_nil (after_sending o now s).send.records ≡ false
-sent_some Occasion.SynAck now s some = by (s.send.una == 0)
-  where
-    by : (b : Bool) → is_nil (if b then after_resent now s.send else s.send).records ≡ false
-    by true = first_some now s.send.records some
-    by false = some
+sent_some Occasion.SynAck now s some = elim (s.send.una == 0) as (λ b. is_nil (if b then after_resent now s.send else s.send).records ≡ false)
+    [ true ↦ first_some now s.send.records some | false ↦ some ]
 sent_some Occasion.First now s some = first_some now s.send.records some
 sent_some Occasion.Unsent now s some = unsent_some now s.send.records some
 sent_some Occasion.Fin now s some = fins_some now s.send.records some
@@ -193,8 +188,7 @@ module _ (s : Side) (ds : List Duty) (p : PathState Carried) (h : PathIs ds p) w
         (⊎_elim (λ knows. inl knows) (λ opens. inr (some_first e.tcp.send.records opens.1.some)) voice)
       where
         some_first : (rs : List Record) → is_nil rs ≡ false → (is_some (slice_get rs 0) && is_some_record rs) ≡ true
-        some_first [] some = absurd (false≢true (sym some))
-        some_first (r ∷ rs) some = refl
+        some_first = elim [ [] ↦ λ some. absurd (false≢true (sym some)) | r ∷ rs ↦ λ some. refl ]
 
     -- the FIN behind all, where none was sent
     pub fin_step : may_finish e.tcp.state ≡ true → Steps s p (having_sent_fin s p)

@@ -65,8 +65,7 @@ is_spared w =
     && (not w.peer_infinite && (not w.copy && not w.held_edge))))))))))
 
 un : (b : Bool) → not b ≡ true → b ≡ false
-un false is = refl
-un true is = absurd (false≢true is)
+un = elim [ false ↦ λ is. refl | true ↦ λ is. absurd (false≢true is) ]
 
 same_parts : (a a2 : SendState) (b b2 : Receiving) (c c2 : Option ℕ) (d d2 : EndPhase) (e e2 : Timing) (f f2 : Mappings) (g g2 : Bool) (h h2 : Option ℕ) (i i2 : Bool) (j j2 : Option InfiniteMapping) (k k2 : Treated) (l l2 : Option ℕ)
     → a2 ≡ a → b2 ≡ b → c2 ≡ c → d2 ≡ d → e2 ≡ e → f2 ≡ f → g2 ≡ g → h2 ≡ h → i2 ≡ i → j2 ≡ j → k2 ≡ k → l2 ≡ l
@@ -197,12 +196,8 @@ is_heeded (Meaning.Accepts acknowledged) = false
 is_heeded _ = true
 
 pub means_so : (c : Copy) (s : EndState) → MeansIs c s (meaning_of c s)
-means_so c s = by (meaning_of c s) (means c s)
-  where
-    by : (m : Meaning) → Means c s m → MeansIs c s m
-    by (Meaning.Accepts acknowledged) is = (is.0, (is.1.0, is.1.1.0))
-    by (Meaning.Taken pos acknowledged) is = (is.0, (is.1.0, (is.1.1.0, (is.1.1.1.0, is.1.1.1.1.0))))
-    by _ is = is
+means_so c s = (elim (meaning_of c s) as (λ m. Means c s m → MeansIs c s m)
+    [ Meaning.Accepts acknowledged ↦ λ is. (is.0, (is.1.0, is.1.1.0)) | Meaning.Taken pos acknowledged ↦ λ is. (is.0, (is.1.0, (is.1.1.0, (is.1.1.1.0, is.1.1.1.1.0)))) | _ ↦ λ is. is ]) (means c s)
 
 -- ---- an end of which little changes
 
@@ -232,8 +227,7 @@ ack_finite (Some None) window = refl
 ack_finite (Some (Some next)) window = if_so (λ z. list_any is_infinite_item z ≡ false) (nat_lt next (2 ^ 62)) (Heard.DataAck next window ∷ []) [] refl refl
 
 if_finite : (b : Bool) (item : Heard) → is_infinite_item item ≡ false → list_any is_infinite_item (if b then item ∷ [] else []) ≡ false
-if_finite true item none = ap (λ x. x || false) none
-if_finite false item none = refl
+if_finite = elim [ true ↦ λ item none. ap (λ x. x || false) none | false ↦ λ item none. refl ]
 
 map_finite : (next : Option (Option ℕ)) (mapping : Option (PathMapping (Option ℕ))) → is_infinite_option (PathOption.Dss next mapping) ≡ false → list_any is_infinite_item (map_items mapping) ≡ false
 map_finite next None none = refl
@@ -278,18 +272,10 @@ items_finite s window (o ∷ os) none =
 
 -- a SYN of B's that shows a key has an option
 key_has_option : (h : HeardSegment) → SynIs B h → is_nil h.options ≡ false
-key_has_option h is = by h.options is
-  where
-    by : (os : List HeardOption) → SynIs B (record h { options = os }) → is_nil os ≡ false
-    by [] is = absurd (false≢true is)
-    by (o ∷ os) is = refl
+key_has_option h is = (elim h.options as (λ os. SynIs B (record h { options = os }) → is_nil os ≡ false) [ [] ↦ λ is. absurd (false≢true is) | o ∷ os ↦ λ is. refl ]) is
 
 asks_has_option : (h : HeardSegment) → SynIs A h → is_nil h.options ≡ false
-asks_has_option h is = by h.options is
-  where
-    by : (os : List HeardOption) → SynIs A (record h { options = os }) → is_nil os ≡ false
-    by [] is = absurd (false≢true is)
-    by (o ∷ os) is = refl
+asks_has_option h is = (elim h.options as (λ os. SynIs A (record h { options = os }) → is_nil os ≡ false) [ [] ↦ λ is. absurd (false≢true is) | o ∷ os ↦ λ is. refl ]) is
 
 -- the copy `h` comes to this end, whose side `s` is, from the other one, which sent `vs`
 module _ (s : Side) (vs : SendState) (h : HeardSegment) (e : PathEnd) (told : List KeptMapping) (answer : Outgoing) (now : ℕ) (resets : answer.rst ≡ true)
@@ -315,25 +301,17 @@ module _ (s : Side) (vs : SendState) (h : HeardSegment) (e : PathEnd) (told : Li
     apart : is_apart s y.state ≡ false
 
   acked_sends : (n : ℕ) (x : EndState) → Remains x.send (after_acknowledgement n now x).send
-  acked_sends n x = by (ack_kind n x.send)
-    where
-      by : (kind : AckKind) → Remains x.send (after_ack_kind kind (sample_of n x.send) now (record x { send = after_acknowledge n x.send })).send
-      by (AckKind.New octets) = acknowledged_remains x.send n
-      by _ = acknowledged_remains x.send n
+  acked_sends n x = elim (ack_kind n x.send) as (λ kind. Remains x.send (after_ack_kind kind (sample_of n x.send) now (record x { send = after_acknowledge n x.send })).send)
+      [ AckKind.New octets ↦ acknowledged_remains x.send n | _ ↦ acknowledged_remains x.send n ]
 
   acked_recv : (n : ℕ) (x : EndState) → ((after_acknowledgement n now x).recv ≡ x.recv) × ((after_acknowledgement n now x).fin_at ≡ x.fin_at)
-  acked_recv n x = by (ack_kind n x.send)
-    where
-      by : (kind : AckKind) → let y = after_ack_kind kind (sample_of n x.send) now (record x { send = after_acknowledge n x.send }) in (y.recv ≡ x.recv) × (y.fin_at ≡ x.fin_at)
-      by (AckKind.New octets) = (refl, refl)
-      by _ = (refl, refl)
+  acked_recv n x =
+      elim (ack_kind n x.send) as (λ kind. let y = after_ack_kind kind (sample_of n x.send) now (record x { send = after_acknowledge n x.send }) in (y.recv ≡ x.recv) × (y.fin_at ≡ x.fin_at))
+      [ AckKind.New octets ↦ (refl, refl) | _ ↦ (refl, refl) ]
 
   not_apart : (x y : EndPhase) → (is_apart s y ≡ true → is_apart s x ≡ true) → is_apart s x ≡ false → is_apart s y ≡ false
-  not_apart x y back none = by (is_apart s y) refl
-    where
-      by : (b : Bool) → is_apart s y ≡ b → b ≡ false
-      by true is = absurd (both_ways (is_apart s x) none (back is))
-      by false is = refl
+  not_apart x y back none = (elim (is_apart s y) as (λ b. is_apart s y ≡ b → b ≡ false)
+      [ true ↦ λ is. absurd (both_ways (is_apart s x) none (back is)) | false ↦ λ is. refl ]) refl
 
   abbrev hint : Hint
   hint = hint_of (items_of false s h)
@@ -411,8 +389,7 @@ module _ (s : Side) (vs : SendState) (h : HeardSegment) (e : PathEnd) (told : Li
   -- ---- what is still to be treated of it
 
   and_never : (b : Bool) → b && false ≡ false
-  and_never true = refl
-  and_never false = refl
+  and_never = elim [ true ↦ refl | false ↦ refl ]
 
   no_octets : (n : ℕ) (x : SendState) → NoneBelow n x → (b : Bool) (new : ℕ) → octets_acked (if b then Opened else Took (ack_kind n x) new h.fin) ≡ 0
   no_octets n x low true new = refl
@@ -426,17 +403,14 @@ module _ (s : Side) (vs : SendState) (h : HeardSegment) (e : PathEnd) (told : Li
 
   -- with a Data ACK nothing is acknowledged without one, and without it no byte
   acks_plainly : (pos n : ℕ) (x : EndState) → x.send ≡ e.tcp.send → Fits (Meaning.Taken pos n) → is_plain_ack (arrival_of (Meaning.Taken pos n) hint c x) h ≡ false
-  acks_plainly pos n x same fits = by (list_any has_data_ack h.options) refl
+  acks_plainly pos n x same fits = (elim (list_any has_data_ack h.options) as (λ b. list_any has_data_ack h.options ≡ b → nat_lt 0 octets && not b ≡ false)
+      [ true ↦ λ is. and_never (nat_lt 0 octets) | false ↦ λ is. ap (λ k. nat_lt 0 k && true) (no_octets n x.send (low is) (is_half_open x.state) (kept_new false pos h.payload x)) ]) refl
     where
       octets : ℕ
       octets = octets_acked (arrival_of (Meaning.Taken pos n) hint c x)
 
       low : list_any has_data_ack h.options ≡ false → NoneBelow n x.send
       low none = subst (λ v. NoneBelow n v) (sym same) (subst (λ (o : Option ℕ). IfSome o (λ k. NoneBelow k e.tcp.send)) fits.1.1.1.1 (said.acks fits.1.1.0 fits.1.0 none))
-
-      by : (b : Bool) → list_any has_data_ack h.options ≡ b → nat_lt 0 octets && not b ≡ false
-      by true is = and_never (nat_lt 0 octets)
-      by false is = ap (λ k. nat_lt 0 k && true) (no_octets n x.send (low is) (is_half_open x.state) (kept_new false pos h.payload x))
 
   plainly_held : (pos n : ℕ) (b : Bool) → Fits (Meaning.Taken pos n) → is_plain_ack (arrival_of (Meaning.Taken pos n) hint c (if b then e.tcp else after_holding pos h.payload e.tcp)) h ≡ false
   plainly_held pos n true fits = acks_plainly pos n e.tcp refl fits
@@ -449,17 +423,16 @@ module _ (s : Side) (vs : SendState) (h : HeardSegment) (e : PathEnd) (told : Li
   opened_optional B same state apart half syn rst = subst (λ t. OptionIs (peer t) h) same (said.option rst syn)
 
   syn_optional : (t : Side) → SynIs t h → is_nil h.options ≡ false
-  syn_optional A is = asks_has_option h is
-  syn_optional B is = key_has_option h is
+  syn_optional = elim [ A ↦ λ is. asks_has_option h is | B ↦ λ is. key_has_option h is ]
 
   -- a payload at the edge
   edge_optional : (t : Side) → s ≡ t → (pos edge : ℕ) → h.syn ≡ false → h.rst ≡ false → IfSome (edge_held (Meaning.Taken pos 0) h.payload edge) (λ k. not (is_nil h.options) ≡ true)
   edge_optional B same pos edge syn rst = some_later (λ k. Unit {0}) _ (edge_held (Meaning.Taken pos 0) h.payload edge) (λ k any. ap not (subst (λ t. OptionIs (peer t) h) same (said.option rst syn))) (any_some (edge_held (Meaning.Taken pos 0) h.payload edge))
     where
       any_some : (o : Option ℕ) → IfSome o (λ k. Unit {0})
-      any_some None = tt
-      any_some (Some k) = tt
-  edge_optional A same pos edge syn rst = by (subst (λ t. OptionIs (peer t) h) same (said.option rst syn))
+      any_some = elim [ None ↦ tt | Some k ↦ tt ]
+  edge_optional A same pos edge syn rst = elim (subst (λ t. OptionIs (peer t) h) same (said.option rst syn))
+      [ inl nil ↦ at (nat_le pos edge && nat_lt edge (pos + length h.payload)) refl nil | inr some ↦ optional (nat_le pos edge && nat_lt edge (pos + length h.payload)) some ]
     where
       at : (b : Bool) → (nat_le pos edge && nat_lt edge (pos + length h.payload)) ≡ b → is_nil h.payload ≡ true → IfSome (if b then Some edge else None) (λ k. not (is_nil h.options) ≡ true)
       at false is nil = tt
@@ -468,16 +441,10 @@ module _ (s : Side) (vs : SendState) (h : HeardSegment) (e : PathEnd) (told : Li
           let low = leb-true pos edge both.0 in let high = ltb-true edge (pos + length h.payload) both.1 in let none = nil_length h.payload nil in absurd (omega (arith, low, high, none))
         where
           nil_length : (xs : List ℕ) → is_nil xs ≡ true → length xs ≡ 0
-          nil_length [] nil = refl
-          nil_length (x ∷ xs) nil = absurd (false≢true nil)
+          nil_length = elim [ [] ↦ λ nil. refl | x ∷ xs ↦ λ nil. absurd (false≢true nil) ]
 
       optional : (b : Bool) → is_nil h.options ≡ false → IfSome (if b then Some edge else None) (λ k. not (is_nil h.options) ≡ true)
-      optional true some = ap not some
-      optional false some = tt
-
-      by : OptionIs B h → IfSome (edge_held (Meaning.Taken pos 0) h.payload edge) (λ k. not (is_nil h.options) ≡ true)
-      by (inl nil) = at (nat_le pos edge && nat_lt edge (pos + length h.payload)) refl nil
-      by (inr some) = optional (nat_le pos edge && nat_lt edge (pos + length h.payload)) some
+      optional = elim [ true ↦ λ some. ap not some | false ↦ λ some. tt ]
 
   treated_so : (t : Treated) (held : Option ℕ) → t.items ≡ items_of false s h → t.answer ≡ Some answer → t.plain_ack ≡ false → (t.opened ≡ true → t.has_option ≡ true)
       → IfSome held (λ edge. t.has_option ≡ true) → TreatedIs t held
@@ -561,8 +528,7 @@ module _ (s : Side) (vs : SendState) (h : HeardSegment) (e : PathEnd) (told : Li
   accepted_key n fits same = subst (λ t. SynIs (peer t) h) same (said.syn fits.1.1 fits.1.0)
 
   pub accepts_a : (n : ℕ) → Fits (Meaning.Accepts n) → s ≡ A
-  accepts_a n fits = by s refl
-    where
-      by : (t : Side) → s ≡ t → s ≡ A
-      by A same = same
-      by B same = absurd (both_ways (is_apart B EndPhase.SynSent) (subst (λ x. is_apart B x ≡ false) fits.0 (subst (λ t. is_apart t e.tcp.state ≡ false) same was.apart)) refl)
+  accepts_a n fits = (elim s as (λ t. s ≡ t → s ≡ A) [
+    | A ↦ λ same. same
+    | B ↦ λ same. absurd (both_ways (is_apart B EndPhase.SynSent) (subst (λ x. is_apart B x ≡ false) fits.0 (subst (λ t. is_apart t e.tcp.state ≡ false) same was.apart)) refl)
+  ]) refl

@@ -47,8 +47,7 @@ abbrev WasPlain : Fall → Fall → Type 0
 WasPlain f g = is_identity g.mode ≡ true → is_identity f.mode ≡ true
 
 row_plain : (b : Bool) (f : Fall) (x y : Fall × Verdict) → (b ≡ true → WasPlain f x.0) → (b ≡ false → WasPlain f y.0) → WasPlain f (if b then x else y).0
-row_plain true f x y one other = one refl
-row_plain false f x y one other = other refl
+row_plain = elim [ true ↦ λ f x y one other. one refl | false ↦ λ f x y one other. other refl ]
 
 receiving_plain : (m : Mode) → is_identity (receiving m) ≡ true → ⊥
 receiving_plain Mode.Starting is = false≢true is
@@ -98,11 +97,8 @@ MayCall _ f = Unit {0}
 call_plain : (c : Control) (call : ControlCall) → MayCall call c.fall → WasPlain c.fall (controlling.after c call).fall
 call_plain c (ControlCall.Fell path event) may = event_plain c.fall path (sole c.paths path) event may
 call_plain c ControlCall.FastClose may = λ now. absurd (false≢true now)
-call_plain c (ControlCall.FastHeard key) may = by (key == c.keys.own)
-  where
-    by : (b : Bool) → WasPlain c.fall (if b then controlling.after_event 0 false FallEvent.Stop c else c).fall
-    by true = λ now. absurd (false≢true now)
-    by false = λ now. now
+call_plain c (ControlCall.FastHeard key) may = elim (key == c.keys.own) as (λ b. WasPlain c.fall (if b then controlling.after_event 0 false FallEvent.Stop c else c).fall)
+    [ true ↦ λ now. absurd (false≢true now) | false ↦ λ now. now ]
 call_plain c call may = λ now. ap is_identity (sym (call_mode c call tt tt)) ∙ now
 
 -- what may be asked of these books
@@ -212,19 +208,17 @@ each_known start turns plain = record { each = λ actor c there. by actor c ther
         one p k = (fell, (k.is.waits, λ joins s spoken. (k.is.known (Voice.Says s) spoken joins).0))
           where
             fell : (s : Side) → (end_at s p).modes.identity ≡ true → Was is_identity t.books s
-            fell A is = (k.is.a.modes.fell is).1.1
-            fell B is = (k.is.b.modes.fell is).1.1
+            fell = elim [ A ↦ λ is. (k.is.a.modes.fell is).1.1 | B ↦ λ is. (k.is.b.modes.fell is).1.1 ]
 
     all : (actor : ℕ) (c : ActorCrew Carried) → slice_get w.crew actor ≡ Some c → CausesKnown w.books c.member
     all = let run = run_causes start turns in
         subst (λ (v : WorldState Carried). (actor : ℕ) (c : ActorCrew Carried) → slice_get v.crew actor ≡ Some c → CausesKnown v.books c.member) (sym run.is) (of_cast run.cast run.holds)
 
     by : (actor : ℕ) (c : ActorCrew Carried) → slice_get w.crew actor ≡ Some c → CausesKnown w.books c.member → MemberKnown w.books c.member
-    by actor c there known = at c.member ((each_passes start turns plain).each actor c there) known
-      where
-        at : (m : Actor Carried) → MemberPasses m → CausesKnown w.books m → MemberKnown w.books m
-        at (App a) passes known = tt
-        at (Path p) passes known = record { passes = passes; fell = known.0; waits = known.1.0; said = known.1.1 }
+    by actor c there known = (elim c.member as (λ m. MemberPasses m → CausesKnown w.books m → MemberKnown w.books m) [
+      | App a ↦ λ passes known. tt
+      | Path p ↦ λ passes known. record { passes = passes; fell = known.0; waits = known.1.0; said = known.1.1 }
+    ]) ((each_passes start turns plain).each actor c there) known
 
 -- what path 0 keeps from one moment to the next
 abbrev PathStands : PathState Carried → Type 0
@@ -251,11 +245,8 @@ not_now : (books : StampedBooks) (s : Side) → Never books → is_identity (con
 not_now books s never now = never s (was_now is_fallen_back books s (identity_falls (control_of s (books_in books)).fall.mode now))
 
 no_identity : (books : StampedBooks) (p : PathState Carried) → Never books → PathKnown books p → (s : Side) → (end_at s p).modes.identity ≡ false
-no_identity books p never known s = by (end_at s p).modes.identity refl
-  where
-    by : (b : Bool) → (end_at s p).modes.identity ≡ b → b ≡ false
-    by false is = refl
-    by true is = absurd (never s (was_wider is_identity is_fallen_back identity_falls books s (known.fell s is)))
+no_identity books p never known s = (elim (end_at s p).modes.identity as (λ b. (end_at s p).modes.identity ≡ b → b ≡ false)
+    [ false ↦ λ is. refl | true ↦ λ is. absurd (never s (was_wider is_identity is_fallen_back identity_falls books s (known.fell s is))) ]) refl
 
 path_plain : (books : StampedBooks) (p : PathState Carried) → Never books → PathKnown books p → is_joined p.profile ≡ false → PathPlain p
 path_plain books p never known first = record {
@@ -271,21 +262,15 @@ path_plain books p never known first = record {
 -- ---- a step
 
 member_may : (books : StampedBooks) (m : Actor Carried) (x : Ask) → member_asks values m ≡ Some x → MemberKnown books m → MemberStands m → MayAsk (books_in books) x
-member_may books (App a) x is known h = by a.agenda is
-  where
-    by : (ds : List AppDuty) → app_asks_first ds a ≡ Some x → MayAsk (books_in books) x
-    by [] is = cc
-    by (d ∷ ds) is = subst (MayAsk (books_in books)) (same_Some _ x is) (app_may (books_in books) d a)
-member_may books (Path p) x is known h = by (is_joined p.profile) refl
+member_may books (App a) x is known h = (elim a.agenda as (λ ds. app_asks_first ds a ≡ Some x → MayAsk (books_in books) x)
+    [ [] ↦ λ is. cc | d ∷ ds ↦ λ is. subst (MayAsk (books_in books)) (same_Some _ x is) (app_may (books_in books) d a) ]) is
+member_may books (Path p) x is known h = (elim (is_joined p.profile) as (λ b. is_joined p.profile ≡ b → MayAsk (books_in books) x)
+    [ true ↦ λ joins. joined p.agenda refl is joins | false ↦ λ first. calm_may (books_in books) x (asks_calmly p known.passes.settled (h first).1 x is) ]) refl
   where
     joined : (ds : List Duty) → p.agenda ≡ ds → asks_first values ds p ≡ Some x → is_joined p.profile ≡ true → MayAsk (books_in books) x
     joined [] same is joins = cc
     joined (d ∷ ds) same is joins =
         subst (MayAsk (books_in books)) (same_Some _ x is) (joined_may (books_in books) p d ds (λ s spoken. known.said joins s (subst (λ xs. speaks (Voice.Says s) xs ≡ true) (sym same) spoken)))
-
-    by : (b : Bool) → is_joined p.profile ≡ b → MayAsk (books_in books) x
-    by true joins = joined p.agenda refl is joins
-    by false first = calm_may (books_in books) x (asks_calmly p known.passes.settled (h first).1 x is)
 
 member_takes_stands : (books : StampedBooks) (m : Actor Carried) (r : Reply) → Never books → MemberKnown books m → MemberStands m → MemberStands (member_takes values r m)
 member_takes_stands books (App a) r never known h = tt
@@ -300,8 +285,7 @@ member_begins_stands (Path p) over h = λ first.
     let both = h (ap is_joined (sym (next_profile p)) ∙ first) in (next_leads p both.0, next_holds p (over_nil p.agenda over) both.0 both.1)
   where
     over_nil : (ds : List Duty) → is_nil ds ≡ true → ds ≡ []
-    over_nil [] is = refl
-    over_nil (d ∷ ds) is = absurd (false≢true is)
+    over_nil = elim [ [] ↦ λ is. refl | d ∷ ds ↦ λ is. absurd (false≢true is) ]
 
 abbrev Finite : WorldState Carried → Type 0
 Finite w = (s : Side) → is_infinite (control_of s (books_in w.books)).fall.mode ≡ false
@@ -368,14 +352,10 @@ first_is start plan plain whole = record {
     nothing_is = record { plain = refl; opens = λ is. absurd (false≢true is); holds = tt; finite = refl; answer = tt }
 
 opened_upright : (start : Start) → IsPlain start → IsWhole start → Upright (opened_world start)
-opened_upright start plain whole = record {
-  never = never;
-  crew = opened_lifted CrewStands start tt tt (λ number plan there. first_turn_is number plan);
-}
+opened_upright start plain whole = record { never = never; crew = opened_lifted CrewStands start tt tt (λ number plan there. first_turn_is number plan) }
   where
     never : Never (opened_world {C = Carried} start).books
-    never A was = false≢true was
-    never B was = false≢true was
+    never = elim [ A ↦ λ was. false≢true was | B ↦ λ was. false≢true was ]
 
     leads : (number : ℕ) (plan : PathPlan) → LeadsWell (waiting_path {C = Carried} (path_begins start number plan) start.lines)
     leads number plan = record { led = tt; clear = inr (record { n = 0; none = inr tt; follows = tt }) }

@@ -106,8 +106,7 @@ module _ (s : Side) (ds : List Duty) (p : PathState Carried) (h : PathIs ds p) w
       spoken t x same speaks = subst (MarkIs (with_end s (fired_end false) p)) (sym same) (by s speaks)
         where
           by : (u : Side) → Speaks u (end_at u p) → Speaks u (end_at u (with_end u (record (end_at u p) { tcp = after_expiry p.clock (end_at u p).tcp }) p))
-          by A speaks = speaks
-          by B speaks = speaks
+          by = elim [ A ↦ λ speaks. speaks | B ↦ λ speaks. speaks ]
 
 -- ---- A's SYN goes out again, whatever is given back
 
@@ -137,17 +136,14 @@ speaks_fired s ds p h up speaks = Now _ (path_any (template_fired false s) (temp
     (path_goes s ds (template_fired false s) p (fired_end s ds p h false) (fired_step s ds p h up false) (fired_fewer s ds p h false speaks) h))
 
 pub fired_holds : (s : Side) (ds : List Duty) (p : PathState Carried) → PathIs ds p → PathPlain p → is_up (end_at s p).tcp ≡ true → Holds (timer_fired s p)
-fired_holds A ds p h plain up = by (is_sixth p.a.tcp)
+fired_holds A ds p h plain up = elim (is_sixth p.a.tcp) as (λ b. Holds (goes_on A (fired_end A ds p h b) (template_fired b A) p))
+    [ true ↦ dies_fired A ds p h up | false ↦ ⊎_elim (λ knows. speaks_fired A ds p h up knows) (λ unmet. syn (opens_up A ds p h up unmet)) h.a.says ]
   where
     syn : Opens (parts_of p.a) → Holds (goes_on A (fired_end A ds p h false) (template_fired false A) p)
     syn opens =
         let f : PathEnd = fired_end A ds p h false in
         gives_back (goes_on A f (emission A) p) (goes_fewer A ds (emission A) p f (fired_step A ds p h up false) (new_fewer ds (emission A) (λ x. refl)) h)
         (record { identity = plain.a.identity; own = plain.a.own; unfinished = plain.a.unfinished }) (expired_opens A ds p h opens)
-
-    by : (b : Bool) → Holds (goes_on A (fired_end A ds p h b) (template_fired b A) p)
-    by true = dies_fired A ds p h up
-    by false = ⊎_elim (λ knows. speaks_fired A ds p h up knows) (λ unmet. syn (opens_up A ds p h up unmet)) h.a.says
 fired_holds B ds p h plain up = by (is_sixth p.b.tcp)
   where
     by : (b : Bool) → Holds (goes_on B (fired_end B ds p h b) (template_fired b B) p)
@@ -292,8 +288,7 @@ left_copies va vb None fs h = h
 left_copies va vb (Some place) fs h = record { each = λ k f at. let was = in_removed fs place k f at in h.each was.0 f was.1 }
 
 comes_to : (s : Side) (p : PathState Carried) (flight : Flight Carried) → CopyTo p.a.tcp.send p.b.tcp.send s flight → HeardIs (peer s) (end_at s p).tcp.send (end_at (peer s) p).tcp.send (meant (as_arrived flight.carried))
-comes_to A p flight copy = copy
-comes_to B p flight copy = copy
+comes_to = elim [ A ↦ λ p flight copy. copy | B ↦ λ p flight copy. copy ]
 
 options_same : (e : PathEnd) (heard : HeardSegment) → e.modes.identity ≡ false → options_heard e heard ≡ heard
 options_same e heard is = rw is refl

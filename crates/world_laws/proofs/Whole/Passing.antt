@@ -47,8 +47,7 @@ module _ (s : Side) (ds : List Duty) (p : PathState Carried) (h : PathIs ds p) w
   treated_is = (end_is s ds p h).base.treated
 
   either_step : (b : Bool) (f g : PathEnd) → Steps s p f → Steps s p g → Steps s p (if b then f else g)
-  either_step true f g one other = one
-  either_step false f g one other = other
+  either_step = elim [ true ↦ λ f g one other. one | false ↦ λ f g one other. other ]
 
   pub check_step : (checksums : Bool) → Steps s p (forgotten_by checksums (mapping_here e) e)
   check_step checksums = forgets_so (Steps s p) checksums (mapping_here e) e
@@ -56,8 +55,7 @@ module _ (s : Side) (ds : List Duty) (p : PathState Carried) (h : PathIs ds p) w
       (inr (refl, (refl, (⊎_elim (λ same. ap (λ (r : Receiving). r.edge) same) (λ cut. ap (λ (r : Receiving). r.edge) cut.1) forgets, refl)))) treated_is h)
 
   or_never : (b : Bool) → b || false ≡ b
-  or_never true = refl
-  or_never false = refl
+  or_never = elim [ true ↦ refl | false ↦ refl ]
 
   -- where it may send a DSS from now on
   pub cleared : (f : PathEnd) → (parts_of f).send ≡ x.send → (parts_of f).fin_at ≡ x.fin_at → (parts_of f).state ≡ x.state → (parts_of f).timing ≡ x.timing → (parts_of f).peer_infinite ≡ x.peer_infinite
@@ -78,11 +76,10 @@ module _ (s : Side) (ds : List Duty) (p : PathState Carried) (h : PathIs ds p) w
   pub heard_step : (o : Option Heard) → ((fin : Bool) → o ≡ Some (Heard.Mapping fin) → counts e ≡ true → e.modes.clear ≡ true) → Steps s p (item_passed s o e)
   heard_step None clears = same_step s ds p e refl h
   heard_step (Some Heard.Dss) clears = dss_step s refl
-  heard_step (Some (Heard.Mapping fin)) clears = by (counts e) refl
-    where
-      by : (b : Bool) → counts e ≡ b → Steps s p (if b then with_learned e else with_skipped e)
-      by true is = learned_step (clears fin refl is)
-      by false is = small_step s ds p (with_skipped e) refl refl refl refl refl refl (λ is. is) (inr (refl, (refl, (refl, refl)))) treated_is h
+  heard_step (Some (Heard.Mapping fin)) clears = (elim (counts e) as (λ b. counts e ≡ b → Steps s p (if b then with_learned e else with_skipped e)) [
+    | true ↦ λ is. learned_step (clears fin refl is)
+    | false ↦ λ is. small_step s ds p (with_skipped e) refl refl refl refl refl refl (λ is. is) (inr (refl, (refl, (refl, refl)))) treated_is h
+  ]) refl
   heard_step (Some (Heard.DataFin place)) clears = either_step (counts e) (with_data_fin place e) e (same_step s ds p (with_data_fin place e) refl h) (same_step s ds p e refl h)
   heard_step (Some (Heard.DataAck next window)) clears = same_step s ds p (item_passed s (Some (Heard.DataAck next window)) e) refl h
   heard_step (Some item) clears = same_step s ds p e refl h
@@ -183,5 +180,4 @@ settled_is (d ∷ ds) p leads h = by (stands d p) refl (λ none. settled_is ds (
   where
     by : (b : Bool) → stands d p ≡ b → (stands d p ≡ false → PathIs (settled ds (passed d p)).agenda (settled ds (passed d p)))
         → PathIs (if b then with_agenda (d ∷ ds) p else settled ds (passed d p)).agenda (if b then with_agenda (d ∷ ds) p else settled ds (passed d p))
-    by true is rest = path_any (d ∷ ds) (d ∷ ds) p h
-    by false is rest = rest is
+    by = elim [ true ↦ λ is rest. path_any (d ∷ ds) (d ∷ ds) p h | false ↦ λ is rest. rest is ]

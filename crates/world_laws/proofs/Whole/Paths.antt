@@ -74,8 +74,7 @@ by_itself (Mark.SaidBy B) A is = absurd (false≢true is)
 by_itself Mark.Never s is = absurd (false≢true is)
 
 pub itself : (s : Side) → same_side s s ≡ true
-itself A = refl
-itself B = refl
+itself = elim [ A ↦ refl | B ↦ refl ]
 
 -- ---- the path
 
@@ -92,8 +91,7 @@ MarkIs p (Mark.SaidBy s) = Speaks s (end_at s p)
 MarkIs p Mark.Never = ⊥
 
 pub speaks_at : (s : Side) (p : PathState Carried) (e : PathEnd) → Speaks s e → MarkIs (with_end s e p) (Mark.SaidBy s)
-speaks_at A p e speaks = speaks
-speaks_at B p e speaks = speaks
+speaks_at = elim [ A ↦ λ p e speaks. speaks | B ↦ λ p e speaks. speaks ]
 
 pub record PathIs (ds : List Duty) (p : PathState Carried) : Type 0 where
   pub first : is_joined p.profile ≡ false
@@ -106,8 +104,7 @@ pub record PathIs (ds : List Duty) (p : PathState Carried) : Type 0 where
   pub marked : (x : Mark) → marks x ds ≡ true → MarkIs p x
 
 pub end_is : (s : Side) (ds : List Duty) (p : PathState Carried) → PathIs ds p → EndIs s (end_at (peer s) p).tcp.send (parts_of (end_at s p))
-end_is A ds p h = h.a
-end_is B ds p h = h.b
+end_is = elim [ A ↦ λ ds p h. h.a | B ↦ λ ds p h. h.b ]
 
 -- nothing is done to a segment on its way
 unchanged : (from : Side) (number now : ℕ) (lines : List ScriptLine) → StripsNothing lines → AltersNothing lines → (carried : Carried)
@@ -268,8 +265,7 @@ keyed_kept s x y (inl clear) was same has = clear
 keyed_kept s x y (inr kept) was same has = kept.0 ∙ was same (ap is_some (sym kept.1.0) ∙ has)
 
 pub knows_kept : (s : Side) (x y : Parts) → (is_some x.peer_key ≡ true → is_some y.peer_key ≡ true) → y.asked ≡ x.asked → Knows s x.peer_key x.asked → Knows s y.peer_key y.asked
-knows_kept A x y key asked was = key was
-knows_kept B x y key asked was = asked ∙ was
+knows_kept = elim [ A ↦ λ x y key asked was. key was | B ↦ λ x y key asked was. asked ∙ was ]
 
 -- one that sent what it had sent, in the same state
 pub small_step : (s : Side) (ds : List Duty) (p : PathState Carried) (e : PathEnd) → let x = parts_of (end_at s p) in let y = parts_of e in

@@ -6,12 +6,10 @@ use Rattle.world_laws.proofs.Words.{all_over, greatest, begins, end_round, after
 use Rattle.world_laws.proofs.Words.{shown_crew, shown_member, shown_world}
 
 member_asks_same : (m : Actor Carried) → member_asks octets (shown_member m) ≡ member_asks values m
-member_asks_same (App a) = refl
-member_asks_same (Path p) = asks_the_same p
+member_asks_same = elim [ App a ↦ refl | Path p ↦ asks_the_same p ]
 
 over_same : (m : Actor Carried) → is_over (shown_member m) ≡ is_over m
-over_same (App a) = refl
-over_same (Path p) = refl
+over_same = elim [ App a ↦ refl | Path p ↦ refl ]
 
 crew_same : (ask : Ask) (books : StampedBooks) (c : ActorCrew Carried) → IsFreshMember c.member
     → crew_after octets ask books (shown_crew c) ≡ shown_crew (crew_after values ask books c)
@@ -63,11 +61,8 @@ greatest_same known [] = refl
 greatest_same known (c ∷ crew) = greatest_same (max known c.pass.stamp) crew
 
 begins_same : (stamp : ℕ) (c : ActorCrew Carried) → begins stamp (shown_crew c) ≡ shown_crew (begins stamp c)
-begins_same stamp c = by c.member
-  where
-    by : (m : Actor Carried) → begins stamp (record (shown_crew c) { member = shown_member m }) ≡ shown_crew (begins stamp (record c { member = m }))
-    by (App a) = refl
-    by (Path p) = ap (λ q. record (begins stamp (shown_crew c)) { member = Path q }) (begins_the_same p)
+begins_same stamp c = elim c.member as (λ m. begins stamp (record (shown_crew c) { member = shown_member m }) ≡ shown_crew (begins stamp (record c { member = m })))
+    [ App a ↦ refl | Path p ↦ ap (λ q. record (begins stamp (shown_crew c)) { member = Path q }) (begins_the_same p) ]
 
 begin_all_same : (stamp : ℕ) (crew : List (ActorCrew Carried)) → map (begins stamp) (map shown_crew crew) ≡ map shown_crew (map (begins stamp) crew)
 begin_all_same stamp [] = refl
@@ -88,8 +83,7 @@ round_same w =
     by false = refl
 
 turn_same : (turn : Turn) (w : WorldState Carried) → IsFreshTurn turn w → after_turn octets turn (shown_world w) ≡ shown_world (after_turn values turn w)
-turn_same (Turn.Step actor) w fresh = step_same actor w fresh
-turn_same Turn.Round w fresh = round_same w
+turn_same = elim [ Turn.Step actor ↦ λ w fresh. step_same actor w fresh | Turn.Round ↦ λ w fresh. round_same w ]
 
 pub run_same : OctetsDoAsValues
 run_same [] w fresh = refl

@@ -70,8 +70,7 @@ module _ {C : Type 0} (k : Codec C) (start : Start) (Q : Cast C → Type 0) (kep
         by false = record { cast = h.cast; is = refl; fare = h.fare; holds = h.holds }
 
     turn_has : (turn : Turn) (w : WorldState C) → Has start Q w → Has start Q (after_turn k turn w)
-    turn_has (Turn.Step actor) w h = step_has actor w h
-    turn_has Turn.Round w h = round_has w h
+    turn_has = elim [ Turn.Step actor ↦ λ w h. step_has actor w h | Turn.Round ↦ λ w h. round_has w h ]
 
     pub turns_have : (turns : List Turn) (w : WorldState C) → Has start Q w → Has start Q (world_run k turns w)
     turns_have [] w h = h

@@ -24,20 +24,16 @@ use Rattle.world_laws.proofs.Weaving.Journals.{books_after}
 -- ---- an application
 
 is_empty : (xs : List ℕ) → is_nil xs ≡ true → xs ≡ []
-is_empty [] is = refl
-is_empty (x ∷ xs) is = absurd (false≢true is)
+is_empty = elim [ [] ↦ λ is. refl | x ∷ xs ↦ λ is. absurd (false≢true is) ]
 
 own_after : (s : Side) (call : SendCall) (six : SixBooks) → send_of s (after_send_call s call six) ≡ after_call (send_of s six) call
-own_after A call six = refl
-own_after B call six = refl
+own_after = elim [ A ↦ λ call six. refl | B ↦ λ call six. refl ]
 
 other_after_a : (s : Side) (call : SendCall) (six : SixBooks) → s ≡ A → (after_send_call s call six).send_b ≡ six.send_b
-other_after_a A call six is = refl
-other_after_a B call six is = cc
+other_after_a = elim [ A ↦ λ call six is. refl | B ↦ λ call six is. cc ]
 
 other_after_b : (s : Side) (call : SendCall) (six : SixBooks) → s ≡ B → (after_send_call s call six).send_a ≡ six.send_a
-other_after_b B call six is = refl
-other_after_b A call six is = cc
+other_after_b = elim [ B ↦ λ call six is. refl | A ↦ λ call six is. cc ]
 
 -- an application of this side, with its file and its book
 pub record Fares (s : Side) (file : List ℕ) (a : AppState) (send : Sending) : Type 0 where
@@ -54,34 +50,24 @@ settles_fares s file m b send st side writes = record {
 
 answered_fares : (file : List ℕ) (six : SixBooks) (a : AppState) (d : AppDuty) → app_stands d a ≡ true → Writes file a.rest (send_of a.side six)
     → Writes file (app_answered d (reply_of six (app_ask d a)) a).rest (send_of a.side (after_ask (app_ask d a) six))
-answered_fares file six a AppDuty.FastClose stands h = same_send a.side h
-  where
-    same_send : (s : Side) → Writes file a.rest (send_of s six) → Writes file a.rest (send_of s (after_ask (app_ask AppDuty.FastClose a) six))
-    same_send A h = h
-    same_send B h = h
+answered_fares file six a AppDuty.FastClose stands h = (elim a.side as (λ s. Writes file a.rest (send_of s six) → Writes file a.rest (send_of s (after_ask (app_ask AppDuty.FastClose a) six)))
+    [ A ↦ λ h. h | B ↦ λ h. h ]) h
 answered_fares file six a AppDuty.AbortSend stands h =
     subst (Writes file a.rest) (sym (own_after a.side SendCall.Abort six)) (record { prefix = h.prefix; whole = h.whole })
-answered_fares file six a AppDuty.AbortReceive stands h = same_send a.side h
-  where
-    same_send : (s : Side) → Writes file a.rest (send_of s six) → Writes file a.rest (send_of s (after_ask (app_ask AppDuty.AbortReceive a) six))
-    same_send A h = h
-    same_send B h = h
+answered_fares file six a AppDuty.AbortReceive stands h = (elim a.side as (λ s. Writes file a.rest (send_of s six) → Writes file a.rest (send_of s (after_ask (app_ask AppDuty.AbortReceive a) six)))
+    [ A ↦ λ h. h | B ↦ λ h. h ]) h
 answered_fares file six a AppDuty.Write stands h =
     subst (Writes file _) (sym (own_after a.side (SendCall.Write (take a.buffer a.rest)) six)) (writes_more file a.rest a.buffer (send_of a.side six) stands h)
 answered_fares file six a AppDuty.Close stands h =
     let none = is_empty a.rest (and_parts (is_nil a.rest) (not a.closed) stands).0 in
     subst (Writes file a.rest) (sym (own_after a.side SendCall.Close six))
     (subst (λ rest. Writes file rest (after_call (send_of a.side six) SendCall.Close)) (sym none) (closes file (send_of a.side six) (subst (λ rest. Writes file rest (send_of a.side six)) none h)))
-answered_fares file six a AppDuty.Read stands h = same_send a.side h
-  where
-    same_send : (s : Side) → Writes file a.rest (send_of s six) → Writes file a.rest (send_of s (after_ask (app_ask AppDuty.Read a) six))
-    same_send A h = h
-    same_send B h = h
+answered_fares file six a AppDuty.Read stands h = (elim a.side as (λ s. Writes file a.rest (send_of s six) → Writes file a.rest (send_of s (after_ask (app_ask AppDuty.Read a) six)))
+    [ A ↦ λ h. h | B ↦ λ h. h ]) h
 answered_fares file six a AppDuty.End stands h = h
 
 answered_side : (d : AppDuty) (r : Reply) (a : AppState) → (app_answered d r a).side ≡ a.side
-answered_side AppDuty.FastClose r a = refl
-answered_side _ r a = refl
+answered_side = elim [ AppDuty.FastClose ↦ λ r a. refl | _ ↦ λ r a. refl ]
 
 -- a step of an application
 app_fares : (s : Side) (file : List ℕ) (six : SixBooks) (a : AppState) (d : AppDuty) (ds : List AppDuty) → a.agenda ≡ d ∷ ds → Fares s file a (send_of s six)
@@ -127,9 +113,7 @@ path_leaves_b file rest _ six leaves h = h
 
 -- one item is put, which has what all have
 pub Every-put : {X : Type 0} {P : X → Type 0} {xs : List X} (i : ℕ) (y : X) → P y → Every P xs → Every P (set xs i y)
-Every-put {X} {P} {xs} i y here h = record {
-  each = λ k x there. ⊎_elim (λ same. subst P same.1 here) (λ other. h.each k x other.1) (in_set xs i y k x there);
-}
+Every-put {X} {P} {xs} i y here h = record { each = λ k x there. ⊎_elim (λ same. subst P same.1 here) (λ other. h.each k x other.1) (in_set xs i y k x there) }
 
 -- ---- the world
 
@@ -283,13 +267,7 @@ module _ {C : Type 0} where
   abbrev pub next_cast : Cast C → Cast C
   next_cast t =
       let stamp = greatest 0 (world_of t).crew in
-      record t {
-        a = app_next_round t.a;
-        b = app_next_round t.b;
-        at_a = raised_to stamp t.at_a;
-        at_b = raised_to stamp t.at_b;
-        paths = map (walks_on stamp) t.paths;
-      }
+      record t { a = app_next_round t.a; b = app_next_round t.b; at_a = raised_to stamp t.at_a; at_b = raised_to stamp t.at_b; paths = map (walks_on stamp) t.paths }
 
   begun_are : (stamp : ℕ) (paths : List (Walker C)) → map (begins stamp) (map walking paths) ≡ map walking (map (walks_on stamp) paths)
   begun_are stamp [] = refl

@@ -67,8 +67,7 @@ module _ (start : Start) where
   takes_so r (Path p) h = (takes_clear values r p).a.0 h
 
   next_so : (m : Actor Carried) → IsClearAt m → IsClearAt (member_next m)
-  next_so (App a) h = tt
-  next_so (Path p) h = (next_clear p).a.0 h
+  next_so = elim [ App a ↦ λ h. tt | Path p ↦ λ h. (next_clear p).a.0 h ]
 
   -- as long as the path's actor takes a reply
   stays_clear : (actor : ℕ) (x : Ask) (c : ActorCrew Carried) (w : WorldState Carried) → slice_get w.crew actor ≡ Some c → FirstClear w → FirstClear (asked values actor (Some x) c w)
@@ -78,7 +77,8 @@ module _ (start : Start) where
       (in_set w.crew actor (crew_after values x w.books c) 2 d at)
 
   step_clear : (actor : ℕ) (w : WorldState Carried) → Since w → Joined (books_in (after_turn values (Turn.Step actor) w).books) A → FirstClear (after_turn values (Turn.Step actor) w)
-  step_clear actor w h = by (slice_get w.crew actor) refl
+  step_clear actor w h = (elim (slice_get w.crew actor) as (λ o. slice_get w.crew actor ≡ o → Joined (books_in (stepped values actor o w).books) A → FirstClear (stepped values actor o w))
+      [ None ↦ λ there joined. h.clear joined | Some c ↦ λ there joined. asking c there (member_asks values c.member) refl joined ]) refl
     where
       asking : (c : ActorCrew Carried) → slice_get w.crew actor ≡ Some c → (o : Option Ask) → member_asks values c.member ≡ o → Joined (books_in (asked values actor o c w).books) A
           → FirstClear (asked values actor o c w)
@@ -90,22 +90,14 @@ module _ (start : Start) where
           (⊎_elim (λ before. h.clear before) (λ sure. h.ever [] sure)
           (joins_by six x (member_asks_are start.key_a start.key_b false six c.member x (h.known.crew.each actor c there) is) (subst (λ (y : SixBooks). Joined y A) now joined)))
 
-      by : (o : Option (ActorCrew Carried)) → slice_get w.crew actor ≡ o → Joined (books_in (stepped values actor o w).books) A → FirstClear (stepped values actor o w)
-      by None there joined = h.clear joined
-      by (Some c) there joined = asking c there (member_asks values c.member) refl joined
-
   round_clear : (w : WorldState Carried) → Since w → Joined (books_in (after_turn values Turn.Round w).books) A → FirstClear (after_turn values Turn.Round w)
-  round_clear w h = by (all_over w.crew)
-    where
-      by : (b : Bool) → let v = if b then record w { crew = map (begins (greatest 0 w.crew)) w.crew } else w in Joined (books_in v.books) A → FirstClear v
-      by true joined d at =
-          let found = in_map (begins (greatest 0 w.crew)) w.crew 2 d at in
-          subst (λ (y : ActorCrew Carried). IsClearAt y.member) found.2 (next_so found.0.member (h.clear joined found.0 found.1))
-      by false joined d at = h.clear joined d at
+  round_clear w h = elim (all_over w.crew) as (λ b. let v = if b then record w { crew = map (begins (greatest 0 w.crew)) w.crew } else w in Joined (books_in v.books) A → FirstClear v) [
+    | true ↦ λ joined d at. let found = in_map (begins (greatest 0 w.crew)) w.crew 2 d at in subst (λ (y : ActorCrew Carried). IsClearAt y.member) found.2 (next_so found.0.member (h.clear joined found.0 found.1))
+    | false ↦ λ joined d at. h.clear joined d at
+  ]
 
   turn_clear : (turn : Turn) (w : WorldState Carried) → Since w → Joined (books_in (after_turn values turn w).books) A → FirstClear (after_turn values turn w)
-  turn_clear (Turn.Step actor) w h = step_clear actor w h
-  turn_clear Turn.Round w h = round_clear w h
+  turn_clear = elim [ Turn.Step actor ↦ λ w h. step_clear actor w h | Turn.Round ↦ λ w h. round_clear w h ]
 
   since : (turns : List Turn) (w : WorldState Carried) → Since w → Since (world_run values turns w)
   since [] w h = h
@@ -116,11 +108,7 @@ module _ (start : Start) where
   })
 
   opened_since : Since (opened_world start)
-  opened_since = record {
-    known = opened_keys false start;
-    ever = λ more. sure_is_clear start more;
-    clear = λ joined. absurd (false≢true joined);
-  }
+  opened_since = record { known = opened_keys false start; ever = λ more. sure_is_clear start more; clear = λ joined. absurd (false≢true joined) }
 
 -- ---- what follows
 

@@ -114,8 +114,7 @@ pub died_at : (e : PathEnd) → Only happening e (died_unless_dead e)
 died_at e = if_so (Only happening e) (is_dead e.tcp.state) e (died e) (record { same = refl }) (record { same = refl })
 
 pub opened_at : (keys : Option KeyPair) (e : PathEnd) → Only happening e (opened_by keys e)
-opened_at None e = record { same = refl }
-opened_at (Some keys) e = record { same = refl }
+opened_at = elim [ None ↦ λ e. record { same = refl } | Some keys ↦ λ e. record { same = refl } ]
 
 -- ---- what is heard in silence
 

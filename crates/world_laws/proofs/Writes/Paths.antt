@@ -38,10 +38,7 @@ fell_only w cause r e all = fell_so (λ (m : Modes). Only w e (record e { modes 
 
 -- what is to be acknowledged
 abbrev acked_so_far : ℕ → ℕ → PathEnd → PathEnd
-acked_so_far next window e = record e {
-  receiving = record e.receiving { next = next; window = window };
-  treated = record e.treated { asked = false };
-}
+acked_so_far next window e = record e { receiving = record e.receiving { next = next; window = window }; treated = record e.treated { asked = false } }
 
 acked_out_only : (w : EndWrites) (r : Reply) (e : PathEnd)
     → ((next window : ℕ) → Only w e (acked_so_far next window e)) → Only w e (after_ack_out r e)
@@ -112,12 +109,8 @@ opened_only (Some keys) e =
     (is_waiting e.tcp.state) _ _ (record { same = refl }) (record { same = refl })
 
 plainly_only : (s : Side) (r : Reply) (e : PathEnd) → Only acknowledged e (with_plain_acked r e)
-plainly_only s r e = by (plain_next e)
-  where
-    by : (next : Option ℕ) → Only acknowledged e (record e { sending = plainly_acked next r e.sending })
-    by None = record { same = refl }
-    by (Some next) =
-        acked_so (λ (v : Sending). Only acknowledged e (record e { sending = v })) next r e.sending (λ fin. record { same = refl }) (record { same = refl })
+plainly_only s r e = elim (plain_next e) as (λ next. Only acknowledged e (record e { sending = plainly_acked next r e.sending }))
+    [ None ↦ record { same = refl } | Some next ↦ acked_so (λ (v : Sending). Only acknowledged e (record e { sending = v })) next r e.sending (λ fin. record { same = refl }) (record { same = refl }) ]
 
 -- ---- paths
 

@@ -1,6 +1,6 @@
 use Rattle.std.proofs.Common.{◌≡◌, ◌∙◌, ◌-◌, ◌^◌, ◌≤◌, ◌⊎◌, Err, inl, inr, Option, Some, ap, subst, sym, arith}
 use Rattle.stamped_book.specs.declared.stamped.Pass.{Pass}
-use Rattle.stamped_book.specs.declared.stamped.Refusal.TheVariants as refusals
+use Rattle.stamped_book.specs.declared.stamped.Refusal.{Refusal}
 use Rattle.actor_desk.specs.declared.actor.Crew.{Crew}
 use Rattle.actor_desk.specs.declared.ask.Ask.{Ask}
 use Rattle.actor_turn.specs.Turns.{IsUsedUp}
@@ -13,7 +13,7 @@ used_up asks is_full crew ask is (inr full) = inr (ask, is, full)
 
 pub returns-in-Err-clause-full : goal.returns-in-Err-clause-full
 returns-in-Err-clause-full g c = λ stamps.
-    let it : c.in-Err.refusal ≡ refusals.Stamps = grind (arith, stamps) in
+    let it : c.in-Err.refusal ≡ Refusal.Stamps = grind (arith, stamps) in
     let asked : c.in_ok-ask.field-0 ≡ g.A.Actor.asks c.args.crew.now.member = c.in_ok-ask.ensures.ask in
     let stays : c.answered.new.pass ≡ c.args.crew.now.pass = c.in-Err.ensures.pass_err in
     let full : (2 ^ 62 - 1 ≤ c.args.crew.now.pass.stamp) ⊎ g.D.Desk.is_full c.answered.new.desk c.in-Some.ask c.args.crew.now.pass

@@ -1,10 +1,5 @@
-use Rattle.std.proofs.Common.{[], ◌∷◌}
-use Rattle.std.proofs.lemmas.Result.{err_from_is_err_and}
+use Rattle.connection_table.proofs.Words.{[], ◌∷◌, err_from_is_err_and, adds_none, all_then, IfErr-map, OnOk-holds, loads_of, as_names}
 use Rattle.outside_kit.specs.Calls as call
-use Rattle.run_outside.proofs.Calls.{adds_none, all_then}
-use Rattle.run_outside.proofs.PortsLemmas.{IfErr-map, OnOk-holds}
-use Rattle.connection_table.specs.Lists.{as_names}
-use Rattle.connection_table.specs.Loads.{loads_of}
 use Rattle.connection_table.proofs.Adding.{all_made, load_adds, script_adds}
 use Rattle.connection_table.proofs.inputs.load_input.Goals as goal
 

@@ -1,13 +1,7 @@
-use Rattle.std.proofs.Common.{◌≡◌, ◌∙◌, ap, sym, Ok, [], ◌∷◌, map, arith}
-use Rattle.std.proofs.lemmas.Result.{err_from_is_err_and}
-use Rattle.run_outside.proofs.PortsLemmas.{IfErr-map, OnOk-both}
-use Rattle.run_outside.proofs.Calls.{all_then}
+use Rattle.connection_table.proofs.Words.{◌≡◌, sym, ◌∙◌, ap, [], ◌∷◌, map, arith, Ok, err_from_is_err_and, all_then, OnOk-both, IfErr-map, joined, loads_of}
+use Rattle.connection_table.proofs.Words.{as_names, list_reading, Says, as_words}
 use Rattle.outside_kit.specs.Calls as call
-use Rattle.connection_table.specs.Loads.{joined, loads_of}
-use Rattle.connection_table.specs.Lists.{as_names, list_reading}
-use Rattle.connection_table.specs.ListWords.{as_words}
 use Rattle.connection_table.proofs.Admitted.{admitted_of_same, listed_of_same}
-use Rattle.connection_table.specs.ManyEnds.{Says}
 use Rattle.connection_table.proofs.LoadsMade.{list_refused, list_unloaded, listed_ends}
 use Rattle.connection_table.proofs.RunEnds.{one_refused, table_of}
 use Rattle.connection_table.proofs.listed_run.admit_listed.Goals as goal

@@ -1,8 +1,5 @@
-use Rattle.std.proofs.Common.{◌≡◌, ◌∙◌, ap, inr, refl, true, false, [], ◌∷◌}
-use Rattle.std.proofs.lemmas.Result.{err_from_is_err_and}
-use Rattle.outside_kit.specs.declared.port.Port.{Port}
+use Rattle.connection_table.proofs.Words.{◌≡◌, refl, ◌∙◌, ap, true, false, [], ◌∷◌, inr, err_from_is_err_and, Port, line_at}
 use Rattle.outside_kit.specs.Calls as call
-use Rattle.connection_table.specs.ManyLines.{line_at}
 use Rattle.connection_table.proofs.CallsMade.{none_made, one_failed, one_told}
 use Rattle.connection_table.proofs.listed_run.put_line.Goals as goal
 

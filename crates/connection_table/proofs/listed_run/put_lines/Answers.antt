@@ -1,11 +1,5 @@
-use Rattle.std.proofs.Common.{◌<◌, ◌≤◌, ◌∙◌, ◌++◌, refl, sym, subst, length, arith}
-use Rattle.std.specs.List.{slice_get}
-use Rattle.std.proofs.lemmas.Result.{err_from_is_err_and}
-use Rattle.outside_kit.specs.declared.port.Port.{Port}
-use Rattle.outside_kit.specs.Outside.{HoldsAfter}
-use Rattle.connection_table.specs.ManyLines.{line_if}
-use Rattle.run_outside.specs.Plan.{AddsAll}
-use Rattle.run_outside.proofs.Calls.{adds_none, all_then}
+use Rattle.connection_table.proofs.Words.{refl, sym, ◌∙◌, subst, ◌<◌, ◌≤◌, ◌++◌, length, arith, slice_get, err_from_is_err_and, HoldsAfter, Port, AddsAll}
+use Rattle.connection_table.proofs.Words.{adds_none, all_then, line_if}
 use Rattle.connection_table.proofs.CallsMade.{put_ends, put_more, puts_all, puts_upto}
 use Rattle.connection_table.proofs.LinesPut.{line_more, line_part, lines_all, lines_upto, none_put, put_fault_later, whole_then}
 use Rattle.connection_table.proofs.listed_run.put_lines.Goals as goal

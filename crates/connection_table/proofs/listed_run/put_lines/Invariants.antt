@@ -1,7 +1,5 @@
-use Rattle.std.proofs.Common.{◌≡◌, ◌≢◌, ◌≤◌, ◌++◌, length}
-use Rattle.outside_kit.specs.declared.port.Port.{Port}
-use Rattle.outside_kit.specs.Outside.{HoldsAfter}
-use Rattle.run_outside.specs.Plan.{AddsAll}
+use Rattle.connection_table.proofs.Words.{◌≡◌, ◌≤◌, ◌++◌, length, HoldsAfter, Port, AddsAll}
+use Rattle.std.proofs.Common.{◌≢◌}
 use Rattle.connection_table.proofs.CallsMade.{puts_upto}
 use Rattle.connection_table.proofs.LinesPut.{lines_upto}
 use Rattle.connection_table.proofs.listed_run.put_lines.Given as goal

@@ -1,13 +1,5 @@
-use Rattle.std.proofs.Common.{◌++◌, sym, subst, map}
-use Rattle.std.specs.List.{All}
-use Rattle.std.proofs.lemmas.Result.{err_from_is_err_and}
-use Rattle.outside_kit.specs.declared.port.Port.{Port}
-use Rattle.outside_kit.specs.Outside.{HoldsPrefix}
-use Rattle.run_outside.proofs.PortsLemmas.{IfErr-three, OnOk-both, after_from}
-use Rattle.connection_table.specs.ListWords.{as_words}
-use Rattle.connection_table.specs.ManyEnds.{IsPutFault}
-use Rattle.connection_table.specs.ManyLines.{lines_of}
-use Rattle.connection_table.specs.ManyRounds.{Runs}
+use Rattle.connection_table.proofs.Words.{sym, subst, ◌++◌, map, All, err_from_is_err_and, HoldsPrefix, Port, IfErr-three, OnOk-both, after_from, IsPutFault}
+use Rattle.connection_table.proofs.Words.{lines_of, Runs, as_words}
 use Rattle.connection_table.proofs.EndsRight.{opened_run}
 use Rattle.connection_table.proofs.RunEnds.{ends_cut, ends_done, ends_unmade, ends_unput}
 use Rattle.connection_table.proofs.listed_run.run.Goals as goal

@@ -1,4 +1,4 @@
-use Rattle.connection_table.specs.ListWords.{as_words}
+use Rattle.connection_table.proofs.Words.{as_words}
 use Rattle.connection_table.proofs.ValidLists.{valid_listed}
 use Rattle.connection_table.proofs.listed_run.run_many.Goals as goal
 

@@ -1,5 +1,4 @@
-use Rattle.std.proofs.Common.{◌∙◌, ap, ◌+◌, Err}
-use Rattle.connection_table.specs.Tables.{key_token}
+use Rattle.connection_table.proofs.Words.{◌∙◌, ap, ◌+◌, Err, key_token}
 use Rattle.connection_table.proofs.OwnTokens.{none_held}
 use Rattle.connection_table.proofs.loading.admit.Goals as goal
 

@@ -1,13 +1,5 @@
-use Rattle.std.proofs.Common.{◌≤◌, ◌∙◌, List, [], ap, length, map, refl, subst, sym, arith}
-use Rattle.std.proofs.lemmas.List.{take_all}
-use Rattle.run_outside.specs.Plan.{AddsAll}
-use Rattle.connection_table.specs.Lists.{as_names}
-use Rattle.connection_table.specs.declared.list.Listed.{Listed}
-use Rattle.connection_table.specs.Loads.{joined, loads_of}
-use Rattle.std.proofs.lemmas.Result.{err_from_is_err_and}
-use Rattle.run_outside.proofs.Calls.{adds_none}
-use Rattle.connection_table.specs.ManyEnds.{AreAdmitted}
-use Rattle.connection_table.specs.Tables.{opened_entry}
+use Rattle.connection_table.proofs.Words.{refl, sym, ◌∙◌, ap, subst, ◌≤◌, List, [], length, map, arith, take_all, err_from_is_err_and, AddsAll, adds_none}
+use Rattle.connection_table.proofs.Words.{joined, loads_of, as_names, Listed, AreAdmitted, opened_entry}
 use Rattle.connection_table.proofs.Admitted.{admitted_none, count_more, entry_admitted, entry_refused, entry_unloaded}
 use Rattle.connection_table.proofs.LoadsMade.{entry_calls, entry_cut, entry_made}
 use Rattle.connection_table.proofs.loading.admit_all.Goals as goal

@@ -1,9 +1,4 @@
-use Rattle.std.proofs.Common.{◌≡◌, ℕ, List, length, map, take}
-use Rattle.connection_table.specs.Lists.{as_names}
-use Rattle.run_outside.specs.Plan.{AddsAll}
-use Rattle.connection_table.specs.Causes.{OnlyLoads}
-use Rattle.connection_table.specs.Loads.{joined, loads_of}
-use Rattle.connection_table.specs.ManyEnds.{AreAdmitted}
+use Rattle.connection_table.proofs.Words.{◌≡◌, ℕ, List, length, map, take, AddsAll, OnlyLoads, joined, loads_of, as_names, AreAdmitted}
 use Rattle.connection_table.proofs.loading.admit_all.Given as goal
 
 -- the first connections were loaded and admitted

@@ -1,6 +1,4 @@
-use Rattle.std.proofs.Common.{ap, length, length-append, map, drop, arith}
-use Rattle.std.proofs.lemmas.List.{length-map, length-drop}
-use Rattle.path_core.specs.Addresses.{item_removed}
+use Rattle.path_core.proofs.Words.{ap, length, map, drop, length-append, arith, length-map, length-drop, item_removed}
 use Rattle.path_core.proofs.addresses.put_removed.Goals as goal
 
 pub put_notice-requires : goal.put_notice-requires

@@ -1,5 +1,4 @@
-use Rattle.std.proofs.Common.{◌≡◌, ◌++◌, map, drop}
-use Rattle.path_core.specs.Addresses.{item_removed}
+use Rattle.path_core.proofs.Words.{◌≡◌, ◌++◌, map, drop, item_removed}
 use Rattle.path_core.proofs.addresses.put_removed.Given as goal
 
 abbrev pub invariant-loop-id : goal.invariant-loop-id

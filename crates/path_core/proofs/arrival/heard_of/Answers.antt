@@ -1,5 +1,4 @@
-use Rattle.std.proofs.Common.{◌<◌, arith}
-use Rattle.std.proofs.lemmas.List.Elements.{All-from_get_or}
+use Rattle.path_core.proofs.Words.{◌<◌, arith, All-from_get_or}
 use Rattle.path_core.proofs.FewThings.{lent_few}
 use Rattle.path_core.proofs.arrival.heard_of.Goals as goal
 

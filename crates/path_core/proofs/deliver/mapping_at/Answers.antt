@@ -1,5 +1,5 @@
-use Rattle.std.proofs.Common.{sym, subst, ◌≤◌, IfSome, Option}
-use Rattle.dss_mapping.specs.declared.kept.KeptMapping.{KeptMapping}
+use Rattle.path_core.proofs.Words.{sym, subst, ◌≤◌, Option, KeptMapping}
+use Rattle.std.proofs.Common.{IfSome}
 use Rattle.path_core.proofs.Mapped.{mapping_begins}
 use Rattle.path_core.proofs.deliver.mapping_at.Goals as goal
 

@@ -1,5 +1,4 @@
-use Rattle.std.proofs.Common.{◌∙◌, sym, refl, ap, ◌-◌, ◌++◌, List, ℕ, take, arith}
-use Rattle.std.specs.List.{concat}
+use Rattle.path_core.proofs.Words.{refl, sym, ap, ◌∙◌, ℕ, ◌-◌, List, ◌++◌, take, arith, concat}
 use Rattle.path_store.proofs.Parts.{part-taken}
 use Rattle.path_core.proofs.deliver.text_of.Goals as goal
 

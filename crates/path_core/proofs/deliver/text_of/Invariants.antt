@@ -1,5 +1,4 @@
-use Rattle.std.proofs.Common.{◌≡◌, ◌++◌, take}
-use Rattle.std.specs.List.{concat}
+use Rattle.path_core.proofs.Words.{◌≡◌, ◌++◌, take, concat}
 use Rattle.path_core.proofs.deliver.text_of.Given as goal
 
 abbrev pub invariant-loop-part : goal.invariant-loop-part

@@ -1,4 +1,4 @@
-use Rattle.std.proofs.Common.{[]}
+use Rattle.path_core.proofs.Words.{[]}
 use Rattle.path_core.proofs.dss_out.checksum_of.Goals as goal
 
 pub returns : goal.returns

@@ -1,9 +1,6 @@
-use Rattle.std.proofs.Common.{refl}
+use Rattle.path_core.proofs.Words.{refl, fixed_header, option_text, spelled}
 use Rattle.path_core.proofs.laws.a_first_round.Goals as goal
 use Rattle.segment_wire.specs.Checksum.{covered_sum}
-use Rattle.segment_wire.specs.Segment.{fixed_header}
-use Rattle.path_segments.specs.Spelled.{spelled}
-use Rattle.mptcp_options.specs.Text.{option_text}
 use Rattle.address_manager.specs.IdSet.{no_ids}
 use Rattle.control_book.specs.Registry.{opening_paths, every_path, stands_beside, serves_beside}
 use Rattle.control_book.specs.Control.{no_withdrawals}

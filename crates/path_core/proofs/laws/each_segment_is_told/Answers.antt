@@ -1,5 +1,4 @@
-use Rattle.path_core.specs.Octets.{octets}
-use Rattle.path_core.specs.Values.{values}
+use Rattle.path_core.proofs.Words.{octets, values}
 use Rattle.path_core.proofs.SegmentsTold.{each_segment_is_told}
 use Rattle.path_core.proofs.laws.each_segment_is_told.Goals as goal
 

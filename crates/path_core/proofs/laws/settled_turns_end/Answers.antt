@@ -1,6 +1,4 @@
-use Rattle.std.proofs.Common.{◌+◌}
-use Rattle.path_core.specs.Octets.{octets}
-use Rattle.path_core.specs.Values.{values}
+use Rattle.path_core.proofs.Words.{◌+◌, octets, values}
 use Rattle.path_core.proofs.TurnEnds.{turn_ends, begun_ends}
 use Rattle.path_core.proofs.laws.settled_turns_end.Goals as goal
 

@@ -1,7 +1,4 @@
-use Rattle.std.proofs.Common.{◌≡◌}
-use Rattle.std.specs.List.{list_any}
-use Rattle.path_segments.specs.HeardSegments.{heard_left}
-use Rattle.path_core.specs.OptionsIn.{asks_capable}
+use Rattle.path_core.proofs.Words.{◌≡◌, list_any, heard_left, asks_capable}
 use Rattle.path_core.proofs.options_in.asks_capable.Given as goal
 
 abbrev pub invariant-loop-option : goal.invariant-loop-option

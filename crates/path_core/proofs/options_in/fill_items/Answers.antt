@@ -1,10 +1,4 @@
-use Rattle.std.proofs.Common.{◌≡◌, ◌∙◌, sym, ap, subst, List, ◌++◌, All}
-use Rattle.std.specs.List.{flat_map}
-use Rattle.path_segments.specs.HeardSegments.{heard_left}
-use Rattle.path_agenda.specs.declared.heard.Heard.{Heard}
-use Rattle.path_agenda.specs.Items.{IsFair}
-use Rattle.path_core.specs.DssIn.{HeardOption}
-use Rattle.path_core.specs.OptionsIn.{items_in}
+use Rattle.path_core.proofs.Words.{◌≡◌, sym, ap, subst, ◌∙◌, List, ◌++◌, All, flat_map, heard_left, Heard, IsFair, HeardOption, items_in}
 use Rattle.path_core.proofs.Fair.{items_are_fair}
 use Rattle.path_core.proofs.FewThings.{room_left}
 use Rattle.path_core.proofs.Filling.{append-nil}

@@ -1,5 +1,4 @@
-use Rattle.std.proofs.Common.{◌≡◌, [], length}
-use Rattle.path_segments.specs.HeardSegments.{heard_left, heard_value}
+use Rattle.path_core.proofs.Words.{◌≡◌, [], length, heard_left, heard_value}
 use Rattle.path_core.proofs.options_in.without_options.Given as goal
 
 abbrev pub invariant-loop : goal.invariant-loop

@@ -1,6 +1,4 @@
-use Rattle.std.proofs.Common.{◌≡◌, ◌+◌, ◌≤◌, ◌++◌, map}
-use Rattle.std.specs.Prelude.{vec_len, vec_capacity}
-use Rattle.ruled_desk.specs.WholeRounds.{without_pass}
+use Rattle.ruled_desk.proofs.Words.{◌≡◌, ◌≤◌, ◌++◌, map, ◌+◌, vec_len, vec_capacity, without_pass}
 use Rattle.ruled_desk.proofs.mounting.mount.Given as goal
 
 -- the riders so far and the actors that are left are all

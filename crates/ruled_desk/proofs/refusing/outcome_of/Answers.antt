@@ -1,4 +1,4 @@
-use Rattle.std.proofs.Common.{sym, ◌∙◌}
+use Rattle.ruled_desk.proofs.Words.{sym, ◌∙◌}
 use Rattle.ruled_desk.proofs.Ridden.{none_refused}
 use Rattle.ruled_desk.proofs.refusing.outcome_of.Goals as goal
 

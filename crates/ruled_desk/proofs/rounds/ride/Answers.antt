@@ -1,6 +1,4 @@
-use Rattle.std.proofs.Common.{sym, ◌∙◌, subst, Option, Some}
-use Rattle.ruled_desk.specs.Riding.{Rode}
-use Rattle.ruled_desk.specs.SixSeats.{Passed}
+use Rattle.ruled_desk.proofs.Words.{sym, ◌∙◌, subst, Option, Some, Rode, Passed}
 use Rattle.ruled_desk.proofs.rounds.ride.Goals as goal
 
 pub returns : goal.returns

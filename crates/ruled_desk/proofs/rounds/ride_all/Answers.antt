@@ -1,4 +1,4 @@
-use Rattle.std.proofs.Common.{refl, inl, inr}
+use Rattle.ruled_desk.proofs.Words.{refl, inl, inr}
 use Rattle.ruled_desk.proofs.WholeRounds.{same_extend}
 use Rattle.ruled_desk.proofs.rounds.ride_all.Goals as goal
 

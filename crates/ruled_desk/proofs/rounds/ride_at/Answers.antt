@@ -1,8 +1,4 @@
-use Rattle.std.proofs.Common.{◌≡◌, sym, ◌∙◌, ap, subst, length, arith}
-use Rattle.std.proofs.lemmas.List.{length-map}
-use Rattle.std.specs.Prelude.{All}
-use Rattle.ruled_desk.specs.Riding.{AreNumbered, HasPass, given_pass}
-use Rattle.ruled_desk.specs.SixSeats.{AreOf, is_out}
+use Rattle.ruled_desk.proofs.Words.{◌≡◌, sym, ◌∙◌, ap, subst, length, arith, length-map, All, AreNumbered, HasPass, given_pass, AreOf, is_out}
 use Rattle.ruled_desk.proofs.PassesGiven.{nobody_is_out, of_nothing}
 use Rattle.ruled_desk.proofs.WholeRounds.{all_extend, all_given, all_have, ends_then, numbered_given, still_numbered, used_up_then, whole_ok}
 use Rattle.ruled_desk.proofs.rounds.ride_at.Goals as goal

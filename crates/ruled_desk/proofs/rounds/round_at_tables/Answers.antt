@@ -1,8 +1,6 @@
-use Rattle.std.proofs.Common.{◌≡◌, refl, inr, ◌⊎◌, sym, ◌∙◌, ap, subst, List, length, OnOk, arith}
-use Rattle.std.proofs.lemmas.List.{length-map}
-use Rattle.actor_desk.specs.declared.actor.Crew.{Crew}
-use Rattle.ruled_desk.specs.Riding.{AreNumbered}
-use Rattle.ruled_desk.specs.WholeRounds.{EndsAsTurns, IsWholeRound, NoTurnMade, OneIsFull, OneKnowsLast, crew_of, without_pass}
+use Rattle.ruled_desk.proofs.Words.{◌≡◌, refl, sym, ◌∙◌, ap, subst, ◌⊎◌, inr, List, length, arith, length-map, Crew, AreNumbered, EndsAsTurns, IsWholeRound}
+use Rattle.ruled_desk.proofs.Words.{OneIsFull, OneKnowsLast, crew_of, without_pass, NoTurnMade}
+use Rattle.std.proofs.Common.{OnOk}
 use Rattle.ruled_desk.proofs.WholeRounds.{crew_again, lent_riders, numbered_riders, same_extend}
 use Rattle.ruled_desk.proofs.rounds.round_at_tables.Goals as goal
 

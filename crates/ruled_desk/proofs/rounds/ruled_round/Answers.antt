@@ -1,6 +1,4 @@
-use Rattle.std.proofs.Common.{subst}
-use Rattle.std.specs.List.{slice_index_or}
-use Rattle.ruled_desk.specs.Riding.{Rode}
+use Rattle.ruled_desk.proofs.Words.{subst, slice_index_or, Rode}
 use Rattle.ruled_desk.proofs.Ridden.{one_used_up}
 use Rattle.ruled_desk.proofs.rounds.ruled_round.Goals as goal
 

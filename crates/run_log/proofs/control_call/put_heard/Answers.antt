@@ -1,5 +1,4 @@
-use Rattle.std.proofs.Common.{append_assoc}
-use Rattle.key_material.specs.Address.{octets_of}
+use Rattle.run_log.proofs.Words.{append_assoc, octets_of}
 use Rattle.run_log.proofs.Spacing.{heard_is}
 use Rattle.run_log.proofs.control_call.put_heard.Goals as goal
 

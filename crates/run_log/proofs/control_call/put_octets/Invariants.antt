@@ -1,6 +1,4 @@
-use Rattle.std.proofs.Common.{◌≡◌, ◌∷◌, ◌++◌, string_bytes, drop}
-use Rattle.std.specs.Fmt.{decimal}
-use Rattle.std.specs.List.{flat_map}
+use Rattle.run_log.proofs.Words.{◌≡◌, ◌∷◌, ◌++◌, drop, string_bytes, decimal, flat_map}
 use Rattle.run_log.proofs.control_call.put_octets.Given as goal
 
 abbrev pub invariant-loop-octet : goal.invariant-loop-octet

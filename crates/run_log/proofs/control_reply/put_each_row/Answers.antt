@@ -1,10 +1,5 @@
+use Rattle.run_log.proofs.Words.{List, arith, subst, All, All-more, take_all, Row, RowFits}
 use Rattle.std.proofs.lemmas.Grind.{common_steps}
-use Rattle.std.proofs.Common.{List, subst, arith}
-use Rattle.std.specs.Prelude.{All}
-use Rattle.std.proofs.lemmas.List.{take_all}
-use Rattle.std.proofs.lemmas.List.Elements.{All-more}
-use Rattle.linked_increase.specs.declared.rows.Row.{Row}
-use Rattle.run_log.specs.Fitting.{RowFits}
 use Rattle.run_log.proofs.control_reply.put_each_row.Goals as goal
 
 pub loop-row-preserved : goal.loop-row-preserved

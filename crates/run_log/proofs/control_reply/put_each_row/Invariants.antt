@@ -1,9 +1,4 @@
-use Rattle.std.proofs.Common.{◌≡◌, ◌∷◌, ◌++◌, string_bytes, drop, take}
-use Rattle.std.specs.Prelude.{All}
-use Rattle.run_log.specs.Fitting.{RowFits}
-use Rattle.std.specs.List.{flat_map}
-use Rattle.link_script.specs.Writing.{spaced}
-use Rattle.run_log.specs.Replies.{row_words}
+use Rattle.run_log.proofs.Words.{◌≡◌, ◌∷◌, ◌++◌, take, drop, string_bytes, All, flat_map, spaced, RowFits, row_words}
 use Rattle.run_log.proofs.control_reply.put_each_row.Given as goal
 
 abbrev pub invariant-loop-row : goal.invariant-loop-row

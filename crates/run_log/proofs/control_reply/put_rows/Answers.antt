@@ -1,4 +1,4 @@
-use Rattle.std.proofs.Common.{append_assoc}
+use Rattle.run_log.proofs.Words.{append_assoc}
 use Rattle.run_log.proofs.Spacing.{rows_is}
 use Rattle.run_log.proofs.control_reply.put_rows.Goals as goal
 

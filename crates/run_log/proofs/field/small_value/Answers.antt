@@ -1,5 +1,4 @@
-use Rattle.std.specs.Str.Parse.{ParsesUnsigned}
-use Rattle.std.proofs.Common.{ℕ, List, subst}
+use Rattle.run_log.proofs.Words.{ℕ, List, subst, ParsesUnsigned}
 use Rattle.std.proofs.lemmas.Result.{MatchResult-at_ok}
 use Rattle.run_log.proofs.Numerals.{text_of_number, parsed}
 use Rattle.run_log.proofs.field.small_value.Goals as goal

@@ -1,4 +1,4 @@
-use Rattle.std.proofs.Common.{sym, arith}
+use Rattle.run_log.proofs.Words.{sym, arith}
 use Rattle.std.proofs.lemmas.Result.{err_from_is_err_and}
 use Rattle.run_log.proofs.Walking.{goes_on, stops, misses, ends, below_more, begins}
 use Rattle.run_log.proofs.reading.read_lines.Goals as goal

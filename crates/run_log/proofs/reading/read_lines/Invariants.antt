@@ -1,6 +1,4 @@
-use Rattle.std.proofs.Common.{◌≡◌, ◌≤◌, ◌+◌, length}
-use Rattle.octet_text.specs.Lines.{text_lines}
-use Rattle.run_log.specs.Form.{HasRoundBelow, read_on, reading}
+use Rattle.run_log.proofs.Words.{◌≡◌, ◌+◌, ◌≤◌, length, text_lines, HasRoundBelow, read_on, reading}
 use Rattle.run_log.proofs.reading.read_lines.Given as goal
 
 abbrev pub invariant-loop-rest : goal.invariant-loop-rest

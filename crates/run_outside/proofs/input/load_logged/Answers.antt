@@ -2,7 +2,7 @@ use Rattle.std.proofs.Common.{sym, ap, subst, [], ◌∷◌}
 use Rattle.std.proofs.lemmas.Result.{err_from_is_err_and}
 use Rattle.outside_kit.specs.Calls as call
 use Rattle.run_words.specs.Lines.{as_line}
-use Rattle.run_outside.specs.declared.status.Named.TheVariants as named
+use Rattle.run_outside.specs.declared.status.Named.{Named}
 use Rattle.run_outside.specs.Inputs.{order_of}
 use Rattle.run_outside.specs.Plan.{AddsAll, load_of, first_loads, loads_of}
 use Rattle.run_outside.proofs.Calling.{loads_ended, loads_any, loads_then, loads_by}
@@ -20,7 +20,7 @@ pub returns-in_err-log-clause-calls_cut : goal.returns-in_err-log-clause-calls_c
 returns-in_err-log-clause-calls_cut g c =
     let line = as_line c.args.line.now in let p = err_from_is_err_and c.from_residual-in_err-log.result c.from_residual-in_err-log.ensures.1 in
     rw (p.1, p.2) (input_adds line (loads_of line) _ _ c.in_err-log.field-0.0
-    (load_cut line named.Order c.args.order.now (ap order_of c.requires.named) _ _ _ c.in_ok-contents.ensures.loads.made c.in_err-log.ensures.calls_cut (loads_of line) [] _ _ _ c.in_err-log.field-0.0
+    (load_cut line Named.Order c.args.order.now (ap order_of c.requires.named) _ _ _ c.in_ok-contents.ensures.loads.made c.in_err-log.ensures.calls_cut (loads_of line) [] _ _ _ c.in_err-log.field-0.0
     (sym (replay_loads line c.args.order.now c.requires.named)) c.in_err-log.ensures.named))
 
 pub returns-in_err-input-clause-calls_cut : goal.returns-in_err-input-clause-calls_cut
@@ -44,7 +44,7 @@ pub returns-in_err-log-clause-fault : goal.returns-in_err-log-clause-fault
 returns-in_err-log-clause-fault g c =
     let line = as_line c.args.line.now in let p = err_from_is_err_and c.from_residual-in_err-log.result c.from_residual-in_err-log.ensures.1 in
     rw (p.1, p.2) (logged_fault (g.O.Outside.content c.args.outside.now) line _ _ c.in_err-log.field-0.0
-    (load_fault (g.O.Outside.content c.load_contents.new.outside) (g.O.Outside.content c.args.outside.now) line named.Order c.args.order.now _ _ _ c.in_err-log.field-0.0
+    (load_fault (g.O.Outside.content c.load_contents.new.outside) (g.O.Outside.content c.args.outside.now) line Named.Order c.args.order.now _ _ _ c.in_err-log.field-0.0
     (ap order_of c.requires.named) c.in_ok-contents.ensures.within c.load_contents.ensures.same_contents c.load_contents.ensures.loads.counted c.in_err-log.ensures.named))
 
 pub returns-in_err-contents-clause-loads : goal.returns-in_err-contents-clause-loads

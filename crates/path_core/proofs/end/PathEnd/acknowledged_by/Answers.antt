@@ -1,9 +1,5 @@
-use Rattle.std.proofs.Common.{◌≡◌, ◌≤◌, ◌<◌, ◌+◌, ◌^◌, ℕ, sym, subst, if◌then◌else◌, unwrap_or, arith}
-use Rattle.path_segments.specs.HeardSegments.{heard_value}
-use Rattle.subflow_tcp.specs.declared.verdicts.Meaning.{Meaning}
-use Rattle.path_core.specs.Arrival.{copy_of, IsTakenAs}
-use Rattle.path_core.specs.Judged.{is_taken}
-use Rattle.path_core.specs.End.{PathEnd}
+use Rattle.path_core.proofs.Words.{◌≡◌, sym, subst, ℕ, ◌+◌, ◌<◌, ◌≤◌, if◌then◌else◌, arith, ◌^◌, unwrap_or, Meaning, heard_value, copy_of, IsTakenAs, is_taken}
+use Rattle.path_core.proofs.Words.{PathEnd}
 use Rattle.path_core.proofs.AcksTaken.{acknowledges_so, acknowledges_sent}
 use Rattle.path_core.proofs.end.PathEnd.acknowledged_by.Goals as goal
 

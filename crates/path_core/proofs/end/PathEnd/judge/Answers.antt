@@ -1,11 +1,5 @@
-use Rattle.std.proofs.Common.{◌≡◌, ◌∙◌, sym, ap, subst, refl, inl, inr}
-use Rattle.path_segments.specs.HeardSegments.{heard_value}
-use Rattle.subflow_tcp.specs.Judging.{meaning_of, IsBelow}
-use Rattle.subflow_tcp.specs.Segments.{Copy}
-use Rattle.path_core.specs.Arrival.{copy_of, IsTakenAs}
-use Rattle.path_core.specs.Judged.{taken_as}
-use Rattle.path_core.specs.End.{PathEnd}
-use Rattle.path_core.specs.declared.judged.Judged.{Judged}
+use Rattle.path_core.proofs.Words.{◌≡◌, inl, inr, refl, sym, ap, subst, ◌∙◌, meaning_of, IsBelow, Copy, heard_value, copy_of, IsTakenAs, Judged, taken_as}
+use Rattle.path_core.proofs.Words.{PathEnd}
 use Rattle.path_core.proofs.Judgements.{judged_taken}
 use Rattle.path_core.proofs.end.PathEnd.judge.Goals as goal
 

@@ -1,8 +1,5 @@
-use Rattle.std.proofs.Common.{◌≤◌, ◌^◌, sym, subst, Option}
-use Rattle.std.specs.Prelude.{IfSome}
-use Rattle.path_agenda.specs.declared.notice.OwnNotice.{OwnNotice}
+use Rattle.path_core.proofs.Words.{sym, subst, ◌≤◌, Option, ◌^◌, IfSome, OwnNotice, CanBeSaid}
 use Rattle.path_core.specs.OptionsOut.{HasAddress}
-use Rattle.path_core.specs.Said.{CanBeSaid}
 use Rattle.path_core.proofs.Sayable.{can_be_said}
 use Rattle.path_core.proofs.end.PathEnd.said.Goals as goal
 

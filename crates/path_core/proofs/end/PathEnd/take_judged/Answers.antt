@@ -1,7 +1,4 @@
-use Rattle.std.proofs.Common.{sym, subst}
-use Rattle.path_segments.specs.HeardSegments.{heard_value}
-use Rattle.path_core.specs.Arrival.{copy_of, IsTakenAs}
-use Rattle.path_core.specs.End.{PathEnd}
+use Rattle.path_core.proofs.Words.{sym, subst, heard_value, copy_of, IsTakenAs, PathEnd}
 use Rattle.path_core.proofs.Meanings.{taken_the_same}
 use Rattle.path_core.proofs.end.PathEnd.take_judged.Goals as goal
 

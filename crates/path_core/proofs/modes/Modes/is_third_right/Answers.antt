@@ -1,4 +1,4 @@
-use Rattle.std.proofs.Common.{◌≡◌, ◌∙◌, sym}
+use Rattle.path_core.proofs.Words.{◌≡◌, sym, ◌∙◌}
 use Rattle.path_core.proofs.Thirds.{step_is_right}
 use Rattle.path_core.proofs.modes.Modes.is_third_right.Goals as goal
 

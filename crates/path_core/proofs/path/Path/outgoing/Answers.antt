@@ -1,6 +1,5 @@
-use Rattle.std.proofs.Common.{◌≡◌, subst, ℕ, List, IfOk}
-use Rattle.path_core.specs.Looking.{IsTold}
-use Rattle.path_core.specs.State.{PathState}
+use Rattle.path_core.proofs.Words.{◌≡◌, subst, ℕ, List, PathState, IsTold}
+use Rattle.std.proofs.Common.{IfOk}
 use Rattle.path_core.proofs.SegmentsTold.{outgoing_told}
 use Rattle.path_core.proofs.path.Path.outgoing.Goals as goal
 

@@ -1,9 +1,5 @@
-use Rattle.std.proofs.Common.{◌≡◌, ◌∙◌, sym, ap, subst, ◌++◌, List, All}
-use Rattle.std.specs.List.{flat_map}
-use Rattle.dss_mapping.specs.declared.kept.KeptMapping.{KeptMapping}
+use Rattle.path_core.proofs.Words.{◌≡◌, sym, ap, subst, ◌∙◌, List, ◌++◌, All, flat_map, KeptMapping, heard_left, HeardOption, held_in}
 use Rattle.dss_mapping.specs.Learning.{IsWithin}
-use Rattle.path_segments.specs.HeardSegments.{heard_left}
-use Rattle.path_core.specs.DssIn.{HeardOption, held_in}
 use Rattle.path_core.proofs.Mapped.{all_within}
 use Rattle.path_store.proofs.Parts.{append-nil}
 use Rattle.path_core.proofs.profile.Profile.held_of.Goals as goal

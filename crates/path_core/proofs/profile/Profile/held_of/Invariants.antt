@@ -1,7 +1,4 @@
-use Rattle.std.proofs.Common.{◌≡◌, ◌++◌}
-use Rattle.std.specs.List.{flat_map}
-use Rattle.path_segments.specs.HeardSegments.{heard_left}
-use Rattle.path_core.specs.DssIn.{held_in}
+use Rattle.path_core.proofs.Words.{◌≡◌, ◌++◌, flat_map, heard_left, held_in}
 use Rattle.path_core.proofs.profile.Profile.held_of.Given as goal
 
 abbrev pub invariant-loop-option : goal.invariant-loop-option

@@ -1,4 +1,4 @@
-use Rattle.std.proofs.Common.{refl}
+use Rattle.path_core.proofs.Words.{refl}
 use Rattle.path_core.proofs.state.PathState.add.Goals as goal
 
 pub returns-clause-ok : goal.returns-clause-ok

@@ -1,4 +1,4 @@
-use Rattle.std.proofs.Common.{◌∙◌, ap, ℕ}
+use Rattle.path_core.proofs.Words.{ap, ◌∙◌, ℕ}
 use Rattle.link_model.specs.Fate.{segment_fate}
 use Rattle.path_core.proofs.state.PathState.fate_now.Goals as goal
 

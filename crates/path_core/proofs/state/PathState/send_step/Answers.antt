@@ -1,5 +1,4 @@
-use Rattle.std.proofs.Common.{◌∙◌}
-use Rattle.path_core.specs.Octets.{octets}
+use Rattle.path_core.proofs.Words.{◌∙◌, octets}
 use Rattle.path_core.proofs.SegmentsTold.{step_sent}
 use Rattle.path_core.proofs.state.PathState.send_step.Goals as goal
 

@@ -1,4 +1,4 @@
-use Rattle.std.proofs.Common.{sym, ◌∙◌, ap, is_none}
+use Rattle.path_core.proofs.Words.{sym, ap, ◌∙◌, is_none}
 use Rattle.path_core.proofs.FirstDuty.{passes, settled_stays}
 use Rattle.path_core.proofs.state.PathState.settle.Goals as goal
 

@@ -1,5 +1,5 @@
+use Rattle.path_core.proofs.Words.{settles_down}
 use Rattle.std.specs.Prelude.{◌≡◌, length}
-use Rattle.path_core.specs.Steps.{settles_down}
 use Rattle.path_core.proofs.state.PathState.settle.Given as goal
 
 -- what is to come of the path

@@ -1,4 +1,4 @@
-use Rattle.std.proofs.Common.{refl}
+use Rattle.path_core.proofs.Words.{refl}
 use Rattle.path_core.proofs.state.PathState.take_segment.Goals as goal
 
 pub returns-in_ok-self-inside-in-A-clause-ok : goal.returns-in_ok-self-inside-in-A-clause-ok

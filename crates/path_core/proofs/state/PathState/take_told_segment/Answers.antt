@@ -1,10 +1,4 @@
-use Rattle.std.proofs.Common.{◌≡◌, ◌∙◌, sym, ap, subst}
-use Rattle.std.specs.Result.{OnOk}
-use Rattle.path_segments.specs.HeardSegments.{heard_value, IsHeardShort}
-use Rattle.path_segments.specs.Heard.{HeardSegment}
-use Rattle.path_core.specs.OptionsIn.{options_heard}
-use Rattle.path_core.specs.End.{PathEnd}
-use Rattle.path_core.specs.Arrival.{told_at}
+use Rattle.path_core.proofs.Words.{◌≡◌, sym, ap, subst, ◌∙◌, OnOk, HeardSegment, heard_value, IsHeardShort, told_at, options_heard, PathEnd}
 use Rattle.path_core.proofs.state.PathState.take_told_segment.Goals as goal
 
 pub returns-clause-ok : goal.returns-clause-ok

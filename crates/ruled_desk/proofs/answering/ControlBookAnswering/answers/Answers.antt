@@ -1,5 +1,4 @@
-use Rattle.actor_desk.proofs.InKind.{control_kind}
-use Rattle.actor_desk.proofs.Small.{control_small}
+use Rattle.ruled_desk.proofs.Words.{control_kind, control_small}
 use Rattle.ruled_desk.proofs.answering.ControlBookAnswering.answers.Goals as goal
 
 pub returns : goal.returns

@@ -1,5 +1,4 @@
-use Rattle.actor_desk.proofs.InKind.{reassembly_kind}
-use Rattle.actor_desk.proofs.Small.{reassembly_small}
+use Rattle.ruled_desk.proofs.Words.{reassembly_kind, reassembly_small}
 use Rattle.ruled_desk.proofs.answering.ReassemblyBookAnswering.answers.Goals as goal
 
 pub returns : goal.returns

@@ -1,5 +1,4 @@
-use Rattle.actor_desk.proofs.InKind.{send_kind}
-use Rattle.actor_desk.proofs.Small.{send_small}
+use Rattle.ruled_desk.proofs.Words.{send_kind, send_small}
 use Rattle.ruled_desk.proofs.answering.SendBookAnswering.answers.Goals as goal
 
 pub returns : goal.returns

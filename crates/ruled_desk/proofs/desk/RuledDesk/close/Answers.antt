@@ -1,5 +1,4 @@
-use Rattle.std.proofs.Common.{◌∙◌, ap}
-use Rattle.ruled_desk.specs.SixSeats.{is_out}
+use Rattle.ruled_desk.proofs.Words.{◌∙◌, ap, is_out}
 use Rattle.ruled_desk.proofs.Outs.{all_left}
 use Rattle.ruled_desk.proofs.desk.RuledDesk.close.Goals as goal
 

@@ -1,6 +1,4 @@
-use Rattle.std.proofs.Common.{sym, subst, false}
-use Rattle.std.specs.Prelude.{slice_set}
-use Rattle.ruled_desk.specs.Parts.{AreLeft}
+use Rattle.ruled_desk.proofs.Words.{sym, subst, false, slice_set, AreLeft}
 use Rattle.ruled_desk.proofs.Outs.{one_left, left_join}
 use Rattle.ruled_desk.proofs.desk.RuledDesk.join.Goals as goal
 

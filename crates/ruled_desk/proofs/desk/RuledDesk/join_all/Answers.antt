@@ -1,8 +1,6 @@
-use Rattle.std.proofs.Common.{◌≡◌, ◌<◌, sym, ◌∙◌, ap, subst, length, get_or, set, take, arith}
-use Rattle.std.proofs.lemmas.List.{get_or_default}
+use Rattle.ruled_desk.proofs.Words.{◌≡◌, sym, ◌∙◌, ap, subst, ◌<◌, length, take, arith, set, get_or, get_or_default, HasPass, all_joined, known_with}
+use Rattle.ruled_desk.proofs.Words.{pass_taken, AreOf}
 use Rattle.std.proofs.lemmas.List.Edits.{map_over_more}
-use Rattle.ruled_desk.specs.Riding.{HasPass, all_joined, known_with, pass_taken}
-use Rattle.ruled_desk.specs.SixSeats.{AreOf}
 use Rattle.ruled_desk.proofs.PassesGiven.{home_more, joined_more, next_actor, next_same, of_with}
 use Rattle.ruled_desk.proofs.desk.RuledDesk.join_all.Goals as goal
 

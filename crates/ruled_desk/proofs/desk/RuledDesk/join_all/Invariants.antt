@@ -1,6 +1,4 @@
-use Rattle.std.proofs.Common.{◌≡◌, ◌≤◌, ◌<◌, ◌⊎◌, ◌++◌, ℕ, false, length, map, take, drop}
-use Rattle.ruled_desk.specs.Riding.{all_joined, pass_taken}
-use Rattle.ruled_desk.specs.SixSeats.{AreOf, is_out}
+use Rattle.ruled_desk.proofs.Words.{◌≡◌, ℕ, ◌<◌, ◌≤◌, ◌⊎◌, false, ◌++◌, length, map, take, drop, all_joined, pass_taken, AreOf, is_out}
 use Rattle.ruled_desk.proofs.desk.RuledDesk.join_all.Given as goal
 
 -- the riders so far gave their passes back, and the root knows what these note

@@ -1,7 +1,4 @@
-use Rattle.std.proofs.Common.{sym, ◌∙◌, ap, subst, true, arith}
-use Rattle.std.specs.Prelude.{slice_set}
-use Rattle.ruled_desk.specs.Parts.{AreLeft}
-use Rattle.ruled_desk.specs.SixSeats.{is_out}
+use Rattle.ruled_desk.proofs.Words.{sym, ◌∙◌, ap, subst, true, arith, slice_set, is_out, AreLeft}
 use Rattle.ruled_desk.proofs.Outs.{some_left, left_split}
 use Rattle.ruled_desk.proofs.desk.RuledDesk.split.Goals as goal
 

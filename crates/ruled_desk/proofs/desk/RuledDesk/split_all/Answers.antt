@@ -1,8 +1,5 @@
-use Rattle.std.proofs.Common.{◌≡◌, ◌<◌, sym, ◌∙◌, ap, subst, length, get_or, set, arith}
-use Rattle.std.proofs.lemmas.List.{get_or_default}
+use Rattle.ruled_desk.proofs.Words.{◌≡◌, sym, ◌∙◌, ap, subst, ◌<◌, length, arith, set, get_or, get_or_default, given_pass, AreOf}
 use Rattle.std.proofs.lemmas.List.Edits.{map_over_more}
-use Rattle.ruled_desk.specs.Riding.{given_pass}
-use Rattle.ruled_desk.specs.SixSeats.{AreOf}
 use Rattle.ruled_desk.proofs.PassesGiven.{next_actor, others_more}
 use Rattle.ruled_desk.proofs.desk.RuledDesk.split_all.Goals as goal
 

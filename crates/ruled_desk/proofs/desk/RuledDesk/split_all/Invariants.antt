@@ -1,6 +1,4 @@
-use Rattle.std.proofs.Common.{◌≡◌, ◌≤◌, ◌++◌, ℕ, false, map, take, drop}
-use Rattle.ruled_desk.specs.Riding.{given_pass}
-use Rattle.ruled_desk.specs.SixSeats.{is_out}
+use Rattle.ruled_desk.proofs.Words.{◌≡◌, ℕ, ◌≤◌, false, ◌++◌, map, take, drop, given_pass, is_out}
 use Rattle.ruled_desk.proofs.desk.RuledDesk.split_all.Given as goal
 
 -- the riders so far have their passes, and no other is out

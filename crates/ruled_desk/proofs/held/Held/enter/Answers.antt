@@ -1,4 +1,4 @@
-use Rattle.stamped_book.specs.Journal.{book_of}
+use Rattle.ruled_desk.proofs.Words.{book_of}
 use Rattle.ruled_desk.proofs.Entering.{stays_sound, used_up_then}
 use Rattle.ruled_desk.proofs.held.Held.enter.Goals as goal
 

@@ -1,5 +1,4 @@
-use Rattle.std.proofs.Common.{◌∙◌, ◌<◌, ◌^◌, ap, subst}
-use Rattle.stamped_book.specs.Journal.{Rise, last_stamp}
+use Rattle.ruled_desk.proofs.Words.{◌∙◌, ap, subst, ◌^◌, ◌<◌, Rise, last_stamp}
 use Rattle.ruled_desk.proofs.Entering.{full_test}
 use Rattle.ruled_desk.proofs.held.Held.is_full.Goals as goal
 

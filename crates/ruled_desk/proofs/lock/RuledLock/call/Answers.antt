@@ -1,5 +1,4 @@
-use Rattle.std.proofs.Common.{◌∙◌, ap}
-use Rattle.ruled_desk.specs.Growing.{entry_by}
+use Rattle.ruled_desk.proofs.Words.{◌∙◌, ap, entry_by}
 use Rattle.ruled_desk.proofs.Calling.{own_entry, parts_after, rests_again}
 use Rattle.ruled_desk.proofs.lock.RuledLock.call.Goals as goal
 

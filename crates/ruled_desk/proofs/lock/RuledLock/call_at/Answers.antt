@@ -1,4 +1,4 @@
-use Rattle.std.proofs.Common.{ap, inl, inr, ⊎_elim, [], false, Err}
+use Rattle.ruled_desk.proofs.Words.{ap, inl, inr, false, [], Err, ⊎_elim}
 use Rattle.ruled_desk.proofs.Calling.{called, one_more, out_turn, refused_turn, stamped_full}
 use Rattle.ruled_desk.proofs.lock.RuledLock.call_at.Goals as goal
 

@@ -1,4 +1,4 @@
-use Rattle.std.proofs.Common.{sym, ap, subst, ◌≤◌}
+use Rattle.ruled_desk.proofs.Words.{sym, ap, subst, ◌≤◌}
 use Rattle.stamped_book.specs.contracts.stamped.Entry.{the_row}
 use Rattle.ruled_desk.proofs.Members.{gains, is_home, gains_seen}
 use Rattle.ruled_desk.proofs.RuleJoining.{closes_by}

@@ -1,4 +1,4 @@
-use Rattle.std.proofs.Common.{sym, ◌∙◌, ap, arith}
+use Rattle.ruled_desk.proofs.Words.{sym, ◌∙◌, ap, arith}
 use Rattle.ruled_desk.proofs.RuleSteps.{draws}
 use Rattle.ruled_desk.proofs.lock.RuledLock.draw.Goals as goal
 

@@ -1,4 +1,4 @@
-use Rattle.std.proofs.Common.{sym, ◌∙◌, ap, subst, ◌≤◌, arith}
+use Rattle.ruled_desk.proofs.Words.{sym, ◌∙◌, ap, subst, ◌≤◌, arith}
 use Rattle.ruled_desk.proofs.RuleJoining.{joins}
 use Rattle.ruled_desk.proofs.lock.RuledLock.join.Goals as goal
 

@@ -1,4 +1,4 @@
-use Rattle.std.proofs.Common.{sym, ◌∙◌, ap, arith}
+use Rattle.ruled_desk.proofs.Words.{sym, ◌∙◌, ap, arith}
 use Rattle.ruled_desk.proofs.RuleSteps.{looks}
 use Rattle.ruled_desk.proofs.RuleWords.{looked_taken, looked_still}
 use Rattle.ruled_desk.proofs.lock.RuledLock.look.Goals as goal

@@ -1,6 +1,4 @@
-use Rattle.std.proofs.Common.{sym, ◌∙◌, ap, subst, [], ◌∷◌, ◌++◌, Some}
-use Rattle.atomic_table.specs.Table.{opening}
-use Rattle.ruled_desk.specs.Rule.{IsRuled, first_view}
+use Rattle.ruled_desk.proofs.Words.{sym, ◌∙◌, ap, subst, [], ◌∷◌, ◌++◌, Some, opening, IsRuled, first_view}
 use Rattle.ruled_desk.proofs.RuleSteps.{opens}
 use Rattle.ruled_desk.proofs.lock.RuledLock.open.Goals as goal
 

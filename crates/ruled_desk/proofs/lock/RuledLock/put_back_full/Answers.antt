@@ -1,4 +1,4 @@
-use Rattle.std.proofs.Common.{sym, ◌∙◌, ap, true, None}
+use Rattle.ruled_desk.proofs.Words.{sym, ◌∙◌, ap, true, None}
 use Rattle.ruled_desk.proofs.Putting.{held_some, is_back, done_back}
 use Rattle.ruled_desk.proofs.lock.RuledLock.put_back_full.Goals as goal
 

@@ -1,4 +1,4 @@
-use Rattle.std.proofs.Common.{sym, ◌∙◌, ap, Some, None, arith}
+use Rattle.ruled_desk.proofs.Words.{sym, ◌∙◌, ap, Some, None, arith}
 use Rattle.ruled_desk.proofs.Putting.{held_some, mid_took, mid_slot, is_back_more, done_entry}
 use Rattle.ruled_desk.proofs.RuleAdding.{adds_one}
 use Rattle.ruled_desk.proofs.lock.RuledLock.put_entry.Goals as goal

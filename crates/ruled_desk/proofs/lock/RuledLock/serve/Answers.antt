@@ -1,4 +1,4 @@
-use Rattle.std.proofs.Common.{sym, ◌∙◌, ap, arith, true, false}
+use Rattle.ruled_desk.proofs.Words.{sym, ◌∙◌, ap, true, false, arith}
 use Rattle.ruled_desk.proofs.RuleAdding.{serves_next}
 use Rattle.ruled_desk.proofs.lock.RuledLock.serve.Goals as goal
 

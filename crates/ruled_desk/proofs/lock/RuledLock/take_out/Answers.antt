@@ -1,5 +1,4 @@
-use Rattle.std.proofs.Common.{sym, ◌∙◌, ap, ◌∷◌, Some}
-use Rattle.atomic_table.specs.Table.{rest}
+use Rattle.ruled_desk.proofs.Words.{sym, ◌∙◌, ap, ◌∷◌, Some, rest}
 use Rattle.ruled_desk.proofs.lock.RuledLock.take_out.Goals as goal
 
 pub exchange-requires : goal.exchange-requires

@@ -1,5 +1,4 @@
-use Rattle.std.proofs.Common.{ap, subst}
-use Rattle.ruled_desk.specs.Seats.{GainsJust}
+use Rattle.ruled_desk.proofs.Words.{ap, subst, GainsJust}
 use Rattle.ruled_desk.proofs.Members.{gains_nothing}
 use Rattle.ruled_desk.proofs.lock.RuledLock.undo.Goals as goal
 

@@ -1,5 +1,4 @@
-use Rattle.std.proofs.Common.{sym, subst}
-use Rattle.ruled_desk.specs.Rule.{HasTaken, IsWaiting}
+use Rattle.ruled_desk.proofs.Words.{sym, subst, IsWaiting, HasTaken}
 use Rattle.ruled_desk.proofs.lock.RuledLock.wait.Goals as goal
 
 pub look-requires-clause-waits : goal.look-requires-clause-waits

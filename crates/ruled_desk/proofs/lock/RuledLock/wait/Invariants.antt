@@ -1,4 +1,4 @@
-use Rattle.std.proofs.Common.{◌≡◌}
+use Rattle.ruled_desk.proofs.Words.{◌≡◌}
 use Rattle.ruled_desk.proofs.lock.RuledLock.wait.Given as goal
 
 -- nothing has changed yet
