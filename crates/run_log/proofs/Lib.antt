@@ -7,3 +7,4 @@ pub mod LogReads
 pub mod FirstRefused
 pub mod Retelling
 pub mod LinesTell
+mod GatheredLines
