@@ -26,10 +26,10 @@ is_current() {
     [ -z "$(find "$top/crates.txt" "$top"/crates/*/{src,specs,proofs} -newer "$1" -print -quit 2>/dev/null)" ]
 }
 
-# run_proved WORD..: ends with a run of the proved program. Its heap comes in huge pages where the system gives them to who asks; a setting
-# of the user's own, also an empty one, stays.
+# run_proved WORD..: ends with a run of the proved program. Its heap comes in huge pages where the system gives them to who asks, and grows by 8 MiB at once;
+# a setting of the user's own, also an empty one, stays.
 run_proved() {
-    export GLIBC_TUNABLES=${GLIBC_TUNABLES-glibc.malloc.hugetlb=1}
+    export GLIBC_TUNABLES=${GLIBC_TUNABLES-glibc.malloc.hugetlb=1:glibc.malloc.top_pad=8388608}
     exec "$program" "$@"
 }
 

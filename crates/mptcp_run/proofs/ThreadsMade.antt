@@ -1,19 +1,26 @@
 -- The next world of a run by threads.
-use Rattle.std.proofs.Common.{◌≡◌, refl, sym, ◌∙◌, ap, subst, ℕ, ◌-◌, Bool, true, false, not, Result, List, arith}
+use Rattle.std.proofs.Common.{◌≡◌, refl, sym, ◌∙◌, ap, subst, ℕ, ◌-◌, Bool, true, false, not, Result, List, length, take, arith}
+use Rattle.std.proofs.Math.Seq.{take-length}
 use Rattle.std.specs.Prelude.{Ok, Err, IfOk, IfErr, OnOk}
+use Rattle.actor_desk.specs.declared.ask.Note.{Note}
 use Rattle.actor_desk.specs.Books.{StampedBooks}
 use Rattle.world_laws.specs.Actors.{ActorCrew}
+use Rattle.sides.specs.declared.side.Side.TheVariants.{A, B}
 use Rattle.world_laws.specs.Fine.{IsFine}
+use Rattle.world_laws.specs.Outcomes.{notes_at, notes_of}
 use Rattle.world_laws.specs.Weaving as weaving
 use Rattle.world_laws.specs.Worlds.{end_round, greatest}
 use Rattle.journal_weave.specs.Rounds.{HaveTurned, WeavesTo}
+use Rattle.world_core.specs.declared.hearing.Heard.{Heard}
+use Rattle.world_core.specs.declared.hearing.Hearing.{Hearing}
+use Rattle.world_core.specs.Hearing.{WasHeard, heard_first, told_by}
 use Rattle.world_core.specs.Kept.{Kept, IsInRoundAbove, IsSound, standing, world}
 use Rattle.world_core.proofs.InRound.{steps_in_round}
 use Rattle.mptcp_run.specs.Rounds.{Begins}
 use Rattle.mptcp_run.specs.Task.{Connection}
 use Rattle.mptcp_run.specs.Threads.{GoesTo, IsWoven, has_order}
 use Rattle.mptcp_run.proofs.LogWoven.{steps_fine}
-use Rattle.mptcp_run.proofs.TurnsTimely.{each_timely}
+use Rattle.mptcp_run.proofs.TurnsTimely.{each_timely, first_notes}
 
 -- ---- orders
 
@@ -62,6 +69,32 @@ left_sound crew after books left sound have actors h = record {
   timely = record { each = λ i d at. each_timely crew after have.many have.turned (λ j c there. sound.timely.each j c there) i d at };
   round = subst (IsInRoundAbove sound.top) h.leads (steps_in_round actors sound.top (world crew books) sound.round);
 }
+
+abbrev hearing : List Note → List Note → Hearing
+hearing a b = record { a = told_by a; b = told_by b }
+
+-- what its readers were told before the round was told by their first steps
+heard_still : (heard : Heard) (crew after : List (ActorCrew (List ℕ))) → WasHeard heard crew → heard.steps_a ≡ length (notes_of A crew)
+    → heard.steps_b ≡ length (notes_of B crew) → HaveTurned crew after → WasHeard heard after
+heard_still heard crew after was a b have = was ∙ by (first 0 heard.steps_a a) (first 1 heard.steps_b b)
+  where
+    first : (i n : ℕ) → n ≡ length (notes_at i crew) → take n (notes_at i crew) ≡ take n (notes_at i after)
+    first i n is =
+        ap (λ k. take k (notes_at i crew)) is ∙ take-length (notes_at i crew) ∙ sym (first_notes crew after have.many have.turned i)
+        ∙ ap (λ k. take k (notes_at i after)) (sym is)
+
+    by : take heard.steps_a (notes_at 0 crew) ≡ take heard.steps_a (notes_at 0 after) → take heard.steps_b (notes_at 1 crew) ≡ take heard.steps_b (notes_at 1 after)
+        → heard_first heard.steps_a heard.steps_b crew ≡ heard_first heard.steps_a heard.steps_b after
+    by e f = ap (λ notes. hearing notes (take heard.steps_b (notes_at 1 crew))) e ∙ ap (λ notes. hearing (take heard.steps_a (notes_at 0 after)) notes) f
+
+pub found_heard : {V E : Type 0} (heard : Heard) (r : Result V E) (found : Bool) (k : Kept) (crew after : List (ActorCrew (List ℕ))) (books : StampedBooks)
+    → found ≡ has_order r → k ≡ standing (world crew books) → WasHeard heard k.state.crew → heard.steps_a ≡ length (notes_of A k.state.crew)
+    → heard.steps_b ≡ length (notes_of B k.state.crew) → OnOk r (HaveTurned crew after) → not found ≡ false → WasHeard heard after
+found_heard heard (Ok order) found k crew after books found_is is was a b have stands =
+    heard_still heard crew after (subst (λ (k : Kept). WasHeard heard k.state.crew) is was) (a ∙ ap (λ (k : Kept). length (notes_of A k.state.crew)) is)
+    (b ∙ ap (λ (k : Kept). length (notes_of B k.state.crew)) is) have
+found_heard heard (Err e) found k crew after books found_is is was a b have stands =
+    let no : found ≡ true = not_false found stands in cc
 
 -- an order was found, or not
 module _ {V E : Type 0} (items : V → List ℕ) (r : Result V E) (found : Bool) (found_is : found ≡ has_order r)

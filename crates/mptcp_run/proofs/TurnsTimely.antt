@@ -1,6 +1,7 @@
 -- What the turns of a round by threads leave of how many rounds each actor has begun.
-use Rattle.std.proofs.Common.{◌≡◌, refl, sym, ◌∙◌, ap, subst, ℕ, zero, suc, ◌+◌, ◌<◌, Some, List, [], ◌∷◌, length, arith}
+use Rattle.std.proofs.Common.{◌≡◌, refl, sym, ◌∙◌, ap, subst, ℕ, zero, suc, ◌+◌, ◌<◌, Some, List, [], ◌∷◌, length, take, arith}
 use Rattle.std.specs.List.{slice_get, slice_index_or}
+use Rattle.std.proofs.Math.Seq.{take-append_seam}
 use Rattle.std.proofs.lemmas.List.{length-append}
 use Rattle.std.proofs.lemmas.Option.{same_Some}
 use Rattle.actor_desk.specs.declared.ask.Note.{Note}
@@ -9,6 +10,7 @@ use Rattle.path_core.specs.Octets.{octets}
 use Rattle.actor_turn.specs.Turns.{Turned, member_after}
 use Rattle.world_laws.specs.Actors.{Actor, ActorCrew, member_asks, member_takes}
 use Rattle.world_laws.specs.declared.member.Member.TheVariants.{App, Path}
+use Rattle.world_laws.specs.Outcomes.{notes_at}
 use Rattle.world_laws.specs.Timely.{IsTimelyMember}
 use Rattle.world_laws.proofs.Rounds.Frame.{takes_keeps}
 use Rattle.world_core.specs.Timely.{IsTimelyCrew}
@@ -58,3 +60,15 @@ each_timely (c ∷ crew) (x ∷ after) many turned h zero d at =
     subst IsTimelyCrew (same_Some x d at) (timely c x (turned 0 c (omega arith)) (h 0 c refl))
 each_timely (c ∷ crew) (x ∷ after) many turned h (suc i) d at =
     each_timely crew after (omega (arith, many)) (rest_turned c x crew after turned) (λ j y there. h (suc j) y there) i d at
+
+-- ---- their lists
+
+-- the notes that each actor had are its first ones
+pub first_notes : (crew after : List Crew) → length after ≡ length crew → AllTurned crew after → (i : ℕ)
+    → take (length (notes_at i crew)) (notes_at i after) ≡ notes_at i crew
+first_notes [] [] many turned i = refl
+first_notes [] (x ∷ after) many turned i = absurd (omega (arith, many))
+first_notes (c ∷ crew) [] many turned i = absurd (omega (arith, many))
+first_notes (c ∷ crew) (x ∷ after) many turned zero =
+    let turn = turned 0 c (omega arith) in ap (take (length c.list)) turn.made.list ∙ take-append_seam c.list turn.notes
+first_notes (c ∷ crew) (x ∷ after) many turned (suc i) = first_notes crew after (omega (arith, many)) (rest_turned c x crew after turned) i

@@ -40,10 +40,11 @@ fn by_threads<G: Gate + Sync, R: Threads + Wait + Sync>(
     requires begins { Begins world.state }
     ensures { IfOk result.1 (λ order. IsWoven world.state result.0 order.items) }
 {
+    let heard = world.heard();
     let (books, mut crew) = world.into_parts();
     let (books, order) = woven_round(rt, alloc, &mut crew, books, gate);
     let failed = !has_order(&order);
-    (World::from_parts(books, crew, failed), order)
+    (World::from_parts_since(books, crew, failed, heard), order)
 }
 
 /// The connection after one more round by threads. Stamps that are used up count as want of memory, as in each other mode: 2^62 steps

@@ -9,10 +9,12 @@ use crate::held::Held;
 use crate::rule::{Add, AllParts, BookView, Draw, Look, OnePart, Ruled, Serve, ServeFull};
 use actor_desk::Kept;
 use atomic_table::{Refused, Seat, Table};
+use crossbeam_utils::sync::EventCount;
 use stamped_book::{Book, Stamped};
 use std::alloc::Global;
 use std::marker::Model;
 use std::snapshot::Snapshot;
+use std::sync::Wait;
 
 /// A seat at the table of a book.
 pub(crate) type BookSeat<O> = Seat<Option<Held<O>>, BookView<O>>;
@@ -21,6 +23,8 @@ pub(crate) type BookSeat<O> = Seat<Option<Held<O>>, BookView<O>>;
 #[derive(Drop)]
 pub struct RuledLock<O: Kept + Drop> {
     table: Table<Option<Held<O>>, BookView<O>, Snapshot<Held<O>>, Ruled, Global>,
+    // Threads sleep at these until their tickets are served, by the tickets modulo 8.
+    bells: [EventCount; 8],
 }
 
 impl<O: Kept + Drop> Model for RuledLock<O> {
@@ -57,6 +61,20 @@ impl<O: Kept> Model for RestingSeat<O> {
     ghost invariant = { λ s. IsAtRest s.seat.me.0 × (s.seat.me.1 ≡ []) };
 }
 
+// Nobody sleeps.
+fn bells() -> [EventCount; 8] {
+    [
+        EventCount::new(),
+        EventCount::new(),
+        EventCount::new(),
+        EventCount::new(),
+        EventCount::new(),
+        EventCount::new(),
+        EventCount::new(),
+        EventCount::new(),
+    ]
+}
+
 // The book of a slot that no table took.
 fn taken_back<O: Answering + Drop>(mut slots: Vec<Option<Held<O>>>) -> Stamped<O>
     requires { (book : Journaled O O.Call O.Reply) × (slots.items ≡ Some book ∷ []) }
@@ -88,7 +106,13 @@ impl<O: Answering + Drop> RuledLock<O> {
         };
         slots.push_reserved(Some(held));
         match Table::new(alloc, &[0, 0, 0], slots, &key) {
-            Ok((table, seat)) => Ok((RuledLock { table }, RestingSeat { seat })),
+            Ok((table, seat)) => Ok((
+                RuledLock {
+                    table,
+                    bells: bells(),
+                },
+                RestingSeat { seat },
+            )),
             Err(Refused { slots }) => Err(taken_back(slots)),
         }
     }
@@ -127,7 +151,7 @@ impl<O: Answering + Drop> RuledLock<O> {
         ensures gains { GainsJust self.start result seat.own seat.full }
         ensures sound { O.sound (book_of O.reply_to O.after result) }
     {
-        let RuledLock { table } = self;
+        let RuledLock { table, bells: _ } = self;
         let RestingSeat { seat } = seat;
         let mut closed = table.close_with(seat);
         let slot = closed.take(0);
@@ -168,6 +192,29 @@ impl<O: Answering + Drop> RuledLock<O> {
         self.table.shared.load::<Look>(seat, 1) == ticket
     }
 
+    // The ticket that is served.
+    fn served(&self) -> u64 {
+        self.table.shared.peek(1)
+    }
+
+    // Where who waits for the ticket sleeps.
+    fn bell(&self, ticket: u64) -> &EventCount {
+        &self.bells[(ticket % 8) as usize]
+    }
+
+    /// Sleeps until the ticket is served.
+    pub(crate) fn sleep<R: Wait>(&self, rt: &R, ticket: u64) {
+        let key = self.bell(ticket).prepare_wait();
+        if self.served() != ticket {
+            key.wait(rt);
+        }
+    }
+
+    // Wakes who sleeps until the ticket is served that is served now.
+    fn wake(&self) {
+        self.bell(self.served()).notify_all();
+    }
+
     /// Takes the book out of the slot.
     pub(crate) fn take_out(&self, seat: &mut BookSeat<O>) -> Held<O>
         requires table { seat.old.table_id ≡ self.now.table }
@@ -195,6 +242,7 @@ impl<O: Answering + Drop> RuledLock<O> {
         } else {
             self.table.shared.fetch_add::<Serve>(seat, 1, 1);
         }
+        self.wake();
     }
 
     /// Puts the book back with the entry that it has more, which is the seat's own from then on, and serves the next ticket.

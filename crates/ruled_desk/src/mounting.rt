@@ -17,13 +17,13 @@ pub(crate) fn mount<A: Drop>(
     ensures err { OnErr result (crew.new.items ≡ crew.old.items) }
 {
     let mut riders = Vec::with_capacity(alloc, crew.len())?;
-    while !crew.is_empty() {
-        let first = crew.remove(0);
+    while let Some(last) = crew.pop() {
         riders.push_reserved(Rider {
-            crew: first,
+            crew: last,
             pass: None,
         });
     }
+    riders.reverse();
     Ok(riders)
 }
 
@@ -34,11 +34,12 @@ pub(crate) fn dismount<A: Drop>(crew: &mut Vec<Crew<A>>, riders: Vec<Rider<A>>)
     ensures { crew.new.items ≡ crew_of riders.items }
 {
     let mut riders = riders;
-    while !riders.is_empty() {
+    while let Some(rider) = riders.pop() {
         let Rider {
-            crew: first,
+            crew: last,
             pass: _,
-        } = riders.remove(0);
-        crew.push_reserved(first);
+        } = rider;
+        crew.push_reserved(last);
     }
+    crew.reverse();
 }

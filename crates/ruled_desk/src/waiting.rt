@@ -7,15 +7,24 @@ ghost use Rattle.ruled_desk.specs.Growing.{entry_by};
 use crate::answering::Answering;
 use crate::held::Held;
 use crate::lock::{BookSeat, RestingSeat, RuledLock};
+use crossbeam_utils::Backoff;
 use outside_kit::Gate;
 use sides::Object;
 use stamped_book::{Pass, Refusal};
 use std::sync::Wait;
-use std::thread;
 
 impl<O: Answering + Drop> RuledLock<O> {
     ghost use Rattle.ruled_desk.specs.Called.{IsCalled, IsRefused};
     ghost use Rattle.ruled_desk.specs.Rule.{HasTaken, IsAtRest, IsOut, IsWaiting};
+
+    // Lets others go on: for some moments at first, and then until the ticket is served.
+    fn rest<R: Wait>(&self, rt: &R, backoff: &Backoff, ticket: u64) {
+        if backoff.is_completed() {
+            self.sleep(rt, ticket);
+        } else {
+            backoff.snooze();
+        }
+    }
 
     // Waits until the ticket is served. Then the seat has the book.
     fn wait<R: Wait>(&self, rt: &R, seat: &mut BookSeat<O>, ticket: u64)
@@ -24,11 +33,12 @@ impl<O: Answering + Drop> RuledLock<O> {
         ensures table { seat.new.table_id ≡ seat.old.table_id }
         ensures taken { HasTaken seat.old.me seat.new.me }
     {
+        let backoff = Backoff::new();
         for _ in rt.forever() {
             if self.look(seat, ticket) {
                 return;
             }
-            thread::yield_now();
+            self.rest(rt, &backoff, ticket);
         }
         unreachable!()
     }

@@ -7,4 +7,5 @@ pub mod LogReads
 pub mod FirstRefused
 pub mod Retelling
 pub mod LinesTell
+mod GatheredLines
 mod Words

@@ -24,4 +24,4 @@ pub use laws::{a_line_tells_its_note, a_log_reads_to_its_turns, the_first_refuse
 pub use outcome::Outcome;
 pub use reading::read_log;
 pub use turn::Turn;
-pub use writing::{line, opening, outcome_line, round_line};
+pub use writing::{line, opening, outcome_line, round_line, round_lines};

@@ -1,12 +1,12 @@
 //! Writes the lines of a log.
 
-ghost use Rattle.std.specs.Prelude.{◌≡◌, ◌++◌, OnOk, IfOk, string_bytes};
-ghost use Rattle.std.specs.List.{flat_map};
+ghost use Rattle.std.specs.Prelude.{◌≡◌, ◌++◌, All, OnOk, IfOk, map, string_bytes};
+ghost use Rattle.std.specs.List.{AllByRecursion, flat_map};
 ghost use Rattle.link_script.specs.Writing.{spaced};
 ghost use Rattle.run_log.specs.Fitting.{AskFits, ReplyFits, NoteFits};
 ghost use Rattle.run_log.specs.Calls.{ask_words};
 ghost use Rattle.run_log.specs.Replies.{reply_text};
-ghost use Rattle.run_log.specs.Lines.{object_of, step_text, round_text, key_word, keys_text, outcome_text, opening_lines, ended};
+ghost use Rattle.run_log.specs.Lines.{object_of, step_text, round_lines, round_text, key_word, keys_text, outcome_text, opening_lines, ended};
 
 use crate::control_call::put_control_call;
 use crate::control_reply::put_control_reply;
@@ -68,6 +68,35 @@ fn put_reply(text: &mut String, reply: &Reply) -> Result<(), AllocError>
     }
 }
 
+/// Puts the line of a step at the end of a text.
+fn put_line(text: &mut String, note: &Note) -> Result<(), AllocError>
+    ensures text { OnOk result (string_bytes text.new ≡
+        string_bytes text.old ++ ended (step_text note.now)) }
+    ensures fits { OnOk result (NoteFits note.now) }
+{
+    let Note { stamp, actor, .. } = *note;
+    write!(
+        text,
+        "{stamp} {actor} {} ",
+        object_name(object_of(&note.ask))
+    )?;
+    put_ask(text, &note.ask)?;
+    put_reply(text, &note.reply)?;
+    writeln!(text)
+}
+
+/// Puts the lines of steps, in this order, at the end of a text.
+fn put_lines(text: &mut String, steps: &[&Note]) -> Result<(), AllocError>
+    ensures text { OnOk result (string_bytes text.new ≡
+        string_bytes text.old ++ flat_map ended (map (λ note. step_text note.now) steps.now)) }
+    ensures fits { OnOk result (All (λ note. NoteFits note.now) steps.now) }
+{
+    for note in steps {
+        put_line(text, *note)?;
+    }
+    Ok(())
+}
+
 /// Writes the line of a step: its stamp, its actor, the object, what was asked and, at a book, what was answered.
 /// Numbers are decimal; of octets the line tells how many there are. The line ends with LF.
 ///
@@ -78,15 +107,7 @@ pub fn line(alloc: Global, note: &Note) -> Result<Text, AllocError>
     ensures fits { OnOk result (NoteFits note.now) }
 {
     let mut text = String::new(alloc);
-    let Note { stamp, actor, .. } = *note;
-    write!(
-        text,
-        "{stamp} {actor} {} ",
-        object_name(object_of(&note.ask))
-    )?;
-    put_ask(&mut text, &note.ask)?;
-    put_reply(&mut text, &note.reply)?;
-    writeln!(text)?;
+    put_line(&mut text, note)?;
     Ok(Text::from(text.into_bytes()))
 }
 
@@ -109,6 +130,22 @@ pub fn round_line(alloc: Global, number: u64) -> Result<Text, AllocError>
     ensures exact { IfOk result (λ text. text ≡ ended (round_text number)) }
 {
     let mut text = String::new(alloc);
+    writeln!(text, "round {number}")?;
+    Ok(Text::from(text.into_bytes()))
+}
+
+/// Writes the lines of the round with this number, the first one being 0: that of each step, in this order, as [`line`] writes
+/// it, and the one that ends the round.
+///
+/// At an error nothing is kept.
+pub fn round_lines(alloc: Global, number: u64, steps: &[&Note]) -> Result<Text, AllocError>
+    ensures exact { IfOk result (λ text.
+        text ≡ flat_map ended (round_lines number (map (λ note. note.now) steps.now))) }
+    // Their numbers are numbers of their types.
+    ensures fits { OnOk result (AllByRecursion NoteFits (map (λ note. note.now) steps.now)) }
+{
+    let mut text = String::new(alloc);
+    put_lines(&mut text, steps)?;
     writeln!(text, "round {number}")?;
     Ok(Text::from(text.into_bytes()))
 }

@@ -5,4 +5,3 @@ pub mod Loading
 mod PartingLemmas
 pub mod LogEnds
 pub mod Drawing
-mod GatheredLines

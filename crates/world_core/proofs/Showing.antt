@@ -1,6 +1,6 @@
 -- What the outcome asks for, after a step of one actor and after a round's end.
-use Rattle.std.proofs.Common.{◌≡◌, refl, sym, ◌∙◌, ap, ℕ, zero, suc, ◌&&◌, ◌||◌, false, Bool, true, Some, List, [], ◌∷◌, ◌++◌, map, set}
-use Rattle.std.proofs.lemmas.List.{length-set}
+use Rattle.std.proofs.Common.{◌≡◌, refl, sym, ◌∙◌, ap, ℕ, zero, suc, ◌&&◌, ◌||◌, false, Bool, true, Some, List, [], ◌∷◌, ◌++◌, map, set, take, drop}
+use Rattle.std.proofs.lemmas.List.{length-set, take-append-drop}
 use Rattle.std.proofs.lemmas.List.Folds.{list_any-append}
 use Rattle.std.proofs.lemmas.Option.{same_Some}
 use Rattle.std.specs.List.{slice_get}
@@ -11,7 +11,8 @@ use Rattle.world_laws.specs.Actors.{ActorCrew}
 use Rattle.world_laws.specs.Fine.{lists_of}
 use Rattle.world_laws.specs.Outcomes.{note_tells, was_told, tells_end, tells_abort, notes_at, notes_of, are_all_dead, is_no_live_path, outcome_by, outcome_of}
 use Rattle.world_laws.specs.Worlds.{begins}
-use Rattle.world_core.specs.Hearing.{told_by, told_more, heard_more, heard_by, ShowsTheSame}
+use Rattle.world_core.specs.declared.hearing.Told.{Told}
+use Rattle.world_core.specs.Hearing.{told_by, told_more, with_told, heard_more, heard_by, ShowsTheSame}
 
 -- ---- one note more
 
@@ -23,6 +24,21 @@ told_once test notes n = list_any-append (note_tells test) notes (n ∷ []) ∙ 
 
 told_again : (notes : List Note) (n : Note) → told_by (notes ++ n ∷ []) ≡ told_more n.reply (told_by notes)
 told_again notes n = rw (told_once tells_end notes n, told_once tells_abort notes n) refl
+
+-- ---- more notes
+
+told_split : (test : Reply → Bool) (n : ℕ) (notes : List Note) → (was_told test (take n notes) || was_told test (drop n notes)) ≡ was_told test notes
+told_split test n notes = sym (list_any-append (note_tells test) (take n notes) (drop n notes)) ∙ ap (was_told test) (take-append-drop n notes)
+
+-- what the first ones told, and the others
+pub told_both : (n : ℕ) (notes : List Note) (told : Told) → told ≡ told_by (take n notes) → with_told (told_by (drop n notes)) told ≡ told_by notes
+told_both n notes told is =
+    ap (with_told (told_by (drop n notes))) is
+    ∙ by (was_told tells_end (take n notes) || was_told tells_end (drop n notes)) (was_told tells_abort (take n notes) || was_told tells_abort (drop n notes))
+    (told_split tells_end n notes) (told_split tells_abort n notes)
+  where
+    by : (end abort : Bool) → end ≡ was_told tells_end notes → abort ≡ was_told tells_abort notes → record { end = end; abort = abort } ≡ told_by notes
+    by end abort e f = rw (e, f) refl
 
 module _ {C : Type 0} where
   -- ---- an actor in the place of another

@@ -1,5 +1,5 @@
 -- What the readers of both sides were told, as far as the outcome asks for it.
-use Rattle.std.specs.Prelude.{ℕ, zero, suc, ◌≡◌, ◌||◌, Option, Some, None, List, length}
+use Rattle.std.specs.Prelude.{ℕ, zero, suc, ◌≡◌, ◌||◌, Option, Some, None, List, length, take}
 use Rattle.sides.specs.declared.side.Side.TheVariants.{A, B}
 use Rattle.actor_desk.specs.declared.ask.Note.{Note}
 use Rattle.actor_desk.specs.declared.ask.Reply.{Reply}
@@ -7,6 +7,7 @@ use Rattle.world_laws.specs.Actors.{ActorCrew}
 use Rattle.world_laws.specs.Fine.{lists_of}
 use Rattle.world_laws.specs.Outcomes.{tells_end, tells_abort, was_told, notes_of, are_all_dead}
 use Rattle.world_core.specs.declared.hearing.Told.{Told}
+use Rattle.world_core.specs.declared.hearing.Heard.{Heard}
 use Rattle.world_core.specs.declared.hearing.Hearing.{Hearing}
 
 -- what these steps tell
@@ -52,6 +53,14 @@ module _ {C : Type 0} where
   -- by all steps of both readers
   abbrev pub heard_by : List (ActorCrew C) → Hearing
   heard_by crew = record { a = told_by (notes_of A crew); b = told_by (notes_of B crew) }
+
+  -- by so many steps of A's reader, its first ones, and so many of B's
+  abbrev pub heard_first : ℕ → ℕ → List (ActorCrew C) → Hearing
+  heard_first a b crew = record { a = told_by (take a (notes_of A crew)); b = told_by (take b (notes_of B crew)) }
+
+  -- the first steps of these actors' readers, so many of each, told them that
+  abbrev pub WasHeard : Heard → List (ActorCrew C) → Type 0
+  WasHeard heard crew = heard.told ≡ heard_first heard.steps_a heard.steps_b crew
 
   -- the outcome is the same, what the readers were told, and every list of steps
   pub record ShowsTheSame (before after : List (ActorCrew C)) : Type 0 where

@@ -1,16 +1,17 @@
 //! What the readers were told: the outcome of a connection asks for it after each round.
 
-ghost use Rattle.std.specs.Prelude.{◌≡◌};
-ghost use Rattle.world_core.specs.Hearing.{told_of, told_by, heard_by, heard_told, with_told};
+ghost use Rattle.std.specs.Prelude.{◌≡◌, take};
+ghost use Rattle.world_core.specs.Hearing.{WasHeard, told_of, told_by, heard_by, heard_told, with_told};
 ghost use Rattle.world_laws.specs.Outcomes.{tells_end, tells_abort, note_tells, was_told, notes_at};
 
 use crate::member::Crew;
+use crate::weaving::notes_from;
 use actor_desk::{Note, Reply};
 use reassembly_book::ReassemblyReply;
 
 /// What a reader was told.
 #[derive(Clone, Copy)]
-pub(crate) struct Told {
+pub struct Told {
     /// The end of its stream.
     pub end: bool,
     /// The peer's abort of the connection.
@@ -19,9 +20,17 @@ pub(crate) struct Told {
 
 /// What both readers were told.
 #[derive(Clone, Copy)]
-pub(crate) struct Hearing {
+pub struct Hearing {
     pub a: Told,
     pub b: Told,
+}
+
+/// What both readers were told by their first steps, and how many of each these are.
+#[derive(Clone, Copy)]
+pub struct Heard {
+    pub told: Hearing,
+    pub steps_a: usize,
+    pub steps_b: usize,
 }
 
 fn tells_end(reply: &Reply) -> bool
@@ -99,6 +108,14 @@ fn told_by(notes: &[Note]) -> Told
     }
 }
 
+// What a reader was told by these steps, from what the first ones told.
+fn told_later(told: Told, steps: usize, notes: &[Note]) -> Told
+    requires { told ≡ told_by (take steps notes.now) }
+    ensures { result ≡ told_by notes.now }
+{
+    told.with(told_by(notes_from(notes, steps)))
+}
+
 // The steps of an actor, none where there is no such actor.
 pub(crate) fn notes_at(crew: &[Crew], actor: usize) -> &[Note]
     ensures { result.now ≡ notes_at actor crew.now }
@@ -111,7 +128,7 @@ pub(crate) fn notes_at(crew: &[Crew], actor: usize) -> &[Note]
 
 impl Hearing {
     /// What the readers among these were told, the actors 0 and 1.
-    pub fn of(crew: &[Crew]) -> Hearing
+    pub(crate) fn of(crew: &[Crew]) -> Hearing
         ensures { result ≡ heard_by crew.now }
     {
         Hearing {
@@ -121,13 +138,26 @@ impl Hearing {
     }
 
     /// An actor was told this more.
-    pub fn take_told(&mut self, actor: u8, told: Told)
+    pub(crate) fn take_told(&mut self, actor: u8, told: Told)
         ensures { self.new ≡ heard_told actor told self.old }
     {
         match actor {
             0 => self.a = self.a.with(told),
             1 => self.b = self.b.with(told),
             _ => {}
+        }
+    }
+}
+
+impl Heard {
+    /// What the readers among these were told, whose first steps are those: only the steps behind them are looked at.
+    pub(crate) fn and_later(self, crew: &[Crew]) -> Hearing
+        requires { WasHeard self crew.now }
+        ensures { result ≡ heard_by crew.now }
+    {
+        Hearing {
+            a: told_later(self.told.a, self.steps_a, notes_at(crew, 0)),
+            b: told_later(self.told.b, self.steps_b, notes_at(crew, 1)),
         }
     }
 }

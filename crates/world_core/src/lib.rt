@@ -22,6 +22,7 @@ mod weaving;
 mod whole_turns;
 mod world;
 
+pub use hearing::{Heard, Hearing, Told};
 pub use laws::no_clock_goes_back;
 pub use logged::told_outcome;
 pub use member::{Crew, Member};

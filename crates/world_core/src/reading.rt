@@ -23,12 +23,24 @@ fn read_by(alloc: Global, notes: &[Note]) -> Result<Text, AllocError>
     Ok(text)
 }
 
+/// Puts octets at the end of a text, which shares them where they are its first ones.
+fn put_octets(text: &mut Text, octets: &Text) -> Result<(), AllocError>
+    ensures { OnOk result (text.new ≡ text.old ++ octets.now) }
+{
+    if text.is_empty() {
+        *text = octets.copy()?;
+        Ok(())
+    } else {
+        text.append(octets.as_bytes())
+    }
+}
+
 /// Puts the octets that a reply gave, if it gave any, at the end of a text.
 fn put_read_by(text: &mut Text, reply: &Reply) -> Result<(), AllocError>
     ensures { OnOk result (text.new ≡ text.old ++ bytes_in reply.now) }
 {
     match reply {
-        Reply::Reassembly(ReassemblyReply::Bytes(bytes)) => text.append(bytes.as_bytes()),
+        Reply::Reassembly(ReassemblyReply::Bytes(bytes)) => put_octets(text, bytes),
         _ => Ok(()),
     }
 }

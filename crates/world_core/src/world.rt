@@ -2,11 +2,13 @@
 
 ghost use Rattle.std.specs.Prelude.{◌≡◌, ◌<◌, false, length};
 ghost use Rattle.std.specs.List.{list_all};
+ghost use Rattle.sides.specs.declared.side.Side.TheVariants.{A, B};
+ghost use Rattle.world_core.specs.Hearing.{WasHeard, heard_by};
 ghost use Rattle.world_core.specs.Kept.{IsSound, standing, world};
-ghost use Rattle.world_laws.specs.Outcomes.{are_all_dead, is_no_live_path, notes_at, outcome_of};
+ghost use Rattle.world_laws.specs.Outcomes.{are_all_dead, is_no_live_path, notes_at, notes_of, outcome_of};
 ghost use Rattle.world_laws.specs.Serial.{goes_on};
 
-use crate::hearing::{Hearing, notes_at};
+use crate::hearing::{Heard, Hearing, notes_at};
 use crate::member::{Crew, is_no_live_path};
 use actor_desk::{Books, Note};
 use sides::Side;
@@ -61,6 +63,18 @@ fn are_all_dead(crew: &[Crew]) -> bool
     none_is_live(crew)
 }
 
+// What the readers among these were told. Unless the connection failed, their first steps told so much.
+fn heard_now(crew: &[Crew], failed: bool, heard: Heard) -> Hearing
+    requires { failed ≡ false → WasHeard heard crew.now }
+    ensures { result ≡ heard_by crew.now }
+{
+    if failed {
+        Hearing::of(crew)
+    } else {
+        heard.and_later(crew)
+    }
+}
+
 impl World {
     /// How the connection stands. Takes no memory.
     pub fn outcome(&self) -> Outcome
@@ -103,6 +117,19 @@ impl World {
     /// Lets the connection go, with all that it holds.
     pub fn close(self) {}
 
+    /// What its readers were told by their steps so far, and how many these are. Takes no memory.
+    pub fn heard(&self) -> Heard
+        ensures heard { WasHeard result self.now.state.crew }
+        ensures steps_a { result.steps_a ≡ length (notes_of A self.now.state.crew) }
+        ensures steps_b { result.steps_b ≡ length (notes_of B self.now.state.crew) }
+    {
+        Heard {
+            told: self.hearing,
+            steps_a: notes_at(&self.crew, 0).len(),
+            steps_b: notes_at(&self.crew, 1).len(),
+        }
+    }
+
     /// Its books and its actors. It hasn't failed.
     pub fn into_parts(self) -> (Books, Vec<Crew>)
         requires { self.failed ≡ false }
@@ -122,6 +149,23 @@ impl World {
         ensures { result ≡ record { failed = failed; state = world crew.items books } }
     {
         let hearing = Hearing::of(&crew);
+        World {
+            crew,
+            books,
+            hearing,
+            failed,
+        }
+    }
+
+    /// The connection of these parts, as `from_parts` makes it, where what the readers were told by their first steps is known. Where it
+    /// hasn't failed, only the steps behind these are looked at.
+    pub fn from_parts_since(books: Books, crew: Vec<Crew>, failed: bool, heard: Heard) -> World
+        requires sound { failed ≡ false → IsSound (world crew.items books) }
+        requires few { length crew.items < 32 }
+        requires heard { failed ≡ false → WasHeard heard crew.items }
+        ensures { result ≡ record { failed = failed; state = world crew.items books } }
+    {
+        let hearing = heard_now(&crew, failed, heard);
         World {
             crew,
             books,
