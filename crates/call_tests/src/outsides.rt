@@ -1,4 +1,4 @@
-use outside_kit::{Gate, OpenGate};
+use actor_turn::{Gate, OpenGate};
 use sides::Object;
 
 #[test]
