@@ -15,7 +15,7 @@ use Rattle.connection_table.specs.Inputs.{Contents, IsShort}
 use Rattle.connection_table.specs.Loads.{AddsCut, AddsFirst, AddsToFailed, LinesAdd, ListAdds, joined, loads_by_line}
 use Rattle.connection_table.specs.Scripts.{LeavesPayload}
 use Rattle.connection_table.proofs.Adding.{all_cut}
-use Rattle.connection_table.specs.ManyEnds.{AllPut, AreAdmitted, AreInputs, AreListed, AreOfList, AreSerial, AtFault, IsEnd, IsListedFault, IsLoadingFault, IsOfListed, IsPutFault, IsTableOf, NonePut, PutAdds, Says, SomePut, UpToAny, UpToPut, loads_of_list, puts_from}
+use Rattle.connection_table.specs.ManyEnds.{AllPut, AreAdmitted, AreInputs, AreListed, AreOfList, AreSerial, AtFault, EndsBy, IsListedFault, IsLoadingFault, IsOfListed, IsPutFault, IsTableOf, NonePut, PutAdds, Says, SomePut, UpToAny, UpToPut, loads_of_list, puts_from}
 use Rattle.connection_table.specs.ManyLines.{lines_of, state_of}
 use Rattle.connection_table.specs.ManyRounds.{EachRound, IsSerialEnd}
 use Rattle.connection_table.specs.Tables.{Entry, opened_entry}
@@ -113,7 +113,7 @@ of_list content words a b before after of each =
 
 module _ (content : Contents) (words : NamedList) (l0 l1 p0 p1 : ℕ) (held holds : Option (List ℕ)) (a c : ToldCalls) where
   abbrev Ends : Many → Type 0
-  Ends many = IsEnd content words (l0, l1) (p0, p1) (held, holds) (a, c) many
+  Ends many = EndsBy content words (l0, l1) (p0, p1) (held, holds) (a, c) many
 
   -- nothing was put
   pub ends_unput : (many : Many) → IsLoadingFault content words l0 l1 many → holds ≡ held → ListAdds content words a c many → Ends many

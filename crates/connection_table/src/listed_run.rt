@@ -108,16 +108,10 @@ fn admit_listed<O: Outside>(
 /// Runs the connections of a list.
 fn run<O: Outside>(alloc: Global, outside: &mut O, words: &ListWords<'_>) -> Result<(), Many>
     requires { 1 ≤ words.now.rounds }
-    ensures done { OnOk result (IsEnd (O.told outside.old).content (as_words words.now)
-        ((O.told outside.old).load_faults, (O.told outside.new).load_faults)
-        ((O.told outside.old).port_faults Port.Log, (O.told outside.new).port_faults Port.Log)
-        ((O.told outside.old).holds Port.Log, (O.told outside.new).holds Port.Log)
-        ((O.told outside.old).calls, (O.told outside.new).calls) Many.Done) }
-    ensures ends { IfErr result (IsEnd (O.told outside.old).content (as_words words.now)
-        ((O.told outside.old).load_faults, (O.told outside.new).load_faults)
-        ((O.told outside.old).port_faults Port.Log, (O.told outside.new).port_faults Port.Log)
-        ((O.told outside.old).holds Port.Log, (O.told outside.new).holds Port.Log)
-        ((O.told outside.old).calls, (O.told outside.new).calls)) }
+    ensures done { OnOk result (IsEnd (as_words words.now)
+        (O.told outside.old) (O.told outside.new) Many.Done) }
+    ensures ends { IfErr result (IsEnd (as_words words.now)
+        (O.told outside.old) (O.told outside.new)) }
     ensures other_ports { (other : Port) → other ≢ Port.Log →
         (O.told outside.new).holds other ≡ (O.told outside.old).holds other }
     ensures other_counts { (other : Port) → other ≢ Port.Log →
@@ -144,11 +138,8 @@ pub fn run_many<O: Outside>(alloc: Global, words: &[String], outside: &mut O) ->
     // limits, and each connection has its own token; so are those before the one that is refused. The calls are the loads in order,
     // and behind them one put a connection, up to one that failed, or for want of memory to any of them.
     ensures ends { IfSome (words_in (map string_bytes words.now)) (λ named. IsEnd
-        (O.told outside.old).content named
-        ((O.told outside.old).load_faults, (O.told outside.new).load_faults)
-        ((O.told outside.old).port_faults Port.Log, (O.told outside.new).port_faults Port.Log)
-        ((O.told outside.old).holds Port.Log, (O.told outside.new).holds Port.Log)
-        ((O.told outside.old).calls, (O.told outside.new).calls) result) }
+        named
+        (O.told outside.old) (O.told outside.new) result) }
     // At `Usage` no call was made, and nothing changed.
     ensures unasked { result ≡ Many.Usage → (O.told outside.new).calls ≡ (O.told outside.old).calls }
     ensures unloaded { result ≡ Many.Usage →
