@@ -3,14 +3,14 @@ use Rattle.std.proofs.Common.{◌≡◌, refl, sym, subst, inl, inr, ℕ, List, 
 use Rattle.std.proofs.lemmas.List.{append-nil}
 use Rattle.outside_kit.specs.Calls.{Call}
 use Rattle.run_outside.specs.Plan.{succeeded, failed, Adds, AddsAll}
-use Rattle.run_outside.proofs.Calls.{Told, adds_then, all_then}
+use Rattle.run_outside.proofs.Calls.{ToldCalls, adds_then, all_then}
 use Rattle.connection_table.specs.declared.many.Many.{Many}
 use Rattle.connection_table.specs.declared.many.Many.TheVariants.{Done, Usage, Load, TooLong, List as Listing, Script, SameToken, Put, Memory}
 use Rattle.connection_table.specs.Causes.{IsLoadFault, IsScriptFault}
 use Rattle.connection_table.specs.Loads.{AddsCut, AddsFirst, AddsToFailed, InputAdds}
 
 -- this load failed, behind those of a plan before it
-module _ (made behind : List Call) (failing : Call) (a b c : Told) (before : AddsAll made a b) (one : Adds (failed failing ∷ []) b c) where
+module _ (made behind : List Call) (failing : Call) (a b c : ToldCalls) (before : AddsAll made a b) (one : Adds (failed failing ∷ []) b c) where
   to_failed : AddsToFailed [] (made ++ failing ∷ behind) a c
   to_failed = record {
     made = made;
@@ -32,15 +32,15 @@ module _ (made behind : List Call) (failing : Call) (a b c : Told) (before : Add
   load_adds line content old new Put fault = tt
 
 -- three of them, one after the other
-pub all_made : (x y z : Call) (a b c d : Told) → AddsAll (x ∷ []) a b → AddsAll (y ∷ []) b c → AddsAll (z ∷ []) c d → AddsAll (x ∷ y ∷ z ∷ []) a d
+pub all_made : (x y z : Call) (a b c d : ToldCalls) → AddsAll (x ∷ []) a b → AddsAll (y ∷ []) b c → AddsAll (z ∷ []) c d → AddsAll (x ∷ y ∷ z ∷ []) a d
 all_made x y z a b c d first second third = all_then (x ∷ []) (y ∷ z ∷ []) a b d first (all_then (y ∷ []) (z ∷ []) b c d second third)
 
 -- all calls of a plan were made
-pub all_cut : (plan : List Call) (a b : Told) → AddsAll plan a b → AddsCut plan a b
+pub all_cut : (plan : List Call) (a b : ToldCalls) → AddsAll plan a b → AddsCut plan a b
 all_cut plan a b all = inl (record { made = plan; behind = []; plan_is = sym (append-nil plan); adds = all })
 
 -- all of them succeeded
-pub script_adds : (plan : List Call) (a b : Told) (entry : ℕ) (text : List ℕ) (many : Many) → AddsAll plan a b → IsScriptFault entry text many → InputAdds plan a b many
+pub script_adds : (plan : List Call) (a b : ToldCalls) (entry : ℕ) (text : List ℕ) (many : Many) → AddsAll plan a b → IsScriptFault entry text many → InputAdds plan a b many
 script_adds plan a b entry text (Script named line kind) all fault = all
 script_adds plan a b entry text (Load line) all fault = absurd fault
 script_adds plan a b entry text (TooLong line) all fault = absurd fault

@@ -8,7 +8,7 @@ use Rattle.std.proofs.lemmas.Option.{same_Some}
 use Rattle.outside_kit.specs.Calls.{Call}
 use Rattle.outside_kit.specs.Calls as call
 use Rattle.run_outside.specs.Plan.{succeeded, failed, Adds, AddsAll}
-use Rattle.run_outside.proofs.Calls.{Told, adds_then, all_then}
+use Rattle.run_outside.proofs.Calls.{ToldCalls, adds_then, all_then}
 use Rattle.connection_table.specs.Lists.{Names, as_names, list_reading}
 use Rattle.connection_table.specs.ListWords.{NamedList}
 use Rattle.connection_table.specs.declared.list.Listed.{Listed}
@@ -46,7 +46,7 @@ behind_entry (x ∷ listed) (suc i) e within =
     let next : List Call = loads_of (as_names (get_or listed i e)) in
     (rest.0, ap (λ calls. own ++ calls) rest.1 ∙ sym (append_assoc own (joined (lines_of_listed (take i listed))) (next ++ rest.0)))
 
-module _ (listed : List Listed) (i : ℕ) (e : Listed) (within : i < length listed) (a b c : Told) (before : AddsAll (joined (lines_of_listed (take i listed))) a b) where
+module _ (listed : List Listed) (i : ℕ) (e : Listed) (within : i < length listed) (a b c : ToldCalls) (before : AddsAll (joined (lines_of_listed (take i listed))) a b) where
   abbrev at_i : Names
   at_i = as_names (get_or listed i e)
 
@@ -140,11 +140,11 @@ module _ (content : Contents) (words : NamedList) where
   LinesTold = loads_by_line words.list (names_told (content words.list))
 
   -- what the lines are is no matter
-  told_adds : (a b : Told) (many : Many) → LinesAdd LinesTold a b many → ListAdds content words a b many
+  told_adds : (a b : ToldCalls) (many : Many) → LinesAdd LinesTold a b many → ListAdds content words a b many
   told_adds a b many adds = record { names = names_told (content words.list); said = said_told (content words.list); adds = adds }
 
   -- the load of the list failed
-  pub list_unloaded : (a b : Told) (told : Option (List ℕ)) (old new : ℕ) (many : Many) → IsLoadFault 0 told old new many → Adds (failed (call.Load words.list) ∷ []) a b
+  pub list_unloaded : (a b : ToldCalls) (told : Option (List ℕ)) (old new : ℕ) (many : Many) → IsLoadFault 0 told old new many → Adds (failed (call.Load words.list) ∷ []) a b
       → ListAdds content words a b many
   list_unloaded a b told old new many fault one = told_adds a b many (by many fault)
     where
@@ -173,7 +173,7 @@ module _ (content : Contents) (words : NamedList) where
       by (SameToken line holder) fault = absurd fault
 
   -- it is out of form
-  pub list_refused : (a b : Told) (list : List ℕ) (many : Many) → IsListFault list many → AddsAll (call.Load words.list ∷ []) a b → ListAdds content words a b many
+  pub list_refused : (a b : ToldCalls) (list : List ℕ) (many : Many) → IsListFault list many → AddsAll (call.Load words.list ∷ []) a b → ListAdds content words a b many
   list_refused a b list many fault one = told_adds a b many (by many fault)
     where
       by : (many : Many) → IsListFault list many → LinesAdd LinesTold a b many
@@ -193,7 +193,7 @@ module _ (content : Contents) (words : NamedList) where
       by (SameToken line holder) fault = absurd fault
 
   -- a connection of it ended the run
-  pub listed_ends : (a b c : Told) (bytes : List ℕ) (names : List Names) (many : Many) → IfSome (content words.list) (λ told. bytes ≡ told) → list_reading bytes ≡ Ok names
+  pub listed_ends : (a b c : ToldCalls) (bytes : List ℕ) (names : List Names) (many : Many) → IfSome (content words.list) (λ told. bytes ≡ told) → list_reading bytes ≡ Ok names
       → AddsAll (call.Load words.list ∷ []) a b → LinesAdd ([] ∷ map loads_of names) b c many → ListAdds content words a c many
   listed_ends a b c bytes names many whole read one adds =
       record { names = names; said = said_read (content words.list) bytes names whole read; adds = behind_list many adds }

@@ -15,14 +15,14 @@ use Rattle.connection_table.specs.Inputs.{Contents, IsShort}
 use Rattle.connection_table.specs.Loads.{AddsCut, AddsFirst, AddsToFailed, LinesAdd, ListAdds, joined, loads_by_line}
 use Rattle.connection_table.specs.Scripts.{LeavesPayload}
 use Rattle.connection_table.proofs.Adding.{all_cut}
-use Rattle.connection_table.specs.ManyEnds.{AllPut, AreAdmitted, AreInputs, AreListed, AreOfList, AreSerial, AtFault, IsEnd, IsListedFault, IsLoadingFault, IsOfListed, IsPutFault, IsTableOf, NonePut, PutAdds, Says, SomePut, UpToAny, UpToPut, loads_of_list, puts_from}
+use Rattle.connection_table.specs.ManyEnds.{AllPut, AreAdmitted, AreInputs, AreListed, AreOfList, AreSerial, AtFault, EndsBy, IsListedFault, IsLoadingFault, IsOfListed, IsPutFault, IsTableOf, NonePut, PutAdds, Says, SomePut, UpToAny, UpToPut, loads_of_list, puts_from}
 use Rattle.connection_table.specs.ManyLines.{lines_of, state_of}
 use Rattle.connection_table.specs.ManyRounds.{EachRound, IsSerialEnd}
 use Rattle.connection_table.specs.Tables.{Entry, opened_entry}
 use Rattle.connection_table.proofs.CallsMade.{cut_behind, failed_behind}
 use Rattle.connection_table.proofs.EndsRight.{all_end_right}
 use Rattle.run_outside.specs.Plan.{AddsAll}
-use Rattle.run_outside.proofs.Calls.{Told, all_then}
+use Rattle.run_outside.proofs.Calls.{ToldCalls, all_then}
 
 -- ---- before any line is put
 
@@ -72,7 +72,7 @@ all_leave content (n ∷ names) [] are = absurd are
 all_leave content (n ∷ names) (x ∷ inputs) are = All-cons Leaves x inputs are.0.leaves (all_leave content names inputs are.1)
 
 -- all of them were admitted, behind the loads of all
-pub table_of : (content : Contents) (words : NamedList) (bytes : List ℕ) (names : List Names) (table : List Entry) (a b : Told)
+pub table_of : (content : Contents) (words : NamedList) (bytes : List ℕ) (names : List Names) (table : List Entry) (a b : ToldCalls)
     → IfSome (content words.list) (λ told. bytes ≡ told) → Says bytes names → AddsAll (loads_of_list words names) a b
     → AreAdmitted content names table → IsTableOf content words a b table
 table_of content words bytes names table a b whole read calls are = record {
@@ -97,7 +97,7 @@ serial_of most [] (e ∷ table) each = absurd each
 serial_of most (input ∷ inputs) [] each = absurd each
 serial_of most (input ∷ inputs) (e ∷ table) each = (each.0.state, serial_of most inputs table each.1)
 
-pub of_list : (content : Contents) (words : NamedList) (a b : Told) (before after : List Entry) → IsTableOf content words a b before
+pub of_list : (content : Contents) (words : NamedList) (a b : ToldCalls) (before after : List Entry) → IsTableOf content words a b before
     → EachRound (IsSerialEnd words.rounds) before after → AreOfList content words (map state_of after)
 of_list content words a b before after of each =
     let serial = serial_of words.rounds of.inputs after (subst (λ es. EachRound (IsSerialEnd words.rounds) es after) of.table_is each) in
@@ -111,9 +111,9 @@ of_list content words a b before after of each =
 
 -- ---- the end
 
-module _ (content : Contents) (words : NamedList) (l0 l1 p0 p1 : ℕ) (held holds : Option (List ℕ)) (a c : Told) where
+module _ (content : Contents) (words : NamedList) (l0 l1 p0 p1 : ℕ) (held holds : Option (List ℕ)) (a c : ToldCalls) where
   abbrev Ends : Many → Type 0
-  Ends many = IsEnd content words (l0, l1) (p0, p1) (held, holds) (a, c) many
+  Ends many = EndsBy content words (l0, l1) (p0, p1) (held, holds) (a, c) many
 
   -- nothing was put
   pub ends_unput : (many : Many) → IsLoadingFault content words l0 l1 many → holds ≡ held → ListAdds content words a c many → Ends many
@@ -139,7 +139,7 @@ module _ (content : Contents) (words : NamedList) (l0 l1 p0 p1 : ℕ) (held hold
         };
       })
 
-  module _ (b : Told) (before table : List Entry) (of : IsTableOf content words a b before) (made : EachRound (IsSerialEnd words.rounds) before table) where
+  module _ (b : ToldCalls) (before table : List Entry) (of : IsTableOf content words a b before) (made : EachRound (IsSerialEnd words.rounds) before table) where
     abbrev ended : AreOfList content words (map state_of table)
     ended = of_list content words a b before table of made
 

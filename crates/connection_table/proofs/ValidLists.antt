@@ -17,7 +17,7 @@ use Rattle.connection_table.specs.declared.many.Many.{Many}
 use Rattle.connection_table.specs.declared.many.Many.TheVariants.{Done, Usage, Load, TooLong, List as Listing, Script, SameToken, Put, Memory}
 use Rattle.connection_table.specs.Inputs.{Contents, IsInput, IsLong}
 use Rattle.connection_table.specs.Scripts.{listed_reading}
-use Rattle.connection_table.specs.ManyEnds.{AreApart, AreInputs, AreValidInputs, AtFault, IsEnd, IsListedFault, IsOfListed, IsValid, IsValidInput, Says}
+use Rattle.connection_table.specs.ManyEnds.{AreApart, AreInputs, AreValidInputs, AtFault, EndsBy, IsListedFault, IsOfListed, IsValid, IsValidInput, Says}
 use Rattle.connection_table.specs.Tables.{Entry, holder_of, key_token, opened_entry}
 
 abbrev token_in : Input → ℕ
@@ -169,7 +169,7 @@ module _ (content : Contents) (words : NamedList) (valid : IsValid content words
           no_holder p.front p.rest p.input holder (subst (λ is. AreApart (map token_in is)) p.inputs_is valid.apart)
           (subst (λ i. holder_of (token_in i) (map opened_entry p.front) ≡ Some holder) same held)
 
-pub valid_ends : (content : Contents) (words : NamedList) (l0 l1 p0 p1 : ℕ) (held holds : Option (List ℕ)) (a b : Option (List Made)) (many : Many) → IsEnd content words (l0, l1) (p0, p1) (held, holds) (a, b) many
+pub valid_ends : (content : Contents) (words : NamedList) (l0 l1 p0 p1 : ℕ) (held holds : Option (List ℕ)) (a b : Option (List Made)) (many : Many) → EndsBy content words (l0, l1) (p0, p1) (held, holds) (a, b) many
     → IsValid content words → (many ≡ Done) ⊎ ((many ≡ Memory) ⊎ (HasRisen l0 l1 ⊎ HasRisen p0 p1))
 valid_ends content words l0 l1 p0 p1 held holds a b Done h valid = inl refl
 valid_ends content words l0 l1 p0 p1 held holds a b Memory h valid = inr (inl refl)
@@ -183,8 +183,8 @@ valid_ends content words l0 l1 p0 p1 held holds a b (SameToken line holder) h va
 
 -- where the words name a list
 pub valid_listed : (content : Contents) (o : Option NamedList) (words : NamedList) (l0 l1 p0 p1 : ℕ) (held holds : Option (List ℕ)) (a b : Option (List Made)) (many : Many) → Some words ≡ o
-    → IsEnd content words (l0, l1) (p0, p1) (held, holds) (a, b) many
+    → EndsBy content words (l0, l1) (p0, p1) (held, holds) (a, b) many
     → IfSome o (λ named. IsValid content named → (many ≡ Done) ⊎ ((many ≡ Memory) ⊎ (HasRisen l0 l1 ⊎ HasRisen p0 p1)))
 valid_listed content None words l0 l1 p0 p1 held holds a b many is end = tt
 valid_listed content (Some named) words l0 l1 p0 p1 held holds a b many is end = λ valid.
-    valid_ends content named l0 l1 p0 p1 held holds a b many (subst (λ w. IsEnd content w (l0, l1) (p0, p1) (held, holds) (a, b) many) (same_Some words named is) end) valid
+    valid_ends content named l0 l1 p0 p1 held holds a b many (subst (λ w. EndsBy content w (l0, l1) (p0, p1) (held, holds) (a, b) many) (same_Some words named is) end) valid

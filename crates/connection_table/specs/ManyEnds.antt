@@ -5,7 +5,7 @@ use Rattle.outside_kit.specs.declared.port.Port.TheVariants.{Log}
 use Rattle.sides.specs.declared.side.Side.TheVariants.{A, B}
 use Rattle.outside_kit.specs.Calls.{Call, Made}
 use Rattle.outside_kit.specs.Calls as call
-use Rattle.outside_kit.specs.Outside.{HasRisen, HoldsAfter, HoldsPrefix}
+use Rattle.outside_kit.specs.Outside.{Told, HasRisen, HoldsAfter, HoldsPrefix}
 use Rattle.octet_text.specs.Prefix.{IsPrefix}
 use Rattle.clean_finish.specs.Bound.{enough}
 use Rattle.run_outside.specs.declared.input.Input.{Input}
@@ -189,13 +189,18 @@ pub record NonePut (content : Contents) (words : NamedList) (log : Option (List 
 
 -- each answer has its cause: `loads` and `puts` are counts of faults before and after, `log` is what the log held, and `calls` are those
 -- that were made
-abbrev pub IsEnd : Contents → NamedList → ℕ × ℕ → ℕ × ℕ → Option (List ℕ) × Option (List ℕ) → Option (List Made) × Option (List Made) → Many → Type 0
-IsEnd content words loads puts log calls ends.Done = AllPut content words log calls
-IsEnd content words loads puts log calls ends.Usage = ⊥
-IsEnd content words loads puts log calls ends.Put = HasRisen puts.0 puts.1 × SomePut UpToPut content words log calls
+abbrev pub EndsBy : Contents → NamedList → ℕ × ℕ → ℕ × ℕ → Option (List ℕ) × Option (List ℕ) → Option (List Made) × Option (List Made) → Many → Type 0
+EndsBy content words loads puts log calls ends.Done = AllPut content words log calls
+EndsBy content words loads puts log calls ends.Usage = ⊥
+EndsBy content words loads puts log calls ends.Put = HasRisen puts.0 puts.1 × SomePut UpToPut content words log calls
 -- before any line was put, or behind some
-IsEnd content words loads puts log calls ends.Memory = NonePut content words log calls ends.Memory ⊎ SomePut UpToAny content words log calls
-IsEnd content words loads puts log calls many = IsLoadingFault content words loads.0 loads.1 many × NonePut content words log calls many
+EndsBy content words loads puts log calls ends.Memory = NonePut content words log calls ends.Memory ⊎ SomePut UpToAny content words log calls
+EndsBy content words loads puts log calls many = IsLoadingFault content words loads.0 loads.1 many × NonePut content words log calls many
+
+-- as an outside tells it
+abbrev pub IsEnd : NamedList → Told → Told → Many → Type 0
+IsEnd words old new many =
+    EndsBy old.content words (old.load_faults, new.load_faults) (old.port_faults Log, new.port_faults Log) (old.holds Log, new.holds Log) (old.calls, new.calls) many
 
 -- ---- a valid list
 

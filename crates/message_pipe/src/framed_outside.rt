@@ -61,17 +61,10 @@ impl<O: Outside> Outside for FramedOutside<O> {
     ghost use Rattle.std.specs.Prelude.{None};
     ghost use Rattle.message_pipe.specs.Lined.{lined_content};
 
-    ghost content = { λ framed. lined_content framed.file_a framed.file_b (O.content framed.inner) };
-
-    ghost source = { λ framed. O.source framed.inner };
-
-    ghost holds = { λ framed. O.holds framed.inner };
-
-    ghost load_faults = { λ framed. O.load_faults framed.inner };
-
-    ghost port_faults = { λ framed. O.port_faults framed.inner };
-
-    ghost calls = { λ _. None };
+    ghost told = { λ framed. record (O.told framed.inner) {
+      content = lined_content framed.file_a framed.file_b (O.told framed.inner).content;
+      calls = None;
+    } };
 
     fn load(&mut self, alloc: Global, name: &str, limit: u64) -> Result<Vec<u8>, LoadFault> {
         let lined = (self.file_a.as_str(), self.file_b.as_str());

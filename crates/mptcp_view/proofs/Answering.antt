@@ -12,7 +12,7 @@ use Rattle.link_trace.specs.Ticks.{AreByTick}
 use Rattle.link_trace.specs.declared.carried.Carried.{Carried}
 use Rattle.link_trace.specs.declared.rows.Rates.{Rates}
 use Rattle.link_trace.specs.declared.sent.Sent.{Sent}
-use Rattle.outside_kit.specs.Outside.{HoldsAfter}
+use Rattle.outside_kit.specs.Outside.{Told, HoldsAfter}
 use Rattle.outside_kit.specs.declared.port.Port.{Port}
 use Rattle.outside_kit.specs.declared.port.Port.TheVariants.{ReadByB}
 use Rattle.path_core.specs.Octets.{octets}
@@ -21,7 +21,7 @@ use Rattle.run_log.specs.declared.turn.Turn as logged
 use Rattle.run_outside.specs.Inputs.{AreWithinLimits, order_of}
 use Rattle.run_outside.specs.Plan.{AddsAll, AddsCut, loads_of}
 use Rattle.run_outside.specs.Ports.{IsUntouched, Ports}
-use Rattle.run_outside.proofs.Calls.{Told, all_then, cut_then}
+use Rattle.run_outside.proofs.Calls.{ToldCalls, all_then, cut_then}
 use Rattle.link_script.specs.Reading.{reading}
 use Rattle.run_outside.specs.declared.input.Input.{Input}
 use Rattle.run_outside.specs.declared.status.Status.{Status}
@@ -81,7 +81,7 @@ module _ (content : List ℕ → Option (List ℕ)) (asked : Asking) (name : Lis
   }
 
   -- OUT held this before the inputs were read, and holds the view now, or isn't written whole
-  module _ (extent : Extent) (part : List ℕ) (turns : List logged.Turn) (held middle holds : Ports) (told read tells : Told) (shown : List ℕ) (are : AreInputs content asked.line input log)
+  module _ (extent : Extent) (part : List ℕ) (turns : List logged.Turn) (held middle holds : Ports) (told read tells : ToldCalls) (shown : List ℕ) (are : AreInputs content asked.line input log)
       (is_read : IsRead input.script log extent part turns) (lawful : AreLawful octets (all_turns turns) (first_world input))
       (all_told : untold part (trace_of (all_turns turns) (first_world input)) ≡ None) (is : IsViewOf asked.view input (all_turns turns) shown)
       (same : middle ReadByB ≡ held ReadByB) (loaded : AddsAll (loads_of asked.line) told read) where
@@ -106,10 +106,10 @@ module _ (content : List ℕ → Option (List ℕ)) (asked : Asking) (name : Lis
 
 -- ---- all that is said of an answer
 
-module _ (content : List ℕ → Option (List ℕ)) (asked : Asking) (held holds : Ports) (told tells : Told) (loads_old loads_new : ℕ) (old new : Port → ℕ) where
+module _ (content : List ℕ → Option (List ℕ)) (asked : Asking) (old new : Told) (old new : Port → ℕ) where
   -- before OUT was touched
-  pub refused_early : (s : Status) → IsViewFault content asked held holds told tells loads_old loads_new old new s → IsUntouched held holds old new
-      → IsViewAnswer content asked held holds told tells loads_old loads_new old new (Err s)
+  pub refused_early : (s : Status) → IsViewFault content asked old new old new s → IsUntouched old.holds new.holds old new
+      → IsViewAnswer content asked old new old new (Err s)
   refused_early s fault untouched = record {
     shown = tt;
     fault = fault;
@@ -119,10 +119,10 @@ module _ (content : List ℕ → Option (List ℕ)) (asked : Asking) (held holds
   }
 
   -- behind all loads, which touched no port; of the others none was touched then
-  module _ (middle : Ports) (counts : Port → ℕ) (loaded : IsUntouched held middle old counts) (others : (at : Port) → at ≢ ReadByB → holds at ≡ middle at)
+  module _ (middle : Ports) (counts : Port → ℕ) (loaded : IsUntouched old.holds middle old counts) (others : (at : Port) → at ≢ ReadByB → new.holds at ≡ middle at)
       (other_counts : (at : Port) → at ≢ ReadByB → new at ≡ counts at) where
-    pub answered : (extent : Extent) → Shows content asked held holds told tells extent
-        → IsViewAnswer content asked held holds told tells loads_old loads_new old new (Ok extent)
+    pub answered : (extent : Extent) → Shows content asked old new extent
+        → IsViewAnswer content asked old new old new (Ok extent)
     answered extent shows = record {
       shown = shows;
       fault = tt;
@@ -131,12 +131,12 @@ module _ (content : List ℕ → Option (List ℕ)) (asked : Asking) (held holds
       other_counts = λ at other. other_counts at other ∙ (loaded at).1;
     }
 
-    pub refused_late : (s : Status) → IsViewFault content asked held holds told tells loads_old loads_new old new s → IsOutFault (counts ReadByB) (new ReadByB) s
-        → IsViewAnswer content asked held holds told tells loads_old loads_new old new (Err s)
+    pub refused_late : (s : Status) → IsViewFault content asked old new old new s → IsOutFault (counts ReadByB) (new ReadByB) s
+        → IsViewAnswer content asked old new old new (Err s)
     refused_late s fault out = record {
       shown = tt;
       fault = fault;
-      untouched = late (counts ReadByB) (new ReadByB) (IsUntouched held holds old new) s out;
+      untouched = late (counts ReadByB) (new ReadByB) (IsUntouched old.holds new.holds old new) s out;
       other_ports = λ at other. others at other ∙ (loaded at).0;
       other_counts = λ at other. other_counts at other ∙ (loaded at).1;
     }

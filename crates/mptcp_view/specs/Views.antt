@@ -5,7 +5,7 @@ use Rattle.outside_kit.specs.Calls.{Call, Made}
 use Rattle.outside_kit.specs.Calls as call
 use Rattle.outside_kit.specs.declared.port.Port.{Port}
 use Rattle.outside_kit.specs.declared.port.Port.TheVariants as port
-use Rattle.outside_kit.specs.Outside.{HasRisen, HoldsAfter}
+use Rattle.outside_kit.specs.Outside.{Told, HasRisen, HoldsAfter}
 use Rattle.link_script.specs.declared.script.Script.{Script}
 use Rattle.link_trace.specs.Captures.{blocks_of}
 use Rattle.link_trace.specs.Carrying.{all_carried, base_of}
@@ -160,16 +160,16 @@ IsBeforeOut _ = Unit {0}
 
 -- ---- what is answered
 
-module _ (content : List ℕ → Option (List ℕ)) (asked : Asking) (held holds : Ports) (told tells : Option (List Made)) where
+module _ (content : List ℕ → Option (List ℕ)) (asked : Asking) (old new : Told) where
   -- OUT holds the view of what the turns of so much of the log send: it was put, all inputs being loaded
   abbrev pub Shows : Extent → Type 0
   Shows extent = WithView content asked (λ read shown. (read ≡ extent)
-      × (HoldsAfter (held port.ReadByB) (holds port.ReadByB) (λ _. shown) × AddsAll (view_calls asked.line shown) told tells))
+      × (HoldsAfter (old.holds port.ReadByB) (new.holds port.ReadByB) (λ _. shown) × AddsAll (view_calls asked.line shown) old.calls new.calls))
 
   -- such a view was made, and not written whole
   abbrev pub IsCut : Status → Type 0
   IsCut s = WithView content asked (λ read shown.
-      HoldsCut (held port.ReadByB) (holds port.ReadByB) shown × AddsCut (view_calls asked.line shown) s told tells)
+      HoldsCut (old.holds port.ReadByB) (new.holds port.ReadByB) shown × AddsCut (view_calls asked.line shown) s old.calls new.calls)
 
   -- what is loaded, or OUT; what is refused of a log is its form, the first turn that can't be made, or the first line that tells
   -- another segment
@@ -177,20 +177,20 @@ module _ (content : List ℕ → Option (List ℕ)) (asked : Asking) (held holds
   IsViewFault loads_old loads_new old new (status.Put at) =
       IsOutFault (old port.ReadByB) (new port.ReadByB) (status.Put at) × IsCut (status.Put at)
   IsViewFault loads_old loads_new old new status.Memory =
-      (IsUntouched held holds old new × AddsCut (loads_of asked.line) status.Memory told tells) ⊎ IsCut status.Memory
+      (IsUntouched old.holds new.holds old new × AddsCut (loads_of asked.line) status.Memory old.calls new.calls) ⊎ IsCut status.Memory
   IsViewFault loads_old loads_new old new (status.Log at) =
       (WithInputs content asked.line (λ input log. IsUnread input.script log (status.Log at))
       ⊎ WithTurns content asked.line (λ extent input part turns. IsTurnsFault turns input part (status.Log at)))
-      × AddsAll (loads_of asked.line) told tells
+      × AddsAll (loads_of asked.line) old.calls new.calls
   IsViewFault loads_old loads_new old new s =
-      IsLoggedFault content asked.line loads_old loads_new s × InputAdds asked.line (loads_of asked.line) told tells s
+      IsLoggedFault content asked.line loads_old loads_new s × InputAdds asked.line (loads_of asked.line) old.calls new.calls s
 
   -- how it ends, of a run of messages too: then the files of these contents are the frames of their lines
   pub record IsViewAnswer (loads_old loads_new : ℕ) (old new : Port → ℕ) (result : Result Extent Status) : Type 0 where
     pub shown : IfOk result Shows
     pub fault : IfErr result (IsViewFault loads_old loads_new old new)
     -- after an error before OUT no port was touched
-    pub untouched : IfErr result (λ s. IsBeforeOut s → IsUntouched held holds old new)
+    pub untouched : IfErr result (λ s. IsBeforeOut s → IsUntouched old.holds new.holds old new)
     -- of the ports only that of OUT is touched
-    pub other_ports : (at : Port) → at ≢ port.ReadByB → holds at ≡ held at
+    pub other_ports : (at : Port) → at ≢ port.ReadByB → new.holds at ≡ old.holds at
     pub other_counts : (at : Port) → at ≢ port.ReadByB → new at ≡ old at

@@ -40,10 +40,9 @@ fn show_over_frames<O: Outside, P: Progress>(
     requires file_a { string_bytes files.0 ≡ asked.now.line.file_a.now }
     requires file_b { string_bytes files.1 ≡ asked.now.line.file_b.now }
     ensures { IsViewAnswer
-        (lined_content asked.now.line.file_a.now asked.now.line.file_b.now (O.content outside))
-        (as_asked asked.now) (O.holds outside) (O.holds result.1) None None
-        (O.load_faults outside) (O.load_faults result.1)
-        (O.port_faults outside) (O.port_faults result.1) result.0 }
+        (lined_content asked.now.line.file_a.now asked.now.line.file_b.now (O.told outside).content)
+        (as_asked asked.now) (O.told outside).holds (O.told result.1).holds None None
+        (O.told outside) (O.told result.1) result.0 }
 {
     let mut framed = FramedOutside::new(outside, files.0, files.1);
     let shown = show(alloc, &mut framed, progress, asked);
@@ -59,10 +58,9 @@ fn show_messages<O: Outside, P: Progress>(
 ) -> (Result<Extent, Status>, O)
     requires { (as_line asked.now.line).work ≡ replay asked.now.log.now }
     ensures { IsViewAnswer
-        (lined_content asked.now.line.file_a.now asked.now.line.file_b.now (O.content outside))
-        (as_asked asked.now) (O.holds outside) (O.holds result.1) None None
-        (O.load_faults outside) (O.load_faults result.1)
-        (O.port_faults outside) (O.port_faults result.1) result.0 }
+        (lined_content asked.now.line.file_a.now asked.now.line.file_b.now (O.told outside).content)
+        (as_asked asked.now) (O.told outside).holds (O.told result.1).holds None None
+        (O.told outside) (O.told result.1) result.0 }
 {
     match file_names(alloc, &asked.line) {
         Ok(files) => show_over_frames(alloc, outside, files, progress, asked),
@@ -85,10 +83,9 @@ pub fn view_messages<O: Outside, P: Progress>(
 ) -> (Result<Extent, Status>, O)
     ensures usage { (result.0 ≡ Err Usage) ↔ (asked_in true (map string_bytes words.now) ≡ None) }
     ensures answer { IfSome (asked_in true (map string_bytes words.now)) (λ asked. IsViewAnswer
-        (lined_content asked.line.names.file_a asked.line.names.file_b (O.content outside))
-        asked (O.holds outside) (O.holds result.1) None None
-        (O.load_faults outside) (O.load_faults result.1)
-        (O.port_faults outside) (O.port_faults result.1) result.0) }
+        (lined_content asked.line.names.file_a asked.line.names.file_b (O.told outside).content)
+        asked (O.told outside).holds (O.told result.1).holds None None
+        (O.told outside) (O.told result.1) result.0) }
     ensures untouched { result.0 ≡ Err Usage → result.1 ≡ outside }
 {
     match asked_by(true, words) {

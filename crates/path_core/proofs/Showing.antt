@@ -10,9 +10,8 @@ use Rattle.link_model.specs.declared.flight.Flight.{Flight}
 use Rattle.link_model.specs.Fate.{fate_of, is_stripped, is_altered}
 use Rattle.link_model.specs.Laws.{with_copies_shown, shown_flight}
 use Rattle.link_model.specs.State.{LinkState}
-use Rattle.outside_kit.specs.Memory.{one_more as counted}
 use Rattle.sides.specs.Side.{peer}
-use Rattle.link_model.specs.Steps.{segments_sent, next_number, is_due, next_due, arriving, after_delivery, without, after_send, changed, arrivals, with_flights, one_more}
+use Rattle.link_model.specs.Steps.{segments_sent, next_number, is_due, next_due, arriving, after_delivery, without, after_send, changed, arrivals, with_flights, counted, one_more}
 use Rattle.link_model.proofs.Shown.{sent_shown}
 use Rattle.path_segments.specs.declared.position.HeardPosition.TheVariants.{At}
 use Rattle.path_segments.specs.declared.spelling.Spelling.{Spelling}

@@ -7,7 +7,7 @@ ghost use Rattle.ruled_desk.specs.Growing.{entry_by};
 use crate::answering::Answering;
 use crate::held::Held;
 use crate::lock::{BookSeat, RestingSeat, RuledLock};
-use outside_kit::Gate;
+use actor_turn::Gate;
 use sides::Object;
 use stamped_book::{Pass, Refusal};
 use std::sync::Wait;

@@ -12,7 +12,7 @@ pub returns-in_err-script-clause-calls_cut : goal.returns-in_err-script-clause-c
 returns-in_err-script-clause-calls_cut g c =
     let p = err_from_is_err_and c.from_residual.result c.from_residual.ensures.1 in
     let names = as_names c.args.listed.now in
-    rw (p.1, p.2) (load_adds [] (call.Load names.file_a ∷ call.Load names.file_b ∷ []) (call.Load names.script) _ _ _ (adds_none (g.O.Outside.calls c.args.outside.now))
+    rw (p.1, p.2) (load_adds [] (call.Load names.file_a ∷ call.Load names.file_b ∷ []) (call.Load names.script) _ _ _ (adds_none (g.O.Outside.told c.args.outside.now).calls)
     c.in_err-script.ensures.calls_cut _ _ _ _ c.in_err-script.field-0.0 c.in_err-script.ensures.fault)
 
 pub returns-in_err-file_a-clause-calls_cut : goal.returns-in_err-file_a-clause-calls_cut

@@ -9,7 +9,7 @@ use Rattle.connection_table.proofs.listed_run.put_line.Goals as goal
 pub returns-in_err-line-clause-calls_cut : goal.returns-in_err-line-clause-calls_cut
 returns-in_err-line-clause-calls_cut g c =
     let p = err_from_is_err_and c.from_residual.result c.from_residual.ensures.1 in
-    rw (p.1, p.2) (none_made (call.Put Port.Log (line_at c.args.connection c.args.table.now) ∷ []) (g.O.Outside.calls c.args.outside.now))
+    rw (p.1, p.2) (none_made (call.Put Port.Log (line_at c.args.connection c.args.table.now) ∷ []) (g.O.Outside.told c.args.outside.now).calls)
 
 pub returns-in-Ok-clause-calls : goal.returns-in-Ok-clause-calls
 returns-in-Ok-clause-calls g c =

@@ -13,7 +13,7 @@ pub returns-in_default : goal.returns-in_default
 returns-in_default g c =
     let line = as_line c.args.line.now in
     made_by_work line c.args.rounds c.args.number _ c.requires.asked
-    (made_memory (g.O.Outside.load_faults c.args.outside.now) (g.O.Outside.port_faults c.args.outside.now) (g.O.Outside.holds c.args.outside.now) (g.O.Outside.calls c.args.outside.now)
+    (made_memory (g.O.Outside.told c.args.outside.now)
     line c.args.number c.args.rounds (subst (λ (w : Work). AsksInRange w) c.requires.asked c.requires.in_range))
 
 pub returns-in-Ok-perform : goal.returns-in-Ok-perform
@@ -22,11 +22,8 @@ returns-in-Ok-perform g c =
     let few = subst (λ (w : Work). AsksInRange w) c.requires.asked c.requires.in_range in
     made_by_work line c.args.rounds c.args.number _ c.requires.asked
     (made_end_answer (record { line = line; task = made_task c.args.number c.args.rounds }) (made_is_plain c.args.number c.args.rounds few) (made_is_unstopped c.args.number)
-    (g.O.Outside.load_faults c.args.outside.now) (g.O.Outside.load_faults c.perform.new.outside) c.perform.ensures.load_counts
-    (g.O.Outside.port_faults c.args.outside.now) (g.O.Outside.port_faults c.perform.new.outside) (g.O.Outside.holds c.args.outside.now) (g.O.Outside.holds c.perform.new.outside)
-    (g.O.Outside.calls c.args.outside.now) (g.O.Outside.calls c.perform.new.outside) c.in-Ok-perform.status tt
-    (subst (λ (task : Task). CameToEnd [] line task (g.O.Outside.holds c.args.outside.now) (g.O.Outside.holds c.perform.new.outside)
-    (g.O.Outside.calls c.args.outside.now) (g.O.Outside.calls c.perform.new.outside) c.in-Ok-perform.status)
+    (g.O.Outside.told c.args.outside.now) (g.O.Outside.told c.perform.new.outside) c.perform.ensures.load_counts c.in-Ok-perform.status tt
+    (subst (λ (task : Task). CameToEnd [] line task (g.O.Outside.told c.args.outside.now) (g.O.Outside.told c.perform.new.outside) c.in-Ok-perform.status)
     (made_with c.in-Ok.input c.args.number c.args.rounds made.script made.file_a made.file_b) c.in-Ok-perform.ensures.ended))
 
 pub returns : goal.returns
@@ -35,9 +32,6 @@ returns g c =
     let few = subst (λ (w : Work). AsksInRange w) c.requires.asked c.requires.in_range in
     made_by_work line c.args.rounds c.args.number _ c.requires.asked
     (made_cut_answer (record { line = line; task = made_task c.args.number c.args.rounds }) (made_is_plain c.args.number c.args.rounds few) (made_is_unstopped c.args.number)
-    (g.O.Outside.load_faults c.args.outside.now) (g.O.Outside.load_faults c.perform.new.outside) c.perform.ensures.load_counts
-    (g.O.Outside.port_faults c.args.outside.now) (g.O.Outside.port_faults c.perform.new.outside) (g.O.Outside.holds c.args.outside.now) (g.O.Outside.holds c.perform.new.outside)
-    (g.O.Outside.calls c.args.outside.now) (g.O.Outside.calls c.perform.new.outside) c.in-Err.status c.in-Err.ensures.fault
-    (subst (λ (task : Task). IsCut [] line task (g.O.Outside.holds c.args.outside.now) (g.O.Outside.holds c.perform.new.outside)
-    (g.O.Outside.calls c.args.outside.now) (g.O.Outside.calls c.perform.new.outside) c.in-Err.status)
+    (g.O.Outside.told c.args.outside.now) (g.O.Outside.told c.perform.new.outside) c.perform.ensures.load_counts c.in-Err.status c.in-Err.ensures.fault
+    (subst (λ (task : Task). IsCut [] line task (g.O.Outside.told c.args.outside.now) (g.O.Outside.told c.perform.new.outside) c.in-Err.status)
     (made_with c.in-Ok.input c.args.number c.args.rounds made.script made.file_a made.file_b) c.in-Err.ensures.early))

@@ -6,10 +6,10 @@ use Rattle.mptcp_view.proofs.messages.show_over_frames.Goals as goal
 
 pub returns : goal.returns
 returns g c =
-    let content = g.O.Outside.content in
-    let loads = g.O.Outside.load_faults in
-    let faults = g.O.Outside.port_faults in
-    let holds = g.O.Outside.holds in
+    let content = (g.O.Outside.told in).content
+    let loads = (g.O.Outside.told in).load_faults
+    let faults = (g.O.Outside.told in).port_faults
+    let holds = (g.O.Outside.told in).holds
     let first = c.args.outside in
     let asked = as_asked c.args.asked.now in
     let over = c.show-shown.new.outside in

@@ -13,8 +13,8 @@ returns-in-Some-clause-usage g c = (
 pub returns-in-Some-clause-answer : goal.returns-in-Some-clause-answer
 returns-in-Some-clause-answer g c =
     let first = c.args.outside in let last = c.show_messages.result.1 in
-    subst (λ o. IfSome o (λ asked. IsViewAnswer (lined_content asked.line.names.file_a asked.line.names.file_b (g.O.Outside.content first)) asked (g.O.Outside.holds first) (g.O.Outside.holds last) None
-    None (g.O.Outside.load_faults first) (g.O.Outside.load_faults last) (g.O.Outside.port_faults first) (g.O.Outside.port_faults last) c.show_messages.result.0))
+    subst (λ o. IfSome o (λ asked. IsViewAnswer (lined_content asked.line.names.file_a asked.line.names.file_b (g.O.Outside.told first).content) asked (g.O.Outside.told first).holds (g.O.Outside.told last).holds None
+    None (g.O.Outside.told first) (g.O.Outside.told last) c.show_messages.result.0))
     c.in-Some.ensures.asked c.show_messages.ensures
 
 pub returns-in-Some-clause-untouched : goal.returns-in-Some-clause-untouched
