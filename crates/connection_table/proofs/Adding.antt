@@ -1,5 +1,5 @@
 -- The loads of a connection, up to one that failed.
-use Rattle.std.proofs.Common.{◌≡◌, refl, sym, subst, inl, inr, ℕ, List, [], ◌∷◌, ◌++◌, Option, map}
+use Rattle.std.proofs.Common.{refl, sym, inl, inr, ℕ, List, [], ◌∷◌, ◌++◌, Option, map}
 use Rattle.std.proofs.lemmas.List.{append-nil}
 use Rattle.outside_kit.specs.Calls.{Call}
 use Rattle.run_outside.specs.Plan.{succeeded, failed, Adds, AddsAll}
@@ -7,7 +7,7 @@ use Rattle.run_outside.proofs.Calls.{ToldCalls, adds_then, all_then}
 use Rattle.connection_table.specs.declared.many.Many.{Many}
 use Rattle.connection_table.specs.declared.many.Many.TheVariants.{Done, Usage, Load, TooLong, List as Listing, Script, SameToken, Put, Memory}
 use Rattle.connection_table.specs.Causes.{IsLoadFault, IsScriptFault}
-use Rattle.connection_table.specs.Loads.{AddsCut, AddsFirst, AddsToFailed, InputAdds}
+use Rattle.connection_table.specs.Loads.{AddsCut, AddsToFailed, InputAdds}
 
 -- this load failed, behind those of a plan before it
 module _ (made behind : List Call) (failing : Call) (a b c : ToldCalls) (before : AddsAll made a b) (one : Adds (failed failing ∷ []) b c) where

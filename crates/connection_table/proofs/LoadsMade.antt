@@ -4,11 +4,10 @@ use Rattle.std.specs.Prelude.{IfOk, IfSome}
 use Rattle.std.specs.List.{slice_get}
 use Rattle.std.proofs.lemmas.Grind.{flat_map-append}
 use Rattle.std.proofs.lemmas.List.{append-nil, map-append, take-map, take_more}
-use Rattle.std.proofs.lemmas.Option.{same_Some}
 use Rattle.outside_kit.specs.Calls.{Call}
 use Rattle.outside_kit.specs.Calls as call
-use Rattle.run_outside.specs.Plan.{succeeded, failed, Adds, AddsAll}
-use Rattle.run_outside.proofs.Calls.{ToldCalls, adds_then, all_then}
+use Rattle.run_outside.specs.Plan.{failed, Adds, AddsAll}
+use Rattle.run_outside.proofs.Calls.{ToldCalls, all_then}
 use Rattle.connection_table.specs.Lists.{Names, as_names, list_reading}
 use Rattle.connection_table.specs.ListWords.{NamedList}
 use Rattle.connection_table.specs.declared.list.Listed.{Listed}

@@ -2,7 +2,6 @@
 
 ghost use Rattle.std.specs.Prelude.{◌≡◌, ◌<◌, ◌≤◌, ◌∷◌, [], ℕ, List, Ok, IfErr, IfOk, IfSome, OnErr, OnOk, length, map, vec_len};
 ghost use Rattle.outside_kit.specs.Calls as call;
-ghost use Rattle.outside_kit.specs.declared.port.Port.{Port};
 ghost use Rattle.run_outside.specs.Plan.{Adds, AddsAll, failed};
 ghost use Rattle.connection_table.specs.Lists.{as_names, list_reading};
 ghost use Rattle.connection_table.specs.Causes.{IsInputFault, IsListFault, IsLoadFault, IsScriptFault, OnlyLoads};

@@ -1,6 +1,6 @@
 //! A run of many connections.
 
-ghost use Rattle.std.specs.Prelude.{◌≡◌, ◌≢◌, ◌⊎◌, ◌<◌, ◌≤◌, ◌++◌, ◌∷◌, ◌↔◌, ℕ, List, [], None, length, map, string_bytes, IfErr, IfSome, OnErr, OnOk};
+ghost use Rattle.std.specs.Prelude.{◌≡◌, ◌≢◌, ◌⊎◌, ◌<◌, ◌≤◌, ◌++◌, ◌∷◌, ◌↔◌, [], None, length, map, string_bytes, IfErr, IfSome, OnErr, OnOk};
 ghost use Rattle.outside_kit.specs.declared.port.Port.{Port};
 ghost use Rattle.outside_kit.specs.Outside.{HasRisen, HoldsAfter, HoldsPrefix};
 ghost use Rattle.connection_table.specs.ListWords.{as_words, words_in};
@@ -92,8 +92,8 @@ fn admit_listed<O: Outside>(
     table: &mut ConnectionTable,
 ) -> Result<(), Many>
     requires { table.old ≡ [] }
-    ensures ok { OnOk result (IsTableOf (O.told outside.old).content (as_words words.now)
-        (O.told outside.old).calls (O.told outside.new).calls table.new) }
+    ensures ok { OnOk result (IsTableOf (as_words words.now)
+        (O.told outside.old) (O.told outside.new) table.new) }
     ensures fault { IfErr result (IsLoadingFault (O.told outside.old).content (as_words words.now)
         (O.told outside.old).load_faults (O.told outside.new).load_faults) }
     ensures only { OnlyLoads (O.told outside.old) (O.told outside.new) }
@@ -110,8 +110,7 @@ fn run<O: Outside>(alloc: Global, outside: &mut O, words: &ListWords<'_>) -> Res
     requires { 1 ≤ words.now.rounds }
     ensures done { OnOk result (IsEnd (as_words words.now)
         (O.told outside.old) (O.told outside.new) Many.Done) }
-    ensures ends { IfErr result (IsEnd (as_words words.now)
-        (O.told outside.old) (O.told outside.new)) }
+    ensures ends { IfErr result (IsEnd (as_words words.now) (O.told outside.old) (O.told outside.new)) }
     ensures other_ports { (other : Port) → other ≢ Port.Log →
         (O.told outside.new).holds other ≡ (O.told outside.old).holds other }
     ensures other_counts { (other : Port) → other ≢ Port.Log →
@@ -137,15 +136,13 @@ pub fn run_many<O: Outside>(alloc: Global, words: &[String], outside: &mut O) ->
     // prefix of these lines; at every other answer nothing was put, and each answer has its cause. What was run is within its
     // limits, and each connection has its own token; so are those before the one that is refused. The calls are the loads in order,
     // and behind them one put a connection, up to one that failed, or for want of memory to any of them.
-    ensures ends { IfSome (words_in (map string_bytes words.now)) (λ named. IsEnd
-        named
+    ensures ends { IfSome (words_in (map string_bytes words.now)) (λ named. IsEnd named
         (O.told outside.old) (O.told outside.new) result) }
     // At `Usage` no call was made, and nothing changed.
     ensures unasked { result ≡ Many.Usage → (O.told outside.new).calls ≡ (O.told outside.old).calls }
     ensures unloaded { result ≡ Many.Usage →
         (O.told outside.new).load_faults ≡ (O.told outside.old).load_faults }
-    ensures refused { result ≡ Many.Usage → IsUntouched
-        (O.told outside.old) (O.told outside.new) }
+    ensures refused { result ≡ Many.Usage → IsUntouched (O.told outside.old) (O.told outside.new) }
     // Of a valid list each connection has its line, unless the outside fails or memory runs out.
     ensures valid { IfSome (words_in (map string_bytes words.now)) (λ named.
         IsValid (O.told outside.old).content named → (result ≡ Many.Done) ⊎ ((result ≡ Many.Memory)

@@ -58,13 +58,9 @@ impl<O: Outside> FramedOutside<O> {
 }
 
 impl<O: Outside> Outside for FramedOutside<O> {
-    ghost use Rattle.std.specs.Prelude.{None};
-    ghost use Rattle.message_pipe.specs.Lined.{lined_content};
+    ghost use Rattle.message_pipe.specs.Lined.{framed_told};
 
-    ghost told = { λ framed. record (O.told framed.inner) {
-      content = lined_content framed.file_a framed.file_b (O.told framed.inner).content;
-      calls = None;
-    } };
+    ghost told = { λ framed. framed_told framed.file_a framed.file_b (O.told framed.inner) };
 
     fn load(&mut self, alloc: Global, name: &str, limit: u64) -> Result<Vec<u8>, LoadFault> {
         let lined = (self.file_a.as_str(), self.file_b.as_str());

@@ -1,6 +1,6 @@
 //! An outside over another one, whose files and readers' ports have lines where this one has frames.
 
-ghost use Rattle.std.specs.Prelude.{◌≡◌, ◌≢◌, ◌^◌, ◌<◌, ◌≤◌, ℕ, List, [], Option, None, Some, length, vec_len, is_ok, option_map, string_bytes, IfOk, IfSome, OnOk, OnErr};
+ghost use Rattle.std.specs.Prelude.{◌≡◌, ◌^◌, ◌<◌, ◌≤◌, ℕ, List, [], Option, None, Some, length, vec_len, is_ok, string_bytes, IfOk, IfSome, OnOk, OnErr};
 ghost use Rattle.outside_kit.specs.declared.port.Port.{Port};
 ghost use Rattle.outside_kit.specs.Outside.{HasRisen};
 ghost use Rattle.outside_kit.specs.Calls.{Load, Bind, AreCallsAfter};

@@ -40,7 +40,7 @@ use Rattle.mptcp_run.specs.declared.schedule.Schedule.TheVariants.{Serial, Timed
 use Rattle.link_script.specs.Reading.{reading}
 use Rattle.run_outside.specs.Reading.{script_in, script_of, log_reading}
 use Rattle.mptcp_run.specs.Task.{Task, Course, rounds, threads, told, task_from, turns_in, course_of, task_of}
-use Rattle.run_outside.proofs.Calls.{ToldCalls, all_then, cut_then, short_then, short_cut}
+use Rattle.run_outside.proofs.Calls.{all_then, cut_then, short_then, short_cut}
 use Rattle.mptcp_run.proofs.Unstopped.{never_stopped}
 use Rattle.mptcp_run.proofs.Logged.{whole_runs_are_told}
 use Rattle.mptcp_run.proofs.Promised.{plain_of, short_tasks_are_kept, checked_runs_are_right, delivered_runs_give_as_many, whole_runs_give_prefixes, whole_runs_have_cause, delivered_runs_give_files, stopped_runs_give_prefixes, cut_runs_give_prefixes, lines_cut_give_prefixes}

@@ -1,7 +1,6 @@
 -- What the words ask for, and what stands at each answer to them.
 use Rattle.std.proofs.Common.{◌≡◌, refl, sym, ap, subst, ℕ, ◌≤◌, inl, inr, List, Option, Some, None, IfSome}
 use Rattle.std.specs.Prelude.{option_and_then}
-use Rattle.outside_kit.specs.declared.port.Port.{Port}
 use Rattle.outside_kit.specs.Outside.{Told}
 use Rattle.run_words.specs.Lines.{Line, bench, line_of}
 use Rattle.run_outside.specs.declared.status.Status.{Status}
@@ -15,8 +14,7 @@ use Rattle.mptcp_run.specs.Promised.{NoneIsAltered, ReadersHaveAsMany, ReadersHa
 use Rattle.mptcp_run.specs.declared.schedule.Schedule.TheVariants.{Serial}
 use Rattle.mptcp_run.specs.Task.{first_world}
 use Rattle.mptcp_run.proofs.Answering.{made_cut_answer}
-use Rattle.run_outside.proofs.Calls.{ToldCalls, adds_none, cut_none}
-use Rattle.run_outside.specs.Ports.{Ports}
+use Rattle.run_outside.proofs.Calls.{adds_none, cut_none}
 use Rattle.mptcp_run.proofs.MadeTasks.{made_is_plain, of_words, made_is_unstopped}
 use Rattle.mptcp_run.proofs.Courses.{no_round}
 use Rattle.mptcp_run.proofs.Performing.{nothing_made}

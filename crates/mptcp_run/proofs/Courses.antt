@@ -1,5 +1,6 @@
 -- The turns of a course, from what the rounds or turns of a loop come to.
 use Rattle.std.proofs.Common.{◌≡◌, refl, sym, ◌∙◌, ap, subst, ℕ, zero, suc, Bool, true, false, inl, List, [], ◌∷◌, ◌++◌, length, Option, arith}
+use Rattle.outside_kit.specs.Outside.{Told}
 use Rattle.path_core.specs.Octets.{octets}
 use Rattle.world_laws.specs.Outcomes.{outcome_of}
 use Rattle.world_laws.specs.Serial.{goes_on, OneOf, round_and, steps_and, after_steps, after_turns, AreRounds, IsSerial}
@@ -16,8 +17,6 @@ use Rattle.mptcp_run.specs.declared.schedule.Schedule.TheVariants.{Serial, Timed
 use Rattle.mptcp_run.specs.Task.{Connection}
 use Rattle.mptcp_run.specs.Task as course
 use Rattle.mptcp_run.specs.WovenRounds.{AreWovenRounds}
-use Rattle.run_outside.proofs.Calls.{ToldCalls}
-use Rattle.run_outside.specs.Ports.{Ports}
 use Rattle.mptcp_run.proofs.Folding.{RoundsPut, RoundsCut, TurnsPut, TurnsCut, TurnsFault}
 use Rattle.mptcp_run.proofs.RoundsMade.{IsKind}
 

@@ -1,7 +1,6 @@
 -- What the rounds and turns that are left come to, as a loop goes on.
 use Rattle.std.specs.Prelude.{◌≡◌, ℕ, ◌+◌, ◌≤◌, List, ◌∷◌, ◌++◌, length, Option}
-use Rattle.outside_kit.specs.declared.port.Port.{Port}
-use Rattle.outside_kit.specs.Calls.{Made}
+use Rattle.outside_kit.specs.Outside.{Told}
 use Rattle.path_core.specs.Octets.{octets}
 use Rattle.world_laws.specs.Worlds.{Turn, world_run, AreLawful, IsLawfulTurn}
 use Rattle.run_outside.specs.declared.status.Status.{Status}
@@ -71,10 +70,9 @@ pub record TurnsCut (opening : Option (List ℕ)) (number : ℕ) (order : List T
   pub calls : AddsCut (puts_by_round opening number last (round_ends (turns ++ more) w)) status before.calls after.calls
 
 -- the turns of a log end a run with this status; the first of them stands behind so many lines
-abbrev pub TurnsFault : Option (List ℕ) → ℕ → List Turn → Connection → Connection → ℕ → (Port → Option (List ℕ)) → (Port → Option (List ℕ))
-    → Option (List Made) → Option (List Made) → Status → Type 0
-TurnsFault opening number order last w lines old new before after (Log line) =
-    (count : ℕ) × ((line ≡ lines + count + 1) × TurnRefused opening number order count last w old new before after)
-TurnsFault opening number order last w lines old new before after (Put port) = TurnsCut opening number order last w old new before after (Put port)
-TurnsFault opening number order last w lines old new before after Memory = TurnsCut opening number order last w old new before after Memory
-TurnsFault opening number order last w lines old new before after status = ⊥
+abbrev pub TurnsFault : Option (List ℕ) → ℕ → List Turn → Connection → Connection → ℕ → Told → Told → Status → Type 0
+TurnsFault opening number order last w lines before after (Log line) =
+    (count : ℕ) × ((line ≡ lines + count + 1) × TurnRefused opening number order count last w before after)
+TurnsFault opening number order last w lines before after (Put port) = TurnsCut opening number order last w before after (Put port)
+TurnsFault opening number order last w lines before after Memory = TurnsCut opening number order last w before after Memory
+TurnsFault opening number order last w lines before after status = ⊥

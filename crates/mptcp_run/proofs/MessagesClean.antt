@@ -1,11 +1,8 @@
 -- A run of messages over a clean script.
-use Rattle.std.proofs.Common.{ℕ, List, [], Option, Some, None, IfSome, inl, inr}
-use Rattle.outside_kit.specs.declared.port.Port.{Port}
-use Rattle.outside_kit.specs.Calls.{Made}
+use Rattle.std.proofs.Common.{[], Option, Some, None, IfSome, inl, inr}
 use Rattle.outside_kit.specs.Outside.{Told}
 use Rattle.run_words.specs.Lines.{Line}
 use Rattle.run_outside.specs.declared.status.Status.{Status}
-use Rattle.run_outside.specs.Ports.{Ports}
 use Rattle.mptcp_run.specs.Clean.{DeliversIfClean}
 use Rattle.mptcp_run.specs.Messages.{as_framed, as_run, IsMessagesAnswer}
 use Rattle.mptcp_run.proofs.CleanRuns.{clean_runs_deliver}

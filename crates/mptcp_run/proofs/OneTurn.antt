@@ -2,6 +2,7 @@
 use Rattle.std.proofs.Common.{◌≡◌, refl, sym, subst, ℕ, List, Option, Result, OnOk, IfErr, inl}
 use Rattle.std.proofs.lemmas.Result.{on_ok_weaker}
 use Rattle.outside_kit.specs.declared.port.Port.{Port}
+use Rattle.outside_kit.specs.Outside.{Told}
 use Rattle.path_core.specs.Octets.{octets}
 use Rattle.run_log.specs.declared.turn.Turn as log_turn
 use Rattle.run_log.specs.declared.turn.Turn.TheVariants as logged
@@ -14,7 +15,7 @@ use Rattle.run_outside.specs.declared.status.Status.TheVariants.{Memory, Log}
 use Rattle.mptcp_run.specs.Making.{TurnMade}
 use Rattle.mptcp_run.specs.Replaying.{UnderWay, StepFault, TurnStops, IsReplayFault, round_turn}
 use Rattle.mptcp_run.specs.Task.{Connection}
-use Rattle.run_outside.proofs.Calls.{ToldCalls, adds_none}
+use Rattle.run_outside.proofs.Calls.{adds_none}
 use Rattle.run_outside.proofs.Calling.{only_none}
 use Rattle.run_outside.proofs.PortsLemmas.{OnOk-holds, IfErr-map}
 use Rattle.mptcp_run.proofs.Turning.{under_step}

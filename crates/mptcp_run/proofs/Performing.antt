@@ -5,7 +5,7 @@ use Rattle.outside_kit.specs.Calls.{Call}
 use Rattle.outside_kit.specs.Calls as call
 use Rattle.outside_kit.specs.declared.port.Port.TheVariants as port
 use Rattle.sides.specs.declared.side.Side.TheVariants.{A, B}
-use Rattle.outside_kit.specs.Outside.{HoldsAfter, HoldsPrefix}
+use Rattle.outside_kit.specs.Outside.{Told, HoldsAfter, HoldsPrefix}
 use Rattle.run_words.specs.Lines.{Line}
 use Rattle.world_laws.specs.declared.outcome.Outcome.{Outcome}
 use Rattle.world_laws.specs.declared.outcome.Outcome.TheVariants as outcome
@@ -21,7 +21,7 @@ use Rattle.run_outside.specs.Ports.{HoldsMore, HoldsWithin, IsBetween, Ports}
 use Rattle.mptcp_run.specs.Putting.{opening_in, status_of, last_line, ends_of, read_so_far, log_so_far, HoldsRounds, HoldsRun, AreFirstOf}
 use Rattle.mptcp_run.specs.Rounds.{HoldsEnds, HoldsPart}
 use Rattle.mptcp_run.specs.Task.{Connection, Task, first_world}
-use Rattle.run_outside.proofs.Calls.{ToldCalls, adds_none, all_then, cut_then, cut_longer, cut_none, short_then}
+use Rattle.run_outside.proofs.Calls.{adds_none, all_then, cut_then, cut_longer, cut_none, short_then}
 use Rattle.run_outside.proofs.PortsLemmas.{IsPrefix-refl, IsPrefix-append, nothing_more, all_held, part_held, all_behind, taken_part}
 
 -- the readers' ports were bound

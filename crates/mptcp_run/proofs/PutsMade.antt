@@ -1,10 +1,9 @@
 -- The calls of a round's end, and of the turns of a log.
 use Rattle.std.proofs.Common.{◌≡◌, refl, sym, ◌∙◌, ap, subst, ℕ, List, [], ◌∷◌, ◌++◌, drop, length, Option, Result, Ok, Err, OnOk, OnErr}
 use Rattle.std.proofs.Math.Seq.{drop-append_seam}
-use Rattle.outside_kit.specs.declared.port.Port.{Port}
 use Rattle.outside_kit.specs.declared.port.Port.TheVariants as port
 use Rattle.sides.specs.declared.side.Side.TheVariants.{A, B}
-use Rattle.outside_kit.specs.Outside.{HoldsAfter, HoldsPrefix}
+use Rattle.outside_kit.specs.Outside.{Told, HoldsAfter, HoldsPrefix}
 use Rattle.path_core.specs.Octets.{octets}
 use Rattle.world_laws.specs.Fine.{lists_of}
 use Rattle.world_laws.specs.Outcomes.{notes_at, read_by}

@@ -1,6 +1,7 @@
 -- Rounds of a kind, made and put one after the other.
 use Rattle.std.proofs.Common.{◌≡◌, refl, sym, ◌∙◌, ap, subst, ℕ, suc, ◌+◌, ◌≤◌, true, false, inl, inr, ◌⊎◌, List, [], ◌∷◌, ◌++◌, length, Option, append_assoc, arith}
 use Rattle.std.proofs.lemmas.List.{append-nil}
+use Rattle.outside_kit.specs.Outside.{Told}
 use Rattle.sides.specs.declared.side.Side.TheVariants.{A, B}
 use Rattle.path_core.specs.Octets.{octets}
 use Rattle.world_laws.specs.Outcomes.{outcome_of, output_of}
@@ -15,10 +16,9 @@ use Rattle.mptcp_run.specs.Plan.{round_puts, puts_by_round}
 use Rattle.mptcp_run.specs.Putting.{AreFirst}
 use Rattle.mptcp_run.specs.Rounds.{HoldsEnds, HoldsPart}
 use Rattle.mptcp_run.specs.Task.{Connection}
-use Rattle.run_outside.proofs.Calls.{ToldCalls, adds_none, all_then, cut_then, cut_longer, cut_none}
+use Rattle.run_outside.proofs.Calls.{adds_none, all_then, cut_then, cut_longer, cut_none}
 use Rattle.mptcp_run.proofs.Folding.{RoundsPut, RoundsCut}
 use Rattle.run_outside.proofs.PortsLemmas.{IsPrefix-refl}
-use Rattle.run_outside.specs.Ports.{Ports}
 use Rattle.mptcp_run.proofs.RoundSteps.{nothing_part, nothing_ends, ends_more, part_behind}
 
 -- What a kind of rounds has: the turns of each, and those of at most so many.

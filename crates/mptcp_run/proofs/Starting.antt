@@ -1,6 +1,7 @@
 -- A run that was opened, and how it goes on.
 use Rattle.std.proofs.Common.{◌≡◌, refl, sym, ◌∙◌, ap, subst, ℕ, ◌+◌, List, [], Option, length}
 use Rattle.outside_kit.specs.declared.port.Port.{Port}
+use Rattle.outside_kit.specs.Outside.{Told}
 use Rattle.run_words.specs.Lines.{Line}
 use Rattle.run_outside.specs.declared.input.Input.{Input}
 use Rattle.world_core.specs.Kept.{Kept}
@@ -15,14 +16,14 @@ use Rattle.run_outside.specs.declared.status.Status.TheVariants.{Delivered, Put,
 use Rattle.mptcp_run.specs.Courses.{CourseMade, CourseCut, LogStops}
 use Rattle.mptcp_run.specs.Ends.{CameToEnd, IsCut, ReplayEnds}
 use Rattle.run_outside.specs.Plan.{AddsAll, AddsShort, binds_of}
-use Rattle.run_outside.specs.Ports.{NeverFall, IsPortsFault, Ports}
+use Rattle.run_outside.specs.Ports.{NeverFall, IsPortsFault}
 use Rattle.world_core.specs.RoundEnds.{round_ends}
 use Rattle.mptcp_run.specs.Putting.{opening_of, opening_in, status_of, ends_of, world_after, last_line, last_line_of}
 use Rattle.mptcp_run.specs.Replaying.{IsReplayFault}
 use Rattle.mptcp_run.specs.Rounds.{Begins, AtRound, IsOpened}
 use Rattle.mptcp_run.specs.Task.{Connection, Course, Task, task_with, task_from, first_world}
 use Rattle.mptcp_run.specs.Task as course
-use Rattle.run_outside.proofs.Calls.{ToldCalls, all_then}
+use Rattle.run_outside.proofs.Calls.{all_then}
 use Rattle.mptcp_run.proofs.Performing.{AreBound, LogGrew, LogGrewPart, rounds_held, line_put, line_done, line_short, rounds_short}
 use Rattle.run_outside.proofs.PortsLemmas.{risen_later}
 use Rattle.mptcp_run.proofs.UnderWay.{opened_begins}

@@ -1,7 +1,7 @@
 -- What a turn of a log makes of a run under way.
 use Rattle.std.proofs.Common.{◌≡◌, refl, sym, ◌∙◌, ap, subst, ℕ, Bool, true, false, not, ◌&&◌, inr, List, [], ◌∷◌, map, length, Result, Ok, Err, IfErr, OnErr, Option}
 use Rattle.std.proofs.lemmas.List.{length-map}
-use Rattle.outside_kit.specs.declared.port.Port.{Port}
+use Rattle.outside_kit.specs.Outside.{Told}
 use Rattle.path_core.specs.Octets.{octets}
 use Rattle.world_core.specs.Kept.{Kept, standing}
 use Rattle.world_laws.specs.Actors.{ActorCrew}
@@ -17,7 +17,6 @@ use Rattle.mptcp_run.specs.Replaying.{GoesOn, UnderWay, TurnStops, round_turn}
 use Rattle.mptcp_run.specs.Rounds.{AtRound, HoldsPart}
 use Rattle.mptcp_run.specs.Task.{Connection}
 use Rattle.world_core.specs.Weaving.{AllGrewAbove, IsSince}
-use Rattle.run_outside.proofs.Calls.{ToldCalls}
 use Rattle.mptcp_run.proofs.UnderWay.{step_goes, begins_going, lists_at_end, next_begins}
 use Rattle.mptcp_run.proofs.AllTurns.{since_length}
 

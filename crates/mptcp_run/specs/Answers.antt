@@ -1,7 +1,7 @@
 -- What a run says by its status: a row for each.
 use Rattle.std.specs.Prelude.{◌≡◌, ℕ, true, ◌⊎◌, List, [], Err, Option, Some, IfSome, IsSome}
 use Rattle.outside_kit.specs.declared.port.Port.{Port}
-use Rattle.outside_kit.specs.Calls.{Call, Made}
+use Rattle.outside_kit.specs.Calls.{Call}
 use Rattle.outside_kit.specs.Outside.{Told, HasRisen}
 use Rattle.link_script.specs.declared.fault.ScriptKind.{ScriptKind}
 use Rattle.link_script.specs.declared.fault.ScriptFault.TheVariants as script_fault

@@ -1,14 +1,12 @@
 -- What is promised of a clean script: one path, and no line on which something happens.
-use Rattle.std.specs.Prelude.{◌≡◌, ℕ, ◌≤◌, ◌⊎◌, List, length, Option, IsSomeAnd}
+use Rattle.std.specs.Prelude.{◌≡◌, ℕ, ◌≤◌, ◌⊎◌, length, IsSomeAnd}
 use Rattle.outside_kit.specs.declared.port.Port.{Port}
-use Rattle.outside_kit.specs.Calls.{Made}
 use Rattle.outside_kit.specs.Outside.{Told, HasRisen}
 use Rattle.clean_finish.specs.Bound.{enough}
 use Rattle.run_words.specs.Lines.{Line}
 use Rattle.run_outside.specs.declared.status.Status.{Status}
 use Rattle.run_outside.specs.declared.status.Status.TheVariants.{Delivered, Memory}
 use Rattle.run_outside.specs.Inputs.{IsValid}
-use Rattle.run_outside.specs.Ports.{Ports}
 use Rattle.mptcp_run.specs.Answers.{IsAnswer}
 use Rattle.mptcp_run.specs.Task.{Task, Course, rounds, threads, told, task_of}
 

@@ -1,8 +1,6 @@
 -- A round, or a turn of a log, that was made and put, or ended the run: the ports, the calls and
 -- the counts.
 use Rattle.std.specs.Prelude.{◌≡◌, ℕ, ◌⊎◌, List, [], ◌∷◌, Option, Result, OnOk, OnErr, IfErr}
-use Rattle.outside_kit.specs.declared.port.Port.{Port}
-use Rattle.outside_kit.specs.Calls.{Made}
 use Rattle.outside_kit.specs.Outside.{Told}
 use Rattle.world_laws.specs.Worlds.{Turn}
 use Rattle.mptcp_run.specs.declared.rounds.Run.{Run}

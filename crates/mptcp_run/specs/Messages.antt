@@ -1,7 +1,6 @@
 -- A run whose files go as messages, each line as one: what is asked, what the readers' ports show, and how it ends.
 use Rattle.std.specs.Prelude.{◌≡◌, ℕ, ◌⊎◌, Bool, false, ◌&&◌, not, List, [], Option, Some, None, option_and_then, IfSome, if◌then◌else◌}
 use Rattle.std.specs.Str.{bytes_eq}
-use Rattle.outside_kit.specs.declared.port.Port.{Port}
 use Rattle.outside_kit.specs.declared.port.Port.TheVariants.{ReadByA, ReadByB}
 use Rattle.outside_kit.specs.Calls.{Made}
 use Rattle.outside_kit.specs.Outside.{Told, HoldsAfter}

@@ -99,8 +99,7 @@ pub fn make_turns<O: Outside>(
         run.old.opening run.old.world.state (O.told outside.old) (O.told outside.new)) }
     ensures cause { IfErr result
         (IsReplayFault (O.told outside.old).port_faults (O.told outside.new).port_faults) }
-    ensures only { OnlyPuts
-        (O.told outside.old) (O.told outside.new) }
+    ensures only { OnlyPuts (O.told outside.old) (O.told outside.new) }
 {
     let mut line = lines;
     for turn in order {

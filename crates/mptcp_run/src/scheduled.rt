@@ -34,8 +34,7 @@ fn make_round<O: Outside>(
         run.old.world.state (O.told outside.old) (O.told outside.new)) }
     ensures fault { IfErr result
         (IsPortsFault (O.told outside.old).port_faults (O.told outside.new).port_faults) }
-    ensures only { OnlyPuts
-        (O.told outside.old) (O.told outside.new) }
+    ensures only { OnlyPuts (O.told outside.old) (O.told outside.new) }
 {
     match round_by(schedule, &mut run.world) {
         Ok(()) => run.put_round(alloc, outside),
@@ -61,8 +60,7 @@ pub fn make_rounds<O: Outside>(
         (O.told outside.old) (O.told outside.new)) }
     ensures fault { IfErr result
         (IsPortsFault (O.told outside.old).port_faults (O.told outside.new).port_faults) }
-    ensures only { OnlyPuts
-        (O.told outside.old) (O.told outside.new) }
+    ensures only { OnlyPuts (O.told outside.old) (O.told outside.new) }
 {
     for _round in 0..most {
         make_round(alloc, outside, schedule, run)?;

@@ -88,8 +88,7 @@ fn make_round<O: Outside, G: Gate + Sync, R: Threads + Wait + Sync>(
         (O.told outside.old) (O.told outside.new)) }
     ensures fault { IfErr result.1
         (IsPortsFault (O.told outside.old).port_faults (O.told outside.new).port_faults) }
-    ensures only { OnlyPuts
-        (O.told outside.old) (O.told outside.new) }
+    ensures only { OnlyPuts (O.told outside.old) (O.told outside.new) }
 {
     let Run {
         world,
@@ -133,8 +132,7 @@ pub fn make_threaded_rounds<O: Outside, G: Gate + Sync, R: Threads + Wait + Sync
         (O.told outside.old) (O.told outside.new)) }
     ensures fault { IfErr result.1
         (IsPortsFault (O.told outside.old).port_faults (O.told outside.new).port_faults) }
-    ensures only { OnlyPuts
-        (O.told outside.old) (O.told outside.new) }
+    ensures only { OnlyPuts (O.told outside.old) (O.told outside.new) }
 {
     let mut run = run;
     for _round in 0..most {

@@ -289,8 +289,7 @@ pub fn show<O: Outside, P: Progress>(
     asked: &Asked<'_>,
 ) -> Result<Extent, Status>
     requires { (as_line asked.now.line).work ≡ replay asked.now.log.now }
-    ensures { IsViewAnswer (O.told outside.old).content (as_asked asked.now)
-        (O.told outside.old) (O.told outside.new) result }
+    ensures { IsViewAnswer (as_asked asked.now) (O.told outside.old) (O.told outside.new) result }
 {
     let logged = load_logged(alloc, outside, &asked.line, asked.log)?;
     let Logged { input, log } = logged;

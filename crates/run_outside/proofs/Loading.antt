@@ -12,7 +12,7 @@ use Rattle.link_script.specs.Reading.{reading}
 use Rattle.run_words.specs.Lines.{Line, replay}
 use Rattle.run_outside.specs.declared.status.Named.{Named}
 use Rattle.run_outside.specs.declared.status.Status.{Status}
-use Rattle.run_outside.specs.declared.status.Status.TheVariants.{Delivered, Rounds, NoPath, Aborted, Usage, Script, Load, Put, TooLong, Memory, Log}
+use Rattle.run_outside.specs.declared.status.Status.TheVariants.{Delivered, Script, Load, TooLong, Memory, Log}
 use Rattle.run_outside.specs.Loading.{LoadsAdd, InputAdds}
 use Rattle.run_outside.specs.Causes.{limit_of, IsLoadFault, IsScriptFault, IsFormFault}
 use Rattle.run_outside.specs.Inputs.{name_of, order_of, content_of, AreWithinLimitsBefore, IsLoadsFault, IsInputFault, IsLoggedFault, IsReplayInputFault}

@@ -68,8 +68,7 @@ pub fn load_contents<O: Outside>(
         (O.told outside.new).content other ≡ (O.told outside.old).content other }
     ensures calls_cut { IfErr result (LoadsAdd (as_line line.now) (first_loads (as_line line.now))
         (O.told outside.old).calls (O.told outside.new).calls) }
-    ensures loads { Loads (first_loads (as_line line.now))
-        (O.told outside.old) (O.told outside.new) result }
+    ensures loads { Loads (first_loads (as_line line.now)) (O.told outside.old) (O.told outside.new) result }
 {
     let script = load(alloc, outside, Named::Script, line.script)?;
     let file_a = load(alloc, outside, Named::FileA, line.file_a)?;
@@ -100,8 +99,7 @@ pub fn load_order<O: Outside>(
         (O.told outside.old).load_faults (O.told outside.new).load_faults) }
     ensures calls_cut { OnErr result
         (Adds (failed (call.Load order.now) ∷ []) (O.told outside.old).calls (O.told outside.new).calls) }
-    ensures loads { Loads (call.Load order.now ∷ [])
-        (O.told outside.old) (O.told outside.new) result }
+    ensures loads { Loads (call.Load order.now ∷ []) (O.told outside.old) (O.told outside.new) result }
 {
     load(alloc, outside, Named::Order, order)
 }
@@ -160,8 +158,7 @@ pub fn load_input<O: Outside>(
         (O.told outside.old).load_faults (O.told outside.new).load_faults) }
     ensures calls_cut { IfErr result (InputAdds (as_line line.now) (first_loads (as_line line.now))
         (O.told outside.old).calls (O.told outside.new).calls) }
-    ensures loads { Loads (first_loads (as_line line.now))
-        (O.told outside.old) (O.told outside.new) result }
+    ensures loads { Loads (first_loads (as_line line.now)) (O.told outside.old) (O.told outside.new) result }
 {
     let contents = load_contents(alloc, outside, line)?;
     input_of(alloc, contents)
@@ -202,8 +199,7 @@ pub fn load_logged<O: Outside>(
         (O.told outside.old).load_faults (O.told outside.new).load_faults) }
     ensures calls_cut { IfErr result (InputAdds (as_line line.now) (loads_of (as_line line.now))
         (O.told outside.old).calls (O.told outside.new).calls) }
-    ensures loads { Loads (loads_of (as_line line.now))
-        (O.told outside.old) (O.told outside.new) result }
+    ensures loads { Loads (loads_of (as_line line.now)) (O.told outside.old) (O.told outside.new) result }
 {
     let contents = load_contents(alloc, outside, line)?;
     let log = load_order(alloc, outside, line, order)?;
@@ -254,8 +250,7 @@ pub fn load_replay<O: Outside>(
         (O.told outside.old).load_faults (O.told outside.new).load_faults) }
     ensures calls_cut { IfErr result (InputAdds (as_line line.now) (loads_of (as_line line.now))
         (O.told outside.old).calls (O.told outside.new).calls) }
-    ensures loads { Loads (loads_of (as_line line.now))
-        (O.told outside.old) (O.told outside.new) result }
+    ensures loads { Loads (loads_of (as_line line.now)) (O.told outside.old) (O.told outside.new) result }
 {
     let logged = load_logged(alloc, outside, line, order)?;
     let turns = read_order(alloc, &logged.input.script, &logged.log)?;

@@ -30,8 +30,7 @@ fn put_text<O: Outside>(outside: &mut O, port: Port, text: &Text) -> Result<(), 
         (HoldsPrefix ((O.told outside.old).holds port) ((O.told outside.new).holds port) text.now) }
     ensures other_ports { (other : Port) → other ≢ port →
         (O.told outside.new).holds other ≡ (O.told outside.old).holds other }
-    ensures puts { Puts (put_of port text.now)
-        (O.told outside.old) (O.told outside.new) result }
+    ensures puts { Puts (put_of port text.now) (O.told outside.old) (O.told outside.new) result }
 {
     if text.is_empty() {
         return Ok(());

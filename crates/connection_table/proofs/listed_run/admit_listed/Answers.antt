@@ -19,7 +19,8 @@ returns-clause-ok g c =
     let read : Says c.in_ok-list.list.items names =
     (omega (arith, count, c.in_ok-list.ensures.within), ap list_reading (sym c.deref.ensures.value) ∙ c.in_ok-listed.ensures.ok ∙ ap (λ listed. Ok (map as_names listed)) (sym c.deref-2.ensures.value)) in
     OnOk-both c.admit_all.result
-    (λ are calls. table_of (g.O.Outside.told c.args.outside.now).content (as_words c.args.words.now) c.in_ok-list.list.items names c.admit_all.new.table _ _ c.in_ok-list.ensures.whole read
+    (λ are calls. table_of (as_words c.args.words.now) c.in_ok-list.list.items names c.admit_all.new.table
+    (g.O.Outside.told c.args.outside.now) (g.O.Outside.told c.admit_all.new.outside) c.in_ok-list.ensures.whole read
     (all_then (call.Load (as_words c.args.words.now).list ∷ []) (joined (map loads_of names)) _ _ _ c.in_ok-list.ensures.calls calls)
     (admitted_of_same (g.O.Outside.told c.load.new.outside).content (g.O.Outside.told c.args.outside.now).content c.load.ensures.same_contents names c.admit_all.new.table are))
     c.admit_all.ensures.ok c.admit_all.ensures.calls
@@ -31,7 +32,7 @@ returns-clause-fault g c =
     let read : Says c.in_ok-list.list.items names =
     (omega (arith, count, c.in_ok-list.ensures.within), ap list_reading (sym c.deref.ensures.value) ∙ c.in_ok-listed.ensures.ok ∙ ap (λ listed. Ok (map as_names listed)) (sym c.deref-2.ensures.value)) in
     IfErr-map c.admit_all.result
-    (λ many fault. one_refused (as_words c.args.words.now) (g.O.Outside.told c.args.outside.now).load_faults (g.O.Outside.told c.admit_all.new.outside).load_faults
+    (λ many fault. one_refused (g.O.Outside.told c.args.outside.now).content (as_words c.args.words.now) (g.O.Outside.told c.args.outside.now).load_faults (g.O.Outside.told c.admit_all.new.outside).load_faults
     c.in_ok-list.list.items c.in_ok-list.ensures.whole names read many
     (listed_of_same (g.O.Outside.told c.load.new.outside).content (g.O.Outside.told c.args.outside.now).content c.load.ensures.same_contents
     (g.O.Outside.told c.args.outside.now).load_faults (g.O.Outside.told c.load.new.outside).load_faults (g.O.Outside.told c.admit_all.new.outside).load_faults c.load.ensures.only.counted names many fault))

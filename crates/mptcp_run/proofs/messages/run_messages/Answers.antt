@@ -50,7 +50,7 @@ returns-in-Err-clause-answer g c =
 
 pub returns-in-Err-clause-lines : goal.returns-in-Err-clause-lines
 returns-in-Err-clause-lines g c =
-    unread_lines (g.O.Outside.told c.args.outside).holds c.requires.empty_a c.requires.empty_b
+    unread_lines (g.O.Outside.told c.args.outside).content (g.O.Outside.told c.args.outside).holds c.requires.empty_a c.requires.empty_b
     (map string_bytes c.args.words.now) c.in-Err.status c.in-Err.ensures.fault
 
 pub returns-in-Err-clause-neither : goal.returns-in-Err-clause-neither
@@ -77,4 +77,4 @@ returns-in-Ok-2-clause-calls g c =
 
 pub returns-in-Err-clause-calls : goal.returns-in-Err-clause-calls
 returns-in-Err-clause-calls g c =
-    unread_called (g.O.Outside.told c.args.outside).calls (map string_bytes c.args.words.now) c.in-Err.status c.in-Err.ensures.fault
+    unread_called (g.O.Outside.told c.args.outside).content (g.O.Outside.told c.args.outside).calls (map string_bytes c.args.words.now) c.in-Err.status c.in-Err.ensures.fault

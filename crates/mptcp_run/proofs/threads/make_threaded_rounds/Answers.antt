@@ -15,9 +15,9 @@ loop-round-init g c = record {
   opening = refl;
   rounds = c.requires.none;
   few = omega arith;
-  put = λ count v new after h. less_none (λ m. RoundsPut AreWovenRounds c.args.run.opening m 0 count c.args.run.world.state v
+  put = λ count v new h. less_none (λ m. RoundsPut AreWovenRounds c.args.run.opening m 0 count c.args.run.world.state v
       (g.O.Outside.told c.args.outside.now) new) c.args.most h;
-  cut = λ new after status h. less_none (λ m. RoundsCut AreWovenRounds c.args.run.opening m 0 c.args.run.world.state
+  cut = λ new status h. less_none (λ m. RoundsCut AreWovenRounds c.args.run.opening m 0 c.args.run.world.state
       (g.O.Outside.told c.args.outside.now) new status) c.args.most h;
   only = only_none _;
 }
