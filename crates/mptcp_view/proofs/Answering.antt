@@ -35,7 +35,7 @@ use Rattle.mptcp_view.specs.Asking.{Asking}
 use Rattle.mptcp_view.specs.Cutting.{IsRead}
 use Rattle.mptcp_view.specs.Telling.{untold}
 use Rattle.mptcp_view.specs.declared.cutting.Extent.{Extent}
-use Rattle.mptcp_view.specs.Views.{AreInputs, HoldsCut, IsCaptureAt, IsOutFault, IsShownByTick, IsViewAnswer, IsViewFault, IsViewFrom, IsViewOf, WithView, base_in, first_world, out_calls}
+use Rattle.mptcp_view.specs.Views.{AreInputs, HoldsCut, IsCaptureAt, IsOutFault, IsShownByTick, IsViewAnswer, IsViewFault, IsViewFrom, IsViewOf, Shows, WithView, base_in, first_world, out_calls}
 use Rattle.mptcp_view.specs.declared.asking.View.{View}
 use Rattle.mptcp_view.specs.declared.asking.View.TheVariants.{Summary}
 use Rattle.mptcp_view.proofs.Refusing.{late, out_refused}
@@ -106,8 +106,9 @@ module _ (asked : Asking) (input : Input) (log : List ℕ) (extent : Extent) (pa
   answered put made =
       let then = subst (λ (o : Option (List ℕ)). HoldsAfter o (new.holds ReadByB) (λ _. shown)) (untouched ReadByB).0 put in
       let calls = all_then (loads_of asked.line) (out_calls asked.line.names.read_by_b shown) old.calls middle.calls new.calls loaded made in
+      let shows : Shows asked old new extent = with_view (refl, (then, calls)) in
       record {
-        shown = with_view (refl, (then, calls));
+        shown = shows;
         fault = tt;
         untouched = tt;
         other_ports = λ at other. others at other ∙ (untouched at).0;
