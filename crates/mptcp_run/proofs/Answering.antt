@@ -1,5 +1,5 @@
 -- What each status of a run says, from what its parts say.
-use Rattle.std.proofs.Common.{◌≡◌, refl, sym, ap, subst, ℕ, ◌≤◌, inl, inr, List, [], ◌++◌, Option, Some, None, Result, Ok, IfSome, IsSome, length}
+use Rattle.std.proofs.Common.{◌≡◌, refl, sym, ap, subst, ℕ, ◌≤◌, inl, inr, List, [], ◌++◌, Option, Some, None, Result, Ok, Err, IfOk, IfErr, IfSome, IsSome, length}
 use Rattle.std.specs.Prelude.{option_and_then, option_map, map, IsOk, IsSomeAnd}
 use Rattle.std.specs.Result.{result_ok}
 use Rattle.world_core.specs.Logged.{turn_of, all_turns}
@@ -23,7 +23,7 @@ use Rattle.run_outside.specs.declared.status.Status.TheVariants.{Delivered, Roun
 use Rattle.run_outside.specs.Loading.{InputAdds}
 use Rattle.mptcp_run.specs.Answers.{WasRead, HasRun, HasStopped, TurnRow, CutRow, EndRow, IsAnswer, MadeEndRow, MadeCutRow, MadeRow, IsMadeAnswer}
 use Rattle.run_outside.specs.Causes.{limit_of}
-use Rattle.mptcp_run.specs.Ends.{HoldsSomeRounds, HoldsToLine, CameToEnd, IsCut, IsHalted, ReplayEnds}
+use Rattle.mptcp_run.specs.Ends.{HoldsSomeRounds, HoldsToLine, CameToEnd, IsCut, IsHalted, ReplayEnds, either}
 use Rattle.run_outside.specs.Inputs.{order_of, content_of, AreFirstWithinLimits, IsInputFault, IsReplayInputFault, opening_count, AreWithinLimits, HasValidScript, HasValidOrder}
 use Rattle.mptcp_run.specs.Logged.{HasRounds}
 use Rattle.mptcp_run.specs.Made.{Bench}
@@ -459,6 +459,12 @@ module _ (line : Line) (old new : Told) where
       replay_answer (Put p) fault h = (fault, cut_row (Put p) h)
       replay_answer Memory fault h = inr (cut_row Memory h)
       replay_answer _ fault h = absurd h
+
+-- what the answer says, by what both ways say
+pub either_way : {A B C : Status → Type 0} (P : Status → Type 0) (r : Result Status Status) → IfOk r A → IfErr r B → IfErr r C
+    → ((status : Status) → A status → P status) → ((status : Status) → B status → C status → P status) → P (either r)
+either_way P (Ok status) a b c whole cut = whole status a
+either_way P (Err status) a b c whole cut = cut status b c
 
 -- ---- the made input
 

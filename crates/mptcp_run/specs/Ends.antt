@@ -1,5 +1,5 @@
 -- How a run ends behind its loads: at its own end, at a turn that can't be made, or cut off.
-use Rattle.std.specs.Prelude.{◌≡◌, ℕ, ◌≤◌, ◌⊎◌, List, [], ◌++◌, length}
+use Rattle.std.specs.Prelude.{◌≡◌, ℕ, ◌≤◌, ◌⊎◌, List, [], ◌++◌, length, Result, Ok, Err}
 use Rattle.sides.specs.declared.side.Side.TheVariants.{A, B}
 use Rattle.outside_kit.specs.declared.port.Port.TheVariants.{ReadByA, ReadByB, Log}
 use Rattle.outside_kit.specs.Calls.{Call}
@@ -23,6 +23,11 @@ HasEnded Rounds = Unit {0}
 HasEnded NoPath = Unit {0}
 HasEnded (Aborted reader) = Unit {0}
 HasEnded _ = ⊥
+
+-- what is answered, at the run's own end or before it
+abbrev pub either : Result Status Status → Status
+either (Ok status) = status
+either (Err status) = status
 
 -- ---- what the ports hold
 

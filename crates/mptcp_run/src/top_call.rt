@@ -13,7 +13,7 @@ ghost use Rattle.run_outside.specs.Calling.{Puts};
 ghost use Rattle.mptcp_run.specs.Answers.{IsAnswer, IsMadeAnswer, NothingWasRun};
 ghost use Rattle.mptcp_run.specs.Asked.{AsksInRange, asked_in, if_run};
 ghost use Rattle.mptcp_run.specs.Clean.{DeliversIfClean};
-ghost use Rattle.mptcp_run.specs.Ends.{CameToEnd, IsCut, ReplayEnds};
+ghost use Rattle.mptcp_run.specs.Ends.{CameToEnd, IsCut, ReplayEnds, either};
 ghost use Rattle.mptcp_run.specs.Made.{Bench, bench_of, bench_in};
 ghost use Rattle.run_outside.specs.Plan.{AddsShort};
 ghost use Rattle.run_outside.specs.Ports.{IsPortsFault};
@@ -187,6 +187,16 @@ fn perform<O: Outside>(
     ended
 }
 
+/// What is answered, whether a run came to its own end or was cut off.
+fn ended(told: Result<Status, Status>) -> Status
+    ensures { result ≡ either told }
+{
+    match told {
+        Ok(status) => status,
+        Err(status) => status,
+    }
+}
+
 /// A run of rounds by a schedule, at most so many.
 fn run_scheduled<O: Outside>(
     alloc: Global,
@@ -209,10 +219,7 @@ fn run_scheduled<O: Outside>(
         rounds,
         report,
     };
-    match perform(alloc, outside, line, &input, &turns) {
-        Ok(status) => status,
-        Err(status) => status,
-    }
+    ended(perform(alloc, outside, line, &input, &turns))
 }
 
 /// Makes rounds by threads, at most so many, of a run before its first step, and puts its last line.
@@ -295,10 +302,7 @@ fn run_threads<O: Outside, G: Gate + Sync, R: Threads + Wait + Sync>(
         Ok(input) => input,
         Err(status) => return status,
     };
-    match perform_threads(rt, alloc, outside, line, &input, rounds, gate) {
-        Ok(status) => status,
-        Err(status) => status,
-    }
+    ended(perform_threads(rt, alloc, outside, line, &input, rounds, gate))
 }
 
 /// A run of whole turns over the made input of a number; nothing is loaded.
@@ -323,10 +327,7 @@ fn run_bench<O: Outside>(
         rounds,
         report,
     };
-    match perform(alloc, outside, line, &input, &turns) {
-        Ok(status) => status,
-        Err(status) => status,
-    }
+    ended(perform(alloc, outside, line, &input, &turns))
 }
 
 /// A run of the turns of a log.
@@ -344,10 +345,7 @@ fn run_replay<O: Outside>(
         Err(status) => return status,
     };
     let turns = Turns::Logged(&replay);
-    match perform(alloc, outside, line, &replay.input, &turns) {
-        Ok(status) => status,
-        Err(status) => status,
-    }
+    ended(perform(alloc, outside, line, &replay.input, &turns))
 }
 
 /// What a command line asks for, if it is run.
