@@ -1,6 +1,8 @@
-//! The turn of an actor at any desk: it asks, and takes what it is answered, until it asks nothing. A turn takes no lock itself.
+//! The turn of an actor at any desk: it passes a gate, asks, and takes what it is answered, until it asks nothing. A turn takes no lock itself.
 #![tactic(auto)]
 
+mod gate;
 mod turning;
 
+pub use gate::{Gate, OpenGate};
 pub use turning::turn;

@@ -9,8 +9,8 @@ ghost use Rattle.actor_desk.specs.Kinds.{CanBeAsked};
 ghost use Rattle.actor_desk.specs.Noted.{Rises, note_of, noted};
 ghost use Rattle.actor_turn.specs.Turns.{DoesStep, IsLeft, IsUsedUp, NotesOneMore, Stopped, Went};
 
+use crate::gate::Gate;
 use actor_desk::{Actor, Ask, Crew, Desk, Note, Notes, Reply};
-use outside_kit::Gate;
 use stamped_book::{Pass, Refusal, go_on};
 use std::alloc::{AllocError, Global};
 

@@ -62,7 +62,7 @@ impl BytePieces {
     }
 
     /// The first position that counts.
-    pub fn from(&self) -> u64
+    pub fn start(&self) -> u64
         ensures value { result ≡ self.now.from }
         ensures bound { result ≤ 2 ^ 62 }
     {

@@ -7,6 +7,7 @@ mod fails;
 mod fields;
 mod files;
 mod listed;
+mod meet;
 mod meeting;
 mod order;
 mod recorder;

@@ -1,7 +1,8 @@
 //! A gate at which actors meet.
 
 use crate::case::Case;
-use outside_kit::{Gate, MeetGate};
+use crate::meet::MeetGate;
+use actor_turn::Gate;
 use sides::{Object, Side};
 use std::alloc::AllocError;
 use std::sync::atomic::{AtomicU64, Ordering};

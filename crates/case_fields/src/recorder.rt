@@ -43,17 +43,14 @@ impl Outside for Recorder {
     ghost use Rattle.std.specs.Prelude.{None};
     ghost use Rattle.outside_kit.specs.Memory.{port_of};
 
-    ghost content = { λ _ _. None };
-
-    ghost source = { λ _ _. None };
-
-    ghost holds = { λ _ _. None };
-
-    ghost load_faults = { λ recorder. recorder.outside.memory.load_faults };
-
-    ghost port_faults = { λ recorder port. (port_of port recorder.outside.memory).faults };
-
-    ghost calls = { λ _. None };
+    ghost told = { λ recorder. record {
+      content = λ _. None;
+      source = λ _. None;
+      holds = λ _. None;
+      load_faults = recorder.outside.memory.load_faults;
+      port_faults = λ port. (port_of port recorder.outside.memory).faults;
+      calls = None;
+    } };
 
     fn load(&mut self, alloc: Global, name: &str, limit: u64) -> Result<Vec<u8>, LoadFault> {
         if write!(self.calls, "\n    load {name} {limit}").is_err() {

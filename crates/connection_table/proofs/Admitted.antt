@@ -1,9 +1,17 @@
 -- The connections of a list, loaded and admitted one after the other.
-use Rattle.connection_table.proofs.Words.{◌≡◌, refl, sym, ◌∙◌, ap, subst, ℕ, zero, suc, ◌+◌, ◌<◌, ◌≤◌, None, List, [], ◌∷◌, ◌++◌, length, map, arith, inr}
-use Rattle.connection_table.proofs.Words.{get_or, inl, take, ◌⊎◌, drop, length-append, length-map, map-append, take_more, IfSome, Input, risen_later, Many}
-use Rattle.connection_table.proofs.Words.{Done, Usage, Load, TooLong, Listing, Script, SameToken, Put, Memory, IsInputFault, Names, as_names, Listed, AreWithin}
-use Rattle.connection_table.proofs.Words.{Contents, IsInput, IsLong, AreAdmitted, AreInputs, AtFault, IsListedFault, IsAdmitFault, Entry, key_token}
-use Rattle.connection_table.proofs.Words.{opened_entry, holder_of}
+use Rattle.std.proofs.Common.{◌≡◌, refl, sym, ◌∙◌, ap, subst, ℕ, zero, suc, ◌+◌, ◌<◌, ◌≤◌, ◌⊎◌, inl, inr, List, [], ◌∷◌, ◌++◌, length, get_or, map, take, drop, None, arith}
+use Rattle.std.specs.Prelude.{IfSome}
+use Rattle.std.proofs.lemmas.List.{length-append, length-map, map-append, take_more}
+use Rattle.run_outside.specs.declared.input.Input.{Input}
+use Rattle.run_outside.proofs.PortsLemmas.{risen_later}
+use Rattle.connection_table.specs.Lists.{Names, as_names}
+use Rattle.connection_table.specs.declared.list.Listed.{Listed}
+use Rattle.connection_table.specs.declared.many.Many.{Many}
+use Rattle.connection_table.specs.declared.many.Many.TheVariants.{Done, Usage, Load, TooLong, List as Listing, Script, SameToken, Put, Memory}
+use Rattle.connection_table.specs.Causes.{IsInputFault}
+use Rattle.connection_table.specs.Inputs.{AreWithin, Contents, IsInput, IsLong}
+use Rattle.connection_table.specs.ManyEnds.{AreAdmitted, AreInputs, AtFault, IsAdmitFault, IsListedFault}
+use Rattle.connection_table.specs.Tables.{Entry, holder_of, key_token, opened_entry}
 use Rattle.connection_table.proofs.OwnTokens.{apart_more}
 
 -- ---- a connection more
@@ -57,7 +65,11 @@ module _ (c d : Contents) (same : (name : List ℕ) → c name ≡ d name) where
   long_of_same names long = record { name = long.name; among = long.among; long = if_told long.name _ long.long }
 
   within_of_same : (names : Names) → AreWithin c names → AreWithin d names
-  within_of_same names are = record { script = if_told names.script _ are.script; file_a = if_told names.file_a _ are.file_a; file_b = if_told names.file_b _ are.file_b }
+  within_of_same names are = record {
+    script = if_told names.script _ are.script;
+    file_a = if_told names.file_a _ are.file_a;
+    file_b = if_told names.file_b _ are.file_b;
+  }
 
   module _ (old middle new : ℕ) (few : old ≤ middle) where
     fault_of_same : (entry : ℕ) (names : Names) (many : Many) → IsInputFault entry c names middle new many → IsInputFault entry d names old new many
@@ -65,7 +77,11 @@ module _ (c d : Contents) (same : (name : List ℕ) → c name ≡ d name) where
     fault_of_same entry names (TooLong line) fault = (fault.0, long_of_same names fault.1)
     fault_of_same entry names (Script named line kind) fault = (fault.0, (within_of_same names fault.1.0, if_told names.script _ fault.1.1))
     fault_of_same entry names Memory fault = tt
-    fault_of_same entry names _ fault = absurd fault
+    fault_of_same entry names Done fault = absurd fault
+    fault_of_same entry names Usage fault = absurd fault
+    fault_of_same entry names (Listing line) fault = absurd fault
+    fault_of_same entry names (SameToken line holder) fault = absurd fault
+    fault_of_same entry names Put fault = absurd fault
 
     at_of_same : (inputs : List Input) (names : Names) (many : Many) → AtFault c inputs names middle new many → AtFault d inputs names old new many
     at_of_same inputs names (SameToken line holder) fault = (fault.0, (fault.1.0, (input_of_same names fault.1.0 fault.1.1.0, fault.1.1.1)))
@@ -73,7 +89,10 @@ module _ (c d : Contents) (same : (name : List ℕ) → c name ≡ d name) where
     at_of_same inputs names (TooLong line) fault = fault_of_same (length inputs) names (TooLong line) fault
     at_of_same inputs names (Script named line kind) fault = fault_of_same (length inputs) names (Script named line kind) fault
     at_of_same inputs names Memory fault = tt
-    at_of_same inputs names _ fault = absurd fault
+    at_of_same inputs names Done fault = absurd fault
+    at_of_same inputs names Usage fault = absurd fault
+    at_of_same inputs names (Listing line) fault = absurd fault
+    at_of_same inputs names Put fault = absurd fault
 
     pub listed_of_same : (names : List Names) (many : Many) → IsListedFault c names middle new many → IsListedFault d names old new many
     listed_of_same names many fault = record {
@@ -104,7 +123,11 @@ module _ (content : Contents) (before behind : List Names) (at : Names) (table :
     at_input entry (TooLong line) is fault = subst (λ n. IsInputFault n content at old new (TooLong line)) is fault
     at_input entry (Script named line kind) is fault = subst (λ n. IsInputFault n content at old new (Script named line kind)) is fault
     at_input entry Memory is fault = tt
-    at_input entry _ is fault = absurd fault
+    at_input entry Done is fault = absurd fault
+    at_input entry Usage is fault = absurd fault
+    at_input entry (Listing line) is fault = absurd fault
+    at_input entry (SameToken line holder) is fault = absurd fault
+    at_input entry Put is fault = absurd fault
 
     -- its loads or its script
     pub unloaded : (many : Many) → IsInputFault (length table) content at old new many → IsListedFault content (before ++ at ∷ behind) old new many
@@ -118,7 +141,13 @@ module _ (content : Contents) (before behind : List Names) (at : Names) (table :
       (input, (is, ap (holder_of (key_token input.script)) (sym are.table_is) ∙ fault.1)),
     )
     at_token input Memory is fault = tt
-    at_token input _ is fault = absurd fault
+    at_token input Done is fault = absurd fault
+    at_token input Usage is fault = absurd fault
+    at_token input (Load line) is fault = absurd fault
+    at_token input (TooLong line) is fault = absurd fault
+    at_token input (Listing line) is fault = absurd fault
+    at_token input (Script named line kind) is fault = absurd fault
+    at_token input Put is fault = absurd fault
 
     pub refused : (input : Input) (many : Many) → IsInput content at input → IsAdmitFault (length table) (holder_of (key_token input.script) table) many
         → IsListedFault content (before ++ at ∷ behind) old new many

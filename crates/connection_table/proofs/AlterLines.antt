@@ -1,6 +1,10 @@
 -- The first line that begins with `alter`, line after line, as a loop finds it.
-use Rattle.connection_table.proofs.Words.{◌≡◌, refl, sym, ◌∙◌, ap, subst, ℕ, ◌+◌, Bool, true, false, Option, Some, None, List, [], ◌∷◌, length, if◌then◌else◌}
-use Rattle.connection_table.proofs.Words.{eqb, nil_from_length, position_from, eqb-true, text_lines, is_alter_line}
+use Rattle.std.proofs.Common.{◌≡◌, refl, sym, ◌∙◌, ap, subst, ℕ, ◌+◌, Bool, true, false, eqb, length, if◌then◌else◌, Option, Some, None, List, [], ◌∷◌}
+use Rattle.std.specs.List.{position_from}
+use Rattle.std.proofs.lemmas.Bool.{eqb-true}
+use Rattle.std.proofs.lemmas.List.{nil_from_length}
+use Rattle.octet_text.specs.Lines.{text_lines}
+use Rattle.connection_table.specs.Scripts.{is_alter_line}
 
 -- of the lines of a text, the first of which has this number
 abbrev pub alter_from : ℕ → List ℕ → Option ℕ

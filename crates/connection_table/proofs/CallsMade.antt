@@ -1,16 +1,23 @@
 -- Calls of a plan, part by part, and the puts of a table's lines.
-use Rattle.connection_table.proofs.Words.{◌≡◌, refl, sym, ◌∙◌, ap, subst, ⊎_elim, ℕ, zero, suc, ◌+◌, ◌<◌, ◌≤◌, Bool, Option, Some, None, List, [], ◌∷◌, ◌++◌}
-use Rattle.connection_table.proofs.Words.{append_assoc, length, map, arith, inr, inl, take, drop, map-append, append-nil, slice_get, AreCallsAfter, Call}
-use Rattle.connection_table.proofs.Words.{succeeded, failed, Adds, AddsAll, Told, adds_none, adds_then, all_then, Many, Done, Usage, Load, TooLong, Listing}
-use Rattle.connection_table.proofs.Words.{Script, SameToken, Put, Memory, AddsCut, AddsToFailed, AddsFirst, PutAdds, puts_from, Entry, connection_line, line_if}
-use Rattle.connection_table.proofs.Words.{state_of}
+use Rattle.std.proofs.Common.{◌≡◌, refl, sym, ◌∙◌, ap, subst, ⊎_elim, inl, inr, Bool, ℕ, zero, suc, ◌+◌, ◌<◌, ◌≤◌, List, [], ◌∷◌, ◌++◌, append_assoc, length, map, arith}
+use Rattle.std.specs.List.{slice_get}
+use Rattle.std.proofs.lemmas.List.{append-nil, map-append}
 use Rattle.outside_kit.specs.declared.port.Port.TheVariants.{Log}
+use Rattle.outside_kit.specs.Calls.{AreCallsAfter, Call}
 use Rattle.outside_kit.specs.Calls as call
+use Rattle.run_outside.specs.Plan.{succeeded, failed, Adds, AddsAll}
+use Rattle.run_outside.proofs.Calls.{ToldCalls, adds_none, adds_then, all_then}
+use Rattle.connection_table.specs.declared.many.Many.{Many}
+use Rattle.connection_table.specs.declared.many.Many.TheVariants.{Done, Usage, Load, TooLong, List as Listing, Script, SameToken, Put, Memory}
+use Rattle.connection_table.specs.Loads.{AddsCut, AddsFirst, AddsToFailed}
+use Rattle.connection_table.specs.ManyEnds.{PutAdds, puts_from}
+use Rattle.connection_table.specs.ManyLines.{connection_line, line_if, state_of}
+use Rattle.connection_table.specs.Tables.{Entry}
 
 -- ---- one part after the other
 
 -- calls that succeeded, and then some of a plan up to one that failed
-pub failed_then : (front first plan : List Call) (a b c : Told) → AddsAll front a b → AddsToFailed first plan b c → AddsToFailed (front ++ first) plan a c
+pub failed_then : (front first plan : List Call) (a b c : ToldCalls) → AddsAll front a b → AddsToFailed first plan b c → AddsToFailed (front ++ first) plan a c
 failed_then front first plan a b c before cut = record {
   made = cut.made;
   failing = cut.failing;
@@ -27,7 +34,7 @@ failed_then front first plan a b c before cut = record {
         ∙ append_assoc (map succeeded front) (map succeeded (first ++ cut.made)) (failed cut.failing ∷ [])
 
 -- the same behind none of the plan
-module _ (front plan : List Call) (a b c : Told) (before : AddsAll front a b) (cut : AddsToFailed [] plan b c) where
+module _ (front plan : List Call) (a b c : ToldCalls) (before : AddsAll front a b) (cut : AddsToFailed [] plan b c) where
   failed_adds : Adds (map succeeded (front ++ cut.made) ++ failed cut.failing ∷ []) a c
   failed_adds =
       subst (λ made. Adds made a c)
@@ -38,7 +45,7 @@ module _ (front plan : List Call) (a b c : Told) (before : AddsAll front a b) (c
   failed_behind = record { made = cut.made; failing = cut.failing; behind = cut.behind; plan_is = cut.plan_is; adds = failed_adds }
 
 -- in a longer plan
-module _ (front plan behind : List Call) (a b c : Told) (before : AddsAll front a b) where
+module _ (front plan behind : List Call) (a b c : ToldCalls) (before : AddsAll front a b) where
   first_within : AddsFirst plan b c → AddsFirst (front ++ (plan ++ behind)) a c
   first_within first = record {
     made = front ++ first.made;
@@ -62,20 +69,20 @@ module _ (front plan behind : List Call) (a b c : Told) (before : AddsAll front 
   pub cut_within : AddsCut plan b c → AddsCut (front ++ (plan ++ behind)) a c
   cut_within cut = ⊎_elim (λ first. inl (first_within first)) (λ to. inr (failed_within to)) cut
 
-pub cut_behind : (front plan : List Call) (a b c : Told) → AddsAll front a b → AddsCut plan b c → AddsCut (front ++ plan) a c
+pub cut_behind : (front plan : List Call) (a b c : ToldCalls) → AddsAll front a b → AddsCut plan b c → AddsCut (front ++ plan) a c
 cut_behind front plan a b c before cut = subst (λ calls. AddsCut (front ++ calls) a c) (append-nil plan) (cut_within front plan [] a b c before cut)
 
 -- ---- one put
 
 -- a call that was told
-pub one_told : (made told : Call) (ok was : Bool) (a b : Told) → AreCallsAfter made ok a b → made ≡ told → ok ≡ was → Adds (record { call = told; ok = was } ∷ []) a b
+pub one_told : (made told : Call) (ok was : Bool) (a b : ToldCalls) → AreCallsAfter made ok a b → made ≡ told → ok ≡ was → Adds (record { call = told; ok = was } ∷ []) a b
 one_told made told ok was a b after same is =
     subst (λ (o : Bool). Adds (record { call = told; ok = o } ∷ []) a b) is (subst (λ (x : Call). AreCallsAfter x ok a b) same after)
 
-pub none_made : (plan : List Call) (a : Told) → AddsCut plan a a
+pub none_made : (plan : List Call) (a : ToldCalls) → AddsCut plan a a
 none_made plan a = inl (record { made = []; behind = plan; plan_is = refl; adds = adds_none a })
 
-pub one_failed : (put : Call) (a b : Told) → Adds (failed put ∷ []) a b → AddsToFailed [] (put ∷ []) a b
+pub one_failed : (put : Call) (a b : ToldCalls) → Adds (failed put ∷ []) a b → AddsToFailed [] (put ∷ []) a b
 one_failed put a b adds = record { made = []; failing = put; behind = []; plan_is = refl; adds = adds }
 
 -- ---- the puts of a table
@@ -118,7 +125,7 @@ behind number (suc i) (e ∷ table) =
     (rest.0, ap (λ puts. call.Put Log (connection_line number (state_of e)) ∷ puts) rest.1)
 
 -- a put that ends the run
-module _ (i : ℕ) (table : List Entry) (a b c : Told) (within : i < length table) (before : AddsAll (puts_upto 0 i table) a b) where
+module _ (i : ℕ) (table : List Entry) (a b c : ToldCalls) (within : i < length table) (before : AddsAll (puts_upto 0 i table) a b) where
   abbrev one : List Call
   one = call.Put Log (line_if i (slice_get table i)) ∷ []
 
@@ -130,4 +137,10 @@ module _ (i : ℕ) (table : List Entry) (a b c : Told) (within : i < length tabl
   pub put_ends : (many : Many) → PutAdds one b c many → PutAdds (puts_from 0 (map state_of table)) a c many
   put_ends Put cut = subst (λ plan. AddsToFailed [] plan a c) (sym whole_is.1) (failed_within (puts_upto 0 i table) one whole_is.0 a b c before cut)
   put_ends Memory cut = subst (λ plan. AddsCut plan a c) (sym whole_is.1) (cut_within (puts_upto 0 i table) one whole_is.0 a b c before cut)
-  put_ends _ cut = tt
+  put_ends Done cut = tt
+  put_ends Usage cut = tt
+  put_ends (Load line) cut = tt
+  put_ends (TooLong line) cut = tt
+  put_ends (Listing line) cut = tt
+  put_ends (Script entry line kind) cut = tt
+  put_ends (SameToken line holder) cut = tt

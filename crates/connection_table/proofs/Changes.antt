@@ -1,10 +1,20 @@
 -- What is made of one connection of a table, and of each one after the other.
-use Rattle.connection_table.proofs.Words.{◌≡◌, refl, sym, ◌∙◌, ap, subst, ℕ, zero, suc, ◌+◌, ◌-◌, ◌^◌, ◌<◌, ◌≤◌, Bool, true, false, Option, Some, None, List}
-use Rattle.connection_table.proofs.Words.{[], ◌∷◌, ◌++◌, length, arith, if◌then◌else◌, IsSomeAnd, All, slice_get, slice_set, All-cons, All-head, All-tail}
-use Rattle.connection_table.proofs.Words.{same_Some, octets, Step, Input, is_going, world_step, StampRises, is_made, stamp_at, standing, Connection, Entry}
-use Rattle.connection_table.proofs.Words.{Stands, entry_at, with_entry, IsShortEntry, EachRound, Runs, StepMade, Changes, home_of, after_step}
+use Rattle.std.proofs.Common.{◌≡◌, refl, sym, ◌∙◌, ap, subst, ℕ, zero, suc, ◌+◌, ◌-◌, ◌^◌, ◌<◌, ◌≤◌, Bool, true, false, Option, Some, None, List, [], ◌∷◌, ◌++◌, length, if◌then◌else◌, arith}
+use Rattle.std.specs.Prelude.{IsSomeAnd}
+use Rattle.std.specs.List.{All, slice_get, slice_set}
+use Rattle.std.proofs.lemmas.List.Elements.{All-nil, All-cons, All-head, All-tail}
+use Rattle.std.proofs.lemmas.Option.{same_Some}
+use Rattle.run_outside.specs.declared.input.Input.{Input}
+use Rattle.world_core.specs.Steps.{StampRises, is_made, stamp_at}
 use Rattle.world_core.specs.declared.stepped.Stepped.{Stepped}
-use Rattle.connection_table.specs.ManyRounds.{Made}
+use Rattle.world_core.specs.Kept.{standing}
+use Rattle.run_log.specs.declared.turn.Turn.TheVariants.{Step}
+use Rattle.path_core.specs.Octets.{octets}
+use Rattle.world_laws.specs.Worlds.{is_going, world_step}
+use Rattle.connection_table.specs.ManyRounds.{Changes, EachRound, Made, Runs, StepMade}
+use Rattle.connection_table.specs.Routes.{home_of}
+use Rattle.connection_table.specs.Steps.{after_step}
+use Rattle.connection_table.specs.Tables.{Connection, Entry, IsShortEntry, Stands, entry_at, with_entry}
 use Rattle.connection_table.proofs.Placed.{set_back, set_there}
 
 -- ---- what holds of a connection that may be there
@@ -79,9 +89,11 @@ changes_know K P R more number old new known change =
 
 -- nothing changed
 pub changes_none : (P : Entry → Entry → Type 0) (number : ℕ) (table : List Entry) → IsSomeAnd (entry_at number table) (λ x. P x x) → Changes P number table table
-changes_none P number table h =
-    (elim (entry_at number table) as (λ o. entry_at number table ≡ o → IsSomeAnd o (λ x. P x x) → IsSomeAnd o (λ x. (y : Entry) × (P x y × (table ≡ with_entry number y table))))
-    [ None ↦ λ there h. h | Some x ↦ λ there h. (x, (h, sym (set_back table number x there))) ]) refl h
+changes_none P number table h = by (entry_at number table) refl h
+  where
+    by : (o : Option Entry) → entry_at number table ≡ o → IsSomeAnd o (λ x. P x x) → IsSomeAnd o (λ x. (y : Entry) × (P x y × (table ≡ with_entry number y table)))
+    by None there h = h
+    by (Some x) there h = (x, (h, sym (set_back table number x there)))
 
 pub changed_many : (P : Entry → Entry → Type 0) (number : ℕ) (old new : List Entry) → Changes P number old new → length new ≡ length old
 changed_many P number old new change = by (entry_at number old) change
@@ -124,8 +136,11 @@ module _ (connection actor : ℕ) (old new : List Entry) (stepped : Stepped) (wi
   At P = IsSomeAnd (entry_at (home_of connection actor old) old) P
 
   is_home : home_of connection actor old ≡ connection
-  is_home = (elim (entry_at connection old) as (λ o. IsSomeAnd o Runs → IsSomeAnd o (λ e. IsShortEntry e → home_of connection actor old ≡ connection) → home_of connection actor old ≡ connection)
-      [ None ↦ λ runs h. absurd h | Some e ↦ λ runs h. h runs.short ]) (all_there Runs old connection run within) home
+  is_home = by (entry_at connection old) (all_there Runs old connection run within) home
+    where
+      by : (o : Option Entry) → IsSomeAnd o Runs → IsSomeAnd o (λ e. IsShortEntry e → home_of connection actor old ≡ connection) → home_of connection actor old ≡ connection
+      by None runs h = absurd h
+      by (Some e) runs h = h runs.short
 
   -- at that connection
   here : (number : ℕ) → number ≡ connection → IsSomeAnd (entry_at number old) (λ e. is_made stepped ≡ is_going actor e.world.state)

@@ -1,7 +1,9 @@
 -- A table in which one connection was changed in place.
-use Rattle.connection_table.proofs.Words.{◌≡◌, refl, sym, ◌∙◌, ap, ℕ, ◌<◌, Some, List, length, get_or, IsSomeAnd, slice_get, slice_set, set_other, Entry}
-use Rattle.connection_table.proofs.Words.{entry_at, with_entry, IsTable}
-use Rattle.std.proofs.Common.{◌≢◌}
+use Rattle.std.proofs.Common.{◌≡◌, ◌≢◌, sym, ◌∙◌, ap, refl, ℕ, ◌<◌, Some, List, length, get_or}
+use Rattle.std.specs.Prelude.{IsSomeAnd}
+use Rattle.std.specs.List.{slice_get, slice_set}
+use Rattle.stream_lanes.proofs.Lists.{set_other}
+use Rattle.connection_table.specs.Tables.{Entry, IsTable, entry_at, with_entry}
 use Rattle.connection_table.proofs.Holders.{table_stays}
 use Rattle.connection_table.proofs.Placed.{at_place, same_inputs, set_back, set_there, some_and}
 

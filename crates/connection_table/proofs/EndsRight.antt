@@ -1,32 +1,45 @@
 -- What a serial run of a connection by itself comes to: its readers have first octets of the files, and at the end all of them.
-use Rattle.connection_table.proofs.Words.{◌≡◌, refl, sym, ◌∙◌, ap, subst, ⊎_elim, ℕ, zero, suc, ◌+◌, ◌-◌, ◌^◌, ◌<◌, ◌≤◌, ◌&&◌, Bool, true, false, Option, Some}
-use Rattle.connection_table.proofs.Words.{None, List, [], ◌∷◌, ◌++◌, append_assoc, length, map, arith, IfSome, All, list_any, AllZip, and_parts, both_ways}
-use Rattle.connection_table.proofs.Words.{or_from, or_parts, All-nil, All-cons, All-head, All-tail, A, B, octets, Input, AreLawful, end_round, world_run}
-use Rattle.connection_table.proofs.Words.{world_step, Turn, start_of, notes_of, outcome_by, outcome_of, output_of, tells_end, was_told, AreRounds, OneOf}
-use Rattle.connection_table.proofs.Words.{after_round, after_steps, after_turns, goes_on, round_and, steps_and, after_rounds, IsShort, AreSerial, EndsRight}
-use Rattle.connection_table.proofs.Words.{Connection, first_of, opened_entry, LeavesPayload, is_alter, IsSerialEnd, Runs}
+use Rattle.std.proofs.Common.{◌≡◌, refl, sym, ◌∙◌, ap, subst, ⊎_elim, ℕ, zero, suc, ◌+◌, ◌-◌, ◌^◌, ◌<◌, ◌≤◌, ◌&&◌, Bool, true, false, Option, Some, None, List, [], ◌∷◌, ◌++◌, append_assoc, length, map, arith}
+use Rattle.std.specs.Prelude.{IfSome}
+use Rattle.std.specs.List.{All, AllZip, list_any}
+use Rattle.std.proofs.lemmas.Bool.{and_parts, both_ways, or_from, or_parts}
+use Rattle.std.proofs.lemmas.List.Elements.{All-cons, All-head, All-nil, All-tail}
+use Rattle.sides.specs.declared.side.Side.TheVariants.{A, B}
 use Rattle.octet_text.specs.Prefix.{IsPrefix}
 use Rattle.link_script.specs.declared.script.ScriptLine.{ScriptLine}
 use Rattle.link_script.specs.declared.script.Happens.TheVariants.{Lost, Late, Again, Stripped, Altered}
-use Rattle.world_laws.specs.declared.outcome.Outcome.TheVariants.{Delivered}
-use Rattle.world_laws.specs.PlainScripts.{IsPlainScript, KeepsAllPromises, alters_payload}
+use Rattle.link_script.specs.declared.script.ScriptLine.TheVariants as happens
+use Rattle.run_outside.specs.declared.input.Input.{Input}
+use Rattle.path_core.specs.Octets.{octets}
+use Rattle.world_core.specs.Rounds.{after_rounds}
+use Rattle.world_laws.specs.declared.outcome.Outcome.{Outcome}
+use Rattle.world_laws.specs.declared.outcome.Outcome.TheVariants.{Going, Delivered}
+use Rattle.world_laws.specs.Openings.{start_of}
+use Rattle.world_laws.specs.Outcomes.{notes_of, outcome_by, outcome_of, output_of, tells_abort, tells_end, was_told}
+use Rattle.world_laws.specs.PlainScripts.{AltersNone, IsPlainScript, KeepsAllPromises, alters_payload}
 use Rattle.world_laws.specs.Laws.{WritesTheFiles}
-use Rattle.world_laws.specs.Serial.{spelled}
+use Rattle.world_laws.specs.Serial.{AreRounds, OneOf, after_round, after_steps, after_turns, goes_on, round_and, spelled, steps_and}
+use Rattle.world_laws.specs.Worlds.{AreLawful, Turn, end_round, world_run, world_step}
 use Rattle.world_laws.proofs.Promises.OfScripts.{plain_scripts_keep_all_promises}
 use Rattle.world_laws.proofs.Rounds.SerialIsLawful.{rounds_lawful}
 use Rattle.world_laws.proofs.Worlds.CastLifting.{writes_the_files}
 use Rattle.clean_finish.specs.Bound.{enough}
 use Rattle.clean_finish.specs.Finish.{rounds_in}
 use Rattle.clean_finish.proofs.Finished.{clean_scripts_finish, clean_scripts_go_on}
+use Rattle.connection_table.specs.Inputs.{IsShort}
+use Rattle.connection_table.specs.Scripts.{LeavesPayload, is_alter}
+use Rattle.connection_table.specs.ManyEnds.{AreSerial, EndsRight}
+use Rattle.connection_table.specs.ManyRounds.{IsSerialEnd, Runs}
+use Rattle.connection_table.specs.Tables.{Connection, first_of, opened_entry}
 
 -- ---- a script that leaves payload
 
 same_test : (line : ScriptLine) → alters_payload line ≡ is_alter line
-same_test (ScriptLine.OnSegment segment Lost) = refl
-same_test (ScriptLine.OnSegment segment (Late ticks)) = refl
-same_test (ScriptLine.OnSegment segment (Again ticks)) = refl
-same_test (ScriptLine.OnSegment segment Stripped) = refl
-same_test (ScriptLine.OnSegment segment Altered) = refl
+same_test (happens.OnSegment segment Lost) = refl
+same_test (happens.OnSegment segment (Late ticks)) = refl
+same_test (happens.OnSegment segment (Again ticks)) = refl
+same_test (happens.OnSegment segment Stripped) = refl
+same_test (happens.OnSegment segment Altered) = refl
 same_test _ = refl
 
 leaves_all : (lines : List ScriptLine) → list_any is_alter lines ≡ false → list_any alters_payload lines ≡ false
@@ -154,7 +167,8 @@ module _ (most : ℕ) (input : Input) (w : Connection) (short : IsShort input) (
   clean = by (enough input.script (length input.file_a) (length input.file_b)) refl
     where
       by : (o : Option ℕ) → enough input.script (length input.file_a) (length input.file_b) ≡ o → IfSome o (λ least. least ≤ most → outcome_of w.crew ≡ Delivered)
-      by = elim [ None ↦ λ is. tt | Some least ↦ λ is. λ few. finishes least is few ]
+      by None is = tt
+      by (Some least) is = λ few. finishes least is few
 
   ends_right : EndsRight most input w
   ends_right = record {

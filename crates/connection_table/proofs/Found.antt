@@ -1,20 +1,26 @@
 -- A SYN that is written to join is found by its token.
-use Rattle.connection_table.proofs.Words.{◌≡◌, refl, sym, ◌∙◌, ap, ℕ, ◌&&◌, Bool, true, false, Option, Some, None, List, [], ◌∷◌, ◌++◌, append_assoc, length}
-use Rattle.connection_table.proofs.Words.{map, arith, not, option_and_then, find, is_some, replicate, Side, peer, plain_options, option_octets, addresses_from}
-use Rattle.connection_table.proofs.Words.{Syn, Spelling, Join, PlainOption, PlainSegment, CanSay, options_text, padding, padded, spelled_text, syn_text}
-use Rattle.connection_table.proofs.Words.{unpadded_options, is_join, first_join, meant_token, option_token, segment_token, join_token}
+use Rattle.std.proofs.Common.{◌≡◌, refl, sym, ◌∙◌, ap, ℕ, Bool, true, false, not, is_some, ◌&&◌, Option, Some, None, option_and_then, List, [], ◌∷◌, ◌++◌, append_assoc, length, map, find, replicate, arith}
 use Rattle.std.specs.Prelude.{if◌then◌else◌}
 use Rattle.std.specs.Int.{w16, to_be_bytes}
 use Rattle.std.specs.Result.{result_ok}
+use Rattle.sides.specs.declared.side.Side.{Side}
+use Rattle.sides.specs.Side.{peer}
+use Rattle.segment_wire.specs.Options.{plain_options, option_octets}
+use Rattle.segment_wire.specs.Paths.{addresses_from}
 use Rattle.segment_wire.proofs.Again.{segment_meaning-written}
 use Rattle.segment_wire.proofs.Fronts.{later, plain_options-padding}
 use Rattle.segment_wire.proofs.Appended.{IsOption, option_octets-append}
+use Rattle.mptcp_options.specs.declared.join.JoinForm.TheVariants.{Syn}
 use Rattle.mptcp_options.specs.Text.{Fits, option_text}
 use Rattle.mptcp_options.specs.Value as wire
 use Rattle.mptcp_options.proofs.OptionLaws.{read_again}
-use Rattle.path_segments.specs.Spelled.{spelled}
+use Rattle.path_segments.specs.declared.spelling.Spelling.{Spelling}
+use Rattle.path_segments.specs.declared.segment.PathOption.TheVariants.{Join}
+use Rattle.path_segments.specs.Options.{PlainOption}
+use Rattle.path_segments.specs.Spelled.{PlainSegment, CanSay, options_text, padding, padded, spelled, spelled_text, syn_text, unpadded_options}
 use Rattle.path_segments.proofs.SegmentsAgain.{four, written}
 use Rattle.connection_table.specs.AskedTokens.{WrittenJoinsAreFound}
+use Rattle.connection_table.specs.Routing.{first_join, is_join, join_token, meant_token, option_token, segment_token}
 
 -- ---- the options of a SYN before those of Multipath TCP
 

@@ -1,19 +1,26 @@
 -- The token by which octets ask to join is heard of them.
-use Rattle.connection_table.proofs.Words.{◌≡◌, refl, sym, ◌∙◌, ap, subst, ℕ, zero, suc, ◌&&◌, Bool, true, false, Option, Some, None, List, [], ◌∷◌, length, map}
-use Rattle.connection_table.proofs.Words.{if◌then◌else◌, option_map, not, option_and_then, cond, nat_lt, find, slice_get, and_parts, eqb-true, same_Some, Side}
-use Rattle.connection_table.proofs.Words.{option_octets, addresses_from, Syn, Spelling, Expected, heard_option, heard_segment, known_in, known_or, Every}
-use Rattle.connection_table.proofs.Words.{is_join, first_join, meant_token, option_token, asks_to_open, segment_token, join_token}
-use Rattle.std.proofs.Common.{◌==◌}
+use Rattle.std.proofs.Common.{◌≡◌, refl, sym, ◌∙◌, ap, subst, ℕ, zero, suc, Bool, true, false, cond, not, ◌&&◌, ◌==◌, nat_lt, if◌then◌else◌, Option, Some, None, option_map, option_and_then, List, [], ◌∷◌, length, find, map}
+use Rattle.std.proofs.lemmas.Bool.{and_parts, eqb-true}
+use Rattle.std.proofs.lemmas.Option.{same_Some}
+use Rattle.std.specs.List.{slice_get}
 use Rattle.std.specs.Result.{result_ok}
+use Rattle.sides.specs.declared.side.Side.{Side}
 use Rattle.octet_text.specs.Octets.{octet}
+use Rattle.segment_wire.specs.Options.{option_octets}
 use Rattle.segment_wire.specs.Reading.{segment_meaning}
 use Rattle.segment_wire.specs.Segment.{Segment}
+use Rattle.segment_wire.specs.Paths.{addresses_from}
+use Rattle.mptcp_options.specs.declared.join.JoinForm.TheVariants.{Syn}
 use Rattle.mptcp_options.specs.Meaning.{option_meaning, subtype, ends_with_checksum, differs_in_checksum, is_of_another_kind, is_misframed, is_foreign, has_no_flags, is_unusable, has_length_of_table, value_at}
 use Rattle.mptcp_options.specs.Dss.{has_mapping}
 use Rattle.mptcp_options.specs.Value as wire
-use Rattle.path_segments.specs.Heard.{heard_in}
+use Rattle.path_segments.specs.declared.expected.Expected.{Expected}
+use Rattle.path_segments.specs.declared.spelling.Spelling.{Spelling}
+use Rattle.path_segments.specs.Heard.{heard_in, heard_option, heard_segment, known_in, known_or}
+use Rattle.stream_lanes.specs.Words.{Every}
 use Rattle.connection_table.specs.AskedTokens.{AskedTokensAreHeard}
 use Rattle.connection_table.specs.Tokens.{ShowsToken, AllShowToken}
+use Rattle.connection_table.specs.Routing.{is_join, first_join, meant_token, option_token, asks_to_open, segment_token, join_token}
 
 -- ---- an MP_JOIN means the same with checksums and without
 
@@ -81,10 +88,13 @@ module _ (spelling : Spelling) (from : Side) (expected : Expected) (key_token : 
       by rest (suc i) x at = rest.each i x at
 
   segment_token_is : (s : Segment) (token : ℕ) → segment_token s ≡ Some token → AllShowToken key_token (heard_segment spelling from expected s).options → token ≡ key_token
-  segment_token_is s token is all = (elim (asks_to_open s) as (λ b. (if b then option_and_then option_token (first_join s.options) else None) ≡ Some token → token ≡ key_token) [
-    | false ↦ λ is. cc
-    | true ↦ λ is. (join_is_known HeardShows spelling.checksums token (option_octets s.options) is (all_known (known_in spelling.checksums (option_octets s.options)) all)).1.1.1
-  ]) is
+  segment_token_is s token is all = by (asks_to_open s) is
+    where
+      by : (b : Bool) → (if b then option_and_then option_token (first_join s.options) else None) ≡ Some token → token ≡ key_token
+      by false is = cc
+      by true is =
+          (join_is_known HeardShows spelling.checksums token (option_octets s.options) is
+          (all_known (known_in spelling.checksums (option_octets s.options)) all)).1.1.1
 
   -- where octets ask to join, and all that is heard of them shows the token of a key, they ask by that token
   pub token_heard : (octets : List ℕ) (token : ℕ) → join_token (addresses_from spelling.path from) octets ≡ Some token

@@ -1,17 +1,27 @@
 -- What a kept connection keeps: it stands alone, it has a path, and there is room for the end of its round.
-use Rattle.connection_table.proofs.Words.{◌≡◌, refl, sym, ◌∙◌, ap, subst, ℕ, zero, suc, ◌+◌, ◌<◌, ◌&&◌, Bool, true, false, Option, Some, None, List, [], ◌∷◌}
-use Rattle.connection_table.proofs.Words.{◌++◌, length, map, arith, if◌then◌else◌, ◌||◌, map-append, slice_get, slice_set, list_any, false≢true, same_Some}
-use Rattle.connection_table.proofs.Words.{octets, PathState, Step, Round, Input, AreLawful, after_turn, all_over, begins, crew_after, end_round, greatest}
-use Rattle.connection_table.proofs.Words.{is_going, stepped, asked, world_run, world_step, PathPlan, Start, paths_from, plans_from, start_of, App, Path, Actor}
-use Rattle.connection_table.proofs.Words.{ActorCrew, is_over, member_asks, member_next, member_takes, standing, turn_of, all_turns, Connection, Entry, IsHeld}
-use Rattle.connection_table.proofs.Words.{Stands, StandsAlone, first_of, has_path, is_path, is_path_crew, key_token, opened_entry}
+use Rattle.std.proofs.Common.{◌≡◌, refl, sym, ◌∙◌, ap, subst, ℕ, zero, suc, ◌+◌, ◌<◌, Bool, true, false, ◌&&◌, ◌||◌, if◌then◌else◌, Option, Some, None, List, [], ◌∷◌, ◌++◌, length, map, arith}
+use Rattle.std.specs.List.{list_any, slice_get, slice_set}
+use Rattle.std.proofs.lemmas.Bool.{false≢true}
+use Rattle.std.proofs.lemmas.List.{map-append}
+use Rattle.std.proofs.lemmas.Option.{same_Some}
 use Rattle.run_log.specs.declared.turn.Turn as noted
+use Rattle.run_log.specs.declared.turn.Turn.TheVariants.{Step, Round}
 use Rattle.link_script.specs.declared.script.Script.{Script}
 use Rattle.link_script.specs.declared.script.PathLine.{PathLine}
 use Rattle.actor_desk.specs.declared.ask.Ask.{Ask}
 use Rattle.actor_desk.specs.declared.ask.Reply.{Reply}
+use Rattle.path_core.specs.Octets.{octets}
+use Rattle.path_core.specs.State.{PathState}
+use Rattle.run_outside.specs.declared.input.Input.{Input}
+use Rattle.world_core.specs.Kept.{standing}
+use Rattle.world_core.specs.Logged.{turn_of, all_turns}
+use Rattle.world_laws.specs.declared.member.Member.TheVariants.{App, Path}
+use Rattle.world_laws.specs.Actors.{Actor, ActorCrew, is_over, member_asks, member_next, member_takes}
+use Rattle.world_laws.specs.Openings.{PathPlan, Start, paths_from, plans_from, start_of}
+use Rattle.world_laws.specs.Worlds.{AreLawful, after_turn, all_over, begins, crew_after, end_round, greatest, is_going, stepped, asked, world_run, world_step}
 use Rattle.world_laws.proofs.Rounds.Frame.{first_stands}
 use Rattle.world_laws.proofs.Weaving.WholeRounds.{run_append, lawful_append}
+use Rattle.connection_table.specs.Tables.{Connection, Entry, IsHeld, Stands, StandsAlone, first_of, has_path, is_path, is_path_crew, key_token, opened_entry}
 
 -- ---- it stands alone
 
@@ -57,23 +67,30 @@ takes_kind r (App a) = refl
 takes_kind r (Path p) = refl
 
 next_kind : (m : Actor (List ℕ)) → is_path (member_next m) ≡ is_path m
-next_kind = elim [ App a ↦ refl | Path p ↦ refl ]
+next_kind (App a) = refl
+next_kind (Path p) = refl
 
 step_path : (actor : ℕ) (w : Connection) → has_path (world_step octets actor w) ≡ has_path w
-step_path actor w = (elim (slice_get w.crew actor) as (λ o. slice_get w.crew actor ≡ o → has_path (stepped octets actor o w) ≡ has_path w)
-    [ None ↦ λ there. refl | Some c ↦ λ there. ask c (member_asks octets c.member) there ]) refl
+step_path actor w = by (slice_get w.crew actor) refl
   where
     ask : (c : ActorCrew (List ℕ)) (o : Option Ask) → slice_get w.crew actor ≡ Some c → has_path (asked octets actor o c w) ≡ has_path w
     ask c None there = refl
     ask c (Some a) there = any_set is_path_crew w.crew actor c (crew_after octets a w.books c) there (takes_kind _ c.member)
+
+    by : (o : Option (ActorCrew (List ℕ))) → slice_get w.crew actor ≡ o → has_path (stepped octets actor o w) ≡ has_path w
+    by None there = refl
+    by (Some c) there = ask c (member_asks octets c.member) there
 
 begun_path : (stamp : ℕ) (crew : List (ActorCrew (List ℕ))) → list_any is_path_crew (map (begins stamp) crew) ≡ list_any is_path_crew crew
 begun_path stamp [] = refl
 begun_path stamp (c ∷ crew) = ap (λ b. b || list_any is_path_crew (map (begins stamp) crew)) (next_kind c.member) ∙ ap (λ b. is_path c.member || b) (begun_path stamp crew)
 
 end_path : (w : Connection) → has_path (end_round w) ≡ has_path w
-end_path w = elim (all_over w.crew) as (λ b. has_path (if b then record w { crew = map (begins (greatest 0 w.crew)) w.crew } else w) ≡ has_path w)
-    [ true ↦ begun_path (greatest 0 w.crew) w.crew | false ↦ refl ]
+end_path w = by (all_over w.crew)
+  where
+    by : (b : Bool) → has_path (if b then record w { crew = map (begins (greatest 0 w.crew)) w.crew } else w) ≡ has_path w
+    by true = begun_path (greatest 0 w.crew) w.crew
+    by false = refl
 
 first_path : (start : Start) (plans : List PathPlan) → 0 < length plans → list_any is_path_crew (paths_from {C = List ℕ} start 0 plans) ≡ true
 first_path start [] some = absurd (omega arith)
@@ -97,7 +114,8 @@ begun_stands stamp [] is = absurd (false≢true is)
 begun_stands stamp (c ∷ crew) is = by (is_path c.member) refl is (λ rest. begun_stands stamp crew rest)
   where
     later : (b : Bool) → all_over (map (begins stamp) crew) ≡ false → (b && all_over (map (begins stamp) crew)) ≡ false
-    later = elim [ true ↦ λ e. e | false ↦ λ e. refl ]
+    later true e = e
+    later false e = refl
 
     by : (b : Bool) → is_path c.member ≡ b → (b || list_any is_path_crew crew) ≡ true → (list_any is_path_crew crew ≡ true → all_over (map (begins stamp) crew) ≡ false)
         → (is_over (member_next c.member) && all_over (map (begins stamp) crew)) ≡ false

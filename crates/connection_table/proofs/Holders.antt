@@ -1,12 +1,16 @@
 -- The connection that a token names: as connections come, and as they change.
-use Rattle.connection_table.proofs.Words.{◌≡◌, refl, sym, ◌∙◌, ap, subst, ⊎_elim, ℕ, zero, suc, ◌+◌, ◌-◌, ◌<◌, ◌≤◌, Bool, true, false, Some, None, List, []}
-use Rattle.connection_table.proofs.Words.{◌∷◌, ◌++◌, length, map, arith, get_or, not, cond, length-append, length-map, get_or-append_right, get_or_append_left}
-use Rattle.connection_table.proofs.Words.{◌==◌, ◌↔◌, position, slice_get, position_or_len, eq-eqb, ltb-false, lt-ltb, fails_before_first, position_or_len_is}
-use Rattle.connection_table.proofs.Words.{Input, in_append, in_one, in_map, Entry, key_token, entry_at, holder_of, IsTable, input_of}
-use Rattle.std.specs.Prelude.{nat_lt, Result, Err}
+use Rattle.std.proofs.Common.{◌≡◌, refl, sym, ◌∙◌, ap, subst, ℕ, zero, suc, ◌+◌, ◌-◌, ◌<◌, ◌≤◌, Bool, true, false, cond, not, Some, None, List, [], ◌∷◌, ◌++◌, ⊎_elim, length, get_or, map, arith}
+use Rattle.std.specs.Prelude.{◌==◌, ◌↔◌, nat_lt, position, Result, Err}
+use Rattle.std.specs.List.{position_or_len, slice_get}
+use Rattle.std.proofs.lemmas.Bool.{eq-eqb, ltb-false, lt-ltb}
+use Rattle.std.proofs.lemmas.List.{get_or-append_right, get_or_append_left, length-append, length-map}
 use Rattle.std.proofs.lemmas.List.Quantifiers.{position-Some}
+use Rattle.std.proofs.lemmas.List.Sums.{fails_before_first, position_or_len_is}
+use Rattle.stream_lanes.proofs.Lists.{in_append, in_map, in_one}
+use Rattle.run_outside.specs.declared.input.Input.{Input}
 use Rattle.connection_table.specs.declared.admitting.AdmitFault.{AdmitFault}
 use Rattle.connection_table.specs.declared.admitting.AdmitFault.TheVariants.{Memory, SameToken}
+use Rattle.connection_table.specs.Tables.{Entry, IsTable, entry_at, holder_of, input_of, key_token}
 
 -- ---- the first place that passes
 
@@ -18,11 +22,11 @@ module _ {X : Type 0} (test : X → Bool) where
       ap (λ b. cond b (Some (position_or_len test xs)) None) inside ∙ ap (λ n. Some n) first
 
   pub no_place : (xs : List X) → position test xs ≡ None → length xs ≤ position_or_len test xs
-  no_place xs none =
-      (elim (nat_lt (position_or_len test xs) (length xs)) as (λ b. nat_lt (position_or_len test xs) (length xs) ≡ b → cond b (Some (position_or_len test xs)) None ≡ None → length xs ≤ position_or_len test xs) [
-        | true ↦ λ within is. cc
-        | false ↦ λ past is. ltb-false (position_or_len test xs) (length xs) past
-      ]) refl none
+  no_place xs none = by (nat_lt (position_or_len test xs) (length xs)) refl none
+    where
+      by : (b : Bool) → nat_lt (position_or_len test xs) (length xs) ≡ b → cond b (Some (position_or_len test xs)) None ≡ None → length xs ≤ position_or_len test xs
+      by true within is = cc
+      by false past is = ltb-false (position_or_len test xs) (length xs) past
 
   -- one more behind changes nothing of a place
   place_kept : (xs : List X) (y : X) (i : ℕ) → position test xs ≡ Some i → position test (xs ++ y ∷ []) ≡ Some i

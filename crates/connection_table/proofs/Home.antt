@@ -1,29 +1,48 @@
 -- Each join is routed to its own connection.
-use Rattle.connection_table.proofs.Words.{◌≡◌, refl, sym, ◌∙◌, ap, subst, ℕ, Bool, true, false, Option, Some, None, List, if◌then◌else◌, option_and_then}
-use Rattle.connection_table.proofs.Words.{IsSomeAnd, slice_get, same_Some, A, B, Arrived, next_arrival, start_of, App, Path, Actor, ActorCrew, all_turns, Entry}
-use Rattle.connection_table.proofs.Words.{StandsAlone, key_token, entry_at, holder_of, IsTable, IsShortEntry, EachIsRoutedHome, EachJoinIsRouted, IsJoinNext}
-use Rattle.connection_table.proofs.Words.{arriving_at_b, arriving_at_listener, arriving_in, home_by, home_of, if_at_b, only_at_b, route_by, routed, to_holder}
-use Rattle.connection_table.proofs.Words.{join_token, AsksByTokenNext, JoinsAskByToken}
+use Rattle.std.proofs.Common.{◌≡◌, refl, sym, ◌∙◌, ap, subst, ℕ, Bool, true, false, if◌then◌else◌, Option, Some, None, option_and_then, List}
+use Rattle.std.specs.Prelude.{IsSomeAnd}
+use Rattle.std.specs.List.{slice_get}
+use Rattle.std.proofs.lemmas.Option.{same_Some}
+use Rattle.sides.specs.declared.side.Side.{Side}
+use Rattle.sides.specs.declared.side.Side.TheVariants.{A, B}
+use Rattle.path_core.specs.Looking.{Arrived, next_arrival}
 use Rattle.world_core.specs.Looking.{crew_path, listens_at, member_path}
+use Rattle.world_core.specs.Logged.{all_turns}
+use Rattle.world_laws.specs.declared.member.Member.TheVariants.{App, Path}
+use Rattle.world_laws.specs.Actors.{Actor, ActorCrew}
+use Rattle.world_laws.specs.Openings.{start_of}
 use Rattle.world_laws.proofs.Promises.OfScripts.{scripts_fit}
+use Rattle.connection_table.specs.Routing.{join_token}
 use Rattle.connection_table.specs.FoundJoins.{FindsJoinNext, FindsJoins, IsHeardAsJoin}
+use Rattle.connection_table.specs.JoinTokens.{AsksByTokenNext, JoinsAskByToken}
 use Rattle.connection_table.proofs.JoinsAsked.{joins_ask}
 use Rattle.connection_table.proofs.JoinsFound.{joins_are_found}
+use Rattle.connection_table.specs.Routes.{EachIsRoutedHome, EachJoinIsRouted, IsJoinNext, arriving_at_b, arriving_at_listener, arriving_in, home_by, home_of, if_at_b, only_at_b, route_by, routed, to_holder}
+use Rattle.connection_table.specs.declared.route.Route.TheVariants.{To}
+use Rattle.connection_table.specs.Tables.{Entry, IsShortEntry, IsTable, Stands, StandsAlone, entry_at, holder_of, key_token}
 
 -- what comes to B arrives there
 at_b : (o : Option Arrived) (a : Arrived) → option_and_then only_at_b o ≡ Some a → (o ≡ Some a) × (a.to ≡ B)
 at_b None a is = cc
-at_b (Some x) a is = (elim x.to as (λ s. x.to ≡ s → if_at_b s x ≡ Some a → (Some x ≡ Some a) × (a.to ≡ B)) [ A ↦ λ to is. cc | B ↦ λ to is. (is, cc) ]) refl is
+at_b (Some x) a is = by x.to refl is
+  where
+    by : (s : Side) → x.to ≡ s → if_at_b s x ≡ Some a → (Some x ≡ Some a) × (a.to ≡ B)
+    by A to is = cc
+    by B to is = (is, cc)
 
 -- the copy that comes to B by an actor's step asks by this token, where it asks
 crew_asks : (key actor : ℕ) (crew : List (ActorCrew (List ℕ))) (a : Arrived) (token : ℕ)
     → ((c : ActorCrew (List ℕ)) → slice_get crew actor ≡ Some c → AsksByTokenNext key c.member)
     → arriving_at_b actor crew ≡ Some a → join_token a.addresses a.octets ≡ Some token → token ≡ key
-crew_asks key actor crew a token asks is by_token = (elim (slice_get crew actor) as (λ o. slice_get crew actor ≡ o → (option_and_then next_arrival (crew_path o) ≡ Some a) × (a.to ≡ B) → token ≡ key)
-    [ None ↦ λ there is. cc | Some c ↦ λ there is. member c.member (asks c there) is.0 is.1 ]) refl (at_b (option_and_then next_arrival (crew_path (slice_get crew actor))) a is)
+crew_asks key actor crew a token asks is by_token = by (slice_get crew actor) refl (at_b (option_and_then next_arrival (crew_path (slice_get crew actor))) a is)
   where
     member : (m : Actor (List ℕ)) → AsksByTokenNext key m → option_and_then next_arrival (member_path m) ≡ Some a → a.to ≡ B → token ≡ key
-    member = elim [ App app ↦ λ asks is to. cc | Path p ↦ λ asks is to. asks a token is to by_token ]
+    member (App app) asks is to = cc
+    member (Path p) asks is to = asks a token is to by_token
+
+    by : (o : Option (ActorCrew (List ℕ))) → slice_get crew actor ≡ o → (option_and_then next_arrival (crew_path o) ≡ Some a) × (a.to ≡ B) → token ≡ key
+    by None there is = cc
+    by (Some c) there is = member c.member (asks c there) is.0 is.1
 
 pub each_is_routed_home : EachIsRoutedHome
 each_is_routed_home table connection actor e sound there alone short =
@@ -70,8 +89,11 @@ module _ (key actor : ℕ) (e : Entry) (copy : Arrived) (h : IsJoinNext actor e 
       found ∙ ap (λ n. Some n) (asks copy h.asked.token next h.heard.to found)
 
   join_found : FindsJoins e.world.state → JoinsAskByToken key e.world.state → join_token copy.addresses copy.octets ≡ Some key
-  join_found finds asks = (elim (slice_get e.world.state.crew actor) as (λ o. slice_get e.world.state.crew actor ≡ o → crew_path o ≡ Some h.path → join_token copy.addresses copy.octets ≡ Some key)
-      [ None ↦ λ there is. cc | Some c ↦ λ there is. member_found c.member (finds.each actor c there) (asks.each actor c there) is ]) refl h.path_is
+  join_found finds asks = by (slice_get e.world.state.crew actor) refl h.path_is
+    where
+      by : (o : Option (ActorCrew (List ℕ))) → slice_get e.world.state.crew actor ≡ o → crew_path o ≡ Some h.path → join_token copy.addresses copy.octets ≡ Some key
+      by None there is = cc
+      by (Some c) there is = member_found c.member (finds.each actor c there) (asks.each actor c there) is
 
 pub each_join_is_routed : EachJoinIsRouted
 each_join_is_routed table connection actor e copy sound there stands alone short h =
@@ -86,6 +108,8 @@ each_join_is_routed table connection actor e copy sound there stands alone short
 -- of a connection that is there
 pub short_stays_home : (table : List Entry) (connection actor : ℕ) → IsTable table → IsSomeAnd (entry_at connection table) StandsAlone
     → IsSomeAnd (entry_at connection table) (λ entry. IsShortEntry entry → home_of connection actor table ≡ connection)
-short_stays_home table connection actor is alone =
-    (elim (entry_at connection table) as (λ o. entry_at connection table ≡ o → IsSomeAnd o StandsAlone → IsSomeAnd o (λ entry. IsShortEntry entry → home_of connection actor table ≡ connection))
-    [ None ↦ λ there alone. alone | Some e ↦ λ there alone. λ short. each_is_routed_home table connection actor e is there alone short ]) refl alone
+short_stays_home table connection actor is alone = by (entry_at connection table) refl alone
+  where
+    by : (o : Option Entry) → entry_at connection table ≡ o → IsSomeAnd o StandsAlone → IsSomeAnd o (λ entry. IsShortEntry entry → home_of connection actor table ≡ connection)
+    by None there alone = alone
+    by (Some e) there alone = λ short. each_is_routed_home table connection actor e is there alone short

@@ -1,10 +1,18 @@
 -- Each connection of a table is what its own calls alone make of it.
-use Rattle.connection_table.proofs.Words.{◌≡◌, refl, sym, ◌∙◌, ap, subst, ⊎_elim, ℕ, Bool, true, false, Option, Some, None, List, [], ◌∷◌, ◌++◌, if◌then◌else◌}
-use Rattle.connection_table.proofs.Words.{◌==◌, IsSomeAnd, eqb-true, false≢true, eq-eqb, same_Some, octets, Step, Round, Input, in_append, in_more, in_one}
-use Rattle.connection_table.proofs.Words.{in_set, set_other, end_round, is_going, world_run, world_step, standing, all_turns, Entry, Stands, StandsAlone}
-use Rattle.connection_table.proofs.Words.{first_of, opened_entry, entry_at, with_entry, IsShortEntry, after_end, after_step}
-use Rattle.std.proofs.Common.{◌≢◌}
+use Rattle.std.proofs.Common.{◌≡◌, ◌≢◌, refl, sym, ◌∙◌, ap, subst, ℕ, Bool, true, false, if◌then◌else◌, ⊎_elim, Option, Some, None, List, [], ◌∷◌, ◌++◌}
+use Rattle.std.specs.Prelude.{◌==◌, IsSomeAnd}
+use Rattle.std.proofs.lemmas.Bool.{eq-eqb, eqb-true, false≢true}
+use Rattle.std.proofs.lemmas.Option.{same_Some}
+use Rattle.run_log.specs.declared.turn.Turn.TheVariants.{Step, Round}
+use Rattle.path_core.specs.Octets.{octets}
+use Rattle.run_outside.specs.declared.input.Input.{Input}
+use Rattle.stream_lanes.proofs.Lists.{in_append, in_more, in_one, in_set, set_other}
+use Rattle.world_core.specs.Kept.{standing}
+use Rattle.world_core.specs.Logged.{all_turns}
+use Rattle.world_laws.specs.Worlds.{end_round, is_going, world_run, world_step}
 use Rattle.connection_table.specs.Calls.{Call, CanAllBe, CanBe, CanCall, EachIsIsolated, Event, IsIsolated, IsShortTable, NoneFailed, after_call, after_calls, after_event, after_events, call_made, called_at, own_calls, put_call}
+use Rattle.connection_table.specs.Steps.{after_end, after_step}
+use Rattle.connection_table.specs.Tables.{Entry, IsShortEntry, Stands, StandsAlone, entry_at, first_of, opened_entry, with_entry}
 use Rattle.connection_table.proofs.Held.{alone_more, stopped_alone}
 use Rattle.connection_table.proofs.Holders.{table_admits, table_stays}
 use Rattle.connection_table.proofs.Home.{each_is_routed_home}
@@ -18,15 +26,19 @@ abbrev Goes : Entry → Entry → Type 0
 Goes e x = StandsAlone x × (x.input ≡ e.input)
 
 step_goes : (actor : ℕ) (e : Entry) → Stands e → StandsAlone e → Goes e (after_step actor e)
-step_goes actor e stands alone =
-    (elim (is_going actor e.world.state) as (λ b. is_going actor e.world.state ≡ b → Goes e (if b then record e { turns = e.turns ++ Step actor ∷ []; world = standing (world_step octets actor e.world.state) } else e)) [
-      | true ↦ λ going. (alone_more e (Step actor) stands alone (going, tt), refl)
-      | false ↦ λ over. (alone, refl)
-    ]) refl
+step_goes actor e stands alone = by (is_going actor e.world.state) refl
+  where
+    by : (b : Bool) → is_going actor e.world.state ≡ b
+        → Goes e (if b then record e { turns = e.turns ++ Step actor ∷ []; world = standing (world_step octets actor e.world.state) } else e)
+    by true going = (alone_more e (Step actor) stands alone (going, tt), refl)
+    by false over = (alone, refl)
 
 end_goes : (e : Entry) → StandsAlone e → Goes e (after_end e)
-end_goes e alone = (elim (may_end e.world) as (λ b. may_end e.world ≡ b → Goes e (if b then record e { turns = e.turns ++ Round ∷ []; world = standing (end_round e.world.state) } else e))
-    [ true ↦ λ may. let is = may_stand e.world may in (alone_more e Round is.0 alone (is.1, tt), refl) | false ↦ λ may. (alone, refl) ]) refl
+end_goes e alone = by (may_end e.world) refl
+  where
+    by : (b : Bool) → may_end e.world ≡ b → Goes e (if b then record e { turns = e.turns ++ Round ∷ []; world = standing (end_round e.world.state) } else e)
+    by true may = let is = may_stand e.world may in (alone_more e Round is.0 alone (is.1, tt), refl)
+    by false may = (alone, refl)
 
 call_goes : (call : Call) (e : Entry) → CanCall call e → StandsAlone e → Goes e (after_call call e)
 call_goes (Call.Steps actor) e can alone = step_goes actor e can alone
@@ -36,13 +48,18 @@ call_goes Call.Ends e can alone = end_goes e alone
 -- ---- where none failed
 
 step_stands : (actor : ℕ) (e : Entry) → Stands e → Stands (after_step actor e)
-step_stands actor e stands =
-    elim (is_going actor e.world.state) as (λ b. Stands (if b then record e { turns = e.turns ++ Step actor ∷ []; world = standing (world_step octets actor e.world.state) } else e))
-    [ true ↦ refl | false ↦ stands ]
+step_stands actor e stands = by (is_going actor e.world.state)
+  where
+    by : (b : Bool) → Stands (if b then record e { turns = e.turns ++ Step actor ∷ []; world = standing (world_step octets actor e.world.state) } else e)
+    by true = refl
+    by false = stands
 
 end_stands : (e : Entry) → Stands e → Stands (after_end e)
-end_stands e stands = elim (may_end e.world) as (λ b. Stands (if b then record e { turns = e.turns ++ Round ∷ []; world = standing (end_round e.world.state) } else e))
-    [ true ↦ refl | false ↦ stands ]
+end_stands e stands = by (may_end e.world)
+  where
+    by : (b : Bool) → Stands (if b then record e { turns = e.turns ++ Round ∷ []; world = standing (end_round e.world.state) } else e)
+    by true = refl
+    by false = stands
 
 call_stands : (call : Call) (calls : List Call) (e : Entry) → NoneFailed (call ∷ calls) → Stands e → Stands (after_call call e)
 call_stands (Call.Steps actor) calls e none stands = step_stands actor e stands

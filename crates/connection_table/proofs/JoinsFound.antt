@@ -1,35 +1,65 @@
 -- The copy that B's end takes as a join is found by the token by which it asks.
-use Rattle.connection_table.proofs.Words.{◌≡◌, refl, sym, ◌∙◌, ap, subst, ⊎_elim, ℕ, ◌&&◌, Bool, true, false, Option, Some, None, List, [], ◌∷◌, map}
-use Rattle.connection_table.proofs.Words.{if◌then◌else◌, option_map, All, slice_get, flat_map, and_parts, false≢true, All-head, same_Some, A, B, peer}
-use Rattle.connection_table.proofs.Words.{same_side, addresses_from, Syn, Due, Flight, is_due, arriving, Spelling, Join, PlainOption, PlainSegment, CanSay}
-use Rattle.connection_table.proofs.Words.{spelled_text, Expected, HeardSegment, Duty, StepDuty, Event, next_event, is_joined, join_asked, Arrived, arrived_as}
-use Rattle.connection_table.proofs.Words.{copy_arriving, first_arrival, made, octets, PathState, end_at, path_of, expected_by, in_map, world_run, WorldState}
-use Rattle.connection_table.proofs.Words.{opened_world, App, Path, Actor, ActorCrew, join_token}
-use Rattle.std.proofs.Common.{◌==◌}
+use Rattle.std.proofs.Common.{◌≡◌, refl, sym, ◌∙◌, ap, subst, ⊎_elim, ℕ, Bool, true, false, ◌&&◌, ◌==◌, if◌then◌else◌, Option, Some, None, option_map, List, [], ◌∷◌, map}
+use Rattle.std.proofs.lemmas.Bool.{and_parts, false≢true}
+use Rattle.std.proofs.lemmas.List.Elements.{All-head}
+use Rattle.std.proofs.lemmas.Option.{same_Some}
+use Rattle.std.specs.List.{All, flat_map, slice_get}
 use Rattle.std.specs.Option.{IsSome}
+use Rattle.sides.specs.declared.side.Side.TheVariants.{A, B}
+use Rattle.sides.specs.Side.{peer}
+use Rattle.segment_wire.specs.Paths.{addresses_from}
+use Rattle.link_script.specs.Places.{same_side}
+use Rattle.link_model.specs.declared.flight.Due.{Due}
+use Rattle.link_model.specs.declared.flight.Flight.{Flight}
 use Rattle.link_model.specs.Laws.{shown_flight}
 use Rattle.link_model.specs.Octets.{octets_stripped}
+use Rattle.link_model.specs.Steps.{is_due, arriving}
+use Rattle.mptcp_options.specs.declared.join.JoinForm.TheVariants.{Syn}
 use Rattle.mptcp_options.specs.Text.{Fits}
 use Rattle.mptcp_options.specs.Value as wire
 use Rattle.join_handshake.specs.declared.hearing.JoinSyn.{JoinSyn}
+use Rattle.path_segments.specs.declared.expected.Expected.{Expected}
 use Rattle.path_segments.specs.declared.position.HeardPosition.TheVariants.{At}
+use Rattle.path_segments.specs.declared.segment.PathOption.TheVariants.{Join}
+use Rattle.path_segments.specs.declared.spelling.Spelling.{Spelling}
+use Rattle.path_segments.specs.Heard.{HeardSegment}
+use Rattle.path_segments.specs.HeardLent.{IsExpected}
 use Rattle.path_segments.specs.Laws.{IsFresh, IsHearable, meant, meant_option, window_told}
+use Rattle.path_segments.specs.Options.{PlainOption}
+use Rattle.path_segments.specs.Spelled.{PlainSegment, CanSay, spelled_text}
 use Rattle.path_segments.specs.Spelling.{subflow_number}
 use Rattle.actor_desk.specs.Words.{is_nil}
+use Rattle.path_agenda.specs.declared.duty.Duty.{Duty}
+use Rattle.path_agenda.specs.declared.duty.Duty.TheVariants as duties
+use Rattle.path_agenda.specs.declared.duty.StepDuty.TheVariants as steps_of
+use Rattle.path_core.specs.declared.events.Event.{Event}
+use Rattle.path_core.specs.declared.events.Event.TheVariants as happenings
+use Rattle.path_core.specs.Arrival.{expected_by}
 use Rattle.path_core.specs.OptionsIn.{items_in, items_of}
+use Rattle.path_core.specs.Events.{next_event}
+use Rattle.path_core.specs.MpJoin.{is_joined, join_asked}
+use Rattle.path_core.specs.Looking.{Arrived, arrived_as, copy_arriving, first_arrival}
+use Rattle.path_core.specs.Octets.{made, octets}
 use Rattle.path_core.specs.Shown.{octets_of, shown_path, IsFarReset, IsFreshCopy, NextIsFresh}
+use Rattle.path_core.specs.State.{PathState, end_at, path_of}
 use Rattle.path_core.specs.Values.{Carried, as_arrived, values}
 use Rattle.path_core.proofs.CopiesRead.{near_read, far_read}
 use Rattle.path_core.proofs.FarResets.{unplaced}
 use Rattle.path_core.proofs.Showing.{same_event}
+use Rattle.stream_lanes.proofs.Lists.{in_map}
+use Rattle.world_laws.specs.declared.member.Member.TheVariants.{App, Path}
+use Rattle.world_laws.specs.Actors.{Actor, ActorCrew}
 use Rattle.world_laws.specs.Fresh.{IsFreshMember, shown_crew, shown_member, shown_world}
+use Rattle.world_laws.specs.Openings.{opened_world}
+use Rattle.world_laws.specs.Worlds.{WorldState, world_run}
 use Rattle.world_laws.proofs.Joins.Roles.{CopyTells, HasRoles}
 use Rattle.world_laws.proofs.Joins.Welcome.{MemberRoles, all_roles}
 use Rattle.world_laws.proofs.Keys.AnswerHeardFirst.{TellsKey, asks_first}
 use Rattle.world_laws.proofs.Promises.Made.{run_fresh}
 use Rattle.world_laws.proofs.Worlds.Finding.{find_every, one_side}
+use Rattle.connection_table.specs.Routing.{join_token}
 use Rattle.connection_table.proofs.Found.{is_found}
-use Rattle.connection_table.specs.FoundJoins.{FindsJoinNext, FindsJoins, IsHeardAsJoin, JoinsAreFound}
+use Rattle.connection_table.specs.FoundJoins.{FindsJoin, FindsJoinNext, FindsJoins, IsHeardAsJoin, JoinsAreFound}
 use Rattle.connection_table.proofs.PathsNamed.{HasNumber, paths_have_their_numbers}
 use Rattle.connection_table.proofs.TokensShown.{members_fresh, same_arriving}
 
@@ -61,7 +91,8 @@ asked_so window options asked so is =
     ap (λ (x : JoinSyn). x.token) (same_Some (asked_by options so) asked (ap (said_to_b window) (sym so.is) ∙ is))
 
 not_acknowledging : (o : Option ℕ) → option_map (λ n. At n) o ≡ None → o ≡ None
-not_acknowledging = elim [ None ↦ λ is. refl | Some n ↦ λ is. cc ]
+not_acknowledging None is = refl
+not_acknowledging (Some n) is = cc
 
 -- ---- a copy
 
@@ -84,10 +115,11 @@ module _ (spelling : Spelling) (expected : Expected) (carried : Carried) (asked 
 
   whole_found : IsFresh spelling A expected sg → sg.syn ≡ true → sg.acknowledged ≡ None → said_to_b window sg.options ≡ Some asked
       → join_token (addresses_from spelling.path A) (spelled_text spelling A sg) ≡ Some asked.token
-  whole_found near syn alone asks = (elim sg.options as (λ options. sg.options ≡ options → join_token (addresses_from spelling.path A) (spelled_text spelling A sg) ≡ Some asked.token) [
-    | [] ↦ λ is. absurd (let never : None ≡ Some asked = ap (said_to_b window) (sym is) ∙ asks in cc)
-    | o ∷ options ↦ λ is. so_found near syn alone asks (asks_so sg.options (tells (ap is_nil is) syn))
-  ]) refl
+  whole_found near syn alone asks = by sg.options refl
+    where
+      by : (options : List PlainOption) → sg.options ≡ options → join_token (addresses_from spelling.path A) (spelled_text spelling A sg) ≡ Some asked.token
+      by [] is = absurd (let never : None ≡ Some asked = ap (said_to_b window) (sym is) ∙ asks in cc)
+      by (o ∷ options) is = so_found near syn alone asks (asks_so sg.options (tells (ap is_nil is) syn))
 
   -- without its options it asks nothing
   near_found : IsFresh spelling A expected sg → sg.syn ≡ true → sg.acknowledged ≡ None → join_asked (items_of true B (meant (as_arrived carried))) ≡ Some asked
@@ -132,7 +164,7 @@ module _ (p : PathState Carried) (fresh : NextIsFresh p) (roles : HasRoles p) (n
     carried_found : join_token (addresses_from spelling.path A) (octets_of spelling carried) ≡ Some asked.token
     carried_found = ⊎_elim (λ near. by_near near) (λ far. by_far far) is.fresh
 
-  module _ (due : Due) (next : next_event p ≡ Some (Event.Arrives due)) where
+  module _ (due : Due) (next : next_event p ≡ Some (happenings.Arrives due)) where
     abbrev as_copy : Flight Carried → Arrived
     as_copy f = arrived_as (path_of p) due.to (shown_flight (octets_of spelling) f)
 
@@ -159,15 +191,15 @@ module _ (p : PathState Carried) (fresh : NextIsFresh p) (roles : HasRoles p) (n
 
   event_found : (o : Option Event) → next_event p ≡ o → copy_arriving o (shown_path p) ≡ Some copy → join_token copy.addresses copy.octets ≡ Some asked.token
   event_found None next is = cc
-  event_found (Some (Event.Joins tick)) next is = cc
-  event_found (Some (Event.Takes line)) next is = cc
-  event_found (Some (Event.Arrives due)) next is =
+  event_found (Some (happenings.Joins tick)) next is = cc
+  event_found (Some (happenings.Takes line)) next is = cc
+  event_found (Some (happenings.Arrives due)) next is =
       due_found due next (arriving due p.link) refl
       (ap (option_map (arrived_as (path_of p) due.to)) (sym (same_arriving (octets_of spelling) due p.link.under_way)) ∙ is)
-  event_found (Some (Event.Fires s tick)) next is = cc
+  event_found (Some (happenings.Fires s tick)) next is = cc
 
   next_found : (ds : List Duty) → first_arrival ds (shown_path p) ≡ Some copy → join_token copy.addresses copy.octets ≡ Some asked.token
-  next_found (Duty.Step StepDuty.Events ∷ ds) is = event_found (next_event p) refl (ap (λ o. copy_arriving o (shown_path p)) (sym (same_event p)) ∙ is)
+  next_found (duties.Step steps_of.Events ∷ ds) is = event_found (next_event p) refl (ap (λ o. copy_arriving o (shown_path p)) (sym (same_event p)) ∙ is)
   next_found _ is = cc
 
 -- ---- of a world

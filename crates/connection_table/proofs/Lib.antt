@@ -27,4 +27,3 @@ mod OwnTokens
 mod Admitted
 mod RunEnds
 mod ValidLists
-mod Words

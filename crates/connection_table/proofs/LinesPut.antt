@@ -1,8 +1,17 @@
 -- The lines of a table, put one after the other.
-use Rattle.connection_table.proofs.Words.{◌≡◌, refl, sym, ◌∙◌, ap, subst, ℕ, zero, suc, ◌+◌, ◌<◌, ◌≤◌, Option, Some, None, List, [], ◌∷◌, ◌++◌, append_assoc}
-use Rattle.connection_table.proofs.Words.{length, map, arith, take, drop, append-nil, take-append-drop, take-append-le, IsSomeAnd, slice_get, HoldsAfter}
-use Rattle.connection_table.proofs.Words.{HoldsPrefix, risen_later, Kept, Many, Put, Memory, IsPutFault, Entry, connection_line, line_if, lines_from, state_of}
+use Rattle.std.proofs.Common.{◌≡◌, refl, sym, ◌∙◌, ap, subst, ℕ, zero, suc, ◌+◌, ◌<◌, ◌≤◌, Option, Some, None, List, [], ◌∷◌, ◌++◌, append_assoc, length, map, take, drop, arith}
+use Rattle.std.specs.List.{slice_get}
+use Rattle.std.specs.Prelude.{IsSomeAnd}
+use Rattle.world_core.specs.Kept.{Kept}
 use Rattle.std.proofs.Math.Seq.{take-length}
+use Rattle.std.proofs.lemmas.List.{append-nil, take-append-drop, take-append-le}
+use Rattle.outside_kit.specs.Outside.{HoldsAfter, HoldsPrefix}
+use Rattle.run_outside.proofs.PortsLemmas.{risen_later}
+use Rattle.connection_table.specs.declared.many.Many.{Many}
+use Rattle.connection_table.specs.declared.many.Many.TheVariants.{Done, Usage, Load, TooLong, List as Listing, Script, SameToken, Put, Memory}
+use Rattle.connection_table.specs.ManyEnds.{IsPutFault}
+use Rattle.connection_table.specs.ManyLines.{connection_line, line_if, lines_from, state_of}
+use Rattle.connection_table.specs.Tables.{Entry}
 
 -- ---- the lines
 
@@ -86,11 +95,18 @@ line_part i table a b c within h k =
 
 -- nothing was put
 pub none_put : (a : Option (List ℕ)) → HoldsAfter a a (λ held. held ++ [])
-none_put = elim [ None ↦ tt | Some held ↦ ap Some (sym (append-nil held)) ]
+none_put None = tt
+none_put (Some held) = ap Some (sym (append-nil held))
 
 -- ---- faults
 
 pub put_fault_later : (old middle new : ℕ) (many : Many) → old ≤ middle → IsPutFault middle new many → IsPutFault old new many
 put_fault_later old middle new Put few fault = risen_later old middle new few fault
 put_fault_later old middle new Memory few fault = tt
-put_fault_later old middle new _ few fault = absurd fault
+put_fault_later old middle new Done few fault = absurd fault
+put_fault_later old middle new Usage few fault = absurd fault
+put_fault_later old middle new (Load line) few fault = absurd fault
+put_fault_later old middle new (TooLong line) few fault = absurd fault
+put_fault_later old middle new (Listing line) few fault = absurd fault
+put_fault_later old middle new (Script entry line kind) few fault = absurd fault
+put_fault_later old middle new (SameToken line holder) few fault = absurd fault

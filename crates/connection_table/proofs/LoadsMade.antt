@@ -1,13 +1,23 @@
 -- The loads of a list, line by line.
-use Rattle.connection_table.proofs.Words.{◌≡◌, refl, sym, ◌∙◌, ap, subst, ℕ, zero, suc, ◌+◌, ◌<◌, Option, Some, None, List, [], ◌∷◌, ◌++◌, append_assoc, length}
-use Rattle.connection_table.proofs.Words.{map, arith, inr, get_or, inl, Err, Ok, take, Result, map-append, take_more, append-nil, take-map, IfSome, IfOk}
-use Rattle.connection_table.proofs.Words.{slice_get, Call, failed, Adds, AddsAll, Told, all_then, Many, Done, Usage, Load, TooLong, Listing, Script, SameToken}
-use Rattle.connection_table.proofs.Words.{Put, Memory, IsInputFault, IsListFault, IsLoadFault, AddsCut, AddsLoadsThrough, AddsLoadsTo, AddsToFailed, InputAdds}
-use Rattle.connection_table.proofs.Words.{LinesAdd, ListAdds, joined, loads_by_line, loads_of, Names, as_names, list_reading, Listed, Contents, IsAdmitFault}
-use Rattle.connection_table.proofs.Words.{NamedList}
+use Rattle.std.proofs.Common.{◌≡◌, refl, sym, ◌∙◌, ap, subst, inl, inr, ℕ, zero, suc, ◌+◌, ◌<◌, Option, Some, None, Result, Ok, Err, List, [], ◌∷◌, ◌++◌, length, get_or, map, take, append_assoc, arith}
+use Rattle.std.specs.Prelude.{IfOk, IfSome}
+use Rattle.std.specs.List.{slice_get}
 use Rattle.std.proofs.lemmas.Grind.{flat_map-append}
+use Rattle.std.proofs.lemmas.List.{append-nil, map-append, take-map, take_more}
+use Rattle.outside_kit.specs.Calls.{Call}
 use Rattle.outside_kit.specs.Calls as call
+use Rattle.run_outside.specs.Plan.{failed, Adds, AddsAll}
+use Rattle.run_outside.proofs.Calls.{ToldCalls, all_then}
+use Rattle.connection_table.specs.Lists.{Names, as_names, list_reading}
+use Rattle.connection_table.specs.ListWords.{NamedList}
+use Rattle.connection_table.specs.declared.list.Listed.{Listed}
+use Rattle.connection_table.specs.declared.many.Many.{Many}
+use Rattle.connection_table.specs.declared.many.Many.TheVariants.{Done, Usage, Load, TooLong, List as Listing, Script, SameToken, Put, Memory}
+use Rattle.connection_table.specs.Causes.{IsInputFault, IsListFault, IsLoadFault}
+use Rattle.connection_table.specs.Inputs.{Contents}
+use Rattle.connection_table.specs.Loads.{AddsCut, AddsLoadsThrough, AddsLoadsTo, AddsToFailed, InputAdds, LinesAdd, ListAdds, joined, loads_by_line, loads_of}
 use Rattle.connection_table.proofs.Adding.{all_cut}
+use Rattle.connection_table.specs.ManyEnds.{IsAdmitFault}
 use Rattle.connection_table.proofs.CallsMade.{cut_behind, cut_within, failed_then}
 
 -- ---- the connections
@@ -35,7 +45,7 @@ behind_entry (x ∷ listed) (suc i) e within =
     let next : List Call = loads_of (as_names (get_or listed i e)) in
     (rest.0, ap (λ calls. own ++ calls) rest.1 ∙ sym (append_assoc own (joined (lines_of_listed (take i listed))) (next ++ rest.0)))
 
-module _ (listed : List Listed) (i : ℕ) (e : Listed) (within : i < length listed) (a b c : Told) (before : AddsAll (joined (lines_of_listed (take i listed))) a b) where
+module _ (listed : List Listed) (i : ℕ) (e : Listed) (within : i < length listed) (a b c : ToldCalls) (before : AddsAll (joined (lines_of_listed (take i listed))) a b) where
   abbrev at_i : Names
   at_i = as_names (get_or listed i e)
 
@@ -83,9 +93,11 @@ module _ (listed : List Listed) (i : ℕ) (e : Listed) (within : i < length list
     entry_cut content old new (TooLong line) fault adds = to_line line fault.0 adds
     entry_cut content old new (Script named line kind) fault adds = through_line (named + 1) (ap (λ n. n + 1) fault.0) adds
     entry_cut content old new Memory fault adds = of_lines adds
+    entry_cut content old new Done fault adds = tt
+    entry_cut content old new Usage fault adds = tt
     entry_cut content old new (Listing line) fault adds = absurd fault
     entry_cut content old new (SameToken line holder) fault adds = absurd fault
-    entry_cut content old new _ fault adds = tt
+    entry_cut content old new Put fault adds = tt
 
     -- its token is another's
     pub entry_made : (holder : Option ℕ) (many : Many) → IsAdmitFault entry holder many → AddsAll (loads_of at_i) b c → LinesAdd Lines a c many
@@ -94,7 +106,10 @@ module _ (listed : List Listed) (i : ℕ) (e : Listed) (within : i < length list
     entry_made holder Done fault own = tt
     entry_made holder Usage fault own = tt
     entry_made holder Put fault own = tt
-    entry_made holder _ fault own = absurd fault
+    entry_made holder (Load line) fault own = absurd fault
+    entry_made holder (TooLong line) fault own = absurd fault
+    entry_made holder (Listing line) fault own = absurd fault
+    entry_made holder (Script entry line kind) fault own = absurd fault
 
 -- ---- the list
 
@@ -107,10 +122,12 @@ names_told None = []
 names_told (Some list) = names_in_form (list_reading list)
 
 in_form : (read : Result (List Names) ℕ) → IfOk read (λ names. names_in_form read ≡ names)
-in_form = elim [ Ok names ↦ refl | Err line ↦ tt ]
+in_form (Ok names) = refl
+in_form (Err line) = tt
 
 said_told : (told : Option (List ℕ)) → IfSome told (λ list. IfOk (list_reading list) (λ read. names_told told ≡ read))
-said_told = elim [ None ↦ tt | Some list ↦ in_form (list_reading list) ]
+said_told None = tt
+said_told (Some list) = in_form (list_reading list)
 
 said_read : (told : Option (List ℕ)) (bytes : List ℕ) (names : List Names) → IfSome told (λ list. bytes ≡ list) → list_reading bytes ≡ Ok names
     → IfSome told (λ list. IfOk (list_reading list) (λ read. names ≡ read))
@@ -122,11 +139,11 @@ module _ (content : Contents) (words : NamedList) where
   LinesTold = loads_by_line words.list (names_told (content words.list))
 
   -- what the lines are is no matter
-  told_adds : (a b : Told) (many : Many) → LinesAdd LinesTold a b many → ListAdds content words a b many
+  told_adds : (a b : ToldCalls) (many : Many) → LinesAdd LinesTold a b many → ListAdds content words a b many
   told_adds a b many adds = record { names = names_told (content words.list); said = said_told (content words.list); adds = adds }
 
   -- the load of the list failed
-  pub list_unloaded : (a b : Told) (told : Option (List ℕ)) (old new : ℕ) (many : Many) → IsLoadFault 0 told old new many → Adds (failed (call.Load words.list) ∷ []) a b
+  pub list_unloaded : (a b : ToldCalls) (told : Option (List ℕ)) (old new : ℕ) (many : Many) → IsLoadFault 0 told old new many → Adds (failed (call.Load words.list) ∷ []) a b
       → ListAdds content words a b many
   list_unloaded a b told old new many fault one = told_adds a b many (by many fault)
     where
@@ -147,25 +164,35 @@ module _ (content : Contents) (words : NamedList) where
         plan_is = refl;
         adds = one;
       })
+      by Done fault = tt
+      by Usage fault = tt
+      by Put fault = tt
       by (Listing line) fault = absurd fault
       by (Script entry line kind) fault = absurd fault
       by (SameToken line holder) fault = absurd fault
-      by _ fault = tt
 
   -- it is out of form
-  pub list_refused : (a b : Told) (list : List ℕ) (many : Many) → IsListFault list many → AddsAll (call.Load words.list ∷ []) a b → ListAdds content words a b many
+  pub list_refused : (a b : ToldCalls) (list : List ℕ) (many : Many) → IsListFault list many → AddsAll (call.Load words.list ∷ []) a b → ListAdds content words a b many
   list_refused a b list many fault one = told_adds a b many (by many fault)
     where
       by : (many : Many) → IsListFault list many → LinesAdd LinesTold a b many
       by (Listing line) fault = one
-      by Memory fault = inl (record { made = call.Load words.list ∷ []; behind = joined (map loads_of (names_told (content words.list))); plan_is = refl; adds = one })
+      by Memory fault = inl (record {
+        made = call.Load words.list ∷ [];
+        behind = joined (map loads_of (names_told (content words.list)));
+        plan_is = refl;
+        adds = one;
+      })
       by Done fault = tt
       by Usage fault = tt
       by Put fault = tt
-      by _ fault = absurd fault
+      by (Load line) fault = absurd fault
+      by (TooLong line) fault = absurd fault
+      by (Script entry line kind) fault = absurd fault
+      by (SameToken line holder) fault = absurd fault
 
   -- a connection of it ended the run
-  pub listed_ends : (a b c : Told) (bytes : List ℕ) (names : List Names) (many : Many) → IfSome (content words.list) (λ told. bytes ≡ told) → list_reading bytes ≡ Ok names
+  pub listed_ends : (a b c : ToldCalls) (bytes : List ℕ) (names : List Names) (many : Many) → IfSome (content words.list) (λ told. bytes ≡ told) → list_reading bytes ≡ Ok names
       → AddsAll (call.Load words.list ∷ []) a b → LinesAdd ([] ∷ map loads_of names) b c many → ListAdds content words a c many
   listed_ends a b c bytes names many whole read one adds =
       record { names = names; said = said_read (content words.list) bytes names whole read; adds = behind_list many adds }
@@ -174,7 +201,8 @@ module _ (content : Contents) (words : NamedList) where
       behind_to zero to = absurd (none to.cut.made to.cut.failing to.cut.behind to.own to.there to.cut.plan_is)
         where
           none : (made : List Call) (failing : Call) (behind own : List Call) → Some [] ≡ Some own → own ≡ made ++ failing ∷ behind → ⊥
-          none = elim [ [] ↦ λ failing behind own there is. cc | x ∷ made ↦ λ failing behind own there is. cc ]
+          none [] failing behind own there is = cc
+          none (x ∷ made) failing behind own there is = cc
       behind_to (suc line) to = record {
         own = to.own;
         there = to.there;
@@ -182,10 +210,11 @@ module _ (content : Contents) (words : NamedList) where
       }
 
       behind_through : (line : ℕ) → AddsLoadsThrough ([] ∷ map loads_of names) line b c → AddsLoadsThrough (loads_by_line words.list names) line a c
-      behind_through line through = (elim (line + 1) as (λ n. 0 < n → AddsAll (joined (take n ([] ∷ map loads_of names))) b c → AddsAll (joined (take n (loads_by_line words.list names))) a c) [
-        | zero ↦ λ some all. absurd (omega (arith, some))
-        | suc n ↦ λ some all. all_then (call.Load words.list ∷ []) (joined (take n (map loads_of names))) a b c one all
-      ]) (let some : 0 < line + 1 = omega arith in some) through
+      behind_through line through = by (line + 1) (let some : 0 < line + 1 = omega arith in some) through
+        where
+          by : (n : ℕ) → 0 < n → AddsAll (joined (take n ([] ∷ map loads_of names))) b c → AddsAll (joined (take n (loads_by_line words.list names))) a c
+          by zero some all = absurd (omega (arith, some))
+          by (suc n) some all = all_then (call.Load words.list ∷ []) (joined (take n (map loads_of names))) a b c one all
 
       behind_list : (many : Many) → LinesAdd ([] ∷ map loads_of names) b c many → LinesAdd (loads_by_line words.list names) a c many
       behind_list (Load line) adds = behind_to line adds
@@ -194,4 +223,6 @@ module _ (content : Contents) (words : NamedList) where
       behind_list (SameToken line holder) adds = behind_through line adds
       behind_list (Listing line) adds = behind_through 0 adds
       behind_list Memory adds = cut_behind (call.Load words.list ∷ []) (joined (map loads_of names)) a b c one adds
-      behind_list _ adds = tt
+      behind_list Done adds = tt
+      behind_list Usage adds = tt
+      behind_list Put adds = tt

@@ -1,8 +1,10 @@
 -- A name is text: its octets are ASCII.
-use Rattle.connection_table.proofs.Words.{◌≡◌, ℕ, zero, suc, ◌<◌, true, List, [], ◌∷◌, length, arith, get_or, nat_lt, nat_le, list_all, and_parts, leb-true}
-use Rattle.connection_table.proofs.Words.{is_name, is_name_octet}
+use Rattle.std.proofs.Common.{◌≡◌, ℕ, zero, suc, ◌<◌, true, nat_le, nat_lt, List, [], ◌∷◌, length, get_or, arith}
+use Rattle.std.specs.List.{list_all}
 use Rattle.std.specs.Str.{IsUtf8}
+use Rattle.std.proofs.lemmas.Bool.{and_parts, leb-true}
 use Rattle.std.proofs.lemmas.Str.{IsUtf8-from_ascii}
+use Rattle.connection_table.specs.Lists.{is_name, is_name_octet}
 
 octets_ascii : (word : List ℕ) → list_all is_name_octet word ≡ true → (i : ℕ) → get_or word i 0 < 128
 octets_ascii [] passes i = omega arith

@@ -1,9 +1,18 @@
 -- Connections of which each has a token of its own.
-use Rattle.connection_table.proofs.Words.{◌≡◌, refl, sym, ◌∙◌, subst, ℕ, zero, suc, ◌<◌, false, Option, Some, None, List, [], ◌∷◌, ◌++◌, length, map, arith}
-use Rattle.connection_table.proofs.Words.{get_or, Err, Ok, Result, map-append, ◌==◌, ◌↔◌, ◌≢◌, slice_get, eq-eqb, slice_get_within, fails_before_first, Input}
-use Rattle.connection_table.proofs.Words.{in_map, Every-nil, Every-push, Every, AreApart, HaveOwnTokens, Entry, key_token, opened_entry, holder_of}
+use Rattle.std.proofs.Common.{◌≡◌, refl, sym, ◌∙◌, subst, ℕ, zero, suc, ◌<◌, false, Option, Some, None, Result, Ok, Err, List, [], ◌∷◌, ◌++◌, length, get_or, map, arith}
+use Rattle.std.specs.Prelude.{◌≢◌, ◌==◌, ◌↔◌}
+use Rattle.std.specs.List.{slice_get}
+use Rattle.std.proofs.lemmas.Bool.{eq-eqb}
+use Rattle.std.proofs.lemmas.List.{map-append}
+use Rattle.std.proofs.lemmas.List.Sums.{fails_before_first}
+use Rattle.std.proofs.lemmas.Option.{slice_get_within}
+use Rattle.stream_lanes.specs.Words.{Every}
+use Rattle.stream_lanes.proofs.Lists.{Every-nil, Every-push, in_map}
+use Rattle.run_outside.specs.declared.input.Input.{Input}
 use Rattle.connection_table.specs.declared.admitting.AdmitFault.{AdmitFault}
 use Rattle.connection_table.specs.declared.admitting.AdmitFault.TheVariants.{SameToken}
+use Rattle.connection_table.specs.ManyEnds.{AreApart, HaveOwnTokens}
+use Rattle.connection_table.specs.Tables.{Entry, holder_of, key_token, opened_entry}
 use Rattle.connection_table.proofs.Holders.{no_place}
 
 abbrev token_in : Input → ℕ

@@ -1,10 +1,15 @@
 -- The link of a path has the number by which its segments are spelled: so copies arrive between the addresses by which they are heard.
-use Rattle.connection_table.proofs.Words.{◌≡◌, sym, ◌∙◌, ap, ℕ, ◌+◌, List, PathState, path_of, Every, world_run, Turn, PathPlan, Start, opened_world}
-use Rattle.connection_table.proofs.Words.{path_begins, new_path, App, Path, Actor, ActorCrew, member_next, member_takes}
+use Rattle.std.proofs.Common.{◌≡◌, sym, ◌∙◌, ap, ℕ, ◌+◌, List}
+use Rattle.stream_lanes.specs.Words.{Every}
 use Rattle.actor_desk.specs.declared.ask.Reply.{Reply}
 use Rattle.path_core.specs.Codec.{Codec}
 use Rattle.path_core.specs.Start.{waiting_path}
+use Rattle.path_core.specs.State.{PathState, path_of}
+use Rattle.world_laws.specs.declared.member.Member.TheVariants.{App, Path}
+use Rattle.world_laws.specs.Actors.{Actor, ActorCrew, member_takes, member_next}
 use Rattle.world_laws.specs.StampedBooks.{answer_to}
+use Rattle.world_laws.specs.Openings.{PathPlan, Start, path_begins, new_path, opened_world}
+use Rattle.world_laws.specs.Worlds.{Turn, world_run}
 use Rattle.world_laws.proofs.Rounds.Frame.{takes_keeps, first_keeps}
 use Rattle.world_laws.proofs.Rounds.Lifting.{run_lifted, opened_lifted}
 

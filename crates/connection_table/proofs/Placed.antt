@@ -1,6 +1,9 @@
 -- One connection of a table in another one's place.
-use Rattle.connection_table.proofs.Words.{◌≡◌, refl, sym, ◌∙◌, ap, subst, ℕ, zero, suc, ◌<◌, Option, Some, None, List, [], ◌∷◌, length, map, arith, get_or}
-use Rattle.connection_table.proofs.Words.{IsSomeAnd, slice_get, slice_set, same_Some, Entry, entry_at, with_entry, input_of}
+use Rattle.std.proofs.Common.{◌≡◌, refl, sym, ◌∙◌, ap, ℕ, zero, suc, ◌<◌, Option, Some, None, List, [], ◌∷◌, get_or, length, map, subst, arith}
+use Rattle.std.specs.Prelude.{IsSomeAnd}
+use Rattle.std.specs.List.{slice_get, slice_set}
+use Rattle.std.proofs.lemmas.Option.{same_Some}
+use Rattle.connection_table.specs.Tables.{Entry, entry_at, input_of, with_entry}
 
 -- one that began with the same
 pub same_inputs : (table : List Entry) (number : ℕ) (old new : Entry) → entry_at number table ≡ Some old → new.input ≡ old.input

@@ -1,9 +1,13 @@
 -- Reading line after line, as a loop does.
-use Rattle.connection_table.proofs.Words.{◌≡◌, refl, sym, ◌∙◌, ap, subst, ℕ, suc, ◌+◌, Bool, true, false, List, [], ◌∷◌, ◌++◌, length, map, if◌then◌else◌, Err}
-use Rattle.connection_table.proofs.Words.{Ok, eqb, Result, add-one, map-append, nil_from_length, onto_first, eqb-true, false≢true, text_lines, Names, IsReading}
-use Rattle.connection_table.proofs.Words.{as_names, line_reading, lines_reading, list_reading, read_on, Listed}
-use Rattle.std.proofs.Common.{◌==◌}
+use Rattle.std.proofs.Common.{◌≡◌, ℕ, suc, ◌+◌, Bool, true, false, if◌then◌else◌, eqb, subst, ◌==◌, List, [], ◌∷◌, ◌++◌, length, map, Result, Ok, Err, refl, sym, ap, ◌∙◌, add-one}
+use Rattle.std.specs.List.{onto_first}
+use Rattle.std.proofs.lemmas.Bool.{eqb-true, false≢true}
+use Rattle.std.proofs.lemmas.List.{map-append, nil_from_length}
+use Rattle.octet_text.specs.Lines.{text_lines}
+use Rattle.connection_table.specs.declared.list.Listed.{Listed}
 use Rattle.connection_table.specs.declared.list.ListFault.{ListFault}
+use Rattle.connection_table.specs.declared.list.ListFault.TheVariants as fault
+use Rattle.connection_table.specs.Lists.{Names, IsReading, as_names, line_reading, lines_reading, list_reading, read_on}
 
 -- a line that was read
 pub goes_on : (number : ℕ) (seen : List Listed) (new : Listed) (rest line behind : List ℕ) (whole : Result (List Names) ℕ)
@@ -19,8 +23,8 @@ pub stops : {X : Type 0} (view : X → List Names) (f : ListFault) (number : ℕ
     → text_lines rest ≡ line ∷ text_lines behind → IsReading as_names (Err f) (line_reading number line)
     → read_on number seen (text_lines rest) ≡ whole → IsReading view (Err f) whole
 unfolding read_on
-stops view ListFault.Memory number seen rest line behind whole cut refused so_far = tt
-stops view (ListFault.Line n) number seen rest line behind whole cut refused so_far =
+stops view fault.Memory number seen rest line behind whole cut refused so_far = tt
+stops view (fault.Line n) number seen rest line behind whole cut refused so_far =
     let one : read_on number seen (text_lines rest) ≡ Err n = rw (cut, refused) refl in
     sym so_far ∙ one
 

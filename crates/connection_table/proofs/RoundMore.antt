@@ -1,11 +1,18 @@
 -- A round more of a connection, and of each one of a table.
-use Rattle.connection_table.proofs.Words.{◌≡◌, refl, sym, ◌∙◌, ap, subst, ℕ, zero, suc, ◌+◌, ◌-◌, ◌<◌, ◌≤◌, ◌&&◌, Bool, true, false, List, [], ◌∷◌, ◌++◌}
-use Rattle.connection_table.proofs.Words.{length, map, arith, if◌then◌else◌, not, All, All-nil, All-cons, octets, Step, Round, all_over, begins, end_round}
-use Rattle.connection_table.proofs.Words.{greatest, is_going, world_step, outcome_of, AreRounds, OneOf, after_round, goes_on, TurnTo, AreTurns, Kept, standing}
-use Rattle.connection_table.proofs.Words.{RoundTo, TurnsFrom, after_rounds, Connection, Entry, Stands, EachRound, IsSerialEnd, RoundIfGoing, RoundMade, Runs}
-use Rattle.connection_table.proofs.Words.{StepMade, TurnMade, TurnsMade, goes_on_still, after_end, after_step, ends}
+use Rattle.std.proofs.Common.{◌≡◌, refl, sym, ◌∙◌, ap, subst, ℕ, zero, suc, ◌+◌, ◌-◌, ◌<◌, ◌≤◌, Bool, true, false, List, [], ◌∷◌, ◌++◌, length, map, if◌then◌else◌, not, ◌&&◌, arith}
+use Rattle.std.specs.List.{All}
+use Rattle.std.proofs.lemmas.List.Elements.{All-nil, All-cons}
+use Rattle.path_core.specs.Octets.{octets}
+use Rattle.run_log.specs.declared.turn.Turn.TheVariants.{Round, Step}
+use Rattle.world_core.specs.Kept.{Kept, standing}
+use Rattle.world_core.specs.Rounds.{RoundTo, TurnsFrom, after_rounds}
 use Rattle.world_core.proofs.RoundsMade.{turn_more, turn_over, turns_more, turns_over, turns_round}
-use Rattle.connection_table.specs.ManyRounds.{Made}
+use Rattle.world_laws.specs.Outcomes.{outcome_of}
+use Rattle.world_laws.specs.Serial.{AreRounds, AreTurns, OneOf, TurnTo, after_round, goes_on}
+use Rattle.world_laws.specs.Worlds.{all_over, begins, end_round, greatest, is_going, world_step}
+use Rattle.connection_table.specs.ManyRounds.{EachRound, IsSerialEnd, Made, RoundIfGoing, RoundMade, Runs, StepMade, TurnMade, TurnsMade, goes_on_still}
+use Rattle.connection_table.specs.Steps.{after_end, after_step, ends}
+use Rattle.connection_table.specs.Tables.{Connection, Entry, Stands}
 
 -- ---- rounds of one connection
 
@@ -16,7 +23,8 @@ abbrev no_rounds : List (List ℕ)
 no_rounds = []
 
 none_left : (b : Bool) → OneOf b (no_rounds ≡ []) (no_rounds ≡ [])
-none_left = elim [ true ↦ refl | false ↦ refl ]
+none_left true = refl
+none_left false = refl
 
 pub first_round : (w v : Connection) → RoundTo octets w v → IsSerialEnd 1 w v
 first_round w v r = (r.0 ∷ [], (r.1, none_left (still_goes (after_round octets r.0 w))), r.2)
@@ -130,9 +138,11 @@ stayed old stands over = record {
 -- ---- an actor's turn, step by step
 
 step_input : (actor : ℕ) (e : Entry) → (after_step actor e).input ≡ e.input
-step_input actor e =
-    elim (is_going actor e.world.state) as (λ b. (if b then record e { turns = e.turns ++ Step actor ∷ []; world = standing (world_step octets actor e.world.state) } else e).input ≡ e.input)
-    [ true ↦ refl | false ↦ refl ]
+step_input actor e = by (is_going actor e.world.state)
+  where
+    by : (b : Bool) → (if b then record e { turns = e.turns ++ Step actor ∷ []; world = standing (world_step octets actor e.world.state) } else e).input ≡ e.input
+    by true = refl
+    by false = refl
 
 -- where it goes
 step_goes : (actor : ℕ) (e : Entry) → is_going actor e.world.state ≡ true → (after_step actor e).world ≡ standing (world_step octets actor e.world.state)
@@ -197,8 +207,11 @@ turns_made n i past x y count so = record {
 }
 
 end_input : (e : Entry) → (after_end e).input ≡ e.input
-end_input e = elim (ends e) as (λ b. (if b then record e { turns = e.turns ++ Round ∷ []; world = standing (end_round e.world.state) } else e).input ≡ e.input)
-    [ true ↦ refl | false ↦ refl ]
+end_input e = by (ends e)
+  where
+    by : (b : Bool) → (if b then record e { turns = e.turns ++ Round ∷ []; world = standing (end_round e.world.state) } else e).input ≡ e.input
+    by true = refl
+    by false = refl
 
 -- and the round's end
 pub round_made : (x y z : Entry) → TurnsMade x y → z ≡ after_end y → RoundMade x z

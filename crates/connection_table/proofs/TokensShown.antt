@@ -1,27 +1,48 @@
 -- Each copy that comes to B and asks to join shows the token of B's key: over segments as values, and over octets where the turns are
 -- fresh.
-use Rattle.connection_table.proofs.Words.{◌≡◌, refl, sym, ◌∙◌, ap, subst, ⊎_elim, ℕ, ◌&&◌, Bool, true, false, Option, Some, None, List, [], ◌∷◌, ◌++◌, map}
-use Rattle.connection_table.proofs.Words.{option_map, cond, find, slice_get, and_parts, same_Some, Side, A, B, peer, same_side, Syn, Answer, Third, Due, Flight}
-use Rattle.connection_table.proofs.Words.{is_due, arriving, Join, PlainOption, PlainSegment, Expected, HeardSegment, next_event, is_joined, octets, PathState}
-use Rattle.connection_table.proofs.Words.{end_at, expected_by, in_map, Every, after_turn, world_run, Turn, WorldState, Start, opened_world, App, Path, Actor}
-use Rattle.connection_table.proofs.Words.{ActorCrew, HeardShowsToken, NextShowsToken, ShowsTokenNext, JoinsShowToken, ValuesShowTheToken, OctetsShowTheToken}
-use Rattle.std.proofs.Common.{◌==◌}
+use Rattle.std.proofs.Common.{◌≡◌, refl, sym, ◌∙◌, ap, subst, ⊎_elim, ℕ, Bool, true, false, cond, Option, Some, None, option_map, List, [], ◌∷◌, ◌++◌, ◌==◌, ◌&&◌, find, map}
+use Rattle.std.proofs.lemmas.Bool.{and_parts}
+use Rattle.std.proofs.lemmas.Option.{same_Some}
+use Rattle.std.specs.List.{slice_get}
+use Rattle.sides.specs.declared.side.Side.{Side}
+use Rattle.sides.specs.declared.side.Side.TheVariants.{A, B}
+use Rattle.sides.specs.Side.{peer}
 use Rattle.key_material.specs.KeyDigest.{token_of}
+use Rattle.link_script.specs.Places.{same_side}
+use Rattle.link_model.specs.declared.flight.Due.{Due}
+use Rattle.link_model.specs.declared.flight.Flight.{Flight}
 use Rattle.link_model.specs.Laws.{shown_flight}
+use Rattle.link_model.specs.Steps.{is_due, arriving}
 use Rattle.mptcp_options.specs.declared.join.JoinForm.{JoinForm}
+use Rattle.mptcp_options.specs.declared.join.JoinForm.TheVariants.{Syn, Answer, Third}
+use Rattle.path_segments.specs.declared.expected.Expected.{Expected}
 use Rattle.path_segments.specs.declared.segment.PathOption.{PathOption}
+use Rattle.path_segments.specs.declared.segment.PathOption.TheVariants.{Capable, Join, Dss, AddAddr, Remove, Prio, Fail, FastClose, Reset}
 use Rattle.path_segments.specs.Laws.{IsFresh, meant, meant_option}
+use Rattle.path_segments.specs.Options.{PlainOption}
+use Rattle.path_segments.specs.Spelled.{PlainSegment}
 use Rattle.path_segments.specs.Spelling.{subflow_number}
+use Rattle.path_segments.specs.Heard.{HeardSegment}
+use Rattle.stream_lanes.specs.Words.{Every}
+use Rattle.stream_lanes.proofs.Lists.{in_map}
 use Rattle.actor_desk.specs.Books.{books_in}
 use Rattle.path_core.specs.declared.events.Event.TheVariants.{Arrives}
-use Rattle.path_core.specs.Arrival.{heard_in}
+use Rattle.path_core.specs.Arrival.{expected_by, heard_in}
+use Rattle.path_core.specs.Events.{next_event}
+use Rattle.path_core.specs.MpJoin.{is_joined}
+use Rattle.path_core.specs.Octets.{octets}
 use Rattle.path_core.specs.Shown.{octets_of, shown_path, IsFarReset, IsFreshCopy, NextIsFresh}
+use Rattle.path_core.specs.State.{PathState, end_at}
 use Rattle.path_core.specs.Values.{Carried, as_arrived, values}
 use Rattle.path_core.proofs.CopiesRead.{near_read, far_read}
 use Rattle.path_core.proofs.FarResets.{unplaced}
 use Rattle.path_core.proofs.Showing.{same_event}
+use Rattle.world_laws.specs.declared.member.Member.TheVariants.{App, Path}
+use Rattle.world_laws.specs.Actors.{Actor, ActorCrew}
 use Rattle.world_laws.specs.Fresh.{IsFreshCrew, IsFreshMember, IsFreshTurn, AreFresh, shown_crew, shown_member, shown_world}
+use Rattle.world_laws.specs.Openings.{Start, opened_world}
 use Rattle.world_laws.specs.Promises.{HasRoom, NumbersFit}
+use Rattle.world_laws.specs.Worlds.{WorldState, Turn, after_turn, world_run}
 use Rattle.world_laws.proofs.Worlds.Finding.{find_every, one_side}
 use Rattle.world_laws.proofs.Joins.TokensAgree.{WorldMet, run_met, opened_met}
 use Rattle.world_laws.proofs.Keys.ToldAreOwn.{Joined, NoMore, Past, MemberIs, with_nonces}
@@ -30,6 +51,7 @@ use Rattle.world_laws.proofs.Keys.AreDrawn.{Deed, Secrets, OptionIs, SegmentIs}
 use Rattle.world_laws.proofs.Promises.Made.{run_fresh}
 use Rattle.world_laws.proofs.Numbers.EveryTurn.{every_list_is_fresh}
 use Rattle.connection_table.specs.Tokens.{ShowsToken}
+use Rattle.connection_table.specs.JoinTokens.{HeardShowsToken, NextShowsToken, ShowsTokenNext, JoinsShowToken, ValuesShowTheToken, OctetsShowTheToken}
 
 -- ---- over segments as values
 
@@ -91,10 +113,12 @@ same_arriving show due (f ∷ flights) = by (is_due due f) (same_arriving show d
   where
     by : (b : Bool) → find (is_due due) (map (shown_flight show) flights) ≡ option_map (shown_flight show) (find (is_due due) flights)
         → cond b (Some (shown_flight show f)) (find (is_due due) (map (shown_flight show) flights)) ≡ option_map (shown_flight show) (cond b (Some f) (find (is_due due) flights))
-    by = elim [ true ↦ λ rest. refl | false ↦ λ rest. rest ]
+    by true rest = refl
+    by false rest = rest
 
 same_end_at : (s : Side) (p : PathState Carried) → end_at s (shown_path p) ≡ end_at s p
-same_end_at = elim [ A ↦ λ p. refl | B ↦ λ p. refl ]
+same_end_at A p = refl
+same_end_at B p = refl
 
 -- a fresh copy is heard as it was meant, but for the position of a far reset
 module _ (token : ℕ) (p : PathState Carried) (fresh : NextIsFresh p) (shows : NextShowsToken values token p) (due : Due) (heard : HeardSegment)

@@ -1,8 +1,14 @@
 -- What a turn makes of a kept connection: its list of turns and its world after a call.
-use Rattle.connection_table.proofs.Words.{◌≡◌, refl, sym, ◌∙◌, ap, subst, ℕ, ◌<◌, ◌&&◌, Bool, true, false, List, [], ◌∷◌, ◌++◌, length, not, false≢true, octets}
-use Rattle.connection_table.proofs.Words.{Step, Round, Input, all_over, end_round, is_going, world_step, Kept, standing, Entry, IsHeld, Stands, first_of}
-use Rattle.connection_table.proofs.Words.{key_token, opened_entry, ends}
+use Rattle.std.proofs.Common.{◌≡◌, refl, sym, ◌∙◌, ap, subst, ℕ, ◌<◌, Bool, true, false, not, ◌&&◌, List, [], ◌∷◌, ◌++◌, length}
+use Rattle.std.proofs.lemmas.Bool.{false≢true}
 use Rattle.run_log.specs.declared.turn.Turn as noted
+use Rattle.run_log.specs.declared.turn.Turn.TheVariants.{Step, Round}
+use Rattle.path_core.specs.Octets.{octets}
+use Rattle.run_outside.specs.declared.input.Input.{Input}
+use Rattle.world_core.specs.Kept.{Kept, standing}
+use Rattle.world_laws.specs.Worlds.{all_over, end_round, is_going, world_step}
+use Rattle.connection_table.specs.Steps.{ends}
+use Rattle.connection_table.specs.Tables.{Entry, IsHeld, Stands, first_of, key_token, opened_entry}
 use Rattle.connection_table.proofs.Held.{end_held, opened_held, step_held}
 
 -- the round may end
@@ -11,8 +17,11 @@ may_end k = not k.failed && all_over k.state.crew
 
 -- it may end where it stands and each turn has ended
 pub may_stand : (k : Kept) → may_end k ≡ true → (k.failed ≡ false) × (all_over k.state.crew ≡ true)
-may_stand k may = (elim k.failed as (λ b. k.failed ≡ b → (not b && all_over k.state.crew) ≡ true → (k.failed ≡ false) × (all_over k.state.crew ≡ true))
-    [ true ↦ λ stands may. absurd (false≢true may) | false ↦ λ stands may. (stands, may) ]) refl may
+may_stand k may = by k.failed refl may
+  where
+    by : (b : Bool) → k.failed ≡ b → (not b && all_over k.state.crew) ≡ true → (k.failed ≡ false) × (all_over k.state.crew ≡ true)
+    by true stands may = absurd (false≢true may)
+    by false stands may = (stands, may)
 
 -- ---- a connection whose turns and world these are
 

@@ -1,35 +1,43 @@
 -- A script of which no line begins with `alter` alters no payload.
-use Rattle.connection_table.proofs.Words.{◌≡◌, refl, sym, ◌∙◌, subst, ℕ, suc, ◌+◌, Bool, true, false, Option, Some, None, List, [], ◌∷◌, ◌++◌, Err, Ok, cond}
-use Rattle.connection_table.proofs.Words.{Result, ◌||◌, IfOk, codes, list_any, position_from, both_ways, or_from, or_parts, fold-append, IfOk-at_ok, text_lines}
-use Rattle.connection_table.proofs.Words.{is_end, is_out_of_order, is_repeated, LeavesPayload, first_alter, is_alter, is_alter_first, is_alter_line}
-use Rattle.std.specs.Prelude.{nat_lt}
-use Rattle.std.specs.List.{find}
+use Rattle.std.proofs.Common.{◌≡◌, refl, sym, ◌∙◌, subst, ℕ, suc, ◌+◌, Bool, true, false, ◌||◌, cond, List, [], ◌∷◌, ◌++◌, Option, Some, None, Result, Ok, Err}
+use Rattle.std.specs.Prelude.{IfOk, codes, nat_lt}
+use Rattle.std.specs.List.{find, list_any, position_from}
 use Rattle.std.specs.Option.{ok_or}
 use Rattle.std.specs.Str.{bytes_eq}
+use Rattle.std.proofs.lemmas.Bool.{both_ways, or_from, or_parts}
 use Rattle.std.proofs.lemmas.List.Folds.{list_any-append}
+use Rattle.std.proofs.lemmas.List.Sums.{fold-append}
+use Rattle.std.proofs.lemmas.Result.{IfOk-at_ok}
 use Rattle.std.proofs.lemmas.Slice.Eq.{bytes_eq-Decides}
+use Rattle.octet_text.specs.Lines.{text_lines}
 use Rattle.link_script.specs.declared.fault.ScriptFault.{ScriptFault}
+use Rattle.link_script.specs.declared.fault.ScriptFault.TheVariants as fault
 use Rattle.link_script.specs.declared.fault.ScriptKind.{ScriptKind}
+use Rattle.link_script.specs.declared.fault.ScriptKind.TheVariants as kind
 use Rattle.link_script.specs.declared.line.Line.{Line}
+use Rattle.link_script.specs.declared.line.Line.TheVariants as line
 use Rattle.link_script.specs.declared.script.Happens.{Happens}
 use Rattle.link_script.specs.declared.script.Happens.TheVariants.{Lost, Late, Again, Stripped}
 use Rattle.link_script.specs.declared.script.Script.{Script}
 use Rattle.link_script.specs.declared.script.ScriptLine.TheVariants.{OnSegment}
 use Rattle.link_script.specs.declared.script.Segment.{Segment}
 use Rattle.link_script.specs.declared.word.Keyword.{Keyword}
+use Rattle.link_script.specs.declared.word.Keyword.TheVariants as first
 use Rattle.link_script.specs.Lines.{seed_line, checksum_line, short_line, buffer_line, path_options, may_have, path_of, path_line, segment, ticks_word, with_ticks, on_segment_line, strip_all_line, die_line, prio_line, add_line, remove_line, fast_close_line, end_line, line_after, line_of}
 use Rattle.link_script.specs.Numbers.{within}
+use Rattle.link_script.specs.Places.{is_end, is_out_of_order, is_repeated}
 use Rattle.link_script.specs.Ranges.{most_lines, seeds, buffers, path_numbers, segment_sizes, delays, latenesses, run_ticks, address_ids}
 use Rattle.link_script.specs.Reading.{in_place, later_line, next_line, at_line, seen_after, read_on, blank, with_line, script_of, reading}
 use Rattle.link_script.specs.Steps.{◌>>=◌}
 use Rattle.link_script.specs.Words.{fixed, keyword, keyword_word, keywords, direction, side, switch, words_of, is_passed_over}
 use Rattle.link_script.proofs.ReadRanges.{read_has_ranges}
+use Rattle.connection_table.specs.Scripts.{LeavesPayload, first_alter, is_alter, is_alter_first, is_alter_line}
 
 -- ---- a line by its words
 
 -- it isn't one by which a payload is altered
 abbrev IsCalm : Line → Type 0
-IsCalm (Line.Event event) = is_alter event ≡ false
+IsCalm (line.Event event) = is_alter event ≡ false
 IsCalm _ = Unit {0}
 
 -- what holds after a step
@@ -140,55 +148,61 @@ path_calm (a ∷ b ∷ c ∷ []) = tt
 path_calm (a ∷ b ∷ c ∷ d ∷ []) = tt
 path_calm (path ∷ b ∷ mss ∷ d ∷ delay ∷ options) =
     after (fixed (codes "mss") b) _ IsCalm (λ x. after (fixed (codes "delay") d) _ IsCalm (λ y. after (path_options options) _ IsCalm (λ option.
-    passed (may_have path options) (path_of path mss delay option.0 option.1) ScriptKind.Word IsCalm (path_of_calm path mss delay option.0 option.1))))
+    passed (may_have path options) (path_of path mss delay option.0 option.1) kind.Word IsCalm (path_of_calm path mss delay option.0 option.1))))
 
 abbrev is_alter_word : Keyword → Bool
-is_alter_word Keyword.Alter = true
+is_alter_word first.Alter = true
 is_alter_word _ = false
 
 after_keyword : (which : Keyword) (words : List (List ℕ)) → is_alter_word which ≡ false → IfOk (line_after which words) IsCalm
-after_keyword Keyword.Alter words other = cc
-after_keyword Keyword.Seed words other = seed_calm words
-after_keyword Keyword.Checksum words other = checksum_calm words
-after_keyword Keyword.Short words other = short_calm words
-after_keyword Keyword.Buffer words other = buffer_calm words
-after_keyword Keyword.Path words other = path_calm words
-after_keyword Keyword.Drop words other = on_segment_calm Lost (λ s t. refl) words
-after_keyword Keyword.Strip words other = on_segment_calm Stripped (λ s t. refl) words
-after_keyword Keyword.Dup words other = on_segment_calm (Again 0) (λ s t. refl) words
-after_keyword Keyword.Late words other = on_segment_calm (Late 0) (λ s t. refl) words
-after_keyword Keyword.StripAll words other = strip_all_calm words
-after_keyword Keyword.Die words other = die_calm words
-after_keyword Keyword.Prio words other = prio_calm words
-after_keyword Keyword.Add words other = add_calm words
-after_keyword Keyword.Remove words other = remove_calm words
-after_keyword Keyword.FastClose words other = fast_close_calm words
-after_keyword Keyword.End words other = end_calm words
+after_keyword first.Alter words other = cc
+after_keyword first.Seed words other = seed_calm words
+after_keyword first.Checksum words other = checksum_calm words
+after_keyword first.Short words other = short_calm words
+after_keyword first.Buffer words other = buffer_calm words
+after_keyword first.Path words other = path_calm words
+after_keyword first.Drop words other = on_segment_calm Lost (λ s t. refl) words
+after_keyword first.Strip words other = on_segment_calm Stripped (λ s t. refl) words
+after_keyword first.Dup words other = on_segment_calm (Again 0) (λ s t. refl) words
+after_keyword first.Late words other = on_segment_calm (Late 0) (λ s t. refl) words
+after_keyword first.StripAll words other = strip_all_calm words
+after_keyword first.Die words other = die_calm words
+after_keyword first.Prio words other = prio_calm words
+after_keyword first.Add words other = add_calm words
+after_keyword first.Remove words other = remove_calm words
+after_keyword first.FastClose words other = fast_close_calm words
+after_keyword first.End words other = end_calm words
 
 found : {X : Type 0} (test : X → Bool) (xs : List X) (x : X) → find test xs ≡ Some x → test x ≡ true
 found test [] x is = cc
-found {X} test (y ∷ xs) x is = (elim (test y) as (λ b. test y ≡ b → cond b (Some y) (find test xs) ≡ Some x → (find test xs ≡ Some x → test x ≡ true) → test x ≡ true)
-    [ true ↦ λ passes is next. let same : y ≡ x = cc in subst (λ z. test z ≡ true) same passes | false ↦ λ passes is next. next is ]) refl is (found test xs x)
+found {X} test (y ∷ xs) x is = by (test y) refl is (found test xs x)
+  where
+    by : (b : Bool) → test y ≡ b → cond b (Some y) (find test xs) ≡ Some x → (find test xs ≡ Some x → test x ≡ true) → test x ≡ true
+    by true passes is next = let same : y ≡ x = cc in subst (λ z. test z ≡ true) same passes
+    by false passes is next = next is
 
-read_word : {X : Type 0} (o : Option X) (x : X) → ok_or o ScriptKind.Word ≡ Ok x → o ≡ Some x
+read_word : {X : Type 0} (o : Option X) (x : X) → ok_or o kind.Word ≡ Ok x → o ≡ Some x
 read_word (Some y) x is = cc
 read_word None x is = cc
 
 -- the word `alter` alone is that keyword
 other_word : (word : List ℕ) (which : Keyword) → bytes_eq word (codes "alter") ≡ false → keyword word ≡ Ok which → is_alter_word which ≡ false
 unfolding keyword
-other_word word Keyword.Alter other is =
-    let spelled = found (λ (choice : Keyword). bytes_eq (keyword_word choice) word) keywords Keyword.Alter (read_word _ Keyword.Alter is) in
+other_word word first.Alter other is =
+    let spelled = found (λ (choice : Keyword). bytes_eq (keyword_word choice) word) keywords first.Alter (read_word _ first.Alter is) in
     let same = (bytes_eq-Decides word (codes "alter")).1 (sym ((bytes_eq-Decides (codes "alter") word).0 spelled)) in
     absurd (both_ways (bytes_eq word (codes "alter")) other same)
-other_word word Keyword.Seed other is = refl
+other_word word first.Seed other is = refl
 other_word word _ other is = refl
 
 line_calm : (words : List (List ℕ)) → is_alter_first words ≡ false → IfOk (line_of words) IsCalm
 unfolding line_of
 line_calm [] other = tt
-line_calm (word ∷ words) other = (elim (keyword word) as (λ r. keyword word ≡ r → IfOk (r >>= λ which. line_after which words) IsCalm)
-    [ Ok which ↦ λ is. after_keyword which words (other_word word which other is) | Err e ↦ λ is. tt ]) refl
+line_calm (word ∷ words) other = by (keyword word) refl
+  where
+    by : (r : Result Keyword ScriptKind) → keyword word ≡ r → IfOk (r >>= λ which. line_after which words) IsCalm
+    by (Ok which) is = after_keyword which words (other_word word which other is)
+    by (Err e) is = tt
 
 -- ---- line after line
 
@@ -196,14 +210,14 @@ abbrev IsCalmScript : Script → Type 0
 IsCalmScript script = list_any is_alter script.lines ≡ false
 
 calm_more : (script : Script) (l : Line) → IsCalmScript script → IsCalm l → IsCalmScript (with_line script l)
-calm_more script Line.Header calm is = calm
-calm_more script (Line.Seed n) calm is = calm
-calm_more script (Line.Checksum on) calm is = calm
-calm_more script (Line.Short on) calm is = calm
-calm_more script (Line.Buffer octets) calm is = calm
-calm_more script (Line.Path index path) calm is = calm
-calm_more script (Line.Event event) calm is = list_any-append is_alter script.lines (event ∷ []) ∙ or_from _ _ calm (or_from _ _ is refl)
-calm_more script Line.End calm is = calm
+calm_more script line.Header calm is = calm
+calm_more script (line.Seed n) calm is = calm
+calm_more script (line.Checksum on) calm is = calm
+calm_more script (line.Short on) calm is = calm
+calm_more script (line.Buffer octets) calm is = calm
+calm_more script (line.Path index path) calm is = calm
+calm_more script (line.Event event) calm is = list_any-append is_alter script.lines (event ∷ []) ∙ or_from _ _ calm (or_from _ _ is refl)
+calm_more script line.End calm is = calm
 
 abbrev AllCalm : List Line → Type 0
 AllCalm lines = IsCalmScript (script_of lines)
@@ -214,23 +228,30 @@ calm_push seen l calm is = subst IsCalmScript (sym (fold-append with_line blank 
 placed_calm : (seen : List Line) (l : Line) → IsCalm l → IfOk (in_place seen l) IsCalm
 placed_calm seen l is = by (is_out_of_order seen l) (is_repeated seen l)
   where
-    by : (b c : Bool) → IfOk (cond b (Err ScriptKind.Order) (cond c (Err ScriptKind.Repeated) (Ok l))) IsCalm
+    by : (b c : Bool) → IfOk (cond b (Err kind.Order) (cond c (Err kind.Repeated) (Ok l))) IsCalm
     by true c = tt
     by false true = tt
     by false false = is
 
 next_calm : (seen : List Line) (text : List ℕ) → is_alter_line text ≡ false → IfOk (next_line seen text) IsCalm
 unfolding later_line
-next_calm [] text other = elim (bytes_eq text (codes "mptcp-script 1")) as (λ b. IfOk (cond b (Ok Line.Header) (Err ScriptKind.Header)) IsCalm) [ true ↦ tt | false ↦ tt ]
-next_calm (l ∷ seen) text other = (elim (line_of (words_of text)) as (λ r. IfOk r IsCalm → IfOk (r >>= λ x. in_place (l ∷ seen) x) IsCalm)
-    [ Ok x ↦ λ is. placed_calm (l ∷ seen) x is | Err e ↦ λ is. tt ]) (line_calm (words_of text) other)
+next_calm [] text other = by (bytes_eq text (codes "mptcp-script 1"))
+  where
+    by : (b : Bool) → IfOk (cond b (Ok line.Header) (Err kind.Header)) IsCalm
+    by true = tt
+    by false = tt
+next_calm (l ∷ seen) text other = by (line_of (words_of text)) (line_calm (words_of text) other)
+  where
+    by : (r : Result Line ScriptKind) → IfOk r IsCalm → IfOk (r >>= λ x. in_place (l ∷ seen) x) IsCalm
+    by (Ok x) is = placed_calm (l ∷ seen) x is
+    by (Err e) is = tt
 
 step_calm : (number : ℕ) (seen : List Line) (text : List ℕ) → is_alter_line text ≡ false → AllCalm seen → IfOk (seen_after number seen text) AllCalm
 unfolding seen_after
 step_calm number seen text other calm = by (nat_lt most_lines number) (is_passed_over text) (next_line seen text) (next_calm seen text other)
   where
     by : (b c : Bool) (r : Result Line ScriptKind) → IfOk r IsCalm
-        → IfOk (cond b (Err (ScriptFault.Line number ScriptKind.TooMany)) (cond c (Ok seen) (at_line number r >>= λ l. Ok (seen ++ l ∷ [])))) AllCalm
+        → IfOk (cond b (Err (fault.Line number kind.TooMany)) (cond c (Ok seen) (at_line number r >>= λ l. Ok (seen ++ l ∷ [])))) AllCalm
     by true c r is = tt
     by false true r is = calm
     by false false (Ok l) is = calm_push seen l calm is
@@ -238,27 +259,38 @@ step_calm number seen text other calm = by (nat_lt most_lines number) (is_passed
 
 all_calm : (texts : List (List ℕ)) (number : ℕ) (seen : List Line) → list_any is_alter_line texts ≡ false → AllCalm seen → IfOk (read_on number seen texts) AllCalm
 unfolding read_on
-all_calm [] number seen none calm = elim (list_any is_end seen) as (λ b. IfOk (cond b (Ok seen) (Err (ScriptFault.Line number ScriptKind.Missing))) AllCalm)
-    [ true ↦ calm | false ↦ tt ]
+all_calm [] number seen none calm = by (list_any is_end seen)
+  where
+    by : (b : Bool) → IfOk (cond b (Ok seen) (Err (fault.Line number kind.Missing))) AllCalm
+    by true = calm
+    by false = tt
 all_calm (text ∷ texts) number seen none calm =
     let parts = or_parts (is_alter_line text) (list_any is_alter_line texts) none in
-    (elim (seen_after number seen text) as (λ r. IfOk r AllCalm → ((now : List Line) → AllCalm now → IfOk (read_on (suc number) now texts) AllCalm) → IfOk (r >>= λ now. read_on (suc number) now texts) AllCalm) [
-      | Ok now ↦ λ is next. next now is
-      | Err e ↦ λ is next. tt
-    ]) (step_calm number seen text parts.0 calm) (λ now is. all_calm texts (suc number) now parts.1 is)
+    by (seen_after number seen text) (step_calm number seen text parts.0 calm) (λ now is. all_calm texts (suc number) now parts.1 is)
+  where
+    by : (r : Result (List Line) ScriptFault) → IfOk r AllCalm → ((now : List Line) → AllCalm now → IfOk (read_on (suc number) now texts) AllCalm)
+        → IfOk (r >>= λ now. read_on (suc number) now texts) AllCalm
+    by (Ok now) is next = next now is
+    by (Err e) is next = tt
 
 -- ---- the whole text
 
 none_passes : {X : Type 0} (test : X → Bool) (number : ℕ) (xs : List X) → position_from test number xs ≡ None → list_any test xs ≡ false
 none_passes test number [] is = refl
-none_passes {X} test number (x ∷ xs) is =
-    (elim (test x) as (λ b. cond b (Some number) (position_from test (number + 1) xs) ≡ None → (position_from test (number + 1) xs ≡ None → list_any test xs ≡ false) → (b || list_any test xs) ≡ false)
-    [ true ↦ λ is next. cc | false ↦ λ is next. next is ]) is (none_passes test (number + 1) xs)
+none_passes {X} test number (x ∷ xs) is = by (test x) is (none_passes test (number + 1) xs)
+  where
+    by : (b : Bool) → cond b (Some number) (position_from test (number + 1) xs) ≡ None → (position_from test (number + 1) xs ≡ None → list_any test xs ≡ false)
+        → (b || list_any test xs) ≡ false
+    by true is next = cc
+    by false is next = next is
 
 text_calm : (text : List ℕ) → first_alter text ≡ None → IfOk (reading text) IsCalmScript
 unfolding reading
-text_calm text none = (elim (read_on 1 [] (text_lines text)) as (λ r. IfOk r AllCalm → IfOk (r >>= λ lines. Ok (script_of lines)) IsCalmScript)
-    [ Ok lines ↦ λ is. is | Err e ↦ λ is. tt ]) (all_calm (text_lines text) 1 [] (none_passes is_alter_line 1 (text_lines text) none) refl)
+text_calm text none = by (read_on 1 [] (text_lines text)) (all_calm (text_lines text) 1 [] (none_passes is_alter_line 1 (text_lines text) none) refl)
+  where
+    by : (r : Result (List Line) ScriptFault) → IfOk r AllCalm → IfOk (r >>= λ lines. Ok (script_of lines)) IsCalmScript
+    by (Ok lines) is = is
+    by (Err e) is = tt
 
 -- what is read leaves payload as it is
 pub none_leaves : (text : List ℕ) (script : Script) → first_alter text ≡ None → reading text ≡ Ok script → LeavesPayload script

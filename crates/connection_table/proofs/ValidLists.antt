@@ -1,13 +1,24 @@
 -- A valid list runs to its end, unless the outside fails or memory runs out.
-use Rattle.connection_table.proofs.Words.{◌≡◌, refl, sym, ◌∙◌, ap, subst, ℕ, zero, suc, ◌<◌, ◌≤◌, Option, Some, None, List, [], ◌∷◌, ◌++◌, length, map, arith}
-use Rattle.connection_table.proofs.Words.{inr, get_or, inl, Err, Ok, ◌⊎◌, ap₂, length-map, ◌==◌, IfSome, ◌≢◌, slice_get, eqb-true, same_Some, HasRisen, Input}
-use Rattle.connection_table.proofs.Words.{Many, Done, Usage, Load, TooLong, Listing, Script, SameToken, Put, Memory, Names, list_reading, Contents, IsInput}
-use Rattle.connection_table.proofs.Words.{IsLong, AreInputs, AtFault, IsEnd, IsListedFault, IsOfListed, Says, AreApart, AreValidInputs, IsValid, IsValidInput}
-use Rattle.connection_table.proofs.Words.{Entry, key_token, opened_entry, holder_of, listed_reading, NamedList}
+use Rattle.std.proofs.Common.{◌≡◌, refl, sym, ◌∙◌, ap, ap₂, subst, ℕ, zero, suc, ◌<◌, ◌≤◌, ◌⊎◌, inl, inr, Option, Some, None, Ok, Err, List, [], ◌∷◌, ◌++◌, length, get_or, map, arith}
+use Rattle.std.specs.Prelude.{IfSome, ◌≢◌, ◌==◌}
+use Rattle.std.specs.List.{slice_get}
+use Rattle.std.proofs.lemmas.Bool.{eqb-true}
+use Rattle.std.proofs.lemmas.List.{length-map}
+use Rattle.std.proofs.lemmas.Option.{same_Some}
 use Rattle.std.proofs.lemmas.List.Quantifiers.{position-Some}
 use Rattle.link_script.specs.declared.fault.ScriptFault.TheVariants.{Line}
 use Rattle.link_script.specs.declared.fault.ScriptKind.{ScriptKind}
-use Rattle.outside_kit.specs.Calls.{Made}
+use Rattle.outside_kit.specs.Outside.{Told, HasRisen}
+use Rattle.outside_kit.specs.declared.port.Port.TheVariants.{Log}
+use Rattle.run_outside.specs.declared.input.Input.{Input}
+use Rattle.connection_table.specs.Lists.{Names, list_reading}
+use Rattle.connection_table.specs.ListWords.{NamedList}
+use Rattle.connection_table.specs.declared.many.Many.{Many}
+use Rattle.connection_table.specs.declared.many.Many.TheVariants.{Done, Usage, Load, TooLong, List as Listing, Script, SameToken, Put, Memory}
+use Rattle.connection_table.specs.Inputs.{Contents, IsInput, IsLong}
+use Rattle.connection_table.specs.Scripts.{listed_reading}
+use Rattle.connection_table.specs.ManyEnds.{AreApart, AreInputs, AreValidInputs, AtFault, IsEnd, IsListedFault, IsOfListed, IsValid, IsValidInput, Says}
+use Rattle.connection_table.specs.Tables.{Entry, holder_of, key_token, opened_entry}
 
 abbrev token_in : Input → ℕ
 token_in input = key_token input.script
@@ -112,7 +123,7 @@ module _ (content : Contents) (words : NamedList) (valid : IsValid content words
   IsSound many = (before behind : List Names) (at : Names) (p : Parted content before at valid.inputs) → AtFault content p.front at old new many → ⊥
 
   of_valid : (many : Many) → many ≢ Memory → IsSound many → IsOfListed content words old new many → ⊥
-  of_valid many not sound of = elim fault.cause [ inl memory ↦ not memory | inr h ↦ at_one h.0 h.1.0 h.1.1.0 h.1.1.1 ]
+  of_valid many not sound of = by fault.cause
     where
       read : (names : List Names) × (Says valid.list names × IsListedFault content names old new many)
       read = told _ of
@@ -128,6 +139,10 @@ module _ (content : Contents) (words : NamedList) (valid : IsValid content words
           let p = parted content fault.before behind at valid.inputs (subst (λ ns. AreValidInputs content ns valid.inputs) (sym names_is ∙ is) valid.valid) in
           let same : fault.inputs ≡ p.front = inputs_are content fault.before p.front fault.inputs p.before_valid fault.admitted in
           sound fault.before behind at p (subst (λ is. AtFault content is at old new many) same cause)
+
+      by : (many ≡ Memory) ⊎ ((at : Names) × ((behind : List Names) × ((read.0 ≡ fault.before ++ at ∷ behind) × AtFault content fault.inputs at old new many))) → ⊥
+      by (inl memory) = not memory
+      by (inr h) = at_one h.0 h.1.0 h.1.1.0 h.1.1.1
 
   not_too_long : (line : ℕ) → ((line ≡ 0) × IfSome (content words.list) (λ t. 65536 < length t)) ⊎ IsOfListed content words old new (TooLong line) → ⊥
   not_too_long line (inl h) = let past : 65536 < length valid.list = told _ h.1 in absurd (omega (arith, past, valid.short))
@@ -154,22 +169,22 @@ module _ (content : Contents) (words : NamedList) (valid : IsValid content words
           no_holder p.front p.rest p.input holder (subst (λ is. AreApart (map token_in is)) p.inputs_is valid.apart)
           (subst (λ i. holder_of (token_in i) (map opened_entry p.front) ≡ Some holder) same held)
 
-pub valid_ends : (content : Contents) (words : NamedList) (l0 l1 p0 p1 : ℕ) (held holds : Option (List ℕ)) (a b : Option (List Made)) (many : Many) → IsEnd content words (l0, l1) (p0, p1) (held, holds) (a, b) many
-    → IsValid content words → (many ≡ Done) ⊎ ((many ≡ Memory) ⊎ (HasRisen l0 l1 ⊎ HasRisen p0 p1))
-valid_ends content words l0 l1 p0 p1 held holds a b Done h valid = inl refl
-valid_ends content words l0 l1 p0 p1 held holds a b Memory h valid = inr (inl refl)
-valid_ends content words l0 l1 p0 p1 held holds a b Put h valid = inr (inr (inr h.0))
-valid_ends content words l0 l1 p0 p1 held holds a b (Load line) h valid = inr (inr (inl h.0.0))
-valid_ends content words l0 l1 p0 p1 held holds a b Usage h valid = absurd h
-valid_ends content words l0 l1 p0 p1 held holds a b (TooLong line) h valid = absurd (not_too_long content words valid l0 l1 line h.0)
-valid_ends content words l0 l1 p0 p1 held holds a b (Listing line) h valid = absurd (not_listing content words valid l0 l1 line h.0)
-valid_ends content words l0 l1 p0 p1 held holds a b (Script entry line kind) h valid = absurd (not_script content words valid l0 l1 entry line kind h.0)
-valid_ends content words l0 l1 p0 p1 held holds a b (SameToken line holder) h valid = absurd (not_same content words valid l0 l1 line holder h.0)
+pub valid_ends : (words : NamedList) (before after : Told) (many : Many) → IsEnd words before after many → IsValid before.content words
+    → (many ≡ Done) ⊎ ((many ≡ Memory) ⊎ (HasRisen before.load_faults after.load_faults ⊎ HasRisen (before.port_faults Log) (after.port_faults Log)))
+valid_ends words before after Done h valid = inl refl
+valid_ends words before after Memory h valid = inr (inl refl)
+valid_ends words before after Put h valid = inr (inr (inr h.0))
+valid_ends words before after (Load line) h valid = inr (inr (inl h.0.0))
+valid_ends words before after Usage h valid = absurd h
+valid_ends words before after (TooLong line) h valid = absurd (not_too_long before.content words valid before.load_faults after.load_faults line h.0)
+valid_ends words before after (Listing line) h valid = absurd (not_listing before.content words valid before.load_faults after.load_faults line h.0)
+valid_ends words before after (Script entry line kind) h valid = absurd (not_script before.content words valid before.load_faults after.load_faults entry line kind h.0)
+valid_ends words before after (SameToken line holder) h valid = absurd (not_same before.content words valid before.load_faults after.load_faults line holder h.0)
 
 -- where the words name a list
-pub valid_listed : (content : Contents) (o : Option NamedList) (words : NamedList) (l0 l1 p0 p1 : ℕ) (held holds : Option (List ℕ)) (a b : Option (List Made)) (many : Many) → Some words ≡ o
-    → IsEnd content words (l0, l1) (p0, p1) (held, holds) (a, b) many
-    → IfSome o (λ named. IsValid content named → (many ≡ Done) ⊎ ((many ≡ Memory) ⊎ (HasRisen l0 l1 ⊎ HasRisen p0 p1)))
-valid_listed content None words l0 l1 p0 p1 held holds a b many is end = tt
-valid_listed content (Some named) words l0 l1 p0 p1 held holds a b many is end = λ valid.
-    valid_ends content named l0 l1 p0 p1 held holds a b many (subst (λ w. IsEnd content w (l0, l1) (p0, p1) (held, holds) (a, b) many) (same_Some words named is) end) valid
+pub valid_listed : (o : Option NamedList) (words : NamedList) (before after : Told) (many : Many) → Some words ≡ o → IsEnd words before after many
+    → IfSome o (λ named. IsValid before.content named
+    → (many ≡ Done) ⊎ ((many ≡ Memory) ⊎ (HasRisen before.load_faults after.load_faults ⊎ HasRisen (before.port_faults Log) (after.port_faults Log))))
+valid_listed None words before after many is end = tt
+valid_listed (Some named) words before after many is end = λ valid.
+    valid_ends named before after many (subst (λ w. IsEnd w before after many) (same_Some words named is) end) valid

@@ -2,7 +2,7 @@
 use Rattle.std.specs.Prelude.{ℕ, ◌≡◌, ◌+◌, ◌<◌, ◌≤◌, List, length, Option, Err, IfSome}
 use Rattle.link_script.specs.declared.fault.ScriptFault.TheVariants.{Line}
 use Rattle.outside_kit.specs.declared.port.Port.{Port}
-use Rattle.outside_kit.specs.Outside.{HasRisen}
+use Rattle.outside_kit.specs.Outside.{Told, HasRisen}
 use Rattle.connection_table.specs.Lists.{Names, list_reading}
 use Rattle.connection_table.specs.declared.many.Many.{Many}
 use Rattle.connection_table.specs.declared.many.Many.TheVariants as ends
@@ -10,10 +10,10 @@ use Rattle.connection_table.specs.Inputs.{AreWithin, Contents, IsLong}
 use Rattle.connection_table.specs.Scripts.{listed_reading}
 
 -- loads alone were made: what ports hold and their counts are as they were, and the count of loads doesn't fall
-pub record OnlyLoads (old new : ℕ) (ports_old ports_new : Port → ℕ) (held_old held_new : Port → Option (List ℕ)) : Type 0 where
-  pub counted : old ≤ new
-  pub counts : (port : Port) → ports_new port ≡ ports_old port
-  pub held : (port : Port) → held_new port ≡ held_old port
+pub record OnlyLoads (old new : Told) : Type 0 where
+  pub counted : old.load_faults ≤ new.load_faults
+  pub counts : (port : Port) → new.port_faults port ≡ old.port_faults port
+  pub held : (port : Port) → new.holds port ≡ old.holds port
 
 -- a load of what this line names, whose content may be told
 abbrev pub IsLoadFault : ℕ → Option (List ℕ) → ℕ → ℕ → Many → Type 0

@@ -5,7 +5,7 @@ use Rattle.outside_kit.specs.declared.port.Port.TheVariants.{Log}
 use Rattle.sides.specs.declared.side.Side.TheVariants.{A, B}
 use Rattle.outside_kit.specs.Calls.{Call, Made}
 use Rattle.outside_kit.specs.Calls as call
-use Rattle.outside_kit.specs.Outside.{HasRisen, HoldsAfter, HoldsPrefix}
+use Rattle.outside_kit.specs.Outside.{Told, HasRisen, HoldsAfter, HoldsPrefix}
 use Rattle.octet_text.specs.Prefix.{IsPrefix}
 use Rattle.clean_finish.specs.Bound.{enough}
 use Rattle.run_outside.specs.declared.input.Input.{Input}
@@ -70,12 +70,12 @@ abbrev pub loads_of_list : NamedList → List Names → List Call
 loads_of_list words names = joined (loads_by_line words.list names)
 
 -- the table of a list, before the first step of any connection, behind the loads of all
-pub record IsTableOf (content : Contents) (words : NamedList) (old new : Option (List Made)) (table : List Entry) : Type 0 where
+pub record IsTableOf (words : NamedList) (old new : Told) (table : List Entry) : Type 0 where
   pub names : List Names
   pub inputs : List Input
-  pub listed : AreListed content words names inputs
+  pub listed : AreListed old.content words names inputs
   pub table_is : table ≡ map opened_entry inputs
-  pub calls : AddsAll (loads_of_list words names) old new
+  pub calls : AddsAll (loads_of_list words names) old.calls new.calls
 
 -- ---- causes
 
@@ -129,19 +129,18 @@ puts_from number [] = []
 puts_from number (w ∷ ws) = call.Put Log (connection_line number w) ∷ puts_from (suc number) ws
 
 -- the line of each connection's own serial run was put, behind the loads of all
-pub record AllPut (content : Contents) (words : NamedList) (log : Option (List ℕ) × Option (List ℕ)) (calls : Option (List Made) × Option (List Made)) : Type 0 where
+pub record AllPut (words : NamedList) (old new : Told) : Type 0 where
   pub worlds : List Connection
-  pub of : AreOfList content words worlds
-  pub lines : HoldsAfter log.0 log.1 (λ held. held ++ lines_from 0 worlds)
-  pub calls_made : AddsAll (loads_of_list words of.names ++ puts_from 0 worlds) calls.0 calls.1
+  pub of : AreOfList old.content words worlds
+  pub lines : HoldsAfter (old.holds Log) (new.holds Log) (λ held. held ++ lines_from 0 worlds)
+  pub calls_made : AddsAll (loads_of_list words of.names ++ puts_from 0 worlds) old.calls new.calls
 
 -- a prefix of these lines, by some of these puts: P holds of the calls, of the loads and of the puts
-pub record SomePut (P : List Call → List Call → Option (List Made) → Option (List Made) → Type 0) (content : Contents) (words : NamedList)
-    (log : Option (List ℕ) × Option (List ℕ)) (calls : Option (List Made) × Option (List Made)) : Type 0 where
+pub record SomePut (P : List Call → List Call → Option (List Made) → Option (List Made) → Type 0) (words : NamedList) (old new : Told) : Type 0 where
   pub worlds : List Connection
-  pub of : AreOfList content words worlds
-  pub lines : HoldsPrefix log.0 log.1 (lines_from 0 worlds)
-  pub calls_made : P (loads_of_list words of.names) (puts_from 0 worlds) calls.0 calls.1
+  pub of : AreOfList old.content words worlds
+  pub lines : HoldsPrefix (old.holds Log) (new.holds Log) (lines_from 0 worlds)
+  pub calls_made : P (loads_of_list words of.names) (puts_from 0 worlds) old.calls new.calls
 
 -- loads and puts were made up to a put that failed (`UpToPut`), or up to any call, which may have failed (`UpToAny`)
 abbrev pub UpToPut : List Call → List Call → Option (List Made) → Option (List Made) → Type 0
@@ -183,19 +182,18 @@ IsPutFault old new ends.Memory = Unit {0}
 IsPutFault old new _ = ⊥
 
 -- nothing was put, and these loads were made
-pub record NonePut (content : Contents) (words : NamedList) (log : Option (List ℕ) × Option (List ℕ)) (calls : Option (List Made) × Option (List Made)) (many : Many) : Type 0 where
-  pub log_is : log.1 ≡ log.0
-  pub calls_made : ListAdds content words calls.0 calls.1 many
+pub record NonePut (words : NamedList) (old new : Told) (many : Many) : Type 0 where
+  pub log_is : new.holds Log ≡ old.holds Log
+  pub calls_made : ListAdds old.content words old.calls new.calls many
 
--- each answer has its cause: `loads` and `puts` are counts of faults before and after, `log` is what the log held, and `calls` are those
--- that were made
-abbrev pub IsEnd : Contents → NamedList → ℕ × ℕ → ℕ × ℕ → Option (List ℕ) × Option (List ℕ) → Option (List Made) × Option (List Made) → Many → Type 0
-IsEnd content words loads puts log calls ends.Done = AllPut content words log calls
-IsEnd content words loads puts log calls ends.Usage = ⊥
-IsEnd content words loads puts log calls ends.Put = HasRisen puts.0 puts.1 × SomePut UpToPut content words log calls
+-- each answer has its cause
+abbrev pub IsEnd : NamedList → Told → Told → Many → Type 0
+IsEnd words old new ends.Done = AllPut words old new
+IsEnd words old new ends.Usage = ⊥
+IsEnd words old new ends.Put = HasRisen (old.port_faults Log) (new.port_faults Log) × SomePut UpToPut words old new
 -- before any line was put, or behind some
-IsEnd content words loads puts log calls ends.Memory = NonePut content words log calls ends.Memory ⊎ SomePut UpToAny content words log calls
-IsEnd content words loads puts log calls many = IsLoadingFault content words loads.0 loads.1 many × NonePut content words log calls many
+IsEnd words old new ends.Memory = NonePut words old new ends.Memory ⊎ SomePut UpToAny words old new
+IsEnd words old new many = IsLoadingFault old.content words old.load_faults new.load_faults many × NonePut words old new many
 
 -- ---- a valid list
 

@@ -2,7 +2,6 @@
 
 ghost use Rattle.std.specs.Prelude.{◌≡◌, ◌<◌, ◌≤◌, ◌∷◌, [], ℕ, List, Ok, IfErr, IfOk, IfSome, OnErr, OnOk, length, map, vec_len};
 ghost use Rattle.outside_kit.specs.Calls as call;
-ghost use Rattle.outside_kit.specs.declared.port.Port.{Port};
 ghost use Rattle.run_outside.specs.Plan.{Adds, AddsAll, failed};
 ghost use Rattle.connection_table.specs.Lists.{as_names, list_reading};
 ghost use Rattle.connection_table.specs.Causes.{IsInputFault, IsListFault, IsLoadFault, IsScriptFault, OnlyLoads};
@@ -34,20 +33,18 @@ pub(crate) fn load<O: Outside>(
     name: &str,
 ) -> Result<Vec<u8>, Many>
     ensures whole { IfOk result
-        (λ bytes. IfSome (O.content outside.old name.now) (λ told. bytes.items ≡ told)) }
+        (λ bytes. IfSome ((O.told outside.old).content name.now) (λ told. bytes.items ≡ told)) }
     ensures within { IfOk result (λ bytes. vec_len bytes ≤ 65536) }
-    ensures told_within { OnOk result (IsWithin (O.content outside.old) name.now) }
-    ensures fault { IfErr result (IsLoadFault line (O.content outside.old name.now)
-        (O.load_faults outside.old) (O.load_faults outside.new)) }
-    ensures only { OnlyLoads (O.load_faults outside.old) (O.load_faults outside.new)
-        (O.port_faults outside.old) (O.port_faults outside.new)
-        (O.holds outside.old) (O.holds outside.new) }
+    ensures told_within { OnOk result (IsWithin (O.told outside.old).content name.now) }
+    ensures fault { IfErr result (IsLoadFault line ((O.told outside.old).content name.now)
+        (O.told outside.old).load_faults (O.told outside.new).load_faults) }
+    ensures only { OnlyLoads (O.told outside.old) (O.told outside.new) }
     ensures same_contents { (other : List ℕ) →
-        O.content outside.new other ≡ O.content outside.old other }
+        (O.told outside.new).content other ≡ (O.told outside.old).content other }
     ensures calls { OnOk result
-        (AddsAll (call.Load name.now ∷ []) (O.calls outside.old) (O.calls outside.new)) }
+        (AddsAll (call.Load name.now ∷ []) (O.told outside.old).calls (O.told outside.new).calls) }
     ensures calls_cut { OnErr result
-        (Adds (failed (call.Load name.now) ∷ []) (O.calls outside.old) (O.calls outside.new)) }
+        (Adds (failed (call.Load name.now) ∷ []) (O.told outside.old).calls (O.told outside.new).calls) }
 {
     match outside.load(alloc, name, MOST_OCTETS) {
         Ok(content) => Ok(content),
@@ -121,18 +118,16 @@ pub(crate) fn load_input<O: Outside>(
     entry: u8,
     listed: &Listed<'_>,
 ) -> Result<Input, Many>
-    ensures input { IfOk result (IsInput (O.content outside.old) (as_names listed.now)) }
-    ensures fault { IfErr result (IsInputFault entry (O.content outside.old) (as_names listed.now)
-        (O.load_faults outside.old) (O.load_faults outside.new)) }
-    ensures only { OnlyLoads (O.load_faults outside.old) (O.load_faults outside.new)
-        (O.port_faults outside.old) (O.port_faults outside.new)
-        (O.holds outside.old) (O.holds outside.new) }
+    ensures input { IfOk result (IsInput (O.told outside.old).content (as_names listed.now)) }
+    ensures fault { IfErr result (IsInputFault entry (O.told outside.old).content (as_names listed.now)
+        (O.told outside.old).load_faults (O.told outside.new).load_faults) }
+    ensures only { OnlyLoads (O.told outside.old) (O.told outside.new) }
     ensures same_contents { (other : List ℕ) →
-        O.content outside.new other ≡ O.content outside.old other }
+        (O.told outside.new).content other ≡ (O.told outside.old).content other }
     ensures calls { OnOk result
-        (AddsAll (loads_of (as_names listed.now)) (O.calls outside.old) (O.calls outside.new)) }
+        (AddsAll (loads_of (as_names listed.now)) (O.told outside.old).calls (O.told outside.new).calls) }
     ensures calls_cut { IfErr result
-        (InputAdds (loads_of (as_names listed.now)) (O.calls outside.old) (O.calls outside.new)) }
+        (InputAdds (loads_of (as_names listed.now)) (O.told outside.old).calls (O.told outside.new).calls) }
 {
     let line = u64::from(entry) + 1;
     let script = load(alloc, outside, line, listed.script)?;

@@ -1,6 +1,6 @@
 //! A run of many connections.
 
-ghost use Rattle.std.specs.Prelude.{◌≡◌, ◌≢◌, ◌⊎◌, ◌<◌, ◌≤◌, ◌++◌, ◌∷◌, ◌↔◌, ℕ, List, [], None, length, map, string_bytes, IfErr, IfSome, OnErr, OnOk};
+ghost use Rattle.std.specs.Prelude.{◌≡◌, ◌≢◌, ◌⊎◌, ◌<◌, ◌≤◌, ◌++◌, ◌∷◌, ◌↔◌, [], None, length, map, string_bytes, IfErr, IfSome, OnErr, OnOk};
 ghost use Rattle.outside_kit.specs.declared.port.Port.{Port};
 ghost use Rattle.outside_kit.specs.Outside.{HasRisen, HoldsAfter, HoldsPrefix};
 ghost use Rattle.connection_table.specs.ListWords.{as_words, words_in};
@@ -30,23 +30,23 @@ fn put_line<O: Outside>(
     connection: u8,
 ) -> Result<(), Many>
     requires { connection < length table.now }
-    ensures ok { OnOk result (HoldsAfter (O.holds outside.old Port.Log)
-        (O.holds outside.new Port.Log) (λ held. held ++ line_at connection table.now)) }
-    ensures err { OnErr result (HoldsPrefix (O.holds outside.old Port.Log)
-        (O.holds outside.new Port.Log) (line_at connection table.now)) }
+    ensures ok { OnOk result (HoldsAfter ((O.told outside.old).holds Port.Log)
+        ((O.told outside.new).holds Port.Log) (λ held. held ++ line_at connection table.now)) }
+    ensures err { OnErr result (HoldsPrefix ((O.told outside.old).holds Port.Log)
+        ((O.told outside.new).holds Port.Log) (line_at connection table.now)) }
     ensures fault { IfErr result
-        (IsPutFault (O.port_faults outside.old Port.Log) (O.port_faults outside.new Port.Log)) }
-    ensures counted { O.port_faults outside.old Port.Log ≤ O.port_faults outside.new Port.Log }
-    ensures loads { O.load_faults outside.new ≡ O.load_faults outside.old }
+        (IsPutFault ((O.told outside.old).port_faults Port.Log) ((O.told outside.new).port_faults Port.Log)) }
+    ensures counted { (O.told outside.old).port_faults Port.Log ≤ (O.told outside.new).port_faults Port.Log }
+    ensures loads { (O.told outside.new).load_faults ≡ (O.told outside.old).load_faults }
     ensures other_ports { (other : Port) → other ≢ Port.Log →
-        O.holds outside.new other ≡ O.holds outside.old other }
+        (O.told outside.new).holds other ≡ (O.told outside.old).holds other }
     ensures other_counts { (other : Port) → other ≢ Port.Log →
-        O.port_faults outside.new other ≡ O.port_faults outside.old other }
+        (O.told outside.new).port_faults other ≡ (O.told outside.old).port_faults other }
     ensures calls { OnOk result (AddsAll (call.Put Port.Log (line_at connection table.now) ∷ [])
-        (O.calls outside.old) (O.calls outside.new)) }
+        (O.told outside.old).calls (O.told outside.new).calls) }
     ensures calls_cut { IfErr result
         (PutAdds (call.Put Port.Log (line_at connection table.now) ∷ [])
-        (O.calls outside.old) (O.calls outside.new)) }
+        (O.told outside.old).calls (O.told outside.new).calls) }
 {
     let line = line(alloc, table, connection)?;
     match outside.put(Port::Log, line.as_bytes()) {
@@ -62,21 +62,21 @@ fn put_lines<O: Outside>(
     outside: &mut O,
     table: &ConnectionTable,
 ) -> Result<(), Many>
-    ensures ok { OnOk result (HoldsAfter (O.holds outside.old Port.Log)
-        (O.holds outside.new Port.Log) (λ held. held ++ lines_of table.now)) }
-    ensures err { OnErr result (HoldsPrefix (O.holds outside.old Port.Log)
-        (O.holds outside.new Port.Log) (lines_of table.now)) }
+    ensures ok { OnOk result (HoldsAfter ((O.told outside.old).holds Port.Log)
+        ((O.told outside.new).holds Port.Log) (λ held. held ++ lines_of table.now)) }
+    ensures err { OnErr result (HoldsPrefix ((O.told outside.old).holds Port.Log)
+        ((O.told outside.new).holds Port.Log) (lines_of table.now)) }
     ensures fault { IfErr result
-        (IsPutFault (O.port_faults outside.old Port.Log) (O.port_faults outside.new Port.Log)) }
-    ensures loads { O.load_faults outside.new ≡ O.load_faults outside.old }
+        (IsPutFault ((O.told outside.old).port_faults Port.Log) ((O.told outside.new).port_faults Port.Log)) }
+    ensures loads { (O.told outside.new).load_faults ≡ (O.told outside.old).load_faults }
     ensures other_ports { (other : Port) → other ≢ Port.Log →
-        O.holds outside.new other ≡ O.holds outside.old other }
+        (O.told outside.new).holds other ≡ (O.told outside.old).holds other }
     ensures other_counts { (other : Port) → other ≢ Port.Log →
-        O.port_faults outside.new other ≡ O.port_faults outside.old other }
+        (O.told outside.new).port_faults other ≡ (O.told outside.old).port_faults other }
     ensures calls { OnOk result (AddsAll (puts_from 0 (map state_of table.now))
-        (O.calls outside.old) (O.calls outside.new)) }
+        (O.told outside.old).calls (O.told outside.new).calls) }
     ensures calls_cut { IfErr result (PutAdds (puts_from 0 (map state_of table.now))
-        (O.calls outside.old) (O.calls outside.new)) }
+        (O.told outside.old).calls (O.told outside.new).calls) }
 {
     for connection in 0..table.len() {
         put_line(alloc, outside, table, connection)?;
@@ -92,15 +92,13 @@ fn admit_listed<O: Outside>(
     table: &mut ConnectionTable,
 ) -> Result<(), Many>
     requires { table.old ≡ [] }
-    ensures ok { OnOk result (IsTableOf (O.content outside.old) (as_words words.now)
-        (O.calls outside.old) (O.calls outside.new) table.new) }
-    ensures fault { IfErr result (IsLoadingFault (O.content outside.old) (as_words words.now)
-        (O.load_faults outside.old) (O.load_faults outside.new)) }
-    ensures only { OnlyLoads (O.load_faults outside.old) (O.load_faults outside.new)
-        (O.port_faults outside.old) (O.port_faults outside.new)
-        (O.holds outside.old) (O.holds outside.new) }
-    ensures calls { IfErr result (ListAdds (O.content outside.old) (as_words words.now)
-        (O.calls outside.old) (O.calls outside.new)) }
+    ensures ok { OnOk result (IsTableOf (as_words words.now)
+        (O.told outside.old) (O.told outside.new) table.new) }
+    ensures fault { IfErr result (IsLoadingFault (O.told outside.old).content (as_words words.now)
+        (O.told outside.old).load_faults (O.told outside.new).load_faults) }
+    ensures only { OnlyLoads (O.told outside.old) (O.told outside.new) }
+    ensures calls { IfErr result (ListAdds (O.told outside.old).content (as_words words.now)
+        (O.told outside.old).calls (O.told outside.new).calls) }
 {
     let list = load(alloc, outside, 0, words.list)?;
     let listed = connections_of(alloc, &list)?;
@@ -110,20 +108,13 @@ fn admit_listed<O: Outside>(
 /// Runs the connections of a list.
 fn run<O: Outside>(alloc: Global, outside: &mut O, words: &ListWords<'_>) -> Result<(), Many>
     requires { 1 ≤ words.now.rounds }
-    ensures done { OnOk result (IsEnd (O.content outside.old) (as_words words.now)
-        (O.load_faults outside.old, O.load_faults outside.new)
-        (O.port_faults outside.old Port.Log, O.port_faults outside.new Port.Log)
-        (O.holds outside.old Port.Log, O.holds outside.new Port.Log)
-        (O.calls outside.old, O.calls outside.new) Many.Done) }
-    ensures ends { IfErr result (IsEnd (O.content outside.old) (as_words words.now)
-        (O.load_faults outside.old, O.load_faults outside.new)
-        (O.port_faults outside.old Port.Log, O.port_faults outside.new Port.Log)
-        (O.holds outside.old Port.Log, O.holds outside.new Port.Log)
-        (O.calls outside.old, O.calls outside.new)) }
+    ensures done { OnOk result (IsEnd (as_words words.now)
+        (O.told outside.old) (O.told outside.new) Many.Done) }
+    ensures ends { IfErr result (IsEnd (as_words words.now) (O.told outside.old) (O.told outside.new)) }
     ensures other_ports { (other : Port) → other ≢ Port.Log →
-        O.holds outside.new other ≡ O.holds outside.old other }
+        (O.told outside.new).holds other ≡ (O.told outside.old).holds other }
     ensures other_counts { (other : Port) → other ≢ Port.Log →
-        O.port_faults outside.new other ≡ O.port_faults outside.old other }
+        (O.told outside.new).port_faults other ≡ (O.told outside.old).port_faults other }
 {
     let mut table = ConnectionTable::new(alloc);
     admit_listed(alloc, outside, words, &mut table)?;
@@ -145,29 +136,23 @@ pub fn run_many<O: Outside>(alloc: Global, words: &[String], outside: &mut O) ->
     // prefix of these lines; at every other answer nothing was put, and each answer has its cause. What was run is within its
     // limits, and each connection has its own token; so are those before the one that is refused. The calls are the loads in order,
     // and behind them one put a connection, up to one that failed, or for want of memory to any of them.
-    ensures ends { IfSome (words_in (map string_bytes words.now)) (λ named. IsEnd
-        (O.content outside.old) named
-        (O.load_faults outside.old, O.load_faults outside.new)
-        (O.port_faults outside.old Port.Log, O.port_faults outside.new Port.Log)
-        (O.holds outside.old Port.Log, O.holds outside.new Port.Log)
-        (O.calls outside.old, O.calls outside.new) result) }
+    ensures ends { IfSome (words_in (map string_bytes words.now)) (λ named. IsEnd named
+        (O.told outside.old) (O.told outside.new) result) }
     // At `Usage` no call was made, and nothing changed.
-    ensures unasked { result ≡ Many.Usage → O.calls outside.new ≡ O.calls outside.old }
+    ensures unasked { result ≡ Many.Usage → (O.told outside.new).calls ≡ (O.told outside.old).calls }
     ensures unloaded { result ≡ Many.Usage →
-        O.load_faults outside.new ≡ O.load_faults outside.old }
-    ensures refused { result ≡ Many.Usage → IsUntouched
-        (O.holds outside.old) (O.holds outside.new)
-        (O.port_faults outside.old) (O.port_faults outside.new) }
+        (O.told outside.new).load_faults ≡ (O.told outside.old).load_faults }
+    ensures refused { result ≡ Many.Usage → IsUntouched (O.told outside.old) (O.told outside.new) }
     // Of a valid list each connection has its line, unless the outside fails or memory runs out.
     ensures valid { IfSome (words_in (map string_bytes words.now)) (λ named.
-        IsValid (O.content outside.old) named → (result ≡ Many.Done) ⊎ ((result ≡ Many.Memory)
-        ⊎ (HasRisen (O.load_faults outside.old) (O.load_faults outside.new)
-        ⊎ HasRisen (O.port_faults outside.old Port.Log) (O.port_faults outside.new Port.Log)))) }
+        IsValid (O.told outside.old).content named → (result ≡ Many.Done) ⊎ ((result ≡ Many.Memory)
+        ⊎ (HasRisen (O.told outside.old).load_faults (O.told outside.new).load_faults
+        ⊎ HasRisen ((O.told outside.old).port_faults Port.Log) ((O.told outside.new).port_faults Port.Log)))) }
     // Whatever the answer, the other ports are as they were.
     ensures other_ports { (other : Port) → other ≢ Port.Log →
-        O.holds outside.new other ≡ O.holds outside.old other }
+        (O.told outside.new).holds other ≡ (O.told outside.old).holds other }
     ensures other_counts { (other : Port) → other ≢ Port.Log →
-        O.port_faults outside.new other ≡ O.port_faults outside.old other }
+        (O.told outside.new).port_faults other ≡ (O.told outside.old).port_faults other }
 {
     let Some(words) = read_list_words(words) else {
         return Many::Usage;

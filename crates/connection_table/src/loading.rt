@@ -48,18 +48,16 @@ pub(crate) fn admit_all<O: Outside>(
     requires empty { table.old ≡ [] }
     requires few { length listed.now ≤ 64 }
     ensures ok { OnOk result
-        (AreAdmitted (O.content outside.old) (map as_names listed.now) table.new) }
-    ensures fault { IfErr result (IsListedFault (O.content outside.old) (map as_names listed.now)
-        (O.load_faults outside.old) (O.load_faults outside.new)) }
-    ensures only { OnlyLoads (O.load_faults outside.old) (O.load_faults outside.new)
-        (O.port_faults outside.old) (O.port_faults outside.new)
-        (O.holds outside.old) (O.holds outside.new) }
+        (AreAdmitted (O.told outside.old).content (map as_names listed.now) table.new) }
+    ensures fault { IfErr result (IsListedFault (O.told outside.old).content (map as_names listed.now)
+        (O.told outside.old).load_faults (O.told outside.new).load_faults) }
+    ensures only { OnlyLoads (O.told outside.old) (O.told outside.new) }
     ensures same_contents { (other : List ℕ) →
-        O.content outside.new other ≡ O.content outside.old other }
+        (O.told outside.new).content other ≡ (O.told outside.old).content other }
     ensures calls { OnOk result (AddsAll (joined (map loads_of (map as_names listed.now)))
-        (O.calls outside.old) (O.calls outside.new)) }
+        (O.told outside.old).calls (O.told outside.new).calls) }
     ensures calls_cut { IfErr result (LinesAdd ([] ∷ map loads_of (map as_names listed.now))
-        (O.calls outside.old) (O.calls outside.new)) }
+        (O.told outside.old).calls (O.told outside.new).calls) }
 {
     for entry in listed {
         let number = table.len();

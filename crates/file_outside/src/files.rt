@@ -119,18 +119,15 @@ fn put_log<R: Print>(rt: &R, count: &mut u64, piece: &[u8]) -> Result<(), PutFau
 impl<R: Files + Print + Alloc<A = Global>> Outside for FileOutside<'_, R> {
     ghost use Rattle.file_outside.specs.Counts.{count_of};
 
-    ghost content = { λ _ _. None };
-
-    ghost source = { λ _ _. None };
-
-    ghost holds = { λ _ _. None };
-
-    ghost load_faults = { λ outside. outside.load_faults };
-
-    ghost port_faults = { λ outside port.
-        count_of outside.read_by_a_faults outside.read_by_b_faults outside.log_faults port };
-
-    ghost calls = { λ _. None };
+    ghost told = { λ outside. record {
+      content = λ _. None;
+      source = λ _. None;
+      holds = λ _. None;
+      load_faults = outside.load_faults;
+      port_faults =
+          count_of outside.read_by_a_faults outside.read_by_b_faults outside.log_faults;
+      calls = None;
+    } };
 
     fn load(&mut self, alloc: Global, name: &str, limit: u64) -> Result<Vec<u8>, LoadFault> {
         match read_front(self.rt, alloc, name, limit) {

@@ -14,7 +14,7 @@ ghost use Rattle.journal_weave.specs.Weaving.{AreOwn, lists_in};
 use crate::journals::are_journals;
 use crate::weaving::weave;
 use actor_desk::{Books, Crew};
-use outside_kit::Gate;
+use actor_turn::Gate;
 use path_core::Path;
 use ruled_desk::{gaining_alike_stays_paired, round_at_tables};
 use stamped_book::Refusal;

@@ -1,7 +1,6 @@
 -- What each call makes of a link. `strip` takes a segment's Multipath TCP options away, and `alter` turns the lowest bit
 -- of its first payload octet, where it comes from this side.
-use Rattle.std.specs.Prelude.{ℕ, zero, suc, ◌+◌, Bool, false, ◌&&◌, ◌||◌, ◌==◌, nat_lt, if◌then◌else◌, List, [], ◌∷◌, Option, Some, None, filter, remove, find, position}
-use Rattle.outside_kit.specs.Memory.{one_more as counted}
+use Rattle.std.specs.Prelude.{ℕ, zero, suc, ◌+◌, ◌-◌, ◌^◌, min, Bool, false, ◌&&◌, ◌||◌, ◌==◌, nat_lt, if◌then◌else◌, List, [], ◌∷◌, Option, Some, None, filter, remove, find, position}
 use Rattle.sides.specs.declared.side.Side.{Side}
 use Rattle.sides.specs.declared.side.Side.TheVariants.{A, B}
 use Rattle.sides.specs.Side.{peer}
@@ -43,7 +42,10 @@ abbrev pub segments_sent : {C : Type 0} → Side → LinkState C → ℕ
 segments_sent A link = link.from_a
 segments_sent B link = link.from_b
 
--- counts stand still at 2 ^ 64 - 1
+-- a count goes up by one, and stands still at 2 ^ 64 - 1
+abbrev pub counted : ℕ → ℕ
+counted count = min (count + 1) (2 ^ 64 - 1)
+
 abbrev pub one_more : {C : Type 0} → Side → LinkState C → LinkState C
 one_more A link = record link { from_a = counted link.from_a }
 one_more B link = record link { from_b = counted link.from_b }

@@ -4,7 +4,7 @@ use Rattle.std.proofs.Math.Seq.{take-append-add}
 use Rattle.std.proofs.lemmas.Bool.Decides.{leb_tells}
 use Rattle.std.proofs.lemmas.List.{drop-drop}
 use Rattle.outside_kit.specs.declared.port.Port.{Port}
-use Rattle.outside_kit.specs.Outside.{HasRisen, HoldsAfter, HoldsPrefix}
+use Rattle.outside_kit.specs.Outside.{Told, HasRisen, HoldsAfter, HoldsPrefix}
 use Rattle.message_pipe.specs.Frames.{frame_of, frames, HaveFrames}
 use Rattle.message_pipe.specs.Lines.{line_of, message_lines}
 use Rattle.message_pipe.specs.Showing.{ShowsMore, ShowsPart, StaysElsewhere}
@@ -98,9 +98,8 @@ none_more octets from held within = record { messages = []; have = tt; within = 
     by None = tt
     by (Some text) = ap (λ t. Some t) (sym (append-nil text))
 
-pub stays_then : (port : Port) (c0 c1 c2 : List ℕ → Option (List ℕ)) (h0 h1 h2 : Port → Option (List ℕ)) (f0 f1 f2 : Port → ℕ) (l0 l1 l2 : ℕ)
-    → StaysElsewhere port c0 c1 h0 h1 f0 f1 l0 l1 → StaysElsewhere port c1 c2 h1 h2 f1 f2 l1 l2 → StaysElsewhere port c0 c2 h0 h2 f0 f2 l0 l2
-stays_then port c0 c1 c2 h0 h1 h2 f0 f1 f2 l0 l1 l2 a b = record {
+pub stays_then : (port : Port) (t u v : Told) → StaysElsewhere port t u → StaysElsewhere port u v → StaysElsewhere port t v
+stays_then port t u v a b = record {
   told = λ name told. b.told name (a.told name told);
   counted = let x = a.counted in let y = b.counted in omega arith;
   other_ports = λ other apart. b.other_ports other apart ∙ a.other_ports other apart;

@@ -1,9 +1,10 @@
 -- An outside whose files and readers' ports have lines that are messages.
-use Rattle.std.specs.Prelude.{ℕ, ◌||◌, if◌then◌else◌, List, Option, Some, option_map}
+use Rattle.std.specs.Prelude.{ℕ, ◌||◌, if◌then◌else◌, List, Option, Some, None, option_map}
 use Rattle.std.specs.Str.{bytes_eq}
 use Rattle.outside_kit.specs.declared.port.Port.{Port}
 use Rattle.outside_kit.specs.declared.port.Port.TheVariants.{ReadByA, ReadByB, Log}
 use Rattle.outside_kit.specs.Calls.{Made}
+use Rattle.outside_kit.specs.Outside.{Told}
 use Rattle.message_pipe.specs.Lines.{framed}
 use Rattle.message_pipe.specs.Showing.{Counted, PortStands}
 
@@ -19,6 +20,10 @@ pub record Lined (O : Type 0) : Type 0 where
 -- of these two names the content is the frames of the lines of what lies below; of others it is that itself
 abbrev pub lined_content : List ℕ → List ℕ → (List ℕ → Option (List ℕ)) → List ℕ → Option (List ℕ)
 lined_content file_a file_b content name = if bytes_eq name file_a || bytes_eq name file_b then option_map framed (content name) else content name
+
+-- what an outside tells of which that is so, and whose calls aren't told
+abbrev pub framed_told : List ℕ → List ℕ → Told → Told
+framed_told file_a file_b t = record t { content = lined_content file_a file_b t.content; calls = None }
 
 -- a reader's port holds what was put for it
 abbrev pub lined_holds : List ℕ → List ℕ → (Port → Option (List ℕ)) → Port → Option (List ℕ)

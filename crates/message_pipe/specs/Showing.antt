@@ -4,7 +4,7 @@ use Rattle.outside_kit.specs.declared.port.Port.{Port}
 use Rattle.message_pipe.specs.declared.line_port.LinePort.{LinePort}
 use Rattle.outside_kit.specs.declared.outside.PutFault.{PutFault}
 use Rattle.outside_kit.specs.declared.outside.PutFault.TheVariants.{Failed}
-use Rattle.outside_kit.specs.Outside.{HasRisen, HoldsAfter, HoldsPrefix}
+use Rattle.outside_kit.specs.Outside.{Told, HasRisen, HoldsAfter, HoldsPrefix}
 use Rattle.octet_text.specs.Prefix.{IsPrefix}
 use Rattle.message_pipe.specs.Frames.{frames, HaveFrames, first_message}
 use Rattle.message_pipe.specs.Lines.{message_lines}
@@ -28,13 +28,12 @@ pub record ShowsPart (octets : List ℕ) (from : ℕ) (old new : Option (List �
   pub shown_is : HoldsPrefix old new (message_lines messages)
 
 -- after puts to this port: what was told is told, no count falls, and other ports and their counts are as they were
-pub record StaysElsewhere (port : Port) (content_before content : List ℕ → Option (List ℕ)) (held holds : Port → Option (List ℕ))
-    (faults_before faults : Port → ℕ) (loads_before loads : ℕ) : Type 0 where
-  pub told : (name : List ℕ) → IsSome (content_before name) → IsSome (content name)
-  pub counted : faults_before port ≤ faults port
-  pub other_ports : (other : Port) → other ≢ port → holds other ≡ held other
-  pub other_counts : (other : Port) → other ≢ port → faults other ≡ faults_before other
-  pub load_counts : loads ≡ loads_before
+pub record StaysElsewhere (port : Port) (old new : Told) : Type 0 where
+  pub told : (name : List ℕ) → IsSome (old.content name) → IsSome (new.content name)
+  pub counted : old.port_faults port ≤ new.port_faults port
+  pub other_ports : (other : Port) → other ≢ port → new.holds other ≡ old.holds other
+  pub other_counts : (other : Port) → other ≢ port → new.port_faults other ≡ old.port_faults other
+  pub load_counts : new.load_faults ≡ old.load_faults
 
 -- ---- ports
 

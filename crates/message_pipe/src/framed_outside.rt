@@ -58,20 +58,9 @@ impl<O: Outside> FramedOutside<O> {
 }
 
 impl<O: Outside> Outside for FramedOutside<O> {
-    ghost use Rattle.std.specs.Prelude.{None};
-    ghost use Rattle.message_pipe.specs.Lined.{lined_content};
+    ghost use Rattle.message_pipe.specs.Lined.{framed_told};
 
-    ghost content = { λ framed. lined_content framed.file_a framed.file_b (O.content framed.inner) };
-
-    ghost source = { λ framed. O.source framed.inner };
-
-    ghost holds = { λ framed. O.holds framed.inner };
-
-    ghost load_faults = { λ framed. O.load_faults framed.inner };
-
-    ghost port_faults = { λ framed. O.port_faults framed.inner };
-
-    ghost calls = { λ _. None };
+    ghost told = { λ framed. framed_told framed.file_a framed.file_b (O.told framed.inner) };
 
     fn load(&mut self, alloc: Global, name: &str, limit: u64) -> Result<Vec<u8>, LoadFault> {
         let lined = (self.file_a.as_str(), self.file_b.as_str());

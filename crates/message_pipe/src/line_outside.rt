@@ -1,6 +1,6 @@
 //! An outside over another one, whose files and readers' ports have lines where this one has frames.
 
-ghost use Rattle.std.specs.Prelude.{◌≡◌, ◌≢◌, ◌^◌, ◌<◌, ◌≤◌, ℕ, List, [], Option, None, Some, length, vec_len, is_ok, option_map, string_bytes, IfOk, IfSome, OnOk, OnErr};
+ghost use Rattle.std.specs.Prelude.{◌≡◌, ◌^◌, ◌<◌, ◌≤◌, ℕ, List, [], Option, None, Some, length, vec_len, is_ok, string_bytes, IfOk, IfSome, OnOk, OnErr};
 ghost use Rattle.outside_kit.specs.declared.port.Port.{Port};
 ghost use Rattle.outside_kit.specs.Outside.{HasRisen};
 ghost use Rattle.outside_kit.specs.Calls.{Load, Bind, AreCallsAfter};
@@ -75,9 +75,9 @@ impl<O: Outside, N: Naming> Model for LineOutside<O, N> {
     ghost invariant = { λ lines. (lines.read_by_a.end ≤ length lines.read_by_a.octets.items)
         × (lines.read_by_b.end ≤ length lines.read_by_b.octets.items)
         × PortsStand (counted_of lines.read_by_a) (counted_of lines.read_by_b) N.held
-        (O.holds lines.inner) N.faults (O.port_faults lines.inner)
+        (O.told lines.inner).holds N.faults (O.told lines.inner).port_faults
         × CallsStand lines.trace.calls (counted_of lines.read_by_a) (counted_of lines.read_by_b)
-        N.calls (O.calls lines.inner) };
+        N.calls (O.told lines.inner).calls };
 }
 
 /// Loads a content through the outside below, as the frames of its lines where the name is one of these two.
@@ -90,25 +90,25 @@ pub(crate) fn load_from<O: Outside>(
 ) -> Result<Vec<u8>, LoadFault>
     requires { limit < 2 ^ 32 }
     ensures whole { IfOk result
-        (λ bytes. IfSome (lined_content lined.entry.0.now lined.entry.1.now (O.content inner.old)
+        (λ bytes. IfSome (lined_content lined.entry.0.now lined.entry.1.now (O.told inner.old).content
         name.now) (λ told. bytes.items ≡ told)) }
     ensures within { IfOk result (λ bytes. vec_len bytes ≤ limit) }
     ensures too_long { result ≡ Err LoadFault.TooLong →
-        IfSome (lined_content lined.entry.0.now lined.entry.1.now (O.content inner.old) name.now)
+        IfSome (lined_content lined.entry.0.now lined.entry.1.now (O.told inner.old).content name.now)
         (λ told. limit < length told) }
     ensures source_within { OnOk result
-        (IfSome (O.source inner.old name.now) (λ told. length told ≤ limit)) }
+        (IfSome ((O.told inner.old).source name.now) (λ told. length told ≤ limit)) }
     ensures fits { result ≡ Err LoadFault.Memory →
-        IfSome (O.source inner.old name.now) (λ told. length told ≤ limit) }
-    ensures counted { O.load_faults inner.old ≤ O.load_faults inner.new }
+        IfSome ((O.told inner.old).source name.now) (λ told. length told ≤ limit) }
+    ensures counted { (O.told inner.old).load_faults ≤ (O.told inner.new).load_faults }
     ensures failed { result ≡ Err LoadFault.Failed →
-        HasRisen (O.load_faults inner.old) (O.load_faults inner.new) }
+        HasRisen (O.told inner.old).load_faults (O.told inner.new).load_faults }
     ensures same_contents { (other : List ℕ) →
-        O.content inner.new other ≡ O.content inner.old other }
-    ensures same_ports { (port : Port) → O.holds inner.new port ≡ O.holds inner.old port }
+        (O.told inner.new).content other ≡ (O.told inner.old).content other }
+    ensures same_ports { (port : Port) → (O.told inner.new).holds port ≡ (O.told inner.old).holds port }
     ensures same_counts { (port : Port) →
-        O.port_faults inner.new port ≡ O.port_faults inner.old port }
-    ensures calls { LoadComes name.now (is_ok result) (O.calls inner.old) (O.calls inner.new) }
+        (O.told inner.new).port_faults port ≡ (O.told inner.old).port_faults port }
+    ensures calls { LoadComes name.now (is_ok result) (O.told inner.old).calls (O.told inner.new).calls }
 {
     let bytes = inner.load(alloc, name, limit)?;
     if name == lined.0 || name == lined.1 {
@@ -131,18 +131,15 @@ fn bind_for<O: Outside>(
     ensures empty { OnOk result (lines.new.octets.items ≡ []) }
     ensures err { OnErr result (lines.new.octets.items ≡ lines.old.octets.items) }
     ensures stands { (first : Option (List ℕ)) (faults_first : ℕ) →
-        PortStands (counted_of lines.old) first (O.holds inner.old port) faults_first
-        (O.port_faults inner.old port) →
-        PortStands (counted_of lines.new) first (O.holds inner.new port) faults_first
-        (O.port_faults inner.new port) }
-    ensures stays { StaysElsewhere port (O.content inner.old) (O.content inner.new)
-        (O.holds inner.old) (O.holds inner.new)
-        (O.port_faults inner.old) (O.port_faults inner.new) (O.load_faults inner.old)
-        (O.load_faults inner.new) }
+        PortStands (counted_of lines.old) first ((O.told inner.old).holds port) faults_first
+        ((O.told inner.old).port_faults port) →
+        PortStands (counted_of lines.new) first ((O.told inner.new).holds port) faults_first
+        ((O.told inner.new).port_faults port) }
+    ensures stays { StaysElsewhere port (O.told inner.old) (O.told inner.new) }
     ensures failed { result ≡ Err PutFault.Failed →
-        HasRisen (O.port_faults inner.old port) (O.port_faults inner.new port) }
-    ensures calls { AreCallsAfter (Bind port name.now) (is_ok result) (O.calls inner.old)
-        (O.calls inner.new) }
+        HasRisen ((O.told inner.old).port_faults port) ((O.told inner.new).port_faults port) }
+    ensures calls { AreCallsAfter (Bind port name.now) (is_ok result) (O.told inner.old).calls
+        (O.told inner.new).calls }
     ensures fresh { OnOk result (passed_of (counted_of lines.new) ≡ nothing_passed) }
     ensures unrefused { OnOk result (lines.new.refused ≡ None) }
 {
@@ -162,11 +159,11 @@ impl<O: Outside, N: Naming> LineOutside<O, N> {
     /// Over this outside, with lines in the contents of these two names. Of the readers' ports it has to tell that they are empty,
     /// where it tells what they hold.
     pub fn new(alloc: Global, inner: O, file_a: String, file_b: String) -> Self
-        requires held { (port : Port) → N.held port ≡ O.holds inner port }
-        requires faults { (port : Port) → N.faults port ≡ O.port_faults inner port }
-        requires calls { N.calls ≡ O.calls inner }
-        requires empty_a { IfSome (O.holds inner Port.ReadByA) (λ text. text ≡ []) }
-        requires empty_b { IfSome (O.holds inner Port.ReadByB) (λ text. text ≡ []) }
+        requires held { (port : Port) → N.held port ≡ (O.told inner).holds port }
+        requires faults { (port : Port) → N.faults port ≡ (O.told inner).port_faults port }
+        requires calls { N.calls ≡ (O.told inner).calls }
+        requires empty_a { IfSome ((O.told inner).holds Port.ReadByA) (λ text. text ≡ []) }
+        requires empty_b { IfSome ((O.told inner).holds Port.ReadByB) (λ text. text ≡ []) }
         ensures { result ≡ record {
           inner = inner;
           file_a = string_bytes file_a;
@@ -192,10 +189,10 @@ impl<O: Outside, N: Naming> LineOutside<O, N> {
     /// on it are those that the calls on this one came to.
     pub fn into_inner(self) -> O
         ensures inner { result ≡ self.inner }
-        ensures ports { PortsStand self.read_by_a self.read_by_b N.held (O.holds result) N.faults
-            (O.port_faults result) }
+        ensures ports { PortsStand self.read_by_a self.read_by_b N.held (O.told result).holds N.faults
+            (O.told result).port_faults }
         ensures calls { CallsStand self.calls self.read_by_a self.read_by_b N.calls
-            (O.calls result) }
+            (O.told result).calls }
     {
         let LineOutside {
             alloc: _,
@@ -215,18 +212,11 @@ impl<O: Outside, N: Naming> Outside for LineOutside<O, N> {
     ghost use Rattle.std.specs.Prelude.{Some};
     ghost use Rattle.message_pipe.specs.Lined.{lined_content, lined_holds};
 
-    ghost content = { λ lines. lined_content lines.file_a lines.file_b (O.content lines.inner) };
-
-    ghost source = { λ lines. O.source lines.inner };
-
-    ghost holds = { λ lines. lined_holds lines.read_by_a.octets lines.read_by_b.octets
-        (O.holds lines.inner) };
-
-    ghost load_faults = { λ lines. O.load_faults lines.inner };
-
-    ghost port_faults = { λ lines. O.port_faults lines.inner };
-
-    ghost calls = { λ lines. Some lines.calls };
+    ghost told = { λ lines. record (O.told lines.inner) {
+      content = lined_content lines.file_a lines.file_b (O.told lines.inner).content;
+      holds = lined_holds lines.read_by_a.octets lines.read_by_b.octets (O.told lines.inner).holds;
+      calls = Some lines.calls;
+    } };
 
     fn load(&mut self, alloc: Global, name: &str, limit: u64) -> Result<Vec<u8>, LoadFault> {
         let lined = (self.file_a.as_str(), self.file_b.as_str());

@@ -47,23 +47,20 @@ fn show<O: Outside>(
     ensures octets { lines.new.octets.items ≡ lines.old.octets.items }
     ensures within { lines.new.end ≤ length lines.new.octets.items }
     ensures ok { OnOk result (ShowsMore lines.old.octets.items lines.old.end lines.new.end
-        (O.holds outside.old port) (O.holds outside.new port)) }
+        ((O.told outside.old).holds port) ((O.told outside.new).holds port)) }
     ensures all { OnOk result (first_message (drop lines.new.end lines.old.octets.items) ≡ None) }
     ensures kept { OnOk result (lines.new.refused ≡ lines.old.refused) }
     ensures err { OnErr result
-        (ShowsPart lines.old.octets.items lines.old.end (O.holds outside.old port)
-        (O.holds outside.new port)) }
+        (ShowsPart lines.old.octets.items lines.old.end ((O.told outside.old).holds port)
+        ((O.told outside.new).holds port)) }
     ensures puts { OnOk result (PutsMore port lines.old.octets.items lines.old.end lines.new.end
-        (O.calls outside.old) (O.calls outside.new)) }
+        (O.told outside.old).calls (O.told outside.new).calls) }
     ensures part { OnErr result (PutsPart port lines.old.octets.items lines.old.end
-        (O.calls outside.old) (O.calls outside.new)) }
+        (O.told outside.old).calls (O.told outside.new).calls) }
     ensures refused { IfErr result (λ fault. lines.new.refused ≡ Some fault) }
-    ensures stays { StaysElsewhere port (O.content outside.old) (O.content outside.new)
-        (O.holds outside.old) (O.holds outside.new)
-        (O.port_faults outside.old) (O.port_faults outside.new) (O.load_faults outside.old)
-        (O.load_faults outside.new) }
+    ensures stays { StaysElsewhere port (O.told outside.old) (O.told outside.new) }
     ensures failed { result ≡ Err PutFault.Failed →
-        HasRisen (O.port_faults outside.old port) (O.port_faults outside.new port) }
+        HasRisen ((O.told outside.old).port_faults port) ((O.told outside.new).port_faults port) }
 {
     match show_messages(alloc, outside, port, &lines.octets, lines.end) {
         Ok(end) => {
@@ -93,19 +90,16 @@ pub(crate) fn put_for<O: Outside>(
         (HoldsPrefix (Some lines.old.octets.items) (Some lines.new.octets.items) piece.now) }
     ensures comes { PieceComes port lines.old.refused
         (passed_of (counted_of lines.old)) piece.now (is_ok result)
-        (passed_of (counted_of lines.new)) (O.calls outside.old) (O.calls outside.new) }
+        (passed_of (counted_of lines.new)) (O.told outside.old).calls (O.told outside.new).calls }
     ensures unrefused { OnOk result (lines.old.refused ≡ None → lines.new.refused ≡ None) }
     ensures stands { (first : Option (List ℕ)) (faults_first : ℕ) →
-        PortStands (counted_of lines.old) first (O.holds outside.old port) faults_first
-        (O.port_faults outside.old port) →
-        PortStands (counted_of lines.new) first (O.holds outside.new port) faults_first
-        (O.port_faults outside.new port) }
-    ensures stays { StaysElsewhere port (O.content outside.old) (O.content outside.new)
-        (O.holds outside.old) (O.holds outside.new)
-        (O.port_faults outside.old) (O.port_faults outside.new) (O.load_faults outside.old)
-        (O.load_faults outside.new) }
+        PortStands (counted_of lines.old) first ((O.told outside.old).holds port) faults_first
+        ((O.told outside.old).port_faults port) →
+        PortStands (counted_of lines.new) first ((O.told outside.new).holds port) faults_first
+        ((O.told outside.new).port_faults port) }
+    ensures stays { StaysElsewhere port (O.told outside.old) (O.told outside.new) }
     ensures failed { result ≡ Err PutFault.Failed →
-        HasRisen (O.port_faults outside.old port) (O.port_faults outside.new port) }
+        HasRisen ((O.told outside.old).port_faults port) ((O.told outside.new).port_faults port) }
 {
     let Ok(()) = lines.octets.extend_from_slice(piece) else {
         return Err(PutFault::Memory);

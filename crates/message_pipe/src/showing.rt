@@ -28,20 +28,17 @@ fn put_line<O: Outside>(
     port: Port,
     message: &[u8],
 ) -> Result<(), PutFault>
-    ensures ok { OnOk result (HoldsAfter (O.holds outside.old port) (O.holds outside.new port)
+    ensures ok { OnOk result (HoldsAfter ((O.told outside.old).holds port) ((O.told outside.new).holds port)
         (λ held. held ++ line_of message.now)) }
     ensures err { OnErr result
-        (HoldsPrefix (O.holds outside.old port) (O.holds outside.new port) (line_of message.now)) }
+        (HoldsPrefix ((O.told outside.old).holds port) ((O.told outside.new).holds port) (line_of message.now)) }
     ensures one { OnOk result (AreAdded (made true (Put port (line_of message.now)) ∷ [])
-        (O.calls outside.old) (O.calls outside.new)) }
-    ensures refused { OnErr result (LineRefused port message.now (O.calls outside.old)
-        (O.calls outside.new)) }
-    ensures stays { StaysElsewhere port (O.content outside.old) (O.content outside.new)
-        (O.holds outside.old) (O.holds outside.new)
-        (O.port_faults outside.old) (O.port_faults outside.new) (O.load_faults outside.old)
-        (O.load_faults outside.new) }
+        (O.told outside.old).calls (O.told outside.new).calls) }
+    ensures refused { OnErr result (LineRefused port message.now (O.told outside.old).calls
+        (O.told outside.new).calls) }
+    ensures stays { StaysElsewhere port (O.told outside.old) (O.told outside.new) }
     ensures failed { result ≡ Err PutFault.Failed →
-        HasRisen (O.port_faults outside.old port) (O.port_faults outside.new port) }
+        HasRisen ((O.told outside.old).port_faults port) ((O.told outside.new).port_faults port) }
 {
     match line_of(alloc, message) {
         Ok(line) => outside.put(port, &line),
@@ -58,21 +55,18 @@ pub(crate) fn show_messages<O: Outside>(
     from: usize,
 ) -> Result<usize, PutFault>
     requires { from ≤ length octets.now }
-    ensures ok { IfOk result (λ end. ShowsMore octets.now from end (O.holds outside.old port)
-        (O.holds outside.new port)) }
+    ensures ok { IfOk result (λ end. ShowsMore octets.now from end ((O.told outside.old).holds port)
+        ((O.told outside.new).holds port)) }
     ensures all { IfOk result (λ end. first_message (drop end octets.now) ≡ None) }
     ensures err { OnErr result
-        (ShowsPart octets.now from (O.holds outside.old port) (O.holds outside.new port)) }
-    ensures puts { IfOk result (λ end. PutsMore port octets.now from end (O.calls outside.old)
-        (O.calls outside.new)) }
-    ensures part { OnErr result (PutsPart port octets.now from (O.calls outside.old)
-        (O.calls outside.new)) }
-    ensures stays { StaysElsewhere port (O.content outside.old) (O.content outside.new)
-        (O.holds outside.old) (O.holds outside.new)
-        (O.port_faults outside.old) (O.port_faults outside.new) (O.load_faults outside.old)
-        (O.load_faults outside.new) }
+        (ShowsPart octets.now from ((O.told outside.old).holds port) ((O.told outside.new).holds port)) }
+    ensures puts { IfOk result (λ end. PutsMore port octets.now from end (O.told outside.old).calls
+        (O.told outside.new).calls) }
+    ensures part { OnErr result (PutsPart port octets.now from (O.told outside.old).calls
+        (O.told outside.new).calls) }
+    ensures stays { StaysElsewhere port (O.told outside.old) (O.told outside.new) }
     ensures failed { result ≡ Err PutFault.Failed →
-        HasRisen (O.port_faults outside.old port) (O.port_faults outside.new port) }
+        HasRisen ((O.told outside.old).port_faults port) ((O.told outside.new).port_faults port) }
 {
     let mut end = from;
     while let Some(message) = first_message(&octets[end..]) {

@@ -1,5 +1,5 @@
 -- What each status of a run says, from what its parts say.
-use Rattle.std.proofs.Common.{◌≡◌, refl, sym, ap, subst, ℕ, ◌≤◌, inl, inr, List, [], ◌++◌, Option, Some, None, Result, Ok, IfSome, IsSome, length}
+use Rattle.std.proofs.Common.{◌≡◌, refl, sym, ap, subst, ℕ, ◌≤◌, inl, inr, List, [], ◌++◌, Option, Some, None, Result, Ok, Err, IfOk, IfErr, IfSome, IsSome, length}
 use Rattle.std.specs.Prelude.{option_and_then, option_map, map, IsOk, IsSomeAnd}
 use Rattle.std.specs.Result.{result_ok}
 use Rattle.world_core.specs.Logged.{turn_of, all_turns}
@@ -7,7 +7,7 @@ use Rattle.sides.specs.declared.side.Side.{Side}
 use Rattle.outside_kit.specs.declared.port.Port.{Port}
 use Rattle.outside_kit.specs.declared.port.Port.TheVariants as port
 use Rattle.outside_kit.specs.Calls.{Call}
-use Rattle.outside_kit.specs.Outside.{HoldsAfter}
+use Rattle.outside_kit.specs.Outside.{Told, HoldsAfter}
 use Rattle.link_script.specs.declared.script.Script.{Script}
 use Rattle.run_words.specs.Lines.{Line, run, replay, ◌>>=◌}
 use Rattle.run_log.specs.declared.turn.Turn as log_turn
@@ -23,7 +23,7 @@ use Rattle.run_outside.specs.declared.status.Status.TheVariants.{Delivered, Roun
 use Rattle.run_outside.specs.Loading.{InputAdds}
 use Rattle.mptcp_run.specs.Answers.{WasRead, HasRun, HasStopped, TurnRow, CutRow, EndRow, IsAnswer, MadeEndRow, MadeCutRow, MadeRow, IsMadeAnswer}
 use Rattle.run_outside.specs.Causes.{limit_of}
-use Rattle.mptcp_run.specs.Ends.{HoldsSomeRounds, HoldsToLine, CameToEnd, IsCut, IsHalted, ReplayEnds}
+use Rattle.mptcp_run.specs.Ends.{HoldsSomeRounds, HoldsToLine, CameToEnd, IsCut, IsHalted, ReplayEnds, either}
 use Rattle.run_outside.specs.Inputs.{order_of, content_of, AreFirstWithinLimits, IsInputFault, IsReplayInputFault, opening_count, AreWithinLimits, HasValidScript, HasValidOrder}
 use Rattle.mptcp_run.specs.Logged.{HasRounds}
 use Rattle.mptcp_run.specs.Made.{Bench}
@@ -40,7 +40,7 @@ use Rattle.mptcp_run.specs.declared.schedule.Schedule.TheVariants.{Serial, Timed
 use Rattle.link_script.specs.Reading.{reading}
 use Rattle.run_outside.specs.Reading.{script_in, script_of, log_reading}
 use Rattle.mptcp_run.specs.Task.{Task, Course, rounds, threads, told, task_from, turns_in, course_of, task_of}
-use Rattle.run_outside.proofs.Calls.{Told, all_then, cut_then, short_then, short_cut}
+use Rattle.run_outside.proofs.Calls.{all_then, cut_then, short_then, short_cut}
 use Rattle.mptcp_run.proofs.Unstopped.{never_stopped}
 use Rattle.mptcp_run.proofs.Logged.{whole_runs_are_told}
 use Rattle.mptcp_run.proofs.Promised.{plain_of, short_tasks_are_kept, checked_runs_are_right, delivered_runs_give_as_many, whole_runs_give_prefixes, whole_runs_have_cause, delivered_runs_give_files, stopped_runs_give_prefixes, cut_runs_give_prefixes, lines_cut_give_prefixes}
@@ -190,38 +190,38 @@ module _ (a b c : Ports) (same : (p : Port) → b p ≡ a p) where
     };
   }
 
-  -- behind loads
-  module _ (line : Line) (task : Task) (ta tb tc : Told) (loaded : AddsAll (loads_of line) ta tb) where
-    pub end_from : (status : Status) → CameToEnd [] line task b c tb tc status → CameToEnd (loads_of line) line task a c ta tc status
-    unfolding whole_from
-    end_from status h = record {
-      ended = h.ended;
-      whole = whole_from task status h.whole;
-      calls = all_then (loads_of line) _ ta tb tc loaded h.calls;
-    }
+-- behind loads
+module _ (a b c : Told) (same : (p : Port) → b.holds p ≡ a.holds p) (line : Line) (task : Task) (loaded : AddsAll (loads_of line) a.calls b.calls) where
+  pub end_from : (status : Status) → CameToEnd [] line task b c status → CameToEnd (loads_of line) line task a c status
+  unfolding whole_from
+  end_from status h = record {
+    ended = h.ended;
+    whole = whole_from a.holds b.holds c.holds same task status h.whole;
+    calls = all_then (loads_of line) _ a.calls b.calls c.calls loaded h.calls;
+  }
 
-    pub cut_from : (status : Status) → IsCut [] line task b c tb tc status → IsCut (loads_of line) line task a c ta tc status
-    unfolding rounds_from
-    cut_from status (inl h) = inl (record {
-      ports = rounds_from task h.ports;
-      calls = cut_then (loads_of line) _ status ta tb tc loaded h.calls;
-    })
-    cut_from status (inr h) = inr (record {
-      turns = h.turns;
-      are = h.are;
-      ports = line_from task h.turns h.ports;
-      calls = short_then (loads_of line) _ status ta tb tc loaded h.calls;
-    })
+  pub cut_from : (status : Status) → IsCut [] line task b c status → IsCut (loads_of line) line task a c status
+  unfolding rounds_from
+  cut_from status (inl h) = inl (record {
+    ports = rounds_from a.holds b.holds c.holds same task h.ports;
+    calls = cut_then (loads_of line) _ status a.calls b.calls c.calls loaded h.calls;
+  })
+  cut_from status (inr h) = inr (record {
+    turns = h.turns;
+    are = h.are;
+    ports = line_from a.holds b.holds c.holds same task h.turns h.ports;
+    calls = short_then (loads_of line) _ status a.calls b.calls c.calls loaded h.calls;
+  })
 
-    pub replay_from : (lines : ℕ) (status : Status) → ReplayEnds [] line task b c tb tc lines status → ReplayEnds (loads_of line) line task a c ta tc lines status
-    unfolding stopped_from
-    replay_from lines (Log at) h = record {
-      stopped = stopped_from task lines at h.stopped;
-      calls = all_then (loads_of line) _ ta tb tc loaded h.calls;
-    }
-    replay_from lines (Put p) h = cut_from (Put p) h
-    replay_from lines Memory h = cut_from Memory h
-    replay_from lines _ h = absurd h
+  pub replay_from : (lines : ℕ) (status : Status) → ReplayEnds [] line task b c lines status → ReplayEnds (loads_of line) line task a c lines status
+  unfolding stopped_from
+  replay_from lines (Log at) h = record {
+    stopped = stopped_from a.holds b.holds c.holds same task lines at h.stopped;
+    calls = all_then (loads_of line) _ a.calls b.calls c.calls loaded h.calls;
+  }
+  replay_from lines (Put p) h = cut_from (Put p) h
+  replay_from lines Memory h = cut_from Memory h
+  replay_from lines _ h = absurd h
 
 -- ---- prefixes
 
@@ -229,21 +229,21 @@ bound_or_not : (old new : Option (List ℕ)) (file : List ℕ) → HoldsPrefixOf
 bound_or_not None new file h = tt
 bound_or_not (Some held) new file h = inr h
 
-pub cut_prefixes : (loads : List Call) (line : Line) (task : Task) (held holds : Ports) (ta tb : Told) (status : Status) → IsPlainTask task
-    → IsCut loads line task held holds ta tb status → ReadersHavePrefixesIfBound (Some task.file_a) (Some task.file_b) held holds
-cut_prefixes loads line task held holds ta tb status plain (inl h) = cut_runs_give_prefixes task held holds plain h.ports
-cut_prefixes loads line task held holds ta tb status plain (inr h) =
-    let p = lines_cut_give_prefixes task h.turns held holds plain h.ports in
+pub cut_prefixes : (loads : List Call) (line : Line) (task : Task) (old new : Told) (status : Status) → IsPlainTask task
+    → IsCut loads line task old new status → ReadersHavePrefixesIfBound (Some task.file_a) (Some task.file_b) old.holds new.holds
+cut_prefixes loads line task old new status plain (inl h) = cut_runs_give_prefixes task old.holds new.holds plain h.ports
+cut_prefixes loads line task old new status plain (inr h) =
+    let p = lines_cut_give_prefixes task h.turns old.holds new.holds plain h.ports in
     record {
-      read_by_b = bound_or_not (held port.ReadByB) (holds port.ReadByB) task.file_a p.read_by_b;
-      read_by_a = bound_or_not (held port.ReadByA) (holds port.ReadByA) task.file_b p.read_by_a;
+      read_by_b = bound_or_not (old.holds port.ReadByB) (new.holds port.ReadByB) task.file_a p.read_by_b;
+      read_by_a = bound_or_not (old.holds port.ReadByA) (new.holds port.ReadByA) task.file_b p.read_by_a;
     }
 
 -- the calls alone
-cut_calls : (loads : List Call) (line : Line) (task : Task) (held holds : Ports) (ta tb : Told) (status : Status) → IsCut loads line task held holds ta tb status
-    → (puts : List Call) × AddsCut (plan_of loads line puts) status ta tb
-cut_calls loads line task held holds ta tb status (inl h) = (puts_so_far task (h.ports.turns ++ h.ports.more), h.calls)
-cut_calls loads line task held holds ta tb status (inr h) = (all_puts task h.turns, short_cut _ status ta tb h.calls)
+cut_calls : (loads : List Call) (line : Line) (task : Task) (old new : Told) (status : Status) → IsCut loads line task old new status
+    → (puts : List Call) × AddsCut (plan_of loads line puts) status old.calls new.calls
+cut_calls loads line task old new status (inl h) = (puts_so_far task (h.ports.turns ++ h.ports.more), h.calls)
+cut_calls loads line task old new status (inr h) = (all_puts task h.turns, short_cut _ status old.calls new.calls h.calls)
 
 -- ---- what was read
 
@@ -289,23 +289,23 @@ some_of : {X : Type 0} (o : Option X) (x : X) (P : X → Type 0) → IfSome o (�
 some_of None x P is p = tt
 some_of (Some y) x P is p = subst P is p
 
-module _ (content : List ℕ → Option (List ℕ)) (line : Line) (loads_before loads : ℕ) (faults_before faults : Port → ℕ) (held holds : Ports) (ta tb : Told) where
+module _ (line : Line) (old new : Told) where
   abbrev Answer : Status → Type 0
-  Answer status = IsAnswer content line loads_before loads faults_before faults held holds ta tb status
+  Answer status = IsAnswer line old new status
 
   -- what a run without a log reads ends it
-  pub input_answer : (plan : List Call) (status : Status) → order_of line.work ≡ None → IsUntouched held holds faults_before faults
-      → IsInputFault content line loads_before loads status → plan ≡ loads_of line → InputAdds line plan ta tb status
-      → IsAnswer content line loads_before loads faults_before faults held holds ta tb status
+  pub input_answer : (plan : List Call) (status : Status) → order_of line.work ≡ None → IsUntouched old new
+      → IsInputFault old.content line old.load_faults new.load_faults status → plan ≡ loads_of line → InputAdds line plan old.calls new.calls status
+      → IsAnswer line old new status
   input_answer plan (Load named) is still h plan_is calls = record { cause = h; untouched = still; calls = calls }
   input_answer plan (TooLong named) is still h plan_is calls = record { cause = h; untouched = still; calls = calls }
   input_answer plan (ScriptStatus at kind) is still h plan_is calls = record {
-    within = unordered_within content line is h.0;
+    within = unordered_within old.content line is h.0;
     cause = h.1;
     untouched = still;
-    calls = subst (λ xs. AddsAll xs ta tb) plan_is calls;
+    calls = subst (λ xs. AddsAll xs old.calls new.calls) plan_is calls;
   }
-  input_answer plan Memory is still h plan_is calls = inl (record { untouched = still; calls = subst (λ xs. AddsCut xs Memory ta tb) plan_is calls })
+  input_answer plan Memory is still h plan_is calls = inl (record { untouched = still; calls = subst (λ xs. AddsCut xs Memory old.calls new.calls) plan_is calls })
   input_answer plan Delivered is still h plan_is calls = absurd h
   input_answer plan Rounds is still h plan_is calls = absurd h
   input_answer plan NoPath is still h plan_is calls = absurd h
@@ -315,9 +315,9 @@ module _ (content : List ℕ → Option (List ℕ)) (line : Line) (loads_before 
   input_answer plan (Log at) is still h plan_is calls = absurd h
 
   -- what a run of the turns of a log reads does
-  pub replay_input_answer : (log : List ℕ) (status : Status) → line.work ≡ replay log → IsUntouched held holds faults_before faults
-      → IsReplayInputFault content line loads_before loads status → InputAdds line (loads_of line) ta tb status
-      → IsAnswer content line loads_before loads faults_before faults held holds ta tb status
+  pub replay_input_answer : (log : List ℕ) (status : Status) → line.work ≡ replay log → IsUntouched old new
+      → IsReplayInputFault old.content line old.load_faults new.load_faults status → InputAdds line (loads_of line) old.calls new.calls status
+      → IsAnswer line old new status
   replay_input_answer log (Load named) is still h calls = record { cause = h; untouched = still; calls = calls }
   replay_input_answer log (TooLong named) is still h calls = record { cause = h; untouched = still; calls = calls }
   replay_input_answer log (ScriptStatus at kind) is still h calls = record { within = h.0; cause = h.1; untouched = still; calls = calls }
@@ -339,73 +339,73 @@ module _ (content : List ℕ → Option (List ℕ)) (line : Line) (loads_before 
 
   -- ---- behind the loads
 
-  module _ (task : Task) (known : IfSome (task_of content line) (λ t. t ≡ task)) (short : IsShortTask task)
-      (file_a : IfSome (content line.names.file_a) (λ text. task.file_a ≡ text)) (file_b : IfSome (content line.names.file_b) (λ text. task.file_b ≡ text))
-      (within : AreWithinLimits content line) (said : IfSome (content line.names.script) (λ text. reading text ≡ Ok task.script)) (order : HasValidOrder content line) where
+  module _ (task : Task) (known : IfSome (task_of old.content line) (λ t. t ≡ task)) (short : IsShortTask task)
+      (file_a : IfSome (old.content line.names.file_a) (λ text. task.file_a ≡ text)) (file_b : IfSome (old.content line.names.file_b) (λ text. task.file_b ≡ text))
+      (within : AreWithinLimits old.content line) (said : IfSome (old.content line.names.script) (λ text. reading text ≡ Ok task.script)) (order : HasValidOrder old.content line) where
     -- where no line of the script alters a payload
-    plain : NoneIsAltered content line → IsPlainTask task
-    plain none = plain_of task short (some_said (script_of content line) task.script AltersNone none (known_script (content line.names.script) task.script (λ s. s ≡ task.script) said refl))
+    plain : NoneIsAltered old.content line → IsPlainTask task
+    plain none = plain_of task short (some_said (script_of old.content line) task.script AltersNone none (known_script (old.content line.names.script) task.script (λ s. s ≡ task.script) said refl))
 
-    was_read : WasRead content line
+    was_read : WasRead old.content line
     was_read = record {
       within = within;
-      script = script_valid content line task.script said;
+      script = script_valid old.content line task.script said;
       order = order;
-      kept = some_is (task_of content line) task IsAlwaysKept known (λ turns. short_tasks_are_kept task turns short);
+      kept = some_is (task_of old.content line) task IsAlwaysKept known (λ turns. short_tasks_are_kept task turns short);
     }
 
-    prefixes : ReadersHavePrefixes (Some task.file_a) (Some task.file_b) held holds
-        → ReadersHavePrefixes (content line.names.file_a) (content line.names.file_b) held holds
+    prefixes : ReadersHavePrefixes (Some task.file_a) (Some task.file_b) old.holds new.holds
+        → ReadersHavePrefixes (old.content line.names.file_a) (old.content line.names.file_b) old.holds new.holds
     prefixes h = record {
-      read_by_b = some_of (content line.names.file_a) task.file_a _ file_a h.read_by_b;
-      read_by_a = some_of (content line.names.file_b) task.file_b _ file_b h.read_by_a;
+      read_by_b = some_of (old.content line.names.file_a) task.file_a _ file_a h.read_by_b;
+      read_by_a = some_of (old.content line.names.file_b) task.file_b _ file_b h.read_by_a;
     }
 
-    prefixes_if_bound : ReadersHavePrefixesIfBound (Some task.file_a) (Some task.file_b) held holds
-        → ReadersHavePrefixesIfBound (content line.names.file_a) (content line.names.file_b) held holds
+    prefixes_if_bound : ReadersHavePrefixesIfBound (Some task.file_a) (Some task.file_b) old.holds new.holds
+        → ReadersHavePrefixesIfBound (old.content line.names.file_a) (old.content line.names.file_b) old.holds new.holds
     prefixes_if_bound h = record {
-      read_by_b = some_of (content line.names.file_a) task.file_a _ file_a h.read_by_b;
-      read_by_a = some_of (content line.names.file_b) task.file_b _ file_b h.read_by_a;
+      read_by_b = some_of (old.content line.names.file_a) task.file_a _ file_a h.read_by_b;
+      read_by_a = some_of (old.content line.names.file_b) task.file_b _ file_b h.read_by_a;
     }
 
-    files : ReadersHaveFiles (Some task.file_a) (Some task.file_b) held holds
-        → ReadersHaveFiles (content line.names.file_a) (content line.names.file_b) held holds
+    files : ReadersHaveFiles (Some task.file_a) (Some task.file_b) old.holds new.holds
+        → ReadersHaveFiles (old.content line.names.file_a) (old.content line.names.file_b) old.holds new.holds
     files h = record {
-      read_by_b = some_of (content line.names.file_a) task.file_a _ file_a h.read_by_b;
-      read_by_a = some_of (content line.names.file_b) task.file_b _ file_b h.read_by_a;
+      read_by_b = some_of (old.content line.names.file_a) task.file_a _ file_a h.read_by_b;
+      read_by_a = some_of (old.content line.names.file_b) task.file_b _ file_b h.read_by_a;
     }
 
-    many : ReadersHaveAsMany (Some task.file_a) (Some task.file_b) held holds
-        → ReadersHaveAsMany (content line.names.file_a) (content line.names.file_b) held holds
+    many : ReadersHaveAsMany (Some task.file_a) (Some task.file_b) old.holds new.holds
+        → ReadersHaveAsMany (old.content line.names.file_a) (old.content line.names.file_b) old.holds new.holds
     many h = record {
-      read_by_b = some_of (content line.names.file_a) task.file_a _ file_a h.read_by_b;
-      read_by_a = some_of (content line.names.file_b) task.file_b _ file_b h.read_by_a;
+      read_by_b = some_of (old.content line.names.file_a) task.file_a _ file_a h.read_by_b;
+      read_by_a = some_of (old.content line.names.file_b) task.file_b _ file_b h.read_by_a;
     }
 
     -- a run came to its own end
     module _ (kept : task.report ≡ report.Log) (some : HasRounds task.course) (ends : EndsWithRound task.course) where
-      end_row : (status : Status) → CameToEnd (loads_of line) line task held holds ta tb status
-          → EndRow content line loads_before loads faults_before faults held holds ta tb status
+      end_row : (status : Status) → CameToEnd (loads_of line) line task old new status
+          → EndRow line old new status
       end_row status h = record {
         read = was_read;
         puts = all_puts task h.whole.turns;
-        run = some_is (task_of content line) task (λ t. HasRun t status (all_puts task h.whole.turns) held holds) known (record {
+        run = some_is (task_of old.content line) task (λ t. HasRun t status (all_puts task h.whole.turns) old.holds new.holds) known (record {
           whole = h.whole;
           puts_are = refl;
-          logged = whole_runs_are_told task status held holds kept short.ranges.few_paths some h.whole;
-          caused = whole_runs_have_cause task status held holds short h.whole;
-          checked = λ uses. checked_runs_are_right task status held holds short ends uses h.whole;
+          logged = whole_runs_are_told task status old.holds new.holds kept short.ranges.few_paths some h.whole;
+          caused = whole_runs_have_cause task status old.holds new.holds short h.whole;
+          checked = λ uses. checked_runs_are_right task status old.holds new.holds short ends uses h.whole;
         });
-        prefixes = λ none. prefixes (whole_runs_give_prefixes task status held holds (plain none) h.whole);
+        prefixes = λ none. prefixes (whole_runs_give_prefixes task status old.holds new.holds (plain none) h.whole);
         calls = h.calls;
       }
 
-      pub end_answer : (status : Status) → CameToEnd (loads_of line) line task held holds ta tb status
-          → IsAnswer content line loads_before loads faults_before faults held holds ta tb status
+      pub end_answer : (status : Status) → CameToEnd (loads_of line) line task old new status
+          → IsAnswer line old new status
       end_answer Delivered h = record {
         row = end_row Delivered h;
-        many = many (delivered_runs_give_as_many task held holds short ends h.whole);
-        files = λ none. files (delivered_runs_give_files task held holds (plain none) ends h.whole);
+        many = many (delivered_runs_give_as_many task old.holds new.holds short ends h.whole);
+        files = λ none. files (delivered_runs_give_files task old.holds new.holds (plain none) ends h.whole);
       }
       end_answer Rounds h = end_row Rounds h
       end_answer NoPath h = end_row NoPath h
@@ -419,73 +419,79 @@ module _ (content : List ℕ → Option (List ℕ)) (line : Line) (loads_before 
       end_answer (Log at) h = absurd h.ended
 
     -- it was cut off
-    cut_row : (status : Status) → IsCut (loads_of line) line task held holds ta tb status
-        → CutRow content line loads_before loads faults_before faults held holds ta tb status
+    cut_row : (status : Status) → IsCut (loads_of line) line task old new status
+        → CutRow line old new status
     cut_row status h = record {
       read = was_read;
-      cut = some_is (task_of content line) task (λ t. IsCut (loads_of line) line t held holds ta tb status) known h;
-      prefixes = λ none. prefixes_if_bound (cut_prefixes (loads_of line) line task held holds ta tb status (plain none) h);
-      calls = cut_calls (loads_of line) line task held holds ta tb status h;
+      cut = some_is (task_of old.content line) task (λ t. IsCut (loads_of line) line t old new status) known h;
+      prefixes = λ none. prefixes_if_bound (cut_prefixes (loads_of line) line task old new status (plain none) h);
+      calls = cut_calls (loads_of line) line task old new status h;
     }
 
-    pub cut_answer : (status : Status) → IsPortsFault faults_before faults status → IsCut (loads_of line) line task held holds ta tb status
-        → IsAnswer content line loads_before loads faults_before faults held holds ta tb status
+    pub cut_answer : (status : Status) → IsPortsFault old.port_faults new.port_faults status → IsCut (loads_of line) line task old new status
+        → IsAnswer line old new status
     cut_answer (Put p) fault h = (fault, cut_row (Put p) h)
     cut_answer Memory fault h = inr (cut_row Memory h)
     cut_answer _ fault h = absurd fault
 
     -- or one of its turns can't be made
-    module _ (log : List ℕ) (opening : ℕ) (is : line.work ≡ replay log) (count : IfSome (content log) (λ text. opening ≡ opening_count text)) where
-      turn_row : (at : ℕ) → IsHalted (loads_of line) line task held holds ta tb opening at
-          → TurnRow content line loads_before loads faults_before faults held holds ta tb at
+    module _ (log : List ℕ) (opening : ℕ) (is : line.work ≡ replay log) (count : IfSome (old.content log) (λ text. opening ≡ opening_count text)) where
+      turn_row : (at : ℕ) → IsHalted (loads_of line) line task old new opening at
+          → TurnRow line old new at
       turn_row at h = record {
         replay = subst (λ w. IsSome (order_of w)) (sym is) refl;
         read = was_read;
         puts = puts;
-        stopped = subst (λ w. IfSome (option_and_then content (order_of w)) (λ text. IfSome (task_of content line) (λ t. HasStopped t (opening_count text) at puts held holds))) (sym is)
-            (some_weaker (content log) (λ text. opening ≡ opening_count text) (λ text. IfSome (task_of content line) (λ t. HasStopped t (opening_count text) at puts held holds))
-            (λ text same. some_is (task_of content line) task (λ t. HasStopped t (opening_count text) at puts held holds) known
-            (subst (λ n. HasStopped task n at puts held holds) same (record { stopped = h.stopped; puts_are = refl }))) count);
-        prefixes = λ none. prefixes (stopped_runs_give_prefixes task opening at held holds (plain none) h.stopped);
+        stopped = subst (λ w. IfSome (option_and_then old.content (order_of w)) (λ text. IfSome (task_of old.content line) (λ t. HasStopped t (opening_count text) at puts old.holds new.holds))) (sym is)
+            (some_weaker (old.content log) (λ text. opening ≡ opening_count text) (λ text. IfSome (task_of old.content line) (λ t. HasStopped t (opening_count text) at puts old.holds new.holds))
+            (λ text same. some_is (task_of old.content line) task (λ t. HasStopped t (opening_count text) at puts old.holds new.holds) known
+            (subst (λ n. HasStopped task n at puts old.holds new.holds) same (record { stopped = h.stopped; puts_are = refl }))) count);
+        prefixes = λ none. prefixes (stopped_runs_give_prefixes task opening at old.holds new.holds (plain none) h.stopped);
         calls = h.calls;
       }
         where
           puts : List Call
           puts = puts_so_far task h.stopped.before
 
-      pub replay_answer : (status : Status) → IsReplayFault faults_before faults status → ReplayEnds (loads_of line) line task held holds ta tb opening status
-          → IsAnswer content line loads_before loads faults_before faults held holds ta tb status
+      pub replay_answer : (status : Status) → IsReplayFault old.port_faults new.port_faults status → ReplayEnds (loads_of line) line task old new opening status
+          → IsAnswer line old new status
       replay_answer (Log at) fault h = inr (turn_row at h)
       replay_answer (Put p) fault h = (fault, cut_row (Put p) h)
       replay_answer Memory fault h = inr (cut_row Memory h)
       replay_answer _ fault h = absurd h
 
+-- what the answer says, by what both ways say
+pub either_way : {A B C : Status → Type 0} (P : Status → Type 0) (r : Result Status Status) → IfOk r A → IfErr r B → IfErr r C
+    → ((status : Status) → A status → P status) → ((status : Status) → B status → C status → P status) → P (either r)
+either_way P (Ok status) a b c whole cut = whole status a
+either_way P (Err status) a b c whole cut = cut status b c
+
 -- ---- the made input
 
-module _ (made : Bench) (plain : IsPlainTask made.task) (unstopped : (s : Side) → fast_close_of s made.task.script.lines ≡ None) (loads_before loads : ℕ) (same : loads ≡ loads_before) (faults_before faults : Port → ℕ) (held holds : Ports) (ta tb : Told) where
+module _ (made : Bench) (plain : IsPlainTask made.task) (unstopped : (s : Side) → fast_close_of s made.task.script.lines ≡ None) (old new : Told) (same : new.load_faults ≡ old.load_faults) where
   made_short : IsShortTask made.task
   made_short = short_of made.task.script made.task.file_a made.task.file_b plain
 
-  with_row : (status : Status) → MadeRow made loads_before loads faults_before faults held holds ta tb status
-      → IsMadeAnswer made loads_before loads faults_before faults held holds ta tb status
+  with_row : (status : Status) → MadeRow made old new status
+      → IsMadeAnswer made old new status
   with_row status row = record { row = row; kept = λ turns. short_tasks_are_kept made.task turns made_short; unloaded = same }
 
-  made_end_row : (status : Status) → EndsWithRound made.task.course → CameToEnd [] made.line made.task held holds ta tb status
-      → MadeEndRow made loads_before loads faults_before faults held holds ta tb status
+  made_end_row : (status : Status) → EndsWithRound made.task.course → CameToEnd [] made.line made.task old new status
+      → MadeEndRow made old new status
   made_end_row status ends h = record {
     whole = h.whole;
-    checked = λ uses. checked_runs_are_right made.task status held holds made_short ends uses h.whole;
-    prefixes = whole_runs_give_prefixes made.task status held holds plain h.whole;
+    checked = λ uses. checked_runs_are_right made.task status old.holds new.holds made_short ends uses h.whole;
+    prefixes = whole_runs_give_prefixes made.task status old.holds new.holds plain h.whole;
     calls = h.calls;
   }
 
-  pub made_end_answer : (status : Status) → EndsWithRound made.task.course → CameToEnd [] made.line made.task held holds ta tb status
-      → IsMadeAnswer made loads_before loads faults_before faults held holds ta tb status
-  made_end_answer Delivered ends h = with_row Delivered (made_end_row Delivered ends h, delivered_runs_give_files made.task held holds plain ends h.whole)
+  pub made_end_answer : (status : Status) → EndsWithRound made.task.course → CameToEnd [] made.line made.task old new status
+      → IsMadeAnswer made old new status
+  made_end_answer Delivered ends h = with_row Delivered (made_end_row Delivered ends h, delivered_runs_give_files made.task old.holds new.holds plain ends h.whole)
   made_end_answer Rounds ends h = with_row Rounds (made_end_row Rounds ends h)
   made_end_answer NoPath ends h = with_row NoPath (made_end_row NoPath ends h)
   made_end_answer (Aborted reader) ends h =
-      absurd (never_stopped made.task h.whole.turns reader unstopped (whole_runs_have_cause made.task (Aborted reader) held holds made_short h.whole))
+      absurd (never_stopped made.task h.whole.turns reader unstopped (whole_runs_have_cause made.task (Aborted reader) old.holds new.holds made_short h.whole))
   made_end_answer Usage ends h = absurd h.ended
   made_end_answer (ScriptStatus at kind) ends h = absurd h.ended
   made_end_answer (Load named) ends h = absurd h.ended
@@ -494,12 +500,12 @@ module _ (made : Bench) (plain : IsPlainTask made.task) (unstopped : (s : Side) 
   made_end_answer Memory ends h = absurd h.ended
   made_end_answer (Log at) ends h = absurd h.ended
 
-  made_cut_row : (status : Status) → IsCut [] made.line made.task held holds ta tb status
-      → MadeCutRow made loads_before loads faults_before faults held holds ta tb status
-  made_cut_row status h = record { cut = h; prefixes = cut_prefixes [] made.line made.task held holds ta tb status plain h }
+  made_cut_row : (status : Status) → IsCut [] made.line made.task old new status
+      → MadeCutRow made old new status
+  made_cut_row status h = record { cut = h; prefixes = cut_prefixes [] made.line made.task old new status plain h }
 
-  pub made_cut_answer : (status : Status) → IsPortsFault faults_before faults status → IsCut [] made.line made.task held holds ta tb status
-      → IsMadeAnswer made loads_before loads faults_before faults held holds ta tb status
+  pub made_cut_answer : (status : Status) → IsPortsFault old.port_faults new.port_faults status → IsCut [] made.line made.task old new status
+      → IsMadeAnswer made old new status
   made_cut_answer (Put p) fault h = with_row (Put p) (fault, made_cut_row (Put p) h)
   made_cut_answer Memory fault h = with_row Memory (made_cut_row Memory h)
   made_cut_answer _ fault h = absurd fault

@@ -1,7 +1,7 @@
 -- What the words ask for, and what stands at each answer to them.
 use Rattle.std.proofs.Common.{◌≡◌, refl, sym, ap, subst, ℕ, ◌≤◌, inl, inr, List, Option, Some, None, IfSome}
 use Rattle.std.specs.Prelude.{option_and_then}
-use Rattle.outside_kit.specs.declared.port.Port.{Port}
+use Rattle.outside_kit.specs.Outside.{Told}
 use Rattle.run_words.specs.Lines.{Line, bench, line_of}
 use Rattle.run_outside.specs.declared.status.Status.{Status}
 use Rattle.run_outside.specs.declared.status.Status.TheVariants.{Delivered, Usage, Memory}
@@ -14,8 +14,7 @@ use Rattle.mptcp_run.specs.Promised.{NoneIsAltered, ReadersHaveAsMany, ReadersHa
 use Rattle.mptcp_run.specs.declared.schedule.Schedule.TheVariants.{Serial}
 use Rattle.mptcp_run.specs.Task.{first_world}
 use Rattle.mptcp_run.proofs.Answering.{made_cut_answer}
-use Rattle.run_outside.proofs.Calls.{Told, adds_none, cut_none}
-use Rattle.run_outside.specs.Ports.{Ports}
+use Rattle.run_outside.proofs.Calls.{adds_none, cut_none}
 use Rattle.mptcp_run.proofs.MadeTasks.{made_is_plain, of_words, made_is_unstopped}
 use Rattle.mptcp_run.proofs.Courses.{no_round}
 use Rattle.mptcp_run.proofs.Performing.{nothing_made}
@@ -38,61 +37,57 @@ unfolding asked_in
 asks_nothing words is = ap (option_and_then if_run) is
 
 -- status 0
-pub delivered_files : (content : List ℕ → Option (List ℕ)) (loads_before loads : ℕ) (faults_before faults : Port → ℕ) (held holds : Ports) (ta tb : Told)
-    (asked : Option Line) (status : Status) → IfSome asked (λ line. IsAnswer content line loads_before loads faults_before faults held holds ta tb status)
-    → status ≡ Delivered → IfSome asked (λ line. NoneIsAltered content line → ReadersHaveFiles (content line.names.file_a) (content line.names.file_b) held holds)
-delivered_files content loads_before loads faults_before faults held holds ta tb None status a is = tt
-delivered_files content loads_before loads faults_before faults held holds ta tb (Some line) status a is =
-    (subst (λ st. IsAnswer content line loads_before loads faults_before faults held holds ta tb st) is a).files
+pub delivered_files : (old new : Told) (asked : Option Line) (status : Status) → IfSome asked (λ line. IsAnswer line old new status)
+    → status ≡ Delivered → IfSome asked (λ line. NoneIsAltered old.content line → ReadersHaveFiles (old.content line.names.file_a) (old.content line.names.file_b) old.holds new.holds)
+delivered_files old new None status a is = tt
+delivered_files old new (Some line) status a is = (subst (λ st. IsAnswer line old new st) is a).files
 
-pub delivered_many : (content : List ℕ → Option (List ℕ)) (loads_before loads : ℕ) (faults_before faults : Port → ℕ) (held holds : Ports) (ta tb : Told)
-    (asked : Option Line) (status : Status) → IfSome asked (λ line. IsAnswer content line loads_before loads faults_before faults held holds ta tb status)
-    → status ≡ Delivered → IfSome asked (λ line. ReadersHaveAsMany (content line.names.file_a) (content line.names.file_b) held holds)
-delivered_many content loads_before loads faults_before faults held holds ta tb None status a is = tt
-delivered_many content loads_before loads faults_before faults held holds ta tb (Some line) status a is =
-    (subst (λ st. IsAnswer content line loads_before loads faults_before faults held holds ta tb st) is a).many
+pub delivered_many : (old new : Told) (asked : Option Line) (status : Status) → IfSome asked (λ line. IsAnswer line old new status)
+    → status ≡ Delivered → IfSome asked (λ line. ReadersHaveAsMany (old.content line.names.file_a) (old.content line.names.file_b) old.holds new.holds)
+delivered_many old new None status a is = tt
+delivered_many old new (Some line) status a is = (subst (λ st. IsAnswer line old new st) is a).many
 
 -- ---- nothing was done
 
-module _ (loads : ℕ) (faults : Port → ℕ) (holds : Ports) (ta : Told) where
-  pub nothing_asked : NothingWasRun loads loads faults faults holds holds ta ta Usage
-  nothing_asked = record { answer = inl refl; untouched = λ p. (refl, refl); unloaded = refl; calls = adds_none ta }
+module _ (a : Told) where
+  pub nothing_asked : NothingWasRun a a Usage
+  nothing_asked = record { answer = inl refl; untouched = λ p. (refl, refl); unloaded = refl; calls = adds_none a.calls }
 
-  pub nothing_read : NothingWasRun loads loads faults faults holds holds ta ta Memory
-  nothing_read = record { answer = inr refl; untouched = λ p. (refl, refl); unloaded = refl; calls = adds_none ta }
+  pub nothing_read : NothingWasRun a a Memory
+  nothing_read = record { answer = inr refl; untouched = λ p. (refl, refl); unloaded = refl; calls = adds_none a.calls }
 
   -- for want of memory
-  pub asked_memory : (content : List ℕ → Option (List ℕ)) (asked : Option Line)
-      → IfSome asked (λ line. IsAnswer content line loads loads faults faults holds holds ta ta Memory)
-  asked_memory content None = tt
-  asked_memory content (Some line) =
-      inl (record { untouched = λ p. (refl, refl); calls = cut_none (loads_of line) Memory ta ta refl (adds_none ta) })
+  pub asked_memory : (asked : Option Line)
+      → IfSome asked (λ line. IsAnswer line a a Memory)
+  asked_memory None = tt
+  asked_memory (Some line) =
+      inl (record { untouched = λ p. (refl, refl); calls = cut_none (loads_of line) Memory a.calls a.calls refl (adds_none a.calls) })
 
   pub made_memory : (line : Line) (number most : ℕ) → number ≤ 256
-      → IsMadeAnswer (record { line = line; task = made_task number most }) loads loads faults faults holds holds ta ta Memory
+      → IsMadeAnswer (record { line = line; task = made_task number most }) a a Memory
   made_memory line number most few =
-      made_cut_answer (record { line = line; task = made_task number most }) (made_is_plain number most few) (made_is_unstopped number) loads loads refl faults faults holds holds ta ta Memory tt
-      (nothing_made line (made_task number most) holds ta (no_round Serial most (first_world (made_task number most))))
+      made_cut_answer (record { line = line; task = made_task number most }) (made_is_plain number most few) (made_is_unstopped number) a a refl Memory tt
+      (nothing_made line (made_task number most) a (no_round Serial most (first_world (made_task number most))))
 
-  pub words_memory : (words : List (List ℕ)) → IfSome (bench_in words) (λ made. IsMadeAnswer made loads loads faults faults holds holds ta ta Memory)
-  words_memory words = of_words (λ made. IsMadeAnswer made loads loads faults faults holds holds ta ta Memory) made_memory words
+  pub words_memory : (words : List (List ℕ)) → IfSome (bench_in words) (λ made. IsMadeAnswer made a a Memory)
+  words_memory words = of_words (λ made. IsMadeAnswer made a a Memory) made_memory words
 
   -- words that weren't read
-  pub unread_answer : (content : List ℕ → Option (List ℕ)) (words : List (List ℕ)) (status : Status) → IsWordsFault words status
-      → IfSome (asked_in words) (λ line. IsAnswer content line loads loads faults faults holds holds ta ta status)
-  unread_answer content words Usage is = subst
-      (λ (o : Option Line). IfSome o (λ line. IsAnswer content line loads loads faults faults holds holds ta ta Usage)) (sym (asks_nothing words is)) tt
-  unread_answer content words Memory is = asked_memory content (asked_in words)
-  unread_answer content words _ is = absurd is
+  pub unread_answer : (words : List (List ℕ)) (status : Status) → IsWordsFault words status
+      → IfSome (asked_in words) (λ line. IsAnswer line a a status)
+  unread_answer words Usage is = subst
+      (λ (o : Option Line). IfSome o (λ line. IsAnswer line a a Usage)) (sym (asks_nothing words is)) tt
+  unread_answer words Memory is = asked_memory (asked_in words)
+  unread_answer words _ is = absurd is
 
   pub unread_bench : (words : List (List ℕ)) (status : Status) → IsWordsFault words status
-      → IfSome (bench_in words) (λ made. IsMadeAnswer made loads loads faults faults holds holds ta ta status)
+      → IfSome (bench_in words) (λ made. IsMadeAnswer made a a status)
   unread_bench words Usage is = subst
-      (λ (o : Option Bench). IfSome o (λ made. IsMadeAnswer made loads loads faults faults holds holds ta ta Usage)) (sym (bench_nothing words is)) tt
+      (λ (o : Option Bench). IfSome o (λ made. IsMadeAnswer made a a Usage)) (sym (bench_nothing words is)) tt
   unread_bench words Memory is = words_memory words
   unread_bench words _ is = absurd is
 
-  pub unread : (words : List (List ℕ)) (status : Status) → IsWordsFault words status → NothingWasRun loads loads faults faults holds holds ta ta status
+  pub unread : (words : List (List ℕ)) (status : Status) → IsWordsFault words status → NothingWasRun a a status
   unread words Usage is = nothing_asked
   unread words Memory is = nothing_read
   unread words _ is = absurd is

@@ -3,7 +3,7 @@ use Rattle.std.proofs.Common.{◌≡◌, refl, sym, ◌∙◌, ap, subst, ℕ, z
 use Rattle.std.specs.Prelude.{IsSomeAnd, option_map}
 use Rattle.std.proofs.lemmas.Bool.{both_ways}
 use Rattle.std.proofs.lemmas.Option.{same_Some}
-use Rattle.outside_kit.specs.declared.port.Port.{Port}
+use Rattle.outside_kit.specs.Outside.{Told}
 use Rattle.link_script.specs.declared.script.Script.{Script}
 use Rattle.link_script.specs.Scripts.{HasRanges}
 use Rattle.link_script.proofs.ReadRanges.{read_has_ranges}
@@ -32,8 +32,6 @@ use Rattle.mptcp_run.proofs.LogWoven.{course_lawful}
 use Rattle.mptcp_run.proofs.PlainTasks.{task_is}
 use Rattle.mptcp_run.proofs.Promised.{last_end_of_course}
 use Rattle.mptcp_run.proofs.BySchedule.{few_by}
-use Rattle.run_outside.proofs.Calls.{Told}
-use Rattle.run_outside.specs.Ports.{Ports}
 
 -- ---- how many rounds were made
 
@@ -121,20 +119,20 @@ delivers work task loaded rounded turns are = by (enough task.script (length tas
 
 -- ---- an answer
 
-module _ (content : List ℕ → Option (List ℕ)) (line : Line) (loads_before loads : ℕ) (faults_before faults : Port → ℕ) (held holds : Ports) (ta tb : Told) where
+module _ (line : Line) (old new : Told) where
   abbrev Row : Status → Type 0
-  Row status = EndRow content line loads_before loads faults_before faults held holds ta tb status
+  Row status = EndRow line old new status
 
-  module _ (within : AreWithinLimits content line) (clean : IsSomeAnd (task_of content line) HasEnoughRounds) where
+  module _ (within : AreWithinLimits old.content line) (clean : IsSomeAnd (task_of old.content line) HasEnoughRounds) where
     row_delivers : (status : Status) → Row status → status ≡ Delivered
-    row_delivers status row = by (task_of content line) row.run clean (loaded_task content line within)
+    row_delivers status row = by (task_of old.content line) row.run clean (loaded_task old.content line within)
       where
-        by : (o : Option Task) → IfSome o (λ task. HasRun task status row.puts held holds) → IsSomeAnd o HasEnoughRounds
+        by : (o : Option Task) → IfSome o (λ task. HasRun task status row.puts old.holds new.holds) → IsSomeAnd o HasEnoughRounds
             → IfSome o (λ task. IsLoadedTask line.work task) → status ≡ Delivered
         by None ran rounded loaded = absurd rounded
         by (Some task) ran rounded loaded = ran.whole.status_is ∙ ap status_of (delivers line.work task loaded rounded ran.whole.turns ran.whole.are)
 
-    ended_delivers : (status : Status) → IsAnswer content line loads_before loads faults_before faults held holds ta tb status → HasEnded status → status ≡ Delivered
+    ended_delivers : (status : Status) → IsAnswer line old new status → HasEnded status → status ≡ Delivered
     ended_delivers Delivered answer ended = refl
     ended_delivers Rounds answer ended = row_delivers Rounds answer
     ended_delivers NoPath answer ended = row_delivers NoPath answer
@@ -148,7 +146,7 @@ module _ (content : List ℕ → Option (List ℕ)) (line : Line) (loads_before 
     ended_delivers (Log at) answer ended = absurd ended
 
     unlogged : IsSome (order_of line.work) → ⊥
-    unlogged some = by (task_of content line) clean (loaded_task content line within)
+    unlogged some = by (task_of old.content line) clean (loaded_task old.content line within)
       where
         asked : (task : Task) → IsLoadedTask line.work task → (o : Option ℕ) → IsSomeAnd o (λ least. AsksRounds least task.course) → ⊥
         asked task loaded None asks = asks
@@ -159,18 +157,16 @@ module _ (content : List ℕ → Option (List ℕ)) (line : Line) (loads_before 
         by (Some task) rounded loaded = asked task loaded (enough task.script (length task.file_a) (length task.file_b)) rounded
 
 pub clean_runs_deliver : CleanRunsDeliver
-clean_runs_deliver content line loads_before loads faults_before faults held holds ta tb status answer valid clean loads_fine ports_fine =
-    by (valid_inputs_are_run content line loads_before loads faults_before faults held holds ta tb status answer valid loads_fine ports_fine)
+clean_runs_deliver line old new status answer valid clean loads_fine ports_fine =
+    by (valid_inputs_are_run line old new status answer valid loads_fine ports_fine)
   where
     by : HasEnded status ⊎ ((status ≡ Memory) ⊎ ((at : ℕ) × ((status ≡ Log at) × IsSome (order_of line.work)))) → (status ≡ Delivered) ⊎ (status ≡ Memory)
-    by (inl ended) = inl (ended_delivers content line loads_before loads faults_before faults held holds ta tb valid.within clean status answer ended)
+    by (inl ended) = inl (ended_delivers line old new valid.within clean status answer ended)
     by (inr (inl memory)) = inr memory
-    by (inr (inr log)) = absurd (unlogged content line loads_before loads faults_before faults held holds ta tb valid.within clean log.1.1)
+    by (inr (inr log)) = absurd (unlogged line old new valid.within clean log.1.1)
 
 -- where the words ask for a run
-pub clean_if_asked : (content : List ℕ → Option (List ℕ)) (loads_before loads : ℕ) (faults_before faults : Port → ℕ) (held holds : Ports) (ta tb : Told)
-    (asked : Option Line) (status : Status) → IfSome asked (λ line. IsAnswer content line loads_before loads faults_before faults held holds ta tb status)
-    → IfSome asked (λ line. DeliversIfClean content line loads_before loads faults_before faults status)
-clean_if_asked content loads_before loads faults_before faults held holds ta tb None status answer = tt
-clean_if_asked content loads_before loads faults_before faults held holds ta tb (Some line) status answer =
-    clean_runs_deliver content line loads_before loads faults_before faults held holds ta tb status answer
+pub clean_if_asked : (old new : Told) (asked : Option Line) (status : Status) → IfSome asked (λ line. IsAnswer line old new status) → IfSome asked (λ line. DeliversIfClean line old new status)
+clean_if_asked old new None status answer = tt
+clean_if_asked old new (Some line) status answer =
+    clean_runs_deliver line old new status answer

@@ -43,14 +43,14 @@ module _ (content : List ℕ → Option (List ℕ)) where
   told_input line input.Order valid named = told_order (order_of line.work) _ named valid.order
 
 pub valid_inputs_are_run : ValidInputsAreRun
-valid_inputs_are_run content line loads_before loads faults_before faults held holds told tells status answer valid loads_fine ports_fine = by status answer
+valid_inputs_are_run line old new status answer valid loads_fine ports_fine = by status answer
   where
-    by_log : (at : ℕ) → FormRow content line loads_before loads faults_before faults held holds told tells at
-        ⊎ TurnRow content line loads_before loads faults_before faults held holds told tells at → IsSome (order_of line.work)
+    by_log : (at : ℕ) → FormRow line old new at
+        ⊎ TurnRow line old new at → IsSome (order_of line.work)
     by_log at (inl form) = form.replay
     by_log at (inr turn) = turn.replay
 
-    by : (status : Status) → IsAnswer content line loads_before loads faults_before faults held holds told tells status
+    by : (status : Status) → IsAnswer line old new status
         → HasEnded status ⊎ ((status ≡ Memory) ⊎ ((at : ℕ) × ((status ≡ Log at) × IsSome (order_of line.work))))
     by Delivered a = inl tt
     by Rounds a = inl tt
@@ -60,6 +60,6 @@ valid_inputs_are_run content line loads_before loads faults_before faults held h
     by (Log at) a = inr (inr (at, (refl, by_log at a)))
     by Usage a = absurd a
     by (Load named) a = absurd (loads_fine a.cause.1.0)
-    by (TooLong named) a = absurd (not_too_long (content_of content line named) (limit_of named) (told_input content line named valid a.cause.0) (valid.within named) a.cause.1.0)
-    by (Script at kind) a = absurd (no_such_script (content line.names.script) at kind valid.script a.cause)
+    by (TooLong named) a = absurd (not_too_long (content_of old.content line named) (limit_of named) (told_input old.content line named valid a.cause.0) (valid.within named) a.cause.1.0)
+    by (Script at kind) a = absurd (no_such_script (old.content line.names.script) at kind valid.script a.cause)
     by (Put port) a = absurd (ports_fine port a.0)

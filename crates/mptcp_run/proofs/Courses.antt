@@ -6,6 +6,7 @@
 -- lemmas (`proofs/RoundsMade`): a kind of rounds is a record (`IsKind`) of the turns of one, and of how those of
 -- several are made of it (`serial_kind`, `timed_kind`, `woven_kind`).
 use Rattle.std.proofs.Common.{◌≡◌, refl, sym, ◌∙◌, ap, subst, ℕ, zero, suc, Bool, true, false, inl, List, [], ◌∷◌, ◌++◌, length, Option, arith}
+use Rattle.outside_kit.specs.Outside.{Told}
 use Rattle.path_core.specs.Octets.{octets}
 use Rattle.world_laws.specs.Outcomes.{outcome_of}
 use Rattle.world_laws.specs.Serial.{goes_on, OneOf, round_and, steps_and, after_steps, after_turns, AreRounds, IsSerial}
@@ -22,8 +23,6 @@ use Rattle.mptcp_run.specs.declared.schedule.Schedule.TheVariants.{Serial, Timed
 use Rattle.mptcp_run.specs.Task.{Connection}
 use Rattle.mptcp_run.specs.Task as course
 use Rattle.mptcp_run.specs.WovenRounds.{AreWovenRounds}
-use Rattle.run_outside.proofs.Calls.{Told}
-use Rattle.run_outside.specs.Ports.{Ports}
 use Rattle.mptcp_run.proofs.Folding.{RoundsPut, RoundsCut, TurnsPut, TurnsCut, TurnsFault}
 use Rattle.mptcp_run.proofs.RoundsMade.{IsKind}
 
@@ -86,22 +85,22 @@ serial_kind = record {
 
 -- ---- courses of rounds
 
-module _ (opening : Option (List ℕ)) (most : ℕ) (w : Connection) (ha hb : Ports) (a b : Told) where
+module _ (opening : Option (List ℕ)) (most : ℕ) (w : Connection) (a b : Told) where
   -- all rounds, and how many they are
-  pub scheduled_made : (schedule : Schedule) (count : ℕ) (v : Connection) → RoundsPut (λ n ts x. AreRoundsBy schedule n ts x) opening most 0 count w v ha hb a b
-      → (made : CourseMade (course.rounds schedule most) opening w v ha hb a b) × (count ≡ length (round_ends made.turns w))
+  pub scheduled_made : (schedule : Schedule) (count : ℕ) (v : Connection) → RoundsPut (λ n ts x. AreRoundsBy schedule n ts x) opening most 0 count w v a b
+      → (made : CourseMade (course.rounds schedule most) opening w v a b) × (count ≡ length (round_ends made.turns w))
   scheduled_made schedule count v p = (record { turns = p.turns; are = p.are; world = p.world; ports = p.ports; calls = p.calls }, let many = p.count_is in omega (arith, many))
 
-  pub woven_made : (count : ℕ) (v : Connection) → RoundsPut AreWovenRounds opening most 0 count w v ha hb a b
-      → (made : CourseMade (course.threads most) opening w v ha hb a b) × (count ≡ length (round_ends made.turns w))
+  pub woven_made : (count : ℕ) (v : Connection) → RoundsPut AreWovenRounds opening most 0 count w v a b
+      → (made : CourseMade (course.threads most) opening w v a b) × (count ≡ length (round_ends made.turns w))
   woven_made count v p = (record { turns = p.turns; are = p.are; world = p.world; ports = p.ports; calls = p.calls }, let many = p.count_is in omega (arith, many))
 
   -- some of them
-  pub scheduled_cut : (schedule : Schedule) (status : Status) → RoundsCut (λ n ts x. AreRoundsBy schedule n ts x) opening most 0 w ha hb a b status
-      → CourseCut (course.rounds schedule most) opening w ha hb a b status
+  pub scheduled_cut : (schedule : Schedule) (status : Status) → RoundsCut (λ n ts x. AreRoundsBy schedule n ts x) opening most 0 w a b status
+      → CourseCut (course.rounds schedule most) opening w a b status
   scheduled_cut schedule status p = record { turns = p.turns; more = p.more; are = p.are; one = p.one; ports = p.ports; calls = p.calls }
 
-  pub woven_cut : (status : Status) → RoundsCut AreWovenRounds opening most 0 w ha hb a b status → CourseCut (course.threads most) opening w ha hb a b status
+  pub woven_cut : (status : Status) → RoundsCut AreWovenRounds opening most 0 w a b status → CourseCut (course.threads most) opening w a b status
   woven_cut status p = record { turns = p.turns; more = p.more; are = p.are; one = p.one; ports = p.ports; calls = p.calls }
 
 -- no round yet
@@ -114,12 +113,12 @@ no_woven_round most w = (0, (omega arith, (record { lawful = tt; in_order = refl
 
 -- ---- the turns of a log
 
-module _ (opening : Option (List ℕ)) (order : List Turn) (w : Connection) (ha hb : Ports) (a b : Told) where
+module _ (opening : Option (List ℕ)) (order : List Turn) (w : Connection) (a b : Told) where
   -- all of them
-  pub turns_made : (v : Connection) → TurnsPut opening 0 order w w v ha hb a b → CourseMade (course.told order) opening w v ha hb a b
+  pub turns_made : (v : Connection) → TurnsPut opening 0 order w w v a b → CourseMade (course.told order) opening w v a b
   turns_made v p = record { turns = order; are = (refl, p.lawful); world = p.world; ports = p.ports; calls = p.calls }
 
-  turns_cut : (status : Status) → TurnsCut opening 0 order w w ha hb a b status → CourseCut (course.told order) opening w ha hb a b status
+  turns_cut : (status : Status) → TurnsCut opening 0 order w w a b status → CourseCut (course.told order) opening w a b status
   turns_cut status p = record {
     turns = p.turns;
     more = p.more;
@@ -130,7 +129,7 @@ module _ (opening : Option (List ℕ)) (order : List Turn) (w : Connection) (ha 
   }
 
   -- some of them, by the status with which they end a run
-  pub turns_stop : (lines : ℕ) (status : Status) → TurnsFault opening 0 order w w lines ha hb a b status → LogStops order lines opening w ha hb a b status
+  pub turns_stop : (lines : ℕ) (status : Status) → TurnsFault opening 0 order w w lines a b status → LogStops order lines opening w a b status
   turns_stop lines (Log at) fault = (
     fault.0,
     (

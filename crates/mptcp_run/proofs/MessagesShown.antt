@@ -15,7 +15,7 @@ use Rattle.outside_kit.specs.declared.port.Port.{Port}
 use Rattle.outside_kit.specs.declared.port.Port.TheVariants.{ReadByA, ReadByB}
 use Rattle.outside_kit.specs.declared.outside.PutFault.{PutFault}
 use Rattle.outside_kit.specs.Calls.{Call, Made}
-use Rattle.outside_kit.specs.Outside.{HoldsAfter}
+use Rattle.outside_kit.specs.Outside.{Told, HoldsAfter}
 use Rattle.octet_text.specs.Lines.{text_lines}
 use Rattle.octet_text.specs.Prefix.{IsPrefix}
 use Rattle.message_pipe.specs.Frames.{frame_of, frames}
@@ -38,7 +38,7 @@ use Rattle.mptcp_run.specs.Plan.{puts_so_far}
 use Rattle.mptcp_run.specs.Putting.{last_line}
 use Rattle.mptcp_run.specs.Task.{Task, task_of}
 use Rattle.mptcp_run.specs.Asked.{asked_in, is_run}
-use Rattle.mptcp_run.specs.Messages.{ReadersShowLines, ReadersShowFirstLines, ReadersShowPrefixes, ReadersShowNothing, ReadersShow, IsRunOverFrames, IsMessagesAnswer, is_apart, takes_messages, if_messages, messages_in}
+use Rattle.mptcp_run.specs.Messages.{as_run, ReadersShowLines, ReadersShowFirstLines, ReadersShowPrefixes, ReadersShowNothing, ReadersShow, IsRunOverFrames, IsMessagesAnswer, is_apart, takes_messages, if_messages, messages_in}
 use Rattle.run_outside.specs.Causes.{IsWordsFault}
 use Rattle.run_outside.specs.Plan.{loads_of, plan_of, succeeded}
 use Rattle.run_outside.specs.Ports.{IsUntouched, Ports}
@@ -210,35 +210,36 @@ of_file (Some text) A B P step a b = step text a b
 
 -- ---- both ports
 
-module _ (file_a file_b : Option (List ℕ)) (a b : Counted) (held holds : Ports) (faults_before faults : Port → ℕ) (stand : PortsStand a b held holds faults_before faults) where
+module _ (file_a file_b : Option (List ℕ)) (a b : Counted) (old new : Told) (stand : PortsStand a b old.holds new.holds old.port_faults new.port_faults) where
   abbrev IsSmall : Option (List ℕ) → Type 0
   IsSmall file = IfSome file (λ text. length text < 2 ^ 32)
 
   prefixes_shown : IsSmall file_a → IsSmall file_b → IfSome file_a (λ text. IsPrefix b.octets (framed text)) → IfSome file_b (λ text. IsPrefix a.octets (framed text))
-      → ReadersShowPrefixes file_a file_b held holds
+      → ReadersShowPrefixes file_a file_b old.holds new.holds
   prefixes_shown small_a small_b of_a of_b = record {
-    read_by_b = of_file file_a _ _ _ (λ text small prefix. shows_prefix_of b (held ReadByB) (holds ReadByB) _ _ stand.read_by_b text small prefix) small_a of_a;
-    read_by_a = of_file file_b _ _ _ (λ text small prefix. shows_prefix_of a (held ReadByA) (holds ReadByA) _ _ stand.read_by_a text small prefix) small_b of_b;
+    read_by_b = of_file file_a _ _ _ (λ text small prefix. shows_prefix_of b (old.holds ReadByB) (new.holds ReadByB) _ _ stand.read_by_b text small prefix) small_a of_a;
+    read_by_a = of_file file_b _ _ _ (λ text small prefix. shows_prefix_of a (old.holds ReadByA) (new.holds ReadByA) _ _ stand.read_by_a text small prefix) small_b of_b;
   }
 
   first_lines_shown : IsSmall file_a → IsSmall file_b → IfSome file_a (λ text. IsPrefix b.octets (framed text)) → IfSome file_b (λ text. IsPrefix a.octets (framed text))
-      → b.refused ≡ None → a.refused ≡ None → ReadersShowFirstLines file_a file_b held holds
+      → b.refused ≡ None → a.refused ≡ None → ReadersShowFirstLines file_a file_b old.holds new.holds
   first_lines_shown small_a small_b of_a of_b none_b none_a = record {
-    read_by_b = of_file file_a _ _ _ (λ text small prefix. shows_first_lines b (held ReadByB) (holds ReadByB) _ _ stand.read_by_b none_b text small prefix) small_a of_a;
-    read_by_a = of_file file_b _ _ _ (λ text small prefix. shows_first_lines a (held ReadByA) (holds ReadByA) _ _ stand.read_by_a none_a text small prefix) small_b of_b;
+    read_by_b = of_file file_a _ _ _ (λ text small prefix. shows_first_lines b (old.holds ReadByB) (new.holds ReadByB) _ _ stand.read_by_b none_b text small prefix) small_a of_a;
+    read_by_a = of_file file_b _ _ _ (λ text small prefix. shows_first_lines a (old.holds ReadByA) (new.holds ReadByA) _ _ stand.read_by_a none_a text small prefix) small_b of_b;
   }
 
   all_lines_shown : IsSmall file_a → IsSmall file_b → IfSome file_a (λ text. b.octets ≡ framed text) → IfSome file_b (λ text. a.octets ≡ framed text)
-      → b.refused ≡ None → a.refused ≡ None → ReadersShowLines file_a file_b held holds
+      → b.refused ≡ None → a.refused ≡ None → ReadersShowLines file_a file_b old.holds new.holds
   all_lines_shown small_a small_b of_a of_b none_b none_a = record {
-    read_by_b = of_file file_a _ _ _ (λ text small all. shows_all_lines b (held ReadByB) (holds ReadByB) _ _ stand.read_by_b none_b text small all) small_a of_a;
-    read_by_a = of_file file_b _ _ _ (λ text small all. shows_all_lines a (held ReadByA) (holds ReadByA) _ _ stand.read_by_a none_a text small all) small_b of_b;
+    read_by_b = of_file file_a _ _ _ (λ text small all. shows_all_lines b (old.holds ReadByB) (new.holds ReadByB) _ _ stand.read_by_b none_b text small all) small_a of_a;
+    read_by_a = of_file file_b _ _ _ (λ text small all. shows_all_lines a (old.holds ReadByA) (new.holds ReadByA) _ _ stand.read_by_a none_a text small all) small_b of_b;
   }
 
-  nothing_shown : IsUntouched (lined_holds [] [] held) (lined_holds a.octets b.octets holds) faults_before faults → ReadersShowNothing file_a file_b held holds
-  nothing_shown untouched = record {
-    read_by_b = shows_nothing b (held ReadByB) (holds ReadByB) _ _ stand.read_by_b (some_is b.octets [] (untouched ReadByB).0);
-    read_by_a = shows_nothing a (held ReadByA) (holds ReadByA) _ _ stand.read_by_a (some_is a.octets [] (untouched ReadByA).0);
+  nothing_shown : (line : Line) (made : List Made) (contents : List ℕ → Option (List ℕ))
+      → IsUntouched (as_run line [] [] [] old) (record (as_run line a.octets b.octets made new) { content = contents }) → ReadersShowNothing file_a file_b old.holds new.holds
+  nothing_shown line made contents untouched = record {
+    read_by_b = shows_nothing b (old.holds ReadByB) (new.holds ReadByB) _ _ stand.read_by_b (some_is b.octets [] (untouched ReadByB).0);
+    read_by_a = shows_nothing a (old.holds ReadByA) (new.holds ReadByA) _ _ stand.read_by_a (some_is a.octets [] (untouched ReadByA).0);
   }
 
 some_always : (o : Option (List ℕ)) (P : List ℕ → Type 0) → ((text : List ℕ) → P text) → IfSome o P
@@ -271,40 +272,40 @@ line_ends None status puts old new run = tt
 line_ends (Some task) status puts old new run =
     record { before = puts_so_far task run.whole.turns; text = last_line task run.whole.turns; puts_are = run.puts_are }
 
-module _ (content : List ℕ → Option (List ℕ)) (line : Line) (loads_before loads : ℕ) (faults_before faults : Port → ℕ) (held holds : Ports) (told tells : Option (List Made))
-    (made : List Made) (a b : Counted) (stand : PortsStand a b held holds faults_before faults) (calls : CallsStand made a b told tells) where
+module _ (line : Line) (old new : Told) (made : List Made) (contents : List ℕ → Option (List ℕ)) (a b : Counted) (stand : PortsStand a b old.holds new.holds old.port_faults new.port_faults)
+    (calls : CallsStand made a b old.calls new.calls) where
   abbrev frames_of : List ℕ → Option (List ℕ)
-  frames_of = lined_content line.names.file_a line.names.file_b content
+  frames_of = lined_content line.names.file_a line.names.file_b old.content
 
-  abbrev old : Ports
-  old = lined_holds [] [] held
+  abbrev from : Told
+  from = as_run line [] [] [] old
 
-  abbrev new : Ports
-  new = lined_holds a.octets b.octets holds
+  abbrev to : Told
+  to = record (as_run line a.octets b.octets made new) { content = contents }
 
   abbrev file_a : Option (List ℕ)
-  file_a = content line.names.file_a
+  file_a = old.content line.names.file_a
 
   abbrev file_b : Option (List ℕ)
-  file_b = content line.names.file_b
+  file_b = old.content line.names.file_b
 
   abbrev Shown : Status → Type 0
-  Shown = ReadersShow file_a file_b held holds
+  Shown = ReadersShow file_a file_b old.holds new.holds
 
   abbrev Called : Status → Type 0
-  Called status = CalledToEnd status file_a file_b (task_of frames_of line) line told tells
+  Called status = CalledToEnd status file_a file_b (task_of frames_of line) line old.calls new.calls
 
   abbrev End : Status → Type 0
-  End = EndRow frames_of line loads_before loads faults_before faults old new (Some []) (Some made)
+  End = EndRow line from to
 
   abbrev Answer : Status → Type 0
-  Answer = IsAnswer frames_of line loads_before loads faults_before faults old new (Some []) (Some made)
+  Answer = IsAnswer line from to
 
   told_a : frames_of line.names.file_a ≡ option_map framed file_a
-  told_a = file_a_is content line.names.file_a line.names.file_b
+  told_a = file_a_is old.content line.names.file_a line.names.file_b
 
   told_b : frames_of line.names.file_b ≡ option_map framed file_b
-  told_b = file_b_is content line.names.file_a line.names.file_b
+  told_b = file_b_is old.content line.names.file_a line.names.file_b
 
   small_a : AreWithinLimits frames_of line → IfSome file_a (λ text. length text < 2 ^ 32)
   small_a within = small_file file_a (frames_of line.names.file_a) told_a (within input.FileA)
@@ -316,28 +317,28 @@ module _ (content : List ℕ → Option (List ℕ)) (line : Line) (loads_before 
   unrefused : (plan : List Call) → made ≡ map succeeded plan → (a.refused ≡ None) × (b.refused ≡ None)
   unrefused plan is = calls.unrefused (subst AllMade (sym is) (all_made plan))
 
-  all_shown : AreWithinLimits frames_of line → ReadersHaveFiles (frames_of line.names.file_a) (frames_of line.names.file_b) old new → (a.refused ≡ None) × (b.refused ≡ None)
-      → ReadersShowLines file_a file_b held holds
-  all_shown within files none = all_lines_shown file_a file_b a b held holds faults_before faults stand (small_a within) (small_b within)
+  all_shown : AreWithinLimits frames_of line → ReadersHaveFiles (frames_of line.names.file_a) (frames_of line.names.file_b) from.holds to.holds → (a.refused ≡ None) × (b.refused ≡ None)
+      → ReadersShowLines file_a file_b old.holds new.holds
+  all_shown within files none = all_lines_shown file_a file_b a b old new stand (small_a within) (small_b within)
       (all_of b.octets file_a (frames_of line.names.file_a) told_a files.read_by_b) (all_of a.octets file_b (frames_of line.names.file_b) told_b files.read_by_a) none.1 none.0
 
-  end_shown : (ended : Status) → NoneIsAltered frames_of line → End ended → ReadersShowFirstLines file_a file_b held holds
+  end_shown : (ended : Status) → NoneIsAltered frames_of line → End ended → ReadersShowFirstLines file_a file_b old.holds new.holds
   end_shown ended unaltered h =
       let prefixes = h.prefixes unaltered in
       let none = unrefused (plan_of (loads_of line) line h.puts) h.calls in
-      first_lines_shown file_a file_b a b held holds faults_before faults stand (small_a h.read.within) (small_b h.read.within)
+      first_lines_shown file_a file_b a b old new stand (small_a h.read.within) (small_b h.read.within)
       (prefix_of b.octets file_a (frames_of line.names.file_a) told_a prefixes.read_by_b) (prefix_of a.octets file_b (frames_of line.names.file_b) told_b prefixes.read_by_a) none.1 none.0
 
-  part_shown : AreWithinLimits frames_of line → ReadersHavePrefixes (frames_of line.names.file_a) (frames_of line.names.file_b) old new → ReadersShowPrefixes file_a file_b held holds
-  part_shown within prefixes = prefixes_shown file_a file_b a b held holds faults_before faults stand (small_a within) (small_b within)
+  part_shown : AreWithinLimits frames_of line → ReadersHavePrefixes (frames_of line.names.file_a) (frames_of line.names.file_b) from.holds to.holds → ReadersShowPrefixes file_a file_b old.holds new.holds
+  part_shown within prefixes = prefixes_shown file_a file_b a b old new stand (small_a within) (small_b within)
       (prefix_of b.octets file_a (frames_of line.names.file_a) told_a prefixes.read_by_b) (prefix_of a.octets file_b (frames_of line.names.file_b) told_b prefixes.read_by_a)
 
-  cut_shown : AreWithinLimits frames_of line → ReadersHavePrefixesIfBound (frames_of line.names.file_a) (frames_of line.names.file_b) old new → ReadersShowPrefixes file_a file_b held holds
-  cut_shown within prefixes = prefixes_shown file_a file_b a b held holds faults_before faults stand (small_a within) (small_b within)
+  cut_shown : AreWithinLimits frames_of line → ReadersHavePrefixesIfBound (frames_of line.names.file_a) (frames_of line.names.file_b) from.holds to.holds → ReadersShowPrefixes file_a file_b old.holds new.holds
+  cut_shown within prefixes = prefixes_shown file_a file_b a b old new stand (small_a within) (small_b within)
       (prefix_if_bound b.octets file_a (frames_of line.names.file_a) told_a prefixes.read_by_b) (prefix_if_bound a.octets file_b (frames_of line.names.file_b) told_b prefixes.read_by_a)
 
-  none_shown : IsUntouched old new faults_before faults → ReadersShowNothing file_a file_b held holds
-  none_shown = nothing_shown file_a file_b a b held holds faults_before faults stand
+  none_shown : IsUntouched from to → ReadersShowNothing file_a file_b old.holds new.holds
+  none_shown = nothing_shown file_a file_b a b old new stand line made contents
 
   pub shown_by : (status : Status) → NoneIsAltered frames_of line → Answer status → Shown status
   shown_by Delivered none h = all_shown h.row.read.within (h.files none) (unrefused (plan_of (loads_of line) line h.row.puts) h.row.calls)
@@ -345,9 +346,9 @@ module _ (content : List ℕ → Option (List ℕ)) (line : Line) (loads_before 
   shown_by NoPath none h = end_shown NoPath none h
   shown_by (Aborted reader) none h = end_shown (Aborted reader) none h
   shown_by (Put port) none h = cut_shown h.1.read.within (h.1.prefixes none)
-  shown_by Memory none (inl h) = nothing_is_cut file_a file_b held holds (none_shown h.untouched)
+  shown_by Memory none (inl h) = nothing_is_cut file_a file_b old.holds new.holds (none_shown h.untouched)
   shown_by Memory none (inr h) = cut_shown h.read.within (h.prefixes none)
-  shown_by (Log at) none (inl h) = nothing_is_cut file_a file_b held holds (none_shown h.untouched)
+  shown_by (Log at) none (inl h) = nothing_is_cut file_a file_b old.holds new.holds (none_shown h.untouched)
   shown_by (Log at) none (inr h) = part_shown h.read.within (h.prefixes none)
   shown_by (Script at kind) none h = none_shown h.untouched
   shown_by (Load named) none h = none_shown h.untouched
@@ -358,7 +359,7 @@ module _ (content : List ℕ → Option (List ℕ)) (line : Line) (loads_before 
   end_called : (ended : Status) → End ended → (AreWithinLimits frames_of line → (pieces : List (List ℕ)) → AreMessages (passed_of b) pieces → IfSome file_a (λ file. AreLines ended file pieces))
       → (AreWithinLimits frames_of line → (pieces : List (List ℕ)) → AreMessages (passed_of a) pieces → IfSome file_b (λ file. AreLines ended file pieces)) → Called ended
   end_called ended h of_a of_b =
-      called_to_end ended file_a file_b (task_of frames_of line) line told tells h.puts made calls.below (readers_of a b) h.calls
+      called_to_end ended file_a file_b (task_of frames_of line) line old.calls new.calls h.puts made calls.below (readers_of a b) h.calls
       (line_ends (task_of frames_of line) ended h.puts _ _ h.run) calls.are calls.added (of_a h.read.within) (of_b h.read.within)
 
   first_called : (ended : Status) → NoneIsAltered frames_of line → End ended → ((file : List ℕ) (pieces : List (List ℕ)) → AreFirstLines file pieces → AreLines ended file pieces) → Called ended
@@ -382,23 +383,22 @@ module _ (content : List ℕ → Option (List ℕ)) (line : Line) (loads_before 
   called_by _ none h own = absurd own
 
 -- so it is of each answer
-pub messages_called : (content : List ℕ → Option (List ℕ)) (line : Line) (loads_before loads : ℕ) (faults_before faults : Port → ℕ) (held holds : Ports) (told tells : Option (List Made)) (status : Status)
-    → takes_messages line ≡ true → IsMessagesAnswer content line loads_before loads faults_before faults held holds told tells status → NoneIsAltered content line → HasEnded status
-    → CalledToEnd status (content line.names.file_a) (content line.names.file_b) (task_of (lined_content line.names.file_a line.names.file_b content) line) line told tells
-messages_called content line loads_before loads faults_before faults held holds told tells status takes (inl none) unaltered own =
+pub messages_called : (line : Line) (old new : Told) (status : Status)
+    → takes_messages line ≡ true → IsMessagesAnswer line old new status → NoneIsAltered old.content line → HasEnded status
+    → CalledToEnd status (old.content line.names.file_a) (old.content line.names.file_b) (task_of (lined_content line.names.file_a line.names.file_b old.content) line) line old.calls new.calls
+messages_called line old new status takes (inl none) unaltered own =
     let P : Status → Type 0 = HasEnded in absurd (subst P none.status_is own)
-messages_called content line loads_before loads faults_before faults held holds told tells status takes (inr h) unaltered own =
-    called_by content line loads_before loads faults_before faults held holds told tells h.made h.read_by_a h.read_by_b h.stand h.calls status
-    (frames_unaltered content line takes unaltered) h.answer own
+messages_called line old new status takes (inr h) unaltered own =
+    called_by line old new h.made h.contents h.read_by_a h.read_by_b h.stand h.calls status
+    (frames_unaltered old.content line takes unaltered) h.answer own
 
 -- what the ports show after a run over frames
-pub over_frames : (content : List ℕ → Option (List ℕ)) (line : Line) (loads_before loads : ℕ) (faults_before faults : Port → ℕ) (held holds : Ports)
-    (calls_before calls : Option (List Made)) (status : Status)
-    → takes_messages line ≡ true → NoneIsAltered content line → IsRunOverFrames content line loads_before loads faults_before faults held holds calls_before calls status
-    → ReadersShow (content line.names.file_a) (content line.names.file_b) held holds status
-over_frames content line loads_before loads faults_before faults held holds calls_before calls status takes none h =
-    shown_by content line loads_before loads faults_before faults held holds calls_before calls h.made h.read_by_a h.read_by_b h.stand h.calls status
-    (frames_unaltered content line takes none) h.answer
+pub over_frames : (line : Line) (old new : Told) (status : Status)
+    → takes_messages line ≡ true → NoneIsAltered old.content line → IsRunOverFrames line old new status
+    → ReadersShow (old.content line.names.file_a) (old.content line.names.file_b) old.holds new.holds status
+over_frames line old new status takes none h =
+    shown_by line old new h.made h.contents h.read_by_a h.read_by_b h.stand h.calls status
+    (frames_unaltered old.content line takes none) h.answer
 
 -- ---- from what a type parameter tells
 
@@ -412,41 +412,42 @@ stand_from a b named first holds named_faults first_faults faults same same_faul
       read_by_b = subst (P b ReadByB) (same ReadByB) (subst (Q b ReadByB) (same_faults ReadByB) stand.read_by_b);
     }
 
-pub ran_over_frames : (asked : Option Line) (line : Line) (name_a name_b : List ℕ) (content : List ℕ → Option (List ℕ)) (loads_before loads : ℕ)
-    (faults_before faults named_faults : Port → ℕ) (held holds named : Ports) (calls_before calls named_calls : Option (List Made)) (made : List Made) (a b : Counted) (status : Status)
-    → asked ≡ Some line
-    → IfSome asked (λ line. IsAnswer (lined_content name_a name_b content) line loads_before loads faults_before faults (lined_holds [] [] held) (lined_holds a.octets b.octets holds)
-    (Some []) (Some made) status)
-    → ((port : Port) → named port ≡ held port) → ((port : Port) → named_faults port ≡ faults_before port) → named_calls ≡ calls_before
-    → PortsStand a b named holds named_faults faults → CallsStand made a b named_calls calls → name_a ≡ line.names.file_a → name_b ≡ line.names.file_b
-    → IsRunOverFrames content line loads_before loads faults_before faults held holds calls_before calls status
-ran_over_frames asked line name_a name_b content loads_before loads faults_before faults named_faults held holds named calls_before calls named_calls made a b status
-    asks answer same same_faults same_calls stand come is_a is_b =
+-- the run over frames was told the outside by these names, which are those of this line
+pub ran_over_frames : (asked : Option Line) (line : Line) (name_a name_b : List ℕ) (contents : List ℕ → Option (List ℕ)) (old new : Told) (named_faults : Port → ℕ) (named : Ports)
+    (named_calls : Option (List Made)) (made : List Made) (a b : Counted) (status : Status) → asked ≡ Some line
+    → IfSome asked (λ line. IsAnswer line (record old { content = lined_content name_a name_b old.content; holds = lined_holds [] [] old.holds; calls = Some [] })
+    (record new { content = contents; holds = lined_holds a.octets b.octets new.holds; calls = Some made }) status)
+    → ((port : Port) → named port ≡ old.holds port) → ((port : Port) → named_faults port ≡ old.port_faults port) → named_calls ≡ old.calls
+    → PortsStand a b named new.holds named_faults new.port_faults → CallsStand made a b named_calls new.calls → name_a ≡ line.names.file_a → name_b ≡ line.names.file_b
+    → IsRunOverFrames line old new status
+ran_over_frames asked line name_a name_b contents old new named_faults named named_calls made a b status asks answer same same_faults same_calls stand come is_a is_b =
     let P : List ℕ → List ℕ → Line → Type 0 =
-    λ x y asked. IsAnswer (lined_content x y content) asked loads_before loads faults_before faults (lined_holds [] [] held) (lined_holds a.octets b.octets holds) (Some []) (Some made) status in
+    λ x y asked. IsAnswer asked (record old { content = lined_content x y old.content; holds = lined_holds [] [] old.holds; calls = Some [] })
+    (record new { content = contents; holds = lined_holds a.octets b.octets new.holds; calls = Some made }) status in
     let asked_is : P name_a name_b line = subst (λ o. IfSome o (P name_a name_b)) asks answer in
     record {
       read_by_a = a;
       read_by_b = b;
       made = made;
+      contents = contents;
       answer = subst (λ x. P x line.names.file_b line) is_a (subst (λ y. P name_a y line) is_b asked_is);
-      stand = stand_from a b named held holds named_faults faults_before faults same same_faults stand;
-      calls = subst (λ first. CallsStand made a b first calls) same_calls come;
+      stand = stand_from a b named old.holds new.holds named_faults old.port_faults new.port_faults same same_faults stand;
+      calls = subst (λ first. CallsStand made a b first new.calls) same_calls come;
     }
 
 -- ---- by the words
 
 -- what the ports show, by the answer
-pub messages_shown : (content : List ℕ → Option (List ℕ)) (line : Line) (loads_before loads : ℕ) (faults_before faults : Port → ℕ) (held holds : Ports) (calls_before calls : Option (List Made)) (status : Status)
-    → IfSome (held ReadByA) (λ text. text ≡ []) → IfSome (held ReadByB) (λ text. text ≡ []) → takes_messages line ≡ true
-    → IsMessagesAnswer content line loads_before loads faults_before faults held holds calls_before calls status
-    → NoneIsAltered content line → ReadersShow (content line.names.file_a) (content line.names.file_b) held holds status
-messages_shown content line loads_before loads faults_before faults held holds calls_before calls status empty_a empty_b takes (inl none) unaltered =
-    let P : Status → Type 0 = ReadersShow (content line.names.file_a) (content line.names.file_b) held holds in
-    subst P (sym none.status_is) (nothing_is_cut (content line.names.file_a) (content line.names.file_b) held holds
-    (empty_still (content line.names.file_a) (content line.names.file_b) held holds empty_a empty_b (λ port. (none.untouched port).0)))
-messages_shown content line loads_before loads faults_before faults held holds calls_before calls status empty_a empty_b takes (inr ran) unaltered =
-    over_frames content line loads_before loads faults_before faults held holds calls_before calls status takes unaltered ran
+pub messages_shown : (line : Line) (old new : Told) (status : Status)
+    → IfSome (old.holds ReadByA) (λ text. text ≡ []) → IfSome (old.holds ReadByB) (λ text. text ≡ []) → takes_messages line ≡ true
+    → IsMessagesAnswer line old new status
+    → NoneIsAltered old.content line → ReadersShow (old.content line.names.file_a) (old.content line.names.file_b) old.holds new.holds status
+messages_shown line old new status empty_a empty_b takes (inl none) unaltered =
+    let P : Status → Type 0 = ReadersShow (old.content line.names.file_a) (old.content line.names.file_b) old.holds new.holds in
+    subst P (sym none.status_is) (nothing_is_cut (old.content line.names.file_a) (old.content line.names.file_b) old.holds new.holds
+    (empty_still (old.content line.names.file_a) (old.content line.names.file_b) old.holds new.holds empty_a empty_b (λ port. (none.untouched port).0)))
+messages_shown line old new status empty_a empty_b takes (inr ran) unaltered =
+    over_frames line old new status takes unaltered ran
 
 pub messages_are : (words : List (List ℕ)) (line : Line) → line_of words ≡ Some line → messages_in words ≡ if_messages line
 unfolding messages_in
@@ -488,13 +489,13 @@ module _ (asked : Option Line) where
       some_line (Some line) = p line
 
 -- words that weren't read
-pub unread_messages : (content : List ℕ → Option (List ℕ)) (loads : ℕ) (faults : Port → ℕ) (holds : Ports) (calls : Option (List Made)) (words : List (List ℕ)) (status : Status) → IsWordsFault words status
-    → IfSome (messages_in words) (λ line. IsMessagesAnswer content line loads loads faults faults holds holds calls calls status)
-unread_messages content loads faults holds calls words Usage is = of_nothing (messages_in words) (λ line. IsMessagesAnswer content line loads loads faults faults holds holds calls calls Usage) (no_messages words is)
-unread_messages content loads faults holds calls words Memory is = nothing_asked_for (messages_in words) (λ line. IsMessagesAnswer content line loads loads faults faults holds holds calls calls Memory)
-    (λ line. inl (record { status_is = refl; untouched = λ port. (refl, refl); unloaded = refl; calls = none_added calls }))
-unread_messages content loads faults holds calls words Delivered is = absurd is
-unread_messages content loads faults holds calls words _ is = absurd is
+pub unread_messages : (old : Told) (words : List (List ℕ)) (status : Status) → IsWordsFault words status
+    → IfSome (messages_in words) (λ line. IsMessagesAnswer line old old status)
+unread_messages old words Usage is = of_nothing (messages_in words) (λ line. IsMessagesAnswer line old old Usage) (no_messages words is)
+unread_messages old words Memory is = nothing_asked_for (messages_in words) (λ line. IsMessagesAnswer line old old Memory)
+    (λ line. inl (record { status_is = refl; untouched = λ port. (refl, refl); unloaded = refl; calls = none_added old.calls }))
+unread_messages old words Delivered is = absurd is
+unread_messages old words _ is = absurd is
 
 pub unread_lines : (content : List ℕ → Option (List ℕ)) (holds : Ports) → IfSome (holds ReadByA) (λ text. text ≡ []) → IfSome (holds ReadByB) (λ text. text ≡ [])
     → (words : List (List ℕ)) (status : Status) → IsWordsFault words status

@@ -5,7 +5,7 @@ use Rattle.outside_kit.specs.Calls.{Call}
 use Rattle.outside_kit.specs.Calls as call
 use Rattle.outside_kit.specs.declared.port.Port.TheVariants as port
 use Rattle.sides.specs.declared.side.Side.TheVariants.{A, B}
-use Rattle.outside_kit.specs.Outside.{HoldsAfter, HoldsPrefix}
+use Rattle.outside_kit.specs.Outside.{Told, HoldsAfter, HoldsPrefix}
 use Rattle.run_words.specs.Lines.{Line}
 use Rattle.world_laws.specs.declared.outcome.Outcome.{Outcome}
 use Rattle.world_laws.specs.declared.outcome.Outcome.TheVariants as outcome
@@ -21,7 +21,7 @@ use Rattle.run_outside.specs.Ports.{HoldsMore, HoldsWithin, IsBetween, Ports}
 use Rattle.mptcp_run.specs.Putting.{opening_in, status_of, last_line, ends_of, read_so_far, log_so_far, HoldsRounds, HoldsRun, AreFirstOf}
 use Rattle.mptcp_run.specs.Rounds.{HoldsEnds, HoldsPart}
 use Rattle.mptcp_run.specs.Task.{Connection, Task, first_world}
-use Rattle.run_outside.proofs.Calls.{Told, adds_none, all_then, cut_then, cut_longer, cut_none, short_then}
+use Rattle.run_outside.proofs.Calls.{adds_none, all_then, cut_then, cut_longer, cut_none, short_then}
 use Rattle.run_outside.proofs.PortsLemmas.{IsPrefix-refl, IsPrefix-append, nothing_more, all_held, part_held, all_behind, taken_part}
 
 -- the readers' ports were bound
@@ -133,54 +133,54 @@ has_ended outcome.NoPath status is = subst HasEnded (sym is) tt
 abbrev pub line_put : List ℕ → List Call
 line_put line = call.Put port.Log line ∷ []
 
-module _ (line : Line) (task : Task) (ha hb hc : Ports) (held : AreBound ha hb) (a b c : Told) (bound : AddsAll (binds_of line) a b) where
+module _ (line : Line) (task : Task) (a b c : Told) (held : AreBound a.holds b.holds) (bound : AddsAll (binds_of line) a.calls b.calls) where
   -- behind all turns
-  module _ (v : Connection) (made : CourseMade task.course (opening_in task) (first_world task) v hb hc b c) (last : List ℕ) (is : last ≡ last_line task made.turns)
-      (status : Status) (hd : Ports) (d : Told) where
+  module _ (v : Connection) (made : CourseMade task.course (opening_in task) (first_world task) v b c) (last : List ℕ) (is : last ≡ last_line task made.turns)
+      (status : Status) (d : Told) where
     -- the last line was put
-    pub line_done : status ≡ status_of (outcome_of v.crew) → LogGrew last hc hd → AddsAll (line_put last) c d → CameToEnd [] line task ha hd a d status
+    pub line_done : status ≡ status_of (outcome_of v.crew) → LogGrew last c.holds d.holds → AddsAll (line_put last) c.calls d.calls → CameToEnd [] line task a d status
     line_done shown grew told = record {
       ended = has_ended (outcome_of v.crew) status shown;
       whole = record {
         turns = made.turns;
         are = made.are;
         status_is = shown ∙ ap (λ w. status_of (outcome_of w.crew)) made.world;
-        ports = run_held task made.turns last ha hc hd is (rounds_held task made.turns ha hb hc held made.ports) grew;
+        ports = run_held task made.turns last a.holds c.holds d.holds is (rounds_held task made.turns a.holds b.holds c.holds held made.ports) grew;
       };
-      calls = all_then (binds_of line) _ a b d bound
-          (all_then (puts_so_far task made.turns) _ b c d made.calls (subst (λ text. AddsAll (line_put text) c d) is told));
+      calls = all_then (binds_of line) _ a.calls b.calls d.calls bound
+          (all_then (puts_so_far task made.turns) _ b.calls c.calls d.calls made.calls (subst (λ text. AddsAll (line_put text) c.calls d.calls) is told));
     }
 
     -- it wasn't put whole
-    pub line_short : LogGrewPart last hc hd → AddsShort (line_put last) status c d → IsCut [] line task ha hd a d status
+    pub line_short : LogGrewPart last c.holds d.holds → AddsShort (line_put last) status c.calls d.calls → IsCut [] line task a d status
     line_short grew cut = inr (record {
       turns = made.turns;
       are = made.are;
-      ports = line_held task made.turns last ha hc hd is (rounds_held task made.turns ha hb hc held made.ports) grew;
-      calls = short_then (binds_of line) _ status a b d bound
-          (short_then (puts_so_far task made.turns) _ status b c d made.calls (subst (λ text. AddsShort (line_put text) status c d) is cut));
+      ports = line_held task made.turns last a.holds c.holds d.holds is (rounds_held task made.turns a.holds b.holds c.holds held made.ports) grew;
+      calls = short_then (binds_of line) _ status a.calls b.calls d.calls bound
+          (short_then (puts_so_far task made.turns) _ status b.calls c.calls d.calls made.calls (subst (λ text. AddsShort (line_put text) status c.calls d.calls) is cut));
     })
 
   -- some turns were made
-  pub rounds_short : (status : Status) → CourseCut task.course (opening_in task) (first_world task) hb hc b c status → IsCut [] line task ha hc a c status
+  pub rounds_short : (status : Status) → CourseCut task.course (opening_in task) (first_world task) b c status → IsCut [] line task a c status
   rounds_short status h = inl (record {
-    ports = record { turns = h.turns; more = h.more; are = h.are; one = h.one; ports = part_cut task h.turns h.more ha hb hc held h.ports };
-    calls = cut_then (binds_of line) _ status a b c bound h.calls;
+    ports = record { turns = h.turns; more = h.more; are = h.are; one = h.one; ports = part_cut task h.turns h.more a.holds b.holds c.holds held h.ports };
+    calls = cut_then (binds_of line) _ status a.calls b.calls c.calls bound h.calls;
   })
 
 -- not all was bound
-pub binds_short : (line : Line) (task : Task) (ha hb : Ports) (a b : Told) (status : Status) → AreFirstOf task.course [] [] (first_world task)
-    → HoldsWithin (Unit {0}) (ha port.ReadByB) (hb port.ReadByB) [] [] → HoldsWithin (Unit {0}) (ha port.ReadByA) (hb port.ReadByA) [] []
-    → hb port.Log ≡ ha port.Log → AddsCut (binds_of line) status a b → IsCut [] line task ha hb a b status
-binds_short line task ha hb a b status none read_by_b read_by_a log h = inl (record {
-  ports = record { turns = []; more = []; are = none; one = omega arith; ports = begin_cut task ha hb read_by_b read_by_a log };
-  calls = cut_longer (binds_of line) [] status a b h;
+pub binds_short : (line : Line) (task : Task) (a b : Told) (status : Status) → AreFirstOf task.course [] [] (first_world task)
+    → HoldsWithin (Unit {0}) (a.holds port.ReadByB) (b.holds port.ReadByB) [] [] → HoldsWithin (Unit {0}) (a.holds port.ReadByA) (b.holds port.ReadByA) [] []
+    → b.holds port.Log ≡ a.holds port.Log → AddsCut (binds_of line) status a.calls b.calls → IsCut [] line task a b status
+binds_short line task a b status none read_by_b read_by_a log h = inl (record {
+  ports = record { turns = []; more = []; are = none; one = omega arith; ports = begin_cut task a.holds b.holds read_by_b read_by_a log };
+  calls = cut_longer (binds_of line) [] status a.calls b.calls h;
 })
 
 -- nothing was made, for want of memory
-pub nothing_made : (line : Line) (task : Task) (ha : Ports) (a : Told) → AreFirstOf task.course [] [] (first_world task) → IsCut [] line task ha ha a a Memory
-nothing_made line task ha a none =
-    binds_short line task ha ha a a Memory none (unbound (ha port.ReadByB)) (unbound (ha port.ReadByA)) refl (cut_none (binds_of line) Memory a a refl (adds_none a))
+pub nothing_made : (line : Line) (task : Task) (a : Told) → AreFirstOf task.course [] [] (first_world task) → IsCut [] line task a a Memory
+nothing_made line task a none =
+    binds_short line task a a Memory none (unbound (a.holds port.ReadByB)) (unbound (a.holds port.ReadByA)) refl (cut_none (binds_of line) Memory a.calls a.calls refl (adds_none a.calls))
   where
     unbound : (old : Option (List ℕ)) → HoldsWithin (Unit {0}) old old [] []
     unbound None = tt

@@ -1,10 +1,9 @@
 -- The calls of a round's end, and of the turns of a log.
 use Rattle.std.proofs.Common.{◌≡◌, refl, sym, ◌∙◌, ap, subst, ℕ, List, [], ◌∷◌, ◌++◌, drop, length, Option, Result, Ok, Err, OnOk, OnErr}
 use Rattle.std.proofs.Math.Seq.{drop-append_seam}
-use Rattle.outside_kit.specs.declared.port.Port.{Port}
 use Rattle.outside_kit.specs.declared.port.Port.TheVariants as port
 use Rattle.sides.specs.declared.side.Side.TheVariants.{A, B}
-use Rattle.outside_kit.specs.Outside.{HoldsAfter, HoldsPrefix}
+use Rattle.outside_kit.specs.Outside.{Told, HoldsAfter, HoldsPrefix}
 use Rattle.path_core.specs.Octets.{octets}
 use Rattle.world_laws.specs.Fine.{lists_of}
 use Rattle.world_laws.specs.Outcomes.{notes_at, read_by}
@@ -21,7 +20,7 @@ use Rattle.mptcp_run.specs.Making.{RoundPut}
 use Rattle.mptcp_run.specs.Replaying.{last_after, rounds_after}
 use Rattle.mptcp_run.specs.Task.{Connection}
 use Rattle.world_core.specs.Weaving.{IsSince, made_at, since}
-use Rattle.run_outside.proofs.Calls.{Told, all_then, cut_then, cut_longer}
+use Rattle.run_outside.proofs.Calls.{ToldCalls, all_then, cut_then, cut_longer}
 use Rattle.world_core.proofs.SinceRound.{read_grew, steps_since}
 use Rattle.run_outside.proofs.Calling.{puts_by}
 use Rattle.mptcp_run.proofs.RoundSteps.{round_held, round_part}
@@ -57,39 +56,39 @@ module _ (opening : Option (List ℕ)) (number : ℕ) (turn : Turn) (last w : Co
       by Turn.Round rest = refl
 
   -- before those of others
-  pub puts_more : (rest : List Turn) (a b c : Told) → AddsAll (turn_puts opening number turn last w) a b
+  pub puts_more : (rest : List Turn) (a b c : ToldCalls) → AddsAll (turn_puts opening number turn last w) a b
       → AddsAll (puts_by_round opening (rounds_after turn number) (last_after turn last w) (round_ends rest (after_turn octets turn w))) b c
       → AddsAll (puts_by_round opening number last (round_ends (turn ∷ rest) w)) a c
   puts_more rest a b c one more = subst (λ plan. AddsAll plan a c) (turn_first rest) (all_then (turn_puts opening number turn last w) _ a b c one more)
 
   -- before some
-  pub puts_cut_more : (rest : List Turn) (a b c : Told) (status : Status) → AddsAll (turn_puts opening number turn last w) a b
+  pub puts_cut_more : (rest : List Turn) (a b c : ToldCalls) (status : Status) → AddsAll (turn_puts opening number turn last w) a b
       → AddsCut (puts_by_round opening (rounds_after turn number) (last_after turn last w) (round_ends rest (after_turn octets turn w))) status b c
       → AddsCut (puts_by_round opening number last (round_ends (turn ∷ rest) w)) status a c
   puts_cut_more rest a b c status one more = subst (λ plan. AddsCut plan status a c) (turn_first rest) (cut_then (turn_puts opening number turn last w) _ status a b c one more)
 
   -- some of them
-  pub puts_cut : (a b : Told) (status : Status) → AddsCut (turn_puts opening number turn last w) status a b
+  pub puts_cut : (a b : ToldCalls) (status : Status) → AddsCut (turn_puts opening number turn last w) status a b
       → AddsCut (puts_by_round opening number last (round_ends (turn ∷ []) w)) status a b
   puts_cut a b status cut = subst (λ plan. AddsCut plan status a b) (turn_first []) (cut_longer (turn_puts opening number turn last w) [] status a b cut)
 
 -- ---- what the end of a round puts
 
-module _ {X : Type 0} (made : List ℕ) (last w : Connection) (opening : Option (List ℕ)) (number : ℕ) (old new : Port → Option (List ℕ)) (read_by_b read_by_a lines : List ℕ)
+module _ {X : Type 0} (made : List ℕ) (last w : Connection) (opening : Option (List ℕ)) (number : ℕ) (read_by_b read_by_a lines : List ℕ)
     (b_is : read_by_b ≡ read_by (drop (made_at 1 made) (notes_at 1 w.crew))) (a_is : read_by_a ≡ read_by (drop (made_at 0 made) (notes_at 0 w.crew)))
     (lines_are : lines ≡ round_text opening number (since made (lists_of w.crew))) (h : IsSince last made w) (few : IsLong number) (fit : NotesFit opening (since made (lists_of w.crew)))
-    (l m : ℕ) (f g : Port → ℕ) (a b : Told) where
-  pub piece_put : (r : Result X Status) → OnOk r (HoldsAfter (old port.ReadByB) (new port.ReadByB) (λ held. held ++ read_by_b))
-      → OnOk r (HoldsAfter (old port.ReadByA) (new port.ReadByA) (λ held. held ++ read_by_a)) → OnOk r (HoldsAfter (old port.Log) (new port.Log) (λ held. held ++ lines))
-      → OnErr r (HoldsPrefix (old port.ReadByB) (new port.ReadByB) read_by_b) → OnErr r (HoldsPrefix (old port.ReadByA) (new port.ReadByA) read_by_a)
-      → OnErr r (HoldsPrefix (old port.Log) (new port.Log) lines) → Puts (puts_of read_by_b read_by_a lines) l m f g a b r → RoundPut opening number last w l m f g old new a b r
+    (a b : Told) where
+  pub piece_put : (r : Result X Status) → OnOk r (HoldsAfter (a.holds port.ReadByB) (b.holds port.ReadByB) (λ held. held ++ read_by_b))
+      → OnOk r (HoldsAfter (a.holds port.ReadByA) (b.holds port.ReadByA) (λ held. held ++ read_by_a)) → OnOk r (HoldsAfter (a.holds port.Log) (b.holds port.Log) (λ held. held ++ lines))
+      → OnErr r (HoldsPrefix (a.holds port.ReadByB) (b.holds port.ReadByB) read_by_b) → OnErr r (HoldsPrefix (a.holds port.ReadByA) (b.holds port.ReadByA) read_by_a)
+      → OnErr r (HoldsPrefix (a.holds port.Log) (b.holds port.Log) lines) → Puts (puts_of read_by_b read_by_a lines) a b r → RoundPut opening number last w a b r
   piece_put (Ok x) by_b by_a log b_part a_part log_part puts = record {
-    whole = round_held made last w opening number old new read_by_b read_by_a lines b_is a_is lines_are h few fit by_b by_a log;
+    whole = round_held made last w opening number a.holds b.holds read_by_b read_by_a lines b_is a_is lines_are h few fit by_b by_a log;
     part = tt;
-    puts = puts_by _ _ l m f g a b (Ok x) (puts_are made last w opening number read_by_b read_by_a lines b_is a_is lines_are h) puts;
+    puts = puts_by _ _ a b (Ok x) (puts_are made last w opening number read_by_b read_by_a lines b_is a_is lines_are h) puts;
   }
   piece_put (Err e) by_b by_a log b_part a_part log_part puts = record {
     whole = tt;
-    part = round_part made last w opening number old new read_by_b read_by_a lines b_is a_is lines_are h b_part a_part log_part;
-    puts = puts_by _ _ l m f g a b (Err e) (puts_are made last w opening number read_by_b read_by_a lines b_is a_is lines_are h) puts;
+    part = round_part made last w opening number a.holds b.holds read_by_b read_by_a lines b_is a_is lines_are h b_part a_part log_part;
+    puts = puts_by _ _ a b (Err e) (puts_are made last w opening number read_by_b read_by_a lines b_is a_is lines_are h) puts;
   }

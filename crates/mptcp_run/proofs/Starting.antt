@@ -1,6 +1,7 @@
 -- A run that was opened, and how it goes on.
 use Rattle.std.proofs.Common.{◌≡◌, refl, sym, ◌∙◌, ap, subst, ℕ, ◌+◌, List, [], Option, length}
 use Rattle.outside_kit.specs.declared.port.Port.{Port}
+use Rattle.outside_kit.specs.Outside.{Told}
 use Rattle.run_words.specs.Lines.{Line}
 use Rattle.run_outside.specs.declared.input.Input.{Input}
 use Rattle.world_core.specs.Kept.{Kept}
@@ -15,14 +16,14 @@ use Rattle.run_outside.specs.declared.status.Status.TheVariants.{Delivered, Put,
 use Rattle.mptcp_run.specs.Courses.{CourseMade, CourseCut, LogStops}
 use Rattle.mptcp_run.specs.Ends.{CameToEnd, IsCut, ReplayEnds}
 use Rattle.run_outside.specs.Plan.{AddsAll, AddsShort, binds_of}
-use Rattle.run_outside.specs.Ports.{NeverFall, IsPortsFault, Ports}
+use Rattle.run_outside.specs.Ports.{NeverFall, IsPortsFault}
 use Rattle.world_core.specs.RoundEnds.{round_ends}
 use Rattle.mptcp_run.specs.Putting.{opening_of, opening_in, status_of, ends_of, world_after, last_line, last_line_of}
 use Rattle.mptcp_run.specs.Replaying.{IsReplayFault}
 use Rattle.mptcp_run.specs.Rounds.{Begins, AtRound, IsOpened}
 use Rattle.mptcp_run.specs.Task.{Connection, Course, Task, task_with, task_from, first_world}
 use Rattle.mptcp_run.specs.Task as course
-use Rattle.run_outside.proofs.Calls.{Told, all_then}
+use Rattle.run_outside.proofs.Calls.{all_then}
 use Rattle.mptcp_run.proofs.Performing.{AreBound, LogGrew, LogGrewPart, rounds_held, line_put, line_done, line_short, rounds_short}
 use Rattle.run_outside.proofs.PortsLemmas.{risen_later}
 use Rattle.mptcp_run.proofs.UnderWay.{opened_begins}
@@ -58,60 +59,59 @@ logged_line task turns count v kept end =
 
 -- ---- from its first round to the last line
 
-module _ (input : Input) (kind : Report) (run : Run) (h : IsOpened input kind run) (line : Line) (ha hb hc : Ports) (held : AreBound ha hb) (a b c : Told)
-    (bound : AddsAll (binds_of line) a b) where
+module _ (input : Input) (kind : Report) (run : Run) (h : IsOpened input kind run) (line : Line) (a b c : Told) (held : AreBound a.holds b.holds)
+    (bound : AddsAll (binds_of line) a.calls b.calls) where
   -- rounds
   module _ (way : Course) where
     abbrev rounds_run : Task
     rounds_run = task_with input way kind
 
-    pub course_short : (status : Status) → CourseCut way run.opening run.world.state hb hc b c status → IsCut [] line (task_with input way kind) ha hc a c status
+    pub course_short : (status : Status) → CourseCut way run.opening run.world.state b c status → IsCut [] line (task_with input way kind) a c status
     course_short status cut =
-        rounds_short line rounds_run ha hb hc held a b c bound status (as_opened input kind run h (λ o w. CourseCut way o w hb hc b c status) cut)
+        rounds_short line rounds_run a b c held bound status (as_opened input kind run h (λ o w. CourseCut way o w b c status) cut)
 
-    module _ (count : ℕ) (v : Connection) (status : Status) (hd : Ports) (d : Told)
-        (ok : (m : CourseMade way run.opening run.world.state v hb hc b c) × (count ≡ length (round_ends m.turns run.world.state))) where
-      made : (m : CourseMade way (opening_in rounds_run) (first_world rounds_run) v hb hc b c) × (count ≡ length (ends_of rounds_run m.turns))
-      made = as_opened input kind run h (λ o w. (m : CourseMade way o w v hb hc b c) × (count ≡ length (round_ends m.turns w))) ok
+    module _ (count : ℕ) (v : Connection) (status : Status) (d : Told)
+        (ok : (m : CourseMade way run.opening run.world.state v b c) × (count ≡ length (round_ends m.turns run.world.state))) where
+      made : (m : CourseMade way (opening_in rounds_run) (first_world rounds_run) v b c) × (count ≡ length (ends_of rounds_run m.turns))
+      made = as_opened input kind run h (λ o w. (m : CourseMade way o w v b c) × (count ≡ length (round_ends m.turns w))) ok
 
-      pub course_done : status ≡ status_of (outcome_of v.crew) → LogGrew (last_line_of kind count v) hc hd → AddsAll (line_put (last_line_of kind count v)) c d
-          → CameToEnd [] line (task_with input way kind) ha hd a d status
+      pub course_done : status ≡ status_of (outcome_of v.crew) → LogGrew (last_line_of kind count v) c.holds d.holds → AddsAll (line_put (last_line_of kind count v)) c.calls d.calls
+          → CameToEnd [] line (task_with input way kind) a d status
       course_done shown grew told =
-          line_done line rounds_run ha hb hc held a b c bound v made.0 (last_line_of kind count v) (line_after rounds_run count v made.0.turns made.1 made.0.world)
-          status hd d shown grew told
+          line_done line rounds_run a b c held bound v made.0 (last_line_of kind count v) (line_after rounds_run count v made.0.turns made.1 made.0.world)
+          status d shown grew told
 
-      pub course_line_short : LogGrewPart (last_line_of kind count v) hc hd → AddsShort (line_put (last_line_of kind count v)) status c d
-          → IsCut [] line (task_with input way kind) ha hd a d status
+      pub course_line_short : LogGrewPart (last_line_of kind count v) c.holds d.holds → AddsShort (line_put (last_line_of kind count v)) status c.calls d.calls
+          → IsCut [] line (task_with input way kind) a d status
       course_line_short grew cut =
-          line_short line rounds_run ha hb hc held a b c bound v made.0 (last_line_of kind count v) (line_after rounds_run count v made.0.turns made.1 made.0.world)
-          status hd d grew cut
+          line_short line rounds_run a b c held bound v made.0 (last_line_of kind count v) (line_after rounds_run count v made.0.turns made.1 made.0.world)
+          status d grew cut
 
-module _ (input : Input) (run : Run) (h : IsOpened input report.Log run) (line : Line) (ha hb hc : Ports) (held : AreBound ha hb) (a b c : Told)
-    (bound : AddsAll (binds_of line) a b) (order : List Turn) where
+module _ (input : Input) (run : Run) (h : IsOpened input report.Log run) (line : Line) (a b c : Told) (held : AreBound a.holds b.holds)
+    (bound : AddsAll (binds_of line) a.calls b.calls) (order : List Turn) where
   abbrev replay_run : Task
   replay_run = task_from input (course.told order)
 
-  module _ (count : ℕ) (v : Connection) (status : Status) (hd : Ports) (d : Told) (ok : CourseMade (course.told order) run.opening run.world.state v hb hc b c) where
-    told_made : CourseMade (course.told order) (opening_in replay_run) (first_world replay_run) v hb hc b c
-    told_made = as_opened input report.Log run h (λ o w. CourseMade (course.told order) o w v hb hc b c) ok
+  module _ (count : ℕ) (v : Connection) (status : Status) (d : Told) (ok : CourseMade (course.told order) run.opening run.world.state v b c) where
+    told_made : CourseMade (course.told order) (opening_in replay_run) (first_world replay_run) v b c
+    told_made = as_opened input report.Log run h (λ o w. CourseMade (course.told order) o w v b c) ok
 
-    pub replay_done : status ≡ status_of (outcome_of v.crew) → LogGrew (last_line_of report.Log count v) hc hd → AddsAll (line_put (last_line_of report.Log count v)) c d
-        → CameToEnd [] line (task_from input (course.told order)) ha hd a d status
+    pub replay_done : status ≡ status_of (outcome_of v.crew) → LogGrew (last_line_of report.Log count v) c.holds d.holds → AddsAll (line_put (last_line_of report.Log count v)) c.calls d.calls
+        → CameToEnd [] line (task_from input (course.told order)) a d status
     replay_done shown grew told =
-        line_done line replay_run ha hb hc held a b c bound v told_made (last_line_of report.Log count v) (logged_line replay_run told_made.turns count v refl told_made.world)
-        status hd d shown grew told
+        line_done line replay_run a b c held bound v told_made (last_line_of report.Log count v) (logged_line replay_run told_made.turns count v refl told_made.world)
+        status d shown grew told
 
-    pub replay_line_short : LogGrewPart (last_line_of report.Log count v) hc hd → AddsShort (line_put (last_line_of report.Log count v)) status c d
-        → IsCut [] line (task_from input (course.told order)) ha hd a d status
+    pub replay_line_short : LogGrewPart (last_line_of report.Log count v) c.holds d.holds → AddsShort (line_put (last_line_of report.Log count v)) status c.calls d.calls
+        → IsCut [] line (task_from input (course.told order)) a d status
     replay_line_short grew cut =
-        line_short line replay_run ha hb hc held a b c bound v told_made (last_line_of report.Log count v) (logged_line replay_run told_made.turns count v refl told_made.world)
-        status hd d grew cut
+        line_short line replay_run a b c held bound v told_made (last_line_of report.Log count v) (logged_line replay_run told_made.turns count v refl told_made.world)
+        status d grew cut
 
 -- ---- the turns of a log
 
-module _ (line : Line) (task : Task) (order : List Turn) (is : task.course ≡ course.told order) (lines : ℕ) (ha hb hc : Ports) (held : AreBound ha hb)
-    (a b c : Told) (bound : AddsAll (binds_of line) a b) where
-  pub log_stops : (status : Status) → LogStops order lines (opening_in task) (first_world task) hb hc b c status → ReplayEnds [] line task ha hc a c lines status
+module _ (line : Line) (task : Task) (order : List Turn) (is : task.course ≡ course.told order) (lines : ℕ) (a b c : Told) (held : AreBound a.holds b.holds) (bound : AddsAll (binds_of line) a.calls b.calls) where
+  pub log_stops : (status : Status) → LogStops order lines (opening_in task) (first_world task) b c status → ReplayEnds [] line task a c lines status
   log_stops (Log at) h =
       let halted = h.1.1 in
       record {
@@ -123,30 +123,30 @@ module _ (line : Line) (task : Task) (order : List Turn) (is : task.course ≡ c
           lawful = halted.lawful;
           refused = halted.refused;
           line_is = h.1.0 ∙ ap (λ n. lines + n + 1) halted.count_is;
-          ports = rounds_held task halted.made ha hb hc held halted.ports;
+          ports = rounds_held task halted.made a.holds b.holds c.holds held halted.ports;
         };
-        calls = all_then (binds_of line) _ a b c bound halted.calls;
+        calls = all_then (binds_of line) _ a.calls b.calls c.calls bound halted.calls;
       }
   log_stops (Put p) h =
-      rounds_short line task ha hb hc held a b c bound (Put p) (subst (λ x. CourseCut x (opening_in task) (first_world task) hb hc b c (Put p)) (sym is) h)
+      rounds_short line task a b c held bound (Put p) (subst (λ x. CourseCut x (opening_in task) (first_world task) b c (Put p)) (sym is) h)
   log_stops Memory h =
-      rounds_short line task ha hb hc held a b c bound Memory (subst (λ x. CourseCut x (opening_in task) (first_world task) hb hc b c Memory) (sym is) h)
+      rounds_short line task a b c held bound Memory (subst (λ x. CourseCut x (opening_in task) (first_world task) b c Memory) (sym is) h)
   log_stops Delivered h = absurd h
   log_stops _ h = absurd h
 
-pub replay_stops : (input : Input) (run : Run) → IsOpened input report.Log run → (line : Line) (ha hb hc : Ports) → AreBound ha hb → (a b c : Told)
-    → AddsAll (binds_of line) a b → (order : List Turn) (lines : ℕ) (status : Status) → LogStops order lines run.opening run.world.state hb hc b c status
-    → ReplayEnds [] line (task_from input (course.told order)) ha hc a c lines status
-replay_stops input run h line ha hb hc held a b c bound order lines status stops =
-    log_stops line (task_from input (course.told order)) order refl lines ha hb hc held a b c bound status
-    (as_opened input report.Log run h (λ o w. LogStops order lines o w hb hc b c status) stops)
+pub replay_stops : (input : Input) (run : Run) → IsOpened input report.Log run → (line : Line) (a b c : Told) → AreBound a.holds b.holds
+    → AddsAll (binds_of line) a.calls b.calls → (order : List Turn) (lines : ℕ) (status : Status) → LogStops order lines run.opening run.world.state b c status
+    → ReplayEnds [] line (task_from input (course.told order)) a c lines status
+replay_stops input run h line a b c held bound order lines status stops =
+    log_stops line (task_from input (course.told order)) order refl lines a b c held bound status
+    (as_opened input report.Log run h (λ o w. LogStops order lines o w b c status) stops)
 
 -- a replay that was cut off by a port
-pub replay_is_cut : (line : Line) (task : Task) (lines : ℕ) (a b : Told) (ha hb : Ports) (before faults : Port → ℕ) (status : Status) → IsPortsFault before faults status
-    → IsCut [] line task ha hb a b status → ReplayEnds [] line task ha hb a b lines status
-replay_is_cut line task lines a b ha hb before faults (Put p) cause cut = cut
-replay_is_cut line task lines a b ha hb before faults Memory cause cut = cut
-replay_is_cut line task lines a b ha hb before faults _ cause cut = absurd cause
+pub replay_is_cut : (line : Line) (task : Task) (lines : ℕ) (a b : Told) (before faults : Port → ℕ) (status : Status) → IsPortsFault before faults status
+    → IsCut [] line task a b status → ReplayEnds [] line task a b lines status
+replay_is_cut line task lines a b before faults (Put p) cause cut = cut
+replay_is_cut line task lines a b before faults Memory cause cut = cut
+replay_is_cut line task lines a b before faults _ cause cut = absurd cause
 
 -- ---- causes
 

@@ -1,7 +1,7 @@
 -- What a turn of a log makes of a run under way.
 use Rattle.std.proofs.Common.{◌≡◌, refl, sym, ◌∙◌, ap, subst, ℕ, Bool, true, false, not, ◌&&◌, inr, List, [], ◌∷◌, map, length, Result, Ok, Err, IfErr, OnErr, Option}
 use Rattle.std.proofs.lemmas.List.{length-map}
-use Rattle.outside_kit.specs.declared.port.Port.{Port}
+use Rattle.outside_kit.specs.Outside.{Told}
 use Rattle.path_core.specs.Octets.{octets}
 use Rattle.world_core.specs.Kept.{Kept, standing}
 use Rattle.world_laws.specs.Actors.{ActorCrew}
@@ -17,7 +17,6 @@ use Rattle.mptcp_run.specs.Replaying.{GoesOn, UnderWay, TurnStops, round_turn}
 use Rattle.mptcp_run.specs.Rounds.{AtRound, HoldsPart}
 use Rattle.mptcp_run.specs.Task.{Connection}
 use Rattle.world_core.specs.Weaving.{AllGrewAbove, IsSince}
-use Rattle.run_outside.proofs.Calls.{Told}
 use Rattle.mptcp_run.proofs.UnderWay.{step_goes, begins_going, lists_at_end, next_begins}
 use Rattle.mptcp_run.proofs.AllTurns.{since_length}
 
@@ -65,14 +64,14 @@ under_end last run new h over world made =
     }
 
 -- a round that wasn't put whole
-pub round_stops : (opening : Option (List ℕ)) (number : ℕ) (last w : Connection) (line : ℕ) (old new : Port → Option (List ℕ)) (before faults : Port → ℕ) (a b : Told)
-    (r : Result (Unit {0}) Status) → all_over w.crew ≡ true → IfErr r (IsPortsFault before faults) → OnErr r (HoldsPart opening number last [] (end_round w ∷ []) old new)
-    → IfErr r (λ status. AddsCut (round_puts opening number last (end_round w)) status a b) → IfErr r (TurnStops opening number round_turn last w line old new a b)
-round_stops opening number last w line old new before faults a b (Ok x) over cause part cut = tt
-round_stops opening number last w line old new before faults a b (Err status) over cause part cut = by status cause cut
+pub round_stops : (opening : Option (List ℕ)) (number : ℕ) (last w : Connection) (line : ℕ) (a b : Told)
+    (r : Result (Unit {0}) Status) → all_over w.crew ≡ true → IfErr r (IsPortsFault a.port_faults b.port_faults) → OnErr r (HoldsPart opening number last [] (end_round w ∷ []) a.holds b.holds)
+    → IfErr r (λ status. AddsCut (round_puts opening number last (end_round w)) status a.calls b.calls) → IfErr r (TurnStops opening number round_turn last w line a b)
+round_stops opening number last w line a b (Ok x) over cause part cut = tt
+round_stops opening number last w line a b (Err status) over cause part cut = by status cause cut
   where
-    by : (status : Status) → IsPortsFault before faults status → AddsCut (round_puts opening number last (end_round w)) status a b
-        → TurnStops opening number round_turn last w line old new a b status
+    by : (status : Status) → IsPortsFault a.port_faults b.port_faults status → AddsCut (round_puts opening number last (end_round w)) status a.calls b.calls
+        → TurnStops opening number round_turn last w line a b status
     by (Put p) cause cut = inr (over, (part, cut))
     by Memory cause cut = inr (over, (part, cut))
     by _ cause cut = absurd cause

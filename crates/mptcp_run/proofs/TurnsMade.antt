@@ -1,6 +1,7 @@
 -- The turns of a log, made and put one after the other.
 use Rattle.std.proofs.Common.{◌≡◌, refl, sym, ap, subst, ℕ, suc, ◌+◌, ◌≤◌, inl, inr, List, [], ◌∷◌, ◌++◌, length, Option, arith}
 use Rattle.outside_kit.specs.declared.port.Port.{Port}
+use Rattle.outside_kit.specs.Outside.{Told}
 use Rattle.outside_kit.specs.declared.port.Port.TheVariants as port
 use Rattle.sides.specs.declared.side.Side.TheVariants.{A, B}
 use Rattle.path_core.specs.Octets.{octets}
@@ -17,7 +18,7 @@ use Rattle.run_outside.specs.LogText.{log_text}
 use Rattle.mptcp_run.specs.Replaying.{last_after, rounds_after, TurnHolds, TurnCut, TurnStops}
 use Rattle.mptcp_run.specs.Rounds.{HoldsEnds, HoldsPart}
 use Rattle.mptcp_run.specs.Task.{Connection}
-use Rattle.run_outside.proofs.Calls.{Told, adds_none, cut_none}
+use Rattle.run_outside.proofs.Calls.{adds_none, cut_none}
 use Rattle.run_outside.proofs.PortsLemmas.{IsPrefix-refl}
 use Rattle.mptcp_run.proofs.PutsMade.{puts_more, puts_cut_more, puts_cut}
 use Rattle.mptcp_run.proofs.RoundSteps.{nothing_part, nothing_ends, ends_more, part_behind}
@@ -60,27 +61,27 @@ module _ (opening : Option (List ℕ)) where
 
   -- ---- all turns
 
-  pub turns_more : (number : ℕ) (turn : Turn) (rest : List Turn) (last w x : Connection) (a b c : Ports) (ta tb tc : Told) → IsLawfulTurn turn w
-      → TurnHolds opening number turn last w a b → AddsAll (turn_puts opening number turn last w) ta tb
-      → TurnsPut opening (rounds_after turn number) rest (last_after turn last w) (after_turn octets turn w) x b c tb tc
-      → TurnsPut opening number (turn ∷ rest) last w x a c ta tc
-  turns_more number turn rest last w x a b c ta tb tc lawful holds made h = record {
+  pub turns_more : (number : ℕ) (turn : Turn) (rest : List Turn) (last w x : Connection) (a b c : Told) → IsLawfulTurn turn w
+      → TurnHolds opening number turn last w a.holds b.holds → AddsAll (turn_puts opening number turn last w) a.calls b.calls
+      → TurnsPut opening (rounds_after turn number) rest (last_after turn last w) (after_turn octets turn w) x b c
+      → TurnsPut opening number (turn ∷ rest) last w x a c
+  turns_more number turn rest last w x a b c lawful holds made h = record {
     lawful = (lawful, h.lawful);
     world = h.world;
-    ports = ends_behind number turn rest last w a b c holds h.ports;
-    calls = puts_more opening number turn last w rest ta tb tc made h.calls;
+    ports = ends_behind number turn rest last w a.holds b.holds c.holds holds h.ports;
+    calls = puts_more opening number turn last w rest a.calls b.calls c.calls made h.calls;
   }
 
-  pub turns_over : (number : ℕ) (last w : Connection) (a : Ports) (ta : Told) → TurnsPut opening number [] last w w a a ta ta
-  turns_over number last w a ta = record { lawful = tt; world = refl; ports = nothing_ends opening number last a a (λ p. refl); calls = adds_none ta }
+  pub turns_over : (number : ℕ) (last w : Connection) (a : Told) → TurnsPut opening number [] last w w a a
+  turns_over number last w a = record { lawful = tt; world = refl; ports = nothing_ends opening number last a.holds a.holds (λ p. refl); calls = adds_none a.calls }
 
   -- ---- up to a fault
 
-  refused_more : (number : ℕ) (turn : Turn) (rest : List Turn) (count : ℕ) (last w : Connection) (a b c : Ports) (ta tb tc : Told) → IsLawfulTurn turn w
-      → TurnHolds opening number turn last w a b → AddsAll (turn_puts opening number turn last w) ta tb
-      → TurnRefused opening (rounds_after turn number) rest count (last_after turn last w) (after_turn octets turn w) b c tb tc
-      → TurnRefused opening number (turn ∷ rest) (suc count) last w a c ta tc
-  refused_more number turn rest count last w a b c ta tb tc lawful holds made h = record {
+  refused_more : (number : ℕ) (turn : Turn) (rest : List Turn) (count : ℕ) (last w : Connection) (a b c : Told) → IsLawfulTurn turn w
+      → TurnHolds opening number turn last w a.holds b.holds → AddsAll (turn_puts opening number turn last w) a.calls b.calls
+      → TurnRefused opening (rounds_after turn number) rest count (last_after turn last w) (after_turn octets turn w) b c
+      → TurnRefused opening number (turn ∷ rest) (suc count) last w a c
+  refused_more number turn rest count last w a b c lawful holds made h = record {
     made = turn ∷ h.made;
     turn = h.turn;
     behind = h.behind;
@@ -88,48 +89,48 @@ module _ (opening : Option (List ℕ)) where
     count_is = ap suc h.count_is;
     lawful = (lawful, h.lawful);
     refused = h.refused;
-    ports = ends_behind number turn h.made last w a b c holds h.ports;
-    calls = puts_more opening number turn last w h.made ta tb tc made h.calls;
+    ports = ends_behind number turn h.made last w a.holds b.holds c.holds holds h.ports;
+    calls = puts_more opening number turn last w h.made a.calls b.calls c.calls made h.calls;
   }
 
-  cut_more : (number : ℕ) (turn : Turn) (rest : List Turn) (last w : Connection) (a b c : Ports) (ta tb tc : Told) (status : Status) → IsLawfulTurn turn w
-      → TurnHolds opening number turn last w a b → AddsAll (turn_puts opening number turn last w) ta tb
-      → TurnsCut opening (rounds_after turn number) rest (last_after turn last w) (after_turn octets turn w) b c tb tc status
-      → TurnsCut opening number (turn ∷ rest) last w a c ta tc status
-  cut_more number turn rest last w a b c ta tb tc status lawful holds made h = record {
+  cut_more : (number : ℕ) (turn : Turn) (rest : List Turn) (last w : Connection) (a b c : Told) (status : Status) → IsLawfulTurn turn w
+      → TurnHolds opening number turn last w a.holds b.holds → AddsAll (turn_puts opening number turn last w) a.calls b.calls
+      → TurnsCut opening (rounds_after turn number) rest (last_after turn last w) (after_turn octets turn w) b c status
+      → TurnsCut opening number (turn ∷ rest) last w a c status
+  cut_more number turn rest last w a b c status lawful holds made h = record {
     turns = turn ∷ h.turns;
     more = h.more;
     behind = h.behind;
     order_is = ap (λ ts. turn ∷ ts) h.order_is;
     lawful = (lawful, h.lawful);
     one = h.one;
-    ports = parts_behind number turn h.turns (h.turns ++ h.more) last w a b c holds h.ports;
-    calls = puts_cut_more opening number turn last w (h.turns ++ h.more) ta tb tc status made h.calls;
+    ports = parts_behind number turn h.turns (h.turns ++ h.more) last w a.holds b.holds c.holds holds h.ports;
+    calls = puts_cut_more opening number turn last w (h.turns ++ h.more) a.calls b.calls c.calls status made h.calls;
   }
 
-  pub fault_more : (number : ℕ) (turn : Turn) (rest : List Turn) (last w : Connection) (lines : ℕ) (a b c : Ports) (ta tb tc : Told) (status : Status)
-      → IsLawfulTurn turn w → TurnHolds opening number turn last w a b → AddsAll (turn_puts opening number turn last w) ta tb
-      → TurnsFault opening (rounds_after turn number) rest (last_after turn last w) (after_turn octets turn w) (lines + 1) b c tb tc status
-      → TurnsFault opening number (turn ∷ rest) last w lines a c ta tc status
-  fault_more number turn rest last w lines a b c ta tb tc (Log line) lawful holds made h =
-      (suc h.0, (let is = h.1.0 in omega (arith, is), refused_more number turn rest h.0 last w a b c ta tb tc lawful holds made h.1.1))
-  fault_more number turn rest last w lines a b c ta tb tc (Put p) lawful holds made h = cut_more number turn rest last w a b c ta tb tc (Put p) lawful holds made h
-  fault_more number turn rest last w lines a b c ta tb tc Memory lawful holds made h = cut_more number turn rest last w a b c ta tb tc Memory lawful holds made h
-  fault_more number turn rest last w lines a b c ta tb tc _ lawful holds made h = absurd h
+  pub fault_more : (number : ℕ) (turn : Turn) (rest : List Turn) (last w : Connection) (lines : ℕ) (a b c : Told) (status : Status)
+      → IsLawfulTurn turn w → TurnHolds opening number turn last w a.holds b.holds → AddsAll (turn_puts opening number turn last w) a.calls b.calls
+      → TurnsFault opening (rounds_after turn number) rest (last_after turn last w) (after_turn octets turn w) (lines + 1) b c status
+      → TurnsFault opening number (turn ∷ rest) last w lines a c status
+  fault_more number turn rest last w lines a b c (Log line) lawful holds made h =
+      (suc h.0, (let is = h.1.0 in omega (arith, is), refused_more number turn rest h.0 last w a b c lawful holds made h.1.1))
+  fault_more number turn rest last w lines a b c (Put p) lawful holds made h = cut_more number turn rest last w a b c (Put p) lawful holds made h
+  fault_more number turn rest last w lines a b c Memory lawful holds made h = cut_more number turn rest last w a b c Memory lawful holds made h
+  fault_more number turn rest last w lines a b c _ lawful holds made h = absurd h
 
-  cut_here : (number : ℕ) (turn : Turn) (rest : List Turn) (last w : Connection) (a b : Ports) (ta tb : Told) (status : Status)
-      → TurnCut opening number turn last w a b ta tb status → TurnsCut opening number (turn ∷ rest) last w a b ta tb status
-  cut_here number turn rest last w a b ta tb status (inl (is, (same, none))) = record {
+  cut_here : (number : ℕ) (turn : Turn) (rest : List Turn) (last w : Connection) (a b : Told) (status : Status)
+      → TurnCut opening number turn last w a b status → TurnsCut opening number (turn ∷ rest) last w a b status
+  cut_here number turn rest last w a b status (inl (is, (same, none))) = record {
     turns = [];
     more = [];
     behind = turn ∷ rest;
     order_is = refl;
     lawful = tt;
     one = omega arith;
-    ports = nothing_part opening number last [] a b same (IsPrefix-refl (output_of B last)) (IsPrefix-refl (output_of A last));
-    calls = cut_none [] status ta tb is none;
+    ports = nothing_part opening number last [] a.holds b.holds same (IsPrefix-refl (output_of B last)) (IsPrefix-refl (output_of A last));
+    calls = cut_none [] status a.calls b.calls is none;
   }
-  cut_here number turn rest last w a b ta tb status (inr (lawful, (part, cut))) = record {
+  cut_here number turn rest last w a b status (inr (lawful, (part, cut))) = record {
     turns = [];
     more = turn ∷ [];
     behind = rest;
@@ -137,16 +138,16 @@ module _ (opening : Option (List ℕ)) where
     lawful = (lawful, tt);
     one = one turn;
     ports = part;
-    calls = puts_cut opening number turn last w ta tb status cut;
+    calls = puts_cut opening number turn last w a.calls b.calls status cut;
   }
     where
       one : (turn : Turn) → length (round_ends (turn ∷ []) w) ≤ 1
       one (Turn.Step actor) = omega arith
       one Turn.Round = omega arith
 
-  pub fault_here : (number : ℕ) (turn : Turn) (rest : List Turn) (last w : Connection) (lines line : ℕ) (a b : Ports) (ta tb : Told) (status : Status) → line ≡ lines + 1
-      → TurnStops opening number turn last w line a b ta tb status → TurnsFault opening number (turn ∷ rest) last w lines a b ta tb status
-  fault_here number turn rest last w lines line a b ta tb (Log at) is h = (
+  pub fault_here : (number : ℕ) (turn : Turn) (rest : List Turn) (last w : Connection) (lines line : ℕ) (a b : Told) (status : Status) → line ≡ lines + 1
+      → TurnStops opening number turn last w line a b status → TurnsFault opening number (turn ∷ rest) last w lines a b status
+  fault_here number turn rest last w lines line a b (Log at) is h = (
     0,
     (
       let at_is = h.0 in omega (arith, is, at_is),
@@ -158,42 +159,42 @@ module _ (opening : Option (List ℕ)) where
         count_is = refl;
         lawful = tt;
         refused = h.1.0;
-        ports = nothing_ends opening number last a b h.1.1.0;
+        ports = nothing_ends opening number last a.holds b.holds h.1.1.0;
         calls = h.1.1.1;
       },
     ),
   )
-  fault_here number turn rest last w lines line a b ta tb (Put p) is h = cut_here number turn rest last w a b ta tb (Put p) h
-  fault_here number turn rest last w lines line a b ta tb Memory is h = cut_here number turn rest last w a b ta tb Memory h
-  fault_here number turn rest last w lines line a b ta tb _ is h = absurd h
+  fault_here number turn rest last w lines line a b (Put p) is h = cut_here number turn rest last w a b (Put p) h
+  fault_here number turn rest last w lines line a b Memory is h = cut_here number turn rest last w a b Memory h
+  fault_here number turn rest last w lines line a b _ is h = absurd h
 
 -- ---- the same, as a loop has them
 
-module _ (op next_op : Option (List ℕ)) (n m : ℕ) (turn : Turn) (rest order : List Turn) (last w : Connection) (k : Kept) (a b c : Ports) (ta tb tc : Told)
+module _ (op next_op : Option (List ℕ)) (n m : ℕ) (turn : Turn) (rest order : List Turn) (last w : Connection) (k : Kept) (a b c : Told)
     (same : next_op ≡ op) (many : m ≡ rounds_after turn n) (order_is : order ≡ turn ∷ rest) (world : k ≡ standing (after_turn octets turn w)) (lawful : IsLawfulTurn turn w)
-    (holds : TurnHolds op n turn last w a b) (made : AddsAll (turn_puts op n turn last w) ta tb) where
-  pub put_turn : (x : Connection) → TurnsPut next_op m rest (last_after turn last w) k.state x b c tb tc → TurnsPut op n order last w x a c ta tc
+    (holds : TurnHolds op n turn last w a.holds b.holds) (made : AddsAll (turn_puts op n turn last w) a.calls b.calls) where
+  pub put_turn : (x : Connection) → TurnsPut next_op m rest (last_after turn last w) k.state x b c → TurnsPut op n order last w x a c
   put_turn x h =
-      subst (λ ts. TurnsPut op n ts last w x a c ta tc) (sym order_is)
-      (turns_more op n turn rest last w x a b c ta tb tc lawful holds made
-      (subst (λ (z : Kept). TurnsPut op (rounds_after turn n) rest (last_after turn last w) z.state x b c tb tc) world
-      (subst (λ i. TurnsPut op i rest (last_after turn last w) k.state x b c tb tc) many
-      (subst (λ o. TurnsPut o m rest (last_after turn last w) k.state x b c tb tc) same h))))
+      subst (λ ts. TurnsPut op n ts last w x a c) (sym order_is)
+      (turns_more op n turn rest last w x a b c lawful holds made
+      (subst (λ (z : Kept). TurnsPut op (rounds_after turn n) rest (last_after turn last w) z.state x b c) world
+      (subst (λ i. TurnsPut op i rest (last_after turn last w) k.state x b c) many
+      (subst (λ o. TurnsPut o m rest (last_after turn last w) k.state x b c) same h))))
 
-  pub fault_later : (line next : ℕ) (status : Status) → next ≡ line + 1 → TurnsFault next_op m rest (last_after turn last w) k.state next b c tb tc status
-      → TurnsFault op n order last w line a c ta tc status
+  pub fault_later : (line next : ℕ) (status : Status) → next ≡ line + 1 → TurnsFault next_op m rest (last_after turn last w) k.state next b c status
+      → TurnsFault op n order last w line a c status
   fault_later line next status next_is h =
-      subst (λ ts. TurnsFault op n ts last w line a c ta tc status) (sym order_is)
-      (fault_more op n turn rest last w line a b c ta tb tc status lawful holds made
-      (subst (λ (z : Kept). TurnsFault op (rounds_after turn n) rest (last_after turn last w) z.state (line + 1) b c tb tc status) world
-      (subst (λ i. TurnsFault op (rounds_after turn n) rest (last_after turn last w) k.state i b c tb tc status) next_is
-      (subst (λ i. TurnsFault op i rest (last_after turn last w) k.state next b c tb tc status) many
-      (subst (λ o. TurnsFault o m rest (last_after turn last w) k.state next b c tb tc status) same h)))))
+      subst (λ ts. TurnsFault op n ts last w line a c status) (sym order_is)
+      (fault_more op n turn rest last w line a b c status lawful holds made
+      (subst (λ (z : Kept). TurnsFault op (rounds_after turn n) rest (last_after turn last w) z.state (line + 1) b c status) world
+      (subst (λ i. TurnsFault op (rounds_after turn n) rest (last_after turn last w) k.state i b c status) next_is
+      (subst (λ i. TurnsFault op i rest (last_after turn last w) k.state next b c status) many
+      (subst (λ o. TurnsFault o m rest (last_after turn last w) k.state next b c status) same h)))))
 
-pub fault_now : (op : Option (List ℕ)) (n line at : ℕ) (turn : Turn) (rest order : List Turn) (last w : Connection) (a b : Ports) (ta tb : Told) (status : Status)
-    → at ≡ line + 1 → order ≡ turn ∷ rest → TurnStops op n turn last w at a b ta tb status → TurnsFault op n order last w line a b ta tb status
-fault_now op n line at turn rest order last w a b ta tb status at_is order_is h =
-    subst (λ ts. TurnsFault op n ts last w line a b ta tb status) (sym order_is) (fault_here op n turn rest last w line at a b ta tb status at_is h)
+pub fault_now : (op : Option (List ℕ)) (n line at : ℕ) (turn : Turn) (rest order : List Turn) (last w : Connection) (a b : Told) (status : Status)
+    → at ≡ line + 1 → order ≡ turn ∷ rest → TurnStops op n turn last w at a b status → TurnsFault op n order last w line a b status
+fault_now op n line at turn rest order last w a b status at_is order_is h =
+    subst (λ ts. TurnsFault op n ts last w line a b status) (sym order_is) (fault_here op n turn rest last w line at a b status at_is h)
 
 -- a turn ends one round at most
 pub rounds_few : (turn : Turn) (n i m : ℕ) → n ≤ i → m ≡ rounds_after turn n → m ≤ i + 1

@@ -1,8 +1,8 @@
 -- What a run says by its status: a row for each.
 use Rattle.std.specs.Prelude.{◌≡◌, ℕ, true, ◌⊎◌, List, [], Err, Option, Some, IfSome, IsSome}
 use Rattle.outside_kit.specs.declared.port.Port.{Port}
-use Rattle.outside_kit.specs.Calls.{Call, Made}
-use Rattle.outside_kit.specs.Outside.{HasRisen}
+use Rattle.outside_kit.specs.Calls.{Call}
+use Rattle.outside_kit.specs.Outside.{Told, HasRisen}
 use Rattle.link_script.specs.declared.fault.ScriptKind.{ScriptKind}
 use Rattle.link_script.specs.declared.fault.ScriptFault.TheVariants as script_fault
 use Rattle.run_log.specs.declared.fault.LogFault.TheVariants as log_fault
@@ -52,74 +52,73 @@ pub record HasStopped (task : Task) (opening line : ℕ) (puts : List Call) (hel
 
 -- ---- a run of `run`, `serial`, `timed` or `replay`
 
-module _ (content : List ℕ → Option (List ℕ)) (line : Line) (loads_before loads : ℕ)
-    (faults_before faults : Port → ℕ) (held holds : Ports) (told tells : Option (List Made)) where
+module _ (line : Line) (old new : Told) where
   -- an input can't be loaded, or is too long
   pub record LoadRow (named : Named) (status : Status) : Type 0 where
-    pub cause : IsLoadsFault content line loads_before loads status
-    pub untouched : IsUntouched held holds faults_before faults
-    pub calls : AddsLoadsTo named line told tells
+    pub cause : IsLoadsFault old.content line old.load_faults new.load_faults status
+    pub untouched : IsUntouched old new
+    pub calls : AddsLoadsTo named line old.calls new.calls
 
   -- the script is refused at this line
   pub record ScriptRow (at : ℕ) (kind : ScriptKind) : Type 0 where
-    pub within : AreWithinLimits content line
-    pub cause : IfSome (content line.names.script)
+    pub within : AreWithinLimits old.content line
+    pub cause : IfSome (old.content line.names.script)
         (λ text. reading text ≡ Err (script_fault.Line at kind))
-    pub untouched : IsUntouched held holds faults_before faults
-    pub calls : AddsAll (loads_of line) told tells
+    pub untouched : IsUntouched old new
+    pub calls : AddsAll (loads_of line) old.calls new.calls
 
   -- the log breaks its form at this line
   pub record FormRow (at : ℕ) : Type 0 where
     pub replay : IsSome (order_of line.work)
-    pub within : AreWithinLimits content line
-    pub script : HasValidScript content line
-    pub cause : IfSome (script_of content line) (λ script.
-        IfSome (content_of content line input.Order)
+    pub within : AreWithinLimits old.content line
+    pub script : HasValidScript old.content line
+    pub cause : IfSome (script_of old.content line) (λ script.
+        IfSome (content_of old.content line input.Order)
         (λ log. log_reading script log ≡ Err (log_fault.Line at)))
-    pub untouched : IsUntouched held holds faults_before faults
-    pub calls : AddsAll (loads_of line) told tells
+    pub untouched : IsUntouched old new
+    pub calls : AddsAll (loads_of line) old.calls new.calls
 
   -- the log has its form, and its turn in this line is the first that can't be made
   pub record TurnRow (at : ℕ) : Type 0 where
     pub replay : IsSome (order_of line.work)
-    pub read : WasRead content line
+    pub read : WasRead old.content line
     pub puts : List Call
-    pub stopped : IfSome (content_of content line input.Order) (λ log. IfSome
-        (task_of content line) (λ task. HasStopped task (opening_count log) at puts held holds))
-    pub prefixes : NoneIsAltered content line
-        → ReadersHavePrefixes (content line.names.file_a) (content line.names.file_b) held holds
-    pub calls : AddsAll (plan_of (loads_of line) line puts) told tells
+    pub stopped : IfSome (content_of old.content line input.Order) (λ log. IfSome
+        (task_of old.content line) (λ task. HasStopped task (opening_count log) at puts old.holds new.holds))
+    pub prefixes : NoneIsAltered old.content line
+        → ReadersHavePrefixes (old.content line.names.file_a) (old.content line.names.file_b) old.holds new.holds
+    pub calls : AddsAll (plan_of (loads_of line) line puts) old.calls new.calls
 
   -- the run was cut off behind its loads
   pub record CutRow (status : Status) : Type 0 where
-    pub read : WasRead content line
-    pub cut : IfSome (task_of content line)
-        (λ task. IsCut (loads_of line) line task held holds told tells status)
-    pub prefixes : NoneIsAltered content line → ReadersHavePrefixesIfBound
-        (content line.names.file_a) (content line.names.file_b) held holds
-    pub calls : (puts : List Call) × AddsCut (plan_of (loads_of line) line puts) status told tells
+    pub read : WasRead old.content line
+    pub cut : IfSome (task_of old.content line)
+        (λ task. IsCut (loads_of line) line task old new status)
+    pub prefixes : NoneIsAltered old.content line → ReadersHavePrefixesIfBound
+        (old.content line.names.file_a) (old.content line.names.file_b) old.holds new.holds
+    pub calls : (puts : List Call) × AddsCut (plan_of (loads_of line) line puts) status old.calls new.calls
 
   -- before them, or in them
   pub record UnbegunRow : Type 0 where
-    pub untouched : IsUntouched held holds faults_before faults
-    pub calls : AddsCut (loads_of line) Memory told tells
+    pub untouched : IsUntouched old new
+    pub calls : AddsCut (loads_of line) Memory old.calls new.calls
 
   -- the run came to its own end
   pub record EndRow (status : Status) : Type 0 where
-    pub read : WasRead content line
+    pub read : WasRead old.content line
     pub puts : List Call
-    pub run : IfSome (task_of content line) (λ task. HasRun task status puts held holds)
-    pub prefixes : NoneIsAltered content line
-        → ReadersHavePrefixes (content line.names.file_a) (content line.names.file_b) held holds
-    pub calls : AddsAll (plan_of (loads_of line) line puts) told tells
+    pub run : IfSome (task_of old.content line) (λ task. HasRun task status puts old.holds new.holds)
+    pub prefixes : NoneIsAltered old.content line
+        → ReadersHavePrefixes (old.content line.names.file_a) (old.content line.names.file_b) old.holds new.holds
+    pub calls : AddsAll (plan_of (loads_of line) line puts) old.calls new.calls
 
   -- each reader was told the end: its port holds as many octets as the other side's file has,
   -- and where no line of the script alters a payload, that file
   pub record DeliveredRow : Type 0 where
     pub row : EndRow Delivered
-    pub many : ReadersHaveAsMany (content line.names.file_a) (content line.names.file_b) held holds
-    pub files : NoneIsAltered content line
-        → ReadersHaveFiles (content line.names.file_a) (content line.names.file_b) held holds
+    pub many : ReadersHaveAsMany (old.content line.names.file_a) (old.content line.names.file_b) old.holds new.holds
+    pub files : NoneIsAltered old.content line
+        → ReadersHaveFiles (old.content line.names.file_a) (old.content line.names.file_b) old.holds new.holds
 
   -- the row of each status
   abbrev pub IsAnswer : Status → Type 0
@@ -127,7 +126,7 @@ module _ (content : List ℕ → Option (List ℕ)) (line : Line) (loads_before 
   IsAnswer Rounds = EndRow Rounds
   IsAnswer NoPath = EndRow NoPath
   IsAnswer (Aborted reader) = EndRow (Aborted reader)
-  IsAnswer (Put port) = HasRisen (faults_before port) (faults port) × CutRow (Put port)
+  IsAnswer (Put port) = HasRisen (old.port_faults port) (new.port_faults port) × CutRow (Put port)
   IsAnswer Memory = UnbegunRow ⊎ CutRow Memory
   IsAnswer (Log at) = FormRow at ⊎ TurnRow at
   IsAnswer (Script at kind) = ScriptRow at kind
@@ -137,33 +136,32 @@ module _ (content : List ℕ → Option (List ℕ)) (line : Line) (loads_before 
 
 -- ---- a run of `bench`: nothing is loaded
 
-module _ (made : Bench) (loads_before loads : ℕ) (faults_before faults : Port → ℕ)
-    (held holds : Ports) (told tells : Option (List Made)) where
+module _ (made : Bench) (old new : Told) where
   -- The run of the made task came to its own end. Where mappings are checked, what a reader got whose
   -- side hasn't fallen back is right.
   pub record MadeEndRow (status : Status) : Type 0 where
-    pub whole : IsWhole made.task status held holds
+    pub whole : IsWhole made.task status old.holds new.holds
     pub checked : made.task.script.checksum ≡ true
-        → CheckedReadersAreRight made.task status (world_after made.task whole.turns) held holds
+        → CheckedReadersAreRight made.task status (world_after made.task whole.turns) old.holds new.holds
     pub prefixes : ReadersHavePrefixes (Some made.task.file_a) (Some made.task.file_b)
-        held holds
-    pub calls : AddsAll (plan_of [] made.line (all_puts made.task whole.turns)) told tells
+        old.holds new.holds
+    pub calls : AddsAll (plan_of [] made.line (all_puts made.task whole.turns)) old.calls new.calls
 
   -- the run was cut off
   pub record MadeCutRow (status : Status) : Type 0 where
-    pub cut : IsCut [] made.line made.task held holds told tells status
+    pub cut : IsCut [] made.line made.task old new status
     pub prefixes : ReadersHavePrefixesIfBound (Some made.task.file_a) (Some made.task.file_b)
-        held holds
+        old.holds new.holds
 
   -- the row of each status; where nothing is loaded, and no line is a fast close, some never come
   abbrev pub MadeRow : Status → Type 0
   MadeRow Delivered =
       MadeEndRow Delivered
-      × ReadersHaveFiles (Some made.task.file_a) (Some made.task.file_b) held holds
+      × ReadersHaveFiles (Some made.task.file_a) (Some made.task.file_b) old.holds new.holds
   MadeRow Rounds = MadeEndRow Rounds
   MadeRow NoPath = MadeEndRow NoPath
   MadeRow (Aborted reader) = ⊥
-  MadeRow (Put port) = HasRisen (faults_before port) (faults port) × MadeCutRow (Put port)
+  MadeRow (Put port) = HasRisen (old.port_faults port) (new.port_faults port) × MadeCutRow (Put port)
   MadeRow Memory = MadeCutRow Memory
   MadeRow (Log at) = ⊥
   MadeRow (Script at kind) = ⊥
@@ -175,17 +173,16 @@ module _ (made : Bench) (loads_before loads : ℕ) (faults_before faults : Port 
   pub record IsMadeAnswer (status : Status) : Type 0 where
     pub row : MadeRow status
     pub kept : IsAlwaysKept made.task
-    pub unloaded : loads ≡ loads_before
+    pub unloaded : new.load_faults ≡ old.load_faults
 
 -- ---- words that ask for no run
 
 -- the words are refused, or memory is wanting; no call was made, and all is as it was
-pub record NothingWasRun (loads_before loads : ℕ) (faults_before faults : Port → ℕ)
-    (held holds : Ports) (told tells : Option (List Made)) (status : Status) : Type 0 where
+pub record NothingWasRun (old new : Told) (status : Status) : Type 0 where
   pub answer : (status ≡ Usage) ⊎ (status ≡ Memory)
-  pub untouched : IsUntouched held holds faults_before faults
-  pub unloaded : loads ≡ loads_before
-  pub calls : AddsAll [] told tells
+  pub untouched : IsUntouched old new
+  pub unloaded : new.load_faults ≡ old.load_faults
+  pub calls : AddsAll [] old.calls new.calls
 
 -- ---- laws
 
@@ -193,11 +190,10 @@ pub record NothingWasRun (loads_before loads : ℕ) (faults_before faults : Port
 -- comes to its own end, or memory is wanting, or in `replay` a turn can't be made.
 abbrev pub ValidInputsAreRun : Type 0
 ValidInputsAreRun =
-    (content : List ℕ → Option (List ℕ)) (line : Line) (loads_before loads : ℕ)
-    (faults_before faults : Port → ℕ) (held holds : Ports) (told tells : Option (List Made))
+    (line : Line) (old new : Told)
     (status : Status)
-    → IsAnswer content line loads_before loads faults_before faults held holds told tells status
-    → IsValid content line → (HasRisen loads_before loads → ⊥)
-    → ((port : Port) → HasRisen (faults_before port) (faults port) → ⊥)
+    → IsAnswer line old new status
+    → IsValid old.content line → (HasRisen old.load_faults new.load_faults → ⊥)
+    → ((port : Port) → HasRisen (old.port_faults port) (new.port_faults port) → ⊥)
     → HasEnded status
     ⊎ ((status ≡ Memory) ⊎ ((at : ℕ) × ((status ≡ Log at) × IsSome (order_of line.work))))

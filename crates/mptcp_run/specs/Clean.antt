@@ -1,14 +1,12 @@
 -- What is promised of a clean script: one path, and no line on which something happens.
-use Rattle.std.specs.Prelude.{◌≡◌, ℕ, ◌≤◌, ◌⊎◌, List, length, Option, IsSomeAnd}
+use Rattle.std.specs.Prelude.{◌≡◌, ℕ, ◌≤◌, ◌⊎◌, length, IsSomeAnd}
 use Rattle.outside_kit.specs.declared.port.Port.{Port}
-use Rattle.outside_kit.specs.Calls.{Made}
-use Rattle.outside_kit.specs.Outside.{HasRisen}
+use Rattle.outside_kit.specs.Outside.{Told, HasRisen}
 use Rattle.clean_finish.specs.Bound.{enough}
 use Rattle.run_words.specs.Lines.{Line}
 use Rattle.run_outside.specs.declared.status.Status.{Status}
 use Rattle.run_outside.specs.declared.status.Status.TheVariants.{Delivered, Memory}
 use Rattle.run_outside.specs.Inputs.{IsValid}
-use Rattle.run_outside.specs.Ports.{Ports}
 use Rattle.mptcp_run.specs.Answers.{IsAnswer}
 use Rattle.mptcp_run.specs.Task.{Task, Course, rounds, threads, told, task_of}
 
@@ -24,16 +22,12 @@ HasEnoughRounds task = IsSomeAnd (enough task.script (length task.file_a) (lengt
 
 -- Where the inputs of a command line are told, within their limits and valid, its script is clean, and its rounds are enough,
 -- its run delivers both files, or memory is wanting, as long as no count of faults rises.
-abbrev pub DeliversIfClean : (List ℕ → Option (List ℕ)) → Line → ℕ → ℕ → (Port → ℕ) → (Port → ℕ) → Status → Type 0
-DeliversIfClean content line loads_before loads faults_before faults status =
-    IsValid content line → IsSomeAnd (task_of content line) HasEnoughRounds → (HasRisen loads_before loads → ⊥)
-    → ((port : Port) → HasRisen (faults_before port) (faults port) → ⊥)
+abbrev pub DeliversIfClean : Line → Told → Told → Status → Type 0
+DeliversIfClean line old new status =
+    IsValid old.content line → IsSomeAnd (task_of old.content line) HasEnoughRounds → (HasRisen old.load_faults new.load_faults → ⊥)
+    → ((port : Port) → HasRisen (old.port_faults port) (new.port_faults port) → ⊥)
     → (status ≡ Delivered) ⊎ (status ≡ Memory)
 
 -- every answer to a command line delivers where its run is clean
 abbrev pub CleanRunsDeliver : Type 0
-CleanRunsDeliver =
-    (content : List ℕ → Option (List ℕ)) (line : Line) (loads_before loads : ℕ) (faults_before faults : Port → ℕ) (held holds : Ports)
-    (told_before tells : Option (List Made)) (status : Status)
-    → IsAnswer content line loads_before loads faults_before faults held holds told_before tells status
-    → DeliversIfClean content line loads_before loads faults_before faults status
+CleanRunsDeliver = (line : Line) (old new : Told) (status : Status) → IsAnswer line old new status → DeliversIfClean line old new status

@@ -1,9 +1,9 @@
 -- How a run ends behind its loads: at its own end, at a turn that can't be made, or cut off.
-use Rattle.std.specs.Prelude.{◌≡◌, ℕ, ◌≤◌, ◌⊎◌, List, [], ◌++◌, length, Option}
+use Rattle.std.specs.Prelude.{◌≡◌, ℕ, ◌≤◌, ◌⊎◌, List, [], ◌++◌, length, Result, Ok, Err}
 use Rattle.sides.specs.declared.side.Side.TheVariants.{A, B}
 use Rattle.outside_kit.specs.declared.port.Port.TheVariants.{ReadByA, ReadByB, Log}
-use Rattle.outside_kit.specs.Calls.{Call, Made}
-use Rattle.outside_kit.specs.Outside.{HoldsAfter}
+use Rattle.outside_kit.specs.Calls.{Call}
+use Rattle.outside_kit.specs.Outside.{Told, HoldsAfter}
 use Rattle.run_words.specs.Lines.{Line}
 use Rattle.world_laws.specs.Worlds.{Turn}
 use Rattle.run_outside.specs.declared.status.Status.{Status}
@@ -23,6 +23,11 @@ HasEnded Rounds = Unit {0}
 HasEnded NoPath = Unit {0}
 HasEnded (Aborted reader) = Unit {0}
 HasEnded _ = ⊥
+
+-- what is answered, at the run's own end or before it
+abbrev pub either : Result Status Status → Status
+either (Ok status) = status
+either (Err status) = status
 
 -- ---- what the ports hold
 
@@ -54,26 +59,25 @@ pub record HoldsToLine (task : Task) (turns : List Turn) (old new : Ports) : Typ
 
 -- ---- with the calls that were made: these loads, the binds, and the puts of the same turns
 
-module _ (loads : List Call) (line : Line) (task : Task) (held holds : Ports)
-    (told tells : Option (List Made)) where
+module _ (loads : List Call) (line : Line) (task : Task) (old new : Told) where
   -- the run came to its own end
   pub record CameToEnd (status : Status) : Type 0 where
     pub ended : HasEnded status
-    pub whole : IsWhole task status held holds
-    pub calls : AddsAll (plan_of loads line (all_puts task whole.turns)) told tells
+    pub whole : IsWhole task status old.holds new.holds
+    pub calls : AddsAll (plan_of loads line (all_puts task whole.turns)) old.calls new.calls
 
   -- the run was cut off while its ports were bound or in its rounds
   pub record IsCutInRounds (status : Status) : Type 0 where
-    pub ports : HoldsSomeRounds task held holds
+    pub ports : HoldsSomeRounds task old.holds new.holds
     pub calls : AddsCut (plan_of loads line (puts_so_far task (ports.turns ++ ports.more))) status
-        told tells
+        old.calls new.calls
 
   -- the run was cut off at its last line, which wasn't put whole
   pub record IsCutAtLine (status : Status) : Type 0 where
     pub turns : List Turn
     pub are : AreTurnsOf task.course turns (first_world task)
-    pub ports : HoldsToLine task turns held holds
-    pub calls : AddsShort (plan_of loads line (all_puts task turns)) status told tells
+    pub ports : HoldsToLine task turns old.holds new.holds
+    pub calls : AddsShort (plan_of loads line (all_puts task turns)) status old.calls new.calls
 
   -- one or the other
   abbrev pub IsCut : Status → Type 0
@@ -81,8 +85,8 @@ module _ (loads : List Call) (line : Line) (task : Task) (held holds : Ports)
 
   -- a turn of its log can't be made, where so many lines stand before the first one
   pub record IsHalted (opening at : ℕ) : Type 0 where
-    pub stopped : IsStopped task opening at held holds
-    pub calls : AddsAll (plan_of loads line (puts_so_far task stopped.before)) told tells
+    pub stopped : IsStopped task opening at old.holds new.holds
+    pub calls : AddsAll (plan_of loads line (puts_so_far task stopped.before)) old.calls new.calls
 
   -- the turns of a log end a run with this status
   abbrev pub ReplayEnds : ℕ → Status → Type 0

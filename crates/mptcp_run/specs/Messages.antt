@@ -1,10 +1,9 @@
 -- A run whose files go as messages, each line as one: what is asked, what the readers' ports show, and how it ends.
 use Rattle.std.specs.Prelude.{◌≡◌, ℕ, ◌⊎◌, Bool, false, ◌&&◌, not, List, [], Option, Some, None, option_and_then, IfSome, if◌then◌else◌}
 use Rattle.std.specs.Str.{bytes_eq}
-use Rattle.outside_kit.specs.declared.port.Port.{Port}
 use Rattle.outside_kit.specs.declared.port.Port.TheVariants.{ReadByA, ReadByB}
 use Rattle.outside_kit.specs.Calls.{Made}
-use Rattle.outside_kit.specs.Outside.{HoldsAfter}
+use Rattle.outside_kit.specs.Outside.{Told, HoldsAfter}
 use Rattle.octet_text.specs.Lines.{text_lines}
 use Rattle.message_pipe.specs.Lines.{message_lines}
 use Rattle.message_pipe.specs.LinesShown.{ShowsFirstLines}
@@ -83,8 +82,15 @@ module _ (file_a file_b : Option (List ℕ)) (old new : Ports) where
 
 -- ---- how it ends
 
-module _ (content : List ℕ → Option (List ℕ)) (line : Line) (loads_before loads : ℕ)
-    (faults_before faults : Port → ℕ) (held holds : Ports) (told tells : Option (List Made)) where
+-- an outside of whose files both hold the frames of their lines
+abbrev pub as_framed : Line → Told → Told
+as_framed line t = record t { content = lined_content line.names.file_a line.names.file_b t.content }
+
+-- what the run over them is told of it, by what was put for the readers and the calls that were made
+abbrev pub as_run : Line → List ℕ → List ℕ → List Made → Told → Told
+as_run line for_a for_b made t = record (as_framed line t) { holds = lined_holds for_a for_b t.holds; calls = Some made }
+
+module _ (line : Line) (old new : Told) where
   -- A run whose two files hold the frames of their lines. What it put for the readers' ports was
   -- counted, and the messages in it were shown.
   pub record IsRunOverFrames (status : Status) : Type 0 where
@@ -92,21 +98,21 @@ module _ (content : List ℕ → Option (List ℕ)) (line : Line) (loads_before 
     pub read_by_b : Counted
     -- the calls of that run: its loads, binds and puts, of which each piece for a reader is frames
     pub made : List Made
-    pub answer : IsAnswer (lined_content line.names.file_a line.names.file_b content) line
-        loads_before loads faults_before faults
-        (lined_holds [] [] held) (lined_holds read_by_a.octets read_by_b.octets holds)
-        (Some []) (Some made) status
-    pub stand : PortsStand read_by_a read_by_b held holds faults_before faults
+    -- the contents as the run is told them at last, of which nothing is said
+    pub contents : List ℕ → Option (List ℕ)
+    pub answer : IsAnswer line (as_run line [] [] [] old)
+        (record (as_run line read_by_a.octets read_by_b.octets made new) { content = contents }) status
+    pub stand : PortsStand read_by_a read_by_b old.holds new.holds old.port_faults new.port_faults
     -- what they came to on the outside: a piece for a reader to one put for each message that it
     -- completes, and every other call to that call
-    pub calls : CallsStand made read_by_a read_by_b told tells
+    pub calls : CallsStand made read_by_a read_by_b old.calls new.calls
 
   -- nothing was begun for want of memory
   pub record IsUnbegun (status : Status) : Type 0 where
     pub status_is : status ≡ Memory
-    pub untouched : IsUntouched held holds faults_before faults
-    pub unloaded : loads ≡ loads_before
-    pub calls : AddsAll [] told tells
+    pub untouched : IsUntouched old new
+    pub unloaded : new.load_faults ≡ old.load_faults
+    pub calls : AddsAll [] old.calls new.calls
 
   abbrev pub IsMessagesAnswer : Status → Type 0
   IsMessagesAnswer status = IsUnbegun status ⊎ IsRunOverFrames status

@@ -1,8 +1,7 @@
 -- A turn of a log, made and put.
 use Rattle.std.specs.Prelude.{◌≡◌, ℕ, suc, false, ◌≤◌, ◌⊎◌, List, [], ◌∷◌, map, length, Option}
 use Rattle.outside_kit.specs.declared.port.Port.{Port}
-use Rattle.outside_kit.specs.Calls.{Made}
-use Rattle.outside_kit.specs.Outside.{HasRisen}
+use Rattle.outside_kit.specs.Outside.{Told, HasRisen}
 use Rattle.stream_lanes.specs.Words.{Every}
 use Rattle.world_laws.specs.Fine.{IsFine, lists_of}
 use Rattle.world_laws.specs.Worlds.{Turn, is_going, end_round, greatest, IsLawfulTurn}
@@ -50,25 +49,21 @@ IsUnchanged old new = (port : Port) → new port ≡ old port
 
 -- A turn of a log was cut off, with this status: it wasn't made for want of memory; or it ends a
 -- round, and a part of what that puts was put.
-abbrev pub TurnCut : Option (List ℕ) → ℕ → Turn → Connection → Connection
-    → (Port → Option (List ℕ)) → (Port → Option (List ℕ)) → Option (List Made) → Option (List Made) → Status → Type 0
-TurnCut opening number turn last w old new before after status =
-    ((status ≡ Memory) × (IsUnchanged old new × AddsAll [] before after))
+abbrev pub TurnCut : Option (List ℕ) → ℕ → Turn → Connection → Connection → Told → Told → Status → Type 0
+TurnCut opening number turn last w old new status =
+    ((status ≡ Memory) × (IsUnchanged old.holds new.holds × AddsAll [] old.calls new.calls))
     ⊎ (IsLawfulTurn turn w
-    × (HoldsPart opening number last [] (round_ends (turn ∷ []) w) old new
-    × AddsCut (turn_puts opening number turn last w) status before after))
+    × (HoldsPart opening number last [] (round_ends (turn ∷ []) w) old.holds new.holds
+    × AddsCut (turn_puts opening number turn last w) status old.calls new.calls))
 
 -- A turn of a log ends a run with this status: it can't be made and stands in this line, or it was
 -- cut off.
-abbrev pub TurnStops : Option (List ℕ) → ℕ → Turn → Connection → Connection → ℕ
-    → (Port → Option (List ℕ)) → (Port → Option (List ℕ)) → Option (List Made) → Option (List Made) → Status → Type 0
-TurnStops opening number turn last w line old new before after (Log at) =
-    (at ≡ line) × ((IsLawfulTurn turn w → ⊥) × (IsUnchanged old new × AddsAll [] before after))
-TurnStops opening number turn last w line old new before after (Put port) =
-    TurnCut opening number turn last w old new before after (Put port)
-TurnStops opening number turn last w line old new before after Memory =
-    TurnCut opening number turn last w old new before after Memory
-TurnStops opening number turn last w line old new before after status = ⊥
+abbrev pub TurnStops : Option (List ℕ) → ℕ → Turn → Connection → Connection → ℕ → Told → Told → Status → Type 0
+TurnStops opening number turn last w line old new (Log at) =
+    (at ≡ line) × ((IsLawfulTurn turn w → ⊥) × (IsUnchanged old.holds new.holds × AddsAll [] old.calls new.calls))
+TurnStops opening number turn last w line old new (Put port) = TurnCut opening number turn last w old new (Put port)
+TurnStops opening number turn last w line old new Memory = TurnCut opening number turn last w old new Memory
+TurnStops opening number turn last w line old new status = ⊥
 
 -- a step does
 abbrev pub StepFault : ℕ → Connection → ℕ → Status → Type 0

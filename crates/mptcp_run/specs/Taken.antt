@@ -1,12 +1,12 @@
 -- A run by the turns that it takes: its task, and how it ends early.
-use Rattle.std.specs.Prelude.{ℕ, ◌≤◌, List, [], Option}
+use Rattle.std.specs.Prelude.{ℕ, ◌≤◌, []}
 use Rattle.world_core.specs.Logged.{all_turns}
 use Rattle.outside_kit.specs.declared.port.Port.{Port}
-use Rattle.outside_kit.specs.Calls.{Made}
+use Rattle.outside_kit.specs.Outside.{Told}
 use Rattle.run_words.specs.Lines.{Line}
 use Rattle.run_outside.specs.declared.input.Input.{Input}
 use Rattle.run_outside.specs.declared.status.Status.{Status}
-use Rattle.run_outside.specs.Ports.{IsPortsFault, Ports}
+use Rattle.run_outside.specs.Ports.{IsPortsFault}
 use Rattle.mptcp_run.specs.declared.report.Report.{Report}
 use Rattle.mptcp_run.specs.declared.report.Report.TheVariants.{Log}
 use Rattle.mptcp_run.specs.declared.turns.Turns.{Turns}
@@ -34,10 +34,9 @@ HasFewLines (Scheduled schedule most report) = Unit {0}
 HasFewLines (Logged replay) = replay.now.lines ≤ 3
 
 -- the run was cut off, or a turn of its log can't be made
-abbrev pub EndsEarly : Turns → Line → Task → Ports → Ports → Option (List Made) → Option (List Made) → Status → Type 0
-EndsEarly (Scheduled schedule most report) line task held holds told tells status = IsCut [] line task held holds told tells status
-EndsEarly (Logged replay) line task held holds told tells status =
-    ReplayEnds [] line task held holds told tells replay.now.lines status
+abbrev pub EndsEarly : Turns → Line → Task → Told → Told → Status → Type 0
+EndsEarly (Scheduled schedule most report) line task old new status = IsCut [] line task old new status
+EndsEarly (Logged replay) line task old new status = ReplayEnds [] line task old new replay.now.lines status
 
 -- what is answered then has its cause
 abbrev pub TurnsFault : Turns → (Port → ℕ) → (Port → ℕ) → Status → Type 0

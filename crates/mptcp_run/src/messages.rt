@@ -12,11 +12,12 @@ ghost use Rattle.mptcp_run.specs.MessagesCalls.{CalledToEnd};
 ghost use Rattle.mptcp_run.specs.Promised.{NoneIsAltered};
 ghost use Rattle.mptcp_run.specs.Task.{task_of};
 ghost use Rattle.run_outside.specs.Inputs.{order_of};
-ghost use Rattle.mptcp_run.specs.Messages.{IsMessagesAnswer, IsRunOverFrames, ReadersShow, is_apart, is_order, messages_in, takes_messages};
+ghost use Rattle.mptcp_run.specs.Messages.{as_framed, IsMessagesAnswer, IsRunOverFrames, ReadersShow, is_apart, is_order, messages_in, takes_messages};
 
 use crate::top_call::run;
+use actor_turn::Gate;
 use message_pipe::{LineOutside, Naming};
-use outside_kit::{Gate, Outside};
+use outside_kit::Outside;
 use run_outside::{Status, read_words};
 use run_words::{CommandLine, Mode};
 use std::alloc::{AllocError, Global};
@@ -81,18 +82,15 @@ fn run_over_frames<O: Outside, G: Gate + Sync, R: Threads + Wait + Sync, N: Nami
     outside: O,
     gate: &G,
 ) -> (Status, O)
-    requires held { (port : Port) → N.held port ≡ O.holds outside port }
-    requires faults { (port : Port) → N.faults port ≡ O.port_faults outside port }
-    requires calls { N.calls ≡ O.calls outside }
-    requires empty_a { IfSome (O.holds outside Port.ReadByA) (λ text. text ≡ []) }
-    requires empty_b { IfSome (O.holds outside Port.ReadByB) (λ text. text ≡ []) }
+    requires held { (port : Port) → N.held port ≡ (O.told outside).holds port }
+    requires faults { (port : Port) → N.faults port ≡ (O.told outside).port_faults port }
+    requires calls { N.calls ≡ (O.told outside).calls }
+    requires empty_a { IfSome ((O.told outside).holds Port.ReadByA) (λ text. text ≡ []) }
+    requires empty_b { IfSome ((O.told outside).holds Port.ReadByB) (λ text. text ≡ []) }
     requires words { asked_in (map string_bytes words.now) ≡ Some (as_line line.now) }
     requires file_a { string_bytes files.0 ≡ line.now.file_a.now }
     requires file_b { string_bytes files.1 ≡ line.now.file_b.now }
-    ensures { IsRunOverFrames (O.content outside) (as_line line.now)
-        (O.load_faults outside) (O.load_faults result.1)
-        (O.port_faults outside) (O.port_faults result.1)
-        (O.holds outside) (O.holds result.1) (O.calls outside) (O.calls result.1) result.0 }
+    ensures { IsRunOverFrames (as_line line.now) (O.told outside) (O.told result.1) result.0 }
 {
     let mut lines: LineOutside<O, N> = LineOutside::new(alloc, outside, files.0, files.1);
     let status = run(rt, alloc, words, &mut lines, gate);
@@ -108,13 +106,10 @@ fn run_line<O: Outside, G: Gate + Sync, R: Threads + Wait + Sync>(
     outside: O,
     gate: &G,
 ) -> (Status, O)
-    requires empty_a { IfSome (O.holds outside Port.ReadByA) (λ text. text ≡ []) }
-    requires empty_b { IfSome (O.holds outside Port.ReadByB) (λ text. text ≡ []) }
+    requires empty_a { IfSome ((O.told outside).holds Port.ReadByA) (λ text. text ≡ []) }
+    requires empty_b { IfSome ((O.told outside).holds Port.ReadByB) (λ text. text ≡ []) }
     requires words { asked_in (map string_bytes words.now) ≡ Some (as_line line.now) }
-    ensures { IsMessagesAnswer (O.content outside) (as_line line.now)
-        (O.load_faults outside) (O.load_faults result.1)
-        (O.port_faults outside) (O.port_faults result.1)
-        (O.holds outside) (O.holds result.1) (O.calls outside) (O.calls result.1) result.0 }
+    ensures { IsMessagesAnswer (as_line line.now) (O.told outside) (O.told result.1) result.0 }
 {
     match file_names(alloc, line) {
         Ok(files) => {
@@ -138,39 +133,31 @@ pub fn run_messages<O: Outside, G: Gate + Sync, R: Threads + Wait + Sync>(
     outside: O,
     gate: &G,
 ) -> (Status, O)
-    requires empty_a { IfSome (O.holds outside Port.ReadByA) (λ text. text ≡ []) }
-    requires empty_b { IfSome (O.holds outside Port.ReadByB) (λ text. text ≡ []) }
+    requires empty_a { IfSome ((O.told outside).holds Port.ReadByA) (λ text. text ≡ []) }
+    requires empty_b { IfSome ((O.told outside).holds Port.ReadByB) (λ text. text ≡ []) }
     // What each reader's port shows of the lines of the other side's file, where no line of the script alters a payload: all of
     // them at status 0, first ones at another end of the run, a prefix where it was cut off, and else nothing.
     ensures lines { IfSome (messages_in (map string_bytes words.now)) (λ line.
-        NoneIsAltered (O.content outside) line → ReadersShow
-        (O.content outside line.names.file_a) (O.content outside line.names.file_b)
-        (O.holds outside) (O.holds result.1) result.0) }
+        NoneIsAltered (O.told outside).content line → ReadersShow
+        ((O.told outside).content line.names.file_a) ((O.told outside).content line.names.file_b)
+        (O.told outside).holds (O.told result.1).holds result.0) }
     // Which calls a run makes that comes to its own end, where no line of the script alters a payload: the loads in their order, the
     // binds, for each reader one put for each line, all of them at status 0, and the last line at last.
     ensures calls { IfSome (messages_in (map string_bytes words.now)) (λ line.
-        NoneIsAltered (O.content outside) line → HasEnded result.0 → CalledToEnd result.0
-        (O.content outside line.names.file_a) (O.content outside line.names.file_b)
-        (task_of (lined_content line.names.file_a line.names.file_b (O.content outside)) line) line
-        (O.calls outside) (O.calls result.1)) }
+        NoneIsAltered (O.told outside).content line → HasEnded result.0 → CalledToEnd result.0
+        ((O.told outside).content line.names.file_a) ((O.told outside).content line.names.file_b)
+        (task_of (lined_content line.names.file_a line.names.file_b (O.told outside).content) line) line
+        (O.told outside).calls (O.told result.1).calls) }
     // A clean script, one path and no line, in `run`, `serial` or `timed`, with rounds that are enough for the frames of its files: all lines
     // are delivered, or memory is wanting, as long as the inputs are valid and no count of faults rises.
     ensures clean { IfSome (messages_in (map string_bytes words.now)) (λ line. DeliversIfClean
-        (lined_content line.names.file_a line.names.file_b (O.content outside)) line
-        (O.load_faults outside) (O.load_faults result.1)
-        (O.port_faults outside) (O.port_faults result.1) result.0) }
+        line (as_framed line (O.told outside)) (O.told result.1) result.0) }
     // Why it ends so: what `run` answers where both files hold the frames of their lines.
     ensures answer { IfSome (messages_in (map string_bytes words.now)) (λ line. IsMessagesAnswer
-        (O.content outside) line
-        (O.load_faults outside) (O.load_faults result.1)
-        (O.port_faults outside) (O.port_faults result.1)
-        (O.holds outside) (O.holds result.1) (O.calls outside) (O.calls result.1) result.0) }
+        line (O.told outside) (O.told result.1) result.0) }
     // Words that ask for no such run: they are refused, and nothing is done.
     ensures neither { IsNone (messages_in (map string_bytes words.now)) → NothingWasRun
-        (O.load_faults outside) (O.load_faults result.1)
-        (O.port_faults outside) (O.port_faults result.1)
-        (O.holds outside) (O.holds result.1)
-        (O.calls outside) (O.calls result.1) result.0 }
+        (O.told outside) (O.told result.1) result.0 }
 {
     match read_words(alloc, words) {
         Ok(line) if takes_messages(&line) => run_line(rt, alloc, words, &line, outside, gate),

@@ -34,21 +34,19 @@ pub fn put_last<O: Outside>(
     run: &Run,
     report: Report,
 ) -> Result<(), Status>
-    ensures ok { OnOk result (HoldsAfter (O.holds outside.old Port.Log)
-        (O.holds outside.new Port.Log)
+    ensures ok { OnOk result (HoldsAfter ((O.told outside.old).holds Port.Log)
+        ((O.told outside.new).holds Port.Log)
         (λ held. held ++ last_line_of report run.now.rounds run.now.world.state)) }
-    ensures err { OnErr result (HoldsPrefix (O.holds outside.old Port.Log)
-        (O.holds outside.new Port.Log) (last_line_of report run.now.rounds run.now.world.state)) }
+    ensures err { OnErr result (HoldsPrefix ((O.told outside.old).holds Port.Log)
+        ((O.told outside.new).holds Port.Log) (last_line_of report run.now.rounds run.now.world.state)) }
     ensures other_ports { (other : Port) → other ≢ Port.Log →
-        O.holds outside.new other ≡ O.holds outside.old other }
+        (O.told outside.new).holds other ≡ (O.told outside.old).holds other }
     ensures short { IfErr result (λ status. AddsShort
         (call.Put Port.Log (last_line_of report run.now.rounds run.now.world.state) ∷ [])
-        status (O.calls outside.old) (O.calls outside.new)) }
+        status (O.told outside.old).calls (O.told outside.new).calls) }
     ensures puts { Puts
         (call.Put Port.Log (last_line_of report run.now.rounds run.now.world.state) ∷ [])
-        (O.load_faults outside.old) (O.load_faults outside.new)
-        (O.port_faults outside.old) (O.port_faults outside.new)
-        (O.calls outside.old) (O.calls outside.new) result }
+        (O.told outside.old) (O.told outside.new) result }
 {
     match last_line(alloc, run, report) {
         Ok(line) => put(outside, Port::Log, line.as_bytes()),

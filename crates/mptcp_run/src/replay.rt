@@ -49,10 +49,7 @@ fn end_round<O: Outside>(
     ensures opening { run.new.opening ≡ run.old.opening }
     ensures turn { (last : Connection) → UnderWay last run.old →
         TurnMade run.old.opening run.old.rounds round_turn last run.old.world.state line run.new
-        (O.load_faults outside.old) (O.load_faults outside.new)
-        (O.port_faults outside.old) (O.port_faults outside.new)
-        (O.holds outside.old) (O.holds outside.new)
-        (O.calls outside.old) (O.calls outside.new) result }
+        (O.told outside.old) (O.told outside.new) result }
 {
     if !run.world.end_round() {
         return Err(Status::Log { line });
@@ -77,10 +74,7 @@ fn make_turn<O: Outside>(
     ensures opening { run.new.opening ≡ run.old.opening }
     ensures turn { (last : Connection) → UnderWay last run.old →
         TurnMade run.old.opening run.old.rounds (turn_of turn) last run.old.world.state line run.new
-        (O.load_faults outside.old) (O.load_faults outside.new)
-        (O.port_faults outside.old) (O.port_faults outside.new)
-        (O.holds outside.old) (O.holds outside.new)
-        (O.calls outside.old) (O.calls outside.new) result }
+        (O.told outside.old) (O.told outside.new) result }
 {
     match turn {
         Turn::Step(actor) => make_step(&mut run.world, actor, line),
@@ -100,16 +94,12 @@ pub fn make_turns<O: Outside>(
     requires none { run.old.rounds ≡ 0 }
     requires few { lines ≤ 3 }
     ensures ok { OnOk result (CourseMade (course.told (all_turns order.now)) run.old.opening
-        run.old.world.state run.new.world.state (O.holds outside.old) (O.holds outside.new)
-        (O.calls outside.old) (O.calls outside.new)) }
+        run.old.world.state run.new.world.state (O.told outside.old) (O.told outside.new)) }
     ensures stop { IfErr result (LogStops (all_turns order.now) lines
-        run.old.opening run.old.world.state (O.holds outside.old) (O.holds outside.new)
-        (O.calls outside.old) (O.calls outside.new)) }
+        run.old.opening run.old.world.state (O.told outside.old) (O.told outside.new)) }
     ensures cause { IfErr result
-        (IsReplayFault (O.port_faults outside.old) (O.port_faults outside.new)) }
-    ensures only { OnlyPuts
-        (O.load_faults outside.old) (O.load_faults outside.new)
-        (O.port_faults outside.old) (O.port_faults outside.new) }
+        (IsReplayFault (O.told outside.old).port_faults (O.told outside.new).port_faults) }
+    ensures only { OnlyPuts (O.told outside.old) (O.told outside.new) }
 {
     let mut line = lines;
     for turn in order {

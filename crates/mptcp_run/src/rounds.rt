@@ -123,10 +123,7 @@ impl Run {
         requires few { self.now.rounds < 2 ^ 64 - 1 }
         ensures { (last : Connection) → IsSince last self.now.made.items self.now.world.state →
             RoundPut self.now.opening self.now.rounds last self.now.world.state
-            (O.load_faults outside.old) (O.load_faults outside.new)
-            (O.port_faults outside.old) (O.port_faults outside.new)
-            (O.holds outside.old) (O.holds outside.new)
-            (O.calls outside.old) (O.calls outside.new) result }
+            (O.told outside.old) (O.told outside.new) result }
     {
         match self.piece(alloc) {
             Ok(piece) => piece.put(outside),
@@ -145,10 +142,7 @@ impl Run {
         ensures opening { self.new.opening ≡ self.old.opening }
         ensures put { (last : Connection) → IsSince last self.old.made.items self.old.world.state →
             RoundPut self.old.opening self.old.rounds last self.old.world.state
-            (O.load_faults outside.old) (O.load_faults outside.new)
-            (O.port_faults outside.old) (O.port_faults outside.new)
-            (O.holds outside.old) (O.holds outside.new)
-            (O.calls outside.old) (O.calls outside.new) result }
+            (O.told outside.old) (O.told outside.new) result }
     {
         let Ok(made) = made_by(alloc, &self.world) else {
             return Err(Status::Memory);

@@ -26,19 +26,15 @@ fn make_round<O: Outside>(
     requires begins { AtRound run.old }
     requires few { run.old.rounds < 2 ^ 64 - 1 }
     ensures made { OnOk result (RoundMade (RoundBy schedule) run.old.opening run.old.rounds
-        run.old.world.state run.new.world.state (O.holds outside.old) (O.holds outside.new)
-        (O.calls outside.old) (O.calls outside.new)) }
+        run.old.world.state run.new.world.state (O.told outside.old) (O.told outside.new)) }
     ensures begins { OnOk result (AtRound run.new) }
     ensures rounds { OnOk result (run.new.rounds ≡ run.old.rounds + 1) }
     ensures opening { run.new.opening ≡ run.old.opening }
     ensures stops { IfErr result (RoundStops (RoundBy schedule) run.old.opening run.old.rounds
-        run.old.world.state (O.holds outside.old) (O.holds outside.new)
-        (O.calls outside.old) (O.calls outside.new)) }
+        run.old.world.state (O.told outside.old) (O.told outside.new)) }
     ensures fault { IfErr result
-        (IsPortsFault (O.port_faults outside.old) (O.port_faults outside.new)) }
-    ensures only { OnlyPuts
-        (O.load_faults outside.old) (O.load_faults outside.new)
-        (O.port_faults outside.old) (O.port_faults outside.new) }
+        (IsPortsFault (O.told outside.old).port_faults (O.told outside.new).port_faults) }
+    ensures only { OnlyPuts (O.told outside.old) (O.told outside.new) }
 {
     match round_by(schedule, &mut run.world) {
         Ok(()) => run.put_round(alloc, outside),
@@ -58,16 +54,13 @@ pub fn make_rounds<O: Outside>(
     requires none { run.old.rounds ≡ 0 }
     // All turns of such a course, and as many rounds as they end.
     ensures ok { OnOk result ((made : CourseMade (course.rounds schedule most) run.old.opening
-        run.old.world.state run.new.world.state (O.holds outside.old) (O.holds outside.new)
-        (O.calls outside.old) (O.calls outside.new))
+        run.old.world.state run.new.world.state (O.told outside.old) (O.told outside.new))
         × (run.new.rounds ≡ length (round_ends made.turns run.old.world.state))) }
     ensures cut { IfErr result (CourseCut (course.rounds schedule most) run.old.opening run.old.world.state
-        (O.holds outside.old) (O.holds outside.new) (O.calls outside.old) (O.calls outside.new)) }
+        (O.told outside.old) (O.told outside.new)) }
     ensures fault { IfErr result
-        (IsPortsFault (O.port_faults outside.old) (O.port_faults outside.new)) }
-    ensures only { OnlyPuts
-        (O.load_faults outside.old) (O.load_faults outside.new)
-        (O.port_faults outside.old) (O.port_faults outside.new) }
+        (IsPortsFault (O.told outside.old).port_faults (O.told outside.new).port_faults) }
+    ensures only { OnlyPuts (O.told outside.old) (O.told outside.new) }
 {
     for _round in 0..most {
         make_round(alloc, outside, schedule, run)?;

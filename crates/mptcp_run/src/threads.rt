@@ -12,8 +12,9 @@ ghost use Rattle.mptcp_run.specs.Threads.{GoesTo, IsWoven, has_order};
 ghost use Rattle.mptcp_run.specs.WovenRounds.{WovenTo};
 
 use crate::rounds::Run;
+use actor_turn::Gate;
 use journal_weave::woven_round;
-use outside_kit::{Gate, Outside};
+use outside_kit::Outside;
 use run_outside::Status;
 use stamped_book::Refusal;
 use std::alloc::{AllocError, Global};
@@ -80,19 +81,15 @@ fn make_round<O: Outside, G: Gate + Sync, R: Threads + Wait + Sync>(
     requires begins { AtRound run }
     requires few { run.rounds < 2 ^ 64 - 1 }
     ensures made { OnOk result.1 (RoundMade WovenTo run.opening run.rounds
-        run.world.state result.0.world.state (O.holds outside.old) (O.holds outside.new)
-        (O.calls outside.old) (O.calls outside.new)) }
+        run.world.state result.0.world.state (O.told outside.old) (O.told outside.new)) }
     ensures begins { OnOk result.1 (AtRound result.0) }
     ensures rounds { OnOk result.1 (result.0.rounds ≡ run.rounds + 1) }
     ensures opening { result.0.opening ≡ run.opening }
     ensures stops { IfErr result.1 (RoundStops WovenTo run.opening run.rounds run.world.state
-        (O.holds outside.old) (O.holds outside.new)
-        (O.calls outside.old) (O.calls outside.new)) }
+        (O.told outside.old) (O.told outside.new)) }
     ensures fault { IfErr result.1
-        (IsPortsFault (O.port_faults outside.old) (O.port_faults outside.new)) }
-    ensures only { OnlyPuts
-        (O.load_faults outside.old) (O.load_faults outside.new)
-        (O.port_faults outside.old) (O.port_faults outside.new) }
+        (IsPortsFault (O.told outside.old).port_faults (O.told outside.new).port_faults) }
+    ensures only { OnlyPuts (O.told outside.old) (O.told outside.new) }
 {
     let Run {
         world,
@@ -130,16 +127,13 @@ pub fn make_threaded_rounds<O: Outside, G: Gate + Sync, R: Threads + Wait + Sync
     requires none { run.rounds ≡ 0 }
     // All turns of such a course, and as many rounds as they end.
     ensures ok { OnOk result.1 ((made : CourseMade (course.threads most) run.opening
-        run.world.state result.0.world.state (O.holds outside.old) (O.holds outside.new)
-        (O.calls outside.old) (O.calls outside.new))
+        run.world.state result.0.world.state (O.told outside.old) (O.told outside.new))
         × (result.0.rounds ≡ length (round_ends made.turns run.world.state))) }
     ensures cut { IfErr result.1 (CourseCut (course.threads most) run.opening run.world.state
-        (O.holds outside.old) (O.holds outside.new) (O.calls outside.old) (O.calls outside.new)) }
+        (O.told outside.old) (O.told outside.new)) }
     ensures fault { IfErr result.1
-        (IsPortsFault (O.port_faults outside.old) (O.port_faults outside.new)) }
-    ensures only { OnlyPuts
-        (O.load_faults outside.old) (O.load_faults outside.new)
-        (O.port_faults outside.old) (O.port_faults outside.new) }
+        (IsPortsFault (O.told outside.old).port_faults (O.told outside.new).port_faults) }
+    ensures only { OnlyPuts (O.told outside.old) (O.told outside.new) }
 {
     let mut run = run;
     for _round in 0..most {

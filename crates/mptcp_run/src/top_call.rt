@@ -13,7 +13,7 @@ ghost use Rattle.run_outside.specs.Calling.{Puts};
 ghost use Rattle.mptcp_run.specs.Answers.{IsAnswer, IsMadeAnswer, NothingWasRun};
 ghost use Rattle.mptcp_run.specs.Asked.{AsksInRange, asked_in, if_run};
 ghost use Rattle.mptcp_run.specs.Clean.{DeliversIfClean};
-ghost use Rattle.mptcp_run.specs.Ends.{CameToEnd, IsCut, ReplayEnds};
+ghost use Rattle.mptcp_run.specs.Ends.{CameToEnd, IsCut, ReplayEnds, either};
 ghost use Rattle.mptcp_run.specs.Made.{Bench, bench_of, bench_in};
 ghost use Rattle.run_outside.specs.Plan.{AddsShort};
 ghost use Rattle.run_outside.specs.Ports.{IsPortsFault};
@@ -34,7 +34,8 @@ use crate::schedule::Schedule;
 use crate::scheduled::make_rounds;
 use crate::threads::make_threaded_rounds;
 use crate::turns::Turns;
-use outside_kit::{Gate, Outside, Port};
+use actor_turn::Gate;
+use outside_kit::{Outside, Port};
 use run_outside::{
     Input, Replay, Status, bind_readers, load_input, load_replay, made_input, read_words,
 };
@@ -53,21 +54,19 @@ fn end<O: Outside>(
     ensures status { IfOk result
         (λ status. status ≡ status_of (outcome_of run.now.world.state.crew)) }
     ensures ok { OnOk result (HoldsAfter
-        (O.holds outside.old Port.Log) (O.holds outside.new Port.Log)
+        ((O.told outside.old).holds Port.Log) ((O.told outside.new).holds Port.Log)
         (λ held. held ++ last_line_of report run.now.rounds run.now.world.state)) }
     ensures err { OnErr result (HoldsPrefix
-        (O.holds outside.old Port.Log) (O.holds outside.new Port.Log)
+        ((O.told outside.old).holds Port.Log) ((O.told outside.new).holds Port.Log)
         (last_line_of report run.now.rounds run.now.world.state)) }
     ensures other_ports { (other : Port) → other ≢ Port.Log →
-        O.holds outside.new other ≡ O.holds outside.old other }
+        (O.told outside.new).holds other ≡ (O.told outside.old).holds other }
     ensures short { IfErr result (λ status. AddsShort
         (call.Put Port.Log (last_line_of report run.now.rounds run.now.world.state) ∷ [])
-        status (O.calls outside.old) (O.calls outside.new)) }
+        status (O.told outside.old).calls (O.told outside.new).calls) }
     ensures puts { Puts
         (call.Put Port.Log (last_line_of report run.now.rounds run.now.world.state) ∷ [])
-        (O.load_faults outside.old) (O.load_faults outside.new)
-        (O.port_faults outside.old) (O.port_faults outside.new)
-        (O.calls outside.old) (O.calls outside.new) result }
+        (O.told outside.old) (O.told outside.new) result }
 {
     put_last(alloc, outside, run, report)?;
     Ok(status_of(run.world.outcome()))
@@ -87,13 +86,13 @@ fn take_rounds<O: Outside>(
     requires { IsOpened input.now report run.old }
     ensures ended { IfOk result (CameToEnd [] (as_line line.now)
         (task_with input.now (course.rounds schedule rounds) report)
-        (O.holds outside.old) (O.holds outside.new) (O.calls outside.old) (O.calls outside.new)) }
+        (O.told outside.old) (O.told outside.new)) }
     ensures cut { IfErr result (IsCut [] (as_line line.now)
         (task_with input.now (course.rounds schedule rounds) report)
-        (O.holds outside.old) (O.holds outside.new) (O.calls outside.old) (O.calls outside.new)) }
+        (O.told outside.old) (O.told outside.new)) }
     ensures fault { IfErr result
-        (IsPortsFault (O.port_faults outside.old) (O.port_faults outside.new)) }
-    ensures load_counts { O.load_faults outside.new ≡ O.load_faults outside.old }
+        (IsPortsFault (O.told outside.old).port_faults (O.told outside.new).port_faults) }
+    ensures load_counts { (O.told outside.new).load_faults ≡ (O.told outside.old).load_faults }
 {
     bind_readers(outside, line)?;
     make_rounds(alloc, outside, schedule, run, rounds)?;
@@ -113,14 +112,14 @@ fn take_turns<O: Outside>(
     requires few { replay.now.lines ≤ 3 }
     ensures ended { IfOk result (CameToEnd [] (as_line line.now)
         (task_from input.now (course.told (all_turns replay.now.turns.items)))
-        (O.holds outside.old) (O.holds outside.new) (O.calls outside.old) (O.calls outside.new)) }
+        (O.told outside.old) (O.told outside.new)) }
     ensures err { IfErr result (ReplayEnds [] (as_line line.now)
         (task_from input.now (course.told (all_turns replay.now.turns.items)))
-        (O.holds outside.old) (O.holds outside.new) (O.calls outside.old) (O.calls outside.new)
+        (O.told outside.old) (O.told outside.new)
         replay.now.lines) }
     ensures fault { IfErr result
-        (IsReplayFault (O.port_faults outside.old) (O.port_faults outside.new)) }
-    ensures load_counts { O.load_faults outside.new ≡ O.load_faults outside.old }
+        (IsReplayFault (O.told outside.old).port_faults (O.told outside.new).port_faults) }
+    ensures load_counts { (O.told outside.new).load_faults ≡ (O.told outside.old).load_faults }
 {
     bind_readers(outside, line)?;
     make_turns(alloc, outside, run, &replay.turns, replay.lines)?;
@@ -140,13 +139,13 @@ fn take<O: Outside>(
     requires few { HasFewLines turns.now }
     ensures ended { IfOk result
         (CameToEnd [] (as_line line.now) (task_taken input.now turns.now)
-        (O.holds outside.old) (O.holds outside.new) (O.calls outside.old) (O.calls outside.new)) }
+        (O.told outside.old) (O.told outside.new)) }
     ensures early { IfErr result
         (EndsEarly turns.now (as_line line.now) (task_taken input.now turns.now)
-        (O.holds outside.old) (O.holds outside.new) (O.calls outside.old) (O.calls outside.new)) }
+        (O.told outside.old) (O.told outside.new)) }
     ensures fault { IfErr result
-        (TurnsFault turns.now (O.port_faults outside.old) (O.port_faults outside.new)) }
-    ensures load_counts { O.load_faults outside.new ≡ O.load_faults outside.old }
+        (TurnsFault turns.now (O.told outside.old).port_faults (O.told outside.new).port_faults) }
+    ensures load_counts { (O.told outside.new).load_faults ≡ (O.told outside.old).load_faults }
 {
     match turns {
         Turns::Scheduled {
@@ -172,13 +171,13 @@ fn perform<O: Outside>(
     requires few { HasFewLines turns.now }
     ensures ended { IfOk result
         (CameToEnd [] (as_line line.now) (task_taken input.now turns.now)
-        (O.holds outside.old) (O.holds outside.new) (O.calls outside.old) (O.calls outside.new)) }
+        (O.told outside.old) (O.told outside.new)) }
     ensures early { IfErr result
         (EndsEarly turns.now (as_line line.now) (task_taken input.now turns.now)
-        (O.holds outside.old) (O.holds outside.new) (O.calls outside.old) (O.calls outside.new)) }
+        (O.told outside.old) (O.told outside.new)) }
     ensures fault { IfErr result
-        (TurnsFault turns.now (O.port_faults outside.old) (O.port_faults outside.new)) }
-    ensures load_counts { O.load_faults outside.new ≡ O.load_faults outside.old }
+        (TurnsFault turns.now (O.told outside.old).port_faults (O.told outside.new).port_faults) }
+    ensures load_counts { (O.told outside.new).load_faults ≡ (O.told outside.old).load_faults }
 {
     let Ok(mut run) = Run::open(alloc, input, turns.report()) else {
         return Err(Status::Memory);
@@ -186,6 +185,16 @@ fn perform<O: Outside>(
     let ended = take(alloc, outside, line, input, turns, &mut run);
     run.close();
     ended
+}
+
+/// What is answered, whether a run came to its own end or was cut off.
+fn ended(told: Result<Status, Status>) -> Status
+    ensures { result ≡ either told }
+{
+    match told {
+        Ok(status) => status,
+        Err(status) => status,
+    }
 }
 
 /// A run of rounds by a schedule, at most so many.
@@ -198,11 +207,7 @@ fn run_scheduled<O: Outside>(
 ) -> Status
     requires asked { (as_line line.now).work ≡ work_by schedule rounds }
     requires in_range { AsksInRange (as_line line.now).work }
-    ensures { IsAnswer (O.content outside.old) (as_line line.now)
-        (O.load_faults outside.old) (O.load_faults outside.new)
-        (O.port_faults outside.old) (O.port_faults outside.new)
-        (O.holds outside.old) (O.holds outside.new)
-        (O.calls outside.old) (O.calls outside.new) result }
+    ensures { IsAnswer (as_line line.now) (O.told outside.old) (O.told outside.new) result }
 {
     let input = match load_input(alloc, outside, line) {
         Ok(input) => input,
@@ -214,10 +219,7 @@ fn run_scheduled<O: Outside>(
         rounds,
         report,
     };
-    match perform(alloc, outside, line, &input, &turns) {
-        Ok(status) => status,
-        Err(status) => status,
-    }
+    ended(perform(alloc, outside, line, &input, &turns))
 }
 
 /// Makes rounds by threads, at most so many, of a run before its first step, and puts its last line.
@@ -234,12 +236,12 @@ fn take_threaded_rounds<O: Outside, G: Gate + Sync, R: Threads + Wait + Sync>(
     requires opened { IsOpened input.now Report.Log run }
     ensures ended { IfOk result.1 (CameToEnd [] (as_line line.now)
         (task_from input.now (course.threads rounds))
-        (O.holds outside.old) (O.holds outside.new) (O.calls outside.old) (O.calls outside.new)) }
+        (O.told outside.old) (O.told outside.new)) }
     ensures cut { IfErr result.1 (IsCut [] (as_line line.now)
         (task_from input.now (course.threads rounds))
-        (O.holds outside.old) (O.holds outside.new) (O.calls outside.old) (O.calls outside.new)) }
+        (O.told outside.old) (O.told outside.new)) }
     ensures fault { IfErr result.1
-        (IsPortsFault (O.port_faults outside.old) (O.port_faults outside.new)) }
+        (IsPortsFault (O.told outside.old).port_faults (O.told outside.new).port_faults) }
 {
     match bind_readers(outside, line) {
         Ok(()) => {}
@@ -268,12 +270,12 @@ fn perform_threads<O: Outside, G: Gate + Sync, R: Threads + Wait + Sync>(
     requires ranges { HasRanges input.now.script }
     ensures ended { IfOk result (CameToEnd [] (as_line line.now)
         (task_from input.now (course.threads rounds))
-        (O.holds outside.old) (O.holds outside.new) (O.calls outside.old) (O.calls outside.new)) }
+        (O.told outside.old) (O.told outside.new)) }
     ensures cut { IfErr result (IsCut [] (as_line line.now)
         (task_from input.now (course.threads rounds))
-        (O.holds outside.old) (O.holds outside.new) (O.calls outside.old) (O.calls outside.new)) }
+        (O.told outside.old) (O.told outside.new)) }
     ensures fault { IfErr result
-        (IsPortsFault (O.port_faults outside.old) (O.port_faults outside.new)) }
+        (IsPortsFault (O.told outside.old).port_faults (O.told outside.new).port_faults) }
 {
     let Ok(run) = Run::open(alloc, input, Report::Log) else {
         return Err(Status::Memory);
@@ -294,20 +296,13 @@ fn run_threads<O: Outside, G: Gate + Sync, R: Threads + Wait + Sync>(
 ) -> Status
     requires asked { (as_line line.now).work ≡ lines.run rounds }
     requires in_range { AsksInRange (as_line line.now).work }
-    ensures { IsAnswer (O.content outside.old) (as_line line.now)
-        (O.load_faults outside.old) (O.load_faults outside.new)
-        (O.port_faults outside.old) (O.port_faults outside.new)
-        (O.holds outside.old) (O.holds outside.new)
-        (O.calls outside.old) (O.calls outside.new) result }
+    ensures { IsAnswer (as_line line.now) (O.told outside.old) (O.told outside.new) result }
 {
     let input = match load_input(alloc, outside, line) {
         Ok(input) => input,
         Err(status) => return status,
     };
-    match perform_threads(rt, alloc, outside, line, &input, rounds, gate) {
-        Ok(status) => status,
-        Err(status) => status,
-    }
+    ended(perform_threads(rt, alloc, outside, line, &input, rounds, gate))
 }
 
 /// A run of whole turns over the made input of a number; nothing is loaded.
@@ -321,10 +316,7 @@ fn run_bench<O: Outside>(
     requires asked { (as_line line.now).work ≡ bench rounds number }
     requires in_range { AsksInRange (as_line line.now).work }
     ensures { IfSome (bench_of (as_line line.now)) (λ made. IsMadeAnswer made
-        (O.load_faults outside.old) (O.load_faults outside.new)
-        (O.port_faults outside.old) (O.port_faults outside.new)
-        (O.holds outside.old) (O.holds outside.new)
-        (O.calls outside.old) (O.calls outside.new) result) }
+        (O.told outside.old) (O.told outside.new) result) }
 {
     let Ok(input) = made_input(alloc, number) else {
         return Status::Memory;
@@ -335,10 +327,7 @@ fn run_bench<O: Outside>(
         rounds,
         report,
     };
-    match perform(alloc, outside, line, &input, &turns) {
-        Ok(status) => status,
-        Err(status) => status,
-    }
+    ended(perform(alloc, outside, line, &input, &turns))
 }
 
 /// A run of the turns of a log.
@@ -349,21 +338,14 @@ fn run_replay<O: Outside>(
     order: &str,
 ) -> Status
     requires { (as_line line.now).work ≡ replay order.now }
-    ensures { IsAnswer (O.content outside.old) (as_line line.now)
-        (O.load_faults outside.old) (O.load_faults outside.new)
-        (O.port_faults outside.old) (O.port_faults outside.new)
-        (O.holds outside.old) (O.holds outside.new)
-        (O.calls outside.old) (O.calls outside.new) result }
+    ensures { IsAnswer (as_line line.now) (O.told outside.old) (O.told outside.new) result }
 {
     let replay = match load_replay(alloc, outside, line, order) {
         Ok(replay) => replay,
         Err(status) => return status,
     };
     let turns = Turns::Logged(&replay);
-    match perform(alloc, outside, line, &replay.input, &turns) {
-        Ok(status) => status,
-        Err(status) => status,
-    }
+    ended(perform(alloc, outside, line, &replay.input, &turns))
 }
 
 /// What a command line asks for, if it is run.
@@ -376,22 +358,12 @@ fn run_line<O: Outside, G: Gate + Sync, R: Threads + Wait + Sync>(
 ) -> Status
     requires in_range { AsksInRange (as_line line.now).work }
     ensures answer { IfSome (if_run (as_line line.now)) (λ asked. IsAnswer
-        (O.content outside.old) asked
-        (O.load_faults outside.old) (O.load_faults outside.new)
-        (O.port_faults outside.old) (O.port_faults outside.new)
-        (O.holds outside.old) (O.holds outside.new)
-        (O.calls outside.old) (O.calls outside.new) result) }
+        asked (O.told outside.old) (O.told outside.new) result) }
     ensures bench { IfSome (bench_of (as_line line.now)) (λ made. IsMadeAnswer made
-        (O.load_faults outside.old) (O.load_faults outside.new)
-        (O.port_faults outside.old) (O.port_faults outside.new)
-        (O.holds outside.old) (O.holds outside.new)
-        (O.calls outside.old) (O.calls outside.new) result) }
+        (O.told outside.old) (O.told outside.new) result) }
     ensures neither { IsNone (if_run (as_line line.now)) →
         IsNone (bench_of (as_line line.now)) → NothingWasRun
-        (O.load_faults outside.old) (O.load_faults outside.new)
-        (O.port_faults outside.old) (O.port_faults outside.new)
-        (O.holds outside.old) (O.holds outside.new)
-        (O.calls outside.old) (O.calls outside.new) result }
+        (O.told outside.old) (O.told outside.new) result }
 {
     match line.mode {
         Mode::Serial { rounds } => run_scheduled(alloc, outside, line, Schedule::Serial, rounds),
@@ -438,40 +410,28 @@ pub fn run<O: Outside, G: Gate + Sync, R: Threads + Wait + Sync>(
     // Status 0, where no line of the script alters a payload: what each reader's port holds is what the other side's file holds.
     ensures delivered { result ≡ Status.Delivered →
         IfSome (asked_in (map string_bytes words.now)) (λ line.
-        NoneIsAltered (O.content outside.old) line → ReadersHaveFiles
-        (O.content outside.old line.names.file_a) (O.content outside.old line.names.file_b)
-        (O.holds outside.old) (O.holds outside.new)) }
+        NoneIsAltered (O.told outside.old).content line → ReadersHaveFiles
+        ((O.told outside.old).content line.names.file_a) ((O.told outside.old).content line.names.file_b)
+        (O.told outside.old).holds (O.told outside.new).holds) }
     // Status 0, whatever the script alters: each port holds as many octets as that file has.
     ensures counted { result ≡ Status.Delivered →
         IfSome (asked_in (map string_bytes words.now)) (λ line. ReadersHaveAsMany
-        (O.content outside.old line.names.file_a) (O.content outside.old line.names.file_b)
-        (O.holds outside.old) (O.holds outside.new)) }
+        ((O.told outside.old).content line.names.file_a) ((O.told outside.old).content line.names.file_b)
+        (O.told outside.old).holds (O.told outside.new).holds) }
     // Words that ask for `run`, `serial`, `timed` or `replay`: the row of the answer.
     ensures answer { IfSome (asked_in (map string_bytes words.now)) (λ line. IsAnswer
-        (O.content outside.old) line
-        (O.load_faults outside.old) (O.load_faults outside.new)
-        (O.port_faults outside.old) (O.port_faults outside.new)
-        (O.holds outside.old) (O.holds outside.new)
-        (O.calls outside.old) (O.calls outside.new) result) }
+        line (O.told outside.old) (O.told outside.new) result) }
     // A clean script, one path and no line, in `run`, `serial` or `timed`, with rounds that are enough for its files: both are delivered,
     // or memory is wanting, as long as the inputs are valid and no count of faults rises.
     ensures clean { IfSome (asked_in (map string_bytes words.now)) (λ line. DeliversIfClean
-        (O.content outside.old) line
-        (O.load_faults outside.old) (O.load_faults outside.new)
-        (O.port_faults outside.old) (O.port_faults outside.new) result) }
+        line (O.told outside.old) (O.told outside.new) result) }
     // Words that ask for `bench`: its row.
     ensures bench { IfSome (bench_in (map string_bytes words.now)) (λ made. IsMadeAnswer made
-        (O.load_faults outside.old) (O.load_faults outside.new)
-        (O.port_faults outside.old) (O.port_faults outside.new)
-        (O.holds outside.old) (O.holds outside.new)
-        (O.calls outside.old) (O.calls outside.new) result) }
+        (O.told outside.old) (O.told outside.new) result) }
     // Words that ask for neither: they are refused, and nothing is done.
     ensures neither { IsNone (asked_in (map string_bytes words.now)) →
         IsNone (bench_in (map string_bytes words.now)) → NothingWasRun
-        (O.load_faults outside.old) (O.load_faults outside.new)
-        (O.port_faults outside.old) (O.port_faults outside.new)
-        (O.holds outside.old) (O.holds outside.new)
-        (O.calls outside.old) (O.calls outside.new) result }
+        (O.told outside.old) (O.told outside.new) result }
 {
     match read_words(alloc, words) {
         Ok(line) => run_line(rt, alloc, outside, &line, gate),

@@ -3,10 +3,10 @@
 //! to 64 connections that share one listener.
 #![tactic(auto)]
 
+use actor_turn::OpenGate;
 use connection_table::{Many, run_many};
 use file_outside::FileOutside;
 use mptcp_run::{Status, fault_text, run, run_messages};
-use outside_kit::OpenGate;
 use run_outside::command_words;
 use std::alloc::{AllocError, Global};
 use std::env::Env;

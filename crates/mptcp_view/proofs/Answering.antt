@@ -12,7 +12,7 @@ use Rattle.link_trace.specs.Ticks.{AreByTick}
 use Rattle.link_trace.specs.declared.carried.Carried.{Carried}
 use Rattle.link_trace.specs.declared.rows.Rates.{Rates}
 use Rattle.link_trace.specs.declared.sent.Sent.{Sent}
-use Rattle.outside_kit.specs.Outside.{HoldsAfter}
+use Rattle.outside_kit.specs.Outside.{Told, HoldsAfter}
 use Rattle.outside_kit.specs.declared.port.Port.{Port}
 use Rattle.outside_kit.specs.declared.port.Port.TheVariants.{ReadByB}
 use Rattle.path_core.specs.Octets.{octets}
@@ -20,8 +20,8 @@ use Rattle.pcap_text.specs.Blocks.{capture_text}
 use Rattle.run_log.specs.declared.turn.Turn as logged
 use Rattle.run_outside.specs.Inputs.{AreWithinLimits, order_of}
 use Rattle.run_outside.specs.Plan.{AddsAll, AddsCut, loads_of}
-use Rattle.run_outside.specs.Ports.{IsUntouched, Ports}
-use Rattle.run_outside.proofs.Calls.{Told, all_then, cut_then}
+use Rattle.run_outside.specs.Ports.{IsUntouched}
+use Rattle.run_outside.proofs.Calls.{all_then, cut_then}
 use Rattle.link_script.specs.Reading.{reading}
 use Rattle.run_outside.specs.declared.input.Input.{Input}
 use Rattle.run_outside.specs.declared.status.Status.{Status}
@@ -67,76 +67,64 @@ shown_in_order items view script w trace told put same by_tick (Err e) h = tt
 shown_in_order items view script w trace told put same by_tick (Ok text) h =
     (told, (by_tick, subst (λ (s : List Sent). IsViewFrom view script w s (items text)) same h))
 
-module _ (content : List ℕ → Option (List ℕ)) (asked : Asking) (name : List ℕ) (input : Input) (log : List ℕ) where
-  pub are_inputs : asked.line.work ≡ replay name → AreWithinLimits content asked.line
-      → IfSome (content asked.line.names.script) (λ told. reading told ≡ Ok input.script)
-      → IfSome (content asked.line.names.file_a) (λ told. input.file_a ≡ told) → IfSome (content asked.line.names.file_b) (λ told. input.file_b ≡ told)
-      → IfSome (content name) (λ told. log ≡ told) → AreInputs content asked.line input log
-  are_inputs named within script file_a file_b whole = record {
-    within = within;
-    script = script;
-    file_a = file_a;
-    file_b = file_b;
-    whole = subst (λ (work : Work). IfSome (option_and_then content (order_of work)) (λ told. log ≡ told)) (sym named) whole;
-  }
-
-  -- OUT held this before the inputs were read, and holds the view now, or isn't written whole
-  module _ (extent : Extent) (part : List ℕ) (turns : List logged.Turn) (held middle holds : Ports) (told read tells : Told) (shown : List ℕ) (are : AreInputs content asked.line input log)
-      (is_read : IsRead input.script log extent part turns) (lawful : AreLawful octets (all_turns turns) (first_world input))
-      (all_told : untold part (trace_of (all_turns turns) (first_world input)) ≡ None) (is : IsViewOf asked.view input (all_turns turns) shown)
-      (same : middle ReadByB ≡ held ReadByB) (loaded : AddsAll (loads_of asked.line) told read) where
-    with_view : {P : Extent → List ℕ → Type 0} → P extent shown → WithView content asked P
-    with_view p = (input, (log, (are, (extent, (part, (turns, (is_read, (lawful, (all_told, (shown, (is, p)))))))))))
-
-    pub shown_where_ok : HoldsAfter (middle ReadByB) (holds ReadByB) (λ _. shown) → AddsAll (out_calls asked.line.names.read_by_b shown) read tells
-        → Shows content asked held holds told tells extent
-    shown_where_ok put made =
-        let then = subst (λ (o : Option (List ℕ)). HoldsAfter o (holds ReadByB) (λ _. shown)) same put in
-        let calls = all_then (loads_of asked.line) (out_calls asked.line.names.read_by_b shown) told read tells loaded made in
-        with_view (refl, (then, calls))
-
-    pub refused_where_cut : (loads_old loads_new : ℕ) (old new : Port → ℕ) (middle_count : ℕ) → middle_count ≡ old ReadByB → (s : Status)
-        → HoldsCut (middle ReadByB) (holds ReadByB) shown → IsOutFault middle_count (new ReadByB) s
-        → AddsCut (out_calls asked.line.names.read_by_b shown) s read tells
-        → IsViewFault content asked held holds told tells loads_old loads_new old new s
-    refused_where_cut loads_old loads_new old new middle_count counts s put fault cut =
-        let then = subst (λ (o : Option (List ℕ)). HoldsCut o (holds ReadByB) shown) same put in
-        let calls = cut_then (loads_of asked.line) (out_calls asked.line.names.read_by_b shown) s told read tells loaded cut in
-        out_refused content asked held holds told tells loads_old loads_new old new middle_count counts s fault (with_view (then, calls))
+pub are_inputs : (content : List ℕ → Option (List ℕ)) (asked : Asking) (name : List ℕ) (input : Input) (log : List ℕ) → asked.line.work ≡ replay name → AreWithinLimits content asked.line
+    → IfSome (content asked.line.names.script) (λ told. reading told ≡ Ok input.script)
+    → IfSome (content asked.line.names.file_a) (λ told. input.file_a ≡ told) → IfSome (content asked.line.names.file_b) (λ told. input.file_b ≡ told)
+    → IfSome (content name) (λ told. log ≡ told) → AreInputs content asked.line input log
+are_inputs content asked name input log named within script file_a file_b whole = record {
+  within = within;
+  script = script;
+  file_a = file_a;
+  file_b = file_b;
+  whole = subst (λ (work : Work). IfSome (option_and_then content (order_of work)) (λ told. log ≡ told)) (sym named) whole;
+}
 
 -- ---- all that is said of an answer
 
-module _ (content : List ℕ → Option (List ℕ)) (asked : Asking) (held holds : Ports) (told tells : Told) (loads_old loads_new : ℕ) (old new : Port → ℕ) where
-  -- before OUT was touched
-  pub refused_early : (s : Status) → IsViewFault content asked held holds told tells loads_old loads_new old new s → IsUntouched held holds old new
-      → IsViewAnswer content asked held holds told tells loads_old loads_new old new (Err s)
-  refused_early s fault untouched = record {
-    shown = tt;
-    fault = fault;
-    untouched = λ before. untouched;
-    other_ports = λ at other. (untouched at).0;
-    other_counts = λ at other. (untouched at).1;
-  }
+-- before OUT was touched
+pub refused_early : (asked : Asking) (old new : Told) (s : Status) → IsViewFault asked old new s → IsUntouched old new → IsViewAnswer asked old new (Err s)
+refused_early asked old new s fault untouched = record {
+  shown = tt;
+  fault = fault;
+  untouched = λ before. untouched;
+  other_ports = λ at other. (untouched at).0;
+  other_counts = λ at other. (untouched at).1;
+}
 
-  -- behind all loads, which touched no port; of the others none was touched then
-  module _ (middle : Ports) (counts : Port → ℕ) (loaded : IsUntouched held middle old counts) (others : (at : Port) → at ≢ ReadByB → holds at ≡ middle at)
-      (other_counts : (at : Port) → at ≢ ReadByB → new at ≡ counts at) where
-    pub answered : (extent : Extent) → Shows content asked held holds told tells extent
-        → IsViewAnswer content asked held holds told tells loads_old loads_new old new (Ok extent)
-    answered extent shows = record {
-      shown = shows;
-      fault = tt;
-      untouched = tt;
-      other_ports = λ at other. others at other ∙ (loaded at).0;
-      other_counts = λ at other. other_counts at other ∙ (loaded at).1;
-    }
+-- OUT was written behind all loads, which touched no port, and no other port was touched then
+module _ (asked : Asking) (input : Input) (log : List ℕ) (extent : Extent) (part : List ℕ) (turns : List logged.Turn) (old middle new : Told) (shown : List ℕ)
+    (are : AreInputs old.content asked.line input log) (is_read : IsRead input.script log extent part turns) (lawful : AreLawful octets (all_turns turns) (first_world input))
+    (all_told : untold part (trace_of (all_turns turns) (first_world input)) ≡ None) (is : IsViewOf asked.view input (all_turns turns) shown)
+    (untouched : IsUntouched old middle) (loaded : AddsAll (loads_of asked.line) old.calls middle.calls)
+    (others : (at : Port) → at ≢ ReadByB → new.holds at ≡ middle.holds at) (other_counts : (at : Port) → at ≢ ReadByB → new.port_faults at ≡ middle.port_faults at) where
+  with_view : {P : Extent → List ℕ → Type 0} → P extent shown → WithView old.content asked P
+  with_view p = (input, (log, (are, (extent, (part, (turns, (is_read, (lawful, (all_told, (shown, (is, p)))))))))))
 
-    pub refused_late : (s : Status) → IsViewFault content asked held holds told tells loads_old loads_new old new s → IsOutFault (counts ReadByB) (new ReadByB) s
-        → IsViewAnswer content asked held holds told tells loads_old loads_new old new (Err s)
-    refused_late s fault out = record {
-      shown = tt;
-      fault = fault;
-      untouched = late (counts ReadByB) (new ReadByB) (IsUntouched held holds old new) s out;
-      other_ports = λ at other. others at other ∙ (loaded at).0;
-      other_counts = λ at other. other_counts at other ∙ (loaded at).1;
-    }
+  -- it holds the view
+  pub answered : HoldsAfter (middle.holds ReadByB) (new.holds ReadByB) (λ _. shown) → AddsAll (out_calls asked.line.names.read_by_b shown) middle.calls new.calls
+      → IsViewAnswer asked old new (Ok extent)
+  answered put made =
+      let then = subst (λ (o : Option (List ℕ)). HoldsAfter o (new.holds ReadByB) (λ _. shown)) (untouched ReadByB).0 put in
+      let calls = all_then (loads_of asked.line) (out_calls asked.line.names.read_by_b shown) old.calls middle.calls new.calls loaded made in
+      let shows : Shows asked old new extent = with_view (refl, (then, calls)) in
+      record {
+        shown = shows;
+        fault = tt;
+        untouched = tt;
+        other_ports = λ at other. others at other ∙ (untouched at).0;
+        other_counts = λ at other. other_counts at other ∙ (untouched at).1;
+      }
+
+  -- it isn't written whole
+  pub refused_late : (s : Status) → HoldsCut (middle.holds ReadByB) (new.holds ReadByB) shown → IsOutFault (middle.port_faults ReadByB) (new.port_faults ReadByB) s
+      → AddsCut (out_calls asked.line.names.read_by_b shown) s middle.calls new.calls → IsViewAnswer asked old new (Err s)
+  refused_late s put fault cut =
+      let then = subst (λ (o : Option (List ℕ)). HoldsCut o (new.holds ReadByB) shown) (untouched ReadByB).0 put in
+      let calls = cut_then (loads_of asked.line) (out_calls asked.line.names.read_by_b shown) s old.calls middle.calls new.calls loaded cut in
+      record {
+        shown = tt;
+        fault = out_refused asked old new (middle.port_faults ReadByB) (untouched ReadByB).1 s fault (with_view (then, calls));
+        untouched = late (middle.port_faults ReadByB) (new.port_faults ReadByB) (IsUntouched old new) s fault;
+        other_ports = λ at other. others at other ∙ (untouched at).0;
+        other_counts = λ at other. other_counts at other ∙ (untouched at).1;
+      }

@@ -1,15 +1,17 @@
 -- Why nothing is shown: by what is read, by a turn, or by OUT.
 use Rattle.std.proofs.Common.{◌≡◌, refl, subst, ℕ, Option, Some, None, List, [], ◌++◌, Result, Ok, Err, OnOk, OnErr, IfErr, inl, inr}
 use Rattle.outside_kit.specs.Calls.{Call}
-use Rattle.outside_kit.specs.Outside.{HoldsAfter, HoldsPrefix}
-use Rattle.outside_kit.specs.declared.port.Port.{Port}
+use Rattle.outside_kit.specs.Outside.{Told, HoldsAfter, HoldsPrefix}
+use Rattle.outside_kit.specs.declared.port.Port.TheVariants as port
 use Rattle.run_outside.specs.declared.input.Input.{Input}
 use Rattle.run_outside.specs.declared.status.Status.{Status}
+use Rattle.run_outside.specs.declared.status.Status.TheVariants as status
 use Rattle.run_outside.specs.Inputs.{IsLoggedFault}
 use Rattle.run_outside.specs.Loading.{InputAdds}
 use Rattle.run_outside.specs.Plan.{AddsAll, AddsCut, loads_of}
-use Rattle.run_outside.specs.Ports.{IsUntouched, Ports}
-use Rattle.run_outside.proofs.Calls.{Told, adds_none, all_then, cut_none, cut_over, cut_then}
+use Rattle.run_outside.specs.Ports.{IsUntouched}
+use Rattle.run_outside.proofs.Calls.{ToldCalls, adds_none, all_then, cut_none, cut_over, cut_then}
+use Rattle.run_outside.proofs.PortsLemmas.{IfErr-map}
 use Rattle.run_log.specs.declared.turn.Turn as logged
 use Rattle.world_core.specs.Logged.{all_turns}
 use Rattle.mptcp_view.specs.Asking.{Asking}
@@ -17,42 +19,42 @@ use Rattle.mptcp_view.specs.Cutting.{IsRead, IsUnread}
 use Rattle.mptcp_view.specs.Views.{AreInputs, HoldsCut, IsBeforeOut, IsCut, IsOutFault, IsTurnsFault, IsViewAnswer, IsViewFault}
 use Rattle.mptcp_view.specs.declared.cutting.Extent.{Extent}
 
-module _ (content : List ℕ → Option (List ℕ)) (asked : Asking) (held holds : Ports) (told tells : Told) (loads_old loads_new : ℕ) (old new : Port → ℕ) where
+module _ (asked : Asking) (old new : Told) where
   -- by what is loaded
-  pub inputs_refused : (s : Status) → IsLoggedFault content asked.line loads_old loads_new s → InputAdds asked.line (loads_of asked.line) told tells s
-      → IsUntouched held holds old new → IsViewFault content asked held holds told tells loads_old loads_new old new s
-  inputs_refused (Status.Script at kind) h adds untouched = (h, adds)
-  inputs_refused (Status.Load input) h adds untouched = (h, adds)
-  inputs_refused (Status.TooLong input) h adds untouched = (h, adds)
-  inputs_refused Status.Memory h adds untouched = inl (untouched, adds)
+  pub inputs_refused : (s : Status) → IsLoggedFault old.content asked.line old.load_faults new.load_faults s → InputAdds asked.line (loads_of asked.line) old.calls new.calls s
+      → IsUntouched old new → IsViewFault asked old new s
+  inputs_refused (status.Script at kind) h adds untouched = (h, adds)
+  inputs_refused (status.Load input) h adds untouched = (h, adds)
+  inputs_refused (status.TooLong input) h adds untouched = (h, adds)
+  inputs_refused status.Memory h adds untouched = inl (untouched, adds)
   inputs_refused _ h adds untouched = absurd h
 
-  module _ (input : Input) (log : List ℕ) (are : AreInputs content asked.line input log) (made : AddsAll (loads_of asked.line) told tells)
-      (untouched : IsUntouched held holds old new) where
+  module _ (input : Input) (log : List ℕ) (are : AreInputs old.content asked.line input log) (made : AddsAll (loads_of asked.line) old.calls new.calls)
+      (untouched : IsUntouched old new) where
     -- by the log
-    pub log_refused : (s : Status) → IsUnread input.script log s → IsViewFault content asked held holds told tells loads_old loads_new old new s
-    log_refused Status.Memory h = inl (untouched, cut_over (loads_of asked.line) told tells made)
-    log_refused (Status.Log at) h = (inl (input, (log, (are, h))), made)
+    pub log_refused : (s : Status) → IsUnread input.script log s → IsViewFault asked old new s
+    log_refused status.Memory h = inl (untouched, cut_over (loads_of asked.line) old.calls new.calls made)
+    log_refused (status.Log at) h = (inl (input, (log, (are, h))), made)
     log_refused _ h = absurd h
 
     -- by a turn that can't be made, or tells another segment
     pub turns_refused : (extent : Extent) (part : List ℕ) (turns : List logged.Turn) → IsRead input.script log extent part turns → (s : Status)
-        → IsTurnsFault (all_turns turns) input part s → IsViewFault content asked held holds told tells loads_old loads_new old new s
-    turns_refused extent part turns read Status.Memory h = inl (untouched, cut_over (loads_of asked.line) told tells made)
-    turns_refused extent part turns read (Status.Log at) h = (inr (input, (log, (are, (extent, (part, (turns, (read, h))))))), made)
+        → IsTurnsFault (all_turns turns) input part s → IsViewFault asked old new s
+    turns_refused extent part turns read status.Memory h = inl (untouched, cut_over (loads_of asked.line) old.calls new.calls made)
+    turns_refused extent part turns read (status.Log at) h = (inr (input, (log, (are, (extent, (part, (turns, (read, h))))))), made)
     turns_refused extent part turns read _ h = absurd h
 
   -- by OUT
-  pub out_refused : (middle : ℕ) → middle ≡ old Port.ReadByB → (s : Status) → IsOutFault middle (new Port.ReadByB) s
-      → IsCut content asked held holds told tells s → IsViewFault content asked held holds told tells loads_old loads_new old new s
-  out_refused middle same (Status.Put at) h cut = (subst (λ (n : ℕ). IsOutFault n (new Port.ReadByB) (Status.Put at)) same h, cut)
-  out_refused middle same Status.Memory h cut = inr cut
+  pub out_refused : (middle : ℕ) → middle ≡ old.port_faults port.ReadByB → (s : Status) → IsOutFault middle (new.port_faults port.ReadByB) s
+      → IsCut asked old new s → IsViewFault asked old new s
+  out_refused middle same (status.Put at) h cut = (subst (λ (n : ℕ). IsOutFault n (new.port_faults port.ReadByB) (status.Put at)) same h, cut)
+  out_refused middle same status.Memory h cut = inr cut
   out_refused middle same _ h cut = absurd h
 
 -- a fault of OUT comes late
 pub late : (old new : ℕ) (X : Type 0) (s : Status) → IsOutFault old new s → IsBeforeOut s → X
-late old new X (Status.Put at) h before = absurd before
-late old new X Status.Memory h before = absurd before
+late old new X (status.Put at) h before = absurd before
+late old new X status.Memory h before = absurd before
 late old new X _ h before = absurd h
 
 -- ---- OUT
@@ -75,11 +77,11 @@ cut_put old middle new shown bound (Err s) put = cut_out old middle new shown bo
 
 -- ---- calls, one part behind another
 
-pub made_then : {X : Type 0} (xs ys : List Call) (a b c : Told) → AddsAll xs a b → (r : Result X Status) → OnOk r (AddsAll ys b c) → OnOk r (AddsAll (xs ++ ys) a c)
+pub made_then : {X : Type 0} (xs ys : List Call) (a b c : ToldCalls) → AddsAll xs a b → (r : Result X Status) → OnOk r (AddsAll ys b c) → OnOk r (AddsAll (xs ++ ys) a c)
 made_then xs ys a b c first (Ok x) more = all_then xs ys a b c first more
 made_then xs ys a b c first (Err s) more = tt
 
-pub cut_behind : {X : Type 0} (xs ys : List Call) (a b c : Told) → AddsAll xs a b → (r : Result X Status) → IfErr r (λ s. AddsCut ys s b c)
+pub cut_behind : {X : Type 0} (xs ys : List Call) (a b c : ToldCalls) → AddsAll xs a b → (r : Result X Status) → IfErr r (λ s. AddsCut ys s b c)
     → IfErr r (λ s. AddsCut (xs ++ ys) s a c)
 cut_behind xs ys a b c first (Ok x) more = tt
 cut_behind xs ys a b c first (Err s) more = cut_then xs ys s a b c first more
@@ -87,21 +89,36 @@ cut_behind xs ys a b c first (Err s) more = cut_then xs ys s a b c first more
 -- ---- a run of messages
 
 -- nothing was begun for want of memory
-pub unbegun : (content : List ℕ → Option (List ℕ)) (asked : Asking) (held : Ports) (loads : ℕ) (faults : Port → ℕ)
-    → IsViewAnswer content asked held held None None loads loads faults faults (Err Status.Memory)
-unbegun content asked held loads faults = record {
+pub unbegun : (asked : Asking) (t : Told) → IsViewAnswer asked t t (Err status.Memory)
+unbegun asked t = record {
   shown = tt;
-  fault = inl (λ at. (refl, refl), cut_none (loads_of asked.line) Status.Memory None None refl (adds_none None));
+  fault = inl (λ at. (refl, refl), cut_none (loads_of asked.line) status.Memory t.calls t.calls refl (adds_none t.calls));
   untouched = λ before. absurd before;
   other_ports = λ at other. refl;
   other_counts = λ at other. refl;
 }
 
+-- nothing is said of the contents behind it
+module _ (asked : Asking) (old new : Told) (contents : List ℕ → Option (List ℕ)) where
+  fault_stays : (s : Status) → IsViewFault asked old new s → IsViewFault asked old (record new { content = contents }) s
+  fault_stays (status.Put at) h = h
+  fault_stays status.Memory h = h
+  fault_stays (status.Log at) h = h
+  fault_stays _ h = h
+
+  pub whatever_contents : (r : Result Extent Status) → IsViewAnswer asked old new r → IsViewAnswer asked old (record new { content = contents }) r
+  whatever_contents r h = record {
+    shown = h.shown;
+    fault = IfErr-map r fault_stays h.fault;
+    untouched = h.untouched;
+    other_ports = h.other_ports;
+    other_counts = h.other_counts;
+  }
+
 -- it isn't the words that are refused
-pub no_usage : (content : List ℕ → Option (List ℕ)) (asked : Asking) (held holds : Ports) (told tells : Told) (loads_old loads_new : ℕ) (old new : Port → ℕ) (r : Result Extent Status)
-    → IsViewAnswer content asked held holds told tells loads_old loads_new old new r → r ≡ Err Status.Usage → ⊥
-no_usage content asked held holds told tells loads_old loads_new old new r h is =
-    let fault : IsViewFault content asked held holds told tells loads_old loads_new old new Status.Usage = subst (λ e. IfErr e (IsViewFault content asked held holds told tells loads_old loads_new old new)) is h.fault in
+pub no_usage : (asked : Asking) (old new : Told) (r : Result Extent Status) → IsViewAnswer asked old new r → r ≡ Err status.Usage → ⊥
+no_usage asked old new r h is =
+    let fault : IsViewFault asked old new status.Usage = subst (λ e. IfErr e (IsViewFault asked old new)) is h.fault in
     absurd fault.0
 
 pub not_none : {A : Type 0} (o : Option A) (a : A) → Some a ≡ o → o ≡ None → ⊥

@@ -1,11 +1,11 @@
 -- What OUT shows of what the words ask for, and why it doesn't.
 use Rattle.std.specs.Prelude.{◌≡◌, ◌≢◌, ◌⊎◌, Result, Ok, IfOk, IfErr, ℕ, ◌+◌, ◌^◌, ◌≤◌, Option, Some, None, option_map, unwrap_or, IfSome, List, [], ◌∷◌, ◌++◌, length, take}
 use Rattle.world_core.specs.Logged.{all_turns}
-use Rattle.outside_kit.specs.Calls.{Call, Made}
+use Rattle.outside_kit.specs.Calls.{Call}
 use Rattle.outside_kit.specs.Calls as call
 use Rattle.outside_kit.specs.declared.port.Port.{Port}
 use Rattle.outside_kit.specs.declared.port.Port.TheVariants as port
-use Rattle.outside_kit.specs.Outside.{HasRisen, HoldsAfter}
+use Rattle.outside_kit.specs.Outside.{Told, HasRisen, HoldsAfter}
 use Rattle.link_script.specs.declared.script.Script.{Script}
 use Rattle.link_trace.specs.Captures.{blocks_of}
 use Rattle.link_trace.specs.Carrying.{all_carried, base_of}
@@ -15,6 +15,7 @@ use Rattle.link_trace.specs.Tables.{summary_of}
 use Rattle.link_trace.specs.Ticks.{AreByTick}
 use Rattle.link_trace.specs.declared.carried.Base.{Base}
 use Rattle.link_trace.specs.declared.sent.Sent.{Sent}
+use Rattle.message_pipe.specs.Lined.{framed_told}
 use Rattle.path_core.specs.Octets.{octets}
 use Rattle.path_core.specs.Start.{key_of}
 use Rattle.path_core.specs.State.{PathState}
@@ -23,7 +24,7 @@ use Rattle.run_log.specs.declared.turn.Turn as logged
 use Rattle.run_outside.specs.Inputs.{AreWithinLimits, IsLoggedFault, content_of, opening_count}
 use Rattle.run_outside.specs.Loading.{InputAdds}
 use Rattle.run_outside.specs.Plan.{AddsAll, AddsCut, loads_of}
-use Rattle.run_outside.specs.Ports.{IsUntouched, Ports}
+use Rattle.run_outside.specs.Ports.{IsUntouched}
 use Rattle.link_script.specs.Reading.{reading}
 use Rattle.run_outside.specs.declared.input.Input.{Input}
 use Rattle.run_outside.specs.declared.status.Named.TheVariants as named
@@ -160,37 +161,41 @@ IsBeforeOut _ = Unit {0}
 
 -- ---- what is answered
 
-module _ (content : List ℕ → Option (List ℕ)) (asked : Asking) (held holds : Ports) (told tells : Option (List Made)) where
+-- of a run of messages: its files hold the frames of their lines, and its calls aren't told
+abbrev pub over_frames : Line → Told → Told
+over_frames line t = framed_told line.names.file_a line.names.file_b t
+
+module _ (asked : Asking) (old new : Told) where
   -- OUT holds the view of what the turns of so much of the log send: it was put, all inputs being loaded
   abbrev pub Shows : Extent → Type 0
-  Shows extent = WithView content asked (λ read shown. (read ≡ extent)
-      × (HoldsAfter (held port.ReadByB) (holds port.ReadByB) (λ _. shown) × AddsAll (view_calls asked.line shown) told tells))
+  Shows extent = WithView old.content asked (λ read shown. (read ≡ extent)
+      × (HoldsAfter (old.holds port.ReadByB) (new.holds port.ReadByB) (λ _. shown) × AddsAll (view_calls asked.line shown) old.calls new.calls))
 
   -- a view of what was asked was made, and not written whole
   abbrev pub IsCut : Status → Type 0
-  IsCut s = WithView content asked (λ read shown.
-      HoldsCut (held port.ReadByB) (holds port.ReadByB) shown × AddsCut (view_calls asked.line shown) s told tells)
+  IsCut s = WithView old.content asked (λ read shown.
+      HoldsCut (old.holds port.ReadByB) (new.holds port.ReadByB) shown × AddsCut (view_calls asked.line shown) s old.calls new.calls)
 
   -- what is loaded, or OUT; what is refused of a log is its form, the first turn that can't be made, or the first line that tells
   -- another segment
-  abbrev pub IsViewFault : ℕ → ℕ → (Port → ℕ) → (Port → ℕ) → Status → Type 0
-  IsViewFault loads_old loads_new old new (status.Put at) =
-      IsOutFault (old port.ReadByB) (new port.ReadByB) (status.Put at) × IsCut (status.Put at)
-  IsViewFault loads_old loads_new old new status.Memory =
-      (IsUntouched held holds old new × AddsCut (loads_of asked.line) status.Memory told tells) ⊎ IsCut status.Memory
-  IsViewFault loads_old loads_new old new (status.Log at) =
-      (WithInputs content asked.line (λ input log. IsUnread input.script log (status.Log at))
-      ⊎ WithTurns content asked.line (λ extent input part turns. IsTurnsFault turns input part (status.Log at)))
-      × AddsAll (loads_of asked.line) told tells
-  IsViewFault loads_old loads_new old new s =
-      IsLoggedFault content asked.line loads_old loads_new s × InputAdds asked.line (loads_of asked.line) told tells s
+  abbrev pub IsViewFault : Status → Type 0
+  IsViewFault (status.Put at) =
+      IsOutFault (old.port_faults port.ReadByB) (new.port_faults port.ReadByB) (status.Put at) × IsCut (status.Put at)
+  IsViewFault status.Memory =
+      (IsUntouched old new × AddsCut (loads_of asked.line) status.Memory old.calls new.calls) ⊎ IsCut status.Memory
+  IsViewFault (status.Log at) =
+      (WithInputs old.content asked.line (λ input log. IsUnread input.script log (status.Log at))
+      ⊎ WithTurns old.content asked.line (λ extent input part turns. IsTurnsFault turns input part (status.Log at)))
+      × AddsAll (loads_of asked.line) old.calls new.calls
+  IsViewFault s =
+      IsLoggedFault old.content asked.line old.load_faults new.load_faults s × InputAdds asked.line (loads_of asked.line) old.calls new.calls s
 
   -- how a view ends, of a run of messages too: then the files of these contents are the frames of their lines
-  pub record IsViewAnswer (loads_old loads_new : ℕ) (old new : Port → ℕ) (result : Result Extent Status) : Type 0 where
+  pub record IsViewAnswer (result : Result Extent Status) : Type 0 where
     pub shown : IfOk result Shows
-    pub fault : IfErr result (IsViewFault loads_old loads_new old new)
+    pub fault : IfErr result IsViewFault
     -- after an error before OUT no port was touched
-    pub untouched : IfErr result (λ s. IsBeforeOut s → IsUntouched held holds old new)
+    pub untouched : IfErr result (λ s. IsBeforeOut s → IsUntouched old new)
     -- of the ports only that of OUT is touched
-    pub other_ports : (at : Port) → at ≢ port.ReadByB → holds at ≡ held at
-    pub other_counts : (at : Port) → at ≢ port.ReadByB → new at ≡ old at
+    pub other_ports : (at : Port) → at ≢ port.ReadByB → new.holds at ≡ old.holds at
+    pub other_counts : (at : Port) → at ≢ port.ReadByB → new.port_faults at ≡ old.port_faults at

@@ -1,12 +1,10 @@
 //! Views of runs whose files go as messages, each line as one.
 
-ghost use Rattle.std.specs.Prelude.{◌≡◌, ◌≢◌, ◌↔◌, true, Err, None, map, string_bytes, IfOk, IfSome};
-ghost use Rattle.outside_kit.specs.declared.port.Port.{Port};
-ghost use Rattle.message_pipe.specs.Lined.{lined_content};
+ghost use Rattle.std.specs.Prelude.{◌≡◌, ◌↔◌, true, Err, None, map, string_bytes, IfOk, IfSome};
 ghost use Rattle.run_words.specs.Lines.{as_line, replay};
 ghost use Rattle.run_outside.specs.declared.status.Status.TheVariants.{Usage};
 ghost use Rattle.mptcp_view.specs.Asking.{as_asked, asked_in};
-ghost use Rattle.mptcp_view.specs.Views.{IsViewAnswer};
+ghost use Rattle.mptcp_view.specs.Views.{IsViewAnswer, over_frames};
 
 use crate::asking::{Asked, asked_by};
 use crate::cutting::Extent;
@@ -39,11 +37,8 @@ fn show_over_frames<O: Outside, P: Progress>(
     requires named { (as_line asked.now.line).work ≡ replay asked.now.log.now }
     requires file_a { string_bytes files.0 ≡ asked.now.line.file_a.now }
     requires file_b { string_bytes files.1 ≡ asked.now.line.file_b.now }
-    ensures { IsViewAnswer
-        (lined_content asked.now.line.file_a.now asked.now.line.file_b.now (O.content outside))
-        (as_asked asked.now) (O.holds outside) (O.holds result.1) None None
-        (O.load_faults outside) (O.load_faults result.1)
-        (O.port_faults outside) (O.port_faults result.1) result.0 }
+    ensures { IsViewAnswer (as_asked asked.now) (over_frames (as_line asked.now.line) (O.told outside))
+        (over_frames (as_line asked.now.line) (O.told result.1)) result.0 }
 {
     let mut framed = FramedOutside::new(outside, files.0, files.1);
     let shown = show(alloc, &mut framed, progress, asked);
@@ -58,11 +53,8 @@ fn show_messages<O: Outside, P: Progress>(
     asked: &Asked<'_>,
 ) -> (Result<Extent, Status>, O)
     requires { (as_line asked.now.line).work ≡ replay asked.now.log.now }
-    ensures { IsViewAnswer
-        (lined_content asked.now.line.file_a.now asked.now.line.file_b.now (O.content outside))
-        (as_asked asked.now) (O.holds outside) (O.holds result.1) None None
-        (O.load_faults outside) (O.load_faults result.1)
-        (O.port_faults outside) (O.port_faults result.1) result.0 }
+    ensures { IsViewAnswer (as_asked asked.now) (over_frames (as_line asked.now.line) (O.told outside))
+        (over_frames (as_line asked.now.line) (O.told result.1)) result.0 }
 {
     match file_names(alloc, &asked.line) {
         Ok(files) => show_over_frames(alloc, outside, files, progress, asked),
@@ -84,11 +76,8 @@ pub fn view_messages<O: Outside, P: Progress>(
     progress: &mut P,
 ) -> (Result<Extent, Status>, O)
     ensures usage { (result.0 ≡ Err Usage) ↔ (asked_in true (map string_bytes words.now) ≡ None) }
-    ensures answer { IfSome (asked_in true (map string_bytes words.now)) (λ asked. IsViewAnswer
-        (lined_content asked.line.names.file_a asked.line.names.file_b (O.content outside))
-        asked (O.holds outside) (O.holds result.1) None None
-        (O.load_faults outside) (O.load_faults result.1)
-        (O.port_faults outside) (O.port_faults result.1) result.0) }
+    ensures answer { IfSome (asked_in true (map string_bytes words.now)) (λ asked. IsViewAnswer asked
+        (over_frames asked.line (O.told outside)) (over_frames asked.line (O.told result.1)) result.0) }
     ensures untouched { result.0 ≡ Err Usage → result.1 ≡ outside }
 {
     match asked_by(true, words) {

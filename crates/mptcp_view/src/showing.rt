@@ -161,20 +161,20 @@ fn stopped(fault: TraceFault, lines: u64) -> Status
 
 /// Writes all of it at the end of OUT.
 fn put_out<O: Outside>(outside: &mut O, shown: &[u8]) -> Result<(), Status>
-    ensures ok { OnOk result (HoldsAfter (O.holds outside.old Port.ReadByB)
-        (O.holds outside.new Port.ReadByB) (λ held. held ++ shown.now)) }
-    ensures err { OnErr result (HoldsPrefix (O.holds outside.old Port.ReadByB)
-        (O.holds outside.new Port.ReadByB) shown.now) }
+    ensures ok { OnOk result (HoldsAfter ((O.told outside.old).holds Port.ReadByB)
+        ((O.told outside.new).holds Port.ReadByB) (λ held. held ++ shown.now)) }
+    ensures err { OnErr result (HoldsPrefix ((O.told outside.old).holds Port.ReadByB)
+        ((O.told outside.new).holds Port.ReadByB) shown.now) }
     ensures fault { IfErr result (IsOutFault
-        (O.port_faults outside.old Port.ReadByB) (O.port_faults outside.new Port.ReadByB)) }
+        ((O.told outside.old).port_faults Port.ReadByB) ((O.told outside.new).port_faults Port.ReadByB)) }
     ensures other_ports { (port : Port) → port ≢ Port.ReadByB →
-        O.holds outside.new port ≡ O.holds outside.old port }
+        (O.told outside.new).holds port ≡ (O.told outside.old).holds port }
     ensures other_counts { (port : Port) → port ≢ Port.ReadByB →
-        O.port_faults outside.new port ≡ O.port_faults outside.old port }
+        (O.told outside.new).port_faults port ≡ (O.told outside.old).port_faults port }
     ensures made { OnOk result (AddsAll (call.Put Port.ReadByB shown.now ∷ [])
-        (O.calls outside.old) (O.calls outside.new)) }
+        (O.told outside.old).calls (O.told outside.new).calls) }
     ensures cut { IfErr result (λ status. AddsCut (call.Put Port.ReadByB shown.now ∷ []) status
-        (O.calls outside.old) (O.calls outside.new)) }
+        (O.told outside.old).calls (O.told outside.new).calls) }
 {
     match outside.put(Port::ReadByB, shown) {
         Ok(()) => Ok(()),
@@ -188,20 +188,20 @@ fn put_out<O: Outside>(outside: &mut O, shown: &[u8]) -> Result<(), Status>
 /// Makes OUT anew, and writes it.
 #[tactic(auto, using(crate::proofs::Refusing::kept_out))]
 fn write_out<O: Outside>(outside: &mut O, out: &str, shown: &[u8]) -> Result<(), Status>
-    ensures ok { OnOk result (HoldsAfter (O.holds outside.old Port.ReadByB)
-        (O.holds outside.new Port.ReadByB) (λ _. shown.now)) }
-    ensures err { OnErr result (HoldsCut (O.holds outside.old Port.ReadByB)
-        (O.holds outside.new Port.ReadByB) shown.now) }
+    ensures ok { OnOk result (HoldsAfter ((O.told outside.old).holds Port.ReadByB)
+        ((O.told outside.new).holds Port.ReadByB) (λ _. shown.now)) }
+    ensures err { OnErr result (HoldsCut ((O.told outside.old).holds Port.ReadByB)
+        ((O.told outside.new).holds Port.ReadByB) shown.now) }
     ensures fault { IfErr result (IsOutFault
-        (O.port_faults outside.old Port.ReadByB) (O.port_faults outside.new Port.ReadByB)) }
+        ((O.told outside.old).port_faults Port.ReadByB) ((O.told outside.new).port_faults Port.ReadByB)) }
     ensures other_ports { (port : Port) → port ≢ Port.ReadByB →
-        O.holds outside.new port ≡ O.holds outside.old port }
+        (O.told outside.new).holds port ≡ (O.told outside.old).holds port }
     ensures other_counts { (port : Port) → port ≢ Port.ReadByB →
-        O.port_faults outside.new port ≡ O.port_faults outside.old port }
+        (O.told outside.new).port_faults port ≡ (O.told outside.old).port_faults port }
     ensures made { OnOk result (AddsAll (out_calls out.now shown.now)
-        (O.calls outside.old) (O.calls outside.new)) }
+        (O.told outside.old).calls (O.told outside.new).calls) }
     ensures cut { IfErr result (λ status. AddsCut (out_calls out.now shown.now) status
-        (O.calls outside.old) (O.calls outside.new)) }
+        (O.told outside.old).calls (O.told outside.new).calls) }
 {
     match outside.bind(Port::ReadByB, out) {
         Ok(()) => put_out(outside, shown),
@@ -289,10 +289,7 @@ pub fn show<O: Outside, P: Progress>(
     asked: &Asked<'_>,
 ) -> Result<Extent, Status>
     requires { (as_line asked.now.line).work ≡ replay asked.now.log.now }
-    ensures { IsViewAnswer (O.content outside.old) (as_asked asked.now)
-        (O.holds outside.old) (O.holds outside.new) (O.calls outside.old) (O.calls outside.new)
-        (O.load_faults outside.old) (O.load_faults outside.new)
-        (O.port_faults outside.old) (O.port_faults outside.new) result }
+    ensures { IsViewAnswer (as_asked asked.now) (O.told outside.old) (O.told outside.new) result }
 {
     let logged = load_logged(alloc, outside, &asked.line, asked.log)?;
     let Logged { input, log } = logged;
@@ -322,22 +319,17 @@ pub fn view_words<O: Outside, P: Progress>(
 ) -> Result<Extent, Status>
     ensures usage { (result ≡ Err Usage) ↔ (asked_in false (map string_bytes words.now) ≡ None) }
     ensures shown { IfOk result (λ extent. IfSome (asked_in false (map string_bytes words.now)) (λ asked.
-        Shows (O.content outside.old) asked (O.holds outside.old) (O.holds outside.new)
-        (O.calls outside.old) (O.calls outside.new) extent)) }
+        Shows asked (O.told outside.old) (O.told outside.new) extent)) }
     ensures fault { IfErr result (λ status. IfSome (asked_in false (map string_bytes words.now)) (λ asked.
-        IsViewFault (O.content outside.old) asked (O.holds outside.old) (O.holds outside.new)
-        (O.calls outside.old) (O.calls outside.new)
-        (O.load_faults outside.old) (O.load_faults outside.new)
-        (O.port_faults outside.old) (O.port_faults outside.new) status)) }
+        IsViewFault asked (O.told outside.old) (O.told outside.new) status)) }
     ensures untouched { IfErr result (λ status. IsBeforeOut status → IsUntouched
-        (O.holds outside.old) (O.holds outside.new)
-        (O.port_faults outside.old) (O.port_faults outside.new)) }
+        (O.told outside.old) (O.told outside.new)) }
     ensures other_ports { (port : Port) → port ≢ Port.ReadByB →
-        O.holds outside.new port ≡ O.holds outside.old port }
+        (O.told outside.new).holds port ≡ (O.told outside.old).holds port }
     ensures other_counts { (port : Port) → port ≢ Port.ReadByB →
-        O.port_faults outside.new port ≡ O.port_faults outside.old port }
-    ensures unloaded { result ≡ Err Usage → O.load_faults outside.new ≡ O.load_faults outside.old }
-    ensures uncalled { result ≡ Err Usage → O.calls outside.new ≡ O.calls outside.old }
+        (O.told outside.new).port_faults port ≡ (O.told outside.old).port_faults port }
+    ensures unloaded { result ≡ Err Usage → (O.told outside.new).load_faults ≡ (O.told outside.old).load_faults }
+    ensures uncalled { result ≡ Err Usage → (O.told outside.new).calls ≡ (O.told outside.old).calls }
 {
     match asked_by(false, words) {
         None => Err(Status::Usage),

@@ -1,5 +1,4 @@
-//! What a connection touches of the world around it: the files that it reads, the ports that it writes, and the gate
-//! that its threads pass.
+//! What a connection touches of the world around it: the files that it reads, and the ports that it writes.
 //!
 //! An [`Outside`] is told to contracts by what it tells: the content of each name, what each port holds, how many
 //! faults there were, and the calls that were made on it. [`MemoryOutside`] tells all of it; an outside over real files
@@ -8,16 +7,12 @@
 
 mod calls;
 mod files;
-mod gate;
-mod meet;
 mod memory;
 mod outside;
 mod port;
 
 pub use calls::{OutsideCall, RecordedCall};
 pub use files::{FailAt, NamedFile};
-pub use gate::{Gate, OpenGate};
-pub use meet::MeetGate;
 pub use memory::MemoryOutside;
 pub use outside::{LoadFault, Outside, PutFault};
 pub use port::Port;

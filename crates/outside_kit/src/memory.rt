@@ -275,17 +275,14 @@ impl Outside for MemoryOutside {
     ghost use Rattle.outside_kit.specs.Memory.{content_named, port_of, kept_next, with_port, emptied, grown, after_fault, after_call, after_failed_load};
     ghost use Rattle.outside_kit.specs.declared.port.Port.{Port};
 
-    ghost content = { λ outside name. content_named outside.memory.files name };
-
-    ghost source = { λ outside name. content_named outside.memory.files name };
-
-    ghost holds = { λ outside port. Some (port_of port outside.memory).held };
-
-    ghost load_faults = { λ outside. outside.memory.load_faults };
-
-    ghost port_faults = { λ outside port. (port_of port outside.memory).faults };
-
-    ghost calls = { λ outside. outside.made };
+    ghost told = { λ outside. record {
+      content = content_named outside.memory.files;
+      source = content_named outside.memory.files;
+      holds = λ port. Some (port_of port outside.memory).held;
+      load_faults = outside.memory.load_faults;
+      port_faults = λ port. (port_of port outside.memory).faults;
+      calls = outside.made;
+    } };
 
     /// As [`Outside::load`] says. It fails where this call is to fail, and for a name that no file has.
     fn load(&mut self, alloc: Global, name: &str, limit: u64) -> Result<Vec<u8>, LoadFault>

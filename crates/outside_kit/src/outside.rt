@@ -1,8 +1,8 @@
-ghost use Rattle.std.specs.Prelude.{◌≡◌, ◌≢◌, ◌≤◌, ◌<◌, ◌^◌, ◌++◌, ℕ, List, [], length, Option, Some, is_ok, IsSome, IfOk, IfSome, OnOk, OnErr, vec_len};
+ghost use Rattle.std.specs.Prelude.{◌≡◌, ◌≢◌, ◌≤◌, ◌<◌, ◌^◌, ◌++◌, ℕ, List, [], length, Some, is_ok, IsSome, IfOk, IfSome, OnOk, OnErr, vec_len};
 ghost use Rattle.outside_kit.specs.declared.port.Port.{Port};
-ghost use Rattle.outside_kit.specs.Calls.{Made, Load, Bind, Put, AreCallsAfter};
+ghost use Rattle.outside_kit.specs.Calls.{Load, Bind, Put, AreCallsAfter};
 ghost use Rattle.outside_kit.specs.Faults.{load_words, put_words};
-ghost use Rattle.outside_kit.specs.Outside.{HasRisen, HoldsAfter, HoldsPrefix};
+ghost use Rattle.outside_kit.specs.Outside.{Told, HasRisen, HoldsAfter, HoldsPrefix};
 
 use crate::port::Port;
 use std::alloc::Global;
@@ -79,23 +79,8 @@ impl Error for PutFault {}
 /// It counts its faults: those of loads, and for each port those of its binds and puts. A count never falls, and
 /// one that has reached 2^64 - 1 stays there.
 pub trait Outside {
-    /// The content of a name, where it is told.
-    ghost content: { Self → List ℕ → Option (List ℕ) };
-
-    /// The content of a name as it lies outside, where it is told. An outside may give it in another form.
-    ghost source: { Self → List ℕ → Option (List ℕ) };
-
-    /// What a port holds, where it is told.
-    ghost holds: { Self → Port → Option (List ℕ) };
-
-    /// How many loads have failed.
-    ghost load_faults: { Self → ℕ };
-
-    /// How many binds and puts of a port have failed.
-    ghost port_faults: { Self → Port → ℕ };
-
-    /// The calls that were made on it, in order, where it tells them. It may cease to tell them.
-    ghost calls: { Self → Option (List Made) };
+    /// What it tells of its contents, its ports, its faults and the calls on it.
+    ghost told: { Self → Told };
 
     /// The whole content of `name`, of at most `limit` octets.
     fn load(&mut self, alloc: Global, name: &str, limit: u64) -> Result<Vec<u8>, LoadFault>
@@ -103,70 +88,70 @@ pub trait Outside {
 
         // The content is whole and within the limit. Unless the device fails, it is called too long exactly where it is.
         ensures whole { IfOk result
-            (λ bytes. IfSome (content self.old name.now) (λ told. bytes.items ≡ told)) }
+            (λ bytes. IfSome ((told self.old).content name.now) (λ text. bytes.items ≡ text)) }
         ensures within { IfOk result (λ bytes. vec_len bytes ≤ limit) }
         ensures too_long { result ≡ Err LoadFault.TooLong →
-            IfSome (content self.old name.now) (λ told. limit < length told) }
+            IfSome ((told self.old).content name.now) (λ text. limit < length text) }
         ensures source_within { OnOk result
-            (IfSome (source self.old name.now) (λ told. length told ≤ limit)) }
+            (IfSome ((told self.old).source name.now) (λ text. length text ≤ limit)) }
         ensures fits { result ≡ Err LoadFault.Memory →
-            IfSome (source self.old name.now) (λ told. length told ≤ limit) }
+            IfSome ((told self.old).source name.now) (λ text. length text ≤ limit) }
 
         // The count of loads never falls, and a fault of the device has raised it.
-        ensures counted { load_faults self.old ≤ load_faults self.new }
+        ensures counted { (told self.old).load_faults ≤ (told self.new).load_faults }
         ensures failed { result ≡ Err LoadFault.Failed →
-            HasRisen (load_faults self.old) (load_faults self.new) }
+            HasRisen (told self.old).load_faults (told self.new).load_faults }
 
         // All else is as it was.
-        ensures same_contents { (other : List ℕ) → content self.new other ≡ content self.old other }
-        ensures same_ports { (port : Port) → holds self.new port ≡ holds self.old port }
+        ensures same_contents { (other : List ℕ) → (told self.new).content other ≡ (told self.old).content other }
+        ensures same_ports { (port : Port) → (told self.new).holds port ≡ (told self.old).holds port }
         ensures same_counts { (port : Port) →
-            port_faults self.new port ≡ port_faults self.old port }
+            (told self.new).port_faults port ≡ (told self.old).port_faults port }
 
         // Where the calls are still told, this one is the last.
-        ensures recorded { AreCallsAfter (Load name.now) (is_ok result) (calls self.old)
-            (calls self.new) };
+        ensures recorded { AreCallsAfter (Load name.now) (is_ok result) (told self.old).calls
+            (told self.new).calls };
 
     /// Keeps under `name` what is put to the port from now on, and leaves the port empty.
     fn bind(&mut self, port: Port, name: &str) -> Result<(), PutFault>
         ensures empty { OnOk result
-            (HoldsAfter (holds self.old port) (holds self.new port) (λ _. [])) }
-        ensures err { OnErr result (holds self.new port ≡ holds self.old port) }
+            (HoldsAfter ((told self.old).holds port) ((told self.new).holds port) (λ _. [])) }
+        ensures err { OnErr result ((told self.new).holds port ≡ (told self.old).holds port) }
 
-        ensures counted { port_faults self.old port ≤ port_faults self.new port }
+        ensures counted { (told self.old).port_faults port ≤ (told self.new).port_faults port }
         ensures failed { result ≡ Err PutFault.Failed →
-            HasRisen (port_faults self.old port) (port_faults self.new port) }
+            HasRisen ((told self.old).port_faults port) ((told self.new).port_faults port) }
 
-        ensures told { (other : List ℕ) → IsSome (content self.old other) →
-            IsSome (content self.new other) }
+        ensures told { (other : List ℕ) → IsSome ((told self.old).content other) →
+            IsSome ((told self.new).content other) }
         ensures other_ports { (other : Port) → other ≢ port →
-            holds self.new other ≡ holds self.old other }
+            (told self.new).holds other ≡ (told self.old).holds other }
         ensures other_counts { (other : Port) → other ≢ port →
-            port_faults self.new other ≡ port_faults self.old other }
-        ensures load_counts { load_faults self.new ≡ load_faults self.old }
+            (told self.new).port_faults other ≡ (told self.old).port_faults other }
+        ensures load_counts { (told self.new).load_faults ≡ (told self.old).load_faults }
 
-        ensures recorded { AreCallsAfter (Bind port name.now) (is_ok result) (calls self.old)
-            (calls self.new) };
+        ensures recorded { AreCallsAfter (Bind port name.now) (is_ok result) (told self.old).calls
+            (told self.new).calls };
 
     /// Puts the piece at the end of what the port holds. Where it can't, the port has a prefix of the piece.
     fn put(&mut self, port: Port, piece: &[u8]) -> Result<(), PutFault>
         ensures ok { OnOk result
-            (HoldsAfter (holds self.old port) (holds self.new port) (λ held. held ++ piece.now)) }
+            (HoldsAfter ((told self.old).holds port) ((told self.new).holds port) (λ held. held ++ piece.now)) }
         ensures err { OnErr result
-            (HoldsPrefix (holds self.old port) (holds self.new port) piece.now) }
+            (HoldsPrefix ((told self.old).holds port) ((told self.new).holds port) piece.now) }
 
-        ensures counted { port_faults self.old port ≤ port_faults self.new port }
+        ensures counted { (told self.old).port_faults port ≤ (told self.new).port_faults port }
         ensures failed { result ≡ Err PutFault.Failed →
-            HasRisen (port_faults self.old port) (port_faults self.new port) }
+            HasRisen ((told self.old).port_faults port) ((told self.new).port_faults port) }
 
-        ensures told { (other : List ℕ) → IsSome (content self.old other) →
-            IsSome (content self.new other) }
+        ensures told { (other : List ℕ) → IsSome ((told self.old).content other) →
+            IsSome ((told self.new).content other) }
         ensures other_ports { (other : Port) → other ≢ port →
-            holds self.new other ≡ holds self.old other }
+            (told self.new).holds other ≡ (told self.old).holds other }
         ensures other_counts { (other : Port) → other ≢ port →
-            port_faults self.new other ≡ port_faults self.old other }
-        ensures load_counts { load_faults self.new ≡ load_faults self.old }
+            (told self.new).port_faults other ≡ (told self.old).port_faults other }
+        ensures load_counts { (told self.new).load_faults ≡ (told self.old).load_faults }
 
-        ensures recorded { AreCallsAfter (Put port piece.now) (is_ok result) (calls self.old)
-            (calls self.new) };
+        ensures recorded { AreCallsAfter (Put port piece.now) (is_ok result) (told self.old).calls
+            (told self.new).calls };
 }

@@ -23,7 +23,7 @@ use Rattle.link_model.specs.declared.flight.Due.{Due}
 use Rattle.link_model.specs.Fate.{fate_of, is_stripped, is_altered}
 use Rattle.link_model.specs.Laws.{with_copies_shown, shown_flight}
 use Rattle.link_model.specs.State.{LinkState}
-use Rattle.outside_kit.specs.Memory.{one_more as counted}
+use Rattle.link_model.specs.Steps.{counted}
 use Rattle.link_model.proofs.Shown.{sent_shown}
 use Rattle.path_segments.specs.declared.position.HeardPosition.TheVariants.{At}
 use Rattle.path_core.proofs.ChangedCopies.{octets_changed}

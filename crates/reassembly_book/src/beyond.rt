@@ -43,9 +43,9 @@ fn append(ring: &mut HeapCircularBuffer<u8>, beyond: &mut BytePieces, at: u64, b
     ensures rest { beyond.new ≡
         after_drop_front (max beyond.old.from (at + length bytes.now)) beyond.old }
 {
-    let known = bytes.len().min((beyond.from() - at) as usize);
+    let known = bytes.len().min((beyond.start() - at) as usize);
     ring.fill_from_slice(&bytes[known..]);
-    let end = beyond.from().max(at + bytes.len() as u64);
+    let end = beyond.start().max(at + bytes.len() as u64);
     beyond.drop_front(end);
 }
 
@@ -61,7 +61,7 @@ fn count_direct(beyond: &BytePieces, at: u64, bytes: &[u8]) -> usize
     if gap == 0 {
         return bytes.len();
     }
-    let first = beyond.from() + gap;
+    let first = beyond.start() + gap;
     bytes.len().min((first - at) as usize)
 }
 
@@ -117,7 +117,7 @@ pub(crate) fn take_in(
     ensures capacity { ring.new.capacity ≡ ring.old.capacity }
     ensures err { OnErr result ((ring.new ≡ ring.old) × (beyond.new ≡ beyond.old)) }
 {
-    if at <= beyond.from() {
+    if at <= beyond.start() {
         return fill_gap(ring, beyond, at, bytes);
     }
     beyond.put(at, bytes)?;

@@ -89,7 +89,7 @@ impl ReassemblyBook {
         ensures value { result ≡ received self.now }
         ensures bound { result ≤ 2 ^ 62 }
     {
-        self.beyond.from()
+        self.beyond.start()
     }
 
     fn edge(&self) -> u64

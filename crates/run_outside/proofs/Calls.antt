@@ -9,14 +9,14 @@ use Rattle.run_outside.specs.declared.status.Status.{Status}
 use Rattle.run_outside.specs.declared.status.Status.TheVariants.{Memory}
 use Rattle.run_outside.specs.Plan.{succeeded, failed, Adds, AddsAll, Ends, IfSucceeded, AreCutAt, AddsCut, AreShortOf, AddsShort}
 
-abbrev pub Told : Type 0
-Told = Option (List Made)
+abbrev pub ToldCalls : Type 0
+ToldCalls = Option (List Made)
 
-pub adds_none : (a : Told) → Adds [] a a
+pub adds_none : (a : ToldCalls) → Adds [] a a
 adds_none None = tt
 adds_none (Some before) = sym (append-nil before)
 
-pub adds_then : (xs ys : List Made) (a b c : Told) → Adds xs a b → Adds ys b c → Adds (xs ++ ys) a c
+pub adds_then : (xs ys : List Made) (a b c : ToldCalls) → Adds xs a b → Adds ys b c → Adds (xs ++ ys) a c
 adds_then xs ys a b None h k = tt
 adds_then xs ys a None (Some after) h k = absurd k
 adds_then xs ys None (Some middle) (Some after) h k = absurd h
@@ -27,7 +27,7 @@ succeeded-append [] ys = refl
 succeeded-append (x ∷ xs) ys = ap (λ zs. succeeded x ∷ zs) (succeeded-append xs ys)
 
 -- a part, and then another one
-pub all_then : (xs ys : List Call) (a b c : Told) → AddsAll xs a b → AddsAll ys b c → AddsAll (xs ++ ys) a c
+pub all_then : (xs ys : List Call) (a b c : ToldCalls) → AddsAll xs a b → AddsAll ys b c → AddsAll (xs ++ ys) a c
 all_then xs ys a b c h k = subst (λ zs. Adds zs a c) (sym (succeeded-append xs ys)) (adds_then (map succeeded xs) (map succeeded ys) a b c h k)
 
 cut_behind : (xs plan : List Call) (status : Status) (made : List Made) → AreCutAt plan status made → AreCutAt (xs ++ plan) status (map succeeded xs ++ made)
@@ -35,7 +35,7 @@ cut_behind [] plan status made h = h
 cut_behind (x ∷ xs) plan status made h = (refl, cut_behind xs plan status made h)
 
 -- a part, and then one that is cut off
-pub cut_then : (xs plan : List Call) (status : Status) (a b c : Told) → AddsAll xs a b → AddsCut plan status b c → AddsCut (xs ++ plan) status a c
+pub cut_then : (xs plan : List Call) (status : Status) (a b c : ToldCalls) → AddsAll xs a b → AddsCut plan status b c → AddsCut (xs ++ plan) status a c
 cut_then xs plan status a b c h k =
     (map succeeded xs ++ k.0, (cut_behind xs plan status k.0 k.1.0, adds_then (map succeeded xs) k.0 a b c h k.1.1))
 
@@ -50,19 +50,19 @@ longer (x ∷ plan) more status (m ∷ made) h = (h.0, by m.ok (λ k. longer pla
     by false f k = k
 
 -- what cuts off a plan, cuts off a longer one
-pub cut_longer : (plan more : List Call) (status : Status) (a b : Told) → AddsCut plan status a b → AddsCut (plan ++ more) status a b
+pub cut_longer : (plan more : List Call) (status : Status) (a b : ToldCalls) → AddsCut plan status a b → AddsCut (plan ++ more) status a b
 cut_longer plan more status a b h = (h.0, (longer plan more status h.0 h.1.0, h.1.1))
 
 -- the first call failed
-pub cut_first : (call : Call) (plan : List Call) (status : Status) (a b : Told) → Ends call status → Adds (failed call ∷ []) a b → AddsCut (call ∷ plan) status a b
+pub cut_first : (call : Call) (plan : List Call) (status : Status) (a b : ToldCalls) → Ends call status → Adds (failed call ∷ []) a b → AddsCut (call ∷ plan) status a b
 cut_first call plan status a b ends h = (failed call ∷ [], ((refl, (refl, ends)), h))
 
 -- no call was made, for want of memory
-pub cut_none : (plan : List Call) (status : Status) (a b : Told) → status ≡ Memory → AddsAll [] a b → AddsCut plan status a b
+pub cut_none : (plan : List Call) (status : Status) (a b : ToldCalls) → status ≡ Memory → AddsAll [] a b → AddsCut plan status a b
 cut_none plan status a b is h = ([], (is, h))
 
 -- memory was wanting behind the last call
-pub cut_over : (plan : List Call) (a b : Told) → AddsAll plan a b → AddsCut plan Memory a b
+pub cut_over : (plan : List Call) (a b : ToldCalls) → AddsAll plan a b → AddsCut plan Memory a b
 cut_over plan a b h = subst (λ xs. AddsCut xs Memory a b) (append-nil plan) (cut_then plan [] Memory a b b h (cut_none [] Memory b b refl (adds_none b)))
 
 -- ---- plans that weren't made whole
@@ -73,7 +73,7 @@ short_behind [] plan status made h = h
 short_behind (x ∷ xs) plan status made h = (refl, short_behind xs plan status made h)
 
 -- a part, and then one that isn't made whole
-pub short_then : (xs plan : List Call) (status : Status) (a b c : Told) → AddsAll xs a b → AddsShort plan status b c
+pub short_then : (xs plan : List Call) (status : Status) (a b c : ToldCalls) → AddsAll xs a b → AddsShort plan status b c
     → AddsShort (xs ++ plan) status a c
 short_then xs plan status a b c h k = (
   map succeeded xs ++ k.0,
@@ -92,10 +92,10 @@ short_is_cut (x ∷ plan) status (m ∷ made) h = (h.0, by m.ok (λ k. short_is_
     by false f k = k
 
 -- such a plan was cut off
-pub short_cut : (plan : List Call) (status : Status) (a b : Told) → AddsShort plan status a b → AddsCut plan status a b
+pub short_cut : (plan : List Call) (status : Status) (a b : ToldCalls) → AddsShort plan status a b → AddsCut plan status a b
 short_cut plan status a b h = (h.0, (short_is_cut plan status h.0 h.1.0, h.1.1))
 
 -- the one call failed
-pub short_first : (call : Call) (status : Status) (a b : Told) → Ends call status → Adds (failed call ∷ []) a b
+pub short_first : (call : Call) (status : Status) (a b : ToldCalls) → Ends call status → Adds (failed call ∷ []) a b
     → AddsShort (call ∷ []) status a b
 short_first call status a b ends h = (failed call ∷ [], ((refl, (refl, ends)), h))

@@ -12,16 +12,16 @@ use Rattle.link_script.specs.Reading.{reading}
 use Rattle.run_words.specs.Lines.{Line, replay}
 use Rattle.run_outside.specs.declared.status.Named.{Named}
 use Rattle.run_outside.specs.declared.status.Status.{Status}
-use Rattle.run_outside.specs.declared.status.Status.TheVariants.{Delivered, Rounds, NoPath, Aborted, Usage, Script, Load, Put, TooLong, Memory, Log}
+use Rattle.run_outside.specs.declared.status.Status.TheVariants.{Delivered, Script, Load, TooLong, Memory, Log}
 use Rattle.run_outside.specs.Loading.{LoadsAdd, InputAdds}
 use Rattle.run_outside.specs.Causes.{limit_of, IsLoadFault, IsScriptFault, IsFormFault}
 use Rattle.run_outside.specs.Inputs.{name_of, order_of, content_of, AreWithinLimitsBefore, IsLoadsFault, IsInputFault, IsLoggedFault, IsReplayInputFault}
 use Rattle.run_outside.specs.Plan.{succeeded, failed, Adds, AddsAll, AddsCut, load_of, first_loads, loads_of, loads_before, AddsLoadsTo}
-use Rattle.run_outside.proofs.Calls.{Told, adds_then, cut_then, cut_longer, cut_first, cut_over}
+use Rattle.run_outside.proofs.Calls.{ToldCalls, adds_then, cut_then, cut_longer, cut_first, cut_over}
 use Rattle.run_outside.proofs.PortsLemmas.{risen_later}
 
 -- the load of an input failed
-module _ (line : Line) (named : Named) (name : List ℕ) (is : name_of named line ≡ Some name) (a b c : Told) (before : AddsAll (loads_before named line) a b)
+module _ (line : Line) (named : Named) (name : List ℕ) (is : name_of named line ≡ Some name) (a b c : ToldCalls) (before : AddsAll (loads_before named line) a b)
     (one : Adds (failed (call.Load name) ∷ []) b c) where
   to_it : AddsLoadsTo named line a c
   to_it = subst (λ o. IsSomeAnd o (λ (n : List ℕ). Adds (map succeeded (loads_before named line) ++ failed (call.Load n) ∷ []) a c)) (sym is)
@@ -77,13 +77,13 @@ logged_is_replay content line a b Memory fault = tt
 logged_is_replay content line a b _ fault = absurd fault
 
 -- in a longer plan
-pub loads_longer : (line : Line) (plan more : List Call) (a b : Told) (status : Status) → LoadsAdd line plan a b status → LoadsAdd line (plan ++ more) a b status
+pub loads_longer : (line : Line) (plan more : List Call) (a b : ToldCalls) (status : Status) → LoadsAdd line plan a b status → LoadsAdd line (plan ++ more) a b status
 loads_longer line plan more a b Memory h = cut_longer plan more Memory a b h
 loads_longer line plan more a b (Load named) h = h
 loads_longer line plan more a b (TooLong named) h = h
 loads_longer line plan more a b _ h = absurd h
 
-pub input_adds : (line : Line) (plan : List Call) (a b : Told) (status : Status) → LoadsAdd line plan a b status → InputAdds line plan a b status
+pub input_adds : (line : Line) (plan : List Call) (a b : ToldCalls) (status : Status) → LoadsAdd line plan a b status → InputAdds line plan a b status
 input_adds line plan a b Memory h = h
 input_adds line plan a b (Load named) h = h
 input_adds line plan a b (TooLong named) h = h
@@ -92,13 +92,13 @@ input_adds line plan a b _ h = absurd h
 -- ---- what the loads gave
 
 -- a script that is refused
-pub script_adds : (line : Line) (plan : List Call) (a b : Told) (script : List ℕ) (status : Status) → AddsAll plan a b → IsScriptFault script status → InputAdds line plan a b status
+pub script_adds : (line : Line) (plan : List Call) (a b : ToldCalls) (script : List ℕ) (status : Status) → AddsAll plan a b → IsScriptFault script status → InputAdds line plan a b status
 script_adds line plan a b script (Script at kind) h fault = h
 script_adds line plan a b script Memory h fault = cut_over plan a b h
 script_adds line plan a b script _ h fault = absurd fault
 
 -- a log that is
-pub form_adds : (line : Line) (plan : List Call) (a b : Told) (script : link.Script) (log : List ℕ) (status : Status) → AddsAll plan a b → IsFormFault script log status → InputAdds line plan a b status
+pub form_adds : (line : Line) (plan : List Call) (a b : ToldCalls) (script : link.Script) (log : List ℕ) (status : Status) → AddsAll plan a b → IsFormFault script log status → InputAdds line plan a b status
 form_adds line plan a b script log (Log at) h fault = h
 form_adds line plan a b script log Memory h fault = cut_over plan a b h
 form_adds line plan a b script log _ h fault = absurd fault

@@ -1,7 +1,7 @@
 -- What is said of the ports of an outside over several binds and puts.
 use Rattle.std.specs.Prelude.{◌≡◌, ℕ, ◌≤◌, ◌⊎◌, List, ◌++◌, Option, Some, IfSome}
 use Rattle.outside_kit.specs.declared.port.Port.{Port}
-use Rattle.outside_kit.specs.Outside.{HasRisen}
+use Rattle.outside_kit.specs.Outside.{Told, HasRisen}
 use Rattle.octet_text.specs.Prefix.{IsPrefix}
 use Rattle.run_outside.specs.declared.status.Status.{Status}
 use Rattle.run_outside.specs.declared.status.Status.TheVariants.{Put, Memory}
@@ -15,8 +15,8 @@ abbrev pub NeverFall : (Port → ℕ) → (Port → ℕ) → Type 0
 NeverFall old new = (port : Port) → old port ≤ new port
 
 -- nothing was bound or put
-abbrev pub IsUntouched : Ports → Ports → (Port → ℕ) → (Port → ℕ) → Type 0
-IsUntouched held holds faults_before faults = (port : Port) → (holds port ≡ held port) × (faults port ≡ faults_before port)
+abbrev pub IsUntouched : Told → Told → Type 0
+IsUntouched old new = (port : Port) → (new.holds port ≡ old.holds port) × (new.port_faults port ≡ old.port_faults port)
 
 -- the binds and puts end a run with this status: the device failed at this port, and counted it, or there is no memory
 abbrev pub IsPortsFault : (Port → ℕ) → (Port → ℕ) → Status → Type 0

@@ -39,19 +39,15 @@ pub fn load<O: Outside>(
     name: &str,
 ) -> Result<Vec<u8>, Status>
     ensures whole { IfOk result
-        (λ bytes. IfSome (O.content outside.old name.now) (λ told. bytes.items ≡ told)) }
+        (λ bytes. IfSome ((O.told outside.old).content name.now) (λ told. bytes.items ≡ told)) }
     ensures within { IfOk result (λ bytes. vec_len bytes ≤ limit_of input) }
-    ensures fault { IfErr result (IsLoadFault input (O.content outside.old name.now)
-        (O.load_faults outside.old) (O.load_faults outside.new)) }
+    ensures fault { IfErr result (IsLoadFault input ((O.told outside.old).content name.now)
+        (O.told outside.old).load_faults (O.told outside.new).load_faults) }
     ensures same_contents { (other : List ℕ) →
-        O.content outside.new other ≡ O.content outside.old other }
+        (O.told outside.new).content other ≡ (O.told outside.old).content other }
     ensures calls_cut { OnErr result
-        (Adds (failed (call.Load name.now) ∷ []) (O.calls outside.old) (O.calls outside.new)) }
-    ensures loads { Loads (call.Load name.now ∷ [])
-        (O.load_faults outside.old) (O.load_faults outside.new)
-        (O.port_faults outside.old) (O.port_faults outside.new)
-        (O.holds outside.old) (O.holds outside.new)
-        (O.calls outside.old) (O.calls outside.new) result }
+        (Adds (failed (call.Load name.now) ∷ []) (O.told outside.old).calls (O.told outside.new).calls) }
+    ensures loads { Loads (call.Load name.now ∷ []) (O.told outside.old) (O.told outside.new) result }
 {
     match outside.load(alloc, name, input.limit()) {
         Ok(bytes) => Ok(bytes),
@@ -68,14 +64,11 @@ pub fn load<O: Outside>(
 /// `Put` of the port where the device failed, `Memory` where there is no memory; then the port holds what it held.
 pub fn bind<O: Outside>(outside: &mut O, port: Port, name: &str) -> Result<(), Status>
     ensures empty { OnOk result
-        (HoldsAfter (O.holds outside.old port) (O.holds outside.new port) (λ _. [])) }
-    ensures err { OnErr result (O.holds outside.new port ≡ O.holds outside.old port) }
+        (HoldsAfter ((O.told outside.old).holds port) ((O.told outside.new).holds port) (λ _. [])) }
+    ensures err { OnErr result ((O.told outside.new).holds port ≡ (O.told outside.old).holds port) }
     ensures other_ports { (other : Port) → other ≢ port →
-        O.holds outside.new other ≡ O.holds outside.old other }
-    ensures puts { Puts (call.Bind port name.now ∷ [])
-        (O.load_faults outside.old) (O.load_faults outside.new)
-        (O.port_faults outside.old) (O.port_faults outside.new)
-        (O.calls outside.old) (O.calls outside.new) result }
+        (O.told outside.new).holds other ≡ (O.told outside.old).holds other }
+    ensures puts { Puts (call.Bind port name.now ∷ []) (O.told outside.old) (O.told outside.new) result }
 {
     match outside.bind(port, name) {
         Ok(()) => Ok(()),
@@ -90,18 +83,15 @@ pub fn bind<O: Outside>(outside: &mut O, port: Port, name: &str) -> Result<(), S
 ///
 /// `Put` of the port where the device failed, `Memory` where there is no memory; then it may hold a first part of the piece.
 pub fn put<O: Outside>(outside: &mut O, port: Port, piece: &[u8]) -> Result<(), Status>
-    ensures ok { OnOk result (HoldsAfter (O.holds outside.old port) (O.holds outside.new port)
+    ensures ok { OnOk result (HoldsAfter ((O.told outside.old).holds port) ((O.told outside.new).holds port)
         (λ held. held ++ piece.now)) }
     ensures err { OnErr result
-        (HoldsPrefix (O.holds outside.old port) (O.holds outside.new port) piece.now) }
+        (HoldsPrefix ((O.told outside.old).holds port) ((O.told outside.new).holds port) piece.now) }
     ensures other_ports { (other : Port) → other ≢ port →
-        O.holds outside.new other ≡ O.holds outside.old other }
+        (O.told outside.new).holds other ≡ (O.told outside.old).holds other }
     ensures short { IfErr result (λ status. AddsShort (call.Put port piece.now ∷ []) status
-        (O.calls outside.old) (O.calls outside.new)) }
-    ensures puts { Puts (call.Put port piece.now ∷ [])
-        (O.load_faults outside.old) (O.load_faults outside.new)
-        (O.port_faults outside.old) (O.port_faults outside.new)
-        (O.calls outside.old) (O.calls outside.new) result }
+        (O.told outside.old).calls (O.told outside.new).calls) }
+    ensures puts { Puts (call.Put port piece.now ∷ []) (O.told outside.old) (O.told outside.new) result }
 {
     match outside.put(port, piece) {
         Ok(()) => Ok(()),

@@ -52,27 +52,23 @@ pub fn load_contents<O: Outside>(
     outside: &mut O,
     line: &CommandLine<'_>,
 ) -> Result<Contents, Status>
-    ensures script { IfOk result (λ contents. IfSome (O.content outside.old line.now.script.now)
+    ensures script { IfOk result (λ contents. IfSome ((O.told outside.old).content line.now.script.now)
         (λ told. contents.script.items ≡ told)) }
-    ensures file_a { IfOk result (λ contents. IfSome (O.content outside.old line.now.file_a.now)
+    ensures file_a { IfOk result (λ contents. IfSome ((O.told outside.old).content line.now.file_a.now)
         (λ told. contents.file_a.items ≡ told)) }
-    ensures file_b { IfOk result (λ contents. IfSome (O.content outside.old line.now.file_b.now)
+    ensures file_b { IfOk result (λ contents. IfSome ((O.told outside.old).content line.now.file_b.now)
         (λ told. contents.file_b.items ≡ told)) }
     ensures script_within { IfOk result (λ contents. vec_len contents.script ≤ 65536) }
     ensures file_a_within { IfOk result (λ contents. length contents.file_a.items ≤ 16777216) }
     ensures file_b_within { IfOk result (λ contents. length contents.file_b.items ≤ 16777216) }
-    ensures within { OnOk result (AreFirstWithinLimits (O.content outside.old) (as_line line.now)) }
-    ensures fault { IfErr result (IsLoadsFault (O.content outside.old) (as_line line.now)
-        (O.load_faults outside.old) (O.load_faults outside.new)) }
+    ensures within { OnOk result (AreFirstWithinLimits (O.told outside.old).content (as_line line.now)) }
+    ensures fault { IfErr result (IsLoadsFault (O.told outside.old).content (as_line line.now)
+        (O.told outside.old).load_faults (O.told outside.new).load_faults) }
     ensures same_contents { (other : List ℕ) →
-        O.content outside.new other ≡ O.content outside.old other }
+        (O.told outside.new).content other ≡ (O.told outside.old).content other }
     ensures calls_cut { IfErr result (LoadsAdd (as_line line.now) (first_loads (as_line line.now))
-        (O.calls outside.old) (O.calls outside.new)) }
-    ensures loads { Loads (first_loads (as_line line.now))
-        (O.load_faults outside.old) (O.load_faults outside.new)
-        (O.port_faults outside.old) (O.port_faults outside.new)
-        (O.holds outside.old) (O.holds outside.new)
-        (O.calls outside.old) (O.calls outside.new) result }
+        (O.told outside.old).calls (O.told outside.new).calls) }
+    ensures loads { Loads (first_loads (as_line line.now)) (O.told outside.old) (O.told outside.new) result }
 {
     let script = load(alloc, outside, Named::Script, line.script)?;
     let file_a = load(alloc, outside, Named::FileA, line.file_a)?;
@@ -92,22 +88,18 @@ pub fn load_order<O: Outside>(
     order: &str,
 ) -> Result<Vec<u8>, Status>
     requires named { (as_line line.now).work ≡ replay order.now }
-    requires before { AreFirstWithinLimits (O.content outside.old) (as_line line.now) }
+    requires before { AreFirstWithinLimits (O.told outside.old).content (as_line line.now) }
     ensures whole { IfOk result
-        (λ log. IfSome (O.content outside.old order.now) (λ told. log.items ≡ told)) }
+        (λ log. IfSome ((O.told outside.old).content order.now) (λ told. log.items ≡ told)) }
     ensures within { OnOk result
-        (IsWithinLimit (O.content outside.old) (as_line line.now) named.Order) }
-    ensures fault { IfErr result (IsLoadsFault (O.content outside.old) (as_line line.now)
-        (O.load_faults outside.old) (O.load_faults outside.new)) }
-    ensures named { IfErr result (IsLoadFault named.Order (O.content outside.old order.now)
-        (O.load_faults outside.old) (O.load_faults outside.new)) }
+        (IsWithinLimit (O.told outside.old).content (as_line line.now) named.Order) }
+    ensures fault { IfErr result (IsLoadsFault (O.told outside.old).content (as_line line.now)
+        (O.told outside.old).load_faults (O.told outside.new).load_faults) }
+    ensures named { IfErr result (IsLoadFault named.Order ((O.told outside.old).content order.now)
+        (O.told outside.old).load_faults (O.told outside.new).load_faults) }
     ensures calls_cut { OnErr result
-        (Adds (failed (call.Load order.now) ∷ []) (O.calls outside.old) (O.calls outside.new)) }
-    ensures loads { Loads (call.Load order.now ∷ [])
-        (O.load_faults outside.old) (O.load_faults outside.new)
-        (O.port_faults outside.old) (O.port_faults outside.new)
-        (O.holds outside.old) (O.holds outside.new)
-        (O.calls outside.old) (O.calls outside.new) result }
+        (Adds (failed (call.Load order.now) ∷ []) (O.told outside.old).calls (O.told outside.new).calls) }
+    ensures loads { Loads (call.Load order.now ∷ []) (O.told outside.old) (O.told outside.new) result }
 {
     load(alloc, outside, Named::Order, order)
 }
@@ -154,23 +146,19 @@ pub fn load_input<O: Outside>(
     outside: &mut O,
     line: &CommandLine<'_>,
 ) -> Result<Input, Status>
-    ensures script { IfOk result (λ input. IfSome (O.content outside.old line.now.script.now)
+    ensures script { IfOk result (λ input. IfSome ((O.told outside.old).content line.now.script.now)
         (λ told. reading told ≡ Ok input.script)) }
-    ensures file_a { IfOk result (λ input. IfSome (O.content outside.old line.now.file_a.now)
+    ensures file_a { IfOk result (λ input. IfSome ((O.told outside.old).content line.now.file_a.now)
         (λ told. input.file_a ≡ told)) }
-    ensures file_b { IfOk result (λ input. IfSome (O.content outside.old line.now.file_b.now)
+    ensures file_b { IfOk result (λ input. IfSome ((O.told outside.old).content line.now.file_b.now)
         (λ told. input.file_b ≡ told)) }
     ensures loaded { IfOk result IsLoaded }
-    ensures within { OnOk result (AreFirstWithinLimits (O.content outside.old) (as_line line.now)) }
-    ensures fault { IfErr result (IsInputFault (O.content outside.old) (as_line line.now)
-        (O.load_faults outside.old) (O.load_faults outside.new)) }
+    ensures within { OnOk result (AreFirstWithinLimits (O.told outside.old).content (as_line line.now)) }
+    ensures fault { IfErr result (IsInputFault (O.told outside.old).content (as_line line.now)
+        (O.told outside.old).load_faults (O.told outside.new).load_faults) }
     ensures calls_cut { IfErr result (InputAdds (as_line line.now) (first_loads (as_line line.now))
-        (O.calls outside.old) (O.calls outside.new)) }
-    ensures loads { Loads (first_loads (as_line line.now))
-        (O.load_faults outside.old) (O.load_faults outside.new)
-        (O.port_faults outside.old) (O.port_faults outside.new)
-        (O.holds outside.old) (O.holds outside.new)
-        (O.calls outside.old) (O.calls outside.new) result }
+        (O.told outside.old).calls (O.told outside.new).calls) }
+    ensures loads { Loads (first_loads (as_line line.now)) (O.told outside.old) (O.told outside.new) result }
 {
     let contents = load_contents(alloc, outside, line)?;
     input_of(alloc, contents)
@@ -197,25 +185,21 @@ pub fn load_logged<O: Outside>(
     order: &str,
 ) -> Result<Logged, Status>
     requires named { (as_line line.now).work ≡ replay order.now }
-    ensures script { IfOk result (λ logged. IfSome (O.content outside.old line.now.script.now)
+    ensures script { IfOk result (λ logged. IfSome ((O.told outside.old).content line.now.script.now)
         (λ told. reading told ≡ Ok logged.input.script)) }
-    ensures file_a { IfOk result (λ logged. IfSome (O.content outside.old line.now.file_a.now)
+    ensures file_a { IfOk result (λ logged. IfSome ((O.told outside.old).content line.now.file_a.now)
         (λ told. logged.input.file_a ≡ told)) }
-    ensures file_b { IfOk result (λ logged. IfSome (O.content outside.old line.now.file_b.now)
+    ensures file_b { IfOk result (λ logged. IfSome ((O.told outside.old).content line.now.file_b.now)
         (λ told. logged.input.file_b ≡ told)) }
-    ensures log { IfOk result (λ logged. IfSome (O.content outside.old order.now)
+    ensures log { IfOk result (λ logged. IfSome ((O.told outside.old).content order.now)
         (λ told. logged.log.items ≡ told)) }
     ensures loaded { IfOk result (λ logged. IsLoaded logged.input) }
-    ensures within { OnOk result (AreWithinLimits (O.content outside.old) (as_line line.now)) }
-    ensures fault { IfErr result (IsLoggedFault (O.content outside.old) (as_line line.now)
-        (O.load_faults outside.old) (O.load_faults outside.new)) }
+    ensures within { OnOk result (AreWithinLimits (O.told outside.old).content (as_line line.now)) }
+    ensures fault { IfErr result (IsLoggedFault (O.told outside.old).content (as_line line.now)
+        (O.told outside.old).load_faults (O.told outside.new).load_faults) }
     ensures calls_cut { IfErr result (InputAdds (as_line line.now) (loads_of (as_line line.now))
-        (O.calls outside.old) (O.calls outside.new)) }
-    ensures loads { Loads (loads_of (as_line line.now))
-        (O.load_faults outside.old) (O.load_faults outside.new)
-        (O.port_faults outside.old) (O.port_faults outside.new)
-        (O.holds outside.old) (O.holds outside.new)
-        (O.calls outside.old) (O.calls outside.new) result }
+        (O.told outside.old).calls (O.told outside.new).calls) }
+    ensures loads { Loads (loads_of (as_line line.now)) (O.told outside.old) (O.told outside.new) result }
 {
     let contents = load_contents(alloc, outside, line)?;
     let log = load_order(alloc, outside, line, order)?;
@@ -247,30 +231,26 @@ pub fn load_replay<O: Outside>(
     order: &str,
 ) -> Result<Replay, Status>
     requires named { (as_line line.now).work ≡ replay order.now }
-    ensures script { IfOk result (λ replay. IfSome (O.content outside.old line.now.script.now)
+    ensures script { IfOk result (λ replay. IfSome ((O.told outside.old).content line.now.script.now)
         (λ told. reading told ≡ Ok replay.input.script)) }
-    ensures file_a { IfOk result (λ replay. IfSome (O.content outside.old line.now.file_a.now)
+    ensures file_a { IfOk result (λ replay. IfSome ((O.told outside.old).content line.now.file_a.now)
         (λ told. replay.input.file_a ≡ told)) }
-    ensures file_b { IfOk result (λ replay. IfSome (O.content outside.old line.now.file_b.now)
+    ensures file_b { IfOk result (λ replay. IfSome ((O.told outside.old).content line.now.file_b.now)
         (λ told. replay.input.file_b ≡ told)) }
-    ensures turns { IfOk result (λ replay. IfSome (O.content outside.old order.now)
+    ensures turns { IfOk result (λ replay. IfSome ((O.told outside.old).content order.now)
         (λ told. log_reading replay.input.script told ≡ Ok replay.turns.items)) }
-    ensures lines { IfOk result (λ replay. IfSome (O.content outside.old order.now)
+    ensures lines { IfOk result (λ replay. IfSome ((O.told outside.old).content order.now)
         (λ told. replay.lines ≡ opening_count told)) }
     ensures few { IfOk result (λ replay. replay.lines ≤ 3) }
     // The last turn of a log is the end of a round.
     ensures ends { IfOk result (λ replay. EndsInRound replay.turns.items) }
     ensures loaded { IfOk result (λ replay. IsLoaded replay.input) }
-    ensures within { OnOk result (AreWithinLimits (O.content outside.old) (as_line line.now)) }
-    ensures fault { IfErr result (IsReplayInputFault (O.content outside.old) (as_line line.now)
-        (O.load_faults outside.old) (O.load_faults outside.new)) }
+    ensures within { OnOk result (AreWithinLimits (O.told outside.old).content (as_line line.now)) }
+    ensures fault { IfErr result (IsReplayInputFault (O.told outside.old).content (as_line line.now)
+        (O.told outside.old).load_faults (O.told outside.new).load_faults) }
     ensures calls_cut { IfErr result (InputAdds (as_line line.now) (loads_of (as_line line.now))
-        (O.calls outside.old) (O.calls outside.new)) }
-    ensures loads { Loads (loads_of (as_line line.now))
-        (O.load_faults outside.old) (O.load_faults outside.new)
-        (O.port_faults outside.old) (O.port_faults outside.new)
-        (O.holds outside.old) (O.holds outside.new)
-        (O.calls outside.old) (O.calls outside.new) result }
+        (O.told outside.old).calls (O.told outside.new).calls) }
+    ensures loads { Loads (loads_of (as_line line.now)) (O.told outside.old) (O.told outside.new) result }
 {
     let logged = load_logged(alloc, outside, line, order)?;
     let turns = read_order(alloc, &logged.input.script, &logged.log)?;

@@ -24,16 +24,13 @@ pub struct Piece {
 
 /// Puts a text, if it has any octet.
 fn put_text<O: Outside>(outside: &mut O, port: Port, text: &Text) -> Result<(), Status>
-    ensures ok { OnOk result (HoldsAfter (O.holds outside.old port) (O.holds outside.new port)
+    ensures ok { OnOk result (HoldsAfter ((O.told outside.old).holds port) ((O.told outside.new).holds port)
         (λ held. held ++ text.now)) }
     ensures err { OnErr result
-        (HoldsPrefix (O.holds outside.old port) (O.holds outside.new port) text.now) }
+        (HoldsPrefix ((O.told outside.old).holds port) ((O.told outside.new).holds port) text.now) }
     ensures other_ports { (other : Port) → other ≢ port →
-        O.holds outside.new other ≡ O.holds outside.old other }
-    ensures puts { Puts (put_of port text.now)
-        (O.load_faults outside.old) (O.load_faults outside.new)
-        (O.port_faults outside.old) (O.port_faults outside.new)
-        (O.calls outside.old) (O.calls outside.new) result }
+        (O.told outside.new).holds other ≡ (O.told outside.old).holds other }
+    ensures puts { Puts (put_of port text.now) (O.told outside.old) (O.told outside.new) result }
 {
     if text.is_empty() {
         return Ok(());
@@ -44,22 +41,20 @@ fn put_text<O: Outside>(outside: &mut O, port: Port, text: &Text) -> Result<(), 
 impl Piece {
     /// Puts what the readers have read, B's first, and then the lines.
     pub fn put<O: Outside>(&self, outside: &mut O) -> Result<(), Status>
-        ensures read_by_b { OnOk result (HoldsAfter (O.holds outside.old Port.ReadByB)
-            (O.holds outside.new Port.ReadByB) (λ held. held ++ self.now.read_by_b)) }
-        ensures read_by_a { OnOk result (HoldsAfter (O.holds outside.old Port.ReadByA)
-            (O.holds outside.new Port.ReadByA) (λ held. held ++ self.now.read_by_a)) }
-        ensures log { OnOk result (HoldsAfter (O.holds outside.old Port.Log)
-            (O.holds outside.new Port.Log) (λ held. held ++ self.now.lines)) }
-        ensures read_by_b_err { OnErr result (HoldsPrefix (O.holds outside.old Port.ReadByB)
-            (O.holds outside.new Port.ReadByB) self.now.read_by_b) }
-        ensures read_by_a_err { OnErr result (HoldsPrefix (O.holds outside.old Port.ReadByA)
-            (O.holds outside.new Port.ReadByA) self.now.read_by_a) }
-        ensures log_err { OnErr result (HoldsPrefix (O.holds outside.old Port.Log)
-            (O.holds outside.new Port.Log) self.now.lines) }
+        ensures read_by_b { OnOk result (HoldsAfter ((O.told outside.old).holds Port.ReadByB)
+            ((O.told outside.new).holds Port.ReadByB) (λ held. held ++ self.now.read_by_b)) }
+        ensures read_by_a { OnOk result (HoldsAfter ((O.told outside.old).holds Port.ReadByA)
+            ((O.told outside.new).holds Port.ReadByA) (λ held. held ++ self.now.read_by_a)) }
+        ensures log { OnOk result (HoldsAfter ((O.told outside.old).holds Port.Log)
+            ((O.told outside.new).holds Port.Log) (λ held. held ++ self.now.lines)) }
+        ensures read_by_b_err { OnErr result (HoldsPrefix ((O.told outside.old).holds Port.ReadByB)
+            ((O.told outside.new).holds Port.ReadByB) self.now.read_by_b) }
+        ensures read_by_a_err { OnErr result (HoldsPrefix ((O.told outside.old).holds Port.ReadByA)
+            ((O.told outside.new).holds Port.ReadByA) self.now.read_by_a) }
+        ensures log_err { OnErr result (HoldsPrefix ((O.told outside.old).holds Port.Log)
+            ((O.told outside.new).holds Port.Log) self.now.lines) }
         ensures puts { Puts (puts_of self.now.read_by_b self.now.read_by_a self.now.lines)
-            (O.load_faults outside.old) (O.load_faults outside.new)
-            (O.port_faults outside.old) (O.port_faults outside.new)
-            (O.calls outside.old) (O.calls outside.new) result }
+            (O.told outside.old) (O.told outside.new) result }
     {
         put_text(outside, Port::ReadByB, &self.read_by_b)?;
         put_text(outside, Port::ReadByA, &self.read_by_a)?;

@@ -19,19 +19,16 @@ use run_words::CommandLine;
 ///
 /// Those of the first [`bind`] that fails: `Put` of its port, or `Memory`.
 pub fn bind_readers<O: Outside>(outside: &mut O, line: &CommandLine<'_>) -> Result<(), Status>
-    ensures read_by_b { OnOk result (HoldsAfter (O.holds outside.old Port.ReadByB)
-        (O.holds outside.new Port.ReadByB) (λ _. [])) }
-    ensures read_by_a { OnOk result (HoldsAfter (O.holds outside.old Port.ReadByA)
-        (O.holds outside.new Port.ReadByA) (λ _. [])) }
-    ensures read_by_b_err { OnErr result (HoldsWithin (Unit {0}) (O.holds outside.old Port.ReadByB)
-        (O.holds outside.new Port.ReadByB) [] []) }
-    ensures read_by_a_err { OnErr result (HoldsWithin (Unit {0}) (O.holds outside.old Port.ReadByA)
-        (O.holds outside.new Port.ReadByA) [] []) }
-    ensures log { O.holds outside.new Port.Log ≡ O.holds outside.old Port.Log }
-    ensures puts { Puts (binds_of (as_line line.now))
-        (O.load_faults outside.old) (O.load_faults outside.new)
-        (O.port_faults outside.old) (O.port_faults outside.new)
-        (O.calls outside.old) (O.calls outside.new) result }
+    ensures read_by_b { OnOk result (HoldsAfter ((O.told outside.old).holds Port.ReadByB)
+        ((O.told outside.new).holds Port.ReadByB) (λ _. [])) }
+    ensures read_by_a { OnOk result (HoldsAfter ((O.told outside.old).holds Port.ReadByA)
+        ((O.told outside.new).holds Port.ReadByA) (λ _. [])) }
+    ensures read_by_b_err { OnErr result (HoldsWithin (Unit {0}) ((O.told outside.old).holds Port.ReadByB)
+        ((O.told outside.new).holds Port.ReadByB) [] []) }
+    ensures read_by_a_err { OnErr result (HoldsWithin (Unit {0}) ((O.told outside.old).holds Port.ReadByA)
+        ((O.told outside.new).holds Port.ReadByA) [] []) }
+    ensures log { (O.told outside.new).holds Port.Log ≡ (O.told outside.old).holds Port.Log }
+    ensures puts { Puts (binds_of (as_line line.now)) (O.told outside.old) (O.told outside.new) result }
 {
     bind(outside, Port::ReadByB, line.read_by_b)?;
     bind(outside, Port::ReadByA, line.read_by_a)

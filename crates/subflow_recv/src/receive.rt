@@ -56,7 +56,7 @@ impl SubflowRecv {
         ensures value { result ≡ self.now.edge }
         ensures bound { result ≤ 2 ^ 62 }
     {
-        self.kept.from()
+        self.kept.start()
     }
 
     /// The position after the window.
@@ -186,7 +186,7 @@ impl SubflowRecv {
         requires { self.old.edge < 2 ^ 62 }
         ensures { self.new ≡ after_pass self.old }
     {
-        let to = self.kept.from() + 1;
+        let to = self.kept.start() + 1;
         self.kept.drop_front(to);
         self.kept.cut_back(to);
     }

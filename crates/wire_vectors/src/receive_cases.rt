@@ -128,7 +128,7 @@ impl Steps for BytePieces {
             "drop" => self.drop_held(),
             "gap" => case.tell(&self.gap_len()),
             "parts" => put_parts(case, self.in_order()),
-            "ends" => case.put_numbers("/", &[self.from(), self.in_order_end(), self.top()]),
+            "ends" => case.put_numbers("/", &[self.start(), self.in_order_end(), self.top()]),
             _ => case.refuse(),
         }
     }
@@ -161,7 +161,7 @@ fn treat_octets(case: &mut Case<'_>, kept: &mut BytePieces, name: &str, at: u64,
 
 fn drop_front(case: &mut Case<'_>, kept: &mut BytePieces) {
     let to: u64 = case.number();
-    if to < kept.from() || LAST < to {
+    if to < kept.start() || LAST < to {
         return case.refuse();
     }
     kept.drop_front(to);
@@ -169,7 +169,7 @@ fn drop_front(case: &mut Case<'_>, kept: &mut BytePieces) {
 
 fn cut_back(case: &mut Case<'_>, kept: &mut BytePieces) {
     let to: u64 = case.number();
-    if to < kept.from() {
+    if to < kept.start() {
         return case.refuse();
     }
     kept.cut_back(to);

@@ -9,9 +9,9 @@ ghost use Rattle.ruled_desk.specs.WholeRounds.{AreActors};
 
 use crate::caller::{Caller, Errand};
 use actor_desk::{Books, Crew, Notes};
+use actor_turn::OpenGate;
 use case_fields::Case;
 use octet_text::Text;
-use outside_kit::OpenGate;
 use ruled_desk::round_at_tables;
 use send_book::{SendBook, SendCall, SendReply};
 use stamped_book::{Book, Pass, Refusal, Stamped};

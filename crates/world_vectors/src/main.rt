@@ -24,6 +24,7 @@ mod opening;
 mod paths;
 mod tables;
 
+use actor_turn::OpenGate;
 use at_tables::at_tables;
 use case_fields::{Case, CaseFault, Recorder, Task, put_report};
 use enough::enough;
@@ -31,7 +32,7 @@ use lists::list_run;
 use meeting::meeting;
 use mptcp_run::{Status, run, run_messages};
 use opening::first_round;
-use outside_kit::{OpenGate, Port};
+use outside_kit::Port;
 use paths::path;
 use std::alloc::{AllocError, Global};
 use std::io;

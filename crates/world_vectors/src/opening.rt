@@ -4,8 +4,8 @@
 ghost use Rattle.link_script.specs.Scripts.{HasRanges};
 
 use crate::inputs::input_told;
+use actor_turn::OpenGate;
 use case_fields::Case;
-use outside_kit::OpenGate;
 use run_outside::Input;
 use std::sync::Wait;
 use std::thread::Threads;

@@ -14,10 +14,9 @@ ghost use Rattle.link_script.specs.Scripts.{HasRanges};
 
 use crate::inputs::input_told;
 use actor_desk::{Ask, Books, LocalStep, Note};
-use actor_turn::turn;
+use actor_turn::{OpenGate, turn};
 use case_fields::{Case, CaseFault, octets_of, put_log, put_port};
 use octet_text::Text;
-use outside_kit::OpenGate;
 use path_core::{Path, key_of};
 use reassembly_book::ReassemblyCall;
 use run_log::{line, opening, outcome_line, round_line};

@@ -1,5 +1,10 @@
-use Rattle.connection_table.proofs.Words.{[], ◌∷◌, err_from_is_err_and, adds_none, all_then, IfErr-map, OnOk-holds, loads_of, as_names}
+use Rattle.std.proofs.Common.{[], ◌∷◌}
+use Rattle.std.proofs.lemmas.Result.{err_from_is_err_and}
 use Rattle.outside_kit.specs.Calls as call
+use Rattle.run_outside.proofs.Calls.{adds_none, all_then}
+use Rattle.run_outside.proofs.PortsLemmas.{IfErr-map, OnOk-holds}
+use Rattle.connection_table.specs.Lists.{as_names}
+use Rattle.connection_table.specs.Loads.{loads_of}
 use Rattle.connection_table.proofs.Adding.{all_made, load_adds, script_adds}
 use Rattle.connection_table.proofs.inputs.load_input.Goals as goal
 
@@ -7,7 +12,7 @@ pub returns-in_err-script-clause-calls_cut : goal.returns-in_err-script-clause-c
 returns-in_err-script-clause-calls_cut g c =
     let p = err_from_is_err_and c.from_residual.result c.from_residual.ensures.1 in
     let names = as_names c.args.listed.now in
-    rw (p.1, p.2) (load_adds [] (call.Load names.file_a ∷ call.Load names.file_b ∷ []) (call.Load names.script) _ _ _ (adds_none (g.O.Outside.calls c.args.outside.now))
+    rw (p.1, p.2) (load_adds [] (call.Load names.file_a ∷ call.Load names.file_b ∷ []) (call.Load names.script) _ _ _ (adds_none (g.O.Outside.told c.args.outside.now).calls)
     c.in_err-script.ensures.calls_cut _ _ _ _ c.in_err-script.field-0.0 c.in_err-script.ensures.fault)
 
 pub returns-in_err-file_a-clause-calls_cut : goal.returns-in_err-file_a-clause-calls_cut

@@ -1,4 +1,6 @@
-use Rattle.connection_table.proofs.Words.{◌≡◌, subst, IfOk, string_bytes, entry_at}
+use Rattle.std.proofs.Common.{◌≡◌, subst}
+use Rattle.std.specs.Prelude.{IfOk, string_bytes}
+use Rattle.connection_table.specs.Tables.{entry_at}
 use Rattle.connection_table.proofs.LinesPut.{line_is}
 use Rattle.connection_table.proofs.lines.line.Goals as goal
 

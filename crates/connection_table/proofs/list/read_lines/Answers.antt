@@ -1,5 +1,9 @@
-use Rattle.connection_table.proofs.Words.{◌≡◌, sym, ap, subst, ◌+◌, List, [], ◌∷◌, ◌++◌, length, map, arith, Vec, Global, length-append, err_from_is_err_and}
-use Rattle.connection_table.proofs.Words.{text_lines, as_names, read_on, Listed}
+use Rattle.std.proofs.Common.{◌≡◌, ◌+◌, [], ◌∷◌, ◌++◌, ap, subst, sym, length, map, List, Vec, Global, arith}
+use Rattle.std.proofs.lemmas.List.{length-append}
+use Rattle.std.proofs.lemmas.Result.{err_from_is_err_and}
+use Rattle.octet_text.specs.Lines.{text_lines}
+use Rattle.connection_table.specs.declared.list.Listed.{Listed}
+use Rattle.connection_table.specs.Lists.{as_names, read_on}
 use Rattle.connection_table.proofs.ReadOn.{goes_on, stops, ends}
 use Rattle.connection_table.proofs.list.read_lines.Goals as goal
 

@@ -1,4 +1,6 @@
-use Rattle.connection_table.proofs.Words.{◌≡◌, ◌+◌, ◌≤◌, [], length, map, text_lines, as_names, read_on}
+use Rattle.std.proofs.Common.{◌≡◌, ◌≤◌, ◌+◌, [], length, map}
+use Rattle.octet_text.specs.Lines.{text_lines}
+use Rattle.connection_table.specs.Lists.{as_names, read_on}
 use Rattle.connection_table.proofs.list.read_lines.Given as goal
 
 abbrev pub invariant-loop-rest : goal.invariant-loop-rest

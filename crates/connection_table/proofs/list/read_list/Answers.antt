@@ -1,4 +1,6 @@
-use Rattle.connection_table.proofs.Words.{sym, ◌∙◌, map, Vec, Global, as_names, Listed}
+use Rattle.std.proofs.Common.{sym, ◌∙◌, map, Vec, Global}
+use Rattle.connection_table.specs.declared.list.Listed.{Listed}
+use Rattle.connection_table.specs.Lists.{as_names}
 use Rattle.connection_table.proofs.ReadOn.{reads_some}
 use Rattle.connection_table.proofs.list.read_list.Goals as goal
 

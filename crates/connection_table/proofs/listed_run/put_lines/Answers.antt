@@ -1,5 +1,11 @@
-use Rattle.connection_table.proofs.Words.{refl, sym, ◌∙◌, subst, ◌<◌, ◌≤◌, ◌++◌, length, arith, slice_get, err_from_is_err_and, HoldsAfter, Port, AddsAll}
-use Rattle.connection_table.proofs.Words.{adds_none, all_then, line_if}
+use Rattle.std.proofs.Common.{◌<◌, ◌≤◌, ◌∙◌, ◌++◌, refl, sym, subst, length, arith}
+use Rattle.std.specs.List.{slice_get}
+use Rattle.std.proofs.lemmas.Result.{err_from_is_err_and}
+use Rattle.outside_kit.specs.declared.port.Port.{Port}
+use Rattle.outside_kit.specs.Outside.{HoldsAfter}
+use Rattle.connection_table.specs.ManyLines.{line_if}
+use Rattle.run_outside.specs.Plan.{AddsAll}
+use Rattle.run_outside.proofs.Calls.{adds_none, all_then}
 use Rattle.connection_table.proofs.CallsMade.{put_ends, put_more, puts_all, puts_upto}
 use Rattle.connection_table.proofs.LinesPut.{line_more, line_part, lines_all, lines_upto, none_put, put_fault_later, whole_then}
 use Rattle.connection_table.proofs.listed_run.put_lines.Goals as goal
@@ -7,8 +13,8 @@ use Rattle.connection_table.proofs.listed_run.put_lines.Goals as goal
 pub loop-connection-init : goal.loop-connection-init
 loop-connection-init g c = record {
   within = omega arith;
-  held = none_put (g.O.Outside.holds c.args.outside.now Port.Log);
-  calls = adds_none (g.O.Outside.calls c.args.outside.now);
+  held = none_put ((g.O.Outside.told c.args.outside.now).holds Port.Log);
+  calls = adds_none (g.O.Outside.told c.args.outside.now).calls;
   counted = omega arith;
   loads = refl;
   other_counts = λ other not. refl;
@@ -33,7 +39,7 @@ loop-connection-preserved g c =
       within = omega (arith, within);
       held = whole_then _ _ _ (lines_upto 0 c.loop-connection.connection c.args.table.now) (line_if c.loop-connection.connection (slice_get c.args.table.now c.loop-connection.connection)) _
           c.loop-connection.invariant.held c.in_ok-put_line.ensures.ok (line_more c.loop-connection.connection c.args.table.now within);
-      calls = subst (λ plan. AddsAll plan (g.O.Outside.calls c.args.outside.now) (g.O.Outside.calls c.put_line.new.outside)) (sym (put_more c.loop-connection.connection c.args.table.now within))
+      calls = subst (λ plan. AddsAll plan (g.O.Outside.told c.args.outside.now).calls (g.O.Outside.told c.put_line.new.outside).calls) (sym (put_more c.loop-connection.connection c.args.table.now within))
           (all_then (puts_upto 0 c.loop-connection.connection c.args.table.now) _ _ _ _ c.loop-connection.invariant.calls c.in_ok-put_line.ensures.calls);
       counted = (let first = c.loop-connection.invariant.counted in let second = c.put_line.ensures.counted in omega (arith, first, second));
       loads = c.put_line.ensures.loads ∙ c.loop-connection.invariant.loads;
@@ -44,7 +50,7 @@ loop-connection-preserved g c =
 pub returns-clause-ok : goal.returns-clause-ok
 returns-clause-ok g c =
     let past : length c.args.table.now ≤ c.loop-connection.connection = omega (arith, c.loop-connection-test.false, c.len-connection-end.ensures.count) in
-    subst (λ text. HoldsAfter (g.O.Outside.holds c.args.outside.now Port.Log) (g.O.Outside.holds c.loop-connection.outside Port.Log) (λ held. held ++ text))
+    subst (λ text. HoldsAfter ((g.O.Outside.told c.args.outside.now).holds Port.Log) ((g.O.Outside.told c.loop-connection.outside).holds Port.Log) (λ held. held ++ text))
     (lines_all c.loop-connection.connection c.args.table.now past) c.loop-connection.invariant.held
 
 pub returns-in_err-put_line-clause-calls_cut : goal.returns-in_err-put_line-clause-calls_cut
@@ -56,5 +62,5 @@ returns-in_err-put_line-clause-calls_cut g c =
 pub returns-clause-calls : goal.returns-clause-calls
 returns-clause-calls g c =
     let past : length c.args.table.now ≤ c.loop-connection.connection = omega (arith, c.loop-connection-test.false, c.len-connection-end.ensures.count) in
-    subst (λ plan. AddsAll plan (g.O.Outside.calls c.args.outside.now) (g.O.Outside.calls c.loop-connection.outside))
+    subst (λ plan. AddsAll plan (g.O.Outside.told c.args.outside.now).calls (g.O.Outside.told c.loop-connection.outside).calls)
     (puts_all c.loop-connection.connection c.args.table.now past) c.loop-connection.invariant.calls

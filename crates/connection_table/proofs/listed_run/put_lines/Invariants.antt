@@ -1,5 +1,7 @@
-use Rattle.connection_table.proofs.Words.{◌≡◌, ◌≤◌, ◌++◌, length, HoldsAfter, Port, AddsAll}
-use Rattle.std.proofs.Common.{◌≢◌}
+use Rattle.std.proofs.Common.{◌≡◌, ◌≢◌, ◌≤◌, ◌++◌, length}
+use Rattle.outside_kit.specs.declared.port.Port.{Port}
+use Rattle.outside_kit.specs.Outside.{HoldsAfter}
+use Rattle.run_outside.specs.Plan.{AddsAll}
 use Rattle.connection_table.proofs.CallsMade.{puts_upto}
 use Rattle.connection_table.proofs.LinesPut.{lines_upto}
 use Rattle.connection_table.proofs.listed_run.put_lines.Given as goal
@@ -8,10 +10,10 @@ use Rattle.connection_table.proofs.listed_run.put_lines.Given as goal
 abbrev pub invariant-loop-connection : goal.invariant-loop-connection
 invariant-loop-connection g l = record {
   within : l.connection ≤ length l.table;
-  held : HoldsAfter (g.O.Outside.holds l.initial.outside Port.Log) (g.O.Outside.holds l.outside Port.Log) (λ text. text ++ lines_upto 0 l.connection l.table);
-  calls : AddsAll (puts_upto 0 l.connection l.table) (g.O.Outside.calls l.initial.outside) (g.O.Outside.calls l.outside);
-  counted : g.O.Outside.port_faults l.initial.outside Port.Log ≤ g.O.Outside.port_faults l.outside Port.Log;
-  loads : g.O.Outside.load_faults l.outside ≡ g.O.Outside.load_faults l.initial.outside;
-  other_counts : (other : Port) → other ≢ Port.Log → g.O.Outside.port_faults l.outside other ≡ g.O.Outside.port_faults l.initial.outside other;
-  other_ports : (other : Port) → other ≢ Port.Log → g.O.Outside.holds l.outside other ≡ g.O.Outside.holds l.initial.outside other;
+  held : HoldsAfter ((g.O.Outside.told l.initial.outside).holds Port.Log) ((g.O.Outside.told l.outside).holds Port.Log) (λ text. text ++ lines_upto 0 l.connection l.table);
+  calls : AddsAll (puts_upto 0 l.connection l.table) (g.O.Outside.told l.initial.outside).calls (g.O.Outside.told l.outside).calls;
+  counted : (g.O.Outside.told l.initial.outside).port_faults Port.Log ≤ (g.O.Outside.told l.outside).port_faults Port.Log;
+  loads : (g.O.Outside.told l.outside).load_faults ≡ (g.O.Outside.told l.initial.outside).load_faults;
+  other_counts : (other : Port) → other ≢ Port.Log → (g.O.Outside.told l.outside).port_faults other ≡ (g.O.Outside.told l.initial.outside).port_faults other;
+  other_ports : (other : Port) → other ≢ Port.Log → (g.O.Outside.told l.outside).holds other ≡ (g.O.Outside.told l.initial.outside).holds other;
 }

@@ -1,5 +1,13 @@
-use Rattle.connection_table.proofs.Words.{sym, subst, ◌++◌, map, All, err_from_is_err_and, HoldsPrefix, Port, IfErr-three, OnOk-both, after_from, IsPutFault}
-use Rattle.connection_table.proofs.Words.{lines_of, Runs, as_words}
+use Rattle.std.proofs.Common.{◌++◌, sym, subst}
+use Rattle.std.specs.List.{All}
+use Rattle.std.proofs.lemmas.Result.{err_from_is_err_and}
+use Rattle.outside_kit.specs.declared.port.Port.{Port}
+use Rattle.outside_kit.specs.Outside.{HoldsPrefix}
+use Rattle.run_outside.proofs.PortsLemmas.{IfErr-three, OnOk-both, after_from}
+use Rattle.connection_table.specs.ListWords.{as_words}
+use Rattle.connection_table.specs.ManyEnds.{IsPutFault}
+use Rattle.connection_table.specs.ManyLines.{lines_of}
+use Rattle.connection_table.specs.ManyRounds.{Runs}
 use Rattle.connection_table.proofs.EndsRight.{opened_run}
 use Rattle.connection_table.proofs.RunEnds.{ends_cut, ends_done, ends_unmade, ends_unput}
 use Rattle.connection_table.proofs.listed_run.run.Goals as goal
@@ -12,33 +20,30 @@ make_rounds-requires-clause-run g c =
 pub returns-in_err-admit_listed-clause-ends : goal.returns-in_err-admit_listed-clause-ends
 returns-in_err-admit_listed-clause-ends g c =
     let p = err_from_is_err_and c.from_residual.result c.from_residual.ensures.1 in
-    rw (p.1, p.2) (ends_unput (g.O.Outside.content c.args.outside.now) (as_words c.args.words.now) _ _ _ _ _ _ _ _ c.in_err-admit_listed.field-0.0
+    rw (p.1, p.2) (ends_unput (as_words c.args.words.now) (g.O.Outside.told c.args.outside.now) (g.O.Outside.told c.admit_listed.new.outside) c.in_err-admit_listed.field-0.0
     c.in_err-admit_listed.ensures.fault (c.admit_listed.ensures.only.held Port.Log) c.in_err-admit_listed.ensures.calls)
 
 pub returns-in_err-make_rounds-clause-ends : goal.returns-in_err-make_rounds-clause-ends
 returns-in_err-make_rounds-clause-ends g c =
     let p = err_from_is_err_and c.from_residual-in_err-make_rounds.result c.from_residual-in_err-make_rounds.ensures.1 in
-    rw (p.1, p.2) (ends_unmade (g.O.Outside.content c.args.outside.now) (as_words c.args.words.now) 0 0 0 0 _ _ _ _ _ c.in_ok-admit_listed.ensures.ok
+    rw (p.1, p.2) (ends_unmade (as_words c.args.words.now) (g.O.Outside.told c.args.outside.now) (g.O.Outside.told c.admit_listed.new.outside) _ c.in_ok-admit_listed.ensures.ok
     (c.admit_listed.ensures.only.held Port.Log))
 
 pub returns-clause-done : goal.returns-clause-done
 returns-clause-done g c =
-    let content = g.O.Outside.content c.args.outside.now in let words = as_words c.args.words.now in
+    let old = g.O.Outside.told c.args.outside.now in let middle = g.O.Outside.told c.admit_listed.new.outside in let new = g.O.Outside.told c.put_lines.new.outside in
     OnOk-both c.put_lines.result
-    (λ put calls. ends_done content words 0 0 0 0 _ _ _ _ _ c.admit_listed.new.table c.make_rounds.new.table c.in_ok-admit_listed.ensures.ok c.in_ok-make_rounds.ensures.made
-    (after_from (g.O.Outside.holds c.args.outside.now Port.Log) (g.O.Outside.holds c.admit_listed.new.outside Port.Log) (g.O.Outside.holds c.put_lines.new.outside Port.Log)
-    (λ held. held ++ lines_of c.make_rounds.new.table) (c.admit_listed.ensures.only.held Port.Log) put)
+    (λ put calls. ends_done (as_words c.args.words.now) old new middle c.admit_listed.new.table c.make_rounds.new.table c.in_ok-admit_listed.ensures.ok c.in_ok-make_rounds.ensures.made
+    (after_from (old.holds Port.Log) (middle.holds Port.Log) (new.holds Port.Log) (λ held. held ++ lines_of c.make_rounds.new.table) (c.admit_listed.ensures.only.held Port.Log) put)
     calls)
     c.put_lines.ensures.ok c.put_lines.ensures.calls
 
 pub returns-clause-ends : goal.returns-clause-ends
 returns-clause-ends g c =
-    let content = g.O.Outside.content c.args.outside.now in let words = as_words c.args.words.now in
-    let holds = g.O.Outside.holds c.put_lines.new.outside Port.Log in
-    let faults = g.O.Outside.port_faults c.put_lines.new.outside Port.Log in
+    let old = g.O.Outside.told c.args.outside.now in let middle = g.O.Outside.told c.admit_listed.new.outside in let new = g.O.Outside.told c.put_lines.new.outside in
     IfErr-three c.put_lines.result
-    (λ many fault calls part. ends_cut content words _ _ _ _ _ _ _ _ _ c.admit_listed.new.table c.make_rounds.new.table c.in_ok-admit_listed.ensures.ok
+    (λ many fault calls part. ends_cut (as_words c.args.words.now) old new middle c.admit_listed.new.table c.make_rounds.new.table c.in_ok-admit_listed.ensures.ok
     c.in_ok-make_rounds.ensures.made many
-    (subst (λ o. HoldsPrefix o holds (lines_of c.make_rounds.new.table)) (c.admit_listed.ensures.only.held Port.Log) part)
-    (subst (λ n. IsPutFault n faults many) (c.admit_listed.ensures.only.counts Port.Log) fault) calls)
+    (subst (λ o. HoldsPrefix o (new.holds Port.Log) (lines_of c.make_rounds.new.table)) (c.admit_listed.ensures.only.held Port.Log) part)
+    (subst (λ n. IsPutFault n (new.port_faults Port.Log) many) (c.admit_listed.ensures.only.counts Port.Log) fault) calls)
     c.put_lines.ensures.fault c.put_lines.ensures.calls_cut c.put_lines.ensures.err

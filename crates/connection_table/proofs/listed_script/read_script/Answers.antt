@@ -1,4 +1,4 @@
-use Rattle.connection_table.proofs.Words.{sym, ◌∙◌}
+use Rattle.std.proofs.Common.{sym, ◌∙◌}
 use Rattle.connection_table.proofs.Unaltered.{none_leaves}
 use Rattle.connection_table.proofs.listed_script.read_script.Goals as goal
 

@@ -1,4 +1,4 @@
-use Rattle.connection_table.proofs.Words.{eqb, rules}
+use Rattle.std.proofs.Common.{rules, eqb}
 use borrow.Author.Tests.{tests}
 use Rattle.std.proofs.lemmas.Iterator.Consumers.{map_from_collect}
 use Rattle.std.proofs.lemmas.Iterator.Splits.{YieldsList-from_slice_split}

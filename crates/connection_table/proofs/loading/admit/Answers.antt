@@ -1,4 +1,5 @@
-use Rattle.connection_table.proofs.Words.{◌∙◌, ap, ◌+◌, Err, key_token}
+use Rattle.std.proofs.Common.{◌∙◌, ap, ◌+◌, Err}
+use Rattle.connection_table.specs.Tables.{key_token}
 use Rattle.connection_table.proofs.OwnTokens.{none_held}
 use Rattle.connection_table.proofs.loading.admit.Goals as goal
 

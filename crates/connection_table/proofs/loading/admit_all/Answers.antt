@@ -1,5 +1,13 @@
-use Rattle.connection_table.proofs.Words.{refl, sym, ◌∙◌, ap, subst, ◌≤◌, List, [], length, map, arith, take_all, err_from_is_err_and, AddsAll, adds_none}
-use Rattle.connection_table.proofs.Words.{joined, loads_of, as_names, Listed, AreAdmitted, opened_entry}
+use Rattle.std.proofs.Common.{◌≤◌, ◌∙◌, List, [], ap, length, map, refl, subst, sym, arith}
+use Rattle.std.proofs.lemmas.List.{take_all}
+use Rattle.run_outside.specs.Plan.{AddsAll}
+use Rattle.connection_table.specs.Lists.{as_names}
+use Rattle.connection_table.specs.declared.list.Listed.{Listed}
+use Rattle.connection_table.specs.Loads.{joined, loads_of}
+use Rattle.std.proofs.lemmas.Result.{err_from_is_err_and}
+use Rattle.run_outside.proofs.Calls.{adds_none}
+use Rattle.connection_table.specs.ManyEnds.{AreAdmitted}
+use Rattle.connection_table.specs.Tables.{opened_entry}
 use Rattle.connection_table.proofs.Admitted.{admitted_none, count_more, entry_admitted, entry_refused, entry_unloaded}
 use Rattle.connection_table.proofs.LoadsMade.{entry_calls, entry_cut, entry_made}
 use Rattle.connection_table.proofs.loading.admit_all.Goals as goal
@@ -7,9 +15,9 @@ use Rattle.connection_table.proofs.loading.admit_all.Goals as goal
 pub loop-entry-init : goal.loop-entry-init
 loop-entry-init g c = record {
   count = ap length c.requires.empty;
-  admitted = subst (λ table. AreAdmitted (g.O.Outside.content c.args.outside.now) [] table) (sym c.requires.empty) (admitted_none (g.O.Outside.content c.args.outside.now));
+  admitted = subst (λ table. AreAdmitted (g.O.Outside.told c.args.outside.now).content [] table) (sym c.requires.empty) (admitted_none (g.O.Outside.told c.args.outside.now).content);
   only = record { counted = omega arith; counts = λ port. refl; held = λ port. refl };
-  calls = adds_none (g.O.Outside.calls c.args.outside.now);
+  calls = adds_none (g.O.Outside.told c.args.outside.now).calls;
   same_contents = λ other. refl;
 }
 
@@ -17,7 +25,7 @@ pub returns-in_err-input-clause-fault : goal.returns-in_err-input-clause-fault
 returns-in_err-input-clause-fault g c =
     let p = err_from_is_err_and c.from_residual.result c.from_residual.ensures.1 in
     let inv = c.loop-entry.invariant in
-    rw (p.1, p.2) (entry_unloaded (g.O.Outside.content c.loop-entry.outside) (g.O.Outside.content c.args.outside.now) inv.same_contents c.args.listed.now c.loop-entry.entry-index _
+    rw (p.1, p.2) (entry_unloaded (g.O.Outside.told c.loop-entry.outside).content (g.O.Outside.told c.args.outside.now).content inv.same_contents c.args.listed.now c.loop-entry.entry-index _
     c.loop-entry-test.true c.loop-entry.table inv.admitted _ _ _ inv.only.counted c.len-number.result c.len-number.ensures.count c.in_err-input.field-0.0 c.in_err-input.ensures.fault)
 
 pub returns-in_err-input-clause-calls_cut : goal.returns-in_err-input-clause-calls_cut
@@ -46,9 +54,9 @@ pub returns-in_err-admit-clause-fault : goal.returns-in_err-admit-clause-fault
 returns-in_err-admit-clause-fault g c =
     let p = err_from_is_err_and c.from_residual-in_err-admit.result c.from_residual-in_err-admit.ensures.1 in
     let inv = c.loop-entry.invariant in
-    rw (p.1, p.2) (entry_refused (g.O.Outside.content c.loop-entry.outside) (g.O.Outside.content c.args.outside.now) inv.same_contents c.args.listed.now c.loop-entry.entry-index _
-    c.loop-entry-test.true c.loop-entry.table inv.admitted (g.O.Outside.load_faults c.args.outside.now) (g.O.Outside.load_faults c.loop-entry.outside)
-    (g.O.Outside.load_faults c.load_input.new.outside) inv.only.counted c.len-number.result c.len-number.ensures.count c.in_err-admit.field-0.0 c.in_ok-input.input
+    rw (p.1, p.2) (entry_refused (g.O.Outside.told c.loop-entry.outside).content (g.O.Outside.told c.args.outside.now).content inv.same_contents c.args.listed.now c.loop-entry.entry-index _
+    c.loop-entry-test.true c.loop-entry.table inv.admitted (g.O.Outside.told c.args.outside.now).load_faults (g.O.Outside.told c.loop-entry.outside).load_faults
+    (g.O.Outside.told c.load_input.new.outside).load_faults inv.only.counted c.len-number.result c.len-number.ensures.count c.in_err-admit.field-0.0 c.in_ok-input.input
     c.in_ok-input.ensures.input c.in_err-admit.ensures.fault)
 
 pub loop-entry-preserved : goal.loop-entry-preserved
@@ -58,7 +66,7 @@ loop-entry-preserved g c =
     record {
       count = count_more c.loop-entry.table c.admit.new.table (opened_entry c.in_ok-input.input) c.loop-entry.entry-index inv.count c.in_ok-admit.ensures.ok;
       calls = entry_calls c.args.listed.now c.loop-entry.entry-index _ c.loop-entry-test.true _ _ _ inv.calls c.in_ok-input.ensures.calls;
-      admitted = entry_admitted (g.O.Outside.content c.loop-entry.outside) (g.O.Outside.content c.args.outside.now) inv.same_contents c.args.listed.now c.loop-entry.entry-index _
+      admitted = entry_admitted (g.O.Outside.told c.loop-entry.outside).content (g.O.Outside.told c.args.outside.now).content inv.same_contents c.args.listed.now c.loop-entry.entry-index _
           c.loop-entry-test.true c.loop-entry.table inv.admitted c.in_ok-input.input c.admit.new.table c.in_ok-input.ensures.input c.in_ok-admit.ensures.new c.in_ok-admit.ensures.ok;
       only = record {
         counted = (let first = inv.only.counted in let second = made.counted in omega (arith, first, second));
@@ -71,5 +79,5 @@ loop-entry-preserved g c =
 pub returns-clause-calls : goal.returns-clause-calls
 returns-clause-calls g c =
     let past : length c.args.listed.now ≤ c.loop-entry.entry-index = omega (arith, c.loop-entry-test.false) in
-    subst (λ (listed : List Listed). AddsAll (joined (map loads_of (map as_names listed))) (g.O.Outside.calls c.args.outside.now) (g.O.Outside.calls c.loop-entry.outside))
+    subst (λ (listed : List Listed). AddsAll (joined (map loads_of (map as_names listed))) (g.O.Outside.told c.args.outside.now).calls (g.O.Outside.told c.loop-entry.outside).calls)
     (take_all c.loop-entry.entry-index c.args.listed.now past) c.loop-entry.invariant.calls

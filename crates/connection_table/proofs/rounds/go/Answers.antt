@@ -1,4 +1,6 @@
-use Rattle.connection_table.proofs.Words.{ap, subst, true, false, is_made, StepMade, Changes}
+use Rattle.std.proofs.Common.{ap, subst, true, false}
+use Rattle.world_core.specs.Steps.{is_made}
+use Rattle.connection_table.specs.ManyRounds.{Changes, StepMade}
 use Rattle.connection_table.proofs.Changes.{step_changes}
 use Rattle.connection_table.proofs.rounds.go.Goals as goal
 

@@ -1,6 +1,10 @@
-use Rattle.connection_table.proofs.Words.{◌≡◌, sym, ◌∙◌, ap, true, false, on_ok_weaker, outcome_of, goes_on, Kept, Entry, entry_at, RoundIfGoing, RoundMade}
-use Rattle.connection_table.proofs.Words.{Runs, goes_on_still}
-use Rattle.connection_table.specs.ManyRounds.{Made}
+use Rattle.std.proofs.Common.{◌≡◌, ◌∙◌, ap, sym, true, false}
+use Rattle.std.proofs.lemmas.Result.{on_ok_weaker}
+use Rattle.world_core.specs.Kept.{Kept}
+use Rattle.world_laws.specs.Outcomes.{outcome_of}
+use Rattle.world_laws.specs.Serial.{goes_on}
+use Rattle.connection_table.specs.ManyRounds.{Made, RoundIfGoing, RoundMade, Runs, goes_on_still}
+use Rattle.connection_table.specs.Tables.{Entry, entry_at}
 use Rattle.connection_table.proofs.Changes.{all_there, changes_know, changes_none, some_both, some_map}
 use Rattle.connection_table.proofs.RoundMore.{stayed, went_on}
 use Rattle.connection_table.proofs.rounds.go_on.Goals as goal

@@ -1,5 +1,7 @@
-use Rattle.connection_table.proofs.Words.{◌≡◌, refl, ◌∙◌, ◌<◌, ◌≤◌, length, arith, octets, RoundTo, RoundIfGoing, RoundMade, Runs}
-use Rattle.connection_table.specs.ManyRounds.{Made}
+use Rattle.std.proofs.Common.{◌≡◌, ◌≤◌, ◌<◌, ◌∙◌, refl, length, arith}
+use Rattle.path_core.specs.Octets.{octets}
+use Rattle.world_core.specs.Rounds.{RoundTo}
+use Rattle.connection_table.specs.ManyRounds.{Made, RoundIfGoing, RoundMade, Runs}
 use Rattle.connection_table.proofs.Changes.{all_changed, changed_many, made_runs, so_far_all, so_far_more}
 use Rattle.connection_table.proofs.rounds.go_on_each.Goals as goal
 

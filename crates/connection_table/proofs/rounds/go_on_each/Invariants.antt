@@ -1,4 +1,8 @@
-use Rattle.connection_table.proofs.Words.{◌≡◌, ◌≤◌, length, All, octets, RoundTo, RoundIfGoing, Runs}
+use Rattle.std.proofs.Common.{◌≡◌, ◌≤◌, length}
+use Rattle.std.specs.List.{All}
+use Rattle.path_core.specs.Octets.{octets}
+use Rattle.world_core.specs.Rounds.{RoundTo}
+use Rattle.connection_table.specs.ManyRounds.{RoundIfGoing, Runs}
 use Rattle.connection_table.proofs.Changes.{SoFar}
 use Rattle.connection_table.proofs.rounds.go_on_each.Given as goal
 

@@ -1,4 +1,7 @@
-use Rattle.connection_table.proofs.Words.{◌≡◌, ◌<◌, length, arith, Entry, RoundMade, TurnsMade, after_end}
+use Rattle.std.proofs.Common.{◌≡◌, ◌<◌, length, arith}
+use Rattle.connection_table.specs.ManyRounds.{RoundMade, TurnsMade}
+use Rattle.connection_table.specs.Steps.{after_end}
+use Rattle.connection_table.specs.Tables.{Entry}
 use Rattle.connection_table.proofs.Changes.{changed_many, changes_are, changes_then}
 use Rattle.connection_table.proofs.RoundMore.{round_made}
 use Rattle.connection_table.proofs.rounds.make_round.Goals as goal

@@ -1,4 +1,7 @@
-use Rattle.connection_table.proofs.Words.{◌+◌, arith, octets, RoundTo, IsSerialEnd, RoundIfGoing}
+use Rattle.std.proofs.Common.{◌+◌, arith}
+use Rattle.path_core.specs.Octets.{octets}
+use Rattle.world_core.specs.Rounds.{RoundTo}
+use Rattle.connection_table.specs.ManyRounds.{IsSerialEnd, RoundIfGoing}
 use Rattle.connection_table.proofs.RoundMore.{each_says, each_then, first_round, serial_more}
 use Rattle.connection_table.proofs.rounds.make_rounds.Goals as goal
 

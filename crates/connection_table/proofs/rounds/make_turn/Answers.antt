@@ -1,4 +1,5 @@
-use Rattle.connection_table.proofs.Words.{refl, ◌∙◌, subst, arith, Runs, StepMade, TurnMade, Changes}
+use Rattle.std.proofs.Common.{refl, ◌∙◌, subst, arith}
+use Rattle.connection_table.specs.ManyRounds.{Changes, Runs, StepMade, TurnMade}
 use Rattle.connection_table.proofs.Changes.{all_changed, all_there, changed_many, changes_none, changes_then, goes_up, some_map, step_runs}
 use Rattle.connection_table.proofs.RoundMore.{TurnSoFar, turn_begins, turn_goes, turn_made}
 use Rattle.connection_table.proofs.rounds.make_turn.Goals as goal

@@ -1,4 +1,7 @@
-use Rattle.connection_table.proofs.Words.{◌≡◌, ◌-◌, ◌^◌, length, All, entry_at, Runs, Changes}
+use Rattle.std.proofs.Common.{◌≡◌, ◌-◌, ◌^◌, length}
+use Rattle.std.specs.List.{All}
+use Rattle.connection_table.specs.ManyRounds.{Changes, Runs}
+use Rattle.connection_table.specs.Tables.{entry_at}
 use Rattle.connection_table.proofs.Changes.{stamp_in}
 use Rattle.connection_table.proofs.RoundMore.{TurnSoFar}
 use Rattle.connection_table.proofs.rounds.make_turn.Given as goal

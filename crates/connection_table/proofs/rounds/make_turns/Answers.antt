@@ -1,5 +1,10 @@
-use Rattle.connection_table.proofs.Words.{◌≡◌, refl, ◌∙◌, ap, ◌<◌, ◌≤◌, length, arith, octets, TurnTo, Kept, TurnsTo, Entry, entry_at, Runs, TurnMade}
-use Rattle.connection_table.proofs.Words.{TurnsMade}
+use Rattle.std.proofs.Common.{◌≡◌, ◌≤◌, ◌<◌, ◌∙◌, refl, ap, length, arith}
+use Rattle.world_core.specs.Kept.{Kept}
+use Rattle.world_core.specs.Rounds.{TurnsTo}
+use Rattle.world_laws.specs.Serial.{TurnTo}
+use Rattle.path_core.specs.Octets.{octets}
+use Rattle.connection_table.specs.ManyRounds.{Runs, TurnMade, TurnsMade}
+use Rattle.connection_table.specs.Tables.{Entry, entry_at}
 use Rattle.connection_table.proofs.Changes.{all_changed, all_there, changed_many, changes_know, changes_none, changes_then, made_runs, some_map}
 use Rattle.connection_table.proofs.RoundMore.{TurnsSoFar, turns_begin, turns_go, turns_made}
 use Rattle.connection_table.proofs.rounds.make_turns.Goals as goal

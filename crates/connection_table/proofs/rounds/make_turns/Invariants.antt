@@ -1,4 +1,6 @@
-use Rattle.connection_table.proofs.Words.{◌≡◌, ◌≤◌, length, All, Runs, Changes}
+use Rattle.std.proofs.Common.{◌≡◌, ◌≤◌, length}
+use Rattle.std.specs.List.{All}
+use Rattle.connection_table.specs.ManyRounds.{Changes, Runs}
 use Rattle.connection_table.proofs.RoundMore.{TurnsSoFar}
 use Rattle.connection_table.proofs.rounds.make_turns.Given as goal
 

@@ -20,6 +20,6 @@ pub loop-message-preserved : goal.loop-message-preserved
 loop-message-preserved g c =
     let is = rw take_rest at c.in-Some.ensures.whole in (
       one_more c.args.octets.now c.args.from c.loop-message.end c.in-Some.message.now _ _ _ c.loop-message.invariant.0 is c.in-Some.ensures.short c.in_ok-put_line.ensures.ok,
-      stays_then _ _ _ _ _ _ _ _ _ _ _ _ _ c.loop-message.invariant.1 c.in_ok-put_line.ensures.stays,
+      stays_then _ _ _ _ c.loop-message.invariant.1 c.in_ok-put_line.ensures.stays,
       puts_one_more c.args.port c.args.octets.now c.args.from c.loop-message.end c.in-Some.message.now _ _ _ c.loop-message.invariant.2 is c.in-Some.ensures.short c.in_ok-put_line.ensures.one,
     )

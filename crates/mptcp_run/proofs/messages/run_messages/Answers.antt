@@ -19,16 +19,12 @@ pub returns-in-Ok-clause-lines : goal.returns-in-Ok-clause-lines
 returns-in-Ok-clause-lines g c =
     of_line (messages_in (map string_bytes c.args.words.now)) (as_line c.in-Ok.line) _
     (taken (map string_bytes c.args.words.now) (as_line c.in-Ok.line) c.in-Ok.ensures.line (sym c.if-takes_messages.ensures))
-    (messages_shown (g.O.Outside.content c.args.outside) (as_line c.in-Ok.line) (g.O.Outside.load_faults c.args.outside) (g.O.Outside.load_faults c.run_line.result.1)
-    (g.O.Outside.port_faults c.args.outside) (g.O.Outside.port_faults c.run_line.result.1) (g.O.Outside.holds c.args.outside) (g.O.Outside.holds c.run_line.result.1)
-    (g.O.Outside.calls c.args.outside) (g.O.Outside.calls c.run_line.result.1) c.run_line.result.0
+    (messages_shown (as_line c.in-Ok.line) (g.O.Outside.told c.args.outside) (g.O.Outside.told c.run_line.result.1) c.run_line.result.0
     c.requires.empty_a c.requires.empty_b (sym c.if-takes_messages.ensures) c.run_line.ensures)
 
 pub returns-in-Ok-clause-clean : goal.returns-in-Ok-clause-clean
 returns-in-Ok-clause-clean g c =
-    clean_if_messages (g.O.Outside.content c.args.outside) (g.O.Outside.load_faults c.args.outside) (g.O.Outside.load_faults c.run_line.result.1)
-    (g.O.Outside.port_faults c.args.outside) (g.O.Outside.port_faults c.run_line.result.1) (g.O.Outside.holds c.args.outside) (g.O.Outside.holds c.run_line.result.1)
-    (g.O.Outside.calls c.args.outside) (g.O.Outside.calls c.run_line.result.1) c.run_line.result.0 (messages_in (map string_bytes c.args.words.now)) (returns-in-Ok-clause-answer g c)
+    clean_if_messages (g.O.Outside.told c.args.outside) (g.O.Outside.told c.run_line.result.1) c.run_line.result.0 (messages_in (map string_bytes c.args.words.now)) (returns-in-Ok-clause-answer g c)
 
 pub returns-in-Ok-clause-neither : goal.returns-in-Ok-clause-neither
 returns-in-Ok-clause-neither g c none =
@@ -49,24 +45,22 @@ returns-in-Ok-2-clause-clean g c =
 
 pub returns-in-Err-clause-answer : goal.returns-in-Err-clause-answer
 returns-in-Err-clause-answer g c =
-    unread_messages (g.O.Outside.content c.args.outside) (g.O.Outside.load_faults c.args.outside) (g.O.Outside.port_faults c.args.outside) (g.O.Outside.holds c.args.outside) (g.O.Outside.calls c.args.outside)
+    unread_messages (g.O.Outside.told c.args.outside)
     (map string_bytes c.args.words.now) c.in-Err.status c.in-Err.ensures.fault
 
 pub returns-in-Err-clause-lines : goal.returns-in-Err-clause-lines
 returns-in-Err-clause-lines g c =
-    unread_lines (g.O.Outside.content c.args.outside) (g.O.Outside.holds c.args.outside) c.requires.empty_a c.requires.empty_b
+    unread_lines (g.O.Outside.told c.args.outside).content (g.O.Outside.told c.args.outside).holds c.requires.empty_a c.requires.empty_b
     (map string_bytes c.args.words.now) c.in-Err.status c.in-Err.ensures.fault
 
 pub returns-in-Err-clause-neither : goal.returns-in-Err-clause-neither
 returns-in-Err-clause-neither g c none =
-    unread (g.O.Outside.load_faults c.args.outside) (g.O.Outside.port_faults c.args.outside) (g.O.Outside.holds c.args.outside) (g.O.Outside.calls c.args.outside)
+    unread (g.O.Outside.told c.args.outside)
     (map string_bytes c.args.words.now) c.in-Err.status c.in-Err.ensures.fault
 
 pub returns-in-Err-clause-clean : goal.returns-in-Err-clause-clean
 returns-in-Err-clause-clean g c =
-    clean_if_messages (g.O.Outside.content c.args.outside) (g.O.Outside.load_faults c.args.outside) (g.O.Outside.load_faults c.args.outside)
-    (g.O.Outside.port_faults c.args.outside) (g.O.Outside.port_faults c.args.outside) (g.O.Outside.holds c.args.outside) (g.O.Outside.holds c.args.outside)
-    (g.O.Outside.calls c.args.outside) (g.O.Outside.calls c.args.outside) c.in-Err.status (messages_in (map string_bytes c.args.words.now)) (returns-in-Err-clause-answer g c)
+    clean_if_messages (g.O.Outside.told c.args.outside) (g.O.Outside.told c.args.outside) c.in-Err.status (messages_in (map string_bytes c.args.words.now)) (returns-in-Err-clause-answer g c)
 
 -- ---- the calls
 
@@ -74,9 +68,7 @@ pub returns-in-Ok-clause-calls : goal.returns-in-Ok-clause-calls
 returns-in-Ok-clause-calls g c =
     of_line (messages_in (map string_bytes c.args.words.now)) (as_line c.in-Ok.line) _
     (taken (map string_bytes c.args.words.now) (as_line c.in-Ok.line) c.in-Ok.ensures.line (sym c.if-takes_messages.ensures))
-    (messages_called (g.O.Outside.content c.args.outside) (as_line c.in-Ok.line) (g.O.Outside.load_faults c.args.outside) (g.O.Outside.load_faults c.run_line.result.1)
-    (g.O.Outside.port_faults c.args.outside) (g.O.Outside.port_faults c.run_line.result.1) (g.O.Outside.holds c.args.outside) (g.O.Outside.holds c.run_line.result.1)
-    (g.O.Outside.calls c.args.outside) (g.O.Outside.calls c.run_line.result.1) c.run_line.result.0 (sym c.if-takes_messages.ensures) c.run_line.ensures)
+    (messages_called (as_line c.in-Ok.line) (g.O.Outside.told c.args.outside) (g.O.Outside.told c.run_line.result.1) c.run_line.result.0 (sym c.if-takes_messages.ensures) c.run_line.ensures)
 
 pub returns-in-Ok-2-clause-calls : goal.returns-in-Ok-2-clause-calls
 returns-in-Ok-2-clause-calls g c =
@@ -85,4 +77,4 @@ returns-in-Ok-2-clause-calls g c =
 
 pub returns-in-Err-clause-calls : goal.returns-in-Err-clause-calls
 returns-in-Err-clause-calls g c =
-    unread_called (g.O.Outside.content c.args.outside) (g.O.Outside.calls c.args.outside) (map string_bytes c.args.words.now) c.in-Err.status c.in-Err.ensures.fault
+    unread_called (g.O.Outside.told c.args.outside).content (g.O.Outside.told c.args.outside).calls (map string_bytes c.args.words.now) c.in-Err.status c.in-Err.ensures.fault

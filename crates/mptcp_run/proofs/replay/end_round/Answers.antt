@@ -28,7 +28,7 @@ returns-then-not-end_round-clause-turn g c last under =
       made = tt;
       stops = (refl, (refused, ((λ port. refl), adds_none _)));
       fault = tt;
-      only = only_none _ _;
+      only = only_none _;
     }
 
 pub returns-clause-turn : goal.returns-clause-turn
@@ -41,18 +41,17 @@ returns-clause-turn g c last under =
           (λ made. under_end last c.args.run.now c.put_round.new.self under ended.1 (c.put_round.ensures.world ∙ is) (made ∙ ap (λ (k : Kept). map length (lists_of k.state.crew)) is))
           c.put_round.ensures.made;
       whole = on_ok_weaker c.put_round.result
-          (λ held. subst (λ (k : Kept). HoldsRound c.args.run.now.opening c.args.run.now.rounds last k.state (g.O.Outside.holds c.args.outside.now) (g.O.Outside.holds c.put_round.new.outside)) is held)
+          (λ held. subst (λ (k : Kept). HoldsRound c.args.run.now.opening c.args.run.now.rounds last k.state (g.O.Outside.told c.args.outside.now).holds (g.O.Outside.told c.put_round.new.outside).holds) is held)
           put.whole;
       made = on_ok_weaker c.put_round.result
-          (λ all. subst (λ (k : Kept). AddsAll (round_puts c.args.run.now.opening c.args.run.now.rounds last k.state) (g.O.Outside.calls c.args.outside.now) (g.O.Outside.calls c.put_round.new.outside)) is all)
+          (λ all. subst (λ (k : Kept). AddsAll (round_puts c.args.run.now.opening c.args.run.now.rounds last k.state) (g.O.Outside.told c.args.outside.now).calls (g.O.Outside.told c.put_round.new.outside).calls) is all)
           put.puts.made;
-      stops = round_stops c.args.run.now.opening c.args.run.now.rounds last c.args.run.now.world.state c.args.line (g.O.Outside.holds c.args.outside.now) (g.O.Outside.holds c.put_round.new.outside) _ _
-          (g.O.Outside.calls c.args.outside.now) (g.O.Outside.calls c.put_round.new.outside) c.put_round.result ended.1 put.puts.fault
+      stops = round_stops c.args.run.now.opening c.args.run.now.rounds last c.args.run.now.world.state c.args.line (g.O.Outside.told c.args.outside.now) (g.O.Outside.told c.put_round.new.outside) c.put_round.result ended.1 put.puts.fault
           (on_err_weaker c.put_round.result
-          (λ part. subst (λ (k : Kept). HoldsPart c.args.run.now.opening c.args.run.now.rounds last [] (k.state ∷ []) (g.O.Outside.holds c.args.outside.now) (g.O.Outside.holds c.put_round.new.outside)) is part)
+          (λ part. subst (λ (k : Kept). HoldsPart c.args.run.now.opening c.args.run.now.rounds last [] (k.state ∷ []) (g.O.Outside.told c.args.outside.now).holds (g.O.Outside.told c.put_round.new.outside).holds) is part)
           put.part)
           (IfErr-map c.put_round.result
-          (λ status cut. subst (λ (k : Kept). AddsCut (round_puts c.args.run.now.opening c.args.run.now.rounds last k.state) status (g.O.Outside.calls c.args.outside.now) (g.O.Outside.calls c.put_round.new.outside)) is cut)
+          (λ status cut. subst (λ (k : Kept). AddsCut (round_puts c.args.run.now.opening c.args.run.now.rounds last k.state) status (g.O.Outside.told c.args.outside.now).calls (g.O.Outside.told c.put_round.new.outside).calls) is cut)
           put.puts.cut);
       fault = IfErr-map c.put_round.result (λ status fault. replay_cause _ _ status fault) put.puts.fault;
       only = put.puts.only;

@@ -15,14 +15,14 @@ loop-turn-init g c = (
   c.args.run.now.world.state,
   record {
     under = under_begins c.args.run.now c.requires.begins;
-    put = λ v new after h. subst (λ n. TurnsPut c.args.run.now.opening n (all_turns c.args.order.now) c.args.run.now.world.state c.args.run.now.world.state v
-        (g.O.Outside.holds c.args.outside.now) new (g.O.Outside.calls c.args.outside.now) after) c.requires.none h;
-    fault = λ status new after h. subst (λ n. TurnsFault c.args.run.now.opening n (all_turns c.args.order.now) c.args.run.now.world.state c.args.run.now.world.state c.args.lines
-        (g.O.Outside.holds c.args.outside.now) new (g.O.Outside.calls c.args.outside.now) after status) c.requires.none h;
+    put = λ v new h. subst (λ n. TurnsPut c.args.run.now.opening n (all_turns c.args.order.now) c.args.run.now.world.state c.args.run.now.world.state v
+        (g.O.Outside.told c.args.outside.now) new) c.requires.none h;
+    fault = λ status new h. subst (λ n. TurnsFault c.args.run.now.opening n (all_turns c.args.order.now) c.args.run.now.world.state c.args.run.now.world.state c.args.lines
+        (g.O.Outside.told c.args.outside.now) new status) c.requires.none h;
     rounds = let none = c.requires.none in omega (arith, none);
     line = omega arith;
     few = omega arith;
-    only = only_none _ _;
+    only = only_none _;
   },
 )
 
@@ -37,16 +37,16 @@ loop-turn-preserved g c =
       _,
       record {
         under = turn.under;
-        put = λ v new after rest. inv.put v new after (put_turn c.loop-turn.run.opening c.make_turn.new.run.opening c.loop-turn.run.rounds c.make_turn.new.run.rounds _ _
-            (all_turns (drop c.loop-turn.turn-index c.args.order.now)) last c.loop-turn.run.world.state c.make_turn.new.run.world _ _ new _ _ after
+        put = λ v new rest. inv.put v new (put_turn c.loop-turn.run.opening c.make_turn.new.run.opening c.loop-turn.run.rounds c.make_turn.new.run.rounds _ _
+            (all_turns (drop c.loop-turn.turn-index c.args.order.now)) last c.loop-turn.run.world.state c.make_turn.new.run.world _ _ new
             made.opening made.rounds order_is made.ok made.lawful turn.whole turn.made v rest);
-        fault = λ status new after rest. inv.fault status new after (fault_later c.loop-turn.run.opening c.make_turn.new.run.opening c.loop-turn.run.rounds c.make_turn.new.run.rounds _ _
-            (all_turns (drop c.loop-turn.turn-index c.args.order.now)) last c.loop-turn.run.world.state c.make_turn.new.run.world _ _ new _ _ after
+        fault = λ status new rest. inv.fault status new (fault_later c.loop-turn.run.opening c.make_turn.new.run.opening c.loop-turn.run.rounds c.make_turn.new.run.rounds _ _
+            (all_turns (drop c.loop-turn.turn-index c.args.order.now)) last c.loop-turn.run.world.state c.make_turn.new.run.world _ _ new
             made.opening made.rounds order_is made.ok made.lawful turn.whole turn.made c.loop-turn.line (c.loop-turn.line + 1) status refl rest);
         rounds = rounds_few _ c.loop-turn.run.rounds c.loop-turn.turn-index c.make_turn.new.run.rounds inv.rounds made.rounds;
         line = let line = inv.line in omega (arith, line);
         few = omega (arith, within);
-        only = only_then _ _ _ _ _ _ inv.only turn.only;
+        only = only_then _ _ _ inv.only turn.only;
       },
     )
 
@@ -54,20 +54,19 @@ pub returns-in_err-make_turn-clause-stop : goal.returns-in_err-make_turn-clause-
 returns-in_err-make_turn-clause-stop g c =
     let inv = c.loop-turn.invariant.1 in let turn = c.in_err-make_turn.ensures.turn c.loop-turn.invariant.0 inv.under in
     let p = err_from_is_err_and c.from_residual.result c.from_residual.ensures.1 in
-    rw (p.1, p.2) (turns_stop c.args.run.now.opening (all_turns c.args.order.now) c.args.run.now.world.state _ _ _ _ c.args.lines c.in_err-make_turn.field-0.0
-    (inv.fault c.in_err-make_turn.field-0.0 _ _
+    rw (p.1, p.2) (turns_stop c.args.run.now.opening (all_turns c.args.order.now) c.args.run.now.world.state _ _ c.args.lines c.in_err-make_turn.field-0.0
+    (inv.fault c.in_err-make_turn.field-0.0 _
     (fault_now c.loop-turn.run.opening c.loop-turn.run.rounds c.loop-turn.line (c.loop-turn.line + 1) _ _ (all_turns (drop c.loop-turn.turn-index c.args.order.now)) c.loop-turn.invariant.0
-    c.loop-turn.run.world.state _ _ _ _ c.in_err-make_turn.field-0.0 refl (ap (map turn_of) (drop_more c.args.order.now c.loop-turn.turn-index _ c.loop-turn-test.true)) turn.stops)))
+    c.loop-turn.run.world.state _ _ c.in_err-make_turn.field-0.0 refl (ap (map turn_of) (drop_more c.args.order.now c.loop-turn.turn-index _ c.loop-turn-test.true)) turn.stops)))
 
 pub returns-clause-ok : goal.returns-clause-ok
 returns-clause-ok g c =
-    turns_made c.args.run.now.opening (all_turns c.args.order.now) c.args.run.now.world.state _ _ _ _ c.loop-turn.run.world.state
-    (c.loop-turn.invariant.1.put _ _ _
+    turns_made c.args.run.now.opening (all_turns c.args.order.now) c.args.run.now.world.state _ _ c.loop-turn.run.world.state
+    (c.loop-turn.invariant.1.put _ _
     (subst (λ ts. TurnsPut c.loop-turn.run.opening c.loop-turn.run.rounds (all_turns ts) c.loop-turn.invariant.0 c.loop-turn.run.world.state c.loop-turn.run.world.state
-    (g.O.Outside.holds c.loop-turn.outside) (g.O.Outside.holds c.loop-turn.outside) (g.O.Outside.calls c.loop-turn.outside) (g.O.Outside.calls c.loop-turn.outside))
+    (g.O.Outside.told c.loop-turn.outside) (g.O.Outside.told c.loop-turn.outside))
     (sym (at_drop_all (λ ts. ts) c.args.order.now c.loop-turn.turn-index (let over = c.loop-turn-test.false in omega (arith, over))))
-    (turns_over c.loop-turn.run.opening c.loop-turn.run.rounds c.loop-turn.invariant.0 c.loop-turn.run.world.state (g.O.Outside.holds c.loop-turn.outside)
-    (g.O.Outside.calls c.loop-turn.outside))))
+    (turns_over c.loop-turn.run.opening c.loop-turn.run.rounds c.loop-turn.invariant.0 c.loop-turn.run.world.state (g.O.Outside.told c.loop-turn.outside))))
 
 pub returns-in_err-make_turn-clause-cause : goal.returns-in_err-make_turn-clause-cause
 returns-in_err-make_turn-clause-cause g c =
@@ -78,7 +77,7 @@ returns-in_err-make_turn-clause-cause g c =
 pub returns-in_err-make_turn-clause-only : goal.returns-in_err-make_turn-clause-only
 returns-in_err-make_turn-clause-only g c =
     let inv = c.loop-turn.invariant.1 in let turn = c.in_err-make_turn.ensures.turn c.loop-turn.invariant.0 inv.under in
-    only_then _ _ _ _ _ _ inv.only turn.only
+    only_then _ _ _ inv.only turn.only
 
 pub returns-clause-only : goal.returns-clause-only
 returns-clause-only g c = c.loop-turn.invariant.1.only

@@ -34,7 +34,7 @@ returns-in-Ok-clause-made g c =
     (since_by c.args.schedule c.args.run.now.made.items c.args.run.now.world.state c.round_by.new.world.state c.requires.begins.made_is c.requires.begins.begins c.in-Ok.ensures.ok) in
     OnOk-both c.put_round.result
     (λ held calls. subst (λ (k : Kept). RoundMade (RoundBy c.args.schedule) c.args.run.now.opening c.args.run.now.rounds c.args.run.now.world.state k.state
-    (g.O.Outside.holds c.args.outside.now) (g.O.Outside.holds c.put_round.new.outside) (g.O.Outside.calls c.args.outside.now) (g.O.Outside.calls c.put_round.new.outside))
+    (g.O.Outside.told c.args.outside.now) (g.O.Outside.told c.put_round.new.outside))
     (sym c.put_round.ensures.world) (record { round = c.in-Ok.ensures.ok; ports = held; calls = calls }))
     put.whole put.puts.made
 
@@ -61,4 +61,4 @@ pub returns-in-Err-clause-stops : goal.returns-in-Err-clause-stops
 returns-in-Err-clause-stops g c = inl (refl, ((λ port. refl), adds_none _))
 
 pub returns-in-Err-clause-only : goal.returns-in-Err-clause-only
-returns-in-Err-clause-only g c = only_none _ _
+returns-in-Err-clause-only g c = only_none _

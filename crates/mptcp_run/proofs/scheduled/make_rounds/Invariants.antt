@@ -18,14 +18,13 @@ invariant-loop-round g l = record {
   opening : l.run.opening ≡ l.initial.run.opening;
   rounds : l.run.rounds ≡ l._round;
   few : l._round ≤ l.most;
-  put : (count : _) (v : _) (new : _) (after : _) → RoundsPut (by l.schedule) l.run.opening (l.most - l._round) l._round count l.run.world.state v
-      (g.O.Outside.holds l.outside) new (g.O.Outside.calls l.outside) after
+  put : (count : _) (v : _) (new : _) → RoundsPut (by l.schedule) l.run.opening (l.most - l._round) l._round count l.run.world.state v
+      (g.O.Outside.told l.outside) new
       → RoundsPut (by l.schedule) l.initial.run.opening l.most 0 count l.initial.run.world.state v
-      (g.O.Outside.holds l.initial.outside) new (g.O.Outside.calls l.initial.outside) after;
-  cut : (new : _) (after : _) (status : _) → RoundsCut (by l.schedule) l.run.opening (l.most - l._round) l._round l.run.world.state
-      (g.O.Outside.holds l.outside) new (g.O.Outside.calls l.outside) after status
+      (g.O.Outside.told l.initial.outside) new;
+  cut : (new : _) (status : _) → RoundsCut (by l.schedule) l.run.opening (l.most - l._round) l._round l.run.world.state
+      (g.O.Outside.told l.outside) new status
       → RoundsCut (by l.schedule) l.initial.run.opening l.most 0 l.initial.run.world.state
-      (g.O.Outside.holds l.initial.outside) new (g.O.Outside.calls l.initial.outside) after status;
-  only : OnlyPuts (g.O.Outside.load_faults l.initial.outside) (g.O.Outside.load_faults l.outside)
-      (g.O.Outside.port_faults l.initial.outside) (g.O.Outside.port_faults l.outside);
+      (g.O.Outside.told l.initial.outside) new status;
+  only : OnlyPuts (g.O.Outside.told l.initial.outside) (g.O.Outside.told l.outside);
 }

@@ -31,7 +31,7 @@ returns-in-Ok-clause-made g c =
     let put = c.put_round-told.ensures.put c.args.run.world.state (woven_since c.args.run c.next_world-world.result.0.state c.requires.begins made.round) in
     OnOk-both c.put_round-told.result
     (λ held calls. subst (λ (k : Kept). RoundMade WovenTo c.args.run.opening c.args.run.rounds c.args.run.world.state k.state
-    (g.O.Outside.holds c.args.outside.now) (g.O.Outside.holds c.put_round-told.new.outside) (g.O.Outside.calls c.args.outside.now) (g.O.Outside.calls c.put_round-told.new.outside))
+    (g.O.Outside.told c.args.outside.now) (g.O.Outside.told c.put_round-told.new.outside))
     (sym c.put_round-told.ensures.world) (record { round = made.round; ports = held; calls = calls }))
     put.whole put.puts.made
 
@@ -58,4 +58,4 @@ pub returns-in-Err-clause-stops : goal.returns-in-Err-clause-stops
 returns-in-Err-clause-stops g c = inl (refl, ((λ port. refl), adds_none _))
 
 pub returns-in-Err-clause-only : goal.returns-in-Err-clause-only
-returns-in-Err-clause-only g c = only_none _ _
+returns-in-Err-clause-only g c = only_none _

@@ -15,11 +15,11 @@ loop-round-init g c = record {
   opening = refl;
   rounds = c.requires.none;
   few = omega arith;
-  put = λ count v new after h. less_none (λ m. RoundsPut AreWovenRounds c.args.run.opening m 0 count c.args.run.world.state v
-      (g.O.Outside.holds c.args.outside.now) new (g.O.Outside.calls c.args.outside.now) after) c.args.most h;
-  cut = λ new after status h. less_none (λ m. RoundsCut AreWovenRounds c.args.run.opening m 0 c.args.run.world.state
-      (g.O.Outside.holds c.args.outside.now) new (g.O.Outside.calls c.args.outside.now) after status) c.args.most h;
-  only = only_none _ _;
+  put = λ count v new h. less_none (λ m. RoundsPut AreWovenRounds c.args.run.opening m 0 count c.args.run.world.state v
+      (g.O.Outside.told c.args.outside.now) new) c.args.most h;
+  cut = λ new status h. less_none (λ m. RoundsCut AreWovenRounds c.args.run.opening m 0 c.args.run.world.state
+      (g.O.Outside.told c.args.outside.now) new status) c.args.most h;
+  only = only_none _;
 }
 
 pub loop-round-preserved : goal.loop-round-preserved
@@ -33,56 +33,56 @@ loop-round-preserved g c =
       opening = opening ∙ inv.opening;
       rounds = when_ok c.make_round-next.result.1 c.in-Ok.field-0 c.in-Ok.is c.make_round-next.ensures.rounds ∙ ap (λ n. n + 1) inv.rounds;
       few = omega (arith, c.loop-round-test.true);
-      put = λ count v new after rest. inv.put count v new after
+      put = λ count v new rest. inv.put count v new
           (put_more WovenTo AreWovenRounds woven_kind c.loop-round.run.opening (c.args.most - c.loop-round._round) (c.args.most - (c.loop-round._round + 1)) c.loop-round._round c.loop-round.run.rounds
           (omega (arith, c.loop-round-test.true)) inv.rounds
-          c.make_round-next.result.0.opening (c.loop-round._round + 1) count c.loop-round.run.world.state c.make_round-next.result.0.world.state v _ _ new _ _ after
+          c.make_round-next.result.0.opening (c.loop-round._round + 1) count c.loop-round.run.world.state c.make_round-next.result.0.world.state v _ _ new
           opening (omega arith) going made rest);
-      cut = λ new after status rest. inv.cut new after status
+      cut = λ new status rest. inv.cut new status
           (cut_later WovenTo AreWovenRounds woven_kind c.loop-round.run.opening (c.args.most - c.loop-round._round) (c.args.most - (c.loop-round._round + 1)) c.loop-round._round c.loop-round.run.rounds
           (omega (arith, c.loop-round-test.true)) inv.rounds
-          c.make_round-next.result.0.opening (c.loop-round._round + 1) c.loop-round.run.world.state c.make_round-next.result.0.world.state _ _ new _ _ after status
+          c.make_round-next.result.0.opening (c.loop-round._round + 1) c.loop-round.run.world.state c.make_round-next.result.0.world.state _ _ new status
           opening (omega arith) going made rest);
-      only = only_then _ _ _ _ _ _ inv.only c.make_round-next.ensures.only;
+      only = only_then _ _ _ inv.only c.make_round-next.ensures.only;
     }
 
 pub returns-in-Err-clause-cut : goal.returns-in-Err-clause-cut
 returns-in-Err-clause-cut g c =
     let inv = c.loop-round.invariant in
-    woven_cut c.args.run.opening c.args.most c.args.run.world.state _ _ _ _ c.in-Err.status
-    (inv.cut _ _ c.in-Err.status
+    woven_cut c.args.run.opening c.args.most c.args.run.world.state _ _ c.in-Err.status
+    (inv.cut _ c.in-Err.status
     (cut_now WovenTo AreWovenRounds woven_kind c.loop-round.run.opening (c.args.most - c.loop-round._round) (c.args.most - (c.loop-round._round + 1)) c.loop-round._round c.loop-round.run.rounds
     (omega (arith, c.loop-round-test.true)) inv.rounds
-    c.loop-round.run.world.state _ _ _ _ c.in-Err.status (when_err _ c.make_round-next.result.1 c.in-Err.status c.in-Err.is c.make_round-next.ensures.stops)))
+    c.loop-round.run.world.state _ _ c.in-Err.status (when_err _ c.make_round-next.result.1 c.in-Err.status c.in-Err.is c.make_round-next.ensures.stops)))
 
 pub returns-in-Err-clause-fault : goal.returns-in-Err-clause-fault
 returns-in-Err-clause-fault g c =
     fault_after _ _ _ c.in-Err.status c.loop-round.invariant.only.counted (when_err _ c.make_round-next.result.1 c.in-Err.status c.in-Err.is c.make_round-next.ensures.fault)
 
 pub returns-in-Err-clause-only : goal.returns-in-Err-clause-only
-returns-in-Err-clause-only g c = only_then _ _ _ _ _ _ c.loop-round.invariant.only c.make_round-next.ensures.only
+returns-in-Err-clause-only g c = only_then _ _ _ c.loop-round.invariant.only c.make_round-next.ensures.only
 
 pub returns-then-not-goes_on-clause-ok : goal.returns-then-not-goes_on-clause-ok
 returns-then-not-goes_on-clause-ok g c =
     let inv = c.loop-round.invariant in
-    woven_made c.args.run.opening c.args.most c.args.run.world.state _ _ _ _ c.make_round-next.result.0.rounds c.make_round-next.result.0.world.state
-    (inv.put _ _ _ _
+    woven_made c.args.run.opening c.args.most c.args.run.world.state _ _ c.make_round-next.result.0.rounds c.make_round-next.result.0.world.state
+    (inv.put _ _ _
     (put_last WovenTo AreWovenRounds woven_kind c.loop-round.run.opening (c.args.most - c.loop-round._round) (c.args.most - (c.loop-round._round + 1)) c.loop-round._round c.loop-round.run.rounds
     (omega (arith, c.loop-round-test.true)) inv.rounds
-    c.make_round-next.result.0.rounds c.loop-round.run.world.state c.make_round-next.result.0.world.state _ _ _ _ (sym c.goes_on.ensures ∙ c.if-not-goes_on.true)
+    c.make_round-next.result.0.rounds c.loop-round.run.world.state c.make_round-next.result.0.world.state _ _ (sym c.goes_on.ensures ∙ c.if-not-goes_on.true)
     (when_ok c.make_round-next.result.1 c.in-Ok.field-0 c.in-Ok.is c.make_round-next.ensures.made)
     (when_ok c.make_round-next.result.1 c.in-Ok.field-0 c.in-Ok.is c.make_round-next.ensures.rounds ∙ ap (λ n. n + 1) inv.rounds)))
 
 pub returns-clause-ok : goal.returns-clause-ok
 returns-clause-ok g c =
     let inv = c.loop-round.invariant in
-    woven_made c.args.run.opening c.args.most c.args.run.world.state _ _ _ _ c.loop-round.run.rounds c.loop-round.run.world.state
-    (inv.put _ _ _ _
+    woven_made c.args.run.opening c.args.most c.args.run.world.state _ _ c.loop-round.run.rounds c.loop-round.run.world.state
+    (inv.put _ _ _
     (rounds_over WovenTo AreWovenRounds woven_kind c.loop-round.run.opening (c.args.most - c.loop-round._round) c.loop-round._round
-    c.loop-round.run.rounds c.loop-round.run.world.state _ _ (omega (arith, c.loop-round-test.false)) inv.rounds))
+    c.loop-round.run.rounds c.loop-round.run.world.state _ (omega (arith, c.loop-round-test.false)) inv.rounds))
 
 pub returns-then-not-goes_on-clause-only : goal.returns-then-not-goes_on-clause-only
-returns-then-not-goes_on-clause-only g c = only_then _ _ _ _ _ _ c.loop-round.invariant.only c.make_round-next.ensures.only
+returns-then-not-goes_on-clause-only g c = only_then _ _ _ c.loop-round.invariant.only c.make_round-next.ensures.only
 
 pub returns-clause-only : goal.returns-clause-only
 returns-clause-only g c = c.loop-round.invariant.only

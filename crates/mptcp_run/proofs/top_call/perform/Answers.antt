@@ -4,7 +4,7 @@ use Rattle.mptcp_run.proofs.top_call.perform.Goals as goal
 
 pub returns-in_default-clause-early : goal.returns-in_default-clause-early
 returns-in_default-clause-early g c =
-    nothing_taken c.args.turns.now c.args.input.now (as_line c.args.line.now) (g.O.Outside.holds c.args.outside.now) (g.O.Outside.calls c.args.outside.now)
+    nothing_taken c.args.turns.now c.args.input.now (as_line c.args.line.now) (g.O.Outside.told c.args.outside.now)
 
 pub returns-in_default-clause-fault : goal.returns-in_default-clause-fault
-returns-in_default-clause-fault g c = memory_alone c.args.turns.now (g.O.Outside.port_faults c.args.outside.now) (g.O.Outside.port_faults c.args.outside.now)
+returns-in_default-clause-fault g c = memory_alone c.args.turns.now (g.O.Outside.told c.args.outside.now).port_faults (g.O.Outside.told c.args.outside.now).port_faults

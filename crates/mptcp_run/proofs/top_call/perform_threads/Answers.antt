@@ -8,4 +8,4 @@ use Rattle.mptcp_run.proofs.top_call.perform_threads.Goals as goal
 pub returns-in_default-clause-cut : goal.returns-in_default-clause-cut
 returns-in_default-clause-cut g c =
     let task = task_from c.args.input.now (course.threads c.args.rounds) in
-    nothing_made (as_line c.args.line.now) task (g.O.Outside.holds c.args.outside.now) (g.O.Outside.calls c.args.outside.now) (no_woven_round c.args.rounds (first_world task))
+    nothing_made (as_line c.args.line.now) task (g.O.Outside.told c.args.outside.now) (no_woven_round c.args.rounds (first_world task))

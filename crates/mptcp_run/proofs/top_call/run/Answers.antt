@@ -15,37 +15,27 @@ run_line-requires-clause-in_range g c κs lives = line_asked (map string_bytes c
 
 pub returns-in-Ok-clause-answer : goal.returns-in-Ok-clause-answer
 returns-in-Ok-clause-answer g c =
-    subst (λ (o : Option Line). IfSome o (λ line. IsAnswer (g.O.Outside.content c.args.outside.now) line (g.O.Outside.load_faults c.args.outside.now) (g.O.Outside.load_faults c.run_line.new.outside)
-    (g.O.Outside.port_faults c.args.outside.now) (g.O.Outside.port_faults c.run_line.new.outside) (g.O.Outside.holds c.args.outside.now) (g.O.Outside.holds c.run_line.new.outside)
-    (g.O.Outside.calls c.args.outside.now) (g.O.Outside.calls c.run_line.new.outside) c.run_line.result))
+    subst (λ (o : Option Line). IfSome o (λ line. IsAnswer line (g.O.Outside.told c.args.outside.now) (g.O.Outside.told c.run_line.new.outside) c.run_line.result))
     (sym (asked_is (map string_bytes c.args.words.now) (as_line c.in-Ok.line) c.in-Ok.ensures.line)) c.run_line.ensures.answer
 
 pub returns-in-Ok-clause-delivered : goal.returns-in-Ok-clause-delivered
 returns-in-Ok-clause-delivered g c is =
-    delivered_files (g.O.Outside.content c.args.outside.now) (g.O.Outside.load_faults c.args.outside.now) (g.O.Outside.load_faults c.run_line.new.outside)
-    (g.O.Outside.port_faults c.args.outside.now) (g.O.Outside.port_faults c.run_line.new.outside) (g.O.Outside.holds c.args.outside.now) (g.O.Outside.holds c.run_line.new.outside)
-    (g.O.Outside.calls c.args.outside.now) (g.O.Outside.calls c.run_line.new.outside) (asked_in (map string_bytes c.args.words.now)) c.run_line.result
+    delivered_files (g.O.Outside.told c.args.outside.now) (g.O.Outside.told c.run_line.new.outside) (asked_in (map string_bytes c.args.words.now)) c.run_line.result
     (returns-in-Ok-clause-answer g c) is
 
 pub returns-in-Ok-clause-counted : goal.returns-in-Ok-clause-counted
 returns-in-Ok-clause-counted g c is =
-    delivered_many (g.O.Outside.content c.args.outside.now) (g.O.Outside.load_faults c.args.outside.now) (g.O.Outside.load_faults c.run_line.new.outside)
-    (g.O.Outside.port_faults c.args.outside.now) (g.O.Outside.port_faults c.run_line.new.outside) (g.O.Outside.holds c.args.outside.now) (g.O.Outside.holds c.run_line.new.outside)
-    (g.O.Outside.calls c.args.outside.now) (g.O.Outside.calls c.run_line.new.outside) (asked_in (map string_bytes c.args.words.now)) c.run_line.result
+    delivered_many (g.O.Outside.told c.args.outside.now) (g.O.Outside.told c.run_line.new.outside) (asked_in (map string_bytes c.args.words.now)) c.run_line.result
     (returns-in-Ok-clause-answer g c) is
 
 pub returns-in-Ok-clause-clean : goal.returns-in-Ok-clause-clean
 returns-in-Ok-clause-clean g c =
-    clean_if_asked (g.O.Outside.content c.args.outside.now) (g.O.Outside.load_faults c.args.outside.now) (g.O.Outside.load_faults c.run_line.new.outside)
-    (g.O.Outside.port_faults c.args.outside.now) (g.O.Outside.port_faults c.run_line.new.outside) (g.O.Outside.holds c.args.outside.now) (g.O.Outside.holds c.run_line.new.outside)
-    (g.O.Outside.calls c.args.outside.now) (g.O.Outside.calls c.run_line.new.outside) (asked_in (map string_bytes c.args.words.now)) c.run_line.result
+    clean_if_asked (g.O.Outside.told c.args.outside.now) (g.O.Outside.told c.run_line.new.outside) (asked_in (map string_bytes c.args.words.now)) c.run_line.result
     (returns-in-Ok-clause-answer g c)
 
 pub returns-in-Ok-clause-bench : goal.returns-in-Ok-clause-bench
 returns-in-Ok-clause-bench g c =
-    subst (λ (o : Option Bench). IfSome o (λ made. IsMadeAnswer made (g.O.Outside.load_faults c.args.outside.now) (g.O.Outside.load_faults c.run_line.new.outside)
-    (g.O.Outside.port_faults c.args.outside.now) (g.O.Outside.port_faults c.run_line.new.outside) (g.O.Outside.holds c.args.outside.now) (g.O.Outside.holds c.run_line.new.outside)
-    (g.O.Outside.calls c.args.outside.now) (g.O.Outside.calls c.run_line.new.outside) c.run_line.result))
+    subst (λ (o : Option Bench). IfSome o (λ made. IsMadeAnswer made (g.O.Outside.told c.args.outside.now) (g.O.Outside.told c.run_line.new.outside) c.run_line.result))
     (sym (bench_is (map string_bytes c.args.words.now) (as_line c.in-Ok.line) c.in-Ok.ensures.line)) c.run_line.ensures.bench
 
 pub returns-in-Ok-clause-neither : goal.returns-in-Ok-clause-neither
@@ -57,36 +47,30 @@ returns-in-Ok-clause-neither g c none unmade =
 
 pub returns-in-Err-clause-answer : goal.returns-in-Err-clause-answer
 returns-in-Err-clause-answer g c =
-    unread_answer (g.O.Outside.load_faults c.args.outside.now) (g.O.Outside.port_faults c.args.outside.now) (g.O.Outside.holds c.args.outside.now) (g.O.Outside.calls c.args.outside.now)
-    (g.O.Outside.content c.args.outside.now) (map string_bytes c.args.words.now) c.in-Err.status c.in-Err.ensures.fault
+    unread_answer (g.O.Outside.told c.args.outside.now)
+    (map string_bytes c.args.words.now) c.in-Err.status c.in-Err.ensures.fault
 
 pub returns-in-Err-clause-delivered : goal.returns-in-Err-clause-delivered
 returns-in-Err-clause-delivered g c is =
-    delivered_files (g.O.Outside.content c.args.outside.now) (g.O.Outside.load_faults c.args.outside.now) (g.O.Outside.load_faults c.args.outside.now)
-    (g.O.Outside.port_faults c.args.outside.now) (g.O.Outside.port_faults c.args.outside.now) (g.O.Outside.holds c.args.outside.now) (g.O.Outside.holds c.args.outside.now)
-    (g.O.Outside.calls c.args.outside.now) (g.O.Outside.calls c.args.outside.now) (asked_in (map string_bytes c.args.words.now)) c.in-Err.status
+    delivered_files (g.O.Outside.told c.args.outside.now) (g.O.Outside.told c.args.outside.now) (asked_in (map string_bytes c.args.words.now)) c.in-Err.status
     (returns-in-Err-clause-answer g c) is
 
 pub returns-in-Err-clause-counted : goal.returns-in-Err-clause-counted
 returns-in-Err-clause-counted g c is =
-    delivered_many (g.O.Outside.content c.args.outside.now) (g.O.Outside.load_faults c.args.outside.now) (g.O.Outside.load_faults c.args.outside.now)
-    (g.O.Outside.port_faults c.args.outside.now) (g.O.Outside.port_faults c.args.outside.now) (g.O.Outside.holds c.args.outside.now) (g.O.Outside.holds c.args.outside.now)
-    (g.O.Outside.calls c.args.outside.now) (g.O.Outside.calls c.args.outside.now) (asked_in (map string_bytes c.args.words.now)) c.in-Err.status
+    delivered_many (g.O.Outside.told c.args.outside.now) (g.O.Outside.told c.args.outside.now) (asked_in (map string_bytes c.args.words.now)) c.in-Err.status
     (returns-in-Err-clause-answer g c) is
 
 pub returns-in-Err-clause-clean : goal.returns-in-Err-clause-clean
 returns-in-Err-clause-clean g c =
-    clean_if_asked (g.O.Outside.content c.args.outside.now) (g.O.Outside.load_faults c.args.outside.now) (g.O.Outside.load_faults c.args.outside.now)
-    (g.O.Outside.port_faults c.args.outside.now) (g.O.Outside.port_faults c.args.outside.now) (g.O.Outside.holds c.args.outside.now) (g.O.Outside.holds c.args.outside.now)
-    (g.O.Outside.calls c.args.outside.now) (g.O.Outside.calls c.args.outside.now) (asked_in (map string_bytes c.args.words.now)) c.in-Err.status
+    clean_if_asked (g.O.Outside.told c.args.outside.now) (g.O.Outside.told c.args.outside.now) (asked_in (map string_bytes c.args.words.now)) c.in-Err.status
     (returns-in-Err-clause-answer g c)
 
 pub returns-in-Err-clause-bench : goal.returns-in-Err-clause-bench
 returns-in-Err-clause-bench g c =
-    unread_bench (g.O.Outside.load_faults c.args.outside.now) (g.O.Outside.port_faults c.args.outside.now) (g.O.Outside.holds c.args.outside.now) (g.O.Outside.calls c.args.outside.now)
+    unread_bench (g.O.Outside.told c.args.outside.now)
     (map string_bytes c.args.words.now) c.in-Err.status c.in-Err.ensures.fault
 
 pub returns-in-Err-clause-neither : goal.returns-in-Err-clause-neither
 returns-in-Err-clause-neither g c none unmade =
-    unread (g.O.Outside.load_faults c.args.outside.now) (g.O.Outside.port_faults c.args.outside.now) (g.O.Outside.holds c.args.outside.now) (g.O.Outside.calls c.args.outside.now)
+    unread (g.O.Outside.told c.args.outside.now)
     (map string_bytes c.args.words.now) c.in-Err.status c.in-Err.ensures.fault

@@ -18,28 +18,28 @@ returns-in_err-bind_readers-clause-cut g c =
     let task : Task = task_with c.args.input.now (course.rounds c.args.schedule c.args.rounds) c.args.report in
     let p = err_from_is_err_and c.from_residual.result c.from_residual.ensures.1 in
     rw (p.1, p.2) (binds_short (as_line c.args.line.now) task
-    (g.O.Outside.holds c.args.outside.now) (g.O.Outside.holds c.bind_readers.new.outside) (g.O.Outside.calls c.args.outside.now) (g.O.Outside.calls c.bind_readers.new.outside)
+    (g.O.Outside.told c.args.outside.now) (g.O.Outside.told c.bind_readers.new.outside)
     c.in_err-bind_readers.field-0.0 (no_round c.args.schedule c.args.rounds (first_world task)) c.in_err-bind_readers.ensures.read_by_b_err c.in_err-bind_readers.ensures.read_by_a_err c.bind_readers.ensures.log c.in_err-bind_readers.ensures.puts.cut)
 
 pub returns-in_err-make_rounds-clause-cut : goal.returns-in_err-make_rounds-clause-cut
 returns-in_err-make_rounds-clause-cut g c =
     let p = err_from_is_err_and c.from_residual-in_err-make_rounds.result c.from_residual-in_err-make_rounds.ensures.1 in
     rw (p.1, p.2) (course_short c.args.input.now c.args.report c.args.run.now c.requires (as_line c.args.line.now)
-    (g.O.Outside.holds c.args.outside.now) (g.O.Outside.holds c.bind_readers.new.outside) (g.O.Outside.holds c.make_rounds.new.outside)
+    (g.O.Outside.told c.args.outside.now) (g.O.Outside.told c.bind_readers.new.outside) (g.O.Outside.told c.make_rounds.new.outside)
     (record { read_by_b = c.in_ok-bind_readers.ensures.read_by_b; read_by_a = c.in_ok-bind_readers.ensures.read_by_a; log = c.bind_readers.ensures.log })
-    (g.O.Outside.calls c.args.outside.now) (g.O.Outside.calls c.bind_readers.new.outside) (g.O.Outside.calls c.make_rounds.new.outside) c.in_ok-bind_readers.ensures.puts.made
+    c.in_ok-bind_readers.ensures.puts.made
     (course.rounds c.args.schedule c.args.rounds) c.in_err-make_rounds.field-0.0 c.in_err-make_rounds.ensures.cut)
 
 pub returns-in_err-make_rounds-clause-fault : goal.returns-in_err-make_rounds-clause-fault
 returns-in_err-make_rounds-clause-fault g c =
     let p = err_from_is_err_and c.from_residual-in_err-make_rounds.result c.from_residual-in_err-make_rounds.ensures.1 in
-    rw (p.1, p.2) (fault_after (g.O.Outside.port_faults c.args.outside.now) (g.O.Outside.port_faults c.bind_readers.new.outside) (g.O.Outside.port_faults c.make_rounds.new.outside)
+    rw (p.1, p.2) (fault_after (g.O.Outside.told c.args.outside.now).port_faults (g.O.Outside.told c.bind_readers.new.outside).port_faults (g.O.Outside.told c.make_rounds.new.outside).port_faults
     c.in_err-make_rounds.field-0.0 c.bind_readers.ensures.puts.only.counted c.in_err-make_rounds.ensures.fault)
 
 pub returns-clause-fault : goal.returns-clause-fault
 returns-clause-fault g c =
     IfErr-map c.end.result
-    (λ status fault. fault_after (g.O.Outside.port_faults c.args.outside.now) (g.O.Outside.port_faults c.make_rounds.new.outside) (g.O.Outside.port_faults c.end.new.outside) status
+    (λ status fault. fault_after (g.O.Outside.told c.args.outside.now).port_faults (g.O.Outside.told c.make_rounds.new.outside).port_faults (g.O.Outside.told c.end.new.outside).port_faults status
     (λ port. let first = c.bind_readers.ensures.puts.only.counted port in let second = c.make_rounds.ensures.only.counted port in omega (arith, first, second)) fault)
     c.end.ensures.puts.fault
 
@@ -47,10 +47,10 @@ pub returns-clause-ended : goal.returns-clause-ended
 returns-clause-ended g c =
     IfOk-and c.end.result
     (λ status is grew told. course_done c.args.input.now c.args.report c.args.run.now c.requires (as_line c.args.line.now)
-    (g.O.Outside.holds c.args.outside.now) (g.O.Outside.holds c.bind_readers.new.outside) (g.O.Outside.holds c.make_rounds.new.outside)
+    (g.O.Outside.told c.args.outside.now) (g.O.Outside.told c.bind_readers.new.outside) (g.O.Outside.told c.make_rounds.new.outside)
     (record { read_by_b = c.in_ok-bind_readers.ensures.read_by_b; read_by_a = c.in_ok-bind_readers.ensures.read_by_a; log = c.bind_readers.ensures.log })
-    (g.O.Outside.calls c.args.outside.now) (g.O.Outside.calls c.bind_readers.new.outside) (g.O.Outside.calls c.make_rounds.new.outside) c.in_ok-bind_readers.ensures.puts.made
-    (course.rounds c.args.schedule c.args.rounds) c.make_rounds.new.run.rounds c.make_rounds.new.run.world.state status (g.O.Outside.holds c.end.new.outside) (g.O.Outside.calls c.end.new.outside)
+    c.in_ok-bind_readers.ensures.puts.made
+    (course.rounds c.args.schedule c.args.rounds) c.make_rounds.new.run.rounds c.make_rounds.new.run.world.state status (g.O.Outside.told c.end.new.outside)
     c.in_ok-make_rounds.ensures.ok is
     (record {
       read_by_b = c.end.ensures.other_ports ReadByB b_isnt_log;
@@ -64,10 +64,10 @@ pub returns-clause-cut : goal.returns-clause-cut
 returns-clause-cut g c =
     IfErr-both c.end.result
     (λ status cut part. course_line_short c.args.input.now c.args.report c.args.run.now c.requires (as_line c.args.line.now)
-    (g.O.Outside.holds c.args.outside.now) (g.O.Outside.holds c.bind_readers.new.outside) (g.O.Outside.holds c.make_rounds.new.outside)
+    (g.O.Outside.told c.args.outside.now) (g.O.Outside.told c.bind_readers.new.outside) (g.O.Outside.told c.make_rounds.new.outside)
     (record { read_by_b = c.in_ok-bind_readers.ensures.read_by_b; read_by_a = c.in_ok-bind_readers.ensures.read_by_a; log = c.bind_readers.ensures.log })
-    (g.O.Outside.calls c.args.outside.now) (g.O.Outside.calls c.bind_readers.new.outside) (g.O.Outside.calls c.make_rounds.new.outside) c.in_ok-bind_readers.ensures.puts.made
-    (course.rounds c.args.schedule c.args.rounds) c.make_rounds.new.run.rounds c.make_rounds.new.run.world.state status (g.O.Outside.holds c.end.new.outside) (g.O.Outside.calls c.end.new.outside)
+    c.in_ok-bind_readers.ensures.puts.made
+    (course.rounds c.args.schedule c.args.rounds) c.make_rounds.new.run.rounds c.make_rounds.new.run.world.state status (g.O.Outside.told c.end.new.outside)
     c.in_ok-make_rounds.ensures.ok
     (record {
       read_by_b = c.end.ensures.other_ports ReadByB b_isnt_log;

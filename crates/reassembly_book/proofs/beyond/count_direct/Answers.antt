@@ -7,4 +7,4 @@ returns-then-gap-eq0-clause-free c =
     free-none _ c.args.beyond.now.places c.requires.gap (sym c.gap_len-gap.ensures.value ∙ c.if-gap-eq0.true)
 
 pub returns-clause-free : goal.returns-clause-free
-returns-clause-free c = free-gap _ c.args.beyond.now.places (omega (arith, c.min.ensures, c.from.ensures.value, c.gap_len-gap.ensures.value))
+returns-clause-free c = free-gap _ c.args.beyond.now.places (omega (arith, c.min.ensures, c.start.ensures.value, c.gap_len-gap.ensures.value))

@@ -8,11 +8,11 @@ use Rattle.run_outside.proofs.device.put.Goals as goal
 pub returns-in-Err-Failed-clause-puts : goal.returns-in-Err-Failed-clause-puts
 returns-in-Err-Failed-clause-puts g c =
     let failed = c.in-Err-Failed.ensures in
-    puts_first (call.Put c.args.port c.args.piece.now) _ _ _ _ _ _ _ refl (failed.failed (ap (λ f. Err f) c.in-Err-Failed.field-0-is)) (never_falls c.args.port _ _ c.put.ensures.counted c.put.ensures.other_counts) c.put.ensures.load_counts failed.recorded
+    puts_first (call.Put c.args.port c.args.piece.now) _ _ _ refl (failed.failed (ap (λ f. Err f) c.in-Err-Failed.field-0-is)) (never_falls c.args.port _ _ c.put.ensures.counted c.put.ensures.other_counts) c.put.ensures.load_counts failed.recorded
 
 pub returns-in-Err-Memory-clause-puts : goal.returns-in-Err-Memory-clause-puts
 returns-in-Err-Memory-clause-puts g c =
-    puts_first (call.Put c.args.port c.args.piece.now) _ _ _ _ _ _ _ tt tt (never_falls c.args.port _ _ c.put.ensures.counted c.put.ensures.other_counts) c.put.ensures.load_counts c.in-Err-Memory.ensures.recorded
+    puts_first (call.Put c.args.port c.args.piece.now) _ _ _ tt tt (never_falls c.args.port _ _ c.put.ensures.counted c.put.ensures.other_counts) c.put.ensures.load_counts c.in-Err-Memory.ensures.recorded
 
 pub returns-in-Err-Failed-clause-short : goal.returns-in-Err-Failed-clause-short
 returns-in-Err-Failed-clause-short g c = short_first (call.Put c.args.port c.args.piece.now) _ _ _ refl c.in-Err-Failed.ensures.recorded

@@ -24,12 +24,12 @@ returns-clause-loaded g c =
 pub returns-in_err-contents-clause-fault : goal.returns-in_err-contents-clause-fault
 returns-in_err-contents-clause-fault g c =
     let p = err_from_is_err_and c.from_residual.result c.from_residual.ensures.1 in
-    rw (p.1, p.2) (input_fault (g.O.Outside.content c.args.outside.now) (as_line c.args.line.now) _ _ c.in_err-contents.field-0.0 c.in_err-contents.ensures.fault)
+    rw (p.1, p.2) (input_fault (g.O.Outside.told c.args.outside.now).content (as_line c.args.line.now) _ _ c.in_err-contents.field-0.0 c.in_err-contents.ensures.fault)
 
 pub returns-in_err-contents-clause-loads : goal.returns-in_err-contents-clause-loads
 returns-in_err-contents-clause-loads g c =
     let p = err_from_is_err_and c.from_residual.result c.from_residual.ensures.1 in
-    rw (p.1, p.2) (loads_ended (first_loads (as_line c.args.line.now)) (first_loads (as_line c.args.line.now)) _ _ _ _ _ _ _ _ _ c.in_err-contents.field-0.0 c.load_contents.ensures.loads)
+    rw (p.1, p.2) (loads_ended (first_loads (as_line c.args.line.now)) (first_loads (as_line c.args.line.now)) _ _ _ c.in_err-contents.field-0.0 c.load_contents.ensures.loads)
 
 pub returns-clause-loads : goal.returns-clause-loads
-returns-clause-loads g c = loads_any (first_loads (as_line c.args.line.now)) _ _ _ _ _ _ _ _ _ c.input_of.result c.in_ok-contents.ensures.loads
+returns-clause-loads g c = loads_any (first_loads (as_line c.args.line.now)) _ _ _ c.input_of.result c.in_ok-contents.ensures.loads

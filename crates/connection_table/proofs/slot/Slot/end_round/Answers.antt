@@ -1,4 +1,4 @@
-use Rattle.connection_table.proofs.Words.{sym, ◌∙◌}
+use Rattle.std.proofs.Common.{sym, ◌∙◌}
 use Rattle.connection_table.proofs.Turned.{ended_kept}
 use Rattle.connection_table.proofs.slot.Slot.end_round.Goals as goal
 

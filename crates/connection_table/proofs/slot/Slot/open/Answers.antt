@@ -1,4 +1,5 @@
-use Rattle.connection_table.proofs.Words.{◌∙◌, ap, ◌-◌, arith, vec_capacity, vec_len}
+use Rattle.std.proofs.Common.{◌∙◌, ap, ◌-◌, arith}
+use Rattle.std.specs.Prelude.{vec_capacity, vec_len}
 use Rattle.connection_table.specs.Turns.{Turns}
 use Rattle.connection_table.proofs.Turned.{opened_kept}
 use Rattle.connection_table.proofs.slot.Slot.open.Goals as goal

@@ -1,4 +1,6 @@
-use Rattle.connection_table.proofs.Words.{sym, ◌∙◌, ap, [], ◌∷◌, ◌++◌, arith, Step, is_made}
+use Rattle.std.proofs.Common.{sym, ◌∙◌, ap, [], ◌∷◌, ◌++◌, arith}
+use Rattle.run_log.specs.declared.turn.Turn.TheVariants.{Step}
+use Rattle.world_core.specs.Steps.{is_made}
 use Rattle.connection_table.proofs.Turned.{made_kept}
 use Rattle.connection_table.proofs.slot.Slot.step.Goals as goal
 

@@ -1,5 +1,7 @@
-use Rattle.connection_table.proofs.Words.{sym, ◌∙◌, ap, subst, ℕ, [], ◌∷◌, ◌++◌, arith, err_from_is_err_and, Entry, key_token, opened_entry, holder_of, IsTable}
+use Rattle.std.proofs.Common.{sym, ◌∙◌, ap, subst, ℕ, [], ◌∷◌, ◌++◌, arith}
 use Rattle.std.specs.Prelude.{Err}
+use Rattle.std.proofs.lemmas.Result.{err_from_is_err_and}
+use Rattle.connection_table.specs.Tables.{Entry, IsTable, holder_of, key_token, opened_entry}
 use Rattle.connection_table.proofs.Holders.{table_admits, wants_memory}
 use Rattle.connection_table.proofs.table.ConnectionTable.admit.Goals as goal
 

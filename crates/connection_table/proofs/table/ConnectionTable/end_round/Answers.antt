@@ -1,4 +1,6 @@
-use Rattle.connection_table.proofs.Words.{◌≡◌, ap, length, arith, Entry, after_end, ends}
+use Rattle.std.proofs.Common.{◌≡◌, ap, length, arith}
+use Rattle.connection_table.specs.Steps.{after_end, ends}
+use Rattle.connection_table.specs.Tables.{Entry}
 use Rattle.connection_table.proofs.Changing.{changed_table, of_old, others, put_next}
 use Rattle.connection_table.proofs.table.ConnectionTable.end_round.Goals as goal
 

@@ -1,8 +1,13 @@
-use Rattle.connection_table.proofs.Words.{◌≡◌, ◌∙◌, ap, subst, ⊎_elim, length, arith, inr, inl, IsSomeAnd, IfOk-weaker, on_err_weaker, on_ok_weaker, OnOk-both}
-use Rattle.connection_table.proofs.Words.{is_going, StampRises, is_made, next_note, stepped_by, Entry, Stands, entry_at, with_entry, IsTable, home_of}
-use Rattle.connection_table.proofs.Words.{after_step, IsStopped}
-use Rattle.std.specs.Prelude.{slice_set}
+use Rattle.std.proofs.Common.{◌≡◌, ◌∙◌, ⊎_elim, inl, inr, ap, length, subst, arith}
+use Rattle.std.proofs.lemmas.Result.{IfOk-weaker, on_err_weaker, on_ok_weaker}
+use Rattle.std.specs.Prelude.{IsSomeAnd, slice_set}
+use Rattle.run_outside.proofs.PortsLemmas.{OnOk-both}
+use Rattle.world_core.specs.Steps.{StampRises, is_made, next_note, stepped_by}
+use Rattle.world_laws.specs.Worlds.{is_going}
 use Rattle.world_core.specs.declared.stepped.Stepped.{Stepped}
+use Rattle.connection_table.specs.Routes.{home_of}
+use Rattle.connection_table.specs.Steps.{IsStopped, after_step}
+use Rattle.connection_table.specs.Tables.{Entry, IsTable, Stands, entry_at, with_entry}
 use Rattle.connection_table.proofs.Changing.{changed_table, of_new, of_old, others, put_next, put_same}
 use Rattle.connection_table.proofs.Home.{short_stays_home}
 use Rattle.connection_table.proofs.table.ConnectionTable.step.Goals as goal

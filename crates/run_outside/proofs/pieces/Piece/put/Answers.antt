@@ -26,18 +26,18 @@ pub returns-in_err-put_text-clause-puts : goal.returns-in_err-put_text-clause-pu
 returns-in_err-put_text-clause-puts g c =
     let p = err_from_is_err_and c.from_residual.result c.from_residual.ensures.1 in
     rw (p.1, p.2) (puts_longer (put_of ReadByB c.args.self.now.read_by_b) (put_of ReadByA c.args.self.now.read_by_a ++ put_of Log c.args.self.now.lines)
-    _ _ _ _ _ _ c.in_err-put_text.field-0.0 c.in_err-put_text.ensures.puts)
+    _ _ c.in_err-put_text.field-0.0 c.in_err-put_text.ensures.puts)
 
 pub returns-in_err-put_text-2-clause-puts : goal.returns-in_err-put_text-2-clause-puts
 returns-in_err-put_text-2-clause-puts g c =
     let p = err_from_is_err_and c.from_residual-in_err-put_text-2.result c.from_residual-in_err-put_text-2.ensures.1 in
     rw (p.1, p.2) (puts_then (put_of ReadByB c.args.self.now.read_by_b) (put_of ReadByA c.args.self.now.read_by_a ++ put_of Log c.args.self.now.lines)
-    _ _ _ _ _ _ _ _ _ _ (Err c.in_err-put_text-2.field-0.0) c.in_ok-put_text.ensures.puts
-    (puts_longer (put_of ReadByA c.args.self.now.read_by_a) (put_of Log c.args.self.now.lines) _ _ _ _ _ _ c.in_err-put_text-2.field-0.0 c.in_err-put_text-2.ensures.puts))
+    _ _ _ _ (Err c.in_err-put_text-2.field-0.0) c.in_ok-put_text.ensures.puts
+    (puts_longer (put_of ReadByA c.args.self.now.read_by_a) (put_of Log c.args.self.now.lines) _ _ c.in_err-put_text-2.field-0.0 c.in_err-put_text-2.ensures.puts))
 
 pub returns-clause-puts : goal.returns-clause-puts
 returns-clause-puts g c =
     puts_then (put_of ReadByB c.args.self.now.read_by_b) (put_of ReadByA c.args.self.now.read_by_a ++ put_of Log c.args.self.now.lines)
-    _ _ _ _ _ _ _ _ _ _ c.put_text-3.result c.in_ok-put_text.ensures.puts
-    (puts_then (put_of ReadByA c.args.self.now.read_by_a) (put_of Log c.args.self.now.lines) _ _ _ _ _ _ _ _ _ _ c.put_text-3.result
+    _ _ _ _ c.put_text-3.result c.in_ok-put_text.ensures.puts
+    (puts_then (put_of ReadByA c.args.self.now.read_by_a) (put_of Log c.args.self.now.lines) _ _ _ _ c.put_text-3.result
     c.in_ok-put_text-2.ensures.puts c.put_text-3.ensures.puts)

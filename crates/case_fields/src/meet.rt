@@ -1,6 +1,6 @@
 //! A gate for tests, at which chosen actors meet.
 
-use crate::gate::Gate;
+use actor_turn::Gate;
 use sides::Object;
 use std::alloc::{AllocError, Global};
 use std::sync::atomic::{AtomicBool, Ordering};

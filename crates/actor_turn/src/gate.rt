@@ -1,3 +1,5 @@
+//! What the threads of a run pass on their way.
+
 use sides::Object;
 
 /// What the threads of a run pass on their way: a program's gate is open, a test's may hold some of them until
