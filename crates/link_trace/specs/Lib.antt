@@ -8,6 +8,7 @@ pub mod Carrying
 pub mod Places
 pub mod Rows
 pub mod FirstOctets
+pub mod Intervals
 pub mod Options
 pub mod Segments
 pub mod Lines

@@ -41,11 +41,11 @@ use Rattle.mptcp_view.specs.declared.asking.View.TheVariants.{Summary}
 use Rattle.mptcp_view.proofs.Refusing.{late, out_refused}
 
 -- the table of what a trace carries
-pub table_shown : {V E : Type 0} (items : V → List ℕ) (view : View) (script : Script) (w : WorldState (List ℕ)) (trace : List Sent) (rates : List Rates) (carried : List Carried)
+pub table_shown : {V E : Type 0} (items : V → List ℕ) (view : View) (script : Script) (w : WorldState (List ℕ)) (measured : List Rates) (trace : List Sent) (rates : List Rates) (carried : List Carried)
     → view ≡ Summary → rates ≡ rates_of w.crew → carried ≡ all_carried (base_in script) (initials_in script) trace
-    → (r : Result V E) → IfOk r (λ text. items text ≡ summary_of rates carried) → IfOk r (λ shown. IsViewFrom view script w trace (items shown))
-table_shown items view script w trace rates carried is rates_are carried_are (Err e) h = tt
-table_shown items view script w trace rates carried is rates_are carried_are (Ok text) h = rw (is, ← rates_are, ← carried_are) h
+    → (r : Result V E) → IfOk r (λ text. items text ≡ summary_of rates carried) → IfOk r (λ shown. IsViewFrom script w measured view trace (items shown))
+table_shown items view script w measured trace rates carried is rates_are carried_are (Err e) h = tt
+table_shown items view script w measured trace rates carried is rates_are carried_are (Ok text) h = rw (is, ← rates_are, ← carried_are) h
 
 -- the capture of what a side sees
 pub capture_shown : {V E : Type 0} (items : V → List ℕ) (side : Side) (script : Script) (end : ℕ) (told seen : List Sent) (lines : List PathLine) (count : ℕ) (put : List Sent) → lines ≡ script.paths
@@ -61,11 +61,11 @@ capture_shown items side script end told seen lines count put lines_are count_is
 )
 
 -- a view of segments that stand by tick
-pub shown_in_order : {V E : Type 0} (items : V → List ℕ) (view : View) (script : Script) (w : WorldState (List ℕ)) (trace told put : List Sent) → put ≡ told → AreByTick trace told
-    → (r : Result V E) → IfOk r (λ shown. IsViewFrom view script w put (items shown)) → IfOk r (λ shown. IsShownByTick view script w trace (items shown))
-shown_in_order items view script w trace told put same by_tick (Err e) h = tt
-shown_in_order items view script w trace told put same by_tick (Ok text) h =
-    (told, (by_tick, subst (λ (s : List Sent). IsViewFrom view script w s (items text)) same h))
+pub shown_in_order : {V E : Type 0} (items : V → List ℕ) (view : View) (script : Script) (w : WorldState (List ℕ)) (measured : List Rates) (trace told put : List Sent) → put ≡ told → AreByTick trace told
+    → (r : Result V E) → IfOk r (λ shown. IsViewFrom script w measured view put (items shown)) → IfOk r (λ shown. IsShownByTick script w measured view trace (items shown))
+shown_in_order items view script w measured trace told put same by_tick (Err e) h = tt
+shown_in_order items view script w measured trace told put same by_tick (Ok text) h =
+    (told, (by_tick, subst (λ (s : List Sent). IsViewFrom script w measured view s (items text)) same h))
 
 module _ (content : List ℕ → Option (List ℕ)) (asked : Asking) (name : List ℕ) (input : Input) (log : List ℕ) where
   pub are_inputs : asked.line.work ≡ replay name → AreWithinLimits content asked.line

@@ -1,4 +1,4 @@
-//! Shows a run: `mptcp_view capture|summary|picture|text SCRIPT FILE_A FILE_B LOG OUT` makes the steps of a log again, and writes
+//! Shows a run: `mptcp_view capture|rates|summary|picture|text SCRIPT FILE_A FILE_B LOG OUT` makes the steps of a log again, and writes
 //! what was sent on each path to OUT; `capture --at a` and `capture --at b`, what passes the interfaces of one side. Behind a first word
 //! `messages` the log is that of a run of messages.
 #![tactic(auto)]
@@ -32,7 +32,7 @@ fn renamed(alloc: Global, status: &Status) -> Result<String, AllocError> {
 fn fault_line(alloc: Global, status: &Status) -> Result<String, AllocError> {
     let line = match status {
         Status::Usage => {
-            "mptcp_view: usage: [messages] capture [--at a|b]|summary|picture|text SCRIPT FILE_A FILE_B LOG OUT"
+            "mptcp_view: usage: [messages] capture [--at a|b]|rates|summary|picture|text [--absolute] SCRIPT FILE_A FILE_B LOG OUT"
         }
         Status::Load {
             input: Named::Order,
