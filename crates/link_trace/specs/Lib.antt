@@ -12,8 +12,10 @@ pub mod Intervals
 pub mod Options
 pub mod Segments
 pub mod Lines
+pub mod Numbers
 pub mod Marks
-pub mod Pictures
+pub mod Panels
 pub mod Strokes
+pub mod Pictures
 pub mod Tables
 pub mod Ticks

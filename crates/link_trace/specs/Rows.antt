@@ -36,11 +36,6 @@ below from len edge = min (edge - from) len
 abbrev pub end_of : Carried → ℕ
 end_of c = c.position + c.len
 
--- the place behind a segment's payload
-abbrev pub reach : Option ℕ → ℕ → ℕ
-reach None len = 0
-reach (Some place) len = if len == 0 then 0 else place + len
-
 -- ---- octets of a path by whether they were sent before
 
 -- Of the octets of a segment at places that the direction carried before, so many, those at positions below the path's edge are

@@ -2,7 +2,7 @@
 
 ghost use Rattle.std.specs.Prelude.{◌≡◌, ◌-◌, ◌++◌, ◌∷◌, [], filter, length, IfOk, OnOk};
 ghost use Rattle.sides.specs.declared.side.Side.TheVariants.{A, B};
-ghost use Rattle.link_trace.specs.Rows.{again_by, below, capped, count_in, edge_behind, end_of, fresh_by, goodput, if_from, is_from, is_on, last_tick, lost_of, moved_by, octets_of, reach, row_of, rows_of, shares_of, tick_at, total_from};
+ghost use Rattle.link_trace.specs.Rows.{again_by, below, capped, count_in, edge_behind, end_of, fresh_by, goodput, if_from, is_from, is_on, last_tick, lost_of, moved_by, octets_of, row_of, rows_of, shares_of, tick_at, total_from};
 
 use crate::carried::Carried;
 use crate::places::{carry, repeated};
@@ -134,22 +134,6 @@ fn end_of(carried: &Carried) -> u64
     ensures { result ≡ end_of carried.now }
 {
     u64::from(carried.position) + u64::from(carried.len)
-}
-
-/// The place behind a segment's payload.
-pub fn reach(place: Option<u32>, len: u32) -> u64
-    ensures { result ≡ reach place len }
-{
-    match place {
-        None => 0,
-        Some(place) => {
-            if len == 0 {
-                0
-            } else {
-                u64::from(place) + u64::from(len)
-            }
-        }
-    }
 }
 
 /// Octets of a segment of this path that are sent again, where so many stand at places that were carried before.

@@ -5,6 +5,7 @@
 
 mod asking;
 mod cutting;
+mod deaths;
 mod messages;
 mod showing;
 mod telling;

@@ -18,16 +18,17 @@ ghost use Rattle.world_core.specs.Logged.{all_turns};
 ghost use Rattle.world_laws.specs.Worlds.{AreLawful};
 ghost use Rattle.mptcp_view.specs.Asking.{as_asked, asked_in};
 ghost use Rattle.mptcp_view.specs.Telling.{untold};
-ghost use Rattle.mptcp_view.specs.Views.{HoldsCut, IsBeforeOut, IsCaptureAt, IsOutFault, IsShownByTick, IsTurnsFault, IsUntold, IsViewAnswer, IsViewFault, IsViewFrom, IsViewOf, Shows, base_in, data_in, end_of, first_world, out_calls, stopped_at};
+ghost use Rattle.mptcp_view.specs.Views.{HoldsCut, IsBeforeOut, IsCaptureAt, IsOutFault, IsPictureOf, IsShownByTick, IsTurnsFault, IsUntold, IsViewAnswer, IsViewFault, IsViewFrom, IsViewOf, Shows, base_in, data_in, end_of, first_world, out_calls, stopped_at};
 
 use crate::asking::{Asked, DataNumbers, View, asked_by};
 use crate::cutting::{Extent, ReadLog, read_shown};
+use crate::deaths::deaths_in;
 use crate::telling::untold;
 use key_material::idsn;
-use link_script::{Script, ScriptLine};
+use link_script::Script;
 use link_trace::{
-    Base, Carried, Death, InitialData, Rates, Sent, all_carried, capture, lines, picture,
-    put_by_tick, rates, seen_at, summary,
+    Base, Carried, InitialData, Rates, Sent, all_carried, capture, lines, picture, put_by_tick,
+    rates, seen_at, summary,
 };
 use outside_kit::{Outside, Port, PutFault};
 use path_core::key_of;
@@ -52,31 +53,6 @@ fn carried_in(alloc: Global, script: &Script, trace: &[Sent]) -> Result<Vec<Carr
 {
     let initials = initials_in(alloc, script)?;
     all_carried(alloc, &base_in(script), &initials, trace)
-}
-
-/// The death that a line of the script tells, where it came: where the clock of its path reached its tick.
-fn death_in(world: &World, line: &ScriptLine) -> Option<Death> {
-    let ScriptLine::Die { path, tick } = *line else {
-        return None;
-    };
-    // The actors 0 and 1 are the applications.
-    let path_actor = world.path(path.checked_add(2)?)?;
-    if tick <= path_actor.tick() {
-        Some(Death { path, tick })
-    } else {
-        None
-    }
-}
-
-/// The deaths by the script that came in a run, which ended with this world.
-fn deaths_in(alloc: Global, world: &World, lines: &[ScriptLine]) -> Result<Vec<Death>, AllocError> {
-    let mut deaths = Vec::new(alloc);
-    for line in lines {
-        if let Some(death) = death_in(world, line) {
-            deaths.push(death)?;
-        }
-    }
-    Ok(deaths)
 }
 
 /// The initial data sequence numbers of both sides, where data numbers are told from these.
@@ -117,6 +93,21 @@ fn capture_at(
     capture(alloc, side, paths.len(), &seen)
 }
 
+/// The picture of these segments of a run of this script, which ended with this world.
+fn picture_at(
+    alloc: Global,
+    script: &Script,
+    world: &World,
+    told: &[Sent],
+) -> Result<Vec<u8>, AllocError>
+    ensures { IfOk result (λ shown.
+        IsPictureOf script.now world.now.state told.now shown.items) }
+{
+    let deaths = deaths_in(alloc, world, script.lines.as_slice())?;
+    let carried = carried_in(alloc, script, told)?;
+    picture(alloc, script.paths.as_slice().len(), &deaths, &carried)
+}
+
 /// A view of these segments of a run of this script, which ended with this world.
 fn shown(
     alloc: Global,
@@ -141,11 +132,7 @@ fn shown(
             let carried = carried_in(alloc, script, told)?;
             summary(alloc, &rates_of(alloc, world)?, &carried)
         }
-        View::Picture => {
-            let carried = carried_in(alloc, script, told)?;
-            let deaths = deaths_in(alloc, world, script.lines.as_slice())?;
-            picture(alloc, paths, &deaths, &carried)
-        }
+        View::Picture => picture_at(alloc, script, world, told),
         View::Text(numbers) => lines(alloc, script.checksum, data_in(numbers, script), told),
     }
 }
