@@ -10,6 +10,14 @@ answer() {
     exit "$1"
 }
 
+# What `--version` prints: the commit of the sources, and the kit that proves and builds them, as far as these are known.
+print_version() {
+    local commit kit
+    commit=$(git -C "$top" rev-parse --short=12 HEAD 2>/dev/null) || commit=unknown
+    kit=$(rt version 2>/dev/null) || kit=unknown
+    printf '%s\ncommit: %s\nkit: %s\n' "$name" "$commit" "$kit"
+}
+
 # Whether the proved program is there, and no source is newer.
 is_current() {
     [ -x "$program" ] || return 1

@@ -1,5 +1,5 @@
-//! What was sent on the links of a run, and four views of it: a line for each segment, a capture, a table by path and direction, a
-//! picture.
+//! What was sent on the links of a run, and five views of it: a line for each segment, a capture, a table by path and direction, one
+//! by 100 ticks too, a picture.
 //!
 //! A line has the segment in the words of tcpdump: its flags, its numbers, its window in octets, its options by name, the length of its
 //! payload. Numbers of sequence are relative to those of the SYNs, as far as these are known, and data numbers to the initial ones, where
