@@ -1,5 +1,5 @@
 -- One stream in a picture: a title, what each path carries of it, two axes, and its marks. A stream without payload is a sentence.
-use Rattle.std.specs.Prelude.{ℕ, zero, suc, ◌+◌, ◌-◌, ◌*◌, ◌/◌, ◌%◌, ◌==◌, nat_lt, min, max, if◌then◌else◌, List, [], ◌∷◌, ◌++◌, codes}
+use Rattle.std.specs.Prelude.{ℕ, zero, suc, ◌+◌, ◌-◌, ◌*◌, ◌/◌, ◌%◌, ◌==◌, nat_lt, min, max, if◌then◌else◌, List, [], ◌∷◌, ◌++◌, length, codes}
 use Rattle.std.specs.Fmt.{decimal}
 use Rattle.std.specs.List.{flat_map}
 use Rattle.sides.specs.declared.side.Side.{Side}
@@ -157,10 +157,9 @@ panel_words block scale deaths strokes dots =
     ++ flat_map (death_words scale) deaths)))
 
 abbrev pub block_words : Block → ℕ → List Death → List Stroke → List Dot → List ℕ
-block_words block ticks deaths [] dots = sentence_words block
-block_words block ticks deaths (s ∷ strokes) dots = panel_words block (scale_of block ticks (s ∷ strokes)) deaths (s ∷ strokes) dots
+block_words block ticks deaths strokes dots =
+    if length strokes == 0 then sentence_words block else panel_words block (scale_of block ticks strokes) deaths strokes dots
 
 -- how high it is
 abbrev pub height_of : ℕ → List Stroke → ℕ
-height_of paths [] = 400
-height_of paths (s ∷ strokes) = 4610 + 200 * key_rows paths
+height_of paths strokes = if length strokes == 0 then 400 else 4610 + 200 * key_rows paths

@@ -11,25 +11,8 @@ use crate::strokes::{Dot, Stroke, dots_of, strokes_of};
 use sides::Side;
 use std::alloc::{AllocError, Global};
 
-/// The octets that a picture has at most.
-const MOST: usize = 2_097_152;
-
-const LEGEND: &str =
-    "<path fill=\"none\" stroke=\"#000000\" stroke-width=\"24\" stroke-linecap=\"round\" d=\"M920 230V110\"/>
-<text x=\"1000\" y=\"220\">payload</text>
-<path fill=\"#ffffff\" stroke=\"#000000\" stroke-width=\"10\" d=\"M2000 230h40V110h-40z\"/>
-<text x=\"2100\" y=\"220\">sent again, or moved</text>
-<path fill=\"none\" stroke=\"#d62728\" stroke-width=\"30\" d=\"M4300 130l80 80m0 -80l-80 80\"/>
-<text x=\"4460\" y=\"220\">lost</text>
-<path fill=\"none\" stroke=\"#808080\" stroke-width=\"12\" d=\"M5400 230h100V170h100V110h100\"/>
-<text x=\"5780\" y=\"220\">acknowledged (Data ACK)</text>
-";
-
 const TOO_MANY: &str =
-    "<svg xmlns=\"http://www.w3.org/2000/svg\" viewBox=\"0 0 10000 400\" width=\"1000\" height=\"40\" font-family=\"sans-serif\" font-size=\"200\">
-<text x=\"900\" y=\"200\">too many segments are lost for a picture</text>
-</svg>
-";
+    "<svg xmlns=\"http://www.w3.org/2000/svg\" viewBox=\"0 0 10000 400\" width=\"1000\" height=\"40\" font-family=\"sans-serif\" font-size=\"200\">\n<text x=\"900\" y=\"200\">too many segments are lost for a picture</text>\n</svg>\n";
 
 /// What a picture shows of a stream.
 #[derive(Drop)]
@@ -57,10 +40,22 @@ fn put_head(text: &mut String, height: u16) -> Result<(), AllocError>
     )
 }
 
+/// Puts what the marks mean.
 fn put_legend(text: &mut String) -> Result<(), AllocError>
     ensures { OnOk result (string_bytes text.new ≡ string_bytes text.old ++ legend_words) }
 {
-    text.push_str(LEGEND)
+    text.push_str(
+        "<path fill=\"none\" stroke=\"#000000\" stroke-width=\"24\" stroke-linecap=\"round\" d=\"M920 230V110\"/>\n<text x=\"1000\" y=\"220\">payload</text>\n",
+    )?;
+    text.push_str(
+        "<path fill=\"#ffffff\" stroke=\"#000000\" stroke-width=\"10\" d=\"M2000 230h40V110h-40z\"/>\n<text x=\"2100\" y=\"220\">sent again, or moved</text>\n",
+    )?;
+    text.push_str(
+        "<path fill=\"none\" stroke=\"#d62728\" stroke-width=\"30\" d=\"M4300 130l80 80m0 -80l-80 80\"/>\n<text x=\"4460\" y=\"220\">lost</text>\n",
+    )?;
+    text.push_str(
+        "<path fill=\"none\" stroke=\"#808080\" stroke-width=\"12\" d=\"M5400 230h100V170h100V110h100\"/>\n<text x=\"5780\" y=\"220\">acknowledged (Data ACK)</text>\n",
+    )
 }
 
 /// The picture of both streams: of so many paths, every so many-th segment is drawn, these died, over so many ticks.
@@ -116,19 +111,36 @@ fn drawn(
     Ok(text.into_bytes())
 }
 
-/// Of a stream the segments that are lost, and every so many-th of the others.
-fn thinned(alloc: Global, every: usize, stream: &Stream) -> Result<Stream, AllocError> {
-    let (mut strokes, mut dots) = (Vec::new(alloc), Vec::new(alloc));
-    for (index, stroke) in stream.strokes.iter().enumerate() {
+/// The payloads that are lost, and every so many-th of the others.
+fn some_strokes(
+    alloc: Global,
+    every: usize,
+    strokes: &[Stroke],
+) -> Result<Vec<Stroke>, AllocError> {
+    let mut some = Vec::new(alloc);
+    for (index, stroke) in strokes.iter().enumerate() {
         if stroke.lost || index % every.max(1) == 0 {
-            strokes.push(*stroke)?;
+            some.push(*stroke)?;
         }
     }
-    for (index, dot) in stream.dots.iter().enumerate() {
+    Ok(some)
+}
+
+/// Every so many-th Data ACK.
+fn some_dots(alloc: Global, every: usize, dots: &[Dot]) -> Result<Vec<Dot>, AllocError> {
+    let mut some = Vec::new(alloc);
+    for (index, dot) in dots.iter().enumerate() {
         if index % every.max(1) == 0 {
-            dots.push(*dot)?;
+            some.push(*dot)?;
         }
     }
+    Ok(some)
+}
+
+/// Some of a stream.
+fn thinned(alloc: Global, every: usize, stream: &Stream) -> Result<Stream, AllocError> {
+    let strokes = some_strokes(alloc, every, &stream.strokes)?;
+    let dots = some_dots(alloc, every, &stream.dots)?;
     Ok(Stream { strokes, dots })
 }
 
@@ -156,7 +168,7 @@ fn drawn_in_part(
         thinned(alloc, every, from_b)?,
     );
     let text = drawn(alloc, paths, every, deaths, ticks, &some_a, &some_b)?;
-    if text.len() <= MOST {
+    if text.len() <= 2_097_152 {
         return Ok(text);
     }
     Ok(String::from_str(alloc, TOO_MANY)?.into_bytes())
@@ -173,6 +185,24 @@ fn last_death(deaths: &[Death]) -> u64
     last
 }
 
+/// The whole picture where it has room, or some of it.
+fn fitted(
+    alloc: Global,
+    paths: usize,
+    deaths: &[Death],
+    ticks: u64,
+    from_a: &Stream,
+    from_b: &Stream,
+    whole: Vec<u8>,
+) -> Result<Vec<u8>, AllocError>
+    ensures { IfOk result (λ text. IsPicture whole.items text.items) }
+{
+    if whole.len() <= 2_097_152 {
+        return Ok(whole);
+    }
+    drawn_in_part(alloc, paths, deaths, ticks, from_a, from_b)
+}
+
 /// The picture of what a trace carries over so many paths, of which these died: a panel for each stream that has payload, a sentence for
 /// another one. It has 2 MiB at most, and shows each segment where that is enough; else every so many-th, and all that are lost.
 pub fn picture(
@@ -186,9 +216,6 @@ pub fn picture(
     let ticks = last_tick(carried).max(last_death(deaths));
     let from_a = stream_of(alloc, Side::A, carried)?;
     let from_b = stream_of(alloc, Side::B, carried)?;
-    let text = drawn(alloc, paths, 1, deaths, ticks, &from_a, &from_b)?;
-    if text.len() <= MOST {
-        return Ok(text);
-    }
-    drawn_in_part(alloc, paths, deaths, ticks, &from_a, &from_b)
+    let whole = drawn(alloc, paths, 1, deaths, ticks, &from_a, &from_b)?;
+    fitted(alloc, paths, deaths, ticks, &from_a, &from_b, whole)
 }

@@ -230,11 +230,11 @@ fn put_stair(text: &mut String, scale: &Scale, top: u32, dot: &Dot) -> Result<()
     ensures { OnOk result (string_bytes text.new ≡
         string_bytes text.old ++ stair_of scale.now top dot.now) }
 {
-    if top >= dot.place {
-        return Ok(());
+    if top < dot.place {
+        let (x, y) = (scale.x(dot.tick), scale.y(u64::from(dot.place)));
+        return write!(text, "H{x}V{y}");
     }
-    let (x, y) = (scale.x(dot.tick), scale.y(u64::from(dot.place)));
-    write!(text, "H{x}V{y}")
+    Ok(())
 }
 
 fn put_each_stair(text: &mut String, scale: &Scale, dots: &[Dot]) -> Result<(), AllocError>

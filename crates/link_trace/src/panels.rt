@@ -55,10 +55,10 @@ fn put_heading(text: &mut String, block: &Block) -> Result<(), AllocError>
 fn put_part(text: &mut String, every: usize) -> Result<(), AllocError>
     ensures { OnOk result (string_bytes text.new ≡ string_bytes text.old ++ part_words every) }
 {
-    if every <= 1 {
-        return Ok(());
+    if every > 1 {
+        return write!(text, ", 1 of {every} segments");
     }
-    write!(text, ", 1 of {every} segments")
+    Ok(())
 }
 
 /// Puts how many octets go in how many ticks.
