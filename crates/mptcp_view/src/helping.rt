@@ -165,7 +165,7 @@ fn put_fault(text: &mut String, fault: &Fault<'_>) -> Result<(), AllocError> {
 /// Of a line whose words or numbers are refused.
 fn put_form(text: &mut String, line: &[u8]) -> Result<(), AllocError> {
     let (keyword, behind) = split_at_first(line, b' ');
-    let is_joined = line.windows(6).any(|part| part == b" join ");
+    let is_joined = line.windows(6).any(|part| part == b" join ".as_slice());
     let Some(form) = form_of(keyword, is_joined) else {
         text.push_str("column 1: no line begins with ")?;
         return put_word(text, keyword);
