@@ -1,6 +1,6 @@
 -- Sums that stand still at their end.
-use Rattle.std.proofs.Common.{◌≡◌, ◌∙◌, refl, ap, ℕ, zero, suc, ◌+◌, ◌-◌, ◌*◌, ◌^◌, ◌<◌, ◌≤◌, ◌⊎◌, inl, inr, min, Bool, List, [], drop, length, arith}
-use Rattle.std.proofs.Math.Nat.{suc-mul}
+use Rattle.std.proofs.Common.{◌≡◌, ◌∙◌, sym, ap, ℕ, zero, suc, ◌+◌, ◌-◌, ◌*◌, ◌^◌, ◌<◌, ◌≤◌, ◌⊎◌, inl, inr, min, Bool, List, [], drop, length, arith}
+use Rattle.std.proofs.Math.Nat.{suc-mul, zero-mul}
 use Rattle.std.proofs.lemmas.Bool.{cases_lt}
 use Rattle.std.proofs.lemmas.List.{at_drop_all}
 use Rattle.range_marks.specs.Marks.{Marks, no_marks}
@@ -14,7 +14,7 @@ capped_more sum term rest = omega arith
 
 -- of a factor that stands still at its end
 pub capped_product : (window factor : ℕ) → capped (window * capped factor) ≡ capped (window * factor)
-capped_product zero factor = refl
+capped_product zero factor = ap capped (zero-mul (capped factor) ∙ sym (zero-mul factor))
 capped_product (suc n) factor = let few = suc-mul n (capped factor) in let many = suc-mul n factor in by (cases_lt factor (2 ^ 64)) few many
   where
     by : (factor < 2 ^ 64) ⊎ (2 ^ 64 ≤ factor) → suc n * capped factor ≡ n * capped factor + capped factor → suc n * factor ≡ n * factor + factor

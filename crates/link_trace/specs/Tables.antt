@@ -83,11 +83,14 @@ abbrev pub all_place : Side → List Carried → List ℕ
 all_place side direction =
     codes " all" ++ (way_column side ++ (optional_column (tick_at 0 direction) ++ optional_column (tick_at (length direction - 1) direction)))
 
+-- no end's measures, and how many bits in a second are new; the row ends with LF
+abbrev pub all_measures : ℕ → ℕ → List ℕ
+all_measures ticks fresh = (no_column ++ no_column) ++ (goodput_column (goodput fresh ticks) ++ 10 ∷ [])
+
 -- all rows of a direction together
 abbrev pub all_words : Side → ℕ → List Carried → List Row → List ℕ
 all_words side ticks direction rows =
-    all_place side direction ++ (counts_columns (totals_of side rows) ++ ((no_column ++ no_column)
-    ++ (goodput_column (goodput (totals_of side rows).fresh ticks) ++ 10 ∷ [])))
+    all_place side direction ++ (counts_columns (totals_of side rows) ++ all_measures ticks (totals_of side rows).fresh)
 
 abbrev pub total_words : ℕ → List Carried → List Row → List ℕ
 total_words ticks cs rows =

@@ -3,7 +3,7 @@
 ghost use Rattle.std.specs.Prelude.{◌≡◌, ◌++◌, ◌∷◌, [], IfOk, OnOk, string_bytes};
 ghost use Rattle.std.specs.List.{flat_map};
 ghost use Rattle.link_trace.specs.Rows.{rows_of};
-ghost use Rattle.link_trace.specs.Tables.{aligned, all_place, all_words, column, counts_columns, counts_of, first_columns, goodput_column, head_words, optional_column, place_columns, rate_columns, row_words, summary_of, table_words, total_words, totals_of, way_column};
+ghost use Rattle.link_trace.specs.Tables.{aligned, all_measures, all_place, all_words, column, counts_columns, counts_of, first_columns, goodput_column, head_words, optional_column, place_columns, rate_columns, row_words, summary_of, table_words, total_words, totals_of, way_column};
 
 use crate::carried::Carried;
 use crate::rows::{
@@ -166,6 +166,16 @@ fn put_all_place(text: &mut String, side: Side, direction: &[Carried]) -> Result
     put_optional(text, final_tick(direction))
 }
 
+/// Puts no end's measures, and the goodput of so many octets.
+fn put_all_measures(text: &mut String, ticks: u64, fresh: u64) -> Result<(), AllocError>
+    ensures { OnOk result (string_bytes text.new ≡
+        string_bytes text.old ++ all_measures ticks fresh) }
+{
+    write!(text, "         -         -")?;
+    put_goodput(text, goodput(fresh, ticks))?;
+    writeln!(text)
+}
+
 /// The row of all paths of a direction, in a run of so many ticks.
 fn put_all(
     text: &mut String,
@@ -180,9 +190,7 @@ fn put_all(
     let totals = totals_of(side, rows);
     put_all_place(text, side, direction)?;
     put_counts(text, &totals)?;
-    write!(text, "         -         -")?;
-    put_goodput(text, goodput(totals.fresh, ticks))?;
-    writeln!(text)
+    put_all_measures(text, ticks, totals.fresh)
 }
 
 fn put_totals(
