@@ -1,5 +1,7 @@
 -- Sums that stand still at their end.
-use Rattle.std.proofs.Common.{◌≡◌, ◌∙◌, ap, ℕ, ◌+◌, ◌-◌, ◌^◌, ◌<◌, ◌≤◌, min, Bool, List, [], drop, length, arith}
+use Rattle.std.proofs.Common.{◌≡◌, ◌∙◌, sym, ap, ℕ, zero, suc, ◌+◌, ◌-◌, ◌*◌, ◌^◌, ◌<◌, ◌≤◌, ◌⊎◌, inl, inr, min, Bool, List, [], drop, length, arith}
+use Rattle.std.proofs.Math.Nat.{suc-mul, zero-mul}
+use Rattle.std.proofs.lemmas.Bool.{cases_lt}
 use Rattle.std.proofs.lemmas.List.{at_drop_all}
 use Rattle.range_marks.specs.Marks.{Marks, no_marks}
 use Rattle.link_trace.specs.declared.carried.Carried.{Carried}
@@ -9,6 +11,16 @@ use Rattle.link_trace.specs.Rows.{again_behind, capped, fresh_behind, moved_behi
 -- a term more
 pub capped_more : (sum term rest : ℕ) → capped (capped (sum + term) + rest) ≡ capped (sum + (term + rest))
 capped_more sum term rest = omega arith
+
+-- of a factor that stands still at its end
+pub capped_product : (window factor : ℕ) → capped (window * capped factor) ≡ capped (window * factor)
+capped_product zero factor = ap capped (zero-mul (capped factor) ∙ sym (zero-mul factor))
+capped_product (suc n) factor = let few = suc-mul n (capped factor) in let many = suc-mul n factor in by (cases_lt factor (2 ^ 64)) few many
+  where
+    by : (factor < 2 ^ 64) ⊎ (2 ^ 64 ≤ factor) → suc n * capped factor ≡ n * capped factor + capped factor → suc n * factor ≡ n * factor + factor
+        → capped (suc n * capped factor) ≡ capped (suc n * factor)
+    by (inl below) few many = let same : capped factor ≡ factor = omega (arith, below) in ap (λ (f : ℕ). capped (suc n * f)) same
+    by (inr above) few many = omega (arith, above, few, many)
 
 abbrev shares : ℕ → ℕ → ℕ → Shares
 shares again moved fresh = record { again = again; moved = moved; fresh = fresh }

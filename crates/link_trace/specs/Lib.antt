@@ -8,11 +8,14 @@ pub mod Carrying
 pub mod Places
 pub mod Rows
 pub mod FirstOctets
+pub mod Intervals
 pub mod Options
 pub mod Segments
 pub mod Lines
+pub mod Numbers
 pub mod Marks
-pub mod Pictures
+pub mod Panels
 pub mod Strokes
+pub mod Pictures
 pub mod Tables
 pub mod Ticks

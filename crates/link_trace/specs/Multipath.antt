@@ -1,6 +1,6 @@
 -- The options of Multipath TCP in words (RFC 8684, section 3): names and fields as tcpdump's print-mptcp.c has them, numbers of
 -- fields in decimal, keys, tokens, nonces, HMACs and checksums in hexadecimal.
-use Rattle.std.specs.Prelude.{ℕ, Bool, true, false, if◌then◌else◌, Option, Some, None, List, [], ◌∷◌, ◌++◌, codes}
+use Rattle.std.specs.Prelude.{ℕ, ◌+◌, ◌-◌, ◌%◌, ◌^◌, Bool, true, false, if◌then◌else◌, Option, Some, None, List, [], ◌∷◌, ◌++◌, codes}
 use Rattle.std.specs.Fmt.{decimal, digits}
 use Rattle.std.specs.List.{flat_map}
 use Rattle.hex.specs.Hex.{encode_lower}
@@ -15,6 +15,7 @@ use Rattle.mptcp_options.specs.declared.dss.DataNumber.TheVariants.{Whole, Low}
 use Rattle.mptcp_options.specs.declared.dss.DssMap.{DssMap}
 use Rattle.mptcp_options.specs.Value as wire
 use Rattle.std.specs.Prelude.{slice_index}
+use Rattle.link_trace.specs.declared.multipath.DataInitials.{DataInitials}
 
 -- a number in lower-case digits behind `0x`
 abbrev pub hexadecimal : ℕ → List ℕ
@@ -61,26 +62,32 @@ join_words (join.Third hmac) = codes "join" ++ third_words hmac
 
 -- ---- DSS
 
--- a data number, as wide as it stands
-abbrev pub number_words : DataNumber → ℕ
-number_words (Whole number) = number
-number_words (Low low) = low
+abbrev pub low_half : ℕ → ℕ
+low_half number = number % 2 ^ 32
+
+-- a data number relative to the initial one, as wide as it stands; or as it stands, where there is none
+abbrev pub number_told : Option ℕ → DataNumber → ℕ
+number_told None (Whole number) = number
+number_told None (Low low) = low
+number_told (Some initial) (Whole number) = (number + (2 ^ 64 - initial)) % 2 ^ 64
+number_told (Some initial) (Low low) = (low + (2 ^ 32 - low_half initial)) % 2 ^ 32
 
 -- the Data ACK, where there is one
-abbrev pub ack_words : Option DataNumber → List ℕ
-ack_words None = []
-ack_words (Some number) = codes " ack " ++ decimal (number_words number)
+abbrev pub ack_words : Option ℕ → Option DataNumber → List ℕ
+ack_words initial None = []
+ack_words initial (Some number) = codes " ack " ++ decimal (number_told initial number)
 
 -- the mapping, where there is one
-abbrev pub mapping_words : Option DssMap → List ℕ
-mapping_words None = []
-mapping_words (Some map) =
-    codes " seq " ++ decimal (number_words map.number) ++ codes " subseq " ++ decimal map.relative
+abbrev pub mapping_words : Option ℕ → Option DssMap → List ℕ
+mapping_words initial None = []
+mapping_words initial (Some map) =
+    codes " seq " ++ decimal (number_told initial map.number) ++ codes " subseq " ++ decimal map.relative
     ++ codes " len " ++ decimal map.length ++ optional_checksum map.checksum
 
--- `fin` where flag F is set
-abbrev pub dss_words : Option DataNumber → Option DssMap → Bool → List ℕ
-dss_words ack mapping fin = codes "dss" ++ word_if fin (codes " fin") ++ ack_words ack ++ mapping_words mapping
+-- `fin` where flag F is set; a Data ACK counts from the number of the peer's stream, a mapping from that of the own one
+abbrev pub dss_words : DataInitials → Option DataNumber → Option DssMap → Bool → List ℕ
+dss_words initials ack mapping fin =
+    codes "dss" ++ word_if fin (codes " fin") ++ ack_words initials.peer ack ++ mapping_words initials.own mapping
 
 -- ---- addresses
 
@@ -129,15 +136,15 @@ abbrev pub fast_close_words : ℕ → List ℕ
 fast_close_words key = codes "fast-close" ++ key_told key
 
 -- an option by its name and fields
-abbrev pub value_words : wire.OptionValue → List ℕ
-value_words (wire.Capable flag_a flag_c keys) = capable_words flag_a keys
-value_words (wire.Join form) = join_words form
-value_words (wire.Dss ack mapping fin) = dss_words ack mapping fin
-value_words (wire.AddAddr echo id address port hmac) =
+abbrev pub value_words : DataInitials → wire.OptionValue → List ℕ
+value_words initials (wire.Capable flag_a flag_c keys) = capable_words flag_a keys
+value_words initials (wire.Join form) = join_words form
+value_words initials (wire.Dss ack mapping fin) = dss_words initials ack mapping fin
+value_words initials (wire.AddAddr echo id address port hmac) =
     codes "add-addr" ++ word_if echo (codes " echo") ++ codes " id " ++ decimal id ++ announced_words address port hmac
-value_words (wire.RemoveAddr ids) = removed_words ids
-value_words (wire.Prio backup) = codes "prio" ++ word_if backup (codes " backup")
-value_words (wire.Fail number) = codes "fail seq " ++ decimal number
-value_words (wire.FastClose key) = fast_close_words key
-value_words (wire.Reset transient reason) =
+value_words initials (wire.RemoveAddr ids) = removed_words ids
+value_words initials (wire.Prio backup) = codes "prio" ++ word_if backup (codes " backup")
+value_words initials (wire.Fail number) = codes "fail seq " ++ decimal number
+value_words initials (wire.FastClose key) = fast_close_words key
+value_words initials (wire.Reset transient reason) =
     codes "rst" ++ word_if transient (codes " transient") ++ codes " reason " ++ decimal reason

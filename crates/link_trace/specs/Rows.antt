@@ -4,6 +4,8 @@ use Rattle.sides.specs.declared.side.Side.{Side}
 use Rattle.sides.specs.declared.side.Side.TheVariants.{A, B}
 use Rattle.link_script.specs.Places.{same_side}
 use Rattle.link_trace.specs.declared.carried.Carried.{Carried}
+use Rattle.link_trace.specs.declared.rows.Count.{Count}
+use Rattle.link_trace.specs.declared.rows.Count.TheVariants.{Segments, Octets, New, Again, Moved, Lost}
 use Rattle.link_trace.specs.declared.rows.Rate.{Rate}
 use Rattle.link_trace.specs.declared.rows.Rates.{Rates}
 use Rattle.link_trace.specs.declared.rows.Row.{Row}
@@ -33,11 +35,6 @@ below from len edge = min (edge - from) len
 -- the position behind a segment's payload
 abbrev pub end_of : Carried → ℕ
 end_of c = c.position + c.len
-
--- the place behind a segment's payload
-abbrev pub reach : Option ℕ → ℕ → ℕ
-reach None len = 0
-reach (Some place) len = if len == 0 then 0 else place + len
 
 -- ---- octets of a path by whether they were sent before
 
@@ -121,21 +118,28 @@ rows_of rates cs = rows_behind 0 rates cs
 abbrev pub if_from : Side → Row → ℕ → ℕ
 if_from side row octets = if same_side row.from side then octets else 0
 
--- the octets of all payloads
-abbrev pub octets_from : Side → List Row → ℕ
-octets_from side [] = 0
-octets_from side (row ∷ rows) = if_from side row row.octets + octets_from side rows
+abbrev pub count_in : Count → Row → ℕ
+count_in Segments row = row.segments
+count_in Octets row = row.octets
+count_in New row = row.fresh
+count_in Again row = row.again
+count_in Moved row = row.moved
+count_in Lost row = row.lost
 
--- the octets of payloads at places that were carried for the first time
+-- all of them together
+abbrev pub total_from : Side → Count → List Row → ℕ
+total_from side count [] = 0
+total_from side count (row ∷ rows) = if_from side row (count_in count row) + total_from side count rows
+
+-- the octets at places that were carried for the first time
 abbrev pub first_octets_from : Side → List Row → ℕ
-first_octets_from side [] = 0
-first_octets_from side (row ∷ rows) = if_from side row row.fresh + first_octets_from side rows
+first_octets_from side rows = total_from side New rows
 
 -- the greatest tick
 abbrev pub last_tick : List Carried → ℕ
 last_tick [] = 0
 last_tick (c ∷ cs) = max c.tick (last_tick cs)
 
--- octets in a second, of so many in so many ticks
+-- thousands of bits in a second, of so many octets in so many ticks
 abbrev pub goodput : ℕ → ℕ → ℕ
-goodput octets ticks = if ticks == 0 then 0 else capped (octets * 1000) / ticks
+goodput octets ticks = if ticks == 0 then 0 else capped (octets * 8) / ticks

@@ -1,5 +1,5 @@
 -- A segment in words.
-use Rattle.std.specs.Prelude.{ℕ, ◌+◌, ◌-◌, ◌%◌, ◌^◌, ◌||◌, ◌==◌, nat_lt, Bool, true, if◌then◌else◌, Option, Some, None, Result, Ok, Err, List, [], ◌++◌, length, codes}
+use Rattle.std.specs.Prelude.{ℕ, ◌+◌, ◌-◌, ◌*◌, ◌%◌, ◌^◌, ◌||◌, ◌==◌, nat_lt, Bool, true, if◌then◌else◌, Option, Some, None, Result, Ok, Err, List, [], ◌++◌, length, codes}
 use Rattle.std.specs.Fmt.{decimal}
 use Rattle.segment_wire.specs.declared.head.Head.{Head}
 use Rattle.segment_wire.specs.declared.reading.SegmentFault.{SegmentFault}
@@ -8,6 +8,7 @@ use Rattle.segment_wire.specs.Segment.{Segment}
 use Rattle.link_trace.specs.declared.segment.Initials.{Initials}
 use Rattle.link_trace.specs.Multipath.{word_if}
 use Rattle.link_trace.specs.Options.{list_words}
+use Rattle.link_trace.specs.Rows.{capped}
 
 -- a number of 32 bits relative to the initial one, or as it stands where that isn't known
 abbrev pub relative : ℕ → Option ℕ → ℕ
@@ -37,14 +38,19 @@ seq_words head initial len =
 abbrev pub ack_words : Head → Option ℕ → List ℕ
 ack_words head initial = if head.ack_set then codes ", ack " ++ decimal (relative head.ack initial) else []
 
--- flags, numbers, the window as it stands, the options, and octets of payload
+-- the window in octets: one without SYN is shifted as the SYNs agreed on (RFC 7323, section 2.3)
+abbrev pub window_of : Option ℕ → Head → ℕ
+window_of None head = head.window
+window_of (Some shift) head = if head.syn then head.window else capped (head.window * 2 ^ shift)
+
+-- flags, numbers, the window, the options, and octets of payload
 abbrev pub segment_words : Initials → Bool → Segment → List ℕ
 segment_words initials checksums s =
     flag_words s.head
     ++ seq_words s.head initials.own (length s.payload)
     ++ ack_words s.head initials.peer
-    ++ (codes ", win " ++ decimal s.head.window)
-    ++ list_words checksums true (option_octets s.options)
+    ++ (codes ", win " ++ decimal (window_of initials.shift s.head))
+    ++ list_words initials.streams checksums true (option_octets s.options)
     ++ (codes ", length " ++ decimal (length s.payload))
 
 -- the words of what octets mean

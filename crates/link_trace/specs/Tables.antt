@@ -1,14 +1,16 @@
--- The table in words: a row for each path and direction, and a line of totals.
-use Rattle.std.specs.Prelude.{ℕ, ◌-◌, ◌^◌, false, Option, Some, None, List, [], ◌∷◌, ◌++◌, codes}
+-- The table in words: a row for each path and direction, and one for all paths of each direction.
+use Rattle.std.specs.Prelude.{ℕ, ◌-◌, ◌/◌, ◌%◌, ◌^◌, false, Option, Some, None, List, [], ◌∷◌, ◌++◌, filter, length, codes}
 use Rattle.std.specs.Fmt.{decimal, format_spec, padded_integral}
 use Rattle.std.specs.List.{flat_map}
 use Rattle.sides.specs.declared.side.Side.{Side}
 use Rattle.sides.specs.declared.side.Side.TheVariants.{A, B}
 use Rattle.link_trace.specs.declared.carried.Carried.{Carried}
+use Rattle.link_trace.specs.declared.rows.Count.TheVariants.{Segments, Octets, New, Again, Moved, Lost}
 use Rattle.link_trace.specs.declared.rows.Rate.{Rate}
 use Rattle.link_trace.specs.declared.rows.Rates.{Rates}
 use Rattle.link_trace.specs.declared.rows.Row.{Row}
-use Rattle.link_trace.specs.Rows.{capped, first_octets_from, goodput, last_tick, octets_from, rows_of}
+use Rattle.link_trace.specs.declared.table.Counts.{Counts}
+use Rattle.link_trace.specs.Rows.{capped, goodput, is_from, last_tick, rows_of, tick_at, total_from}
 
 -- a number, right-aligned in so many columns
 abbrev pub aligned : ℕ → ℕ → List ℕ
@@ -36,38 +38,71 @@ way_column B = codes "   ba"
 abbrev pub place_columns : Row → List ℕ
 place_columns row = aligned 4 row.path ++ (way_column row.from ++ (optional_column row.first ++ optional_column row.last))
 
--- the segments, and of their octets all, those sent again and those moved
-abbrev pub octets_columns : Row → List ℕ
-octets_columns row = column row.segments ++ (column row.octets ++ (column row.again ++ column row.moved))
+-- thousands of bits in a second, as millions with three digits behind the point
+abbrev pub goodput_column : ℕ → List ℕ
+goodput_column kilobits =
+    32 ∷ (aligned 5 (kilobits / 1000) ++ (codes "." ++ (decimal (kilobits / 100 % 10)
+    ++ (decimal (kilobits / 10 % 10) ++ decimal (kilobits % 10)))))
 
--- a row: its place, segments and octets, the segments that were lost, and the rate; the row ends with LF
-abbrev pub row_words : Row → List ℕ
-row_words row = place_columns row ++ (octets_columns row ++ (column row.lost ++ (rate_columns row.rate ++ 10 ∷ [])))
+-- the segments; of their octets all, those sent for the first time, those sent again and those moved; the segments that were lost
+abbrev pub first_columns : Counts → List ℕ
+first_columns c = column c.segments ++ (column c.octets ++ column c.fresh)
 
--- ---- the line of totals
+abbrev pub counts_columns : Counts → List ℕ
+counts_columns c = first_columns c ++ (column c.again ++ (column c.moved ++ column c.lost))
 
-abbrev pub way_word : Side → List ℕ
-way_word A = codes " ab"
-way_word B = codes " ba"
+abbrev pub counts_of : Row → Counts
+counts_of row = record {
+  segments = row.segments;
+  octets = row.octets;
+  fresh = row.fresh;
+  again = row.again;
+  moved = row.moved;
+  lost = row.lost;
+}
 
--- the octets of a direction, those that were sent for the first time, and these by second
-abbrev pub direction_words : Side → ℕ → List Row → List ℕ
-direction_words side ticks rows =
-    let first = capped (first_octets_from side rows) in
-    way_word side ++ (codes " octets " ++ (decimal (capped (octets_from side rows))
-    ++ (codes " first " ++ (decimal first ++ (codes " goodput " ++ decimal (goodput first ticks))))))
+-- where it stands, what it counts, the end's measures, and how many bits in a second are new over so many ticks; the row ends with LF
+abbrev pub row_words : ℕ → Row → List ℕ
+row_words ticks row =
+    place_columns row ++ (counts_columns (counts_of row) ++ (rate_columns row.rate ++ (goodput_column (goodput row.fresh ticks) ++ 10 ∷ [])))
 
-abbrev pub total_words : ℕ → List Row → List ℕ
-total_words ticks rows =
-    (codes "total ticks " ++ decimal ticks) ++ (direction_words A ticks rows ++ (direction_words B ticks rows ++ 10 ∷ []))
+-- ---- the totals
+
+abbrev pub totals_of : Side → List Row → Counts
+totals_of side rows = record {
+  segments = capped (total_from side Segments rows);
+  octets = capped (total_from side Octets rows);
+  fresh = capped (total_from side New rows);
+  again = capped (total_from side Again rows);
+  moved = capped (total_from side Moved rows);
+  lost = capped (total_from side Lost rows);
+}
+
+-- the ticks of the first segment of a direction, and of its last one
+abbrev pub all_place : Side → List Carried → List ℕ
+all_place side direction =
+    codes " all" ++ (way_column side ++ (optional_column (tick_at 0 direction) ++ optional_column (tick_at (length direction - 1) direction)))
+
+-- no end's measures, and how many bits in a second are new; the row ends with LF
+abbrev pub all_measures : ℕ → ℕ → List ℕ
+all_measures ticks fresh = (no_column ++ no_column) ++ (goodput_column (goodput fresh ticks) ++ 10 ∷ [])
+
+-- all rows of a direction together
+abbrev pub all_words : Side → ℕ → List Carried → List Row → List ℕ
+all_words side ticks direction rows =
+    all_place side direction ++ (counts_columns (totals_of side rows) ++ all_measures ticks (totals_of side rows).fresh)
+
+abbrev pub total_words : ℕ → List Carried → List Row → List ℕ
+total_words ticks cs rows =
+    all_words A ticks (filter (is_from A) cs) rows ++ all_words B ticks (filter (is_from B) cs) rows
 
 -- ---- the whole
 
 abbrev pub head_words : List ℕ
-head_words = codes "path  dir     first      last  segments    octets     again     moved      lost       rtt    window"
+head_words = codes "path  dir  first/ms   last/ms  segments    octets       new     again     moved      lost    rtt/ms  window/B    Mbit/s"
 
-abbrev pub table_words : ℕ → List Row → List ℕ
-table_words ticks rows = (head_words ++ 10 ∷ []) ++ (flat_map row_words rows ++ total_words ticks rows)
+abbrev pub table_words : ℕ → List Carried → List Row → List ℕ
+table_words ticks cs rows = (head_words ++ 10 ∷ []) ++ (flat_map (row_words ticks) rows ++ total_words ticks cs rows)
 
 abbrev pub summary_of : List Rates → List Carried → List ℕ
-summary_of rates cs = table_words (last_tick cs) (rows_of rates cs)
+summary_of rates cs = table_words (last_tick cs) cs (rows_of rates cs)

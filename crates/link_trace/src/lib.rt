@@ -1,20 +1,23 @@
-//! What was sent on the links of a run, and four views of it: a line for each segment, a capture, a table by path and direction, a
-//! picture.
+//! What was sent on the links of a run, and five views of it: a line for each segment, a capture, a table by path and direction, one
+//! by 100 ticks too, a picture.
 //!
-//! A line has the segment in the words of tcpdump: its flags, its numbers, its window, its options by name, the length of its payload.
-//! Numbers of sequence are relative to those of the SYNs, as far as these are known. Options of Multipath TCP are those of
-//! RFC 8684, section 3, in the words of tcpdump's `print-mptcp.c`.
+//! A line has the segment in the words of tcpdump: its flags, its numbers, its window in octets, its options by name, the length of its
+//! payload. Numbers of sequence are relative to those of the SYNs, as far as these are known, and data numbers to the initial ones, where
+//! these are given. Options of Multipath TCP are those of RFC 8684, section 3, in the words of tcpdump's `print-mptcp.c`.
 #![tactic(auto)]
 
 mod carried;
 mod drawing;
 mod fate;
+mod intervals;
 mod laws;
 mod marks;
 mod meanings;
 mod multipath;
+mod numbers;
 mod options;
 mod packets;
+mod panels;
 mod places;
 mod points;
 mod rows;
@@ -27,13 +30,15 @@ mod text;
 mod ticks;
 
 pub use carried::{Base, Carried, PathInitials, all_carried};
-pub use drawing::{Death, picture};
+pub use drawing::picture;
+pub use intervals::rates;
 pub use laws::first_octets_are_the_places;
 pub use packets::capture;
+pub use panels::Death;
 pub use points::seen_at;
 pub use rows::{Rate, Rates, Row, rows_of};
 pub use sent::Sent;
 pub use strokes::{Dot, Stroke, dots_of, strokes_of};
 pub use table::summary;
-pub use text::lines;
+pub use text::{InitialData, lines};
 pub use ticks::put_by_tick;

@@ -1,38 +1,22 @@
-//! The marks of a panel: strokes, crosses and dots.
+//! The marks of a panel: bars, crosses and stairs.
 
-ghost use Rattle.std.specs.Prelude.{◌≡◌, ◌++◌, IfOk, OnOk, codes, string_bytes};
-ghost use Rattle.link_trace.specs.Marks.{cross_of, crosses_of, crosses_words, part_of, x_of, y_of};
+ghost use Rattle.std.specs.Prelude.{◌≡◌, ◌++◌, OnOk, string_bytes};
+ghost use Rattle.std.specs.List.{flat_map};
+ghost use Rattle.link_trace.specs.Marks.{bar_of, bar_on, box_of, box_on, colour_at, colour_of, cross_of, dashes_of, part_of, stair_of, stairs_from, x_of, y_of};
 
 use crate::strokes::{Dot, Stroke};
-use std::alloc::{AllocError, Global};
-
-/// Beyond so many strokes, or dots, of a panel several segments go into one.
-const MOST: usize = 10_000;
-
-/// A stroke ends before a segment that stands further to the right than its width.
-const WIDTH: u64 = 30;
+use std::alloc::AllocError;
 
 /// What a panel of 8,800 by 3,400 units shows: so many ticks and places, of which the first lie at 900 and at the floor.
 #[derive(Clone, Copy)]
 pub struct Scale {
     pub ticks: u64,
     pub places: u64,
-    pub floor: u64,
+    pub floor: u32,
 }
 
-/// A stream, as it is shown.
-#[derive(Drop)]
-pub struct Panel {
-    pub strokes: Vec<Stroke>,
-    pub dots: Vec<Dot>,
-    pub scale: Scale,
-    /// How many segments at most go into one stroke.
-    pub step: usize,
-    pub name: &'static str,
-}
-
-/// As much of a length as a part is of a whole.
-pub fn part_of(length: u64, part: u64, whole: u64) -> u64
+/// So much of a length as a part is of a whole.
+fn part_of(length: u64, part: u64, whole: u64) -> u64
     ensures { result ≡ part_of length part whole }
 {
     length.saturating_mul(part.min(whole)) / whole.max(1)
@@ -48,132 +32,156 @@ impl Scale {
     pub fn y(&self, place: u64) -> u64
         ensures { result ≡ y_of self.now place }
     {
-        self.floor
-            .saturating_sub(part_of(3_400, place, self.places))
+        u64::from(self.floor).saturating_sub(part_of(3_400, place, self.places))
     }
 }
 
-/// The place behind all strokes.
-fn top_of(strokes: &[Stroke]) -> u64 {
-    let mut top = 0;
-    for stroke in strokes {
-        top = top.max(stroke.to);
-    }
-    top
-}
-
-impl Panel {
-    /// A panel whose strokes are over so many ticks.
-    pub fn new(
-        strokes: Vec<Stroke>,
-        dots: Vec<Dot>,
-        ticks: u64,
-        floor: u64,
-        name: &'static str,
-    ) -> Panel {
-        let scale = Scale {
-            ticks: ticks.max(1),
-            places: top_of(&strokes).max(1),
-            floor,
-        };
-        let step = strokes.len().max(dots.len()) / MOST + 1;
-        Panel {
-            strokes,
-            dots,
-            scale,
-            step,
-            name,
-        }
+/// A colour of Okabe and Ito, who chose eight that everyone can tell apart.
+fn colour_at(n: usize) -> &'static str
+    ensures { result.now ≡ colour_at n }
+{
+    match n {
+        0 => "#0072b2",
+        1 => "#e69f00",
+        2 => "#009e73",
+        3 => "#cc79a7",
+        4 => "#56b4e9",
+        5 => "#d55e00",
+        6 => "#f0e442",
+        _ => "#000000",
     }
 }
 
-/// Strokes that go into one, from the first to the last.
-#[derive(Clone, Copy)]
-struct Span {
-    first: Stroke,
-    last: Stroke,
-    count: usize,
+/// The colour of a path.
+pub fn colour_of(path: usize) -> &'static str
+    ensures { result.now ≡ colour_of path }
+{
+    colour_at(path % 8)
 }
 
-impl Span {
-    fn of(stroke: &Stroke) -> Span {
-        Span {
-            first: *stroke,
-            last: *stroke,
-            count: 1,
-        }
-    }
-
-    /// With a stroke more.
-    fn with(&self, stroke: &Stroke) -> Span {
-        Span {
-            first: self.first,
-            last: *stroke,
-            count: self.count.saturating_add(1),
-        }
+/// From path 8 on lines are dashed.
+pub fn dashes_of(path: usize) -> &'static str
+    ensures { result.now ≡ dashes_of path }
+{
+    if path < 8 {
+        ""
+    } else {
+        " stroke-dasharray=\"24 24\""
     }
 }
 
-/// Whether the next segment stands apart from those of a span.
-fn is_apart(scale: &Scale, span: &Span, stroke: &Stroke) -> bool {
-    let (end, next) = (scale.x(span.last.tick), scale.x(stroke.tick));
-    next.saturating_sub(end) > WIDTH
+fn put_bar(text: &mut String, scale: &Scale, stroke: &Stroke) -> Result<(), AllocError>
+    ensures { OnOk result (string_bytes text.new ≡
+        string_bytes text.old ++ bar_of scale.now stroke.now) }
+{
+    let (x, y, to) = (
+        scale.x(stroke.tick),
+        scale.y(stroke.from),
+        scale.y(stroke.to),
+    );
+    write!(text, "M{x} {y}V{to}")
 }
 
-fn put_span(text: &mut String, scale: &Scale, span: &Span) -> Result<(), AllocError> {
-    let (x, y) = (scale.x(span.first.tick), scale.y(span.first.from));
-    let (to_x, to_y) = (scale.x(span.last.tick), scale.y(span.last.to));
-    write!(text, "M{x} {y}L{to_x} {to_y}")
+/// Puts a hollow bar.
+fn put_box(text: &mut String, scale: &Scale, stroke: &Stroke) -> Result<(), AllocError>
+    ensures { OnOk result (string_bytes text.new ≡
+        string_bytes text.old ++ box_of scale.now stroke.now) }
+{
+    let x = scale.x(stroke.tick).saturating_sub(20);
+    let (y, to) = (scale.y(stroke.from), scale.y(stroke.to));
+    write!(text, "M{x} {y}h40V{to}h-40z")
 }
 
-/// The span with a stroke more; a full one, and one behind which there is a pause, is put first.
-fn grown(
+fn put_bar_on(
     text: &mut String,
-    panel: &Panel,
-    held: Option<Span>,
-    stroke: &Stroke,
-) -> Result<Option<Span>, AllocError> {
-    match held {
-        None => Ok(Some(Span::of(stroke))),
-        Some(span) => {
-            if span.count < panel.step && !is_apart(&panel.scale, &span, stroke) {
-                return Ok(Some(span.with(stroke)));
-            }
-            put_span(text, &panel.scale, &span)?;
-            Ok(Some(Span::of(stroke)))
-        }
-    }
-}
-
-fn put_spans(text: &mut String, panel: &Panel, path: usize, again: bool) -> Result<(), AllocError> {
-    let mut held: Option<Span> = None;
-    for stroke in &panel.strokes {
-        if usize::from(stroke.path) == path && stroke.again == again {
-            held = grown(text, panel, held, stroke)?;
-        }
-    }
-    match held {
-        Some(span) => put_span(text, &panel.scale, &span),
-        None => Ok(()),
-    }
-}
-
-/// The strokes of a path, of segments that are sent again or of others.
-pub fn strokes(
-    alloc: Global,
-    panel: &Panel,
+    scale: &Scale,
     path: usize,
-    again: bool,
-    colour: &str,
-) -> Result<String, AllocError> {
-    let mut text = String::new(alloc);
+    stroke: &Stroke,
+) -> Result<(), AllocError>
+    ensures { OnOk result (string_bytes text.new ≡
+        string_bytes text.old ++ bar_on scale.now path stroke.now) }
+{
+    if usize::from(stroke.path) == path && !stroke.again {
+        return put_bar(text, scale, stroke);
+    }
+    Ok(())
+}
+
+fn put_box_on(
+    text: &mut String,
+    scale: &Scale,
+    path: usize,
+    stroke: &Stroke,
+) -> Result<(), AllocError>
+    ensures { OnOk result (string_bytes text.new ≡
+        string_bytes text.old ++ box_on scale.now path stroke.now) }
+{
+    if usize::from(stroke.path) == path && stroke.again {
+        return put_box(text, scale, stroke);
+    }
+    Ok(())
+}
+
+fn put_bars_on(
+    text: &mut String,
+    scale: &Scale,
+    strokes: &[Stroke],
+    path: usize,
+) -> Result<(), AllocError>
+    ensures { OnOk result (string_bytes text.new ≡
+        string_bytes text.old ++ flat_map (bar_on scale.now path) strokes.now) }
+{
+    for stroke in strokes {
+        put_bar_on(text, scale, path, stroke)?;
+    }
+    Ok(())
+}
+
+fn put_boxes_on(
+    text: &mut String,
+    scale: &Scale,
+    strokes: &[Stroke],
+    path: usize,
+) -> Result<(), AllocError>
+    ensures { OnOk result (string_bytes text.new ≡
+        string_bytes text.old ++ flat_map (box_on scale.now path) strokes.now) }
+{
+    for stroke in strokes {
+        put_box_on(text, scale, path, stroke)?;
+    }
+    Ok(())
+}
+
+/// Puts a bar for each payload of a path that was sent for the first time.
+pub fn put_bars(
+    text: &mut String,
+    scale: &Scale,
+    strokes: &[Stroke],
+    path: usize,
+) -> Result<(), AllocError> {
+    let (colour, dashes) = (colour_of(path), dashes_of(path));
     write!(
         text,
-        "<path fill=\"none\" stroke-width=\"30\" stroke=\"{colour}\" d=\""
+        "<path fill=\"none\" stroke-width=\"24\" stroke-linecap=\"round\" stroke=\"{colour}\"{dashes} d=\""
     )?;
-    put_spans(&mut text, panel, path, again)?;
-    writeln!(text, "\"/>")?;
-    Ok(text)
+    put_bars_on(text, scale, strokes, path)?;
+    writeln!(text, "\"/>")
+}
+
+/// Puts a hollow bar for each payload of a path of which octets were sent before.
+pub fn put_boxes(
+    text: &mut String,
+    scale: &Scale,
+    strokes: &[Stroke],
+    path: usize,
+) -> Result<(), AllocError> {
+    let colour = colour_of(path);
+    write!(
+        text,
+        "<path fill=\"#ffffff\" stroke-width=\"10\" stroke=\"{colour}\" d=\""
+    )?;
+    put_boxes_on(text, scale, strokes, path)?;
+    writeln!(text, "\"/>")
 }
 
 /// Puts a cross, where the payload is lost.
@@ -188,35 +196,57 @@ fn put_cross(text: &mut String, scale: &Scale, stroke: &Stroke) -> Result<(), Al
     write!(text, "M{x} {y}m-40 -40l80 80m0 -80l-80 80")
 }
 
-/// A cross at each payload that is lost, however many strokes there are.
-pub fn crosses(alloc: Global, scale: &Scale, strokes: &[Stroke]) -> Result<String, AllocError>
-    ensures { IfOk result (λ text. string_bytes text ≡ crosses_words scale.now strokes.now) }
+fn put_each_cross(text: &mut String, scale: &Scale, strokes: &[Stroke]) -> Result<(), AllocError>
+    ensures { OnOk result (string_bytes text.new ≡
+        string_bytes text.old ++ flat_map (cross_of scale.now) strokes.now) }
 {
-    let mut text = String::new(alloc);
+    for stroke in strokes {
+        put_cross(text, scale, stroke)?;
+    }
+    Ok(())
+}
+
+/// Puts a cross at each payload that is lost.
+pub fn put_crosses(text: &mut String, scale: &Scale, strokes: &[Stroke]) -> Result<(), AllocError> {
     write!(
         text,
         "<path fill=\"none\" stroke-width=\"30\" stroke=\"#d62728\" d=\""
     )?;
-    for stroke in strokes {
-        put_cross(&mut text, scale, stroke)?;
-    }
-    writeln!(text, "\"/>")?;
-    Ok(text)
+    put_each_cross(text, scale, strokes)?;
+    writeln!(text, "\"/>")
 }
 
-/// A dot at each Data ACK.
-pub fn dots(alloc: Global, panel: &Panel) -> Result<String, AllocError> {
-    let mut text = String::new(alloc);
+/// Puts a stair, where more is acknowledged than so much.
+fn put_stair(text: &mut String, scale: &Scale, top: u32, dot: &Dot) -> Result<(), AllocError>
+    ensures { OnOk result (string_bytes text.new ≡
+        string_bytes text.old ++ stair_of scale.now top dot.now) }
+{
+    if top < dot.place {
+        let (x, y) = (scale.x(dot.tick), scale.y(u64::from(dot.place)));
+        return write!(text, "H{x}V{y}");
+    }
+    Ok(())
+}
+
+fn put_each_stair(text: &mut String, scale: &Scale, dots: &[Dot]) -> Result<(), AllocError>
+    ensures { OnOk result (string_bytes text.new ≡
+        string_bytes text.old ++ stairs_from scale.now 0 dots.now) }
+{
+    let mut top = 0_u32;
+    for dot in dots {
+        put_stair(text, scale, top, dot)?;
+        top = top.max(dot.place);
+    }
+    Ok(())
+}
+
+/// Puts one line of stairs, which tells how much is acknowledged.
+pub fn put_stairs(text: &mut String, scale: &Scale, dots: &[Dot]) -> Result<(), AllocError> {
+    let floor = scale.floor;
     write!(
         text,
-        "<path stroke=\"#7f7f7f\" stroke-width=\"36\" stroke-linecap=\"round\" d=\""
+        "<path fill=\"none\" stroke-width=\"12\" stroke=\"#808080\" d=\"M900 {floor}"
     )?;
-    for (index, dot) in panel.dots.iter().enumerate() {
-        if index % panel.step.max(1) == 0 {
-            let (x, y) = (panel.scale.x(dot.tick), panel.scale.y(u64::from(dot.place)));
-            write!(text, "M{x} {y}h1")?;
-        }
-    }
-    writeln!(text, "\"/>")?;
-    Ok(text)
+    put_each_stair(text, scale, dots)?;
+    writeln!(text, "\"/>")
 }

@@ -2,11 +2,19 @@
 
 ghost use Rattle.std.specs.Prelude.{◌≡◌, ◌++◌, OnOk, string_bytes};
 ghost use Rattle.mptcp_options.specs.Value.{value_of};
-ghost use Rattle.link_trace.specs.Multipath.{ack_words, address_words, announced_words, capable_words, dss_words, fast_close_words, hmac_words, ids_words, join_words, key_told, key_words, mapping_words, number_words, optional_checksum, port_words, removed_words, third_words, v4_words, v6_words, value_words, word_if};
+ghost use Rattle.link_trace.specs.Multipath.{ack_words, address_words, announced_words, capable_words, dss_words, fast_close_words, hmac_words, ids_words, join_words, key_told, key_words, low_half, mapping_words, number_told, optional_checksum, port_words, removed_words, third_words, v4_words, v6_words, value_words, word_if};
 
 use key_material::Address;
 use mptcp_options::{CapableKeys, DataNumber, DssMap, JoinForm, MpOption};
 use std::alloc::{AllocError, Global};
+
+/// The initial data sequence numbers of the side that sends a segment and of its peer, from which data numbers are told (RFC 8684,
+/// section 3.1); none where they are told as they stand.
+#[derive(Clone, Copy)]
+pub(crate) struct DataInitials {
+    pub own: Option<u64>,
+    pub peer: Option<u64>,
+}
 
 /// A word where the flag is set, else none.
 pub(crate) fn word_if(flag: bool, word: &'static str) -> &'static str
@@ -83,32 +91,51 @@ fn put_join(alloc: Global, text: &mut String, form: &JoinForm) -> Result<(), All
     }
 }
 
-/// A data number, as wide as it stands.
-fn number_of(number: DataNumber) -> u64
-    ensures { result ≡ number_words number }
+/// The low half of a number.
+fn low_half(number: u64) -> u32
+    ensures { result ≡ low_half number }
 {
-    match number {
-        DataNumber::Whole(number) => number,
-        DataNumber::Low(low) => u64::from(low),
+    (number % 0x1_0000_0000) as u32
+}
+
+/// A data number relative to the initial one, as wide as it stands; or as it stands, where there is none.
+fn number_told(number: DataNumber, initial: Option<u64>) -> u64
+    ensures { result ≡ number_told initial number }
+{
+    match (number, initial) {
+        (DataNumber::Whole(number), Some(initial)) => number.wrapping_sub(initial),
+        (DataNumber::Whole(number), None) => number,
+        (DataNumber::Low(low), Some(initial)) => u64::from(low.wrapping_sub(low_half(initial))),
+        (DataNumber::Low(low), None) => u64::from(low),
     }
 }
 
-fn put_ack(text: &mut String, ack: Option<DataNumber>) -> Result<(), AllocError>
-    ensures { OnOk result (string_bytes text.new ≡ string_bytes text.old ++ ack_words ack) }
+fn put_ack(
+    text: &mut String,
+    ack: Option<DataNumber>,
+    initial: Option<u64>,
+) -> Result<(), AllocError>
+    ensures { OnOk result (string_bytes text.new ≡ string_bytes text.old ++ ack_words initial ack) }
 {
     match ack {
-        Some(number) => write!(text, " ack {}", number_of(number)),
+        Some(number) => write!(text, " ack {}", number_told(number, initial)),
         None => Ok(()),
     }
 }
 
-fn put_mapping(text: &mut String, mapping: Option<DssMap>) -> Result<(), AllocError>
-    ensures { OnOk result (string_bytes text.new ≡ string_bytes text.old ++ mapping_words mapping) }
+fn put_mapping(
+    text: &mut String,
+    mapping: Option<DssMap>,
+    initial: Option<u64>,
+) -> Result<(), AllocError>
+    ensures { OnOk result (string_bytes text.new ≡
+        string_bytes text.old ++ mapping_words initial mapping) }
 {
     let Some(map) = mapping else {
         return Ok(());
     };
-    let (number, relative, length) = (number_of(map.number), map.relative, map.length);
+    let number = number_told(map.number, initial);
+    let (relative, length) = (map.relative, map.length);
     write!(text, " seq {number} subseq {relative} len {length}")?;
     put_checksum(text, map.checksum)
 }
@@ -118,13 +145,14 @@ fn put_dss(
     ack: Option<DataNumber>,
     mapping: Option<DssMap>,
     fin: bool,
+    initials: DataInitials,
 ) -> Result<(), AllocError>
     ensures { OnOk result (string_bytes text.new ≡
-        string_bytes text.old ++ dss_words ack mapping fin) }
+        string_bytes text.old ++ dss_words initials ack mapping fin) }
 {
     write!(text, "dss{}", word_if(fin, " fin"))?;
-    put_ack(text, ack)?;
-    put_mapping(text, mapping)
+    put_ack(text, ack, initials.peer)?;
+    put_mapping(text, mapping, initials.own)
 }
 
 fn put_v4(text: &mut String, address: [u8; 4]) -> Result<(), AllocError>
@@ -227,14 +255,15 @@ pub(crate) fn put_multipath(
     alloc: Global,
     text: &mut String,
     option: &MpOption<'_>,
+    initials: DataInitials,
 ) -> Result<(), AllocError>
     ensures { OnOk result (string_bytes text.new ≡
-        string_bytes text.old ++ value_words (value_of option.now)) }
+        string_bytes text.old ++ value_words initials (value_of option.now)) }
 {
     match option {
         MpOption::Capable { flag_a, keys, .. } => put_capable(text, *flag_a, keys),
         MpOption::Join { form } => put_join(alloc, text, form),
-        MpOption::Dss { ack, mapping, fin } => put_dss(text, *ack, *mapping, *fin),
+        MpOption::Dss { ack, mapping, fin } => put_dss(text, *ack, *mapping, *fin, initials),
         MpOption::AddAddr {
             echo,
             id,

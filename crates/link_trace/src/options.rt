@@ -5,7 +5,7 @@ ghost use Rattle.segment_wire.specs.Options.{option_octets};
 ghost use Rattle.segment_wire.specs.Reading.{segment_of};
 ghost use Rattle.link_trace.specs.Options.{kind_words, list_words, option_words, multipath_words, before_words};
 
-use crate::multipath::put_multipath;
+use crate::multipath::{DataInitials, put_multipath};
 use mptcp_options::{Read, read};
 use segment_wire::SegmentRef;
 use segment_wire::options::{mss, window_scale};
@@ -27,14 +27,15 @@ fn put_other(
     text: &mut String,
     option: &[u8],
     checksums: bool,
+    initials: DataInitials,
 ) -> Result<(), AllocError>
     ensures { OnOk result (string_bytes text.new ≡
-        string_bytes text.old ++ multipath_words option.now checksums) }
+        string_bytes text.old ++ multipath_words initials option.now checksums) }
 {
     match read(option, checksums) {
         Read::Known(option) => {
             text.push_str("mptcp ")?;
-            put_multipath(alloc, text, &option)
+            put_multipath(alloc, text, &option, initials)
         }
         Read::Malformed => text.push_str("mptcp malformed"),
         Read::Unknown => put_kind(text, option),
@@ -46,9 +47,10 @@ fn put_option(
     text: &mut String,
     option: &[u8],
     checksums: bool,
+    initials: DataInitials,
 ) -> Result<(), AllocError>
     ensures { OnOk result (string_bytes text.new ≡
-        string_bytes text.old ++ option_words checksums option.now) }
+        string_bytes text.old ++ option_words initials checksums option.now) }
 {
     if let Some(size) = mss(option) {
         return write!(text, "mss {size}");
@@ -56,7 +58,7 @@ fn put_option(
     if let Some(shift) = window_scale(option) {
         return write!(text, "wscale {shift}");
     }
-    put_other(alloc, text, option, checksums)
+    put_other(alloc, text, option, checksums, initials)
 }
 
 /// What stands before an option.
@@ -76,15 +78,16 @@ pub(crate) fn put_options(
     text: &mut String,
     segment: &SegmentRef<'_>,
     checksums: bool,
+    initials: DataInitials,
 ) -> Result<(), AllocError>
     ensures { OnOk result (string_bytes text.new ≡
-        string_bytes text.old ++ list_words checksums true
+        string_bytes text.old ++ list_words initials checksums true
         (option_octets (segment_of segment.now).options)) }
 {
     let mut is_first = true;
     for option in segment.options() {
         put_before(text, is_first)?;
-        put_option(alloc, text, option, checksums)?;
+        put_option(alloc, text, option, checksums, initials)?;
         is_first = false;
     }
     if is_first { Ok(()) } else { text.push_str("]") }

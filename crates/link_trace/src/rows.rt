@@ -2,7 +2,7 @@
 
 ghost use Rattle.std.specs.Prelude.{◌≡◌, ◌-◌, ◌++◌, ◌∷◌, [], filter, length, IfOk, OnOk};
 ghost use Rattle.sides.specs.declared.side.Side.TheVariants.{A, B};
-ghost use Rattle.link_trace.specs.Rows.{again_by, below, capped, edge_behind, end_of, first_octets_from, fresh_by, goodput, if_from, is_from, is_on, last_tick, lost_of, moved_by, octets_from, octets_of, reach, row_of, rows_of, shares_of, tick_at};
+ghost use Rattle.link_trace.specs.Rows.{again_by, below, capped, count_in, edge_behind, end_of, fresh_by, goodput, if_from, is_from, is_on, last_tick, lost_of, moved_by, octets_of, row_of, rows_of, shares_of, tick_at, total_from};
 
 use crate::carried::Carried;
 use crate::places::{carry, repeated};
@@ -10,15 +10,16 @@ use range_marks::RangeMarks;
 use sides::Side;
 use std::alloc::{AllocError, Global};
 
-/// The congestion window of an end, in octets, and its smoothed round-trip time, in ticks.
+/// What an end measures, and how much it may have under way.
 #[derive(Clone, Copy)]
 pub struct Rate {
+    /// cwnd, the congestion window, in octets (RFC 5681, section 3.1).
     pub window: u32,
-    /// None before the first measurement.
+    /// SRTT, the smoothed round-trip time, in ticks; None before the first measurement (RFC 6298, section 2).
     pub rtt: Option<u32>,
 }
 
-/// The rates of both ends of a path.
+/// Those of both ends of a path.
 #[derive(Clone, Copy)]
 pub struct Rates {
     pub a: Rate,
@@ -39,16 +40,27 @@ pub struct Row {
     pub segments: usize,
     /// Octets of payload, each as often as it was sent.
     pub octets: u64,
-    /// Octets of payload at places that the direction had carried before, at positions that were sent before on this path.
+    /// Those of them at places that the direction had carried before, at positions that were sent before on this path.
     pub again: u64,
-    /// Octets of payload at places that the direction had carried before, at new positions.
+    /// Those at places that the direction had carried before, at new positions.
     pub moved: u64,
-    /// Octets of payload at places that no segment of the direction had carried before.
+    /// Those at places that no segment of the direction had carried before.
     pub fresh: u64,
     /// Segments that a line of the script lets go lost.
     pub lost: usize,
     /// Of the end of this side.
     pub rate: Rate,
+}
+
+/// What a row counts.
+#[derive(Clone, Copy)]
+pub(crate) enum Count {
+    Segments,
+    Octets,
+    New,
+    Again,
+    Moved,
+    Lost,
 }
 
 /// Octets of one direction of a path, by whether they were sent before.
@@ -111,7 +123,7 @@ fn octets_of(row: &[Carried]) -> u64
 }
 
 /// How many of so many octets from a number on lie below an edge.
-fn below(from: u32, len: u32, edge: u64) -> u64
+pub fn below(from: u32, len: u32, edge: u64) -> u64
     ensures { result ≡ below from len edge }
 {
     edge.saturating_sub(u64::from(from)).min(u64::from(len))
@@ -124,22 +136,6 @@ fn end_of(carried: &Carried) -> u64
     u64::from(carried.position) + u64::from(carried.len)
 }
 
-/// The place behind a segment's payload.
-pub fn reach(place: Option<u32>, len: u32) -> u64
-    ensures { result ≡ reach place len }
-{
-    match place {
-        None => 0,
-        Some(place) => {
-            if len == 0 {
-                0
-            } else {
-                u64::from(place) + u64::from(len)
-            }
-        }
-    }
-}
-
 /// Octets of a segment of this path that are sent again, where so many stand at places that were carried before.
 fn again_by(path: usize, edge: u64, repeated: u64, carried: &Carried) -> u64
     ensures { result ≡ again_by path edge repeated carried.now }
@@ -150,7 +146,7 @@ fn again_by(path: usize, edge: u64, repeated: u64, carried: &Carried) -> u64
     below(carried.position, carried.len, edge).min(repeated)
 }
 
-/// Octets of a segment of this path that moved: repeated ones at new positions.
+/// Those that moved.
 fn moved_by(path: usize, edge: u64, repeated: u64, carried: &Carried) -> u64
     ensures { result ≡ moved_by path edge repeated carried.now }
 {
@@ -160,7 +156,7 @@ fn moved_by(path: usize, edge: u64, repeated: u64, carried: &Carried) -> u64
     repeated.saturating_sub(below(carried.position, carried.len, edge))
 }
 
-/// Octets of a segment of this path at places that weren't carried before.
+/// Those at places that weren't carried before.
 fn fresh_by(path: usize, repeated: u64, carried: &Carried) -> u64
     ensures { result ≡ fresh_by path repeated carried.now }
 {
@@ -170,7 +166,7 @@ fn fresh_by(path: usize, repeated: u64, carried: &Carried) -> u64
     u64::from(carried.len).saturating_sub(repeated)
 }
 
-fn edge_behind(path: usize, edge: u64, carried: &Carried) -> u64
+pub fn edge_behind(path: usize, edge: u64, carried: &Carried) -> u64
     ensures { result ≡ edge_behind path edge carried.now }
 {
     if usize::from(carried.path) == path {
@@ -209,7 +205,7 @@ fn lost_of(row: &[Carried]) -> usize
     row.iter().filter(|carried| carried.lost).count()
 }
 
-fn first_tick(row: &[Carried]) -> Option<u64>
+pub fn first_tick(row: &[Carried]) -> Option<u64>
     ensures { result ≡ tick_at 0 row.now }
 {
     match row.first() {
@@ -218,7 +214,7 @@ fn first_tick(row: &[Carried]) -> Option<u64>
     }
 }
 
-fn final_tick(row: &[Carried]) -> Option<u64>
+pub fn final_tick(row: &[Carried]) -> Option<u64>
     ensures { result ≡ tick_at (length row.now - 1) row.now }
 {
     match row.last() {
@@ -274,7 +270,7 @@ fn put_rows(
     Ok(())
 }
 
-/// The rows of both directions of each path, whose ends have these windows and round-trip times.
+/// The rows of both directions of each path, whose ends measure this.
 pub fn rows_of(alloc: Global, rates: &[Rates], carried: &[Carried]) -> Result<Vec<Row>, AllocError>
     ensures { IfOk result (λ rows. rows.items ≡ rows_of rates.now carried.now) }
 {
@@ -285,35 +281,36 @@ pub fn rows_of(alloc: Global, rates: &[Rates], carried: &[Carried]) -> Result<Ve
     Ok(rows)
 }
 
-/// The octets, where the row is of this direction; else none.
+/// So many octets where the row is of this direction.
 fn if_from(side: Side, row: &Row, octets: u64) -> u64
     ensures { result ≡ if_from side row.now octets }
 {
     if row.from == side { octets } else { 0 }
 }
 
-/// The octets of a direction.
-#[tactic(auto, using(crate::proofs::Sums::capped_more))]
-pub fn octets_from(side: Side, rows: &[Row]) -> u64
-    ensures { result ≡ capped (octets_from side rows.now) }
+fn count_in(count: Count, row: &Row) -> u64
+    ensures { result ≡ count_in count row.now }
 {
-    let mut octets = 0_u64;
-    for row in rows {
-        octets = octets.saturating_add(if_from(side, row, row.octets));
+    match count {
+        Count::Segments => row.segments as u64,
+        Count::Octets => row.octets,
+        Count::New => row.fresh,
+        Count::Again => row.again,
+        Count::Moved => row.moved,
+        Count::Lost => row.lost as u64,
     }
-    octets
 }
 
-/// The octets of a direction that were sent for the first time.
+/// What the rows of a direction count together.
 #[tactic(auto, using(crate::proofs::Sums::capped_more))]
-pub fn first_octets_from(side: Side, rows: &[Row]) -> u64
-    ensures { result ≡ capped (first_octets_from side rows.now) }
+pub fn total_from(side: Side, count: Count, rows: &[Row]) -> u64
+    ensures { result ≡ capped (total_from side count rows.now) }
 {
-    let mut octets = 0_u64;
+    let mut total = 0_u64;
     for row in rows {
-        octets = octets.saturating_add(if_from(side, row, row.fresh));
+        total = total.saturating_add(if_from(side, row, count_in(count, row)));
     }
-    octets
+    total
 }
 
 /// The greatest tick of a segment.
@@ -327,12 +324,12 @@ pub fn last_tick(carried: &[Carried]) -> u64
     last
 }
 
-/// Octets in a second.
+/// Thousands of bits in a second.
 pub fn goodput(octets: u64, ticks: u64) -> u64
     ensures { result ≡ goodput octets ticks }
 {
     if ticks == 0 {
         return 0;
     }
-    octets.saturating_mul(1_000) / ticks
+    octets.saturating_mul(8) / ticks
 }

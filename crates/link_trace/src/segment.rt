@@ -2,17 +2,21 @@
 
 ghost use Rattle.std.specs.Prelude.{◌≡◌, ◌++◌, [], if◌then◌else◌, IfOk, OnOk, string_bytes};
 ghost use Rattle.segment_wire.specs.Reading.{segment_of, segment_meaning};
-ghost use Rattle.link_trace.specs.Segments.{ack_words, flag_words, is_numbered, relative, segment_words, seq_words, words_of};
+ghost use Rattle.link_trace.specs.Segments.{ack_words, flag_words, is_numbered, relative, segment_words, seq_words, window_of, words_of};
 
+use crate::multipath::DataInitials;
 use crate::options::put_options;
 use segment_wire::{Addresses, Head, SegmentRef, parse};
 use std::alloc::{AllocError, Global};
 
-/// The numbers of the SYNs of both directions, as far as they are known: of the direction of the segment, and of the other one.
+/// From what the numbers of a segment count: the numbers of the SYNs of both directions, as far as they are known, of the direction of
+/// the segment and of the other one; the initial data sequence numbers; and how many bits the window is shifted by.
 #[derive(Clone, Copy)]
 pub(crate) struct Initials {
     pub own: Option<u32>,
     pub peer: Option<u32>,
+    pub streams: DataInitials,
+    pub shift: Option<u8>,
 }
 
 /// A number relative to the initial one, or as it stands where that isn't known (RFC 9293, section 3.4).
@@ -80,6 +84,24 @@ fn put_ack(text: &mut String, head: &Head, initial: Option<u32>) -> Result<(), A
     }
 }
 
+/// The window of a segment, in octets: one without SYN is shifted as the SYNs agreed on (RFC 7323, section 2.3).
+#[tactic(auto, using(crate::proofs::Sums::capped_product))]
+fn window_of(head: &Head, shift: Option<u8>) -> u64
+    ensures { result ≡ window_of shift head.now }
+{
+    let window = u64::from(head.window);
+    match shift {
+        None => window,
+        Some(shift) => {
+            if head.syn {
+                window
+            } else {
+                window.saturating_mul(2_u64.saturating_pow(u32::from(shift)))
+            }
+        }
+    }
+}
+
 fn put_segment(
     alloc: Global,
     text: &mut String,
@@ -95,8 +117,8 @@ fn put_segment(
     put_flags(text, &head)?;
     put_seq(text, &head, initials.own, len)?;
     put_ack(text, &head, initials.peer)?;
-    write!(text, ", win {}", head.window)?;
-    put_options(alloc, text, segment, checksums)?;
+    write!(text, ", win {}", window_of(&head, initials.shift))?;
+    put_options(alloc, text, segment, checksums, initials.streams)?;
     write!(text, ", length {len}")
 }
 

@@ -2,10 +2,13 @@
 
 ghost use Rattle.std.specs.Prelude.{◌≡◌, ◌++◌, IfOk, OnOk};
 ghost use Rattle.std.specs.Option.{option_to_list};
+ghost use Rattle.range_marks.specs.Marks.{no_marks};
 ghost use Rattle.link_trace.specs.Strokes.{dot_of, dots_of, stroke_at, stroke_of, strokes_behind, strokes_of};
 
 use crate::carried::Carried;
-use crate::rows::{reach, side_of};
+use crate::places::{carry, repeated};
+use crate::rows::side_of;
+use range_marks::RangeMarks;
 use sides::Side;
 use std::alloc::{AllocError, Global};
 
@@ -14,7 +17,7 @@ use std::alloc::{AllocError, Global};
 pub struct Stroke {
     /// The number of the path.
     pub path: u8,
-    /// Its first place was reached before, on this path or another one.
+    /// Some of its places were carried before, on this path or another one.
     pub again: bool,
     /// A line of the script lets it go lost.
     pub lost: bool,
@@ -32,13 +35,13 @@ pub struct Dot {
     pub place: u32,
 }
 
-fn stroke_at(top: u64, carried: &Carried, place: u32) -> Stroke
-    ensures { result ≡ stroke_at top carried.now place }
+fn stroke_at(repeated: u64, carried: &Carried, place: u32) -> Stroke
+    ensures { result ≡ stroke_at repeated carried.now place }
 {
     let from = u64::from(place);
     Stroke {
         path: carried.path,
-        again: from < top,
+        again: repeated > 0,
         lost: carried.lost,
         tick: carried.tick,
         from,
@@ -46,8 +49,8 @@ fn stroke_at(top: u64, carried: &Carried, place: u32) -> Stroke
     }
 }
 
-fn stroke_of(top: u64, carried: &Carried) -> Option<Stroke>
-    ensures { result ≡ stroke_of top carried.now carried.now.place }
+fn stroke_of(repeated: u64, carried: &Carried) -> Option<Stroke>
+    ensures { result ≡ stroke_of repeated carried.now carried.now.place }
 {
     match carried.place {
         None => None,
@@ -55,7 +58,7 @@ fn stroke_of(top: u64, carried: &Carried) -> Option<Stroke>
             if carried.len == 0 {
                 None
             } else {
-                Some(stroke_at(top, carried, place))
+                Some(stroke_at(repeated, carried, place))
             }
         }
     }
@@ -72,12 +75,14 @@ fn put_stroke(strokes: &mut Vec<Stroke>, stroke: Option<Stroke>) -> Result<(), A
 
 /// The payloads of what a side's segments carry.
 fn strokes_behind(alloc: Global, direction: &[Carried]) -> Result<Vec<Stroke>, AllocError>
-    ensures { IfOk result (λ strokes. strokes.items ≡ strokes_behind 0 direction.now) }
+    ensures { IfOk result (λ strokes. strokes.items ≡ strokes_behind no_marks direction.now) }
 {
-    let (mut strokes, mut top) = (Vec::new(alloc), 0_u64);
+    let mut places: RangeMarks<bool> = RangeMarks::new(alloc);
+    let mut strokes = Vec::new(alloc);
     for segment in direction {
-        put_stroke(&mut strokes, stroke_of(top, segment))?;
-        top = top.max(reach(segment.place, segment.len));
+        let repeated = repeated(&places, segment.place, segment.len);
+        put_stroke(&mut strokes, stroke_of(repeated, segment))?;
+        carry(&mut places, segment.place, segment.len)?;
     }
     Ok(strokes)
 }

@@ -1,12 +1,13 @@
 //! A line for each segment, in the words of tcpdump.
 
-ghost use Rattle.std.specs.Prelude.{◌≡◌, ◌++◌, IfOk, OnOk, string_bytes};
-ghost use Rattle.link_trace.specs.Lines.{initials_of, line_of, lines_of, note_words, place_words, way_word};
+ghost use Rattle.std.specs.Prelude.{◌≡◌, ◌++◌, option_map, IfOk, OnOk, string_bytes};
+ghost use Rattle.link_trace.specs.Lines.{streams_of, initial_of, initials_of, line_of, lines_of, note_words, number_of, place_words, way_word};
 ghost use Rattle.link_trace.specs.Meanings.{meaning_in};
 ghost use Rattle.link_trace.specs.Segments.{words_of};
 
 use crate::fate::{is_plain, put_fate};
-use crate::meanings::initial_of;
+use crate::meanings::{Syn, agreed, first_syn};
+use crate::multipath::DataInitials;
 use crate::segment::{Initials, words};
 use crate::sent::Sent;
 use link_model::SegmentFate;
@@ -24,12 +25,54 @@ fn way_word(from: Side) -> &'static str
     }
 }
 
-fn initials_of(trace: &[Sent], sent: &Sent) -> Initials
-    ensures { result ≡ initials_of trace.now sent.now }
+/// The initial data sequence numbers of both sides, one below those of the first bytes of their streams (RFC 8684, section 3.1).
+#[derive(Clone, Copy)]
+pub struct InitialData {
+    pub a: u64,
+    pub b: u64,
+}
+
+/// That of a side's stream.
+fn initial_of(initials: Option<InitialData>, side: Side) -> Option<u64>
+    ensures { result ≡ option_map (initial_of side) initials }
 {
+    match (initials, side) {
+        (None, _) => None,
+        (Some(initials), Side::A) => Some(initials.a),
+        (Some(initials), Side::B) => Some(initials.b),
+    }
+}
+
+/// Those of both streams, as a side sees them.
+fn streams_of(initials: Option<InitialData>, from: Side) -> DataInitials
+    ensures { result ≡ streams_of initials from }
+{
+    DataInitials {
+        own: initial_of(initials, from),
+        peer: initial_of(initials, from.peer()),
+    }
+}
+
+fn number_of(syn: Option<Syn>) -> Option<u32>
+    ensures { result ≡ number_of syn }
+{
+    match syn {
+        None => None,
+        Some(syn) => Some(syn.number),
+    }
+}
+
+/// From what the numbers of a segment count.
+fn initials_of(initials: Option<InitialData>, trace: &[Sent], sent: &Sent) -> Initials
+    ensures { result ≡ initials_of initials trace.now sent.now }
+{
+    let own = first_syn(trace, sent.path, sent.from);
+    let peer = first_syn(trace, sent.path, sent.from.peer());
     Initials {
-        own: initial_of(trace, sent.path, sent.from),
-        peer: initial_of(trace, sent.path, sent.from.peer()),
+        own: number_of(own),
+        peer: number_of(peer),
+        streams: streams_of(initials, sent.from),
+        shift: agreed(own, peer),
     }
 }
 
@@ -55,14 +98,15 @@ fn put_words(
     alloc: Global,
     text: &mut String,
     checksums: bool,
+    initials: Option<InitialData>,
     trace: &[Sent],
     sent: &Sent,
 ) -> Result<(), AllocError>
     ensures { OnOk result (string_bytes text.new ≡
-        string_bytes text.old ++ words_of (initials_of trace.now sent.now) checksums
+        string_bytes text.old ++ words_of (initials_of initials trace.now sent.now) checksums
         (meaning_in sent.now)) }
 {
-    let initials = initials_of(trace, sent);
+    let initials = initials_of(initials, trace, sent);
     let addresses = addresses_from(sent.path, sent.from);
     let told = words(
         alloc,
@@ -79,25 +123,32 @@ fn put_line(
     alloc: Global,
     text: &mut String,
     checksums: bool,
+    initials: Option<InitialData>,
     trace: &[Sent],
     sent: &Sent,
 ) -> Result<(), AllocError>
     ensures { OnOk result (string_bytes text.new ≡
-        string_bytes text.old ++ line_of checksums trace.now sent.now) }
+        string_bytes text.old ++ line_of checksums initials trace.now sent.now) }
 {
     put_place(text, sent)?;
-    put_words(alloc, text, checksums, trace, sent)?;
+    put_words(alloc, text, checksums, initials, trace, sent)?;
     put_note(text, &sent.fate)?;
     writeln!(text)
 }
 
-/// A line for each segment of a trace, over checksums of data or without them.
-pub fn lines(alloc: Global, checksums: bool, trace: &[Sent]) -> Result<Vec<u8>, AllocError>
-    ensures { IfOk result (λ text. text.items ≡ lines_of checksums trace.now) }
+/// A line for each segment of a trace, over checksums of data or without them: data numbers are relative to these initial ones, or as
+/// they stand without any.
+pub fn lines(
+    alloc: Global,
+    checksums: bool,
+    initials: Option<InitialData>,
+    trace: &[Sent],
+) -> Result<Vec<u8>, AllocError>
+    ensures { IfOk result (λ text. text.items ≡ lines_of checksums initials trace.now) }
 {
     let mut text = String::new(alloc);
     for sent in trace {
-        put_line(alloc, &mut text, checksums, trace, sent)?;
+        put_line(alloc, &mut text, checksums, initials, trace, sent)?;
     }
     Ok(text.into_bytes())
 }

@@ -1,14 +1,10 @@
 -- What is answered is put together of what its parts answer.
-use Rattle.std.proofs.Common.{◌≡◌, ◌≢◌, ◌∙◌, refl, sym, ap, subst, ℕ, length, List, Option, None, Result, Ok, Err, IfSome, IfOk}
+use Rattle.std.proofs.Common.{◌≡◌, ◌≢◌, ◌∙◌, refl, sym, subst, ℕ, List, Option, None, Result, Ok, Err, IfSome, IfOk}
 use Rattle.std.specs.Prelude.{option_and_then}
 use Rattle.world_core.specs.Logged.{all_turns}
-use Rattle.link_script.specs.declared.script.PathLine.{PathLine}
 use Rattle.link_script.specs.declared.script.Script.{Script}
-use Rattle.link_trace.specs.Captures.{blocks_of}
 use Rattle.link_trace.specs.Carrying.{all_carried}
-use Rattle.link_trace.specs.Points.{seen_at}
 use Rattle.link_trace.specs.Tables.{summary_of}
-use Rattle.link_trace.specs.Ticks.{AreByTick}
 use Rattle.link_trace.specs.declared.carried.Carried.{Carried}
 use Rattle.link_trace.specs.declared.rows.Rates.{Rates}
 use Rattle.link_trace.specs.declared.sent.Sent.{Sent}
@@ -16,7 +12,6 @@ use Rattle.outside_kit.specs.Outside.{Told, HoldsAfter}
 use Rattle.outside_kit.specs.declared.port.Port.{Port}
 use Rattle.outside_kit.specs.declared.port.Port.TheVariants.{ReadByB}
 use Rattle.path_core.specs.Octets.{octets}
-use Rattle.pcap_text.specs.Blocks.{capture_text}
 use Rattle.run_log.specs.declared.turn.Turn as logged
 use Rattle.run_outside.specs.Inputs.{AreWithinLimits, order_of}
 use Rattle.run_outside.specs.Plan.{AddsAll, AddsCut, loads_of}
@@ -29,43 +24,22 @@ use Rattle.run_trace.specs.Initials.{initials_in}
 use Rattle.run_trace.specs.Rates.{rates_of}
 use Rattle.run_trace.specs.Trace.{trace_of}
 use Rattle.run_words.specs.Lines.{Work, replay}
-use Rattle.sides.specs.declared.side.Side.{Side}
 use Rattle.world_laws.specs.Worlds.{AreLawful, WorldState}
 use Rattle.mptcp_view.specs.Asking.{Asking}
 use Rattle.mptcp_view.specs.Cutting.{IsRead}
 use Rattle.mptcp_view.specs.Telling.{untold}
 use Rattle.mptcp_view.specs.declared.cutting.Extent.{Extent}
-use Rattle.mptcp_view.specs.Views.{AreInputs, HoldsCut, IsCaptureAt, IsOutFault, IsShownByTick, IsViewAnswer, IsViewFault, IsViewFrom, IsViewOf, Shows, WithView, base_in, first_world, out_calls}
+use Rattle.mptcp_view.specs.Views.{AreInputs, HoldsCut, IsOutFault, IsViewAnswer, IsViewFault, IsViewFrom, IsViewOf, Shows, WithView, base_in, first_world, out_calls}
 use Rattle.mptcp_view.specs.declared.asking.View.{View}
 use Rattle.mptcp_view.specs.declared.asking.View.TheVariants.{Summary}
 use Rattle.mptcp_view.proofs.Refusing.{late, out_refused}
 
 -- the table of what a trace carries
-pub table_shown : {V E : Type 0} (items : V → List ℕ) (view : View) (script : Script) (w : WorldState (List ℕ)) (trace : List Sent) (rates : List Rates) (carried : List Carried)
+pub table_shown : {V E : Type 0} (items : V → List ℕ) (view : View) (script : Script) (w : WorldState (List ℕ)) (measured : List Rates) (trace : List Sent) (rates : List Rates) (carried : List Carried)
     → view ≡ Summary → rates ≡ rates_of w.crew → carried ≡ all_carried (base_in script) (initials_in script) trace
-    → (r : Result V E) → IfOk r (λ text. items text ≡ summary_of rates carried) → IfOk r (λ shown. IsViewFrom view script w trace (items shown))
-table_shown items view script w trace rates carried is rates_are carried_are (Err e) h = tt
-table_shown items view script w trace rates carried is rates_are carried_are (Ok text) h = rw (is, ← rates_are, ← carried_are) h
-
--- the capture of what a side sees
-pub capture_shown : {V E : Type 0} (items : V → List ℕ) (side : Side) (script : Script) (end : ℕ) (told seen : List Sent) (lines : List PathLine) (count : ℕ) (put : List Sent) → lines ≡ script.paths
-    → count ≡ length script.paths → put ≡ seen → AreByTick (seen_at side lines end told) seen
-    → (r : Result V E) → IfOk r (λ text. items text ≡ capture_text (blocks_of side count put)) → IfOk r (λ shown. IsCaptureAt side script end told (items shown))
-capture_shown items side script end told seen lines count put lines_are count_is put_is by_tick (Err e) h = tt
-capture_shown items side script end told seen lines count put lines_are count_is put_is by_tick (Ok text) h = (
-  seen,
-  (
-    subst (λ (ls : List PathLine). AreByTick (seen_at side ls end told) seen) lines_are by_tick,
-    h ∙ ap (λ (n : ℕ). capture_text (blocks_of side n put)) count_is ∙ ap (λ (s : List Sent). capture_text (blocks_of side (length script.paths) s)) put_is,
-  ),
-)
-
--- a view of segments that stand by tick
-pub shown_in_order : {V E : Type 0} (items : V → List ℕ) (view : View) (script : Script) (w : WorldState (List ℕ)) (trace told put : List Sent) → put ≡ told → AreByTick trace told
-    → (r : Result V E) → IfOk r (λ shown. IsViewFrom view script w put (items shown)) → IfOk r (λ shown. IsShownByTick view script w trace (items shown))
-shown_in_order items view script w trace told put same by_tick (Err e) h = tt
-shown_in_order items view script w trace told put same by_tick (Ok text) h =
-    (told, (by_tick, subst (λ (s : List Sent). IsViewFrom view script w s (items text)) same h))
+    → (r : Result V E) → IfOk r (λ text. items text ≡ summary_of rates carried) → IfOk r (λ shown. IsViewFrom script w measured view trace (items shown))
+table_shown items view script w measured trace rates carried is rates_are carried_are (Err e) h = tt
+table_shown items view script w measured trace rates carried is rates_are carried_are (Ok text) h = rw (is, ← rates_are, ← carried_are) h
 
 pub are_inputs : (content : List ℕ → Option (List ℕ)) (asked : Asking) (name : List ℕ) (input : Input) (log : List ℕ) → asked.line.work ≡ replay name → AreWithinLimits content asked.line
     → IfSome (content asked.line.names.script) (λ told. reading told ≡ Ok input.script)

@@ -6,16 +6,18 @@ use Rattle.sides.specs.declared.side.Side.TheVariants.{A, B}
 use Rattle.sides.specs.Side.{side_word}
 use Rattle.run_words.specs.Lines.{Line, as_line, is_given, replay}
 use Rattle.mptcp_view.specs.declared.asking.Asked.{Asked}
+use Rattle.mptcp_view.specs.declared.asking.DataNumbers.TheVariants.{Relative, Absolute}
 use Rattle.mptcp_view.specs.declared.asking.View.{View}
-use Rattle.mptcp_view.specs.declared.asking.View.TheVariants.{Capture, Summary, Picture, Text}
+use Rattle.mptcp_view.specs.declared.asking.View.TheVariants.{Capture, Rates, Summary, Picture, Text}
 
 -- the view of this name, as it is without an option
 abbrev pub view_named : List ℕ → Option View
 view_named word =
     if bytes_eq word (codes "capture") then Some (Capture None)
+    else (if bytes_eq word (codes "rates") then Some Rates
     else (if bytes_eq word (codes "summary") then Some Summary
     else (if bytes_eq word (codes "picture") then Some Picture
-    else (if bytes_eq word (codes "text") then Some Text else None)))
+    else (if bytes_eq word (codes "text") then Some (Text Relative) else None))))
 
 abbrev pub side_named : List ℕ → Option Side
 side_named word = if bytes_eq word (side_word A) then Some A else (if bytes_eq word (side_word B) then Some B else None)
@@ -25,6 +27,11 @@ abbrev pub view_at : List ℕ → List ℕ → List ℕ → Option View
 view_at word option value =
     if bytes_eq word (codes "capture") && bytes_eq option (codes "--at") then option_map (λ side. Capture (Some side)) (side_named value)
     else None
+
+-- `text --absolute`: data numbers as they stand
+abbrev pub view_with : List ℕ → List ℕ → Option View
+view_with word option =
+    if bytes_eq word (codes "text") && bytes_eq option (codes "--absolute") then Some (Text Absolute) else None
 
 -- what is asked for: a view of a replay
 pub record Asking : Type 0 where
@@ -73,12 +80,20 @@ abbrev pub asked_plainly : Bool → List (List ℕ) → Option Asking
 asked_plainly messages (word ∷ script ∷ file_a ∷ file_b ∷ log ∷ out ∷ []) = asked_of messages (view_named word) script file_a file_b log out
 asked_plainly messages words = None
 
+-- a view's name, an option of it in one word, and five names
+abbrev pub asked_flagged : Bool → List (List ℕ) → Option Asking
+asked_flagged messages (word ∷ option ∷ script ∷ file_a ∷ file_b ∷ log ∷ out ∷ []) =
+    asked_of messages (view_with word option) script file_a file_b log out
+asked_flagged messages words = None
+
 -- a view's name, an option of it in two words, and five names
 abbrev pub asked_with : Bool → List (List ℕ) → Option Asking
 asked_with messages (word ∷ option ∷ value ∷ script ∷ file_a ∷ file_b ∷ log ∷ out ∷ []) =
     asked_of messages (view_at word option value) script file_a file_b log out
 asked_with messages words = None
 
--- eight words have an option
+-- seven words have an option in one word, eight one in two
 abbrev pub asked_in : Bool → List (List ℕ) → Option Asking
-asked_in messages words = if length words == 8 then asked_with messages words else asked_plainly messages words
+asked_in messages words =
+    if length words == 7 then asked_flagged messages words
+    else (if length words == 8 then asked_with messages words else asked_plainly messages words)

@@ -1,20 +1,24 @@
 -- What OUT shows of what the words ask for, and why it doesn't.
-use Rattle.std.specs.Prelude.{◌≡◌, ◌≢◌, ◌⊎◌, Result, Ok, IfOk, IfErr, ℕ, ◌+◌, ◌^◌, ◌≤◌, Option, Some, None, option_map, unwrap_or, IfSome, List, [], ◌∷◌, ◌++◌, length, take}
+use Rattle.std.specs.Prelude.{◌≡◌, ◌≢◌, ◌⊎◌, Result, Ok, IfOk, IfErr, ℕ, ◌+◌, ◌/◌, ◌^◌, ◌≤◌, Option, Some, None, option_map, unwrap_or, IfSome, List, [], ◌∷◌, ◌++◌, length, take}
 use Rattle.world_core.specs.Logged.{all_turns}
 use Rattle.outside_kit.specs.Calls.{Call}
 use Rattle.outside_kit.specs.Calls as call
 use Rattle.outside_kit.specs.declared.port.Port.{Port}
 use Rattle.outside_kit.specs.declared.port.Port.TheVariants as port
 use Rattle.outside_kit.specs.Outside.{Told, HasRisen, HoldsAfter}
+use Rattle.key_material.specs.KeyDigest.{idsn_of}
 use Rattle.link_script.specs.declared.script.Script.{Script}
 use Rattle.link_trace.specs.Captures.{blocks_of}
 use Rattle.link_trace.specs.Carrying.{all_carried, base_of}
+use Rattle.link_trace.specs.Intervals.{rates_text}
 use Rattle.link_trace.specs.Lines.{lines_of}
 use Rattle.link_trace.specs.Points.{seen_at}
 use Rattle.link_trace.specs.Tables.{summary_of}
 use Rattle.link_trace.specs.Ticks.{AreByTick}
 use Rattle.link_trace.specs.declared.carried.Base.{Base}
+use Rattle.link_trace.specs.declared.rows.Rates as table
 use Rattle.link_trace.specs.declared.sent.Sent.{Sent}
+use Rattle.link_trace.specs.declared.text.InitialData.{InitialData}
 use Rattle.message_pipe.specs.Lined.{framed_told}
 use Rattle.path_core.specs.Octets.{octets}
 use Rattle.path_core.specs.Start.{key_of}
@@ -31,7 +35,7 @@ use Rattle.run_outside.specs.declared.status.Named.TheVariants as named
 use Rattle.run_outside.specs.declared.status.Status.{Status}
 use Rattle.run_outside.specs.declared.status.Status.TheVariants as status
 use Rattle.run_trace.specs.Initials.{initials_in}
-use Rattle.run_trace.specs.Rates.{rates_of}
+use Rattle.run_trace.specs.Rates.{measured_in, rates_of}
 use Rattle.run_trace.specs.Trace.{StopsAt, trace_of}
 use Rattle.run_trace.specs.declared.making.TraceFault.{TraceFault}
 use Rattle.run_trace.specs.declared.making.TraceFault.TheVariants as fault
@@ -44,8 +48,10 @@ use Rattle.world_laws.specs.Worlds.{AreLawful, Turn, WorldState, world_run}
 use Rattle.mptcp_view.specs.Asking.{Asking}
 use Rattle.mptcp_view.specs.Cutting.{IsRead, IsUnread}
 use Rattle.mptcp_view.specs.Telling.{untold}
+use Rattle.mptcp_view.specs.declared.asking.DataNumbers.{DataNumbers}
+use Rattle.mptcp_view.specs.declared.asking.DataNumbers.TheVariants.{Relative, Absolute}
 use Rattle.mptcp_view.specs.declared.asking.View.{View}
-use Rattle.mptcp_view.specs.declared.asking.View.TheVariants.{Capture, Summary, Picture, Text}
+use Rattle.mptcp_view.specs.declared.asking.View.TheVariants.{Capture, Rates, Summary, Picture, Text}
 use Rattle.mptcp_view.specs.declared.cutting.Extent.{Extent}
 
 -- ---- the view
@@ -58,6 +64,11 @@ first_world input = opened_world (start_of input.script input.file_a input.file_
 abbrev pub base_in : Script → Base
 base_in script = base_of (key_of script.seed 0) (key_of script.seed 2) script.checksum
 
+-- the initial data sequence numbers of both sides, from which data numbers are told; none where they are told as they stand
+abbrev pub data_in : DataNumbers → Script → Option InitialData
+data_in Relative script = Some (record { a = idsn_of (key_of script.seed 0); b = idsn_of (key_of script.seed 2) })
+data_in Absolute script = None
+
 -- the tick at which a run ended: clocks meet as a round ends, so that of path 0, which is the actor 2
 abbrev pub end_of : WorldState (List ℕ) → ℕ
 end_of w = unwrap_or (option_map (λ (p : PathState (List ℕ)). p.clock) (path_at 2 w.crew)) 0
@@ -67,24 +78,28 @@ abbrev pub IsCaptureAt : Side → Script → ℕ → List Sent → List ℕ → 
 IsCaptureAt side script end told shown =
     (seen : List Sent) × (AreByTick (seen_at side script.paths end told) seen × (shown ≡ capture_text (blocks_of side (length script.paths) seen)))
 
--- a view of these segments of a run of this script, which ended with this world
-abbrev pub IsViewFrom : View → Script → WorldState (List ℕ) → List Sent → List ℕ → Type 0
--- as they are handed to the links, with directions as A sees them
-IsViewFrom (Capture None) script w told shown = shown ≡ capture_text (blocks_of A (length script.paths) told)
-IsViewFrom (Capture (Some side)) script w told shown = IsCaptureAt side script (end_of w) told shown
-IsViewFrom Summary script w told shown = shown ≡ summary_of (rates_of w.crew) (all_carried (base_in script) (initials_in script) told)
-IsViewFrom Text script w told shown = shown ≡ lines_of script.checksum told
--- 2 MiB at most
-IsViewFrom Picture script w told shown = length shown ≤ 2 ^ 21
+-- a view of these segments of a run of this script, whose ends measured this as its rounds ended, and which ended with this world
+module _ (script : Script) (w : WorldState (List ℕ)) (measured : List table.Rates) where
+  abbrev pub IsViewFrom : View → List Sent → List ℕ → Type 0
+  -- as they are handed to the links, with directions as A sees them
+  IsViewFrom (Capture None) told shown = shown ≡ capture_text (blocks_of A (length script.paths) told)
+  IsViewFrom (Capture (Some side)) told shown = IsCaptureAt side script (end_of w) told shown
+  IsViewFrom Rates told shown =
+      shown ≡ rates_text measured (length script.paths) (end_of w / 100) (all_carried (base_in script) (initials_in script) told)
+  IsViewFrom Summary told shown = shown ≡ summary_of (rates_of w.crew) (all_carried (base_in script) (initials_in script) told)
+  IsViewFrom (Text numbers) told shown = shown ≡ lines_of script.checksum (data_in numbers script) told
+  -- 2 MiB at most
+  IsViewFrom Picture told shown = length shown ≤ 2 ^ 21
 
--- the segments stand by tick
-abbrev pub IsShownByTick : View → Script → WorldState (List ℕ) → List Sent → List ℕ → Type 0
-IsShownByTick view script w trace shown = (told : List Sent) × (AreByTick trace told × IsViewFrom view script w told shown)
+  -- the segments stand by tick
+  abbrev pub IsShownByTick : View → List Sent → List ℕ → Type 0
+  IsShownByTick view trace shown = (told : List Sent) × (AreByTick trace told × IsViewFrom view told shown)
 
 -- a view of what these turns send
 abbrev pub IsViewOf : View → Input → List Turn → List ℕ → Type 0
 IsViewOf view input turns shown =
-    IsShownByTick view input.script (world_run octets turns (first_world input)) (trace_of turns (first_world input)) shown
+    let w = first_world input in
+    IsShownByTick input.script (world_run octets turns w) (measured_in turns w) view (trace_of turns w) shown
 
 -- ---- the inputs
 

@@ -2,7 +2,7 @@
 
 ghost use Rattle.std.specs.Prelude.{◌≡◌, map, option_map, IfSome, string_bytes};
 ghost use Rattle.run_words.specs.Lines.{as_line, is_given, replay};
-ghost use Rattle.mptcp_view.specs.Asking.{are_given, are_names, are_read_apart, as_asked, asked_in, asked_of, asked_plainly, asked_with, is_apart, side_named, view_at, view_named};
+ghost use Rattle.mptcp_view.specs.Asking.{are_given, are_names, are_read_apart, as_asked, asked_flagged, asked_in, asked_of, asked_plainly, asked_with, is_apart, side_named, view_at, view_named, view_with};
 
 use run_words::{CommandLine, Mode};
 use sides::Side;
@@ -12,12 +12,23 @@ use sides::Side;
 pub enum View {
     /// A capture in the pcapng format: of each segment as it is handed to its link, or of what passes the interfaces of a side.
     Capture(Option<Side>),
+    /// Lines of a CSV file: what was sent in each 100 ticks, by path and direction.
+    Rates,
     /// A table by path and direction.
     Summary,
     /// A drawing in SVG.
     Picture,
     /// A line for each segment.
-    Text,
+    Text(DataNumbers),
+}
+
+/// How data sequence numbers and Data ACKs are told.
+#[derive(Clone, Copy)]
+pub enum DataNumbers {
+    /// Relative to the initial ones.
+    Relative,
+    /// As they stand.
+    Absolute,
 }
 
 /// The view of this name, as it is without an option.
@@ -26,9 +37,10 @@ fn view_named(word: &str) -> Option<View>
 {
     match word {
         "capture" => Some(View::Capture(None)),
+        "rates" => Some(View::Rates),
         "summary" => Some(View::Summary),
         "picture" => Some(View::Picture),
-        "text" => Some(View::Text),
+        "text" => Some(View::Text(DataNumbers::Relative)),
         _ => None,
     }
 }
@@ -100,6 +112,17 @@ pub struct Asked<'a> {
     pub log: &'a str,
 }
 
+/// The view of this name with this option: `text --absolute`.
+fn view_with(word: &str, option: &str) -> Option<View>
+    ensures { result ≡ view_with word.now option.now }
+{
+    if word == "text" && option == "--absolute" {
+        Some(View::Text(DataNumbers::Absolute))
+    } else {
+        None
+    }
+}
+
 /// What the words ask for: the view of what the names are. None of them is empty, and OUT is none of the inputs. Of a run of
 /// messages neither file is the script or the log.
 fn asked_of<'a>(
@@ -155,6 +178,26 @@ fn asked_plainly(messages: bool, words: &[String]) -> Option<Asked<'_>>
     )
 }
 
+/// A view's name, an option of it in one word, and five names.
+fn asked_flagged(messages: bool, words: &[String]) -> Option<Asked<'_>>
+    ensures asked { option_map as_asked result ≡
+        asked_flagged messages (map string_bytes words.now) }
+    ensures log { IfSome result (λ asked. (as_line asked.line).work ≡ replay asked.log.now) }
+{
+    let [word, option, script, file_a, file_b, log, out] = words else {
+        return None;
+    };
+    asked_of(
+        messages,
+        view_with(word.as_str(), option.as_str()),
+        script.as_str(),
+        file_a.as_str(),
+        file_b.as_str(),
+        log.as_str(),
+        out.as_str(),
+    )
+}
+
 /// A view's name, an option of it in two words, and five names.
 fn asked_with(messages: bool, words: &[String]) -> Option<Asked<'_>>
     ensures asked { option_map as_asked result ≡ asked_with messages (map string_bytes words.now) }
@@ -174,14 +217,14 @@ fn asked_with(messages: bool, words: &[String]) -> Option<Asked<'_>>
     )
 }
 
-/// A view's name, an option of it in two words where there is one, and five names, as `asked_of` takes them.
+/// A view's name, an option of it in one or two words where there is one, and five names, as `asked_of` takes them.
 pub fn asked_by(messages: bool, words: &[String]) -> Option<Asked<'_>>
     ensures asked { option_map as_asked result ≡ asked_in messages (map string_bytes words.now) }
     ensures log { IfSome result (λ asked. (as_line asked.line).work ≡ replay asked.log.now) }
 {
-    if words.len() == 8 {
-        asked_with(messages, words)
-    } else {
-        asked_plainly(messages, words)
+    match words.len() {
+        7 => asked_flagged(messages, words),
+        8 => asked_with(messages, words),
+        _ => asked_plainly(messages, words),
     }
 }

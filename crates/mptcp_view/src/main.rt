@@ -1,10 +1,12 @@
-//! Shows a run: `mptcp_view capture|summary|picture|text SCRIPT FILE_A FILE_B LOG OUT` makes the steps of a log again, and writes
+//! Shows a run: `mptcp_view capture|rates|summary|picture|text SCRIPT FILE_A FILE_B LOG OUT` makes the steps of a log again, and writes
 //! what was sent on each path to OUT; `capture --at a` and `capture --at b`, what passes the interfaces of one side. Behind a first word
 //! `messages` the log is that of a run of messages.
 #![tactic(auto)]
 
 mod asking;
 mod cutting;
+mod deaths;
+mod helping;
 mod messages;
 mod showing;
 mod telling;
@@ -12,10 +14,15 @@ mod terminal;
 
 use cutting::Extent;
 use file_outside::FileOutside;
+use helping::script_help;
+use link_script::ScriptKind;
 use messages::view_messages;
+use outside_kit::Outside;
 use run_outside::{Named, Status, command_words};
 use showing::view_words;
 use std::alloc::{AllocError, Global};
+use std::fs;
+use std::io::{self, Read};
 use std::process::ExitCode;
 use terminal::Terminal;
 
@@ -32,7 +39,7 @@ fn renamed(alloc: Global, status: &Status) -> Result<String, AllocError> {
 fn fault_line(alloc: Global, status: &Status) -> Result<String, AllocError> {
     let line = match status {
         Status::Usage => {
-            "mptcp_view: usage: [messages] capture [--at a|b]|summary|picture|text SCRIPT FILE_A FILE_B LOG OUT"
+            "mptcp_view: usage: [messages] capture [--at a|b]|rates|summary|picture|text [--absolute] SCRIPT FILE_A FILE_B LOG OUT"
         }
         Status::Load {
             input: Named::Order,
@@ -62,13 +69,76 @@ fn shown(
     }
 }
 
-/// Writes what the words ask for.
-fn view_of(rt: &HostRuntime) -> Result<Extent, Status> {
-    let words = command_words(rt)?;
+/// Writes what the words ask for, and ends the terminal's line.
+fn view_of(rt: &HostRuntime, words: &[String]) -> Result<Extent, Status> {
     let mut terminal = Terminal::new(rt);
-    let shown = shown(rt, &words, &mut terminal);
+    let shown = shown(rt, words, &mut terminal);
     terminal.end();
     shown
+}
+
+/// The name of an input: the last five words are names.
+fn name_of(words: &[String], input: Named) -> Option<&str> {
+    let behind = match input {
+        Named::Script => 5,
+        Named::FileA => 4,
+        Named::FileB => 3,
+        Named::Order => 2,
+    };
+    let word = words.get(words.len().checked_sub(behind)?)?;
+    Some(word.as_str())
+}
+
+/// What helps with a script that is refused at this line, behind a colon, or nothing where the script can't be read again.
+fn help_of_script(rt: &HostRuntime, words: &[String], line: u64, kind: ScriptKind) -> String {
+    let mut help = String::new(rt.alloc());
+    let Some(name) = name_of(words, Named::Script) else {
+        return help;
+    };
+    if let Ok(script) = FileOutside::new(rt, false).load(rt.alloc(), name, 65_536) {
+        if let Ok(text) = script_help(rt.alloc(), &script, line, kind) {
+            let _ = write!(help, ": {text}");
+        }
+    }
+    help
+}
+
+/// Why the system doesn't read a file, if it still doesn't.
+fn reason_of(rt: &HostRuntime, name: &str) -> Option<io::Error> {
+    let mut octet = [0_u8];
+    match fs::open(rt, name) {
+        Err(error) => Some(error),
+        Ok(mut file) => file.read(&mut octet).err(),
+    }
+}
+
+/// Tells the name of an input that can't be read, and the system's reason.
+fn tell_reason(rt: &HostRuntime, words: &[String], input: Named) {
+    if let Some(name) = name_of(words, input) {
+        if let Some(reason) = reason_of(rt, name) {
+            let _ = eprintln!(rt; "mptcp_view: {name}: {reason}");
+        }
+    }
+}
+
+/// Tells why nothing is shown.
+fn tell_fault(rt: &HostRuntime, words: &[String], status: &Status) {
+    let Ok(line) = fault_line(rt.alloc(), status) else {
+        return;
+    };
+    match *status {
+        Status::Script { line: at, kind } => {
+            let help = help_of_script(rt, words, at, kind);
+            let _ = eprintln!(rt; "{line}{help}");
+        }
+        Status::Load { input } => {
+            let _ = eprintln!(rt; "{line}");
+            tell_reason(rt, words, input);
+        }
+        _ => {
+            let _ = eprintln!(rt; "{line}");
+        }
+    }
 }
 
 /// Says that a log was cut off.
@@ -78,16 +148,25 @@ fn tell(rt: &HostRuntime, extent: Extent) {
     }
 }
 
-fn main(rt: HostRuntime) -> ExitCode {
-    match view_of(&rt) {
+/// Writes what the words ask for, and tells how much that is, or why it is nothing.
+fn exit_of(rt: &HostRuntime, words: &[String]) -> ExitCode {
+    match view_of(rt, words) {
         Ok(extent) => {
-            tell(&rt, extent);
+            tell(rt, extent);
             ExitCode::from(0)
         }
         Err(status) => {
-            if let Ok(line) = fault_line(rt.alloc(), &status) {
-                let _ = eprintln!(rt; "{line}");
-            }
+            tell_fault(rt, words, &status);
+            ExitCode::from(status.code())
+        }
+    }
+}
+
+fn main(rt: HostRuntime) -> ExitCode {
+    match command_words(&rt) {
+        Ok(words) => exit_of(&rt, &words),
+        Err(status) => {
+            tell_fault(&rt, &[], &status);
             ExitCode::from(status.code())
         }
     }

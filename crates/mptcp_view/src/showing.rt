@@ -1,6 +1,6 @@
 //! The log's steps made again, and one view of what was sent.
 
-ghost use Rattle.std.specs.Prelude.{◌≡◌, ◌≢◌, ◌++◌, ◌↔◌, ◌<◌, ◌≤◌, ◌^◌, false, Err, None, [], ◌∷◌, map, IfOk, IfErr, IfSome, OnOk, OnErr, string_bytes};
+ghost use Rattle.std.specs.Prelude.{◌≡◌, ◌≢◌, ◌++◌, ◌↔◌, ◌<◌, ◌≤◌, ◌^◌, false, Err, None, [], ◌∷◌, map, IfOk, IfErr, IfSome, OnOk, OnErr, length, string_bytes};
 ghost use Rattle.outside_kit.specs.Calls as call;
 ghost use Rattle.outside_kit.specs.Outside.{HoldsAfter, HoldsPrefix};
 ghost use Rattle.outside_kit.specs.declared.port.Port.{Port};
@@ -18,19 +18,22 @@ ghost use Rattle.world_core.specs.Logged.{all_turns};
 ghost use Rattle.world_laws.specs.Worlds.{AreLawful};
 ghost use Rattle.mptcp_view.specs.Asking.{as_asked, asked_in};
 ghost use Rattle.mptcp_view.specs.Telling.{untold};
-ghost use Rattle.mptcp_view.specs.Views.{HoldsCut, IsBeforeOut, IsCaptureAt, IsOutFault, IsShownByTick, IsTurnsFault, IsUntold, IsViewAnswer, IsViewFault, IsViewFrom, IsViewOf, Shows, base_in, end_of, first_world, out_calls, stopped_at};
+ghost use Rattle.mptcp_view.specs.Views.{HoldsCut, IsBeforeOut, IsCaptureAt, IsOutFault, IsShownByTick, IsTurnsFault, IsUntold, IsViewAnswer, IsViewFault, IsViewFrom, IsViewOf, Shows, base_in, data_in, end_of, first_world, out_calls, stopped_at};
 
-use crate::asking::{Asked, View, asked_by};
+use crate::asking::{Asked, DataNumbers, View, asked_by};
 use crate::cutting::{Extent, ReadLog, read_shown};
+use crate::deaths::deaths_in;
 use crate::telling::untold;
-use link_script::{Script, ScriptLine};
+use key_material::idsn;
+use link_script::Script;
 use link_trace::{
-    Base, Carried, Death, Sent, all_carried, capture, lines, picture, put_by_tick, seen_at, summary,
+    Base, Carried, InitialData, Rates, Sent, all_carried, capture, lines, picture, put_by_tick,
+    rates, seen_at, summary,
 };
 use outside_kit::{Outside, Port, PutFault};
 use path_core::key_of;
 use run_outside::{Input, Logged, Status, load_logged, opening_count};
-use run_trace::{Progress, TraceFault, gather, initials_in, rates_of};
+use run_trace::{Gathered, Progress, TraceFault, gather, initials_in, rates_of};
 use sides::Side;
 use std::alloc::{AllocError, Global};
 use world_core::World;
@@ -52,29 +55,17 @@ fn carried_in(alloc: Global, script: &Script, trace: &[Sent]) -> Result<Vec<Carr
     all_carried(alloc, &base_in(script), &initials, trace)
 }
 
-/// The death that a line of the script tells, where it came: where the clock of its path reached its tick.
-fn death_in(world: &World, line: &ScriptLine) -> Option<Death> {
-    let ScriptLine::Die { path, tick } = *line else {
-        return None;
-    };
-    // The actors 0 and 1 are the applications.
-    let path_actor = world.path(path.checked_add(2)?)?;
-    if tick <= path_actor.tick() {
-        Some(Death { path, tick })
-    } else {
-        None
+/// The initial data sequence numbers of both sides, where data numbers are told from these.
+fn data_in(numbers: DataNumbers, script: &Script) -> Option<InitialData>
+    ensures { result ≡ data_in numbers script.now }
+{
+    match numbers {
+        DataNumbers::Relative => Some(InitialData {
+            a: idsn(key_of(script.seed, 0)),
+            b: idsn(key_of(script.seed, 2)),
+        }),
+        DataNumbers::Absolute => None,
     }
-}
-
-/// The deaths by the script that came in a run, which ended with this world.
-fn deaths_in(alloc: Global, world: &World, lines: &[ScriptLine]) -> Result<Vec<Death>, AllocError> {
-    let mut deaths = Vec::new(alloc);
-    for line in lines {
-        if let Some(death) = death_in(world, line) {
-            deaths.push(death)?;
-        }
-    }
-    Ok(deaths)
 }
 
 /// The tick at which a run ended that ended with this world. Clocks meet as a round ends, so it is that of path 0, which is the actor 2.
@@ -102,31 +93,46 @@ fn capture_at(
     capture(alloc, side, paths.len(), &seen)
 }
 
+/// The picture of these segments of a run of this script, which ended with this world.
+fn picture_at(
+    alloc: Global,
+    script: &Script,
+    world: &World,
+    told: &[Sent],
+) -> Result<Vec<u8>, AllocError>
+    ensures { IfOk result (λ shown. length shown.items ≤ 2 ^ 21) }
+{
+    let deaths = deaths_in(alloc, world, script.lines.as_slice())?;
+    let carried = carried_in(alloc, script, told)?;
+    picture(alloc, script.paths.as_slice().len(), &deaths, &carried)
+}
+
 /// A view of these segments of a run of this script, which ended with this world.
 fn shown(
     alloc: Global,
     view: View,
     script: &Script,
     world: &World,
+    measured: &[Rates],
     told: &[Sent],
 ) -> Result<Vec<u8>, AllocError>
     ensures { IfOk result (λ shown.
-        IsViewFrom view script.now world.now.state told.now shown.items) }
+        IsViewFrom script.now world.now.state measured.now view told.now shown.items) }
 {
     let paths = script.paths.as_slice().len();
     match view {
         View::Capture(None) => capture(alloc, Side::A, paths, told),
         View::Capture(Some(side)) => capture_at(alloc, side, script, end_of(world), told),
+        View::Rates => {
+            let carried = carried_in(alloc, script, told)?;
+            rates(alloc, measured, paths, end_of(world) / 100, &carried)
+        }
         View::Summary => {
             let carried = carried_in(alloc, script, told)?;
             summary(alloc, &rates_of(alloc, world)?, &carried)
         }
-        View::Picture => {
-            let carried = carried_in(alloc, script, told)?;
-            let deaths = deaths_in(alloc, world, script.lines.as_slice())?;
-            picture(alloc, paths, &deaths, &carried)
-        }
-        View::Text => lines(alloc, script.checksum, told),
+        View::Picture => picture_at(alloc, script, world, told),
+        View::Text(numbers) => lines(alloc, script.checksum, data_in(numbers, script), told),
     }
 }
 
@@ -136,13 +142,17 @@ fn shown_by_tick(
     view: View,
     script: &Script,
     world: &World,
-    mut trace: Vec<Sent>,
+    gathered: Gathered,
 ) -> Result<Vec<u8>, AllocError>
-    ensures { IfOk result (λ shown.
-        IsShownByTick view script.now world.now.state trace.items shown.items) }
+    ensures { IfOk result (λ shown. IsShownByTick script.now world.now.state
+        gathered.measured.items view gathered.trace.items shown.items) }
 {
+    let Gathered {
+        mut trace,
+        measured,
+    } = gathered;
     put_by_tick(&mut trace)?;
-    shown(alloc, view, script, world, &trace)
+    shown(alloc, view, script, world, &measured, &trace)
 }
 
 /// The status of turns that weren't all made, behind so many lines of the log.
@@ -243,12 +253,12 @@ fn view_from<P: Progress>(
     ensures fault { IfErr result
         (IsTurnsFault (all_turns read.now.turns.items) input.now read.now.part.items) }
 {
-    let trace = match gather(alloc, world, &read.turns, progress) {
-        Ok(trace) => trace,
+    let gathered = match gather(alloc, world, &read.turns, progress) {
+        Ok(gathered) => gathered,
         Err(fault) => return Err(stopped(fault, opening_count(&read.part))),
     };
-    are_told(alloc, &read.part, &trace)?;
-    match shown_by_tick(alloc, view, &input.script, world, trace) {
+    are_told(alloc, &read.part, &gathered.trace)?;
+    match shown_by_tick(alloc, view, &input.script, world, gathered) {
         Ok(shown) => Ok(shown),
         Err(_) => Err(Status::Memory),
     }
@@ -301,10 +311,10 @@ pub fn show<O: Outside, P: Progress>(
     }
 }
 
-/// Writes the view that the words ask for: a first word `capture`, `summary`, `picture` or `text`, behind `capture` the words `--at
-/// a` or `--at b` where they are wanted, and five names. No name is empty, and OUT is none of the inputs. It tells how far the turns
-/// of the log are made. Of the ports only that of OUT, `ReadByB`, is touched. The answer is how much of the log is shown: where it
-/// was cut off, as that of a run that was killed, its whole rounds.
+/// Writes the view that the words ask for: a first word `capture`, `rates`, `summary`, `picture` or `text`, behind `capture` the
+/// words `--at a` or `--at b`, or behind `text` the word `--absolute`, where they are wanted, and five names. No name is empty, and
+/// OUT is none of the inputs. It tells how far the turns of the log are made. Of the ports only that of OUT, `ReadByB`, is touched.
+/// The answer is how much of the log is shown: where it was cut off, as that of a run that was killed, its whole rounds.
 ///
 /// # Errors
 ///

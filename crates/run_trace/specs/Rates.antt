@@ -1,5 +1,5 @@
--- The congestion windows and the smoothed round-trip times of the ends of the paths.
-use Rattle.std.specs.Prelude.{◌≡◌, option_map, List, length}
+-- What the ends of the paths measure, and how much they may have under way.
+use Rattle.std.specs.Prelude.{◌≡◌, ℕ, option_map, List, [], ◌∷◌, ◌++◌, length}
 use Rattle.std.specs.List.{flat_map}
 use Rattle.std.specs.Option.{option_to_list}
 use Rattle.sides.specs.declared.side.Side.{Side}
@@ -12,7 +12,7 @@ use Rattle.path_core.specs.State.{PathState}
 use Rattle.world_core.specs.Looking.{member_path}
 use Rattle.world_laws.specs.Actors.{ActorCrew}
 use Rattle.world_laws.specs.Openings.{Start, opened_world}
-use Rattle.world_laws.specs.Worlds.{Turn, world_run}
+use Rattle.world_laws.specs.Worlds.{Turn, WorldState, after_turn, world_run}
 
 module _ {C : Type 0} where
   -- of a side's end
@@ -25,6 +25,16 @@ module _ {C : Type 0} where
   -- the rates of each path among these actors, in their order: path 0 first
   abbrev pub rates_of : List (ActorCrew C) → List Rates
   rates_of crew = flat_map (λ c. option_to_list (option_map rates_in (member_path c.member))) crew
+
+-- all paths as the turn ends a round
+abbrev pub measured_at : Turn → WorldState (List ℕ) → List Rates
+measured_at (Turn.Step actor) w = []
+measured_at Turn.Round w = rates_of w.crew
+
+-- as each round of these turns ends, one after the other
+abbrev pub measured_in : List Turn → WorldState (List ℕ) → List Rates
+measured_in [] w = []
+measured_in (turn ∷ turns) w = measured_at turn w ++ measured_in turns (after_turn octets turn w)
 
 -- After any turns each path of a connection has them, and nobody else.
 abbrev pub EachPathHasItsRates : Type 0

@@ -6,11 +6,13 @@ ghost use Rattle.path_core.specs.Octets.{octets};
 ghost use Rattle.world_core.specs.Kept.{standing};
 ghost use Rattle.world_core.specs.Logged.{turn_of, all_turns};
 ghost use Rattle.world_laws.specs.Worlds.{AreLawful, after_turn, is_going, world_run, world_step};
+ghost use Rattle.run_trace.specs.Rates.{measured_at, measured_in};
 ghost use Rattle.run_trace.specs.Trace.{FailedOrIs, IsTraceFault, IsWhole, StandsAtFault, can_be_made, place_of, sent_at, sent_next, trace_of};
 
 use crate::next::sent_next;
 use crate::progress::Progress;
-use link_trace::Sent;
+use crate::rates::put_rates;
+use link_trace::{Rates, Sent};
 use run_log::Turn;
 use std::alloc::{AllocError, Global};
 use world_core::World;
@@ -23,6 +25,15 @@ pub enum TraceFault {
     Turn { place: u64 },
     /// Out of memory.
     Memory,
+}
+
+/// What turns hand to the links, and what the ends measure on the way.
+#[derive(Drop)]
+pub struct Gathered {
+    /// The segments, in order.
+    pub trace: Vec<Sent>,
+    /// As each round ends, what both ends of each path measure, path 0 first: one round after the other.
+    pub measured: Vec<Rates>,
 }
 
 /// Keeps a segment, if there is one.
@@ -52,26 +63,33 @@ fn make_step(world: &mut World, actor: u8, trace: &mut Vec<Sent>) -> Result<bool
     world.go(actor)
 }
 
-/// Makes a turn, and keeps the segment that it hands to a link. Answers whether it could be made.
-fn make_turn(world: &mut World, turn: Turn, trace: &mut Vec<Sent>) -> Result<bool, AllocError>
+/// Makes a turn, and keeps the segment that it hands to a link, or what the ends measure as it ends a round. Answers whether it could be
+/// made.
+fn make_turn(world: &mut World, turn: Turn, gathered: &mut Gathered) -> Result<bool, AllocError>
     requires { world.old.failed ≡ false }
     ensures made { IfOk result (λ made. made ≡ can_be_made (turn_of turn) world.old.state) }
     ensures world { OnOk result (world.new ≡
         standing (after_turn octets (turn_of turn) world.old.state)) }
     ensures still { IfOk result (λ made. made ≡ false → world.new.state ≡ world.old.state) }
-    ensures trace { OnOk result
-        (trace.new.items ≡ trace.old.items ++ sent_at (turn_of turn) world.old.state) }
+    ensures trace { OnOk result (gathered.new.trace.items ≡
+        gathered.old.trace.items ++ sent_at (turn_of turn) world.old.state) }
+    ensures measured { OnOk result (gathered.new.measured.items ≡
+        gathered.old.measured.items ++ measured_at (turn_of turn) world.old.state) }
     ensures whole { IfOk result (λ made. All IsWhole (sent_at (turn_of turn) world.old.state)) }
     ensures err { OnErr result (FailedOrIs world.new world.old) }
 {
     match turn {
-        Turn::Step(actor) => make_step(world, actor, trace),
-        Turn::Round => Ok(world.end_round()),
+        Turn::Step(actor) => make_step(world, actor, &mut gathered.trace),
+        Turn::Round => {
+            put_rates(&mut gathered.measured, world)?;
+            Ok(world.end_round())
+        }
     }
 }
 
 /// Makes these turns of a connection that hasn't failed, one after the other, and gathers the segments that they hand to the
-/// links, in order: the octets of each are a segment (RFC 9293, section 3.1). Behind each turn it tells how many are made.
+/// links, in order, and what the ends measure as rounds end: the octets of each segment are one (RFC 9293, section 3.1). Behind each
+/// turn it tells how many are made.
 ///
 /// # Errors
 ///
@@ -82,11 +100,13 @@ pub fn gather<P: Progress>(
     world: &mut World,
     order: &[Turn],
     progress: &mut P,
-) -> Result<Vec<Sent>, TraceFault>
+) -> Result<Gathered, TraceFault>
     requires { world.old.failed ≡ false }
-    ensures trace { IfOk result (λ trace. trace.items ≡
+    ensures trace { IfOk result (λ gathered. gathered.trace.items ≡
         trace_of (all_turns order.now) world.old.state) }
-    ensures whole { IfOk result (λ trace. All IsWhole trace.items) }
+    ensures measured { IfOk result (λ gathered. gathered.measured.items ≡
+        measured_in (all_turns order.now) world.old.state) }
+    ensures whole { IfOk result (λ gathered. All IsWhole gathered.trace.items) }
     ensures lawful { OnOk result (AreLawful octets (all_turns order.now) world.old.state) }
     ensures world { OnOk result
         (world.new ≡ standing (world_run octets (all_turns order.now) world.old.state)) }
@@ -95,10 +115,13 @@ pub fn gather<P: Progress>(
     ensures stopped { IfErr result
         (λ fault. StandsAtFault fault (all_turns order.now) world.old.state world.new) }
 {
-    let mut trace = Vec::new(alloc);
+    let mut gathered = Gathered {
+        trace: Vec::new(alloc),
+        measured: Vec::new(alloc),
+    };
     let mut place = 0;
     for turn in order {
-        let Ok(made) = make_turn(world, *turn, &mut trace) else {
+        let Ok(made) = make_turn(world, *turn, &mut gathered) else {
             return Err(TraceFault::Memory);
         };
         if !made {
@@ -107,5 +130,5 @@ pub fn gather<P: Progress>(
         place += 1;
         progress.made(place, order.len());
     }
-    Ok(trace)
+    Ok(gathered)
 }

@@ -1,4 +1,4 @@
-//! The congestion windows and the smoothed round-trip times of the ends of the paths.
+//! What the ends of the paths measure, and how much they may have under way.
 
 ghost use Rattle.std.specs.Prelude.{◌≡◌, ◌++◌, option_map, IfOk, OnOk};
 ghost use Rattle.std.specs.Option.{option_to_list};
@@ -10,7 +10,7 @@ use sides::Side;
 use std::alloc::{AllocError, Global};
 use world_core::World;
 
-/// The rate of a side's end.
+/// Those of a side's end.
 fn rate_at(side: Side, path: &Path) -> Rate
     ensures { result ≡ rate_at side path.now }
 {
@@ -40,13 +40,22 @@ fn keep(rates: &mut Vec<Rates>, path: Option<&Path>) -> Result<(), AllocError>
     Ok(())
 }
 
-/// The rates of both ends of each path, path 0 first.
+/// Puts those of both ends of each path, path 0 first.
+pub(crate) fn put_rates(rates: &mut Vec<Rates>, world: &World) -> Result<(), AllocError>
+    ensures { OnOk result (rates.new.items ≡
+        rates.old.items ++ rates_of world.now.state.crew) }
+{
+    for actor in 0..world.actors() {
+        keep(rates, world.path(actor))?;
+    }
+    Ok(())
+}
+
+/// Those of both ends of each path, path 0 first.
 pub fn rates_of(alloc: Global, world: &World) -> Result<Vec<Rates>, AllocError>
     ensures { IfOk result (λ rates. rates.items ≡ rates_of world.now.state.crew) }
 {
     let mut rates = Vec::new(alloc);
-    for actor in 0..world.actors() {
-        keep(&mut rates, world.path(actor))?;
-    }
+    put_rates(&mut rates, world)?;
     Ok(rates)
 }

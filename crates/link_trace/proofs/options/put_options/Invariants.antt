@@ -7,5 +7,5 @@ use Rattle.link_trace.proofs.options.put_options.Given as goal
 
 abbrev pub invariant-loop-option : goal.invariant-loop-option
 invariant-loop-option l =
-    string_bytes l.text ++ list_words l.checksums l.is_first (octets_alone (options_left l.option-iterator))
-    ≡ string_bytes l.fn.text ++ list_words l.checksums true (option_octets (segment_of l.segment).options)
+    string_bytes l.text ++ list_words l.initials l.checksums l.is_first (octets_alone (options_left l.option-iterator))
+    ≡ string_bytes l.fn.text ++ list_words l.initials l.checksums true (option_octets (segment_of l.segment).options)

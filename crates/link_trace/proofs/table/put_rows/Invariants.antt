@@ -5,4 +5,4 @@ use Rattle.link_trace.proofs.table.put_rows.Given as goal
 
 abbrev pub invariant-loop-row : goal.invariant-loop-row
 invariant-loop-row l =
-    string_bytes l.text ++ flat_map row_words (drop l.row-index l.rows) ≡ string_bytes l.initial.text ++ flat_map row_words l.rows
+    string_bytes l.text ++ flat_map (row_words l.ticks) (drop l.row-index l.rows) ≡ string_bytes l.initial.text ++ flat_map (row_words l.ticks) l.rows

@@ -5,4 +5,4 @@ use Rattle.link_trace.proofs.text.lines.Given as goal
 
 abbrev pub invariant-loop-sent : goal.invariant-loop-sent
 invariant-loop-sent l =
-    string_bytes l.text ++ flat_map (line_of l.checksums l.trace) (drop l.sent-index l.trace) ≡ lines_of l.checksums l.trace
+    string_bytes l.text ++ flat_map (line_of l.checksums l.initials l.trace) (drop l.sent-index l.trace) ≡ lines_of l.checksums l.initials l.trace

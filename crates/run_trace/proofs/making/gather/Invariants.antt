@@ -7,5 +7,5 @@ abbrev pub invariant-loop-turn : goal.invariant-loop-turn
 invariant-loop-turn g l = record {
   stands : l.world.failed ≡ false;
   place : l.place ≡ l.turn-index;
-  gathers : Gathers (all_turns l.order) (all_turns (drop l.turn-index l.order)) l.fn.world.state l.world.state l.trace.items l.place;
+  gathers : Gathers (all_turns l.order) (all_turns (drop l.turn-index l.order)) l.fn.world.state l.world.state l.gathered.trace.items l.gathered.measured.items l.place;
 }

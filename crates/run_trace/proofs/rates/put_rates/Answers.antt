@@ -1,5 +1,5 @@
 use Rattle.run_trace.proofs.RateRows.{rates_more}
-use Rattle.run_trace.proofs.rates.rates_of.Goals as goal
+use Rattle.run_trace.proofs.rates.put_rates.Goals as goal
 
 pub loop-actor-preserved : goal.loop-actor-preserved
 loop-actor-preserved c =
