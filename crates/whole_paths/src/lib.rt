@@ -9,6 +9,5 @@
 mod laws;
 
 pub use laws::{
-    a_copy_leaves_by_arriving, each_segment_uses_a_line_or_comes, nothing_goes_back,
-    timers_run_out,
+    a_copy_leaves_by_arriving, each_segment_uses_a_line_or_comes, nothing_goes_back, timers_run_out,
 };
