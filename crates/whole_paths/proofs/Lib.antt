@@ -1,5 +1,9 @@
+pub mod Agendas
 pub mod Books
+pub mod Copies
 pub mod Duties
 pub mod GoesOn
+pub mod Links
 pub mod Subflows
 pub mod Timing
+pub mod Turns

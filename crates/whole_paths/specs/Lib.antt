@@ -1,3 +1,6 @@
+pub mod AgendaSteps
 pub mod AsFar
+pub mod Copies
 pub mod EndSteps
+pub mod Harms
 pub mod Timers

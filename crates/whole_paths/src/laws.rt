@@ -1,8 +1,11 @@
 //! What is promised of each connection, whatever its paths lose.
 ghost use Rattle.path_core.specs.Octets.{octets};
 ghost use Rattle.path_core.specs.Values.{values};
+ghost use Rattle.std.specs.Prelude.{ℕ, List};
 ghost use Rattle.world_laws.specs.Laws.{Always};
 ghost use Rattle.whole_paths.specs.AsFar.{NothingGoesBack};
+ghost use Rattle.whole_paths.specs.Copies.{CopiesLeaveByArriving};
+ghost use Rattle.whole_paths.specs.Harms.{EachUsesALineOrComes};
 ghost use Rattle.whole_paths.specs.Timers.{TimersRunOut};
 
 /// A law: by whatever turns, lawful or not, nothing that an end, a side or an actor has reached goes back, whatever is lost, late,
@@ -25,4 +28,16 @@ pub fn nothing_goes_back()
 pub fn timers_run_out()
     ensures octets { Always octets (λ start w. TimersRunOut w) }
     ensures values { Always values (λ start w. TimersRunOut w) }
+{}
+
+/// A law: a segment that is sent uses a line by which one is lost or late, or a copy of it comes a delay later.
+pub fn each_segment_uses_a_line_or_comes()
+    ensures { EachUsesALineOrComes (List ℕ) }
+{}
+
+/// A law: by whatever turn, a copy that is under way on a path is under way still, or it was the path's next event and so arrives, or that
+/// event was the line of the script by which the path dies. Nothing but the script loses segments, as they are sent.
+pub fn a_copy_leaves_by_arriving()
+    ensures octets { CopiesLeaveByArriving octets }
+    ensures values { CopiesLeaveByArriving values }
 {}
