@@ -1,5 +1,5 @@
 -- What is answered is put together of what its parts answer.
-use Rattle.std.proofs.Common.{◌≡◌, ◌≢◌, ◌∙◌, refl, sym, subst, ℕ, List, Option, None, Result, Ok, Err, IfSome, IfOk}
+use Rattle.std.proofs.Common.{◌≡◌, ◌≢◌, ◌∙◌, refl, sym, ap, subst, ℕ, List, Option, None, Result, Ok, Err, IfSome, IfOk}
 use Rattle.std.specs.Prelude.{option_and_then}
 use Rattle.world_core.specs.Logged.{all_turns}
 use Rattle.link_script.specs.declared.script.Script.{Script}
@@ -46,7 +46,15 @@ table_shown items view script w measured trace rates carried is rates_are carrie
 pub view_made : (view : View) (input : Input) (turns order : List Turn) (old new : Kept) (measured : List Rates) (trace : List Sent) (shown : List ℕ)
     → old ≡ standing (first_world input) → order ≡ turns → new ≡ standing (world_run octets order old.state) → measured ≡ measured_in order old.state → trace ≡ trace_of order old.state
     → IsShownByTick input.script new.state measured view trace shown → IsViewOf view input turns shown
-view_made view input turns order old new measured trace shown refl refl refl refl refl h = h
+view_made view input turns order old new measured trace shown opened order_is new_is measured_is trace_is h =
+    let W : Type 0 = WorldState (List ℕ) in let first : W = first_world input in let e : old.state ≡ first = ap (λ (k : Kept). k.state) opened in
+    let world : new.state ≡ world_run octets turns first =
+    ap (λ (k : Kept). k.state) new_is ∙ ap (λ (ts : List Turn). world_run octets ts old.state) order_is ∙ ap (λ (w : W). world_run octets turns w) e in
+    let rates : measured ≡ measured_in turns first = measured_is ∙ ap (λ (ts : List Turn). measured_in ts old.state) order_is ∙ ap (λ (w : W). measured_in turns w) e in
+    let sent : trace ≡ trace_of turns first = trace_is ∙ ap (λ (ts : List Turn). trace_of ts old.state) order_is ∙ ap (λ (w : W). trace_of turns w) e in
+    subst (λ (s : List Sent). IsShownByTick input.script (world_run octets turns first) (measured_in turns first) view s shown) sent
+    (subst (λ (m : List Rates). IsShownByTick input.script (world_run octets turns first) m view trace shown) rates
+    (subst (λ (w : W). IsShownByTick input.script w measured view trace shown) world h))
 
 module _ (content : List ℕ → Option (List ℕ)) (asked : Asking) (name : List ℕ) (input : Input) (log : List ℕ) where
   pub are_inputs : asked.line.work ≡ replay name → AreWithinLimits content asked.line
