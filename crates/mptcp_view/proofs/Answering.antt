@@ -1,5 +1,5 @@
 -- What is answered is put together of what its parts answer.
-use Rattle.std.proofs.Common.{◌≡◌, ◌≢◌, ◌∙◌, refl, sym, subst, ℕ, List, Option, None, Result, Ok, Err, IfSome, IfOk}
+use Rattle.std.proofs.Common.{◌≡◌, ◌≢◌, ◌∙◌, refl, sym, ap, subst, ℕ, List, Option, None, Result, Ok, Err, IfSome, IfOk}
 use Rattle.std.specs.Prelude.{option_and_then}
 use Rattle.world_core.specs.Logged.{all_turns}
 use Rattle.link_script.specs.declared.script.Script.{Script}
@@ -21,15 +21,16 @@ use Rattle.link_script.specs.Reading.{reading}
 use Rattle.run_outside.specs.declared.input.Input.{Input}
 use Rattle.run_outside.specs.declared.status.Status.{Status}
 use Rattle.run_trace.specs.Initials.{initials_in}
-use Rattle.run_trace.specs.Rates.{rates_of}
+use Rattle.run_trace.specs.Rates.{measured_in, rates_of}
 use Rattle.run_trace.specs.Trace.{trace_of}
 use Rattle.run_words.specs.Lines.{Work, replay}
-use Rattle.world_laws.specs.Worlds.{AreLawful, WorldState}
+use Rattle.world_core.specs.Kept.{Kept, standing}
+use Rattle.world_laws.specs.Worlds.{AreLawful, Turn, WorldState, world_run}
 use Rattle.mptcp_view.specs.Asking.{Asking}
 use Rattle.mptcp_view.specs.Cutting.{IsRead}
 use Rattle.mptcp_view.specs.Telling.{untold}
 use Rattle.mptcp_view.specs.declared.cutting.Extent.{Extent}
-use Rattle.mptcp_view.specs.Views.{AreInputs, HoldsCut, IsOutFault, IsViewAnswer, IsViewFault, IsViewFrom, IsViewOf, Shows, WithView, base_in, first_world, out_calls}
+use Rattle.mptcp_view.specs.Views.{AreInputs, HoldsCut, IsOutFault, IsShownByTick, IsViewAnswer, IsViewFault, IsViewFrom, IsViewOf, Shows, WithView, base_in, first_world, out_calls}
 use Rattle.mptcp_view.specs.declared.asking.View.{View}
 use Rattle.mptcp_view.specs.declared.asking.View.TheVariants.{Summary}
 use Rattle.mptcp_view.proofs.Refusing.{late, out_refused}
@@ -40,6 +41,20 @@ pub table_shown : {V E : Type 0} (items : V → List ℕ) (view : View) (script 
     → (r : Result V E) → IfOk r (λ text. items text ≡ summary_of rates carried) → IfOk r (λ shown. IsViewFrom script w measured view trace (items shown))
 table_shown items view script w measured trace rates carried is rates_are carried_are (Err e) h = tt
 table_shown items view script w measured trace rates carried is rates_are carried_are (Ok text) h = rw (is, ← rates_are, ← carried_are) h
+
+-- the view of turns that were made in the connection's first world
+pub view_made : (view : View) (input : Input) (turns order : List Turn) (old new : Kept) (measured : List Rates) (trace : List Sent) (shown : List ℕ)
+    → old ≡ standing (first_world input) → order ≡ turns → new ≡ standing (world_run octets order old.state) → measured ≡ measured_in order old.state → trace ≡ trace_of order old.state
+    → IsShownByTick input.script new.state measured view trace shown → IsViewOf view input turns shown
+view_made view input turns order old new measured trace shown opened order_is new_is measured_is trace_is h =
+    let W : Type 0 = WorldState (List ℕ) in let first : W = first_world input in let e : old.state ≡ first = ap (λ (k : Kept). k.state) opened in
+    let world : new.state ≡ world_run octets turns first =
+    ap (λ (k : Kept). k.state) new_is ∙ ap (λ (ts : List Turn). world_run octets ts old.state) order_is ∙ ap (λ (w : W). world_run octets turns w) e in
+    let rates : measured ≡ measured_in turns first = measured_is ∙ ap (λ (ts : List Turn). measured_in ts old.state) order_is ∙ ap (λ (w : W). measured_in turns w) e in
+    let sent : trace ≡ trace_of turns first = trace_is ∙ ap (λ (ts : List Turn). trace_of ts old.state) order_is ∙ ap (λ (w : W). trace_of turns w) e in
+    subst (λ (s : List Sent). IsShownByTick input.script (world_run octets turns first) (measured_in turns first) view s shown) sent
+    (subst (λ (m : List Rates). IsShownByTick input.script (world_run octets turns first) m view trace shown) rates
+    (subst (λ (w : W). IsShownByTick input.script w measured view trace shown) world h))
 
 pub are_inputs : (content : List ℕ → Option (List ℕ)) (asked : Asking) (name : List ℕ) (input : Input) (log : List ℕ) → asked.line.work ≡ replay name → AreWithinLimits content asked.line
     → IfSome (content asked.line.names.script) (λ told. reading told ≡ Ok input.script)

@@ -176,18 +176,26 @@ fn put_form(text: &mut String, line: &[u8]) -> Result<(), AllocError> {
     }
 }
 
+/// The text behind its first line.
+fn behind_line(text: &[u8]) -> &[u8] {
+    if text.is_empty() {
+        return text;
+    }
+    let (_, behind) = split_line(text);
+    behind
+}
+
 /// The line of this number, the first being 1; empty where there is none.
 fn line_at(script: &[u8], number: u64) -> &[u8] {
-    let (mut rest, mut left) = (script, number);
-    while !rest.is_empty() {
-        let (line, behind) = split_line(rest);
-        if left <= 1 {
-            return line;
-        }
-        left -= 1;
-        rest = behind;
+    let mut rest = script;
+    for _ in 1..number {
+        rest = behind_line(rest);
     }
-    &[]
+    if rest.is_empty() {
+        return rest;
+    }
+    let (line, _) = split_line(rest);
+    line
 }
 
 /// What helps with a script that is refused at a line: where the line leaves its form and what stands there, or what the kind means.
