@@ -4,6 +4,8 @@ pub mod Copies
 pub mod Duties
 pub mod GoesOn
 pub mod Links
+pub mod Reasons
+pub mod Settling
 pub mod Subflows
 pub mod Timing
 pub mod Turns

@@ -3,4 +3,5 @@ pub mod AsFar
 pub mod Copies
 pub mod EndSteps
 pub mod Harms
+pub mod Reasons
 pub mod Timers

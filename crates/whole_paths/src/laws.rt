@@ -6,6 +6,7 @@ ghost use Rattle.world_laws.specs.Laws.{Always};
 ghost use Rattle.whole_paths.specs.AsFar.{NothingGoesBack};
 ghost use Rattle.whole_paths.specs.Copies.{CopiesLeaveByArriving};
 ghost use Rattle.whole_paths.specs.Harms.{EachUsesALineOrComes};
+ghost use Rattle.whole_paths.specs.Reasons.{WhoWaitsHasATimer};
 ghost use Rattle.whole_paths.specs.Timers.{TimersRunOut};
 
 /// A law: by whatever turns, lawful or not, nothing that an end, a side or an actor has reached goes back, whatever is lost, late,
@@ -28,6 +29,17 @@ pub fn nothing_goes_back()
 pub fn timers_run_out()
     ensures octets { Always octets (λ start w. TimersRunOut w) }
     ensures values { Always values (λ start w. TimersRunOut w) }
+{}
+
+/// A law: whoever waits for an answer has a timer that runs, whatever is lost, late, repeated or altered (RFC 6298, section 5).
+///
+/// Where the turn of a path is over, at each end that opens, is open or closes: if its SYN, a piece or its FIN isn't acknowledged, or a
+/// byte that was granted to the path or a DATA_FIN isn't acknowledged by a Data ACK, or the peer's window is shut, or the third MP_JOIN or
+/// MP_FASTCLOSE isn't answered, then its timer runs (RFC 8684, sections 3.2, 3.3 and 3.5). By `timers_run_out` it does so for a minute at
+/// most, and no end waits for ever in silence.
+pub fn who_waits_has_a_timer()
+    ensures octets { Always octets (λ start w. WhoWaitsHasATimer w) }
+    ensures values { Always values (λ start w. WhoWaitsHasATimer w) }
 {}
 
 /// A law: a segment that is sent uses a line by which one is lost or late, or a copy of it comes a delay later.
