@@ -21,10 +21,6 @@ heading_at y words = codes "<text x=\"900\" y=\"" ++ (decimal y ++ (codes "\" fo
 unfoldable pub death_words_at : ℕ → List ℕ
 death_words_at y = codes "<text y=\"" ++ (decimal y ++ codes "\" x=\"")
 
--- words of the legend, behind a mark
-unfoldable pub entry : List ℕ → ℕ → List ℕ → List ℕ
-entry mark x words = mark ++ (codes "<text x=\"" ++ (decimal x ++ (codes "\" y=\"220\">" ++ (words ++ codes "</text>\n"))))
-
 -- ---- lines
 
 -- the frame of a panel
@@ -64,3 +60,21 @@ crosses_head = codes "<path fill=\"none\" stroke-width=\"30\" stroke=\"#d62728\"
 -- of stairs, grey, from the floor up
 unfoldable pub stairs_head : ℕ → List ℕ
 stairs_head floor = codes "<path fill=\"none\" stroke-width=\"12\" stroke=\"#808080\" d=\"M900 " ++ decimal floor
+
+-- ---- the legend: a mark, and what it means
+
+unfoldable pub payload_entry : List ℕ
+payload_entry =
+    codes "<path fill=\"none\" stroke=\"#000000\" stroke-width=\"24\" stroke-linecap=\"round\" d=\"M920 230V110\"/>\n<text x=\"1000\" y=\"220\">payload</text>\n"
+
+unfoldable pub again_entry : List ℕ
+again_entry =
+    codes "<path fill=\"#ffffff\" stroke=\"#000000\" stroke-width=\"10\" d=\"M2000 230h40V110h-40z\"/>\n<text x=\"2100\" y=\"220\">sent again, or moved</text>\n"
+
+unfoldable pub lost_entry : List ℕ
+lost_entry =
+    codes "<path fill=\"none\" stroke=\"#d62728\" stroke-width=\"30\" d=\"M4300 130l80 80m0 -80l-80 80\"/>\n<text x=\"4460\" y=\"220\">lost</text>\n"
+
+unfoldable pub acknowledged_entry : List ℕ
+acknowledged_entry =
+    codes "<path fill=\"none\" stroke=\"#808080\" stroke-width=\"12\" d=\"M5400 230h100V170h100V110h100\"/>\n<text x=\"5780\" y=\"220\">acknowledged (Data ACK)</text>\n"

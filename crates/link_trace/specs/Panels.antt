@@ -56,8 +56,8 @@ octets_on path (s ∷ strokes) = octets_at path s + octets_on path strokes
 abbrev pub key_x : ℕ → ℕ
 key_x path = 900 + 2200 * (path % 4)
 
-abbrev pub key_y : Block → ℕ → ℕ
-key_y block path = block.top + (400 + 200 * (path % 16 / 4))
+abbrev pub key_y : ℕ → ℕ → ℕ
+key_y top path = top + (400 + 200 * (path % 16 / 4))
 
 unfoldable pub key_words : List Stroke → ℕ → List ℕ
 key_words strokes path = codes "path " ++ (decimal path ++ (octets_words (capped (octets_on path strokes)) ++ codes "</text>\n"))
@@ -65,8 +65,8 @@ key_words strokes path = codes "path " ++ (decimal path ++ (octets_words (capped
 -- a line in the colour of the path, and behind it how many octets it carries
 unfoldable pub key_of : Block → List Stroke → ℕ → List ℕ
 key_of block strokes path =
-    key_line (colour_of path) (dashes_of path) (key_x path) (key_y block path)
-    ++ (words_at (key_x path + 260) (key_y block path + 50) ++ key_words strokes path)
+    key_line (colour_of path) (dashes_of path) (key_x path) (key_y block.top path)
+    ++ (words_at (key_x path + 260) (key_y block.top path + 50) ++ key_words strokes path)
 
 abbrev pub keys_of : Block → List Stroke → List ℕ
 keys_of block strokes = flat_map (key_of block strokes) (range_with_len 0 block.paths)

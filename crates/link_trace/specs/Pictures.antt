@@ -9,7 +9,7 @@ use Rattle.link_trace.specs.declared.panels.Block.{Block}
 use Rattle.link_trace.specs.declared.panels.Death.{Death}
 use Rattle.link_trace.specs.declared.strokes.Dot.{Dot}
 use Rattle.link_trace.specs.declared.strokes.Stroke.{Stroke}
-use Rattle.link_trace.specs.Elements.{entry}
+use Rattle.link_trace.specs.Elements.{acknowledged_entry, again_entry, lost_entry, payload_entry}
 use Rattle.link_trace.specs.Panels.{block_of, height_of}
 use Rattle.link_trace.specs.Rows.{last_tick}
 use Rattle.link_trace.specs.Strokes.{dots_of, strokes_of}
@@ -36,11 +36,7 @@ head_words height =
 
 -- what the marks mean
 unfoldable pub legend_words : List ℕ
-legend_words =
-    entry (codes "<path fill=\"none\" stroke=\"#000000\" stroke-width=\"24\" stroke-linecap=\"round\" d=\"M920 230V110\"/>\n") 1000 (codes "payload")
-    ++ (entry (codes "<path fill=\"#ffffff\" stroke=\"#000000\" stroke-width=\"10\" d=\"M2000 230h40V110h-40z\"/>\n") 2100 (codes "sent again, or moved")
-    ++ (entry (codes "<path fill=\"none\" stroke=\"#d62728\" stroke-width=\"30\" d=\"M4300 130l80 80m0 -80l-80 80\"/>\n") 4460 (codes "lost")
-    ++ entry (codes "<path fill=\"none\" stroke=\"#808080\" stroke-width=\"12\" d=\"M5400 230h100V170h100V110h100\"/>\n") 5780 (codes "acknowledged (Data ACK)")))
+legend_words = payload_entry ++ (again_entry ++ (lost_entry ++ acknowledged_entry))
 
 unfoldable pub too_many : List ℕ
 too_many =
@@ -48,9 +44,13 @@ too_many =
 
 -- ---- some of a stream, where all of it has no room
 
+-- one of so many
+unfoldable pub is_drawn : ℕ → ℕ → Bool
+is_drawn every index = index % max every 1 == 0
+
 -- a payload that is lost, and one of so many by their index; of payloads the first of which has this index
 abbrev pub stroke_if : ℕ → ℕ → Stroke → List Stroke
-stroke_if every index s = if s.lost || (index % max every 1 == 0) then s ∷ [] else []
+stroke_if every index s = if s.lost || is_drawn every index then s ∷ [] else []
 
 abbrev pub strokes_from : ℕ → ℕ → List Stroke → List Stroke
 strokes_from every index [] = []
@@ -58,7 +58,7 @@ strokes_from every index (s ∷ strokes) = stroke_if every index s ++ strokes_fr
 
 -- one Data ACK of so many
 abbrev pub dot_if : ℕ → ℕ → Dot → List Dot
-dot_if every index d = if index % max every 1 == 0 then d ∷ [] else []
+dot_if every index d = if is_drawn every index then d ∷ [] else []
 
 abbrev pub dots_from : ℕ → ℕ → List Dot → List Dot
 dots_from every index [] = []

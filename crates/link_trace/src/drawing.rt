@@ -1,11 +1,11 @@
 //! A picture of both streams in SVG: ticks go across, places up.
 
 ghost use Rattle.std.specs.Prelude.{◌≡◌, ◌++◌, ◌^◌, ◌≤◌, IfOk, OnOk, length, string_bytes};
-ghost use Rattle.link_trace.specs.Pictures.{as_shown, blocks_of, drawn, drawn_in_part, every_of, head_words, if_room, last_death, legend_words, lower, most_of, picture_of, some_dots, some_strokes, too_many, upper};
+ghost use Rattle.link_trace.specs.Pictures.{as_shown, blocks_of, dot_if, drawn, drawn_in_part, every_of, head_words, if_room, is_drawn, last_death, legend_words, lower, most_of, picture_of, some_dots, some_strokes, too_many, upper};
 ghost use Rattle.link_trace.specs.Strokes.{dots_of, strokes_of};
 
 use crate::carried::Carried;
-use crate::elements::put_entry;
+use crate::elements::{put_acknowledged_entry, put_again_entry, put_lost_entry, put_payload_entry};
 use crate::panels::{Block, Death, height_of, put_block};
 use crate::rows::last_tick;
 use crate::strokes::{Dot, Stroke, dots_of, strokes_of};
@@ -47,30 +47,10 @@ fn put_head(text: &mut String, height: u16) -> Result<(), AllocError>
 fn put_legend(text: &mut String) -> Result<(), AllocError>
     ensures { OnOk result (string_bytes text.new ≡ string_bytes text.old ++ legend_words) }
 {
-    put_entry(
-        text,
-        "<path fill=\"none\" stroke=\"#000000\" stroke-width=\"24\" stroke-linecap=\"round\" d=\"M920 230V110\"/>\n",
-        1_000,
-        "payload",
-    )?;
-    put_entry(
-        text,
-        "<path fill=\"#ffffff\" stroke=\"#000000\" stroke-width=\"10\" d=\"M2000 230h40V110h-40z\"/>\n",
-        2_100,
-        "sent again, or moved",
-    )?;
-    put_entry(
-        text,
-        "<path fill=\"none\" stroke=\"#d62728\" stroke-width=\"30\" d=\"M4300 130l80 80m0 -80l-80 80\"/>\n",
-        4_460,
-        "lost",
-    )?;
-    put_entry(
-        text,
-        "<path fill=\"none\" stroke=\"#808080\" stroke-width=\"12\" d=\"M5400 230h100V170h100V110h100\"/>\n",
-        5_780,
-        "acknowledged (Data ACK)",
-    )
+    put_payload_entry(text)?;
+    put_again_entry(text)?;
+    put_lost_entry(text)?;
+    put_acknowledged_entry(text)
 }
 
 fn upper(paths: usize, every: usize) -> Block
@@ -141,17 +121,34 @@ fn drawn(
     Ok(text.into_bytes())
 }
 
+/// Whether one of so many is drawn, by its index.
+#[tactic(auto, unfolding(crate::specs::Pictures::is_drawn))]
+fn is_drawn(every: usize, index: usize) -> bool
+    ensures { result ≡ is_drawn every index }
+{
+    index % every.max(1) == 0
+}
+
 /// The payloads that are lost, and every so many-th of the others.
 fn some_strokes(alloc: Global, every: usize, strokes: &[Stroke]) -> Result<Vec<Stroke>, AllocError>
     ensures { IfOk result (λ some. some.items ≡ some_strokes every strokes.now) }
 {
     let mut some = Vec::new(alloc);
     for (index, stroke) in strokes.iter().enumerate() {
-        if stroke.lost || index % every.max(1) == 0 {
+        if stroke.lost || is_drawn(every, index) {
             some.push(*stroke)?;
         }
     }
     Ok(some)
+}
+
+fn put_dot(some: &mut Vec<Dot>, every: usize, index: usize, dot: &Dot) -> Result<(), AllocError>
+    ensures { OnOk result (some.new.items ≡ some.old.items ++ dot_if every index dot.now) }
+{
+    if is_drawn(every, index) {
+        some.push(*dot)?;
+    }
+    Ok(())
 }
 
 /// Every so many-th Data ACK.
@@ -160,9 +157,7 @@ fn some_dots(alloc: Global, every: usize, dots: &[Dot]) -> Result<Vec<Dot>, Allo
 {
     let mut some = Vec::new(alloc);
     for (index, dot) in dots.iter().enumerate() {
-        if index % every.max(1) == 0 {
-            some.push(*dot)?;
-        }
+        put_dot(&mut some, every, index, dot)?;
     }
     Ok(some)
 }

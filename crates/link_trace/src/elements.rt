@@ -1,7 +1,7 @@
 //! Elements of SVG that a picture is made of.
 
 ghost use Rattle.std.specs.Prelude.{◌≡◌, ◌++◌, OnOk, string_bytes};
-ghost use Rattle.link_trace.specs.Elements.{bars_head, boxes_head, crosses_head, death_line, death_words_at, entry, heading_at, key_line, notch, rectangle, stairs_head, words_at, words_by};
+ghost use Rattle.link_trace.specs.Elements.{acknowledged_entry, again_entry, bars_head, boxes_head, crosses_head, death_line, death_words_at, heading_at, key_line, lost_entry, notch, payload_entry, rectangle, stairs_head, words_at, words_by};
 
 use std::alloc::AllocError;
 
@@ -40,15 +40,6 @@ pub fn put_death_words_at(text: &mut String, y: u32) -> Result<(), AllocError>
     ensures { OnOk result (string_bytes text.new ≡ string_bytes text.old ++ death_words_at y) }
 {
     write!(text, "<text y=\"{y}\" x=\"")
-}
-
-/// Puts words of the legend, behind a mark.
-#[tactic(auto, unfolding(crate::specs::Elements::entry))]
-pub fn put_entry(text: &mut String, mark: &str, x: u64, words: &str) -> Result<(), AllocError>
-    ensures { OnOk result (string_bytes text.new ≡
-        string_bytes text.old ++ entry mark.now x words.now) }
-{
-    write!(text, "{mark}<text x=\"{x}\" y=\"220\">{words}</text>\n")
 }
 
 /// Puts the frame of a panel.
@@ -145,5 +136,49 @@ pub fn put_stairs_head(text: &mut String, floor: u32) -> Result<(), AllocError>
     write!(
         text,
         "<path fill=\"none\" stroke-width=\"12\" stroke=\"#808080\" d=\"M900 {floor}"
+    )
+}
+
+/// Puts the legend of bars.
+#[tactic(auto, unfolding(crate::specs::Elements::payload_entry))]
+pub fn put_payload_entry(text: &mut String) -> Result<(), AllocError>
+    ensures { OnOk result (string_bytes text.new ≡ string_bytes text.old ++ payload_entry) }
+{
+    write!(
+        text,
+        "<path fill=\"none\" stroke=\"#000000\" stroke-width=\"24\" stroke-linecap=\"round\" d=\"M920 230V110\"/>\n<text x=\"1000\" y=\"220\">payload</text>\n"
+    )
+}
+
+/// Puts that of hollow bars.
+#[tactic(auto, unfolding(crate::specs::Elements::again_entry))]
+pub fn put_again_entry(text: &mut String) -> Result<(), AllocError>
+    ensures { OnOk result (string_bytes text.new ≡ string_bytes text.old ++ again_entry) }
+{
+    write!(
+        text,
+        "<path fill=\"#ffffff\" stroke=\"#000000\" stroke-width=\"10\" d=\"M2000 230h40V110h-40z\"/>\n<text x=\"2100\" y=\"220\">sent again, or moved</text>\n"
+    )
+}
+
+/// Puts that of crosses.
+#[tactic(auto, unfolding(crate::specs::Elements::lost_entry))]
+pub fn put_lost_entry(text: &mut String) -> Result<(), AllocError>
+    ensures { OnOk result (string_bytes text.new ≡ string_bytes text.old ++ lost_entry) }
+{
+    write!(
+        text,
+        "<path fill=\"none\" stroke=\"#d62728\" stroke-width=\"30\" d=\"M4300 130l80 80m0 -80l-80 80\"/>\n<text x=\"4460\" y=\"220\">lost</text>\n"
+    )
+}
+
+/// Puts that of stairs.
+#[tactic(auto, unfolding(crate::specs::Elements::acknowledged_entry))]
+pub fn put_acknowledged_entry(text: &mut String) -> Result<(), AllocError>
+    ensures { OnOk result (string_bytes text.new ≡ string_bytes text.old ++ acknowledged_entry) }
+{
+    write!(
+        text,
+        "<path fill=\"none\" stroke=\"#808080\" stroke-width=\"12\" d=\"M5400 230h100V170h100V110h100\"/>\n<text x=\"5780\" y=\"220\">acknowledged (Data ACK)</text>\n"
     )
 }

@@ -133,12 +133,12 @@ fn key_x(path: usize) -> u64
     900 + 2_200 * (path % 4) as u64
 }
 
-fn key_y(block: &Block, path: usize) -> u64
-    ensures value { result ≡ key_y block.now path }
+fn key_y(top: u16, path: usize) -> u64
+    ensures value { result ≡ key_y top path }
     ensures low { result < 2 ^ 17 }
 {
     let row = (path % 16 / 4) as u64;
-    u64::from(block.top) + (400 + 200 * row)
+    u64::from(top) + (400 + 200 * row)
 }
 
 /// Puts how many octets a path carries.
@@ -162,13 +162,12 @@ fn put_key(
     ensures { OnOk result (string_bytes text.new ≡
         string_bytes text.old ++ key_of block.now strokes.now path) }
 {
-    let (x, y) = (key_x(path), key_y(block, path));
+    let (x, y) = (key_x(path), key_y(block.top, path));
     put_key_line(text, colour_of(path), dashes_of(path), x, y)?;
     put_words_at(text, x + 260, y + 50)?;
     put_key_words(text, strokes, path)
 }
 
-#[tactic(auto, using(crate::proofs::Parts::number_more))]
 fn put_keys(text: &mut String, block: &Block, strokes: &[Stroke]) -> Result<(), AllocError>
     ensures { OnOk result (string_bytes text.new ≡
         string_bytes text.old ++ keys_of block.now strokes.now) }
@@ -235,7 +234,6 @@ fn count_of(range: u64, step: u64) -> u64
 }
 
 /// Puts so many ticks, so far apart.
-#[tactic(auto, using(crate::proofs::Parts::number_more))]
 fn put_each_tick(text: &mut String, scale: &Scale, step: u64, count: u64) -> Result<(), AllocError>
     ensures { OnOk result (string_bytes text.new ≡
         string_bytes text.old ++ at_each (tick_of scale.now) step count) }
@@ -247,7 +245,6 @@ fn put_each_tick(text: &mut String, scale: &Scale, step: u64, count: u64) -> Res
 }
 
 /// Puts so many places, so far apart.
-#[tactic(auto, using(crate::proofs::Parts::number_more))]
 fn put_each_place(text: &mut String, scale: &Scale, step: u64, count: u64) -> Result<(), AllocError>
     ensures { OnOk result (string_bytes text.new ≡
         string_bytes text.old ++ at_each (place_of scale.now) step count) }
@@ -297,7 +294,6 @@ fn put_path(
     put_boxes(text, scale, strokes, path)
 }
 
-#[tactic(auto, using(crate::proofs::Parts::number_more))]
 fn put_paths(
     text: &mut String,
     scale: &Scale,
