@@ -3,7 +3,7 @@ use Rattle.std.proofs.Common.{◌≡◌, ℕ, suc, ◌+◌, ◌-◌, ◌<◌, re
 use mathlib.Core.List.{append_assoc}
 use Rattle.std.proofs.lemmas.List.{at_drop_more}
 use Rattle.std.specs.Fmt.{decimal}
-use Rattle.std.specs.List.{flat_map}
+use Rattle.std.specs.List.{flat_map, range_with_len}
 use Rattle.sides.specs.declared.side.Side.{Side}
 use Rattle.sides.specs.declared.side.Side.TheVariants.{A, B}
 use Rattle.link_trace.specs.declared.carried.Carried.{Carried}
@@ -33,6 +33,14 @@ pub segment_more : (f : Sent → List ℕ) (trace : List Sent) (i : ℕ) (s d : 
 segment_more f trace i s d old new whole within is before put =
     parts_more old (f s) (flat_map f (drop (i + 1) trace)) (flat_map f (drop i trace)) whole new
     (at_drop_more (flat_map f) trace i d within ∙ ap (λ (t : Sent). f t ++ flat_map f (drop (i + 1) trace)) (sym is)) before put
+
+-- a number more
+pub number_more : (f : ℕ → List ℕ) (count n : ℕ) (old new whole : List ℕ) → n < count
+    → old ++ flat_map f (range_with_len n (count - n)) ≡ whole → new ≡ old ++ f n → new ++ flat_map f (range_with_len (n + 1) (count - (n + 1))) ≡ whole
+number_more f count n old new whole within before put =
+    let e : count - n ≡ suc (count - (n + 1)) = omega (arith, within) in
+    parts_more old (f n) (flat_map f (range_with_len (n + 1) (count - (n + 1)))) (flat_map f (range_with_len n (count - n))) whole new
+    (ap (λ (left : ℕ). flat_map f (range_with_len n left)) e) before put
 
 -- a path more
 pub interface_more : (paths path left : ℕ) (old new whole : List ℕ) → path < paths → left ≡ paths - (path + 1)

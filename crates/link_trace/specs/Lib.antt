@@ -13,6 +13,7 @@ pub mod Options
 pub mod Segments
 pub mod Lines
 pub mod Numbers
+pub mod Elements
 pub mod Marks
 pub mod Panels
 pub mod Strokes

@@ -13,7 +13,7 @@ thousands n = if nat_lt n 1000 then decimal n else decimal (n / 1000) ++ three_d
 abbrev pub millions : ℕ → List ℕ
 millions n = if nat_lt n 1000 then decimal n else thousands (n / 1000) ++ three_digits n
 
-abbrev pub grouped : ℕ → List ℕ
+unfoldable pub grouped : ℕ → List ℕ
 grouped n = if nat_lt n 1000 then decimal n else millions (n / 1000) ++ three_digits n
 
 -- ---- axes

@@ -1,10 +1,11 @@
 //! A picture of both streams in SVG: ticks go across, places up.
 
 ghost use Rattle.std.specs.Prelude.{◌≡◌, ◌++◌, ◌^◌, ◌≤◌, IfOk, OnOk, length, string_bytes};
-ghost use Rattle.link_trace.specs.Pictures.{head_words, last_death};
+ghost use Rattle.link_trace.specs.Pictures.{as_shown, blocks_of, dot_if, drawn, drawn_in_part, every_of, head_words, if_room, is_drawn, last_death, legend_words, lower, most_of, picture_of, some_dots, some_strokes, too_many, upper};
 ghost use Rattle.link_trace.specs.Strokes.{dots_of, strokes_of};
 
 use crate::carried::Carried;
+use crate::elements::{put_acknowledged_entry, put_again_entry, put_lost_entry, put_payload_entry};
 use crate::panels::{Block, Death, height_of, put_block};
 use crate::rows::last_tick;
 use crate::strokes::{Dot, Stroke, dots_of, strokes_of};
@@ -30,6 +31,7 @@ fn stream_of(alloc: Global, side: Side, carried: &[Carried]) -> Result<Stream, A
     Ok(Stream { strokes, dots })
 }
 
+#[tactic(auto, unfolding(crate::specs::Pictures::head_words))]
 fn put_head(text: &mut String, height: u16) -> Result<(), AllocError>
     ensures { OnOk result (string_bytes text.new ≡ string_bytes text.old ++ head_words height) }
 {
@@ -41,22 +43,60 @@ fn put_head(text: &mut String, height: u16) -> Result<(), AllocError>
 }
 
 /// Puts what the marks mean.
-fn put_legend(text: &mut String) -> Result<(), AllocError> {
-    text.push_str(
-        "<path fill=\"none\" stroke=\"#000000\" stroke-width=\"24\" stroke-linecap=\"round\" d=\"M920 230V110\"/>\n<text x=\"1000\" y=\"220\">payload</text>\n",
-    )?;
-    text.push_str(
-        "<path fill=\"#ffffff\" stroke=\"#000000\" stroke-width=\"10\" d=\"M2000 230h40V110h-40z\"/>\n<text x=\"2100\" y=\"220\">sent again, or moved</text>\n",
-    )?;
-    text.push_str(
-        "<path fill=\"none\" stroke=\"#d62728\" stroke-width=\"30\" d=\"M4300 130l80 80m0 -80l-80 80\"/>\n<text x=\"4460\" y=\"220\">lost</text>\n",
-    )?;
-    text.push_str(
-        "<path fill=\"none\" stroke=\"#808080\" stroke-width=\"12\" d=\"M5400 230h100V170h100V110h100\"/>\n<text x=\"5780\" y=\"220\">acknowledged (Data ACK)</text>\n",
-    )
+#[tactic(auto, unfolding(crate::specs::Pictures::legend_words))]
+fn put_legend(text: &mut String) -> Result<(), AllocError>
+    ensures { OnOk result (string_bytes text.new ≡ string_bytes text.old ++ legend_words) }
+{
+    put_payload_entry(text)?;
+    put_again_entry(text)?;
+    put_lost_entry(text)?;
+    put_acknowledged_entry(text)
+}
+
+fn upper(paths: usize, every: usize) -> Block
+    ensures { result ≡ upper paths every }
+{
+    Block {
+        side: Side::A,
+        top: 400,
+        paths,
+        every,
+    }
+}
+
+fn lower(paths: usize, every: usize, from_a: &Stream) -> Block
+    ensures { result ≡ lower paths every (as_shown from_a.now) }
+{
+    Block {
+        side: Side::B,
+        top: 400 + height_of(paths, &from_a.strokes),
+        paths,
+        every,
+    }
+}
+
+/// Puts both streams.
+#[tactic(auto, unfolding(crate::specs::Pictures::blocks_of))]
+fn put_blocks(
+    text: &mut String,
+    paths: usize,
+    every: usize,
+    deaths: &[Death],
+    ticks: u64,
+    from_a: &Stream,
+    from_b: &Stream,
+) -> Result<(), AllocError>
+    ensures { OnOk result (string_bytes text.new ≡ string_bytes text.old ++
+        blocks_of paths deaths.now ticks every (as_shown from_a.now) (as_shown from_b.now)) }
+{
+    let first = upper(paths, every);
+    put_block(text, &first, ticks, deaths, &from_a.strokes, &from_a.dots)?;
+    let second = lower(paths, every, from_a);
+    put_block(text, &second, ticks, deaths, &from_b.strokes, &from_b.dots)
 }
 
 /// The picture of both streams: of so many paths, every so many-th segment is drawn, these died, over so many ticks.
+#[tactic(auto, unfolding(crate::specs::Pictures::drawn))]
 fn drawn(
     alloc: Global,
     paths: usize,
@@ -65,84 +105,96 @@ fn drawn(
     ticks: u64,
     from_a: &Stream,
     from_b: &Stream,
-) -> Result<Vec<u8>, AllocError> {
+) -> Result<Vec<u8>, AllocError>
+    ensures { IfOk result (λ text. text.items ≡
+        drawn paths deaths.now ticks every (as_shown from_a.now) (as_shown from_b.now)) }
+{
     let (height_a, height_b) = (
         height_of(paths, &from_a.strokes),
         height_of(paths, &from_b.strokes),
     );
-    let first = Block {
-        side: Side::A,
-        top: 400,
-        paths,
-        every,
-    };
-    let second = Block {
-        side: Side::B,
-        top: 400 + height_a,
-        paths,
-        every,
-    };
     let mut text = String::new(alloc);
     put_head(&mut text, 400 + height_a + height_b)?;
     put_legend(&mut text)?;
-    put_block(
-        &mut text,
-        &first,
-        ticks,
-        deaths,
-        &from_a.strokes,
-        &from_a.dots,
-    )?;
-    put_block(
-        &mut text,
-        &second,
-        ticks,
-        deaths,
-        &from_b.strokes,
-        &from_b.dots,
-    )?;
+    put_blocks(&mut text, paths, every, deaths, ticks, from_a, from_b)?;
     text.push_str("</svg>\n")?;
     Ok(text.into_bytes())
 }
 
+/// Whether one of so many is drawn, by its index.
+#[tactic(auto, unfolding(crate::specs::Pictures::is_drawn))]
+fn is_drawn(every: usize, index: usize) -> bool
+    ensures { result ≡ is_drawn every index }
+{
+    index % every.max(1) == 0
+}
+
 /// The payloads that are lost, and every so many-th of the others.
-fn some_strokes(
-    alloc: Global,
-    every: usize,
-    strokes: &[Stroke],
-) -> Result<Vec<Stroke>, AllocError> {
+fn some_strokes(alloc: Global, every: usize, strokes: &[Stroke]) -> Result<Vec<Stroke>, AllocError>
+    ensures { IfOk result (λ some. some.items ≡ some_strokes every strokes.now) }
+{
     let mut some = Vec::new(alloc);
     for (index, stroke) in strokes.iter().enumerate() {
-        if stroke.lost || index % every.max(1) == 0 {
+        if stroke.lost || is_drawn(every, index) {
             some.push(*stroke)?;
         }
     }
     Ok(some)
 }
 
+fn put_dot(some: &mut Vec<Dot>, every: usize, index: usize, dot: &Dot) -> Result<(), AllocError>
+    ensures { OnOk result (some.new.items ≡ some.old.items ++ dot_if every index dot.now) }
+{
+    if is_drawn(every, index) {
+        some.push(*dot)?;
+    }
+    Ok(())
+}
+
 /// Every so many-th Data ACK.
-fn some_dots(alloc: Global, every: usize, dots: &[Dot]) -> Result<Vec<Dot>, AllocError> {
+fn some_dots(alloc: Global, every: usize, dots: &[Dot]) -> Result<Vec<Dot>, AllocError>
+    ensures { IfOk result (λ some. some.items ≡ some_dots every dots.now) }
+{
     let mut some = Vec::new(alloc);
     for (index, dot) in dots.iter().enumerate() {
-        if index % every.max(1) == 0 {
-            some.push(*dot)?;
-        }
+        put_dot(&mut some, every, index, dot)?;
     }
     Ok(some)
 }
 
 /// Some of a stream.
-fn thinned(alloc: Global, every: usize, stream: &Stream) -> Result<Stream, AllocError> {
+fn thinned(alloc: Global, every: usize, stream: &Stream) -> Result<Stream, AllocError>
+    ensures strokes { IfOk result (λ some.
+        some.strokes.items ≡ some_strokes every stream.now.strokes.items) }
+    ensures dots { IfOk result (λ some. some.dots.items ≡ some_dots every stream.now.dots.items) }
+{
     let strokes = some_strokes(alloc, every, &stream.strokes)?;
     let dots = some_dots(alloc, every, &stream.dots)?;
     Ok(Stream { strokes, dots })
 }
 
-/// One segment of how many is drawn, so that some thousands are.
-fn every_of(from_a: &Stream, from_b: &Stream) -> usize {
-    let strokes = from_a.strokes.len().max(from_b.strokes.len());
-    let dots = from_a.dots.len().max(from_b.dots.len());
-    strokes.max(dots) / 10_000 + 1
+/// How many strokes a stream has, or dots where these are more.
+fn most_of(stream: &Stream) -> usize
+    ensures { result ≡ most_of (as_shown stream.now) }
+{
+    let (strokes, dots) = (stream.strokes.as_slice(), stream.dots.as_slice());
+    strokes.len().max(dots.len())
+}
+
+/// One segment of how many is drawn: the least number of which 10,000 are more than the strokes of a stream, and than its dots.
+fn every_of(from_a: &Stream, from_b: &Stream) -> usize
+    ensures { result ≡ every_of (as_shown from_a.now) (as_shown from_b.now) }
+{
+    most_of(from_a).max(most_of(from_b)) / 10_000 + 1
+}
+
+/// What stands in the place of a picture.
+#[tactic(auto, unfolding(crate::specs::Pictures::too_many))]
+fn too_many(alloc: Global) -> Result<Vec<u8>, AllocError>
+    ensures value { IfOk result (λ text. text.items ≡ too_many) }
+    ensures size { IfOk result (λ text. length text.items ≤ 2 ^ 21) }
+{
+    Ok(String::from_str(alloc, TOO_MANY)?.into_bytes())
 }
 
 /// The picture of some of the segments, where all of them have no room in one.
@@ -154,7 +206,9 @@ fn drawn_in_part(
     from_a: &Stream,
     from_b: &Stream,
 ) -> Result<Vec<u8>, AllocError>
-    ensures { IfOk result (λ text. length text.items ≤ 2 ^ 21) }
+    ensures value { IfOk result (λ text. text.items ≡ if_room
+        (drawn_in_part paths deaths.now ticks (as_shown from_a.now) (as_shown from_b.now)) too_many) }
+    ensures size { IfOk result (λ text. length text.items ≤ 2 ^ 21) }
 {
     let every = every_of(from_a, from_b);
     let (some_a, some_b) = (
@@ -165,7 +219,7 @@ fn drawn_in_part(
     if text.len() <= 2_097_152 {
         return Ok(text);
     }
-    Ok(String::from_str(alloc, TOO_MANY)?.into_bytes())
+    too_many(alloc)
 }
 
 /// The greatest tick of a death.
@@ -189,7 +243,9 @@ fn fitted(
     from_b: &Stream,
     whole: Vec<u8>,
 ) -> Result<Vec<u8>, AllocError>
-    ensures { IfOk result (λ text. length text.items ≤ 2 ^ 21) }
+    ensures value { IfOk result (λ text. text.items ≡ if_room whole.items (if_room
+        (drawn_in_part paths deaths.now ticks (as_shown from_a.now) (as_shown from_b.now)) too_many)) }
+    ensures size { IfOk result (λ text. length text.items ≤ 2 ^ 21) }
 {
     if whole.len() <= 2_097_152 {
         return Ok(whole);
@@ -198,14 +254,17 @@ fn fitted(
 }
 
 /// The picture of what a trace carries over so many paths, of which these died: a panel for each stream that has payload, a sentence for
-/// another one. It has 2 MiB at most, and shows each segment where that is enough; else every so many-th, and all that are lost.
+/// another one. It has 2 MiB at most, and shows each segment where that is enough; else every so many-th, by the least number of which
+/// 10,000 are more than the payloads of a stream, and than its Data ACKs, and all that are lost; else it says that these are too many.
+#[tactic(auto, unfolding(crate::specs::Pictures::picture_of))]
 pub fn picture(
     alloc: Global,
     paths: usize,
     deaths: &[Death],
     carried: &[Carried],
 ) -> Result<Vec<u8>, AllocError>
-    ensures { IfOk result (λ text. length text.items ≤ 2 ^ 21) }
+    ensures value { IfOk result (λ text. text.items ≡ picture_of paths deaths.now carried.now) }
+    ensures size { IfOk result (λ text. length text.items ≤ 2 ^ 21) }
 {
     let ticks = last_tick(carried).max(last_death(deaths));
     let from_a = stream_of(alloc, Side::A, carried)?;

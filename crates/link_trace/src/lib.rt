@@ -8,6 +8,7 @@
 
 mod carried;
 mod drawing;
+mod elements;
 mod fate;
 mod intervals;
 mod laws;

@@ -1,9 +1,10 @@
 //! The marks of a panel: bars, crosses and stairs.
 
-ghost use Rattle.std.specs.Prelude.{◌≡◌, ◌++◌, OnOk, string_bytes};
+ghost use Rattle.std.specs.Prelude.{◌≡◌, ◌++◌, ◌^◌, ◌<◌, OnOk, string_bytes};
 ghost use Rattle.std.specs.List.{flat_map};
-ghost use Rattle.link_trace.specs.Marks.{bar_of, bar_on, box_of, box_on, colour_at, colour_of, cross_of, dashes_of, part_of, stair_of, stairs_from, x_of, y_of};
+ghost use Rattle.link_trace.specs.Marks.{bar_of, bar_on, bars_of, box_of, box_on, boxes_of, colour_at, colour_of, cross_of, crosses_of, dashes_of, part_of, stair_of, stairs_from, stairs_of, x_of, y_of};
 
+use crate::elements::{put_bars_head, put_boxes_head, put_crosses_head, put_stairs_head};
 use crate::strokes::{Dot, Stroke};
 use std::alloc::AllocError;
 
@@ -30,7 +31,8 @@ impl Scale {
     }
 
     pub fn y(&self, place: u64) -> u64
-        ensures { result ≡ y_of self.now place }
+        ensures value { result ≡ y_of self.now place }
+        ensures below { result < 2 ^ 32 }
     {
         u64::from(self.floor).saturating_sub(part_of(3_400, place, self.places))
     }
@@ -53,6 +55,7 @@ fn colour_at(n: usize) -> &'static str
 }
 
 /// The colour of a path.
+#[tactic(auto, unfolding(crate::specs::Marks::colour_of))]
 pub fn colour_of(path: usize) -> &'static str
     ensures { result.now ≡ colour_of path }
 {
@@ -60,6 +63,7 @@ pub fn colour_of(path: usize) -> &'static str
 }
 
 /// From path 8 on lines are dashed.
+#[tactic(auto, unfolding(crate::specs::Marks::dashes_of))]
 pub fn dashes_of(path: usize) -> &'static str
     ensures { result.now ≡ dashes_of path }
 {
@@ -153,33 +157,33 @@ fn put_boxes_on(
 }
 
 /// Puts a bar for each payload of a path that was sent for the first time.
+#[tactic(auto, unfolding(crate::specs::Marks::bars_of))]
 pub fn put_bars(
     text: &mut String,
     scale: &Scale,
     strokes: &[Stroke],
     path: usize,
-) -> Result<(), AllocError> {
-    let (colour, dashes) = (colour_of(path), dashes_of(path));
-    write!(
-        text,
-        "<path fill=\"none\" stroke-width=\"24\" stroke-linecap=\"round\" stroke=\"{colour}\"{dashes} d=\""
-    )?;
+) -> Result<(), AllocError>
+    ensures { OnOk result (string_bytes text.new ≡
+        string_bytes text.old ++ bars_of scale.now strokes.now path) }
+{
+    put_bars_head(text, colour_of(path), dashes_of(path))?;
     put_bars_on(text, scale, strokes, path)?;
     writeln!(text, "\"/>")
 }
 
 /// Puts a hollow bar for each payload of a path of which octets were sent before.
+#[tactic(auto, unfolding(crate::specs::Marks::boxes_of))]
 pub fn put_boxes(
     text: &mut String,
     scale: &Scale,
     strokes: &[Stroke],
     path: usize,
-) -> Result<(), AllocError> {
-    let colour = colour_of(path);
-    write!(
-        text,
-        "<path fill=\"#ffffff\" stroke-width=\"10\" stroke=\"{colour}\" d=\""
-    )?;
+) -> Result<(), AllocError>
+    ensures { OnOk result (string_bytes text.new ≡
+        string_bytes text.old ++ boxes_of scale.now strokes.now path) }
+{
+    put_boxes_head(text, colour_of(path))?;
     put_boxes_on(text, scale, strokes, path)?;
     writeln!(text, "\"/>")
 }
@@ -207,11 +211,12 @@ fn put_each_cross(text: &mut String, scale: &Scale, strokes: &[Stroke]) -> Resul
 }
 
 /// Puts a cross at each payload that is lost.
-pub fn put_crosses(text: &mut String, scale: &Scale, strokes: &[Stroke]) -> Result<(), AllocError> {
-    write!(
-        text,
-        "<path fill=\"none\" stroke-width=\"30\" stroke=\"#d62728\" d=\""
-    )?;
+#[tactic(auto, unfolding(crate::specs::Marks::crosses_of))]
+pub fn put_crosses(text: &mut String, scale: &Scale, strokes: &[Stroke]) -> Result<(), AllocError>
+    ensures { OnOk result (string_bytes text.new ≡
+        string_bytes text.old ++ crosses_of scale.now strokes.now) }
+{
+    put_crosses_head(text)?;
     put_each_cross(text, scale, strokes)?;
     writeln!(text, "\"/>")
 }
@@ -241,12 +246,12 @@ fn put_each_stair(text: &mut String, scale: &Scale, dots: &[Dot]) -> Result<(), 
 }
 
 /// Puts one line of stairs, which tells how much is acknowledged.
-pub fn put_stairs(text: &mut String, scale: &Scale, dots: &[Dot]) -> Result<(), AllocError> {
-    let floor = scale.floor;
-    write!(
-        text,
-        "<path fill=\"none\" stroke-width=\"12\" stroke=\"#808080\" d=\"M900 {floor}"
-    )?;
+#[tactic(auto, unfolding(crate::specs::Marks::stairs_of))]
+pub fn put_stairs(text: &mut String, scale: &Scale, dots: &[Dot]) -> Result<(), AllocError>
+    ensures { OnOk result (string_bytes text.new ≡
+        string_bytes text.old ++ stairs_of scale.now dots.now) }
+{
+    put_stairs_head(text, scale.floor)?;
     put_each_stair(text, scale, dots)?;
     writeln!(text, "\"/>")
 }

@@ -36,6 +36,7 @@ fn put_millions(text: &mut String, n: u64) -> Result<(), AllocError>
 }
 
 /// Puts a number, thousands parted by commas; from 10^12 on those of the first digits aren't parted.
+#[tactic(auto, unfolding(crate::specs::Numbers::grouped))]
 pub(crate) fn put_grouped(text: &mut String, n: u64) -> Result<(), AllocError>
     ensures { OnOk result (string_bytes text.new ≡ string_bytes text.old ++ grouped n) }
 {

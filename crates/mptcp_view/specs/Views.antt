@@ -12,6 +12,7 @@ use Rattle.link_trace.specs.Captures.{blocks_of}
 use Rattle.link_trace.specs.Carrying.{all_carried, base_of}
 use Rattle.link_trace.specs.Intervals.{rates_text}
 use Rattle.link_trace.specs.Lines.{lines_of}
+use Rattle.link_trace.specs.Pictures.{picture_of}
 use Rattle.link_trace.specs.Points.{seen_at}
 use Rattle.link_trace.specs.Tables.{summary_of}
 use Rattle.link_trace.specs.Ticks.{AreByTick}
@@ -47,6 +48,7 @@ use Rattle.world_laws.specs.Openings.{opened_world, start_of}
 use Rattle.world_laws.specs.Worlds.{AreLawful, Turn, WorldState, world_run}
 use Rattle.mptcp_view.specs.Asking.{Asking}
 use Rattle.mptcp_view.specs.Cutting.{IsRead, IsUnread}
+use Rattle.mptcp_view.specs.Deaths.{deaths_in}
 use Rattle.mptcp_view.specs.Telling.{untold}
 use Rattle.mptcp_view.specs.declared.asking.DataNumbers.{DataNumbers}
 use Rattle.mptcp_view.specs.declared.asking.DataNumbers.TheVariants.{Relative, Absolute}
@@ -78,6 +80,12 @@ abbrev pub IsCaptureAt : Side → Script → ℕ → List Sent → List ℕ → 
 IsCaptureAt side script end told shown =
     (seen : List Sent) × (AreByTick (seen_at side script.paths end told) seen × (shown ≡ capture_text (blocks_of side (length script.paths) seen)))
 
+-- the picture of these segments of a run of this script, which ended with this world; it has 2 MiB at most
+abbrev pub IsPictureOf : Script → WorldState (List ℕ) → List Sent → List ℕ → Type 0
+IsPictureOf script w told shown =
+    (shown ≡ picture_of (length script.paths) (deaths_in w script.lines) (all_carried (base_in script) (initials_in script) told))
+    × (length shown ≤ 2 ^ 21)
+
 -- a view of these segments of a run of this script, whose ends measured this as its rounds ended, and which ended with this world
 module _ (script : Script) (w : WorldState (List ℕ)) (measured : List table.Rates) where
   abbrev pub IsViewFrom : View → List Sent → List ℕ → Type 0
@@ -88,8 +96,7 @@ module _ (script : Script) (w : WorldState (List ℕ)) (measured : List table.Ra
       shown ≡ rates_text measured (length script.paths) (end_of w / 100) (all_carried (base_in script) (initials_in script) told)
   IsViewFrom Summary told shown = shown ≡ summary_of (rates_of w.crew) (all_carried (base_in script) (initials_in script) told)
   IsViewFrom (Text numbers) told shown = shown ≡ lines_of script.checksum (data_in numbers script) told
-  -- 2 MiB at most
-  IsViewFrom Picture told shown = length shown ≤ 2 ^ 21
+  IsViewFrom Picture told shown = IsPictureOf script w told shown
 
   -- the segments stand by tick
   abbrev pub IsShownByTick : View → List Sent → List ℕ → Type 0

@@ -18,7 +18,7 @@ ghost use Rattle.world_core.specs.Logged.{all_turns};
 ghost use Rattle.world_laws.specs.Worlds.{AreLawful};
 ghost use Rattle.mptcp_view.specs.Asking.{as_asked, asked_in};
 ghost use Rattle.mptcp_view.specs.Telling.{untold};
-ghost use Rattle.mptcp_view.specs.Views.{HoldsCut, IsBeforeOut, IsCaptureAt, IsOutFault, IsShownByTick, IsTurnsFault, IsUntold, IsViewAnswer, IsViewFault, IsViewFrom, IsViewOf, Shows, base_in, data_in, end_of, first_world, out_calls, stopped_at};
+ghost use Rattle.mptcp_view.specs.Views.{HoldsCut, IsBeforeOut, IsCaptureAt, IsOutFault, IsPictureOf, IsShownByTick, IsTurnsFault, IsUntold, IsViewAnswer, IsViewFault, IsViewFrom, IsViewOf, Shows, base_in, data_in, end_of, first_world, out_calls, stopped_at};
 
 use crate::asking::{Asked, DataNumbers, View, asked_by};
 use crate::cutting::{Extent, ReadLog, read_shown};
@@ -100,11 +100,12 @@ fn picture_at(
     world: &World,
     told: &[Sent],
 ) -> Result<Vec<u8>, AllocError>
-    ensures { IfOk result (λ shown. length shown.items ≤ 2 ^ 21) }
+    ensures { IfOk result (λ shown. IsPictureOf script.now world.now.state told.now shown.items) }
 {
     let deaths = deaths_in(alloc, world, script.lines.as_slice())?;
     let carried = carried_in(alloc, script, told)?;
-    picture(alloc, script.paths.as_slice().len(), &deaths, &carried)
+    let shown = picture(alloc, script.paths.as_slice().len(), &deaths, &carried)?;
+    Ok(shown)
 }
 
 /// A view of these segments of a run of this script, which ended with this world.
