@@ -1,0 +1,12 @@
+pub mod State
+pub mod Same
+pub mod Mapped
+pub mod Shows
+pub mod Positions
+pub mod Content
+pub mod Held
+pub mod Placing
+pub mod Sums
+pub mod Acks
+pub mod Both
+pub mod Ends
