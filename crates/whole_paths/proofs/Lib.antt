@@ -1,5 +1,9 @@
+pub mod Agendas
 pub mod Books
 pub mod Duties
 pub mod GoesOn
+pub mod Lanes
+pub mod Links
+pub mod Rounds
 pub mod Subflows
 pub mod Timing

@@ -1,8 +1,11 @@
 //! What is promised of each connection, whatever its paths lose.
 ghost use Rattle.path_core.specs.Octets.{octets};
 ghost use Rattle.path_core.specs.Values.{values};
+ghost use Rattle.std.specs.Prelude.{ℕ, List};
 ghost use Rattle.world_laws.specs.Laws.{Always};
 ghost use Rattle.whole_paths.specs.AsFar.{NothingGoesBack};
+ghost use Rattle.whole_paths.specs.Harms.{EachUsesALineOrComes};
+ghost use Rattle.whole_paths.specs.Lanes.Laws.{LossyLanesEnd, LossyLanesFinish};
 ghost use Rattle.whole_paths.specs.Timers.{TimersRunOut};
 
 /// A law: by whatever turns, lawful or not, nothing that an end, a side or an actor has reached goes back, whatever is lost, late,
@@ -25,4 +28,16 @@ pub fn nothing_goes_back()
 pub fn timers_run_out()
     ensures octets { Always octets (λ start w. TimersRunOut w) }
     ensures values { Always values (λ start w. TimersRunOut w) }
+{}
+
+/// A law: a segment that is sent uses a line by which one is lost or late, or a copy of it comes a delay later.
+pub fn each_segment_uses_a_line_or_comes()
+    ensures { EachUsesALineOrComes (List ℕ) }
+{}
+
+/// A law: on a lane that loses segments all is acknowledged, or the end gave up, after five rounds or so for each segment and two
+/// greatest timeouts for each line (`end`); with four lines at most no end gives up (`finish`).
+pub fn lossy_lanes_finish()
+    ensures end { LossyLanesEnd }
+    ensures finish { LossyLanesFinish }
 {}

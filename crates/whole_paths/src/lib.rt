@@ -6,4 +6,6 @@
 
 mod laws;
 
-pub use laws::{nothing_goes_back, timers_run_out};
+pub use laws::{
+    each_segment_uses_a_line_or_comes, lossy_lanes_finish, nothing_goes_back, timers_run_out,
+};

@@ -1,0 +1,188 @@
+-- A segment that is sent uses a line of the script, or a copy of it comes a delay later.
+use Rattle.std.proofs.Common.{◌≡◌, refl, sym, subst, ap, ◌∙◌, ℕ, zero, suc, ◌+◌, ◌-◌, ◌^◌, ◌<◌, ◌≤◌, ◌&&◌, ◌==◌, min, nat_lt, Bool, true, false, cond, if◌then◌else◌, ◌⊎◌, inl, inr, ⊎_elim, Option, Some, None, List, [], ◌∷◌, arith}
+use Rattle.std.specs.List.{slice_get}
+use Rattle.std.proofs.lemmas.Bool.{and_parts, eqb-true, ltb-true, lt-ltb}
+use Rattle.sides.specs.declared.side.Side.{Side}
+use Rattle.sides.specs.declared.side.Side.TheVariants.{A, B}
+use Rattle.sides.specs.Side.{peer}
+use Rattle.link_script.specs.declared.script.ScriptLine.{ScriptLine}
+use Rattle.link_script.specs.declared.script.ScriptLine.TheVariants.{OnSegment}
+use Rattle.link_script.specs.declared.script.Happens.TheVariants as happens
+use Rattle.link_script.specs.declared.script.Segment.{Segment}
+use Rattle.link_script.specs.Places.{same_side}
+use Rattle.link_model.specs.declared.fate.Fate.{Fate}
+use Rattle.link_model.specs.declared.fate.Fate.TheVariants as fates
+use Rattle.link_model.specs.declared.flight.Flight.{Flight}
+use Rattle.link_model.specs.Fate.{fate_of, fate_told, told_if, told_or, is_named}
+use Rattle.link_model.specs.State.{LinkState}
+use Rattle.link_model.specs.Steps.{comes_before, with_flight, with_flights, arrivals, segments_sent, next_number, after_send}
+use Rattle.stream_lanes.specs.Words.{Has}
+use Rattle.whole_paths.specs.Harms.{is_unused, unused, harms_left, IsOnTime, EachUsesALineOrComes}
+
+-- ---- lines
+
+-- by this fate a segment is lost or late
+abbrev harms : Fate → Bool
+harms fates.Lost = true
+harms (fates.Late ticks) = true
+harms _ = false
+
+abbrev one_if : Bool → ℕ
+one_if b = if b then 1 else 0
+
+-- a line that isn't used now wasn't before
+stays_unused : (b : Bool) (count number : ℕ) → one_if (b && nat_lt (suc count) number) ≤ one_if (b && nat_lt count number)
+stays_unused false count number = omega arith
+stays_unused true count number = by (nat_lt (suc count) number) refl
+  where
+    by : (c : Bool) → nat_lt (suc count) number ≡ c → one_if c ≤ one_if (nat_lt count number)
+    by true is =
+        let later = ltb-true (suc count) number is in
+        let before : nat_lt count number ≡ true = lt-ltb count number (omega (arith, later)) in subst (λ d. 1 ≤ one_if d) (sym before) (omega arith)
+    by false is = omega arith
+
+line_stays : (from : Side) (count : ℕ) (line : ScriptLine) → one_if (is_unused from (suc count) line) ≤ one_if (is_unused from count line)
+line_stays from count (OnSegment segment happens.Lost) = stays_unused (same_side segment.from from) count segment.number
+line_stays from count (OnSegment segment (happens.Late ticks)) = stays_unused (same_side segment.from from) count segment.number
+line_stays from count _ = omega arith
+
+fewer : (from : Side) (count : ℕ) (lines : List ScriptLine) → unused from (suc count) lines ≤ unused from count lines
+fewer from count [] = omega arith
+fewer from count (line ∷ lines) = let one = line_stays from count line in let rest = fewer from count lines in omega (arith, one, rest)
+
+-- one that names the next segment is used by it
+named_used : (b : Bool) (count number : ℕ) → (b && number == suc count) ≡ true → one_if (b && nat_lt (suc count) number) < one_if (b && nat_lt count number)
+named_used b count number is =
+    let parts = and_parts b (number == suc count) is in
+    let same : number ≡ suc count = eqb-true number (suc count) parts.1 in
+    subst (λ c. one_if (c && nat_lt (suc count) number) < one_if (c && nat_lt count number)) (sym parts.0)
+    (subst (λ n. one_if (nat_lt (suc count) n) < one_if (nat_lt count n)) (sym same) (at_it count))
+  where
+    at_it : (n : ℕ) → one_if (nat_lt (suc n) (suc n)) < one_if (nat_lt n (suc n))
+    at_it n = subst (λ c. one_if (nat_lt (suc n) (suc n)) < one_if c) (sym (lt-ltb n (suc n) (omega arith))) (by (nat_lt (suc n) (suc n)) refl)
+      where
+        by : (c : Bool) → nat_lt (suc n) (suc n) ≡ c → one_if c < 1
+        by true is = let wrong = ltb-true (suc n) (suc n) is in absurd (omega (arith, wrong))
+        by false is = omega arith
+
+-- what a line tells of the next segment: nothing, or a fate; where that harms, the line is used
+line_used : (from : Side) (count : ℕ) (line : ScriptLine) → (fate_told from (suc count) line ≡ None) ⊎ ((f : Fate) × (fate_told from (suc count) line ≡ Some f)
+    × (harms f ≡ true → one_if (is_unused from (suc count) line) < one_if (is_unused from count line)))
+line_used from count (OnSegment segment happens.Lost) = by (is_named from (suc count) segment) refl
+  where
+    by : (b : Bool) → is_named from (suc count) segment ≡ b → (told_if b (Some fates.Lost) ≡ None) ⊎ ((f : Fate) × (told_if b (Some fates.Lost) ≡ Some f)
+        × (harms f ≡ true → one_if (is_unused from (suc count) (OnSegment segment happens.Lost)) < one_if (is_unused from count (OnSegment segment happens.Lost))))
+    by true is = inr (fates.Lost, refl, λ h. named_used (same_side segment.from from) count segment.number is)
+    by false is = inl refl
+line_used from count (OnSegment segment (happens.Late ticks)) = by (is_named from (suc count) segment) refl
+  where
+    by : (b : Bool) → is_named from (suc count) segment ≡ b → (told_if b (Some (fates.Late ticks)) ≡ None) ⊎ ((f : Fate) × (told_if b (Some (fates.Late ticks)) ≡ Some f)
+        × (harms f ≡ true → one_if (is_unused from (suc count) (OnSegment segment (happens.Late ticks))) < one_if (is_unused from count (OnSegment segment (happens.Late ticks)))))
+    by true is = inr (fates.Late ticks, refl, λ h. named_used (same_side segment.from from) count segment.number is)
+    by false is = inl refl
+line_used from count (OnSegment segment (happens.Again ticks)) = by (is_named from (suc count) segment) refl
+  where
+    by : (b : Bool) → is_named from (suc count) segment ≡ b → (told_if b (Some (fates.Twice ticks)) ≡ None) ⊎ ((f : Fate) × (told_if b (Some (fates.Twice ticks)) ≡ Some f)
+        × (harms f ≡ true → one_if (is_unused from (suc count) (OnSegment segment (happens.Again ticks))) < one_if (is_unused from count (OnSegment segment (happens.Again ticks)))))
+    by true is = inr (fates.Twice ticks, refl, λ h. cc)
+    by false is = inl refl
+line_used from count (OnSegment segment happens.Stripped) = by (is_named from (suc count) segment)
+  where
+    by : (b : Bool) → (told_if b None ≡ None) ⊎ ((f : Fate) × (told_if b None ≡ Some f)
+        × (harms f ≡ true → one_if (is_unused from (suc count) (OnSegment segment happens.Stripped)) < one_if (is_unused from count (OnSegment segment happens.Stripped))))
+    by true = inl refl
+    by false = inl refl
+line_used from count (OnSegment segment happens.Altered) = by (is_named from (suc count) segment)
+  where
+    by : (b : Bool) → (told_if b None ≡ None) ⊎ ((f : Fate) × (told_if b None ≡ Some f)
+        × (harms f ≡ true → one_if (is_unused from (suc count) (OnSegment segment happens.Altered)) < one_if (is_unused from count (OnSegment segment happens.Altered))))
+    by true = inl refl
+    by false = inl refl
+line_used from count _ = inl refl
+
+used : (from : Side) (count : ℕ) (lines : List ScriptLine) → harms (fate_of from (suc count) lines) ≡ true → unused from (suc count) lines < unused from count lines
+used from count [] h = cc
+used from count (line ∷ lines) h = ⊎_elim
+    (λ none.
+    let rest = used from count lines (subst (λ t. harms (told_or t (fate_of from (suc count) lines)) ≡ true) none h) in
+    let one = line_stays from count line in omega (arith, rest, one))
+    (λ told.
+    let one = told.2 (subst (λ t. harms (told_or t (fate_of from (suc count) lines)) ≡ true) told.1 h) in
+    let rest = fewer from count lines in omega (arith, one, rest))
+    (line_used from count line)
+
+-- ---- copies
+
+module _ {C : Type 0} (P : Flight C → Type 0) where
+  has_more : (f : Flight C) (flights : List (Flight C)) → Has P flights → Has P (with_flight f flights)
+  has_more f flights h = at flights h.at h.item h.there h.holds
+    where
+      first : (g : Flight C) (fs : List (Flight C)) → P g → Has P (g ∷ fs)
+      first g fs holds = record { at = 0; item = g; there = refl; holds = holds }
+
+      behind : (g : Flight C) (fs : List (Flight C)) → Has P fs → Has P (g ∷ fs)
+      behind g fs h = record { at = suc h.at; item = h.item; there = h.there; holds = h.holds }
+
+      at : (fs : List (Flight C)) (i : ℕ) (x : Flight C) → slice_get fs i ≡ Some x → P x → Has P (with_flight f fs)
+      at [] i x there holds = cc
+      at (g ∷ fs) zero x there holds = by (comes_before f g)
+        where
+          by : (b : Bool) → Has P (if b then f ∷ g ∷ fs else g ∷ with_flight f fs)
+          by true = record { at = 1; item = x; there = there; holds = holds }
+          by false = record { at = 0; item = x; there = there; holds = holds }
+      at (g ∷ fs) (suc i) x there holds = by (comes_before f g) (at fs i x there holds)
+        where
+          by : (b : Bool) → Has P (with_flight f fs) → Has P (if b then f ∷ g ∷ fs else g ∷ with_flight f fs)
+          by true rest = record { at = suc (suc i); item = x; there = there; holds = holds }
+          by false rest = behind g (with_flight f fs) rest
+
+  has_this : (f : Flight C) (flights : List (Flight C)) → P f → Has P (with_flight f flights)
+  has_this f [] holds = record { at = 0; item = f; there = refl; holds = holds }
+  has_this f (g ∷ flights) holds = by (comes_before f g) (has_this f flights holds)
+    where
+      by : (b : Bool) → Has P (with_flight f flights) → Has P (if b then f ∷ g ∷ flights else g ∷ with_flight f flights)
+      by true rest = record { at = 0; item = f; there = refl; holds = holds }
+      by false rest = record { at = suc rest.at; item = rest.item; there = rest.there; holds = rest.holds }
+
+module _ {C : Type 0} where
+  -- one that isn't lost or late comes on time
+  comes : (P : Flight C → Type 0) (to : Side) (number on_time : ℕ) (carried : C) (fate : Fate) (flights : List (Flight C)) → harms fate ≡ false
+      → P (record { tick = on_time; to = to; number = number; carried = carried }) → Has P (with_flights to number carried (arrivals fate on_time) flights)
+  comes P to number on_time carried fates.OnTime flights h holds = has_this P _ flights holds
+  comes P to number on_time carried (fates.Twice ticks) flights h holds = has_more P _ _ (has_this P _ flights holds)
+  comes P to number on_time carried fates.Lost flights h holds = absurd cc
+  comes P to number on_time carried (fates.Late ticks) flights h holds = absurd cc
+
+  pub each_uses_a_line_or_comes : EachUsesALineOrComes C
+  each_uses_a_line_or_comes strip alter A carried now link few = by (harms (fate_of A (next_number A link) link.lines)) refl
+    where
+      next : next_number A link ≡ suc link.from_a
+      next = omega (arith, few)
+
+      by : (b : Bool) → harms (fate_of A (next_number A link) link.lines) ≡ b → let after = after_send strip alter A carried now link in
+          (harms_left after < harms_left link) ⊎ ((harms_left after ≤ harms_left link) × Has (IsOnTime A now link) after.under_way)
+      by true h =
+          let one = used A link.from_a link.lines (subst (λ n. harms (fate_of A n link.lines) ≡ true) next h) in
+          inl (subst (λ n. unused A n link.lines + unused B link.from_b link.lines < harms_left link) (sym next) (omega (arith, one)))
+      by false h =
+          let less = fewer A link.from_a link.lines in
+          inr (
+            subst (λ n. unused A n link.lines + unused B link.from_b link.lines ≤ harms_left link) (sym next) (omega (arith, less)),
+            comes (IsOnTime A now link) B (next_number A link) (now + link.delay) _ (fate_of A (next_number A link) link.lines) link.under_way h (record { tick = refl; to = refl; number = refl }),
+          )
+  each_uses_a_line_or_comes strip alter B carried now link few = by (harms (fate_of B (next_number B link) link.lines)) refl
+    where
+      next : next_number B link ≡ suc link.from_b
+      next = omega (arith, few)
+
+      by : (b : Bool) → harms (fate_of B (next_number B link) link.lines) ≡ b → let after = after_send strip alter B carried now link in
+          (harms_left after < harms_left link) ⊎ ((harms_left after ≤ harms_left link) × Has (IsOnTime B now link) after.under_way)
+      by true h =
+          let one = used B link.from_b link.lines (subst (λ n. harms (fate_of B n link.lines) ≡ true) next h) in
+          inl (subst (λ n. unused A link.from_a link.lines + unused B n link.lines < harms_left link) (sym next) (omega (arith, one)))
+      by false h =
+          let less = fewer B link.from_b link.lines in
+          inr (
+            subst (λ n. unused A link.from_a link.lines + unused B n link.lines ≤ harms_left link) (sym next) (omega (arith, less)),
+            comes (IsOnTime B now link) A (next_number B link) (now + link.delay) _ (fate_of B (next_number B link) link.lines) link.under_way h (record { tick = refl; to = refl; number = refl }),
+          )
