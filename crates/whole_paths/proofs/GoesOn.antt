@@ -1,16 +1,13 @@
 -- Nothing goes back, by whatever turns.
-use Rattle.std.proofs.Common.{◌≡◌, refl, sym, subst, ap, ◌∙◌, ℕ, zero, suc, ◌+◌, ◌≤◌, Bool, true, false, if◌then◌else◌, Option, Some, None, List, [], ◌∷◌, ◌++◌, length, map, set, ⊎_elim, le_refl, arith}
-use Rattle.std.proofs.lemmas.Bool.{cases_eq}
+use Rattle.std.proofs.Common.{◌≡◌, refl, sym, subst, ap, ◌∙◌, ℕ, ◌+◌, ◌≤◌, Bool, true, false, if◌then◌else◌, Option, Some, None, List, [], ◌∷◌, ◌++◌, length, map, le_refl, arith}
 use Rattle.std.proofs.lemmas.List.{append-nil, append_assoc}
-use Rattle.std.proofs.lemmas.Option.{same_Some}
 use Rattle.std.specs.List.{slice_get}
 use Rattle.sides.specs.declared.side.Side.{Side}
 use Rattle.sides.specs.declared.side.Side.TheVariants.{A}
 use Rattle.link_model.specs.Steps.{arriving, after_delivery}
-use Rattle.stream_lanes.proofs.Lists.{set_same, set_other}
 use Rattle.actor_desk.specs.declared.ask.Ask.{Ask}
 use Rattle.actor_desk.specs.declared.ask.Reply.{Reply}
-use Rattle.actor_desk.specs.Books.{books_in}
+use Rattle.actor_desk.specs.Books.{StampedBooks, books_in}
 use Rattle.actor_desk.specs.Desk.{SixBooks}
 use Rattle.actor_desk.specs.Words.{tail_of}
 use Rattle.path_agenda.specs.Agenda.{leaves, emission}
@@ -48,6 +45,7 @@ use Rattle.whole_paths.proofs.Books.{side_stays, side_then, side_up}
 use Rattle.whole_paths.proofs.Duties.{passed_steps, answered_steps}
 use Rattle.whole_paths.proofs.Subflows.{steps_up, stream_up, stream_stays, stream_then}
 use Rattle.whole_paths.proofs.Subflows as subflow
+use Rattle.whole_paths.proofs.Turns.{turn_each}
 
 -- ---- an end
 
@@ -225,9 +223,6 @@ module _ {C : Type 0} where
 
   -- ---- turns
 
-  abbrev CrewUp : WorldState C → WorldState C → Type 0
-  CrewUp w v = (actor : ℕ) (c : ActorCrew C) → slice_get w.crew actor ≡ Some c → (d : ActorCrew C) × (slice_get v.crew actor ≡ Some d) × IsCrewAsFar c d
-
   world_stays : (w : WorldState C) → IsAsFar w w
   world_stays w = record { crew = λ actor c there. (c, there, crew_stays c); sides = λ s. side_stays s (books_in w.books) }
 
@@ -240,52 +235,30 @@ module _ {C : Type 0} where
     sides = λ s. side_then s (books_in w.books) (books_in v.books) (books_in u.books) (x.sides s) (y.sides s);
   }
 
-  asked_crew : (k : Codec C) (actor : ℕ) (ask : Ask) (c : ActorCrew C) (w : WorldState C) → slice_get w.crew actor ≡ Some c → CrewUp w (asked k actor (Some ask) c w)
-  asked_crew k actor ask c w there i e at = ⊎_elim here (λ apart. (e, set_other w.crew actor new i apart ∙ at, crew_stays e)) (cases_eq i actor)
+  crew_asked : (k : Codec C) (ask : Ask) (books : StampedBooks) (c : ActorCrew C) → IsCrewAsFar c (crew_after k ask books c)
+  crew_asked k ask books c = record { member = actor_up k (answer_to books ask) c.member; more = note_of books c.pass ask ∷ []; list_is = refl }
+
+  crew_begins : (stamp : ℕ) (c : ActorCrew C) → IsCrewAsFar c (begins stamp c)
+  crew_begins stamp c = record { member = actor_next c.member; more = []; list_is = sym (append-nil c.list) }
+
+  stepped_sides : (k : Codec C) (actor : ℕ) (w : WorldState C) (o : Option (ActorCrew C)) (s : Side) → IsSideAsFar s (books_in w.books) (books_in (stepped k actor o w).books)
+  stepped_sides k actor w None s = side_stays s (books_in w.books)
+  stepped_sides k actor w (Some c) s = by (member_asks k c.member)
     where
-      new : ActorCrew C
-      new = crew_after k ask w.books c
+      by : (o : Option Ask) → IsSideAsFar s (books_in w.books) (books_in (asked k actor o c w).books)
+      by None = side_stays s (books_in w.books)
+      by (Some ask) = let six : SixBooks = books_in w.books in subst (λ seven. IsSideAsFar s six seven) (sym (books_after ask c.pass w.books)) (side_up ask six s)
 
-      up : IsCrewAsFar c new
-      up = record { member = actor_up k (answer_to w.books ask) c.member; more = note_of w.books c.pass ask ∷ []; list_is = refl }
+  round_sides : (w : WorldState C) (b : Bool) (s : Side) → IsSideAsFar s (books_in w.books) (books_in (if b then record w { crew = map (begins (greatest 0 w.crew)) w.crew } else w).books)
+  round_sides w true s = side_stays s (books_in w.books)
+  round_sides w false s = side_stays s (books_in w.books)
 
-      here : i ≡ actor → (d : ActorCrew C) × (slice_get (set w.crew actor new) i ≡ Some d) × IsCrewAsFar e d
-      here is =
-          let same : c ≡ e = same_Some c e (sym there ∙ ap (slice_get w.crew) (sym is) ∙ at) in
-          (new, ap (slice_get (set w.crew actor new)) is ∙ set_same w.crew actor new c there, subst (λ x. IsCrewAsFar x new) same up)
-
-  stepped_up : (k : Codec C) (actor : ℕ) (w : WorldState C) (o : Option (ActorCrew C)) → slice_get w.crew actor ≡ o → IsAsFar w (stepped k actor o w)
-  stepped_up k actor w None there = world_stays w
-  stepped_up k actor w (Some c) there = by (member_asks k c.member)
-    where
-      by : (o : Option Ask) → IsAsFar w (asked k actor o c w)
-      by None = world_stays w
-      by (Some ask) = record {
-        crew = asked_crew k actor ask c w there;
-        sides = λ s.
-            let six : SixBooks = books_in w.books in
-            subst (λ seven. IsSideAsFar s six seven) (sym (books_after ask c.pass w.books)) (side_up ask six s);
-      }
-
-  begun_at : (stamp : ℕ) (crew : List (ActorCrew C)) (i : ℕ) (c : ActorCrew C) → slice_get crew i ≡ Some c → slice_get (map (begins stamp) crew) i ≡ Some (begins stamp c)
-  begun_at stamp [] i c at = cc
-  begun_at stamp (d ∷ crew) zero c at = ap (λ x. Some (begins stamp x)) (same_Some d c at)
-  begun_at stamp (d ∷ crew) (suc i) c at = begun_at stamp crew i c at
-
-  round_up : (w : WorldState C) (b : Bool) → IsAsFar w (if b then record w { crew = map (begins (greatest 0 w.crew)) w.crew } else w)
-  round_up w false = world_stays w
-  round_up w true = record {
-    crew = λ actor c there. (
-      begins (greatest 0 w.crew) c,
-      begun_at (greatest 0 w.crew) w.crew actor c there,
-      record { member = actor_next c.member; more = []; list_is = sym (append-nil c.list) },
-    );
-    sides = λ s. side_stays s (books_in w.books);
-  }
+  turn_sides : (k : Codec C) (turn : Turn) (w : WorldState C) (s : Side) → IsSideAsFar s (books_in w.books) (books_in (after_turn k turn w).books)
+  turn_sides k (Turn.Step actor) w s = stepped_sides k actor w (slice_get w.crew actor) s
+  turn_sides k Turn.Round w s = round_sides w (all_over w.crew) s
 
   turn_up : (k : Codec C) (turn : Turn) (w : WorldState C) → IsAsFar w (after_turn k turn w)
-  turn_up k (Turn.Step actor) w = stepped_up k actor w (slice_get w.crew actor) refl
-  turn_up k Turn.Round w = round_up w (all_over w.crew)
+  turn_up k turn w = record { crew = turn_each k IsCrewAsFar crew_stays (crew_asked k) crew_begins turn w; sides = turn_sides k turn w }
 
   pub goes_on_so : (k : Codec C) → NothingGoesBack k
   goes_on_so k w [] = world_stays w

@@ -1,9 +1,13 @@
 pub mod Agendas
 pub mod Books
+pub mod Copies
 pub mod Duties
 pub mod GoesOn
 pub mod Lanes
 pub mod Links
+pub mod Reasons
 pub mod Rounds
+pub mod Settling
 pub mod Subflows
 pub mod Timing
+pub mod Turns

@@ -1,23 +1,20 @@
 -- A segment that is sent uses a line of the script, or a copy of it comes a delay later.
-use Rattle.std.proofs.Common.{◌≡◌, refl, sym, subst, ap, ◌∙◌, ℕ, zero, suc, ◌+◌, ◌-◌, ◌^◌, ◌<◌, ◌≤◌, ◌&&◌, ◌==◌, min, nat_lt, Bool, true, false, cond, if◌then◌else◌, ◌⊎◌, inl, inr, ⊎_elim, Option, Some, None, List, [], ◌∷◌, arith}
+use Rattle.std.proofs.Common.{◌≡◌, refl, sym, subst, ℕ, zero, suc, ◌+◌, ◌-◌, ◌<◌, ◌≤◌, ◌&&◌, ◌==◌, nat_lt, Bool, true, false, if◌then◌else◌, ◌⊎◌, inl, inr, ⊎_elim, Some, None, List, [], ◌∷◌, arith}
 use Rattle.std.specs.List.{slice_get}
 use Rattle.std.proofs.lemmas.Bool.{and_parts, eqb-true, ltb-true, lt-ltb}
 use Rattle.sides.specs.declared.side.Side.{Side}
 use Rattle.sides.specs.declared.side.Side.TheVariants.{A, B}
-use Rattle.sides.specs.Side.{peer}
 use Rattle.link_script.specs.declared.script.ScriptLine.{ScriptLine}
 use Rattle.link_script.specs.declared.script.ScriptLine.TheVariants.{OnSegment}
 use Rattle.link_script.specs.declared.script.Happens.TheVariants as happens
-use Rattle.link_script.specs.declared.script.Segment.{Segment}
 use Rattle.link_script.specs.Places.{same_side}
 use Rattle.link_model.specs.declared.fate.Fate.{Fate}
 use Rattle.link_model.specs.declared.fate.Fate.TheVariants as fates
 use Rattle.link_model.specs.declared.flight.Flight.{Flight}
 use Rattle.link_model.specs.Fate.{fate_of, fate_told, told_if, told_or, is_named}
-use Rattle.link_model.specs.State.{LinkState}
-use Rattle.link_model.specs.Steps.{comes_before, with_flight, with_flights, arrivals, segments_sent, next_number, after_send}
+use Rattle.link_model.specs.Steps.{comes_before, with_flight, with_flights, arrivals, next_number, after_send}
 use Rattle.stream_lanes.specs.Words.{Has}
-use Rattle.whole_paths.specs.Harms.{is_unused, unused, harms_left, IsOnTime, EachUsesALineOrComes}
+use Rattle.whole_paths.specs.Harms.{is_unused, unused, harms_left, as_it_arrives, IsOnTime, EachUsesALineOrComes}
 
 -- ---- lines
 
@@ -114,7 +111,7 @@ used from count (line ∷ lines) h = ⊎_elim
 -- ---- copies
 
 module _ {C : Type 0} (P : Flight C → Type 0) where
-  has_more : (f : Flight C) (flights : List (Flight C)) → Has P flights → Has P (with_flight f flights)
+  pub has_more : (f : Flight C) (flights : List (Flight C)) → Has P flights → Has P (with_flight f flights)
   has_more f flights h = at flights h.at h.item h.there h.holds
     where
       first : (g : Flight C) (fs : List (Flight C)) → P g → Has P (g ∷ fs)
@@ -160,7 +157,7 @@ module _ {C : Type 0} where
       next = omega (arith, few)
 
       by : (b : Bool) → harms (fate_of A (next_number A link) link.lines) ≡ b → let after = after_send strip alter A carried now link in
-          (harms_left after < harms_left link) ⊎ ((harms_left after ≤ harms_left link) × Has (IsOnTime A now link) after.under_way)
+          (harms_left after < harms_left link) ⊎ ((harms_left after ≤ harms_left link) × Has (IsOnTime A now (as_it_arrives strip alter A carried now link) link) after.under_way)
       by true h =
           let one = used A link.from_a link.lines (subst (λ n. harms (fate_of A n link.lines) ≡ true) next h) in
           inl (subst (λ n. unused A n link.lines + unused B link.from_b link.lines < harms_left link) (sym next) (omega (arith, one)))
@@ -168,7 +165,7 @@ module _ {C : Type 0} where
           let less = fewer A link.from_a link.lines in
           inr (
             subst (λ n. unused A n link.lines + unused B link.from_b link.lines ≤ harms_left link) (sym next) (omega (arith, less)),
-            comes (IsOnTime A now link) B (next_number A link) (now + link.delay) _ (fate_of A (next_number A link) link.lines) link.under_way h (record { tick = refl; to = refl; number = refl }),
+            comes (IsOnTime A now (as_it_arrives strip alter A carried now link) link) B (next_number A link) (now + link.delay) _ (fate_of A (next_number A link) link.lines) link.under_way h (record { tick = refl; to = refl; number = refl; carried = refl }),
           )
   each_uses_a_line_or_comes strip alter B carried now link few = by (harms (fate_of B (next_number B link) link.lines)) refl
     where
@@ -176,7 +173,7 @@ module _ {C : Type 0} where
       next = omega (arith, few)
 
       by : (b : Bool) → harms (fate_of B (next_number B link) link.lines) ≡ b → let after = after_send strip alter B carried now link in
-          (harms_left after < harms_left link) ⊎ ((harms_left after ≤ harms_left link) × Has (IsOnTime B now link) after.under_way)
+          (harms_left after < harms_left link) ⊎ ((harms_left after ≤ harms_left link) × Has (IsOnTime B now (as_it_arrives strip alter B carried now link) link) after.under_way)
       by true h =
           let one = used B link.from_b link.lines (subst (λ n. harms (fate_of B n link.lines) ≡ true) next h) in
           inl (subst (λ n. unused A link.from_a link.lines + unused B n link.lines < harms_left link) (sym next) (omega (arith, one)))
@@ -184,5 +181,5 @@ module _ {C : Type 0} where
           let less = fewer B link.from_b link.lines in
           inr (
             subst (λ n. unused A link.from_a link.lines + unused B n link.lines ≤ harms_left link) (sym next) (omega (arith, less)),
-            comes (IsOnTime B now link) A (next_number B link) (now + link.delay) _ (fate_of B (next_number B link) link.lines) link.under_way h (record { tick = refl; to = refl; number = refl }),
+            comes (IsOnTime B now (as_it_arrives strip alter B carried now link) link) A (next_number B link) (now + link.delay) _ (fate_of B (next_number B link) link.lines) link.under_way h (record { tick = refl; to = refl; number = refl; carried = refl }),
           )

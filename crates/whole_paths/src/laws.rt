@@ -4,8 +4,10 @@ ghost use Rattle.path_core.specs.Values.{values};
 ghost use Rattle.std.specs.Prelude.{ℕ, List};
 ghost use Rattle.world_laws.specs.Laws.{Always};
 ghost use Rattle.whole_paths.specs.AsFar.{NothingGoesBack};
+ghost use Rattle.whole_paths.specs.Copies.{CopiesLeaveByArriving};
 ghost use Rattle.whole_paths.specs.Harms.{EachUsesALineOrComes};
 ghost use Rattle.whole_paths.specs.Lanes.Laws.{LossyLanesEnd, LossyLanesFinish};
+ghost use Rattle.whole_paths.specs.Reasons.{WhoWaitsHasATimer};
 ghost use Rattle.whole_paths.specs.Timers.{TimersRunOut};
 
 /// A law: by whatever turns, lawful or not, nothing that an end, a side or an actor has reached goes back, whatever is lost, late,
@@ -30,9 +32,27 @@ pub fn timers_run_out()
     ensures values { Always values (λ start w. TimersRunOut w) }
 {}
 
+/// A law: whoever waits for an answer has a timer that runs, whatever is lost, late, repeated or altered (RFC 6298, section 5).
+///
+/// Where the turn of a path is over, at each end that opens, is open or closes: if its SYN, a piece or its FIN isn't acknowledged, or a
+/// byte that was granted to the path or a DATA_FIN isn't acknowledged by a Data ACK, or the peer's window is shut, or the third MP_JOIN or
+/// MP_FASTCLOSE isn't answered, then its timer runs (RFC 8684, sections 3.2, 3.3 and 3.5). So no end waits for ever in silence:
+/// by `timers_run_out` the timer runs out within a minute.
+pub fn who_waits_has_a_timer()
+    ensures octets { Always octets (λ start w. WhoWaitsHasATimer w) }
+    ensures values { Always values (λ start w. WhoWaitsHasATimer w) }
+{}
+
 /// A law: a segment that is sent uses a line by which one is lost or late, or a copy of it comes a delay later.
 pub fn each_segment_uses_a_line_or_comes()
     ensures { EachUsesALineOrComes (List ℕ) }
+{}
+
+/// A law: by whatever turn, a copy that is under way on a path is under way still, or it was the path's next event and so arrives, or that
+/// event was the line of the script by which the path dies. So the script alone loses segments, as they are sent.
+pub fn a_copy_leaves_by_arriving()
+    ensures octets { CopiesLeaveByArriving octets }
+    ensures values { CopiesLeaveByArriving values }
 {}
 
 /// A law: on a lane that loses segments all is acknowledged, or the end gave up, after five rounds or so for each segment and two

@@ -1,0 +1,530 @@
+-- What holds of an end once its timer was settled holds of it at the end of each turn.
+use Rattle.std.proofs.Common.{◌≡◌, refl, sym, subst, ap, ◌∙◌, ◌⊎◌, inl, inr, ⊎_elim, ℕ, zero, suc, ◌+◌, Bool, true, false, true≢false, not, ◌&&◌, ◌||◌, if◌then◌else◌, Some, List, [], ◌∷◌, ◌++◌}
+use Rattle.std.specs.List.{slice_get}
+use Rattle.std.proofs.lemmas.Bool.{and_parts}
+use Rattle.sides.specs.declared.side.Side.{Side}
+use Rattle.sides.specs.declared.side.Side.TheVariants.{A, B}
+use Rattle.sides.specs.Side.{peer}
+use Rattle.link_script.specs.Places.{same_side}
+use Rattle.subflow_tcp.specs.States.{is_dead}
+use Rattle.actor_desk.specs.declared.ask.Reply.{Reply}
+use Rattle.actor_desk.specs.Words.{pick}
+use Rattle.path_agenda.specs.Agenda.{start_of_turn, payload_came, heard_and, copy_came, rest_of_turn, breaks, resets, leaves, stops}
+use Rattle.path_agenda.specs.declared.duty.Duty.{Duty}
+use Rattle.path_agenda.specs.declared.duty.Duty.TheVariants as duties
+use Rattle.path_agenda.specs.declared.duty.AskDuty.TheVariants as ask_duties
+use Rattle.path_agenda.specs.declared.duty.SendDuty.TheVariants as send_duties
+use Rattle.path_agenda.specs.declared.duty.SilentDuty.TheVariants as silent_duties
+use Rattle.path_agenda.specs.declared.duty.StepDuty.TheVariants as step_duties
+use Rattle.path_core.specs.Codec.{Codec}
+use Rattle.path_core.specs.Duties.{stands, passed, answered}
+use Rattle.path_core.specs.End.{PathEnd, died}
+use Rattle.path_core.specs.Events.{next_event}
+use Rattle.path_core.specs.State.{PathState, end_at, with_agenda}
+use Rattle.path_core.specs.Steps.{settled, takes, begins_turn}
+use Rattle.path_core.specs.Timer.{after_timer}
+use Rattle.world_laws.specs.declared.member.Member.TheVariants.{App, Path}
+use Rattle.world_laws.specs.Worlds.{Turn, world_run}
+use Rattle.world_laws.specs.Actors.{Actor, ActorCrew, member_takes, member_next}
+use Rattle.world_laws.specs.Members.{HoldsOfKind}
+use Rattle.world_laws.specs.Openings.{Start, path_begins, opened_world}
+use Rattle.world_laws.specs.StampedBooks.{answer_to}
+use Rattle.world_laws.specs.Writes.{Writes, OnlyAt, PathView, end_view, nothing, writes, side_of}
+use Rattle.world_laws.proofs.Rounds.Lifting.{run_lifted, opened_lifted}
+use Rattle.world_laws.proofs.Writes.Paths.{writes_no_more, passes_no_more}
+use Rattle.path_core.specs.Start.{waiting_path}
+use Rattle.whole_paths.specs.AgendaSteps.{may_break, is_of_both, IsStill, is_gone, Follows, Happened, event_side}
+use Rattle.whole_paths.specs.AgendaSteps.{Follows as follow}
+use Rattle.whole_paths.specs.AgendaSteps.{Happened as happened}
+use Rattle.whole_paths.proofs.Agendas.{own_end, gone_end, answered_follows}
+
+-- ---- agendas
+
+-- the duty settles the timer of this side, or its end is dead then
+abbrev settles : Side → Duty → Bool
+settles s (duties.Silent (silent_duties.Timer t)) = same_side t s
+settles s (duties.Ask (ask_duties.BreakAck t reason)) = same_side t s
+settles s (duties.Send (send_duties.BreakReset t reason)) = same_side t s
+settles s (duties.Send (send_duties.Reset t)) = same_side t s
+settles s _ = false
+
+abbrev settles_in : Side → List Duty → Bool
+settles_in s [] = false
+settles_in s (d ∷ ds) = settles s d || settles_in s ds
+
+-- it gives no end a reason, since it settles the timer, or leaves the ends as they are, or is an event
+abbrev is_calm : Duty → Bool
+is_calm (duties.Silent (silent_duties.Timer t)) = true
+is_calm (duties.Ask (ask_duties.BreakAck t reason)) = true
+is_calm (duties.Send (send_duties.BreakReset t reason)) = true
+is_calm (duties.Send (send_duties.Reset t)) = true
+is_calm (duties.Ask (ask_duties.Leave t)) = true
+is_calm (duties.Ask (ask_duties.Dead t)) = true
+is_calm (duties.Send (send_duties.ResetAnswer t)) = true
+is_calm (duties.Step step_duties.Events) = true
+is_calm duties.End = true
+is_calm _ = false
+
+-- a duty of the other side, or of both, that may end what is behind it
+abbrev ends_rest : Side → Duty → Bool
+ends_rest s d = (may_break d && not (same_side (side_of d) s)) || is_of_both d
+
+-- Behind each duty that may give this side's end a reason one settles the timer, and behind none that may end the rest.
+abbrev is_kept : Side → List Duty → Bool
+is_kept s [] = true
+is_kept s (d ∷ ds) =
+    (settles_in s ds || (is_calm d || not (same_side (side_of d) s))) && ((not (settles_in s ds) || not (ends_rest s d)) && is_kept s ds)
+
+-- an agenda begins with nothing silent
+abbrev is_loud : List Duty → Bool
+is_loud [] = true
+is_loud (duties.Silent d ∷ ds) = false
+is_loud (_ ∷ ds) = true
+
+apart : (t : Side) → same_side t (peer t) ≡ false
+apart A = refl
+apart B = refl
+
+itself : (t : Side) → same_side t t ≡ true
+itself A = refl
+itself B = refl
+
+or_true : (b : Bool) → (b || true) ≡ true
+or_true true = refl
+or_true false = refl
+
+never : (b : Bool) → b ≡ true → not b ≡ true → ⊥
+never true is isnt = true≢false (sym isnt)
+never false is isnt = true≢false (sym is)
+
+-- one more in front, where one settles the timer exactly if the duty is of this side
+in_front : (s : Side) (d : Duty) (ds : List Duty) → settles_in s ds ≡ same_side (side_of d) s → is_of_both d ≡ false → is_kept s ds ≡ true → is_kept s (d ∷ ds) ≡ true
+in_front s d ds settled one kept = rw (settled, one, kept) (by (same_side (side_of d) s) (is_calm d) (may_break d))
+  where
+    by : (b calm breaks : Bool) → ((b || (calm || not b)) && ((not b || not ((breaks && not b) || false)) && true)) ≡ true
+    by true calm true = refl
+    by true calm false = refl
+    by false true breaks = refl
+    by false false breaks = refl
+
+-- ---- templates
+
+heard_settled : (s t : Side) (from count : ℕ) (ds : List Duty) → settles_in s (heard_and t from count ds) ≡ settles_in s ds
+heard_settled s t from zero ds = refl
+heard_settled s t from (suc count) ds = heard_settled s t (from + 1) count ds
+
+heard_kept : (s t : Side) (from count : ℕ) (ds : List Duty) → settles_in s ds ≡ same_side t s → is_kept s ds ≡ true → is_kept s (heard_and t from count ds) ≡ true
+heard_kept s t from zero ds settled kept = kept
+heard_kept s t from (suc count) ds settled kept =
+    in_front s (duties.Step (step_duties.Heard t from)) (heard_and t (from + 1) count ds) (heard_settled s t (from + 1) count ds ∙ settled) refl
+    (heard_kept s t (from + 1) count ds settled kept)
+
+copy_kept : (s t : Side) (count : ℕ) → settles_in s (payload_came t) ≡ same_side t s → is_kept s (payload_came t) ≡ true → is_kept s (copy_came t count) ≡ true
+copy_kept s t count settled kept =
+    let ds : List Duty = heard_and t 0 count (payload_came t) in
+    let same : settles_in s ds ≡ same_side t s = heard_settled s t 0 count (payload_came t) ∙ settled in
+    in_front s (duties.Ask (ask_duties.Opened t)) (duties.Ask (ask_duties.Live t) ∷ ds) same refl
+    (in_front s (duties.Ask (ask_duties.Live t)) ds same refl (heard_kept s t 0 count (payload_came t) settled kept))
+
+copy_settles : (s t : Side) (count : ℕ) → settles_in s (payload_came t) ≡ same_side t s → settles_in s (copy_came t count) ≡ same_side t s
+copy_settles s t count settled = heard_settled s t 0 count (payload_came t) ∙ settled
+
+died_kept : (s : Side) (a b : Bool) → is_kept s ((if a then [] else duties.Ask (ask_duties.Leave A) ∷ []) ++ ((if b then [] else duties.Ask (ask_duties.Leave B) ∷ []) ++ rest_of_turn)) ≡ true
+died_kept s true true = refl
+died_kept s true false = refl
+died_kept s false true = refl
+died_kept s false false = refl
+
+-- What holds of an end that is dead, and of one whose timer was just settled, and goes on to hold where nothing changes.
+pub record IsSettled (P : PathEnd → Type 0) : Type 0 where
+  pub seen : (e f : PathEnd) → end_view nothing f ≡ end_view nothing e → P e → P f
+  pub still : (e f : PathEnd) → IsStill e f → P e → P f
+  pub gone : (e : PathEnd) → is_gone e ≡ true → P e
+  pub timer : (now : ℕ) (e : PathEnd) → P (after_timer now e)
+
+module _ (e f : PathEnd) where
+  happened_kept : (s t : Side) (ds : List Duty) → Happened t e f ds → is_kept s ds ≡ true
+  happened_kept s t ds (happened.both_dead gone a b) = died_kept s (is_dead a.tcp.state) (is_dead b.tcp.state)
+  happened_kept A A ds (happened.copy count) = copy_kept A A count refl refl
+  happened_kept A B ds (happened.copy count) = copy_kept A B count refl refl
+  happened_kept B A ds (happened.copy count) = copy_kept B A count refl refl
+  happened_kept B B ds (happened.copy count) = copy_kept B B count refl refl
+  happened_kept A A ds _ = refl
+  happened_kept A B ds _ = refl
+  happened_kept B A ds _ = refl
+  happened_kept B B ds _ = refl
+
+  -- after an event the timer will be settled, or it holds
+  happened_holds : (P : PathEnd → Type 0) → IsSettled P → (t : Side) (ds : List Duty) → Happened t e f ds → P e → (settles_in t ds ≡ true) ⊎ P f
+  happened_holds P rule t ds (happened.nothing still) holds = inr (rule.still e f still holds)
+  happened_holds P rule t ds (happened.answered_dead still) holds = inr (rule.still e f still holds)
+  happened_holds P rule t ds (happened.dead gone) holds = inr (rule.gone f gone)
+  happened_holds P rule t ds (happened.both_dead gone a b) holds = inr (rule.gone f gone)
+  happened_holds P rule A ds (happened.copy count) holds = inl (copy_settles A A count refl)
+  happened_holds P rule B ds (happened.copy count) holds = inl (copy_settles B B count refl)
+  happened_holds P rule A ds _ holds = inl refl
+  happened_holds P rule B ds _ holds = inl refl
+
+-- ---- what an agenda tells
+
+module _ (s : Side) (d : Duty) (ds : List Duty) (kept : is_kept s (d ∷ ds) ≡ true) where
+  abbrev first_part : Bool
+  first_part = settles_in s ds || (is_calm d || not (same_side (side_of d) s))
+
+  abbrev second_part : Bool
+  second_part = not (settles_in s ds) || not (ends_rest s d)
+
+  rest_kept : is_kept s ds ≡ true
+  rest_kept = (and_parts second_part (is_kept s ds) (and_parts first_part (second_part && is_kept s ds) kept).1).1
+
+  behind : is_calm d ≡ false → same_side (side_of d) s ≡ true → settles_in s ds ≡ true
+  behind calm own = by (settles_in s ds) (is_calm d) (same_side (side_of d) s) calm own (and_parts first_part (second_part && is_kept s ds) kept).0
+    where
+      by : (a c o : Bool) → c ≡ false → o ≡ true → (a || (c || not o)) ≡ true → a ≡ true
+      by true c o no yes is = refl
+      by false true o no yes is = absurd (true≢false no)
+      by false false true no yes is = is
+      by false false false no yes is = absurd (true≢false (sym yes))
+
+  none_behind : ends_rest s d ≡ true → settles_in s ds ≡ false
+  none_behind ends = by (settles_in s ds) (ends_rest s d) ends (and_parts second_part (is_kept s ds) (and_parts first_part (second_part && is_kept s ds) kept).1).0
+    where
+      by : (a e : Bool) → e ≡ true → (not a || not e) ≡ true → a ≡ false
+      by false e ends is = refl
+      by true true ends is = absurd (true≢false (sym is))
+      by true false ends is = absurd (true≢false (sym ends))
+
+-- a calm duty that others stand behind
+calm_front : (s : Side) (d : Duty) (ds : List Duty) → is_calm d ≡ true → may_break d ≡ false → is_of_both d ≡ false → is_kept s ds ≡ true → is_kept s (d ∷ ds) ≡ true
+calm_front s d ds calm breaks one kept = rw (calm, breaks, one, kept) (by (settles_in s ds))
+  where
+    by : (a : Bool) → ((a || (true || not (same_side (side_of d) s))) && ((not a || not ((false && not (same_side (side_of d) s)) || false)) && true)) ≡ true
+    by true = refl
+    by false = refl
+
+loose : (s : Side) (d : Duty) → is_calm d ≡ false → settles s d ≡ false
+loose s (duties.Silent (silent_duties.Timer t)) calm = absurd (true≢false calm)
+loose s (duties.Ask (ask_duties.BreakAck t reason)) calm = absurd (true≢false calm)
+loose s (duties.Send (send_duties.BreakReset t reason)) calm = absurd (true≢false calm)
+loose s (duties.Send (send_duties.Reset t)) calm = absurd (true≢false calm)
+loose s _ calm = refl
+
+of_both_calm : (d : Duty) → is_of_both d ≡ true → is_calm d ≡ true
+of_both_calm (duties.Step step_duties.Events) both = refl
+of_both_calm duties.End both = refl
+of_both_calm _ both = absurd (true≢false (sym both))
+
+treats_breaks : (d : Duty) → treats_copy d ≡ true → may_break d ≡ true
+treats_breaks (duties.Ask (ask_duties.BreakAck s reason)) treats = refl
+treats_breaks (duties.Send (send_duties.BreakReset s reason)) treats = refl
+treats_breaks _ treats = treats
+
+-- the agendas of a death, and of a break
+record Fresh (s t : Side) : Type 0 where
+  broken : (reason : ℕ) → is_kept s (breaks t reason) ≡ true
+  is_reset : (reason : ℕ) → is_kept s (resets t reason) ≡ true
+  dead : is_kept s (leaves t) ≡ true
+  stopped : is_kept s (stops t) ≡ true
+
+fresh : (s t : Side) → Fresh s t
+fresh A A = record { broken = λ reason. refl; is_reset = λ reason. refl; dead = refl; stopped = refl }
+fresh A B = record { broken = λ reason. refl; is_reset = λ reason. refl; dead = refl; stopped = refl }
+fresh B A = record { broken = λ reason. refl; is_reset = λ reason. refl; dead = refl; stopped = refl }
+fresh B B = record { broken = λ reason. refl; is_reset = λ reason. refl; dead = refl; stopped = refl }
+
+settled_first : (s : Side) (ds : List Duty) → (same_side s s || settles_in s ds) ≡ true
+settled_first s ds = subst (λ b. (b || settles_in s ds) ≡ true) (sym (itself s)) refl
+
+settled_later : (s : Side) (d : Duty) (ds : List Duty) → settles_in s ds ≡ true → settles_in s (d ∷ ds) ≡ true
+settled_later s d ds is = subst (λ b. (settles s d || b) ≡ true) (sym is) (or_true (settles s d))
+
+-- ---- what follows a duty
+
+-- at its own side
+own_follows : (s : Side) (gone : Bool) (d : Duty) (ds next : List Duty) → Follows s gone d ds next → is_calm d ≡ false → same_side (side_of d) s ≡ true → is_kept s (d ∷ ds) ≡ true
+    → (is_kept s next ≡ true) × ((settles_in s next ≡ true) ⊎ (gone ≡ true))
+own_follows s gone d ds next follows calm own kept = by next follows
+  where
+    rest : is_kept s ds ≡ true
+    rest = rest_kept s d ds kept
+
+    later : settles_in s ds ≡ true
+    later = behind s d ds kept calm own
+
+    by : (next : List Duty) → Follows s gone d ds next → (is_kept s next ≡ true) × ((settles_in s next ≡ true) ⊎ (gone ≡ true))
+    by next follow.goes_on = (rest, inl later)
+    by next follow.again = (kept, inl (settled_later s d ds later))
+    by next (follow.told treats e side one) =
+        (in_front s e ds (later ∙ sym (subst (λ t. same_side t s ≡ true) (sym side) (itself s))) one rest, inl (settled_later s e ds later))
+    by next (follow.left dead) = (calm_front s (duties.Ask (ask_duties.Leave s)) ds refl refl refl rest, inl later)
+    by next follow.noted = (calm_front s (duties.Ask (ask_duties.Dead s)) ds refl refl refl rest, inl later)
+    by next (follow.broken may reason) = ((fresh s s).broken reason, inl (settled_first s rest_of_turn))
+    by next (follow.is_reset may reason) = ((fresh s s).is_reset reason, inl (settled_first s rest_of_turn))
+    by next (follow.dead may dead) = ((fresh s s).dead, inr dead)
+    by next (follow.stopped may) = ((fresh s s).stopped, inl (settled_first s rest_of_turn))
+    by next (follow.over both) = absurd (true≢false (sym (of_both_calm d both) ∙ calm))
+
+-- at the other one
+other_follows : (gone : Bool) (d : Duty) (ds next : List Duty) → let s = peer (side_of d) in Follows (side_of d) gone d ds next → settles s d ≡ false → is_kept s (d ∷ ds) ≡ true
+    → (is_kept s next ≡ true) × (settles_in s (d ∷ ds) ≡ true → settles_in s next ≡ true)
+other_follows gone d ds next follows idle kept = by next follows
+  where
+    t : Side
+    t = side_of d
+
+    s : Side
+    s = peer t
+
+    rest : is_kept s ds ≡ true
+    rest = rest_kept s d ds kept
+
+    later : settles_in s (d ∷ ds) ≡ true → settles_in s ds ≡ true
+    later is = subst (λ b. (b || settles_in s ds) ≡ true) idle is
+
+    none : may_break d ≡ true → settles_in s ds ≡ false
+    none may = none_behind s d ds kept
+        (subst (λ b. ((b && not (same_side t s)) || is_of_both d) ≡ true) (sym may) (subst (λ b. (not b || is_of_both d) ≡ true) (sym (apart t)) refl))
+
+    nowhere : {next : List Duty} → may_break d ≡ true → settles_in s (d ∷ ds) ≡ true → settles_in s next ≡ true
+    nowhere may is = absurd (true≢false (sym (later is) ∙ none may))
+
+    by : (next : List Duty) → Follows t gone d ds next → (is_kept s next ≡ true) × (settles_in s (d ∷ ds) ≡ true → settles_in s next ≡ true)
+    by next follow.goes_on = (rest, later)
+    by next follow.again = (kept, λ is. is)
+    by next (follow.told treats e side one) = (
+      in_front s e ds (none (treats_breaks d treats) ∙ sym (subst (λ r. same_side r s ≡ false) (sym side) (apart t))) one rest,
+      λ is. settled_later s e ds (later is),
+    )
+    by next (follow.left dead) = (calm_front s (duties.Ask (ask_duties.Leave t)) ds refl refl refl rest, later)
+    by next follow.noted = (calm_front s (duties.Ask (ask_duties.Dead t)) ds refl refl refl rest, later)
+    by next (follow.broken may reason) = ((fresh s t).broken reason, nowhere may)
+    by next (follow.is_reset may reason) = ((fresh s t).is_reset reason, nowhere may)
+    by next (follow.dead may dead) = ((fresh s t).dead, nowhere may)
+    by next (follow.stopped may) = ((fresh s t).stopped, nowhere may)
+    by next (follow.over both) = (refl, λ is.
+        absurd (true≢false (sym (later is) ∙ none_behind s d ds kept (subst (λ b. ((may_break d && not (same_side t s)) || b) ≡ true) (sym both) (or_true (may_break d && not (same_side t s)))))))
+
+-- ---- a path
+
+-- it is this side, or the other one
+sides : (s t : Side) → (t ≡ s) ⊎ (peer t ≡ s)
+sides A A = inl refl
+sides A B = inr refl
+sides B A = inr refl
+sides B B = inl refl
+
+same_end : (s t : Side) (a b : PathEnd) → pick s (pick t (pick t a b) a) (pick t b (pick t a b)) ≡ pick s a b
+same_end A A a b = refl
+same_end A B a b = refl
+same_end B A a b = refl
+same_end B B a b = refl
+
+module _ {C : Type 0} (P : PathEnd → Type 0) (rule : IsSettled P) where
+  -- the timer of this side is settled by one of these, or it holds
+  record Ready (s : Side) (ds : List Duty) (p : PathState C) : Type 0 where
+    kept : is_kept s ds ≡ true
+    holds : (settles_in s ds ≡ true) ⊎ P (end_at s p)
+
+  record Stands (s : Side) (p : PathState C) : Type 0 where
+    ready : Ready s p.agenda p
+    loud : is_loud p.agenda ≡ true
+
+  other_holds : (t : Side) (w : Writes) (p q : PathState C) → w.other ≡ nothing → OnlyAt t w p q → P (end_at (peer t) p) → P (end_at (peer t) q)
+  other_holds t w p q none x held =
+      let view = subst (λ n. end_view n (end_at (peer t) q) ≡ end_view n (end_at (peer t) p)) none (ap (λ (v : PathView C). v.other) x.same) in
+      rule.seen (end_at (peer t) p) (end_at (peer t) q) view held
+
+  -- ---- duties that are passed
+
+  pass_other : (d : Duty) (ds : List Duty) (p : PathState C) → let s = peer (side_of d) in (writes d).other ≡ nothing → settles s d ≡ false → Ready s (d ∷ ds) p → Ready s ds (passed d p)
+  pass_other d ds p none idle h =
+      let s = peer (side_of d) in
+      record {
+        kept = rest_kept s d ds h.kept;
+        holds = ⊎_elim
+            (λ settled. inl (subst (λ b. (b || settles_in s ds) ≡ true) idle settled))
+            (λ held. inr (other_holds (side_of d) (writes d) p (passed d p) none (passes_no_more d p) held))
+            h.holds;
+      }
+
+  pass_on : (s : Side) (d : Duty) (ds : List Duty) (p : PathState C) → (writes d).other ≡ nothing → is_calm d ≡ false → Ready s (d ∷ ds) p → Ready s ds (passed d p)
+  pass_on s d ds p none calm = ⊎_elim
+      (λ own. subst (λ t. Ready t (d ∷ ds) p → Ready t ds (passed d p)) own
+      (λ h. record { kept = rest_kept (side_of d) d ds h.kept; holds = inl (behind (side_of d) d ds h.kept calm (itself (side_of d))) }))
+      (λ other. subst (λ t. Ready t (d ∷ ds) p → Ready t ds (passed d p)) other (pass_other d ds p none (loose (peer (side_of d)) d calm)))
+      (sides s (side_of d))
+
+  pass_timer : (s t : Side) (ds : List Duty) (p : PathState C) → let d = duties.Silent (silent_duties.Timer t) in Ready s (d ∷ ds) p → Ready s ds (passed d p)
+  pass_timer s t ds p = ⊎_elim
+      (λ own. subst (λ r. Ready r (d ∷ ds) p → Ready r ds (passed d p)) own
+      (λ h. record {
+        kept = rest_kept t d ds h.kept;
+        holds = inr (subst P (sym (own_end t (after_timer p.clock (end_at t p)) p.a p.b)) (rule.timer p.clock (end_at t p)));
+      }))
+      (λ other. subst (λ r. Ready r (d ∷ ds) p → Ready r ds (passed d p)) other (pass_other d ds p refl (apart t)))
+      (sides s t)
+    where
+      d : Duty
+      d = duties.Silent (silent_duties.Timer t)
+
+  pass_ready : (s : Side) (d : Duty) (ds : List Duty) (p : PathState C) → stands d p ≡ false → Ready s (d ∷ ds) p → Ready s ds (passed d p)
+  pass_ready s (duties.Silent (silent_duties.Timer t)) ds p passes h = pass_timer s t ds p h
+  pass_ready s (duties.Step step_duties.Events) ds p passes h = record { kept = rest_kept s (duties.Step step_duties.Events) ds h.kept; holds = h.holds }
+  pass_ready s (duties.Ask (ask_duties.BreakAck t reason)) ds p passes h = absurd (true≢false passes)
+  pass_ready s (duties.Ask (ask_duties.Leave t)) ds p passes h = absurd (true≢false passes)
+  pass_ready s (duties.Ask (ask_duties.Dead t)) ds p passes h = absurd (true≢false passes)
+  pass_ready s (duties.Send (send_duties.BreakReset t reason)) ds p passes h = absurd (true≢false passes)
+  pass_ready s (duties.Send (send_duties.Reset t)) ds p passes h = absurd (true≢false passes)
+  pass_ready s (duties.Send (send_duties.ResetAnswer t)) ds p passes h = absurd (true≢false passes)
+  pass_ready s duties.End ds p passes h = absurd (true≢false passes)
+  pass_ready s d ds p passes h = pass_on s d ds p refl refl h
+
+  stands_loud : (d : Duty) (ds : List Duty) (p : PathState C) → stands d p ≡ true → is_loud (d ∷ ds) ≡ true
+  stands_loud (duties.Silent d) ds p is = absurd (true≢false (sym is))
+  stands_loud _ ds p is = refl
+
+  settled_ready : (s : Side) (ds : List Duty) (p : PathState C) → Ready s ds p → Stands s (settled ds p)
+  settled_ready s [] p h = record { ready = record { kept = h.kept; holds = h.holds }; loud = refl }
+  settled_ready s (d ∷ ds) p h = by (stands d p) refl (λ passes. settled_ready s ds (passed d p) (pass_ready s d ds p passes h))
+    where
+      by : (b : Bool) → stands d p ≡ b → (stands d p ≡ false → Stands s (settled ds (passed d p))) → Stands s (if b then with_agenda (d ∷ ds) p else settled ds (passed d p))
+      by true is rest = record { ready = record { kept = h.kept; holds = h.holds }; loud = stands_loud d ds p is }
+      by false is rest = rest is
+
+  -- ---- duties that are answered
+
+  module _ (k : Codec C) (d : Duty) (ds : List Duty) (r : Reply) (p : PathState C) where
+    -- the path with them, and afterwards
+    abbrev before : PathState C
+    before = with_agenda (d ∷ ds) p
+
+    abbrev after : PathState C
+    after = answered k d r before
+
+    abbrev Kept : Side → Type 0
+    Kept s = Ready s (d ∷ ds) before → Ready s after.agenda after
+
+    at_other : (writes d).other ≡ nothing → settles (peer (side_of d)) d ≡ false → Follows (side_of d) (is_gone (end_at (side_of d) after)) d ds after.agenda → Kept (peer (side_of d))
+    at_other none idle follows h =
+        let next = other_follows (is_gone (end_at (side_of d) after)) d ds after.agenda follows idle h.kept in
+        record {
+          kept = next.0;
+          holds = ⊎_elim (λ settled. inl (next.1 settled)) (λ held. inr (other_holds (side_of d) (writes d) before after none (writes_no_more k d r before) held)) h.holds;
+        }
+
+    dead_then : is_gone (end_at (side_of d) after) ≡ true → P (end_at (side_of d) after)
+    dead_then gone = rule.gone (end_at (side_of d) after) gone
+
+    at_own : is_calm d ≡ false → Follows (side_of d) (is_gone (end_at (side_of d) after)) d ds after.agenda → Kept (side_of d)
+    at_own calm follows h =
+        let next = own_follows (side_of d) (is_gone (end_at (side_of d) after)) d ds after.agenda follows calm (itself (side_of d)) h.kept in
+        record { kept = next.0; holds = ⊎_elim (λ settled. inl settled) (λ gone. inr (dead_then gone)) next.1 }
+
+    at_both : (s : Side) → Kept (side_of d) → Kept (peer (side_of d)) → Kept s
+    at_both s own other = ⊎_elim (λ is. subst Kept is own) (λ is. subst Kept is other) (sides s (side_of d))
+
+    answer_on : (s : Side) → (writes d).other ≡ nothing → is_calm d ≡ false → Follows (side_of d) (is_gone (end_at (side_of d) after)) d ds after.agenda → Kept s
+    answer_on s none calm follows = at_both s (at_own calm follows) (at_other none (loose (peer (side_of d)) d calm) follows)
+
+  event_ready : (k : Codec C) (s : Side) (ds : List Duty) (r : Reply) (p : PathState C) → Kept k (duties.Step step_duties.Events) ds r p s
+  event_ready k s ds r p h =
+      let t = event_side (next_event p) in
+      let next = answered_follows k (duties.Step step_duties.Events) ds r p in
+      record {
+        kept = happened_kept (end_at t p) (end_at t q) s t q.agenda next.0;
+        holds = ⊎_elim
+            (λ own. subst (λ x. P (end_at x p) → (settles_in x q.agenda ≡ true) ⊎ P (end_at x q)) own (happened_holds (end_at t p) (end_at t q) P rule t q.agenda next.0) holding)
+            (λ other. inr (subst (λ x. P (end_at x p) → P (end_at x q)) other
+            (λ held. ⊎_elim (λ gone. rule.gone (end_at (peer t) q) gone) (λ still. rule.still (end_at (peer t) p) (end_at (peer t) q) still held) next.1) holding))
+            (sides s t);
+      }
+    where
+      q : PathState C
+      q = answered k (duties.Step step_duties.Events) r (with_agenda (duties.Step step_duties.Events ∷ ds) p)
+
+      holding : P (end_at s p)
+      holding = ⊎_elim (λ settled. absurd (true≢false (sym settled ∙ none_behind s (duties.Step step_duties.Events) ds h.kept refl))) (λ held. held) h.holds
+
+  answer_ready : (k : Codec C) (s : Side) (d : Duty) (ds : List Duty) (r : Reply) (p : PathState C) → is_loud (d ∷ ds) ≡ true → Kept k d ds r p s
+  answer_ready k s (duties.Silent d) ds r p loud h = absurd (true≢false (sym loud))
+  answer_ready k s (duties.Step step_duties.Events) ds r p loud h = event_ready k s ds r p h
+  answer_ready k s duties.End ds r p loud h = record {
+    kept = refl;
+    holds = ⊎_elim (λ settled. absurd (true≢false (sym settled ∙ none_behind s duties.End ds h.kept refl))) (λ held. inr held) h.holds;
+  }
+  answer_ready k s (duties.Ask (ask_duties.Leave t)) ds r p loud h =
+      record { kept = calm_front s (duties.Ask (ask_duties.Dead t)) ds refl refl refl (rest_kept s (duties.Ask (ask_duties.Leave t)) ds h.kept); holds = h.holds }
+  answer_ready k s (duties.Ask (ask_duties.Dead t)) ds r p loud h = record { kept = rest_kept s (duties.Ask (ask_duties.Dead t)) ds h.kept; holds = h.holds }
+  answer_ready k s (duties.Send (send_duties.ResetAnswer t)) ds r p loud h = record {
+    kept = rest_kept s (duties.Send (send_duties.ResetAnswer t)) ds h.kept;
+    holds = ⊎_elim (λ settled. inl settled) (λ held. inr (subst P (sym (same_end s t p.a p.b)) held)) h.holds;
+  }
+  answer_ready k s (duties.Ask (ask_duties.BreakAck t reason)) ds r p loud h =
+      at_both k (duties.Ask (ask_duties.BreakAck t reason)) ds r p s
+      (λ h. record { kept = (fresh t t).is_reset reason; holds = inl (settled_first t rest_of_turn) })
+      (at_other k (duties.Ask (ask_duties.BreakAck t reason)) ds r p refl (apart t) (answered_follows k (duties.Ask (ask_duties.BreakAck t reason)) ds r p))
+      h
+  answer_ready k s (duties.Send (send_duties.BreakReset t reason)) ds r p loud h =
+      at_both k (duties.Send (send_duties.BreakReset t reason)) ds r p s
+      (λ h. record { kept = (fresh t t).dead; holds = inr (dead_then k (duties.Send (send_duties.BreakReset t reason)) ds r p (gone_end t (died (end_at t p)) p.a p.b refl)) })
+      (at_other k (duties.Send (send_duties.BreakReset t reason)) ds r p refl (apart t) (answered_follows k (duties.Send (send_duties.BreakReset t reason)) ds r p))
+      h
+  answer_ready k s (duties.Send (send_duties.Reset t)) ds r p loud h =
+      at_both k (duties.Send (send_duties.Reset t)) ds r p s
+      (λ h. record {
+        kept = calm_front t (duties.Ask (ask_duties.Leave t)) ds refl refl refl (rest_kept t (duties.Send (send_duties.Reset t)) ds h.kept);
+        holds = inr (dead_then k (duties.Send (send_duties.Reset t)) ds r p (gone_end t (died (end_at t p)) p.a p.b refl));
+      })
+      (at_other k (duties.Send (send_duties.Reset t)) ds r p refl (apart t) (answered_follows k (duties.Send (send_duties.Reset t)) ds r p))
+      h
+  answer_ready k s d ds r p loud h = answer_on k d ds r p s refl refl (answered_follows k d ds r p) h
+
+  takes_ready : (k : Codec C) (s : Side) (r : Reply) (p : PathState C) → Stands s p → Stands s (takes k r p)
+  takes_ready k s r p h = by p.agenda h
+    where
+      by : (ds : List Duty) → Stands s (with_agenda ds p) → Stands s (takes k r (with_agenda ds p))
+      by [] h = settled_ready s [] (with_agenda [] p) h.ready
+      by (d ∷ ds) h =
+          let q : PathState C = answered k d r (with_agenda (d ∷ ds) p) in settled_ready s q.agenda q (answer_ready k s d ds r p h.loud h.ready)
+
+  begins_ready : (s : Side) (p : PathState C) → Stands s (begins_turn p)
+  begins_ready s p = settled_ready s start_of_turn (with_agenda start_of_turn p) (by s)
+    where
+      by : (s : Side) → Ready s start_of_turn (with_agenda start_of_turn p)
+      by A = record { kept = refl; holds = inl refl }
+      by B = record { kept = refl; holds = inl refl }
+
+  -- at the end of a turn it holds
+  over_so : (s : Side) (p : PathState C) → Stands s p → p.agenda ≡ [] → P (end_at s p)
+  over_so s p h over = ⊎_elim
+      (λ settled. absurd (true≢false (sym (subst (λ ds. settles_in s ds ≡ true) over settled))))
+      (λ held. held)
+      h.ready.holds
+
+  -- ---- the world
+
+  abbrev IsStandingMember : Actor C → Type 0
+  IsStandingMember = HoldsOfKind (λ app. Unit {0}) (λ p. (s : Side) → Stands s p)
+
+  member_stands : (k : Codec C) (r : Reply) (m : Actor C) → IsStandingMember m → IsStandingMember (member_takes k r m)
+  member_stands k r (App a) h = tt
+  member_stands k r (Path p) h = λ s. takes_ready k s r p (h s)
+
+  member_begins : (m : Actor C) → IsStandingMember m → IsStandingMember (member_next m)
+  member_begins (App a) h = tt
+  member_begins (Path p) h = λ s. begins_ready s (record p { clock = p.until; until = p.until + 100 })
+
+  -- where the turn of a path is over it holds at both ends
+  abbrev pub HoldsAtTheEnd : PathState C → Type 0
+  HoldsAtTheEnd p = p.agenda ≡ [] → (s : Side) → P (end_at s p)
+
+  member_so : (m : Actor C) → IsStandingMember m → HoldsOfKind (λ app. Unit {0}) HoldsAtTheEnd m
+  member_so (App a) h = tt
+  member_so (Path p) h = λ over s. over_so s p (h s) over
+
+  pub each_turn_settles : (k : Codec C) (start : Start) (turns : List Turn) (actor : ℕ) (c : ActorCrew C) → slice_get (world_run k turns (opened_world start)).crew actor ≡ Some c
+      → HoldsOfKind (λ app. Unit {0}) HoldsAtTheEnd c.member
+  each_turn_settles k start turns actor c there = member_so c.member
+      ((run_lifted k (λ c. IsStandingMember c.member) (λ books c x asks h. member_stands k (answer_to books x) c.member h) (λ stamp c over h. member_begins c.member h)
+      turns (opened_world start)
+      (opened_lifted (λ c. IsStandingMember c.member) start tt tt (λ number plan there. λ s. begins_ready s (waiting_path (path_begins start number plan) start.lines)))).each actor c there)

@@ -1,0 +1,51 @@
+-- What holds between each actor and what its step, or the beginning of a round, makes of it, holds between each actor and what a turn
+-- makes of it.
+use Rattle.std.proofs.Common.{◌≡◌, refl, sym, subst, ap, ◌∙◌, ℕ, zero, suc, Bool, true, false, if◌then◌else◌, Option, Some, None, List, [], ◌∷◌, map, set, ⊎_elim}
+use Rattle.std.proofs.lemmas.Bool.{cases_eq}
+use Rattle.std.proofs.lemmas.Option.{same_Some}
+use Rattle.std.specs.List.{slice_get}
+use Rattle.stream_lanes.proofs.Lists.{set_same, set_other}
+use Rattle.actor_desk.specs.declared.ask.Ask.{Ask}
+use Rattle.path_core.specs.Codec.{Codec}
+use Rattle.world_laws.specs.Actors.{ActorCrew, member_asks}
+use Rattle.actor_desk.specs.Books.{StampedBooks}
+use Rattle.world_laws.specs.Worlds.{WorldState, Turn, crew_after, asked, stepped, all_over, greatest, begins, after_turn}
+
+module _ {C : Type 0} (k : Codec C) (R : ActorCrew C → ActorCrew C → Type 0)
+    (stays : (c : ActorCrew C) → R c c)
+    (steps : (ask : Ask) (books : StampedBooks) (c : ActorCrew C) → R c (crew_after k ask books c))
+    (begun : (stamp : ℕ) (c : ActorCrew C) → R c (begins stamp c)) where
+  abbrev pub Each : WorldState C → WorldState C → Type 0
+  Each w v = (actor : ℕ) (c : ActorCrew C) → slice_get w.crew actor ≡ Some c → (d : ActorCrew C) × (slice_get v.crew actor ≡ Some d) × R c d
+
+  asked_each : (actor : ℕ) (ask : Ask) (c : ActorCrew C) (w : WorldState C) → slice_get w.crew actor ≡ Some c → Each w (asked k actor (Some ask) c w)
+  asked_each actor ask c w there i e at = ⊎_elim here (λ apart. (e, set_other w.crew actor new i apart ∙ at, stays e)) (cases_eq i actor)
+    where
+      new : ActorCrew C
+      new = crew_after k ask w.books c
+
+      here : i ≡ actor → (d : ActorCrew C) × (slice_get (set w.crew actor new) i ≡ Some d) × R e d
+      here is =
+          let same : c ≡ e = same_Some c e (sym there ∙ ap (slice_get w.crew) (sym is) ∙ at) in
+          (new, ap (slice_get (set w.crew actor new)) is ∙ set_same w.crew actor new c there, subst (λ x. R x new) same (steps ask w.books c))
+
+  stepped_each : (actor : ℕ) (w : WorldState C) (o : Option (ActorCrew C)) → slice_get w.crew actor ≡ o → Each w (stepped k actor o w)
+  stepped_each actor w None there = λ i e at. (e, at, stays e)
+  stepped_each actor w (Some c) there = by (member_asks k c.member)
+    where
+      by : (o : Option Ask) → Each w (asked k actor o c w)
+      by None = λ i e at. (e, at, stays e)
+      by (Some ask) = asked_each actor ask c w there
+
+  begun_at : (stamp : ℕ) (crew : List (ActorCrew C)) (i : ℕ) (c : ActorCrew C) → slice_get crew i ≡ Some c → slice_get (map (begins stamp) crew) i ≡ Some (begins stamp c)
+  begun_at stamp [] i c at = cc
+  begun_at stamp (d ∷ crew) zero c at = ap (λ x. Some (begins stamp x)) (same_Some d c at)
+  begun_at stamp (d ∷ crew) (suc i) c at = begun_at stamp crew i c at
+
+  round_each : (w : WorldState C) (b : Bool) → Each w (if b then record w { crew = map (begins (greatest 0 w.crew)) w.crew } else w)
+  round_each w false = λ i e at. (e, at, stays e)
+  round_each w true = λ i e at. (begins (greatest 0 w.crew) e, begun_at (greatest 0 w.crew) w.crew i e at, begun (greatest 0 w.crew) e)
+
+  pub turn_each : (turn : Turn) (w : WorldState C) → Each w (after_turn k turn w)
+  turn_each (Turn.Step actor) w = stepped_each actor w (slice_get w.crew actor) refl
+  turn_each Turn.Round w = round_each w (all_over w.crew)

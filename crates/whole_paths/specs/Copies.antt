@@ -1,0 +1,39 @@
+-- How a copy leaves the link of a path.
+use Rattle.std.specs.Prelude.{ℕ, ◌≡◌, Some, slice_get}
+use Rattle.link_model.specs.declared.flight.Flight.{Flight}
+use Rattle.link_model.specs.Steps.{due_of}
+use Rattle.stream_lanes.specs.Words.{Has}
+use Rattle.path_store.specs.declared.lines.LineLeft.{LineLeft}
+use Rattle.path_store.specs.declared.lines.LineAction.TheVariants as actions
+use Rattle.path_core.specs.Codec.{Codec}
+use Rattle.path_core.specs.Events.{next_event}
+use Rattle.path_core.specs.State.{PathState}
+use Rattle.path_core.specs.declared.events.Event.TheVariants as happenings
+use Rattle.world_laws.specs.declared.member.Member.TheVariants.{App, Path}
+use Rattle.world_laws.specs.Actors.{Actor, ActorCrew}
+use Rattle.world_laws.specs.Worlds.{WorldState, Turn, after_turn}
+
+module _ {C : Type 0} where
+  -- the copy is under way on the path
+  abbrev pub IsUnderWay : Flight C → PathState C → Type 0
+  IsUnderWay f p = Has (λ g. g ≡ f) p.link.under_way
+
+  -- what becomes of it, as the path becomes another one
+  pub data GoesOnItsWay (f : Flight C) (p q : PathState C) : Type 0 where
+    -- it is still under way
+    on : IsUnderWay f q → GoesOnItsWay f p q
+    -- it was the next event of the path: it arrives
+    arrives : next_event p ≡ Some (happenings.Arrives (due_of f)) → GoesOnItsWay f p q
+    -- the next event was a line of the script by which the path dies
+    dies : (line : LineLeft) → next_event p ≡ Some (happenings.Takes line) → line.action ≡ actions.Die → GoesOnItsWay f p q
+
+  -- so it is with each copy of a path, as the path becomes this actor
+  abbrev pub CopiesGoOn : Actor C → Actor C → Type 0
+  CopiesGoOn (Path p) (Path q) = (f : Flight C) → IsUnderWay f p → GoesOnItsWay f p q
+  CopiesGoOn (App a) (App b) = Unit {0}
+  CopiesGoOn _ _ = ⊥
+
+  -- by any turn
+  abbrev pub CopiesLeaveByArriving : Codec C → Type 0
+  CopiesLeaveByArriving k = (w : WorldState C) (turn : Turn) (actor : ℕ) (c : ActorCrew C) → slice_get w.crew actor ≡ Some c
+      → (d : ActorCrew C) × (slice_get (after_turn k turn w).crew actor ≡ Some d) × CopiesGoOn c.member d.member
