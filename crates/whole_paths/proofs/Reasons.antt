@@ -64,13 +64,19 @@ reason_seen v =
 seen_runs : (e f : PathEnd) → end_view nothing f ≡ end_view nothing e → Runs e → Runs f
 seen_runs e f same runs = same_runs e f (ap reason_seen same) (same_Some f.tcp.timing e.tcp.timing (ap (λ (v : EndView). v.timing) same)) runs
 
+-- all of them, where the end isn't closed to segments
+abbrev reasons : PathEnd → Bool
+reasons e =
+    ((((not (sends_plainly e.modes) && (e.sending.fin_sent && not e.sending.close.own_acked)) || (not (is_all_acknowledged e.sending.granted) || e.sending.shut))
+    || (e.modes.owes_third || e.notices.fast_closed)) || is_some_record e.tcp.send.records)
+
 -- a dead end has none
 gone_runs : (e : PathEnd) → is_gone e ≡ true → Runs e
-gone_runs e gone has = by e.tcp.state gone has
+gone_runs e gone has = by (reasons e) e.tcp.state gone has
   where
-    by : {rest : Bool} (state : State) → is_dead state ≡ true → (not (is_closed_to_segments state) && rest) ≡ true → is_none e.tcp.timing.timer ≡ false
-    by phase.Dead gone has = absurd (true≢false (sym has))
-    by _ gone has = absurd (true≢false (sym gone))
+    by : (rest : Bool) (state : State) → is_dead state ≡ true → (not (is_closed_to_segments state) && rest) ≡ true → is_none e.tcp.timing.timer ≡ false
+    by rest phase.Dead gone has = absurd (true≢false (sym has))
+    by rest _ gone has = absurd (true≢false (sym gone))
 
 -- and where the timer was settled it runs
 timer_runs : (now : ℕ) (e : PathEnd) → Runs (after_timer now e)

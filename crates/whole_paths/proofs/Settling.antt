@@ -33,7 +33,7 @@ use Rattle.world_laws.specs.Writes.{Writes, OnlyAt, PathView, end_view, nothing,
 use Rattle.world_laws.proofs.Rounds.Lifting.{run_lifted, opened_lifted}
 use Rattle.world_laws.proofs.Writes.Paths.{writes_no_more, passes_no_more}
 use Rattle.path_core.specs.Start.{waiting_path}
-use Rattle.whole_paths.specs.AgendaSteps.{may_break, is_of_both, IsStill, is_gone, Follows, Happened, event_side}
+use Rattle.whole_paths.specs.AgendaSteps.{treats_copy, may_break, is_of_both, IsStill, is_gone, Follows, Happened, Happens, event_side}
 use Rattle.whole_paths.specs.AgendaSteps.{Follows as follow}
 use Rattle.whole_paths.specs.AgendaSteps.{Happened as happened}
 use Rattle.whole_paths.proofs.Agendas.{own_end, gone_end, answered_follows}
@@ -99,13 +99,16 @@ never false is isnt = true≢false (sym is)
 
 -- one more in front, where one settles the timer exactly if the duty is of this side
 in_front : (s : Side) (d : Duty) (ds : List Duty) → settles_in s ds ≡ same_side (side_of d) s → is_of_both d ≡ false → is_kept s ds ≡ true → is_kept s (d ∷ ds) ≡ true
-in_front s d ds settled one kept = rw (settled, one, kept) (by (same_side (side_of d) s) (is_calm d) (may_break d))
+in_front s d ds settled one kept = by (same_side (side_of d) s) (is_calm d) (may_break d) (settles_in s ds) (is_of_both d) (is_kept s ds) settled one kept
   where
-    by : (b calm breaks : Bool) → ((b || (calm || not b)) && ((not b || not ((breaks && not b) || false)) && true)) ≡ true
-    by true calm true = refl
-    by true calm false = refl
-    by false true breaks = refl
-    by false false breaks = refl
+    by : (b calm breaks a o k : Bool) → a ≡ b → o ≡ false → k ≡ true → ((a || (calm || not b)) && ((not a || not ((breaks && not b) || o)) && k)) ≡ true
+    by b calm breaks a o k settled one kept = rw (settled, one, kept) (plainly b calm breaks)
+      where
+        plainly : (b calm breaks : Bool) → ((b || (calm || not b)) && ((not b || not ((breaks && not b) || false)) && true)) ≡ true
+        plainly true calm true = refl
+        plainly true calm false = refl
+        plainly false true breaks = refl
+        plainly false false breaks = refl
 
 -- ---- templates
 
@@ -181,10 +184,10 @@ module _ (s : Side) (d : Duty) (ds : List Duty) (kept : is_kept s (d ∷ ds) ≡
   behind calm own = by (settles_in s ds) (is_calm d) (same_side (side_of d) s) calm own (and_parts first_part (second_part && is_kept s ds) kept).0
     where
       by : (a c o : Bool) → c ≡ false → o ≡ true → (a || (c || not o)) ≡ true → a ≡ true
-      by true c o no yes is = refl
-      by false true o no yes is = absurd (true≢false no)
-      by false false true no yes is = is
-      by false false false no yes is = absurd (true≢false (sym yes))
+      by true c o free same is = refl
+      by false true o free same is = absurd (true≢false free)
+      by false false true free same is = is
+      by false false false free same is = absurd (true≢false (sym same))
 
   none_behind : ends_rest s d ≡ true → settles_in s ds ≡ false
   none_behind ends = by (settles_in s ds) (ends_rest s d) ends (and_parts second_part (is_kept s ds) (and_parts first_part (second_part && is_kept s ds) kept).1).0
@@ -196,11 +199,11 @@ module _ (s : Side) (d : Duty) (ds : List Duty) (kept : is_kept s (d ∷ ds) ≡
 
 -- a calm duty that others stand behind
 calm_front : (s : Side) (d : Duty) (ds : List Duty) → is_calm d ≡ true → may_break d ≡ false → is_of_both d ≡ false → is_kept s ds ≡ true → is_kept s (d ∷ ds) ≡ true
-calm_front s d ds calm breaks one kept = rw (calm, breaks, one, kept) (by (settles_in s ds))
+calm_front s d ds calm breaks one kept = by (same_side (side_of d) s) (settles_in s ds) (is_calm d) (may_break d) (is_of_both d) (is_kept s ds) calm breaks one kept
   where
-    by : (a : Bool) → ((a || (true || not (same_side (side_of d) s))) && ((not a || not ((false && not (same_side (side_of d) s)) || false)) && true)) ≡ true
-    by true = refl
-    by false = refl
+    by : (b a c m o k : Bool) → c ≡ true → m ≡ false → o ≡ false → k ≡ true → ((a || (c || not b)) && ((not a || not ((m && not b) || o)) && k)) ≡ true
+    by b true c m o k calm breaks one kept = rw (breaks, one, kept) refl
+    by b false c m o k calm breaks one kept = rw (calm, kept) refl
 
 loose : (s : Side) (d : Duty) → is_calm d ≡ false → settles s d ≡ false
 loose s (duties.Silent (silent_duties.Timer t)) calm = absurd (true≢false calm)
@@ -265,44 +268,40 @@ own_follows s gone d ds next follows calm own kept = by next follows
     by next (follow.over both) = absurd (true≢false (sym (of_both_calm d both) ∙ calm))
 
 -- at the other one
-other_follows : (gone : Bool) (d : Duty) (ds next : List Duty) → let s = peer (side_of d) in Follows (side_of d) gone d ds next → settles s d ≡ false → is_kept s (d ∷ ds) ≡ true
-    → (is_kept s next ≡ true) × (settles_in s (d ∷ ds) ≡ true → settles_in s next ≡ true)
-other_follows gone d ds next follows idle kept = by next follows
+other_follows : (t : Side) (gone : Bool) (d : Duty) (ds next : List Duty) → Follows t gone d ds next → same_side (side_of d) (peer t) ≡ false → settles (peer t) d ≡ false
+    → is_kept (peer t) (d ∷ ds) ≡ true → (is_kept (peer t) next ≡ true) × (settles_in (peer t) (d ∷ ds) ≡ true → settles_in (peer t) next ≡ true)
+other_follows t gone d ds next follows own idle kept = by next follows
   where
-    t : Side
-    t = side_of d
+    rest : is_kept (peer t) ds ≡ true
+    rest = rest_kept (peer t) d ds kept
 
-    s : Side
-    s = peer t
+    later : settles_in (peer t) (d ∷ ds) ≡ true → settles_in (peer t) ds ≡ true
+    later is = subst (λ b. (b || settles_in (peer t) ds) ≡ true) idle is
 
-    rest : is_kept s ds ≡ true
-    rest = rest_kept s d ds kept
+    ends : (m o b : Bool) → b ≡ false → (m ≡ true) ⊎ (o ≡ true) → ((m && not b) || o) ≡ true
+    ends m o b other (inl may) = rw (may, other) refl
+    ends m o b other (inr both) = rw both (or_true (m && not b))
 
-    later : settles_in s (d ∷ ds) ≡ true → settles_in s ds ≡ true
-    later is = subst (λ b. (b || settles_in s ds) ≡ true) idle is
+    none : (may_break d ≡ true) ⊎ (is_of_both d ≡ true) → settles_in (peer t) ds ≡ false
+    none why = none_behind (peer t) d ds kept (ends (may_break d) (is_of_both d) (same_side (side_of d) (peer t)) own why)
 
-    none : may_break d ≡ true → settles_in s ds ≡ false
-    none may = none_behind s d ds kept
-        (subst (λ b. ((b && not (same_side t s)) || is_of_both d) ≡ true) (sym may) (subst (λ b. (not b || is_of_both d) ≡ true) (sym (apart t)) refl))
+    nowhere : (next : List Duty) → may_break d ≡ true → settles_in (peer t) (d ∷ ds) ≡ true → settles_in (peer t) next ≡ true
+    nowhere next may is = absurd (true≢false (sym (later is) ∙ none (inl may)))
 
-    nowhere : {next : List Duty} → may_break d ≡ true → settles_in s (d ∷ ds) ≡ true → settles_in s next ≡ true
-    nowhere may is = absurd (true≢false (sym (later is) ∙ none may))
-
-    by : (next : List Duty) → Follows t gone d ds next → (is_kept s next ≡ true) × (settles_in s (d ∷ ds) ≡ true → settles_in s next ≡ true)
+    by : (next : List Duty) → Follows t gone d ds next → (is_kept (peer t) next ≡ true) × (settles_in (peer t) (d ∷ ds) ≡ true → settles_in (peer t) next ≡ true)
     by next follow.goes_on = (rest, later)
     by next follow.again = (kept, λ is. is)
     by next (follow.told treats e side one) = (
-      in_front s e ds (none (treats_breaks d treats) ∙ sym (subst (λ r. same_side r s ≡ false) (sym side) (apart t))) one rest,
-      λ is. settled_later s e ds (later is),
+      in_front (peer t) e ds (none (inl (treats_breaks d treats)) ∙ sym (subst (λ r. same_side r (peer t) ≡ false) (sym side) (apart t))) one rest,
+      λ is. settled_later (peer t) e ds (later is),
     )
-    by next (follow.left dead) = (calm_front s (duties.Ask (ask_duties.Leave t)) ds refl refl refl rest, later)
-    by next follow.noted = (calm_front s (duties.Ask (ask_duties.Dead t)) ds refl refl refl rest, later)
-    by next (follow.broken may reason) = ((fresh s t).broken reason, nowhere may)
-    by next (follow.is_reset may reason) = ((fresh s t).is_reset reason, nowhere may)
-    by next (follow.dead may dead) = ((fresh s t).dead, nowhere may)
-    by next (follow.stopped may) = ((fresh s t).stopped, nowhere may)
-    by next (follow.over both) = (refl, λ is.
-        absurd (true≢false (sym (later is) ∙ none_behind s d ds kept (subst (λ b. ((may_break d && not (same_side t s)) || b) ≡ true) (sym both) (or_true (may_break d && not (same_side t s)))))))
+    by next (follow.left dead) = (calm_front (peer t) (duties.Ask (ask_duties.Leave t)) ds refl refl refl rest, later)
+    by next follow.noted = (calm_front (peer t) (duties.Ask (ask_duties.Dead t)) ds refl refl refl rest, later)
+    by next (follow.broken may reason) = ((fresh (peer t) t).broken reason, nowhere (breaks t reason) may)
+    by next (follow.is_reset may reason) = ((fresh (peer t) t).is_reset reason, nowhere (resets t reason) may)
+    by next (follow.dead may dead) = ((fresh (peer t) t).dead, nowhere (leaves t) may)
+    by next (follow.stopped may) = ((fresh (peer t) t).stopped, nowhere (stops t) may)
+    by next (follow.over both) = (refl, λ is. absurd (true≢false (sym (later is) ∙ none (inr both))))
 
 -- ---- a path
 
@@ -336,36 +335,36 @@ module _ {C : Type 0} (P : PathEnd → Type 0) (rule : IsSettled P) where
 
   -- ---- duties that are passed
 
-  pass_other : (d : Duty) (ds : List Duty) (p : PathState C) → let s = peer (side_of d) in (writes d).other ≡ nothing → settles s d ≡ false → Ready s (d ∷ ds) p → Ready s ds (passed d p)
-  pass_other d ds p none idle h =
-      let s = peer (side_of d) in
-      record {
-        kept = rest_kept s d ds h.kept;
-        holds = ⊎_elim
-            (λ settled. inl (subst (λ b. (b || settles_in s ds) ≡ true) idle settled))
-            (λ held. inr (other_holds (side_of d) (writes d) p (passed d p) none (passes_no_more d p) held))
-            h.holds;
-      }
+  pass_other : (t : Side) (d : Duty) (ds : List Duty) (w : Writes) (p q : PathState C) → OnlyAt t w p q → w.other ≡ nothing → settles (peer t) d ≡ false → Ready (peer t) (d ∷ ds) p → Ready (peer t) ds q
+  pass_other t d ds w p q only none idle h = record {
+    kept = rest_kept (peer t) d ds h.kept;
+    holds = ⊎_elim
+        (λ settled. inl (subst (λ b. (b || settles_in (peer t) ds) ≡ true) idle settled))
+        (λ held. inr (other_holds t w p q none only held))
+        h.holds;
+  }
 
-  pass_on : (s : Side) (d : Duty) (ds : List Duty) (p : PathState C) → (writes d).other ≡ nothing → is_calm d ≡ false → Ready s (d ∷ ds) p → Ready s ds (passed d p)
-  pass_on s d ds p none calm = ⊎_elim
-      (λ own. subst (λ t. Ready t (d ∷ ds) p → Ready t ds (passed d p)) own
-      (λ h. record { kept = rest_kept (side_of d) d ds h.kept; holds = inl (behind (side_of d) d ds h.kept calm (itself (side_of d))) }))
-      (λ other. subst (λ t. Ready t (d ∷ ds) p → Ready t ds (passed d p)) other (pass_other d ds p none (loose (peer (side_of d)) d calm)))
-      (sides s (side_of d))
+  pass_on : (s t : Side) (d : Duty) (ds : List Duty) (w : Writes) (p q : PathState C) → OnlyAt t w p q → w.other ≡ nothing → is_calm d ≡ false → same_side (side_of d) t ≡ true
+      → Ready s (d ∷ ds) p → Ready s ds q
+  pass_on s t d ds w p q only none calm own = ⊎_elim
+      (λ is. subst (λ x. Ready x (d ∷ ds) p → Ready x ds q) is (λ h. record { kept = rest_kept t d ds h.kept; holds = inl (behind t d ds h.kept calm own) }))
+      (λ is. subst (λ x. Ready x (d ∷ ds) p → Ready x ds q) is (pass_other t d ds w p q only none (loose (peer t) d calm)))
+      (sides s t)
 
-  pass_timer : (s t : Side) (ds : List Duty) (p : PathState C) → let d = duties.Silent (silent_duties.Timer t) in Ready s (d ∷ ds) p → Ready s ds (passed d p)
+  pass_timer : (s t : Side) (ds : List Duty) (p : PathState C) → Ready s (duties.Silent (silent_duties.Timer t) ∷ ds) p → Ready s ds (passed (duties.Silent (silent_duties.Timer t)) p)
   pass_timer s t ds p = ⊎_elim
-      (λ own. subst (λ r. Ready r (d ∷ ds) p → Ready r ds (passed d p)) own
-      (λ h. record {
+      (λ is. subst Kept is (λ h. record {
         kept = rest_kept t d ds h.kept;
         holds = inr (subst P (sym (own_end t (after_timer p.clock (end_at t p)) p.a p.b)) (rule.timer p.clock (end_at t p)));
       }))
-      (λ other. subst (λ r. Ready r (d ∷ ds) p → Ready r ds (passed d p)) other (pass_other d ds p refl (apart t)))
+      (λ is. subst Kept is (pass_other t d ds (writes d) p (passed d p) (passes_no_more d p) refl (apart t)))
       (sides s t)
     where
       d : Duty
       d = duties.Silent (silent_duties.Timer t)
+
+      Kept : Side → Type 0
+      Kept x = Ready x (d ∷ ds) p → Ready x ds (passed d p)
 
   pass_ready : (s : Side) (d : Duty) (ds : List Duty) (p : PathState C) → stands d p ≡ false → Ready s (d ∷ ds) p → Ready s ds (passed d p)
   pass_ready s (duties.Silent (silent_duties.Timer t)) ds p passes h = pass_timer s t ds p h
@@ -377,7 +376,7 @@ module _ {C : Type 0} (P : PathEnd → Type 0) (rule : IsSettled P) where
   pass_ready s (duties.Send (send_duties.Reset t)) ds p passes h = absurd (true≢false passes)
   pass_ready s (duties.Send (send_duties.ResetAnswer t)) ds p passes h = absurd (true≢false passes)
   pass_ready s duties.End ds p passes h = absurd (true≢false passes)
-  pass_ready s d ds p passes h = pass_on s d ds p refl refl h
+  pass_ready s d ds p passes h = pass_on s (side_of d) d ds (writes d) p (passed d p) (passes_no_more d p) refl refl (itself (side_of d)) h
 
   stands_loud : (d : Duty) (ds : List Duty) (p : PathState C) → stands d p ≡ true → is_loud (d ∷ ds) ≡ true
   stands_loud (duties.Silent d) ds p is = absurd (true≢false (sym is))
@@ -393,61 +392,53 @@ module _ {C : Type 0} (P : PathEnd → Type 0) (rule : IsSettled P) where
 
   -- ---- duties that are answered
 
-  module _ (k : Codec C) (d : Duty) (ds : List Duty) (r : Reply) (p : PathState C) where
-    -- the path with them, and afterwards
-    abbrev before : PathState C
-    before = with_agenda (d ∷ ds) p
-
-    abbrev after : PathState C
-    after = answered k d r before
-
+  module _ (t : Side) (d : Duty) (ds : List Duty) (p q : PathState C) where
     abbrev Kept : Side → Type 0
-    Kept s = Ready s (d ∷ ds) before → Ready s after.agenda after
+    Kept s = Ready s (d ∷ ds) p → Ready s q.agenda q
 
-    at_other : (writes d).other ≡ nothing → settles (peer (side_of d)) d ≡ false → Follows (side_of d) (is_gone (end_at (side_of d) after)) d ds after.agenda → Kept (peer (side_of d))
-    at_other none idle follows h =
-        let next = other_follows (is_gone (end_at (side_of d) after)) d ds after.agenda follows idle h.kept in
-        record {
-          kept = next.0;
-          holds = ⊎_elim (λ settled. inl (next.1 settled)) (λ held. inr (other_holds (side_of d) (writes d) before after none (writes_no_more k d r before) held)) h.holds;
-        }
+    at_other : (w : Writes) → OnlyAt t w p q → w.other ≡ nothing → same_side (side_of d) (peer t) ≡ false → settles (peer t) d ≡ false
+        → Follows t (is_gone (end_at t q)) d ds q.agenda → Kept (peer t)
+    at_other w only none own idle follows h =
+        let next = other_follows t (is_gone (end_at t q)) d ds q.agenda follows own idle h.kept in
+        record { kept = next.0; holds = ⊎_elim (λ settled. inl (next.1 settled)) (λ held. inr (other_holds t w p q none only held)) h.holds }
 
-    dead_then : is_gone (end_at (side_of d) after) ≡ true → P (end_at (side_of d) after)
-    dead_then gone = rule.gone (end_at (side_of d) after) gone
+    at_own : is_calm d ≡ false → same_side (side_of d) t ≡ true → Follows t (is_gone (end_at t q)) d ds q.agenda → Kept t
+    at_own calm own follows h =
+        let next = own_follows t (is_gone (end_at t q)) d ds q.agenda follows calm own h.kept in
+        record { kept = next.0; holds = ⊎_elim (λ settled. inl settled) (λ gone. inr (rule.gone (end_at t q) gone)) next.1 }
 
-    at_own : is_calm d ≡ false → Follows (side_of d) (is_gone (end_at (side_of d) after)) d ds after.agenda → Kept (side_of d)
-    at_own calm follows h =
-        let next = own_follows (side_of d) (is_gone (end_at (side_of d) after)) d ds after.agenda follows calm (itself (side_of d)) h.kept in
-        record { kept = next.0; holds = ⊎_elim (λ settled. inl settled) (λ gone. inr (dead_then gone)) next.1 }
+    at_both : (s : Side) → Kept t → Kept (peer t) → Kept s
+    at_both s own other = ⊎_elim (λ is. subst Kept is own) (λ is. subst Kept is other) (sides s t)
 
-    at_both : (s : Side) → Kept (side_of d) → Kept (peer (side_of d)) → Kept s
-    at_both s own other = ⊎_elim (λ is. subst Kept is own) (λ is. subst Kept is other) (sides s (side_of d))
+    answer_on : (s : Side) (w : Writes) → OnlyAt t w p q → w.other ≡ nothing → same_side (side_of d) t ≡ true → same_side (side_of d) (peer t) ≡ false → is_calm d ≡ false
+        → Follows t (is_gone (end_at t q)) d ds q.agenda → Kept s
+    answer_on s w only none own other calm follows = at_both s (at_own calm own follows) (at_other w only none other (loose (peer t) d calm) follows)
 
-    answer_on : (s : Side) → (writes d).other ≡ nothing → is_calm d ≡ false → Follows (side_of d) (is_gone (end_at (side_of d) after)) d ds after.agenda → Kept s
-    answer_on s none calm follows = at_both s (at_own calm follows) (at_other none (loose (peer (side_of d)) d calm) follows)
+  -- where its own side is treated by itself
+  by_itself : (k : Codec C) (s t : Side) (d : Duty) (ds : List Duty) (r : Reply) (p : PathState C) → let x = with_agenda (d ∷ ds) p in let q = answered k d r x in
+      OnlyAt t (writes d) x q → (writes d).other ≡ nothing → same_side (side_of d) (peer t) ≡ false → settles (peer t) d ≡ false
+      → Follows t (is_gone (end_at t q)) d ds q.agenda → Kept t d ds x q t → Kept t d ds x q s
+  by_itself k s t d ds r p only none other idle follows own =
+      let x : PathState C = with_agenda (d ∷ ds) p in let q : PathState C = answered k d r x in
+      at_both t d ds x q s own (at_other t d ds x q (writes d) only none other idle follows)
 
-  event_ready : (k : Codec C) (s : Side) (ds : List Duty) (r : Reply) (p : PathState C) → Kept k (duties.Step step_duties.Events) ds r p s
-  event_ready k s ds r p h =
-      let t = event_side (next_event p) in
-      let next = answered_follows k (duties.Step step_duties.Events) ds r p in
-      record {
-        kept = happened_kept (end_at t p) (end_at t q) s t q.agenda next.0;
-        holds = ⊎_elim
-            (λ own. subst (λ x. P (end_at x p) → (settles_in x q.agenda ≡ true) ⊎ P (end_at x q)) own (happened_holds (end_at t p) (end_at t q) P rule t q.agenda next.0) holding)
-            (λ other. inr (subst (λ x. P (end_at x p) → P (end_at x q)) other
-            (λ held. ⊎_elim (λ gone. rule.gone (end_at (peer t) q) gone) (λ still. rule.still (end_at (peer t) p) (end_at (peer t) q) still held) next.1) holding))
-            (sides s t);
-      }
-    where
-      q : PathState C
-      q = answered k (duties.Step step_duties.Events) r (with_agenda (duties.Step step_duties.Events ∷ ds) p)
+  event_holds : (s t : Side) (p q : PathState C) → Happens t p q → P (end_at s p) → Ready s q.agenda q
+  event_holds s t p q next holding = record {
+    kept = happened_kept (end_at t p) (end_at t q) s t q.agenda next.0;
+    holds = ⊎_elim
+        (λ own. subst (λ x. P (end_at x p) → (settles_in x q.agenda ≡ true) ⊎ P (end_at x q)) own (happened_holds (end_at t p) (end_at t q) P rule t q.agenda next.0) holding)
+        (λ other. inr (subst (λ x. P (end_at x p) → P (end_at x q)) other
+        (λ held. ⊎_elim (λ gone. rule.gone (end_at (peer t) q) gone) (λ still. rule.still (end_at (peer t) p) (end_at (peer t) q) still held) next.1) holding))
+        (sides s t);
+  }
 
-      holding : P (end_at s p)
-      holding = ⊎_elim (λ settled. absurd (true≢false (sym settled ∙ none_behind s (duties.Step step_duties.Events) ds h.kept refl))) (λ held. held) h.holds
-
-  answer_ready : (k : Codec C) (s : Side) (d : Duty) (ds : List Duty) (r : Reply) (p : PathState C) → is_loud (d ∷ ds) ≡ true → Kept k d ds r p s
+  answer_ready : (k : Codec C) (s : Side) (d : Duty) (ds : List Duty) (r : Reply) (p : PathState C) → is_loud (d ∷ ds) ≡ true → Ready s (d ∷ ds) (with_agenda (d ∷ ds) p)
+      → let q = answered k d r (with_agenda (d ∷ ds) p) in Ready s q.agenda q
   answer_ready k s (duties.Silent d) ds r p loud h = absurd (true≢false (sym loud))
-  answer_ready k s (duties.Step step_duties.Events) ds r p loud h = event_ready k s ds r p h
+  answer_ready k s (duties.Step step_duties.Events) ds r p loud h =
+      let d : Duty = duties.Step step_duties.Events in
+      event_holds s (event_side (next_event p)) (with_agenda (d ∷ ds) p) (answered k d r (with_agenda (d ∷ ds) p)) (answered_follows k d ds r p)
+      (⊎_elim (λ settled. absurd (true≢false (sym settled ∙ none_behind s (duties.Step step_duties.Events) ds h.kept refl))) (λ held. held) h.holds)
   answer_ready k s duties.End ds r p loud h = record {
     kept = refl;
     holds = ⊎_elim (λ settled. absurd (true≢false (sym settled ∙ none_behind s duties.End ds h.kept refl))) (λ held. inr held) h.holds;
@@ -460,24 +451,26 @@ module _ {C : Type 0} (P : PathEnd → Type 0) (rule : IsSettled P) where
     holds = ⊎_elim (λ settled. inl settled) (λ held. inr (subst P (sym (same_end s t p.a p.b)) held)) h.holds;
   }
   answer_ready k s (duties.Ask (ask_duties.BreakAck t reason)) ds r p loud h =
-      at_both k (duties.Ask (ask_duties.BreakAck t reason)) ds r p s
+      let d : Duty = duties.Ask (ask_duties.BreakAck t reason) in
+      by_itself k s t d ds r p (writes_no_more k d r (with_agenda (d ∷ ds) p)) refl (apart t) (apart t) (answered_follows k d ds r p)
       (λ h. record { kept = (fresh t t).is_reset reason; holds = inl (settled_first t rest_of_turn) })
-      (at_other k (duties.Ask (ask_duties.BreakAck t reason)) ds r p refl (apart t) (answered_follows k (duties.Ask (ask_duties.BreakAck t reason)) ds r p))
       h
   answer_ready k s (duties.Send (send_duties.BreakReset t reason)) ds r p loud h =
-      at_both k (duties.Send (send_duties.BreakReset t reason)) ds r p s
-      (λ h. record { kept = (fresh t t).dead; holds = inr (dead_then k (duties.Send (send_duties.BreakReset t reason)) ds r p (gone_end t (died (end_at t p)) p.a p.b refl)) })
-      (at_other k (duties.Send (send_duties.BreakReset t reason)) ds r p refl (apart t) (answered_follows k (duties.Send (send_duties.BreakReset t reason)) ds r p))
+      let d : Duty = duties.Send (send_duties.BreakReset t reason) in
+      by_itself k s t d ds r p (writes_no_more k d r (with_agenda (d ∷ ds) p)) refl (apart t) (apart t) (answered_follows k d ds r p)
+      (λ h. record { kept = (fresh t t).dead; holds = inr (rule.gone (end_at t (answered k d r (with_agenda (d ∷ ds) p))) (gone_end t (died (end_at t p)) p.a p.b refl)) })
       h
   answer_ready k s (duties.Send (send_duties.Reset t)) ds r p loud h =
-      at_both k (duties.Send (send_duties.Reset t)) ds r p s
+      let d : Duty = duties.Send (send_duties.Reset t) in
+      by_itself k s t d ds r p (writes_no_more k d r (with_agenda (d ∷ ds) p)) refl (apart t) (apart t) (answered_follows k d ds r p)
       (λ h. record {
-        kept = calm_front t (duties.Ask (ask_duties.Leave t)) ds refl refl refl (rest_kept t (duties.Send (send_duties.Reset t)) ds h.kept);
-        holds = inr (dead_then k (duties.Send (send_duties.Reset t)) ds r p (gone_end t (died (end_at t p)) p.a p.b refl));
+        kept = calm_front t (duties.Ask (ask_duties.Leave t)) ds refl refl refl (rest_kept t d ds h.kept);
+        holds = inr (rule.gone (end_at t (answered k d r (with_agenda (d ∷ ds) p))) (gone_end t (died (end_at t p)) p.a p.b refl));
       })
-      (at_other k (duties.Send (send_duties.Reset t)) ds r p refl (apart t) (answered_follows k (duties.Send (send_duties.Reset t)) ds r p))
       h
-  answer_ready k s d ds r p loud h = answer_on k d ds r p s refl refl (answered_follows k d ds r p) h
+  answer_ready k s d ds r p loud h =
+      answer_on (side_of d) d ds (with_agenda (d ∷ ds) p) (answered k d r (with_agenda (d ∷ ds) p)) s (writes d) (writes_no_more k d r (with_agenda (d ∷ ds) p)) refl
+      (itself (side_of d)) (apart (side_of d)) refl (answered_follows k d ds r p) h
 
   takes_ready : (k : Codec C) (s : Side) (r : Reply) (p : PathState C) → Stands s p → Stands s (takes k r p)
   takes_ready k s r p h = by p.agenda h

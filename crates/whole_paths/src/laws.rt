@@ -36,8 +36,8 @@ pub fn timers_run_out()
 ///
 /// Where the turn of a path is over, at each end that opens, is open or closes: if its SYN, a piece or its FIN isn't acknowledged, or a
 /// byte that was granted to the path or a DATA_FIN isn't acknowledged by a Data ACK, or the peer's window is shut, or the third MP_JOIN or
-/// MP_FASTCLOSE isn't answered, then its timer runs (RFC 8684, sections 3.2, 3.3 and 3.5). So no end waits for ever in silence:
-/// by `timers_run_out` the timer runs out within a minute.
+/// MP_FASTCLOSE isn't answered, then its timer runs (RFC 8684, sections 3.2, 3.3 and 3.5). By `timers_run_out` it does so for a minute at
+/// most, and no end waits for ever in silence.
 pub fn who_waits_has_a_timer()
     ensures octets { Always octets (λ start w. WhoWaitsHasATimer w) }
     ensures values { Always values (λ start w. WhoWaitsHasATimer w) }
@@ -49,7 +49,7 @@ pub fn each_segment_uses_a_line_or_comes()
 {}
 
 /// A law: by whatever turn, a copy that is under way on a path is under way still, or it was the path's next event and so arrives, or that
-/// event was the line of the script by which the path dies. So the script alone loses segments, as they are sent.
+/// event was the line of the script by which the path dies. Nothing but the script loses segments, as they are sent.
 pub fn a_copy_leaves_by_arriving()
     ensures octets { CopiesLeaveByArriving octets }
     ensures values { CopiesLeaveByArriving values }
