@@ -15,7 +15,6 @@ use Rattle.stream_lanes.specs.Words.{Has}
 use Rattle.path_segments.specs.Heard.{HeardSegment}
 use Rattle.subflow_send.specs.Records.{Record}
 use Rattle.actor_desk.specs.Words.{tail_of}
-use Rattle.actor_desk.specs.declared.ask.Ask.{Ask}
 use Rattle.actor_desk.specs.declared.ask.Reply.{Reply}
 use Rattle.path_agenda.specs.Agenda.{leaves, emission, resets}
 use Rattle.path_agenda.specs.declared.duty.Duty.{Duty}
