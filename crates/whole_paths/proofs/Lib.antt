@@ -3,8 +3,10 @@ pub mod Books
 pub mod Copies
 pub mod Duties
 pub mod GoesOn
+pub mod Lanes
 pub mod Links
 pub mod Reasons
+pub mod Rounds
 pub mod Settling
 pub mod Subflows
 pub mod Timing

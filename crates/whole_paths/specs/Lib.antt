@@ -2,6 +2,9 @@ pub mod AgendaSteps
 pub mod AsFar
 pub mod Copies
 pub mod EndSteps
+pub mod Finish
 pub mod Harms
+pub mod Lanes
 pub mod Reasons
+pub mod Rounds
 pub mod Timers

@@ -6,6 +6,7 @@ ghost use Rattle.world_laws.specs.Laws.{Always};
 ghost use Rattle.whole_paths.specs.AsFar.{NothingGoesBack};
 ghost use Rattle.whole_paths.specs.Copies.{CopiesLeaveByArriving};
 ghost use Rattle.whole_paths.specs.Harms.{EachUsesALineOrComes};
+ghost use Rattle.whole_paths.specs.Lanes.Laws.{LossyLanesEnd, LossyLanesFinish};
 ghost use Rattle.whole_paths.specs.Reasons.{WhoWaitsHasATimer};
 ghost use Rattle.whole_paths.specs.Timers.{TimersRunOut};
 
@@ -52,4 +53,11 @@ pub fn each_segment_uses_a_line_or_comes()
 pub fn a_copy_leaves_by_arriving()
     ensures octets { CopiesLeaveByArriving octets }
     ensures values { CopiesLeaveByArriving values }
+{}
+
+/// A law: on a lane that loses segments all is acknowledged, or the end gave up, after five rounds or so for each segment and two
+/// greatest timeouts for each line (`end`); with four lines at most no end gives up (`finish`).
+pub fn lossy_lanes_finish()
+    ensures end { LossyLanesEnd }
+    ensures finish { LossyLanesFinish }
 {}
