@@ -3,6 +3,7 @@ pub mod Books
 pub mod Copies
 pub mod Duties
 pub mod GoesOn
+pub mod Keeping
 pub mod Lanes
 pub mod Links
 pub mod Reasons

@@ -9,7 +9,7 @@ use Rattle.actor_desk.specs.declared.ask.Ask.{Ask}
 use Rattle.path_core.specs.Codec.{Codec}
 use Rattle.world_laws.specs.Actors.{ActorCrew, member_asks}
 use Rattle.actor_desk.specs.Books.{StampedBooks}
-use Rattle.world_laws.specs.Worlds.{WorldState, Turn, crew_after, asked, stepped, all_over, greatest, begins, after_turn}
+use Rattle.world_laws.specs.Worlds.{WorldState, Turn, crew_after, asked, stepped, all_over, greatest, begins, after_turn, world_run}
 
 module _ {C : Type 0} (k : Codec C) (R : ActorCrew C → ActorCrew C → Type 0)
     (stays : (c : ActorCrew C) → R c c)
@@ -49,3 +49,11 @@ module _ {C : Type 0} (k : Codec C) (R : ActorCrew C → ActorCrew C → Type 0)
   pub turn_each : (turn : Turn) (w : WorldState C) → Each w (after_turn k turn w)
   turn_each (Turn.Step actor) w = stepped_each actor w (slice_get w.crew actor) refl
   turn_each Turn.Round w = round_each w (all_over w.crew)
+
+  -- and by many turns, where it goes on from one to the next
+  pub turns_each : ((c d e : ActorCrew C) → R c d → R d e → R c e) → (turns : List Turn) (w : WorldState C) → Each w (world_run k turns w)
+  turns_each chains [] w = λ i c at. (c, at, stays c)
+  turns_each chains (turn ∷ turns) w = λ i c at.
+      let first = turn_each turn w i c at in
+      let second = turns_each chains turns (after_turn k turn w) i first.0 first.1 in
+      (second.0, second.1, chains c first.0 second.0 first.2 second.2)

@@ -4,6 +4,7 @@ pub mod Copies
 pub mod EndSteps
 pub mod Finish
 pub mod Harms
+pub mod Kept
 pub mod Lanes
 pub mod Reasons
 pub mod Rounds

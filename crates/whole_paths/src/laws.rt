@@ -6,6 +6,7 @@ ghost use Rattle.world_laws.specs.Laws.{Always};
 ghost use Rattle.whole_paths.specs.AsFar.{NothingGoesBack};
 ghost use Rattle.whole_paths.specs.Copies.{CopiesLeaveByArriving};
 ghost use Rattle.whole_paths.specs.Harms.{EachUsesALineOrComes};
+ghost use Rattle.whole_paths.specs.Kept.{WhatWaitsIsKept};
 ghost use Rattle.whole_paths.specs.Lanes.Laws.{LossyLanesEnd, LossyLanesFinish};
 ghost use Rattle.whole_paths.specs.Reasons.{WhoWaitsHasATimer};
 ghost use Rattle.whole_paths.specs.Timers.{TimersRunOut};
@@ -41,6 +42,17 @@ pub fn timers_run_out()
 pub fn who_waits_has_a_timer()
     ensures octets { Always octets (λ start w. WhoWaitsHasATimer w) }
     ensures values { Always values (λ start w. WhoWaitsHasATimer w) }
+{}
+
+/// A law: by whatever turns, an end keeps what isn't acknowledged yet, so that it can be sent again.
+///
+/// Each record of its subflow (the SYN, a piece with its mapping, the FIN) stays, at its position and in its order, until SND.UNA reaches
+/// its end (RFC 9293, section 3.4), and each piece that was granted to it until the Data ACKs that it heard acknowledge all of the piece
+/// (RFC 8684, section 3.3.2). No expiry, no bytes that are given back and no segment that comes take any of them away. At a dead end
+/// SND.UNA is SND.NXT.
+pub fn what_waits_is_kept()
+    ensures octets { WhatWaitsIsKept octets }
+    ensures values { WhatWaitsIsKept values }
 {}
 
 /// A law: a segment that is sent uses a line by which one is lost or late, or a copy of it comes a delay later.
