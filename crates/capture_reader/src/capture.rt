@@ -54,7 +54,8 @@ impl<T: Drop> From<AllocFailed<T>> for CaptureFault {
 /// The first record or block that has no form, by the octet where it begins; or want of memory.
 #[tactic(auto, unfolding(crate::specs::Captures::capture_meaning))]
 pub fn read_capture(alloc: Global, octets: &[u8]) -> Result<Vec<CapturedPacket<'_>>, CaptureFault>
-    ensures exact { Gives (λ packets. map as_captured packets.items) result (capture_meaning octets.now) }
+    ensures exact { Gives (λ packets. map as_captured packets.items) result
+        (capture_meaning octets.now) }
 {
     match record_order(octets) {
         Some(order) => read_records(alloc, order, octets),

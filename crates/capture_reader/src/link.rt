@@ -68,7 +68,8 @@ fn behind_tags(first: u16, octets: &[u8]) -> Option<&[u8]>
 
 // The type that a tag tells of what follows it, and the octets behind it, if it is whole. The octets begin behind its own type.
 fn split_tag(octets: &[u8]) -> Option<(u16, &[u8])>
-    ensures follows { (kind : ℕ) → is_tag kind ≡ true → behind_tags kind octets.now ≡ behind_tag result }
+    ensures follows { (kind : ℕ) → is_tag kind ≡ true → behind_tags kind octets.now ≡
+        behind_tag result }
     ensures shorter { IfSome result (λ next. length next.1.now < length octets.now) }
 {
     if octets.len() < 4 {

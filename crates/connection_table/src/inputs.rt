@@ -119,7 +119,8 @@ pub(crate) fn load_input<O: Outside>(
     listed: &Listed<'_>,
 ) -> Result<Input, Many>
     ensures input { IfOk result (IsInput (O.told outside.old).content (as_names listed.now)) }
-    ensures fault { IfErr result (IsInputFault entry (O.told outside.old).content (as_names listed.now)
+    ensures fault { IfErr result
+        (IsInputFault entry (O.told outside.old).content (as_names listed.now)
         (O.told outside.old).load_faults (O.told outside.new).load_faults) }
     ensures only { OnlyLoads (O.told outside.old) (O.told outside.new) }
     ensures same_contents { (other : List ℕ) →

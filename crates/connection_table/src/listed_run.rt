@@ -36,7 +36,8 @@ fn put_line<O: Outside>(
         ((O.told outside.new).holds Port.Log) (line_at connection table.now)) }
     ensures fault { IfErr result
         (IsPutFault ((O.told outside.old).port_faults Port.Log) ((O.told outside.new).port_faults Port.Log)) }
-    ensures counted { (O.told outside.old).port_faults Port.Log ≤ (O.told outside.new).port_faults Port.Log }
+    ensures counted { (O.told outside.old).port_faults Port.Log ≤
+        (O.told outside.new).port_faults Port.Log }
     ensures loads { (O.told outside.new).load_faults ≡ (O.told outside.old).load_faults }
     ensures other_ports { (other : Port) → other ≢ Port.Log →
         (O.told outside.new).holds other ≡ (O.told outside.old).holds other }
@@ -110,7 +111,8 @@ fn run<O: Outside>(alloc: Global, outside: &mut O, words: &ListWords<'_>) -> Res
     requires { 1 ≤ words.now.rounds }
     ensures done { OnOk result (IsEnd (as_words words.now)
         (O.told outside.old) (O.told outside.new) Many.Done) }
-    ensures ends { IfErr result (IsEnd (as_words words.now) (O.told outside.old) (O.told outside.new)) }
+    ensures ends { IfErr result
+        (IsEnd (as_words words.now) (O.told outside.old) (O.told outside.new)) }
     ensures other_ports { (other : Port) → other ≢ Port.Log →
         (O.told outside.new).holds other ≡ (O.told outside.old).holds other }
     ensures other_counts { (other : Port) → other ≢ Port.Log →
@@ -139,7 +141,8 @@ pub fn run_many<O: Outside>(alloc: Global, words: &[String], outside: &mut O) ->
     ensures ends { IfSome (words_in (map string_bytes words.now)) (λ named. IsEnd named
         (O.told outside.old) (O.told outside.new) result) }
     // At `Usage` no call was made, and nothing changed.
-    ensures unasked { result ≡ Many.Usage → (O.told outside.new).calls ≡ (O.told outside.old).calls }
+    ensures unasked { result ≡ Many.Usage → (O.told outside.new).calls ≡
+        (O.told outside.old).calls }
     ensures unloaded { result ≡ Many.Usage →
         (O.told outside.new).load_faults ≡ (O.told outside.old).load_faults }
     ensures refused { result ≡ Many.Usage → IsUntouched (O.told outside.old) (O.told outside.new) }

@@ -49,7 +49,8 @@ pub(crate) fn admit_all<O: Outside>(
     requires few { length listed.now ≤ 64 }
     ensures ok { OnOk result
         (AreAdmitted (O.told outside.old).content (map as_names listed.now) table.new) }
-    ensures fault { IfErr result (IsListedFault (O.told outside.old).content (map as_names listed.now)
+    ensures fault { IfErr result
+        (IsListedFault (O.told outside.old).content (map as_names listed.now)
         (O.told outside.old).load_faults (O.told outside.new).load_faults) }
     ensures only { OnlyLoads (O.told outside.old) (O.told outside.new) }
     ensures same_contents { (other : List ℕ) →

@@ -3,3 +3,4 @@ pub mod RunsInOrder
 pub mod Shown
 pub mod LawsProved
 pub mod Answered
+pub mod Placed

@@ -1,13 +1,13 @@
 -- What the runs that are kept tell of the places that contracts see.
-use Rattle.std.proofs.Common.{◌≡◌, ℕ, Option, Some, None, List, sym, ap, ◌∙◌, subst}
-use Rattle.std.specs.Prelude.{IfSome}
+use Rattle.std.proofs.Common.{◌≡◌, ℕ, Bool, true, false, nat_lt, if◌then◌else◌, Option, Some, None, List, refl, sym, ap, ◌∙◌, subst}
+use Rattle.std.specs.Prelude.{IfSome, find}
 use Rattle.std.specs.Option.{option_or}
 use Rattle.dss_mapping.specs.declared.kept.KeptMapping.{KeptMapping}
 use Rattle.dss_mapping.specs.declared.run.Run.{Run}
 use Rattle.dss_mapping.specs.declared.stretch.Stretch.{Stretch}
-use Rattle.dss_mapping.specs.Runs.{place_in}
-use Rattle.dss_mapping.specs.Mappings.{Mappings, place_at, tail_at, Agree}
-use Rattle.dss_mapping.specs.Kept.{places_of, place_among, place_by, AgreeAmong, IsStretch}
+use Rattle.dss_mapping.specs.Runs.{covers, place_in}
+use Rattle.dss_mapping.specs.Mappings.{Mappings, mapping_at, place_at, run_of, tail_at, Agree}
+use Rattle.dss_mapping.specs.Kept.{ArePlaced, places_of, place_among, place_by, AgreeAmong, IsStretch}
 use Rattle.dss_mapping.proofs.PlacesOf.{get-places_of}
 
 module _ (runs : List Run) (tail : Option Run) (live : List KeptMapping) (forgotten : ℕ) (held : List KeptMapping) where
@@ -35,6 +35,22 @@ module _ (runs : List Run) (tail : Option Run) (live : List KeptMapping) (forgot
         first_holds (λ place. place ≡ place_in p told) (place_among p runs) (tail_at tail p)
         (subst (λ o. IfSome o (λ place. place ≡ place_in p told)) (at-shown p) here);
   }
+
+  first_none : (first second : Option ℕ) → option_or first second ≡ None → first ≡ None
+  first_none None second h = refl
+  first_none (Some q) second h = h
+
+  none-shown : (v : Mappings) (p : ℕ) → shown ≡ v → ArePlaced runs live → place_at v p ≡ None → find (λ kept. covers p (run_of kept)) v.live ≡ None
+  none-shown v p e placed none =
+      subst (λ v. find (λ kept. covers p (run_of kept)) v.live ≡ None) e
+      (placed p (first_none (place_among p runs) (tail_at tail p) (sym (at-shown p) ∙ ap (λ v. place_at v p) e ∙ none)))
+
+  pub not-told : (v : Mappings) (p : ℕ) → shown ≡ v → ArePlaced runs live → place_at v p ≡ None → None ≡ mapping_at v p
+  not-told v p e placed none = by (nat_lt p v.forgotten) (find (λ kept. covers p (run_of kept)) v.live) (none-shown v p e placed none)
+    where
+      by : (b : Bool) (found : Option KeptMapping) → found ≡ None → None ≡ (if b then None else found)
+      by true found is = refl
+      by false found is = sym is
 
   pub place-shown : (v : Mappings) (p : ℕ) → shown ≡ v → place_by runs tail p ≡ place_at v p
   place-shown v p e = sym (at-shown p) ∙ ap (λ v. place_at v p) e

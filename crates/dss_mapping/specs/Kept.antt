@@ -1,13 +1,14 @@
 -- What is kept of the places: runs in order, of which no two have a position in common.
-use Rattle.std.specs.Prelude.{ℕ, ◌≡◌, ◌+◌, ◌-◌, ◌≤◌, ◌<◌, min, max, nat_le, not, false, ◌&&◌, ◌==◌, if◌then◌else◌, Bool, Option, Some, None, IfSome, List, [], ◌∷◌}
+use Rattle.std.specs.Prelude.{ℕ, ◌≡◌, ◌+◌, ◌-◌, ◌≤◌, ◌<◌, min, max, nat_le, not, false, ◌&&◌, ◌==◌, if◌then◌else◌, Bool, Option, Some, None, IfSome, List, [], ◌∷◌, find}
 use Rattle.std.specs.Option.{option_or, option_map}
 use Rattle.std.specs.FinMap as map
 use Rattle.std.proofs.Common.{suc}
+use Rattle.dss_mapping.specs.declared.kept.KeptMapping.{KeptMapping}
 use Rattle.dss_mapping.specs.declared.run.Run.{Run}
 use Rattle.dss_mapping.specs.declared.stretch.Stretch.{Stretch}
 use Rattle.dss_mapping.specs.Runs.{covers, place_in, IsSound}
 use Rattle.dss_mapping.specs.Places.{Places, with_run}
-use Rattle.dss_mapping.specs.Mappings.{tail_at}
+use Rattle.dss_mapping.specs.Mappings.{run_of, tail_at}
 
 -- each run has a position, its places are numbers of 64 bits, and it begins at or after the end of the one before it, the
 -- first one at or after `from`
@@ -50,6 +51,10 @@ pub record IsKept (runs : List Run) (tail : Option Run) : Type 0 where
   pub ordered : AreOrdered 0 runs
   pub fewest : AreApart runs
   pub sound : IfSome tail IsSound
+
+-- none of these mappings has a position that has no place among the runs
+abbrev pub ArePlaced : List Run → List KeptMapping → Type 0
+ArePlaced runs live = (p : ℕ) → place_among p runs ≡ None → find (λ kept. covers p (run_of kept)) live ≡ None
 
 -- the positions of two such runs
 abbrev pub joined : Run → Run → Run

@@ -40,7 +40,7 @@ impl Model for Mappings {
 
     ghost use Rattle.std.specs.Prelude.{◌+◌, ◌-◌, ◌≤◌, min, All};
     ghost use Rattle.std.specs.Vec.{vec_len, vec_capacity};
-    ghost use Rattle.dss_mapping.specs.Kept.{places_of, IsKept};
+    ghost use Rattle.dss_mapping.specs.Kept.{places_of, ArePlaced, IsKept};
     ghost use Rattle.dss_mapping.specs.Learning.{IsWithin};
 
     ghost view = { λ m. record {
@@ -57,7 +57,8 @@ impl Model for Mappings {
     ghost invariant = { λ m. IsKept m.runs.items m.tail
         × (vec_len m.runs + vec_len m.held ≤ vec_capacity m.runs)
         × (vec_len m.live + vec_len m.held ≤ vec_capacity m.live)
-        × All IsWithin m.held.items };
+        × All IsWithin m.held.items
+        × ArePlaced m.runs.items m.live.items };
 }
 
 impl Mappings {
@@ -199,14 +200,18 @@ impl Mappings {
     }
 
     /// The mapping learned first of those that cover the position. `None` below the position up to which they were let go,
-    /// and where none covers it. Takes as long as there are mappings that were not let go.
+    /// and where none covers it. Takes a search by halves of the runs, and where the position has a place as long as there are
+    /// mappings before the one that covers it.
     pub fn mapping_at(&self, pos: Pos) -> Option<KeptMapping>
         ensures { result ≡ mapping_at self.now.mappings pos }
     {
         if pos < self.forgotten {
             return None;
         }
-        first_kept(self.live.as_slice(), pos)
+        match self.place_of(pos) {
+            Some(_) => first_kept(self.live.as_slice(), pos),
+            None => None,
+        }
     }
 
     /// Lets go of the mappings that lie below this position, and tells none below it from now on. The places of positions

@@ -196,10 +196,12 @@ fn put_rate(text: &mut String, rate: Option<Rate>) -> Result<(), AllocError>
     ensures { OnOk result (string_bytes text.new ≡ string_bytes text.old ++ rate_words rate) }
 {
     let Some(rate) = rate else {
-        return text.push_str(",,");
+        return text.push_str(",,,,");
     };
     put_field(text, Some(rate.window))?;
-    put_field(text, rate.rtt)
+    put_field(text, Some(rate.threshold))?;
+    put_field(text, rate.rtt)?;
+    put_field(text, Some(rate.timeout))
 }
 
 fn rate_of(side: Side, rates: Rates) -> Rate
@@ -316,8 +318,9 @@ fn put_paths(
 /// The rates of what a trace carries: for each of so many paths, and each direction of it, a line for each of so many rows of 100 ticks,
 /// the first of which begins at tick 0. It tells the row's first tick, the path, the direction; octets of payload that were handed over in
 /// the row, those of them that were sent for the first time, sent again, moved, and lost; how many of the direction's stream the other
-/// side has acknowledged by the row's end, the DATA_FIN among them; and the end's congestion window and smoothed round-trip time:
-/// those of path i in row n stand at the place n times `paths` plus i, and fields are empty where there is none. A head of names stands before the lines.
+/// side has acknowledged by the row's end, the DATA_FIN among them; and the end's congestion window, slow start threshold, smoothed
+/// round-trip time and retransmission timeout: those of path i in row n stand at the place n times `paths` plus i, and fields are empty
+/// where there is none. A head of names stands before the lines.
 pub fn rates(
     alloc: Global,
     measured: &[Rates],
@@ -330,7 +333,7 @@ pub fn rates(
     let mut text = String::new(alloc);
     writeln!(
         text,
-        "tick,path,direction,octets,new,again,moved,lost,acknowledged,window,rtt"
+        "tick,path,direction,octets,new,again,moved,lost,acknowledged,window,ssthresh,rtt,timeout"
     )?;
     put_paths(alloc, &mut text, measured, paths, rows, carried)?;
     Ok(text.into_bytes())

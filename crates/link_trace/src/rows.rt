@@ -15,8 +15,12 @@ use std::alloc::{AllocError, Global};
 pub struct Rate {
     /// cwnd, the congestion window, in octets (RFC 5681, section 3.1).
     pub window: u32,
+    /// ssthresh, the slow start threshold, in octets.
+    pub threshold: u32,
     /// SRTT, the smoothed round-trip time, in ticks; None before the first measurement (RFC 6298, section 2).
     pub rtt: Option<u32>,
+    /// RTO, the retransmission timeout, in ticks.
+    pub timeout: u32,
 }
 
 /// Those of both ends of a path.

@@ -105,10 +105,12 @@ pub(crate) fn load_from<O: Outside>(
         HasRisen (O.told inner.old).load_faults (O.told inner.new).load_faults }
     ensures same_contents { (other : List ℕ) →
         (O.told inner.new).content other ≡ (O.told inner.old).content other }
-    ensures same_ports { (port : Port) → (O.told inner.new).holds port ≡ (O.told inner.old).holds port }
+    ensures same_ports { (port : Port) → (O.told inner.new).holds port ≡
+        (O.told inner.old).holds port }
     ensures same_counts { (port : Port) →
         (O.told inner.new).port_faults port ≡ (O.told inner.old).port_faults port }
-    ensures calls { LoadComes name.now (is_ok result) (O.told inner.old).calls (O.told inner.new).calls }
+    ensures calls { LoadComes name.now (is_ok result) (O.told inner.old).calls
+        (O.told inner.new).calls }
 {
     let bytes = inner.load(alloc, name, limit)?;
     if name == lined.0 || name == lined.1 {
@@ -189,7 +191,8 @@ impl<O: Outside, N: Naming> LineOutside<O, N> {
     /// on it are those that the calls on this one came to.
     pub fn into_inner(self) -> O
         ensures inner { result ≡ self.inner }
-        ensures ports { PortsStand self.read_by_a self.read_by_b N.held (O.told result).holds N.faults
+        ensures ports { PortsStand self.read_by_a self.read_by_b N.held
+            (O.told result).holds N.faults
             (O.told result).port_faults }
         ensures calls { CallsStand self.calls self.read_by_a self.read_by_b N.calls
             (O.told result).calls }

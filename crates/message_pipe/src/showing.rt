@@ -28,7 +28,8 @@ fn put_line<O: Outside>(
     port: Port,
     message: &[u8],
 ) -> Result<(), PutFault>
-    ensures ok { OnOk result (HoldsAfter ((O.told outside.old).holds port) ((O.told outside.new).holds port)
+    ensures ok { OnOk result (HoldsAfter ((O.told outside.old).holds port)
+        ((O.told outside.new).holds port)
         (λ held. held ++ line_of message.now)) }
     ensures err { OnErr result
         (HoldsPrefix ((O.told outside.old).holds port) ((O.told outside.new).holds port) (line_of message.now)) }

@@ -56,7 +56,8 @@ pub fn make_rounds<O: Outside>(
     ensures ok { OnOk result ((made : CourseMade (course.rounds schedule most) run.old.opening
         run.old.world.state run.new.world.state (O.told outside.old) (O.told outside.new))
         × (run.new.rounds ≡ length (round_ends made.turns run.old.world.state))) }
-    ensures cut { IfErr result (CourseCut (course.rounds schedule most) run.old.opening run.old.world.state
+    ensures cut { IfErr result
+        (CourseCut (course.rounds schedule most) run.old.opening run.old.world.state
         (O.told outside.old) (O.told outside.new)) }
     ensures fault { IfErr result
         (IsPortsFault (O.told outside.old).port_faults (O.told outside.new).port_faults) }

@@ -37,7 +37,8 @@ fn show_over_frames<O: Outside, P: Progress>(
     requires named { (as_line asked.now.line).work ≡ replay asked.now.log.now }
     requires file_a { string_bytes files.0 ≡ asked.now.line.file_a.now }
     requires file_b { string_bytes files.1 ≡ asked.now.line.file_b.now }
-    ensures { IsViewAnswer (as_asked asked.now) (over_frames (as_line asked.now.line) (O.told outside))
+    ensures { IsViewAnswer (as_asked asked.now)
+        (over_frames (as_line asked.now.line) (O.told outside))
         (over_frames (as_line asked.now.line) (O.told result.1)) result.0 }
 {
     let mut framed = FramedOutside::new(outside, files.0, files.1);
@@ -53,7 +54,8 @@ fn show_messages<O: Outside, P: Progress>(
     asked: &Asked<'_>,
 ) -> (Result<Extent, Status>, O)
     requires { (as_line asked.now.line).work ≡ replay asked.now.log.now }
-    ensures { IsViewAnswer (as_asked asked.now) (over_frames (as_line asked.now.line) (O.told outside))
+    ensures { IsViewAnswer (as_asked asked.now)
+        (over_frames (as_line asked.now.line) (O.told outside))
         (over_frames (as_line asked.now.line) (O.told result.1)) result.0 }
 {
     match file_names(alloc, &asked.line) {
@@ -76,7 +78,8 @@ pub fn view_messages<O: Outside, P: Progress>(
     progress: &mut P,
 ) -> (Result<Extent, Status>, O)
     ensures usage { (result.0 ≡ Err Usage) ↔ (asked_in true (map string_bytes words.now) ≡ None) }
-    ensures answer { IfSome (asked_in true (map string_bytes words.now)) (λ asked. IsViewAnswer asked
+    ensures answer { IfSome (asked_in true (map string_bytes words.now))
+        (λ asked. IsViewAnswer asked
         (over_frames asked.line (O.told outside)) (over_frames asked.line (O.told result.1)) result.0) }
     ensures untouched { result.0 ≡ Err Usage → result.1 ≡ outside }
 {

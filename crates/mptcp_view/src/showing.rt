@@ -328,9 +328,11 @@ pub fn view_words<O: Outside, P: Progress>(
     progress: &mut P,
 ) -> Result<Extent, Status>
     ensures usage { (result ≡ Err Usage) ↔ (asked_in false (map string_bytes words.now) ≡ None) }
-    ensures shown { IfOk result (λ extent. IfSome (asked_in false (map string_bytes words.now)) (λ asked.
+    ensures shown { IfOk result
+        (λ extent. IfSome (asked_in false (map string_bytes words.now)) (λ asked.
         Shows asked (O.told outside.old) (O.told outside.new) extent)) }
-    ensures fault { IfErr result (λ status. IfSome (asked_in false (map string_bytes words.now)) (λ asked.
+    ensures fault { IfErr result
+        (λ status. IfSome (asked_in false (map string_bytes words.now)) (λ asked.
         IsViewFault asked (O.told outside.old) (O.told outside.new) status)) }
     ensures untouched { IfErr result (λ status. IsBeforeOut status → IsUntouched
         (O.told outside.old) (O.told outside.new)) }
@@ -338,8 +340,10 @@ pub fn view_words<O: Outside, P: Progress>(
         (O.told outside.new).holds port ≡ (O.told outside.old).holds port }
     ensures other_counts { (port : Port) → port ≢ Port.ReadByB →
         (O.told outside.new).port_faults port ≡ (O.told outside.old).port_faults port }
-    ensures unloaded { result ≡ Err Usage → (O.told outside.new).load_faults ≡ (O.told outside.old).load_faults }
-    ensures uncalled { result ≡ Err Usage → (O.told outside.new).calls ≡ (O.told outside.old).calls }
+    ensures unloaded { result ≡ Err Usage → (O.told outside.new).load_faults ≡
+        (O.told outside.old).load_faults }
+    ensures uncalled { result ≡ Err Usage → (O.told outside.new).calls ≡
+        (O.told outside.old).calls }
 {
     match asked_by(false, words) {
         None => Err(Status::Usage),

@@ -51,6 +51,14 @@ use Rattle.path_core.specs.Fallback.{breaks_by_ack}
 abbrev pub smoothed_rtt : {C : Type 0} → Side → PathState C → Option ℕ
 smoothed_rtt s p = option_map srtt_of (end_at s p).tcp.timing.rtt.estimate
 
+-- RTO in ticks (RFC 6298, section 2)
+abbrev pub retransmission_timeout : {C : Type 0} → Side → PathState C → ℕ
+retransmission_timeout s p = (end_at s p).tcp.timing.rtt.rto
+
+-- ssthresh in octets (RFC 5681, section 3.1)
+abbrev pub slow_start_threshold : {C : Type 0} → Side → PathState C → ℕ
+slow_start_threshold s p = (end_at s p).tcp.congestion.reno.ssthresh
+
 -- cwnd in octets (RFC 5681, section 3.1)
 abbrev pub congestion_window : {C : Type 0} → Side → PathState C → ℕ
 congestion_window s p = (end_at s p).tcp.congestion.reno.window

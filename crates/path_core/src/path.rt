@@ -7,7 +7,7 @@ ghost use Rattle.link_model.specs.Octets.{after_octets};
 ghost use Rattle.link_script.specs.Scripts.{HasRanges};
 ghost use Rattle.path_core.specs.Events.{is_dead_path};
 ghost use Rattle.path_core.specs.MpJoin.{is_listening};
-ghost use Rattle.path_core.specs.Looking.{departing, next_arrival, next_tick, shown_arriving, smoothed_rtt, congestion_window, IsSegmentOn, IsTold};
+ghost use Rattle.path_core.specs.Looking.{departing, next_arrival, next_tick, shown_arriving, retransmission_timeout, slow_start_threshold, smoothed_rtt, congestion_window, IsSegmentOn, IsTold};
 ghost use Rattle.path_core.specs.Octets.{octets};
 ghost use Rattle.path_core.specs.Replies.{asks_bytes_first, needs_memory_first};
 ghost use Rattle.path_core.specs.Start.{first_turn_of};
@@ -118,6 +118,21 @@ impl Path {
         ensures bound { IfSome result (λ srtt. srtt ≤ 60000) }
     {
         self.state.end(side).tcp.smoothed_rtt()
+    }
+
+    /// RTO of a side's end, the retransmission timeout, in ticks of a millisecond: at least a second (RFC 6298, section 2).
+    pub fn retransmission_timeout(&self, side: Side) -> u32
+        ensures value { result ≡ retransmission_timeout side self.now }
+        ensures least { 1000 ≤ result }
+    {
+        self.state.end(side).tcp.rto()
+    }
+
+    /// ssthresh of a side's end, the slow start threshold, in octets (RFC 5681, section 3.1).
+    pub fn slow_start_threshold(&self, side: Side) -> u32
+        ensures { result ≡ slow_start_threshold side self.now }
+    {
+        self.state.end(side).tcp.slow_start_threshold()
     }
 
     /// cwnd of a side's end, the congestion window, in octets: at most 2^20 (RFC 5681, section 3.1).

@@ -47,7 +47,8 @@ pub fn load<O: Outside>(
         (O.told outside.new).content other ≡ (O.told outside.old).content other }
     ensures calls_cut { OnErr result
         (Adds (failed (call.Load name.now) ∷ []) (O.told outside.old).calls (O.told outside.new).calls) }
-    ensures loads { Loads (call.Load name.now ∷ []) (O.told outside.old) (O.told outside.new) result }
+    ensures loads { Loads (call.Load name.now ∷ []) (O.told outside.old) (O.told outside.new)
+        result }
 {
     match outside.load(alloc, name, input.limit()) {
         Ok(bytes) => Ok(bytes),
@@ -68,7 +69,8 @@ pub fn bind<O: Outside>(outside: &mut O, port: Port, name: &str) -> Result<(), S
     ensures err { OnErr result ((O.told outside.new).holds port ≡ (O.told outside.old).holds port) }
     ensures other_ports { (other : Port) → other ≢ port →
         (O.told outside.new).holds other ≡ (O.told outside.old).holds other }
-    ensures puts { Puts (call.Bind port name.now ∷ []) (O.told outside.old) (O.told outside.new) result }
+    ensures puts { Puts (call.Bind port name.now ∷ []) (O.told outside.old) (O.told outside.new)
+        result }
 {
     match outside.bind(port, name) {
         Ok(()) => Ok(()),
@@ -83,7 +85,8 @@ pub fn bind<O: Outside>(outside: &mut O, port: Port, name: &str) -> Result<(), S
 ///
 /// `Put` of the port where the device failed, `Memory` where there is no memory; then it may hold a first part of the piece.
 pub fn put<O: Outside>(outside: &mut O, port: Port, piece: &[u8]) -> Result<(), Status>
-    ensures ok { OnOk result (HoldsAfter ((O.told outside.old).holds port) ((O.told outside.new).holds port)
+    ensures ok { OnOk result (HoldsAfter ((O.told outside.old).holds port)
+        ((O.told outside.new).holds port)
         (λ held. held ++ piece.now)) }
     ensures err { OnErr result
         (HoldsPrefix ((O.told outside.old).holds port) ((O.told outside.new).holds port) piece.now) }
@@ -91,7 +94,8 @@ pub fn put<O: Outside>(outside: &mut O, port: Port, piece: &[u8]) -> Result<(), 
         (O.told outside.new).holds other ≡ (O.told outside.old).holds other }
     ensures short { IfErr result (λ status. AddsShort (call.Put port piece.now ∷ []) status
         (O.told outside.old).calls (O.told outside.new).calls) }
-    ensures puts { Puts (call.Put port piece.now ∷ []) (O.told outside.old) (O.told outside.new) result }
+    ensures puts { Puts (call.Put port piece.now ∷ []) (O.told outside.old) (O.told outside.new)
+        result }
 {
     match outside.put(port, piece) {
         Ok(()) => Ok(()),

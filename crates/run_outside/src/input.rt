@@ -52,23 +52,28 @@ pub fn load_contents<O: Outside>(
     outside: &mut O,
     line: &CommandLine<'_>,
 ) -> Result<Contents, Status>
-    ensures script { IfOk result (λ contents. IfSome ((O.told outside.old).content line.now.script.now)
+    ensures script { IfOk result
+        (λ contents. IfSome ((O.told outside.old).content line.now.script.now)
         (λ told. contents.script.items ≡ told)) }
-    ensures file_a { IfOk result (λ contents. IfSome ((O.told outside.old).content line.now.file_a.now)
+    ensures file_a { IfOk result
+        (λ contents. IfSome ((O.told outside.old).content line.now.file_a.now)
         (λ told. contents.file_a.items ≡ told)) }
-    ensures file_b { IfOk result (λ contents. IfSome ((O.told outside.old).content line.now.file_b.now)
+    ensures file_b { IfOk result
+        (λ contents. IfSome ((O.told outside.old).content line.now.file_b.now)
         (λ told. contents.file_b.items ≡ told)) }
     ensures script_within { IfOk result (λ contents. vec_len contents.script ≤ 65536) }
     ensures file_a_within { IfOk result (λ contents. length contents.file_a.items ≤ 16777216) }
     ensures file_b_within { IfOk result (λ contents. length contents.file_b.items ≤ 16777216) }
-    ensures within { OnOk result (AreFirstWithinLimits (O.told outside.old).content (as_line line.now)) }
+    ensures within { OnOk result
+        (AreFirstWithinLimits (O.told outside.old).content (as_line line.now)) }
     ensures fault { IfErr result (IsLoadsFault (O.told outside.old).content (as_line line.now)
         (O.told outside.old).load_faults (O.told outside.new).load_faults) }
     ensures same_contents { (other : List ℕ) →
         (O.told outside.new).content other ≡ (O.told outside.old).content other }
     ensures calls_cut { IfErr result (LoadsAdd (as_line line.now) (first_loads (as_line line.now))
         (O.told outside.old).calls (O.told outside.new).calls) }
-    ensures loads { Loads (first_loads (as_line line.now)) (O.told outside.old) (O.told outside.new) result }
+    ensures loads { Loads (first_loads (as_line line.now)) (O.told outside.old) (O.told outside.new)
+        result }
 {
     let script = load(alloc, outside, Named::Script, line.script)?;
     let file_a = load(alloc, outside, Named::FileA, line.file_a)?;
@@ -99,7 +104,8 @@ pub fn load_order<O: Outside>(
         (O.told outside.old).load_faults (O.told outside.new).load_faults) }
     ensures calls_cut { OnErr result
         (Adds (failed (call.Load order.now) ∷ []) (O.told outside.old).calls (O.told outside.new).calls) }
-    ensures loads { Loads (call.Load order.now ∷ []) (O.told outside.old) (O.told outside.new) result }
+    ensures loads { Loads (call.Load order.now ∷ []) (O.told outside.old) (O.told outside.new)
+        result }
 {
     load(alloc, outside, Named::Order, order)
 }
@@ -153,12 +159,14 @@ pub fn load_input<O: Outside>(
     ensures file_b { IfOk result (λ input. IfSome ((O.told outside.old).content line.now.file_b.now)
         (λ told. input.file_b ≡ told)) }
     ensures loaded { IfOk result IsLoaded }
-    ensures within { OnOk result (AreFirstWithinLimits (O.told outside.old).content (as_line line.now)) }
+    ensures within { OnOk result
+        (AreFirstWithinLimits (O.told outside.old).content (as_line line.now)) }
     ensures fault { IfErr result (IsInputFault (O.told outside.old).content (as_line line.now)
         (O.told outside.old).load_faults (O.told outside.new).load_faults) }
     ensures calls_cut { IfErr result (InputAdds (as_line line.now) (first_loads (as_line line.now))
         (O.told outside.old).calls (O.told outside.new).calls) }
-    ensures loads { Loads (first_loads (as_line line.now)) (O.told outside.old) (O.told outside.new) result }
+    ensures loads { Loads (first_loads (as_line line.now)) (O.told outside.old) (O.told outside.new)
+        result }
 {
     let contents = load_contents(alloc, outside, line)?;
     input_of(alloc, contents)
@@ -185,11 +193,14 @@ pub fn load_logged<O: Outside>(
     order: &str,
 ) -> Result<Logged, Status>
     requires named { (as_line line.now).work ≡ replay order.now }
-    ensures script { IfOk result (λ logged. IfSome ((O.told outside.old).content line.now.script.now)
+    ensures script { IfOk result
+        (λ logged. IfSome ((O.told outside.old).content line.now.script.now)
         (λ told. reading told ≡ Ok logged.input.script)) }
-    ensures file_a { IfOk result (λ logged. IfSome ((O.told outside.old).content line.now.file_a.now)
+    ensures file_a { IfOk result
+        (λ logged. IfSome ((O.told outside.old).content line.now.file_a.now)
         (λ told. logged.input.file_a ≡ told)) }
-    ensures file_b { IfOk result (λ logged. IfSome ((O.told outside.old).content line.now.file_b.now)
+    ensures file_b { IfOk result
+        (λ logged. IfSome ((O.told outside.old).content line.now.file_b.now)
         (λ told. logged.input.file_b ≡ told)) }
     ensures log { IfOk result (λ logged. IfSome ((O.told outside.old).content order.now)
         (λ told. logged.log.items ≡ told)) }
@@ -199,7 +210,8 @@ pub fn load_logged<O: Outside>(
         (O.told outside.old).load_faults (O.told outside.new).load_faults) }
     ensures calls_cut { IfErr result (InputAdds (as_line line.now) (loads_of (as_line line.now))
         (O.told outside.old).calls (O.told outside.new).calls) }
-    ensures loads { Loads (loads_of (as_line line.now)) (O.told outside.old) (O.told outside.new) result }
+    ensures loads { Loads (loads_of (as_line line.now)) (O.told outside.old) (O.told outside.new)
+        result }
 {
     let contents = load_contents(alloc, outside, line)?;
     let log = load_order(alloc, outside, line, order)?;
@@ -231,11 +243,14 @@ pub fn load_replay<O: Outside>(
     order: &str,
 ) -> Result<Replay, Status>
     requires named { (as_line line.now).work ≡ replay order.now }
-    ensures script { IfOk result (λ replay. IfSome ((O.told outside.old).content line.now.script.now)
+    ensures script { IfOk result
+        (λ replay. IfSome ((O.told outside.old).content line.now.script.now)
         (λ told. reading told ≡ Ok replay.input.script)) }
-    ensures file_a { IfOk result (λ replay. IfSome ((O.told outside.old).content line.now.file_a.now)
+    ensures file_a { IfOk result
+        (λ replay. IfSome ((O.told outside.old).content line.now.file_a.now)
         (λ told. replay.input.file_a ≡ told)) }
-    ensures file_b { IfOk result (λ replay. IfSome ((O.told outside.old).content line.now.file_b.now)
+    ensures file_b { IfOk result
+        (λ replay. IfSome ((O.told outside.old).content line.now.file_b.now)
         (λ told. replay.input.file_b ≡ told)) }
     ensures turns { IfOk result (λ replay. IfSome ((O.told outside.old).content order.now)
         (λ told. log_reading replay.input.script told ≡ Ok replay.turns.items)) }
@@ -250,7 +265,8 @@ pub fn load_replay<O: Outside>(
         (O.told outside.old).load_faults (O.told outside.new).load_faults) }
     ensures calls_cut { IfErr result (InputAdds (as_line line.now) (loads_of (as_line line.now))
         (O.told outside.old).calls (O.told outside.new).calls) }
-    ensures loads { Loads (loads_of (as_line line.now)) (O.told outside.old) (O.told outside.new) result }
+    ensures loads { Loads (loads_of (as_line line.now)) (O.told outside.old) (O.told outside.new)
+        result }
 {
     let logged = load_logged(alloc, outside, line, order)?;
     let turns = read_order(alloc, &logged.input.script, &logged.log)?;

@@ -24,7 +24,8 @@ pub struct Piece {
 
 /// Puts a text, if it has any octet.
 fn put_text<O: Outside>(outside: &mut O, port: Port, text: &Text) -> Result<(), Status>
-    ensures ok { OnOk result (HoldsAfter ((O.told outside.old).holds port) ((O.told outside.new).holds port)
+    ensures ok { OnOk result (HoldsAfter ((O.told outside.old).holds port)
+        ((O.told outside.new).holds port)
         (λ held. held ++ text.now)) }
     ensures err { OnErr result
         (HoldsPrefix ((O.told outside.old).holds port) ((O.told outside.new).holds port) text.now) }

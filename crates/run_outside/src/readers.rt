@@ -23,12 +23,15 @@ pub fn bind_readers<O: Outside>(outside: &mut O, line: &CommandLine<'_>) -> Resu
         ((O.told outside.new).holds Port.ReadByB) (λ _. [])) }
     ensures read_by_a { OnOk result (HoldsAfter ((O.told outside.old).holds Port.ReadByA)
         ((O.told outside.new).holds Port.ReadByA) (λ _. [])) }
-    ensures read_by_b_err { OnErr result (HoldsWithin (Unit {0}) ((O.told outside.old).holds Port.ReadByB)
+    ensures read_by_b_err { OnErr result
+        (HoldsWithin (Unit {0}) ((O.told outside.old).holds Port.ReadByB)
         ((O.told outside.new).holds Port.ReadByB) [] []) }
-    ensures read_by_a_err { OnErr result (HoldsWithin (Unit {0}) ((O.told outside.old).holds Port.ReadByA)
+    ensures read_by_a_err { OnErr result
+        (HoldsWithin (Unit {0}) ((O.told outside.old).holds Port.ReadByA)
         ((O.told outside.new).holds Port.ReadByA) [] []) }
     ensures log { (O.told outside.new).holds Port.Log ≡ (O.told outside.old).holds Port.Log }
-    ensures puts { Puts (binds_of (as_line line.now)) (O.told outside.old) (O.told outside.new) result }
+    ensures puts { Puts (binds_of (as_line line.now)) (O.told outside.old) (O.told outside.new)
+        result }
 {
     bind(outside, Port::ReadByB, line.read_by_b)?;
     bind(outside, Port::ReadByA, line.read_by_a)

@@ -6,7 +6,7 @@ use Rattle.sides.specs.declared.side.Side.{Side}
 use Rattle.sides.specs.declared.side.Side.TheVariants.{A, B}
 use Rattle.link_trace.specs.declared.rows.Rate.{Rate}
 use Rattle.link_trace.specs.declared.rows.Rates.{Rates}
-use Rattle.path_core.specs.Looking.{congestion_window, smoothed_rtt}
+use Rattle.path_core.specs.Looking.{congestion_window, retransmission_timeout, slow_start_threshold, smoothed_rtt}
 use Rattle.path_core.specs.Octets.{octets}
 use Rattle.path_core.specs.State.{PathState}
 use Rattle.world_core.specs.Looking.{member_path}
@@ -17,7 +17,12 @@ use Rattle.world_laws.specs.Worlds.{Turn, WorldState, after_turn, world_run}
 module _ {C : Type 0} where
   -- of a side's end
   abbrev pub rate_at : Side → PathState C → Rate
-  rate_at side p = record { window = congestion_window side p; rtt = smoothed_rtt side p }
+  rate_at side p = record {
+    window = congestion_window side p;
+    threshold = slow_start_threshold side p;
+    rtt = smoothed_rtt side p;
+    timeout = retransmission_timeout side p;
+  }
 
   abbrev pub rates_in : PathState C → Rates
   rates_in p = record { a = rate_at A p; b = rate_at B p }

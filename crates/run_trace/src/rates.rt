@@ -16,7 +16,9 @@ fn rate_at(side: Side, path: &Path) -> Rate
 {
     Rate {
         window: path.congestion_window(side),
+        threshold: path.slow_start_threshold(side),
         rtt: path.smoothed_rtt(side),
+        timeout: path.retransmission_timeout(side),
     }
 }
 

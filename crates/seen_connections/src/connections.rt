@@ -130,7 +130,8 @@ impl SeenConnections {
         is_good: bool,
     ) -> Result<Option<Place>, AllocError>
         requires { self.old.last < packet }
-        ensures ok { IfOk result (λ place. record { now = self.new; place = place } ≡ taken self.old packet (as_seen seen.now) is_good) }
+        ensures ok { IfOk result (λ place. record { now = self.new; place = place } ≡
+            taken self.old packet (as_seen seen.now) is_good) }
         ensures err { OnErr result (self.new ≡ self.old) }
     {
         let found = self.flows.between(&Ends::of(seen));
@@ -170,7 +171,8 @@ impl SeenConnections {
     ) -> Result<Option<Place>, AllocError>
         requires there { IsThere self.old.flows found.now }
         requires order { self.old.last < packet }
-        ensures ok { IfOk result (λ place. record { now = self.new; place = place } ≡ started self.old packet (as_seen seen.now) found.now) }
+        ensures ok { IfOk result (λ place. record { now = self.new; place = place } ≡
+            started self.old packet (as_seen seen.now) found.now) }
         ensures err { OnErr result (self.new ≡ self.old) }
     {
         let Some(opening) = asked_in(&seen.segment) else {
@@ -192,7 +194,10 @@ impl SeenConnections {
     fn end(&mut self, packet: u32, found: &Option<Found>)
         requires there { IsThere self.old.flows found.now }
         requires order { self.old.last < packet }
-        ensures { self.new ≡ record self.old { flows = ended found.now self.old.flows; last = packet } }
+        ensures { self.new ≡ record self.old {
+          flows = ended found.now self.old.flows;
+          last = packet;
+        } }
     {
         match found {
             Some(found) => {
@@ -213,7 +218,8 @@ impl SeenConnections {
     ) -> Result<Option<Place>, AllocError>
         requires there { IsThere self.old.flows found.now }
         requires order { self.old.last < packet }
-        ensures ok { IfOk result (λ place. record { now = self.new; place = place } ≡ gone_on self.old packet (as_seen seen.now) is_good found.now) }
+        ensures ok { IfOk result (λ place. record { now = self.new; place = place } ≡
+            gone_on self.old packet (as_seen seen.now) is_good found.now) }
         ensures err { OnErr result (self.new ≡ self.old) }
     {
         let Some(found) = found else {
@@ -265,7 +271,8 @@ impl SeenConnections {
         requires there { slice_get self.old.flows found.now.index ≡ Some found.now.flow }
         requires order { self.old.last < packet }
         requires next { IsNext found.now.flow flow.now }
-        ensures ok { IfOk result (λ place. record { now = self.new; place = place } ≡ followed self.old packet (as_seen seen.now) found.now.index flow.now) }
+        ensures ok { IfOk result (λ place. record { now = self.new; place = place } ≡
+            followed self.old packet (as_seen seen.now) found.now.index flow.now) }
         ensures err { OnErr result (self.new ≡ self.old) }
     {
         let answer = answer_of(seen, flow);
@@ -282,7 +289,10 @@ impl SeenConnections {
         requires there { slice_get self.old.flows found.now.index ≡ Some found.now.flow }
         requires order { self.old.last < packet }
         requires next { IsNext found.now.flow flow }
-        ensures { self.new ≡ record self.old { flows = set self.old.flows found.now.index flow; last = packet } }
+        ensures { self.new ≡ record self.old {
+          flows = set self.old.flows found.now.index flow;
+          last = packet;
+        } }
     {
         self.flows.change(found, flow);
         self.last = packet;
@@ -296,8 +306,12 @@ impl SeenConnections {
         flow: &Flow,
         answer: &Option<Answer>,
     ) -> Result<Answered, AllocError>
-        ensures value { IfOk result (λ value. value ≡ answered self.old (as_seen seen.now) flow.now answer.now) }
-        ensures ok { OnOk result (self.new ≡ record self.old { connections = connections_after self.old index answer.now; known = known_after self.old answer.now }) }
+        ensures value { IfOk result
+            (λ value. value ≡ answered self.old (as_seen seen.now) flow.now answer.now) }
+        ensures ok { OnOk result (self.new ≡ record self.old {
+          connections = connections_after self.old index answer.now;
+          known = known_after self.old answer.now;
+        }) }
         ensures err { OnErr result (self.new ≡ self.old) }
     {
         match answer {

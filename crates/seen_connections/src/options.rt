@@ -31,7 +31,8 @@ pub fn seen_options<'a>(
     segment: &SegmentRef<'a>,
     checksums: bool,
 ) -> Result<Vec<SeenOption<'a>>, AllocError>
-    ensures { IfOk result (λ seen. map as_value seen.items ≡ seen_options checksums (segment_of segment.now).options) }
+    ensures { IfOk result (λ seen. map as_value seen.items ≡ seen_options checksums
+        (segment_of segment.now).options) }
 {
     let mut seen = read_options(alloc, segment, checksums)?;
     let broken = broken_part(segment.option_octets());

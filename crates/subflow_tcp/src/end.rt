@@ -265,6 +265,13 @@ impl Subflow {
         self.congestion.reno.window()
     }
 
+    /// ssthresh, the slow start threshold, in octets (RFC 5681, section 3.1).
+    pub fn slow_start_threshold(&self) -> u32
+        ensures { result ≡ self.now.congestion.reno.ssthresh }
+    {
+        self.congestion.reno.ssthresh()
+    }
+
     /// The room of the congestion window beside what is under way, in octets.
     pub fn room(&self) -> u32
         ensures value { result ≡ room self.now }
