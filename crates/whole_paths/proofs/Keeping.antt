@@ -321,5 +321,5 @@ module _ {C : Type 0} where
 
   pub what_waits_is_kept : (k : Codec C) → WhatWaitsIsKept k
   what_waits_is_kept k w turns actor c there = turns_each k (λ c d. EndsKeepWhatWaits c.member d.member) (λ c. member_stays c.member)
-      (λ ask books c. member_keeps k (answer_to books ask) c.member) (λ stamp c. member_begins c.member)
+      (λ ask books c. member_keeps k (answer_to books ask) c.member) (λ stamp c over. member_begins c.member)
       (λ c d e x y. member_then c.member d.member e.member x y) turns w actor c there

@@ -7,6 +7,7 @@ pub mod Keeping
 pub mod Lanes
 pub mod Links
 pub mod Reasons
+pub mod Resending
 pub mod Rounds
 pub mod Settling
 pub mod Subflows

@@ -2,6 +2,7 @@ pub mod AgendaSteps
 pub mod AsFar
 pub mod Copies
 pub mod EndSteps
+pub mod Expiries
 pub mod Finish
 pub mod Harms
 pub mod Kept

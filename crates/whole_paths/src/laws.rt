@@ -5,6 +5,7 @@ ghost use Rattle.std.specs.Prelude.{ℕ, List};
 ghost use Rattle.world_laws.specs.Laws.{Always};
 ghost use Rattle.whole_paths.specs.AsFar.{NothingGoesBack};
 ghost use Rattle.whole_paths.specs.Copies.{CopiesLeaveByArriving};
+ghost use Rattle.whole_paths.specs.Expiries.{WhatRunsOutGoesAgain};
 ghost use Rattle.whole_paths.specs.Harms.{EachUsesALineOrComes};
 ghost use Rattle.whole_paths.specs.Kept.{WhatWaitsIsKept};
 ghost use Rattle.whole_paths.specs.Lanes.Laws.{LossyLanesEnd, LossyLanesFinish};
@@ -42,6 +43,17 @@ pub fn timers_run_out()
 pub fn who_waits_has_a_timer()
     ensures octets { Always octets (λ start w. WhoWaitsHasATimer w) }
     ensures values { Always values (λ start w. WhoWaitsHasATimer w) }
+{}
+
+/// A law: where a timer runs out, the first record that isn't acknowledged is sent again, and the timer runs anew (RFC 6298, section 5,
+/// rules 5.4 to 5.6).
+///
+/// It runs twice as long as before, and for a minute at most. The end sends the record before anything else, once the bytes that its path
+/// was granted are given back, and the link takes the segment as it takes any: with the record's position, flags and octets. The sixth
+/// expiry without an acceptable segment in between ends the end. Where no record is left, an acknowledgement goes in its place.
+pub fn what_runs_out_goes_again()
+    ensures octets { WhatRunsOutGoesAgain octets }
+    ensures values { WhatRunsOutGoesAgain values }
 {}
 
 /// A law: by whatever turns, an end keeps what isn't acknowledged yet, so that it can be sent again.
