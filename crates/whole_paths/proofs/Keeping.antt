@@ -1,5 +1,5 @@
 -- What waits to be acknowledged is kept until it is.
-use Rattle.std.proofs.Common.{◌≡◌, refl, sym, subst, ap, ◌∙◌, ◌⊎◌, inl, inr, ⊎_elim, ℕ, ◌≤◌, max, ◌&&◌, ◌==◌, nat_lt, nat_le, arith, Bool, true, false, if◌then◌else◌, List, [], ◌∷◌, ◌++◌, map, filter, le_refl}
+use Rattle.std.proofs.Common.{◌≡◌, refl, sym, subst, ap, ◌∙◌, ◌⊎◌, inl, inr, ⊎_elim, ℕ, ◌<◌, ◌≤◌, max, ◌&&◌, ◌==◌, nat_lt, nat_le, arith, Bool, true, false, if◌then◌else◌, List, [], ◌∷◌, ◌++◌, map, filter, le_refl}
 use Rattle.std.specs.List.{slice_get}
 use Rattle.std.proofs.lemmas.Bool.{and_parts, ltb-true, ltb-false, leb-true}
 use Rattle.sides.specs.declared.side.Side.{Side}
@@ -74,17 +74,17 @@ module _ {X : Type 0} (Same : X → X → Type 0) (same : (x : X) → Same x x) 
       by true is rest = inr (same x, rest)
       by false is rest = front Gone x xs (filter test xs) (gone x is) rest
 
-  -- what is let go stays so, and so one step follows another
-  module _ (G H : X → Type 0) (up : (x : X) → G x → H x) (back : (x y : X) → Same x y → H y → H x) (trans : (x y z : X) → Same x y → Same y z → Same x z) where
-    pub chain : (xs ys zs : List X) → AreKept G Same xs ys → AreKept H Same ys zs → AreKept H Same xs zs
+  -- one step follows another: what the first lets go is let go, and so is what became one that the second lets go
+  module _ (G H K : X → Type 0) (up : (x : X) → G x → K x) (back : (x y : X) → Same x y → H y → K x) (trans : (x y z : X) → Same x y → Same y z → Same x z) where
+    pub chain : (xs ys zs : List X) → AreKept G Same xs ys → AreKept H Same ys zs → AreKept K Same xs zs
     chain [] ys zs a b = tt
-    chain (x ∷ xs) [] zs a b = front H x xs zs (up x a.0) (chain xs [] zs a.1 b)
+    chain (x ∷ xs) [] zs a b = front K x xs zs (up x a.0) (chain xs [] zs a.1 b)
     chain (x ∷ xs) (y ∷ ys) [] a b = ⊎_elim
-        (λ gone. front H x xs [] (up x gone.0) (chain xs (y ∷ ys) [] gone.1 b))
+        (λ gone. front K x xs [] (up x gone.0) (chain xs (y ∷ ys) [] gone.1 b))
         (λ kept. (back x y kept.0 b.0, chain xs ys [] kept.1 b.1))
         a
     chain (x ∷ xs) (y ∷ ys) (z ∷ zs) a b = ⊎_elim
-        (λ gone. front H x xs (z ∷ zs) (up x gone.0) (chain xs (y ∷ ys) (z ∷ zs) gone.1 b))
+        (λ gone. front K x xs (z ∷ zs) (up x gone.0) (chain xs (y ∷ ys) (z ∷ zs) gone.1 b))
         (λ kept. ⊎_elim
         (λ gone. inl (back x y kept.0 gone.0, chain xs ys (z ∷ zs) kept.1 gone.1))
         (λ other. inr (trans x y z kept.0 other.0, chain xs ys zs kept.1 other.1))
@@ -102,56 +102,68 @@ record_then r t u x y = record { pos = y.pos ∙ x.pos; kind = y.kind ∙ x.kind
 same_span : (r t : Record) (n : ℕ) → IsSameRecord r t → end_of t ≤ n → end_of r ≤ n
 same_span r t n x low = rw (sym x.pos, sym x.kind, sym x.piece) low
 
--- up to a position
-abbrev Kept : ℕ → List Record → List Record → Type 0
-Kept una = AreKept (λ (r : Record). end_of r ≤ una) IsSameRecord
+-- but for those that SND.UNA reaches the end of, as it rises from one position to another
+abbrev IsPassed : ℕ → ℕ → Record → Type 0
+IsPassed before una r = (before < una) × (end_of r ≤ una)
+
+abbrev Kept : ℕ → ℕ → List Record → List Record → Type 0
+Kept before una = AreKept (IsPassed before una) IsSameRecord
 
 record SendKept (v w : SendState) : Type 0 where
   una : v.una ≤ w.una
-  records : Kept w.una v.records w.records
+  records : Kept v.una w.una v.records w.records
 
-all_records : (una : ℕ) (rs : List Record) → Kept una rs rs
-all_records una rs = all_kept IsSameRecord same_record (λ (r : Record). end_of r ≤ una) rs
+all_records : (before una : ℕ) (rs : List Record) → Kept before una rs rs
+all_records before una rs = all_kept IsSameRecord same_record (IsPassed before una) rs
 
 -- SND.UNA stays
-marked : (v w : SendState) → w.una ≡ v.una → ((una : ℕ) → Kept una v.records w.records) → SendKept v w
-marked v w una kept = record { una = omega (arith, una); records = kept w.una }
+marked : (v w : SendState) → w.una ≡ v.una → ((before una : ℕ) → Kept before una v.records w.records) → SendKept v w
+marked v w una kept = record { una = omega (arith, una); records = kept v.una w.una }
 
 send_stays : (v : SendState) → SendKept v v
-send_stays v = marked v v refl (λ una. all_records una v.records)
+send_stays v = marked v v refl (λ before una. all_records before una v.records)
 
 send_then : (v w x : SendState) → SendKept v w → SendKept w x → SendKept v x
-send_then v w x first second = record {
-  una = omega (arith, first.una, second.una);
-  records = chain IsSameRecord same_record (λ (r : Record). end_of r ≤ w.una) (λ (r : Record). end_of r ≤ x.una)
-      (λ r low. let more = second.una in omega (arith, low, more)) (λ r t same low. same_span r t x.una same low) record_then v.records w.records x.records first.records second.records;
-}
-
-uncovered_kept : (pos : ℕ) (rs : List Record) → Kept pos rs (uncovered pos rs)
-uncovered_kept pos [] = tt
-uncovered_kept pos (r ∷ rs) = by (nat_le (end_of r) pos) refl (uncovered_kept pos rs)
+send_then v w x first second =
+    let low = first.una in let high = second.una in
+    record {
+      una = omega (arith, low, high);
+      records = chain IsSameRecord same_record (IsPassed v.una w.una) (IsPassed w.una x.una) (IsPassed v.una x.una)
+          (λ r passed. later r passed.0 passed.1) (λ r t same passed. earlier r t same passed.0 passed.1) record_then v.records w.records x.records
+          first.records second.records;
+    }
   where
-    by : (b : Bool) → nat_le (end_of r) pos ≡ b → Kept pos rs (uncovered pos rs) → Kept pos (r ∷ rs) (if b then uncovered pos rs else r ∷ rs)
-    by true is rest = front IsSameRecord same_record (λ (x : Record). end_of x ≤ pos) r rs (uncovered pos rs) (leb-true (end_of r) pos is) rest
-    by false is rest = all_records pos (r ∷ rs)
+    later : (r : Record) → v.una < w.una → end_of r ≤ w.una → IsPassed v.una x.una r
+    later r more end = let high = second.una in (omega (arith, more, high), omega (arith, end, high))
+
+    earlier : (r t : Record) → IsSameRecord r t → w.una < x.una → end_of t ≤ x.una → IsPassed v.una x.una r
+    earlier r t same more end = let low = first.una in (omega (arith, low, more), same_span r t x.una same end)
+
+uncovered_kept : (before pos : ℕ) → before < pos → (rs : List Record) → Kept before pos rs (uncovered pos rs)
+uncovered_kept before pos more [] = tt
+uncovered_kept before pos more (r ∷ rs) = by (nat_le (end_of r) pos) refl (uncovered_kept before pos more rs)
+  where
+    by : (b : Bool) → nat_le (end_of r) pos ≡ b → Kept before pos rs (uncovered pos rs) → Kept before pos (r ∷ rs) (if b then uncovered pos rs else r ∷ rs)
+    by true is rest = front IsSameRecord same_record (IsPassed before pos) r rs (uncovered pos rs) (more, leb-true (end_of r) pos is) rest
+    by false is rest = all_records before pos (r ∷ rs)
 
 acknowledged : (pos : ℕ) (v : SendState) → SendKept v (after_acknowledge pos v)
 acknowledged pos v = by (nat_lt v.una pos && nat_le pos v.nxt) refl
   where
     by : (b : Bool) → (nat_lt v.una pos && nat_le pos v.nxt) ≡ b → SendKept v (if b then record v { una = pos; records = uncovered pos v.records } else v)
-    by true is = let more = ltb-true v.una pos (and_parts (nat_lt v.una pos) (nat_le pos v.nxt) is).0 in record { una = omega (arith, more); records = uncovered_kept pos v.records }
+    by true is = let more = ltb-true v.una pos (and_parts (nat_lt v.una pos) (nat_le pos v.nxt) is).0 in record { una = omega (arith, more); records = uncovered_kept v.una pos more v.records }
     by false is = send_stays v
 
-first_kept : (now una : ℕ) (rs : List Record) → Kept una rs (first_sent now rs)
-first_kept now una [] = tt
-first_kept now una (r ∷ rs) = inr (record { pos = refl; kind = refl; piece = refl; mapping = refl }, all_records una rs)
+first_kept : (now before una : ℕ) (rs : List Record) → Kept before una rs (first_sent now rs)
+first_kept now before una [] = tt
+first_kept now before una (r ∷ rs) = inr (record { pos = refl; kind = refl; piece = refl; mapping = refl }, all_records before una rs)
 
-unsent_kept : (now una : ℕ) (rs : List Record) → Kept una rs (first_unsent_sent now rs)
-unsent_kept now una [] = tt
-unsent_kept now una (r ∷ rs) = by (is_unsent r) (unsent_kept now una rs)
+unsent_kept : (now before una : ℕ) (rs : List Record) → Kept before una rs (first_unsent_sent now rs)
+unsent_kept now before una [] = tt
+unsent_kept now before una (r ∷ rs) = by (is_unsent r) (unsent_kept now before una rs)
   where
-    by : (b : Bool) → Kept una rs (first_unsent_sent now rs) → Kept una (r ∷ rs) (if b then first_sent now (r ∷ rs) else r ∷ first_unsent_sent now rs)
-    by true rest = first_kept now una (r ∷ rs)
+    by : (b : Bool) → Kept before una rs (first_unsent_sent now rs) → Kept before una (r ∷ rs) (if b then first_sent now (r ∷ rs) else r ∷ first_unsent_sent now rs)
+    by true rest = first_kept now before una (r ∷ rs)
     by false rest = inr (same_record r, rest)
 
 fin_same : (now : ℕ) (r : Record) → IsSameRecord r (fin_sent now r)
@@ -160,27 +172,27 @@ fin_same now r = by (is_fin r.kind)
     by : (b : Bool) → IsSameRecord r (if b then record r { sending = sent_again now r.sending } else r)
     by = elim [ true ↦ record { pos = refl; kind = refl; piece = refl; mapping = refl } | false ↦ same_record r ]
 
-expired_kept : (una : ℕ) (rs : List Record) → Kept una rs (expired_records rs)
-expired_kept una [] = tt
-expired_kept una (r ∷ rs) =
+expired_kept : (before una : ℕ) (rs : List Record) → Kept before una rs (expired_records rs)
+expired_kept before una [] = tt
+expired_kept before una (r ∷ rs) =
     inr (
       record { pos = refl; kind = refl; piece = refl; mapping = refl },
-      mapped IsSameRecord same_record (λ (x : Record). end_of x ≤ una) unsent_again (λ x. record { pos = refl; kind = refl; piece = refl; mapping = refl }) rs,
+      mapped IsSameRecord same_record (IsPassed before una) unsent_again (λ x. record { pos = refl; kind = refl; piece = refl; mapping = refl }) rs,
     )
 
 -- ---- the subflow
 
 sending_kept : (occasion : Occasion) (now : ℕ) (s : EndState) → SendKept s.send (after_sending occasion now s).send
 sending_kept to_send.SynAck now s = elim (s.send.una == 0) as (λ b. SendKept s.send (if b then after_resent now s.send else s.send))
-    [ true ↦ marked s.send (after_resent now s.send) refl (λ una. first_kept now una s.send.records) | false ↦ send_stays s.send ]
-sending_kept to_send.First now s = marked s.send _ refl (λ una. first_kept now una s.send.records)
-sending_kept to_send.Unsent now s = marked s.send _ refl (λ una. unsent_kept now una s.send.records)
-sending_kept to_send.Fin now s = marked s.send _ refl (λ una. mapped IsSameRecord same_record (λ (x : Record). end_of x ≤ una) (fin_sent now) (fin_same now) s.send.records)
+    [ true ↦ marked s.send (after_resent now s.send) refl (λ before una. first_kept now before una s.send.records) | false ↦ send_stays s.send ]
+sending_kept to_send.First now s = marked s.send _ refl (λ before una. first_kept now before una s.send.records)
+sending_kept to_send.Unsent now s = marked s.send _ refl (λ before una. unsent_kept now before una s.send.records)
+sending_kept to_send.Fin now s = marked s.send _ refl (λ before una. mapped IsSameRecord same_record (IsPassed before una) (fin_sent now) (fin_same now) s.send.records)
 sending_kept _ now s = send_stays s.send
 
 fire_kept : (now : ℕ) (s : EndState) → SendKept s.send (after_fire now s).send
 fire_kept now s = elim (is_sixth s) as (λ b. SendKept s.send (if b then after_death true s else after_expiry now s).send)
-    [ true ↦ acknowledged s.send.nxt s.send | false ↦ marked s.send _ refl (λ una. expired_kept una s.send.records) ]
+    [ true ↦ acknowledged s.send.nxt s.send | false ↦ marked s.send _ refl (λ before una. expired_kept before una s.send.records) ]
 
 ack_kept : (pos now : ℕ) (s : EndState) → SendKept s.send (after_acknowledgement pos now s).send
 ack_kept pos now s =
@@ -206,8 +218,8 @@ step_kept now s t (arrives m hint c is) = arrival_kept m hint now c s
 step_kept now s t (sends occasion) = sending_kept occasion now s
 step_kept now s t fires = fire_kept now s
 step_kept now s t dies = acknowledged s.send.nxt s.send
-step_kept now s t (pushes piece mapping) = marked s.send _ refl (λ una. longer IsSameRecord same_record (λ (x : Record). end_of x ≤ una) s.send.records _)
-step_kept now s t finishes = marked s.send _ refl (λ una. longer IsSameRecord same_record (λ (x : Record). end_of x ≤ una) s.send.records _)
+step_kept now s t (pushes piece mapping) = marked s.send _ refl (λ before una. longer IsSameRecord same_record (IsPassed before una) s.send.records _)
+step_kept now s t finishes = marked s.send _ refl (λ before una. longer IsSameRecord same_record (IsPassed before una) s.send.records _)
 step_kept now s t (holds pos octets) = send_stays s.send
 step_kept now s t owes = send_stays s.send
 step_kept now s t keeps = send_stays s.send
@@ -272,7 +284,7 @@ keeps_then e f g x y =
       una = subflow.una;
       records = subflow.records;
       heard = omega (arith, x.heard, y.heard);
-      pieces = chain (λ (a b : GrantedPiece). b ≡ a) (λ a. refl) (λ (a : GrantedPiece). a.to ≤ f.sending.heard) (λ (a : GrantedPiece). a.to ≤ g.sending.heard)
+      pieces = chain (λ (a b : GrantedPiece). b ≡ a) (λ a. refl) (λ (a : GrantedPiece). a.to ≤ f.sending.heard) (λ (a : GrantedPiece). a.to ≤ g.sending.heard) (λ (a : GrantedPiece). a.to ≤ g.sending.heard)
           (λ a low. let more = y.heard in omega (arith, low, more)) (λ a b same low. subst (λ (z : GrantedPiece). z.to ≤ g.sending.heard) same low)
           (λ a b c first second. second ∙ first) e.sending.granted f.sending.granted g.sending.granted x.pieces y.pieces;
     }

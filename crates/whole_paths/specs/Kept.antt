@@ -1,5 +1,5 @@
 -- What an end keeps until it is acknowledged: the records of its subflow, and the pieces that were granted to it.
-use Rattle.std.specs.Prelude.{ℕ, ◌≡◌, ◌≤◌, ◌⊎◌, Some, List, [], ◌∷◌, slice_get}
+use Rattle.std.specs.Prelude.{ℕ, ◌≡◌, ◌<◌, ◌≤◌, ◌⊎◌, Some, List, [], ◌∷◌, slice_get}
 use Rattle.sides.specs.declared.side.Side.{Side}
 use Rattle.subflow_send.specs.Records.{Record, end_of}
 use Rattle.path_store.specs.declared.granted_piece.GrantedPiece.{GrantedPiece}
@@ -23,11 +23,11 @@ pub record IsSameRecord (r t : Record) : Type 0 where
   pub piece : t.piece ≡ r.piece
   pub mapping : t.mapping ≡ r.mapping
 
--- An end lets a record go as SND.UNA reaches its end (RFC 9293, section 3.4), and a granted piece as the Data ACKs that it heard
+-- An end lets a record go as SND.UNA rises to its end or past it (RFC 9293, section 3.4), and a granted piece as the Data ACKs that it heard
 -- acknowledge all of it (RFC 8684, section 3.3.2); neither goes back.
 pub record KeepsWhatWaits (e f : PathEnd) : Type 0 where
   pub una : e.tcp.send.una ≤ f.tcp.send.una
-  pub records : AreKept (λ (r : Record). end_of r ≤ f.tcp.send.una) IsSameRecord e.tcp.send.records f.tcp.send.records
+  pub records : AreKept (λ (r : Record). (e.tcp.send.una < f.tcp.send.una) × (end_of r ≤ f.tcp.send.una)) IsSameRecord e.tcp.send.records f.tcp.send.records
   pub heard : e.sending.heard ≤ f.sending.heard
   pub pieces : AreKept (λ (x : GrantedPiece). x.to ≤ f.sending.heard) (λ (x y : GrantedPiece). y ≡ x) e.sending.granted f.sending.granted
 
