@@ -13,3 +13,4 @@ pub mod Settling
 pub mod Subflows
 pub mod Timing
 pub mod Turns
+pub mod Waiting

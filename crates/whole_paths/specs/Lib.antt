@@ -10,3 +10,4 @@ pub mod Lanes
 pub mod Reasons
 pub mod Rounds
 pub mod Timers
+pub mod Waits

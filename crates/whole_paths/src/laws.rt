@@ -11,6 +11,7 @@ ghost use Rattle.whole_paths.specs.Kept.{WhatWaitsIsKept};
 ghost use Rattle.whole_paths.specs.Lanes.Laws.{LossyLanesEnd, LossyLanesFinish};
 ghost use Rattle.whole_paths.specs.Reasons.{WhoWaitsHasATimer};
 ghost use Rattle.whole_paths.specs.Timers.{TimersRunOut};
+ghost use Rattle.whole_paths.specs.Waits.{NoTimerIsPutOff};
 
 /// A law: by whatever turns, lawful or not, nothing that an end, a side or an actor has reached goes back, whatever is lost, late,
 /// repeated or altered.
@@ -43,6 +44,17 @@ pub fn timers_run_out()
 pub fn who_waits_has_a_timer()
     ensures octets { Always octets (λ start w. WhoWaitsHasATimer w) }
     ensures values { Always values (λ start w. WhoWaitsHasATimer w) }
+{}
+
+/// A law: while a record isn't acknowledged, nothing but news puts its timer off (RFC 6298, section 5, rules 5.1 to 5.3).
+///
+/// By any turn, the timer of an end with such a record runs still, to the same tick; or it was the path's next event that it runs out; or
+/// there is news: SND.UNA rose, a Data ACK acknowledges more, or the SYN, the DATA_FIN or the third MP_JOIN is answered; or the end is
+/// dead. Neither what the end sends nor what it hears again puts the timer off. That holds of a timer that was settled since the last
+/// news, as each is at the end of a turn.
+pub fn no_timer_is_put_off()
+    ensures octets { NoTimerIsPutOff octets }
+    ensures values { NoTimerIsPutOff values }
 {}
 
 /// A law: where a timer runs out, the first record that isn't acknowledged is sent again, and the timer runs anew (RFC 6298, section 5,

@@ -11,6 +11,6 @@ mod laws;
 
 pub use laws::{
     a_copy_leaves_by_arriving, each_segment_uses_a_line_or_comes, lossy_lanes_finish,
-    nothing_goes_back, timers_run_out, what_runs_out_goes_again, what_waits_is_kept,
-    who_waits_has_a_timer,
+    no_timer_is_put_off, nothing_goes_back, timers_run_out, what_runs_out_goes_again,
+    what_waits_is_kept, who_waits_has_a_timer,
 };
