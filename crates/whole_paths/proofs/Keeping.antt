@@ -271,13 +271,13 @@ stream_kept v w (stream.tells news) = pieces_stay v _ refl refl
 keeps_so : (e f : PathEnd) → SendKept e.tcp.send f.tcp.send → StreamKept e.sending f.sending → KeepsWhatWaits e f
 keeps_so e f subflow stream = record { una = subflow.una; records = subflow.records; heard = stream.heard; pieces = stream.pieces }
 
-same_keeps : (e : PathEnd) → KeepsWhatWaits e e
+pub same_keeps : (e : PathEnd) → KeepsWhatWaits e e
 same_keeps e = keeps_so e e (send_stays e.tcp.send) (pieces_stay e.sending e.sending refl refl)
 
-end_keeps : (now : ℕ) (e f : PathEnd) → EndStep now e f → KeepsWhatWaits e f
+pub end_keeps : (now : ℕ) (e f : PathEnd) → EndStep now e f → KeepsWhatWaits e f
 end_keeps now e f x = keeps_so e f (steps_kept now e.tcp f.tcp x.subflow) (stream_kept e.sending f.sending x.stream)
 
-keeps_then : (e f g : PathEnd) → KeepsWhatWaits e f → KeepsWhatWaits f g → KeepsWhatWaits e g
+pub keeps_then : (e f g : PathEnd) → KeepsWhatWaits e f → KeepsWhatWaits f g → KeepsWhatWaits e g
 keeps_then e f g x y =
     let subflow = send_then e.tcp.send f.tcp.send g.tcp.send (record { una = x.una; records = x.records }) (record { una = y.una; records = y.records }) in
     record {

@@ -99,19 +99,19 @@ IsReady e = is_gone e ≡ false → IsSettled e
 ready_seen : (e f : PathEnd) → end_view nothing f ≡ end_view nothing e → IsReady e → IsReady f
 ready_seen e f same ready living =
     let timing = same_Some f.tcp.timing e.tcp.timing (ap (λ (v : EndView). v.timing) same) in
-    let h = ready (ap is_dead (sym (same_Some f.tcp.state e.tcp.state (ap (λ (v : EndView). v.phase) same))) ∙ living) in
+    let h : IsSettled e = ready (ap is_dead (sym (same_Some f.tcp.state e.tcp.state (ap (λ (v : EndView). v.phase) same))) ∙ living) in
     record { subflow = ap (λ (t : Timing). t.news) timing ∙ h.subflow; stream = same_Some f.sending.news e.sending.news (ap (λ (v : EndView). v.news) same) ∙ h.stream }
 
 ready_still : (e f : PathEnd) → IsStill e f → IsReady e → IsReady f
 ready_still e f still ready living =
-    let h = ready (ap (λ (t : EndState). is_dead t.state) (sym still.tcp) ∙ living) in
+    let h : IsSettled e = ready (ap (λ (t : EndState). is_dead t.state) (sym still.tcp) ∙ living) in
     record { subflow = ap (λ (t : EndState). t.timing.news) still.tcp ∙ h.subflow; stream = ap (λ (v : Sending). v.news) still.sending ∙ h.stream }
 
 ready_settles : settling.IsSettled IsReady
 ready_settles = record {
   seen = ready_seen;
   still = ready_still;
-  gone = λ e gone living. absurd (true≢false (sym gone ∙ living));
+  gone = λ e dead living. absurd (true≢false (sym dead ∙ living));
   timer = λ now e living. record { subflow = refl; stream = refl };
 }
 
@@ -191,8 +191,8 @@ acked_timed next fin e f timing owes sending = by (is_news next fin e.sending) r
 data_ack_timed : (next : ℕ) (r : Reply) (e : PathEnd) (f : Sending → PathEnd) → ((v : Sending) → (f v).tcp.timing ≡ e.tcp.timing)
     → ((v : Sending) → (f v).modes.owes_third ≡ e.modes.owes_third) → ((v : Sending) → (f v).sending ≡ v) → Timed e (f (acked_in next r e.sending))
 data_ack_timed next r e f timing owes sending = acked_so (λ v. Timed e (f v)) next r e.sending
-    (λ fin. acked_timed next fin e (f (after_acked next fin e.sending)) (timing _) (owes _) (sending _))
-    (calmly e (f e.sending) (timing _) (ap (λ (v : Sending). v.news) (sending _)) (owes _))
+    (λ fin. acked_timed next fin e (f (after_acked next fin e.sending)) (timing (after_acked next fin e.sending)) (owes (after_acked next fin e.sending)) (sending (after_acked next fin e.sending)))
+    (calmly e (f e.sending) (timing e.sending) (ap (λ (v : Sending). v.news) (sending e.sending)) (owes e.sending))
 
 -- ---- a copy
 
@@ -280,7 +280,7 @@ module _ (c : Profile) (s : Side) (now : ℕ) (h : HeardSegment) (e : PathEnd) w
   other_copy : (m : Meaning) → is_accepted m ≡ false → Timed e (heard_as m)
   other_copy m other =
       let items : List Heard = items_of (is_joined c) s h in
-      arrived_timed e (heard_as m) refl (owes_same (is_joined c) items m h.options e.tcp.state e.modes other)
+      arrived_timed e (heard_as m) refl (owes_same (is_joined c) items m h.options (with_payload m h.payload e.tcp).state e.modes other)
       (owing_arrived (owes_by m items) e.tcp (after_arrival m (hint_of items) now (copy_of h) (with_payload m h.payload e.tcp))
       (held_arrived m m h.payload (hint_of items) now (copy_of h) e.tcp other))
 
@@ -340,10 +340,10 @@ syn_so c t m pos (inr same) is = (subst (λ n. MeansIs c t n) (sym same ∙ is) 
 -- ---- what a timer does, and what goes with it
 
 -- the end is as far as it was, and keeps what waits
-record Far (e f : PathEnd) : Type 0 where
-  subflow : IsSubflowAsFar e.tcp f.tcp
-  stream : IsStreamAsFar e.sending f.sending
-  kept : KeepsWhatWaits e f
+pub record Far (e f : PathEnd) : Type 0 where
+  pub subflow : IsSubflowAsFar e.tcp f.tcp
+  pub stream : IsStreamAsFar e.sending f.sending
+  pub kept : KeepsWhatWaits e f
 
 same_far : (e : PathEnd) → Far e e
 same_far e = record { subflow = subflow.stays e.tcp; stream = stream_stays e.sending; kept = same_keeps e }
@@ -358,7 +358,7 @@ far_then e f g x y = record {
 end_far : (now : ℕ) (e f : PathEnd) → EndStep now e f → Far e f
 end_far now e f x = record { subflow = steps_up now e.tcp f.tcp x.subflow; stream = stream_up e.sending f.sending x.stream; kept = end_keeps now e f x }
 
-path_far : {C : Type 0} (p q : PathState C) → PathStep p q → (s : Side) → Far (end_at s p) (end_at s q)
+pub path_far : {C : Type 0} (p q : PathState C) → PathStep p q → (s : Side) → Far (end_at s p) (end_at s q)
 path_far p q x A = end_far q.clock p.a q.a x.a
 path_far p q x B = end_far q.clock p.b q.b x.b
 
@@ -409,14 +409,14 @@ passes_by : (e f : PathEnd) → Passed e f → Far e f → Passes e f
 passes_by e f x far = record { far = far; third = x.third; goes = λ tick h. goes_so tick e f x.timed far h }
 
 -- the timer goes on where it is settled without news
-timer_stays : (closed on has none news restart : Bool) (o : Option ℕ) (now rto tick : ℕ) → closed ≡ false → has ≡ true → o ≡ Some tick → news ≡ false → restart ≡ false
-    → (if not closed && (on || has) then (if is_none o || (news || restart) then Some (now + rto) else o) else None) ≡ Some tick
-timer_stays closed true has none news restart o now rto tick living some is quiet still = rw (living, is, quiet, still) refl
-timer_stays closed false has none news restart o now rto tick living some is quiet still = rw (living, some, is, quiet, still) refl
+timer_stays : (closed asked has news restart : Bool) (o : Option ℕ) (now rto tick : ℕ) → closed ≡ false → has ≡ true → o ≡ Some tick → news ≡ false → restart ≡ false
+    → (if not closed && (asked || has) then (if is_none o || (news || restart) then Some (now + rto) else o) else None) ≡ Some tick
+timer_stays closed true has news restart o now rto tick living some is quiet still = rw (living, is, quiet, still) refl
+timer_stays closed false has news restart o now rto tick living some is quiet still = rw (living, some, is, quiet, still) refl
 
 timer_goes : (tick now : ℕ) (e : PathEnd) → Far e (after_timer now e) → RunsTo tick e → Goes tick e (after_timer now e)
 timer_goes tick now e far h = runs_on tick e (after_timer now e)
-    (timer_stays (is_closed_to_segments e.tcp.state) _ (is_some_record e.tcp.send.records) false e.tcp.timing.news e.sending.news e.tcp.timing.timer now e.tcp.timing.rtt.rto tick
+    (timer_stays (is_closed_to_segments e.tcp.state) _ (is_some_record e.tcp.send.records) e.tcp.timing.news e.sending.news e.tcp.timing.timer now e.tcp.timing.rtt.rto tick
     h.living (ap is_some_record h.records) h.timer h.settled.subflow h.settled.stream)
     (record { subflow = refl; stream = refl }) (λ is. is) far h
 
@@ -447,7 +447,7 @@ news_stays e f g far owes (third owed answered) = third owed (not_then g.modes.o
     not_then true is = absurd (true≢false (sym (owes is) ∙ answered))
     not_then false is = is
 
-gone_stays : (f g : PathEnd) → Far f g → is_gone f ≡ true → is_gone g ≡ true
+pub gone_stays : (f g : PathEnd) → Far f g → is_gone f ≡ true → is_gone g ≡ true
 gone_stays f g far dead = by g.tcp.state (let low = dead_stage f.tcp.state dead in let up = far.subflow.state in omega (arith, low, up))
   where
     dead_stage : (state : EndPhase) → is_dead state ≡ true → 7 ≤ stage state
@@ -456,17 +456,7 @@ gone_stays f g far dead = by g.tcp.state (let low = dead_stage f.tcp.state dead 
 
     by : (state : EndPhase) → 7 ≤ stage state → is_dead state ≡ true
     by phase.Dead low = refl
-    by phase.Waiting low = absurd (omega (arith, low))
-    by phase.Listen low = absurd (omega (arith, low))
-    by phase.SynSent low = absurd (omega (arith, low))
-    by phase.SynReceived low = absurd (omega (arith, low))
-    by phase.Established low = absurd (omega (arith, low))
-    by phase.FinWait1 low = absurd (omega (arith, low))
-    by phase.FinWait2 low = absurd (omega (arith, low))
-    by phase.CloseWait low = absurd (omega (arith, low))
-    by phase.Closing low = absurd (omega (arith, low))
-    by phase.LastAck low = absurd (omega (arith, low))
-    by phase.TimeWait low = absurd (omega (arith, low))
+    by _ low = absurd (omega (arith, low))
 
 goes_then : (tick : ℕ) (e f g : PathEnd) → Far e f → Goes tick e f → Passes f g → Goes tick e g
 goes_then tick e f g far (changes x) y = changes (news_stays e f g y.far y.third x)
