@@ -570,53 +570,57 @@ module _ {C : Type 0} where
       let x : Timed e (after_judged p.profile s p.clock h (judged_in joined s h e) e) = copy_timed p.profile s p.clock h e m (λ pos is. syn_so (copy_of h) e.tcp m pos taken is) in
       side s _ p (copy_heard s (Some heard) p) x refl refl
 
-  -- an end whose timer runs out, or what becomes of it
-  data TimedAt (s : Side) (p q : PathState C) : Type 0 where
-    at_end : Timed (end_at s p) (end_at s q) → TimedAt s p q
-    out : (at : ℕ) → next_event p ≡ Some (happenings.Fires s at) → TimedAt s p q
+  -- an end whose timer runs out by an event, or what becomes of it by the duty
+  data TimedAt (d : Duty) (s : Side) (p q : PathState C) : Type 0 where
+    at_end : Timed (end_at s p) (end_at s q) → TimedAt d s p q
+    out : (at : ℕ) → d ≡ duties.Step step_duties.Events → next_event p ≡ Some (happenings.Fires s at) → TimedAt d s p q
 
-  abbrev AllTimed : PathState C → PathState C → Type 0
-  AllTimed p q = (t : Side) → TimedAt t p q
+  abbrev AllTimed : Duty → PathState C → PathState C → Type 0
+  AllTimed d p q = (t : Side) → TimedAt d t p q
 
-  ends : (p q : PathState C) → BothTimed p q → AllTimed p q
-  ends p q x A = at_end x.a
-  ends p q x B = at_end x.b
+  ends : (d : Duty) (p q : PathState C) → BothTimed p q → AllTimed d p q
+  ends d p q x A = at_end x.a
+  ends d p q x B = at_end x.b
 
-  fires_timed : (k : Codec C) (s : Side) (tick : ℕ) (r : Reply) (p : PathState C) → next_event p ≡ Some (happenings.Fires s tick) → AllTimed p (happens_if k (Some (happenings.Fires s tick)) r p)
-  fires_timed k A tick r p next A = out tick next
+  -- an event
+  abbrev by_event : Duty
+  by_event = duties.Step step_duties.Events
+
+  fires_timed : (k : Codec C) (s : Side) (tick : ℕ) (r : Reply) (p : PathState C) → next_event p ≡ Some (happenings.Fires s tick) → AllTimed by_event p (happens_if k (Some (happenings.Fires s tick)) r p)
+  fires_timed k A tick r p next A = out tick refl next
   fires_timed k A tick r p next B = at_end (stays p.b)
   fires_timed k B tick r p next A = at_end (stays p.a)
-  fires_timed k B tick r p next B = out tick next
+  fires_timed k B tick r p next B = out tick refl next
 
-  event_timed : (k : Codec C) (o : Option Event) (r : Reply) (p : PathState C) → next_event p ≡ o → AllTimed p (happens_if k o r p)
-  event_timed k None r p next = ends p _ (both_rest p _ refl refl)
+  event_timed : (k : Codec C) (o : Option Event) (r : Reply) (p : PathState C) → next_event p ≡ o → AllTimed by_event p (happens_if k o r p)
+  event_timed k None r p next = ends by_event p _ (both_rest p _ refl refl)
   event_timed k (Some (happenings.Joins tick)) r p next =
-      let q : PathState C = record (at_tick tick p) { joined_at = None } in ends p _ (from_there p q _ refl refl (begun_timed r (leaves A) (emission A) q))
+      let q : PathState C = record (at_tick tick p) { joined_at = None } in ends by_event p _ (from_there p q _ refl refl (begun_timed r (leaves A) (emission A) q))
   event_timed k (Some (happenings.Takes line)) r p next =
-      let q : PathState C = record (at_tick line.tick p) { lines = tail_of p.lines } in ends p _ (from_there p q _ refl refl (line_timed line.action q))
+      let q : PathState C = record (at_tick line.tick p) { lines = tail_of p.lines } in ends by_event p _ (from_there p q _ refl refl (line_timed line.action q))
   event_timed k (Some (happenings.Arrives due)) r p next =
       let q : PathState C = record (at_tick due.tick p) { link = after_delivery due p.link } in
-      ends p _ (from_there p q _ refl refl (heard_timed due.to (heard_in k due.to (arriving due p.link) p) q))
+      ends by_event p _ (from_there p q _ refl refl (heard_timed due.to (heard_in k due.to (arriving due p.link) p) q))
   event_timed k (Some (happenings.Fires s tick)) r p next = fires_timed k s tick r p next
 
   -- ---- any duty
 
-  answered_timed : (k : Codec C) (d : Duty) (r : Reply) (p : PathState C) → AllTimed p (answered k d r p)
+  answered_timed : (k : Codec C) (d : Duty) (r : Reply) (p : PathState C) → AllTimed d p (answered k d r p)
   answered_timed k (duties.Step step_duties.Events) r p = event_timed k (next_event p) r p refl
-  answered_timed k (duties.Ask ask_duties.JoinAgain) r p = ends p _ (begun_timed r _ _ p)
-  answered_timed k (duties.Ask (ask_duties.LeaveNoted s)) r p = ends p _ (dying s _ p _ refl refl refl)
-  answered_timed k (duties.Ask (ask_duties.SubflowAck s)) r p = let e = end_at s p in ends p _ (side s _ p _ (plainly_timed (plain_next e) r e) refl refl)
-  answered_timed k (duties.Step (step_duties.Heard s index)) r p = ends p _ (things_timed k s (item_of index (end_at s p)) r p)
+  answered_timed k (duties.Ask ask_duties.JoinAgain) r p = ends _ p _ (begun_timed r _ _ p)
+  answered_timed k (duties.Ask (ask_duties.LeaveNoted s)) r p = ends _ p _ (dying s _ p _ refl refl refl)
+  answered_timed k (duties.Ask (ask_duties.SubflowAck s)) r p = let e = end_at s p in ends _ p _ (side s _ p _ (plainly_timed (plain_next e) r e) refl refl)
+  answered_timed k (duties.Step (step_duties.Heard s index)) r p = ends _ p _ (things_timed k s (item_of index (end_at s p)) r p)
   answered_timed k (duties.Step (step_duties.PlainAck s)) r p =
-      ends p _ (either (breaks_by_ack p.profile (end_at s p)) _ _ p (break_timed k s 6 r p) (side s _ p _ (calmly _ _ refl refl (fell_third falls.PlainAck r (end_at s p).modes)) refl refl))
-  answered_timed k (duties.Step (step_duties.Unmapped s)) r p = ends p _ (break_timed k s 6 r p)
-  answered_timed k (duties.Send (send_duties.Update s)) r p = ends p _ (side s _ p _ (calmly _ _ refl refl refl) refl refl)
-  answered_timed k (duties.Send (send_duties.BreakReset s reason)) r p = ends p _ (dying s _ p _ refl refl refl)
-  answered_timed k (duties.Send (send_duties.Reset s)) r p = ends p _ (dying s _ p _ refl refl refl)
-  answered_timed k (duties.Send (send_duties.ResetNoted s)) r p = ends p _ (dying s _ p _ refl refl refl)
-  answered_timed k (duties.Silent d) r p = ends p _ (both_rest p _ refl refl)
+      ends _ p _ (either (breaks_by_ack p.profile (end_at s p)) _ _ p (break_timed k s 6 r p) (side s _ p _ (calmly _ _ refl refl (fell_third falls.PlainAck r (end_at s p).modes)) refl refl))
+  answered_timed k (duties.Step (step_duties.Unmapped s)) r p = ends _ p _ (break_timed k s 6 r p)
+  answered_timed k (duties.Send (send_duties.Update s)) r p = ends _ p _ (side s _ p _ (calmly _ _ refl refl refl) refl refl)
+  answered_timed k (duties.Send (send_duties.BreakReset s reason)) r p = ends _ p _ (dying s _ p _ refl refl refl)
+  answered_timed k (duties.Send (send_duties.Reset s)) r p = ends _ p _ (dying s _ p _ refl refl refl)
+  answered_timed k (duties.Send (send_duties.ResetNoted s)) r p = ends _ p _ (dying s _ p _ refl refl refl)
+  answered_timed k (duties.Silent d) r p = ends _ p _ (both_rest p _ refl refl)
   answered_timed k d r p =
-      let q : PathState C = answered k d r p in ends p q (calm_ends p q (plain (side_of d) (writes d) p q refl refl refl refl (writes_no_more k d r p)))
+      let q : PathState C = answered k d r p in ends d p q (calm_ends p q (plain (side_of d) (writes d) p q refl refl refl refl (writes_no_more k d r p)))
 
   abbrev BothPass : PathState C → PathState C → Type 0
   BothPass p q = (s : Side) → Passes (end_at s p) (end_at s q)
@@ -678,9 +682,10 @@ module _ {C : Type 0} where
   waits_by s tick p q (changes x) = wait.news x
   waits_by s tick p q (leaves_it x) = wait.gone x
 
-  answer_waits : (s : Side) (tick : ℕ) (p q r : PathState C) → TimedAt s p q → Far (end_at s p) (end_at s q) → Passes (end_at s q) (end_at s r) → RunsTo tick (end_at s p) → WaitsOn s tick p r
-  answer_waits s tick p q r (out at next) far y h = wait.runs_out at next
-  answer_waits s tick p q r (at_end x) far y h =
+  answer_waits : (d : Duty) (ds : List Duty) (s : Side) (tick : ℕ) (p q r : PathState C) → p.agenda ≡ d ∷ ds → TimedAt d s p q → Far (end_at s p) (end_at s q) → Passes (end_at s q) (end_at s r)
+      → RunsTo tick (end_at s p) → WaitsOn s tick p r
+  answer_waits d ds s tick p q r first (out at is next) far y h = wait.runs_out at (record { next = next; others = ds; first = first ∙ ap (λ x. x ∷ ds) is })
+  answer_waits d ds s tick p q r first (at_end x) far y h =
       waits_by s tick p r (goes_then tick (end_at s p) (end_at s q) (end_at s r) far (goes_so tick (end_at s p) (end_at s q) x far h) y)
 
   takes_waits : (k : Codec C) (r : Reply) (p : PathState C) (s : Side) (tick : ℕ) → RunsTo tick (end_at s p) → WaitsOn s tick p (takes k r p)
@@ -691,7 +696,7 @@ module _ {C : Type 0} where
       by (d ∷ ds) h =
           let x : PathState C = record p { agenda = d ∷ ds } in
           let q : PathState C = answered k d r x in
-          answer_waits s tick x q (takes k r x) (answered_timed k d r x s) (path_far x q (answered_steps k d r x) s) (settled_lasts BothPass passes_last q.agenda q s) h
+          answer_waits d ds s tick x q (takes k r x) refl (answered_timed k d r x s) (path_far x q (answered_steps k d r x) s) (settled_lasts BothPass passes_last q.agenda q s) h
 
   next_waits : (p : PathState C) (s : Side) (tick : ℕ) → RunsTo tick (end_at s p) → WaitsOn s tick p (next_round p)
   next_waits p s tick h =

@@ -5,15 +5,14 @@ use Rattle.subflow_send.specs.Records.{Record}
 use Rattle.subflow_tcp.specs.States.{is_closed_to_segments, is_dead}
 use Rattle.path_core.specs.Codec.{Codec}
 use Rattle.path_core.specs.End.{PathEnd}
-use Rattle.path_core.specs.Events.{next_event}
 use Rattle.path_core.specs.State.{PathState, end_at}
-use Rattle.path_core.specs.declared.events.Event.TheVariants as happenings
 use Rattle.world_laws.specs.declared.member.Member.TheVariants.{App, Path}
 use Rattle.world_laws.specs.Actors.{Actor, ActorCrew}
 use Rattle.world_laws.specs.Laws.{Always}
 use Rattle.world_laws.specs.Members.{HoldsOfKind}
 use Rattle.world_laws.specs.Worlds.{WorldState, Turn, after_turn}
 use Rattle.whole_paths.specs.AsFar.{stage}
+use Rattle.whole_paths.specs.Expiries.{RunsOut}
 
 -- nothing was acknowledged since the end's timer was settled last
 pub record IsSettled (e : PathEnd) : Type 0 where
@@ -44,8 +43,8 @@ module _ {C : Type 0} where
   pub data WaitsOn (s : Side) (tick : ℕ) (p q : PathState C) : Type 0 where
     -- it runs still, to the same tick
     runs : RunsTo tick (end_at s q) → WaitsOn s tick p q
-    -- it was the path's next event that it runs out
-    runs_out : (at : ℕ) → next_event p ≡ Some (happenings.Fires s at) → WaitsOn s tick p q
+    -- it was what comes next on the path that it runs out
+    runs_out : (at : ℕ) → RunsOut s at p → WaitsOn s tick p q
     -- there is news, or the end is dead
     news : IsNews (end_at s p) (end_at s q) → WaitsOn s tick p q
     gone : is_dead (end_at s q).tcp.state ≡ true → WaitsOn s tick p q
