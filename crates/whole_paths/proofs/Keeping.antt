@@ -1,5 +1,5 @@
 -- What waits to be acknowledged is kept until it is.
-use Rattle.std.proofs.Common.{◌≡◌, refl, sym, subst, ap, ◌∙◌, ◌⊎◌, inl, inr, ⊎_elim, ℕ, ◌<◌, ◌≤◌, max, ◌&&◌, ◌==◌, nat_lt, nat_le, arith, Bool, true, false, if◌then◌else◌, List, [], ◌∷◌, ◌++◌, map, filter, le_refl}
+use Rattle.std.proofs.Common.{◌≡◌, refl, sym, subst, ap, ◌∙◌, ◌⊎◌, inl, inr, ⊎_elim, ℕ, ◌+◌, ◌<◌, ◌≤◌, max, ◌&&◌, ◌==◌, nat_lt, nat_le, arith, Bool, true, false, if◌then◌else◌, List, [], ◌∷◌, ◌++◌, map, filter, le_refl}
 use Rattle.std.specs.List.{slice_get}
 use Rattle.std.proofs.lemmas.Bool.{and_parts, ltb-true, ltb-false, leb-true}
 use Rattle.sides.specs.declared.side.Side.{Side}
@@ -134,24 +134,24 @@ send_then v w x first second =
     }
   where
     later : (r : Record) → v.una < w.una → end_of r ≤ w.una → IsPassed v.una x.una r
-    later r more end = let high = second.una in (omega (arith, more, high), omega (arith, end, high))
+    later r above end = let high = second.una in (omega (arith, above, high), omega (arith, end, high))
 
     earlier : (r t : Record) → IsSameRecord r t → w.una < x.una → end_of t ≤ x.una → IsPassed v.una x.una r
-    earlier r t same more end = let low = first.una in (omega (arith, low, more), same_span r t x.una same end)
+    earlier r t same above end = let low = first.una in (omega (arith, low, above), same_span r t x.una same end)
 
 uncovered_kept : (before pos : ℕ) → before < pos → (rs : List Record) → Kept before pos rs (uncovered pos rs)
-uncovered_kept before pos more [] = tt
-uncovered_kept before pos more (r ∷ rs) = by (nat_le (end_of r) pos) refl (uncovered_kept before pos more rs)
+uncovered_kept before pos above [] = tt
+uncovered_kept before pos above (r ∷ rs) = by (nat_le (end_of r) pos) refl (uncovered_kept before pos above rs)
   where
     by : (b : Bool) → nat_le (end_of r) pos ≡ b → Kept before pos rs (uncovered pos rs) → Kept before pos (r ∷ rs) (if b then uncovered pos rs else r ∷ rs)
-    by true is rest = front IsSameRecord same_record (IsPassed before pos) r rs (uncovered pos rs) (more, leb-true (end_of r) pos is) rest
+    by true is rest = front IsSameRecord same_record (IsPassed before pos) r rs (uncovered pos rs) (above, leb-true (end_of r) pos is) rest
     by false is rest = all_records before pos (r ∷ rs)
 
 acknowledged : (pos : ℕ) (v : SendState) → SendKept v (after_acknowledge pos v)
 acknowledged pos v = by (nat_lt v.una pos && nat_le pos v.nxt) refl
   where
     by : (b : Bool) → (nat_lt v.una pos && nat_le pos v.nxt) ≡ b → SendKept v (if b then record v { una = pos; records = uncovered pos v.records } else v)
-    by true is = let more = ltb-true v.una pos (and_parts (nat_lt v.una pos) (nat_le pos v.nxt) is).0 in record { una = omega (arith, more); records = uncovered_kept v.una pos more v.records }
+    by true is = let above = ltb-true v.una pos (and_parts (nat_lt v.una pos) (nat_le pos v.nxt) is).0 in record { una = omega (arith, above); records = uncovered_kept v.una pos above v.records }
     by false is = send_stays v
 
 first_kept : (now before una : ℕ) (rs : List Record) → Kept before una rs (first_sent now rs)
@@ -285,7 +285,7 @@ keeps_then e f g x y =
       records = subflow.records;
       heard = omega (arith, x.heard, y.heard);
       pieces = chain (λ (a b : GrantedPiece). b ≡ a) (λ a. refl) (λ (a : GrantedPiece). a.to ≤ f.sending.heard) (λ (a : GrantedPiece). a.to ≤ g.sending.heard) (λ (a : GrantedPiece). a.to ≤ g.sending.heard)
-          (λ a low. let more = y.heard in omega (arith, low, more)) (λ a b same low. subst (λ (z : GrantedPiece). z.to ≤ g.sending.heard) same low)
+          (λ a low. let high = y.heard in omega (arith, low, high)) (λ a b same low. subst (λ (z : GrantedPiece). z.to ≤ g.sending.heard) same low)
           (λ a b c first second. second ∙ first) e.sending.granted f.sending.granted g.sending.granted x.pieces y.pieces;
     }
 
