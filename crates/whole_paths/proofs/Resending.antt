@@ -41,6 +41,14 @@ resent_so : (c : Profile) (s : Side) (e : PathEnd) (rs : List Record) (r : Recor
 resent_so c s e rs r others is = subst (λ xs. IsSegmentOf r (if is_some_record xs then record_or_ack c s (slice_get xs 0) e else ack_resent c s e)) (sym is)
     (record { position = refl; syn = refl; fin = refl; rst = refl; payload = refl })
 
+-- the end of this side, as its timer ran out for the sixth time or not
+abbrev fired : Bool → ℕ → PathEnd → PathEnd
+fired sixth now e = record e { tcp = if sixth then after_death true e.tcp else after_expiry now e.tcp }
+
+-- a path whose turn is over has nothing to do
+busy : (ds : List Duty) (d : Duty) (others : List Duty) → is_nil ds ≡ true → ds ≡ d ∷ others → ⊥
+busy ds d others over is = true≢false (sym over ∙ ap is_nil is)
+
 module _ {C : Type 0} where
   -- ---- an expiry
 
@@ -56,10 +64,6 @@ module _ {C : Type 0} where
       by : (b : Bool) → Ready s x (if b then with_agenda (expired s) x else with_agenda (duties.Send (send_duties.Resend s) ∷ emission s) x)
       by true = record { next = inl refl; own = refl; clock = refl }
       by false = record { next = inr refl; own = refl; clock = refl }
-
-  -- the end of this side, as its timer ran out for the sixth time or not
-  abbrev fired : Bool → ℕ → PathEnd → PathEnd
-  fired sixth now e = record e { tcp = if sixth then after_death true e.tcp else after_expiry now e.tcp }
 
   abbrev fired_path : Side → Bool → PathState C → PathState C
   fired_path s sixth x = goes_on s (fired sixth x.clock (end_at s x)) (template_fired sixth s) x
@@ -114,10 +118,6 @@ module _ {C : Type 0} where
     gives_back = λ s is. inr (subst (λ ds. IsToSend s (takes k r (with_agenda ds p)) × (end_at s (takes k r (with_agenda ds p)) ≡ end_at s p)) (sym is) (refl, refl));
     sends = λ s is. inr (subst (λ ds. SendsAgain k s (with_agenda ds p) (takes k r (with_agenda ds p))) (sym is) (sends_so k r s p));
   }
-
-  -- a path whose turn is over has nothing to do
-  busy : (ds : List Duty) (d : Duty) (others : List Duty) → is_nil ds ≡ true → ds ≡ d ∷ others → ⊥
-  busy ds d others over is = true≢false (sym over ∙ ap is_nil is)
 
   next_again : (k : Codec C) (p q : PathState C) → is_nil p.agenda ≡ true → GoesAgain k p q
   next_again k p q over = record {

@@ -287,7 +287,7 @@ module _ (c : Profile) (s : Side) (now : ℕ) (h : HeardSegment) (e : PathEnd) w
   copy_timed : (m : Meaning) → ((pos : ℕ) → m ≡ means.Accepts pos → e.tcp.state ≡ phase.SynSent) → Timed e (heard_as m)
   copy_timed (means.Accepts pos) syn =
       let ready : EndState = record (after_hearing (after_payload 1 (hint_of (items_of (is_joined c) s h)) (copy_of h) e.tcp)) { state = phase.Established } in
-      let up = ack_up pos now ready in changed (opened (subst (λ x. stage x ≤ 2) (sym (syn pos refl)) (le_refl 2)) up.state)
+      let up = ack_up pos now ready in changed (opened (subst (λ x. stage x ≤ 1) (sym (syn pos refl)) (le_refl 1)) up.state)
   copy_timed m syn = other_copy m refl
 
 -- a thing that was heard, and passed in silence
@@ -368,13 +368,13 @@ data Goes (tick : ℕ) (e f : PathEnd) : Type 0 where
   leaves_it : is_gone f ≡ true → Goes tick e f
 
 -- an end that isn't closed to segments is closed to them only as it dies
-closed_gone : (state : EndPhase) → 2 ≤ stage state → is_closed_to_segments state ≡ true → is_dead state ≡ true
+closed_gone : (state : EndPhase) → 1 ≤ stage state → is_closed_to_segments state ≡ true → is_dead state ≡ true
 closed_gone phase.Waiting low closed = absurd (omega (arith, low))
 closed_gone phase.Listen low closed = absurd (omega (arith, low))
 closed_gone phase.Dead low closed = refl
 closed_gone _ low closed = absurd (true≢false (sym closed))
 
-living_stage : (state : EndPhase) → is_closed_to_segments state ≡ false → 2 ≤ stage state
+living_stage : (state : EndPhase) → is_closed_to_segments state ≡ false → 1 ≤ stage state
 living_stage phase.Waiting living = absurd (true≢false living)
 living_stage phase.Listen living = absurd (true≢false living)
 living_stage phase.Dead living = absurd (true≢false living)
@@ -474,6 +474,10 @@ passes_then e f g x y = record {
   third = λ is. x.third (y.third is);
   goes = λ tick h. goes_then tick e f g x.far (x.goes tick h) y;
 }
+
+-- an event
+abbrev by_event : Duty
+by_event = duties.Step step_duties.Events
 
 -- ---- a path
 
@@ -581,10 +585,6 @@ module _ {C : Type 0} where
   ends : (d : Duty) (p q : PathState C) → BothTimed p q → AllTimed d p q
   ends d p q x A = at_end x.a
   ends d p q x B = at_end x.b
-
-  -- an event
-  abbrev by_event : Duty
-  by_event = duties.Step step_duties.Events
 
   fires_timed : (k : Codec C) (s : Side) (tick : ℕ) (r : Reply) (p : PathState C) → next_event p ≡ Some (happenings.Fires s tick) → AllTimed by_event p (happens_if k (Some (happenings.Fires s tick)) r p)
   fires_timed k A tick r p next A = out tick refl next

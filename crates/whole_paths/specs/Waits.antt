@@ -35,7 +35,7 @@ pub data IsNews (e f : PathEnd) : Type 0 where
   on_stream : e.sending.heard < f.sending.heard → IsNews e f
   data_fin : e.sending.close.own_acked ≡ false → f.sending.close.own_acked ≡ true → IsNews e f
   -- the SYN is answered by a SYN/ACK, and the third MP_JOIN by a DSS
-  opened : stage e.tcp.state ≤ 2 → 3 ≤ stage f.tcp.state → IsNews e f
+  opened : stage e.tcp.state ≤ 1 → 3 ≤ stage f.tcp.state → IsNews e f
   third : e.modes.owes_third ≡ true → f.modes.owes_third ≡ false → IsNews e f
 
 module _ {C : Type 0} where
