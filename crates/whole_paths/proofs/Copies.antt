@@ -235,10 +235,10 @@ module _ {C : Type 0} where
       (delivered due f p.link.under_way h)
   goes_by k f p q (is_cut line next is) h = dies line next is
 
-  abbrev LinkStays : PathState C → PathState C → Type 0
+  abbrev pub LinkStays : PathState C → PathState C → Type 0
   LinkStays p q = q.link ≡ p.link
 
-  links_last : Lasts LinkStays
+  pub links_last : Lasts LinkStays
   links_last = record { agenda = λ ds p. refl; chains = λ p q r x y. y ∙ x; passes = λ d p. passed_link d p }
 
   goes_further : (f : Flight C) (p q r : PathState C) → r.link ≡ q.link → GoesOnItsWay f p q → GoesOnItsWay f p r
@@ -276,4 +276,4 @@ module _ {C : Type 0} where
 
   pub copies_leave : (k : Codec C) → CopiesLeaveByArriving k
   copies_leave k w turn actor c there = turn_each k (λ c d. CopiesGoOn c.member d.member) (λ c. member_stays c.member)
-      (λ ask books c. member_on k (answer_to books ask) c.member) (λ stamp c. member_next_on c.member) turn w actor c there
+      (λ ask books c. member_on k (answer_to books ask) c.member) (λ stamp c over. member_next_on c.member) turn w actor c there

@@ -30,7 +30,7 @@ use Rattle.path_core.specs.Steps.{takes, next_round}
 use Rattle.path_core.specs.declared.events.Event.{Event}
 use Rattle.path_core.specs.declared.events.Event.TheVariants as happenings
 use Rattle.world_laws.specs.declared.member.Member.TheVariants.{App, Path}
-use Rattle.world_laws.specs.Actors.{Actor, ActorCrew, member_asks, member_takes, member_next}
+use Rattle.world_laws.specs.Actors.{Actor, ActorCrew, member_asks, member_takes, member_next, is_over}
 use Rattle.world_laws.specs.StampedBooks.{answer_to}
 use Rattle.world_laws.specs.Worlds.{WorldState, Turn, note_of, crew_after, asked, stepped, all_over, greatest, begins, after_turn, world_run}
 use Rattle.world_laws.specs.Writes.{Writes, OnlyAt, PathView, writes, side_of}
@@ -226,8 +226,8 @@ module _ {C : Type 0} where
   crew_asked : (k : Codec C) (ask : Ask) (books : StampedBooks) (c : ActorCrew C) → IsCrewAsFar c (crew_after k ask books c)
   crew_asked k ask books c = record { member = actor_up k (answer_to books ask) c.member; more = note_of books c.pass ask ∷ []; list_is = refl }
 
-  crew_begins : (stamp : ℕ) (c : ActorCrew C) → IsCrewAsFar c (begins stamp c)
-  crew_begins stamp c = record { member = actor_next c.member; more = []; list_is = sym (append-nil c.list) }
+  crew_begins : (stamp : ℕ) (c : ActorCrew C) → is_over c.member ≡ true → IsCrewAsFar c (begins stamp c)
+  crew_begins stamp c over = record { member = actor_next c.member; more = []; list_is = sym (append-nil c.list) }
 
   stepped_sides : (k : Codec C) (actor : ℕ) (w : WorldState C) (o : Option (ActorCrew C)) (s : Side) → IsSideAsFar s (books_in w.books) (books_in (stepped k actor o w).books)
   stepped_sides k actor w None s = side_stays s (books_in w.books)

@@ -3,9 +3,14 @@ pub mod Books
 pub mod Copies
 pub mod Duties
 pub mod GoesOn
+pub mod Keeping
+pub mod Lanes
 pub mod Links
 pub mod Reasons
+pub mod Resending
+pub mod Rounds
 pub mod Settling
 pub mod Subflows
 pub mod Timing
 pub mod Turns
+pub mod Waiting

@@ -117,7 +117,7 @@ payload_up : (pos : ℕ) (hint : Hint) (c : Copy) (s : EndState) → IsSubflowAs
 payload_up pos hint c s =
     untouched s (after_payload pos hint c s) refl refl (edge_stays (is_kept hint.keep s) (after_accept pos c.payload s.recv) s.recv s.recv.edge refl refl) refl
 
-ack_up : (pos now : ℕ) (s : EndState) → IsSubflowAsFar s (after_acknowledgement pos now s)
+pub ack_up : (pos now : ℕ) (s : EndState) → IsSubflowAsFar s (after_acknowledgement pos now s)
 ack_up pos now s =
     let up = acknowledge_up pos s.send in
     goes_on s acked (after_acknowledgement pos now s) (record { acknowledged = up.0; pushed = up.1; received = le_refl s.recv.edge; state = le_refl (stage s.state) })

@@ -7,14 +7,15 @@ use Rattle.std.specs.List.{slice_get}
 use Rattle.stream_lanes.proofs.Lists.{set_same, set_other}
 use Rattle.actor_desk.specs.declared.ask.Ask.{Ask}
 use Rattle.path_core.specs.Codec.{Codec}
-use Rattle.world_laws.specs.Actors.{ActorCrew, member_asks}
+use Rattle.world_laws.specs.Actors.{ActorCrew, member_asks, is_over}
 use Rattle.actor_desk.specs.Books.{StampedBooks}
-use Rattle.world_laws.specs.Worlds.{WorldState, Turn, crew_after, asked, stepped, all_over, greatest, begins, after_turn}
+use Rattle.world_laws.proofs.Rounds.Lifting.{all_over_each}
+use Rattle.world_laws.specs.Worlds.{WorldState, Turn, crew_after, asked, stepped, all_over, greatest, begins, after_turn, world_run}
 
 module _ {C : Type 0} (k : Codec C) (R : ActorCrew C → ActorCrew C → Type 0)
     (stays : (c : ActorCrew C) → R c c)
     (steps : (ask : Ask) (books : StampedBooks) (c : ActorCrew C) → R c (crew_after k ask books c))
-    (begun : (stamp : ℕ) (c : ActorCrew C) → R c (begins stamp c)) where
+    (begun : (stamp : ℕ) (c : ActorCrew C) → is_over c.member ≡ true → R c (begins stamp c)) where
   abbrev pub Each : WorldState C → WorldState C → Type 0
   Each w v = (actor : ℕ) (c : ActorCrew C) → slice_get w.crew actor ≡ Some c → (d : ActorCrew C) × (slice_get v.crew actor ≡ Some d) × R c d
 
@@ -42,10 +43,18 @@ module _ {C : Type 0} (k : Codec C) (R : ActorCrew C → ActorCrew C → Type 0)
   begun_at stamp (d ∷ crew) zero c at = ap (λ x. Some (begins stamp x)) (same_Some d c at)
   begun_at stamp (d ∷ crew) (suc i) c at = begun_at stamp crew i c at
 
-  round_each : (w : WorldState C) (b : Bool) → Each w (if b then record w { crew = map (begins (greatest 0 w.crew)) w.crew } else w)
-  round_each w false = λ i e at. (e, at, stays e)
-  round_each w true = λ i e at. (begins (greatest 0 w.crew) e, begun_at (greatest 0 w.crew) w.crew i e at, begun (greatest 0 w.crew) e)
+  round_each : (w : WorldState C) (b : Bool) → all_over w.crew ≡ b → Each w (if b then record w { crew = map (begins (greatest 0 w.crew)) w.crew } else w)
+  round_each w false is = λ i e at. (e, at, stays e)
+  round_each w true is = λ i e at. (begins (greatest 0 w.crew) e, begun_at (greatest 0 w.crew) w.crew i e at, begun (greatest 0 w.crew) e (all_over_each w.crew i e is at))
 
   pub turn_each : (turn : Turn) (w : WorldState C) → Each w (after_turn k turn w)
   turn_each (Turn.Step actor) w = stepped_each actor w (slice_get w.crew actor) refl
-  turn_each Turn.Round w = round_each w (all_over w.crew)
+  turn_each Turn.Round w = round_each w (all_over w.crew) refl
+
+  -- and by many turns, where it goes on from one to the next
+  pub turns_each : ((c d e : ActorCrew C) → R c d → R d e → R c e) → (turns : List Turn) (w : WorldState C) → Each w (world_run k turns w)
+  turns_each chains [] w = λ i c at. (c, at, stays c)
+  turns_each chains (turn ∷ turns) w = λ i c at.
+      let first = turn_each turn w i c at in
+      let second = turns_each chains turns (after_turn k turn w) i first.0 first.1 in
+      (second.0, second.1, chains c first.0 second.0 first.2 second.2)

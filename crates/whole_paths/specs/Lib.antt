@@ -2,6 +2,12 @@ pub mod AgendaSteps
 pub mod AsFar
 pub mod Copies
 pub mod EndSteps
+pub mod Expiries
+pub mod Finish
 pub mod Harms
+pub mod Kept
+pub mod Lanes
 pub mod Reasons
+pub mod Rounds
 pub mod Timers
+pub mod Waits

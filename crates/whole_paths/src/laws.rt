@@ -5,9 +5,13 @@ ghost use Rattle.std.specs.Prelude.{ℕ, List};
 ghost use Rattle.world_laws.specs.Laws.{Always};
 ghost use Rattle.whole_paths.specs.AsFar.{NothingGoesBack};
 ghost use Rattle.whole_paths.specs.Copies.{CopiesLeaveByArriving};
+ghost use Rattle.whole_paths.specs.Expiries.{WhatRunsOutGoesAgain};
 ghost use Rattle.whole_paths.specs.Harms.{EachUsesALineOrComes};
+ghost use Rattle.whole_paths.specs.Kept.{WhatWaitsIsKept};
+ghost use Rattle.whole_paths.specs.Lanes.Laws.{LossyLanesEnd, LossyLanesFinish};
 ghost use Rattle.whole_paths.specs.Reasons.{WhoWaitsHasATimer};
 ghost use Rattle.whole_paths.specs.Timers.{TimersRunOut};
+ghost use Rattle.whole_paths.specs.Waits.{NoTimerIsPutOff};
 
 /// A law: by whatever turns, lawful or not, nothing that an end, a side or an actor has reached goes back, whatever is lost, late,
 /// repeated or altered.
@@ -42,6 +46,39 @@ pub fn who_waits_has_a_timer()
     ensures values { Always values (λ start w. WhoWaitsHasATimer w) }
 {}
 
+/// A law: while a record isn't acknowledged, nothing but news puts its timer off (RFC 6298, section 5, rules 5.1 to 5.3).
+///
+/// By any turn, the timer of an end with such a record runs still, to the same tick; or it was the path's next event that it runs out; or
+/// there is news: SND.UNA rose, a Data ACK acknowledges more, or the SYN, the DATA_FIN or the third MP_JOIN is answered; or the end is
+/// dead. Neither what the end sends nor what it hears again puts the timer off. That holds of a timer that was settled since the last
+/// news, as each is at the end of a turn.
+pub fn no_timer_is_put_off()
+    ensures octets { NoTimerIsPutOff octets }
+    ensures values { NoTimerIsPutOff values }
+{}
+
+/// A law: where a timer runs out, the first record that isn't acknowledged is sent again, and the timer runs anew (RFC 6298, section 5,
+/// rules 5.4 to 5.6).
+///
+/// It runs twice as long as before, and for a minute at most. The end sends the record before anything else, once the bytes that its path
+/// was granted are given back, and the link takes the segment as it takes any: with the record's position, flags and octets. The sixth
+/// expiry without an acceptable segment in between ends the end. Where no record is left, an acknowledgement goes in its place.
+pub fn what_runs_out_goes_again()
+    ensures octets { WhatRunsOutGoesAgain octets }
+    ensures values { WhatRunsOutGoesAgain values }
+{}
+
+/// A law: by whatever turns, an end keeps what isn't acknowledged yet, so that it can be sent again.
+///
+/// Each record of its subflow (the SYN, a piece with its mapping, the FIN) stays, at its position and in its order, until SND.UNA reaches
+/// its end (RFC 9293, section 3.4), and each piece that was granted to it until the Data ACKs that it heard acknowledge all of the piece
+/// (RFC 8684, section 3.3.2). No expiry, no bytes that are given back and no segment that comes take any of them away. At a dead end
+/// SND.UNA is SND.NXT.
+pub fn what_waits_is_kept()
+    ensures octets { WhatWaitsIsKept octets }
+    ensures values { WhatWaitsIsKept values }
+{}
+
 /// A law: a segment that is sent uses a line by which one is lost or late, or a copy of it comes a delay later.
 pub fn each_segment_uses_a_line_or_comes()
     ensures { EachUsesALineOrComes (List ℕ) }
@@ -52,4 +89,11 @@ pub fn each_segment_uses_a_line_or_comes()
 pub fn a_copy_leaves_by_arriving()
     ensures octets { CopiesLeaveByArriving octets }
     ensures values { CopiesLeaveByArriving values }
+{}
+
+/// A law: on a lane that loses segments all is acknowledged, or the end gave up, after five rounds or so for each segment and two
+/// greatest timeouts for each line (`end`); with four lines at most no end gives up (`finish`).
+pub fn lossy_lanes_finish()
+    ensures end { LossyLanesEnd }
+    ensures finish { LossyLanesFinish }
 {}

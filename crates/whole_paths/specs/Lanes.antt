@@ -1,0 +1,4 @@
+pub mod Going
+pub mod Lane
+pub mod Laws
+pub mod Moves
