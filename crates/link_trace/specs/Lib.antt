@@ -20,3 +20,4 @@ pub mod Strokes
 pub mod Pictures
 pub mod Tables
 pub mod Ticks
+pub mod Told

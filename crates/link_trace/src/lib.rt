@@ -29,6 +29,7 @@ mod strokes;
 mod table;
 mod text;
 mod ticks;
+mod told;
 
 pub use carried::{Base, Carried, PathInitials, all_carried};
 pub use drawing::picture;
@@ -43,3 +44,4 @@ pub use strokes::{Dot, Stroke, dots_of, strokes_of};
 pub use table::summary;
 pub use text::{InitialData, lines};
 pub use ticks::put_by_tick;
+pub use told::all_told;

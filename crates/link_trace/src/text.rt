@@ -76,14 +76,14 @@ fn initials_of(initials: Option<InitialData>, trace: &[Sent], sent: &Sent) -> In
     }
 }
 
-fn put_place(text: &mut String, sent: &Sent) -> Result<(), AllocError>
+pub(crate) fn put_place(text: &mut String, sent: &Sent) -> Result<(), AllocError>
     ensures { OnOk result (string_bytes text.new ≡ string_bytes text.old ++ place_words sent.now) }
 {
     let (tick, path, way) = (sent.tick, sent.path, way_word(sent.from));
     write!(text, "{tick} path {path} {way}: ")
 }
 
-fn put_note(text: &mut String, fate: &SegmentFate) -> Result<(), AllocError>
+pub(crate) fn put_note(text: &mut String, fate: &SegmentFate) -> Result<(), AllocError>
     ensures { OnOk result (string_bytes text.new ≡ string_bytes text.old ++ note_words fate.now) }
 {
     if is_plain(fate) {
@@ -94,7 +94,7 @@ fn put_note(text: &mut String, fate: &SegmentFate) -> Result<(), AllocError>
     write!(text, ")")
 }
 
-fn put_words(
+pub(crate) fn put_words(
     alloc: Global,
     text: &mut String,
     checksums: bool,
