@@ -1,0 +1,3 @@
+pub mod Last
+pub mod Growing
+pub mod Steps
