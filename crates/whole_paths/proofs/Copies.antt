@@ -10,7 +10,7 @@ use Rattle.link_model.specs.declared.flight.Flight.{Flight}
 use Rattle.link_model.specs.declared.flight.Due.{Due}
 use Rattle.link_model.specs.State.{LinkState}
 use Rattle.link_model.specs.Fate.{fate_of}
-use Rattle.link_model.specs.Steps.{next_number, arrivals, with_flights, is_due, due_of, without, after_delivery, after_send, arriving}
+use Rattle.link_model.specs.Steps.{next_number, arrivals, with_flights, is_due, due_of, without, after_delivery, after_send, after_cut, arriving}
 use Rattle.stream_lanes.specs.Words.{Has}
 use Rattle.path_segments.specs.Heard.{HeardSegment}
 use Rattle.subflow_send.specs.Records.{Record}
@@ -135,26 +135,26 @@ module _ {C : Type 0} where
 
   -- ---- what each duty makes of it
 
-  -- nothing; it takes a segment; it delivers the next copy; or it is cut
+  -- nothing; it takes a segment, at the same tick; it delivers the next copy; or it is cut
   pub data LinkStep (k : Codec C) (p q : PathState C) : Type 0 where
     stays : q.link ≡ p.link → LinkStep k p q
-    hands : (s : Side) (carried : C) → q.link ≡ after_send (k.strips p.profile.spelling) (k.alters p.profile.spelling) s carried p.clock p.link → LinkStep k p q
+    hands : (s : Side) (carried : C) → q.clock ≡ p.clock → q.link ≡ after_send (k.strips p.profile.spelling) (k.alters p.profile.spelling) s carried p.clock p.link → LinkStep k p q
     delivers : (due : Due) → next_event p ≡ Some (happenings.Arrives due) → q.link ≡ after_delivery due p.link → LinkStep k p q
-    is_cut : (line : LineLeft) → next_event p ≡ Some (happenings.Takes line) → line.action ≡ actions.Die → LinkStep k p q
+    is_cut : (line : LineLeft) → next_event p ≡ Some (happenings.Takes line) → line.action ≡ actions.Die → q.link ≡ after_cut p.link → LinkStep k p q
 
   send_step : (k : Codec C) (d : SendDuty) (p : PathState C) → LinkStep k p (sent_for k d p)
-  send_step k (send_duties.Update s) p = hands s _ refl
-  send_step k d p = hands (side_of (duties.Send d)) _ refl
+  send_step k (send_duties.Update s) p = hands s _ refl refl
+  send_step k d p = hands (side_of (duties.Send d)) _ refl refl
 
   break_step : (k : Codec C) (s : Side) (reason : ℕ) (r : Reply) (p : PathState C) → LinkStep k p (answered_break k s reason r p)
   break_step k s reason r p = by (end_at s p).treated.asked
     where
       by : (b : Bool) → LinkStep k p (if b then answered_ack_out s r (resets s reason) p else reset_on k s (Some reason) (leaves s) p)
       by true = stays refl
-      by false = hands s _ refl
+      by false = hands s _ refl refl
 
   data_step : (k : Codec C) (s : Side) (o : Option Record) (r : Reply) (p : PathState C) → LinkStep k p (answered_data k s o r p)
-  data_step k s (Some unsent) r p = hands s _ refl
+  data_step k s (Some unsent) r p = hands s _ refl refl
   data_step k s None r p = by (grant_in r)
     where
       by : (o : Option Grant) → LinkStep k p (answered_grant s o r p)
@@ -176,7 +176,7 @@ module _ {C : Type 0} where
   line_step k line p next = by line.action refl
     where
       by : (action : LineAction) → line.action ≡ action → LinkStep k p (after_line action (record (at_tick line.tick p) { lines = tail_of p.lines }))
-      by actions.Die is = is_cut line next is
+      by actions.Die is = is_cut line next is refl
       by (actions.Prio s backup) is = stays refl
       by (actions.Announce s id) is = stays refl
       by (actions.Withdraw s id) is = stays refl
@@ -214,7 +214,7 @@ module _ {C : Type 0} where
   link_step k (duties.Step (step_duties.Unmapped s)) r p = break_step k s 6 r p
   link_step k d r p = unlinked k d r p refl
 
-  passed_link : (d : Duty) (p : PathState C) → (passed d p).link ≡ p.link
+  pub passed_link : (d : Duty) (p : PathState C) → (passed d p).link ≡ p.link
   passed_link (duties.Ask (ask_duties.CheckFailed s)) p = refl
   passed_link (duties.Step (step_duties.Heard s index)) p = refl
   passed_link (duties.Step (step_duties.PlainAck s)) p = refl
@@ -228,12 +228,12 @@ module _ {C : Type 0} where
 
   goes_by : (k : Codec C) (f : Flight C) (p q : PathState C) → LinkStep k p q → IsUnderWay f p → GoesOnItsWay f p q
   goes_by k f p q (stays is) h = on (subst (λ (l : LinkState C). Has (λ g. g ≡ f) l.under_way) (sym is) h)
-  goes_by k f p q (hands s carried is) h = on (subst (λ (l : LinkState C). Has (λ g. g ≡ f) l.under_way) (sym is) (sent_there (λ g. g ≡ f) (k.strips p.profile.spelling) (k.alters p.profile.spelling) s carried p.clock p.link h))
+  goes_by k f p q (hands s carried still is) h = on (subst (λ (l : LinkState C). Has (λ g. g ≡ f) l.under_way) (sym is) (sent_there (λ g. g ≡ f) (k.strips p.profile.spelling) (k.alters p.profile.spelling) s carried p.clock p.link h))
   goes_by k f p q (delivers due next is) h = ⊎_elim
       (λ there. on (subst (λ (l : LinkState C). Has (λ g. g ≡ f) l.under_way) (sym is) there))
       (λ arrived. arrives (next ∙ ap (λ x. Some (happenings.Arrives x)) (due_is due f arrived)))
       (delivered due f p.link.under_way h)
-  goes_by k f p q (is_cut line next is) h = dies line next is
+  goes_by k f p q (is_cut line next is cut) h = dies line next is
 
   abbrev pub LinkStays : PathState C → PathState C → Type 0
   LinkStays p q = q.link ≡ p.link

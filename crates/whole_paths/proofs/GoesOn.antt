@@ -16,7 +16,6 @@ use Rattle.path_agenda.specs.declared.duty.Duty.TheVariants as duties
 use Rattle.path_agenda.specs.declared.duty.SendDuty.TheVariants as send_duties
 use Rattle.path_agenda.specs.declared.duty.SilentDuty.TheVariants as silent_duties
 use Rattle.path_agenda.specs.declared.duty.StepDuty.TheVariants as step_duties
-use Rattle.path_store.specs.declared.lines.LineAction.{LineAction}
 use Rattle.path_store.specs.declared.lines.LineAction.TheVariants as actions
 use Rattle.path_store.specs.declared.lines.LineLeft.{LineLeft}
 use Rattle.path_core.specs.Arrival.{copy_heard, heard_in}

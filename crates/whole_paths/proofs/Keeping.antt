@@ -1,11 +1,8 @@
 -- What waits to be acknowledged is kept until it is.
-use Rattle.std.proofs.Common.{◌≡◌, refl, sym, subst, ap, ◌∙◌, ◌⊎◌, inl, inr, ⊎_elim, ℕ, ◌+◌, ◌<◌, ◌≤◌, max, ◌&&◌, ◌==◌, nat_lt, nat_le, arith, Bool, true, false, if◌then◌else◌, List, [], ◌∷◌, ◌++◌, map, filter, le_refl}
-use Rattle.std.specs.List.{slice_get}
+use Rattle.std.proofs.Common.{◌≡◌, refl, sym, subst, ◌∙◌, inl, inr, ⊎_elim, ℕ, ◌+◌, ◌<◌, ◌≤◌, max, ◌&&◌, ◌==◌, nat_lt, nat_le, arith, Bool, true, false, if◌then◌else◌, List, [], ◌∷◌, ◌++◌, map, filter, le_refl}
 use Rattle.std.proofs.lemmas.Bool.{and_parts, ltb-true, ltb-false, leb-true}
 use Rattle.sides.specs.declared.side.Side.{Side}
 use Rattle.sides.specs.declared.side.Side.TheVariants.{A, B}
-use Rattle.seq_units.specs.declared.mapping.Mapping.{Mapping}
-use Rattle.subflow_send.specs.declared.record.AckKind.{AckKind}
 use Rattle.subflow_send.specs.declared.record.AckKind.TheVariants.{New, Duplicate, Old, Future}
 use Rattle.subflow_send.specs.Records.{Record, SendState, end_of}
 use Rattle.subflow_send.specs.Sendings.{sent_again}
@@ -30,9 +27,8 @@ use Rattle.path_core.specs.Duties.{passed, answered}
 use Rattle.path_core.specs.End.{PathEnd}
 use Rattle.path_core.specs.Sending.{Sending}
 use Rattle.path_core.specs.State.{PathState, end_at, with_agenda}
-use Rattle.path_core.specs.Steps.{takes, next_round}
 use Rattle.world_laws.specs.declared.member.Member.TheVariants.{App, Path}
-use Rattle.world_laws.specs.Actors.{Actor, ActorCrew, member_takes, member_next}
+use Rattle.world_laws.specs.Actors.{Actor, member_takes, member_next}
 use Rattle.world_laws.specs.StampedBooks.{answer_to}
 use Rattle.world_laws.proofs.Writes.Steps.{Lasts, takes_lasts, begins_lasts}
 use Rattle.whole_paths.specs.EndSteps.{SubflowStep, SubflowSteps, StreamStep, EndStep, PathStep}

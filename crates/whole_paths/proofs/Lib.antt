@@ -2,10 +2,13 @@ pub mod Agendas
 pub mod Books
 pub mod Copies
 pub mod Duties
+pub mod Flying
 pub mod GoesOn
+pub mod InTime
 pub mod Keeping
 pub mod Lanes
 pub mod Links
+pub mod Owing
 pub mod Reasons
 pub mod Resending
 pub mod Rounds

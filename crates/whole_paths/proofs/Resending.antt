@@ -1,5 +1,5 @@
 -- An expiry sends the first record again.
-use Rattle.std.proofs.Common.{◌≡◌, refl, sym, subst, ap, ◌∙◌, inl, inr, ℕ, ◌+◌, ◌*◌, ◌<◌, ◌≤◌, min, nat_le, arith, Bool, true, false, true≢false, if◌then◌else◌, Some, List, [], ◌∷◌}
+use Rattle.std.proofs.Common.{◌≡◌, refl, sym, subst, ap, ◌∙◌, inl, inr, ℕ, ◌+◌, ◌*◌, min, nat_le, arith, Bool, true, false, true≢false, if◌then◌else◌, Some, List, ◌∷◌}
 use Rattle.std.specs.List.{slice_get}
 use Rattle.std.proofs.lemmas.Bool.{leb-true, le-leb}
 use Rattle.sides.specs.declared.side.Side.{Side}
@@ -30,7 +30,7 @@ use Rattle.world_laws.specs.declared.member.Member.TheVariants.{App, Path}
 use Rattle.world_laws.specs.Actors.{Actor, member_takes, member_next, is_over}
 use Rattle.world_laws.specs.StampedBooks.{answer_to}
 use Rattle.world_laws.proofs.Writes.Steps.{settled_lasts}
-use Rattle.whole_paths.specs.Expiries.{IsSegmentOf, RunsOut, IsToSend, IsToSendAgain, IsTimedAgain, Expires, SendsAgain, GoesAgain, PathsGoAgain, WhatRunsOutGoesAgain}
+use Rattle.whole_paths.specs.Expiries.{IsSegmentOf, IsToSend, IsToSendAgain, Expires, SendsAgain, GoesAgain, PathsGoAgain, WhatRunsOutGoesAgain}
 use Rattle.whole_paths.proofs.Agendas.{own_end, gone_end}
 use Rattle.whole_paths.proofs.Copies.{LinkStays, links_last}
 use Rattle.whole_paths.proofs.Turns.{turn_each}

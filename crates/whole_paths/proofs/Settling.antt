@@ -306,7 +306,7 @@ other_follows t gone d ds next follows own idle kept = by next follows
 -- ---- a path
 
 -- it is this side, or the other one
-sides : (s t : Side) → (t ≡ s) ⊎ (peer t ≡ s)
+pub sides : (s t : Side) → (t ≡ s) ⊎ (peer t ≡ s)
 sides A A = inl refl
 sides A B = inr refl
 sides B A = inr refl

@@ -26,7 +26,6 @@ use Rattle.actor_desk.specs.declared.ask.Reply.{Reply}
 use Rattle.actor_desk.specs.Words.{tail_of}
 use Rattle.path_agenda.specs.Agenda.{leaves, emission}
 use Rattle.path_agenda.specs.declared.duty.Duty.{Duty}
-use Rattle.path_store.specs.declared.lines.LineAction.{LineAction}
 use Rattle.path_store.specs.declared.lines.LineAction.TheVariants as actions
 use Rattle.path_agenda.specs.declared.duty.Duty.TheVariants as duties
 use Rattle.path_agenda.specs.declared.duty.SendDuty.TheVariants as send_duties
@@ -155,7 +154,7 @@ in_time until (Some x) event is = (elim (nat_lt (tick_of x) until) as (λ b. nat
 
 module _ {C : Type 0} where
   -- an event moves the clock to its tick
-  happens_clock : (k : Codec C) (event : Event) (r : Reply) (p : PathState C) → (happens_if k (Some event) r p).clock ≡ max p.clock (tick_of event)
+  pub happens_clock : (k : Codec C) (event : Event) (r : Reply) (p : PathState C) → (happens_if k (Some event) r p).clock ≡ max p.clock (tick_of event)
   happens_clock k (happenings.Joins tick) r p =
       elim (is_never r) as (λ b. (if b then goes_on A (never_joined r (end_at A q)) (leaves A) q else goes_on A (opened_by (keys_begun r) (end_at A q)) (emission A) q).clock ≡ max p.clock tick)
       [ true ↦ refl | false ↦ refl ]

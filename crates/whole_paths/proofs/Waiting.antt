@@ -59,7 +59,7 @@ use Rattle.path_core.specs.MpCapable.{keys_in}
 use Rattle.path_core.specs.MpJoin.{join_begun, is_joined, is_never, never_joined, keys_begun, opened_by, with_keys}
 use Rattle.path_core.specs.Profile.{Profile}
 use Rattle.path_core.specs.Sending.{Sending}
-use Rattle.path_core.specs.State.{PathState, at_tick, end_at, goes_on, with_agenda, with_end}
+use Rattle.path_core.specs.State.{PathState, at_tick, end_at, goes_on, with_end}
 use Rattle.path_core.specs.Steps.{takes, next_round}
 use Rattle.path_core.specs.Timer.{after_timer}
 use Rattle.path_core.specs.Treating.{item_passed, answered_heard, answered_item, item_of}

@@ -1,10 +1,13 @@
 pub mod AgendaSteps
+pub mod Answered
 pub mod AsFar
 pub mod Copies
 pub mod EndSteps
 pub mod Expiries
 pub mod Finish
+pub mod Flights
 pub mod Harms
+pub mod InTime
 pub mod Kept
 pub mod Lanes
 pub mod Reasons

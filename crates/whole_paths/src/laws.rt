@@ -3,10 +3,13 @@ ghost use Rattle.path_core.specs.Octets.{octets};
 ghost use Rattle.path_core.specs.Values.{values};
 ghost use Rattle.std.specs.Prelude.{ℕ, List};
 ghost use Rattle.world_laws.specs.Laws.{Always};
+ghost use Rattle.whole_paths.specs.Answered.{CopiesAreAnswered};
 ghost use Rattle.whole_paths.specs.AsFar.{NothingGoesBack};
 ghost use Rattle.whole_paths.specs.Copies.{CopiesLeaveByArriving};
 ghost use Rattle.whole_paths.specs.Expiries.{WhatRunsOutGoesAgain};
+ghost use Rattle.whole_paths.specs.Flights.{WhatWaitsComes};
 ghost use Rattle.whole_paths.specs.Harms.{EachUsesALineOrComes};
+ghost use Rattle.whole_paths.specs.InTime.{NothingIsOverdue};
 ghost use Rattle.whole_paths.specs.Kept.{WhatWaitsIsKept};
 ghost use Rattle.whole_paths.specs.Lanes.Laws.{LossyLanesEnd, LossyLanesFinish};
 ghost use Rattle.whole_paths.specs.Reasons.{WhoWaitsHasATimer};
@@ -33,6 +36,16 @@ pub fn nothing_goes_back()
 pub fn timers_run_out()
     ensures octets { Always octets (λ start w. TimersRunOut w) }
     ensures values { Always values (λ start w. TimersRunOut w) }
+{}
+
+/// A law: no event of a path is passed by, so that each happens at its own tick.
+///
+/// At every moment neither a timer that runs, nor a copy that is under way, nor a line of the script that isn't taken, nor A's join, as
+/// long as its end waits for it, lies before the path's clock. By `timers_run_out` each timer runs out within a minute, or was stopped or
+/// put off before.
+pub fn nothing_is_overdue()
+    ensures octets { Always octets (λ start w. NothingIsOverdue w) }
+    ensures values { Always values (λ start w. NothingIsOverdue w) }
 {}
 
 /// A law: whoever waits for an answer has a timer that runs, whatever is lost, late, repeated or altered (RFC 6298, section 5).
@@ -66,6 +79,26 @@ pub fn no_timer_is_put_off()
 pub fn what_runs_out_goes_again()
     ensures octets { WhatRunsOutGoesAgain octets }
     ensures values { WhatRunsOutGoesAgain values }
+{}
+
+/// A law: where the turn of a path is over, no end owes an acknowledgement or a SYN/ACK, so that each copy that asks for one is answered in
+/// the turn in which it comes (RFC 9293, section 3.10.7.4), or by the reset with which the end dies.
+pub fn each_copy_is_answered_at_once()
+    ensures octets { Always octets (λ start w. CopiesAreAnswered w) }
+    ensures values { Always values (λ start w. CopiesAreAnswered w) }
+{}
+
+/// A law: the first record of an end that isn't acknowledged comes to the peer within a minute and the link's delay, unless the script harms
+/// it.
+///
+/// Where a turn is over its timer runs, for a minute at most (`timers_run_out`). From then on, by each turn, its timer runs still, or it is
+/// to be sent again, or a copy of it is under way, and the tick stays by which a copy comes; or a copy was what arrives next; or there is news
+/// (`no_timer_is_put_off`), or the script has a line less by which a segment is lost or late; or the end is dead, or the path dies by a
+/// line. By `nothing_is_overdue` the clock can't pass that tick before one of these comes. So it is with the first 2^64 - 2 segments of a
+/// side.
+pub fn what_waits_comes()
+    ensures octets { WhatWaitsComes octets }
+    ensures values { WhatWaitsComes values }
 {}
 
 /// A law: by whatever turns, an end keeps what isn't acknowledged yet, so that it can be sent again.

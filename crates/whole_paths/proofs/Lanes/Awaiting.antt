@@ -1,7 +1,7 @@
 -- What is awaited is still awaited after each move, or there is news.
-use Rattle.std.proofs.Common.{◌≡◌, refl, sym, ◌∙◌, ap, subst, ℕ, suc, ◌+◌, ◌<◌, ◌≤◌, max, nat_lt, cond, Bool, true, false, ◌⊎◌, inl, inr, ⊎_elim, List, [], ◌∷◌, ◌++◌, Option, Some, None, IfSome, arith}
+use Rattle.std.proofs.Common.{◌≡◌, refl, sym, ◌∙◌, subst, ℕ, ◌+◌, ◌<◌, ◌≤◌, nat_lt, cond, Bool, true, false, ◌⊎◌, inl, inr, ⊎_elim, List, ◌∷◌, ◌++◌, Some, None, arith}
 use Rattle.std.proofs.lemmas.Bool.{cases_lt, ltb-true}
-use Rattle.whole_paths.specs.Lanes.Lane.{Setting, Copy, Lane, In, Mem, NoneBefore, copy_of}
+use Rattle.whole_paths.specs.Lanes.Lane.{Setting, Copy, Lane, Mem, copy_of}
 use Rattle.whole_paths.specs.Lanes.Moves.{Fate, AckFate, MayHearData, MayOpen, Move, sends, hears_data, hears_ack, fires, starts, rests}
 use Rattle.whole_paths.specs.Lanes.Moves.Move.{sent_by, heard_by, acked_by, fired, gave_up, started, rested, measured, moved}
 use Rattle.whole_paths.specs.Lanes.Going.{Fine, OneHas, News, Awaits}

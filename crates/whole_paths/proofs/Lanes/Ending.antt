@@ -1,10 +1,10 @@
 -- News come in time, each long wait is paid for, and so all is acknowledged.
-use Rattle.std.proofs.Common.{◌≡◌, refl, sym, ◌∙◌, ap, subst, ℕ, zero, suc, ◌+◌, ◌*◌, ◌<◌, ◌≤◌, ◌⊎◌, inl, inr, ⊎_elim, List, [], length, Some, arith}
+use Rattle.std.proofs.Common.{◌≡◌, refl, sym, ◌∙◌, subst, ℕ, zero, suc, ◌+◌, ◌*◌, ◌<◌, ◌≤◌, ◌⊎◌, inl, inr, ⊎_elim, [], length, arith}
 use Rattle.std.proofs.lemmas.Bool.{cases_lt}
 use Rattle.whole_paths.specs.Lanes.Lane.{Setting, Copy, Lane, In, Mem, first_lane}
 use Rattle.whole_paths.specs.Lanes.Moves.{IsTimeout, MayOpen, Move, Run, opens_round}
 use Rattle.whole_paths.specs.Lanes.Moves.Run.{stays, goes, opens}
-use Rattle.whole_paths.specs.Lanes.Going.{Fine, OneHas, Soon, Sound, News, Awaits, Debt, Books, IsOver, RowIs, Lives, Paced, short, long, deadline}
+use Rattle.whole_paths.specs.Lanes.Going.{Fine, OneHas, Soon, News, Awaits, Debt, Books, IsOver, Lives, Paced, short, long, deadline}
 use Rattle.whole_paths.specs.Lanes.Going.News.{more_acked, more_received, line_used, died}
 use Rattle.whole_paths.specs.Lanes.Going.Awaits.{news, waits, flies, answered}
 use Rattle.whole_paths.specs.Lanes.Going.Debt.{paid, spoilt, unheard}

@@ -1,7 +1,7 @@
 -- What holds of a lane at each moment is kept by each move, and as a round ends.
-use Rattle.std.proofs.Common.{◌≡◌, refl, subst, sym, ℕ, suc, ◌+◌, ◌<◌, ◌≤◌, max, nat_lt, cond, Bool, true, false, ⊎_elim, List, [], ◌∷◌, ◌++◌, Option, Some, None, IfSome, arith}
+use Rattle.std.proofs.Common.{◌≡◌, subst, sym, ℕ, ◌+◌, ◌<◌, ◌≤◌, max, nat_lt, cond, Bool, true, false, ⊎_elim, List, ◌∷◌, ◌++◌, Option, Some, None, IfSome, arith}
 use Rattle.whole_paths.specs.Lanes.Lane.{Setting, Copy, Lane, In, NoneBefore, first_lane, copy_of}
-use Rattle.whole_paths.specs.Lanes.Moves.{Fate, AckFate, IsTimeout, MayHearData, MayMove, MayOpen, Move, sends, hears_data, hears_ack, fires, opens_round}
+use Rattle.whole_paths.specs.Lanes.Moves.{Fate, AckFate, IsTimeout, MayHearData, MayOpen, Move, sends, hears_data, hears_ack, fires, opens_round}
 use Rattle.whole_paths.specs.Lanes.Moves.Move.{sent_by, heard_by, acked_by, fired, gave_up, started, rested, measured, moved}
 use Rattle.whole_paths.specs.Lanes.Going.{Fine}
 use Rattle.whole_paths.proofs.Lanes.Lists.{in_either, taken_is, left_is, fate_after, ack_fate_are, none_of_both, none_of_left, if_some_both}

@@ -1,6 +1,6 @@
 -- Of the expiries in a row each has used a line, but for the last one; so no end gives up where there are four lines at most.
-use Rattle.std.proofs.Common.{◌≡◌, refl, sym, ◌∙◌, ap, subst, ℕ, suc, ◌+◌, ◌<◌, ◌≤◌, max, ◌⊎◌, inl, inr, ⊎_elim, List, ◌∷◌, ◌++◌, Option, Some, None, IfSome, arith}
-use Rattle.whole_paths.specs.Lanes.Lane.{Setting, Copy, Lane, In, copy_of}
+use Rattle.std.proofs.Common.{◌≡◌, refl, sym, ◌∙◌, subst, ℕ, ◌+◌, ◌<◌, ◌≤◌, ◌⊎◌, inl, inr, ⊎_elim, List, ◌++◌, Some, IfSome, arith}
+use Rattle.whole_paths.specs.Lanes.Lane.{Setting, Copy, Lane, copy_of}
 use Rattle.whole_paths.specs.Lanes.Moves.{Fate, AckFate, IsTimeout, MayHearData, Move, sends, hears_data, fires, opens_round}
 use Rattle.whole_paths.specs.Lanes.Moves.Move.{sent_by, heard_by, acked_by, fired, gave_up, started, rested, measured, moved}
 use Rattle.whole_paths.specs.Lanes.Going.{Fine, OneHas, RowIs}

@@ -1,12 +1,12 @@
 -- What is known of the segments, and what is owed for long waits, is kept by each move.
-use Rattle.std.proofs.Common.{◌≡◌, refl, sym, ◌∙◌, ap, subst, ℕ, suc, ◌+◌, ◌*◌, ◌<◌, ◌≤◌, max, ◌⊎◌, inl, inr, ⊎_elim, List, [], ◌∷◌, ◌++◌, length, Option, Some, None, arith}
+use Rattle.std.proofs.Common.{◌≡◌, refl, sym, ◌∙◌, subst, ℕ, suc, ◌+◌, ◌<◌, ◌≤◌, ◌⊎◌, inl, inr, ⊎_elim, List, ◌∷◌, ◌++◌, length, arith}
 use Rattle.std.proofs.lemmas.Bool.{cases_lt}
 use Rattle.whole_paths.specs.Lanes.Lane.{Setting, Copy, Lane, In, Mem, copy_of}
-use Rattle.whole_paths.specs.Lanes.Moves.{Fate, AckFate, MayHearData, Move, sends, hears_data, hears_ack, fires, starts, rests}
+use Rattle.whole_paths.specs.Lanes.Moves.{Fate, AckFate, MayHearData, Move, sends, hears_data, hears_ack, fires}
 use Rattle.whole_paths.specs.Lanes.Moves.Move.{sent_by, heard_by, acked_by, fired, gave_up, started, rested, measured, moved}
-use Rattle.whole_paths.specs.Lanes.Going.{Fine, OneHas, Soon, Sound, Debt, Books}
+use Rattle.whole_paths.specs.Lanes.Going.{Fine, OneHas, Soon, Debt, Books}
 use Rattle.whole_paths.specs.Lanes.Going.Debt.{paid, spoilt, unheard}
-use Rattle.whole_paths.proofs.Lanes.Lists.{in_left, in_or_taken, left_is, taken_is, one_more, one_taken, fate_sent, ack_fate_sent, without}
+use Rattle.whole_paths.proofs.Lanes.Lists.{in_left, left_is, taken_is, one_more, one_taken, fate_sent, ack_fate_sent, without}
 
 -- where a segment is
 abbrev pub Place : Setting → List ℕ → Lane → ℕ → Type 0

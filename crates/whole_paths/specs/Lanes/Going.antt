@@ -1,5 +1,5 @@
 -- What holds of a lane at each moment.
-use Rattle.std.specs.Prelude.{ℕ, zero, suc, ◌≡◌, ◌+◌, ◌*◌, ◌<◌, ◌≤◌, ◌⊎◌, Option, Some, None, IfSome, List, length}
+use Rattle.std.specs.Prelude.{ℕ, zero, suc, ◌≡◌, ◌+◌, ◌*◌, ◌<◌, ◌≤◌, ◌⊎◌, Some, IfSome, List, length}
 use Rattle.whole_paths.specs.Lanes.Lane.{Setting, Copy, Lane, In, Mem, NoneBefore}
 use Rattle.whole_paths.specs.Lanes.Moves.{IsTimeout}
 

@@ -1,6 +1,6 @@
 -- What a lane may do: each move with its conditions.
-use Rattle.std.specs.Prelude.{ℕ, zero, suc, ◌≡◌, ◌+◌, ◌<◌, ◌≤◌, ◌⊎◌, max, nat_lt, cond, Option, Some, None, IfSome, List, [], ◌∷◌, ◌++◌}
-use Rattle.whole_paths.specs.Lanes.Lane.{Setting, Copy, Lane, In, Mem, NoneBefore, copy_of}
+use Rattle.std.specs.Prelude.{ℕ, suc, ◌≡◌, ◌+◌, ◌<◌, ◌≤◌, ◌⊎◌, max, nat_lt, cond, Some, None, IfSome, List, [], ◌∷◌, ◌++◌}
+use Rattle.whole_paths.specs.Lanes.Lane.{Setting, Copy, Lane, Mem, NoneBefore, copy_of}
 
 -- A data segment arrives a delay later, and in copies at any ticks; or a line harms it, and only such copies arrive, or none.
 pub data Fate (k : Setting) (now number harms : ℕ) : ℕ → List Copy → Type 0 where

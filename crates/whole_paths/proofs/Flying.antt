@@ -1,0 +1,346 @@
+-- The first record that isn't acknowledged comes to the peer, whatever is lost.
+use Rattle.std.proofs.Common.{◌≡◌, refl, sym, subst, ap, ◌∙◌, ◌⊎◌, inl, inr, ⊎_elim, ℕ, ◌+◌, ◌-◌, ◌^◌, ◌<◌, ◌≤◌, max, true, false, true≢false, Option, Some, None, IfSome, List, [], ◌∷◌, arith}
+use Rattle.std.specs.Prelude.{IsSome}
+use Rattle.std.specs.List.{slice_get}
+use Rattle.std.proofs.lemmas.Bool.{cases_lt}
+use Rattle.std.proofs.lemmas.Option.{same_Some}
+use Rattle.sides.specs.declared.side.Side.{Side}
+use Rattle.sides.specs.declared.side.Side.TheVariants.{A, B}
+use Rattle.link_model.specs.declared.flight.Flight.{Flight}
+use Rattle.link_model.specs.State.{LinkState}
+use Rattle.link_model.specs.Steps.{next_number, segments_sent, changed, after_send}
+use Rattle.link_model.specs.Fate.{is_stripped, is_altered}
+use Rattle.stream_lanes.specs.Words.{Has}
+use Rattle.path_segments.specs.Spelled.{PlainSegment}
+use Rattle.subflow_send.specs.Records.{Record, end_of}
+use Rattle.subflow_send.specs.Rules.{is_fin}
+use Rattle.subflow_tcp.specs.Emitting.{is_syn}
+use Rattle.subflow_tcp.specs.States.{is_closed_to_segments, is_dead}
+use Rattle.subflow_tcp.specs.declared.handshake.State.{State}
+use Rattle.subflow_tcp.specs.declared.handshake.State.TheVariants as phase
+use Rattle.actor_desk.specs.declared.ask.Reply.{Reply}
+use Rattle.actor_desk.specs.Words.{is_nil}
+use Rattle.path_agenda.specs.Agenda.{emission}
+use Rattle.path_agenda.specs.declared.duty.Duty.{Duty}
+use Rattle.path_agenda.specs.declared.duty.Duty.TheVariants as duties
+use Rattle.path_agenda.specs.declared.duty.AskDuty.TheVariants as ask_duties
+use Rattle.path_agenda.specs.declared.duty.SendDuty.TheVariants as send_duties
+use Rattle.path_agenda.specs.declared.duty.StepDuty.TheVariants as step_duties
+use Rattle.path_core.specs.Codec.{Codec}
+use Rattle.path_core.specs.End.{PathEnd}
+use Rattle.path_core.specs.Handover.{handed}
+use Rattle.path_core.specs.Profile.{Profile}
+use Rattle.path_core.specs.State.{PathState, end_at, with_agenda}
+use Rattle.path_core.specs.Steps.{takes, next_round}
+use Rattle.path_core.specs.Duties.{answered}
+use Rattle.path_core.specs.Events.{tick_of, next_event, happens_if}
+use Rattle.path_core.specs.declared.events.Event.{Event}
+use Rattle.path_core.specs.declared.events.Event.TheVariants as happenings
+use Rattle.world_laws.specs.declared.member.Member.TheVariants.{App, Path}
+use Rattle.world_laws.specs.Actors.{Actor, ActorCrew, member_takes, member_next, is_over}
+use Rattle.world_laws.specs.Members.{HoldsOfKind}
+use Rattle.world_laws.specs.StampedBooks.{answer_to}
+use Rattle.world_laws.specs.Worlds.{WorldState, Turn, after_turn}
+use Rattle.world_laws.specs.Writes.{PathView}
+use Rattle.world_laws.proofs.Writes.Paths.{writes_no_more, passes_no_more}
+use Rattle.world_laws.proofs.Writes.Steps.{Lasts, settled_lasts, takes_lasts, begins_lasts}
+use Rattle.whole_paths.specs.Copies.{GoesOnItsWay, CopiesGoOn}
+use Rattle.whole_paths.specs.Copies.{GoesOnItsWay as copy}
+use Rattle.whole_paths.specs.Expiries.{IsSegmentOf, IsToSendAgain, PathsGoAgain, SendsAgain, GoesAgain, Expires}
+use Rattle.whole_paths.specs.Flights.{IsFirst, IsCopyOf, IsOnItsWay, GoesOnTo, RecordsGoOn, IsOnItsWayAtTheEnd, WhatWaitsComes}
+use Rattle.whole_paths.specs.Flights.IsOnItsWay.{waits, resends, flies}
+use Rattle.whole_paths.specs.Flights.{GoesOnTo as goes}
+use Rattle.whole_paths.specs.Harms.{harms_left, as_it_arrives, IsOnTime}
+use Rattle.whole_paths.specs.InTime.{ComesFrom, NothingIsOverdue}
+use Rattle.whole_paths.specs.Kept.{AreKept, IsSameRecord, KeepsWhatWaits, EndsKeepWhatWaits}
+use Rattle.whole_paths.specs.Reasons.{IsOutstanding, IsTimedWhereItWaits}
+use Rattle.whole_paths.specs.Timers.{TimersAreNear}
+use Rattle.whole_paths.specs.Waits.{RunsTo, IsNews, WaitsOn, TimersWaitOn, IsSettledAtTheEnd}
+use Rattle.whole_paths.specs.Waits.{WaitsOn as wait}
+use Rattle.whole_paths.proofs.Copies.{LinkStep, LinkStays, links_last, link_step, copies_leave}
+use Rattle.whole_paths.proofs.Copies.LinkStep.{stays, hands, delivers, is_cut}
+use Rattle.whole_paths.proofs.InTime.{is_event, answered_same, passed_same, timer_behind}
+use Rattle.whole_paths.proofs.Keeping.{what_waits_is_kept}
+use Rattle.whole_paths.proofs.Links.{each_uses_a_line_or_comes}
+use Rattle.whole_paths.proofs.Reasons.{who_waits_has_a_timer}
+use Rattle.whole_paths.proofs.Resending.{what_runs_out_goes_again}
+use Rattle.whole_paths.proofs.Timing.{happens_clock, timers_run_out}
+use Rattle.whole_paths.proofs.Turns.{turn_each}
+use Rattle.whole_paths.proofs.Waiting.{no_timer_is_put_off}
+
+-- ---- the first record
+
+same_record : (r : Record) → IsSameRecord r r
+same_record r = record { pos = refl; kind = refl; piece = refl; mapping = refl }
+
+-- the first one stays first, or SND.UNA rises
+first_stays : (r : Record) (e f : PathEnd) → KeepsWhatWaits e f → IsFirst r e → IsFirst r f ⊎ IsNews e f
+first_stays r e f kept h =
+    by f.tcp.send.records refl
+    (subst (λ rs. AreKept (λ (x : Record). (e.tcp.send.una < f.tcp.send.una) × (end_of x ≤ f.tcp.send.una)) IsSameRecord rs f.tcp.send.records) h.records kept.records)
+  where
+    by : (rs : List Record) → f.tcp.send.records ≡ rs → AreKept (λ (x : Record). (e.tcp.send.una < f.tcp.send.una) × (end_of x ≤ f.tcp.send.una)) IsSameRecord (h.first ∷ h.others) rs
+        → IsFirst r f ⊎ IsNews e f
+    by [] is k = inr (IsNews.on_subflow k.0.0)
+    by (x ∷ rs) is k = ⊎_elim
+        (λ gone. inr (IsNews.on_subflow gone.0.0))
+        (λ there. inl (record {
+          first = x;
+          others = rs;
+          records = is;
+          same = record { pos = there.0.pos ∙ h.same.pos; kind = there.0.kind ∙ h.same.kind; piece = there.0.piece ∙ h.same.piece; mapping = there.0.mapping ∙ h.same.mapping };
+        }))
+        k
+
+same_segment : (r x : Record) (segment : PlainSegment) → IsSameRecord r x → IsSegmentOf x segment → IsSegmentOf r segment
+same_segment r x segment same h = record {
+  position = h.position ∙ same.pos;
+  syn = subst (λ kind. segment.syn ≡ is_syn kind) same.kind h.syn;
+  fin = subst (λ kind. segment.fin ≡ is_fin kind) same.kind h.fin;
+  rst = h.rst;
+  payload = h.payload ∙ same.piece;
+}
+
+module _ {C : Type 0} where
+  -- ---- how a path is spelled, its delay, and its clock
+
+  abbrev SameProfile : PathState C → PathState C → Type 0
+  SameProfile p q = q.profile ≡ p.profile
+
+  profile_lasts : Lasts SameProfile
+  profile_lasts = record { agenda = λ ds p. refl; chains = λ p q r x y. y ∙ x; passes = λ d p. ap (λ (v : PathView C). v.profile) (passes_no_more d p).same }
+
+  abbrev SameClock : PathState C → PathState C → Type 0
+  SameClock p q = q.clock ≡ p.clock
+
+  clock_lasts : Lasts SameClock
+  clock_lasts = record { agenda = λ ds p. refl; chains = λ p q r x y. y ∙ x; passes = λ d p. (passed_same d p).clock }
+
+  -- an event alone moves the clock, to its tick
+  record Frames (p q : PathState C) : Type 0 where
+    profile : SameProfile p q
+    delay : q.link.delay ≡ p.link.delay
+    stands : (d : Duty) (others : List Duty) → p.agenda ≡ d ∷ others → is_event d ≡ false → SameClock p q
+    moves : (event : Event) (others : List Duty) → p.agenda ≡ duties.Step step_duties.Events ∷ others → next_event p ≡ Some event → (q ≡ p) ⊎ (q.clock ≡ max p.clock (tick_of event))
+
+  sent_delay : (strip alter : Side → C → C) (s : Side) (carried : C) (now : ℕ) (link : LinkState C) → (after_send strip alter s carried now link).delay ≡ link.delay
+  sent_delay strip alter A carried now link = refl
+  sent_delay strip alter B carried now link = refl
+
+  link_delay : (k : Codec C) (p q : PathState C) → LinkStep k p q → q.link.delay ≡ p.link.delay
+  link_delay k p q (stays is) = ap (λ (l : LinkState C). l.delay) is
+  link_delay k p q (hands s carried still is) = ap (λ (l : LinkState C). l.delay) is ∙ sent_delay (k.strips p.profile.spelling) (k.alters p.profile.spelling) s carried p.clock p.link
+  link_delay k p q (delivers due next is) = ap (λ (l : LinkState C). l.delay) is
+  link_delay k p q (is_cut line next action is) = ap (λ (l : LinkState C). l.delay) is
+
+  takes_frames : (k : Codec C) (r : Reply) (p : PathState C) → Frames p (takes k r p)
+  takes_frames k r p = record {
+    profile = takes_lasts SameProfile profile_lasts k r p (λ d. ap (λ (v : PathView C). v.profile) (writes_no_more k d r p).same);
+    delay = delay p.agenda;
+    stands = λ d others is other. subst (λ ds. (takes k r (with_agenda ds p)).clock ≡ p.clock) (sym is) (stand d others other);
+    moves = λ event others is next. inr (subst (λ ds. (takes k r (with_agenda ds p)).clock ≡ max p.clock (tick_of event)) (sym is) (move event others next));
+  }
+    where
+      delay : (ds : List Duty) → (takes k r (with_agenda ds p)).link.delay ≡ p.link.delay
+      delay [] = refl
+      delay (d ∷ ds) =
+          let x : PathState C = with_agenda (d ∷ ds) p in let y : PathState C = answered k d r x in
+          ap (λ (l : LinkState C). l.delay) (settled_lasts LinkStays links_last y.agenda y) ∙ link_delay k x y (link_step k d r x)
+
+      stand : (d : Duty) (others : List Duty) → is_event d ≡ false → (takes k r (with_agenda (d ∷ others) p)).clock ≡ p.clock
+      stand d others other =
+          let x : PathState C = with_agenda (d ∷ others) p in let y : PathState C = answered k d r x in
+          settled_lasts SameClock clock_lasts y.agenda y ∙ (answered_same k d r x other).clock
+
+      move : (event : Event) (others : List Duty) → next_event p ≡ Some event → (takes k r (with_agenda (duties.Step step_duties.Events ∷ others) p)).clock ≡ max p.clock (tick_of event)
+      move event others next =
+          let x : PathState C = with_agenda (duties.Step step_duties.Events ∷ others) p in let y : PathState C = answered k (duties.Step step_duties.Events) r x in
+          settled_lasts SameClock clock_lasts y.agenda y ∙ subst (λ o. (happens_if k o r x).clock ≡ max p.clock (tick_of event)) (sym next) (happens_clock k event r x)
+
+  next_frames : (p : PathState C) → is_nil p.agenda ≡ true → Frames p (next_round p)
+  next_frames p over =
+      let q : PathState C = record p { clock = p.until; until = p.until + 100 } in
+      record {
+        profile = begins_lasts SameProfile profile_lasts q;
+        delay = ap (λ (l : LinkState C). l.delay) (begins_lasts LinkStays links_last q);
+        stands = λ d others is other. none d others is;
+        moves = λ event others is next. none (duties.Step step_duties.Events) others is;
+      }
+    where
+      none : {X : Type 0} (d : Duty) (others : List Duty) → p.agenda ≡ d ∷ others → X
+      none d others is = absurd (true≢false (sym over ∙ ap is_nil is))
+
+  abbrev FramesStay : Actor C → Actor C → Type 0
+  FramesStay (Path p) (Path q) = Frames p q
+  FramesStay (App a) (App b) = Unit {0}
+  FramesStay _ _ = ⊥
+
+  member_frames : (k : Codec C) (r : Reply) (m : Actor C) → FramesStay m (member_takes k r m)
+  member_frames k r (App a) = tt
+  member_frames k r (Path p) = takes_frames k r p
+
+  member_begins : (m : Actor C) → is_over m ≡ true → FramesStay m (member_next m)
+  member_begins (App a) over = tt
+  member_begins (Path p) over = next_frames p over
+
+  member_stays : (m : Actor C) → FramesStay m m
+  member_stays (App a) = tt
+  member_stays (Path p) = record { profile = refl; delay = refl; stands = λ d others is other. refl; moves = λ event others is next. inl refl }
+
+  timer_from : (s : Side) (tick : ℕ) (p : PathState C) → ComesFrom p.clock p → (end_at s p).tcp.timing.timer ≡ Some tick → p.clock ≤ tick
+  timer_from A tick p h runs = subst (λ o. IfSome o (λ t. p.clock ≤ t)) runs h.timer_a
+  timer_from B tick p h runs = subst (λ o. IfSome o (λ t. p.clock ≤ t)) runs h.timer_b
+
+  timer_near : (s : Side) (tick : ℕ) (p : PathState C) → TimersAreNear p → (end_at s p).tcp.timing.timer ≡ Some tick → tick ≤ p.clock + 60000
+  timer_near A tick p h runs = subst (λ o. IfSome o (λ t. t ≤ p.clock + 60000)) runs h.a.timer
+  timer_near B tick p h runs = subst (λ o. IfSome o (λ t. t ≤ p.clock + 60000)) runs h.b.timer
+
+  -- ---- one turn of a path
+
+  module _ (k : Codec C) (s : Side) (r : Record) (by_then : ℕ) (p q : PathState C) (kept : KeepsWhatWaits (end_at s p) (end_at s q)) (frames : Frames p q) where
+    abbrev Next : Type 0
+    Next = GoesOnTo k s r by_then p q
+
+    -- the first record is still first, or there is news
+    with_first : IsFirst r (end_at s p) → (IsFirst r (end_at s q) → Next) → Next
+    with_first h then_so = ⊎_elim then_so (λ news. goes.news news) (first_stays r (end_at s p) (end_at s q) kept h)
+
+    same_on : q ≡ p → IsOnItsWay k s r by_then p → Next
+    same_on same way = goes.on (subst (IsOnItsWay k s r by_then) (sym same) way)
+
+    waits_goes : GoesAgain k p q → ComesFrom p.clock p → (tick : ℕ) → tick + p.link.delay ≤ by_then → RunsTo tick (end_at s p) → IsFirst r (end_at s p) → WaitsOn s tick p q → Next
+    waits_goes again past tick low h first (wait.runs on) = let delay = frames.delay in with_first first (λ still. goes.on (waits tick (omega (arith, delay, low)) on still))
+    waits_goes again past tick low h first (wait.news news) = goes.news news
+    waits_goes again past tick low h first (wait.gone gone) = goes.gone gone
+    waits_goes again past tick low h first (wait.runs_out at out) = ⊎_elim
+        (λ same. same_on same (waits tick low h first))
+        (λ expired. ⊎_elim (λ same. same_on same (waits tick low h first)) (λ clock. ran_out expired clock) (frames.moves (happenings.Fires s at) out.others out.first out.next))
+        (again.fires s at out)
+      where
+        ran_out : Expires s p q → q.clock ≡ max p.clock at → Next
+        ran_out expired clock = ⊎_elim
+            (λ few. with_first first (λ still. goes.on (resends (in_time clock) (expired.again few).next still)))
+            (λ many. goes.gone (expired.sixth many))
+            (cases_lt (end_at s p).tcp.timing.expiries 5)
+          where
+            in_time : q.clock ≡ max p.clock at → q.clock + q.link.delay ≤ by_then
+            in_time clock =
+                let early = timer_behind s (happenings.Fires s at) tick p out.next h.timer in
+                let from = timer_from s tick p past h.timer in
+                let delay = frames.delay in
+                omega (arith, clock, early, from, delay, low)
+
+    flown : SendsAgain k s p q → IsFirst r (end_at s p) → p.clock + p.link.delay ≤ by_then → segments_sent s p.link < 2 ^ 64 - 1 → Next
+    flown sent h low few = ⊎_elim
+        (λ less. goes.harmed (subst (λ (l : LinkState C). harms_left l < harms_left p.link) (sym sent.taken) less))
+        (λ comes. by comes.1)
+        (each_uses_a_line_or_comes (k.strips p.profile.spelling) (k.alters p.profile.spelling) s (k.makes p.profile.spelling s sent.segment) p.clock p.link few)
+      where
+        after : LinkState C
+        after = handed k s sent.segment p
+
+        by : Has (IsOnTime s p.clock (as_it_arrives (k.strips p.profile.spelling) (k.alters p.profile.spelling) s (k.makes p.profile.spelling s sent.segment) p.clock p.link) p.link) after.under_way → Next
+        by has = goes.on (flies has.item (let tick = has.holds.tick in omega (arith, tick, low))
+            (subst (λ (l : LinkState C). Has (λ g. g ≡ has.item) l.under_way) (sym sent.taken) (record { at = has.at; item = has.item; there = has.there; holds = refl }))
+            (record {
+              to = has.holds.to;
+              segment = sent.segment;
+              of_it = same_segment r h.first sent.segment h.same (sent.first h.first h.others h.records);
+              stripped = is_stripped s (next_number s p.link) p.clock p.link.lines;
+              altered = is_altered s (next_number s p.link) p.link.lines;
+              carried = subst (λ (c : Profile). has.item.carried
+                  ≡ changed (k.strips c.spelling s) (k.alters c.spelling s) (is_stripped s (next_number s p.link) p.clock p.link.lines) (is_altered s (next_number s p.link) p.link.lines)
+                  (k.makes c.spelling s sent.segment)) (sym frames.profile) has.holds.carried;
+            }))
+
+    resends_goes : GoesAgain k p q → p.clock + p.link.delay ≤ by_then → segments_sent s p.link < 2 ^ 64 - 1 → IsToSendAgain s p → IsFirst r (end_at s p) → Next
+    resends_goes again low few (inl is) h = ⊎_elim
+        (λ same. same_on same (resends low (inl is) h))
+        (λ given. goes.on (resends still (inr given.0) (subst (IsFirst r) (sym given.1) h)))
+        (again.gives_back s is)
+      where
+        still : q.clock + q.link.delay ≤ by_then
+        still = let clock = frames.stands (duties.Ask (ask_duties.Return s)) (duties.Send (send_duties.Resend s) ∷ emission s) is refl in let delay = frames.delay in omega (arith, clock, delay, low)
+    resends_goes again low few (inr is) h = ⊎_elim
+        (λ same. same_on same (resends low (inr is) h))
+        (λ sent. flown sent h low few)
+        (again.sends s is)
+
+    flies_goes : (f : Flight C) → f.tick ≤ by_then → IsCopyOf k s r p f → GoesOnItsWay f p q → Next
+    flies_goes f low h (copy.on there) = goes.on (flies f low there (record {
+      to = h.to;
+      segment = h.segment;
+      of_it = h.of_it;
+      stripped = h.stripped;
+      altered = h.altered;
+      carried = subst (λ (c : Profile). f.carried ≡ changed (k.strips c.spelling s) (k.alters c.spelling s) h.stripped h.altered (k.makes c.spelling s h.segment)) (sym frames.profile) h.carried;
+    }))
+    flies_goes f low h (copy.arrives next) = goes.arrives f low h next
+    flies_goes f low h (copy.dies line next is) = goes.dies line next is
+
+    goes_by : TimersWaitOn (Path p) (Path q) → GoesAgain k p q → CopiesGoOn (Path p) (Path q) → ComesFrom p.clock p → segments_sent s p.link < 2 ^ 64 - 1 → IsOnItsWay k s r by_then p → Next
+    goes_by timers again copies past few (waits tick low h first) = waits_goes again past tick low h first (timers s tick h)
+    goes_by timers again copies past few (resends low is first) = resends_goes again low few is first
+    goes_by timers again copies past few (flies f low there h) = flies_goes f low h (copies f there)
+
+  -- ---- the world
+
+  abbrev ComesInTime : Actor C → Type 0
+  ComesInTime = HoldsOfKind (λ app. Unit {0}) (λ (p : PathState C). ComesFrom p.clock p)
+
+  records_go_on : (k : Codec C) (m n : Actor C) → EndsKeepWhatWaits m n → TimersWaitOn m n → PathsGoAgain k m n → CopiesGoOn m n → FramesStay m n → ComesInTime m → RecordsGoOn k m n
+  records_go_on k (App a) (App b) kept timers again copies frames past = tt
+  records_go_on k (Path p) (Path q) kept timers again copies frames past = λ s r by_then few way. goes_by k s r by_then p q (kept s) frames timers again copies past few way
+  records_go_on k (App a) (Path q) kept timers again copies frames past = absurd kept
+  records_go_on k (Path p) (App b) kept timers again copies frames past = absurd kept
+
+  goes_on_so : (k : Codec C) (w : WorldState C) → NothingIsOverdue w → (turn : Turn) (actor : ℕ) (c : ActorCrew C) → slice_get w.crew actor ≡ Some c
+      → (d : ActorCrew C) × (slice_get (after_turn k turn w).crew actor ≡ Some d) × RecordsGoOn k c.member d.member
+  goes_on_so k w past turn actor c there =
+      let kept = what_waits_is_kept k w (turn ∷ []) actor c there in
+      let d : ActorCrew C = kept.0 in
+      let timers = (no_timer_is_put_off k).waits w turn actor c there in
+      let again = what_runs_out_goes_again k w turn actor c there in
+      let copies = copies_leave k w turn actor c there in
+      let frames = turn_each k (λ x y. FramesStay x.member y.member) (λ x. member_stays x.member) (λ ask books x. member_frames k (answer_to books ask) x.member)
+      (λ stamp x over. member_begins x.member over) turn w actor c there in (
+        d,
+        kept.1,
+        records_go_on k c.member d.member kept.2
+            (subst (λ (x : ActorCrew C). TimersWaitOn c.member x.member) (same_Some timers.0 d (sym timers.1 ∙ kept.1)) timers.2)
+            (subst (λ (x : ActorCrew C). PathsGoAgain k c.member x.member) (same_Some again.0 d (sym again.1 ∙ kept.1)) again.2)
+            (subst (λ (x : ActorCrew C). CopiesGoOn c.member x.member) (same_Some copies.0 d (sym copies.1 ∙ kept.1)) copies.2)
+            (subst (λ (x : ActorCrew C). FramesStay c.member x.member) (same_Some frames.0 d (sym frames.1 ∙ kept.1)) frames.2)
+            (past.each actor c there),
+      )
+
+  -- at the end of a turn
+  begins_so : (k : Codec C) (p : PathState C) → IsTimedWhereItWaits p → IsSettledAtTheEnd p → TimersAreNear p → IsOnItsWayAtTheEnd k p
+  begins_so k p timed settled near over s living r others is = by (end_at s p).tcp.timing.timer refl (timed over s living (IsOutstanding.on_subflow r others is))
+    where
+      alive : (state : State) → is_closed_to_segments state ≡ false → is_dead state ≡ false
+      alive phase.Dead living = absurd (true≢false living)
+      alive _ living = refl
+
+      by : (o : Option ℕ) → (end_at s p).tcp.timing.timer ≡ o → IsSome o → IsOnItsWay k s r (p.clock + 60000 + p.link.delay) p
+      by None none some = absurd (true≢false (sym some))
+      by (Some tick) runs some = waits tick
+          (let low = timer_near s tick p near runs in omega (arith, low))
+          (record { timer = runs; settled = settled over s (alive (end_at s p).tcp.state living); first = r; others = others; records = is; living = living })
+          (record { first = r; others = others; records = is; same = same_record r })
+
+  abbrev OfPaths : (PathState C → Type 0) → Actor C → Type 0
+  OfPaths P = HoldsOfKind (λ app. Unit {0}) P
+
+  member_so : (k : Codec C) (m : Actor C) → OfPaths IsTimedWhereItWaits m → OfPaths IsSettledAtTheEnd m → OfPaths TimersAreNear m → OfPaths (IsOnItsWayAtTheEnd k) m
+  member_so k (App a) timed settled near = tt
+  member_so k (Path p) timed settled near = begins_so k p timed settled near
+
+  pub what_waits_comes : (k : Codec C) → WhatWaitsComes k
+  what_waits_comes k = record {
+    begins = λ start turns. record {
+      each = λ actor c there. member_so k c.member ((who_waits_has_a_timer k start turns).each actor c there) (((no_timer_is_put_off k).settled start turns).each actor c there)
+          ((timers_run_out k start turns).each actor c there);
+    };
+    goes_on = goes_on_so k;
+  }

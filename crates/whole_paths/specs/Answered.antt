@@ -1,0 +1,22 @@
+-- Whether an end owes an acknowledgement where a turn is over (RFC 9293, section 3.10.7.4).
+use Rattle.std.specs.Prelude.{ℕ, ◌≡◌, false, Some, [], slice_get}
+use Rattle.sides.specs.declared.side.Side.{Side}
+use Rattle.subflow_tcp.specs.States.{is_dead}
+use Rattle.path_core.specs.End.{PathEnd}
+use Rattle.path_core.specs.State.{PathState, end_at}
+use Rattle.world_laws.specs.Members.{HoldsOfKind}
+use Rattle.world_laws.specs.Actors.{ActorCrew}
+use Rattle.world_laws.specs.Worlds.{WorldState}
+
+-- neither an acknowledgement is due, nor a SYN/ACK
+pub record OwesNone (e : PathEnd) : Type 0 where
+  pub ack : e.tcp.due.ack ≡ false
+  pub syn_ack : e.tcp.due.syn_ack ≡ false
+
+-- of each end that isn't dead, where the turn of the path is over
+abbrev pub HasAnswered : {C : Type 0} → PathState C → Type 0
+HasAnswered p = p.agenda ≡ [] → (s : Side) → is_dead (end_at s p).tcp.state ≡ false → OwesNone (end_at s p)
+
+-- on each path
+pub record CopiesAreAnswered {C : Type 0} (w : WorldState C) : Type 0 where
+  pub each : (actor : ℕ) (c : ActorCrew C) → slice_get w.crew actor ≡ Some c → HoldsOfKind (λ app. Unit {0}) HasAnswered c.member
