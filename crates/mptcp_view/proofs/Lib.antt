@@ -3,3 +3,4 @@ mod Answering
 mod RoundsGathered
 mod LinesTold
 mod Words
+mod Paged

@@ -8,7 +8,7 @@ use Rattle.run_words.specs.Lines.{Line, as_line, is_given, replay}
 use Rattle.mptcp_view.specs.declared.asking.Asked.{Asked}
 use Rattle.mptcp_view.specs.declared.asking.DataNumbers.TheVariants.{Relative, Absolute}
 use Rattle.mptcp_view.specs.declared.asking.View.{View}
-use Rattle.mptcp_view.specs.declared.asking.View.TheVariants.{Capture, Rates, Summary, Picture, Text}
+use Rattle.mptcp_view.specs.declared.asking.View.TheVariants.{Capture, Rates, Summary, Picture, Text, Json, Page}
 
 -- the view of this name, as it is without an option
 abbrev pub view_named : List ℕ → Option View
@@ -17,7 +17,9 @@ view_named word =
     else (if bytes_eq word (codes "rates") then Some Rates
     else (if bytes_eq word (codes "summary") then Some Summary
     else (if bytes_eq word (codes "picture") then Some Picture
-    else (if bytes_eq word (codes "text") then Some (Text Relative) else None))))
+    else (if bytes_eq word (codes "text") then Some (Text Relative)
+    else (if bytes_eq word (codes "json") then Some Json
+    else (if bytes_eq word (codes "page") then Some Page else None))))))
 
 abbrev pub side_named : List ℕ → Option Side
 side_named word = if bytes_eq word (side_word A) then Some A else (if bytes_eq word (side_word B) then Some B else None)

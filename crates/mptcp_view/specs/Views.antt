@@ -14,8 +14,10 @@ use Rattle.link_trace.specs.Intervals.{rates_text}
 use Rattle.link_trace.specs.Lines.{lines_of}
 use Rattle.link_trace.specs.Pictures.{picture_of}
 use Rattle.link_trace.specs.Points.{seen_at}
+use Rattle.link_trace.specs.Rows.{rows_of}
 use Rattle.link_trace.specs.Tables.{summary_of}
 use Rattle.link_trace.specs.Ticks.{AreByTick}
+use Rattle.link_trace.specs.Told.{all_told}
 use Rattle.link_trace.specs.declared.carried.Base.{Base}
 use Rattle.link_trace.specs.declared.rows.Rates as table
 use Rattle.link_trace.specs.declared.sent.Sent.{Sent}
@@ -41,6 +43,8 @@ use Rattle.run_trace.specs.Trace.{StopsAt, trace_of}
 use Rattle.run_trace.specs.declared.making.TraceFault.{TraceFault}
 use Rattle.run_trace.specs.declared.making.TraceFault.TheVariants as fault
 use Rattle.run_words.specs.Lines.{Line}
+use Rattle.trace_json.specs.Pages.{page_of}
+use Rattle.trace_json.specs.Runs.{IsJsonOf, Run}
 use Rattle.sides.specs.declared.side.Side.{Side}
 use Rattle.sides.specs.declared.side.Side.TheVariants.{A}
 use Rattle.world_core.specs.Looking.{path_at}
@@ -53,7 +57,7 @@ use Rattle.mptcp_view.specs.Telling.{untold}
 use Rattle.mptcp_view.specs.declared.asking.DataNumbers.{DataNumbers}
 use Rattle.mptcp_view.specs.declared.asking.DataNumbers.TheVariants.{Relative, Absolute}
 use Rattle.mptcp_view.specs.declared.asking.View.{View}
-use Rattle.mptcp_view.specs.declared.asking.View.TheVariants.{Capture, Rates, Summary, Picture, Text}
+use Rattle.mptcp_view.specs.declared.asking.View.TheVariants.{Capture, Rates, Summary, Picture, Text, Json, Page}
 use Rattle.mptcp_view.specs.declared.cutting.Extent.{Extent}
 
 -- ---- the view
@@ -86,6 +90,22 @@ IsPictureOf script w told shown =
     (shown ≡ picture_of (length script.paths) (deaths_in w script.lines) (all_carried (base_in script) (initials_in script) told))
     × (length shown ≤ 2 ^ 21)
 
+-- what is told of a run of this script, which ended with this world, where its segments stand in this order
+abbrev pub run_of : Script → WorldState (List ℕ) → List Sent → Run
+run_of script w told = record {
+  script = script;
+  key_a = key_of script.seed 0;
+  key_b = key_of script.seed 2;
+  end = end_of w;
+  trace = told;
+  carried = all_carried (base_in script) (initials_in script) told;
+  words = all_told script.checksum (data_in Relative script) told told;
+  rows = rows_of (rates_of w.crew) (all_carried (base_in script) (initials_in script) told);
+}
+
+abbrev pub IsPageOf : Run → List ℕ → Type 0
+IsPageOf run shown = (json : List ℕ) × (IsJsonOf run json × (shown ≡ page_of json))
+
 -- a view of these segments of a run of this script, whose ends measured this as its rounds ended, and which ended with this world
 module _ (script : Script) (w : WorldState (List ℕ)) (measured : List table.Rates) where
   abbrev pub IsViewFrom : View → List Sent → List ℕ → Type 0
@@ -97,6 +117,8 @@ module _ (script : Script) (w : WorldState (List ℕ)) (measured : List table.Ra
   IsViewFrom Summary told shown = shown ≡ summary_of (rates_of w.crew) (all_carried (base_in script) (initials_in script) told)
   IsViewFrom (Text numbers) told shown = shown ≡ lines_of script.checksum (data_in numbers script) told
   IsViewFrom Picture told shown = IsPictureOf script w told shown
+  IsViewFrom Json told shown = IsJsonOf (run_of script w told) shown
+  IsViewFrom Page told shown = IsPageOf (run_of script w told) shown
 
   -- the segments stand by tick
   abbrev pub IsShownByTick : View → List Sent → List ℕ → Type 0

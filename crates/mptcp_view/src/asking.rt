@@ -20,6 +20,10 @@ pub enum View {
     Picture,
     /// A line for each segment.
     Text(DataNumbers),
+    /// All of it as one JSON object.
+    Json,
+    /// An HTML file that shows that object in a browser.
+    Page,
 }
 
 /// How data sequence numbers and Data ACKs are told.
@@ -41,6 +45,8 @@ fn view_named(word: &str) -> Option<View>
         "summary" => Some(View::Summary),
         "picture" => Some(View::Picture),
         "text" => Some(View::Text(DataNumbers::Relative)),
+        "json" => Some(View::Json),
+        "page" => Some(View::Page),
         _ => None,
     }
 }

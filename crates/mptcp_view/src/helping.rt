@@ -78,7 +78,7 @@ fn slot_of(name: &[u8]) -> Option<Slot> {
 }
 
 /// A number of digits alone, if it is below 2^64.
-fn number_of(word: &[u8]) -> Option<u64> {
+pub fn number_of(word: &[u8]) -> Option<u64> {
     let mut number = 0_u64;
     for digit in word {
         if !digit.is_ascii_digit() {
@@ -131,7 +131,7 @@ fn fault_in<'a>(line: &'a [u8], form: &'static [u8]) -> Option<Fault<'a>> {
 }
 
 /// Puts a word as it can be shown: octets that are no printable ASCII as `?`, and not more than 40.
-fn put_word(text: &mut String, word: &[u8]) -> Result<(), AllocError> {
+pub fn put_word(text: &mut String, word: &[u8]) -> Result<(), AllocError> {
     for octet in word.iter().take(40) {
         if octet.is_ascii_graphic() {
             text.push(char::from(*octet))?;

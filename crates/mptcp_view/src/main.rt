@@ -1,4 +1,4 @@
-//! Shows a run: `mptcp_view capture|rates|summary|picture|text SCRIPT FILE_A FILE_B LOG OUT` makes the steps of a log again, and writes
+//! Shows a run: `mptcp_view capture|rates|summary|picture|text|json|page SCRIPT FILE_A FILE_B LOG OUT` makes the steps of a log again, and writes
 //! what was sent on each path to OUT; `capture --at a` and `capture --at b`, what passes the interfaces of one side. Behind a first word
 //! `messages` the log is that of a run of messages.
 #![tactic(auto)]
@@ -7,15 +7,20 @@ mod asking;
 mod cutting;
 mod deaths;
 mod helping;
+mod log_forms;
+mod log_help;
+mod log_steps;
 mod messages;
 mod showing;
 mod telling;
 mod terminal;
+mod whole;
 
 use cutting::Extent;
 use file_outside::FileOutside;
 use helping::script_help;
 use link_script::ScriptKind;
+use log_help::{put_log_help, put_messages_help};
 use messages::view_messages;
 use outside_kit::Outside;
 use run_outside::{Named, Status, command_words};
@@ -39,7 +44,7 @@ fn renamed(alloc: Global, status: &Status) -> Result<String, AllocError> {
 fn fault_line(alloc: Global, status: &Status) -> Result<String, AllocError> {
     let line = match status {
         Status::Usage => {
-            "mptcp_view: usage: [messages] capture [--at a|b]|rates|summary|picture|text [--absolute] SCRIPT FILE_A FILE_B LOG OUT"
+            "mptcp_view: usage: [messages] capture [--at a|b]|rates|summary|picture|text [--absolute]|json|page SCRIPT FILE_A FILE_B LOG OUT"
         }
         Status::Load {
             input: Named::Order,
@@ -103,6 +108,32 @@ fn help_of_script(rt: &HostRuntime, words: &[String], line: u64, kind: ScriptKin
     help
 }
 
+/// Puts what helps with a log that is refused at this line.
+fn put_help_of_log(
+    text: &mut String,
+    rt: &HostRuntime,
+    words: &[String],
+    line: u64,
+) -> Result<(), AllocError> {
+    let mut outside = FileOutside::new(rt, false);
+    match words {
+        [first, others @ ..] if first.as_str() == "messages" => {
+            let (put, _outside) = put_messages_help(text, rt.alloc(), others, outside, line);
+            put
+        }
+        _ => put_log_help(text, rt.alloc(), words, &mut outside, line),
+    }
+}
+
+/// What helps with a log that is refused at this line, behind a colon, or nothing where it isn't known.
+fn help_of_log(rt: &HostRuntime, words: &[String], line: u64) -> String {
+    let (mut help, mut text) = (String::new(rt.alloc()), String::new(rt.alloc()));
+    if put_help_of_log(&mut text, rt, words, line).is_ok() && !text.is_empty() {
+        let _ = write!(help, ": {text}");
+    }
+    help
+}
+
 /// Why the system doesn't read a file, if it still doesn't.
 fn reason_of(rt: &HostRuntime, name: &str) -> Option<io::Error> {
     let mut octet = [0_u8];
@@ -129,6 +160,10 @@ fn tell_fault(rt: &HostRuntime, words: &[String], status: &Status) {
     match *status {
         Status::Script { line: at, kind } => {
             let help = help_of_script(rt, words, at, kind);
+            let _ = eprintln!(rt; "{line}{help}");
+        }
+        Status::Log { line: at } => {
+            let help = help_of_log(rt, words, at);
             let _ = eprintln!(rt; "{line}{help}");
         }
         Status::Load { input } => {

@@ -17,7 +17,7 @@ use run_words::CommandLine;
 use std::alloc::{AllocError, Global};
 
 /// The names of both files, copied.
-fn file_names(alloc: Global, line: &CommandLine<'_>) -> Result<(String, String), AllocError>
+pub fn file_names(alloc: Global, line: &CommandLine<'_>) -> Result<(String, String), AllocError>
     ensures file_a { IfOk result (λ names. string_bytes names.0 ≡ line.now.file_a.now) }
     ensures file_b { IfOk result (λ names. string_bytes names.1 ≡ line.now.file_b.now) }
 {

@@ -24,6 +24,7 @@ use crate::asking::{Asked, DataNumbers, View, asked_by};
 use crate::cutting::{Extent, ReadLog, read_shown};
 use crate::deaths::deaths_in;
 use crate::telling::untold;
+use crate::whole::{json_shown, page_shown};
 use key_material::idsn;
 use link_script::Script;
 use link_trace::{
@@ -47,7 +48,11 @@ fn base_in(script: &Script) -> Base
 }
 
 /// What each segment of a run of this script carries.
-fn carried_in(alloc: Global, script: &Script, trace: &[Sent]) -> Result<Vec<Carried>, AllocError>
+pub fn carried_in(
+    alloc: Global,
+    script: &Script,
+    trace: &[Sent],
+) -> Result<Vec<Carried>, AllocError>
     ensures { IfOk result (λ carried. carried.items ≡
         all_carried (base_in script.now) (initials_in script.now) trace.now) }
 {
@@ -56,7 +61,7 @@ fn carried_in(alloc: Global, script: &Script, trace: &[Sent]) -> Result<Vec<Carr
 }
 
 /// The initial data sequence numbers of both sides, where data numbers are told from these.
-fn data_in(numbers: DataNumbers, script: &Script) -> Option<InitialData>
+pub fn data_in(numbers: DataNumbers, script: &Script) -> Option<InitialData>
     ensures { result ≡ data_in numbers script.now }
 {
     match numbers {
@@ -69,7 +74,7 @@ fn data_in(numbers: DataNumbers, script: &Script) -> Option<InitialData>
 }
 
 /// The tick at which a run ended that ended with this world. Clocks meet as a round ends, so it is that of path 0, which is the actor 2.
-fn end_of(world: &World) -> u64
+pub fn end_of(world: &World) -> u64
     ensures { result ≡ end_of world.now.state }
 {
     match world.path(2) {
@@ -134,6 +139,8 @@ fn shown(
         }
         View::Picture => picture_at(alloc, script, world, told),
         View::Text(numbers) => lines(alloc, script.checksum, data_in(numbers, script), told),
+        View::Json => json_shown(alloc, script, world, told),
+        View::Page => page_shown(alloc, script, world, told),
     }
 }
 
@@ -312,7 +319,7 @@ pub fn show<O: Outside, P: Progress>(
     }
 }
 
-/// Writes the view that the words ask for: a first word `capture`, `rates`, `summary`, `picture` or `text`, behind `capture` the
+/// Writes the view that the words ask for: a first word `capture`, `rates`, `summary`, `picture`, `text`, `json` or `page`, behind `capture` the
 /// words `--at a` or `--at b`, or behind `text` the word `--absolute`, where they are wanted, and five names. No name is empty, and
 /// OUT is none of the inputs. It tells how far the turns of the log are made. Of the ports only that of OUT, `ReadByB`, is touched.
 /// The answer is how much of the log is shown: where it was cut off, as that of a run that was killed, its whole rounds.

@@ -10,7 +10,7 @@ use run_outside::split_at_first;
 use std::alloc::{AllocError, Global};
 
 /// What stands behind the first space.
-fn behind_word(text: &[u8]) -> &[u8]
+pub fn behind_word(text: &[u8]) -> &[u8]
     ensures { result.now ≡ behind_word text.now }
 {
     let (_, behind) = split_at_first(text, b' ');
@@ -18,7 +18,7 @@ fn behind_word(text: &[u8]) -> &[u8]
 }
 
 /// What a line says behind its stamp and its actor.
-fn step_words(line: &[u8]) -> &[u8]
+pub fn step_words(line: &[u8]) -> &[u8]
     ensures { result.now ≡ step_words line.now }
 {
     behind_word(behind_word(line))

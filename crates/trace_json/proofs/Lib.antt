@@ -1,0 +1,3 @@
+mod AtPlaces
+mod Plain
+mod Tags

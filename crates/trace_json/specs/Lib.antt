@@ -1,0 +1,10 @@
+pub mod Events
+pub mod Fields
+pub mod Laws
+pub mod Multipath
+pub mod Options
+pub mod Pages
+pub mod Runs
+pub mod Scripts
+pub mod Segments
+pub mod Totals

@@ -1,0 +1,88 @@
+//! A run as one object.
+
+ghost use Rattle.std.specs.Prelude.{◌≡◌, IfOk, string_bytes};
+ghost use Rattle.serde_json.specs.View.{view};
+ghost use Rattle.trace_json.specs.Runs.{IsJsonOf, keys_data, run_data, told_of, tokens_data};
+
+use crate::fields::digits;
+use crate::script::script_value;
+use crate::segments::{Beside, segments_list};
+use crate::totals::rows_list;
+use key_material::token;
+use link_script::Script;
+use link_trace::{Carried, Row, Sent};
+use serde_json::{Value, json};
+use std::alloc::{AllocError, Global};
+
+/// What is told of a run.
+#[derive(Clone, Copy)]
+pub struct Told<'a> {
+    /// Its script.
+    pub script: &'a Script,
+    /// The key of A.
+    pub key_a: u64,
+    /// The key of B.
+    pub key_b: u64,
+    /// The tick at which the run ended.
+    pub end: u64,
+    /// Each segment, in the order in which they are told.
+    pub trace: &'a [Sent],
+    /// What each of them carries.
+    pub carried: &'a [Carried],
+    /// The words of each of them.
+    pub words: &'a [String],
+    /// The sums of both directions of each path.
+    pub rows: &'a [Row],
+}
+
+/// Both keys.
+fn keys_value(alloc: Global, a: u64, b: u64) -> Result<Value, AllocError>
+    ensures { IfOk result (λ value. view value ≡ keys_data a b) }
+{
+    let (a, b) = (digits(alloc, a)?, digits(alloc, b)?);
+    json!(in alloc; {"a": a, "b": b})
+}
+
+/// The tokens of both keys (RFC 8684, section 3.2).
+fn tokens_value(alloc: Global, a: u64, b: u64) -> Result<Value, AllocError>
+    ensures { IfOk result (λ value. view value ≡ tokens_data a b) }
+{
+    keys_value(alloc, u64::from(token(a)), u64::from(token(b)))
+}
+
+fn run_value(alloc: Global, told: &Told<'_>) -> Result<Value, AllocError>
+    ensures { IfOk result (λ value. view value ≡ run_data (told_of told.now)) }
+{
+    let beside = Beside {
+        paths: told.script.paths.as_slice(),
+        end: told.end,
+        checksums: told.script.checksum,
+        carried: told.carried,
+        words: told.words,
+    };
+    let keys = keys_value(alloc, told.key_a, told.key_b)?;
+    let script = script_value(alloc, told.script)?;
+    let segments = segments_list(alloc, &beside, told.trace)?;
+    let tokens = tokens_value(alloc, told.key_a, told.key_b)?;
+    let totals = rows_list(alloc, told.rows)?;
+    json!(in alloc; {
+        "end": told.end,
+        "keys": keys,
+        "script": script,
+        "segments": segments,
+        "tokens": tokens,
+        "totals": totals,
+    })
+}
+
+/// A run as the text of one JSON object (RFC 8259) without spaces or line ends, which reads back as that object.
+///
+/// # Errors
+///
+/// Only where there is no memory.
+pub fn json(alloc: Global, told: &Told<'_>) -> Result<String, AllocError>
+    ensures { IfOk result (λ text. IsJsonOf (told_of told.now) (string_bytes text)) }
+{
+    let value = run_value(alloc, told)?;
+    value.to_string(alloc)
+}
