@@ -1,5 +1,6 @@
 pub mod Agendas
 pub mod Books
+pub mod Came
 pub mod Copies
 pub mod Duties
 pub mod Flying
@@ -9,9 +10,13 @@ pub mod Keeping
 pub mod Lanes
 pub mod Links
 pub mod Owing
+pub mod Passing
+pub mod Pieces
 pub mod Reasons
 pub mod Resending
 pub mod Rounds
+pub mod Running
+pub mod Saying
 pub mod Settling
 pub mod Subflows
 pub mod Timing

@@ -32,11 +32,11 @@ use Rattle.whole_paths.proofs.Settling.{IsSettled, HoldsAtTheEnd, each_turn_sett
 -- ---- the reasons of an end
 
 -- by its subflow, its stream, its modes and its notices
-abbrev reason_of : EndState → Sending → Modes → Notices → Bool
+abbrev pub reason_of : EndState → Sending → Modes → Notices → Bool
 reason_of t v m n =
     is_timed (((not (sends_plainly m) && (v.fin_sent && not v.close.own_acked)) || (not (is_all_acknowledged v.granted) || v.shut)) || (m.owes_third || n.fast_closed)) t
 
-abbrev has_reason : PathEnd → Bool
+abbrev pub has_reason : PathEnd → Bool
 has_reason e = reason_of e.tcp e.sending e.modes e.notices
 
 -- the timer runs where there is a reason
@@ -65,7 +65,7 @@ seen_runs : (e f : PathEnd) → end_view nothing f ≡ end_view nothing e → Ru
 seen_runs e f same runs = same_runs e f (ap reason_seen same) (same_Some f.tcp.timing e.tcp.timing (ap (λ (v : EndView). v.timing) same)) runs
 
 -- all of them, where the end isn't closed to segments
-abbrev reasons : PathEnd → Bool
+abbrev pub reasons : PathEnd → Bool
 reasons e =
     ((((not (sends_plainly e.modes) && (e.sending.fin_sent && not e.sending.close.own_acked)) || (not (is_all_acknowledged e.sending.granted) || e.sending.shut))
     || (e.modes.owes_third || e.notices.fast_closed)) || is_some_record e.tcp.send.records)
@@ -88,7 +88,7 @@ timer_runs now e has = subst (λ reason. is_none (timer_settled reason e.sending
     by (Some tick) false = refl
 
 -- what is outstanding is a reason
-outstanding_so : (e : PathEnd) → IsOutstanding e → is_closed_to_segments e.tcp.state ≡ false → has_reason e ≡ true
+pub outstanding_so : (e : PathEnd) → IsOutstanding e → is_closed_to_segments e.tcp.state ≡ false → has_reason e ≡ true
 outstanding_so e out opened = subst (λ b. (not b && (((F || (O || W)) || (T || K)) || S)) ≡ true) (sym opened) (by out)
   where
     F : Bool

@@ -118,13 +118,13 @@ ready_settles = record {
 -- ---- what each duty makes of it
 
 -- timer and news stay, and no third MP_JOIN is owed anew
-record Calm (e f : PathEnd) : Type 0 where
-  timer : f.tcp.timing.timer ≡ e.tcp.timing.timer
-  subflow : f.tcp.timing.news ≡ e.tcp.timing.news
-  stream : f.sending.news ≡ e.sending.news
-  third : f.modes.owes_third ≡ true → e.modes.owes_third ≡ true
+pub record Calm (e f : PathEnd) : Type 0 where
+  pub timer : f.tcp.timing.timer ≡ e.tcp.timing.timer
+  pub subflow : f.tcp.timing.news ≡ e.tcp.timing.news
+  pub stream : f.sending.news ≡ e.sending.news
+  pub third : f.modes.owes_third ≡ true → e.modes.owes_third ≡ true
 
-data Timed (e f : PathEnd) : Type 0 where
+pub data Timed (e f : PathEnd) : Type 0 where
   calm : Calm e f → Timed e f
   changed : IsNews e f → Timed e f
   gone : is_gone f ≡ true → Timed e f
@@ -132,7 +132,7 @@ data Timed (e f : PathEnd) : Type 0 where
 same_calm : (e f : PathEnd) → f.tcp.timing ≡ e.tcp.timing → f.sending.news ≡ e.sending.news → f.modes.owes_third ≡ e.modes.owes_third → Calm e f
 same_calm e f timing news owes = record { timer = ap (λ (t : Timing). t.timer) timing; subflow = ap (λ (t : Timing). t.news) timing; stream = news; third = λ is. sym owes ∙ is }
 
-calmly : (e f : PathEnd) → f.tcp.timing ≡ e.tcp.timing → f.sending.news ≡ e.sending.news → f.modes.owes_third ≡ e.modes.owes_third → Timed e f
+pub calmly : (e f : PathEnd) → f.tcp.timing ≡ e.tcp.timing → f.sending.news ≡ e.sending.news → f.modes.owes_third ≡ e.modes.owes_third → Timed e f
 calmly e f timing news owes = calm (same_calm e f timing news owes)
 
 stays : (e : PathEnd) → Timed e e
@@ -295,9 +295,9 @@ third_rest : (b : Bool) → (b || false) ≡ b
 third_rest true = refl
 third_rest false = refl
 
-record Passed (e f : PathEnd) : Type 0 where
-  timed : Timed e f
-  third : f.modes.owes_third ≡ true → e.modes.owes_third ≡ true
+pub record Passed (e f : PathEnd) : Type 0 where
+  pub timed : Timed e f
+  pub third : f.modes.owes_third ≡ true → e.modes.owes_third ≡ true
 
 calmly_passed : (e f : PathEnd) → f.tcp.timing ≡ e.tcp.timing → f.sending.news ≡ e.sending.news → f.modes.owes_third ≡ e.modes.owes_third → Passed e f
 calmly_passed e f timing news owes = record { timed = calmly e f timing news owes; third = λ is. sym owes ∙ is }
@@ -309,7 +309,7 @@ dss_passed s e = record { timed = by e.modes.owes_third refl; third = λ is. abs
     by true is = changed (third is refl)
     by false is = calm (record { timer = refl; subflow = refl; stream = ap (λ b. e.sending.news || b) is ∙ third_rest e.sending.news; third = λ owed. absurd (true≢false (sym owed)) })
 
-item_timed : (s : Side) (o : Option Heard) (e : PathEnd) → Passed e (item_passed s o e)
+pub item_timed : (s : Side) (o : Option Heard) (e : PathEnd) → Passed e (item_passed s o e)
 item_timed s None e = calmly_passed e e refl refl refl
 item_timed s (Some says.Dss) e = dss_passed s e
 item_timed s (Some (says.Mapping fin)) e = elim (counts e) as (λ b. Passed e (if b then with_learned e else with_skipped e))
@@ -345,10 +345,10 @@ pub record Far (e f : PathEnd) : Type 0 where
   pub stream : IsStreamAsFar e.sending f.sending
   pub kept : KeepsWhatWaits e f
 
-same_far : (e : PathEnd) → Far e e
+pub same_far : (e : PathEnd) → Far e e
 same_far e = record { subflow = subflow.stays e.tcp; stream = stream_stays e.sending; kept = same_keeps e }
 
-far_then : (e f g : PathEnd) → Far e f → Far f g → Far e g
+pub far_then : (e f g : PathEnd) → Far e f → Far f g → Far e g
 far_then e f g x y = record {
   subflow = subflow.goes_on e.tcp f.tcp g.tcp x.subflow y.subflow;
   stream = stream_then e.sending f.sending g.sending x.stream y.stream;
@@ -362,19 +362,19 @@ pub path_far : {C : Type 0} (p q : PathState C) → PathStep p q → (s : Side) 
 path_far p q x A = end_far q.clock p.a q.a x.a
 path_far p q x B = end_far q.clock p.b q.b x.b
 
-data Goes (tick : ℕ) (e f : PathEnd) : Type 0 where
+pub data Goes (tick : ℕ) (e f : PathEnd) : Type 0 where
   on : RunsTo tick f → (f.modes.owes_third ≡ true → e.modes.owes_third ≡ true) → Goes tick e f
   changes : IsNews e f → Goes tick e f
   leaves_it : is_gone f ≡ true → Goes tick e f
 
 -- an end that isn't closed to segments is closed to them only as it dies
-closed_gone : (state : EndPhase) → 1 ≤ stage state → is_closed_to_segments state ≡ true → is_dead state ≡ true
+pub closed_gone : (state : EndPhase) → 1 ≤ stage state → is_closed_to_segments state ≡ true → is_dead state ≡ true
 closed_gone phase.Waiting low closed = absurd (omega (arith, low))
 closed_gone phase.Listen low closed = absurd (omega (arith, low))
 closed_gone phase.Dead low closed = refl
 closed_gone _ low closed = absurd (true≢false (sym closed))
 
-living_stage : (state : EndPhase) → is_closed_to_segments state ≡ false → 1 ≤ stage state
+pub living_stage : (state : EndPhase) → is_closed_to_segments state ≡ false → 1 ≤ stage state
 living_stage phase.Waiting living = absurd (true≢false living)
 living_stage phase.Listen living = absurd (true≢false living)
 living_stage phase.Dead living = absurd (true≢false living)
@@ -400,10 +400,10 @@ goes_so tick e f (gone x) far h = leaves_it x
 
 -- ---- duties that are passed
 
-record Passes (e f : PathEnd) : Type 0 where
-  far : Far e f
-  third : f.modes.owes_third ≡ true → e.modes.owes_third ≡ true
-  goes : (tick : ℕ) → RunsTo tick e → Goes tick e f
+pub record Passes (e f : PathEnd) : Type 0 where
+  pub far : Far e f
+  pub third : f.modes.owes_third ≡ true → e.modes.owes_third ≡ true
+  pub goes : (tick : ℕ) → RunsTo tick e → Goes tick e f
 
 passes_by : (e f : PathEnd) → Passed e f → Far e f → Passes e f
 passes_by e f x far = record { far = far; third = x.third; goes = λ tick h. goes_so tick e f x.timed far h }
@@ -425,7 +425,7 @@ same_passes e = passes_by e e (calmly_passed e e refl refl refl) (same_far e)
 
 -- ---- one after the other
 
-news_up : (e f g : PathEnd) → Far e f → (f.modes.owes_third ≡ true → e.modes.owes_third ≡ true) → IsNews f g → IsNews e g
+pub news_up : (e f g : PathEnd) → Far e f → (f.modes.owes_third ≡ true → e.modes.owes_third ≡ true) → IsNews f g → IsNews e g
 news_up e f g far owes (on_subflow more) = let up = far.subflow.acknowledged in on_subflow (omega (arith, up, more))
 news_up e f g far owes (on_stream more) = let up = far.stream.heard in on_stream (omega (arith, up, more))
 news_up e f g far owes (data_fin none some) = data_fin (not_before e.sending.close.own_acked refl) some
@@ -436,7 +436,7 @@ news_up e f g far owes (data_fin none some) = data_fin (not_before e.sending.clo
 news_up e f g far owes (opened low high) = let up = far.subflow.state in opened (omega (arith, up, low)) high
 news_up e f g far owes (third owed answered) = third (owes owed) answered
 
-news_stays : (e f g : PathEnd) → Far f g → (g.modes.owes_third ≡ true → f.modes.owes_third ≡ true) → IsNews e f → IsNews e g
+pub news_stays : (e f g : PathEnd) → Far f g → (g.modes.owes_third ≡ true → f.modes.owes_third ≡ true) → IsNews e f → IsNews e g
 news_stays e f g far owes (on_subflow more) = let up = far.subflow.acknowledged in on_subflow (omega (arith, up, more))
 news_stays e f g far owes (on_stream more) = let up = far.stream.heard in on_stream (omega (arith, up, more))
 news_stays e f g far owes (data_fin none some) = data_fin none (far.stream.fin_acknowledged some)
@@ -575,11 +575,11 @@ module _ {C : Type 0} where
       side s _ p (copy_heard s (Some heard) p) x refl refl
 
   -- an end whose timer runs out by an event, or what becomes of it by the duty
-  data TimedAt (d : Duty) (s : Side) (p q : PathState C) : Type 0 where
+  pub data TimedAt (d : Duty) (s : Side) (p q : PathState C) : Type 0 where
     at_end : Timed (end_at s p) (end_at s q) → TimedAt d s p q
     out : (at : ℕ) → d ≡ duties.Step step_duties.Events → next_event p ≡ Some (happenings.Fires s at) → TimedAt d s p q
 
-  abbrev AllTimed : Duty → PathState C → PathState C → Type 0
+  abbrev pub AllTimed : Duty → PathState C → PathState C → Type 0
   AllTimed d p q = (t : Side) → TimedAt d t p q
 
   ends : (d : Duty) (p q : PathState C) → BothTimed p q → AllTimed d p q
@@ -605,7 +605,7 @@ module _ {C : Type 0} where
 
   -- ---- any duty
 
-  answered_timed : (k : Codec C) (d : Duty) (r : Reply) (p : PathState C) → AllTimed d p (answered k d r p)
+  pub answered_timed : (k : Codec C) (d : Duty) (r : Reply) (p : PathState C) → AllTimed d p (answered k d r p)
   answered_timed k (duties.Step step_duties.Events) r p = event_timed k (next_event p) r p refl
   answered_timed k (duties.Ask ask_duties.JoinAgain) r p = ends _ p _ (begun_timed r _ _ p)
   answered_timed k (duties.Ask (ask_duties.LeaveNoted s)) r p = ends _ p _ (dying s _ p _ refl refl refl)
@@ -622,7 +622,7 @@ module _ {C : Type 0} where
   answered_timed k d r p =
       let q : PathState C = answered k d r p in ends d p q (calm_ends p q (plain (side_of d) (writes d) p q refl refl refl refl (writes_no_more k d r p)))
 
-  abbrev BothPass : PathState C → PathState C → Type 0
+  abbrev pub BothPass : PathState C → PathState C → Type 0
   BothPass p q = (s : Side) → Passes (end_at s p) (end_at s q)
 
   -- the end of this side passes a duty
@@ -643,7 +643,7 @@ module _ {C : Type 0} where
   rest_passes : (p : PathState C) → BothPass p p
   rest_passes p t = same_passes (end_at t p)
 
-  duty_passes : (d : Duty) (p : PathState C) → PathStep p (passed d p) → BothPass p (passed d p)
+  pub duty_passes : (d : Duty) (p : PathState C) → PathStep p (passed d p) → BothPass p (passed d p)
   duty_passes (duties.Silent (silent_duties.Timer s)) p x =
       let e : PathEnd = end_at s p in
       let far : Far e (after_timer p.clock e) = own_far s (after_timer p.clock e) p x in

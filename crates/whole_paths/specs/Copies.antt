@@ -27,7 +27,7 @@ module _ {C : Type 0} where
     -- the next event was a line of the script by which the path dies
     dies : (line : LineLeft) → next_event p ≡ Some (happenings.Takes line) → line.action ≡ actions.Die → GoesOnItsWay f p q
 
-  -- so it is with each copy of a path, as the path becomes this actor
+  -- with each copy of a path, as the path becomes this actor
   abbrev pub CopiesGoOn : Actor C → Actor C → Type 0
   CopiesGoOn (Path p) (Path q) = (f : Flight C) → IsUnderWay f p → GoesOnItsWay f p q
   CopiesGoOn (App a) (App b) = Unit {0}

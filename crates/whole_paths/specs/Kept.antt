@@ -32,7 +32,7 @@ pub record KeepsWhatWaits (e f : PathEnd) : Type 0 where
   pub pieces : AreKept (λ (x : GrantedPiece). x.to ≤ f.sending.heard) (λ (x y : GrantedPiece). y ≡ x) e.sending.granted f.sending.granted
 
 module _ {C : Type 0} where
-  -- so it is with both ends of a path
+  -- with both ends of a path
   abbrev pub EndsKeepWhatWaits : Actor C → Actor C → Type 0
   EndsKeepWhatWaits (Path p) (Path q) = (s : Side) → KeepsWhatWaits (end_at s p) (end_at s q)
   EndsKeepWhatWaits (App a) (App b) = Unit {0}

@@ -1,6 +1,7 @@
 pub mod AgendaSteps
 pub mod Answered
 pub mod AsFar
+pub mod Came
 pub mod Copies
 pub mod EndSteps
 pub mod Expiries
@@ -10,7 +11,10 @@ pub mod Harms
 pub mod InTime
 pub mod Kept
 pub mod Lanes
+pub mod Passed
 pub mod Reasons
 pub mod Rounds
+pub mod Running
+pub mod Saying
 pub mod Timers
 pub mod Waits

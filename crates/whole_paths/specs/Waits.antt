@@ -49,7 +49,7 @@ module _ {C : Type 0} where
     news : IsNews (end_at s p) (end_at s q) → WaitsOn s tick p q
     gone : is_dead (end_at s q).tcp.state ≡ true → WaitsOn s tick p q
 
-  -- so it is at both ends of a path, as it becomes this actor
+  -- at both ends of a path, as it becomes this actor
   abbrev pub TimersWaitOn : Actor C → Actor C → Type 0
   TimersWaitOn (Path p) (Path q) = (s : Side) (tick : ℕ) → RunsTo tick (end_at s p) → WaitsOn s tick p q
   TimersWaitOn (App a) (App b) = Unit {0}

@@ -5,6 +5,7 @@ ghost use Rattle.std.specs.Prelude.{ℕ, List};
 ghost use Rattle.world_laws.specs.Laws.{Always};
 ghost use Rattle.whole_paths.specs.Answered.{CopiesAreAnswered};
 ghost use Rattle.whole_paths.specs.AsFar.{NothingGoesBack};
+ghost use Rattle.whole_paths.specs.Came.{WhatIsAcknowledgedCame};
 ghost use Rattle.whole_paths.specs.Copies.{CopiesLeaveByArriving};
 ghost use Rattle.whole_paths.specs.Expiries.{WhatRunsOutGoesAgain};
 ghost use Rattle.whole_paths.specs.Flights.{WhatWaitsComes};
@@ -12,7 +13,10 @@ ghost use Rattle.whole_paths.specs.Harms.{EachUsesALineOrComes};
 ghost use Rattle.whole_paths.specs.InTime.{NothingIsOverdue};
 ghost use Rattle.whole_paths.specs.Kept.{WhatWaitsIsKept};
 ghost use Rattle.whole_paths.specs.Lanes.Laws.{LossyLanesEnd, LossyLanesFinish};
+ghost use Rattle.whole_paths.specs.Passed.{WhatIsInOrderIsPassed};
 ghost use Rattle.whole_paths.specs.Reasons.{WhoWaitsHasATimer};
+ghost use Rattle.whole_paths.specs.Running.{TimersRunOn};
+ghost use Rattle.whole_paths.specs.Saying.{EachSegmentSaysWhatCame};
 ghost use Rattle.whole_paths.specs.Timers.{TimersRunOut};
 ghost use Rattle.whole_paths.specs.Waits.{NoTimerIsPutOff};
 
@@ -70,6 +74,17 @@ pub fn no_timer_is_put_off()
     ensures values { NoTimerIsPutOff values }
 {}
 
+/// A law: a timer that runs goes on to the same tick, whatever it runs for, until nothing of its end is outstanding (RFC 6298, section 5,
+/// rules 5.2 and 5.3).
+///
+/// By any turn it runs still, to the same tick; or it was the path's next event that it runs out; or there is news, as in
+/// `no_timer_is_put_off`; or the end is dead; or no record, granted byte, DATA_FIN, shut window, third MP_JOIN or MP_FASTCLOSE of the end
+/// waits for an answer any longer. So the timer of an end that waits for one of these can't be stopped by another one that is answered.
+pub fn timers_run_on()
+    ensures octets { TimersRunOn octets }
+    ensures values { TimersRunOn values }
+{}
+
 /// A law: where a timer runs out, the first record that isn't acknowledged is sent again, and the timer runs anew (RFC 6298, section 5,
 /// rules 5.4 to 5.6).
 ///
@@ -86,6 +101,33 @@ pub fn what_runs_out_goes_again()
 pub fn each_copy_is_answered_at_once()
     ensures octets { Always octets (λ start w. CopiesAreAnswered w) }
     ensures values { Always values (λ start w. CopiesAreAnswered w) }
+{}
+
+/// A law: each segment that an end sends acknowledges RCV.NXT (RFC 9293, section 3.10.7.4), but for the SYN of an end that opens and for
+/// resets.
+///
+/// By any turn in which a path sends, its link takes the segment that was to be sent next, which so acknowledges all that came in order: an
+/// acknowledgement, a record for the first time or again, a window update, a DATA_FIN and what an expiry sends without a record.
+pub fn each_segment_says_what_came()
+    ensures octets { EachSegmentSaysWhatCame octets }
+    ensures values { EachSegmentSaysWhatCame values }
+{}
+
+/// A law: nothing is acknowledged that didn't come: SND.UNA of each end that isn't dead lies at its peer's RCV.NXT or below, whatever is
+/// lost, late, repeated or altered (RFC 9293, section 3.4).
+pub fn what_is_acknowledged_came()
+    ensures { Always values (λ start w. WhatIsAcknowledgedCame w) }
+{}
+
+/// A law: where the turn of a path is over, no end that isn't dead keeps bytes that it may place: RCV.NXT stands behind all octets in order
+/// that have their mapping (RFC 8684, section 3.3.1), with checksums behind each mapping that is kept whole and right, and in plain TCP or
+/// under an infinite mapping behind all octets in order (section 3.7).
+///
+/// What comes in order is so passed in the turn in which it comes, and what waited behind it too; or the reassembly book refuses it, and the
+/// end dies.
+pub fn what_is_in_order_is_passed()
+    ensures octets { Always octets (λ start w. WhatIsInOrderIsPassed w) }
+    ensures values { Always values (λ start w. WhatIsInOrderIsPassed w) }
 {}
 
 /// A law: the first record of an end that isn't acknowledged comes to the peer within a minute and the link's delay, unless the script harms
