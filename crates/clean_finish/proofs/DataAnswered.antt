@@ -1,5 +1,5 @@
 -- The steps in which an end asks for bytes and sends them.
-use Rattle.clean_finish.proofs.Words.{◌≡◌, refl, sym, subst, ap, ◌∙◌, ℕ, ◌+◌, ◌<◌, ◌≤◌, max, nat_lt, Bool, true, false, not, ◌&&◌, if◌then◌else◌, ◌⊎◌, inl, inr}
+use Rattle.clean_finish.proofs.Words.{◌≡◌, refl, sym, subst, ap, ◌∙◌, ℕ, ◌+◌, ◌<◌, ◌≤◌, max, nat_lt, Bool, true, false, not, ◌&&◌, if◌then◌else◌, ◌⊎◌, inl, inr, made}
 use Rattle.clean_finish.proofs.Words.{Option, None, List, [], ◌∷◌, length, arith, Some, nat_le, ◌==◌, ◌^◌, find, Ok, Err, Result, both_ways, lt-ltb, leb-true}
 use Rattle.clean_finish.proofs.Words.{eqb-true, Side, A, B, decision, reply_by, given_by, SendCall, Why, Record, is_unsent, syn_record, never_sent, Data, State}
 use Rattle.clean_finish.proofs.Words.{is_closed_to_segments, one_if, Occasion, going_to, plain_flight, after_send, PlainSegment, Duty, StepDuty, Reply}
@@ -114,17 +114,18 @@ module _ (start : Start) (plan : PathPlan) (k j : Setting) (s v : Lane) (t0 u0 :
             let x = piece plan.delay t0 u0 k_is j_is going going_back view r in
             let segment = said p.profile keys A x in
             let carried = carried_by p.profile.spelling A segment in
+            let size = length (made p.profile.spelling A segment) in
             let strip : Side → Carried → Carried = λ side sent. stripped sent in
             let alter : Side → Carried → Carried = λ side sent. altered sent in
             let flight = plain_flight strip alter A carried p.clock p.link in
             let flies : FliesAs p.profile keys A flight x =
-            record { tick = ap (λ (n : ℕ). p.clock + n) h.path.delay; to = refl; carried = carried_is strip alter carried p.clock p.link h.path.unspoken h.link A } in
+            record { tick = ap (λ (n : ℕ). p.clock + n) h.path.delay; to = refl; carried = carried_is strip alter carried size p.clock p.link h.path.unspoken h.link A } in
             let faces = piece_goes plan.delay t0 u0 k_is j_is going going_back view r t.0.0.none t.0.0.owes una t.0.0.answered t.0.0.ready t.0.0.shown window ask w.alone w.unsent w.one w.waits w.some w.edge (λ is. keyed (ready is) (t.0.0.shown is)) t.3.2
-            (going_to B (after_send strip alter A carried p.clock p.link).under_way)
-            (going_to A (after_send strip alter A carried p.clock p.link).under_way)
+            (going_to B (after_send strip alter A carried size p.clock p.link).under_way)
+            (going_to A (after_send strip alter A carried size p.clock p.link).under_way)
             flight flies
-            (last_from_a strip alter carried p.clock p.link h.path.unspoken h.link)
-            (others_of_a strip alter carried p.clock p.link h.path.unspoken h.link) in
+            (last_from_a strip alter carried size p.clock p.link h.path.unspoken h.link)
+            (others_of_a strip alter carried size p.clock p.link h.path.unspoken h.link) in
             subst (λ (sg : PlainSegment). Relation books (sends_a sg))
             (sym (ap (λ (o : Option Record). record_or_ack p.profile A o p.a) found
             ∙ piece_is p.profile keys A (p.clock + plan.delay) view.out.granted view.out.control_sent view.out.keys_sent x.telling r p.a view.own.modes.mapping
@@ -141,7 +142,7 @@ module _ (start : Start) (plan : PathPlan) (k j : Setting) (s v : Lane) (t0 u0 :
                 lines = h.path.lines;
                 joined = h.path.joined;
               };
-              link = link_after_a strip alter carried p.clock p.link h.path.unspoken h.link;
+              link = link_after_a strip alter carried size p.clock p.link h.path.unspoken h.link;
               faces = faces;
               treats = (
                 (
@@ -180,17 +181,18 @@ module _ (start : Start) (plan : PathPlan) (k j : Setting) (s v : Lane) (t0 u0 :
             let x = first plan.delay t0 u0 k_is j_is going going_back view r in
             let segment = said p.profile keys A x in
             let carried = carried_by p.profile.spelling A segment in
+            let size = length (made p.profile.spelling A segment) in
             let strip : Side → Carried → Carried = λ side sent. stripped sent in
             let alter : Side → Carried → Carried = λ side sent. altered sent in
             let flight = plain_flight strip alter A carried p.clock p.link in
             let flies : FliesAs p.profile keys A flight x =
-            record { tick = ap (λ (n : ℕ). p.clock + n) h.path.delay; to = refl; carried = carried_is strip alter carried p.clock p.link h.path.unspoken h.link A } in
+            record { tick = ap (λ (n : ℕ). p.clock + n) h.path.delay; to = refl; carried = carried_is strip alter carried size p.clock p.link h.path.unspoken h.link A } in
             let faces = first_goes plan.delay t0 u0 k_is j_is going going_back view r t.0.0.none t.0.0.owes una t.0.0.answered window w.alone w.unsent w.one w.waits w.some w.edge unclear (ready refl) (t.0.0.shown refl) (none_before w.pos (first_at_one p.a.modes.clear (r.pos == 1) which)) t.3.2
-            (going_to B (after_send strip alter A carried p.clock p.link).under_way)
-            (going_to A (after_send strip alter A carried p.clock p.link).under_way)
+            (going_to B (after_send strip alter A carried size p.clock p.link).under_way)
+            (going_to A (after_send strip alter A carried size p.clock p.link).under_way)
             flight flies
-            (last_from_a strip alter carried p.clock p.link h.path.unspoken h.link)
-            (others_of_a strip alter carried p.clock p.link h.path.unspoken h.link) in
+            (last_from_a strip alter carried size p.clock p.link h.path.unspoken h.link)
+            (others_of_a strip alter carried size p.clock p.link h.path.unspoken h.link) in
             subst (λ (sg : PlainSegment). Relation books (sends_a sg))
             (sym (ap (λ (o : Option Record). record_or_ack p.profile A o p.a) found
             ∙ first_is p.profile keys (p.clock + plan.delay) view.out.granted j.least r p.a view.own.modes.mapping
@@ -206,7 +208,7 @@ module _ (start : Start) (plan : PathPlan) (k j : Setting) (s v : Lane) (t0 u0 :
                 lines = h.path.lines;
                 joined = h.path.joined;
               };
-              link = link_after_a strip alter carried p.clock p.link h.path.unspoken h.link;
+              link = link_after_a strip alter carried size p.clock p.link h.path.unspoken h.link;
               faces = faces;
               treats = (
                 (
@@ -419,17 +421,18 @@ module _ (start : Start) (plan : PathPlan) (k j : Setting) (s v : Lane) (t0 u0 :
             let x = piece plan.delay u0 t0 j_is k_is going_back going view r in
             let segment = said p.profile keys B x in
             let carried = carried_by p.profile.spelling B segment in
+            let size = length (made p.profile.spelling B segment) in
             let strip : Side → Carried → Carried = λ side sent. stripped sent in
             let alter : Side → Carried → Carried = λ side sent. altered sent in
             let flight = plain_flight strip alter B carried p.clock p.link in
             let flies : FliesAs p.profile keys B flight x =
-            record { tick = ap (λ (n : ℕ). p.clock + n) h.path.delay; to = refl; carried = carried_is strip alter carried p.clock p.link h.path.unspoken h.link B } in
+            record { tick = ap (λ (n : ℕ). p.clock + n) h.path.delay; to = refl; carried = carried_is strip alter carried size p.clock p.link h.path.unspoken h.link B } in
             let faces = from_b keys k j s v a b books (sends_b segment) (piece_goes plan.delay u0 t0 j_is k_is going_back going view r t.0.1.none t.0.1.owes una t.0.1.answered t.0.1.ready t.0.1.shown window ask w.alone w.unsent w.one w.waits w.some w.edge (λ is. keyed (ready is) (t.0.1.shown is)) t.3.2
-            (going_to A (after_send strip alter B carried p.clock p.link).under_way)
-            (going_to B (after_send strip alter B carried p.clock p.link).under_way)
+            (going_to A (after_send strip alter B carried size p.clock p.link).under_way)
+            (going_to B (after_send strip alter B carried size p.clock p.link).under_way)
             flight flies
-            (last_from_b strip alter carried p.clock p.link h.path.unspoken h.link)
-            (others_of_b strip alter carried p.clock p.link h.path.unspoken h.link)) in
+            (last_from_b strip alter carried size p.clock p.link h.path.unspoken h.link)
+            (others_of_b strip alter carried size p.clock p.link h.path.unspoken h.link)) in
             subst (λ (sg : PlainSegment). Relation books (sends_b sg))
             (sym (ap (λ (o : Option Record). record_or_ack p.profile B o p.b) found
             ∙ piece_is p.profile keys B (p.clock + plan.delay) view.out.granted view.out.control_sent view.out.keys_sent x.telling r p.b view.own.modes.mapping
@@ -446,7 +449,7 @@ module _ (start : Start) (plan : PathPlan) (k j : Setting) (s v : Lane) (t0 u0 :
                 lines = h.path.lines;
                 joined = h.path.joined;
               };
-              link = link_after_b strip alter carried p.clock p.link h.path.unspoken h.link;
+              link = link_after_b strip alter carried size p.clock p.link h.path.unspoken h.link;
               faces = faces;
               treats = (
                 (

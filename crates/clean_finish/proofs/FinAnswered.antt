@@ -1,5 +1,5 @@
 -- The steps in which an end sends its FIN.
-use Rattle.clean_finish.proofs.Words.{◌≡◌, refl, sym, subst, ap, ℕ, ◌+◌, ◌≤◌, max, true, List, ◌∷◌, arith, Side, A, B, Occasion, after_finishing, after_sending}
+use Rattle.clean_finish.proofs.Words.{◌≡◌, refl, sym, subst, ap, ℕ, ◌+◌, ◌≤◌, max, true, List, ◌∷◌, arith, Side, A, B, Occasion, after_finishing, after_sending, length, made}
 use Rattle.clean_finish.proofs.Words.{going_to, plain_flight, after_send, PlainSegment, Duty, SendDuty, SixBooks, AppState, Carried, carried_by, stripped}
 use Rattle.clean_finish.proofs.Words.{altered, values, is_fin_due, answered_fin, PathState, with_agenda, sent_on, with_told, Setting, Lane, all_left, Going}
 use Rattle.clean_finish.proofs.Words.{PathPlan, Start, Keys, said, FliesAs, own_bench, other_bench, IsSetting, Runs, keys_in}
@@ -42,17 +42,18 @@ module _ (start : Start) (plan : PathPlan) (k j : Setting) (s v : Lane) (t0 u0 :
             let x = finishing plan.delay t0 u0 k_is j_is going going_back view in
             let segment = said p.profile keys A x in
             let carried = carried_by p.profile.spelling A segment in
+            let size = length (made p.profile.spelling A segment) in
             let strip : Side → Carried → Carried = λ side sent. stripped sent in
             let alter : Side → Carried → Carried = λ side sent. altered sent in
             let flight = plain_flight strip alter A carried p.clock p.link in
             let flies : FliesAs p.profile keys A flight x =
-            record { tick = ap (λ (n : ℕ). p.clock + n) h.path.delay; to = refl; carried = carried_is strip alter carried p.clock p.link h.path.unspoken h.link A } in
+            record { tick = ap (λ (n : ℕ). p.clock + n) h.path.delay; to = refl; carried = carried_is strip alter carried size p.clock p.link h.path.unspoken h.link A } in
             let updated = fin_goes plan.delay t0 u0 k_is j_is going going_back view due t.0.0.none t.0.0.owes t.1 t.0.0.answered t.0.0.ready t.0.0.shown window ask t.4.1
-            (going_to B (after_send strip alter A carried p.clock p.link).under_way)
-            (going_to A (after_send strip alter A carried p.clock p.link).under_way)
+            (going_to B (after_send strip alter A carried size p.clock p.link).under_way)
+            (going_to A (after_send strip alter A carried size p.clock p.link).under_way)
             flight flies
-            (last_from_a strip alter carried p.clock p.link h.path.unspoken h.link)
-            (others_of_a strip alter carried p.clock p.link h.path.unspoken h.link) in
+            (last_from_a strip alter carried size p.clock p.link h.path.unspoken h.link)
+            (others_of_a strip alter carried size p.clock p.link h.path.unspoken h.link) in
             let faces = updated in
             subst (λ (sg : PlainSegment). Relation (sends_a sg))
             (sym (fin_is p.profile keys A x p.a refl view.own.modes.mapping
@@ -67,7 +68,7 @@ module _ (start : Start) (plan : PathPlan) (k j : Setting) (s v : Lane) (t0 u0 :
                 lines = h.path.lines;
                 joined = h.path.joined;
               };
-              link = link_after_a strip alter carried p.clock p.link h.path.unspoken h.link;
+              link = link_after_a strip alter carried size p.clock p.link h.path.unspoken h.link;
               faces = faces;
               treats = plain_on keys (own_bench faces) (other_bench faces) ds (
                 record {
@@ -97,17 +98,18 @@ module _ (start : Start) (plan : PathPlan) (k j : Setting) (s v : Lane) (t0 u0 :
             let x = finishing plan.delay u0 t0 j_is k_is going_back going view in
             let segment = said p.profile keys B x in
             let carried = carried_by p.profile.spelling B segment in
+            let size = length (made p.profile.spelling B segment) in
             let strip : Side → Carried → Carried = λ side sent. stripped sent in
             let alter : Side → Carried → Carried = λ side sent. altered sent in
             let flight = plain_flight strip alter B carried p.clock p.link in
             let flies : FliesAs p.profile keys B flight x =
-            record { tick = ap (λ (n : ℕ). p.clock + n) h.path.delay; to = refl; carried = carried_is strip alter carried p.clock p.link h.path.unspoken h.link B } in
+            record { tick = ap (λ (n : ℕ). p.clock + n) h.path.delay; to = refl; carried = carried_is strip alter carried size p.clock p.link h.path.unspoken h.link B } in
             let updated = fin_goes plan.delay u0 t0 j_is k_is going_back going view due t.0.1.none t.0.1.owes t.2 t.0.1.answered t.0.1.ready t.0.1.shown window ask t.4.1
-            (going_to A (after_send strip alter B carried p.clock p.link).under_way)
-            (going_to B (after_send strip alter B carried p.clock p.link).under_way)
+            (going_to A (after_send strip alter B carried size p.clock p.link).under_way)
+            (going_to B (after_send strip alter B carried size p.clock p.link).under_way)
             flight flies
-            (last_from_b strip alter carried p.clock p.link h.path.unspoken h.link)
-            (others_of_b strip alter carried p.clock p.link h.path.unspoken h.link) in
+            (last_from_b strip alter carried size p.clock p.link h.path.unspoken h.link)
+            (others_of_b strip alter carried size p.clock p.link h.path.unspoken h.link) in
             let faces = from_b keys k j s v a b books (sends_b segment) updated in
             subst (λ (sg : PlainSegment). Relation (sends_b sg))
             (sym (fin_is p.profile keys B x p.b refl view.own.modes.mapping
@@ -122,7 +124,7 @@ module _ (start : Start) (plan : PathPlan) (k j : Setting) (s v : Lane) (t0 u0 :
                 lines = h.path.lines;
                 joined = h.path.joined;
               };
-              link = link_after_b strip alter carried p.clock p.link h.path.unspoken h.link;
+              link = link_after_b strip alter carried size p.clock p.link h.path.unspoken h.link;
               faces = faces;
               treats = plain_on keys (own_bench faces) (other_bench faces) ds (
                 t.0.0,

@@ -1,5 +1,5 @@
 -- The last steps in which a copy is treated: what is acknowledged is asked, the congestion window grows, and an acknowledgement goes.
-use Rattle.clean_finish.proofs.Words.{◌≡◌, refl, sym, subst, ap, ◌∙◌, ℕ, ◌+◌, ◌≤◌, max, Bool, true, false, ◌⊎◌, inl, inr, ⊎_elim, Option, None, List, [], ◌∷◌}
+use Rattle.clean_finish.proofs.Words.{◌≡◌, refl, sym, subst, ap, ◌∙◌, ℕ, ◌+◌, ◌≤◌, max, Bool, true, false, ◌⊎◌, inl, inr, ⊎_elim, Option, None, List, [], ◌∷◌, length, made}
 use Rattle.clean_finish.proofs.Words.{arith, Some, is_some, both_ways, Side, A, B, Due, Occasion, going_to, plain_flight, after_send, PlainSegment, Duty}
 use Rattle.clean_finish.proofs.Words.{SendDuty, AskDuty, emission, SixBooks, reply_of, after_ask, AppState, Carried, carried_by, stripped, altered, values}
 use Rattle.clean_finish.proofs.Words.{ack_out_ask, answered_ack_out, acknowledges, PathState, with_agenda, having_sent, sent_on, Setting, Lane, all_left, Going}
@@ -253,18 +253,19 @@ module _ (start : Start) (plan : PathPlan) (k j : Setting) (s v : Lane) (t0 u0 :
             let x = ack plan.delay t0 u0 k_is j_is going going_back view in
             let segment = said p.profile keys A x in
             let carried = carried_by p.profile.spelling A segment in
+            let size = length (made p.profile.spelling A segment) in
             let strip : Side → Carried → Carried = λ side sent. stripped sent in
             let alter : Side → Carried → Carried = λ side sent. altered sent in
             let flight = plain_flight strip alter A carried p.clock p.link in
             let flies : FliesAs p.profile keys A flight x =
-            record { tick = ap (λ (n : ℕ). p.clock + n) h.path.delay; to = refl; carried = carried_is strip alter carried p.clock p.link h.path.unspoken h.link A } in
+            record { tick = ap (λ (n : ℕ). p.clock + n) h.path.delay; to = refl; carried = carried_is strip alter carried size p.clock p.link h.path.unspoken h.link A } in
             let faces = ack_sent plan.delay t0 u0 k_is j_is going going_back view t.0.sent t.0.hand owes t.0.waiting una t.0.answered t.0.ready t.0.shown window asks t.0.clear
             (inr (emission_emits A).events)
-            (going_to B (after_send strip alter A carried p.clock p.link).under_way)
-            (going_to A (after_send strip alter A carried p.clock p.link).under_way)
+            (going_to B (after_send strip alter A carried size p.clock p.link).under_way)
+            (going_to A (after_send strip alter A carried size p.clock p.link).under_way)
             flight flies
-            (last_from_a strip alter carried p.clock p.link h.path.unspoken h.link)
-            (others_of_a strip alter carried p.clock p.link h.path.unspoken h.link) in
+            (last_from_a strip alter carried size p.clock p.link h.path.unspoken h.link)
+            (others_of_a strip alter carried size p.clock p.link h.path.unspoken h.link) in
             subst (λ (sg : PlainSegment). Relation books (acks_a sg))
             (sym (ack_is p.profile keys A x p.a refl view.own.modes.mapping (is_clear p.a.modes.clear (one_of t.0.clear view.own.modes.clear))
             (next_is plan.delay t0 u0 k_is j_is going going_back view t.0.sent t.0.hand owes t.0.waiting una t.0.answered t.0.ready t.0.shown window asks t.0.clear) refl refl refl))
@@ -277,7 +278,7 @@ module _ (start : Start) (plan : PathPlan) (k j : Setting) (s v : Lane) (t0 u0 :
                 lines = h.path.lines;
                 joined = h.path.joined;
               };
-              link = link_after_a strip alter carried p.clock p.link h.path.unspoken h.link;
+              link = link_after_a strip alter carried size p.clock p.link h.path.unspoken h.link;
               faces = faces;
               treats = plain_on keys (own_bench faces) (other_bench faces) (Duty.Send (SendDuty.Again A) ∷ emission A) (
                 record {
@@ -509,18 +510,19 @@ module _ (start : Start) (plan : PathPlan) (k j : Setting) (s v : Lane) (t0 u0 :
             let x = ack plan.delay u0 t0 j_is k_is going_back going view in
             let segment = said p.profile keys B x in
             let carried = carried_by p.profile.spelling B segment in
+            let size = length (made p.profile.spelling B segment) in
             let strip : Side → Carried → Carried = λ side sent. stripped sent in
             let alter : Side → Carried → Carried = λ side sent. altered sent in
             let flight = plain_flight strip alter B carried p.clock p.link in
             let flies : FliesAs p.profile keys B flight x =
-            record { tick = ap (λ (n : ℕ). p.clock + n) h.path.delay; to = refl; carried = carried_is strip alter carried p.clock p.link h.path.unspoken h.link B } in
+            record { tick = ap (λ (n : ℕ). p.clock + n) h.path.delay; to = refl; carried = carried_is strip alter carried size p.clock p.link h.path.unspoken h.link B } in
             let faces = from_b keys k j s v a b books (acks_b segment) (ack_sent plan.delay u0 t0 j_is k_is going_back going view t.0.sent t.0.hand owes t.0.waiting una t.0.answered t.0.ready t.0.shown window asks t.0.clear
             (inr (emission_emits B).events)
-            (going_to A (after_send strip alter B carried p.clock p.link).under_way)
-            (going_to B (after_send strip alter B carried p.clock p.link).under_way)
+            (going_to A (after_send strip alter B carried size p.clock p.link).under_way)
+            (going_to B (after_send strip alter B carried size p.clock p.link).under_way)
             flight flies
-            (last_from_b strip alter carried p.clock p.link h.path.unspoken h.link)
-            (others_of_b strip alter carried p.clock p.link h.path.unspoken h.link)) in
+            (last_from_b strip alter carried size p.clock p.link h.path.unspoken h.link)
+            (others_of_b strip alter carried size p.clock p.link h.path.unspoken h.link)) in
             subst (λ (sg : PlainSegment). Relation books (acks_b sg))
             (sym (ack_is p.profile keys B x p.b refl view.own.modes.mapping (is_clear p.b.modes.clear (one_of t.0.clear view.own.modes.clear))
             (next_is plan.delay u0 t0 j_is k_is going_back going view t.0.sent t.0.hand owes t.0.waiting una t.0.answered t.0.ready t.0.shown window asks t.0.clear) refl refl refl))
@@ -533,7 +535,7 @@ module _ (start : Start) (plan : PathPlan) (k j : Setting) (s v : Lane) (t0 u0 :
                 lines = h.path.lines;
                 joined = h.path.joined;
               };
-              link = link_after_b strip alter carried p.clock p.link h.path.unspoken h.link;
+              link = link_after_b strip alter carried size p.clock p.link h.path.unspoken h.link;
               faces = faces;
               treats = plain_on keys (own_bench faces) (other_bench faces) (Duty.Send (SendDuty.Again B) ∷ emission B) (
                 t.1,

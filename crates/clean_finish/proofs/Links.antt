@@ -1,7 +1,11 @@
 -- A link on which nothing happens.
-use Rattle.clean_finish.proofs.Words.{◌≡◌, refl, sym, subst, ap, ℕ, Bool, true, false, if◌then◌else◌, Option, List, [], ◌∷◌, length, filter, arith, Some, suc}
+use Rattle.clean_finish.proofs.Words.{◌≡◌, refl, sym, subst, ap, ◌∙◌, ℕ, Bool, true, false, if◌then◌else◌, Option, List, [], ◌∷◌, length, filter, arith, Some, suc}
 use Rattle.clean_finish.proofs.Words.{find, position, Side, A, B, same_side, ScriptLine, Flight, going_to, without, is_due, due_of, with_flight, comes_before}
-use Rattle.clean_finish.proofs.Words.{after_send, LinkState, HeadArrives}
+use Rattle.clean_finish.proofs.Words.{after_send, with_flights, arrivals, first_arrival, next_number, LinkState, HeadArrives}
+use Rattle.sides.specs.Side.{peer}
+use Rattle.link_model.specs.declared.fate.Fate.{Fate}
+use Rattle.link_model.specs.Steps.{fate_at}
+use Rattle.link_model.proofs.Plain.{plain_fate, plain_arrival}
 use Rattle.std.proofs.Common.{eq-eqb, lt-ltb}
 use Rattle.clean_finish.specs.Machine.{copy_of}
 
@@ -40,20 +44,22 @@ module _ {C : Type 0} where
       by false to rest = ap (λ (hs : List (Flight C)). if same_side g.to s then g ∷ hs else hs) rest
 
   -- a sending where no line says anything
-  pub sends_plainly : (strip alter : Side → C → C) (from : Side) (carried : C) (now : ℕ) (link : LinkState C)
-      → link.lines ≡ []
-      → (after_send strip alter from carried now link).under_way ≡ with_flight
-      (copy_of from carried now link) link.under_way
-  sends_plainly strip alter from carried now link none = by from link.lines none
+  pub sends_plainly : (strip alter : Side → C → C) (from : Side) (carried : C) (size now : ℕ) (link : LinkState C) → link.lines ≡ []
+      → (after_send strip alter from carried size now link).under_way ≡ with_flight (copy_of from carried now link) link.under_way
+  sends_plainly strip alter from carried size now link none =
+      subst (λ (ls : List ScriptLine). (after_send strip alter from carried size now (record link { lines = ls })).under_way ≡ with_flight (copy_of from carried now link) link.under_way)
+      (sym none) (plain from)
     where
-      by : (s : Side) (lines : List ScriptLine) → lines ≡ []
-          → (after_send strip alter s carried now (record link { lines = lines })).under_way ≡ with_flight
-          (copy_of s carried now link) link.under_way
-      by s lines e =
-          subst (λ (ls : List ScriptLine). (after_send strip alter s carried now (record link { lines = ls })).under_way
-          ≡ with_flight (copy_of s carried now link) link.under_way) (sym e) (plain s)
-        where
-          plain : (side : Side) → (after_send strip alter side carried now (record link { lines = [] })).under_way
-              ≡ with_flight (copy_of side carried now link) link.under_way
-          plain A = refl
-          plain B = refl
+      silent : LinkState C
+      silent = record link { lines = [] }
+
+      one_copy : (s : Side) → with_flights (peer s) (next_number s link) carried (arrivals (fate_at s (next_number s link) size now silent) (first_arrival s (next_number s link) size now silent)) link.under_way
+          ≡ with_flight (copy_of s carried now link) link.under_way
+      one_copy s =
+          let number = next_number s link in
+          ap (λ (f : Fate). with_flights (peer s) number carried (arrivals f (first_arrival s number size now silent)) link.under_way) (plain_fate s number size now silent tt)
+          ∙ ap (λ (tick : ℕ). with_flight (record { tick = tick; to = peer s; number = number; carried = carried }) link.under_way) (plain_arrival s number size now silent tt)
+
+      plain : (s : Side) → (after_send strip alter s carried size now silent).under_way ≡ with_flight (copy_of s carried now link) link.under_way
+      plain A = one_copy A
+      plain B = one_copy B

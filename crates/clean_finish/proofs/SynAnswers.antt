@@ -1,5 +1,5 @@
 -- The steps in which B treats A's SYN: its window is told, and the SYN/ACK goes.
-use Rattle.clean_finish.proofs.Words.{◌≡◌, refl, sym, subst, ap, ℕ, ◌+◌, ◌<◌, ◌≤◌, min, max, nat_lt, Bool, true, false, inl, inr, ⊎_elim, List, [], ◌∷◌, arith}
+use Rattle.clean_finish.proofs.Words.{◌≡◌, refl, sym, subst, ap, ℕ, ◌+◌, ◌<◌, ◌≤◌, min, max, nat_lt, Bool, true, false, inl, inr, ⊎_elim, List, [], ◌∷◌, arith, length, made}
 use Rattle.clean_finish.proofs.Words.{le-ltb, Side, A, B, Record, syn_record, never_sent, Occasion, going_to, plain_flight, after_send, PlainSegment, Duty}
 use Rattle.clean_finish.proofs.Words.{SendDuty, StepDuty, AskDuty, emission, SixBooks, after_ask, AppState, Carried, carried_by, stripped, altered, values}
 use Rattle.clean_finish.proofs.Words.{PathEnd, PathState, with_agenda, having_sent, sent_on, syn_window_ask, answered_syn_ack, is_plain_syn, Setting, Telling}
@@ -158,17 +158,18 @@ module _ (start : Start) (plan : PathPlan) (k j : Setting) (s v : Lane) (t0 u0 :
             let x = answer plan.delay u0 t0 j_is k_is going_back going back t.0.unsent t.0.came none in
             let segment = said p.profile keys B x in
             let carried = carried_by p.profile.spelling B segment in
+            let size = length (made p.profile.spelling B segment) in
             let strip : Side → Carried → Carried = λ side sent. stripped sent in
             let alter : Side → Carried → Carried = λ side sent. altered sent in
             let rest = waits_syn j back.out.sender back.own.subflow.records.rest back.waiting back.own.subflow.records.waits t.0.unsent in
             let window = ⊎_elim (λ is. is) (λ there. absurd (no_window there)) none.window in
             let events : Has (Duty.Step StepDuty.Events) (emission B) = inr (inr (inr (inr (inr (inr (inr (inl refl))))))) in
-            let last = last_from_b strip alter carried p.clock p.link h.path.unspoken h.link in
-            let others = others_of_b strip alter carried p.clock p.link h.path.unspoken h.link in
-            let fs = going_to A (after_send strip alter B carried p.clock p.link).under_way in
-            let gs = going_to B (after_send strip alter B carried p.clock p.link).under_way in
+            let last = last_from_b strip alter carried size p.clock p.link h.path.unspoken h.link in
+            let others = others_of_b strip alter carried size p.clock p.link h.path.unspoken h.link in
+            let fs = going_to A (after_send strip alter B carried size p.clock p.link).under_way in
+            let gs = going_to B (after_send strip alter B carried size p.clock p.link).under_way in
             let flight = plain_flight strip alter B carried p.clock p.link in
-            let flies : FliesAs p.profile keys B flight x = record { tick = ap (λ (n : ℕ). p.clock + n) h.path.delay; to = refl; carried = carried_is strip alter carried p.clock p.link h.path.unspoken h.link B } in
+            let flies : FliesAs p.profile keys B flight x = record { tick = ap (λ (n : ℕ). p.clock + n) h.path.delay; to = refl; carried = carried_is strip alter carried size p.clock p.link h.path.unspoken h.link B } in
             let e = end_by plan.delay u0 t0 j_is k_is going_back going back t.0.unsent t.0.came none in
             let faces = from_b keys k j s v a b books (sends_off segment (e true))
             (syn_ack_sent plan.delay u0 t0 j_is k_is going_back going back t.0.unsent t.0.came none t.0.sent t.0.hand rest t.0.waiting t.0.owes window events
@@ -187,7 +188,7 @@ module _ (start : Start) (plan : PathPlan) (k j : Setting) (s v : Lane) (t0 u0 :
                 lines = h.path.lines;
                 joined = h.path.joined;
               };
-              link = link_after_b strip alter carried p.clock p.link h.path.unspoken h.link;
+              link = link_after_b strip alter carried size p.clock p.link h.path.unspoken h.link;
               faces = faces;
               treats = plain_on keys (own_bench faces) (other_bench faces) (emission B) (
                 t.1,

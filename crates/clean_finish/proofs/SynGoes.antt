@@ -1,5 +1,5 @@
 -- The step in which A sends its SYN.
-use Rattle.clean_finish.proofs.Words.{◌≡◌, refl, sym, subst, ap, ◌∙◌, ℕ, ◌+◌, ◌≤◌, max, true, false, inl, inr, ⊎_elim, List, [], ◌∷◌, arith, Some, is_some}
+use Rattle.clean_finish.proofs.Words.{◌≡◌, refl, sym, subst, ap, ◌∙◌, ℕ, ◌+◌, ◌≤◌, max, true, false, inl, inr, ⊎_elim, List, [], ◌∷◌, arith, Some, is_some, length, made}
 use Rattle.clean_finish.proofs.Words.{find, both_ways, and_parts, Side, A, B, Record, is_unsent, syn_record, never_sent, State, Occasion, going_to}
 use Rattle.clean_finish.proofs.Words.{plain_flight, after_send, PlainSegment, Duty, SendDuty, AskDuty, SixBooks, AppState, Carried, carried_by, stripped}
 use Rattle.clean_finish.proofs.Words.{altered, values, is_connected, PathState, with_agenda, having_sent, sent_on, first_unsent, is_syn_due, answered_syn}
@@ -88,17 +88,18 @@ module _ (start : Start) (plan : PathPlan) (k j : Setting) (s v : Lane) (t0 u0 :
             let x = syn plan.delay t0 u0 k_is j_is going going_back h.faces know.unsent none in
             let segment = said p.profile keys A x in
             let carried = carried_by p.profile.spelling A segment in
+            let size = length (made p.profile.spelling A segment) in
             let t = h.treats in
             let strip : Side → Carried → Carried = λ side sent. stripped sent in
             let alter : Side → Carried → Carried = λ side sent. altered sent in
             let faces = syn_sent plan.delay t0 u0 k_is j_is going going_back h.faces know.unsent none know.rest know.waiting
             (⊎_elim (λ is. is) (λ there. absurd (window_first there t.4.0)) none.window) t.4.1
-            (going_to B (after_send strip alter A carried p.clock p.link).under_way)
-            (going_to A (after_send strip alter A carried p.clock p.link).under_way)
+            (going_to B (after_send strip alter A carried size p.clock p.link).under_way)
+            (going_to A (after_send strip alter A carried size p.clock p.link).under_way)
             (plain_flight strip alter A carried p.clock p.link)
-            (record { tick = ap (λ (n : ℕ). p.clock + n) h.path.delay; to = refl; carried = carried_is strip alter carried p.clock p.link h.path.unspoken h.link A })
-            (last_from_a strip alter carried p.clock p.link h.path.unspoken h.link)
-            (others_of_a strip alter carried p.clock p.link h.path.unspoken h.link) in
+            (record { tick = ap (λ (n : ℕ). p.clock + n) h.path.delay; to = refl; carried = carried_is strip alter carried size p.clock p.link h.path.unspoken h.link A })
+            (last_from_a strip alter carried size p.clock p.link h.path.unspoken h.link)
+            (others_of_a strip alter carried size p.clock p.link h.path.unspoken h.link) in
             subst (λ (sg : PlainSegment). Relation (sends_off sg))
             (sym (syn_is p.profile keys j (p.clock + plan.delay) p.a k_is.path (state_is h.faces due) (first_syn h.faces due)))
             (record {
@@ -110,7 +111,7 @@ module _ (start : Start) (plan : PathPlan) (k j : Setting) (s v : Lane) (t0 u0 :
                 lines = h.path.lines;
                 joined = h.path.joined;
               };
-              link = link_after_a strip alter carried p.clock p.link h.path.unspoken h.link;
+              link = link_after_a strip alter carried size p.clock p.link h.path.unspoken h.link;
               faces = faces;
               treats = plain_on keys (own_bench faces) (other_bench faces) ds (
                 record {

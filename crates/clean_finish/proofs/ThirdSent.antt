@@ -1,5 +1,5 @@
 -- A answers the SYN/ACK: its third segment shows both keys (RFC 8684, section 3.1).
-use Rattle.clean_finish.proofs.Words.{◌≡◌, refl, sym, subst, ap, ◌∙◌, ℕ, ◌+◌, ◌-◌, ◌<◌, ◌≤◌, min, max, nat_lt, Bool, true, false, cond, ◌&&◌, if◌then◌else◌}
+use Rattle.clean_finish.proofs.Words.{◌≡◌, refl, sym, subst, ap, ◌∙◌, ℕ, ◌+◌, ◌-◌, ◌<◌, ◌≤◌, min, max, nat_lt, Bool, true, false, cond, ◌&&◌, if◌then◌else◌, length, made}
 use Rattle.clean_finish.proofs.Words.{inl, inr, ⊎_elim, Option, None, List, [], ◌∷◌, ◌++◌, arith, Some, le_refl, ◌==◌, both_ways, and_parts, eqb-true, Side, A}
 use Rattle.clean_finish.proofs.Words.{B, Occasion, Flight, going_to, plain_flight, after_send, PlainSegment, Duty, SendDuty, StepDuty, AskDuty, emission}
 use Rattle.clean_finish.proofs.Words.{SilentDuty, SixBooks, AppState, Profile, Carried, carried_by, stripped, altered, values, PathEnd, acknowledges, PathState}
@@ -264,17 +264,18 @@ module _ (start : Start) (plan : PathPlan) (k j : Setting) (s v : Lane) (t0 u0 :
             let x = third plan.delay t0 u0 k_is j_is going going_back h.faces in
             let segment = said p.profile keys A x in
             let carried = carried_by p.profile.spelling A segment in
+            let size = length (made p.profile.spelling A segment) in
             let strip : Side → Carried → Carried = λ side sent. stripped sent in
             let alter : Side → Carried → Carried = λ side sent. altered sent in
             let there = emission_emits A in
             let faces = third_sent plan.delay t0 u0 k_is j_is going going_back h.faces t.0.sent_one t.0.came t.0.received t.0.data_fin t.0.unshown (⊎_elim (λ is. is) (λ there. absurd (no_window there)) h.stages_back.window) t.0.ready
             t.0.owes t.0.waiting t.0.sent t.0.hand there.events there.timer
-            (going_to B (after_send strip alter A carried p.clock p.link).under_way)
-            (going_to A (after_send strip alter A carried p.clock p.link).under_way)
+            (going_to B (after_send strip alter A carried size p.clock p.link).under_way)
+            (going_to A (after_send strip alter A carried size p.clock p.link).under_way)
             (plain_flight strip alter A carried p.clock p.link)
-            (record { tick = ap (λ (n : ℕ). p.clock + n) h.path.delay; to = refl; carried = carried_is strip alter carried p.clock p.link h.path.unspoken h.link A })
-            (last_from_a strip alter carried p.clock p.link h.path.unspoken h.link)
-            (others_of_a strip alter carried p.clock p.link h.path.unspoken h.link) in
+            (record { tick = ap (λ (n : ℕ). p.clock + n) h.path.delay; to = refl; carried = carried_is strip alter carried size p.clock p.link h.path.unspoken h.link A })
+            (last_from_a strip alter carried size p.clock p.link h.path.unspoken h.link)
+            (others_of_a strip alter carried size p.clock p.link h.path.unspoken h.link) in
             subst (λ (sg : PlainSegment). Relation (sends_off sg))
             (sym (third_is p.profile keys (p.clock + plan.delay) h.out.granted j.least p.a h.own.modes.mapping.0 (unclear p.a.modes.clear (h.own.modes.clear) t.0.unclear)
             h.own.modes.owes_third (h.own.modes.peer_key ∙ key_by t.0.ready) h.own.modes.own_key (next_is h.out.granted h.own.subflow.records.next t.0.waiting t.0.sent_one)))
@@ -287,7 +288,7 @@ module _ (start : Start) (plan : PathPlan) (k j : Setting) (s v : Lane) (t0 u0 :
                 lines = h.path.lines;
                 joined = h.path.joined;
               };
-              link = link_after_a strip alter carried p.clock p.link h.path.unspoken h.link;
+              link = link_after_a strip alter carried size p.clock p.link h.path.unspoken h.link;
               faces = faces;
               treats = plain_on keys (own_bench faces) (other_bench faces) (emission A) (
                 record {

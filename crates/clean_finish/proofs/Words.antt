@@ -67,7 +67,7 @@ pub use Rattle.subflow_tcp.specs.Closing.{is_fin_next, after_passing_fin, after_
 pub use Rattle.subflow_tcp.specs.Emitting.{after_sending, ack_at}
 pub use Rattle.link_model.specs.declared.flight.Flight.{Flight}
 pub use Rattle.link_model.specs.Laws.{going_to, plain_flight, WereSentBefore}
-pub use Rattle.link_model.specs.Steps.{without, is_due, due_of, with_flight, comes_before, after_send, next_number, next_due, arriving, changed}
+pub use Rattle.link_model.specs.Steps.{without, is_due, due_of, with_flight, with_flights, arrivals, first_arrival, comes_before, after_send, next_number, next_due, arriving, changed}
 pub use Rattle.link_model.specs.State.{LinkState}
 pub use Rattle.link_model.proofs.Order.{earliest, in_order_sent, earliest as first_of_all}
 pub use Rattle.path_segments.specs.Laws.{meant, window_told}
@@ -117,6 +117,7 @@ pub use Rattle.path_core.specs.Emission.{first_unsent, fits, payload_size, data_
 pub use Rattle.path_core.specs.Modes.{receives_infinite, receives_plainly, sends_plainly, fin_place, acknowledged_under}
 pub use Rattle.path_core.specs.Treating.{answered_item, item_ask, item_of, item_passed, item_stands, answered_heard, heard_passed}
 pub use Rattle.path_core.specs.MpJoin.{is_joined}
+pub use Rattle.path_core.specs.Octets.{made}
 pub use Rattle.path_core.specs.DssOut.{mapping_of, place_numbered, checksum_told, is_first_piece, bare_mapping, checksum_in, fail_beside, fail_options}
 pub use Rattle.path_core.specs.Steps.{settled, answers, next_round}
 pub use Rattle.path_core.specs.Deliver.{after_check, failing_by, forgotten_by, infinite_piece, mapped_piece, mapping_here, next_piece, piece_by, plain_piece, answered_piece, is_placed, piece_ask, fins_and, having_asked, after_pieces, breaks_by_unmapped, times_unmapped, with_data_fin_reached, after_keep, is_dropped, piece_in, is_right, checked_piece, after_piece}

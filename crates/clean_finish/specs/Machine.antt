@@ -69,9 +69,9 @@ HeadsArrive = (f : Flight (List ℕ)) (rest : List (Flight (List ℕ))) (link : 
 -- a segment goes as it is, a delay later, where no line says anything
 abbrev pub SegmentsGoPlainly : Type 0
 SegmentsGoPlainly =
-    (strip alter : Side → List ℕ → List ℕ) (from : Side) (octets : List ℕ) (now : ℕ) (link : LinkState (List ℕ))
+    (strip alter : Side → List ℕ → List ℕ) (from : Side) (octets : List ℕ) (size now : ℕ) (link : LinkState (List ℕ))
     → link.lines ≡ []
-    → (after_send strip alter from octets now link).under_way ≡ with_flight (copy_of from octets now link) link.under_way
+    → (after_send strip alter from octets size now link).under_way ≡ with_flight (copy_of from octets now link) link.under_way
 
 -- a copy more that goes to one side leaves those that go to the other
 abbrev pub OthersStay : Type 0

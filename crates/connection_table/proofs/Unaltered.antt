@@ -1,6 +1,6 @@
 -- A script of which no line begins with `alter` alters no payload.
 use Rattle.std.proofs.Common.{◌≡◌, refl, sym, ◌∙◌, subst, ℕ, suc, ◌+◌, Bool, true, false, ◌||◌, cond, List, [], ◌∷◌, ◌++◌, Option, Some, None, Result, Ok, Err}
-use Rattle.std.specs.Prelude.{IfOk, codes, nat_lt}
+use Rattle.std.specs.Prelude.{IfOk, codes, nat_lt, if◌then◌else◌}
 use Rattle.std.specs.List.{find, list_any, position_from}
 use Rattle.std.specs.Option.{ok_or}
 use Rattle.std.specs.Str.{bytes_eq}
@@ -21,14 +21,17 @@ use Rattle.link_script.specs.declared.script.Happens.TheVariants.{Lost, Late, Ag
 use Rattle.link_script.specs.declared.script.Script.{Script}
 use Rattle.link_script.specs.declared.script.ScriptLine.TheVariants.{OnSegment}
 use Rattle.link_script.specs.declared.script.Segment.{Segment}
+use Rattle.link_script.specs.declared.version.Version.{Version}
+use Rattle.link_script.specs.declared.version.Version.TheVariants as version
 use Rattle.link_script.specs.declared.word.Keyword.{Keyword}
 use Rattle.link_script.specs.declared.word.Keyword.TheVariants as first
-use Rattle.link_script.specs.Lines.{seed_line, checksum_line, short_line, buffer_line, path_options, may_have, path_of, path_line, segment, ticks_word, with_ticks, on_segment_line, strip_all_line, die_line, prio_line, add_line, remove_line, fast_close_line, end_line, line_after, line_of}
+use Rattle.link_script.specs.Lines.{seed_line, checksum_line, short_line, buffer_line, path_options, may_have, path_of, path_line, segment, ticks_word, with_ticks, on_segment_line, direction_of, rate_line, loss_line, jitter_line, strip_all_line, die_line, prio_line, add_line, remove_line, fast_close_line, end_line, line_after, line_of}
 use Rattle.link_script.specs.Numbers.{within}
 use Rattle.link_script.specs.Places.{is_end, is_out_of_order, is_repeated}
-use Rattle.link_script.specs.Ranges.{most_lines, seeds, buffers, path_numbers, segment_sizes, delays, latenesses, run_ticks, address_ids}
-use Rattle.link_script.specs.Reading.{in_place, later_line, next_line, at_line, seen_after, read_on, blank, with_line, script_of, reading}
+use Rattle.link_script.specs.Ranges.{most_lines, seeds, buffers, path_numbers, segment_sizes, delays, latenesses, rates, queues, loss_parts, jitters, run_ticks, address_ids}
+use Rattle.link_script.specs.Reading.{in_place, version_told, later_line, next_line, at_line, seen_after, read_on, blank, with_line, script_of, reading}
 use Rattle.link_script.specs.Steps.{◌>>=◌}
+use Rattle.link_script.specs.Versions.{is_known}
 use Rattle.link_script.specs.Words.{fixed, keyword, keyword_word, keywords, direction, side, switch, words_of, is_passed_over}
 use Rattle.link_script.proofs.ReadRanges.{read_has_ranges}
 use Rattle.connection_table.specs.Scripts.{LeavesPayload, first_alter, is_alter, is_alter_first, is_alter_line}
@@ -80,6 +83,31 @@ on_segment_calm happens calm (a ∷ []) = tt
 on_segment_calm happens calm (a ∷ b ∷ []) = tt
 on_segment_calm happens calm (a ∷ b ∷ c ∷ more) =
     after (direction b) _ IsCalm (λ d. after (ticks_word happens more) _ IsCalm (λ w. after (segment a d c) _ IsCalm (λ s. after (within latenesses w) _ IsCalm (λ t. calm s t))))
+
+rate_calm : (words : List (List ℕ)) → IfOk (rate_line words) IsCalm
+unfolding rate_line
+rate_calm [] = tt
+rate_calm (a ∷ []) = tt
+rate_calm (a ∷ b ∷ []) = tt
+rate_calm (a ∷ b ∷ c ∷ []) = tt
+rate_calm (a ∷ b ∷ c ∷ d ∷ []) = after (direction_of a b) _ IsCalm (λ x. after (within rates c) _ IsCalm (λ x. after (within queues d) _ IsCalm (λ x. refl)))
+rate_calm (a ∷ b ∷ c ∷ d ∷ e ∷ words) = tt
+
+loss_calm : (words : List (List ℕ)) → IfOk (loss_line words) IsCalm
+unfolding loss_line
+loss_calm [] = tt
+loss_calm (a ∷ []) = tt
+loss_calm (a ∷ b ∷ []) = tt
+loss_calm (a ∷ b ∷ c ∷ []) = after (direction_of a b) _ IsCalm (λ x. after (within loss_parts c) _ IsCalm (λ x. refl))
+loss_calm (a ∷ b ∷ c ∷ d ∷ words) = tt
+
+jitter_calm : (words : List (List ℕ)) → IfOk (jitter_line words) IsCalm
+unfolding jitter_line
+jitter_calm [] = tt
+jitter_calm (a ∷ []) = tt
+jitter_calm (a ∷ b ∷ []) = tt
+jitter_calm (a ∷ b ∷ c ∷ []) = after (direction_of a b) _ IsCalm (λ x. after (within jitters c) _ IsCalm (λ x. refl))
+jitter_calm (a ∷ b ∷ c ∷ d ∷ words) = tt
 
 strip_all_calm : (words : List (List ℕ)) → IfOk (strip_all_line words) IsCalm
 unfolding strip_all_line
@@ -171,6 +199,9 @@ after_keyword first.Prio words other = prio_calm words
 after_keyword first.Add words other = add_calm words
 after_keyword first.Remove words other = remove_calm words
 after_keyword first.FastClose words other = fast_close_calm words
+after_keyword first.Rate words other = rate_calm words
+after_keyword first.Loss words other = loss_calm words
+after_keyword first.Jitter words other = jitter_calm words
 after_keyword first.End words other = end_calm words
 
 found : {X : Type 0} (test : X → Bool) (xs : List X) (x : X) → find test xs ≡ Some x → test x ≡ true
@@ -195,13 +226,13 @@ other_word word first.Alter other is =
 other_word word first.Seed other is = refl
 other_word word _ other is = refl
 
-line_calm : (words : List (List ℕ)) → is_alter_first words ≡ false → IfOk (line_of words) IsCalm
+line_calm : (version : Version) (words : List (List ℕ)) → is_alter_first words ≡ false → IfOk (line_of version words) IsCalm
 unfolding line_of
-line_calm [] other = tt
-line_calm (word ∷ words) other = by (keyword word) refl
+line_calm version [] other = tt
+line_calm version (word ∷ words) other = by (keyword word) refl
   where
-    by : (r : Result Keyword ScriptKind) → keyword word ≡ r → IfOk (r >>= λ which. line_after which words) IsCalm
-    by (Ok which) is = after_keyword which words (other_word word which other is)
+    by : (r : Result Keyword ScriptKind) → keyword word ≡ r → IfOk (r >>= λ which. if is_known version which then line_after which words else Err kind.Word) IsCalm
+    by (Ok which) is = passed (is_known version which) (line_after which words) kind.Word IsCalm (after_keyword which words (other_word word which other is))
     by (Err e) is = tt
 
 -- ---- line after line
@@ -210,7 +241,7 @@ abbrev IsCalmScript : Script → Type 0
 IsCalmScript script = list_any is_alter script.lines ≡ false
 
 calm_more : (script : Script) (l : Line) → IsCalmScript script → IsCalm l → IsCalmScript (with_line script l)
-calm_more script line.Header calm is = calm
+calm_more script (line.Header version) calm is = calm
 calm_more script (line.Seed n) calm is = calm
 calm_more script (line.Checksum on) calm is = calm
 calm_more script (line.Short on) calm is = calm
@@ -235,12 +266,13 @@ placed_calm seen l is = by (is_out_of_order seen l) (is_repeated seen l)
 
 next_calm : (seen : List Line) (text : List ℕ) → is_alter_line text ≡ false → IfOk (next_line seen text) IsCalm
 unfolding later_line
-next_calm [] text other = by (bytes_eq text (codes "mptcp-script 1"))
+next_calm [] text other = by (bytes_eq text (codes "mptcp-script 1")) (bytes_eq text (codes "mptcp-script 2"))
   where
-    by : (b : Bool) → IfOk (cond b (Ok line.Header) (Err kind.Header)) IsCalm
-    by true = tt
-    by false = tt
-next_calm (l ∷ seen) text other = by (line_of (words_of text)) (line_calm (words_of text) other)
+    by : (b c : Bool) → IfOk (cond b (Ok (line.Header version.First)) (cond c (Ok (line.Header version.Second)) (Err kind.Header))) IsCalm
+    by true c = tt
+    by false true = tt
+    by false false = tt
+next_calm (l ∷ seen) text other = by (line_of (version_told (l ∷ seen)) (words_of text)) (line_calm (version_told (l ∷ seen)) (words_of text) other)
   where
     by : (r : Result Line ScriptKind) → IfOk r IsCalm → IfOk (r >>= λ x. in_place (l ∷ seen) x) IsCalm
     by (Ok x) is = placed_calm (l ∷ seen) x is

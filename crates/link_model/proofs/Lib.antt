@@ -8,3 +8,5 @@ pub mod Order
 pub mod Later
 pub mod Shown
 pub mod Plain
+pub mod Waits
+pub mod Queued

@@ -141,10 +141,10 @@ pub in_order_all : {C : Type 0} (to : Side) (number : ℕ) (carried : C) (ticks 
 in_order_all to number carried [] flights order = order
 in_order_all to number carried (tick ∷ ticks) flights order = in_order_all to number carried ticks _ (in_order_with _ flights order)
 
-pub in_order_sent : {C : Type 0} (strip alter : Side → C → C) (from : Side) (carried : C) (now : ℕ) (link : LinkState C) → AreInOrder link.under_way
-    → AreInOrder (after_send strip alter from carried now link).under_way
-in_order_sent strip alter A carried now link order = in_order_all B _ _ (arrivals _ _) link.under_way order
-in_order_sent strip alter B carried now link order = in_order_all A _ _ (arrivals _ _) link.under_way order
+pub in_order_sent : {C : Type 0} (strip alter : Side → C → C) (from : Side) (carried : C) (length now : ℕ) (link : LinkState C) → AreInOrder link.under_way
+    → AreInOrder (after_send strip alter from carried length now link).under_way
+in_order_sent strip alter A carried length now link order = in_order_all B _ _ (arrivals _ _) link.under_way order
+in_order_sent strip alter B carried length now link order = in_order_all A _ _ (arrivals _ _) link.under_way order
 
 -- ---- the earliest
 

@@ -33,7 +33,7 @@ module _ {C D : Type 0} (show : C → D) where
 
   pub sent_shown : (strip alter : Side → C → C) (strip' alter' : Side → D → D)
       → ((side : Side) (c : C) → show (strip side c) ≡ strip' side (show c)) → ((side : Side) (c : C) → show (alter side c) ≡ alter' side (show c))
-      → (from : Side) (carried : C) (now : ℕ) (link : LinkState C)
-      → with_copies_shown show (after_send strip alter from carried now link) ≡ after_send strip' alter' from (show carried) now (with_copies_shown show link)
-  sent_shown strip alter strip' alter' s a A carried now link = rw (all_shown, changed_shown (strip A) (alter A) (strip' A) (alter' A) (s A) (a A)) refl
-  sent_shown strip alter strip' alter' s a B carried now link = rw (all_shown, changed_shown (strip B) (alter B) (strip' B) (alter' B) (s B) (a B)) refl
+      → (from : Side) (carried : C) (length now : ℕ) (link : LinkState C)
+      → with_copies_shown show (after_send strip alter from carried length now link) ≡ after_send strip' alter' from (show carried) length now (with_copies_shown show link)
+  sent_shown strip alter strip' alter' s a A carried length now link = rw (all_shown, changed_shown (strip A) (alter A) (strip' A) (alter' A) (s A) (a A)) refl
+  sent_shown strip alter strip' alter' s a B carried length now link = rw (all_shown, changed_shown (strip B) (alter B) (strip' B) (alter' B) (s B) (a B)) refl

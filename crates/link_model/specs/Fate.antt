@@ -11,8 +11,6 @@ use Rattle.link_script.specs.declared.script.ScriptLine.TheVariants.{OnSegment, 
 use Rattle.link_script.specs.Places.{same_side}
 use Rattle.link_model.specs.declared.fate.Fate.{Fate}
 use Rattle.link_model.specs.declared.fate.Fate.TheVariants as fate
-use Rattle.link_model.specs.declared.fate.SegmentFate.{SegmentFate}
-use Rattle.link_model.specs.State.{LinkState}
 
 -- the segment of this side and number
 abbrev pub is_named : Side → ℕ → Segment → Bool
@@ -39,6 +37,7 @@ fate_told from number line = None
 abbrev pub ticks_of : Fate → ℕ
 ticks_of fate.OnTime = 0
 ticks_of fate.Lost = 0
+ticks_of fate.Full = 0
 ticks_of (fate.Late ticks) = ticks
 ticks_of (fate.Twice ticks) = ticks
 
@@ -92,13 +91,6 @@ twice_unless first_cut second_cut ticks = lost_if first_cut (if second_cut then 
 abbrev pub cut_short : List ScriptLine → ℕ → Fate → Fate
 cut_short lines on_time fate.OnTime = lost_if (is_dead_at lines on_time) fate.OnTime
 cut_short lines on_time fate.Lost = fate.Lost
+cut_short lines on_time fate.Full = fate.Full
 cut_short lines on_time (fate.Late ticks) = lost_if (is_dead_at lines (on_time + ticks)) (fate.Late ticks)
 cut_short lines on_time (fate.Twice ticks) = twice_unless (is_dead_at lines on_time) (is_dead_at lines (on_time + ticks)) ticks
-
--- what becomes of the segment of this number that is handed over at this tick
-abbrev pub segment_fate : {C : Type 0} → Side → ℕ → ℕ → LinkState C → SegmentFate
-segment_fate from number now link = record {
-  arrival = cut_short link.lines (now + link.delay) (fate_of from number link.lines);
-  stripped = is_stripped from number now link.lines;
-  altered = is_altered from number link.lines;
-}

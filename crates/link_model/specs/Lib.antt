@@ -5,4 +5,6 @@ pub mod Octets
 pub mod Order
 pub mod Laws
 pub mod Lines
+pub mod Bounds
+pub mod Passage
 pub mod Queues

@@ -1,5 +1,5 @@
 -- The two changes on the octets of a path.
-use Rattle.std.specs.Prelude.{ℕ, List}
+use Rattle.std.specs.Prelude.{ℕ, List, length}
 use Rattle.sides.specs.declared.side.Side.{Side}
 use Rattle.segment_wire.specs.Changes.{text_stripped, text_altered}
 use Rattle.segment_wire.specs.Paths.{addresses_from}
@@ -22,4 +22,4 @@ arriving_octets from number octets now link =
 
 -- the link takes the octets of a segment
 abbrev pub after_octets : Side → List ℕ → ℕ → LinkState (List ℕ) → LinkState (List ℕ)
-after_octets from octets now link = after_send (octets_stripped link.path) (octets_altered link.path) from octets now link
+after_octets from octets now link = after_send (octets_stripped link.path) (octets_altered link.path) from octets (length octets) now link

@@ -15,6 +15,8 @@ pub enum Fate {
     OnTime,
     /// The segment doesn't arrive.
     Lost,
+    /// It doesn't: the queue of its direction is full.
+    Full,
     /// Once, so many ticks later.
     Late {
         /// The ticks beyond the delay.
@@ -32,6 +34,12 @@ pub enum Fate {
 pub struct SegmentFate {
     /// When it arrives, and how often.
     pub arrival: Fate,
+    /// The ticks that it waits before it is on its way, where it arrives: in the queue of its direction, and those that are
+    /// drawn. 0 to 200,000.
+    pub waited: u32,
+    /// The octets that wait before its direction once it was handed over, its own among them where it waits: 0 to 1,000,000, and 0
+    /// where the direction has no rate.
+    pub queued: u32,
     /// The segment arrives without its Multipath TCP options.
     pub stripped: bool,
     /// The segment arrives with the lowest bit of its first payload octet turned.
@@ -184,6 +192,7 @@ pub fn cut_short(lines: &[ScriptLine], on_time: u64, fate: Fate) -> Fate
 {
     match fate {
         Fate::Lost => Fate::Lost,
+        Fate::Full => Fate::Full,
         Fate::OnTime => lost_if(is_dead_at(lines, on_time), Fate::OnTime),
         Fate::Late { ticks } => {
             lost_if(is_dead_after(lines, on_time, ticks), Fate::Late { ticks })

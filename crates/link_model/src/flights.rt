@@ -215,7 +215,7 @@ fn launch(
     ensures err { OnErr result (flights.new.items ≡ flights.old.items) }
 {
     match fate {
-        Fate::Lost => Ok(()),
+        Fate::Lost | Fate::Full => Ok(()),
         Fate::OnTime => launch_one(flights, first, to, number, octets),
         Fate::Late { ticks } => {
             launch_one(flights, first + u64::from(ticks), to, number, octets)

@@ -8,16 +8,19 @@ use Rattle.sides.specs.declared.side.Side.{Side}
 use Rattle.link_script.specs.declared.fault.ScriptKind.{ScriptKind}
 use Rattle.link_script.specs.declared.fault.ScriptKind.TheVariants.{Word, Number}
 use Rattle.link_script.specs.declared.limits.Limits.{Limits}
-use Rattle.link_script.specs.Ranges.{seeds, buffers, path_numbers, first_path_number, segment_sizes, delays, segment_numbers, latenesses, run_ticks, address_ids}
+use Rattle.link_script.specs.Ranges.{seeds, buffers, path_numbers, first_path_number, segment_sizes, delays, segment_numbers, latenesses, rates, queues, loss_parts, jitters, run_ticks, address_ids}
 use Rattle.link_script.specs.declared.line.Line.{Line}
+use Rattle.link_script.specs.declared.script.Direction.{Direction}
 use Rattle.link_script.specs.declared.script.Happens.{Happens}
 use Rattle.link_script.specs.declared.script.Happens.TheVariants.{Lost, Late, Again, Stripped, Altered}
 use Rattle.link_script.specs.declared.script.Segment.{Segment}
+use Rattle.link_script.specs.declared.version.Version.{Version}
 use Rattle.link_script.specs.declared.word.Keyword.{Keyword}
-use Rattle.link_script.specs.Lines.{seed_line, checksum_line, short_line, buffer_line, path_options, may_have, path_of, path_line, segment, ticks_word, with_ticks, on_segment_line, strip_all_line, die_line, prio_line, add_line, remove_line, fast_close_line, end_line, line_after, line_of}
+use Rattle.link_script.specs.Lines.{seed_line, checksum_line, short_line, buffer_line, path_options, may_have, path_of, path_line, segment, ticks_word, with_ticks, on_segment_line, direction_of, rate_line, loss_line, jitter_line, strip_all_line, die_line, prio_line, add_line, remove_line, fast_close_line, end_line, line_after, line_of}
 use Rattle.link_script.specs.Numbers.{is_numeral, is_within, within}
 use Rattle.link_script.specs.Scripts.{IsInRange, IsPath, IsHappening, IsEvent}
 use Rattle.link_script.specs.Steps.{◌>>=◌}
+use Rattle.link_script.specs.Versions.{is_known}
 use Rattle.link_script.specs.Words.{fixed, keyword, direction, side, switch}
 
 -- how many paths a script has at most
@@ -26,7 +29,7 @@ most_paths = path_numbers.most + 1
 
 -- a line by itself
 abbrev pub IsLine : Line → Type 0
-IsLine Line.Header = Unit {0}
+IsLine (Line.Header version) = Unit {0}
 IsLine (Line.Seed n) = IsInRange seeds n
 IsLine (Line.Checksum on) = Unit {0}
 IsLine (Line.Short on) = Unit {0}
@@ -173,6 +176,49 @@ on_segment_holds happens (path ∷ from ∷ number ∷ more) =
     after (segment path side number) _ _ (λ s e. let at = IfOk-at_ok IsSegment e (segment_holds path side number) in
     after (within latenesses ticks) _ _ (λ t l. (at.0, at.1, ticks_hold happens t (in_limits latenesses ticks t l))))))
 
+-- ---- directions
+
+direction_holds : (path from : List ℕ) → Holds (direction_of path from) (λ d. d.path < most_paths)
+unfolding direction_of
+direction_holds path from =
+    after (direction from) _ _ (λ side f.
+    after (within path_numbers path) _ _ (λ index i. path_below path index i))
+
+direction_is : (path from : List ℕ) (d : Direction) → direction_of path from ≡ Ok d → d.path < most_paths
+direction_is path from d e = IfOk-at_ok (λ (d : Direction). d.path < most_paths) e (direction_holds path from)
+
+rate_holds : (words : List (List ℕ)) → Holds (rate_line words) IsLine
+unfolding rate_line
+rate_holds [] = tt
+rate_holds (path ∷ []) = tt
+rate_holds (path ∷ from ∷ []) = tt
+rate_holds (path ∷ from ∷ octets ∷ []) = tt
+rate_holds (path ∷ from ∷ octets ∷ queue ∷ []) =
+    after (direction_of path from) _ _ (λ d e.
+    after (within rates octets) _ _ (λ n i.
+    after (within queues queue) _ _ (λ q k. (direction_is path from d e, (in_limits rates octets n i, in_limits queues queue q k)))))
+rate_holds (path ∷ from ∷ octets ∷ queue ∷ m ∷ words) = tt
+
+loss_holds : (words : List (List ℕ)) → Holds (loss_line words) IsLine
+unfolding loss_line
+loss_holds [] = tt
+loss_holds (path ∷ []) = tt
+loss_holds (path ∷ from ∷ []) = tt
+loss_holds (path ∷ from ∷ parts ∷ []) =
+    after (direction_of path from) _ _ (λ d e.
+    after (within loss_parts parts) _ _ (λ n i. (direction_is path from d e, in_limits loss_parts parts n i)))
+loss_holds (path ∷ from ∷ parts ∷ m ∷ words) = tt
+
+jitter_holds : (words : List (List ℕ)) → Holds (jitter_line words) IsLine
+unfolding jitter_line
+jitter_holds [] = tt
+jitter_holds (path ∷ []) = tt
+jitter_holds (path ∷ from ∷ []) = tt
+jitter_holds (path ∷ from ∷ ticks ∷ []) =
+    after (direction_of path from) _ _ (λ d e.
+    after (within jitters ticks) _ _ (λ t k. (direction_is path from d e, in_limits jitters ticks t k)))
+jitter_holds (path ∷ from ∷ ticks ∷ m ∷ words) = tt
+
 -- ---- ticks
 
 strip_all_holds : (words : List (List ℕ)) → Holds (strip_all_line words) IsLine
@@ -264,12 +310,15 @@ after_keyword Keyword.Prio words = prio_holds words
 after_keyword Keyword.Add words = add_holds words
 after_keyword Keyword.Remove words = remove_holds words
 after_keyword Keyword.FastClose words = fast_close_holds words
+after_keyword Keyword.Rate words = rate_holds words
+after_keyword Keyword.Loss words = loss_holds words
+after_keyword Keyword.Jitter words = jitter_holds words
 after_keyword Keyword.End words = end_holds words
 
-line_holds : (words : List (List ℕ)) → Holds (line_of words) IsLine
+line_holds : (version : Version) (words : List (List ℕ)) → Holds (line_of version words) IsLine
 unfolding line_of
-line_holds [] = tt
-line_holds (word ∷ words) = after (keyword word) _ _ (λ which e. after_keyword which words)
+line_holds version [] = tt
+line_holds version (word ∷ words) = after (keyword word) _ _ (λ which e. passed (is_known version which) (line_after which words) Word IsLine (λ k. after_keyword which words))
 
-pub line_is : (words : List (List ℕ)) (line : Line) → line_of words ≡ Ok line → IsLine line
-line_is words line e = IfOk-at_ok IsLine e (line_holds words)
+pub line_is : (version : Version) (words : List (List ℕ)) (line : Line) → line_of version words ≡ Ok line → IsLine line
+line_is version words line e = IfOk-at_ok IsLine e (line_holds version words)

@@ -15,9 +15,11 @@ use Rattle.link_script.specs.declared.line.Line.{Line}
 use Rattle.link_script.specs.declared.line.Line.TheVariants.{Header, Seed, Checksum, Short, Buffer, Path, Event, End}
 use Rattle.link_script.specs.declared.script.PathLine.{PathLine}
 use Rattle.link_script.specs.declared.script.Script.{Script}
+use Rattle.link_script.specs.declared.version.Version.{Version}
+use Rattle.link_script.specs.declared.version.Version.TheVariants.{First, Second}
 use Rattle.link_script.specs.Lines.{line_of}
 use Rattle.link_script.specs.Places.{is_path, is_end, is_misplaced, is_out_of_order, settle_one, is_repeated}
-use Rattle.link_script.specs.Reading.{Gives, first_line, in_place, later_line, next_line, at_line, seen_after, read_on, blank, with_line, script_of, reading}
+use Rattle.link_script.specs.Reading.{Gives, first_line, in_place, version_told, later_line, next_line, at_line, seen_after, read_on, blank, with_line, script_of, reading}
 use Rattle.link_script.specs.Scripts.{HasRanges}
 use Rattle.link_script.specs.Steps.{◌>>=◌}
 use Rattle.link_script.specs.Words.{words_of, is_passed_over}
@@ -55,7 +57,7 @@ at_most_one' true line = omega arith
 at_most_one' false line = omega arith
 
 size-with_line : (script : Script) (line : Line) → size (with_line script line) ≤ size script + 1
-size-with_line script Header = omega arith
+size-with_line script (Header version) = omega arith
 size-with_line script (Seed n) = omega (arith, at_most_one (eqb n 1) (Seed n))
 size-with_line script (Checksum on) = omega (arith, at_most_one' on (Checksum true))
 size-with_line script (Short on) = omega (arith, at_most_one' on (Short true))
@@ -83,7 +85,7 @@ count_line script (Path index path) = omega (arith, length_push script.paths pat
 count_line script _ = omega arith
 
 new_line : (script : Script) (line next : Line) → IsNew script next → settle_one line next ≡ false → IsNew (with_line script line) next
-new_line script Header next new apart = new
+new_line script (Header version) next new apart = new
 new_line script (Seed n) next new apart = new
 new_line script (Checksum on) next new apart = new
 new_line script (Short on) next new apart = new
@@ -151,9 +153,13 @@ placed_ok seen line next e =
     let same : ok_line line ≡ ok_line next = repeated.1 in
     (order.0, repeated.0, cc)
 
-first_ok : (text : List ℕ) (line : Line) → first_line text ≡ Ok line → Header ≡ line
-first_ok text line e = (elim (bytes_eq text (codes "mptcp-script 1")) as (λ b. cond b (ok_line Header) (Err ScriptKind.Header) ≡ Ok line → Header ≡ line)
-    [ true ↦ λ h. cc | false ↦ λ h. absurd cc ]) e
+first_ok : (text : List ℕ) (line : Line) → first_line text ≡ Ok line → (version : Version) × (Header version ≡ line)
+first_ok text line e = is_header (bytes_eq text (codes "mptcp-script 1")) (bytes_eq text (codes "mptcp-script 2")) e
+  where
+    is_header : (b c : Bool) → cond b (ok_line (Header First)) (cond c (ok_line (Header Second)) (Err ScriptKind.Header)) ≡ Ok line → (version : Version) × (Header version ≡ line)
+    is_header true c h = (First, cc)
+    is_header false true h = (Second, cc)
+    is_header false false h = absurd cc
 
 script_push : (seen : List Line) (line : Line) → script_of (seen ++ line ∷ []) ≡ with_line (script_of seen) line
 script_push seen line = fold-append with_line blank seen (line ∷ [])
@@ -170,8 +176,8 @@ sound_over number seen script h low = record {
   closed = h.closed;
 }
 
-sound_header : (number : ℕ) → Sound number [] blank → number ≤ most_lines → Sound (suc number) (Header ∷ []) blank
-sound_header number h low = record {
+sound_header : (number : ℕ) (version : Version) → Sound number [] blank → number ≤ most_lines → Sound (suc number) (Header version ∷ []) blank
+sound_header number version h low = record {
   kept = kept_blank;
   low = omega arith;
   few = omega (arith, h.few);
@@ -184,12 +190,13 @@ sound_header number h low = record {
 sound_next : (number : ℕ) (seen : List Line) (text : List ℕ) (line : Line) → Sound number seen (script_of seen) → number ≤ most_lines → next_line seen text ≡ Ok line → Sound (suc number) (seen ++ line ∷ []) (script_of (seen ++ line ∷ []))
 unfolding later_line
 sound_next number [] text line h low e =
-    subst (λ (l : Line). Sound (suc number) (l ∷ []) (script_of (l ∷ []))) (first_ok text line e) (sound_header number h low)
+    let first = first_ok text line e in
+    subst (λ (l : Line). Sound (suc number) (l ∷ []) (script_of (l ∷ []))) first.1 (sound_header number first.0 h low)
 sound_next number (first ∷ seen) text line h low e =
     let all : List Line = first ∷ seen in
-    let read = bind_ok (line_of (words_of text)) (λ l. in_place all l) line e in
+    let read = bind_ok (line_of (version_told all) (words_of text)) (λ l. in_place all l) line e in
     let placed = placed_ok all read.0 line read.2 in
-    let more = sound_more number first seen (script_of all) read.0 h low (line_is (words_of text) read.0 read.1) placed.0 placed.1 in
+    let more = sound_more number first seen (script_of all) read.0 h low (line_is (version_told all) (words_of text) read.0 read.1) placed.0 placed.1 in
     subst (λ (l : Line). Sound (suc number) (all ++ l ∷ []) (script_of (all ++ l ∷ []))) placed.2 (rw script_push more)
 
 abbrev ok_lines : List Line → Result (List Line) ScriptFault

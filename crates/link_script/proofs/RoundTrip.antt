@@ -1,8 +1,8 @@
 -- The text of a script says that script.
 use Rattle.std.proofs.Common.{◌≡◌, ℕ, suc, ◌+◌, ◌<◌, ◌≤◌, Bool, true, false, not, cond, eqb, List, [], ◌∷◌, ◌++◌, length, map, Result, Ok, refl, sym, ap, ◌∙◌, append_assoc, arith}
-use Rattle.std.specs.Prelude.{nat_lt, fold, ◌==◌}
+use Rattle.std.specs.Prelude.{nat_lt, fold, ◌==◌, ◌||◌}
 use Rattle.std.specs.List.{list_any, flat_map, AllByRecursion}
-use Rattle.std.proofs.lemmas.Bool.{le-ltb, eqb-true, not-true, or_right}
+use Rattle.std.proofs.lemmas.Bool.{le-ltb, eqb-true, not-true, or_right, false≢true}
 use Rattle.std.proofs.lemmas.List.{append-nil}
 use Rattle.std.proofs.lemmas.List.Elements.{recursion_from_All}
 use Rattle.std.proofs.lemmas.List.Folds.{list_any-append}
@@ -14,15 +14,19 @@ use Rattle.link_script.specs.declared.line.Line.{Line}
 use Rattle.link_script.specs.declared.line.Line.TheVariants.{Header, Seed, Buffer, Event, End}
 use Rattle.link_script.specs.declared.script.PathLine.{PathLine}
 use Rattle.link_script.specs.declared.script.Script.{Script}
+use Rattle.link_script.specs.declared.script.Impairment.TheVariants.{Rate, Loss, Jitter}
 use Rattle.link_script.specs.declared.script.ScriptLine.{ScriptLine}
 use Rattle.link_script.specs.declared.script.Happens.TheVariants.{Lost, Late, Again, Stripped, Altered}
-use Rattle.link_script.specs.declared.script.ScriptLine.TheVariants.{OnSegment}
+use Rattle.link_script.specs.declared.script.ScriptLine.TheVariants.{OnSegment, OnDirection}
+use Rattle.link_script.specs.declared.version.Version.{Version}
+use Rattle.link_script.specs.declared.version.Version.TheVariants.{First, Second}
 use Rattle.link_script.specs.Places.{is_end}
 use Rattle.link_script.specs.Reading.{in_place, later_line, seen_after, read_on, blank, with_line, script_of, reading}
 use Rattle.link_script.specs.Scripts.{IsPath, IsEvent, OpensPlainly, HasRanges}
+use Rattle.link_script.specs.Versions.{has_rates, is_second, version_of}
 use Rattle.link_script.specs.Words.{words_of, is_passed_over}
 use Rattle.link_script.specs.Writing.{spaced, line_words, line_text, event_words, ended, seed_lines, checksum_lines, short_lines, buffer_lines, path_lines, event_lines, lines_of, text_of}
-use Rattle.link_script.proofs.WrittenLines.{line_again, plain_line}
+use Rattle.link_script.proofs.WrittenLines.{IsIn, line_again, plain_line}
 use Rattle.link_script.proofs.ScriptRanges.{wider}
 use Rattle.link_script.proofs.WrittenPlaces.{Placed, later_lines, placed_all}
 use Rattle.link_script.proofs.LineRanges.{most_paths, IsLine}
@@ -42,10 +46,13 @@ begins_event (OnSegment segment (Late ticks)) = refl
 begins_event (OnSegment segment (Again ticks)) = refl
 begins_event (OnSegment segment Stripped) = refl
 begins_event (OnSegment segment Altered) = refl
+begins_event (OnDirection d (Rate octets queue)) = refl
+begins_event (OnDirection d (Loss parts)) = refl
+begins_event (OnDirection d (Jitter ticks)) = refl
 begins_event event = refl
 
 begins_line : (line : Line) → begins (line_words line) ≡ true
-begins_line Header = refl
+begins_line (Header version) = refl
 begins_line (Event event) = begins_event event
 begins_line line = refl
 
@@ -60,33 +67,34 @@ cut_words [] h plain = absurd cc
 cut_words (word ∷ words) h plain = words_again word words plain
 
 -- a line that may be written behind the first
-abbrev IsLater : Line → Type 0
-IsLater line = IsLine line × (line ≡ Header → ⊥)
+abbrev IsLater : Version → Line → Type 0
+IsLater version line = IsLine line × IsIn version line
 
-line_taken : (number : ℕ) (first : Line) (seen : List Line) (line : Line) → number ≤ most_lines → IsLater line → in_place (first ∷ seen) line ≡ Ok line → seen_after number (first ∷ seen) (line_text line) ≡ Ok ((first ∷ seen) ++ line ∷ [])
+line_taken : (number : ℕ) (version : Version) (seen : List Line) (line : Line) → number ≤ most_lines → IsLater version line → in_place (Header version ∷ seen) line ≡ Ok line
+    → seen_after number (Header version ∷ seen) (line_text line) ≡ Ok ((Header version ∷ seen) ++ line ∷ [])
 unfolding seen_after later_line
-line_taken number first seen line few h place =
+line_taken number version seen line few h place =
     let counted : nat_lt most_lines number ≡ false = le-ltb most_lines number few in
     let shown = not_passed_over (line_words line) (begins_line line) in
     let cut = cut_words (line_words line) (begins_line line) (plain_line line h.0) in
-    rw (counted, shown, cut, line_again line h.0 h.1, place) refl
+    rw (counted, shown, cut, line_again version line h.0 h.1, place) refl
 
 -- ---- all written lines
 
 abbrev ok_lines : List Line → Result (List Line) ScriptFault
 ok_lines lines = Ok lines
 
-read_lines : (lines : List Line) (number : ℕ) (first : Line) (seen : List Line) → AllByRecursion IsLater lines → Placed (first ∷ seen) lines → number + length lines ≤ most_lines + 1
-    → list_any is_end (first ∷ (seen ++ lines)) ≡ true → read_on number (first ∷ seen) (map line_text lines) ≡ Ok (first ∷ (seen ++ lines))
+read_lines : (lines : List Line) (number : ℕ) (version : Version) (seen : List Line) → AllByRecursion (IsLater version) lines → Placed (Header version ∷ seen) lines → number + length lines ≤ most_lines + 1
+    → list_any is_end (Header version ∷ (seen ++ lines)) ≡ true → read_on number (Header version ∷ seen) (map line_text lines) ≡ Ok (Header version ∷ (seen ++ lines))
 unfolding read_on
-read_lines [] number first seen h placed few ended =
-    let same : first ∷ seen ≡ first ∷ (seen ++ []) = ap (λ (lines : List Line). first ∷ lines) (sym (append-nil seen)) in
-    let last : list_any is_end (first ∷ seen) ≡ true = ap (list_any is_end) same ∙ ended in
+read_lines [] number version seen h placed few ended =
+    let same : Header version ∷ seen ≡ Header version ∷ (seen ++ []) = ap (λ (lines : List Line). Header version ∷ lines) (sym (append-nil seen)) in
+    let last : list_any is_end (Header version ∷ seen) ≡ true = ap (list_any is_end) same ∙ ended in
     rw last (ap ok_lines same)
-read_lines (line ∷ lines) number first seen h placed few ended =
-    let taken = line_taken number first seen line (omega arith) h.0 placed.0 in
-    let grouped : first ∷ ((seen ++ line ∷ []) ++ lines) ≡ first ∷ (seen ++ line ∷ lines) = ap (λ (lines : List Line). first ∷ lines) (append_assoc seen (line ∷ []) lines) in
-    let more = read_lines lines (suc number) first (seen ++ line ∷ []) h.1 placed.1 (omega arith) (ap (list_any is_end) grouped ∙ ended) in
+read_lines (line ∷ lines) number version seen h placed few ended =
+    let taken = line_taken number version seen line (omega arith) h.0 placed.0 in
+    let grouped : Header version ∷ ((seen ++ line ∷ []) ++ lines) ≡ Header version ∷ (seen ++ line ∷ lines) = ap (λ (lines : List Line). Header version ∷ lines) (append_assoc seen (line ∷ []) lines) in
+    let more = read_lines lines (suc number) version (seen ++ line ∷ []) h.1 placed.1 (omega arith) (ap (list_any is_end) grouped ∙ ended) in
     rw taken (more ∙ ap ok_lines grouped)
 
 -- ---- the written lines have their ranges
@@ -95,42 +103,52 @@ each_append : (P : Line → Type 0) (xs ys : List Line) → AllByRecursion P xs 
 each_append P [] ys p q = q
 each_append P (x ∷ xs) ys p q = (p.0, each_append P xs ys p.1 q)
 
-either_line : (b : Bool) (line : Line) → IsLater line → AllByRecursion IsLater (cond b [] (line ∷ []))
-either_line true line h = tt
-either_line false line h = (h, tt)
+either_line : (version : Version) (b : Bool) (line : Line) → IsLater version line → AllByRecursion (IsLater version) (cond b [] (line ∷ []))
+either_line version true line h = tt
+either_line version false line h = (h, tt)
 
-short_later : (on : Bool) → AllByRecursion IsLater (short_lines on)
-short_later true = ((tt, λ e. absurd cc), tt)
-short_later false = tt
+short_later : (version : Version) (on : Bool) → AllByRecursion (IsLater version) (short_lines on)
+short_later version true = ((tt, tt), tt)
+short_later version false = tt
 
-checksum_later : (on : Bool) → AllByRecursion IsLater (checksum_lines on)
-checksum_later true = ((tt, λ e. absurd cc), tt)
-checksum_later false = tt
+checksum_later : (version : Version) (on : Bool) → AllByRecursion (IsLater version) (checksum_lines on)
+checksum_later version true = ((tt, tt), tt)
+checksum_later version false = tt
 
 -- paths behind path 0
-paths_later : (index : ℕ) (paths : List PathLine) → 0 < index → index + length paths ≤ most_paths → AllByRecursion IsPath paths → AllByRecursion IsLater (path_lines index paths)
-paths_later index [] some few h = tt
-paths_later index (path ∷ paths) some few h =
-    (((omega arith, h.0, λ z. absurd (omega arith)), λ e. absurd cc), paths_later (suc index) paths (omega arith) (omega arith) h.1)
+paths_later : (version : Version) (index : ℕ) (paths : List PathLine) → 0 < index → index + length paths ≤ most_paths → AllByRecursion IsPath paths → AllByRecursion (IsLater version) (path_lines index paths)
+paths_later version index [] some few h = tt
+paths_later version index (path ∷ paths) some few h =
+    (((omega arith, h.0, λ z. absurd (omega arith)), tt), paths_later version (suc index) paths (omega arith) (omega arith) h.1)
 
-all_paths_later : (paths : List PathLine) → length paths ≤ most_paths → AllByRecursion IsPath paths → OpensPlainly paths → AllByRecursion IsLater (path_lines 0 paths)
-all_paths_later [] few h plain = tt
-all_paths_later (path ∷ paths) few h plain =
-    (((omega arith, h.0, λ z. plain), λ e. absurd cc), paths_later 1 paths (omega arith) (omega arith) h.1)
+all_paths_later : (version : Version) (paths : List PathLine) → length paths ≤ most_paths → AllByRecursion IsPath paths → OpensPlainly paths → AllByRecursion (IsLater version) (path_lines 0 paths)
+all_paths_later version [] few h plain = tt
+all_paths_later version (path ∷ paths) few h plain =
+    (((omega arith, h.0, λ z. plain), tt), paths_later version 1 paths (omega arith) (omega arith) h.1)
 
-events_later : (paths : ℕ) (events : List ScriptLine) → paths ≤ most_paths → AllByRecursion (IsEvent paths) events → AllByRecursion IsLater (event_lines events)
-events_later paths [] le h = tt
-events_later paths (event ∷ events) le h = ((wider paths most_paths event le h.0, λ e. absurd cc), events_later paths events le h.1)
+events_later : (version : Version) (paths : ℕ) (events : List ScriptLine) → paths ≤ most_paths → AllByRecursion (IsEvent paths) events
+    → (list_any is_second events ≡ true → has_rates version ≡ true) → AllByRecursion (IsLater version) (event_lines events)
+events_later version paths [] le h known = tt
+events_later version paths (event ∷ events) le h known = (
+  (wider paths most_paths event le h.0, λ second. known (ap (λ (b : Bool). b || list_any is_second events) second)),
+  events_later version paths events le h.1 (λ more. known (or_right (is_second event) (list_any is_second events) more)),
+)
 
-all_later : (script : Script) → HasRanges script → AllByRecursion IsLater (later_lines script)
+-- the version of a script has all its lines
+has_all : (b : Bool) → b ≡ true → has_rates (cond b Second First) ≡ true
+has_all true e = refl
+has_all false e = absurd (false≢true e)
+
+all_later : (script : Script) → HasRanges script → AllByRecursion (IsLater (version_of script.lines)) (later_lines script)
 all_later script h =
-    each_append IsLater (seed_lines script.seed) _ (either_line (eqb script.seed 1) (Seed script.seed) (h.seed, λ e. absurd cc))
-    (each_append IsLater (checksum_lines script.checksum) _ (checksum_later script.checksum)
-    (each_append IsLater (short_lines script.short) _ (short_later script.short)
-    (each_append IsLater (buffer_lines script.buffer) _ (either_line (eqb script.buffer 65536) (Buffer script.buffer) (h.buffer, λ e. absurd cc))
-    (each_append IsLater (path_lines 0 script.paths) _ (all_paths_later script.paths h.few_paths (recursion_from_All IsPath script.paths h.paths) h.first_path)
-    (each_append IsLater (event_lines script.lines) _ (events_later (length script.paths) script.lines h.few_paths (recursion_from_All (IsEvent (length script.paths)) script.lines h.lines))
-    ((tt, λ e. absurd cc), tt))))))
+    let v = version_of script.lines in
+    each_append (IsLater v) (seed_lines script.seed) _ (either_line v (eqb script.seed 1) (Seed script.seed) (h.seed, tt))
+    (each_append (IsLater v) (checksum_lines script.checksum) _ (checksum_later v script.checksum)
+    (each_append (IsLater v) (short_lines script.short) _ (short_later v script.short)
+    (each_append (IsLater v) (buffer_lines script.buffer) _ (either_line v (eqb script.buffer 65536) (Buffer script.buffer) (h.buffer, tt))
+    (each_append (IsLater v) (path_lines 0 script.paths) _ (all_paths_later v script.paths h.few_paths (recursion_from_All IsPath script.paths h.paths) h.first_path)
+    (each_append (IsLater v) (event_lines script.lines) _ (events_later v (length script.paths) script.lines h.few_paths (recursion_from_All (IsEvent (length script.paths)) script.lines h.lines) (has_all (list_any is_second script.lines)))
+    ((tt, tt), tt))))))
 
 -- ---- what the lines say together
 
@@ -175,23 +193,25 @@ ends_last lines = list_any-append is_end lines (End ∷ []) ∙ or_right (list_a
 
 script_ends : (script : Script) → list_any is_end (lines_of script) ≡ true
 script_ends script =
-    let front = Header ∷ (seed_lines script.seed ++ (checksum_lines script.checksum ++ (short_lines script.short ++ (buffer_lines script.buffer ++ (path_lines 0 script.paths ++ event_lines script.lines))))) in
+    let front = Header (version_of script.lines) ∷ (seed_lines script.seed ++ (checksum_lines script.checksum ++ (short_lines script.short ++ (buffer_lines script.buffer ++ (path_lines 0 script.paths ++ event_lines script.lines))))) in
     let grouped : front ++ End ∷ [] ≡ lines_of script = simp append_assoc in
     ap (list_any is_end) (sym grouped) ∙ ends_last front
 
-plain_lines : (lines : List Line) → AllByRecursion IsLater lines → AllByRecursion (λ line. ArePlain (line_words line)) lines
-plain_lines [] h = tt
-plain_lines (line ∷ lines) h = (plain_line line h.0.0, plain_lines lines h.1)
+plain_lines : (version : Version) (lines : List Line) → AllByRecursion (IsLater version) lines → AllByRecursion (λ line. ArePlain (line_words line)) lines
+plain_lines version [] h = tt
+plain_lines version (line ∷ lines) h = (plain_line line h.0.0, plain_lines version lines h.1)
 
-first_taken : (lines : List (List ℕ)) → read_on 1 [] (line_text Header ∷ lines) ≡ read_on 2 (Header ∷ []) lines
+first_taken : (version : Version) (lines : List (List ℕ)) → read_on 1 [] (line_text (Header version) ∷ lines) ≡ read_on 2 (Header version ∷ []) lines
 unfolding read_on seen_after
-first_taken lines = refl
+first_taken First lines = refl
+first_taken Second lines = refl
 
 pub text_again : (script : Script) → HasRanges script → reading (text_of script) ≡ Ok script
 unfolding reading text_of
 text_again script h =
+    let v = version_of script.lines in
     let later = all_later script h in
-    let cut : text_lines (flat_map ended (lines_of script)) ≡ line_text Header ∷ map line_text (later_lines script) = lines_again (lines_of script) (plain_line Header tt, plain_lines (later_lines script) later) in
+    let cut : text_lines (flat_map ended (lines_of script)) ≡ line_text (Header v) ∷ map line_text (later_lines script) = lines_again (lines_of script) (plain_line (Header v) tt, plain_lines v (later_lines script) later) in
     let few : 2 + length (later_lines script) ≤ most_lines + 1 = omega (arith, h.few_lines) in
-    let read = read_lines (later_lines script) 2 Header [] later (placed_all script h) few (script_ends script) in
-    rw (cut, first_taken (map line_text (later_lines script)), read) (ap (λ (s : Script). Ok s) (said_again script))
+    let read = read_lines (later_lines script) 2 v [] later (placed_all v script h) few (script_ends script) in
+    rw (cut, first_taken v (map line_text (later_lines script)), read) (ap (λ (s : Script). Ok s) (said_again script))

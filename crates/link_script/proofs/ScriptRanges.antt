@@ -11,7 +11,7 @@ use Rattle.link_script.specs.declared.line.Line.TheVariants.{Header, Seed, Check
 use Rattle.link_script.specs.declared.script.PathLine.{PathLine}
 use Rattle.link_script.specs.declared.script.Script.{Script}
 use Rattle.link_script.specs.declared.script.ScriptLine.{ScriptLine}
-use Rattle.link_script.specs.declared.script.ScriptLine.TheVariants.{OnSegment, StripAll, Die, Prio, Add, Remove, FastClose}
+use Rattle.link_script.specs.declared.script.ScriptLine.TheVariants.{OnSegment, OnDirection, StripAll, Die, Prio, Add, Remove, FastClose}
 use Rattle.link_script.specs.Places.{path_named, lacks, is_misplaced, settle_one}
 use Rattle.link_script.specs.Reading.{blank, with_line}
 use Rattle.link_script.specs.Scripts.{IsInRange, IsPath, OpensPlainly, IsEvent, SettleApart}
@@ -44,6 +44,7 @@ pub record EventsKept (paths : ℕ) (events : List ScriptLine) : Type 0 where
 -- a line that has its ranges speaks of a path that is there, where it isn't misplaced
 named : (limit paths : ℕ) (event : ScriptLine) → IsEvent limit event → lacks paths (path_named event) ≡ false → IsEvent paths event
 named limit paths (OnSegment segment happens) h m = (leb-false paths segment.path m, h.1, h.2)
+named limit paths (OnDirection d impairment) h m = (leb-false paths d.path m, h.1)
 named limit paths (StripAll path from tick) h m = (leb-false paths path m, h.1)
 named limit paths (Die path tick) h m = (leb-false paths path m, h.1)
 named limit paths (Prio path side tick on) h m = (leb-false paths path m, h.1)
@@ -54,6 +55,7 @@ named limit paths (FastClose side tick) h m = h
 -- more paths are no harm
 pub wider : (paths more : ℕ) (event : ScriptLine) → paths ≤ more → IsEvent paths event → IsEvent more event
 wider paths more (OnSegment segment happens) le h = (omega (arith, h.0), h.1, h.2)
+wider paths more (OnDirection d impairment) le h = (omega (arith, h.0), h.1)
 wider paths more (StripAll path from tick) le h = (omega (arith, h.0), h.1)
 wider paths more (Die path tick) le h = (omega (arith, h.0), h.1)
 wider paths more (Prio path side tick on) le h = (omega (arith, h.0), h.1)
@@ -96,7 +98,7 @@ abbrev pub IsNew : Script → Line → Type 0
 IsNew script line = list_any (λ r. settle_one (Event r) line) script.lines ≡ false
 
 pub kept_more : (script : Script) (line : Line) → Kept script → IsLine line → is_misplaced (length script.paths) line ≡ false → IsNew script line → Kept (with_line script line)
-kept_more script Header k h m new = k
+kept_more script (Header version) k h m new = k
 kept_more script (Seed n) k h m new = record { seed = h; buffer = k.buffer; paths = k.paths; events = k.events }
 kept_more script (Checksum on) k h m new = record { seed = k.seed; buffer = k.buffer; paths = k.paths; events = k.events }
 kept_more script (Short on) k h m new = record { seed = k.seed; buffer = k.buffer; paths = k.paths; events = k.events }

@@ -7,18 +7,24 @@ use Rattle.sides.specs.declared.side.Side.{Side}
 use Rattle.sides.specs.declared.side.Side.TheVariants.{A, B}
 use Rattle.sides.specs.Side.{side_word}
 use Rattle.link_script.specs.declared.limits.Limits.{Limits}
-use Rattle.link_script.specs.Ranges.{seeds, buffers, path_numbers, segment_sizes, delays, segment_numbers, latenesses, run_ticks, address_ids}
+use Rattle.link_script.specs.Ranges.{seeds, buffers, path_numbers, segment_sizes, delays, segment_numbers, latenesses, rates, queues, loss_parts, jitters, run_ticks, address_ids}
 use Rattle.link_script.specs.declared.line.Line.{Line}
 use Rattle.link_script.specs.declared.line.Line.TheVariants.{Header, Seed, Checksum, Short, Buffer, Path, Event, End}
 use Rattle.link_script.specs.declared.script.PathLine.{PathLine}
+use Rattle.link_script.specs.declared.script.Direction.{Direction}
 use Rattle.link_script.specs.declared.script.Happens.{Happens}
 use Rattle.link_script.specs.declared.script.Happens.TheVariants.{Lost, Late, Again, Stripped, Altered}
+use Rattle.link_script.specs.declared.script.Impairment.{Impairment}
+use Rattle.link_script.specs.declared.script.Impairment.TheVariants.{Rate, Loss, Jitter}
 use Rattle.link_script.specs.declared.script.Segment.{Segment}
+use Rattle.link_script.specs.declared.version.Version.{Version}
+use Rattle.link_script.specs.declared.version.Version.TheVariants.{First, Second}
 use Rattle.link_script.specs.declared.script.ScriptLine.{ScriptLine}
-use Rattle.link_script.specs.declared.script.ScriptLine.TheVariants.{OnSegment, StripAll, Die, Prio, Add, Remove, FastClose}
-use Rattle.link_script.specs.Lines.{seed_line, checksum_line, short_line, buffer_line, path_options, may_have, path_of, path_line, segment, ticks_word, on_segment_line, strip_all_line, die_line, prio_line, add_line, remove_line, fast_close_line, end_line, line_of}
+use Rattle.link_script.specs.declared.script.ScriptLine.TheVariants.{OnSegment, OnDirection, StripAll, Die, Prio, Add, Remove, FastClose}
+use Rattle.link_script.specs.Lines.{seed_line, checksum_line, short_line, buffer_line, path_options, may_have, path_of, path_line, segment, ticks_word, on_segment_line, direction_of, rate_line, loss_line, jitter_line, strip_all_line, die_line, prio_line, add_line, remove_line, fast_close_line, end_line, line_of}
 use Rattle.link_script.specs.Numbers.{within}
 use Rattle.link_script.specs.Scripts.{IsInRange, IsPath, IsHappening, IsEvent}
+use Rattle.link_script.specs.Versions.{has_rates, is_second}
 use Rattle.link_script.specs.Words.{fixed, keyword, direction, direction_word, side, switch, switch_word}
 use Rattle.link_script.specs.Writing.{backup_words, segment_words, happens_words, event_words, line_words}
 use Rattle.link_script.proofs.LineRanges.{most_paths, IsLine}
@@ -77,23 +83,35 @@ segment_again : (s : Segment) → s.path < most_paths → IsInRange segment_numb
 unfolding segment
 segment_again s h n = rw (path_again s.path h, again segment_numbers s.number (omega arith) n) refl
 
-happening_again : (s : Segment) (happens : Happens) → IsEvent most_paths (OnSegment s happens) → line_of (event_words (OnSegment s happens)) ≡ Ok (Event (OnSegment s happens))
+happening_again : (version : Version) (s : Segment) (happens : Happens) → IsEvent most_paths (OnSegment s happens) → line_of version (event_words (OnSegment s happens)) ≡ Ok (Event (OnSegment s happens))
 unfolding line_of keyword on_segment_line ticks_word
-happening_again s Lost h = rw (direction_again s.from, segment_again s h.0 h.1, no_ticks) refl
-happening_again s (Late ticks) h = rw (direction_again s.from, segment_again s h.0 h.1, again latenesses ticks (omega arith) h.2) refl
-happening_again s (Again ticks) h = rw (direction_again s.from, segment_again s h.0 h.1, again latenesses ticks (omega arith) h.2) refl
-happening_again s Stripped h = rw (direction_again s.from, segment_again s h.0 h.1, no_ticks) refl
-happening_again s Altered h = rw (direction_again s.from, segment_again s h.0 h.1, no_ticks) refl
+happening_again version s Lost h = rw (direction_again s.from, segment_again s h.0 h.1, no_ticks) refl
+happening_again version s (Late ticks) h = rw (direction_again s.from, segment_again s h.0 h.1, again latenesses ticks (omega arith) h.2) refl
+happening_again version s (Again ticks) h = rw (direction_again s.from, segment_again s h.0 h.1, again latenesses ticks (omega arith) h.2) refl
+happening_again version s Stripped h = rw (direction_again s.from, segment_again s h.0 h.1, no_ticks) refl
+happening_again version s Altered h = rw (direction_again s.from, segment_again s h.0 h.1, no_ticks) refl
 
-event_again : (event : ScriptLine) → IsEvent most_paths event → line_of (event_words event) ≡ Ok (Event event)
+direction_told : (d : Direction) → d.path < most_paths → direction_of (decimal d.path) (direction_word d.from) ≡ Ok d
+unfolding direction_of
+direction_told d h = rw (direction_again d.from, path_again d.path h) refl
+
+impairment_again : (version : Version) (d : Direction) (impairment : Impairment) → IsEvent most_paths (OnDirection d impairment) → has_rates version ≡ true
+    → line_of version (event_words (OnDirection d impairment)) ≡ Ok (Event (OnDirection d impairment))
+unfolding line_of keyword rate_line loss_line jitter_line
+impairment_again version d (Rate octets queue) h known = rw (known, direction_told d h.0, again rates octets (omega arith) h.1.0, again queues queue (omega arith) h.1.1) refl
+impairment_again version d (Loss parts) h known = rw (known, direction_told d h.0, again loss_parts parts (omega arith) h.1) refl
+impairment_again version d (Jitter ticks) h known = rw (known, direction_told d h.0, again jitters ticks (omega arith) h.1) refl
+
+event_again : (version : Version) (event : ScriptLine) → IsEvent most_paths event → (is_second event ≡ true → has_rates version ≡ true) → line_of version (event_words event) ≡ Ok (Event event)
 unfolding line_of keyword strip_all_line die_line prio_line add_line fixed remove_line fast_close_line
-event_again (OnSegment s happens) h = happening_again s happens h
-event_again (StripAll path from tick) h = rw (direction_again from, path_again path h.0, again run_ticks tick (omega arith) h.1) refl
-event_again (Die path tick) h = rw (path_again path h.0, again run_ticks tick (omega arith) h.1) refl
-event_again (Prio path which tick on) h = rw (side_again which, switch_again on, path_again path h.0, again run_ticks tick (omega arith) h.1) refl
-event_again (Add id tick) h = rw (again address_ids id (omega arith) h.0, again run_ticks tick (omega arith) h.1) refl
-event_again (Remove which id tick) h = rw (side_again which, again address_ids id (omega arith) h.0, again run_ticks tick (omega arith) h.1) refl
-event_again (FastClose which tick) h = rw (side_again which, again run_ticks tick (omega arith) h) refl
+event_again version (OnSegment s happens) h known = happening_again version s happens h
+event_again version (OnDirection d impairment) h known = impairment_again version d impairment h (known refl)
+event_again version (StripAll path from tick) h known = rw (direction_again from, path_again path h.0, again run_ticks tick (omega arith) h.1) refl
+event_again version (Die path tick) h known = rw (path_again path h.0, again run_ticks tick (omega arith) h.1) refl
+event_again version (Prio path which tick on) h known = rw (side_again which, switch_again on, path_again path h.0, again run_ticks tick (omega arith) h.1) refl
+event_again version (Add id tick) h known = rw (again address_ids id (omega arith) h.0, again run_ticks tick (omega arith) h.1) refl
+event_again version (Remove which id tick) h known = rw (side_again which, again address_ids id (omega arith) h.0, again run_ticks tick (omega arith) h.1) refl
+event_again version (FastClose which tick) h known = rw (side_again which, again run_ticks tick (omega arith) h) refl
 
 plain_happening : (s : Segment) (happens : Happens) → IsEvent most_paths (OnSegment s happens) → ArePlain (event_words (OnSegment s happens))
 plain_happening s happens h = (elim happens as (λ happens. IsHappening happens → ArePlain (happens_words happens (segment_words s))) [
@@ -110,8 +128,14 @@ plain_happening s happens h = (elim happens as (λ happens. IsHappening happens 
     number : IsPlain (decimal s.number)
     number = plain_within segment_numbers s.number (omega arith) h.1
 
+plain_impairment : (d : Direction) (impairment : Impairment) → IsEvent most_paths (OnDirection d impairment) → ArePlain (event_words (OnDirection d impairment))
+plain_impairment d (Rate octets queue) h = (refl, (plain_path d.path h.0, (plain_direction d.from, (plain_within rates octets (omega arith) h.1.0, (plain_within queues queue (omega arith) h.1.1, tt)))))
+plain_impairment d (Loss parts) h = (refl, (plain_path d.path h.0, (plain_direction d.from, (plain_within loss_parts parts (omega arith) h.1, tt))))
+plain_impairment d (Jitter ticks) h = (refl, (plain_path d.path h.0, (plain_direction d.from, (plain_within jitters ticks (omega arith) h.1, tt))))
+
 plain_event : (event : ScriptLine) → IsEvent most_paths event → ArePlain (event_words event)
 plain_event (OnSegment s happens) h = plain_happening s happens h
+plain_event (OnDirection d impairment) h = plain_impairment d impairment h
 plain_event (StripAll path from tick) h = (refl, (plain_path path h.0, (plain_direction from, (plain_within run_ticks tick (omega arith) h.1, tt))))
 plain_event (Die path tick) h = (refl, (plain_path path h.0, (plain_within run_ticks tick (omega arith) h.1, tt)))
 plain_event (Prio path which tick on) h = (refl, (plain_path path h.0, (plain_side which, (plain_within run_ticks tick (omega arith) h.1, (plain_switch on, tt)))))
@@ -154,9 +178,9 @@ unfolding within
 tick_again true tick e h = rw (eqb-true tick 0 e) refl
 tick_again false tick e h = again run_ticks tick (omega arith) h
 
-path_line_again : (index : ℕ) (path : PathLine) → IsLine (Path index path) → line_of (line_words (Path index path)) ≡ Ok (Path index path)
+path_line_again : (version : Version) (index : ℕ) (path : PathLine) → IsLine (Path index path) → line_of version (line_words (Path index path)) ≡ Ok (Path index path)
 unfolding line_of keyword path_line fixed
-path_line_again index path h =
+path_line_again version index path h =
     let now = eqb path.join 0 in
     let allowed = options_allowed now path.backup index path.join h.0 (λ z. (eq-eqb path.join 0 (h.2 z).0, (h.2 z).1)) in
     let last = path_of_again index path (option_tick now path.join) h.0 h.1 (tick_again now path.join refl h.1.join) in
@@ -174,19 +198,26 @@ plain_path_words index path h =
 
 -- ---- any line
 
-pub line_again : (line : Line) → IsLine line → (line ≡ Header → ⊥) → line_of (line_words line) ≡ Ok line
+-- a line behind the first of a script of this version
+abbrev pub IsIn : Version → Line → Type 0
+IsIn version (Header told) = ⊥
+IsIn version (Event event) = is_second event ≡ true → has_rates version ≡ true
+IsIn version line = Unit {0}
+
+pub line_again : (version : Version) (line : Line) → IsLine line → IsIn version line → line_of version (line_words line) ≡ Ok line
 unfolding line_of keyword seed_line checksum_line short_line buffer_line end_line
-line_again Header h later = absurd (later refl)
-line_again (Seed n) h later = rw (again seeds n (omega arith) h) refl
-line_again (Checksum on) h later = rw (switch_again on) refl
-line_again (Short on) h later = rw (switch_again on) refl
-line_again (Buffer octets) h later = rw (again buffers octets (omega arith) h) refl
-line_again (Path index path) h later = path_line_again index path h
-line_again (Event event) h later = event_again event h
-line_again End h later = refl
+line_again version (Header told) h later = absurd later
+line_again version (Seed n) h later = rw (again seeds n (omega arith) h) refl
+line_again version (Checksum on) h later = rw (switch_again on) refl
+line_again version (Short on) h later = rw (switch_again on) refl
+line_again version (Buffer octets) h later = rw (again buffers octets (omega arith) h) refl
+line_again version (Path index path) h later = path_line_again version index path h
+line_again version (Event event) h later = event_again version event h later
+line_again version End h later = refl
 
 pub plain_line : (line : Line) → IsLine line → ArePlain (line_words line)
-plain_line Header h = (refl, (refl, tt))
+plain_line (Header First) h = (refl, (refl, tt))
+plain_line (Header Second) h = (refl, (refl, tt))
 plain_line (Seed n) h = (refl, (plain_within seeds n (omega arith) h, tt))
 plain_line (Checksum on) h = (refl, (plain_switch on, tt))
 plain_line (Short on) h = (refl, (plain_switch on, tt))

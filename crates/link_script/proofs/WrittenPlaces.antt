@@ -13,8 +13,10 @@ use Rattle.link_script.specs.declared.place.Subject.{Subject}
 use Rattle.link_script.specs.declared.script.PathLine.{PathLine}
 use Rattle.link_script.specs.declared.script.Script.{Script}
 use Rattle.link_script.specs.declared.script.Happens.TheVariants.{Lost, Late, Again, Stripped, Altered}
+use Rattle.link_script.specs.declared.script.Impairment.TheVariants.{Rate, Loss, Jitter}
 use Rattle.link_script.specs.declared.script.ScriptLine.{ScriptLine}
-use Rattle.link_script.specs.declared.script.ScriptLine.TheVariants.{OnSegment, StripAll, Die, Prio, Add, Remove, FastClose}
+use Rattle.link_script.specs.declared.version.Version.{Version}
+use Rattle.link_script.specs.declared.script.ScriptLine.TheVariants.{OnSegment, OnDirection, StripAll, Die, Prio}
 use Rattle.link_script.specs.Places.{is_path, is_end, path_named, lacks, is_out_of_order, settled_by, are_same, settle_one, is_repeated}
 use Rattle.link_script.specs.Reading.{in_place}
 use Rattle.link_script.specs.Scripts.{IsEvent, SettleApart, HasRanges}
@@ -70,6 +72,9 @@ seed_apart n (OnSegment segment (Late ticks)) = refl
 seed_apart n (OnSegment segment (Again ticks)) = refl
 seed_apart n (OnSegment segment Stripped) = refl
 seed_apart n (OnSegment segment Altered) = refl
+seed_apart n (OnDirection d (Rate most queue)) = refl
+seed_apart n (OnDirection d (Loss parts)) = refl
+seed_apart n (OnDirection d (Jitter ticks)) = refl
 seed_apart n event = refl
 
 checksum_apart : (on : Bool) → IsApart (Checksum on)
@@ -78,6 +83,9 @@ checksum_apart on (OnSegment segment (Late ticks)) = refl
 checksum_apart on (OnSegment segment (Again ticks)) = refl
 checksum_apart on (OnSegment segment Stripped) = refl
 checksum_apart on (OnSegment segment Altered) = refl
+checksum_apart on (OnDirection d (Rate most queue)) = refl
+checksum_apart on (OnDirection d (Loss parts)) = refl
+checksum_apart on (OnDirection d (Jitter ticks)) = refl
 checksum_apart on event = refl
 
 short_apart : (on : Bool) → IsApart (Short on)
@@ -86,6 +94,9 @@ short_apart on (OnSegment segment (Late ticks)) = refl
 short_apart on (OnSegment segment (Again ticks)) = refl
 short_apart on (OnSegment segment Stripped) = refl
 short_apart on (OnSegment segment Altered) = refl
+short_apart on (OnDirection d (Rate most queue)) = refl
+short_apart on (OnDirection d (Loss parts)) = refl
+short_apart on (OnDirection d (Jitter ticks)) = refl
 short_apart on event = refl
 
 buffer_apart : (octets : ℕ) → IsApart (Buffer octets)
@@ -94,14 +105,17 @@ buffer_apart octets (OnSegment segment (Late ticks)) = refl
 buffer_apart octets (OnSegment segment (Again ticks)) = refl
 buffer_apart octets (OnSegment segment Stripped) = refl
 buffer_apart octets (OnSegment segment Altered) = refl
+buffer_apart octets (OnDirection d (Rate most queue)) = refl
+buffer_apart octets (OnDirection d (Loss parts)) = refl
+buffer_apart octets (OnDirection d (Jitter ticks)) = refl
 buffer_apart octets event = refl
 
 either_before : (b : Bool) (line : Line) → Before (line ∷ []) 0 → Before (cond b [] (line ∷ [])) 0
 either_before true line h = none_before
 either_before false line h = h
 
-pub before_header : Before (Header ∷ []) 0
-before_header = one_before Header 0 refl refl (λ event. refl)
+pub before_header : (version : Version) → Before (Header version ∷ []) 0
+before_header version = one_before (Header version) 0 refl refl (λ event. refl)
 
 pub before_seed : (n : ℕ) → Before (seed_lines n) 0
 before_seed n = either_before (eqb n 1) (Seed n) (one_before (Seed n) 0 refl refl (seed_apart n))
@@ -121,30 +135,30 @@ before_buffer octets = either_before (eqb octets 65536) (Buffer octets) (one_bef
 abbrev settings : Bool → Bool → Bool → Bool → ℕ → ℕ → List Line
 settings a b c d n octets = cond a [] (Seed n ∷ []) ++ (cond b (Checksum true ∷ []) [] ++ (cond c (Short true ∷ []) [] ++ cond d [] (Buffer octets ∷ [])))
 
-settings_placed : (a b c d : Bool) (n octets : ℕ) → Placed (Header ∷ []) (settings a b c d n octets)
-settings_placed true true true true n octets = (refl, (refl, tt))
-settings_placed true true true false n octets = (refl, (refl, (refl, tt)))
-settings_placed true true false true n octets = (refl, tt)
-settings_placed true true false false n octets = (refl, (refl, tt))
-settings_placed true false true true n octets = (refl, tt)
-settings_placed true false true false n octets = (refl, (refl, tt))
-settings_placed true false false true n octets = tt
-settings_placed true false false false n octets = (refl, tt)
-settings_placed false true true true n octets = (refl, (refl, (refl, tt)))
-settings_placed false true true false n octets = (refl, (refl, (refl, (refl, tt))))
-settings_placed false true false true n octets = (refl, (refl, tt))
-settings_placed false true false false n octets = (refl, (refl, (refl, tt)))
-settings_placed false false true true n octets = (refl, (refl, tt))
-settings_placed false false true false n octets = (refl, (refl, (refl, tt)))
-settings_placed false false false true n octets = (refl, tt)
-settings_placed false false false false n octets = (refl, (refl, tt))
+settings_placed : (version : Version) (a b c d : Bool) (n octets : ℕ) → Placed (Header version ∷ []) (settings a b c d n octets)
+settings_placed version true true true true n octets = (refl, (refl, tt))
+settings_placed version true true true false n octets = (refl, (refl, (refl, tt)))
+settings_placed version true true false true n octets = (refl, tt)
+settings_placed version true true false false n octets = (refl, (refl, tt))
+settings_placed version true false true true n octets = (refl, tt)
+settings_placed version true false true false n octets = (refl, (refl, tt))
+settings_placed version true false false true n octets = tt
+settings_placed version true false false false n octets = (refl, tt)
+settings_placed version false true true true n octets = (refl, (refl, (refl, tt)))
+settings_placed version false true true false n octets = (refl, (refl, (refl, (refl, tt))))
+settings_placed version false true false true n octets = (refl, (refl, tt))
+settings_placed version false true false false n octets = (refl, (refl, (refl, tt)))
+settings_placed version false false true true n octets = (refl, (refl, tt))
+settings_placed version false false true false n octets = (refl, (refl, (refl, tt)))
+settings_placed version false false false true n octets = (refl, tt)
+settings_placed version false false false false n octets = (refl, (refl, tt))
 
 pub all_settings : Script → List Line
 all_settings script = seed_lines script.seed ++ (checksum_lines script.checksum ++ (short_lines script.short ++ buffer_lines script.buffer))
 
-pub placed_settings : (script : Script) → Placed (Header ∷ []) (all_settings script)
+pub placed_settings : (version : Version) (script : Script) → Placed (Header version ∷ []) (all_settings script)
 unfolding all_settings
-placed_settings script = settings_placed (eqb script.seed 1) script.checksum script.short (eqb script.buffer 65536) script.seed script.buffer
+placed_settings version script = settings_placed version (eqb script.seed 1) script.checksum script.short (eqb script.buffer 65536) script.seed script.buffer
 
 -- ---- paths
 
@@ -174,12 +188,13 @@ placed_paths index (path ∷ paths) seen h =
 
 there : (paths : ℕ) (event : ScriptLine) → 0 < paths → IsEvent paths event → lacks paths (path_named event) ≡ false
 there paths (OnSegment segment happens) some h = lt-leb paths segment.path h.0
+there paths (OnDirection d impairment) some h = lt-leb paths d.path h.0
 there paths (StripAll path from tick) some h = lt-leb paths path h.0
 there paths (Die path tick) some h = lt-leb paths path h.0
 there paths (Prio path side tick on) some h = lt-leb paths path h.0
 there paths _ some h = ne_eqb paths 0 (λ z. omega arith)
 
--- what stands before a event
+-- what stands before an event
 record Ready (seen : List Line) (paths : ℕ) (events : List ScriptLine) : Type 0 where
   goes : list_any is_end seen ≡ false
   count : count_by is_path seen ≡ paths
@@ -234,10 +249,10 @@ settings_first : (script : Script) (lines : List Line) → seed_lines script.see
 unfolding all_settings
 settings_first script lines = sym (simp append_assoc)
 
-before_settings : (script : Script) → Before ((Header ∷ []) ++ all_settings script) 0
+before_settings : (version : Version) (script : Script) → Before ((Header version ∷ []) ++ all_settings script) 0
 unfolding all_settings
-before_settings script =
-    before_append (Header ∷ []) (all_settings script) 0 0 0 before_header
+before_settings version script =
+    before_append (Header version ∷ []) (all_settings script) 0 0 0 (before_header version)
     (before_append (seed_lines script.seed) (checksum_lines script.checksum ++ (short_lines script.short ++ buffer_lines script.buffer)) 0 0 0 (before_seed script.seed)
     (before_append (checksum_lines script.checksum) (short_lines script.short ++ buffer_lines script.buffer) 0 0 0 (before_checksum script.checksum)
     (before_append (short_lines script.short) (buffer_lines script.buffer) 0 0 0 (before_short script.short) (before_buffer script.buffer) refl) refl) refl) refl
@@ -250,19 +265,19 @@ end_placed seen paths events some goes count =
     let here : eqb (count_by is_path all) 0 ≡ false = ne_eqb (count_by is_path all) 0 (λ z. omega arith) in
     (placed all End (or_from _ _ open_still here) (not_repeated all End refl), tt)
 
-pub placed_all : (script : Script) → HasRanges script → Placed (Header ∷ []) (later_lines script)
-placed_all script h =
+pub placed_all : (version : Version) (script : Script) → HasRanges script → Placed (Header version ∷ []) (later_lines script)
+placed_all version script h =
     let s = all_settings script in
     let p = path_lines 0 script.paths in
     let r = event_lines script.lines in
     let n = length script.paths in
-    let first = before_settings script in
-    let second = before_append ((Header ∷ []) ++ s) p 0 n n first (before_paths 0 script.paths) (omega arith) in
-    let seen : List Line = ((Header ∷ []) ++ s) ++ p in
+    let first = before_settings version script in
+    let second = before_append ((Header version ∷ []) ++ s) p 0 n n first (before_paths 0 script.paths) (omega arith) in
+    let seen : List Line = ((Header version ∷ []) ++ s) ++ p in
     let ready : Ready seen n script.lines = record { goes = second.goes; count = second.count; new = all_new seen script.lines second.apart } in
     let events = placed_events n script.lines seen h.some_path (recursion_from_All (IsEvent n) script.lines h.lines) (all_apart script.lines h.apart) ready in
     let end = end_placed seen n script.lines h.some_path second.goes second.count in
-    subst (Placed (Header ∷ [])) (sym (settings_first script (p ++ (r ++ End ∷ []))))
-    (placed_append (Header ∷ []) s (p ++ (r ++ End ∷ [])) (placed_settings script)
-    (placed_append ((Header ∷ []) ++ s) p (r ++ End ∷ []) (placed_paths 0 script.paths ((Header ∷ []) ++ s) first)
+    subst (Placed (Header version ∷ [])) (sym (settings_first script (p ++ (r ++ End ∷ []))))
+    (placed_append (Header version ∷ []) s (p ++ (r ++ End ∷ [])) (placed_settings version script)
+    (placed_append ((Header version ∷ []) ++ s) p (r ++ End ∷ []) (placed_paths 0 script.paths ((Header version ∷ []) ++ s) first)
     (placed_append seen r (End ∷ []) events end)))

@@ -2,6 +2,7 @@ pub mod Faults
 pub mod Ranges
 pub mod Numbers
 pub mod Words
+pub mod Versions
 pub mod Steps
 pub mod Lines
 pub mod Places

@@ -2,18 +2,22 @@
 use Rattle.std.specs.Prelude.{ℕ, Bool, true, false, not, List, [], ◌∷◌, Result, Ok, Err, is_ok, if◌then◌else◌, codes}
 use Rattle.link_script.specs.declared.fault.ScriptKind.{ScriptKind}
 use Rattle.link_script.specs.declared.fault.ScriptKind.TheVariants.{Word}
-use Rattle.link_script.specs.Ranges.{seeds, buffers, path_numbers, first_path_number, segment_sizes, delays, segment_numbers, latenesses, run_ticks, address_ids}
+use Rattle.link_script.specs.Ranges.{seeds, buffers, path_numbers, first_path_number, segment_sizes, delays, segment_numbers, latenesses, rates, queues, loss_parts, jitters, run_ticks, address_ids}
 use Rattle.link_script.specs.declared.line.Line.{Line}
 use Rattle.link_script.specs.declared.line.Line.TheVariants as line
-use Rattle.link_script.specs.declared.script.ScriptLine.TheVariants.{OnSegment, StripAll, Die, Prio, Add, Remove, FastClose}
+use Rattle.link_script.specs.declared.script.ScriptLine.TheVariants.{OnSegment, OnDirection, StripAll, Die, Prio, Add, Remove, FastClose}
+use Rattle.link_script.specs.declared.script.Direction.{Direction}
 use Rattle.link_script.specs.declared.script.Happens.{Happens}
 use Rattle.link_script.specs.declared.script.Happens.TheVariants.{Lost, Late, Again, Stripped, Altered}
+use Rattle.link_script.specs.declared.script.Impairment.TheVariants.{Rate, Loss, Jitter}
 use Rattle.link_script.specs.declared.script.Segment.{Segment}
 use Rattle.sides.specs.declared.side.Side.{Side}
+use Rattle.link_script.specs.declared.version.Version.{Version}
 use Rattle.link_script.specs.declared.word.Keyword.{Keyword}
 use Rattle.link_script.specs.declared.word.Keyword.TheVariants as first
 use Rattle.link_script.specs.Numbers.{within}
 use Rattle.link_script.specs.Steps.{◌>>=◌}
+use Rattle.link_script.specs.Versions.{is_known}
 use Rattle.link_script.specs.Words.{fixed, keyword, direction, side, switch}
 
 -- seed N
@@ -116,6 +120,38 @@ on_segment_line happens (path ∷ from ∷ number ∷ more) = do
   Ok (line.Event (OnSegment s (with_ticks t happens)))
 on_segment_line happens words = Err Word
 
+-- I DIR
+unfoldable pub direction_of : List ℕ → List ℕ → Result Direction ScriptKind
+direction_of path from = do
+  side ← direction from
+  index ← within path_numbers path
+  Ok (record { path = index; from = side })
+
+-- rate I DIR N QUEUE
+unfoldable pub rate_line : List (List ℕ) → Result Line ScriptKind
+rate_line (path ∷ from ∷ octets ∷ queue ∷ []) = do
+  d ← direction_of path from
+  n ← within rates octets
+  q ← within queues queue
+  Ok (line.Event (OnDirection d (Rate n q)))
+rate_line words = Err Word
+
+-- loss I DIR PARTS
+unfoldable pub loss_line : List (List ℕ) → Result Line ScriptKind
+loss_line (path ∷ from ∷ parts ∷ []) = do
+  d ← direction_of path from
+  n ← within loss_parts parts
+  Ok (line.Event (OnDirection d (Loss n)))
+loss_line words = Err Word
+
+-- jitter I DIR TICKS
+unfoldable pub jitter_line : List (List ℕ) → Result Line ScriptKind
+jitter_line (path ∷ from ∷ ticks ∷ []) = do
+  d ← direction_of path from
+  t ← within jitters ticks
+  Ok (line.Event (OnDirection d (Jitter t)))
+jitter_line words = Err Word
+
 -- strip-all I DIR TICK
 unfoldable pub strip_all_line : List (List ℕ) → Result Line ScriptKind
 strip_all_line (path ∷ from ∷ tick ∷ []) = do
@@ -192,9 +228,12 @@ line_after first.Prio words = prio_line words
 line_after first.Add words = add_line words
 line_after first.Remove words = remove_line words
 line_after first.FastClose words = fast_close_line words
+line_after first.Rate words = rate_line words
+line_after first.Loss words = loss_line words
+line_after first.Jitter words = jitter_line words
 line_after first.End words = end_line words
 
--- any line but the first
-unfoldable pub line_of : List (List ℕ) → Result Line ScriptKind
-line_of [] = Err Word
-line_of (word ∷ words) = keyword word >>= λ which. line_after which words
+-- any line but the first of a script of this version
+unfoldable pub line_of : Version → List (List ℕ) → Result Line ScriptKind
+line_of version [] = Err Word
+line_of version (word ∷ words) = keyword word >>= λ which. if is_known version which then line_after which words else Err Word

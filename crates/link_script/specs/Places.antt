@@ -7,10 +7,13 @@ use Rattle.link_script.specs.declared.line.Line.{Line}
 use Rattle.link_script.specs.declared.line.Line.TheVariants.{Header, Seed, Checksum, Short, Buffer, Path, Event, End}
 use Rattle.link_script.specs.declared.place.Subject.{Subject}
 use Rattle.link_script.specs.declared.place.Subject.TheVariants as settles
+use Rattle.link_script.specs.declared.script.Direction.{Direction}
 use Rattle.link_script.specs.declared.script.Happens.{Happens}
 use Rattle.link_script.specs.declared.script.Happens.TheVariants.{Lost, Late, Again, Stripped, Altered}
+use Rattle.link_script.specs.declared.script.Impairment.{Impairment}
+use Rattle.link_script.specs.declared.script.Impairment.TheVariants.{Rate, Loss, Jitter}
 use Rattle.link_script.specs.declared.script.ScriptLine.{ScriptLine}
-use Rattle.link_script.specs.declared.script.ScriptLine.TheVariants.{OnSegment, StripAll, Die, Prio, Add, Remove, FastClose}
+use Rattle.link_script.specs.declared.script.ScriptLine.TheVariants.{OnSegment, OnDirection, StripAll, Die, Prio, Add, Remove, FastClose}
 use Rattle.link_script.specs.declared.script.Segment.{Segment}
 
 abbrev pub is_path : Line → Bool
@@ -24,6 +27,7 @@ is_end line = false
 -- the path that a line names
 abbrev pub path_named : ScriptLine → Option ℕ
 path_named (OnSegment segment happens) = Some segment.path
+path_named (OnDirection direction impairment) = Some direction.path
 path_named (StripAll path from tick) = Some path
 path_named (Die path tick) = Some path
 path_named (Prio path side tick on) = Some path
@@ -39,7 +43,7 @@ lacks paths None = paths == 0
 -- a line that can't stand after so many paths: settings stand before path 0, the paths come in their order, and all else comes
 -- after the path that it speaks of
 abbrev pub is_misplaced : ℕ → Line → Bool
-is_misplaced paths Header = true
+is_misplaced paths (Header version) = true
 is_misplaced paths (Seed n) = nat_lt 0 paths
 is_misplaced paths (Checksum on) = nat_lt 0 paths
 is_misplaced paths (Short on) = nat_lt 0 paths
@@ -60,9 +64,16 @@ settled_of segment (Again ticks) = settles.Arrival segment
 settled_of segment Stripped = settles.Options segment
 settled_of segment Altered = settles.Payload segment
 
+-- what of a direction this settles
+abbrev pub settled_of_direction : Direction → Impairment → Subject
+settled_of_direction direction (Rate octets queue) = settles.Rate direction
+settled_of_direction direction (Loss parts) = settles.Loss direction
+settled_of_direction direction (Jitter ticks) = settles.Jitter direction
+
 -- what a line settles, so that no second line may settle it again
 abbrev pub settled_by_event : ScriptLine → Option Subject
 settled_by_event (OnSegment segment happens) = Some (settled_of segment happens)
+settled_by_event (OnDirection direction impairment) = Some (settled_of_direction direction impairment)
 settled_by_event (StripAll path from tick) = Some (settles.AllOptions path from)
 settled_by_event (Die path tick) = Some (settles.Death path)
 settled_by_event (FastClose side tick) = Some (settles.FastClose side)
@@ -87,6 +98,9 @@ same_side a b = false
 abbrev pub same_segment : Segment → Segment → Bool
 same_segment a b = a.path == b.path && same_side a.from b.from && a.number == b.number
 
+abbrev pub same_direction : Direction → Direction → Bool
+same_direction a b = a.path == b.path && same_side a.from b.from
+
 abbrev pub is_same : Subject → Subject → Bool
 is_same settles.Seed settles.Seed = true
 is_same settles.Checksum settles.Checksum = true
@@ -98,6 +112,9 @@ is_same (settles.Payload a) (settles.Payload b) = same_segment a b
 is_same (settles.AllOptions p a) (settles.AllOptions q b) = p == q && same_side a b
 is_same (settles.Death p) (settles.Death q) = p == q
 is_same (settles.FastClose a) (settles.FastClose b) = same_side a b
+is_same (settles.Rate a) (settles.Rate b) = same_direction a b
+is_same (settles.Loss a) (settles.Loss b) = same_direction a b
+is_same (settles.Jitter a) (settles.Jitter b) = same_direction a b
 is_same a b = false
 
 -- both lines settle something, and it is the same

@@ -49,6 +49,22 @@ segment_numbers = record { least = 1; most = 1000000 }
 abbrev pub latenesses : Limits
 latenesses = record { least = 0; most = 100000 }
 
+-- octets that a direction of a link hands on in a tick
+abbrev pub rates : Limits
+rates = record { least = 10; most = 1000000 }
+
+-- octets that wait before a direction of a link at most
+abbrev pub queues : Limits
+queues = record { least = 1500; most = 1000000 }
+
+-- how many of a million segments are lost
+abbrev pub loss_parts : Limits
+loss_parts = record { least = 0; most = 1000000 }
+
+-- ticks that a segment waits at most, drawn by the seed
+abbrev pub jitters : Limits
+jitters = record { least = 0; most = 100000 }
+
 -- ticks of a run of 65,536 rounds of 100 ticks
 abbrev pub run_ticks : Limits
 run_ticks = record { least = 0; most = 6553599 }

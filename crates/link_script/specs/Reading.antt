@@ -11,6 +11,8 @@ use Rattle.link_script.specs.Ranges.{most_lines, default_seed, default_buffer}
 use Rattle.link_script.specs.declared.line.Line.{Line}
 use Rattle.link_script.specs.declared.line.Line.TheVariants.{Header, Seed, Checksum, Short, Buffer, Path, Event, End}
 use Rattle.link_script.specs.declared.script.Script.{Script}
+use Rattle.link_script.specs.declared.version.Version.{Version}
+use Rattle.link_script.specs.declared.version.Version.TheVariants.{First, Second}
 use Rattle.link_script.specs.Lines.{line_of}
 use Rattle.link_script.specs.Places.{is_end, is_out_of_order, is_repeated}
 use Rattle.link_script.specs.Steps.{◌>>=◌}
@@ -28,16 +30,23 @@ Gives view (Err fault) read = Fails fault read
 
 -- the first line that isn't passed over
 abbrev pub first_line : List ℕ → Result Line ScriptKind
-first_line text = if bytes_eq text (codes "mptcp-script 1") then Ok Header else Err kind.Header
+first_line text =
+    if bytes_eq text (codes "mptcp-script 1") then Ok (Header First)
+    else (if bytes_eq text (codes "mptcp-script 2") then Ok (Header Second) else Err kind.Header)
 
 -- a line that may stand after these
 abbrev pub in_place : List Line → Line → Result Line ScriptKind
 in_place seen line = if is_out_of_order seen line then Err kind.Order else (if is_repeated seen line then Err kind.Repeated else Ok line)
 
+-- the version that the first line tells
+abbrev pub version_told : List Line → Version
+version_told (Header version ∷ lines) = version
+version_told lines = First
+
 -- a later line, by its words
 unfoldable pub later_line : List Line → List (List ℕ) → Result Line ScriptKind
 later_line seen words = do
-  line ← line_of words
+  line ← line_of (version_told seen) words
   in_place seen line
 
 -- the next line after these
@@ -68,7 +77,7 @@ blank = record { seed = default_seed; checksum = false; short = false; buffer = 
 
 -- what a line adds
 abbrev pub with_line : Script → Line → Script
-with_line script Header = script
+with_line script (Header version) = script
 with_line script (Seed n) = record script { seed = n }
 with_line script (Checksum on) = record script { checksum = on }
 with_line script (Short on) = record script { short = on }

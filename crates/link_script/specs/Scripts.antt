@@ -2,14 +2,16 @@
 use Rattle.std.specs.Prelude.{◌≡◌, ℕ, ◌+◌, ◌<◌, ◌≤◌, false, List, [], ◌∷◌, length, Ok, All}
 use Rattle.std.specs.List.{AllPairs}
 use Rattle.link_script.specs.declared.limits.Limits.{Limits}
-use Rattle.link_script.specs.Ranges.{most_lines, seeds, buffers, path_numbers, segment_sizes, delays, segment_numbers, latenesses, run_ticks, address_ids}
+use Rattle.link_script.specs.Ranges.{most_lines, seeds, buffers, path_numbers, segment_sizes, delays, segment_numbers, latenesses, rates, queues, loss_parts, jitters, run_ticks, address_ids}
 use Rattle.link_script.specs.declared.line.Line.TheVariants.{Event}
 use Rattle.link_script.specs.declared.script.PathLine.{PathLine}
 use Rattle.link_script.specs.declared.script.Script.{Script}
 use Rattle.link_script.specs.declared.script.Happens.{Happens}
 use Rattle.link_script.specs.declared.script.Happens.TheVariants.{Lost, Late, Again, Stripped, Altered}
+use Rattle.link_script.specs.declared.script.Impairment.{Impairment}
+use Rattle.link_script.specs.declared.script.Impairment.TheVariants.{Rate, Loss, Jitter}
 use Rattle.link_script.specs.declared.script.ScriptLine.{ScriptLine}
-use Rattle.link_script.specs.declared.script.ScriptLine.TheVariants.{OnSegment, StripAll, Die, Prio, Add, Remove, FastClose}
+use Rattle.link_script.specs.declared.script.ScriptLine.TheVariants.{OnSegment, OnDirection, StripAll, Die, Prio, Add, Remove, FastClose}
 use Rattle.link_script.specs.Places.{settle_one}
 use Rattle.link_script.specs.Reading.{reading}
 use Rattle.link_script.specs.Writing.{lines_of}
@@ -41,9 +43,16 @@ IsHappening Lost = Unit {0}
 IsHappening Stripped = Unit {0}
 IsHappening Altered = Unit {0}
 
+-- the numbers of what a direction does to its segments are in range
+abbrev pub IsImpairment : Impairment → Type 0
+IsImpairment (Rate octets queue) = IsInRange rates octets × IsInRange queues queue
+IsImpairment (Loss parts) = IsInRange loss_parts parts
+IsImpairment (Jitter ticks) = IsInRange jitters ticks
+
 -- a line of what happens: its numbers are in range, and a path that it names is one of so many
 abbrev pub IsEvent : ℕ → ScriptLine → Type 0
 IsEvent paths (OnSegment segment happens) = (segment.path < paths) × IsInRange segment_numbers segment.number × IsHappening happens
+IsEvent paths (OnDirection direction impairment) = (direction.path < paths) × IsImpairment impairment
 IsEvent paths (StripAll path from tick) = (path < paths) × IsInRange run_ticks tick
 IsEvent paths (Die path tick) = (path < paths) × IsInRange run_ticks tick
 IsEvent paths (Prio path side tick on) = (path < paths) × IsInRange run_ticks tick

@@ -9,7 +9,7 @@ use Rattle.sides.specs.Side.{side_word}
 use Rattle.link_script.specs.declared.fault.ScriptKind.{ScriptKind}
 use Rattle.link_script.specs.declared.fault.ScriptKind.TheVariants.{Word}
 use Rattle.link_script.specs.declared.word.Keyword.{Keyword}
-use Rattle.link_script.specs.declared.word.Keyword.TheVariants.{Seed, Checksum, Short, Buffer, Path, Drop, Strip, Alter, Dup, Late, StripAll, Die, Prio, Add, Remove, FastClose, End}
+use Rattle.link_script.specs.declared.word.Keyword.TheVariants.{Seed, Checksum, Short, Buffer, Path, Drop, Strip, Alter, Dup, Late, StripAll, Die, Prio, Add, Remove, FastClose, Rate, Loss, Jitter, End}
 
 -- an empty line, and one that begins with '#'
 abbrev pub is_passed_over : List ℕ → Bool
@@ -46,10 +46,13 @@ keyword_word Prio = codes "prio"
 keyword_word Add = codes "add"
 keyword_word Remove = codes "remove"
 keyword_word FastClose = codes "fastclose"
+keyword_word Rate = codes "rate"
+keyword_word Loss = codes "loss"
+keyword_word Jitter = codes "jitter"
 keyword_word End = codes "end"
 
 abbrev pub keywords : List Keyword
-keywords = Seed ∷ Checksum ∷ Short ∷ Buffer ∷ Path ∷ Drop ∷ Strip ∷ Alter ∷ Dup ∷ Late ∷ StripAll ∷ Die ∷ Prio ∷ Add ∷ Remove ∷ FastClose ∷ End ∷ []
+keywords = Seed ∷ Checksum ∷ Short ∷ Buffer ∷ Path ∷ Drop ∷ Strip ∷ Alter ∷ Dup ∷ Late ∷ StripAll ∷ Die ∷ Prio ∷ Add ∷ Remove ∷ FastClose ∷ Rate ∷ Loss ∷ Jitter ∷ End ∷ []
 
 -- the keyword that a word writes
 unfoldable pub keyword : List ℕ → Result Keyword ScriptKind

@@ -10,11 +10,17 @@ use Rattle.link_script.specs.declared.script.PathLine.{PathLine}
 use Rattle.link_script.specs.declared.script.Script.{Script}
 use Rattle.link_script.specs.declared.script.Happens.{Happens}
 use Rattle.link_script.specs.declared.script.Happens.TheVariants.{Lost, Late, Again, Stripped, Altered}
+use Rattle.link_script.specs.declared.script.Direction.{Direction}
+use Rattle.link_script.specs.declared.script.Impairment.{Impairment}
+use Rattle.link_script.specs.declared.script.Impairment.TheVariants.{Rate, Loss, Jitter}
 use Rattle.link_script.specs.declared.script.ScriptLine.{ScriptLine}
-use Rattle.link_script.specs.declared.script.ScriptLine.TheVariants.{OnSegment, StripAll, Die, Prio, Add, Remove, FastClose}
+use Rattle.link_script.specs.declared.script.ScriptLine.TheVariants.{OnSegment, OnDirection, StripAll, Die, Prio, Add, Remove, FastClose}
 use Rattle.link_script.specs.declared.script.Segment.{Segment}
+use Rattle.link_script.specs.declared.version.Version.{Version}
+use Rattle.link_script.specs.declared.version.Version.TheVariants.{First, Second}
 use Rattle.link_script.specs.declared.writing.Word.{Word}
 use Rattle.link_script.specs.declared.writing.Word.TheVariants.{Text, Number}
+use Rattle.link_script.specs.Versions.{version_of}
 use Rattle.link_script.specs.Words.{direction_word, switch_word}
 
 -- words with a space between each two
@@ -54,9 +60,20 @@ happens_words (Again ticks) segment = codes "dup" ∷ (segment ++ decimal ticks 
 happens_words Stripped segment = codes "strip" ∷ segment
 happens_words Altered segment = codes "alter" ∷ segment
 
+-- I DIR
+abbrev pub direction_words : Direction → List (List ℕ) → List (List ℕ)
+direction_words d more = decimal d.path ∷ direction_word d.from ∷ more
+
+-- what a direction does to its segments, the keyword first
+abbrev pub impairment_words : Direction → Impairment → List (List ℕ)
+impairment_words d (Rate octets queue) = codes "rate" ∷ direction_words d (decimal octets ∷ decimal queue ∷ [])
+impairment_words d (Loss parts) = codes "loss" ∷ direction_words d (decimal parts ∷ [])
+impairment_words d (Jitter ticks) = codes "jitter" ∷ direction_words d (decimal ticks ∷ [])
+
 -- a line of what happens, its keyword first
 abbrev pub event_words : ScriptLine → List (List ℕ)
 event_words (OnSegment segment happens) = happens_words happens (segment_words segment)
+event_words (OnDirection direction impairment) = impairment_words direction impairment
 event_words (StripAll path from tick) = codes "strip-all" ∷ decimal path ∷ direction_word from ∷ decimal tick ∷ []
 event_words (Die path tick) = codes "die" ∷ decimal path ∷ decimal tick ∷ []
 event_words (Prio path side tick on) = codes "prio" ∷ decimal path ∷ side_word side ∷ decimal tick ∷ switch_word on ∷ []
@@ -64,9 +81,13 @@ event_words (Add id tick) = codes "add" ∷ codes "b" ∷ decimal id ∷ decimal
 event_words (Remove side id tick) = codes "remove" ∷ side_word side ∷ decimal id ∷ decimal tick ∷ []
 event_words (FastClose side tick) = codes "fastclose" ∷ side_word side ∷ decimal tick ∷ []
 
+abbrev pub version_word : Version → List ℕ
+version_word First = codes "1"
+version_word Second = codes "2"
+
 -- any line; that of a path has its number behind the keyword
 abbrev pub line_words : Line → List (List ℕ)
-line_words Header = codes "mptcp-script" ∷ codes "1" ∷ []
+line_words (Header version) = codes "mptcp-script" ∷ version_word version ∷ []
 line_words (Seed n) = codes "seed" ∷ decimal n ∷ []
 line_words (Checksum on) = codes "checksum" ∷ switch_word on ∷ []
 line_words (Short on) = codes "short" ∷ switch_word on ∷ []
@@ -107,9 +128,9 @@ path_lines index (path ∷ paths) = Path index path ∷ path_lines (suc index) p
 abbrev pub event_lines : List ScriptLine → List Line
 event_lines events = map (λ event. Event event) events
 
--- the header, the settings, the paths, what happens, the end
+-- the header with the first version that has all lines, the settings, the paths, what happens, the end
 abbrev pub lines_of : Script → List Line
-lines_of script = Header ∷ (seed_lines script.seed ++ (checksum_lines script.checksum ++ (short_lines script.short ++ (buffer_lines script.buffer ++ (path_lines 0 script.paths ++ (event_lines script.lines ++ End ∷ []))))))
+lines_of script = Header (version_of script.lines) ∷ (seed_lines script.seed ++ (checksum_lines script.checksum ++ (short_lines script.short ++ (buffer_lines script.buffer ++ (path_lines 0 script.paths ++ (event_lines script.lines ++ End ∷ []))))))
 
 -- the text: every line with its LF
 unfoldable pub text_of : Script → List ℕ

@@ -13,7 +13,7 @@ use std::fmt;
 pub enum ScriptKind {
     /// The line is past the last that a script may have.
     TooMany,
-    /// The first line isn't `mptcp-script 1`.
+    /// The first line is neither `mptcp-script 1` nor `mptcp-script 2`.
     Header,
     /// The first word is unknown, there are too few or too many words, or a fixed word is another.
     Word,

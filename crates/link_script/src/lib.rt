@@ -4,6 +4,7 @@
 //! the one text of a script. Nothing is run here.
 #![tactic(auto)]
 
+mod direction;
 mod fault;
 mod laws;
 pub mod limits;
@@ -16,6 +17,7 @@ mod reading;
 mod script;
 mod segment;
 mod tick;
+mod version;
 mod word;
 mod writing;
 
@@ -24,5 +26,5 @@ pub use laws::{scripts_have_their_ranges, written_is_read_again};
 pub use lists::{PathLines, ScriptLines};
 pub use number::is_numeral;
 pub use reading::parse;
-pub use script::{Happens, PathLine, Script, ScriptLine, Segment};
+pub use script::{Direction, Happens, Impairment, PathLine, Script, ScriptLine, Segment};
 pub use writing::text;

@@ -73,6 +73,30 @@ pub const LATENESSES: Limits = Limits {
     most: 100_000,
 };
 
+/// Octets that a direction of a link hands on in a tick.
+pub const RATES: Limits = Limits {
+    least: 10,
+    most: 1_000_000,
+};
+
+/// Octets that wait before a direction of a link at most.
+pub const QUEUES: Limits = Limits {
+    least: 1500,
+    most: 1_000_000,
+};
+
+/// How many of a million segments are lost.
+pub const LOSS_PARTS: Limits = Limits {
+    least: 0,
+    most: 1_000_000,
+};
+
+/// Ticks that a segment waits at most, drawn by the seed.
+pub const JITTERS: Limits = Limits {
+    least: 0,
+    most: 100_000,
+};
+
 /// A tick of the longest run, which has 65,536 rounds of 100 ticks.
 pub const RUN_TICKS: Limits = Limits {
     least: 0,

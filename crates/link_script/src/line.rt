@@ -1,8 +1,9 @@
 //! One line of a script.
 
 ghost use Rattle.std.specs.Prelude.{◌≡◌, map};
-ghost use Rattle.link_script.specs.Lines.{seed_line, checksum_line, short_line, buffer_line, end_line, line_of};
+ghost use Rattle.link_script.specs.Lines.{seed_line, checksum_line, short_line, buffer_line, end_line, line_after, line_of};
 
+use crate::direction::{read_jitter, read_loss, read_rate};
 use crate::fault::ScriptKind;
 use crate::limits::{BUFFERS, SEEDS};
 use crate::number::read_number;
@@ -10,12 +11,13 @@ use crate::path::read_path;
 use crate::script::{Happens, PathLine, ScriptLine};
 use crate::segment::read_on_segment;
 use crate::tick::{read_add, read_die, read_fast_close, read_prio, read_remove, read_strip_all};
+use crate::version::Version;
 use crate::word::{Keyword, read_switch};
 
 /// What a line says.
 #[derive(Clone, Copy)]
 pub enum Line {
-    Header,
+    Header(Version),
     Seed(u64),
     Checksum(bool),
     Short(bool),
@@ -80,15 +82,11 @@ fn read_end(words: &[&[u8]]) -> Result<Line, ScriptKind>
     }
 }
 
-/// Reads any line but the first.
-#[tactic(auto, unfolding(crate::specs::Lines::line_of))]
-pub fn read_line(words: &[&[u8]]) -> Result<Line, ScriptKind>
-    ensures { result ≡ line_of (map (λ word. word.now) words.now) }
+/// Reads what stands behind the first word.
+fn read_after(keyword: Keyword, rest: &[&[u8]]) -> Result<Line, ScriptKind>
+    ensures { result ≡ line_after keyword (map (λ word. word.now) rest.now) }
 {
-    let [first, rest @ ..] = words else {
-        return Err(ScriptKind::Word);
-    };
-    match Keyword::read(first)? {
+    match keyword {
         Keyword::Seed => read_seed(rest),
         Keyword::Checksum => read_checksum(rest),
         Keyword::Short => read_short(rest),
@@ -105,6 +103,24 @@ pub fn read_line(words: &[&[u8]]) -> Result<Line, ScriptKind>
         Keyword::Add => read_add(rest),
         Keyword::Remove => read_remove(rest),
         Keyword::FastClose => read_fast_close(rest),
+        Keyword::Rate => read_rate(rest),
+        Keyword::Loss => read_loss(rest),
+        Keyword::Jitter => read_jitter(rest),
         Keyword::End => read_end(rest),
     }
+}
+
+/// Reads any line but the first of a script of this version.
+#[tactic(auto, unfolding(crate::specs::Lines::line_of))]
+pub fn read_line(version: Version, words: &[&[u8]]) -> Result<Line, ScriptKind>
+    ensures { result ≡ line_of version (map (λ word. word.now) words.now) }
+{
+    let [first, rest @ ..] = words else {
+        return Err(ScriptKind::Word);
+    };
+    let keyword = Keyword::read(first)?;
+    if !version.knows(keyword) {
+        return Err(ScriptKind::Word);
+    }
+    read_after(keyword, rest)
 }

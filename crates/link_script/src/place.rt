@@ -2,10 +2,10 @@
 
 ghost use Rattle.std.specs.Prelude.{◌≡◌, count_by};
 ghost use Rattle.std.specs.List.{list_any};
-ghost use Rattle.link_script.specs.Places.{is_path, is_end, is_misplaced, is_out_of_order, settled_of, settled_by_event, settled_by, is_same, settle_one, is_repeated};
+ghost use Rattle.link_script.specs.Places.{is_path, is_end, is_misplaced, is_out_of_order, settled_of, settled_of_direction, settled_by_event, settled_by, is_same, settle_one, is_repeated};
 
 use crate::line::Line;
-use crate::script::{Happens, ScriptLine, Segment};
+use crate::script::{Direction, Happens, Impairment, ScriptLine, Segment};
 use sides::Side;
 
 /// What a line settles, so that no second line may settle it again.
@@ -25,6 +25,12 @@ pub enum Subject {
     AllOptions { path: u8, from: Side },
     Death { path: u8 },
     FastClose { side: Side },
+    /// How much a direction hands on in a tick.
+    Rate(Direction),
+    /// How many segments of a direction are lost.
+    Loss(Direction),
+    /// How long a segment of a direction waits.
+    Jitter(Direction),
 }
 
 fn is_end(line: &Line) -> bool
@@ -57,7 +63,7 @@ fn is_misplaced(paths: usize, line: &Line) -> bool
     ensures { result ≡ is_misplaced paths line.now }
 {
     match *line {
-        Line::Header => true,
+        Line::Header(_) => true,
         Line::Seed(_) | Line::Checksum(_) | Line::Short(_) | Line::Buffer(_) => paths > 0,
         Line::Path { index, .. } => index != paths as u64,
         Line::Event(event) => match event.path() {
@@ -86,11 +92,25 @@ fn settled_of(segment: Segment, happens: Happens) -> Subject
     }
 }
 
+/// What of a direction this settles.
+fn settled_of_direction(direction: Direction, impairment: Impairment) -> Subject
+    ensures { result ≡ settled_of_direction direction impairment }
+{
+    match impairment {
+        Impairment::Rate { .. } => Subject::Rate(direction),
+        Impairment::Loss(_) => Subject::Loss(direction),
+        Impairment::Jitter(_) => Subject::Jitter(direction),
+    }
+}
+
 fn settled_by_event(event: &ScriptLine) -> Option<Subject>
     ensures { result ≡ settled_by_event event.now }
 {
     match *event {
         ScriptLine::OnSegment(segment, happens) => Some(settled_of(segment, happens)),
+        ScriptLine::OnDirection(direction, impairment) => {
+            Some(settled_of_direction(direction, impairment))
+        }
         ScriptLine::StripAll { path, from, .. } => Some(Subject::AllOptions { path, from }),
         ScriptLine::Die { path, .. } => Some(Subject::Death { path }),
         ScriptLine::FastClose { side, .. } => Some(Subject::FastClose { side }),
@@ -107,7 +127,7 @@ fn settled_by(line: &Line) -> Option<Subject>
         Line::Short(_) => Some(Subject::Short),
         Line::Buffer(_) => Some(Subject::Buffer),
         Line::Event(event) => settled_by_event(event),
-        Line::Header | Line::Path { .. } | Line::End => None,
+        Line::Header(_) | Line::Path { .. } | Line::End => None,
     }
 }
 

@@ -4,7 +4,7 @@ ghost use Rattle.std.specs.Prelude.{◌≡◌, ◌≤◌, [], map, OnOk, IfOk};
 ghost use Rattle.octet_text.specs.Lines.{text_lines};
 ghost use Rattle.link_script.specs.Ranges.{most_lines};
 ghost use Rattle.link_script.specs.Scripts.{HasRanges};
-ghost use Rattle.link_script.specs.Reading.{Gives, first_line, in_place, later_line, next_line, at_line, seen_after, read_on, blank, with_line, script_of, reading};
+ghost use Rattle.link_script.specs.Reading.{Gives, first_line, in_place, version_told, later_line, next_line, at_line, seen_after, read_on, blank, with_line, script_of, reading};
 
 use crate::fault::{ScriptFault, ScriptKind};
 use crate::limits::{DEFAULT_BUFFER, DEFAULT_SEED, MOST_LINES};
@@ -12,18 +12,24 @@ use crate::line::{Line, read_line};
 use crate::lists::{PathLines, ScriptLines};
 use crate::place::{has_ended, is_out_of_order, is_repeated};
 use crate::script::Script;
+use crate::version::Version;
 use crate::word::{is_passed_over, split_words};
 use octet_text::split_line;
 use std::alloc::{AllocError, Global};
 
-/// The first line of a script that is neither empty nor a comment.
-const HEADER: &[u8] = b"mptcp-script 1";
+/// The first line, neither empty nor a comment, of a script of the first version.
+const FIRST_HEADER: &[u8] = b"mptcp-script 1";
+
+/// That of a script of the second version.
+const SECOND_HEADER: &[u8] = b"mptcp-script 2";
 
 fn read_first(text: &[u8]) -> Result<Line, ScriptKind>
     ensures { result ≡ first_line text.now }
 {
-    if text == HEADER {
-        Ok(Line::Header)
+    if text == FIRST_HEADER {
+        Ok(Line::Header(Version::First))
+    } else if text == SECOND_HEADER {
+        Ok(Line::Header(Version::Second))
     } else {
         Err(ScriptKind::Header)
     }
@@ -42,11 +48,21 @@ fn place(seen: &[Line], line: Line) -> Result<Line, ScriptKind>
     Ok(line)
 }
 
+/// The version that the first line tells.
+fn version_told(seen: &[Line]) -> Version
+    ensures { result ≡ version_told seen.now }
+{
+    match seen {
+        [Line::Header(version), ..] => *version,
+        _ => Version::First,
+    }
+}
+
 #[tactic(auto, unfolding(crate::specs::Reading::later_line))]
 fn read_later(seen: &[Line], words: &[&[u8]]) -> Result<Line, ScriptKind>
     ensures { result ≡ later_line seen.now (map (λ word. word.now) words.now) }
 {
-    place(seen, read_line(words)?)
+    place(seen, read_line(version_told(seen), words)?)
 }
 
 /// The line with this number, after these lines.
@@ -128,7 +144,7 @@ fn add(script: &mut Script, line: &Line) -> Result<(), AllocError>
     ensures { OnOk result (script.new ≡ with_line script.old line.now) }
 {
     match *line {
-        Line::Header | Line::End => {}
+        Line::Header(_) | Line::End => {}
         Line::Seed(seed) => script.seed = seed,
         Line::Checksum(on) => script.checksum = on,
         Line::Short(on) => script.short = on,

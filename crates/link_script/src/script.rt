@@ -58,6 +58,25 @@ pub enum Happens {
     Altered,
 }
 
+/// One direction of the link of a path: from this side to its peer.
+#[derive(Clone, Copy, PartialEq, Eq)]
+pub struct Direction {
+    pub path: u8,
+    pub from: Side,
+}
+
+/// What a direction of a link does to every segment that it takes.
+#[derive(Clone, Copy)]
+pub enum Impairment {
+    /// It hands on so many octets a tick, and no more than `queue` octets wait for that: a segment for which there is no
+    /// room is lost.
+    Rate { octets: u32, queue: u32 },
+    /// Of a million segments it loses so many, drawn by the seed.
+    Loss(u32),
+    /// A segment waits up to so many ticks more, drawn by the seed.
+    Jitter(u32),
+}
+
 /// What happens to one segment, to one direction of a link, to a path or to a side.
 ///
 /// `path` is the number of a path, and `from` the side that sends. `tick` is a tick of the run.
@@ -65,6 +84,8 @@ pub enum Happens {
 pub enum ScriptLine {
     /// What happens to one segment.
     OnSegment(Segment, Happens),
+    /// What happens to every segment of a direction.
+    OnDirection(Direction, Impairment),
     /// Each segment that is sent at the tick or later arrives without its Multipath TCP options.
     StripAll {
         path: u8,
@@ -111,6 +132,7 @@ impl ScriptLine {
     {
         match *self {
             ScriptLine::OnSegment(Segment { path, .. }, _)
+            | ScriptLine::OnDirection(Direction { path, .. }, _)
             | ScriptLine::StripAll { path, .. }
             | ScriptLine::Die { path, .. }
             | ScriptLine::Prio { path, .. } => Some(path),

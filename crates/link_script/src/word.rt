@@ -26,11 +26,14 @@ pub enum Keyword {
     Add,
     Remove,
     FastClose,
+    Rate,
+    Loss,
+    Jitter,
     End,
 }
 
 impl Keyword {
-    pub const ALL: [Keyword; 17] = [
+    pub const ALL: [Keyword; 20] = [
         Keyword::Seed,
         Keyword::Checksum,
         Keyword::Short,
@@ -47,6 +50,9 @@ impl Keyword {
         Keyword::Add,
         Keyword::Remove,
         Keyword::FastClose,
+        Keyword::Rate,
+        Keyword::Loss,
+        Keyword::Jitter,
         Keyword::End,
     ];
 
@@ -71,6 +77,9 @@ impl Keyword {
             Keyword::Add => b"add",
             Keyword::Remove => b"remove",
             Keyword::FastClose => b"fastclose",
+            Keyword::Rate => b"rate",
+            Keyword::Loss => b"loss",
+            Keyword::Jitter => b"jitter",
             Keyword::End => b"end",
         }
     }

@@ -5,13 +5,14 @@ ghost use Rattle.std.specs.List.{flat_map};
 ghost use Rattle.link_script.specs.Reading.{reading};
 ghost use Rattle.link_script.specs.Scripts.{IsScript};
 ghost use Rattle.link_script.specs.Words.{direction_word, switch_word};
-ghost use Rattle.link_script.specs.declared.line.Line.TheVariants.{Path, Event};
-ghost use Rattle.link_script.specs.declared.script.ScriptLine.TheVariants.{OnSegment, StripAll, Prio};
-ghost use Rattle.link_script.specs.Writing.{spaced, shown, behind, ended, seed_lines, checksum_lines, short_lines, buffer_lines, path_lines, event_lines, text_of};
+ghost use Rattle.link_script.specs.declared.line.Line.TheVariants.{Header, Path, Event};
+ghost use Rattle.link_script.specs.declared.script.ScriptLine.TheVariants.{OnSegment, OnDirection, StripAll, Prio};
+ghost use Rattle.link_script.specs.Writing.{spaced, shown, behind, version_word, ended, seed_lines, checksum_lines, short_lines, buffer_lines, path_lines, event_lines, text_of};
 
 use crate::limits::{DEFAULT_BUFFER, DEFAULT_SEED};
 use crate::line::Line;
-use crate::script::{Happens, PathLine, Script, ScriptLine, Segment};
+use crate::script::{Direction, Happens, Impairment, PathLine, Script, ScriptLine, Segment};
+use crate::version::Version;
 use sides::Side;
 use std::alloc::{AllocError, Global};
 
@@ -21,6 +22,15 @@ fn direction_text(from: Side) -> &'static str
     match from {
         Side::A => "ab",
         Side::B => "ba",
+    }
+}
+
+fn version_text(version: Version) -> &'static str
+    ensures { result.now ≡ version_word version }
+{
+    match version {
+        Version::First => "1",
+        Version::Second => "2",
     }
 }
 
@@ -90,6 +100,33 @@ fn put_on_segment(text: &mut String, segment: Segment, happens: Happens) -> Resu
     }
 }
 
+fn put_on_direction(
+    text: &mut String,
+    direction: Direction,
+    impairment: Impairment,
+) -> Result<(), AllocError>
+    ensures { OnOk result (string_bytes text.new ≡
+        string_bytes text.old ++ ended (Event (OnDirection direction impairment))) }
+{
+    let path = Word::Number(u64::from(direction.path));
+    let from = Word::Text(direction_text(direction.from));
+    match impairment {
+        Impairment::Rate { octets, queue } => {
+            let octets = Word::Number(u64::from(octets));
+            let queue = Word::Number(u64::from(queue));
+            put_spaced(text, "rate", &[path, from, octets, queue])
+        }
+        Impairment::Loss(parts) => {
+            let parts = Word::Number(u64::from(parts));
+            put_spaced(text, "loss", &[path, from, parts])
+        }
+        Impairment::Jitter(ticks) => {
+            let ticks = Word::Number(u64::from(ticks));
+            put_spaced(text, "jitter", &[path, from, ticks])
+        }
+    }
+}
+
 fn put_strip_all(text: &mut String, path: u8, from: Side, tick: u64) -> Result<(), AllocError>
     ensures { OnOk result (string_bytes text.new ≡
         string_bytes text.old ++ ended (Event (StripAll path from tick))) }
@@ -114,6 +151,9 @@ fn put_event(text: &mut String, event: ScriptLine) -> Result<(), AllocError>
 {
     match event {
         ScriptLine::OnSegment(segment, happens) => put_on_segment(text, segment, happens),
+        ScriptLine::OnDirection(direction, impairment) => {
+            put_on_direction(text, direction, impairment)
+        }
         ScriptLine::StripAll { path, from, tick } => put_strip_all(text, path, from, tick),
         ScriptLine::Die { path, tick } => {
             let path = Word::Number(u64::from(path));
@@ -158,12 +198,19 @@ fn put_path(text: &mut String, index: u64, path: PathLine) -> Result<(), AllocEr
     }
 }
 
+fn put_header(text: &mut String, version: Version) -> Result<(), AllocError>
+    ensures { OnOk result (string_bytes text.new ≡ string_bytes text.old ++ ended (Header version)) }
+{
+    let version = Word::Text(version_text(version));
+    put_spaced(text, "mptcp-script", &[version])
+}
+
 /// Writes a line, with its LF.
 fn put(text: &mut String, line: &Line) -> Result<(), AllocError>
     ensures { OnOk result (string_bytes text.new ≡ string_bytes text.old ++ ended line.now) }
 {
     match *line {
-        Line::Header => put_spaced(text, "mptcp-script", &[Word::Text("1")]),
+        Line::Header(version) => put_header(text, version),
         Line::Seed(seed) => put_spaced(text, "seed", &[Word::Number(seed)]),
         Line::Checksum(on) => put_spaced(text, "checksum", &[Word::Text(switch_text(on))]),
         Line::Short(on) => put_spaced(text, "short", &[Word::Text(switch_text(on))]),
@@ -240,7 +287,8 @@ fn write_script(alloc: Global, script: &Script) -> Result<Vec<u8>, AllocError>
     ensures { IfOk result (λ text. text.items ≡ text_of script.now) }
 {
     let mut text = String::new(alloc);
-    put(&mut text, &Line::Header)?;
+    let version = Version::of(script.lines.as_slice());
+    put(&mut text, &Line::Header(version))?;
     put_seed(&mut text, script.seed)?;
     put_checksum(&mut text, script.checksum)?;
     put_short(&mut text, script.short)?;

@@ -20,7 +20,7 @@ use Rattle.link_trace.specs.declared.carried.Dss.{Dss}
 use Rattle.link_trace.specs.declared.carried.PathInitials.{PathInitials}
 use Rattle.link_trace.specs.declared.sent.Sent.{Sent}
 use Rattle.link_trace.specs.declared.shifts.Shift.{Shift}
-use Rattle.link_trace.specs.Fates.{is_lost}
+use Rattle.link_trace.specs.Fates.{is_full, is_lost}
 use Rattle.link_trace.specs.Meanings.{meaning_in}
 use Rattle.link_trace.specs.Shifts.{shift_in, with_shift}
 
@@ -116,6 +116,8 @@ carries base s initial shifts segment =
       path = s.path;
       from = s.from;
       lost = is_lost s.fate.arrival;
+      full = is_full s.fate.arrival;
+      queued = s.fate.queued;
       position = position;
       len = payload_len segment;
       place = place_of dss.mapping (first_byte base s.from) (shift_in shifts s.path s.from) position;
@@ -128,6 +130,8 @@ carries_nothing s = record {
   path = s.path;
   from = s.from;
   lost = is_lost s.fate.arrival;
+  full = is_full s.fate.arrival;
+  queued = s.fate.queued;
   position = 0;
   len = 0;
   place = None;

@@ -57,6 +57,11 @@ boxes_head colour = codes "<path fill=\"#ffffff\" stroke-width=\"10\" stroke=\""
 unfoldable pub crosses_head : List ℕ
 crosses_head = codes "<path fill=\"none\" stroke-width=\"30\" stroke=\"#d62728\" d=\""
 
+-- of windows, from the first one on
+unfoldable pub line_head : List ℕ → List ℕ → List ℕ
+line_head colour dashes =
+    codes "<path fill=\"none\" stroke-width=\"20\" stroke-linejoin=\"round\" stroke=\"" ++ (colour ++ (codes "\"" ++ (dashes ++ codes " d=\"M")))
+
 -- of stairs, grey, from the floor up
 unfoldable pub stairs_head : ℕ → List ℕ
 stairs_head floor = codes "<path fill=\"none\" stroke-width=\"12\" stroke=\"#808080\" d=\"M900 " ++ decimal floor

@@ -75,7 +75,7 @@ way_code A = codes "ab"
 way_code B = codes "ba"
 
 abbrev pub rates_head : List ℕ
-rates_head = codes "tick,path,direction,octets,new,again,moved,lost,acknowledged,window,ssthresh,rtt,timeout"
+rates_head = codes "tick,path,direction,octets,new,again,moved,lost,acknowledged,window,ssthresh,rtt,timeout,waiting"
 
 -- the row's first tick, the path, the direction
 abbrev pub row_place : ℕ → ℕ → Side → List ℕ
@@ -106,10 +106,10 @@ abbrev pub field : Option ℕ → List ℕ
 field None = codes ","
 field (Some n) = codes "," ++ decimal n
 
--- the congestion window, the slow start threshold, the smoothed round-trip time and the retransmission timeout
+-- the congestion window, the slow start threshold, the smoothed round-trip time, the retransmission timeout and the octets that wait
 abbrev pub rate_words : Option Rate → List ℕ
-rate_words None = field None ++ (field None ++ (field None ++ field None))
-rate_words (Some r) = field (Some r.window) ++ (field (Some r.threshold) ++ (field r.rtt ++ field (Some r.timeout)))
+rate_words None = field None ++ (field None ++ (field None ++ (field None ++ field None)))
+rate_words (Some r) = field (Some r.window) ++ (field (Some r.threshold) ++ (field r.rtt ++ (field (Some r.timeout) ++ field (Some r.waiting))))
 
 -- ---- lines
 

@@ -17,6 +17,7 @@ pub mod Elements
 pub mod Marks
 pub mod Panels
 pub mod Strokes
+pub mod Windows
 pub mod Pictures
 pub mod Tables
 pub mod Ticks

@@ -1,4 +1,4 @@
--- A picture of both streams in SVG: ticks go across, places up.
+-- A picture of both streams, and of the congestion windows of their senders, in SVG: ticks go across, octets up.
 use Rattle.std.specs.Prelude.{ℕ, ◌+◌, ◌/◌, ◌%◌, ◌^◌, ◌==◌, ◌||◌, nat_le, max, Bool, if◌then◌else◌, List, [], ◌∷◌, ◌++◌, length, codes}
 use Rattle.std.specs.Fmt.{decimal}
 use Rattle.sides.specs.declared.side.Side.{Side}
@@ -7,24 +7,36 @@ use Rattle.link_trace.specs.declared.carried.Carried.{Carried}
 use Rattle.link_trace.specs.declared.drawing.Stream.{Stream}
 use Rattle.link_trace.specs.declared.panels.Block.{Block}
 use Rattle.link_trace.specs.declared.panels.Death.{Death}
+use Rattle.link_trace.specs.declared.rows.Rates.{Rates}
 use Rattle.link_trace.specs.declared.strokes.Dot.{Dot}
 use Rattle.link_trace.specs.declared.strokes.Stroke.{Stroke}
+use Rattle.link_trace.specs.declared.windows.Window.{Window}
 use Rattle.link_trace.specs.Elements.{acknowledged_entry, again_entry, lost_entry, payload_entry}
 use Rattle.link_trace.specs.Panels.{block_of, height_of}
 use Rattle.link_trace.specs.Rows.{last_tick}
 use Rattle.link_trace.specs.Strokes.{dots_of, strokes_of}
+use Rattle.link_trace.specs.Windows.{windows_height, windows_of, windows_panel}
 
 -- ---- what is shown of a stream
 
 pub record Shown : Type 0 where
   pub strokes : List Stroke
   pub dots : List Dot
+  pub windows : List Window
 
 abbrev pub as_shown : Stream → Shown
-as_shown stream = record { strokes = stream.strokes.items; dots = stream.dots.items }
+as_shown stream = record { strokes = stream.strokes.items; dots = stream.dots.items; windows = stream.windows.items }
 
-abbrev pub shown_of : Side → List Carried → Shown
-shown_of side cs = record { strokes = strokes_of side cs; dots = dots_of side cs }
+-- the windows of the side that sends it, by what the ends of so many paths measure up to this tick; none of a stream without payload
+abbrev pub windows_behind : List Stroke → Side → ℕ → ℕ → List Rates → List Window
+windows_behind strokes side paths ticks measured = if length strokes == 0 then [] else windows_of side paths ticks measured
+
+abbrev pub shown_of : Side → ℕ → ℕ → List Rates → List Carried → Shown
+shown_of side paths ticks measured cs = record {
+  strokes = strokes_of side cs;
+  dots = dots_of side cs;
+  windows = windows_behind (strokes_of side cs) side paths ticks measured;
+}
 
 -- ---- the words
 
@@ -71,7 +83,7 @@ abbrev pub some_dots : ℕ → List Dot → List Dot
 some_dots every dots = dots_from every 0 dots
 
 abbrev pub thinned : ℕ → Shown → Shown
-thinned every s = record { strokes = some_strokes every s.strokes; dots = some_dots every s.dots }
+thinned every s = record { strokes = some_strokes every s.strokes; dots = some_dots every s.dots; windows = s.windows }
 
 -- how many strokes, or dots where these are more
 abbrev pub most_of : Shown → ℕ
@@ -100,11 +112,19 @@ unfoldable pub blocks_of : ℕ → List Death → ℕ → ℕ → Shown → Show
 blocks_of paths deaths ticks every a b =
     block_of (upper paths every) ticks deaths a.strokes a.dots ++ block_of (lower paths every a) ticks deaths b.strokes b.dots
 
+-- below the streams the windows of A, then those of B
+unfoldable pub windows_below : ℕ → ℕ → ℕ → Shown → Shown → List ℕ
+windows_below paths ticks top a b =
+    windows_panel A paths top ticks a.windows ++ windows_panel B paths (top + windows_height a.windows) ticks b.windows
+
+abbrev pub bottom_of : ℕ → Shown → Shown → ℕ
+bottom_of paths a b = 400 + height_of paths a.strokes + height_of paths b.strokes
+
 -- of so many paths, of which these died, and so many ticks, where one segment of so many is drawn
 unfoldable pub drawn : ℕ → List Death → ℕ → ℕ → Shown → Shown → List ℕ
 drawn paths deaths ticks every a b =
-    head_words (400 + height_of paths a.strokes + height_of paths b.strokes)
-    ++ (legend_words ++ (blocks_of paths deaths ticks every a b ++ codes "</svg>\n"))
+    head_words (bottom_of paths a b + windows_height a.windows + windows_height b.windows)
+    ++ (legend_words ++ (blocks_of paths deaths ticks every a b ++ (windows_below paths ticks (bottom_of paths a b) a b ++ codes "</svg>\n")))
 
 -- of some of the segments
 abbrev pub drawn_in_part : ℕ → List Death → ℕ → Shown → Shown → List ℕ
@@ -118,6 +138,8 @@ if_room text other = if nat_le (length text) (2 ^ 21) then text else other
 abbrev pub fitted : ℕ → List Death → ℕ → Shown → Shown → List ℕ
 fitted paths deaths ticks a b = if_room (drawn paths deaths ticks 1 a b) (if_room (drawn_in_part paths deaths ticks a b) too_many)
 
--- of what a trace carries over so many paths, of which these died: up to the last segment or death
-unfoldable pub picture_of : ℕ → List Death → List Carried → List ℕ
-picture_of paths deaths cs = fitted paths deaths (max (last_tick cs) (last_death deaths)) (shown_of A cs) (shown_of B cs)
+-- of what a trace carries over so many paths, of which these died, and whose ends measured this: up to the last segment or death
+unfoldable pub picture_of : ℕ → List Death → List Rates → List Carried → List ℕ
+picture_of paths deaths measured cs =
+    let ticks = max (last_tick cs) (last_death deaths) in
+    fitted paths deaths ticks (shown_of A paths ticks measured cs) (shown_of B paths ticks measured cs)

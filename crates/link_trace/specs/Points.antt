@@ -23,9 +23,9 @@ copy_at end s tick = if nat_lt tick end then record s { tick = tick; octets = ar
 abbrev pub delay_on : ℕ → List PathLine → Option ℕ
 delay_on path paths = option_map (λ (line : PathLine). line.delay) (slice_get paths path)
 
--- the copies of a segment that arrive after so many ticks: none of a lost one, two of one that is repeated
+-- the copies of a segment that arrive after so many ticks and those that it waited: none of a lost one, two of one that is repeated
 abbrev pub copies_over : Option ℕ → ℕ → Sent → List Sent
-copies_over (Some delay) end s = flat_map (copy_at end s) (arrivals s.fate.arrival (s.tick + delay))
+copies_over (Some delay) end s = flat_map (copy_at end s) (arrivals s.fate.arrival (s.tick + delay + s.fate.waited))
 copies_over None end s = []
 
 -- of a segment at this side

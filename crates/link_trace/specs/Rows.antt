@@ -5,7 +5,7 @@ use Rattle.sides.specs.declared.side.Side.TheVariants.{A, B}
 use Rattle.link_script.specs.Places.{same_side}
 use Rattle.link_trace.specs.declared.carried.Carried.{Carried}
 use Rattle.link_trace.specs.declared.rows.Count.{Count}
-use Rattle.link_trace.specs.declared.rows.Count.TheVariants.{Segments, Octets, New, Again, Moved, Lost}
+use Rattle.link_trace.specs.declared.rows.Count.TheVariants.{Segments, Octets, New, Again, Moved, Lost, Full}
 use Rattle.link_trace.specs.declared.rows.Rate.{Rate}
 use Rattle.link_trace.specs.declared.rows.Rates.{Rates}
 use Rattle.link_trace.specs.declared.rows.Row.{Row}
@@ -80,9 +80,18 @@ shares_of path direction = record {
   fresh = capped (fresh_behind path no_marks direction);
 }
 
--- how many segments a line of the script lets go lost
+-- how many segments are lost, by a line of the script or since a queue is full
 abbrev pub lost_of : List Carried → ℕ
 lost_of cs = count_by (λ c. c.lost) cs
+
+-- how many are lost since a queue is full
+abbrev pub full_of : List Carried → ℕ
+full_of cs = count_by (λ c. c.full) cs
+
+-- the most octets that waited as one was sent
+abbrev pub most_queued : List Carried → ℕ
+most_queued [] = 0
+most_queued (c ∷ cs) = max c.queued (most_queued cs)
 
 -- the tick of the segment with this number in the list
 abbrev pub tick_at : ℕ → List Carried → Option ℕ
@@ -101,6 +110,8 @@ row_of path side rate cs =
       moved = shares.moved;
       fresh = shares.fresh;
       lost = lost_of row;
+      full = full_of row;
+      queue = most_queued row;
       rate = rate;
     }
 
@@ -125,6 +136,7 @@ count_in New row = row.fresh
 count_in Again row = row.again
 count_in Moved row = row.moved
 count_in Lost row = row.lost
+count_in Full row = row.full
 
 -- all of them together
 abbrev pub total_from : Side → Count → List Row → ℕ

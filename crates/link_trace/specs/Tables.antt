@@ -5,7 +5,7 @@ use Rattle.std.specs.List.{flat_map}
 use Rattle.sides.specs.declared.side.Side.{Side}
 use Rattle.sides.specs.declared.side.Side.TheVariants.{A, B}
 use Rattle.link_trace.specs.declared.carried.Carried.{Carried}
-use Rattle.link_trace.specs.declared.rows.Count.TheVariants.{Segments, Octets, New, Again, Moved, Lost}
+use Rattle.link_trace.specs.declared.rows.Count.TheVariants.{Segments, Octets, New, Again, Moved, Lost, Full}
 use Rattle.link_trace.specs.declared.rows.Rate.{Rate}
 use Rattle.link_trace.specs.declared.rows.Rates.{Rates}
 use Rattle.link_trace.specs.declared.rows.Row.{Row}
@@ -44,12 +44,16 @@ goodput_column kilobits =
     32 ∷ (aligned 5 (kilobits / 1000) ++ (codes "." ++ (decimal (kilobits / 100 % 10)
     ++ (decimal (kilobits / 10 % 10) ++ decimal (kilobits % 10)))))
 
--- the segments; of their octets all, those sent for the first time, those sent again and those moved; the segments that were lost
+-- the segments; of their octets all, those sent for the first time, those sent again and those moved; the lost segments
 abbrev pub first_columns : Counts → List ℕ
 first_columns c = column c.segments ++ (column c.octets ++ column c.fresh)
 
+-- all that were lost, and those of them that found a full queue
+abbrev pub lost_columns : Counts → List ℕ
+lost_columns c = column c.lost ++ column c.full
+
 abbrev pub counts_columns : Counts → List ℕ
-counts_columns c = first_columns c ++ (column c.again ++ (column c.moved ++ column c.lost))
+counts_columns c = first_columns c ++ (column c.again ++ (column c.moved ++ lost_columns c))
 
 abbrev pub counts_of : Row → Counts
 counts_of row = record {
@@ -59,12 +63,17 @@ counts_of row = record {
   again = row.again;
   moved = row.moved;
   lost = row.lost;
+  full = row.full;
 }
 
--- where it stands, what it counts, the end's measures, and how many bits in a second are new over so many ticks; the row ends with LF
+-- the greatest queue, and what the end measures
+abbrev pub measures_columns : Row → List ℕ
+measures_columns row = column row.queue ++ rate_columns row.rate
+
+-- where it stands, what it counts, its measures, and how many bits in a second are new over so many ticks; the row ends with LF
 abbrev pub row_words : ℕ → Row → List ℕ
 row_words ticks row =
-    place_columns row ++ (counts_columns (counts_of row) ++ (rate_columns row.rate ++ (goodput_column (goodput row.fresh ticks) ++ 10 ∷ [])))
+    place_columns row ++ (counts_columns (counts_of row) ++ (measures_columns row ++ (goodput_column (goodput row.fresh ticks) ++ 10 ∷ [])))
 
 -- ---- the totals
 
@@ -76,6 +85,7 @@ totals_of side rows = record {
   again = capped (total_from side Again rows);
   moved = capped (total_from side Moved rows);
   lost = capped (total_from side Lost rows);
+  full = capped (total_from side Full rows);
 }
 
 -- the ticks of the first segment of a direction, and of its last one
@@ -83,9 +93,9 @@ abbrev pub all_place : Side → List Carried → List ℕ
 all_place side direction =
     codes " all" ++ (way_column side ++ (optional_column (tick_at 0 direction) ++ optional_column (tick_at (length direction - 1) direction)))
 
--- no end's measures, and how many bits in a second are new; the row ends with LF
+-- no queue, no end's measures, and how many bits in a second are new; the row ends with LF
 abbrev pub all_measures : ℕ → ℕ → List ℕ
-all_measures ticks fresh = (no_column ++ no_column) ++ (goodput_column (goodput fresh ticks) ++ 10 ∷ [])
+all_measures ticks fresh = (no_column ++ (no_column ++ no_column)) ++ (goodput_column (goodput fresh ticks) ++ 10 ∷ [])
 
 -- all rows of a direction together
 abbrev pub all_words : Side → ℕ → List Carried → List Row → List ℕ
@@ -99,7 +109,7 @@ total_words ticks cs rows =
 -- ---- the whole
 
 abbrev pub head_words : List ℕ
-head_words = codes "path  dir  first/ms   last/ms  segments    octets       new     again     moved      lost    rtt/ms  window/B    Mbit/s"
+head_words = codes "path  dir  first/ms   last/ms  segments    octets       new     again     moved      lost      full   queue/B    rtt/ms  window/B    Mbit/s"
 
 abbrev pub table_words : ℕ → List Carried → List Row → List ℕ
 table_words ticks cs rows = (head_words ++ 10 ∷ []) ++ (flat_map (row_words ticks) rows ++ total_words ticks cs rows)

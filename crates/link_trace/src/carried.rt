@@ -7,7 +7,7 @@ ghost use Rattle.mptcp_options.specs.Meaning.{option_meaning};
 ghost use Rattle.link_trace.specs.Carrying.{acknowledged_by, all_carried, base_of, behind, carried_of, carries, carries_nothing, dss_in, dss_read, first_byte, first_number, initial_in, low_half, low_number, mapped, payload_len, place_mapped, place_of, shift_by, shift_told, shifted, shifts_after};
 ghost use Rattle.link_trace.specs.Shifts.{shift_in};
 
-use crate::fate::is_lost;
+use crate::fate::{is_full, is_lost};
 use crate::sent::Sent;
 use crate::shifts::{Shift, keep_shift, shift_in};
 use key_material::idsn;
@@ -26,8 +26,12 @@ pub struct Carried {
     pub path: u8,
     /// The side that sent it.
     pub from: Side,
-    /// A line of the script lets it go lost.
+    /// A line of the script lets it go lost, or the queue of its direction is full.
     pub lost: bool,
+    /// The queue is full.
+    pub full: bool,
+    /// The octets that wait before its direction once it was sent.
+    pub queued: u32,
     /// The position of the first octet of the payload, or where it would stand.
     pub position: u32,
     /// Octets of the payload.
@@ -214,6 +218,8 @@ fn carries(
         path: sent.path,
         from: sent.from,
         lost: is_lost(sent.fate.arrival),
+        full: is_full(sent.fate.arrival),
+        queued: sent.fate.queued,
         position,
         len: payload_len(segment),
         place: place_of(dss.mapping, base.first_byte(sent.from), shift, position),
@@ -230,6 +236,8 @@ fn carries_nothing(sent: &Sent) -> Carried
         path: sent.path,
         from: sent.from,
         lost: is_lost(sent.fate.arrival),
+        full: is_full(sent.fate.arrival),
+        queued: sent.fate.queued,
         position: 0,
         len: 0,
         place: None,

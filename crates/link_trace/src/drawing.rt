@@ -1,14 +1,15 @@
-//! A picture of both streams in SVG: ticks go across, places up.
+//! A picture of both streams, and of the congestion windows of their senders, in SVG: ticks go across, octets up.
 
 ghost use Rattle.std.specs.Prelude.{◌≡◌, ◌++◌, ◌^◌, ◌≤◌, IfOk, OnOk, length, string_bytes};
-ghost use Rattle.link_trace.specs.Pictures.{as_shown, blocks_of, dot_if, drawn, drawn_in_part, every_of, head_words, if_room, is_drawn, last_death, legend_words, lower, most_of, picture_of, some_dots, some_strokes, too_many, upper};
+ghost use Rattle.link_trace.specs.Pictures.{as_shown, blocks_of, bottom_of, dot_if, drawn, drawn_in_part, every_of, head_words, if_room, is_drawn, last_death, legend_words, lower, most_of, picture_of, some_dots, some_strokes, too_many, upper, windows_behind, windows_below};
 ghost use Rattle.link_trace.specs.Strokes.{dots_of, strokes_of};
 
 use crate::carried::Carried;
 use crate::elements::{put_acknowledged_entry, put_again_entry, put_lost_entry, put_payload_entry};
 use crate::panels::{Block, Death, height_of, put_block};
-use crate::rows::last_tick;
+use crate::rows::{Rates, last_tick};
 use crate::strokes::{Dot, Stroke, dots_of, strokes_of};
+use crate::windows::{Window, put_windows, windows_height, windows_of};
 use sides::Side;
 use std::alloc::{AllocError, Global};
 
@@ -20,15 +21,49 @@ const TOO_MANY: &str =
 pub(crate) struct Stream {
     pub strokes: Vec<Stroke>,
     pub dots: Vec<Dot>,
+    /// Those of the side that sends it.
+    pub windows: Vec<Window>,
 }
 
-fn stream_of(alloc: Global, side: Side, carried: &[Carried]) -> Result<Stream, AllocError>
+/// The windows of the side that sends a stream, up to this tick: none of one without payload.
+fn windows_behind(
+    alloc: Global,
+    strokes: &[Stroke],
+    side: Side,
+    paths: usize,
+    ticks: u64,
+    measured: &[Rates],
+) -> Result<Vec<Window>, AllocError>
+    ensures { IfOk result (λ windows. windows.items ≡
+        windows_behind strokes.now side paths ticks measured.now) }
+{
+    if strokes.is_empty() {
+        return Ok(Vec::new(alloc));
+    }
+    windows_of(alloc, side, paths, ticks, measured)
+}
+
+fn stream_of(
+    alloc: Global,
+    side: Side,
+    paths: usize,
+    ticks: u64,
+    measured: &[Rates],
+    carried: &[Carried],
+) -> Result<Stream, AllocError>
     ensures strokes { IfOk result (λ stream. stream.strokes.items ≡ strokes_of side carried.now) }
     ensures dots { IfOk result (λ stream. stream.dots.items ≡ dots_of side carried.now) }
+    ensures windows { IfOk result (λ stream. stream.windows.items ≡
+        windows_behind (strokes_of side carried.now) side paths ticks measured.now) }
 {
     let strokes = strokes_of(alloc, side, carried)?;
     let dots = dots_of(alloc, side, carried)?;
-    Ok(Stream { strokes, dots })
+    let windows = windows_behind(alloc, &strokes, side, paths, ticks, measured)?;
+    Ok(Stream {
+        strokes,
+        dots,
+        windows,
+    })
 }
 
 #[tactic(auto, unfolding(crate::specs::Pictures::head_words))]
@@ -95,6 +130,33 @@ fn put_blocks(
     put_block(text, &second, ticks, deaths, &from_b.strokes, &from_b.dots)
 }
 
+/// How far down both streams reach.
+fn bottom_of(paths: usize, from_a: &Stream, from_b: &Stream) -> u16
+    ensures value { result ≡ bottom_of paths (as_shown from_a.now) (as_shown from_b.now) }
+    ensures low { result ≤ 11220 }
+{
+    400 + height_of(paths, &from_a.strokes) + height_of(paths, &from_b.strokes)
+}
+
+/// Puts the windows of both sides, so far below the picture's top.
+#[tactic(auto, unfolding(crate::specs::Pictures::windows_below))]
+fn put_windows_below(
+    text: &mut String,
+    paths: usize,
+    ticks: u64,
+    top: u16,
+    from_a: &Stream,
+    from_b: &Stream,
+) -> Result<(), AllocError>
+    requires { top ≤ 11220 }
+    ensures { OnOk result (string_bytes text.new ≡ string_bytes text.old ++
+        windows_below paths ticks top (as_shown from_a.now) (as_shown from_b.now)) }
+{
+    put_windows(text, Side::A, paths, top, ticks, &from_a.windows)?;
+    let below = top + windows_height(&from_a.windows);
+    put_windows(text, Side::B, paths, below, ticks, &from_b.windows)
+}
+
 /// The picture of both streams: of so many paths, every so many-th segment is drawn, these died, over so many ticks.
 #[tactic(auto, unfolding(crate::specs::Pictures::drawn))]
 fn drawn(
@@ -109,14 +171,16 @@ fn drawn(
     ensures { IfOk result (λ text. text.items ≡
         drawn paths deaths.now ticks every (as_shown from_a.now) (as_shown from_b.now)) }
 {
+    let top = bottom_of(paths, from_a, from_b);
     let (height_a, height_b) = (
-        height_of(paths, &from_a.strokes),
-        height_of(paths, &from_b.strokes),
+        windows_height(&from_a.windows),
+        windows_height(&from_b.windows),
     );
     let mut text = String::new(alloc);
-    put_head(&mut text, 400 + height_a + height_b)?;
+    put_head(&mut text, top + height_a + height_b)?;
     put_legend(&mut text)?;
     put_blocks(&mut text, paths, every, deaths, ticks, from_a, from_b)?;
+    put_windows_below(&mut text, paths, ticks, top, from_a, from_b)?;
     text.push_str("</svg>\n")?;
     Ok(text.into_bytes())
 }
@@ -167,10 +231,16 @@ fn thinned(alloc: Global, every: usize, stream: &Stream) -> Result<Stream, Alloc
     ensures strokes { IfOk result (λ some.
         some.strokes.items ≡ some_strokes every stream.now.strokes.items) }
     ensures dots { IfOk result (λ some. some.dots.items ≡ some_dots every stream.now.dots.items) }
+    ensures windows { IfOk result (λ some. some.windows.items ≡ stream.now.windows.items) }
 {
     let strokes = some_strokes(alloc, every, &stream.strokes)?;
     let dots = some_dots(alloc, every, &stream.dots)?;
-    Ok(Stream { strokes, dots })
+    let windows = Vec::from_slice(alloc, &stream.windows)?;
+    Ok(Stream {
+        strokes,
+        dots,
+        windows,
+    })
 }
 
 /// How many strokes a stream has, or dots where these are more.
@@ -254,21 +324,25 @@ fn fitted(
 }
 
 /// The picture of what a trace carries over so many paths, of which these died: a panel for each stream that has payload, a sentence for
-/// another one. It has 2 MiB at most, and shows each segment where that is enough; else every so many-th, by the least number of which
-/// 10,000 are more than the payloads of a stream, and than its Data ACKs, and all that are lost; else it says that these are too many.
+/// another one. Below them stands a panel of the congestion windows of each side that sends payload, where two rows end: by what the ends of
+/// all paths measured as each row of 100 ticks ended, one path after the other; of 1,000 rows at most. The picture has 2 MiB at most, and
+/// shows each segment where that is enough; else every so many-th, by the least number of which 10,000 are more than the payloads of a
+/// stream, and than its Data ACKs, and all that are lost; else it says that these are too many.
 #[tactic(auto, unfolding(crate::specs::Pictures::picture_of))]
 pub fn picture(
     alloc: Global,
     paths: usize,
     deaths: &[Death],
+    measured: &[Rates],
     carried: &[Carried],
 ) -> Result<Vec<u8>, AllocError>
-    ensures value { IfOk result (λ text. text.items ≡ picture_of paths deaths.now carried.now) }
+    ensures value { IfOk result (λ text. text.items ≡
+        picture_of paths deaths.now measured.now carried.now) }
     ensures size { IfOk result (λ text. length text.items ≤ 2 ^ 21) }
 {
     let ticks = last_tick(carried).max(last_death(deaths));
-    let from_a = stream_of(alloc, Side::A, carried)?;
-    let from_b = stream_of(alloc, Side::B, carried)?;
+    let from_a = stream_of(alloc, Side::A, paths, ticks, measured, carried)?;
+    let from_b = stream_of(alloc, Side::B, paths, ticks, measured, carried)?;
     let whole = drawn(alloc, paths, 1, deaths, ticks, &from_a, &from_b)?;
     fitted(alloc, paths, deaths, ticks, &from_a, &from_b, whole)
 }

@@ -1,7 +1,7 @@
 //! Elements of SVG that a picture is made of.
 
 ghost use Rattle.std.specs.Prelude.{◌≡◌, ◌++◌, OnOk, string_bytes};
-ghost use Rattle.link_trace.specs.Elements.{acknowledged_entry, again_entry, bars_head, boxes_head, crosses_head, death_line, death_words_at, heading_at, key_line, lost_entry, notch, payload_entry, rectangle, stairs_head, words_at, words_by};
+ghost use Rattle.link_trace.specs.Elements.{acknowledged_entry, again_entry, bars_head, boxes_head, crosses_head, death_line, death_words_at, heading_at, key_line, line_head, lost_entry, notch, payload_entry, rectangle, stairs_head, words_at, words_by};
 
 use std::alloc::AllocError;
 
@@ -125,6 +125,18 @@ pub fn put_crosses_head(text: &mut String) -> Result<(), AllocError>
     write!(
         text,
         "<path fill=\"none\" stroke-width=\"30\" stroke=\"#d62728\" d=\""
+    )
+}
+
+/// Begins that of windows, at the first one.
+#[tactic(auto, unfolding(crate::specs::Elements::line_head))]
+pub fn put_line_head(text: &mut String, colour: &str, dashes: &str) -> Result<(), AllocError>
+    ensures { OnOk result (string_bytes text.new ≡
+        string_bytes text.old ++ line_head colour.now dashes.now) }
+{
+    write!(
+        text,
+        "<path fill=\"none\" stroke-width=\"20\" stroke-linejoin=\"round\" stroke=\"{colour}\"{dashes} d=\"M"
     )
 }
 

@@ -196,15 +196,17 @@ fn put_rate(text: &mut String, rate: Option<Rate>) -> Result<(), AllocError>
     ensures { OnOk result (string_bytes text.new ≡ string_bytes text.old ++ rate_words rate) }
 {
     let Some(rate) = rate else {
-        return text.push_str(",,,,");
+        return text.push_str(",,,,,");
     };
     put_field(text, Some(rate.window))?;
     put_field(text, Some(rate.threshold))?;
     put_field(text, rate.rtt)?;
-    put_field(text, Some(rate.timeout))
+    put_field(text, Some(rate.timeout))?;
+    put_field(text, Some(rate.waiting))
 }
 
-fn rate_of(side: Side, rates: Rates) -> Rate
+/// What the end of a side measures.
+pub(crate) fn rate_of(side: Side, rates: Rates) -> Rate
     ensures { result ≡ rate_of side rates }
 {
     match side {
@@ -319,8 +321,8 @@ fn put_paths(
 /// the first of which begins at tick 0. It tells the row's first tick, the path, the direction; octets of payload that were handed over in
 /// the row, those of them that were sent for the first time, sent again, moved, and lost; how many of the direction's stream the other
 /// side has acknowledged by the row's end, the DATA_FIN among them; and the end's congestion window, slow start threshold, smoothed
-/// round-trip time and retransmission timeout: those of path i in row n stand at the place n times `paths` plus i, and fields are empty
-/// where there is none. A head of names stands before the lines.
+/// round-trip time and retransmission timeout, and the octets that wait before the direction: those of path i in row n stand at the place
+/// n times `paths` plus i, and fields are empty where there is none. A head of names stands before the lines.
 pub fn rates(
     alloc: Global,
     measured: &[Rates],
@@ -333,7 +335,7 @@ pub fn rates(
     let mut text = String::new(alloc);
     writeln!(
         text,
-        "tick,path,direction,octets,new,again,moved,lost,acknowledged,window,ssthresh,rtt,timeout"
+        "tick,path,direction,octets,new,again,moved,lost,acknowledged,window,ssthresh,rtt,timeout,waiting"
     )?;
     put_paths(alloc, &mut text, measured, paths, rows, carried)?;
     Ok(text.into_bytes())

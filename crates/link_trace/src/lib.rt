@@ -30,6 +30,7 @@ mod table;
 mod text;
 mod ticks;
 mod told;
+mod windows;
 
 pub use carried::{Base, Carried, PathInitials, all_carried};
 pub use drawing::picture;
@@ -37,7 +38,7 @@ pub use intervals::rates;
 pub use laws::first_octets_are_the_places;
 pub use packets::capture;
 pub use panels::Death;
-pub use points::seen_at;
+pub use points::{arrival_tick, seen_at};
 pub use rows::{Rate, Rates, Row, rows_of};
 pub use sent::Sent;
 pub use strokes::{Dot, Stroke, dots_of, strokes_of};

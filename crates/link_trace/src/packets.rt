@@ -55,12 +55,13 @@ fn ipv4_packet(alloc: Global, sent: &Sent) -> Result<Vec<u8>, AllocError>
     Ok(octets)
 }
 
-/// The ticks of an arrival are a number of 32 bits.
-fn look_at(arrival: Fate) -> bool
-    ensures { ticks_of arrival < 2 ^ 32 }
+/// The ticks of an arrival and of a wait are numbers of 32 bits.
+fn look_at(waited: u32, arrival: Fate) -> bool
+    ensures waited { waited < 2 ^ 32 }
+    ensures ticks { ticks_of arrival < 2 ^ 32 }
 {
     match arrival {
-        Fate::OnTime | Fate::Lost => true,
+        Fate::OnTime | Fate::Lost | Fate::Full => 0 < waited,
         Fate::Late { ticks } | Fate::Twice { ticks } => 0 < ticks,
     }
 }
@@ -72,7 +73,7 @@ fn comment_of(alloc: Global, fate: &SegmentFate) -> Result<String, AllocError>
     ensures short { IfOk result (λ comment. length (string_bytes comment) < 2 ^ 16) }
 {
     // For the proof: the ticks are a number of 32 bits.
-    let _some = look_at(fate.arrival);
+    let _some = look_at(fate.waited, fate.arrival);
     let mut comment = String::new(alloc);
     put_fate(&mut comment, fate)?;
     Ok(comment)

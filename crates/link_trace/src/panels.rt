@@ -271,8 +271,9 @@ fn put_places(text: &mut String, scale: &Scale) -> Result<(), AllocError>
     put_each_place(text, scale, step, count_of(scale.places, step))
 }
 
+/// Puts the frame of a panel, with its numbers.
 #[tactic(auto, unfolding(crate::specs::Panels::axes_of))]
-fn put_axes(text: &mut String, scale: &Scale) -> Result<(), AllocError>
+pub(crate) fn put_axes(text: &mut String, scale: &Scale) -> Result<(), AllocError>
     ensures { OnOk result (string_bytes text.new ≡ string_bytes text.old ++ axes_of scale.now) }
 {
     put_frame(text, scale)?;

@@ -1,6 +1,6 @@
 //! What passes the interfaces of one side: what it sends, and what arrives there.
 
-ghost use Rattle.std.specs.Prelude.{◌≡◌, ◌++◌, ◌∷◌, [], Some, IfOk, OnOk};
+ghost use Rattle.std.specs.Prelude.{◌≡◌, ◌+◌, ◌^◌, ◌<◌, ◌++◌, ◌∷◌, [], Some, IfOk, OnOk};
 ghost use Rattle.link_trace.specs.Points.{arrived_octets, copies_over, copy_at, delay_on, seen_at, seen_of};
 ghost use Rattle.link_trace.specs.Ticks.{AreByTick};
 
@@ -80,7 +80,15 @@ fn delay_on(path: u8, paths: &[PathLine]) -> Option<u32>
     }
 }
 
-/// Puts the copies of a segment that arrive after so many ticks.
+/// The tick at which a segment arrives that was sent at this one, over a path of this delay, and waited so many ticks.
+pub fn arrival_tick(tick: u64, delay: u32, waited: u32) -> u128
+    ensures tick { result ≡ tick + delay + waited }
+    ensures small { result < 2 ^ 65 }
+{
+    u128::from(tick) + u128::from(delay) + u128::from(waited)
+}
+
+/// Puts the copies of a segment that arrive after so many ticks and those that it waited.
 fn put_copies(
     alloc: Global,
     seen: &mut Vec<Sent>,
@@ -91,9 +99,9 @@ fn put_copies(
     ensures { OnOk result (seen.new.items ≡
         seen.old.items ++ copies_over (Some delay) end sent.now) }
 {
-    let on_time = u128::from(sent.tick) + u128::from(delay);
+    let on_time = arrival_tick(sent.tick, delay, sent.fate.waited);
     match sent.fate.arrival {
-        Fate::Lost => Ok(()),
+        Fate::Lost | Fate::Full => Ok(()),
         Fate::OnTime => put_copy(alloc, seen, sent, on_time, end),
         Fate::Late { ticks } => put_copy(alloc, seen, sent, on_time + u128::from(ticks), end),
         Fate::Twice { ticks } => {

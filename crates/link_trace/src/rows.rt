@@ -2,7 +2,7 @@
 
 ghost use Rattle.std.specs.Prelude.{◌≡◌, ◌-◌, ◌++◌, ◌∷◌, [], filter, length, IfOk, OnOk};
 ghost use Rattle.sides.specs.declared.side.Side.TheVariants.{A, B};
-ghost use Rattle.link_trace.specs.Rows.{again_by, below, capped, count_in, edge_behind, end_of, fresh_by, goodput, if_from, is_from, is_on, last_tick, lost_of, moved_by, octets_of, row_of, rows_of, shares_of, tick_at, total_from};
+ghost use Rattle.link_trace.specs.Rows.{again_by, below, capped, count_in, edge_behind, end_of, fresh_by, full_of, goodput, if_from, is_from, is_on, last_tick, lost_of, most_queued, moved_by, octets_of, row_of, rows_of, shares_of, tick_at, total_from};
 
 use crate::carried::Carried;
 use crate::places::{carry, repeated};
@@ -21,6 +21,8 @@ pub struct Rate {
     pub rtt: Option<u32>,
     /// RTO, the retransmission timeout, in ticks.
     pub timeout: u32,
+    /// Octets that wait before the direction from its side, as the round ends.
+    pub waiting: u32,
 }
 
 /// Those of both ends of a path.
@@ -50,8 +52,12 @@ pub struct Row {
     pub moved: u64,
     /// Those at places that no segment of the direction had carried before.
     pub fresh: u64,
-    /// Segments that a line of the script lets go lost.
+    /// Segments that a line of the script lets go lost, or that find a full queue.
     pub lost: usize,
+    /// Those of them that find a full queue.
+    pub full: usize,
+    /// The most octets that waited before the direction as one was sent.
+    pub queue: u64,
     /// Of the end of this side.
     pub rate: Rate,
 }
@@ -65,6 +71,7 @@ pub(crate) enum Count {
     Again,
     Moved,
     Lost,
+    Full,
 }
 
 /// Octets of one direction of a path, by whether they were sent before.
@@ -202,11 +209,29 @@ fn shares_of(alloc: Global, path: usize, direction: &[Carried]) -> Result<Shares
     })
 }
 
-/// Segments that a line of the script lets go lost.
+/// Segments that are lost.
 fn lost_of(row: &[Carried]) -> usize
     ensures { result ≡ lost_of row.now }
 {
     row.iter().filter(|carried| carried.lost).count()
+}
+
+/// Segments that find a full queue.
+fn full_of(row: &[Carried]) -> usize
+    ensures { result ≡ full_of row.now }
+{
+    row.iter().filter(|carried| carried.full).count()
+}
+
+/// The most octets that waited as one was sent.
+fn most_queued(row: &[Carried]) -> u64
+    ensures { result ≡ most_queued row.now }
+{
+    let mut most = 0;
+    for segment in row {
+        most = most.max(u64::from(segment.queued));
+    }
+    most
 }
 
 pub fn first_tick(row: &[Carried]) -> Option<u64>
@@ -251,6 +276,8 @@ fn row_of(
         moved: shares.moved,
         fresh: shares.fresh,
         lost: lost_of(&row),
+        full: full_of(&row),
+        queue: most_queued(&row),
         rate,
     })
 }
@@ -302,6 +329,7 @@ fn count_in(count: Count, row: &Row) -> u64
         Count::Again => row.again,
         Count::Moved => row.moved,
         Count::Lost => row.lost as u64,
+        Count::Full => row.full as u64,
     }
 }
 

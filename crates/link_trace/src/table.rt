@@ -3,7 +3,7 @@
 ghost use Rattle.std.specs.Prelude.{◌≡◌, ◌++◌, ◌∷◌, [], IfOk, OnOk, string_bytes};
 ghost use Rattle.std.specs.List.{flat_map};
 ghost use Rattle.link_trace.specs.Rows.{rows_of};
-ghost use Rattle.link_trace.specs.Tables.{aligned, all_measures, all_place, all_words, column, counts_columns, counts_of, first_columns, goodput_column, head_words, optional_column, place_columns, rate_columns, row_words, summary_of, table_words, total_words, totals_of, way_column};
+ghost use Rattle.link_trace.specs.Tables.{aligned, all_measures, all_place, all_words, column, counts_columns, counts_of, first_columns, goodput_column, head_words, lost_columns, measures_columns, optional_column, place_columns, rate_columns, row_words, summary_of, table_words, total_words, totals_of, way_column};
 
 use crate::carried::Carried;
 use crate::rows::{
@@ -14,7 +14,7 @@ use sides::Side;
 use std::alloc::{AllocError, Global};
 
 const HEAD: &str =
-    "path  dir  first/ms   last/ms  segments    octets       new     again     moved      lost    rtt/ms  window/B    Mbit/s";
+    "path  dir  first/ms   last/ms  segments    octets       new     again     moved      lost      full   queue/B    rtt/ms  window/B    Mbit/s";
 
 /// What a row counts: segments, octets of payload, and whether they were sent for the first time.
 #[derive(Clone, Copy)]
@@ -29,6 +29,8 @@ pub(crate) struct Counts {
     pub moved: u64,
     /// Segments that are lost.
     pub lost: u64,
+    /// Those of them that find a full queue.
+    pub full: u64,
 }
 
 fn put_head(text: &mut String) -> Result<(), AllocError>
@@ -100,6 +102,7 @@ fn counts_of(row: &Row) -> Counts
         again: row.again,
         moved: row.moved,
         lost: row.lost as u64,
+        full: row.full as u64,
     }
 }
 
@@ -113,6 +116,7 @@ fn totals_of(side: Side, rows: &[Row]) -> Counts
         again: total_from(side, Count::Again, rows),
         moved: total_from(side, Count::Moved, rows),
         lost: total_from(side, Count::Lost, rows),
+        full: total_from(side, Count::Full, rows),
     }
 }
 
@@ -125,6 +129,13 @@ fn put_first_counts(text: &mut String, counts: &Counts) -> Result<(), AllocError
     put_column(text, counts.fresh)
 }
 
+fn put_lost(text: &mut String, counts: &Counts) -> Result<(), AllocError>
+    ensures { OnOk result (string_bytes text.new ≡ string_bytes text.old ++ lost_columns counts.now) }
+{
+    put_column(text, counts.lost)?;
+    put_column(text, counts.full)
+}
+
 fn put_counts(text: &mut String, counts: &Counts) -> Result<(), AllocError>
     ensures { OnOk result (string_bytes text.new ≡
         string_bytes text.old ++ counts_columns counts.now) }
@@ -132,7 +143,15 @@ fn put_counts(text: &mut String, counts: &Counts) -> Result<(), AllocError>
     put_first_counts(text, counts)?;
     put_column(text, counts.again)?;
     put_column(text, counts.moved)?;
-    put_column(text, counts.lost)
+    put_lost(text, counts)
+}
+
+/// The greatest queue before the direction, and what the end measures.
+fn put_measures(text: &mut String, row: &Row) -> Result<(), AllocError>
+    ensures { OnOk result (string_bytes text.new ≡ string_bytes text.old ++ measures_columns row.now) }
+{
+    put_column(text, row.queue)?;
+    put_rate(text, row.rate)
 }
 
 /// The row of a path and a direction, in a run of so many ticks.
@@ -142,7 +161,7 @@ fn put_row(text: &mut String, ticks: u64, row: &Row) -> Result<(), AllocError>
 {
     put_place(text, row)?;
     put_counts(text, &counts_of(row))?;
-    put_rate(text, row.rate)?;
+    put_measures(text, row)?;
     put_goodput(text, goodput(row.fresh, ticks))?;
     writeln!(text)
 }
@@ -166,12 +185,12 @@ fn put_all_place(text: &mut String, side: Side, direction: &[Carried]) -> Result
     put_optional(text, final_tick(direction))
 }
 
-/// Puts no end's measures, and the goodput of so many octets.
+/// Puts no queue, no end's measures, and the goodput of so many octets.
 fn put_all_measures(text: &mut String, ticks: u64, fresh: u64) -> Result<(), AllocError>
     ensures { OnOk result (string_bytes text.new ≡
         string_bytes text.old ++ all_measures ticks fresh) }
 {
-    write!(text, "         -         -")?;
+    write!(text, "         -         -         -")?;
     put_goodput(text, goodput(fresh, ticks))?;
     writeln!(text)
 }

@@ -84,10 +84,10 @@ abbrev pub IsCaptureAt : Side → Script → ℕ → List Sent → List ℕ → 
 IsCaptureAt side script end told shown =
     (seen : List Sent) × (AreByTick (seen_at side script.paths end told) seen × (shown ≡ capture_text (blocks_of side (length script.paths) seen)))
 
--- the picture of these segments of a run of this script, which ended with this world; it has 2 MiB at most
-abbrev pub IsPictureOf : Script → WorldState (List ℕ) → List Sent → List ℕ → Type 0
-IsPictureOf script w told shown =
-    (shown ≡ picture_of (length script.paths) (deaths_in w script.lines) (all_carried (base_in script) (initials_in script) told))
+-- the picture of these segments of a run of this script, whose ends measured this, and which ended with this world; it has 2 MiB at most
+abbrev pub IsPictureOf : Script → WorldState (List ℕ) → List table.Rates → List Sent → List ℕ → Type 0
+IsPictureOf script w measured told shown =
+    (shown ≡ picture_of (length script.paths) (deaths_in w script.lines) measured (all_carried (base_in script) (initials_in script) told))
     × (length shown ≤ 2 ^ 21)
 
 -- what is told of a run of this script, which ended with this world, where its segments stand in this order
@@ -116,7 +116,7 @@ module _ (script : Script) (w : WorldState (List ℕ)) (measured : List table.Ra
       shown ≡ rates_text measured (length script.paths) (end_of w / 100) (all_carried (base_in script) (initials_in script) told)
   IsViewFrom Summary told shown = shown ≡ summary_of (rates_of w.crew) (all_carried (base_in script) (initials_in script) told)
   IsViewFrom (Text numbers) told shown = shown ≡ lines_of script.checksum (data_in numbers script) told
-  IsViewFrom Picture told shown = IsPictureOf script w told shown
+  IsViewFrom Picture told shown = IsPictureOf script w measured told shown
   IsViewFrom Json told shown = IsJsonOf (run_of script w told) shown
   IsViewFrom Page told shown = IsPageOf (run_of script w told) shown
 

@@ -27,7 +27,7 @@ struct Fault<'a> {
 /// The forms of lines by their first word: words that stand as they are, with `/` between two choices, and names of numbers.
 fn form_of(keyword: &[u8], is_joined: bool) -> Option<&'static [u8]> {
     match keyword {
-        b"mptcp-script" => Some(b"mptcp-script 1"),
+        b"mptcp-script" => Some(b"mptcp-script 1/2"),
         b"seed" => Some(b"seed SEED"),
         b"checksum" => Some(b"checksum on/off"),
         b"short" => Some(b"short on/off"),
@@ -47,6 +47,25 @@ fn form_of(keyword: &[u8], is_joined: bool) -> Option<&'static [u8]> {
     }
 }
 
+/// The forms of lines that scripts of version 2 alone have.
+fn second_form_of(keyword: &[u8]) -> Option<&'static [u8]> {
+    match keyword {
+        b"rate" => Some(b"rate I ab/ba RATE QUEUE"),
+        b"loss" => Some(b"loss I ab/ba PARTS"),
+        b"jitter" => Some(b"jitter I ab/ba TICKS"),
+        _ => None,
+    }
+}
+
+/// Why a line is refused that has its form.
+fn place_of(keyword: &[u8]) -> &'static str {
+    match keyword {
+        b"mptcp-script" => "column 1: the first line alone begins with mptcp-script",
+        b"rate" | b"loss" | b"jitter" => "column 1: mptcp-script 2 alone has such lines",
+        _ => "",
+    }
+}
+
 /// The forms of lines on segments.
 fn segment_form_of(keyword: &[u8]) -> Option<&'static [u8]> {
     match keyword {
@@ -56,7 +75,7 @@ fn segment_form_of(keyword: &[u8]) -> Option<&'static [u8]> {
         b"late" => Some(b"late I ab/ba N TICKS"),
         b"dup" => Some(b"dup I ab/ba N TICKS"),
         b"strip-all" => Some(b"strip-all I ab/ba TICK"),
-        _ => None,
+        _ => second_form_of(keyword),
     }
 }
 
@@ -72,6 +91,9 @@ fn slot_of(name: &[u8]) -> Option<Slot> {
         b"TICK" => ("tick", 0, 6_553_599),
         b"TICKS" => ("ticks", 0, 100_000),
         b"ID" => ("identifier", 0, 255),
+        b"RATE" => ("rate", 10, 1_000_000),
+        b"QUEUE" => ("queue", 1_500, 1_000_000),
+        b"PARTS" => ("parts of a million", 0, 1_000_000),
         _ => return None,
     };
     Some(Slot { name, least, most })
@@ -104,7 +126,7 @@ fn has_form(word: &[u8], wanted: &[u8]) -> bool {
         return is_choice(word, wanted);
     };
     match number_of(word) {
-        Some(number) => slot.least <= number && number <= slot.most,
+        Some(number) => word.len() <= 20 && slot.least <= number && number <= slot.most,
         None => false,
     }
 }
@@ -172,7 +194,7 @@ fn put_form(text: &mut String, line: &[u8]) -> Result<(), AllocError> {
     };
     match fault_in(line, form) {
         Some(fault) => put_fault(text, &fault),
-        None => Ok(()),
+        None => text.push_str(place_of(keyword)),
     }
 }
 
@@ -208,7 +230,7 @@ pub fn script_help(
     let mut text = String::new(alloc);
     match kind {
         ScriptKind::TooMany => text.push_str("a script has 4,096 lines at most")?,
-        ScriptKind::Header => text.push_str("the first line is mptcp-script 1")?,
+        ScriptKind::Header => text.push_str("the first line is mptcp-script 1 or mptcp-script 2")?,
         ScriptKind::Order => text.push_str(
             "settings, then paths in order from 0, then lines on these paths, then end",
         )?,

@@ -98,18 +98,21 @@ fn capture_at(
     capture(alloc, side, paths.len(), &seen)
 }
 
-/// The picture of these segments of a run of this script, which ended with this world.
+/// The picture of these segments of a run of this script, whose ends measured this as its rounds ended, and which ended with this world.
 fn picture_at(
     alloc: Global,
     script: &Script,
     world: &World,
+    measured: &[Rates],
     told: &[Sent],
 ) -> Result<Vec<u8>, AllocError>
-    ensures { IfOk result (λ shown. IsPictureOf script.now world.now.state told.now shown.items) }
+    ensures { IfOk result (λ shown.
+        IsPictureOf script.now world.now.state measured.now told.now shown.items) }
 {
     let deaths = deaths_in(alloc, world, script.lines.as_slice())?;
     let carried = carried_in(alloc, script, told)?;
-    let shown = picture(alloc, script.paths.as_slice().len(), &deaths, &carried)?;
+    let paths = script.paths.as_slice().len();
+    let shown = picture(alloc, paths, &deaths, measured, &carried)?;
     Ok(shown)
 }
 
@@ -137,7 +140,7 @@ fn shown(
             let carried = carried_in(alloc, script, told)?;
             summary(alloc, &rates_of(alloc, world)?, &carried)
         }
-        View::Picture => picture_at(alloc, script, world, told),
+        View::Picture => picture_at(alloc, script, world, measured, told),
         View::Text(numbers) => lines(alloc, script.checksum, data_in(numbers, script), told),
         View::Json => json_shown(alloc, script, world, told),
         View::Page => page_shown(alloc, script, world, told),

@@ -103,8 +103,10 @@ pub trait Outside {
             HasRisen (told self.old).load_faults (told self.new).load_faults }
 
         // All else is as it was.
-        ensures same_contents { (other : List ℕ) → (told self.new).content other ≡ (told self.old).content other }
-        ensures same_ports { (port : Port) → (told self.new).holds port ≡ (told self.old).holds port }
+        ensures same_contents { (other : List ℕ) → (told self.new).content other ≡
+            (told self.old).content other }
+        ensures same_ports { (port : Port) → (told self.new).holds port ≡
+            (told self.old).holds port }
         ensures same_counts { (port : Port) →
             (told self.new).port_faults port ≡ (told self.old).port_faults port }
 

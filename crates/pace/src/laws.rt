@@ -1,7 +1,7 @@
 //! What is promised of lanes, as clauses of functions that do nothing.
 ghost use Rattle.pace.specs.Laws.{LanesBegin, MovesKeepIt, CalmRoundsBegin, NoTimerRunsOut, NoThirdDuplicate, FirstRoundsEndCalm, LaterRoundsEndCalm, SevenRoundsBringAPayload, EightRoundsBringNews, SixRoundsTellTheEnd, BothEndsAreTold};
 
-/// A law: all that `Going` says holds of a lane as the first round begins, where the congestion window takes three payloads
+/// A law: all that `Going` says holds of a lane as the first round begins, where the congestion window takes two payloads
 /// or more; each move keeps it; and it holds as a round begins where the one before left the lane calm.
 pub fn what_holds_stays()
     ensures first { LanesBegin }
@@ -38,7 +38,7 @@ pub fn rounds_bring_news()
 {}
 
 /// A law: both readers are told the end after 15 rounds and 7 more for each payload of the longer file, whatever the order
-/// of moves in each round, where both congestion windows take three payloads or more as the first round begins.
+/// of moves in each round, where both congestion windows take two payloads or more as the first round begins.
 pub fn both_ends_are_told()
     ensures { BothEndsAreTold }
 {}

@@ -1,11 +1,12 @@
 -- What lowers the numbers of a turn, and what doesn't raise the first two.
-use Rattle.path_core.proofs.Words.{◌≡◌, refl, ◌∙◌, ℕ, ◌+◌, ◌<◌, ◌≤◌, nat_le, true, false, if◌then◌else◌, List, [], ◌∷◌, arith, cond, leb-true, Side, A, B}
-use Rattle.path_core.proofs.Words.{after_send, arrivals, with_flights, comes_before, with_flight, Flight, PlainSegment, Duty, weights, Then, Less, PathState}
+use Rattle.path_core.proofs.Words.{◌≡◌, refl, ◌∙◌, ℕ, ◌<◌, ◌≤◌, nat_le, true, false, if◌then◌else◌, List, [], ◌∷◌, length, arith, cond, leb-true, Side, A, B}
+use Rattle.path_core.proofs.Words.{after_send, arrivals, with_flights, comes_before, with_flight, next_number, Flight, PlainSegment, Duty, weights, Then, Less, PathState}
 use Rattle.path_core.proofs.Words.{end_at, with_agenda, goes_on, PathEnd, Codec, TakesTime, ticks_left, one_if_due, due_copies, due_timer, due_by_now}
-use Rattle.path_core.proofs.Words.{bytes_left, sendings_left, sent_on}
+use Rattle.path_core.proofs.Words.{bytes_left, sendings_left, sent_on, made}
 use Rattle.link_model.specs.declared.fate.Fate.{Fate}
-use Rattle.link_model.specs.declared.fate.Fate.TheVariants.{OnTime, Lost, Late, Twice}
+use Rattle.link_model.specs.declared.fate.Fate.TheVariants.{OnTime, Lost, Full, Late, Twice}
 use Rattle.link_model.specs.State.{LinkState}
+use Rattle.link_model.specs.Steps.{first_arrival}
 
 -- ---- copies
 
@@ -26,19 +27,20 @@ module _ {C : Type 0} where
       → due_copies clock (with_flights to number carried (arrivals fate tick) flights) ≡ due_copies clock flights
   some_later clock to number carried OnTime tick flights later = one_later clock _ flights later
   some_later clock to number carried Lost tick flights later = refl
+  some_later clock to number carried Full tick flights later = refl
   some_later clock to number carried (Late ticks) tick flights later = one_later clock _ flights (omega (arith, later))
   some_later clock to number carried (Twice ticks) tick flights later =
       one_later clock _ _ (omega (arith, later)) ∙ one_later clock _ flights later
 
-  sent_isn't_due : (strip alter : Side → C → C) (from : Side) (carried : C) (now : ℕ) (link : LinkState C) → 1 ≤ link.delay
-      → due_copies now (after_send strip alter from carried now link).under_way ≡ due_copies now link.under_way
-  sent_isn't_due strip alter A carried now link some = some_later now B _ _ _ (now + link.delay) link.under_way (omega (arith, some))
-  sent_isn't_due strip alter B carried now link some = some_later now A _ _ _ (now + link.delay) link.under_way (omega (arith, some))
+  sent_isn't_due : (strip alter : Side → C → C) (from : Side) (carried : C) (length now : ℕ) (link : LinkState C) → 1 ≤ link.delay
+      → due_copies now (after_send strip alter from carried length now link).under_way ≡ due_copies now link.under_way
+  sent_isn't_due strip alter A carried length now link some = some_later now B _ _ _ (first_arrival A (next_number A link) length now link) link.under_way (omega (arith, some))
+  sent_isn't_due strip alter B carried length now link some = some_later now A _ _ _ (first_arrival B (next_number B link) length now link) link.under_way (omega (arith, some))
 
-  sent_keeps_delay : (strip alter : Side → C → C) (from : Side) (carried : C) (now : ℕ) (link : LinkState C)
-      → (after_send strip alter from carried now link).delay ≡ link.delay
-  sent_keeps_delay strip alter A carried now link = refl
-  sent_keeps_delay strip alter B carried now link = refl
+  sent_keeps_delay : (strip alter : Side → C → C) (from : Side) (carried : C) (length now : ℕ) (link : LinkState C)
+      → (after_send strip alter from carried length now link).delay ≡ link.delay
+  sent_keeps_delay strip alter A carried length now link = refl
+  sent_keeps_delay strip alter B carried length now link = refl
 
 -- ---- ends
 
@@ -75,12 +77,12 @@ module _ {C : Type 0} where
       → Rests p.clock (end_at s p) e → Calm p (sent_on k s segment e ds p)
   sent_calm k A segment e ds p t rests = record {
     ticks = omega arith;
-    due = omega (arith, rests.due, sent_isn't_due (k.strips p.profile.spelling) (k.alters p.profile.spelling) A (k.makes p.profile.spelling A segment) p.clock p.link t.delay);
+    due = omega (arith, rests.due, sent_isn't_due (k.strips p.profile.spelling) (k.alters p.profile.spelling) A (k.makes p.profile.spelling A segment) (length (made p.profile.spelling A segment)) p.clock p.link t.delay);
     time = record { delay = t.delay; timer_a = rests.timeout t.timer_a; timer_b = t.timer_b };
   }
   sent_calm k B segment e ds p t rests = record {
     ticks = omega arith;
-    due = omega (arith, rests.due, sent_isn't_due (k.strips p.profile.spelling) (k.alters p.profile.spelling) B (k.makes p.profile.spelling B segment) p.clock p.link t.delay);
+    due = omega (arith, rests.due, sent_isn't_due (k.strips p.profile.spelling) (k.alters p.profile.spelling) B (k.makes p.profile.spelling B segment) (length (made p.profile.spelling B segment)) p.clock p.link t.delay);
     time = record { delay = t.delay; timer_a = t.timer_a; timer_b = rests.timeout t.timer_b };
   }
 

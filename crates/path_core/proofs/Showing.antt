@@ -1,6 +1,6 @@
 -- A path over octets is the path over values, shown: one clause for each duty.
 use Rattle.path_core.proofs.Words.{◌≡◌, ◌⊎◌, inl, inr, refl, sym, ap, subst, ◌∙◌, ℕ, ◌+◌, ◌≤◌, ◌&&◌, nat_lt, Bool, true, false, if◌then◌else◌, Option, Some}
-use Rattle.path_core.proofs.Words.{None, List, [], ◌∷◌, map, ◌^◌, is_some, not, cond, find, position, position_or_len, length-map, take-map, drop-map}
+use Rattle.path_core.proofs.Words.{None, List, [], ◌∷◌, length, map, ◌^◌, is_some, not, cond, find, position, position_or_len, length-map, take-map, drop-map}
 use Rattle.path_core.proofs.Words.{map-append, Verdict, FallEvent, Side, peer, A, B, JoinSyn, ControlReply, SendCall, Record, Occasion, segments_sent}
 use Rattle.path_core.proofs.Words.{next_number, is_due, next_due, arriving, after_delivery, without, after_send, changed, arrivals, with_flights, one_more}
 use Rattle.path_core.proofs.Words.{Flight, Spelling, PlainSegment, Expected, IsFresh, meant, subflow_number, HeardSegment, Piece, Heard, key_heard, keys_heard}
@@ -17,13 +17,13 @@ use Rattle.path_core.proofs.Words.{having_sent_unsent, data_ask, Grant, grant_in
 use Rattle.path_core.proofs.Words.{dead_answer, resend_occasion, resend_of, next_event, after_line, happens_if, step_for, refusal_of, reset_of, reset_on}
 use Rattle.path_core.proofs.Words.{break_ask, answered_break, piece_of, is_placed, answered_piece, rate_ask, sends, having_sent, handed, sent_on}
 use Rattle.path_core.proofs.Words.{answered_ack_out, ack_segment, ack_out_ask, item_of, item_ask, answered_item, SegmentKind, to_send, broken_by, heard_sends}
-use Rattle.path_core.proofs.Words.{unsent_sends, duty_sends, first_sends}
+use Rattle.path_core.proofs.Words.{unsent_sends, duty_sends, first_sends, made}
 use Rattle.std.specs.Option.{IfSome, IsSome, option_map}
 use Rattle.link_model.specs.declared.flight.Due.{Due}
-use Rattle.link_model.specs.Fate.{fate_of, is_stripped, is_altered}
+use Rattle.link_model.specs.Fate.{is_stripped, is_altered}
 use Rattle.link_model.specs.Laws.{with_copies_shown, shown_flight}
 use Rattle.link_model.specs.State.{LinkState}
-use Rattle.link_model.specs.Steps.{counted}
+use Rattle.link_model.specs.Steps.{counted, with_waiting, waiting_after, fate_at, first_arrival}
 use Rattle.link_model.proofs.Shown.{sent_shown}
 use Rattle.path_segments.specs.declared.position.HeardPosition.TheVariants.{At}
 use Rattle.path_core.proofs.ChangedCopies.{octets_changed}
@@ -161,16 +161,16 @@ arrives_alone strip alter true false carried = refl
 arrives_alone strip alter false true carried = refl
 arrives_alone strip alter false false carried = refl
 
-alone_send : {C : Type 0} (strip alter : Side → C → C) (from : Side) (carried : C) (now : ℕ) (link : LinkState C)
-    → after_send strip alter from carried now link
+alone_send : {C : Type 0} (strip alter : Side → C → C) (from : Side) (carried : C) (length now : ℕ) (link : LinkState C)
+    → after_send strip alter from carried length now link
     ≡ after_send (λ side c. c) (λ side c. c) from
-    (changed (strip from) (alter from) (is_stripped from (next_number from link) now link.lines) (is_altered from (next_number from link) link.lines) carried) now link
-alone_send strip alter from carried now link =
+    (changed (strip from) (alter from) (is_stripped from (next_number from link) now link.lines) (is_altered from (next_number from link) link.lines) carried) length now link
+alone_send strip alter from carried length now link =
     let number = next_number from link in
-    ap (λ arriving. one_more from (record link {
+    ap (λ arriving. one_more from (with_waiting from (waiting_after from number length now link) (record link {
       under_way =
-          with_flights (peer from) number arriving (arrivals (fate_of from number link.lines) (now + link.delay)) link.under_way;
-    }))
+          with_flights (peer from) number arriving (arrivals (fate_at from number length now link) (first_arrival from number length now link)) link.under_way;
+    })))
     (arrives_alone (strip from) (alter from) (is_stripped from number now link.lines) (is_altered from number link.lines) carried)
 
 same_handed : (s : Side) (segment : PlainSegment) (p : PathState Carried)
@@ -181,15 +181,16 @@ same_handed s segment p said =
     let strips : ℕ → Bool = λ taken. is_stripped s (counted taken) p.clock p.link.lines in
     let alters : ℕ → Bool = λ taken. is_altered s (counted taken) p.link.lines in
     let taken : ℕ = segments_sent s p.link in
+    let size : ℕ = length (made spelling s segment) in
     let arrives : Carried = changed (values.strips spelling s) (values.alters spelling s) (strips taken) (alters taken) (values.makes spelling s segment) in
-    alone_send (octets.strips spelling) (octets.alters spelling) s (octets.makes spelling s segment) p.clock (with_copies_shown show p.link)
+    alone_send (octets.strips spelling) (octets.alters spelling) s (octets.makes spelling s segment) size p.clock (with_copies_shown show p.link)
     ∙ ap (λ (n : ℕ). after_send (λ side c. c) (λ side c. c) s
-    (changed (octets.strips spelling s) (octets.alters spelling s) (strips n) (alters n) (octets.makes spelling s segment)) p.clock (with_copies_shown show p.link))
+    (changed (octets.strips spelling s) (octets.alters spelling s) (strips n) (alters n) (octets.makes spelling s segment)) size p.clock (with_copies_shown show p.link))
     (same_taken s spelling p.link)
-    ∙ ap (λ c. after_send (λ side c. c) (λ side c. c) s c p.clock (with_copies_shown show p.link))
+    ∙ ap (λ c. after_send (λ side c. c) (λ side c. c) s c size p.clock (with_copies_shown show p.link))
     (sym (octets_changed spelling s segment (strips taken) (alters taken) said))
-    ∙ sym (sent_shown show (λ side c. c) (λ side c. c) (λ side c. c) (λ side c. c) (λ side c. refl) (λ side c. refl) s arrives p.clock p.link)
-    ∙ ap (with_copies_shown show) (sym (alone_send (values.strips spelling) (values.alters spelling) s (values.makes spelling s segment) p.clock p.link))
+    ∙ sym (sent_shown show (λ side c. c) (λ side c. c) (λ side c. c) (λ side c. c) (λ side c. refl) (λ side c. refl) s arrives size p.clock p.link)
+    ∙ ap (with_copies_shown show) (sym (alone_send (values.strips spelling) (values.alters spelling) s (values.makes spelling s segment) size p.clock p.link))
 
 pub same_sent : (s : Side) (segment : PlainSegment) (e : PathEnd) (ds : List Duty) (p : PathState Carried)
     → (is_altered s (next_number s p.link) p.link.lines ≡ true → CanBeSaid p.profile.spelling s segment)

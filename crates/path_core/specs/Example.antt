@@ -47,7 +47,7 @@ profile = record {
 
 -- path 0 opens the connection
 abbrev pub start : PathStart
-start = record { profile = profile; drawn = drawn; delay = 10; joined_at = None }
+start = record { profile = profile; drawn = drawn; seed = 1; delay = 10; joined_at = None }
 
 -- ---- steps at the books
 

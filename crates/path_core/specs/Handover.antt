@@ -13,6 +13,7 @@ use Rattle.actor_desk.specs.declared.ask.LocalStep.TheVariants as steps
 use Rattle.path_agenda.specs.declared.duty.Duty.{Duty}
 use Rattle.path_core.specs.Codec.{Codec}
 use Rattle.path_core.specs.End.{PathEnd}
+use Rattle.path_core.specs.Octets.{made}
 use Rattle.path_core.specs.Modes.{sends_plainly}
 use Rattle.path_core.specs.DssOut.{owes_mapping}
 use Rattle.path_core.specs.State.{PathState, goes_on}
@@ -25,7 +26,7 @@ sends k s segment p =
 -- the link takes it
 abbrev pub handed : {C : Type 0} → Codec C → Side → PlainSegment → PathState C → LinkState C
 handed k s segment p =
-    after_send (k.strips p.profile.spelling) (k.alters p.profile.spelling) s (k.makes p.profile.spelling s segment) p.clock p.link
+    after_send (k.strips p.profile.spelling) (k.alters p.profile.spelling) s (k.makes p.profile.spelling s segment) (length (made p.profile.spelling s segment)) p.clock p.link
 
 -- the edge of the window that a segment tells; a reset tells none
 abbrev pub edge_told : PlainSegment → PathEnd → ℕ

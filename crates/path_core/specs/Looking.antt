@@ -6,8 +6,7 @@ use Rattle.sides.specs.Side.{peer}
 use Rattle.octet_text.specs.Octets.{number_at}
 use Rattle.link_model.specs.declared.flight.Due.{Due}
 use Rattle.link_model.specs.declared.flight.Flight.{Flight}
-use Rattle.link_model.specs.Fate.{segment_fate}
-use Rattle.link_model.specs.Steps.{next_number, arriving}
+use Rattle.link_model.specs.Steps.{arriving, next_number, octets_waiting as octets_in_queue, segment_fate}
 use Rattle.segment_wire.specs.declared.head.Addresses.{Addresses}
 use Rattle.segment_wire.specs.Reading.{header_len, segment_meaning}
 use Rattle.segment_wire.specs.Paths.{addresses_from}
@@ -62,6 +61,10 @@ slow_start_threshold s p = (end_at s p).tcp.congestion.reno.ssthresh
 -- cwnd in octets (RFC 5681, section 3.1)
 abbrev pub congestion_window : {C : Type 0} → Side → PathState C → ℕ
 congestion_window s p = (end_at s p).tcp.congestion.reno.window
+
+-- the octets that wait before the link as the round ends
+abbrev pub octets_waiting : {C : Type 0} → Side → PathState C → ℕ
+octets_waiting s p = octets_in_queue s p.until p.link
 
 -- ---- a segment that is sent
 
@@ -130,12 +133,14 @@ module _ {C : Type 0} where
 
 -- as the link takes it
 abbrev pub departing_as : PathState (List ℕ) → ToSend → Departing
-departing_as p t = record {
-  from = t.from;
-  number = next_number t.from p.link;
-  octets = made p.profile.spelling t.from (said_by t.kind p.profile t.from (end_at t.from p));
-  fate = segment_fate t.from (next_number t.from p.link) p.clock p.link;
-}
+departing_as p t =
+    let octets = made p.profile.spelling t.from (said_by t.kind p.profile t.from (end_at t.from p)) in
+    record {
+      from = t.from;
+      number = next_number t.from p.link;
+      octets = octets;
+      fate = segment_fate t.from (next_number t.from p.link) (length octets) p.clock p.link;
+    }
 
 -- the segment that the next step hands to the link, if it hands one
 abbrev pub departing : PathState (List ℕ) → Option Departing

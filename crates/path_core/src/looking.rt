@@ -1,9 +1,8 @@
 //! What the next step of a path hands to its link, what it takes from it, and its tick.
 
-ghost use Rattle.std.specs.Prelude.{◌≡◌, Some, IsSome, IfOk, option_map, IfSome};
-ghost use Rattle.link_model.specs.Fate.{segment_fate};
-ghost use Rattle.link_model.specs.Steps.{arriving, next_number};
-ghost use Rattle.path_core.specs.Looking.{send_of, ack_sends, broken_by, arrived, copy_arriving, departing, departing_as, duty_sends, first_sends, heard_sends, mapping_sends, next_arrival, shown_arriving, step_sends, tick_with, unsent_sends, next_tick, IsSegmentOn};
+ghost use Rattle.std.specs.Prelude.{◌≡◌, Some, IsSome, IfOk, option_map, IfSome, length};
+ghost use Rattle.link_model.specs.Steps.{arriving, next_number, segment_fate};
+ghost use Rattle.path_core.specs.Looking.{send_of, ack_sends, broken_by, arrived, copy_arriving, departing, departing_as, duty_sends, first_sends, heard_sends, mapping_sends, next_arrival, octets_waiting, shown_arriving, step_sends, tick_with, unsent_sends, next_tick, IsSegmentOn};
 ghost use Rattle.path_core.specs.Emission.{first_unsent};
 ghost use Rattle.path_core.specs.Events.{next_event};
 ghost use Rattle.path_core.specs.State.{end_at, path_of};
@@ -188,11 +187,19 @@ impl PathState {
         self.link.next_number(from)
     }
 
-    /// What becomes of the segment of this number, handed over at the path's tick.
-    fn fate_now(&self, from: Side, number: u64) -> SegmentFate
-        ensures { result ≡ segment_fate from number self.now.clock self.now.link }
+    /// What becomes of the segment of this number and of these octets, handed over at the path's tick.
+    fn fate_now(&self, from: Side, number: u64, octets: &[u8]) -> SegmentFate
+        ensures { result ≡ segment_fate from number (length octets.now) self.now.clock self.now.link }
     {
-        self.link.segment_fate(from, number, self.clock.now())
+        self.link
+            .segment_fate(from, number, octets.len() as u64, self.clock.now())
+    }
+
+    /// The octets that wait before the link from a side as the round ends.
+    pub(crate) fn octets_waiting(&self, side: Side) -> u32
+        ensures { result ≡ octets_waiting side self.now }
+    {
+        self.link.octets_waiting(side, self.clock.until())
     }
 
     /// The segment as the link takes it.
@@ -202,11 +209,13 @@ impl PathState {
     {
         let ToSend { from, kind } = to_send;
         let number = self.number_next(from);
+        let octets = self.octets_of(from, kind)?;
+        let fate = self.fate_now(from, number, octets.as_slice());
         Ok(Departing {
             from,
             number,
-            octets: Text::from(self.octets_of(from, kind)?),
-            fate: self.fate_now(from, number),
+            octets: Text::from(octets),
+            fate,
         })
     }
 

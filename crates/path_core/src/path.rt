@@ -7,7 +7,7 @@ ghost use Rattle.link_model.specs.Octets.{after_octets};
 ghost use Rattle.link_script.specs.Scripts.{HasRanges};
 ghost use Rattle.path_core.specs.Events.{is_dead_path};
 ghost use Rattle.path_core.specs.MpJoin.{is_listening};
-ghost use Rattle.path_core.specs.Looking.{departing, next_arrival, next_tick, shown_arriving, retransmission_timeout, slow_start_threshold, smoothed_rtt, congestion_window, IsSegmentOn, IsTold};
+ghost use Rattle.path_core.specs.Looking.{departing, next_arrival, next_tick, octets_waiting, shown_arriving, retransmission_timeout, slow_start_threshold, smoothed_rtt, congestion_window, IsSegmentOn, IsTold};
 ghost use Rattle.path_core.specs.Octets.{octets};
 ghost use Rattle.path_core.specs.Replies.{asks_bytes_first, needs_memory_first};
 ghost use Rattle.path_core.specs.Start.{first_turn_of};
@@ -141,6 +141,14 @@ impl Path {
         ensures bound { result ≤ 2 ^ 20 }
     {
         self.state.end(side).tcp.congestion_window()
+    }
+
+    /// The octets that wait before its link from a side as its round ends, if nothing more is sent: at most 1,000,000, and 0 where the
+    /// direction has no rate.
+    pub fn octets_waiting(&self, side: Side) -> u32
+        ensures { result ≡ octets_waiting side self.now }
+    {
+        self.state.octets_waiting(side)
     }
 
     /// The segment that its next step hands to the link, if it hands one, which the step tells. The path stays as it is.

@@ -38,7 +38,11 @@ pub(crate) fn judge_side<'a>(
     side: Side,
     known: &Keys,
 ) -> Result<Keys, AllocError>
-    ensures { IfOk result (λ keys. record { left = record { book = book_of book.new; lanes = lanes_of lanes.new }; keys = keys }
+    ensures { IfOk result
+        (λ keys. record {
+          left = record { book = book_of book.new; lanes = lanes_of lanes.new };
+          keys = keys;
+        }
         ≡ judged_side at packet (as_seen seen.now) index flow.now side known.now (record { book = book_of book.old; lanes = lanes_of lanes.old })) }
 {
     let read = seen_options(alloc, &seen.segment, known.checksums)?;
@@ -62,7 +66,8 @@ fn judging_of<'a>(
     opened: Opened,
     side: Side,
 ) -> Judging<'a>
-    ensures { facts_of result ≡ opened_facts at packet (as_seen seen.now) index flow.now opened side }
+    ensures { facts_of result ≡
+        opened_facts at packet (as_seen seen.now) index flow.now opened side }
 {
     Judging {
         packet,
@@ -92,7 +97,9 @@ fn judge_form<'a>(
     packet: u32,
     options: &[SeenOption<'a>],
 ) -> Result<(), AllocError>
-    ensures { OnOk result (book_of book.new ≡ with_stream side (told_formless packet (map as_value options.now) (stream_at side (book_of book.old))) (book_of book.old)) }
+    ensures { OnOk result (book_of book.new ≡ with_stream side
+        (told_formless packet (map as_value options.now) (stream_at side (book_of book.old)))
+        (book_of book.old)) }
 {
     match side {
         Side::A => tell_formless(&mut book.a, packet, options),
@@ -109,7 +116,11 @@ fn judge_opened<'a>(
     known: &Keys,
     options: &[SeenOption<'a>],
 ) -> Result<Keys, AllocError>
-    ensures { IfOk result (λ keys. record { left = record { book = book_of book.new; lanes = lanes_of lanes.new }; keys = keys }
+    ensures { IfOk result
+        (λ keys. record {
+          left = record { book = book_of book.new; lanes = lanes_of lanes.new };
+          keys = keys;
+        }
         ≡ judged_opened (facts_of judging.now) (map as_value options.now) known.now (record { book = book_of book.old; lanes = lanes_of lanes.old })) }
 {
     let mut keyed = Keyed::new(alloc, known);
@@ -127,7 +138,9 @@ fn judge_options<'a>(
 ) -> Result<(), AllocError>
     ensures made { OnOk result (keyed_of keyed.new (stream_at judging.now.side (book_of book.new))
         ≡ judged_options (facts_of judging.now) (map as_value options.now) (keyed_of keyed.old (stream_at judging.now.side (book_of book.old)))) }
-    ensures others { OnOk result (book_of book.new ≡ with_stream judging.now.side (stream_at judging.now.side (book_of book.new)) (book_of book.old)) }
+    ensures others { OnOk result
+        (book_of book.new ≡ with_stream judging.now.side
+        (stream_at judging.now.side (book_of book.new)) (book_of book.old)) }
 {
     match judging.side {
         Side::A => judge_stream(&mut book.a, keyed, judging, options),
@@ -198,11 +211,18 @@ fn judge_lanes<'a>(
     position: u64,
 ) -> Result<(), AllocError>
     requires { position + judging.now.seen.payload_len ≤ 2 ^ 61 }
-    ensures judged { OnOk result (record { stream = stream_at judging.now.side (book_of book.new); lane = own_lane (facts_of judging.now) (lanes_of lanes.new) }
+    ensures judged { OnOk result
+        (record {
+          stream = stream_at judging.now.side (book_of book.new);
+          lane = own_lane
+              (facts_of judging.now) (lanes_of lanes.new);
+        }
         ≡ judged_at (facts_of judging.now) position (map value_of keyed.now.options.items) keyed.now.keys
         (stream_at (peer judging.now.side) (book_of book.old)) (stream_at judging.now.side (book_of book.old))
         (own_lane (facts_of judging.now) (lanes_of lanes.old))) }
-    ensures book { OnOk result (book_of book.new ≡ with_stream judging.now.side (stream_at judging.now.side (book_of book.new)) (book_of book.old)) }
+    ensures book { OnOk result
+        (book_of book.new ≡ with_stream judging.now.side
+        (stream_at judging.now.side (book_of book.new)) (book_of book.old)) }
     ensures lanes { OnOk result (lanes_of lanes.new
         ≡ with_own_lane (facts_of judging.now) (own_lane (facts_of judging.now) (lanes_of lanes.new)) (lanes_of lanes.old)) }
 {
@@ -215,7 +235,8 @@ fn judge_lanes<'a>(
 
 // The position of the segment on the lane of its sender.
 fn position_of(lanes: &Lanes, judging: &Judging<'_>) -> Option<u64>
-    ensures value { result ≡ position_of (own_base (facts_of judging.now)) (own_lane (facts_of judging.now) (lanes_of lanes.now))
+    ensures value { result ≡ position_of (own_base (facts_of judging.now)) (own_lane
+        (facts_of judging.now) (lanes_of lanes.now))
         (facts_of judging.now).seen.segment.head.seq judging.now.seen.payload_len }
     ensures few { IfSome result (λ position. position + judging.now.seen.payload_len ≤ 2 ^ 61) }
 {
@@ -266,10 +287,13 @@ fn judge_book<'a>(
     position: u64,
 ) -> Result<(), AllocError>
     requires { position + judging.now.seen.payload_len ≤ 2 ^ 61 }
-    ensures judged { OnOk result (record { stream = stream_at judging.now.side (book_of book.new); lane = lane_of lane.new }
+    ensures judged { OnOk result
+        (record { stream = stream_at judging.now.side (book_of book.new); lane = lane_of lane.new }
         ≡ judged_at (facts_of judging.now) position (map value_of keyed.now.options.items) keyed.now.keys
         (stream_at (peer judging.now.side) (book_of book.old)) (stream_at judging.now.side (book_of book.old)) (lane_of lane.old)) }
-    ensures others { OnOk result (book_of book.new ≡ with_stream judging.now.side (stream_at judging.now.side (book_of book.new)) (book_of book.old)) }
+    ensures others { OnOk result
+        (book_of book.new ≡ with_stream judging.now.side
+        (stream_at judging.now.side (book_of book.new)) (book_of book.old)) }
 {
     match judging.side {
         Side::A => judge_at(alloc, &mut book.a, lane, &book.b, judging, keyed, position),

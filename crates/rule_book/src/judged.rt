@@ -57,7 +57,9 @@ impl<'a> Judged<'a> {
         seen: &SeenSegment<'a>,
     ) -> Result<(), AllocError>
         requires { self.old.seen.last < packet }
-        ensures judged { OnOk result (judged_of self.new ≡ judged words.now.at words.now.check_sums (judged_of self.old) packet (as_seen seen.now)) }
+        ensures judged { OnOk result
+            (judged_of self.new ≡ judged words.now.at words.now.check_sums (judged_of self.old)
+            packet (as_seen seen.now)) }
         ensures last { OnOk result (self.new.seen.last ≤ packet) }
     {
         let place = self.seen.take(packet, seen, is_good(words, seen))?;
@@ -85,7 +87,8 @@ impl<'a> Judged<'a> {
         seen: &SeenSegment<'a>,
         place: Option<Place>,
     ) -> Result<(), AllocError>
-        ensures { OnOk result (judged_of self.new ≡ judged_place at packet (as_seen seen.now) place (judged_of self.old)) }
+        ensures { OnOk result (judged_of self.new ≡ judged_place at packet (as_seen seen.now) place
+            (judged_of self.old)) }
     {
         let Some(place) = place else {
             return Ok(());
@@ -113,7 +116,8 @@ impl<'a> Judged<'a> {
         seen: &SeenSegment<'a>,
         index: usize,
     ) -> Result<(), AllocError>
-        ensures { OnOk result (judged_of self.new ≡ judged_by_flow at packet (as_seen seen.now) index (judged_of self.old)) }
+        ensures { OnOk result (judged_of self.new ≡ judged_by_flow at packet (as_seen seen.now)
+            index (judged_of self.old)) }
     {
         match flow_at(self.seen.flows(), index) {
             Some(flow) => self.judge_in_flow(alloc, at, packet, seen, index, &flow),
@@ -130,7 +134,8 @@ impl<'a> Judged<'a> {
         index: usize,
         flow: &Flow,
     ) -> Result<(), AllocError>
-        ensures { OnOk result (judged_of self.new ≡ judged_belonging at packet (as_seen seen.now) index flow.now flow.now.belongs (judged_of self.old)) }
+        ensures { OnOk result (judged_of self.new ≡ judged_belonging at packet (as_seen seen.now)
+            index flow.now flow.now.belongs (judged_of self.old)) }
     {
         match flow.belongs {
             Some(belongs) => self.judge_belonging(alloc, at, packet, seen, index, flow, &belongs),
@@ -149,7 +154,8 @@ impl<'a> Judged<'a> {
         flow: &Flow,
         belongs: &Belongs,
     ) -> Result<(), AllocError>
-        ensures { OnOk result (judged_of self.new ≡ judged_belonging at packet (as_seen seen.now) index flow.now (Some belongs.now) (judged_of self.old)) }
+        ensures { OnOk result (judged_of self.new ≡ judged_belonging at packet (as_seen seen.now)
+            index flow.now (Some belongs.now) (judged_of self.old)) }
     {
         match keys_at(self.seen.connections(), belongs.connection) {
             Some(known) => {
@@ -171,7 +177,8 @@ impl<'a> Judged<'a> {
         belongs: &Belongs,
         known: &Keys,
     ) -> Result<(), AllocError>
-        ensures { OnOk result (judged_of self.new ≡ judged_known at packet (as_seen seen.now) index flow.now belongs.now (Some known.now)
+        ensures { OnOk result (judged_of self.new ≡ judged_known at packet (as_seen seen.now) index
+            flow.now belongs.now (Some known.now)
             (slice_get (judged_of self.old).books belongs.now.connection) (slice_get (judged_of self.old).lanes index) (judged_of self.old)) }
     {
         let connection = belongs.connection;
@@ -198,7 +205,8 @@ impl<'a> Judged<'a> {
         before: Option<u64>,
         after: Option<u64>,
     ) -> Result<(), AllocError>
-        ensures { OnOk result (judged_of self.new ≡ record (judged_of self.old) { seen = with_key connection before after self.old.seen }) }
+        ensures { OnOk result (judged_of self.new ≡ record (judged_of self.old)
+            { seen = with_key connection before after self.old.seen }) }
     {
         match (before, after) {
             (None, Some(a)) => self.seen.learn(connection, a),
@@ -216,7 +224,8 @@ fn is_good(words: &JudgeWords, seen: &SeenSegment<'_>) -> bool
 
 #[tactic(auto, using(crate::proofs::Growing::one_more, crate::proofs::Growing::enough))]
 fn grow_books(alloc: Global, books: &mut Vec<Book<'_>>, count: usize) -> Result<(), AllocError>
-    ensures { OnOk result (map book_of books.new.items ≡ grown_to count empty_book (map book_of books.old.items)) }
+    ensures { OnOk result (map book_of books.new.items ≡ grown_to count empty_book
+        (map book_of books.old.items)) }
 {
     if books.len() < count {
         books.push(Book::new(alloc))?;
@@ -226,7 +235,8 @@ fn grow_books(alloc: Global, books: &mut Vec<Book<'_>>, count: usize) -> Result<
 
 #[tactic(auto, using(crate::proofs::Growing::one_more, crate::proofs::Growing::enough))]
 fn grow_lanes(alloc: Global, lanes: &mut Vec<Lanes>, count: usize) -> Result<(), AllocError>
-    ensures { OnOk result (map lanes_of lanes.new.items ≡ grown_to count empty_lanes (map lanes_of lanes.old.items)) }
+    ensures { OnOk result (map lanes_of lanes.new.items ≡ grown_to count empty_lanes
+        (map lanes_of lanes.old.items)) }
 {
     if lanes.len() < count {
         lanes.push(Lanes::new(alloc))?;
@@ -237,7 +247,8 @@ fn grow_lanes(alloc: Global, lanes: &mut Vec<Lanes>, count: usize) -> Result<(),
 // A token that was wrong, in the book of its connection.
 #[tactic(auto, using(crate::proofs::Steps::token_there, crate::proofs::Steps::token_nowhere))]
 fn tell_token(books: &mut Vec<Book<'_>>, wrong: &WrongToken) -> Result<(), AllocError>
-    ensures { OnOk result (map book_of books.new.items ≡ books_told wrong.now (map book_of books.old.items)) }
+    ensures { OnOk result (map book_of books.new.items ≡ books_told wrong.now
+        (map book_of books.old.items)) }
 {
     let connection = wrong.belongs.connection;
     if connection >= books.len() {

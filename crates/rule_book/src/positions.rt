@@ -191,7 +191,8 @@ fn judge_within(
     mappings: &[ToldMapping],
 ) -> Result<(), AllocError>
     requires { position + judging.now.seen.payload_len ≤ 2 ^ 61 }
-    ensures { OnOk result (stream_of stream.new ≡ within_each (facts_of judging.now) position mappings.now (stream_of stream.old)) }
+    ensures { OnOk result (stream_of stream.new ≡ within_each (facts_of judging.now) position
+        mappings.now (stream_of stream.old)) }
 {
     for mapping in mappings {
         within_one(stream, judging, position, mapping)?;
@@ -206,7 +207,8 @@ fn within_one(
     mapping: &ToldMapping,
 ) -> Result<(), AllocError>
     requires { position + judging.now.seen.payload_len ≤ 2 ^ 61 }
-    ensures { OnOk result (stream_of stream.new ≡ within_one (facts_of judging.now) position mapping.now (stream_of stream.old)) }
+    ensures { OnOk result (stream_of stream.new ≡ within_one (facts_of judging.now) position
+        mapping.now (stream_of stream.old)) }
 {
     match within_found(judging, position, mapping) {
         Some(finding) => stream.find(Rule::Within, judging.packet, finding),

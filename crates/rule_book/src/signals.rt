@@ -45,7 +45,8 @@ fn tell_verdict(
     packet: u32,
     verdict: Verdict,
 ) -> Result<(), AllocError>
-    ensures { OnOk result (stream_of stream.new ≡ told_verdict rule packet verdict (stream_of stream.old)) }
+    ensures { OnOk result (stream_of stream.new ≡ told_verdict rule packet verdict
+        (stream_of stream.old)) }
 {
     match verdict {
         Verdict::Broke { finding } => stream.find(rule, packet, finding),
@@ -59,7 +60,8 @@ pub(crate) fn tell_formless<'a>(
     packet: u32,
     options: &[SeenOption<'a>],
 ) -> Result<(), AllocError>
-    ensures { OnOk result (stream_of stream.new ≡ told_formless packet (map as_value options.now) (stream_of stream.old)) }
+    ensures { OnOk result (stream_of stream.new ≡ told_formless packet (map as_value options.now)
+        (stream_of stream.old)) }
 {
     for option in options {
         tell_one(stream, packet, option)?;
@@ -72,7 +74,8 @@ fn tell_one<'a>(
     packet: u32,
     option: &SeenOption<'a>,
 ) -> Result<(), AllocError>
-    ensures { OnOk result (stream_of stream.new ≡ formless_one packet (as_value option.now) (stream_of stream.old)) }
+    ensures { OnOk result (stream_of stream.new ≡ formless_one packet (as_value option.now)
+        (stream_of stream.old)) }
 {
     match *option {
         SeenOption::Broken(octets) => stream.tell(Rule::Form, packet, Fault::NoOption { octets }),
@@ -87,7 +90,9 @@ pub(crate) fn take_keys<'a>(
     judging: &Judging<'a>,
     options: &[SeenOption<'a>],
 ) -> Result<(), AllocError>
-    ensures { OnOk result (keyed_of keyed.new (stream_of stream.new) ≡ keyed_each (facts_of judging.now) (map as_value options.now) (keyed_of keyed.old (stream_of stream.old))) }
+    ensures { OnOk result (keyed_of keyed.new (stream_of stream.new) ≡ keyed_each
+        (facts_of judging.now) (map as_value options.now)
+        (keyed_of keyed.old (stream_of stream.old))) }
 {
     for option in options {
         take_seen(stream, keyed, judging, option)?;
@@ -101,7 +106,8 @@ fn take_seen<'a>(
     judging: &Judging<'a>,
     option: &SeenOption<'a>,
 ) -> Result<(), AllocError>
-    ensures { OnOk result (keyed_of keyed.new (stream_of stream.new) ≡ keyed_seen (facts_of judging.now) (as_value option.now) (keyed_of keyed.old (stream_of stream.old))) }
+    ensures { OnOk result (keyed_of keyed.new (stream_of stream.new) ≡ keyed_seen
+        (facts_of judging.now) (as_value option.now) (keyed_of keyed.old (stream_of stream.old))) }
 {
     match *option {
         SeenOption::Known(option) => take_option(stream, keyed, judging, option),
@@ -115,7 +121,8 @@ fn take_option<'a>(
     judging: &Judging<'a>,
     option: MpOption<'a>,
 ) -> Result<(), AllocError>
-    ensures { OnOk result (keyed_of keyed.new (stream_of stream.new) ≡ keyed_one (facts_of judging.now) (value_of option.entry) (keyed_of keyed.old (stream_of stream.old))) }
+    ensures { OnOk result (keyed_of keyed.new (stream_of stream.new) ≡ keyed_one
+        (facts_of judging.now) (value_of option.entry) (keyed_of keyed.old (stream_of stream.old))) }
 {
     match option {
         MpOption::Capable { keys, .. } => {
@@ -129,7 +136,9 @@ fn take_option<'a>(
 // An option that is judged on.
 #[tactic(auto, using(crate::proofs::Growing::option_kept))]
 fn keep<'a>(keyed: &mut Keyed<'a>, option: MpOption<'a>) -> Result<(), AllocError>
-    ensures { (stream : StreamValue) → OnOk result (keyed_of keyed.new stream ≡ kept_option (value_of option.entry) (keyed_of keyed.old stream)) }
+    ensures { (stream : StreamValue) →
+        OnOk result (keyed_of keyed.new stream ≡ kept_option (value_of option.entry)
+        (keyed_of keyed.old stream)) }
 {
     keyed.options.push(option)?;
     Ok(())
@@ -154,7 +163,9 @@ fn take_capable<'a>(
     keys: &CapableKeys,
     verdict: Verdict,
 ) -> Result<(), AllocError>
-    ensures { OnOk result (keyed_of keyed.new (stream_of stream.new) ≡ keyed_by verdict (facts_of judging.now) (value_of option.entry) keys.now (keyed_of keyed.old (stream_of stream.old))) }
+    ensures { OnOk result (keyed_of keyed.new (stream_of stream.new) ≡ keyed_by verdict
+        (facts_of judging.now) (value_of option.entry) keys.now
+        (keyed_of keyed.old (stream_of stream.old))) }
 {
     match verdict {
         Verdict::PassedOver => Ok(()),
@@ -208,7 +219,8 @@ pub(crate) fn judge_signals(
     known: &Keys,
     options: &[MpOption<'_>],
 ) -> Result<(), AllocError>
-    ensures { OnOk result (stream_of stream.new ≡ signalled (facts_of judging.now) known.now (map value_of options.now) (stream_of stream.old)) }
+    ensures { OnOk result (stream_of stream.new ≡ signalled (facts_of judging.now) known.now
+        (map value_of options.now) (stream_of stream.old)) }
 {
     for option in options {
         judge_signal(stream, judging, known, option)?;
@@ -222,7 +234,8 @@ fn judge_signal(
     known: &Keys,
     option: &MpOption<'_>,
 ) -> Result<(), AllocError>
-    ensures { OnOk result (stream_of stream.new ≡ signalled_one (facts_of judging.now) known.now (value_of option.now) (stream_of stream.old)) }
+    ensures { OnOk result (stream_of stream.new ≡ signalled_one (facts_of judging.now) known.now
+        (value_of option.now) (stream_of stream.old)) }
 {
     let peers = known.of(judging.side.peer());
     let mine = known.of(judging.side);
@@ -237,7 +250,8 @@ fn judge_by_keys(
     peers: Option<u64>,
     option: &MpOption<'_>,
 ) -> Result<(), AllocError>
-    ensures { OnOk result (stream_of stream.new ≡ by_peers peers mine (facts_of judging.now) (value_of option.now) (stream_of stream.old)) }
+    ensures { OnOk result (stream_of stream.new ≡ by_peers peers mine (facts_of judging.now)
+        (value_of option.now) (stream_of stream.old)) }
 {
     let Some(peers) = peers else {
         return Ok(());
@@ -255,7 +269,8 @@ fn judge_by_mine(
     peers: u64,
     option: &MpOption<'_>,
 ) -> Result<(), AllocError>
-    ensures { OnOk result (stream_of stream.new ≡ by_mine mine peers (facts_of judging.now) (value_of option.now) (stream_of stream.old)) }
+    ensures { OnOk result (stream_of stream.new ≡ by_mine mine peers (facts_of judging.now)
+        (value_of option.now) (stream_of stream.old)) }
 {
     match mine {
         Some(mine) => judge_hmacs(stream, judging, mine, peers, option),
@@ -271,7 +286,8 @@ fn judge_hmacs(
     peers: u64,
     option: &MpOption<'_>,
 ) -> Result<(), AllocError>
-    ensures { OnOk result (stream_of stream.new ≡ by_both mine peers (facts_of judging.now) (value_of option.now) (stream_of stream.old)) }
+    ensures { OnOk result (stream_of stream.new ≡ by_both mine peers (facts_of judging.now)
+        (value_of option.now) (stream_of stream.old)) }
 {
     let joined = join_in(judging, mine, peers, option);
     take_join(stream, judging.packet, joined)?;
@@ -282,7 +298,8 @@ fn judge_hmacs(
 
 // The HMAC of a join, in a flow of a join.
 fn join_in(judging: &Judging<'_>, mine: u64, peers: u64, option: &MpOption<'_>) -> Verdict
-    ensures { result ≡ join_in (facts_of judging.now).flow.opening (facts_of judging.now) mine peers (value_of option.now) }
+    ensures { result ≡ join_in (facts_of judging.now).flow.opening (facts_of judging.now) mine peers
+        (value_of option.now) }
 {
     match (judging.flow.opening, option) {
         (Opening::Join { nonce, .. }, MpOption::Join { form }) => {

@@ -11,6 +11,7 @@ use Rattle.rand_chacha.specs.ChaCha.{ChaCha, key_of, word_at, next_word}
 use Rattle.link_script.specs.declared.limits.Limits.{Limits}
 use Rattle.link_script.specs.declared.line.Line.{Line as ScriptText}
 use Rattle.link_script.specs.declared.line.Line.TheVariants.{Header, Seed, End}
+use Rattle.link_script.specs.declared.version.Version.TheVariants.{First}
 use Rattle.link_script.specs.declared.script.Happens.TheVariants.{Lost}
 use Rattle.link_script.specs.declared.script.ScriptLine.{ScriptLine}
 use Rattle.link_script.specs.declared.script.ScriptLine.TheVariants.{OnSegment, Die}
@@ -126,7 +127,7 @@ one_line false number = omega arith
 few_lines : (number : ℕ) → length (lines_of (made_script number)) ≤ 4096
 few_lines number = by (seed_lines number) (one_line (number == 1) number)
   where
-    by : (xs : List ScriptText) → length xs ≤ 1 → length (Header ∷ (xs ++ (checksum_lines true ++ (short_lines false ++ (buffer_lines 262144 ++ (path_lines 0 made_paths ++ (event_lines made_lines ++ End ∷ []))))))) ≤ 4096
+    by : (xs : List ScriptText) → length xs ≤ 1 → length (Header First ∷ (xs ++ (checksum_lines true ++ (short_lines false ++ (buffer_lines 262144 ++ (path_lines 0 made_paths ++ (event_lines made_lines ++ End ∷ []))))))) ≤ 4096
     by [] h = omega arith
     by (x ∷ []) h = omega arith
     by (x ∷ y ∷ xs) h = absurd (omega (arith, h))

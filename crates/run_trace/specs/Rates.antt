@@ -1,4 +1,4 @@
--- What the ends of the paths measure, and how much they may have under way.
+-- What the ends of the paths measure, how much they may have under way, and what waits before their links.
 use Rattle.std.specs.Prelude.{◌≡◌, ℕ, option_map, List, [], ◌∷◌, ◌++◌, length}
 use Rattle.std.specs.List.{flat_map}
 use Rattle.std.specs.Option.{option_to_list}
@@ -6,7 +6,7 @@ use Rattle.sides.specs.declared.side.Side.{Side}
 use Rattle.sides.specs.declared.side.Side.TheVariants.{A, B}
 use Rattle.link_trace.specs.declared.rows.Rate.{Rate}
 use Rattle.link_trace.specs.declared.rows.Rates.{Rates}
-use Rattle.path_core.specs.Looking.{congestion_window, retransmission_timeout, slow_start_threshold, smoothed_rtt}
+use Rattle.path_core.specs.Looking.{congestion_window, octets_waiting, retransmission_timeout, slow_start_threshold, smoothed_rtt}
 use Rattle.path_core.specs.Octets.{octets}
 use Rattle.path_core.specs.State.{PathState}
 use Rattle.world_core.specs.Looking.{member_path}
@@ -22,6 +22,7 @@ module _ {C : Type 0} where
     threshold = slow_start_threshold side p;
     rtt = smoothed_rtt side p;
     timeout = retransmission_timeout side p;
+    waiting = octets_waiting side p;
   }
 
   abbrev pub rates_in : PathState C → Rates

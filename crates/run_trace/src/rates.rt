@@ -1,4 +1,4 @@
-//! What the ends of the paths measure, and how much they may have under way.
+//! What the ends of the paths measure, how much they may have under way, and what waits before their links.
 
 ghost use Rattle.std.specs.Prelude.{◌≡◌, ◌++◌, option_map, IfOk, OnOk};
 ghost use Rattle.std.specs.Option.{option_to_list};
@@ -19,6 +19,7 @@ fn rate_at(side: Side, path: &Path) -> Rate
         threshold: path.slow_start_threshold(side),
         rtt: path.smoothed_rtt(side),
         timeout: path.retransmission_timeout(side),
+        waiting: path.octets_waiting(side),
     }
 }
 

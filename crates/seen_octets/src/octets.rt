@@ -49,7 +49,8 @@ impl SeenOctets {
     /// Want of memory. Some of the places have theirs then.
     pub fn fill(&mut self, from: u64, part: &[u8], teller: u32) -> Result<(), AllocError>
         requires { from + length part.now < 2 ^ 64 }
-        ensures { OnOk result ((p : ℕ) → octet_at self.new p ≡ option_or (octet_at self.old p) (octet_by from part.now teller p)) }
+        ensures { OnOk result ((p : ℕ) → octet_at self.new p ≡ option_or (octet_at self.old p)
+            (octet_by from part.now teller p)) }
     {
         if self.is_whole(from, from + part.len() as u64) {
             return Ok(());
@@ -60,7 +61,8 @@ impl SeenOctets {
     // The same, also where all have one.
     fn add(&mut self, from: u64, part: &[u8], teller: u32) -> Result<(), AllocError>
         requires { from + length part.now < 2 ^ 64 }
-        ensures { OnOk result ((p : ℕ) → octet_at self.new p ≡ option_or (octet_at self.old p) (octet_by from part.now teller p)) }
+        ensures { OnOk result ((p : ℕ) → octet_at self.new p ≡ option_or (octet_at self.old p)
+            (octet_by from part.now teller p)) }
     {
         let image = self.octets.len() as u64;
         self.octets.extend_from_slice(part)?;
@@ -109,7 +111,8 @@ impl SeenOctets {
         requires some { from < to }
         requires within { to ≤ run.now.to }
         requires fits { Fits run.now }
-        requires alone { (p : ℕ) → from ≤ p → p < run.now.to → told_at self.now.runs p ≡ told_by run.now p }
+        requires alone { (p : ℕ) → from ≤ p → p < run.now.to → told_at self.now.runs p ≡
+            told_by run.now p }
         ensures len { length result.now ≡ to - from }
         ensures held { IsPiece (octet_at self.now) from result.now }
     {

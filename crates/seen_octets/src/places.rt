@@ -81,7 +81,8 @@ impl SeenPlaces {
     ///
     /// Want of memory. Some of them are seen then.
     pub fn add(&mut self, from: u64, to: u64) -> Result<(), AllocError>
-        ensures ok { OnOk result ((p : ℕ) → is_seen self.new p ≡ (is_seen self.old p || (nat_le from p && nat_lt p to))) }
+        ensures ok { OnOk result ((p : ℕ) → is_seen self.new p ≡
+            (is_seen self.old p || (nat_le from p && nat_lt p to))) }
         ensures stays { (p : ℕ) → is_seen self.old p ≡ true → is_seen self.new p ≡ true }
     {
         let added = self.runs.fill(Run {

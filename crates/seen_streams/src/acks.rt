@@ -60,8 +60,11 @@ fn ack_facts(peers: &Stream<'_>, lane: &Lane, at_sender: bool, first: u64) -> Ac
 
 // The highest Data ACK is kept.
 fn acknowledge(stream: &mut Stream<'_>, lane: &mut Lane, place: u64)
-    ensures stream { stream_of stream.new ≡ record (stream_of stream.old) { acknowledged = max (stream_of stream.old).acknowledged place } }
-    ensures lane { lane_of lane.new ≡ record (lane_of lane.old) { acknowledged = max (lane_of lane.old).acknowledged place } }
+    ensures stream { stream_of stream.new ≡
+        record (stream_of stream.old)
+        { acknowledged = max (stream_of stream.old).acknowledged place } }
+    ensures lane { lane_of lane.new ≡
+        record (lane_of lane.old) { acknowledged = max (lane_of lane.old).acknowledged place } }
 {
     stream.acknowledged = stream.acknowledged.max(place);
     lane.acknowledged = lane.acknowledged.max(place);
@@ -79,7 +82,8 @@ pub fn judge_fail(
     first: u64,
     number: u64,
 ) -> Result<(), AllocError>
-    ensures { OnOk result (stream_of stream.new ≡ failed_with packet first (stream_of peers.now) number (stream_of stream.old)) }
+    ensures { OnOk result (stream_of stream.new ≡ failed_with packet first (stream_of peers.now)
+        number (stream_of stream.old)) }
 {
     if peers.starts.has(named_place(first, number)) {
         return Ok(());

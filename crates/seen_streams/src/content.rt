@@ -44,7 +44,9 @@ pub fn take_payload(
     requires begun { 1 ≤ payload.now.from }
     requires order { payload.now.from + length payload.now.held.now ≤ payload.now.to }
     requires few { payload.now.to ≤ 2 ^ 61 }
-    ensures lane { OnOk result (lane_of lane.new ≡ with_payload (payload_of payload.now) shower.now.packet (lane_of lane.old)) }
+    ensures lane { OnOk result
+        (lane_of lane.new ≡ with_payload (payload_of payload.now) shower.now.packet
+        (lane_of lane.old)) }
     ensures stream { OnOk result (stream_of stream.new
         ≡ shown_all (payload_of payload.now) shower.now.acknowledged shower.now.packet (mapped_of stream.old lane.old learnt.now) (lane_of lane.new)) }
 {
@@ -60,7 +62,8 @@ pub fn take_payload(
 fn keep(lane: &mut Lane, packet: u32, payload: &Payload<'_>) -> Result<(), AllocError>
     requires held { payload.now.from + length payload.now.held.now < 2 ^ 64 }
     requires few { payload.now.to ≤ 2 ^ 61 }
-    ensures { OnOk result (lane_of lane.new ≡ with_payload (payload_of payload.now) packet (lane_of lane.old)) }
+    ensures { OnOk result (lane_of lane.new ≡ with_payload (payload_of payload.now) packet
+        (lane_of lane.old)) }
 {
     lane.octets.fill(payload.from, payload.held, packet)?;
     lane.seen.add(payload.from, payload.to)?;
@@ -78,7 +81,8 @@ fn show_earlier(
     to: u64,
 ) -> Result<(), AllocError>
     requires few { to ≤ 2 ^ 61 }
-    ensures { OnOk result (stream_of stream.new ≡ shown_from (place_of (lane_of lane.now)) (earlier learnt.now.mappings.items learnt.now.has_line (lane_of lane.now))
+    ensures { OnOk result (stream_of stream.new ≡ shown_from (place_of (lane_of lane.now))
+        (earlier learnt.now.mappings.items learnt.now.has_line (lane_of lane.now))
         shower.now.acknowledged shower.now.packet from (to - from) (stream_of stream.old)) }
 {
     let mut position = from;
@@ -101,7 +105,9 @@ fn show_next(
     requires few { to ≤ 2 ^ 61 }
     ensures further { IfOk result (λ end. from < end) }
     ensures within { IfOk result (λ end. end ≤ to) }
-    ensures shown { IfOk result (λ end. stream_of stream.new ≡ shown_from (place_of (lane_of lane.now)) (earlier learnt.now.mappings.items learnt.now.has_line (lane_of lane.now))
+    ensures shown { IfOk result
+        (λ end. stream_of stream.new ≡ shown_from (place_of (lane_of lane.now))
+        (earlier learnt.now.mappings.items learnt.now.has_line (lane_of lane.now))
         shower.now.acknowledged shower.now.packet from (end - from) (stream_of stream.old)) }
 {
     let mapped = mapped_from(learnt, lane, from, to);
@@ -127,7 +133,9 @@ fn show_seen(
     requires few { to ≤ 2 ^ 61 }
     ensures further { IfOk result (λ end. from < end) }
     ensures within { IfOk result (λ end. end ≤ to) }
-    ensures shown { IfOk result (λ end. stream_of stream.new ≡ shown_from (place_of (lane_of lane.now)) (λ p. Some (octet_of (lane_of lane.now) p))
+    ensures shown { IfOk result
+        (λ end. stream_of stream.new ≡ shown_from (place_of (lane_of lane.now))
+        (λ p. Some (octet_of (lane_of lane.now) p))
         shower.now.acknowledged shower.now.packet from (end - from) (stream_of stream.old)) }
 {
     let placed = places_from(lane, from, to);
@@ -171,7 +179,8 @@ fn show_payload(
 ) -> Result<(), AllocError>
     requires order { payload.now.from + length payload.now.held.now ≤ payload.now.to }
     requires few { payload.now.to ≤ 2 ^ 61 }
-    ensures { OnOk result (stream_of stream.new ≡ shown_from (place_of (lane_of lane.now)) (in_payload (payload_of payload.now))
+    ensures { OnOk result (stream_of stream.new ≡ shown_from (place_of (lane_of lane.now))
+        (in_payload (payload_of payload.now))
         shower.now.acknowledged shower.now.packet payload.now.from (payload.now.to - payload.now.from) (stream_of stream.old)) }
 {
     let mut position = payload.from;
@@ -195,7 +204,9 @@ fn show_part(
     requires few { payload.now.to ≤ 2 ^ 61 }
     ensures further { IfOk result (λ end. from < end) }
     ensures within { IfOk result (λ end. end ≤ payload.now.to) }
-    ensures shown { IfOk result (λ end. stream_of stream.new ≡ shown_from (place_of (lane_of lane.now)) (in_payload (payload_of payload.now))
+    ensures shown { IfOk result
+        (λ end. stream_of stream.new ≡ shown_from (place_of (lane_of lane.now))
+        (in_payload (payload_of payload.now))
         shower.now.acknowledged shower.now.packet from (end - from) (stream_of stream.old)) }
 {
     let placed = places_from(lane, from, payload.to);
@@ -230,7 +241,8 @@ fn show(
 ) -> Result<(), AllocError>
     requires part { length part.now ≤ count }
     requires few { place + count < 2 ^ 64 }
-    ensures { OnOk result (stream_of stream.new ≡ shown shower.now.acknowledged shower.now.packet place count part.now (stream_of stream.old)) }
+    ensures { OnOk result (stream_of stream.new ≡ shown shower.now.acknowledged shower.now.packet
+        place count part.now (stream_of stream.old)) }
 {
     find_other(stream, shower, place, part)?;
     stream.octets.fill(place, part, shower.packet)?;

@@ -115,7 +115,8 @@ impl Lane {
     // A mapping with a checksum was told.
     #[tactic(auto, using(crate::proofs::Summing::begun_push, crate::proofs::Summing::begun_more))]
     pub(crate) fn keep_summed(&mut self, mapping: &ToldMapping) -> Result<(), AllocError>
-        ensures { OnOk result (self.new ≡ record self.old { summed = self.old.summed ++ mapping.now ∷ [] }) }
+        ensures { OnOk result (self.new ≡ record self.old
+            { summed = self.old.summed ++ mapping.now ∷ [] }) }
     {
         let from = mapping.from();
         self.begun.add(from, from + 1)?;
@@ -129,7 +130,9 @@ impl Lane {
         mapping: &ToldMapping,
         packet: u32,
     ) -> Result<(), AllocError>
-        ensures { OnOk result (self.new ≡ record self.old { waiting = self.old.waiting ++ record { mapping = mapping.now; packet = packet } ∷ [] }) }
+        ensures { OnOk result (self.new ≡ record self.old {
+          waiting = self.old.waiting ++ record { mapping = mapping.now; packet = packet } ∷ [];
+        }) }
     {
         self.waiting.push(Waiting {
             mapping: *mapping,

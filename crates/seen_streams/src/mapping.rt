@@ -99,7 +99,8 @@ fn finite_fault(
 ) -> Option<Broke>
     requires high { position <ℤ pos (2 ^ 62) }
     requires place { place + mapped_octets offer.now < 2 ^ 62 }
-    ensures { result ≡ finite_fault teller.now (stream_of stream.now) (lane_of lane.now) offer.now position place }
+    ensures { result ≡ finite_fault teller.now (stream_of stream.now) (lane_of lane.now) offer.now
+        position place }
 {
     match octets_fault(stream, lane, teller, offer, position, place) {
         Some(broke) => Some(broke),
@@ -132,7 +133,8 @@ fn octets_fault(
 ) -> Option<Broke>
     requires high { position <ℤ pos (2 ^ 62) }
     requires place { place + mapped_octets offer.now < 2 ^ 62 }
-    ensures { result ≡ octets_fault teller.now (stream_of stream.now) (lane_of lane.now) offer.now position place }
+    ensures { result ≡ octets_fault teller.now (stream_of stream.now) (lane_of lane.now) offer.now
+        position place }
 {
     if offer.octets() == 0 {
         return None;
@@ -166,7 +168,8 @@ fn placed_fault(
     requires from { from < 2 ^ 62 }
     requires octets { octets < 2 ^ 16 }
     requires place { place + octets < 2 ^ 62 }
-    ensures { result ≡ placed_fault teller.now (stream_of stream.now) (lane_of lane.now) from place octets }
+    ensures { result ≡ placed_fault teller.now (stream_of stream.now) (lane_of lane.now) from place
+        octets }
 {
     match first_clash(&lane.places, from, from + octets, place) {
         Some(finding) => by_rule(Rule::Mapping, Some(finding)),
@@ -189,7 +192,8 @@ fn against_infinite(
     requires from { from < 2 ^ 62 }
     requires octets { octets < 2 ^ 16 }
     requires place { place + octets < 2 ^ 62 }
-    ensures { result ≡ against_infinite (stream_of stream.now).infinite teller.now.flow (stream_of stream.now).top (lane_of lane.now).line (pos from) place octets }
+    ensures { result ≡ against_infinite (stream_of stream.now).infinite teller.now.flow (stream_of
+        stream.now).top (lane_of lane.now).line (pos from) place octets }
 {
     let infinite = stream.infinite()?;
     if !goes_on(
@@ -258,7 +262,8 @@ fn keep_in_stream(
     mapping: &ToldMapping,
 ) -> Result<(), AllocError>
     requires { mapping.now.place + octets_of mapping.now < 2 ^ 62 }
-    ensures { OnOk result (stream_of stream.new ≡ with_mapping packet mapping.now (stream_of stream.old)) }
+    ensures { OnOk result (stream_of stream.new ≡ with_mapping packet mapping.now
+        (stream_of stream.old)) }
 {
     start(stream, mapping.place)?;
     stream.map_to(packet, mapping);
@@ -277,7 +282,8 @@ pub(crate) fn start(stream: &mut Stream<'_>, place: u64) -> Result<(), AllocErro
 #[tactic(auto, using(crate::proofs::Telling::same_places))]
 fn keep_in_lane(lane: &mut Lane, packet: u32, mapping: &ToldMapping) -> Result<(), AllocError>
     requires place { mapping.now.place < 2 ^ 62 }
-    ensures { OnOk result (lane_of lane.new ≡ with_places (run_of packet mapping.now) (lane_of lane.old)) }
+    ensures { OnOk result (lane_of lane.new ≡ with_places (run_of packet mapping.now)
+        (lane_of lane.old)) }
 {
     lane.places.fill(mapping.run(packet))
 }

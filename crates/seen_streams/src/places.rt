@@ -65,7 +65,8 @@ fn line_from(line: Option<Line>, from: u64, to: u64) -> PlacedStretch
 /// Whether positions from one on, below another, are mapped by what a segment told, as far as all are or none is.
 pub(crate) fn mapped_from(learnt: &Learnt, lane: &Lane, from: u64, to: u64) -> Stretch
     requires { from < to }
-    ensures { IsStretch (is_mapped_by learnt.now.mappings.items learnt.now.has_line (lane_of lane.now).line) from to result }
+    ensures { IsStretch (is_mapped_by learnt.now.mappings.items learnt.now.has_line
+        (lane_of lane.now).line) from to result }
 {
     let one = by_mappings(&learnt.mappings, from, to);
     let other = by_line(learnt.has_line, lane.line(), from, to);
@@ -83,7 +84,8 @@ pub(crate) fn seen_from(lane: &Lane, from: u64, to: u64) -> Stretch
 // Places that are marked by one of two, from the same one on.
 #[tactic(auto, using(crate::proofs::Stretches::either_of))]
 fn either(one: &Stretch, other: &Stretch) -> Stretch
-    ensures { (one_marked other_marked : ℕ → Bool) (from to : ℕ) → IsStretch one_marked from to one.now → IsStretch other_marked from to other.now
+    ensures { (one_marked other_marked : ℕ → Bool) (from to : ℕ) →
+        IsStretch one_marked from to one.now → IsStretch other_marked from to other.now
         → IsStretch (λ p. one_marked p || other_marked p) from to result }
 {
     Stretch {

@@ -92,7 +92,8 @@ impl<'a> Stream<'a> {
     /// Want of memory, and then nothing was told.
     #[tactic(auto, using(crate::proofs::Telling::told_is))]
     pub fn tell(&mut self, rule: Rule, packet: u32, fault: Fault<'a>) -> Result<(), AllocError>
-        ensures ok { OnOk result (stream_of self.new ≡ tell rule packet (as_fault fault.entry) (stream_of self.old)) }
+        ensures ok { OnOk result (stream_of self.new ≡ tell rule packet (as_fault fault.entry)
+            (stream_of self.old)) }
     {
         tell(
             &mut self.broken,
@@ -106,7 +107,8 @@ impl<'a> Stream<'a> {
 
     /// The same of what was found.
     pub fn find(&mut self, rule: Rule, packet: u32, finding: Finding) -> Result<(), AllocError>
-        ensures { OnOk result (stream_of self.new ≡ tell rule packet (Found finding) (stream_of self.old)) }
+        ensures { OnOk result (stream_of self.new ≡ tell rule packet (Found finding)
+            (stream_of self.old)) }
     {
         self.tell(rule, packet, Fault::Found { finding })
     }
@@ -152,35 +154,40 @@ impl<'a> Stream<'a> {
 
     /// One more finite mapping was told.
     pub(crate) fn count_mapping(&mut self)
-        ensures { stream_of self.new ≡ record (stream_of self.old) { mappings = counted (stream_of self.old).mappings } }
+        ensures { stream_of self.new ≡
+            record (stream_of self.old) { mappings = counted (stream_of self.old).mappings } }
     {
         self.mappings = self.mappings.saturating_add(1);
     }
 
     /// One more checksum was tried.
     pub(crate) fn count_sum(&mut self)
-        ensures { stream_of self.new ≡ record (stream_of self.old) { sums = counted (stream_of self.old).sums } }
+        ensures { stream_of self.new ≡
+            record (stream_of self.old) { sums = counted (stream_of self.old).sums } }
     {
         self.sums = self.sums.saturating_add(1);
     }
 
     /// One more Data ACK was tried.
     pub(crate) fn count_ack(&mut self)
-        ensures { stream_of self.new ≡ record (stream_of self.old) { data_acks = counted (stream_of self.old).data_acks } }
+        ensures { stream_of self.new ≡
+            record (stream_of self.old) { data_acks = counted (stream_of self.old).data_acks } }
     {
         self.data_acks = self.data_acks.saturating_add(1);
     }
 
     /// One more option with keys was tried.
     pub fn count_keys(&mut self)
-        ensures { stream_of self.new ≡ record (stream_of self.old) { keys = counted (stream_of self.old).keys } }
+        ensures { stream_of self.new ≡
+            record (stream_of self.old) { keys = counted (stream_of self.old).keys } }
     {
         self.keys = self.keys.saturating_add(1);
     }
 
     /// One more HMAC of a join was tried.
     pub fn count_joins(&mut self)
-        ensures { stream_of self.new ≡ record (stream_of self.old) { joins = counted (stream_of self.old).joins } }
+        ensures { stream_of self.new ≡
+            record (stream_of self.old) { joins = counted (stream_of self.old).joins } }
     {
         self.joins = self.joins.saturating_add(1);
     }

@@ -65,7 +65,9 @@ pub fn try_sums(
     packet: u32,
     first: u64,
 ) -> Result<(), AllocError>
-    ensures stream { OnOk result (stream_of stream.new ≡ tried_sums packet first (lane_of lane.old).octet (lane_of lane.old).waiting (stream_of stream.old)) }
+    ensures stream { OnOk result
+        (stream_of stream.new ≡ tried_sums packet first (lane_of lane.old).octet
+        (lane_of lane.old).waiting (stream_of stream.old)) }
     ensures lane { OnOk result (lane_of lane.new ≡ still_waiting (lane_of lane.old)) }
 {
     try_each(stream, &lane.octets, &lane.waiting, packet, first)?;
@@ -81,7 +83,8 @@ fn wait_on(lane: &mut Lane)
 }
 
 fn keep_open(waiting: &mut Vec<Waiting>, octets: &SeenOctets)
-    ensures { waiting.new.items ≡ filter (λ one. not (is_whole (octet_at octets.now) one)) waiting.old.items }
+    ensures { waiting.new.items ≡
+        filter (λ one. not (is_whole (octet_at octets.now) one)) waiting.old.items }
 {
     waiting.retain(|one| waits_on(octets, one));
 }
@@ -99,7 +102,8 @@ fn try_each(
     packet: u32,
     first: u64,
 ) -> Result<(), AllocError>
-    ensures { OnOk result (stream_of stream.new ≡ tried_sums packet first (octet_at octets.now) waiting.now (stream_of stream.old)) }
+    ensures { OnOk result (stream_of stream.new ≡ tried_sums packet first (octet_at octets.now)
+        waiting.now (stream_of stream.old)) }
 {
     for one in waiting {
         try_one(stream, octets, one, packet, first)?;
@@ -114,7 +118,8 @@ fn try_one(
     packet: u32,
     first: u64,
 ) -> Result<(), AllocError>
-    ensures { OnOk result (stream_of stream.new ≡ tried_if_whole packet first (octet_at octets.now) waiting.now (stream_of stream.old)) }
+    ensures { OnOk result (stream_of stream.new ≡ tried_if_whole packet first (octet_at octets.now)
+        waiting.now (stream_of stream.old)) }
 {
     if is_whole(octets, waiting) {
         try_sum(stream, octets, waiting, packet, first)
@@ -141,7 +146,8 @@ fn try_sum(
     first: u64,
 ) -> Result<(), AllocError>
     requires { is_whole (octet_at octets.now) waiting.now ≡ true }
-    ensures { OnOk result (stream_of stream.new ≡ tried_sum packet first (octet_at octets.now) waiting.now (stream_of stream.old)) }
+    ensures { OnOk result (stream_of stream.new ≡ tried_sum packet first (octet_at octets.now)
+        waiting.now (stream_of stream.old)) }
 {
     stream.count_sum();
     match sum_fault(octets, waiting, first) {
@@ -182,7 +188,8 @@ fn are_alike(expected: u16, was: u16) -> bool
 
 // The checksum of a mapping all of whose octets are held.
 fn expected_sum(octets: &SeenOctets, mapping: &ToldMapping, first: u64) -> u16
-    requires { all_held (octet_at octets.now) (natural mapping.now.position) (octets_of mapping.now) ≡ true }
+    requires { all_held (octet_at octets.now) (natural mapping.now.position) (octets_of mapping.now)
+        ≡ true }
     ensures { result ≡ expected_sum first (octet_at octets.now) mapping.now }
 {
     let header = header_of(mapping, first);

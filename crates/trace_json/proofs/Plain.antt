@@ -15,6 +15,9 @@ use Rattle.link_trace.specs.declared.rows.Rate.{Rate}
 use Rattle.link_trace.specs.declared.rows.Row.{Row}
 use Rattle.link_trace.specs.declared.sent.Sent.{Sent}
 use Rattle.link_model.specs.declared.fate.SegmentFate.{SegmentFate}
+use Rattle.link_script.specs.declared.script.Direction.{Direction}
+use Rattle.link_script.specs.declared.script.Impairment.{Impairment}
+use Rattle.link_script.specs.declared.script.Impairment.TheVariants as impaired
 use Rattle.link_script.specs.declared.script.PathLine.{PathLine}
 use Rattle.link_script.specs.declared.script.Script.{Script}
 use Rattle.link_script.specs.declared.script.ScriptLine.{ScriptLine}
@@ -28,7 +31,7 @@ use Rattle.mptcp_options.specs.declared.join.JoinForm.TheVariants as join
 use Rattle.segment_wire.specs.Options.{mss_of, option_octets, window_scale_of}
 use Rattle.segment_wire.specs.Segment.{Segment}
 use Rattle.segment_wire.specs.declared.reading.SegmentFault.{SegmentFault}
-use Rattle.trace_json.specs.Events.{event_data, events_data, happens_ticks}
+use Rattle.trace_json.specs.Events.{event_data, events_data, happens_ticks, impairment_data}
 use Rattle.trace_json.specs.Fields.{digits_or_null, number_or_null}
 use Rattle.trace_json.specs.Multipath.{ack_data, checksum_of, ids_data, join_data, length_of, map_data, mapping_data, receiver_of, sender_of, value_data}
 use Rattle.trace_json.specs.Options.{kind_data, meaning_data, option_data, scaled_data, sized_data}
@@ -200,7 +203,7 @@ ticks_plain end (tick ∷ ticks) = both_plain 1 (arrival_at end tick) _ (arrival
 
 over_plain : (delay : Option ℕ) (end : ℕ) (s : Sent) → AllPlain 1 (ticks_over delay end s)
 over_plain None end s = none_plain 1
-over_plain (Some delay) end s = ticks_plain end (arrivals s.fate.arrival (s.tick + delay))
+over_plain (Some delay) end s = ticks_plain end (arrivals s.fate.arrival (s.tick + delay + s.fate.waited))
 
 fate_plain : (f : SegmentFate) (ticks : List Data) → AllPlain 1 ticks → IsPlain 3 (fate_data f ticks)
 fate_plain f ticks plain =
@@ -241,9 +244,18 @@ path_plain : (p : PathLine) → IsPlain 3 (path_data p)
 path_plain p =
     object_plain 2 _ (also 2 _ _ _ (flag_plain 2 _) (also 2 _ _ _ (number_plain 2 _) (also 2 _ _ _ (number_plain 2 _) (also 2 _ _ _ (number_plain 2 _) (last 2)))))
 
+impairment_plain : (direction : Direction) (impairment : Impairment) → IsPlain 3 (impairment_data direction impairment)
+impairment_plain direction (impaired.Rate octets queue) =
+    object_plain 2 _ (also 2 _ _ _ (text_plain 2 _) (also 2 _ _ _ (text_plain 2 _) (also 2 _ _ _ (number_plain 2 _) (also 2 _ _ _ (number_plain 2 _) (also 2 _ _ _ (number_plain 2 _) (last 2))))))
+impairment_plain direction (impaired.Loss parts) =
+    object_plain 2 _ (also 2 _ _ _ (text_plain 2 _) (also 2 _ _ _ (text_plain 2 _) (also 2 _ _ _ (number_plain 2 _) (also 2 _ _ _ (number_plain 2 _) (last 2)))))
+impairment_plain direction (impaired.Jitter ticks) =
+    object_plain 2 _ (also 2 _ _ _ (text_plain 2 _) (also 2 _ _ _ (text_plain 2 _) (also 2 _ _ _ (number_plain 2 _) (also 2 _ _ _ (number_plain 2 _) (last 2)))))
+
 event_plain : (l : ScriptLine) → IsPlain 3 (event_data l)
 event_plain (line.OnSegment segment happens) =
     object_plain 2 _ (also 2 _ _ _ (text_plain 2 _) (also 2 _ _ _ (text_plain 2 _) (also 2 _ _ _ (number_plain 2 _) (also 2 _ _ _ (number_plain 2 _) (also 2 _ _ _ (optional_plain 2 (happens_ticks happens)) (last 2))))))
+event_plain (line.OnDirection direction impairment) = impairment_plain direction impairment
 event_plain (line.StripAll path from tick) =
     object_plain 2 _ (also 2 _ _ _ (text_plain 2 _) (also 2 _ _ _ (text_plain 2 _) (also 2 _ _ _ (number_plain 2 _) (also 2 _ _ _ (number_plain 2 _) (last 2)))))
 event_plain (line.Die path tick) =

@@ -1,7 +1,10 @@
 -- What happens on the paths of a script, as objects, by the first word of its line.
 use Rattle.std.specs.Prelude.{ℕ, Bool, Option, Some, None, List, codes, map}
+use Rattle.link_script.specs.declared.script.Direction.{Direction}
 use Rattle.link_script.specs.declared.script.Happens.{Happens}
 use Rattle.link_script.specs.declared.script.Happens.TheVariants.{Lost, Late, Again, Stripped, Altered}
+use Rattle.link_script.specs.declared.script.Impairment.{Impairment}
+use Rattle.link_script.specs.declared.script.Impairment.TheVariants.{Rate, Loss, Jitter}
 use Rattle.link_script.specs.declared.script.ScriptLine.{ScriptLine}
 use Rattle.link_script.specs.declared.script.ScriptLine.TheVariants as line
 use Rattle.link_script.specs.declared.script.Segment.{Segment}
@@ -30,6 +33,36 @@ segment_event_data segment happens = object (
     member (codes "number") (number (unsigned segment.number)) (
     member (codes "path") (number (unsigned segment.path)) (
     member (codes "ticks") (number_or_null (happens_ticks happens)) no_members)))))
+
+-- the octets that a direction hands on a tick, and the most that wait
+abbrev pub rate_data : Direction → ℕ → ℕ → Data
+rate_data direction octets queue = object (
+    member (codes "event") (string (codes "rate")) (
+    member (codes "from") (string (side_letter direction.from)) (
+    member (codes "octets") (number (unsigned octets)) (
+    member (codes "path") (number (unsigned direction.path)) (
+    member (codes "queue") (number (unsigned queue)) no_members)))))
+
+-- how many of a million segments a direction loses
+abbrev pub loss_data : Direction → ℕ → Data
+loss_data direction parts = object (
+    member (codes "event") (string (codes "loss")) (
+    member (codes "from") (string (side_letter direction.from)) (
+    member (codes "parts") (number (unsigned parts)) (
+    member (codes "path") (number (unsigned direction.path)) no_members))))
+
+-- the most ticks that a segment of a direction waits, as drawn
+abbrev pub jitter_data : Direction → ℕ → Data
+jitter_data direction ticks = object (
+    member (codes "event") (string (codes "jitter")) (
+    member (codes "from") (string (side_letter direction.from)) (
+    member (codes "path") (number (unsigned direction.path)) (
+    member (codes "ticks") (number (unsigned ticks)) no_members))))
+
+abbrev pub impairment_data : Direction → Impairment → Data
+impairment_data direction (Rate octets queue) = rate_data direction octets queue
+impairment_data direction (Loss parts) = loss_data direction parts
+impairment_data direction (Jitter ticks) = jitter_data direction ticks
 
 abbrev pub strip_all_data : ℕ → Side → ℕ → Data
 strip_all_data path from tick = object (
@@ -75,6 +108,7 @@ fast_close_data side tick = object (
 
 abbrev pub event_data : ScriptLine → Data
 event_data (line.OnSegment segment happens) = segment_event_data segment happens
+event_data (line.OnDirection direction impairment) = impairment_data direction impairment
 event_data (line.StripAll path from tick) = strip_all_data path from tick
 event_data (line.Die path tick) = death_data path tick
 event_data (line.Prio path side tick on) = prio_data path side tick on

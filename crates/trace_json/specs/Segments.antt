@@ -3,7 +3,7 @@ use Rattle.std.specs.Prelude.{ℕ, ◌+◌, ◌==◌, nat_lt, Bool, if◌then◌
 use Rattle.std.specs.List.{flat_map}
 use Rattle.link_model.specs.Steps.{arrivals}
 use Rattle.link_model.specs.declared.fate.Fate.{Fate}
-use Rattle.link_model.specs.declared.fate.Fate.TheVariants.{OnTime, Lost, Late, Twice}
+use Rattle.link_model.specs.declared.fate.Fate.TheVariants.{OnTime, Lost, Full, Late, Twice}
 use Rattle.link_model.specs.declared.fate.SegmentFate.{SegmentFate}
 use Rattle.link_script.specs.declared.script.PathLine.{PathLine}
 use Rattle.link_trace.specs.Meanings.{meaning_in}
@@ -38,9 +38,9 @@ beside_of b = record { paths = b.paths.now; end = b.end; checksums = b.checksums
 abbrev pub arrival_at : ℕ → ℕ → List Data
 arrival_at end tick = if nat_lt tick end then number (unsigned tick) ∷ [] else []
 
--- the ticks of the copies that arrive after so many ticks: none of a lost one, two of one that is repeated
+-- the ticks of the copies that arrive after so many ticks and those that it waited: none of a lost one, two of one that is repeated
 abbrev pub ticks_over : Option ℕ → ℕ → Sent → List Data
-ticks_over (Some delay) end s = flat_map (arrival_at end) (arrivals s.fate.arrival (s.tick + delay))
+ticks_over (Some delay) end s = flat_map (arrival_at end) (arrivals s.fate.arrival (s.tick + delay + s.fate.waited))
 ticks_over None end s = []
 
 abbrev pub ticks_data : List PathLine → ℕ → Sent → List Data
@@ -49,6 +49,7 @@ ticks_data paths end s = ticks_over (delay_on s.path paths) end s
 abbrev pub arrival_word : Fate → List ℕ
 arrival_word OnTime = codes "on time"
 arrival_word Lost = codes "lost"
+arrival_word Full = codes "queue full"
 arrival_word (Late ticks) = codes "late"
 arrival_word (Twice ticks) = codes "repeated"
 

@@ -2,10 +2,10 @@
 
 ghost use Rattle.std.specs.Prelude.{◌≡◌, map, IfOk};
 ghost use Rattle.serde_json.specs.View.{view};
-ghost use Rattle.trace_json.specs.Events.{add_data, death_data, event_data, events_data, fast_close_data, happens_ticks, happens_word, prio_data, remove_data, segment_event_data, strip_all_data};
+ghost use Rattle.trace_json.specs.Events.{add_data, death_data, event_data, events_data, fast_close_data, happens_ticks, happens_word, impairment_data, jitter_data, loss_data, prio_data, rate_data, remove_data, segment_event_data, strip_all_data};
 
 use crate::fields::{number_or_null, put, side_letter};
-use link_script::{Happens, ScriptLine, Segment};
+use link_script::{Direction, Happens, Impairment, ScriptLine, Segment};
 use serde_json::{Value, json};
 use sides::Side;
 use std::alloc::{AllocError, Global};
@@ -44,6 +44,49 @@ fn segment_event(alloc: Global, segment: Segment, happens: Happens) -> Result<Va
         "path": segment.path,
         "ticks": ticks,
     })
+}
+
+/// Octets a tick, and the most that wait.
+fn rate(alloc: Global, direction: Direction, octets: u32, queue: u32) -> Result<Value, AllocError>
+    ensures { IfOk result (λ value. view value ≡ rate_data direction octets queue) }
+{
+    let (from, path) = (side_letter(direction.from), direction.path);
+    json!(in alloc; {
+        "event": "rate",
+        "from": from,
+        "octets": octets,
+        "path": path,
+        "queue": queue,
+    })
+}
+
+fn loss(alloc: Global, direction: Direction, parts: u32) -> Result<Value, AllocError>
+    ensures { IfOk result (λ value. view value ≡ loss_data direction parts) }
+{
+    let (from, path) = (side_letter(direction.from), direction.path);
+    json!(in alloc; {"event": "loss", "from": from, "parts": parts, "path": path})
+}
+
+fn jitter(alloc: Global, direction: Direction, ticks: u32) -> Result<Value, AllocError>
+    ensures { IfOk result (λ value. view value ≡ jitter_data direction ticks) }
+{
+    let (from, path) = (side_letter(direction.from), direction.path);
+    json!(in alloc; {"event": "jitter", "from": from, "path": path, "ticks": ticks})
+}
+
+/// What a line gives a direction.
+fn impairment_event(
+    alloc: Global,
+    direction: Direction,
+    impairment: Impairment,
+) -> Result<Value, AllocError>
+    ensures { IfOk result (λ value. view value ≡ impairment_data direction impairment) }
+{
+    match impairment {
+        Impairment::Rate { octets, queue } => rate(alloc, direction, octets, queue),
+        Impairment::Loss(parts) => loss(alloc, direction, parts),
+        Impairment::Jitter(ticks) => jitter(alloc, direction, ticks),
+    }
 }
 
 fn strip_all(alloc: Global, path: u8, from: Side, tick: u64) -> Result<Value, AllocError>
@@ -92,6 +135,9 @@ fn event_value(alloc: Global, line: &ScriptLine) -> Result<Value, AllocError>
 {
     match *line {
         ScriptLine::OnSegment(segment, happens) => segment_event(alloc, segment, happens),
+        ScriptLine::OnDirection(direction, impairment) => {
+            impairment_event(alloc, direction, impairment)
+        }
         ScriptLine::StripAll { path, from, tick } => strip_all(alloc, path, from, tick),
         ScriptLine::Die { path, tick } => death(alloc, path, tick),
         ScriptLine::Prio {

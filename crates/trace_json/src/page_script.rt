@@ -72,7 +72,7 @@ function wordOf(segment) {
 
 const carried = { a: new Places(), b: new Places() };
 run.segments.forEach(segment => {
-  Object.assign(segment, segment.data, { ticks: segment.fate.ticks, lost: segment.fate.arrival === 'lost' });
+  Object.assign(segment, segment.data, { ticks: segment.fate.ticks, lost: ['lost', 'queue full'].includes(segment.fate.arrival) });
   segment.again = segment.length > 0 && segment.place !== null
     && carried[segment.from].carry(segment.place, segment.place + segment.length);
   segment.kind = kindOf(segment);
@@ -140,7 +140,7 @@ function streamOf(side) {
   };
   const title = `${upper(side)} to ${upper(other(side))}: ${grouped(octetsFrom(side))} octets`;
   if (payloads.length === 0) return { title: `${upper(side)} to ${upper(other(side))}`, sentence: `${upper(side)} sends no payload.` };
-  return { title, sentence: 'Places of the stream, in octets, by the time at which they are sent. Hollow: sent again. Grey: Data ACKs, when they are sent. Red cross: lost.', draw, hits };
+  return { title, sentence: `Places of the stream, in octets, by the time at which they are sent. Hollow: sent again.${run.segments.some(one => one.from !== side && one.acknowledged !== null) ? ' Grey: Data ACKs, when they are sent.' : ''} Red cross: lost.`, draw, hits };
 }
 
 // The places that are shown: all of them, or where one looks closer those of the payloads that are seen, and a few more.
@@ -389,6 +389,9 @@ function scriptLine(event) {
     case 'prio': return `prio ${path} ${side} ${tick} ${event.on ? 'on' : 'off'}`;
     case 'add': case 'remove': return `${event.event} ${side} ${id} ${tick}`;
     case 'fastclose': return `fastclose ${side} ${tick}`;
+    case 'rate': return `rate ${path} ${way(from)} ${event.octets} ${event.queue}`;
+    case 'loss': return `loss ${path} ${way(from)} ${event.parts}`;
+    case 'jitter': return `jitter ${path} ${way(from)} ${event.ticks}`;
     default: return `${event.event} ${path} ${way(from)} ${event.number}${event.ticks === null ? '' : ' ' + event.ticks}`;
   }
 }

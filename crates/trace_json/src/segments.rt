@@ -10,7 +10,7 @@ use crate::fields::{number_or_null, put, side_letter};
 use crate::options::options_list;
 use link_model::{Fate, SegmentFate};
 use link_script::PathLine;
-use link_trace::{Carried, Sent};
+use link_trace::{Carried, Sent, arrival_tick};
 use segment_wire::{Head, addresses_from, parse};
 use serde_json::{Value, json};
 use std::alloc::{AllocError, Global};
@@ -51,14 +51,14 @@ fn put_arrival(list: &mut Vec<Value>, tick: u128, end: u64) -> Result<(), AllocE
     put(list, Value::from(tick as u64))
 }
 
-/// Puts the ticks of the copies of a segment that arrive after so many ticks.
+/// Puts the ticks of the copies of a segment that arrive after so many ticks and those that it waited.
 fn put_arrivals(list: &mut Vec<Value>, sent: &Sent, delay: u32, end: u64) -> Result<(), AllocError>
     ensures { OnOk result (map view list.new.items ≡
         map view list.old.items ++ ticks_over (Some delay) end sent.now) }
 {
-    let on_time = u128::from(sent.tick) + u128::from(delay);
+    let on_time = arrival_tick(sent.tick, delay, sent.fate.waited);
     match sent.fate.arrival {
-        Fate::Lost => Ok(()),
+        Fate::Lost | Fate::Full => Ok(()),
         Fate::OnTime => put_arrival(list, on_time, end),
         Fate::Late { ticks } => put_arrival(list, on_time + u128::from(ticks), end),
         Fate::Twice { ticks } => {
@@ -90,6 +90,7 @@ fn arrival_word(arrival: Fate) -> &'static str
     match arrival {
         Fate::OnTime => "on time",
         Fate::Lost => "lost",
+        Fate::Full => "queue full",
         Fate::Late { .. } => "late",
         Fate::Twice { .. } => "repeated",
     }

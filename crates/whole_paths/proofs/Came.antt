@@ -14,9 +14,9 @@ use Rattle.sides.specs.declared.side.Side.TheVariants.{A, B}
 use Rattle.sides.specs.Side.{peer}
 use Rattle.fallback_state.specs.declared.fall.Event.TheVariants as events
 use Rattle.link_script.specs.Places.{same_side}
-use Rattle.link_model.specs.Fate.{fate_of, is_stripped, is_altered}
+use Rattle.link_model.specs.Fate.{is_stripped, is_altered}
 use Rattle.link_model.specs.State.{LinkState}
-use Rattle.link_model.specs.Steps.{arrivals, arriving, after_delivery, without, is_due, changed, next_number}
+use Rattle.link_model.specs.Steps.{arriving, after_delivery, without, is_due, changed, next_number}
 use Rattle.link_model.specs.declared.flight.Due.{Due}
 use Rattle.link_model.specs.declared.flight.Flight.{Flight}
 use Rattle.stream_lanes.specs.Words.{Every}
@@ -90,7 +90,7 @@ use Rattle.world_laws.specs.StampedBooks.{answer_to}
 use Rattle.world_laws.specs.Writes.{EndWrites, EndView, Writes, PathView, Only, OnlyAt, nothing, writes, side_of, copy_said}
 use Rattle.world_laws.proofs.Falls.FailedChecks.{infinite_came_so, fail_answered_so}
 use Rattle.world_laws.proofs.Keys.Held.{in_removed}
-use Rattle.world_laws.proofs.Lanes.Saying.{flights_kept}
+use Rattle.world_laws.proofs.Lanes.Saying.{handed_kept}
 use Rattle.world_laws.proofs.Rounds.Lifting.{run_lifted, opened_lifted}
 use Rattle.world_laws.proofs.Whole.Ends.{MeansIs, means_so}
 use Rattle.world_laws.proofs.Worlds.Finding.{find_every, one_side}
@@ -382,12 +382,10 @@ handed_copies t p said h = by t.from (says_up (end_at t.from p) (segment_sent p 
     by : (from : Side) → AcksUpTo (end_at from p).tcp.recv.edge x → Every (CopyIs p) (handed values from x p).under_way
     by A up =
         let carried = carried_by p.profile.spelling A x in let strips = is_stripped A (next_number A p.link) p.clock p.link.lines in let alters = is_altered A (next_number A p.link) p.link.lines in
-        flights_kept (CopyIs p) B (next_number A p.link) (changed stripped altered strips alters carried) (λ tick. changed_up strips alters p.a.tcp.recv.edge carried up)
-        (arrivals (fate_of A (next_number A p.link) p.link.lines) (p.clock + p.link.delay)) p.link.under_way h.copies
+        handed_kept (CopyIs p) A x p (λ tick. changed_up strips alters p.a.tcp.recv.edge carried up) h.copies
     by B up =
         let carried = carried_by p.profile.spelling B x in let strips = is_stripped B (next_number B p.link) p.clock p.link.lines in let alters = is_altered B (next_number B p.link) p.link.lines in
-        flights_kept (CopyIs p) A (next_number B p.link) (changed stripped altered strips alters carried) (λ tick. changed_up strips alters p.b.tcp.recv.edge carried up)
-        (arrivals (fate_of B (next_number B p.link) p.link.lines) (p.clock + p.link.delay)) p.link.under_way h.copies
+        handed_kept (CopyIs p) B x p (λ tick. changed_up strips alters p.b.tcp.recv.edge carried up) h.copies
 
 -- ---- a copy that arrives
 

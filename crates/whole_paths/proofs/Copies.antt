@@ -9,8 +9,7 @@ use Rattle.link_script.specs.Places.{same_side}
 use Rattle.link_model.specs.declared.flight.Flight.{Flight}
 use Rattle.link_model.specs.declared.flight.Due.{Due}
 use Rattle.link_model.specs.State.{LinkState}
-use Rattle.link_model.specs.Fate.{fate_of}
-use Rattle.link_model.specs.Steps.{next_number, arrivals, with_flights, is_due, due_of, without, after_delivery, after_send, after_cut, arriving}
+use Rattle.link_model.specs.Steps.{next_number, arrivals, with_flights, fate_at, first_arrival, is_due, due_of, without, after_delivery, after_send, after_cut, arriving}
 use Rattle.stream_lanes.specs.Words.{Has}
 use Rattle.path_segments.specs.Heard.{HeardSegment}
 use Rattle.subflow_send.specs.Records.{Record}
@@ -64,12 +63,12 @@ module _ {C : Type 0} where
   still_there P to number carried [] flights h = h
   still_there P to number carried (tick ∷ ticks) flights h = still_there P to number carried ticks _ (has_more P _ flights h)
 
-  sent_there : (P : Flight C → Type 0) (strip alter : Side → C → C) (s : Side) (carried : C) (now : ℕ) (link : LinkState C) → Has P link.under_way
-      → Has P (after_send strip alter s carried now link).under_way
-  sent_there P strip alter A carried now link h =
-      still_there P B (next_number A link) (as_it_arrives strip alter A carried now link) (arrivals (fate_of A (next_number A link) link.lines) (now + link.delay)) link.under_way h
-  sent_there P strip alter B carried now link h =
-      still_there P A (next_number B link) (as_it_arrives strip alter B carried now link) (arrivals (fate_of B (next_number B link) link.lines) (now + link.delay)) link.under_way h
+  sent_there : (P : Flight C → Type 0) (strip alter : Side → C → C) (s : Side) (carried : C) (size now : ℕ) (link : LinkState C) → Has P link.under_way
+      → Has P (after_send strip alter s carried size now link).under_way
+  sent_there P strip alter A carried size now link h =
+      still_there P B (next_number A link) (as_it_arrives strip alter A carried now link) (arrivals (fate_at A (next_number A link) size now link) (first_arrival A (next_number A link) size now link)) link.under_way h
+  sent_there P strip alter B carried size now link h =
+      still_there P A (next_number B link) (as_it_arrives strip alter B carried now link) (arrivals (fate_at B (next_number B link) size now link) (first_arrival B (next_number B link) size now link)) link.under_way h
 
   without_first : (p : Flight C → Bool) (x : Flight C) (xs : List (Flight C)) → without (position p (x ∷ xs)) (x ∷ xs) ≡ (if p x then xs else x ∷ without (position p xs) xs)
   without_first p x xs = by (p x) (position_or_len p xs) (length xs)
@@ -138,23 +137,23 @@ module _ {C : Type 0} where
   -- nothing; it takes a segment, at the same tick; it delivers the next copy; or it is cut
   pub data LinkStep (k : Codec C) (p q : PathState C) : Type 0 where
     stays : q.link ≡ p.link → LinkStep k p q
-    hands : (s : Side) (carried : C) → q.clock ≡ p.clock → q.link ≡ after_send (k.strips p.profile.spelling) (k.alters p.profile.spelling) s carried p.clock p.link → LinkStep k p q
+    hands : (s : Side) (carried : C) (size : ℕ) → q.clock ≡ p.clock → q.link ≡ after_send (k.strips p.profile.spelling) (k.alters p.profile.spelling) s carried size p.clock p.link → LinkStep k p q
     delivers : (due : Due) → next_event p ≡ Some (happenings.Arrives due) → q.link ≡ after_delivery due p.link → LinkStep k p q
     is_cut : (line : LineLeft) → next_event p ≡ Some (happenings.Takes line) → line.action ≡ actions.Die → q.link ≡ after_cut p.link → LinkStep k p q
 
   send_step : (k : Codec C) (d : SendDuty) (p : PathState C) → LinkStep k p (sent_for k d p)
-  send_step k (send_duties.Update s) p = hands s _ refl refl
-  send_step k d p = hands (side_of (duties.Send d)) _ refl refl
+  send_step k (send_duties.Update s) p = hands s _ _ refl refl
+  send_step k d p = hands (side_of (duties.Send d)) _ _ refl refl
 
   break_step : (k : Codec C) (s : Side) (reason : ℕ) (r : Reply) (p : PathState C) → LinkStep k p (answered_break k s reason r p)
   break_step k s reason r p = by (end_at s p).treated.asked
     where
       by : (b : Bool) → LinkStep k p (if b then answered_ack_out s r (resets s reason) p else reset_on k s (Some reason) (leaves s) p)
       by true = stays refl
-      by false = hands s _ refl refl
+      by false = hands s _ _ refl refl
 
   data_step : (k : Codec C) (s : Side) (o : Option Record) (r : Reply) (p : PathState C) → LinkStep k p (answered_data k s o r p)
-  data_step k s (Some unsent) r p = hands s _ refl refl
+  data_step k s (Some unsent) r p = hands s _ _ refl refl
   data_step k s None r p = by (grant_in r)
     where
       by : (o : Option Grant) → LinkStep k p (answered_grant s o r p)
@@ -228,7 +227,7 @@ module _ {C : Type 0} where
 
   goes_by : (k : Codec C) (f : Flight C) (p q : PathState C) → LinkStep k p q → IsUnderWay f p → GoesOnItsWay f p q
   goes_by k f p q (stays is) h = on (subst (λ (l : LinkState C). Has (λ g. g ≡ f) l.under_way) (sym is) h)
-  goes_by k f p q (hands s carried still is) h = on (subst (λ (l : LinkState C). Has (λ g. g ≡ f) l.under_way) (sym is) (sent_there (λ g. g ≡ f) (k.strips p.profile.spelling) (k.alters p.profile.spelling) s carried p.clock p.link h))
+  goes_by k f p q (hands s carried size still is) h = on (subst (λ (l : LinkState C). Has (λ g. g ≡ f) l.under_way) (sym is) (sent_there (λ g. g ≡ f) (k.strips p.profile.spelling) (k.alters p.profile.spelling) s carried size p.clock p.link h))
   goes_by k f p q (delivers due next is) h = ⊎_elim
       (λ there. on (subst (λ (l : LinkState C). Has (λ g. g ≡ f) l.under_way) (sym is) there))
       (λ arrived. arrives (next ∙ ap (λ x. Some (happenings.Arrives x)) (due_is due f arrived)))

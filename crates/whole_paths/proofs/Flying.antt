@@ -1,5 +1,5 @@
 -- The first record that isn't acknowledged comes to the peer, whatever is lost.
-use Rattle.std.proofs.Common.{◌≡◌, refl, sym, subst, ap, ◌∙◌, ◌⊎◌, inl, inr, ⊎_elim, ℕ, ◌+◌, ◌-◌, ◌^◌, ◌<◌, ◌≤◌, max, true, false, true≢false, Option, Some, None, IfSome, List, [], ◌∷◌, arith}
+use Rattle.std.proofs.Common.{◌≡◌, refl, sym, subst, ap, ◌∙◌, ◌⊎◌, inl, inr, ⊎_elim, ℕ, ◌+◌, ◌-◌, ◌^◌, ◌<◌, ◌≤◌, max, true, false, true≢false, Option, Some, None, IfSome, List, [], ◌∷◌, length, arith}
 use Rattle.std.specs.Prelude.{IsSome}
 use Rattle.std.specs.List.{slice_get}
 use Rattle.std.proofs.lemmas.Bool.{cases_lt}
@@ -29,6 +29,7 @@ use Rattle.path_agenda.specs.declared.duty.StepDuty.TheVariants as step_duties
 use Rattle.path_core.specs.Codec.{Codec}
 use Rattle.path_core.specs.End.{PathEnd}
 use Rattle.path_core.specs.Handover.{handed}
+use Rattle.path_core.specs.Octets.{made}
 use Rattle.path_core.specs.Profile.{Profile}
 use Rattle.path_core.specs.State.{PathState, end_at, with_agenda}
 use Rattle.path_core.specs.Steps.{takes, next_round}
@@ -50,7 +51,7 @@ use Rattle.whole_paths.specs.Expiries.{IsSegmentOf, IsToSendAgain, PathsGoAgain,
 use Rattle.whole_paths.specs.Flights.{IsFirst, IsCopyOf, IsOnItsWay, GoesOnTo, RecordsGoOn, IsOnItsWayAtTheEnd, WhatWaitsComes}
 use Rattle.whole_paths.specs.Flights.IsOnItsWay.{waits, resends, flies}
 use Rattle.whole_paths.specs.Flights.{GoesOnTo as goes}
-use Rattle.whole_paths.specs.Harms.{harms_left, as_it_arrives, IsOnTime}
+use Rattle.whole_paths.specs.Harms.{harms_left, as_it_arrives, longest_way, IsOnTime}
 use Rattle.whole_paths.specs.InTime.{ComesFrom, NothingIsOverdue}
 use Rattle.whole_paths.specs.Kept.{AreKept, IsSameRecord, KeepsWhatWaits, EndsKeepWhatWaits}
 use Rattle.whole_paths.specs.Reasons.{IsOutstanding, IsTimedWhereItWaits}
@@ -102,7 +103,7 @@ same_segment r x segment same h = record {
 }
 
 module _ {C : Type 0} where
-  -- ---- how a path is spelled, its delay, and its clock
+  -- ---- how a path is spelled, how long a segment is under way on it, and its clock
 
   abbrev SameProfile : PathState C → PathState C → Type 0
   SameProfile p q = q.profile ≡ p.profile
@@ -119,33 +120,33 @@ module _ {C : Type 0} where
   -- an event alone moves the clock, to its tick
   record Frames (p q : PathState C) : Type 0 where
     profile : SameProfile p q
-    delay : q.link.delay ≡ p.link.delay
+    way : (s : Side) → longest_way s q.link ≡ longest_way s p.link
     stands : (d : Duty) (others : List Duty) → p.agenda ≡ d ∷ others → is_event d ≡ false → SameClock p q
     moves : (event : Event) (others : List Duty) → p.agenda ≡ duties.Step step_duties.Events ∷ others → next_event p ≡ Some event → (q ≡ p) ⊎ (q.clock ≡ max p.clock (tick_of event))
 
-  sent_delay : (strip alter : Side → C → C) (s : Side) (carried : C) (now : ℕ) (link : LinkState C) → (after_send strip alter s carried now link).delay ≡ link.delay
-  sent_delay strip alter A carried now link = refl
-  sent_delay strip alter B carried now link = refl
+  sent_way : (strip alter : Side → C → C) (from s : Side) (carried : C) (size now : ℕ) (link : LinkState C) → longest_way s (after_send strip alter from carried size now link) ≡ longest_way s link
+  sent_way strip alter A s carried size now link = refl
+  sent_way strip alter B s carried size now link = refl
 
-  link_delay : (k : Codec C) (p q : PathState C) → LinkStep k p q → q.link.delay ≡ p.link.delay
-  link_delay k p q (stays is) = ap (λ (l : LinkState C). l.delay) is
-  link_delay k p q (hands s carried still is) = ap (λ (l : LinkState C). l.delay) is ∙ sent_delay (k.strips p.profile.spelling) (k.alters p.profile.spelling) s carried p.clock p.link
-  link_delay k p q (delivers due next is) = ap (λ (l : LinkState C). l.delay) is
-  link_delay k p q (is_cut line next action is) = ap (λ (l : LinkState C). l.delay) is
+  link_way : (k : Codec C) (s : Side) (p q : PathState C) → LinkStep k p q → longest_way s q.link ≡ longest_way s p.link
+  link_way k s p q (stays is) = ap (λ (l : LinkState C). longest_way s l) is
+  link_way k s p q (hands from carried size still is) = ap (λ (l : LinkState C). longest_way s l) is ∙ sent_way (k.strips p.profile.spelling) (k.alters p.profile.spelling) from s carried size p.clock p.link
+  link_way k s p q (delivers due next is) = ap (λ (l : LinkState C). longest_way s l) is
+  link_way k s p q (is_cut line next action is) = ap (λ (l : LinkState C). longest_way s l) is
 
   takes_frames : (k : Codec C) (r : Reply) (p : PathState C) → Frames p (takes k r p)
   takes_frames k r p = record {
     profile = takes_lasts SameProfile profile_lasts k r p (λ d. ap (λ (v : PathView C). v.profile) (writes_no_more k d r p).same);
-    delay = delay p.agenda;
+    way = λ s. way s p.agenda;
     stands = λ d others is other. subst (λ ds. (takes k r (with_agenda ds p)).clock ≡ p.clock) (sym is) (stand d others other);
     moves = λ event others is next. inr (subst (λ ds. (takes k r (with_agenda ds p)).clock ≡ max p.clock (tick_of event)) (sym is) (move event others next));
   }
     where
-      delay : (ds : List Duty) → (takes k r (with_agenda ds p)).link.delay ≡ p.link.delay
-      delay [] = refl
-      delay (d ∷ ds) =
+      way : (s : Side) (ds : List Duty) → longest_way s (takes k r (with_agenda ds p)).link ≡ longest_way s p.link
+      way s [] = refl
+      way s (d ∷ ds) =
           let x : PathState C = with_agenda (d ∷ ds) p in let y : PathState C = answered k d r x in
-          ap (λ (l : LinkState C). l.delay) (settled_lasts LinkStays links_last y.agenda y) ∙ link_delay k x y (link_step k d r x)
+          ap (λ (l : LinkState C). longest_way s l) (settled_lasts LinkStays links_last y.agenda y) ∙ link_way k s x y (link_step k d r x)
 
       stand : (d : Duty) (others : List Duty) → is_event d ≡ false → (takes k r (with_agenda (d ∷ others) p)).clock ≡ p.clock
       stand d others other =
@@ -162,7 +163,7 @@ module _ {C : Type 0} where
       let q : PathState C = record p { clock = p.until; until = p.until + 100 } in
       record {
         profile = begins_lasts SameProfile profile_lasts q;
-        delay = ap (λ (l : LinkState C). l.delay) (begins_lasts LinkStays links_last q);
+        way = λ s. ap (λ (l : LinkState C). longest_way s l) (begins_lasts LinkStays links_last q);
         stands = λ d others is other. none d others is;
         moves = λ event others is next. none (duties.Step step_duties.Events) others is;
       }
@@ -185,7 +186,7 @@ module _ {C : Type 0} where
 
   member_stays : (m : Actor C) → FramesStay m m
   member_stays (App a) = tt
-  member_stays (Path p) = record { profile = refl; delay = refl; stands = λ d others is other. refl; moves = λ event others is next. inl refl }
+  member_stays (Path p) = record { profile = refl; way = λ s. refl; stands = λ d others is other. refl; moves = λ event others is next. inl refl }
 
   timer_from : (s : Side) (tick : ℕ) (p : PathState C) → ComesFrom p.clock p → (end_at s p).tcp.timing.timer ≡ Some tick → p.clock ≤ tick
   timer_from A tick p h runs = subst (λ o. IfSome o (λ t. p.clock ≤ t)) runs h.timer_a
@@ -208,8 +209,8 @@ module _ {C : Type 0} where
     same_on : q ≡ p → IsOnItsWay k s r by_then p → Next
     same_on same way = goes.on (subst (IsOnItsWay k s r by_then) (sym same) way)
 
-    waits_goes : GoesAgain k p q → ComesFrom p.clock p → (tick : ℕ) → tick + p.link.delay ≤ by_then → RunsTo tick (end_at s p) → IsFirst r (end_at s p) → WaitsOn s tick p q → Next
-    waits_goes again past tick low h first (wait.runs on) = let delay = frames.delay in with_first first (λ still. goes.on (waits tick (omega (arith, delay, low)) on still))
+    waits_goes : GoesAgain k p q → ComesFrom p.clock p → (tick : ℕ) → tick + longest_way s p.link ≤ by_then → RunsTo tick (end_at s p) → IsFirst r (end_at s p) → WaitsOn s tick p q → Next
+    waits_goes again past tick low h first (wait.runs on) = let way = frames.way s in with_first first (λ still. goes.on (waits tick (omega (arith, way, low)) on still))
     waits_goes again past tick low h first (wait.news news) = goes.news news
     waits_goes again past tick low h first (wait.gone gone) = goes.gone gone
     waits_goes again past tick low h first (wait.runs_out at out) = ⊎_elim
@@ -223,29 +224,35 @@ module _ {C : Type 0} where
             (λ many. goes.gone (expired.sixth many))
             (cases_lt (end_at s p).tcp.timing.expiries 5)
           where
-            in_time : q.clock ≡ max p.clock at → q.clock + q.link.delay ≤ by_then
+            in_time : q.clock ≡ max p.clock at → q.clock + longest_way s q.link ≤ by_then
             in_time clock =
                 let early = timer_behind s (happenings.Fires s at) tick p out.next h.timer in
                 let from = timer_from s tick p past h.timer in
-                let delay = frames.delay in
-                omega (arith, clock, early, from, delay, low)
+                let way = frames.way s in
+                omega (arith, clock, early, from, way, low)
 
-    flown : SendsAgain k s p q → IsFirst r (end_at s p) → p.clock + p.link.delay ≤ by_then → segments_sent s p.link < 2 ^ 64 - 1 → Next
+    flown : SendsAgain k s p q → IsFirst r (end_at s p) → p.clock + longest_way s p.link ≤ by_then → segments_sent s p.link < 2 ^ 64 - 1 → Next
     flown sent h low few = ⊎_elim
         (λ less. goes.harmed (subst (λ (l : LinkState C). harms_left l < harms_left p.link) (sym sent.taken) less))
-        (λ comes. by comes.1)
-        (each_uses_a_line_or_comes (k.strips p.profile.spelling) (k.alters p.profile.spelling) s (k.makes p.profile.spelling s sent.segment) p.clock p.link few)
+        (λ comes. ⊎_elim (λ lost. goes.lost sent.segment of_it sent.taken lost) by comes.1)
+        (each_uses_a_line_or_comes (k.strips p.profile.spelling) (k.alters p.profile.spelling) s (k.makes p.profile.spelling s sent.segment) size p.clock p.link few)
       where
+        size : ℕ
+        size = length (made p.profile.spelling s sent.segment)
+
         after : LinkState C
         after = handed k s sent.segment p
 
-        by : Has (IsOnTime s p.clock (as_it_arrives (k.strips p.profile.spelling) (k.alters p.profile.spelling) s (k.makes p.profile.spelling s sent.segment) p.clock p.link) p.link) after.under_way → Next
-        by has = goes.on (flies has.item (let tick = has.holds.tick in omega (arith, tick, low))
+        of_it : IsSegmentOf r sent.segment
+        of_it = same_segment r h.first sent.segment h.same (sent.first h.first h.others h.records)
+
+        by : Has (IsOnTime s size p.clock (as_it_arrives (k.strips p.profile.spelling) (k.alters p.profile.spelling) s (k.makes p.profile.spelling s sent.segment) p.clock p.link) p.link) after.under_way → Next
+        by has = goes.on (flies has.item (let in_time = has.holds.in_time in omega (arith, in_time, low))
             (subst (λ (l : LinkState C). Has (λ g. g ≡ has.item) l.under_way) (sym sent.taken) (record { at = has.at; item = has.item; there = has.there; holds = refl }))
             (record {
               to = has.holds.to;
               segment = sent.segment;
-              of_it = same_segment r h.first sent.segment h.same (sent.first h.first h.others h.records);
+              of_it = of_it;
               stripped = is_stripped s (next_number s p.link) p.clock p.link.lines;
               altered = is_altered s (next_number s p.link) p.link.lines;
               carried = subst (λ (c : Profile). has.item.carried
@@ -253,14 +260,14 @@ module _ {C : Type 0} where
                   (k.makes c.spelling s sent.segment)) (sym frames.profile) has.holds.carried;
             }))
 
-    resends_goes : GoesAgain k p q → p.clock + p.link.delay ≤ by_then → segments_sent s p.link < 2 ^ 64 - 1 → IsToSendAgain s p → IsFirst r (end_at s p) → Next
+    resends_goes : GoesAgain k p q → p.clock + longest_way s p.link ≤ by_then → segments_sent s p.link < 2 ^ 64 - 1 → IsToSendAgain s p → IsFirst r (end_at s p) → Next
     resends_goes again low few (inl is) h = ⊎_elim
         (λ same. same_on same (resends low (inl is) h))
         (λ given. goes.on (resends still (inr given.0) (subst (IsFirst r) (sym given.1) h)))
         (again.gives_back s is)
       where
-        still : q.clock + q.link.delay ≤ by_then
-        still = let clock = frames.stands (duties.Ask (ask_duties.Return s)) (duties.Send (send_duties.Resend s) ∷ emission s) is refl in let delay = frames.delay in omega (arith, clock, delay, low)
+        still : q.clock + longest_way s q.link ≤ by_then
+        still = let clock = frames.stands (duties.Ask (ask_duties.Return s)) (duties.Send (send_duties.Resend s) ∷ emission s) is refl in let way = frames.way s in omega (arith, clock, way, low)
     resends_goes again low few (inr is) h = ⊎_elim
         (λ same. same_on same (resends low (inr is) h))
         (λ sent. flown sent h low few)
@@ -322,7 +329,7 @@ module _ {C : Type 0} where
       alive phase.Dead living = absurd (true≢false living)
       alive _ living = refl
 
-      by : (o : Option ℕ) → (end_at s p).tcp.timing.timer ≡ o → IsSome o → IsOnItsWay k s r (p.clock + 60000 + p.link.delay) p
+      by : (o : Option ℕ) → (end_at s p).tcp.timing.timer ≡ o → IsSome o → IsOnItsWay k s r (p.clock + 60000 + longest_way s p.link) p
       by None none some = absurd (true≢false (sym some))
       by (Some tick) runs some = waits tick
           (let low = timer_near s tick p near runs in omega (arith, low))

@@ -10,10 +10,9 @@ use Rattle.link_model.specs.declared.fate.Fate.{Fate}
 use Rattle.link_model.specs.declared.fate.Fate.TheVariants as fates
 use Rattle.link_model.specs.declared.flight.Flight.{Flight}
 use Rattle.link_model.specs.declared.flight.Due.{Due}
-use Rattle.link_model.specs.Fate.{fate_of}
 use Rattle.link_model.specs.Order.{AreInOrder}
 use Rattle.link_model.specs.State.{LinkState}
-use Rattle.link_model.specs.Steps.{arriving, next_due, next_number, arrivals, comes_before, with_flight, with_flights, without, is_due, after_delivery, after_send}
+use Rattle.link_model.specs.Steps.{arriving, next_due, next_number, arrivals, comes_before, with_flight, with_flights, fate_at, first_arrival, without, is_due, after_delivery, after_send}
 use Rattle.link_model.proofs.Order.{earliest as first_copy, in_order_sent, in_order_delivered}
 use Rattle.loss_recovery.specs.declared.timers.Timing.{Timing}
 use Rattle.loss_recovery.specs.Timers.{timer_settled, measured}
@@ -131,6 +130,7 @@ from_zero (line ∷ lines) = (omega arith, from_zero lines)
 arrives_from : (n on_time : ℕ) (fate : Fate) → n ≤ on_time → AllByRecursion (λ tick. n ≤ tick) (arrivals fate on_time)
 arrives_from n on_time fates.OnTime low = (low, tt)
 arrives_from n on_time fates.Lost low = tt
+arrives_from n on_time fates.Full low = tt
 arrives_from n on_time (fates.Late ticks) low = (omega (arith, low), tt)
 arrives_from n on_time (fates.Twice ticks) low = (low, (omega (arith, low), tt))
 
@@ -156,10 +156,14 @@ module _ {C : Type 0} where
   copies_with n to number carried (tick ∷ ticks) flights low h =
       copies_with n to number carried ticks _ low.1 (one_copy n (record { tick = tick; to = to; number = number; carried = carried }) flights low.0 h)
 
-  sent_from : (n : ℕ) (strip alter : Side → C → C) (s : Side) (carried : C) (now : ℕ) (link : LinkState C) → n ≤ now → CopiesFrom n link.under_way
-      → CopiesFrom n (after_send strip alter s carried now link).under_way
-  sent_from n strip alter A carried now link low h = copies_with n B _ _ _ link.under_way (arrives_from n (now + link.delay) (fate_of A (next_number A link) link.lines) (omega (arith, low))) h
-  sent_from n strip alter B carried now link low h = copies_with n A _ _ _ link.under_way (arrives_from n (now + link.delay) (fate_of B (next_number B link) link.lines) (omega (arith, low))) h
+  sent_from : (n : ℕ) (strip alter : Side → C → C) (s : Side) (carried : C) (size now : ℕ) (link : LinkState C) → n ≤ now → CopiesFrom n link.under_way
+      → CopiesFrom n (after_send strip alter s carried size now link).under_way
+  sent_from n strip alter A carried size now link low h =
+      let number : ℕ = next_number A link in
+      copies_with n B _ _ _ link.under_way (arrives_from n (first_arrival A number size now link) (fate_at A number size now link) (omega (arith, low))) h
+  sent_from n strip alter B carried size now link low h =
+      let number : ℕ = next_number B link in
+      copies_with n A _ _ _ link.under_way (arrives_from n (first_arrival B number size now link) (fate_at B number size now link) (omega (arith, low))) h
 
   removed_from : (n : ℕ) (flights : List (Flight C)) (i : ℕ) → CopiesFrom n flights → CopiesFrom n (remove flights i)
   removed_from n [] zero h = tt
@@ -519,15 +523,15 @@ module _ {C : Type 0} where
 
   link_from : (k : Codec C) (p q : PathState C) → LinkStep k p q → CopiesFrom q.clock p.link.under_way → CopiesFrom q.clock q.link.under_way
   link_from k p q (stays is) h = subst (λ (l : LinkState C). CopiesFrom q.clock l.under_way) (sym is) h
-  link_from k p q (hands s carried still is) h =
-      subst (λ (l : LinkState C). CopiesFrom q.clock l.under_way) (sym is) (sent_from q.clock (k.strips p.profile.spelling) (k.alters p.profile.spelling) s carried p.clock p.link (omega (arith, still)) h)
+  link_from k p q (hands s carried size still is) h =
+      subst (λ (l : LinkState C). CopiesFrom q.clock l.under_way) (sym is) (sent_from q.clock (k.strips p.profile.spelling) (k.alters p.profile.spelling) s carried size p.clock p.link (omega (arith, still)) h)
   link_from k p q (delivers due next is) h = subst (λ (l : LinkState C). CopiesFrom q.clock l.under_way) (sym is) (delivered_from q.clock due p.link h)
   link_from k p q (is_cut line next action is) h = subst (λ (l : LinkState C). CopiesFrom q.clock l.under_way) (sym is) tt
 
   link_ordered : (k : Codec C) (p q : PathState C) → LinkStep k p q → AreInOrder p.link.under_way → AreInOrder q.link.under_way
   link_ordered k p q (stays is) h = subst (λ (l : LinkState C). AreInOrder l.under_way) (sym is) h
-  link_ordered k p q (hands s carried still is) h =
-      subst (λ (l : LinkState C). AreInOrder l.under_way) (sym is) (in_order_sent (k.strips p.profile.spelling) (k.alters p.profile.spelling) s carried p.clock p.link h)
+  link_ordered k p q (hands s carried size still is) h =
+      subst (λ (l : LinkState C). AreInOrder l.under_way) (sym is) (in_order_sent (k.strips p.profile.spelling) (k.alters p.profile.spelling) s carried size p.clock p.link h)
   link_ordered k p q (delivers due next is) h = subst (λ (l : LinkState C). AreInOrder l.under_way) (sym is) (in_order_delivered due p.link h)
   link_ordered k p q (is_cut line next action is) h = subst (λ (l : LinkState C). AreInOrder l.under_way) (sym is) tt
 

@@ -1,5 +1,5 @@
 -- How the first record that isn't acknowledged comes to the peer, whatever is lost.
-use Rattle.std.specs.Prelude.{ℕ, ◌+◌, ◌-◌, ◌^◌, ◌≡◌, ◌<◌, ◌≤◌, Bool, true, false, Some, List, [], ◌∷◌, slice_get}
+use Rattle.std.specs.Prelude.{ℕ, ◌+◌, ◌-◌, ◌^◌, ◌≡◌, ◌<◌, ◌≤◌, Bool, true, false, Some, List, [], ◌∷◌, length, slice_get}
 use Rattle.sides.specs.declared.side.Side.{Side}
 use Rattle.sides.specs.Side.{peer}
 use Rattle.path_segments.specs.Spelled.{PlainSegment}
@@ -12,6 +12,8 @@ use Rattle.path_store.specs.declared.lines.LineLeft.{LineLeft}
 use Rattle.path_core.specs.Codec.{Codec}
 use Rattle.path_core.specs.End.{PathEnd}
 use Rattle.path_core.specs.Events.{next_event}
+use Rattle.path_core.specs.Handover.{handed}
+use Rattle.path_core.specs.Octets.{made}
 use Rattle.path_core.specs.State.{PathState, end_at}
 use Rattle.path_core.specs.declared.events.Event.TheVariants as happenings
 use Rattle.world_laws.specs.declared.member.Member.TheVariants.{App, Path}
@@ -21,7 +23,7 @@ use Rattle.world_laws.specs.Members.{HoldsOfKind}
 use Rattle.world_laws.specs.Worlds.{WorldState, Turn, after_turn}
 use Rattle.whole_paths.specs.Copies.{IsUnderWay}
 use Rattle.whole_paths.specs.Expiries.{IsSegmentOf, IsToSendAgain}
-use Rattle.whole_paths.specs.Harms.{harms_left}
+use Rattle.whole_paths.specs.Harms.{harms_left, loses, longest_way}
 use Rattle.whole_paths.specs.InTime.{NothingIsOverdue}
 use Rattle.whole_paths.specs.Kept.{IsSameRecord}
 use Rattle.whole_paths.specs.Waits.{RunsTo, IsNews}
@@ -43,11 +45,11 @@ module _ {C : Type 0} where
     pub altered : Bool
     pub carried : f.carried ≡ changed (k.strips p.profile.spelling s) (k.alters p.profile.spelling s) stripped altered (k.makes p.profile.spelling s segment)
 
-  -- A copy of it comes by this tick, unless the script harms it: a delay after the timer runs out, or after the record is sent again, which is
-  -- to be done now; or the copy is under way.
+  -- A copy of it comes by this tick, unless the script harms it: as late as the link may hand on what is sent as the timer runs out, or now,
+  -- where the record is to be sent again; or the copy is under way.
   pub data IsOnItsWay (k : Codec C) (s : Side) (r : Record) (by : ℕ) (p : PathState C) : Type 0 where
-    waits : (tick : ℕ) → tick + p.link.delay ≤ by → RunsTo tick (end_at s p) → IsFirst r (end_at s p) → IsOnItsWay k s r by p
-    resends : p.clock + p.link.delay ≤ by → IsToSendAgain s p → IsFirst r (end_at s p) → IsOnItsWay k s r by p
+    waits : (tick : ℕ) → tick + longest_way s p.link ≤ by → RunsTo tick (end_at s p) → IsFirst r (end_at s p) → IsOnItsWay k s r by p
+    resends : p.clock + longest_way s p.link ≤ by → IsToSendAgain s p → IsFirst r (end_at s p) → IsOnItsWay k s r by p
     flies : (f : Flight C) → f.tick ≤ by → IsUnderWay f p → IsCopyOf k s r p f → IsOnItsWay k s r by p
 
   -- what becomes of it, as the path becomes another one
@@ -59,6 +61,9 @@ module _ {C : Type 0} where
     -- there is news, or a line was used by which a segment is lost or late
     news : IsNews (end_at s p) (end_at s q) → GoesOnTo k s r by p q
     harmed : harms_left q.link < harms_left p.link → GoesOnTo k s r by p q
+    -- the link took its segment, and lost it by the word drawn for it, or since its queue was full
+    lost : (x : PlainSegment) → IsSegmentOf r x → q.link ≡ handed k s x p → loses s (length (made p.profile.spelling s x)) p.clock p.link ≡ true
+        → GoesOnTo k s r by p q
     -- the end is dead, or the line comes next by which the path dies
     gone : is_dead (end_at s q).tcp.state ≡ true → GoesOnTo k s r by p q
     dies : (line : LineLeft) → next_event p ≡ Some (happenings.Takes line) → line.action ≡ actions.Die → GoesOnTo k s r by p q
@@ -69,10 +74,11 @@ module _ {C : Type 0} where
   RecordsGoOn k (App a) (App b) = Unit {0}
   RecordsGoOn k _ _ = ⊥
 
-  -- at the end of a turn the first record of each end that opens, is open or closes is on its way, to come within a minute and a delay
+  -- at the end of a turn the first record of each end that opens, is open or closes is on its way, to come within a minute and the longest
+  -- time that a segment is under way
   abbrev pub IsOnItsWayAtTheEnd : Codec C → PathState C → Type 0
   IsOnItsWayAtTheEnd k p = p.agenda ≡ [] → (s : Side) → is_closed_to_segments (end_at s p).tcp.state ≡ false
-      → (r : Record) (others : List Record) → (end_at s p).tcp.send.records ≡ r ∷ others → IsOnItsWay k s r (p.clock + 60000 + p.link.delay) p
+      → (r : Record) (others : List Record) → (end_at s p).tcp.send.records ≡ r ∷ others → IsOnItsWay k s r (p.clock + 60000 + longest_way s p.link) p
 
   -- on each path
   pub record RecordsAreOnTheirWay (k : Codec C) (w : WorldState C) : Type 0 where

@@ -9,7 +9,7 @@ ghost use Rattle.whole_paths.specs.Came.{WhatIsAcknowledgedCame};
 ghost use Rattle.whole_paths.specs.Copies.{CopiesLeaveByArriving};
 ghost use Rattle.whole_paths.specs.Expiries.{WhatRunsOutGoesAgain};
 ghost use Rattle.whole_paths.specs.Flights.{WhatWaitsComes};
-ghost use Rattle.whole_paths.specs.Harms.{EachUsesALineOrComes};
+ghost use Rattle.whole_paths.specs.Harms.{EachUsesALineOrComes, PlainDirectionsHandOnAtOnce};
 ghost use Rattle.whole_paths.specs.InTime.{NothingIsOverdue};
 ghost use Rattle.whole_paths.specs.Kept.{WhatWaitsIsKept};
 ghost use Rattle.whole_paths.specs.Lanes.Laws.{LossyLanesEnd, LossyLanesFinish};
@@ -130,14 +130,15 @@ pub fn what_is_in_order_is_passed()
     ensures values { Always values (λ start w. WhatIsInOrderIsPassed w) }
 {}
 
-/// A law: the first record of an end that isn't acknowledged comes to the peer within a minute and the link's delay, unless the script harms
-/// it.
+/// A law: the first record of an end that isn't acknowledged comes to the peer within a minute and the longest time that a segment is under
+/// way, unless the script harms it.
 ///
+/// That time is the link's delay, the ticks in which a full queue is handed on, and the greatest jitter.
 /// Where a turn is over its timer runs, for a minute at most (`timers_run_out`). From then on, by each turn, its timer runs still, or it is
 /// to be sent again, or a copy of it is under way, and the tick stays by which a copy comes; or a copy was what arrives next; or there is news
-/// (`no_timer_is_put_off`), or the script has a line less by which a segment is lost or late; or the end is dead, or the path dies by a
-/// line. By `nothing_is_overdue` the clock can't pass that tick before one of these comes. So it is with the first 2^64 - 2 segments of a
-/// side.
+/// (`no_timer_is_put_off`), or the script has a line less by which a segment is lost or late; or its direction loses it, by the word drawn
+/// for it or before a full queue; or the end is dead, or the path dies by a line. By `nothing_is_overdue` the clock can't pass that tick
+/// before one of these comes. So it is with the first 2^64 - 2 segments of a side.
 pub fn what_waits_comes()
     ensures octets { WhatWaitsComes octets }
     ensures values { WhatWaitsComes values }
@@ -154,9 +155,12 @@ pub fn what_waits_is_kept()
     ensures values { WhatWaitsIsKept values }
 {}
 
-/// A law: a segment that is sent uses a line by which one is lost or late, or a copy of it comes a delay later.
+/// A law: a segment that is sent uses a line by which one is lost or late, or is lost at random or before a full queue, or a copy of it comes
+/// when its direction hands it on, no later than the delay, a full queue and the greatest jitter (`comes`): a delay later, where no rate,
+/// loss or jitter is told of the direction (`at_once`).
 pub fn each_segment_uses_a_line_or_comes()
-    ensures { EachUsesALineOrComes (List ℕ) }
+    ensures comes { EachUsesALineOrComes (List ℕ) }
+    ensures at_once { PlainDirectionsHandOnAtOnce (List ℕ) }
 {}
 
 /// A law: by whatever turn, a copy that is under way on a path is under way still, or it was the path's next event and so arrives, or that

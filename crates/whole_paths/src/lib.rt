@@ -2,13 +2,13 @@
 //!
 //! Definitions and laws alone, with no code. What was acknowledged, received, written, read and told never goes back (`nothing_goes_back`),
 //! and what isn't acknowledged is kept until it is (`what_waits_is_kept`). A segment that is sent uses a line of the script by which it is
-//! lost or late, or a copy of it comes a delay later (`each_segment_uses_a_line_or_comes`), and a copy leaves a link by arriving alone, or
-//! as the path dies (`a_copy_leaves_by_arriving`). Whoever waits for an answer has a timer that runs (`who_waits_has_a_timer`), for a
-//! minute at most (`timers_run_out`), and no event is passed by (`nothing_is_overdue`); news alone puts it off (`no_timer_is_put_off`,
-//! `timers_run_on`), and as it runs out the first record goes again (`what_runs_out_goes_again`). What is lost comes again within a minute
-//! and a delay (`what_waits_comes`), and what comes is passed and answered in its turn (`what_is_in_order_is_passed`,
-//! `each_copy_is_answered_at_once`), by a segment that acknowledges all of it (`each_segment_says_what_came`) and nothing that didn't come
-//! (`what_is_acknowledged_came`).
+//! lost or late, or its direction loses it, or a copy of it comes as it is handed on (`each_segment_uses_a_line_or_comes`), and a copy leaves
+//! a link by arriving alone, or as the path dies (`a_copy_leaves_by_arriving`). Whoever waits for an answer has a timer that runs
+//! (`who_waits_has_a_timer`), for a minute at most (`timers_run_out`), and no event is passed by (`nothing_is_overdue`); news alone puts it
+//! off (`no_timer_is_put_off`, `timers_run_on`), and as it runs out the first record goes again (`what_runs_out_goes_again`). What is lost
+//! comes again within a minute and the longest time on its way (`what_waits_comes`), and what comes is passed and answered in its turn
+//! (`what_is_in_order_is_passed`, `each_copy_is_answered_at_once`), by a segment that acknowledges all of it
+//! (`each_segment_says_what_came`) and nothing that didn't come (`what_is_acknowledged_came`).
 #![tactic(auto)]
 
 mod laws;

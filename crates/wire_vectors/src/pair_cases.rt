@@ -82,7 +82,7 @@ fn path_in(case: &mut Case<'_>, script: &Script) -> Option<Path>
 /// Path 0 of the script that has these lines.
 fn path_of(case: &mut Case<'_>, lines: &str) -> Option<Path> {
     let alloc = case.alloc;
-    let Ok(lines) = format!(in alloc; "mptcp-script 1;{lines};end") else {
+    let Ok(lines) = format!(in alloc; "mptcp-script 2;{lines};end") else {
         case.fail();
         return None;
     };

@@ -19,12 +19,13 @@ module _ (script : Script) (file_a file_b : List ℕ) where
 
   begins_so : (number : ℕ) → path_begins (start_of script file_a file_b) number (plan_of script number (line_of number script.paths)) ≡ path_start script number
   begins_so zero = ap
-      (λ delay. record { profile = profile_of script 0; drawn = drawn_of script 0; delay = delay; joined_at = join_of 0 (line_of 0 script.paths) })
+      (λ delay. record { profile = profile_of script 0; drawn = drawn_of script 0; seed = script.seed; delay = delay; joined_at = join_of 0 (line_of 0 script.paths) })
       (delay_is 0 script.paths)
   begins_so (suc number) = ap
       (λ delay. record {
         profile = profile_of script (suc number);
         drawn = drawn_of script (suc number);
+        seed = script.seed;
         delay = delay;
         joined_at = join_of (suc number) (line_of (suc number) script.paths);
       })

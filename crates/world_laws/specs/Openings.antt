@@ -36,6 +36,8 @@ pub record Start : Type 0 where
   pub checksums : Bool
   -- data numbers of four octets
   pub short : Bool
+  -- the seed of the words that links draw
+  pub seed : ℕ
   pub key_a : ℕ
   pub key_b : ℕ
   -- path i is the i-th, the first being 0
@@ -71,6 +73,7 @@ start_of script file_a file_b = record {
   buffer = script.buffer;
   checksums = script.checksum;
   short = script.short;
+  seed = script.seed;
   key_a = key_of script.seed 0;
   key_b = key_of script.seed 2;
   paths = plans_from script 0 script.paths;
@@ -110,6 +113,7 @@ path_begins start number plan = record {
     key_b = start.key_b;
   };
   delay = plan.delay;
+  seed = start.seed;
   joined_at = joins_at number plan.join;
 }
 

@@ -1,10 +1,10 @@
 -- What the ends of a path that joins are, and its copies: A's end never has the peer's SYN before its own was answered, and B's never
 -- opens; a SYN that shows options shows an MP_JOIN.
-use Rattle.world_laws.proofs.Words.{◌≡◌, refl, sym, ◌∙◌, ap, subst, ℕ, ◌+◌, ◌-◌, Bool, true, false, if◌then◌else◌, Option, Some, None, List, [], position}
+use Rattle.world_laws.proofs.Words.{◌≡◌, refl, sym, ◌∙◌, ap, subst, ℕ, ◌-◌, Bool, true, false, if◌then◌else◌, Option, Some, None, List, [], position}
 use Rattle.world_laws.proofs.Words.{both_ways, false≢true, FallEvent, Side, A, B, peer, JoinSyn, KeptMapping, Record, is_dead, is_waiting}
 use Rattle.world_laws.proofs.Words.{is_sixth, after_expiry, after_sending, EndState, has_records, EndPhase, Occasion, Outgoing, after_death}
 use Rattle.world_laws.proofs.Words.{after_dropping_held, after_keeping_held, after_syn, unkept, after_begin, is_fin_next, after_passing_fin, is_due, arriving}
-use Rattle.world_laws.proofs.Words.{arrivals, changed, next_number, without, after_delivery, Flight, is_stripped, is_altered, fate_of, LinkState, HeardSegment}
+use Rattle.world_laws.proofs.Words.{changed, next_number, without, after_delivery, Flight, is_stripped, is_altered, LinkState, HeardSegment}
 use Rattle.world_laws.proofs.Words.{PlainSegment, LineAction, rest_of_turn, emission, leaves, resets, stops, announces, withdraws, Duty, SendDuty, StepDuty}
 use Rattle.world_laws.proofs.Words.{OwnNotice, AskDuty, SilentDuty, Heard, KeyPair, replaced, first_of, Reply, tail_of, passed, answered, PathEnd, died}
 use Rattle.world_laws.proofs.Words.{answered_ack_out, after_ack_out, at_tick, PathState, end_at, goes_on, with_end, with_agenda, left, takes, begins_turn}
@@ -26,7 +26,7 @@ use Rattle.world_laws.proofs.Writes.Ends.{item_so}
 use Rattle.world_laws.proofs.Keys.Held.{in_removed}
 use Rattle.world_laws.proofs.Keys.WhatWakes.{WakesNone, joined_wakes_none}
 use Rattle.world_laws.proofs.Keys.AnswerHeardFirst.{is_apart, finish_apart, passed_apart, apart_stays, arrived_state, TellsKey, no_syn, record_or_ack_tells, syn_ack_tells, IsNoSyn, reset_answers, outgoing_tells}
-use Rattle.world_laws.proofs.Lanes.Saying.{flights_kept}
+use Rattle.world_laws.proofs.Lanes.Saying.{handed_kept}
 use Rattle.world_laws.proofs.Falls.FailedChecks.{forgets_so, infinite_came_so, fail_answered_so}
 use Rattle.world_laws.proofs.Writes.Paths.{writes_no_more}
 use Rattle.world_laws.proofs.Writes.Steps.{Lasts, both_ends, unwritten, takes_lasts, begins_lasts}
@@ -103,20 +103,10 @@ arrived_tells true B carried tells =
 
 sent_copies : (s : Side) (sg : PlainSegment) (p : PathState Carried) → TellsKey (is_joined p.profile) (peer s) sg → Every (CopyTells (is_joined p.profile)) p.link.under_way
     → (e : PathEnd) (ds : List Duty) → Every (CopyTells (is_joined p.profile)) (sent_on values s sg e ds p).link.under_way
-sent_copies A sg p tells copies e ds =
-    let number = next_number A p.link in
-    let sent : Carried = carried_by p.profile.spelling A sg in
-    let carried = changed stripped altered (is_stripped A number p.clock p.link.lines) (is_altered A number p.link.lines) sent in
-    flights_kept (CopyTells (is_joined p.profile)) B number carried
-    (λ tick. changed_tells (is_joined p.profile) B (is_stripped A number p.clock p.link.lines) (is_altered A number p.link.lines) sent tells)
-    (arrivals (fate_of A number p.link.lines) (p.clock + p.link.delay)) p.link.under_way copies
-sent_copies B sg p tells copies e ds =
-    let number = next_number B p.link in
-    let sent : Carried = carried_by p.profile.spelling B sg in
-    let carried = changed stripped altered (is_stripped B number p.clock p.link.lines) (is_altered B number p.link.lines) sent in
-    flights_kept (CopyTells (is_joined p.profile)) A number carried
-    (λ tick. changed_tells (is_joined p.profile) A (is_stripped B number p.clock p.link.lines) (is_altered B number p.link.lines) sent tells)
-    (arrivals (fate_of B number p.link.lines) (p.clock + p.link.delay)) p.link.under_way copies
+sent_copies s sg p tells copies e ds =
+    let number = next_number s p.link in
+    handed_kept (CopyTells (is_joined p.profile)) s sg p
+    (λ tick. changed_tells (is_joined p.profile) (peer s) (is_stripped s number p.clock p.link.lines) (is_altered s number p.link.lines) (carried_by p.profile.spelling s sg) tells) copies
 
 sent_roles : (s : Side) (sg : PlainSegment) (e : PathEnd) (ds : List Duty) (p : PathState Carried) → TellsKey (is_joined p.profile) (peer s) sg → Goes s p e → HasRoles p → HasRoles (sent_on values s sg e ds p)
 sent_roles A sg e ds p tells g h =

@@ -1,19 +1,19 @@
 -- What the ends of a path know of keys and nonces, and hear of them, and how they go on.
-use Rattle.world_laws.proofs.Words.{◌≡◌, refl, sym, ◌∙◌, ap, subst, ℕ, zero, suc, ◌+◌, ◌||◌, ◌==◌, not, Bool, true, false, if◌then◌else◌, Option, Some, None}
+use Rattle.world_laws.proofs.Words.{◌≡◌, refl, sym, ◌∙◌, ap, subst, ℕ, zero, suc, ◌||◌, ◌==◌, not, Bool, true, false, if◌then◌else◌, Option, Some, None}
 use Rattle.world_laws.proofs.Words.{Ok, Err, List, [], ◌∷◌, remove, both_ways, false≢true, slice_get, IfSome, option_or, result_ok, Verdict, FallEvent, Address}
 use Rattle.world_laws.proofs.Words.{token_of, join_b64_of, Side, A, B, peer, JoinForm, Answer, Third, CapableKeys, NoKey, Sender, Both, WithData, Asked}
 use Rattle.world_laws.proofs.Words.{JoinAnswer, BadHmac, answer_heard, answer_taken, syn_heard, ControlReply, is_closed_to_segments, is_opening, is_dead}
-use Rattle.world_laws.proofs.Words.{may_finish, is_waiting, EndPhase, after_syn, unkept, after_begin, arrivals, changed, next_number, Flight, is_stripped}
-use Rattle.world_laws.proofs.Words.{is_altered, fate_of, PlainOption, PlainSegment, Capable, Join, Dss, AddAddr, Fail, Duty, OwnNotice, Heard, KeyPair}
+use Rattle.world_laws.proofs.Words.{may_finish, is_waiting, EndPhase, after_syn, unkept, after_begin, changed, next_number, Flight, is_stripped}
+use Rattle.world_laws.proofs.Words.{is_altered, PlainOption, PlainSegment, Capable, Join, Dss, AddAddr, Fail, Duty, OwnNotice, Heard, KeyPair}
 use Rattle.world_laws.proofs.Words.{replaced, key_heard, keys_heard, is_of_step, join_heard, PeerNotice, JoinStep, Reply, PathEnd, died, modes_told, PathState}
 use Rattle.world_laws.proofs.Words.{end_at, goes_on, with_end, with_agenda, left, Carried, as_arrived, carried_by, stripped, altered, values, died_unless_dead}
 use Rattle.world_laws.proofs.Words.{is_listening, joined_by, opened_by, syn_alone, with_mode_refused, is_joined, join_answer, join_asked, peer_key_of}
-use Rattle.world_laws.proofs.Words.{join_value, after_fell, fell_in, mode_in, after_keys, keys_in, Profile, sent_on, Modes, Every-nil, Every, if_so}
+use Rattle.world_laws.proofs.Words.{join_value, after_fell, fell_in, mode_in, after_keys, keys_in, Profile, sent_on, Modes, Every-nil, Every, if_so, handed}
 use Rattle.mptcp_options.specs.declared.join.JoinForm.TheVariants.{Syn as JoinSyn}
 use Rattle.path_segments.specs.declared.segment.PathOption.TheVariants.{FastClose}
 use Rattle.world_laws.proofs.Keys.AreDrawn.{Deed, Secrets, KeysFor, AddressIs, NoteIs, PeerNoteIs, ShownBy, twice, of_b, told_in, is_past, known_in, OfB, IsFor, drawn_key, drawn_nonce, JoinIs, OptionIs, SegmentIs, ItemIs, ModesAre, EndIs, HasMet, Knows, met_needs, same_knows, same_end}
 use Rattle.world_laws.proofs.Keys.WhatWakes.{NoWaking, Voice, is_said_by, speaks, tail_speaks}
-use Rattle.world_laws.proofs.Lanes.Saying.{flights_kept}
+use Rattle.world_laws.proofs.Lanes.Saying.{handed_kept}
 
 -- ---- what a reply says of the modes leaves the keys
 
@@ -217,16 +217,23 @@ module _ (k : Secrets) (right : Bool) (w : Side → Type 0) (did : Deed → Side
   pub arrived_is : (c : Profile) (s : Side) (carried : Carried) → SegmentIs k right w did c s carried.segment → SegmentIs k right w did c s (as_arrived carried)
   arrived_is c s carried h = if_so (λ z. SegmentIs k right w did c s (record carried.segment { options = z })) carried.stripped [] carried.segment.options (Every-nil _) h
 
+  said_copies : (s : Side) (segment : PlainSegment) (p : PathState Carried) → SegmentIs k right w did p.profile s segment → Every (FlightIs p.profile) p.link.under_way
+      → Every (FlightIs p.profile) (handed values s segment p).under_way
+  said_copies A segment p said copies =
+      let number = next_number A p.link in
+      handed_kept (FlightIs p.profile) A segment p
+      (λ tick. changed_is p.profile A (is_stripped A number p.clock p.link.lines) (is_altered A number p.link.lines) (carried_by p.profile.spelling A segment) said) copies
+  said_copies B segment p said copies =
+      let number = next_number B p.link in
+      handed_kept (FlightIs p.profile) B segment p
+      (λ tick. changed_is p.profile B (is_stripped B number p.clock p.link.lines) (is_altered B number p.link.lines) (carried_by p.profile.spelling B segment) said) copies
+
   pub sent_is : (s : Side) (segment : PlainSegment) (e : PathEnd) (ds : List Duty) (p : PathState Carried) → SegmentIs k right w did p.profile s segment
       → EndIs k right w did (is_joined p.profile) s e → Still s e p → Fewer p ds → Stays s e p → PathIs p → PathIs (sent_on values s segment e ds p)
   sent_is A segment e ds p said own still fewer stays h = let g = goes_is A e ds p own still fewer stays h in record {
     a = own;
     b = h.b;
-    copies =
-        let number = next_number A p.link in
-        let carried = changed stripped altered (is_stripped A number p.clock p.link.lines) (is_altered A number p.link.lines) (carried_by p.profile.spelling A segment) in
-        flights_kept (FlightIs p.profile) B number carried (λ tick. changed_is p.profile A (is_stripped A number p.clock p.link.lines) (is_altered A number p.link.lines) (carried_by p.profile.spelling A segment) said)
-        (arrivals (fate_of A number p.link.lines) (p.clock + p.link.delay)) p.link.under_way h.copies;
+    copies = said_copies A segment p said h.copies;
     known = by g.known;
     waits = g.waits;
   }
@@ -239,11 +246,7 @@ module _ (k : Secrets) (right : Bool) (w : Side → Type 0) (did : Deed → Side
   sent_is B segment e ds p said own still fewer stays h = let g = goes_is B e ds p own still fewer stays h in record {
     a = h.a;
     b = own;
-    copies =
-        let number = next_number B p.link in
-        let carried = changed stripped altered (is_stripped B number p.clock p.link.lines) (is_altered B number p.link.lines) (carried_by p.profile.spelling B segment) in
-        flights_kept (FlightIs p.profile) A number carried (λ tick. changed_is p.profile B (is_stripped B number p.clock p.link.lines) (is_altered B number p.link.lines) (carried_by p.profile.spelling B segment) said)
-        (arrivals (fate_of B number p.link.lines) (p.clock + p.link.delay)) p.link.under_way h.copies;
+    copies = said_copies B segment p said h.copies;
     known = by g.known;
     waits = g.waits;
   }

@@ -12,7 +12,9 @@ use Rattle.world_laws.proofs.Words.{place_numbered, checksum_told, owes_mapping,
 use Rattle.world_laws.proofs.Words.{first_piece_options, piece_options, fin_options, fail_options, fail_beside, infinite_options, infinite_or, capable_options}
 use Rattle.world_laws.proofs.Words.{syn_options, key_options, opening_options, ack_options, record_options, reset_options, segment_of, ack_said, carried_said}
 use Rattle.world_laws.proofs.Words.{record_said, syn_ack_said, fin_said, reset_said, broken_options, noted_said, notice_option, Profile, is_side_a, Every-push}
-use Rattle.world_laws.proofs.Words.{Every-nil, Every-append, Every, AckCopy, Lane, if_so}
+use Rattle.world_laws.proofs.Words.{Every-nil, Every-append, Every, AckCopy, Lane, if_so, Carried, carried_by, stripped, altered, values, PathState, handed, next_number, is_stripped, is_altered, changed, peer, arrivals, length}
+use Rattle.link_model.specs.Steps.{fate_at, first_arrival}
+use Rattle.path_core.specs.Octets.{made}
 use Rattle.world_laws.proofs.Lanes.Records.{every_cons}
 use Rattle.world_laws.proofs.Lanes.Showing.{PairTold, HasSub, HasNone, HasMapping, HasNumber, HasFin, KindShows, RecordShows, WindowShows, OptionShows, SegmentShows, IsSummed}
 
@@ -310,8 +312,26 @@ module _ {C : Type 0} (P : Flight C → Type 0) where
           at : (i : ℕ) (y : Flight C) → slice_get (x ∷ xs) i ≡ Some y → P y
           at = elim [ zero ↦ λ y is. subst P (same_Some x y is) first | suc i ↦ λ y is. rest.each i y is ]
 
-  pub flights_kept : (to : Side) (number : ℕ) (carried : C) → ((tick : ℕ) → P (record { tick = tick; to = to; number = number; carried = carried })) → (ticks : List ℕ) (flights : List (Flight C))
+  flights_kept : (to : Side) (number : ℕ) (carried : C) → ((tick : ℕ) → P (record { tick = tick; to = to; number = number; carried = carried })) → (ticks : List ℕ) (flights : List (Flight C))
       → Every P flights → Every P (with_flights to number carried ticks flights)
   flights_kept to number carried new [] flights h = h
   flights_kept to number carried new (tick ∷ ticks) flights h =
       flights_kept to number carried new ticks _ (flight_kept (record { tick = tick; to = to; number = number; carried = carried }) flights (new tick) h)
+
+-- the ticks at which copies of a segment that an end hands over arrive
+abbrev ticks_handed : Side → PlainSegment → PathState Carried → List ℕ
+ticks_handed s sg p =
+    let octets = length (made p.profile.spelling s sg) in
+    arrivals (fate_at s (next_number s p.link) octets p.clock p.link) (first_arrival s (next_number s p.link) octets p.clock p.link)
+
+-- what holds of the copies under way and of each that a segment makes, holds after the segment was handed over
+pub handed_kept : (P : Flight Carried → Type 0) (s : Side) (sg : PlainSegment) (p : PathState Carried)
+    → ((tick : ℕ) → P (record {
+      tick = tick;
+      to = peer s;
+      number = next_number s p.link;
+      carried = changed stripped altered (is_stripped s (next_number s p.link) p.clock p.link.lines) (is_altered s (next_number s p.link) p.link.lines) (carried_by p.profile.spelling s sg);
+    }))
+    → Every P p.link.under_way → Every P (handed values s sg p).under_way
+handed_kept P A sg p new h = flights_kept P B (next_number A p.link) _ new (ticks_handed A sg p) p.link.under_way h
+handed_kept P B sg p new h = flights_kept P A (next_number B p.link) _ new (ticks_handed B sg p) p.link.under_way h

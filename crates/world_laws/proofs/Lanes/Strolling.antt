@@ -1,7 +1,7 @@
 -- Moves of the two lanes in the duo of a world, and what a rule of one side's end makes of what the path shows.
-use Rattle.world_laws.proofs.Words.{◌≡◌, refl, sym, ◌∙◌, ap, subst, ℕ, ◌+◌, inl, inr, ⊎_elim, Bool, true, false, List, [], ◌∷◌, arith, and_parts, slice_get}
-use Rattle.world_laws.proofs.Words.{list_all, Side, A, B, peer, with_turned_bit, arrivals, changed, next_number, with_flights, one_more, is_stripped}
-use Rattle.world_laws.proofs.Words.{is_altered, fate_of, LinkState, PlainSegment, SixBooks, send_of, reassembly_of, pick, PathState, end_at, Carried}
+use Rattle.world_laws.proofs.Words.{◌≡◌, refl, sym, ◌∙◌, ap, subst, ℕ, inl, inr, ⊎_elim, Bool, true, false, List, [], ◌∷◌, arith, and_parts, slice_get}
+use Rattle.world_laws.proofs.Words.{list_all, Side, A, B, peer, with_turned_bit, changed, next_number, is_stripped}
+use Rattle.world_laws.proofs.Words.{is_altered, LinkState, PlainSegment, SixBooks, send_of, reassembly_of, pick, PathState, end_at, Carried}
 use Rattle.world_laws.proofs.Words.{carried_by, stripped, altered, values, Profile, handed, Every-map, Every, Duo, after_events, after_event, Holds, LaneHolds}
 use Rattle.world_laws.proofs.Words.{AckCopy, Lane, view_of, after_event_held, Move, Moves, lane_refused, copy_clashes, move_refused}
 use Rattle.stream_lanes.specs.Moves.Move.{Learn}
@@ -12,7 +12,7 @@ use Rattle.world_laws.proofs.Lanes.Ending.{Did}
 use Rattle.world_laws.proofs.Lanes.Growing.{SenderGoes, ReceiverGoes, sent_longer, heard_longer, segment_longer, peer_shows}
 use Rattle.world_laws.proofs.Lanes.OfAWorld.{flags_of, Others, duo_at, LaneMoves, moves_to_b, moves_to_a, move_events, moves_silent, events_append, Moved}
 use Rattle.world_laws.proofs.Lanes.Roads.{is_calm, put_there, moved_there, move, moves, Strolls}
-use Rattle.world_laws.proofs.Lanes.Saying.{flights_kept}
+use Rattle.world_laws.proofs.Lanes.Saying.{handed_kept}
 use Rattle.world_laws.proofs.Lanes.Showing.{EndShows, SegmentShows, FlightShows, PathShows, HasData, MayAlter}
 
 -- ---- moves in the duo
@@ -126,20 +126,6 @@ link_longer {c} B out out_after back back_after link g r h = record {
     at A sg shows = segment_longer (sent_longer out out_after back back_after g r) sg shows
     at B sg shows = segment_longer (heard_longer out out_after back back_after g r) sg shows
 
--- a segment more
-sent_link : (c : Profile) (s : Side) (ab ba : Lane) (sg : PlainSegment) (carried : Carried) (ticks : List ℕ) (link : LinkState Carried) → carried.segment ≡ sg → FlightShows c ab ba (peer s) sg
-    → LinkShows c ab ba link → LinkShows c ab ba (one_more s (record link { under_way = with_flights (peer s) (next_number s link) carried ticks link.under_way }))
-sent_link c s ab ba sg carried ticks link is shows h = by s kept
-  where
-    kept : Every (λ f. FlightShows c ab ba f.to f.carried.segment) (with_flights (peer s) (next_number s link) carried ticks link.under_way)
-    kept = flights_kept (λ f. FlightShows c ab ba f.to f.carried.segment) (peer s) (next_number s link) carried
-        (λ tick. subst (FlightShows c ab ba (peer s)) (sym is) shows) ticks link.under_way h.copies
-
-    by : (t : Side) → Every (λ f. FlightShows c ab ba f.to f.carried.segment) (with_flights (peer s) (next_number s link) carried ticks link.under_way)
-        → LinkShows c ab ba (one_more t (record link { under_way = with_flights (peer s) (next_number s link) carried ticks link.under_way }))
-    by A copies = record { may = h.may; copies = copies }
-    by B copies = record { may = h.may; copies = copies }
-
 -- a bit that is turned twice
 turned_back : (octets : List ℕ) → with_turned_bit (with_turned_bit octets) ≡ octets
 turned_back [] = refl
@@ -162,11 +148,16 @@ altered_shows c s acks p sg may h = record {
 
 pub handed_shows : {c : Profile} (s : Side) (out back : Lane) (sg : PlainSegment) (p : PathState Carried) → SegmentShows c s back.acks out sg
     → LinkShows c (pick s out back) (pick s back out) p.link → LinkShows c (pick s out back) (pick s back out) (handed values s sg p)
-handed_shows {c} s out back sg p shows h =
-    sent_link c s (pick s out back) (pick s back out) carried.segment carried
-    (arrivals (fate_of s (next_number s p.link) p.link.lines) (p.clock + p.link.delay)) p.link refl
-    (to_peer s (changed_shows (is_stripped s (next_number s p.link) p.clock p.link.lines) (is_altered s (next_number s p.link) p.link.lines) (own_may s h.may (next_number s p.link)))) h
+handed_shows {c} s out back sg p shows h = record {
+  may = same_lines s h.may;
+  copies = handed_kept (λ f. FlightShows c (pick s out back) (pick s back out) f.to f.carried.segment) s sg p
+      (λ tick. to_peer s (changed_shows (is_stripped s (next_number s p.link) p.clock p.link.lines) (is_altered s (next_number s p.link) p.link.lines) (own_may s h.may (next_number s p.link)))) h.copies;
+}
   where
+    same_lines : (s : Side) → {x y : Bool} → MayAlter p.link.lines x y → MayAlter (handed values s sg p).lines x y
+    same_lines A may = may
+    same_lines B may = may
+
     carried : Carried
     carried = changed stripped altered (is_stripped s (next_number s p.link) p.clock p.link.lines) (is_altered s (next_number s p.link) p.link.lines) (carried_by p.profile.spelling s sg)
 

@@ -1,7 +1,7 @@
 -- What a step of the path leaves of the numbers that its ends and its copies tell.
 use Rattle.world_laws.proofs.Words.{◌≡◌, refl, ℕ, ◌+◌, ◌≤◌, nat_lt, Bool, true, false, if◌then◌else◌, List, [], ◌∷◌, length, arith, ◌^◌, and_parts, and_from}
-use Rattle.world_laws.proofs.Words.{list_all, IfSome, Side, A, B, peer, Control, received, is_end, next_wanted, window, arrivals, changed, next_number}
-use Rattle.world_laws.proofs.Words.{with_flights, one_more, is_stripped, is_altered, fate_of, PlainSegment, Duty, SendDuty, AskDuty, replaced, SixBooks}
+use Rattle.world_laws.proofs.Words.{list_all, IfSome, Side, A, B, peer, Control, received, is_end, next_wanted, window, changed, next_number}
+use Rattle.world_laws.proofs.Words.{is_stripped, is_altered, PlainSegment, Duty, SendDuty, AskDuty, replaced, SixBooks}
 use Rattle.world_laws.proofs.Words.{send_of, reassembly_of, control_of, tail_of, pick, PathEnd, PathState, end_at, goes_on, with_agenda, Carried, carried_by}
 use Rattle.world_laws.proofs.Words.{stripped, altered, values, Profile, sent_on, handed, Every, Holds, Lane, LaneIsShort, paths_short}
 use Rattle.stream_lanes.proofs.Views.{received_written}
@@ -9,7 +9,7 @@ use Rattle.control_book.specs.declared.book.Keys.{Keys}
 use Rattle.world_laws.proofs.Numbers.IdsFit.{IdsFit}
 use Rattle.world_laws.proofs.Lanes.OfAWorld.{flags_of, Others, duo_at}
 use Rattle.world_laws.proofs.Lanes.Roads.{put_there}
-use Rattle.world_laws.proofs.Lanes.Saying.{flights_kept}
+use Rattle.world_laws.proofs.Lanes.Saying.{handed_kept}
 use Rattle.world_laws.proofs.Numbers.TellSmall.{IsShort, IsKey, SegmentTells, EndTells, altered_tells}
 
 -- ---- the path
@@ -118,20 +118,10 @@ module _ (c : Profile) (p : PathState Carried) (h : PathTells c p) where
   maybe_changed B sg false false tells = record { from = refl; segment = tells }
 
   handed_tells : (s : Side) (sg : PlainSegment) → SegmentTells c s sg → Every (λ f. CopyTells c f.to f.carried) (handed values s sg p).under_way
-  handed_tells s sg tells = more s
-      (flights_kept (λ f. CopyTells c f.to f.carried) (peer s) (next_number s p.link) carried (λ tick. told)
-      (arrivals (fate_of s (next_number s p.link) p.link.lines) (p.clock + p.link.delay)) p.link.under_way h.copies)
-    where
-      carried : Carried
-      carried = changed stripped altered (is_stripped s (next_number s p.link) p.clock p.link.lines) (is_altered s (next_number s p.link) p.link.lines) (carried_by p.profile.spelling s sg)
-
-      told : CopyTells c (peer s) carried
-      told = maybe_changed s sg _ _ tells
-
-      more : (t : Side) → Every (λ f. CopyTells c f.to f.carried) (with_flights (peer s) (next_number s p.link) carried (arrivals (fate_of s (next_number s p.link) p.link.lines) (p.clock + p.link.delay)) p.link.under_way)
-          → Every (λ f. CopyTells c f.to f.carried)
-          (one_more t (record p.link { under_way = with_flights (peer s) (next_number s p.link) carried (arrivals (fate_of s (next_number s p.link) p.link.lines) (p.clock + p.link.delay)) p.link.under_way })).under_way
-      more = elim [ A ↦ λ copies. copies | B ↦ λ copies. copies ]
+  handed_tells s sg tells =
+      let number = next_number s p.link in
+      handed_kept (λ f. CopyTells c f.to f.carried) s sg p
+      (λ tick. maybe_changed s sg (is_stripped s number p.clock p.link.lines) (is_altered s number p.link.lines) tells) h.copies
 
   pub tells_sent : (s : Side) (sg : PlainSegment) (e : PathEnd) (ds : List Duty) → SegmentTells c s sg → EndTells c s e → AreFair ds
       → PathTells c (sent_on values s sg e ds p)

@@ -1,11 +1,11 @@
 -- Path 0 as long as no options are taken away, and what becomes of it where one end goes on, or sends a segment.
 use Rattle.world_laws.proofs.Words.{◌≡◌, refl, sym, ◌∙◌, ap, subst, ℕ, zero, suc, ◌+◌, ◌||◌, inl, inr, ◌⊎◌, ⊎_elim, Bool, true, false, Option, None, List, []}
-use Rattle.world_laws.proofs.Words.{◌∷◌, is_some, false≢true, or_right, list_any, IfSome, Side, A, B, peer, same_side, ScriptLine, SendState, arrivals, changed}
-use Rattle.world_laws.proofs.Words.{next_number, Flight, is_stripped, is_altered, fate_of, LinkState, PlainSegment, meant, heard_and, Duty, SendDuty, AskDuty}
+use Rattle.world_laws.proofs.Words.{◌∷◌, is_some, false≢true, or_right, list_any, IfSome, Side, A, B, peer, same_side, ScriptLine, SendState, changed}
+use Rattle.world_laws.proofs.Words.{next_number, Flight, is_stripped, is_altered, LinkState, PlainSegment, meant, heard_and, Duty, SendDuty, AskDuty}
 use Rattle.world_laws.proofs.Words.{PathEnd, PathState, end_at, goes_on, with_end, with_agenda, Carried, as_arrived, carried_by, stripped, altered, values}
 use Rattle.world_laws.proofs.Words.{is_joined, AltersNothing, sent_on, is_side_a, Every, EndWrites, OnlyAt, PathView, at_end, nothing}
 use Rattle.world_laws.specs.NeverFalls.{StripsNothing}
-use Rattle.world_laws.proofs.Lanes.Saying.{flights_kept}
+use Rattle.world_laws.proofs.Lanes.Saying.{handed_kept}
 use Rattle.world_laws.proofs.Keys.AnswerHeardFirst.{is_apart}
 use Rattle.world_laws.proofs.Whole.Bytes.{EndsWell, Grows, NoneAt, NoneBelow, grows_self}
 use Rattle.world_laws.proofs.Whole.Copies.{HeardIs, Knows, Speaks, heard_later}
@@ -198,15 +198,13 @@ sent_fewer A sg ds es p e says g fewer h =
     let number = next_number A p.link in
     let same = unchanged A number p.clock p.link.lines h.strips h.alters (carried_by p.profile.spelling A sg) in
     path_alike es (goes_on A e es p) (sent_on values A sg e es p) refl refl refl refl refl
-    (flights_kept (CopyIs e.tcp.send p.b.tcp.send) B number _ (λ tick. subst (λ (x : Carried). HeardIs A p.b.tcp.send e.tcp.send (meant (as_arrived x))) (sym same) says)
-    (arrivals (fate_of A number p.link.lines) (p.clock + p.link.delay)) p.link.under_way n.copies) n
+    (handed_kept (CopyIs e.tcp.send p.b.tcp.send) A sg p (λ tick. subst (λ (x : Carried). HeardIs A p.b.tcp.send e.tcp.send (meant (as_arrived x))) (sym same) says) n.copies) n
 sent_fewer B sg ds es p e says g fewer h =
     let n = goes_fewer B ds es p e g fewer h in
     let number = next_number B p.link in
     let same = unchanged B number p.clock p.link.lines h.strips h.alters (carried_by p.profile.spelling B sg) in
     path_alike es (goes_on B e es p) (sent_on values B sg e es p) refl refl refl refl refl
-    (flights_kept (CopyIs p.a.tcp.send e.tcp.send) A number _ (λ tick. subst (λ (x : Carried). HeardIs B p.a.tcp.send e.tcp.send (meant (as_arrived x))) (sym same) says)
-    (arrivals (fate_of B number p.link.lines) (p.clock + p.link.delay)) p.link.under_way n.copies) n
+    (handed_kept (CopyIs p.a.tcp.send e.tcp.send) B sg p (λ tick. subst (λ (x : Carried). HeardIs B p.a.tcp.send e.tcp.send (meant (as_arrived x))) (sym same) says) n.copies) n
 
 -- ---- a duty that writes nothing of it
 

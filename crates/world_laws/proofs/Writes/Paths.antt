@@ -12,6 +12,8 @@ use Rattle.world_laws.proofs.Words.{item_of, after_check_failed, after_fell, ans
 use Rattle.world_laws.proofs.Words.{with_plain_acked, after_keys, answered_peer_key, answered_opened, having_sent, sent_on, taken_as, Modes, EndWrites, Only}
 use Rattle.world_laws.proofs.Words.{Writes, OnlyAt, EndView, PathView, end_view, path_view, hide, writes, side_of, ask_writes, step_writes, silent_writes}
 use Rattle.world_laws.proofs.Words.{on_link, acking, acknowledged, happening, heard_writes}
+use Rattle.link_model.specs.Steps.{with_waiting}
+use Rattle.link_model.specs.declared.passage.Waiting.{Waiting}
 use Rattle.path_store.specs.Receiving.{Receiving}
 use Rattle.path_core.specs.Emission.{Grant}
 use Rattle.path_core.specs.Sending.{Sending}
@@ -121,10 +123,10 @@ hidden : {X : Type 0} (b : Bool) (x y : X) → b ≡ true → hide b x ≡ hide 
 hidden true x y is = refl
 hidden false x y is = cc
 
--- a segment that is sent leaves the number of the path
-one_more_path : {C : Type 0} (s : Side) (link : LinkState C) → (one_more s link).path ≡ link.path
-one_more_path A link = refl
-one_more_path B link = refl
+-- a segment that is sent leaves the number of the path, whatever waits behind it
+sent_path : {C : Type 0} (s : Side) (waiting : Waiting) (link : LinkState C) → (one_more s (with_waiting s waiting link)).path ≡ link.path
+sent_path A waiting link = refl
+sent_path B waiting link = refl
 
 module _ {C : Type 0} where
   pub then_only : (s : Side) (w : Writes) (p q r : PathState C) → OnlyAt s w p q → OnlyAt s w q r → OnlyAt s w p r
@@ -148,7 +150,7 @@ module _ {C : Type 0} where
       let q : PathState C = goes_on s e ds p in
       let r : PathState C = sent_on k s segment e ds p in
       let linked : hide w.link r.link ≡ hide w.link q.link = hidden w.link r.link q.link on in
-      let numbered : r.link.path ≡ q.link.path = one_more_path s _ in
+      let numbered : r.link.path ≡ q.link.path = sent_path s _ _ in
       then_only s w p q r (goes w s e ds p x)
       (record { same = ap (λ l. record (path_view s w r) { link = l; number = r.link.path }) linked ∙ ap (λ n. record (path_view s w q) { number = n }) numbered })
 

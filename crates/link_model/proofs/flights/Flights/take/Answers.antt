@@ -1,4 +1,4 @@
-use Rattle.std.proofs.Common.{◌∙◌, sym, subst, Option, IsSome, IfSome, ap, ◌≡◌, List, ℕ}
+use Rattle.std.proofs.Common.{◌∙◌, sym, subst, IsSome, ap, List, ℕ}
 use Rattle.sides.specs.declared.side.Side.TheVariants.{A, B}
 use Rattle.link_model.specs.declared.flight.Flight.{Flight}
 use Rattle.link_model.specs.Queues.{IsQueue, merged}

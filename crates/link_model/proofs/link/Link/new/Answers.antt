@@ -6,7 +6,7 @@ use Rattle.link_model.proofs.link.Link.new.Goals as goal
 pub invariant_of-result : goal.invariant_of-result
 invariant_of-result c =
     let blank : PathLine = record { mss = 0; delay = 0; join = 0; backup = false } in
-    rw (c.in_ok-lines.ensures, c.as_slice.ensures, c.as_slice-2.ensures, c.from.ensures) (limits_of c.args.script.now c.args.path blank c.requires.ranges c.requires.path)
+    rw (c.shape_of-shape_a.ensures, c.shape_of-shape_b.ensures, c.as_slice-3.ensures, c.as_slice-4.ensures, c.in_ok-lines.ensures, c.as_slice.ensures, c.as_slice-2.ensures, c.from.ensures) (limits_of c.args.script.now c.args.path blank c.requires.ranges c.requires.path)
 
 pub returns : goal.returns
 returns c =
