@@ -1,6 +1,6 @@
 //! The TCP segment that an IP packet carries (RFC 791, section 3.1; RFC 8200, sections 3 and 4).
 
-ghost use Rattle.std.specs.Prelude.{◌≡◌, ℕ, ◌+◌, ◌<◌, ◌≤◌, length, option_map, slice_range, true, IfSome};
+ghost use Rattle.std.specs.Prelude.{◌≡◌, ℕ, ◌+◌, ◌<◌, ◌≤◌, length, option_map, slice_range, take, drop, true, IfSome};
 ghost use Rattle.key_material.specs.Address.{octets_of};
 ghost use Rattle.segment_wire.specs.Between.{IsAddress};
 ghost use Rattle.octet_text.specs.Octets.{octet};
@@ -183,7 +183,7 @@ fn size_behind(payload_len: u16, payload: &[u8], held: &[u8]) -> usize
 
 fn sixteen_at(packet: &[u8], place: usize) -> [u8; 16]
     requires { place + 16 ≤ length packet.now }
-    ensures { result ≡ slice_range packet.now place (place + 16) }
+    ensures { result ≡ take 16 (drop place packet.now) }
 {
     *packet[place..].first_chunk().unwrap()
 }
