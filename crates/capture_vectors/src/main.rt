@@ -32,15 +32,20 @@ fn answer(alloc: Global, line: &str) -> Result<String, CaseFault> {
     case.end()
 }
 
+/// Prints the answer to a line of input.
+fn print_answer<W: Write>(alloc: Global, out: &mut W, line: &str) -> io::Result<()> {
+    match answer(alloc, line) {
+        Ok(text) => writeln!(out, "{text}"),
+        Err(CaseFault::Form) => writeln!(out, "not a case: {line}"),
+        Err(CaseFault::Memory) => Err(AllocError.into()),
+    }
+}
+
 fn main(rt: HostRuntime) -> io::Result<()> {
     let mut out = BufWriter::new(rt.alloc(), io::writer(&rt))?;
     for line in rt.lines(rt.alloc()) {
         let line = line?;
-        match answer(rt.alloc(), line.as_str()) {
-            Ok(text) => writeln!(out, "{text}")?,
-            Err(CaseFault::Form) => writeln!(out, "not a case: {line}")?,
-            Err(CaseFault::Memory) => return Err(AllocError.into()),
-        }
+        print_answer(rt.alloc(), &mut out, line.as_str())?;
     }
     out.flush()
 }

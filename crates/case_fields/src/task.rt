@@ -88,14 +88,32 @@ impl<'a> Task<'a> {
     /// The outside that the case tells of, where `log` is that of the last serial case.
     pub fn outside(&self, alloc: Global, log: &[u8]) -> Result<MemoryOutside, CaseFault> {
         let mut files = Vec::new(alloc);
+        self.put_inputs(alloc, &mut files)?;
+        self.put_log(alloc, &mut files, log)?;
+        let failing = failing(alloc, self.fails)?;
+        Ok(MemoryOutside::new(alloc, files, failing))
+    }
+
+    /// The script and both files come behind the files.
+    fn put_inputs(&self, alloc: Global, files: &mut Vec<NamedFile>) -> Result<(), CaseFault> {
         let script = lines_in(alloc, self.script)?.into_bytes();
-        push_file(alloc, &mut files, "script", script)?;
-        push_file(alloc, &mut files, "a", content(alloc, self.file_a)?)?;
-        push_file(alloc, &mut files, "b", content(alloc, self.file_b)?)?;
+        push_file(alloc, files, "script", script)?;
+        push_file(alloc, files, "a", content(alloc, self.file_a)?)?;
+        push_file(alloc, files, "b", content(alloc, self.file_b)?)?;
+        Ok(())
+    }
+
+    /// What the name `log` holds comes behind the files, where there is such content.
+    fn put_log(
+        &self,
+        alloc: Global,
+        files: &mut Vec<NamedFile>,
+        log: &[u8],
+    ) -> Result<(), CaseFault> {
         if let Some(order) = order(alloc, self.order, log)? {
-            push_file(alloc, &mut files, "log", order)?;
+            push_file(alloc, files, "log", order)?;
         }
-        Ok(MemoryOutside::new(alloc, files, failing(alloc, self.fails)?))
+        Ok(())
     }
 }
 
