@@ -34,19 +34,26 @@ pub fn end(case: &mut Case<'_>, end: &mut Subflow) {
         "open" => begin(case, end, true),
         "listen" => begin(case, end, false),
         "arrive" => arrive(case, end),
+        "grow" => grow(case, end),
+        "push" => push(case, end),
+        "emit" => emit(case, end),
+        "show" => show(case, end),
+        name => change(case, end, name),
+    }
+}
+
+/// What comes to the end from itself: its reader, its timer, its close.
+fn change(case: &mut Case<'_>, end: &mut Subflow, name: &str) {
+    match name {
         "read" => {
             pass(end);
             case.tell(&end.edge());
         }
-        "grow" => grow(case, end),
-        "push" => push(case, end),
-        "emit" => emit(case, end),
         "hold" => hold(case, end),
         "fire" => fire(case, end),
         "finish" => finish(case, end),
         "owe" => owe(case, end),
         "kill" => kill(case, end),
-        "show" => show(case, end),
         _ => case.refuse(),
     }
 }

@@ -36,7 +36,23 @@ use std::alloc::{AllocError, Global};
 use std::io::{self, BufWriter, Write};
 use subflow_tcp::Subflow;
 
-/// Puts the answer to a case of octets, keys and numbers.
+/// Puts the answer to a case of keys and numbers.
+fn put_number_answer(case: &mut Case<'_>, name: &str) {
+    match name {
+        "key" => key_cases::key(case),
+        "hmac" => key_cases::hmac(case),
+        "join" => key_cases::join(case),
+        "address" => key_cases::address(case),
+        "drawn" => key_cases::drawn(case),
+        "number" => number_cases::number(case),
+        "near32" => number_cases::near32(case),
+        "near64" => number_cases::near64(case),
+        "widen" => number_cases::widen(case),
+        _ => put_leaf_answer(case, name),
+    }
+}
+
+/// Puts the answer to a case of octets and texts.
 fn put_wire_answer(case: &mut Case<'_>, name: &str) {
     match name {
         "option" => option_cases::option(case),
@@ -44,23 +60,14 @@ fn put_wire_answer(case: &mut Case<'_>, name: &str) {
         "written" => segment_cases::written(case),
         "sum" => sum_cases::sum(case),
         "sums" => sum_cases::sums(case),
-        "key" => key_cases::key(case),
-        "hmac" => key_cases::hmac(case),
-        "join" => key_cases::join(case),
-        "address" => key_cases::address(case),
         "message" => message_cases::message(case),
         "frames" => message_cases::frames(case),
-        "drawn" => key_cases::drawn(case),
-        "number" => number_cases::number(case),
-        "near32" => number_cases::near32(case),
-        "near64" => number_cases::near64(case),
-        "widen" => number_cases::widen(case),
         "pipe" => pipe_cases::pipe(case),
         "spelled" => spelling_cases::spelled(case),
         "heard" => spelling_cases::heard(case),
         "script" => script_cases::script(case),
         "words" => words_cases::words(case),
-        _ => put_leaf_answer(case, name),
+        _ => put_number_answer(case, name),
     }
 }
 
@@ -112,16 +119,31 @@ fn answer(alloc: Global, end: &mut Subflow, line: &str) -> Result<String, CaseFa
     case.end()
 }
 
-fn main(rt: HostRuntime) -> io::Result<()> {
-    let mut end = Subflow::open(rt.alloc(), 0, 0, 1_400);
-    let mut out = BufWriter::new(rt.alloc(), io::writer(&rt))?;
+/// Prints the answer to a line of input.
+fn print_answer<W: Write>(
+    alloc: Global,
+    out: &mut W,
+    end: &mut Subflow,
+    line: &str,
+) -> io::Result<()> {
+    match answer(alloc, end, line) {
+        Ok(text) => writeln!(out, "{text}"),
+        Err(CaseFault::Form) => writeln!(out, "not a case: {line}"),
+        Err(CaseFault::Memory) => Err(AllocError.into()),
+    }
+}
+
+/// Prints the answer to each line of input, where the lines of `end` go on with this end.
+fn print_answers(rt: &HostRuntime, end: &mut Subflow) -> io::Result<()> {
+    let mut out = BufWriter::new(rt.alloc(), io::writer(rt))?;
     for line in rt.lines(rt.alloc()) {
         let line = line?;
-        match answer(rt.alloc(), &mut end, line.as_str()) {
-            Ok(text) => writeln!(out, "{text}")?,
-            Err(CaseFault::Form) => writeln!(out, "not a case: {line}")?,
-            Err(CaseFault::Memory) => return Err(AllocError.into()),
-        }
+        print_answer(rt.alloc(), &mut out, end, line.as_str())?;
     }
     out.flush()
+}
+
+fn main(rt: HostRuntime) -> io::Result<()> {
+    let mut end = Subflow::open(rt.alloc(), 0, 0, 1_400);
+    print_answers(&rt, &mut end)
 }

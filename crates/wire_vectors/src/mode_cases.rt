@@ -3,6 +3,7 @@
 
 use case_fields::Case;
 use fallback_state::{Event, Fall, Mode, fall_step};
+use std::fmt::Debug;
 
 const EVENTS: [Event; 11] = [
     Event::PlainHandshake,
@@ -63,26 +64,33 @@ fn put_events(case: &mut Case<'_>, before: &Fall, sole: bool) {
     }
 }
 
+/// Puts a word and what it names.
+fn put_named<T: Debug>(case: &mut Case<'_>, word: &str, value: &T) {
+    case.put(word);
+    case.tell(value);
+}
+
+/// Puts where a side stands, and whether the path is the sole one.
+fn put_before(case: &mut Case<'_>, before: &Fall, sole: bool) {
+    case.tell(&before.mode);
+    put_named(case, " joined ", &before.joined);
+    put_named(case, " sole ", &sole);
+    put_named(case, " failed ", &before.failed);
+}
+
+/// Puts where a side stands after an event.
+fn put_after(case: &mut Case<'_>, after: &Fall) {
+    put_named(case, " ", &after.mode);
+    put_named(case, " confirmed ", &after.confirmed);
+    put_named(case, " joined ", &after.joined);
+    put_named(case, " failed ", &after.failed);
+    case.put("\n");
+}
+
 fn put_event(case: &mut Case<'_>, before: &Fall, sole: bool, event: Event) {
     let (after, verdict) = fall_step(before, 0, sole, event);
-    case.tell(&before.mode);
-    case.put(" joined ");
-    case.tell(&before.joined);
-    case.put(" sole ");
-    case.tell(&sole);
-    case.put(" failed ");
-    case.tell(&before.failed);
-    case.put(": ");
-    case.tell(&event);
-    case.put(" = ");
-    case.tell(&verdict);
-    case.put(" ");
-    case.tell(&after.mode);
-    case.put(" confirmed ");
-    case.tell(&after.confirmed);
-    case.put(" joined ");
-    case.tell(&after.joined);
-    case.put(" failed ");
-    case.tell(&after.failed);
-    case.put("\n");
+    put_before(case, before, sole);
+    put_named(case, ": ", &event);
+    put_named(case, " = ", &verdict);
+    put_after(case, &after);
 }

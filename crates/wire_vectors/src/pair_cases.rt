@@ -22,6 +22,7 @@ use link_script::{Script, ScriptFault, ScriptLine, parse};
 use peer::{Closes, Peer};
 use run::Run;
 use sides::Side;
+use std::alloc::{AllocError, Global};
 
 pub fn pair(case: &mut Case<'_>) {
     let name = case.word();
@@ -29,13 +30,24 @@ pub fn pair(case: &mut Case<'_>) {
         return case.refuse();
     };
     case.read(words, " ");
-    let Some(path) = path_of(case, lines) else {
-        return;
-    };
+    if let Some(path) = path_of(case, lines) {
+        let mut run = run_over(case, path);
+        put_run(case, name, &mut run);
+    }
+}
+
+/// Puts what is asked of a run.
+fn put_run(case: &mut Case<'_>, name: &str, run: &mut Run) {
     match name {
-        "link" => links::link(case, path.link),
-        "ends" => run_of(case, path).put_ends(case),
-        "segments" => run_of(case, path).put_segments(case),
+        "link" => links::link(case, &mut run.link),
+        "ends" => {
+            play(case, run);
+            run.put_ends(case);
+        }
+        "segments" => {
+            play(case, run);
+            run.put_segments(case);
+        }
         _ => case.refuse(),
     }
 }
@@ -79,18 +91,26 @@ fn path_in(case: &mut Case<'_>, script: &Script) -> Option<Path>
     }
 }
 
+/// The script that has these lines.
+fn script_text(alloc: Global, lines: &str) -> Result<String, AllocError> {
+    let lines = format!(in alloc; "mptcp-script 2;{lines};end")?;
+    lines_in(alloc, lines.as_str())
+}
+
 /// Path 0 of the script that has these lines.
 fn path_of(case: &mut Case<'_>, lines: &str) -> Option<Path> {
-    let alloc = case.alloc;
-    let Ok(lines) = format!(in alloc; "mptcp-script 2;{lines};end") else {
-        case.fail();
-        return None;
-    };
-    let Ok(text) = lines_in(alloc, lines.as_str()) else {
-        case.fail();
-        return None;
-    };
-    match parse(alloc, text.as_bytes()) {
+    match script_text(case.alloc, lines) {
+        Ok(text) => path_told(case, text.as_bytes()),
+        Err(_) => {
+            case.fail();
+            None
+        }
+    }
+}
+
+/// Path 0 of the script that this text says.
+fn path_told(case: &mut Case<'_>, text: &[u8]) -> Option<Path> {
+    match parse(case.alloc, text) {
         Ok(script) => path_in(case, &script),
         Err(ScriptFault::Line { .. }) => {
             case.refuse();
@@ -117,20 +137,25 @@ fn closes_of(case: &mut Case<'_>) -> (Closes, Closes) {
     }
 }
 
-/// The run of a case over this path, at its end.
-fn run_of(case: &mut Case<'_>, path: Path) -> Run {
+/// A run over this path, at its beginning.
+fn run_over(case: &Case<'_>, path: Path) -> Run {
+    let mss = path.mss.max(1);
+    Run {
+        a: Peer::new(case.alloc, Side::A, mss),
+        b: Peer::new(case.alloc, Side::B, mss),
+        death: path.death,
+        link: path.link,
+    }
+}
+
+/// Plays the run of a case.
+fn play(case: &mut Case<'_>, run: &mut Run) {
     let (octets_of_a, octets_of_b) = (case.number(), case.number());
     let (a_closes, b_closes) = closes_of(case);
     let until: u32 = case.number();
-    let mss = path.mss.max(1);
-    let mut run = Run {
-        a: Peer::new(case.alloc, Side::A, mss, octets_of_a, a_closes),
-        b: Peer::new(case.alloc, Side::B, mss, octets_of_b, b_closes),
-        death: path.death,
-        link: path.link,
-    };
+    run.a.is_to_send(octets_of_a, a_closes);
+    run.b.is_to_send(octets_of_b, b_closes);
     if !case.is_refused() {
         run.play(case, until);
     }
-    run
 }

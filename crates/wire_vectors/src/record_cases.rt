@@ -29,29 +29,37 @@ impl Steps for SubflowSend {
             "push" => push(case, self),
             "finish" => finish(case, self),
             "expire" => self.expired(),
-            "due" => put_record(case, self.due()),
-            "first" => put_record(case, self.retransmit_first()),
-            "at" => {
-                let record = self.record_at(case.number());
-                put_record(case, record);
-            }
-            "flight" => {
-                case.tell(&self.flight());
-                case.put("/");
-                case.tell(&self.again());
-            }
-            "ends" => case.put_numbers("/", &[self.una(), self.nxt()]),
-            "new-fin" => case.tell(&self.has_new_fin()),
             "ack" => {
                 let kind = self.acknowledge(case.number());
                 case.tell(&kind);
             }
-            "sample" => {
-                let sample = self.sample(case.number());
-                case.tell(&sample);
-            }
-            _ => at_tick(case, self, name),
+            "sent" | "resent" | "fin-sent" => at_tick(case, self, name),
+            _ => show(case, self, name),
         }
+    }
+}
+
+/// What is shown of the side.
+fn show(case: &mut Case<'_>, side: &SubflowSend, name: &str) {
+    match name {
+        "due" => put_record(case, side.due()),
+        "first" => put_record(case, side.retransmit_first()),
+        "at" => {
+            let record = side.record_at(case.number());
+            put_record(case, record);
+        }
+        "flight" => {
+            case.tell(&side.flight());
+            case.put("/");
+            case.tell(&side.again());
+        }
+        "ends" => case.put_numbers("/", &[side.una(), side.nxt()]),
+        "new-fin" => case.tell(&side.has_new_fin()),
+        "sample" => {
+            let sample = side.sample(case.number());
+            case.tell(&sample);
+        }
+        _ => case.refuse(),
     }
 }
 
@@ -61,8 +69,7 @@ fn at_tick(case: &mut Case<'_>, side: &mut SubflowSend, name: &str) {
     match name {
         "sent" => send(case, side, tick),
         "resent" => side.resent(tick),
-        "fin-sent" => side.fin_sent(tick),
-        _ => case.refuse(),
+        _ => side.fin_sent(tick),
     }
 }
 

@@ -8,8 +8,8 @@ use case_fields::Case;
 use link_model::{Due, Link};
 use sides::Side;
 
-pub fn link(case: &mut Case<'_>, mut link: Link) {
-    put_steps(case, &mut link);
+pub fn link(case: &mut Case<'_>, link: &mut Link) {
+    put_steps(case, link);
 }
 
 impl Steps for Link {

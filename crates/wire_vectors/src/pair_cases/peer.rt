@@ -154,8 +154,8 @@ fn hand(
 }
 
 impl Peer {
-    /// A side that is to send so many octets: A opens, and B listens.
-    pub fn new(alloc: Global, side: Side, mss: u16, octets: u32, closes: Closes) -> Self
+    /// A side that has nothing to send: A opens, and B listens.
+    pub fn new(alloc: Global, side: Side, mss: u16) -> Self
         requires { 0 < mss }
     {
         let end = match side {
@@ -166,13 +166,19 @@ impl Peer {
             side,
             end,
             mss,
-            left: octets,
+            left: 0,
             pushed: 0,
-            closes,
+            closes: Closes::Never,
             received: 0,
             is_exact: true,
             died: None,
         }
+    }
+
+    /// So many octets are to be sent, and when the side closes then.
+    pub fn is_to_send(&mut self, octets: u32, closes: Closes) {
+        self.left = octets;
+        self.closes = closes;
     }
 
     /// The tick at which the timer of the end runs out.
