@@ -38,16 +38,31 @@ fn answer(alloc: Global, books: &mut Books, line: &str) -> Result<String, CaseFa
     case.end()
 }
 
-fn main(rt: HostRuntime) -> io::Result<()> {
-    let mut books = Books::new(rt.alloc())?;
-    let mut out = BufWriter::new(rt.alloc(), io::writer(&rt))?;
+/// Prints the answer to a line of input.
+fn print_answer<W: Write>(
+    alloc: Global,
+    out: &mut W,
+    books: &mut Books,
+    line: &str,
+) -> io::Result<()> {
+    match answer(alloc, books, line) {
+        Ok(text) => writeln!(out, "{text}"),
+        Err(CaseFault::Form) => writeln!(out, "not a case: {line}"),
+        Err(CaseFault::Memory) => Err(AllocError.into()),
+    }
+}
+
+/// Prints the answer to each line of input, where these books are asked.
+fn print_answers(rt: &HostRuntime, books: &mut Books) -> io::Result<()> {
+    let mut out = BufWriter::new(rt.alloc(), io::writer(rt))?;
     for line in rt.lines(rt.alloc()) {
         let line = line?;
-        match answer(rt.alloc(), &mut books, line.as_str()) {
-            Ok(text) => writeln!(out, "{text}")?,
-            Err(CaseFault::Form) => writeln!(out, "not a case: {line}")?,
-            Err(CaseFault::Memory) => return Err(AllocError.into()),
-        }
+        print_answer(rt.alloc(), &mut out, books, line.as_str())?;
     }
     out.flush()
+}
+
+fn main(rt: HostRuntime) -> io::Result<()> {
+    let mut books = Books::new(rt.alloc())?;
+    print_answers(&rt, &mut books)
 }

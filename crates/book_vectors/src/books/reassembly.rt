@@ -44,20 +44,33 @@ fn put_answer(case: &mut Case<'_>, read: &mut u64, reply: ReassemblyReply) {
     );
 }
 
-/// How many of so many made octets from a place on are placed.
-fn placed(case: &mut Case<'_>, book: &mut ReassemblyBook, at: u64, count: u64) -> u64 {
-    let Ok(bytes) = made(case.alloc, at, count) else {
-        case.fail();
-        return 0;
-    };
-    let call = ReassemblyCall::Place { at, bytes };
-    if !may_ask(&call) {
+/// How many octets a reply says that were placed.
+fn count_placed(reply: &ReassemblyReply) -> u64 {
+    match reply {
+        ReassemblyReply::Placed(count) => *count,
+        _ => 0,
+    }
+}
+
+/// How many octets the book places, where it may be asked.
+fn placed_by(case: &mut Case<'_>, book: &mut ReassemblyBook, call: &ReassemblyCall) -> u64 {
+    if !may_ask(call) {
         case.refuse();
         return 0;
     }
-    match book.apply(&call) {
-        Ok(ReassemblyReply::Placed(count)) => count,
-        Ok(_) => 0,
+    match book.apply(call) {
+        Ok(reply) => count_placed(&reply),
+        Err(_) => {
+            case.fail();
+            0
+        }
+    }
+}
+
+/// How many of so many made octets from a place on are placed.
+fn placed(case: &mut Case<'_>, book: &mut ReassemblyBook, at: u64, count: u64) -> u64 {
+    match made(case.alloc, at, count) {
+        Ok(bytes) => placed_by(case, book, &ReassemblyCall::Place { at, bytes }),
         Err(_) => {
             case.fail();
             0

@@ -26,6 +26,29 @@ fn may_ask(call: &SendCall) -> bool
     }
 }
 
+/// How many bytes a reply grants.
+fn granted(reply: &SendReply) -> u64 {
+    match reply {
+        SendReply::Granted { span, .. } => span.to.saturating_sub(span.from),
+        _ => 0,
+    }
+}
+
+/// How many bytes the book grants, where it may be asked.
+fn granted_by(case: &mut Case<'_>, book: &mut SendBook, call: &SendCall) -> u64 {
+    if !may_ask(call) {
+        case.refuse();
+        return 0;
+    }
+    match book.apply(call) {
+        Ok(reply) => granted(&reply),
+        Err(_) => {
+            case.fail();
+            0
+        }
+    }
+}
+
 /// How many bytes the next path is given, 0 where there is none for it.
 fn given(case: &mut Case<'_>, book: &mut SendBook, max: u32) -> u64 {
     let call = SendCall::Grant {
@@ -33,18 +56,7 @@ fn given(case: &mut Case<'_>, book: &mut SendBook, max: u32) -> u64 {
         max,
         standby: false,
     };
-    if !may_ask(&call) {
-        case.refuse();
-        return 0;
-    }
-    match book.apply(&call) {
-        Ok(SendReply::Granted { span, .. }) => span.to.saturating_sub(span.from),
-        Ok(_) => 0,
-        Err(_) => {
-            case.fail();
-            0
-        }
-    }
+    granted_by(case, book, &call)
 }
 
 /// How many bytes the paths are given when each is asked once.
@@ -73,6 +85,14 @@ fn turns(case: &mut Case<'_>, book: &mut SendBook) {
     case.say(&all);
 }
 
+/// How many bytes a reply says that were taken.
+fn taken(reply: &SendReply) -> u64 {
+    match reply {
+        SendReply::Taken(count) => *count,
+        _ => 0,
+    }
+}
+
 /// Puts the book's reply to a call, to which so many octets were written.
 pub fn ask(case: &mut Case<'_>, book: &mut SendBook, written: &mut u64, name: &str) {
     let call = match name {
@@ -87,9 +107,7 @@ pub fn ask(case: &mut Case<'_>, book: &mut SendBook, written: &mut u64, name: &s
     }
     match book.apply(&call) {
         Ok(reply) => {
-            if let SendReply::Taken(count) = reply {
-                *written = written.saturating_add(count);
-            }
+            *written = written.saturating_add(taken(&reply));
             put_reply(case, Ask::Send(Side::A, call), Reply::Send(reply));
         }
         Err(_) => case.fail(),

@@ -158,6 +158,23 @@ fn rows_of(case: &mut Case<'_>) -> Rows {
     rows
 }
 
+/// A reply that says nothing but its name.
+fn named_reply(case: &mut Case<'_>, name: &str) -> ControlReply {
+    match name {
+        "noted" => ControlReply::Noted,
+        "notyet" => ControlReply::NotYet,
+        "notconfirmed" => ControlReply::NotConfirmed,
+        "echo" => ControlReply::Echo,
+        "badhmac" => ControlReply::BadHmac,
+        "known" => ControlReply::Known,
+        "stopped" => ControlReply::Stopped,
+        _ => {
+            case.refuse();
+            ControlReply::Noted
+        }
+    }
+}
+
 pub fn control_reply(case: &mut Case<'_>) -> ControlReply {
     match case.word() {
         "standing" => ControlReply::Standing {
@@ -166,27 +183,17 @@ pub fn control_reply(case: &mut Case<'_>) -> ControlReply {
             sole: case.truth(),
             notice: notice_of(case),
         },
-        "noted" => ControlReply::Noted,
         "keysdiffer" => ControlReply::KeysDiffer { own: case.number() },
         "verdict" => ControlReply::Verdict(verdict_of(case)),
         "begin" => ControlReply::Begin {
             own: case.number(),
             peer: case.number(),
         },
-        "notyet" => ControlReply::NotYet,
         "never" => ControlReply::Never(mode_of(case)),
         "unknowntoken" => ControlReply::UnknownToken { own: case.number() },
-        "notconfirmed" => ControlReply::NotConfirmed,
         "fallen" => ControlReply::Fallen(mode_of(case)),
         "rows" => ControlReply::Rows(rows_of(case)),
-        "echo" => ControlReply::Echo,
-        "badhmac" => ControlReply::BadHmac,
-        "known" => ControlReply::Known,
-        "stopped" => ControlReply::Stopped,
         "otherkey" => ControlReply::OtherKey { own: case.number() },
-        _ => {
-            case.refuse();
-            ControlReply::Noted
-        }
+        name => named_reply(case, name),
     }
 }
