@@ -15,7 +15,7 @@ use octet_text::Text;
 use ruled_desk::round_at_tables;
 use send_book::{SendBook, SendCall, SendReply};
 use stamped_book::{Book, Pass, Refusal, Stamped};
-use std::alloc::AllocError;
+use std::alloc::{AllocError, Global};
 use std::sync::Wait;
 use std::thread::Threads;
 use world_core::World;
@@ -195,19 +195,33 @@ fn reply_word(reply: &SendReply) -> &'static str {
     }
 }
 
-/// Puts how many octets are written, and whether more may be.
-fn put_written(case: &mut Case<'_>, book: &SendBook) {
+/// How many octets are written, where the book says so of an acknowledgement beyond them.
+fn written_in(book: &SendBook) -> Option<u64> {
     let past = SendCall::AckIn {
         next: 1 << 62,
         window: 0,
     };
+    match book.answer(&past) {
+        Ok(SendReply::AckFuture { written }) => Some(written),
+        _ => None,
+    }
+}
+
+/// Whether the book takes a write.
+fn is_open(alloc: Global, book: &SendBook) -> bool {
+    let nothing = SendCall::Write {
+        bytes: Text::new(alloc),
+    };
+    matches!(book.answer(&nothing), Ok(SendReply::Taken(_)))
+}
+
+/// Puts how many octets are written, and whether more may be.
+fn put_written(case: &mut Case<'_>, book: &SendBook) {
     case.put("\n    written ");
-    if let Ok(SendReply::AckFuture { written }) = book.answer(&past) {
+    if let Some(written) = written_in(book) {
         case.say(&written);
     }
-    let nothing = SendCall::Write {
-        bytes: Text::new(case.alloc),
-    };
     case.put(", open ");
-    case.say(&matches!(book.answer(&nothing), Ok(SendReply::Taken(_))));
+    let open = is_open(case.alloc, book);
+    case.say(&open);
 }

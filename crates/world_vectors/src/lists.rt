@@ -5,9 +5,16 @@
 //! the log holds.
 
 use case_fields::{Case, CaseFault, failing, files_of, words_of};
-use connection_table::run_many;
+use connection_table::{Many, run_many};
 use outside_kit::{MemoryOutside, Port};
 use std::alloc::{AllocError, Global};
+
+/// What is shown of how a run ended, and of the log then.
+fn shown(alloc: Global, many: &Many, log: &[u8]) -> Result<String, AllocError> {
+    let said = many.fault_text(alloc)?;
+    let log = String::from_utf8_lossy(alloc, log)?;
+    format!(in alloc; "{many:?} {} {said}\n{log}", many.code())
+}
 
 /// How a run ends, and what the log holds then.
 fn ended(
@@ -16,13 +23,21 @@ fn ended(
     mut outside: MemoryOutside,
 ) -> Result<String, AllocError> {
     let many = run_many(alloc, words, &mut outside);
-    let said = many.fault_text(alloc)?;
-    let log = String::from_utf8_lossy(alloc, outside.port(Port::Log))?;
-    format!(in alloc; "{many:?} {} {said}\n{log}", many.code())
+    shown(alloc, &many, outside.port(Port::Log))
+}
+
+/// Puts the answer to a line, whose fields the case has.
+pub fn list<'a>(case: &mut Case<'a>, line: &'a str) {
+    case.put(line);
+    case.put("\n  ");
+    let fields = case.rest();
+    case.read(fields, " | ");
+    let told = list_run(case);
+    case.put_told(told);
 }
 
 /// What is shown of the run that the fields of a case tell.
-pub fn list_run(case: &mut Case<'_>) -> Result<String, CaseFault> {
+fn list_run(case: &mut Case<'_>) -> Result<String, CaseFault> {
     let alloc = case.alloc;
     let words = words_of(alloc, case.word())?;
     let failing = failing(alloc, case.word())?;

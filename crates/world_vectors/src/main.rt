@@ -28,7 +28,7 @@ use actor_turn::OpenGate;
 use at_tables::at_tables;
 use case_fields::{Case, CaseFault, Recorder, Task, put_report};
 use enough::enough;
-use lists::list_run;
+use lists::list;
 use meeting::meeting;
 use mptcp_run::{Status, run, run_messages};
 use opening::first_round;
@@ -62,18 +62,42 @@ fn put_run<R: Threads + Wait + Sync>(
     task: &Task<'_>,
     log: &mut Vec<u8>,
 ) {
+    match task.words(case.alloc) {
+        Ok(words) => put_run_of(rt, case, task, words.as_slice(), log),
+        Err(_) => case.fail(),
+    }
+}
+
+/// Puts how the run of these words ends.
+fn put_run_of<R: Threads + Wait + Sync>(
+    rt: &R,
+    case: &mut Case<'_>,
+    task: &Task<'_>,
+    words: &[String],
+    log: &mut Vec<u8>,
+) {
     let alloc = case.alloc;
-    let Ok(words) = task.words(alloc) else {
-        return case.fail();
-    };
-    let Ok(outside) = task.outside(alloc, log.as_slice()) else {
-        return case.refuse();
-    };
-    let outside = Recorder::new(alloc, outside);
-    let (status, outside) = ended(rt, alloc, task, words.as_slice(), outside);
+    match task.outside(alloc, log.as_slice()) {
+        Ok(outside) => {
+            let outside = Recorder::new(alloc, outside);
+            let (status, outside) = ended(rt, alloc, task, words, outside);
+            put_ended(case, task, &status, &outside, log);
+        }
+        Err(_) => case.refuse(),
+    }
+}
+
+/// Puts how a run ended, and what is shown of the outside then.
+fn put_ended(
+    case: &mut Case<'_>,
+    task: &Task<'_>,
+    status: &Status,
+    outside: &Recorder,
+    log: &mut Vec<u8>,
+) {
     case.put("\n  ");
-    case.tell(&status);
-    put_report(case, task.shown, &outside);
+    case.tell(status);
+    put_report(case, task.shown, outside);
     if task.is_serial() {
         keep_log(case, log, outside.port(Port::Log));
     }
@@ -101,14 +125,7 @@ fn put_answer<'a, R: Threads + Wait + Sync>(
         "table" => table(case, line),
         "tables" => at_tables(rt, case, line),
         "meet" => meeting(rt, case, line),
-        "many" => {
-            case.put(line);
-            case.put("\n  ");
-            let fields = case.rest();
-            case.read(fields, " | ");
-            let told = list_run(case);
-            case.put_told(told);
-        }
+        "many" => list(case, line),
         name => put_other(rt, case, name, line, log),
     }
 }
@@ -145,15 +162,20 @@ fn answer<R: Threads + Wait + Sync>(
     case.end()
 }
 
+/// Prints the answer to a line of standard input.
+fn print_answer(rt: &HostRuntime, line: &str, log: &mut Vec<u8>) -> io::Result<()> {
+    match answer(rt, rt.alloc(), line, log) {
+        Ok(text) => println!(rt; "{text}"),
+        Err(CaseFault::Form) => println!(rt; "not a case: {line}"),
+        Err(CaseFault::Memory) => Err(AllocError.into()),
+    }
+}
+
 fn main(rt: HostRuntime) -> io::Result<()> {
     let mut log = Vec::new(rt.alloc());
     for line in rt.lines(rt.alloc()) {
         let line = line?;
-        match answer(&rt, rt.alloc(), line.as_str(), &mut log) {
-            Ok(text) => println!(rt; "{text}")?,
-            Err(CaseFault::Form) => println!(rt; "not a case: {line}")?,
-            Err(CaseFault::Memory) => return Err(AllocError.into()),
-        }
+        print_answer(&rt, line.as_str(), &mut log)?;
     }
     Ok(())
 }

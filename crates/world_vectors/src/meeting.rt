@@ -46,15 +46,26 @@ fn put_met<R: Threads + Wait + Sync>(
     task: &Task<'_>,
     gate: &CountingGate,
 ) {
+    match task.words(case.alloc) {
+        Ok(words) => put_met_by(rt, case, task, words.as_slice(), gate),
+        Err(_) => case.fail(),
+    }
+}
+
+/// Puts what is printed of the run of these words.
+fn put_met_by<R: Threads + Wait + Sync>(
+    rt: &R,
+    case: &mut Case<'_>,
+    task: &Task<'_>,
+    words: &[String],
+    gate: &CountingGate,
+) {
     let alloc = case.alloc;
-    let Ok(words) = task.words(alloc) else {
-        return case.fail();
-    };
     let Ok(outside) = task.outside(alloc, &[]) else {
         return case.refuse();
     };
     let outside = Recorder::new(alloc, outside);
-    let (status, outside) = run_at(rt, alloc, words.as_slice(), outside, gate);
+    let (status, outside) = run_at(rt, alloc, words, outside, gate);
     case.put("\n  ");
     case.tell(&status);
     put_report(case, task.shown, &outside);

@@ -82,27 +82,36 @@ fn injected_of<'a>(case: &mut Case<'a>) -> Injected<'a> {
     }
 }
 
+/// What a case tells behind its script and its files, of which this is A's.
+fn told_of<'a>(case: &mut Case<'a>, file_a: &str) -> Told<'a> {
+    Told {
+        rounds: case.number(),
+        has_a: file_a != "none",
+        shown: shown_of(case),
+        injected: injected_of(case),
+    }
+}
+
 /// Puts the answer to a line, whose fields the case has.
 pub fn path(case: &mut Case<'_>, line: &str) {
     let fields = case.rest();
     case.read(fields, " | ");
     let (script, file_a, file_b) = (case.word(), case.word(), case.word());
-    let told = Told {
-        rounds: case.number(),
-        has_a: file_a != "none",
-        shown: shown_of(case),
-        injected: injected_of(case),
-    };
-    let file_a = if told.has_a { file_a } else { "-" };
-    if case.is_refused() {
-        return;
+    let told = told_of(case, file_a);
+    if !case.is_refused() {
+        case.put(line);
+        put_path(case, &told, script, file_a, file_b);
     }
-    case.put(line);
+}
+
+/// Puts what is shown of the run of this script and of these files.
+fn put_path(case: &mut Case<'_>, told: &Told<'_>, script: &str, file_a: &str, file_b: &str) {
     if !matches!(told.shown, Shown::Sums) {
         case.put("\n");
     }
+    let file_a = if told.has_a { file_a } else { "-" };
     match input_told(case.alloc, script, file_a, file_b) {
-        Ok(input) => put_run(case, &told, &input),
+        Ok(input) => put_run(case, told, &input),
         Err(CaseFault::Form) => case.refuse(),
         Err(CaseFault::Memory) => case.fail(),
     }

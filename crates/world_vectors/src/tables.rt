@@ -139,6 +139,11 @@ fn put_join(case: &mut Case<'_>, table: &ConnectionTable, connection: u8, actor:
     }
 }
 
+/// Whether a step was made.
+fn is_made(stepped: &Stepped) -> bool {
+    matches!(stepped, Stepped::Made(_))
+}
+
 /// Makes a step, and answers whether the turn hadn't ended.
 fn step(case: &mut Case<'_>, table: &mut ConnectionTable, connection: u8, actor: u8) -> bool {
     if connection >= table.len() {
@@ -146,8 +151,7 @@ fn step(case: &mut Case<'_>, table: &mut ConnectionTable, connection: u8, actor:
         return false;
     }
     match table.step(connection, actor) {
-        Ok(Stepped::Made(_)) => true,
-        Ok(Stepped::Ended) => false,
+        Ok(stepped) => is_made(&stepped),
         Err(_) => {
             case.fail();
             false
