@@ -181,7 +181,7 @@ cleared_copy keys EndsSubflow x none f = record {
   maps = f.maps;
 }
 
--- The same where the DSS changes nothing: the side may use it already.
+-- A copy is treated so also where its DSS changes nothing: the side may use it already.
 begun_copy : (q : Side) (keys : Keys) (k : Brings) (x : Bench) → shows_keys k ≡ false → 1 ≤ x.out.clear → TreatsCopy q keys AtFirst (is_third k) k x
     → TreatsCopy q keys AfterOne (shows_keys k) k x
 begun_copy q keys k x none clear f = record {

@@ -1,7 +1,7 @@
 //! The control book of one side of a connection: its keys, how it stands to Multipath TCP, which of its paths live, the
 //! addresses, and what is still to be told on which path (RFC 8684, sections 3.1, 3.2, 3.4, 3.5 and 3.7).
 //!
-//! It is asked by calls, one at a time, and answers each. `specs/Replies` has one definition for each answer, and
+//! A book is asked by calls, one at a time, and answers each. `specs/Replies` has one definition for each answer, and
 //! `specs/Steps` one for each change.
 #![tactic(auto)]
 

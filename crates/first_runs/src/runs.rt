@@ -116,7 +116,7 @@ impl FirstRuns {
         Ok(())
     }
 
-    // The same from a place of the run on, up to the end of the first gap. Answers the place behind it.
+    // Gives places from one of the run on their images, up to the end of the first gap. Answers the place behind it.
     fn fill_gap(&mut self, run: &Run, place: u64) -> Result<u64, AllocError>
         requires begun { run.now.from ≤ place }
         requires within { place < run.now.to }

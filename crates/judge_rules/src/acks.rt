@@ -43,7 +43,7 @@ pub fn ack_place(facts: &AckFacts, number: &DataNumber) -> Result<u64, Finding>
     }
 }
 
-// The same of a place.
+// Judges the place that an acknowledgement means.
 fn judged_ack(facts: &AckFacts, place: u64) -> Result<u64, Finding>
     requires { facts.now.whole < 2 ^ 63 }
     ensures { result ≡ judged_ack facts.now place }

@@ -151,7 +151,7 @@ pub enum Finding {
 /// What a rule says of an option.
 #[derive(Clone, Copy)]
 pub enum Verdict {
-    /// It is none that the rule is on, or not enough is known.
+    /// The rule isn't on this option, or not enough is known.
     PassedOver,
     Kept,
     Broke { finding: Finding },

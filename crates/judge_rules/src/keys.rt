@@ -145,7 +145,7 @@ pub fn judge_address(mine: u64, peers: u64, option: &MpOption<'_>) -> Verdict
     }
 }
 
-// The same of the fields of an ADD_ADDR.
+// Judges the fields of an ADD_ADDR.
 fn judge_announced(
     mine: u64,
     peers: u64,

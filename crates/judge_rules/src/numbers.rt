@@ -37,7 +37,7 @@ pub fn place_near(first: u64, expected: u64, number: &DataNumber) -> Option<u64>
     }
 }
 
-// The same of the low half of a number, where this is the low half of the first one.
+// The place nearest an expected one that the low half of a data number means, where place 0 has the low half `first`.
 fn low_place(first: u32, expected: u64, number: u32) -> Option<u64>
     requires { expected < 2 ^ 63 }
     ensures { result ≡ low_place first expected number }

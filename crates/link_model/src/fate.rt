@@ -15,7 +15,7 @@ pub enum Fate {
     OnTime,
     /// The segment doesn't arrive.
     Lost,
-    /// It doesn't: the queue of its direction is full.
+    /// The segment doesn't arrive: the queue of its direction is full.
     Full,
     /// Once, so many ticks later.
     Late {

@@ -178,7 +178,7 @@ pub fn is_full(rate: Option<Rate>, now: u64, octets: u64, waiting: Waiting) -> b
     }
 }
 
-/// So many octets wait behind the others.
+/// What waits once further octets wait behind the others.
 pub fn queued(rate: Option<Rate>, now: u64, octets: u64, waiting: Waiting) -> Waiting
     requires left { waiting.left ≤ 1000000 }
     requires octets { octets < 2 ^ 64 - 2 ^ 20 }

@@ -68,7 +68,7 @@ pub struct Direction {
 /// What a direction of a link does to every segment that it takes.
 #[derive(Clone, Copy)]
 pub enum Impairment {
-    /// It hands on so many octets a tick, and no more than `queue` octets wait for that: a segment for which there is no
+    /// A rate hands on so many octets a tick, and no more than `queue` octets wait for that: a segment for which there is no
     /// room is lost.
     Rate { octets: u32, queue: u32 },
     /// Of a million segments it loses so many, drawn by the seed.

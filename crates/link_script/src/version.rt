@@ -11,7 +11,7 @@ use crate::word::Keyword;
 #[derive(Clone, Copy, PartialEq, Eq)]
 pub enum Version {
     First,
-    /// It has lines on rates, random loss and jitter.
+    /// With lines on rates, random loss and jitter.
     Second,
 }
 

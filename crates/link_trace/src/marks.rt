@@ -16,7 +16,7 @@ pub struct Scale {
     pub floor: u32,
 }
 
-/// So much of a length as a part is of a whole.
+/// The share of a length that a part is of a whole.
 fn part_of(length: u64, part: u64, whole: u64) -> u64
     ensures { result ≡ part_of length part whole }
 {

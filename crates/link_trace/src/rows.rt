@@ -312,7 +312,7 @@ pub fn rows_of(alloc: Global, rates: &[Rates], carried: &[Carried]) -> Result<Ve
     Ok(rows)
 }
 
-/// So many octets where the row is of this direction.
+/// The octets where the row is of this direction, and none otherwise.
 fn if_from(side: Side, row: &Row, octets: u64) -> u64
     ensures { result ≡ if_from side row.now octets }
 {

@@ -76,7 +76,7 @@ impl Error for PutFault {}
 
 /// Named contents to read, and three ports to write.
 ///
-/// It counts its faults: those of loads, and for each port those of its binds and puts. A count never falls, and
+/// An outside counts its faults: those of loads, and for each port those of its binds and puts. A count never falls, and
 /// one that has reached 2^64 - 1 stays there.
 pub trait Outside {
     /// What it tells of its contents, its ports, its faults and the calls on it.

@@ -107,7 +107,7 @@ fn judge_form<'a>(
     }
 }
 
-// The same of an open flow, by all rules but `form`.
+// Judges a packet of an open flow, by all rules but `form`.
 fn judge_opened<'a>(
     alloc: Global,
     book: &mut Book<'a>,
@@ -183,7 +183,7 @@ fn judge_positions<'a>(
     judge_from(alloc, book, lanes, judging, keyed, position)
 }
 
-// The same from a position on.
+// Judges a packet whose payload begins at a position of its flow.
 fn judge_from<'a>(
     alloc: Global,
     book: &mut Book<'a>,

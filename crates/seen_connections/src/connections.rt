@@ -461,7 +461,7 @@ fn wrong_token(connections: &[Keys], packet: u32, join: &JoinAnswer) -> Option<W
     None
 }
 
-// The same by one connection.
+// The wrong token of a join, if the keys of one connection make the HMAC of its SYN/ACK.
 fn wrong_token_by(
     connection: usize,
     keys: &Keys,
@@ -476,7 +476,7 @@ fn wrong_token_by(
     }
 }
 
-// The same by both keys: B as the receiver is tried before A.
+// The wrong token of a join by both keys of a connection: B as the receiver is tried before A.
 fn wrong_token_with(
     connection: usize,
     a: u64,

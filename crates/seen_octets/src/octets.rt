@@ -58,7 +58,7 @@ impl SeenOctets {
         self.add(from, part, teller)
     }
 
-    // The same, also where all have one.
+    // Fills the places that have no octet, whether there are any or not.
     fn add(&mut self, from: u64, part: &[u8], teller: u32) -> Result<(), AllocError>
         requires { from + length part.now < 2 ^ 64 }
         ensures { OnOk result ((p : ℕ) → octet_at self.new p ≡ option_or (octet_at self.old p)

@@ -74,7 +74,7 @@ abbrev pub content_fault : ℕ → (ℕ → Option Octet) → ℕ → List ℕ �
 content_fault acknowledged octet place part =
     other_octet (first_other octet (max place acknowledged) (drop (acknowledged - place) part))
 
--- So many places from one on are seen, and these octets come to the first of them.
+-- A count of places from one on is seen, and the octets come to the first of them.
 abbrev pub shown : ℕ → ℕ → ℕ → ℕ → List ℕ → StreamValue → StreamValue
 shown acknowledged packet place count part stream =
     record stream {

@@ -92,7 +92,7 @@ fn show_earlier(
     Ok(())
 }
 
-// The same as far as positions are alike. Answers the one behind them.
+// Shows the octets of positions from one on, as far as all are mapped, seen and placed alike. Answers the position behind them.
 fn show_next(
     stream: &mut Stream<'_>,
     lane: &Lane,
@@ -121,7 +121,7 @@ fn show_next(
     show_seen(stream, lane, shower, from, seen.end)
 }
 
-// The same of positions that were seen and come to their places.
+// Shows the octets of positions that were seen and are mapped, as far as their places follow one another.
 fn show_seen(
     stream: &mut Stream<'_>,
     lane: &Lane,
@@ -190,7 +190,7 @@ fn show_payload(
     Ok(())
 }
 
-// The same from a position of the payload on, as far as places follow one another. Answers the one behind them.
+// Shows the octets of a payload from a position on, as far as places follow one another. Answers the position behind them.
 fn show_part(
     stream: &mut Stream<'_>,
     lane: &Lane,

@@ -105,7 +105,7 @@ fn unmapped_from(lane: &Lane, from: u64, to: u64) -> Unmapped
     }
 }
 
-// So many, if they were seen and have no place.
+// The number of octets if they were seen and have no place, and none otherwise.
 fn count_if(seen: bool, place: Option<u64>, count: u64) -> u64
     ensures value { result ≡ (if seen && is_none place then count else 0) }
     ensures few { result ≤ count }

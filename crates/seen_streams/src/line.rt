@@ -34,7 +34,7 @@ pub(crate) fn learn_infinite(
     }
 }
 
-// The same where it has a place.
+// Learns an infinite mapping whose first octet has a place.
 fn learn_line(
     stream: &mut Stream<'_>,
     lane: &mut Lane,

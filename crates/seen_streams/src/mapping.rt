@@ -38,7 +38,7 @@ pub(crate) fn learn_finite(
     }
 }
 
-// The same where it has a place.
+// Learns a mapping of finite length whose first octet has a place.
 fn learn_placed(
     stream: &mut Stream<'_>,
     lane: &mut Lane,
@@ -122,7 +122,7 @@ fn by_rule(rule: Rule, finding: Option<Finding>) -> Option<Broke>
     finding.map(|finding| Broke { rule, finding })
 }
 
-// The same of its octets.
+// What the octets of a mapping break.
 fn octets_fault(
     stream: &Stream<'_>,
     lane: &Lane,
@@ -156,7 +156,7 @@ fn octets_fault(
     )
 }
 
-// The same from a position on.
+// What the octets of a mapping from a position on break.
 fn placed_fault(
     stream: &Stream<'_>,
     lane: &Lane,

@@ -36,7 +36,7 @@ pub(crate) fn places_from(lane: &Lane, from: u64, to: u64) -> PlacedStretch
     }
 }
 
-// The same by an infinite mapping alone.
+// The place of a position by the infinite mapping alone, and where that stretch ends.
 #[tactic(auto, using(crate::proofs::Lines::placed_on, crate::proofs::Lines::placed_before))]
 fn line_from(line: Option<Line>, from: u64, to: u64) -> PlacedStretch
     requires some { from < to }

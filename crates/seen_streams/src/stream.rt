@@ -105,7 +105,7 @@ impl<'a> Stream<'a> {
         )
     }
 
-    /// The same of what was found.
+    /// Tells that a packet broke a rule, by what was found.
     pub fn find(&mut self, rule: Rule, packet: u32, finding: Finding) -> Result<(), AllocError>
         ensures { OnOk result (stream_of self.new ≡ tell rule packet (Found finding)
             (stream_of self.old)) }

@@ -42,7 +42,7 @@ fn add_sum(lane: &mut Lane, packet: u32, mapping: &ToldMapping) -> Result<(), Al
     }
 }
 
-// The same of one with a checksum.
+// Adds the sum of a mapping with a checksum, where none of its positions is summed yet.
 #[tactic(auto, using(crate::proofs::Summing::sum_added, crate::proofs::Summing::sum_stays))]
 fn add_once(lane: &mut Lane, packet: u32, mapping: &ToldMapping) -> Result<(), AllocError>
     ensures { OnOk result (lane_of lane.new ≡ with_sum packet mapping.now (lane_of lane.old)) }

@@ -88,9 +88,9 @@ pub fn timers_run_on()
 /// A law: where a timer runs out, the first record that isn't acknowledged is sent again, and the timer runs anew (RFC 6298, section 5,
 /// rules 5.4 to 5.6).
 ///
-/// It runs twice as long as before, and for a minute at most. The end sends the record before anything else, once the bytes that its path
-/// was granted are given back, and the link takes the segment as it takes any: with the record's position, flags and octets. The sixth
-/// expiry without an acceptable segment in between ends the end. Where no record is left, an acknowledgement goes in its place.
+/// The timer runs twice as long as before, and for a minute at most. The end sends the record before anything else, once the bytes that
+/// its path was granted are given back, and the link takes the segment as it takes any: with the record's position, flags and octets. The
+/// sixth expiry without an acceptable segment in between ends the end. Where no record is left, an acknowledgement goes in its place.
 pub fn what_runs_out_goes_again()
     ensures octets { WhatRunsOutGoesAgain octets }
     ensures values { WhatRunsOutGoesAgain values }

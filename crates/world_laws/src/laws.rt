@@ -108,7 +108,7 @@ pub fn each_round_has_a_step()
 /// A law: the steps of a round, put in order by stamp, then actor, are lawful, and make of the world at the round's beginning
 /// what they made before: the same actors and books, with the same lists and journals. It takes what each actor and each book
 /// did, lists and journals being paired, whoever ordered them; so it speaks of threads, too.
-/// So do whole serial rounds from the opening on, each put in that order and ended.
+/// Whole serial rounds from the opening on do the same, each put in that order and ended.
 pub fn woven_rounds_do_the_same()
     ensures octets { WovenDoes octets }
     ensures values { WovenDoes values }

@@ -175,7 +175,7 @@ impl Peer {
         }
     }
 
-    /// So many octets are to be sent, and when the side closes then.
+    /// Sets how many octets are to be sent, and when the side closes then.
     pub fn is_to_send(&mut self, octets: u32, closes: Closes) {
         self.left = octets;
         self.closes = closes;
