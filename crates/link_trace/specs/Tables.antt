@@ -97,10 +97,14 @@ all_place side direction =
 abbrev pub all_measures : ℕ → ℕ → List ℕ
 all_measures ticks fresh = (no_column ++ (no_column ++ no_column)) ++ (goodput_column (goodput fresh ticks) ++ 10 ∷ [])
 
+-- all rows of a direction together, which count so much
+abbrev pub all_words_of : Side → ℕ → List Carried → Counts → List ℕ
+all_words_of side ticks direction totals =
+    all_place side direction ++ (counts_columns totals ++ all_measures ticks totals.fresh)
+
 -- all rows of a direction together
 abbrev pub all_words : Side → ℕ → List Carried → List Row → List ℕ
-all_words side ticks direction rows =
-    all_place side direction ++ (counts_columns (totals_of side rows) ++ all_measures ticks (totals_of side rows).fresh)
+all_words side ticks direction rows = all_words_of side ticks direction (totals_of side rows)
 
 abbrev pub total_words : ℕ → List Carried → List Row → List ℕ
 total_words ticks cs rows =

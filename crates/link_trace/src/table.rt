@@ -3,7 +3,7 @@
 ghost use Rattle.std.specs.Prelude.{◌≡◌, ◌++◌, ◌∷◌, [], IfOk, OnOk, string_bytes};
 ghost use Rattle.std.specs.List.{flat_map};
 ghost use Rattle.link_trace.specs.Rows.{rows_of};
-ghost use Rattle.link_trace.specs.Tables.{aligned, all_measures, all_place, all_words, column, counts_columns, counts_of, first_columns, goodput_column, head_words, lost_columns, measures_columns, optional_column, place_columns, rate_columns, row_words, summary_of, table_words, total_words, totals_of, way_column};
+ghost use Rattle.link_trace.specs.Tables.{aligned, all_measures, all_place, all_words, all_words_of, column, counts_columns, counts_of, first_columns, goodput_column, head_words, lost_columns, measures_columns, optional_column, place_columns, rate_columns, row_words, summary_of, table_words, total_words, totals_of, way_column};
 
 use crate::carried::Carried;
 use crate::rows::{
@@ -195,6 +195,22 @@ fn put_all_measures(text: &mut String, ticks: u64, fresh: u64) -> Result<(), All
     writeln!(text)
 }
 
+/// The row of all paths of a direction, whose segments come to these totals, in a run of so many ticks.
+fn put_all_of(
+    text: &mut String,
+    side: Side,
+    ticks: u64,
+    direction: &[Carried],
+    totals: &Counts,
+) -> Result<(), AllocError>
+    ensures { OnOk result (string_bytes text.new ≡
+        string_bytes text.old ++ all_words_of side ticks direction.now totals.now) }
+{
+    put_all_place(text, side, direction)?;
+    put_counts(text, totals)?;
+    put_all_measures(text, ticks, totals.fresh)
+}
+
 /// The row of all paths of a direction, in a run of so many ticks.
 fn put_all(
     text: &mut String,
@@ -207,9 +223,7 @@ fn put_all(
         string_bytes text.old ++ all_words side ticks direction.now rows.now) }
 {
     let totals = totals_of(side, rows);
-    put_all_place(text, side, direction)?;
-    put_counts(text, &totals)?;
-    put_all_measures(text, ticks, totals.fresh)
+    put_all_of(text, side, ticks, direction, &totals)
 }
 
 fn put_totals(
