@@ -163,8 +163,12 @@ fn answer<R: Threads + Wait + Sync>(
 }
 
 /// Prints the answer to a line of standard input.
-fn print_answer(rt: &HostRuntime, line: &str, log: &mut Vec<u8>) -> io::Result<()> {
-    match answer(rt, rt.alloc(), line, log) {
+fn print_answer(
+    rt: &HostRuntime,
+    line: &str,
+    answered: Result<String, CaseFault>,
+) -> io::Result<()> {
+    match answered {
         Ok(text) => println!(rt; "{text}"),
         Err(CaseFault::Form) => println!(rt; "not a case: {line}"),
         Err(CaseFault::Memory) => Err(AllocError.into()),
@@ -175,7 +179,8 @@ fn main(rt: HostRuntime) -> io::Result<()> {
     let mut log = Vec::new(rt.alloc());
     for line in rt.lines(rt.alloc()) {
         let line = line?;
-        print_answer(&rt, line.as_str(), &mut log)?;
+        let answered = answer(&rt, rt.alloc(), line.as_str(), &mut log);
+        print_answer(&rt, line.as_str(), answered)?;
     }
     Ok(())
 }
