@@ -25,6 +25,17 @@ ends() {
     check "$name: status $got, $(cat said)" test "$got" = "$status" -a "$(cat said)" = "${line:+$said_by: $line}"
 }
 
+# with_reason NAME STATUS LINE FILE COMMAND..: whether the command ends with the status and this line, and tells on a second line the file's
+# name and a reason of the system. Its standard output is left in the file `output`.
+with_reason() {
+    local name=$1 status=$2 line=$3 file=$4 got
+    shift 4
+    "$@" >output 2>said
+    got=$?
+    check "$name: status $got, $(cat said)" test "$got" = "$status" -a "$(head -n 1 said)" = "$said_by: $line" -a "$(wc -l <said)" = 2
+    check "$name: why" grep -q "^$said_by: $file: [A-Z].* (os error [0-9]*)$" said
+}
+
 # The last line, and the status of the script.
 counted() {
     echo "checks/${0##*/}: $passed passed, $failed failed"

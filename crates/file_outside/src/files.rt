@@ -9,12 +9,29 @@ use std::fs;
 use std::io::{self, Read, Write};
 use std::rt::Files;
 
+/// What the system refused.
+#[derive(Drop)]
+pub struct SystemFault {
+    /// The file's name, or `standard output`.
+    pub name: String,
+    /// Why it was refused.
+    pub reason: io::Error,
+}
+
+/// The file of a port.
+#[derive(Drop)]
+struct PortFile<F> {
+    name: String,
+    file: F,
+}
+
 /// Files and standard output. It tells contracts nothing of what they hold, and counts its faults.
 #[derive(Drop)]
 pub struct FileOutside<'a, R: Files + Print + Alloc<A = Global>> {
     rt: &'a R,
-    read_by_a: Option<R::File>,
-    read_by_b: Option<R::File>,
+    read_by_a: Option<PortFile<R::File>>,
+    read_by_b: Option<PortFile<R::File>>,
+    fault: Option<SystemFault>,
     log_is_open: bool,
     load_faults: u64,
     read_by_a_faults: u64,
@@ -29,6 +46,7 @@ impl<'a, R: Files + Print + Alloc<A = Global>> FileOutside<'a, R> {
             rt,
             read_by_a: None,
             read_by_b: None,
+            fault: None,
             log_is_open,
             load_faults: 0,
             read_by_a_faults: 0,
@@ -36,6 +54,18 @@ impl<'a, R: Files + Print + Alloc<A = Global>> FileOutside<'a, R> {
             log_faults: 0,
         }
     }
+
+    /// What the system refused last, if it has refused anything and there was memory for the name. No clause says what it is: std tells
+    /// nothing of files.
+    pub fn into_fault(self) -> Option<SystemFault> {
+        self.fault
+    }
+}
+
+/// What the system refused at this name, where there is memory for it.
+fn fault_at(alloc: Global, name: &str, reason: io::Error) -> Option<SystemFault> {
+    let name = String::from_str(alloc, name).ok()?;
+    Some(SystemFault { name, reason })
 }
 
 /// At most `limit` octets of a file, and one more where it has more.
@@ -52,7 +82,7 @@ fn read_front<R: Files + Alloc<A = Global>>(
 }
 
 /// What an error of a bind or put is answered by, once the port's count has risen.
-fn fault_of(error: io::Error, count: &mut u64) -> PutFault
+fn fault_of(error: &io::Error, count: &mut u64) -> PutFault
     ensures { HasRisen count.old count.new }
 {
     *count = count.saturating_add(1);
@@ -71,48 +101,75 @@ fn closed(count: &mut u64) -> PutFault
 }
 
 /// Makes the file of a port anew.
-fn bind_file<R: Files>(
+fn bind_file<R: Files + Alloc<A = Global>>(
     rt: &R,
-    file: &mut Option<R::File>,
+    port: &mut Option<PortFile<R::File>>,
     count: &mut u64,
+    fault: &mut Option<SystemFault>,
     name: &str,
 ) -> Result<(), PutFault>
-    ensures bound { OnOk result (IsSome file.new) }
+    ensures bound { OnOk result (IsSome port.new) }
     ensures counted { count.old ≤ count.new }
     ensures failed { result ≡ Err PutFault.Failed → HasRisen count.old count.new }
 {
+    let Ok(kept) = String::from_str(rt.alloc(), name) else {
+        return Err(PutFault::Memory);
+    };
     match fs::create(rt, name) {
-        Ok(made) => {
-            *file = Some(made);
+        Ok(file) => {
+            *port = Some(PortFile { name: kept, file });
             Ok(())
         }
-        Err(error) => Err(fault_of(error, count)),
+        Err(reason) => {
+            let answer = fault_of(&reason, count);
+            *fault = Some(SystemFault { name: kept, reason });
+            Err(answer)
+        }
     }
 }
 
 /// Writes a piece at the end of a port's file. A port that isn't bound has none, and fails.
-fn put_file<F: Write>(file: &mut Option<F>, count: &mut u64, piece: &[u8]) -> Result<(), PutFault>
-    ensures bound { OnOk result (IsSome file.old) }
+fn put_file<F: Write>(
+    alloc: Global,
+    port: &mut Option<PortFile<F>>,
+    count: &mut u64,
+    fault: &mut Option<SystemFault>,
+    piece: &[u8],
+) -> Result<(), PutFault>
+    ensures bound { OnOk result (IsSome port.old) }
     ensures counted { count.old ≤ count.new }
     ensures failed { result ≡ Err PutFault.Failed → HasRisen count.old count.new }
 {
-    let Some(file) = file else {
+    let Some(PortFile { name, file }) = port else {
         return Err(closed(count));
     };
     match file.write_all(piece) {
         Ok(()) => Ok(()),
-        Err(error) => Err(fault_of(error, count)),
+        Err(reason) => {
+            let answer = fault_of(&reason, count);
+            *fault = fault_at(alloc, name, reason);
+            Err(answer)
+        }
     }
 }
 
 /// Writes a piece to standard output.
-fn put_log<R: Print>(rt: &R, count: &mut u64, piece: &[u8]) -> Result<(), PutFault>
+fn put_log<R: Print + Alloc<A = Global>>(
+    rt: &R,
+    count: &mut u64,
+    fault: &mut Option<SystemFault>,
+    piece: &[u8],
+) -> Result<(), PutFault>
     ensures counted { count.old ≤ count.new }
     ensures failed { result ≡ Err PutFault.Failed → HasRisen count.old count.new }
 {
     match io::writer(rt).write_all(piece) {
         Ok(()) => Ok(()),
-        Err(error) => Err(fault_of(error, count)),
+        Err(reason) => {
+            let answer = fault_of(&reason, count);
+            *fault = fault_at(rt.alloc(), "standard output", reason);
+            Err(answer)
+        }
     }
 }
 
@@ -135,7 +192,9 @@ impl<R: Files + Print + Alloc<A = Global>> Outside for FileOutside<'_, R> {
             Ok(_) => Err(LoadFault::TooLong),
             Err(error) => {
                 self.load_faults = self.load_faults.saturating_add(1);
-                match error.kind() {
+                let kind = error.kind();
+                self.fault = fault_at(self.rt.alloc(), name, error);
+                match kind {
                     io::ErrorKind::OutOfMemory => Err(LoadFault::Memory),
                     _ => Err(LoadFault::Failed),
                 }
@@ -149,12 +208,14 @@ impl<R: Files + Print + Alloc<A = Global>> Outside for FileOutside<'_, R> {
                 self.rt,
                 &mut self.read_by_a,
                 &mut self.read_by_a_faults,
+                &mut self.fault,
                 name,
             ),
             Port::ReadByB => bind_file(
                 self.rt,
                 &mut self.read_by_b,
                 &mut self.read_by_b_faults,
+                &mut self.fault,
                 name,
             ),
             // the log is always standard output
@@ -164,9 +225,23 @@ impl<R: Files + Print + Alloc<A = Global>> Outside for FileOutside<'_, R> {
 
     fn put(&mut self, port: Port, piece: &[u8]) -> Result<(), PutFault> {
         match port {
-            Port::ReadByA => put_file(&mut self.read_by_a, &mut self.read_by_a_faults, piece),
-            Port::ReadByB => put_file(&mut self.read_by_b, &mut self.read_by_b_faults, piece),
-            Port::Log if self.log_is_open => put_log(self.rt, &mut self.log_faults, piece),
+            Port::ReadByA => put_file(
+                self.rt.alloc(),
+                &mut self.read_by_a,
+                &mut self.read_by_a_faults,
+                &mut self.fault,
+                piece,
+            ),
+            Port::ReadByB => put_file(
+                self.rt.alloc(),
+                &mut self.read_by_b,
+                &mut self.read_by_b_faults,
+                &mut self.fault,
+                piece,
+            ),
+            Port::Log if self.log_is_open => {
+                put_log(self.rt, &mut self.log_faults, &mut self.fault, piece)
+            }
             Port::Log => Err(closed(&mut self.log_faults)),
         }
     }

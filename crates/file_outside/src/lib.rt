@@ -4,4 +4,4 @@
 
 mod files;
 
-pub use files::FileOutside;
+pub use files::{FileOutside, SystemFault};

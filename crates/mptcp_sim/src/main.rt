@@ -3,9 +3,14 @@
 //! to 64 connections that share one listener.
 #![tactic(auto)]
 
+mod helping;
+mod list_helping;
+
 use actor_turn::OpenGate;
 use connection_table::{Many, run_many};
-use file_outside::FileOutside;
+use file_outside::{FileOutside, SystemFault};
+use helping::put_help;
+use list_helping::put_help_of_many;
 use mptcp_run::{Status, fault_text, run, run_messages};
 use run_outside::command_words;
 use std::alloc::{AllocError, Global};
@@ -15,11 +20,16 @@ use std::process::ExitCode;
 use std::sync::Wait;
 use std::thread::Threads;
 
-/// How the program ends: its exit status, and the line for standard error, empty where nothing is said or there is no memory for it.
+/// How the program ends: its exit status, and what is told on standard error.
 #[derive(Drop)]
 struct End {
     code: u8,
+    /// The line of the fault, empty where nothing is said or there is no memory for it.
     line: String,
+    /// What helps with it, empty where nothing is known.
+    help: String,
+    /// What the system refused.
+    fault: Option<SystemFault>,
 }
 
 /// A line, or none where there is no memory for it.
@@ -30,19 +40,56 @@ fn said(alloc: Global, line: Result<String, AllocError>) -> String {
     }
 }
 
-/// The end of a run of one connection.
-fn end_of(alloc: Global, status: &Status) -> End {
-    End {
-        code: status.code(),
-        line: said(alloc, fault_text(alloc, status)),
+/// What was put to a text, or nothing where memory for it was wanting.
+fn help_put(alloc: Global, text: String, put: Result<(), AllocError>) -> String {
+    match put {
+        Ok(()) => text,
+        Err(_) => String::new(alloc),
     }
 }
 
-/// The end of a run of the connections of a list.
-fn end_of_listed(alloc: Global, many: &Many) -> End {
+/// How a run of one connection has ended, and what the system refused for it.
+#[derive(Drop)]
+struct Ran {
+    status: Status,
+    fault: Option<SystemFault>,
+}
+
+/// The end of a run of one connection.
+fn end_of(rt: &HostRuntime, words: &[String], ran: Ran) -> End {
+    let (alloc, mut help) = (rt.alloc(), String::new(rt.alloc()));
+    let Ran { status, fault } = ran;
+    let put = put_help(&mut help, rt, words, &status);
+    let fault = match status {
+        Status::Load { .. } | Status::Put { .. } => fault,
+        _ => None,
+    };
+    End {
+        code: status.code(),
+        line: said(alloc, fault_text(alloc, &status)),
+        help: help_put(alloc, help, put),
+        fault,
+    }
+}
+
+/// The end of a run of the connections of a list, for which the system refused this.
+fn end_of_listed(
+    rt: &HostRuntime,
+    words: &[String],
+    many: &Many,
+    fault: Option<SystemFault>,
+) -> End {
+    let (alloc, mut help) = (rt.alloc(), String::new(rt.alloc()));
+    let put = put_help_of_many(&mut help, rt, words, many);
+    let fault = match many {
+        Many::Load { .. } | Many::Put => fault,
+        _ => None,
+    };
     End {
         code: many.code(),
         line: said(alloc, many.fault_text(alloc)),
+        help: help_put(alloc, help, put),
+        fault,
     }
 }
 
@@ -50,7 +97,7 @@ fn end_of_listed(alloc: Global, many: &Many) -> End {
 fn end_of_many(rt: &HostRuntime, words: &[String]) -> End {
     let mut outside = FileOutside::new(rt, has_output(rt));
     let many = run_many(rt.alloc(), words, &mut outside);
-    end_of_listed(rt.alloc(), &many)
+    end_of_listed(rt, words, &many, outside.into_fault())
 }
 
 /// Whether standard output is open. Where it isn't, a file that is opened later may have its number.
@@ -59,14 +106,19 @@ fn has_output(rt: &HostRuntime) -> bool {
 }
 
 /// Runs a connection as the words say, over files and standard output, with threads of that runtime.
-fn status_of<R: Threads + Wait + Sync>(rt: &HostRuntime, threads: &R, words: &[String]) -> Status {
+fn ran_by<R: Threads + Wait + Sync>(rt: &HostRuntime, threads: &R, words: &[String]) -> Ran {
     let mut outside = FileOutside::new(rt, has_output(rt));
-    match words {
+    let status = match words {
         [first, others @ ..] if first.as_str() == "messages" => {
-            let (status, _outside) = run_messages(threads, rt.alloc(), others, outside, &OpenGate);
+            let (status, given) = run_messages(threads, rt.alloc(), others, outside, &OpenGate);
+            outside = given;
             status
         }
         _ => run(threads, rt.alloc(), words, &mut outside, &OpenGate),
+    };
+    Ran {
+        status,
+        fault: outside.into_fault(),
     }
 }
 
@@ -74,7 +126,7 @@ fn status_of<R: Threads + Wait + Sync>(rt: &HostRuntime, threads: &R, words: &[S
 fn run_words<R: Threads + Wait + Sync>(rt: &HostRuntime, threads: &R, words: &[String]) -> End {
     match words {
         [first, others @ ..] if first.as_str() == "many" => end_of_many(rt, others),
-        _ => end_of(rt.alloc(), &status_of(rt, threads, words)),
+        _ => end_of(rt, words, ran_by(rt, threads, words)),
     }
 }
 
@@ -93,21 +145,35 @@ fn many_without_words(status: &Status) -> Many {
 }
 
 /// The end where the words can't be had.
-fn end_without_words(rt: &HostRuntime, status: &Status) -> End {
+fn end_without_words(rt: &HostRuntime, status: Status) -> End {
     if is_of_many(rt) {
-        end_of_listed(rt.alloc(), &many_without_words(status))
+        end_of_listed(rt, &[], &many_without_words(&status), None)
     } else {
-        end_of(rt.alloc(), status)
+        let fault = None;
+        end_of(rt, &[], Ran { status, fault })
+    }
+}
+
+/// Tells how the program ends: the line of the fault with what helps behind a colon, and behind it what the system refused.
+fn tell(rt: &HostRuntime, end: &End) {
+    if end.line.is_empty() {
+        return;
+    }
+    if end.help.is_empty() {
+        let _ = eprintln!(rt; "{}", end.line);
+    } else {
+        let _ = eprintln!(rt; "{}: {}", end.line, end.help);
+    }
+    if let Some(fault) = &end.fault {
+        let _ = eprintln!(rt; "mptcp_sim: {}: {}", fault.name, fault.reason);
     }
 }
 
 fn main(rt: HostRuntime) -> ExitCode {
     let end = match command_words(&rt) {
         Ok(words) => run_words(&rt, &rt, &words),
-        Err(status) => end_without_words(&rt, &status),
+        Err(status) => end_without_words(&rt, status),
     };
-    if !end.line.is_empty() {
-        let _ = eprintln!(rt; "{}", end.line);
-    }
+    tell(&rt, &end);
     ExitCode::from(end.code)
 }

@@ -1,19 +1,16 @@
 //! What helps with a log that is refused at a line.
 
 ghost use Rattle.std.specs.Prelude.{◌≡◌};
-ghost use Rattle.link_script.specs.Scripts.{HasRanges};
 ghost use Rattle.run_words.specs.Lines.{as_line, replay};
 
 use crate::asking::{Asked, asked_by};
-use crate::cutting::{ReadLog, read_shown};
-use crate::log_forms::put_form_fault;
-use crate::log_steps::put_step_fault;
+use crate::cutting::read_shown;
 use crate::messages::file_names;
+use fault_help::{put_form_fault, put_turn_fault};
 use message_pipe::FramedOutside;
 use outside_kit::Outside;
 use run_outside::{Input, Logged, Status, load_logged};
 use std::alloc::{AllocError, Global};
-use world_core::World;
 
 /// Of a line that breaks the form of a log.
 fn put_form<O: Outside>(
@@ -30,23 +27,6 @@ fn put_form<O: Outside>(
     }
 }
 
-/// Of a line that has the form.
-fn put_steps(
-    text: &mut String,
-    alloc: Global,
-    input: &Input,
-    read: &ReadLog,
-    line: u64,
-) -> Result<(), AllocError>
-    requires { HasRanges input.now.script }
-{
-    let mut world = World::open(alloc, input)?;
-    let put = put_step_fault(text, alloc, &mut world, &read.part, &read.turns, line);
-    // What drops a world stands in its crate alone.
-    world.close();
-    put
-}
-
 /// Puts what helps with a log that is refused at this line. Nothing is put where the inputs can't be read again.
 fn put_help<O: Outside>(
     text: &mut String,
@@ -61,7 +41,7 @@ fn put_help<O: Outside>(
         return Ok(());
     };
     match read_shown(alloc, &input.script, log) {
-        Ok(read) => put_steps(text, alloc, &input, &read, line),
+        Ok(read) => put_turn_fault(text, alloc, &input, &read.part, &read.turns, line),
         Err(Status::Log { .. }) => put_form(text, alloc, outside, asked, &input, line),
         Err(_) => Ok(()),
     }

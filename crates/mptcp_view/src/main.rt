@@ -6,10 +6,7 @@
 mod asking;
 mod cutting;
 mod deaths;
-mod helping;
-mod log_forms;
 mod log_help;
-mod log_steps;
 mod messages;
 mod showing;
 mod telling;
@@ -17,17 +14,13 @@ mod terminal;
 mod whole;
 
 use cutting::Extent;
-use file_outside::FileOutside;
-use helping::script_help;
-use link_script::ScriptKind;
+use fault_help::put_script_help;
+use file_outside::{FileOutside, SystemFault};
 use log_help::{put_log_help, put_messages_help};
 use messages::view_messages;
-use outside_kit::Outside;
 use run_outside::{Named, Status, command_words};
 use showing::view_words;
 use std::alloc::{AllocError, Global};
-use std::fs;
-use std::io::{self, Read};
 use std::process::ExitCode;
 use terminal::Terminal;
 
@@ -58,54 +51,42 @@ fn fault_line(alloc: Global, status: &Status) -> Result<String, AllocError> {
     String::from_str(alloc, line)
 }
 
+/// What came of a view, and what the system refused for it.
+#[derive(Drop)]
+struct Viewed {
+    extent: Result<Extent, Status>,
+    fault: Option<SystemFault>,
+}
+
 /// Writes what the words ask for, and tells a terminal how far it is.
-fn shown(
-    rt: &HostRuntime,
-    words: &[String],
-    terminal: &mut Terminal<'_>,
-) -> Result<Extent, Status> {
+fn shown(rt: &HostRuntime, words: &[String], terminal: &mut Terminal<'_>) -> Viewed {
     let mut outside = FileOutside::new(rt, false);
-    match words {
+    let extent = match words {
         [first, others @ ..] if first.as_str() == "messages" => {
-            let (shown, _outside) = view_messages(rt.alloc(), others, outside, terminal);
-            shown
+            let (extent, given) = view_messages(rt.alloc(), others, outside, terminal);
+            outside = given;
+            extent
         }
         _ => view_words(rt.alloc(), words, &mut outside, terminal),
+    };
+    Viewed {
+        extent,
+        fault: outside.into_fault(),
     }
 }
 
 /// Writes what the words ask for, and ends the terminal's line.
-fn view_of(rt: &HostRuntime, words: &[String]) -> Result<Extent, Status> {
+fn view_of(rt: &HostRuntime, words: &[String]) -> Viewed {
     let mut terminal = Terminal::new(rt);
     let shown = shown(rt, words, &mut terminal);
     terminal.end();
     shown
 }
 
-/// The name of an input: the last five words are names.
-fn name_of(words: &[String], input: Named) -> Option<&str> {
-    let behind = match input {
-        Named::Script => 5,
-        Named::FileA => 4,
-        Named::FileB => 3,
-        Named::Order => 2,
-    };
-    let word = words.get(words.len().checked_sub(behind)?)?;
+/// The name of the script: the last five words are names.
+fn script_name(words: &[String]) -> Option<&str> {
+    let word = words.get(words.len().checked_sub(5)?)?;
     Some(word.as_str())
-}
-
-/// What helps with a script that is refused at this line, behind a colon, or nothing where the script can't be read again.
-fn help_of_script(rt: &HostRuntime, words: &[String], line: u64, kind: ScriptKind) -> String {
-    let mut help = String::new(rt.alloc());
-    let Some(name) = name_of(words, Named::Script) else {
-        return help;
-    };
-    if let Ok(script) = FileOutside::new(rt, false).load(rt.alloc(), name, 65_536) {
-        if let Ok(text) = script_help(rt.alloc(), &script, line, kind) {
-            let _ = write!(help, ": {text}");
-        }
-    }
-    help
 }
 
 /// Puts what helps with a log that is refused at this line.
@@ -125,54 +106,41 @@ fn put_help_of_log(
     }
 }
 
-/// What helps with a log that is refused at this line, behind a colon, or nothing where it isn't known.
-fn help_of_log(rt: &HostRuntime, words: &[String], line: u64) -> String {
+/// Puts what helps with a script or a log that is refused.
+fn put_help(
+    text: &mut String,
+    rt: &HostRuntime,
+    words: &[String],
+    status: &Status,
+) -> Result<(), AllocError> {
+    match (*status, script_name(words)) {
+        (Status::Script { line, kind }, Some(name)) => {
+            let mut outside = FileOutside::new(rt, false);
+            put_script_help(text, rt.alloc(), &mut outside, name, line, kind)
+        }
+        (Status::Log { line }, _) => put_help_of_log(text, rt, words, line),
+        _ => Ok(()),
+    }
+}
+
+/// What helps, behind a colon, or nothing where it isn't known.
+fn help_of(rt: &HostRuntime, words: &[String], status: &Status) -> String {
     let (mut help, mut text) = (String::new(rt.alloc()), String::new(rt.alloc()));
-    if put_help_of_log(&mut text, rt, words, line).is_ok() && !text.is_empty() {
+    if put_help(&mut text, rt, words, status).is_ok() && !text.is_empty() {
         let _ = write!(help, ": {text}");
     }
     help
 }
 
-/// Why the system doesn't read a file, if it still doesn't.
-fn reason_of(rt: &HostRuntime, name: &str) -> Option<io::Error> {
-    let mut octet = [0_u8];
-    match fs::open(rt, name) {
-        Err(error) => Some(error),
-        Ok(mut file) => file.read(&mut octet).err(),
-    }
-}
-
-/// Tells the name of an input that can't be read, and the system's reason.
-fn tell_reason(rt: &HostRuntime, words: &[String], input: Named) {
-    if let Some(name) = name_of(words, input) {
-        if let Some(reason) = reason_of(rt, name) {
-            let _ = eprintln!(rt; "mptcp_view: {name}: {reason}");
-        }
-    }
-}
-
-/// Tells why nothing is shown.
-fn tell_fault(rt: &HostRuntime, words: &[String], status: &Status) {
+/// Tells why nothing is shown, and behind a file that can't be read or written the system's reason.
+fn tell_fault(rt: &HostRuntime, words: &[String], status: &Status, fault: &Option<SystemFault>) {
     let Ok(line) = fault_line(rt.alloc(), status) else {
         return;
     };
-    match *status {
-        Status::Script { line: at, kind } => {
-            let help = help_of_script(rt, words, at, kind);
-            let _ = eprintln!(rt; "{line}{help}");
-        }
-        Status::Log { line: at } => {
-            let help = help_of_log(rt, words, at);
-            let _ = eprintln!(rt; "{line}{help}");
-        }
-        Status::Load { input } => {
-            let _ = eprintln!(rt; "{line}");
-            tell_reason(rt, words, input);
-        }
-        _ => {
-            let _ = eprintln!(rt; "{line}");
-        }
+    let help = help_of(rt, words, status);
+    let _ = eprintln!(rt; "{line}{help}");
+    if let (Status::Load { .. } | Status::Put { .. }, Some(fault)) = (status, fault) {
+        let _ = eprintln!(rt; "mptcp_view: {}: {}", fault.name, fault.reason);
     }
 }
 
@@ -185,13 +153,14 @@ fn tell(rt: &HostRuntime, extent: Extent) {
 
 /// Writes what the words ask for, and tells how much that is, or why it is nothing.
 fn exit_of(rt: &HostRuntime, words: &[String]) -> ExitCode {
-    match view_of(rt, words) {
+    let Viewed { extent, fault } = view_of(rt, words);
+    match extent {
         Ok(extent) => {
             tell(rt, extent);
             ExitCode::from(0)
         }
         Err(status) => {
-            tell_fault(rt, words, &status);
+            tell_fault(rt, words, &status, &fault);
             ExitCode::from(status.code())
         }
     }
@@ -201,7 +170,7 @@ fn main(rt: HostRuntime) -> ExitCode {
     match command_words(&rt) {
         Ok(words) => exit_of(&rt, &words),
         Err(status) => {
-            tell_fault(&rt, &[], &status);
+            tell_fault(&rt, &[], &status, &None);
             ExitCode::from(status.code())
         }
     }

@@ -1,7 +1,6 @@
 //! What the steps of a log are made as, where one of its lines is refused that has its form.
 
-use crate::log_forms::put_found;
-use crate::telling::{behind_word, step_words};
+use crate::words::{behind_line, put_found};
 use octet_text::{Text, split_line};
 use run_log::{Turn, line};
 use run_outside::{opening_count, split_at_first};
@@ -57,13 +56,20 @@ fn made_turn(alloc: Global, world: &mut World, turn: Turn) -> Result<Made, Alloc
     }
 }
 
+/// What stands behind two words.
+fn behind_words(words: &[u8]) -> &[u8] {
+    let (_, behind) = split_at_first(words, b' ');
+    let (_, others) = split_at_first(behind, b' ');
+    others
+}
+
 /// What a line says behind its stamp and its actor.
 fn words_of(text: &[u8]) -> &[u8] {
     if text.is_empty() {
         return text;
     }
     let (told, _) = split_line(text);
-    step_words(told)
+    behind_words(told)
 }
 
 /// The first line that differs, as the line of this number tells and is made.
@@ -77,15 +83,6 @@ fn first_of(first: Option<Differing>, number: u64, told: &[u8], made: Made) -> O
         }
         _ => None,
     }
-}
-
-/// The text behind its first line.
-fn behind_line(text: &[u8]) -> &[u8] {
-    if text.is_empty() {
-        return text;
-    }
-    let (_, behind) = split_line(text);
-    behind
 }
 
 /// The text behind so many lines.
@@ -172,11 +169,6 @@ fn put_segment(text: &mut String, sent: &[u8], told: &[u8]) -> Result<(), AllocE
         told = told_behind;
     }
     text.push_str("nothing stands behind the checksum")
-}
-
-/// What stands behind two words.
-fn behind_words(words: &[u8]) -> &[u8] {
-    behind_word(behind_word(words))
 }
 
 /// Puts why a line is refused that tells a segment, where this step is made.

@@ -1,6 +1,6 @@
 //! Where a refused line of a log leaves its form, and what stands there.
 
-use crate::helping::{number_of, put_word};
+use crate::words::{number_of, put_found};
 use link_script::{Script, is_numeral};
 use octet_text::{are_digits, split_line};
 use run_outside::{split_at_first, width_of};
@@ -219,14 +219,6 @@ fn put_wanted(text: &mut String, wanted: Wanted) -> Result<(), AllocError> {
         Wanted::Round(round) => write!(text, "round is {round}"),
         Wanted::Outcome => text.push_str("outcome is delivered/rounds/no-path/aborted"),
     }
-}
-
-/// Puts a word as it can be shown, or that there is none.
-pub fn put_found(text: &mut String, found: &[u8]) -> Result<(), AllocError> {
-    if found.is_empty() {
-        return text.push_str("nothing");
-    }
-    put_word(text, found)
 }
 
 /// Where a line leaves this form, what stands in the fault's place, and what is there.

@@ -1,7 +1,10 @@
 //! Where a refused line of a script leaves its form, and what stands there.
 
+ghost use Rattle.run_outside.specs.Ports.{IsUntouched};
+
+use crate::words::{line_at, number_of, put_found, put_word};
 use link_script::ScriptKind;
-use octet_text::split_line;
+use outside_kit::Outside;
 use run_outside::split_at_first;
 use std::alloc::{AllocError, Global};
 
@@ -62,6 +65,7 @@ fn place_of(keyword: &[u8]) -> &'static str {
     match keyword {
         b"mptcp-script" => "column 1: the first line alone begins with mptcp-script",
         b"rate" | b"loss" | b"jitter" => "column 1: mptcp-script 2 alone has such lines",
+        b"alter" => "column 1: a script of a list has no such lines",
         _ => "",
     }
 }
@@ -97,20 +101,6 @@ fn slot_of(name: &[u8]) -> Option<Slot> {
         _ => return None,
     };
     Some(Slot { name, least, most })
-}
-
-/// A number of digits alone, if it is below 2^64.
-pub fn number_of(word: &[u8]) -> Option<u64> {
-    let mut number = 0_u64;
-    for digit in word {
-        if !digit.is_ascii_digit() {
-            return None;
-        }
-        number = number
-            .checked_mul(10)?
-            .checked_add(u64::from(*digit - b'0'))?;
-    }
-    if word.is_empty() { None } else { Some(number) }
 }
 
 /// Whether a word is one of two that stand with `/` between them.
@@ -152,18 +142,6 @@ fn fault_in<'a>(line: &'a [u8], form: &'static [u8]) -> Option<Fault<'a>> {
     None
 }
 
-/// Puts a word as it can be shown: octets that are no printable ASCII as `?`, and not more than 40.
-pub fn put_word(text: &mut String, word: &[u8]) -> Result<(), AllocError> {
-    for octet in word.iter().take(40) {
-        if octet.is_ascii_graphic() {
-            text.push(char::from(*octet))?;
-        } else {
-            text.push('?')?;
-        }
-    }
-    Ok(())
-}
-
 /// What stands in a fault's place, and what is there.
 fn put_fault(text: &mut String, fault: &Fault<'_>) -> Result<(), AllocError> {
     write!(text, "column {}: ", fault.column)?;
@@ -178,10 +156,16 @@ fn put_fault(text: &mut String, fault: &Fault<'_>) -> Result<(), AllocError> {
         }
     }
     text.push_str(", not ")?;
-    if fault.found.is_empty() {
-        return text.push_str("nothing");
+    put_found(text, fault.found)
+}
+
+/// Of a line that begins with this word.
+fn put_keyword(text: &mut String, keyword: &[u8]) -> Result<(), AllocError> {
+    text.push_str("column 1: no line begins with ")?;
+    if keyword.is_empty() {
+        return text.push_str("a space");
     }
-    put_word(text, fault.found)
+    put_word(text, keyword)
 }
 
 /// Of a line whose words or numbers are refused.
@@ -189,54 +173,49 @@ fn put_form(text: &mut String, line: &[u8]) -> Result<(), AllocError> {
     let (keyword, behind) = split_at_first(line, b' ');
     let is_joined = line.windows(6).any(|part| part == b" join ".as_slice());
     let Some(form) = form_of(keyword, is_joined) else {
-        text.push_str("column 1: no line begins with ")?;
-        return put_word(text, keyword);
+        return put_keyword(text, keyword);
     };
     match fault_in(line, form) {
         Some(fault) => put_fault(text, &fault),
+        None if line.ends_with(b" ") => write!(text, "column {}: nothing, not a space", line.len()),
         None => text.push_str(place_of(keyword)),
     }
 }
 
-/// The text behind its first line.
-fn behind_line(text: &[u8]) -> &[u8] {
-    if text.is_empty() {
-        return text;
-    }
-    let (_, behind) = split_line(text);
-    behind
-}
-
-/// The line of this number, the first being 1; empty where there is none.
-fn line_at(script: &[u8], number: u64) -> &[u8] {
-    let mut rest = script;
-    for _ in 1..number {
-        rest = behind_line(rest);
-    }
-    if rest.is_empty() {
-        return rest;
-    }
-    let (line, _) = split_line(rest);
-    line
-}
-
-/// What helps with a script that is refused at a line: where the line leaves its form and what stands there, or what the kind means.
-pub fn script_help(
-    alloc: Global,
+/// Puts what helps with the text of a script that is refused at this line.
+fn put_help(
+    text: &mut String,
     script: &[u8],
     line: u64,
     kind: ScriptKind,
-) -> Result<String, AllocError> {
-    let mut text = String::new(alloc);
+) -> Result<(), AllocError> {
     match kind {
-        ScriptKind::TooMany => text.push_str("a script has 4,096 lines at most")?,
-        ScriptKind::Header => text.push_str("the first line is mptcp-script 1 or mptcp-script 2")?,
+        ScriptKind::TooMany => text.push_str("a script has 4,096 lines at most"),
+        ScriptKind::Header => text.push_str("the first line is mptcp-script 1 or mptcp-script 2"),
         ScriptKind::Order => text.push_str(
             "settings, then paths in order from 0, then lines on these paths, then end",
-        )?,
-        ScriptKind::Repeated => text.push_str("a line before it settles the same")?,
-        ScriptKind::Missing => text.push_str("the last line is end")?,
-        ScriptKind::Word | ScriptKind::Number => put_form(&mut text, line_at(script, line))?,
+        ),
+        ScriptKind::Repeated => text.push_str("a line before it settles the same"),
+        ScriptKind::Missing => text.push_str("the last line is end"),
+        ScriptKind::Word | ScriptKind::Number => put_form(text, line_at(script, line)),
     }
-    Ok(text)
+}
+
+/// Puts what helps with the script of this name, which is refused at this line: where the line leaves its form and what stands there, or
+/// what the kind means. Nothing is put where the script can't be read again. No port is
+/// touched.
+pub fn put_script_help<O: Outside>(
+    text: &mut String,
+    alloc: Global,
+    outside: &mut O,
+    name: &str,
+    line: u64,
+    kind: ScriptKind,
+) -> Result<(), AllocError>
+    ensures { IsUntouched (O.told outside.old) (O.told outside.new) }
+{
+    match outside.load(alloc, name, 65_536) {
+        Ok(script) => put_help(text, &script, line, kind),
+        Err(_) => Ok(()),
+    }
 }
