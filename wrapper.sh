@@ -1,5 +1,6 @@
-# For `mptcp_sim` and `mptcp_view`, which source this file: the program `name` of the repository in the folder `top`, the proved one or the
-# same sources built without a proof. What is built so is kept in the folder `kept`, which git ignores, as long as no source is newer.
+# For `mptcp_sim`, `mptcp_view` and `mptcp_judge`, which source this file: the program `name` of the repository in the folder `top`, the proved
+# one or the same sources built without a proof. What is built so is kept in the folder `kept`, which git ignores, as long as no source is
+# newer.
 
 crate=$top/crates/$name
 program=$crate/out/$name

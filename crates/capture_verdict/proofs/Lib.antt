@@ -1,0 +1,4 @@
+pub mod Ordering
+pub mod Empty
+pub mod Lists
+pub mod Pieces

@@ -1,0 +1,40 @@
+//! What is put to an outside.
+
+ghost use Rattle.std.specs.Prelude.{◌≡◌, ◌∷◌, [], IfErr, OnOk};
+ghost use Rattle.outside_kit.specs.Calls as call;
+ghost use Rattle.judge_call.specs.Streams.{AddsAll, IsPutFault};
+
+use crate::status::Status;
+use outside_kit::{Outside, Port, PutFault};
+
+/// Keeps what is put to the port under this name, from nothing on.
+///
+/// # Errors
+///
+/// `Put` where the device failed, `Memory` where there is no memory.
+pub(crate) fn bind<O: Outside>(outside: &mut O, port: Port, name: &str) -> Result<(), Status>
+    ensures made { OnOk result (AddsAll (call.Bind port name.now ∷ []) (O.told outside.old).calls (O.told outside.new).calls) }
+    ensures fault { IfErr result (λ status. IsPutFault status (O.told outside.new).calls) }
+{
+    match outside.bind(port, name) {
+        Ok(()) => Ok(()),
+        Err(PutFault::Failed) => Err(Status::Put),
+        Err(PutFault::Memory) => Err(Status::Memory),
+    }
+}
+
+/// Puts a piece to the port.
+///
+/// # Errors
+///
+/// `Put` where the device failed, `Memory` where there is no memory; then it may hold a first part of the piece.
+pub(crate) fn put<O: Outside>(outside: &mut O, port: Port, piece: &[u8]) -> Result<(), Status>
+    ensures made { OnOk result (AddsAll (call.Put port piece.now ∷ []) (O.told outside.old).calls (O.told outside.new).calls) }
+    ensures fault { IfErr result (λ status. IsPutFault status (O.told outside.new).calls) }
+{
+    match outside.put(port, piece) {
+        Ok(()) => Ok(()),
+        Err(PutFault::Failed) => Err(Status::Put),
+        Err(PutFault::Memory) => Err(Status::Memory),
+    }
+}
