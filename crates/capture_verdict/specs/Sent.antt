@@ -3,7 +3,7 @@ use Rattle.std.specs.Prelude.{ℕ, ◌≡◌, Option, None, List, length}
 use Rattle.seen_octets.specs.declared.octet.Octet.{Octet}
 use Rattle.seen_octets.specs.Octets.{IsPiece}
 
--- These octets are those of the first places, and the next place has none.
+-- Octets that are those of the first places; the next place has none.
 pub record IsSent (octet : ℕ → Option Octet) (octets : List ℕ) : Type 0 where
   pub held : IsPiece octet 0 octets
   pub ends : octet (length octets) ≡ None

@@ -13,7 +13,7 @@ use Rattle.rule_book.specs.State.{LanesValue, JudgedValue}
 use Rattle.capture_verdict.specs.declared.totals.Totals.{Totals}
 use Rattle.capture_verdict.specs.declared.totals.Unread.{Unread}
 
--- so many more, up to the most that a number of 64 bits is
+-- a number with more, up to the most that 64 bits hold
 abbrev pub sum_of : ℕ → ℕ → ℕ
 sum_of count more = min (count + more) 18446744073709551615
 

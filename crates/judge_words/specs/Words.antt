@@ -39,7 +39,7 @@ words32 number = encode_lower (to_be_bytes w32 number)
 abbrev pub words64 : ℕ → List ℕ
 words64 number = encode_lower (to_be_bytes w64 number)
 
--- these octets read as no option
+-- octets that read as no option
 unfoldable pub no_option_words : List ℕ → List ℕ
 no_option_words octets = codes "no option reads " ++ encode_lower octets
 

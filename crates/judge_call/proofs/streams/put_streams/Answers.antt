@@ -9,14 +9,18 @@ pub loop-book-init : goal.loop-book-init
 loop-book-init g c = record { index = refl; put = λ end put. put }
 
 pub loop-book-preserved : goal.loop-book-preserved
-loop-book-preserved g c = record {
-  index = omega (arith, c.loop-book.invariant.index);
-  put = λ end others.
-      c.loop-book.invariant.put end
-      (subst (λ (books : List BookValue). AreAllPut c.args.prefix.now c.loop-book.number books (g.O.Outside.told c.loop-book.outside).calls end)
-      (sym (at_drop_more (map book_of) c.args.books.now c.loop-book.book-index _ c.loop-book-test.true))
-      ((g.O.Outside.told c.put_both.new.outside).calls, subst (λ (book : Book). AreBothPut c.args.prefix.now c.loop-book.number (book_of book) (g.O.Outside.told c.loop-book.outside).calls (g.O.Outside.told c.put_both.new.outside).calls) c.book-item.is c.in_ok-put_both.ensures.made, others));
-}
+loop-book-preserved g c =
+    let before = (g.O.Outside.told c.loop-book.outside).calls in
+    let after = (g.O.Outside.told c.put_both.new.outside).calls in
+    let both = subst (λ (book : Book). AreBothPut c.args.prefix.now c.loop-book.number (book_of book) before after) c.book-item.is c.in_ok-put_both.ensures.made in
+    record {
+      index = omega (arith, c.loop-book.invariant.index);
+      put = λ end others.
+          c.loop-book.invariant.put end
+          (subst (λ (books : List BookValue). AreAllPut c.args.prefix.now c.loop-book.number books (g.O.Outside.told c.loop-book.outside).calls end)
+          (sym (at_drop_more (map book_of) c.args.books.now c.loop-book.book-index _ c.loop-book-test.true))
+          (after, both, others));
+    }
 
 pub returns-clause-made : goal.returns-clause-made
 returns-clause-made g c =
