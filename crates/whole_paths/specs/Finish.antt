@@ -1,24 +1,29 @@
 -- When a connection over one path delivers both files, though the path loses, delays and repeats segments.
-use Rattle.std.specs.Prelude.{ℕ, suc, ◌+◌, ◌-◌, ◌*◌, ◌==◌, ◌≡◌, ◌≤◌, ◌⊎◌, max, Bool, true, false, Some, List, [], ◌∷◌, ◌++◌, length, count_by, slice_get}
+use Rattle.std.specs.Prelude.{ℕ, suc, ◌+◌, ◌-◌, ◌*◌, ◌==◌, ◌≡◌, ◌≤◌, ◌⊎◌, max, nat_le, nat_lt, Bool, true, false, not, ◌&&◌, if◌then◌else◌, Option, Some, None, List, [], ◌∷◌, ◌++◌, length, count_by, slice_get}
 use Rattle.std.specs.Int.{div_ceil}
-use Rattle.std.specs.List.{list_all}
+use Rattle.std.specs.List.{list_all, list_any}
 use Rattle.sides.specs.declared.side.Side.{Side}
+use Rattle.sides.specs.declared.side.Side.TheVariants.{A, B}
+use Rattle.sides.specs.Side.{peer}
 use Rattle.link_script.specs.declared.script.PathLine.{PathLine}
 use Rattle.link_script.specs.declared.script.Script.{Script}
 use Rattle.link_script.specs.declared.script.ScriptLine.{ScriptLine}
-use Rattle.link_script.specs.declared.script.ScriptLine.TheVariants.{OnSegment, StripAll, Die, FastClose}
+use Rattle.link_script.specs.declared.script.ScriptLine.TheVariants.{OnSegment, OnDirection, StripAll, Die, FastClose}
 use Rattle.link_script.specs.declared.script.Happens.TheVariants.{Lost, Late, Stripped, Altered}
+use Rattle.link_script.specs.Places.{same_side}
 use Rattle.link_script.specs.Scripts.{HasRanges}
+use Rattle.link_model.specs.Steps.{segments_sent}
 use Rattle.subflow_tcp.specs.States.{is_dead}
+use Rattle.path_core.specs.Codec.{Codec}
 use Rattle.path_core.specs.Octets.{octets}
 use Rattle.path_core.specs.Standing.{is_connected}
 use Rattle.path_core.specs.State.{PathState, end_at}
-use Rattle.world_laws.specs.declared.member.Member.TheVariants.{Path}
+use Rattle.world_laws.specs.declared.member.Member.TheVariants.{App, Path}
 use Rattle.world_laws.specs.declared.outcome.Outcome.TheVariants.{Delivered}
-use Rattle.world_laws.specs.Actors.{ActorCrew}
+use Rattle.world_laws.specs.Actors.{Actor, ActorCrew}
 use Rattle.world_laws.specs.Openings.{opened_world, start_of}
 use Rattle.world_laws.specs.Outcomes.{outcome_of}
-use Rattle.world_laws.specs.Worlds.{WorldState, Turn, world_run, AreLawful}
+use Rattle.world_laws.specs.Worlds.{WorldState, Turn, after_turn, world_run, AreLawful}
 
 -- ---- lines
 
@@ -32,7 +37,13 @@ harms path _ = false
 abbrev pub harms_to : ℕ → Script → ℕ
 harms_to path script = count_by (harms path) script.lines
 
--- the line takes no option away, alters no payload, and doesn't close the connection at once
+-- it speaks of each segment of a direction: a rate, random loss or jitter
+abbrev pub is_on_direction : ScriptLine → Bool
+is_on_direction (OnDirection direction impairment) = true
+is_on_direction _ = false
+
+-- The line takes no option away, alters no payload, and doesn't close the connection at once. Rates, random loss and jitter are mild:
+-- what they do is counted by segment (`harmed`).
 abbrev pub is_mild : ScriptLine → Bool
 is_mild (OnSegment segment Stripped) = false
 is_mild (OnSegment segment Altered) = false
@@ -54,7 +65,7 @@ payload_of mss = max (mss - 28) 1
 abbrev pub segments : ℕ → ℕ → ℕ
 segments mss length = div_ceil length (payload_of mss)
 
--- 80 rounds, 16 for each full segment of either file, and 1,300 for each line that harms: two greatest timeouts of 60,000 ticks
+-- 80 rounds, 16 for each full segment of either file, and 1,300 for each segment that is harmed: two greatest timeouts of 60,000 ticks
 abbrev pub patience : ℕ → ℕ → ℕ → ℕ → ℕ
 patience mss length_a length_b harmed = 80 + 16 * (segments mss length_a + segments mss length_b) + 1300 * harmed
 
@@ -87,6 +98,31 @@ module _ {C : Type 0} where
     pub side : Side
     pub dead : is_dead (end_at side path).tcp.state ≡ true
 
+-- ---- segments that are harmed
+
+module _ {C : Type 0} where
+  -- The link takes a segment from this side as the path becomes another one, and no copy of it is to come within 400 ticks, twice the longest
+  -- delay: a line or the word drawn for it loses it, its queue is full, or it is late.
+  abbrev pub is_harmed : Side → PathState C → PathState C → Bool
+  is_harmed s p q =
+      let number = segments_sent s q.link in
+      nat_lt (segments_sent s p.link) number && not (list_any (λ f. same_side f.to (peer s) && (f.number == number && nat_le f.tick (p.clock + 400))) q.link.under_way)
+
+  -- from either side, as an actor becomes another one
+  abbrev pub harms_between : Actor C → Actor C → ℕ
+  harms_between (Path p) (Path q) = (if is_harmed A p q then 1 else 0) + (if is_harmed B p q then 1 else 0)
+  harms_between _ _ = 0
+
+  abbrev pub harms_of : Option (ActorCrew C) → Option (ActorCrew C) → ℕ
+  harms_of (Some c) (Some d) = harms_between c.member d.member
+  harms_of _ _ = 0
+
+  -- how many segments of the path of this number are harmed by these turns
+  abbrev pub harmed : Codec C → ℕ → List Turn → WorldState C → ℕ
+  harmed k number [] w = 0
+  harmed k number (turn ∷ turns) w =
+      harms_of (slice_get w.crew (2 + number)) (slice_get (after_turn k turn w).crew (2 + number)) + harmed k number turns (after_turn k turn w)
+
 -- ---- what is promised of scripts of one path
 
 -- a mild script with one path, and two files of 16 MiB at most
@@ -101,27 +137,33 @@ pub record IsMild (script : Script) (path : PathLine) (file_a file_b : List ℕ)
 abbrev pub opened : Script → List ℕ → List ℕ → WorldState (List ℕ)
 opened script file_a file_b = opened_world (start_of script file_a file_b)
 
--- so many rounds are enough, by the lines of the script
-abbrev pub enough_for : Script → PathLine → List ℕ → List ℕ → ℕ
-enough_for script path file_a file_b = patience path.mss (length file_a) (length file_b) (harms_to 0 script)
+-- so many rounds are enough, by the segments that these turns harm
+abbrev pub enough_for : Script → PathLine → List ℕ → List ℕ → List Turn → ℕ
+enough_for script path file_a file_b turns = patience path.mss (length file_a) (length file_b) (harmed octets 0 turns (opened script file_a file_b))
 
 -- once the path is whole at the end of a round, and still whole when so many more have ended, both files are delivered
 abbrev pub WholePathsDeliver : Type 0
 WholePathsDeliver = (script : Script) (path : PathLine) (file_a file_b : List ℕ) (before more : List Turn) → IsMild script path file_a file_b
     → AreLawful octets (before ++ Turn.Round ∷ more) (opened script file_a file_b)
     → let w = world_run octets (before ++ Turn.Round ∷ []) (opened script file_a file_b) in
-    IsWhole 0 w → IsWhole 0 (world_run octets more w) → enough_for script path file_a file_b ≤ rounds_in more
+    IsWhole 0 w → IsWhole 0 (world_run octets more w) → enough_for script path file_a file_b (before ++ Turn.Round ∷ more) ≤ rounds_in more
     → outcome_of (world_run octets more w).crew ≡ Delivered
 
 -- as soon as so many rounds have ended they are delivered, or an end died, however much is lost
 abbrev pub OnePathEnds : Type 0
 OnePathEnds = (script : Script) (path : PathLine) (file_a file_b : List ℕ) (turns : List Turn) → IsMild script path file_a file_b
-    → AreLawful octets turns (opened script file_a file_b) → enough_for script path file_a file_b ≤ rounds_in turns
+    → AreLawful octets turns (opened script file_a file_b) → enough_for script path file_a file_b turns ≤ rounds_in turns
     → let w = world_run octets turns (opened script file_a file_b) in (outcome_of w.crew ≡ Delivered) ⊎ AnEndDied 0 w
 
--- with four harming lines at most, and no line by which the path dies, no end does
+-- with four harmed segments at most, and no line by which the path dies, no end does
 abbrev pub FewLossesFinish : Type 0
 FewLossesFinish = (script : Script) (path : PathLine) (file_a file_b : List ℕ) (turns : List Turn) → IsMild script path file_a file_b
-    → list_all is_harmless_to_ends script.lines ≡ true → harms_to 0 script ≤ 4
-    → AreLawful octets turns (opened script file_a file_b) → enough_for script path file_a file_b ≤ rounds_in turns
+    → list_all is_harmless_to_ends script.lines ≡ true → harmed octets 0 turns (opened script file_a file_b) ≤ 4
+    → AreLawful octets turns (opened script file_a file_b) → enough_for script path file_a file_b turns ≤ rounds_in turns
     → outcome_of (world_run octets turns (opened script file_a file_b)).crew ≡ Delivered
+
+-- where no line speaks of a direction, each segment that is harmed uses a line
+abbrev pub HarmsUseLines : Type 0
+HarmsUseLines = (script : Script) (file_a file_b : List ℕ) (number : ℕ) (turns : List Turn) → HasRanges script
+    → list_all (λ line. not (is_on_direction line)) script.lines ≡ true
+    → harmed octets number turns (opened script file_a file_b) ≤ harms_to number script
