@@ -79,7 +79,7 @@ gone_end s e a b dead = subst (λ (f : PathEnd). is_dead f.tcp.state ≡ true) (
 same_still : (e f : PathEnd) → f ≡ e → IsStill e f
 same_still e f is = subst (IsStill e) (sym is) (record { tcp = refl; sending = refl; modes = refl; notices = refl })
 
-died_gone : (e : PathEnd) → is_dead (died_unless_dead e).tcp.state ≡ true
+pub died_gone : (e : PathEnd) → is_dead (died_unless_dead e).tcp.state ≡ true
 died_gone e = by (is_dead e.tcp.state) refl
   where
     by : (b : Bool) → is_dead e.tcp.state ≡ b → is_dead (if b then e else died e).tcp.state ≡ true

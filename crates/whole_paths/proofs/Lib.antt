@@ -1,5 +1,6 @@
 pub mod Agendas
 pub mod Books
+pub mod Bringing
 pub mod Came
 pub mod Copies
 pub mod Duties
@@ -10,6 +11,7 @@ pub mod Keeping
 pub mod Lanes
 pub mod Links
 pub mod Owing
+pub mod Moving
 pub mod Passing
 pub mod Pieces
 pub mod Reasons
@@ -18,6 +20,7 @@ pub mod Rounds
 pub mod Running
 pub mod Saying
 pub mod Settling
+pub mod Staying
 pub mod Subflows
 pub mod Timing
 pub mod Turns

@@ -252,7 +252,7 @@ module _ {C : Type 0} where
   joins_keep s (Some keys) None r p = kept refl
   joins_keep s None None r p = kept refl
 
-  own_only : (s : Side) (w : Writes) (p q : PathState C) → OnlyAt s w p q → Only w.own (end_at s p) (end_at s q)
+  pub own_only : (s : Side) (w : Writes) (p q : PathState C) → OnlyAt s w p q → Only w.own (end_at s p) (end_at s q)
   own_only s w p q x = record { same = ap (λ (v : PathView C). v.own) x.same }
 
   other_comes : (s : Side) (w : Writes) (p q : PathState C) (c : Profile) → w.other ≡ nothing → OnlyAt s w p q → Comes c (end_at (peer s) p) (end_at (peer s) q)

@@ -1,6 +1,7 @@
 pub mod AgendaSteps
 pub mod Answered
 pub mod AsFar
+pub mod Brought
 pub mod Came
 pub mod Copies
 pub mod EndSteps

@@ -5,6 +5,7 @@ ghost use Rattle.std.specs.Prelude.{ℕ, List};
 ghost use Rattle.world_laws.specs.Laws.{Always};
 ghost use Rattle.whole_paths.specs.Answered.{CopiesAreAnswered};
 ghost use Rattle.whole_paths.specs.AsFar.{NothingGoesBack};
+ghost use Rattle.whole_paths.specs.Brought.{WhatComesIsKept};
 ghost use Rattle.whole_paths.specs.Came.{WhatIsAcknowledgedCame};
 ghost use Rattle.whole_paths.specs.Copies.{CopiesLeaveByArriving};
 ghost use Rattle.whole_paths.specs.Expiries.{WhatRunsOutGoesAgain};
@@ -117,6 +118,17 @@ pub fn each_segment_says_what_came()
 /// lost, late, repeated or altered (RFC 9293, section 3.4).
 pub fn what_is_acknowledged_came()
     ensures { Always values (λ start w. WhatIsAcknowledgedCame w) }
+{}
+
+/// A law: each octet that comes to an end is kept until RCV.NXT passes it (RFC 9293, section 3.10.7.4).
+///
+/// A copy that the end takes brings all of its octets in the window; where one is kept at the same position already, that one stays. From
+/// then on, by each turn, the octet is in hand until what the copy says is treated, and then kept, or RCV.NXT is past it. Or the end is
+/// dead, or reset next; or RCV.NXT is past the peer's FIN; or the mapping at RCV.NXT fails its check (RFC 8684, section 3.3.1), where none is
+/// kept any longer, so that each can come again. B drops the payload of a copy with an option until it has both keys (section 3.1).
+pub fn what_comes_is_kept()
+    ensures octets { WhatComesIsKept octets }
+    ensures values { WhatComesIsKept values }
 {}
 
 /// A law: where the turn of a path is over, no end that isn't dead keeps bytes that it may place: RCV.NXT stands behind all octets in order
