@@ -66,7 +66,7 @@ use Rattle.world_laws.specs.Writes.{PathView, side_of}
 use Rattle.world_laws.proofs.Falls.FailedChecks.{forgets_so, fail_heard_so, infinite_came_so, fail_answered_so}
 use Rattle.world_laws.proofs.Writes.Paths.{writes_no_more}
 use Rattle.whole_paths.specs.AgendaSteps.{is_gone}
-use Rattle.whole_paths.specs.Brought.{IsKept, comes_before_keeping, IsToKeep, IsToReset, FailsItsCheck, IsThere, Brings, StaysThere, KeepsWhatComes, PathsKeepWhatComes, WhatComesIsKept}
+use Rattle.whole_paths.specs.Brought.{IsKept, comes_before_keeping, IsToKeep, IsToReset, FailsItsCheck, IsThere, Comes, Brings, StaysThere, KeepsWhatComes, PathsKeepWhatComes, WhatComesIsKept}
 use Rattle.whole_paths.specs.Brought.{IsThere as there}
 use Rattle.whole_paths.specs.Brought.{StaysThere as stay}
 use Rattle.whole_paths.specs.Brought.{IsToReset as resetting}
@@ -127,7 +127,7 @@ empty_check c e h = forgets_so (λ f. Empty f.tcp.recv) c.spelling.checksums (ma
 own_empty : (s : Side) (f a b : PathEnd) → Empty f.tcp.recv → Empty (pick s (pick s f a) (pick s b f)).tcp.recv
 own_empty s f a b h = subst (λ (g : PathEnd). Empty g.tcp.recv) (sym (own_end s f a b)) h
 
-first_so : (d first : Duty) (ds others : List Duty) → d ∷ ds ≡ first ∷ others → d ≡ first
+pub first_so : (d first : Duty) (ds others : List Duty) → d ∷ ds ≡ first ∷ others → d ≡ first
 first_so d first ds others is = same_Some d first (ap first_of is)
 
 module _ {C : Type 0} where
@@ -290,19 +290,28 @@ module _ {C : Type 0} where
 
   -- ---- a copy comes
 
+  -- the path without it, at its tick
+  abbrev pub coming_by : {k : Codec C} (ds : List Duty) (p : PathState C) → Comes k (with_agenda (duties.Step step_duties.Events ∷ ds) p) → PathState C
+  coming_by ds p c = record (at_tick c.due.tick (with_agenda (duties.Step step_duties.Events ∷ ds) p)) { link = after_delivery c.due p.link }
+
+  pub comes_so : (P : PathState C → Type 0) (k : Codec C) (ds : List Duty) (r : Reply) (p : PathState C) (c : Comes k (with_agenda (duties.Step step_duties.Events ∷ ds) p))
+      → P (copy_heard c.due.to (Some c.segment) (coming_by ds p c)) → P (answered k (duties.Step step_duties.Events) r (with_agenda (duties.Step step_duties.Events ∷ ds) p))
+  comes_so P k ds r p c h =
+      subst (λ (o : Option Event). P (happens_if k o r (with_agenda (duties.Step step_duties.Events ∷ ds) p))) (sym c.next)
+      (subst (λ (o : Option HeardSegment). P (copy_heard c.due.to o (coming_by ds p c))) (sym c.heard) h)
+
   module _ (k : Codec C) (ds : List Duty) (r : Reply) (p : PathState C) (b : Brings k (with_agenda (duties.Step step_duties.Events ∷ ds) p)) where
     abbrev at_copy : PathState C
     at_copy = with_agenda (duties.Step step_duties.Events ∷ ds) p
 
     abbrev own : PathEnd
-    own = end_at b.due.to p
+    own = end_at b.copy.due.to p
 
-    -- the link without it, at its tick
     abbrev coming : PathState C
-    coming = record (at_tick b.due.tick at_copy) { link = after_delivery b.due p.link }
+    coming = coming_by ds p b.copy
 
     abbrev said : HeardSegment
-    said = options_heard own b.segment
+    said = options_heard own b.copy.segment
 
     held_at : (pos octet : ℕ) (payload : List ℕ) → payload_octet pos b.position payload ≡ Some octet → own.tcp.recv.edge ≤ pos → pos < window_end own.tcp.recv
         → octet_at pos (after_keep_held (with_payload (means.Taken b.position b.acknowledged) payload own.tcp).recv) ≡ Some (unwrap_or (octet_at pos own.tcp.recv) octet)
@@ -323,18 +332,18 @@ module _ {C : Type 0} where
         either (Some other) = refl
 
     -- as it is taken
-    taken_now : (pos octet : ℕ) → payload_octet pos b.position b.segment.payload ≡ Some octet → own.tcp.recv.edge ≤ pos → pos < window_end own.tcp.recv
-        → let q = copy_heard b.due.to (Some b.segment) coming in Now b.due.to pos (unwrap_or (octet_at pos own.tcp.recv) octet) q.agenda p.profile (end_at b.due.to q)
+    taken_now : (pos octet : ℕ) → payload_octet pos b.position b.copy.segment.payload ≡ Some octet → own.tcp.recv.edge ≤ pos → pos < window_end own.tcp.recv
+        → let q = copy_heard b.copy.due.to (Some b.copy.segment) coming in Now b.copy.due.to pos (unwrap_or (octet_at pos own.tcp.recv) octet) q.agenda p.profile (end_at b.copy.due.to q)
     taken_now pos octet is high within =
         subst (λ (verdict : Judged). Now s pos o (template_of (is_joined p.profile) s (items_of (is_joined p.profile) s said) verdict) p.profile
         (pick s (pick s (after_judged p.profile s coming.clock said verdict own) p.a) (pick s p.b (after_judged p.profile s coming.clock said verdict own))))
         (sym b.taken)
         (subst (λ f. Now s pos o (copy_came s (length (items_of (is_joined p.profile) s said))) p.profile f) (sym (own_end s taken p.a p.b))
-        (in_hand (ap (λ (v : Receiving). octet_at pos (after_keep_held v)) (taken_recv p.profile s coming.clock said own b.position b.acknowledged) ∙ held_at pos octet b.segment.payload is high within)
+        (in_hand (ap (λ (v : Receiving). octet_at pos (after_keep_held v)) (taken_recv p.profile s coming.clock said own b.position b.acknowledged) ∙ held_at pos octet b.copy.segment.payload is high within)
         (copy_soon s (length (items_of (is_joined p.profile) s said)))))
       where
         s : Side
-        s = b.due.to
+        s = b.copy.due.to
 
         o : ℕ
         o = unwrap_or (octet_at pos own.tcp.recv) octet
@@ -342,14 +351,12 @@ module _ {C : Type 0} where
         taken : PathEnd
         taken = after_judged p.profile s coming.clock said (judged.As (means.Taken b.position b.acknowledged)) own
 
-    brought : (pos octet : ℕ) → payload_octet pos b.position b.segment.payload ≡ Some octet → pos < window_end own.tcp.recv
-        → let q = answered k (duties.Step step_duties.Events) r at_copy in Now b.due.to pos (unwrap_or (octet_at pos own.tcp.recv) octet) q.agenda p.profile (end_at b.due.to q)
+    brought : (pos octet : ℕ) → payload_octet pos b.position b.copy.segment.payload ≡ Some octet → pos < window_end own.tcp.recv
+        → let q = answered k (duties.Step step_duties.Events) r at_copy in Now b.copy.due.to pos (unwrap_or (octet_at pos own.tcp.recv) octet) q.agenda p.profile (end_at b.copy.due.to q)
     brought pos octet is within = ⊎_elim
         (λ low. (let d : Duty = duties.Step step_duties.Events in
-        let up = (path_far at_copy (answered k d r at_copy) (answered_steps k d r at_copy) b.due.to).subflow.received in lies (below (omega (arith, low, up)))))
-        (λ high. subst (λ (o : Option Event). let q = happens_if k o r at_copy in Now b.due.to pos (unwrap_or (octet_at pos own.tcp.recv) octet) q.agenda p.profile (end_at b.due.to q)) (sym b.next)
-        (subst (λ (o : Option HeardSegment). let q = copy_heard b.due.to o coming in Now b.due.to pos (unwrap_or (octet_at pos own.tcp.recv) octet) q.agenda p.profile (end_at b.due.to q)) (sym b.heard)
-        (taken_now pos octet is high within)))
+        let up = (path_far at_copy (answered k d r at_copy) (answered_steps k d r at_copy) b.copy.due.to).subflow.received in lies (below (omega (arith, low, up)))))
+        (λ high. comes_so (λ q. Now b.copy.due.to pos (unwrap_or (octet_at pos own.tcp.recv) octet) q.agenda p.profile (end_at b.copy.due.to q)) k ds r p b.copy (taken_now pos octet is high within))
         (cases_lt pos own.tcp.recv.edge)
 
   -- ---- what is forgotten
@@ -412,13 +419,13 @@ module _ {C : Type 0} where
     settles d s pos octet now = settled_so s pos octet (from d) (to d).agenda (to d)
         (subst (λ c. Now s pos octet (to d).agenda c (end_at s (to d))) (sym (same_profile k d ds r p)) now)
 
-    abbrev Comes : (d : Duty) → Brings k (from d) → Type 0
-    Comes d b = (pos octet : ℕ) → let v : Receiving = (end_at b.due.to p).tcp.recv in payload_octet pos b.position b.segment.payload ≡ Some octet → pos < window_end v
-        → (takes k r (from d) ≡ from d) ⊎ StaysThere b.due.to pos (unwrap_or (octet_at pos v) octet) (from d) (takes k r (from d))
+    abbrev Brought : (d : Duty) → Brings k (from d) → Type 0
+    Brought d b = (pos octet : ℕ) → let v : Receiving = (end_at b.copy.due.to p).tcp.recv in payload_octet pos b.position b.copy.segment.payload ≡ Some octet → pos < window_end v
+        → (takes k r (from d) ≡ from d) ⊎ StaysThere b.copy.due.to pos (unwrap_or (octet_at pos v) octet) (from d) (takes k r (from d))
 
-    comes : (b : Brings k (from (duties.Step step_duties.Events))) → Comes (duties.Step step_duties.Events) b
+    comes : (b : Brings k (from (duties.Step step_duties.Events))) → Brought (duties.Step step_duties.Events) b
     comes b pos octet is within =
-        inr (settles (duties.Step step_duties.Events) b.due.to pos (unwrap_or (octet_at pos (end_at b.due.to p).tcp.recv) octet) (brought k ds r p b pos octet is within))
+        inr (settles (duties.Step step_duties.Events) b.copy.due.to pos (unwrap_or (octet_at pos (end_at b.copy.due.to p).tcp.recv) octet) (brought k ds r p b pos octet is within))
 
     abbrev Forgotten : Side → Duty → Type 0
     Forgotten s d = FailsItsCheck s (from d) → (pos : ℕ) → octet_at pos (end_at s (takes k r (from d))).tcp.recv ≡ None
@@ -430,7 +437,7 @@ module _ {C : Type 0} where
 
     answer_keeps : (d : Duty) → KeepsWhatComes k (from d) (takes k r (from d))
     answer_keeps d = record {
-      brings = λ b. subst (λ d. (b : Brings k (from d)) → Comes d b) (sym (first_so d (duties.Step step_duties.Events) ds b.others b.first)) comes b;
+      brings = λ b. subst (λ d. (b : Brings k (from d)) → Brought d b) (sym (first_so d (duties.Step step_duties.Events) ds b.copy.others b.copy.first)) comes b;
       stays = λ s pos octet h. ⊎_elim (λ fails. stay.fails fails) (λ now. settles d s pos octet now) (there_answer k s pos octet d ds r p h);
       forgets = λ s h. inr (subst (λ d. Forgotten s d) (sym (first_so d (duties.Ask (ask_duties.CheckFailed s)) ds h.others h.first)) (forgets s) h);
     }
@@ -447,7 +454,7 @@ module _ {C : Type 0} where
 
   next_keeps : (k : Codec C) (p : PathState C) → is_nil p.agenda ≡ true → KeepsWhatComes k p (next_round p)
   next_keeps k p over = record {
-    brings = λ b pos octet is within. absurd (none b.first);
+    brings = λ b pos octet is within. absurd (none b.copy.first);
     stays = λ s pos octet h. settled_so s pos octet p start_of_turn (with_agenda start_of_turn (record p { clock = p.until; until = p.until + 100 })) (by s pos octet h);
     forgets = λ s h. absurd (none h.first);
   }

@@ -430,14 +430,14 @@ acked_so n now c s e f acks rst from is = ⊎_elim
     (λ rises. acked n acks rst (ap (λ (v : SendState). v.una) is ∙ rises))
     (ack_una n now s)
 
-held_send : (m : Meaning) (octets : List ℕ) (s : EndState) → (with_payload m octets s).send ≡ s.send
+pub held_send : (m : Meaning) (octets : List ℕ) (s : EndState) → (with_payload m octets s).send ≡ s.send
 held_send (means.Taken pos n) octets s = elim (is_nil octets) as (λ b. (if b then s else after_holding pos octets s).send ≡ s.send) [ true ↦ refl | false ↦ refl ]
 held_send _ octets s = refl
 
-owing_send : (b : Bool) (t : EndState) → (owing_if b t).send ≡ t.send
+pub owing_send : (b : Bool) (t : EndState) → (owing_if b t).send ≡ t.send
 owing_send = elim [ true ↦ λ t. refl | false ↦ λ t. refl ]
 
-heard_send : (n : ℕ) (hint : Hint) (now : ℕ) (c : Copy) (s : EndState) → (after_heard_ack n hint now c s).send ≡ (after_acknowledgement n now s).send
+pub heard_send : (n : ℕ) (hint : Hint) (now : ℕ) (c : Copy) (s : EndState) → (after_heard_ack n hint now c s).send ≡ (after_acknowledgement n now s).send
 heard_send n hint now c s = elim (is_duplicate (ack_kind n s.send) (told_by hint c) c x) as (λ b. (after_telling (told_by hint c) (if b then after_duplicate x else after_interruption x)).send ≡ x.send)
     [ true ↦ refl | false ↦ refl ]
   where

@@ -6,6 +6,7 @@ pub mod Copies
 pub mod Duties
 pub mod Flying
 pub mod GoesOn
+pub mod Hearing
 pub mod InTime
 pub mod Keeping
 pub mod Lanes

@@ -28,6 +28,7 @@ use Rattle.path_core.specs.MpJoin.{is_joined}
 use Rattle.path_core.specs.OptionsIn.{options_heard}
 use Rattle.path_core.specs.State.{PathState, end_at}
 use Rattle.path_core.specs.declared.events.Event.TheVariants as happenings
+use Rattle.path_core.specs.declared.judged.Judged.{Judged}
 use Rattle.path_core.specs.declared.judged.Judged.TheVariants as judged
 use Rattle.world_laws.specs.declared.member.Member.TheVariants.{App, Path}
 use Rattle.world_laws.specs.Actors.{Actor, ActorCrew}
@@ -99,17 +100,25 @@ module _ {C : Type 0} where
     kept : IsKept pos octet (end_at s p).tcp.recv → IsThere s pos octet p
     held : octet_at pos (after_keep_held (end_at s p).tcp.recv) ≡ Some octet → IsToKeep s p.agenda → IsThere s pos octet p
 
-  -- a copy comes next that its end takes, with so much payload from this position on
-  pub record Brings (k : Codec C) (p : PathState C) : Type 0 where
+  -- a copy comes next that its end can read
+  pub record Comes (k : Codec C) (p : PathState C) : Type 0 where
     pub others : List Duty
     pub first : p.agenda ≡ duties.Step step_duties.Events ∷ others
     pub due : Due
     pub next : next_event p ≡ Some (happenings.Arrives due)
     pub segment : HeardSegment
     pub heard : heard_in k due.to (arriving due p.link) p ≡ Some segment
+
+  -- it is this to the end
+  abbrev pub IsTo : (k : Codec C) (p : PathState C) → Comes k p → Judged → Type 0
+  IsTo k p c verdict = let e : PathEnd = end_at c.due.to p in judged_in (is_joined p.profile) c.due.to (options_heard e c.segment) e ≡ verdict
+
+  -- and the end takes it, with its payload from this position on
+  pub record Brings (k : Codec C) (p : PathState C) : Type 0 where
+    pub copy : Comes k p
     pub position : ℕ
     pub acknowledged : ℕ
-    pub taken : judged_in (is_joined p.profile) due.to (options_heard (end_at due.to p) segment) (end_at due.to p) ≡ judged.As (Taken position acknowledged)
+    pub taken : IsTo k p copy (judged.As (Taken position acknowledged))
 
   -- what becomes of it, as the path becomes another one
   pub data StaysThere (s : Side) (pos octet : ℕ) (p q : PathState C) : Type 0 where
@@ -130,9 +139,9 @@ module _ {C : Type 0} where
 
   pub record KeepsWhatComes (k : Codec C) (p q : PathState C) : Type 0 where
     -- each octet in the window that comes is there, or the one that is kept at its position, unless the path stays as it is
-    pub brings : (b : Brings k p) (pos octet : ℕ) → let v : Receiving = (end_at b.due.to p).tcp.recv in
-        payload_octet pos b.position b.segment.payload ≡ Some octet → pos < window_end v
-        → (q ≡ p) ⊎ StaysThere b.due.to pos (unwrap_or (octet_at pos v) octet) p q
+    pub brings : (b : Brings k p) (pos octet : ℕ) → let v : Receiving = (end_at b.copy.due.to p).tcp.recv in
+        payload_octet pos b.position b.copy.segment.payload ≡ Some octet → pos < window_end v
+        → (q ≡ p) ⊎ StaysThere b.copy.due.to pos (unwrap_or (octet_at pos v) octet) p q
     -- each one that came stays
     pub stays : (s : Side) (pos octet : ℕ) → IsThere s pos octet p → StaysThere s pos octet p q
     -- where a check fails none is kept any longer, so that each can come again

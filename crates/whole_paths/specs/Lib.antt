@@ -9,6 +9,7 @@ pub mod Expiries
 pub mod Finish
 pub mod Flights
 pub mod Harms
+pub mod Hearing
 pub mod InTime
 pub mod Kept
 pub mod Lanes

@@ -11,6 +11,7 @@ ghost use Rattle.whole_paths.specs.Copies.{CopiesLeaveByArriving};
 ghost use Rattle.whole_paths.specs.Expiries.{WhatRunsOutGoesAgain};
 ghost use Rattle.whole_paths.specs.Flights.{WhatWaitsComes};
 ghost use Rattle.whole_paths.specs.Harms.{EachUsesALineOrComes, PlainDirectionsHandOnAtOnce};
+ghost use Rattle.whole_paths.specs.Hearing.{EachAcknowledgementCounts};
 ghost use Rattle.whole_paths.specs.InTime.{NothingIsOverdue};
 ghost use Rattle.whole_paths.specs.Kept.{WhatWaitsIsKept};
 ghost use Rattle.whole_paths.specs.Lanes.Laws.{LossyLanesEnd, LossyLanesFinish};
@@ -112,6 +113,13 @@ pub fn each_copy_is_answered_at_once()
 pub fn each_segment_says_what_came()
     ensures octets { EachSegmentSaysWhatCame octets }
     ensures values { EachSegmentSaysWhatCame values }
+{}
+
+/// A law: each acknowledgement that an end takes counts: SND.UNA is at what the copy acknowledges then, or past it (RFC 9293, section
+/// 3.10.7.4), whether it comes in order, repeated or late. So it is with the SYN/ACK that opens an end (section 3.10.7.3).
+pub fn each_acknowledgement_counts()
+    ensures octets { EachAcknowledgementCounts octets }
+    ensures values { EachAcknowledgementCounts values }
 {}
 
 /// A law: nothing is acknowledged that didn't come: SND.UNA of each end that isn't dead lies at its peer's RCV.NXT or below, whatever is
