@@ -125,7 +125,7 @@ acks_higher low high x up (inr acks) = inr (by x.acknowledged acks)
 
 -- as each segment says what came
 says_up : (e : PathEnd) (x : PlainSegment) → IfSome e.treated.answer (λ (o : Outgoing). o.rst ≡ true) → SaysWhatCame e x → AcksUpTo e.tcp.recv.edge x
-says_up e x answers (say.acknowledges is) = inr (subst (λ o. IfSome o (λ n. n ≤ e.tcp.recv.edge)) (sym is) (le_refl e.tcp.recv.edge))
+says_up e x answers (say.acknowledges is still) = inr (subst (λ o. IfSome o (λ n. n ≤ e.tcp.recv.edge)) (sym is) (le_refl e.tcp.recv.edge))
 says_up e x answers (say.opens state is) = inr (subst (λ o. IfSome o (λ n. n ≤ e.tcp.recv.edge)) (sym is) tt)
 says_up e x answers (say.resets is) = inl is
 says_up e x answers (say.refuses answer is reset) = inl (reset ∙ subst (λ (o : Option Outgoing). IfSome o (λ (o : Outgoing). o.rst ≡ true)) is answers)

@@ -105,24 +105,24 @@ same_segment r x segment same h = record {
 module _ {C : Type 0} where
   -- ---- how a path is spelled, how long a segment is under way on it, and its clock
 
-  abbrev SameProfile : PathState C → PathState C → Type 0
+  abbrev pub SameProfile : PathState C → PathState C → Type 0
   SameProfile p q = q.profile ≡ p.profile
 
   profile_lasts : Lasts SameProfile
   profile_lasts = record { agenda = λ ds p. refl; chains = λ p q r x y. y ∙ x; passes = λ d p. ap (λ (v : PathView C). v.profile) (passes_no_more d p).same }
 
-  abbrev SameClock : PathState C → PathState C → Type 0
+  abbrev pub SameClock : PathState C → PathState C → Type 0
   SameClock p q = q.clock ≡ p.clock
 
   clock_lasts : Lasts SameClock
   clock_lasts = record { agenda = λ ds p. refl; chains = λ p q r x y. y ∙ x; passes = λ d p. (passed_same d p).clock }
 
   -- an event alone moves the clock, to its tick
-  record Frames (p q : PathState C) : Type 0 where
-    profile : SameProfile p q
-    way : (s : Side) → longest_way s q.link ≡ longest_way s p.link
-    stands : (d : Duty) (others : List Duty) → p.agenda ≡ d ∷ others → is_event d ≡ false → SameClock p q
-    moves : (event : Event) (others : List Duty) → p.agenda ≡ duties.Step step_duties.Events ∷ others → next_event p ≡ Some event → (q ≡ p) ⊎ (q.clock ≡ max p.clock (tick_of event))
+  pub record Frames (p q : PathState C) : Type 0 where
+    pub profile : SameProfile p q
+    pub way : (s : Side) → longest_way s q.link ≡ longest_way s p.link
+    pub stands : (d : Duty) (others : List Duty) → p.agenda ≡ d ∷ others → is_event d ≡ false → SameClock p q
+    pub moves : (event : Event) (others : List Duty) → p.agenda ≡ duties.Step step_duties.Events ∷ others → next_event p ≡ Some event → (q ≡ p) ⊎ (q.clock ≡ max p.clock (tick_of event))
 
   sent_way : (strip alter : Side → C → C) (from s : Side) (carried : C) (size now : ℕ) (link : LinkState C) → longest_way s (after_send strip alter from carried size now link) ≡ longest_way s link
   sent_way strip alter A s carried size now link = refl
@@ -171,7 +171,7 @@ module _ {C : Type 0} where
       none : {X : Type 0} (d : Duty) (others : List Duty) → p.agenda ≡ d ∷ others → X
       none d others is = absurd (true≢false (sym over ∙ ap is_nil is))
 
-  abbrev FramesStay : Actor C → Actor C → Type 0
+  abbrev pub FramesStay : Actor C → Actor C → Type 0
   FramesStay (Path p) (Path q) = Frames p q
   FramesStay (App a) (App b) = Unit {0}
   FramesStay _ _ = ⊥
@@ -301,6 +301,11 @@ module _ {C : Type 0} where
   records_go_on k (App a) (Path q) kept timers again copies frames past = absurd kept
   records_go_on k (Path p) (App b) kept timers again copies frames past = absurd kept
 
+  pub frames_stay : (k : Codec C) (w : WorldState C) (turn : Turn) (actor : ℕ) (c : ActorCrew C) → slice_get w.crew actor ≡ Some c
+      → (d : ActorCrew C) × (slice_get (after_turn k turn w).crew actor ≡ Some d) × FramesStay c.member d.member
+  frames_stay k w turn = turn_each k (λ x y. FramesStay x.member y.member) (λ x. member_stays x.member) (λ ask books x. member_frames k (answer_to books ask) x.member)
+      (λ stamp x over. member_begins x.member over) turn w
+
   goes_on_so : (k : Codec C) (w : WorldState C) → NothingIsOverdue w → (turn : Turn) (actor : ℕ) (c : ActorCrew C) → slice_get w.crew actor ≡ Some c
       → (d : ActorCrew C) × (slice_get (after_turn k turn w).crew actor ≡ Some d) × RecordsGoOn k c.member d.member
   goes_on_so k w past turn actor c there =
@@ -309,8 +314,7 @@ module _ {C : Type 0} where
       let timers = (no_timer_is_put_off k).waits w turn actor c there in
       let again = what_runs_out_goes_again k w turn actor c there in
       let copies = copies_leave k w turn actor c there in
-      let frames = turn_each k (λ x y. FramesStay x.member y.member) (λ x. member_stays x.member) (λ ask books x. member_frames k (answer_to books ask) x.member)
-      (λ stamp x over. member_begins x.member over) turn w actor c there in (
+      let frames = frames_stay k w turn actor c there in (
         d,
         kept.1,
         records_go_on k c.member d.member kept.2

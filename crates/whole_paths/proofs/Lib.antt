@@ -14,6 +14,7 @@ pub mod Links
 pub mod Owing
 pub mod Moving
 pub mod Passing
+pub mod Paying
 pub mod Pieces
 pub mod Reasons
 pub mod Resending

@@ -156,11 +156,14 @@ joined_moves keys asked e = elim (is_listening e.tcp.state) as
     (λ b. Moves e (record (joined_by keys asked e) { tcp = if b then after_syn (unkept None) (syn_alone e.treated.window) e.tcp else e.tcp }))
     [ true ↦ same refl | false ↦ same refl ]
 
+pub item_tcp : (s : Side) (o : Option Heard) (e : PathEnd) → (item_passed s o e).tcp ≡ e.tcp
+item_tcp s None e = refl
+item_tcp s (Some (says.Mapping fin)) e = elim (counts e) as (λ b. (if b then with_learned e else with_skipped e).tcp ≡ e.tcp) [ true ↦ refl | false ↦ refl ]
+item_tcp s (Some (says.DataFin place)) e = elim (counts e) as (λ b. (if b then with_data_fin place e else e).tcp ≡ e.tcp) [ true ↦ refl | false ↦ refl ]
+item_tcp s (Some _) e = refl
+
 pub item_recv : (s : Side) (o : Option Heard) (e : PathEnd) → (item_passed s o e).tcp.recv ≡ e.tcp.recv
-item_recv s None e = refl
-item_recv s (Some (says.Mapping fin)) e = elim (counts e) as (λ b. (if b then with_learned e else with_skipped e).tcp.recv ≡ e.tcp.recv) [ true ↦ refl | false ↦ refl ]
-item_recv s (Some (says.DataFin place)) e = elim (counts e) as (λ b. (if b then with_data_fin place e else e).tcp.recv ≡ e.tcp.recv) [ true ↦ refl | false ↦ refl ]
-item_recv s (Some _) e = refl
+item_recv s o e = ap (λ (t : EndState). t.recv) (item_tcp s o e)
 
 fired_moves : (now : ℕ) (e : PathEnd) → Moves e (after_firing now e)
 fired_moves now e = elim (is_sixth e.tcp) as (λ b. Moves e (record e { tcp = if b then after_death true e.tcp else after_expiry now e.tcp }))

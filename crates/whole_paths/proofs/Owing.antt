@@ -78,7 +78,8 @@ use Rattle.world_laws.proofs.Writes.Paths.{writes_no_more, passes_no_more}
 use Rattle.world_laws.proofs.Writes.Steps.{unwritten, both_ends}
 use Rattle.whole_paths.specs.AgendaSteps.{is_of_both, is_gone, Follows}
 use Rattle.whole_paths.specs.AgendaSteps.{Follows as follow}
-use Rattle.whole_paths.specs.Answered.{OwesNone, HasAnswered, CopiesAreAnswered}
+use Rattle.whole_paths.specs.Answered.{OwesNone, IsDone, HasAnswered, CopiesAreAnswered}
+use Rattle.whole_paths.specs.Answered.{IsDone as idle_by}
 use Rattle.whole_paths.specs.EndSteps.{PathStep}
 use Rattle.whole_paths.proofs.Agendas.{own_end, gone_end, answered_follows}
 use Rattle.whole_paths.proofs.Duties.{passed_steps, answered_steps}
@@ -643,11 +644,12 @@ module _ {C : Type 0} where
       by [] h = settled_ready s [] (with_agenda [] p) h
       by (d ∷ ds) h = let q : PathState C = answered k d r (with_agenda (d ∷ ds) p) in settled_ready s q.agenda q (answer_ready k s d ds r p h)
 
-  -- at the end of a turn it is so, and as a round begins nothing is owed
-  over_so : (s : Side) (p : PathState C) → Stands s p → p.agenda ≡ [] → is_gone (end_at s p) ≡ false → OwesNone (end_at s p)
-  over_so s p (is_dead_now gone) over living = absurd (true≢false (sym gone ∙ living))
-  over_so s p (is_quiet h) over living = h
-  over_so s p (answers a) over living = absurd (subst (Ahead s (end_at s p)) over a)
+  -- at the end of a turn and before an event it is so, and as a round begins nothing is owed
+  done_so : (s : Side) (p : PathState C) → Stands s p → IsDone p → is_gone (end_at s p) ≡ false → OwesNone (end_at s p)
+  done_so s p (is_dead_now gone) is living = absurd (true≢false (sym gone ∙ living))
+  done_so s p (is_quiet h) is living = h
+  done_so s p (answers a) (idle_by.over none) living = absurd (subst (Ahead s (end_at s p)) none a)
+  done_so s p (answers a) (idle_by.next others first) living = ⊎_elim (λ is. absurd is) (λ rest. absurd (true≢false rest.1.0)) (subst (Ahead s (end_at s p)) first a)
 
   idle : (s : Side) (p : PathState C) → Stands s p → p.agenda ≡ [] → (ds : List Duty) → Ready s ds (end_at s p)
   idle s p (is_dead_now gone) over ds = is_dead_now gone
@@ -670,7 +672,7 @@ module _ {C : Type 0} where
 
   member_so : (m : Actor C) → StandingMember m → HoldsOfKind (λ app. Unit {0}) HasAnswered m
   member_so (App a) h = tt
-  member_so (Path p) h = λ over s living. over_so s p (h s) over living
+  member_so (Path p) h = λ is s living. done_so s p (h s) is living
 
   pub copies_are_answered : (k : Codec C) → Always k (λ start w. CopiesAreAnswered w)
   copies_are_answered k start turns = record {

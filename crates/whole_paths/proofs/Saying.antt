@@ -44,24 +44,24 @@ use Rattle.whole_paths.proofs.Turns.{turn_each}
 
 -- a record, or an acknowledgement in its place
 record_so : (c : Profile) (s : Side) (o : Option Record) (e : PathEnd) → SaysWhatCame e (record_or_ack c s o e)
-record_so c s None e = acknowledges refl
+record_so c s None e = acknowledges refl refl
 record_so c s (Some r) e = by (is_opening e.tcp.state) refl
   where
     by : (b : Bool) → is_opening e.tcp.state ≡ b → SaysWhatCame e (record_said c s r e)
     by true is = opens is (ap (λ b. if b then None else Some e.tcp.recv.edge) is)
-    by false is = acknowledges (ap (λ b. if b then None else Some e.tcp.recv.edge) is)
+    by false is = acknowledges (ap (λ b. if b then None else Some e.tcp.recv.edge) is) refl
 
 noted_so : (c : Profile) (s : Side) (o : Option OwnNotice) (e : PathEnd) → SaysWhatCame e (noted_said c s o e)
-noted_so c s None e = acknowledges refl
-noted_so c s (Some notice) e = acknowledges refl
+noted_so c s None e = acknowledges refl refl
+noted_so c s (Some notice) e = acknowledges refl refl
 
 carried_so : (c : Profile) (s : Side) (o : Option ℕ) (e : PathEnd) → SaysWhatCame e (carried_said c s o e)
-carried_so c s None e = acknowledges refl
-carried_so c s (Some key) e = acknowledges refl
+carried_so c s None e = acknowledges refl refl
+carried_so c s (Some key) e = acknowledges refl refl
 
 answer_so : (c : Profile) (s : Side) (e : PathEnd) (b : Bool) → SaysWhatCame e (if b then syn_ack_said c s e else ack_said c s e.tcp.send.nxt None e)
-answer_so c s e true = acknowledges refl
-answer_so c s e false = acknowledges refl
+answer_so c s e true = acknowledges refl refl
+answer_so c s e false = acknowledges refl refl
 
 resent_so : (c : Profile) (s : Side) (e : PathEnd) (records third close fin : Bool)
     → SaysWhatCame e (if records then record_or_ack c s (first_record e) e
@@ -70,10 +70,10 @@ resent_so : (c : Profile) (s : Side) (e : PathEnd) (records third close fin : Bo
     else (if fin then ack_said c s e.tcp.send.nxt e.sending.known_end e
     else ack_said c s (e.tcp.send.una - 1) None e))))
 resent_so c s e true third close fin = record_so c s (first_record e) e
-resent_so c s e false true close fin = acknowledges refl
+resent_so c s e false true close fin = acknowledges refl refl
 resent_so c s e false false true fin = carried_so c s e.notices.carrier e
-resent_so c s e false false false true = acknowledges refl
-resent_so c s e false false false false = acknowledges refl
+resent_so c s e false false false true = acknowledges refl refl
+resent_so c s e false false false false = acknowledges refl refl
 
 -- the reset that a copy was answered by
 refusal_so : (c : Profile) (options : List PlainOption) (e : PathEnd) → SaysWhatCame e (segment_of c (outgoing_or e.treated.answer (reset_segment e.tcp)) options [] e)
@@ -128,11 +128,11 @@ module _ {C : Type 0} where
   duty_so (duties.Send (send_duties.BreakReset s reason)) p = resets refl
   duty_so (duties.Send (send_duties.Reset s)) p = resets refl
   duty_so (duties.Send (send_duties.ResetNoted s)) p = resets refl
-  duty_so (duties.Send (send_duties.Update s)) p = acknowledges refl
-  duty_so (duties.Send (send_duties.Acknowledge s)) p = acknowledges refl
-  duty_so (duties.Send (send_duties.DataFin s)) p = acknowledges refl
-  duty_so (duties.Send (send_duties.Fin s)) p = acknowledges refl
-  duty_so (duties.Send (send_duties.SynAck s)) p = acknowledges refl
+  duty_so (duties.Send (send_duties.Update s)) p = acknowledges refl refl
+  duty_so (duties.Send (send_duties.Acknowledge s)) p = acknowledges refl refl
+  duty_so (duties.Send (send_duties.DataFin s)) p = acknowledges refl refl
+  duty_so (duties.Send (send_duties.Fin s)) p = acknowledges refl refl
+  duty_so (duties.Send (send_duties.SynAck s)) p = acknowledges refl refl
   duty_so _ p = tt
 
   first_so : (ds : List Duty) (p : PathState C) → AllSay (first_sends ds p) p

@@ -1,7 +1,10 @@
--- Whether an end owes an acknowledgement where a turn is over (RFC 9293, section 3.10.7.4).
-use Rattle.std.specs.Prelude.{ℕ, ◌≡◌, false, Some, [], slice_get}
+-- Whether an end owes an acknowledgement where a turn is over or an event is next (RFC 9293, section 3.10.7.4).
+use Rattle.std.specs.Prelude.{ℕ, ◌≡◌, false, Some, List, [], ◌∷◌, slice_get}
 use Rattle.sides.specs.declared.side.Side.{Side}
 use Rattle.subflow_tcp.specs.States.{is_dead}
+use Rattle.path_agenda.specs.declared.duty.Duty.{Duty}
+use Rattle.path_agenda.specs.declared.duty.Duty.TheVariants as duties
+use Rattle.path_agenda.specs.declared.duty.StepDuty.TheVariants as step_duties
 use Rattle.path_core.specs.End.{PathEnd}
 use Rattle.path_core.specs.State.{PathState, end_at}
 use Rattle.world_laws.specs.Members.{HoldsOfKind}
@@ -13,9 +16,14 @@ pub record OwesNone (e : PathEnd) : Type 0 where
   pub ack : e.tcp.due.ack ≡ false
   pub syn_ack : e.tcp.due.syn_ack ≡ false
 
--- of each end that isn't dead, where the turn of the path is over
+-- the turn of the path is over, or what happens next on it comes
+pub data IsDone {C : Type 0} (p : PathState C) : Type 0 where
+  over : p.agenda ≡ [] → IsDone p
+  next : (others : List Duty) → p.agenda ≡ duties.Step step_duties.Events ∷ others → IsDone p
+
+-- of each end that isn't dead, then
 abbrev pub HasAnswered : {C : Type 0} → PathState C → Type 0
-HasAnswered p = p.agenda ≡ [] → (s : Side) → is_dead (end_at s p).tcp.state ≡ false → OwesNone (end_at s p)
+HasAnswered p = IsDone p → (s : Side) → is_dead (end_at s p).tcp.state ≡ false → OwesNone (end_at s p)
 
 -- on each path
 pub record CopiesAreAnswered {C : Type 0} (w : WorldState C) : Type 0 where

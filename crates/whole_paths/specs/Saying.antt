@@ -1,5 +1,5 @@
 -- What the segments acknowledge that an end sends (RFC 9293, section 3.10.7.4).
-use Rattle.std.specs.Prelude.{ℕ, ◌≡◌, ◌⊎◌, true, Some, None, IfSome, slice_get}
+use Rattle.std.specs.Prelude.{ℕ, ◌≡◌, ◌⊎◌, true, false, Some, None, IfSome, slice_get}
 use Rattle.path_segments.specs.Spelled.{PlainSegment}
 use Rattle.subflow_tcp.specs.declared.segments.Outgoing.{Outgoing}
 use Rattle.subflow_tcp.specs.States.{is_opening}
@@ -14,8 +14,8 @@ use Rattle.world_laws.specs.Worlds.{WorldState, Turn, after_turn}
 
 -- what a segment of this end says of what came to it
 pub data SaysWhatCame (e : PathEnd) (x : PlainSegment) : Type 0 where
-  -- it acknowledges all that came in order, up to RCV.NXT
-  acknowledges : x.acknowledged ≡ Some e.tcp.recv.edge → SaysWhatCame e x
+  -- it acknowledges all that came in order, up to RCV.NXT, and is no reset
+  acknowledges : x.acknowledged ≡ Some e.tcp.recv.edge → x.rst ≡ false → SaysWhatCame e x
   -- the end opens, and nothing came (section 3.5)
   opens : is_opening e.tcp.state ≡ true → x.acknowledged ≡ None → SaysWhatCame e x
   -- it is a reset, or the one by which a dead end answers a copy, or refuses it

@@ -15,6 +15,7 @@ ghost use Rattle.whole_paths.specs.Hearing.{EachAcknowledgementCounts};
 ghost use Rattle.whole_paths.specs.InTime.{NothingIsOverdue};
 ghost use Rattle.whole_paths.specs.Kept.{WhatWaitsIsKept};
 ghost use Rattle.whole_paths.specs.Lanes.Laws.{LossyLanesEnd, LossyLanesFinish};
+ghost use Rattle.whole_paths.specs.Owed.{WhatIsOwedComes};
 ghost use Rattle.whole_paths.specs.Passed.{WhatIsInOrderIsPassed};
 ghost use Rattle.whole_paths.specs.Reasons.{WhoWaitsHasATimer};
 ghost use Rattle.whole_paths.specs.Running.{TimersRunOn};
@@ -98,11 +99,24 @@ pub fn what_runs_out_goes_again()
     ensures values { WhatRunsOutGoesAgain values }
 {}
 
-/// A law: where the turn of a path is over, no end owes an acknowledgement or a SYN/ACK, so that each copy that asks for one is answered in
-/// the turn in which it comes (RFC 9293, section 3.10.7.4), or by the reset with which the end dies.
+/// A law: where the turn of a path is over, or an event is next on it, no end owes an acknowledgement or a SYN/ACK, so that each copy that
+/// asks for one is answered in the turn in which it comes and before anything else happens (RFC 9293, section 3.10.7.4), or by the reset with
+/// which the end dies.
 pub fn each_copy_is_answered_at_once()
     ensures octets { Always octets (λ start w. CopiesAreAnswered w) }
     ensures values { Always values (λ start w. CopiesAreAnswered w) }
+{}
+
+/// A law: an acknowledgement that an end owes comes to the peer within the longest time that a segment is under way, unless the script harms
+/// it.
+///
+/// By each turn the end owes it still and the tick stays by which it comes, or its link took a segment of the end, which acknowledges all
+/// that came to the end, and a copy of that is under way; or the copy was what arrives next; or the script has a line less by which a segment
+/// is lost or late; or its direction loses it, by the word drawn for it or before a full queue; or the end answers by a reset or is dead, or
+/// the path dies by a line. No event comes before the end has answered (`each_copy_is_answered_at_once`), so that the clock stands till then.
+pub fn what_is_owed_comes()
+    ensures octets { WhatIsOwedComes octets }
+    ensures values { WhatIsOwedComes values }
 {}
 
 /// A law: each segment that an end sends acknowledges RCV.NXT (RFC 9293, section 3.10.7.4), but for the SYN of an end that opens and for
