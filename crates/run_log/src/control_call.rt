@@ -9,7 +9,8 @@ ghost use Rattle.key_material.specs.Address.{octets_of};
 ghost use Rattle.run_log.specs.Fitting.{IsLong, IsByte, ControlCallFits, AddressFits, HeardFits};
 ghost use Rattle.run_log.specs.Calls.{heard_words, control_call_words};
 
-use crate::name::{flag, put_event};
+use crate::name::put_event;
+use crate::number::{put_flagged, put_one, put_three, put_two};
 use control_book::ControlCall;
 use fallback_state::Event;
 use key_material::Address;
@@ -72,27 +73,38 @@ pub fn put_control_call(text: &mut String, call: &ControlCall) -> Result<(), All
     ensures fits { OnOk result (ControlCallFits call.now) }
 {
     match *call {
-        ControlCall::Look { path } => write!(text, "look {path}"),
-        ControlCall::PeerKey { key } => write!(text, "peerkey {key}"),
-        ControlCall::Keys { own, peer } => write!(text, "keys {own} {peer}"),
+        ControlCall::Look { path } => put_one(text, "look", u64::from(path)),
+        ControlCall::PeerKey { key } => put_one(text, "peerkey", key),
+        ControlCall::Keys { own, peer } => put_two(text, "keys", own, peer),
         ControlCall::Fell { path, event } => put_fell(text, path, event),
-        ControlCall::JoinBegin { path } => write!(text, "joinbegin {path}"),
-        ControlCall::JoinHeard { path, token } => write!(text, "joinheard {path} {token}"),
-        ControlCall::Live { path, backup } => write!(text, "live {path} {}", flag(backup)),
-        ControlCall::Dead { path } => write!(text, "dead {path}"),
-        ControlCall::Backup { path, on } => write!(text, "backup {path} {}", flag(on)),
-        ControlCall::Rate { path, window, rtt } => write!(text, "rate {path} {window} {rtt}"),
-        ControlCall::Announce { id } => write!(text, "announce {id}"),
-        ControlCall::Withdraw { id } => write!(text, "withdraw {id}"),
+        ControlCall::JoinBegin { path } => put_one(text, "joinbegin", u64::from(path)),
+        ControlCall::JoinHeard { path, token } => put_two(
+            text,
+            "joinheard",
+            u64::from(path),
+            u64::from(token),
+        ),
+        ControlCall::Live { path, backup } => put_flagged(text, "live", u64::from(path), backup),
+        ControlCall::Dead { path } => put_one(text, "dead", u64::from(path)),
+        ControlCall::Backup { path, on } => put_flagged(text, "backup", u64::from(path), on),
+        ControlCall::Rate { path, window, rtt } => put_three(
+            text,
+            "rate",
+            u64::from(path),
+            u64::from(window),
+            u64::from(rtt),
+        ),
+        ControlCall::Announce { id } => put_one(text, "announce", u64::from(id)),
+        ControlCall::Withdraw { id } => put_one(text, "withdraw", u64::from(id)),
         ControlCall::Heard {
             id,
             address,
             port,
             hmac,
         } => put_heard(text, id, address, port, hmac),
-        ControlCall::Echoed { id } => write!(text, "echoed {id}"),
-        ControlCall::Removed { id } => write!(text, "removed {id}"),
+        ControlCall::Echoed { id } => put_one(text, "echoed", u64::from(id)),
+        ControlCall::Removed { id } => put_one(text, "removed", u64::from(id)),
         ControlCall::FastClose => text.push_str("fastclose"),
-        ControlCall::FastHeard { key } => write!(text, "fastheard {key}"),
+        ControlCall::FastHeard { key } => put_one(text, "fastheard", key),
     }
 }

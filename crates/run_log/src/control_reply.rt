@@ -8,6 +8,7 @@ ghost use Rattle.run_log.specs.Fitting.{NoticeFits, VerdictFits, RowFits, RowsFi
 ghost use Rattle.run_log.specs.Replies.{row_words, control_reply_words};
 
 use crate::name::{flag, mode_name, put_notice, put_verdict};
+use crate::number::put_number;
 use control_book::{ControlReply, Notice};
 use fallback_state::{Mode, Verdict};
 use linked_increase::Row;
@@ -46,7 +47,9 @@ fn put_row(text: &mut String, row: Row) -> Result<(), AllocError>
     ensures fits { OnOk result (RowFits row) }
 {
     let Row { path, window, rtt } = row;
-    write!(text, " {path} {window} {rtt}")
+    put_number(text, u64::from(path))?;
+    put_number(text, u64::from(window))?;
+    put_number(text, u64::from(rtt))
 }
 
 /// The numbers of each row.

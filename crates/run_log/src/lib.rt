@@ -12,6 +12,7 @@ mod form;
 mod laws;
 mod local;
 mod name;
+mod number;
 mod outcome;
 mod reading;
 mod reassembly;

@@ -2,14 +2,26 @@
 
 ghost use Rattle.std.specs.Prelude.{◌≡◌, ◌++◌, OnOk, string_bytes};
 ghost use Rattle.link_script.specs.Writing.{spaced};
+ghost use Rattle.send_book.specs.declared.call.SendCall.TheVariants.{Grant};
 ghost use Rattle.send_book.specs.declared.call.SendReply.TheVariants.{NoGrant};
 ghost use Rattle.run_log.specs.Fitting.{IsLong, OptionFits, SendCallFits, SendReplyFits};
 ghost use Rattle.run_log.specs.Calls.{send_call_words};
 ghost use Rattle.run_log.specs.Replies.{granted_words, send_reply_words};
 
 use crate::name::{flag, put_optional, reason_name};
+use crate::number::{put_behind, put_flagged, put_one, put_two};
 use send_book::{SendCall, SendReply, Why};
 use std::alloc::AllocError;
+
+/// A path, how many bytes it asks for, and whether it is on standby.
+fn put_grant(text: &mut String, path: u8, max: u32, standby: bool) -> Result<(), AllocError>
+    ensures text { OnOk result (string_bytes text.new ≡
+        string_bytes text.old ++ spaced (send_call_words (Grant path max standby))) }
+    ensures fits { OnOk result (IsLong path × IsLong max) }
+{
+    put_two(text, "grant", u64::from(path), u64::from(max))?;
+    put_behind(text, flag(standby))
+}
 
 pub fn put_send_call(text: &mut String, call: &SendCall) -> Result<(), AllocError>
     ensures text { OnOk result (string_bytes text.new ≡
@@ -17,15 +29,13 @@ pub fn put_send_call(text: &mut String, call: &SendCall) -> Result<(), AllocErro
     ensures fits { OnOk result (SendCallFits call.now) }
 {
     match *call {
-        SendCall::Write { ref bytes } => write!(text, "write {}", bytes.len()),
+        SendCall::Write { ref bytes } => put_one(text, "write", bytes.len() as u64),
         SendCall::Close => text.push_str("close"),
-        SendCall::Grant { path, max, standby } => {
-            write!(text, "grant {path} {max} {}", flag(standby))
-        }
-        SendCall::AckIn { next, window } => write!(text, "ack {next} {window}"),
-        SendCall::Return { path } => write!(text, "return {path}"),
+        SendCall::Grant { path, max, standby } => put_grant(text, path, max, standby),
+        SendCall::AckIn { next, window } => put_two(text, "ack", next, window),
+        SendCall::Return { path } => put_one(text, "return", u64::from(path)),
         SendCall::GoIdentity => text.push_str("identity"),
-        SendCall::GoInfinite { path } => write!(text, "infinite {path}"),
+        SendCall::GoInfinite { path } => put_one(text, "infinite", u64::from(path)),
         SendCall::Abort => text.push_str("abort"),
     }
 }
@@ -36,7 +46,7 @@ fn put_granted(text: &mut String, from: u64, to: u64) -> Result<(), AllocError>
         string_bytes text.old ++ spaced (granted_words from to)) }
     ensures fits { OnOk result (IsLong from × IsLong to) }
 {
-    write!(text, "granted {from} {to}")
+    put_two(text, "granted", from, to)
 }
 
 /// The reason that no bytes are granted, and how many there are in all.
@@ -55,16 +65,16 @@ pub fn put_send_reply(text: &mut String, reply: &SendReply) -> Result<(), AllocE
     ensures fits { OnOk result (SendReplyFits reply.now) }
 {
     match *reply {
-        SendReply::Taken(count) => write!(text, "taken {count}"),
+        SendReply::Taken(count) => put_one(text, "taken", count),
         SendReply::Closed => text.push_str("closed"),
         SendReply::Shut => text.push_str("shut"),
         SendReply::Granted { span, .. } => put_granted(text, span.from, span.to),
         SendReply::NoGrant { why, end } => put_no_grant(text, why, end),
-        SendReply::Acked { bytes, fin } => write!(text, "acked {bytes} {}", flag(fin)),
-        SendReply::AckFuture { written } => write!(text, "future {written}"),
-        SendReply::Returned(count) => write!(text, "returned {count}"),
+        SendReply::Acked { bytes, fin } => put_flagged(text, "acked", bytes, fin),
+        SendReply::AckFuture { written } => put_one(text, "future", written),
+        SendReply::Returned(count) => put_one(text, "returned", count),
         SendReply::Noted => text.push_str("noted"),
-        SendReply::Infinite { from } => write!(text, "infinite {from}"),
+        SendReply::Infinite { from } => put_one(text, "infinite", from),
         SendReply::Scattered => text.push_str("scattered"),
     }
 }

@@ -1,6 +1,7 @@
 //! Writes the lines of a log.
 
-ghost use Rattle.std.specs.Prelude.{◌≡◌, ◌++◌, All, OnOk, IfOk, map, string_bytes};
+ghost use Rattle.std.specs.Prelude.{◌≡◌, ◌∷◌, ◌++◌, [], All, OnOk, IfOk, map, string_bytes};
+ghost use Rattle.std.specs.Fmt.{decimal};
 ghost use Rattle.std.specs.List.{AllByRecursion, flat_map};
 ghost use Rattle.link_script.specs.Writing.{spaced};
 ghost use Rattle.run_log.specs.Fitting.{AskFits, ReplyFits, NoteFits};
@@ -12,10 +13,12 @@ use crate::control_call::put_control_call;
 use crate::control_reply::put_control_reply;
 use crate::local::put_local;
 use crate::name::object_name;
+use crate::number::{put_behind, put_one};
 use crate::outcome::Outcome;
 use crate::reassembly::{put_reassembly_call, put_reassembly_reply};
 use crate::send::{put_send_call, put_send_reply};
 use actor_desk::{Ask, Note, Reply};
+use itoa::Buffer;
 use octet_text::Text;
 use sides::Object;
 use std::alloc::{AllocError, Global};
@@ -68,6 +71,16 @@ fn put_reply(text: &mut String, reply: &Reply) -> Result<(), AllocError>
     }
 }
 
+/// Puts the stamp and the actor of a step, the name of an object, and a space.
+fn put_head(text: &mut String, stamp: u64, actor: u8, object: &str) -> Result<(), AllocError>
+    ensures { OnOk result (string_bytes text.new ≡ string_bytes text.old ++
+        spaced (decimal stamp ∷ decimal actor ∷ object.now ∷ [] ∷ [])) }
+{
+    put_one(text, Buffer::new().format(stamp), u64::from(actor))?;
+    put_behind(text, object)?;
+    text.push_str(" ")
+}
+
 /// Puts the line of a step at the end of a text.
 fn put_line(text: &mut String, note: &Note) -> Result<(), AllocError>
     ensures text { OnOk result (string_bytes text.new ≡
@@ -75,14 +88,10 @@ fn put_line(text: &mut String, note: &Note) -> Result<(), AllocError>
     ensures fits { OnOk result (NoteFits note.now) }
 {
     let Note { stamp, actor, .. } = *note;
-    write!(
-        text,
-        "{stamp} {actor} {} ",
-        object_name(object_of(&note.ask))
-    )?;
+    put_head(text, stamp, actor, object_name(object_of(&note.ask)))?;
     put_ask(text, &note.ask)?;
     put_reply(text, &note.reply)?;
-    writeln!(text)
+    text.push_str("\n")
 }
 
 /// Puts the lines of steps, in this order, at the end of a text.
