@@ -22,7 +22,7 @@ use Rattle.world_laws.specs.Writes.{side_of}
 
 -- ---- duties
 
--- it treats what a copy said or carried
+-- a duty treats what a copy said or carried
 abbrev pub treats_copy : Duty → Bool
 treats_copy (duties.Ask (ask_duties.PlainHandshake s)) = true
 treats_copy (duties.Ask (ask_duties.PeerKey s)) = true
@@ -40,13 +40,13 @@ treats_copy (duties.Step (step_duties.PlainAck s)) = true
 treats_copy (duties.Step (step_duties.Unmapped s)) = true
 treats_copy _ = false
 
--- it treats a copy, and so may break the path, or it is one by which the path breaks
+-- a duty may break the path: one that treats a copy, or one by which the path breaks
 abbrev pub may_break : Duty → Bool
 may_break (duties.Ask (ask_duties.BreakAck s reason)) = true
 may_break (duties.Send (send_duties.BreakReset s reason)) = true
 may_break d = treats_copy d
 
--- it is no duty of one side: an event comes, or the turn ends
+-- a duty is none of one side: an event comes, or the turn ends
 abbrev pub is_of_both : Duty → Bool
 is_of_both (duties.Step step_duties.Events) = true
 is_of_both duties.End = true
@@ -93,7 +93,7 @@ pub record IsStill (e f : PathEnd) : Type 0 where
   pub modes : f.modes ≡ e.modes
   pub notices : f.notices ≡ e.notices
 
--- it is dead
+-- an end is dead
 abbrev pub is_gone : PathEnd → Bool
 is_gone e = is_dead e.tcp.state
 
@@ -119,7 +119,7 @@ pub data Happened (s : Side) (e f : PathEnd) : List Duty → Type 0 where
   is_reset : (reason : ℕ) → Happened s e f (resets s reason)
 
 module _ {C : Type 0} where
-  -- and the other end stays, or both are dead
+  -- an event happens to the end of a side: the other end stays, or is dead
   abbrev pub Happens : Side → PathState C → PathState C → Type 0
   Happens s p q =
       Happened s (end_at s p) (end_at s q) q.agenda × ((is_gone (end_at (peer s) q) ≡ true) ⊎ IsStill (end_at (peer s) p) (end_at (peer s) q))

@@ -1,4 +1,4 @@
--- That nothing is acknowledged which didn't come (RFC 9293, section 3.4).
+-- Nothing is acknowledged that didn't come (RFC 9293, section 3.4).
 use Rattle.std.specs.Prelude.{ℕ, ◌≡◌, ◌≤◌, false, Some, slice_get}
 use Rattle.sides.specs.declared.side.Side.{Side}
 use Rattle.sides.specs.Side.{peer}

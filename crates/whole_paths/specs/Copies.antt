@@ -20,9 +20,9 @@ module _ {C : Type 0} where
 
   -- what becomes of it, as the path becomes another one
   pub data GoesOnItsWay (f : Flight C) (p q : PathState C) : Type 0 where
-    -- it is still under way
+    -- the copy is still under way
     on : IsUnderWay f q → GoesOnItsWay f p q
-    -- it was the next event of the path: it arrives
+    -- the copy arrives, which was the next event of the path
     arrives : next_event p ≡ Some (happenings.Arrives (due_of f)) → GoesOnItsWay f p q
     -- the next event was a line of the script by which the path dies
     dies : (line : LineLeft) → next_event p ≡ Some (happenings.Takes line) → line.action ≡ actions.Die → GoesOnItsWay f p q

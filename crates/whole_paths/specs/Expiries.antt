@@ -48,7 +48,7 @@ module _ {C : Type 0} where
     pub next : IsToSendAgain s q
     pub timer : (end_at s q).tcp.timing.timer ≡ Some (q.clock + min 60000 (2 * (end_at s p).tcp.timing.rtt.rto))
 
-  -- and the sixth expiry without an acceptable segment in between ends the end
+  -- an expiry: up to the fifth without an acceptable segment in between the end goes on, and the sixth ends it
   pub record Expires (s : Side) (p q : PathState C) : Type 0 where
     pub again : (end_at s p).tcp.timing.expiries < 5 → IsTimedAgain s p q
     pub sixth : 5 ≤ (end_at s p).tcp.timing.expiries → is_dead (end_at s q).tcp.state ≡ true

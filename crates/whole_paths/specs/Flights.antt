@@ -28,7 +28,7 @@ use Rattle.whole_paths.specs.InTime.{NothingIsOverdue}
 use Rattle.whole_paths.specs.Kept.{IsSameRecord}
 use Rattle.whole_paths.specs.Waits.{RunsTo, IsNews}
 
--- it is the first record of the end that isn't acknowledged, however often it was sent
+-- a record is the first of the end's that isn't acknowledged, however often it was sent
 pub record IsFirst (r : Record) (e : PathEnd) : Type 0 where
   pub first : Record
   pub others : List Record

@@ -1,4 +1,4 @@
--- That each event of a path happens at its tick, and not later.
+-- Each event of a path happens at its tick, and not later.
 use Rattle.std.specs.Prelude.{ℕ, ◌≡◌, ◌≤◌, true, Some, IfSome, slice_get}
 use Rattle.std.specs.List.{AllByRecursion}
 use Rattle.link_model.specs.declared.flight.Flight.{Flight}

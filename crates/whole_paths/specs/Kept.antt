@@ -16,7 +16,7 @@ AreKept Gone Same [] ys = Unit {0}
 AreKept Gone Same (x ∷ xs) [] = Gone x × AreKept Gone Same xs []
 AreKept Gone Same (x ∷ xs) (y ∷ ys) = (Gone x × AreKept Gone Same xs (y ∷ ys)) ⊎ (Same x y × AreKept Gone Same xs ys)
 
--- the same record, however often it was sent
+-- two records are the same but for how often they were sent
 pub record IsSameRecord (r t : Record) : Type 0 where
   pub pos : t.pos ≡ r.pos
   pub kind : t.kind ≡ r.kind

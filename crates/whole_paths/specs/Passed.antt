@@ -1,4 +1,4 @@
--- That an end passes what it can of what it keeps: RCV.NXT stands behind all octets in order whose places it knows (RFC 8684, section 3.3.1).
+-- An end passes what it can of what it keeps: RCV.NXT stands behind all octets in order whose places it knows (RFC 8684, section 3.3.1).
 use Rattle.std.specs.Prelude.{ℕ, ◌≡◌, false, Some, None, [], slice_get}
 use Rattle.sides.specs.declared.side.Side.{Side}
 use Rattle.subflow_tcp.specs.States.{is_dead}

@@ -41,7 +41,7 @@ abbrev pub ticks_for : ℕ → ℕ → ℕ
 ticks_for within zero = 0
 ticks_for within (suc n) = ticks_for within n + (within + 100)
 
--- it is over once these have passed for one piece of news more than there can be
+-- a wait is over once the rounds for one piece of news more than there can be have passed
 abbrev pub WhatIsAwaitedComes : Type 1
 WhatIsAwaitedComes = (s : System) (most within : ℕ) → Drives s most within → (w : s.State) → s.Sound w → s.until w ≡ 100
     → (n : ℕ) (u : s.State) → Course s w n u → ticks_for within (suc most) < 100 * n → s.Over u

@@ -21,9 +21,9 @@ pub record IsRunning (tick : ℕ) (e : PathEnd) : Type 0 where
 module _ {C : Type 0} where
   -- what becomes of it, as the path becomes another one
   pub data RunsOn (s : Side) (tick : ℕ) (p q : PathState C) : Type 0 where
-    -- it runs still, to the same tick
+    -- the timer runs on, to the same tick
     on : IsRunning tick (end_at s q) → RunsOn s tick p q
-    -- it was what comes next on the path that it runs out
+    -- the timer ran out, which was what came next on the path
     runs_out : (at : ℕ) → RunsOut s at p → RunsOn s tick p q
     -- there is news, or the end is dead
     news : IsNews (end_at s p) (end_at s q) → RunsOn s tick p q

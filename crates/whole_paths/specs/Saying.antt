@@ -14,11 +14,11 @@ use Rattle.world_laws.specs.Worlds.{WorldState, Turn, after_turn}
 
 -- what a segment of this end says of what came to it
 pub data SaysWhatCame (e : PathEnd) (x : PlainSegment) : Type 0 where
-  -- it acknowledges all that came in order, up to RCV.NXT, and is no reset
+  -- the segment acknowledges all that came in order, up to RCV.NXT, and is no reset
   acknowledges : x.acknowledged ≡ Some e.tcp.recv.edge → x.rst ≡ false → SaysWhatCame e x
   -- the end opens, and nothing came (section 3.5)
   opens : is_opening e.tcp.state ≡ true → x.acknowledged ≡ None → SaysWhatCame e x
-  -- it is a reset, or the one by which a dead end answers a copy, or refuses it
+  -- the segment is a reset, or the one by which a dead end answers a copy, or refuses it
   resets : x.rst ≡ true → SaysWhatCame e x
   refuses : (answer : Outgoing) → e.treated.answer ≡ Some answer → x.rst ≡ answer.rst → SaysWhatCame e x
 
