@@ -239,6 +239,7 @@ impl Mappings {
         ensures value { result ≡
             answer_by (clash_of told self.now.mappings) told self.now.mappings }
     {
+        // For the proof: what is answered by the rule is one value.
         self.first_answer(told)
     }
 

@@ -56,6 +56,7 @@ pub fn sum(spelling: &Spelling, from: Side, segment: &SaidSegment<'_>) -> u16
     )
 }
 
+/// The header of a segment, as its octets have it: ports and numbers of its path, flags, and the window field.
 fn spelled_head(spelling: &Spelling, from: Side, segment: &SaidSegment<'_>) -> Head
     requires window { segment.now.window ≤ 2 ^ 20 }
     ensures { result ≡ spelled_head spelling.now from (plain segment.now) }
@@ -76,6 +77,7 @@ fn spelled_head(spelling: &Spelling, from: Side, segment: &SaidSegment<'_>) -> H
     }
 }
 
+/// The window field: that of a SYN in octets, 65,535 at most, and of all others in units of 32 octets (RFC 7323, section 2.2).
 fn window_field(syn: bool, window: u32) -> u16
     requires { window ≤ 2 ^ 20 }
     ensures { result ≡ window_field syn window }
@@ -98,17 +100,20 @@ fn spelled_options(spelling: &Spelling, from: Side, segment: &SaidSegment<'_>) -
     octets
 }
 
+/// The options of TCP that a SYN has: the maximum segment size, and a window scale of 5; none of a segment without the first.
 fn syn_octets(mss: Option<u16>) -> Options
     ensures { result.items ≡ syn_text mss }
 {
     let mut octets = Options::new();
     if let Some(mss) = mss {
         let [high, low] = mss.to_be_bytes();
+        // Maximum segment size (kind 2, 4 octets), window scale (kind 3, 3 octets) of 5, one no-operation (kind 1).
         put(&mut octets, &[2, 4, high, low, 3, 3, 5, 1]);
     }
     octets
 }
 
+/// Puts the octets of options of Multipath TCP behind others, in their order.
 fn put_options(
     octets: &mut Options,
     spelling: &Spelling,
@@ -127,6 +132,7 @@ fn put_options(
     }
 }
 
+/// Fills up with zeros to a multiple of four octets.
 fn pad(octets: &mut Options)
     requires { length octets.old.items ≤ 40 }
     ensures { octets.new.items ≡ padded octets.old.items }
@@ -135,6 +141,7 @@ fn pad(octets: &mut Options)
     put(octets, &[0; 3][..zeros]);
 }
 
+/// Puts octets behind others, where there is room for them.
 fn put(octets: &mut Options, piece: &[u8])
     requires { length octets.old.items + length piece.now ≤ 40 }
     ensures { octets.new.items ≡ octets.old.items ++ piece.now }
