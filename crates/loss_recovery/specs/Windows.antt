@@ -41,9 +41,9 @@ duplicated flight c =
     else (if nat_lt c.duplicates 2 then record c { duplicates = c.duplicates + 1 }
     else record c { duplicates = 3; reno = reno.after_third_duplicate flight c.reno })
 
--- a copy that is none ends the row
-abbrev pub interrupted : Congestion → Congestion
-interrupted c = record c { duplicates = 0 }
+-- a copy that is no duplicate ends the row of duplicates
+abbrev pub without_duplicates : Congestion → Congestion
+without_duplicates c = record c { duplicates = 0 }
 
 -- what a segment told is kept, to compare the next one with it
 abbrev pub with_told : Told → Congestion → Congestion

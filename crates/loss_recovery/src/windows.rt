@@ -1,6 +1,6 @@
 //! The congestion window of an end, and the duplicates that it hears (RFC 5681, section 3).
 ghost use Rattle.std.specs.Prelude.{◌≡◌, ◌<◌, ◌≤◌, ◌-◌, IfSome};
-ghost use Rattle.loss_recovery.specs.Windows.{opening, counted, is_growth_linked, acknowledged, is_third, duplicated, interrupted, with_told, expired, after_growth, is_same_told, without_pending};
+ghost use Rattle.loss_recovery.specs.Windows.{opening, counted, is_growth_linked, acknowledged, is_third, duplicated, without_duplicates, with_told, expired, after_growth, is_same_told, without_pending};
 
 use reno_window::Reno;
 
@@ -105,8 +105,8 @@ impl Congestion {
     }
 
     /// A copy came that is neither a duplicate nor acknowledges something new: the row of duplicates ends.
-    pub fn interrupted(&mut self)
-        ensures { self.new ≡ interrupted self.old }
+    pub fn end_row(&mut self)
+        ensures { self.new ≡ without_duplicates self.old }
     {
         self.duplicates = 0;
     }

@@ -10,7 +10,7 @@ use Rattle.run_log.proofs.Words.{send_reply_words, reassembly_reply_words, row_w
 use Rattle.fallback_state.specs.declared.fall.Mode.{Mode}
 use Rattle.send_book.specs.declared.call.Why.{Why}
 use Rattle.sides.specs.Side.{side_word}
-use Rattle.run_log.specs.Telling.{told_send_call, told_reassembly_call, told_send_reply, told_reassembly_reply}
+use Rattle.run_log.specs.Telling.{told_send_call, told_reassembly_call, told_send_reply, without_octets}
 
 -- ---- single words
 
@@ -162,7 +162,7 @@ reassembly_reply_of (word ∷ []) =
     cond (bytes_eq word (codes "set")) ReassemblyReply.FinSet (cond (bytes_eq word (codes "end")) ReassemblyReply.End (cond (bytes_eq word (codes "none")) ReassemblyReply.NoneYet ReassemblyReply.Noted))
 reassembly_reply_of [] = ReassemblyReply.Noted
 
-pub reassembly_reply_again : (reply : ReassemblyReply) → ReassemblyReplyFits reply → reassembly_reply_of (reassembly_reply_words reply) ≡ told_reassembly_reply reply
+pub reassembly_reply_again : (reply : ReassemblyReply) → ReassemblyReplyFits reply → reassembly_reply_of (reassembly_reply_words reply) ≡ without_octets reply
 reassembly_reply_again (ReassemblyReply.Placed count) h = ap (λ (n : ℕ). ReassemblyReply.Placed n) (again count h)
 reassembly_reply_again (ReassemblyReply.Beyond edge) h = ap (λ (n : ℕ). ReassemblyReply.Beyond n) (again edge h)
 reassembly_reply_again (ReassemblyReply.FinClash fin at) h = rw (again fin h.0, again at h.1) refl

@@ -35,13 +35,13 @@ abbrev pub told_send_reply : SendReply → SendReply
 told_send_reply (send_replies.Granted span piece) = send_replies.Granted span []
 told_send_reply reply = reply
 
-abbrev pub told_reassembly_reply : ReassemblyReply → ReassemblyReply
-told_reassembly_reply (reassembly_replies.Bytes bytes) = reassembly_replies.Bytes (blank bytes)
-told_reassembly_reply reply = reply
+abbrev pub without_octets : ReassemblyReply → ReassemblyReply
+without_octets (reassembly_replies.Bytes bytes) = reassembly_replies.Bytes (blank bytes)
+without_octets reply = reply
 
 abbrev pub told_reply : Reply → Reply
 told_reply (replies.Send reply) = replies.Send (told_send_reply reply)
-told_reply (replies.Reassembly reply) = replies.Reassembly (told_reassembly_reply reply)
+told_reply (replies.Reassembly reply) = replies.Reassembly (without_octets reply)
 told_reply reply = reply
 
 abbrev pub as_told : Note → Note

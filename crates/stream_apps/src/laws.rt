@@ -10,7 +10,7 @@ pub fn every_app_turn_ends()
 {}
 
 /// A law: what an application asks meets the conditions of the book that it asks.
-pub fn app_asks_can_be_asked()
+pub fn applications_ask_what_can_be_asked()
     ensures { EveryAppAskCanBeAsked }
 {}
 

@@ -11,6 +11,6 @@ mod starting;
 pub use app::App;
 pub use duty::AppDuty;
 pub use laws::{
-    app_asks_can_be_asked, every_app_turn_ends, fast_closes_are_on_time, first_app_turns,
-    turn_with_a_fast_close,
+    applications_ask_what_can_be_asked, every_app_turn_ends, fast_closes_are_on_time,
+    first_app_turns, turn_with_a_fast_close,
 };

@@ -15,7 +15,7 @@ use Rattle.subflow_tcp.specs.declared.verdicts.Arrival.TheVariants.{Dropped, Ack
 use Rattle.loss_recovery.specs.declared.windows.Told.{Told}
 use Rattle.subflow_tcp.specs.States.{is_half_open, after_handshake, after_fin_acked}
 use Rattle.loss_recovery.specs.Timers.{heard, measured, rtt_told, stopped}
-use Rattle.loss_recovery.specs.Windows.{acknowledged, is_third, duplicated, interrupted, with_told, is_same_told, without_pending}
+use Rattle.loss_recovery.specs.Windows.{acknowledged, is_third, duplicated, without_duplicates, with_told, is_same_told, without_pending}
 use Rattle.subflow_tcp.specs.Dues.{owing_ack, owing_syn_ack, owing_first, owing_answer, only_reset}
 use Rattle.subflow_tcp.specs.Segments.{Copy, occupied}
 use Rattle.segment_wire.specs.Segment.{Segment}
@@ -142,7 +142,7 @@ after_duplicate s = record s {
 
 -- a segment that is no duplicate ends the row
 abbrev pub after_interruption : EndState → EndState
-after_interruption s = record s { congestion = interrupted s.congestion }
+after_interruption s = record s { congestion = without_duplicates s.congestion }
 
 -- a duplicate counts in the row, and any other segment ends it
 abbrev pub after_row : AckKind → Told → Copy → EndState → EndState

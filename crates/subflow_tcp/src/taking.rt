@@ -139,8 +139,8 @@ impl Subflow {
         let _state = self.state;
         match meaning {
             Meaning::Ignored | Meaning::Unwanted => Arrival::Dropped,
-            Meaning::Opens => self.open_by(arriving),
-            Meaning::Accepts { acknowledged } => { self.accept_by(acknowledged, arriving, now) }
+            Meaning::Opens => self.take_syn(arriving),
+            Meaning::Accepts { acknowledged } => { self.take_syn_ack(acknowledged, arriving, now) }
             Meaning::RepeatedSyn => self.take_syn_again(),
             Meaning::Outside => self.take_outside(),
             Meaning::Kills => self.take_death(),
@@ -164,7 +164,7 @@ impl Subflow {
     }
 
     /// The SYN of a peer that opens.
-    fn open_by(&mut self, arriving: &Arriving<'_>) -> Arrival
+    fn take_syn(&mut self, arriving: &Arriving<'_>) -> Arrival
         requires { self.old.send.finished ≡ false }
         ensures arrival { result ≡ Opened }
         ensures after { self.new ≡ after_syn (unkept None) (copy_of arriving.now) self.old }
@@ -176,7 +176,7 @@ impl Subflow {
     }
 
     /// The SYN/ACK: both SYNs are acknowledged.
-    fn accept_by(&mut self, acknowledged: Pos, arriving: &Arriving<'_>, now: u64) -> Arrival
+    fn take_syn_ack(&mut self, acknowledged: Pos, arriving: &Arriving<'_>, now: u64) -> Arrival
         requires { self.old.send.finished ≡ false }
         ensures arrival { result ≡ Opened }
         ensures after { self.new ≡
@@ -307,7 +307,7 @@ impl Subflow {
         if self.is_duplicate(kind, told, arriving) {
             self.take_duplicate();
         } else {
-            self.congestion.interrupted();
+            self.congestion.end_row();
         }
     }
 

@@ -10,14 +10,14 @@ take-requires c =
     subst IsBelow c.in-Taken.is
     (subst IsBelow (sym c.requires) (below-meant c.args.self.now.state (copy_of c.args.arriving.now) c.args.self.now refl))
 
-pub open_by-requires : goal.open_by-requires
-open_by-requires c =
+pub take_syn-requires : goal.take_syn-requires
+take_syn-requires c =
     open-meant (copy_of c.args.arriving.now) c.args.self.now c.args.meaning
     (subst (λ (v : EndState). IsFinTold v.send.finished v.state) c.self.view_is c.self.invariant) c.requires
     (λ h. subst OpensNothing c.in-Opens.is h)
 
-pub accept_by-requires : goal.accept_by-requires
-accept_by-requires c =
+pub take_syn_ack-requires : goal.take_syn_ack-requires
+take_syn_ack-requires c =
     open-meant (copy_of c.args.arriving.now) c.args.self.now c.args.meaning
     (subst (λ (v : EndState). IsFinTold v.send.finished v.state) c.self.view_is c.self.invariant) c.requires
     (λ h. subst OpensNothing c.in-Accepts.is h)
