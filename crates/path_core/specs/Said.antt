@@ -7,8 +7,6 @@ use Rattle.path_segments.specs.Spelled.{PlainSegment, CanSay}
 use Rattle.subflow_tcp.specs.declared.segments.Occasion.{Occasion}
 use Rattle.subflow_tcp.specs.Emitting.{reset_segment}
 use Rattle.path_core.specs.declared.said.Said.{Said}
-use Rattle.path_core.specs.declared.said.SaidOptions.{SaidOptions}
-use Rattle.path_core.specs.declared.said.SaidOptions.TheVariants.{Nothing, One, Two}
 use Rattle.path_core.specs.declared.said.SegmentKind.{SegmentKind}
 use Rattle.path_core.specs.declared.said.SegmentKind.TheVariants as to_say
 use Rattle.path_core.specs.Emission.{first_unsent, outgoing_or, first_record, answer_said, resend_said}
@@ -25,12 +23,6 @@ abbrev pub options_by : Option PlainOption → List PlainOption
 options_by None = []
 options_by (Some option) = option ∷ []
 
--- the options of the code in a list
-abbrev pub said_options : SaidOptions → List PlainOption
-said_options Nothing = []
-said_options (One option) = option ∷ []
-said_options (Two first second) = first ∷ second ∷ []
-
 -- the segment of the code by its value
 abbrev pub plain_said : Said → PlainSegment
 plain_said s = record {
@@ -41,7 +33,7 @@ plain_said s = record {
   rst = s.outgoing.rst;
   window = s.window;
   mss = s.mss;
-  options = said_options s.options;
+  options = s.options.items;
   payload = s.payload.now;
 }
 

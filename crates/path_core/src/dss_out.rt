@@ -13,12 +13,12 @@ ghost use Rattle.path_core.specs.Said.{options_by};
 use crate::end::PathEnd;
 use crate::modes::Modes;
 use crate::profile::Profile;
-use crate::unnumbered::{Saying, unnumbered};
+use crate::unnumbered::unnumbered;
 use capable_handshake::first_data_option;
 use data_close::fin_number;
 use dss_checksum::DssSum;
 use fallback_state::Mode;
-use path_segments::{PathMapping, PathOption, relative_number};
+use path_segments::{PathMapping, PathOption, SaidOption, relative_number};
 use path_store::InfiniteMapping;
 use seq_units::{Mapping, Pos};
 use sides::Side;
@@ -131,7 +131,7 @@ pub(crate) fn checksum_of(mapping: &Mapping, octets: &[u8]) -> u16
 
 impl Modes {
     /// The failed check is told until the peer's infinite mapping came (RFC 8684, section 3.7).
-    fn fail_option(&self) -> Option<Saying>
+    fn fail_option(&self) -> Option<SaidOption>
         ensures { options_by result ≡ fail_beside None self.now }
     {
         if receives_infinite(self.mode) {
@@ -142,7 +142,7 @@ impl Modes {
     }
 
     /// Each acknowledgement tells it that has no DATA_FIN.
-    pub(crate) fn fail_beside(&self, fin: Option<u64>) -> Option<Saying>
+    pub(crate) fn fail_beside(&self, fin: Option<u64>) -> Option<SaidOption>
         ensures { options_by result ≡ fail_beside fin self.now }
     {
         match fin {
@@ -173,7 +173,7 @@ impl PathEnd {
 
     /// On data and FIN after a fallback: the infinite mapping from this position on, as long as it is owed (RFC 8684,
     /// section 3.7).
-    fn plain_option(&self, position: Pos) -> Option<Saying>
+    fn plain_option(&self, position: Pos) -> Option<SaidOption>
         ensures value { options_by result ≡ plain_options position self.now }
     {
         if self.owes_mapping() {
@@ -189,7 +189,7 @@ impl PathEnd {
 
     /// A's first piece carries both keys, until A may send a DSS.
     #[tactic(auto, using(crate::proofs::Handshakes::first_is_said))]
-    fn first_piece_option(&self, profile: &Profile, lent: &RecordRef<'_>) -> Option<Saying>
+    fn first_piece_option(&self, profile: &Profile, lent: &RecordRef<'_>) -> Option<SaidOption>
         ensures value { options_by result ≡
             first_piece_options profile.now self.now.modes.peer_key (record_of lent.now) self.now }
     {
@@ -200,7 +200,7 @@ impl PathEnd {
     }
 
     /// On data and FIN after the peer's MP_FAIL: the infinite mapping, as long as it is owed (RFC 8684, section 3.7).
-    fn infinite_option(&self, mapping: InfiniteMapping) -> Option<Saying>
+    fn infinite_option(&self, mapping: InfiniteMapping) -> Option<SaidOption>
         ensures value { options_by result ≡ infinite_options mapping self.now }
     {
         let InfiniteMapping { place, position } = mapping;
@@ -213,7 +213,12 @@ impl PathEnd {
     }
 
     /// On data that has a mapping of its own.
-    fn mapped_option(&self, profile: &Profile, side: Side, lent: &RecordRef<'_>) -> Option<Saying>
+    fn mapped_option(
+        &self,
+        profile: &Profile,
+        side: Side,
+        lent: &RecordRef<'_>,
+    ) -> Option<SaidOption>
         ensures value { options_by result ≡
             mapped_options profile.now side (record_of lent.now) self.now }
     {
@@ -232,7 +237,7 @@ impl PathEnd {
         profile: &Profile,
         side: Side,
         lent: &RecordRef<'_>,
-    ) -> Option<Saying>
+    ) -> Option<SaidOption>
         ensures value { options_by result ≡
             piece_options profile.now side (record_of lent.now) self.now }
     {
@@ -246,7 +251,7 @@ impl PathEnd {
     }
 
     /// On the FIN at this position.
-    pub(crate) fn fin_option(&self, position: Pos) -> Option<Saying>
+    pub(crate) fn fin_option(&self, position: Pos) -> Option<SaidOption>
         ensures value { options_by result ≡ fin_options position self.now }
     {
         if self.modes.identity {

@@ -14,7 +14,7 @@ use crate::modes::Modes;
 use crate::options_in::put;
 use crate::profile::Profile;
 use crate::state::PathState;
-use crate::unnumbered::{Saying, unnumbered};
+use crate::unnumbered::unnumbered;
 use actor_desk::{Ask, LocalStep, Reply};
 use control_book::{ControlCall, ControlReply};
 use fallback_state::Mode;
@@ -25,6 +25,7 @@ use join_handshake::{
 use key_material::token;
 use mptcp_options::{JoinForm, MpOption};
 use path_agenda::{Agenda, AskDuty, Duty, Heard, Items, JoinStep, KeyPair, SendDuty, join_heard};
+use path_segments::SaidOption;
 use sides::Side;
 use subflow_tcp::{Arriving, Meaning, State, Subflow};
 
@@ -158,7 +159,7 @@ impl Modes {
     }
 
     /// On A's SYN: B's token, A's nonce and the script's flag.
-    fn syn_join(&self, profile: &Profile) -> Option<Saying>
+    fn syn_join(&self, profile: &Profile) -> Option<SaidOption>
         ensures { options_by result ≡ join_options profile.now A self.now }
     {
         let (backup, id) = (profile.is_backup(), profile.spelling().path);
@@ -166,7 +167,7 @@ impl Modes {
     }
 
     /// On B's SYN/ACK: B's HMAC and nonce, and the script's flag.
-    fn answer_join(&self, profile: &Profile) -> Option<Saying>
+    fn answer_join(&self, profile: &Profile) -> Option<SaidOption>
         ensures { options_by result ≡ join_options profile.now B self.now }
     {
         let (own, peer) = (self.own_key, self.peer_key_of());
@@ -176,7 +177,7 @@ impl Modes {
     }
 
     /// What the SYN or the SYN/ACK of a path that joins says.
-    pub(crate) fn join_option(&self, profile: &Profile, side: Side) -> Option<Saying>
+    pub(crate) fn join_option(&self, profile: &Profile, side: Side) -> Option<SaidOption>
         ensures { options_by result ≡ join_options profile.now side self.now }
     {
         match side {
@@ -186,7 +187,7 @@ impl Modes {
     }
 
     /// On what A sends then: A's HMAC.
-    pub(crate) fn third_option(&self) -> Option<Saying>
+    pub(crate) fn third_option(&self) -> Option<SaidOption>
         ensures { options_by result ≡ third_options self.now }
     {
         let (own, peer) = (self.own_key, self.peer_key_of());

@@ -8,26 +8,26 @@ ghost use Rattle.path_core.specs.OptionsOut.{announcement, notice_option, HasAdd
 ghost use Rattle.path_core.specs.declared.said.SegmentKind.TheVariants.{DeadAnswer, Refusal};
 ghost use Rattle.path_core.specs.DssOut.{fail_beside, data_fin_mapping};
 ghost use Rattle.path_core.specs.Emission.{answer_said, ack_resent, resend_said};
-ghost use Rattle.path_core.specs.Said.{options_by, said_options, plain_said, said_by, CanBeSaid};
+ghost use Rattle.path_core.specs.Said.{options_by, plain_said, said_by, CanBeSaid};
 
 use crate::breaking::MPTCP_SPECIFIC;
 use crate::end::PathEnd;
 use crate::modes::Modes;
 use crate::profile::Profile;
-use crate::said::{Said, SaidOptions, SegmentKind};
-use crate::unnumbered::{Saying, unnumbered};
+use crate::said::{Said, SaidOptions, SegmentKind, first_and, one_at_most};
+use crate::unnumbered::unnumbered;
 use capable_handshake::{ack_option, syn_ack_option, syn_option};
 use data_close::{fast_close_option, reset_option};
 use key_material::{Address, add_addr64};
 use path_agenda::OwnNotice;
-use path_segments::PathOption;
+use path_segments::{PathOption, SaidOption};
 use seq_units::Pos;
 use sides::Side;
 use subflow_tcp::{Outgoing, RecordKind, RecordRef};
 
 impl Modes {
     /// A notice of the end's side; an announcement shows the HMAC of both keys (RFC 8684, section 3.4.1).
-    fn notice_option(&self, notice: OwnNotice) -> Saying
+    fn notice_option(&self, notice: OwnNotice) -> SaidOption
         ensures { result ≡ notice_option notice self.now }
     {
         match notice {
@@ -45,7 +45,7 @@ impl Modes {
     }
 
     /// The announcement of the own address of this id.
-    fn announcement(&self, id: u8) -> Saying
+    fn announcement(&self, id: u8) -> SaidOption
         ensures { result ≡ announcement id self.now }
     {
         let address = Address::V4([10, 0, id, 2]);
@@ -86,7 +86,7 @@ fn may_have_address(notice: Option<OwnNotice>)
 impl PathEnd {
     /// On a SYN that opens the connection: A asks for Multipath TCP, and B answers with its key where A asked (RFC 8684,
     /// section 3.1).
-    fn capable_option(&self, profile: &Profile, side: Side) -> Option<Saying>
+    fn capable_option(&self, profile: &Profile, side: Side) -> Option<SaidOption>
         ensures value { options_by result ≡ capable_options profile.now side self.now }
     {
         let checksums = profile.spelling().checksums;
@@ -100,7 +100,7 @@ impl PathEnd {
     }
 
     /// On a SYN.
-    fn syn_option(&self, profile: &Profile, side: Side) -> Option<Saying>
+    fn syn_option(&self, profile: &Profile, side: Side) -> Option<SaidOption>
         ensures value { options_by result ≡ syn_options profile.now side self.now }
     {
         if profile.is_joined() {
@@ -111,7 +111,7 @@ impl PathEnd {
     }
 
     /// Before A may send a DSS it shows both keys; B says nothing before it has them.
-    fn key_option(&self, profile: &Profile, side: Side) -> Option<Saying>
+    fn key_option(&self, profile: &Profile, side: Side) -> Option<SaidOption>
         ensures value { options_by result ≡
             key_options profile.now side self.now.modes.peer_key self.now }
     {
@@ -125,7 +125,7 @@ impl PathEnd {
     }
 
     /// Before the end may send a DSS: the third MP_JOIN, as long as it is owed, or the keys.
-    fn opening_option(&self, profile: &Profile, side: Side) -> Option<Saying>
+    fn opening_option(&self, profile: &Profile, side: Side) -> Option<SaidOption>
         ensures value { options_by result ≡ opening_options profile.now side self.now }
     {
         if self.modes.owes_third {
@@ -137,23 +137,28 @@ impl PathEnd {
 
     /// On an acknowledgement, perhaps with the DATA_FIN; none after a fallback.
     fn ack_options(&self, profile: &Profile, side: Side, fin: Option<u64>) -> SaidOptions
-        ensures { said_options result ≡ ack_options profile.now side fin self.now }
+        ensures { result.items ≡ ack_options profile.now side fin self.now }
     {
         if self.modes.identity {
-            return SaidOptions::Nothing;
+            return SaidOptions::new();
         }
         if !self.modes.clear {
-            return SaidOptions::of(self.opening_option(profile, side));
+            return one_at_most(self.opening_option(profile, side));
         }
         let dss = PathOption::Dss {
             next: Some(self.receiving.next()),
             mapping: profile.data_fin_mapping(side, fin),
         };
-        SaidOptions::first_and(dss, self.modes.fail_beside(fin))
+        first_and(dss, self.modes.fail_beside(fin))
     }
 
     /// On a record.
-    fn record_option(&self, profile: &Profile, side: Side, lent: &RecordRef<'_>) -> Option<Saying>
+    fn record_option(
+        &self,
+        profile: &Profile,
+        side: Side,
+        lent: &RecordRef<'_>,
+    ) -> Option<SaidOption>
         ensures value { options_by result ≡
             record_options lent.now.kind profile.now side (record_of lent.now) self.now }
     {
@@ -173,7 +178,7 @@ impl PathEnd {
         payload: &'a [u8],
     ) -> Said<'a>
         ensures { plain_said result ≡
-            segment_of profile.now outgoing (said_options options) payload.now self.now }
+            segment_of profile.now outgoing options.items payload.now self.now }
     {
         Said {
             outgoing,
@@ -197,7 +202,7 @@ impl PathEnd {
         requires { length lent.now.piece.now ≤ 65475 }
         ensures { plain_said result ≡ record_said profile.now side (record_of lent.now) self.now }
     {
-        let options = SaidOptions::of(self.record_option(profile, side, lent));
+        let options = one_at_most(self.record_option(profile, side, lent));
         let outgoing = self.tcp.record_segment(lent);
         self.segment_of(profile, outgoing, options, lent.piece)
     }
@@ -222,7 +227,7 @@ impl PathEnd {
     fn syn_ack_said(&self, profile: &Profile, side: Side) -> Said<'_>
         ensures { plain_said result ≡ syn_ack_said profile.now side self.now }
     {
-        let options = SaidOptions::of(self.syn_option(profile, side));
+        let options = one_at_most(self.syn_option(profile, side));
         self.segment_of(profile, self.tcp.syn_ack_segment(), options, &[])
     }
 
@@ -231,7 +236,7 @@ impl PathEnd {
         ensures { plain_said result ≡ fin_said profile.now self.now }
     {
         let outgoing = self.tcp.fin_segment();
-        let options = SaidOptions::of(self.fin_option(outgoing.position));
+        let options = one_at_most(self.fin_option(outgoing.position));
         self.segment_of(profile, outgoing, options, &[])
     }
 
@@ -251,7 +256,7 @@ impl PathEnd {
         ensures { plain_said result ≡ reset_said profile.now reason self.now }
     {
         let options = if self.modes.identity {
-            SaidOptions::Nothing
+            SaidOptions::new()
         } else {
             broken_options(self.treated.failed_mapping, reason)
         };
@@ -259,7 +264,7 @@ impl PathEnd {
     }
 
     /// The acknowledgement that says this option behind its DSS.
-    fn dss_and(&self, profile: &Profile, option: Option<Saying>) -> Said<'_>
+    fn dss_and(&self, profile: &Profile, option: Option<SaidOption>) -> Said<'_>
         ensures { plain_said result ≡ dss_and profile.now (options_by option) self.now }
     {
         let dss = PathOption::Dss {
@@ -267,7 +272,7 @@ impl PathEnd {
             mapping: None,
         };
         let outgoing = self.tcp.ack_at(self.tcp.nxt());
-        self.segment_of(profile, outgoing, SaidOptions::first_and(dss, option), &[])
+        self.segment_of(profile, outgoing, first_and(dss, option), &[])
     }
 
     /// The acknowledgement with the first of what is to be noted; without one an acknowledgement.
@@ -311,7 +316,7 @@ impl PathEnd {
             Some(outgoing) => outgoing,
             None => self.tcp.reset_segment(),
         };
-        self.segment_of(profile, outgoing, SaidOptions::Nothing, &[])
+        self.segment_of(profile, outgoing, SaidOptions::new(), &[])
     }
 
     /// The reset that refuses a path which joins: an error specific to Multipath TCP (RFC 8684, section 3.6).
@@ -322,7 +327,7 @@ impl PathEnd {
             Some(outgoing) => outgoing,
             None => self.tcp.reset_segment(),
         };
-        let options = SaidOptions::of(unnumbered(reset_option(MPTCP_SPECIFIC)));
+        let options = one_at_most(unnumbered(reset_option(MPTCP_SPECIFIC)));
         self.segment_of(profile, outgoing, options, &[])
     }
 
@@ -396,14 +401,14 @@ impl PathEnd {
 /// Why the path is reset, where there is a reason: MP_FAIL stands before it where a failed check broke the path (RFC 8684, sections
 /// 3.6 and 3.7).
 fn broken_options(failed: Option<u64>, reason: Option<u8>) -> SaidOptions
-    ensures { said_options result ≡ broken_options failed reason }
+    ensures { result.items ≡ broken_options failed reason }
 {
     let Some(reason) = reason else {
-        return SaidOptions::Nothing;
+        return SaidOptions::new();
     };
     let reset = unnumbered(reset_option(reason));
     match failed {
-        Some(place) => SaidOptions::first_and(PathOption::Fail { place }, reset),
-        None => SaidOptions::of(reset),
+        Some(place) => first_and(PathOption::Fail { place }, reset),
+        None => one_at_most(reset),
     }
 }

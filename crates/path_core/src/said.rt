@@ -1,28 +1,19 @@
 //! A segment that an end is to send, with what it lends of the end, and which kinds there are.
 
 ghost use Rattle.std.specs.Prelude.{◌≡◌, ◌∷◌, IfOk};
-ghost use Rattle.path_segments.specs.Options.{plain_option};
-ghost use Rattle.path_core.specs.Said.{options_by, said_options};
+ghost use Rattle.path_core.specs.Said.{options_by};
 
-use crate::unnumbered::Saying;
-use path_segments::{PathOption, SaidSegment, Spelling, sum, write};
+use arrayvec::ArrayVec;
+use path_segments::{SaidOption, SaidSegment, Spelling, sum, write};
 use sides::Side;
 use std::alloc::{AllocError, Global};
 use subflow_tcp::Outgoing;
 
 /// The options of Multipath TCP that a segment says, in their order: two at most, which have room in forty octets.
-#[derive(Clone, Copy)]
-pub(crate) enum SaidOptions {
-    /// None.
-    Nothing,
-    /// One option.
-    One(Saying),
-    /// Two options, the first one first.
-    Two(Saying, Saying),
-}
+pub(crate) type SaidOptions = ArrayVec<SaidOption, 2>;
 
 /// A segment that an end is to send.
-#[derive(Clone, Copy)]
+#[derive(Drop)]
 pub(crate) struct Said<'a> {
     /// Its position, what it acknowledges, and its flags.
     pub outgoing: Outgoing,
@@ -69,92 +60,36 @@ pub(crate) enum SegmentKind {
     FastClose,
 }
 
-/// An option as it is written, its id lent.
-fn lent(option: &Saying) -> PathOption<u64, &[u8]>
-    ensures { plain_option result ≡ option.now }
+/// The options of a segment that says one, and perhaps another behind it.
+pub(crate) fn first_and(first: SaidOption, second: Option<SaidOption>) -> SaidOptions
+    ensures { result.items ≡ first ∷ options_by second }
 {
-    match option {
-        PathOption::Capable {
-            flag_a,
-            flag_c,
-            keys,
-        } => PathOption::Capable {
-            flag_a: *flag_a,
-            flag_c: *flag_c,
-            keys: *keys,
-        },
-        PathOption::Join { form } => PathOption::Join { form: *form },
-        PathOption::Dss { next, mapping } => PathOption::Dss {
-            next: *next,
-            mapping: *mapping,
-        },
-        PathOption::AddAddr {
-            echo,
-            id,
-            address,
-            port,
-            hmac,
-        } => PathOption::AddAddr {
-            echo: *echo,
-            id: *id,
-            address: *address,
-            port: *port,
-            hmac: *hmac,
-        },
-        PathOption::Remove { ids } => PathOption::Remove { ids: &ids[..] },
-        PathOption::Prio { backup } => PathOption::Prio { backup: *backup },
-        PathOption::Fail { place } => PathOption::Fail { place: *place },
-        PathOption::FastClose { key } => PathOption::FastClose { key: *key },
-        PathOption::Reset { transient, reason } => PathOption::Reset {
-            transient: *transient,
-            reason: *reason,
-        },
+    let mut options = SaidOptions::new();
+    options.push(first);
+    if let Some(second) = second {
+        options.push(second);
     }
+    options
 }
 
-impl SaidOptions {
-    /// The options of a segment that says one, and perhaps another behind it.
-    pub(crate) fn first_and(first: Saying, second: Option<Saying>) -> Self
-        ensures { said_options result ≡ first ∷ options_by second }
-    {
-        match second {
-            Some(second) => SaidOptions::Two(first, second),
-            None => SaidOptions::One(first),
-        }
-    }
-
-    /// The options of a segment that says one at most.
-    pub(crate) fn of(option: Option<Saying>) -> Self
-        ensures { said_options result ≡ options_by option }
-    {
-        match option {
-            Some(option) => SaidOptions::One(option),
-            None => SaidOptions::Nothing,
-        }
+/// The options of a segment that says one at most.
+pub(crate) fn one_at_most(option: Option<SaidOption>) -> SaidOptions
+    ensures { result.items ≡ options_by option }
+{
+    match option {
+        Some(option) => first_and(option, None),
+        None => SaidOptions::new(),
     }
 }
 
 impl<'a> Said<'a> {
     ghost use Rattle.path_core.specs.Octets.{made, sum_of};
     ghost use Rattle.path_core.specs.Said.{plain_said, CanBeSaid};
+    ghost use Rattle.path_segments.specs.Spelled.{plain};
 
-    /// A segment to be written, with its options lent.
-    fn with_options<'b>(
-        &self,
-        options: &'b [PathOption<u64, &'b [u8]>],
-        payload: &'b [u8],
-    ) -> SaidSegment<'b>
-        ensures { result ≡ record {
-          position = self.now.outgoing.position;
-          acknowledged = self.now.outgoing.acknowledged;
-          syn = self.now.outgoing.syn;
-          fin = self.now.outgoing.fin;
-          rst = self.now.outgoing.rst;
-          window = self.now.window;
-          mss = self.now.mss;
-          options = options.entry;
-          payload = payload.entry;
-        } }
+    /// The segment as it is written.
+    fn segment(&self) -> SaidSegment<'_>
+        ensures { plain result ≡ plain_said self.now }
     {
         SaidSegment {
             position: self.outgoing.position,
@@ -164,8 +99,8 @@ impl<'a> Said<'a> {
             rst: self.outgoing.rst,
             window: self.window,
             mss: self.mss,
-            options,
-            payload,
+            options: self.options.as_slice(),
+            payload: self.payload,
         }
     }
 
@@ -184,21 +119,7 @@ impl<'a> Said<'a> {
         ensures { IfOk result (λ octets. octets.items ≡
             made spelling.now side (plain_said self.now)) }
     {
-        match &self.options {
-            SaidOptions::Nothing => {
-                write(alloc, spelling, side, &self.with_options(&[], self.payload))
-            }
-            SaidOptions::One(option) => {
-                let options = [lent(option)];
-                let segment = self.with_options(&options, self.payload);
-                write(alloc, spelling, side, &segment)
-            }
-            SaidOptions::Two(first, second) => {
-                let options = [lent(first), lent(second)];
-                let segment = self.with_options(&options, self.payload);
-                write(alloc, spelling, side, &segment)
-            }
-        }
+        write(alloc, spelling, side, &self.segment())
     }
 
     /// The checksum field of its octets. It can be said, as `PathEnd::said` promises. Takes no memory.
@@ -206,18 +127,6 @@ impl<'a> Said<'a> {
         requires { CanBeSaid spelling.now side (plain_said self.now) }
         ensures { result ≡ sum_of spelling.now side (plain_said self.now) }
     {
-        match &self.options {
-            SaidOptions::Nothing => sum(spelling, side, &self.with_options(&[], self.payload)),
-            SaidOptions::One(option) => {
-                let options = [lent(option)];
-                let segment = self.with_options(&options, self.payload);
-                sum(spelling, side, &segment)
-            }
-            SaidOptions::Two(first, second) => {
-                let options = [lent(first), lent(second)];
-                let segment = self.with_options(&options, self.payload);
-                sum(spelling, side, &segment)
-            }
-        }
+        sum(spelling, side, &self.segment())
     }
 }

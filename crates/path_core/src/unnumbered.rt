@@ -5,13 +5,10 @@ ghost use Rattle.path_core.specs.Said.{options_by};
 ghost use Rattle.path_core.specs.Unnumbered.{unnumbered};
 
 use mptcp_options::MpOption;
-use path_segments::PathOption;
-
-/// An option that an end says. It takes one address back at most.
-pub(crate) type Saying = PathOption<u64, [u8; 1]>;
+use path_segments::{PathOption, SaidOption};
 
 /// An option of the handshakes or of the close, as an end says it: one that has no number of a place.
-pub(crate) fn unnumbered(option: MpOption<'static>) -> Option<Saying>
+pub(crate) fn unnumbered(option: MpOption<'static>) -> Option<SaidOption>
     ensures { options_by result ≡ unnumbered option.entry }
 {
     match option {

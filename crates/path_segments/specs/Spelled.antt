@@ -1,5 +1,5 @@
 -- The octets of a segment of a path (RFC 9293, section 3.1; RFC 8684, section 3).
-use Rattle.std.specs.Prelude.{ℕ, ◌-◌, ◌/◌, ◌%◌, ◌^◌, ◌≤◌, min, Bool, is_some, if◌then◌else◌, Option, Some, None, unwrap_or, option_map, List, [], ◌∷◌, ◌++◌, length, map, replicate, All}
+use Rattle.std.specs.Prelude.{ℕ, ◌-◌, ◌/◌, ◌%◌, ◌^◌, ◌≤◌, min, Bool, is_some, if◌then◌else◌, Option, Some, None, unwrap_or, option_map, List, [], ◌∷◌, ◌++◌, length, replicate, All}
 use Rattle.std.specs.Borrow.{Bor}
 use Rattle.std.specs.Int.{w16, to_be_bytes}
 use Rattle.std.specs.List.{flat_map}
@@ -10,17 +10,16 @@ use Rattle.segment_wire.specs.Segment.{Segment, segment_text, checksum_field}
 use Rattle.segment_wire.specs.Paths.{addresses_from, port_of}
 use Rattle.mptcp_options.specs.Text.{HasForm, option_text}
 use Rattle.path_segments.specs.declared.segment.PathSegment.{PathSegment}
-use Rattle.path_segments.specs.declared.segment.PathOption.{PathOption}
 use Rattle.path_segments.specs.declared.spelling.Spelling.{Spelling}
 use Rattle.path_segments.specs.Spelling.{subflow_number}
-use Rattle.path_segments.specs.Options.{PlainOption, plain_option, said_option}
+use Rattle.path_segments.specs.Options.{PlainOption, said_option}
 
 -- a segment whose options and payload are lists
 abbrev pub PlainSegment : Type 0
 PlainSegment = PathSegment ℕ (List PlainOption) (List ℕ)
 
 -- the segment of the code by its value
-abbrev pub plain : PathSegment ℕ (Bor (List (PathOption ℕ (Bor (List ℕ))))) (Bor (List ℕ)) → PlainSegment
+abbrev pub plain : PathSegment ℕ (Bor (List PlainOption)) (Bor (List ℕ)) → PlainSegment
 plain s = record {
   position = s.position;
   acknowledged = s.acknowledged;
@@ -29,7 +28,7 @@ plain s = record {
   rst = s.rst;
   window = s.window;
   mss = s.mss;
-  options = map plain_option s.options.now;
+  options = s.options.now;
   payload = s.payload.now;
 }
 

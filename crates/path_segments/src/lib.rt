@@ -27,7 +27,7 @@ pub use laws::{
 pub use listening::parse_segment;
 pub use position::HeardPosition;
 pub use sayable::can_say;
-pub use segment::{PathMapping, PathOption, PathSegment, SaidSegment};
+pub use segment::{PathMapping, PathOption, PathSegment, SaidOption, SaidSegment};
 pub use spelling::{EndNumbers, Spelling};
 pub use wire::relative_number;
 pub use writing::{sum, write};

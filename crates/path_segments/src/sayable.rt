@@ -1,11 +1,11 @@
 //! Which segments can be said.
 
-ghost use Rattle.std.specs.Prelude.{◌≡◌, ◌≤◌, ◌↔◌, length, map, All, IsTrue, is_some, IfSome};
+ghost use Rattle.std.specs.Prelude.{◌≡◌, ◌≤◌, ◌↔◌, length, All, IsTrue, is_some, IfSome};
 ghost use Rattle.mptcp_options.specs.Capable.{KeysHaveForm};
-ghost use Rattle.path_segments.specs.Options.{plain_option, said_mapping};
+ghost use Rattle.path_segments.specs.Options.{said_mapping};
 ghost use Rattle.path_segments.specs.Spelled.{plain, options_text, unpadded_options, CanSay, CanSayOption};
 
-use crate::segment::{PathMapping, PathOption, SaidSegment};
+use crate::segment::{PathMapping, PathOption, SaidOption, SaidSegment};
 use crate::spelling::Spelling;
 use mptcp_options::{CapableKeys, octets_of};
 use sides::Side;
@@ -24,8 +24,8 @@ pub fn can_say(spelling: &Spelling, from: Side, segment: &SaidSegment<'_>) -> bo
 }
 
 /// Whether each of the options can be said.
-fn can_say_each(spelling: &Spelling, from: Side, options: &[PathOption<u64, &[u8]>]) -> bool
-    ensures { IsTrue result ↔ All (CanSayOption spelling.now from) (map plain_option options.now) }
+fn can_say_each(spelling: &Spelling, from: Side, options: &[SaidOption]) -> bool
+    ensures { IsTrue result ↔ All (CanSayOption spelling.now from) options.now }
 {
     for option in options {
         if !spelling.can_say_option(from, option) {
@@ -46,15 +46,10 @@ fn have_room(spelling: &Spelling, from: Side, segment: &SaidSegment<'_>) -> bool
 }
 
 /// Whether the options, each of which can be said, have at most so many octets.
-fn are_within(
-    spelling: &Spelling,
-    from: Side,
-    options: &[PathOption<u64, &[u8]>],
-    room: usize,
-) -> bool
-    requires { All (CanSayOption spelling.now from) (map plain_option options.now) }
+fn are_within(spelling: &Spelling, from: Side, options: &[SaidOption], room: usize) -> bool
+    requires { All (CanSayOption spelling.now from) options.now }
     ensures { IsTrue result ↔
-        (length (options_text spelling.now from (map plain_option options.now)) ≤ room) }
+        (length (options_text spelling.now from options.now) ≤ room) }
 {
     let mut left = room;
     for option in options {
@@ -68,14 +63,14 @@ fn are_within(
 }
 
 impl Spelling {
-    fn can_say_option(&self, from: Side, option: &PathOption<u64, &[u8]>) -> bool
-        ensures { IsTrue result ↔ CanSayOption self.now from (plain_option option.now) }
+    fn can_say_option(&self, from: Side, option: &SaidOption) -> bool
+        ensures { IsTrue result ↔ CanSayOption self.now from option.now }
     {
-        match *option {
-            PathOption::Capable { keys, .. } => keys_have_form(self.checksums, &keys),
-            PathOption::Dss { mapping, .. } => self.can_map(from, &mapping),
-            PathOption::AddAddr { echo, hmac, .. } => hmac.is_some() == !echo,
-            PathOption::Remove { ids } => 1 <= ids.len() && ids.len() <= 37,
+        match option {
+            PathOption::Capable { keys, .. } => keys_have_form(self.checksums, keys),
+            PathOption::Dss { mapping, .. } => self.can_map(from, mapping),
+            PathOption::AddAddr { echo, hmac, .. } => hmac.is_some() != *echo,
+            PathOption::Remove { ids } => has_room_for(&ids[..]),
             PathOption::Join { .. }
             | PathOption::Fail { .. }
             | PathOption::Prio { .. }
@@ -97,6 +92,13 @@ impl Spelling {
             Some(PathMapping::Infinite { .. }) | None => true,
         }
     }
+}
+
+/// Whether a REMOVE_ADDR of at most 40 octets holds these ids, of which one at least is there (RFC 8684, section 3.4.2).
+fn has_room_for(ids: &[u8]) -> bool
+    ensures { IsTrue result ↔ (1 ≤ length ids.now) × (length ids.now ≤ 37) }
+{
+    1 <= ids.len() && ids.len() <= 37
 }
 
 fn keys_have_form(checksums: bool, keys: &CapableKeys) -> bool

@@ -35,8 +35,11 @@ impl<N: Copy, O: Copy, P: Copy> Clone for PathSegment<N, O, P> {
     }
 }
 
+/// An option that is to be written. A REMOVE_ADDR takes one address back.
+pub type SaidOption = PathOption<u64, [u8; 1]>;
+
 /// A segment that is to be written.
-pub type SaidSegment<'a> = PathSegment<u64, &'a [PathOption<u64, &'a [u8]>], &'a [u8]>;
+pub type SaidSegment<'a> = PathSegment<u64, &'a [SaidOption], &'a [u8]>;
 
 /// An option of a segment by places and positions (RFC 8684, section 3). `I` are the ids of a REMOVE_ADDR.
 #[derive(Copy, Debug)]
@@ -95,6 +98,15 @@ impl<N: Copy, I: Copy> Clone for PathOption<N, I> {
 
     fn clone(&self) -> Result<Self, AllocError> {
         Ok(*self)
+    }
+}
+
+/// What stands in a place of a list that isn't used.
+impl<N, I> Default for PathOption<N, I> {
+    ghost is_default = { λ _. ⊤ };
+
+    fn default() -> Self {
+        PathOption::Prio { backup: false }
     }
 }
 

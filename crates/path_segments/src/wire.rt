@@ -3,10 +3,10 @@
 ghost use Rattle.std.specs.Prelude.{◌≡◌, option_map};
 ghost use Rattle.sides.specs.Side.{peer};
 ghost use Rattle.mptcp_options.specs.Value.{value_of};
-ghost use Rattle.path_segments.specs.Options.{plain_option, said_option, said_mapping, mapping_ends_stream, relative_number};
+ghost use Rattle.path_segments.specs.Options.{said_option, said_mapping, mapping_ends_stream, relative_number};
 ghost use Rattle.path_segments.specs.Spelling.{data_number};
 
-use crate::segment::{PathMapping, PathOption};
+use crate::segment::{PathMapping, PathOption, SaidOption};
 use crate::spelling::Spelling;
 use mptcp_options::{DataNumber, DssMap, MpOption};
 use seq_units::{Pos, Seq32, number32};
@@ -14,28 +14,24 @@ use sides::Side;
 
 impl Spelling {
     /// The option of the octets that a side says this one by.
-    pub(crate) fn said_option<'a>(
-        &self,
-        from: Side,
-        option: &PathOption<u64, &'a [u8]>,
-    ) -> MpOption<'a>
-        ensures { value_of result ≡ said_option self.now from (plain_option option.now) }
+    pub(crate) fn said_option<'a>(&self, from: Side, option: &'a SaidOption) -> MpOption<'a>
+        ensures { value_of result ≡ said_option self.now from option.now }
     {
-        match *option {
+        match option {
             PathOption::Capable {
                 flag_a,
                 flag_c,
                 keys,
             } => MpOption::Capable {
-                flag_a,
-                flag_c,
-                keys,
+                flag_a: *flag_a,
+                flag_c: *flag_c,
+                keys: *keys,
             },
-            PathOption::Join { form } => MpOption::Join { form },
+            PathOption::Join { form } => MpOption::Join { form: *form },
             PathOption::Dss { next, mapping } => MpOption::Dss {
-                ack: self.said_ack(from, next),
-                mapping: self.said_mapping_of(from, mapping),
-                fin: ends_stream(mapping),
+                ack: self.said_ack(from, *next),
+                mapping: self.said_mapping_of(from, *mapping),
+                fin: ends_stream(*mapping),
             },
             PathOption::AddAddr {
                 echo,
@@ -44,19 +40,22 @@ impl Spelling {
                 port,
                 hmac,
             } => MpOption::AddAddr {
-                echo,
-                id,
-                address,
-                port,
-                hmac,
+                echo: *echo,
+                id: *id,
+                address: *address,
+                port: *port,
+                hmac: *hmac,
             },
-            PathOption::Remove { ids } => MpOption::Remove { ids },
-            PathOption::Prio { backup } => MpOption::Prio { backup },
+            PathOption::Remove { ids } => MpOption::Remove { ids: &ids[..] },
+            PathOption::Prio { backup } => MpOption::Prio { backup: *backup },
             PathOption::Fail { place } => MpOption::Fail {
-                number: self.whole_number(from.peer(), place),
+                number: self.whole_number(from.peer(), *place),
             },
-            PathOption::FastClose { key } => MpOption::FastClose { key },
-            PathOption::Reset { transient, reason } => MpOption::Reset { transient, reason },
+            PathOption::FastClose { key } => MpOption::FastClose { key: *key },
+            PathOption::Reset { transient, reason } => MpOption::Reset {
+                transient: *transient,
+                reason: *reason,
+            },
         }
     }
 

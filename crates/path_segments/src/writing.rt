@@ -1,12 +1,12 @@
 //! The octets of a segment, and their checksum field.
 
-ghost use Rattle.std.specs.Prelude.{◌≡◌, ◌+◌, ◌^◌, ◌≤◌, ◌++◌, length, map, All, IfOk};
+ghost use Rattle.std.specs.Prelude.{◌≡◌, ◌+◌, ◌^◌, ◌≤◌, ◌++◌, length, All, IfOk};
 ghost use Rattle.std.specs.List.{flat_map};
 ghost use Rattle.mptcp_options.specs.Text.{option_text};
-ghost use Rattle.path_segments.specs.Options.{plain_option, said_option};
+ghost use Rattle.path_segments.specs.Options.{said_option};
 ghost use Rattle.path_segments.specs.Spelled.{plain, spelled_head, syn_text, options_text, padded, unpadded_options, window_field, spelled_text, spelled_sum, CanSay, CanSayOption};
 
-use crate::segment::{PathOption, SaidSegment};
+use crate::segment::{SaidOption, SaidSegment};
 use crate::spelling::Spelling;
 use arrayvec::ArrayVec;
 use mptcp_options::octets_of;
@@ -114,17 +114,12 @@ fn syn_octets(mss: Option<u16>) -> Options
 }
 
 /// Puts the octets of options of Multipath TCP behind others, in their order.
-fn put_options(
-    octets: &mut Options,
-    spelling: &Spelling,
-    from: Side,
-    options: &[PathOption<u64, &[u8]>],
-)
-    requires can { All (CanSayOption spelling.now from) (map plain_option options.now) }
+fn put_options(octets: &mut Options, spelling: &Spelling, from: Side, options: &[SaidOption])
+    requires can { All (CanSayOption spelling.now from) options.now }
     requires room { length
-        (octets.old.items ++ options_text spelling.now from (map plain_option options.now)) ≤ 40 }
+        (octets.old.items ++ options_text spelling.now from options.now) ≤ 40 }
     ensures { octets.new.items ≡
-        octets.old.items ++ options_text spelling.now from (map plain_option options.now) }
+        octets.old.items ++ options_text spelling.now from options.now }
 {
     for option in options {
         let said = octets_of(&spelling.said_option(from, option), spelling.checksums);

@@ -12,14 +12,11 @@ use case_fields::Case;
 use key_material::Address;
 use mptcp_options::{CapableKeys, JoinForm};
 use path_segments::{
-    EndNumbers, Expected, HeardSegment, PathMapping, PathOption, PathSegment, Spelling, can_say,
-    parse_segment, write,
+    EndNumbers, Expected, HeardSegment, PathMapping, PathOption, PathSegment, SaidOption,
+    SaidSegment, Spelling, can_say, parse_segment, write,
 };
 use seq_units::{POSITION_LIMIT, Seq32, Seq64};
 use sides::Side;
-
-/// An option of a case: none lends ids.
-type Said = PathOption<u64, &'static [u8]>;
 
 fn numbers_of(case: &mut Case<'_>) -> EndNumbers {
     EndNumbers {
@@ -75,12 +72,7 @@ pub fn spelled(case: &mut Case<'_>) {
 }
 
 /// Puts the octets of a segment.
-fn put_spelled(
-    case: &mut Case<'_>,
-    spelling: &Spelling,
-    from: Side,
-    segment: &PathSegment<u64, &[Said], &[u8]>,
-) {
+fn put_spelled(case: &mut Case<'_>, spelling: &Spelling, from: Side, segment: &SaidSegment<'_>) {
     if !can_say(spelling, from, segment) {
         return case.put("unsayable");
     }
@@ -91,7 +83,7 @@ fn put_spelled(
 }
 
 /// The options behind the payload; None where there is no memory.
-fn options_of(case: &mut Case<'_>) -> Option<Vec<Said>> {
+fn options_of(case: &mut Case<'_>) -> Option<Vec<SaidOption>> {
     let mut options = Vec::new(case.alloc);
     for word in case.rest().split(' ') {
         case.read(word, ":");
@@ -102,7 +94,7 @@ fn options_of(case: &mut Case<'_>) -> Option<Vec<Said>> {
     Some(options)
 }
 
-fn option_of(case: &mut Case<'_>) -> Said {
+fn option_of(case: &mut Case<'_>) -> SaidOption {
     match case.word() {
         "capable" => PathOption::Capable {
             flag_a: false,
@@ -130,7 +122,7 @@ fn option_of(case: &mut Case<'_>) -> Said {
     }
 }
 
-fn dss_of(case: &mut Case<'_>) -> Said {
+fn dss_of(case: &mut Case<'_>) -> SaidOption {
     let next = case.number();
     let mapping = PathMapping::Bytes {
         place: case.number(),

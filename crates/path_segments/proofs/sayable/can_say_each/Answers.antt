@@ -1,8 +1,7 @@
 use Rattle.std.proofs.Common.{rules, arith}
 use Rattle.std.proofs.lemmas.List.Elements.{All-more}
-use Rattle.path_segments.specs.Options.{plain_option}
 use Rattle.path_segments.specs.Spelled.{CanSayOption}
-use Rattle.path_segments.proofs.SaidOptions.{LentOption, can_say_at, each_of_all}
+use Rattle.path_segments.proofs.SaidOptions.{can_say_at, each_of_all}
 use Rattle.path_segments.proofs.sayable.can_say_each.Goals as goal
 
 pub returns-then-not-can_say_option : goal.returns-then-not-can_say_option
@@ -17,7 +16,7 @@ returns-then-not-can_say_option c = (
 
 pub loop-option-preserved : goal.loop-option-preserved
 loop-option-preserved c =
-    All-more (λ (o : LentOption). CanSayOption c.args.spelling.now c.args.from (plain_option o)) c.args.options.now
+    All-more (CanSayOption c.args.spelling.now c.args.from) c.args.options.now
     c.loop-option.option-index _ c.loop-option-test.true c.loop-option.invariant (c.can_say_option.ensures.0 (search rules))
 
 pub returns : goal.returns

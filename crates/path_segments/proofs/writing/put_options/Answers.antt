@@ -1,7 +1,7 @@
 use Rattle.std.proofs.Common.{◌++◌, List, ℕ, ap, sym, ◌∙◌, arith}
 use Rattle.std.specs.List.{flat_map}
 use Rattle.std.proofs.lemmas.List.{take_all}
-use Rattle.path_segments.proofs.SaidOptions.{said_text, options_text-plain, can_say_at, room_at}
+use Rattle.path_segments.proofs.SaidOptions.{said_text, options_text-each, can_say_at, room_at}
 use Rattle.path_segments.proofs.writing.put_options.Goals as goal
 
 pub octets_of-said-requires : goal.octets_of-said-requires
@@ -21,4 +21,4 @@ returns c =
     ∙ ap (λ (text : List ℕ). c.args.octets.now.items ++ text)
     (ap (flat_map (said_text c.args.spelling.now c.args.from))
     (take_all c.loop-option.option-index c.args.options.now (omega (arith, c.loop-option-test.false)))
-    ∙ sym (options_text-plain c.args.spelling.now c.args.from c.args.options.now))
+    ∙ sym (options_text-each c.args.spelling.now c.args.from c.args.options.now))
