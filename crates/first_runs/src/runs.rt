@@ -106,7 +106,8 @@ impl FirstRuns {
     /// Want of memory, and then the places of the run below one of them have their images.
     pub fn fill(&mut self, run: Run) -> Result<(), AllocError>
         requires { Fits run }
-        ensures ok { OnOk result ((p : ℕ) → told_at self.new p ≡ option_or (told_at self.old p) (told_by run p)) }
+        ensures ok { OnOk result ((p : ℕ) → told_at self.new p ≡
+            option_or (told_at self.old p) (told_by run p)) }
         ensures err { OnErr result (IsFilledBelow run self.old self.new) }
     {
         let mut place = run.from;
@@ -145,7 +146,8 @@ impl FirstRuns {
         requires some { run.from < run.to }
         requires fits { Fits run }
         requires free { (p : ℕ) → run.from ≤ p → p < run.to → told_at self.old p ≡ None }
-        ensures ok { OnOk result ((p : ℕ) → told_at self.new p ≡ option_or (told_at self.old p) (told_by run p)) }
+        ensures ok { OnOk result ((p : ℕ) → told_at self.new p ≡
+            option_or (told_at self.old p) (told_by run p)) }
         ensures err { OnErr result (self.new ≡ self.old) }
     {
         put(&mut self.runs, run)

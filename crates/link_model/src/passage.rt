@@ -115,7 +115,8 @@ pub fn is_drawn_lost(parts: u32, seed: u64, path: u8, from: Side, number: u64) -
 /// The ticks that are drawn for the segment of this number, the first being 1, of so many at most.
 pub fn jitter_drawn(ticks: u32, seed: u64, path: u8, from: Side, number: u64) -> u64
     requires { ticks ≤ 100000 }
-    ensures value { result ≡ ticks_drawn ticks (drawn_word seed (jitter_stream path from) (number - 1)) }
+    ensures value { result ≡
+        ticks_drawn ticks (drawn_word seed (jitter_stream path from) (number - 1)) }
     ensures most { result ≤ 100000 }
 {
     if ticks == 0 {

@@ -199,7 +199,8 @@ fn put_path(text: &mut String, index: u64, path: PathLine) -> Result<(), AllocEr
 }
 
 fn put_header(text: &mut String, version: Version) -> Result<(), AllocError>
-    ensures { OnOk result (string_bytes text.new ≡ string_bytes text.old ++ ended (Header version)) }
+    ensures { OnOk result (string_bytes text.new ≡
+        string_bytes text.old ++ ended (Header version)) }
 {
     let version = Word::Text(version_text(version));
     put_spaced(text, "mptcp-script", &[version])

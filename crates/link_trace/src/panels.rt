@@ -74,7 +74,8 @@ fn put_part(text: &mut String, every: usize) -> Result<(), AllocError>
 /// Puts how many octets go in how many ticks.
 #[tactic(auto, unfolding(crate::specs::Panels::amount_words))]
 fn put_amount(text: &mut String, scale: &Scale) -> Result<(), AllocError>
-    ensures { OnOk result (string_bytes text.new ≡ string_bytes text.old ++ amount_words scale.now) }
+    ensures { OnOk result (string_bytes text.new ≡
+        string_bytes text.old ++ amount_words scale.now) }
 {
     put_octets(text, scale.places)?;
     text.push_str(" in ")?;
@@ -205,7 +206,8 @@ fn put_frame(text: &mut String, scale: &Scale) -> Result<(), AllocError>
 
 #[tactic(auto, unfolding(crate::specs::Panels::tick_of))]
 fn put_tick(text: &mut String, scale: &Scale, tick: u64) -> Result<(), AllocError>
-    ensures { OnOk result (string_bytes text.new ≡ string_bytes text.old ++ tick_of scale.now tick) }
+    ensures { OnOk result (string_bytes text.new ≡
+        string_bytes text.old ++ tick_of scale.now tick) }
 {
     let (x, floor) = (scale.x(tick), u64::from(scale.floor));
     put_notch(text, x, floor, "v60")?;
@@ -302,7 +304,8 @@ fn put_paths(
     strokes: &[Stroke],
 ) -> Result<(), AllocError>
     ensures { OnOk result (string_bytes text.new ≡
-        string_bytes text.old ++ flat_map (path_marks scale.now strokes.now) (range_with_len 0 paths)) }
+        string_bytes text.old ++
+        flat_map (path_marks scale.now strokes.now) (range_with_len 0 paths)) }
 {
     for path in 0..paths {
         put_path(text, scale, strokes, path)?;

@@ -130,7 +130,8 @@ fn put_first_counts(text: &mut String, counts: &Counts) -> Result<(), AllocError
 }
 
 fn put_lost(text: &mut String, counts: &Counts) -> Result<(), AllocError>
-    ensures { OnOk result (string_bytes text.new ≡ string_bytes text.old ++ lost_columns counts.now) }
+    ensures { OnOk result (string_bytes text.new ≡
+        string_bytes text.old ++ lost_columns counts.now) }
 {
     put_column(text, counts.lost)?;
     put_column(text, counts.full)
@@ -148,7 +149,8 @@ fn put_counts(text: &mut String, counts: &Counts) -> Result<(), AllocError>
 
 /// The greatest queue before the direction, and what the end measures.
 fn put_measures(text: &mut String, row: &Row) -> Result<(), AllocError>
-    ensures { OnOk result (string_bytes text.new ≡ string_bytes text.old ++ measures_columns row.now) }
+    ensures { OnOk result (string_bytes text.new ≡
+        string_bytes text.old ++ measures_columns row.now) }
 {
     put_column(text, row.queue)?;
     put_rate(text, row.rate)
