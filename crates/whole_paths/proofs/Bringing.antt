@@ -7,12 +7,9 @@ use Rattle.std.proofs.lemmas.Option.{same_Some}
 use Rattle.path_segments.specs.Heard.{HeardSegment}
 use Rattle.sides.specs.declared.side.Side.{Side}
 use Rattle.sides.specs.Side.{peer}
-use Rattle.control_book.specs.declared.call.ControlReply.TheVariants as control_replies
 use Rattle.dss_mapping.specs.Mappings.{octets_of}
 use Rattle.dss_mapping.specs.declared.kept.KeptMapping.{KeptMapping}
 use Rattle.fallback_state.specs.declared.fall.Event.TheVariants as events
-use Rattle.fallback_state.specs.declared.fall.Mode.TheVariants as modes
-use Rattle.fallback_state.specs.declared.fall.Verdict.TheVariants as verdicts
 use Rattle.link_model.specs.Steps.{after_delivery}
 use Rattle.subflow_recv.specs.Laws.{first_of as first_octet, payload_octet}
 use Rattle.subflow_recv.specs.Receiving.{Receiving, filled, window_end, place_at, octet_at, cut, without_held, after_keep_held, after_forget_from}
@@ -22,40 +19,30 @@ use Rattle.subflow_tcp.specs.State.{EndState, is_fin_passed}
 use Rattle.subflow_tcp.specs.Taking.{after_keeping_held, after_dropping_held}
 use Rattle.subflow_tcp.specs.declared.verdicts.Meaning.TheVariants as means
 use Rattle.actor_desk.specs.declared.ask.Reply.{Reply}
-use Rattle.actor_desk.specs.declared.ask.Reply.TheVariants as replies
 use Rattle.actor_desk.specs.Words.{is_nil, pick}
-use Rattle.path_agenda.specs.Agenda.{start_of_turn, copy_came, leaves, resets, stops}
-use Rattle.path_agenda.specs.Items.{keys_heard}
+use Rattle.path_agenda.specs.Agenda.{start_of_turn, copy_came}
 use Rattle.path_agenda.specs.Words.{first_of}
 use Rattle.path_agenda.specs.declared.duty.Duty.{Duty}
 use Rattle.path_agenda.specs.declared.duty.Duty.TheVariants as duties
 use Rattle.path_agenda.specs.declared.duty.AskDuty.TheVariants as ask_duties
 use Rattle.path_agenda.specs.declared.duty.SilentDuty.TheVariants as silent_duties
 use Rattle.path_agenda.specs.declared.duty.StepDuty.TheVariants as step_duties
-use Rattle.path_agenda.specs.declared.heard.Heard.{Heard}
-use Rattle.path_agenda.specs.declared.heard.Heard.TheVariants as says
-use Rattle.path_agenda.specs.declared.keys.KeyPair.{KeyPair}
 use Rattle.path_store.specs.Passing.{is_there}
 use Rattle.path_core.specs.Arrival.{after_judged, copy_heard, template_of, with_payload}
-use Rattle.path_core.specs.Breaking.{answered_break, reset_on}
 use Rattle.path_core.specs.Codec.{Codec}
 use Rattle.path_core.specs.DataFin.{after_pass_fin}
 use Rattle.path_core.specs.Deliver.{mapping_here, is_wrong, failing_by, forgotten_by, after_check, after_pieces, is_dropped, after_keep}
-use Rattle.path_core.specs.DssIn.{is_clash, with_learned, with_data_fin, told_next}
 use Rattle.path_core.specs.Duties.{stands, passed, answered}
-use Rattle.path_core.specs.End.{PathEnd, died}
+use Rattle.path_core.specs.End.{PathEnd}
 use Rattle.path_core.specs.Events.{next_event, happens_if}
-use Rattle.path_core.specs.Fallback.{breaks_by_ack, breaks_by, after_fell, fell_duties, with_plain_ack, after_check_failed, after_infinite, after_fail_heard}
-use Rattle.path_core.specs.FastClose.{is_stopped_by}
-use Rattle.path_core.specs.MpCapable.{answered_opened}
+use Rattle.path_core.specs.Fallback.{after_fell, with_plain_ack, after_check_failed}
 use Rattle.path_core.specs.MpJoin.{is_joined}
 use Rattle.path_core.specs.OptionsIn.{items_of, options_heard}
 use Rattle.path_core.specs.Profile.{Profile}
-use Rattle.path_core.specs.Standing.{answered_ack_out, after_ack_out}
-use Rattle.path_core.specs.State.{PathState, at_tick, end_at, goes_on, with_agenda}
+use Rattle.path_core.specs.State.{PathState, at_tick, end_at, with_agenda}
 use Rattle.path_core.specs.Steps.{settled, takes, next_round}
 use Rattle.path_core.specs.Timer.{after_timer}
-use Rattle.path_core.specs.Treating.{item_of, item_passed, answered_item}
+use Rattle.path_core.specs.Treating.{item_of, item_passed}
 use Rattle.path_core.specs.declared.events.Event.{Event}
 use Rattle.path_core.specs.declared.judged.Judged.{Judged}
 use Rattle.path_core.specs.declared.judged.Judged.TheVariants as judged
@@ -63,20 +50,21 @@ use Rattle.world_laws.specs.declared.member.Member.TheVariants.{App, Path}
 use Rattle.world_laws.specs.Actors.{Actor, member_takes, member_next, is_over}
 use Rattle.world_laws.specs.StampedBooks.{answer_to}
 use Rattle.world_laws.specs.Writes.{PathView, side_of}
-use Rattle.world_laws.proofs.Falls.FailedChecks.{forgets_so, fail_heard_so, infinite_came_so, fail_answered_so}
+use Rattle.world_laws.proofs.Falls.FailedChecks.{forgets_so}
 use Rattle.world_laws.proofs.Writes.Paths.{writes_no_more}
-use Rattle.whole_paths.specs.AgendaSteps.{is_gone}
-use Rattle.whole_paths.specs.Brought.{IsKept, comes_before_keeping, IsToKeep, IsToReset, FailsItsCheck, IsThere, Comes, Brings, StaysThere, KeepsWhatComes, PathsKeepWhatComes, WhatComesIsKept}
+use Rattle.whole_paths.specs.Brought.{IsKept, IsToKeep, FailsItsCheck, IsThere, Comes, Brings, StaysThere, KeepsWhatComes, PathsKeepWhatComes, WhatComesIsKept}
 use Rattle.whole_paths.specs.Brought.{IsThere as there}
 use Rattle.whole_paths.specs.Brought.{StaysThere as stay}
-use Rattle.whole_paths.specs.Brought.{IsToReset as resetting}
-use Rattle.whole_paths.proofs.Agendas.{own_end, gone_end}
+use Rattle.whole_paths.proofs.Agendas.{own_end}
 use Rattle.whole_paths.proofs.Duties.{answered_steps}
 use Rattle.whole_paths.proofs.Moving.{taken_recv, item_recv, event_moves, answered_moves, answered_other_recv, passed_other_recv}
 use Rattle.whole_paths.proofs.Settling.{sides}
 use Rattle.whole_paths.proofs.Staying.{same_kept, kept_moves, Soon, Now, then_soon, copy_soon, Fails, fails_so, failed_so, failure_tcp, told_end, settled_so}
 use Rattle.whole_paths.proofs.Staying.Lies.{below, at_place, at_dead}
 use Rattle.whole_paths.proofs.Staying.Now.{lies, in_hand, resets_next}
+use Rattle.whole_paths.proofs.Treating.{Leads, Before, before_answers}
+use Rattle.whole_paths.proofs.Treating.Leads.{as_they_are, one_more}
+use Rattle.whole_paths.proofs.Treating.Before.{on, resets_then, dies}
 use Rattle.whole_paths.proofs.Turns.{turn_each}
 use Rattle.whole_paths.proofs.Waiting.{path_far}
 
@@ -94,16 +82,6 @@ forgotten_empty x n t is =
     let first = eqb-true x.pos t.recv.edge (and_parts (x.pos == t.recv.edge) (nat_lt 0 (octets_of x) && (nat_le (octets_of x) n && nat_le (x.place + octets_of x) (2 ^ 62))) is).0 in
     let all : x.pos - t.recv.edge ≡ 0 = omega (arith, first) in
     record { places = ap (λ n. cut n t.recv.places) all; incoming = refl }
-
--- ---- what the duties before the payload is kept make of the rest
-
-data Before (s : Side) (e f : PathEnd) (next : List Duty) : Type 0 where
-  on : f.tcp.recv ≡ e.tcp.recv → Soon s next → Before s e f next
-  resets_then : IsToReset s next → Before s e f next
-  dies : is_gone f ≡ true → Before s e f next
-
-here_before : (s : Side) (e f a b : PathEnd) (next : List Duty) → Before s e f next → Before s e (pick s (pick s f a) (pick s b f)) next
-here_before s e f a b next x = subst (λ g. Before s e g next) (sym (own_end s f a b)) x
 
 -- ---- what is forgotten
 
@@ -185,99 +163,21 @@ module _ {C : Type 0} where
       let x : PathState C = with_agenda (d ∷ ds) p in let q : PathState C = answered k d r x in
       inr (lies (kept_moves pos octet (end_at s x) (end_at s q) h (answered_moves k s d r x refl refl)))
 
-  -- ---- what the duties before the payload is kept make of the rest
-
-  module _ (k : Codec C) (s : Side) (d : Duty) (ds : List Duty) (r : Reply) (p : PathState C) (soon : Soon s ds) where
-    abbrev x : PathState C
-    x = with_agenda (d ∷ ds) p
-
-    abbrev e : PathEnd
-    e = end_at s p
-
-    broken_before : (b : Bool) (reason : ℕ) (f : PathEnd) → Before s e f (breaks_by b s reason)
-    broken_before true reason f = resets_then (resetting.broken reason refl)
-    broken_before false reason f = resets_then (resetting.is_reset reason refl)
-
-    fell_before : (f : PathEnd) (o : Reply) → f.tcp.recv ≡ e.tcp.recv → Before s e f (fell_duties s o x)
-    fell_before f (replies.Control (control_replies.Verdict (verdicts.Went modes.Identity))) is = on is (then_soon s (duties.Ask (ask_duties.GoIdentity s)) ds refl refl soon)
-    fell_before f (replies.Control (control_replies.Verdict (verdicts.BreakPath reason))) is = broken_before e.treated.asked reason f
-    fell_before f _ is = on is soon
-
-    fallen : (f : PathEnd) → f.tcp.recv ≡ e.tcp.recv → let q : PathState C = goes_on s f (fell_duties s r x) x in Before s e (end_at s q) q.agenda
-    fallen f is = here_before s e f p.a p.b (fell_duties s r x) (fell_before f r is)
-
-    stays_before : (f : PathEnd) → f.tcp.recv ≡ e.tcp.recv → let q : PathState C = goes_on s f ds x in Before s e (end_at s q) q.agenda
-    stays_before f is = here_before s e f p.a p.b ds (on is soon)
-
-    break_before : (reason : ℕ) → let q : PathState C = answered_break k s reason r x in Before s e (end_at s q) q.agenda
-    break_before reason = elim e.treated.asked as
-        (λ b. let q : PathState C = if b then answered_ack_out s r (resets s reason) x else reset_on k s (Some reason) (leaves s) x in Before s e (end_at s q) q.agenda) [
-          | true ↦ here_before s e (after_ack_out r e) p.a p.b (resets s reason) (resets_then (resetting.is_reset reason refl))
-          | false ↦ dies (gone_end s (died e) p.a p.b refl)
-        ]
-
-    told_before : (f : PathEnd) (b : Bool) → f.tcp.recv ≡ e.tcp.recv → let q : PathState C = goes_on s f (told_next s b x) x in Before s e (end_at s q) q.agenda
-    told_before f true is = here_before s e f p.a p.b (duties.Ask (ask_duties.AckHeard s) ∷ ds) (on is (then_soon s (duties.Ask (ask_duties.AckHeard s)) ds refl refl soon))
-    told_before f false is = stays_before f is
-
-    stopped_before : (b : Bool) → Before s e (end_at s p) (if b then stops s else ds)
-    stopped_before true = resets_then (resetting.stopped refl)
-    stopped_before false = on refl soon
-
-    abbrev Next : PathState C → Type 0
-    Next q = Before s e (end_at s q) q.agenda
-
-    item_before : (o : Option Heard) → Next (answered_item k s o r x)
-    item_before None = on refl soon
-    item_before (Some (says.DataAck next window)) = told_before _ _ refl
-    item_before (Some (says.Mapping fin)) = elim (is_clash e) as
-        (λ b. Next (if b then answered_break k s 1 r x else goes_on s (with_learned (after_fell events.MappingHeard r (end_at s x))) (fell_duties s r x) x))
-        [ true ↦ break_before 1 | false ↦ fallen (with_learned (after_fell events.MappingHeard r e)) refl ]
-    item_before (Some (says.DataFin place)) = fallen (with_data_fin place (after_fell events.MappingHeard r e)) refl
-    item_before (Some (says.InfiniteMapping place position)) =
-        fallen (after_infinite place position r e) (infinite_came_so (λ f. f.tcp.recv ≡ e.tcp.recv) place position r e (λ other. refl))
-    item_before (Some says.Fail) = fail_answered_so Next s r x
-        (here_before s e _ p.a p.b (duties.Ask (ask_duties.FailHeard s) ∷ ds) (on refl (then_soon s (duties.Ask (ask_duties.FailHeard s)) ds refl refl soon)))
-        (fallen _ refl)
-    item_before (Some (says.FastClose key)) = stopped_before (is_stopped_by r)
-    item_before (Some (says.Keys own peer)) = stays_before _ refl
-    item_before (Some (says.Notice notice)) = stays_before _ refl
-    item_before (Some _) = on refl soon
-
-    keys_before : (o : Option KeyPair) → Next (answered_opened s o r x)
-    keys_before None = fallen _ refl
-    keys_before (Some keys) = stays_before _ refl
-
-    plain_ack_before : Next (answered k (duties.Step (step_duties.PlainAck s)) r x)
-    plain_ack_before = elim (breaks_by_ack p.profile e) as
-        (λ b. Next (if b then answered_break k s 6 r x else goes_on s (with_plain_ack (after_fell events.PlainAck r (end_at s x))) (fell_duties s r x) x))
-        [ true ↦ break_before 6 | false ↦ fallen (with_plain_ack (after_fell events.PlainAck r e)) refl ]
-
-  before_answers : (k : Codec C) (d : Duty) (ds : List Duty) (r : Reply) (p : PathState C) → comes_before_keeping d ≡ true → Soon (side_of d) ds
-      → let q : PathState C = answered k d r (with_agenda (d ∷ ds) p) in Before (side_of d) (end_at (side_of d) p) (end_at (side_of d) q) q.agenda
-  before_answers k (duties.Ask (ask_duties.Opened s)) ds r p before soon = keys_before k s (duties.Ask (ask_duties.Opened s)) ds r p soon (keys_heard (end_at s p).treated.items)
-  before_answers k (duties.Ask (ask_duties.Live s)) ds r p before soon = on refl soon
-  before_answers k (duties.Ask (ask_duties.AckHeard s)) ds r p before soon = fallen k s (duties.Ask (ask_duties.AckHeard s)) ds r p soon (after_fell events.AckHeard r (end_at s p)) refl
-  before_answers k (duties.Ask (ask_duties.FailHeard s)) ds r p before soon =
-      let e = end_at s p in fallen k s (duties.Ask (ask_duties.FailHeard s)) ds r p soon (after_fail_heard r e) (fail_heard_so (λ f. f.tcp.recv ≡ e.tcp.recv) r e (λ own owes. refl))
-  before_answers k (duties.Ask (ask_duties.SubflowAck s)) ds r p before soon = stays_before k s (duties.Ask (ask_duties.SubflowAck s)) ds r p soon _ refl
-  before_answers k (duties.Ask (ask_duties.PlainData s)) ds r p before soon = fallen k s (duties.Ask (ask_duties.PlainData s)) ds r p soon (after_fell events.PlainData r (end_at s p)) refl
-  before_answers k (duties.Ask (ask_duties.GoIdentity s)) ds r p before soon = stays_before k s (duties.Ask (ask_duties.GoIdentity s)) ds r p soon _ refl
-  before_answers k (duties.Step (step_duties.Heard s index)) ds r p before soon = item_before k s (duties.Step (step_duties.Heard s index)) ds r p soon (item_of index (end_at s p))
-  before_answers k (duties.Step (step_duties.PlainAck s)) ds r p before soon = plain_ack_before k s (duties.Step (step_duties.PlainAck s)) ds r p soon
-  before_answers k d ds r p before soon = absurd (true≢false (sym before))
-
   -- one that is held
   hand_answer : (k : Codec C) (s : Side) (pos octet : ℕ) (d : Duty) (ds : List Duty) (r : Reply) (p : PathState C) → let q : PathState C = answered k d r (with_agenda (d ∷ ds) p) in
       octet_at pos (after_keep_held (end_at s p).tcp.recv) ≡ Some octet → IsToKeep s (d ∷ ds) → Now s pos octet q.agenda p.profile (end_at s q)
   hand_answer k s pos octet d ds r p at keep =
-      by (subst (λ u. Before u (end_at u p) (end_at u q) q.agenda) keep.0 (before_answers k d ds r p keep.1.0 (subst (λ u. Soon u ds) (sym keep.0) keep.1.1)))
+      by (subst (λ u. Before u ds (end_at u p) (end_at u q) q.agenda) keep.0 (before_answers k d ds r p keep.1.0))
     where
       q : PathState C
       q = answered k d r (with_agenda (d ∷ ds) p)
 
-      by : Before s (end_at s p) (end_at s q) q.agenda → Now s pos octet q.agenda p.profile (end_at s q)
-      by (on is soon) = in_hand (ap (λ (v : Receiving). octet_at pos (after_keep_held v)) is ∙ at) soon
+      soon : (next : List Duty) → Leads s ds next → Soon s next
+      soon next as_they_are = keep.1.1
+      soon next (one_more e own before heard) = then_soon s e ds own before keep.1.1
+
+      by : Before s ds (end_at s p) (end_at s q) q.agenda → Now s pos octet q.agenda p.profile (end_at s q)
+      by (on is leads) = in_hand (ap (λ (v : Receiving). octet_at pos (after_keep_held v)) is.recv ∙ at) (soon q.agenda leads)
       by (resets_then is) = resets_next is
       by (dies is) = lies (at_dead is)
 

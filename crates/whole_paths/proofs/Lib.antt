@@ -9,9 +9,11 @@ pub mod GoesOn
 pub mod Hearing
 pub mod InTime
 pub mod Keeping
+pub mod Knowing
 pub mod Lanes
 pub mod Links
 pub mod Owing
+pub mod Mapping
 pub mod Moving
 pub mod Passing
 pub mod Paying
@@ -25,5 +27,6 @@ pub mod Settling
 pub mod Staying
 pub mod Subflows
 pub mod Timing
+pub mod Treating
 pub mod Turns
 pub mod Waiting

@@ -13,6 +13,7 @@ pub mod Hearing
 pub mod InTime
 pub mod Kept
 pub mod Lanes
+pub mod Mapped
 pub mod Owed
 pub mod Passed
 pub mod Reasons

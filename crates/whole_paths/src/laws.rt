@@ -15,6 +15,7 @@ ghost use Rattle.whole_paths.specs.Hearing.{EachAcknowledgementCounts};
 ghost use Rattle.whole_paths.specs.InTime.{NothingIsOverdue};
 ghost use Rattle.whole_paths.specs.Kept.{WhatWaitsIsKept};
 ghost use Rattle.whole_paths.specs.Lanes.Laws.{LossyLanesEnd, LossyLanesFinish};
+ghost use Rattle.whole_paths.specs.Mapped.{WhatIsToldIsKnown};
 ghost use Rattle.whole_paths.specs.Owed.{WhatIsOwedComes};
 ghost use Rattle.whole_paths.specs.Passed.{WhatIsInOrderIsPassed};
 ghost use Rattle.whole_paths.specs.Reasons.{WhoWaitsHasATimer};
@@ -151,6 +152,17 @@ pub fn what_is_acknowledged_came()
 pub fn what_comes_is_kept()
     ensures octets { WhatComesIsKept octets }
     ensures values { WhatComesIsKept values }
+{}
+
+/// A law: what a copy tells of its octets is known until RCV.NXT passes them (RFC 8684, section 3.3.1).
+///
+/// Each position of the first mapping of a copy that the end takes has a mapping then, or gets it once all is treated that the copy says
+/// before; from then on, by each turn, until RCV.NXT is past it. Or the end is dead, or reset next, as where the mapping gives a position
+/// another place; or the side fell back to plain TCP, or hasn't the peer's key, so that no mapping counts. At every moment each position
+/// that has a place, from where mappings are kept on, has its mapping (`live`).
+pub fn what_is_told_is_known()
+    ensures octets { WhatIsToldIsKnown octets }
+    ensures values { WhatIsToldIsKnown values }
 {}
 
 /// A law: where the turn of a path is over, no end that isn't dead keeps bytes that it may place: RCV.NXT stands behind all octets in order
