@@ -13,7 +13,7 @@ use Rattle.mptcp_options.specs.declared.dss.DataNumber.{DataNumber}
 use Rattle.mptcp_options.specs.declared.dss.DataNumber.TheVariants.{Whole, Low}
 use Rattle.mptcp_options.specs.declared.dss.DssMap.{DssMap}
 use Rattle.mptcp_options.specs.Value as wire
-use Rattle.serde_json.specs.Data.{Data, null, boolean, number, unsigned, string, array, object, member, no_members}
+use Rattle.serde_json.specs.Data.{Data, Members, null, boolean, number, unsigned, string, array, object, member, no_members, put}
 use Rattle.serde_json.specs.View.{items_of}
 use Rattle.trace_json.specs.Fields.{digits_or_null, hexadecimal, number_or_null}
 
@@ -100,6 +100,13 @@ map_data m = object (
 abbrev pub mapping_data : Option DssMap → Data
 mapping_data None = null
 mapping_data (Some m) = map_data m
+
+abbrev pub with_dss : Option DataNumber → Option DssMap → Bool → Members → Members
+with_dss ack mapping fin ms =
+    put (codes "name") (string (codes "DSS")) (
+    put (codes "fin") (boolean fin) (
+    put (codes "ack") (ack_data ack) (
+    put (codes "mapping") (mapping_data mapping) ms)))
 
 -- the Data ACK, flag F, the mapping
 abbrev pub dss_data : Option DataNumber → Option DssMap → Bool → Data

@@ -5,7 +5,7 @@ use Rattle.link_script.specs.declared.script.Script.{Script}
 use Rattle.link_trace.specs.declared.carried.Carried.{Carried}
 use Rattle.link_trace.specs.declared.rows.Row.{Row}
 use Rattle.link_trace.specs.declared.sent.Sent.{Sent}
-use Rattle.serde_json.specs.Data.{Data, number, unsigned, string, array, object, member, no_members}
+use Rattle.serde_json.specs.Data.{Data, Members, number, unsigned, string, array, object, member, no_members, put}
 use Rattle.serde_json.specs.Read.{read}
 use Rattle.serde_json.specs.View.{items_of}
 use Rattle.serde_json.specs.Written.{compact_text}
@@ -51,6 +51,19 @@ tokens_data a b = keys_data (token_of a) (token_of b)
 
 abbrev pub others_of : Run → Others
 others_of run = record { paths = run.script.paths; end = run.end; checksums = run.script.checksum; carried = run.carried; words = run.words }
+
+-- its keys, tokens and end, and its lists, put to other members
+abbrev pub with_keys : Run → Members → Members
+with_keys run ms =
+    put (codes "tokens") (tokens_data run.key_a run.key_b) (
+    put (codes "keys") (keys_data run.key_a run.key_b) (
+    put (codes "end") (number (unsigned run.end)) ms))
+
+abbrev pub with_lists : Run → Members → Members
+with_lists run ms =
+    put (codes "totals") (array (items_of (rows_data run.rows))) (
+    put (codes "segments") (array (items_of (segments_data (others_of run) run.trace))) (
+    put (codes "script") (script_data run.script) ms))
 
 abbrev pub run_data : Run → Data
 run_data run = object (

@@ -2,7 +2,7 @@
 use Rattle.std.specs.Prelude.{List, codes, map}
 use Rattle.link_script.specs.declared.script.PathLine.{PathLine}
 use Rattle.link_script.specs.declared.script.Script.{Script}
-use Rattle.serde_json.specs.Data.{Data, boolean, number, unsigned, string, array, object, member, no_members}
+use Rattle.serde_json.specs.Data.{Data, Members, boolean, number, unsigned, string, array, object, member, no_members, put}
 use Rattle.serde_json.specs.View.{items_of}
 use Rattle.trace_json.specs.Events.{events_data}
 use Rattle.trace_json.specs.Fields.{hexadecimal}
@@ -17,6 +17,19 @@ path_data line = object (
 
 abbrev pub paths_data : List PathLine → List Data
 paths_data lines = map path_data lines
+
+-- its settings, and the lists beside them, put to other members
+abbrev pub with_settings : Script → Members → Members
+with_settings script ms =
+    put (codes "short") (boolean script.short) (
+    put (codes "seed") (string (hexadecimal script.seed)) (
+    put (codes "checksum") (boolean script.checksum) (
+    put (codes "buffer") (number (unsigned script.buffer)) ms)))
+
+abbrev pub with_script : Script → Members → Members
+with_script script ms =
+    put (codes "paths") (array (items_of (paths_data script.paths))) (
+    put (codes "events") (array (items_of (events_data script.lines))) (with_settings script ms))
 
 abbrev pub script_data : Script → Data
 script_data script = object (

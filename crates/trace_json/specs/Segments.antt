@@ -14,7 +14,7 @@ use Rattle.segment_wire.specs.declared.head.Head.{Head}
 use Rattle.segment_wire.specs.declared.reading.SegmentFault.{SegmentFault}
 use Rattle.segment_wire.specs.Options.{option_octets}
 use Rattle.segment_wire.specs.Segment.{Segment}
-use Rattle.serde_json.specs.Data.{Data, null, boolean, number, unsigned, string, array, object, member, no_members}
+use Rattle.serde_json.specs.Data.{Data, Members, null, boolean, number, unsigned, string, array, object, member, no_members, put}
 use Rattle.serde_json.specs.View.{items_of}
 use Rattle.trace_json.specs.Fields.{number_or_null, side_letter}
 use Rattle.trace_json.specs.Options.{options_data}
@@ -60,6 +60,13 @@ fate_data f ticks = object (
     member (codes "stripped") (boolean f.stripped) (
     member (codes "ticks") (array (items_of ticks)) no_members))))
 
+abbrev pub with_fate : SegmentFate → List Data → Members → Members
+with_fate f ticks ms =
+    put (codes "stripped") (boolean f.stripped) (
+    put (codes "arrival") (string (arrival_word f.arrival)) (
+    put (codes "altered") (boolean f.altered) (
+    put (codes "ticks") (array (items_of ticks)) ms)))
+
 -- ---- what it carries
 
 -- the place of its first octet of payload, where it has one
@@ -99,6 +106,30 @@ options_of checksums (Ok segment) = options_data checksums (option_octets segmen
 options_of checksums (Err fault) = []
 
 -- ---- a segment
+
+-- which one it is, its flags and options, what becomes of it, what it carries and its words, each put to other members
+abbrev pub with_sent : Sent → Members → Members
+with_sent s ms =
+    put (codes "tick") (number (unsigned s.tick)) (
+    put (codes "path") (number (unsigned s.path)) (
+    put (codes "number") (number (unsigned s.number)) (
+    put (codes "from") (string (side_letter s.from)) ms)))
+
+abbrev pub with_header : Bool → Sent → Members → Members
+with_header checksums s ms =
+    put (codes "options") (array (items_of (options_of checksums (meaning_in s)))) (
+    put (codes "flags") (flags_data (meaning_in s)) ms)
+
+abbrev pub with_end : Others → Sent → Members → Members
+with_end others s ms = put (codes "fate") (fate_data s.fate (ticks_data others.paths others.end s)) ms
+
+abbrev pub with_told : Others → ℕ → Members → Members
+with_told others place ms =
+    put (codes "text") (text_data (slice_get others.words place)) (
+    put (codes "data") (data_of (slice_get others.carried place)) ms)
+
+abbrev pub with_segment : Others → ℕ → Sent → Members → Members
+with_segment others place s ms = with_told others place (with_end others s (with_header others.checksums s (with_sent s ms)))
 
 -- the one of this place of the trace
 abbrev pub segment_data : Others → ℕ → Sent → Data

@@ -2,7 +2,7 @@
 use Rattle.std.specs.Prelude.{List, codes, map}
 use Rattle.link_trace.specs.declared.rows.Rate.{Rate}
 use Rattle.link_trace.specs.declared.rows.Row.{Row}
-use Rattle.serde_json.specs.Data.{Data, number, unsigned, string, object, member, no_members}
+use Rattle.serde_json.specs.Data.{Data, Members, number, unsigned, string, object, member, no_members, put}
 use Rattle.trace_json.specs.Fields.{number_or_null, side_letter}
 
 -- octets of payload: all, those sent again, those that moved, those sent for the first time
@@ -21,6 +21,19 @@ rate_data rate = object (
     member (codes "ssthresh") (number (unsigned rate.threshold)) (
     member (codes "timeout") (number (unsigned rate.timeout)) (
     member (codes "window") (number (unsigned rate.window)) no_members))))
+
+-- these counts, and the objects beside them, put to other members
+abbrev pub with_counts : Row → Members → Members
+with_counts row ms =
+    put (codes "segments") (number (unsigned row.segments)) (
+    put (codes "path") (number (unsigned row.path)) (
+    put (codes "lost") (number (unsigned row.lost)) (
+    put (codes "last") (number_or_null row.last) (
+    put (codes "from") (string (side_letter row.from)) (
+    put (codes "first") (number_or_null row.first) ms)))))
+
+abbrev pub with_row : Row → Members → Members
+with_row row ms = put (codes "rate") (rate_data row.rate) (put (codes "octets") (octets_data row) (with_counts row ms))
 
 -- the ticks of the first segment and of the last one, how many segments, how many of these are lost
 unfoldable pub row_data : Row → Data

@@ -4,9 +4,9 @@ ghost use Rattle.std.specs.Prelude.{◌≡◌, map, IfOk};
 ghost use Rattle.serde_json.specs.View.{view};
 ghost use Rattle.trace_json.specs.Events.{add_data, death_data, event_data, events_data, fast_close_data, happens_ticks, happens_word, impairment_data, jitter_data, loss_data, prio_data, rate_data, remove_data, segment_event_data, strip_all_data};
 
-use crate::fields::{number_or_null, put, side_letter};
+use crate::fields::{Member, object, put, side_letter};
 use link_script::{Direction, Happens, Impairment, ScriptLine, Segment};
-use serde_json::{Value, json};
+use serde_json::Value;
 use sides::Side;
 use std::alloc::{AllocError, Global};
 
@@ -35,43 +35,53 @@ fn happens_ticks(happens: Happens) -> Option<u64>
 fn segment_event(alloc: Global, segment: Segment, happens: Happens) -> Result<Value, AllocError>
     ensures { IfOk result (λ value. view value ≡ segment_event_data segment happens) }
 {
-    let (event, from) = (happens_word(happens), side_letter(segment.from));
-    let ticks = number_or_null(happens_ticks(happens));
-    json!(in alloc; {
-        "event": event,
-        "from": from,
-        "number": segment.number,
-        "path": segment.path,
-        "ticks": ticks,
-    })
+    let (number, path) = (u64::from(segment.number), u64::from(segment.path));
+    let members = [
+        Member::Text("event", happens_word(happens)),
+        Member::Text("from", side_letter(segment.from)),
+        Member::Number("number", number),
+        Member::Number("path", path),
+        Member::NumberOrNull("ticks", happens_ticks(happens)),
+    ];
+    object(alloc, &members)
 }
 
 /// Octets a tick, and the most that wait.
 fn rate(alloc: Global, direction: Direction, octets: u32, queue: u32) -> Result<Value, AllocError>
     ensures { IfOk result (λ value. view value ≡ rate_data direction octets queue) }
 {
-    let (from, path) = (side_letter(direction.from), direction.path);
-    json!(in alloc; {
-        "event": "rate",
-        "from": from,
-        "octets": octets,
-        "path": path,
-        "queue": queue,
-    })
+    let members = [
+        Member::Text("event", "rate"),
+        Member::Text("from", side_letter(direction.from)),
+        Member::Number("octets", u64::from(octets)),
+        Member::Number("path", u64::from(direction.path)),
+        Member::Number("queue", u64::from(queue)),
+    ];
+    object(alloc, &members)
 }
 
 fn loss(alloc: Global, direction: Direction, parts: u32) -> Result<Value, AllocError>
     ensures { IfOk result (λ value. view value ≡ loss_data direction parts) }
 {
-    let (from, path) = (side_letter(direction.from), direction.path);
-    json!(in alloc; {"event": "loss", "from": from, "parts": parts, "path": path})
+    let members = [
+        Member::Text("event", "loss"),
+        Member::Text("from", side_letter(direction.from)),
+        Member::Number("parts", u64::from(parts)),
+        Member::Number("path", u64::from(direction.path)),
+    ];
+    object(alloc, &members)
 }
 
 fn jitter(alloc: Global, direction: Direction, ticks: u32) -> Result<Value, AllocError>
     ensures { IfOk result (λ value. view value ≡ jitter_data direction ticks) }
 {
-    let (from, path) = (side_letter(direction.from), direction.path);
-    json!(in alloc; {"event": "jitter", "from": from, "path": path, "ticks": ticks})
+    let members = [
+        Member::Text("event", "jitter"),
+        Member::Text("from", side_letter(direction.from)),
+        Member::Number("path", u64::from(direction.path)),
+        Member::Number("ticks", u64::from(ticks)),
+    ];
+    object(alloc, &members)
 }
 
 /// What a line gives a direction.
@@ -92,41 +102,72 @@ fn impairment_event(
 fn strip_all(alloc: Global, path: u8, from: Side, tick: u64) -> Result<Value, AllocError>
     ensures { IfOk result (λ value. view value ≡ strip_all_data path from tick) }
 {
-    let from = side_letter(from);
-    json!(in alloc; {"event": "strip-all", "from": from, "path": path, "tick": tick})
+    let members = [
+        Member::Text("event", "strip-all"),
+        Member::Text("from", side_letter(from)),
+        Member::Number("path", u64::from(path)),
+        Member::Number("tick", tick),
+    ];
+    object(alloc, &members)
 }
 
 fn death(alloc: Global, path: u8, tick: u64) -> Result<Value, AllocError>
     ensures { IfOk result (λ value. view value ≡ death_data path tick) }
 {
-    json!(in alloc; {"event": "die", "path": path, "tick": tick})
+    let members = [
+        Member::Text("event", "die"),
+        Member::Number("path", u64::from(path)),
+        Member::Number("tick", tick),
+    ];
+    object(alloc, &members)
 }
 
 fn prio(alloc: Global, path: u8, side: Side, tick: u64, on: bool) -> Result<Value, AllocError>
     ensures { IfOk result (λ value. view value ≡ prio_data path side tick on) }
 {
-    let side = side_letter(side);
-    json!(in alloc; {"event": "prio", "on": on, "path": path, "side": side, "tick": tick})
+    let members = [
+        Member::Text("event", "prio"),
+        Member::Flag("on", on),
+        Member::Number("path", u64::from(path)),
+        Member::Text("side", side_letter(side)),
+        Member::Number("tick", tick),
+    ];
+    object(alloc, &members)
 }
 
 fn add(alloc: Global, id: u8, tick: u64) -> Result<Value, AllocError>
     ensures { IfOk result (λ value. view value ≡ add_data id tick) }
 {
-    json!(in alloc; {"event": "add", "id": id, "side": "b", "tick": tick})
+    let members = [
+        Member::Text("event", "add"),
+        Member::Number("id", u64::from(id)),
+        Member::Text("side", "b"),
+        Member::Number("tick", tick),
+    ];
+    object(alloc, &members)
 }
 
 fn remove(alloc: Global, side: Side, id: u8, tick: u64) -> Result<Value, AllocError>
     ensures { IfOk result (λ value. view value ≡ remove_data side id tick) }
 {
-    let side = side_letter(side);
-    json!(in alloc; {"event": "remove", "id": id, "side": side, "tick": tick})
+    let members = [
+        Member::Text("event", "remove"),
+        Member::Number("id", u64::from(id)),
+        Member::Text("side", side_letter(side)),
+        Member::Number("tick", tick),
+    ];
+    object(alloc, &members)
 }
 
 fn fast_close(alloc: Global, side: Side, tick: u64) -> Result<Value, AllocError>
     ensures { IfOk result (λ value. view value ≡ fast_close_data side tick) }
 {
-    let side = side_letter(side);
-    json!(in alloc; {"event": "fastclose", "side": side, "tick": tick})
+    let members = [
+        Member::Text("event", "fastclose"),
+        Member::Text("side", side_letter(side)),
+        Member::Number("tick", tick),
+    ];
+    object(alloc, &members)
 }
 
 /// A line of a script, by its first word.

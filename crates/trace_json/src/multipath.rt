@@ -1,14 +1,15 @@
 //! The options of Multipath TCP as objects.
 
-ghost use Rattle.std.specs.Prelude.{◌≡◌, map, IfOk, string_bytes};
-ghost use Rattle.serde_json.specs.View.{view};
+ghost use Rattle.std.specs.Prelude.{◌≡◌, map, IfOk, OnOk, string_bytes};
+ghost use Rattle.serde_json.specs.View.{members_view, view};
 ghost use Rattle.mptcp_options.specs.Value.{value_of};
-ghost use Rattle.trace_json.specs.Multipath.{ack_data, address_text, announced_data, capable_data, checksum_of, dss_data, fail_data, fast_close_data, ids_data, join_answer, join_data, join_syn, join_third, length_of, map_data, mapping_data, number_of, prio_data, receiver_of, removed_data, reset_data, sender_of, v4_text, value_data};
+ghost use Rattle.trace_json.specs.Multipath.{ack_data, address_text, announced_data, capable_data, checksum_of, dss_data, fail_data, fast_close_data, ids_data, join_answer, join_data, join_syn, join_third, length_of, map_data, mapping_data, number_of, prio_data, receiver_of, removed_data, reset_data, sender_of, v4_text, value_data, with_dss};
+ghost use Rattle.trace_json.specs.Fields.{digits_or_null};
 
-use crate::fields::{digits, digits_or_null, number_or_null, put};
+use crate::fields::{Member, object, put, put_members};
 use key_material::Address;
 use mptcp_options::{CapableKeys, DataNumber, DssMap, JoinForm, MpOption};
-use serde_json::{Value, json};
+use serde_json::{Map, Value, json};
 use std::alloc::{AllocError, Global};
 
 fn sender_of(keys: &CapableKeys) -> Option<u64>
@@ -58,18 +59,15 @@ fn checksum_of(keys: &CapableKeys) -> Option<u64>
 fn capable_value(alloc: Global, required: bool, keys: &CapableKeys) -> Result<Value, AllocError>
     ensures { IfOk result (λ value. view value ≡ capable_data required keys.now) }
 {
-    let checksum = digits_or_null(alloc, checksum_of(keys))?;
-    let length = number_or_null(length_of(keys));
-    let receiver = digits_or_null(alloc, receiver_of(keys))?;
-    let sender = digits_or_null(alloc, sender_of(keys))?;
-    json!(in alloc; {
-        "checksum": checksum,
-        "checksum_required": required,
-        "length": length,
-        "name": "MP_CAPABLE",
-        "receiver": receiver,
-        "sender": sender,
-    })
+    let members = [
+        Member::DigitsOrNull("checksum", checksum_of(keys)),
+        Member::Flag("checksum_required", required),
+        Member::NumberOrNull("length", length_of(keys)),
+        Member::Text("name", "MP_CAPABLE"),
+        Member::DigitsOrNull("receiver", receiver_of(keys)),
+        Member::DigitsOrNull("sender", sender_of(keys)),
+    ];
+    object(alloc, &members)
 }
 
 /// An MP_JOIN of a SYN.
@@ -82,15 +80,14 @@ fn join_syn(
 ) -> Result<Value, AllocError>
     ensures { IfOk result (λ value. view value ≡ join_syn backup id token nonce) }
 {
-    let nonce = digits(alloc, u64::from(nonce))?;
-    let token = digits(alloc, u64::from(token))?;
-    json!(in alloc; {
-        "backup": backup,
-        "id": id,
-        "name": "MP_JOIN",
-        "nonce": nonce,
-        "token": token,
-    })
+    let members = [
+        Member::Flag("backup", backup),
+        Member::Number("id", u64::from(id)),
+        Member::Text("name", "MP_JOIN"),
+        Member::Digits("nonce", u64::from(nonce)),
+        Member::Digits("token", u64::from(token)),
+    ];
+    object(alloc, &members)
 }
 
 /// That of a SYN/ACK.
@@ -103,15 +100,14 @@ fn join_answer(
 ) -> Result<Value, AllocError>
     ensures { IfOk result (λ value. view value ≡ join_answer backup id hmac nonce) }
 {
-    let hmac = digits(alloc, hmac)?;
-    let nonce = digits(alloc, u64::from(nonce))?;
-    json!(in alloc; {
-        "backup": backup,
-        "hmac": hmac,
-        "id": id,
-        "name": "MP_JOIN",
-        "nonce": nonce,
-    })
+    let members = [
+        Member::Flag("backup", backup),
+        Member::Digits("hmac", hmac),
+        Member::Number("id", u64::from(id)),
+        Member::Text("name", "MP_JOIN"),
+        Member::Digits("nonce", u64::from(nonce)),
+    ];
+    object(alloc, &members)
 }
 
 /// That of the third segment of a join.
@@ -156,14 +152,13 @@ fn number_of(number: DataNumber) -> u64
 fn map_value(alloc: Global, map: &DssMap) -> Result<Value, AllocError>
     ensures { IfOk result (λ value. view value ≡ map_data map.now) }
 {
-    let checksum = digits_or_null(alloc, map.checksum.map(u64::from))?;
-    let number = digits(alloc, number_of(map.number))?;
-    json!(in alloc; {
-        "checksum": checksum,
-        "length": map.length,
-        "number": number,
-        "relative": map.relative,
-    })
+    let members = [
+        Member::DigitsOrNull("checksum", map.checksum.map(u64::from)),
+        Member::Number("length", u64::from(map.length)),
+        Member::Digits("number", number_of(map.number)),
+        Member::Number("relative", u64::from(map.relative)),
+    ];
+    object(alloc, &members)
 }
 
 fn mapping_value(alloc: Global, mapping: Option<DssMap>) -> Result<Value, AllocError>
@@ -175,13 +170,33 @@ fn mapping_value(alloc: Global, mapping: Option<DssMap>) -> Result<Value, AllocE
     }
 }
 
-fn ack_value(alloc: Global, ack: Option<DataNumber>) -> Result<Value, AllocError>
-    ensures { IfOk result (λ value. view value ≡ ack_data ack) }
+fn ack_of(ack: Option<DataNumber>) -> Option<u64>
+    ensures { digits_or_null result ≡ ack_data ack }
 {
     match ack {
-        None => Ok(Value::Null),
-        Some(number) => digits(alloc, number_of(number)),
+        None => None,
+        Some(number) => Some(number_of(number)),
     }
+}
+
+fn put_dss(
+    alloc: Global,
+    object: &mut Map<String, Value>,
+    ack: Option<DataNumber>,
+    mapping: Option<DssMap>,
+    fin: bool,
+) -> Result<(), AllocError>
+    ensures { OnOk result (members_view object.new.entries ≡
+        with_dss ack mapping fin (members_view object.old.entries)) }
+{
+    let mapping = mapping_value(alloc, mapping)?;
+    serde_json::put(object, alloc, "mapping", mapping)?;
+    let members = [
+        Member::DigitsOrNull("ack", ack_of(ack)),
+        Member::Flag("fin", fin),
+        Member::Text("name", "DSS"),
+    ];
+    put_members(alloc, object, &members)
 }
 
 fn dss_value(
@@ -192,9 +207,9 @@ fn dss_value(
 ) -> Result<Value, AllocError>
     ensures { IfOk result (λ value. view value ≡ dss_data ack mapping fin) }
 {
-    let ack = ack_value(alloc, ack)?;
-    let mapping = mapping_value(alloc, mapping)?;
-    json!(in alloc; {"ack": ack, "fin": fin, "mapping": mapping, "name": "DSS"})
+    let mut object = Map::new(alloc);
+    put_dss(alloc, &mut object, ack, mapping, fin)?;
+    Ok(Value::Object(object))
 }
 
 fn v4_text(alloc: Global, octets: [u8; 4]) -> Result<String, AllocError>
@@ -224,17 +239,18 @@ fn announced_value(
 ) -> Result<Value, AllocError>
     ensures { IfOk result (λ value. view value ≡ announced_data echo id address.now port hmac) }
 {
-    let address = address_text(alloc, address)?;
-    let hmac = digits_or_null(alloc, hmac)?;
-    let port = number_or_null(port.map(u64::from));
-    json!(in alloc; {
-        "address": address,
-        "echo": echo,
-        "hmac": hmac,
-        "id": id,
-        "name": "ADD_ADDR",
-        "port": port,
-    })
+    let text = address_text(alloc, address)?;
+    let mut object = Map::new(alloc);
+    serde_json::put(&mut object, alloc, "address", Value::String(text))?;
+    let members = [
+        Member::Flag("echo", echo),
+        Member::DigitsOrNull("hmac", hmac),
+        Member::Number("id", u64::from(id)),
+        Member::Text("name", "ADD_ADDR"),
+        Member::NumberOrNull("port", port.map(u64::from)),
+    ];
+    put_members(alloc, &mut object, &members)?;
+    Ok(Value::Object(object))
 }
 
 fn ids_list(alloc: Global, ids: &[u8]) -> Result<Vec<Value>, AllocError>
@@ -257,27 +273,48 @@ fn removed_value(alloc: Global, ids: &[u8]) -> Result<Value, AllocError>
 fn prio_value(alloc: Global, backup: bool) -> Result<Value, AllocError>
     ensures { IfOk result (λ value. view value ≡ prio_data backup) }
 {
-    json!(in alloc; {"backup": backup, "name": "MP_PRIO"})
+    object(
+        alloc,
+        &[
+            Member::Flag("backup", backup),
+            Member::Text("name", "MP_PRIO"),
+        ],
+    )
 }
 
 fn fail_value(alloc: Global, number: u64) -> Result<Value, AllocError>
     ensures { IfOk result (λ value. view value ≡ fail_data number) }
 {
-    let number = digits(alloc, number)?;
-    json!(in alloc; {"name": "MP_FAIL", "number": number})
+    object(
+        alloc,
+        &[
+            Member::Text("name", "MP_FAIL"),
+            Member::Digits("number", number),
+        ],
+    )
 }
 
 fn fast_close_value(alloc: Global, key: u64) -> Result<Value, AllocError>
     ensures { IfOk result (λ value. view value ≡ fast_close_data key) }
 {
-    let key = digits(alloc, key)?;
-    json!(in alloc; {"key": key, "name": "MP_FASTCLOSE"})
+    object(
+        alloc,
+        &[
+            Member::Digits("key", key),
+            Member::Text("name", "MP_FASTCLOSE"),
+        ],
+    )
 }
 
 fn reset_value(alloc: Global, transient: bool, reason: u8) -> Result<Value, AllocError>
     ensures { IfOk result (λ value. view value ≡ reset_data transient reason) }
 {
-    json!(in alloc; {"name": "MP_TCPRST", "reason": reason, "transient": transient})
+    let members = [
+        Member::Text("name", "MP_TCPRST"),
+        Member::Number("reason", u64::from(reason)),
+        Member::Flag("transient", transient),
+    ];
+    object(alloc, &members)
 }
 
 /// An option of Multipath TCP, by its name in RFC 8684, section 3, and its fields.

@@ -6,12 +6,12 @@ ghost use Rattle.segment_wire.specs.Options.{option_octets};
 ghost use Rattle.segment_wire.specs.Reading.{segment_of};
 ghost use Rattle.trace_json.specs.Options.{kind_data, multipath_data, named_data, option_data, options_data, scale_data, size_data};
 
-use crate::fields::put;
+use crate::fields::{Member, object, put};
 use crate::multipath::multipath_value;
 use mptcp_options::{Read, read};
 use segment_wire::SegmentRef;
 use segment_wire::options::{mss, window_scale};
-use serde_json::{Value, json};
+use serde_json::Value;
 use std::alloc::{AllocError, Global};
 
 /// An option of which no more is told than its kind.
@@ -19,27 +19,32 @@ fn kind_value(alloc: Global, option: &[u8]) -> Result<Value, AllocError>
     ensures { IfOk result (λ value. view value ≡ kind_data option.now) }
 {
     match option.first() {
-        Some(kind) => json!(in alloc; {"kind": *kind, "name": "unknown"}),
-        None => json!(in alloc; {"name": "unknown"}),
+        Some(kind) => {
+            let kind = Member::Number("kind", u64::from(*kind));
+            object(alloc, &[kind, Member::Text("name", "unknown")])
+        }
+        None => object(alloc, &[Member::Text("name", "unknown")]),
     }
 }
 
 fn size_value(alloc: Global, size: u16) -> Result<Value, AllocError>
     ensures { IfOk result (λ value. view value ≡ size_data size) }
 {
-    json!(in alloc; {"name": "MSS", "size": size})
+    let size = Member::Number("size", u64::from(size));
+    object(alloc, &[Member::Text("name", "MSS"), size])
 }
 
 fn scale_value(alloc: Global, shift: u8) -> Result<Value, AllocError>
     ensures { IfOk result (λ value. view value ≡ scale_data shift) }
 {
-    json!(in alloc; {"name": "WSCALE", "shift": shift})
+    let shift = Member::Number("shift", u64::from(shift));
+    object(alloc, &[Member::Text("name", "WSCALE"), shift])
 }
 
 fn malformed_value(alloc: Global) -> Result<Value, AllocError>
     ensures { IfOk result (λ value. view value ≡ named_data (codes "malformed")) }
 {
-    json!(in alloc; {"name": "malformed"})
+    object(alloc, &[Member::Text("name", "malformed")])
 }
 
 /// An option that is neither the maximum segment size nor the window scale.

@@ -1,18 +1,18 @@
 //! The segments of a trace as objects.
 
 ghost use Rattle.std.specs.Prelude.{◌≡◌, ◌++◌, Some, map, slice_get, IfOk, OnOk, string_bytes};
-ghost use Rattle.serde_json.specs.View.{view};
+ghost use Rattle.serde_json.specs.View.{members_view, view};
 ghost use Rattle.link_trace.specs.Meanings.{meaning_in};
 ghost use Rattle.link_trace.specs.Points.{delay_on};
-ghost use Rattle.trace_json.specs.Segments.{arrival_at, arrival_word, beside_of, carried_data, data_of, fate_data, flag_letters, flags_data, letter_if, options_of, place_told, segment_data, segments_data, text_data, ticks_data, ticks_over};
+ghost use Rattle.trace_json.specs.Segments.{arrival_at, arrival_word, beside_of, carried_data, data_of, fate_data, flag_letters, flags_data, letter_if, options_of, place_told, segment_data, segments_data, text_data, ticks_data, ticks_over, with_end, with_fate, with_header, with_segment, with_sent, with_told};
 
-use crate::fields::{number_or_null, put, side_letter};
+use crate::fields::{Member, object, put, put_members, side_letter};
 use crate::options::options_list;
 use link_model::{Fate, SegmentFate};
 use link_script::PathLine;
 use link_trace::{Carried, Sent, arrival_tick};
 use segment_wire::{Head, addresses_from, parse};
-use serde_json::{Value, json};
+use serde_json::{Map, Value};
 use std::alloc::{AllocError, Global};
 
 /// What the segments of a trace are told by, beside themselves.
@@ -96,17 +96,31 @@ fn arrival_word(arrival: Fate) -> &'static str
     }
 }
 
+fn put_fate(
+    alloc: Global,
+    object: &mut Map<String, Value>,
+    fate: &SegmentFate,
+    ticks: Vec<Value>,
+) -> Result<(), AllocError>
+    ensures { OnOk result (members_view object.new.entries ≡
+        with_fate fate.now (map view ticks.items) (members_view object.old.entries)) }
+{
+    serde_json::put(object, alloc, "ticks", Value::Array(ticks))?;
+    let members = [
+        Member::Flag("altered", fate.altered),
+        Member::Text("arrival", arrival_word(fate.arrival)),
+        Member::Flag("stripped", fate.stripped),
+    ];
+    put_members(alloc, object, &members)
+}
+
 fn fate_value(alloc: Global, fate: &SegmentFate, ticks: Vec<Value>) -> Result<Value, AllocError>
     ensures { IfOk result
         (λ value. view value ≡ fate_data fate.now (map view ticks.items)) }
 {
-    let arrival = arrival_word(fate.arrival);
-    json!(in alloc; {
-        "altered": fate.altered,
-        "arrival": arrival,
-        "stripped": fate.stripped,
-        "ticks": ticks,
-    })
+    let mut object = Map::new(alloc);
+    put_fate(alloc, &mut object, fate, ticks)?;
+    Ok(Value::Object(object))
 }
 
 /// The place of its first octet of payload, where it has one.
@@ -122,14 +136,13 @@ fn place_told(carried: &Carried) -> Option<u64>
 fn carried_value(alloc: Global, carried: &Carried) -> Result<Value, AllocError>
     ensures { IfOk result (λ value. view value ≡ carried_data carried.now) }
 {
-    let acknowledged = number_or_null(carried.acknowledged.map(u64::from));
-    let place = number_or_null(place_told(carried));
-    json!(in alloc; {
-        "acknowledged": acknowledged,
-        "length": carried.len,
-        "place": place,
-        "position": carried.position,
-    })
+    let members = [
+        Member::NumberOrNull("acknowledged", carried.acknowledged.map(u64::from)),
+        Member::Number("length", u64::from(carried.len)),
+        Member::NumberOrNull("place", place_told(carried)),
+        Member::Number("position", u64::from(carried.position)),
+    ];
+    object(alloc, &members)
 }
 
 /// What the segment of a place of the trace carries.
@@ -190,6 +203,84 @@ fn options_of(alloc: Global, sent: &Sent, checksums: bool) -> Result<Vec<Value>,
     }
 }
 
+/// Puts which segment it is.
+fn put_sent(alloc: Global, object: &mut Map<String, Value>, sent: &Sent) -> Result<(), AllocError>
+    ensures { OnOk result (members_view object.new.entries ≡
+        with_sent sent.now (members_view object.old.entries)) }
+{
+    let members = [
+        Member::Text("from", side_letter(sent.from)),
+        Member::Number("number", sent.number),
+        Member::Number("path", u64::from(sent.path)),
+        Member::Number("tick", sent.tick),
+    ];
+    put_members(alloc, object, &members)
+}
+
+/// Puts its flags and its options.
+fn put_header(
+    alloc: Global,
+    object: &mut Map<String, Value>,
+    sent: &Sent,
+    checksums: bool,
+) -> Result<(), AllocError>
+    ensures { OnOk result (members_view object.new.entries ≡
+        with_header checksums sent.now (members_view object.old.entries)) }
+{
+    let flags = flags_value(alloc, sent)?;
+    serde_json::put(object, alloc, "flags", flags)?;
+    let options = options_of(alloc, sent, checksums)?;
+    serde_json::put(object, alloc, "options", Value::Array(options))
+}
+
+/// Puts what becomes of it.
+fn put_end(
+    alloc: Global,
+    object: &mut Map<String, Value>,
+    beside: &Beside<'_>,
+    sent: &Sent,
+) -> Result<(), AllocError>
+    ensures { OnOk result (members_view object.new.entries ≡
+        with_end (beside_of beside.now) sent.now (members_view object.old.entries)) }
+{
+    let ticks = ticks_list(alloc, beside.paths, beside.end, sent)?;
+    let fate = fate_value(alloc, &sent.fate, ticks)?;
+    serde_json::put(object, alloc, "fate", fate)
+}
+
+/// Puts what it carries, and its words.
+fn put_told(
+    alloc: Global,
+    object: &mut Map<String, Value>,
+    beside: &Beside<'_>,
+    place: usize,
+) -> Result<(), AllocError>
+    ensures { OnOk result (members_view object.new.entries ≡
+        with_told (beside_of beside.now) place (members_view object.old.entries)) }
+{
+    let data = data_value(alloc, beside.carried, place)?;
+    serde_json::put(object, alloc, "data", data)?;
+    let text = text_value(alloc, beside.words, place)?;
+    serde_json::put(object, alloc, "text", text)
+}
+
+/// Puts all that is told of the segment of this place.
+fn put_segment(
+    alloc: Global,
+    object: &mut Map<String, Value>,
+    beside: &Beside<'_>,
+    place: usize,
+    sent: &Sent,
+) -> Result<(), AllocError>
+    ensures { OnOk result (members_view object.new.entries ≡
+        with_segment (beside_of beside.now) place sent.now (members_view object.old.entries)) }
+{
+    put_sent(alloc, object, sent)?;
+    put_header(alloc, object, sent, beside.checksums)?;
+    put_end(alloc, object, beside, sent)?;
+    put_told(alloc, object, beside, place)
+}
+
 /// The segment of this place of the trace.
 fn segment_value(
     alloc: Global,
@@ -200,24 +291,9 @@ fn segment_value(
     ensures { IfOk result (λ value. view value ≡
         segment_data (beside_of beside.now) place sent.now) }
 {
-    let ticks = ticks_list(alloc, beside.paths, beside.end, sent)?;
-    let fate = fate_value(alloc, &sent.fate, ticks)?;
-    let data = data_value(alloc, beside.carried, place)?;
-    let flags = flags_value(alloc, sent)?;
-    let options = options_of(alloc, sent, beside.checksums)?;
-    let text = text_value(alloc, beside.words, place)?;
-    let from = side_letter(sent.from);
-    json!(in alloc; {
-        "data": data,
-        "fate": fate,
-        "flags": flags,
-        "from": from,
-        "number": sent.number,
-        "options": options,
-        "path": sent.path,
-        "text": text,
-        "tick": sent.tick,
-    })
+    let mut object = Map::new(alloc);
+    put_segment(alloc, &mut object, beside, place, sent)?;
+    Ok(Value::Object(object))
 }
 
 /// Each segment of a trace, in the order of the trace.
