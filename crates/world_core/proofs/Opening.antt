@@ -61,11 +61,10 @@ module _ (script : Script) (file_a file_b : List ℕ) where
       ∙ ap (λ begins. new_crew (2 + number) (Path (first_turn begins script.lines)) ∷ paths_left (suc number)) (begins_so number)
 
   -- a path more
-  pub put_more : (number : ℕ) (old new : List (ActorCrew (List ℕ))) (member : ActorCrew (List ℕ)) → number < length script.paths
+  pub put_more : (all : List (ActorCrew (List ℕ))) (number : ℕ) (old new : List (ActorCrew (List ℕ))) (member : ActorCrew (List ℕ)) → number < length script.paths
       → member ≡ new_crew (2 + number) (Path (first_turn_of script number)) → new ≡ old ++ member ∷ []
-      → old ++ paths_left number ≡ (opened_world (start_of script file_a file_b)).crew
-      → new ++ paths_left (number + 1) ≡ (opened_world (start_of script file_a file_b)).crew
-  put_more number old new member within is put so =
+      → old ++ paths_left number ≡ all → new ++ paths_left (number + 1) ≡ all
+  put_more all number old new member within is put so =
       ap (λ n. new ++ paths_left n) (let e : number + 1 ≡ suc number = omega arith in e)
       ∙ ap (λ xs. xs ++ paths_left (suc number)) put
       ∙ one_more old member (paths_left (suc number))
@@ -74,11 +73,10 @@ module _ (script : Script) (file_a file_b : List ℕ) where
       ∙ so
 
   -- no path is left
-  pub put_all : (number : ℕ) (crew : List (ActorCrew (List ℕ))) → length script.paths ≤ number
-      → crew ++ paths_left number ≡ (opened_world (start_of script file_a file_b)).crew → crew ≡ (opened_world (start_of script file_a file_b)).crew
-  put_all number crew all so =
+  pub put_all : (all : List (ActorCrew (List ℕ))) (number : ℕ) (crew : List (ActorCrew (List ℕ))) → length script.paths ≤ number → crew ++ paths_left number ≡ all → crew ≡ all
+  put_all all number crew past so =
       sym (nothing_more crew)
-      ∙ ap (λ lines. crew ++ paths_from (start_of script file_a file_b) number (plans_from script number lines)) (sym (none_dropped number script.paths all))
+      ∙ ap (λ lines. crew ++ paths_from (start_of script file_a file_b) number (plans_from script number lines)) (sym (none_dropped number script.paths past))
       ∙ so
 
   paths_many : (number : ℕ) (lines : List PathLine) → length (paths_from {C = List ℕ} (start_of script file_a file_b) number (plans_from script number lines)) ≡ length lines

@@ -11,7 +11,11 @@ ghost use Rattle.world_laws.specs.Serial.{goes_on};
 use crate::hearing::{Heard, Hearing, notes_at};
 use crate::member::{Crew, is_no_live_path};
 use actor_desk::{Books, Note};
+use control_book::ControlBook;
+use reassembly_book::ReassemblyBook;
+use send_book::SendBook;
 use sides::Side;
+use stamped_book::Stamped;
 use std::marker::Model;
 use world_laws::Outcome;
 
@@ -27,6 +31,30 @@ pub struct World {
     pub(crate) hearing: Hearing,
     /// A step wanted memory: the last entry of a book may stand without its actor having taken the reply.
     pub(crate) failed: bool,
+}
+
+// Each book goes by a call of its own, since what drops a book is long.
+fn close_send(_book: Stamped<SendBook>) {}
+
+fn close_reassembly(_book: Stamped<ReassemblyBook>) {}
+
+fn close_control(_book: Stamped<ControlBook>) {}
+
+fn close_books(books: Books) {
+    let Books {
+        send_a,
+        send_b,
+        reassembly_a,
+        reassembly_b,
+        control_a,
+        control_b,
+    } = books;
+    close_send(send_a);
+    close_send(send_b);
+    close_reassembly(reassembly_a);
+    close_reassembly(reassembly_b);
+    close_control(control_a);
+    close_control(control_b);
 }
 
 impl Model for World {
@@ -115,7 +143,10 @@ impl World {
     }
 
     /// Lets the connection go, with all that it holds.
-    pub fn close(self) {}
+    pub fn close(self) {
+        let World { books, .. } = self;
+        close_books(books);
+    }
 
     /// What its readers were told by their steps so far, and how many these are. Takes no memory.
     pub fn heard(&self) -> Heard
