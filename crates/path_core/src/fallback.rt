@@ -389,8 +389,8 @@ impl PathState {
         if self.end(side).breaks_by_ack(&self.profile) {
             return self.answer_break(side, MIDDLEBOX, reply);
         }
-        self.end_mut(side).take_plain_ack_reply(reply);
         self.go_by_verdict(side, reply);
+        self.end_mut(side).take_plain_ack_reply(reply);
         Ok(())
     }
 
@@ -420,8 +420,8 @@ impl PathState {
         ensures { self.new ≡ answered_check_failed side reply.now self.old }
     {
         let checksums = self.profile.spelling().checksums;
-        self.end_mut(side).take_check_reply(checksums, reply);
         self.go_by_verdict(side, reply);
+        self.end_mut(side).take_check_reply(checksums, reply);
     }
 
     /// An MP_FAIL asks the send book first, or it is told at once that the bytes are scattered.
