@@ -39,19 +39,40 @@ fn plain_form<'a>(alloc: Global) -> Command<'a>
         .disable_help_flag(true)
 }
 
+/// The form with the four options.
+fn with_options<'a>(alloc: Global, form: Command<'a>) -> Result<Command<'a>, AllocError>
+    ensures { IfOk result (λ made. app_of made ≡ form_is.with_options (app_of form.entry)) }
+{
+    let form = with_option(alloc, form, "mode")?;
+    let form = with_option(alloc, form, "rounds")?;
+    let form = with_option(alloc, form, "order")?;
+    with_option(alloc, form, "number")
+}
+
+/// The form with the names of the script and of both files.
+fn with_inputs<'a>(alloc: Global, form: Command<'a>) -> Result<Command<'a>, AllocError>
+    ensures { IfOk result (λ made. app_of made ≡ form_is.with_inputs (app_of form.entry)) }
+{
+    let form = with_name(alloc, form, "script")?;
+    let form = with_name(alloc, form, "file_a")?;
+    with_name(alloc, form, "file_b")
+}
+
+/// The form with the names of what both sides read.
+fn with_outputs<'a>(alloc: Global, form: Command<'a>) -> Result<Command<'a>, AllocError>
+    ensures { IfOk result (λ made. app_of made ≡ form_is.with_outputs (app_of form.entry)) }
+{
+    let form = with_name(alloc, form, "read_by_b")?;
+    with_name(alloc, form, "read_by_a")
+}
+
 /// The line form: four options and five names.
 fn line_form<'a>(alloc: Global) -> Result<Command<'a>, AllocError>
     ensures { IfOk result (λ made. app_of made ≡ form_is.line_form) }
 {
-    let form = with_option(alloc, plain_form(alloc), "mode")?;
-    let form = with_option(alloc, form, "rounds")?;
-    let form = with_option(alloc, form, "order")?;
-    let form = with_option(alloc, form, "number")?;
-    let form = with_name(alloc, form, "script")?;
-    let form = with_name(alloc, form, "file_a")?;
-    let form = with_name(alloc, form, "file_b")?;
-    let form = with_name(alloc, form, "read_by_b")?;
-    with_name(alloc, form, "read_by_a")
+    let form = with_options(alloc, plain_form(alloc))?;
+    let form = with_inputs(alloc, form)?;
+    with_outputs(alloc, form)
 }
 
 /// Want of memory, or else words that break the form.
