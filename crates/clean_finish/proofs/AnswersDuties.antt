@@ -2,7 +2,7 @@
 use Rattle.clean_finish.proofs.Words.{◌≡◌, refl, sym, ap, ◌∙◌, ℕ, ◌-◌, nat_lt, Bool, true, false, not, ◌&&◌, ◌||◌, if◌then◌else◌, Option, None, List, ◌∷◌, Some}
 use Rattle.clean_finish.proofs.Words.{suc, zero, is_some, find, is_none, both_ways, Side, A, B, is_unsent, State, has_records, is_closed_to_segments, Due}
 use Rattle.clean_finish.proofs.Words.{nothing_due, window_told, InfiniteMapping, fin_under, Duty, SendDuty, StepDuty, AskDuty, Heard, is_nil, SixBooks}
-use Rattle.clean_finish.proofs.Words.{reply_of, after_ask, AppState, Carried, values, PathEnd, place_passed, plain_fin, is_connected, may_note, PathState}
+use Rattle.clean_finish.proofs.Words.{reply_of, after_ask, AppState, Carried, values, PathEnd, place_passed, place_of_fin, is_connected, may_note, PathState}
 use Rattle.clean_finish.proofs.Words.{with_agenda, stands, ask_for, answered, is_syn_due, fin_place, item_of, item_stands, Setting, Lane, all_left, Going}
 use Rattle.clean_finish.proofs.Words.{PathPlan, Start, IsPhase, IsMapping, NoticesAre, Keys, heard_by, IsSetting, Runs, keys_in, Opening, Listening, HalfOpen}
 use Rattle.clean_finish.proofs.Words.{Open}
@@ -85,7 +85,7 @@ no_fast_close e is =
 no_note : (e : PathEnd) → NoticesAre e.notices → is_note_due e ≡ false
 no_note e is = ap (λ (ns : List OwnNotice). may_note e && not (is_nil ns)) is.queue ∙ and_false (may_note e)
 
-no_plain_fin : (e : PathEnd) → IsMapping e.modes → is_some (plain_fin e) ≡ false
+no_plain_fin : (e : PathEnd) → IsMapping e.modes → is_some (place_of_fin e) ≡ false
 no_plain_fin e mptcp = by e.receiving.fin_told e.tcp.fin_at
   where
     passed : (position : ℕ) (b : Bool) → is_some (if b then fin_place e.modes position else None) ≡ false

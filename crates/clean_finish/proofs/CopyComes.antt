@@ -9,7 +9,7 @@ use Rattle.clean_finish.proofs.Words.{le-ltb, lt-leb, list_any, Side, A, B, peer
 use Rattle.clean_finish.proofs.Words.{ack_kind, State, EndState, is_half_open, after_telling, after_occupying, is_duplicate, is_empty, arrival_of}
 use Rattle.clean_finish.proofs.Words.{after_holding, Outgoing, Meaning, meaning_of, occupied, owing_ack, Flight, window_told, Duty, StepDuty, copy_came}
 use Rattle.clean_finish.proofs.Words.{place_in_first, wants_ack, Heard, pick, is_nil, Profile, Carried, held_of, copy_judged, after_copy, owing_if}
-use Rattle.clean_finish.proofs.Words.{is_connected, edge_held, has_data_ack, hint_of, is_plain_ack, octets_acked, is_joined, Setting, Telling, Copy, Lane}
+use Rattle.clean_finish.proofs.Words.{is_connected, edge_in_payload, has_data_ack, hint_of, is_plain_ack, octets_acked, is_joined, Setting, Telling, Copy, Lane}
 use Rattle.clean_finish.proofs.Words.{all_left, Going, Covers, may_tell, pending, is_same, Chain, In, repeated, Hand, EndIs, HeardIs, RecordsAre, WayIs}
 use Rattle.clean_finish.proofs.Words.{last_told, row_seen, brings_still, Sent, Keys, Brings, BringsAs, shows_keys, is_third, is_subflow_end, copy_in, octets_of}
 use Rattle.clean_finish.proofs.Words.{position_by, position_of, CountsAs, TellsAs, AcknowledgesAs, ShowsFirst, Rise, edge_after, OpensSubflow, ShowsKeys}
@@ -510,7 +510,7 @@ module _ {s : Side} {keys : Keys} {k j : Setting} {c : Profile} {begun begun_bac
           fins = refl;
           asked = refl;
           plain_ack = plain_ack;
-          held_edge = ap (λ (n : ℕ). edge_held (Meaning.Taken (position_of x) x.edge) (octets_of x.brings) n) (edge_kept (is_nil (octets_of x.brings)))
+          held_edge = ap (λ (n : ℕ). edge_in_payload (Meaning.Taken (position_of x) x.edge) (octets_of x.brings) n) (edge_kept (is_nil (octets_of x.brings)))
               ∙ (held_at (position_of x) m.end.tcp.recv.edge x.edge (octets_of x.brings) pos_is
               ∙ ap (λ (n : ℕ). if is_nil (octets_of x.brings) then None else Some n) (sym edge_is));
           owes = ap (λ (ys : List Heard). list_any wants_ack ys || nat_lt 0 (occupied (copy h x told answer))) says

@@ -1,7 +1,7 @@
 -- What holds of each kind of copy as it arrives in order.
 use Rattle.clean_finish.proofs.Words.{◌≡◌, refl, sym, subst, ap, ◌∙◌, ℕ, ◌+◌, ◌-◌, ◌<◌, ◌≤◌, nat_lt, Bool, true, false, not, ◌&&◌, if◌then◌else◌, Option, None}
 use Rattle.clean_finish.proofs.Words.{List, [], ◌∷◌, length, map, arith, Some, suc, zero, nat_le, drop, take, both_ways, lt-ltb, le-ltb, le-leb, list_any, Side}
-use Rattle.clean_finish.proofs.Words.{B, Receiving, after_hold, State, is_half_open, first_fin, Meaning, meant, is_nil, Profile, is_connected, edge_held}
+use Rattle.clean_finish.proofs.Words.{B, Receiving, after_hold, State, is_half_open, first_fin, Meaning, meant, is_nil, Profile, is_connected, edge_in_payload}
 use Rattle.clean_finish.proofs.Words.{has_data_ack, IsPhase, Sent, Keys, Brings, shows_keys, is_third, is_subflow_end, octets_of, CountsAs, said, is_piece}
 use Rattle.clean_finish.proofs.Words.{OpensSubflow, ShowsKeys, FirstPiece, Piece, Acknowledges, EndsStream, EndsSubflow, count_in, heard_by, Opening, Listening}
 use Rattle.clean_finish.proofs.Words.{HalfOpen, Open}
@@ -108,7 +108,7 @@ length_heard keys next window _ = refl
 -- ---- the payload
 
 pub held_at : (pos edge acknowledged : ℕ) (octets : List ℕ) → pos ≡ edge
-    → edge_held (Meaning.Taken pos acknowledged) octets edge ≡ (if is_nil octets then None else Some edge)
+    → edge_in_payload (Meaning.Taken pos acknowledged) octets edge ≡ (if is_nil octets then None else Some edge)
 held_at pos edge acknowledged [] at =
     ap (λ (b : Bool). if nat_le pos edge && b then Some edge else None) (le-ltb edge (pos + 0) (low at)) ∙ none (nat_le pos edge)
   where

@@ -77,11 +77,11 @@ places_kept [] false r none places incoming = ap (λ (o : Option (List (Option �
 places_kept (x ∷ octets) b r none places incoming =
     ap (λ (y : Bool). (if y then without_held r else after_keep_held r).places) (none (omega arith)) ∙ ap (λ (o : Option (List (Option ℕ))). unwrap_or o r.places) incoming
 
-edge_held : (octets : List ℕ) (b : Bool) (o : Option ℕ) (edge : ℕ) → (1 ≤ length octets → b ≡ false) → o ≡ (if is_nil octets then None else Some edge)
+edge_in_payload : (octets : List ℕ) (b : Bool) (o : Option ℕ) (edge : ℕ) → (1 ≤ length octets → b ≡ false) → o ≡ (if is_nil octets then None else Some edge)
     → (if b then None else o) ≡ (if is_nil octets then None else Some edge)
-edge_held [] true o edge none is = refl
-edge_held [] false o edge none is = is
-edge_held (x ∷ octets) b o edge none is = ap (λ (y : Bool). if y then None else o) (none (omega arith)) ∙ is
+edge_in_payload [] true o edge none is = refl
+edge_in_payload [] false o edge none is = is
+edge_in_payload (x ∷ octets) b o edge none is = ap (λ (y : Bool). if y then None else o) (none (omega arith)) ∙ is
 
 -- what is still to be taken of it
 module _ (q : Side) (keys : Keys) (x : Bench) where
@@ -99,7 +99,7 @@ module _ (q : Side) (keys : Keys) (x : Bench) where
     places_same = places_kept (octets_of b) (is_fin_passed x.end.tcp) x.end.tcp.recv none f.places f.incoming
 
     held_same : after.end.treated.held_edge ≡ (if is_nil (octets_of b) then None else Some after.end.tcp.recv.edge)
-    held_same = edge_held (octets_of b) (is_fin_passed x.end.tcp) x.end.treated.held_edge x.end.tcp.recv.edge none f.held_edge
+    held_same = edge_in_payload (octets_of b) (is_fin_passed x.end.tcp) x.end.treated.held_edge x.end.tcp.recv.edge none f.held_edge
         ∙ ap (λ (n : ℕ). if is_nil (octets_of b) then None else Some n) (sym edge_same)
 
     fin_same : after.end.tcp.fin_at

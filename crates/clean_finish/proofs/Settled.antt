@@ -3,7 +3,7 @@ use Rattle.clean_finish.proofs.Words.{◌≡◌, refl, sym, subst, ap, ◌∙◌
 use Rattle.clean_finish.proofs.Words.{⊎_elim, Option, None, List, [], ◌∷◌, map, All, arith, Some, both_ways, cases_lt, and_parts, ltb-false, All-head}
 use Rattle.clean_finish.proofs.Words.{All-weaker, Side, A, peer, same_side, Record, Tile, span_of, timer_settled, State, has_records, is_some_record}
 use Rattle.clean_finish.proofs.Words.{is_closed_to_segments, one_if, GrantedPiece, is_all_acknowledged, Duty, SendDuty, SilentDuty, Profile, PathEnd}
-use Rattle.clean_finish.proofs.Words.{is_data_fin_owed, sends_plainly, after_timer, Setting, Lane, all_left, Sender, Going, Reason, lane_settles, tick_or}
+use Rattle.clean_finish.proofs.Words.{is_data_fin_owed, sends_plainly, with_timer_settled, Setting, Lane, all_left, Sender, Going, Reason, lane_settles, tick_or}
 use Rattle.clean_finish.proofs.Words.{settled_by, seen_timer, IsLong, EndIs, IsGranted, IsPhase, Waits, WaitsSyn, WaitsNone, WaitsBytes, Keys, IsSetting}
 use Rattle.clean_finish.proofs.Words.{Facing, Half, HasNotBegun, any_duty, is_syn, Opening, Listening, HalfOpen, Open}
 use Rattle.subflow_send.specs.Records.{Follow}
@@ -175,7 +175,7 @@ module _ {s : Side} {keys : Keys} {k j : Setting} {c : Profile} {begun begun_bac
         out_after = settled_by runs m.end.tcp.timing.rtt.rto h.out
 
         abbrev pub end_after : PathEnd
-        end_after = after_timer clock m.end
+        end_after = with_timer_settled clock m.end
 
         pub long_enough : IsLong m.end.tcp.timing → k.rto ≤ m.end.tcp.timing.rtt.rto
         long_enough long = short k_is.rto long

@@ -1,5 +1,5 @@
 -- The timer of either end is settled.
-use Rattle.clean_finish.proofs.Words.{ℕ, List, ◌∷◌, A, B, Duty, SilentDuty, SixBooks, AppState, Carried, PathState, with_agenda, with_end, after_timer, Setting}
+use Rattle.clean_finish.proofs.Words.{ℕ, List, ◌∷◌, A, B, Duty, SilentDuty, SixBooks, AppState, Carried, PathState, with_agenda, with_end, with_timer_settled, Setting}
 use Rattle.clean_finish.proofs.Words.{Lane, all_left, Going, PathPlan, Start, Keys, own_bench, other_bench, IsSetting, Runs, keys_in}
 use Rattle.clean_finish.proofs.Plainly.{plain_on}
 use Rattle.clean_finish.proofs.Settled.{settled_on}
@@ -17,7 +17,7 @@ module _ (start : Start) (plan : PathPlan) (k j : Setting) (s v : Lane) (t0 u0 :
         abbrev Relation : PathState Carried → Type 0
         Relation q = Runs start plan k j s v a b books q
 
-        pub passes_timer_a : Relation (with_agenda (Duty.Silent (SilentDuty.Timer A) ∷ ds) p) → Relation (with_agenda ds (with_end A (after_timer p.clock p.a) p))
+        pub passes_timer_a : Relation (with_agenda (Duty.Silent (SilentDuty.Timer A) ∷ ds) p) → Relation (with_agenda ds (with_end A (with_timer_settled p.clock p.a) p))
         passes_timer_a h =
             let t = h.treats in
             let faces = settled_on plan.delay t0 u0 k_is j_is going going_back h.faces t.1 t.0.0.answered t.4 in
@@ -47,10 +47,10 @@ module _ (start : Start) (plan : PathPlan) (k j : Setting) (s v : Lane) (t0 u0 :
               ) t.1 t.2 t.5;
             }
 
-        pub passes_timer_b : Relation (with_agenda (Duty.Silent (SilentDuty.Timer B) ∷ ds) p) → Relation (with_agenda ds (with_end B (after_timer p.clock p.b) p))
+        pub passes_timer_b : Relation (with_agenda (Duty.Silent (SilentDuty.Timer B) ∷ ds) p) → Relation (with_agenda ds (with_end B (with_timer_settled p.clock p.b) p))
         passes_timer_b h =
             let t = h.treats in
-            let faces = from_b keys k j s v a b books (with_agenda ds (with_end B (after_timer p.clock p.b) p)) (settled_on plan.delay u0 t0 j_is k_is going_back going (from_a keys k j s v a b books (with_agenda (Duty.Silent (SilentDuty.Timer B) ∷ ds) p) h.faces) t.2 t.0.1.answered t.4) in
+            let faces = from_b keys k j s v a b books (with_agenda ds (with_end B (with_timer_settled p.clock p.b) p)) (settled_on plan.delay u0 t0 j_is k_is going_back going (from_a keys k j s v a b books (with_agenda (Duty.Silent (SilentDuty.Timer B) ∷ ds) p) h.faces) t.2 t.0.1.answered t.4) in
             record {
               path = record {
                 profile = h.path.profile;

@@ -101,14 +101,14 @@ pub use Rattle.stream_apps.specs.AppSteps.{app_ask, app_answered, app_answers, a
 pub use Rattle.path_core.specs.Profile.{Profile}
 pub use Rattle.path_core.specs.Values.{Carried, carried_by, stripped, altered, values, as_arrived}
 pub use Rattle.path_core.specs.End.{PathEnd, opening_end}
-pub use Rattle.path_core.specs.DataFin.{answered_fin_heard, fin_ask, is_fin_set, is_data_fin_due, is_shut, after_acked, with_data_fin_sent, is_fin_due, place_passed, plain_fin, is_data_fin_news, answered_data_fin_sent, answered_fin, after_pass_fin, is_all_granted, with_peer_data_fin, after_refusal, is_data_fin_owed}
+pub use Rattle.path_core.specs.DataFin.{answered_fin_heard, fin_ask, is_fin_set, is_data_fin_due, is_shut, after_acked, with_data_fin_sent, is_fin_due, place_passed, place_of_fin, is_data_fin_news, answered_data_fin_sent, answered_fin, after_pass_fin, is_all_granted, with_peer_data_fin, after_refusal, is_data_fin_owed}
 pub use Rattle.path_core.specs.DssIn.{is_mapping, mapping_items, held_of, held_if, key_held, checksum_heard, kept_of, covered_by, answered_mapping, mapping_ask, with_learned, after_dss, answered_ack, with_skipped, with_data_fin}
 pub use Rattle.path_core.specs.declared.modes.Modes.{Modes}
 pub use Rattle.path_core.specs.Treated.{Treated}
 pub use Rattle.path_core.specs.Arrival.{copy_of, copy_judged, reset_for, template_by, template_of, heard_in, copy_heard, copy_taken, told_at, treated_of, with_held, after_copy, owing_if}
 pub use Rattle.path_core.specs.Standing.{look_ask, answered_look, ack_out_ask, answered_ack_out, is_connected, is_update_due, acknowledges, may_note, after_ack_out, has_grown, after_look}
 pub use Rattle.path_core.specs.State.{at_tick, PathState, end_at, goes_on, with_agenda, with_end, left, path_of}
-pub use Rattle.path_core.specs.OptionsIn.{edge_held, has_data_ack, hint_of, is_plain_ack, octets_acked, items_of, options_heard}
+pub use Rattle.path_core.specs.OptionsIn.{edge_in_payload, has_data_ack, hint_of, is_plain_ack, octets_acked, items_of, options_heard}
 pub use Rattle.path_core.specs.OptionsOut.{ack_said, opening_options, segment_of, record_said, record_or_ack, syn_ack_said, fin_said}
 pub use Rattle.path_core.specs.Handover.{having_sent, sent_on, with_told}
 pub use Rattle.path_core.specs.MpCapable.{syn_window_ask, peer_key_ask, answered_peer_key, live_ask, is_opened_by_keys, is_opened_plainly, with_peer_key, keys_ask, answered_opened, opened_ask, answered_syn_ack, is_plain_syn}
@@ -124,7 +124,7 @@ pub use Rattle.path_core.specs.Deliver.{after_check, failing_by, forgotten_by, i
 pub use Rattle.path_core.specs.Fallback.{plain_ack_stands, plain_data_stands, subflow_ack_stands, with_plain_ack, mode_in, fell_ask, fell_duties, check_failed_stands, after_fell, answered_fell}
 pub use Rattle.path_core.specs.Choices.{item_at, is_side_a, told_last}
 pub use Rattle.path_core.specs.Events.{tick_of, earlier, before, next_join, next_line, next_copy, next_event, step_for, happens_if, is_dead_or_listening}
-pub use Rattle.path_core.specs.Timer.{next_fire, after_timer}
+pub use Rattle.path_core.specs.Timer.{next_fire, with_timer_settled}
 pub use Rattle.pace.specs.Lane.{Setting, Telling, Copy, Lane, Stage, is_whole, all_left, Sender, Receiver, data_ack, Writer, Reader, window_edge}
 pub use Rattle.pace.specs.Going.{Going, Covers, may_tell, pending, Reason}
 pub use Rattle.pace.specs.Moves.{Move, MaySay, MaySend, MayMove, MayHearAck, MayRefuse, MaySkip, HasEmitted, IsBefore, MayHearData, MayFlag, MayEndReading, MayEndWriting}

@@ -35,7 +35,7 @@ use Rattle.path_core.specs.Looking.{Arrived, arrived, arrived_as, copy_arriving,
 use Rattle.path_core.specs.Octets.{octets}
 use Rattle.path_core.specs.MpCapable.{peer_key_ask, opened_ask}
 use Rattle.path_core.specs.Deliver.{piece_of, piece_ask}
-use Rattle.path_core.specs.DataFin.{data_fin_of, fin_ask, plain_fin}
+use Rattle.path_core.specs.DataFin.{data_fin_of, fin_ask, place_of_fin}
 use Rattle.path_core.specs.Rate.{rate_ask}
 use Rattle.path_core.specs.Standing.{ack_out_ask}
 use Rattle.path_core.specs.State.{PathState, end_at, path_of}
@@ -142,7 +142,7 @@ duty_agrees (duties.Ask (ask_duties.Opened s)) ds p = sym (quiet_opened s (keys_
 duty_agrees (duties.Ask (ask_duties.SubflowAck s)) ds p = sym (quiet_ack s (plain_next (end_at s p)) (end_at s p).treated.window)
 duty_agrees (duties.Ask (ask_duties.Edge s)) ds p = sym (quiet_piece s (piece_of s p))
 duty_agrees (duties.Ask (ask_duties.HeardFin s index)) ds p = sym (quiet_fin s (data_fin_of index (end_at s p)))
-duty_agrees (duties.Ask (ask_duties.SubflowFin s)) ds p = sym (quiet_fin s (plain_fin (end_at s p)))
+duty_agrees (duties.Ask (ask_duties.SubflowFin s)) ds p = sym (quiet_fin s (place_of_fin (end_at s p)))
 duty_agrees (duties.Ask (ask_duties.Rate s)) ds p = sym (quiet_rate s (end_at s p).tcp.congestion.pending p)
 duty_agrees (duties.Step (step_duties.Data s)) ds p = sym (quiet_data s (first_unsent (end_at s p)) p)
 duty_agrees (duties.Step step_duties.Events) ds p = events_agree p (next_event p) refl

@@ -55,5 +55,5 @@ abbrev pub withdrawals_on : List (List Bool) → ℕ → List Bool
 withdrawals_on withdrawals path = slice_index_or withdrawals path no_ids
 
 -- the id is to be taken back on the path, or no longer
-abbrev pub with_withdrawal : ℕ → Bool → ℕ → List (List Bool) → List (List Bool)
-with_withdrawal id due path withdrawals = slice_set withdrawals path (slice_set (withdrawals_on withdrawals path) id due)
+abbrev pub with_withdrawal_due : ℕ → Bool → ℕ → List (List Bool) → List (List Bool)
+with_withdrawal_due id due path withdrawals = slice_set withdrawals path (slice_set (withdrawals_on withdrawals path) id due)

@@ -16,13 +16,13 @@ use Rattle.control_book.specs.declared.call.ControlCall.TheVariants as call
 use Rattle.control_book.specs.declared.call.Notice.{Notice}
 use Rattle.control_book.specs.declared.call.Notice.TheVariants as notice
 use Rattle.control_book.specs.Registry.{every_path, stands, lives, sole, lowest_living, with_phase, with_row, with_removed}
-use Rattle.control_book.specs.Control.{Control, with_withdrawal}
+use Rattle.control_book.specs.Control.{Control, with_withdrawal_due}
 use Rattle.control_book.specs.Replies.{is_sure, is_starting, may_join, notice_on, is_right}
 
 -- an address that was told to be taken back is no longer to be told on that path
 abbrev pub after_notice : Notice → ℕ → Control → Control
 after_notice (notice.Withdraw id) path c =
-    record c { notices = record c.notices { withdrawals = with_withdrawal id false path c.notices.withdrawals } }
+    record c { notices = record c.notices { withdrawals = with_withdrawal_due id false path c.notices.withdrawals } }
 after_notice notice.Nothing path c = c
 after_notice (notice.Announce id) path c = c
 after_notice (notice.Carrier key) path c = c
@@ -92,7 +92,7 @@ is_known id c = stands c.paths id || knows id c.addresses
 -- the id is to be taken back on a path, if that lives and isn't the id's own
 unfoldable pub withdrawn_on : ℕ → List PathState → List (List Bool) → ℕ → List (List Bool)
 withdrawn_on id paths withdrawals path =
-    if lives paths path && not (path == id) then with_withdrawal id true path withdrawals else withdrawals
+    if lives paths path && not (path == id) then with_withdrawal_due id true path withdrawals else withdrawals
 
 -- the id is to be taken back once on each living path but its own, path after path
 abbrev pub withdrawn : ℕ → List PathState → List (List Bool) → List (List Bool)

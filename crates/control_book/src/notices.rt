@@ -1,7 +1,7 @@
 //! Small parts of what the control book answers and changes.
 ghost use Rattle.std.specs.Prelude.{◌≡◌, if◌then◌else◌, is_some, fold};
 ghost use Rattle.control_book.specs.Registry.{lowest_living};
-ghost use Rattle.control_book.specs.Control.{no_withdrawals, peer_or_zero, is_path, withdrawals_on, with_withdrawal};
+ghost use Rattle.control_book.specs.Control.{no_withdrawals, peer_or_zero, is_path, withdrawals_on, with_withdrawal_due};
 ghost use Rattle.control_book.specs.Replies.{is_sure, address_notice};
 ghost use Rattle.control_book.specs.Steps.{withdrawn_on, withdrawn};
 
@@ -70,7 +70,7 @@ pub(crate) fn withdrawals_on(withdrawals: &[IdSet], path: u8) -> IdSet
 
 /// The id is to be taken back on the path, or no longer.
 pub(crate) fn set_withdrawal(withdrawals: &mut [IdSet], path: u8, id: u8, due: bool)
-    ensures { withdrawals.new ≡ with_withdrawal id due path withdrawals.old }
+    ensures { withdrawals.new ≡ with_withdrawal_due id due path withdrawals.old }
 {
     let mut ids = withdrawals_on(withdrawals, path);
     ids.set(id, due);

@@ -7,7 +7,7 @@ use Rattle.fallback_state.specs.declared.fall.Mode.TheVariants.{Starting, Sure, 
 use Rattle.fallback_state.specs.declared.fall.Event.{Event}
 use Rattle.fallback_state.specs.declared.fall.Event.TheVariants.{PlainHandshake, PlainData, PlainAck, KeysHeard, MappingHeard, AckHeard, InfiniteHeard, CheckFailed, FailHeard, Stop}
 use Rattle.fallback_state.specs.declared.fall.Verdict.{Verdict}
-use Rattle.fallback_state.specs.Modes.{is_starting, is_identity, reads_mappings, writes_mappings, receiving, sending, is_infinite}
+use Rattle.fallback_state.specs.Modes.{is_starting, is_identity, reads_mappings, writes_mappings, with_infinite_receive, with_infinite_send, is_infinite}
 use Rattle.fallback_state.specs.Table.{is_failed_path, goes, stays, after_plain, after_sure_sign, after_infinite, fall_step}
 use Rattle.fallback_state.specs.Laws.{is_stop, is_failure}
 
@@ -32,13 +32,13 @@ pub record IsFurther (mode : Mode) : Type 0 where
   pub no_identity : mode ≢ Identity
   pub no_start : mode ≢ Starting
 
-receiving-further : (mode : Mode) → IsFurther (receiving mode)
-receiving-further Starting = record { no_identity = λ e. cc; no_start = λ e. cc }
-receiving-further _ = record { no_identity = λ e. cc; no_start = λ e. cc }
+with_infinite_receive-further : (mode : Mode) → IsFurther (with_infinite_receive mode)
+with_infinite_receive-further Starting = record { no_identity = λ e. cc; no_start = λ e. cc }
+with_infinite_receive-further _ = record { no_identity = λ e. cc; no_start = λ e. cc }
 
-sending-further : (mode : Mode) → IsFurther (sending mode)
-sending-further Starting = record { no_identity = λ e. cc; no_start = λ e. cc }
-sending-further _ = record { no_identity = λ e. cc; no_start = λ e. cc }
+with_infinite_send-further : (mode : Mode) → IsFurther (with_infinite_send mode)
+with_infinite_send-further Starting = record { no_identity = λ e. cc; no_start = λ e. cc }
+with_infinite_send-further _ = record { no_identity = λ e. cc; no_start = λ e. cc }
 
 sure-further : IsFurther Sure
 sure-further = record { no_identity = λ e. cc; no_start = λ e. cc }
@@ -69,13 +69,13 @@ kept P fall path sole MappingHeard k = kept_sure P fall path k
 kept P fall path sole AckHeard k = kept_sure P fall path k
 kept P fall path sole InfiniteHeard k =
     either P (not (reads_mappings fall.mode)) _ _ k.same
-    (either P (sole && is_failed_path fall.failed path) _ _ (k.further _ (receiving-further fall.mode))
+    (either P (sole && is_failed_path fall.failed path) _ _ (k.further _ (with_infinite_receive-further fall.mode))
     (fallen P (writes_mappings fall.mode) fall.joined (is_none fall.failed) _ _ k.identity k.same))
 kept P fall path sole CheckFailed k =
     either P (not (reads_mappings fall.mode)) _ _ k.same (either P sole _ _ k.failed k.same)
 kept P fall path sole (FailHeard contiguous) k =
     either P (not (writes_mappings fall.mode)) _ _ k.same
-    (either P (sole && contiguous) _ _ (k.further _ (sending-further fall.mode)) k.same)
+    (either P (sole && contiguous) _ _ (k.further _ (with_infinite_send-further fall.mode)) k.same)
 kept P fall path sole Stop k = k.further Aborted aborted-further
 
 -- where a side stands, field by field

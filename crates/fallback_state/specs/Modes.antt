@@ -42,24 +42,24 @@ writes_mappings InfiniteBoth = false
 writes_mappings Aborted = false
 
 -- the mode with the peer's infinite mapping in it
-abbrev pub receiving : Mode → Mode
-receiving InfiniteSend = InfiniteBoth
-receiving InfiniteBoth = InfiniteBoth
-receiving Starting = InfiniteReceive
-receiving Sure = InfiniteReceive
-receiving Identity = InfiniteReceive
-receiving InfiniteReceive = InfiniteReceive
-receiving Aborted = InfiniteReceive
+abbrev pub with_infinite_receive : Mode → Mode
+with_infinite_receive InfiniteSend = InfiniteBoth
+with_infinite_receive InfiniteBoth = InfiniteBoth
+with_infinite_receive Starting = InfiniteReceive
+with_infinite_receive Sure = InfiniteReceive
+with_infinite_receive Identity = InfiniteReceive
+with_infinite_receive InfiniteReceive = InfiniteReceive
+with_infinite_receive Aborted = InfiniteReceive
 
 -- the mode with the side's own infinite mapping in it
-abbrev pub sending : Mode → Mode
-sending InfiniteReceive = InfiniteBoth
-sending InfiniteBoth = InfiniteBoth
-sending Starting = InfiniteSend
-sending Sure = InfiniteSend
-sending Identity = InfiniteSend
-sending InfiniteSend = InfiniteSend
-sending Aborted = InfiniteSend
+abbrev pub with_infinite_send : Mode → Mode
+with_infinite_send InfiniteReceive = InfiniteBoth
+with_infinite_send InfiniteBoth = InfiniteBoth
+with_infinite_send Starting = InfiniteSend
+with_infinite_send Sure = InfiniteSend
+with_infinite_send Identity = InfiniteSend
+with_infinite_send InfiniteSend = InfiniteSend
+with_infinite_send Aborted = InfiniteSend
 
 -- the modes with an infinite mapping in them
 abbrev pub is_infinite : Mode → Bool

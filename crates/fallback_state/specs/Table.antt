@@ -8,7 +8,7 @@ use Rattle.fallback_state.specs.declared.fall.Event.{Event}
 use Rattle.fallback_state.specs.declared.fall.Event.TheVariants.{PlainHandshake, PlainData, PlainAck, KeysHeard, MappingHeard, AckHeard, InfiniteHeard, CheckFailed, FailHeard, Stop}
 use Rattle.fallback_state.specs.declared.fall.Verdict.{Verdict}
 use Rattle.fallback_state.specs.declared.fall.Verdict.TheVariants.{Stay, Went, SendFail, BreakPath}
-use Rattle.fallback_state.specs.Modes.{is_starting, is_identity, reads_mappings, writes_mappings, receiving, sending}
+use Rattle.fallback_state.specs.Modes.{is_starting, is_identity, reads_mappings, writes_mappings, with_infinite_receive, with_infinite_send}
 
 -- a row that changes nothing
 abbrev pub stays : Fall → Fall × Verdict
@@ -45,7 +45,7 @@ after_sure_sign fall = if is_starting fall.mode then goes Sure fall else stays f
 abbrev pub after_infinite : ℕ → Bool → Fall → Fall × Verdict
 after_infinite path sole fall =
     if not (reads_mappings fall.mode) then stays fall
-    else (if sole && is_failed_path fall.failed path then goes (receiving fall.mode) fall
+    else (if sole && is_failed_path fall.failed path then goes (with_infinite_receive fall.mode) fall
     else (if writes_mappings fall.mode && not fall.joined && is_none fall.failed then goes Identity fall
     else breaks 1 fall))
 
@@ -61,7 +61,7 @@ after_failed_check path sole fall =
 abbrev pub after_fail : Bool → Bool → Fall → Fall × Verdict
 after_fail sole contiguous fall =
     if not (writes_mappings fall.mode) then stays fall
-    else (if sole && contiguous then goes (sending fall.mode) fall else breaks 1 fall)
+    else (if sole && contiguous then goes (with_infinite_send fall.mode) fall else breaks 1 fall)
 
 -- the table: where a side stands after an event on a path, which may be the side's sole one, and what it does about it
 abbrev pub fall_step : Fall → ℕ → Bool → Event → Fall × Verdict

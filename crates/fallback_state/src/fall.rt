@@ -22,7 +22,7 @@ pub enum Mode {
 }
 
 impl Mode {
-    ghost use Rattle.fallback_state.specs.Modes.{is_starting, is_identity, reads_mappings, writes_mappings, receiving, sending};
+    ghost use Rattle.fallback_state.specs.Modes.{is_starting, is_identity, reads_mappings, writes_mappings, with_infinite_receive, with_infinite_send};
 
     /// Whether the side doesn't know yet that the peer and all on the way use Multipath TCP.
     pub fn is_starting(self) -> bool
@@ -52,8 +52,8 @@ impl Mode {
     }
 
     /// The mode with the peer's infinite mapping in it.
-    pub(crate) fn receiving(self) -> Mode
-        ensures { result ≡ receiving self }
+    pub(crate) fn with_infinite_receive(self) -> Mode
+        ensures { result ≡ with_infinite_receive self }
     {
         match self {
             Mode::InfiniteSend | Mode::InfiniteBoth => Mode::InfiniteBoth,
@@ -62,8 +62,8 @@ impl Mode {
     }
 
     /// The mode with the side's own infinite mapping in it.
-    pub(crate) fn sending(self) -> Mode
-        ensures { result ≡ sending self }
+    pub(crate) fn with_infinite_send(self) -> Mode
+        ensures { result ≡ with_infinite_send self }
     {
         match self {
             Mode::InfiniteReceive | Mode::InfiniteBoth => Mode::InfiniteBoth,

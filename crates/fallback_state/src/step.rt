@@ -72,7 +72,7 @@ fn infinite_heard(fall: Fall, path: u8, sole: bool) -> (Fall, Verdict)
         return fall.stays();
     }
     if sole && fall.failed_on(path) {
-        return fall.goes(fall.mode.receiving());
+        return fall.goes(fall.mode.with_infinite_receive());
     }
     if fall.mode.writes_mappings() && !fall.joined && fall.failed.is_none() {
         return fall.goes(Mode::Identity);
@@ -105,7 +105,7 @@ fn fail_heard(fall: Fall, sole: bool, contiguous: bool) -> (Fall, Verdict)
         return fall.stays();
     }
     if sole && contiguous {
-        return fall.goes(fall.mode.sending());
+        return fall.goes(fall.mode.with_infinite_send());
     }
     fall.breaks(MPTCP_SPECIFIC)
 }

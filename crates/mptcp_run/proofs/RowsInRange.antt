@@ -55,7 +55,7 @@ use Rattle.join_handshake.specs.declared.hearing.JoinSyn.{JoinSyn}
 use Rattle.path_agenda.specs.Items.{key_heard, keys_heard}
 use Rattle.path_core.specs.MpCapable.{peer_key_ask, opened_ask}
 use Rattle.path_core.specs.Deliver.{piece_of, piece_ask}
-use Rattle.path_core.specs.DataFin.{data_fin_of, fin_ask, plain_fin}
+use Rattle.path_core.specs.DataFin.{data_fin_of, fin_ask, place_of_fin}
 use Rattle.path_core.specs.Rate.{rate_ask}
 use Rattle.path_store.specs.Passing.{Piece}
 use Rattle.path_core.specs.Handover.{sends}
@@ -193,7 +193,7 @@ module _ {C : Type 0} (k : Codec C) (p : PathState C) (low : path_of p < 16) whe
   path_asks_fair (duties.Ask (ask_duties.CheckFailed s)) = low
   path_asks_fair (duties.Step (step_duties.Unmapped s)) = break_fair s 6
   path_asks_fair (duties.Ask (ask_duties.HeardFin s index)) = fin_fair s (data_fin_of index (end_at s p))
-  path_asks_fair (duties.Ask (ask_duties.SubflowFin s)) = fin_fair s (plain_fin (end_at s p))
+  path_asks_fair (duties.Ask (ask_duties.SubflowFin s)) = fin_fair s (place_of_fin (end_at s p))
   path_asks_fair (duties.Ask (ask_duties.Rate s)) = rate_fair s (end_at s p).tcp.congestion.pending
   path_asks_fair (duties.Ask (ask_duties.Dead s)) = low
   path_asks_fair _ = tt

@@ -9,7 +9,7 @@ use Rattle.path_core.proofs.Words.{passed, settled, after_pass_fin, TakesTime, m
 use Rattle.subflow_tcp.specs.Closing.{is_fin_next}
 use Rattle.subflow_tcp.specs.Expiring.{is_timed}
 use Rattle.path_core.specs.DataFin.{is_waiting}
-use Rattle.path_core.specs.Timer.{after_timer}
+use Rattle.path_core.specs.Timer.{with_timer_settled}
 use Rattle.path_core.proofs.Ranking.{Rests, same_rests, Calm}
 use Rattle.path_core.proofs.Resting.{to_rests, item_same, keep_same, check_same, pass_fin_same, settled_settles}
 
@@ -38,8 +38,8 @@ module _ {C : Type 0} where
   passed_calm : (d : Duty) (p : PathState C) → TakesTime p → Calm p (passed d p)
   passed_calm (Duty.Silent (SilentDuty.Timer s)) p t =
       let e = end_at s p in
-      end_calm s (after_timer p.clock e) p t
-      (to_rests p.clock e (after_timer p.clock e)
+      end_calm s (with_timer_settled p.clock e) p t
+      (to_rests p.clock e (with_timer_settled p.clock e)
       (settled_settles p.clock (is_timed (is_waiting e || (e.modes.owes_third || e.notices.fast_closed)) e.tcp) e.sending.news e.tcp.timing (timeout_at s p t)))
   passed_calm (Duty.Step (StepDuty.Heard s index)) p t =
       let e = end_at s p in

@@ -7,7 +7,7 @@ use Rattle.path_core.proofs.Words.{written, Piece, Heard, key_heard, keys_heard,
 use Rattle.path_core.proofs.Words.{Ask, made, octets, sum_of, CanBeSaid, with_learned, is_clash, peer_key_ask, opened_ask, asked_at, join_heard_ask, after_fell}
 use Rattle.path_core.proofs.Words.{fell_duties, may_go_infinite, breaks_by_ack, with_plain_ack, fell_ask, plain_next, plain_ack_in, PathState, end_at}
 use Rattle.path_core.proofs.Words.{with_agenda, goes_on, path_of, Codec, stands, ask_for, passed, answered, settled, settles_down, asks_first, answers}
-use Rattle.path_core.proofs.Words.{data_fin_of, fin_ask, plain_fin, first_unsent, data_ask, answered_data, next_event, step_for, reset_of, reset_on, break_ask}
+use Rattle.path_core.proofs.Words.{data_fin_of, fin_ask, place_of_fin, first_unsent, data_ask, answered_data, next_event, step_for, reset_of, reset_on, break_ask}
 use Rattle.path_core.proofs.Words.{answered_break, piece_of, piece_ask, rate_ask, sends, handed, answered_ack_out, ack_out_ask, item_of, item_ask}
 use Rattle.path_core.proofs.Words.{answered_item, SegmentKind, Arrived, arrived_as, to_send, broken_by, heard_sends, send_of, unsent_sends, duty_sends}
 use Rattle.path_core.proofs.Words.{first_sends, departing, departing_as, step_told, tells_a_segment, segment_sent, HandsOrTellsNone, EachSegmentIsTold, IsTold}
@@ -124,7 +124,7 @@ module _ {C : Type 0} where
     told_so (Duty.Ask (AskDuty.SubflowAck s)) p = quiet_ack s (plain_next (end_at s p)) (end_at s p).treated.window
     told_so (Duty.Ask (AskDuty.Edge s)) p = quiet_piece s (piece_of s p)
     told_so (Duty.Ask (AskDuty.HeardFin s index)) p = quiet_fin s (data_fin_of index (end_at s p))
-    told_so (Duty.Ask (AskDuty.SubflowFin s)) p = quiet_fin s (plain_fin (end_at s p))
+    told_so (Duty.Ask (AskDuty.SubflowFin s)) p = quiet_fin s (place_of_fin (end_at s p))
     told_so (Duty.Ask (AskDuty.Rate s)) p = quiet_rate s (end_at s p).tcp.congestion.pending p
     told_so (Duty.Step (StepDuty.Data s)) p = told_data s (first_unsent (end_at s p)) p
     told_so (Duty.Step StepDuty.Events) p = quiet_event (path_of p) (next_event p)

@@ -77,7 +77,7 @@ pub use Rattle.path_core.specs.Shown.{octets_of, shown_path, CanBeAltered, SentC
 pub use Rattle.path_core.specs.Values.{Carried, as_arrived, values}
 pub use Rattle.path_core.specs.DssIn.{HeardOption, is_mapping, mapping_items, ack_items, data_fin_items, infinite_items, map_items, first_items, with_learned, is_clash, with_data_fin, held_in, is_acked, told_next, with_acked, held_of, answered_mapping, checksum_heard, held_if, key_held, map_held, kept_of, with_skipped, counts}
 pub use Rattle.path_core.specs.MpCapable.{syn_ack_of, with_peer_key, answered_peer_key, after_keys, answered_opened, key_items, peer_key_ask, opened_ask}
-pub use Rattle.path_core.specs.MpJoin.{never_joined, join_begun, with_mode_refused, is_never, keys_begun, opened_by, joined_by, asked_at, join_taken, is_joined, join_items, peer_key_of, join_heard_ask, joins_at_tick, syn_alone, is_listening, join_asked, join_answer, join_options, third_options, is_hmac_right, is_third_right, join_value, third_in}
+pub use Rattle.path_core.specs.MpJoin.{never_joined, join_begun, with_mode_refused, is_never, keys_begun, opened_by, joined_by, asked_at, join_taken, is_joined, join_items, peer_key_of, join_heard_ask, joins_at_tick, syn_of_window, is_listening, join_asked, join_answer, join_options, third_options, is_hmac_right, is_third_right, join_value, third_in}
 pub use Rattle.path_core.specs.Addresses.{is_note_due, note_of, having_noted, answered_note, after_peer_notice, item_removed, address_items, with_priority}
 pub use Rattle.path_core.specs.OptionsIn.{options_heard, hint_of, items_of, owes_by, items_in, SaysFew, asks_capable, has_data_ack}
 pub use Rattle.path_core.specs.Fallback.{after_fell, fell_duties, answered_fell, in_identity, after_check_failed, answered_check_failed, is_infinite_receive, after_infinite, answered_infinite, may_go_infinite, with_infinite, book_answered, is_infinite_send, after_fail_heard, answered_fail_heard, breaks_by_ack, with_plain_ack, answered_plain_ack, with_plain_acked, fell_ask, breaks_by, with_failure, receiving_infinite, sending_infinite, plain_next, plain_ack_in}
@@ -89,7 +89,7 @@ pub use Rattle.path_core.specs.Profile.{Profile}
 pub use Rattle.path_core.specs.Codec.{Codec}
 pub use Rattle.path_core.specs.Duties.{stands, ask_for, passed, answered}
 pub use Rattle.path_core.specs.Steps.{settled, settles_down, asks_first, asks_of, answers, takes, next_round, passable, passable_of, begins_turn}
-pub use Rattle.path_core.specs.DataFin.{data_fin_segment, having_sent_data_fin, fin_segment_of, having_sent_fin, is_fin_set, with_peer_data_fin, answered_fin_heard, with_fin_told, answered_plain_fin, is_fin_due, after_pass_fin, is_data_fin_owed, data_fin_of, fin_ask, plain_fin}
+pub use Rattle.path_core.specs.DataFin.{data_fin_segment, having_sent_data_fin, fin_segment_of, having_sent_fin, is_fin_set, with_peer_data_fin, answered_fin_heard, with_fin_told, answered_plain_fin, is_fin_due, after_pass_fin, is_data_fin_owed, data_fin_of, fin_ask, place_of_fin}
 pub use Rattle.path_core.specs.Emission.{first_unsent, unsent_segment, having_sent_unsent, may_ask, data_stands, payload_size, grant_ask, data_ask, Grant, grant_in, granted, refused, answered_grant, answered_data, first_segment, answer_occasion, answer_of, dead_answer, resend_occasion, resend_of, first_record, outgoing_or, ack_resent}
 pub use Rattle.path_core.specs.Turns.{Ends, TakesTime, FirstStands, IsSettled}
 pub use Rattle.path_core.specs.Events.{tick_of, next_join, next_line, next_copy, earlier, earliest, before, next_event, after_line, line_taken, happens, happens_if, CanHappen, step_for}

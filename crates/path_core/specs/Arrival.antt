@@ -29,7 +29,7 @@ use Rattle.link_model.specs.Steps.{arriving, after_delivery}
 use Rattle.path_core.specs.End.{PathEnd}
 use Rattle.path_core.specs.Profile.{Profile}
 use Rattle.path_core.specs.DssIn.{HeardOption, held_of}
-use Rattle.path_core.specs.OptionsIn.{asks_capable, edge_held, hint_of, is_plain_ack, opens_by, owes_by, items_of, options_heard}
+use Rattle.path_core.specs.OptionsIn.{asks_capable, edge_in_payload, hint_of, is_plain_ack, opens_by, owes_by, items_of, options_heard}
 use Rattle.path_core.specs.declared.modes.Modes.{Modes}
 use Rattle.path_core.specs.Judged.{is_taken, after_join, judged_of, taken_as}
 use Rattle.path_core.specs.Treated.{Treated, nothing_treated}
@@ -132,7 +132,7 @@ treated_of items meaning h answer s = record nothing_treated {
   window = h.window;
   plain_ack = is_plain_ack (arrival_of meaning (hint_of items) (copy_of h) s) h;
   acknowledged = (if is_taken meaning then unwrap_or (copy_of h).acknowledged 0 else 0);
-  held_edge = edge_held meaning h.payload s.recv.edge;
+  held_edge = edge_in_payload meaning h.payload s.recv.edge;
 }
 
 -- the subflow takes it, and the rest is still to be treated

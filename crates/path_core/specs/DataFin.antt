@@ -178,8 +178,8 @@ place_passed m None edge = None
 place_passed m (Some position) edge = if nat_lt position edge then fin_place m position else None
 
 -- the end of the stream that a passed FIN stands for, where it wasn't told yet
-abbrev pub plain_fin : PathEnd → Option ℕ
-plain_fin e = if e.receiving.fin_told then None else place_passed e.modes e.tcp.fin_at e.tcp.recv.edge
+abbrev pub place_of_fin : PathEnd → Option ℕ
+place_of_fin e = if e.receiving.fin_told then None else place_passed e.modes e.tcp.fin_at e.tcp.recv.edge
 
 abbrev pub with_fin_told : PathEnd → PathEnd
 with_fin_told e = record e { receiving = record e.receiving { fin_told = true } }

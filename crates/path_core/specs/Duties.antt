@@ -17,10 +17,10 @@ use Rattle.path_agenda.specs.declared.duty.SilentDuty.TheVariants as silent_duti
 use Rattle.path_agenda.specs.declared.duty.StepDuty.TheVariants as step_duties
 use Rattle.path_agenda.specs.Agenda.{leaves, resets}
 use Rattle.path_core.specs.Breaking.{reset_of, reset_on, break_ask, answered_break, return_ask, dead_ask, refusal_of, answered_refusal}
-use Rattle.path_core.specs.DataFin.{is_data_fin_due, is_fin_due, data_fin_segment, answered_data_fin_sent, fin_segment_of, answered_fin, is_fin_set, data_fin_of, fin_ask, answered_fin_heard, after_pass_fin, plain_fin, answered_plain_fin}
+use Rattle.path_core.specs.DataFin.{is_data_fin_due, is_fin_due, data_fin_segment, answered_data_fin_sent, fin_segment_of, answered_fin, is_fin_set, data_fin_of, fin_ask, answered_fin_heard, after_pass_fin, place_of_fin, answered_plain_fin}
 use Rattle.path_core.specs.Codec.{Codec}
 use Rattle.path_core.specs.Emission.{is_syn_due, data_stands, first_unsent, unsent_segment, data_ask, answered_syn, answered_data, first_segment, answered_again, answer_of, answered_answer, dead_answer, answered_dead, resend_of, answered_resend}
-use Rattle.path_core.specs.Timer.{after_timer}
+use Rattle.path_core.specs.Timer.{with_timer_settled}
 use Rattle.path_core.specs.Events.{next_event, step_for, happens_if}
 use Rattle.path_core.specs.MpJoin.{answered_join_again, is_join_pending, join_begin_ask, asked_at, join_heard_ask, answered_join_heard}
 use Rattle.path_agenda.specs.Items.{key_heard, keys_heard}
@@ -57,7 +57,7 @@ stands (duties.Ask (ask_duties.GoIdentity s)) p = true
 stands (duties.Ask (ask_duties.Edge s)) p = is_some (piece_of s p)
 stands (duties.Ask (ask_duties.CheckFailed s)) p = check_failed_stands p.profile (end_at s p)
 stands (duties.Ask (ask_duties.HeardFin s index)) p = is_some (data_fin_of index (end_at s p))
-stands (duties.Ask (ask_duties.SubflowFin s)) p = is_some (plain_fin (end_at s p))
+stands (duties.Ask (ask_duties.SubflowFin s)) p = is_some (place_of_fin (end_at s p))
 stands (duties.Ask (ask_duties.AckOut s)) p = (end_at s p).treated.asked
 stands (duties.Ask (ask_duties.Rate s)) p = is_some (end_at s p).tcp.congestion.pending
 stands (duties.Ask (ask_duties.Return s)) p = not (is_all_acknowledged (end_at s p).sending.granted)
@@ -114,7 +114,7 @@ ask_for k (duties.Ask (ask_duties.GoIdentity s)) p = identity_ask s
 ask_for k (duties.Ask (ask_duties.Edge s)) p = piece_ask s (piece_of s p)
 ask_for k (duties.Ask (ask_duties.CheckFailed s)) p = check_failed_ask s p
 ask_for k (duties.Ask (ask_duties.HeardFin s index)) p = fin_ask s (data_fin_of index (end_at s p))
-ask_for k (duties.Ask (ask_duties.SubflowFin s)) p = fin_ask s (plain_fin (end_at s p))
+ask_for k (duties.Ask (ask_duties.SubflowFin s)) p = fin_ask s (place_of_fin (end_at s p))
 ask_for k (duties.Ask (ask_duties.AckOut s)) p = ack_out_ask s
 ask_for k (duties.Ask (ask_duties.Rate s)) p = rate_ask s (end_at s p).tcp.congestion.pending p
 ask_for k (duties.Ask (ask_duties.Return s)) p = return_ask s p
@@ -158,7 +158,7 @@ passed (duties.Ask (ask_duties.CheckFailed s)) p = with_end s (after_check p.pro
 passed (duties.Step (step_duties.Heard s index)) p = with_end s (item_passed s (item_of index (end_at s p)) (end_at s p)) p
 passed (duties.Step (step_duties.PlainAck s)) p = with_end s (with_plain_ack (end_at s p)) p
 passed (duties.Step (step_duties.Unmapped s)) p = with_end s (after_pieces (end_at s p)) p
-passed (duties.Silent (silent_duties.Timer s)) p = with_end s (after_timer p.clock (end_at s p)) p
+passed (duties.Silent (silent_duties.Timer s)) p = with_end s (with_timer_settled p.clock (end_at s p)) p
 passed (duties.Silent (silent_duties.Keep s)) p = with_end s (after_keep s (end_at s p)) p
 passed (duties.Silent (silent_duties.PassFin s)) p = with_end s (after_pass_fin (end_at s p)) p
 passed d p = p

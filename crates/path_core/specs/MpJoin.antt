@@ -142,8 +142,8 @@ join_heard_ask s None p = asks.Local steps.End
 join_heard_ask s (Some asked) p = asks.Control s (control_calls.JoinHeard (path_of p) asked.token)
 
 -- the listening end takes the SYN, whose window was told
-abbrev pub syn_alone : ℕ → Copy
-syn_alone window =
+abbrev pub syn_of_window : ℕ → Copy
+syn_of_window window =
     record { position = Some 0; acknowledged = None; syn = true; fin = false; rst = false; window = window; payload = [] }
 
 abbrev pub is_listening : EndPhase → Bool
@@ -152,7 +152,7 @@ is_listening _ = false
 
 -- an end that doesn't listen stays as it is
 abbrev pub after_joining_syn : ℕ → EndState → EndState
-after_joining_syn window tcp = if is_listening tcp.state then after_syn (unkept None) (syn_alone window) tcp else tcp
+after_joining_syn window tcp = if is_listening tcp.state then after_syn (unkept None) (syn_of_window window) tcp else tcp
 
 -- B has A's nonce and flag now, and both keys
 abbrev pub joined_by : KeyPair → JoinSyn → PathEnd → PathEnd

@@ -84,7 +84,7 @@ asks_capable (Capable flag_a flag_c NoKey) = true
 asks_capable _ = false
 
 -- the edge, where the payload has the octet there
-abbrev pub edge_held : Meaning → List ℕ → ℕ → Option ℕ
-edge_held (means.Taken position acknowledged) octets edge =
+abbrev pub edge_in_payload : Meaning → List ℕ → ℕ → Option ℕ
+edge_in_payload (means.Taken position acknowledged) octets edge =
     if nat_le position edge && nat_lt edge (position + length octets) then Some edge else None
-edge_held _ octets edge = None
+edge_in_payload _ octets edge = None

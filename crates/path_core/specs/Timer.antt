@@ -13,8 +13,8 @@ use Rattle.path_core.specs.State.{PathState, end_at, goes_on}
 -- ---- when it runs
 
 -- the timer is settled by the reasons of the subflow and of the streams, by the third MP_JOIN, and by the fast close
-abbrev pub after_timer : ℕ → PathEnd → PathEnd
-after_timer now e = record e {
+abbrev pub with_timer_settled : ℕ → PathEnd → PathEnd
+with_timer_settled now e = record e {
   tcp = after_settling (is_waiting e || (e.modes.owes_third || e.notices.fast_closed)) e.sending.news now e.tcp;
   sending = without_news e.sending;
 }

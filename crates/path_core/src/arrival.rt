@@ -25,7 +25,8 @@ use crate::end::PathEnd;
 use crate::judged::Judged;
 use crate::modes::Modes;
 use crate::options_in::{
-    asks_capable, edge_held, fill_items, has_option, is_plain_ack, opens_by, options_heard, owes_by,
+    asks_capable, edge_in_payload, fill_items, has_option, is_plain_ack, opens_by, options_heard,
+    owes_by,
 };
 use crate::profile::Profile;
 use crate::state::PathState;
@@ -348,7 +349,7 @@ impl PathEnd {
             after_copy items.now.items answer now (heard_value heard.now) meaning self.old }
     {
         let opened = opens_by(meaning, self.tcp.state());
-        let held_edge = edge_held(meaning, heard.payload, self.tcp.edge());
+        let held_edge = edge_in_payload(meaning, heard.payload, self.tcp.edge());
         let place = place_in_first(items.as_slice());
         let arrival = take_as(&mut self.tcp, meaning, &arriving_of(heard), place, now);
         owe_by(&mut self.tcp, meaning, items.as_slice());

@@ -9,7 +9,7 @@ ghost use Rattle.subflow_tcp.specs.Emitting.{after_sending};
 ghost use Rattle.path_agenda.specs.declared.duty.Duty.TheVariants as duties;
 ghost use Rattle.path_agenda.specs.declared.duty.SendDuty.TheVariants as send_duties;
 ghost use Rattle.actor_desk.specs.Kinds.{CanBeAsked};
-ghost use Rattle.path_core.specs.DataFin.{is_data_fin_owed, is_data_fin_due, is_fin_due, is_waiting, acked_in, with_peer_data_fin, after_pass_fin, plain_fin, with_fin_told, answered_data_fin_sent, answered_fin, is_fin_set, data_fin_of, fin_ask, answered_fin_heard, answered_plain_fin};
+ghost use Rattle.path_core.specs.DataFin.{is_data_fin_owed, is_data_fin_due, is_fin_due, is_waiting, acked_in, with_peer_data_fin, after_pass_fin, place_of_fin, with_fin_told, answered_data_fin_sent, answered_fin, is_fin_set, data_fin_of, fin_ask, answered_fin_heard, answered_plain_fin};
 ghost use Rattle.path_core.specs.Deliver.{having_asked};
 ghost use Rattle.path_core.specs.Octets.{octets};
 ghost use Rattle.path_core.specs.Duties.{stands};
@@ -111,8 +111,8 @@ impl PathEnd {
     }
 
     /// Where the peer sends without mappings: the end of the stream by its FIN, where the edge passed it and it wasn't told.
-    pub(crate) fn plain_fin(&self) -> Option<u64>
-        ensures value { result ≡ plain_fin self.now }
+    pub(crate) fn place_of_fin(&self) -> Option<u64>
+        ensures value { result ≡ place_of_fin self.now }
         ensures bound { IfSome result (λ place. place < 2 ^ 62) }
     {
         if self.receiving.fin_told {
@@ -200,10 +200,10 @@ impl PathState {
 
     /// The peer's FIN is told as the end of its stream.
     pub(crate) fn plain_fin_ask(&self, side: Side) -> Ask
-        ensures value { result ≡ fin_ask side (plain_fin (end_at side self.now)) }
+        ensures value { result ≡ fin_ask side (place_of_fin (end_at side self.now)) }
         ensures able { CanBeAsked result }
     {
-        match self.end(side).plain_fin() {
+        match self.end(side).place_of_fin() {
             Some(at) => Ask::Reassembly(side, ReassemblyCall::Fin { at }),
             None => Ask::Local(LocalStep::End),
         }

@@ -120,7 +120,7 @@ impl PathState {
             AskDuty::Edge(side) => self.end(side).has_piece(&self.profile),
             AskDuty::CheckFailed(side) => self.end(side).check_failed_stands(&self.profile),
             AskDuty::HeardFin { side, index } => self.end(side).treated.fin(index).is_some(),
-            AskDuty::SubflowFin(side) => self.end(side).plain_fin().is_some(),
+            AskDuty::SubflowFin(side) => self.end(side).place_of_fin().is_some(),
             AskDuty::AckOut(side) => self.end(side).treated.asked,
             AskDuty::Rate(side) => self.end(side).tcp.pending().is_some(),
             AskDuty::Return(side) => !self.end(side).sending.granted.is_empty(),

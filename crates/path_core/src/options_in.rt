@@ -6,7 +6,7 @@ ghost use Rattle.path_segments.specs.Options.{plain_option};
 ghost use Rattle.path_segments.specs.HeardSegments.{heard_value};
 ghost use Rattle.path_agenda.specs.Items.{IsFair};
 ghost use Rattle.actor_desk.specs.Words.{is_nil};
-ghost use Rattle.path_core.specs.OptionsIn.{items_in, items_of, SaysFew, asks_capable, edge_held, owes_by, opens_by, has_data_ack, octets_acked, is_plain_ack};
+ghost use Rattle.path_core.specs.OptionsIn.{items_in, items_of, SaysFew, asks_capable, edge_in_payload, owes_by, opens_by, has_data_ack, octets_acked, is_plain_ack};
 
 use crate::addresses::{put_address, put_notice, put_removed};
 use crate::dss_in::put_dss;
@@ -117,8 +117,8 @@ pub(crate) fn asks_capable(heard: &HeardSegment<'_>) -> bool
 }
 
 /// The receive edge, where a payload that is taken has the octet there.
-pub(crate) fn edge_held(meaning: Meaning, octets: &[u8], edge: Pos) -> Option<Pos>
-    ensures { result ≡ edge_held meaning octets.now edge }
+pub(crate) fn edge_in_payload(meaning: Meaning, octets: &[u8], edge: Pos) -> Option<Pos>
+    ensures { result ≡ edge_in_payload meaning octets.now edge }
 {
     match meaning {
         Meaning::Taken { position, .. }

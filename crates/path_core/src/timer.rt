@@ -2,7 +2,7 @@
 
 ghost use Rattle.std.specs.Prelude.{◌≡◌, ◌-◌, ◌<◌, ◌^◌, ◌||◌, false, IsSome};
 ghost use Rattle.subflow_tcp.specs.Expiring.{is_sixth};
-ghost use Rattle.path_core.specs.Timer.{after_timer, after_firing, next_fire, timer_fired};
+ghost use Rattle.path_core.specs.Timer.{with_timer_settled, after_firing, next_fire, timer_fired};
 ghost use Rattle.path_core.specs.State.{end_at, with_end, at_tick};
 ghost use Rattle.path_core.specs.declared.events.Event.TheVariants as event;
 ghost use Rattle.path_core.specs.Events.{CanHappen};
@@ -19,7 +19,7 @@ impl PathEnd {
     /// MP_JOIN, and by the fast close.
     pub(crate) fn settle_timer(&mut self, now: u64)
         requires { now < 2 ^ 64 - 2 ^ 20 }
-        ensures { self.new ≡ after_timer now self.old }
+        ensures { self.new ≡ with_timer_settled now self.old }
     {
         let waiting = self.is_waiting() || self.modes.owes_third || self.notices.fast_closed;
         self.tcp.hold_timer(waiting, self.sending.news, now);
@@ -42,7 +42,7 @@ impl PathState {
     /// The timer of a side is settled.
     pub(crate) fn settle_timer(&mut self, side: Side)
         ensures { self.new ≡
-            with_end side (after_timer self.old.clock (end_at side self.old)) self.old }
+            with_end side (with_timer_settled self.old.clock (end_at side self.old)) self.old }
     {
         let now = self.clock.now();
         self.end_mut(side).settle_timer(now);

@@ -43,10 +43,10 @@ use Rattle.path_core.specs.OptionsIn.{hint_of, items_of, options_heard, owes_by}
 use Rattle.path_core.specs.Judged.{is_forged, is_passed_over, judged_of, taken_as}
 use Rattle.path_core.specs.Breaking.{reset_of, reset_on, answered_break, died_unless_dead, refusal_of}
 use Rattle.path_core.specs.Codec.{Codec}
-use Rattle.path_core.specs.Timer.{after_timer, timer_fired, template_fired}
+use Rattle.path_core.specs.Timer.{with_timer_settled, timer_fired, template_fired}
 use Rattle.path_core.specs.DataFin.{fin_segment_of, having_sent_fin, after_pass_fin, answered_fin_heard, answered_plain_fin, is_fin_set}
 use Rattle.path_core.specs.Events.{next_event, after_line, happens_if}
-use Rattle.path_core.specs.MpJoin.{join_begun, never_joined, asked_at, is_listening, is_never, join_taken, joined_by, keys_begun, opened_by, syn_alone, with_mode_refused, is_joined, join_answer, join_asked}
+use Rattle.path_core.specs.MpJoin.{join_begun, never_joined, asked_at, is_listening, is_never, join_taken, joined_by, keys_begun, opened_by, syn_of_window, with_mode_refused, is_joined, join_answer, join_asked}
 use Rattle.path_core.specs.Addresses.{with_priority, after_peer_notice}
 use Rattle.path_store.specs.declared.lines.LineAction.{LineAction}
 use Rattle.path_core.specs.Fallback.{after_fell, fell_duties, answered_fell, with_infinite, answered_plain_ack, breaks_by_ack, with_plain_ack}
@@ -331,7 +331,7 @@ module _ {C : Type 0} where
   fin_goes s false p h = ack_at s p h
 
   passed_acks : (d : Duty) (p : PathState C) → BothAck p → BothAck (passed d p)
-  passed_acks (Duty.Silent (SilentDuty.Timer s)) p h = with_acks s (after_timer p.clock (end_at s p)) p (same_goes s (after_timer p.clock (end_at s p)) p refl refl h) h
+  passed_acks (Duty.Silent (SilentDuty.Timer s)) p h = with_acks s (with_timer_settled p.clock (end_at s p)) p (same_goes s (with_timer_settled p.clock (end_at s p)) p refl refl h) h
   passed_acks (Duty.Step (StepDuty.Heard s index)) p h = with_acks s (item_passed s (item_of index (end_at s p)) (end_at s p)) p (item_goes s (item_of index (end_at s p)) p h) h
   passed_acks (Duty.Silent (SilentDuty.Keep s)) p h = with_acks s (after_keep s (end_at s p)) p (keep_goes s (is_dropped s (end_at s p)) p h) h
   passed_acks (Duty.Step (StepDuty.PlainAck s)) p h = with_acks s (with_plain_ack (end_at s p)) p (same_goes s (with_plain_ack (end_at s p)) p refl refl h) h
@@ -477,7 +477,7 @@ module _ {C : Type 0} where
     joined_acks s (Some keys) None r p h = agenda_acks _ p h
     joined_acks s (Some keys) (Some asked) r p h = goes_acks s (joined_by keys asked (end_at s p)) _ p (by (is_listening (end_at s p).tcp.state)) h
       where
-        by : (b : Bool) → Acks (if b then after_syn (unkept None) (syn_alone (end_at s p).treated.window) (end_at s p).tcp else (end_at s p).tcp)
+        by : (b : Bool) → Acks (if b then after_syn (unkept None) (syn_of_window (end_at s p).treated.window) (end_at s p).tcp else (end_at s p).tcp)
         by = elim [ true ↦ λ may. absurd (false≢true may) | false ↦ ack_at s p h ]
 
     occasion_acks : (s : Side) (o : Occasion) (sg : PlainSegment) (p : PathState C) → BothAck p → Acks (having_sent o p.clock sg (end_at s p)).tcp

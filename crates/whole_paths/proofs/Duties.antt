@@ -52,7 +52,7 @@ use Rattle.path_core.specs.End.{PathEnd, died}
 use Rattle.path_core.specs.Events.{next_event, after_line, happens_if}
 use Rattle.path_core.specs.Fallback.{plain_next, plainly_acked, breaks_by_ack}
 use Rattle.path_core.specs.MpCapable.{answered_opened, answered_peer_key}
-use Rattle.path_core.specs.MpJoin.{join_begun, never_joined, keys_begun, is_never, opened_by, join_taken, asked_at, is_listening, after_joining_syn, syn_alone, is_joined}
+use Rattle.path_core.specs.MpJoin.{join_begun, never_joined, keys_begun, is_never, opened_by, join_taken, asked_at, is_listening, after_joining_syn, syn_of_window, is_joined}
 use Rattle.path_core.specs.Sending.{Sending}
 use Rattle.path_core.specs.State.{PathState, at_tick, end_at, goes_on}
 use Rattle.path_core.specs.Treating.{item_passed, answered_heard, answered_item, item_of}
@@ -129,7 +129,7 @@ opened_steps now (Some keys) e = subflow_goes now e _ refl (by e.tcp.state refl)
     by _ is = none
 
 joining_steps : (now window : ℕ) (s : EndState) → SubflowSteps now s (after_joining_syn window s)
-joining_steps now window s = (elim s.state as (λ state. s.state ≡ state → SubflowSteps now s (if is_listening state then after_syn (unkept None) (syn_alone window) s else s))
+joining_steps now window s = (elim s.state as (λ state. s.state ≡ state → SubflowSteps now s (if is_listening state then after_syn (unkept None) (syn_of_window window) s else s))
     [ phase.Listen ↦ λ is. one now s _ (joins window is) | _ ↦ λ is. none ]) refl
 
 -- a copy that is taken as this, with these items

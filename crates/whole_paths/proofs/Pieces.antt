@@ -40,11 +40,11 @@ use Rattle.path_core.specs.Deliver.{mapping_here, next_piece, plain_piece, piece
 use Rattle.path_core.specs.Duties.{stands, passed, answered}
 use Rattle.path_core.specs.End.{PathEnd, died}
 use Rattle.path_core.specs.Fallback.{after_fell, with_failure, after_check_failed, in_identity}
-use Rattle.path_core.specs.MpJoin.{is_never, never_joined, keys_begun, opened_by, with_keys, with_mode_refused, asked_at, join_taken, joined_by, is_listening, syn_alone}
+use Rattle.path_core.specs.MpJoin.{is_never, never_joined, keys_begun, opened_by, with_keys, with_mode_refused, asked_at, join_taken, joined_by, is_listening, syn_of_window}
 use Rattle.path_core.specs.Profile.{Profile}
 use Rattle.path_core.specs.Standing.{answered_ack_out, after_ack_out}
 use Rattle.path_core.specs.State.{PathState, end_at, goes_on}
-use Rattle.path_core.specs.Timer.{after_timer}
+use Rattle.path_core.specs.Timer.{with_timer_settled}
 use Rattle.world_laws.specs.Writes.{EndWrites, EndView, Writes, PathView, Only, OnlyAt, nothing, writes, side_of}
 use Rattle.world_laws.proofs.Writes.Paths.{writes_no_more, passes_no_more}
 use Rattle.world_laws.proofs.Writes.Steps.{unwritten}
@@ -236,7 +236,7 @@ opened_keeps (Some keys) e = elim (is_waiting e.tcp.state) as (λ b. Keeps e (re
 
 joined_keeps : (keys : KeyPair) (asked : JoinSyn) (e : PathEnd) → Keeps e (joined_by keys asked e)
 joined_keeps keys asked e = elim (is_listening e.tcp.state) as
-    (λ b. Keeps e (record (joined_by keys asked e) { tcp = if b then after_syn (unkept None) (syn_alone e.treated.window) e.tcp else e.tcp }))
+    (λ b. Keeps e (record (joined_by keys asked e) { tcp = if b then after_syn (unkept None) (syn_of_window e.treated.window) e.tcp else e.tcp }))
     [ true ↦ kept refl | false ↦ kept refl ]
 
 pub here_keeps : (t : Side) (e f a b : PathEnd) → Keeps e f → Keeps e (pick t (pick t f a) (pick t b f))
@@ -323,7 +323,7 @@ module _ {C : Type 0} where
       let e = end_at s p in
       here_keeps s e (forgotten_by p.profile.spelling.checksums (mapping_here e) e) p.a p.b (forgotten_keeps p.profile.spelling.checksums (mapping_here e) e e refl)
   passed_keeps X (duties.Step (step_duties.Unmapped s)) p lets = here_keeps s (end_at s p) (after_pieces (end_at s p)) p.a p.b (kept refl)
-  passed_keeps X (duties.Silent (silent_duties.Timer s)) p lets = here_keeps s (end_at s p) (after_timer p.clock (end_at s p)) p.a p.b (kept refl)
+  passed_keeps X (duties.Silent (silent_duties.Timer s)) p lets = here_keeps s (end_at s p) (with_timer_settled p.clock (end_at s p)) p.a p.b (kept refl)
   passed_keeps X (duties.Silent (silent_duties.PassFin s)) p lets =
       let e = end_at s p in
       here_keeps s e (after_pass_fin e) p.a p.b (elim (is_fin_next e.tcp) as (λ b. Keeps e (record e { tcp = if b then after_passing_fin e.tcp else e.tcp }))

@@ -17,7 +17,7 @@ use Rattle.path_core.specs.Modes.{sends_plainly}
 use Rattle.path_core.specs.Notices.{Notices}
 use Rattle.path_core.specs.Sending.{Sending}
 use Rattle.path_core.specs.State.{PathState, end_at}
-use Rattle.path_core.specs.Timer.{after_timer}
+use Rattle.path_core.specs.Timer.{with_timer_settled}
 use Rattle.path_core.specs.declared.modes.Modes.{Modes}
 use Rattle.world_laws.specs.declared.member.Member.TheVariants.{App, Path}
 use Rattle.world_laws.specs.Actors.{Actor}
@@ -79,7 +79,7 @@ gone_runs e gone has = by (reasons e) e.tcp.state gone has
     by rest _ gone has = absurd (true≢false (sym gone))
 
 -- and where the timer was settled it runs
-timer_runs : (now : ℕ) (e : PathEnd) → Runs (after_timer now e)
+timer_runs : (now : ℕ) (e : PathEnd) → Runs (with_timer_settled now e)
 timer_runs now e has = subst (λ reason. is_none (timer_settled reason e.sending.news now e.tcp.timing) ≡ false) (sym has) (by e.tcp.timing.timer (e.tcp.timing.news || e.sending.news))
   where
     by : (o : Option ℕ) (b : Bool) → is_none (if is_none o || b then Some (now + e.tcp.timing.rtt.rto) else o) ≡ false

@@ -27,7 +27,7 @@ use Rattle.path_core.specs.Fallback.{with_plain_ack}
 use Rattle.path_core.specs.Modes.{sends_plainly}
 use Rattle.path_core.specs.State.{PathState, end_at, with_agenda, with_end}
 use Rattle.path_core.specs.Steps.{takes, next_round}
-use Rattle.path_core.specs.Timer.{after_timer}
+use Rattle.path_core.specs.Timer.{with_timer_settled}
 use Rattle.path_core.specs.Treating.{item_passed, item_of}
 use Rattle.world_laws.specs.declared.member.Member.TheVariants.{App, Path}
 use Rattle.world_laws.specs.Actors.{Actor, member_takes, member_next}
@@ -68,10 +68,10 @@ settled_stays : (reason news restart : Bool) (o : Option ℕ) (now rto tick : �
     → (if reason then (if is_none o || (news || restart) then Some (now + rto) else o) else None) ≡ Some tick
 settled_stays reason news restart o now rto tick has some quiet still = rw (has, some, quiet, still) refl
 
-timer_goes : (tick now : ℕ) (e : PathEnd) → IsRunning tick e → Goes tick e (after_timer now e)
+timer_goes : (tick now : ℕ) (e : PathEnd) → IsRunning tick e → Goes tick e (with_timer_settled now e)
 timer_goes tick now e h = by (has_reason e) refl
   where
-    by : (b : Bool) → has_reason e ≡ b → Goes tick e (after_timer now e)
+    by : (b : Bool) → has_reason e ≡ b → Goes tick e (with_timer_settled now e)
     by false none = idle none
     by true has = on (record {
       timer = settled_stays (has_reason e) e.tcp.timing.news e.sending.news e.tcp.timing.timer now e.tcp.timing.rtt.rto tick has h.timer h.settled.subflow h.settled.stream;
@@ -168,7 +168,7 @@ module _ {C : Type 0} where
 
   duty_so : (d : Duty) (p : PathState C) → ((t : Side) → Far (end_at t p) (end_at t (passed d p))) → (t : Side) → PassesSo (end_at t p) (end_at t (passed d p))
   duty_so (duties.Silent (silent_duties.Timer s)) p far =
-      let e : PathEnd = end_at s p in at_side s (after_timer p.clock e) p (record { none = λ none. none; goes = λ tick h. timer_goes tick p.clock e h })
+      let e : PathEnd = end_at s p in at_side s (with_timer_settled p.clock e) p (record { none = λ none. none; goes = λ tick h. timer_goes tick p.clock e h })
   duty_so (duties.Silent (silent_duties.Keep s)) p far =
       let e : PathEnd = end_at s p in at_side s (after_keep s e) p (keep_so s e (own_far s (after_keep s e) p far))
   duty_so (duties.Silent (silent_duties.PassFin s)) p far =

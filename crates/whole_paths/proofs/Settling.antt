@@ -22,7 +22,7 @@ use Rattle.path_core.specs.End.{PathEnd, died}
 use Rattle.path_core.specs.Events.{next_event}
 use Rattle.path_core.specs.State.{PathState, end_at, with_agenda}
 use Rattle.path_core.specs.Steps.{settled, takes, begins_turn}
-use Rattle.path_core.specs.Timer.{after_timer}
+use Rattle.path_core.specs.Timer.{with_timer_settled}
 use Rattle.world_laws.specs.declared.member.Member.TheVariants.{App, Path}
 use Rattle.world_laws.specs.Worlds.{Turn, world_run}
 use Rattle.world_laws.specs.Actors.{Actor, ActorCrew, member_takes, member_next}
@@ -143,7 +143,7 @@ pub record IsSettled (P : PathEnd → Type 0) : Type 0 where
   pub seen : (e f : PathEnd) → end_view nothing f ≡ end_view nothing e → P e → P f
   pub still : (e f : PathEnd) → IsStill e f → P e → P f
   pub gone : (e : PathEnd) → is_gone e ≡ true → P e
-  pub timer : (now : ℕ) (e : PathEnd) → P (after_timer now e)
+  pub timer : (now : ℕ) (e : PathEnd) → P (with_timer_settled now e)
 
 module _ (e f : PathEnd) where
   happened_kept : (s t : Side) (ds : List Duty) → Happened t e f ds → is_kept s ds ≡ true
@@ -355,7 +355,7 @@ module _ {C : Type 0} (P : PathEnd → Type 0) (rule : IsSettled P) where
   pass_timer s t ds p = ⊎_elim
       (λ is. subst Kept is (λ h. record {
         kept = rest_kept t d ds h.kept;
-        holds = inr (subst P (sym (own_end t (after_timer p.clock (end_at t p)) p.a p.b)) (rule.timer p.clock (end_at t p)));
+        holds = inr (subst P (sym (own_end t (with_timer_settled p.clock (end_at t p)) p.a p.b)) (rule.timer p.clock (end_at t p)));
       }))
       (λ is. subst Kept is (pass_other t d ds (writes d) p (passed d p) (passes_no_more d p) refl (apart t)))
       (sides s t)

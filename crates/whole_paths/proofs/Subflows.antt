@@ -19,7 +19,7 @@ use Rattle.subflow_tcp.specs.States.{after_finish, after_fin_acked, after_fin_pa
 use Rattle.subflow_tcp.specs.Emitting.{after_sending}
 use Rattle.subflow_tcp.specs.Expiring.{after_fire, after_expiry, is_sixth}
 use Rattle.subflow_tcp.specs.Taking.{after_death, after_payload, is_kept, is_fin_acked, after_ack_kind, after_acknowledgement, is_duplicate, after_duplicate, after_interruption, told_by, after_telling, after_heard_ack, after_established, after_hearing, after_occupying, after_syn, after_taken, after_syn_ack, unkept, after_arrival, after_keeping_held}
-use Rattle.path_core.specs.MpJoin.{syn_alone}
+use Rattle.path_core.specs.MpJoin.{syn_of_window}
 use Rattle.path_core.specs.Sending.{Sending}
 use Rattle.world_laws.proofs.Whole.Ends.{MeansIs, means_so}
 use Rattle.whole_paths.specs.AsFar.{stage, IsSubflowAsFar, IsStreamAsFar}
@@ -195,7 +195,7 @@ step_up now s t (settles on restart) = untouched s _ refl refl refl refl
 step_up now s t fires = fire_up now s
 step_up now s t (grows growth) = untouched s _ refl refl refl refl
 step_up now s t (begins is) = moved s _ refl refl refl (at_most 1 s Waiting is (omega arith))
-step_up now s t (joins window is) = syn_up (unkept None) (syn_alone window) s is
+step_up now s t (joins window is) = syn_up (unkept None) (syn_of_window window) s is
 step_up now s t dies = death_up false s
 
 pub steps_up : (now : ℕ) (s t : EndState) → SubflowSteps now s t → IsSubflowAsFar s t

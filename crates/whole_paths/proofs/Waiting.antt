@@ -61,7 +61,7 @@ use Rattle.path_core.specs.Profile.{Profile}
 use Rattle.path_core.specs.Sending.{Sending}
 use Rattle.path_core.specs.State.{PathState, at_tick, end_at, goes_on, with_end}
 use Rattle.path_core.specs.Steps.{takes, next_round}
-use Rattle.path_core.specs.Timer.{after_timer}
+use Rattle.path_core.specs.Timer.{with_timer_settled}
 use Rattle.path_core.specs.Treating.{item_passed, answered_heard, answered_item, item_of}
 use Rattle.path_core.specs.declared.events.Event.{Event}
 use Rattle.path_core.specs.declared.events.Event.TheVariants as happenings
@@ -414,8 +414,8 @@ timer_stays : (closed asked has news restart : Bool) (o : Option ℕ) (now rto t
 timer_stays closed true has news restart o now rto tick living some is quiet still = rw (living, is, quiet, still) refl
 timer_stays closed false has news restart o now rto tick living some is quiet still = rw (living, some, is, quiet, still) refl
 
-timer_goes : (tick now : ℕ) (e : PathEnd) → Far e (after_timer now e) → RunsTo tick e → Goes tick e (after_timer now e)
-timer_goes tick now e far h = runs_on tick e (after_timer now e)
+timer_goes : (tick now : ℕ) (e : PathEnd) → Far e (with_timer_settled now e) → RunsTo tick e → Goes tick e (with_timer_settled now e)
+timer_goes tick now e far h = runs_on tick e (with_timer_settled now e)
     (timer_stays (is_closed_to_segments e.tcp.state) _ (is_some_record e.tcp.send.records) e.tcp.timing.news e.sending.news e.tcp.timing.timer now e.tcp.timing.rtt.rto tick
     h.living (ap is_some_record h.records) h.timer h.settled.subflow h.settled.stream)
     (record { subflow = refl; stream = refl }) (λ is. is) far h
@@ -646,8 +646,8 @@ module _ {C : Type 0} where
   pub duty_passes : (d : Duty) (p : PathState C) → PathStep p (passed d p) → BothPass p (passed d p)
   duty_passes (duties.Silent (silent_duties.Timer s)) p x =
       let e : PathEnd = end_at s p in
-      let far : Far e (after_timer p.clock e) = own_far s (after_timer p.clock e) p x in
-      side_passes s (after_timer p.clock e) p (record { far = far; third = λ is. is; goes = λ tick h. timer_goes tick p.clock e far h })
+      let far : Far e (with_timer_settled p.clock e) = own_far s (with_timer_settled p.clock e) p x in
+      side_passes s (with_timer_settled p.clock e) p (record { far = far; third = λ is. is; goes = λ tick h. timer_goes tick p.clock e far h })
   duty_passes (duties.Step (step_duties.Heard s index)) p x =
       let e : PathEnd = end_at s p in
       let f : PathEnd = item_passed s (item_of index e) e in

@@ -19,7 +19,7 @@ use Rattle.subflow_tcp.specs.Taking.{after_death, after_arrival, after_syn, unke
 use Rattle.path_store.specs.declared.granted_piece.GrantedPiece.{GrantedPiece}
 use Rattle.path_core.specs.DataFin.{after_acked, after_peer_data_fin, after_granted, with_data_fin_sent}
 use Rattle.path_core.specs.End.{PathEnd}
-use Rattle.path_core.specs.MpJoin.{syn_alone}
+use Rattle.path_core.specs.MpJoin.{syn_of_window}
 use Rattle.path_core.specs.Sending.{Sending}
 use Rattle.path_core.specs.State.{PathState}
 
@@ -50,7 +50,7 @@ pub data SubflowStep (now : ℕ) (s : EndState) : EndState → Type 0 where
   grows : (growth : ℕ) → SubflowStep now s (record s { congestion = after_growth growth s.congestion })
   -- A's end of a path that joins opens, and B's takes the SYN
   begins : s.state ≡ Waiting → SubflowStep now s (after_begin s)
-  joins : (window : ℕ) → s.state ≡ Listen → SubflowStep now s (after_syn (unkept None) (syn_alone window) s)
+  joins : (window : ℕ) → s.state ≡ Listen → SubflowStep now s (after_syn (unkept None) (syn_of_window window) s)
   -- the end dies
   dies : SubflowStep now s (after_death false s)
 

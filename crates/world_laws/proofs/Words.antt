@@ -12,7 +12,7 @@ pub use Rattle.std.proofs.lemmas.List.Elements.{All-nil, All-head, All-tail, All
 pub use Rattle.fallback_state.specs.declared.fall.Verdict.{Verdict}
 pub use Rattle.fallback_state.specs.declared.fall.Mode.{Mode}
 pub use Rattle.fallback_state.specs.declared.fall.Event.{Event as FallEvent}
-pub use Rattle.fallback_state.specs.Modes.{is_identity, is_infinite, is_starting, reads_mappings, receiving, sending, writes_mappings}
+pub use Rattle.fallback_state.specs.Modes.{is_identity, is_infinite, is_starting, reads_mappings, with_infinite_receive, with_infinite_send, writes_mappings}
 pub use Rattle.fallback_state.specs.declared.fall.Fall.{Fall}
 pub use Rattle.fallback_state.specs.Table.{after_sure_sign, after_plain, after_failed_check, after_fail, is_failed_path, goes, fall_step, stays as stays_so, after_keys as fall_keys, after_plain as fall_plain}
 pub use Rattle.fallback_state.specs.declared.fall.Verdict.TheVariants.{Stay, SendFail}
@@ -50,7 +50,7 @@ pub use Rattle.control_book.specs.declared.call.ControlCall.{ControlCall}
 pub use Rattle.control_book.specs.declared.call.ControlReply.{ControlReply}
 pub use Rattle.control_book.specs.declared.call.Notice.{Notice}
 pub use Rattle.control_book.specs.Registry.{with_removed, lowest_living, standby, sole, sole as sole_path, with_phase, every_path, lives}
-pub use Rattle.control_book.specs.Control.{Control, new_control, withdrawals_on, with_withdrawal, peer_or_zero, is_path}
+pub use Rattle.control_book.specs.Control.{Control, new_control, withdrawals_on, with_withdrawal_due, peer_or_zero, is_path}
 unfoldable pub use Rattle.control_book.specs.Control.{no_withdrawals}
 pub use Rattle.control_book.specs.Replies.{carries, address_notice, notice_on, is_sure, may_join, is_aborted, join_waits, begin, join_begin_reply, look_reply}
 pub use Rattle.control_book.specs.Steps.{is_known, withdrawn, path_address}
@@ -159,16 +159,16 @@ pub use Rattle.path_core.specs.State.{at_tick, PathState, end_at, goes_on, with_
 pub use Rattle.path_core.specs.Steps.{settled, settles_down, answers, asks_of, asks_first, takes, begins_turn, next_round}
 pub use Rattle.path_core.specs.Turns.{Ends, TakesTime, FirstStands, IsSettled}
 pub use Rattle.path_core.specs.Values.{Carried, as_arrived, carried_by, stripped, altered, values}
-pub use Rattle.path_core.specs.OptionsIn.{hint_of, items_in, items_of, has_data_ack, octets_acked, is_plain_ack, edge_held, owes_by, asks_capable, options_heard}
+pub use Rattle.path_core.specs.OptionsIn.{hint_of, items_in, items_of, has_data_ack, octets_acked, is_plain_ack, edge_in_payload, owes_by, asks_capable, options_heard}
 pub use Rattle.path_core.specs.Arrival.{after_judged, asked_in, copy_judged, copy_of, judged_in, reset_for, template_by, template_judged, template_of, with_held, heard_in, copy_heard, told_at, owing_if, with_payload, expected_by, heard_at, acknowledged_in, copy_taken, reset_by, position_numbered}
 pub use Rattle.path_core.specs.Breaking.{reset_of, reset_on, answered_break, path_died, refusal_of, break_ask, died_unless_dead, answered_refusal, leaves_unless_dead}
 pub use Rattle.path_core.specs.Emission.{answered_data, answered_grant, answered_syn, data_stands, first_unsent, grant_in, granted, having_sent_unsent, is_syn_due, unsent_segment, answer_occasion, answer_of, answered_again, answered_answer, answered_resend, dead_answer, first_segment, outgoing_or, resend_occasion, resend_of, data_ask, first_record, payload_size, refused, ack_resent, resend_said, may_ask, fits, grant_ask, answer_said, may_send_data, answered_dead, granted_at, refused_in}
 pub use Rattle.path_core.specs.declared.judged.Judged.{Judged}
 pub use Rattle.path_core.specs.Events.{tick_of, next_join, next_line, next_copy, earlier, next_event, step_for, after_line, happens, happens_if, earliest, line_taken}
-pub use Rattle.path_core.specs.MpJoin.{join_begun, never_joined, asked_at, is_listening, is_never, join_taken, joined_by, keys_begun, opened_by, syn_alone, with_mode_refused, is_joined, join_heard_ask, join_answer, join_asked, join_options, third_options, peer_key_of, join_items, join_value, with_keys, answered_join_heard, join_begin_ask, is_hmac_right, is_third_right, third_in, mode_refused, after_joining_syn}
-pub use Rattle.path_core.specs.Timer.{after_timer, template_fired, after_firing, timer_fired, next_fire}
+pub use Rattle.path_core.specs.MpJoin.{join_begun, never_joined, asked_at, is_listening, is_never, join_taken, joined_by, keys_begun, opened_by, syn_of_window, with_mode_refused, is_joined, join_heard_ask, join_answer, join_asked, join_options, third_options, peer_key_of, join_items, join_value, with_keys, answered_join_heard, join_begin_ask, is_hmac_right, is_third_right, third_in, mode_refused, after_joining_syn}
+pub use Rattle.path_core.specs.Timer.{with_timer_settled, template_fired, after_firing, timer_fired, next_fire}
 pub use Rattle.path_core.specs.Deliver.{having_asked, piece_in, checked_piece, piece_by, next_piece, after_piece, plain_piece, infinite_piece, piece_at, is_wrong, failing_by, mapping_here, piece_of, is_placed, answered_piece, forgotten_by, after_keep, after_pieces, is_dropped, after_check, piece_ask, is_not_kept, failing_mapping}
-pub use Rattle.path_core.specs.DataFin.{is_data_fin_owed, data_fin_segment, having_sent_data_fin, answered_data_fin_sent, fin_segment_of, having_sent_fin, answered_fin, with_peer_data_fin, plain_fin, with_fin_told, answered_plain_fin, data_fin_of, fin_ask, answered_fin_heard, is_fin_set, after_pass_fin, acked_in, is_all_granted, with_data_fin_sent, place_passed, after_acked}
+pub use Rattle.path_core.specs.DataFin.{is_data_fin_owed, data_fin_segment, having_sent_data_fin, answered_data_fin_sent, fin_segment_of, having_sent_fin, answered_fin, with_peer_data_fin, place_of_fin, with_fin_told, answered_plain_fin, data_fin_of, fin_ask, answered_fin_heard, is_fin_set, after_pass_fin, acked_in, is_all_granted, with_data_fin_sent, place_passed, after_acked}
 pub use Rattle.path_core.specs.DssIn.{ack_items, is_mapping, mapping_items, map_items, first_items, held_if, map_held, key_held, held_in, checksum_heard, kept_of, is_clash, with_learned, with_data_fin, with_skipped, held_of, HeardOption, counts, with_acked, after_dss, told_next, mapping_ask, with_data_ack, answered_mapping, covered_by, data_fin_items, infinite_items, answered_ack}
 pub use Rattle.path_core.specs.Treating.{heard_ask, item_ask, answered_heard, answered_item, item_of, item_passed, heard_passed, item_stands, heard_stands}
 pub use Rattle.path_core.specs.Fallback.{check_failed_ask, with_failure, after_check_failed, answered_check_failed, is_infinite_receive, receiving_infinite, answered_infinite, fell_ask, subflow_ack_stands, after_fell, fell_duties, plain_ack_ask, subflow_ack_ask, answered_plain_ack, answered_subflow_ack, with_plain_ack, plain_next, plain_ack_in, plainly_acked, breaks_by_ack, may_go_infinite, fail_ask, answered_fail, book_answered, fail_heard_ask, answered_fail_heard, after_fail_heard, is_infinite_send, identity_ask, answered_identity, answered_fell, with_infinite, fell_in, is_fall, in_identity, mode_in, breaks_by, sending_infinite, infinite_from, after_infinite as after_infinite_heard, lacks_data_ack, plain_ack_stands, plain_data_stands, with_plain_acked}

@@ -9,7 +9,7 @@ use Rattle.world_laws.proofs.Words.{passed, answered, PathEnd, died, answered_ac
 use Rattle.world_laws.proofs.Words.{end_at, goes_on, with_agenda, left, settled, takes, next_round, Carried, values, items_of, options_heard, after_judged}
 use Rattle.world_laws.proofs.Words.{judged_in, template_by, template_judged, heard_in, copy_heard, told_at, reset_on, answered_break, died_unless_dead}
 use Rattle.world_laws.proofs.Words.{answered_data, answered_grant, first_unsent, grant_in, Judged, next_event, after_line, happens_if, join_begun, never_joined}
-use Rattle.world_laws.proofs.Words.{asked_at, is_never, join_taken, keys_begun, opened_by, is_joined, after_timer, template_fired, after_firing, having_asked}
+use Rattle.world_laws.proofs.Words.{asked_at, is_never, join_taken, keys_begun, opened_by, is_joined, with_timer_settled, template_fired, after_firing, having_asked}
 use Rattle.world_laws.proofs.Words.{after_piece, is_wrong, mapping_here, piece_of, is_placed, answered_piece, forgotten_by, after_keep, after_pieces}
 use Rattle.world_laws.proofs.Words.{after_check, with_peer_data_fin, with_fin_told, answered_plain_fin, answered_fin_heard, is_fin_set, after_pass_fin}
 use Rattle.world_laws.proofs.Words.{is_clash, with_learned, with_data_fin, with_skipped, counts, told_next, answered_item, item_of, item_passed, heard_passed}
@@ -160,7 +160,7 @@ module _ {C : Type 0} where
   side_calms B e p q x same_a same_b = record { a = λ h. subst (λ (f : PathEnd). f.treated.asked ≡ true) same_a h; b = λ h. x (subst (λ (f : PathEnd). f.treated.asked ≡ true) same_b h) }
 
   passed_calms : (d : Duty) (p : PathState C) → Calms p (passed d p)
-  passed_calms (Duty.Silent (SilentDuty.Timer s)) p = side_calms s (after_timer p.clock (end_at s p)) p _ (λ h. h) refl refl
+  passed_calms (Duty.Silent (SilentDuty.Timer s)) p = side_calms s (with_timer_settled p.clock (end_at s p)) p _ (λ h. h) refl refl
   passed_calms (Duty.Step (StepDuty.Heard s index)) p = side_calms s (item_passed s (item_of index (end_at s p)) (end_at s p)) p _ (maybe_end s (item_of index (end_at s p)) (end_at s p)) refl refl
   passed_calms (Duty.Step (StepDuty.PlainAck s)) p = side_calms s (with_plain_ack (end_at s p)) p _ (λ h. h) refl refl
   passed_calms (Duty.Silent (SilentDuty.Keep s)) p = side_calms s (after_keep s (end_at s p)) p _ (λ h. h) refl refl

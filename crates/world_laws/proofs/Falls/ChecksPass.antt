@@ -2,12 +2,12 @@
 -- told of a failure, and none knows of one.
 use Rattle.world_laws.proofs.Words.{◌≡◌, refl, sym, ◌∙◌, ap, subst, ℕ, ◌&&◌, ◌==◌, not, ⊎_elim, Bool, true, false, if◌then◌else◌, Option, Some, None, List, []}
 use Rattle.world_laws.proofs.Words.{◌∷◌, ◌++◌, length, arith, is_some, or_parts, and_parts, both_ways, false≢true, or_from, same_Some, list_any, slice_get}
-use Rattle.world_laws.proofs.Words.{IfSome, FallEvent, is_infinite, reads_mappings, sending, writes_mappings, Fall, goes, fall_step, Side, A, B, JoinSyn}
+use Rattle.world_laws.proofs.Words.{IfSome, FallEvent, is_infinite, reads_mappings, with_infinite_send, writes_mappings, Fall, goes, fall_step, Side, A, B, JoinSyn}
 use Rattle.world_laws.proofs.Words.{ControlCall, Notice, sole, Control, ReassemblyCall, Record, Pending, may_finish, EndPhase, PlainOption, PlainSegment, Fail}
 use Rattle.world_laws.proofs.Words.{Piece, InfiniteMapping, Duty, SendDuty, StepDuty, AskDuty, SilentDuty, Heard, KeyPair, key_heard, keys_heard, PeerNotice}
 use Rattle.world_laws.proofs.Words.{Ask, Note, books_in, SixBooks, control_of, after_ask, AppDuty, AppState, app_ask, app_asks_first, stands, ask_for}
 use Rattle.world_laws.proofs.Words.{PathState, end_at, path_of, asks_first, FirstStands, IsSettled, Carried, values, reset_of, break_ask, first_unsent}
-use Rattle.world_laws.proofs.Words.{data_ask, next_event, step_for, asked_at, join_heard_ask, piece_of, piece_ask, failing_mapping, plain_fin, data_fin_of}
+use Rattle.world_laws.proofs.Words.{data_ask, next_event, step_for, asked_at, join_heard_ask, piece_of, piece_ask, failing_mapping, place_of_fin, data_fin_of}
 use Rattle.world_laws.proofs.Words.{fin_ask, is_clash, mapping_ask, item_ask, item_of, fell_ask, plain_ack_ask, breaks_by_ack, peer_key_ask, opened_ask}
 use Rattle.world_laws.proofs.Words.{notice_call, Profile, sends, rate_ask, Every-map, in_map, in_set, Every, Duo, after_events, Holds, LaneHolds, Pair, AckCopy}
 use Rattle.world_laws.proofs.Words.{Lane, View, any_held, App, Path, Actor, ActorCrew, member_asks, Start, opened_world, WorldState, Turn, crew_after, asked}
@@ -142,7 +142,7 @@ module _ (p : PathState Carried) (h : PathPasses p) where
   duty_harmless (Duty.Step (StepDuty.PlainAck s)) is = plain_ack_harmless s
   duty_harmless (Duty.Ask (AskDuty.SubflowAck s)) is = subflow_acks_so IsHarmless s (end_at s p) tt (λ next. tt)
   duty_harmless (Duty.Step (StepDuty.Unmapped s)) is = break_harmless s 6
-  duty_harmless (Duty.Ask (AskDuty.SubflowFin s)) is = fin_harmless s (plain_fin (end_at s p))
+  duty_harmless (Duty.Ask (AskDuty.SubflowFin s)) is = fin_harmless s (place_of_fin (end_at s p))
   duty_harmless (Duty.Ask (AskDuty.Edge s)) is = piece_harmless s (piece_of s p)
   duty_harmless (Duty.Ask (AskDuty.CheckFailed s)) is = check_harmless s is
   duty_harmless (Duty.Ask (AskDuty.HeardFin s index)) is = fin_harmless s (data_fin_of index (end_at s p))
@@ -255,7 +255,7 @@ either_unfailed = elim [ true ↦ λ c d x y. x | false ↦ λ c d x y. y ]
 fail_unfailed : (fall : Fall) (only : Bool) → IsUnfailed fall → IsUnfailed (fall_step fall 0 only (FallEvent.FailHeard false)).0
 fail_unfailed fall only u = by (not (writes_mappings fall.mode)) only
   where
-    by : (b only : Bool) → IsUnfailed (if b then stays fall else (if only && false then goes (sending fall.mode) fall else breaks 1 fall)).0
+    by : (b only : Bool) → IsUnfailed (if b then stays fall else (if only && false then goes (with_infinite_send fall.mode) fall else breaks 1 fall)).0
     by true only = u
     by false true = u
     by false false = u

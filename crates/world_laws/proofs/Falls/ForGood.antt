@@ -1,6 +1,6 @@
 -- A side that fell back never goes by the peer's mappings again.
 use Rattle.world_laws.proofs.Words.{◌≡◌, refl, sym, subst, ℕ, ◌&&◌, ◌==◌, not, ⊎_elim, Bool, true, false, if◌then◌else◌, Some, List}
-use Rattle.world_laws.proofs.Words.{is_none, false≢true, Verdict, Mode, FallEvent, is_identity, is_starting, reads_mappings, receiving, sending}
+use Rattle.world_laws.proofs.Words.{is_none, false≢true, Verdict, Mode, FallEvent, is_identity, is_starting, reads_mappings, with_infinite_receive, with_infinite_send}
 use Rattle.world_laws.proofs.Words.{writes_mappings, Fall, is_failed_path, goes, fall_step, Pass, Side, A, B, ControlCall, Notice, sole_path, Control, Ask}
 use Rattle.world_laws.proofs.Words.{StampedBooks, books_in, after_entry, SixBooks, control_of, after_ask, Codec, Always, Start}
 use Rattle.world_laws.proofs.Words.{opened_world, WorldState, Turn, world_run, is_fallback}
@@ -28,14 +28,14 @@ unread_if = elim [ true ↦ λ f x y is isnt. is refl | false ↦ λ f x y is is
 starting_reads : (m : Mode) → is_starting m ≡ true → Unread m → ⊥
 starting_reads = elim [ Mode.Starting ↦ λ is unread. false≢true (sym unread) | _ ↦ λ is unread. false≢true is ]
 
-sending_unread : (m : Mode) → writes_mappings m ≡ true → Unread m → Unread (sending m)
+sending_unread : (m : Mode) → writes_mappings m ≡ true → Unread m → Unread (with_infinite_send m)
 sending_unread Mode.Identity writes unread = absurd (false≢true writes)
 sending_unread Mode.InfiniteReceive writes unread = refl
 sending_unread Mode.InfiniteBoth writes unread = absurd (false≢true writes)
 sending_unread Mode.Aborted writes unread = absurd (false≢true writes)
 sending_unread _ writes unread = absurd (false≢true (sym unread))
 
-receiving_unread : (m : Mode) → Unread (receiving m)
+receiving_unread : (m : Mode) → Unread (with_infinite_receive m)
 receiving_unread = elim [ Mode.Starting ↦ refl | _ ↦ refl ]
 
 not_twice : (b : Bool) → not b ≡ false → b ≡ true
@@ -58,9 +58,9 @@ event_unread path sole FallEvent.KeysHeard f =
 event_unread path sole FallEvent.InfiniteHeard f =
     let falls : Bool = writes_mappings f.mode && not f.joined && is_none f.failed in
     let last : Fall × Verdict = if falls then goes Mode.Identity f else breaks 1 f in
-    let rest : Fall × Verdict = if sole && is_failed_path f.failed path then goes (receiving f.mode) f else last in
+    let rest : Fall × Verdict = if sole && is_failed_path f.failed path then goes (with_infinite_receive f.mode) f else last in
     unread_if (not (reads_mappings f.mode)) f (stays f) rest (λ is unread. unread)
-    (λ reads. unread_if (sole && is_failed_path f.failed path) f (goes (receiving f.mode) f) last (λ is unread. receiving_unread f.mode)
+    (λ reads. unread_if (sole && is_failed_path f.failed path) f (goes (with_infinite_receive f.mode) f) last (λ is unread. receiving_unread f.mode)
     (λ isnt. unread_if falls f (goes Mode.Identity f) (breaks 1 f) (λ is unread. refl) (λ other unread. unread)))
 event_unread path sole FallEvent.CheckFailed f =
     let noted : Fall × Verdict = (record f { failed = Some path }, Verdict.SendFail) in
@@ -68,9 +68,9 @@ event_unread path sole FallEvent.CheckFailed f =
     unread_if (not (reads_mappings f.mode)) f (stays f) rest (λ is unread. unread)
     (λ reads. unread_if sole f noted (breaks 6 f) (λ is unread. unread) (λ isnt unread. unread))
 event_unread path sole (FallEvent.FailHeard contiguous) f =
-    let rest : Fall × Verdict = if sole && contiguous then goes (sending f.mode) f else breaks 1 f in
+    let rest : Fall × Verdict = if sole && contiguous then goes (with_infinite_send f.mode) f else breaks 1 f in
     unread_if (not (writes_mappings f.mode)) f (stays f) rest (λ is unread. unread)
-    (λ writes. unread_if (sole && contiguous) f (goes (sending f.mode) f) (breaks 1 f) (λ is unread. sending_unread f.mode (not_twice (writes_mappings f.mode) writes) unread)
+    (λ writes. unread_if (sole && contiguous) f (goes (with_infinite_send f.mode) f) (breaks 1 f) (λ is unread. sending_unread f.mode (not_twice (writes_mappings f.mode) writes) unread)
     (λ isnt unread. unread))
 event_unread path sole FallEvent.Stop f = λ unread. refl
 

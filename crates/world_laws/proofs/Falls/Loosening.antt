@@ -1,6 +1,6 @@
 -- A side receives by the peer's infinite mapping from now on: the lane that it hears goes by that mapping.
 use Rattle.world_laws.proofs.Words.{◌≡◌, refl, sym, ◌∙◌, ap, ℕ, ◌-◌, ◌&&◌, not, inl, inr, ◌⊎◌, Bool, true, false, if◌then◌else◌, Option, Some, None, [], ◌∷◌}
-use Rattle.world_laws.proofs.Words.{is_none, set, both_ways, false≢true, append-nil, set-set, Verdict, Mode, reads_mappings, receiving, writes_mappings, Fall}
+use Rattle.world_laws.proofs.Words.{is_none, set, both_ways, false≢true, append-nil, set-set, Verdict, Mode, reads_mappings, with_infinite_receive, writes_mappings, Fall}
 use Rattle.world_laws.proofs.Words.{is_failed_path, goes, fall_step, stays_so, Side, A, B, ControlCall, ControlReply, sole_path, Ask, Reply, SixBooks}
 use Rattle.world_laws.proofs.Words.{control_of, reply_of, after_ask, pick, PathEnd, PathState, Carried, is_infinite_receive, receiving_infinite, Profile, Pair}
 use Rattle.world_laws.proofs.Words.{Lane, ToB, ToA, takes_pair, Moves, LookAtReceiver, TakePair, is_fallback}
@@ -35,9 +35,9 @@ loosens_if = elim [ true ↦ λ x y h k. h | false ↦ λ x y h k. k ]
 row_loosens : (path : ℕ) (sole : Bool) (f : Fall) → RowLoosens (fall_step f path sole Event.InfiniteHeard)
 row_loosens path sole f =
     let last : Fall × Verdict = if writes_mappings f.mode && not f.joined && is_none f.failed then goes Mode.Identity f else breaks 1 f in
-    let rest : Fall × Verdict = if sole && is_failed_path f.failed path then goes (receiving f.mode) f else last in
+    let rest : Fall × Verdict = if sole && is_failed_path f.failed path then goes (with_infinite_receive f.mode) f else last in
     loosens_if (not (reads_mappings f.mode)) (stays_so f) rest (λ is. absurd (false≢true is))
-    (loosens_if (sole && is_failed_path f.failed path) (goes (receiving f.mode) f) last (goes_loose (receiving f.mode) f)
+    (loosens_if (sole && is_failed_path f.failed path) (goes (with_infinite_receive f.mode) f) last (goes_loose (with_infinite_receive f.mode) f)
     (loosens_if (writes_mappings f.mode && not f.joined && is_none f.failed) (goes Mode.Identity f) (breaks 1 f) (goes_loose Mode.Identity f) (λ is. absurd (false≢true is))))
 
 -- so it is in the books after the call, and no firm side is told so

@@ -1,6 +1,6 @@
 -- What a call of a control book is to where its side stands: it falls back, it joins, or neither.
 use Rattle.world_laws.proofs.Words.{◌≡◌, refl, sym, ◌∙◌, ap, ℕ, ◌&&◌, ◌||◌, ◌==◌, not, inl, inr, ◌⊎◌, Bool, true, false, if◌then◌else◌, Some, is_none}
-use Rattle.world_laws.proofs.Words.{and_parts, both_ways, false≢true, Verdict, Mode, FallEvent, is_identity, is_starting, reads_mappings, receiving, sending}
+use Rattle.world_laws.proofs.Words.{and_parts, both_ways, false≢true, Verdict, Mode, FallEvent, is_identity, is_starting, reads_mappings, with_infinite_receive, with_infinite_send}
 use Rattle.world_laws.proofs.Words.{writes_mappings, Fall, is_failed_path, goes, fall_step, token_of, ControlCall, ControlReply, Notice, sole_path, Control}
 use Rattle.world_laws.proofs.Words.{Reply, is_fall}
 use Rattle.fallback_state.specs.Table.{stays, breaks}
@@ -50,10 +50,10 @@ starting_tight Mode.InfiniteBoth is = absurd (false≢true is)
 starting_tight Mode.Aborted is = absurd (false≢true is)
 starting_tight _ is = refl
 
-receiving_loose : (m : Mode) → loose_of (receiving m) ≡ true
+receiving_loose : (m : Mode) → loose_of (with_infinite_receive m) ≡ true
 receiving_loose = elim [ Mode.Starting ↦ refl | _ ↦ refl ]
 
-sending_loose : (m : Mode) → writes_mappings m ≡ true → loose_of (sending m) ≡ loose_of m
+sending_loose : (m : Mode) → writes_mappings m ≡ true → loose_of (with_infinite_send m) ≡ loose_of m
 sending_loose = elim [ Mode.Aborted ↦ λ is. absurd (false≢true is) | _ ↦ λ is. refl ]
 
 -- ---- what becomes of a fall
@@ -101,16 +101,16 @@ writes_plain Mode.Identity joined is = absurd (false≢true is)
 writes_plain Mode.Aborted joined is = absurd (false≢true is)
 writes_plain _ joined is = refl
 
-receiving_plain : (m : Mode) (joined : Bool) → plain_of (receiving m) joined ≡ false
+receiving_plain : (m : Mode) (joined : Bool) → plain_of (with_infinite_receive m) joined ≡ false
 receiving_plain = elim [ Mode.Starting ↦ λ joined. refl | _ ↦ λ joined. refl ]
 
-sending_plain : (m : Mode) (joined : Bool) → plain_of (sending m) joined ≡ false
+sending_plain : (m : Mode) (joined : Bool) → plain_of (with_infinite_send m) joined ≡ false
 sending_plain = elim [ Mode.Starting ↦ λ joined. refl | _ ↦ λ joined. refl ]
 
-receiving_apart : (m : Mode) → is_identity (receiving m) ≡ false
+receiving_apart : (m : Mode) → is_identity (with_infinite_receive m) ≡ false
 receiving_apart = elim [ Mode.Starting ↦ refl | _ ↦ refl ]
 
-sending_apart : (m : Mode) → is_identity (sending m) ≡ false
+sending_apart : (m : Mode) → is_identity (with_infinite_send m) ≡ false
 sending_apart = elim [ Mode.Starting ↦ refl | _ ↦ refl ]
 
 -- of a row that applies where this holds
@@ -137,9 +137,9 @@ infinite_falls : (path : ℕ) (sole : Bool) (f : Fall) → Fallen f (fall_step f
 infinite_falls path sole f =
     let falls : Bool = writes_mappings f.mode && not f.joined && is_none f.failed in
     let last : Fall × Verdict = if falls then goes Mode.Identity f else breaks 1 f in
-    let rest : Fall × Verdict = if sole && is_failed_path f.failed path then goes (receiving f.mode) f else last in
+    let rest : Fall × Verdict = if sole && is_failed_path f.failed path then goes (with_infinite_receive f.mode) f else last in
     fallen_if (not (reads_mappings f.mode)) f (stays f) rest (λ is. same_fall f)
-    (λ reads. fallen_if (sole && is_failed_path f.failed path) f (goes (receiving f.mode) f) last
+    (λ reads. fallen_if (sole && is_failed_path f.failed path) f (goes (with_infinite_receive f.mode) f) last
     (λ is. inl (record { mode = receiving_plain f.mode f.joined ∙ sym (reads_plain f.mode f.joined (not_twice (reads_mappings f.mode) reads)); joined = refl; loose = inr (receiving_loose f.mode); unjoined = λ h is. absurd (both_ways _ (receiving_apart f.mode) is) }))
     (λ isnt. fallen_if falls f (goes Mode.Identity f) (breaks 1 f)
     (λ is.
@@ -156,9 +156,9 @@ check_falls path sole f =
 
 fail_falls : (path : ℕ) (sole contiguous : Bool) (f : Fall) → Fallen f (fall_step f path sole (FallEvent.FailHeard contiguous)).0
 fail_falls path sole contiguous f =
-    let rest : Fall × Verdict = if sole && contiguous then goes (sending f.mode) f else breaks 1 f in
+    let rest : Fall × Verdict = if sole && contiguous then goes (with_infinite_send f.mode) f else breaks 1 f in
     fallen_if (not (writes_mappings f.mode)) f (stays f) rest (λ is. same_fall f)
-    (λ writes. fallen_if (sole && contiguous) f (goes (sending f.mode) f) (breaks 1 f)
+    (λ writes. fallen_if (sole && contiguous) f (goes (with_infinite_send f.mode) f) (breaks 1 f)
     (λ is. inl (record { mode = sending_plain f.mode f.joined ∙ sym (writes_plain f.mode f.joined (not_twice (writes_mappings f.mode) writes)); joined = refl; loose = inl (sending_loose f.mode (not_twice (writes_mappings f.mode) writes)); unjoined = λ h is. absurd (both_ways _ (sending_apart f.mode) is) }))
     (λ isnt. same_fall f))
 
@@ -328,10 +328,10 @@ RowFalls row = tells_fall row.1 ≡ true → (is_plain row.0 ≡ true) × (row.0
 row_if : (b : Bool) (x y : Fall × Verdict) → (b ≡ true → RowFalls x) → (b ≡ false → RowFalls y) → RowFalls (if b then x else y)
 row_if = elim [ true ↦ λ x y is isnt. is refl | false ↦ λ x y is isnt. isnt refl ]
 
-receiving_tells : (m : Mode) → tells_fall (Verdict.Went (receiving m)) ≡ false
+receiving_tells : (m : Mode) → tells_fall (Verdict.Went (with_infinite_receive m)) ≡ false
 receiving_tells = elim [ Mode.Starting ↦ refl | _ ↦ refl ]
 
-sending_tells : (m : Mode) → tells_fall (Verdict.Went (sending m)) ≡ false
+sending_tells : (m : Mode) → tells_fall (Verdict.Went (with_infinite_send m)) ≡ false
 sending_tells = elim [ Mode.Starting ↦ refl | _ ↦ refl ]
 
 calm_row : (row : Fall × Verdict) → tells_fall row.1 ≡ false → RowFalls row
@@ -354,9 +354,9 @@ row_falls path sole FallEvent.PlainAck f = plain_row f
 row_falls path sole FallEvent.InfiniteHeard f =
     let falls : Bool = writes_mappings f.mode && not f.joined && is_none f.failed in
     let last : Fall × Verdict = if falls then goes Mode.Identity f else breaks 1 f in
-    let rest : Fall × Verdict = if sole && is_failed_path f.failed path then goes (receiving f.mode) f else last in
+    let rest : Fall × Verdict = if sole && is_failed_path f.failed path then goes (with_infinite_receive f.mode) f else last in
     row_if (not (reads_mappings f.mode)) (stays f) rest (λ is. calm_row (stays f) refl)
-    (λ reads. row_if (sole && is_failed_path f.failed path) (goes (receiving f.mode) f) last (λ is. calm_row (goes (receiving f.mode) f) (receiving_tells f.mode))
+    (λ reads. row_if (sole && is_failed_path f.failed path) (goes (with_infinite_receive f.mode) f) last (λ is. calm_row (goes (with_infinite_receive f.mode) f) (receiving_tells f.mode))
     (λ isnt. row_if falls (goes Mode.Identity f) (breaks 1 f)
     (λ is tells.
     let none = (and_parts (writes_mappings f.mode) (not f.joined) (and_parts (writes_mappings f.mode && not f.joined) (is_none f.failed) is).0).1 in (none, not_true f.joined none, refl))
@@ -370,7 +370,7 @@ row_falls path sole FallEvent.CheckFailed f =
     row_if (not (reads_mappings f.mode)) (stays f) rest (λ is. calm_row (stays f) refl)
     (λ reads. row_if sole noted (breaks 6 f) (λ is. calm_row noted refl) (λ isnt. calm_row (breaks 6 f) refl))
 row_falls path sole (FallEvent.FailHeard contiguous) f =
-    let rest : Fall × Verdict = if sole && contiguous then goes (sending f.mode) f else breaks 1 f in
+    let rest : Fall × Verdict = if sole && contiguous then goes (with_infinite_send f.mode) f else breaks 1 f in
     row_if (not (writes_mappings f.mode)) (stays f) rest (λ is. calm_row (stays f) refl)
-    (λ writes. row_if (sole && contiguous) (goes (sending f.mode) f) (breaks 1 f) (λ is. calm_row (goes (sending f.mode) f) (sending_tells f.mode)) (λ isnt. calm_row (breaks 1 f) refl))
+    (λ writes. row_if (sole && contiguous) (goes (with_infinite_send f.mode) f) (breaks 1 f) (λ is. calm_row (goes (with_infinite_send f.mode) f) (sending_tells f.mode)) (λ isnt. calm_row (breaks 1 f) refl))
 row_falls path sole FallEvent.Stop f = calm_row (goes Mode.Aborted f) refl

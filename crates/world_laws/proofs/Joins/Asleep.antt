@@ -12,7 +12,7 @@ use Rattle.world_laws.proofs.Words.{stands, ask_for, passed, answered, PathEnd, 
 use Rattle.world_laws.proofs.Words.{waiting_path, first_turn, at_tick, PathState, end_at, goes_on, with_end, with_agenda, left, path_of, settled, settles_down}
 use Rattle.world_laws.proofs.Words.{answers, asks_of, asks_first, takes, next_round, FirstStands, IsSettled, died_unless_dead, leaves_unless_dead, data_stands}
 use Rattle.world_laws.proofs.Words.{first_unsent, data_ask, tick_of, next_join, next_line, next_copy, earlier, next_event, step_for, after_line, happens}
-use Rattle.world_laws.proofs.Words.{happens_if, join_begun, never_joined, is_never, keys_begun, opened_by, after_timer, next_fire, with_priority, Profile}
+use Rattle.world_laws.proofs.Words.{happens_if, join_begun, never_joined, is_never, keys_begun, opened_by, with_timer_settled, next_fire, with_priority, Profile}
 use Rattle.world_laws.proofs.Words.{if_so}
 use Rattle.loss_recovery.specs.Timers.{timer_settled}
 use Rattle.control_book.specs.declared.call.ControlReply.TheVariants.{NotYet, Never}
@@ -56,7 +56,7 @@ died_shut : (e : PathEnd) → IsShut e → IsShut (died_unless_dead e)
 died_shut e h = if_so IsShut (is_dead e.tcp.state) e (died e) h (record { closed = refl; timer = refl })
 
 -- no timer is started
-timed_shut : (now : ℕ) (e : PathEnd) → IsShut e → IsShut (after_timer now e)
+timed_shut : (now : ℕ) (e : PathEnd) → IsShut e → IsShut (with_timer_settled now e)
 timed_shut now e h = record {
   closed = h.closed;
   timer = ap (λ (b : Bool). timer_settled (not b && ((is_waiting e || (e.modes.owes_third || e.notices.fast_closed)) || has_records e.tcp)) e.sending.news now e.tcp.timing) h.closed;
@@ -243,7 +243,7 @@ module _ {C : Type 0} where
   answered_asleep k _ r p none h idle is = absurd (false≢true idle)
 
   passed_asleep : (d : Duty) (p : PathState C) → IsAsleep p → is_idle d ≡ true → IsAsleep (passed d p)
-  passed_asleep (Duty.Silent (SilentDuty.Timer s)) p h idle = with_asleep s (after_timer p.clock (end_at s p)) p (timed_shut p.clock (end_at s p) (shut_at s p h)) h
+  passed_asleep (Duty.Silent (SilentDuty.Timer s)) p h idle = with_asleep s (with_timer_settled p.clock (end_at s p)) p (timed_shut p.clock (end_at s p) (shut_at s p h)) h
   passed_asleep (Duty.Step (StepDuty.Heard s index)) p h idle = absurd (false≢true idle)
   passed_asleep (Duty.Silent (SilentDuty.Keep s)) p h idle = absurd (false≢true idle)
   passed_asleep (Duty.Ask (AskDuty.CheckFailed s)) p h idle = absurd (false≢true idle)

@@ -11,7 +11,7 @@ use Rattle.world_laws.proofs.Words.{begins_turn, hint_of, items_of, owes_by, opt
 use Rattle.world_laws.proofs.Words.{template_by, template_judged, template_of, with_held, heard_in, copy_heard, reset_of, reset_on, answered_break, refusal_of}
 use Rattle.world_laws.proofs.Words.{break_ask, answered_data, answered_grant, first_unsent, grant_in, answer_occasion, answer_of, dead_answer, resend_occasion}
 use Rattle.world_laws.proofs.Words.{resend_of, Judged, next_event, step_for, after_line, happens_if, join_begun, never_joined, asked_at, is_never, join_taken}
-use Rattle.world_laws.proofs.Words.{keys_begun, opened_by, with_mode_refused, is_joined, join_heard_ask, join_answer, after_timer, template_fired, timer_fired}
+use Rattle.world_laws.proofs.Words.{keys_begun, opened_by, with_mode_refused, is_joined, join_heard_ask, join_answer, with_timer_settled, template_fired, timer_fired}
 use Rattle.world_laws.proofs.Words.{mapping_here, piece_of, is_placed, answered_piece, forgotten_by, after_keep, after_pieces, is_dropped, after_check}
 use Rattle.world_laws.proofs.Words.{fin_segment_of, having_sent_fin, answered_plain_fin, answered_fin_heard, is_fin_set, after_pass_fin, is_clash, with_learned}
 use Rattle.world_laws.proofs.Words.{with_data_fin, with_skipped, held_of, HeardOption, with_acked, after_dss, with_data_ack, heard_ask, item_ask}
@@ -198,7 +198,7 @@ module _ {C : Type 0} (k : Codec C) (W F : Side → Type 0) where
   put s e p g h = record { woken = λ t. woken_on s t e p g h; known = h.known; falls = h.falls; plain = λ t. plain_on s t e p g h }
 
   passed_awake : (d : Duty) (p : PathState C) → Awake p → Awake (passed d p)
-  passed_awake (Duty.Silent (SilentDuty.Timer s)) p h = put s (after_timer p.clock (end_at s p)) p (up_goes s (after_timer p.clock (end_at s p)) p (timer_up p.clock (end_at s p)) refl) h
+  passed_awake (Duty.Silent (SilentDuty.Timer s)) p h = put s (with_timer_settled p.clock (end_at s p)) p (up_goes s (with_timer_settled p.clock (end_at s p)) p (timer_up p.clock (end_at s p)) refl) h
   passed_awake (Duty.Step (StepDuty.Heard s index)) p h = put s (item_passed s (item_of index (end_at s p)) (end_at s p)) p (item_goes s (item_of index (end_at s p)) p) h
   passed_awake (Duty.Silent (SilentDuty.Keep s)) p h = put s (after_keep s (end_at s p)) p (keep_goes s (is_dropped s (end_at s p)) (after_keep s (end_at s p)).treated.held_edge p) h
   passed_awake (Duty.Step (StepDuty.PlainAck s)) p h = put s (with_plain_ack (end_at s p)) p (same_goes s (with_plain_ack (end_at s p)) p refl refl refl) h

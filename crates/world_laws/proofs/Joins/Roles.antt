@@ -12,8 +12,8 @@ use Rattle.world_laws.proofs.Words.{Carried, as_arrived, carried_by, stripped, a
 use Rattle.world_laws.proofs.Words.{copy_judged, copy_of, judged_in, reset_for, template_of, heard_in, copy_heard, heard_at, reset_of, reset_on, answered_break}
 use Rattle.world_laws.proofs.Words.{refusal_of, died_unless_dead, answered_data, answered_grant, first_unsent, grant_in, answer_occasion, answer_of}
 use Rattle.world_laws.proofs.Words.{dead_answer, resend_occasion, resend_of, first_record, Judged, next_event, after_line, happens_if, join_begun, never_joined}
-use Rattle.world_laws.proofs.Words.{asked_at, is_listening, is_never, join_taken, joined_by, keys_begun, opened_by, syn_alone, with_mode_refused, is_joined}
-use Rattle.world_laws.proofs.Words.{after_timer, template_fired, timer_fired, mapping_here, forgotten_by, after_keep, after_pieces, is_dropped}
+use Rattle.world_laws.proofs.Words.{asked_at, is_listening, is_never, join_taken, joined_by, keys_begun, opened_by, syn_of_window, with_mode_refused, is_joined}
+use Rattle.world_laws.proofs.Words.{with_timer_settled, template_fired, timer_fired, mapping_here, forgotten_by, after_keep, after_pieces, is_dropped}
 use Rattle.world_laws.proofs.Words.{after_check, is_data_fin_owed, fin_segment_of, having_sent_fin, after_pass_fin, is_clash, with_learned, with_data_fin}
 use Rattle.world_laws.proofs.Words.{with_skipped, held_of, with_acked, after_dss, with_data_ack, answered_heard, answered_item, item_of, item_passed}
 use Rattle.world_laws.proofs.Words.{after_fell, fell_duties, answered_plain_ack, with_plain_ack, breaks_by_ack, answered_fell, with_infinite, after_keys}
@@ -153,7 +153,7 @@ fin_goes s true p h = record { role = λ joins is. sym (passed_apart s (end_at s
 fin_goes s false p h = same_goes s (end_at s p) p refl refl h
 
 passed_roles : (d : Duty) (p : PathState Carried) → HasRoles p → HasRoles (passed d p)
-passed_roles (Duty.Silent (SilentDuty.Timer s)) p h = with_roles s (after_timer p.clock (end_at s p)) p (same_goes s (after_timer p.clock (end_at s p)) p refl refl h) h
+passed_roles (Duty.Silent (SilentDuty.Timer s)) p h = with_roles s (with_timer_settled p.clock (end_at s p)) p (same_goes s (with_timer_settled p.clock (end_at s p)) p refl refl h) h
 passed_roles (Duty.Step (StepDuty.Heard s index)) p h = with_roles s (item_passed s (item_of index (end_at s p)) (end_at s p)) p (item_goes s (item_of index (end_at s p)) p h) h
 passed_roles (Duty.Silent (SilentDuty.Keep s)) p h = with_roles s (after_keep s (end_at s p)) p (keep_goes s (is_dropped s (end_at s p)) _ p h) h
 passed_roles (Duty.Step (StepDuty.PlainAck s)) p h = with_roles s (with_plain_ack (end_at s p)) p (same_goes s (with_plain_ack (end_at s p)) p refl refl h) h
@@ -327,7 +327,7 @@ listening_apart EndPhase.Listen is = refl
 listening_apart EndPhase.Waiting is = absurd (false≢true is)
 listening_apart _ is = absurd (false≢true is)
 
-heard_apart : (s : Side) (b : Bool) (e : PathEnd) → is_listening e.tcp.state ≡ b → is_apart s (if b then after_syn (unkept None) (syn_alone e.treated.window) e.tcp else e.tcp).state ≡ true
+heard_apart : (s : Side) (b : Bool) (e : PathEnd) → is_listening e.tcp.state ≡ b → is_apart s (if b then after_syn (unkept None) (syn_of_window e.treated.window) e.tcp else e.tcp).state ≡ true
     → is_apart s e.tcp.state ≡ true
 heard_apart A true e listens is = listening_apart e.tcp.state listens
 heard_apart B true e listens is = absurd (false≢true is)

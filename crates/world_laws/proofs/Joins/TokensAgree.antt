@@ -2,8 +2,8 @@
 -- as soon as it is sure, so each join begins with it.
 use Rattle.world_laws.proofs.Words.{◌≡◌, refl, sym, ◌∙◌, ap, subst, ℕ, zero, suc, ◌+◌, ◌&&◌, ◌||◌, ◌==◌, not, inl, inr, ◌⊎◌, ⊎_elim, Bool, true, false}
 use Rattle.world_laws.proofs.Words.{if◌then◌else◌, Option, Some, None, List, [], ◌∷◌, arith, is_none, is_some, lt-ltb, and_parts, both_ways, false≢true}
-use Rattle.world_laws.proofs.Words.{or_right, same_Some, IfSome, Verdict, Mode, FallEvent, is_identity, is_starting, reads_mappings, receiving}
-use Rattle.world_laws.proofs.Words.{sending, writes_mappings, Fall, after_plain, is_failed_path, goes, fall_step, Stay, SendFail, heard_reply, Address, Side, A}
+use Rattle.world_laws.proofs.Words.{or_right, same_Some, IfSome, Verdict, Mode, FallEvent, is_identity, is_starting, reads_mappings, with_infinite_receive}
+use Rattle.world_laws.proofs.Words.{with_infinite_send, writes_mappings, Fall, after_plain, is_failed_path, goes, fall_step, Stay, SendFail, heard_reply, Address, Side, A}
 use Rattle.world_laws.proofs.Words.{B, ControlCall, ControlReply, Notice, sole_path, with_phase, Control, Opening, Duty, StepDuty, AskDuty, Heard, KeyPair}
 use Rattle.world_laws.proofs.Words.{key_heard, keys_heard, Ask, Reply, books_in, SixBooks, reply_of, after_ask, is_nil, AppDuty, AppState, app_asks_first}
 use Rattle.world_laws.proofs.Words.{ask_for, ack_out_ask, waiting_path, PathState, end_at, asks_of, asks_first, Carried, values, reset_of, break_ask, is_joined}
@@ -165,7 +165,7 @@ gone_stays_out Mode.Starting is = absurd (false≢true is)
 gone_stays_out Mode.Sure is = absurd (false≢true is)
 gone_stays_out _ is = (refl, refl)
 
-receiving_gone : (m : Mode) → is_gone (receiving m) ≡ true
+receiving_gone : (m : Mode) → is_gone (with_infinite_receive m) ≡ true
 receiving_gone = elim [ Mode.Starting ↦ refl | _ ↦ refl ]
 
 -- what an event makes of a fall: it is gone, or sure as before, or it starts and a sign of B came; and the verdict tells the mode
@@ -200,9 +200,9 @@ infinite_turned : (sign : Bool) (path : ℕ) (sole : Bool) (f : Fall) → Turned
 infinite_turned sign path sole f =
     let falls : Bool = writes_mappings f.mode && not f.joined && is_none f.failed in
     let last : Fall × Verdict = if falls then goes Mode.Identity f else breaks 1 f in
-    let rest : Fall × Verdict = if sole && is_failed_path f.failed path then goes (receiving f.mode) f else last in
+    let rest : Fall × Verdict = if sole && is_failed_path f.failed path then goes (with_infinite_receive f.mode) f else last in
     turned_if sign f (not (reads_mappings f.mode)) (stays f) rest (λ is. stays_turned sign f)
-    (λ reads. turned_if sign f (sole && is_failed_path f.failed path) (goes (receiving f.mode) f) last (λ is. goes_turned sign (receiving f.mode) f (receiving_gone f.mode))
+    (λ reads. turned_if sign f (sole && is_failed_path f.failed path) (goes (with_infinite_receive f.mode) f) last (λ is. goes_turned sign (with_infinite_receive f.mode) f (receiving_gone f.mode))
     (λ isnt. turned_if sign f falls (goes Mode.Identity f) (breaks 1 f) (λ is. goes_turned sign Mode.Identity f refl) (λ other. breaks_turned sign 1 f)))
 
 check_turned : (sign : Bool) (path : ℕ) (sole : Bool) (f : Fall) → Turned sign f (fall_step f path sole FallEvent.CheckFailed)
@@ -211,13 +211,13 @@ check_turned sign path sole f =
     turned_if sign f (not (reads_mappings f.mode)) (stays f) (if sole then noted else breaks 6 f) (λ is. stays_turned sign f)
     (λ reads. turned_if sign f sole noted (breaks 6 f) (λ is. record { gone = λ gone. gone; sure = λ sure. inl sure; told = tt }) (λ isnt. breaks_turned sign 6 f))
 
-sending_gone : (m : Mode) → is_gone (sending m) ≡ true
+sending_gone : (m : Mode) → is_gone (with_infinite_send m) ≡ true
 sending_gone = elim [ Mode.Starting ↦ refl | _ ↦ refl ]
 
 fail_turned : (sign : Bool) (path : ℕ) (sole contiguous : Bool) (f : Fall) → Turned sign f (fall_step f path sole (FallEvent.FailHeard contiguous))
 fail_turned sign path sole contiguous f =
-    turned_if sign f (not (writes_mappings f.mode)) (stays f) (if sole && contiguous then goes (sending f.mode) f else breaks 1 f) (λ is. stays_turned sign f)
-    (λ writes. turned_if sign f (sole && contiguous) (goes (sending f.mode) f) (breaks 1 f) (λ is. goes_turned sign (sending f.mode) f (sending_gone f.mode)) (λ isnt. breaks_turned sign 1 f))
+    turned_if sign f (not (writes_mappings f.mode)) (stays f) (if sole && contiguous then goes (with_infinite_send f.mode) f else breaks 1 f) (λ is. stays_turned sign f)
+    (λ writes. turned_if sign f (sole && contiguous) (goes (with_infinite_send f.mode) f) (breaks 1 f) (λ is. goes_turned sign (with_infinite_send f.mode) f (sending_gone f.mode)) (λ isnt. breaks_turned sign 1 f))
 
 event_turned : (path : ℕ) (sole : Bool) (event : FallEvent) (f : Fall) → IsSign event → Turned (is_sign event) f (fall_step f path sole event)
 event_turned path sole FallEvent.MappingHeard f is = sign_turned f

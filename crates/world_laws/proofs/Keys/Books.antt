@@ -1,7 +1,7 @@
 -- What the calls that a path makes do to the keys of a control book, and what it answers.
 use Rattle.world_laws.proofs.Words.{◌≡◌, refl, sym, ◌∙◌, ap, subst, ℕ, ◌&&◌, ◌||◌, ◌==◌, not, Bool, true, false, if◌then◌else◌, Option, Some, None, is_none}
 use Rattle.world_laws.proofs.Words.{is_some, eq-eqb, both_ways, false≢true, IfSome, Verdict, Mode, FallEvent, is_identity, is_starting, reads_mappings}
-use Rattle.world_laws.proofs.Words.{receiving, sending, writes_mappings, Fall, after_sure_sign, after_plain, after_failed_check, after_fail, is_failed_path}
+use Rattle.world_laws.proofs.Words.{with_infinite_receive, with_infinite_send, writes_mappings, Fall, after_sure_sign, after_plain, after_failed_check, after_fail, is_failed_path}
 use Rattle.world_laws.proofs.Words.{goes, fall_step, SendFail, lowest, address_of, heard_reply, Address, token_of, Side, peer, ControlCall, ControlReply}
 use Rattle.world_laws.proofs.Words.{Notice, lowest_living, sole_path, with_phase, Control, withdrawals_on, peer_or_zero, is_path, Opening, Ask, Reply, begins}
 use Rattle.world_laws.proofs.Words.{tells_bad_address, tells_wrong_join, tells_other_key, if_so}
@@ -60,7 +60,7 @@ plain_confirms f = elim (is_starting f.mode && not f.joined) as (λ b. (if b the
 infinite_confirms : (path : ℕ) (sole : Bool) (f : Fall) → (after_infinite path sole f).0.confirmed ≡ f.confirmed
 infinite_confirms path sole f = by (not (reads_mappings f.mode)) (sole && is_failed_path f.failed path) (writes_mappings f.mode && not f.joined && is_none f.failed)
   where
-    by : (a b c : Bool) → (if a then stays f else (if b then goes (receiving f.mode) f else (if c then goes Mode.Identity f else breaks 1 f))).0.confirmed ≡ f.confirmed
+    by : (a b c : Bool) → (if a then stays f else (if b then goes (with_infinite_receive f.mode) f else (if c then goes Mode.Identity f else breaks 1 f))).0.confirmed ≡ f.confirmed
     by true b c = refl
     by false true c = refl
     by false false true = refl
@@ -77,7 +77,7 @@ check_confirms path sole f = by (not (reads_mappings f.mode)) sole
 fail_confirms : (sole contiguous : Bool) (f : Fall) → (after_fail sole contiguous f).0.confirmed ≡ f.confirmed
 fail_confirms sole contiguous f = by (not (writes_mappings f.mode)) (sole && contiguous)
   where
-    by : (a b : Bool) → (if a then stays f else (if b then goes (sending f.mode) f else breaks 1 f)).0.confirmed ≡ f.confirmed
+    by : (a b : Bool) → (if a then stays f else (if b then goes (with_infinite_send f.mode) f else breaks 1 f)).0.confirmed ≡ f.confirmed
     by true b = refl
     by false true = refl
     by false false = refl

@@ -7,7 +7,7 @@ use Rattle.world_laws.proofs.Words.{may_finish, is_waiting, EndPhase, after_syn,
 use Rattle.world_laws.proofs.Words.{is_altered, PlainOption, PlainSegment, Capable, Join, Dss, AddAddr, Fail, Duty, OwnNotice, Heard, KeyPair}
 use Rattle.world_laws.proofs.Words.{replaced, key_heard, keys_heard, is_of_step, join_heard, PeerNotice, JoinStep, Reply, PathEnd, died, modes_told, PathState}
 use Rattle.world_laws.proofs.Words.{end_at, goes_on, with_end, with_agenda, left, Carried, as_arrived, carried_by, stripped, altered, values, died_unless_dead}
-use Rattle.world_laws.proofs.Words.{is_listening, joined_by, opened_by, syn_alone, with_mode_refused, is_joined, join_answer, join_asked, peer_key_of}
+use Rattle.world_laws.proofs.Words.{is_listening, joined_by, opened_by, syn_of_window, with_mode_refused, is_joined, join_answer, join_asked, peer_key_of}
 use Rattle.world_laws.proofs.Words.{join_value, after_fell, fell_in, mode_in, after_keys, keys_in, Profile, sent_on, Modes, Every-nil, Every, if_so, handed}
 use Rattle.mptcp_options.specs.declared.join.JoinForm.TheVariants.{Syn as JoinSyn}
 use Rattle.path_segments.specs.declared.segment.PathOption.TheVariants.{FastClose}
@@ -511,7 +511,7 @@ module _ (k : Secrets) (right : Bool) (w : Side → Type 0) (did : Deed → Side
 
   pub joined_waits : (keys : KeyPair) (asked : Asked) (e : PathEnd) → is_waiting (joined_by keys asked e).tcp.state ≡ true → is_waiting e.tcp.state ≡ true
   joined_waits keys asked e =
-      elim (is_listening e.tcp.state) as (λ b. is_waiting (if b then after_syn (unkept None) (syn_alone e.treated.window) e.tcp else e.tcp).state ≡ true → is_waiting e.tcp.state ≡ true)
+      elim (is_listening e.tcp.state) as (λ b. is_waiting (if b then after_syn (unkept None) (syn_of_window e.treated.window) e.tcp else e.tcp).state ≡ true → is_waiting e.tcp.state ≡ true)
       [ true ↦ λ waiting. absurd (false≢true waiting) | false ↦ λ waiting. waiting ]
 
 -- ---- the more sides joined

@@ -11,7 +11,7 @@ use Rattle.world_laws.proofs.Words.{SendDuty, StepDuty, AskDuty, SilentDuty, Hea
 use Rattle.world_laws.proofs.Words.{modes_told, at_tick, PathState, end_at, goes_on, with_end, with_agenda, path_of, settled, Carried, values, hint_of}
 use Rattle.world_laws.proofs.Words.{items_of, owes_by, options_heard, after_judged, asked_in, copy_judged, copy_of, judged_in, reset_for, template_of, heard_in}
 use Rattle.world_laws.proofs.Words.{copy_heard, heard_at, Judged, step_for, after_line, happens_if, join_begun, never_joined, is_never, keys_begun, opened_by}
-use Rattle.world_laws.proofs.Words.{is_joined, mode_refused, after_timer, template_fired, timer_fired, mapping_here, forgotten_by, after_keep}
+use Rattle.world_laws.proofs.Words.{is_joined, mode_refused, with_timer_settled, template_fired, timer_fired, mapping_here, forgotten_by, after_keep}
 use Rattle.world_laws.proofs.Words.{after_pieces, is_dropped, after_check, after_pass_fin, with_learned, with_data_fin, with_skipped, held_of, HeardOption}
 use Rattle.world_laws.proofs.Words.{after_dss, with_data_ack, item_of, item_passed, with_plain_ack, fell_in, mode_in, with_priority, sent_on, taken_as, Modes}
 use Rattle.world_laws.proofs.Falls.FailedChecks.{forgets_so}
@@ -168,7 +168,7 @@ module _ (T : Type 0) where
   put_met B e ds p g h = record { first = h.first; calm = h.calm; met = h.met; signed = h.signed; mode = h.mode }
 
   passed_met : (d : Duty) (ds : List Duty) (p : PathState Carried) → CalmMet (with_agenda ds p) → CalmMet (with_agenda ds (passed d p))
-  passed_met (Duty.Silent (SilentDuty.Timer s)) ds p h = put_met s (after_timer p.clock (end_at s p)) ds p (same_goes s (after_timer p.clock (end_at s p)) p refl refl) h
+  passed_met (Duty.Silent (SilentDuty.Timer s)) ds p h = put_met s (with_timer_settled p.clock (end_at s p)) ds p (same_goes s (with_timer_settled p.clock (end_at s p)) p refl refl) h
   passed_met (Duty.Step (StepDuty.Heard s index)) ds p h = put_met s (item_passed s (item_of index (end_at s p)) (end_at s p)) ds p (item_goes s (item_of index (end_at s p)) p) h
   passed_met (Duty.Silent (SilentDuty.Keep s)) ds p h = put_met s (after_keep s (end_at s p)) ds p (keep_goes s (is_dropped s (end_at s p)) _ p) h
   passed_met (Duty.Step (StepDuty.PlainAck s)) ds p h = put_met s (with_plain_ack (end_at s p)) ds p (same_goes s (with_plain_ack (end_at s p)) p refl refl) h

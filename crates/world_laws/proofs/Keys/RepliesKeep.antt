@@ -7,7 +7,7 @@ use Rattle.world_laws.proofs.Words.{keys_heard, Ask, Reply, tail_of, ask_for, an
 use Rattle.world_laws.proofs.Words.{end_at, goes_on, with_agenda, left, path_of, settled, answers, asks_of, asks_first, takes, begins_turn, Carried, values}
 use Rattle.world_laws.proofs.Words.{reset_of, reset_on, answered_break, refusal_of, break_ask, answered_data, answered_grant, first_unsent, grant_in}
 use Rattle.world_laws.proofs.Words.{answer_occasion, answer_of, dead_answer, resend_occasion, resend_of, next_event, asked_at, is_listening, join_taken}
-use Rattle.world_laws.proofs.Words.{joined_by, keys_begun, syn_alone, with_mode_refused, join_heard_ask, piece_of, is_placed, answered_piece, fin_segment_of}
+use Rattle.world_laws.proofs.Words.{joined_by, keys_begun, syn_of_window, with_mode_refused, join_heard_ask, piece_of, is_placed, answered_piece, fin_segment_of}
 use Rattle.world_laws.proofs.Words.{having_sent_fin, answered_plain_fin, answered_fin_heard, is_fin_set, is_clash, with_learned, with_data_fin, with_acked}
 use Rattle.world_laws.proofs.Words.{heard_ask, item_ask, answered_heard, answered_item, item_of, fell_ask, after_fell, fell_duties, plain_ack_ask}
 use Rattle.world_laws.proofs.Words.{answered_plain_ack, with_plain_ack, breaks_by_ack, may_go_infinite, book_answered, answered_fell, with_infinite, fell_in}
@@ -198,7 +198,7 @@ module _ (T : Type 0) where
       listening EndPhase.Waiting is = absurd (false≢true is)
       listening _ is = absurd (false≢true is)
 
-      listens : (b : Bool) → is_listening p.a.tcp.state ≡ b → is_met (if b then after_syn (unkept None) (syn_alone p.a.treated.window) p.a.tcp else p.a.tcp).state ≡ true → is_met p.a.tcp.state ≡ true
+      listens : (b : Bool) → is_listening p.a.tcp.state ≡ b → is_met (if b then after_syn (unkept None) (syn_of_window p.a.treated.window) p.a.tcp else p.a.tcp).state ≡ true → is_met p.a.tcp.state ≡ true
       listens = elim [ true ↦ λ is met. listening p.a.tcp.state is | false ↦ λ is met. met ]
   joined_met B (Some keys) (Some asked) r p gains h =
       goes_met T B (joined_by keys asked p.b) (replaced (Duty.Send (SendDuty.SynAck B)) p.agenda) p tt (other_fewer (Duty.Send (SendDuty.SynAck B)) p.agenda refl refl) h

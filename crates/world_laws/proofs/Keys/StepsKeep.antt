@@ -12,7 +12,7 @@ use Rattle.world_laws.proofs.Words.{asks_of, asks_first, takes, begins_turn, Fir
 use Rattle.world_laws.proofs.Words.{path_died, refusal_of, break_ask, answered_data, answered_grant, data_stands, first_unsent, grant_in, answer_occasion}
 use Rattle.world_laws.proofs.Words.{answer_of, resend_occasion, resend_of, first_record, fits, next_event, step_for, after_line, happens_if, join_begun}
 use Rattle.world_laws.proofs.Words.{never_joined, asked_at, is_never, join_taken, joined_by, keys_begun, opened_by, with_mode_refused, is_joined}
-use Rattle.world_laws.proofs.Words.{join_heard_ask, after_timer, template_fired, timer_fired, mapping_here, piece_of, is_placed, answered_piece}
+use Rattle.world_laws.proofs.Words.{join_heard_ask, with_timer_settled, template_fired, timer_fired, mapping_here, piece_of, is_placed, answered_piece}
 use Rattle.world_laws.proofs.Words.{after_pieces, is_dropped, is_data_fin_owed, fin_segment_of, having_sent_fin, answered_plain_fin}
 use Rattle.world_laws.proofs.Words.{answered_fin_heard, is_fin_set, after_pass_fin, is_clash, with_learned, with_data_fin, with_skipped, counts, with_acked}
 use Rattle.world_laws.proofs.Words.{after_dss, with_data_ack, heard_ask, item_ask, answered_heard, answered_item, item_of, item_passed, answered_check_failed}
@@ -130,7 +130,7 @@ module _ (k : Secrets) (right : Bool) (w : Side → Type 0) (did : Deed → Side
 
   passed_is : (d : Duty) (p : PathState Carried) → PathIs k right w did p → PathIs k right w did (passed d p)
   passed_is (Duty.Silent (SilentDuty.Timer s)) p h =
-      with_is k right w did s (after_timer p.clock (end_at s p)) p (kept_end k right w did (is_joined p.profile) s (end_at s p) (after_timer p.clock (end_at s p)) refl refl (timer_up p.clock (end_at s p)) (end_is k right w did s p h)) (λ is. is) (λ is has. has) h
+      with_is k right w did s (with_timer_settled p.clock (end_at s p)) p (kept_end k right w did (is_joined p.profile) s (end_at s p) (with_timer_settled p.clock (end_at s p)) refl refl (timer_up p.clock (end_at s p)) (end_is k right w did s p h)) (λ is. is) (λ is has. has) h
   passed_is (Duty.Step (StepDuty.Heard s index)) p h =
       with_is k right w did s _ p
       (passed_item (is_joined p.profile) s (item_of index (end_at s p)) (end_at s p) (item_found (is_joined p.profile) s index (end_at s p) (end_is k right w did s p h).items) (end_is k right w did s p h))
@@ -177,7 +177,7 @@ module _ (k : Secrets) (right : Bool) (w : Side → Type 0) (did : Deed → Side
       kept_known s false held = with_known s (record (end_at s p) { tcp = after_keeping_held (end_at s p).tcp; treated = record (end_at s p).treated { held_edge = held } }) (λ is has. has)
 
       by : (d : Duty) → AreKnown k right w did (passed d p) ds
-      by (Duty.Silent (SilentDuty.Timer s)) = with_known s (after_timer p.clock (end_at s p)) (λ is has. has)
+      by (Duty.Silent (SilentDuty.Timer s)) = with_known s (with_timer_settled p.clock (end_at s p)) (λ is has. has)
       by (Duty.Step (StepDuty.Heard s index)) = with_known s (item_passed s (item_of index (end_at s p)) (end_at s p)) (λ is has. passed_stays s s (item_of index (end_at s p)) (end_at s p) has)
       by (Duty.Silent (SilentDuty.Keep s)) = kept_known s (is_dropped s (end_at s p)) _
       by (Duty.Step (StepDuty.PlainAck s)) = with_known s (with_plain_ack (end_at s p)) (λ is has. same_knows k right w did s (end_at s p).modes (with_plain_ack (end_at s p)).modes refl has)

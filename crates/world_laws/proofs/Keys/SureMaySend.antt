@@ -1,13 +1,13 @@
 -- A's side is sure of Multipath TCP only where A may send a DSS on path 0; so no other path begins before.
 use Rattle.world_laws.proofs.Words.{◌≡◌, refl, sym, ◌∙◌, ap, subst, ℕ, zero, suc, ◌+◌, ◌&&◌, ◌==◌, not, inl, inr, ◌⊎◌, ⊎_elim, Bool, true, false, if◌then◌else◌}
 use Rattle.world_laws.proofs.Words.{Option, Some, None, List, [], ◌∷◌, map, arith, is_none, set, and_parts, both_ways, false≢true, slice_get, list_all, Verdict}
-use Rattle.world_laws.proofs.Words.{Mode, FallEvent, is_identity, is_starting, reads_mappings, receiving, sending, writes_mappings, Fall, is_failed_path, goes}
+use Rattle.world_laws.proofs.Words.{Mode, FallEvent, is_identity, is_starting, reads_mappings, with_infinite_receive, with_infinite_send, writes_mappings, Fall, is_failed_path, goes}
 use Rattle.world_laws.proofs.Words.{fall_step, fall_keys, fall_plain, Stay, SendFail, Side, A, B, JoinSyn, ControlCall, Notice, sole_path, Control, is_sure}
 use Rattle.world_laws.proofs.Words.{ReassemblyCall, Record, Pending, Piece, start_of_turn, Duty, SendDuty, StepDuty, AskDuty, SilentDuty, Heard, KeyPair}
 use Rattle.world_laws.proofs.Words.{key_heard, keys_heard, PeerNotice, Ask, books_in, SixBooks, reply_of, after_ask, AppDuty, AppState, app_ask, stands}
 use Rattle.world_laws.proofs.Words.{ask_for, passed, waiting_path, PathState, end_at, with_agenda, path_of, settled, answers, asks_first, IsSettled, Carried}
 use Rattle.world_laws.proofs.Words.{values, reset_of, break_ask, first_unsent, data_ask, next_event, step_for, asked_at, join_heard_ask, piece_of, piece_ask}
-use Rattle.world_laws.proofs.Words.{plain_fin, data_fin_of, fin_ask, is_clash, mapping_ask, item_ask, item_of, fell_ask, plain_ack_ask, breaks_by_ack}
+use Rattle.world_laws.proofs.Words.{place_of_fin, data_fin_of, fin_ask, is_clash, mapping_ask, item_ask, item_of, fell_ask, plain_ack_ask, breaks_by_ack}
 use Rattle.world_laws.proofs.Words.{peer_key_ask, opened_ask, notice_ask, sends, rate_ask, item_at, in_map, in_set, Every, ActorCrew, Always, PathPlan, Start}
 use Rattle.world_laws.proofs.Words.{path_begins, opened_world, greatest, world_run, if_so}
 use Rattle.fallback_state.specs.Table.{stays, breaks}
@@ -63,10 +63,10 @@ WasSure f g = is_sure g.mode ≡ true → is_sure f.mode ≡ true
 row_sure : (b : Bool) (f : Fall) (x y : Fall × Verdict) → WasSure f x.0 → WasSure f y.0 → WasSure f (if b then x else y).0
 row_sure = elim [ true ↦ λ f x y p q. p | false ↦ λ f x y p q. q ]
 
-receiving_unsure : (m : Mode) → is_sure (receiving m) ≡ true → ⊥
+receiving_unsure : (m : Mode) → is_sure (with_infinite_receive m) ≡ true → ⊥
 receiving_unsure = elim [ Mode.Starting ↦ λ is. false≢true is | _ ↦ λ is. false≢true is ]
 
-sending_unsure : (m : Mode) → is_sure (sending m) ≡ true → ⊥
+sending_unsure : (m : Mode) → is_sure (with_infinite_send m) ≡ true → ⊥
 sending_unsure = elim [ Mode.Starting ↦ λ is. false≢true is | _ ↦ λ is. false≢true is ]
 
 plain_sure : (f : Fall) → WasSure f (fall_plain f).0
@@ -80,13 +80,13 @@ event_sure path sole FallEvent.PlainData f mild = plain_sure f
 event_sure path sole FallEvent.PlainAck f mild = plain_sure f
 event_sure path sole FallEvent.InfiniteHeard f mild =
     row_sure (not (reads_mappings f.mode)) f (stays f) _ (λ is. is)
-    (row_sure (sole && is_failed_path f.failed path) f (goes (receiving f.mode) f) _ (λ is. absurd (receiving_unsure f.mode is))
+    (row_sure (sole && is_failed_path f.failed path) f (goes (with_infinite_receive f.mode) f) _ (λ is. absurd (receiving_unsure f.mode is))
     (row_sure (writes_mappings f.mode && not f.joined && is_none f.failed) f (goes Mode.Identity f) (breaks 1 f) (λ is. absurd (false≢true is)) (λ is. is)))
 event_sure path sole FallEvent.KeysHeard f mild = row_sure (is_identity f.mode) f (stays f) (record f { confirmed = true }, Stay) (λ is. is) (λ is. is)
 event_sure path sole FallEvent.CheckFailed f mild =
     row_sure (not (reads_mappings f.mode)) f (stays f) _ (λ is. is) (row_sure sole f (record f { failed = Some path }, SendFail) (breaks 6 f) (λ is. is) (λ is. is))
 event_sure path sole (FallEvent.FailHeard contiguous) f mild =
-    row_sure (not (writes_mappings f.mode)) f (stays f) _ (λ is. is) (row_sure (sole && contiguous) f (goes (sending f.mode) f) (breaks 1 f) (λ is. absurd (sending_unsure f.mode is)) (λ is. is))
+    row_sure (not (writes_mappings f.mode)) f (stays f) _ (λ is. is) (row_sure (sole && contiguous) f (goes (with_infinite_send f.mode) f) (breaks 1 f) (λ is. absurd (sending_unsure f.mode is)) (λ is. is))
 event_sure path sole FallEvent.Stop f mild = λ is. absurd (false≢true is)
 
 abbrev pub IsNoEvent : ControlCall → Type 0
@@ -215,7 +215,7 @@ module _ (p : PathState Carried) where
   first_mild (Duty.Step (StepDuty.PlainAck s)) ds h unclear = plain_ack_mild s
   first_mild (Duty.Ask (AskDuty.SubflowAck s)) ds h unclear = subflow_acks_so IsMild s (end_at s p) tt (λ next. tt)
   first_mild (Duty.Step (StepDuty.Unmapped s)) ds h unclear = break_mild s 6
-  first_mild (Duty.Ask (AskDuty.SubflowFin s)) ds h unclear = fin_mild s (plain_fin (end_at s p))
+  first_mild (Duty.Ask (AskDuty.SubflowFin s)) ds h unclear = fin_mild s (place_of_fin (end_at s p))
   first_mild (Duty.Ask (AskDuty.Edge s)) ds h unclear = piece_mild s (piece_of s p)
   first_mild (Duty.Ask (AskDuty.HeardFin s index)) ds h unclear = fin_mild s (data_fin_of index (end_at s p))
   first_mild (Duty.Ask (AskDuty.Rate s)) ds h unclear = rate_mild s (end_at s p).tcp.congestion.pending

@@ -6,7 +6,7 @@ use Rattle.world_laws.proofs.Words.{peer_or_zero, Opening, ReassemblyCall, Recor
 use Rattle.world_laws.proofs.Words.{StepDuty, AskDuty, SilentDuty, Heard, KeyPair, key_heard, keys_heard, PeerNotice, Ask, Reply, books_in, SixBooks, reply_of}
 use Rattle.world_laws.proofs.Words.{after_ask, LocalStep, AppDuty, AppState, app_ask, app_asks_first, ask_for, waiting_path, first_turn, PathState, end_at}
 use Rattle.world_laws.proofs.Words.{with_agenda, answers, asks_of, asks_first, takes, next_round, IsSettled, Carried, values, reset_of, break_ask, first_unsent}
-use Rattle.world_laws.proofs.Words.{data_ask, next_event, step_for, asked_at, keys_begun, is_joined, join_heard_ask, piece_of, piece_ask, plain_fin}
+use Rattle.world_laws.proofs.Words.{data_ask, next_event, step_for, asked_at, keys_begun, is_joined, join_heard_ask, piece_of, piece_ask, place_of_fin}
 use Rattle.world_laws.proofs.Words.{data_fin_of, fin_ask, is_clash, mapping_ask, item_ask, item_of, fell_ask, plain_ack_ask, breaks_by_ack, is_fall}
 use Rattle.world_laws.proofs.Words.{peer_key_ask, opened_ask, is_stopped_by, notice_ask, sends, rate_ask, in_map, Every-nil, in_set, Every, App, Path, Actor}
 use Rattle.world_laws.proofs.Words.{member_asks, member_takes, member_next, Always, PathPlan, Start, path_begins, opened_world, WorldState, Turn}
@@ -102,7 +102,7 @@ module _ (k : Secrets) (right : Bool) (w : Side → Type 0) (did : Deed → Side
   asks_are (Duty.Step (StepDuty.PlainAck s)) said = plain_ack_is s
   asks_are (Duty.Ask (AskDuty.SubflowAck s)) said = subflow_acks_so (AskIs k right w did) s (end_at s p) tt (λ next. tt)
   asks_are (Duty.Step (StepDuty.Unmapped s)) said = break_is s 6
-  asks_are (Duty.Ask (AskDuty.SubflowFin s)) said = fin_is s (plain_fin (end_at s p))
+  asks_are (Duty.Ask (AskDuty.SubflowFin s)) said = fin_is s (place_of_fin (end_at s p))
   asks_are (Duty.Ask (AskDuty.Edge s)) said = piece_is s (piece_of s p)
   asks_are (Duty.Ask (AskDuty.HeardFin s index)) said = fin_is s (data_fin_of index (end_at s p))
   asks_are (Duty.Ask (AskDuty.Rate s)) said = rate_is s (end_at s p).tcp.congestion.pending

@@ -12,7 +12,7 @@ use Rattle.world_laws.proofs.Words.{Occasion, is_fin_acked, after_ack_kind, afte
 use Rattle.world_laws.proofs.Words.{after_payload, after_hearing, after_established, after_taken, after_syn_ack, after_arrival, is_fin_next, after_passing_fin}
 use Rattle.world_laws.proofs.Words.{after_finishing, is_syn_alone, meaning_at, meaning_of, Copy, Hint, next_due, Due, LineLeft, heard_and, payload_came}
 use Rattle.world_laws.proofs.Words.{copy_came, Duty, SendDuty, StepDuty, AskDuty, Heard, replaced, tail_of, PathEnd, PathState, end_at, owing_if, with_payload}
-use Rattle.world_laws.proofs.Words.{Judged, tick_of, next_join, next_line, next_copy, earlier, next_event, earliest, join_answer, join_asked, after_timer}
+use Rattle.world_laws.proofs.Words.{Judged, tick_of, next_join, next_line, next_copy, earlier, next_event, earliest, join_answer, join_asked, with_timer_settled}
 use Rattle.world_laws.proofs.Words.{next_fire, is_forged, is_passed_over, join_judged, taken_as, judged_of, if_so}
 use Rattle.std.proofs.Common.{IsSome}
 use Rattle.loss_recovery.specs.Timers.{timer_settled}
@@ -70,7 +70,7 @@ timed_is_up s timed = by (is_closed_to_segments s.state) s.timing.timer timed
     by true None is = absurd (false≢true is)
 
 -- the timer is settled where the end is open
-pub timer_up : (now : ℕ) (e : PathEnd) → NoWaking e.tcp (after_timer now e).tcp
+pub timer_up : (now : ℕ) (e : PathEnd) → NoWaking e.tcp (with_timer_settled now e).tcp
 timer_up now e = record { up = by (is_closed_to_segments e.tcp.state) _; waits = λ is. is; past = λ is. is }
   where
     by : (b on : Bool) → not b || is_some (timer_settled (not b && on) e.sending.news now e.tcp.timing) ≡ true → not b || is_some e.tcp.timing.timer ≡ true

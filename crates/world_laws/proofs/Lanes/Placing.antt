@@ -14,7 +14,7 @@ use Rattle.world_laws.proofs.Words.{length-drop, length-map, append-nil, same_So
 use Rattle.world_laws.proofs.Words.{Mappings, run_of, mapping_at, after_learn, others_of, learn_of, learned_if, after_skip_held, covers, Receiving, after_pass}
 use Rattle.world_laws.proofs.Words.{EndState, is_fin_next, after_passing_fin, is_at, Piece, count_in, some_piece, InfiniteMapping, data_fin_behind, PathEnd}
 use Rattle.world_laws.proofs.Words.{having_asked, piece_in, checked_piece, piece_by, next_piece, after_piece, plain_piece, infinite_piece, piece_at, is_wrong}
-use Rattle.world_laws.proofs.Words.{failing_by, mapping_here, plain_fin, after_pass_fin, place_passed, with_learned, with_skipped, receives_plainly, fin_place}
+use Rattle.world_laws.proofs.Words.{failing_by, mapping_here, place_of_fin, after_pass_fin, place_passed, with_learned, with_skipped, receives_plainly, fin_place}
 use Rattle.world_laws.proofs.Words.{Profile, Every-map, Every-push, Has-more, Every, From, IsFin, IsRight, LaneHolds, Came, IsByteOf, Cell, Mapping, Lane, View}
 use Rattle.world_laws.proofs.Words.{passes, ack_copy, takes_placed, bytes_of, sub_next, are_same, Nothing, AskPlace, AskFin, copy_clashes}
 use Rattle.std.proofs.Common.{true≢false}
@@ -656,7 +656,7 @@ module _ (c : Profile) (s : Side) (out back : Lane) where
   -- ---- the FIN as the end of the stream
 
   -- where the peer sends without mappings, its FIN that was passed is asked for as the end
-  pub plain_fin_came : (v : View) (path : ℕ) (e : PathEnd) (place : ℕ) → LaneHolds v path back → EndShows c s e out back → plain_fin e ≡ Some place → Strolls back (record back { asking = AskFin place })
+  pub plain_fin_came : (v : View) (path : ℕ) (e : PathEnd) (place : ℕ) → LaneHolds v path back → EndShows c s e out back → place_of_fin e ≡ Some place → Strolls back (record back { asking = AskFin place })
   plain_fin_came v path e place holds h is = (elim e.receiving.fin_told as (λ b. (if b then None else place_passed e.modes e.tcp.fin_at e.tcp.recv.edge) ≡ Some place → Wants)
       [ true ↦ λ is. cc | false ↦ λ is. passed e.tcp.fin_at refl h.receiver.fin is ]) is
     where

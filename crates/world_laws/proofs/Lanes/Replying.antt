@@ -6,7 +6,7 @@ use Rattle.world_laws.proofs.Words.{grant_reply, AckIn, GoInfiniteBook, GoIdenti
 use Rattle.world_laws.proofs.Words.{Duty, Heard, KeyPair, PeerNotice, Ask, Reply, SixBooks, send_of, reply_of, after_ask, pick, LocalStep, PathEnd, PathState}
 use Rattle.world_laws.proofs.Words.{end_at, goes_on, with_agenda, left, path_of, Carried, values, answered_break, break_ask, answered_grant, grant_in, granted}
 use Rattle.world_laws.proofs.Words.{refused, having_asked, after_piece, failing_by, mapping_here, piece_of, is_placed, answered_piece, piece_ask}
-use Rattle.world_laws.proofs.Words.{with_peer_data_fin, plain_fin, with_fin_told, answered_plain_fin, data_fin_of, fin_ask, answered_fin_heard, is_fin_set}
+use Rattle.world_laws.proofs.Words.{with_peer_data_fin, place_of_fin, with_fin_told, answered_plain_fin, data_fin_of, fin_ask, answered_fin_heard, is_fin_set}
 use Rattle.world_laws.proofs.Words.{acked_in, is_clash, with_learned, with_data_fin, with_acked, mapping_ask, answered_mapping, answered_ack, heard_ask}
 use Rattle.world_laws.proofs.Words.{item_ask, answered_heard, answered_item, item_of, item_stands, check_failed_ask, with_failure, after_check_failed}
 use Rattle.world_laws.proofs.Words.{answered_check_failed, is_infinite_receive, receiving_infinite, answered_infinite, fell_ask, subflow_ack_stands, after_fell}
@@ -377,7 +377,7 @@ module _ (six : SixBooks) (others : Others) (p : PathState Carried) (ab ba : Lan
     fin_heard_step index = fin_by (data_fin_of index e) (every_item index e.treated.fins shows.treated.fins)
 
     -- without mappings the FIN stands for it
-    pub plain_fin_step : (o : Option ℕ) → plain_fin e ≡ o → Makes (fin_ask s o) (answered_plain_fin s (is_fin_set (reply_of six (fin_ask s o))) p)
+    pub plain_fin_step : (o : Option ℕ) → place_of_fin e ≡ o → Makes (fin_ask s o) (answered_plain_fin s (is_fin_set (reply_of six (fin_ask s o))) p)
     plain_fin_step None is = end_step six others p ab ba h ready s (Ask.Local LocalStep.End) (having_asked e) (breaks s 1) tt (asked_shows p.profile s out back e shows)
     plain_fin_step (Some place) is =
         fin_side p.profile six others place s p _ ab ba h

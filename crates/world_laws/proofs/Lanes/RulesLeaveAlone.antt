@@ -2,7 +2,7 @@
 use Rattle.world_laws.proofs.Words.{◌≡◌, refl, sym, ◌∙◌, ap, subst, ℕ, ◌-◌, inl, inr, ◌⊎◌, Bool, true, false, if◌then◌else◌, Option, Some, None, List, []}
 use Rattle.world_laws.proofs.Words.{arith, both_ways, false≢true, IfSome, Verdict, Side, JoinSyn, ControlReply, KeptMapping, after_forget_from, without_held}
 use Rattle.world_laws.proofs.Words.{after_keep_held, Pending, is_behind, EndPhase, after_begin, KeyPair, Reply, PathEnd, died, Notices, no_notices, after_look}
-use Rattle.world_laws.proofs.Words.{modes_told, notices_told, died_unless_dead, is_listening, joined_by, opened_by, syn_alone, with_mode_refused, after_timer}
+use Rattle.world_laws.proofs.Words.{modes_told, notices_told, died_unless_dead, is_listening, joined_by, opened_by, syn_of_window, with_mode_refused, with_timer_settled}
 use Rattle.world_laws.proofs.Words.{after_firing, having_asked, is_wrong, forgotten_by, after_keep, after_pieces, is_dropped, is_not_kept, with_peer_data_fin}
 use Rattle.world_laws.proofs.Words.{with_fin_told, after_dss, covered_by, with_failure, after_fell, with_plain_ack, fell_in, mode_in, after_keys, with_peer_key}
 use Rattle.world_laws.proofs.Words.{keys_in, Profile, after_rate, Modes, Treated, nothing_treated, Every-nil, Has-map, Every, AckCopy, Lane, if_so}
@@ -130,7 +130,7 @@ module _ (c : Profile) (s : Side) (out back : Lane) where
   pub peer_end_shows : (e : PathEnd) → Shows e → Shows (with_peer_data_fin e)
   peer_end_shows e h = record { sender = h.sender; receiver = h.receiver; acks = h.acks; told = h.told; treated = h.treated; held = h.held; pairs = h.pairs }
 
-  pub timer_shows : (now : ℕ) (e : PathEnd) → Shows e → Shows (after_timer now e)
+  pub timer_shows : (now : ℕ) (e : PathEnd) → Shows e → Shows (with_timer_settled now e)
   timer_shows now e h = record { sender = h.sender; receiver = h.receiver; acks = h.acks; told = h.told; treated = h.treated; held = h.held; pairs = h.pairs }
 
   pub rate_shows : (path mss : ℕ) (r : Reply) (e : PathEnd) → Shows e → Shows (after_rate path mss r e)
@@ -155,9 +155,9 @@ module _ (c : Profile) (s : Side) (out back : Lane) where
 
   -- the listening end takes the SYN
   syn_shows : (b : Bool) (window : ℕ) (e : PathEnd) → (b ≡ true → is_unfinished e.tcp.state ≡ true) → HasNone out.acks window → Shows e
-      → Shows (record e { tcp = if b then taking.after_syn (taking.unkept None) (syn_alone window) e.tcp else e.tcp })
+      → Shows (record e { tcp = if b then taking.after_syn (taking.unkept None) (syn_of_window window) e.tcp else e.tcp })
   syn_shows true window e un has h =
-      let both = syn_both c s _ _ out back (taking.unkept None) (syn_alone window) e.tcp refl refl (un refl) (record { sender = h.sender; receiver = h.receiver }) in
+      let both = syn_both c s _ _ out back (taking.unkept None) (syn_of_window window) e.tcp refl refl (un refl) (record { sender = h.sender; receiver = h.receiver }) in
       record { sender = both.sender; receiver = both.receiver; acks = h.acks; told = has; treated = h.treated; held = h.held; pairs = h.pairs }
   syn_shows false window e un has h = h
 

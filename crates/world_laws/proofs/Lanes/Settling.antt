@@ -4,7 +4,7 @@
 -- moves behind it, and rounds and the opening are the same lemma without a call (`settles` in `proofs/Lanes/Settling`).
 use Rattle.world_laws.proofs.Words.{◌≡◌, refl, ℕ, Bool, true, false, if◌then◌else◌, Option, Some, None, List, [], ◌∷◌, IfSome, Side, A, B, Duty, SendDuty}
 use Rattle.world_laws.proofs.Words.{StepDuty, AskDuty, SilentDuty, Heard, SixBooks, pick, stands, passed, PathEnd, PathState, end_at, with_end, with_agenda}
-use Rattle.world_laws.proofs.Words.{settled, Carried, after_timer, mapping_here, after_keep, after_pieces, after_check, after_pass_fin, with_learned}
+use Rattle.world_laws.proofs.Words.{settled, Carried, with_timer_settled, mapping_here, after_keep, after_pieces, after_check, after_pass_fin, with_learned}
 use Rattle.world_laws.proofs.Words.{with_data_fin, with_skipped, counts, after_dss, with_data_ack, item_of, item_passed, heard_passed, with_plain_ack, Profile}
 use Rattle.world_laws.proofs.Words.{item_at, Holds, Lane, if_so}
 use Rattle.world_laws.proofs.Lanes.Ending.{Did, did_nothing}
@@ -84,7 +84,7 @@ module _ (six : SixBooks) (others : Others) (c : Profile) where
     item_shows s index false = every_item index (end_at s p).treated.items (side_shows c s p ab ba h).treated.items
 
     pub passes : (d : Duty) → Strolled c (passed d p) ab ba
-    passes (Duty.Silent (SilentDuty.Timer s)) = same_lanes s (after_timer p.clock (end_at s p)) (timer_shows c s (pick s ab ba) (pick s ba ab) p.clock (end_at s p) (side_shows c s p ab ba h))
+    passes (Duty.Silent (SilentDuty.Timer s)) = same_lanes s (with_timer_settled p.clock (end_at s p)) (timer_shows c s (pick s ab ba) (pick s ba ab) p.clock (end_at s p) (side_shows c s p ab ba h))
     passes (Duty.Step (StepDuty.Heard s index)) =
         end_strolled s (item_passed s (item_of index (end_at s p)) (end_at s p)) (maybe_did s (item_of index (end_at s p)) (item_shows s index (end_at s p).modes.identity))
     passes (Duty.Silent (SilentDuty.Keep s)) = end_strolled s (after_keep s (end_at s p)) (keep_did c s (pick s ab ba) (pick s ba ab) (end_at s p) (side_shows c s p ab ba h))

@@ -4,7 +4,7 @@ use Rattle.world_laws.proofs.Words.{arith, is_some, ◌<◌, ◌^◌, and_parts,
 use Rattle.world_laws.proofs.Words.{SendDuty, StepDuty, AskDuty, SilentDuty, replaced, key_heard, keys_heard, Ask, Reply, SixBooks, send_of, reply_of, pick}
 use Rattle.world_laws.proofs.Words.{stands, ask_for, answered, PathEnd, died, after_look, look_ask, PathState, end_at, with_agenda, left, path_of, Carried}
 use Rattle.world_laws.proofs.Words.{values, answered_data, data_stands, first_unsent, data_ask, payload_size, next_event, step_for, asked_at, join_heard_ask}
-use Rattle.world_laws.proofs.Words.{join_begin_ask, piece_of, plain_fin, is_all_granted, answered_leave_noted, Holds, Lane, is_whole}
+use Rattle.world_laws.proofs.Words.{join_begin_ask, piece_of, place_of_fin, is_all_granted, answered_leave_noted, Holds, Lane, is_whole}
 use Rattle.fallback_state.specs.declared.fall.Event.{Event}
 use Rattle.subflow_tcp.specs.States as states
 use Rattle.world_laws.proofs.Lanes.Answering as answering
@@ -125,7 +125,7 @@ module _ (six : SixBooks) (others : Others) (p : PathState Carried) (ab ba : Lan
   duty_step (Duty.Ask (AskDuty.PlainData s)) is calm may firm opens = replying.told_fell six others p ab ba h holds ready s Event.PlainData tt
   duty_step (Duty.Ask (AskDuty.GoIdentity s)) is calm may firm opens = replying.identity_step six others p ab ba h holds ready s (plain_unless others.links s six firm may)
   duty_step (Duty.Step (StepDuty.Unmapped s)) is calm may firm opens = answering.break_step six others p ab ba h ready s 6
-  duty_step (Duty.Ask (AskDuty.SubflowFin s)) is calm may firm opens = replying.plain_fin_step six others p ab ba h holds ready s (plain_fin (end_at s p)) refl
+  duty_step (Duty.Ask (AskDuty.SubflowFin s)) is calm may firm opens = replying.plain_fin_step six others p ab ba h holds ready s (place_of_fin (end_at s p)) refl
   duty_step (Duty.Ask (AskDuty.Edge s)) is calm may firm opens = replying.piece_step six others p ab ba h holds ready s (piece_of s p) refl
   duty_step (Duty.Ask (AskDuty.HeardFin s index)) is calm may firm opens = replying.fin_heard_step six others p ab ba h holds ready s index
   duty_step (Duty.Ask (AskDuty.AckOut s)) is calm may firm opens = answering.told_step six others p ab ba h ready s (left p)

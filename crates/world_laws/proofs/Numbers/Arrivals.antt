@@ -5,7 +5,7 @@ use Rattle.world_laws.proofs.Words.{FormFits, JoinSyn, JoinAnswer, octets_in, Ac
 use Rattle.world_laws.proofs.Words.{Copy, occupied, Hint, PlainOption, PlainSegment, Capable, Join, Dss, AddAddr, Remove, Prio, Fail, Reset, meant}
 use Rattle.world_laws.proofs.Words.{meant_option, meant_mapping, PathMapping, Bytes, Infinite, At, Heard, KeyPair, PeerNotice, is_nil, PathEnd, hint_of}
 use Rattle.world_laws.proofs.Words.{items_in, items_of, owes_by, after_judged, asked_in, copy_of, judged_in, owing_if, with_payload, reset_by}
-use Rattle.world_laws.proofs.Words.{position_numbered, is_listening, joined_by, syn_alone, is_joined, join_answer, join_items, with_keys, ack_items, is_mapping}
+use Rattle.world_laws.proofs.Words.{position_numbered, is_listening, joined_by, syn_of_window, is_joined, join_answer, join_items, with_keys, ack_items, is_mapping}
 use Rattle.world_laws.proofs.Words.{mapping_items, map_items, first_items, HeardOption, key_items, item_removed, Profile, answered_in, cleared_in, taken_as}
 use Rattle.world_laws.proofs.Words.{with_answer, Modes, Every-nil, Every-append, Every, if_so}
 use Rattle.std.proofs.Common.{flat_map}
@@ -182,11 +182,11 @@ joined_tells c s keys asked e pair nonce h = by (is_listening e.tcp.state)
     modes = record { own_key = pair.0; peer_key = pair.1; own_nonce = h.modes.own_nonce; peer_nonce = nonce; failed_mapping = h.modes.failed_mapping }
 
     by : (b : Bool) → EndTells c s (record e {
-      tcp = if b then taking.after_syn (taking.unkept None) (syn_alone e.treated.window) e.tcp else e.tcp;
+      tcp = if b then taking.after_syn (taking.unkept None) (syn_of_window e.treated.window) e.tcp else e.tcp;
       modes = record (with_keys keys e.modes) { peer_nonce = asked.nonce; backup_heard = asked.backup };
     })
     by true =
-        let flows = arrived_flows c s Meaning.Opens (taking.unkept None) 0 (syn_alone e.treated.window) e.tcp refl (record { sender = h.sender; edge = h.edge }) in
+        let flows = arrived_flows c s Meaning.Opens (taking.unkept None) 0 (syn_of_window e.treated.window) e.tcp refl (record { sender = h.sender; edge = h.edge }) in
         record { sender = flows.sender; edge = flows.edge; stream = h.stream; window = h.window; modes = modes; treated = h.treated; notices = h.notices }
     by false = record { sender = h.sender; edge = h.edge; stream = h.stream; window = h.window; modes = modes; treated = h.treated; notices = h.notices }
 

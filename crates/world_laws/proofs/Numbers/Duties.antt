@@ -1,7 +1,7 @@
 -- What each duty's reply leaves of the numbers that a path's ends and copies tell.
 use Rattle.world_laws.proofs.Words.{◌≡◌, refl, ap, subst, ℕ, suc, ◌+◌, ◌-◌, ◌≤◌, ◌&&◌, not, min, nat_lt, ⊎_elim, Bool, true, false, if◌then◌else◌, Option, Some}
 use Rattle.world_laws.proofs.Words.{None, Result, Ok, Err, List, [], ◌∷◌, length, take, drop, arith, is_none, is_some, ◌<◌, ◌^◌, find, ltb-true, and_parts}
-use Rattle.world_laws.proofs.Words.{and_from, length-take, length-drop, IfSome, Verdict, is_identity, is_starting, reads_mappings, receiving, sending}
+use Rattle.world_laws.proofs.Words.{and_from, length-take, length-drop, IfSome, Verdict, is_identity, is_starting, reads_mappings, with_infinite_receive, with_infinite_send}
 use Rattle.world_laws.proofs.Words.{writes_mappings, Fall, after_sure_sign, after_plain, after_failed_check, after_fail, is_failed_path, goes, fall_step, Side}
 use Rattle.world_laws.proofs.Words.{A, B, peer, JoinSyn, ControlReply, sole, next_wanted, window, Span, Why, SendBook, decision, reply_by, given_by}
 use Rattle.world_laws.proofs.Words.{grant_reply, ack_reply, decision-MayTake, SendReply, KeptMapping, run_of, mapping_at, covers, Record, is_unsent}
@@ -14,7 +14,7 @@ use Rattle.world_laws.proofs.Words.{data_stands, first_unsent, grant_in, granted
 use Rattle.world_laws.proofs.Words.{resend_occasion, resend_of, data_ask, first_record, payload_size, refused, answered_dead, next_event, step_for, asked_at}
 use Rattle.world_laws.proofs.Words.{join_taken, joined_by, keys_begun, with_mode_refused, join_heard_ask, answered_join_heard, having_asked, after_piece}
 use Rattle.world_laws.proofs.Words.{is_wrong, failing_by, mapping_here, piece_of, is_placed, answered_piece, piece_ask, is_data_fin_owed, data_fin_segment}
-use Rattle.world_laws.proofs.Words.{having_sent_data_fin, answered_data_fin_sent, fin_segment_of, having_sent_fin, answered_fin, with_peer_data_fin, plain_fin}
+use Rattle.world_laws.proofs.Words.{having_sent_data_fin, answered_data_fin_sent, fin_segment_of, having_sent_fin, answered_fin, with_peer_data_fin, place_of_fin}
 use Rattle.world_laws.proofs.Words.{with_fin_told, answered_plain_fin, data_fin_of, fin_ask, answered_fin_heard, is_fin_set, is_clash, with_learned}
 use Rattle.world_laws.proofs.Words.{with_data_fin, with_acked, told_next, mapping_ask, answered_mapping, heard_ask, item_ask, answered_heard, answered_item}
 use Rattle.world_laws.proofs.Words.{item_of, check_failed_ask, after_check_failed, answered_check_failed, answered_infinite, fell_ask, after_fell, fell_duties}
@@ -139,7 +139,7 @@ infinite_low : (path : ℕ) (sole : Bool) (fall : Fall) → IsLow (after_infinit
 infinite_low path sole fall = by (not (reads_mappings fall.mode)) (sole && is_failed_path fall.failed path) (writes_mappings fall.mode && not fall.joined && is_none fall.failed)
   where
     by : (deaf failed falls : Bool) → IsLow (if deaf then falling.stays fall
-        else (if failed then goes (receiving fall.mode) fall else (if falls then goes Identity fall else falling.breaks 1 fall))).1
+        else (if failed then goes (with_infinite_receive fall.mode) fall else (if falls then goes Identity fall else falling.breaks 1 fall))).1
     by true failed falls = tt
     by false true falls = tt
     by false false true = tt
@@ -160,7 +160,7 @@ check_low path sole fall = by (not (reads_mappings fall.mode)) sole
 fail_low : (sole contiguous : Bool) (fall : Fall) → IsLow (after_fail sole contiguous fall).1
 fail_low sole contiguous fall = by (not (writes_mappings fall.mode)) (sole && contiguous)
   where
-    by : (deaf goes_on : Bool) → IsLow (if deaf then falling.stays fall else (if goes_on then goes (sending fall.mode) fall else falling.breaks 1 fall)).1
+    by : (deaf goes_on : Bool) → IsLow (if deaf then falling.stays fall else (if goes_on then goes (with_infinite_send fall.mode) fall else falling.breaks 1 fall)).1
     by true goes_on = tt
     by false true = tt
     by false false = omega arith
@@ -613,7 +613,7 @@ module _ (six : SixBooks) (others : Others) (p : PathState Carried) (ab ba : Lan
   duty_tells (Duty.Ask (AskDuty.PlainData s)) is fair = fell_told s Event.PlainData
   duty_tells (Duty.Ask (AskDuty.GoIdentity s)) is fair = on s (in_identity (end_at s p)) (left p) (rules.identity_tells p.profile s (end_at s p) (tells s)) left_fair
   duty_tells (Duty.Step (StepDuty.Unmapped s)) is fair = break_told s 6 refl (omega arith)
-  duty_tells (Duty.Ask (AskDuty.SubflowFin s)) is fair = plain_fin_told s (is_fin_set (reply_of six (fin_ask s (plain_fin (end_at s p)))))
+  duty_tells (Duty.Ask (AskDuty.SubflowFin s)) is fair = plain_fin_told s (is_fin_set (reply_of six (fin_ask s (place_of_fin (end_at s p)))))
   duty_tells (Duty.Ask (AskDuty.Edge s)) is fair = piece_by s (piece_of s p) refl (is_placed (reply_of six (piece_ask s (piece_of s p))))
   duty_tells (Duty.Ask (AskDuty.CheckFailed s)) is fair = check_failed_told s
   duty_tells (Duty.Ask (AskDuty.HeardFin s index)) is fair = fin_told s (is_fin_set (reply_of six (fin_ask s (data_fin_of index (end_at s p)))))

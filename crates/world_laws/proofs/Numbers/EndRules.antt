@@ -9,7 +9,7 @@ use Rattle.world_laws.proofs.Words.{RecordSending, after_sending, syn_resent, En
 use Rattle.world_laws.proofs.Words.{after_finishing, PlainSegment, Piece, OwnNotice, Heard, KeyPair, key_in, key_heard, pair_in, keys_heard, is_of_step}
 use Rattle.world_laws.proofs.Words.{join_in, join_heard, PeerNotice, JoinStep, Reply, tail_of, PathEnd, died, Notices, without_first, after_notice, after_look}
 use Rattle.world_laws.proofs.Words.{may_note, modes_told, notices_told, after_ack_out, died_unless_dead, granted, refused, opened_by, with_mode_refused}
-use Rattle.world_laws.proofs.Words.{join_answer, join_asked, peer_key_of, join_value, with_keys, after_timer, after_firing, having_asked, after_piece, is_wrong}
+use Rattle.world_laws.proofs.Words.{join_answer, join_asked, peer_key_of, join_value, with_keys, with_timer_settled, after_firing, having_asked, after_piece, is_wrong}
 use Rattle.world_laws.proofs.Words.{failing_by, mapping_here, forgotten_by, after_keep, after_pieces, is_dropped, with_peer_data_fin, with_fin_told}
 use Rattle.world_laws.proofs.Words.{after_pass_fin, acked_in, with_data_fin_sent, with_learned, with_data_fin, with_skipped, with_acked, after_dss}
 use Rattle.world_laws.proofs.Words.{with_data_ack, covered_by, after_check_failed, after_fell, with_plain_ack, plainly_acked, after_fail_heard, with_infinite}
@@ -413,7 +413,7 @@ module _ (c : Profile) (s : Side) (e : PathEnd) (h : EndTells c s e) where
   pub rate_tells : (path mss : ℕ) (r : Reply) → EndTells c s (after_rate path mss r e)
   rate_tells path mss r = record { sender = h.sender; edge = h.edge; stream = h.stream; window = h.window; modes = h.modes; treated = h.treated; notices = h.notices }
 
-  pub timer_tells : (now : ℕ) → EndTells c s (after_timer now e)
+  pub timer_tells : (now : ℕ) → EndTells c s (with_timer_settled now e)
   timer_tells now = record { sender = h.sender; edge = h.edge; stream = record { heard = h.stream.heard; known_end = h.stream.known_end }; window = h.window; modes = h.modes; treated = h.treated; notices = h.notices }
 
   -- ---- grants

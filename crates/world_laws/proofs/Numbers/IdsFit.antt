@@ -2,7 +2,7 @@
 use Rattle.world_laws.proofs.Words.{◌≡◌, refl, ◌∙◌, ap, ℕ, zero, suc, Bool, true, false, if◌then◌else◌, Some, None, List, [], ◌∷◌, length, arith, ◌<◌}
 use Rattle.world_laws.proofs.Words.{length-replicate, length-set, IfSome, slice_set, lowest, no_ids, Addresses, addresses_heard, addresses_removed, Address}
 use Rattle.world_laws.proofs.Words.{token_of, Side, ControlCall, Notice, with_removed, with_phase, every_path, lives, Control, no_withdrawals, new_control}
-use Rattle.world_laws.proofs.Words.{withdrawals_on, with_withdrawal, notice_on, is_sure, may_join, is_known, withdrawn, withdrawn_on, Opening}
+use Rattle.world_laws.proofs.Words.{withdrawals_on, with_withdrawal_due, notice_on, is_sure, may_join, is_known, withdrawn, withdrawn_on, Opening}
 use Rattle.std.specs.Prelude.{not, ◌&&◌, ◌||◌, ◌==◌, fold, replicate}
 use Rattle.std.proofs.lemmas.List.Quantifiers.{position-Some}
 use Rattle.fallback_state.specs.declared.fall.Event.{Event}
@@ -42,7 +42,7 @@ put_fits [] path ids are h = h
 put_fits (first ∷ sets) zero ids are h = (are, h.1)
 put_fits (first ∷ sets) (suc path) ids are h = (h.0, put_fits sets path ids are h.1)
 
-withdrawal_fits : (id : ℕ) (due : Bool) (path : ℕ) (sets : List (List Bool)) → AreAllIds sets → AreAllIds (with_withdrawal id due path sets)
+withdrawal_fits : (id : ℕ) (due : Bool) (path : ℕ) (sets : List (List Bool)) → AreAllIds sets → AreAllIds (with_withdrawal_due id due path sets)
 withdrawal_fits id due path sets h = put_fits sets path _ (length-set (withdrawals_on sets path) id due ∙ on_fits sets path h) h
 
 either_fits : (b : Bool) (one other : List (List Bool)) → AreAllIds one → AreAllIds other → AreAllIds (if b then one else other)

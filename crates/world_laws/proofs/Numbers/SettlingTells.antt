@@ -1,7 +1,7 @@
 -- The duties that come to nothing leave the numbers that a path tells small, and so does a turn of the path.
 use Rattle.world_laws.proofs.Words.{◌≡◌, refl, ℕ, ◌+◌, ◌≤◌, Bool, true, false, if◌then◌else◌, Option, Some, None, List, [], ◌∷◌, length, arith, ◌^◌, eqb-true}
 use Rattle.world_laws.proofs.Words.{and_parts, false≢true, list_all, IfSome, Side, peer, is_at, Duty, SendDuty, StepDuty, AskDuty, SilentDuty, Heard, SixBooks}
-use Rattle.world_laws.proofs.Words.{send_of, pick, stands, passed, PathEnd, PathState, end_at, with_end, with_agenda, settled, Carried, after_timer}
+use Rattle.world_laws.proofs.Words.{send_of, pick, stands, passed, PathEnd, PathState, end_at, with_end, with_agenda, settled, Carried, with_timer_settled}
 use Rattle.world_laws.proofs.Words.{mapping_here, after_keep, after_pieces, after_check, after_pass_fin, item_of, item_passed, with_plain_ack, Profile, Holds}
 use Rattle.world_laws.proofs.Words.{Lane, LaneIsShort}
 use Rattle.world_laws.proofs.Writes.Ends.{item_so}
@@ -35,7 +35,7 @@ fin_short n edge back (Some at) lane short has is =
 
 module _ (six : SixBooks) (others : Others) (c : Profile) (short : BooksAreShort six) where
   passed_tells : (p : PathState Carried) (ab ba : Lane) → PathShows c p ab ba → Holds (duo_at six ab ba others) → PathTells c p → (d : Duty) → PathTells c (passed d p)
-  passed_tells p ab ba h holds t (Duty.Silent (SilentDuty.Timer s)) = end_tells c p t s (after_timer p.clock (end_at s p)) (rules.timer_tells c s (end_at s p) (tells_at c p t s) p.clock)
+  passed_tells p ab ba h holds t (Duty.Silent (SilentDuty.Timer s)) = end_tells c p t s (with_timer_settled p.clock (end_at s p)) (rules.timer_tells c s (end_at s p) (tells_at c p t s) p.clock)
   passed_tells p ab ba h holds t (Duty.Step (StepDuty.Heard s index)) =
       end_tells c p t s (item_passed s (item_of index (end_at s p)) (end_at s p)) (maybe_told c s (end_at s p) (tells_at c p t s) (item_of index (end_at s p)))
   passed_tells p ab ba h holds t (Duty.Silent (SilentDuty.Keep s)) = end_tells c p t s (after_keep s (end_at s p)) (rules.keep_tells c s (end_at s p) (tells_at c p t s))

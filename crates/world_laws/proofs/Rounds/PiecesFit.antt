@@ -15,7 +15,7 @@ use Rattle.world_laws.proofs.Words.{left, path_of, settled, answers, asks_first,
 use Rattle.world_laws.proofs.Words.{copy_of, judged_in, heard_in, copy_heard, told_at, owing_if, with_payload, answered_break, died_unless_dead, answered_data}
 use Rattle.world_laws.proofs.Words.{answered_grant, first_unsent, grant_in, answer_occasion, resend_occasion, data_ask, payload_size, may_ask, fits, grant_ask}
 use Rattle.world_laws.proofs.Words.{may_send_data, next_event, after_line, happens_if, join_begun, never_joined, asked_at, is_listening, is_never, join_taken}
-use Rattle.world_laws.proofs.Words.{keys_begun, opened_by, syn_alone, is_joined, after_joining_syn, is_wrong, mapping_here, forgotten_by, is_dropped, is_clash}
+use Rattle.world_laws.proofs.Words.{keys_begun, opened_by, syn_of_window, is_joined, after_joining_syn, is_wrong, mapping_here, forgotten_by, is_dropped, is_clash}
 use Rattle.world_laws.proofs.Words.{with_learned, with_data_fin, with_skipped, counts, answered_heard, answered_item, item_of, item_passed, heard_passed}
 use Rattle.world_laws.proofs.Words.{breaks_by_ack, Profile, taken_as, Every-push, Every, App, Path, Actor, ActorCrew, member_asks, member_takes, member_next}
 use Rattle.world_laws.proofs.Words.{is_over, Start, path_begins, opened_world, WorldState, Turn, crew_after, world_step, begins, world_run, if_so, EndWrites}
@@ -183,7 +183,7 @@ passed_fits limit s h = if_so (TcpFits limit) (is_fin_next s) (after_passing_fin
 
 joining_fits : (limit window : ℕ) (s : EndState) → TcpFits limit s → TcpFits limit (after_joining_syn window s)
 joining_fits limit window s h =
-    if_so (TcpFits limit) (is_listening s.state) (after_syn (unkept None) (syn_alone window) s) s
+    if_so (TcpFits limit) (is_listening s.state) (after_syn (unkept None) (syn_of_window window) s) s
     (record { sizes = h.sizes; begun = λ is. absurd (false≢true is) }) h
 
 -- ---- an end of a path

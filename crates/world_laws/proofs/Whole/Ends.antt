@@ -8,7 +8,7 @@ use Rattle.world_laws.proofs.Words.{is_closed_to_segments, is_opening, is_half_o
 use Rattle.world_laws.proofs.Words.{after_holding, after_ack_kind, after_acknowledgement, is_duplicate, after_duplicate, after_interruption, told_by}
 use Rattle.world_laws.proofs.Words.{after_payload, after_hearing, after_established, after_taken, after_arrival, arrival_of, kept_new, first_fin, meaning_of}
 use Rattle.world_laws.proofs.Words.{Copy, Hint, HeardSegment, PathMapping, InfiniteMapping, Heard, key_heard, is_nil, PathEnd, hint_of, items_in, items_of}
-use Rattle.world_laws.proofs.Words.{has_data_ack, octets_acked, is_plain_ack, edge_held, owes_by, asks_capable, copy_judged, copy_of, owing_if, with_payload}
+use Rattle.world_laws.proofs.Words.{has_data_ack, octets_acked, is_plain_ack, edge_in_payload, owes_by, asks_capable, copy_judged, copy_of, owing_if, with_payload}
 use Rattle.world_laws.proofs.Words.{join_items, ack_items, map_items, HeardOption, key_items, item_removed, Treated, Every, if_so, EndWrites, Only, EndView}
 use Rattle.world_laws.proofs.Words.{copy_said}
 use Rattle.loss_recovery.specs.declared.timers.Timing.{Timing}
@@ -426,8 +426,8 @@ module _ (s : Side) (vs : SendState) (h : HeardSegment) (e : PathEnd) (told : Li
   syn_optional = elim [ A ↦ λ is. asks_has_option h is | B ↦ λ is. key_has_option h is ]
 
   -- a payload at the edge
-  edge_optional : (t : Side) → s ≡ t → (pos edge : ℕ) → h.syn ≡ false → h.rst ≡ false → IfSome (edge_held (Meaning.Taken pos 0) h.payload edge) (λ k. not (is_nil h.options) ≡ true)
-  edge_optional B same pos edge syn rst = some_later (λ k. Unit {0}) _ (edge_held (Meaning.Taken pos 0) h.payload edge) (λ k any. ap not (subst (λ t. OptionIs (peer t) h) same (said.option rst syn))) (any_some (edge_held (Meaning.Taken pos 0) h.payload edge))
+  edge_optional : (t : Side) → s ≡ t → (pos edge : ℕ) → h.syn ≡ false → h.rst ≡ false → IfSome (edge_in_payload (Meaning.Taken pos 0) h.payload edge) (λ k. not (is_nil h.options) ≡ true)
+  edge_optional B same pos edge syn rst = some_later (λ k. Unit {0}) _ (edge_in_payload (Meaning.Taken pos 0) h.payload edge) (λ k any. ap not (subst (λ t. OptionIs (peer t) h) same (said.option rst syn))) (any_some (edge_in_payload (Meaning.Taken pos 0) h.payload edge))
     where
       any_some : (o : Option ℕ) → IfSome o (λ k. Unit {0})
       any_some = elim [ None ↦ tt | Some k ↦ tt ]
@@ -465,7 +465,7 @@ module _ (s : Side) (vs : SendState) (h : HeardSegment) (e : PathEnd) (told : Li
       held_opens true half = ap not (opened_optional s refl e.tcp.state was.apart half fits.1.0 fits.1.1.0)
       held_opens false half = ap not (opened_optional s refl e.tcp.state was.apart half fits.1.0 fits.1.1.0)
 
-      held_edge_is : (b : Bool) → IfSome (edge_held (Meaning.Taken pos n) h.payload (if b then e.tcp else after_holding pos h.payload e.tcp).recv.edge) (λ k. not (is_nil h.options) ≡ true)
+      held_edge_is : (b : Bool) → IfSome (edge_in_payload (Meaning.Taken pos n) h.payload (if b then e.tcp else after_holding pos h.payload e.tcp).recv.edge) (λ k. not (is_nil h.options) ≡ true)
       held_edge_is true = edge_optional s refl pos e.tcp.recv.edge fits.1.0 fits.1.1.0
       held_edge_is false = edge_optional s refl pos e.tcp.recv.edge fits.1.0 fits.1.1.0
   copy_treated (Meaning.Accepts n) fits = treated_so _ _ refl refl refl (λ is. ap not (syn_optional (peer s) (said.syn fits.1.1 fits.1.0))) tt

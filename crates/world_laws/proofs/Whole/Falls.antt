@@ -1,7 +1,7 @@
 -- Where no options are taken away and no payload is altered, no side falls back: no path asks anything by which its side can.
 use Rattle.world_laws.proofs.Words.{◌≡◌, refl, sym, ◌∙◌, ap, subst, ℕ, zero, suc, ◌+◌, ◌&&◌, ◌||◌, ◌==◌, not, nat_lt, inl, inr, ◌⊎◌, ⊎_elim, Bool, true, false}
 use Rattle.world_laws.proofs.Words.{if◌then◌else◌, Some, None, List, [], ◌∷◌, arith, is_none, lt-ltb, or_cases, and_parts, both_ways, false≢true}
-use Rattle.world_laws.proofs.Words.{same_Some, slice_get, Verdict, Mode, FallEvent, is_identity, is_infinite, is_starting, reads_mappings, receiving, sending}
+use Rattle.world_laws.proofs.Words.{same_Some, slice_get, Verdict, Mode, FallEvent, is_identity, is_infinite, is_starting, reads_mappings, with_infinite_receive, with_infinite_send}
 use Rattle.world_laws.proofs.Words.{writes_mappings, Fall, is_failed_path, goes, fall_step, Stay, SendFail, Side, A, B, ScriptLine, ControlCall, sole, Control}
 use Rattle.world_laws.proofs.Words.{opening, is_waiting, is_stripped_by, start_of_turn, Duty, SendDuty, StepDuty, AskDuty, Ask, Reply, StampedBooks, books_in}
 use Rattle.world_laws.proofs.Words.{SixBooks, control_of, after_ask, is_nil, AppDuty, AppState, app_ask, app_asks_first, ask_for, waiting_path, PathState}
@@ -49,12 +49,12 @@ WasPlain f g = is_identity g.mode ≡ true → is_identity f.mode ≡ true
 row_plain : (b : Bool) (f : Fall) (x y : Fall × Verdict) → (b ≡ true → WasPlain f x.0) → (b ≡ false → WasPlain f y.0) → WasPlain f (if b then x else y).0
 row_plain = elim [ true ↦ λ f x y one other. one refl | false ↦ λ f x y one other. other refl ]
 
-receiving_plain : (m : Mode) → is_identity (receiving m) ≡ true → ⊥
+receiving_plain : (m : Mode) → is_identity (with_infinite_receive m) ≡ true → ⊥
 receiving_plain Mode.Starting is = false≢true is
 receiving_plain Mode.InfiniteSend is = false≢true is
 receiving_plain _ is = false≢true is
 
-sending_plain : (m : Mode) → is_identity (sending m) ≡ true → ⊥
+sending_plain : (m : Mode) → is_identity (with_infinite_send m) ≡ true → ⊥
 sending_plain Mode.Starting is = false≢true is
 sending_plain Mode.InfiniteReceive is = false≢true is
 sending_plain _ is = false≢true is
@@ -81,13 +81,13 @@ event_plain f path only FallEvent.AckHeard may = row_plain (is_starting f.mode) 
 event_plain f path only FallEvent.InfiniteHeard may =
     let joined = surely FallEvent.InfiniteHeard f (λ never. never) may in
     row_plain (not (reads_mappings f.mode)) f (stays f) _ (λ is now. now)
-    (λ reads. row_plain (only && is_failed_path f.failed path) f (goes (receiving f.mode) f) _ (λ is now. absurd (receiving_plain f.mode now))
+    (λ reads. row_plain (only && is_failed_path f.failed path) f (goes (with_infinite_receive f.mode) f) _ (λ is now. absurd (receiving_plain f.mode now))
     (λ other. row_plain (writes_mappings f.mode && not f.joined && is_none f.failed) f (goes Mode.Identity f) (breaks 1 f)
     (λ is now. absurd (false≢true (ap not (sym joined) ∙ (and_parts (writes_mappings f.mode) (not f.joined) (and_parts (writes_mappings f.mode && not f.joined) (is_none f.failed) is).0).1))) (λ is now. now)))
 event_plain f path only FallEvent.CheckFailed may =
     row_plain (not (reads_mappings f.mode)) f (stays f) _ (λ is now. now) (λ reads. row_plain only f (record f { failed = Some path }, SendFail) (breaks 6 f) (λ is now. now) (λ is now. now))
 event_plain f path only (FallEvent.FailHeard contiguous) may =
-    row_plain (not (writes_mappings f.mode)) f (stays f) _ (λ is now. now) (λ writes. row_plain (only && contiguous) f (goes (sending f.mode) f) (breaks 1 f) (λ is now. absurd (sending_plain f.mode now)) (λ is now. now))
+    row_plain (not (writes_mappings f.mode)) f (stays f) _ (λ is now. now) (λ writes. row_plain (only && contiguous) f (goes (with_infinite_send f.mode) f) (breaks 1 f) (λ is now. absurd (sending_plain f.mode now)) (λ is now. now))
 event_plain f path only FallEvent.Stop may = λ now. absurd (false≢true now)
 
 abbrev MayCall : ControlCall → Fall → Type 0

@@ -3,7 +3,7 @@ use Rattle.world_laws.proofs.Words.{◌≡◌, refl, sym, ◌∙◌, ap, subst, 
 use Rattle.world_laws.proofs.Words.{Option, Some, None, List, [], ◌∷◌, arith, is_some, ◌^◌, eqb-true, and_parts, both_ways, false≢true, or_right, IfSome, Side}
 use Rattle.world_laws.proofs.Words.{A, B, peer, without_held, after_keep_held, Receiving, SendState, EndState, is_fin_passed, EndPhase, after_dropping_held}
 use Rattle.world_laws.proofs.Words.{is_fin_next, after_passing_fin, is_at, Duty, SendDuty, StepDuty, AskDuty, SilentDuty, Heard, stands, passed, PathEnd}
-use Rattle.world_laws.proofs.Words.{PathState, end_at, with_agenda, settled, Carried, after_timer, mapping_here, forgotten_by, after_keep, is_dropped}
+use Rattle.world_laws.proofs.Words.{PathState, end_at, with_agenda, settled, Carried, with_timer_settled, mapping_here, forgotten_by, after_keep, is_dropped}
 use Rattle.world_laws.proofs.Words.{after_check, is_not_kept, with_learned, with_data_fin, with_skipped, counts, item_of, item_passed, item_at}
 use Rattle.subflow_tcp.specs.States as states
 use Rattle.world_laws.proofs.Falls.FailedChecks.{forgets_so}
@@ -136,9 +136,9 @@ module _ (s : Side) (ds : List Duty) (p : PathState Carried) (h : PathIs ds p) w
           (subst (λ (c : Bool). NoWaking e.tcp (if c then after_passing_fin e.tcp else e.tcp)) is (passing_up e.tcp)) opens unmet) h
       by false is = same_step s ds p e refl h
 
-  timer_step : Steps s p (after_timer p.clock e)
+  timer_step : Steps s p (with_timer_settled p.clock e)
   timer_step =
-      let f : PathEnd = after_timer p.clock e in let was = (end_is s ds p h).base in
+      let f : PathEnd = with_timer_settled p.clock e in let was = (end_is s ds p h).base in
       moved_step s ds p f was.sends (grows_self e.tcp.send) refl refl refl refl was.apart was.low refl treated_is
       (λ unmet. unmet_moves e.tcp f.tcp x (parts_of f) refl refl refl refl (timer_up p.clock e) (λ is. record { state = is.state; syns = is.syns; some = is.some }) unmet) h
 

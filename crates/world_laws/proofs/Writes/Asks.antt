@@ -1,7 +1,7 @@
 -- No duty asks more than it may: its asks are of its kinds, at the books of its side, and of the path itself.
 use Rattle.world_laws.proofs.Words.{◌≡◌, refl, ℕ, true, Option, Some, None, Side, JoinSyn, Record, Pending, Piece, Duty, SendDuty, StepDuty, AskDuty}
 use Rattle.world_laws.proofs.Words.{SilentDuty, Heard, KeyPair, key_heard, keys_heard, PeerNotice, Ask, Codec, ask_for, PathState, end_at, path_of, break_ask}
-use Rattle.world_laws.proofs.Words.{first_unsent, data_ask, next_event, step_for, asked_at, join_heard_ask, piece_of, piece_ask, plain_fin, data_fin_of}
+use Rattle.world_laws.proofs.Words.{first_unsent, data_ask, next_event, step_for, asked_at, join_heard_ask, piece_of, piece_ask, place_of_fin, data_fin_of}
 use Rattle.world_laws.proofs.Words.{fin_ask, is_clash, item_ask, item_of, breaks_by_ack, peer_key_ask, opened_ask, notice_ask, rate_ask, side_of, May, asking}
 use Rattle.world_laws.proofs.Words.{IsAsked, asks_of_steps, asks_of_books}
 use Rattle.path_core.specs.declared.events.Event.{Event}
@@ -80,7 +80,7 @@ module _ {C : Type 0} (k : Codec C) (p : PathState C) where
   asks_no_more (Duty.Ask (AskDuty.Edge s)) = piece_asked s (piece_of s p)
   asks_no_more (Duty.Ask (AskDuty.CheckFailed s)) = record { kind = refl; side = refl; own = refl }
   asks_no_more (Duty.Ask (AskDuty.HeardFin s index)) = fin_asked s (data_fin_of index (end_at s p))
-  asks_no_more (Duty.Ask (AskDuty.SubflowFin s)) = fin_asked s (plain_fin (end_at s p))
+  asks_no_more (Duty.Ask (AskDuty.SubflowFin s)) = fin_asked s (place_of_fin (end_at s p))
   asks_no_more (Duty.Ask (AskDuty.Rate s)) = rate_asked s (end_at s p).tcp.congestion.pending
   asks_no_more (Duty.Ask (AskDuty.Return s)) = record { kind = refl; side = refl; own = refl }
   asks_no_more (Duty.Ask (AskDuty.LeaveNoted s)) = record { kind = refl; side = refl; own = refl }
