@@ -41,7 +41,7 @@ use Rattle.path_core.specs.OptionsIn.{items_of, options_heard}
 use Rattle.path_core.specs.Profile.{Profile}
 use Rattle.path_core.specs.State.{PathState, at_tick, end_at, with_agenda}
 use Rattle.path_core.specs.Steps.{settled, takes, next_round}
-use Rattle.path_core.specs.Timer.{after_timer}
+use Rattle.path_core.specs.Timer.{with_timer_settled}
 use Rattle.path_core.specs.Treating.{item_of, item_passed}
 use Rattle.path_core.specs.declared.events.Event.{Event}
 use Rattle.path_core.specs.declared.judged.Judged.{Judged}
@@ -267,7 +267,7 @@ module _ {C : Type 0} where
       let e = end_at s p in own_empty s (item_passed s (item_of index e) e) p.a p.b (subst Empty (sym (item_recv s (item_of index e) e)) h)
   passed_empty (duties.Step (step_duties.PlainAck s)) p h = own_empty s (with_plain_ack (end_at s p)) p.a p.b h
   passed_empty (duties.Step (step_duties.Unmapped s)) p h = own_empty s (after_pieces (end_at s p)) p.a p.b h
-  passed_empty (duties.Silent (silent_duties.Timer s)) p h = own_empty s (after_timer p.clock (end_at s p)) p.a p.b h
+  passed_empty (duties.Silent (silent_duties.Timer s)) p h = own_empty s (with_timer_settled p.clock (end_at s p)) p.a p.b h
   passed_empty (duties.Silent (silent_duties.Keep s)) p h = own_empty s (after_keep s (end_at s p)) p.a p.b (empty_keep (is_dropped s (end_at s p)) (end_at s p).tcp h)
   passed_empty (duties.Silent (silent_duties.PassFin s)) p h =
       let e = end_at s p in own_empty s (after_pass_fin e) p.a p.b (elim (is_fin_next e.tcp) as (λ b. Empty (if b then after_passing_fin e.tcp else e.tcp).recv) [ true ↦ record { places = refl; incoming = refl } | false ↦ h ])

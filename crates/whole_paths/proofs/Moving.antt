@@ -51,12 +51,12 @@ use Rattle.path_core.specs.End.{PathEnd, died}
 use Rattle.path_core.specs.Events.{after_line, happens_if}
 use Rattle.path_core.specs.Fallback.{breaks_by_ack, after_fell, fell_duties, with_plain_ack, after_infinite}
 use Rattle.path_core.specs.Judged.{taken_as}
-use Rattle.path_core.specs.MpJoin.{is_joined, is_never, never_joined, keys_begun, opened_by, with_keys, with_mode_refused, asked_at, join_taken, joined_by, is_listening, syn_alone}
+use Rattle.path_core.specs.MpJoin.{is_joined, is_never, never_joined, keys_begun, opened_by, with_keys, with_mode_refused, asked_at, join_taken, joined_by, is_listening, syn_of_window}
 use Rattle.path_core.specs.OptionsIn.{items_of, options_heard, hint_of, owes_by}
 use Rattle.path_core.specs.Profile.{Profile}
 use Rattle.path_core.specs.Standing.{answered_ack_out, after_ack_out}
 use Rattle.path_core.specs.State.{PathState, at_tick, end_at, goes_on}
-use Rattle.path_core.specs.Timer.{after_firing, after_timer, timer_fired}
+use Rattle.path_core.specs.Timer.{after_firing, with_timer_settled, timer_fired}
 use Rattle.path_core.specs.Treating.{item_of, item_passed, answered_item, answered_heard}
 use Rattle.path_core.specs.declared.events.Event.{Event}
 use Rattle.path_core.specs.declared.events.Event.TheVariants as happenings
@@ -153,7 +153,7 @@ opened_moves (Some keys) e = elim (is_waiting e.tcp.state) as (λ b. Moves e (re
 
 joined_moves : (keys : KeyPair) (asked : JoinSyn) (e : PathEnd) → Moves e (joined_by keys asked e)
 joined_moves keys asked e = elim (is_listening e.tcp.state) as
-    (λ b. Moves e (record (joined_by keys asked e) { tcp = if b then after_syn (unkept None) (syn_alone e.treated.window) e.tcp else e.tcp }))
+    (λ b. Moves e (record (joined_by keys asked e) { tcp = if b then after_syn (unkept None) (syn_of_window e.treated.window) e.tcp else e.tcp }))
     [ true ↦ same refl | false ↦ same refl ]
 
 pub item_tcp : (s : Side) (o : Option Heard) (e : PathEnd) → (item_passed s o e).tcp ≡ e.tcp
@@ -273,7 +273,7 @@ module _ {C : Type 0} where
       let e = end_at s p in here s e (item_passed s (item_of index e) e) p.a p.b (same (item_recv s (item_of index e) e))
   passed_own (duties.Step (step_duties.PlainAck s)) p check keep = here s (end_at s p) (with_plain_ack (end_at s p)) p.a p.b (same refl)
   passed_own (duties.Step (step_duties.Unmapped s)) p check keep = here s (end_at s p) (after_pieces (end_at s p)) p.a p.b (same refl)
-  passed_own (duties.Silent (silent_duties.Timer s)) p check keep = here s (end_at s p) (after_timer p.clock (end_at s p)) p.a p.b (same refl)
+  passed_own (duties.Silent (silent_duties.Timer s)) p check keep = here s (end_at s p) (with_timer_settled p.clock (end_at s p)) p.a p.b (same refl)
   passed_own (duties.Silent (silent_duties.PassFin s)) p check keep = here s (end_at s p) (after_pass_fin (end_at s p)) p.a p.b (pass_fin_moves (end_at s p))
   passed_own _ p check keep = same refl
 

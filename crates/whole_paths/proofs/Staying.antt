@@ -39,7 +39,7 @@ use Rattle.path_core.specs.Fallback.{after_fell, with_failure, with_plain_ack}
 use Rattle.path_core.specs.Profile.{Profile}
 use Rattle.path_core.specs.State.{PathState, end_at, with_agenda}
 use Rattle.path_core.specs.Steps.{settled}
-use Rattle.path_core.specs.Timer.{after_timer}
+use Rattle.path_core.specs.Timer.{with_timer_settled}
 use Rattle.path_core.specs.Treating.{item_of, item_passed}
 use Rattle.world_laws.specs.Writes.{EndView, Writes, PathView, Only, OnlyAt, nothing, writes, side_of, copy_said}
 use Rattle.world_laws.proofs.Falls.FailedChecks.{forgets_so}
@@ -261,7 +261,7 @@ module _ {C : Type 0} where
       let e = end_at s p in here_rests s e (item_passed s (item_of index e) e) p.a p.b (item_rests s (item_of index e) e)
   passed_own_rests (duties.Step (step_duties.PlainAck s)) p = let e = end_at s p in here_rests s e (with_plain_ack e) p.a p.b (calm s e (with_plain_ack e) refl refl refl refl refl refl)
   passed_own_rests (duties.Step (step_duties.Unmapped s)) p = let e = end_at s p in here_rests s e (after_pieces e) p.a p.b (calm s e (after_pieces e) refl refl refl refl refl refl)
-  passed_own_rests (duties.Silent (silent_duties.Timer s)) p = let e = end_at s p in here_rests s e (after_timer p.clock e) p.a p.b (calm s e (after_timer p.clock e) refl refl refl refl refl refl)
+  passed_own_rests (duties.Silent (silent_duties.Timer s)) p = let e = end_at s p in here_rests s e (with_timer_settled p.clock e) p.a p.b (calm s e (with_timer_settled p.clock e) refl refl refl refl refl refl)
   passed_own_rests (duties.Silent (silent_duties.Keep s)) p = let e = end_at s p in here_rests s e (after_keep s e) p.a p.b (keep_rests s e)
   passed_own_rests (duties.Silent (silent_duties.PassFin s)) p = let e = end_at s p in here_rests s e (after_pass_fin e) p.a p.b (pass_fin_rests s e)
   passed_own_rests d p = calm (side_of d) (end_at (side_of d) p) (end_at (side_of d) p) refl refl refl refl refl refl
