@@ -4,10 +4,10 @@ use Rattle.std.proofs.lemmas.Bool.{cases_lt}
 use Rattle.std.proofs.lemmas.List.{length-take, length-drop}
 use Rattle.std.proofs.Math.Seq.{drop-nil}
 use Rattle.byte_pieces.specs.declared.piece.Piece.{Piece}
-use Rattle.byte_pieces.specs.Places.{gap_before, cut}
-use Rattle.byte_pieces.specs.Pieces.{end_of, spread, AreOrdered, begun_before, cut_end, pieces_from, pieces_below, last_cut}
+use Rattle.byte_pieces.specs.Places.{filled, gap_before, cut}
+use Rattle.byte_pieces.specs.Pieces.{end_of, spread, side_by_side_end, AreOrdered, begun_before, cut_end, pieces_from, pieces_below, last_cut}
 use Rattle.byte_pieces.proofs.Ordered.{le_true, le_false, lt_true, lt_false, ordered-le}
-use Rattle.byte_pieces.proofs.Spreading.{drop-here, drop-past}
+use Rattle.byte_pieces.proofs.Spreading.{drop-here, drop-past, side_by_side_end-is}
 
 -- ---- the front
 pub spread-from : (from to limit : ℕ) (ps : List Piece) → AreOrdered from limit ps → from ≤ to → spread to (pieces_from to ps) ≡ drop (to - from) (spread from ps)
@@ -165,3 +165,18 @@ last_cut-take from to limit (suc k) (p ∷ ps) h e =
 
 pub pieces_below-taken : (from to limit k : ℕ) (ps kept : List Piece) → AreOrdered from limit ps → k ≡ begun_before to ps → kept ≡ take k ps → last_cut to kept ≡ pieces_below to ps
 pieces_below-taken from to limit k ps kept h e f = ap (last_cut to) f ∙ last_cut-take from to limit k ps h e
+
+-- ---- the bytes before the first position without one
+filled-drop : (n : ℕ) (places : List (Option ℕ)) → n ≤ length (filled places) → n + length (filled (drop n places)) ≡ length (filled places)
+filled-drop zero places le = omega arith
+filled-drop (suc n) [] le = absurd (omega arith)
+filled-drop (suc n) (None ∷ places) le = absurd (omega arith)
+filled-drop (suc n) (Some byte ∷ places) le = omega (arith, filled-drop n places (omega arith))
+
+pub side_by_side_end-from : (from to limit : ℕ) (ps : List Piece) → AreOrdered from limit ps → from ≤ to → to ≤ limit → to ≤ side_by_side_end from ps
+    → side_by_side_end to (pieces_from to ps) ≡ side_by_side_end from ps
+side_by_side_end-from from to limit ps h le most within =
+    let end = side_by_side_end-is from limit ps h in
+    let dropped = filled-drop (to - from) (spread from ps) (omega (arith, end, within, le)) in
+    side_by_side_end-is to limit (pieces_from to ps) (ordered-from from to limit ps h most)
+    ∙ rw (spread-from from to limit ps h le) (omega (arith, dropped, end, le))

@@ -3,7 +3,7 @@ ghost use Rattle.std.specs.Prelude.{◌≡◌, ◌+◌, ◌^◌, ◌<◌, ◌≤
 ghost use Rattle.std.specs.List.{insert};
 ghost use Rattle.std.specs.List.Sorted.{IsNonDecreasingBy};
 ghost use Rattle.std.specs.VecDeque.{deque_len, deque_capacity};
-ghost use Rattle.byte_pieces.specs.Pieces.{AreOrdered, piece_len, piece_of, fresh, begun_before, with_piece, with_pieces, pieces_from, pieces_below, last_cut};
+ghost use Rattle.byte_pieces.specs.Pieces.{AreOrdered, side_by_side_end, piece_len, piece_of, fresh, begun_before, with_piece, with_pieces, pieces_from, pieces_below, last_cut};
 
 use crate::piece::Piece;
 use bytes::Bytes;
@@ -92,6 +92,22 @@ pub(crate) fn count_bytes(pieces: &VecDeque<Piece>) -> u64
         count += pieces[index].bytes.len() as u64;
     }
     count
+}
+
+/// Where the pieces that lie side by side from a position on end.
+pub(crate) fn side_by_side_end(pieces: &VecDeque<Piece>, from: u64) -> u64
+    requires { AreOrdered from (2 ^ 62) pieces.now.items }
+    ensures { result ≡ side_by_side_end from pieces.now.items }
+{
+    let mut end = from;
+    for index in 0..pieces.len() {
+        let piece = &pieces[index];
+        if piece.at != end {
+            return end;
+        }
+        end = piece.end();
+    }
+    end
 }
 
 /// How many pieces begin before this position, found by halving.

@@ -1,7 +1,9 @@
 ghost use Rattle.std.specs.Prelude.{◌≡◌, ◌+◌, ◌-◌, ◌^◌, ◌<◌, ◌≤◌, length, All, IfOk, OnOk, OnErr};
 ghost use Rattle.std.specs.List.{concat};
 
-use crate::changes::{count_bytes, count_fresh, cut_pieces, drop_pieces, fresh_parts, put_pieces};
+use crate::changes::{
+    count_bytes, count_fresh, cut_pieces, drop_pieces, fresh_parts, put_pieces, side_by_side_end,
+};
 use crate::parts::Parts;
 use crate::piece::Piece;
 use std::alloc::{AllocError, Global};
@@ -16,6 +18,8 @@ pub struct BytePieces {
     alloc: Global,
     /// The first position that counts.
     from: u64,
+    /// The first position without a byte.
+    end: u64,
     /// The bytes in pieces: in order of their positions, none empty, and no position in two of them.
     pieces: VecDeque<Piece>,
     /// The parts of the bytes that are held, of which none stands in a piece. The pieces have room for them.
@@ -27,10 +31,10 @@ impl Model for BytePieces {
 
     ghost Value = { PlacedBytes };
 
-    ghost use Rattle.std.specs.Prelude.{◌+◌, ◌^◌, ◌≤◌, IfSome};
+    ghost use Rattle.std.specs.Prelude.{◌≡◌, ◌+◌, ◌^◌, ◌≤◌, IfSome};
     ghost use Rattle.std.specs.Option.{option_map};
     ghost use Rattle.std.specs.VecDeque.{deque_len, deque_capacity};
-    ghost use Rattle.byte_pieces.specs.Pieces.{spread, AreOrdered, with_pieces};
+    ghost use Rattle.byte_pieces.specs.Pieces.{spread, AreOrdered, side_by_side_end, with_pieces};
 
     ghost view = { λ kept. record {
       from = kept.from;
@@ -42,7 +46,8 @@ impl Model for BytePieces {
     ghost invariant = { λ kept. AreOrdered kept.from (2 ^ 62) kept.pieces.items
         × IfSome kept.incoming
         (λ parts. AreOrdered kept.from (2 ^ 62) (with_pieces parts.items kept.pieces.items)
-        × (deque_len kept.pieces + deque_len parts ≤ deque_capacity kept.pieces)) };
+        × (deque_len kept.pieces + deque_len parts ≤ deque_capacity kept.pieces))
+        × (kept.end ≡ side_by_side_end kept.from kept.pieces.items) };
 }
 
 impl BytePieces {
@@ -56,6 +61,7 @@ impl BytePieces {
         BytePieces {
             alloc,
             from,
+            end: from,
             pieces: VecDeque::new(alloc),
             incoming: None,
         }
@@ -102,6 +108,7 @@ impl BytePieces {
         self.incoming = None;
         let count = count_bytes(&parts);
         put_pieces(&mut self.pieces, parts);
+        self.end = side_by_side_end(&self.pieces, self.from);
         Ok(count)
     }
 
@@ -131,6 +138,7 @@ impl BytePieces {
     {
         if let Some(parts) = self.incoming.take() {
             put_pieces(&mut self.pieces, parts);
+            self.end = side_by_side_end(&self.pieces, self.from);
         }
     }
 
@@ -177,15 +185,7 @@ impl BytePieces {
         ensures value { result ≡ self.now.from + length (filled self.now.places) }
         ensures bound { result ≤ 2 ^ 62 }
     {
-        let mut end = self.from;
-        for index in 0..self.pieces.len() {
-            let piece = &self.pieces[index];
-            if piece.at != end {
-                return end;
-            }
-            end = piece.end();
-        }
-        end
+        self.end
     }
 
     /// Lets the positions from `to` on count alone, and forgets the bytes below it, in time proportional to the number
@@ -198,6 +198,9 @@ impl BytePieces {
         self.incoming = None;
         drop_pieces(&mut self.pieces, to);
         self.from = to;
+        if self.end < to {
+            self.end = side_by_side_end(&self.pieces, to);
+        }
     }
 
     /// Forgets the bytes at and past the position `to`, and what is held. Takes no memory.
@@ -207,5 +210,6 @@ impl BytePieces {
     {
         self.incoming = None;
         cut_pieces(&mut self.pieces, to);
+        self.end = side_by_side_end(&self.pieces, self.from);
     }
 }

@@ -1,6 +1,6 @@
 use Rattle.std.proofs.Common.{◌^◌, Some, min, length, refl, ap, ◌∙◌, arith, subst, sym, List}
 use Rattle.byte_pieces.specs.declared.piece.Piece.{Piece}
-use Rattle.byte_pieces.specs.Pieces.{spread, with_pieces, AreOrdered}
+use Rattle.byte_pieces.specs.Pieces.{spread, side_by_side_end, with_pieces, AreOrdered}
 use Rattle.byte_pieces.proofs.Ordered.{ordered-below}
 use Rattle.byte_pieces.proofs.Filling.{is_put}
 use Rattle.byte_pieces.proofs.kept.BytePieces.hold.Goals as goal
@@ -17,6 +17,7 @@ invariant_of-self-2 c =
         subst (λ (ps : List Piece). AreOrdered c.self.inside.from (2 ^ 62) (with_pieces c.in_ok-parts.parts.items ps)) (sym c.in_ok-reserve.ensures.items) put.order,
         omega (arith, c.in_ok-reserve.ensures.ok, c.in_ok-reserve.ensures.len, c.len.ensures),
       ),
+      c.self.invariant.2 ∙ ap (side_by_side_end c.self.inside.from) (sym c.in_ok-reserve.ensures.items),
     )
 
 pub returns-clause-ok : goal.returns-clause-ok

@@ -26,7 +26,14 @@ invariant_of-self-2 c =
     let put = is_put c.self.inside.from c.args.at (2 ^ 62) c.min-passed.result c.max-first.result c.args.bytes.now _ c.self.inside.pieces.items c.in_ok-parts.parts.items
     c.put_pieces.new.pieces.items c.self.invariant.0 c.requires (c.min-passed.ensures ∙ ap (min (length c.args.bytes.now)) c.saturating_sub.ensures) c.max-first.ensures refl c.in_ok-parts.ensures
     (c.put_pieces.ensures ∙ ap (with_pieces c.in_ok-parts.parts.items) c.in_ok-reserve.ensures.items) in
-    (put.order, tt)
+    (put.order, tt, c.side_by_side_end-self-inside.ensures)
+
+pub side_by_side_end-self-inside-requires : goal.side_by_side_end-self-inside-requires
+side_by_side_end-self-inside-requires c =
+    let put = is_put c.self.inside.from c.args.at (2 ^ 62) c.min-passed.result c.max-first.result c.args.bytes.now _ c.self.inside.pieces.items c.in_ok-parts.parts.items
+    c.put_pieces.new.pieces.items c.self.invariant.0 c.requires (c.min-passed.ensures ∙ ap (min (length c.args.bytes.now)) c.saturating_sub.ensures) c.max-first.ensures refl c.in_ok-parts.ensures
+    (c.put_pieces.ensures ∙ ap (with_pieces c.in_ok-parts.parts.items) c.in_ok-reserve.ensures.items) in
+    put.order
 
 pub returns-clause-ok : goal.returns-clause-ok
 returns-clause-ok c =

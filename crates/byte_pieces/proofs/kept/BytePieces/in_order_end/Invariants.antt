@@ -1,6 +1,0 @@
-use Rattle.std.proofs.Common.{◌≡◌, drop}
-use Rattle.byte_pieces.specs.Pieces.{side_by_side_end}
-use Rattle.byte_pieces.proofs.kept.BytePieces.in_order_end.Given as goal
-
-abbrev pub invariant-loop-index : goal.invariant-loop-index
-invariant-loop-index l = side_by_side_end l.end (drop l.index l.self-inside.pieces.items) ≡ side_by_side_end l.self-inside.from l.self-inside.pieces.items
