@@ -4,3 +4,4 @@ pub mod Mappings
 pub mod Kept
 pub mod Laws
 pub mod Learning
+pub mod Live

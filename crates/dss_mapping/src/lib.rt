@@ -6,6 +6,7 @@
 mod kept;
 mod laws;
 mod learn;
+mod live;
 mod mappings;
 mod ordered;
 mod run;

@@ -6,6 +6,7 @@ ghost use Rattle.dss_mapping.specs.declared.learn.Learn.TheVariants.{New};
 
 use crate::kept::KeptMapping;
 use crate::learn::Learn;
+use crate::live::Live;
 use crate::ordered::{place_at, put_in, stretch_at};
 use crate::run::Run;
 use crate::stretch::Stretch;
@@ -24,7 +25,7 @@ pub struct Mappings {
     /// The positions of the infinite mapping.
     tail: Option<Run>,
     /// The mappings that may be asked for, in the order in which they were learned.
-    live: Vec<KeptMapping>,
+    live: Live,
     /// Below this position no mapping is told.
     forgotten: Pos,
     /// The mappings that were told and are still to be treated, in order. There is room to learn each of them.
@@ -47,18 +48,18 @@ impl Model for Mappings {
       mappings = record {
         places = places_of m.runs.items;
         tail = m.tail;
-        live = m.live.items;
+        live = m.live.kept;
         forgotten = m.forgotten;
         held = m.held.items;
       };
-      ready = min (vec_capacity m.runs - vec_len m.runs) (vec_capacity m.live - vec_len m.live);
+      ready = min (vec_capacity m.runs - vec_len m.runs) m.live.ready;
     } };
 
     ghost invariant = { λ m. IsKept m.runs.items m.tail
         × (vec_len m.runs + vec_len m.held ≤ vec_capacity m.runs)
-        × (vec_len m.live + vec_len m.held ≤ vec_capacity m.live)
+        × (vec_len m.held ≤ m.live.ready)
         × All IsWithin m.held.items
-        × ArePlaced m.runs.items m.live.items };
+        × ArePlaced m.runs.items m.live.kept };
 }
 
 impl Mappings {
@@ -73,7 +74,7 @@ impl Mappings {
         Mappings {
             runs: Vec::new(alloc),
             tail: None,
-            live: Vec::new(alloc),
+            live: Live::new(alloc),
             forgotten: 0,
             held: Vec::new(alloc),
         }
@@ -209,18 +210,19 @@ impl Mappings {
             return None;
         }
         match self.place_of(pos) {
-            Some(_) => first_kept(self.live.as_slice(), pos),
+            Some(_) => self.live.first_at(pos),
             None => None,
         }
     }
 
     /// Lets go of the mappings that lie below this position, and tells none below it from now on. The places of positions
-    /// stay. Takes no memory, and as long as there are mappings that were not let go.
+    /// stay. Takes no memory, and as long as there are mappings that are let go, and some that were learned after one that ended behind
+    /// them.
     pub fn forget_below(&mut self, pos: Pos)
         ensures mappings { self.new.mappings ≡ after_forget pos self.old.mappings }
         ensures ready { self.old.ready ≤ self.new.ready }
     {
-        let_go(&mut self.live, pos);
+        self.live.forget_below(pos);
         self.forgotten = self.forgotten.max(pos);
     }
 
@@ -310,7 +312,7 @@ impl Mappings {
         ensures mappings { self.new.mappings ≡ after_learn kept New self.old.mappings }
         ensures ready { self.old.ready ≤ self.new.ready + 1 }
     {
-        self.live.push_reserved(kept);
+        self.live.push(kept);
         put_in(&mut self.runs, kept.run());
     }
 }
@@ -321,20 +323,4 @@ fn other_place(place: Option<u64>, here: u64) -> Option<u64>
     ensures same { IsNone result → IfSome place (λ kept. kept ≡ here) }
 {
     place.filter(|kept| *kept != here)
-}
-
-/// The first of these mappings that covers the position.
-fn first_kept(live: &[KeptMapping], pos: Pos) -> Option<KeptMapping>
-    ensures { result ≡ find (λ kept. covers pos (run_of kept)) live.now }
-{
-    live.iter().copied().find(|kept| kept.covers(pos))
-}
-
-/// Lets go of the mappings that lie below the position.
-fn let_go(live: &mut Vec<KeptMapping>, pos: Pos)
-    ensures len { vec_len live.new ≤ vec_len live.old }
-    ensures capacity { vec_capacity live.new ≡ vec_capacity live.old }
-    ensures items { live.new.items ≡ filter (λ kept. nat_lt pos (run_of kept).to) live.old.items }
-{
-    live.retain(|kept| kept.ends_after(pos));
 }

@@ -7,8 +7,8 @@ pub invariant_of-self : goal.invariant_of-self
 invariant_of-self c = (
   c.self.invariant.0,
   c.self.invariant.1,
-  omega (arith, c.let_go.ensures.len, c.let_go.ensures.capacity, c.self.invariant.2),
+  omega (arith, c.forget_below.ensures.ready, c.self.invariant.2),
   c.self.invariant.3,
-  subst (λ live. ArePlaced c.self.inside.runs.items live) (sym c.let_go.ensures.items)
-      (placed_left c.args.pos c.self.inside.runs.items c.self.inside.live.items c.self.invariant.4),
+  subst (λ live. ArePlaced c.self.inside.runs.items live) (sym c.forget_below.ensures.kept)
+      (placed_left c.args.pos c.self.inside.runs.items c.self.inside.live.kept c.self.invariant.4),
 )
