@@ -1,6 +1,0 @@
-use Rattle.std.proofs.Common.{refl}
-use Rattle.link_model.proofs.link.Link.send.Goals as goal
-
-pub returns-clause-after : goal.returns-clause-after
-returns-clause-after c =
-    rw (c.count.ensures.after, c.wait.ensures, c.in_ok-launch.ensures.ok, c.on_time-first.ensures.value, c.ticks_waited.ensures.value, c.passage-fate.ensures.value, c.in_ok-octets.ensures, c.peer.ensures, c.next_number-number.ensures, ← c.self.view_is) refl
