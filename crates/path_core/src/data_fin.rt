@@ -168,7 +168,7 @@ impl PathState {
             told_edge,
             modes,
         } = self.handed(side, SegmentKind::Fin)?;
-        self.hand_octets(side, SegmentKind::Fin, octets.as_slice())?;
+        self.hand_octets(side, SegmentKind::Fin, octets)?;
         let now = self.clock.now();
         self.end_mut(side).having_sent_fin(now, told_edge, modes);
         self.done();

@@ -183,9 +183,9 @@ impl PathState {
         &mut self,
         side: Side,
         kind: SegmentKind,
-        text: &[u8],
+        text: Vec<u8>,
     ) -> Result<(), AllocError>
-        requires { text.now ≡
+        requires { text.items ≡
             made self.old.profile.spelling side
             (said_by kind self.old.profile side (end_at side self.old)) }
         ensures ok { OnOk result (self.new ≡
@@ -195,7 +195,7 @@ impl PathState {
             }) }
         ensures err { OnErr result (self.new ≡ self.old) }
     {
-        self.link.send(side, text, self.clock.now())?;
+        self.link.send_owned(side, text, self.clock.now())?;
         Ok(())
     }
 
@@ -208,8 +208,12 @@ impl PathState {
             }) }
         ensures err { OnErr result (self.new ≡ self.old) }
     {
-        let handed = self.handed(side, kind)?;
-        self.hand_octets(side, kind, handed.octets.as_slice())
+        let Handed {
+            octets,
+            told_edge: _,
+            modes: _,
+        } = self.handed(side, kind)?;
+        self.hand_octets(side, kind, octets)
     }
 
     /// The link takes the segment of this kind, the end stays, and the first duty is done. At an error all is as it was.
@@ -265,7 +269,7 @@ impl PathState {
             told_edge,
             modes,
         } = self.handed(side, kind)?;
-        self.hand_octets(side, kind, octets.as_slice())?;
+        self.hand_octets(side, kind, octets)?;
         let now = self.clock.now();
         self.end_mut(side)
             .having_sent(occasion, now, told_edge, modes);
