@@ -29,3 +29,4 @@ mod Settling
 mod FirstDuty
 mod LinesOf
 mod Words
+pub mod Pieces

@@ -84,6 +84,15 @@ mapped_piece c e =
 abbrev pub next_piece : Profile → PathEnd → Option Piece
 next_piece c e = if e.modes.identity then some_piece (plain_piece e.tcp) else mapped_piece c e
 
+-- those that would be, were checksums used or not: where the side didn't fall back, and whether it did or not
+abbrev pub mapped_with : Bool → PathEnd → Option Piece
+mapped_with checksums e =
+    if covers e.modes.peer_infinite e.tcp.recv.edge then infinite_piece e.modes.peer_infinite e.tcp
+    else piece_by checksums (mapping_here e) e.tcp
+
+abbrev pub piece_with : Bool → PathEnd → Option Piece
+piece_with checksums e = if e.modes.identity then some_piece (plain_piece e.tcp) else mapped_with checksums e
+
 -- the edge is behind them
 abbrev pub passed_to : ℕ → PathEnd → PathEnd
 passed_to to e = record e {

@@ -1,12 +1,12 @@
 //! The bytes that an end's receive edge passes are placed, piece by piece (RFC 8684, section 3.3.1).
 
-ghost use Rattle.std.specs.Prelude.{◌+◌, ◌≡◌, ◌-◌, ◌<◌, ◌≤◌, ◌&&◌, ◌^◌, min, is_some, IfOk, length, take, option_map, IfSome};
+ghost use Rattle.std.specs.Prelude.{◌+◌, ◌≡◌, ◌-◌, ◌<◌, ◌≤◌, ◌&&◌, ◌^◌, min, is_some, true, IfOk, length, take, option_map, IfSome};
 ghost use Rattle.std.specs.List.{concat};
 ghost use Rattle.dss_mapping.specs.Mappings.{mapping_at};
 ghost use Rattle.subflow_recv.specs.Receiving.{filled};
 ghost use Rattle.path_store.specs.Passing.{some_piece};
 ghost use Rattle.actor_desk.specs.Kinds.{CanBeAsked};
-ghost use Rattle.path_core.specs.Deliver.{is_placed, piece_from, is_whole, is_right, checked_piece, plain_piece, infinite_piece, mapping_here, mapped_piece, next_piece, after_piece, forgotten_by, having_asked, is_unmapped, times_unmapped, breaks_by_unmapped, after_unmapped, with_data_fin_reached, after_pieces, is_dropped, is_not_kept, after_keep, after_check, piece_ask, answered_piece, piece_of, refused};
+ghost use Rattle.path_core.specs.Deliver.{is_placed, piece_from, is_whole, is_right, checked_piece, plain_piece, infinite_piece, mapping_here, mapped_with, piece_with, next_piece, after_piece, forgotten_by, having_asked, is_unmapped, times_unmapped, breaks_by_unmapped, after_unmapped, with_data_fin_reached, after_pieces, is_dropped, is_not_kept, after_keep, after_check, piece_ask, answered_piece, piece_of, refused};
 ghost use Rattle.path_core.specs.State.{end_at, with_end};
 
 use crate::breaking::MPTCP_SPECIFIC;
@@ -135,18 +135,31 @@ impl PathEnd {
         }
     }
 
-    /// The next bytes to be placed, where the side didn't fall back.
-    fn mapped_piece(&self, profile: &Profile) -> Option<InOrder>
+    /// The next bytes to be placed, where the side didn't fall back: with checksums or without.
+    fn mapped_piece(&self, checksums: bool) -> Option<InOrder>
         ensures value { option_map (λ found. piece_from found self.now.tcp) result ≡
-            mapped_piece profile.now self.now }
+            mapped_with checksums self.now }
         ensures places { IfSome result (λ found. found.place + found.count ≤ 2 ^ 62) }
     {
         if covers(self.modes.peer_infinite, self.tcp.edge()) {
             return self.infinite_piece();
         }
         match self.mapping_at_edge() {
-            Some(kept) => self.checked_piece(profile.spelling().checksums, kept),
+            Some(kept) => self.checked_piece(checksums, kept),
             None => None,
+        }
+    }
+
+    /// The next bytes to be placed: with checksums or without.
+    fn piece_with(&self, checksums: bool) -> Option<InOrder>
+        ensures value { option_map (λ found. piece_from found self.now.tcp) result ≡
+            piece_with checksums self.now }
+        ensures places { IfSome result (λ found. found.place + found.count ≤ 2 ^ 62) }
+    {
+        if self.modes.identity {
+            self.plain_piece()
+        } else {
+            self.mapped_piece(checksums)
         }
     }
 
@@ -156,11 +169,18 @@ impl PathEnd {
             next_piece profile.now self.now }
         ensures places { IfSome result (λ found. found.place + found.count ≤ 2 ^ 62) }
     {
-        if self.modes.identity {
-            self.plain_piece()
-        } else {
-            self.mapped_piece(profile)
-        }
+        self.piece_with(profile.spelling().checksums)
+    }
+
+    /// The next bytes to be placed, where there are some: their checksum is right, and isn't looked at again.
+    #[tactic(auto, using(crate::proofs::Pieces::right_piece))]
+    fn right_piece(&self, profile: &Profile) -> Option<InOrder>
+        requires { is_some (next_piece profile.now self.now) ≡ true }
+        ensures value { option_map (λ found. piece_from found self.now.tcp) result ≡
+            next_piece profile.now self.now }
+        ensures places { IfSome result (λ found. found.place + found.count ≤ 2 ^ 62) }
+    {
+        self.piece_with(false)
     }
 
     /// Whether there are such bytes.
@@ -296,17 +316,19 @@ impl PathEnd {
 }
 
 impl PathState {
-    /// The next bytes to be placed at a side.
+    /// The next bytes to be placed at a side, where there are some.
     fn piece(&self, side: Side) -> Option<InOrder>
+        requires { is_some (piece_of side self.now) ≡ true }
         ensures value { option_map (λ found. piece_from found (end_at side self.now).tcp) result ≡
             piece_of side self.now }
         ensures places { IfSome result (λ found. found.place + found.count ≤ 2 ^ 62) }
     {
-        self.end(side).next_piece(&self.profile)
+        self.end(side).right_piece(&self.profile)
     }
 
     /// They are to be placed. Takes memory for them.
     pub(crate) fn piece_ask(&self, side: Side) -> Result<Ask, AllocError>
+        requires { is_some (piece_of side self.now) ≡ true }
         ensures ask { IfOk result (λ ask. ask ≡ piece_ask side (piece_of side self.now)) }
         ensures able { IfOk result CanBeAsked }
     {
@@ -322,6 +344,7 @@ impl PathState {
 
     /// What was placed is behind the edge; what the book refuses breaks the path.
     pub(crate) fn answer_piece(&mut self, side: Side, reply: &Reply)
+        requires { is_some (piece_of side self.old) ≡ true }
         ensures { self.new ≡
             answered_piece side (piece_of side self.old) (is_placed reply.now) self.old }
     {

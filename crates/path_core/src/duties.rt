@@ -39,12 +39,13 @@ impl PathState {
         }
     }
 
-    /// What the duty asks, or which segment it sends. Only bytes that are to be placed take memory.
+    /// What the duty asks that stands first, or which segment it sends. Only bytes that are to be placed take memory.
     ///
     /// # Errors
     ///
     /// Only where there is no memory for those bytes.
     pub(crate) fn ask_for(&self, duty: Duty) -> Result<Ask, AllocError>
+        requires first { stands duty self.now ≡ true }
         ensures ask { IfOk result (λ ask. ask ≡ ask_for octets duty self.now) }
         ensures able { IfOk result CanBeAsked }
         ensures plain { asks_bytes duty ≡ false → IsOk result }
@@ -147,8 +148,9 @@ impl PathState {
         self.end(side).is_opened_by_keys() || self.end(side).is_opened_plainly()
     }
 
-    /// What it asks. Only bytes that are to be placed take memory.
+    /// What it asks, where it comes to something. Only bytes that are to be placed take memory.
     pub(crate) fn ask_of(&self, duty: AskDuty) -> Result<Ask, AllocError>
+        requires first { stands (duties.Ask duty) self.now ≡ true }
         ensures ask { IfOk result (λ ask. ask ≡ ask_for octets (duties.Ask duty) self.now) }
         ensures able { IfOk result CanBeAsked }
         ensures plain { asks_bytes (duties.Ask duty) ≡ false → IsOk result }
@@ -198,6 +200,7 @@ impl PathState {
 
     /// What the reply makes of the path. Takes no memory.
     pub(crate) fn answer_ask(&mut self, duty: AskDuty, reply: &Reply)
+        requires first { stands (duties.Ask duty) self.old ≡ true }
         requires acks { IsAckBounded reply.now }
         requires rows { AreRowsInRange reply.now }
         ensures { self.new ≡ answered octets (duties.Ask duty) reply.now self.old }

@@ -33,8 +33,9 @@ impl PathState {
     }
 
     /// What it asks: nothing where its turn ended. Only an ask that carries bytes takes memory.
-    #[tactic(auto, using(crate::proofs::FirstDuty::ask_of_first, crate::proofs::FirstDuty::ask_of_none, crate::proofs::FirstDuty::bytes_of_first))]
+    #[tactic(auto, using(crate::proofs::FirstDuty::ask_of_first, crate::proofs::FirstDuty::ask_of_none, crate::proofs::FirstDuty::bytes_of_first, crate::proofs::FirstDuty::stands_of_first))]
     pub(crate) fn ask(&self) -> Result<Option<Ask>, AllocError>
+        requires first { is_none (passable self.now) ≡ true }
         ensures ask { IfOk result (λ ask. ask ≡ asks_of octets self.now) }
         ensures able { IfOk result (λ ask. IfSome ask CanBeAsked) }
         ensures plain { asks_bytes_first self.now.agenda ≡ false → IsOk result }
