@@ -80,7 +80,7 @@ fn file_names(alloc: Global, asked: &CommandLine<'_>) -> Result<(String, String)
     Ok((file_a, file_b))
 }
 
-/// The same, where the lines of both files are messages. The outside is given back.
+/// Puts what helps with a refused line of a log, where the lines of both files are messages. The outside is given back.
 pub fn put_framed_log_help<O: Outside>(
     text: &mut String,
     alloc: Global,

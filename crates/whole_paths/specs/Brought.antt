@@ -37,7 +37,7 @@ use Rattle.world_laws.specs.Writes.{side_of}
 
 -- ---- where an octet is
 
--- it is kept at this position, whether the payload that is held besides is kept later or dropped
+-- an octet is kept at this position, whether the payload that is held besides is kept later or dropped
 pub record IsKept (pos octet : ℕ) (v : Receiving) : Type 0 where
   pub now : octet_at pos v ≡ Some octet
   pub later : octet_at pos (after_keep_held v) ≡ Some octet
@@ -60,7 +60,7 @@ abbrev pub KeepsNext : Side → List Duty → Type 0
 KeepsNext s (duties.Silent (silent_duties.Keep t) ∷ ds) = t ≡ s
 KeepsNext s _ = ⊥
 
--- it is kept once all is treated that the copy says
+-- the payload of a copy is kept once all is treated that the copy says
 abbrev pub IsToKeep : Side → List Duty → Type 0
 IsToKeep s [] = ⊥
 IsToKeep s (d ∷ ds) = (side_of d ≡ s) × ((comes_before_keeping d ≡ true) × (KeepsNext s ds ⊎ IsToKeep s ds))
@@ -109,7 +109,7 @@ module _ {C : Type 0} where
     pub segment : HeardSegment
     pub heard : heard_in k due.to (arriving due p.link) p ≡ Some segment
 
-  -- it is this to the end
+  -- the copy is this to the end that it comes to
   abbrev pub IsTo : (k : Codec C) (p : PathState C) → Comes k p → Judged → Type 0
   IsTo k p c verdict = let e : PathEnd = end_at c.due.to p in judged_in (is_joined p.profile) c.due.to (options_heard e c.segment) e ≡ verdict
 
@@ -132,7 +132,7 @@ module _ {C : Type 0} where
     fails : FailsItsCheck s p → StaysThere s pos octet p q
     fails_untold : q.profile.spelling.checksums ≡ true → reads_mappings (end_at s q).modes.mode ≡ false → (end_at s q).modes.identity ≡ false
         → StaysThere s pos octet p q
-    -- it was dropped
+    -- the payload was dropped
     dropped : IsUnsure s (end_at s q) → StaysThere s pos octet p q
 
   -- ---- of any path, as it becomes another one

@@ -37,7 +37,7 @@ harms path _ = false
 abbrev pub harms_to : ℕ → Script → ℕ
 harms_to path script = count_by (harms path) script.lines
 
--- it speaks of each segment of a direction: a rate, random loss or jitter
+-- whether a line speaks of each segment of a direction: a rate, random loss or jitter
 abbrev pub is_on_direction : ScriptLine → Bool
 is_on_direction (OnDirection direction impairment) = true
 is_on_direction _ = false
@@ -137,7 +137,7 @@ pub record IsMild (script : Script) (path : PathLine) (file_a file_b : List ℕ)
 abbrev pub opened : Script → List ℕ → List ℕ → WorldState (List ℕ)
 opened script file_a file_b = opened_world (start_of script file_a file_b)
 
--- so many rounds are enough, by the segments that these turns harm
+-- how many rounds are enough, by the segments that these turns harm
 abbrev pub enough_for : Script → PathLine → List ℕ → List ℕ → List Turn → ℕ
 enough_for script path file_a file_b turns = patience path.mss (length file_a) (length file_b) (harmed octets 0 turns (opened script file_a file_b))
 
