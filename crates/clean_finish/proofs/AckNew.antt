@@ -40,7 +40,7 @@ new_ack pos now s low high =
     ap (λ (kind : AckKind). after_ack_kind kind (sample_of pos s.send) now (record s { send = after_acknowledge pos s.send })) (kind_new pos s.send low high)
     ∙ ap (λ (v : SendState). after_new_ack (newly_acknowledged pos s.send) (sample_of pos s.send) now (record s { send = v })) (send_new pos s.send low high)
 
--- the same again
+-- an acknowledgement of SND.UNA once more changes nothing
 pub same_ack : (pos now : ℕ) (s : EndState) → pos ≡ s.send.una → pos ≤ s.send.nxt → after_acknowledgement pos now s ≡ s
 same_ack pos now s same high =
     ap (λ (kind : AckKind). after_ack_kind kind (sample_of pos s.send) now (record s { send = after_acknowledge pos s.send })) (kind_same pos s.send same high)

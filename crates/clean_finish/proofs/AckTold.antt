@@ -74,7 +74,7 @@ module _ {s : Side} {keys : Keys} {k j : Setting} {c : Profile} {begun begun_bac
       acked = data_acked ticks t u k_is j_is going going_back h free there f.sent true hand f.waiting f.una f.high (f.clear.2 refl) acknowledges tells.1
           (window_told false f.sent.window) tells.0 f.rests
 
-      -- it isn't ahead of what was written
+      -- the Data ACK isn't ahead of what was written
       pub not_ahead : is_future f.sent.telling.next m.send ≡ false
       not_ahead = now ticks t u k_is j_is going going_back h free there f.sent true hand
 

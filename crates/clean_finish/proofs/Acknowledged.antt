@@ -14,7 +14,7 @@ use Rattle.clean_finish.proofs.Passing.{stands_then}
 use Rattle.clean_finish.proofs.TakenMarks.{taken_acked}
 use Rattle.clean_finish.proofs.Raised.{raised, before_raised, Emits, stage_raised}
 
--- it is told to the book
+-- a Data ACK is told to the book
 pub book_hears : (next window edge waiting : ℕ) (out later : Sender) (b : SendBook) → is_future next b ≡ false → BookIs out waiting b
     → later.edge ≡ max out.edge edge → later.granted ≡ out.granted → edge ≡ next + window → min next (length b.marks) ≤ out.granted + waiting
     → BookIs later waiting (after_ack next window b)

@@ -81,7 +81,7 @@ module _ {keys : Keys} {k j : Setting} {c : Profile} {begun begun_back : Lane} {
     pub above : {y z : ℕ} → y ≡ 0 → 1 ≤ z → y < z
     above is one = omega (arith, is, one)
 
-    -- it is so
+    -- the acknowledgement leaves this end
     pub acked_is : after_acknowledgement edge clock opened ≡ acked
     acked_is = new_ack edge clock opened (above low some) most_edge
 

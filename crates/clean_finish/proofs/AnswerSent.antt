@@ -28,7 +28,7 @@ syn_ack_at j at window edge = record {
   edge = edge;
 }
 
--- it is the segment that B sends
+-- this SYN/ACK is the segment that B sends
 pub syn_ack_is : (c : Profile) (keys : Keys) (j : Setting) (at : ℕ) (e : PathEnd) → c.spelling.path ≡ 0 → e.modes.capable_asked ≡ true
     → e.modes.identity ≡ false → e.modes.own_key ≡ keys.b
     → syn_ack_said c B e ≡ said c keys B (syn_ack_at j at e.receiving.window e.tcp.recv.edge)

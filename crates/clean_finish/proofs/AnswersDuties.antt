@@ -39,7 +39,7 @@ not_b e = cc
 not_a : B ≡ A → ⊥
 not_a e = cc
 
--- it comes to nothing
+-- a duty that comes to nothing
 never : {X : Type 0} → false ≡ true → X
 never on = absurd (both_ways false refl on)
 

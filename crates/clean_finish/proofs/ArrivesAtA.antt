@@ -83,7 +83,7 @@ module _ (start : Start) (plan : PathPlan) (k j : Setting) (s v : Lane) (t0 u0 :
           pub link : LinkIs tick (record p.link { under_way = others })
           link = link_arrived p.clock f.tick (record p.link { under_way = copy ∷ others }) copy others refl h.link
 
-          -- it follows what came
+          -- the copy follows what came
           pub record Follows : Type 0 where
             pub low : first.x.low ≡ h.back.received
             pub counts : CountsAs h.back.control_came h.back.keys_came first.x.control first.x.keys first.x.brings

@@ -84,7 +84,7 @@ module _ (start : Start) (plan : PathPlan) (k j : Setting) (s v : Lane) (t0 u0 :
           pub link : LinkIs tick (record p.link { under_way = others })
           link = link_arrived p.clock f.tick (record p.link { under_way = copy ∷ others }) copy others refl h.link
 
-          -- it follows what came
+          -- the copy follows what came
           pub record Follows : Type 0 where
             pub low : first.x.low ≡ h.out.received
             pub counts : CountsAs h.out.control_came h.out.keys_came first.x.control first.x.keys first.x.brings

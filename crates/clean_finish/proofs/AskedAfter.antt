@@ -16,7 +16,7 @@ asks_for _ = A
 same_question : {p q : Side} → Duty.Ask (AskDuty.AckOut p) ≡ Duty.Ask (AskDuty.AckOut q) → p ≡ q
 same_question e = ap asks_for e
 
--- it was asked
+-- AckOut was asked
 pub out_drops : (s r : Side) (d : Duty) (ds : List Duty) (asked owes : Bool) (p : Stage) → d ≡ Duty.Ask (AskDuty.AckOut r)
     → StageIs s r (d ∷ ds) asked owes p → StageIs s r ds false owes (record p { ask = false; window = false })
 out_drops s r d ds asked owes p at is = record {
@@ -259,7 +259,7 @@ module _ {s : Side} {keys : Keys} {k j : Setting} {c : Profile} {begun begun_bac
         owed_back = h.owed_back;
       }
 
-      -- it isn't asked again
+      -- AckOut isn't asked again
       abbrev pub out_passes : m.end.treated.asked ≡ false → Facing s keys k j c begun begun_back m n clock until ds
       out_passes unasked = record {
         out = h.out;

@@ -30,7 +30,7 @@ piece_at at low control shown telling window edge octets = record {
   edge = edge;
 }
 
--- it is the record's segment
+-- what is said is the record's segment
 pub piece_is : (c : Profile) (keys : Keys) (s : Side) (at low control shown : ℕ) (t : Telling) (r : Record) (e : PathEnd) → IsMapping e.modes
     → is_first_piece s r e ≡ false → is_opening e.tcp.state ≡ false → r.kind ≡ Data → r.pos ≡ low + control → t.next ≡ e.receiving.next
     → r.mapping ≡ mapping_of c s low (low + control) r.piece → low < 2 ^ 64

@@ -59,7 +59,7 @@ counts_some control keys control_then keys_then EndsSubflow e is = one is.0
     one : {x : ℕ} → x ≡ 1 → 1 ≤ x
     one same = omega (arith, same)
 
--- so does it itself
+-- what a copy brings counts itself
 control_some : (control keys control_then keys_then : ℕ) (b : Brings) → is_opening b ≡ false → CountsAs control keys control_then keys_then b → 1 ≤ control_then
 control_some control keys control_then keys_then OpensSubflow e is = absurd (both_ways _ e refl)
 control_some control keys control_then keys_then ShowsKeys e is = some_one is.1
@@ -74,7 +74,7 @@ tells_seen least s window t ShowsKeys e is = some_one is.2
 tells_seen least s window t (FirstPiece octets) e is = some_one is.2
 tells_seen least s window t _ e is = is.1
 
--- it stands at the edge of what came
+-- the copy stands at the edge of what came
 at_edge : (x : Sent) (received control keys : ℕ) → is_opening x.brings ≡ false → x.low ≡ received → CountsAs control keys x.control x.keys x.brings
     → position_of x ≡ 1 + received + (control - 1)
 at_edge x received control keys opens low counts = by x.brings opens counts

@@ -100,7 +100,7 @@ acks_data c keys s x ShowsKeys e f = absurd (both_ways _ f refl)
 acks_data c keys s x (FirstPiece octets) e f = absurd (both_ways _ f refl)
 acks_data c keys s x _ e f = refl
 
--- so many things
+-- how many things are heard
 pub length_heard : (keys : Keys) (next window : ℕ) (b : Brings) → length (heard_by keys next window b) ≡ count_in b
 length_heard keys next window OpensSubflow = refl
 length_heard keys next window _ = refl

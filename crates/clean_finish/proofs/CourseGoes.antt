@@ -54,7 +54,7 @@ module _ (start : Start) (plan : PathPlan) (k j : Setting) (a b : ℕ) (wide : k
       pub ends : (u x : Lane) → Round k s u → Round j v x → Linked u x → 1 ≤ u.control_sent → Course k j a b n u x × Calm k u × Calm j x
       pub runs : Running start plan k j s v t
 
-    -- so many rounds have ended
+    -- this number of rounds has ended
     pub record Stands (n : ℕ) (t : Cast Carried) : Type 0 where
       pub settled : Every (λ (y : Walker Carried). IsSettled y.path) t.paths
       pub told_a : TellsAs t.a t.at_a.list
@@ -223,7 +223,7 @@ module _ (start : Start) (plan : PathPlan) (k j : Setting) (a b : ℕ) (wide : k
 
     -- ---- turns
 
-    -- so many rounds have ended in the world after some turns
+    -- this number of rounds has ended in the world after some turns
     pub record After (n : ℕ) (w : WorldState Carried) : Type 0 where
       pub count : ℕ
       pub is : count ≡ n

@@ -75,7 +75,7 @@ module _ {s : Side} {keys : Keys} {k j : Setting} {c : Profile} {begun begun_bac
     covers = lane.under_way.acks_are (copy_in x) (subst (λ (cs : List Copy). In (copy_in x) cs)
         (sym (h.way_back.acks_are ∙ ap (λ (o : Option Hand). map copy_in (tells_in o ++ h.way_back.sent)) hand)) (inl refl))
 
-    -- it isn't ahead of what was written
+    -- the Data ACK isn't ahead of what was written
     pub now : is_future x.telling.next m.send ≡ false
     now = le-ltb (length m.send.written + (if m.send.closed then 1 else 0)) x.telling.next (by m.send.closed refl)
       where

@@ -18,7 +18,7 @@ k = setting_of a_path 65536 0
 abbrev window : ℕ
 window = 2828
 
--- so far a round came by moves, from a stage and a lane of it on
+-- how far a round came by moves, from a stage and a lane of it on
 record Here (s : Lane) (p : Stage) (w : Lane) : Type 0 where
   stage : Stage
   lane : Lane

@@ -34,7 +34,7 @@ module _ {s : Side} {keys : Keys} {k j : Setting} {c : Profile} {begun begun_bac
     pub place_is : place ≡ j.total
     place_is = subst (λ (b : Brings). BringsAs j.total x.low x.edge b) brings (follow h refl x hand kind).3.2
 
-    -- it is the first one
+    -- the DATA_FIN is the first one
     pub none_came : h.back.data_fin_came ≡ 0
     none_came = once (data_fins (map copy_in h.way_back.sent)) one_fin (subst (λ (a : ℕ). a + h.back.data_fin_came ≤ h.back.data_fin_sent) counted lane.flags.once)
         lane.numbers.data_fin_sent lane.numbers.known lane.numbers.closed

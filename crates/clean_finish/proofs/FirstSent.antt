@@ -27,7 +27,7 @@ first_at at low least window edge octets = record {
   edge = edge;
 }
 
--- it is the record's segment
+-- what is said is the record's segment
 pub first_is : (c : Profile) (keys : Keys) (at low least : ℕ) (r : Record) (e : PathEnd) → IsMapping e.modes
     → is_first_piece A r e ≡ true → e.modes.peer_key ≡ Some keys.b → e.modes.own_key ≡ keys.a → is_opening e.tcp.state ≡ false → r.kind ≡ Data
     → r.pos ≡ low + 1 → r.mapping ≡ mapping_of c A low (low + 1) r.piece

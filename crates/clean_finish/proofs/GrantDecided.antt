@@ -8,7 +8,7 @@ use Rattle.clean_finish.proofs.TakenMarks.{next_free, free_behind, few_acked}
 
 -- Path 0 took so many bytes, and asks for `most` more.
 pub data GrantIs (taken most : ℕ) (b : Sending) : Type 0 where
-  -- it gets the next ones
+  -- the path gets the next ones
   Gives : (count : ℕ) → 1 ≤ count → count ≤ most → taken + count ≤ length b.marks → taken + count ≤ b.edge
       → decision 0 most false b ≡ Ok (record { from = taken; to = taken + count }) → GrantIs taken most b
   -- all bytes are acknowledged; all were taken; the window is shut

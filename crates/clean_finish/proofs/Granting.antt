@@ -105,7 +105,7 @@ module _ {s : Side} {keys : Keys} {k j : Setting} {c : Profile} {begun begun_bac
         up : {x y : ℕ} → x ≡ y → 1 ≤ y → 1 ≤ x
         up p q = omega (arith, p, q)
 
-    -- it is refused for want of bytes, or of room
+    -- the path is refused for want of bytes, or of room
     module _ (why : Why) (full : (h.out.written ≤ h.out.granted) ⊎ (h.out.edge ≤ h.out.granted)) (shut : is_shut why ≡ true → h.out.granted < h.out.written) where
       pub may_refuse : MayRefuse k begun (finishing h) (is_shut why) h.out.closed h.out
       may_refuse = record {

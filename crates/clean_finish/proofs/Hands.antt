@@ -72,7 +72,7 @@ module _ (c : Profile) (keys : Keys) (j k : Setting) (from : Side) (out : Sender
     passed = w.passed;
   }
 
-  -- it is done with
+  -- the copy in hand is done with
   abbrev pub way_done : (flying : List (Flight Carried)) (x : Sent)
       → WayIs c keys j k from out other datas acks (in_hand x false false) una edge flying
       → WayIs c keys j k from out other datas acks None una edge flying

@@ -32,7 +32,7 @@ module _ (v : Mappings) (edge : ℕ) (beyond : (p : ℕ) → edge ≤ p → plac
     clash_is : clash_of (run_of kept) v ≡ None
     clash_is = no_clash_from ((run_of kept).to - (run_of kept).pos) (run_of kept).pos (run_of kept) from
 
-    -- it is at odds with none
+    -- the mapping is at odds with none
     pub agrees : held_clashes v ≡ false
     agrees = ap (λ (ms : List KeptMapping). clashes_if (first_of ms) v) held ∙ ap (λ (o : Option Learn). is_some o) clash_is
 

@@ -41,7 +41,7 @@ told_now s fall p v kept none now held fin =
     ∙ (ap (λ (es : List Duty). goes_on s (with_learned (record e { modes = mode_in r e.modes })) es p) (fell_done s fall p)
     ∙ ap (λ (y : PathEnd). goes_on s y (left p) p) (with_learned_is (record e { modes = mode_in r e.modes }) v kept now held fin))
 
--- it is passed
+-- the mapping is passed
 pub passed_now : (s : Side) (e : PathEnd) (v : Mappings) (kept : KeptMapping) → is_some e.modes.peer_key ≡ true
     → after_learn_held e.receiving.mappings ≡ v → e.receiving.mappings.held ≡ kept ∷ [] → kept.fin ≡ false
     → heard_passed s (Heard.Mapping false) e ≡ learned_end v e.modes e
@@ -214,7 +214,7 @@ module _ {s : Side} {keys : Keys} {k j : Setting} {c : Profile} {begun begun_bac
     one : h.back.control_came ≤ 1
     one = one_came ticks t u k_is j_is going going_back h x false hand some
 
-    -- it begins at the receive edge
+    -- the copy begins at the receive edge
     position : x.low + x.control ≡ m.end.tcp.recv.edge
     position = at_position h.own.subflow.come.edge (chain ticks t u k_is j_is going going_back h x false hand).0 count.1 count.0 one
 

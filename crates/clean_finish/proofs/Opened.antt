@@ -25,7 +25,7 @@ syn_of j at window = record {
   edge = 1;
 }
 
--- it is the segment that A sends
+-- this SYN is the segment that A sends
 pub syn_is : (c : Profile) (keys : Keys) (j : Setting) (at : ℕ) (e : PathEnd) → c.spelling.path ≡ 0 → e.tcp.state ≡ SynSent
     → first_unsent e ≡ Some (syn_record never_sent)
     → record_or_ack c A (first_unsent e) e ≡ said c keys A (syn_of j at e.receiving.window)

@@ -28,7 +28,7 @@ not_b e = cc
 not_a : B ≡ A → ⊥
 not_a e = cc
 
--- it would come to something
+-- a duty that would come to something
 always : {X : Type 0} → true ≡ false → X
 always off = absurd (both_ways true off refl)
 

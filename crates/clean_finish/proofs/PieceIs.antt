@@ -103,7 +103,7 @@ module _ (c : Profile) (q : Side) (x : Sent) (octets : List ℕ) (s : EndState) 
     checked_is true e = ap (λ (b : Bool). if b && is_right kept s then some_piece (piece_in kept s) else None) whole_is
         ∙ (ap (λ (b : Bool). if true && b then some_piece (piece_in kept s) else None) (right_is e) ∙ (ap some_piece piece_is ∙ some_is))
 
-    -- it is the mapping at the edge
+    -- the kept mapping is the one at the edge
     pub here_is : (v : Mappings) → v.forgotten ≤ s.recv.edge → v.live ≡ kept ∷ [] → mapping_at v s.recv.edge ≡ Some kept
     here_is v low live = ap (λ (b : Bool). if b then None else find (λ (y : KeptMapping). covers s.recv.edge (run_of y)) v.live) (le-ltb s.recv.edge v.forgotten low)
         ∙ (ap (λ (ys : List KeptMapping). find (λ (y : KeptMapping). covers s.recv.edge (run_of y)) ys) live

@@ -18,7 +18,7 @@ module _ {s : Side} {keys : Keys} {k j : Setting} {c : Profile} {begun begun_bac
     abbrev pub end_after : PathEnd
     end_after = having_sent Occasion.Ack clock (said c keys s x) m.end
 
-    -- it has no bytes and no DATA_FIN
+    -- the segment has no bytes and no DATA_FIN
     module _ (hand : Option Hand) (still : brings_still h.hand ≡ false) (nothing_waits : h.waiting ≡ 0) (some : 1 ≤ h.out.control_sent) (same_shut : shut ≡ h.out.shut)
         (low : x.low ≡ h.out.granted) (none : length (octets_of x.brings) ≡ 0) (none_fin : data_fin_of x.brings ≡ 0)
         (control : max h.out.control_sent x.control ≡ h.out.control_sent) (shown : max h.out.keys_sent x.keys ≤ pick s h.out.ready 0)

@@ -33,7 +33,7 @@ module _ {s : Side} {keys : Keys} {k j : Setting} {c : Profile} {begun begun_bac
         (own : EndIs s keys k j out_after.sender back_after.receiver hand owes waiting e)
         -- the link after it
         (fs gs : List (Flight Carried)) (f : Flight Carried) (flies : FliesAs c keys s f x) (more : fs ≡ m.flying ++ f ∷ []) (same : gs ≡ n.flying)
-        -- it stands where the others end
+        -- the segment stands where the others end
         (acknowledges : AcknowledgesAs j.total x × ShowsFirst s x × BringsAs k.total x.low x.edge x.brings) (tells : TellsAs j.least s x.window x.telling x.brings) (low : x.low ≡ h.out.granted)
         (counts : CountsAs h.out.control_sent h.out.keys_sent x.control x.keys x.brings)
         (edge : m.end.tcp.recv.edge ≤ x.edge) (most : x.edge ≤ e.tcp.recv.edge)

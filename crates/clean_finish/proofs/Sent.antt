@@ -53,7 +53,7 @@ sent_all k out later waiting now tcp h r rest unsent some few next finished =
       fits = omega arith;
     }
 
--- the same where the first record of all is sent, since it alone is there
+-- the first record of all is sent, since it alone is there
 first_alone : (now : ℕ) (rs : List Record) (r : Record) → rs ≡ r ∷ [] → first_sent now rs ≡ sent_now now r ∷ []
 first_alone now rs r is = ap (λ (xs : List Record). first_sent now xs) is
 

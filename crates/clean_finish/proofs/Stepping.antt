@@ -71,7 +71,7 @@ module _ (start : Start) (plan : PathPlan) (k j : Setting) (s v : Lane) where
             (steps_on passes answering t.a t.b (books_in t.books) x.path d ds at stood h));
       }
 
-  -- so the relation goes on with a step of the path, as a lemma over all steps asks (`Stepwise`)
+  -- the relation goes on with a step of the path, as a lemma over all steps asks (`Stepwise`)
   pub path_steps : Passes → Answers → (t : Cast Carried) (number : ℕ) (x : Walker Carried) → slice_get t.paths number ≡ Some x
       → (d : Duty) (ds : List Duty) → x.path.agenda ≡ d ∷ ds → FirstStands x.path.agenda x.path → Running start plan k j s v t
       → Running start plan k j s v (after_path values number x (ask_for values d x.path) t)

@@ -94,7 +94,7 @@ module _ {s : Side} {keys : Keys} {k j : Setting} {c : Profile} {begun begun_bac
         told_on (Before side (inl received) least full) = Before side (inl received) least full
         told_on (Before side (inr owed) least full) = absurd (both_ways _ unowed owed)
 
-        -- it owes an acknowledgement for what occupies a position, and for what wants one
+        -- the end owes an acknowledgement for what occupies a position, and for what wants one
         due_is : y.due ≡ held.due → (tcp_after y).due ≡ record nothing_due { ack = owes_after }
         due_is same = by (list_any wants_ack items) (nat_lt 0 (occupied copy))
             (same ∙ (h.own.subflow.due ∙ ap (λ (b : Bool). record nothing_due { ack = b }) unowed))

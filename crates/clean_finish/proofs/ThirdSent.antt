@@ -30,7 +30,7 @@ third_at at low window edge least = record {
   edge = edge;
 }
 
--- it is the acknowledgement that A sends before it heard a DSS
+-- this third ACK is the acknowledgement that A sends before it heard a DSS
 pub third_is : (c : Profile) (keys : Keys) (at low least : ℕ) (e : PathEnd) → e.modes.identity ≡ false → e.modes.clear ≡ false → e.modes.owes_third ≡ false
     → e.modes.peer_key ≡ Some keys.b → e.modes.own_key ≡ keys.a → e.tcp.send.nxt ≡ low + 1
     → ack_said c A e.tcp.send.nxt None e ≡ said c keys A (third_at at low e.receiving.window e.tcp.recv.edge least)

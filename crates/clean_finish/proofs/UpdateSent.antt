@@ -91,7 +91,7 @@ module _ {s : Side} {keys : Keys} {k j : Setting} {c : Profile} {begun begun_bac
             up : {a b : ℕ} → 1 ≤ a → min 1 a ≤ b → 1 ≤ b
             up p q = omega (arith, p, q)
 
-        -- so much was told last, at A before a DSS came, that it isn't due there
+        -- what was told last, at A before a DSS came, is so much that no update is due there
         pub far : {limit read whole received fin buffer : ℕ} (edge total : ℕ) → limit ≤ read + buffer + whole → read ≤ received → received ≡ 0
             → whole ≡ min fin ((received + 1) - total) → fin ≤ 1 → buffer ≤ edge + 31 → 2 * (limit - edge) ≤ 64
         far edge total p q is is_whole_of r z = omega (arith, p, q, is, is_whole_of, r, z)
@@ -175,7 +175,7 @@ module _ {s : Side} {keys : Keys} {k j : Setting} {c : Profile} {begun begun_bac
             few : {x y : ℕ} → x ≤ y → 0 + x ≤ y
             few less = omega (arith, less)
 
-        -- it tells another edge than the segment before
+        -- the update tells another edge than the segment before
         pub other_edge : h.back.told.edge ≡ m.end.receiving.next + window_told false m.end.receiving.window → ⊥
         other_edge same = by h.own.receiving.told
           where

@@ -11,7 +11,7 @@ flies_more c keys from f x one (g ∷ fs) (y ∷ ys) all = (all.0, flies_more c 
 flies_more c keys from f x one [] (y ∷ ys) all = absurd all
 flies_more c keys from f x one (g ∷ fs) [] all = absurd all
 
--- it follows where the others end
+-- a copy more follows where the others end
 pub follow_more : (least total own : ℕ) (s : Side) (x : Sent) → AcknowledgesAs total x × ShowsFirst s x × BringsAs own x.low x.edge x.brings → TellsAs least s x.window x.telling x.brings
     → (low control keys : ℕ) (xs : List Sent) → x.low ≡ low_after low xs
     → CountsAs (control_after control xs) (keys_after keys xs) x.control x.keys x.brings

@@ -418,7 +418,7 @@ module _ (line : Line) (old new : Told) where
       end_answer Memory h = absurd h.ended
       end_answer (Log at) h = absurd h.ended
 
-    -- it was cut off
+    -- a run that was cut off
     cut_row : (status : Status) → IsCut (loads_of line) line task old new status
         → CutRow line old new status
     cut_row status h = record {

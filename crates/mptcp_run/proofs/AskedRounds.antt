@@ -118,6 +118,6 @@ pub line_asks : (words : List Word) → IfSome (line_of words) Asks
 unfolding line_of
 line_asks words = bind_has (parts_of None words) line_of_parts Asks parts_ask
 
--- so it is of a line that was read
+-- a line that was read asks for numbers in their range
 pub line_asked : (words : List Word) (line : Line) → line_of words ≡ Some line → AsksInRange line.work
 line_asked words line is = subst (λ (o : Option Line). IfSome o Asks) is (line_asks words)

@@ -382,7 +382,7 @@ module _ (line : Line) (old new : Told) (made : List Made) (contents : List ℕ 
   called_by (Aborted reader) none h own = first_called (Aborted reader) none h (λ file pieces first. first)
   called_by _ none h own = absurd own
 
--- so it is of each answer
+-- the calls of each answer
 pub messages_called : (line : Line) (old new : Told) (status : Status)
     → takes_messages line ≡ true → IsMessagesAnswer line old new status → NoneIsAltered old.content line → HasEnded status
     → CalledToEnd status (old.content line.names.file_a) (old.content line.names.file_b) (task_of (lined_content line.names.file_a line.names.file_b old.content) line) line old.calls new.calls

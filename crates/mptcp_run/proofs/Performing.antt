@@ -151,7 +151,7 @@ module _ (line : Line) (task : Task) (a b c : Told) (held : AreBound a.holds b.h
           (all_then (puts_so_far task made.turns) _ b.calls c.calls d.calls made.calls (subst (λ text. AddsAll (line_put text) c.calls d.calls) is told));
     }
 
-    -- it wasn't put whole
+    -- the line wasn't put whole
     pub line_short : LogGrewPart last c.holds d.holds → AddsShort (line_put last) status c.calls d.calls → IsCut [] line task a d status
     line_short grew cut = inr (record {
       turns = made.turns;

@@ -51,7 +51,7 @@ cut_held unbegun (Some held) new low high file (inr (text, both)) part =
 
 -- ---- the last round's end
 
--- it is the connection after some turns
+-- the world at the last round's end is the connection after some turns
 last_end_after : (turns : List Turn) (w first : Connection) → (last_end first (round_ends turns w) ≡ first)
     ⊎ ((prefix : List Turn) × (last_end first (round_ends turns w) ≡ world_run octets prefix w))
 last_end_after [] w first = inl refl

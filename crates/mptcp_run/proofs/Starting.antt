@@ -29,7 +29,7 @@ use Rattle.run_outside.proofs.PortsLemmas.{risen_later}
 use Rattle.mptcp_run.proofs.UnderWay.{opened_begins}
 
 module _ (input : Input) (kind : Report) (run : Run) (h : IsOpened input kind run) where
-  -- it begins its first round
+  -- the run begins its first round
   pub opened_at : AtRound run
   opened_at = record {
     stands = ap (λ (k : Kept). k.failed) h.world;

@@ -78,7 +78,7 @@ next_quiet a h = settled_quiet start_of_app (fresh_turn a) (ap a_round_less h.ne
 first_quiet : (s : Side) (buffer : ℕ) (file : List ℕ) (tick : Option ℕ) → tick ≡ None → IsQuiet (first_app_turn s buffer file tick)
 first_quiet s buffer file tick none = settled_quiet start_of_app (untouched s buffer file tick) (ap (option_map rounds_before) none)
 
--- it asks for no fast close
+-- a quiet application asks for no fast close
 quiet_asks : (s : Side) (ds : List AppDuty) (a : AppState) → begins_with_stop ds ≡ false → IfSome (app_asks_first ds a) (λ ask. asks_fast_close s ask ≡ false)
 quiet_asks s [] a first = tt
 quiet_asks s (FastClose ∷ ds) a first = cc
@@ -178,7 +178,7 @@ opened_quiet B task none = λ c there. subst (IsQuietCrew B) (same_Some _ c ther
   unasked = refl;
 })
 
--- so the peer of a reader never stopped the connection
+-- the peer of a reader never stopped the connection
 pub never_stopped : (task : Task) (turns : List Turn) (reader : Side) → ((s : Side) → fast_close_of s task.script.lines ≡ None)
     → PeerStopped reader (world_after task turns) → ⊥
 never_stopped task turns reader none h =

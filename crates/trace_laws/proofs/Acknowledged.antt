@@ -115,7 +115,7 @@ ack_may pos now t = elim (ack_kind pos t.send) as (λ kind. states.may_finish (a
     fin : (b : Bool) → states.may_finish (if b then states.after_fin_acked t.state else t.state) ≡ true → states.may_finish t.state ≡ true
     fin = elim [ true ↦ λ is. acked_may t.state is | false ↦ λ is. is ]
 
--- it is one of the SYN, or the SYN was acknowledged before
+-- an acknowledgement is one of the SYN, or the SYN was acknowledged before
 acknowledgement_acks : (pos now : ℕ) (t : EndState) → (states.may_finish t.state ≡ true → (1 ≤ t.send.una) ⊎ ((1 ≤ pos) × (pos ≤ t.send.nxt))) → Acks (after_acknowledgement pos now t)
 acknowledgement_acks pos now t h may =
     let same = ap (λ (v : SendState). v.una) (ack_send pos now t) in

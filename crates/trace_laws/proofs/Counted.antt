@@ -27,7 +27,7 @@ use Rattle.trace_laws.proofs.MomentFacts.{GoodSent, carried_from, moment_facts, 
 abbrev alone : Start → List Sent → List Carried
 alone start trace = map (carried_of (base_from start) (initials_of start.paths) []) trace
 
--- so each is read, since none tells an infinite mapping that says anything new
+-- each segment is read alone, since none tells an infinite mapping that says anything new
 each_alone : (start : Start) (trace : List Sent) → Every (GoodSent start) trace → all_carried (base_from start) (initials_of start.paths) trace ≡ alone start trace
 each_alone start [] good = refl
 each_alone start (x ∷ trace) good =

@@ -279,7 +279,7 @@ pub carried_from : (base : Base) (initials : List PathInitials) (x : Sent) → (
 carried_from base initials x = elim (meaning_in x) as (λ o. (carried_in base x (initial_in initials x.path x.from) [] o).from ≡ x.from)
     [ Err fault ↦ refl | Ok segment ↦ refl ]
 
--- it is on one of the paths, its payload ends within its side's file, and it tells no infinite mapping that says anything new
+-- a segment is on one of the paths, its payload ends within its side's file, and it tells no infinite mapping that says anything new
 pub record GoodSent (start : Start) (x : Sent) : Type 0 where
   pub path : (carried_of (base_from start) (initials_of start.paths) [] x).path < length start.paths
   pub ends : ((carried_of (base_from start) (initials_of start.paths) [] x).len ≡ 0)

@@ -181,7 +181,7 @@ module _ (spelling : Spelling) (from : Side) (key : ℕ) (keyed : (numbers_of sp
 pub record Placed (base : Base) (initials : List PathInitials) (x : Sent) (place len : ℕ) : Type 0 where
   pub told : (carried_of base initials [] x).place ≡ Some place
   pub len_is : (carried_of base initials [] x).len ≡ len
-  -- it tells no infinite mapping that says anything new
+  -- the segment tells no infinite mapping that says anything new
   pub steady : shifts_after base x [] ≡ []
 
 -- a segment that can be said, without SYN, and with one option at most

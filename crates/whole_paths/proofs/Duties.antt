@@ -190,12 +190,12 @@ module _ {C : Type 0} where
       → PathStep p q
   calm s e p q tcp sending same_a same_b = side s e p q (rests q.clock (end_at s p) e tcp sending) same_a same_b
 
-  -- it dies
+  -- the end dies
   dying : (s : Side) (e : PathEnd) (p q : PathState C) → e.tcp ≡ (died (end_at s p)).tcp → e.sending ≡ (end_at s p).sending → q.a ≡ (goes_on s e [] p).a → q.b ≡ (goes_on s e [] p).b
       → PathStep p q
   dying s e p q tcp sending same_a same_b = side s e p q (died_steps q.clock (end_at s p) e tcp sending) same_a same_b
 
-  -- it sends a segment on this occasion
+  -- the end sends a segment on this occasion
   sent : (occasion : Occasion) (s : Side) (e : PathEnd) (p q : PathState C) → q.clock ≡ p.clock → e.sending ≡ (end_at s p).sending
       → e.tcp ≡ after_sending occasion p.clock (end_at s p).tcp → q.a ≡ (goes_on s e [] p).a → q.b ≡ (goes_on s e [] p).b → PathStep p q
   sent occasion s e p q clock sending tcp same_a same_b =

@@ -98,7 +98,7 @@ meaning_sent _ c s = connected_sent c s
 
 -- ---- SND.UNA
 
--- it is that position then, or past it
+-- SND.UNA is that position then, or past it
 reached : (n : ℕ) (v : SendState) → n ≤ v.nxt → n ≤ (after_acknowledge n v).una
 reached n v sent = ⊎_elim
     (λ low. subst (λ b. n ≤ (if b then record v { una = n; records = uncovered n v.records } else v).una) (sym (ap (λ b. b && nat_le n v.nxt) (lt-ltb v.una n low) ∙ le-leb n v.nxt sent)) (le_refl n))

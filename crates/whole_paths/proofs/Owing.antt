@@ -419,7 +419,7 @@ module _ (c : Profile) (s : Side) (now : ℕ) (x : HeardSegment) (count : ℕ) (
   abbrev heard_as : Meaning → PathEnd
   heard_as m = copy_judged (is_joined c) (held_of c s x) (reset_for c s x) s now x m e
 
-  -- it owes nothing more
+  -- the end owes nothing more
   quiet : (ds : List Duty) (m : Meaning) → (heard_as m).tcp.due ≡ e.tcp.due → Ready s ds (heard_as m)
   quiet ds m is = is_quiet (record { ack = ap (λ (d : Due). d.ack) is ∙ h.ack; syn_ack = ap (λ (d : Due). d.syn_ack) is ∙ h.syn_ack })
 

@@ -54,7 +54,7 @@ module _ (k : Setting) (ranges : HasRanges k) (harms : ℕ) (w : Lane) (fine : F
       ⊎_elim (λ bytes. let now = fine.datas_at bytes.copy bytes.among in absurd (omega (arith, late, due, now, bytes.has)))
       (λ ack. let now = fine.acks_at ack.copy ack.among in absurd (omega (arith, late, due, now, ack.has))) one
 
-  -- so all expiries so far are paid for
+  -- all expiries up to now are paid for
   all_paid : (t : ℕ) → w.timer ≡ Some t → t ≤ w.clock → RowIs k harms w → w.expiries + w.harms ≤ harms
   all_paid t is due (quiet none) = omega (arith, none, few)
   all_paid t is due (paid enough) = enough
