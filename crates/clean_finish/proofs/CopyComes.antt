@@ -59,7 +59,7 @@ counts_some control keys control_then keys_then EndsSubflow e is = one is.0
     one : {x : ℕ} → x ≡ 1 → 1 ≤ x
     one same = omega (arith, same)
 
--- what a copy brings counts itself
+-- a copy that opens no subflow has one at least before it
 control_some : (control keys control_then keys_then : ℕ) (b : Brings) → is_opening b ≡ false → CountsAs control keys control_then keys_then b → 1 ≤ control_then
 control_some control keys control_then keys_then OpensSubflow e is = absurd (both_ways _ e refl)
 control_some control keys control_then keys_then ShowsKeys e is = some_one is.1
