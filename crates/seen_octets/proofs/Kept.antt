@@ -1,12 +1,13 @@
 -- Octets that are put behind those that are there.
-use Rattle.std.proofs.Common.{◌≡◌, ◌≢◌, refl, ap, ◌∙◌, sym, subst, ℕ, zero, suc, ◌+◌, ◌-◌, ◌<◌, ◌≤◌, Bool, true, false, ◌&&◌, nat_le, nat_lt, is_some, if◌then◌else◌, Option, Some, None, option_map, IfSome, IfNone, not, List, ◌++◌, length, get_or, length-append, arith, true≢false, ◌⊎◌, inl, inr}
+use Rattle.std.proofs.Common.{◌≡◌, ◌≢◌, refl, ap, ◌∙◌, sym, subst, ℕ, zero, suc, ◌+◌, ◌-◌, ◌<◌, ◌≤◌, Bool, true, false, ◌&&◌, nat_le, nat_lt, is_some, if◌then◌else◌, Option, Some, None, option_map, IfSome, IfNone, not, List, ◌++◌, length, get_or, length-append, Result, Ok, Err, OnOk, OnErr, arith, true≢false, ◌⊎◌, inl, inr}
 use Rattle.std.specs.Option.{option_or}
 use Rattle.std.proofs.lemmas.List.{get_or_append_left, get_or-append-add}
 use Rattle.std.proofs.lemmas.Bool.{cases_lt}
+use Rattle.std.proofs.lemmas.Bool.Decides.{nat_tests}
 use Rattle.first_runs.specs.declared.run.Run.{Run}
-use Rattle.first_runs.specs.Runs.{Told, image_in, told_at, told_by, IsGap}
+use Rattle.first_runs.specs.Runs.{Told, cut_to, image_in, told_at, told_by, IsFilledBelow, IsGap}
 use Rattle.seen_octets.specs.declared.octet.Octet.{Octet}
-use Rattle.seen_octets.specs.Octets.{Kept, octet_told, octet_at, octet_by, AreThere, all_held}
+use Rattle.seen_octets.specs.Octets.{Kept, has_place, octet_told, octet_at, octet_by, AreThere, all_held}
 
 -- where the octets of a part stand that is put behind others
 abbrev pub run_of : ℕ → List ℕ → ℕ → List ℕ → Run
@@ -34,6 +35,40 @@ pub filled : (octets part : List ℕ) (old new : List Run) (from teller p : ℕ)
     ≡ option_or (octet_at (record { octets = octets; runs = old }) p) (octet_by from part teller p)
 filled octets part old new from teller p there is =
     ap (option_map (octet_told (octets ++ part))) is ∙ first_kept octets part from teller p (told_at old p) (there p)
+
+-- ---- places outside of the part
+none_by : (run : Run) (from p : ℕ) (part : List ℕ) → run.from ≡ from → run.to ≤ from + length part → has_place from part p ≡ false → told_by run p ≡ None
+none_by run from p part begins ends out = by (nat_le run.from p) (nat_lt p run.to) refl refl
+  where
+    by : (a b : Bool) → nat_le run.from p ≡ a → nat_lt p run.to ≡ b → (if a && b then Some (image_in run p) else None) ≡ None
+    by true true e f =
+        let lo : nat_le from p ≡ true = grind (arith, nat_tests, e, begins) in
+        let hi : nat_lt p (from + length part) ≡ true = grind (arith, nat_tests, f, ends) in
+        absurd (true≢false (sym (ap (λ b. b && nat_lt p (from + length part)) lo ∙ hi) ∙ out))
+    by true false e f = refl
+    by false b e f = refl
+
+still_told : (octets part : List ℕ) (o : Option Told) → IfSome o (λ told. told.image < length octets)
+    → option_map (octet_told (octets ++ part)) (option_or o None) ≡ option_map (octet_told octets) o
+still_told octets part None h = refl
+still_told octets part (Some told) h = ap Some (same_told octets part told h)
+
+stays_with : (octets part : List ℕ) (old new : List Run) (run : Run) (from p : ℕ) → AreThere octets old → run.from ≡ from → run.to ≤ from + length part
+    → told_at new p ≡ option_or (told_at old p) (told_by run p) → has_place from part p ≡ false
+    → octet_at (record { octets = octets ++ part; runs = new }) p ≡ octet_at (record { octets = octets; runs = old }) p
+stays_with octets part old new run from p there begins ends is out =
+    ap (option_map (octet_told (octets ++ part))) (is ∙ ap (option_or (told_at old p)) (none_by run from p part begins ends out))
+    ∙ still_told octets part (told_at old p) (there p)
+
+-- also where memory is wanting
+pub others_stay : {X E : Type 0} (result : Result X E) (octets part : List ℕ) (old new : List Run) (from teller p : ℕ) → AreThere octets old
+    → OnOk result ((p : ℕ) → told_at new p ≡ option_or (told_at old p) (told_by (run_of from part teller octets) p))
+    → OnErr result (IsFilledBelow (run_of from part teller octets) old new) → has_place from part p ≡ false
+    → octet_at (record { octets = octets ++ part; runs = new }) p ≡ octet_at (record { octets = octets; runs = old }) p
+others_stay (Ok x) octets part old new from teller p there ok err out =
+    stays_with octets part old new (run_of from part teller octets) from p there refl (omega arith) (ok p) out
+others_stay (Err e) octets part old new from teller p there ok err out =
+    stays_with octets part old new (cut_to from err.end (run_of from part teller octets)) from p there refl (omega arith) (err.told p) out
 
 -- ---- where it stands
 run_there : (run : Run) (p n : ℕ) → run.image + (run.to - run.from) ≤ n → IfSome (told_by run p) (λ told. told.image < n)

@@ -16,10 +16,14 @@ octet_told octets told = record { octet = get_or octets told.image 0; teller = t
 abbrev pub octet_at : Kept → ℕ → Option Octet
 octet_at kept place = option_map (octet_told kept.octets) (told_at kept.runs place)
 
+-- a part that begins with a place has this one
+abbrev pub has_place : ℕ → List ℕ → ℕ → Bool
+has_place from part place = nat_le from place && nat_lt place (from + length part)
+
 -- what octets from a place on tell of a place
 abbrev pub octet_by : ℕ → List ℕ → ℕ → ℕ → Option Octet
 octet_by from part teller place =
-    if nat_le from place && nat_lt place (from + length part)
+    if has_place from part place
     then Some (record { octet = get_or part (place - from) 0; teller = teller })
     else None
 

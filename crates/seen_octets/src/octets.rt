@@ -1,9 +1,9 @@
 //! Of each place the octet that was held first.
 
-ghost use Rattle.std.specs.Prelude.{◌≡◌, ◌≢◌, ℕ, ◌+◌, ◌-◌, ◌^◌, ◌<◌, ◌≤◌, None, length, OnOk};
+ghost use Rattle.std.specs.Prelude.{◌≡◌, ◌≢◌, ℕ, ◌+◌, ◌-◌, ◌^◌, ◌<◌, ◌≤◌, false, None, length, OnOk};
 ghost use Rattle.std.specs.Option.{option_or};
 ghost use Rattle.first_runs.specs.Runs.{Fits, told_at, told_by};
-ghost use Rattle.seen_octets.specs.Octets.{all_held, octet_at, octet_by, IsPiece};
+ghost use Rattle.seen_octets.specs.Octets.{all_held, has_place, octet_at, octet_by, IsPiece};
 ghost use Rattle.seen_octets.specs.Others.{first_other, other_by};
 
 use crate::octet::{Octet, OtherOctet, first_difference};
@@ -46,11 +46,11 @@ impl SeenOctets {
     ///
     /// # Errors
     ///
-    /// Want of memory. Some of the places have theirs then.
+    /// Want of memory. Some of the places have theirs then, and all others what they had.
     pub fn fill(&mut self, from: u64, part: &[u8], teller: u32) -> Result<(), AllocError>
         requires { from + length part.now < 2 ^ 64 }
-        ensures { OnOk result ((p : ℕ) → octet_at self.new p ≡ option_or (octet_at self.old p)
-            (octet_by from part.now teller p)) }
+        ensures filled { OnOk result ((p : ℕ) → octet_at self.new p ≡ option_or (octet_at self.old p) (octet_by from part.now teller p)) }
+        ensures others { (p : ℕ) → has_place from part.now p ≡ false → octet_at self.new p ≡ octet_at self.old p }
     {
         if self.is_whole(from, from + part.len() as u64) {
             return Ok(());
@@ -61,8 +61,8 @@ impl SeenOctets {
     // Fills the places that have no octet, whether there are any or not.
     fn add(&mut self, from: u64, part: &[u8], teller: u32) -> Result<(), AllocError>
         requires { from + length part.now < 2 ^ 64 }
-        ensures { OnOk result ((p : ℕ) → octet_at self.new p ≡ option_or (octet_at self.old p)
-            (octet_by from part.now teller p)) }
+        ensures filled { OnOk result ((p : ℕ) → octet_at self.new p ≡ option_or (octet_at self.old p) (octet_by from part.now teller p)) }
+        ensures others { (p : ℕ) → has_place from part.now p ≡ false → octet_at self.new p ≡ octet_at self.old p }
     {
         let image = self.octets.len() as u64;
         self.octets.extend_from_slice(part)?;

@@ -2,6 +2,7 @@ pub mod Telling
 pub mod Parts
 pub mod Walks
 pub mod Summing
+pub mod Gaps
 pub mod Stretches
 pub mod Lines
 pub mod Counting

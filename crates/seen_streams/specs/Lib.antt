@@ -7,6 +7,7 @@ pub mod Content
 pub mod Held
 pub mod Placing
 pub mod Sums
+pub mod Waits
 pub mod Acks
 pub mod Both
 pub mod Ends

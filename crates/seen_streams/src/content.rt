@@ -11,6 +11,7 @@ use crate::lane::Lane;
 use crate::places::{mapped_from, places_from, seen_from};
 use crate::stream::Stream;
 use crate::told::Learnt;
+use crate::waits::fill;
 use judge_rules::{Finding, Rule};
 use std::alloc::AllocError;
 
@@ -65,7 +66,13 @@ fn keep(lane: &mut Lane, packet: u32, payload: &Payload<'_>) -> Result<(), Alloc
     ensures { OnOk result (lane_of lane.new ≡ with_payload (payload_of payload.now) packet
         (lane_of lane.old)) }
 {
-    lane.octets.fill(payload.from, payload.held, packet)?;
+    fill(
+        &mut lane.octets,
+        &mut lane.waits,
+        payload.from,
+        payload.held,
+        packet,
+    )?;
     lane.seen.add(payload.from, payload.to)?;
     lane.top = lane.top.max(payload.to);
     Ok(())

@@ -63,7 +63,7 @@ impl Lane {
     pub fn count_waiting(&self) -> usize
         ensures { result ≡ length (lane_of self.now).waiting }
     {
-        self.waiting.len()
+        self.waits.tried.len() + self.waits.fresh.len()
     }
 
     /// How many positions with payload no mapping maps.

@@ -8,6 +8,7 @@ ghost use Rattle.seen_streams.specs.Shows.{lane_of, IsLineBounded};
 ghost use Rattle.seen_streams.specs.State.{empty_lane};
 
 use crate::told::{ToldMapping, Waiting, same_mapping};
+use crate::waits::{Waits, push};
 use first_runs::FirstRuns;
 use judge_rules::Line;
 use seen_octets::{SeenOctets, SeenPlaces};
@@ -34,11 +35,13 @@ pub struct Lane {
     pub(crate) summed: Vec<ToldMapping>,
     pub(crate) begun: SeenPlaces,
     /// Those of them whose octets weren't all held.
-    pub(crate) waiting: Vec<Waiting>,
+    pub(crate) waits: Waits,
 }
 
 impl Model for Lane {
+    ghost use Rattle.seen_octets.specs.Octets.{octet_at};
     ghost use Rattle.seen_streams.specs.Shows.{LaneKept, AreBegun, IsLaneBounded};
+    ghost use Rattle.seen_streams.specs.Waits.{all_waiting, HaveGaps};
 
     ghost Value = { LaneKept };
 
@@ -51,10 +54,10 @@ impl Model for Lane {
       fin = l.fin;
       acknowledged = l.acknowledged;
       summed = l.summed.items;
-      waiting = l.waiting.items;
+      waiting = all_waiting l.waits;
     } };
 
-    ghost invariant = { λ l. IsLaneBounded l.top l.fin l.line × AreBegun l.begun l.summed.items };
+    ghost invariant = { λ l. IsLaneBounded l.top l.fin l.line × AreBegun l.begun l.summed.items × HaveGaps (octet_at l.octets) l.waits };
 }
 
 impl Lane {
@@ -73,7 +76,7 @@ impl Lane {
             acknowledged: 0,
             summed: Vec::new(alloc),
             begun: SeenPlaces::new(alloc, 0),
-            waiting: Vec::new(alloc),
+            waits: Waits::new(alloc),
         }
     }
 
@@ -134,11 +137,11 @@ impl Lane {
           waiting = self.old.waiting ++ record { mapping = mapping.now; packet = packet } ∷ [];
         }) }
     {
-        self.waiting.push(Waiting {
+        let one = Waiting {
             mapping: *mapping,
             packet,
-        })?;
-        Ok(())
+        };
+        push(&mut self.waits, one)
     }
 
     /// The position of a segment: that of its first octet, or of its SYN, where position 0 has the number `base`. `None` where it would

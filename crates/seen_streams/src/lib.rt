@@ -13,6 +13,7 @@ mod places;
 mod stream;
 mod sums;
 mod told;
+mod waits;
 
 pub use acks::{end_by_fin, judge_ack, judge_fail};
 pub use content::{Payload, Shower, take_payload};
@@ -23,3 +24,4 @@ pub use places::PlacedStretch;
 pub use stream::Stream;
 pub use sums::{add_sums, try_sums};
 pub use told::{Broke, Infinite, Learnt, Teller, ToldMapping, Waiting};
+pub use waits::Waits;

@@ -1,17 +1,19 @@
 //! The checksums of mappings.
 
 ghost use Rattle.std.specs.Int.{int_rem_euclid};
-ghost use Rattle.std.specs.Prelude.{◌≡◌, ◌^◌, ◌<◌, pos, not, filter, OnOk, true};
+ghost use Rattle.std.specs.Prelude.{◌≡◌, ◌^◌, ◌<◌, pos, OnOk, true};
 ghost use Rattle.dss_checksum.specs.Checksum.{dss_checksum};
 ghost use Rattle.seen_octets.specs.Octets.{all_held, octet_at};
 ghost use Rattle.seen_streams.specs.Mapped.{octets_of};
 ghost use Rattle.judge_rules.specs.Mappings.{natural};
 ghost use Rattle.seen_streams.specs.Shows.{lane_of, stream_of};
+ghost use Rattle.seen_streams.specs.Waits.{all_waiting, still_open, HaveGaps};
 ghost use Rattle.seen_streams.specs.Sums.{are_alike, expected_sum, header_of, held_octets, is_whole, still_waiting, sum_fault, summed_by, tried_if_whole, tried_sum, tried_sums, with_sum, with_sums, wrong_sum};
 
 use crate::lane::Lane;
 use crate::stream::Stream;
 use crate::told::{ToldMapping, Waiting, natural};
+use crate::waits::{Waits, wait_on, wake};
 use dss_checksum::DssSum;
 use judge_rules::{Finding, Rule};
 use seen_octets::SeenOctets;
@@ -70,29 +72,25 @@ pub fn try_sums(
         (lane_of lane.old).waiting (stream_of stream.old)) }
     ensures lane { OnOk result (lane_of lane.new ≡ still_waiting (lane_of lane.old)) }
 {
-    try_each(stream, &lane.octets, &lane.waiting, packet, first)?;
-    wait_on(lane);
-    Ok(())
+    try_waits(stream, &lane.octets, &mut lane.waits, packet, first)
 }
 
-// Those that are whole wait no more.
-fn wait_on(lane: &mut Lane)
-    ensures { lane_of lane.new ≡ still_waiting (lane_of lane.old) }
+// The same of the mappings that wait.
+fn try_waits(
+    stream: &mut Stream<'_>,
+    octets: &SeenOctets,
+    waits: &mut Waits,
+    packet: u32,
+    first: u64,
+) -> Result<(), AllocError>
+    requires { HaveGaps (octet_at octets.now) waits.old }
+    ensures gaps { HaveGaps (octet_at octets.now) waits.new }
+    ensures stream { OnOk result (stream_of stream.new ≡ tried_sums packet first (octet_at octets.now) (all_waiting waits.old) (stream_of stream.old)) }
+    ensures waits { OnOk result (all_waiting waits.new ≡ still_open (octet_at octets.now) (all_waiting waits.old)) }
 {
-    keep_open(&mut lane.waiting, &lane.octets);
-}
-
-fn keep_open(waiting: &mut Vec<Waiting>, octets: &SeenOctets)
-    ensures { waiting.new.items ≡
-        filter (λ one. not (is_whole (octet_at octets.now) one)) waiting.old.items }
-{
-    waiting.retain(|one| waits_on(octets, one));
-}
-
-fn waits_on(octets: &SeenOctets, waiting: &Waiting) -> bool
-    ensures { result ≡ not (is_whole (octet_at octets.now) waiting.now) }
-{
-    !is_whole(octets, waiting)
+    wake(waits)?;
+    try_each(stream, octets, &waits.fresh, packet, first)?;
+    wait_on(octets, waits)
 }
 
 fn try_each(

@@ -23,5 +23,5 @@ returns c =
     } in
     on_ok_weaker c.add.result
     (λ seen. shown_kept c.args.shower.now.acknowledged c.args.shower.now.packet c.args.place c.args.count c.args.part.now (stream_of c.args.stream.now)
-    (stream_of kept) _ (ap stream_of c.stream.view_is ∙ c.in_ok-find_other.ensures) c.in_ok-fill.ensures seen refl)
+    (stream_of kept) _ (ap stream_of c.stream.view_is ∙ c.in_ok-find_other.ensures) c.in_ok-fill.ensures.filled seen refl)
     c.add.ensures.ok
