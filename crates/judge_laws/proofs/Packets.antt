@@ -1,0 +1,81 @@
+-- The packets of a capture, one after the other.
+use Rattle.std.proofs.Common.{◌≡◌, refl, ap, ◌∙◌, sym, subst, ℕ, ◌+◌, ◌<◌, Bool, false, Option, Some, None, option_map, List, [], ◌∷◌, ◌++◌, length, get_or, arith}
+use Rattle.sides.specs.declared.side.Side.{Side}
+use Rattle.capture_reader.specs.Captured.{Captured}
+use Rattle.capture_reader.specs.Seen.{Seen, segment_in_packet}
+use Rattle.judge_rules.specs.declared.finding.Rule.TheVariants as rule
+use Rattle.seen_streams.specs.State.{StreamValue}
+use Rattle.rule_book.specs.Judged.{judged, nothing_judged}
+use Rattle.rule_book.specs.State.{JudgedValue}
+use Rattle.capture_verdict.specs.Judging.{judged_if_seen, judged_packets}
+use Rattle.capture_verdict.specs.Sent.{IsSent}
+use Rattle.judge_laws.specs.GoesOn.{GoesOn, StreamsGoOn, broke, stream_in}
+use Rattle.judge_laws.specs.Laws.{IsBrought, has_octet, judged_first}
+use Rattle.judge_laws.proofs.Books.{BooksGo, books_same, books_then, streams_go}
+use Rattle.judge_laws.proofs.Brought.{segment_brought, some_same, stream_there}
+use Rattle.judge_laws.proofs.Shown.{kept_before, known_later}
+use Rattle.judge_laws.proofs.Steps.{books_go}
+
+if_seen_goes : (at : Option Side) (check_sums : Bool) (state : JudgedValue) (n : ℕ) (seen : Option Seen)
+    → BooksGo state.books (judged_if_seen at check_sums state n seen).books
+if_seen_goes at check_sums state n None = books_same state.books
+if_seen_goes at check_sums state n (Some seen) = books_go at check_sums state n seen
+
+packets_go : (at : Option Side) (check_sums : Bool) (state : JudgedValue) (n : ℕ) (packets : List Captured)
+    → BooksGo state.books (judged_packets at check_sums state n packets).books
+packets_go at check_sums state n [] = books_same state.books
+packets_go at check_sums state n (packet ∷ packets) =
+    let next = judged_if_seen at check_sums state n (segment_in_packet packet) in
+    books_then state.books next.books (judged_packets at check_sums next (n + 1) packets).books
+    (if_seen_goes at check_sums state n (segment_in_packet packet)) (packets_go at check_sums next (n + 1) packets)
+
+-- those behind others
+parts : (at : Option Side) (check_sums : Bool) (state : JudgedValue) (n m : ℕ) (before after : List Captured) → m ≡ n + length before
+    → judged_packets at check_sums state n (before ++ after) ≡ judged_packets at check_sums (judged_packets at check_sums state n before) m after
+parts at check_sums state n m [] after e = ap (λ (x : ℕ). judged_packets at check_sums state x after) (let same : n ≡ m = omega (arith, e) in same)
+parts at check_sums state n m (packet ∷ before) after e =
+    parts at check_sums (judged_if_seen at check_sums state n (segment_in_packet packet)) (n + 1) m before after (omega (arith, e))
+
+pub first_go : (at : Option Side) (check_sums : Bool) (before after : List Captured)
+    → StreamsGoOn (judged_first at check_sums before) (judged_first at check_sums (before ++ after))
+first_go at check_sums before after =
+    let start = judged_first at check_sums before in
+    streams_go start (judged_first at check_sums (before ++ after))
+    (subst (λ (s : JudgedValue). BooksGo start.books s.books) (sym (parts at check_sums nothing_judged 1 (1 + length before) before after refl))
+    (packets_go at check_sums start (1 + length before) after))
+
+-- an octet that a packet brought is there at the end
+module _ (at : Option Side) (check_sums : Bool) (packets : List Captured) (connection : ℕ) (side : Side) (place octet : ℕ)
+    (b : IsBrought at check_sums packets connection side place octet) where
+  abbrev start : JudgedValue
+  start = judged_first at check_sums b.before
+
+  abbrev next : JudgedValue
+  next = judged at check_sums start (1 + length b.before) b.seen
+
+  abbrev last : JudgedValue
+  last = judged_packets at check_sums next (1 + length b.before + 1) b.after
+
+  last_is : judged_first at check_sums packets ≡ last
+  last_is =
+      ap (judged_first at check_sums) b.among
+      ∙ parts at check_sums nothing_judged 1 (1 + length b.before) b.before (b.packet ∷ b.after) refl
+      ∙ ap (λ (s : Option Seen). judged_packets at check_sums (judged_if_seen at check_sums start (1 + length b.before) s) (1 + length b.before + 1) b.after) b.has_segment
+
+  pub brought_stays : (stream : StreamValue) → stream_in (judged_first at check_sums packets) connection side ≡ Some stream
+      → broke rule.PlaceContent stream ≡ false → has_octet stream place octet
+  brought_stays stream there kept =
+      let first = stream_there at check_sums start (1 + length b.before) b.seen connection side b.it in
+      let later = streams_go next last (packets_go at check_sums next (1 + length b.before + 1) b.after) connection side first.0 first.1 in
+      let same : later.0 ≡ stream = some_same later.0 stream (sym later.1 ∙ ap (λ (j : JudgedValue). stream_in j connection side) (sym last_is) ∙ there) in
+      let goes : GoesOn first.0 stream = subst (λ (s : StreamValue). GoesOn first.0 s) same later.2 in
+      known_later first.0 stream place octet goes
+      (segment_brought at check_sums start (1 + length b.before) b.seen connection side b.it place octet first.0 first.1
+      (kept_before first.0 stream rule.PlaceContent goes kept) b.brings)
+
+pub written_has : (stream : StreamValue) (octets : List ℕ) (place octet : ℕ) → IsSent stream.octet octets → place < length octets
+    → has_octet stream place octet → get_or octets place 0 ≡ octet
+written_has stream octets place octet sent within has =
+    let here : place ≡ 0 + place = omega arith in
+    some_same (get_or octets place 0) octet
+    (sym (sent.held place within) ∙ ap (λ (q : ℕ). option_map (λ o. o.octet) (stream.octet q)) (sym here) ∙ has)

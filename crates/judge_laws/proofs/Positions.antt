@@ -1,0 +1,152 @@
+-- What a segment leaves at its position: its sender's stream goes on, and its octets come to their places.
+use Rattle.std.proofs.Common.{◌≡◌, refl, ap, ◌∙◌, sym, ℕ, ◌-◌, ◌<◌, ◌≤◌, Bool, true, false, ◌&&◌, ◌||◌, nat_le, nat_lt, is_some, if◌then◌else◌, Option, Some, None, option_map, Result, Ok, Err, List, [], ◌∷◌, ◌++◌, arith, true≢false}
+use Rattle.std.specs.List.{slice_get}
+use Rattle.std.proofs.lemmas.Bool.Decides.{nat_tests}
+use Rattle.sides.specs.Side.{peer}
+use Rattle.mptcp_options.specs.Value.{OptionValue, Dss}
+use Rattle.judge_rules.specs.declared.finding.Finding.{Finding}
+use Rattle.judge_rules.specs.declared.finding.Rule.TheVariants as rule
+use Rattle.judge_rules.specs.Acks.{ack_place}
+use Rattle.seen_connections.specs.declared.connections.Keys.{Keys}
+use Rattle.seen_streams.specs.declared.told.ToldMapping.{ToldMapping}
+use Rattle.seen_streams.specs.State.{LaneValue, StreamValue, place_of}
+use Rattle.seen_streams.specs.Acks.{Acked, ack_counted, ack_facts, acked_by, ended_by_fin}
+use Rattle.seen_streams.specs.Content.{PayloadValue, comes, earlier, in_payload, is_between, with_payload}
+use Rattle.seen_streams.specs.Mapped.{Mapped}
+use Rattle.seen_streams.specs.Same.{same_mapping}
+use Rattle.seen_streams.specs.Sums.{summed_by, with_sum, with_sums}
+use Rattle.rule_book.specs.Facts.{Facts, first_of, payload_at}
+use Rattle.rule_book.specs.Stream.{acked_each, acked_one, behind_acks, behind_payload, fin_taken, judged_at, mapped_with, summed, within_each}
+use Rattle.judge_laws.specs.GoesOn.{GoesOn, broke}
+use Rattle.judge_laws.proofs.GoesOn.{goes_then}
+use Rattle.judge_laws.proofs.Folds.{acks_go, ended_goes, mapped_goes, summed_goes, within_goes}
+use Rattle.judge_laws.proofs.Shown.{from_goes, kept_before, known_later, octet_shown}
+
+and_first : (a b : Bool) → (a && b) ≡ true → a ≡ true
+and_first true b h = refl
+and_first false b h = h
+
+and_second : (a b : Bool) → (a && b) ≡ true → b ≡ true
+and_second true b h = h
+and_second false b h = absurd (true≢false (sym h))
+
+-- ---- positions keep their places behind sums and Data ACKs
+
+once_places : (packet : ℕ) (mapping : ToldMapping) (lane : LaneValue) (p : ℕ) → place_of (with_sum packet mapping lane) p ≡ place_of lane p
+once_places packet mapping lane p = by (lane.summed mapping)
+  where
+    by : (b : Bool) → place_of (if b then lane else record lane {
+      summed = λ other. lane.summed other || same_mapping other mapping;
+      waiting = lane.waiting ++ record { mapping = mapping; packet = packet } ∷ [];
+    }) p ≡ place_of lane p
+    by true = refl
+    by false = refl
+
+sum_places : (packet : ℕ) (mapping : ToldMapping) (lane : LaneValue) (p : ℕ) → place_of (summed_by packet mapping lane) p ≡ place_of lane p
+sum_places packet mapping lane p = by (is_some mapping.checksum)
+  where
+    by : (b : Bool) → place_of (if b then with_sum packet mapping lane else lane) p ≡ place_of lane p
+    by true = once_places packet mapping lane p
+    by false = refl
+
+sums_places : (packet : ℕ) (mappings : List ToldMapping) (lane : LaneValue) (p : ℕ) → place_of (with_sums packet mappings lane) p ≡ place_of lane p
+sums_places packet [] lane p = refl
+sums_places packet (mapping ∷ mappings) lane p =
+    sums_places packet mappings (summed_by packet mapping lane) p ∙ sum_places packet mapping lane p
+
+summed_places : (facts : Facts) (first : Option ℕ) (learnt : List ToldMapping) (acked : Acked) (p : ℕ)
+    → place_of (summed facts first learnt acked).lane p ≡ place_of acked.lane p
+summed_places facts None learnt acked p = refl
+summed_places facts (Some first) learnt acked p = sums_places facts.packet learnt acked.lane p
+
+acked_by_places : (place : Result ℕ Finding) (packet : ℕ) (acked : Acked) (p : ℕ) → place_of (acked_by place packet acked).lane p ≡ place_of acked.lane p
+acked_by_places (Err finding) packet acked p = refl
+acked_by_places (Ok place) packet acked p = refl
+
+acked_one_places : (facts : Facts) (first : ℕ) (peers : StreamValue) (option : OptionValue) (acked : Acked) (p : ℕ)
+    → place_of (acked_one facts first peers option acked).lane p ≡ place_of acked.lane p
+acked_one_places facts first peers (Dss (Some number) mapping fin) acked p =
+    acked_by_places (ack_place (ack_facts facts.at_sender first peers acked.lane) number) facts.packet (ack_counted acked) p
+acked_one_places facts first peers option acked p = refl
+
+acked_places : (facts : Facts) (first : ℕ) (peers : StreamValue) (options : List OptionValue) (acked : Acked) (p : ℕ)
+    → place_of (acked_each facts first peers options acked).lane p ≡ place_of acked.lane p
+acked_places facts first peers [] acked p = refl
+acked_places facts first peers (option ∷ options) acked p =
+    acked_places facts first peers options (acked_one facts first peers option acked) p ∙ acked_one_places facts first peers option acked p
+
+acks_places : (facts : Facts) (first : Option ℕ) (peers : StreamValue) (options : List OptionValue) (acked : Acked) (p : ℕ)
+    → place_of (behind_acks facts first peers options acked).lane p ≡ place_of acked.lane p
+acks_places facts None peers options acked p = refl
+acks_places facts (Some first) peers options acked p = acked_places facts first peers options acked p
+
+-- ---- a segment at a position
+
+module _ (facts : Facts) (position : ℕ) (options : List OptionValue) (keys : Keys) (peers stream : StreamValue) (lane : LaneValue) where
+  abbrev mapped : Mapped
+  mapped = mapped_with facts (first_of facts.side keys) position options
+      (record { stream = stream; lane = fin_taken facts position lane; learnt = []; has_line = false })
+
+  abbrev ended : StreamValue
+  ended = ended_by_fin mapped.lane facts.packet (within_each facts position mapped.learnt mapped.stream)
+
+  abbrev payload : PayloadValue
+  payload = payload_at facts position
+
+  abbrev filled : LaneValue
+  filled = with_payload payload facts.packet mapped.lane
+
+  abbrev comings : ℕ → Option (Option ℕ)
+  comings = comes payload (record mapped { stream = ended }) filled
+
+  abbrev behind : Acked
+  behind = behind_payload facts position peers.acknowledged mapped
+
+  abbrev tried : Acked
+  tried = summed facts (first_of facts.side keys) mapped.learnt behind
+
+  abbrev last : Acked
+  last = judged_at facts position options keys peers stream lane
+
+  payload_goes : GoesOn ended behind.stream
+  payload_goes = from_goes (place_of filled) comings peers.acknowledged facts.packet 1 (filled.top - 1) ended
+
+  sums_go : GoesOn behind.stream last.stream
+  sums_go =
+      goes_then behind.stream tried.stream last.stream (summed_goes facts (first_of facts.side keys) mapped.learnt behind)
+      (acks_go facts (first_of (peer facts.side) keys) peers options tried)
+
+  pub at_goes : GoesOn stream last.stream
+  at_goes =
+      let within = within_each facts position mapped.learnt mapped.stream in
+      goes_then stream mapped.stream last.stream
+      (mapped_goes facts (first_of facts.side keys) position options
+      (record { stream = stream; lane = fin_taken facts position lane; learnt = []; has_line = false }))
+      (goes_then mapped.stream within last.stream (within_goes facts position mapped.learnt mapped.stream)
+      (goes_then within ended last.stream (ended_goes mapped.lane facts.packet within)
+      (goes_then ended behind.stream last.stream payload_goes sums_go)))
+
+  last_places : (p : ℕ) → place_of last.lane p ≡ place_of filled p
+  last_places p =
+      acks_places facts (first_of (peer facts.side) keys) peers options tried p
+      ∙ summed_places facts (first_of facts.side keys) mapped.learnt behind p
+
+  pub at_shows : (p place octet : ℕ) → broke rule.PlaceContent last.stream ≡ false → is_between payload.from payload.to p ≡ true
+      → slice_get payload.held (p - payload.from) ≡ Some octet → place_of last.lane p ≡ Some place → peers.acknowledged ≤ place
+      → option_map (λ o. o.octet) (last.stream.octet place) ≡ Some octet
+  at_shows p place octet kept within held placed few =
+      known_later behind.stream last.stream place octet sums_go
+      (octet_shown (place_of filled) comings peers.acknowledged facts.packet 1 (filled.top - 1) p place octet ended
+      (omega (arith, begun)) (omega (arith, ends)) come (sym (last_places p) ∙ placed) few
+      (kept_before behind.stream last.stream rule.PlaceContent sums_go kept))
+    where
+      begun : payload.from ≤ p
+      begun = let lo : nat_le payload.from p ≡ true = and_first (nat_le payload.from p) (nat_lt p payload.to) within in grind (arith, nat_tests, lo)
+
+      ends : p < payload.to
+      ends = let hi : nat_lt p payload.to ≡ true = and_second (nat_le payload.from p) (nat_lt p payload.to) within in grind (arith, nat_tests, hi)
+
+      come : comings p ≡ Some (Some octet)
+      come =
+          ap (λ b. if b then in_payload payload p else earlier mapped.learnt mapped.has_line filled p) within
+          ∙ ap (λ (o : Option ℕ). Some o) held

@@ -1,0 +1,62 @@
+-- What is told of a side, over the segments of a capture.
+use Rattle.std.specs.Prelude.{ℕ, ◌≡◌, ◌+◌, ◌<◌, Bool, false, Option, Some, option_map, List, ◌∷◌, ◌++◌, length, get_or}
+use Rattle.sides.specs.declared.side.Side.{Side}
+use Rattle.capture_reader.specs.Captured.{Captured}
+use Rattle.capture_reader.specs.Seen.{Seen, segment_in_packet}
+use Rattle.judge_rules.specs.declared.finding.Rule.TheVariants as rule
+use Rattle.seen_streams.specs.State.{StreamValue}
+use Rattle.rule_book.specs.Judged.{judged, nothing_judged}
+use Rattle.rule_book.specs.State.{JudgedValue}
+use Rattle.capture_verdict.specs.Judging.{judged_packets}
+use Rattle.capture_verdict.specs.Sent.{IsSent}
+use Rattle.judge_laws.specs.Brings.{Brings, IsOf}
+use Rattle.judge_laws.specs.GoesOn.{broke, stream_in, StreamsGoOn}
+
+-- a place has this octet
+abbrev pub has_octet : StreamValue → ℕ → ℕ → Type 0
+has_octet stream place octet = option_map (λ held. held.octet) (stream.octet place) ≡ Some octet
+
+-- ---- a segment
+
+abbrev pub SegmentsTakeNothingBack : Type 0
+SegmentsTakeNothingBack = (at : Option Side) (check_sums : Bool) (state : JudgedValue) (packet : ℕ) (seen : Seen)
+    → StreamsGoOn state (judged at check_sums state packet seen)
+
+abbrev pub PayloadIsTheStreams : Type 0
+PayloadIsTheStreams = (at : Option Side) (check_sums : Bool) (state : JudgedValue) (packet : ℕ) (seen : Seen) (connection : ℕ) (side : Side)
+    (it : IsOf at check_sums state packet seen connection side) (place octet : ℕ) (stream : StreamValue)
+    → stream_in (judged at check_sums state packet seen) connection side ≡ Some stream → broke rule.PlaceContent stream ≡ false
+    → Brings at check_sums state packet seen connection side it place octet → has_octet stream place octet
+
+-- ---- a capture
+
+-- behind the first packets of a capture
+abbrev pub judged_first : Option Side → Bool → List Captured → JudgedValue
+judged_first at check_sums packets = judged_packets at check_sums nothing_judged 1 packets
+
+abbrev pub PacketsTakeNothingBack : Type 0
+PacketsTakeNothingBack = (at : Option Side) (check_sums : Bool) (before after : List Captured)
+    → StreamsGoOn (judged_first at check_sums before) (judged_first at check_sums (before ++ after))
+
+-- a packet among others brings this octet to a place of what a side of a connection sends
+pub record IsBrought (at : Option Side) (check_sums : Bool) (packets : List Captured) (connection : ℕ) (side : Side) (place octet : ℕ) : Type 0 where
+  pub before : List Captured
+  pub packet : Captured
+  pub after : List Captured
+  pub seen : Seen
+  pub among : packets ≡ before ++ packet ∷ after
+  pub has_segment : segment_in_packet packet ≡ Some seen
+  pub it : IsOf at check_sums (judged_first at check_sums before) (1 + length before) seen connection side
+  pub brings : Brings at check_sums (judged_first at check_sums before) (1 + length before) seen connection side it place octet
+
+abbrev pub KeptSidesSentOneStream : Type 0
+KeptSidesSentOneStream = (at : Option Side) (check_sums : Bool) (packets : List Captured) (connection : ℕ) (side : Side) (stream : StreamValue)
+    → stream_in (judged_first at check_sums packets) connection side ≡ Some stream → broke rule.PlaceContent stream ≡ false
+    → (place octet : ℕ) → IsBrought at check_sums packets connection side place octet → has_octet stream place octet
+
+-- and what is written of it begins so
+abbrev pub WrittenStreamsAreTheirs : Type 0
+WrittenStreamsAreTheirs = (at : Option Side) (check_sums : Bool) (packets : List Captured) (connection : ℕ) (side : Side) (stream : StreamValue)
+    → stream_in (judged_first at check_sums packets) connection side ≡ Some stream → broke rule.PlaceContent stream ≡ false
+    → (octets : List ℕ) → IsSent stream.octet octets → (place octet : ℕ) → IsBrought at check_sums packets connection side place octet
+    → place < length octets → get_or octets place 0 ≡ octet

@@ -1,0 +1,22 @@
+//! What is told of a side, as clauses of functions that do nothing.
+ghost use Rattle.judge_laws.specs.Laws.{KeptSidesSentOneStream, PacketsTakeNothingBack, PayloadIsTheStreams, SegmentsTakeNothingBack, WrittenStreamsAreTheirs};
+
+/// A law: no segment, and no packets of a capture, take back what was known of a stream: of a place its octet, which places were seen, how
+/// far it is mapped, the place of its DATA_FIN, what its side acknowledged, and which rules that side broke.
+pub fn nothing_is_taken_back()
+    ensures segment { SegmentsTakeNothingBack }
+    ensures packets { PacketsTakeNothingBack }
+{}
+
+/// A law: behind a segment, where its side hasn't broken `place-content`, each octet of its payload that a mapping places is the octet that
+/// the stream has at that place, unless the other side had acknowledged the place before (RFC 8684, section 3.3.1).
+pub fn payload_is_the_streams()
+    ensures { PayloadIsTheStreams }
+{}
+
+/// A law: a side that hasn't broken `place-content` sent one stream: each octet that any packet of the capture brought to a place that wasn't
+/// acknowledged is the stream's octet there (`stream`), and what is written of the stream has it (`written`).
+pub fn kept_sides_sent_one_stream()
+    ensures stream { KeptSidesSentOneStream }
+    ensures written { WrittenStreamsAreTheirs }
+{}
