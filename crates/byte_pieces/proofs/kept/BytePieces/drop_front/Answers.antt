@@ -18,7 +18,7 @@ invariant_of-self-else-self-to c =
       ordered-from c.self.inside.from c.args.to (2 ^ 62) c.self.inside.pieces.items c.self.invariant.0 c.requires.bound,
       tt,
       c.self.invariant.2
-      ∙ sym (side_by_side_end-from c.self.inside.from c.args.to (2 ^ 62) c.self.inside.pieces.items c.self.invariant.0 order c.requires.bound (omega (arith, c.if-self-to.false, c.self.invariant.2))),
+          ∙ sym (side_by_side_end-from c.self.inside.from c.args.to (2 ^ 62) c.self.inside.pieces.items c.self.invariant.0 order c.requires.bound (omega (arith, c.if-self-to.false, c.self.invariant.2))),
     )
 
 pub returns-then-self-to : goal.returns-then-self-to
