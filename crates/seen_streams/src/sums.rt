@@ -75,7 +75,7 @@ pub fn try_sums(
     try_waits(stream, &lane.octets, &mut lane.waits, packet, first)
 }
 
-// The same of the mappings that wait.
+// Tries the mappings that wait, where a gap of theirs may have got its octet, and those that came since.
 fn try_waits(
     stream: &mut Stream<'_>,
     octets: &SeenOctets,
