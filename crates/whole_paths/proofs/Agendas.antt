@@ -59,7 +59,7 @@ use Rattle.path_core.specs.declared.events.Event.TheVariants as happening
 use Rattle.path_core.specs.declared.judged.Judged.{Judged}
 use Rattle.path_core.specs.declared.judged.Judged.TheVariants as judged
 use Rattle.world_laws.proofs.Falls.FailedChecks.{fail_answered_so}
-use Rattle.whole_paths.specs.AgendaSteps.{treats_copy, may_break, line_side, event_side, IsStill, is_gone, Follows, Happened, Happens, After}
+use Rattle.whole_paths.specs.AgendaSteps.{treats_copy, may_break, hears_join, line_side, event_side, IsStill, is_gone, Follows, Happened, Happens, After}
 use Rattle.whole_paths.specs.AgendaSteps.{Follows as follows}
 use Rattle.whole_paths.specs.AgendaSteps.{Happened as happened}
 
@@ -208,7 +208,7 @@ module _ {C : Type 0} where
       breaks_follows gone false reason = follows.is_reset may reason
 
       fell_follows : (gone : Bool) (o : Reply) → Follows s gone d ds (fell_duties s o q)
-      fell_follows gone (replies.Control (control_replies.Verdict (verdicts.Went modes.Identity))) = follows.told treats (duties.Ask (ask_duties.GoIdentity s)) refl refl
+      fell_follows gone (replies.Control (control_replies.Verdict (verdicts.Went modes.Identity))) = follows.told treats (duties.Ask (ask_duties.GoIdentity s)) refl refl (inl refl)
       fell_follows gone (replies.Control (control_replies.Verdict (verdicts.BreakPath reason))) = breaks_follows gone (end_at s p).treated.asked reason
       fell_follows gone _ = follows.goes_on
 
@@ -233,11 +233,11 @@ module _ {C : Type 0} where
       keys_follow None = fell_follows _ r
       keys_follow (Some keys) = follows.goes_on
 
-      join_follows : (keys : Option KeyPair) (asked : Option JoinSyn) → Next (join_taken s keys asked r q)
-      join_follows (Some keys) (Some asked) = follows.told treats (duties.Send (send_duties.SynAck s)) refl refl
-      join_follows None (Some asked) = follows.told treats (duties.Send (send_duties.Refuse s)) refl refl
-      join_follows (Some keys) None = follows.told treats (duties.Send (send_duties.Refuse s)) refl refl
-      join_follows None None = follows.told treats (duties.Send (send_duties.Refuse s)) refl refl
+      join_follows : (joins : hears_join d ≡ true) (keys : Option KeyPair) (asked : Option JoinSyn) → Next (join_taken s keys asked r q)
+      join_follows joins (Some keys) (Some asked) = follows.told treats (duties.Send (send_duties.SynAck s)) refl refl (inr joins)
+      join_follows joins None (Some asked) = follows.told treats (duties.Send (send_duties.Refuse s)) refl refl (inr joins)
+      join_follows joins (Some keys) None = follows.told treats (duties.Send (send_duties.Refuse s)) refl refl (inr joins)
+      join_follows joins None None = follows.told treats (duties.Send (send_duties.Refuse s)) refl refl (inr joins)
 
       plain_ack_follows : Next (answered_plain_ack k s r q)
       plain_ack_follows = by (breaks_by_ack p.profile (end_at s p))
@@ -247,7 +247,7 @@ module _ {C : Type 0} where
           by false = fell_follows _ r
 
       told_follows : (gone b : Bool) → Follows s gone d ds (told_next s b q)
-      told_follows gone true = follows.told treats (duties.Ask (ask_duties.AckHeard s)) refl refl
+      told_follows gone true = follows.told treats (duties.Ask (ask_duties.AckHeard s)) refl refl (inl refl)
       told_follows gone false = follows.goes_on
 
       mapping_follows : Next (answered_mapping k s r q)
@@ -267,7 +267,7 @@ module _ {C : Type 0} where
       item_follows (Some (says.Mapping fin)) = mapping_follows
       item_follows (Some (says.DataFin place)) = fell_follows _ r
       item_follows (Some (says.InfiniteMapping place position)) = fell_follows _ r
-      item_follows (Some says.Fail) = fail_answered_so Next s r q (follows.told treats (duties.Ask (ask_duties.FailHeard s)) refl refl) (fell_follows _ r)
+      item_follows (Some says.Fail) = fail_answered_so Next s r q (follows.told treats (duties.Ask (ask_duties.FailHeard s)) refl refl (inl refl)) (fell_follows _ r)
       item_follows (Some (says.FastClose key)) = stopped_follows _ (is_stopped_by r)
       item_follows (Some _) = follows.goes_on
 
@@ -293,7 +293,7 @@ module _ {C : Type 0} where
   answered_follows k (duties.Step (step_duties.Unmapped s)) ds r p = break_follows k s (duties.Step (step_duties.Unmapped s)) ds r p refl refl 6
   answered_follows k (duties.Ask (ask_duties.PlainHandshake s)) ds r p = fell_follows k s (duties.Ask (ask_duties.PlainHandshake s)) ds r p refl refl _ r
   answered_follows k (duties.Ask (ask_duties.PeerKey s)) ds r p = key_follows k s (duties.Ask (ask_duties.PeerKey s)) ds r p refl refl (key_heard (end_at s p).treated.items)
-  answered_follows k (duties.Ask (ask_duties.JoinHeard s)) ds r p = join_follows k s (duties.Ask (ask_duties.JoinHeard s)) ds r p refl refl (keys_begun r) (asked_at s p)
+  answered_follows k (duties.Ask (ask_duties.JoinHeard s)) ds r p = join_follows k s (duties.Ask (ask_duties.JoinHeard s)) ds r p refl refl refl (keys_begun r) (asked_at s p)
   answered_follows k (duties.Ask (ask_duties.Opened s)) ds r p = keys_follow k s (duties.Ask (ask_duties.Opened s)) ds r p refl refl (keys_heard (end_at s p).treated.items)
   answered_follows k (duties.Ask (ask_duties.AckHeard s)) ds r p = fell_follows k s (duties.Ask (ask_duties.AckHeard s)) ds r p refl refl _ r
   answered_follows k (duties.Ask (ask_duties.FailHeard s)) ds r p = fell_follows k s (duties.Ask (ask_duties.FailHeard s)) ds r p refl refl _ r

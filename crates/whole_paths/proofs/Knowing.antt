@@ -6,10 +6,11 @@ use Rattle.std.specs.List.{list_any}
 use Rattle.std.specs.Option.{option_or}
 use Rattle.std.specs.Ordering.{nat_cmp}
 use Rattle.std.proofs.lemmas.Bool.{cases_lt}
+use Rattle.std.proofs.lemmas.List.Elements.{All-nil}
 use Rattle.path_segments.specs.Heard.{HeardSegment}
 use Rattle.sides.specs.declared.side.Side.{Side}
 use Rattle.sides.specs.declared.side.Side.TheVariants.{A, B}
-use Rattle.dss_mapping.specs.Learning.{first_held, clashes_if, after_skip_held, learned_if}
+use Rattle.dss_mapping.specs.Learning.{IsWithin, first_held, clashes_if, after_skip_held, learned_if}
 use Rattle.dss_mapping.specs.Mappings.{Mappings, no_mappings, mapping_at, run_of}
 use Rattle.dss_mapping.specs.Runs.{covers}
 use Rattle.dss_mapping.specs.declared.kept.KeptMapping.{KeptMapping}
@@ -200,7 +201,12 @@ before_now s pos ds next m e f first is learn maps (dies gone) = at_dead gone
 
 -- before the first turn nothing is mapped
 none_live : (edge : ℕ) → AreLive no_mappings edge
-none_live edge = record { low = omega arith; live = λ pos high some. absurd (true≢false (sym some ∙ ap (λ o. is_some (option_or o None)) (get-empty nat_cmp pos))) }
+none_live edge = record {
+  low = omega arith;
+  live = λ pos high some. absurd (true≢false (sym some ∙ ap (λ o. is_some (option_or o None)) (get-empty nat_cmp pos)));
+  within = All-nil IsWithin;
+  told = All-nil IsWithin;
+}
 
 first_live : (C : Type 0) (number : ℕ) (start : Start) (plan : PathPlan) (s : Side) → let p : PathState C = waiting_path (path_begins start number plan) start.lines in Live (end_at s p)
 first_live C number start plan A = let p : PathState C = waiting_path (path_begins start number plan) start.lines in none_live p.a.tcp.recv.edge

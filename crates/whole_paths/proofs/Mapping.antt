@@ -1,12 +1,14 @@
 -- What each duty makes of the mappings that an end knows.
 use Rattle.std.proofs.Common.{◌≡◌, refl, sym, subst, ap, ◌⊎◌, inl, inr, ⊎_elim, ℕ, zero, suc, ◌+◌, ◌-◌, ◌<◌, ◌≤◌, arith, le_refl, nat_lt, nat_le, Bool, true, false, true≢false, if◌then◌else◌, Option, Some, None, is_some, List, [], ◌∷◌, ◌++◌, length}
-use Rattle.std.specs.Prelude.{IsSome, find}
+use Rattle.std.specs.Prelude.{IsSome, IfSome, find}
+use Rattle.std.specs.List.{All}
 use Rattle.std.proofs.lemmas.Bool.{and_parts, cases_lt, leb-true, ltb-true, le-ltb}
+use Rattle.std.proofs.lemmas.List.Elements.{All-nil, All-cons, All-head, All-tail, All-append, All-filter}
 use Rattle.path_segments.specs.Heard.{HeardSegment}
 use Rattle.sides.specs.declared.side.Side.{Side}
 use Rattle.sides.specs.declared.side.Side.TheVariants.{A, B}
 use Rattle.sides.specs.Side.{peer}
-use Rattle.dss_mapping.specs.Learning.{clash_of, all_covered, is_known, answer_by, learn_of, learned, clashes, after_hold, first_held, after_skip_held, learned_if, after_learn_held}
+use Rattle.dss_mapping.specs.Learning.{IsWithin, first_of, others_of, clash_of, all_covered, is_known, answer_by, learn_of, learned, clashes, after_hold, first_held, after_skip_held, learned_if, after_learn_held}
 use Rattle.dss_mapping.specs.Mappings.{Mappings, mapping_at, place_at, run_of, after_learn, after_forget}
 use Rattle.dss_mapping.specs.Runs.{covers, place_in}
 use Rattle.dss_mapping.specs.declared.kept.KeptMapping.{KeptMapping}
@@ -51,6 +53,7 @@ use Rattle.path_core.specs.Timer.{after_firing, timer_fired}
 use Rattle.path_core.specs.Treating.{item_of, item_passed, answered_item, answered_heard}
 use Rattle.path_core.specs.declared.events.Event.{Event}
 use Rattle.path_core.specs.declared.events.Event.TheVariants as happenings
+use Rattle.path_core.proofs.Mapped.{all_within}
 use Rattle.world_laws.specs.Writes.{EndWrites, EndView, Writes, PathView, Only, OnlyAt, nothing, writes, side_of}
 use Rattle.world_laws.proofs.Falls.FailedChecks.{infinite_came_so, fail_answered_so}
 use Rattle.world_laws.proofs.Writes.Paths.{writes_no_more, passes_no_more}
@@ -82,8 +85,17 @@ mapped_new v x pos is high = subst (λ b. IsSome (if b then None else find (λ k
 learned_mapped : (x : KeptMapping) (v : Mappings) (pos : ℕ) → IsSome (mapping_at v pos) → IsSome (mapping_at (learned x v) pos)
 learned_mapped x v pos some = elim (learn_of x v) as (λ answer. IsSome (mapping_at (after_learn x answer v) pos)) [ New ↦ mapped_more v x pos some | Same ↦ some | Clash at kept here ↦ some ]
 
-learned_live : (x : KeptMapping) (v : Mappings) (edge : ℕ) → AreLive v edge → AreLive (learned x v) edge
-learned_live x v edge h = elim (learn_of x v) as (λ answer. AreLive (after_learn x answer v) edge) [ New ↦ record { low = h.low; live = λ pos high some. by pos high (subst IsSome (learned_places v x pos) some) } | Same ↦ h | Clash at kept here ↦ h ]
+learned_live : (x : KeptMapping) (v : Mappings) (edge : ℕ) → IsWithin x → AreLive v edge → AreLive (learned x v) edge
+learned_live x v edge fits h = elim (learn_of x v) as (λ answer. AreLive (after_learn x answer v) edge) [
+  | New ↦ record {
+    low = h.low;
+    live = λ pos high some. by pos high (subst IsSome (learned_places v x pos) some);
+    within = All-append IsWithin v.live (x ∷ []) h.within (All-cons IsWithin x [] fits (All-nil IsWithin));
+    told = h.told;
+  }
+  | Same ↦ h
+  | Clash at kept here ↦ h
+]
   where
     by : (pos : ℕ) → v.forgotten ≤ pos → IsSome (if covers pos (run_of x) then Some (place_in pos (run_of x)) else place_at v pos) → IsSome (mapping_at (after_learn x New v) pos)
     by pos high some = (elim (covers pos (run_of x)) as
@@ -118,9 +130,20 @@ if_mapped : (o : Option KeptMapping) (v : Mappings) (pos : ℕ) → IsSome (mapp
 if_mapped None v pos some = some
 if_mapped (Some x) v pos some = learned_mapped x v pos some
 
-if_live : (o : Option KeptMapping) (v : Mappings) (edge : ℕ) → AreLive v edge → AreLive (learned_if o v) edge
-if_live None v edge h = h
-if_live (Some x) v edge h = learned_live x v edge h
+if_live : (o : Option KeptMapping) (v : Mappings) (edge : ℕ) → IfSome o IsWithin → AreLive v edge → AreLive (learned_if o v) edge
+if_live None v edge fits h = h
+if_live (Some x) v edge fits h = learned_live x v edge fits h
+
+first_within : (xs : List KeptMapping) → All IsWithin xs → IfSome (first_of xs) IsWithin
+first_within [] all = tt
+first_within (x ∷ xs) all = All-head IsWithin x xs all
+
+others_within : (xs : List KeptMapping) → All IsWithin xs → All IsWithin (others_of xs)
+others_within [] all = all
+others_within (x ∷ xs) all = All-tail IsWithin x xs all
+
+skipped_live : (v : Mappings) (edge : ℕ) → AreLive v edge → AreLive (after_skip_held v) edge
+skipped_live v edge h = record { low = h.low; live = h.live; within = h.within; told = others_within v.held h.told }
 
 -- ---- an end
 
@@ -129,24 +152,29 @@ pub data MapMoves (e f : PathEnd) : Type 0 where
   learns : f.receiving.mappings ≡ after_learn_held e.receiving.mappings → MapMoves e f
   skips : f.receiving.mappings ≡ after_skip_held e.receiving.mappings → MapMoves e f
   forgets : (to : ℕ) → f.receiving.mappings ≡ after_forget to e.receiving.mappings → to ≤ f.tcp.recv.edge → MapMoves e f
-  holds : (told : List KeptMapping) → f.receiving.mappings ≡ after_hold told e.receiving.mappings → MapMoves e f
+  holds : (told : List KeptMapping) → f.receiving.mappings ≡ after_hold told e.receiving.mappings → All IsWithin told → MapMoves e f
 
 higher : (v : Mappings) (low high : ℕ) → low ≤ high → AreLive v low → AreLive v high
-higher v low high up h = record { low = (let at = h.low in omega (arith, at, up)); live = h.live }
+higher v low high up h = record { low = (let at = h.low in omega (arith, at, up)); live = h.live; within = h.within; told = h.told }
 
 forgotten_live : (to : ℕ) (v : Mappings) (low high : ℕ) → low ≤ high → to ≤ high → AreLive v low → AreLive (after_forget to v) high
 forgotten_live to v low high up over h = record {
   low = (let at = h.low in omega (arith, at, up, over));
   live = λ pos past some. subst IsSome (sym (others_are_told v to pos (omega (arith, past)))) (h.live pos (omega (arith, past)) some);
+  within = All-filter (λ kept. nat_lt to (run_of kept).to) IsWithin v.live h.within;
+  told = h.told;
 }
 
 pub live_moves : (e f : PathEnd) → e.tcp.recv.edge ≤ f.tcp.recv.edge → MapMoves e f → AreLive e.receiving.mappings e.tcp.recv.edge → AreLive f.receiving.mappings f.tcp.recv.edge
 live_moves e f up (same is) h = subst (λ v. AreLive v f.tcp.recv.edge) (sym is) (higher e.receiving.mappings e.tcp.recv.edge f.tcp.recv.edge up h)
-live_moves e f up (learns is) h = subst (λ v. AreLive v f.tcp.recv.edge) (sym is)
-    (let x = if_live (first_held e.receiving.mappings) e.receiving.mappings f.tcp.recv.edge (higher e.receiving.mappings e.tcp.recv.edge f.tcp.recv.edge up h) in record { low = x.low; live = x.live })
-live_moves e f up (skips is) h = subst (λ v. AreLive v f.tcp.recv.edge) (sym is) (let x = higher e.receiving.mappings e.tcp.recv.edge f.tcp.recv.edge up h in record { low = x.low; live = x.live })
+live_moves e f up (learns is) h =
+    let v = e.receiving.mappings in
+    subst (λ v. AreLive v f.tcp.recv.edge) (sym is) (skipped_live (learned_if (first_held v) v) f.tcp.recv.edge
+    (if_live (first_held v) v f.tcp.recv.edge (first_within v.held h.told) (higher v e.tcp.recv.edge f.tcp.recv.edge up h)))
+live_moves e f up (skips is) h = subst (λ v. AreLive v f.tcp.recv.edge) (sym is) (skipped_live e.receiving.mappings f.tcp.recv.edge (higher e.receiving.mappings e.tcp.recv.edge f.tcp.recv.edge up h))
 live_moves e f up (forgets to is over) h = subst (λ v. AreLive v f.tcp.recv.edge) (sym is) (forgotten_live to e.receiving.mappings e.tcp.recv.edge f.tcp.recv.edge up over h)
-live_moves e f up (holds told is) h = subst (λ v. AreLive v f.tcp.recv.edge) (sym is) (let x = higher e.receiving.mappings e.tcp.recv.edge f.tcp.recv.edge up h in record { low = x.low; live = x.live })
+live_moves e f up (holds told is fits) h =
+    subst (λ v. AreLive v f.tcp.recv.edge) (sym is) (let x = higher e.receiving.mappings e.tcp.recv.edge f.tcp.recv.edge up h in record { low = x.low; live = x.live; within = x.within; told = fits })
 
 pub known_moves : (pos : ℕ) (e f : PathEnd) → MapMoves e f → IsSome (mapping_at e.receiving.mappings pos) → (pos < f.tcp.recv.edge) ⊎ IsSome (mapping_at f.receiving.mappings pos)
 known_moves pos e f (same is) some = inr (subst (λ v. IsSome (mapping_at v pos)) (sym is) some)
@@ -156,7 +184,7 @@ known_moves pos e f (forgets to is over) some = ⊎_elim
     (λ below. inl (omega (arith, below, over)))
     (λ past. inr (subst (λ v. IsSome (mapping_at v pos)) (sym is) (subst IsSome (sym (others_are_told e.receiving.mappings to pos past)) some)))
     (cases_lt pos to)
-known_moves pos e f (holds told is) some = inr (subst (λ v. IsSome (mapping_at v pos)) (sym is) some)
+known_moves pos e f (holds told is fits) some = inr (subst (λ v. IsSome (mapping_at v pos)) (sym is) some)
 
 -- ---- by duty
 
@@ -202,7 +230,7 @@ module _ {C : Type 0} where
   copy_maps s t None p = same refl
   copy_maps s t (Some segment) p =
       let x = options_heard (end_at s p) segment in
-      side_maps s t (after_judged p.profile s p.clock x (judged_in (is_joined p.profile) s x (end_at s p)) (end_at s p)) p (copy_heard s (Some segment) p) refl refl (holds (held_of p.profile s x) refl)
+      side_maps s t (after_judged p.profile s p.clock x (judged_in (is_joined p.profile) s x (end_at s p)) (end_at s p)) p (copy_heard s (Some segment) p) refl refl (holds (held_of p.profile s x) refl (all_within p.profile s x.options))
 
   pub event_maps : (k : Codec C) (o : Option Event) (r : Reply) (p : PathState C) (t : Side) → MapMoves (end_at t p) (end_at t (happens_if k o r p))
   event_maps k None r p t = same refl

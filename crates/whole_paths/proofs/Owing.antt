@@ -354,7 +354,7 @@ follows_ready s f d ds next follows own one a = by next follows
     by : (next : List Duty) → Follows s (is_gone f) d ds next → Ready s next f
     by next follow.goes_on = answers a
     by next follow.again = answers (inr (own, (one, a)))
-    by next (follow.told treats e side alone) = answers (inr (side, (alone, a)))
+    by next (follow.told treats e side alone silent) = answers (inr (side, (alone, a)))
     by next (follow.left dead) = is_dead_now dead
     by next follow.noted = answers (inr (refl, (refl, a)))
     by next (follow.broken may reason) = answers (inl refl)

@@ -2,6 +2,7 @@
 use Rattle.std.proofs.Common.{◌≡◌, refl, sym, subst, ap, ◌∙◌, ◌⊎◌, inl, inr, ⊎_elim, ℕ, zero, suc, ◌+◌, ◌≤◌, arith, Bool, true, false, true≢false, if◌then◌else◌, Option, Some, None, is_some, List, [], ◌∷◌, drop, length}
 use Rattle.std.proofs.lemmas.Bool.{and_parts}
 use Rattle.std.specs.List.{list_all}
+use Rattle.std.specs.Prelude.{IfSome}
 use Rattle.path_segments.specs.Heard.{HeardSegment}
 use Rattle.sides.specs.declared.side.Side.{Side}
 use Rattle.sides.specs.declared.side.Side.TheVariants.{A, B}
@@ -35,6 +36,7 @@ use Rattle.path_agenda.specs.declared.duty.AskDuty.TheVariants as ask_duties
 use Rattle.path_agenda.specs.declared.duty.SendDuty.TheVariants as send_duties
 use Rattle.path_agenda.specs.declared.duty.StepDuty.TheVariants as step_duties
 use Rattle.path_agenda.specs.declared.heard.Heard.{Heard}
+use Rattle.path_agenda.specs.declared.heard.Heard.TheVariants as says
 use Rattle.path_agenda.specs.declared.keys.KeyPair.{KeyPair}
 use Rattle.path_store.specs.Passing.{Piece}
 use Rattle.path_store.specs.declared.lines.LineAction.{LineAction}
@@ -46,12 +48,13 @@ use Rattle.path_core.specs.Choices.{is_side_a}
 use Rattle.path_core.specs.Codec.{Codec}
 use Rattle.path_core.specs.DataFin.{is_fin_set, answered_fin_heard, answered_plain_fin}
 use Rattle.path_core.specs.Deliver.{piece_of, next_piece, answered_piece, is_placed}
-use Rattle.path_core.specs.DssIn.{held_of, HeardOption}
+use Rattle.path_core.specs.DssIn.{held_of, is_clash, HeardOption}
 use Rattle.path_core.specs.Duties.{stands, passed, answered}
 use Rattle.path_core.specs.End.{PathEnd, died}
 use Rattle.path_core.specs.Events.{next_event, after_line, happens_if}
-use Rattle.path_core.specs.Fallback.{fell_duties}
+use Rattle.path_core.specs.Fallback.{breaks_by_ack, fell_duties}
 use Rattle.path_core.specs.Judged.{taken_as, cleared_in, answered_in, with_answer}
+use Rattle.path_core.specs.Looking.{first_sends, duty_sends, segment_sent, heard_sends, broken_by, send_of}
 use Rattle.path_core.specs.MpCapable.{answered_peer_key}
 use Rattle.path_core.specs.MpJoin.{join_begun, is_joined, is_never, never_joined, keys_begun, opened_by, with_keys, join_answer, asked_at, join_taken}
 use Rattle.path_core.specs.OptionsIn.{items_of, options_heard, hint_of}
@@ -61,6 +64,7 @@ use Rattle.path_core.specs.Start.{waiting_path}
 use Rattle.path_core.specs.State.{PathState, at_tick, end_at, goes_on, with_agenda}
 use Rattle.path_core.specs.Steps.{settled, takes, begins_turn}
 use Rattle.path_core.specs.Timer.{after_firing, timer_fired, template_fired}
+use Rattle.path_core.specs.Treating.{item_of}
 use Rattle.path_core.specs.declared.events.Event.{Event}
 use Rattle.path_core.specs.declared.events.Event.TheVariants as happenings
 use Rattle.path_core.specs.declared.judged.Judged.{Judged}
@@ -78,7 +82,7 @@ use Rattle.world_laws.proofs.Keys.AreDrawn.{is_past}
 use Rattle.world_laws.proofs.Rounds.Lifting.{run_lifted, opened_lifted}
 use Rattle.world_laws.proofs.Whole.Ends.{MeansIs, means_so}
 use Rattle.world_laws.proofs.Writes.Paths.{writes_no_more, passes_no_more}
-use Rattle.whole_paths.specs.AgendaSteps.{treats_copy, is_of_both, is_gone, Follows}
+use Rattle.whole_paths.specs.AgendaSteps.{treats_copy, is_of_both, hears_join, is_silent, is_gone, Follows}
 use Rattle.whole_paths.specs.AgendaSteps.{Follows as follow}
 use Rattle.whole_paths.specs.AsFar.{stage}
 use Rattle.whole_paths.specs.EndSteps.{PathStep}
@@ -87,6 +91,7 @@ use Rattle.whole_paths.proofs.Agendas.{own_end, gone_end, answered_follows}
 use Rattle.whole_paths.proofs.Duties.{passed_steps, answered_steps}
 use Rattle.whole_paths.proofs.Pieces.{Bare, Comes, Lets, is_free, is_event, never, none_next, stays, same_comes, same_here, check_failed_bare, answered_comes, passed_comes, answered_other, passed_other}
 use Rattle.whole_paths.proofs.Pieces.Comes.{calmly, dies}
+use Rattle.whole_paths.proofs.Saying.{ToSend}
 use Rattle.whole_paths.proofs.Settling.{sides}
 use Rattle.whole_paths.proofs.Waiting.{gone_stays, path_far}
 
@@ -116,10 +121,10 @@ Leads s (duties.Send (send_duties.BreakReset t reason)) ds = t ≡ s
 Leads s (duties.Send (send_duties.Reset t)) ds = t ≡ s
 Leads s _ ds = ⊥
 
--- such a duty stands behind others of the same side
+-- such a duty stands behind others of the same side, none of which sends a segment but a reset
 abbrev Ahead : Side → List Duty → Type 0
 Ahead s [] = ⊥
-Ahead s (d ∷ ds) = Leads s d ds ⊎ ((side_of d ≡ s) × ((is_of_both d ≡ false) × Ahead s ds))
+Ahead s (d ∷ ds) = Leads s d ds ⊎ ((side_of d ≡ s) × ((is_silent d ≡ true) × Ahead s ds))
 
 -- an end that has nothing to pass: before its handshake nothing is kept
 record Quiet (c : Profile) (e : PathEnd) : Type 0 where
@@ -136,21 +141,30 @@ quiet_on : (s : Side) (c : Profile) (e f : PathEnd) (ds : List Duty) → Comes c
 quiet_on s c e f ds (dies dead) up h next = is_dead_now dead
 quiet_on s c e f ds (calmly x) up h next = is_quiet (record { none = x.none h.none; fresh = λ low. x.bare (h.fresh (omega (arith, low, up))) }) (next x.bare)
 
+silent_alone : (d : Duty) → is_silent d ≡ true → is_of_both d ≡ false
+silent_alone (duties.Step step_duties.Events) silent = absurd (true≢false (sym silent))
+silent_alone duties.End silent = absurd (true≢false (sym silent))
+silent_alone d silent = refl
+
+joins_aloud : (d : Duty) → is_silent d ≡ true → hears_join d ≡ true → ⊥
+joins_aloud (duties.Ask (ask_duties.JoinHeard s)) silent joins = true≢false (sym silent)
+joins_aloud d silent joins = true≢false (sym joins)
+
 -- one that is to pass what it has
-passes_on : (s : Side) (c : Profile) (f : PathEnd) (d : Duty) (ds next : List Duty) → Follows s (is_gone f) d ds next → side_of d ≡ s → is_of_both d ≡ false → 2 ≤ stage f.tcp.state → Ahead s ds → Ready s next c f
+passes_on : (s : Side) (c : Profile) (f : PathEnd) (d : Duty) (ds next : List Duty) → Follows s (is_gone f) d ds next → side_of d ≡ s → is_silent d ≡ true → 2 ≤ stage f.tcp.state → Ahead s ds → Ready s next c f
 passes_on s c f d ds next follows own one up a = by next follows
   where
     by : (next : List Duty) → Follows s (is_gone f) d ds next → Ready s next c f
     by next follow.goes_on = passes up a
     by next follow.again = passes up (inr (own, (one, a)))
-    by next (follow.told treats e side alone) = passes up (inr (side, (alone, a)))
+    by next (follow.told treats e side alone silent) = passes up (inr (side, (⊎_elim (λ is. is) (λ joins. absurd (joins_aloud d one joins)) silent, a)))
     by next (follow.left dead) = is_dead_now dead
     by next follow.noted = passes up (inr (refl, (refl, a)))
     by next (follow.broken may reason) = passes up (inl refl)
     by next (follow.is_reset may reason) = passes up (inl refl)
     by next (follow.dead may dead) = is_dead_now dead
     by next (follow.stopped may) = passes up (inr (refl, (refl, inr (refl, (refl, inl refl)))))
-    by next (follow.over both) = absurd (true≢false (sym both ∙ one))
+    by next (follow.over both) = absurd (true≢false (sym both ∙ silent_alone d one))
 
 -- what follows a duty of any side, where it tells nothing
 follows_let : (s : Side) (X : Type 0) (t : Side) (over : Bool) (d : Duty) (ds next : List Duty) → Follows t over d ds next → (side_of d ≡ s → Lets X d) → (treats_copy d ≡ true → t ≡ s → ⊥) → AllLet s X ds → AllLet s X next
@@ -159,7 +173,7 @@ follows_let s X t over d ds next follows first tells rest = by next follows
     by : (next : List Duty) → Follows t over d ds next → AllLet s X next
     by next follow.goes_on = rest
     by next follow.again = (first, rest)
-    by next (follow.told treats e side alone) = (λ own. absurd (tells treats (sym side ∙ own)), rest)
+    by next (follow.told treats e side alone silent) = (λ own. absurd (tells treats (sym side ∙ own)), rest)
     by next (follow.left dead) = (λ own. inl refl, rest)
     by next follow.noted = (λ own. inl refl, rest)
     by next (follow.broken may reason) = all_free s X (breaks t reason) refl
@@ -350,7 +364,7 @@ heard_modes true items _ options state mods = (refl, refl)
 heard_modes false items means.Opens options state mods = (refl, refl)
 heard_modes false items _ options state mods = (refl, refl)
 
-past_stage : (state : EndPhase) → is_past state ≡ true → 2 ≤ stage state
+pub past_stage : (state : EndPhase) → is_past state ≡ true → 2 ≤ stage state
 past_stage phase.Waiting past = absurd (true≢false (sym past))
 past_stage phase.Listen past = absurd (true≢false (sym past))
 past_stage phase.SynSent past = absurd (true≢false (sym past))
@@ -543,7 +557,7 @@ module _ {C : Type 0} where
       by : Ready s (d ∷ ds) p.profile (end_at s x) → Ready s (answered k d r x).agenda p.profile (end_at s (answered k d r x))
       by (is_dead_now dead) = is_dead_now (far_gone s x (answered k d r x) (answered_steps k d r x) dead)
       by (is_quiet h lets) = event_ready k (next_event x) r x s (path_far x (answered k d r x) (answered_steps k d r x) s).subflow.state h
-      by (passes low a) = ⊎_elim (λ lead. absurd lead) (λ rest. absurd (true≢false rest.1.0)) a
+      by (passes low a) = ⊎_elim (λ lead. absurd lead) (λ rest. absurd (true≢false (sym rest.1.0))) a
   answer_ready k s (duties.Ask (ask_duties.Edge t)) ds r p checks h =
       let d : Duty = duties.Ask (ask_duties.Edge t) in let x : PathState C = with_agenda (d ∷ ds) p in
       answer_on k s d ds r p refl (answered_follows k d ds r p) (λ own. tt) (λ up lead. passes up (edge_leads s t ds (piece_of t x) (is_placed r) p lead)) h
@@ -642,6 +656,45 @@ module _ {C : Type 0} where
   over_so s p (is_quiet h lets) over living = h.none
   over_so s p (passes low a) over living = absurd (subst (Ahead s) over a)
 
+  -- while something is to be passed, no segment is sent but a reset
+  abbrev pub Resets : PathState C → ToSend → Type 0
+  Resets p t = (segment_sent p t).rst ≡ true
+
+  broken_resets : (s : Side) (reason : ℕ) (p : PathState C) → IfSome (broken_by s reason p) (Resets p)
+  broken_resets s reason p = elim (end_at s p).treated.asked as (λ b. IfSome (if b then None else send_of (send_duties.BreakReset s reason)) (Resets p)) [ true ↦ tt | false ↦ refl ]
+
+  heard_resets : (s : Side) (o : Option Heard) (p : PathState C) → IfSome (heard_sends s o p) (Resets p)
+  heard_resets s (Some (says.Mapping fin)) p = elim (is_clash (end_at s p)) as (λ b. IfSome (if b then broken_by s 1 p else None) (Resets p)) [ true ↦ broken_resets s 1 p | false ↦ tt ]
+  heard_resets s _ p = tt
+
+  pub silent_resets : (d : Duty) (p : PathState C) → is_silent d ≡ true → IfSome (duty_sends d p) (Resets p)
+  silent_resets (duties.Step (step_duties.Data s)) p silent = absurd (true≢false (sym silent))
+  silent_resets (duties.Step (step_duties.Heard s index)) p silent = heard_resets s (item_of index (end_at s p)) p
+  silent_resets (duties.Step (step_duties.PlainAck s)) p silent =
+      elim (breaks_by_ack p.profile (end_at s p)) as (λ b. IfSome (if b then broken_by s 6 p else None) (Resets p)) [ true ↦ broken_resets s 6 p | false ↦ tt ]
+  silent_resets (duties.Step (step_duties.Unmapped s)) p silent = broken_resets s 6 p
+  silent_resets (duties.Send d) p silent = absurd (true≢false (sym silent))
+  silent_resets _ p silent = tt
+
+  leads_resets : (s : Side) (d : Duty) (ds : List Duty) (p : PathState C) → Leads s d ds → IfSome (duty_sends d p) (Resets p)
+  leads_resets s (duties.Ask (ask_duties.Edge t)) ds p lead = tt
+  leads_resets s (duties.Ask (ask_duties.BreakAck t reason)) ds p lead = tt
+  leads_resets s (duties.Send (send_duties.BreakReset t reason)) ds p lead = refl
+  leads_resets s (duties.Send (send_duties.Reset t)) ds p lead = refl
+  leads_resets s _ ds p lead = absurd lead
+
+  ahead_resets : (s : Side) (ds : List Duty) (p : PathState C) → Ahead s ds → IfSome (first_sends ds p) (Resets p)
+  ahead_resets s [] p a = tt
+  ahead_resets s (d ∷ ds) p a = ⊎_elim (λ lead. leads_resets s d ds p lead) (λ rest. silent_resets d p rest.1.0) a
+
+  sends_so : (s : Side) (p : PathState C) → Stands s p → is_gone (end_at s p) ≡ false
+      → IfSome (first_sends p.agenda p) (λ t. t.from ≡ s → (segment_sent p t).rst ≡ false → piece_of s p ≡ None)
+  sends_so s p (is_dead_now dead) living = absurd (true≢false (sym dead ∙ living))
+  sends_so s p (is_quiet h lets) living = (elim (first_sends p.agenda p) as (λ o. IfSome o (λ t. t.from ≡ s → (segment_sent p t).rst ≡ false → piece_of s p ≡ None))
+      [ Some t ↦ λ own speaks. h.none | None ↦ tt ])
+  sends_so s p (passes low a) living = (elim (first_sends p.agenda p) as (λ o. IfSome o (Resets p) → IfSome o (λ t. t.from ≡ s → (segment_sent p t).rst ≡ false → piece_of s p ≡ None))
+      [ Some t ↦ λ reset own speaks. absurd (true≢false (sym reset ∙ speaks)) | None ↦ λ none. tt ]) (ahead_resets s p.agenda p a)
+
   idle : (s : Side) (p : PathState C) → Stands s p → p.agenda ≡ [] → Ready s start_of_turn p.profile (end_at s p)
   idle s p (is_dead_now dead) over = is_dead_now dead
   idle s p (is_quiet h lets) over = is_quiet h (all_free s (Bare (end_at s p)) start_of_turn refl)
@@ -663,7 +716,7 @@ module _ {C : Type 0} where
 
   member_so : (m : Actor C) → ReadyMember m → HoldsOfKind (λ app. Unit {0}) HasPassed m
   member_so (App a) h = tt
-  member_so (Path p) h = λ over s living. over_so s p (h.ends s) over living
+  member_so (Path p) h = λ s living. record { over = λ over. over_so s p (h.ends s) over living; sends = sends_so s p (h.ends s) living }
 
   pub what_is_in_order_is_passed : (k : Codec C) → Always k (λ start w. WhatIsInOrderIsPassed w)
   what_is_in_order_is_passed k start turns = record {

@@ -257,7 +257,7 @@ own_follows s gone d ds next follows calm own kept = by next follows
     by : (next : List Duty) → Follows s gone d ds next → (is_kept s next ≡ true) × ((settles_in s next ≡ true) ⊎ (gone ≡ true))
     by next follow.goes_on = (rest, inl later)
     by next follow.again = (kept, inl (settled_later s d ds later))
-    by next (follow.told treats e side one) =
+    by next (follow.told treats e side one silent) =
         (in_front s e ds (later ∙ sym (subst (λ t. same_side t s ≡ true) (sym side) (itself s))) one rest, inl (settled_later s e ds later))
     by next (follow.left dead) = (calm_front s (duties.Ask (ask_duties.Leave s)) ds refl refl refl rest, inl later)
     by next follow.noted = (calm_front s (duties.Ask (ask_duties.Dead s)) ds refl refl refl rest, inl later)
@@ -291,7 +291,7 @@ other_follows t gone d ds next follows own idle kept = by next follows
     by : (next : List Duty) → Follows t gone d ds next → (is_kept (peer t) next ≡ true) × (settles_in (peer t) (d ∷ ds) ≡ true → settles_in (peer t) next ≡ true)
     by next follow.goes_on = (rest, later)
     by next follow.again = (kept, λ is. is)
-    by next (follow.told treats e side one) = (
+    by next (follow.told treats e side one silent) = (
       in_front (peer t) e ds (none (inl (treats_breaks d treats)) ∙ sym (subst (λ r. same_side r (peer t) ≡ false) (sym side) (apart t))) one rest,
       λ is. settled_later (peer t) e ds (later is),
     )

@@ -52,12 +52,27 @@ is_of_both (duties.Step step_duties.Events) = true
 is_of_both duties.End = true
 is_of_both _ = false
 
+-- a path that joins is asked for
+abbrev pub hears_join : Duty → Bool
+hears_join (duties.Ask (ask_duties.JoinHeard s)) = true
+hears_join _ = false
+
+-- by a duty no segment is sent but a reset, nor by one that it tells
+abbrev pub is_silent : Duty → Bool
+is_silent (duties.Ask (ask_duties.JoinHeard s)) = false
+is_silent (duties.Ask d) = true
+is_silent (duties.Silent d) = true
+is_silent (duties.Step step_duties.Events) = false
+is_silent (duties.Step (step_duties.Data s)) = false
+is_silent (duties.Step d) = true
+is_silent _ = false
+
 -- what follows a duty of this side that others stand behind; its end is gone or not
 pub data Follows (s : Side) (gone : Bool) (d : Duty) (ds : List Duty) : List Duty → Type 0 where
   -- the others; it once more; another one of the side in its place
   goes_on : Follows s gone d ds ds
   again : Follows s gone d ds (d ∷ ds)
-  told : treats_copy d ≡ true → (e : Duty) → side_of e ≡ s → is_of_both e ≡ false → Follows s gone d ds (e ∷ ds)
+  told : treats_copy d ≡ true → (e : Duty) → side_of e ≡ s → is_of_both e ≡ false → (is_silent e ≡ true) ⊎ (hears_join d ≡ true) → Follows s gone d ds (e ∷ ds)
   -- the end is dead and gives back its bytes, and then tells it
   left : gone ≡ true → Follows s gone d ds (duties.Ask (ask_duties.Leave s) ∷ ds)
   noted : Follows s gone d ds (duties.Ask (ask_duties.Dead s) ∷ ds)

@@ -1,9 +1,9 @@
 -- What becomes of a mapping that a copy tells: its end knows it until RCV.NXT is past its positions (RFC 8684, section 3.3.1).
 use Rattle.std.specs.Prelude.{ℕ, ◌≡◌, ◌<◌, ◌≤◌, ◌⊎◌, Bool, true, false, Option, Some, None, IsSome, List, [], ◌∷◌, slice_get}
-use Rattle.std.specs.List.{list_any}
+use Rattle.std.specs.List.{All, list_any}
 use Rattle.path_segments.specs.Heard.{HeardSegment}
 use Rattle.sides.specs.declared.side.Side.{Side}
-use Rattle.dss_mapping.specs.Learning.{first_held}
+use Rattle.dss_mapping.specs.Learning.{IsWithin, first_held}
 use Rattle.dss_mapping.specs.Mappings.{Mappings, mapping_at, place_at, run_of}
 use Rattle.dss_mapping.specs.Runs.{covers}
 use Rattle.dss_mapping.specs.declared.kept.KeptMapping.{KeptMapping}
@@ -29,10 +29,13 @@ use Rattle.whole_paths.specs.Brought.{Brings, IsToReset, comes_before_keeping}
 
 -- ---- mappings
 
--- Where a position from there on has a place that mappings are kept for, one of them names it; and RCV.NXT is that far.
+-- Where a position from there on has a place that mappings are kept for, one of them names it; and RCV.NXT is that far. Each names places
+-- up to 2^62, and so does each that was told and is still to be learned.
 pub record AreLive (v : Mappings) (edge : ℕ) : Type 0 where
   pub low : v.forgotten ≤ edge
   pub live : (pos : ℕ) → v.forgotten ≤ pos → IsSome (place_at v pos) → IsSome (mapping_at v pos)
+  pub within : All IsWithin v.live
+  pub told : All IsWithin v.held
 
 -- what a copy says is that it has a mapping
 abbrev pub says_mapping : Heard → Bool
