@@ -1,3 +1,4 @@
+pub mod Acking
 pub mod Agendas
 pub mod Books
 pub mod Bringing

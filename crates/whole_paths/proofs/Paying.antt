@@ -1,5 +1,6 @@
 -- An acknowledgement that an end owes comes to the peer, whatever is lost.
 use Rattle.std.proofs.Common.{◌≡◌, refl, sym, subst, ap, ◌∙◌, ◌⊎◌, inl, inr, ⊎_elim, ℕ, ◌+◌, ◌-◌, ◌^◌, ◌<◌, ◌≤◌, arith, Bool, true, false, true≢false, if◌then◌else◌, Option, Some, None, IfSome, List, [], ◌∷◌, length}
+use Rattle.std.specs.List.{slice_get}
 use Rattle.std.proofs.lemmas.Option.{same_Some}
 use Rattle.path_segments.specs.Spelled.{PlainSegment}
 use Rattle.sides.specs.declared.side.Side.{Side}
@@ -47,12 +48,13 @@ use Rattle.path_core.specs.Octets.{made}
 use Rattle.path_core.specs.Profile.{Profile}
 use Rattle.path_core.specs.Standing.{answered_ack_out, after_ack_out}
 use Rattle.path_core.specs.State.{PathState, end_at, goes_on, with_agenda}
-use Rattle.path_core.specs.Steps.{takes, next_round}
+use Rattle.path_core.specs.Steps.{settled, takes, next_round}
 use Rattle.path_core.specs.Treating.{item_of, item_passed, answered_item, answered_heard}
 use Rattle.world_laws.specs.declared.member.Member.TheVariants.{App, Path}
 use Rattle.world_laws.specs.Actors.{Actor, ActorCrew, member_takes, member_next, is_over}
 use Rattle.world_laws.specs.Members.{HoldsOfKind}
 use Rattle.world_laws.specs.StampedBooks.{answer_to}
+use Rattle.world_laws.specs.Worlds.{WorldState, Turn, after_turn}
 use Rattle.world_laws.specs.Writes.{EndWrites, EndView, Writes, PathView, Only, OnlyAt, nothing, writes, side_of}
 use Rattle.world_laws.proofs.Falls.FailedChecks.{infinite_came_so, fail_answered_so}
 use Rattle.world_laws.proofs.Writes.Paths.{writes_no_more, passes_no_more}
@@ -117,7 +119,7 @@ data Pays (o : Option ToSend) (s : Side) (e f : PathEnd) : Type 0 where
   paid : (t : ToSend) → o ≡ Some t → t.from ≡ s → Pays o s e f
 
 -- both SYNs came
-past_opening : (state : State) → 2 ≤ stage state → is_opening state ≡ true → ⊥
+pub past_opening : (state : State) → 2 ≤ stage state → is_opening state ≡ true → ⊥
 past_opening phase.SynSent high is = absurd (omega (arith, high))
 past_opening _ high is = true≢false (sym is)
 
@@ -219,6 +221,9 @@ module _ {C : Type 0} where
   due_lasts : Lasts SameDue
   due_lasts = record { agenda = λ ds p s. refl; chains = λ p q r x y s. y s ∙ x s; passes = λ d p s. passed_due s d p }
 
+  pub settled_due : (ds : List Duty) (p : PathState C) → SameDue p (settled ds p)
+  settled_due ds p = settled_lasts SameDue due_lasts ds p
+
   abbrev AllFar : PathState C → PathState C → Type 0
   AllFar p q = (s : Side) → Far (end_at s p) (end_at s q)
 
@@ -230,7 +235,7 @@ module _ {C : Type 0} where
   }
 
   -- what becomes of what an end owes by its duties, unless it sends, or nothing is owed
-  data StillOwed (s : Side) (p q : PathState C) : Type 0 where
+  pub data StillOwed (s : Side) (p q : PathState C) : Type 0 where
     keeps : (d : Duty) (others : List Duty) → p.agenda ≡ d ∷ others → is_event d ≡ false → ((end_at s p).tcp.due.ack ≡ true → (end_at s q).tcp.due.ack ≡ true) → StillOwed s p q
     has_died : is_gone (end_at s q) ≡ true → StillOwed s p q
     is_sent : (t : ToSend) → first_sends p.agenda p ≡ Some t → t.from ≡ s → StillOwed s p q
@@ -238,9 +243,9 @@ module _ {C : Type 0} where
     rests : q ≡ p → StillOwed s p q
 
   -- with how far its ends are
-  record Turned (p q : PathState C) : Type 0 where
-    far : AllFar p q
-    owing : (s : Side) → StillOwed s p q
+  pub record Turned (p q : PathState C) : Type 0 where
+    pub far : AllFar p q
+    pub owing : (s : Side) → StillOwed s p q
 
   settled_far : (k : Codec C) (d : Duty) (ds : List Duty) (r : Reply) (p : PathState C) (s : Side) → let q : PathState C = answered k d r (with_agenda (d ∷ ds) p) in
       Far (end_at s q) (end_at s (takes k r (with_agenda (d ∷ ds) p)))
@@ -258,7 +263,7 @@ module _ {C : Type 0} where
   duty_owing k s (duties.Step step_duties.Events) ds r p = is_done (idle_by.next ds refl)
   duty_owing k s d ds r p = pays_so k s d ds r p refl (answered_pays k s d r (with_agenda (d ∷ ds) p) refl)
 
-  takes_turned : (k : Codec C) (r : Reply) (p : PathState C) → Turned p (takes k r p)
+  pub takes_turned : (k : Codec C) (r : Reply) (p : PathState C) → Turned p (takes k r p)
   takes_turned k r p = by p.agenda
     where
       by : (ds : List Duty) → let x : PathState C = with_agenda ds p in Turned x (takes k r x)
@@ -352,7 +357,7 @@ module _ {C : Type 0} where
 
   -- ---- the world
 
-  abbrev TurnedTo : Actor C → Actor C → Type 0
+  abbrev pub TurnedTo : Actor C → Actor C → Type 0
   TurnedTo (Path p) (Path q) = Turned p q
   TurnedTo (App a) (App b) = Unit {0}
   TurnedTo _ _ = ⊥
@@ -375,10 +380,14 @@ module _ {C : Type 0} where
   answers_go_on k (App a) (Path q) turned frames hands copies answered = absurd turned
   answers_go_on k (Path p) (App b) turned frames hands copies answered = absurd turned
 
+  pub turned_to : (k : Codec C) (w : WorldState C) (turn : Turn) (actor : ℕ) (c : ActorCrew C) → slice_get w.crew actor ≡ Some c
+      → (d : ActorCrew C) × (slice_get (after_turn k turn w).crew actor ≡ Some d) × TurnedTo c.member d.member
+  turned_to k w turn = turn_each k (λ x y. TurnedTo x.member y.member) (λ x. member_stays x.member) (λ ask books x. member_turned k (answer_to books ask) x.member)
+      (λ stamp x over. member_begins x.member over) turn w
+
   pub what_is_owed_comes : (k : Codec C) → WhatIsOwedComes k
   what_is_owed_comes k w answered turn actor c there =
-      let turned = turn_each k (λ x y. TurnedTo x.member y.member) (λ x. member_stays x.member) (λ ask books x. member_turned k (answer_to books ask) x.member)
-      (λ stamp x over. member_begins x.member over) turn w actor c there in
+      let turned = turned_to k w turn actor c there in
       let d : ActorCrew C = turned.0 in
       let frames = frames_stay k w turn actor c there in
       let hands = each_segment_says_what_came k w turn actor c there in

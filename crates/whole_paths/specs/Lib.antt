@@ -10,6 +10,7 @@ pub mod Finish
 pub mod Flights
 pub mod Harms
 pub mod Hearing
+pub mod InHand
 pub mod InTime
 pub mod Kept
 pub mod Lanes

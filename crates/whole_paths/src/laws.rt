@@ -12,6 +12,7 @@ ghost use Rattle.whole_paths.specs.Expiries.{WhatRunsOutGoesAgain};
 ghost use Rattle.whole_paths.specs.Flights.{WhatWaitsComes};
 ghost use Rattle.whole_paths.specs.Harms.{EachUsesALineOrComes, PlainDirectionsHandOnAtOnce};
 ghost use Rattle.whole_paths.specs.Hearing.{EachAcknowledgementCounts};
+ghost use Rattle.whole_paths.specs.InHand.{WhatIsInHandIsAcknowledged};
 ghost use Rattle.whole_paths.specs.InTime.{NothingIsOverdue};
 ghost use Rattle.whole_paths.specs.Kept.{WhatWaitsIsKept};
 ghost use Rattle.whole_paths.specs.Lanes.Laws.{LossyLanesEnd, LossyLanesFinish};
@@ -159,21 +160,34 @@ pub fn what_comes_is_kept()
 /// Each position of the first mapping of a copy that the end takes has a mapping then, or gets it once all is treated that the copy says
 /// before; from then on, by each turn, until RCV.NXT is past it. Or the end is dead, or reset next, as where the mapping gives a position
 /// another place; or the side fell back to plain TCP, or hasn't the peer's key, so that no mapping counts. At every moment each position
-/// that has a place, from where mappings are kept on, has its mapping (`live`).
+/// that has a place, from where mappings are kept on, has its mapping, and each mapping names places up to 2^62 (`live`).
 pub fn what_is_told_is_known()
     ensures octets { WhatIsToldIsKnown octets }
     ensures values { WhatIsToldIsKnown values }
 {}
 
-/// A law: where the turn of a path is over, no end that isn't dead keeps bytes that it may place: RCV.NXT stands behind all octets in order
-/// that have their mapping (RFC 8684, section 3.3.1), with checksums behind each mapping that is kept whole and right, and in plain TCP or
-/// under an infinite mapping behind all octets in order (section 3.7).
+/// A law: where the turn of a path is over, and before each segment that is no reset, no end that isn't dead keeps bytes that it may place:
+/// RCV.NXT stands behind all octets in order that have their mapping (RFC 8684, section 3.3.1), with checksums behind each mapping that is
+/// kept whole and right, and in plain TCP or under an infinite mapping behind all octets in order (section 3.7).
 ///
-/// What comes in order is so passed in the turn in which it comes, and what waited behind it too; or the reassembly book refuses it, and the
-/// end dies.
+/// What comes in order is so passed in the turn in which it comes, and what waited behind it too, before anything is acknowledged; or the
+/// reassembly book refuses it, and the end dies.
 pub fn what_is_in_order_is_passed()
     ensures octets { Always octets (λ start w. WhatIsInOrderIsPassed w) }
     ensures values { Always values (λ start w. WhatIsInOrderIsPassed w) }
+{}
+
+/// A law: what comes to an end in order, with its mapping, is acknowledged in the same turn (RFC 9293, section 3.10.7.4).
+///
+/// A copy that the end takes, of whose octets none stands behind a gap or past the window, and whose first mapping names each from RCV.NXT on,
+/// is in hand at once, and an acknowledgement is owed. Where each octet before a position is in hand, with its mapping, it is so by each
+/// turn, and the acknowledgement can come by the same tick; or RCV.NXT is past the position, and the answer that says so goes the way of each
+/// (`what_is_owed_comes`). No segment goes before but a reset, since the octet at RCV.NXT is passed first (`what_is_in_order_is_passed`). Or
+/// the end is dead, or reset next; or RCV.NXT is past the peer's FIN; or B has neither both keys nor fell back; or no mapping counts
+/// (`what_is_told_is_known`), or the peer sends by an infinite one. So it is without checksums.
+pub fn what_is_in_hand_is_acknowledged()
+    ensures octets { WhatIsInHandIsAcknowledged octets }
+    ensures values { WhatIsInHandIsAcknowledged values }
 {}
 
 /// A law: the first record of an end that isn't acknowledged comes to the peer within a minute and the longest time that a segment is under

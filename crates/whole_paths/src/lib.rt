@@ -8,7 +8,7 @@
 //! off (`no_timer_is_put_off`, `timers_run_on`), and as it runs out the first record goes again (`what_runs_out_goes_again`). What is lost
 //! comes again within a minute and the longest time on its way (`what_waits_comes`), and what comes is kept until it is passed
 //! (`what_comes_is_kept`, `what_is_told_is_known`), and is passed and answered in its turn (`what_is_in_order_is_passed`,
-//! `each_copy_is_answered_at_once`), by a segment that acknowledges all of it (`each_segment_says_what_came`) and nothing that didn't come
+//! `what_is_in_hand_is_acknowledged`, `each_copy_is_answered_at_once`), by a segment that acknowledges all of it (`each_segment_says_what_came`) and nothing that didn't come
 //! (`what_is_acknowledged_came`). The answer comes to the peer (`what_is_owed_comes`), and the end that takes it hears it
 //! (`each_acknowledgement_counts`).
 #![tactic(auto)]
@@ -19,7 +19,7 @@ pub use laws::{
     a_copy_leaves_by_arriving, each_acknowledgement_counts, each_copy_is_answered_at_once,
     each_segment_says_what_came, each_segment_uses_a_line_or_comes, lossy_lanes_finish,
     no_timer_is_put_off, nothing_goes_back, nothing_is_overdue, timers_run_on, timers_run_out,
-    what_comes_is_kept, what_is_acknowledged_came, what_is_in_order_is_passed, what_is_owed_comes,
-    what_is_told_is_known, what_runs_out_goes_again, what_waits_comes, what_waits_is_kept,
-    who_waits_has_a_timer,
+    what_comes_is_kept, what_is_acknowledged_came, what_is_in_hand_is_acknowledged,
+    what_is_in_order_is_passed, what_is_owed_comes, what_is_told_is_known,
+    what_runs_out_goes_again, what_waits_comes, what_waits_is_kept, who_waits_has_a_timer,
 };
