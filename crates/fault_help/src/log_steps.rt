@@ -1,6 +1,6 @@
 //! What the steps of a log are made as, where one of its lines is refused that has its form.
 
-use crate::words::{behind_line, put_found};
+use crate::words::{behind_line, behind_lines, put_found};
 use octet_text::{Text, split_line};
 use run_log::{Turn, line};
 use run_outside::{opening_count, split_at_first};
@@ -83,15 +83,6 @@ fn first_of(first: Option<Differing>, number: u64, told: &[u8], made: Made) -> O
         }
         _ => None,
     }
-}
-
-/// The text behind so many lines.
-fn behind_lines(text: &[u8], count: u64) -> &[u8] {
-    let mut rest = text;
-    for _ in 0..count {
-        rest = behind_line(rest);
-    }
-    rest
 }
 
 /// Makes the turns of a log up to its refused line.
