@@ -1,11 +1,15 @@
 -- Octets that a segment brings to places.
-use Rattle.std.proofs.Common.{◌≡◌, refl, ap, ◌∙◌, sym, subst, ℕ, ◌-◌, ◌≤◌, Bool, true, false, if◌then◌else◌, Option, Some, option_map, List, []}
+use Rattle.std.proofs.Common.{◌≡◌, refl, ap, ◌∙◌, sym, subst, ℕ, ◌-◌, ◌≤◌, Bool, true, false, if◌then◌else◌, Option, Some, option_map, List, [], ◌∷◌, ◌++◌}
 use Rattle.std.proofs.Math.ListN.{set}
 use Rattle.std.specs.List.{slice_get}
 use Rattle.sides.specs.declared.side.Side.{Side}
 use Rattle.sides.specs.Side.{peer}
 use Rattle.capture_reader.specs.Seen.{Seen}
+use Rattle.mptcp_options.specs.declared.dss.DataNumber.{DataNumber}
+use Rattle.mptcp_options.specs.declared.dss.DssMap.{DssMap}
+use Rattle.mptcp_options.specs.Value.{OptionValue, Dss}
 use Rattle.judge_rules.specs.declared.finding.Rule.TheVariants as rule
+use Rattle.judge_rules.specs.Numbers.{first_number}
 use Rattle.seen_connections.specs.declared.connections.Keys.{Keys}
 use Rattle.seen_connections.specs.declared.connections.Place.{Place}
 use Rattle.seen_connections.specs.declared.flow.Belongs.{Belongs}
@@ -16,16 +20,18 @@ use Rattle.seen_streams.specs.Acks.{Acked}
 use Rattle.seen_streams.specs.Content.{is_between}
 use Rattle.seen_streams.specs.Positions.{position_of}
 use Rattle.seen_streams.specs.State.{LaneValue, StreamValue, place_of}
-use Rattle.rule_book.specs.Facts.{Facts, own_base, own_lane, payload_at}
-use Rattle.rule_book.specs.Signals.{KeyedValue, judged_options, told_formless}
+use Rattle.rule_book.specs.Facts.{Facts, first_of, own_base, own_lane, payload_at}
+use Rattle.rule_book.specs.Signals.{KeyedValue, judged_options, keyed_each, told_formless}
 use Rattle.rule_book.specs.State.{BookValue, JudgedValue, LanesValue, stream_at, with_stream}
 use Rattle.rule_book.specs.Stream.{Left, gap_counted, judged_at, judged_by, judged_from}
 use Rattle.rule_book.specs.Judged.{Told, judged, judged_belonging, judged_flow, judged_formed, judged_in_flow, judged_known, judged_opened, judged_place, judged_side, opened_facts, grown, put_back}
+use Rattle.judge_laws.specs.Acknowledges.{Acknowledges, WasSeen}
 use Rattle.judge_laws.specs.Brings.{Brings, IsOf, ready_for, taken_by}
 use Rattle.judge_laws.specs.GoesOn.{broke, stream_in}
 use Rattle.judge_laws.specs.Laws.{has_octet}
+use Rattle.judge_laws.proofs.Acknowledged.{each_key, option_stays}
 use Rattle.judge_laws.proofs.Books.{own_stream, peers_stream, set_there}
-use Rattle.judge_laws.proofs.Positions.{at_shows}
+use Rattle.judge_laws.proofs.Positions.{at_acks, at_shows}
 
 pub some_same : {X : Type 0} → (x y : X) → Some x ≡ Some y → x ≡ y
 some_same x y e = cc
@@ -77,6 +83,15 @@ module _ (facts : Facts) (position : ℕ) (options : List SeenValue) (keys : Key
       ∙ at_shows facts position made.options made.keys (stream_at (peer facts.side) before.book) (stream_at facts.side before.book) (own_lane facts before.lanes)
       p place octet (ap (broke rule.PlaceContent) (sym own) ∙ kept) within held (ap (λ (l : LaneValue). place_of l p) (sym lane) ∙ placed)
       (subst (λ (s : StreamValue). s.acknowledged ≤ place) (sym peers) few)
+
+  told_acks : (known : ℕ) (number : DataNumber) (mapping : Option DssMap) (fin : Bool) (front back : List OptionValue)
+      → first_of (peer facts.side) made.keys ≡ Some known → made.options ≡ front ++ Dss (Some number) mapping fin ∷ back
+      → broke rule.DataAck (stream_at facts.side told.left.book) ≡ false → WasSeen (stream_at (peer facts.side) left.book) known number
+  told_acks known number mapping fin front back key among kept =
+      let own : stream_at facts.side told.left.book ≡ acked.stream = own_stream facts.side acked.stream (gap_counted facts before).book in
+      subst (λ (s : StreamValue). WasSeen s known number) (peers_stream facts.side made.stream left.book)
+      (at_acks facts position made.options made.keys (stream_at (peer facts.side) before.book) (stream_at facts.side before.book) (own_lane facts before.lanes)
+      known number mapping fin front back key among (ap (broke rule.DataAck) (sym own) ∙ kept))
 
 -- ---- a segment of a side of a connection
 
@@ -145,3 +160,16 @@ module _ (at : Option Side) (check_sums : Bool) (state : JudgedValue) (packet : 
       (ap (λ (l : LanesValue). place_of (own_lane known l) brings.position) lanes
       ∙ subst (λ (f : Facts). place_of (own_lane f brings.lanes) brings.position ≡ Some place) back brings.placed)
       (subst (λ (s : StreamValue). s.acknowledged ≤ place) (sym (peers_stream side (told_formless packet options_of (stream_at side it.book)) it.book)) brings.unacknowledged))
+
+  pub segment_acks : (number : DataNumber) (stream : StreamValue) → stream_in (judged at check_sums state packet seen) connection side ≡ Some stream
+      → broke rule.DataAck stream ≡ false → (ack : Acknowledges at check_sums state packet seen connection side it number)
+      → WasSeen (stream_at (peer side) it.book) ack.first number
+  segment_acks number stream there kept ack =
+      let same : stream_at side left_told.left.book ≡ stream = some_same (stream_at side left_told.left.book) stream (sym stream_is ∙ there) in
+      let start = first known it.position options_of it.keys formed in
+      let stays = option_stays known ack.before number ack.mapping ack.fin ack.after start in
+      subst (λ (s : StreamValue). WasSeen s ack.first number) (peers_stream side (told_formless packet options_of (stream_at side it.book)) it.book)
+      (told_acks known it.position options_of it.keys formed ack.first number ack.mapping ack.fin stays.0 stays.1
+      (ap (option_map first_number) (each_key known options_of start) ∙ ack.has_first)
+      (ap (λ (os : List SeenValue). (keyed_each known os start).options) ack.among ∙ stays.2)
+      (ap (broke rule.DataAck) same ∙ kept))

@@ -277,7 +277,7 @@ acked_one_goes : (facts : Facts) (first : ℕ) (peers : StreamValue) (option : O
 acked_one_goes facts first peers (Dss (Some number) mapping fin) acked = acked_with_goes facts.at_sender facts.packet first peers number acked
 acked_one_goes facts first peers option acked = goes_same acked.stream
 
-acked_each_goes : (facts : Facts) (first : ℕ) (peers : StreamValue) (options : List OptionValue) (acked : Acked)
+pub acked_each_goes : (facts : Facts) (first : ℕ) (peers : StreamValue) (options : List OptionValue) (acked : Acked)
     → GoesOn acked.stream (acked_each facts first peers options acked).stream
 acked_each_goes facts first peers [] acked = goes_same acked.stream
 acked_each_goes facts first peers (option ∷ options) acked =
@@ -296,7 +296,7 @@ failed_one_goes : (packet first : ℕ) (peers : StreamValue) (option : OptionVal
 failed_one_goes packet first peers (Fail number) s = failed_with_goes packet first peers number s
 failed_one_goes packet first peers option s = goes_same s
 
-failed_each_goes : (packet first : ℕ) (peers : StreamValue) (options : List OptionValue) (s : StreamValue) → GoesOn s (failed_each packet first peers options s)
+pub failed_each_goes : (packet first : ℕ) (peers : StreamValue) (options : List OptionValue) (s : StreamValue) → GoesOn s (failed_each packet first peers options s)
 failed_each_goes packet first peers [] s = goes_same s
 failed_each_goes packet first peers (option ∷ options) s =
     goes_then s (failed_one packet first peers option s) (failed_each packet first peers options (failed_one packet first peers option s))

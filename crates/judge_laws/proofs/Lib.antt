@@ -1,6 +1,7 @@
 pub mod GoesOn
 pub mod Folds
 pub mod Shown
+pub mod Acknowledged
 pub mod Positions
 pub mod Books
 pub mod Steps

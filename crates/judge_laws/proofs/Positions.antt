@@ -3,6 +3,8 @@ use Rattle.std.proofs.Common.{◌≡◌, refl, ap, ◌∙◌, sym, ℕ, ◌-◌,
 use Rattle.std.specs.List.{slice_get}
 use Rattle.std.proofs.lemmas.Bool.Decides.{nat_tests}
 use Rattle.sides.specs.Side.{peer}
+use Rattle.mptcp_options.specs.declared.dss.DataNumber.{DataNumber}
+use Rattle.mptcp_options.specs.declared.dss.DssMap.{DssMap}
 use Rattle.mptcp_options.specs.Value.{OptionValue, Dss}
 use Rattle.judge_rules.specs.declared.finding.Finding.{Finding}
 use Rattle.judge_rules.specs.declared.finding.Rule.TheVariants as rule
@@ -17,8 +19,10 @@ use Rattle.seen_streams.specs.Same.{same_mapping}
 use Rattle.seen_streams.specs.Sums.{summed_by, with_sum, with_sums}
 use Rattle.rule_book.specs.Facts.{Facts, first_of, payload_at}
 use Rattle.rule_book.specs.Stream.{acked_each, acked_one, behind_acks, behind_payload, fin_taken, judged_at, mapped_with, summed, within_each}
+use Rattle.judge_laws.specs.Acknowledges.{WasSeen}
 use Rattle.judge_laws.specs.GoesOn.{GoesOn, broke}
 use Rattle.judge_laws.proofs.GoesOn.{goes_then}
+use Rattle.judge_laws.proofs.Acknowledged.{acks_seen}
 use Rattle.judge_laws.proofs.Folds.{acks_go, ended_goes, mapped_goes, summed_goes, within_goes}
 use Rattle.judge_laws.proofs.Shown.{from_goes, kept_before, known_later, octet_shown}
 
@@ -150,3 +154,12 @@ module _ (facts : Facts) (position : ℕ) (options : List OptionValue) (keys : K
       come =
           ap (λ b. if b then in_payload payload p else earlier mapped.learnt mapped.has_line filled p) within
           ∙ ap (λ (o : Option ℕ). Some o) held
+
+  -- a Data ACK among the options
+  pub at_acks : (first : ℕ) (number : DataNumber) (mapping : Option DssMap) (fin : Bool) (front back : List OptionValue)
+      → first_of (peer facts.side) keys ≡ Some first → options ≡ front ++ Dss (Some number) mapping fin ∷ back → broke rule.DataAck last.stream ≡ false
+      → WasSeen peers first number
+  at_acks first number mapping fin front back known among kept =
+      acks_seen facts first peers number mapping fin front back tried
+      (ap (broke rule.DataAck) (sym (ap (λ (f : Option ℕ). (behind_acks facts f peers options tried).stream) known
+      ∙ ap (λ (os : List OptionValue). (behind_acks facts (Some first) peers os tried).stream) among)) ∙ kept)

@@ -1,14 +1,17 @@
 -- What is told of a side, over the segments of a capture.
 use Rattle.std.specs.Prelude.{ℕ, ◌≡◌, ◌+◌, ◌<◌, Bool, false, Option, Some, option_map, List, ◌∷◌, ◌++◌, length, get_or}
 use Rattle.sides.specs.declared.side.Side.{Side}
+use Rattle.sides.specs.Side.{peer}
+use Rattle.mptcp_options.specs.declared.dss.DataNumber.{DataNumber}
 use Rattle.capture_reader.specs.Captured.{Captured}
 use Rattle.capture_reader.specs.Seen.{Seen, segment_in_packet}
 use Rattle.judge_rules.specs.declared.finding.Rule.TheVariants as rule
 use Rattle.seen_streams.specs.State.{StreamValue}
 use Rattle.rule_book.specs.Judged.{judged, nothing_judged}
-use Rattle.rule_book.specs.State.{JudgedValue}
+use Rattle.rule_book.specs.State.{JudgedValue, stream_at}
 use Rattle.capture_verdict.specs.Judging.{judged_packets}
 use Rattle.capture_verdict.specs.Sent.{IsSent}
+use Rattle.judge_laws.specs.Acknowledges.{Acknowledges, WasSeen}
 use Rattle.judge_laws.specs.Brings.{Brings, IsOf}
 use Rattle.judge_laws.specs.GoesOn.{broke, stream_in, StreamsGoOn}
 
@@ -60,3 +63,21 @@ WrittenStreamsAreTheirs = (at : Option Side) (check_sums : Bool) (packets : List
     → stream_in (judged_first at check_sums packets) connection side ≡ Some stream → broke rule.PlaceContent stream ≡ false
     → (octets : List ℕ) → IsSent stream.octet octets → (place octet : ℕ) → IsBrought at check_sums packets connection side place octet
     → place < length octets → get_or octets place 0 ≡ octet
+
+-- a packet among others has this Data ACK
+pub record IsAcknowledged (at : Option Side) (check_sums : Bool) (packets : List Captured) (connection : ℕ) (side : Side) (number : DataNumber) : Type 0 where
+  pub before : List Captured
+  pub packet : Captured
+  pub after : List Captured
+  pub seen : Seen
+  pub among : packets ≡ before ++ packet ∷ after
+  pub has_segment : segment_in_packet packet ≡ Some seen
+  pub it : IsOf at check_sums (judged_first at check_sums before) (1 + length before) seen connection side
+  pub acknowledges : Acknowledges at check_sums (judged_first at check_sums before) (1 + length before) seen connection side it number
+
+-- what the other side had sent by then
+abbrev pub KeptSidesAcknowledgeWhatWasSeen : Type 0
+KeptSidesAcknowledgeWhatWasSeen = (at : Option Side) (check_sums : Bool) (packets : List Captured) (connection : ℕ) (side : Side) (stream : StreamValue)
+    → stream_in (judged_first at check_sums packets) connection side ≡ Some stream → broke rule.DataAck stream ≡ false
+    → (number : DataNumber) (a : IsAcknowledged at check_sums packets connection side number)
+    → WasSeen (stream_at (peer side) a.it.book) a.acknowledges.first number

@@ -1,3 +1,4 @@
 pub mod GoesOn
 pub mod Brings
+pub mod Acknowledges
 pub mod Laws

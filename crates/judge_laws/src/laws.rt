@@ -1,5 +1,5 @@
 //! What is told of a side, as clauses of functions that do nothing.
-ghost use Rattle.judge_laws.specs.Laws.{KeptSidesSentOneStream, PacketsTakeNothingBack, PayloadIsTheStreams, SegmentsTakeNothingBack, WrittenStreamsAreTheirs};
+ghost use Rattle.judge_laws.specs.Laws.{KeptSidesAcknowledgeWhatWasSeen, KeptSidesSentOneStream, PacketsTakeNothingBack, PayloadIsTheStreams, SegmentsTakeNothingBack, WrittenStreamsAreTheirs};
 
 /// A law: no segment, and no packets of a capture, take back what was known of a stream: of a place its octet, which places were seen, how
 /// far it is mapped, the place of its DATA_FIN, what its side acknowledged, and which rules that side broke.
@@ -19,4 +19,10 @@ pub fn payload_is_the_streams()
 pub fn kept_sides_sent_one_stream()
     ensures stream { KeptSidesSentOneStream }
     ensures written { WrittenStreamsAreTheirs }
+{}
+
+/// A law: a side that hasn't broken `data-ack` never acknowledged more than the capture had shown of the other side's stream by then: each of
+/// its Data ACKs means a place below which all places were seen, or the one behind the DATA_FIN there (RFC 8684, section 3.3.2).
+pub fn kept_sides_acknowledge_what_was_seen()
+    ensures { KeptSidesAcknowledgeWhatWasSeen }
 {}
