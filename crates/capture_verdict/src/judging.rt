@@ -22,7 +22,8 @@ pub fn judge_capture<'a>(
     words: &JudgeWords,
     octets: &'a [u8],
 ) -> Result<Judged<'a>, CaptureFault>
-    ensures exact { Gives judged_of result (judged_capture words.now.at words.now.check_sums octets.now) }
+    ensures exact { Gives judged_of result
+        (judged_capture words.now.at words.now.check_sums octets.now) }
 {
     match read_capture(alloc, octets) {
         Ok(packets) => Ok(judge_packets(alloc, words, &packets)?),
@@ -35,7 +36,9 @@ fn judge_packets<'a>(
     words: &JudgeWords,
     packets: &[CapturedPacket<'a>],
 ) -> Result<Judged<'a>, AllocError>
-    ensures { IfOk result (λ judged. judged_of judged ≡ judged_packets words.now.at words.now.check_sums nothing_judged 1 (map as_captured packets.now)) }
+    ensures { IfOk result (λ judged. judged_of judged ≡
+        judged_packets words.now.at words.now.check_sums nothing_judged 1
+        (map as_captured packets.now)) }
 {
     let mut judged = Judged::new(alloc);
     let mut number: u32 = 1;

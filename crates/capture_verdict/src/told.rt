@@ -41,7 +41,8 @@ fn put_all(
     judged: &Judged<'_>,
     totals: &[Totals],
 ) -> Result<(), AllocError>
-    ensures { OnOk result (string_bytes text.new ≡ string_bytes text.old ++ all_words (judged_of judged.now) 0 totals.now) }
+    ensures { OnOk result (string_bytes text.new ≡
+        string_bytes text.old ++ all_words (judged_of judged.now) 0 totals.now) }
 {
     let mut number = 0;
     for one in totals {
@@ -59,7 +60,8 @@ fn put_at(
     number: usize,
     totals: &Totals,
 ) -> Result<(), AllocError>
-    ensures { OnOk result (string_bytes text.new ≡ string_bytes text.old ++ text_at (judged_of judged.now) number totals.now) }
+    ensures { OnOk result (string_bytes text.new ≡
+        string_bytes text.old ++ text_at (judged_of judged.now) number totals.now) }
 {
     let book = book_at(&judged.books, number);
     let keys = keys_at(judged.seen.connections(), number);
@@ -67,7 +69,8 @@ fn put_at(
 }
 
 fn book_at<'a, 'b>(books: &'b [Book<'a>], number: usize) -> Option<&'b Book<'a>>
-    ensures { option_map (λ book. book_of book.now) result ≡ slice_get (map book_of books.entry.now) number }
+    ensures { option_map (λ book. book_of book.now) result ≡
+        slice_get (map book_of books.entry.now) number }
 {
     books.get(number)
 }
@@ -88,7 +91,9 @@ fn put_by(
     keys: Option<Keys>,
     totals: &Totals,
 ) -> Result<(), AllocError>
-    ensures { OnOk result (string_bytes text.new ≡ string_bytes text.old ++ text_by flows.now number (option_map (λ book. book_of book.now) book.entry) keys totals.now) }
+    ensures { OnOk result (string_bytes text.new ≡
+        string_bytes text.old ++ text_by flows.now number
+        (option_map (λ book. book_of book.now) book.entry) keys totals.now) }
 {
     match (book, keys) {
         (Some(book), Some(keys)) => {
@@ -109,7 +114,8 @@ fn put_in(
     first: Option<Flow>,
     totals: &Totals,
 ) -> Result<(), AllocError>
-    ensures { OnOk result (string_bytes text.new ≡ string_bytes text.old ++ text_in number (book_of book.now) keys.now first totals.now) }
+    ensures { OnOk result (string_bytes text.new ≡
+        string_bytes text.old ++ text_in number (book_of book.now) keys.now first totals.now) }
 {
     match first {
         Some(first) => put_one(alloc, text, number, book, keys, &first, totals),
@@ -126,7 +132,9 @@ fn put_one(
     first: &Flow,
     totals: &Totals,
 ) -> Result<(), AllocError>
-    ensures { OnOk result (string_bytes text.new ≡ string_bytes text.old ++ connection_text number (book_of book.now) keys.now first.now totals.now) }
+    ensures { OnOk result (string_bytes text.new ≡
+        string_bytes text.old ++ connection_text number (book_of book.now) keys.now first.now
+        totals.now) }
 {
     let line = connection_line(number, book.gaps, keys, first, totals);
     put_connection(alloc, text, &line)?;
@@ -168,7 +176,8 @@ fn put_side(
     unread: &Unread,
     syn_data: u64,
 ) -> Result<(), AllocError>
-    ensures { OnOk result (string_bytes text.new ≡ string_bytes text.old ++ side_words side (stream_of sent.now) unread.now syn_data) }
+    ensures { OnOk result (string_bytes text.new ≡
+        string_bytes text.old ++ side_words side (stream_of sent.now) unread.now syn_data) }
 {
     if sent.broken().is_empty() {
         put_kept(text, &kept_line(side, sent, unread, syn_data))
@@ -201,7 +210,8 @@ fn put_broken(
     side: Side,
     broken: &[Broken<'_>],
 ) -> Result<(), AllocError>
-    ensures { OnOk result (string_bytes text.new ≡ string_bytes text.old ++ broken_words side (map as_broken broken.now)) }
+    ensures { OnOk result (string_bytes text.new ≡
+        string_bytes text.old ++ broken_words side (map as_broken broken.now)) }
 {
     let broken = in_order(alloc, broken)?;
     put_lines(alloc, text, side, &broken)
@@ -213,7 +223,8 @@ fn put_lines(
     side: Side,
     broken: &[Broken<'_>],
 ) -> Result<(), AllocError>
-    ensures { OnOk result (string_bytes text.new ≡ string_bytes text.old ++ line_words side (map as_broken broken.now)) }
+    ensures { OnOk result (string_bytes text.new ≡
+        string_bytes text.old ++ line_words side (map as_broken broken.now)) }
 {
     for one in broken {
         put_line(alloc, text, side, one)?;
@@ -227,7 +238,8 @@ fn put_line(
     side: Side,
     broken: &Broken<'_>,
 ) -> Result<(), AllocError>
-    ensures { OnOk result (string_bytes text.new ≡ string_bytes text.old ++ broken_line side (as_broken broken.now)) }
+    ensures { OnOk result (string_bytes text.new ≡
+        string_bytes text.old ++ broken_line side (as_broken broken.now)) }
 {
     put_broke(text, side, broken.rule, broken.packet)?;
     put_fault(alloc, text, &broken.fault)?;
@@ -235,7 +247,8 @@ fn put_line(
 }
 
 fn put_fault(alloc: Global, text: &mut String, fault: &Fault<'_>) -> Result<(), AllocError>
-    ensures { OnOk result (string_bytes text.new ≡ string_bytes text.old ++ fault_words (as_fault fault.now)) }
+    ensures { OnOk result (string_bytes text.new ≡
+        string_bytes text.old ++ fault_words (as_fault fault.now)) }
 {
     match *fault {
         Fault::NoOption { octets } => put_no_option(alloc, text, octets),
@@ -244,7 +257,8 @@ fn put_fault(alloc: Global, text: &mut String, fault: &Fault<'_>) -> Result<(), 
 }
 
 fn put_strays(alloc: Global, text: &mut String, flows: &[Flow]) -> Result<(), AllocError>
-    ensures { OnOk result (string_bytes text.new ≡ string_bytes text.old ++ strays_words flows.now) }
+    ensures { OnOk result (string_bytes text.new ≡
+        string_bytes text.old ++ strays_words flows.now) }
 {
     for flow in flows {
         put_if_stray(alloc, text, flow)?;
@@ -254,7 +268,8 @@ fn put_strays(alloc: Global, text: &mut String, flows: &[Flow]) -> Result<(), Al
 
 // A join that belongs to no connection has a line.
 fn put_if_stray(alloc: Global, text: &mut String, flow: &Flow) -> Result<(), AllocError>
-    ensures { OnOk result (string_bytes text.new ≡ string_bytes text.old ++ stray_words_of flow.now) }
+    ensures { OnOk result (string_bytes text.new ≡
+        string_bytes text.old ++ stray_words_of flow.now) }
 {
     match (flow.opening, flow.belongs) {
         (Opening::Join { token, .. }, None) => put_stray(alloc, text, &stray_line(flow, token)),

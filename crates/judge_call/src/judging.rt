@@ -22,7 +22,8 @@ use std::alloc::Global;
 /// Judges the capture that the words name: loads it, puts the lines that are told of it to the port `Log`, and writes the streams where
 /// that is asked, those of A by the port `ReadByB`. A capture has at most 268,435,456 octets.
 pub fn judge<O: Outside>(alloc: Global, words: &[String], outside: &mut O) -> Status
-    ensures exact { IsAnswer (line_of (map string_bytes words.now)) (O.told outside.old) (O.told outside.new) result }
+    ensures exact { IsAnswer (line_of (map string_bytes words.now)) (O.told outside.old)
+        (O.told outside.new) result }
 {
     match read_line(words) {
         Some(line) => judge_line(alloc, &line, outside),
@@ -49,8 +50,11 @@ fn judge_octets<O: Outside>(
     outside: &mut O,
     octets: &[u8],
 ) -> Status
-    ensures { (before : Option (List Made)) → AddsAll (call.Load line.now.capture.now ∷ []) before (O.told outside.old).calls
-        → IsShown (as_line line.now) (judged_capture line.now.judging.at line.now.judging.check_sums octets.now) before (O.told outside.new).calls result }
+    ensures { (before : Option (List Made)) →
+        AddsAll (call.Load line.now.capture.now ∷ []) before (O.told outside.old).calls
+        → IsShown (as_line line.now)
+        (judged_capture line.now.judging.at line.now.judging.check_sums octets.now) before
+        (O.told outside.new).calls result }
 {
     match judge_capture(alloc, &line.judging, octets) {
         Ok(judged) => tell(alloc, line, outside, &judged),
@@ -66,7 +70,8 @@ fn tell<O: Outside>(
     outside: &mut O,
     judged: &Judged<'_>,
 ) -> Status
-    ensures { (before : Option (List Made)) → AddsAll (call.Load line.now.capture.now ∷ []) before (O.told outside.old).calls
+    ensures { (before : Option (List Made)) →
+        AddsAll (call.Load line.now.capture.now ∷ []) before (O.told outside.old).calls
         → IsTold (as_line line.now) (judged_of judged.now) before (O.told outside.new).calls result }
 {
     match put_all(alloc, line.streams, outside, judged) {
@@ -82,7 +87,8 @@ fn put_all<O: Outside>(
     outside: &mut O,
     judged: &Judged<'_>,
 ) -> Result<(), Status>
-    ensures made { OnOk result (IsAllPut (option_map (λ text. text.now) prefix.entry) (judged_of judged.now) (O.told outside.old).calls (O.told outside.new).calls) }
+    ensures made { OnOk result (IsAllPut (option_map (λ text. text.now) prefix.entry)
+        (judged_of judged.now) (O.told outside.old).calls (O.told outside.new).calls) }
     ensures fault { IfErr result (λ status. IsPutFault status (O.told outside.new).calls) }
 {
     let text = report(alloc, judged)?;
@@ -97,7 +103,8 @@ fn put_if_asked<O: Outside>(
     outside: &mut O,
     books: &[Book<'_>],
 ) -> Result<(), Status>
-    ensures made { OnOk result (ArePutIf (option_map (λ text. text.now) prefix.entry) (map book_of books.now) (O.told outside.old).calls (O.told outside.new).calls) }
+    ensures made { OnOk result (ArePutIf (option_map (λ text. text.now) prefix.entry)
+        (map book_of books.now) (O.told outside.old).calls (O.told outside.new).calls) }
     ensures fault { IfErr result (λ status. IsPutFault status (O.told outside.new).calls) }
 {
     match prefix {

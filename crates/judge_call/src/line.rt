@@ -39,7 +39,8 @@ pub(crate) fn read_line<'a>(words: &'a [String]) -> Option<CommandLine<'a>>
 }
 
 fn asked_of<'a>(words: &'a [String]) -> Option<Asked<'a>>
-    ensures { option_map as_asked result ≡ all_asked (Some nothing_asked) (map string_bytes words.entry.now) }
+    ensures { option_map as_asked result ≡
+        all_asked (Some nothing_asked) (map string_bytes words.entry.now) }
 {
     let mut asked = Some(nothing_asked());
     for word in words {
@@ -74,7 +75,8 @@ fn then_asked<'a>(asked: Option<Asked<'a>>, word: &'a str) -> Option<Asked<'a>>
 }
 
 fn asked_by<'a>(asked: Asked<'a>, word: &'a str) -> Option<Asked<'a>>
-    ensures { option_map as_asked result ≡ asked_by asked.entry.next (as_asked asked.entry) word.now }
+    ensures { option_map as_asked result ≡
+        asked_by asked.entry.next (as_asked asked.entry) word.now }
 {
     match asked.next {
         Next::Alone => with_word(asked, word),

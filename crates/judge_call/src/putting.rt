@@ -13,7 +13,8 @@ use outside_kit::{Outside, Port, PutFault};
 ///
 /// `Put` where the device failed, `Memory` where there is no memory.
 pub(crate) fn bind<O: Outside>(outside: &mut O, port: Port, name: &str) -> Result<(), Status>
-    ensures made { OnOk result (AddsAll (call.Bind port name.now ∷ []) (O.told outside.old).calls (O.told outside.new).calls) }
+    ensures made { OnOk result (AddsAll (call.Bind port name.now ∷ []) (O.told outside.old).calls
+        (O.told outside.new).calls) }
     ensures fault { IfErr result (λ status. IsPutFault status (O.told outside.new).calls) }
 {
     match outside.bind(port, name) {
@@ -29,7 +30,8 @@ pub(crate) fn bind<O: Outside>(outside: &mut O, port: Port, name: &str) -> Resul
 ///
 /// `Put` where the device failed, `Memory` where there is no memory; then it may hold a first part of the piece.
 pub(crate) fn put<O: Outside>(outside: &mut O, port: Port, piece: &[u8]) -> Result<(), Status>
-    ensures made { OnOk result (AddsAll (call.Put port piece.now ∷ []) (O.told outside.old).calls (O.told outside.new).calls) }
+    ensures made { OnOk result (AddsAll (call.Put port piece.now ∷ []) (O.told outside.old).calls
+        (O.told outside.new).calls) }
     ensures fault { IfErr result (λ status. IsPutFault status (O.told outside.new).calls) }
 {
     match outside.put(port, piece) {

@@ -25,7 +25,8 @@ pub(crate) fn put_streams<O: Outside>(
     prefix: &str,
     books: &[Book<'_>],
 ) -> Result<(), Status>
-    ensures made { OnOk result (AreAllPut prefix.now 0 (map book_of books.now) (O.told outside.old).calls (O.told outside.new).calls) }
+    ensures made { OnOk result (AreAllPut prefix.now 0 (map book_of books.now)
+        (O.told outside.old).calls (O.told outside.new).calls) }
     ensures fault { IfErr result (λ status. IsPutFault status (O.told outside.new).calls) }
 {
     let mut number = 0;
@@ -45,7 +46,8 @@ fn put_both<O: Outside>(
     number: usize,
     book: &Book<'_>,
 ) -> Result<(), Status>
-    ensures made { OnOk result (AreBothPut prefix.now number (book_of book.now) (O.told outside.old).calls (O.told outside.new).calls) }
+    ensures made { OnOk result (AreBothPut prefix.now number (book_of book.now)
+        (O.told outside.old).calls (O.told outside.new).calls) }
     ensures fault { IfErr result (λ status. IsPutFault status (O.told outside.new).calls) }
 {
     let name = stream_name(alloc, prefix, number, Side::A)?;
@@ -71,7 +73,8 @@ fn put_stream<O: Outside>(
     name: &str,
     stream: &Stream<'_>,
 ) -> Result<(), Status>
-    ensures made { OnOk result (IsPut port name.now (stream_of stream.now).octet (O.told outside.old).calls (O.told outside.new).calls) }
+    ensures made { OnOk result (IsPut port name.now (stream_of stream.now).octet
+        (O.told outside.old).calls (O.told outside.new).calls) }
     ensures fault { IfErr result (λ status. IsPutFault status (O.told outside.new).calls) }
 {
     let octets = sent_by(alloc, stream)?;

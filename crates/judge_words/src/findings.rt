@@ -12,7 +12,8 @@ use std::fmt::Write;
 /// Adds that these octets read as no option.
 #[tactic(auto, unfolding(crate::specs::Words::no_option_words))]
 pub fn put_no_option(alloc: Global, text: &mut String, octets: &[u8]) -> Result<(), AllocError>
-    ensures { OnOk result (string_bytes text.new ≡ string_bytes text.old ++ no_option_words octets.now) }
+    ensures { OnOk result (string_bytes text.new ≡
+        string_bytes text.old ++ no_option_words octets.now) }
 {
     let octets = hex::encode(alloc, octets)?;
     write!(text, "no option reads {octets}")
@@ -20,7 +21,8 @@ pub fn put_no_option(alloc: Global, text: &mut String, octets: &[u8]) -> Result<
 
 /// Adds what was found.
 pub fn put_finding(alloc: Global, text: &mut String, finding: &Finding) -> Result<(), AllocError>
-    ensures { OnOk result (string_bytes text.new ≡ string_bytes text.old ++ finding_words finding.now) }
+    ensures { OnOk result (string_bytes text.new ≡
+        string_bytes text.old ++ finding_words finding.now) }
 {
     match *finding {
         Finding::Number64 { expected, was } => {
@@ -88,7 +90,8 @@ fn put_expected(
     expected: &[u8],
     was: &[u8],
 ) -> Result<(), AllocError>
-    ensures { OnOk result (string_bytes text.new ≡ string_bytes text.old ++ expected_words expected.now was.now) }
+    ensures { OnOk result (string_bytes text.new ≡
+        string_bytes text.old ++ expected_words expected.now was.now) }
 {
     let expected = hex::encode(alloc, expected)?;
     let was = hex::encode(alloc, was)?;
@@ -101,14 +104,16 @@ fn put_hmac(
     expected: &[u8; 20],
     was: &[u8; 20],
 ) -> Result<(), AllocError>
-    ensures { OnOk result (string_bytes text.new ≡ string_bytes text.old ++ expected_words expected.now was.now) }
+    ensures { OnOk result (string_bytes text.new ≡
+        string_bytes text.old ++ expected_words expected.now was.now) }
 {
     put_expected(alloc, text, expected, was)
 }
 
 #[tactic(auto, unfolding(crate::specs::Words::mapping_words))]
 fn put_mapping(text: &mut String, place: u64, length: u16, packet: u32) -> Result<(), AllocError>
-    ensures { OnOk result (string_bytes text.new ≡ string_bytes text.old ++ mapping_words place length packet) }
+    ensures { OnOk result (string_bytes text.new ≡
+        string_bytes text.old ++ mapping_words place length packet) }
 {
     write!(
         text,
@@ -124,7 +129,8 @@ fn put_other_place(
     packet: u32,
     is: u64,
 ) -> Result<(), AllocError>
-    ensures { OnOk result (string_bytes text.new ≡ string_bytes text.old ++ other_place_words position was packet is) }
+    ensures { OnOk result (string_bytes text.new ≡
+        string_bytes text.old ++ other_place_words position was packet is) }
 {
     write!(
         text,
@@ -139,7 +145,8 @@ fn put_after_infinite(
     place: u64,
     packet: u32,
 ) -> Result<(), AllocError>
-    ensures { OnOk result (string_bytes text.new ≡ string_bytes text.old ++ after_infinite_words position place packet) }
+    ensures { OnOk result (string_bytes text.new ≡
+        string_bytes text.old ++ after_infinite_words position place packet) }
 {
     write!(
         text,
@@ -148,26 +155,30 @@ fn put_after_infinite(
 }
 
 fn put_other_fin(text: &mut String, place: u64, was: u64, packet: u32) -> Result<(), AllocError>
-    ensures { OnOk result (string_bytes text.new ≡ string_bytes text.old ++ finding_words (found.OtherFin place was packet)) }
+    ensures { OnOk result (string_bytes text.new ≡
+        string_bytes text.old ++ finding_words (found.OtherFin place was packet)) }
 {
     write!(text, "place {place} was {was} at packet {packet}")
 }
 
 fn put_mapped_beyond(text: &mut String, place: u64, mapped: u64) -> Result<(), AllocError>
-    ensures { OnOk result (string_bytes text.new ≡ string_bytes text.old ++ finding_words (found.MappedBeyond place mapped)) }
+    ensures { OnOk result (string_bytes text.new ≡
+        string_bytes text.old ++ finding_words (found.MappedBeyond place mapped)) }
 {
     write!(text, "place {place}, mapped up to {mapped}")
 }
 
 #[tactic(auto, unfolding(crate::specs::Words::beyond_fin_words))]
 fn put_beyond_fin(text: &mut String, mapped: u64, was: u64, packet: u32) -> Result<(), AllocError>
-    ensures { OnOk result (string_bytes text.new ≡ string_bytes text.old ++ beyond_fin_words mapped was packet) }
+    ensures { OnOk result (string_bytes text.new ≡
+        string_bytes text.old ++ beyond_fin_words mapped was packet) }
 {
     write!(text, "mapped up to {mapped}, was {was} at packet {packet}")
 }
 
 fn put_no_place(alloc: Global, text: &mut String, number: &Told) -> Result<(), AllocError>
-    ensures { OnOk result (string_bytes text.new ≡ string_bytes text.old ++ finding_words (found.NoPlace number.now)) }
+    ensures { OnOk result (string_bytes text.new ≡
+        string_bytes text.old ++ finding_words (found.NoPlace number.now)) }
 {
     let number = number_words(alloc, number)?;
     write!(text, "number {number} is no place")
@@ -184,14 +195,16 @@ fn number_words(alloc: Global, number: &Told) -> Result<String, AllocError>
 
 #[tactic(auto, unfolding(crate::specs::Words::no_position_words))]
 fn put_no_position(alloc: Global, text: &mut String, relative: u32) -> Result<(), AllocError>
-    ensures { OnOk result (string_bytes text.new ≡ string_bytes text.old ++ no_position_words relative) }
+    ensures { OnOk result (string_bytes text.new ≡
+        string_bytes text.old ++ no_position_words relative) }
 {
     let relative = hex::encode(alloc, relative.to_be_bytes())?;
     write!(text, "relative number {relative} is no position")
 }
 
 fn put_no_mapping(alloc: Global, text: &mut String, number: u64) -> Result<(), AllocError>
-    ensures { OnOk result (string_bytes text.new ≡ string_bytes text.old ++ finding_words (found.NoMapping number)) }
+    ensures { OnOk result (string_bytes text.new ≡
+        string_bytes text.old ++ finding_words (found.NoMapping number)) }
 {
     let number = hex::encode(alloc, number.to_be_bytes())?;
     write!(text, "number {number} is of no mapping")
@@ -205,7 +218,8 @@ fn put_other_octet(
     packet: u32,
     is: u8,
 ) -> Result<(), AllocError>
-    ensures { OnOk result (string_bytes text.new ≡ string_bytes text.old ++ finding_words (found.OtherOctet place was packet is)) }
+    ensures { OnOk result (string_bytes text.new ≡
+        string_bytes text.old ++ finding_words (found.OtherOctet place was packet is)) }
 {
     let was = hex::encode(alloc, [was])?;
     let is = hex::encode(alloc, [is])?;

@@ -71,7 +71,8 @@ fn put_end(text: &mut String, end: &End) -> Result<(), AllocError>
 
 // A count that is told where it isn't 0.
 fn put_count(text: &mut String, word: &str, count: u64) -> Result<(), AllocError>
-    ensures { OnOk result (string_bytes text.new ≡ string_bytes text.old ++ count_words word.now count) }
+    ensures { OnOk result (string_bytes text.new ≡
+        string_bytes text.old ++ count_words word.now count) }
 {
     if count == 0 {
         return Ok(());
@@ -91,7 +92,8 @@ pub fn put_connection(
     text: &mut String,
     line: &ConnectionLine,
 ) -> Result<(), AllocError>
-    ensures { OnOk result (string_bytes text.new ≡ string_bytes text.old ++ connection_words line.now) }
+    ensures { OnOk result (string_bytes text.new ≡
+        string_bytes text.old ++ connection_words line.now) }
 {
     put_ends(text, line)?;
     put_token(alloc, text, line.token_b)?;
@@ -116,7 +118,8 @@ fn put_number(text: &mut String, number: usize) -> Result<(), AllocError>
 // Two ends, with these words between.
 #[tactic(auto, unfolding(crate::specs::Lines::pair_words))]
 fn put_pair(text: &mut String, one: &End, between: &str, other: &End) -> Result<(), AllocError>
-    ensures { OnOk result (string_bytes text.new ≡ string_bytes text.old ++ pair_words one.now between.now other.now) }
+    ensures { OnOk result (string_bytes text.new ≡
+        string_bytes text.old ++ pair_words one.now between.now other.now) }
 {
     put_end(text, one)?;
     text.push_str(between)?;
@@ -196,7 +199,8 @@ fn put_fin(text: &mut String, fin: Option<u64>) -> Result<(), AllocError>
 
 #[tactic(auto, unfolding(crate::specs::Lines::unmapped_words))]
 fn put_unmapped(text: &mut String, line: &KeptLine) -> Result<(), AllocError>
-    ensures { OnOk result (string_bytes text.new ≡ string_bytes text.old ++ unmapped_words line.now) }
+    ensures { OnOk result (string_bytes text.new ≡
+        string_bytes text.old ++ unmapped_words line.now) }
 {
     put_count(text, "syn-data", line.syn_data)?;
     put_count(text, "unmapped", line.unmapped)?;
@@ -205,7 +209,8 @@ fn put_unmapped(text: &mut String, line: &KeptLine) -> Result<(), AllocError>
 
 /// Adds how a line begins that tells a rule that a side broke.
 pub fn put_broke(text: &mut String, side: Side, rule: Rule, packet: u32) -> Result<(), AllocError>
-    ensures { OnOk result (string_bytes text.new ≡ string_bytes text.old ++ broke_words side rule packet) }
+    ensures { OnOk result (string_bytes text.new ≡
+        string_bytes text.old ++ broke_words side rule packet) }
 {
     let (side, rule) = (side.word(), word_of(rule));
     write!(text, "side {side} broke {rule} at packet {packet}: ")

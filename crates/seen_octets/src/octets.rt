@@ -49,8 +49,10 @@ impl SeenOctets {
     /// Want of memory. Some of the places have theirs then, and all others what they had.
     pub fn fill(&mut self, from: u64, part: &[u8], teller: u32) -> Result<(), AllocError>
         requires { from + length part.now < 2 ^ 64 }
-        ensures filled { OnOk result ((p : ℕ) → octet_at self.new p ≡ option_or (octet_at self.old p) (octet_by from part.now teller p)) }
-        ensures others { (p : ℕ) → has_place from part.now p ≡ false → octet_at self.new p ≡ octet_at self.old p }
+        ensures filled { OnOk result ((p : ℕ) → octet_at self.new p ≡
+            option_or (octet_at self.old p) (octet_by from part.now teller p)) }
+        ensures others { (p : ℕ) → has_place from part.now p ≡ false → octet_at self.new p ≡
+            octet_at self.old p }
     {
         if self.is_whole(from, from + part.len() as u64) {
             return Ok(());
@@ -61,8 +63,10 @@ impl SeenOctets {
     // Fills the places that have no octet, whether there are any or not.
     fn add(&mut self, from: u64, part: &[u8], teller: u32) -> Result<(), AllocError>
         requires { from + length part.now < 2 ^ 64 }
-        ensures filled { OnOk result ((p : ℕ) → octet_at self.new p ≡ option_or (octet_at self.old p) (octet_by from part.now teller p)) }
-        ensures others { (p : ℕ) → has_place from part.now p ≡ false → octet_at self.new p ≡ octet_at self.old p }
+        ensures filled { OnOk result ((p : ℕ) → octet_at self.new p ≡
+            option_or (octet_at self.old p) (octet_by from part.now teller p)) }
+        ensures others { (p : ℕ) → has_place from part.now p ≡ false → octet_at self.new p ≡
+            octet_at self.old p }
     {
         let image = self.octets.len() as u64;
         self.octets.extend_from_slice(part)?;

@@ -85,8 +85,11 @@ fn try_waits(
 ) -> Result<(), AllocError>
     requires { HaveGaps (octet_at octets.now) waits.old }
     ensures gaps { HaveGaps (octet_at octets.now) waits.new }
-    ensures stream { OnOk result (stream_of stream.new ≡ tried_sums packet first (octet_at octets.now) (all_waiting waits.old) (stream_of stream.old)) }
-    ensures waits { OnOk result (all_waiting waits.new ≡ still_open (octet_at octets.now) (all_waiting waits.old)) }
+    ensures stream { OnOk result (stream_of stream.new ≡
+        tried_sums packet first (octet_at octets.now) (all_waiting waits.old)
+        (stream_of stream.old)) }
+    ensures waits { OnOk result (all_waiting waits.new ≡
+        still_open (octet_at octets.now) (all_waiting waits.old)) }
 {
     wake(waits)?;
     try_each(stream, octets, &waits.fresh, packet, first)?;

@@ -46,7 +46,8 @@ impl Waits {
 #[tactic(auto, using(crate::proofs::Gaps::one_more))]
 pub(crate) fn push(waits: &mut Waits, one: Waiting) -> Result<(), AllocError>
     ensures all { OnOk result (all_waiting waits.new ≡ all_waiting waits.old ++ one ∷ []) }
-    ensures gaps { (octet : ℕ → Option Octet) → HaveGaps octet waits.old → HaveGaps octet waits.new }
+    ensures gaps { (octet : ℕ → Option Octet) → HaveGaps octet waits.old →
+        HaveGaps octet waits.new }
 {
     waits.fresh.push(one)?;
     Ok(())
@@ -62,9 +63,11 @@ pub(crate) fn fill(
     packet: u32,
 ) -> Result<(), AllocError>
     requires { from + length part.now < 2 ^ 64 }
-    ensures filled { OnOk result ((p : ℕ) → octet_at octets.new p ≡ option_or (octet_at octets.old p) (octet_by from part.now packet p)) }
+    ensures filled { OnOk result ((p : ℕ) → octet_at octets.new p ≡
+        option_or (octet_at octets.old p) (octet_by from part.now packet p)) }
     ensures all { all_waiting waits.new ≡ all_waiting waits.old }
-    ensures gaps { HaveGaps (octet_at octets.old) waits.old → HaveGaps (octet_at octets.new) waits.new }
+    ensures gaps { HaveGaps (octet_at octets.old) waits.old →
+        HaveGaps (octet_at octets.new) waits.new }
 {
     reach(waits, from, from + part.len() as u64);
     octets.fill(from, part, packet)
@@ -76,7 +79,8 @@ fn reach(waits: &mut Waits, from: u64, to: u64)
     ensures all { all_waiting waits.new ≡ all_waiting waits.old }
     ensures begun { waits.new.from ≤ from }
     ensures ended { to ≤ waits.new.to }
-    ensures gaps { (octet : ℕ → Option Octet) → HaveGaps octet waits.old → HaveGaps octet waits.new }
+    ensures gaps { (octet : ℕ → Option Octet) → HaveGaps octet waits.old →
+        HaveGaps octet waits.new }
 {
     waits.from = waits.from.min(from);
     waits.to = waits.to.max(to);
@@ -89,8 +93,10 @@ fn reach(waits: &mut Waits, from: u64, to: u64)
 /// Want of memory.
 pub(crate) fn wake(waits: &mut Waits) -> Result<(), AllocError>
     ensures all { OnOk result (all_waiting waits.new ≡ all_waiting waits.old) }
-    ensures gaps { (octet : ℕ → Option Octet) → HaveGaps octet waits.old → HaveGaps octet waits.new }
-    ensures unfilled { OnOk result ((octet : ℕ → Option Octet) → HaveGaps octet waits.old → AreOpen octet waits.new.tried.items) }
+    ensures gaps { (octet : ℕ → Option Octet) → HaveGaps octet waits.old →
+        HaveGaps octet waits.new }
+    ensures unfilled { OnOk result ((octet : ℕ → Option Octet) → HaveGaps octet waits.old →
+        AreOpen octet waits.new.tried.items) }
 {
     if is_gap_reached(waits) {
         return try_anew(waits);
@@ -102,7 +108,8 @@ pub(crate) fn wake(waits: &mut Waits) -> Result<(), AllocError>
 // Whether a gap may have got its octet.
 #[tactic(auto, using(crate::proofs::Gaps::none_reached, crate::proofs::Gaps::nothing_reached))]
 fn is_gap_reached(waits: &Waits) -> bool
-    ensures { result ≡ false → (p : ℕ) → waits.now.from ≤ p → p < waits.now.to → is_seen waits.now.gaps p ≡ false }
+    ensures { result ≡ false → (p : ℕ) → waits.now.from ≤ p → p < waits.now.to →
+        is_seen waits.now.gaps p ≡ false }
 {
     if waits.to <= waits.from {
         return false;
@@ -113,7 +120,8 @@ fn is_gap_reached(waits: &Waits) -> bool
 
 fn try_anew(waits: &mut Waits) -> Result<(), AllocError>
     ensures all { OnOk result (all_waiting waits.new ≡ all_waiting waits.old) }
-    ensures gaps { (octet : ℕ → Option Octet) → HaveGaps octet waits.old → HaveGaps octet waits.new }
+    ensures gaps { (octet : ℕ → Option Octet) → HaveGaps octet waits.old →
+        HaveGaps octet waits.new }
     ensures none { OnOk result (waits.new.tried.items ≡ []) }
 {
     waits.tried.extend_from_slice(&waits.fresh)?;
@@ -128,8 +136,10 @@ fn try_anew(waits: &mut Waits) -> Result<(), AllocError>
 fn go_on(waits: &mut Waits)
     requires { (p : ℕ) → waits.old.from ≤ p → p < waits.old.to → is_seen waits.old.gaps p ≡ false }
     ensures all { all_waiting waits.new ≡ all_waiting waits.old }
-    ensures gaps { (octet : ℕ → Option Octet) → HaveGaps octet waits.old → HaveGaps octet waits.new }
-    ensures unfilled { (octet : ℕ → Option Octet) → HaveGaps octet waits.old → AreOpen octet waits.new.tried.items }
+    ensures gaps { (octet : ℕ → Option Octet) → HaveGaps octet waits.old →
+        HaveGaps octet waits.new }
+    ensures unfilled { (octet : ℕ → Option Octet) → HaveGaps octet waits.old →
+        AreOpen octet waits.new.tried.items }
 {
     (waits.from, waits.to) = (u64::MAX, 0);
 }
@@ -142,7 +152,8 @@ fn go_on(waits: &mut Waits)
 pub(crate) fn wait_on(octets: &SeenOctets, waits: &mut Waits) -> Result<(), AllocError>
     requires { HaveGaps (octet_at octets.now) waits.old }
     ensures gaps { HaveGaps (octet_at octets.now) waits.new }
-    ensures all { OnOk result (all_waiting waits.new ≡ waits.old.tried.items ++ still_open (octet_at octets.now) waits.old.fresh.items) }
+    ensures all { OnOk result (all_waiting waits.new ≡
+        waits.old.tried.items ++ still_open (octet_at octets.now) waits.old.fresh.items) }
 {
     let alloc = *waits.fresh.allocator();
     let fresh = mem::replace(&mut waits.fresh, Vec::new(alloc));
@@ -153,7 +164,8 @@ fn keep_open(octets: &SeenOctets, waits: &mut Waits, fresh: &[Waiting]) -> Resul
     requires { HaveGaps (octet_at octets.now) waits.old }
     ensures gaps { HaveGaps (octet_at octets.now) waits.new }
     ensures fresh { waits.new.fresh.items ≡ waits.old.fresh.items }
-    ensures tried { OnOk result (waits.new.tried.items ≡ waits.old.tried.items ++ still_open (octet_at octets.now) fresh.now) }
+    ensures tried { OnOk result (waits.new.tried.items ≡
+        waits.old.tried.items ++ still_open (octet_at octets.now) fresh.now) }
 {
     for one in fresh {
         keep_if_open(octets, waits, one)?;
@@ -167,7 +179,8 @@ fn keep_if_open(octets: &SeenOctets, waits: &mut Waits, one: &Waiting) -> Result
     requires { HaveGaps (octet_at octets.now) waits.old }
     ensures gaps { HaveGaps (octet_at octets.now) waits.new }
     ensures fresh { waits.new.fresh.items ≡ waits.old.fresh.items }
-    ensures tried { OnOk result (waits.new.tried.items ≡ waits.old.tried.items ++ still_open (octet_at octets.now) (one.now ∷ [])) }
+    ensures tried { OnOk result (waits.new.tried.items ≡
+        waits.old.tried.items ++ still_open (octet_at octets.now) (one.now ∷ [])) }
 {
     match first_gap(octets, one.mapping.from(), one.mapping.octets()) {
         Some(gap) => keep_with(octets, waits, one, gap),
@@ -183,7 +196,8 @@ fn keep_with(
     gap: u64,
 ) -> Result<(), AllocError>
     requires gaps { HaveGaps (octet_at octets.now) waits.old }
-    requires free { IsFree (octet_at octets.now) (natural one.now.mapping.position) (octets_of one.now.mapping) gap }
+    requires free { IsFree (octet_at octets.now) (natural one.now.mapping.position)
+        (octets_of one.now.mapping) gap }
     requires few { gap < 2 ^ 64 - 1 }
     ensures gaps { HaveGaps (octet_at octets.now) waits.new }
     ensures fresh { waits.new.fresh.items ≡ waits.old.fresh.items }
