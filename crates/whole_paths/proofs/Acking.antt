@@ -15,13 +15,15 @@ use Rattle.dss_mapping.specs.declared.kept.KeptMapping.{KeptMapping}
 use Rattle.link_model.specs.Steps.{segments_sent}
 use Rattle.subflow_recv.specs.Laws.{payload_octet}
 use Rattle.subflow_recv.specs.Receiving.{Receiving, filled, octet_at, place_at}
-use Rattle.subflow_tcp.specs.Dues.{owing_ack}
+use Rattle.subflow_tcp.specs.Dues.{owing_ack, owing_answer}
 use Rattle.subflow_tcp.specs.Judging.{meaning_of}
 use Rattle.subflow_tcp.specs.Segments.{Copy, occupied}
 use Rattle.subflow_tcp.specs.State.{EndState}
-use Rattle.subflow_tcp.specs.States.{is_dead}
-use Rattle.subflow_tcp.specs.Taking.{after_occupying, after_heard_ack, after_established, after_hearing, after_payload}
+use Rattle.subflow_tcp.specs.States.{is_dead, is_half_open}
+use Rattle.subflow_tcp.specs.Taking.{after_answering, after_occupying, after_heard_ack, after_established, after_hearing, after_payload}
 use Rattle.subflow_tcp.specs.declared.dues.Due.{Due}
+use Rattle.subflow_tcp.specs.declared.handshake.State.{State}
+use Rattle.subflow_tcp.specs.declared.handshake.State.TheVariants as phase
 use Rattle.subflow_tcp.specs.declared.verdicts.Meaning.TheVariants as means
 use Rattle.actor_desk.specs.declared.ask.Reply.{Reply}
 use Rattle.actor_desk.specs.Words.{is_nil, pick}
@@ -57,7 +59,7 @@ use Rattle.world_laws.proofs.Whole.Ends.{MeansIs, means_so}
 use Rattle.whole_paths.specs.AgendaSteps.{is_silent}
 use Rattle.whole_paths.specs.Answered.{HasAnswered}
 use Rattle.whole_paths.specs.AsFar.{stage}
-use Rattle.whole_paths.specs.Brought.{comes_before_keeping, IsToKeep, IsThere, StaysThere, Brings, KeepsWhatComes, PathsKeepWhatComes}
+use Rattle.whole_paths.specs.Brought.{comes_before_keeping, IsToKeep, IsThere, StaysThere, Comes, IsTo, Brings, KeepsWhatComes, PathsKeepWhatComes}
 use Rattle.whole_paths.specs.Brought.{IsThere as there}
 use Rattle.whole_paths.specs.Brought.{StaysThere as octet_goes}
 use Rattle.whole_paths.specs.Harms.{longest_way}
@@ -66,7 +68,7 @@ use Rattle.whole_paths.specs.InHand.{HandGoesOn as hand}
 use Rattle.whole_paths.specs.Mapped.{IsToLearn, IsMapped, StaysMapped, KnowsWhatIsTold, PathsKnowWhatIsTold, EndsAreLive, AreLive}
 use Rattle.whole_paths.specs.Mapped.{IsMapped as named}
 use Rattle.whole_paths.specs.Mapped.{StaysMapped as mapping_goes}
-use Rattle.whole_paths.specs.Owed.{AnswersGoOn}
+use Rattle.whole_paths.specs.Owed.{AnswerGoesOn, AnswersGoOn}
 use Rattle.whole_paths.specs.Owed.IsAnswered.{owes}
 use Rattle.whole_paths.specs.Owed.{AnswerGoesOn as goes}
 use Rattle.whole_paths.specs.Passed.{HasPassed}
@@ -150,6 +152,14 @@ before_silent duties.End before = absurd (true≢false (sym before))
 owing_due : (owes : Bool) (x : EndState) (c : Copy) → 0 < occupied c → (owing_if owes (after_occupying c x)).due.ack ≡ true
 owing_due true x c more = refl
 owing_due false x c more = ap (λ b. (if b then owing_ack x.due else x.due).ack) (lt-ltb 0 (occupied c) more)
+
+-- a copy outside the window is, but at a half-open end
+answering_due : (s : EndState) → 3 ≤ stage s.state → (after_answering s).due.ack ≡ true
+answering_due s high = ap (λ b. (owing_answer b s.due).ack) (opened s.state high)
+  where
+    opened : (state : State) → 3 ≤ stage state → is_half_open state ≡ false
+    opened phase.SynReceived high = absurd (omega (arith, high))
+    opened _ high = refl
 
 -- an octet of the payload
 octet_of : (payload : List ℕ) (at pos : ℕ) → at ≤ pos → pos < at + length payload → payload_octet pos at payload ≡ Some (get_or payload (pos - at) 0)
@@ -359,6 +369,36 @@ module _ {C : Type 0} where
       opened = (let low = taken_opened in let up = (turned.far to).subflow.state in omega (arith, low, up));
     }
 
+  -- a copy outside the window
+  abbrev OwesOutside : Codec C → PathState C → PathState C → Type 0
+  OwesOutside k p q = (c : Comes k p) → IsTo k p c (judged.As means.Outside) → 3 ≤ stage (end_at c.due.to p).tcp.state → (q ≡ p) ⊎ ((end_at c.due.to q).tcp.due.ack ≡ true)
+
+  outside_owed : (k : Codec C) (ds : List Duty) (r : Reply) (p : PathState C) → let x : PathState C = with_agenda (duties.Step step_duties.Events ∷ ds) p in (c : Comes k x)
+      → IsTo k x c (judged.As means.Outside) → 3 ≤ stage (end_at c.due.to p).tcp.state → (end_at c.due.to (takes k r x)).tcp.due.ack ≡ true
+  outside_owed k ds r p c outside high = ap (λ (d : Due). d.ack) (settled_due after.agenda after c.due.to) ∙ comes_so (λ q. (end_at c.due.to q).tcp.due.ack ≡ true) k ds r p c
+      (subst (λ (verdict : Judged). (pick c.due.to (pick c.due.to (heard verdict) p.a) (pick c.due.to p.b (heard verdict))).tcp.due.ack ≡ true) (sym outside)
+      (subst (λ (f : PathEnd). f.tcp.due.ack ≡ true) (sym (own_end c.due.to (heard (judged.As means.Outside)) p.a p.b)) (answering_due own.tcp high)))
+    where
+      own : PathEnd
+      own = end_at c.due.to p
+
+      after : PathState C
+      after = answered k (duties.Step step_duties.Events) r (with_agenda (duties.Step step_duties.Events ∷ ds) p)
+
+      heard : Judged → PathEnd
+      heard verdict = after_judged p.profile c.due.to (coming_by ds p c).clock (options_heard own c.segment) verdict own
+
+  abbrev OwesNow : Codec C → Reply → PathState C → List Duty → Type 0
+  OwesNow k r p ds = (c : Comes k (with_agenda ds p)) → IsTo k (with_agenda ds p) c (judged.As means.Outside) → 3 ≤ stage (end_at c.due.to p).tcp.state
+      → (end_at c.due.to (takes k r (with_agenda ds p))).tcp.due.ack ≡ true
+
+  takes_outside : (k : Codec C) (r : Reply) (p : PathState C) → OwesOutside k p (takes k r p)
+  takes_outside k r p = by p.agenda
+    where
+      by : (ds : List Duty) → let x : PathState C = with_agenda ds p in OwesOutside k x (takes k r x)
+      by [] = λ c outside high. inl refl
+      by (d ∷ ds) = λ c outside high. inr (subst (λ d. OwesNow k r p (d ∷ ds)) (sym (first_so d (duties.Step step_duties.Events) ds c.others c.first)) (outside_owed k ds r p) c outside high)
+
   takes_owed : (k : Codec C) (r : Reply) (p : PathState C) → OwesForOctets k p (takes k r p)
   takes_owed k r p = by p.agenda
     where
@@ -376,21 +416,21 @@ module _ {C : Type 0} where
   next_owed k p over b some = absurd (true≢false (sym over ∙ ap is_nil b.copy.first))
 
   abbrev Owing : Codec C → Actor C → Actor C → Type 0
-  Owing k (Path p) (Path q) = OwesForOctets k p q
+  Owing k (Path p) (Path q) = OwesForOctets k p q × OwesOutside k p q
   Owing k (App a) (App b) = Unit {0}
   Owing k _ _ = ⊥
 
   member_owes : (k : Codec C) (r : Reply) (m : Actor C) → Owing k m (member_takes k r m)
   member_owes k r (App a) = tt
-  member_owes k r (Path p) = takes_owed k r p
+  member_owes k r (Path p) = (takes_owed k r p, takes_outside k r p)
 
   member_begins : (k : Codec C) (m : Actor C) → is_over m ≡ true → Owing k m (member_next m)
   member_begins k (App a) over = tt
-  member_begins k (Path p) over = next_owed k p over
+  member_begins k (Path p) over = (next_owed k p over, λ c outside high. absurd (true≢false (sym over ∙ ap is_nil c.first)))
 
   member_stays : (k : Codec C) (m : Actor C) → Owing k m m
   member_stays k (App a) = tt
-  member_stays k (Path p) = λ b some. inl refl
+  member_stays k (Path p) = (λ b some. inl refl, λ c outside high. inl refl)
 
   owing_turn : (k : Codec C) (w : WorldState C) (turn : Turn) (actor : ℕ) (c : ActorCrew C) → slice_get w.crew actor ≡ Some c
       → (d : ActorCrew C) × (slice_get (after_turn k turn w).crew actor ≡ Some d) × Owing k c.member d.member
@@ -465,9 +505,16 @@ module _ {C : Type 0} where
       → HoldsOfKind (λ app. Unit {0}) HasAnswered m → HoldsOfKind (λ app. Unit {0}) HasPassed m → HoldsOfKind (λ app. Unit {0}) EndsAreLive m → HandsGoOn k m n
   hands_go k (App a) (App b) turned frames keeps knows hands answers owed answered passed live = tt
   hands_go k (Path p) (Path q) turned frames keeps knows hands answers owed answered passed live = (
-    λ b o. begins_so k p q b o frames turned keeps knows owed,
-    λ s position by_then few h. hand_goes k s position by_then p q h turned answered frames keeps knows hands passed live answers few,
+    λ b o. begins_so k p q b o frames turned keeps knows owed.0,
+    (
+      λ c outside high. ⊎_elim (λ same. inl same) (λ due. inr (outside_so c high due)) (owed.1 c outside high),
+      λ s position by_then few h. hand_goes k s position by_then p q h turned answered frames keeps knows hands passed live answers few,
+    ),
   )
+    where
+      outside_so : (c : Comes k p) → 3 ≤ stage (end_at c.due.to p).tcp.state → (end_at c.due.to q).tcp.due.ack ≡ true
+          → AnswerGoesOn k c.due.to (end_at c.due.to p).tcp.recv.edge (q.clock + longest_way c.due.to q.link) p q
+      outside_so c high due = (let far = turned.far c.due.to in let state = far.subflow.state in goes.on (owes (le_refl _) (omega (arith, high, state)) far.subflow.received due))
   hands_go k (App a) (Path q) turned frames keeps knows hands answers owed answered passed live = absurd turned
   hands_go k (Path p) (App b) turned frames keeps knows hands answers owed answered passed live = absurd turned
 

@@ -97,7 +97,7 @@ use Rattle.world_laws.proofs.Worlds.Finding.{find_every, one_side}
 use Rattle.world_laws.proofs.Writes.Paths.{writes_no_more, passes_no_more}
 use Rattle.world_laws.proofs.Writes.Steps.{Lasts, unwritten, both_ends, settled_lasts}
 use Rattle.whole_paths.specs.AgendaSteps.{is_gone}
-use Rattle.whole_paths.specs.Came.{HasCome, WhatIsAcknowledgedCame}
+use Rattle.whole_paths.specs.Came.{AcksUpTo, AcksWhatCame, HasCome, WhatIsAcknowledgedCame}
 use Rattle.whole_paths.specs.EndSteps.{PathStep}
 use Rattle.whole_paths.specs.Saying.{SaysWhatCame}
 use Rattle.whole_paths.specs.Saying.{SaysWhatCame as say}
@@ -110,10 +110,6 @@ use Rattle.whole_paths.proofs.Settling.{sides}
 use Rattle.whole_paths.proofs.Waiting.{Far, far_then, same_far, gone_stays, path_far}
 
 -- ---- copies
-
--- a segment acknowledges no position above this one, or is a reset
-abbrev AcksUpTo : ℕ → PlainSegment → Type 0
-AcksUpTo edge x = (x.rst ≡ true) ⊎ IfSome x.acknowledged (λ n. n ≤ edge)
 
 acks_higher : (low high : ℕ) (x : PlainSegment) → low ≤ high → AcksUpTo low x → AcksUpTo high x
 acks_higher low high x up (inl reset) = inl reset
@@ -335,18 +331,15 @@ module _ {C : Type 0} where
 
 -- ---- a path
 
-abbrev CopyIs : PathState Carried → Flight Carried → Type 0
-CopyIs p f = AcksUpTo (end_at (peer f.to) p).tcp.recv.edge f.carried.segment
-
 record PathCame (p : PathState Carried) : Type 0 where
   ends : (s : Side) → is_gone (end_at s p) ≡ false → (end_at s p).tcp.send.una ≤ (end_at (peer s) p).tcp.recv.edge
-  copies : Every (CopyIs p) p.link.under_way
+  copies : Every (AcksWhatCame p) p.link.under_way
   answers : (s : Side) → IfSome (end_at s p).treated.answer (λ (o : Outgoing). o.rst ≡ true)
 
 abbrev AllFar : PathState Carried → PathState Carried → Type 0
 AllFar p q = (t : Side) → Far (end_at t p) (end_at t q)
 
-copies_later : (p q : PathState Carried) (fs : List (Flight Carried)) → AllFar p q → Every (CopyIs p) fs → Every (CopyIs q) fs
+copies_later : (p q : PathState Carried) (fs : List (Flight Carried)) → AllFar p q → Every (AcksWhatCame p) fs → Every (AcksWhatCame q) fs
 copies_later p q fs far h = record { each = λ i f there. acks_higher _ _ f.carried.segment (far (peer f.to)).subflow.received (h.each i f there) }
 
 living_then : (e f : PathEnd) → Far e f → is_gone f ≡ false → is_gone e ≡ false
@@ -356,7 +349,7 @@ living_then e f far living = by (is_gone e) refl
     by true dead = absurd (true≢false (sym (gone_stays e f far dead) ∙ living))
     by false is = refl
 
-rest_came : (p q : PathState Carried) → AllRest p q → AllFar p q → Every (CopyIs p) q.link.under_way → PathCame p → PathCame q
+rest_came : (p q : PathState Carried) → AllRest p q → AllFar p q → Every (AcksWhatCame p) q.link.under_way → PathCame p → PathCame q
 rest_came p q rest far copies h = record {
   ends = λ t living. ⊎_elim
       (λ dead. absurd (true≢false (sym dead ∙ living)))
@@ -369,23 +362,23 @@ rest_came p q rest far copies h = record {
       (at_end rest t).answer;
 }
 
-same_copies : (p q : PathState Carried) → q.link ≡ p.link → PathCame p → Every (CopyIs p) q.link.under_way
-same_copies p q is h = subst (λ (l : LinkState Carried). Every (CopyIs p) l.under_way) (sym is) h.copies
+same_copies : (p q : PathState Carried) → q.link ≡ p.link → PathCame p → Every (AcksWhatCame p) q.link.under_way
+same_copies p q is h = subst (λ (l : LinkState Carried). Every (AcksWhatCame p) l.under_way) (sym is) h.copies
 
 -- a segment that is sent
-handed_copies : (t : ToSend) (p : PathState Carried) → AllSay (Some t) p → PathCame p → Every (CopyIs p) (handed values t.from (segment_sent p t) p).under_way
+handed_copies : (t : ToSend) (p : PathState Carried) → AllSay (Some t) p → PathCame p → Every (AcksWhatCame p) (handed values t.from (segment_sent p t) p).under_way
 handed_copies t p said h = by t.from (says_up (end_at t.from p) (segment_sent p t) (h.answers t.from) said)
   where
     x : PlainSegment
     x = segment_sent p t
 
-    by : (from : Side) → AcksUpTo (end_at from p).tcp.recv.edge x → Every (CopyIs p) (handed values from x p).under_way
+    by : (from : Side) → AcksUpTo (end_at from p).tcp.recv.edge x → Every (AcksWhatCame p) (handed values from x p).under_way
     by A up =
         let carried = carried_by p.profile.spelling A x in let strips = is_stripped A (next_number A p.link) p.clock p.link.lines in let alters = is_altered A (next_number A p.link) p.link.lines in
-        handed_kept (CopyIs p) A x p (λ tick. changed_up strips alters p.a.tcp.recv.edge carried up) h.copies
+        handed_kept (AcksWhatCame p) A x p (λ tick. changed_up strips alters p.a.tcp.recv.edge carried up) h.copies
     by B up =
         let carried = carried_by p.profile.spelling B x in let strips = is_stripped B (next_number B p.link) p.clock p.link.lines in let alters = is_altered B (next_number B p.link) p.link.lines in
-        handed_kept (CopyIs p) B x p (λ tick. changed_up strips alters p.b.tcp.recv.edge carried up) h.copies
+        handed_kept (AcksWhatCame p) B x p (λ tick. changed_up strips alters p.b.tcp.recv.edge carried up) h.copies
 
 -- ---- a copy that arrives
 
@@ -493,7 +486,7 @@ line_came (actions.Withdraw s id) p far h = rest_came p (after_line (actions.Wit
 delivered_came : (due : Due) (p : PathState Carried) → PathCame p → PathCame (record (at_tick due.tick p) { link = after_delivery due p.link })
 delivered_came due p h = record { ends = h.ends; copies = rest (position (is_due due) p.link.under_way); answers = h.answers }
   where
-    rest : (o : Option ℕ) → Every (CopyIs p) (without o p.link.under_way)
+    rest : (o : Option ℕ) → Every (AcksWhatCame p) (without o p.link.under_way)
     rest None = h.copies
     rest (Some place) = record { each = λ i f at. let there = in_removed p.link.under_way place i f at in h.copies.each there.0 f there.1 }
 
@@ -565,7 +558,7 @@ event_came (Some (happenings.Arrives due)) r p far h = by (arriving due p.link) 
     by : (o : Option (Flight Carried)) → arriving due p.link ≡ o → AllFar p (copy_heard due.to (heard_in values due.to o p) x) → PathCame (copy_heard due.to (heard_in values due.to o p) x)
     by None is far = rest_came x (copy_heard due.to None x) (stay x _ refl refl) far (delivered_came due p h).copies (delivered_came due p h)
     by (Some f) is far =
-        let found = find_every (CopyIs p) (is_due due) p.link.under_way f h.copies is in
+        let found = find_every (AcksWhatCame p) (is_due due) p.link.under_way f h.copies is in
         let parts = and_parts (f.tick == due.tick) (same_side f.to due.to && f.number == due.copy) found.1 in
         let to = one_side f.to due.to (and_parts (same_side f.to due.to) (f.number == due.copy) parts.1).0 in
         copy_came due.to f x (subst (λ s. AcksUpTo (end_at (peer s) p).tcp.recv.edge f.carried.segment) to found.0) (delivered_came due p h) far
@@ -584,12 +577,12 @@ module _ (d : Duty) (ds : List Duty) (r : Reply) (p : PathState Carried) where
   abbrev q : PathState Carried
   q = answered values d r x
 
-  duty_copies : is_event d ≡ false → PathCame x → (o : Option ToSend) → duty_sends d x ≡ o → Every (CopyIs x) q.link.under_way
+  duty_copies : is_event d ≡ false → PathCame x → (o : Option ToSend) → duty_sends d x ≡ o → Every (AcksWhatCame x) q.link.under_way
   duty_copies other h None is = same_copies x q (quiet_link values d r x other is) h
   duty_copies other h (Some t) is =
       let hands : Hands values x t = subst (HandsOrTellsNone values x) is (each_segment_is_told values x) in
       let link : q.link ≡ handed values t.from (segment_sent x t) x = sym (settled_lasts LinkStays links_last q.agenda q) ∙ hands.taken r in
-      subst (λ (l : LinkState Carried). Every (CopyIs x) l.under_way) (sym link) (handed_copies t x (subst (λ o. AllSay o x) is (duty_so d x)) h)
+      subst (λ (l : LinkState Carried). Every (AcksWhatCame x) l.under_way) (sym link) (handed_copies t x (subst (λ o. AllSay o x) is (duty_so d x)) h)
 
   other_came : is_event d ≡ false → PathCame x → PathCame q
   other_came other h = rest_came x q (answered_rest values d r x other) (far_at x q (answered_steps values d r x)) (duty_copies other h (duty_sends d x) refl) h
@@ -654,7 +647,7 @@ member_begins (Path p) h = begins_came (record p { clock = p.until; until = p.un
 
 member_so : (m : Actor Carried) → CameMember m → HoldsOfKind (λ app. Unit {0}) HasCome m
 member_so (App a) h = tt
-member_so (Path p) h = h.ends
+member_so (Path p) h = record { una = h.ends; copies = h.copies }
 
 first_came : (number : ℕ) (start : Start) (plan : PathPlan) → PathCame (waiting_path (path_begins start number plan) start.lines)
 first_came number start plan = record { ends = λ s living. low s; copies = record { each = λ i f there. cc }; answers = λ s. none s }

@@ -135,76 +135,76 @@ module _ {C : Type 0} where
   -- ---- what each duty makes of it
 
   -- nothing; it takes a segment, at the same tick; it delivers the next copy; or it is cut
-  pub data LinkStep (k : Codec C) (p q : PathState C) : Type 0 where
-    stays : q.link ≡ p.link → LinkStep k p q
-    hands : (s : Side) (carried : C) (size : ℕ) → q.clock ≡ p.clock → q.link ≡ after_send (k.strips p.profile.spelling) (k.alters p.profile.spelling) s carried size p.clock p.link → LinkStep k p q
-    delivers : (due : Due) → next_event p ≡ Some (happenings.Arrives due) → q.link ≡ after_delivery due p.link → LinkStep k p q
-    is_cut : (line : LineLeft) → next_event p ≡ Some (happenings.Takes line) → line.action ≡ actions.Die → q.link ≡ after_cut p.link → LinkStep k p q
+  pub data LinkStep (d : Duty) (k : Codec C) (p q : PathState C) : Type 0 where
+    stays : q.link ≡ p.link → LinkStep d k p q
+    hands : (s : Side) (carried : C) (size : ℕ) → q.clock ≡ p.clock → q.link ≡ after_send (k.strips p.profile.spelling) (k.alters p.profile.spelling) s carried size p.clock p.link → LinkStep d k p q
+    delivers : d ≡ duties.Step step_duties.Events → (due : Due) → next_event p ≡ Some (happenings.Arrives due) → q.link ≡ after_delivery due p.link → LinkStep d k p q
+    is_cut : (line : LineLeft) → next_event p ≡ Some (happenings.Takes line) → line.action ≡ actions.Die → q.link ≡ after_cut p.link → LinkStep d k p q
 
-  send_step : (k : Codec C) (d : SendDuty) (p : PathState C) → LinkStep k p (sent_for k d p)
+  send_step : {any : Duty} (k : Codec C) (d : SendDuty) (p : PathState C) → LinkStep any k p (sent_for k d p)
   send_step k (send_duties.Update s) p = hands s _ _ refl refl
   send_step k d p = hands (side_of (duties.Send d)) _ _ refl refl
 
-  break_step : (k : Codec C) (s : Side) (reason : ℕ) (r : Reply) (p : PathState C) → LinkStep k p (answered_break k s reason r p)
-  break_step k s reason r p = by (end_at s p).treated.asked
+  break_step : {any : Duty} (k : Codec C) (s : Side) (reason : ℕ) (r : Reply) (p : PathState C) → LinkStep any k p (answered_break k s reason r p)
+  break_step {any} k s reason r p = by (end_at s p).treated.asked
     where
-      by : (b : Bool) → LinkStep k p (if b then answered_ack_out s r (resets s reason) p else reset_on k s (Some reason) (leaves s) p)
+      by : (b : Bool) → LinkStep any k p (if b then answered_ack_out s r (resets s reason) p else reset_on k s (Some reason) (leaves s) p)
       by true = stays refl
       by false = hands s _ _ refl refl
 
-  data_step : (k : Codec C) (s : Side) (o : Option Record) (r : Reply) (p : PathState C) → LinkStep k p (answered_data k s o r p)
-  data_step k s (Some unsent) r p = hands s _ _ refl refl
-  data_step k s None r p = by (grant_in r)
+  data_step : {any : Duty} (k : Codec C) (s : Side) (o : Option Record) (r : Reply) (p : PathState C) → LinkStep any k p (answered_data k s o r p)
+  data_step {any} k s (Some unsent) r p = hands s _ _ refl refl
+  data_step {any} k s None r p = by (grant_in r)
     where
-      by : (o : Option Grant) → LinkStep k p (answered_grant s o r p)
+      by : (o : Option Grant) → LinkStep any k p (answered_grant s o r p)
       by (Some grant) = stays refl
       by None = stays refl
 
-  either : (k : Codec C) (p q r : PathState C) (b : Bool) → LinkStep k p q → LinkStep k p r → LinkStep k p (if b then q else r)
+  either : {any : Duty} (k : Codec C) (p q r : PathState C) (b : Bool) → LinkStep any k p q → LinkStep any k p r → LinkStep any k p (if b then q else r)
   either k p q r true x y = x
   either k p q r false x y = y
 
-  item_step : (k : Codec C) (s : Side) (o : Option Heard) (r : Reply) (p : PathState C) → LinkStep k p (answered_item k s o r p)
-  item_step k s (Some (says.Mapping fin)) r p = either k p _ _ (is_clash (end_at s p)) (break_step k s 1 r p) (stays refl)
-  item_step k s (Some says.Fail) r p = fail_answered_so (LinkStep k p) s r p (stays refl) (stays refl)
-  item_step k s None r p = stays refl
-  item_step k s (Some _) r p = stays refl
+  item_step : {any : Duty} (k : Codec C) (s : Side) (o : Option Heard) (r : Reply) (p : PathState C) → LinkStep any k p (answered_item k s o r p)
+  item_step {any} k s (Some (says.Mapping fin)) r p = either k p _ _ (is_clash (end_at s p)) (break_step k s 1 r p) (stays refl)
+  item_step {any} k s (Some says.Fail) r p = fail_answered_so (LinkStep any k p) s r p (stays refl) (stays refl)
+  item_step {any} k s None r p = stays refl
+  item_step {any} k s (Some _) r p = stays refl
 
   line_step : (k : Codec C) (line : LineLeft) (p : PathState C) → next_event p ≡ Some (happenings.Takes line)
-      → LinkStep k p (after_line line.action (record (at_tick line.tick p) { lines = tail_of p.lines }))
+      → LinkStep (duties.Step step_duties.Events) k p (after_line line.action (record (at_tick line.tick p) { lines = tail_of p.lines }))
   line_step k line p next = by line.action refl
     where
-      by : (action : LineAction) → line.action ≡ action → LinkStep k p (after_line action (record (at_tick line.tick p) { lines = tail_of p.lines }))
+      by : (action : LineAction) → line.action ≡ action → LinkStep (duties.Step step_duties.Events) k p (after_line action (record (at_tick line.tick p) { lines = tail_of p.lines }))
       by actions.Die is = is_cut line next is refl
       by (actions.Prio s backup) is = stays refl
       by (actions.Announce s id) is = stays refl
       by (actions.Withdraw s id) is = stays refl
 
-  event_step : (k : Codec C) (o : Option Event) (r : Reply) (p : PathState C) → next_event p ≡ o → LinkStep k p (happens_if k o r p)
+  event_step : (k : Codec C) (o : Option Event) (r : Reply) (p : PathState C) → next_event p ≡ o → LinkStep (duties.Step step_duties.Events) k p (happens_if k o r p)
   event_step k None r p next = stays refl
   event_step k (Some (happenings.Joins tick)) r p next = by (is_never r)
     where
       q : PathState C
       q = record (at_tick tick p) { joined_at = None }
 
-      by : (b : Bool) → LinkStep k p (if b then goes_on A (never_joined r (end_at A q)) (leaves A) q else goes_on A (opened_by (keys_begun r) (end_at A q)) (emission A) q)
+      by : (b : Bool) → LinkStep (duties.Step step_duties.Events) k p (if b then goes_on A (never_joined r (end_at A q)) (leaves A) q else goes_on A (opened_by (keys_begun r) (end_at A q)) (emission A) q)
       by true = stays refl
       by false = stays refl
   event_step k (Some (happenings.Takes line)) r p next = line_step k line p next
   event_step k (Some (happenings.Arrives due)) r p next = by (heard_in k due.to (arriving due p.link) p)
     where
-      by : (o : Option HeardSegment) → LinkStep k p (copy_heard due.to o (record (at_tick due.tick p) { link = after_delivery due p.link }))
-      by None = delivers due next refl
-      by (Some heard) = delivers due next refl
+      by : (o : Option HeardSegment) → LinkStep (duties.Step step_duties.Events) k p (copy_heard due.to o (record (at_tick due.tick p) { link = after_delivery due p.link }))
+      by None = delivers refl due next refl
+      by (Some heard) = delivers refl due next refl
   event_step k (Some (happenings.Fires s tick)) r p next = stays refl
 
   -- what may not write the link leaves it
-  unlinked : (k : Codec C) (d : Duty) (r : Reply) (p : PathState C) → (writes d).link ≡ false → LinkStep k p (answered k d r p)
+  unlinked : (k : Codec C) (d : Duty) (r : Reply) (p : PathState C) → (writes d).link ≡ false → LinkStep d k p (answered k d r p)
   unlinked k d r p none =
       let only : OnlyAt (side_of d) (writes d) p (answered k d r p) = writes_no_more k d r p in
       stays (unwritten (writes d).link p.link (answered k d r p).link none (ap (λ (v : PathView C). v.link) only.same))
 
-  pub link_step : (k : Codec C) (d : Duty) (r : Reply) (p : PathState C) → LinkStep k p (answered k d r p)
+  pub link_step : (k : Codec C) (d : Duty) (r : Reply) (p : PathState C) → LinkStep d k p (answered k d r p)
   link_step k (duties.Send d) r p = send_step k d p
   link_step k (duties.Step step_duties.Events) r p = event_step k (next_event p) r p refl
   link_step k (duties.Step (step_duties.Data s)) r p = data_step k s (first_unsent (end_at s p)) r p
@@ -225,14 +225,14 @@ module _ {C : Type 0} where
 
   -- ---- a copy
 
-  goes_by : (k : Codec C) (f : Flight C) (p q : PathState C) → LinkStep k p q → IsUnderWay f p → GoesOnItsWay f p q
-  goes_by k f p q (stays is) h = on (subst (λ (l : LinkState C). Has (λ g. g ≡ f) l.under_way) (sym is) h)
-  goes_by k f p q (hands s carried size still is) h = on (subst (λ (l : LinkState C). Has (λ g. g ≡ f) l.under_way) (sym is) (sent_there (λ g. g ≡ f) (k.strips p.profile.spelling) (k.alters p.profile.spelling) s carried size p.clock p.link h))
-  goes_by k f p q (delivers due next is) h = ⊎_elim
+  goes_by : (k : Codec C) (f : Flight C) (d : Duty) (ds : List Duty) (p q : PathState C) → p.agenda ≡ d ∷ ds → LinkStep d k p q → IsUnderWay f p → GoesOnItsWay f p q
+  goes_by k f d ds p q agenda (stays is) h = on (subst (λ (l : LinkState C). Has (λ g. g ≡ f) l.under_way) (sym is) h)
+  goes_by k f d ds p q agenda (hands s carried size still is) h = on (subst (λ (l : LinkState C). Has (λ g. g ≡ f) l.under_way) (sym is) (sent_there (λ g. g ≡ f) (k.strips p.profile.spelling) (k.alters p.profile.spelling) s carried size p.clock p.link h))
+  goes_by k f d ds p q agenda (delivers event due next is) h = ⊎_elim
       (λ there. on (subst (λ (l : LinkState C). Has (λ g. g ≡ f) l.under_way) (sym is) there))
-      (λ arrived. arrives (next ∙ ap (λ x. Some (happenings.Arrives x)) (due_is due f arrived)))
+      (λ arrived. arrives ds (agenda ∙ ap (λ d. d ∷ ds) event) (next ∙ ap (λ x. Some (happenings.Arrives x)) (due_is due f arrived)))
       (delivered due f p.link.under_way h)
-  goes_by k f p q (is_cut line next is cut) h = dies line next is
+  goes_by k f d ds p q agenda (is_cut line next is cut) h = dies line next is
 
   abbrev pub LinkStays : PathState C → PathState C → Type 0
   LinkStays p q = q.link ≡ p.link
@@ -242,7 +242,7 @@ module _ {C : Type 0} where
 
   goes_further : (f : Flight C) (p q r : PathState C) → r.link ≡ q.link → GoesOnItsWay f p q → GoesOnItsWay f p r
   goes_further f p q r same (on h) = on (subst (λ (l : LinkState C). Has (λ g. g ≡ f) l.under_way) (sym same) h)
-  goes_further f p q r same (arrives next) = arrives next
+  goes_further f p q r same (arrives others first next) = arrives others first next
   goes_further f p q r same (dies line next is) = dies line next is
 
   takes_on : (k : Codec C) (r : Reply) (p : PathState C) (f : Flight C) → IsUnderWay f p → GoesOnItsWay f p (takes k r p)
@@ -252,7 +252,7 @@ module _ {C : Type 0} where
       by [] h = on h
       by (d ∷ ds) h =
           let x : PathState C = record p { agenda = d ∷ ds } in let q : PathState C = answered k d r x in
-          goes_further f x q (takes k r x) (settled_lasts LinkStays links_last q.agenda q) (goes_by k f x q (link_step k d r x) h)
+          goes_further f x q (takes k r x) (settled_lasts LinkStays links_last q.agenda q) (goes_by k f d ds x q refl (link_step k d r x) h)
 
   next_on : (p : PathState C) (f : Flight C) → IsUnderWay f p → GoesOnItsWay f p (next_round p)
   next_on p f h =

@@ -1,5 +1,5 @@
 -- The first record that isn't acknowledged comes to the peer, whatever is lost.
-use Rattle.std.proofs.Common.{◌≡◌, refl, sym, subst, ap, ◌∙◌, ◌⊎◌, inl, inr, ⊎_elim, ℕ, ◌+◌, ◌-◌, ◌^◌, ◌<◌, ◌≤◌, max, true, false, true≢false, Option, Some, None, IfSome, List, [], ◌∷◌, length, arith}
+use Rattle.std.proofs.Common.{◌≡◌, refl, sym, subst, ap, ◌∙◌, ◌⊎◌, inl, inr, ⊎_elim, ℕ, ◌+◌, ◌-◌, ◌^◌, ◌<◌, ◌≤◌, max, true, false, true≢false, if◌then◌else◌, Option, Some, None, IfSome, List, [], ◌∷◌, length, arith}
 use Rattle.std.specs.Prelude.{IsSome}
 use Rattle.std.specs.List.{slice_get}
 use Rattle.std.proofs.lemmas.Bool.{cases_lt}
@@ -11,8 +11,13 @@ use Rattle.link_model.specs.State.{LinkState}
 use Rattle.link_model.specs.Steps.{next_number, segments_sent, changed, after_send}
 use Rattle.link_model.specs.Fate.{is_stripped, is_altered}
 use Rattle.stream_lanes.specs.Words.{Has}
+use Rattle.path_segments.specs.Options.{PlainOption}
 use Rattle.path_segments.specs.Spelled.{PlainSegment}
+use Rattle.path_segments.specs.declared.segment.PathOption.TheVariants.{Dss}
 use Rattle.subflow_send.specs.Records.{Record, end_of}
+use Rattle.subflow_send.specs.declared.record.RecordKind.{RecordKind}
+use Rattle.subflow_send.specs.declared.record.RecordKind.TheVariants as kinds
+use Rattle.subflow_send.specs.declared.record.Sending.{Sending}
 use Rattle.subflow_send.specs.Rules.{is_fin}
 use Rattle.subflow_tcp.specs.Emitting.{is_syn}
 use Rattle.subflow_tcp.specs.States.{is_closed_to_segments, is_dead}
@@ -27,9 +32,11 @@ use Rattle.path_agenda.specs.declared.duty.AskDuty.TheVariants as ask_duties
 use Rattle.path_agenda.specs.declared.duty.SendDuty.TheVariants as send_duties
 use Rattle.path_agenda.specs.declared.duty.StepDuty.TheVariants as step_duties
 use Rattle.path_core.specs.Codec.{Codec}
+use Rattle.path_core.specs.DssOut.{first_piece_options, infinite_or, is_first_piece, piece_mapping, plain_options}
 use Rattle.path_core.specs.End.{PathEnd}
 use Rattle.path_core.specs.Handover.{handed}
 use Rattle.path_core.specs.Octets.{made}
+use Rattle.path_core.specs.OptionsOut.{record_options}
 use Rattle.path_core.specs.Profile.{Profile}
 use Rattle.path_core.specs.State.{PathState, end_at, with_agenda}
 use Rattle.path_core.specs.Steps.{takes, next_round}
@@ -45,9 +52,9 @@ use Rattle.world_laws.specs.Worlds.{WorldState, Turn, after_turn}
 use Rattle.world_laws.specs.Writes.{PathView}
 use Rattle.world_laws.proofs.Writes.Paths.{writes_no_more, passes_no_more}
 use Rattle.world_laws.proofs.Writes.Steps.{Lasts, settled_lasts, takes_lasts, begins_lasts}
-use Rattle.whole_paths.specs.Copies.{GoesOnItsWay, CopiesGoOn}
+use Rattle.whole_paths.specs.Copies.{IsUnderWay, GoesOnItsWay, CopiesGoOn}
 use Rattle.whole_paths.specs.Copies.{GoesOnItsWay as copy}
-use Rattle.whole_paths.specs.Expiries.{IsSegmentOf, IsToSendAgain, PathsGoAgain, SendsAgain, GoesAgain, Expires}
+use Rattle.whole_paths.specs.Expiries.{IsSegmentOf, IsSaidAt, IsToSendAgain, PathsGoAgain, SendsAgain, GoesAgain, Expires}
 use Rattle.whole_paths.specs.Flights.{IsFirst, IsCopyOf, IsOnItsWay, GoesOnTo, RecordsGoOn, IsOnItsWayAtTheEnd, WhatWaitsComes}
 use Rattle.whole_paths.specs.Flights.IsOnItsWay.{waits, resends, flies}
 use Rattle.whole_paths.specs.Flights.{GoesOnTo as goes}
@@ -102,6 +109,29 @@ same_segment r x segment same h = record {
   payload = h.payload ∙ same.piece;
 }
 
+-- the options say neither the kind again nor how often the record was sent
+same_options : (c : Profile) (s : Side) (e : PathEnd) (r : Record) (kind : RecordKind) (sending : Sending) (k : RecordKind) → record_options k c s (record r { kind = kind; sending = sending }) e ≡ record_options k c s r e
+same_options c s e r kind sending kinds.Syn = refl
+same_options c s e r kind sending kinds.Data =
+    ap (λ (os : List PlainOption). if e.modes.identity then plain_options r.pos e
+    else infinite_or e.modes.own_infinite (if is_first_piece s r e then os else Dss (Some e.receiving.next) (Some (piece_mapping c s r)) ∷ []) e) (by e.modes.peer_key)
+  where
+    by : (o : Option ℕ) → first_piece_options c o (record r { kind = kind; sending = sending }) e ≡ first_piece_options c o r e
+    by None = refl
+    by (Some peer) = refl
+same_options c s e r kind sending kinds.Fin = refl
+
+same_said : (c : Profile) (s : Side) (e : PathEnd) (r x : Record) (segment : PlainSegment) → IsSameRecord r x → IsSaidAt c s x e segment → IsSaidAt c s r e segment
+same_said c s e r x segment same h = record {
+  options = h.options
+      ∙ ap (λ kind. record_options kind c s x e) same.kind
+      ∙ ap (λ pos. record_options r.kind c s (record x { pos = pos }) e) same.pos
+      ∙ ap (λ piece. record_options r.kind c s (record x { pos = r.pos; piece = piece }) e) same.piece
+      ∙ ap (λ mapping. record_options r.kind c s (record x { pos = r.pos; piece = r.piece; mapping = mapping }) e) same.mapping
+      ∙ same_options c s e r x.kind x.sending r.kind;
+  acknowledged = h.acknowledged;
+}
+
 module _ {C : Type 0} where
   -- ---- how a path is spelled, how long a segment is under way on it, and its clock
 
@@ -128,10 +158,10 @@ module _ {C : Type 0} where
   sent_way strip alter A s carried size now link = refl
   sent_way strip alter B s carried size now link = refl
 
-  link_way : (k : Codec C) (s : Side) (p q : PathState C) → LinkStep k p q → longest_way s q.link ≡ longest_way s p.link
+  link_way : {d : Duty} (k : Codec C) (s : Side) (p q : PathState C) → LinkStep d k p q → longest_way s q.link ≡ longest_way s p.link
   link_way k s p q (stays is) = ap (λ (l : LinkState C). longest_way s l) is
   link_way k s p q (hands from carried size still is) = ap (λ (l : LinkState C). longest_way s l) is ∙ sent_way (k.strips p.profile.spelling) (k.alters p.profile.spelling) from s carried size p.clock p.link
-  link_way k s p q (delivers due next is) = ap (λ (l : LinkState C). longest_way s l) is
+  link_way k s p q (delivers event due next is) = ap (λ (l : LinkState C). longest_way s l) is
   link_way k s p q (is_cut line next action is) = ap (λ (l : LinkState C). longest_way s l) is
 
   takes_frames : (k : Codec C) (r : Reply) (p : PathState C) → Frames p (takes k r p)
@@ -244,7 +274,7 @@ module _ {C : Type 0} where
         after = handed k s sent.segment p
 
         of_it : IsSegmentOf r sent.segment
-        of_it = same_segment r h.first sent.segment h.same (sent.first h.first h.others h.records)
+        of_it = same_segment r h.first sent.segment h.same (sent.first h.first h.others h.records).0
 
         by : Has (IsOnTime s size p.clock (as_it_arrives (k.strips p.profile.spelling) (k.alters p.profile.spelling) s (k.makes p.profile.spelling s sent.segment) p.clock p.link) p.link) after.under_way → Next
         by has = goes.on (flies has.item (let in_time = has.holds.in_time in omega (arith, in_time, low))
@@ -253,6 +283,8 @@ module _ {C : Type 0} where
               to = has.holds.to;
               segment = sent.segment;
               of_it = of_it;
+              sender = end_at s p;
+              says = subst (λ c. IsSaidAt c s r (end_at s p) sent.segment) (sym frames.profile) (same_said p.profile s (end_at s p) r h.first sent.segment h.same (sent.first h.first h.others h.records).1);
               stripped = is_stripped s (next_number s p.link) p.clock p.link.lines;
               altered = is_altered s (next_number s p.link) p.link.lines;
               carried = subst (λ (c : Profile). has.item.carried
@@ -273,22 +305,24 @@ module _ {C : Type 0} where
         (λ sent. flown sent h low few)
         (again.sends s is)
 
-    flies_goes : (f : Flight C) → f.tick ≤ by_then → IsCopyOf k s r p f → GoesOnItsWay f p q → Next
-    flies_goes f low h (copy.on there) = goes.on (flies f low there (record {
+    flies_goes : (f : Flight C) → f.tick ≤ by_then → IsUnderWay f p → IsCopyOf k s r p f → GoesOnItsWay f p q → Next
+    flies_goes f low before h (copy.on there) = goes.on (flies f low there (record {
       to = h.to;
       segment = h.segment;
       of_it = h.of_it;
+      sender = h.sender;
+      says = subst (λ c. IsSaidAt c s r h.sender h.segment) (sym frames.profile) h.says;
       stripped = h.stripped;
       altered = h.altered;
       carried = subst (λ (c : Profile). f.carried ≡ changed (k.strips c.spelling s) (k.alters c.spelling s) h.stripped h.altered (k.makes c.spelling s h.segment)) (sym frames.profile) h.carried;
     }))
-    flies_goes f low h (copy.arrives next) = goes.arrives f low h next
-    flies_goes f low h (copy.dies line next is) = goes.dies line next is
+    flies_goes f low before h (copy.arrives others first next) = goes.arrives f low before h others first next
+    flies_goes f low before h (copy.dies line next is) = goes.dies line next is
 
     goes_by : TimersWaitOn (Path p) (Path q) → GoesAgain k p q → CopiesGoOn (Path p) (Path q) → ComesFrom p.clock p → segments_sent s p.link < 2 ^ 64 - 1 → IsOnItsWay k s r by_then p → Next
     goes_by timers again copies past few (waits tick low h first) = waits_goes again past tick low h first (timers s tick h)
     goes_by timers again copies past few (resends low is first) = resends_goes again low few is first
-    goes_by timers again copies past few (flies f low there h) = flies_goes f low h (copies f there)
+    goes_by timers again copies past few (flies f low there h) = flies_goes f low there h (copies f there)
 
   -- ---- the world
 

@@ -1,9 +1,11 @@
 pub mod Acking
 pub mod Agendas
+pub mod Arrivals
 pub mod Books
 pub mod Bringing
 pub mod Came
 pub mod Copies
+pub mod Due
 pub mod Duties
 pub mod Flying
 pub mod GoesOn
@@ -24,6 +26,7 @@ pub mod Resending
 pub mod Rounds
 pub mod Running
 pub mod Saying
+pub mod Sent
 pub mod Settling
 pub mod Staying
 pub mod Subflows

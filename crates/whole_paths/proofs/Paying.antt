@@ -63,7 +63,7 @@ use Rattle.whole_paths.specs.AgendaSteps.{is_gone}
 use Rattle.whole_paths.specs.Answered.{HasAnswered, IsDone}
 use Rattle.whole_paths.specs.Answered.{IsDone as idle_by}
 use Rattle.whole_paths.specs.AsFar.{stage}
-use Rattle.whole_paths.specs.Copies.{GoesOnItsWay, CopiesGoOn}
+use Rattle.whole_paths.specs.Copies.{IsUnderWay, GoesOnItsWay, CopiesGoOn}
 use Rattle.whole_paths.specs.Copies.{GoesOnItsWay as copy}
 use Rattle.whole_paths.specs.Harms.{harms_left, as_it_arrives, longest_way, IsOnTime}
 use Rattle.whole_paths.specs.Owed.{Covers, IsAnswer, IsAnswered, AnswerGoesOn, AnswersGoOn, WhatIsOwedComes}
@@ -339,8 +339,8 @@ module _ {C : Type 0} where
         by true dead = goes.gone (gone_stays (end_at s p) (end_at s q) (turned.far s) dead)
         by false living = absurd (true≢false (sym due ∙ (answered is s living).ack))
 
-    flies_goes : (f : Flight C) → f.tick ≤ by_then → IsAnswer k s position p f → GoesOnItsWay f p q → Next
-    flies_goes f low h (copy.on there) = goes.on (flies f low there (record {
+    flies_goes : (f : Flight C) → f.tick ≤ by_then → IsUnderWay f p → IsAnswer k s position p f → GoesOnItsWay f p q → Next
+    flies_goes f low before h (copy.on there) = goes.on (flies f low there (record {
       to = h.to;
       segment = h.segment;
       covers = h.covers;
@@ -348,12 +348,12 @@ module _ {C : Type 0} where
       altered = h.altered;
       carried = subst (λ (c : Profile). f.carried ≡ changed (k.strips c.spelling s) (k.alters c.spelling s) h.stripped h.altered (k.makes c.spelling s h.segment)) (sym frames.profile) h.carried;
     }))
-    flies_goes f low h (copy.arrives next) = goes.arrives f low h next
-    flies_goes f low h (copy.dies line next is) = goes.dies line next is
+    flies_goes f low before h (copy.arrives others first next) = goes.arrives f low before h others first next
+    flies_goes f low before h (copy.dies line next is) = goes.dies line next is
 
     goes_by : HandsOver k p q → CopiesGoOn (Path p) (Path q) → HasAnswered p → segments_sent s p.link < 2 ^ 64 - 1 → IsAnswered k s position by_then p → Next
     goes_by hands copies answered few (owes low high came due) = owes_goes (turned.owing s) hands answered low high came due few
-    goes_by hands copies answered few (flies f low there h) = flies_goes f low h (copies f there)
+    goes_by hands copies answered few (flies f low there h) = flies_goes f low there h (copies f there)
 
   -- ---- the world
 

@@ -30,16 +30,16 @@ use Rattle.world_laws.specs.declared.member.Member.TheVariants.{App, Path}
 use Rattle.world_laws.specs.Actors.{Actor, member_takes, member_next, is_over}
 use Rattle.world_laws.specs.StampedBooks.{answer_to}
 use Rattle.world_laws.proofs.Writes.Steps.{settled_lasts}
-use Rattle.whole_paths.specs.Expiries.{IsSegmentOf, IsToSend, IsToSendAgain, Expires, SendsAgain, GoesAgain, PathsGoAgain, WhatRunsOutGoesAgain}
+use Rattle.whole_paths.specs.Expiries.{IsSegmentOf, IsSaidAt, IsToSend, IsToSendAgain, Expires, SendsAgain, GoesAgain, PathsGoAgain, WhatRunsOutGoesAgain}
 use Rattle.whole_paths.proofs.Agendas.{own_end, gone_end}
 use Rattle.whole_paths.proofs.Copies.{LinkStays, links_last}
 use Rattle.whole_paths.proofs.Turns.{turn_each}
 
 -- the segment that is sent again
 resent_so : (c : Profile) (s : Side) (e : PathEnd) (rs : List Record) (r : Record) (others : List Record) → rs ≡ r ∷ others
-    → IsSegmentOf r (if is_some_record rs then record_or_ack c s (slice_get rs 0) e else ack_resent c s e)
-resent_so c s e rs r others is = subst (λ xs. IsSegmentOf r (if is_some_record xs then record_or_ack c s (slice_get xs 0) e else ack_resent c s e)) (sym is)
-    (record { position = refl; syn = refl; fin = refl; rst = refl; payload = refl })
+    → let x = (if is_some_record rs then record_or_ack c s (slice_get rs 0) e else ack_resent c s e) in IsSegmentOf r x × IsSaidAt c s r e x
+resent_so c s e rs r others is = subst (λ xs. let x = (if is_some_record xs then record_or_ack c s (slice_get xs 0) e else ack_resent c s e) in IsSegmentOf r x × IsSaidAt c s r e x) (sym is)
+    (record { position = refl; syn = refl; fin = refl; rst = refl; payload = refl }, record { options = refl; acknowledged = refl })
 
 -- the end of this side, as its timer ran out for the sixth time or not
 abbrev fired : Bool → ℕ → PathEnd → PathEnd

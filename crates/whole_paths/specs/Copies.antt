@@ -1,10 +1,13 @@
 -- How a copy leaves the link of a path.
-use Rattle.std.specs.Prelude.{ℕ, ◌≡◌, Some, slice_get}
+use Rattle.std.specs.Prelude.{ℕ, ◌≡◌, Some, List, ◌∷◌, slice_get}
 use Rattle.link_model.specs.declared.flight.Flight.{Flight}
 use Rattle.link_model.specs.Steps.{due_of}
 use Rattle.stream_lanes.specs.Words.{Has}
 use Rattle.path_store.specs.declared.lines.LineLeft.{LineLeft}
 use Rattle.path_store.specs.declared.lines.LineAction.TheVariants as actions
+use Rattle.path_agenda.specs.declared.duty.Duty.{Duty}
+use Rattle.path_agenda.specs.declared.duty.Duty.TheVariants as duties
+use Rattle.path_agenda.specs.declared.duty.StepDuty.TheVariants as step_duties
 use Rattle.path_core.specs.Codec.{Codec}
 use Rattle.path_core.specs.Events.{next_event}
 use Rattle.path_core.specs.State.{PathState}
@@ -23,7 +26,7 @@ module _ {C : Type 0} where
     -- the copy is still under way
     on : IsUnderWay f q → GoesOnItsWay f p q
     -- the copy arrives, which was the next event of the path
-    arrives : next_event p ≡ Some (happenings.Arrives (due_of f)) → GoesOnItsWay f p q
+    arrives : (others : List Duty) → p.agenda ≡ duties.Step step_duties.Events ∷ others → next_event p ≡ Some (happenings.Arrives (due_of f)) → GoesOnItsWay f p q
     -- the next event was a line of the script by which the path dies
     dies : (line : LineLeft) → next_event p ≡ Some (happenings.Takes line) → line.action ≡ actions.Die → GoesOnItsWay f p q
 

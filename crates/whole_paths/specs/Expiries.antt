@@ -4,7 +4,7 @@ use Rattle.sides.specs.declared.side.Side.{Side}
 use Rattle.path_segments.specs.Spelled.{PlainSegment}
 use Rattle.subflow_send.specs.Records.{Record}
 use Rattle.subflow_send.specs.Rules.{is_fin}
-use Rattle.subflow_tcp.specs.Emitting.{is_syn}
+use Rattle.subflow_tcp.specs.Emitting.{acknowledged_in, is_syn}
 use Rattle.subflow_tcp.specs.States.{is_dead}
 use Rattle.path_agenda.specs.Agenda.{emission, expired}
 use Rattle.path_agenda.specs.declared.duty.Duty.{Duty}
@@ -12,13 +12,21 @@ use Rattle.path_agenda.specs.declared.duty.Duty.TheVariants as duties
 use Rattle.path_agenda.specs.declared.duty.SendDuty.TheVariants as send_duties
 use Rattle.path_agenda.specs.declared.duty.StepDuty.TheVariants as step_duties
 use Rattle.path_core.specs.Codec.{Codec}
+use Rattle.path_core.specs.End.{PathEnd}
 use Rattle.path_core.specs.Events.{next_event}
 use Rattle.path_core.specs.Handover.{handed}
+use Rattle.path_core.specs.OptionsOut.{record_options}
+use Rattle.path_core.specs.Profile.{Profile}
 use Rattle.path_core.specs.State.{PathState, end_at}
 use Rattle.path_core.specs.declared.events.Event.TheVariants as happenings
 use Rattle.world_laws.specs.declared.member.Member.TheVariants.{App, Path}
 use Rattle.world_laws.specs.Actors.{Actor, ActorCrew}
 use Rattle.world_laws.specs.Worlds.{WorldState, Turn, after_turn}
+
+-- Its options are those of the record, and what it acknowledges is RCV.NXT, as at this end (RFC 8684, section 3.3; RFC 9293, section 3.10.7.4).
+pub record IsSaidAt (c : Profile) (s : Side) (r : Record) (e : PathEnd) (x : PlainSegment) : Type 0 where
+  pub options : x.options ≡ record_options r.kind c s r e
+  pub acknowledged : x.acknowledged ≡ acknowledged_in e.tcp
 
 -- the segment is that of the record
 pub record IsSegmentOf (r : Record) (x : PlainSegment) : Type 0 where
@@ -56,7 +64,7 @@ module _ {C : Type 0} where
   -- the link takes the segment of the first record that isn't acknowledged, or another one where there is none
   pub record SendsAgain (k : Codec C) (s : Side) (p q : PathState C) : Type 0 where
     pub segment : PlainSegment
-    pub first : (r : Record) (others : List Record) → (end_at s p).tcp.send.records ≡ r ∷ others → IsSegmentOf r segment
+    pub first : (r : Record) (others : List Record) → (end_at s p).tcp.send.records ≡ r ∷ others → IsSegmentOf r segment × IsSaidAt p.profile s r (end_at s p) segment
     pub taken : q.link ≡ handed k s segment p
 
   -- what becomes of a path whose timer runs out, and of one that is to send again, unless it stays as it is

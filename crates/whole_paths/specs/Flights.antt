@@ -9,6 +9,9 @@ use Rattle.subflow_send.specs.Records.{Record}
 use Rattle.subflow_tcp.specs.States.{is_closed_to_segments, is_dead}
 use Rattle.path_store.specs.declared.lines.LineAction.TheVariants as actions
 use Rattle.path_store.specs.declared.lines.LineLeft.{LineLeft}
+use Rattle.path_agenda.specs.declared.duty.Duty.{Duty}
+use Rattle.path_agenda.specs.declared.duty.Duty.TheVariants as duties
+use Rattle.path_agenda.specs.declared.duty.StepDuty.TheVariants as step_duties
 use Rattle.path_core.specs.Codec.{Codec}
 use Rattle.path_core.specs.End.{PathEnd}
 use Rattle.path_core.specs.Events.{next_event}
@@ -22,7 +25,7 @@ use Rattle.world_laws.specs.Laws.{Always}
 use Rattle.world_laws.specs.Members.{HoldsOfKind}
 use Rattle.world_laws.specs.Worlds.{WorldState, Turn, after_turn}
 use Rattle.whole_paths.specs.Copies.{IsUnderWay}
-use Rattle.whole_paths.specs.Expiries.{IsSegmentOf, IsToSendAgain}
+use Rattle.whole_paths.specs.Expiries.{IsSegmentOf, IsSaidAt, IsToSendAgain}
 use Rattle.whole_paths.specs.Harms.{harms_left, loses, longest_way}
 use Rattle.whole_paths.specs.InTime.{NothingIsOverdue}
 use Rattle.whole_paths.specs.Kept.{IsSameRecord}
@@ -36,11 +39,13 @@ pub record IsFirst (r : Record) (e : PathEnd) : Type 0 where
   pub same : IsSameRecord r first
 
 module _ {C : Type 0} where
-  -- what the link makes of a segment of the record, on its way to the peer
+  -- what the link makes of a segment of the record, as the end was that sent it, on its way to the peer
   pub record IsCopyOf (k : Codec C) (s : Side) (r : Record) (p : PathState C) (f : Flight C) : Type 0 where
     pub to : f.to ≡ peer s
     pub segment : PlainSegment
     pub of_it : IsSegmentOf r segment
+    pub sender : PathEnd
+    pub says : IsSaidAt p.profile s r sender segment
     pub stripped : Bool
     pub altered : Bool
     pub carried : f.carried ≡ changed (k.strips p.profile.spelling s) (k.alters p.profile.spelling s) stripped altered (k.makes p.profile.spelling s segment)
@@ -57,7 +62,8 @@ module _ {C : Type 0} where
     -- by the same tick
     on : IsOnItsWay k s r by q → GoesOnTo k s r by p q
     -- a copy of it was what arrives next
-    arrives : (f : Flight C) → f.tick ≤ by → IsCopyOf k s r p f → next_event p ≡ Some (happenings.Arrives (due_of f)) → GoesOnTo k s r by p q
+    arrives : (f : Flight C) → f.tick ≤ by → IsUnderWay f p → IsCopyOf k s r p f → (others : List Duty) → p.agenda ≡ duties.Step step_duties.Events ∷ others
+        → next_event p ≡ Some (happenings.Arrives (due_of f)) → GoesOnTo k s r by p q
     -- there is news, or a line was used by which a segment is lost or late
     news : IsNews (end_at s p) (end_at s q) → GoesOnTo k s r by p q
     harmed : harms_left q.link < harms_left p.link → GoesOnTo k s r by p q

@@ -8,17 +8,19 @@ use Rattle.dss_mapping.specs.declared.kept.KeptMapping.{KeptMapping}
 use Rattle.link_model.specs.Steps.{segments_sent}
 use Rattle.subflow_recv.specs.Receiving.{window_end}
 use Rattle.subflow_tcp.specs.State.{is_fin_passed}
+use Rattle.subflow_tcp.specs.declared.verdicts.Meaning.TheVariants.{Outside}
 use Rattle.path_core.specs.Codec.{Codec}
 use Rattle.path_core.specs.DssIn.{held_of}
 use Rattle.path_core.specs.MpJoin.{is_joined}
 use Rattle.path_core.specs.OptionsIn.{items_of, options_heard}
 use Rattle.path_core.specs.State.{PathState, end_at}
+use Rattle.path_core.specs.declared.judged.Judged.TheVariants as judged
 use Rattle.world_laws.specs.declared.member.Member.TheVariants.{App, Path}
 use Rattle.world_laws.specs.Actors.{Actor, ActorCrew}
 use Rattle.world_laws.specs.Worlds.{WorldState, Turn, after_turn}
 use Rattle.whole_paths.specs.AsFar.{stage}
 use Rattle.whole_paths.specs.Answered.{CopiesAreAnswered}
-use Rattle.whole_paths.specs.Brought.{IsToReset, IsUnsure, IsThere, Brings}
+use Rattle.whole_paths.specs.Brought.{IsToReset, IsUnsure, IsThere, Comes, IsTo, Brings}
 use Rattle.whole_paths.specs.Harms.{longest_way}
 use Rattle.whole_paths.specs.Mapped.{says_mapping, IsMapped, MappingsAreLive}
 use Rattle.whole_paths.specs.Owed.{AnswerGoesOn}
@@ -72,12 +74,17 @@ module _ {C : Type 0} where
   ComesInHand k p q = (b : Brings k p) → IsInOrder k p b
       → (q ≡ p) ⊎ HandGoesOn k b.copy.due.to (b.position + length b.copy.segment.payload) (q.clock + longest_way b.copy.due.to q.link) p q
 
+  -- a copy that lies outside the window, as one that came before, is answered, where the end opened
+  abbrev pub IsAnsweredOutside : Codec C → PathState C → PathState C → Type 0
+  IsAnsweredOutside k p q = (c : Comes k p) → IsTo k p c (judged.As Outside) → 3 ≤ stage (end_at c.due.to p).tcp.state
+      → (q ≡ p) ⊎ AnswerGoesOn k c.due.to (end_at c.due.to p).tcp.recv.edge (q.clock + longest_way c.due.to q.link) p q
+
   -- ---- any path
 
   -- as the path becomes this actor, with fewer than 2^64 - 1 segments sent from the side
   abbrev pub HandsGoOn : Codec C → Actor C → Actor C → Type 0
   HandsGoOn k (Path p) (Path q) =
-      ComesInHand k p q × ((s : Side) (position by : ℕ) → segments_sent s p.link < 2 ^ 64 - 1 → IsInHand s position by p → HandGoesOn k s position by p q)
+      ComesInHand k p q × (IsAnsweredOutside k p q × ((s : Side) (position by : ℕ) → segments_sent s p.link < 2 ^ 64 - 1 → IsInHand s position by p → HandGoesOn k s position by p q))
   HandsGoOn k (App a) (App b) = Unit {0}
   HandsGoOn k _ _ = ⊥
 

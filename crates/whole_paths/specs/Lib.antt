@@ -1,9 +1,11 @@
 pub mod AgendaSteps
 pub mod Answered
+pub mod Arrivals
 pub mod AsFar
 pub mod Brought
 pub mod Came
 pub mod Copies
+pub mod Due
 pub mod EndSteps
 pub mod Expiries
 pub mod Finish
@@ -21,5 +23,6 @@ pub mod Reasons
 pub mod Rounds
 pub mod Running
 pub mod Saying
+pub mod Sent
 pub mod Timers
 pub mod Waits

@@ -1,5 +1,5 @@
 -- How an acknowledgement that an end owes comes to the peer, whatever is lost (RFC 9293, section 3.10.7.4).
-use Rattle.std.specs.Prelude.{ℕ, ◌+◌, ◌-◌, ◌^◌, ◌≡◌, ◌<◌, ◌≤◌, ◌⊎◌, Bool, true, false, Some, length, slice_get}
+use Rattle.std.specs.Prelude.{ℕ, ◌+◌, ◌-◌, ◌^◌, ◌≡◌, ◌<◌, ◌≤◌, ◌⊎◌, Bool, true, false, Some, List, ◌∷◌, length, slice_get}
 use Rattle.sides.specs.declared.side.Side.{Side}
 use Rattle.sides.specs.Side.{peer}
 use Rattle.path_segments.specs.Spelled.{PlainSegment}
@@ -9,6 +9,9 @@ use Rattle.subflow_tcp.specs.States.{is_dead}
 use Rattle.subflow_tcp.specs.declared.segments.Outgoing.{Outgoing}
 use Rattle.path_store.specs.declared.lines.LineAction.TheVariants as actions
 use Rattle.path_store.specs.declared.lines.LineLeft.{LineLeft}
+use Rattle.path_agenda.specs.declared.duty.Duty.{Duty}
+use Rattle.path_agenda.specs.declared.duty.Duty.TheVariants as duties
+use Rattle.path_agenda.specs.declared.duty.StepDuty.TheVariants as step_duties
 use Rattle.path_core.specs.Codec.{Codec}
 use Rattle.path_core.specs.Events.{next_event}
 use Rattle.path_core.specs.Handover.{handed}
@@ -52,7 +55,8 @@ module _ {C : Type 0} where
     -- by the same tick
     on : IsAnswered k s position by q → AnswerGoesOn k s position by p q
     -- such a copy was what arrives next
-    arrives : (f : Flight C) → f.tick ≤ by → IsAnswer k s position p f → next_event p ≡ Some (happenings.Arrives (due_of f)) → AnswerGoesOn k s position by p q
+    arrives : (f : Flight C) → f.tick ≤ by → IsUnderWay f p → IsAnswer k s position p f → (others : List Duty) → p.agenda ≡ duties.Step step_duties.Events ∷ others
+        → next_event p ≡ Some (happenings.Arrives (due_of f)) → AnswerGoesOn k s position by p q
     -- a line was used by which a segment is lost or late
     harmed : harms_left q.link < harms_left p.link → AnswerGoesOn k s position by p q
     -- the link took such a segment, and lost it by the word drawn for it, or since its queue was full

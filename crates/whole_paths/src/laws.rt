@@ -3,11 +3,14 @@ ghost use Rattle.path_core.specs.Octets.{octets};
 ghost use Rattle.path_core.specs.Values.{values};
 ghost use Rattle.std.specs.Prelude.{ℕ, List};
 ghost use Rattle.world_laws.specs.Laws.{Always};
+ghost use Rattle.world_laws.specs.Promises.{HoldsAnyway, HoldsAnywayOfOctets};
 ghost use Rattle.whole_paths.specs.Answered.{CopiesAreAnswered};
+ghost use Rattle.whole_paths.specs.Arrivals.{EachCopyArrives, EachMappedRecordIsAPiece, EachPieceComesInOrder};
 ghost use Rattle.whole_paths.specs.AsFar.{NothingGoesBack};
 ghost use Rattle.whole_paths.specs.Brought.{WhatComesIsKept};
 ghost use Rattle.whole_paths.specs.Came.{WhatIsAcknowledgedCame};
 ghost use Rattle.whole_paths.specs.Copies.{CopiesLeaveByArriving};
+ghost use Rattle.whole_paths.specs.Due.{CopiesArriveAsSent};
 ghost use Rattle.whole_paths.specs.Expiries.{WhatRunsOutGoesAgain};
 ghost use Rattle.whole_paths.specs.Flights.{WhatWaitsComes};
 ghost use Rattle.whole_paths.specs.Harms.{EachUsesALineOrComes, PlainDirectionsHandOnAtOnce};
@@ -22,6 +25,7 @@ ghost use Rattle.whole_paths.specs.Passed.{WhatIsInOrderIsPassed};
 ghost use Rattle.whole_paths.specs.Reasons.{WhoWaitsHasATimer};
 ghost use Rattle.whole_paths.specs.Running.{TimersRunOn};
 ghost use Rattle.whole_paths.specs.Saying.{EachSegmentSaysWhatCame};
+ghost use Rattle.whole_paths.specs.Sent.{WhatCameWasSent};
 ghost use Rattle.whole_paths.specs.Timers.{TimersRunOut};
 ghost use Rattle.whole_paths.specs.Waits.{NoTimerIsPutOff};
 
@@ -94,8 +98,9 @@ pub fn timers_run_on()
 /// rules 5.4 to 5.6).
 ///
 /// The timer runs twice as long as before, and for a minute at most. The end sends the record before anything else, once the bytes that
-/// its path was granted are given back, and the link takes the segment as it takes any: with the record's position, flags and octets. The
-/// sixth expiry without an acceptable segment in between ends the end. Where no record is left, an acknowledgement goes in its place.
+/// its path was granted are given back, and the link takes the segment as it takes any: with the record's position, flags and octets, and
+/// the options and the acknowledgement of now. The sixth expiry without an acceptable segment in between ends the end. Where no record is
+/// left, an acknowledgement goes in its place.
 pub fn what_runs_out_goes_again()
     ensures octets { WhatRunsOutGoesAgain octets }
     ensures values { WhatRunsOutGoesAgain values }
@@ -138,10 +143,17 @@ pub fn each_acknowledgement_counts()
     ensures values { EachAcknowledgementCounts values }
 {}
 
-/// A law: nothing is acknowledged that didn't come: SND.UNA of each end that isn't dead lies at its peer's RCV.NXT or below, whatever is
-/// lost, late, repeated or altered (RFC 9293, section 3.4).
+/// A law: nothing is acknowledged that didn't come: SND.UNA of each end that isn't dead lies at its peer's RCV.NXT or below, and so does what
+/// each copy under way to it acknowledges, whatever is lost, late, repeated or altered (RFC 9293, section 3.4).
 pub fn what_is_acknowledged_came()
     ensures { Always values (λ start w. WhatIsAcknowledgedCame w) }
+{}
+
+/// A law: nothing came that wasn't sent: RCV.NXT of each end lies at its peer's SND.NXT or below, whatever is lost, late, repeated or altered
+/// (RFC 9293, section 3.4). Once RCV.NXT is past the peer's FIN, it lies at one position more at most.
+pub fn what_came_was_sent()
+    ensures values { HoldsAnyway WhatCameWasSent }
+    ensures octets { HoldsAnywayOfOctets WhatCameWasSent }
 {}
 
 /// A law: each octet that comes to an end is kept until RCV.NXT passes it (RFC 9293, section 3.10.7.4).
@@ -177,6 +189,20 @@ pub fn what_is_in_order_is_passed()
     ensures values { Always values (λ start w. WhatIsInOrderIsPassed w) }
 {}
 
+/// A law: a copy of a piece that comes to an open end is taken in order, with its mapping, or it came before (RFC 9293, section 3.10.7.4;
+/// RFC 8684, section 3.3.1).
+///
+/// The copy is neither stripped nor altered, on the path that opens the connection, without checksums, and a DSS maps its bytes. Where
+/// RCV.NXT is one of its positions, all of them lie in the window, what it acknowledges was sent, and the side didn't fall back to plain
+/// TCP, the end takes it. Where RCV.NXT is past it, it lies outside the window. `what_is_in_hand_is_acknowledged` says what follows of
+/// both. The segment of a record that an end sends with its own mapping is such a piece (`records`), and a copy of it that was under way
+/// comes so (`copies`).
+pub fn each_piece_comes_in_order()
+    ensures comes { EachPieceComesInOrder }
+    ensures records { EachMappedRecordIsAPiece }
+    ensures copies { EachCopyArrives }
+{}
+
 /// A law: what comes to an end in order, with its mapping, is acknowledged in the same turn (RFC 9293, section 3.10.7.4).
 ///
 /// A copy that the end takes, of whose octets none stands behind a gap or past the window, and whose first mapping names each from RCV.NXT on,
@@ -184,7 +210,8 @@ pub fn what_is_in_order_is_passed()
 /// turn, and the acknowledgement can come by the same tick; or RCV.NXT is past the position, and the answer that says so goes the way of each
 /// (`what_is_owed_comes`). No segment goes before but a reset, since the octet at RCV.NXT is passed first (`what_is_in_order_is_passed`). Or
 /// the end is dead, or reset next; or RCV.NXT is past the peer's FIN; or B has neither both keys nor fell back; or no mapping counts
-/// (`what_is_told_is_known`), or the peer sends by an infinite one. So it is without checksums.
+/// (`what_is_told_is_known`), or the peer sends by an infinite one. So it is without checksums. A copy outside the window, as one that came
+/// before, is answered at once, where the end isn't half-open.
 pub fn what_is_in_hand_is_acknowledged()
     ensures octets { WhatIsInHandIsAcknowledged octets }
     ensures values { WhatIsInHandIsAcknowledged values }
@@ -228,6 +255,13 @@ pub fn each_segment_uses_a_line_or_comes()
 pub fn a_copy_leaves_by_arriving()
     ensures octets { CopiesLeaveByArriving octets }
     ensures values { CopiesLeaveByArriving values }
+{}
+
+/// A law: what arrives as a copy is due, at its tick, at its side and with its number, carries what the copy does. So it is with the first
+/// 2^64 - 2 segments of a side, whose copies carry the same, and of which no two have one number.
+pub fn copies_arrive_as_sent()
+    ensures octets { Always octets (λ start w. CopiesArriveAsSent w) }
+    ensures values { Always values (λ start w. CopiesArriveAsSent w) }
 {}
 
 /// A law: on a lane that loses segments all is acknowledged, or the end gave up, after five rounds or so for each segment and two

@@ -2,24 +2,26 @@
 //!
 //! Definitions and laws alone, with no code. What was acknowledged, received, written, read and told never goes back (`nothing_goes_back`),
 //! and what isn't acknowledged is kept until it is (`what_waits_is_kept`). A segment that is sent uses a line of the script by which it is
-//! lost or late, or its direction loses it, or a copy of it comes as it is handed on (`each_segment_uses_a_line_or_comes`), and a copy leaves
-//! a link by arriving alone, or as the path dies (`a_copy_leaves_by_arriving`). Whoever waits for an answer has a timer that runs
-//! (`who_waits_has_a_timer`), for a minute at most (`timers_run_out`), and no event is passed by (`nothing_is_overdue`); news alone puts it
-//! off (`no_timer_is_put_off`, `timers_run_on`), and as it runs out the first record goes again (`what_runs_out_goes_again`). What is lost
-//! comes again within a minute and the longest time on its way (`what_waits_comes`), and what comes is kept until it is passed
-//! (`what_comes_is_kept`, `what_is_told_is_known`), and is passed and answered in its turn (`what_is_in_order_is_passed`,
-//! `what_is_in_hand_is_acknowledged`, `each_copy_is_answered_at_once`), by a segment that acknowledges all of it (`each_segment_says_what_came`) and nothing that didn't come
-//! (`what_is_acknowledged_came`). The answer comes to the peer (`what_is_owed_comes`), and the end that takes it hears it
-//! (`each_acknowledgement_counts`).
+//! lost or late, or its direction loses it, or a copy of it comes as it is handed on (`each_segment_uses_a_line_or_comes`), and a copy
+//! leaves a link by arriving alone, as it was sent (`copies_arrive_as_sent`), or as the path dies (`a_copy_leaves_by_arriving`). Whoever
+//! waits for an answer has a timer that runs (`who_waits_has_a_timer`), for a minute at most (`timers_run_out`), and no event is passed by
+//! (`nothing_is_overdue`); news alone puts it off (`no_timer_is_put_off`, `timers_run_on`), and as it runs out the first record goes again
+//! (`what_runs_out_goes_again`). What is lost comes again within a minute and the longest time on its way (`what_waits_comes`), and what
+//! comes is kept until it is passed (`what_comes_is_kept`, `what_is_told_is_known`), and is passed and answered in its turn
+//! (`each_piece_comes_in_order`, `what_is_in_order_is_passed`, `what_is_in_hand_is_acknowledged`, `each_copy_is_answered_at_once`), by a
+//! segment that acknowledges all of it (`each_segment_says_what_came`) and nothing that didn't come (`what_is_acknowledged_came`), as
+//! nothing came that wasn't sent (`what_came_was_sent`). The answer comes to the peer (`what_is_owed_comes`), and the end that takes it
+//! hears it (`each_acknowledgement_counts`).
 #![tactic(auto)]
 
 mod laws;
 
 pub use laws::{
-    a_copy_leaves_by_arriving, each_acknowledgement_counts, each_copy_is_answered_at_once,
-    each_segment_says_what_came, each_segment_uses_a_line_or_comes, lossy_lanes_finish,
-    no_timer_is_put_off, nothing_goes_back, nothing_is_overdue, timers_run_on, timers_run_out,
-    what_comes_is_kept, what_is_acknowledged_came, what_is_in_hand_is_acknowledged,
-    what_is_in_order_is_passed, what_is_owed_comes, what_is_told_is_known,
-    what_runs_out_goes_again, what_waits_comes, what_waits_is_kept, who_waits_has_a_timer,
+    a_copy_leaves_by_arriving, copies_arrive_as_sent, each_acknowledgement_counts,
+    each_copy_is_answered_at_once, each_piece_comes_in_order, each_segment_says_what_came,
+    each_segment_uses_a_line_or_comes, lossy_lanes_finish, no_timer_is_put_off, nothing_goes_back,
+    nothing_is_overdue, timers_run_on, timers_run_out, what_came_was_sent, what_comes_is_kept,
+    what_is_acknowledged_came, what_is_in_hand_is_acknowledged, what_is_in_order_is_passed,
+    what_is_owed_comes, what_is_told_is_known, what_runs_out_goes_again, what_waits_comes,
+    what_waits_is_kept, who_waits_has_a_timer,
 };

@@ -1,0 +1,257 @@
+-- A piece that comes to an open end is taken in order, with its mapping, or came before.
+use Rattle.std.proofs.Common.{◌≡◌, refl, sym, subst, ap, ◌∙◌, ℕ, ◌+◌, ◌-◌, ◌^◌, ◌<◌, ◌≤◌, arith, min, nat_lt, nat_le, ◌==◌, Bool, true, false, true≢false, not, ◌&&◌, ◌||◌, if◌then◌else◌, Option, Some, is_none, List, [], ◌∷◌, ◌++◌, length, map}
+use Rattle.std.specs.Prelude.{option_map}
+use Rattle.std.specs.List.{list_any, flat_map}
+use Rattle.std.proofs.lemmas.Bool.{le-leb, lt-ltb, le-ltb, lt-leb, ne_eqb}
+use Rattle.std.proofs.lemmas.List.Folds.{list_any-append}
+use Rattle.path_segments.specs.Heard.{HeardSegment}
+use Rattle.path_segments.specs.Laws.{meant, meant_option}
+use Rattle.path_segments.specs.Options.{PlainOption}
+use Rattle.path_segments.specs.Spelled.{PlainSegment}
+use Rattle.path_segments.specs.declared.position.HeardPosition.TheVariants.{At}
+use Rattle.path_segments.specs.declared.segment.PathMapping.TheVariants.{Bytes}
+use Rattle.path_segments.specs.declared.segment.PathOption.TheVariants.{Dss}
+use Rattle.sides.specs.declared.side.Side.{Side}
+use Rattle.sides.specs.declared.side.Side.TheVariants.{A, B}
+use Rattle.sides.specs.Side.{peer}
+use Rattle.link_model.specs.Steps.{changed, due_of}
+use Rattle.dss_mapping.specs.declared.kept.KeptMapping.{KeptMapping}
+use Rattle.link_model.specs.declared.flight.Flight.{Flight}
+use Rattle.subflow_send.specs.Rules.{is_fin}
+use Rattle.subflow_tcp.specs.Emitting.{is_syn}
+use Rattle.subflow_tcp.specs.Judging.{meaning_of, meaning_at, meaning_connected, meaning_placed, meaning_within, meaning_acknowledging, meaning_outside, is_repeated_syn, is_in_window, ends_in_window, is_at_right_edge, is_acceptable, is_at}
+use Rattle.subflow_tcp.specs.Segments.{Copy, occupied, one_if}
+use Rattle.subflow_tcp.specs.State.{EndState, is_at_limit}
+use Rattle.subflow_tcp.specs.States.{is_dead, is_half_open}
+use Rattle.subflow_tcp.specs.declared.handshake.State.{State as EndPhase}
+use Rattle.subflow_tcp.specs.declared.handshake.State.TheVariants as phase
+use Rattle.subflow_tcp.specs.declared.verdicts.Meaning.{Meaning}
+use Rattle.subflow_tcp.specs.declared.verdicts.Meaning.TheVariants as means
+use Rattle.path_agenda.specs.declared.heard.Heard.TheVariants as says
+use Rattle.path_core.specs.Arrival.{copy_of, heard_in, acknowledged_in}
+use Rattle.path_core.specs.DssIn.{HeardOption, held_in, is_mapping, kept_of, checksum_heard, ack_items}
+use Rattle.path_core.specs.DssOut.{checksum_told, first_piece_options, infinite_or, mapped_options, place_numbered, plain_options}
+use Rattle.path_core.specs.End.{PathEnd}
+use Rattle.path_core.specs.Judged.{judged_of}
+use Rattle.path_core.specs.OptionsIn.{items_in, items_of, options_heard}
+use Rattle.path_core.specs.OptionsOut.{record_options}
+use Rattle.path_core.specs.Profile.{Profile}
+use Rattle.path_core.specs.State.{PathState, end_at}
+use Rattle.path_core.specs.Values.{carried_by, Carried, as_arrived, values}
+use Rattle.path_core.specs.declared.judged.Judged.TheVariants as judged
+use Rattle.whole_paths.specs.AsFar.{stage}
+use Rattle.whole_paths.specs.Arrivals.{IsPiece, EachMappedRecordIsAPiece, EachCopyArrives, Takes, CameBefore, Arrival, ComesInOrder, ComesAgain, EachPieceComesInOrder}
+use Rattle.whole_paths.specs.Brought.{Comes, IsTo}
+use Rattle.whole_paths.specs.Mapped.{says_mapping}
+
+-- ---- the segment of a record
+
+pub each_mapped_record_is_a_piece : EachMappedRecordIsAPiece
+each_mapped_record_is_a_piece c s r e x m of_it says = record {
+  syn = of_it.syn ∙ ap is_syn m.kind;
+  fin = of_it.fin ∙ ap is_fin m.kind;
+  rst = of_it.rst;
+  some = subst (λ (octets : List ℕ). 0 < length octets) (sym of_it.payload) m.some;
+  next = e.receiving.next;
+  place = place_numbered c s r.mapping.number;
+  checksum = checksum_told c r.mapping.checksum;
+  options = says.options
+      ∙ ap (λ kind. record_options kind c s r e) m.kind
+      ∙ ap (λ b. if b then plain_options r.pos e else infinite_or e.modes.own_infinite (mapped_options c s r e) e) m.mapped
+      ∙ ap (λ o. infinite_or o (mapped_options c s r e) e) m.finite
+      ∙ ap (λ b. if b then first_piece_options c e.modes.peer_key r e else option_at r.pos r.mapping.length) m.told
+      ∙ ap (λ n. option_at r.pos n) (m.whole ∙ ap length (sym of_it.payload))
+      ∙ ap (λ n. option_at n (length x.payload)) (sym of_it.position);
+  behind_syn = subst (λ n. 0 < n) (sym of_it.position) m.behind_syn;
+  low = subst (λ (octets : List ℕ). place_numbered c s r.mapping.number + length octets ≤ 2 ^ 62) (sym of_it.payload) m.low;
+  short = subst (λ n. n + length x.payload < 2 ^ 64 - 1) (sym of_it.position) (subst (λ (octets : List ℕ). r.pos + length octets < 2 ^ 64 - 1) (sym of_it.payload) m.short);
+}
+  where
+    option_at : ℕ → ℕ → List PlainOption
+    option_at position len = Dss (Some e.receiving.next) (Some (Bytes (place_numbered c s r.mapping.number) position len false (checksum_told c r.mapping.checksum))) ∷ []
+
+-- ---- a copy that was under way
+
+sender_of : (s : Side) → peer (peer s) ≡ s
+sender_of A = refl
+sender_of B = refl
+
+pub each_copy_arrives : EachCopyArrives
+each_copy_arrives s r p f copy whole same there few arrive others first next path sums =
+    let comes = arrive f there few in record {
+      others = others;
+      first = first;
+      due = due_of f;
+      next = next;
+      flight = comes.first;
+      there = comes.there;
+      carried = comes.same ∙ copy.carried
+          ∙ ap (λ b. changed (values.strips p.profile.spelling s) (values.alters p.profile.spelling s) b copy.altered (carried_by p.profile.spelling s copy.segment)) whole
+          ∙ ap (λ b. changed (values.strips p.profile.spelling s) (values.alters p.profile.spelling s) false b (carried_by p.profile.spelling s copy.segment)) same
+          ∙ ap (λ t. carried_by p.profile.spelling t copy.segment) (sym (ap peer copy.to ∙ sender_of s));
+      joined = path;
+      no_sums = sums;
+    }
+
+-- ---- what it means
+
+and_false : (b : Bool) → (b && false) ≡ false
+and_false true = refl
+and_false false = refl
+
+past_connected : (state : EndPhase) (c : Copy) (s : EndState) → 2 ≤ stage state → is_dead state ≡ false → meaning_at state c s ≡ meaning_connected c s
+past_connected phase.Waiting c s high living = absurd (omega (arith, high))
+past_connected phase.Listen c s high living = absurd (omega (arith, high))
+past_connected phase.SynSent c s high living = absurd (omega (arith, high))
+past_connected phase.Dead c s high living = absurd (true≢false living)
+past_connected _ c s high living = refl
+
+unrepeated : (b : Bool) (c : Copy) → c.syn ≡ false → (not b && (c.syn && (not c.rst && (is_none c.acknowledged && is_at 0 c.position)))) ≡ false
+unrepeated true c syn = refl
+unrepeated false c syn = ap (λ b. b && (not c.rst && (is_none c.acknowledged && is_at 0 c.position))) syn
+
+within_so : (edge pos len octets : ℕ) → 0 < len → edge < pos + len → pos + len ≤ edge + 1048576 → (is_in_window edge pos || (ends_in_window edge pos len || is_at_right_edge edge pos octets)) ≡ true
+within_so edge pos len octets some new last = elim (is_in_window edge pos) as (λ b. (b || (ends_in_window edge pos len || is_at_right_edge edge pos octets)) ≡ true)
+    [ true ↦ refl | false ↦ ap (λ b. b || is_at_right_edge edge pos octets) ends ]
+  where
+    ends : ends_in_window edge pos len ≡ true
+    ends = ap (λ b. b && (nat_le edge (pos + (len - 1)) && nat_lt (pos + (len - 1)) (edge + 1048576))) (lt-ltb 0 len some)
+        ∙ ap (λ b. b && nat_lt (pos + (len - 1)) (edge + 1048576)) (le-leb edge (pos + (len - 1)) (omega (arith, some, new)))
+        ∙ lt-ltb (pos + (len - 1)) (edge + 1048576) (omega (arith, some, last))
+
+outside_so : (edge pos len octets : ℕ) → 0 < len → 0 < octets → pos + len ≤ edge → (is_in_window edge pos || (ends_in_window edge pos len || is_at_right_edge edge pos octets)) ≡ false
+outside_so edge pos len octets some more low =
+    ap (λ b. (b && nat_lt pos (edge + 1048576)) || (ends_in_window edge pos len || is_at_right_edge edge pos octets)) (lt-leb edge pos (omega (arith, some, low)))
+    ∙ ap (λ b. (nat_lt 0 len && (b && nat_lt (pos + (len - 1)) (edge + 1048576))) || is_at_right_edge edge pos octets) (lt-leb edge (pos + (len - 1)) (omega (arith, some, low)))
+    ∙ ap (λ b. b || is_at_right_edge edge pos octets) (and_false (nat_lt 0 len))
+    ∙ ap (λ b. b && pos == edge + 1048576) (ne_eqb octets 0 (λ none. omega (arith, more, none)))
+
+-- a copy without flags, which the end takes, or which lies outside the window
+module _ (c : Copy) (s : EndState) (pos acknowledged : ℕ) where
+  acked_so : 0 < acknowledged → acknowledged ≤ s.send.nxt → meaning_acknowledging (Some acknowledged) pos s ≡ means.Taken pos acknowledged
+  acked_so some sent =
+      ap (λ b. if b then means.Ahead else (if is_half_open s.state && acknowledged == 0 then means.Unacknowledging else means.Taken pos acknowledged)) (le-ltb s.send.nxt acknowledged sent)
+      ∙ ap (λ b. if is_half_open s.state && b then means.Unacknowledging else means.Taken pos acknowledged) (ne_eqb acknowledged 0 (λ none. omega (arith, some, none)))
+      ∙ ap (λ b. if b then means.Unacknowledging else means.Taken pos acknowledged) (and_false (is_half_open s.state))
+
+  taken_so : 2 ≤ stage s.state → is_dead s.state ≡ false → is_at_limit s ≡ false → c.syn ≡ false → c.rst ≡ false → c.position ≡ Some pos → c.acknowledged ≡ Some acknowledged
+      → is_acceptable s.recv.edge pos c ≡ true → 0 < acknowledged → acknowledged ≤ s.send.nxt → meaning_of c s ≡ means.Taken pos acknowledged
+  taken_so opened living limit syn rst at acks accepted some sent =
+      past_connected s.state c s opened living
+      ∙ ap (λ b. if b then means.Ignored else (if is_repeated_syn c s then means.RepeatedSyn else meaning_placed c.position c s)) limit
+      ∙ ap (λ b. if b then means.RepeatedSyn else meaning_placed c.position c s) (unrepeated s.numbers.opens c syn)
+      ∙ ap (λ o. meaning_placed o c s) at
+      ∙ ap (λ b. if b then meaning_within pos c s else meaning_outside c) accepted
+      ∙ ap (λ b. if b then (if pos == s.recv.edge then means.Kills else means.Challenged) else (if c.syn then means.Challenged else meaning_acknowledging c.acknowledged pos s)) rst
+      ∙ ap (λ b. if b then means.Challenged else meaning_acknowledging c.acknowledged pos s) syn
+      ∙ ap (λ o. meaning_acknowledging o pos s) acks
+      ∙ acked_so some sent
+
+  again_so : 2 ≤ stage s.state → is_dead s.state ≡ false → is_at_limit s ≡ false → c.syn ≡ false → c.rst ≡ false → c.position ≡ Some pos → is_acceptable s.recv.edge pos c ≡ false → meaning_of c s ≡ means.Outside
+  again_so opened living limit syn rst at outside =
+      past_connected s.state c s opened living
+      ∙ ap (λ b. if b then means.Ignored else (if is_repeated_syn c s then means.RepeatedSyn else meaning_placed c.position c s)) limit
+      ∙ ap (λ b. if b then means.RepeatedSyn else meaning_placed c.position c s) (unrepeated s.numbers.opens c syn)
+      ∙ ap (λ o. meaning_placed o c s) at
+      ∙ ap (λ b. if b then meaning_within pos c s else meaning_outside c) outside
+      ∙ ap (λ b. if b then means.Ignored else means.Outside) rst
+
+-- ---- what it maps
+
+module _ (c : Profile) (t : Side) (next place pos len : ℕ) (checksum : Option ℕ) (behind : 0 < pos) (low : place + len ≤ 2 ^ 62) where
+  fits : is_mapping place pos len ≡ true
+  fits = ap (λ b. b && nat_le (place + len) (2 ^ 62)) (lt-ltb 0 pos behind) ∙ le-leb (place + len) (2 ^ 62) low
+
+  abbrev option : HeardOption
+  option = Dss (Some (Some next)) (Some (Bytes (Some place) (Some pos) len false checksum))
+
+  kept : KeptMapping
+  kept = kept_of c t place pos len false (checksum_heard checksum)
+
+  held_one : flat_map (held_in c t) (option ∷ []) ≡ kept_of c t place pos len false (checksum_heard checksum) ∷ []
+  held_one = ap (λ b. (if b then kept_of c t place pos len false (checksum_heard checksum) ∷ [] else []) ++ []) fits
+
+  says_one : (window : ℕ) → list_any says_mapping (flat_map (items_in false t window) (option ∷ [])) ≡ true
+  says_one window =
+      ap (λ b. list_any says_mapping ((ack_items (Some (Some next)) window ++ (if b then says.Mapping false ∷ [] else [])) ++ [])) fits
+      ∙ list_any-append says_mapping (ack_items (Some (Some next)) window ++ (says.Mapping false ∷ [])) []
+      ∙ ap (λ b. b || false) (list_any-append says_mapping (ack_items (Some (Some next)) window) (says.Mapping false ∷ []) ∙ or_true (list_any says_mapping (ack_items (Some (Some next)) window)))
+    where
+      or_true : (b : Bool) → (b || true) ≡ true
+      or_true true = refl
+      or_true false = refl
+
+-- ---- a copy
+
+module _ (x : PlainSegment) (p : PathState Carried) (a : Arrival x p) (piece : IsPiece x) where
+  abbrev to : Side
+  to = a.due.to
+
+  abbrev e : PathEnd
+  e = end_at to p
+
+  abbrev said : HeardSegment
+  said = options_heard e (meant x)
+
+  len_so : occupied (copy_of said) ≡ length x.payload
+  len_so = ap (λ b. length x.payload + (one_if b + one_if x.fin)) piece.syn ∙ ap (λ b. length x.payload + (one_if false + one_if b)) piece.fin ∙ omega arith
+
+  abbrev copy : Comes values p
+  copy = record {
+    others = a.others;
+    first = a.first;
+    due = a.due;
+    next = a.next;
+    segment = meant x;
+    heard = ap (λ (o : Option (Flight Carried)). heard_in values to o p) a.there ∙ ap (λ (c : Carried). Some (meant (as_arrived c))) a.carried;
+  }
+
+  is_to : (m : Meaning) → meaning_of (copy_of said) e.tcp ≡ m → IsTo values p copy (judged.As m)
+  is_to m is = ap (λ j. judged_of j said.rst (items_of j to said) (meaning_of (copy_of said) e.tcp) e) a.joined ∙ ap (λ m. judged.As m) is
+
+  in_order : Takes x e → ComesInOrder x p
+  in_order takes = record {
+    brings = record {
+      copy = copy;
+      position = x.position;
+      acknowledged = takes.acknowledged;
+      taken = is_to (means.Taken x.position takes.acknowledged) (taken_so (copy_of said) e.tcp x.position takes.acknowledged takes.opened takes.living takes.below_limit piece.syn piece.rst refl
+          (ap (λ (o : Option ℕ). acknowledged_in (option_map (λ n. At n) o)) takes.acknowledges) accepted takes.answered takes.sent);
+    };
+    payload = refl;
+    position = refl;
+    in_order = record {
+      starts = takes.starts;
+      some = piece.some;
+      within = takes.within;
+      mapping = kept_of p.profile to piece.place x.position (length x.payload) false (checksum_heard piece.checksum);
+      others = [];
+      held = ap (λ (os : List HeardOption). flat_map (held_in p.profile to) os) options ∙ held_one p.profile to piece.next piece.place x.position (length x.payload) piece.checksum piece.behind_syn piece.low;
+      says = ap (λ j. list_any says_mapping (items_of j to said)) a.joined
+          ∙ ap (λ (os : List HeardOption). list_any says_mapping (flat_map (items_in false to said.window) os)) options
+          ∙ says_one p.profile to piece.next piece.place x.position (length x.payload) piece.checksum piece.behind_syn piece.low said.window;
+      names = λ pos from below. ap (λ b. b && nat_lt pos (min (x.position + length x.payload) (2 ^ 64 - 1))) (le-leb x.position pos (let first = takes.starts in omega (arith, first, from)))
+          ∙ lt-ltb pos (min (x.position + length x.payload) (2 ^ 64 - 1)) (let short = piece.short in omega (arith, below, short));
+      no_sums = a.no_sums;
+    };
+  }
+    where
+      options : said.options ≡ Dss (Some (Some piece.next)) (Some (Bytes (Some piece.place) (Some x.position) (length x.payload) false piece.checksum)) ∷ []
+      options = ap (λ b. if b then [] else map meant_option x.options) takes.mapped ∙ ap (λ os. map meant_option os) piece.options
+
+      accepted : is_acceptable e.tcp.recv.edge x.position (copy_of said) ≡ true
+      accepted = within_so e.tcp.recv.edge x.position (occupied (copy_of said)) (length x.payload)
+          (subst (λ n. 0 < n) (sym len_so) piece.some)
+          (subst (λ n. e.tcp.recv.edge < x.position + n) (sym len_so) takes.new)
+          (subst (λ n. x.position + n ≤ e.tcp.recv.edge + 1048576) (sym len_so) takes.in_window)
+
+  again : CameBefore x e → ComesAgain p
+  again before = record {
+    copy = copy;
+    outside = is_to means.Outside (again_so (copy_of said) e.tcp x.position 0 before.opened before.living before.below_limit piece.syn piece.rst refl
+        (outside_so e.tcp.recv.edge x.position (occupied (copy_of said)) (length x.payload)
+        (subst (λ n. 0 < n) (sym len_so) piece.some) piece.some (subst (λ n. x.position + n ≤ e.tcp.recv.edge) (sym len_so) before.passed)));
+  }
+
+pub each_piece_comes_in_order : EachPieceComesInOrder
+each_piece_comes_in_order x p a piece = (in_order x p a piece, again x p a piece)
