@@ -26,7 +26,7 @@ use Rattle.world_laws.proofs.Lanes.SentRecords.{SentShows, RisesTo, Gone, gone}
 use Rattle.world_laws.proofs.Lanes.Showing.{HasPair, HasFin, HasSub, PairTold, OwnIs, EndShows, PathShows}
 use Rattle.world_laws.proofs.Lanes.Sides.{SideDid, Answered, side_answered, side_kept}
 use Rattle.world_laws.proofs.Lanes.Strolling.{out_holds}
-use Rattle.world_laws.proofs.Lanes.EndParts.{end_parts, end_whole, new_sender, new_receiver, new_treated, new_pairs}
+use Rattle.world_laws.proofs.Lanes.EndParts.{new_sender, new_receiver, new_treated, new_pairs}
 
 -- ---- marks
 
@@ -179,14 +179,14 @@ module _ (c : Profile) (s : Side) (out back : Lane) where
   -- it goes on by what the book answered
   pub with_mapping : (e : PathEnd) (own : Option InfiniteMapping) → IfSome own (OwnIs out.pair out.pairs out.fins out.alters) → EndShows c s e out back
       → EndShows c s (record e { treated = record e.treated { infinite_mapping = own } }) out back
-  with_mapping e own is h = end_whole (new_treated (record { items = h.treated.items; fins = h.treated.fins; answer = h.treated.answer; window = h.treated.window; sub = h.treated.sub; nothing = h.treated.nothing })
-      (new_pairs ((h.pairs.0, h.pairs.1, h.pairs.2, is, h.pairs.4, h.pairs.5)) (end_parts h)))
+  with_mapping e own is h = new_treated h.treated
+      (new_pairs ((h.pairs.0, h.pairs.1, h.pairs.2, is, h.pairs.4, h.pairs.5)) h)
 
   -- the lane that the book was given to
   pub given_shows : (m : Pair) (e : PathEnd) → (IfSome e.modes.own_infinite (OwnIs out.pair out.pairs out.fins out.alters) → e.modes.own_infinite ≡ None) → out.alters ≡ true
       → (g : Gone e.tcp.send.nxt m.place e.sending.granted out.sent out.fins) → m.pos ≡ g.pos → EndShows c s e out back
       → EndShows c s (record e { treated = record e.treated { infinite_mapping = Some (infinite_from m.place e) } }) (with_pair_told m out) back
-  given_shows m e none alters g at h = end_whole (new_sender (record {
+  given_shows m e none alters g at h = new_sender (record {
     plain = h.sender.plain;
     next = h.sender.next;
     unfinished = h.sender.unfinished;
@@ -204,7 +204,7 @@ module _ (c : Profile) (s : Side) (out back : Lane) where
       rising = subst (λ pos. RisesAt (record { pos = pos; place = m.place })) (sym at) g.rising;
     };
   })
-      (new_treated (record { items = h.treated.items; fins = h.treated.fins; answer = h.treated.answer; window = h.treated.window; sub = h.treated.sub; nothing = h.treated.nothing })
+      (new_treated h.treated
       (new_pairs ((
         subst (λ o. IfSome o (OwnIs (Some m) (with_pair_told m out).pairs out.fins out.alters)) (sym (none h.pairs.0)) tt,
         h.pairs.1,
@@ -212,7 +212,7 @@ module _ (c : Profile) (s : Side) (out back : Lane) where
         record { item = m; there = refl; place_is = refl; position_is = stands; told = said stands; may = alters },
         h.pairs.4,
         h.pairs.5,
-      )) (end_parts h))))
+      )) h))
     where
       RisesAt : Pair → Type 0
       RisesAt = RisesTo out.sent e.sending.granted
@@ -231,7 +231,7 @@ module _ (c : Profile) (s : Side) (out back : Lane) where
   pub sends_by : (o : Option InfiniteMapping) (b : Bool) (e : PathEnd) → e.treated.infinite_mapping ≡ o → EndShows c s e out back → EndShows c s (sending_infinite o b e) out back
   sends_by None b e is h = h
   sends_by (Some mapping) false e is h = h
-  sends_by (Some mapping) true e is h = end_whole (new_sender (record {
+  sends_by (Some mapping) true e is h = new_sender (record {
     plain = h.sender.plain;
     next = h.sender.next;
     unfinished = h.sender.unfinished;
@@ -244,7 +244,7 @@ module _ (c : Profile) (s : Side) (out back : Lane) where
     sent = h.sender.sent;
   })
       (new_receiver (record { same_mode = h.receiver.same_mode; edge = h.receiver.edge; fin = h.receiver.fin; mapped = h.receiver.mapped })
-      (new_pairs ((subst (λ o. IfSome o (OwnIs out.pair out.pairs out.fins out.alters)) is h.pairs.3, h.pairs.1, h.pairs.2, h.pairs.3, h.pairs.4, h.pairs.5)) (end_parts h))))
+      (new_pairs ((subst (λ o. IfSome o (OwnIs out.pair out.pairs out.fins out.alters)) is h.pairs.3, h.pairs.1, h.pairs.2, h.pairs.3, h.pairs.4, h.pairs.5)) h))
 
 -- ---- what the subflow acknowledges
 

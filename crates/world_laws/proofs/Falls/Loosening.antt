@@ -16,7 +16,7 @@ use Rattle.world_laws.proofs.Lanes.Roads.{Strolls, stays, one_move, put_there}
 use Rattle.world_laws.proofs.Lanes.Showing.{PairTold, PeerIs, HasFin, EndShows, PathShows}
 use Rattle.world_laws.proofs.Lanes.Sides.{SideDid, Answered}
 use Rattle.world_laws.proofs.Lanes.Strolling.{did_on_path}
-use Rattle.world_laws.proofs.Lanes.EndParts.{end_parts, end_whole, new_receiver, new_acks, new_treated, new_pairs}
+use Rattle.world_laws.proofs.Lanes.EndParts.{new_receiver, new_acks, new_treated, new_pairs}
 
 -- ---- the verdict
 
@@ -152,10 +152,10 @@ module _ (c : Profile) (s : Side) (out back : Lane) where
       back_moves = strolls;
       sender = sender_stays out;
       receiver = taken_goes t;
-      shows = end_whole (new_receiver (record { same_mode = sym above; edge = same_edge refl refl refl (λ position octets has. has) h.receiver.edge; fin = h.receiver.fin; mapped = h.receiver.mapped })
+      shows = new_receiver (record { same_mode = sym above; edge = same_edge refl refl refl (λ position octets has. has) h.receiver.edge; fin = h.receiver.fin; mapped = h.receiver.mapped })
           (new_acks (record { windows = h.acks.windows; latest = h.acks.latest; due = h.acks.due; sub = h.acks.sub })
-          (new_treated (record { items = h.treated.items; fins = h.treated.fins; answer = h.treated.answer; window = h.treated.window; sub = h.treated.sub; nothing = h.treated.nothing })
-          (new_pairs ((h.pairs.0, peer, λ above some. refl, h.pairs.3, h.pairs.4, h.pairs.5)) (end_parts h)))));
+          (new_treated h.treated
+          (new_pairs ((h.pairs.0, peer, λ above some. refl, h.pairs.3, h.pairs.4, h.pairs.5)) h)));
     }
 
     pub taken_end : PairTold back.pairs back.fins place position → Did c s (with_peer_infinite place position e) out out back (loosened back)

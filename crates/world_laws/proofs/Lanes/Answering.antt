@@ -26,7 +26,7 @@ use Rattle.world_laws.proofs.Lanes.Saying.{TellsFalls, RecordTold, ack_says, syn
 use Rattle.world_laws.proofs.Lanes.Showing.{HasMapping, HasFin, KindShows, RecordShows, EndShows, SegmentShows, PathShows, HasNone}
 use Rattle.world_laws.proofs.Lanes.Sides.{SideDid, Answered, IsQuiet, side_kept, side_sent, quiet, quiet_side, told_side}
 use Rattle.world_laws.proofs.Lanes.Strolling.{Strolled, side_shows}
-use Rattle.world_laws.proofs.Lanes.EndParts.{end_parts, end_whole, new_sender, new_pairs}
+use Rattle.world_laws.proofs.Lanes.EndParts.{new_sender, new_pairs}
 
 -- ---- what holds of the lanes
 
@@ -67,7 +67,7 @@ falls_told c s e out back h = record { own = IfSome-map e.modes.own_infinite (λ
 
 -- an end whose lane sent the infinite mapping of a position
 pub paired_shows : (c : Profile) (s : Side) (pos : ℕ) (e : PathEnd) (out back : Lane) → EndShows c s e out back → EndShows c s e (with_plain_pair out pos) back
-paired_shows c s pos e out back h = end_whole (new_sender (record {
+paired_shows c s pos e out back h = new_sender (record {
   plain = h.sender.plain;
   next = h.sender.next;
   unfinished = h.sender.unfinished;
@@ -79,7 +79,7 @@ paired_shows c s pos e out back h = end_whole (new_sender (record {
   fin_acked = h.sender.fin_acked;
   sent = h.sender.sent;
 })
-    (new_pairs (sender_pairs e.modes e.treated.infinite_mapping e.treated.failed_mapping out (with_plain_pair out pos) back (plain_pair_goes out pos) refl h.pairs) (end_parts h)))
+    (new_pairs (sender_pairs e.modes e.treated.infinite_mapping e.treated.failed_mapping out (with_plain_pair out pos) back (plain_pair_goes out pos) refl h.pairs) h)
 
 -- ---- a step of the path
 
@@ -225,7 +225,7 @@ module _ (six : SixBooks) (others : Others) (p : PathState Carried) (ab ba : Lan
         (closed (having_sent Occasion.Ack p.clock (fast_close_of s p) e) (sent_end p.profile s out back Occasion.Ack p.clock (fast_close_of s p) e shows))
       where
         closed : (f : PathEnd) → EndShows p.profile s f out back → EndShows p.profile s (with_fast_closed f) out back
-        closed f x = record { sender = x.sender; receiver = x.receiver; acks = x.acks; told = x.told; treated = x.treated; held = x.held; pairs = x.pairs }
+        closed f x = x
 
     noted_shows : IsCalm → (o : Option OwnNotice) → SegmentShows p.profile s back.acks out (noted_said p.profile s o e)
     noted_shows calm = noted_says p.profile s e back.acks out shows.acks.windows fell (shows.acks.sub calm)
@@ -236,7 +236,7 @@ module _ (six : SixBooks) (others : Others) (p : PathState Carried) (ab ba : Lan
         (noted (having_sent Occasion.Ack p.clock (note_of s p) e) (sent_end p.profile s out back Occasion.Ack p.clock (note_of s p) e shows))
       where
         noted : (f : PathEnd) → EndShows p.profile s f out back → EndShows p.profile s (with_noted f) out back
-        noted f x = record { sender = x.sender; receiver = x.receiver; acks = x.acks; told = x.told; treated = x.treated; held = x.held; pairs = x.pairs }
+        noted f x = x
 
     pub syn_ack_step : (ds : List Duty) → Steps (sends values s (syn_ack_of s p) p) (sent_on values s (syn_ack_of s p) (having_sent Occasion.SynAck p.clock (syn_ack_of s p) e) ds p)
     syn_ack_step ds = occasion_step s (syn_ack_of s p) Occasion.SynAck ds (syn_ack_says p.profile s e back.acks out shows.acks.windows fell)
@@ -288,7 +288,7 @@ module _ (six : SixBooks) (others : Others) (p : PathState Carried) (ab ba : Lan
         (ended (having_sent Occasion.Ack p.clock (data_fin_segment s p) e) (sent_end p.profile s out back Occasion.Ack p.clock (data_fin_segment s p) e shows))
       where
         ended : (f : PathEnd) → EndShows p.profile s f out back → EndShows p.profile s (record f { sending = with_data_fin_sent f.sending }) out back
-        ended f x = record { sender = x.sender; receiver = x.receiver; acks = x.acks; told = x.told; treated = x.treated; held = x.held; pairs = x.pairs }
+        ended f x = x
 
     -- the FIN, by a move of the lane; in plain TCP the infinite mapping of its position is sent with it
     pub fin_step : IsCalm → states.may_finish e.tcp.state ≡ true → Strolls out (with_fin_sent out) → Steps (sends values s (fin_segment_of s p) p) (answered_fin values s p)

@@ -15,7 +15,7 @@ use Rattle.world_laws.proofs.Lanes.Roads.{moves, Strolls, stays}
 use Rattle.world_laws.proofs.Lanes.SentRecords.{granted_sent, heard_sent, finished_sent}
 use Rattle.world_laws.proofs.Lanes.Showing.{HasNumber, HasFin, KindShows, RecordShows, is_unfinished, TreatedShows, EndShows, HasNone, IsAtEdge, IsGrantedTo, IsPastFin, OwnIs, PeerIs, PairsShow}
 use Rattle.world_laws.proofs.Lanes.Records.{every_cons, every_first, every_rest}
-use Rattle.world_laws.proofs.Lanes.EndParts.{end_parts, end_whole, new_sender, new_receiver, new_acks, new_told, new_treated, new_pairs}
+use Rattle.world_laws.proofs.Lanes.EndParts.{new_sender, new_receiver, new_acks, new_told, new_treated, new_pairs}
 
 -- an end that may finish hasn't finished
 pub unfinished_if : (state : EndPhase) → states.may_finish state ≡ true → is_unfinished state ≡ true
@@ -74,7 +74,7 @@ module _ (c : Profile) (s : Side) (out back : Lane) where
 
   -- an end falls back by one rule alone
   pub with_modes : (e : PathEnd) (m : Modes) → Alike m e.modes → EndShows c s e out back → EndShows c s (record e { modes = m }) out back
-  with_modes e m same h = end_whole (new_sender (record {
+  with_modes e m same h = new_sender (record {
     plain = h.sender.plain ∙ sym same.identity;
     next = h.sender.next;
     unfinished = h.sender.unfinished;
@@ -87,7 +87,7 @@ module _ (c : Profile) (s : Side) (out back : Lane) where
     sent = h.sender.sent;
   })
       (new_receiver (record { same_mode = h.receiver.same_mode ∙ sym same.identity; edge = h.receiver.edge; fin = h.receiver.fin; mapped = h.receiver.mapped })
-      (new_pairs (alike_pairs m e.modes e.treated.infinite_mapping e.treated.failed_mapping out back same h.pairs) (end_parts h))))
+      (new_pairs (alike_pairs m e.modes e.treated.infinite_mapping e.treated.failed_mapping out back same h.pairs) h))
 
   -- ---- the reply to AckOut
 
@@ -110,14 +110,14 @@ module _ (c : Profile) (s : Side) (out back : Lane) where
         back_moves = record { by = ack_moves next window sub; calm = refl; to = refl };
         sender = sender_stays out;
         receiver = told_goes next window sub back;
-        shows = end_whole (new_receiver (record { same_mode = h.receiver.same_mode; edge = same_edge refl refl refl (λ position octets has. has) h.receiver.edge; fin = h.receiver.fin; mapped = h.receiver.mapped })
+        shows = new_receiver (record { same_mode = h.receiver.same_mode; edge = same_edge refl refl refl (λ position octets has. has) h.receiver.edge; fin = h.receiver.fin; mapped = h.receiver.mapped })
             (new_acks (record {
               windows = told_windows next window sub back;
               latest = refl;
               due = λ asked. refl;
               sub = λ asked. told_sub next window sub back (covered e.tcp.recv _ h.receiver.edge);
             })
-            (new_treated (record { items = h.treated.items; fins = h.treated.fins; answer = h.treated.answer; window = h.treated.window; sub = h.treated.sub; nothing = h.treated.nothing }) (end_parts h))));
+            h);
       }
 
   -- ---- grants
@@ -186,7 +186,7 @@ module _ (c : Profile) (s : Side) (out back : Lane) where
         back_moves = stays back;
         sender = g;
         receiver = receiver_stays back;
-        shows = end_whole (new_sender (record {
+        shows = new_sender (record {
           plain = h.sender.plain;
           next = λ un. omega (arith, at, l);
           unfinished = h.sender.unfinished;
@@ -210,7 +210,7 @@ module _ (c : Profile) (s : Side) (out back : Lane) where
         })
             (new_told (receiving_same q g e h)
             (new_treated (treated_same q g e h)
-            (new_pairs (pairs_same q g e refl h) (end_parts h)))));
+            (new_pairs (pairs_same q g e refl h) h)));
       }
 
   pub refused_end : (why : Why) (told : Option ℕ) (e : PathEnd) → EndShows c s e out back
@@ -225,7 +225,7 @@ module _ (c : Profile) (s : Side) (out back : Lane) where
         back_moves = stays back;
         sender = g;
         receiver = receiver_stays back;
-        shows = end_whole (new_sender (record {
+        shows = new_sender (record {
           plain = h.sender.plain;
           next = h.sender.next;
           unfinished = h.sender.unfinished;
@@ -237,7 +237,7 @@ module _ (c : Profile) (s : Side) (out back : Lane) where
           fin_acked = h.sender.fin_acked;
           sent = h.sender.sent;
         })
-            (new_treated (treated_same q g e h) (end_parts h)));
+            (new_treated (treated_same q g e h) h);
       }
     where
       known_at : (told : Option ℕ) → IfSome (told_last told e.sending.known_end) (HasNumber (out.data_fins ++ known (later_end told out.known_end)))
@@ -274,7 +274,7 @@ module _ (c : Profile) (s : Side) (out back : Lane) where
     back_moves = stays back;
     sender = idle_goes;
     receiver = receiver_stays back;
-    shows = end_whole (new_sender (record {
+    shows = new_sender (record {
       plain = h.sender.plain;
       next = h.sender.next;
       unfinished = h.sender.unfinished;
@@ -285,7 +285,7 @@ module _ (c : Profile) (s : Side) (out back : Lane) where
       granted = h.sender.granted;
       fin_acked = h.sender.fin_acked;
       sent = h.sender.sent;
-    }) (end_parts h));
+    }) h;
   }
 
   -- what passes a test
@@ -317,7 +317,7 @@ module _ (c : Profile) (s : Side) (out back : Lane) where
       is = rw (append-nil out.sent, append-nil out.datas, append-nil out.data_fins, append-nil out.fins, append-nil out.pairs) refl;
     };
     receiver = receiver_stays back;
-    shows = end_whole (new_sender (record {
+    shows = new_sender (record {
       plain = h.sender.plain;
       next = h.sender.next;
       unfinished = h.sender.unfinished;
@@ -328,7 +328,7 @@ module _ (c : Profile) (s : Side) (out back : Lane) where
       granted = tested (is_open (max e.sending.heard next)) e.sending.granted h.sender.granted;
       fin_acked = λ is. ⊎_elim (λ old. or_left out.fin_acked fin (h.sender.fin_acked old)) (λ new. or_right out.fin_acked fin new) (or_cases e.sending.close.own_acked fin is);
       sent = heard_sent e.tcp.send.finished e.tcp.send.nxt e.sending.heard next e.sending.granted out.sent out.fins out.pair h.sender.sent;
-    }) (end_parts h));
+    }) h;
   }
   heard_end next (SendReply.Taken count) e h = idle_end e h
   heard_end next _ e h = idle_end e h
@@ -355,7 +355,7 @@ module _ (c : Profile) (s : Side) (out back : Lane) where
       is = rw (append-nil out.sent, append-nil out.datas, append-nil out.data_fins, append-nil out.fins, append-nil out.pairs) refl;
     };
     receiver = receiver_stays back;
-    shows = end_whole (new_sender (record {
+    shows = new_sender (record {
       plain = h.sender.plain;
       next = h.sender.next;
       unfinished = h.sender.unfinished;
@@ -366,7 +366,7 @@ module _ (c : Profile) (s : Side) (out back : Lane) where
       granted = h.sender.granted;
       fin_acked = λ is. or_left out.fin_acked fin (h.sender.fin_acked is);
       sent = h.sender.sent;
-    }) (end_parts h));
+    }) h;
   }
   unheard_end (SendReply.Taken count) e h = idle_end e h
   unheard_end _ e h = idle_end e h
@@ -379,7 +379,7 @@ module _ (c : Profile) (s : Side) (out back : Lane) where
       let q : Lane = with_fin_sent out in
       let g : SenderGoes out q = fin_goes out in
       let at : e.tcp.send.nxt ≡ suc (length out.sent) = h.sender.next (unfinished_if e.tcp.state may) in
-      end_whole (new_sender (record {
+      (new_sender (record {
         plain = h.sender.plain;
         next = λ un. absurd (both_ways _ (finished_if e.tcp.state may) un);
         unfinished = λ un. absurd (both_ways _ (finished_if e.tcp.state may) un);
@@ -394,7 +394,7 @@ module _ (c : Profile) (s : Side) (out back : Lane) where
       })
       (new_told (receiving_same q g e h)
       (new_treated (treated_same q g e h)
-      (new_pairs (pairs_same q g e refl h) (end_parts h)))))
+      (new_pairs (pairs_same q g e refl h) h))))
     where
       finished_if : (state : EndPhase) → states.may_finish state ≡ true → is_unfinished (states.after_finish state) ≡ false
       finished_if EndPhase.Established is = refl

@@ -77,7 +77,7 @@ module _ (six : SixBooks) (others : Others) (p : PathState Carried) (ab ba : Lan
 
   -- a notice is no matter of the lanes
   noted : (s : Side) (backup : Bool) (out back : Lane) (e : PathEnd) → EndShows p.profile s e out back → EndShows p.profile s (with_priority backup e) out back
-  noted s backup out back e x = record { sender = x.sender; receiver = x.receiver; acks = x.acks; told = x.told; treated = x.treated; held = x.held; pairs = x.pairs }
+  noted s backup out back e x = x
 
   noted_shows : (s : Side) (backup : Bool) (q : PathState Carried) → PathShows p.profile q ab ba
       → Strolled p.profile (goes_on s (with_priority backup (end_at s q)) (emission s) q) ab ba

@@ -37,7 +37,7 @@ use Rattle.world_laws.proofs.Lanes.Roads.{Strolls, stays, then_strolls}
 use Rattle.world_laws.proofs.Lanes.Showing.{HasMapping, HasFin, KeptShows, HeldShows, Under, IsAtEdge, IsPastFin, ReceiverShows, EndShows, SenderShows, identity_of, knowledge_of, KeptSummed, PeerIs}
 use Rattle.world_laws.proofs.Lanes.Taking.{learned_lane, learns_it, learned_goes, learned_there, wants_place, under_drop, only_drop, acked_lane, acked_sub, acks_it, finished_lane, hears_the_fin, wants_plain, wants_pair, wants_pair_fin, same_order, filled_under}
 use Rattle.world_laws.proofs.Lanes.Doing.{take_whole, wants_plain_fin}
-use Rattle.world_laws.proofs.Lanes.EndParts.{end_parts, end_whole, new_sender, new_receiver, new_acks, new_treated, new_held}
+use Rattle.world_laws.proofs.Lanes.EndParts.{new_sender, new_receiver, new_acks, new_treated, new_held}
 
 -- the maps of the lane are more
 more_maps : (recv : Receiving) (fin_at : Option ℕ) (live live_after : List KeptMapping) (plain : Bool) (p : Lane) (maps : List Mapping) → Every (KeptShows maps) live_after
@@ -124,16 +124,16 @@ module _ (c : Profile) (s : Side) (out back : Lane) where
             back_moves = learns_it back kept.place kept.pos (octets_of kept) has (agree has.at);
             sender = sender_stays out;
             receiver = learned_goes back kept.place kept.pos (octets_of kept) has (agree has.at);
-            shows = end_whole (new_receiver (more_maps e.tcp.recv e.tcp.fin_at v.live (after_learn kept (learn_of kept v) v).live (identity_of e) back q.maps
+            shows = new_receiver (more_maps e.tcp.recv e.tcp.fin_at v.live (after_learn kept (learn_of kept v) v).live (identity_of e) back q.maps
                 (learn_live kept (learn_of kept v) v q.maps (learned_there back kept.place kept.pos (octets_of kept) has (agree has.at))
                 (Every-map (λ m there. Has-more _ there) h.receiver.mapped)) h.receiver)
                 (new_acks (record { windows = h.acks.windows; latest = h.acks.latest; due = h.acks.due; sub = h.acks.sub })
-                (new_treated (record { items = h.treated.items; fins = h.treated.fins; answer = h.treated.answer; window = h.treated.window; sub = h.treated.sub; nothing = h.treated.nothing })
+                (new_treated h.treated
                 (new_held (record {
                   each = subst (λ ys. Every (HeldShows c back.sent back.datas) (others_of ys)) (sym (learn_held kept (learn_of kept v) v)) (skipped_held v.held h.held.each);
                   summed = learn_summed kept (learn_of kept v) v both.2 h.held.summed;
                   none = rw both.1 h.held.none;
-                }) (end_parts h)))));
+                }) h)));
           }
 
   -- ---- other replies
@@ -162,7 +162,7 @@ module _ (c : Profile) (s : Side) (out back : Lane) where
       acks = [];
       is = rw (append-nil back.acks) refl;
     };
-    shows = end_whole (new_receiver (record {
+    shows = new_receiver (record {
       same_mode = h.receiver.same_mode;
       edge = same_edge refl refl refl (λ position octets has. has) h.receiver.edge;
       fin = h.receiver.fin;
@@ -174,7 +174,7 @@ module _ (c : Profile) (s : Side) (out back : Lane) where
           due = λ none. absurd (both_ways e.treated.asked none asked);
           sub = λ none. absurd (both_ways e.treated.asked none asked);
         })
-        (new_treated (record { items = h.treated.items; fins = h.treated.fins; answer = h.treated.answer; window = h.treated.window; sub = h.treated.sub; nothing = h.treated.nothing }) (end_parts h))));
+        h);
   }
 
   -- ---- bytes
@@ -514,7 +514,7 @@ module _ (c : Profile) (s : Side) (out back : Lane) where
           acks = [];
           is = rw (append-nil back.acks) refl;
         };
-        shows = end_whole (new_receiver (record {
+        shows = new_receiver (record {
           same_mode = h.receiver.same_mode;
           edge = inl (record {
             edge_is = let edge_is = at.edge_is in omega (arith, edge_is);
@@ -526,12 +526,12 @@ module _ (c : Profile) (s : Side) (out back : Lane) where
           mapped = filtered (λ kept. nat_lt (e.tcp.recv.edge + length piece.octets) (run_of kept).to) e.receiving.mappings.live h.receiver.mapped;
         })
             (new_acks (record { windows = h.acks.windows; latest = h.acks.latest; due = λ none. absurd (true≢false none); sub = λ none. absurd (true≢false none) })
-            (new_treated (record { items = h.treated.items; fins = h.treated.fins; answer = h.treated.answer; window = h.treated.window; sub = h.treated.sub; nothing = h.treated.nothing })
+            (new_treated h.treated
             (new_held (record {
               each = h.held.each;
               summed = filtered (λ kept. nat_lt (e.tcp.recv.edge + length piece.octets) (run_of kept).to) e.receiving.mappings.live h.held.summed;
               none = h.held.none;
-            }) (end_parts h)))));
+            }) h)));
       }
 
   -- ---- the FIN
@@ -592,7 +592,7 @@ module _ (c : Profile) (s : Side) (out back : Lane) where
               acks = [];
               is = rw (append-nil back.acks) refl;
             };
-            shows = end_whole (new_sender passed_sender
+            shows = new_sender passed_sender
                 (new_receiver (passed_receiver q refl refl refl refl refl)
                 (new_acks (record {
                   windows = h.acks.windows;
@@ -600,7 +600,7 @@ module _ (c : Profile) (s : Side) (out back : Lane) where
                   due = λ none. absurd (both_ways e.treated.asked none asked);
                   sub = λ none. absurd (both_ways e.treated.asked none asked);
                 })
-                (new_treated (record { items = h.treated.items; fins = h.treated.fins; answer = h.treated.answer; window = h.treated.window; sub = h.treated.sub; nothing = h.treated.nothing }) (end_parts h)))));
+                h));
           }
           by false calm =
               let edge_is = near.edge_is in
@@ -626,7 +626,7 @@ module _ (c : Profile) (s : Side) (out back : Lane) where
                   acks = ack_copy e.receiving.next (32 * (e.receiving.window / 32)) (next_edge - 1) q ∷ [];
                   is = refl;
                 };
-                shows = end_whole (new_sender passed_sender
+                shows = new_sender passed_sender
                     (new_receiver (passed_receiver r refl refl refl refl refl)
                     (new_acks (record {
                       windows = record { ack = Has-more _ h.acks.windows.ack; alone = Has-more _ h.acks.windows.alone; syn = Has-more _ h.acks.windows.syn };
@@ -634,7 +634,7 @@ module _ (c : Profile) (s : Side) (out back : Lane) where
                       due = λ none. due;
                       sub = λ none. acked_sub q e.receiving.next e.receiving.window (next_edge - 1) h.acks.latest due most;
                     })
-                    (new_treated (record { items = h.treated.items; fins = h.treated.fins; answer = h.treated.answer; window = h.treated.window; sub = h.treated.sub; nothing = h.treated.nothing }) (end_parts h)))));
+                    h));
               }
 
     pub passed_fin : Did c s (after_pass_fin e) out out back back

@@ -9,7 +9,7 @@ use Rattle.subflow_send.specs.Records.{end_of}
 use Rattle.subflow_send.specs.Rules.{fin_sent}
 use Rattle.subflow_send.specs.Sendings.{sent_again}
 use Rattle.world_laws.proofs.Lanes.Showing.{KindShows, RecordShows, Knowledge, SenderShows, EndShows}
-use Rattle.world_laws.proofs.Lanes.EndParts.{end_parts, end_whole, new_sender}
+use Rattle.world_laws.proofs.Lanes.EndParts.{new_sender}
 
 module _ {X : Type 0} {P : X → Type 0} where
   pub every_cons : (x : X) (xs : List X) → P x → Every P xs → Every P (x ∷ xs)
@@ -129,11 +129,11 @@ module _ (c : Profile) (s : Side) (k : Knowledge) (p : Lane) where
 -- an end that has sent a segment
 pub sent_end : (c : Profile) (s : Side) (out back : Lane) (occasion : Occasion) (now : ℕ) (sg : PlainSegment) (e : PathEnd) → EndShows c s e out back
     → EndShows c s (having_sent occasion now sg e) out back
-sent_end c s out back Occasion.Reset now sg e h = record { sender = h.sender; receiver = h.receiver; acks = h.acks; told = h.told; treated = h.treated; held = h.held; pairs = h.pairs }
-sent_end c s out back Occasion.Answer now sg e h = record { sender = h.sender; receiver = h.receiver; acks = h.acks; told = h.told; treated = h.treated; held = h.held; pairs = h.pairs }
-sent_end c s out back Occasion.SynAck now sg e h = end_whole (new_sender (syn_resent_shows c s _ out now e.tcp.state e.tcp.send h.sender) (end_parts h))
-sent_end c s out back Occasion.Ack now sg e h = record { sender = h.sender; receiver = h.receiver; acks = h.acks; told = h.told; treated = h.treated; held = h.held; pairs = h.pairs }
-sent_end c s out back Occasion.Probe now sg e h = record { sender = h.sender; receiver = h.receiver; acks = h.acks; told = h.told; treated = h.treated; held = h.held; pairs = h.pairs }
-sent_end c s out back Occasion.First now sg e h = end_whole (new_sender (resent_shows c s _ out now e.tcp.state e.tcp.send h.sender) (end_parts h))
-sent_end c s out back Occasion.Unsent now sg e h = end_whole (new_sender (sent_shows c s _ out now e.tcp.state e.tcp.send h.sender) (end_parts h))
-sent_end c s out back Occasion.Fin now sg e h = end_whole (new_sender (fin_sent_shows c s _ out now e.tcp.state e.tcp.send h.sender) (end_parts h))
+sent_end c s out back Occasion.Reset now sg e h = h
+sent_end c s out back Occasion.Answer now sg e h = h
+sent_end c s out back Occasion.SynAck now sg e h = new_sender (syn_resent_shows c s _ out now e.tcp.state e.tcp.send h.sender) h
+sent_end c s out back Occasion.Ack now sg e h = h
+sent_end c s out back Occasion.Probe now sg e h = h
+sent_end c s out back Occasion.First now sg e h = new_sender (resent_shows c s _ out now e.tcp.state e.tcp.send h.sender) h
+sent_end c s out back Occasion.Unsent now sg e h = new_sender (sent_shows c s _ out now e.tcp.state e.tcp.send h.sender) h
+sent_end c s out back Occasion.Fin now sg e h = new_sender (fin_sent_shows c s _ out now e.tcp.state e.tcp.send h.sender) h

@@ -36,13 +36,13 @@ use Rattle.world_laws.proofs.Lanes.Strolling.{agrees, out_holds, back_holds}
 use Rattle.world_laws.proofs.Lanes.Sides.{SideDid, side_kept, grant_side, ack_reply_at, ack_side, place_reply_at, place_side, fin_reply_at, fin_side, IsQuiet}
 use Rattle.world_laws.proofs.Lanes.Waking.{look_moves, looked_out, looked_back, path_looks}
 use Rattle.world_laws.proofs.Lanes.Roads.{Strolls, stays}
-use Rattle.world_laws.proofs.Lanes.EndParts.{end_parts, end_whole, new_treated}
+use Rattle.world_laws.proofs.Lanes.EndParts.{new_treated}
 
 -- ---- ends
 
 -- an end of the stream that is told later
 pub fin_shows : (c : Profile) (s : Side) (place : ℕ) (e : PathEnd) (out back : Lane) → HasNumber back.data_fins place → EndShows c s e out back → EndShows c s (with_data_fin place e) out back
-fin_shows c s place e out back has h = end_whole (new_treated (record { items = h.treated.items; fins = by (nat_lt (length e.treated.fins) 3); answer = h.treated.answer; window = h.treated.window; sub = h.treated.sub; nothing = h.treated.nothing }) (end_parts h))
+fin_shows c s place e out back has h = new_treated (record { items = h.treated.items; fins = by (nat_lt (length e.treated.fins) 3); answer = h.treated.answer; window = h.treated.window; sub = h.treated.sub; nothing = h.treated.nothing }) h
   where
     by : (b : Bool) → Every (HasNumber back.data_fins) (if b then e.treated.fins ++ place ∷ [] else e.treated.fins)
     by = elim [ true ↦ Every-push place h.treated.fins has | false ↦ h.treated.fins ]
@@ -253,7 +253,7 @@ module _ (six : SixBooks) (others : Others) (p : PathState Carried) (ab ba : Lan
         quiet = elim [ PeerNotice.AddAddr id address port hmac ↦ tt | _ ↦ tt ]
 
         noted : EndShows p.profile s (after_peer_notice notice (reply_of six (notice_ask s notice p)) e) out back
-        noted = record { sender = shows.sender; receiver = shows.receiver; acks = shows.acks; told = shows.told; treated = shows.treated; held = shows.held; pairs = shows.pairs }
+        noted = shows
     heard_step Heard.Fail opens firm above has = fail_step (opens refl) has
     heard_step (Heard.FastClose key) opens firm above has = stopped_step (is_stopped_by (reply_of six (fast_heard_ask s key)))
       where

@@ -21,7 +21,7 @@ use Rattle.world_laws.proofs.Lanes.Ending.{Did, did_nothing, Alike, with_modes}
 use Rattle.world_laws.proofs.Lanes.Growing.{past_behind, sender_stays}
 use Rattle.world_laws.proofs.Lanes.Roads.{stays}
 use Rattle.world_laws.proofs.Lanes.Taking.{forgets_lane, forgets, forgets_goes, keeps_held}
-use Rattle.world_laws.proofs.Lanes.EndParts.{end_parts, end_whole, new_sender, new_receiver, new_acks, new_told, new_treated, new_pairs, new_held}
+use Rattle.world_laws.proofs.Lanes.EndParts.{new_sender, new_receiver, new_acks, new_told, new_treated, new_pairs, new_held}
 
 grown_told : (growth : ℕ) (o : Option Pending) (c : Congestion) → (windows.grown_by growth o c).told ≡ c.told
 grown_told growth None c = refl
@@ -75,11 +75,11 @@ module _ (c : Profile) (s : Side) (out back : Lane) where
   with_treated e t shows calm pairs h = record { sender = h.sender; receiver = h.receiver; acks = calmer _ _ calm h.acks; told = h.told; treated = shows; held = h.held; pairs = pairs }
 
   pub asked_shows : (e : PathEnd) → Shows e → Shows (having_asked e)
-  asked_shows e h = with_treated e _ (record { items = h.treated.items; fins = h.treated.fins; answer = h.treated.answer; window = h.treated.window; sub = h.treated.sub; nothing = h.treated.nothing }) (λ none. absurd (false≢true (sym none))) h.pairs h
+  asked_shows e h = with_treated e (having_asked e).treated h.treated (λ none. absurd (false≢true (sym none))) h.pairs h
 
   -- what is to be noted is no matter of a lane
   with_notices : (e : PathEnd) (n : Notices) → Shows e → Shows (record e { notices = n })
-  with_notices e n h = record { sender = h.sender; receiver = h.receiver; acks = h.acks; told = h.told; treated = h.treated; held = h.held; pairs = h.pairs }
+  with_notices e n h = h
 
   pub looked_shows : (r : Reply) (e : PathEnd) → Shows e → Shows (after_look r e)
   looked_shows r e h =
@@ -90,22 +90,22 @@ module _ (c : Profile) (s : Side) (out back : Lane) where
 
   -- a check failed, which acknowledgements tell, or the reset of the path
   pub failure_shows : (o : Option KeptMapping) (r : Reply) (e : PathEnd) → IfSome o (λ _. out.alters ≡ true) → Shows e → Shows (with_failure o r e)
-  failure_shows (Some kept) (Reply.Control (ControlReply.Verdict Verdict.SendFail)) e may h = end_whole (new_pairs ((h.pairs.0, h.pairs.1, h.pairs.2, h.pairs.3, may, h.pairs.5)) (end_parts h))
-  failure_shows (Some kept) (Reply.Control (ControlReply.Verdict (Verdict.BreakPath reason))) e may h = end_whole (new_treated (record { items = h.treated.items; fins = h.treated.fins; answer = h.treated.answer; window = h.treated.window; sub = h.treated.sub; nothing = h.treated.nothing })
-      (new_pairs ((h.pairs.0, h.pairs.1, h.pairs.2, h.pairs.3, h.pairs.4, may)) (end_parts h)))
+  failure_shows (Some kept) (Reply.Control (ControlReply.Verdict Verdict.SendFail)) e may h = new_pairs ((h.pairs.0, h.pairs.1, h.pairs.2, h.pairs.3, may, h.pairs.5)) h
+  failure_shows (Some kept) (Reply.Control (ControlReply.Verdict (Verdict.BreakPath reason))) e may h = new_treated h.treated
+      (new_pairs ((h.pairs.0, h.pairs.1, h.pairs.2, h.pairs.3, h.pairs.4, may)) h)
   failure_shows _ r e may h = h
 
   -- a Data ACK was taken
   pub noted_shows : (next : ℕ) (e : PathEnd) → Shows e → Shows (record e { modes = covered_by next e.modes; treated = record e.treated { data_ack_taken = true } })
-  noted_shows next e h = end_whole (new_treated (record { items = h.treated.items; fins = h.treated.fins; answer = h.treated.answer; window = h.treated.window; sub = h.treated.sub; nothing = h.treated.nothing }) (end_parts h))
+  noted_shows next e h = h
 
   -- an acknowledgement without a Data ACK counts
   pub plain_ack_shows : (e : PathEnd) → Shows e → Shows (with_plain_ack e)
-  plain_ack_shows e h = record { sender = h.sender; receiver = h.receiver; acks = h.acks; told = h.told; treated = h.treated; held = h.held; pairs = h.pairs }
+  plain_ack_shows e h = h
 
   -- so does a byte without a mapping; and no DATA_FIN waits behind bytes
   pub unmapped_shows : (e : PathEnd) → Shows e → Shows (after_pieces e)
-  unmapped_shows e h = end_whole (new_treated (record {
+  unmapped_shows e h = new_treated (record {
     items = h.treated.items;
     fins = rw (h.held.none) h.treated.fins;
     answer = h.treated.answer;
@@ -113,34 +113,34 @@ module _ (c : Profile) (s : Side) (out back : Lane) where
     sub = h.treated.sub;
     nothing = h.treated.nothing;
   })
-      (new_held (record { each = h.held.each; summed = h.held.summed; none = rw (h.held.none) refl }) (end_parts h)))
+      (new_held (record { each = h.held.each; summed = h.held.summed; none = rw (h.held.none) refl }) h)
 
   pub fin_told_shows : (e : PathEnd) → Shows e → Shows (with_fin_told e)
-  fin_told_shows e h = record { sender = h.sender; receiver = h.receiver; acks = h.acks; told = h.told; treated = h.treated; held = h.held; pairs = h.pairs }
+  fin_told_shows e h = h
 
   pub dss_shows : (e : PathEnd) → Shows e → Shows (after_dss s e)
-  dss_shows e h = record { sender = h.sender; receiver = h.receiver; acks = h.acks; told = h.told; treated = h.treated; held = h.held; pairs = h.pairs }
+  dss_shows e h = h
 
   pub key_shows : (key : Option ℕ) (e : PathEnd) → Shows e → Shows (with_peer_key key e)
-  key_shows key e h = record { sender = h.sender; receiver = h.receiver; acks = h.acks; told = h.told; treated = h.treated; held = h.held; pairs = h.pairs }
+  key_shows key e h = h
 
   pub keys_show : (r : Reply) (keys : Option KeyPair) (e : PathEnd) → Shows e → Shows (after_keys r keys e)
-  keys_show r keys e shows = let h = with_modes c s out back e (keys_in r keys e.modes) (keyed_alike r keys e.modes) shows in (end_whole (new_treated (record { items = h.treated.items; fins = h.treated.fins; answer = h.treated.answer; window = h.treated.window; sub = h.treated.sub; nothing = h.treated.nothing }) (end_parts h)))
+  keys_show r keys e shows = let h = with_modes c s out back e (keys_in r keys e.modes) (keyed_alike r keys e.modes) shows in h
 
   pub peer_end_shows : (e : PathEnd) → Shows e → Shows (with_peer_data_fin e)
-  peer_end_shows e h = record { sender = h.sender; receiver = h.receiver; acks = h.acks; told = h.told; treated = h.treated; held = h.held; pairs = h.pairs }
+  peer_end_shows e h = h
 
   pub timer_shows : (now : ℕ) (e : PathEnd) → Shows e → Shows (with_timer_settled now e)
-  timer_shows now e h = record { sender = h.sender; receiver = h.receiver; acks = h.acks; told = h.told; treated = h.treated; held = h.held; pairs = h.pairs }
+  timer_shows now e h = h
 
   pub rate_shows : (path mss : ℕ) (r : Reply) (e : PathEnd) → Shows e → Shows (after_rate path mss r e)
-  rate_shows path mss r e h = end_whole (new_told (subst (λ told. HasNone out.acks told.window) (sym (grown_told _ e.tcp.congestion.pending e.tcp.congestion)) h.told) (end_parts h))
+  rate_shows path mss r e h = new_told (subst (λ told. HasNone out.acks told.window) (sym (grown_told _ e.tcp.congestion.pending e.tcp.congestion)) h.told) h
 
   -- ---- a join
 
   -- the waiting end opens
   opened_state : (b : Bool) (e : PathEnd) → (b ≡ true → is_unfinished e.tcp.state ≡ true) → Shows e → Shows (record e { tcp = if b then after_begin e.tcp else e.tcp })
-  opened_state true e un h = end_whole (new_sender (state_shows c s _ out e.tcp.state EndPhase.SynSent e.tcp.send (λ x. un refl) h.sender) (end_parts h))
+  opened_state true e un h = new_sender (state_shows c s _ out e.tcp.state EndPhase.SynSent e.tcp.send (λ x. un refl) h.sender) h
   opened_state false e un h = h
 
   -- a join is refused, which tells the mode
@@ -149,9 +149,7 @@ module _ (c : Profile) (s : Side) (out back : Lane) where
 
   pub opened_shows : (keys : Option KeyPair) (e : PathEnd) → Shows e → Shows (opened_by keys e)
   opened_shows None e h = h
-  opened_shows (Some keys) e h =
-      let x = opened_state (states.is_waiting e.tcp.state) e (waiting_unfinished e.tcp.state) h in
-      record { sender = x.sender; receiver = x.receiver; acks = x.acks; told = x.told; treated = x.treated; held = x.held; pairs = x.pairs }
+  opened_shows (Some keys) e h = opened_state (states.is_waiting e.tcp.state) e (waiting_unfinished e.tcp.state) h
 
   -- the listening end takes the SYN
   syn_shows : (b : Bool) (window : ℕ) (e : PathEnd) → (b ≡ true → is_unfinished e.tcp.state ≡ true) → HasNone out.acks window → Shows e
@@ -162,9 +160,7 @@ module _ (c : Profile) (s : Side) (out back : Lane) where
   syn_shows false window e un has h = h
 
   pub joined_shows : (keys : KeyPair) (asked : JoinSyn) (e : PathEnd) → HasNone out.acks e.treated.window → Shows e → Shows (joined_by keys asked e)
-  joined_shows keys asked e has h =
-      let x = syn_shows (is_listening e.tcp.state) e.treated.window e (listening_unfinished e.tcp.state) has h in
-      record { sender = x.sender; receiver = x.receiver; acks = x.acks; told = x.told; treated = x.treated; held = x.held; pairs = x.pairs }
+  joined_shows keys asked e has h = syn_shows (is_listening e.tcp.state) e.treated.window e (listening_unfinished e.tcp.state) has h
 
   -- ---- death
 
@@ -198,7 +194,7 @@ module _ (c : Profile) (s : Side) (out back : Lane) where
     where
       by : (b : Bool) → Shows (record e { tcp = if b then taking.after_death true e.tcp else expiring.after_expiry now e.tcp })
       by true = dead_tcp true e e.treated h.treated (λ none. none) h.pairs h
-      by false = end_whole (new_sender (expired_shows c s _ out e.tcp.state e.tcp.send h.sender) (end_parts h))
+      by false = new_sender (expired_shows c s _ out e.tcp.state e.tcp.send h.sender) h
 
   -- ---- what is kept
 
@@ -231,32 +227,25 @@ module _ (c : Profile) (s : Side) (out back : Lane) where
         back_moves = forgets back (kept.pos - 1);
         sender = sender_stays out;
         receiver = forgets_goes back (kept.pos - 1);
-        shows = end_whole (new_receiver (record { same_mode = h.receiver.same_mode; edge = cut_edge h.receiver.edge; fin = h.receiver.fin; mapped = h.receiver.mapped })
+        shows = new_receiver (record { same_mode = h.receiver.same_mode; edge = cut_edge h.receiver.edge; fin = h.receiver.fin; mapped = h.receiver.mapped })
             (new_acks (record { windows = h.acks.windows; latest = h.acks.latest; due = h.acks.due; sub = h.acks.sub })
-            (new_treated (record { items = h.treated.items; fins = h.treated.fins; answer = h.treated.answer; window = h.treated.window; sub = h.treated.sub; nothing = h.treated.nothing }) (end_parts h))));
+            h);
       }
 
   pub keep_did : (e : PathEnd) → Shows e → Did c s (after_keep s e) out out back back
   keep_did e shows = by (is_dropped s e)
     where
       h : Shows (record e { treated = record e.treated { held_edge = (if is_not_kept s e then None else e.treated.held_edge) } })
-      h = with_treated e _ (record {
-        items = shows.treated.items;
-        fins = shows.treated.fins;
-        answer = shows.treated.answer;
-        window = shows.treated.window;
-        sub = shows.treated.sub;
-        nothing = shows.treated.nothing;
-      }) (λ none. none) shows.pairs shows
+      h = with_treated e (record e.treated { held_edge = (if is_not_kept s e then None else e.treated.held_edge) }) shows.treated (λ none. none) shows.pairs shows
 
       by : (b : Bool) → Did c s (record e { tcp = if b then taking.after_dropping_held e.tcp else taking.after_keeping_held e.tcp; treated = (record e.treated { held_edge = (if is_not_kept s e then None else e.treated.held_edge) }) }) out out back back
-      by true = did_nothing c s out back _ ((end_whole (new_receiver (dropped_shows e.tcp.fin_at e.receiving.mappings.live (identity_of e) back e.tcp.recv h.receiver) (end_parts h))))
+      by true = did_nothing c s out back _ (new_receiver (dropped_shows e.tcp.fin_at e.receiving.mappings.live (identity_of e) back e.tcp.recv h.receiver) h)
       by false = kept_by (is_behind e.tcp.fin_at e.tcp.recv.edge) refl h.receiver.edge
         where
           -- what is held is kept by the lane too
           kept_by : (passed : Bool) → is_behind e.tcp.fin_at e.tcp.recv.edge ≡ passed → IsAtEdge e.tcp.recv back ⊎ IsPastFin e.tcp.fin_at e.tcp.recv back
               → Did c s (record e { tcp = record e.tcp { recv = (if passed then without_held e.tcp.recv else after_keep_held e.tcp.recv) }; treated = (record e.treated { held_edge = (if is_not_kept s e then None else e.treated.held_edge) }) }) out out back back
-          kept_by true is edge = did_nothing c s out back _ ((end_whole (new_receiver (dropped_shows e.tcp.fin_at e.receiving.mappings.live (identity_of e) back e.tcp.recv h.receiver) (end_parts h))))
+          kept_by true is edge = did_nothing c s out back _ (new_receiver (dropped_shows e.tcp.fin_at e.receiving.mappings.live (identity_of e) back e.tcp.recv h.receiver) h)
           kept_by false is (inr past) = absurd (both_ways _ is (past_behind e.tcp.fin_at e.tcp.recv back past))
           kept_by false is (inl at) =
               let k = keeps_held back e.tcp.recv at in
@@ -279,7 +268,7 @@ module _ (c : Profile) (s : Side) (out back : Lane) where
                       (record { windows = h.acks.windows; latest = h.acks.latest; due = h.acks.due; sub = h.acks.sub });
                   told = h.told;
                   treated = subst (TreatedShows (record e.treated { held_edge = (if is_not_kept s e then None else e.treated.held_edge) }) out.acks) (sym k.same)
-                      (record { items = h.treated.items; fins = h.treated.fins; answer = h.treated.answer; window = h.treated.window; sub = h.treated.sub; nothing = h.treated.nothing });
+                      h.treated;
                   pairs = subst (PairsShow e.modes e.treated.infinite_mapping e.treated.failed_mapping out) (sym k.same) h.pairs;
                   held = subst (λ q. HoldsShow c q.sent q.datas e.receiving.mappings.held e.receiving.mappings.live e.receiving.mapped_data_fin) (sym k.same) h.held;
                 };

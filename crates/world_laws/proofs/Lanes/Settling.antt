@@ -16,7 +16,6 @@ use Rattle.world_laws.proofs.Lanes.RulesLeaveAlone.{dss_shows, timer_shows, chec
 use Rattle.world_laws.proofs.Lanes.Showing.{ItemShows, EndShows, PathShows}
 use Rattle.world_laws.proofs.Lanes.Sides.{longer_link}
 use Rattle.world_laws.proofs.Lanes.Strolling.{Strolled, strolls_held, agrees, back_holds, side_shows, did_on_path}
-use Rattle.world_laws.proofs.Lanes.EndParts.{end_parts, end_whole}
 
 -- whether a duty comes to something doesn't depend on the agenda
 pub stands_anyway : (d : Duty) (es : List Duty) (p : PathState Carried) → stands d (with_agenda es p) ≡ stands d p
@@ -66,7 +65,7 @@ module _ (six : SixBooks) (others : Others) (c : Profile) where
       -- a thing that a copy said
       item_did : (item : Heard) → ItemShows out.acks back item → Did c s (heard_passed s item e) out out back back
       item_did Heard.Dss has = did_nothing c s out back (after_dss s e) (dss_shows c s out back e shows)
-      item_did (Heard.DataAck next window) has = did_nothing c s out back (with_data_ack next e) ((end_whole (end_parts shows)))
+      item_did (Heard.DataAck next window) has = did_nothing c s out back (with_data_ack next e) shows
       item_did (Heard.Mapping fin) has =
           if_so (λ z. Did c s z out out back back) (counts e) (with_learned e) (with_skipped e)
           (learned_end c s out back e (agrees six others s ab ba holds) shows) (did_nothing c s out back (with_skipped e) (skipped_shows c s out back e shows))

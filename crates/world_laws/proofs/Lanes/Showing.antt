@@ -261,26 +261,43 @@ ItemShows acks p (Heard.InfiniteMapping place position) = IfSome position (PairT
 ItemShows acks p Heard.Fail = p.alters ≡ true
 ItemShows acks p _ = Unit {0}
 
-pub record TreatedShows (t : Treated) (acks : List AckCopy) (p : Lane) : Type 0 where
-  pub items : Every (ItemShows acks p) t.items
-  pub fins : Every (HasNumber p.data_fins) t.fins
-  pub answer : IfSome t.answer (λ o. (o.fin ≡ false) × (o.rst ≡ true))
+-- what was treated, part by part
+pub record TreatedParts (I F A W S N : Type 0) : Type 0 where
+  pub items : I
+  pub fins : F
+  pub answer : A
   -- the window of a SYN that asks to join
-  pub window : IfSome (join_asked t.items) (λ asked. HasNone acks t.window)
+  pub window : W
   -- what it acknowledges of the subflow; and nothing may be acknowledged
-  pub sub : HasSub acks (t.acknowledged - 1) t.window
-  pub nothing : HasNone acks 0
+  pub sub : S
+  pub nothing : N
+
+abbrev pub TreatedShows : Treated → List AckCopy → Lane → Type 0
+TreatedShows t acks p =
+    TreatedParts (Every (ItemShows acks p) t.items) (Every (HasNumber p.data_fins) t.fins) (IfSome t.answer (λ o. (o.fin ≡ false) × (o.rst ≡ true)))
+    (IfSome (join_asked t.items) (λ asked. HasNone acks t.window)) (HasSub acks (t.acknowledged - 1) t.window) (HasNone acks 0)
 
 -- ---- an end: `out` carries what its side sends, and `back` what it hears
 
-pub record EndShows (c : Profile) (s : Side) (e : PathEnd) (out back : Lane) : Type 0 where
-  pub sender : SenderShows c s e.tcp.state e.tcp.send (knowledge_of e) out
-  pub receiver : ReceiverShows e.tcp.recv e.tcp.fin_at e.receiving.mappings.live (identity_of e) back
-  pub acks : AcksShow e.receiving.next e.receiving.window e.treated.asked e.tcp.recv.edge back
-  pub told : HasNone out.acks e.tcp.congestion.told.window
-  pub treated : TreatedShows e.treated out.acks back
-  pub pairs : PairsShow e.modes e.treated.infinite_mapping e.treated.failed_mapping out back
-  pub held : HoldsShow c back.sent back.datas e.receiving.mappings.held e.receiving.mappings.live e.receiving.mapped_data_fin
+-- what an end shows, part by part: an end and lanes of which all parts say the same show the same
+pub record Parts (S R A T X P H : Type 0) : Type 0 where
+  pub sender : S
+  pub receiver : R
+  pub acks : A
+  pub told : T
+  pub treated : X
+  pub pairs : P
+  pub held : H
+
+abbrev pub EndShows : Profile → Side → PathEnd → Lane → Lane → Type 0
+EndShows c s e out back =
+    Parts (SenderShows c s e.tcp.state e.tcp.send (knowledge_of e) out)
+    (ReceiverShows e.tcp.recv e.tcp.fin_at e.receiving.mappings.live (identity_of e) back)
+    (AcksShow e.receiving.next e.receiving.window e.treated.asked e.tcp.recv.edge back)
+    (HasNone out.acks e.tcp.congestion.told.window)
+    (TreatedShows e.treated out.acks back)
+    (PairsShow e.modes e.treated.infinite_mapping e.treated.failed_mapping out back)
+    (HoldsShow c back.sent back.datas e.receiving.mappings.held e.receiving.mappings.live e.receiving.mapped_data_fin)
 
 -- ---- copies
 
