@@ -1,5 +1,5 @@
 -- The six books with their journals, and what a call makes of them.
-use Rattle.std.specs.Prelude.{ℕ, ◌+◌, []}
+use Rattle.std.specs.Prelude.{ℕ, ◌≡◌, ◌+◌, []}
 use Rattle.sides.specs.declared.side.Side.{Side}
 use Rattle.stamped_book.specs.declared.stamped.Pass.{Pass}
 use Rattle.stamped_book.specs.Journal.{Journaled, book_of}
@@ -19,7 +19,8 @@ use Rattle.control_book.specs.Replies as controlling
 use Rattle.control_book.specs.Steps as control
 use Rattle.actor_desk.specs.declared.ask.Ask.{Ask}
 use Rattle.actor_desk.specs.declared.ask.Ask.TheVariants as asks
-use Rattle.actor_desk.specs.Desk.{SixBooks}
+use Rattle.actor_desk.specs.declared.ask.Reply.{Reply}
+use Rattle.actor_desk.specs.Desk.{SixBooks, reply_of}
 use Rattle.actor_desk.specs.Words.{pick}
 
 -- a send book with its journal: as it was opened, and every entry since
@@ -122,3 +123,9 @@ after_entry (asks.Send s call) pass b = after_send_entry s call pass b
 after_entry (asks.Reassembly s call) pass b = after_reassembly_entry s call pass b
 after_entry (asks.Control s call) pass b = after_control_entry s call pass b
 after_entry (asks.Local step) pass b = b
+
+-- the books answer by their own reply; the call is entered, and the pass has its stamp
+pub record Answers (before after : StampedBooks) (was now : Pass) (ask : Ask) (reply : Reply) : Type 0 where
+  pub replied : reply ≡ reply_of (books_in before) ask
+  pub entered : after ≡ after_entry ask was before
+  pub stamped : now ≡ record was { stamp = stamp_of ask before was }

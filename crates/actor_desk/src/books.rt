@@ -184,7 +184,7 @@ impl Books {
 }
 
 impl Desk for Books {
-    ghost use Rattle.actor_desk.specs.Books.{books_in, origin_of, after_entry, stamp_of};
+    ghost use Rattle.actor_desk.specs.Books.{Answers, books_in, origin_of, after_entry, stamp_of};
     ghost use Rattle.actor_desk.specs.Bounds.{IsBounded};
     ghost use Rattle.actor_desk.specs.Desk.{reply_of};
     ghost use Rattle.actor_desk.specs.Journals.{is_local};
@@ -196,6 +196,8 @@ impl Desk for Books {
     ghost is_full = { λ books ask pass. 2 ^ 62 ≤ stamp_of ask books pass };
 
     ghost notes = { λ books. Some (notes_in books) };
+
+    ghost answers = { Answers };
 
     ghost origin = { origin_of };
 

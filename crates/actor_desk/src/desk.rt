@@ -3,6 +3,7 @@ ghost use Rattle.std.specs.Prelude.{◌≡◌, ℕ, false, List, Option, IfOk, O
 ghost use Rattle.stamped_book.specs.declared.stamped.Refusal.TheVariants as refusals;
 ghost use Rattle.stamped_book.specs.declared.stamped.Pass.{Pass};
 ghost use Rattle.actor_desk.specs.declared.ask.Ask.{Ask};
+ghost use Rattle.actor_desk.specs.declared.ask.Reply.{Reply};
 ghost use Rattle.actor_desk.specs.Bounds.{IsBounded};
 ghost use Rattle.actor_desk.specs.Desk.{SixBooks};
 ghost use Rattle.actor_desk.specs.Journals.{is_local};
@@ -23,6 +24,9 @@ pub trait Desk {
     /// The notes of all calls at each book; none where others ask the same books.
     ghost notes: { Self → Option BookNotes };
 
+    /// What is so of a call that was answered: the desk and the pass, each before and after it, what was asked, and the reply.
+    ghost answers: { Self → Self → Pass → Pass → Ask → Reply → Type 0 };
+
     /// The books that the six were opened with.
     ghost origin: { Self → SixBooks };
 
@@ -38,6 +42,8 @@ pub trait Desk {
         ensures kind { IfOk result (λ reply. IsOfKind ask.now reply) }
         ensures bounds { IfOk result (λ reply. IsBounded ask.now reply) }
         ensures rises { OnOk result (Rises pass.old pass.new) }
+        ensures answers { IfOk result (λ reply.
+            answers self.old self.new pass.old pass.new ask.now reply) }
         ensures notes { IfOk result (λ reply. notes self.new ≡
             noted (notes self.old) (note_of pass.old pass.new ask.now reply)) }
         ensures origin { origin self.new ≡ origin self.old }

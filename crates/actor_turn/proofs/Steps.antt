@@ -44,8 +44,8 @@ module _ {A : Type 0} (asks : A → Option Ask) (takes : Reply → A → A) wher
 
   -- a step more
   pub goes_on : (old now next : Crew A) (before mid after : Option BookNotes) → Went asks takes old now before mid
-      → DoesStep asks takes now next (λ note. after ≡ noted mid note) → Went asks takes old next before after
-  goes_on old now next before mid after w s =
+      → (P : Note → Type 0) → ((note : Note) → P note → after ≡ noted mid note) → DoesStep asks takes now next P → Went asks takes old next before after
+  goes_on old now next before mid after w P so s =
       let step : IsStep asks old.pass.actor (member_after takes old.member w.notes) (stamp_after old.pass.stamp w.notes) s.note =
       subst (λ a. IsStep asks a (member_after takes old.member w.notes) (stamp_after old.pass.stamp w.notes) s.note) w.made.actor
       (subst (λ m. IsStep asks now.pass.actor m (stamp_after old.pass.stamp w.notes) s.note) w.made.member
@@ -61,7 +61,7 @@ module _ {A : Type 0} (asks : A → Option Ask) (takes : Reply → A → A) wher
           actor = s.actor ∙ w.made.actor;
         };
         stamp = stamp;
-        noted = s.holds ∙ ap (λ books. noted books s.note) w.noted ∙ sym (noted_more before w.notes s.note);
+        noted = so s.note s.holds ∙ ap (λ books. noted books s.note) w.noted ∙ sym (noted_more before w.notes s.note);
       }
 
   -- no step more

@@ -4,6 +4,7 @@ use Rattle.stamped_book.specs.declared.stamped.Pass.{Pass}
 use Rattle.stamped_book.specs.declared.stamped.Refusal.{Refusal}
 use Rattle.stamped_book.specs.declared.stamped.Refusal.TheVariants.{Memory, Stamps}
 use Rattle.actor_desk.specs.declared.ask.Ask.{Ask}
+use Rattle.actor_desk.specs.declared.ask.Ask.TheVariants as asks
 use Rattle.actor_desk.specs.declared.ask.Reply.{Reply}
 use Rattle.actor_desk.specs.declared.ask.Note.{Note}
 use Rattle.actor_desk.specs.declared.actor.Crew.{Crew}
@@ -30,6 +31,20 @@ pub record NotesOneMore (before after : Option BookNotes) : Type 0 where
   pub more : List Note
   pub few : length more ≤ 1
   pub noted : after ≡ noted_all before more
+
+module _ {D : Type 0} (answers : D → D → Pass → Pass → Ask → Reply → Type 0) where
+  -- a call is answered as the desk answers, and a local step by nobody
+  abbrev pub IsAnswered : D → D → Pass → Pass → Ask → Reply → Type 0
+  IsAnswered before after was now (asks.Local step) reply =
+      (reply ≡ Reply.Done) × (after ≡ before) × (now ≡ record was { stamp = was.stamp + 1 })
+  IsAnswered before after was now ask reply = answers before after was now ask reply
+
+-- the step of this note is noted and answered by the desk, and this is the report of it
+pub record IsMade {D R : Type 0} (notes : D → Option BookNotes) (answers : D → D → Pass → Pass → Ask → Reply → Type 0) (of : Note → R)
+    (before after : D) (was now : Pass) (report : R) (note : Note) : Type 0 where
+  pub noted : notes after ≡ noted (notes before) note
+  pub answered : IsAnswered answers before after was now note.ask note.reply
+  pub reported : report ≡ of note
 
 module _ {A : Type 0} (asks : A → Option Ask) where
   -- no stamp is left: the pass stands at the last one, or the desk is full for what is asked

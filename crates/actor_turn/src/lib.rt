@@ -2,7 +2,9 @@
 #![tactic(auto)]
 
 mod gate;
+mod report;
 mod turning;
 
 pub use gate::{Gate, OpenGate};
-pub use turning::turn;
+pub use report::Report;
+pub use turning::{step, turn};

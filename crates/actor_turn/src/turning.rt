@@ -1,5 +1,5 @@
 //! The turn of an actor at a desk, step by step to its end.
-ghost use Rattle.std.specs.Prelude.{◌≡◌, ◌+◌, ◌-◌, ◌^◌, ◌<◌, ◌≤◌, ◌++◌, ◌⊎◌, ◌∷◌, ℕ, true, false, [], None, Some, length, IfOk, IfSome, OnOk, OnErr, MatchResult};
+ghost use Rattle.std.specs.Prelude.{◌≡◌, ◌+◌, ◌-◌, ◌^◌, ◌<◌, ◌≤◌, ◌++◌, ◌⊎◌, ◌∷◌, ℕ, true, [], None, Some, length, IfOk, IfSome, OnOk, OnErr, MatchResult, option_map};
 ghost use Rattle.std.specs.List.{slice_get};
 ghost use Rattle.stamped_book.specs.declared.stamped.Refusal.TheVariants as refusals;
 ghost use Rattle.actor_desk.specs.declared.ask.Note.{Note};
@@ -7,9 +7,10 @@ ghost use Rattle.actor_desk.specs.Bounds.{TakesReply};
 ghost use Rattle.actor_desk.specs.Journals.{is_local};
 ghost use Rattle.actor_desk.specs.Kinds.{CanBeAsked};
 ghost use Rattle.actor_desk.specs.Noted.{Rises, note_of, noted};
-ghost use Rattle.actor_turn.specs.Turns.{DoesStep, IsLeft, IsUsedUp, NotesOneMore, Stopped, Went};
+ghost use Rattle.actor_turn.specs.Turns.{DoesStep, IsAnswered, IsLeft, IsMade, IsUsedUp, NotesOneMore, Stopped, Went};
 
 use crate::gate::Gate;
+use crate::report::Report;
 use actor_desk::{Actor, Ask, Crew, Desk, Note, Notes, Reply};
 use stamped_book::{Pass, Refusal, go_on};
 use std::alloc::{AllocError, Global};
@@ -23,6 +24,8 @@ fn answered<D: Desk>(desk: &mut D, pass: &mut Pass, ask: &Ask) -> Result<Reply, 
     ensures local { OnOk result (is_local ask.now ≡ true → pass.new.stamp ≡ pass.old.stamp + 1) }
     ensures notes { IfOk result (λ reply. D.notes desk.new ≡
         noted (D.notes desk.old) (note_of pass.old pass.new ask.now reply)) }
+    ensures answers { IfOk result (λ reply.
+        IsAnswered D.answers desk.old desk.new pass.old pass.new ask.now reply) }
     ensures err { OnErr result (D.notes desk.new ≡ D.notes desk.old) }
     ensures pass_err { OnErr result (pass.new ≡ pass.old) }
     ensures full { result ≡ Err refusals.Stamps →
@@ -42,22 +45,33 @@ fn answered<D: Desk>(desk: &mut D, pass: &mut Pass, ask: &Ask) -> Result<Reply, 
     }
 }
 
-// The actor takes the reply of a note of its list.
-fn take_at<A: Actor>(member: &mut A, list: &Notes, at: usize) -> Result<(), AllocError>
+// The actor takes the reply of the note at this place of its list, and what is wanted of the note is answered. Where there is no
+// such note nothing is done.
+fn take_at<A: Actor, R: Report + Drop>(
+    member: &mut A,
+    list: &Notes,
+    at: usize,
+) -> Result<Option<R>, AllocError>
     requires { IfSome (slice_get list.now at) (λ note. TakesReply (A.asks member.old) note.reply) }
-    ensures ok { OnOk result (IfSome (slice_get list.now at) (λ note. member.new ≡
-        A.takes note.reply member.old)) }
+    ensures report { IfOk result (λ report. report ≡ option_map R.of (slice_get list.now at)) }
+    ensures ok { (note : Note) → slice_get list.now at ≡ Some note
+        → OnOk result (member.new ≡ A.takes note.reply member.old) }
     ensures err { OnErr result (member.new ≡ member.old) }
 {
     match list.get(at) {
-        Some(note) => member.take(&note.reply),
-        None => Ok(()),
+        Some(note) => {
+            let report = R::of(note)?;
+            member.take(&note.reply)?;
+            Ok(Some(report))
+        }
+        None => Ok(None),
     }
 }
 
-// Notes a step, and takes its reply, which is the last that can fail: the actor is then as it was.
-fn keep<A: Actor>(crew: &mut Crew<A>, note: Note) -> Result<(), AllocError>
+// Notes a step, answers what is wanted of it, and takes its reply, which is the last that can fail: the actor is then as it was.
+fn keep<A: Actor, R: Report + Drop>(crew: &mut Crew<A>, note: Note) -> Result<Option<R>, AllocError>
     requires { TakesReply (A.asks crew.old.member) note.reply }
+    ensures report { IfOk result (λ report. report ≡ Some (R.of note)) }
     ensures ok { OnOk result (crew.new ≡
         record crew.old
         { member = A.takes note.reply crew.old.member; list = crew.old.list ++ note ∷ [] }) }
@@ -65,22 +79,33 @@ fn keep<A: Actor>(crew: &mut Crew<A>, note: Note) -> Result<(), AllocError>
 {
     let at = crew.list.len();
     crew.list.push(note)?;
-    let taken = take_at(&mut crew.member, &crew.list, at);
+    let taken = take_at::<A, R>(&mut crew.member, &crew.list, at);
     if taken.is_err() {
         crew.list.take_back();
     }
     taken
 }
 
-// One step; false where nothing is left to ask, and then nothing changes.
-fn step<A: Actor, D: Desk>(alloc: Global, crew: &mut Crew<A>, desk: &mut D) -> Result<bool, Refusal>
+/// One step of an actor at a desk, and what is wanted of its note; nothing where the actor asks nothing, and then nothing
+/// changes.
+///
+/// # Errors
+///
+/// `Memory` where there is none for the step, and `Stamps` where the pass stands at 2^62 - 1 or more, or the desk is full for
+/// what the actor asks. The actor and its list are then as before; the pass may have risen, and the desk noted one call more.
+pub fn step<A: Actor, D: Desk, R: Report + Drop>(
+    alloc: Global,
+    crew: &mut Crew<A>,
+    desk: &mut D,
+) -> Result<Option<R>, Refusal>
     requires { D.serves desk.old crew.old.pass.actor }
-    ensures made { IfOk result (λ went. went ≡ true →
+    ensures made { IfOk result (λ made. IfSome made (λ report.
         DoesStep A.asks A.takes crew.old crew.new
-        (λ note. D.notes desk.new ≡ noted (D.notes desk.old) note)) }
-    ensures over { IfOk result (λ went. went ≡ false → A.asks crew.old.member ≡ None) }
-    ensures rests { IfOk result (λ went. went ≡ false → crew.new ≡ crew.old) }
-    ensures quiet { IfOk result (λ went. went ≡ false → D.notes desk.new ≡ D.notes desk.old) }
+        (IsMade D.notes D.answers R.of desk.old desk.new crew.old.pass crew.new.pass report))) }
+    ensures over { IfOk result (λ made. made ≡ None → A.asks crew.old.member ≡ None) }
+    ensures rests { IfOk result (λ made. made ≡ None → crew.new ≡ crew.old) }
+    ensures quiet { IfOk result (λ made. made ≡ None → desk.new ≡ desk.old) }
+    ensures refused { crew.new.refused ≡ crew.old.refused }
     ensures left { OnErr result (IsLeft crew.old crew.new) }
     ensures more { OnErr result (NotesOneMore (D.notes desk.old) (D.notes desk.new)) }
     ensures full { result ≡ Err refusals.Stamps → IsUsedUp A.asks (D.is_full desk.new) crew.new }
@@ -90,7 +115,7 @@ fn step<A: Actor, D: Desk>(alloc: Global, crew: &mut Crew<A>, desk: &mut D) -> R
     ensures serving { (actor : ℕ) → D.serves desk.old actor → D.serves desk.new actor }
 {
     let Some(ask) = crew.member.ask(alloc)? else {
-        return Ok(false);
+        return Ok(None);
     };
     if !crew.list.has_room() {
         return Err(Refusal::Memory);
@@ -105,8 +130,7 @@ fn step<A: Actor, D: Desk>(alloc: Global, crew: &mut Crew<A>, desk: &mut D) -> R
                 ask,
                 reply,
             };
-            keep(crew, note)?;
-            Ok(true)
+            Ok(keep::<A, R>(crew, note)?)
         }
         Err(refusal) => Err(refusal),
     }
@@ -127,9 +151,9 @@ fn steps<A: Actor, D: Desk>(alloc: Global, crew: &mut Crew<A>, desk: &mut D) -> 
     ensures serving { (actor : ℕ) → D.serves desk.old actor → D.serves desk.new actor }
 {
     loop {
-        match step(alloc, crew, desk) {
-            Ok(true) => {}
-            Ok(false) => return Ok(()),
+        match step::<A, D, ()>(alloc, crew, desk) {
+            Ok(Some(())) => {}
+            Ok(None) => return Ok(()),
             Err(refusal) => return Err(refusal),
         }
     }

@@ -213,6 +213,8 @@ impl<G: Gate, R: Wait> Desk for RuledSeat<'_, G, R> {
 
     ghost notes = { λ seat. Some (notes_by seat.pass.books) };
 
+    ghost answers = { λ before after was now ask reply. Unit {0} };
+
     ghost origin = { λ seat. origin_at seat.desk.now };
 
     ghost root = { λ seat. names_of seat.desk.now };

@@ -122,6 +122,8 @@ impl<N: Naming, G: Gate, R: Wait> Desk for LockedSeat<'_, N, G, R> {
 
     ghost notes = { λ seat. unnoted };
 
+    ghost answers = { λ before after was now ask reply. Unit {0} };
+
     ghost origin = { λ seat. origin_of N.given };
 
     ghost root = { λ seat. [] };
@@ -134,6 +136,7 @@ impl<N: Naming, G: Gate, R: Wait> Desk for LockedSeat<'_, N, G, R> {
         ensures kind { IfOk result (λ reply. IsOfKind ask.now reply) }
         ensures bounds { IfOk result (λ reply. IsBounded ask.now reply) }
         ensures rises { OnOk result (Rises pass.old pass.new) }
+        ensures answers { IfOk result (λ reply. Unit {0}) }
         ensures notes { IfOk result (λ reply. unnoted ≡
             noted unnoted (note_of pass.old pass.new ask.now reply)) }
         ensures err { OnErr result (unnoted ≡ unnoted) }

@@ -2,6 +2,7 @@ mod Lists
 mod AsValues
 mod Showing
 mod StepMade
+mod AtBooks
 mod Reported
 mod Ending
 mod Opening

@@ -1,5 +1,5 @@
 -- Folds over the actors, and what stands at a place.
-use Rattle.std.proofs.Common.{◌≡◌, refl, sym, ◌∙◌, ap, subst, ℕ, zero, suc, ◌<◌, ◌≤◌, ◌&&◌, Some, None, List, [], ◌∷◌, length, set, Result, Ok, Err, IfOk, OnOk, OnErr, arith}
+use Rattle.std.proofs.Common.{◌≡◌, refl, sym, ◌∙◌, ap, subst, ℕ, zero, suc, ◌<◌, ◌≤◌, ◌&&◌, Some, None, List, [], ◌∷◌, length, set, Result, Ok, Err, OnOk, OnErr, arith}
 use Rattle.std.proofs.lemmas.Option.{same_Some, slice_get-get_or}
 use Rattle.std.specs.List.{slice_get, slice_index_or, list_all}
 use Rattle.world_laws.specs.Actors.{ActorCrew, is_over}
@@ -26,11 +26,6 @@ module _ {X : Type 0} where
 pub both_ok : {T E P Q R : Type 0} (r : Result T E) → (P → Q → R) → OnOk r P → OnOk r Q → OnOk r R
 both_ok (Ok x) f p q = f p q
 both_ok (Err e) f p q = tt
-
--- from one at each value and one at Ok
-pub each_ok : {T E Q : Type 0} {P R : T → Type 0} (r : Result T E) → ((x : T) → P x → Q → R x) → IfOk r P → OnOk r Q → IfOk r R
-each_ok (Ok x) f p q = f x p q
-each_ok (Err e) f p q = tt
 
 pub both_err : {T E P Q R : Type 0} (r : Result T E) → (P → Q → R) → OnErr r P → OnErr r Q → OnErr r R
 both_err (Ok x) f p q = tt

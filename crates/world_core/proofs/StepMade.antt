@@ -3,17 +3,16 @@
 -- What can fail last is the actor's `take`, so an error leaves each actor as it was, and the outcome too
 -- (`ShowsTheSame`).
 --
--- Clauses of a callee at Ok that a caller's clause needs together: `both_ok`, `each_ok`, `both_err` (`proofs/Lists`),
+-- Clauses of a callee at Ok that a caller's clause needs together: `both_ok`, `both_err` (`proofs/Lists`),
 -- and one lemma a clause over the lent element, its place and the element written back (`advance_..` of
 -- `proofs/StepMade`).
 --
 -- In a method of a struct with a model the value before is `c.self.inside`'s view: `subst` along `c.self.view_is`.
-use Rattle.std.proofs.Common.{◌≡◌, refl, sym, ◌∙◌, ap, subst, ℕ, ◌+◌, ◌^◌, ◌<◌, Bool, true, false, not, is_some, ⊎_elim, Option, Some, None, List, [], ◌∷◌, length, set, Result, IfOk, OnOk, OnErr, arith}
+use Rattle.std.proofs.Common.{◌≡◌, refl, sym, ◌∙◌, ap, subst, ℕ, ◌+◌, ◌^◌, ◌<◌, Bool, true, false, not, is_some, ⊎_elim, Option, Some, None, List, [], ◌∷◌, length, set, Result, OnOk, OnErr, arith}
 use Rattle.std.proofs.lemmas.Bool.{both_ways}
 use Rattle.std.proofs.lemmas.List.{length-append}
 use Rattle.std.specs.List.{slice_get, slice_index_or}
 use Rattle.actor_desk.specs.declared.ask.Ask.{Ask}
-use Rattle.actor_desk.specs.declared.ask.Note.{Note}
 use Rattle.actor_desk.specs.Words.{is_nil}
 use Rattle.path_agenda.specs.declared.duty.Duty.{Duty}
 use Rattle.path_core.specs.Octets.{octets}
@@ -31,15 +30,13 @@ use Rattle.world_laws.specs.StampedBooks.{answer_to}
 use Rattle.actor_desk.specs.Books.{StampedBooks}
 use Rattle.world_laws.specs.Worlds.{note_of, crew_after, asked, stepped, world_step, goes, is_going}
 use Rattle.world_laws.proofs.Weaving.Paired.{step_fine}
-use Rattle.world_core.specs.Hearing.{heard_by, heard_with, told_in, heard_report, ShowsTheSame}
-use Rattle.world_core.specs.declared.hearing.Told.{Told}
-use Rattle.world_core.specs.declared.hearing.Hearing.{Hearing}
+use Rattle.world_core.specs.Hearing.{heard_by, heard_with, ShowsTheSame}
 use Rattle.world_core.specs.Kept.{world, IsSound, IsInRoundAbove}
 use Rattle.world_core.specs.Steps.{note_if, crew_if, books_if, GoesUp, StampRises, stamp_or, note_by, next_note}
 use Rattle.world_laws.specs.Timely.{IsTimelyMember}
 use Rattle.world_laws.proofs.Rounds.Frame.{takes_keeps}
 use Rattle.world_core.specs.Timely.{IsTimelyCrew}
-use Rattle.world_core.proofs.Lists.{put_again, found, both_ok, each_ok, both_err}
+use Rattle.world_core.proofs.Lists.{put_again, found, both_ok, both_err}
 use Rattle.world_core.proofs.InRound.{step_in_round}
 use Rattle.world_core.proofs.Showing.{heard_again, shows_other}
 
@@ -153,9 +150,6 @@ module _ (crew : List (ActorCrew (List ℕ))) (books : StampedBooks) (i : ℕ) (
 
 -- ---- as the code makes it: at a place that was found
 
-heard_as : (o : Option Note) (i : ℕ) (h : Hearing) → heard_with o i h ≡ heard_report (told_in o) i h
-heard_as = elim [ None ↦ λ i h. refl | Some note ↦ λ i h. refl ]
-
 module _ (crew : List (ActorCrew (List ℕ))) (books after : StampedBooks) (i j : ℕ) (c d : ActorCrew (List ℕ)) (same : j ≡ i)
     (within : j < length crew) (is : c ≡ slice_index_or crew j c) where
   at_actor : {T E : Type 0} (r : Result T E) (P : ℕ → Type 0) → OnOk r (P i) → OnOk r (P j)
@@ -177,11 +171,9 @@ module _ (crew : List (ActorCrew (List ℕ))) (books after : StampedBooks) (i j 
     advance_rises up = at_actor r (λ n. StampRises i (world crew books) (world (set crew n d) after))
         (both_ok r (λ b u. step_rises crew books after i c d there b.0 b.1 u) both up)
 
-    pub advance_hears : (tells : T → Option Told) → IfOk r (λ x. tells x ≡ told_in (note_if (member_asks octets c.member) books c.pass))
-        → IfOk r (λ x. heard_by (set crew j d) ≡ heard_report (tells x) i (heard_by crew))
-    advance_hears tells told = each_ok r
-        (λ x n b. ap (λ k. heard_by (set crew k d)) same ∙ step_hears crew books after i c d there b.0 b.1
-        ∙ heard_as (note_if (member_asks octets c.member) books c.pass) i (heard_by crew) ∙ ap (λ t. heard_report t i (heard_by crew)) (sym n)) told both
+    pub advance_hears : OnOk r (heard_by (set crew j d) ≡ heard_with (next_note i (world crew books)) i (heard_by crew))
+    advance_hears = at_actor r (λ n. heard_by (set crew n d) ≡ heard_with (next_note i (world crew books)) i (heard_by crew))
+        (both_ok r (λ e f. step_hears crew books after i c d there e f ∙ ap (λ o. heard_with (note_by o books) i (heard_by crew)) (sym there)) crew_is books_are)
 
     pub advance_sound : OnOk r (length c.list < 2 ^ 57 → length d.list < 2 ^ 57) → OnOk r (IsSound (world crew books) → IsSound (world (set crew j d) after))
     advance_sound few = at_actor r (λ n. IsSound (world crew books) → IsSound (world (set crew n d) after))

@@ -39,16 +39,6 @@ abbrev pub heard_with : Option Note → ℕ → Hearing → Hearing
 heard_with None actor h = h
 heard_with (Some note) actor h = heard_more actor note.reply h
 
--- what a reader was told by it
-abbrev pub told_in : Option Note → Option Told
-told_in None = None
-told_in (Some note) = Some (told_of note.reply)
-
--- heard by this actor, if anything
-abbrev pub heard_report : Option Told → ℕ → Hearing → Hearing
-heard_report None actor h = h
-heard_report (Some told) actor h = heard_told actor told h
-
 module _ {C : Type 0} where
   -- by all steps of both readers
   abbrev pub heard_by : List (ActorCrew C) → Hearing

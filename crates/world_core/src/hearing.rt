@@ -7,7 +7,9 @@ ghost use Rattle.world_laws.specs.Outcomes.{tells_end, tells_abort, note_tells, 
 use crate::member::Crew;
 use crate::weaving::notes_from;
 use actor_desk::{Note, Reply};
+use actor_turn::Report;
 use reassembly_book::ReassemblyReply;
+use std::alloc::AllocError;
 
 /// What a reader was told.
 #[derive(Clone, Copy)]
@@ -69,6 +71,14 @@ pub(crate) fn told_of(reply: &Reply) -> Told
     Told {
         end: tells_end(reply),
         abort: tells_abort(reply),
+    }
+}
+
+impl Report for Told {
+    ghost of = { λ note. told_of note.reply };
+
+    fn of(note: &Note) -> Result<Told, AllocError> {
+        Ok(told_of(&note.reply))
     }
 }
 

@@ -4,7 +4,6 @@
 //! step that wants memory fails the world for good.
 #![tactic(auto)]
 
-mod asking;
 mod crew;
 mod hearing;
 mod input;
@@ -13,7 +12,6 @@ mod logged;
 mod looking;
 mod member;
 mod reading;
-mod report;
 mod round_end;
 mod stepped;
 mod stepping;

@@ -3,7 +3,7 @@
 ghost use Rattle.std.specs.Prelude.{◌≡◌, ◌^◌, ◌<◌, length, true, false, is_some, None, IfOk, OnOk, OnErr, option_map};
 ghost use Rattle.path_core.specs.Octets.{octets};
 ghost use Rattle.world_core.specs.AsValues.{StepsAsValues};
-ghost use Rattle.world_core.specs.Hearing.{ShowsTheSame, heard_by, heard_report};
+ghost use Rattle.world_core.specs.Hearing.{ShowsTheSame, heard_by, heard_with};
 ghost use Rattle.world_core.specs.Kept.{IsSound, standing, world};
 ghost use Rattle.world_core.specs.Steps.{StampRises, next_note, stepped_by, is_made};
 ghost use Rattle.world_laws.specs.Fine.{lists_of};
@@ -14,10 +14,10 @@ ghost use Rattle.world_core.specs.declared.stepped.Stepped.TheVariants.{Ended};
 use crate::crew;
 use crate::hearing::{Told, told_of};
 use crate::member::Crew;
-use crate::report::Report;
 use crate::stepped::Stepped;
 use crate::world::World;
 use actor_desk::{Books, Note};
+use actor_turn::Report;
 use stamped_book::Refusal;
 use std::alloc::{AllocError, Global};
 
@@ -38,8 +38,8 @@ fn advance<R: Report + Drop>(
         world crew.old.items books.old) }
     ensures rises { OnOk result
         (StampRises actor (world crew.old.items books.old) (world crew.new.items books.new)) }
-    ensures hears { IfOk result (λ report. heard_by crew.new.items
-        ≡ heard_report (option_map R.told report) actor (heard_by crew.old.items)) }
+    ensures hears { OnOk result (heard_by crew.new.items ≡
+        heard_with (next_note actor (world crew.old.items books.old)) actor (heard_by crew.old.items)) }
     ensures sound { OnOk result (IsSound (world crew.old.items books.old) →
         IsSound (world crew.new.items books.new)) }
     ensures many { length crew.new.items ≡ length crew.old.items }

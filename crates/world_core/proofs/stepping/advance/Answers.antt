@@ -17,7 +17,6 @@ pub returns-in-Some-clause-hears : goal.returns-in-Some-clause-hears
 returns-in-Some-clause-hears g c =
     advance_hears c.args.crew.now.items c.args.books.now c.step.new.books c.args.actor c.from.result c.in-Some.actor.now c.step.new.crew
     c.from.ensures c.in-Some.ensures.item.3.0 c.in-Some.ensures.value c.step.result c.step.ensures.crew c.step.ensures.books
-    (option_map g.R.Report.told) c.step.ensures.told
 
 pub returns-in-Some-clause-sound : goal.returns-in-Some-clause-sound
 returns-in-Some-clause-sound g c =
