@@ -121,7 +121,7 @@ unfoldable pub read_block : ReadSoFar → BlockValue → Option (ReadSoFar × �
 read_block so_far block =
     option_map (λ saying. (with_saying block.order saying so_far, length block.body + 12)) (saying_of so_far.interfaces block)
 
--- the same of the block that octets begin with
+-- what is read, with the block that octets begin with
 unfoldable pub read_front : ReadSoFar → List ℕ → Option (ReadSoFar × ℕ)
 read_front so_far octets = option_and_then (read_block so_far) (block_at so_far.order octets)
 

@@ -14,7 +14,7 @@ abbrev pub behind_next : Option (ℕ × Bor (List ℕ)) → Option (List ℕ)
 behind_next (Some next) = behind_extensions next.0 0 next.1.now
 behind_next None = None
 
--- the same where these octets follow the type of a tag, which tells this type of what follows
+-- the packet behind a tag, where these octets follow its type, and the tag tells this type of what follows
 abbrev pub behind_tag : Option (ℕ × Bor (List ℕ)) → Option (List ℕ)
 behind_tag (Some next) = behind_tags next.0 next.1.now
 behind_tag None = None

@@ -12,7 +12,7 @@ pub record CarriedValue : Type 0 where
   pub size : ℕ
   pub octets : List ℕ
 
--- so many octets, of which at most these are held
+-- a payload of this size, of which at most these octets are held
 abbrev pub carried_of : Address → Address → ℕ → List ℕ → CarriedValue
 carried_of source destination size held =
     record { source = source; destination = destination; size = size; octets = take size held }

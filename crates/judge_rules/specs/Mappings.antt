@@ -72,7 +72,7 @@ place_on_line line position =
 abbrev pub shift_of : ℕ → ℤ → ℤ
 shift_of place position = pos place -ℤ position
 
--- so many octets from a position on reach past that of the line
+-- this count of octets from a position on reaches past that of the line
 abbrev pub reaches_past : ℤ → ℤ → ℕ → Bool
 reaches_past line position octets = int_lt line (position +ℤ pos octets)
 

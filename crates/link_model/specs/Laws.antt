@@ -77,7 +77,7 @@ delays from line = false
 abbrev pub free_at : {C : Type 0} → Side → ℕ → LinkState C → ℕ
 free_at from now link = now + link.delay + ticks_queued (rate_of from link) (queued (rate_of from link) now 0 (waiting_of from link))
 
--- these and others behind them
+-- some flights are the first of a list
 abbrev pub AreFirst : {C : Type 0} → List (Flight C) → List (Flight C) → Type 0
 AreFirst {C} before flights = (more : List (Flight C)) × (flights ≡ before ++ more)
 

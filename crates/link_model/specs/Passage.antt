@@ -74,7 +74,7 @@ abbrev pub is_full : Option Rate → ℕ → ℕ → Waiting → Bool
 is_full None now octets w = false
 is_full (Some rate) now octets w = nat_lt rate.queue (left_at rate now w + octets)
 
--- so many octets wait behind the others
+-- more octets wait behind the others
 abbrev pub queued : Option Rate → ℕ → ℕ → Waiting → Waiting
 queued None now octets w = w
 queued (Some rate) now octets w = record { left = left_at rate now w + octets; at = now }

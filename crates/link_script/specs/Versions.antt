@@ -8,7 +8,7 @@ use Rattle.link_script.specs.declared.version.Version.TheVariants.{First, Second
 use Rattle.link_script.specs.declared.word.Keyword.{Keyword}
 use Rattle.link_script.specs.declared.word.Keyword.TheVariants.{Rate, Loss, Jitter}
 
--- it has lines on rates, random loss and jitter
+-- a version has lines on rates, random loss and jitter
 abbrev pub has_rates : Version → Bool
 has_rates First = false
 has_rates Second = true

@@ -10,7 +10,7 @@ abbrev pub has_no_line : Fate → Bool
 has_no_line OnTime = true
 has_no_line _ = false
 
--- it arrives once, a delay after it was sent
+-- a segment arrives once, a delay after it was sent
 abbrev pub is_on_time : SegmentFate → Bool
 is_on_time f = has_no_line f.arrival && f.waited == 0
 

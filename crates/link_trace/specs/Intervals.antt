@@ -121,7 +121,7 @@ row_line row path side shares answers rate =
 
 -- what the ends of so many paths measure, as each row ends
 module _ (measured : List Rates) (paths : ℕ) where
-  -- so many rows of a direction of a path, the first of which has this number
+  -- a count of rows of a direction of a path, the first of which has this number
   abbrev pub rows_from : ℕ → ℕ → ℕ → Side → List Share → List Carried → List ℕ
   rows_from row zero path side shares answers = []
   rows_from row (suc more) path side shares answers =

@@ -54,7 +54,7 @@ with_a A (keys.Both sender receiver) known = record known { a = with_key known.a
 with_a A (keys.WithData sender receiver data_length checksum) known = record known { a = with_key known.a sender }
 with_a _ _ known = known
 
--- it is judged in a flow of MP_CAPABLE alone
+-- keys are judged in a flow of MP_CAPABLE alone
 abbrev pub judged_in : Opening → Side → Keys → CapableKeys → Verdict
 judged_in (opening.Join token nonce) side known told = PassedOver
 judged_in (opening.Capable checksums) side known told = judged_keys side (key_of side known) (key_of (peer side) known) told

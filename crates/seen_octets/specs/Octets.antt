@@ -31,7 +31,7 @@ octet_by from part teller place =
 abbrev pub AreThere : List ℕ → List Run → Type 0
 AreThere octets runs = (p : ℕ) → IfSome (told_at runs p) (λ told. told.image < length octets)
 
--- so many places from one on have octets
+-- a count of places from one on have octets
 abbrev pub all_held : (ℕ → Option Octet) → ℕ → ℕ → Bool
 all_held octet from zero = true
 all_held octet from (suc count) = is_some (octet from) && all_held octet (from + 1) count

@@ -92,7 +92,7 @@ at_place acknowledged packet None place stream = stream
 at_place acknowledged packet (Some octet) None stream = stream
 at_place acknowledged packet (Some octet) (Some place) stream = shown acknowledged packet place 1 (as_part octet) stream
 
--- so many positions from one on, the lowest first, where the other side acknowledged all places below this one
+-- a count of positions from one on, the lowest first, where the other side acknowledged all places below this one
 abbrev pub shown_from : (ℕ → Option ℕ) → (ℕ → Option (Option ℕ)) → ℕ → ℕ → ℕ → ℕ → StreamValue → StreamValue
 shown_from place comes acknowledged packet p zero stream = stream
 shown_from place comes acknowledged packet p (suc count) stream =

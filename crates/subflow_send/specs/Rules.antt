@@ -76,7 +76,7 @@ abbrev pub sample_of : ℕ → SendState → Option ℕ
 sample_of pos v = option_and_then only_sending (last_covered pos v.records)
 
 -- ---- sending
--- it is to be sent, for the first time or again
+-- a record is to be sent, for the first time or again
 abbrev pub is_unsent : Record → Bool
 is_unsent r = r.sending.unsent
 
@@ -98,7 +98,7 @@ abbrev pub after_resent : ℕ → SendState → SendState
 after_resent now v = record v { records = first_sent now v.records }
 
 -- ---- expiries
--- it is to be sent again
+-- a record that is to be sent again
 abbrev pub unsent_again : Record → Record
 unsent_again r = record r { sending = to_be_sent r.sending }
 

@@ -51,7 +51,7 @@ after_death reset s = record s {
 }
 
 -- ---- the payload
--- it is kept where it is wanted, as long as the peer's FIN isn't passed
+-- a payload is kept where it is wanted, as long as the peer's FIN isn't passed
 abbrev pub is_kept : Bool → EndState → Bool
 is_kept keep s = keep && not (is_fin_passed s)
 
