@@ -36,7 +36,7 @@ comes s (Duty.Send (SendDuty.Fin t) ∷ ds) = comes s ds
 comes s (Duty.Silent (SilentDuty.Timer t) ∷ ds) = comes s ds
 comes s _ = false
 
--- so it is after each of its looks
+-- what `comes` says holds behind each of the side's looks
 abbrev pub IsReady : Side → List Duty → Type 0
 IsReady s [] = Unit {0}
 IsReady s (Duty.Step (StepDuty.Look t) ∷ ds) = (same_side t s ≡ true → comes s ds ≡ true) × IsReady s ds

@@ -97,7 +97,7 @@ module _ (id : ℕ) (c : Profile) (s : Side) (e : PathEnd) where
 
   -- ---- a notice
 
-  -- it announces where it is an announcement
+  -- an option announces where its notice is an announcement
   option_notes : (notice : OwnNotice) → announces id (notice_option notice e.modes) || false ≡ true → is_note id notice ≡ true
   option_notes (OwnNotice.AddAddr other) is = elim (or_cases (other == id) false is) [ inl here ↦ here | inr never ↦ absurd (false≢true never) ]
   option_notes _ is = absurd (false≢true is)

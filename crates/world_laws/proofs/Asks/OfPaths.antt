@@ -106,7 +106,7 @@ module _ {C : Type 0} (k : Codec C) (p : PathState C) where
   pub heard_asks : (s : Side) (o : Option Heard) → IsHeardAsk (path_of p) s (item_ask k s o p)
   heard_asks s o = heard_asked s (item_ask k s o p) (item_asked k p s 0 o)
 
-  -- so does what an acknowledgement of the subflow asks
+  -- what an acknowledgement of the subflow asks is such an ask
   pub subflow_asks : (s : Side) → IsHeardAsk (path_of p) s (subflow_ack_ask s (end_at s p))
   subflow_asks s = subflow_acks_so (IsHeardAsk (path_of p) s) s (end_at s p) tt (λ next. refl)
 

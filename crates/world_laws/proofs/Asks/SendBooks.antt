@@ -93,7 +93,7 @@ module _ (path : ℕ) (change : ByteMark → ByteMark) where
   taken_changed [] h = omega arith
   taken_changed (m ∷ ms) h = taken_first m (change m) ms (map change ms) (h.each 0 m refl) (taken_changed ms (record { each = λ i x at. h.each (suc i) x at }))
 
-  -- so many of them change
+  -- a number of first marks change
   taken_some : (n : ℕ) (ms : List ByteMark) → ((m : ByteMark) → Takes m) → taken_len path ms ≤ taken_len path (map change (take n ms) ++ drop n ms)
   taken_some zero ms takes = omega arith
   taken_some (suc n) [] takes = omega arith

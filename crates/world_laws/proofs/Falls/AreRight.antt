@@ -227,7 +227,7 @@ unanswered_plain links start d w held h none c there = path (subst (λ (v : Worl
         sides p ab ba v u x y ab_holds ba_holds shows A = plain_end v u ab ba x y ab_holds ba_holds p.profile A p.a shows.a
         sides p ab ba v u x y ab_holds ba_holds shows B = plain_end u v ba ab y x ba_holds ab_holds p.profile B p.b shows.b
 
--- so it is at every moment
+-- at every moment path 0 is plain, as long as B answered no join
 always_plain : (start : Start) (turns : List Turn) → HasRoom start → (books_in (world_run values turns (opened_world start)).books).control_b.fall.joined ≡ false
     → (c : ActorCrew Carried) → slice_get (world_run values turns (opened_world start)).crew 2 ≡ Some c → PathIsPlain c.member
 always_plain start turns size none =
@@ -247,7 +247,7 @@ run_joined start = run_so values (λ w. Joined (books_in w.books) B)
     (λ w joined actor c x there is. subst (λ (y : SixBooks). Joined y B) (sym (books_after x c.pass w.books)) (joined_stays start.key_a start.key_b false (books_in w.books) x B joined))
     (λ w joined over. joined)
 
--- it answered none before either
+-- B answered no join before either
 unanswered_before : (start : Start) (turns : List Turn) (w : WorldState Carried) → (books_in (world_run values turns w).books).control_b.fall.joined ≡ false
     → (books_in w.books).control_b.fall.joined ≡ false
 unanswered_before start turns w none = (elim (books_in w.books).control_b.fall.joined as (λ b. (books_in w.books).control_b.fall.joined ≡ b → b ≡ false)

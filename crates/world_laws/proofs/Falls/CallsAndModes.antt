@@ -149,7 +149,7 @@ module _ (links : Links) (f g h : Fall) where
 
 -- ---- a side that is firm no more
 
--- it fell back, or may have done so before it was stopped
+-- a side fell back, or may have done so before it was stopped
 module _ (links : Links) where
   a_softer : (f : Fall) (y : Stand) (plain loose : Bool) → (plain ≡ true → f.joined ≡ false)
       → Modulated (modes_with links (stand_of true f) y) (modes_with links (record { plain = plain; loose = loose; joined = f.joined }) y)
@@ -183,7 +183,7 @@ module _ (links : Links) where
   b_softens true x g = b_softer x g (is_plain g) (is_loose g) (fell_unjoined g)
   b_softens false x g = stay_modes _ _ refl
 
--- the same links, where no side is firm
+-- links as these, where no side is firm
 abbrev pub softened : Links → Links
 softened links = record links { firm_a = false; firm_b = false }
 

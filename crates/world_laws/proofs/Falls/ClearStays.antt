@@ -203,7 +203,7 @@ module _ {C : Type 0} where
     passes = λ d p. passed_clear d p;
   }
 
-  -- so both ends stay clear, whatever is replied
+  -- both ends stay clear, whatever is replied
   pub takes_clear : (k : Codec C) (r : Reply) (p : PathState C) → Clears p (takes k r p)
   takes_clear k r p = takes_lasts (λ p q. Clears p q) clears_last k r p (λ d. answered_clear k d r p)
 

@@ -28,7 +28,7 @@ after_all first (c ∷ sent) h =
     let one_more : suc first + length sent ≡ first + length (c ∷ sent) = omega arith in
     ap (λ n. place_after (suc n) sent) here ∙ rest ∙ one_more
 
--- so no span that was granted reaches past it
+-- no span that was granted reaches past what was sent
 spans_within : (sent : List Cell) → From (λ pos c. c.place ≡ pos) 0 sent → (spans : List GrantedPiece) → Every (IsGrantedTo sent) spans → granted_to spans ≤ length sent
 spans_within sent identity [] h = omega arith
 spans_within sent identity (span ∷ spans) h =

@@ -176,7 +176,7 @@ module _ (c : Profile) (six : SixBooks) (others : Others) where
 -- ---- the end
 
 module _ (c : Profile) (s : Side) (out back : Lane) where
-  -- it goes on by what the book answered
+  -- the end goes on by what the book answered
   pub with_mapping : (e : PathEnd) (own : Option InfiniteMapping) → IfSome own (OwnIs out.pair out.pairs out.fins out.alters) → EndShows c s e out back
       → EndShows c s (record e { treated = record e.treated { infinite_mapping = own } }) out back
   with_mapping e own is h = new_treated h.treated

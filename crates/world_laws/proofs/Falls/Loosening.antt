@@ -119,7 +119,7 @@ loosen_side c six others B call p q ab ba h may loose plain d = record {
 -- ---- the end
 
 module _ (c : Profile) (s : Side) (out back : Lane) where
-  -- it goes by this mapping
+  -- the end goes by this mapping
   abbrev pub with_peer_infinite : ℕ → ℕ → PathEnd → PathEnd
   with_peer_infinite place position e = receiving_infinite place (Some position) true e
 

@@ -17,7 +17,7 @@ use Rattle.byte_pieces.proofs.Ordered.{lt_true}
 
 -- ---- the books
 
--- it wasn't given to another path than path 0, or the side joined
+-- the book wasn't given to another path than path 0, or the side joined
 abbrev pub OwnerSo : SixBooks → Side → Type 0
 OwnerSo six s = (is_for 0 (send_of s six).owner ≡ true) ⊎ HasJoined six s
 

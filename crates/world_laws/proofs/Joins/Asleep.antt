@@ -22,7 +22,7 @@ use Rattle.path_core.specs.Events.{before}
 
 -- ---- an end
 
--- it waits, listens or is dead, and no timer runs
+-- an end waits, listens or is dead, and no timer of it runs
 pub record IsShut (e : PathEnd) : Type 0 where
   pub closed : is_closed_to_segments e.tcp.state ≡ true
   pub timer : e.tcp.timing.timer ≡ None
@@ -64,7 +64,7 @@ timed_shut now e h = record {
 
 -- ---- what is to be done
 
--- it comes to nothing at such an end, or tells the books nothing but how it stands
+-- a duty comes to nothing at such an end, or tells the books nothing but how it stands
 abbrev pub is_idle : Duty → Bool
 is_idle (Duty.Ask AskDuty.JoinAgain) = true
 is_idle (Duty.Step (StepDuty.Look s)) = true
@@ -259,7 +259,7 @@ module _ {C : Type 0} where
       (elim (stands d p) as (λ b. IsAsleep (settled ds (passed d p)) → IsAsleep (if b then with_agenda (d ∷ ds) p else settled ds (passed d p)))
       [ true ↦ λ rest. agenda_asleep (d ∷ ds) p idle h | false ↦ λ rest. rest ]) (settled_asleep ds (passed d p) parts.1 (passed_asleep d p h parts.0))
 
-  -- so it stays, whatever is replied, as long as no join is begun
+  -- a path stays asleep, whatever is replied, as long as no join is begun
   pub takes_asleep : (k : Codec C) (r : Reply) (p : PathState C) → keys_begun r ≡ None → IsSettled p → IsAsleep p → IsAsleep (takes k r p)
   takes_asleep k r p none settled_path h = (elim p.agenda as (λ ds. p.agenda ≡ ds → IsAsleep (settles_down (answers k ds r p))) [
     | [] ↦ λ is. settles p h

@@ -53,7 +53,7 @@ stays_false x true more none = absurd (both_ways x none (more refl))
 
 -- ---- an end goes on
 
--- it is where it never is only where it was there, and answers with no SYN
+-- an end is where it never is only where it was there, and answers with no SYN
 pub record Goes (s : Side) (p : PathState Carried) (e : PathEnd) : Type 0 where
   pub role : is_joined p.profile ≡ true → is_apart s e.tcp.state ≡ true → is_apart s (end_at s p).tcp.state ≡ true
   pub answer : IsNoSyn e.treated.answer

@@ -97,7 +97,7 @@ module _ (p : PathState Carried) where
   fell_signs (Duty.Ask (AskDuty.CheckFailed s)) none = no_fell s FallEvent.CheckFailed refl
   fell_signs d none = none_told (asking d) refl (ask_for values d p) (asks_no_more values p d).kind
 
-  -- so the path has a sign's duty where it tells one
+  -- the path has a sign's duty where it tells one
   asked_sign : (T : Type 0) (x : Ask) → asks_of values p ≡ Some x → is_fell x ≡ true → (signs p.agenda ≡ true → T) → T
   asked_sign T x is fell told = (elim p.agenda as (λ ds. p.agenda ≡ ds → asks_first values ds p ≡ Some x → T)
       [ [] ↦ λ same is. cc | d ∷ ds ↦ λ same is. at d ds (is_sign_duty d) refl same (ap is_fell (same_Some _ x is) ∙ fell) ]) refl is
@@ -134,7 +134,7 @@ module _ (p : PathState Carried) where
 
 -- ---- A's control book
 
--- it has the peer's key
+-- a control book has the peer's key
 abbrev pub HasKey : Control → Type 0
 HasKey c = is_some c.keys.peer ≡ true
 

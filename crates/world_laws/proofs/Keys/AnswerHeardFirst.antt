@@ -109,7 +109,7 @@ is_opens_or_taken Meaning.Opens = true
 is_opens_or_taken (Meaning.Taken pos acknowledged) = true
 is_opens_or_taken _ = false
 
--- it comes to an end that is met, or is the answer to the SYN
+-- a copy comes to an end that is met, or is the answer to the SYN
 abbrev pub Fits : EndPhase → Copy → Meaning → Type 0
 Fits state c m = (is_opens_or_taken m ≡ true → is_met state ≡ true) × (is_accepts m ≡ true → c.syn ≡ true)
 

@@ -63,7 +63,7 @@ pub record Told : Type 0 where
 abbrev pub told_in : PathEnd → Told
 told_in e = record { items = e.treated.items; carrier = e.notices.carrier; queue = e.notices.queue; failed = e.treated.failed_mapping }
 
--- it began, and maybe died since; or its timer runs
+-- an end began, and maybe died since; or its timer runs
 abbrev pub is_woken : PathEnd → Bool
 is_woken e = not (is_closed_to_segments e.tcp.state) || is_some e.tcp.timing.timer
 
@@ -139,7 +139,7 @@ module _ (k : Secrets) (right : Bool) where
 
   -- ---- an end
 
-  -- it has the peer's key; and both the peer's key and its nonce
+  -- an end has the peer's key; and both the peer's key and its nonce
   abbrev pub HasKey : Side → Modes → Type 0
   HasKey s m = m.peer_key ≡ Some (drawn_key (peer s))
 

@@ -175,7 +175,7 @@ call_keyed c (ControlCall.Removed id) is = either_keyed _ _ _ is is
 call_keyed c (ControlCall.FastHeard key) is = either_keyed _ _ _ is is
 call_keyed c _ is = is
 
--- it has it once it noted both keys
+-- a control book has the peer's key once it noted both keys
 pub noted_keyed : (own other : ℕ) (c : Control) → is_noted (Reply.Control (control.keys_reply own c)) ≡ true → is_some (controlling.after_keys own other c).keys.peer ≡ true
 noted_keyed own other c = by (own == c.keys.own)
   where
@@ -183,7 +183,7 @@ noted_keyed own other c = by (own == c.keys.own)
         → is_some (if b then controlling.after_event 0 false FallEvent.KeysHeard (controlling.after_peer_key other c) else c).keys.peer ≡ true
     by = elim [ true ↦ λ noted. refl | false ↦ λ noted. absurd (false≢true noted) ]
 
--- it announces an address once it is confirmed
+-- a control book announces an address once it is confirmed
 pub announces_confirmed : (T : Type 0) (c : Control) (path : ℕ) → (c.fall.confirmed ≡ true → T) → IfSome (announced_in (control.notice_on c path)) (λ id. T)
 announces_confirmed T c path holds = by (control.resets c path) (control.carries c path) c.fall.confirmed refl
   where

@@ -28,7 +28,7 @@ any_more test [] ys is = absurd (false≢true is)
 any_more test (x ∷ xs) ys is = (elim (test x) as (λ b. b || list_any test xs ≡ true → (list_any test xs ≡ true → list_any test (xs ++ ys) ≡ true) → b || list_any test (xs ++ ys) ≡ true)
     [ true ↦ λ is rest. refl | false ↦ λ is rest. rest is ]) is (any_more test xs ys)
 
--- so has one whose last element is such
+-- a list has such an element where its last one is
 any_last : {X : Type 0} (test : X → Bool) (xs : List X) (y : X) → test y ≡ true → list_any test (xs ++ y ∷ []) ≡ true
 any_last test [] y is = ap (λ b. b || false) is
 any_last test (x ∷ xs) y is = (elim (test x) as (λ b. list_any test (xs ++ y ∷ []) ≡ true → b || list_any test (xs ++ y ∷ []) ≡ true)
@@ -104,7 +104,7 @@ stopped_accepts key _ is = absurd (false≢true is)
 
 -- ---- the reassembly book
 
--- it is aborted by the call that says so alone
+-- a reassembly book is aborted by the call that says so alone
 call_aborts : (P : Type 0) (b : Arriving) (call : ReassemblyCall) → (after_call b call).aborted ≡ Some true → (b.aborted ≡ Some true → P) → (call ≡ ReassemblyCall.Abort true → P) → P
 call_aborts P b (ReassemblyCall.Place at bytes) is was aborts = (elim (is_taken at bytes b) as (λ c. (if c then record b { places = places_after at bytes b } else b).aborted ≡ Some true → P)
     [ true ↦ λ is. was is | false ↦ λ is. was is ]) is

@@ -329,7 +329,7 @@ module _ {C : Type 0} where
 
   -- ---- events: what is to be done then begins anew
 
-  -- so many things were treated of a copy: none
+  -- nothing was treated of a copy yet
   record Anew (p q : PathState C) : Type 0 where
     led : Led false q.a.treated.items
     follows : Follows 0 q.agenda

@@ -122,7 +122,7 @@ module _ (k : Secrets) (right : Bool) (w : Side → Type 0) (did : Deed → Side
   abbrev pub Stays : Side → PathEnd → PathState Carried → Type 0
   Stays s e p = OnJoined p.profile (Knows k right w did s (end_at s p).modes → Knows k right w did s e.modes)
 
-  -- it waits only where it waited
+  -- an end waits only where it waited
   abbrev Still : Side → PathEnd → PathState Carried → Type 0
   Still s e p = is_waiting e.tcp.state ≡ true → is_waiting (end_at s p).tcp.state ≡ true
 
@@ -213,7 +213,7 @@ module _ (k : Secrets) (right : Bool) (w : Side → Type 0) (did : Deed → Side
   changed_is c s false true carried h = h
   changed_is c s false false carried h = h
 
-  -- so does what arrives
+  -- what arrives is such a segment where what was carried is
   pub arrived_is : (c : Profile) (s : Side) (carried : Carried) → SegmentIs k right w did c s carried.segment → SegmentIs k right w did c s (as_arrived carried)
   arrived_is c s carried h = if_so (λ z. SegmentIs k right w did c s (record carried.segment { options = z })) carried.stripped [] carried.segment.options (Every-nil _) h
 

@@ -116,7 +116,7 @@ module _ (k : Secrets) (right : Bool) (w : Side → Type 0) (did : Deed → Side
   passed_item joined s (Some Heard.Fail) e said h = h
   passed_item joined s _ e said h = h
 
-  -- it knows what it knew
+  -- an end knows what it knew
   passed_stays : (t s : Side) (o : Option Heard) (e : PathEnd) → Knows k right w did t e.modes → Knows k right w did t (item_passed s o e).modes
   passed_stays t s o e has =
       item_so (λ f. Knows k right w did t f.modes) s o e has (signed t has) (λ next. same_knows k right w did t e.modes (with_data_ack next e).modes refl has) has has (λ place. has)
@@ -222,7 +222,7 @@ module _ (k : Secrets) (right : Bool) (w : Side → Type 0) (did : Deed → Side
   CallIs s (ControlCall.Heard id address port hmac) = HmacIs k right w did (peer s) s id address port hmac
   CallIs s _ = Unit {0}
 
-  -- it tells a reassembly book of the peer's fast close where the side was stopped by it
+  -- a path tells a reassembly book of the peer's fast close where the side was stopped by it
   abbrev pub ReceiveIs : Side → ReassemblyCall → Type 0
   ReceiveIs s (ReassemblyCall.Abort by_peer) = by_peer ≡ true → did Deed.Stopped s × did Deed.Closed (peer s)
   ReceiveIs s _ = Unit {0}

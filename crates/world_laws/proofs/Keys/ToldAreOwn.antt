@@ -121,7 +121,7 @@ abbrev pub FellBack : SixBooks → Side → Type 0
 FellBack six A = is_plain six.control_a.fall ≡ true
 FellBack six B = is_plain six.control_b.fall ≡ true
 
--- so one that fell back stays so
+-- a side that fell back stays so
 pub fell_stays : (six : SixBooks) (x : Ask) (s : Side) → FellBack six s → FellBack (after_ask x six) s
 fell_stays six (Ask.Control A call) A is = plain_stays six.control_a call is
 fell_stays six (Ask.Control A call) B is = is

@@ -23,7 +23,7 @@ use Rattle.world_laws.proofs.Keys.AreDrawn.{is_past}
 
 -- ---- an end
 
--- it is open, or its timer runs
+-- an end is open, or its timer runs
 abbrev pub is_up : EndState → Bool
 is_up s = not (is_closed_to_segments s.state) || is_some s.timing.timer
 
@@ -82,7 +82,7 @@ sending_up _ now s = record { up = λ up. up; waits = λ is. is; past = λ is. i
 
 -- ---- states
 
--- it is open, waits and is past its SYN as it was
+-- an end is open, waits and is past its SYN as it was
 abbrev Same : EndPhase → EndPhase → Type 0
 Same t s = (is_closed_to_segments t ≡ is_closed_to_segments s) × (is_waiting t ≡ is_waiting s) × (is_past t ≡ is_past s)
 
@@ -163,7 +163,7 @@ payload_alike (Meaning.Taken pos acknowledged) [] s = record { state = refl; wai
 payload_alike (Meaning.Taken pos acknowledged) (octet ∷ octets) s = record { state = refl; waits = refl; past = refl; timer = refl }
 payload_alike _ octets s = record { state = refl; waits = refl; past = refl; timer = refl }
 
--- it is answered, taken or accepted: it means so at an open end alone
+-- a copy is answered, taken or accepted: it means so at an open end alone
 abbrev pub is_lively : Meaning → Bool
 is_lively (Meaning.Accepts acknowledged) = true
 is_lively Meaning.RepeatedSyn = true
@@ -195,7 +195,7 @@ arrival_up Meaning.Kills hint now c s none = record { up = λ up. absurd (false�
 arrival_up (Meaning.Taken pos acknowledged) hint now c s none = alike_sleeps s (after_taken pos acknowledged hint now c s) (taken_alike pos acknowledged hint now c s)
 arrival_up _ hint now c s none = record { up = λ up. up; waits = λ is. is }
 
--- so does the end that takes it, with its payload
+-- the end that takes a copy, with its payload, sleeps as it did
 pub copy_up : (m : Meaning) (owes : Bool) (hint : Hint) (now : ℕ) (c : Copy) (octets : List ℕ) (s : EndState) → WakesNone m s
     → Sleeps s (owing_if owes (after_arrival m hint now c (with_payload m octets s)))
 copy_up m owes hint now c octets s none =
@@ -291,7 +291,7 @@ pub data Voice : Type 0 where
   Falls : (side : Side) → Voice
   Aborts : (side : Side) → Voice
 
--- it is that side, and it says something; or it falls; or it aborts
+-- a voice is of that side, and says something; or it falls; or it aborts
 abbrev pub tells : Voice → Side → Bool
 tells (Voice.Says s) t = same_side s t
 tells (Voice.Falls s) t = false

@@ -373,7 +373,7 @@ module _ (c : Profile) (s : Side) (out back : Lane) where
 
   -- ---- the FIN
 
-  -- it stands after the bytes that were granted
+  -- the FIN stands after the bytes that were granted
   pub finished_shows : (e : PathEnd) → states.may_finish e.tcp.state ≡ true → EndShows c s e out back → EndShows c s (record e { tcp = after_finishing e.tcp }) (with_fin_sent out) back
   finished_shows e may h =
       let q : Lane = with_fin_sent out in

@@ -135,7 +135,7 @@ fin_passed_back _ is = refl
 
 -- ---- what a copy means says something of it
 
--- it stands there, acknowledges so much, and is no SYN and no reset
+-- a copy stands there, acknowledges so much, and is no SYN and no reset
 pub record IsPlainCopy (c : Copy) (pos acknowledged : ℕ) : Type 0 where
   pub position_is : c.position ≡ Some pos
   pub acknowledged_is : c.acknowledged ≡ Some acknowledged

@@ -38,7 +38,7 @@ pub record TellsFalls (e : PathEnd) (p : Lane) : Type 0 where
 abbrev pub TellsPlain : PathEnd → Lane → ℕ → Type 0
 TellsPlain e p position = e.modes.identity ≡ true → PairTold p.pairs p.fins (position - 1) position
 
--- so was that of a record, unless it is the SYN
+-- in plain TCP the pair of a record was told, unless it is the SYN
 abbrev pub RecordTold : PathEnd → Lane → Record → Type 0
 RecordTold e p r = is_syn r.kind ≡ false → TellsPlain e p r.pos
 

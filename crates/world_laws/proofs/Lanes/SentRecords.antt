@@ -327,7 +327,7 @@ module _ (sent : List Cell) where
 
 -- ---- the infinite mapping
 
--- it begins at this place, and at this position of the record
+-- a segment begins at this place, and at this position of the record
 pub record Gone (nxt : ℕ) (place : ℕ) (granted : List GrantedPiece) (sent : List Cell) (fins : List ℕ) : Type 0 where
   pub pos : ℕ
   pub within : pos ≤ length sent

@@ -82,7 +82,7 @@ pub record IsPairOf (place position : ℕ) (m : Pair) : Type 0 where
 abbrev pub HasPair : List Pair → ℕ → ℕ → Type 0
 HasPair pairs place position = Has (IsPairOf place position) pairs
 
--- it was sent, or it stands behind the FIN, where nothing is placed by it
+-- a pair was sent, or it stands behind the FIN, where nothing is placed by it
 abbrev pub PairTold : List Pair → List ℕ → ℕ → ℕ → Type 0
 PairTold pairs fins place position = HasPair pairs place position ⊎ HasFin fins (position - 1)
 
@@ -119,7 +119,7 @@ pub record IsSummed (c : Profile) (s : Side) (sent : List Cell) (place position 
   pub within : (position - 1) + len ≤ length sent
   pub right : c.spelling.checksums ≡ true → checksum ≡ dss_checksum (bare_mapping c s place position len) (take len (drop (position - 1) (bytes_of sent)))
 
--- so it is of one that was heard
+-- a mapping that was heard has the checksum of what was sent
 pub record KeptSummed (c : Profile) (sent : List Cell) (kept : KeptMapping) : Type 0 where
   pub within : (kept.pos - 1) + octets_of kept ≤ length sent
   pub right : c.spelling.checksums ≡ true → dss_checksum kept.mapping (take (octets_of kept) (drop (kept.pos - 1) (bytes_of sent))) ≡ kept.mapping.checksum

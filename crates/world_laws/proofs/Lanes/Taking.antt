@@ -334,7 +334,7 @@ wants_pair_fin p mapping position at loose came peer from =
 
 -- ---- the FIN is passed
 
--- it has come in order
+-- the FIN has come in order
 module _ (p : Lane) (position : ℕ) (has : HasFin p.fins position) (at : position ≡ suc p.edge) where
   abbrev pub finished_lane : Lane
   finished_lane = record p { fin_in = true }

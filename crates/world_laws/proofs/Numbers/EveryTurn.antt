@@ -222,7 +222,7 @@ module _ (start : Start) (plain : Carries start) (free : NoneIsFirm plain.links)
           let below = slice_get_within start.paths number path.plan path.plan_there in let most = fit.paths in
           subst (λ d. d.spelling.path ≤ 15) (sym profile) (omega (arith, below, most))
 
-      -- it takes the reply to its first duty, and settles
+      -- a path takes the reply to its first duty, and settles
       taken : (duty : Duty) (ds : List Duty) → p.agenda ≡ duty ∷ ds → PathTells p.profile (takes values (reply_of books (ask_for values duty p)) p)
       taken duty ds is =
           let ask = ask_for values duty p in
@@ -248,7 +248,7 @@ module _ (start : Start) (plain : Carries start) (free : NoneIsFirm plain.links)
           (settled_tells (after_ask ask books) now p.profile later_short q.agenda q a.after.ab_after a.after.ba_after a.after.shows
           (after_holds p.profile books now ask q r.ab r.ba a held) told told.agenda)
 
-      -- it begins a round
+      -- a path begins a round
       begun_tells : PathTells p.profile (next_round p)
       begun_tells =
           settled_tells books others p.profile (books_short t fare tells.rooms tells.keys) start_of_turn (begun_path start plain p) path.ab path.ba

@@ -515,7 +515,7 @@ module _ (c : Profile) (s : Side) (path : c.spelling.path ≤ 15) (mss : c.mss <
     tells = record { fits = omega arith; short = short };
   }
 
-  -- it stands beside a DSS
+  -- MP_FAIL stands beside a DSS
   beside_tells : (fin : Option ℕ) → IfSome fin IsShort → TwoSay c s (Dss (Some e.receiving.next) (data_fin_mapping c s fin) ∷ fail_beside fin e.modes)
   beside_tells (Some place) n = end_tells (Some place) n
   beside_tells None n = elim (receives_infinite e.modes.mode) as (λ b. TwoSay c s (Dss (Some e.receiving.next) None ∷ fail_options (if b then None else e.modes.failed_mapping)))

@@ -81,6 +81,6 @@ opens_those ab ba start lines = begins_knows (record_of ab ba) (waiting_path sta
   b = record { places = λ p. rw (get-empty nat_cmp p) tt; held = Every-nil _ };
 })
 
--- so nothing that it heard clashes
+-- nothing that an end heard clashes
 pub agrees_so : (ab ba : Lane) (p : PathState Carried) → KnowsThose ab ba p → (s : Side) → NothingClashes (end_at s p).receiving.mappings
 agrees_so ab ba p h s = nothing_clashes (record_of ab ba s) (one_in ab ba s) (end_at s p).receiving.mappings (end_knows (record_of ab ba) s p h)

@@ -28,7 +28,7 @@ use Rattle.world_laws.proofs.Lanes.Showing.{HeldShows}
 
 -- ---- a lane
 
--- it was granted what the other was, and maybe more; and it is open where the other is
+-- a lane was granted what the other was, and maybe more; and it is open where the other is
 pub record IsLonger (p q : Lane) : Type 0 where
   pub more : List Cell
   pub is : q.sent ≡ p.sent ++ more

@@ -79,7 +79,7 @@ is_read b = elim b.aborted as (λ o. IsRead b (if is_some o then b else after_re
 
 -- ---- what arrives
 
--- the same was read, and no less has arrived
+-- as much was read, and no less has arrived
 pub record IsGrown (b c : Arriving) : Type 0 where
   pub read : c.read ≡ b.read
   pub grows : received b ≤ received c
@@ -131,7 +131,7 @@ arrives b (ReassemblyCall.Abort by_peer) is = aborts by_peer b
 
 -- ---- a reader with its book
 
--- it was told that the connection was aborted
+-- a reader was told that the connection was aborted
 abbrev pub WasStopped : List Note → Type 0
 WasStopped notes = was_told tells_stop notes ≡ true
 

@@ -124,7 +124,7 @@ refusal_there = elim [ A ↦ record { owed = refl; followed = refl } | B ↦ rec
 reset_there : (s : Side) → IsOwedThere s (resets s 1)
 reset_there = elim [ A ↦ record { owed = refl; followed = refl } | B ↦ record { owed = refl; followed = refl } ]
 
--- so many things that a copy said, and its payload
+-- what a copy said is to be treated, and its payload
 record IsCopy (s : Side) (ds : List Duty) : Type 0 where
   followed : is_followed ds ≡ true
   owed : is_owed s ds ≡ true

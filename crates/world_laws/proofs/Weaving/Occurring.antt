@@ -6,7 +6,7 @@
 use Rattle.world_laws.proofs.Words.{◌≡◌, refl, sym, subst, ℕ, zero, suc, inl, inr, ◌⊎◌, ⊎_elim, true, false, List, [], ◌∷◌, ◌++◌, length, arith, ◌<◌, both_ways}
 use Rattle.world_laws.proofs.Words.{Contains, slice_index_or, Note, is_local, ArePaired}
 
--- it is one of the items
+-- an item is one of the list
 abbrev pub In : {X : Type 0} → X → List X → Type 0
 In x [] = ⊥
 In x (y ∷ ys) = (y ≡ x) ⊎ In x ys
@@ -40,7 +40,7 @@ module _ {X : Type 0} where
   in_new [] n m is = inl is
   in_new (x ∷ xs) n m is = inr (in_new xs n m is)
 
--- it is one of the notes of one of the lists
+-- a note is one of the notes of one of the lists
 abbrev pub Occurs : Note → List (List Note) → Type 0
 Occurs n [] = ⊥
 Occurs n (list ∷ lists) = In n list ⊎ Occurs n lists

@@ -15,7 +15,7 @@ pub record Has {C : Type 0} (start : Start) (Q : Cast C → Type 0) (w : WorldSt
   pub fare : Fare start cast
   pub holds : Q cast
 
--- it is kept by a step of each application and of each path
+-- a relation is kept by a step of each application and of each path
 pub record Stepwise {C : Type 0} (k : Codec C) (start : Start) (Q : Cast C → Type 0) : Type 0 where
   pub a : (t : Cast C) → Fare start t → (d : AppDuty) (ds : List AppDuty) → t.a.agenda ≡ d ∷ ds → Q t → Q (after_a (app_ask d t.a) t)
   pub b : (t : Cast C) → Fare start t → (d : AppDuty) (ds : List AppDuty) → t.b.agenda ≡ d ∷ ds → Q t → Q (after_b (app_ask d t.b) t)

@@ -18,7 +18,7 @@ module _ {C : Type 0} where
   both_ends R B w p q own other x =
       (other p.a q.a (record { same = ap (λ (v : PathView C). v.other) x.same }), own p.b q.b (record { same = ap (λ (v : PathView C). v.own) x.same }))
 
-  -- it holds whatever is to be done, of one step after the other, and of each duty that is passed
+  -- a relation holds whatever is to be done, of one step after the other, and of each duty that is passed
   pub record Lasts (R : PathState C → PathState C → Type 0) : Type 0 where
     pub agenda : (ds : List Duty) (p : PathState C) → R p (with_agenda ds p)
     pub chains : (p q r : PathState C) → R p q → R q r → R p r
