@@ -162,11 +162,11 @@ answered_by (Meaning.Accepts acknowledged) items m said h = answered_modes (join
 answered_by _ items m said h = h
 
 cleared_by : (meaning : Meaning) (state : EndPhase) (m : Modes) → ModesTell m → ModesTell (cleared_in meaning state m)
-cleared_by (Meaning.Taken position acknowledged) state m h = record { own_key = h.own_key; peer_key = h.peer_key; own_nonce = h.own_nonce; peer_nonce = h.peer_nonce; failed_mapping = h.failed_mapping }
+cleared_by (Meaning.Taken position acknowledged) state m h = h
 cleared_by _ state m h = h
 
 asked_modes : (meaning : Meaning) (options : List HeardOption) (m : Modes) → ModesTell m → ModesTell (asked_in meaning options m)
-asked_modes Meaning.Opens options m h = record { own_key = h.own_key; peer_key = h.peer_key; own_nonce = h.own_nonce; peer_nonce = h.peer_nonce; failed_mapping = h.failed_mapping }
+asked_modes Meaning.Opens options m h = h
 asked_modes _ options m h = h
 
 joined_modes : (joined : Bool) (meaning : Meaning) (items : List Heard) (state : EndPhase) (m : Modes) → Tell items → ModesTell m

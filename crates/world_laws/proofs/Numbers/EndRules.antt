@@ -66,16 +66,16 @@ module _ (c : Profile) (s : Side) (v : SendState) (h : SenderTells c s v) where
 -- ---- modes
 
 told_modes : (r : Reply) (m : Modes) → ModesTell m → ModesTell (modes_told r m)
-told_modes (Reply.Control (ControlReply.Standing mode standby sole notice)) m h = record { own_key = h.own_key; peer_key = h.peer_key; own_nonce = h.own_nonce; peer_nonce = h.peer_nonce; failed_mapping = h.failed_mapping }
+told_modes (Reply.Control (ControlReply.Standing mode standby sole notice)) m h = h
 told_modes _ m h = h
 
 went_modes : (r : Reply) (m : Modes) → ModesTell m → ModesTell (mode_in r m)
-went_modes (Reply.Control (ControlReply.Verdict (Verdict.Went mode))) m h = record { own_key = h.own_key; peer_key = h.peer_key; own_nonce = h.own_nonce; peer_nonce = h.peer_nonce; failed_mapping = h.failed_mapping }
+went_modes (Reply.Control (ControlReply.Verdict (Verdict.Went mode))) m h = h
 went_modes _ m h = h
 
 fell_modes : (event : Event) (r : Reply) (m : Modes) → ModesTell m → ModesTell (fell_in event r m)
-fell_modes Event.PlainData r m h = let w = went_modes r m h in record { own_key = w.own_key; peer_key = w.peer_key; own_nonce = w.own_nonce; peer_nonce = w.peer_nonce; failed_mapping = w.failed_mapping }
-fell_modes Event.PlainAck r m h = let w = went_modes r m h in record { own_key = w.own_key; peer_key = w.peer_key; own_nonce = w.own_nonce; peer_nonce = w.peer_nonce; failed_mapping = w.failed_mapping }
+fell_modes Event.PlainData r m h = went_modes r m h
+fell_modes Event.PlainAck r m h = went_modes r m h
 fell_modes _ r m h = went_modes r m h
 
 keyed_modes : (r : Reply) (o : Option KeyPair) (m : Modes) → IfSome o (λ k. IsKey k.peer) → ModesTell m → ModesTell (keys_in r o m)
@@ -162,7 +162,7 @@ module _ (c : Profile) (s : Side) (e : PathEnd) (h : EndTells c s e) where
 
   -- a join is refused, which tells the mode
   pub join_refused_tells : (r : Reply) → EndTells c s (with_mode_refused r e)
-  join_refused_tells r = with_modes (with_mode_refused r e).modes (record { own_key = h.modes.own_key; peer_key = h.modes.peer_key; own_nonce = h.modes.own_nonce; peer_nonce = h.modes.peer_nonce; failed_mapping = h.modes.failed_mapping })
+  join_refused_tells r = with_modes (with_mode_refused r e).modes h.modes
 
   notice_noted : (notice : Notice) (may : Bool) → (mode : Mode) (standby sole : Bool) → NoticeTells (Reply.Control (ControlReply.Standing mode standby sole notice))
       → NoticesTell (after_notice notice may e.notices)
@@ -229,10 +229,10 @@ module _ (c : Profile) (s : Side) (e : PathEnd) (h : EndTells c s e) where
   fell_tells event r = with_modes (fell_in event r e.modes) (fell_modes event r e.modes h.modes)
 
   pub identity_tells : EndTells c s (in_identity e)
-  identity_tells = with_modes (record e.modes { identity = true }) (record { own_key = h.modes.own_key; peer_key = h.modes.peer_key; own_nonce = h.modes.own_nonce; peer_nonce = h.modes.peer_nonce; failed_mapping = h.modes.failed_mapping })
+  identity_tells = with_modes (record e.modes { identity = true }) h.modes
 
   pub plain_ack_tells : EndTells c s (with_plain_ack e)
-  plain_ack_tells = with_modes (with_plain_ack e).modes (record { own_key = h.modes.own_key; peer_key = h.modes.peer_key; own_nonce = h.modes.own_nonce; peer_nonce = h.modes.peer_nonce; failed_mapping = h.modes.failed_mapping })
+  plain_ack_tells = with_modes (with_plain_ack e).modes h.modes
 
   pub peer_key_tells : (o : Option ℕ) → IfSome o IsKey → EndTells c s (with_peer_key o e)
   peer_key_tells o key = with_modes (record e.modes { peer_key = o }) (record { own_key = h.modes.own_key; peer_key = key; own_nonce = h.modes.own_nonce; peer_nonce = h.modes.peer_nonce; failed_mapping = h.modes.failed_mapping })
@@ -251,7 +251,7 @@ module _ (c : Profile) (s : Side) (e : PathEnd) (h : EndTells c s e) where
     edge = h.edge;
     stream = record { heard = h.stream.heard; known_end = h.stream.known_end };
     window = h.window;
-    modes = record { own_key = h.modes.own_key; peer_key = h.modes.peer_key; own_nonce = h.modes.own_nonce; peer_nonce = h.modes.peer_nonce; failed_mapping = h.modes.failed_mapping };
+    modes = h.modes;
     treated = h.treated;
     notices = h.notices;
   }
@@ -288,7 +288,7 @@ module _ (c : Profile) (s : Side) (e : PathEnd) (h : EndTells c s e) where
     edge = h.edge;
     stream = record { heard = let heard = h.stream.heard in omega (arith, heard, short); known_end = h.stream.known_end };
     window = h.window;
-    modes = record { own_key = h.modes.own_key; peer_key = h.modes.peer_key; own_nonce = h.modes.own_nonce; peer_nonce = h.modes.peer_nonce; failed_mapping = h.modes.failed_mapping };
+    modes = h.modes;
     treated = record { items = h.treated.items; answer = h.treated.answer; acknowledged = h.treated.acknowledged; failed_mapping = h.treated.failed_mapping };
     notices = h.notices;
   }
@@ -297,7 +297,7 @@ module _ (c : Profile) (s : Side) (e : PathEnd) (h : EndTells c s e) where
     edge = h.edge;
     stream = h.stream;
     window = h.window;
-    modes = record { own_key = h.modes.own_key; peer_key = h.modes.peer_key; own_nonce = h.modes.own_nonce; peer_nonce = h.modes.peer_nonce; failed_mapping = h.modes.failed_mapping };
+    modes = h.modes;
     treated = record { items = h.treated.items; answer = h.treated.answer; acknowledged = h.treated.acknowledged; failed_mapping = h.treated.failed_mapping };
     notices = h.notices;
   }
@@ -328,7 +328,7 @@ module _ (c : Profile) (s : Side) (e : PathEnd) (h : EndTells c s e) where
 
   -- a Data ACK that counts for nothing but itself
   pub data_ack_tells : (next : ℕ) → EndTells c s (with_data_ack next e)
-  data_ack_tells next = with_modes (covered_by next e.modes) (record { own_key = h.modes.own_key; peer_key = h.modes.peer_key; own_nonce = h.modes.own_nonce; peer_nonce = h.modes.peer_nonce; failed_mapping = h.modes.failed_mapping })
+  data_ack_tells next = with_modes (covered_by next e.modes) h.modes
 
   -- ---- failed checks, and infinite mappings
 
@@ -368,12 +368,12 @@ module _ (c : Profile) (s : Side) (e : PathEnd) (h : EndTells c s e) where
   pub fail_heard_tells : (r : Reply) → EndTells c s (after_fail_heard r e)
   fail_heard_tells r =
       fail_heard_so (λ f. EndTells c s f) r e (λ own owes. let w = went_modes r e.modes h.modes in
-      with_modes _ (record { own_key = w.own_key; peer_key = w.peer_key; own_nonce = w.own_nonce; peer_nonce = w.peer_nonce; failed_mapping = w.failed_mapping }))
+      with_modes _ w)
 
   pub infinite_tells : (place : ℕ) (position : Option ℕ) (r : Reply) → EndTells c s (after_infinite place position r e)
   infinite_tells place position r =
       infinite_came_so (λ f. EndTells c s f) place position r e (λ other. let w = went_modes r e.modes h.modes in
-      with_modes _ (record { own_key = w.own_key; peer_key = w.peer_key; own_nonce = w.own_nonce; peer_nonce = w.peer_nonce; failed_mapping = w.failed_mapping }))
+      with_modes _ w)
 
   pub with_infinite_tells : (r : Reply) → EndTells c s (with_infinite r e)
   with_infinite_tells r = record {
@@ -468,7 +468,7 @@ module _ (c : Profile) (s : Side) (e : PathEnd) (h : EndTells c s e) where
     edge = subst (λ recv. IsShort recv.edge) (sym same) h.edge;
     stream = h.stream;
     window = record { next = h.window.next; window = h.window.window };
-    modes = record { own_key = h.modes.own_key; peer_key = h.modes.peer_key; own_nonce = h.modes.own_nonce; peer_nonce = h.modes.peer_nonce; failed_mapping = h.modes.failed_mapping };
+    modes = h.modes;
     treated = h.treated;
     notices = h.notices;
   }

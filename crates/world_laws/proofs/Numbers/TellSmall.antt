@@ -249,12 +249,16 @@ pub record WindowTells (v : Receiving) : Type 0 where
   pub next : IsShort v.next
   pub window : v.window ≤ 2 ^ 20
 
-pub record ModesTell (m : Modes) : Type 0 where
-  pub own_key : IsKey m.own_key
-  pub peer_key : IfSome m.peer_key IsKey
-  pub own_nonce : IsNonce m.own_nonce
-  pub peer_nonce : IsNonce m.peer_nonce
-  pub failed_mapping : IfSome m.failed_mapping IsShort
+-- the keys and nonces of both sides, and the mapping whose check failed
+pub record KeysTell (own : ℕ) (peer : Option ℕ) (nonce heard : ℕ) (failed : Option ℕ) : Type 0 where
+  pub own_key : IsKey own
+  pub peer_key : IfSome peer IsKey
+  pub own_nonce : IsNonce nonce
+  pub peer_nonce : IsNonce heard
+  pub failed_mapping : IfSome failed IsShort
+
+abbrev pub ModesTell : Modes → Type 0
+ModesTell m = KeysTell m.own_key m.peer_key m.own_nonce m.peer_nonce m.failed_mapping
 
 pub record TreatedTells (t : Treated) : Type 0 where
   pub items : Every ItemTells t.items
