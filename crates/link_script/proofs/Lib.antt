@@ -2,6 +2,7 @@ pub mod Numerals
 pub mod Slices
 pub mod ReadTurns
 pub mod Words
+mod SettledKeys
 pub mod WrittenText
 pub mod LineRanges
 pub mod ScriptRanges

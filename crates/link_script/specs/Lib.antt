@@ -6,6 +6,7 @@ pub mod Versions
 pub mod Steps
 pub mod Lines
 pub mod Places
+pub mod Settled
 pub mod Reading
 pub mod Writing
 pub mod Scripts

@@ -1,15 +1,14 @@
 //! Where a line may stand, and what no second line may settle.
 
-ghost use Rattle.std.specs.Prelude.{◌≡◌, count_by};
-ghost use Rattle.std.specs.List.{list_any};
-ghost use Rattle.link_script.specs.Places.{is_path, is_end, is_misplaced, is_out_of_order, settled_of, settled_of_direction, settled_by_event, settled_by, is_same, settle_one, is_repeated};
+ghost use Rattle.std.specs.Prelude.{◌≡◌};
+ghost use Rattle.link_script.specs.Places.{is_path, is_end, is_misplaced, settled_of, settled_of_direction, settled_by_event, settled_by};
 
 use crate::line::Line;
 use crate::script::{Direction, Happens, Impairment, ScriptLine, Segment};
 use sides::Side;
 
 /// What a line settles, so that no second line may settle it again.
-#[derive(Clone, Copy, PartialEq, Eq)]
+#[derive(Clone, Copy)]
 pub enum Subject {
     Seed,
     Checksum,
@@ -33,33 +32,22 @@ pub enum Subject {
     Jitter(Direction),
 }
 
-fn is_end(line: &Line) -> bool
+/// Whether the script ends here.
+pub fn is_end(line: &Line) -> bool
     ensures { result ≡ is_end line.now }
 {
     matches!(line, Line::End)
 }
 
-fn is_path(line: &Line) -> bool
+/// Whether the line is a path.
+pub fn is_path(line: &Line) -> bool
     ensures { result ≡ is_path line.now }
 {
     matches!(line, Line::Path { .. })
 }
 
-/// Whether the script has ended.
-pub fn has_ended(seen: &[Line]) -> bool
-    ensures { result ≡ list_any is_end seen.now }
-{
-    seen.iter().any(|line| is_end(line))
-}
-
-fn count_paths(seen: &[Line]) -> usize
-    ensures { result ≡ count_by is_path seen.now }
-{
-    seen.iter().filter(|line| is_path(line)).count()
-}
-
 /// Whether a line can't stand after so many paths.
-fn is_misplaced(paths: usize, line: &Line) -> bool
+pub fn is_misplaced(paths: usize, line: &Line) -> bool
     ensures { result ≡ is_misplaced paths line.now }
 {
     match *line {
@@ -72,13 +60,6 @@ fn is_misplaced(paths: usize, line: &Line) -> bool
         },
         Line::End => paths == 0,
     }
-}
-
-/// Whether a line can't stand after these lines.
-pub fn is_out_of_order(seen: &[Line], line: &Line) -> bool
-    ensures { result ≡ is_out_of_order seen.now line.now }
-{
-    has_ended(seen) || is_misplaced(count_paths(seen), line)
 }
 
 /// What of a segment this settles.
@@ -118,7 +99,8 @@ fn settled_by_event(event: &ScriptLine) -> Option<Subject>
     }
 }
 
-fn settled_by(line: &Line) -> Option<Subject>
+/// The subject that a line settles.
+pub fn settled_by(line: &Line) -> Option<Subject>
     ensures { result ≡ settled_by line.now }
 {
     match line {
@@ -129,27 +111,4 @@ fn settled_by(line: &Line) -> Option<Subject>
         Line::Event(event) => settled_by_event(event),
         Line::Header(_) | Line::Path { .. } | Line::End => None,
     }
-}
-
-fn is_same(a: Subject, b: Subject) -> bool
-    ensures { result ≡ is_same a b }
-{
-    a == b
-}
-
-/// Whether both lines settle one thing.
-fn settle_one(a: &Line, b: &Line) -> bool
-    ensures { result ≡ settle_one a.now b.now }
-{
-    match (settled_by(a), settled_by(b)) {
-        (Some(a), Some(b)) => is_same(a, b),
-        _ => false,
-    }
-}
-
-/// Whether a line settles what one of these has settled.
-pub fn is_repeated(seen: &[Line], line: &Line) -> bool
-    ensures { result ≡ is_repeated seen.now line.now }
-{
-    seen.iter().any(|earlier| settle_one(earlier, line))
 }

@@ -10,8 +10,8 @@ use crate::fault::{ScriptFault, ScriptKind};
 use crate::limits::{DEFAULT_BUFFER, DEFAULT_SEED, MOST_LINES};
 use crate::line::{Line, read_line};
 use crate::lists::{PathLines, ScriptLines};
-use crate::place::{has_ended, is_out_of_order, is_repeated};
 use crate::script::Script;
+use crate::seen::Seen;
 use crate::version::Version;
 use crate::word::{is_passed_over, split_words};
 use octet_text::split_line;
@@ -36,13 +36,13 @@ fn read_first(text: &[u8]) -> Result<Line, ScriptKind>
 }
 
 /// Whether a line may stand after these lines.
-fn place(seen: &[Line], line: Line) -> Result<Line, ScriptKind>
+fn place(seen: &Seen, line: Line) -> Result<Line, ScriptKind>
     ensures { result ≡ in_place seen.now line }
 {
-    if is_out_of_order(seen, &line) {
+    if seen.is_out_of_order(&line) {
         return Err(ScriptKind::Order);
     }
-    if is_repeated(seen, &line) {
+    if seen.is_repeated(&line) {
         return Err(ScriptKind::Repeated);
     }
     Ok(line)
@@ -59,22 +59,17 @@ fn version_told(seen: &[Line]) -> Version
 }
 
 #[tactic(auto, unfolding(crate::specs::Reading::later_line))]
-fn read_later(seen: &[Line], words: &[&[u8]]) -> Result<Line, ScriptKind>
+fn read_later(seen: &Seen, words: &[&[u8]]) -> Result<Line, ScriptKind>
     ensures { result ≡ later_line seen.now (map (λ word. word.now) words.now) }
 {
-    place(seen, read_line(version_told(seen), words)?)
+    place(seen, read_line(version_told(seen.as_slice()), words)?)
 }
 
 /// The line with this number, after these lines.
-fn read_numbered(
-    alloc: Global,
-    number: u64,
-    seen: &[Line],
-    text: &[u8],
-) -> Result<Line, ScriptFault>
+fn read_numbered(alloc: Global, number: u64, seen: &Seen, text: &[u8]) -> Result<Line, ScriptFault>
     ensures { Gives (λ line. line) result (at_line number (next_line seen.now text.now)) }
 {
-    let outcome = match seen {
+    let outcome = match seen.as_slice() {
         [] => read_first(text),
         _ => read_later(seen, &split_words(alloc, text)?),
     };
@@ -86,13 +81,8 @@ fn read_numbered(
 
 /// Adds the line with this number to the lines before it, unless it is passed over.
 #[tactic(auto, unfolding(crate::specs::Reading::seen_after))]
-fn take_line(
-    alloc: Global,
-    number: u64,
-    seen: &mut Vec<Line>,
-    text: &[u8],
-) -> Result<(), ScriptFault>
-    ensures exact { Gives (λ _. seen.new.items) result (seen_after number seen.old.items text.now) }
+fn take_line(alloc: Global, number: u64, seen: &mut Seen, text: &[u8]) -> Result<(), ScriptFault>
+    ensures exact { Gives (λ _. seen.new) result (seen_after number seen.old text.now) }
     ensures few { OnOk result (number ≤ most_lines) }
 {
     if number > MOST_LINES {
@@ -107,10 +97,10 @@ fn take_line(
 }
 
 /// Reads all lines.
-fn read_lines(alloc: Global, text: &[u8]) -> Result<Vec<Line>, ScriptFault>
-    ensures { Gives (λ lines. lines.items) result (read_on 1 [] (text_lines text.now)) }
+fn read_lines(alloc: Global, text: &[u8]) -> Result<Seen, ScriptFault>
+    ensures { Gives (λ seen. seen) result (read_on 1 [] (text_lines text.now)) }
 {
-    let mut seen = Vec::new(alloc);
+    let mut seen = Seen::new(alloc);
     let mut number = 1;
     let mut rest = text;
     while !rest.is_empty() {
@@ -119,7 +109,7 @@ fn read_lines(alloc: Global, text: &[u8]) -> Result<Vec<Line>, ScriptFault>
         number += 1;
         rest = after;
     }
-    if !has_ended(&seen) {
+    if !seen.has_ended() {
         let kind = ScriptKind::Missing;
         return Err(ScriptFault::Line { line: number, kind });
     }
@@ -171,7 +161,7 @@ fn read_script(alloc: Global, bytes: &[u8]) -> Result<Script, ScriptFault>
     ensures { Gives (λ script. script) result (reading bytes.now) }
 {
     let lines = read_lines(alloc, bytes)?;
-    Ok(assemble(alloc, &lines)?)
+    Ok(assemble(alloc, lines.as_slice())?)
 }
 
 /// Reads a script, or says which line is refused first, and why.

@@ -8,7 +8,7 @@ abbrev pub invariant-loop-rest : goal.invariant-loop-rest
 invariant-loop-rest l =
     record {
       few : l.number ≤ most_lines + 1;
-      same : read_on l.number l.seen.items (text_lines l.rest) ≡ read_on 1 [] (text_lines l.fn.text);
+      same : read_on l.number l.seen (text_lines l.rest) ≡ read_on 1 [] (text_lines l.fn.text);
     }
 
 abbrev pub decreases-loop-rest : goal.decreases-loop-rest
