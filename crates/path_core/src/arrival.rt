@@ -25,8 +25,8 @@ use crate::end::PathEnd;
 use crate::judged::Judged;
 use crate::modes::Modes;
 use crate::options_in::{
-    asks_capable, edge_in_payload, fill_items, has_option, is_plain_ack, opens_by, options_heard,
-    owes_by,
+    asks_capable, edge_in_payload, has_option, is_plain_ack, opens_by, options_heard, owes_by,
+    read_options,
 };
 use crate::profile::Profile;
 use crate::state::PathState;
@@ -399,9 +399,8 @@ impl PathEnd {
         self.judged_of(joined, heard.rst, items, meaning)
     }
 
-    /// A segment is heard by the end of this side at this tick, on a path that joins or on path 0. `items` is what `fill_items`
-    /// reads in it, `told` what `Profile::held_of` does, and `answer` the reset of `Profile::reset_for`. Answers what is to be
-    /// done.
+    /// A segment is heard by the end of this side at this tick, on a path that joins or on path 0. `items` and `told` are what
+    /// `read_options` reads in it, and `answer` the reset of `Profile::reset_for`. Answers what is to be done.
     ///
     /// # Errors
     ///
@@ -449,9 +448,15 @@ impl PathState {
         ensures err { OnErr result (self.new ≡ self.old) }
     {
         let answer = self.profile.reset_for(side, heard);
-        let told = self.profile.held_of(self.alloc, side, heard)?;
         let joined = self.profile.is_joined();
-        fill_items(&mut self.items, joined, side, heard);
+        let told = read_options(
+            self.alloc,
+            &mut self.items,
+            joined,
+            &self.profile,
+            side,
+            heard,
+        )?;
         match side {
             Side::A => {
                 self.agenda = self

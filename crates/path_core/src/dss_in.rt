@@ -1,15 +1,13 @@
 //! What a DSS that is heard says, and what its mapping and its Data ACK make of the end (RFC 8684, section 3.3).
 
-ghost use Rattle.std.specs.Prelude.{◌+◌, ◌≡◌, ◌<◌, ◌≤◌, ◌&&◌, ◌^◌, if◌then◌else◌, ◌++◌, is_some, ◌∷◌, IfOk, length, All, OnOk, OnErr};
+ghost use Rattle.std.specs.Prelude.{◌+◌, ◌≡◌, ◌<◌, ◌≤◌, ◌&&◌, ◌^◌, if◌then◌else◌, ◌++◌, is_some, ◌∷◌, length, OnOk, OnErr};
 ghost use Rattle.std.specs.Option.{option_to_list};
 ghost use Rattle.dss_mapping.specs.Mappings.{octets_in};
 ghost use Rattle.path_agenda.specs.declared.heard.Heard.TheVariants as says;
-ghost use Rattle.dss_mapping.specs.Learning.{IsWithin};
-ghost use Rattle.path_segments.specs.HeardSegments.{heard_value};
 ghost use Rattle.path_segments.specs.Options.{plain_option};
 ghost use Rattle.actor_desk.specs.Kinds.{CanBeAsked};
 ghost use Rattle.fallback_state.specs.declared.fall.Event.TheVariants as events;
-ghost use Rattle.path_core.specs.DssIn.{is_mapping, mapping_items, first_items, ack_items, data_fin_items, infinite_items, map_items, checksum_heard, held_if, map_held, key_held, held_in, held_of, kept_of, with_learned, with_skipped, counts, is_clash, with_acked, with_data_ack, after_dss, is_acked, mapping_ask, answered_ack, answered_mapping, with_data_fin};
+ghost use Rattle.path_core.specs.DssIn.{is_mapping, mapping_items, first_items, ack_items, data_fin_items, infinite_items, map_items, checksum_heard, held_if, map_held, key_held, held_in, kept_of, with_learned, with_skipped, counts, is_clash, with_acked, with_data_ack, after_dss, is_acked, mapping_ask, answered_ack, answered_mapping, with_data_fin};
 ghost use Rattle.path_core.specs.Octets.{octets};
 ghost use Rattle.path_core.specs.Replies.{IsAckBounded};
 ghost use Rattle.path_core.specs.State.{end_at, goes_on};
@@ -25,12 +23,12 @@ use dss_mapping::KeptMapping;
 use fallback_state::Event;
 use mptcp_options::CapableKeys;
 use path_agenda::{AskDuty, Duty, Heard, Items};
-use path_segments::{HeardMapping, HeardOption, HeardSegment, PathMapping, PathOption};
+use path_segments::{HeardMapping, HeardOption, PathMapping, PathOption};
 use path_store::PLACE_LIMIT;
 use send_book::SendReply;
 use seq_units::{Mapping, Pos};
 use sides::Side;
-use std::alloc::{AllocError, Global};
+use std::alloc::AllocError;
 
 /// How many octets a mapping of this length has: its last number may be the DATA_FIN's (RFC 8684, section 3.3.3).
 pub(crate) fn octets_in(length: u16, fin: bool) -> u16
@@ -237,7 +235,7 @@ impl Profile {
     }
 
     /// The mapping that an option says; MP_CAPABLE says none on a path that joins.
-    fn held_in(&self, side: Side, option: &HeardOption<'_>) -> Option<KeptMapping>
+    pub(crate) fn held_in(&self, side: Side, option: &HeardOption<'_>) -> Option<KeptMapping>
         ensures { option_to_list result ≡ held_in self.now side (plain_option option.now) }
     {
         match *option {
@@ -245,30 +243,6 @@ impl Profile {
             PathOption::Dss { mapping, .. } => self.map_held(side, mapping),
             _ => None,
         }
-    }
-
-    /// The mappings that a copy says, in their order.
-    ///
-    /// # Errors
-    ///
-    /// Only where there is no memory for them.
-    pub(crate) fn held_of(
-        &self,
-        alloc: Global,
-        side: Side,
-        heard: &HeardSegment<'_>,
-    ) -> Result<Vec<KeptMapping>, AllocError>
-        ensures value { IfOk result (λ told. told.items ≡
-            held_of self.now side (heard_value heard.now)) }
-        ensures within { IfOk result (λ told. All IsWithin told.items) }
-    {
-        let mut told = Vec::new(alloc);
-        for option in heard.options {
-            if let Some(kept) = self.held_in(side, &option) {
-                told.push(kept)?;
-            }
-        }
-        Ok(told)
     }
 }
 

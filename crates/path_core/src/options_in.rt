@@ -1,22 +1,28 @@
 //! What the options of a copy say (RFC 8684, section 3).
 
-ghost use Rattle.std.specs.Prelude.{◌+◌, ◌≡◌, ◌<◌, ◌≤◌, not, if◌then◌else◌, ◌++◌, [], ◌∷◌, length, All};
+ghost use Rattle.std.specs.Prelude.{◌+◌, ◌≡◌, ◌<◌, ◌≤◌, not, if◌then◌else◌, ◌++◌, [], ◌∷◌, length, All, IfOk, OnOk};
 ghost use Rattle.std.specs.List.{list_any};
+ghost use Rattle.std.specs.Option.{option_to_list};
+ghost use Rattle.dss_mapping.specs.Learning.{IsWithin};
 ghost use Rattle.path_segments.specs.Options.{plain_option};
 ghost use Rattle.path_segments.specs.HeardSegments.{heard_value};
 ghost use Rattle.path_agenda.specs.Items.{IsFair};
 ghost use Rattle.actor_desk.specs.Words.{is_nil};
+ghost use Rattle.path_core.specs.DssIn.{held_of};
 ghost use Rattle.path_core.specs.OptionsIn.{items_in, items_of, SaysFew, asks_capable, edge_in_payload, owes_by, opens_by, has_data_ack, octets_acked, is_plain_ack};
 
 use crate::addresses::{put_address, put_notice, put_removed};
 use crate::dss_in::put_dss;
 use crate::mp_capable::put_keys;
 use crate::mp_join::put_join;
+use crate::profile::Profile;
+use dss_mapping::KeptMapping;
 use mptcp_options::CapableKeys;
 use path_agenda::{Heard, Items, PeerNotice, one_wants_ack};
 use path_segments::{HeardOption, HeardSegment, PathOption};
 use seq_units::Pos;
 use sides::Side;
+use std::alloc::{AllocError, Global};
 use subflow_tcp::{AckKind, Arrival, Meaning, State};
 
 /// One thing more.
@@ -57,16 +63,50 @@ fn put_option(items: &mut Items, joined: bool, side: Side, window: u32, option: 
     }
 }
 
-/// All that a copy says to the end of this side, in the order of its options, in the place of what stood there.
-pub(crate) fn fill_items(items: &mut Items, joined: bool, side: Side, heard: &HeardSegment<'_>)
+/// A mapping behind the others, where there is one.
+fn put_mapping(
+    mappings: &mut Vec<KeptMapping>,
+    mapping: Option<KeptMapping>,
+) -> Result<(), AllocError>
+    ensures { OnOk result (mappings.new.items ≡ mappings.old.items ++ option_to_list mapping) }
+{
+    match mapping {
+        Some(mapping) => {
+            mappings.push(mapping)?;
+            Ok(())
+        }
+        None => Ok(()),
+    }
+}
+
+/// All that a copy says to the end of this side, on a path that joins or on path 0, in the order of its options, which are
+/// read once: things, in the place of what stood there, and the mappings.
+///
+/// # Errors
+///
+/// Only where there is no memory for the mappings.
+pub(crate) fn read_options(
+    alloc: Global,
+    items: &mut Items,
+    joined: bool,
+    profile: &Profile,
+    side: Side,
+    heard: &HeardSegment<'_>,
+) -> Result<Vec<KeptMapping>, AllocError>
     requires few { SaysFew (heard_value heard.now).options }
-    ensures value { items.new.items ≡ items_of joined side (heard_value heard.now) }
-    ensures fair { All IsFair items.new.items }
+    ensures items { OnOk result (items.new.items ≡ items_of joined side (heard_value heard.now)) }
+    ensures fair { OnOk result (All IsFair items.new.items) }
+    ensures value { IfOk result (λ told. told.items ≡
+        held_of profile.now side (heard_value heard.now)) }
+    ensures within { IfOk result (λ told. All IsWithin told.items) }
 {
     items.clear();
+    let mut told = Vec::new(alloc);
     for option in heard.options {
         put_option(items, joined, side, heard.window, &option);
+        put_mapping(&mut told, profile.held_in(side, &option))?;
     }
+    Ok(told)
 }
 
 /// A segment as it is heard without its options.
