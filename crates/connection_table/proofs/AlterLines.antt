@@ -14,12 +14,12 @@ module _ (number : ℕ) (rest line behind : List ℕ) (whole : Option ℕ) (cut 
   whole_is : position_from is_alter_line number (line ∷ text_lines behind) ≡ whole
   whole_is = ap (position_from is_alter_line number) (sym cut) ∙ same
 
-  -- it is another line
+  -- no payload is altered by the line here: the search goes on behind it
   pub goes_on : is_alter_line line ≡ false → alter_from (number + 1) behind ≡ whole
   goes_on other =
       ap (λ b. if b then Some number else alter_from (number + 1) behind) (sym other) ∙ whole_is
 
-  -- it is such a line
+  -- a payload is altered by the line here: its number is found
   pub stops : is_alter_line line ≡ true → whole ≡ Some number
   stops is = sym (ap (λ b. if b then Some number else alter_from (number + 1) behind) (sym is) ∙ whole_is)
 

@@ -26,7 +26,7 @@ module _ (table items : List Entry) (items_is : items ≡ table) (number place :
       some_and (entry_at number (slice_set items place new)) new P
       (ap (λ (k : ℕ). entry_at k (slice_set items place new)) (sym place_is) ∙ set_there items place old new here) h
 
-  -- it is in its place
+  -- the next entry, put at its place
   pub put_next : (next : Entry) → new ≡ next → slice_set items place new ≡ with_entry number next table
   put_next next is =
       ap (slice_set items place) is ∙ (ap (λ (k : ℕ). slice_set items k next) place_is ∙ ap (λ (es : List Entry). slice_set es number next) items_is)

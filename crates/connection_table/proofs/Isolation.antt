@@ -73,7 +73,7 @@ none_later Call.Ends calls none = none
 
 -- ---- a call on a table
 
--- it is made at the connection that it is for
+-- a call is made at the connection that it is for
 called_home : (table : List Entry) (connection : ℕ) (call : Call) (e : Entry) → IsShortTable table → entry_at connection table ≡ Some e → called_at connection call table ≡ connection
 called_home table connection (Call.Steps actor) e short there =
     each_is_routed_home table connection actor e short.is there (short.alone connection e there) (short.short connection e there)

@@ -171,7 +171,7 @@ module _ (content : Contents) (words : NamedList) where
       by (Script entry line kind) fault = absurd fault
       by (SameToken line holder) fault = absurd fault
 
-  -- it is out of form
+  -- the list is out of form
   pub list_refused : (a b : ToldCalls) (list : List ℕ) (many : Many) → IsListFault list many → AddsAll (call.Load words.list ∷ []) a b → ListAdds content words a b many
   list_refused a b list many fault one = told_adds a b many (by many fault)
     where

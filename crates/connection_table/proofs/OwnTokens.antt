@@ -39,7 +39,7 @@ no_holder_at token table none i e there same =
     let passes = eq-eqb (key_token e.input.script) token same in
     cc
 
--- it differs from each of theirs
+-- a token that no entry has differs from that of each input
 none_has : (token : ℕ) (inputs : List Input) → holder_of token (map opened_entry inputs) ≡ None → Every (λ other. other ≢ token) (map token_in inputs)
 none_has token inputs none = record {
   each = λ i x there same.

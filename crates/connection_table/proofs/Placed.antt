@@ -12,7 +12,7 @@ same_inputs [] number old new there same = refl
 same_inputs (e ∷ table) zero old new there same = ap (λ input. input ∷ map input_of table) (same ∙ ap input_of (sym (same_Some e old there)))
 same_inputs (e ∷ table) (suc number) old new there same = ap (λ inputs. e.input ∷ inputs) (same_inputs table number old new there same)
 
--- it is there, and no other has changed
+-- the new entry stands at its number
 pub set_there : (table : List Entry) (number : ℕ) (old new : Entry) → entry_at number table ≡ Some old → entry_at number (with_entry number new table) ≡ Some new
 set_there [] number old new there = cc
 set_there (e ∷ table) zero old new there = refl

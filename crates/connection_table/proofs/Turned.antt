@@ -15,7 +15,7 @@ use Rattle.connection_table.proofs.Held.{end_held, opened_held, step_held}
 abbrev pub may_end : Kept → Bool
 may_end k = not k.failed && all_over k.state.crew
 
--- it may end where it stands and each turn has ended
+-- a round may end where the connection stands and each turn has ended
 pub may_stand : (k : Kept) → may_end k ≡ true → (k.failed ≡ false) × (all_over k.state.crew ≡ true)
 may_stand k may = by k.failed refl may
   where

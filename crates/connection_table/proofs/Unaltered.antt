@@ -38,7 +38,7 @@ use Rattle.connection_table.specs.Scripts.{LeavesPayload, first_alter, is_alter,
 
 -- ---- a line by its words
 
--- it isn't one by which a payload is altered
+-- a line by which no payload is altered
 abbrev IsCalm : Line → Type 0
 IsCalm (line.Event event) = is_alter event ≡ false
 IsCalm _ = Unit {0}

@@ -57,7 +57,7 @@ KeptSidesSentOneStream = (at : Option Side) (check_sums : Bool) (packets : List 
     → stream_in (judged_first at check_sums packets) connection side ≡ Some stream → broke rule.PlaceContent stream ≡ false
     → (place octet : ℕ) → IsBrought at check_sums packets connection side place octet → has_octet stream place octet
 
--- and what is written of it begins so
+-- each octet that a kept side brought stands at its place in what is written of its stream
 abbrev pub WrittenStreamsAreTheirs : Type 0
 WrittenStreamsAreTheirs = (at : Option Side) (check_sums : Bool) (packets : List Captured) (connection : ℕ) (side : Side) (stream : StreamValue)
     → stream_in (judged_first at check_sums packets) connection side ≡ Some stream → broke rule.PlaceContent stream ≡ false

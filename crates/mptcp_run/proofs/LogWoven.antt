@@ -84,7 +84,7 @@ round_woven turns actors last w begins is over rest = record {
     order_is : turns_told (round_steps last (end_round w) ∷ steps_by_round (end_round w) (round_ends turns (end_round w))) ≡ woven top w ++ Turn.Round ∷ later
     order_is = ap (λ lists. steps_by (order_of top lists) ++ Turn.Round ∷ later) (lists_at_end w)
 
--- these actors have made the steps of the round so far
+-- turns that are lawful once these actors have made the round's steps so far are woven
 pub turns_woven : (turns : List Turn) (actors : List ℕ) (last w : Connection) → Begins last → w ≡ world_run octets (steps_by actors) last → AreLawful octets turns w
     → AreWoven turns last w
 turns_woven [] actors last w begins is lawful = record { lawful = tt; ends = refl }

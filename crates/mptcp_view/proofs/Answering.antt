@@ -89,7 +89,7 @@ module _ (asked : Asking) (input : Input) (log : List ℕ) (extent : Extent) (pa
   with_view : {P : Extent → List ℕ → Type 0} → P extent shown → WithView old.content asked P
   with_view p = (input, (log, (are, (extent, (part, (turns, (is_read, (lawful, (all_told, (shown, (is, p)))))))))))
 
-  -- it holds the view
+  -- the port holds the view
   pub answered : HoldsAfter (middle.holds ReadByB) (new.holds ReadByB) (λ _. shown) → AddsAll (out_calls asked.line.names.read_by_b shown) middle.calls new.calls
       → IsViewAnswer asked old new (Ok extent)
   answered put made =
@@ -104,7 +104,7 @@ module _ (asked : Asking) (input : Input) (log : List ℕ) (extent : Extent) (pa
         other_counts = λ at other. other_counts at other ∙ (untouched at).1;
       }
 
-  -- it isn't written whole
+  -- the view isn't written whole
   pub refused_late : (s : Status) → HoldsCut (middle.holds ReadByB) (new.holds ReadByB) shown → IsOutFault (middle.port_faults ReadByB) (new.port_faults ReadByB) s
       → AddsCut (out_calls asked.line.names.read_by_b shown) s middle.calls new.calls → IsViewAnswer asked old new (Err s)
   refused_late s put fault cut =

@@ -59,12 +59,12 @@ late old new X _ h before = absurd h
 
 -- ---- OUT
 
--- it is as it was
+-- OUT is as it was
 pub kept_out : (old new : Option (List ℕ)) (shown : List ℕ) → new ≡ old → HoldsCut old new shown
 kept_out None new shown same = tt
 kept_out (Some held) new shown same = inl same
 
--- it was emptied, and got some of the view
+-- OUT was emptied, and got some of the view
 pub cut_out : (old middle new : Option (List ℕ)) (shown : List ℕ) → HoldsAfter old middle (λ _. []) → HoldsPrefix middle new shown → HoldsCut old new shown
 cut_out None middle new shown bound put = tt
 cut_out (Some held) middle new shown bound put =
@@ -115,7 +115,7 @@ module _ (asked : Asking) (old new : Told) (contents : List ℕ → Option (List
     other_counts = h.other_counts;
   }
 
--- it isn't the words that are refused
+-- a view that is answered isn't refused for its words
 pub no_usage : (asked : Asking) (old new : Told) (r : Result Extent Status) → IsViewAnswer asked old new r → r ≡ Err status.Usage → ⊥
 no_usage asked old new r h is =
     let fault : IsViewFault asked old new status.Usage = subst (λ e. IfErr e (IsViewFault asked old new)) is h.fault in

@@ -12,7 +12,7 @@ use Rattle.world_laws.specs.Worlds.{WorldState}
 abbrev pub death_by : ℕ → ℕ → PathState (List ℕ) → Option Death
 death_by path tick p = if nat_le tick p.clock then Some (record { path = path; tick = tick }) else None
 
--- that of a line, in a run that ended with this world; a path is the actor two behind its number
+-- the death of a line, in a run that ended with this world; a path is the actor two behind its number
 abbrev pub death_in : WorldState (List ℕ) → ScriptLine → Option Death
 death_in w (Die path tick) = option_and_then (death_by path tick) (path_at (min (path + 2) 255) w.crew)
 death_in w line = None

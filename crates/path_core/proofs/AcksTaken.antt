@@ -72,7 +72,7 @@ module _ (c : Copy) (s : EndState) where
   taken pos acknowledged (inl none) = absurd cc
   taken pos acknowledged (inr means) = subst AcknowledgesSent (sym means) (meant s.state)
 
--- it acknowledges what it is taken to acknowledge
+-- a copy acknowledges what it is taken to acknowledge
 pub acknowledges_so : (c : Copy) (s : EndState) (pos acknowledged : ℕ) → IsTakenAs (Meaning.Taken pos acknowledged) c s → unwrap_or c.acknowledged 0 ≡ acknowledged
 acknowledges_so c s pos acknowledged is = (taken c s pos acknowledged is).so
 

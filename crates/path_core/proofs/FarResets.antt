@@ -60,7 +60,7 @@ module _ (spelling : Spelling) (from : Side) (expected : Expected) where
     unfolding spelled
     stripped_position_alone = rw (far_is_nowhere (numbers_of spelling from).initial.0 expected.edge s.position far.ahead far.low) refl
 
-    -- so it is without its options
+    -- the same reset without its options
     pub far_stripped_heard : IsExpected expected
         → heard_in spelling from expected (changes.text_stripped (addresses_from spelling.path from) (spelled_text spelling from s))
         ≡ Some (unplaced (subflow_number spelling from s.position) (record (meant s) { options = [] }))

@@ -26,7 +26,7 @@ pub memory_of_first : {C : Type 0} (ds : List Duty) (d : Duty) (r : Reply) (p : 
 memory_of_first [] d r p is = cc
 memory_of_first (x ∷ ds) d r p is = let same : x ≡ d = cc in ap (λ y. needs_memory y r p) same
 
--- it comes to something
+-- the first duty comes to something
 pub stands_of_first : {C : Type 0} (ds : List Duty) (d : Duty) (p : PathState C) → first_of ds ≡ Some d → is_none (passable_of ds p) ≡ true → stands d p ≡ true
 stands_of_first [] d p is none = cc
 stands_of_first (x ∷ ds) d p is none = (elim (stands x p) as (λ b. stands x p ≡ b → is_none (if b then None else Some x) ≡ true → stands d p ≡ true)

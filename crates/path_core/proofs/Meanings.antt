@@ -45,7 +45,7 @@ pub means_the_same : (meaning : Meaning) (octets : List ℕ) (c : Copy) (s : End
 means_the_same (Meaning.Taken position acknowledged) octets c s = holding_means position octets s c (is_nil octets)
 means_the_same _ octets c s = refl
 
--- so a copy is taken as before
+-- a copy with its payload put in is taken as before
 pub taken_the_same : (meaning : Meaning) (octets : List ℕ) (c : Copy) (s : EndState) → IsTakenAs meaning c s → IsTakenAs meaning c (with_payload meaning octets s)
 taken_the_same meaning octets c s (inl ignored) = inl ignored
 taken_the_same meaning octets c s (inr means) = inr (means ∙ sym (means_the_same meaning octets c s))

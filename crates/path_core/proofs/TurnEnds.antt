@@ -67,7 +67,7 @@ module _ {C : Type 0} where
   pub turn_ends : (k : Codec C) (p : PathState C) → TakesTime p → IsSettled p → Ends k p
   turn_ends k p t first = ends_below k p (lower-ends p) t first
 
-  -- so does each that a round begins
+  -- a turn that a round begins ends too
   pub begun_ends : (k : Codec C) (p : PathState C) → TakesTime p → Ends k (begins_turn p)
   begun_ends k p t =
       let begun : PathState C = with_agenda start_of_turn p in

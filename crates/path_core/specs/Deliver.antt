@@ -84,7 +84,7 @@ mapped_piece c e =
 abbrev pub next_piece : Profile → PathEnd → Option Piece
 next_piece c e = if e.modes.identity then some_piece (plain_piece e.tcp) else mapped_piece c e
 
--- those that would be, were checksums used or not: where the side didn't fall back, and whether it did or not
+-- the next bytes to be placed, were checksums used or not: where the side didn't fall back, and whether it did or not
 abbrev pub mapped_with : Bool → PathEnd → Option Piece
 mapped_with checksums e =
     if covers e.modes.peer_infinite e.tcp.recv.edge then infinite_piece e.modes.peer_infinite e.tcp

@@ -52,7 +52,7 @@ tokens_data a b = keys_data (token_of a) (token_of b)
 abbrev pub others_of : Run → Others
 others_of run = record { paths = run.script.paths; end = run.end; checksums = run.script.checksum; carried = run.carried; words = run.words }
 
--- its keys, tokens and end, and its lists, put to other members
+-- a run's keys, tokens and end, and its lists, put to other members
 abbrev pub with_keys : Run → Members → Members
 with_keys run ms =
     put (codes "tokens") (tokens_data run.key_a run.key_b) (

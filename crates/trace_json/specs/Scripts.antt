@@ -18,7 +18,7 @@ path_data line = object (
 abbrev pub paths_data : List PathLine → List Data
 paths_data lines = map path_data lines
 
--- its settings, and the lists beside them, put to other members
+-- a script's settings, and the lists beside them, put to other members
 abbrev pub with_settings : Script → Members → Members
 with_settings script ms =
     put (codes "short") (boolean script.short) (

@@ -144,7 +144,7 @@ segment_data others place s = object (
     member (codes "text") (text_data (slice_get others.words place)) (
     member (codes "tick") (number (unsigned s.tick)) no_members)))))))))
 
--- those from this place on
+-- the segments from this place of the trace on
 abbrev pub segments_from : Others → ℕ → List Sent → List Data
 segments_from others place [] = []
 segments_from others place (s ∷ trace) = segment_data others place s ∷ segments_from others (place + 1) trace

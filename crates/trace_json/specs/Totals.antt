@@ -22,7 +22,7 @@ rate_data rate = object (
     member (codes "timeout") (number (unsigned rate.timeout)) (
     member (codes "window") (number (unsigned rate.window)) no_members))))
 
--- these counts, and the objects beside them, put to other members
+-- a row's counts, and the objects beside them, put to other members
 abbrev pub with_counts : Row → Members → Members
 with_counts row ms =
     put (codes "segments") (number (unsigned row.segments)) (

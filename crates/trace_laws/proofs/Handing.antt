@@ -76,7 +76,7 @@ module _ (c : Profile) (s : Side) (span : Span) (piece : List ℕ) (e : PathEnd)
   never_closed EndPhase.Dead may = absurd (false≢true may)
   never_closed _ may = refl
 
-  -- it may be sent at once
+  -- a granted piece may be sent at once
   data_goes : may_ask c s e ≡ true → Acks e.tcp → length piece ≤ payload_size c → first_unsent e ≡ None → data_stands c s then_granted (first_unsent then_granted) ≡ true
   data_goes asks acked short none =
       let first = and_parts (may_finish e.tcp.state) (nat_le (payload_size c) (room e.tcp) && (not (is_at_limit e.tcp) && may_send_data c s e)) asks in

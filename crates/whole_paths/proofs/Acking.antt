@@ -312,7 +312,7 @@ module _ {C : Type 0} where
 
   -- ---- a copy comes in order
 
-  -- it is owed an acknowledgement
+  -- the peer is owed an acknowledgement
   pub record IsOwed (s : Side) (q : PathState C) : Type 0 where
     due : (end_at s q).tcp.due.ack ≡ true
     opened : 2 ≤ stage (end_at s q).tcp.state

@@ -482,7 +482,7 @@ line_came (actions.Prio s backup) p far h = rest_came p (after_line (actions.Pri
 line_came (actions.Announce s id) p far h = rest_came p (after_line (actions.Announce s id) p) (stay p _ refl refl) far h.copies h
 line_came (actions.Withdraw s id) p far h = rest_came p (after_line (actions.Withdraw s id) p) (stay p _ refl refl) far h.copies h
 
--- it is left without the copy
+-- a path without the copy that was delivered
 delivered_came : (due : Due) (p : PathState Carried) → PathCame p → PathCame (record (at_tick due.tick p) { link = after_delivery due p.link })
 delivered_came due p h = record { ends = h.ends; copies = rest (position (is_due due) p.link.under_way); answers = h.answers }
   where

@@ -52,7 +52,7 @@ abbrev settles_in : Side → List Duty → Bool
 settles_in s [] = false
 settles_in s (d ∷ ds) = settles s d || settles_in s ds
 
--- it gives no end a reason, since it settles the timer, or leaves the ends as they are, or is an event
+-- a duty that gives no end a reason, since it settles the timer, or leaves the ends as they are, or is an event
 abbrev is_calm : Duty → Bool
 is_calm (duties.Silent (silent_duties.Timer t)) = true
 is_calm (duties.Ask (ask_duties.BreakAck t reason)) = true
@@ -305,7 +305,7 @@ other_follows t gone d ds next follows own idle kept = by next follows
 
 -- ---- a path
 
--- it is this side, or the other one
+-- a side is this one, or the other one
 pub sides : (s t : Side) → (t ≡ s) ⊎ (peer t ≡ s)
 sides A A = inl refl
 sides A B = inr refl

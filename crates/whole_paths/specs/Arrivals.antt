@@ -101,20 +101,20 @@ pub record Arrival (x : PlainSegment) (p : PathState Carried) : Type 0 where
   pub joined : is_joined p.profile ≡ false
   pub no_sums : p.profile.spelling.checksums ≡ false
 
--- so a copy of a record comes that was under way, where nothing was taken away or altered
+-- a copy of a record comes that was under way, where nothing was taken away or altered
 abbrev pub EachCopyArrives : Type 0
 EachCopyArrives = (s : Side) (r : Record) (p : PathState Carried) (f : Flight Carried) (copy : IsCopyOf values s r p f) → copy.stripped ≡ false → copy.altered ≡ false
     → IsUnderWay f p → f.number < 2 ^ 64 - 1 → CopiesArriveSo p → (others : List Duty) → p.agenda ≡ duties.Step step_duties.Events ∷ others → next_event p ≡ Some (happenings.Arrives (due_of f))
     → is_joined p.profile ≡ false → p.profile.spelling.checksums ≡ false → Arrival copy.segment p
 
--- it is brought in order
+-- a record's payload is brought in order
 pub record ComesInOrder (x : PlainSegment) (p : PathState Carried) : Type 0 where
   pub brings : Brings values p
   pub payload : brings.copy.segment.payload ≡ x.payload
   pub position : brings.position ≡ x.position
   pub in_order : IsInOrder values p brings
 
--- it lies outside the window, and is answered so
+-- a copy lies outside the window, and is answered so
 pub record ComesAgain (p : PathState Carried) : Type 0 where
   pub copy : Comes values p
   pub outside : IsTo values p copy (judged.As Outside)

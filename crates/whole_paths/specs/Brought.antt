@@ -113,7 +113,7 @@ module _ {C : Type 0} where
   abbrev pub IsTo : (k : Codec C) (p : PathState C) → Comes k p → Judged → Type 0
   IsTo k p c verdict = let e : PathEnd = end_at c.due.to p in judged_in (is_joined p.profile) c.due.to (options_heard e c.segment) e ≡ verdict
 
-  -- and the end takes it, with its payload from this position on
+  -- a copy is taken by its end, with its payload from this position on
   pub record Brings (k : Codec C) (p : PathState C) : Type 0 where
     pub copy : Comes k p
     pub position : ℕ
@@ -128,7 +128,7 @@ module _ {C : Type 0} where
     reset : IsToReset s q.agenda → StaysThere s pos octet p q
     -- RCV.NXT is past the peer's FIN, behind which no octet of the stream stands
     behind_fin : is_fin_passed (end_at s q).tcp ≡ true → StaysThere s pos octet p q
-    -- its mapping or one before it failed its check, whether the control book is told, or goes by an infinite mapping and isn't
+    -- the octet's mapping or one before it failed its check, whether the control book is told, or goes by an infinite mapping and isn't
     fails : FailsItsCheck s p → StaysThere s pos octet p q
     fails_untold : q.profile.spelling.checksums ≡ true → reads_mappings (end_at s q).modes.mode ≡ false → (end_at s q).modes.identity ≡ false
         → StaysThere s pos octet p q

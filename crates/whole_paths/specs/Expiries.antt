@@ -23,7 +23,7 @@ use Rattle.world_laws.specs.declared.member.Member.TheVariants.{App, Path}
 use Rattle.world_laws.specs.Actors.{Actor, ActorCrew}
 use Rattle.world_laws.specs.Worlds.{WorldState, Turn, after_turn}
 
--- Its options are those of the record, and what it acknowledges is RCV.NXT, as at this end (RFC 8684, section 3.3; RFC 9293, section 3.10.7.4).
+-- The options are those of the record, what is acknowledged is RCV.NXT, as at this end (RFC 8684, section 3.3; RFC 9293, section 3.10.7.4).
 pub record IsSaidAt (c : Profile) (s : Side) (r : Record) (e : PathEnd) (x : PlainSegment) : Type 0 where
   pub options : x.options ≡ record_options r.kind c s r e
   pub acknowledged : x.acknowledged ≡ acknowledged_in e.tcp

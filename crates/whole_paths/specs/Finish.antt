@@ -133,7 +133,7 @@ pub record IsMild (script : Script) (path : PathLine) (file_a file_b : List ℕ)
   pub a : length file_a ≤ 16777216
   pub b : length file_b ≤ 16777216
 
--- its connection before the first step
+-- the connection of a script and two files before the first step
 abbrev pub opened : Script → List ℕ → List ℕ → WorldState (List ℕ)
 opened script file_a file_b = opened_world (start_of script file_a file_b)
 

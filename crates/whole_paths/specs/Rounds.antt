@@ -1,7 +1,7 @@
 -- Whatever goes on by steps within rounds of 100 ticks, and has news to be counted.
 use Rattle.std.specs.Prelude.{ℕ, zero, suc, ◌+◌, ◌*◌, ◌≡◌, ◌<◌, ◌≤◌, ◌⊎◌}
 
--- Its states, the steps within a round, and how the next round begins. Of a state there is the tick at which its round ends, how much
+-- The states, the steps within a round, and how the next round begins. Of a state there is the tick at which its round ends, how much
 -- news there was so far, and whether it is over. `Waits count tick state` says that after so much news more comes by this tick.
 pub record System : Type 1 where
   pub State : Type 0

@@ -220,7 +220,7 @@ pub fn what_is_in_hand_is_acknowledged()
 /// A law: the first record of an end that isn't acknowledged comes to the peer within a minute and the longest time that a segment is under
 /// way, unless the script harms it.
 ///
-/// That time is the link's delay, the ticks in which a full queue is handed on, and the greatest jitter.
+/// The longest time is the link's delay, the ticks in which a full queue is handed on, and the greatest jitter.
 /// Where a turn is over its timer runs, for a minute at most (`timers_run_out`). From then on, by each turn, its timer runs still, or it is
 /// to be sent again, or a copy of it is under way, and the tick stays by which a copy comes; or a copy was what arrives next; or there is news
 /// (`no_timer_is_put_off`), or the script has a line less by which a segment is lost or late; or its direction loses it, by the word drawn

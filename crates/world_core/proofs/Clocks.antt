@@ -40,7 +40,7 @@ next_is_soon p = soon p (earliest p)
 module _ {C : Type 0} where
   -- ---- the tick of the next step
 
-  -- it isn't past
+  -- the tick of the next step isn't past
   event_later : (event : Option Event) (p : PathState C) → p.clock ≤ tick_with event p
   event_later = elim [ None ↦ λ p. omega arith | Some event ↦ λ p. omega arith ]
 
@@ -66,7 +66,7 @@ module _ {C : Type 0} where
 
   -- ---- what is written
 
-  -- it is at the same tick
+  -- the clock of what is written stands at the same tick
   abbrev Keeps : PathState C → PathState C → Type 0
   Keeps p q = q.clock ≡ p.clock
 
@@ -122,7 +122,7 @@ module _ {C : Type 0} where
   settled_keeps : (k : Codec C) (r : Reply) (p : PathState C) → (takes k r p).clock ≡ (answers k p.agenda r p).clock
   settled_keeps k r p = let q : PathState C = answers k p.agenda r p in settled_lasts (λ p q. Keeps p q) keeps_last q.agenda q
 
-  -- it is the tick at which the step stood
+  -- after a step the clock is at the tick at which the step stood
   pub takes_clock : (k : Codec C) (r : Reply) (p : PathState C) → has_ended p ≡ false → (takes k r p).clock ≡ next_tick p
   takes_clock k r p going = settled_keeps k r p ∙ answers_comes k p.agenda r p going
 

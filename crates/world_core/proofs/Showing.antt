@@ -77,7 +77,7 @@ module _ {C : Type 0} where
   pub shows_itself : (crew : List (ActorCrew C)) → ShowsTheSame crew crew
   shows_itself crew = record { lists = refl; a = refl; b = refl; dead = refl; many = refl }
 
-  -- so the outcome is the same, and what was told
+  -- lists that show the same have the same outcome
   pub outcome_same : (before after : List (ActorCrew C)) → ShowsTheSame before after → outcome_of after ≡ outcome_of before
   outcome_same before after s = by (notes_of A after) (notes_of B after) (are_all_dead after) s.a s.b s.dead
     where

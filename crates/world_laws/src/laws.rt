@@ -220,7 +220,7 @@ pub fn nothing_is_refused()
 /// A law: where no payload is altered no check of a mapping fails, neither side knows of a failed path or goes by an infinite mapping,
 /// and no copy that is under way has an MP_FAIL (RFC 8684, section 3.7).
 ///
-/// And whatever is altered, each mapping of bytes in a copy that is under way names written octets, and where checksums are used it tells
+/// Whatever is altered, each mapping of bytes in a copy that is under way names written octets, and where checksums are used it tells
 /// that of the pseudo-header and these octets (section 3.3.1). What copies tell is said of segments as values.
 pub fn checks_pass()
     ensures sums { HoldsAnyway ChecksumsAreRight }
@@ -284,7 +284,7 @@ pub fn mappings_agree()
 /// B answered none, and no path but path 0 ever asked for bytes; and the side stays in plain TCP until the connection is aborted there
 /// (RFC 8684, sections 3.5 and 3.7). This holds whatever the script does; over octets where the numbers of the start fit.
 ///
-/// And on path 0 positions are places then: each record of data, and each mapping that an end learned, has the place before its
+/// Where either fell, positions are places on path 0: each record of data, and each mapping that an end learned, has the place before its
 /// position. So it was at each moment before, of octets that are acknowledged by now, too: whatever record of data either end of path 0
 /// ever had, it has the place before its position.
 pub fn falls_are_right()
@@ -321,7 +321,7 @@ pub fn counts_are_kept_whatever_is_altered()
 /// A law: whatever payload the links alter, an infinite mapping that is under way is right (RFC 8684, section 3.7): each octet from its
 /// position on that the sender's end may still send has the place that rises with the position, also in a piece that begins before that.
 ///
-/// That is said of segments as values, and over octets of the copy that arrives next, as its end reads it.
+/// The law is said of segments as values, and over octets of the copy that arrives next, as its end reads it.
 pub fn infinite_mappings_are_right()
     ensures values { HoldsAnyway InfiniteMappingsAreRight }
     ensures octets { HoldsAnywayOfOctets (InfiniteMappingsAreHeardRight octets) }
@@ -333,7 +333,7 @@ pub fn infinite_mappings_are_right()
 /// follow. That it fell back is read off its control book's journal, so a stop of the connection changes nothing of it. Over octets the
 /// numbers of the start have to fit.
 ///
-/// And a side that fell back did so for ever: it never goes by the peer's mappings again.
+/// A side that fell back did so for ever: it never goes by the peer's mappings again.
 pub fn checked_octets_are_right()
     ensures prefix { HoldsChecked PrefixUntilTheFall }
     ensures placed { HoldsChecked (PlacedUntilTheFall values) }

@@ -40,7 +40,7 @@ row_loosens path sole f =
     (loosens_if (sole && is_failed_path f.failed path) (goes (with_infinite_receive f.mode) f) last (goes_loose (with_infinite_receive f.mode) f)
     (loosens_if (writes_mappings f.mode && not f.joined && is_none f.failed) (goes Mode.Identity f) (breaks 1 f) (goes_loose Mode.Identity f) (λ is. absurd (false≢true is))))
 
--- so it is in the books after the call, and no firm side is told so
+-- a side that is told infinite receiving is loose in the books after the call, and no firm side is told so
 told_loosens : (s : Side) (path : ℕ) (six : SixBooks) → let ask = Ask.Control s (ControlCall.Fell path Event.InfiniteHeard) in is_infinite_receive (reply_of six ask) ≡ true
     → (is_loose (control_of s (after_ask ask six)).fall ≡ true) × (is_plain (control_of s (after_ask ask six)).fall ≡ false) × (is_fallback (control_of s (after_ask ask six)).fall.mode ≡ true)
 told_loosens A path six is = row_loosens path (sole_path six.control_a.paths path) six.control_a.fall is

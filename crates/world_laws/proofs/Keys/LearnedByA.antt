@@ -31,7 +31,7 @@ mode_told _ = None
 
 -- What is said of path 0, where T is that A's control book has B's key, or is past being sure.
 module _ (T : Type 0) where
-  -- so it is where a mode is told that isn't the first one
+  -- T holds where a mode is told that isn't the first one
   abbrev pub ModeGains : Reply → Type 0
   ModeGains r = IfSome (mode_told r) (λ mode. is_starting mode ≡ false → T)
 

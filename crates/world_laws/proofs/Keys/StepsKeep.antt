@@ -383,7 +383,7 @@ module _ (k : Secrets) (right : Bool) (w : Side → Type 0) (did : Deed → Side
   told_is s event r p said is h =
       verdict_is s (after_fell event r (end_at s p)) r p (fell_leaves event r (end_at s p).modes) refl (record { up = λ x. x; waits = λ x. x; past = λ x. x }) said is h
 
-  -- so does one whose check failed, which tells the mapping
+  -- where the place of a failed check is told, B's key is known
   lost : (s : Side) (m : Modes) (o : Option ℕ) → Knows k right w did s m → IfSome o (λ place. OfB s (w B))
   lost s m None knows = tt
   lost s m (Some place) knows = knows_b k right w did s m knows
@@ -570,7 +570,7 @@ module _ (k : Secrets) (right : Bool) (w : Side → Type 0) (did : Deed → Side
         failing = own.failing;
       }) (λ waiting. waiting) (none_left k right w did p) (λ joined has. rekeyed_knows k right w did s key m.clear m is has) h
 
-  -- so are both keys
+  -- both keys that were told are kept
   keys_kept : (s : Side) (o : Option KeyPair) (r : Reply) (p : PathState Carried) → IfSome o (PairIs k right w did (is_joined p.profile) s) → Said s p → ReplyIs (opened_ask s o p) r → PathIs k right w did p → PathIs k right w did (answered_opened s o r p)
   keys_kept s None r p pair said falls h = told_is s FallEvent.PlainHandshake r p said falls h
   keys_kept s (Some keys) r p pair said falls h =

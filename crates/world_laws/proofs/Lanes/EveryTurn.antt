@@ -131,7 +131,7 @@ module _ (start : Start) (can : Carries start) where
   stands_on zero p q ab ba ab_after ba_after numbered x y unsent h = (x.opened h.0, y.opened h.1)
   stands_on (suc number) p q ab ba ab_after ba_after numbered x y unsent h = λ unclear. let so = unsent (later_joins number p.profile.spelling.path numbered) unclear in so.1 ∙ h so.0
 
-  -- so do lanes that open where they may
+  -- a lane that is open stays open where it may open
   if_opened : (b : Bool) (p : Lane) → p.opened ≡ true → (lane_if b p).opened ≡ true
   if_opened = elim [ true ↦ λ p is. refl | false ↦ λ p is. is ]
 

@@ -180,7 +180,7 @@ module _ (six : SixBooks) (others : Others) (p : PathState Carried) (ab ba : Lan
 
   -- ---- a join
 
-  -- it is begun or not, with these to be done
+  -- a join is begun or not, with these duties to be done
   pub join_step : (ask : Ask) (r : Reply) (dead living : List Duty) (q : PathState Carried) → IsQuiet six ask → AreCalm q → PathShows p.profile q ab ba → Steps ask (join_begun r dead living q)
   join_step ask r dead living q is calm x =
       elim (is_never r) as (λ b. Steps ask (if b then goes_on A (never_joined r (end_at A q)) dead q else goes_on A (opened_by (keys_begun r) (end_at A q)) living q)) [

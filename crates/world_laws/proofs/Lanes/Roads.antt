@@ -24,7 +24,7 @@ is_calm _ = true
 abbrev pub move : Move → Lane → Lane
 move m p = moved no_flags 0 m p
 
--- so lanes move alike on all paths
+-- a lane moves alike on all paths
 pub moves_alike : (f : Flags) (path : ℕ) (m : Move) (p : Lane) → is_calm m ≡ true → moved f path m p ≡ move m p
 moves_alike f path Open p calm = absurd (false≢true calm)
 moves_alike f path LookAtSender p calm = absurd (false≢true calm)

@@ -228,7 +228,7 @@ module _ (c : Profile) (s : Side) (e : PathEnd) (acks : List AckCopy) (p : Lane)
       abbrev Summed : Record → Type 0
       Summed r = IsSummed c s p.sent (place_numbered c s r.mapping.number) r.pos r.mapping.length r.mapping.checksum
 
-      -- so it is told
+      -- the checksum that is told is that of the summed octets
       told_summed : (r : Record) → Summed r → IsSummed c s p.sent (place_numbered c s r.mapping.number) r.pos r.mapping.length (checksum_heard (checksum_told c r.mapping.checksum))
       told_summed r h = record { within = h.within; right = λ uses. ap (λ (b : Bool). unwrap_or (if b then Some r.mapping.checksum else None) 0) uses ∙ h.right uses }
 

@@ -124,7 +124,7 @@ module _ (p : PathState Carried) (h : PathTells p.profile p) where
 
   -- ---- a join
 
-  -- it is begun or not, with these to be done
+  -- a join is begun or not, with these duties to be done
   pub join_tells : (r : Reply) (dead living : List Duty) (q : PathState Carried) → IfSome (keys_begun r) AreKeys → AreFair dead → AreFair living → Tells q → Tells (join_begun r dead living q)
   join_tells r dead living q keys dead_fair living_fair x = elim (is_never r) as (λ b. Tells (if b then goes_on A (never_joined r q.a) dead q else goes_on A (opened_by (keys_begun r) q.a) living q)) [
     | true ↦ tells_on p.profile q x A (never_joined r q.a) dead (join_refused_tells p.profile A (died q.a) (died_tells p.profile A q.a x.a) r) dead_fair

@@ -22,7 +22,7 @@ module _ {C : Type 0} where
     passes = λ d p. kept_by (side_of d) (writes d) p _ (passes_no_more d p);
   }
 
-  -- so does a reply
+  -- what a reply makes of a path keeps it
   pub takes_keeps : (k : Codec C) (r : Reply) (p : PathState C) → Keeps p (takes k r p)
   takes_keeps k r p = takes_lasts (λ p q. Keeps p q) keeps_lasts k r p (λ d. kept_by (side_of d) (writes d) p _ (writes_no_more k d r p))
 

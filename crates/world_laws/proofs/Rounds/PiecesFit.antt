@@ -475,7 +475,7 @@ module _ {C : Type 0} where
     begun_world_fits start u (BeginsRound.Next turns over is) =
         subst (λ (v : WorldState C). Every CrewFits v.crew) (sym is) (round_lifted k CrewFits crew_step crew_begins (world_run k turns (opened_world start)) (run_fits turns (opened_world start) (opened_world_fits start)))
 
-    -- so it is in each round
+    -- the pieces of each crew fit in each round
     pub round_fits : (start : Start) (begun : WorldState C) (order : List ℕ) → BeginsRound k start begun → Every CrewFits (after_steps k order begun).crew
     round_fits start begun order begins = steps_fit order begun (begun_world_fits start begun begins)
 

@@ -80,7 +80,7 @@ module _ {C : Type 0} where
   answered_stands k (Duty.Ask ask) r p = other_stands k (Duty.Ask ask) r p tt
   answered_stands k d r p = other_stands k d r p tt
 
-  -- so it is after each step of a path
+  -- after each step of a path standby is as the last look told
   pub takes_stands : (k : Codec C) (x : Ask) (r : Reply) (p : PathState C) → asks_of k p ≡ Some x → (t : Side)
       → (end_at t (takes k r p)).modes.standby ≡ (if looks t x then standby_told (end_at t p).modes.standby r else (end_at t p).modes.standby)
   takes_stands k x r p asks t = by p.agenda refl

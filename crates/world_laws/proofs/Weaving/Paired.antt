@@ -16,7 +16,7 @@ grown_journal : {C R : Type 0} (f : Entry C R → Note) (journal : List (Entry C
     → map f (journal ++ entry ∷ []) ≡ map f journal ++ n ∷ []
 grown_journal f journal entry n is = map-append f journal (entry ∷ []) ∙ ap (λ m. map f journal ++ m ∷ []) is
 
--- it is at a book, or at none
+-- an ask at a book adds its note to the journals
 pub grown_journals : (pass : Pass) (ask : Ask) (books : StampedBooks) → is_local ask ≡ false
     → Grown (note_of books pass ask) (journals_of books) (journals_of (after_entry ask pass books))
 grown_journals pass (Ask.Send A call) books at = grown_here _ _ _ _ (grown_journal (send_note A) books.send_a.journal _ _ refl)
