@@ -99,8 +99,8 @@ pub enum StepDuty {
     Events,
     /// Treats one of the things that a copy said, the first being 0: tells it, or breaks the path.
     Heard { side: Side, index: u8 },
-    /// An acknowledgement of data came without a Data ACK: tells it, or breaks the path, where it joined and no Data ACK ever
-    /// came, or where this is the third time in a row.
+    /// An acknowledgement of data came without a Data ACK: tells it, or breaks the path. A path is broken that joined and where no
+    /// Data ACK ever came, or where this is the third time in a row.
     PlainAck(Side),
     /// The next byte came once more without a mapping: breaks the path, where it is the third time.
     Unmapped(Side),
@@ -133,8 +133,7 @@ pub enum SendDuty {
     Answer(Side),
     /// The reset that answers a segment at a dead end.
     ResetAnswer(Side),
-    /// What was lost, after an expiry: the first record, or else the third MP_JOIN, or else MP_FASTCLOSE, or else the DATA_FIN, or
-    /// else a probe.
+    /// What was lost, after an expiry: the first record, else the third MP_JOIN, else MP_FASTCLOSE, else the DATA_FIN, else a probe.
     Resend(Side),
     /// The path is broken: a reset with the reason (RFC 8684, section 3.6).
     BreakReset { side: Side, reason: u8 },
