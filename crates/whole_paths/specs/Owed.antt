@@ -43,7 +43,7 @@ module _ {C : Type 0} where
     pub altered : Bool
     pub carried : f.carried ≡ changed (k.strips p.profile.spelling s) (k.alters p.profile.spelling s) stripped altered (k.makes p.profile.spelling s segment)
 
-  -- An answer comes by this tick, unless the script harms it: as late as the link may hand on what is sent now, where the end owes an
+  -- Such a copy comes by this tick, unless the script harms it: as late as the link may hand on what is sent now, where the end owes an
   -- acknowledgement and all before the position came to it; or the copy is under way. Both SYNs came.
   pub data IsAnswered (k : Codec C) (s : Side) (position by : ℕ) (p : PathState C) : Type 0 where
     owes : p.clock + longest_way s p.link ≤ by → 2 ≤ stage (end_at s p).tcp.state → position ≤ (end_at s p).tcp.recv.edge → (end_at s p).tcp.due.ack ≡ true
@@ -54,7 +54,7 @@ module _ {C : Type 0} where
   pub data AnswerGoesOn (k : Codec C) (s : Side) (position by : ℕ) (p q : PathState C) : Type 0 where
     -- by the same tick
     on : IsAnswered k s position by q → AnswerGoesOn k s position by p q
-    -- an answer was what arrives next
+    -- such a copy was what arrives next
     arrives : (f : Flight C) → f.tick ≤ by → IsUnderWay f p → IsAnswer k s position p f → (others : List Duty) → p.agenda ≡ duties.Step step_duties.Events ∷ others
         → next_event p ≡ Some (happenings.Arrives (due_of f)) → AnswerGoesOn k s position by p q
     -- a line was used by which a segment is lost or late
