@@ -518,7 +518,7 @@ module _ {C : Type 0} where
   hands_go k (App a) (Path q) turned frames keeps knows hands answers owed answered passed live = absurd turned
   hands_go k (Path p) (App b) turned frames keeps knows hands answers owed answered passed live = absurd turned
 
-  same_actor : (P : ActorCrew C → Type 0) (v : WorldState C) (actor : ℕ) (d : ActorCrew C) → slice_get v.crew actor ≡ Some d → ((e : ActorCrew C) × (slice_get v.crew actor ≡ Some e) × P e) → P d
+  pub same_actor : (P : ActorCrew C → Type 0) (v : WorldState C) (actor : ℕ) (d : ActorCrew C) → slice_get v.crew actor ≡ Some d → ((e : ActorCrew C) × (slice_get v.crew actor ≡ Some e) × P e) → P d
   same_actor P v actor d at x = subst P (same_Some x.0 d (sym x.1 ∙ at)) x.2
 
   pub what_is_in_hand_is_acknowledged : (k : Codec C) → WhatIsInHandIsAcknowledged k

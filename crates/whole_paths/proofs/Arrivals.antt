@@ -72,7 +72,7 @@ each_mapped_record_is_a_piece c s r e x m of_it says = record {
 
 -- ---- a copy that was under way
 
-sender_of : (s : Side) → peer (peer s) ≡ s
+pub sender_of : (s : Side) → peer (peer s) ≡ s
 sender_of A = refl
 sender_of B = refl
 
@@ -134,7 +134,7 @@ module _ (c : Copy) (s : EndState) (pos acknowledged : ℕ) where
       ∙ ap (λ b. if is_half_open s.state && b then means.Unacknowledging else means.Taken pos acknowledged) (ne_eqb acknowledged 0 (λ none. omega (arith, some, none)))
       ∙ ap (λ b. if b then means.Unacknowledging else means.Taken pos acknowledged) (and_false (is_half_open s.state))
 
-  taken_so : 2 ≤ stage s.state → is_dead s.state ≡ false → is_at_limit s ≡ false → c.syn ≡ false → c.rst ≡ false → c.position ≡ Some pos → c.acknowledged ≡ Some acknowledged
+  pub taken_so : 2 ≤ stage s.state → is_dead s.state ≡ false → is_at_limit s ≡ false → c.syn ≡ false → c.rst ≡ false → c.position ≡ Some pos → c.acknowledged ≡ Some acknowledged
       → is_acceptable s.recv.edge pos c ≡ true → 0 < acknowledged → acknowledged ≤ s.send.nxt → meaning_of c s ≡ means.Taken pos acknowledged
   taken_so opened living limit syn rst at acks accepted some sent =
       past_connected s.state c s opened living

@@ -25,8 +25,9 @@ use Rattle.world_laws.specs.declared.member.Member.TheVariants.{App, Path}
 use Rattle.world_laws.specs.Actors.{Actor, member_takes, member_next}
 use Rattle.world_laws.specs.Laws.{Always}
 use Rattle.world_laws.specs.Members.{HoldsOfKind}
-use Rattle.world_laws.specs.Openings.{path_begins, opened_world}
+use Rattle.world_laws.specs.Openings.{Start, path_begins, opened_world}
 use Rattle.world_laws.specs.StampedBooks.{answer_to}
+use Rattle.world_laws.specs.Worlds.{Turn, world_run}
 use Rattle.world_laws.proofs.Keys.Held.{in_removed}
 use Rattle.world_laws.proofs.Rounds.Lifting.{run_lifted, opened_lifted}
 use Rattle.world_laws.proofs.Worlds.Finding.{find_every, one_side}
@@ -68,11 +69,13 @@ module _ {C : Type 0} where
   abbrev Alike : Flight C → Flight C → Type 0
   Alike f g = g.to ≡ f.to → g.number ≡ f.number → f.number < 2 ^ 64 - 1 → g.carried ≡ f.carried
 
-  abbrev Counted : LinkState C → Flight C → Type 0
-  Counted link f = f.number < 2 ^ 64 - 1 → f.number ≤ segments_sent (peer f.to) link
+  abbrev pub Counted : LinkState C → Flight C → Type 0
+  Counted link f = f.number ≤ segments_sent (peer f.to) link
 
-  record LinkIs (link : LinkState C) : Type 0 where
-    low : Every (Counted link) link.under_way
+  pub record LinkIs (link : LinkState C) : Type 0 where
+    pub low : Every (Counted link) link.under_way
+    most_a : link.from_a ≤ 2 ^ 64 - 1
+    most_b : link.from_b ≤ 2 ^ 64 - 1
     alike : Every (λ f. Every (Alike f) link.under_way) link.under_way
 
   -- an earlier copy, or one of the segment that is sent
@@ -82,8 +85,8 @@ module _ {C : Type 0} where
 
   -- no earlier copy has the number of the segment that is sent
   apart : (sent : ℕ) (g : Flight C) (link : LinkState C) (from : Side) → segments_sent from link ≡ sent → Counted link g → g.to ≡ peer from → g.number ≡ next_number from link → g.number < 2 ^ 64 - 1 → ⊥
-  apart sent g link A is low to number few = let most : g.number ≤ link.from_a = subst (λ s. g.number ≤ segments_sent (peer s) link) to (low few) in omega (arith, number, few, most)
-  apart sent g link B is low to number few = let most : g.number ≤ link.from_b = subst (λ s. g.number ≤ segments_sent (peer s) link) to (low few) in omega (arith, number, few, most)
+  apart sent g link A is low to number few = let most : g.number ≤ link.from_a = subst (λ s. g.number ≤ segments_sent (peer s) link) to low in omega (arith, number, few, most)
+  apart sent g link B is low to number few = let most : g.number ≤ link.from_b = subst (λ s. g.number ≤ segments_sent (peer s) link) to low in omega (arith, number, few, most)
 
   alike_so : (link : LinkState C) (from : Side) (carried : C) → LinkIs link → (f g : Flight C) → Old link.under_way (peer from) (next_number from link) carried f → Old link.under_way (peer from) (next_number from link) carried g
       → Alike f g
@@ -95,30 +98,32 @@ module _ {C : Type 0} where
       absurd (apart (segments_sent from link) g link from refl (h.low.each j g here) (to ∙ f_to) (number ∙ f_number) (subst (λ n. n < 2 ^ 64 - 1) (sym number) few))
 
   -- counts never fall
-  counted_a : (link next : LinkState C) (f : Flight C) → next.from_a ≡ next_number A link → next.from_b ≡ link.from_b → Counted link f → Counted next f
-  counted_a link next f a b low few = by f.to (low few)
+  counted_a : (link next : LinkState C) (f : Flight C) → next.from_a ≡ next_number A link → next.from_b ≡ link.from_b → link.from_a ≤ 2 ^ 64 - 1 → Counted link f → Counted next f
+  counted_a link next f a b most low = by f.to low
     where
       by : (s : Side) → f.number ≤ segments_sent (peer s) link → f.number ≤ segments_sent (peer s) next
       by A is = omega (arith, is, b)
-      by B is = omega (arith, is, a, few)
+      by B is = omega (arith, is, a, most)
 
   counted_same : (link next : LinkState C) (f : Flight C) → next.from_a ≡ link.from_a → next.from_b ≡ link.from_b → Counted link f → Counted next f
-  counted_same link next f a b low few = by f.to (low few)
+  counted_same link next f a b low = by f.to low
     where
       by : (s : Side) → f.number ≤ segments_sent (peer s) link → f.number ≤ segments_sent (peer s) next
       by A is = omega (arith, is, b)
       by B is = omega (arith, is, a)
 
-  counted_b : (link next : LinkState C) (f : Flight C) → next.from_b ≡ next_number B link → next.from_a ≡ link.from_a → Counted link f → Counted next f
-  counted_b link next f b a low few = by f.to (low few)
+  counted_b : (link next : LinkState C) (f : Flight C) → next.from_b ≡ next_number B link → next.from_a ≡ link.from_a → link.from_b ≤ 2 ^ 64 - 1 → Counted link f → Counted next f
+  counted_b link next f b a most low = by f.to low
     where
       by : (s : Side) → f.number ≤ segments_sent (peer s) link → f.number ≤ segments_sent (peer s) next
-      by A is = omega (arith, is, b, few)
+      by A is = omega (arith, is, b, most)
       by B is = omega (arith, is, a)
 
   sent_is : (strip alter : Side → C → C) (from : Side) (carried : C) (size now : ℕ) (link : LinkState C) → LinkIs link → LinkIs (after_send strip alter from carried size now link)
   sent_is strip alter A carried size now link h = record {
     low = record { each = λ i f at. counted f (old.each i f at) };
+    most_a = omega (arith, h.most_a);
+    most_b = omega (arith, h.most_b);
     alike = record { each = λ i f at. record { each = λ j g here. alike_so link A _ h f g (old.each i f at) (old.each j g here) } };
   }
     where
@@ -130,10 +135,12 @@ module _ {C : Type 0} where
           (arrivals (fate_at A (next_number A link) size now link) (first_arrival A (next_number A link) size now link)) link.under_way (record { each = λ i g at. before i at })
 
       counted : (f : Flight C) → Old link.under_way B (next_number A link) (as_it_arrives strip alter A carried now link) f → Counted next f
-      counted f (before i there) few = counted_a link next f refl refl (h.low.each i f there) few
-      counted f (fresh to number is) few = subst (λ s. f.number ≤ segments_sent (peer s) next) (sym to) (omega (arith, number))
+      counted f (before i there) = counted_a link next f refl refl h.most_a (h.low.each i f there)
+      counted f (fresh to number is) = subst (λ s. f.number ≤ segments_sent (peer s) next) (sym to) (omega (arith, number))
   sent_is strip alter B carried size now link h = record {
     low = record { each = λ i f at. counted f (old.each i f at) };
+    most_a = omega (arith, h.most_a);
+    most_b = omega (arith, h.most_b);
     alike = record { each = λ i f at. record { each = λ j g here. alike_so link B _ h f g (old.each i f at) (old.each j g here) } };
   }
     where
@@ -145,16 +152,18 @@ module _ {C : Type 0} where
           (arrivals (fate_at B (next_number B link) size now link) (first_arrival B (next_number B link) size now link)) link.under_way (record { each = λ i g at. before i at })
 
       counted : (f : Flight C) → Old link.under_way A (next_number B link) (as_it_arrives strip alter B carried now link) f → Counted next f
-      counted f (before i there) few = counted_b link next f refl refl (h.low.each i f there) few
-      counted f (fresh to number is) few = subst (λ s. f.number ≤ segments_sent (peer s) next) (sym to) (omega (arith, number))
+      counted f (before i there) = counted_b link next f refl refl h.most_b (h.low.each i f there)
+      counted f (fresh to number is) = subst (λ s. f.number ≤ segments_sent (peer s) next) (sym to) (omega (arith, number))
 
   delivered_is : (due : Due) (link : LinkState C) → LinkIs link → LinkIs (after_delivery due link)
   delivered_is due link h = by (position (is_due due) link.under_way)
     where
       by : (o : Option ℕ) → LinkIs (record link { under_way = without o link.under_way })
-      by None = record { low = h.low; alike = h.alike }
+      by None = record { low = h.low; most_a = h.most_a; most_b = h.most_b; alike = h.alike }
       by (Some place) = record {
         low = record { each = λ i f at. let there = in_removed link.under_way place i f at in counted_same link (record link { under_way = without (Some place) link.under_way }) f refl refl (h.low.each there.0 f there.1) };
+        most_a = h.most_a;
+        most_b = h.most_b;
         alike = record {
           each = λ i f at. let there = in_removed link.under_way place i f at in
               record { each = λ j g here. let other = in_removed link.under_way place j g here in (h.alike.each there.0 f there.1).each other.0 g other.1 };
@@ -165,7 +174,7 @@ module _ {C : Type 0} where
   step_is k p q (stays is) h = subst LinkIs (sym is) h
   step_is k p q (hands from carried size still is) h = subst LinkIs (sym is) (sent_is (k.strips p.profile.spelling) (k.alters p.profile.spelling) from carried size p.clock p.link h)
   step_is k p q (delivers event due next is) h = subst LinkIs (sym is) (delivered_is due p.link h)
-  step_is k p q (is_cut line next action is) h = subst LinkIs (sym is) (record { low = record { each = λ i f there. cc }; alike = record { each = λ i f there. cc } })
+  step_is k p q (is_cut line next action is) h = subst LinkIs (sym is) (record { low = record { each = λ i f there. cc }; most_a = h.most_a; most_b = h.most_b; alike = record { each = λ i f there. cc } })
 
   -- ---- what arrives
 
@@ -205,7 +214,7 @@ module _ {C : Type 0} where
   begins_is : (p : PathState C) → LinkIs p.link → LinkIs (begins_turn p).link
   begins_is p h = subst LinkIs (sym (settled_lasts LinkStays links_last start_of_turn (with_agenda start_of_turn p))) h
 
-  abbrev LinkMember : Actor C → Type 0
+  abbrev pub LinkMember : Actor C → Type 0
   LinkMember = HoldsOfKind (λ app. Unit {0}) (λ (p : PathState C). LinkIs p.link)
 
   member_takes_is : (k : Codec C) (r : Reply) (m : Actor C) → LinkMember m → LinkMember (member_takes k r m)
@@ -220,10 +229,11 @@ module _ {C : Type 0} where
   member_so (App a) h = tt
   member_so (Path p) h = arrives_so p h
 
+  -- at every moment
+  pub each_link : (k : Codec C) (start : Start) (turns : List Turn) → Every (λ c. LinkMember c.member) (world_run k turns (opened_world start)).crew
+  each_link k start turns = run_lifted k (λ c. LinkMember c.member) (λ books c x asks h. member_takes_is k (answer_to books x) c.member h) (λ stamp c over h. member_begins c.member h) turns (opened_world start)
+      (opened_lifted (λ c. LinkMember c.member) start tt tt (λ number plan there. begins_is (waiting_path (path_begins start number plan) start.lines)
+      (record { low = record { each = λ i f there. cc }; most_a = omega arith; most_b = omega arith; alike = record { each = λ i f there. cc } })))
+
   pub copies_arrive_as_sent : (k : Codec C) → Always k (λ start w. CopiesArriveAsSent w)
-  copies_arrive_as_sent k start turns = record {
-    each = λ actor c there. member_so c.member ((run_lifted k (λ c. LinkMember c.member) (λ books c x asks h. member_takes_is k (answer_to books x) c.member h)
-        (λ stamp c over h. member_begins c.member h) turns (opened_world start)
-        (opened_lifted (λ c. LinkMember c.member) start tt tt (λ number plan there. begins_is (waiting_path (path_begins start number plan) start.lines)
-        (record { low = record { each = λ i f there. cc }; alike = record { each = λ i f there. cc } })))).each actor c there);
-  }
+  copies_arrive_as_sent k start turns = record { each = λ actor c there. member_so c.member ((each_link k start turns).each actor c there) }

@@ -1,5 +1,5 @@
 -- The first record that isn't acknowledged comes to the peer, whatever is lost.
-use Rattle.std.proofs.Common.{◌≡◌, refl, sym, subst, ap, ◌∙◌, ◌⊎◌, inl, inr, ⊎_elim, ℕ, ◌+◌, ◌-◌, ◌^◌, ◌<◌, ◌≤◌, max, true, false, true≢false, if◌then◌else◌, Option, Some, None, IfSome, List, [], ◌∷◌, length, arith}
+use Rattle.std.proofs.Common.{◌≡◌, refl, sym, subst, ap, ◌∙◌, ◌⊎◌, inl, inr, ⊎_elim, ℕ, ◌+◌, ◌-◌, ◌^◌, ◌<◌, ◌≤◌, max, Bool, true, false, true≢false, if◌then◌else◌, Option, Some, None, IfSome, List, [], ◌∷◌, length, arith}
 use Rattle.std.specs.Prelude.{IsSome}
 use Rattle.std.specs.List.{slice_get}
 use Rattle.std.proofs.lemmas.Bool.{cases_lt}
@@ -55,7 +55,7 @@ use Rattle.world_laws.proofs.Writes.Steps.{Lasts, settled_lasts, takes_lasts, be
 use Rattle.whole_paths.specs.Copies.{IsUnderWay, GoesOnItsWay, CopiesGoOn}
 use Rattle.whole_paths.specs.Copies.{GoesOnItsWay as copy}
 use Rattle.whole_paths.specs.Expiries.{IsSegmentOf, IsSaidAt, IsToSendAgain, PathsGoAgain, SendsAgain, GoesAgain, Expires}
-use Rattle.whole_paths.specs.Flights.{IsFirst, IsCopyOf, IsOnItsWay, GoesOnTo, RecordsGoOn, IsOnItsWayAtTheEnd, WhatWaitsComes}
+use Rattle.whole_paths.specs.Flights.{IsFirst, IsCopyOf, IsOnItsWay, IsSentSo, ComesSo, GoesOnTo, RecordsGoOn, IsOnItsWayAtTheEnd, WhatWaitsComes}
 use Rattle.whole_paths.specs.Flights.IsOnItsWay.{waits, resends, flies}
 use Rattle.whole_paths.specs.Flights.{GoesOnTo as goes}
 use Rattle.whole_paths.specs.Harms.{harms_left, as_it_arrives, longest_way, IsOnTime}
@@ -228,30 +228,31 @@ module _ {C : Type 0} where
 
   -- ---- one turn of a path
 
-  module _ (k : Codec C) (s : Side) (r : Record) (by_then : ℕ) (p q : PathState C) (kept : KeepsWhatWaits (end_at s p) (end_at s q)) (frames : Frames p q) where
+  module _ (k : Codec C) (s : Side) (r : Record) (by_then : ℕ) (p q : PathState C) (kept : KeepsWhatWaits (end_at s p) (end_at s q)) (frames : Frames p q)
+      (Was : PathEnd → Bool → Bool → Type 0) (was : IsFirst r (end_at s p) → Was (end_at s p) (is_stripped s (next_number s p.link) p.clock p.link.lines) (is_altered s (next_number s p.link) p.link.lines)) where
     abbrev Next : Type 0
-    Next = GoesOnTo k s r by_then p q
+    Next = (go : GoesOnTo k s r by_then p q) × ComesSo Was go
 
     -- the first record is still first, or there is news
     with_first : IsFirst r (end_at s p) → (IsFirst r (end_at s q) → Next) → Next
-    with_first h then_so = ⊎_elim then_so (λ news. goes.news news) (first_stays r (end_at s p) (end_at s q) kept h)
+    with_first h then_so = ⊎_elim then_so (λ news. (goes.news news, tt)) (first_stays r (end_at s p) (end_at s q) kept h)
 
-    same_on : q ≡ p → IsOnItsWay k s r by_then p → Next
-    same_on same way = goes.on (subst (IsOnItsWay k s r by_then) (sym same) way)
+    same_on : q ≡ p → (way : IsOnItsWay k s r by_then p) → IsSentSo Was way → Next
+    same_on same way so = let there = subst (λ v. (w : IsOnItsWay k s r by_then v) × IsSentSo Was w) (sym same) (way, so) in (goes.on there.0, there.1)
 
     waits_goes : GoesAgain k p q → ComesFrom p.clock p → (tick : ℕ) → tick + longest_way s p.link ≤ by_then → RunsTo tick (end_at s p) → IsFirst r (end_at s p) → WaitsOn s tick p q → Next
-    waits_goes again past tick low h first (wait.runs on) = let way = frames.way s in with_first first (λ still. goes.on (waits tick (omega (arith, way, low)) on still))
-    waits_goes again past tick low h first (wait.news news) = goes.news news
-    waits_goes again past tick low h first (wait.gone gone) = goes.gone gone
+    waits_goes again past tick low h first (wait.runs on) = let way = frames.way s in with_first first (λ still. (goes.on (waits tick (omega (arith, way, low)) on still), tt))
+    waits_goes again past tick low h first (wait.news news) = (goes.news news, tt)
+    waits_goes again past tick low h first (wait.gone gone) = (goes.gone gone, tt)
     waits_goes again past tick low h first (wait.runs_out at out) = ⊎_elim
-        (λ same. same_on same (waits tick low h first))
-        (λ expired. ⊎_elim (λ same. same_on same (waits tick low h first)) (λ clock. ran_out expired clock) (frames.moves (happenings.Fires s at) out.others out.first out.next))
+        (λ same. same_on same (waits tick low h first) tt)
+        (λ expired. ⊎_elim (λ same. same_on same (waits tick low h first) tt) (λ clock. ran_out expired clock) (frames.moves (happenings.Fires s at) out.others out.first out.next))
         (again.fires s at out)
       where
         ran_out : Expires s p q → q.clock ≡ max p.clock at → Next
         ran_out expired clock = ⊎_elim
-            (λ few. with_first first (λ still. goes.on (resends (in_time clock) (expired.again few).next still)))
-            (λ many. goes.gone (expired.sixth many))
+            (λ few. with_first first (λ still. (goes.on (resends (in_time clock) (expired.again few).next still), tt)))
+            (λ many. (goes.gone (expired.sixth many), tt))
             (cases_lt (end_at s p).tcp.timing.expiries 5)
           where
             in_time : q.clock ≡ max p.clock at → q.clock + longest_way s q.link ≤ by_then
@@ -263,8 +264,8 @@ module _ {C : Type 0} where
 
     flown : SendsAgain k s p q → IsFirst r (end_at s p) → p.clock + longest_way s p.link ≤ by_then → segments_sent s p.link < 2 ^ 64 - 1 → Next
     flown sent h low few = ⊎_elim
-        (λ less. goes.harmed (subst (λ (l : LinkState C). harms_left l < harms_left p.link) (sym sent.taken) less))
-        (λ comes. ⊎_elim (λ lost. goes.lost sent.segment of_it sent.taken lost) by comes.1)
+        (λ less. (goes.harmed (subst (λ (l : LinkState C). harms_left l < harms_left p.link) (sym sent.taken) less), tt))
+        (λ comes. ⊎_elim (λ lost. (goes.lost sent.segment of_it sent.taken lost, tt)) by comes.1)
         (each_uses_a_line_or_comes (k.strips p.profile.spelling) (k.alters p.profile.spelling) s (k.makes p.profile.spelling s sent.segment) size p.clock p.link few)
       where
         size : ℕ
@@ -277,72 +278,99 @@ module _ {C : Type 0} where
         of_it = same_segment r h.first sent.segment h.same (sent.first h.first h.others h.records).0
 
         by : Has (IsOnTime s size p.clock (as_it_arrives (k.strips p.profile.spelling) (k.alters p.profile.spelling) s (k.makes p.profile.spelling s sent.segment) p.clock p.link) p.link) after.under_way → Next
-        by has = goes.on (flies has.item (let in_time = has.holds.in_time in omega (arith, in_time, low))
-            (subst (λ (l : LinkState C). Has (λ g. g ≡ has.item) l.under_way) (sym sent.taken) (record { at = has.at; item = has.item; there = has.there; holds = refl }))
-            (record {
-              to = has.holds.to;
-              segment = sent.segment;
-              of_it = of_it;
-              sender = end_at s p;
-              says = subst (λ c. IsSaidAt c s r (end_at s p) sent.segment) (sym frames.profile) (same_said p.profile s (end_at s p) r h.first sent.segment h.same (sent.first h.first h.others h.records).1);
-              stripped = is_stripped s (next_number s p.link) p.clock p.link.lines;
-              altered = is_altered s (next_number s p.link) p.link.lines;
-              carried = subst (λ (c : Profile). has.item.carried
-                  ≡ changed (k.strips c.spelling s) (k.alters c.spelling s) (is_stripped s (next_number s p.link) p.clock p.link.lines) (is_altered s (next_number s p.link) p.link.lines)
-                  (k.makes c.spelling s sent.segment)) (sym frames.profile) has.holds.carried;
-            }))
+        by has = (
+          goes.on (flies has.item (let in_time = has.holds.in_time in omega (arith, in_time, low))
+              (subst (λ (l : LinkState C). Has (λ g. g ≡ has.item) l.under_way) (sym sent.taken) (record { at = has.at; item = has.item; there = has.there; holds = refl }))
+              (record {
+                to = has.holds.to;
+                segment = sent.segment;
+                of_it = of_it;
+                sender = end_at s p;
+                says = subst (λ c. IsSaidAt c s r (end_at s p) sent.segment) (sym frames.profile) (same_said p.profile s (end_at s p) r h.first sent.segment h.same (sent.first h.first h.others h.records).1);
+                stripped = is_stripped s (next_number s p.link) p.clock p.link.lines;
+                altered = is_altered s (next_number s p.link) p.link.lines;
+                carried = subst (λ (c : Profile). has.item.carried
+                    ≡ changed (k.strips c.spelling s) (k.alters c.spelling s) (is_stripped s (next_number s p.link) p.clock p.link.lines) (is_altered s (next_number s p.link) p.link.lines)
+                    (k.makes c.spelling s sent.segment)) (sym frames.profile) has.holds.carried;
+              })),
+          was h,
+        )
 
     resends_goes : GoesAgain k p q → p.clock + longest_way s p.link ≤ by_then → segments_sent s p.link < 2 ^ 64 - 1 → IsToSendAgain s p → IsFirst r (end_at s p) → Next
     resends_goes again low few (inl is) h = ⊎_elim
-        (λ same. same_on same (resends low (inl is) h))
-        (λ given. goes.on (resends still (inr given.0) (subst (IsFirst r) (sym given.1) h)))
+        (λ same. same_on same (resends low (inl is) h) tt)
+        (λ given. (goes.on (resends still (inr given.0) (subst (IsFirst r) (sym given.1) h)), tt))
         (again.gives_back s is)
       where
         still : q.clock + longest_way s q.link ≤ by_then
         still = let clock = frames.stands (duties.Ask (ask_duties.Return s)) (duties.Send (send_duties.Resend s) ∷ emission s) is refl in let way = frames.way s in omega (arith, clock, way, low)
     resends_goes again low few (inr is) h = ⊎_elim
-        (λ same. same_on same (resends low (inr is) h))
+        (λ same. same_on same (resends low (inr is) h) tt)
         (λ sent. flown sent h low few)
         (again.sends s is)
 
-    flies_goes : (f : Flight C) → f.tick ≤ by_then → IsUnderWay f p → IsCopyOf k s r p f → GoesOnItsWay f p q → Next
-    flies_goes f low before h (copy.on there) = goes.on (flies f low there (record {
-      to = h.to;
-      segment = h.segment;
-      of_it = h.of_it;
-      sender = h.sender;
-      says = subst (λ c. IsSaidAt c s r h.sender h.segment) (sym frames.profile) h.says;
-      stripped = h.stripped;
-      altered = h.altered;
-      carried = subst (λ (c : Profile). f.carried ≡ changed (k.strips c.spelling s) (k.alters c.spelling s) h.stripped h.altered (k.makes c.spelling s h.segment)) (sym frames.profile) h.carried;
-    }))
-    flies_goes f low before h (copy.arrives others first next) = goes.arrives f low before h others first next
-    flies_goes f low before h (copy.dies line next is) = goes.dies line next is
+    flies_goes : (f : Flight C) → f.tick ≤ by_then → IsUnderWay f p → (h : IsCopyOf k s r p f) → Was h.sender h.stripped h.altered → GoesOnItsWay f p q → Next
+    flies_goes f low before h so (copy.on there) = (
+      goes.on (flies f low there (record {
+        to = h.to;
+        segment = h.segment;
+        of_it = h.of_it;
+        sender = h.sender;
+        says = subst (λ c. IsSaidAt c s r h.sender h.segment) (sym frames.profile) h.says;
+        stripped = h.stripped;
+        altered = h.altered;
+        carried = subst (λ (c : Profile). f.carried ≡ changed (k.strips c.spelling s) (k.alters c.spelling s) h.stripped h.altered (k.makes c.spelling s h.segment)) (sym frames.profile) h.carried;
+      })),
+      so,
+    )
+    flies_goes f low before h so (copy.arrives others first next) = (goes.arrives f low before h others first next, so)
+    flies_goes f low before h so (copy.dies line next is) = (goes.dies line next is, tt)
 
-    goes_by : TimersWaitOn (Path p) (Path q) → GoesAgain k p q → CopiesGoOn (Path p) (Path q) → ComesFrom p.clock p → segments_sent s p.link < 2 ^ 64 - 1 → IsOnItsWay k s r by_then p → Next
-    goes_by timers again copies past few (waits tick low h first) = waits_goes again past tick low h first (timers s tick h)
-    goes_by timers again copies past few (resends low is first) = resends_goes again low few is first
-    goes_by timers again copies past few (flies f low there h) = flies_goes f low there h (copies f there)
+    goes_by : TimersWaitOn (Path p) (Path q) → GoesAgain k p q → CopiesGoOn (Path p) (Path q) → ComesFrom p.clock p → segments_sent s p.link < 2 ^ 64 - 1 → (way : IsOnItsWay k s r by_then p) → IsSentSo Was way → Next
+    goes_by timers again copies past few (waits tick low h first) so = waits_goes again past tick low h first (timers s tick h)
+    goes_by timers again copies past few (resends low is first) so = resends_goes again low few is first
+    goes_by timers again copies past few (flies f low there h) so = flies_goes f low there h so (copies f there)
 
   -- ---- the world
 
   abbrev ComesInTime : Actor C → Type 0
   ComesInTime = HoldsOfKind (λ app. Unit {0}) (λ (p : PathState C). ComesFrom p.clock p)
 
-  records_go_on : (k : Codec C) (m n : Actor C) → EndsKeepWhatWaits m n → TimersWaitOn m n → PathsGoAgain k m n → CopiesGoOn m n → FramesStay m n → ComesInTime m → RecordsGoOn k m n
-  records_go_on k (App a) (App b) kept timers again copies frames past = tt
-  records_go_on k (Path p) (Path q) kept timers again copies frames past = λ s r by_then few way. goes_by k s r by_then p q (kept s) frames timers again copies past few way
-  records_go_on k (App a) (Path q) kept timers again copies frames past = absurd kept
-  records_go_on k (Path p) (App b) kept timers again copies frames past = absurd kept
+  -- what becomes of a record on its way, with what held of each sender, which was so where the record was the first
+  abbrev pub SentGoOn : (PathEnd → Bool → Bool → Type 0) → Codec C → Actor C → Actor C → Type 0
+  SentGoOn Was k (Path p) (Path q) = (s : Side) (r : Record) (by_then : ℕ) → segments_sent s p.link < 2 ^ 64 - 1
+      → (IsFirst r (end_at s p) → Was (end_at s p) (is_stripped s (next_number s p.link) p.clock p.link.lines) (is_altered s (next_number s p.link) p.link.lines))
+      → (way : IsOnItsWay k s r by_then p) → IsSentSo Was way → (go : GoesOnTo k s r by_then p q) × ComesSo Was go
+  SentGoOn Was k (App a) (App b) = Unit {0}
+  SentGoOn Was k _ _ = ⊥
+
+  records_go_on : (Was : PathEnd → Bool → Bool → Type 0) (k : Codec C) (m n : Actor C) → EndsKeepWhatWaits m n → TimersWaitOn m n → PathsGoAgain k m n → CopiesGoOn m n → FramesStay m n → ComesInTime m
+      → SentGoOn Was k m n
+  records_go_on Was k (App a) (App b) kept timers again copies frames past = tt
+  records_go_on Was k (Path p) (Path q) kept timers again copies frames past = λ s r by_then few was way so. goes_by k s r by_then p q (kept s) frames Was was timers again copies past few way so
+  records_go_on Was k (App a) (Path q) kept timers again copies frames past = absurd kept
+  records_go_on Was k (Path p) (App b) kept timers again copies frames past = absurd kept
+
+  -- whatever its sender
+  any_sender : {s : Side} {r : Record} {n : ℕ} {p : PathState C} (k : Codec C) (way : IsOnItsWay k s r n p) → IsSentSo (λ e strips alters. Unit {0}) way
+  any_sender k (waits tick low h first) = tt
+  any_sender k (resends low is first) = tt
+  any_sender k (flies f low there h) = tt
+
+  whoever_sent : (k : Codec C) (m n : Actor C) → SentGoOn (λ e strips alters. Unit {0}) k m n → RecordsGoOn k m n
+  whoever_sent k (App a) (App b) h = tt
+  whoever_sent k (Path p) (Path q) h = λ s r by_then few way. (h s r by_then few (λ first. tt) way (any_sender k way)).0
+  whoever_sent k (App a) (Path q) h = absurd h
+  whoever_sent k (Path p) (App b) h = absurd h
 
   pub frames_stay : (k : Codec C) (w : WorldState C) (turn : Turn) (actor : ℕ) (c : ActorCrew C) → slice_get w.crew actor ≡ Some c
       → (d : ActorCrew C) × (slice_get (after_turn k turn w).crew actor ≡ Some d) × FramesStay c.member d.member
   frames_stay k w turn = turn_each k (λ x y. FramesStay x.member y.member) (λ x. member_stays x.member) (λ ask books x. member_frames k (answer_to books ask) x.member)
       (λ stamp x over. member_begins x.member over) turn w
 
-  goes_on_so : (k : Codec C) (w : WorldState C) → NothingIsOverdue w → (turn : Turn) (actor : ℕ) (c : ActorCrew C) → slice_get w.crew actor ≡ Some c
-      → (d : ActorCrew C) × (slice_get (after_turn k turn w).crew actor ≡ Some d) × RecordsGoOn k c.member d.member
-  goes_on_so k w past turn actor c there =
+  pub sent_go_on : (Was : PathEnd → Bool → Bool → Type 0) (k : Codec C) (w : WorldState C) → NothingIsOverdue w → (turn : Turn) (actor : ℕ) (c : ActorCrew C) → slice_get w.crew actor ≡ Some c
+      → (d : ActorCrew C) × (slice_get (after_turn k turn w).crew actor ≡ Some d) × SentGoOn Was k c.member d.member
+  sent_go_on Was k w past turn actor c there =
       let kept = what_waits_is_kept k w (turn ∷ []) actor c there in
       let d : ActorCrew C = kept.0 in
       let timers = (no_timer_is_put_off k).waits w turn actor c there in
@@ -351,13 +379,17 @@ module _ {C : Type 0} where
       let frames = frames_stay k w turn actor c there in (
         d,
         kept.1,
-        records_go_on k c.member d.member kept.2
+        records_go_on Was k c.member d.member kept.2
             (subst (λ (x : ActorCrew C). TimersWaitOn c.member x.member) (same_Some timers.0 d (sym timers.1 ∙ kept.1)) timers.2)
             (subst (λ (x : ActorCrew C). PathsGoAgain k c.member x.member) (same_Some again.0 d (sym again.1 ∙ kept.1)) again.2)
             (subst (λ (x : ActorCrew C). CopiesGoOn c.member x.member) (same_Some copies.0 d (sym copies.1 ∙ kept.1)) copies.2)
             (subst (λ (x : ActorCrew C). FramesStay c.member x.member) (same_Some frames.0 d (sym frames.1 ∙ kept.1)) frames.2)
             (past.each actor c there),
       )
+
+  goes_on_so : (k : Codec C) (w : WorldState C) → NothingIsOverdue w → (turn : Turn) (actor : ℕ) (c : ActorCrew C) → slice_get w.crew actor ≡ Some c
+      → (d : ActorCrew C) × (slice_get (after_turn k turn w).crew actor ≡ Some d) × RecordsGoOn k c.member d.member
+  goes_on_so k w past turn actor c there = let go = sent_go_on (λ e strips alters. Unit {0}) k w past turn actor c there in (go.0, go.1, whoever_sent k c.member go.0.member go.2)
 
   -- at the end of a turn
   begins_so : (k : Codec C) (p : PathState C) → IsTimedWhereItWaits p → IsSettledAtTheEnd p → TimersAreNear p → IsOnItsWayAtTheEnd k p

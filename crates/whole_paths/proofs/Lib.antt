@@ -7,6 +7,7 @@ pub mod Came
 pub mod Copies
 pub mod Due
 pub mod Duties
+pub mod Exchanges
 pub mod Flying
 pub mod GoesOn
 pub mod Hearing
@@ -22,6 +23,7 @@ pub mod Passing
 pub mod Paying
 pub mod Pieces
 pub mod Reasons
+pub mod Reached
 pub mod Resending
 pub mod Rounds
 pub mod Running

@@ -1,5 +1,5 @@
 -- What a copy asks for is answered in the same turn.
-use Rattle.std.proofs.Common.{◌≡◌, refl, sym, subst, ap, ◌∙◌, ◌⊎◌, inl, inr, ⊎_elim, ℕ, zero, suc, ◌+◌, nat_lt, Bool, true, false, true≢false, ◌&&◌, if◌then◌else◌, Option, Some, None, List, [], ◌∷◌, length}
+use Rattle.std.proofs.Common.{◌≡◌, refl, sym, subst, ap, ◌∙◌, ◌⊎◌, inl, inr, ⊎_elim, ℕ, zero, suc, ◌+◌, nat_lt, Bool, true, false, true≢false, ◌&&◌, if◌then◌else◌, Option, Some, None, IfSome, List, [], ◌∷◌, length}
 use Rattle.path_segments.specs.Heard.{HeardSegment}
 use Rattle.sides.specs.declared.side.Side.{Side}
 use Rattle.sides.specs.declared.side.Side.TheVariants.{A, B}
@@ -8,6 +8,7 @@ use Rattle.link_model.specs.Steps.{arriving, after_delivery}
 use Rattle.subflow_send.specs.Rules.{ack_kind, after_acknowledge, sample_of}
 use Rattle.subflow_send.specs.Records.{Record}
 use Rattle.subflow_send.specs.declared.record.AckKind.TheVariants.{New, Duplicate, Old, Future}
+use Rattle.stream_lanes.specs.Words.{Every}
 use Rattle.subflow_tcp.specs.declared.dues.Due.{Due}
 use Rattle.subflow_tcp.specs.declared.handshake.State.TheVariants.{Established}
 use Rattle.subflow_tcp.specs.declared.segments.Hint.{Hint}
@@ -57,6 +58,8 @@ use Rattle.path_core.specs.OptionsIn.{items_of, options_heard, hint_of, owes_by}
 use Rattle.path_core.specs.Profile.{Profile}
 use Rattle.path_core.specs.Standing.{ack_segment}
 use Rattle.path_core.specs.Start.{waiting_path}
+use Rattle.path_core.specs.Looking.{duty_sends, first_sends, segment_sent}
+use Rattle.path_core.specs.OptionsOut.{ack_said, syn_ack_said}
 use Rattle.path_core.specs.State.{PathState, at_tick, end_at, goes_on, with_agenda}
 use Rattle.path_core.specs.Steps.{settled, takes, begins_turn}
 use Rattle.path_core.specs.Timer.{after_firing, timer_fired}
@@ -71,18 +74,22 @@ use Rattle.world_laws.specs.Laws.{Always}
 use Rattle.world_laws.specs.Members.{HoldsOfKind}
 use Rattle.world_laws.specs.Openings.{PathPlan, Start, path_begins, opened_world}
 use Rattle.world_laws.specs.StampedBooks.{answer_to}
+use Rattle.world_laws.specs.Worlds.{Turn, world_run}
 use Rattle.world_laws.specs.Writes.{EndWrites, EndView, Writes, Only, OnlyAt, nothing, writes, side_of}
 use Rattle.world_laws.proofs.Falls.FailedChecks.{fail_answered_so, infinite_came_so}
 use Rattle.world_laws.proofs.Rounds.Lifting.{run_lifted, opened_lifted}
 use Rattle.world_laws.proofs.Writes.Paths.{writes_no_more, passes_no_more}
 use Rattle.world_laws.proofs.Writes.Steps.{unwritten, both_ends}
-use Rattle.whole_paths.specs.AgendaSteps.{is_of_both, is_gone, Follows}
+use Rattle.whole_paths.specs.AgendaSteps.{hears_join, is_of_both, is_gone, is_silent, Follows}
 use Rattle.whole_paths.specs.AgendaSteps.{Follows as follow}
-use Rattle.whole_paths.specs.Answered.{OwesNone, IsDone, HasAnswered, CopiesAreAnswered}
+use Rattle.whole_paths.specs.Answered.{OwesNone, IsDone, HasAnswered, IsBareAck, AcksGoFirst, CopiesAreAnswered}
+use Rattle.whole_paths.specs.Answered.{IsBareAck as bare_by}
 use Rattle.whole_paths.specs.Answered.{IsDone as idle_by}
 use Rattle.whole_paths.specs.EndSteps.{PathStep}
 use Rattle.whole_paths.proofs.Agendas.{own_end, gone_end, answered_follows}
 use Rattle.whole_paths.proofs.Duties.{passed_steps, answered_steps}
+use Rattle.whole_paths.proofs.Passing.{Resets, silent_resets}
+use Rattle.whole_paths.proofs.Saying.{ToSend}
 use Rattle.whole_paths.proofs.Settling.{sides}
 use Rattle.whole_paths.proofs.Waiting.{path_far, gone_stays}
 
@@ -314,10 +321,15 @@ Sends s e (duties.Send (send_duties.BreakReset t reason)) = t ≡ s
 Sends s e (duties.Send (send_duties.Reset t)) = t ≡ s
 Sends s e _ = ⊥
 
--- such a duty stands behind others of the same side
+-- such a duty stands behind others of the same side, by which no segment goes but a reset
 abbrev Ahead : Side → PathEnd → List Duty → Type 0
 Ahead s e [] = ⊥
-Ahead s e (d ∷ ds) = Sends s e d ⊎ ((side_of d ≡ s) × ((is_of_both d ≡ false) × Ahead s e ds))
+Ahead s e (d ∷ ds) = Sends s e d ⊎ ((side_of d ≡ s) × ((is_of_both d ≡ false) × ((is_silent d ≡ true) × Ahead s e ds)))
+
+-- a path that joins is asked for by no such duty
+no_join : (d : Duty) → hears_join d ≡ true → is_silent d ≡ true → ⊥
+no_join (duties.Ask (ask_duties.JoinHeard s)) joins silent = true≢false (sym silent)
+no_join d joins silent = true≢false (sym joins)
 
 -- the end is dead, owes nothing, or will answer
 data Ready (s : Side) (ds : List Duty) (e : PathEnd) : Type 0 where
@@ -345,75 +357,34 @@ fewer_sends s e f _ x is = absurd is
 
 fewer_ahead : (s : Side) (e f : PathEnd) → Fewer e f → (ds : List Duty) → Ahead s e ds → Ahead s f ds
 fewer_ahead s e f x [] a = absurd a
-fewer_ahead s e f x (d ∷ ds) a = ⊎_elim (λ is. inl (fewer_sends s e f d x is)) (λ rest. inr (rest.0, (rest.1.0, fewer_ahead s e f x ds rest.1.1))) a
+fewer_ahead s e f x (d ∷ ds) a = ⊎_elim (λ is. inl (fewer_sends s e f d x is)) (λ rest. inr (rest.0, (rest.1.0, (rest.1.1.0, fewer_ahead s e f x ds rest.1.1.1)))) a
 
 -- what follows a duty that others stand behind
-follows_ready : (s : Side) (f : PathEnd) (d : Duty) (ds next : List Duty) → Follows s (is_gone f) d ds next → side_of d ≡ s → is_of_both d ≡ false → Ahead s f ds → Ready s next f
-follows_ready s f d ds next follows own one a = by next follows
+follows_ready : (s : Side) (f : PathEnd) (d : Duty) (ds next : List Duty) → Follows s (is_gone f) d ds next → side_of d ≡ s → is_of_both d ≡ false → is_silent d ≡ true → Ahead s f ds → Ready s next f
+follows_ready s f d ds next follows own one quiet a = by next follows
   where
     by : (next : List Duty) → Follows s (is_gone f) d ds next → Ready s next f
     by next follow.goes_on = answers a
-    by next follow.again = answers (inr (own, (one, a)))
-    by next (follow.told treats e side alone silent) = answers (inr (side, (alone, a)))
+    by next follow.again = answers (inr (own, (one, (quiet, a))))
+    by next (follow.told treats e side alone (inl silent)) = answers (inr (side, (alone, (silent, a))))
+    by next (follow.told treats e side alone (inr joins)) = absurd (no_join d joins quiet)
     by next (follow.left dead) = is_dead_now dead
-    by next follow.noted = answers (inr (refl, (refl, a)))
+    by next follow.noted = answers (inr (refl, (refl, (refl, a))))
     by next (follow.broken may reason) = answers (inl refl)
     by next (follow.is_reset may reason) = answers (inl refl)
     by next (follow.dead may gone) = is_dead_now gone
-    by next (follow.stopped may) = answers (inr (refl, (refl, inr (refl, (refl, inl refl)))))
+    by next (follow.stopped may) = answers (inr (refl, (refl, (refl, inr (refl, (refl, (refl, inl refl)))))))
     by next (follow.over both) = absurd (true≢false (sym both ∙ one))
 
 -- ---- the templates of a copy
 
 heard_ahead : (s : Side) (f : PathEnd) (from count : ℕ) (ds : List Duty) → Ahead s f ds → Ahead s f (heard_and s from count ds)
 heard_ahead s f from zero ds a = a
-heard_ahead s f from (suc count) ds a = inr (refl, (refl, heard_ahead s f (from + 1) count ds a))
+heard_ahead s f from (suc count) ds a = inr (refl, (refl, (refl, heard_ahead s f (from + 1) count ds a)))
 
 payload_ahead : (s : Side) (f : PathEnd) → f.tcp.due.syn_ack ≡ false → Ahead s f (payload_came s)
 payload_ahead s f syn =
-    inr (
-      refl,
-      (
-        refl,
-        inr (
-          refl,
-          (
-            refl,
-            inr (
-              refl,
-              (
-                refl,
-                inr (
-                  refl,
-                  (
-                    refl,
-                    inr (
-                      refl,
-                      (
-                        refl,
-                        inr (
-                          refl,
-                          (
-                            refl,
-                            inr (
-                              refl,
-                              (
-                                refl,
-                                inr (refl, (refl, inr (refl, (refl, inr (refl, (refl, inr (refl, (refl, inr (refl, (refl, inr (refl, (refl, inr (refl, (refl, inl (refl, syn))))))))))))))),
-                              ),
-                            ),
-                          ),
-                        ),
-                      ),
-                    ),
-                  ),
-                ),
-              ),
-            ),
-          ),
-        ),
-      ),
-    )
+    inr (refl, (refl, (refl, inr (refl, (refl, (refl, inr (refl, (refl, (refl, inr (refl, (refl, (refl, inr (refl, (refl, (refl, inr (refl, (refl, (refl, inr (refl, (refl, (refl, inr (refl, (refl, (refl, inr (refl, (refl, (refl, inr (refl, (refl, (refl, inr (refl, (refl, (refl, inr (refl, (refl, (refl, inr (refl, (refl, (refl, inr (refl, (refl, (refl, inl (refl, syn)))))))))))))))))))))))))))))))))))))))))))
 
 module _ (c : Profile) (s : Side) (now : ℕ) (x : HeardSegment) (count : ℕ) (e : PathEnd) (h : OwesNone e) where
   abbrev heard_as : Meaning → PathEnd
@@ -430,8 +401,8 @@ module _ (c : Profile) (s : Side) (now : ℕ) (x : HeardSegment) (count : ℕ) (
       syn = accepted_due pos (hint_of (items_of (is_joined c) s x)) now (copy_of x) e.tcp ∙ h.syn_ack
 
       by : (b : Bool) → Ready s (if b then join_answered s else syn_ack_came s) (heard_as (means.Accepts pos))
-      by true = answers (inr (refl, (refl, inl (refl, syn))))
-      by false = answers (inr (refl, (refl, inr (refl, (refl, inr (refl, (refl, inl (refl, syn))))))))
+      by true = answers (inr (refl, (refl, (refl, inl (refl, syn)))))
+      by false = answers (inr (refl, (refl, (refl, inr (refl, (refl, (refl, inr (refl, (refl, (refl, inl (refl, syn)))))))))))
   meant means.RepeatedSyn = answers (inl (refl, h.ack))
   meant means.Outside = answers (inl (refl, answer_one (is_half_open e.tcp.state) e.tcp.due h.ack h.syn_ack))
   meant means.Challenged = answers (inl (refl, answer_one (is_half_open e.tcp.state) e.tcp.due h.ack h.syn_ack))
@@ -443,7 +414,7 @@ module _ (c : Profile) (s : Side) (now : ℕ) (x : HeardSegment) (count : ℕ) (
       let held : EndState = with_payload m x.payload e.tcp in
       let syn : (heard_as m).tcp.due.syn_ack ≡ false =
       owing_same (owes_by m items) (after_taken pos acknowledged (hint_of items) now (copy_of x) held) ∙ taken_due pos acknowledged (hint_of items) now (copy_of x) held ∙ held_due m x.payload e.tcp ∙ h.syn_ack in
-      answers (inr (refl, (refl, inr (refl, (refl, heard_ahead s (heard_as m) 0 count (payload_came s) (payload_ahead s (heard_as m) syn))))))
+      answers (inr (refl, (refl, (refl, inr (refl, (refl, (refl, heard_ahead s (heard_as m) 0 count (payload_came s) (payload_ahead s (heard_as m) syn))))))))
   meant means.Ignored = quiet _ means.Ignored refl
   meant means.Unwanted = quiet _ means.Unwanted refl
   meant means.Opens = quiet _ means.Opens refl
@@ -501,7 +472,7 @@ module _ {C : Type 0} where
   pass_ready s d ds p passes (is_quiet h) = quiet_lets s ds (end_at s p) (end_at s (passed d p)) (let_at s p (passed d p) (passed_lets d p)) h
   pass_ready s d ds p passes (answers a) = ⊎_elim
       (λ is. quiet_lets s ds (end_at s p) (end_at s (passed d p)) (let_at s p (passed d p) (passed_lets d p)) (pass_sends s d p passes is))
-      (λ rest. by (let_at s p (passed d p) (passed_lets d p)) rest.1.1)
+      (λ rest. by (let_at s p (passed d p) (passed_lets d p)) rest.1.1.1)
       a
     where
       by : Lets (end_at s p) (end_at s (passed d p)) → Ahead s (end_at s p) ds → Ready s ds (end_at s (passed d p))
@@ -524,12 +495,12 @@ module _ {C : Type 0} where
       → (is_gone (end_at s x) ≡ true → is_gone (end_at s q) ≡ true) → (t : Side) → side_of d ≡ t → Follows t (is_gone (end_at t q)) d ds q.agenda → Ready s (d ∷ ds) (end_at s x) → Stands s q
   answer_on s d ds x q sends lets stays t own follows (is_dead_now gone) = is_dead_now (stays gone)
   answer_on s d ds x q sends lets stays t own follows (is_quiet h) = quiet_lets s q.agenda (end_at s x) (end_at s q) lets h
-  answer_on s d ds x q sends lets stays t own follows (answers a) = ⊎_elim sends (λ rest. by lets rest.0 rest.1.0 rest.1.1) a
+  answer_on s d ds x q sends lets stays t own follows (answers a) = ⊎_elim sends (λ rest. by lets rest.0 rest.1.0 rest.1.1.0 rest.1.1.1) a
     where
-      by : Lets (end_at s x) (end_at s q) → side_of d ≡ s → is_of_both d ≡ false → Ahead s (end_at s x) ds → Stands s q
-      by (dies gone) side one b = is_dead_now gone
-      by (fewer y) side one b =
-          follows_ready s (end_at s q) d ds q.agenda (subst (λ u. Follows u (is_gone (end_at u q)) d ds q.agenda) (sym own ∙ side) follows) side one (fewer_ahead s (end_at s x) (end_at s q) y ds b)
+      by : Lets (end_at s x) (end_at s q) → side_of d ≡ s → is_of_both d ≡ false → is_silent d ≡ true → Ahead s (end_at s x) ds → Stands s q
+      by (dies gone) side one quiet b = is_dead_now gone
+      by (fewer y) side one quiet b =
+          follows_ready s (end_at s q) d ds q.agenda (subst (λ u. Follows u (is_gone (end_at u q)) d ds q.agenda) (sym own ∙ side) follows) side one quiet (fewer_ahead s (end_at s x) (end_at s q) y ds b)
 
   -- the sending of an acknowledgement, and of an answer
   paid : (s t : Side) (f : PathEnd) (x q : PathState C) → t ≡ s → end_at t q ≡ f → f.tcp.due.ack ≡ false → f.tcp.due.syn_ack ≡ false → Stands s q
@@ -651,6 +622,39 @@ module _ {C : Type 0} where
   done_so s p (answers a) (idle_by.over none) living = absurd (subst (Ahead s (end_at s p)) none a)
   done_so s p (answers a) (idle_by.next others first) living = ⊎_elim (λ is. absurd is) (λ rest. absurd (true≢false rest.1.0)) (subst (Ahead s (end_at s p)) first a)
 
+  -- while an acknowledgement is owed none but this one goes, or a reset
+  abbrev Bare : Side → PathState C → ToSend → Type 0
+  Bare s p t = IsBareAck (end_at s p) (segment_sent p t)
+
+  answer_bare : (s : Side) (p : PathState C) → (b : Bool) → (end_at s p).tcp.due.syn_ack ≡ b → (end_at s p).tcp.due.ack ≡ true → ((end_at s p).tcp.due.ack && b) ≡ false
+      → IsBareAck (end_at s p) (if b then syn_ack_said p.profile s (end_at s p) else ack_said p.profile s (end_at s p).tcp.send.nxt None (end_at s p))
+  answer_bare s p true is due both = absurd (true≢false (sym (ap (λ b. b && true) due) ∙ both))
+  answer_bare s p false is due both = bare_by.acks refl refl refl refl
+
+  sends_bare : (s : Side) (d : Duty) (p : PathState C) → Sends s (end_at s p) d → (end_at s p).tcp.due.ack ≡ true → IfSome (duty_sends d p) (Bare s p)
+  sends_bare s (duties.Send (send_duties.Acknowledge t)) p is due = subst (λ u. IsBareAck (end_at s p) (ack_said p.profile u (end_at u p).tcp.send.nxt None (end_at u p))) (sym is.0) (bare_by.acks refl refl refl refl)
+  sends_bare s (duties.Send (send_duties.Answer t)) p is due =
+      subst (λ u. IsBareAck (end_at s p) (if (end_at u p).tcp.due.syn_ack then syn_ack_said p.profile u (end_at u p) else ack_said p.profile u (end_at u p).tcp.send.nxt None (end_at u p))) (sym is.0)
+      (answer_bare s p (end_at s p).tcp.due.syn_ack refl due is.1)
+  sends_bare s (duties.Send (send_duties.SynAck t)) p is due = absurd (true≢false (sym due ∙ is.1))
+  sends_bare s (duties.Ask (ask_duties.BreakAck t reason)) p is due = tt
+  sends_bare s (duties.Send (send_duties.BreakReset t reason)) p is due = bare_by.resets refl
+  sends_bare s (duties.Send (send_duties.Reset t)) p is due = bare_by.resets refl
+  sends_bare s _ p is due = absurd is
+
+  ahead_bare : (s : Side) (ds : List Duty) (p : PathState C) → Ahead s (end_at s p) ds → (end_at s p).tcp.due.ack ≡ true → IfSome (first_sends ds p) (Bare s p)
+  ahead_bare s [] p a due = tt
+  ahead_bare s (d ∷ ds) p a due = ⊎_elim
+      (λ is. sends_bare s d p is due)
+      (λ rest. (elim (duty_sends d p) as (λ o. IfSome o (Resets p) → IfSome o (Bare s p)) [ Some t ↦ λ reset. bare_by.resets reset | None ↦ λ none. tt ]) (silent_resets d p rest.1.1.0))
+      a
+
+  first_bare : (s : Side) (p : PathState C) → Stands s p → is_gone (end_at s p) ≡ false → (end_at s p).tcp.due.ack ≡ true → IfSome (first_sends p.agenda p) (λ t. t.from ≡ s → Bare s p t)
+  first_bare s p (is_dead_now gone) living due = absurd (true≢false (sym gone ∙ living))
+  first_bare s p (is_quiet h) living due = absurd (true≢false (sym due ∙ h.ack))
+  first_bare s p (answers a) living due = (elim (first_sends p.agenda p) as (λ o. IfSome o (Bare s p) → IfSome o (λ t. t.from ≡ s → Bare s p t))
+      [ Some t ↦ λ bare own. bare | None ↦ λ none. tt ]) (ahead_bare s p.agenda p a due)
+
   idle : (s : Side) (p : PathState C) → Stands s p → p.agenda ≡ [] → (ds : List Duty) → Ready s ds (end_at s p)
   idle s p (is_dead_now gone) over ds = is_dead_now gone
   idle s p (is_quiet h) over ds = is_quiet h
@@ -674,9 +678,17 @@ module _ {C : Type 0} where
   member_so (App a) h = tt
   member_so (Path p) h = λ is s living. done_so s p (h s) is living
 
+  member_first : (m : Actor C) → StandingMember m → HoldsOfKind (λ app. Unit {0}) AcksGoFirst m
+  member_first (App a) h = tt
+  member_first (Path p) h = λ s living due. first_bare s p (h s) living due
+
+  each_stands : (k : Codec C) (start : Start) (turns : List Turn) → Every (λ c. StandingMember c.member) (world_run k turns (opened_world start)).crew
+  each_stands k start turns = run_lifted k (λ c. StandingMember c.member) (λ books c x asks h. member_stands k (answer_to books x) c.member h)
+      (λ stamp c over h. member_begins c.member over h) turns (opened_world start)
+      (opened_lifted (λ c. StandingMember c.member) start tt tt (λ number plan there. λ s. begins_ready (waiting_path (path_begins start number plan) start.lines) s (is_quiet (first_quiet C number start plan s))))
+
   pub copies_are_answered : (k : Codec C) → Always k (λ start w. CopiesAreAnswered w)
   copies_are_answered k start turns = record {
-    each = λ actor c there. member_so c.member ((run_lifted k (λ c. StandingMember c.member) (λ books c x asks h. member_stands k (answer_to books x) c.member h)
-        (λ stamp c over h. member_begins c.member over h) turns (opened_world start)
-        (opened_lifted (λ c. StandingMember c.member) start tt tt (λ number plan there. λ s. begins_ready (waiting_path (path_begins start number plan) start.lines) s (is_quiet (first_quiet C number start plan s))))).each actor c there);
+    each = λ actor c there. member_so c.member ((each_stands k start turns).each actor c there);
+    first = λ actor c there. member_first c.member ((each_stands k start turns).each actor c there);
   }

@@ -74,6 +74,17 @@ module _ {C : Type 0} where
     gone : is_dead (end_at s q).tcp.state ≡ true → GoesOnTo k s r by p q
     dies : (line : LineLeft) → next_event p ≡ Some (happenings.Takes line) → line.action ≡ actions.Die → GoesOnTo k s r by p q
 
+  -- of a copy under way, that this holds of its sender, as the link took the copy, and of whether that took its options away, or altered it
+  abbrev pub IsSentSo : {k : Codec C} {s : Side} {r : Record} {by : ℕ} {p : PathState C} → (PathEnd → Bool → Bool → Type 0) → IsOnItsWay k s r by p → Type 0
+  IsSentSo Was (flies f low there copy) = Was copy.sender copy.stripped copy.altered
+  IsSentSo Was _ = Unit {0}
+
+  -- and of the copy that arrives
+  abbrev pub ComesSo : {k : Codec C} {s : Side} {r : Record} {by : ℕ} {p q : PathState C} → (PathEnd → Bool → Bool → Type 0) → GoesOnTo k s r by p q → Type 0
+  ComesSo Was (on way) = IsSentSo Was way
+  ComesSo Was (arrives f low there copy others first next) = Was copy.sender copy.stripped copy.altered
+  ComesSo Was _ = Unit {0}
+
   -- as the path becomes this actor, with fewer than 2^64 - 1 segments sent from the side
   abbrev pub RecordsGoOn : Codec C → Actor C → Actor C → Type 0
   RecordsGoOn k (Path p) (Path q) = (s : Side) (r : Record) (by : ℕ) → segments_sent s p.link < 2 ^ 64 - 1 → IsOnItsWay k s r by p → GoesOnTo k s r by p q

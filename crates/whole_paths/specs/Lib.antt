@@ -7,6 +7,7 @@ pub mod Came
 pub mod Copies
 pub mod Due
 pub mod EndSteps
+pub mod Exchanges
 pub mod Expiries
 pub mod Finish
 pub mod Flights

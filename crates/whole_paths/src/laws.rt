@@ -11,6 +11,7 @@ ghost use Rattle.whole_paths.specs.Brought.{WhatComesIsKept};
 ghost use Rattle.whole_paths.specs.Came.{WhatIsAcknowledgedCame};
 ghost use Rattle.whole_paths.specs.Copies.{CopiesLeaveByArriving};
 ghost use Rattle.whole_paths.specs.Due.{CopiesArriveAsSent};
+ghost use Rattle.whole_paths.specs.Exchanges.{EachRecordIsAcknowledged};
 ghost use Rattle.whole_paths.specs.Expiries.{WhatRunsOutGoesAgain};
 ghost use Rattle.whole_paths.specs.Flights.{WhatWaitsComes};
 ghost use Rattle.whole_paths.specs.Harms.{EachUsesALineOrComes, PlainDirectionsHandOnAtOnce};
@@ -229,6 +230,18 @@ pub fn what_is_in_hand_is_acknowledged()
 pub fn what_waits_comes()
     ensures octets { WhatWaitsComes octets }
     ensures values { WhatWaitsComes values }
+{}
+
+/// A law: a record that is on its way to the peer is acknowledged, unless the script harms a segment of the exchange, or there is news (RFC
+/// 9293, section 3.10.7.4).
+///
+/// By each turn it goes on in its order, and the tick stays by which the answer is to come: the first record that isn't acknowledged comes to
+/// the peer, which takes its octets in order, with their mapping, or had them before; all of it is in hand there, and is passed; an answer
+/// goes back that acknowledges as much; and SND.UNA is at the record's end then, or past it. So it is with data on the path that opens
+/// the connection, without checksums, where no line takes options away or alters payload. Or there is news, a segment is lost or late, or an
+/// end dies (`IsHeldUp`); or an end doesn't go by the mappings of pieces, or goes on to a reset (`IsAstray`).
+pub fn each_record_is_acknowledged()
+    ensures { EachRecordIsAcknowledged }
 {}
 
 /// A law: by whatever turns, an end keeps what isn't acknowledged yet, so that it can be sent again.

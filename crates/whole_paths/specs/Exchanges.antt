@@ -1,0 +1,128 @@
+-- The exchange of a record: a copy of it comes to the peer, which passes its octets, and an answer that says so comes back (RFC 9293,
+-- section 3.10.7.4).
+use Rattle.std.specs.Prelude.{ℕ, ◌+◌, ◌-◌, ◌^◌, ◌≡◌, ◌<◌, ◌≤◌, ◌⊎◌, Bool, true, false, None, Some, IsSome, List, length, slice_get}
+use Rattle.sides.specs.declared.side.Side.{Side}
+use Rattle.sides.specs.Side.{peer}
+use Rattle.path_segments.specs.Spelled.{PlainSegment}
+use Rattle.link_model.specs.declared.flight.Flight.{Flight}
+use Rattle.link_model.specs.Fate.{is_stripped, is_altered}
+use Rattle.link_model.specs.Steps.{segments_sent}
+use Rattle.subflow_send.specs.Records.{Record, end_of}
+use Rattle.subflow_send.specs.declared.record.RecordKind.TheVariants.{Data}
+use Rattle.subflow_tcp.specs.Emitting.{acknowledged_in}
+use Rattle.subflow_tcp.specs.State.{is_fin_passed}
+use Rattle.subflow_tcp.specs.States.{is_dead}
+use Rattle.subflow_tcp.specs.declared.segments.Outgoing.{Outgoing}
+use Rattle.path_store.specs.declared.lines.LineAction.TheVariants as actions
+use Rattle.path_store.specs.declared.lines.LineLeft.{LineLeft}
+use Rattle.path_core.specs.DssOut.{is_first_piece}
+use Rattle.path_core.specs.End.{PathEnd}
+use Rattle.path_core.specs.Events.{next_event}
+use Rattle.path_core.specs.Handover.{handed}
+use Rattle.path_core.specs.MpJoin.{is_joined}
+use Rattle.path_core.specs.Octets.{made}
+use Rattle.path_core.specs.Profile.{Profile}
+use Rattle.path_core.specs.State.{PathState, end_at}
+use Rattle.path_core.specs.Values.{Carried, values}
+use Rattle.path_core.specs.declared.events.Event.TheVariants as happenings
+use Rattle.world_laws.specs.declared.member.Member.TheVariants.{App, Path}
+use Rattle.world_laws.specs.Actors.{Actor, ActorCrew}
+use Rattle.world_laws.specs.Openings.{Start, opened_world}
+use Rattle.world_laws.specs.Promises.{HasRoom, NumbersFit}
+use Rattle.world_laws.specs.Worlds.{Turn, after_turn, world_run}
+use Rattle.whole_paths.specs.Arrivals.{HasItsMapping}
+use Rattle.whole_paths.specs.AsFar.{stage}
+use Rattle.whole_paths.specs.Brought.{IsToReset, IsUnsure}
+use Rattle.whole_paths.specs.Copies.{IsUnderWay}
+use Rattle.whole_paths.specs.Flights.{IsFirst, IsOnItsWay, IsSentSo}
+use Rattle.whole_paths.specs.Harms.{harms_left, loses, longest_way}
+use Rattle.whole_paths.specs.InHand.{IsInHand}
+use Rattle.whole_paths.specs.Owed.{IsAnswer, IsAnswered}
+use Rattle.whole_paths.specs.Waits.{IsNews}
+
+-- ---- where
+
+-- The path opens the connection, without checksums, and no line of the script takes options away on it, or alters payload.
+pub record IsFaithful (p : PathState Carried) : Type 0 where
+  pub joined : is_joined p.profile ≡ false
+  pub no_sums : p.profile.spelling.checksums ≡ false
+  pub unstripped : (s : Side) (number at : ℕ) → is_stripped s number at p.link.lines ≡ false
+  pub unaltered : (s : Side) (number : ℕ) → is_altered s number p.link.lines ≡ false
+
+-- ---- an exchange
+
+-- an end with both SYNs sends the record with its own mapping, and the link leaves the copy as it is
+pub record IsSentWhole (c : Profile) (s : Side) (r : Record) (e : PathEnd) (stripped altered : Bool) : Type 0 where
+  pub mapped : HasItsMapping c s r e
+  pub acknowledges : acknowledged_in e.tcp ≡ Some e.tcp.recv.edge
+  pub edge : 0 < e.tcp.recv.edge
+  pub unstripped : stripped ≡ false
+  pub unaltered : altered ≡ false
+
+-- how far the exchange of a record is that this side's end sends, if by this tick an answer is to come
+pub data IsExchanged (s : Side) (r : Record) (by : ℕ) (p : PathState Carried) : Type 0 where
+  -- the record is the first that isn't acknowledged, and a copy of it comes so early that the answer comes in time
+  comes : (arrival : ℕ) → arrival + longest_way (peer s) p.link ≤ by → IsFirst r (end_at s p) → (way : IsOnItsWay values s r arrival p) → IsSentSo (IsSentWhole p.profile s r) way
+      → IsExchanged s r by p
+  -- the peer has all of it in hand, or answers that its RCV.NXT is at the end of the record, or past it
+  in_hand : IsInHand (peer s) (end_of r) by p → IsExchanged s r by p
+  answered : IsAnswered values (peer s) (end_of r) by p → IsExchanged s r by p
+  -- SND.UNA is at its end, or past it
+  acknowledged : end_of r ≤ (end_at s p).tcp.send.una → IsExchanged s r by p
+
+-- ---- what may come between
+
+-- this holds of the side's end, of a path or of what it becomes
+abbrev pub AtEither : (PathEnd → Type 0) → Side → PathState Carried → PathState Carried → Type 0
+AtEither Holds t p q = Holds (end_at t p) ⊎ Holds (end_at t q)
+
+-- there is news, or the script harms a segment of the exchange, or an end of the path dies
+pub data IsHeldUp (s : Side) (p q : PathState Carried) : Type 0 where
+  news : IsNews (end_at s p) (end_at s q) → IsHeldUp s p q
+  -- a line was used by which a segment is lost or late, or the link lost one by the word drawn for it, or since its queue was full
+  harmed : harms_left q.link < harms_left p.link → IsHeldUp s p q
+  lost : (t : Side) (x : PlainSegment) → q.link ≡ handed values t x p → loses t (length (made p.profile.spelling t x)) p.clock p.link ≡ true → IsHeldUp s p q
+  -- an end is dead, or the line comes next by which the path dies
+  gone : (t : Side) → AtEither (λ e. is_dead e.tcp.state ≡ true) t p q → IsHeldUp s p q
+  dies : (line : LineLeft) → next_event p ≡ Some (happenings.Takes line) → line.action ≡ actions.Die → IsHeldUp s p q
+  -- the answer came outside the window of the end, or as a SYN/ACK
+  overtaken : (f : Flight Carried) → IsUnderWay f p → IsAnswer values (peer s) 0 p f → IsHeldUp s p q
+
+-- an end doesn't go by the mappings of pieces, or goes on to a reset
+pub data IsAstray (s : Side) (r : Record) (p q : PathState Carried) : Type 0 where
+  -- an end is reset next, or the link took a reset, or the segment by which the end refuses a copy or answers it dead
+  reset : (t : Side) → IsToReset t q.agenda → IsAstray s r p q
+  resets : (t : Side) (x : PlainSegment) → (x.rst ≡ true) ⊎ ((answer : Outgoing) × (((end_at t p).treated.answer ≡ Some answer) × (x.rst ≡ answer.rst))) → q.link ≡ handed values t x p
+      → IsAstray s r p q
+  -- an end is past its peer's FIN
+  behind_fin : (t : Side) → AtEither (λ e. is_fin_passed e.tcp ≡ true) t p q → IsAstray s r p q
+  -- an end hasn't both SYNs, or B not both keys, or an end not its peer's key
+  unopened : (t : Side) → stage (end_at t p).tcp.state ≤ 2 → IsAstray s r p q
+  unsure : (t : Side) → IsUnsure t (end_at t q) → IsAstray s r p q
+  unkeyed : (t : Side) → (end_at t q).modes.peer_key ≡ None → IsAstray s r p q
+  -- an end fell back to plain TCP, or sends by an infinite mapping
+  plain : (t : Side) → AtEither (λ e. e.modes.identity ≡ true) t p q → IsAstray s r p q
+  infinite : (t : Side) → IsSome (end_at t p).modes.own_infinite ⊎ IsSome (end_at t p).modes.peer_infinite → IsAstray s r p q
+  -- the record is A's first piece, which carries both keys
+  first_piece : is_first_piece s r (end_at s p) ≡ true → IsAstray s r p q
+
+-- ---- what becomes of it
+
+-- as the path becomes another one
+pub data ExchangeGoesOn (s : Side) (r : Record) (by : ℕ) (p q : PathState Carried) : Type 0 where
+  on : IsExchanged s r by q → ExchangeGoesOn s r by p q
+  held_up : IsHeldUp s p q → ExchangeGoesOn s r by p q
+  astray : IsAstray s r p q → ExchangeGoesOn s r by p q
+
+-- of each record of data, as the path becomes this actor, with fewer than 2^64 - 1 segments sent from each side
+abbrev pub ExchangesGoOn : Actor Carried → Actor Carried → Type 0
+ExchangesGoOn (Path p) (Path q) =
+    IsFaithful p → (s : Side) (r : Record) (by : ℕ) → r.kind ≡ Data → ((t : Side) → segments_sent t p.link < 2 ^ 64 - 1) → IsExchanged s r by p → ExchangeGoesOn s r by p q
+ExchangesGoOn (App a) (App b) = Unit {0}
+ExchangesGoOn _ _ = ⊥
+
+-- at any moment, and by any turn
+abbrev pub EachRecordIsAcknowledged : Type 0
+EachRecordIsAcknowledged = (start : Start) (turns : List Turn) → HasRoom start → NumbersFit start → let w = world_run values turns (opened_world start) in
+    (turn : Turn) (actor : ℕ) (c : ActorCrew Carried) → slice_get w.crew actor ≡ Some c
+    → (d : ActorCrew Carried) × (slice_get (after_turn values turn w).crew actor ≡ Some d) × ExchangesGoOn c.member d.member
