@@ -159,15 +159,15 @@ learn_more : (s : Side) (items : List Heard) (d : Duty) (ds : List Duty) → sid
 learn_more s items (duties.Step (step_duties.Heard t index)) ds own before heard learn = absurd (true≢false heard)
 learn_more s items d ds own before heard learn = (own, (before, learn))
 
-item_here : (before : List Heard) (x : Heard) (after : List Heard) → item_at (length before) (before ++ x ∷ after) ≡ Some x
+pub item_here : (before : List Heard) (x : Heard) (after : List Heard) → item_at (length before) (before ++ x ∷ after) ≡ Some x
 item_here [] x after = refl
 item_here (y ∷ before) x after = item_here before x after
 
-appended : (before : List Heard) (x : Heard) (after : List Heard) → before ++ x ∷ after ≡ (before ++ x ∷ []) ++ after
+pub appended : (before : List Heard) (x : Heard) (after : List Heard) → before ++ x ∷ after ≡ (before ++ x ∷ []) ++ after
 appended [] x after = refl
 appended (y ∷ before) x after = ap (λ rest. y ∷ rest) (appended before x after)
 
-one_longer : (before : List Heard) (x : Heard) → length (before ++ x ∷ []) ≡ length before + 1
+pub one_longer : (before : List Heard) (x : Heard) → length (before ++ x ∷ []) ≡ length before + 1
 one_longer [] x = refl
 one_longer (y ∷ before) x = (let rest = one_longer before x in omega (arith, rest))
 

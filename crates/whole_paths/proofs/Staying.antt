@@ -206,31 +206,32 @@ pub record Rests (s : Side) (e f : PathEnd) : Type 0 where
   pub key : f.modes.peer_key ≡ e.modes.peer_key
   pub option : f.treated.has_option ≡ e.treated.has_option
   pub clear : s ≡ B → f.modes.clear ≡ e.modes.clear
+  pub infinite : f.modes.own_infinite ≡ e.modes.own_infinite
 
 here_rests : (s : Side) (e f a b : PathEnd) → Rests s e f → Rests s e (pick s (pick s f a) (pick s b f))
 here_rests s e f a b x = subst (λ g. Rests s e g) (sym (own_end s f a b)) x
 
 calm : (s : Side) (e f : PathEnd) → f.tcp.fin_at ≡ e.tcp.fin_at → f.modes.mode ≡ e.modes.mode → f.modes.identity ≡ e.modes.identity → f.modes.peer_key ≡ e.modes.peer_key
-    → f.treated.has_option ≡ e.treated.has_option → f.modes.clear ≡ e.modes.clear → Rests s e f
-calm s e f fin_at mode plain key option clear = record { fin_at = fin_at; mode = mode; plain = plain; key = key; option = option; clear = λ of_b. clear }
+    → f.treated.has_option ≡ e.treated.has_option → f.modes.clear ≡ e.modes.clear → f.modes.own_infinite ≡ e.modes.own_infinite → Rests s e f
+calm s e f fin_at mode plain key option clear infinite = record { fin_at = fin_at; mode = mode; plain = plain; key = key; option = option; clear = λ of_b. clear; infinite = infinite }
 
 dss_clear : (s : Side) (b : Bool) → s ≡ B → (b || is_side_a s) ≡ b
 dss_clear s b is = ap (λ t. b || is_side_a t) is ∙ or-false b
 
 item_rests : (s : Side) (o : Option Heard) (e : PathEnd) → Rests s e (item_passed s o e)
-item_rests s None e = calm s e e refl refl refl refl refl refl
-item_rests s (Some says.Dss) e = record { fin_at = refl; mode = refl; plain = refl; key = refl; option = refl; clear = dss_clear s e.modes.clear }
+item_rests s None e = calm s e e refl refl refl refl refl refl refl
+item_rests s (Some says.Dss) e = record { fin_at = refl; mode = refl; plain = refl; key = refl; option = refl; clear = dss_clear s e.modes.clear; infinite = refl }
 item_rests s (Some (says.Mapping fin)) e = elim (counts e) as (λ b. Rests s e (if b then with_learned e else with_skipped e))
-    [ true ↦ calm s e (with_learned e) refl refl refl refl refl refl | false ↦ calm s e (with_skipped e) refl refl refl refl refl refl ]
+    [ true ↦ calm s e (with_learned e) refl refl refl refl refl refl refl | false ↦ calm s e (with_skipped e) refl refl refl refl refl refl refl ]
 item_rests s (Some (says.DataFin place)) e = elim (counts e) as (λ b. Rests s e (if b then with_data_fin place e else e))
-    [ true ↦ calm s e (with_data_fin place e) refl refl refl refl refl refl | false ↦ calm s e e refl refl refl refl refl refl ]
-item_rests s (Some _) e = calm s e _ refl refl refl refl refl refl
+    [ true ↦ calm s e (with_data_fin place e) refl refl refl refl refl refl refl | false ↦ calm s e e refl refl refl refl refl refl refl ]
+item_rests s (Some _) e = calm s e _ refl refl refl refl refl refl refl
 
 keep_rests : (s : Side) (e : PathEnd) → Rests s e (after_keep s e)
-keep_rests s e = calm s e (after_keep s e) (elim (is_dropped s e) as (λ b. (if b then after_dropping_held e.tcp else after_keeping_held e.tcp).fin_at ≡ e.tcp.fin_at) [ true ↦ refl | false ↦ refl ]) refl refl refl refl refl
+keep_rests s e = calm s e (after_keep s e) (elim (is_dropped s e) as (λ b. (if b then after_dropping_held e.tcp else after_keeping_held e.tcp).fin_at ≡ e.tcp.fin_at) [ true ↦ refl | false ↦ refl ]) refl refl refl refl refl refl
 
 pass_fin_rests : (s : Side) (e : PathEnd) → Rests s e (after_pass_fin e)
-pass_fin_rests s e = calm s e (after_pass_fin e) (elim (is_fin_next e.tcp) as (λ b. (if b then after_passing_fin e.tcp else e.tcp).fin_at ≡ e.tcp.fin_at) [ true ↦ refl | false ↦ refl ]) refl refl refl refl refl
+pass_fin_rests s e = calm s e (after_pass_fin e) (elim (is_fin_next e.tcp) as (λ b. (if b then after_passing_fin e.tcp else e.tcp).fin_at ≡ e.tcp.fin_at) [ true ↦ refl | false ↦ refl ]) refl refl refl refl refl refl
 
 other_rests : (s : Side) (e f : PathEnd) → Only nothing e f → Rests s e f
 other_rests s e f x = calm s e f
@@ -240,6 +241,7 @@ other_rests s e f x = calm s e f
     (unwritten false e.modes.peer_key f.modes.peer_key refl (ap (λ (v : EndView). v.peer_key) x.same))
     (ap (λ t. t.has_option) (unwritten false (copy_said e.treated) (copy_said f.treated) refl (ap (λ (v : EndView). v.copy) x.same)))
     (unwritten false e.modes.clear f.modes.clear refl (ap (λ (v : EndView). v.clear) x.same))
+    (unwritten false e.modes.own_infinite f.modes.own_infinite refl (ap (λ (v : EndView). v.own_infinite) x.same))
 
 fin_stays : (s : Side) (e f : PathEnd) → Rests s e f → e.tcp.recv.edge ≤ f.tcp.recv.edge → is_fin_passed e.tcp ≡ true → is_fin_passed f.tcp ≡ true
 fin_stays s e f x up is = subst (λ o. is_behind o f.tcp.recv.edge ≡ true) (sym x.fin_at) (by e.tcp.fin_at is)
@@ -256,21 +258,21 @@ module _ {C : Type 0} where
   passed_own_rests (duties.Ask (ask_duties.CheckFailed s)) p =
       let e = end_at s p in
       here_rests s e (after_check p.profile e) p.a p.b
-      (forgets_so (λ f. Rests s e f) p.profile.spelling.checksums (mapping_here e) e (λ recv forgotten. calm s e (record e { tcp = record e.tcp { recv = recv } }) refl refl refl refl refl refl))
+      (forgets_so (λ f. Rests s e f) p.profile.spelling.checksums (mapping_here e) e (λ recv forgotten. calm s e (record e { tcp = record e.tcp { recv = recv } }) refl refl refl refl refl refl refl))
   passed_own_rests (duties.Step (step_duties.Heard s index)) p =
       let e = end_at s p in here_rests s e (item_passed s (item_of index e) e) p.a p.b (item_rests s (item_of index e) e)
-  passed_own_rests (duties.Step (step_duties.PlainAck s)) p = let e = end_at s p in here_rests s e (with_plain_ack e) p.a p.b (calm s e (with_plain_ack e) refl refl refl refl refl refl)
-  passed_own_rests (duties.Step (step_duties.Unmapped s)) p = let e = end_at s p in here_rests s e (after_pieces e) p.a p.b (calm s e (after_pieces e) refl refl refl refl refl refl)
-  passed_own_rests (duties.Silent (silent_duties.Timer s)) p = let e = end_at s p in here_rests s e (with_timer_settled p.clock e) p.a p.b (calm s e (with_timer_settled p.clock e) refl refl refl refl refl refl)
+  passed_own_rests (duties.Step (step_duties.PlainAck s)) p = let e = end_at s p in here_rests s e (with_plain_ack e) p.a p.b (calm s e (with_plain_ack e) refl refl refl refl refl refl refl)
+  passed_own_rests (duties.Step (step_duties.Unmapped s)) p = let e = end_at s p in here_rests s e (after_pieces e) p.a p.b (calm s e (after_pieces e) refl refl refl refl refl refl refl)
+  passed_own_rests (duties.Silent (silent_duties.Timer s)) p = let e = end_at s p in here_rests s e (with_timer_settled p.clock e) p.a p.b (calm s e (with_timer_settled p.clock e) refl refl refl refl refl refl refl)
   passed_own_rests (duties.Silent (silent_duties.Keep s)) p = let e = end_at s p in here_rests s e (after_keep s e) p.a p.b (keep_rests s e)
   passed_own_rests (duties.Silent (silent_duties.PassFin s)) p = let e = end_at s p in here_rests s e (after_pass_fin e) p.a p.b (pass_fin_rests s e)
-  passed_own_rests d p = calm (side_of d) (end_at (side_of d) p) (end_at (side_of d) p) refl refl refl refl refl refl
+  passed_own_rests d p = calm (side_of d) (end_at (side_of d) p) (end_at (side_of d) p) refl refl refl refl refl refl refl
 
   other_only : (s : Side) (w : Writes) (p q : PathState C) → w.other ≡ nothing → OnlyAt s w p q → Only nothing (end_at (peer s) p) (end_at (peer s) q)
   other_only s w p q none x = subst (λ v. Only v (end_at (peer s) p) (end_at (peer s) q)) none (record { same = ap (λ (v : PathView C). v.other) x.same })
 
   passed_other_rests : (d : Duty) (p : PathState C) → Rests (peer (side_of d)) (end_at (peer (side_of d)) p) (end_at (peer (side_of d)) (passed d p))
-  passed_other_rests (duties.Step step_duties.Events) p = calm B p.b p.b refl refl refl refl refl refl
+  passed_other_rests (duties.Step step_duties.Events) p = calm B p.b p.b refl refl refl refl refl refl refl
   passed_other_rests d p = other_rests (peer (side_of d)) (end_at (peer (side_of d)) p) (end_at (peer (side_of d)) (passed d p)) (other_only (side_of d) (writes d) p (passed d p) refl (passes_no_more d p))
 
   pub passed_rests : (s : Side) (d : Duty) (p : PathState C) → Rests s (end_at s p) (end_at s (passed d p))

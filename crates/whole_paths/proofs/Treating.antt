@@ -1,5 +1,6 @@
 -- What the duties that treat what a copy says make of its end, before its payload is kept.
-use Rattle.std.proofs.Common.{◌≡◌, refl, sym, subst, ℕ, Bool, true, false, true≢false, if◌then◌else◌, Option, Some, None, List, ◌∷◌}
+use Rattle.std.proofs.Common.{◌≡◌, refl, sym, subst, ℕ, ◌+◌, ◌≤◌, arith, le_refl, nat_lt, Bool, true, false, true≢false, if◌then◌else◌, Option, Some, None, List, [], ◌∷◌, ◌++◌, length}
+use Rattle.std.proofs.lemmas.List.{length-append}
 use Rattle.sides.specs.declared.side.Side.{Side}
 use Rattle.sides.specs.Side.{peer}
 use Rattle.control_book.specs.declared.call.ControlReply.TheVariants as control_replies
@@ -20,6 +21,7 @@ use Rattle.path_agenda.specs.declared.heard.Heard.TheVariants as says
 use Rattle.path_agenda.specs.declared.keys.KeyPair.{KeyPair}
 use Rattle.path_core.specs.Breaking.{answered_break, reset_on}
 use Rattle.path_core.specs.Codec.{Codec}
+use Rattle.path_core.specs.Deliver.{fins_and}
 use Rattle.path_core.specs.DssIn.{is_clash, with_learned, with_data_fin, told_next}
 use Rattle.path_core.specs.Duties.{answered}
 use Rattle.path_core.specs.End.{PathEnd, died}
@@ -38,13 +40,22 @@ use Rattle.whole_paths.proofs.Agendas.{own_end, gone_end}
 
 -- ---- an end
 
--- the payload that is held stays, and what the copy says
+-- the payload that is held stays, what the copy says, and the ends of the stream that it told
 pub record Leaves (e f : PathEnd) : Type 0 where
   pub recv : f.tcp.recv ≡ e.tcp.recv
   pub items : f.treated.items ≡ e.treated.items
+  pub fins : length e.treated.fins ≤ length f.treated.fins
 
-left_so : (e f : PathEnd) → f.tcp.recv ≡ e.tcp.recv → f.treated.items ≡ e.treated.items → Leaves e f
-left_so e f recv items = record { recv = recv; items = items }
+left_so : (e f : PathEnd) → f.tcp.recv ≡ e.tcp.recv → f.treated.items ≡ e.treated.items → f.treated.fins ≡ e.treated.fins → Leaves e f
+left_so e f recv items fins = record { recv = recv; items = items; fins = subst (λ (places : List ℕ). length e.treated.fins ≤ length places) (sym fins) (le_refl (length e.treated.fins)) }
+
+-- one end more is told, where there is room
+pub more_fins : (o : Option ℕ) (fins : List ℕ) → length fins ≤ length (fins_and o fins)
+more_fins None fins = le_refl (length fins)
+more_fins (Some place) fins = elim (nat_lt (length fins) 3) as (λ b. length fins ≤ length (if b then fins ++ place ∷ [] else fins)) [
+  | true ↦ (let all = length-append fins (place ∷ []) in omega (arith, all))
+  | false ↦ le_refl (length fins)
+]
 
 abbrev pub is_heard : Duty → Bool
 is_heard (duties.Step (step_duties.Heard s index)) = true
@@ -102,47 +113,48 @@ module _ {C : Type 0} where
 
     stopped_before : (b : Bool) → Before s ds e (end_at s p) (if b then stops s else ds)
     stopped_before true = resets_then (resetting.stopped refl)
-    stopped_before false = on (left_so _ _ refl refl) as_they_are
+    stopped_before false = on (left_so _ _ refl refl refl) as_they_are
 
     abbrev Next : PathState C → Type 0
     Next q = Before s ds e (end_at s q) q.agenda
 
     item_before : (o : Option Heard) → Next (answered_item k s o r x)
-    item_before None = on (left_so _ _ refl refl) as_they_are
-    item_before (Some (says.DataAck next window)) = told_before _ _ (left_so _ _ refl refl)
+    item_before None = on (left_so _ _ refl refl refl) as_they_are
+    item_before (Some (says.DataAck next window)) = told_before _ _ (left_so _ _ refl refl refl)
     item_before (Some (says.Mapping fin)) = elim (is_clash e) as
         (λ b. Next (if b then answered_break k s 1 r x else goes_on s (with_learned (after_fell events.MappingHeard r (end_at s x))) (fell_duties s r x) x))
-        [ true ↦ break_before 1 | false ↦ fallen (with_learned (after_fell events.MappingHeard r e)) (left_so _ _ refl refl) ]
-    item_before (Some (says.DataFin place)) = fallen (with_data_fin place (after_fell events.MappingHeard r e)) (left_so _ _ refl refl)
+        [ true ↦ break_before 1 | false ↦ fallen (with_learned (after_fell events.MappingHeard r e)) (left_so _ _ refl refl refl) ]
+    item_before (Some (says.DataFin place)) =
+        fallen (with_data_fin place (after_fell events.MappingHeard r e)) (record { recv = refl; items = refl; fins = more_fins (Some place) e.treated.fins })
     item_before (Some (says.InfiniteMapping place position)) =
-        fallen (after_infinite place position r e) (infinite_came_so (λ f. Leaves e f) place position r e (λ other. (left_so _ _ refl refl)))
+        fallen (after_infinite place position r e) (infinite_came_so (λ f. Leaves e f) place position r e (λ other. (left_so _ _ refl refl refl)))
     item_before (Some says.Fail) = fail_answered_so Next s r x
-        (here_before s ds e _ p.a p.b (duties.Ask (ask_duties.FailHeard s) ∷ ds) (on (left_so _ _ refl refl) (one_more (duties.Ask (ask_duties.FailHeard s)) refl refl refl)))
-        (fallen _ (left_so _ _ refl refl))
+        (here_before s ds e _ p.a p.b (duties.Ask (ask_duties.FailHeard s) ∷ ds) (on (left_so _ _ refl refl refl) (one_more (duties.Ask (ask_duties.FailHeard s)) refl refl refl)))
+        (fallen _ (left_so _ _ refl refl refl))
     item_before (Some (says.FastClose key)) = stopped_before (is_stopped_by r)
-    item_before (Some (says.Keys own peer)) = stays_before _ (left_so _ _ refl refl)
-    item_before (Some (says.Notice notice)) = stays_before _ (left_so _ _ refl refl)
-    item_before (Some _) = on (left_so _ _ refl refl) as_they_are
+    item_before (Some (says.Keys own peer)) = stays_before _ (left_so _ _ refl refl refl)
+    item_before (Some (says.Notice notice)) = stays_before _ (left_so _ _ refl refl refl)
+    item_before (Some _) = on (left_so _ _ refl refl refl) as_they_are
 
     keys_before : (o : Option KeyPair) → Next (answered_opened s o r x)
-    keys_before None = fallen _ (left_so _ _ refl refl)
-    keys_before (Some keys) = stays_before _ (left_so _ _ refl refl)
+    keys_before None = fallen _ (left_so _ _ refl refl refl)
+    keys_before (Some keys) = stays_before _ (left_so _ _ refl refl refl)
 
     plain_ack_before : Next (answered k (duties.Step (step_duties.PlainAck s)) r x)
     plain_ack_before = elim (breaks_by_ack p.profile e) as
         (λ b. Next (if b then answered_break k s 6 r x else goes_on s (with_plain_ack (after_fell events.PlainAck r (end_at s x))) (fell_duties s r x) x))
-        [ true ↦ break_before 6 | false ↦ fallen (with_plain_ack (after_fell events.PlainAck r e)) (left_so _ _ refl refl) ]
+        [ true ↦ break_before 6 | false ↦ fallen (with_plain_ack (after_fell events.PlainAck r e)) (left_so _ _ refl refl refl) ]
 
   pub before_answers : (k : Codec C) (d : Duty) (ds : List Duty) (r : Reply) (p : PathState C) → comes_before_keeping d ≡ true
       → let q : PathState C = answered k d r (with_agenda (d ∷ ds) p) in Before (side_of d) ds (end_at (side_of d) p) (end_at (side_of d) q) q.agenda
   before_answers k (duties.Ask (ask_duties.Opened s)) ds r p before = keys_before k s (duties.Ask (ask_duties.Opened s)) ds r p (keys_heard (end_at s p).treated.items)
-  before_answers k (duties.Ask (ask_duties.Live s)) ds r p before = on (left_so _ _ refl refl) as_they_are
-  before_answers k (duties.Ask (ask_duties.AckHeard s)) ds r p before = fallen k s (duties.Ask (ask_duties.AckHeard s)) ds r p (after_fell events.AckHeard r (end_at s p)) (left_so _ _ refl refl)
+  before_answers k (duties.Ask (ask_duties.Live s)) ds r p before = on (left_so _ _ refl refl refl) as_they_are
+  before_answers k (duties.Ask (ask_duties.AckHeard s)) ds r p before = fallen k s (duties.Ask (ask_duties.AckHeard s)) ds r p (after_fell events.AckHeard r (end_at s p)) (left_so _ _ refl refl refl)
   before_answers k (duties.Ask (ask_duties.FailHeard s)) ds r p before =
-      let e = end_at s p in fallen k s (duties.Ask (ask_duties.FailHeard s)) ds r p (after_fail_heard r e) (fail_heard_so (λ f. Leaves e f) r e (λ own owes. (left_so _ _ refl refl)))
-  before_answers k (duties.Ask (ask_duties.SubflowAck s)) ds r p before = stays_before k s (duties.Ask (ask_duties.SubflowAck s)) ds r p _ (left_so _ _ refl refl)
-  before_answers k (duties.Ask (ask_duties.PlainData s)) ds r p before = fallen k s (duties.Ask (ask_duties.PlainData s)) ds r p (after_fell events.PlainData r (end_at s p)) (left_so _ _ refl refl)
-  before_answers k (duties.Ask (ask_duties.GoIdentity s)) ds r p before = stays_before k s (duties.Ask (ask_duties.GoIdentity s)) ds r p _ (left_so _ _ refl refl)
+      let e = end_at s p in fallen k s (duties.Ask (ask_duties.FailHeard s)) ds r p (after_fail_heard r e) (fail_heard_so (λ f. Leaves e f) r e (λ own owes. (left_so _ _ refl refl refl)))
+  before_answers k (duties.Ask (ask_duties.SubflowAck s)) ds r p before = stays_before k s (duties.Ask (ask_duties.SubflowAck s)) ds r p _ (left_so _ _ refl refl refl)
+  before_answers k (duties.Ask (ask_duties.PlainData s)) ds r p before = fallen k s (duties.Ask (ask_duties.PlainData s)) ds r p (after_fell events.PlainData r (end_at s p)) (left_so _ _ refl refl refl)
+  before_answers k (duties.Ask (ask_duties.GoIdentity s)) ds r p before = stays_before k s (duties.Ask (ask_duties.GoIdentity s)) ds r p _ (left_so _ _ refl refl refl)
   before_answers k (duties.Step (step_duties.Heard s index)) ds r p before = item_before k s (duties.Step (step_duties.Heard s index)) ds r p (item_of index (end_at s p))
   before_answers k (duties.Step (step_duties.PlainAck s)) ds r p before = plain_ack_before k s (duties.Step (step_duties.PlainAck s)) ds r p
   before_answers k d ds r p before = absurd (true≢false (sym before))

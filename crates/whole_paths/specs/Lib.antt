@@ -4,7 +4,10 @@ pub mod Arrivals
 pub mod AsFar
 pub mod Brought
 pub mod Came
+pub mod Closing
 pub mod Copies
+pub mod DataAcks
+pub mod DataAcksHeard
 pub mod Due
 pub mod EndSteps
 pub mod Exchanges
@@ -18,6 +21,7 @@ pub mod InTime
 pub mod Kept
 pub mod Lanes
 pub mod Mapped
+pub mod Opening
 pub mod Owed
 pub mod Passed
 pub mod Reasons

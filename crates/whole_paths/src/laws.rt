@@ -1,6 +1,6 @@
 //! What is promised of each connection, whatever its paths lose.
 ghost use Rattle.path_core.specs.Octets.{octets};
-ghost use Rattle.path_core.specs.Values.{values};
+ghost use Rattle.path_core.specs.Values.{Carried, values};
 ghost use Rattle.std.specs.Prelude.{ℕ, List};
 ghost use Rattle.world_laws.specs.Laws.{Always};
 ghost use Rattle.world_laws.specs.Promises.{HoldsAnyway, HoldsAnywayOfOctets};
@@ -9,7 +9,10 @@ ghost use Rattle.whole_paths.specs.Arrivals.{EachCopyArrives, EachMappedRecordIs
 ghost use Rattle.whole_paths.specs.AsFar.{NothingGoesBack};
 ghost use Rattle.whole_paths.specs.Brought.{WhatComesIsKept};
 ghost use Rattle.whole_paths.specs.Came.{WhatIsAcknowledgedCame};
+ghost use Rattle.whole_paths.specs.Closing.{EachDataFinCounts, EachDataFinIsSaid};
 ghost use Rattle.whole_paths.specs.Copies.{CopiesLeaveByArriving};
+ghost use Rattle.whole_paths.specs.DataAcks.{EachSegmentHasADataAck};
+ghost use Rattle.whole_paths.specs.DataAcksHeard.{EachDataAckCounts, EachDataAckIsSaid};
 ghost use Rattle.whole_paths.specs.Due.{CopiesArriveAsSent};
 ghost use Rattle.whole_paths.specs.Exchanges.{EachRecordIsAcknowledged};
 ghost use Rattle.whole_paths.specs.Expiries.{WhatRunsOutGoesAgain};
@@ -21,6 +24,7 @@ ghost use Rattle.whole_paths.specs.InTime.{NothingIsOverdue};
 ghost use Rattle.whole_paths.specs.Kept.{WhatWaitsIsKept};
 ghost use Rattle.whole_paths.specs.Lanes.Laws.{LossyLanesEnd, LossyLanesFinish};
 ghost use Rattle.whole_paths.specs.Mapped.{WhatIsToldIsKnown};
+ghost use Rattle.whole_paths.specs.Opening.{EachHandshakeCounts, EachSynCounts};
 ghost use Rattle.whole_paths.specs.Owed.{WhatIsOwedComes};
 ghost use Rattle.whole_paths.specs.Passed.{WhatIsInOrderIsPassed};
 ghost use Rattle.whole_paths.specs.Reasons.{WhoWaitsHasATimer};
@@ -142,6 +146,53 @@ pub fn each_segment_says_what_came()
 pub fn each_acknowledgement_counts()
     ensures octets { EachAcknowledgementCounts octets }
     ensures values { EachAcknowledgementCounts values }
+{}
+
+/// A law: each segment of a handshake counts: the SYN makes the end that listens half-open, the SYN/ACK opens the end that sent the SYN, and
+/// any copy that a half-open end takes opens that one (RFC 9293, sections 3.5 and 3.10.7).
+///
+/// So it is at once, whatever is late or comes again; and each end stays that far, or is dead (`nothing_goes_back`). On a path that joins a
+/// SYN waits for the control book, and the SYN/ACK and the third segment are such only with the HMAC of their side (RFC 8684, section 3.2).
+/// On the path that opens the connection a copy of a SYN means so to its end, and one that comes again is answered (`syns`).
+pub fn each_handshake_counts()
+    ensures octets { EachHandshakeCounts octets }
+    ensures values { EachHandshakeCounts values }
+    ensures syns { EachSynCounts }
+{}
+
+/// A law: each segment that an end sends acknowledges what came of the peer's stream: its Data ACK is the place that the side wants next,
+/// as the end's reassembly book told it last (RFC 8684, section 3.3.2).
+///
+/// So it is once the end may send a DSS, and as long as its side doesn't fall back to plain TCP: an acknowledgement, a record for the first
+/// time or again, a notice, a DATA_FIN and a FIN. A segment with a SYN has none, nor has a reset.
+pub fn each_segment_has_a_data_ack()
+    ensures octets { EachSegmentHasADataAck (List ℕ) }
+    ensures values { EachSegmentHasADataAck Carried }
+{}
+
+/// A law: each Data ACK that an end takes counts, in its turn: all before its place is acknowledged then to the end (RFC 8684, section
+/// 3.3.2), and where it is past all that the side wrote, the DATA_FIN too (section 3.3.3).
+///
+/// Where a copy that the end takes says it, the end hears it once all is treated that the copy says before, and from then on, by each turn,
+/// so much is acknowledged. Or the end is dead, or reset next; or the side fell back to plain TCP, or sends by an infinite mapping, where the
+/// acknowledgements of the subflow count in its place; or the send book refuses it, as none does (`nothing_is_refused`). A segment with a DSS
+/// says so (`says`).
+pub fn each_data_ack_counts()
+    ensures octets { EachDataAckCounts octets }
+    ensures values { EachDataAckCounts values }
+    ensures says { EachDataAckIsSaid }
+{}
+
+/// A law: each DATA_FIN that an end takes counts, in its turn: the reassembly book of the side is told where the peer's stream ends, and the
+/// peer's DATA_FIN came then (RFC 8684, section 3.3.3).
+///
+/// Where a copy that the end takes says it, the end hears it once all is treated that the copy says before, and tells the book once the
+/// payload is; from then on, by each turn, it came. Or the end is dead, or reset next, as where the book refuses the end; or the side fell
+/// back to plain TCP, or hasn't the peer's key, so that no DATA_FIN counts. A segment whose DSS maps a DATA_FIN says so (`says`).
+pub fn each_data_fin_counts()
+    ensures octets { EachDataFinCounts octets }
+    ensures values { EachDataFinCounts values }
+    ensures says { EachDataFinIsSaid }
 {}
 
 /// A law: nothing is acknowledged that didn't come: SND.UNA of each end that isn't dead lies at its peer's RCV.NXT or below, and so does what
