@@ -1,4 +1,5 @@
 pub mod Acking
+pub mod Acknowledged
 pub mod Agendas
 pub mod Arrivals
 pub mod Books
@@ -15,6 +16,8 @@ pub mod Keeping
 pub mod Knowing
 pub mod Lanes
 pub mod Links
+pub mod News
+pub mod NewsBounds
 pub mod Owing
 pub mod Mapping
 pub mod Moving
@@ -30,6 +33,7 @@ pub mod Sent
 pub mod Settling
 pub mod Staying
 pub mod Subflows
+pub mod Thirds
 pub mod Timing
 pub mod Treating
 pub mod Turns

@@ -1,3 +1,4 @@
+pub mod Acknowledged
 pub mod AgendaSteps
 pub mod Answered
 pub mod Arrivals
@@ -17,6 +18,7 @@ pub mod InTime
 pub mod Kept
 pub mod Lanes
 pub mod Mapped
+pub mod News
 pub mod Owed
 pub mod Passed
 pub mod Reasons
