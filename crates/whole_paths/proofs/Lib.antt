@@ -6,6 +6,7 @@ pub mod Books
 pub mod Bringing
 pub mod Came
 pub mod Copies
+pub mod Courses
 pub mod Due
 pub mod Duties
 pub mod Flying

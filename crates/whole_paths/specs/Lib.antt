@@ -6,6 +6,7 @@ pub mod AsFar
 pub mod Brought
 pub mod Came
 pub mod Copies
+pub mod Courses
 pub mod Due
 pub mod EndSteps
 pub mod Expiries
