@@ -25,7 +25,7 @@ use Rattle.path_core.specs.Events.{next_event, after_line, happens_if}
 use Rattle.path_core.specs.MpJoin.{is_never, keys_begun, never_joined, opened_by}
 use Rattle.path_core.specs.End.{PathEnd}
 use Rattle.path_core.specs.State.{PathState, at_tick, end_at, goes_on, with_agenda}
-use Rattle.path_core.specs.Steps.{takes, next_round}
+use Rattle.path_core.specs.Steps.{takes, begins_turn, next_round}
 use Rattle.path_core.specs.declared.events.Event.{Event}
 use Rattle.path_core.specs.declared.events.Event.TheVariants as happenings
 use Rattle.world_laws.specs.declared.member.Member.TheVariants.{App, Path}
@@ -162,11 +162,15 @@ module _ {C : Type 0} where
     lines = frame.lines;
   }
 
-  takes_up : (k : Codec C) (r : Reply) (p : PathState C) → IsPathAsFar p (takes k r p)
+  pub takes_up : (k : Codec C) (r : Reply) (p : PathState C) → IsPathAsFar p (takes k r p)
   takes_up k r p =
       path_up p (takes k r p) (ends_take k r p) (takes_clear k r p) (takes_lasts (λ p q. Frame p q) frames_last k r p (λ d. answered_frame k d r p))
 
-  next_up : (p : PathState C) → IsPathAsFar p (next_round p)
+  -- as a turn begins no line is taken
+  pub begun_lines : (p : PathState C) → length (begins_turn p).lines ≤ length p.lines
+  begun_lines p = let begun : Frame p (begins_turn p) = begins_lasts (λ p q. Frame p q) frames_last p in begun.lines
+
+  pub next_up : (p : PathState C) → IsPathAsFar p (next_round p)
   next_up p =
       let q : PathState C = record p { clock = p.until; until = p.until + 100 } in
       let begun : Frame q (next_round p) = begins_lasts (λ p q. Frame p q) frames_last q in
@@ -181,11 +185,11 @@ module _ {C : Type 0} where
   actor_next : (m : Actor C) → IsActorAsFar m (member_next m)
   actor_next = elim [ App a ↦ tt | Path p ↦ next_up p ]
 
-  actor_stays : (m : Actor C) → IsActorAsFar m m
+  pub actor_stays : (m : Actor C) → IsActorAsFar m m
   actor_stays (App a) = tt
   actor_stays (Path p) = record { a = end_stays p.a; b = end_stays p.b; until = le_refl p.until; lines = le_refl (length p.lines) }
 
-  actor_then : (m n o : Actor C) → IsActorAsFar m n → IsActorAsFar n o → IsActorAsFar m o
+  pub actor_then : (m n o : Actor C) → IsActorAsFar m n → IsActorAsFar n o → IsActorAsFar m o
   actor_then (App a) (App b) (App c) x y = tt
   actor_then (Path p) (Path q) (Path r) x y = record {
     a = end_then p.a q.a r.a x.a y.a;

@@ -43,6 +43,7 @@ use Rattle.path_store.specs.declared.lines.LineAction.TheVariants as actions
 use Rattle.path_store.specs.declared.lines.LineLeft.{LineLeft}
 use Rattle.path_store.specs.Lines.{is_later, with_line, with_some, with_event, event_in, events_from}
 use Rattle.actor_desk.specs.declared.ask.Reply.{Reply}
+use Rattle.stream_lanes.specs.Words.{Every}
 use Rattle.actor_desk.specs.Words.{tail_of, is_nil}
 use Rattle.path_core.specs.Arrival.{copy_heard, heard_in}
 use Rattle.path_core.specs.Codec.{Codec}
@@ -61,6 +62,7 @@ use Rattle.world_laws.specs.Laws.{Always}
 use Rattle.world_laws.specs.Openings.{PathPlan, Start, path_begins, opened_world}
 use Rattle.world_laws.specs.StampedBooks.{answer_to}
 use Rattle.world_laws.specs.Writes.{Writes, OnlyAt, PathView, writes, side_of}
+use Rattle.world_laws.specs.Worlds.{Turn, world_run}
 use Rattle.world_laws.proofs.Rounds.Lifting.{run_lifted, opened_lifted}
 use Rattle.world_laws.proofs.Rounds.NothingDueIsLeft.{Shaped, takes_shaped, begun_shaped, nothing_due}
 use Rattle.world_laws.proofs.Writes.Paths.{writes_no_more, passes_no_more}
@@ -622,10 +624,19 @@ module _ {C : Type 0} where
   member_so (App a) h = tt
   member_so (Path p) h = h.0.comes
 
+  member_over : (m : Actor C) → IsInTime m → HoldsOfKind (λ app. Unit {0}) (λ (p : PathState C). p.agenda ≡ [] → ComesFrom p.until p) m
+  member_over (App a) h = tt
+  member_over (Path p) h = λ over. waiting_so p.until p h.0.order (none_early p.until (earliest p) (nothing_due p h.1 over))
+
+  always_in_time : (k : Codec C) (start : Start) (turns : List Turn) → Every (λ c. IsInTime c.member) (world_run k turns (opened_world start)).crew
+  always_in_time k start turns = run_lifted k (λ c. IsInTime c.member) (λ books c x asks h. member_takes_on k (answer_to books x) c.member h)
+      (λ stamp c over h. member_begins c.member over h) turns (opened_world start)
+      (opened_lifted (λ c. IsInTime c.member) start tt tt (λ number plan there. let p : PathState C = waiting_path (path_begins start number plan) start.lines in
+      (begins_lasts StaysInTime in_time_lasts p (first_in_time number start plan), begun_shaped p)))
+
   pub nothing_is_overdue : (k : Codec C) → Always k (λ start w. NothingIsOverdue w)
-  nothing_is_overdue k start turns = record {
-    each = λ actor c there. member_so c.member ((run_lifted k (λ c. IsInTime c.member) (λ books c x asks h. member_takes_on k (answer_to books x) c.member h)
-        (λ stamp c over h. member_begins c.member over h) turns (opened_world start)
-        (opened_lifted (λ c. IsInTime c.member) start tt tt (λ number plan there. let p : PathState C = waiting_path (path_begins start number plan) start.lines in
-        (begins_lasts StaysInTime in_time_lasts p (first_in_time number start plan), begun_shaped p)))).each actor c there);
-  }
+  nothing_is_overdue k start turns =
+      let all = always_in_time k start turns in record {
+        each = λ actor c there. member_so c.member (all.each actor c there);
+        over = λ actor c there. member_over c.member (all.each actor c there);
+      }

@@ -1,4 +1,5 @@
 pub mod Acking
+pub mod Acknowledged
 pub mod Agendas
 pub mod Arrivals
 pub mod Books
@@ -8,6 +9,7 @@ pub mod Closing
 pub mod Copies
 pub mod DataAcks
 pub mod DataAcksHeard
+pub mod Courses
 pub mod Due
 pub mod Duties
 pub mod Exchanges
@@ -22,6 +24,8 @@ pub mod Lanes
 pub mod Links
 pub mod Opening
 pub mod OpeningSyns
+pub mod News
+pub mod NewsBounds
 pub mod Owing
 pub mod Mapping
 pub mod Moving
@@ -38,6 +42,7 @@ pub mod Sent
 pub mod Settling
 pub mod Staying
 pub mod Subflows
+pub mod Thirds
 pub mod Timing
 pub mod Treating
 pub mod Turns

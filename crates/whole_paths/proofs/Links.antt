@@ -60,7 +60,7 @@ line_stays from count (OnSegment segment happens.Lost) = stays_unused (same_side
 line_stays from count (OnSegment segment (happens.Late ticks)) = stays_unused (same_side segment.from from) count segment.number
 line_stays from count _ = omega arith
 
-fewer : (from : Side) (count : ℕ) (lines : List ScriptLine) → unused from (suc count) lines ≤ unused from count lines
+pub fewer : (from : Side) (count : ℕ) (lines : List ScriptLine) → unused from (suc count) lines ≤ unused from count lines
 fewer from count [] = omega arith
 fewer from count (line ∷ lines) = let one = line_stays from count line in let rest = fewer from count lines in omega (arith, one, rest)
 

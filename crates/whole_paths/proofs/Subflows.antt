@@ -29,7 +29,7 @@ use Rattle.whole_paths.specs.EndSteps.SubflowSteps.{none, more}
 
 -- ---- the states
 
-stage_most : (s : State) → stage s ≤ 7
+pub stage_most : (s : State) → stage s ≤ 7
 stage_most = elim [ Waiting ↦ omega arith | _ ↦ omega arith ]
 
 finish_up : (s : State) → stage s ≤ stage (after_finish s)

@@ -143,16 +143,16 @@ either_timed true e f g x y = x
 either_timed false e f g x y = y
 
 -- a verdict changes nothing of it
-mode_third : (r : Reply) (m : Modes) → (mode_in r m).owes_third ≡ m.owes_third
+pub mode_third : (r : Reply) (m : Modes) → (mode_in r m).owes_third ≡ m.owes_third
 mode_third (replies.Control (control_replies.Verdict (verdicts.Went mode))) m = refl
 mode_third _ m = refl
 
-fell_third : (event : Fall) (r : Reply) (m : Modes) → (fell_in event r m).owes_third ≡ m.owes_third
+pub fell_third : (event : Fall) (r : Reply) (m : Modes) → (fell_in event r m).owes_third ≡ m.owes_third
 fell_third falls.PlainData r m = mode_third r m
 fell_third falls.PlainAck r m = mode_third r m
 fell_third _ r m = mode_third r m
 
-keys_third : (r : Reply) (keys : Option KeyPair) (m : Modes) → (keys_in r keys m).owes_third ≡ m.owes_third
+pub keys_third : (r : Reply) (keys : Option KeyPair) (m : Modes) → (keys_in r keys m).owes_third ≡ m.owes_third
 keys_third (replies.Control control_replies.Noted) (Some keys) m = refl
 keys_third _ keys m = refl
 
@@ -264,7 +264,7 @@ arrived_timed e f news owes (rises more) = changed (on_subflow more)
 arrived_timed e f news owes (kills dead) = gone dead
 
 -- a SYN/ACK alone lets the third MP_JOIN be owed
-owes_same : (joined : Bool) (items : List Heard) (m : Meaning) (options : List HeardOption) (state : EndPhase) (mods : Modes) → is_accepted m ≡ false
+pub owes_same : (joined : Bool) (items : List Heard) (m : Meaning) (options : List HeardOption) (state : EndPhase) (mods : Modes) → is_accepted m ≡ false
     → (asked_in m options (if joined then cleared_in m state (answered_in m items mods) else mods)).owes_third ≡ mods.owes_third
 owes_same joined items (means.Accepts pos) options state mods other = absurd (true≢false other)
 owes_same true items (means.Taken pos acknowledged) options state mods other = refl
@@ -333,7 +333,7 @@ plainly_timed (Some next) r e = data_ack_timed next r e (λ v. record e { sendin
 died_timed : (e : PathEnd) → Timed e (died_unless_dead e)
 died_timed e = either_timed (is_dead e.tcp.state) e e (died e) (stays e) (gone refl)
 
-syn_so : (c : Copy) (t : EndState) (m : Meaning) (pos : ℕ) → IsTakenAs m c t → m ≡ means.Accepts pos → t.state ≡ phase.SynSent
+pub syn_so : (c : Copy) (t : EndState) (m : Meaning) (pos : ℕ) → IsTakenAs m c t → m ≡ means.Accepts pos → t.state ≡ phase.SynSent
 syn_so c t m pos (inl ignored) is = absurd (true≢false (ap is_accepted (sym is ∙ ignored)))
 syn_so c t m pos (inr same) is = (subst (λ n. MeansIs c t n) (sym same ∙ is) (means_so c t)).0
 

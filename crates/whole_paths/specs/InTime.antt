@@ -1,5 +1,5 @@
 -- Each event of a path happens at its tick, and not later.
-use Rattle.std.specs.Prelude.{ℕ, ◌≡◌, ◌≤◌, true, Some, IfSome, slice_get}
+use Rattle.std.specs.Prelude.{ℕ, ◌≡◌, ◌≤◌, true, Some, IfSome, [], slice_get}
 use Rattle.std.specs.List.{AllByRecursion}
 use Rattle.link_model.specs.declared.flight.Flight.{Flight}
 use Rattle.subflow_tcp.specs.States.{is_waiting}
@@ -19,6 +19,8 @@ module _ {C : Type 0} where
     pub timer_a : IfSome p.a.tcp.timing.timer (λ tick. now ≤ tick)
     pub timer_b : IfSome p.b.tcp.timing.timer (λ tick. now ≤ tick)
 
-  -- on each path none of it lies before the clock
+  -- on each path none of it lies before the clock, and where its turn is over none before the end of its round
   pub record NothingIsOverdue (w : WorldState C) : Type 0 where
     pub each : (actor : ℕ) (c : ActorCrew C) → slice_get w.crew actor ≡ Some c → HoldsOfKind (λ app. Unit {0}) (λ (p : PathState C). ComesFrom p.clock p) c.member
+    pub over : (actor : ℕ) (c : ActorCrew C) → slice_get w.crew actor ≡ Some c
+        → HoldsOfKind (λ app. Unit {0}) (λ (p : PathState C). p.agenda ≡ [] → ComesFrom p.until p) c.member

@@ -1,3 +1,4 @@
+pub mod Acknowledged
 pub mod AgendaSteps
 pub mod Answered
 pub mod Arrivals
@@ -8,6 +9,7 @@ pub mod Closing
 pub mod Copies
 pub mod DataAcks
 pub mod DataAcksHeard
+pub mod Courses
 pub mod Due
 pub mod EndSteps
 pub mod Exchanges
@@ -22,6 +24,7 @@ pub mod Kept
 pub mod Lanes
 pub mod Mapped
 pub mod Opening
+pub mod News
 pub mod Owed
 pub mod Passed
 pub mod Reasons

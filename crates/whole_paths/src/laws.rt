@@ -4,6 +4,7 @@ ghost use Rattle.path_core.specs.Values.{Carried, values};
 ghost use Rattle.std.specs.Prelude.{ℕ, List};
 ghost use Rattle.world_laws.specs.Laws.{Always};
 ghost use Rattle.world_laws.specs.Promises.{HoldsAnyway, HoldsAnywayOfOctets};
+ghost use Rattle.whole_paths.specs.Acknowledged.{WhatWasGrantedIsAcknowledged};
 ghost use Rattle.whole_paths.specs.Answered.{CopiesAreAnswered};
 ghost use Rattle.whole_paths.specs.Arrivals.{EachCopyArrives, EachMappedRecordIsAPiece, EachPieceComesInOrder};
 ghost use Rattle.whole_paths.specs.AsFar.{NothingGoesBack};
@@ -25,6 +26,7 @@ ghost use Rattle.whole_paths.specs.Kept.{WhatWaitsIsKept};
 ghost use Rattle.whole_paths.specs.Lanes.Laws.{LossyLanesEnd, LossyLanesFinish};
 ghost use Rattle.whole_paths.specs.Mapped.{WhatIsToldIsKnown};
 ghost use Rattle.whole_paths.specs.Opening.{EachHandshakeCounts, EachSynCounts};
+ghost use Rattle.whole_paths.specs.News.{EachNewsCounts, NewsIsBounded, NewsNeverFalls};
 ghost use Rattle.whole_paths.specs.Owed.{WhatIsOwedComes};
 ghost use Rattle.whole_paths.specs.Passed.{WhatIsInOrderIsPassed};
 ghost use Rattle.whole_paths.specs.Reasons.{WhoWaitsHasATimer};
@@ -47,6 +49,33 @@ pub fn nothing_goes_back()
     ensures values { NothingGoesBack values }
 {}
 
+/// A law: how far a connection is, as one number, never falls, by whatever turns, whatever is lost, late, repeated or altered.
+///
+/// It is the sum of all that `nothing_goes_back` speaks of: at both ends of each path SND.UNA, SND.NXT, RCV.NXT and the state (RFC 9293,
+/// section 3.3), the bytes and DATA_FINs that are acknowledged (RFC 8684, section 3.3), whether a DSS may be sent and the third MP_JOIN
+/// is answered (section 3.2); at each side what is written, received and read, the edge of the window and the ends of both streams; and the
+/// lines of the script that are taken, or by which a segment was lost or late.
+pub fn news_never_falls()
+    ensures octets { NewsNeverFalls octets }
+    ensures values { NewsNeverFalls values }
+{}
+
+/// A law: how far a connection is, as one number, is bounded by its files, buffers and paths and by the lines of the script, whatever is lost,
+/// late or repeated, where no payload is altered and the numbers fit.
+pub fn news_is_bounded()
+    ensures octets { NewsIsBounded octets }
+    ensures values { NewsIsBounded values }
+{}
+
+/// A law: how far a connection is, as one number, rises with all news.
+///
+/// It does so as SND.UNA of an end rises, a Data ACK acknowledges more, or the SYN, the DATA_FIN or the third MP_JOIN is answered; as an end
+/// dies; as a line of the script is taken; and with each segment that uses a line by which it is lost or late.
+pub fn each_news_counts()
+    ensures octets { EachNewsCounts octets }
+    ensures values { EachNewsCounts values }
+{}
+
 /// A law: no timer of a path ever waits for more than a minute (RFC 6298, section 2).
 ///
 /// At every moment each timer that runs, at either end of each path, runs out 60,000 ticks after the path's tick at most; a timeout is
@@ -59,8 +88,8 @@ pub fn timers_run_out()
 /// A law: no event of a path is passed by, so that each happens at its own tick.
 ///
 /// At every moment neither a timer that runs, nor a copy that is under way, nor a line of the script that isn't taken, nor A's join, as
-/// long as its end waits for it, lies before the path's clock. By `timers_run_out` each timer runs out within a minute, or was stopped or
-/// put off before.
+/// long as its end waits for it, lies before the path's clock; and where the path's turn is over, none lies before the end of its round. By
+/// `timers_run_out` each timer runs out within a minute, or was stopped or put off before.
 pub fn nothing_is_overdue()
     ensures octets { Always octets (λ start w. NothingIsOverdue w) }
     ensures values { Always values (λ start w. NothingIsOverdue w) }
@@ -206,6 +235,15 @@ pub fn what_is_acknowledged_came()
 pub fn what_came_was_sent()
     ensures values { HoldsAnyway WhatCameWasSent }
     ensures octets { HoldsAnywayOfOctets WhatCameWasSent }
+{}
+
+/// A law: where an end waits for no Data ACK, each byte that its path was granted is acknowledged at its side (RFC 8684, section 3.3.2),
+/// whatever is lost, late, repeated or altered, and whichever path was granted it besides.
+///
+/// As long as a byte isn't, it stands in a piece that the end waits for; and by `who_waits_has_a_timer` its timer runs then.
+pub fn what_was_granted_is_acknowledged()
+    ensures values { HoldsAnyway WhatWasGrantedIsAcknowledged }
+    ensures octets { HoldsAnywayOfOctets WhatWasGrantedIsAcknowledged }
 {}
 
 /// A law: each octet that comes to an end is kept until RCV.NXT passes it (RFC 9293, section 3.10.7.4).

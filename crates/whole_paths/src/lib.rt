@@ -11,7 +11,9 @@
 //! (`each_piece_comes_in_order`, `what_is_in_order_is_passed`, `what_is_in_hand_is_acknowledged`, `each_copy_is_answered_at_once`), by a
 //! segment that acknowledges all of it (`each_segment_says_what_came`) and nothing that didn't come (`what_is_acknowledged_came`), as
 //! nothing came that wasn't sent (`what_came_was_sent`). The answer comes to the peer (`what_is_owed_comes`), and the end that takes it
-//! hears it (`each_acknowledgement_counts`).
+//! hears it (`each_acknowledgement_counts`). How far the connection is, as one number, never falls (`news_never_falls`), is bounded
+//! (`news_is_bounded`), and rises with all news (`each_news_counts`). Where an end waits for no Data ACK, all that its path was granted is
+//! acknowledged (`what_was_granted_is_acknowledged`).
 #![tactic(auto)]
 
 mod laws;
@@ -19,11 +21,12 @@ mod laws;
 pub use laws::{
     a_copy_leaves_by_arriving, copies_arrive_as_sent, each_acknowledgement_counts,
     each_copy_is_answered_at_once, each_data_ack_counts, each_data_fin_counts,
-    each_handshake_counts, each_piece_comes_in_order, each_record_is_acknowledged,
-    each_segment_has_a_data_ack, each_segment_says_what_came, each_segment_uses_a_line_or_comes,
-    lossy_lanes_finish, no_timer_is_put_off, nothing_goes_back, nothing_is_overdue, timers_run_on,
-    timers_run_out, what_came_was_sent, what_comes_is_kept, what_is_acknowledged_came,
+    each_handshake_counts, each_news_counts, each_piece_comes_in_order,
+    each_record_is_acknowledged, each_segment_has_a_data_ack, each_segment_says_what_came,
+    each_segment_uses_a_line_or_comes, lossy_lanes_finish, news_is_bounded, news_never_falls,
+    no_timer_is_put_off, nothing_goes_back, nothing_is_overdue, timers_run_on, timers_run_out,
+    what_came_was_sent, what_comes_is_kept, what_is_acknowledged_came,
     what_is_in_hand_is_acknowledged, what_is_in_order_is_passed, what_is_owed_comes,
     what_is_told_is_known, what_runs_out_goes_again, what_waits_comes, what_waits_is_kept,
-    who_waits_has_a_timer,
+    what_was_granted_is_acknowledged, who_waits_has_a_timer,
 };

@@ -1,0 +1,58 @@
+-- A connection as it goes on by turns, round by round: its news, and the segments of path 0 that are harmed, are counted.
+use Rattle.std.specs.Prelude.{ℕ, ◌+◌, ◌*◌, ◌≡◌, ◌<◌, ◌≤◌, ◌⊎◌, true, List, [], ◌∷◌, ◌++◌}
+use Rattle.path_core.specs.Codec.{Codec}
+use Rattle.world_laws.specs.Openings.{Start, opened_world}
+use Rattle.world_laws.specs.RoundDone.{reached, round_of}
+use Rattle.world_laws.specs.Worlds.{Turn, all_over}
+use Rattle.whole_paths.specs.Finish.{harmed}
+use Rattle.whole_paths.specs.News.{news}
+use Rattle.whole_paths.specs.Rounds.{System}
+
+module _ {C : Type 0} (k : Codec C) (start : Start) where
+  -- how many segments of path 0 were harmed by these turns
+  abbrev pub harmed_so_far : List Turn → ℕ
+  harmed_so_far turns = harmed k 0 turns (opened_world start)
+
+  -- what was counted: how far the connection is, and these segments
+  abbrev pub counted : List Turn → ℕ
+  counted turns = news start (reached k start turns) + harmed_so_far turns
+
+  -- the tick at which the round ends that goes on
+  abbrev pub round_end : List Turn → ℕ
+  round_end turns = 100 * ((round_of k start turns).number + 1)
+
+  module _ (most : ℕ) where
+    -- after these turns an actor makes a step, and no more than so many segments were harmed
+    pub record TakesAStep (turns later : List Turn) : Type 0 where
+      pub actor : ℕ
+      pub is : later ≡ turns ++ Turn.Step actor ∷ []
+      pub few : harmed_so_far later ≤ most
+
+    -- each turn is over, and the next round begins
+    pub record BeginsARound (turns later : List Turn) : Type 0 where
+      pub over : all_over (reached k start turns).crew ≡ true
+      pub is : later ≡ turns ++ Turn.Round ∷ []
+      pub few : harmed_so_far later ≤ most
+
+    -- its states are the turns so far
+    abbrev pub course_of : (List Turn → Type 0) → (ℕ → ℕ → List Turn → Type 0) → System
+    course_of Over Waits = record {
+      State = List Turn;
+      Steps = TakesAStep;
+      Opens = BeginsARound;
+      Sound = λ turns. harmed_so_far turns ≤ most;
+      until = round_end;
+      news = counted;
+      Over = Over;
+      Waits = Waits;
+    }
+
+    -- What is left to be shown of an exchange: what is over stays so; a wait goes on, unless something is counted; a round doesn't end past a
+    -- wait; and as a round begins something is waited for.
+    pub record Exchanges (within : ℕ) (Over : List Turn → Type 0) (Waits : ℕ → ℕ → List Turn → Type 0) : Type 0 where
+      pub over_on : (v u : List Turn) → TakesAStep v u → Over v → Over u
+      pub over_next : (v u : List Turn) → BeginsARound v u → Over v → Over u
+      pub waits_on : (n x : ℕ) (v u : List Turn) → TakesAStep v u → n ≤ counted v → Waits n x v → (n < counted u) ⊎ Waits n x u
+      pub waits_next : (n x : ℕ) (v u : List Turn) → BeginsARound v u → n ≤ counted v → Waits n x v → (n < counted u) ⊎ Waits n x u
+      pub due : (n x : ℕ) (v u : List Turn) → BeginsARound v u → Waits n x v → x < round_end v → n < counted v
+      pub begins : (v u : List Turn) → BeginsARound v u → Over u ⊎ Waits (counted u) (round_end v + within) u
