@@ -28,7 +28,7 @@ use Rattle.rule_book.specs.Signals.{KeyedValue, judged_in, kept_option, keyed_by
 use Rattle.rule_book.specs.Stream.{acked_each, acked_one, behind_acks, failed_each}
 use Rattle.judge_laws.specs.Acknowledges.{WasSeen}
 use Rattle.judge_laws.specs.GoesOn.{broke}
-use Rattle.judge_laws.proofs.Folds.{acked_each_goes, failed_each_goes}
+use Rattle.judge_laws.proofs.Going.{acked_each_goes, failed_each_goes}
 use Rattle.judge_laws.proofs.Shown.{kept_before, told_there}
 
 -- ---- one that keeps the rule

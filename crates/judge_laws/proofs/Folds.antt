@@ -1,10 +1,8 @@
--- What was known of a stream stays, behind each option of a segment.
-use Rattle.std.proofs.Common.{◌≡◌, ℕ, ℤ, ◌+◌, Bool, true, false, ◌==◌, if◌then◌else◌, Option, Some, None, Result, Ok, Err, List, [], ◌∷◌, arith}
+-- What holds of a side's stream, and of what it sent on a subflow, stays behind each option of a segment, where each step of a rule keeps it.
+use Rattle.std.proofs.Common.{◌≡◌, refl, ℕ, ℤ, zero, suc, ◌+◌, Bool, true, false, ◌==◌, if◌then◌else◌, is_some, max, Option, Some, None, Result, Ok, Err, List, [], ◌∷◌}
 use Rattle.sides.specs.Side.{peer}
 use Rattle.mptcp_options.specs.declared.capable.CapableKeys.{CapableKeys}
-use Rattle.mptcp_options.specs.declared.dss.DataNumber.{DataNumber}
 use Rattle.mptcp_options.specs.Value.{OptionValue, Capable, Dss, Fail}
-use Rattle.judge_rules.specs.declared.acks.ToldPlace.{ToldPlace}
 use Rattle.judge_rules.specs.declared.finding.Finding.{Finding}
 use Rattle.judge_rules.specs.declared.finding.Finding.TheVariants.{NoMapping, NoPlace}
 use Rattle.judge_rules.specs.declared.finding.Rule.{Rule}
@@ -25,287 +23,279 @@ use Rattle.seen_streams.specs.declared.told.Broke.{Broke}
 use Rattle.seen_streams.specs.declared.told.Teller.{Teller}
 use Rattle.seen_streams.specs.declared.told.ToldMapping.{ToldMapping}
 use Rattle.seen_streams.specs.declared.told.Waiting.{Waiting}
-use Rattle.seen_streams.specs.State.{Found, LaneValue, NoOption, StreamValue, counted, tell}
-use Rattle.seen_streams.specs.Acks.{Acked, ack_counted, ack_facts, acked_by, acked_with, ended_by_fin, failed_with, fin_told, named_place}
-use Rattle.seen_streams.specs.Mapped.{Mapped, broken_by, fin_after, finite, finite_at, finite_by, finite_fault, infinite_at, infinite_by, line_fault, lowest_line, mapped_at, octets_of, one_more, told_mapping, with_line, with_mapping}
-use Rattle.seen_streams.specs.Sums.{is_whole, sum_fault, tried_if_whole, tried_sum, tried_sums, with_sums}
+use Rattle.seen_streams.specs.State.{FaultValue, Found, LaneValue, NoOption, StreamValue, counted, place_of, tell, tell_found}
+use Rattle.seen_streams.specs.Acks.{Acked, ack_counted, ack_facts, acked_by, ended_by_fin, named_place}
+use Rattle.seen_streams.specs.Content.{PayloadValue, as_part, at_place, shown, shown_from, with_payload}
+use Rattle.seen_streams.specs.Mapped.{Mapped, finite, finite_at, finite_by, finite_fault, infinite_after, infinite_at, infinite_by, line_fault, lowest_line, mapped_at, one_more, run_of, started, told_mapping, with_mapping, with_places}
+use Rattle.seen_streams.specs.Positions.{with_fin}
+use Rattle.seen_streams.specs.Sums.{is_whole, still_waiting, sum_fault, summed_by, tried_if_whole, tried_sum, tried_sums, with_sum, with_sums}
 use Rattle.rule_book.specs.Facts.{Facts}
 use Rattle.rule_book.specs.Signals.{KeyedValue, by_both, by_mine, by_peers, formless_one, join_in, joined_by, joins_counted, judged_in, judged_options, keyed_by, keyed_each, keyed_one, keyed_seen, signalled, signalled_one, told_formless, told_verdict}
-use Rattle.rule_book.specs.Stream.{acked_each, acked_one, behind_acks, failed_each, failed_one, mapped_each, mapped_one, mapped_with, summed, told_in, within_each, within_found, within_one}
-use Rattle.judge_laws.specs.GoesOn.{GoesOn}
-use Rattle.judge_laws.proofs.GoesOn.{goes_counted, goes_found, goes_same, goes_tell, goes_then}
+use Rattle.rule_book.specs.Stream.{acked_each, acked_one, behind_acks, failed_each, failed_one, fin_taken, mapped_each, mapped_one, mapped_with, summed, told_in, within_each, within_found, within_one}
 
--- ---- `form`
+-- ---- each step keeps it
 
-formless_goes : (packet : ℕ) (option : SeenValue) (s : StreamValue) → GoesOn s (formless_one packet option s)
-formless_goes packet (Formless octets) s = goes_tell rule.Form packet (NoOption octets) s
-formless_goes packet (Readable option) s = goes_same s
+-- of a stream: rules that are told broken, and counts
+pub record TellingKeeps (P : StreamValue → Type 0) : Type 0 where
+  pub tells : (rule : Rule) (packet : ℕ) (fault : FaultValue) (s : StreamValue) → P s → P (tell rule packet fault s)
+  pub counts : (s : StreamValue) (keys joins mappings sums data_acks : ℕ) → P s
+      → P (record s { keys = keys; joins = joins; mappings = mappings; sums = sums; data_acks = data_acks })
 
-pub told_formless_goes : (packet : ℕ) (options : List SeenValue) (s : StreamValue) → GoesOn s (told_formless packet options s)
-told_formless_goes packet [] s = goes_same s
-told_formless_goes packet (option ∷ options) s =
-    goes_then s (formless_one packet option s) (told_formless packet options (formless_one packet option s))
-    (formless_goes packet option s) (told_formless_goes packet options (formless_one packet option s))
+-- of a stream and a lane: Data ACKs
+pub record AcksKeep (Q : StreamValue → LaneValue → Type 0) : Type 0 where
+  pub telling : (l : LaneValue) → TellingKeeps (λ (s : StreamValue). Q s l)
+  pub acks : (place : ℕ) (s : StreamValue) (l : LaneValue) → Q s l
+      → Q (record s { acknowledged = max s.acknowledged place }) (record l { acknowledged = max l.acknowledged place })
 
--- ---- `keys`
+-- all, where place 0 has the number `first`
+pub record StepsKeep (first : Option ℕ) (Q : StreamValue → LaneValue → Type 0) : Type 0 where
+  pub acks : AcksKeep Q
+  pub ends : (position : ℕ) (s : StreamValue) (l : LaneValue) → Q s l → Q s (with_fin position l)
+  pub maps : (teller : Teller) (offer : Offer) (position : ℤ) (place : ℕ) (s : StreamValue) (l : LaneValue)
+      → finite_fault teller s l offer position place ≡ None → Q s l
+      → Q (with_mapping teller.packet (told_mapping offer position place) s) (with_places (run_of teller.packet (told_mapping offer position place)) l)
+  pub lines : (teller : Teller) (place : ℕ) (line : Line) (s : StreamValue) (l : LaneValue) → Q s l
+      → Q (record (started place s) { infinite = Some (infinite_after s.infinite teller line.place) }) (record l { line = Some line })
+  pub fins : (packet : ℕ) (s : StreamValue) (l : LaneValue) → Q s l → Q (ended_by_fin l packet s) l
+  pub pays : (payload : PayloadValue) (packet : ℕ) (s : StreamValue) (l : LaneValue) → Q s l → Q s (with_payload payload packet l)
+  pub shows : (acknowledged packet p place : ℕ) (octet : Option ℕ) (s : StreamValue) (l : LaneValue) → place_of l p ≡ Some place → Q s l
+      → Q (shown acknowledged packet place 1 (as_part octet) s) l
+  pub sums : (packet known : ℕ) (mapping : ToldMapping) (s : StreamValue) (l : LaneValue) → first ≡ Some known → is_some mapping.checksum ≡ true → Q s l
+      → Q s (with_sum packet mapping l)
+  pub tries : (packet known : ℕ) (s : StreamValue) (l : LaneValue) → first ≡ Some known → Q s l
+      → Q (tried_sums packet known l.octet l.waiting s) (still_waiting l)
 
-keys_counted_goes : (s : StreamValue) → GoesOn s (record s { keys = counted s.keys })
-keys_counted_goes s = goes_counted s (counted s.keys) s.joins s.mappings s.sums s.data_acks
+-- ---- options that tell of the stream alone
 
-keyed_by_goes : (v : Verdict) (facts : Facts) (option : OptionValue) (told : CapableKeys) (state : KeyedValue)
-    → GoesOn state.stream (keyed_by v facts option told state).stream
-keyed_by_goes verdict.PassedOver facts option told state = goes_same state.stream
-keyed_by_goes verdict.Kept facts option told state = keys_counted_goes state.stream
-keyed_by_goes (verdict.Broke finding) facts option told state =
-    let s : StreamValue = record state.stream { keys = counted state.stream.keys } in
-    goes_then state.stream s (keyed_by (verdict.Broke finding) facts option told state).stream (keys_counted_goes state.stream)
-    (goes_tell rule.Keys facts.packet (Found finding) s)
+module _ {P : StreamValue → Type 0} (keep : TellingKeeps P) where
+  formless_one_so : (packet : ℕ) (option : SeenValue) (s : StreamValue) → P s → P (formless_one packet option s)
+  formless_one_so packet (Formless octets) s h = keep.tells rule.Form packet (NoOption octets) s h
+  formless_one_so packet (Readable option) s h = h
 
-keyed_one_goes : (facts : Facts) (option : OptionValue) (state : KeyedValue) → GoesOn state.stream (keyed_one facts option state).stream
-keyed_one_goes facts (Capable flag_a flag_c told) state =
-    keyed_by_goes (judged_in facts.flow.opening facts.side state.keys told) facts (Capable flag_a flag_c told) told state
-keyed_one_goes facts option state = goes_same state.stream
+  pub formless_so : (packet : ℕ) (options : List SeenValue) (s : StreamValue) → P s → P (told_formless packet options s)
+  formless_so packet [] s h = h
+  formless_so packet (option ∷ options) s h = formless_so packet options (formless_one packet option s) (formless_one_so packet option s h)
 
-keyed_seen_goes : (facts : Facts) (option : SeenValue) (state : KeyedValue) → GoesOn state.stream (keyed_seen facts option state).stream
-keyed_seen_goes facts (Readable option) state = keyed_one_goes facts option state
-keyed_seen_goes facts (Formless octets) state = goes_same state.stream
+  keyed_by_so : (v : Verdict) (facts : Facts) (option : OptionValue) (told : CapableKeys) (state : KeyedValue)
+      → P state.stream → P (keyed_by v facts option told state).stream
+  keyed_by_so verdict.PassedOver facts option told state h = h
+  keyed_by_so verdict.Kept facts option told state h =
+      let s = state.stream in keep.counts s (counted s.keys) s.joins s.mappings s.sums s.data_acks h
+  keyed_by_so (verdict.Broke finding) facts option told state h =
+      let s = state.stream in
+      keep.tells rule.Keys facts.packet (Found finding) (record s { keys = counted s.keys })
+      (keep.counts s (counted s.keys) s.joins s.mappings s.sums s.data_acks h)
 
-keyed_goes : (facts : Facts) (options : List SeenValue) (state : KeyedValue) → GoesOn state.stream (keyed_each facts options state).stream
-keyed_goes facts [] state = goes_same state.stream
-keyed_goes facts (option ∷ options) state =
-    goes_then state.stream (keyed_seen facts option state).stream (keyed_each facts options (keyed_seen facts option state)).stream
-    (keyed_seen_goes facts option state) (keyed_goes facts options (keyed_seen facts option state))
+  keyed_one_so : (facts : Facts) (option : OptionValue) (state : KeyedValue) → P state.stream → P (keyed_one facts option state).stream
+  keyed_one_so facts (Capable flag_a flag_c told) state h =
+      keyed_by_so (judged_in facts.flow.opening facts.side state.keys told) facts (Capable flag_a flag_c told) told state h
+  keyed_one_so facts option state h = h
 
--- ---- HMACs and the key of MP_FASTCLOSE
+  keyed_seen_so : (facts : Facts) (option : SeenValue) (state : KeyedValue) → P state.stream → P (keyed_seen facts option state).stream
+  keyed_seen_so facts (Readable option) state h = keyed_one_so facts option state h
+  keyed_seen_so facts (Formless octets) state h = h
 
-verdict_goes : (which : Rule) (packet : ℕ) (v : Verdict) (s : StreamValue) → GoesOn s (told_verdict which packet v s)
-verdict_goes which packet (verdict.Broke finding) s = goes_tell which packet (Found finding) s
-verdict_goes which packet verdict.PassedOver s = goes_same s
-verdict_goes which packet verdict.Kept s = goes_same s
+  keyed_so : (facts : Facts) (options : List SeenValue) (state : KeyedValue) → P state.stream → P (keyed_each facts options state).stream
+  keyed_so facts [] state h = h
+  keyed_so facts (option ∷ options) state h = keyed_so facts options (keyed_seen facts option state) (keyed_seen_so facts option state h)
 
-joins_counted_goes : (v : Verdict) (s : StreamValue) → GoesOn s (joins_counted v s)
-joins_counted_goes verdict.PassedOver s = goes_same s
-joins_counted_goes v s = goes_counted s s.keys (counted s.joins) s.mappings s.sums s.data_acks
+  verdict_so : (which : Rule) (packet : ℕ) (v : Verdict) (s : StreamValue) → P s → P (told_verdict which packet v s)
+  verdict_so which packet (verdict.Broke finding) s h = keep.tells which packet (Found finding) s h
+  verdict_so which packet verdict.PassedOver s h = h
+  verdict_so which packet verdict.Kept s h = h
 
-joined_goes : (v : Verdict) (packet : ℕ) (s : StreamValue) → GoesOn s (joined_by v packet s)
-joined_goes v packet s =
-    goes_then s (joins_counted v s) (joined_by v packet s) (joins_counted_goes v s) (verdict_goes rule.JoinHmac packet v (joins_counted v s))
+  joins_counted_so : (v : Verdict) (s : StreamValue) → P s → P (joins_counted v s)
+  joins_counted_so verdict.PassedOver s h = h
+  joins_counted_so v s h = keep.counts s s.keys (counted s.joins) s.mappings s.sums s.data_acks h
 
-both_goes : (mine peers : ℕ) (facts : Facts) (option : OptionValue) (s : StreamValue) → GoesOn s (by_both mine peers facts option s)
-both_goes mine peers facts option s =
-    let joined = joined_by (join_in facts.flow.opening facts mine peers option) facts.packet s in
-    goes_then s joined (by_both mine peers facts option s) (joined_goes (join_in facts.flow.opening facts mine peers option) facts.packet s)
-    (verdict_goes rule.AddressHmac facts.packet (judged_address mine peers option) joined)
+  both_so : (mine peers : ℕ) (facts : Facts) (option : OptionValue) (s : StreamValue) → P s → P (by_both mine peers facts option s)
+  both_so mine peers facts option s h =
+      let v = join_in facts.flow.opening facts mine peers option in
+      verdict_so rule.AddressHmac facts.packet (judged_address mine peers option) (joined_by v facts.packet s)
+      (verdict_so rule.JoinHmac facts.packet v (joins_counted v s) (joins_counted_so v s h))
 
-mine_goes : (mine : Option ℕ) (peers : ℕ) (facts : Facts) (option : OptionValue) (s : StreamValue) → GoesOn s (by_mine mine peers facts option s)
-mine_goes None peers facts option s = goes_same s
-mine_goes (Some mine) peers facts option s = both_goes mine peers facts option s
+  mine_so : (mine : Option ℕ) (peers : ℕ) (facts : Facts) (option : OptionValue) (s : StreamValue) → P s → P (by_mine mine peers facts option s)
+  mine_so None peers facts option s h = h
+  mine_so (Some mine) peers facts option s h = both_so mine peers facts option s h
 
-peers_goes : (peers mine : Option ℕ) (facts : Facts) (option : OptionValue) (s : StreamValue) → GoesOn s (by_peers peers mine facts option s)
-peers_goes None mine facts option s = goes_same s
-peers_goes (Some peers) mine facts option s =
-    goes_then s (by_mine mine peers facts option s) (by_peers (Some peers) mine facts option s) (mine_goes mine peers facts option s)
-    (verdict_goes rule.FastCloseKey facts.packet (judged_fast_close peers option) (by_mine mine peers facts option s))
+  peers_so : (peers mine : Option ℕ) (facts : Facts) (option : OptionValue) (s : StreamValue) → P s → P (by_peers peers mine facts option s)
+  peers_so None mine facts option s h = h
+  peers_so (Some peers) mine facts option s h =
+      verdict_so rule.FastCloseKey facts.packet (judged_fast_close peers option) (by_mine mine peers facts option s) (mine_so mine peers facts option s h)
 
-signalled_goes : (facts : Facts) (known : Keys) (options : List OptionValue) (s : StreamValue) → GoesOn s (signalled facts known options s)
-signalled_goes facts known [] s = goes_same s
-signalled_goes facts known (option ∷ options) s =
-    goes_then s (signalled_one facts known option s) (signalled facts known options (signalled_one facts known option s))
-    (peers_goes (key_of (peer facts.side) known) (key_of facts.side known) facts option s)
-    (signalled_goes facts known options (signalled_one facts known option s))
+  signalled_so : (facts : Facts) (known : Keys) (options : List OptionValue) (s : StreamValue) → P s → P (signalled facts known options s)
+  signalled_so facts known [] s h = h
+  signalled_so facts known (option ∷ options) s h =
+      signalled_so facts known options (signalled_one facts known option s)
+      (peers_so (key_of (peer facts.side) known) (key_of facts.side known) facts option s h)
 
-pub options_go : (facts : Facts) (options : List SeenValue) (state : KeyedValue) → GoesOn state.stream (judged_options facts options state).stream
-options_go facts options state =
-    let made = keyed_each facts options state in
-    goes_then state.stream made.stream (judged_options facts options state).stream (keyed_goes facts options state)
-    (signalled_goes facts made.keys made.options made.stream)
+  pub options_so : (facts : Facts) (options : List SeenValue) (state : KeyedValue) → P state.stream → P (judged_options facts options state).stream
+  options_so facts options state h =
+      let made = keyed_each facts options state in
+      signalled_so facts made.keys made.options made.stream (keyed_so facts options state h)
 
--- ---- `mapping`, `infinite` and `data-fin`
+  found_so : (which : Rule) (packet : ℕ) (finding : Option Finding) (s : StreamValue) → P s → P (tell_found which packet finding s)
+  found_so which packet None s h = h
+  found_so which packet (Some finding) s h = keep.tells which packet (Found finding) s h
 
-fin_stays : (old : Option ToldPlace) (fin : Bool) (end packet : ℕ) (t : ToldPlace) → old ≡ Some t → fin_after old fin end packet ≡ Some t
-fin_stays (Some told) fin end packet t h = h
-fin_stays None fin end packet t h = cc
+  pub within_so : (facts : Facts) (position : ℕ) (mappings : List ToldMapping) (s : StreamValue) → P s → P (within_each facts position mappings s)
+  within_so facts position [] s h = h
+  within_so facts position (mapping ∷ mappings) s h =
+      within_so facts position mappings (within_one facts position mapping s) (found_so rule.Within facts.packet (within_found facts position mapping) s h)
 
-mapping_goes : (packet : ℕ) (mapping : ToldMapping) (s : StreamValue) → GoesOn s (with_mapping packet mapping s)
-mapping_goes packet mapping s = record {
-  octets = λ p o h. h;
-  seen = λ p h. h;
-  mapped = omega arith;
-  fin = λ t h. fin_stays s.fin mapping.fin (mapping.place + octets_of mapping) packet t h;
-  acknowledged = omega arith;
-  broken = λ r h. h;
-}
+  tried_if_so : (b : Bool) (packet first : ℕ) (octet : ℕ → Option Octet) (waiting : Waiting) (s : StreamValue) → P s
+      → P (if b then tried_sum packet first octet waiting s else s)
+  tried_if_so true packet first octet waiting s h =
+      found_so rule.DssSum packet (sum_fault first octet waiting) (record s { sums = counted s.sums })
+      (keep.counts s s.keys s.joins s.mappings (counted s.sums) s.data_acks h)
+  tried_if_so false packet first octet waiting s h = h
 
-broken_goes : (packet : ℕ) (broke : Broke) (state : Mapped) → GoesOn state.stream (broken_by packet broke state).stream
-broken_goes packet broke state = goes_tell broke.rule packet (Found broke.finding) state.stream
+  pub tried_so : (packet first : ℕ) (octet : ℕ → Option Octet) (waiting : List Waiting) (s : StreamValue) → P s → P (tried_sums packet first octet waiting s)
+  tried_so packet first octet [] s h = h
+  tried_so packet first octet (one ∷ waiting) s h =
+      tried_so packet first octet waiting (tried_if_whole packet first octet one s) (tried_if_so (is_whole octet one) packet first octet one s h)
 
-finite_by_goes : (fault : Option Broke) (packet : ℕ) (mapping : ToldMapping) (state : Mapped) → GoesOn state.stream (finite_by fault packet mapping state).stream
-finite_by_goes (Some broke) packet mapping state = broken_goes packet broke state
-finite_by_goes None packet mapping state = mapping_goes packet mapping state.stream
+  failed_with_so : (b : Bool) (packet number : ℕ) (s : StreamValue) → P s → P (if b then s else tell rule.Fail packet (Found (NoMapping number)) s)
+  failed_with_so true packet number s h = h
+  failed_with_so false packet number s h = keep.tells rule.Fail packet (Found (NoMapping number)) s h
 
-finite_at_goes : (place : Option ℕ) (teller : Teller) (offer : Offer) (position : ℤ) (state : Mapped)
-    → GoesOn state.stream (finite_at place teller offer position state).stream
-finite_at_goes None teller offer position state = goes_tell rule.Mapping teller.packet (Found (NoPlace (told_number offer.number))) state.stream
-finite_at_goes (Some place) teller offer position state =
-    finite_by_goes (finite_fault teller state.stream state.lane offer position place) teller.packet (told_mapping offer position place) state
+  failed_one_so : (packet first : ℕ) (peers : StreamValue) (option : OptionValue) (s : StreamValue) → P s → P (failed_one packet first peers option s)
+  failed_one_so packet first peers (Fail number) s h = failed_with_so (peers.starts (named_place first number)) packet number s h
+  failed_one_so packet first peers option s h = h
 
-finite_goes : (teller : Teller) (offer : Offer) (position : ℤ) (state : Mapped) → GoesOn state.stream (finite teller offer position state).stream
-finite_goes teller offer position state =
-    let s = state.stream in
-    goes_then s (one_more state).stream (finite teller offer position state).stream (goes_counted s s.keys s.joins (counted s.mappings) s.sums s.data_acks)
-    (finite_at_goes (mapped_place teller.first s.top offer) teller offer position (one_more state))
+  pub failed_so : (packet first : ℕ) (peers : StreamValue) (options : List OptionValue) (s : StreamValue) → P s → P (failed_each packet first peers options s)
+  failed_so packet first peers [] s h = h
+  failed_so packet first peers (option ∷ options) s h =
+      failed_so packet first peers options (failed_one packet first peers option s) (failed_one_so packet first peers option s h)
 
-line_goes : (teller : Teller) (place : ℕ) (line : Line) (state : Mapped) → GoesOn state.stream (with_line teller place line state).stream
-line_goes teller place line state = record {
-  octets = λ p o h. h;
-  seen = λ p h. h;
-  mapped = omega arith;
-  fin = λ t h. h;
-  acknowledged = omega arith;
-  broken = λ r h. h;
-}
+-- ---- what tells of positions
 
-infinite_by_goes : (fault : Option Finding) (teller : Teller) (position : ℤ) (place : ℕ) (state : Mapped)
-    → GoesOn state.stream (infinite_by fault teller position place state).stream
-infinite_by_goes (Some finding) teller position place state = goes_tell rule.Infinite teller.packet (Found finding) state.stream
-infinite_by_goes None teller position place state = line_goes teller place (lowest_line state.lane.line position place) state
+module _ {first : Option ℕ} {Q : StreamValue → LaneValue → Type 0} (keep : StepsKeep first Q) where
+  abbrev Holds : Mapped → Type 0
+  Holds state = Q state.stream state.lane
 
-infinite_at_goes : (place : Option ℕ) (teller : Teller) (offer : Offer) (position : ℤ) (state : Mapped)
-    → GoesOn state.stream (infinite_at place teller offer position state).stream
-infinite_at_goes None teller offer position state = goes_tell rule.Mapping teller.packet (Found (NoPlace (told_number offer.number))) state.stream
-infinite_at_goes (Some place) teller offer position state =
-    infinite_by_goes (line_fault state.stream.infinite teller.flow state.lane.line position place) teller position place state
+  finite_by_so : (fault : Option Broke) (teller : Teller) (offer : Offer) (position : ℤ) (place : ℕ) (state : Mapped)
+      → finite_fault teller state.stream state.lane offer position place ≡ fault → Holds state
+      → Holds (finite_by fault teller.packet (told_mapping offer position place) state)
+  finite_by_so (Some broke) teller offer position place state e h =
+      (keep.acks.telling state.lane).tells broke.rule teller.packet (Found broke.finding) state.stream h
+  finite_by_so None teller offer position place state e h = keep.maps teller offer position place state.stream state.lane e h
 
-mapped_at_goes : (teller : Teller) (offer : Offer) (position : ℤ) (state : Mapped) → GoesOn state.stream (mapped_at teller offer position state).stream
-mapped_at_goes teller offer position state = by (offer.length == 0)
-  where
-    by : (b : Bool) → GoesOn state.stream (if b then infinite_at (place_near teller.first state.stream.top offer.number) teller offer position state
-        else finite teller offer position state).stream
-    by true = infinite_at_goes (place_near teller.first state.stream.top offer.number) teller offer position state
-    by false = finite_goes teller offer position state
+  without_so : (teller : Teller) (offer : Offer) (s : StreamValue) (l : LaneValue) → Q s l
+      → Q (tell rule.Mapping teller.packet (Found (NoPlace (told_number offer.number))) s) l
+  without_so teller offer s l h = (keep.acks.telling l).tells rule.Mapping teller.packet (Found (NoPlace (told_number offer.number))) s h
 
-mapped_one_goes : (teller : Teller) (position : ℕ) (offer : Option Offer) (state : Mapped) → GoesOn state.stream (mapped_one teller position offer state).stream
-mapped_one_goes teller position None state = goes_same state.stream
-mapped_one_goes teller position (Some offer) state = mapped_at_goes teller offer (position_near position offer.relative) state
+  finite_at_so : (place : Option ℕ) (teller : Teller) (offer : Offer) (position : ℤ) (state : Mapped) → Holds state
+      → Holds (finite_at place teller offer position state)
+  finite_at_so None teller offer position state h = without_so teller offer state.stream state.lane h
+  finite_at_so (Some place) teller offer position state h =
+      finite_by_so (finite_fault teller state.stream state.lane offer position place) teller offer position place state refl h
 
-mapped_each_goes : (teller : Teller) (position : ℕ) (options : List OptionValue) (state : Mapped)
-    → GoesOn state.stream (mapped_each teller position options state).stream
-mapped_each_goes teller position [] state = goes_same state.stream
-mapped_each_goes teller position (option ∷ options) state =
-    let next = mapped_one teller position (offer_of teller.first option) state in
-    goes_then state.stream next.stream (mapped_each teller position options next).stream
-    (mapped_one_goes teller position (offer_of teller.first option) state) (mapped_each_goes teller position options next)
+  infinite_by_so : (fault : Option Finding) (teller : Teller) (position : ℤ) (place : ℕ) (state : Mapped) → Holds state
+      → Holds (infinite_by fault teller position place state)
+  infinite_by_so (Some finding) teller position place state h =
+      (keep.acks.telling state.lane).tells rule.Infinite teller.packet (Found finding) state.stream h
+  infinite_by_so None teller position place state h = keep.lines teller place (lowest_line state.lane.line position place) state.stream state.lane h
 
-pub mapped_goes : (facts : Facts) (first : Option ℕ) (position : ℕ) (options : List OptionValue) (state : Mapped)
-    → GoesOn state.stream (mapped_with facts first position options state).stream
-mapped_goes facts None position options state = goes_same state.stream
-mapped_goes facts (Some first) position options state = mapped_each_goes (told_in facts first) position options state
+  infinite_at_so : (place : Option ℕ) (teller : Teller) (offer : Offer) (position : ℤ) (state : Mapped) → Holds state
+      → Holds (infinite_at place teller offer position state)
+  infinite_at_so None teller offer position state h = without_so teller offer state.stream state.lane h
+  infinite_at_so (Some place) teller offer position state h =
+      infinite_by_so (line_fault state.stream.infinite teller.flow state.lane.line position place) teller position place state h
 
--- ---- `within`, and the end under an infinite mapping
+  mapped_at_so : (teller : Teller) (offer : Offer) (position : ℤ) (state : Mapped) → Holds state → Holds (mapped_at teller offer position state)
+  mapped_at_so teller offer position state h = by (offer.length == 0)
+    where
+      s : StreamValue
+      s = state.stream
 
-pub within_goes : (facts : Facts) (position : ℕ) (mappings : List ToldMapping) (s : StreamValue) → GoesOn s (within_each facts position mappings s)
-within_goes facts position [] s = goes_same s
-within_goes facts position (mapping ∷ mappings) s =
-    goes_then s (within_one facts position mapping s) (within_each facts position mappings (within_one facts position mapping s))
-    (goes_found rule.Within facts.packet (within_found facts position mapping) s)
-    (within_goes facts position mappings (within_one facts position mapping s))
+      by : (b : Bool) → Holds (if b then infinite_at (place_near teller.first s.top offer.number) teller offer position state
+          else finite teller offer position state)
+      by true = infinite_at_so (place_near teller.first s.top offer.number) teller offer position state h
+      by false =
+          finite_at_so (mapped_place teller.first s.top offer) teller offer position (one_more state)
+          ((keep.acks.telling state.lane).counts s s.keys s.joins (counted s.mappings) s.sums s.data_acks h)
 
-told_stays : (old : Option ToldPlace) (line : Option Line) (fin : Option ℕ) (packet : ℕ) (t : ToldPlace) → old ≡ Some t → fin_told old line fin packet ≡ Some t
-told_stays (Some told) line fin packet t h = h
-told_stays None line fin packet t h = cc
+  mapped_one_so : (teller : Teller) (position : ℕ) (offer : Option Offer) (state : Mapped) → Holds state → Holds (mapped_one teller position offer state)
+  mapped_one_so teller position None state h = h
+  mapped_one_so teller position (Some offer) state h = mapped_at_so teller offer (position_near position offer.relative) state h
 
-pub ended_goes : (lane : LaneValue) (packet : ℕ) (s : StreamValue) → GoesOn s (ended_by_fin lane packet s)
-ended_goes lane packet s = record {
-  octets = λ p o h. h;
-  seen = λ p h. h;
-  mapped = omega arith;
-  fin = λ t h. told_stays s.fin lane.line lane.fin packet t h;
-  acknowledged = omega arith;
-  broken = λ r h. h;
-}
+  mapped_each_so : (teller : Teller) (position : ℕ) (options : List OptionValue) (state : Mapped) → Holds state
+      → Holds (mapped_each teller position options state)
+  mapped_each_so teller position [] state h = h
+  mapped_each_so teller position (option ∷ options) state h =
+      mapped_each_so teller position options (mapped_one teller position (offer_of teller.first option) state)
+      (mapped_one_so teller position (offer_of teller.first option) state h)
 
--- ---- `dss-sum`
+  pub mapped_so : (facts : Facts) (known : Option ℕ) (position : ℕ) (options : List OptionValue) (state : Mapped) → Holds state
+      → Holds (mapped_with facts known position options state)
+  mapped_so facts None position options state h = h
+  mapped_so facts (Some known) position options state h = mapped_each_so (told_in facts known) position options state h
 
-tried_sum_goes : (packet first : ℕ) (octet : ℕ → Option Octet) (waiting : Waiting) (s : StreamValue) → GoesOn s (tried_sum packet first octet waiting s)
-tried_sum_goes packet first octet waiting s =
-    let tried : StreamValue = record s { sums = counted s.sums } in
-    goes_then s tried (tried_sum packet first octet waiting s) (goes_counted s s.keys s.joins s.mappings (counted s.sums) s.data_acks)
-    (goes_found rule.DssSum packet (sum_fault first octet waiting) tried)
+  pub taken_so : (facts : Facts) (position : ℕ) (s : StreamValue) (l : LaneValue) → Q s l → Q s (fin_taken facts position l)
+  taken_so facts position s l h = by facts.seen.segment.head.fin
+    where
+      by : (b : Bool) → Q s (if b then with_fin (position + facts.seen.payload_len) l else l)
+      by true = keep.ends (position + facts.seen.payload_len) s l h
+      by false = h
 
-tried_one_goes : (packet first : ℕ) (octet : ℕ → Option Octet) (waiting : Waiting) (s : StreamValue) → GoesOn s (tried_if_whole packet first octet waiting s)
-tried_one_goes packet first octet waiting s = by (is_whole octet waiting)
-  where
-    by : (b : Bool) → GoesOn s (if b then tried_sum packet first octet waiting s else s)
-    by true = tried_sum_goes packet first octet waiting s
-    by false = goes_same s
+  at_place_so : (acknowledged packet p : ℕ) (comes : Option (Option ℕ)) (place : Option ℕ) (s : StreamValue) (l : LaneValue) → place_of l p ≡ place → Q s l
+      → Q (at_place acknowledged packet comes place s) l
+  at_place_so acknowledged packet p None place s l e h = h
+  at_place_so acknowledged packet p (Some octet) None s l e h = h
+  at_place_so acknowledged packet p (Some octet) (Some place) s l e h = keep.shows acknowledged packet p place octet s l e h
 
-tried_goes : (packet first : ℕ) (octet : ℕ → Option Octet) (waiting : List Waiting) (s : StreamValue) → GoesOn s (tried_sums packet first octet waiting s)
-tried_goes packet first octet [] s = goes_same s
-tried_goes packet first octet (one ∷ waiting) s =
-    goes_then s (tried_if_whole packet first octet one s) (tried_sums packet first octet waiting (tried_if_whole packet first octet one s))
-    (tried_one_goes packet first octet one s) (tried_goes packet first octet waiting (tried_if_whole packet first octet one s))
+  pub shown_so : (comes : ℕ → Option (Option ℕ)) (acknowledged packet p n : ℕ) (s : StreamValue) (l : LaneValue) → Q s l
+      → Q (shown_from (place_of l) comes acknowledged packet p n s) l
+  shown_so comes acknowledged packet p zero s l h = h
+  shown_so comes acknowledged packet p (suc n) s l h =
+      shown_so comes acknowledged packet (p + 1) n (at_place acknowledged packet (comes p) (place_of l p) s) l
+      (at_place_so acknowledged packet p (comes p) (place_of l p) s l refl h)
 
-pub summed_goes : (facts : Facts) (first : Option ℕ) (learnt : List ToldMapping) (acked : Acked) → GoesOn acked.stream (summed facts first learnt acked).stream
-summed_goes facts None learnt acked = goes_same acked.stream
-summed_goes facts (Some first) learnt acked =
-    let lane = with_sums facts.packet learnt acked.lane in
-    tried_goes facts.packet first lane.octet lane.waiting acked.stream
+  summed_by_so : (packet known : ℕ) (mapping : ToldMapping) (s : StreamValue) (l : LaneValue) → first ≡ Some known → Q s l → Q s (summed_by packet mapping l)
+  summed_by_so packet known mapping s l is h = by (is_some mapping.checksum) refl
+    where
+      by : (b : Bool) → is_some mapping.checksum ≡ b → Q s (if b then with_sum packet mapping l else l)
+      by true e = keep.sums packet known mapping s l is e h
+      by false e = h
 
--- ---- `data-ack` and `fail`
+  with_sums_so : (packet known : ℕ) (mappings : List ToldMapping) (s : StreamValue) (l : LaneValue) → first ≡ Some known → Q s l → Q s (with_sums packet mappings l)
+  with_sums_so packet known [] s l is h = h
+  with_sums_so packet known (mapping ∷ mappings) s l is h =
+      with_sums_so packet known mappings s (summed_by packet mapping l) is (summed_by_so packet known mapping s l is h)
 
-acked_by_goes : (place : Result ℕ Finding) (packet : ℕ) (acked : Acked) → GoesOn acked.stream (acked_by place packet acked).stream
-acked_by_goes (Err finding) packet acked = goes_tell rule.DataAck packet (Found finding) acked.stream
-acked_by_goes (Ok place) packet acked = record {
-  octets = λ p o h. h;
-  seen = λ p h. h;
-  mapped = omega arith;
-  fin = λ t h. h;
-  acknowledged = omega arith;
-  broken = λ r h. h;
-}
+  pub summed_so : (facts : Facts) (known : Option ℕ) (learnt : List ToldMapping) (acked : Acked) → first ≡ known → Q acked.stream acked.lane
+      → Q (summed facts known learnt acked).stream (summed facts known learnt acked).lane
+  summed_so facts None learnt acked e h = h
+  summed_so facts (Some known) learnt acked e h =
+      keep.tries facts.packet known acked.stream (with_sums facts.packet learnt acked.lane) e
+      (with_sums_so facts.packet known learnt acked.stream acked.lane e h)
 
-acked_with_goes : (at_sender : Bool) (packet first : ℕ) (peers : StreamValue) (number : DataNumber) (acked : Acked)
-    → GoesOn acked.stream (acked_with at_sender packet first peers number acked).stream
-acked_with_goes at_sender packet first peers number acked =
-    let s = acked.stream in
-    goes_then s (ack_counted acked).stream (acked_with at_sender packet first peers number acked).stream
-    (goes_counted s s.keys s.joins s.mappings s.sums (counted s.data_acks))
-    (acked_by_goes (ack_place (ack_facts at_sender first peers acked.lane) number) packet (ack_counted acked))
+-- ---- Data ACKs
 
-acked_one_goes : (facts : Facts) (first : ℕ) (peers : StreamValue) (option : OptionValue) (acked : Acked)
-    → GoesOn acked.stream (acked_one facts first peers option acked).stream
-acked_one_goes facts first peers (Dss (Some number) mapping fin) acked = acked_with_goes facts.at_sender facts.packet first peers number acked
-acked_one_goes facts first peers option acked = goes_same acked.stream
+module _ {Q : StreamValue → LaneValue → Type 0} (keep : AcksKeep Q) where
+  acked_by_so : (place : Result ℕ Finding) (packet : ℕ) (acked : Acked) → Q acked.stream acked.lane
+      → Q (acked_by place packet acked).stream (acked_by place packet acked).lane
+  acked_by_so (Err finding) packet acked h = (keep.telling acked.lane).tells rule.DataAck packet (Found finding) acked.stream h
+  acked_by_so (Ok place) packet acked h = keep.acks place acked.stream acked.lane h
 
-pub acked_each_goes : (facts : Facts) (first : ℕ) (peers : StreamValue) (options : List OptionValue) (acked : Acked)
-    → GoesOn acked.stream (acked_each facts first peers options acked).stream
-acked_each_goes facts first peers [] acked = goes_same acked.stream
-acked_each_goes facts first peers (option ∷ options) acked =
-    let next = acked_one facts first peers option acked in
-    goes_then acked.stream next.stream (acked_each facts first peers options next).stream
-    (acked_one_goes facts first peers option acked) (acked_each_goes facts first peers options next)
+  acked_one_so : (facts : Facts) (known : ℕ) (peers : StreamValue) (option : OptionValue) (acked : Acked) → Q acked.stream acked.lane
+      → Q (acked_one facts known peers option acked).stream (acked_one facts known peers option acked).lane
+  acked_one_so facts known peers (Dss (Some number) mapping fin) acked h =
+      let s = acked.stream in
+      acked_by_so (ack_place (ack_facts facts.at_sender known peers acked.lane) number) facts.packet (ack_counted acked)
+      ((keep.telling acked.lane).counts s s.keys s.joins s.mappings s.sums (counted s.data_acks) h)
+  acked_one_so facts known peers option acked h = h
 
-failed_with_goes : (packet first : ℕ) (peers : StreamValue) (number : ℕ) (s : StreamValue) → GoesOn s (failed_with packet first peers number s)
-failed_with_goes packet first peers number s = by (peers.starts (named_place first number))
-  where
-    by : (b : Bool) → GoesOn s (if b then s else tell rule.Fail packet (Found (NoMapping number)) s)
-    by true = goes_same s
-    by false = goes_tell rule.Fail packet (Found (NoMapping number)) s
+  pub acked_so : (facts : Facts) (known : ℕ) (peers : StreamValue) (options : List OptionValue) (acked : Acked) → Q acked.stream acked.lane
+      → Q (acked_each facts known peers options acked).stream (acked_each facts known peers options acked).lane
+  acked_so facts known peers [] acked h = h
+  acked_so facts known peers (option ∷ options) acked h =
+      acked_so facts known peers options (acked_one facts known peers option acked) (acked_one_so facts known peers option acked h)
 
-failed_one_goes : (packet first : ℕ) (peers : StreamValue) (option : OptionValue) (s : StreamValue) → GoesOn s (failed_one packet first peers option s)
-failed_one_goes packet first peers (Fail number) s = failed_with_goes packet first peers number s
-failed_one_goes packet first peers option s = goes_same s
-
-pub failed_each_goes : (packet first : ℕ) (peers : StreamValue) (options : List OptionValue) (s : StreamValue) → GoesOn s (failed_each packet first peers options s)
-failed_each_goes packet first peers [] s = goes_same s
-failed_each_goes packet first peers (option ∷ options) s =
-    goes_then s (failed_one packet first peers option s) (failed_each packet first peers options (failed_one packet first peers option s))
-    (failed_one_goes packet first peers option s) (failed_each_goes packet first peers options (failed_one packet first peers option s))
-
-pub acks_go : (facts : Facts) (first : Option ℕ) (peers : StreamValue) (options : List OptionValue) (acked : Acked)
-    → GoesOn acked.stream (behind_acks facts first peers options acked).stream
-acks_go facts None peers options acked = goes_same acked.stream
-acks_go facts (Some first) peers options acked =
-    let behind = acked_each facts first peers options acked in
-    goes_then acked.stream behind.stream (failed_each facts.packet first peers options behind.stream) (acked_each_goes facts first peers options acked)
-    (failed_each_goes facts.packet first peers options behind.stream)
+  pub acks_so : (facts : Facts) (known : Option ℕ) (peers : StreamValue) (options : List OptionValue) (acked : Acked) → Q acked.stream acked.lane
+      → Q (behind_acks facts known peers options acked).stream (behind_acks facts known peers options acked).lane
+  acks_so facts None peers options acked h = h
+  acks_so facts (Some known) peers options acked h =
+      let behind = acked_each facts known peers options acked in
+      failed_so (keep.telling behind.lane) facts.packet known peers options behind.stream (acked_so facts known peers options acked h)

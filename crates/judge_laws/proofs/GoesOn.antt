@@ -16,6 +16,7 @@ goes_same s = record {
   seen = λ p h. h;
   mapped = omega arith;
   fin = λ t h. h;
+  infinite = λ h. h;
   acknowledged = omega arith;
   broken = λ r h. h;
 }
@@ -26,6 +27,7 @@ goes_then a b c first next = record {
   seen = λ p h. next.seen p (first.seen p h);
   mapped = omega (arith, first.mapped, next.mapped);
   fin = λ t h. next.fin t (first.fin t h);
+  infinite = λ h. next.infinite (first.infinite h);
   acknowledged = omega (arith, first.acknowledged, next.acknowledged);
   broken = λ r h. next.broken r (first.broken r h);
 }
@@ -47,6 +49,7 @@ goes_tell rule packet fault s = record {
   seen = λ p h. h;
   mapped = omega arith;
   fin = λ t h. h;
+  infinite = λ h. h;
   acknowledged = omega arith;
   broken = λ r h. still_broke r (record { rule = rule; packet = packet; fault = fault }) s.broken h;
 }
@@ -62,6 +65,7 @@ goes_found rule packet finding s = record {
   seen = λ p h. h;
   mapped = omega arith;
   fin = λ t h. h;
+  infinite = λ h. h;
   acknowledged = omega arith;
   broken = λ r h. still_found r rule packet finding s.broken h;
 }
@@ -75,6 +79,7 @@ goes_counted s keys joins mappings sums data_acks = record {
   seen = λ p h. h;
   mapped = omega arith;
   fin = λ t h. h;
+  infinite = λ h. h;
   acknowledged = omega arith;
   broken = λ r h. h;
 }

@@ -14,7 +14,8 @@ use Rattle.capture_verdict.specs.Sent.{IsSent}
 use Rattle.judge_laws.specs.Acknowledges.{WasSeen}
 use Rattle.judge_laws.specs.Brings.{IsOf}
 use Rattle.judge_laws.specs.GoesOn.{GoesOn, StreamsGoOn, broke, stream_in}
-use Rattle.judge_laws.specs.Laws.{IsAcknowledged, IsBrought, has_octet, judged_first}
+use Rattle.judge_laws.specs.Behind.{judged_first}
+use Rattle.judge_laws.specs.Laws.{IsAcknowledged, IsBrought, has_octet}
 use Rattle.judge_laws.proofs.Books.{BooksGo, books_same, books_then, streams_go}
 use Rattle.judge_laws.proofs.Brought.{segment_acks, segment_brought, some_same, stream_there}
 use Rattle.judge_laws.proofs.Shown.{kept_before, known_later}

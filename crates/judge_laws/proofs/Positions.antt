@@ -21,10 +21,11 @@ use Rattle.rule_book.specs.Facts.{Facts, first_of, payload_at}
 use Rattle.rule_book.specs.Stream.{acked_each, acked_one, behind_acks, behind_payload, fin_taken, judged_at, mapped_with, summed, within_each}
 use Rattle.judge_laws.specs.Acknowledges.{WasSeen}
 use Rattle.judge_laws.specs.GoesOn.{GoesOn, broke}
-use Rattle.judge_laws.proofs.GoesOn.{goes_then}
+use Rattle.judge_laws.proofs.GoesOn.{goes_same}
 use Rattle.judge_laws.proofs.Acknowledged.{acks_seen}
-use Rattle.judge_laws.proofs.Folds.{acks_go, ended_goes, mapped_goes, summed_goes, within_goes}
-use Rattle.judge_laws.proofs.Shown.{from_goes, kept_before, known_later, octet_shown}
+use Rattle.judge_laws.proofs.Folds.{StepsKeep, acks_so, mapped_so, shown_so, summed_so, taken_so, within_so}
+use Rattle.judge_laws.proofs.Going.{acking, steps}
+use Rattle.judge_laws.proofs.Shown.{kept_before, known_later, octet_shown}
 
 and_first : (a b : Bool) → (a && b) ≡ true → a ≡ true
 and_first true b h = refl
@@ -87,7 +88,7 @@ acks_places facts (Some first) peers options acked p = acked_places facts first 
 -- ---- a segment at a position
 
 module _ (facts : Facts) (position : ℕ) (options : List OptionValue) (keys : Keys) (peers stream : StreamValue) (lane : LaneValue) where
-  abbrev mapped : Mapped
+  abbrev pub mapped : Mapped
   mapped = mapped_with facts (first_of facts.side keys) position options
       (record { stream = stream; lane = fin_taken facts position lane; learnt = []; has_line = false })
 
@@ -103,32 +104,39 @@ module _ (facts : Facts) (position : ℕ) (options : List OptionValue) (keys : K
   abbrev comings : ℕ → Option (Option ℕ)
   comings = comes payload (record mapped { stream = ended }) filled
 
-  abbrev behind : Acked
+  abbrev pub behind : Acked
   behind = behind_payload facts position peers.acknowledged mapped
 
-  abbrev tried : Acked
+  abbrev pub tried : Acked
   tried = summed facts (first_of facts.side keys) mapped.learnt behind
 
   abbrev last : Acked
   last = judged_at facts position options keys peers stream lane
 
-  payload_goes : GoesOn ended behind.stream
-  payload_goes = from_goes (place_of filled) comings peers.acknowledged facts.packet 1 (filled.top - 1) ended
+  -- what each step of a rule keeps holds behind the payload, and behind the segment
+  pub behind_so : {Q : StreamValue → LaneValue → Type 0} → StepsKeep (first_of facts.side keys) Q → Q stream lane → Q behind.stream behind.lane
+  behind_so keep h =
+      let first = first_of facts.side keys in
+      let start : Mapped = record { stream = stream; lane = fin_taken facts position lane; learnt = []; has_line = false } in
+      let within = within_each facts position mapped.learnt mapped.stream in
+      let told = within_so (keep.acks.telling mapped.lane) facts position mapped.learnt mapped.stream
+      (mapped_so keep facts first position options start (taken_so keep facts position stream lane h)) in
+      let paid = keep.pays payload facts.packet ended mapped.lane (keep.fins facts.packet within mapped.lane told) in
+      shown_so keep comings peers.acknowledged facts.packet 1 (filled.top - 1) ended filled paid
+
+  pub at_so : {Q : StreamValue → LaneValue → Type 0} → StepsKeep (first_of facts.side keys) Q → Q stream lane → Q last.stream last.lane
+  at_so keep h =
+      acks_so keep.acks facts (first_of (peer facts.side) keys) peers options tried
+      (summed_so keep facts (first_of facts.side keys) mapped.learnt behind refl (behind_so keep h))
 
   sums_go : GoesOn behind.stream last.stream
   sums_go =
-      goes_then behind.stream tried.stream last.stream (summed_goes facts (first_of facts.side keys) mapped.learnt behind)
-      (acks_go facts (first_of (peer facts.side) keys) peers options tried)
+      let first = first_of facts.side keys in
+      acks_so (acking behind.stream) facts (first_of (peer facts.side) keys) peers options tried
+      (summed_so (steps first behind.stream) facts first mapped.learnt behind refl (goes_same behind.stream))
 
   pub at_goes : GoesOn stream last.stream
-  at_goes =
-      let within = within_each facts position mapped.learnt mapped.stream in
-      goes_then stream mapped.stream last.stream
-      (mapped_goes facts (first_of facts.side keys) position options
-      (record { stream = stream; lane = fin_taken facts position lane; learnt = []; has_line = false }))
-      (goes_then mapped.stream within last.stream (within_goes facts position mapped.learnt mapped.stream)
-      (goes_then within ended last.stream (ended_goes mapped.lane facts.packet within)
-      (goes_then ended behind.stream last.stream payload_goes sums_go)))
+  at_goes = at_so (steps (first_of facts.side keys) stream) (goes_same stream)
 
   last_places : (p : ℕ) → place_of last.lane p ≡ place_of filled p
   last_places p =

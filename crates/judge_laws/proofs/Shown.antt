@@ -30,6 +30,7 @@ shown_goes acknowledged packet place count part s = record {
   seen = λ p h. or_left (s.seen p) (is_of place count p) h;
   mapped = omega arith;
   fin = λ t h. h;
+  infinite = λ h. h;
   acknowledged = omega arith;
   broken = λ r h. still_found r rule.PlaceContent packet (content_fault acknowledged s.octet place part) s.broken h;
 }

@@ -23,7 +23,7 @@ use Rattle.rule_book.specs.State.{BookValue, JudgedValue, LanesValue, stream_at,
 use Rattle.rule_book.specs.Stream.{Left, gap_counted, judged_at, judged_by, judged_from, judged_positions}
 use Rattle.rule_book.specs.Judged.{empty_book, grown, judged, judged_belonging, judged_by_flow, judged_flow, judged_formed, judged_in_flow, judged_known, judged_opened, judged_place, judged_taken, opened_facts, side_of, token_in, token_told, with_wrong_token}
 use Rattle.judge_laws.proofs.GoesOn.{goes_tell}
-use Rattle.judge_laws.proofs.Folds.{options_go, told_formless_goes}
+use Rattle.judge_laws.proofs.Going.{options_go, told_formless_goes}
 use Rattle.judge_laws.proofs.Positions.{at_goes}
 use Rattle.judge_laws.proofs.Books.{BookGoes, BooksGo, book_same, book_then, books_grown, books_same, books_set, books_then, counted_goes, stream_goes}
 
@@ -62,7 +62,7 @@ formed_goes at packet seen index flow None side options keys left = book_same le
 formed_goes at packet seen index flow (Some opened) side options keys left =
     opened_goes (opened_facts at packet seen index flow opened side) options keys left
 
-flow_goes : (at : Option Side) (packet : ℕ) (seen : Seen) (index : ℕ) (flow : Flow) (belongs : Belongs) (keys : Keys) (left : Left)
+pub flow_goes : (at : Option Side) (packet : ℕ) (seen : Seen) (index : ℕ) (flow : Flow) (belongs : Belongs) (keys : Keys) (left : Left)
     → BookGoes left.book (judged_flow at packet seen index flow belongs keys left).left.book
 flow_goes at packet seen index flow belongs keys left =
     let side = side_of flow belongs seen in

@@ -1,19 +1,24 @@
 -- What is told of a side, over the segments of a capture.
-use Rattle.std.specs.Prelude.{ℕ, ◌≡◌, ◌+◌, ◌<◌, Bool, false, Option, Some, option_map, List, ◌∷◌, ◌++◌, length, get_or}
+use Rattle.std.specs.Prelude.{ℕ, ◌≡◌, ◌+◌, ◌<◌, ◌||◌, Bool, true, false, Option, Some, None, option_map, List, ◌∷◌, ◌++◌, length, get_or}
 use Rattle.sides.specs.declared.side.Side.{Side}
 use Rattle.sides.specs.Side.{peer}
 use Rattle.mptcp_options.specs.declared.dss.DataNumber.{DataNumber}
 use Rattle.capture_reader.specs.Captured.{Captured}
 use Rattle.capture_reader.specs.Seen.{Seen, segment_in_packet}
+use Rattle.ones_sum.specs.Words.{with_bit_turned}
+use Rattle.judge_rules.specs.declared.acks.ToldPlace.{ToldPlace}
 use Rattle.judge_rules.specs.declared.finding.Rule.TheVariants as rule
+use Rattle.seen_streams.specs.declared.told.ToldMapping.{ToldMapping}
 use Rattle.seen_streams.specs.State.{StreamValue}
-use Rattle.rule_book.specs.Judged.{judged, nothing_judged}
+use Rattle.rule_book.specs.Judged.{judged}
 use Rattle.rule_book.specs.State.{JudgedValue, stream_at}
-use Rattle.capture_verdict.specs.Judging.{judged_packets}
 use Rattle.capture_verdict.specs.Sent.{IsSent}
 use Rattle.judge_laws.specs.Acknowledges.{Acknowledges, WasSeen}
+use Rattle.judge_laws.specs.Behind.{judged_first}
 use Rattle.judge_laws.specs.Brings.{Brings, IsOf}
+use Rattle.judge_laws.specs.Ends.{EndsAt}
 use Rattle.judge_laws.specs.GoesOn.{broke, stream_in, StreamsGoOn}
+use Rattle.judge_laws.specs.Summed.{HasItsSum, IsWhole, ShowsMapping}
 
 -- a place has this octet
 abbrev pub has_octet : StreamValue → ℕ → ℕ → Type 0
@@ -32,10 +37,6 @@ PayloadIsTheStreams = (at : Option Side) (check_sums : Bool) (state : JudgedValu
     → Brings at check_sums state packet seen connection side it place octet → has_octet stream place octet
 
 -- ---- a capture
-
--- behind the first packets of a capture
-abbrev pub judged_first : Option Side → Bool → List Captured → JudgedValue
-judged_first at check_sums packets = judged_packets at check_sums nothing_judged 1 packets
 
 abbrev pub PacketsTakeNothingBack : Type 0
 PacketsTakeNothingBack = (at : Option Side) (check_sums : Bool) (before after : List Captured)
@@ -63,6 +64,32 @@ WrittenStreamsAreTheirs = (at : Option Side) (check_sums : Bool) (packets : List
     → stream_in (judged_first at check_sums packets) connection side ≡ Some stream → broke rule.PlaceContent stream ≡ false
     → (octets : List ℕ) → IsSent stream.octet octets → (place octet : ℕ) → IsBrought at check_sums packets connection side place octet
     → place < length octets → get_or octets place 0 ≡ octet
+
+-- where no infinite mapping was told
+abbrev pub DataFinsEndStreams : Type 0
+DataFinsEndStreams = (at : Option Side) (check_sums : Bool) (packets : List Captured) (connection : ℕ) (side : Side) (stream : StreamValue)
+    → stream_in (judged_first at check_sums packets) connection side ≡ Some stream → stream.infinite ≡ None
+    → (fin : ToldPlace) → stream.fin ≡ Some fin → EndsAt stream fin.place
+
+-- nor was an octet brought to a place at or behind it
+abbrev pub OctetsStandBeforeDataFins : Type 0
+OctetsStandBeforeDataFins = (at : Option Side) (check_sums : Bool) (packets : List Captured) (connection : ℕ) (side : Side) (stream : StreamValue)
+    → stream_in (judged_first at check_sums packets) connection side ≡ Some stream → stream.infinite ≡ None
+    → (fin : ToldPlace) → stream.fin ≡ Some fin → broke rule.PlaceContent stream ≡ false
+    → (place octet : ℕ) → IsBrought at check_sums packets connection side place octet → place < fin.place
+
+-- each mapping with a checksum that is whole has the right one
+abbrev pub KeptSidesSumRight : Type 0
+KeptSidesSumRight = (at : Option Side) (check_sums : Bool) (packets : List Captured) (connection : ℕ) (side : Side) (stream : StreamValue)
+    → stream_in (judged_first at check_sums packets) connection side ≡ Some stream → broke rule.DssSum stream ≡ false
+    → (mapping : ToldMapping) (octets : List ℕ) → IsWhole (judged_first at check_sums packets) connection side mapping octets
+    → HasItsSum (judged_first at check_sums packets) connection side mapping octets
+
+-- of two captures that show other octets of one mapping, by one bit
+abbrev pub OneTurnedBitIsNeverKept : Type 0
+OneTurnedBitIsNeverKept = (packets others : List Captured) (stream other : StreamValue) (first : ℕ) (mapping : ToldMapping) (octets : List ℕ) (i k : ℕ)
+    → i < length octets → k < 8 → ShowsMapping packets stream first mapping octets
+    → ShowsMapping others other first mapping (with_bit_turned octets i k) → (broke rule.DssSum stream || broke rule.DssSum other) ≡ true
 
 -- a packet among others has this Data ACK
 pub record IsAcknowledged (at : Option Side) (check_sums : Bool) (packets : List Captured) (connection : ℕ) (side : Side) (number : DataNumber) : Type 0 where

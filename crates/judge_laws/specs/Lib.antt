@@ -1,4 +1,7 @@
 pub mod GoesOn
+pub mod Behind
+pub mod Ends
+pub mod Summed
 pub mod Brings
 pub mod Acknowledges
 pub mod Laws

@@ -1,8 +1,8 @@
 //! What is told of a side, as clauses of functions that do nothing.
-ghost use Rattle.judge_laws.specs.Laws.{KeptSidesAcknowledgeWhatWasSeen, KeptSidesSentOneStream, PacketsTakeNothingBack, PayloadIsTheStreams, SegmentsTakeNothingBack, WrittenStreamsAreTheirs};
+ghost use Rattle.judge_laws.specs.Laws.{DataFinsEndStreams, KeptSidesAcknowledgeWhatWasSeen, KeptSidesSentOneStream, KeptSidesSumRight, OctetsStandBeforeDataFins, OneTurnedBitIsNeverKept, PacketsTakeNothingBack, PayloadIsTheStreams, SegmentsTakeNothingBack, WrittenStreamsAreTheirs};
 
 /// A law: no segment, and no packets of a capture, take back what was known of a stream: of a place its octet, which places were seen, how
-/// far it is mapped, the place of its DATA_FIN, what its side acknowledged, and which rules that side broke.
+/// far it is mapped, the place of its DATA_FIN, that an infinite mapping was told, what its side acknowledged, and which rules that side broke.
 pub fn nothing_is_taken_back()
     ensures segment { SegmentsTakeNothingBack }
     ensures packets { PacketsTakeNothingBack }
@@ -25,4 +25,24 @@ pub fn kept_sides_sent_one_stream()
 /// its Data ACKs means a place below which all places were seen, or the one behind the DATA_FIN there (RFC 8684, section 3.3.2).
 pub fn kept_sides_acknowledge_what_was_seen()
     ensures { KeptSidesAcknowledgeWhatWasSeen }
+{}
+
+/// A law: where a side sent no infinite mapping, its DATA_FIN stands behind the last byte of its stream (RFC 8684, section 3.3.3): no mapping
+/// reaches beyond its place, and no octet was seen at or behind it (`ends`), nor did any packet of a side that hasn't broken `place-content`
+/// bring one there (`brought`).
+pub fn data_fins_end_streams()
+    ensures ends { DataFinsEndStreams }
+    ensures brought { OctetsStandBeforeDataFins }
+{}
+
+/// A law: where a side hasn't broken `dss-sum`, each mapping with a checksum that it told on a subflow, and all of whose octets came there, has
+/// the checksum of its pseudo-header and of the octets that came first at its positions (RFC 8684, section 3.3.1).
+pub fn kept_sides_sum_right()
+    ensures { KeptSidesSumRight }
+{}
+
+/// A law: one turned bit under a checksum is never kept. Of two captures that show the same mapping with a checksum, whose octets that came
+/// first differ in exactly one bit, at most one is kept at the mapping's side: of the other, `dss-sum` is told (RFC 8684, section 3.3.1).
+pub fn one_turned_bit_is_never_kept()
+    ensures { OneTurnedBitIsNeverKept }
 {}
