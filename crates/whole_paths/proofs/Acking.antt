@@ -57,21 +57,21 @@ use Rattle.world_laws.specs.StampedBooks.{answer_to}
 use Rattle.world_laws.specs.Worlds.{WorldState, Turn, after_turn}
 use Rattle.world_laws.proofs.Whole.Ends.{MeansIs, means_so}
 use Rattle.whole_paths.specs.AgendaSteps.{is_silent}
-use Rattle.whole_paths.specs.Answered.{HasAnswered}
+use Rattle.whole_paths.specs.Answered.{CopiesAreAnswered, HasAnswered}
 use Rattle.whole_paths.specs.AsFar.{stage}
 use Rattle.whole_paths.specs.Brought.{comes_before_keeping, IsToKeep, IsThere, StaysThere, Comes, IsTo, Brings, KeepsWhatComes, PathsKeepWhatComes}
 use Rattle.whole_paths.specs.Brought.{IsThere as there}
 use Rattle.whole_paths.specs.Brought.{StaysThere as octet_goes}
 use Rattle.whole_paths.specs.Harms.{longest_way}
-use Rattle.whole_paths.specs.InHand.{IsInHand, IsInOrder, HandGoesOn, HandsGoOn, WhatIsInHandIsAcknowledged}
+use Rattle.whole_paths.specs.InHand.{IsInHand, IsInOrder, HandGoesOn, HandComesSo, HandsGoOn, WhatIsInHandIsAcknowledged}
 use Rattle.whole_paths.specs.InHand.{HandGoesOn as hand}
-use Rattle.whole_paths.specs.Mapped.{IsToLearn, IsMapped, StaysMapped, KnowsWhatIsTold, PathsKnowWhatIsTold, EndsAreLive, AreLive}
+use Rattle.whole_paths.specs.Mapped.{IsToLearn, IsMapped, StaysMapped, KnowsWhatIsTold, PathsKnowWhatIsTold, EndsAreLive, AreLive, MappingsAreLive}
 use Rattle.whole_paths.specs.Mapped.{IsMapped as named}
 use Rattle.whole_paths.specs.Mapped.{StaysMapped as mapping_goes}
-use Rattle.whole_paths.specs.Owed.{AnswerGoesOn, AnswersGoOn}
+use Rattle.whole_paths.specs.Owed.{AnswerGoesOn, AnswerComesSo}
 use Rattle.whole_paths.specs.Owed.IsAnswered.{owes}
 use Rattle.whole_paths.specs.Owed.{AnswerGoesOn as goes}
-use Rattle.whole_paths.specs.Passed.{HasPassed}
+use Rattle.whole_paths.specs.Passed.{HasPassed, WhatIsInOrderIsPassed}
 use Rattle.whole_paths.specs.Saying.{SaysWhatCame, HandsOver, PathsHandOver}
 use Rattle.whole_paths.specs.Saying.{SaysWhatCame as say}
 use Rattle.whole_paths.proofs.Agendas.{own_end}
@@ -79,7 +79,7 @@ use Rattle.whole_paths.proofs.Bringing.{coming_by, comes_so, first_so, what_come
 use Rattle.whole_paths.proofs.Flying.{Frames, FramesStay, frames_stay}
 use Rattle.whole_paths.proofs.Knowing.{what_is_told_is_known}
 use Rattle.whole_paths.proofs.Passing.{Resets, past_stage, silent_resets}
-use Rattle.whole_paths.proofs.Paying.{StillOwed, Turned, TurnedTo, takes_turned, turned_to, settled_due, past_opening, what_is_owed_comes}
+use Rattle.whole_paths.proofs.Paying.{StillOwed, Turned, TurnedTo, takes_turned, turned_to, settled_due, past_opening, AnswersComeSo, GoesSo, answers_come_so}
 use Rattle.whole_paths.proofs.Paying.{StillOwed as owing}
 use Rattle.whole_paths.proofs.Saying.{ToSend, each_segment_says_what_came}
 use Rattle.whole_paths.proofs.Turns.{turn_each}
@@ -202,47 +202,50 @@ module _ {C : Type 0} where
 
   -- ---- one turn of a path
 
-  module _ (k : Codec C) (s : Side) (position by_then : ℕ) (p q : PathState C) (no_sums : p.profile.spelling.checksums ≡ false) where
+  module _ (k : Codec C) (s : Side) (position by_then : ℕ) (p q : PathState C) (no_sums : p.profile.spelling.checksums ≡ false) (Was : PlainSegment → Type 0) where
     abbrev Next : Type 0
-    Next = HandGoesOn k s position by_then p q
+    Next = (go : HandGoesOn k s position by_then p q) × HandComesSo Was go
 
     -- each octet is there still, with its mapping, or something else is
     octet_on : (pos octet : ℕ) → q.profile.spelling.checksums ≡ false → StaysThere s pos octet p q → ((octet : ℕ) × IsThere s pos octet q) ⊎ Next
     octet_on pos octet sums (octet_goes.on is) = inl (octet, is)
-    octet_on pos octet sums (octet_goes.gone dead) = inr (hand.answered (goes.gone dead))
-    octet_on pos octet sums (octet_goes.reset is) = inr (hand.reset is)
-    octet_on pos octet sums (octet_goes.behind_fin is) = inr (hand.behind_fin is)
+    octet_on pos octet sums (octet_goes.gone dead) = inr (hand.answered (goes.gone dead), tt)
+    octet_on pos octet sums (octet_goes.reset is) = inr (hand.reset is, tt)
+    octet_on pos octet sums (octet_goes.behind_fin is) = inr (hand.behind_fin is, tt)
     octet_on pos octet sums (octet_goes.fails is) = absurd (true≢false (sym is.checksums ∙ no_sums))
     octet_on pos octet sums (octet_goes.fails_untold with_sums reads plain) = absurd (true≢false (sym with_sums ∙ sums))
-    octet_on pos octet sums (octet_goes.dropped is) = inr (hand.dropped is)
+    octet_on pos octet sums (octet_goes.dropped is) = inr (hand.dropped is, tt)
 
     mapping_on : (pos : ℕ) → StaysMapped s pos p q → IsMapped s pos q ⊎ Next
     mapping_on pos (mapping_goes.on is) = inl is
-    mapping_on pos (mapping_goes.gone dead) = inr (hand.answered (goes.gone dead))
-    mapping_on pos (mapping_goes.reset is) = inr (hand.reset is)
-    mapping_on pos (mapping_goes.plain is) = inr (hand.plain is)
-    mapping_on pos (mapping_goes.unkeyed is) = inr (hand.unkeyed is)
+    mapping_on pos (mapping_goes.gone dead) = inr (hand.answered (goes.gone dead), tt)
+    mapping_on pos (mapping_goes.reset is) = inr (hand.reset is, tt)
+    mapping_on pos (mapping_goes.plain is) = inr (hand.plain is, tt)
+    mapping_on pos (mapping_goes.unkeyed is) = inr (hand.unkeyed is, tt)
 
-  module _ (k : Codec C) (s : Side) (position by_then : ℕ) (p q : PathState C) (h : IsInHand s position by_then p) where
+  module _ (k : Codec C) (s : Side) (position by_then : ℕ) (p q : PathState C) (h : IsInHand s position by_then p) (Was : PlainSegment → Type 0) where
     abbrev Then : Type 0
-    Then = HandGoesOn k s position by_then p q
+    Then = (go : HandGoesOn k s position by_then p q) × HandComesSo Was go
 
     -- the duty before what is sent leaves what is owed
     holds_on : Turned p q → Frames p q → KeepsWhatComes k p q → KnowsWhatIsTold k p q → (d : Duty) (others : List Duty) → p.agenda ≡ d ∷ others → q.clock ≡ p.clock → (end_at s q).tcp.due.ack ≡ true → Then
     holds_on turned frames keeps knows d others first clock due = ⊎_elim
         (λ octets. ⊎_elim
-        (λ mapped. hand.on (record {
-          in_time = (let way = frames.way s in let low = h.in_time in omega (arith, clock, way, low));
-          opened = (let low = h.opened in let up = (turned.far s).subflow.state in omega (arith, low, up));
-          no_sums = sums;
-          due = due;
-          octets = octets;
-          mapped = mapped;
-        }))
+        (λ mapped. (
+          hand.on (record {
+            in_time = (let way = frames.way s in let low = h.in_time in omega (arith, clock, way, low));
+            opened = (let low = h.opened in let up = (turned.far s).subflow.state in omega (arith, low, up));
+            no_sums = sums;
+            due = due;
+            octets = octets;
+            mapped = mapped;
+          }),
+          tt,
+        ))
         (λ next. next)
-        (all_or (λ pos. IsMapped s pos q) Then position (λ pos low. mapping_on k s position by_then p q h.no_sums pos (knows.stays s pos (h.mapped pos low)))))
+        (all_or (λ pos. IsMapped s pos q) Then position (λ pos low. mapping_on k s position by_then p q h.no_sums Was pos (knows.stays s pos (h.mapped pos low)))))
         (λ next. next)
-        (all_or (λ pos. (octet : ℕ) × IsThere s pos octet q) Then position (λ pos low. let at = h.octets pos low in octet_on k s position by_then p q h.no_sums pos at.0 sums (keeps.stays s pos at.0 at.1)))
+        (all_or (λ pos. (octet : ℕ) × IsThere s pos octet q) Then position (λ pos low. let at = h.octets pos low in octet_on k s position by_then p q h.no_sums Was pos at.0 sums (keeps.stays s pos at.0 at.1)))
       where
         sums : q.profile.spelling.checksums ≡ false
         sums = subst (λ c. c.spelling.checksums ≡ false) (sym frames.profile) h.no_sums
@@ -278,10 +281,10 @@ module _ {C : Type 0} where
         where
           by : (o : Option InfiniteMapping) → (end_at s p).modes.peer_infinite ≡ o → Then
           by None finite = absurd (not_short speaks finite)
-          by (Some mapping) is = hand.infinite (ap is_some is)
+          by (Some mapping) is = (hand.infinite (ap is_some is), tt)
       says_so (say.opens state none) taken = absurd (past_opening (end_at s p).tcp.state h.opened state)
-      says_so (say.resets is) taken = hand.answered (goes.resets sent (inl is) taken)
-      says_so (say.refuses answer is reset) taken = hand.answered (goes.resets sent (inr (answer, (is, reset))) taken)
+      says_so (say.resets is) taken = (hand.answered (goes.resets sent (inl is) taken), tt)
+      says_so (say.refuses answer is reset) taken = (hand.answered (goes.resets sent (inr (answer, (is, reset))) taken), tt)
 
     module _ (turned : Turned p q) (answered : HasAnswered p) where
       -- unless the end is dead, and stays so
@@ -289,25 +292,25 @@ module _ {C : Type 0} where
       if_living living = by (is_dead (end_at s p).tcp.state) refl
         where
           by : (b : Bool) → is_dead (end_at s p).tcp.state ≡ b → Then
-          by true dead = hand.answered (goes.gone (gone_stays (end_at s p) (end_at s q) (turned.far s) dead))
+          by true dead = (hand.answered (goes.gone (gone_stays (end_at s p) (end_at s q) (turned.far s) dead)), tt)
           by false lives = living lives
 
       short_goes : Frames p q → KeepsWhatComes k p q → KnowsWhatIsTold k p q → HandsOver k p q → HasPassed p → EndsAreLive p → (end_at s p).tcp.recv.edge < position → StillOwed s p q → Then
       short_goes frames keeps knows hands passed live short (owing.keeps d others first other due) = holds_on turned frames keeps knows d others first (frames.stands d others first other) (due h.due)
-      short_goes frames keeps knows hands passed live short (owing.has_died gone) = hand.answered (goes.gone gone)
+      short_goes frames keeps knows hands passed live short (owing.has_died gone) = (hand.answered (goes.gone gone), tt)
       short_goes frames keeps knows hands passed live short (owing.is_sent t sends own) = if_living (λ living. ⊎_elim
-          (λ same. hand.on (subst (IsInHand s position by_then) (sym same) h))
+          (λ same. (hand.on (subst (IsInHand s position by_then) (sym same) h), tt))
           (λ taken. says_so t sends own short live
           (subst (λ (o : Option ToSend). IfSome o (λ t. t.from ≡ s → (segment_sent p t).rst ≡ false → piece_of s p ≡ None)) sends (passed s living).sends own)
           (subst (λ u. SaysWhatCame (end_at u p) (segment_sent p t)) own taken.1) (subst (λ u. q.link ≡ handed k u (segment_sent p t) p) own taken.0))
           (subst (λ (o : Option ToSend). IfSome o (λ t. (q ≡ p) ⊎ ((q.link ≡ handed k t.from (segment_sent p t) p) × SaysWhatCame (end_at t.from p) (segment_sent p t)))) sends hands.sends))
-      short_goes frames keeps knows hands passed live short (owing.rests same) = hand.on (subst (IsInHand s position by_then) (sym same) h)
+      short_goes frames keeps knows hands passed live short (owing.rests same) = (hand.on (subst (IsInHand s position by_then) (sym same) h), tt)
       short_goes frames keeps knows hands passed live short (owing.is_done is) = if_living (λ living. absurd (true≢false (sym h.due ∙ (answered is s living).ack)))
 
-      hand_goes : Frames p q → KeepsWhatComes k p q → KnowsWhatIsTold k p q → HandsOver k p q → HasPassed p → EndsAreLive p → AnswersGoOn k (Path p) (Path q) → segments_sent s p.link < 2 ^ 64 - 1 → Then
-      hand_goes frames keeps knows hands passed live answers few = ⊎_elim
+      hand_goes : Frames p q → KeepsWhatComes k p q → KnowsWhatIsTold k p q → HandsOver k p q → HasPassed p → EndsAreLive p → AnswersComeSo Was k (Path p) (Path q) → segments_sent s p.link < 2 ^ 64 - 1 → GoesSo Was s p → Then
+      hand_goes frames keeps knows hands passed live answers few was = ⊎_elim
           (λ short. short_goes frames keeps knows hands passed live short (turned.owing s))
-          (λ far. hand.answered (answers s position by_then few (owes h.in_time h.opened far h.due)))
+          (λ far. (let go = answers s position by_then few was (owes h.in_time h.opened far h.due) tt in (hand.answered go.0, go.1)))
           (cases_lt (end_at s p).tcp.recv.edge position)
 
   -- ---- a copy comes in order
@@ -437,7 +440,7 @@ module _ {C : Type 0} where
   owing_turn k w turn = turn_each k (λ x y. Owing k x.member y.member) (λ x. member_stays k x.member) (λ ask books x. member_owes k (answer_to books ask) x.member)
       (λ stamp x over. member_begins k x.member over) turn w
 
-  module _ (k : Codec C) (p q : PathState C) (b : Brings k p) (o : IsInOrder k p b) (frames : Frames p q) (turned : Turned p q) where
+  module _ (k : Codec C) (p q : PathState C) (b : Brings k p) (o : IsInOrder k p b) (frames : Frames p q) (turned : Turned p q) (Was : PlainSegment → Type 0) where
     abbrev taker : Side
     taker = b.copy.due.to
 
@@ -448,7 +451,7 @@ module _ {C : Type 0} where
     soon = q.clock + longest_way taker q.link
 
     abbrev Begins : Type 0
-    Begins = HandGoesOn k taker until soon p q
+    Begins = (go : HandGoesOn k taker until soon p q) × HandComesSo Was go
 
     abbrev Or : Type 0 → Type 0
     Or A = A ⊎ ((q ≡ p) ⊎ Begins)
@@ -466,7 +469,7 @@ module _ {C : Type 0} where
     octet_comes keeps pos below = ⊎_elim
         (λ low. inl (0, there.passed (risen pos low)))
         (λ high. still ((octet : ℕ) × IsThere taker pos octet q) (StaysThere taker pos octet p q)
-        (λ stays. or_else ((octet : ℕ) × IsThere taker pos octet q) (octet_on k taker until soon p q o.no_sums pos octet (subst (λ c. c.spelling.checksums ≡ false) (sym frames.profile) o.no_sums) stays))
+        (λ stays. or_else ((octet : ℕ) × IsThere taker pos octet q) (octet_on k taker until soon p q o.no_sums Was pos octet (subst (λ c. c.spelling.checksums ≡ false) (sym frames.profile) o.no_sums) stays))
         (keeps.brings b pos byte (octet_of b.copy.segment.payload b.position pos (let from = o.starts in omega (arith, from, high)) below) (let in_window = o.within in omega (arith, below, in_window))))
         (cases_lt pos (end_at taker p).tcp.recv.edge)
       where
@@ -479,21 +482,24 @@ module _ {C : Type 0} where
     mapping_comes : KnowsWhatIsTold k p q → (pos : ℕ) → pos < until → Or (IsMapped taker pos q)
     mapping_comes knows pos below = ⊎_elim
         (λ low. inl (named.passed (risen pos low)))
-        (λ high. still (IsMapped taker pos q) (StaysMapped taker pos p q) (λ stays. or_else (IsMapped taker pos q) (mapping_on k taker until soon p q o.no_sums pos stays))
+        (λ high. still (IsMapped taker pos q) (StaysMapped taker pos p q) (λ stays. or_else (IsMapped taker pos q) (mapping_on k taker until soon p q o.no_sums Was pos stays))
         (knows.tells b o.mapping o.others pos o.held o.says (o.names pos high below)))
         (cases_lt pos (end_at taker p).tcp.recv.edge)
 
     begins_so : KeepsWhatComes k p q → KnowsWhatIsTold k p q → OwesForOctets k p q → (q ≡ p) ⊎ Begins
     begins_so keeps knows owed = ⊎_elim (λ same. inl same) (λ owes. ⊎_elim
         (λ octets. ⊎_elim
-        (λ mapped. inr (hand.on (record {
-          in_time = le_refl soon;
-          opened = owes.opened;
-          no_sums = subst (λ c. c.spelling.checksums ≡ false) (sym frames.profile) o.no_sums;
-          due = owes.due;
-          octets = octets;
-          mapped = mapped;
-        })))
+        (λ mapped. inr (
+          hand.on (record {
+            in_time = le_refl soon;
+            opened = owes.opened;
+            no_sums = subst (λ c. c.spelling.checksums ≡ false) (sym frames.profile) o.no_sums;
+            due = owes.due;
+            octets = octets;
+            mapped = mapped;
+          }),
+          tt,
+        ))
         (λ e. e)
         (all_or (λ pos. IsMapped taker pos q) ((q ≡ p) ⊎ Begins) until (mapping_comes knows)))
         (λ e. e)
@@ -501,39 +507,65 @@ module _ {C : Type 0} where
 
   -- ---- the world
 
-  hands_go : (k : Codec C) (m n : Actor C) → TurnedTo m n → FramesStay m n → PathsKeepWhatComes k m n → PathsKnowWhatIsTold k m n → PathsHandOver k m n → AnswersGoOn k m n → Owing k m n
-      → HoldsOfKind (λ app. Unit {0}) HasAnswered m → HoldsOfKind (λ app. Unit {0}) HasPassed m → HoldsOfKind (λ app. Unit {0}) EndsAreLive m → HandsGoOn k m n
-  hands_go k (App a) (App b) turned frames keeps knows hands answers owed answered passed live = tt
-  hands_go k (Path p) (Path q) turned frames keeps knows hands answers owed answered passed live = (
-    λ b o. begins_so k p q b o frames turned keeps knows owed.0,
+  -- what becomes of what comes and is in hand, with what holds of the segments that go while an acknowledgement is owed
+  abbrev pub HandsComeSo : (PlainSegment → Type 0) → Codec C → Actor C → Actor C → Type 0
+  HandsComeSo Was k (Path p) (Path q) =
+      ((b : Brings k p) → IsInOrder k p b
+      → (q ≡ p) ⊎ ((go : HandGoesOn k b.copy.due.to (b.position + length b.copy.segment.payload) (q.clock + longest_way b.copy.due.to q.link) p q) × HandComesSo Was go))
+      × (((c : Comes k p) → IsTo k p c (judged.As means.Outside) → 3 ≤ stage (end_at c.due.to p).tcp.state
+      → (q ≡ p) ⊎ ((go : AnswerGoesOn k c.due.to (end_at c.due.to p).tcp.recv.edge (q.clock + longest_way c.due.to q.link) p q) × AnswerComesSo Was go))
+      × ((s : Side) (position by_then : ℕ) → segments_sent s p.link < 2 ^ 64 - 1 → GoesSo Was s p → IsInHand s position by_then p → (go : HandGoesOn k s position by_then p q) × HandComesSo Was go))
+  HandsComeSo Was k (App a) (App b) = Unit {0}
+  HandsComeSo Was k _ _ = ⊥
+
+  hands_come : (Was : PlainSegment → Type 0) (k : Codec C) (m n : Actor C) → TurnedTo m n → FramesStay m n → PathsKeepWhatComes k m n → PathsKnowWhatIsTold k m n → PathsHandOver k m n → AnswersComeSo Was k m n → Owing k m n
+      → HoldsOfKind (λ app. Unit {0}) HasAnswered m → HoldsOfKind (λ app. Unit {0}) HasPassed m → HoldsOfKind (λ app. Unit {0}) EndsAreLive m → HandsComeSo Was k m n
+  hands_come Was k (App a) (App b) turned frames keeps knows hands answers owed answered passed live = tt
+  hands_come Was k (Path p) (Path q) turned frames keeps knows hands answers owed answered passed live = (
+    λ b o. begins_so k p q b o frames turned Was keeps knows owed.0,
     (
-      λ c outside high. ⊎_elim (λ same. inl same) (λ due. inr (outside_so c high due)) (owed.1 c outside high),
-      λ s position by_then few h. hand_goes k s position by_then p q h turned answered frames keeps knows hands passed live answers few,
+      λ c outside high. ⊎_elim (λ same. inl same) (λ due. inr (outside_so c high due, tt)) (owed.1 c outside high),
+      λ s position by_then few was h. hand_goes k s position by_then p q h Was turned answered frames keeps knows hands passed live answers few was,
     ),
   )
     where
       outside_so : (c : Comes k p) → 3 ≤ stage (end_at c.due.to p).tcp.state → (end_at c.due.to q).tcp.due.ack ≡ true
           → AnswerGoesOn k c.due.to (end_at c.due.to p).tcp.recv.edge (q.clock + longest_way c.due.to q.link) p q
       outside_so c high due = (let far = turned.far c.due.to in let state = far.subflow.state in goes.on (owes (le_refl _) (omega (arith, high, state)) far.subflow.received due))
-  hands_go k (App a) (Path q) turned frames keeps knows hands answers owed answered passed live = absurd turned
-  hands_go k (Path p) (App b) turned frames keeps knows hands answers owed answered passed live = absurd turned
+  hands_come Was k (App a) (Path q) turned frames keeps knows hands answers owed answered passed live = absurd turned
+  hands_come Was k (Path p) (App b) turned frames keeps knows hands answers owed answered passed live = absurd turned
+
+  -- whatever the segments are
+  whatever_comes : (k : Codec C) (m n : Actor C) → HandsComeSo (λ x. Unit {0}) k m n → HandsGoOn k m n
+  whatever_comes k (App a) (App b) h = tt
+  whatever_comes k (Path p) (Path q) h = (
+    λ b o. ⊎_elim (λ same. inl same) (λ go. inr go.0) (h.0 b o),
+    (λ c outside high. ⊎_elim (λ same. inl same) (λ go. inr go.0) (h.1.0 c outside high), λ s position by_then few hand. (h.1.1 s position by_then few (λ t sends own due unreset. tt) hand).0),
+  )
+  whatever_comes k (App a) (Path q) h = absurd h
+  whatever_comes k (Path p) (App b) h = absurd h
 
   pub same_actor : (P : ActorCrew C → Type 0) (v : WorldState C) (actor : ℕ) (d : ActorCrew C) → slice_get v.crew actor ≡ Some d → ((e : ActorCrew C) × (slice_get v.crew actor ≡ Some e) × P e) → P d
   same_actor P v actor d at x = subst P (same_Some x.0 d (sym x.1 ∙ at)) x.2
 
-  pub what_is_in_hand_is_acknowledged : (k : Codec C) → WhatIsInHandIsAcknowledged k
-  what_is_in_hand_is_acknowledged k w answered passed live turn actor c at =
+  pub hands_come_so : (Was : PlainSegment → Type 0) (k : Codec C) (w : WorldState C) → CopiesAreAnswered w → WhatIsInOrderIsPassed w → MappingsAreLive w → (turn : Turn) (actor : ℕ) (c : ActorCrew C)
+      → slice_get w.crew actor ≡ Some c → (d : ActorCrew C) × (slice_get (after_turn k turn w).crew actor ≡ Some d) × HandsComeSo Was k c.member d.member
+  hands_come_so Was k w answered passed live turn actor c at =
       let turned = turned_to k w turn actor c at in
       let d : ActorCrew C = turned.0 in
       let v : WorldState C = after_turn k turn w in (
         d,
         turned.1,
-        hands_go k c.member d.member turned.2
+        hands_come Was k c.member d.member turned.2
             (same_actor (λ x. FramesStay c.member x.member) v actor d turned.1 (frames_stay k w turn actor c at))
             (same_actor (λ x. PathsKeepWhatComes k c.member x.member) v actor d turned.1 (what_comes_is_kept k w turn actor c at))
             (same_actor (λ x. PathsKnowWhatIsTold k c.member x.member) v actor d turned.1 ((what_is_told_is_known k).goes_on w live turn actor c at))
             (same_actor (λ x. PathsHandOver k c.member x.member) v actor d turned.1 (each_segment_says_what_came k w turn actor c at))
-            (same_actor (λ x. AnswersGoOn k c.member x.member) v actor d turned.1 (what_is_owed_comes k w answered turn actor c at))
+            (same_actor (λ x. AnswersComeSo Was k c.member x.member) v actor d turned.1 (answers_come_so Was k w answered turn actor c at))
             (same_actor (λ x. Owing k c.member x.member) v actor d turned.1 (owing_turn k w turn actor c at))
             (answered.each actor c at) (passed.each actor c at) (live.each actor c at),
       )
+
+  pub what_is_in_hand_is_acknowledged : (k : Codec C) → WhatIsInHandIsAcknowledged k
+  what_is_in_hand_is_acknowledged k w answered passed live turn actor c at =
+      let go = hands_come_so (λ x. Unit {0}) k w answered passed live turn actor c at in (go.0, go.1, whatever_comes k c.member go.0.member go.2)

@@ -1,8 +1,8 @@
 -- The exchange of a record goes on by each turn, stage by stage, or something comes between.
-use Rattle.std.proofs.Common.{◌≡◌, refl, sym, subst, ap, ◌∙◌, ◌⊎◌, inl, inr, ⊎_elim, ℕ, zero, suc, ◌+◌, ◌-◌, ◌^◌, ◌<◌, ◌≤◌, arith, max, nat_le, ◌||◌, Bool, true, false, true≢false, if◌then◌else◌, Option, Some, None, IfSome, List, [], ◌∷◌, length, le_refl}
+use Rattle.std.proofs.Common.{◌≡◌, refl, sym, subst, ap, ◌∙◌, ◌⊎◌, inl, inr, ⊎_elim, ℕ, zero, suc, ◌+◌, ◌-◌, ◌^◌, ◌<◌, ◌≤◌, arith, max, nat_le, nat_lt, ◌&&◌, ◌||◌, Bool, true, false, true≢false, if◌then◌else◌, Option, Some, None, IfSome, List, [], ◌∷◌, length, le_refl}
 use Rattle.std.specs.Prelude.{IsSome, option_map}
 use Rattle.std.specs.List.{AllByRecursion, slice_get}
-use Rattle.std.proofs.lemmas.Bool.{cases_lt, lt-leb}
+use Rattle.std.proofs.lemmas.Bool.{cases_lt, le-leb, lt-leb, lt-ltb}
 use Rattle.std.proofs.lemmas.Option.{same_Some}
 use Rattle.path_segments.specs.Heard.{HeardSegment}
 use Rattle.path_segments.specs.Laws.{meant}
@@ -22,7 +22,8 @@ use Rattle.stream_lanes.specs.Words.{Every}
 use Rattle.subflow_recv.specs.Receiving.{Receiving}
 use Rattle.subflow_send.specs.Records.{Record, end_of, occupied}
 use Rattle.subflow_send.specs.declared.record.RecordKind.TheVariants.{Data}
-use Rattle.subflow_tcp.specs.Judging.{is_acceptable, meaning_of}
+use Rattle.subflow_tcp.specs.Judging.{ends_in_window, is_acceptable, is_at_right_edge, meaning_of}
+use Rattle.subflow_tcp.specs.Segments.{occupied as occupied_by}
 use Rattle.subflow_tcp.specs.State.{is_at_limit, is_fin_passed}
 use Rattle.subflow_tcp.specs.States.{is_dead, is_opening}
 use Rattle.subflow_tcp.specs.declared.handshake.State.{State as EndPhase}
@@ -37,6 +38,7 @@ use Rattle.path_core.specs.DssOut.{is_first_piece, place_numbered}
 use Rattle.path_core.specs.End.{PathEnd}
 use Rattle.path_core.specs.Events.{next_event}
 use Rattle.path_core.specs.Judged.{judged_of}
+use Rattle.path_core.specs.Looking.{segment_sent}
 use Rattle.path_core.specs.OptionsIn.{items_of, options_heard}
 use Rattle.path_core.specs.Profile.{Profile}
 use Rattle.path_core.specs.State.{PathState, end_at}
@@ -59,41 +61,45 @@ use Rattle.world_laws.proofs.Worlds.CastLifting.{each_actor, path_actor}
 use Rattle.world_laws.proofs.Worlds.Casts.{walking}
 use Rattle.whole_paths.specs.AgendaSteps.{event_side}
 use Rattle.whole_paths.specs.Arrivals.{Arrival, CameBefore, ComesAgain, ComesInOrder, HasItsMapping, IsPiece, Takes}
+use Rattle.whole_paths.specs.Answered.{AcksGoFirst, IsBareAck}
+use Rattle.whole_paths.specs.Answered.{IsBareAck as bare}
 use Rattle.whole_paths.specs.AsFar.{stage}
 use Rattle.whole_paths.specs.Brought.{Comes}
 use Rattle.whole_paths.specs.Came.{AcksWhatCame, HasCome}
 use Rattle.whole_paths.specs.Copies.{IsUnderWay}
 use Rattle.whole_paths.specs.Due.{CopiesArriveSo}
-use Rattle.whole_paths.specs.Exchanges.{IsFaithful, IsSentWhole, IsExchanged, IsHeldUp, IsAstray, ExchangeGoesOn, ExchangesGoOn, EachRecordIsAcknowledged}
+use Rattle.whole_paths.specs.Exchanges.{IsFaithful, IsSentWhole, IsBareFrom, IsExchanged, IsHeldUp, IsAstray, ExchangeGoesOn, ExchangesGoOn, ExchangesBegin, ExchangesEnd, EachRecordIsAcknowledged}
 use Rattle.whole_paths.specs.Exchanges.IsExchanged.{comes, in_hand, answered, acknowledged}
 use Rattle.whole_paths.specs.Exchanges.{IsHeldUp as held}
 use Rattle.whole_paths.specs.Exchanges.{IsAstray as stray}
 use Rattle.whole_paths.specs.Exchanges.{ExchangeGoesOn as goes}
 use Rattle.whole_paths.specs.Flights.{IsCopyOf, IsFirst, IsOnItsWay, IsSentSo, ComesSo, GoesOnTo}
 use Rattle.whole_paths.specs.Flights.{GoesOnTo as way}
+use Rattle.whole_paths.specs.Flights.{IsOnItsWay as ways}
 use Rattle.whole_paths.specs.Harms.{longest_way}
 use Rattle.whole_paths.specs.Hearing.{Counts, PathsCount}
-use Rattle.whole_paths.specs.InHand.{HandGoesOn, HandsGoOn, IsInHand}
+use Rattle.whole_paths.specs.InHand.{HandGoesOn, HandComesSo, IsInHand}
 use Rattle.whole_paths.specs.InHand.{HandGoesOn as hand}
 use Rattle.whole_paths.specs.InTime.{ComesFrom}
 use Rattle.whole_paths.specs.Kept.{AreKept, IsSameRecord, KeepsWhatWaits, EndsKeepWhatWaits}
-use Rattle.whole_paths.specs.Owed.{AnswerGoesOn, AnswersGoOn, IsAnswer, IsAnswered}
+use Rattle.whole_paths.specs.Owed.{AnswerGoesOn, AnswerComesSo, IsAnswer, IsAnswered, IsAnsweredSo}
 use Rattle.whole_paths.specs.Owed.{AnswerGoesOn as answer}
 use Rattle.whole_paths.specs.Owed.IsAnswered.{owes, flies}
 use Rattle.whole_paths.specs.Sent.{WasSent}
-use Rattle.whole_paths.proofs.Acking.{same_actor, what_is_in_hand_is_acknowledged}
+use Rattle.whole_paths.proofs.Acking.{HandsComeSo, hands_come_so, same_actor}
 use Rattle.whole_paths.proofs.Arrivals.{each_copy_arrives, each_mapped_record_is_a_piece, each_piece_comes_in_order, sender_of, taken_so}
 use Rattle.whole_paths.proofs.Came.{what_is_acknowledged_came}
 use Rattle.whole_paths.proofs.Due.{LinkIs, LinkMember, copies_arrive_as_sent, each_link}
-use Rattle.whole_paths.proofs.Flying.{Frames, FramesStay, SentGoOn, frames_stay, sent_go_on}
+use Rattle.whole_paths.proofs.Flying.{Frames, FramesStay, SentAtTheEnd, SentGoOn, frames_stay, same_record, sent_at_the_end, sent_go_on, timer_from}
 use Rattle.whole_paths.proofs.Hearing.{each_acknowledgement_counts}
 use Rattle.whole_paths.proofs.InTime.{nothing_is_overdue}
 use Rattle.whole_paths.proofs.Keeping.{what_waits_is_kept}
 use Rattle.whole_paths.proofs.Knowing.{what_is_told_is_known}
 use Rattle.whole_paths.proofs.Owing.{copies_are_answered}
 use Rattle.whole_paths.proofs.Passing.{what_is_in_order_is_passed}
-use Rattle.whole_paths.proofs.Paying.{what_is_owed_comes}
+use Rattle.whole_paths.proofs.Paying.{AnswersComeSo, GoesSo, TurnedTo, answers_come_so, turned_to}
 use Rattle.whole_paths.proofs.Reached.{EndsAreReached, each_is_reached, first_reached, past_opening}
+use Rattle.whole_paths.proofs.Saying.{ToSend}
 use Rattle.whole_paths.proofs.Sent.{what_came_was_sent}
 
 -- ---- what is known of a path at every moment
@@ -185,7 +191,7 @@ hand_later s position before later q low h = record {
   mapped = h.mapped;
 }
 
-less_covered : (s : Side) (position less : ℕ) (p : PathState Carried) (f : Flight Carried) → less ≤ position → IsAnswer values s position p f → IsAnswer values s less p f
+abbrev less_covered : (s : Side) (position less : ℕ) (p : PathState Carried) (f : Flight Carried) → less ≤ position → IsAnswer values s position p f → IsAnswer values s less p f
 less_covered s position less p f low h = record {
   to = h.to;
   segment = h.segment;
@@ -195,9 +201,11 @@ less_covered s position less p f low h = record {
   carried = h.carried;
 }
 
-answer_later : (s : Side) (position less before later : ℕ) (q : PathState Carried) → less ≤ position → before ≤ later → IsAnswered values s position before q → IsAnswered values s less later q
-answer_later s position less before later q few low (owes in_time opened came due) = owes (omega (arith, in_time, low)) opened (omega (arith, came, few)) due
-answer_later s position less before later q few low (flies f in_time there h) = flies f (omega (arith, in_time, low)) there (less_covered s position less q f few h)
+-- with what holds of its segment
+answer_later : (Was : PlainSegment → Type 0) (s : Side) (position less before later : ℕ) (q : PathState Carried) → less ≤ position → before ≤ later → (h : IsAnswered values s position before q) → IsAnsweredSo Was h
+    → (g : IsAnswered values s less later q) × IsAnsweredSo Was g
+answer_later Was s position less before later q few low (owes in_time opened came due) so = (owes (omega (arith, in_time, low)) opened (omega (arith, came, few)) due, tt)
+answer_later Was s position less before later q few low (flies f in_time there h) so = (flies f (omega (arith, in_time, low)) there (less_covered s position less q f few h), so)
 
 -- ---- the first record stays so, or is acknowledged
 
@@ -239,12 +247,17 @@ record SameHeader (x y : PlainSegment) : Type 0 where
   rst : y.rst ≡ x.rst
   syn : y.syn ≡ x.syn
   position : y.position ≡ x.position
+  fin : y.fin ≡ x.fin
+  payload : x.payload ≡ [] → y.payload ≡ []
+
+no_bit : (carried : Carried) → carried.segment.payload ≡ [] → (altered carried).segment.payload ≡ []
+no_bit carried none = ap (λ (o : List ℕ). (altered (record carried { segment = record carried.segment { payload = o } })).segment.payload) none
 
 changed_header : (strips alters : Bool) (carried : Carried) → SameHeader carried.segment (changed stripped altered strips alters carried).segment
-changed_header true true carried = record { acknowledged = refl; rst = refl; syn = refl; position = refl }
-changed_header true false carried = record { acknowledged = refl; rst = refl; syn = refl; position = refl }
-changed_header false true carried = record { acknowledged = refl; rst = refl; syn = refl; position = refl }
-changed_header false false carried = record { acknowledged = refl; rst = refl; syn = refl; position = refl }
+changed_header true true carried = record { acknowledged = refl; rst = refl; syn = refl; position = refl; fin = refl; payload = no_bit carried }
+changed_header true false carried = record { acknowledged = refl; rst = refl; syn = refl; position = refl; fin = refl; payload = λ none. none }
+changed_header false true carried = record { acknowledged = refl; rst = refl; syn = refl; position = refl; fin = refl; payload = no_bit carried }
+changed_header false false carried = record { acknowledged = refl; rst = refl; syn = refl; position = refl; fin = refl; payload = λ none. none }
 
 changed_said : (spelling : Spelling) (s : Side) (x : PlainSegment) (strips alters : Bool) (carried : Carried)
     → carried ≡ changed (values.strips spelling s) (values.alters spelling s) strips alters (values.makes spelling s x) → SameHeader x carried.segment
@@ -256,11 +269,16 @@ changed_said spelling s x strips alters carried is = subst (λ (c : Carried). Sa
 record IsTurn (p q : PathState Carried) : Type 0 where
   kept : (s : Side) → KeepsWhatWaits (end_at s p) (end_at s q)
   frames : Frames p q
-  hands : HandsGoOn values (Path p) (Path q)
-  answers : AnswersGoOn values (Path p) (Path q)
+  far : (s : Side) → (end_at s p).tcp.recv.edge ≤ (end_at s q).tcp.recv.edge
+  later : (s : Side) → stage (end_at s p).tcp.state ≤ stage (end_at s q).tcp.state
   counts : Counts values p q
 
-module _ (p q : PathState Carried) (known : Known p) (faithful : IsFaithful p) (few : (t : Side) → segments_sent t p.link < 2 ^ 64 - 1) (turn : IsTurn p q) where
+module _ (p q : PathState Carried) (known : Known p) (faithful : IsFaithful p) (few : (t : Side) → segments_sent t p.link < 2 ^ 64 - 1) (turn : IsTurn p q)
+    (s : Side) (acks_first : AcksGoFirst p) (hands : HandsComeSo (IsBareFrom (end_at s p).tcp.recv.edge) values (Path p) (Path q))
+    (answers : AnswersComeSo (IsBareFrom (end_at s p).tcp.recv.edge) values (Path p) (Path q)) where
+  abbrev Bare : PlainSegment → Type 0
+  Bare = IsBareFrom (end_at s p).tcp.recv.edge
+
   numbered : (f : Flight Carried) → IsUnderWay f p → f.number < 2 ^ 64 - 1
   numbered f there = let low = under_way (λ g. g.number ≤ segments_sent (peer g.to) p.link) f p there known.link.low in let most = few (peer f.to) in omega (arith, low, most)
 
@@ -284,7 +302,7 @@ module _ (p q : PathState Carried) (known : Known p) (faithful : IsFaithful p) (
 
   -- ---- an answer comes
 
-  module _ (s : Side) (position : ℕ) (f : Flight Carried) (there : IsUnderWay f p) (h : IsAnswer values (peer s) position p f)
+  module _ (position : ℕ) (f : Flight Carried) (there : IsUnderWay f p) (h : IsAnswer values (peer s) position p f) (is_bare : Bare h.segment) (opened : 2 ≤ stage (end_at s p).tcp.state)
       (others : List Duty) (first : p.agenda ≡ duties.Step step_duties.Events ∷ others) (next : next_event p ≡ Some (happenings.Arrives (due_of f))) where
     abbrev listener : Side
     listener = f.to
@@ -337,36 +355,37 @@ module _ (p q : PathState Carried) (known : Known p) (faithful : IsFaithful p) (
           );
         }))
 
+    syn_is : f.carried.segment.syn ≡ false
+    syn_is = header.syn ∙ is_bare.syn
+
+    -- RCV.NXT isn't past its position
+    not_before : hearer.tcp.recv.edge ≤ f.carried.segment.position
+    not_before = (let at = header.position in subst (λ t. (end_at t p).tcp.recv.edge ≤ f.carried.segment.position) (sym to_sender) (let low = is_bare.from in omega (arith, at, low)))
+
     answer_comes : 0 < position → Heard
-    answer_comes some = ⊎_elim
-        (λ low. inr (inr (λ r. inr (stray.unopened listener (omega (arith, low))))))
-        (λ opened. by_life opened (is_dead hearer.tcp.state) refl)
-        (cases_lt (stage hearer.tcp.state) 2)
+    answer_comes some = by_life (subst (λ t. 2 ≤ stage (end_at t p).tcp.state) (sym to_sender) opened) (is_dead hearer.tcp.state) refl
       where
-        passed : Heard
-        passed = inr (inr (λ r. inl (held.overtaken f there (less_covered (peer s) position 0 p f (omega arith) h))))
-
-        by_fin : 2 ≤ stage hearer.tcp.state → is_dead hearer.tcp.state ≡ false → f.carried.segment.syn ≡ false → is_acceptable hearer.tcp.recv.edge f.carried.segment.position (copy_of said) ≡ true
+        by_fin : 2 ≤ stage hearer.tcp.state → is_dead hearer.tcp.state ≡ false → is_acceptable hearer.tcp.recv.edge f.carried.segment.position (copy_of said) ≡ true
             → (b : Bool) → is_fin_passed (end_at (peer listener) p).tcp ≡ b → Heard
-        by_fin opened living syn accepted true is = inr (inr (λ r. inr (stray.behind_fin (peer listener) (inl is))))
-        by_fin opened living syn accepted false is = is_taken opened living syn accepted (let enough = h.covers.enough in omega (arith, enough, some)) is
+        by_fin opened living accepted true is = inr (inr (λ r. inr (stray.behind_fin (peer listener) (inl is))))
+        by_fin opened living accepted false is = is_taken opened living syn_is accepted (let enough = h.covers.enough in omega (arith, enough, some)) is
 
-        by_window : 2 ≤ stage hearer.tcp.state → is_dead hearer.tcp.state ≡ false → f.carried.segment.syn ≡ false
-            → (b : Bool) → is_acceptable hearer.tcp.recv.edge f.carried.segment.position (copy_of said) ≡ b → Heard
-        by_window opened living syn false is = passed
-        by_window opened living syn true is = by_fin opened living syn is (is_fin_passed (end_at (peer listener) p).tcp) refl
-
-        by_syn : 2 ≤ stage hearer.tcp.state → is_dead hearer.tcp.state ≡ false → (b : Bool) → f.carried.segment.syn ≡ b → Heard
-        by_syn opened living true is = passed
-        by_syn opened living false is = by_window opened living is (is_acceptable hearer.tcp.recv.edge f.carried.segment.position (copy_of said)) refl
+        by_window : 2 ≤ stage hearer.tcp.state → is_dead hearer.tcp.state ≡ false → Heard
+        by_window opened living = ⊎_elim
+            (λ below. by_fin opened living
+            (ap (λ b. b || (ends_in_window hearer.tcp.recv.edge f.carried.segment.position (occupied_by (copy_of said)) || is_at_right_edge hearer.tcp.recv.edge f.carried.segment.position (length (copy_of said).payload)))
+            (ap (λ b. b && nat_lt f.carried.segment.position (hearer.tcp.recv.edge + 1048576)) (le-leb hearer.tcp.recv.edge f.carried.segment.position not_before) ∙ lt-ltb f.carried.segment.position (hearer.tcp.recv.edge + 1048576) below))
+            (is_fin_passed (end_at (peer listener) p).tcp) refl)
+            (λ above. inr (inr (λ r. inr (stray.past_window f there to_sender (subst (λ t. (end_at t p).tcp.recv.edge + 1048576 ≤ f.carried.segment.position) to_sender above)))))
+            (cases_lt f.carried.segment.position (hearer.tcp.recv.edge + 1048576))
 
         by_life : 2 ≤ stage hearer.tcp.state → (b : Bool) → is_dead hearer.tcp.state ≡ b → Heard
         by_life opened true is = inr (inr (λ r. inl (held.gone listener (inl is))))
-        by_life opened false is = by_syn opened is f.carried.segment.syn refl
+        by_life opened false is = by_window opened is
 
   -- ---- what becomes of it
 
-  module _ (s : Side) (r : Record) (until : ℕ) (kind : r.kind ≡ Data) where
+  module _ (r : Record) (until : ℕ) (kind : r.kind ≡ Data) (opened : 2 ≤ stage (end_at s p).tcp.state) where
     abbrev Goes : Type 0
     Goes = ExchangeGoesOn s r until p q
 
@@ -376,35 +395,43 @@ module _ (p q : PathState Carried) (known : Known p) (faithful : IsFaithful p) (
     same_goes : q ≡ p → IsExchanged s r until p → Goes
     same_goes same h = goes.on (subst (IsExchanged s r until) (sym same) h)
 
-    hinders : (u : Side) → IsHeldUp s p q ⊎ IsAstray s r p q → Goes
-    hinders u = ⊎_elim (λ x. goes.held_up x) (λ x. goes.astray x)
+    still_opened : 2 ≤ stage (end_at s q).tcp.state
+    still_opened = let later = turn.later s in omega (arith, opened, later)
+
+    -- RCV.NXT of the end stays, or more came
+    if_still : ((end_at s q).tcp.recv.edge ≡ (end_at s p).tcp.recv.edge → Goes) → Goes
+    if_still stays = ⊎_elim (λ more. goes.held_up (held.more_came more)) (λ low. stays (let up = turn.far s in omega (arith, low, up))) (cases_lt (end_at s p).tcp.recv.edge (end_at s q).tcp.recv.edge)
+
+    is_answered : (position before : ℕ) → end_of r ≤ position → before ≤ until → (h : IsAnswered values (peer s) position before q) → IsAnsweredSo Bare h → Goes
+    is_answered position before enough low h so = if_still (λ same. let later = answer_later Bare (peer s) position (end_of r) before until q enough low h so in
+        goes.on (answered still_opened later.0 (subst (λ n. IsAnsweredSo (IsBareFrom n) later.0) (sym same) later.1)))
 
     -- the answer goes on
-    answer_goes : (position before : ℕ) → end_of r ≤ position → before ≤ until → 0 < end_of r → AnswerGoesOn values (peer s) position before p q → Goes
-    answer_goes position before enough low some (answer.on h) = goes.on (answered (answer_later (peer s) position (end_of r) before until q enough low h))
-    answer_goes position before enough low some (answer.arrives f in_time there h others first next) = ⊎_elim
-        (λ same. same_goes same (answered (answer_later (peer s) position (end_of r) before until p enough low (flies f in_time there h))))
+    answer_goes : (position before : ℕ) → end_of r ≤ position → before ≤ until → 0 < end_of r → (go : AnswerGoesOn values (peer s) position before p q) → AnswerComesSo Bare go → Goes
+    answer_goes position before enough low some (answer.on h) so = is_answered position before enough low h so
+    answer_goes position before enough low some (answer.arrives f in_time there h others first next) so = ⊎_elim
+        (λ same. (let later = answer_later Bare (peer s) position (end_of r) before until p enough low (flies f in_time there h) so in same_goes same (answered opened later.0 later.1)))
         (λ x. ⊎_elim
         (λ reached. goes.on (acknowledged (omega (arith, enough, reached))))
         (λ hindered. ⊎_elim (λ y. goes.held_up y) (λ y. goes.astray y) (hindered r))
         x)
-        (answer_comes s position f there h others first next (omega (arith, enough, some)))
-    answer_goes position before enough low some (answer.harmed less) = goes.held_up (held.harmed less)
-    answer_goes position before enough low some (answer.lost x covers taken loses) = goes.held_up (held.lost (peer s) x taken loses)
-    answer_goes position before enough low some (answer.resets x is taken) = goes.astray (stray.resets (peer s) x is taken)
-    answer_goes position before enough low some (answer.gone dead) = goes.held_up (held.gone (peer s) (inr dead))
-    answer_goes position before enough low some (answer.dies line next is) = goes.held_up (held.dies line next is)
+        (answer_comes position f there h so opened others first next (omega (arith, enough, some)))
+    answer_goes position before enough low some (answer.harmed less) so = goes.held_up (held.harmed less)
+    answer_goes position before enough low some (answer.lost x covers taken loses) so = goes.held_up (held.lost (peer s) x taken loses)
+    answer_goes position before enough low some (answer.resets x is taken) so = goes.astray (stray.resets (peer s) x is taken)
+    answer_goes position before enough low some (answer.gone dead) so = goes.held_up (held.gone (peer s) (inr dead))
+    answer_goes position before enough low some (answer.dies line next is) so = goes.held_up (held.dies line next is)
 
     -- and so does what is in hand
-    hand_goes : (position before : ℕ) → position ≡ end_of r → before ≤ until → 0 < end_of r → HandGoesOn values (peer s) position before p q → Goes
-    hand_goes position before same low some (hand.on h) = goes.on (in_hand (hand_later (peer s) (end_of r) before until q low (subst (λ n. IsInHand (peer s) n before q) same h)))
-    hand_goes position before same low some (hand.answered h) = answer_goes position before (omega (arith, same)) low some h
-    hand_goes position before same low some (hand.reset h) = goes.astray (stray.reset (peer s) h)
-    hand_goes position before same low some (hand.behind_fin h) = goes.astray (stray.behind_fin (peer s) (inr h))
-    hand_goes position before same low some (hand.dropped h) = goes.astray (stray.unsure (peer s) h)
-    hand_goes position before same low some (hand.plain h) = goes.astray (stray.plain (peer s) (inr h))
-    hand_goes position before same low some (hand.unkeyed h) = goes.astray (stray.unkeyed (peer s) h)
-    hand_goes position before same low some (hand.infinite h) = goes.astray (stray.infinite (peer s) (inr h))
+    hand_goes : (position before : ℕ) → position ≡ end_of r → before ≤ until → 0 < end_of r → (go : HandGoesOn values (peer s) position before p q) → HandComesSo Bare go → Goes
+    hand_goes position before same low some (hand.on h) so = goes.on (in_hand still_opened (hand_later (peer s) (end_of r) before until q low (subst (λ n. IsInHand (peer s) n before q) same h)))
+    hand_goes position before same low some (hand.answered h) so = answer_goes position before (omega (arith, same)) low some h so
+    hand_goes position before same low some (hand.reset h) so = goes.astray (stray.reset (peer s) h)
+    hand_goes position before same low some (hand.behind_fin h) so = goes.astray (stray.behind_fin (peer s) (inr h))
+    hand_goes position before same low some (hand.dropped h) so = goes.astray (stray.unsure (peer s) h)
+    hand_goes position before same low some (hand.plain h) so = goes.astray (stray.plain (peer s) (inr h))
+    hand_goes position before same low some (hand.unkeyed h) so = goes.astray (stray.unkeyed (peer s) h)
+    hand_goes position before same low some (hand.infinite h) so = goes.astray (stray.infinite (peer s) (inr h))
 
     -- ---- a copy of it comes
 
@@ -462,19 +489,19 @@ module _ (p q : PathState Carried) (known : Known p) (faithful : IsFaithful p) (
       in_order c =
           let to : c.brings.copy.due.to ≡ peer s = side_is c.brings.copy in
           ⊎_elim (λ same. same_goes same still)
-          (λ h. by_clock (λ low. hand_goes (c.brings.position + length c.brings.copy.segment.payload) (q.clock + longest_way (peer s) q.link)
+          (λ h. by_clock (λ low. (let here = subst (λ t. (go : HandGoesOn values t (c.brings.position + length c.brings.copy.segment.payload) (q.clock + longest_way t q.link) p q) × HandComesSo Bare go) to h in
+          hand_goes (c.brings.position + length c.brings.copy.segment.payload) (q.clock + longest_way (peer s) q.link)
           (let pos = c.position in let octets : length c.brings.copy.segment.payload ≡ length copied.payload = ap (λ (o : List ℕ). length o) c.payload in omega (arith, pos, octets, at_pos, len, end_is))
-          low some_end
-          (subst (λ t. HandGoesOn values t (c.brings.position + length c.brings.copy.segment.payload) (q.clock + longest_way t q.link) p q) to h)))
-          (turn.hands.0 c.brings c.in_order)
+          low some_end here.0 here.1)))
+          (hands.0 c.brings c.in_order)
 
       again : end_of r ≤ taker.tcp.recv.edge → 3 ≤ stage taker.tcp.state → ComesAgain p → Goes
       again passed opened c =
           let to : c.copy.due.to ≡ peer s = side_is c.copy in
           ⊎_elim (λ same. same_goes same still)
-          (λ h. by_clock (λ low. answer_goes taker.tcp.recv.edge (q.clock + longest_way (peer s) q.link) passed low some_end
-          (subst (λ t. AnswerGoesOn values t (end_at t p).tcp.recv.edge (q.clock + longest_way t q.link) p q) to h)))
-          (turn.hands.1.0 c.copy c.outside (subst (λ t. 3 ≤ stage (end_at t p).tcp.state) (sym to) opened))
+          (λ h. by_clock (λ low. (let here = subst (λ t. (go : AnswerGoesOn values t (end_at t p).tcp.recv.edge (q.clock + longest_way t q.link) p q) × AnswerComesSo Bare go) to h in
+          answer_goes taker.tcp.recv.edge (q.clock + longest_way (peer s) q.link) passed low some_end here.0 here.1)))
+          (hands.1.0 c.copy c.outside (subst (λ t. 3 ≤ stage (end_at t p).tcp.state) (sym to) opened))
 
       arrives_in : Takes copied taker → Goes
       arrives_in takes = in_order ((each_piece_comes_in_order copied p comes_now piece).0 (subst (λ t. Takes copied (end_at t p)) (sym due_to) takes))
@@ -522,13 +549,13 @@ module _ (p q : PathState Carried) (known : Known p) (faithful : IsFaithful p) (
 
           by_stage : is_dead (end_at s p).tcp.state ≡ false → is_dead taker.tcp.state ≡ false → taker.tcp.recv.edge < end_of r → Goes
           by_stage living there_living new = ⊎_elim
-              (λ low. goes.astray (stray.unopened (peer s) (omega (arith, low))))
+              (λ low. goes.astray (stray.unopened (omega (arith, low))))
               (λ opened. by_fin living there_living opened new (is_fin_passed (end_at s p).tcp) refl)
               (cases_lt (stage taker.tcp.state) 2)
 
           by_opened : is_dead taker.tcp.state ≡ false → end_of r ≤ taker.tcp.recv.edge → Goes
           by_opened there_living passed = ⊎_elim
-              (λ low. goes.astray (stray.unopened (peer s) (omega (arith, low))))
+              (λ low. goes.astray (stray.half_open (omega (arith, low)) passed))
               (λ opened. arrives_again passed opened (record { opened = omega (arith, opened); living = there_living; below_limit = below_limit p known (peer s); passed = omega (arith, passed, at_pos, len, end_is) }))
               (cases_lt (stage taker.tcp.state) 3)
 
@@ -580,17 +607,62 @@ module _ (p q : PathState Carried) (known : Known p) (faithful : IsFaithful p) (
         by_plain true is = goes.astray (stray.plain s (inl is))
         by_plain false is = by_infinite is (end_at s p).modes.own_infinite refl
 
-    exchange_goes : SentGoOn (IsSentWhole p.profile s r) values (Path p) (Path q) → IsExchanged s r until p → Goes
-    exchange_goes goes_on (comes arrival soon first next so) = sends_so goes_on arrival soon first (comes arrival soon first next so) next so
-    exchange_goes goes_on (in_hand h) = ⊎_elim
-        (λ some. hand_goes (end_of r) until refl (le_refl until) some (turn.hands.1.1 (peer s) (end_of r) until (few (peer s)) h))
-        (λ none. goes.on (acknowledged (omega (arith, none))))
-        (cases_lt 0 (end_of r))
-    exchange_goes goes_on (answered h) = ⊎_elim
-        (λ some. answer_goes (end_of r) until (le_refl (end_of r)) (le_refl until) some (turn.answers (peer s) (end_of r) until (few (peer s)) h))
-        (λ none. goes.on (acknowledged (omega (arith, none))))
-        (cases_lt 0 (end_of r))
-    exchange_goes goes_on (acknowledged h) = goes.on (acknowledged (let up = (turn.kept s).una in omega (arith, h, up)))
+    -- what goes from the peer while it owes an acknowledgement
+    acks_bare : is_dead (end_at (peer s) p).tcp.state ≡ false → is_fin_passed (end_at s p).tcp ≡ false → GoesSo Bare (peer s) p
+    acks_bare living unpassed t sends own due unreset =
+        by (subst (λ (o : Option ToSend). IfSome o (λ t. t.from ≡ peer s → IsBareAck (end_at (peer s) p) (segment_sent p t))) sends (acks_first (peer s) living due) own)
+      where
+        by : IsBareAck (end_at (peer s) p) (segment_sent p t) → Bare (segment_sent p t)
+        by (bare.acks at syn fin payload) = record { from = (let low = known.was_sent.octets s unpassed in omega (arith, at, low)); syn = syn; fin = fin; payload = payload }
+        by (bare.resets is) = absurd (true≢false (sym is ∙ unreset))
+
+    -- unless the peer is dead, or the end is past its FIN
+    if_bare : (GoesSo Bare (peer s) p → Goes) → Goes
+    if_bare then_so = by_life (is_dead (end_at (peer s) p).tcp.state) refl
+      where
+        by_fin : is_dead (end_at (peer s) p).tcp.state ≡ false → (b : Bool) → is_fin_passed (end_at s p).tcp ≡ b → Goes
+        by_fin living true is = goes.astray (stray.behind_fin s (inl is))
+        by_fin living false is = then_so (acks_bare living is)
+
+        by_life : (b : Bool) → is_dead (end_at (peer s) p).tcp.state ≡ b → Goes
+        by_life true is = goes.held_up (held.gone (peer s) (inl is))
+        by_life false is = by_fin is (is_fin_passed (end_at s p).tcp) refl
+
+    hand_on : GoesSo Bare (peer s) p → IsInHand (peer s) (end_of r) until p → 0 < end_of r → Goes
+    hand_on was h some = let go = hands.1.1 (peer s) (end_of r) until (few (peer s)) was h in hand_goes (end_of r) until refl (le_refl until) some go.0 go.1
+
+    answer_on : GoesSo Bare (peer s) p → (h : IsAnswered values (peer s) (end_of r) until p) → IsAnsweredSo Bare h → 0 < end_of r → Goes
+    answer_on was h so some = let go = answers (peer s) (end_of r) until (few (peer s)) was h so in answer_goes (end_of r) until (le_refl (end_of r)) (le_refl until) some go.0 go.1
+
+  exchange_goes : (r : Record) (until : ℕ) → r.kind ≡ Data → SentGoOn (IsSentWhole p.profile s r) values (Path p) (Path q) → IsExchanged s r until p → ExchangeGoesOn s r until p q
+  exchange_goes r until kind goes_on (comes arrival soon first next so) =
+      sends_so r until kind (both_syns p known s r first kind) goes_on arrival soon first (comes arrival soon first next so) next so
+  exchange_goes r until kind goes_on (in_hand opened h) =
+      ⊎_elim (λ some. if_bare r until kind opened (λ was. hand_on r until kind opened was h some)) (λ none. goes.on (acknowledged (omega (arith, none)))) (cases_lt 0 (end_of r))
+  exchange_goes r until kind goes_on (answered opened h so) =
+      ⊎_elim (λ some. if_bare r until kind opened (λ was. answer_on r until kind opened was h so some)) (λ none. goes.on (acknowledged (omega (arith, none)))) (cases_lt 0 (end_of r))
+  exchange_goes r until kind goes_on (acknowledged h) = goes.on (acknowledged (let up = (turn.kept s).una in omega (arith, h, up)))
+
+-- ---- in time
+
+module _ (p : PathState Carried) (past : ComesFrom p.clock p) where
+  flight_from : (f : Flight Carried) → IsUnderWay f p → p.clock ≤ f.tick
+  flight_from f there = subst (λ (g : Flight Carried). p.clock ≤ g.tick) there.holds (all_at (λ (g : Flight Carried). p.clock ≤ g.tick) p.link.under_way there.at there.item there.there past.copies)
+
+  way_from : (s : Side) (r : Record) (n : ℕ) → IsOnItsWay values s r n p → p.clock ≤ n
+  way_from s r n (ways.waits tick low runs first) = let from = timer_from s tick p past runs.timer in omega (arith, from, low)
+  way_from s r n (ways.resends low is first) = omega (arith, low)
+  way_from s r n (ways.flies f low there copy) = let from = flight_from f there in omega (arith, from, low)
+
+  answer_from : (s : Side) (position n : ℕ) → IsAnswered values s position n p → p.clock ≤ n
+  answer_from s position n (owes low opened came due) = omega (arith, low)
+  answer_from s position n (flies f low there h) = let from = flight_from f there in omega (arith, from, low)
+
+  exchange_ends : ExchangesEnd p
+  exchange_ends s r n (comes arrival soon first next so) late = absurd (let from = way_from s r arrival next in omega (arith, from, soon, late))
+  exchange_ends s r n (in_hand opened h) late = absurd (let low = h.in_time in omega (arith, low, late))
+  exchange_ends s r n (answered opened h so) late = absurd (let from = answer_from (peer s) (end_of r) n h in omega (arith, from, late))
+  exchange_ends s r n (acknowledged h) late = h
 
 -- ---- the world
 
@@ -641,18 +713,21 @@ each_shown start turns size fit =
         path_shown (path_begins start number path.plan).profile x.path path.ab path.ba
         ((subst (WorldTells start) h.is (always_tells start turns size fit)).members (suc (suc number)) (walking x) (path_actor h.cast number x there) path.plan path.plan_there) path.shows)))
 
-exchanges_go : (m n : Actor Carried) → EndsKeepWhatWaits m n → FramesStay m n → ((Was : PathEnd → Bool → Bool → Type 0) → SentGoOn Was values m n) → HandsGoOn values m n → AnswersGoOn values m n → PathsCount values m n
-    → OfPaths Shown m → OfPaths EndsAreReached m → OfPaths HasCome m → OfPaths WasSent m → LinkMember m → OfPaths CopiesArriveSo m → OfPaths (λ p. ComesFrom p.clock p) m → ExchangesGoOn m n
-exchanges_go (App a) (App b) kept frames sent hands answers counts shown reached came was_sent link alike past = tt
-exchanges_go (Path p) (Path q) kept frames sent hands answers counts shown reached came was_sent link alike past = λ faithful s r until kind few h.
+exchanges_go : (m n : Actor Carried) → EndsKeepWhatWaits m n → FramesStay m n → TurnedTo m n → ((Was : PathEnd → Bool → Bool → Type 0) → SentGoOn Was values m n) → ((Was : PlainSegment → Type 0) → HandsComeSo Was values m n)
+    → ((Was : PlainSegment → Type 0) → AnswersComeSo Was values m n) → PathsCount values m n
+    → OfPaths Shown m → OfPaths EndsAreReached m → OfPaths HasCome m → OfPaths WasSent m → LinkMember m → OfPaths CopiesArriveSo m → OfPaths (λ p. ComesFrom p.clock p) m → OfPaths AcksGoFirst m → ExchangesGoOn m n
+exchanges_go (App a) (App b) kept frames turned sent hands answers counts shown reached came was_sent link alike past acks_first = tt
+exchanges_go (Path p) (Path q) kept frames turned sent hands answers counts shown reached came was_sent link alike past acks_first = λ faithful s r until kind few h.
     exchange_goes p q
     (record { tells = shown.tells; behind = shown.behind; edge = shown.edge; reached = reached; came = came; was_sent = was_sent; link = link; alike = alike; past = past })
-    faithful few (record { kept = kept; frames = frames; hands = hands; answers = answers; counts = counts }) s r until kind (sent (IsSentWhole p.profile s r)) h
-exchanges_go (App a) (Path q) kept frames sent hands answers counts shown reached came was_sent link alike past = absurd kept
-exchanges_go (Path p) (App b) kept frames sent hands answers counts shown reached came was_sent link alike past = absurd kept
+    faithful few (record { kept = kept; frames = frames; far = λ s. (turned.far s).subflow.received; later = λ s. (turned.far s).subflow.state; counts = counts }) s acks_first (hands (IsBareFrom (end_at s p).tcp.recv.edge))
+    (answers (IsBareFrom (end_at s p).tcp.recv.edge)) r until kind (sent (IsSentWhole p.profile s r)) h
+exchanges_go (App a) (Path q) kept frames turned sent hands answers counts shown reached came was_sent link alike past acks_first = absurd kept
+exchanges_go (Path p) (App b) kept frames turned sent hands answers counts shown reached came was_sent link alike past acks_first = absurd kept
 
-pub each_record_is_acknowledged : EachRecordIsAcknowledged
-each_record_is_acknowledged start turns size fit turn actor c at =
+exchanges_by_turns : (start : Start) (turns : List Turn) → HasRoom start → NumbersFit start → let w = world_run values turns (opened_world start) in (turn : Turn) (actor : ℕ) (c : ActorCrew Carried) → slice_get w.crew actor ≡ Some c
+    → (d : ActorCrew Carried) × (slice_get (after_turn values turn w).crew actor ≡ Some d) × ExchangesGoOn c.member d.member
+exchanges_by_turns start turns size fit turn actor c at =
     let w = world_run values turns (opened_world start) in
     let v = after_turn values turn w in
     let all_answered = copies_are_answered values start turns in
@@ -662,11 +737,33 @@ each_record_is_acknowledged start turns size fit turn actor c at =
       kept.1,
       exchanges_go c.member d.member kept.2
           (same_actor (λ x. FramesStay c.member x.member) v actor d kept.1 (frames_stay values w turn actor c at))
+          (same_actor (λ x. TurnedTo c.member x.member) v actor d kept.1 (turned_to values w turn actor c at))
           (λ Was. same_actor (λ x. SentGoOn Was values c.member x.member) v actor d kept.1 (sent_go_on Was values w (nothing_is_overdue values start turns) turn actor c at))
-          (same_actor (λ x. HandsGoOn values c.member x.member) v actor d kept.1
-          (what_is_in_hand_is_acknowledged values w all_answered (what_is_in_order_is_passed values start turns) ((what_is_told_is_known values).live start turns) turn actor c at))
-          (same_actor (λ x. AnswersGoOn values c.member x.member) v actor d kept.1 (what_is_owed_comes values w all_answered turn actor c at))
+          (λ Was. same_actor (λ x. HandsComeSo Was values c.member x.member) v actor d kept.1
+          (hands_come_so Was values w all_answered (what_is_in_order_is_passed values start turns) ((what_is_told_is_known values).live start turns) turn actor c at))
+          (λ Was. same_actor (λ x. AnswersComeSo Was values c.member x.member) v actor d kept.1 (answers_come_so Was values w all_answered turn actor c at))
           (same_actor (λ x. PathsCount values c.member x.member) v actor d kept.1 (each_acknowledgement_counts values w turn actor c at))
           (each_shown start turns size fit actor c at) ((each_is_reached values start turns).each actor c at) ((what_is_acknowledged_came start turns).each actor c at) ((what_came_was_sent start turns size).each actor c at)
-          ((each_link values start turns).each actor c at) ((copies_arrive_as_sent values start turns).each actor c at) ((nothing_is_overdue values start turns).each actor c at),
+          ((each_link values start turns).each actor c at) ((copies_arrive_as_sent values start turns).each actor c at) ((nothing_is_overdue values start turns).each actor c at) (all_answered.first actor c at),
     )
+
+-- ---- how they begin and end
+
+exchanges_begin : (m : Actor Carried) → ((Was : PathEnd → Bool → Bool → Type 0) → OfPaths (SentAtTheEnd Was values) m) → OfPaths ExchangesBegin m
+exchanges_begin (App a) sent = tt
+exchanges_begin (Path p) sent = λ over s living r others is.
+    let way = sent (IsSentWhole p.profile s r) over s living r others is in
+    comes (p.clock + 60000 + longest_way s p.link) (le_refl (p.clock + 60000 + longest_way s p.link + longest_way (peer s) p.link)) (record { first = r; others = others; records = is; same = same_record r }) way.0 way.1
+
+exchanges_end : (m : Actor Carried) → OfPaths (λ p. ComesFrom p.clock p) m → OfPaths ExchangesEnd m
+exchanges_end (App a) past = tt
+exchanges_end (Path p) past = exchange_ends p past
+
+pub each_record_is_acknowledged : EachRecordIsAcknowledged
+each_record_is_acknowledged = record {
+  in_time = λ start turns. record {
+    begin = λ actor c at. exchanges_begin c.member (λ Was. sent_at_the_end Was values start turns actor c at);
+    end = λ actor c at. exchanges_end c.member ((nothing_is_overdue values start turns).each actor c at);
+  };
+  goes_on = exchanges_by_turns;
+}

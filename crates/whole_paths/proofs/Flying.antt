@@ -47,8 +47,9 @@ use Rattle.path_core.specs.declared.events.Event.TheVariants as happenings
 use Rattle.world_laws.specs.declared.member.Member.TheVariants.{App, Path}
 use Rattle.world_laws.specs.Actors.{Actor, ActorCrew, member_takes, member_next, is_over}
 use Rattle.world_laws.specs.Members.{HoldsOfKind}
+use Rattle.world_laws.specs.Openings.{Start, opened_world}
 use Rattle.world_laws.specs.StampedBooks.{answer_to}
-use Rattle.world_laws.specs.Worlds.{WorldState, Turn, after_turn}
+use Rattle.world_laws.specs.Worlds.{WorldState, Turn, after_turn, world_run}
 use Rattle.world_laws.specs.Writes.{PathView}
 use Rattle.world_laws.proofs.Writes.Paths.{writes_no_more, passes_no_more}
 use Rattle.world_laws.proofs.Writes.Steps.{Lasts, settled_lasts, takes_lasts, begins_lasts}
@@ -78,7 +79,7 @@ use Rattle.whole_paths.proofs.Waiting.{no_timer_is_put_off}
 
 -- ---- the first record
 
-same_record : (r : Record) → IsSameRecord r r
+pub same_record : (r : Record) → IsSameRecord r r
 same_record r = record { pos = refl; kind = refl; piece = refl; mapping = refl }
 
 -- the first one stays first, or SND.UNA rises
@@ -218,7 +219,7 @@ module _ {C : Type 0} where
   member_stays (App a) = tt
   member_stays (Path p) = record { profile = refl; way = λ s. refl; stands = λ d others is other. refl; moves = λ event others is next. inl refl }
 
-  timer_from : (s : Side) (tick : ℕ) (p : PathState C) → ComesFrom p.clock p → (end_at s p).tcp.timing.timer ≡ Some tick → p.clock ≤ tick
+  pub timer_from : (s : Side) (tick : ℕ) (p : PathState C) → ComesFrom p.clock p → (end_at s p).tcp.timing.timer ≡ Some tick → p.clock ≤ tick
   timer_from A tick p h runs = subst (λ o. IfSome o (λ t. p.clock ≤ t)) runs h.timer_a
   timer_from B tick p h runs = subst (λ o. IfSome o (λ t. p.clock ≤ t)) runs h.timer_b
 
@@ -392,32 +393,45 @@ module _ {C : Type 0} where
   goes_on_so k w past turn actor c there = let go = sent_go_on (λ e strips alters. Unit {0}) k w past turn actor c there in (go.0, go.1, whoever_sent k c.member go.0.member go.2)
 
   -- at the end of a turn
-  begins_so : (k : Codec C) (p : PathState C) → IsTimedWhereItWaits p → IsSettledAtTheEnd p → TimersAreNear p → IsOnItsWayAtTheEnd k p
-  begins_so k p timed settled near over s living r others is = by (end_at s p).tcp.timing.timer refl (timed over s living (IsOutstanding.on_subflow r others is))
+  abbrev pub SentAtTheEnd : (PathEnd → Bool → Bool → Type 0) → Codec C → PathState C → Type 0
+  SentAtTheEnd Was k p = p.agenda ≡ [] → (s : Side) → is_closed_to_segments (end_at s p).tcp.state ≡ false → (r : Record) (others : List Record) → (end_at s p).tcp.send.records ≡ r ∷ others
+      → (way : IsOnItsWay k s r (p.clock + 60000 + longest_way s p.link) p) × IsSentSo Was way
+
+  begins_so : (Was : PathEnd → Bool → Bool → Type 0) (k : Codec C) (p : PathState C) → IsTimedWhereItWaits p → IsSettledAtTheEnd p → TimersAreNear p → SentAtTheEnd Was k p
+  begins_so Was k p timed settled near over s living r others is = by (end_at s p).tcp.timing.timer refl (timed over s living (IsOutstanding.on_subflow r others is))
     where
       alive : (state : State) → is_closed_to_segments state ≡ false → is_dead state ≡ false
       alive phase.Dead living = absurd (true≢false living)
       alive _ living = refl
 
-      by : (o : Option ℕ) → (end_at s p).tcp.timing.timer ≡ o → IsSome o → IsOnItsWay k s r (p.clock + 60000 + longest_way s p.link) p
+      by : (o : Option ℕ) → (end_at s p).tcp.timing.timer ≡ o → IsSome o → (way : IsOnItsWay k s r (p.clock + 60000 + longest_way s p.link) p) × IsSentSo Was way
       by None none some = absurd (true≢false (sym some))
-      by (Some tick) runs some = waits tick
-          (let low = timer_near s tick p near runs in omega (arith, low))
-          (record { timer = runs; settled = settled over s (alive (end_at s p).tcp.state living); first = r; others = others; records = is; living = living })
-          (record { first = r; others = others; records = is; same = same_record r })
+      by (Some tick) runs some = (
+        waits tick
+            (let low = timer_near s tick p near runs in omega (arith, low))
+            (record { timer = runs; settled = settled over s (alive (end_at s p).tcp.state living); first = r; others = others; records = is; living = living })
+            (record { first = r; others = others; records = is; same = same_record r }),
+        tt,
+      )
 
-  abbrev OfPaths : (PathState C → Type 0) → Actor C → Type 0
+  abbrev pub OfPaths : (PathState C → Type 0) → Actor C → Type 0
   OfPaths P = HoldsOfKind (λ app. Unit {0}) P
 
-  member_so : (k : Codec C) (m : Actor C) → OfPaths IsTimedWhereItWaits m → OfPaths IsSettledAtTheEnd m → OfPaths TimersAreNear m → OfPaths (IsOnItsWayAtTheEnd k) m
-  member_so k (App a) timed settled near = tt
-  member_so k (Path p) timed settled near = begins_so k p timed settled near
+  member_so : (Was : PathEnd → Bool → Bool → Type 0) (k : Codec C) (m : Actor C) → OfPaths IsTimedWhereItWaits m → OfPaths IsSettledAtTheEnd m → OfPaths TimersAreNear m → OfPaths (SentAtTheEnd Was k) m
+  member_so Was k (App a) timed settled near = tt
+  member_so Was k (Path p) timed settled near = begins_so Was k p timed settled near
+
+  pub sent_at_the_end : (Was : PathEnd → Bool → Bool → Type 0) (k : Codec C) (start : Start) (turns : List Turn) (actor : ℕ) (c : ActorCrew C) → slice_get (world_run k turns (opened_world start)).crew actor ≡ Some c
+      → OfPaths (SentAtTheEnd Was k) c.member
+  sent_at_the_end Was k start turns actor c there = member_so Was k c.member ((who_waits_has_a_timer k start turns).each actor c there) (((no_timer_is_put_off k).settled start turns).each actor c there)
+      ((timers_run_out k start turns).each actor c there)
+
+  ways_at_the_end : (k : Codec C) (m : Actor C) → OfPaths (SentAtTheEnd (λ e strips alters. Unit {0}) k) m → OfPaths (IsOnItsWayAtTheEnd k) m
+  ways_at_the_end k (App a) h = tt
+  ways_at_the_end k (Path p) h = λ over s living r others is. (h over s living r others is).0
 
   pub what_waits_comes : (k : Codec C) → WhatWaitsComes k
   what_waits_comes k = record {
-    begins = λ start turns. record {
-      each = λ actor c there. member_so k c.member ((who_waits_has_a_timer k start turns).each actor c there) (((no_timer_is_put_off k).settled start turns).each actor c there)
-          ((timers_run_out k start turns).each actor c there);
-    };
+    begins = λ start turns. record { each = λ actor c there. ways_at_the_end k c.member (sent_at_the_end (λ e strips alters. Unit {0}) k start turns actor c there) };
     goes_on = goes_on_so k;
   }

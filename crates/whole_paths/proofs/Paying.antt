@@ -60,13 +60,13 @@ use Rattle.world_laws.proofs.Falls.FailedChecks.{infinite_came_so, fail_answered
 use Rattle.world_laws.proofs.Writes.Paths.{writes_no_more, passes_no_more}
 use Rattle.world_laws.proofs.Writes.Steps.{Lasts, settled_lasts, begins_lasts, unwritten}
 use Rattle.whole_paths.specs.AgendaSteps.{is_gone}
-use Rattle.whole_paths.specs.Answered.{HasAnswered, IsDone}
+use Rattle.whole_paths.specs.Answered.{CopiesAreAnswered, HasAnswered, IsDone}
 use Rattle.whole_paths.specs.Answered.{IsDone as idle_by}
 use Rattle.whole_paths.specs.AsFar.{stage}
 use Rattle.whole_paths.specs.Copies.{IsUnderWay, GoesOnItsWay, CopiesGoOn}
 use Rattle.whole_paths.specs.Copies.{GoesOnItsWay as copy}
 use Rattle.whole_paths.specs.Harms.{harms_left, as_it_arrives, longest_way, IsOnTime}
-use Rattle.whole_paths.specs.Owed.{Covers, IsAnswer, IsAnswered, AnswerGoesOn, AnswersGoOn, WhatIsOwedComes}
+use Rattle.whole_paths.specs.Owed.{Covers, IsAnswer, IsAnswered, IsAnsweredSo, AnswerComesSo, AnswerGoesOn, AnswersGoOn, WhatIsOwedComes}
 use Rattle.whole_paths.specs.Owed.IsAnswered.{owes, flies}
 use Rattle.whole_paths.specs.Owed.{AnswerGoesOn as goes}
 use Rattle.whole_paths.specs.Saying.{SaysWhatCame, HandsOver, PathsHandOver}
@@ -283,14 +283,18 @@ module _ {C : Type 0} where
 
   -- ---- one turn of a path
 
-  module _ (k : Codec C) (s : Side) (position by_then : ℕ) (p q : PathState C) (turned : Turned p q) (frames : Frames p q) where
+  module _ (k : Codec C) (s : Side) (position by_then : ℕ) (p q : PathState C) (turned : Turned p q) (frames : Frames p q) (Was : PlainSegment → Type 0)
+      (was : (t : ToSend) → first_sends p.agenda p ≡ Some t → t.from ≡ s → (end_at s p).tcp.due.ack ≡ true → (segment_sent p t).rst ≡ false → Was (segment_sent p t)) where
     abbrev Next : Type 0
-    Next = AnswerGoesOn k s position by_then p q
+    Next = (go : AnswerGoesOn k s position by_then p q) × AnswerComesSo Was go
 
-    flown : (x : PlainSegment) → Covers position x → q.link ≡ handed k s x p → p.clock + longest_way s p.link ≤ by_then → segments_sent s p.link < 2 ^ 64 - 1 → Next
-    flown x covers taken low few = ⊎_elim
-        (λ less. goes.harmed (subst (λ (l : LinkState C). harms_left l < harms_left p.link) (sym taken) less))
-        (λ comes. ⊎_elim (λ lost. goes.lost x covers taken lost) by comes.1)
+    same_on : q ≡ p → (h : IsAnswered k s position by_then p) → IsAnsweredSo Was h → Next
+    same_on same h so = let there = subst (λ v. (w : IsAnswered k s position by_then v) × IsAnsweredSo Was w) (sym same) (h, so) in (goes.on there.0, there.1)
+
+    flown : (x : PlainSegment) → Covers position x → Was x → q.link ≡ handed k s x p → p.clock + longest_way s p.link ≤ by_then → segments_sent s p.link < 2 ^ 64 - 1 → Next
+    flown x covers so taken low few = ⊎_elim
+        (λ less. (goes.harmed (subst (λ (l : LinkState C). harms_left l < harms_left p.link) (sym taken) less), tt))
+        (λ comes. ⊎_elim (λ lost. (goes.lost x covers taken lost, tt)) by comes.1)
         (each_uses_a_line_or_comes (k.strips p.profile.spelling) (k.alters p.profile.spelling) s (k.makes p.profile.spelling s x) size p.clock p.link few)
       where
         size : ℕ
@@ -300,60 +304,66 @@ module _ {C : Type 0} where
         after = handed k s x p
 
         by : Has (IsOnTime s size p.clock (as_it_arrives (k.strips p.profile.spelling) (k.alters p.profile.spelling) s (k.makes p.profile.spelling s x) p.clock p.link) p.link) after.under_way → Next
-        by has = goes.on (flies has.item (let in_time = has.holds.in_time in omega (arith, in_time, low))
-            (subst (λ (l : LinkState C). Has (λ g. g ≡ has.item) l.under_way) (sym taken) (record { at = has.at; item = has.item; there = has.there; holds = refl }))
-            (record {
-              to = has.holds.to;
-              segment = x;
-              covers = covers;
-              stripped = is_stripped s (next_number s p.link) p.clock p.link.lines;
-              altered = is_altered s (next_number s p.link) p.link.lines;
-              carried = subst (λ (c : Profile). has.item.carried
-                  ≡ changed (k.strips c.spelling s) (k.alters c.spelling s) (is_stripped s (next_number s p.link) p.clock p.link.lines) (is_altered s (next_number s p.link) p.link.lines)
-                  (k.makes c.spelling s x)) (sym frames.profile) has.holds.carried;
-            }))
+        by has = (
+          goes.on (flies has.item (let in_time = has.holds.in_time in omega (arith, in_time, low))
+              (subst (λ (l : LinkState C). Has (λ g. g ≡ has.item) l.under_way) (sym taken) (record { at = has.at; item = has.item; there = has.there; holds = refl }))
+              (record {
+                to = has.holds.to;
+                segment = x;
+                covers = covers;
+                stripped = is_stripped s (next_number s p.link) p.clock p.link.lines;
+                altered = is_altered s (next_number s p.link) p.link.lines;
+                carried = subst (λ (c : Profile). has.item.carried
+                    ≡ changed (k.strips c.spelling s) (k.alters c.spelling s) (is_stripped s (next_number s p.link) p.clock p.link.lines) (is_altered s (next_number s p.link) p.link.lines)
+                    (k.makes c.spelling s x)) (sym frames.profile) has.holds.carried;
+              })),
+          so,
+        )
 
     -- the segment that it sends says what came
-    says_so : (x : PlainSegment) → SaysWhatCame (end_at s p) x → q.link ≡ handed k s x p → p.clock + longest_way s p.link ≤ by_then → 2 ≤ stage (end_at s p).tcp.state
+    says_so : (x : PlainSegment) → SaysWhatCame (end_at s p) x → (x.rst ≡ false → Was x) → q.link ≡ handed k s x p → p.clock + longest_way s p.link ≤ by_then → 2 ≤ stage (end_at s p).tcp.state
         → position ≤ (end_at s p).tcp.recv.edge → segments_sent s p.link < 2 ^ 64 - 1 → Next
-    says_so x (say.acknowledges is rst) taken low high came few = flown x (record { up_to = (end_at s p).tcp.recv.edge; acknowledged = is; enough = came; rst = rst }) taken low few
-    says_so x (say.opens state none) taken low high came few = absurd (past_opening (end_at s p).tcp.state high state)
-    says_so x (say.resets is) taken low high came few = goes.resets x (inl is) taken
-    says_so x (say.refuses answer is reset) taken low high came few = goes.resets x (inr (answer, (is, reset))) taken
+    says_so x (say.acknowledges is rst) so taken low high came few = flown x (record { up_to = (end_at s p).tcp.recv.edge; acknowledged = is; enough = came; rst = rst }) (so rst) taken low few
+    says_so x (say.opens state none) so taken low high came few = absurd (past_opening (end_at s p).tcp.state high state)
+    says_so x (say.resets is) so taken low high came few = (goes.resets x (inl is) taken, tt)
+    says_so x (say.refuses answer is reset) so taken low high came few = (goes.resets x (inr (answer, (is, reset))) taken, tt)
 
     owes_goes : StillOwed s p q → HandsOver k p q → HasAnswered p → p.clock + longest_way s p.link ≤ by_then → 2 ≤ stage (end_at s p).tcp.state → position ≤ (end_at s p).tcp.recv.edge
         → (end_at s p).tcp.due.ack ≡ true → segments_sent s p.link < 2 ^ 64 - 1 → Next
     owes_goes (keeps d others first other h) hands answered low high came due few =
         let clock = frames.stands d others first other in let way = frames.way s in
         let up = (turned.far s).subflow.state in let edge = (turned.far s).subflow.received in
-        goes.on (owes (omega (arith, clock, way, low)) (omega (arith, high, up)) (omega (arith, came, edge)) (h due))
-    owes_goes (has_died gone) hands answered low high came due few = goes.gone gone
+        (goes.on (owes (omega (arith, clock, way, low)) (omega (arith, high, up)) (omega (arith, came, edge)) (h due)), tt)
+    owes_goes (has_died gone) hands answered low high came due few = (goes.gone gone, tt)
     owes_goes (is_sent t sends own) hands answered low high came due few = ⊎_elim
-        (λ same. goes.on (subst (IsAnswered k s position by_then) (sym same) (owes low high came due)))
-        (λ taken. says_so (segment_sent p t) (subst (λ u. SaysWhatCame (end_at u p) (segment_sent p t)) own taken.1) (subst (λ u. q.link ≡ handed k u (segment_sent p t) p) own taken.0) low high came few)
+        (λ same. same_on same (owes low high came due) tt)
+        (λ taken. says_so (segment_sent p t) (subst (λ u. SaysWhatCame (end_at u p) (segment_sent p t)) own taken.1) (λ unreset. was t sends own due unreset) (subst (λ u. q.link ≡ handed k u (segment_sent p t) p) own taken.0) low high came few)
         (subst (λ (o : Option ToSend). IfSome o (λ t. (q ≡ p) ⊎ ((q.link ≡ handed k t.from (segment_sent p t) p) × SaysWhatCame (end_at t.from p) (segment_sent p t)))) sends hands.sends)
-    owes_goes (rests same) hands answered low high came due few = goes.on (subst (IsAnswered k s position by_then) (sym same) (owes low high came due))
+    owes_goes (rests same) hands answered low high came due few = same_on same (owes low high came due) tt
     owes_goes (is_done is) hands answered low high came due few = by (is_dead (end_at s p).tcp.state) refl
       where
         by : (b : Bool) → is_dead (end_at s p).tcp.state ≡ b → Next
-        by true dead = goes.gone (gone_stays (end_at s p) (end_at s q) (turned.far s) dead)
+        by true dead = (goes.gone (gone_stays (end_at s p) (end_at s q) (turned.far s) dead), tt)
         by false living = absurd (true≢false (sym due ∙ (answered is s living).ack))
 
-    flies_goes : (f : Flight C) → f.tick ≤ by_then → IsUnderWay f p → IsAnswer k s position p f → GoesOnItsWay f p q → Next
-    flies_goes f low before h (copy.on there) = goes.on (flies f low there (record {
-      to = h.to;
-      segment = h.segment;
-      covers = h.covers;
-      stripped = h.stripped;
-      altered = h.altered;
-      carried = subst (λ (c : Profile). f.carried ≡ changed (k.strips c.spelling s) (k.alters c.spelling s) h.stripped h.altered (k.makes c.spelling s h.segment)) (sym frames.profile) h.carried;
-    }))
-    flies_goes f low before h (copy.arrives others first next) = goes.arrives f low before h others first next
-    flies_goes f low before h (copy.dies line next is) = goes.dies line next is
+    flies_goes : (f : Flight C) → f.tick ≤ by_then → IsUnderWay f p → (h : IsAnswer k s position p f) → Was h.segment → GoesOnItsWay f p q → Next
+    flies_goes f low before h so (copy.on there) = (
+      goes.on (flies f low there (record {
+        to = h.to;
+        segment = h.segment;
+        covers = h.covers;
+        stripped = h.stripped;
+        altered = h.altered;
+        carried = subst (λ (c : Profile). f.carried ≡ changed (k.strips c.spelling s) (k.alters c.spelling s) h.stripped h.altered (k.makes c.spelling s h.segment)) (sym frames.profile) h.carried;
+      })),
+      so,
+    )
+    flies_goes f low before h so (copy.arrives others first next) = (goes.arrives f low before h others first next, so)
+    flies_goes f low before h so (copy.dies line next is) = (goes.dies line next is, tt)
 
-    goes_by : HandsOver k p q → CopiesGoOn (Path p) (Path q) → HasAnswered p → segments_sent s p.link < 2 ^ 64 - 1 → IsAnswered k s position by_then p → Next
-    goes_by hands copies answered few (owes low high came due) = owes_goes (turned.owing s) hands answered low high came due few
-    goes_by hands copies answered few (flies f low there h) = flies_goes f low there h (copies f there)
+    goes_by : HandsOver k p q → CopiesGoOn (Path p) (Path q) → HasAnswered p → segments_sent s p.link < 2 ^ 64 - 1 → (h : IsAnswered k s position by_then p) → IsAnsweredSo Was h → Next
+    goes_by hands copies answered few (owes low high came due) so = owes_goes (turned.owing s) hands answered low high came due few
+    goes_by hands copies answered few (flies f low there h) so = flies_goes f low there h so (copies f there)
 
   -- ---- the world
 
@@ -374,19 +384,41 @@ module _ {C : Type 0} where
   member_stays (App a) = tt
   member_stays (Path p) = record { far = λ s. same_far (end_at s p); owing = λ s. rests refl }
 
-  answers_go_on : (k : Codec C) (m n : Actor C) → TurnedTo m n → FramesStay m n → PathsHandOver k m n → CopiesGoOn m n → HoldsOfKind (λ app. Unit {0}) HasAnswered m → AnswersGoOn k m n
-  answers_go_on k (App a) (App b) turned frames hands copies answered = tt
-  answers_go_on k (Path p) (Path q) turned frames hands copies answered = λ s position by_then few way. goes_by k s position by_then p q turned frames hands copies answered few way
-  answers_go_on k (App a) (Path q) turned frames hands copies answered = absurd turned
-  answers_go_on k (Path p) (App b) turned frames hands copies answered = absurd turned
+  -- what becomes of an answer, with what holds of the segments that go while one is owed
+  abbrev pub GoesSo : (PlainSegment → Type 0) → Side → PathState C → Type 0
+  GoesSo Was s p = (t : ToSend) → first_sends p.agenda p ≡ Some t → t.from ≡ s → (end_at s p).tcp.due.ack ≡ true → (segment_sent p t).rst ≡ false → Was (segment_sent p t)
+
+  abbrev pub AnswersComeSo : (PlainSegment → Type 0) → Codec C → Actor C → Actor C → Type 0
+  AnswersComeSo Was k (Path p) (Path q) = (s : Side) (position by_then : ℕ) → segments_sent s p.link < 2 ^ 64 - 1
+      → GoesSo Was s p → (h : IsAnswered k s position by_then p) → IsAnsweredSo Was h → (go : AnswerGoesOn k s position by_then p q) × AnswerComesSo Was go
+  AnswersComeSo Was k (App a) (App b) = Unit {0}
+  AnswersComeSo Was k _ _ = ⊥
+
+  answers_come : (Was : PlainSegment → Type 0) (k : Codec C) (m n : Actor C) → TurnedTo m n → FramesStay m n → PathsHandOver k m n → CopiesGoOn m n → HoldsOfKind (λ app. Unit {0}) HasAnswered m → AnswersComeSo Was k m n
+  answers_come Was k (App a) (App b) turned frames hands copies answered = tt
+  answers_come Was k (Path p) (Path q) turned frames hands copies answered = λ s position by_then few was h so. goes_by k s position by_then p q turned frames Was was hands copies answered few h so
+  answers_come Was k (App a) (Path q) turned frames hands copies answered = absurd turned
+  answers_come Was k (Path p) (App b) turned frames hands copies answered = absurd turned
+
+  -- whatever the segments are
+  any_answer : {s : Side} {position n : ℕ} {p : PathState C} (k : Codec C) (h : IsAnswered k s position n p) → IsAnsweredSo (λ x. Unit {0}) h
+  any_answer k (owes low high came due) = tt
+  any_answer k (flies f low there h) = tt
+
+  whatever_goes : (k : Codec C) (m n : Actor C) → AnswersComeSo (λ x. Unit {0}) k m n → AnswersGoOn k m n
+  whatever_goes k (App a) (App b) h = tt
+  whatever_goes k (Path p) (Path q) h = λ s position by_then few way. (h s position by_then few (λ t sends own due unreset. tt) way (any_answer k way)).0
+  whatever_goes k (App a) (Path q) h = absurd h
+  whatever_goes k (Path p) (App b) h = absurd h
 
   pub turned_to : (k : Codec C) (w : WorldState C) (turn : Turn) (actor : ℕ) (c : ActorCrew C) → slice_get w.crew actor ≡ Some c
       → (d : ActorCrew C) × (slice_get (after_turn k turn w).crew actor ≡ Some d) × TurnedTo c.member d.member
   turned_to k w turn = turn_each k (λ x y. TurnedTo x.member y.member) (λ x. member_stays x.member) (λ ask books x. member_turned k (answer_to books ask) x.member)
       (λ stamp x over. member_begins x.member over) turn w
 
-  pub what_is_owed_comes : (k : Codec C) → WhatIsOwedComes k
-  what_is_owed_comes k w answered turn actor c there =
+  pub answers_come_so : (Was : PlainSegment → Type 0) (k : Codec C) (w : WorldState C) → CopiesAreAnswered w → (turn : Turn) (actor : ℕ) (c : ActorCrew C) → slice_get w.crew actor ≡ Some c
+      → (d : ActorCrew C) × (slice_get (after_turn k turn w).crew actor ≡ Some d) × AnswersComeSo Was k c.member d.member
+  answers_come_so Was k w answered turn actor c there =
       let turned = turned_to k w turn actor c there in
       let d : ActorCrew C = turned.0 in
       let frames = frames_stay k w turn actor c there in
@@ -394,9 +426,12 @@ module _ {C : Type 0} where
       let copies = copies_leave k w turn actor c there in (
         d,
         turned.1,
-        answers_go_on k c.member d.member turned.2
+        answers_come Was k c.member d.member turned.2
             (subst (λ (x : ActorCrew C). FramesStay c.member x.member) (same_Some frames.0 d (sym frames.1 ∙ turned.1)) frames.2)
             (subst (λ (x : ActorCrew C). PathsHandOver k c.member x.member) (same_Some hands.0 d (sym hands.1 ∙ turned.1)) hands.2)
             (subst (λ (x : ActorCrew C). CopiesGoOn c.member x.member) (same_Some copies.0 d (sym copies.1 ∙ turned.1)) copies.2)
             (answered.each actor c there),
       )
+
+  pub what_is_owed_comes : (k : Codec C) → WhatIsOwedComes k
+  what_is_owed_comes k w answered turn actor c there = let go = answers_come_so (λ x. Unit {0}) k w answered turn actor c there in (go.0, go.1, whatever_goes k c.member go.0.member go.2)

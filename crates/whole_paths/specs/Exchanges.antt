@@ -1,6 +1,6 @@
 -- The exchange of a record: a copy of it comes to the peer, which passes its octets, and an answer that says so comes back (RFC 9293,
 -- section 3.10.7.4).
-use Rattle.std.specs.Prelude.{ℕ, ◌+◌, ◌-◌, ◌^◌, ◌≡◌, ◌<◌, ◌≤◌, ◌⊎◌, Bool, true, false, None, Some, IsSome, List, length, slice_get}
+use Rattle.std.specs.Prelude.{ℕ, ◌+◌, ◌-◌, ◌^◌, ◌≡◌, ◌<◌, ◌≤◌, ◌⊎◌, Bool, true, false, None, Some, IsSome, List, [], ◌∷◌, length, slice_get}
 use Rattle.sides.specs.declared.side.Side.{Side}
 use Rattle.sides.specs.Side.{peer}
 use Rattle.path_segments.specs.Spelled.{PlainSegment}
@@ -11,7 +11,7 @@ use Rattle.subflow_send.specs.Records.{Record, end_of}
 use Rattle.subflow_send.specs.declared.record.RecordKind.TheVariants.{Data}
 use Rattle.subflow_tcp.specs.Emitting.{acknowledged_in}
 use Rattle.subflow_tcp.specs.State.{is_fin_passed}
-use Rattle.subflow_tcp.specs.States.{is_dead}
+use Rattle.subflow_tcp.specs.States.{is_closed_to_segments, is_dead}
 use Rattle.subflow_tcp.specs.declared.segments.Outgoing.{Outgoing}
 use Rattle.path_store.specs.declared.lines.LineAction.TheVariants as actions
 use Rattle.path_store.specs.declared.lines.LineLeft.{LineLeft}
@@ -27,9 +27,11 @@ use Rattle.path_core.specs.Values.{Carried, values}
 use Rattle.path_core.specs.declared.events.Event.TheVariants as happenings
 use Rattle.world_laws.specs.declared.member.Member.TheVariants.{App, Path}
 use Rattle.world_laws.specs.Actors.{Actor, ActorCrew}
+use Rattle.world_laws.specs.Laws.{Always}
+use Rattle.world_laws.specs.Members.{HoldsOfKind}
 use Rattle.world_laws.specs.Openings.{Start, opened_world}
 use Rattle.world_laws.specs.Promises.{HasRoom, NumbersFit}
-use Rattle.world_laws.specs.Worlds.{Turn, after_turn, world_run}
+use Rattle.world_laws.specs.Worlds.{WorldState, Turn, after_turn, world_run}
 use Rattle.whole_paths.specs.Arrivals.{HasItsMapping}
 use Rattle.whole_paths.specs.AsFar.{stage}
 use Rattle.whole_paths.specs.Brought.{IsToReset, IsUnsure}
@@ -37,7 +39,7 @@ use Rattle.whole_paths.specs.Copies.{IsUnderWay}
 use Rattle.whole_paths.specs.Flights.{IsFirst, IsOnItsWay, IsSentSo}
 use Rattle.whole_paths.specs.Harms.{harms_left, loses, longest_way}
 use Rattle.whole_paths.specs.InHand.{IsInHand}
-use Rattle.whole_paths.specs.Owed.{IsAnswer, IsAnswered}
+use Rattle.whole_paths.specs.Owed.{IsAnswered, IsAnsweredSo}
 use Rattle.whole_paths.specs.Waits.{IsNews}
 
 -- ---- where
@@ -59,14 +61,21 @@ pub record IsSentWhole (c : Profile) (s : Side) (r : Record) (e : PathEnd) (stri
   pub unstripped : stripped ≡ false
   pub unaltered : altered ≡ false
 
+-- the segment acknowledges and nothing more, at this position or behind it
+pub record IsBareFrom (edge : ℕ) (x : PlainSegment) : Type 0 where
+  pub from : edge ≤ x.position
+  pub syn : x.syn ≡ false
+  pub fin : x.fin ≡ false
+  pub payload : x.payload ≡ []
+
 -- how far the exchange of a record is that this side's end sends, if by this tick an answer is to come
 pub data IsExchanged (s : Side) (r : Record) (by : ℕ) (p : PathState Carried) : Type 0 where
   -- the record is the first that isn't acknowledged, and a copy of it comes so early that the answer comes in time
   comes : (arrival : ℕ) → arrival + longest_way (peer s) p.link ≤ by → IsFirst r (end_at s p) → (way : IsOnItsWay values s r arrival p) → IsSentSo (IsSentWhole p.profile s r) way
       → IsExchanged s r by p
-  -- the peer has all of it in hand, or answers that its RCV.NXT is at the end of the record, or past it
-  in_hand : IsInHand (peer s) (end_of r) by p → IsExchanged s r by p
-  answered : IsAnswered values (peer s) (end_of r) by p → IsExchanged s r by p
+  -- the end has both SYNs, and the peer has all of it in hand, or answers that its RCV.NXT is at the end of the record, or past it
+  in_hand : 2 ≤ stage (end_at s p).tcp.state → IsInHand (peer s) (end_of r) by p → IsExchanged s r by p
+  answered : 2 ≤ stage (end_at s p).tcp.state → (h : IsAnswered values (peer s) (end_of r) by p) → IsAnsweredSo (IsBareFrom (end_at s p).tcp.recv.edge) h → IsExchanged s r by p
   -- SND.UNA is at its end, or past it
   acknowledged : end_of r ≤ (end_at s p).tcp.send.una → IsExchanged s r by p
 
@@ -79,14 +88,14 @@ AtEither Holds t p q = Holds (end_at t p) ⊎ Holds (end_at t q)
 -- there is news, or the script harms a segment of the exchange, or an end of the path dies
 pub data IsHeldUp (s : Side) (p q : PathState Carried) : Type 0 where
   news : IsNews (end_at s p) (end_at s q) → IsHeldUp s p q
+  -- octets of the peer's came in order
+  more_came : (end_at s p).tcp.recv.edge < (end_at s q).tcp.recv.edge → IsHeldUp s p q
   -- a line was used by which a segment is lost or late, or the link lost one by the word drawn for it, or since its queue was full
   harmed : harms_left q.link < harms_left p.link → IsHeldUp s p q
   lost : (t : Side) (x : PlainSegment) → q.link ≡ handed values t x p → loses t (length (made p.profile.spelling t x)) p.clock p.link ≡ true → IsHeldUp s p q
   -- an end is dead, or the line comes next by which the path dies
   gone : (t : Side) → AtEither (λ e. is_dead e.tcp.state ≡ true) t p q → IsHeldUp s p q
   dies : (line : LineLeft) → next_event p ≡ Some (happenings.Takes line) → line.action ≡ actions.Die → IsHeldUp s p q
-  -- the answer came outside the window of the end, or as a SYN/ACK
-  overtaken : (f : Flight Carried) → IsUnderWay f p → IsAnswer values (peer s) 0 p f → IsHeldUp s p q
 
 -- an end doesn't go by the mappings of pieces, or goes on to a reset
 pub data IsAstray (s : Side) (r : Record) (p q : PathState Carried) : Type 0 where
@@ -96,13 +105,17 @@ pub data IsAstray (s : Side) (r : Record) (p q : PathState Carried) : Type 0 whe
       → IsAstray s r p q
   -- an end is past its peer's FIN
   behind_fin : (t : Side) → AtEither (λ e. is_fin_passed e.tcp ≡ true) t p q → IsAstray s r p q
-  -- an end hasn't both SYNs, or B not both keys, or an end not its peer's key
-  unopened : (t : Side) → stage (end_at t p).tcp.state ≤ 2 → IsAstray s r p q
+  -- the peer hasn't both SYNs, or its handshake isn't done, though its RCV.NXT is past the record
+  unopened : stage (end_at (peer s) p).tcp.state ≤ 1 → IsAstray s r p q
+  half_open : stage (end_at (peer s) p).tcp.state ≤ 2 → end_of r ≤ (end_at (peer s) p).tcp.recv.edge → IsAstray s r p q
+  -- B hasn't both keys, or an end not its peer's key
   unsure : (t : Side) → IsUnsure t (end_at t q) → IsAstray s r p q
   unkeyed : (t : Side) → (end_at t q).modes.peer_key ≡ None → IsAstray s r p q
   -- an end fell back to plain TCP, or sends by an infinite mapping
   plain : (t : Side) → AtEither (λ e. e.modes.identity ≡ true) t p q → IsAstray s r p q
   infinite : (t : Side) → IsSome (end_at t p).modes.own_infinite ⊎ IsSome (end_at t p).modes.peer_infinite → IsAstray s r p q
+  -- a copy that comes to the end lies past its window
+  past_window : (f : Flight Carried) → IsUnderWay f p → f.to ≡ s → (end_at s p).tcp.recv.edge + 1048576 ≤ f.carried.segment.position → IsAstray s r p q
   -- the record is A's first piece, which carries both keys
   first_piece : is_first_piece s r (end_at s p) ≡ true → IsAstray s r p q
 
@@ -121,8 +134,23 @@ ExchangesGoOn (Path p) (Path q) =
 ExchangesGoOn (App a) (App b) = Unit {0}
 ExchangesGoOn _ _ = ⊥
 
+-- where a turn is over, with the first record of each end that opens, is open or closes: within a minute and the longest time there and back
+abbrev pub ExchangesBegin : PathState Carried → Type 0
+ExchangesBegin p = p.agenda ≡ [] → (s : Side) → is_closed_to_segments (end_at s p).tcp.state ≡ false → (r : Record) (others : List Record)
+    → (end_at s p).tcp.send.records ≡ r ∷ others → IsExchanged s r (p.clock + 60000 + longest_way s p.link + longest_way (peer s) p.link) p
+
+-- once the clock is past its tick SND.UNA is at the record's end, or past it
+abbrev pub ExchangesEnd : PathState Carried → Type 0
+ExchangesEnd p = (s : Side) (r : Record) (by : ℕ) → IsExchanged s r by p → by < p.clock → end_of r ≤ (end_at s p).tcp.send.una
+
+-- on each path
+pub record ExchangesAreInTime (w : WorldState Carried) : Type 0 where
+  pub begin : (actor : ℕ) (c : ActorCrew Carried) → slice_get w.crew actor ≡ Some c → HoldsOfKind (λ app. Unit {0}) ExchangesBegin c.member
+  pub end : (actor : ℕ) (c : ActorCrew Carried) → slice_get w.crew actor ≡ Some c → HoldsOfKind (λ app. Unit {0}) ExchangesEnd c.member
+
 -- at any moment, and by any turn
-abbrev pub EachRecordIsAcknowledged : Type 0
-EachRecordIsAcknowledged = (start : Start) (turns : List Turn) → HasRoom start → NumbersFit start → let w = world_run values turns (opened_world start) in
-    (turn : Turn) (actor : ℕ) (c : ActorCrew Carried) → slice_get w.crew actor ≡ Some c
-    → (d : ActorCrew Carried) × (slice_get (after_turn values turn w).crew actor ≡ Some d) × ExchangesGoOn c.member d.member
+pub record EachRecordIsAcknowledged : Type 0 where
+  pub in_time : Always values (λ start w. ExchangesAreInTime w)
+  pub goes_on : (start : Start) (turns : List Turn) → HasRoom start → NumbersFit start → let w = world_run values turns (opened_world start) in
+      (turn : Turn) (actor : ℕ) (c : ActorCrew Carried) → slice_get w.crew actor ≡ Some c
+      → (d : ActorCrew Carried) × (slice_get (after_turn values turn w).crew actor ≡ Some d) × ExchangesGoOn c.member d.member

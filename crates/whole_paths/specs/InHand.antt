@@ -2,6 +2,7 @@
 use Rattle.std.specs.Prelude.{ℕ, ◌+◌, ◌-◌, ◌^◌, ◌≡◌, ◌<◌, ◌≤◌, ◌⊎◌, true, false, None, Some, IsSome, List, ◌∷◌, length, slice_get}
 use Rattle.std.specs.List.{list_any}
 use Rattle.sides.specs.declared.side.Side.{Side}
+use Rattle.path_segments.specs.Spelled.{PlainSegment}
 use Rattle.dss_mapping.specs.Mappings.{run_of}
 use Rattle.dss_mapping.specs.Runs.{covers}
 use Rattle.dss_mapping.specs.declared.kept.KeptMapping.{KeptMapping}
@@ -23,7 +24,7 @@ use Rattle.whole_paths.specs.Answered.{CopiesAreAnswered}
 use Rattle.whole_paths.specs.Brought.{IsToReset, IsUnsure, IsThere, Comes, IsTo, Brings}
 use Rattle.whole_paths.specs.Harms.{longest_way}
 use Rattle.whole_paths.specs.Mapped.{says_mapping, IsMapped, MappingsAreLive}
-use Rattle.whole_paths.specs.Owed.{AnswerGoesOn}
+use Rattle.whole_paths.specs.Owed.{AnswerGoesOn, AnswerComesSo}
 use Rattle.whole_paths.specs.Passed.{WhatIsInOrderIsPassed}
 
 module _ {C : Type 0} where
@@ -53,6 +54,11 @@ module _ {C : Type 0} where
     plain : (end_at s q).modes.identity ≡ true → HandGoesOn k s position by p q
     unkeyed : (end_at s q).modes.peer_key ≡ None → HandGoesOn k s position by p q
     infinite : IsSome (end_at s p).modes.peer_infinite → HandGoesOn k s position by p q
+
+  -- of an answer to it, that this holds of its segment
+  abbrev pub HandComesSo : {k : Codec C} {s : Side} {position by : ℕ} {p q : PathState C} → (PlainSegment → Type 0) → HandGoesOn k s position by p q → Type 0
+  HandComesSo Was (answered go) = AnswerComesSo Was go
+  HandComesSo Was _ = Unit {0}
 
   -- ---- how it begins
 

@@ -69,6 +69,17 @@ module _ {C : Type 0} where
     gone : is_dead (end_at s q).tcp.state ≡ true → AnswerGoesOn k s position by p q
     dies : (line : LineLeft) → next_event p ≡ Some (happenings.Takes line) → line.action ≡ actions.Die → AnswerGoesOn k s position by p q
 
+  -- of an answer under way, that this holds of its segment
+  abbrev pub IsAnsweredSo : {k : Codec C} {s : Side} {position by : ℕ} {p : PathState C} → (PlainSegment → Type 0) → IsAnswered k s position by p → Type 0
+  IsAnsweredSo Was (flies f low there h) = Was h.segment
+  IsAnsweredSo Was _ = Unit {0}
+
+  -- and of the answer that arrives
+  abbrev pub AnswerComesSo : {k : Codec C} {s : Side} {position by : ℕ} {p q : PathState C} → (PlainSegment → Type 0) → AnswerGoesOn k s position by p q → Type 0
+  AnswerComesSo Was (on h) = IsAnsweredSo Was h
+  AnswerComesSo Was (arrives f low there h others first next) = Was h.segment
+  AnswerComesSo Was _ = Unit {0}
+
   -- as the path becomes this actor, with fewer than 2^64 - 1 segments sent from the side
   abbrev pub AnswersGoOn : Codec C → Actor C → Actor C → Type 0
   AnswersGoOn k (Path p) (Path q) = (s : Side) (position by : ℕ) → segments_sent s p.link < 2 ^ 64 - 1 → IsAnswered k s position by p → AnswerGoesOn k s position by p q

@@ -142,7 +142,8 @@ pub fn what_runs_out_goes_again()
 
 /// A law: where the turn of a path is over, or an event is next on it, no end owes an acknowledgement or a SYN/ACK, so that each copy that
 /// asks for one is answered in the turn in which it comes and before anything else happens (RFC 9293, section 3.10.7.4), or by the reset with
-/// which the end dies.
+/// which the end dies. While an acknowledgement is owed no segment goes from the end but this one, at SND.NXT and without payload, or a reset
+/// (`first`).
 pub fn each_copy_is_answered_at_once()
     ensures octets { Always octets (λ start w. CopiesAreAnswered w) }
     ensures values { Always values (λ start w. CopiesAreAnswered w) }
@@ -321,14 +322,15 @@ pub fn what_waits_comes()
     ensures values { WhatWaitsComes values }
 {}
 
-/// A law: a record that is on its way to the peer is acknowledged, unless the script harms a segment of the exchange, or there is news (RFC
-/// 9293, section 3.10.7.4).
+/// A law: the first record that isn't acknowledged is acknowledged within a minute and the longest time that a segment is under way there and
+/// back, unless the script harms a segment of the exchange, or there is news (RFC 9293, section 3.10.7.4).
 ///
-/// By each turn it goes on in its order, and the tick stays by which the answer is to come: the first record that isn't acknowledged comes to
-/// the peer, which takes its octets in order, with their mapping, or had them before; all of it is in hand there, and is passed; an answer
-/// goes back that acknowledges as much; and SND.UNA is at the record's end then, or past it. So it is with data on the path that opens
-/// the connection, without checksums, where no line takes options away or alters payload. Or there is news, a segment is lost or late, or an
-/// end dies (`IsHeldUp`); or an end doesn't go by the mappings of pieces, or goes on to a reset (`IsAstray`).
+/// Where a turn is over such an exchange begins. By each turn it goes on in its order, and the tick stays: a copy of the record comes to the
+/// peer, which takes its octets in order, with their mapping, or had them before; all of it is in hand there, and is passed; an
+/// acknowledgement goes back that says as much; and SND.UNA is at the record's end then, or past it. Once the clock is past the tick it is so
+/// (`in_time`). That is said of data on the path that opens the connection, without checksums, where no line takes options away or alters
+/// payload. Or there is news, octets of the peer's come in order, a segment is lost or late, or an end dies (`IsHeldUp`); or an end
+/// doesn't go by the mappings of pieces, or goes on to a reset (`IsAstray`).
 pub fn each_record_is_acknowledged()
     ensures { EachRecordIsAcknowledged }
 {}
