@@ -1,10 +1,8 @@
 -- Nothing came that wasn't sent: each end's RCV.NXT is that of its lane, which passes no byte that the lane wasn't granted.
-use Rattle.std.proofs.Common.{◌≡◌, refl, sym, subst, ◌∙◌, ◌⊎◌, inl, inr, ℕ, suc, ◌+◌, ◌≤◌, arith, Bool, true, false, true≢false, Option, List, length}
-use Rattle.sides.specs.declared.side.Side.{Side}
+use Rattle.std.proofs.Common.{◌≡◌, refl, sym, subst, ◌⊎◌, inl, inr, ℕ, suc, ◌≤◌, arith, Bool, true, false, Option, List, length}
+use Rattle.std.specs.Prelude.{IfSome}
 use Rattle.sides.specs.declared.side.Side.TheVariants.{A, B}
-use Rattle.sides.specs.Side.{peer}
 use Rattle.subflow_recv.specs.Receiving.{Receiving}
-use Rattle.subflow_tcp.specs.State.{is_behind}
 use Rattle.stream_lanes.specs.Duo.{Duo, after_events}
 use Rattle.stream_lanes.specs.Holding.{LaneHolds, Holds, IsFin}
 use Rattle.stream_lanes.specs.Lane.{Lane, Cell, Pair}
@@ -15,7 +13,7 @@ use Rattle.stream_lanes.proofs.Lists.{in_map}
 use Rattle.actor_desk.specs.Books.{books_in}
 use Rattle.path_store.specs.declared.granted_piece.GrantedPiece.{GrantedPiece}
 use Rattle.path_core.specs.Profile.{Profile}
-use Rattle.path_core.specs.State.{PathState, end_at}
+use Rattle.path_core.specs.State.{PathState}
 use Rattle.path_core.specs.Values.{Carried, values}
 use Rattle.world_laws.specs.declared.member.Member.TheVariants.{App, Path}
 use Rattle.world_laws.specs.Actors.{Actor, ActorCrew}
@@ -25,10 +23,9 @@ use Rattle.world_laws.specs.Openings.{Start, opened_world}
 use Rattle.world_laws.specs.Promises.{HoldsAnyway, HoldsAnywayOfOctets}
 use Rattle.world_laws.specs.Worlds.{WorldState, world_run}
 use Rattle.world_laws.proofs.Lanes.Beginning.{each_run_shows}
-use Rattle.world_laws.proofs.Lanes.Growing.{past_behind}
 use Rattle.world_laws.proofs.Lanes.OfAWorld.{Links, WorldShows, anyhow, anyhow_free, duo_of, first_duo, free_run}
 use Rattle.world_laws.proofs.Lanes.SentRecords.{SentShows}
-use Rattle.world_laws.proofs.Lanes.Showing.{IsAtEdge, IsPastFin, PathShows}
+use Rattle.world_laws.proofs.Lanes.Showing.{HasFin, IsAtEdge, IsPastFin, PathShows}
 use Rattle.world_laws.proofs.Promises.Made.{run_fresh}
 use Rattle.world_laws.proofs.Worlds.CastLifting.{each_actor}
 use Rattle.whole_paths.specs.Sent.{WasSent, WhatCameWasSent}
@@ -40,27 +37,34 @@ next_after path v false nxt heard granted sent fins pair h all = let is = h.next
 next_after path v true nxt heard granted sent fins pair h all =
     let fin = h.fin refl in let at = fin.holds in let last = (all.each fin.at fin.item fin.there).last in omega (arith, at, last)
 
--- and RCV.NXT is not, or at the FIN behind them
-edge_before : (path : ℕ) (v : View) (recv : Receiving) (fin_at : Option ℕ) (back : Lane) (nxt : ℕ) → LaneHolds v path back → suc (length back.sent) ≤ nxt → IsAtEdge recv back ⊎ IsPastFin fin_at recv back
-    → (is_behind fin_at recv.edge ≡ false → recv.edge ≤ nxt) × (recv.edge ≤ nxt + 1)
-edge_before path v recv fin_at back nxt holds next (inl at) = let is = at.edge_is in let within = holds.bytes.within in (λ unpassed. omega (arith, is, within, next), omega (arith, is, within, next))
-edge_before path v recv fin_at back nxt holds next (inr past) =
-    let is = past.edge_is in let within = holds.bytes.within in
-    (λ unpassed. absurd (true≢false (sym (past_behind fin_at recv back past) ∙ unpassed)), omega (arith, is, within, next))
+-- and behind the FIN, once one was sent
+next_after_fin : (path : ℕ) (v : View) (finished : Bool) (nxt heard : ℕ) (granted : List GrantedPiece) (sent : List Cell) (fins : List ℕ) (pair : Option Pair) → SentShows finished nxt heard granted sent fins pair
+    → Every (IsFin path v sent) fins → (position : ℕ) → HasFin fins position → (position ≡ suc (length sent)) × (suc (suc (length sent)) ≤ nxt)
+next_after_fin path v false nxt heard granted sent fins pair h all position has = let unsent = h.none refl in let there = has.there in cc
+next_after_fin path v true nxt heard granted sent fins pair h all position has =
+    let fin = h.fin refl in
+    let at = fin.holds in let last = (all.each fin.at fin.item fin.there).last in
+    let is = has.holds in let there = (all.each has.at has.item has.there).last in
+    (omega (arith, is, there), omega (arith, at, last))
+
+-- RCV.NXT is behind some of those bytes, or at the FIN behind them
+module _ (path : ℕ) (v : View) (back : Lane) (holds : LaneHolds v path back) (finished : Bool) (nxt heard : ℕ) (granted : List GrantedPiece)
+    (sent : SentShows finished nxt heard granted back.sent back.fins back.pair) where
+  edge_before : (recv : Receiving) (fin_at : Option ℕ) → IfSome fin_at (HasFin back.fins) → IsAtEdge recv back ⊎ IsPastFin fin_at recv back → recv.edge ≤ nxt
+  edge_before recv fin_at fin (inl at) =
+      let is = at.edge_is in let within = holds.bytes.within in let next = next_after path v finished nxt heard granted back.sent back.fins back.pair sent holds.fins in
+      omega (arith, is, within, next)
+  edge_before recv fin_at fin (inr past) =
+      let has : HasFin back.fins (suc back.edge) = subst (λ o. IfSome o (HasFin back.fins)) past.at_is fin in
+      let next = next_after_fin path v finished nxt heard granted back.sent back.fins back.pair sent holds.fins (suc back.edge) has in
+      let is = past.edge_is in let at = next.0 in let behind = next.1 in
+      omega (arith, is, at, behind)
 
 path_sent : (path : ℕ) (v u : View) (c : Profile) (p : PathState Carried) (ab ba : Lane) → PathShows c p ab ba → LaneHolds v path ab → LaneHolds u path ba → WasSent p
-path_sent path v u c p ab ba shows ab_holds ba_holds = record { octets = λ s. (by s).0; fin = λ s. (by s).1 }
-  where
-    from_a : suc (length ab.sent) ≤ p.a.tcp.send.nxt
-    from_a = next_after path v p.a.tcp.send.finished p.a.tcp.send.nxt p.a.sending.heard p.a.sending.granted ab.sent ab.fins ab.pair shows.a.sender.sent ab_holds.fins
-
-    from_b : suc (length ba.sent) ≤ p.b.tcp.send.nxt
-    from_b = next_after path u p.b.tcp.send.finished p.b.tcp.send.nxt p.b.sending.heard p.b.sending.granted ba.sent ba.fins ba.pair shows.b.sender.sent ba_holds.fins
-
-    by : (s : Side) → (is_behind (end_at s p).tcp.fin_at (end_at s p).tcp.recv.edge ≡ false → (end_at s p).tcp.recv.edge ≤ (end_at (peer s) p).tcp.send.nxt)
-        × ((end_at s p).tcp.recv.edge ≤ (end_at (peer s) p).tcp.send.nxt + 1)
-    by A = edge_before path u p.a.tcp.recv p.a.tcp.fin_at ba p.b.tcp.send.nxt ba_holds from_b shows.a.receiver.edge
-    by B = edge_before path v p.b.tcp.recv p.b.tcp.fin_at ab p.a.tcp.send.nxt ab_holds from_a shows.b.receiver.edge
+path_sent path v u c p ab ba shows ab_holds ba_holds A =
+    edge_before path u ba ba_holds p.b.tcp.send.finished p.b.tcp.send.nxt p.b.sending.heard p.b.sending.granted shows.b.sender.sent p.a.tcp.recv p.a.tcp.fin_at shows.a.receiver.fin shows.a.receiver.edge
+path_sent path v u c p ab ba shows ab_holds ba_holds B =
+    edge_before path v ab ab_holds p.a.tcp.send.finished p.a.tcp.send.nxt p.a.sending.heard p.a.sending.granted shows.a.sender.sent p.b.tcp.recv p.b.tcp.fin_at shows.b.receiver.fin shows.b.receiver.edge
 
 -- ---- the world
 
@@ -86,7 +90,7 @@ what_came_was_sent start turns size =
 
 shown_sent : (m : Actor Carried) → SentMember m → SentMember (shown_member m)
 shown_sent (App a) h = tt
-shown_sent (Path p) h = record { octets = λ s. h.octets s; fin = λ s. h.fin s }
+shown_sent (Path p) h = λ s. h s
 
 world_sent : (w : WorldState Carried) → WhatCameWasSent w → WhatCameWasSent (shown_world w)
 world_sent w h = record {

@@ -232,7 +232,7 @@ pub fn what_is_acknowledged_came()
 {}
 
 /// A law: nothing came that wasn't sent: RCV.NXT of each end lies at its peer's SND.NXT or below, whatever is lost, late, repeated or altered
-/// (RFC 9293, section 3.4). Once RCV.NXT is past the peer's FIN, it lies at one position more at most.
+/// (RFC 9293, section 3.4), also once RCV.NXT is past the peer's FIN.
 pub fn what_came_was_sent()
     ensures values { HoldsAnyway WhatCameWasSent }
     ensures octets { HoldsAnywayOfOctets WhatCameWasSent }

@@ -198,6 +198,7 @@ module _ (c : Profile) (s : Side) (out back : Lane) where
     fin_acked = h.sender.fin_acked;
     sent = record {
       next = h.sender.sent.next;
+      none = h.sender.sent.none;
       fin = h.sender.sent.fin;
       pieces = h.sender.sent.pieces;
       covered = h.sender.sent.covered;

@@ -79,7 +79,7 @@ opening_shows links c s number state opens path own key nonce = record {
     heard = refl;
     granted = Every-nil _;
     fin_acked = λ is. absurd (false≢true is);
-    sent = record { next = λ no. refl; fin = λ is. absurd (false≢true is); pieces = Every-nil _; covered = λ n c e above. cc; rising = tt };
+    sent = record { next = λ no. refl; none = λ no. refl; fin = λ is. absurd (false≢true is); pieces = Every-nil _; covered = λ n c e above. cc; rising = tt };
   };
   receiver = record {
     same_mode = refl;

@@ -40,10 +40,11 @@ pub record RisesTo (sent : List Cell) (granted : List GrantedPiece) (m : Pair) :
   pub line : (n : ℕ) (c : Cell) → first ≤ n → n < m.pos → slice_get sent n ≡ Some c → c.place + first ≡ base + n
   pub pieces : Every (λ piece. first < piece.position) granted
 
--- The next position is that behind the record, and behind the FIN once it was sent. The pieces that are granted stand in the record, and
--- have all bytes that the end didn't hear acknowledged.
+-- The next position is that behind the record, and behind the FIN once it was sent; none was sent before that. The pieces that are granted
+-- stand in the record, and have all bytes that the end didn't hear acknowledged.
 pub record SentShows (finished : Bool) (nxt heard : ℕ) (granted : List GrantedPiece) (sent : List Cell) (fins : List ℕ) (pair : Option Pair) : Type 0 where
   pub next : finished ≡ false → nxt ≡ suc (length sent)
+  pub none : finished ≡ false → fins ≡ []
   pub fin : finished ≡ true → Has (λ n. suc n ≡ nxt - 1) fins
   pub pieces : Every (IsPieceOf sent) granted
   pub covered : (n : ℕ) (c : Cell) → slice_get sent n ≡ Some c → heard ≤ c.place → Has (Covers n) granted
@@ -76,7 +77,8 @@ rises_more sent cells granted m h = let within = h.within in record {
 pub finished_sent : (finished : Bool) (nxt heard : ℕ) (granted : List GrantedPiece) (sent : List Cell) (fins after : List ℕ) (pair : Option Pair) → SentShows finished nxt heard granted sent fins pair
     → Has (λ n. suc n ≡ nxt) after → SentShows true (nxt + 1) heard granted sent after pair
 finished_sent finished nxt heard granted sent fins after pair h has = record {
-  next = λ none. absurd (false≢true (sym none));
+  next = λ unsent. absurd (false≢true (sym unsent));
+  none = λ unsent. absurd (false≢true (sym unsent));
   fin = λ is. record { at = has.at; item = has.item; there = has.there; holds = has.holds ∙ omega arith };
   pieces = h.pieces;
   covered = h.covered;
@@ -112,6 +114,7 @@ pub granted_sent : (nxt heard from to : ℕ) (bytes : List ℕ) (granted : List 
     → SentShows finished (nxt + length bytes) heard (granted ++ record { position = nxt; from = from; to = to } ∷ []) (sent ++ cells_from from bytes) fins pair
 granted_sent nxt heard from to bytes granted sent fins pair at whole some finished h none = record {
   next = λ no. omega (arith, at, length-append sent cells, cells_size from bytes);
+  none = h.none;
   fin = λ is. absurd (both_ways finished none is);
   pieces = Every-push piece (Every-map (λ old shows. piece_more sent cells old shows) h.pieces) own;
   covered = λ n c e above. ⊎_elim
@@ -178,6 +181,7 @@ pub heard_sent : (finished : Bool) (nxt heard next : ℕ) (granted : List Grante
     → SentShows finished nxt (max heard next) (filter (is_open (max heard next)) granted) sent fins pair
 heard_sent finished nxt heard next granted sent fins pair h = record {
   next = h.next;
+  none = h.none;
   fin = h.fin;
   pieces = all_tested (is_open (max heard next)) granted h.pieces;
   covered = λ n c e above.
