@@ -34,7 +34,7 @@ pub data Hears (s : Side) (item : Heard) (e : PathEnd) (d : Duty) (f : PathEnd) 
   resets_then : IsToReset s next → Hears s item e d f next
   dies : is_gone f ≡ true → Hears s item e d f next
 
-hear_more : (s : Side) (item : Heard) (items : List Heard) (d : Duty) (ds : List Duty) → side_of d ≡ s → comes_before_keeping d ≡ true → is_heard d ≡ false → IsToHear s item items ds → IsToHear s item items (d ∷ ds)
+pub hear_more : (s : Side) (item : Heard) (items : List Heard) (d : Duty) (ds : List Duty) → side_of d ≡ s → comes_before_keeping d ≡ true → is_heard d ≡ false → IsToHear s item items ds → IsToHear s item items (d ∷ ds)
 hear_more s item items (duties.Step (step_duties.Heard t index)) ds own before heard hear = absurd (true≢false heard)
 hear_more s item items d ds own before heard hear = (own, (before, hear))
 

@@ -8,6 +8,7 @@ pub mod Came
 pub mod Closing
 pub mod Copies
 pub mod DataAcks
+pub mod DataAcksAsked
 pub mod DataAcksHeard
 pub mod Courses
 pub mod Due

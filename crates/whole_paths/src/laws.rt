@@ -13,6 +13,7 @@ ghost use Rattle.whole_paths.specs.Came.{WhatIsAcknowledgedCame};
 ghost use Rattle.whole_paths.specs.Closing.{EachDataFinCounts, EachDataFinIsSaid};
 ghost use Rattle.whole_paths.specs.Copies.{CopiesLeaveByArriving};
 ghost use Rattle.whole_paths.specs.DataAcks.{EachSegmentHasADataAck};
+ghost use Rattle.whole_paths.specs.DataAcksAsked.{WhatIsAskedComes};
 ghost use Rattle.whole_paths.specs.DataAcksHeard.{EachDataAckCounts, EachDataAckIsSaid};
 ghost use Rattle.whole_paths.specs.Due.{CopiesArriveAsSent};
 ghost use Rattle.whole_paths.specs.Exchanges.{EachRecordIsAcknowledged};
@@ -333,6 +334,18 @@ pub fn what_waits_comes()
 /// doesn't go by the mappings of pieces, or goes on to a reset (`IsAstray`).
 pub fn each_record_is_acknowledged()
     ensures { EachRecordIsAcknowledged }
+/// A law: an end without a record asks its peer again, and that comes within a minute and the longest time that a segment is under way,
+/// unless the script harms it.
+///
+/// So it waits for the Data ACK of bytes or of a DATA_FIN, for a window, or for what answers its third MP_JOIN or MP_FASTCLOSE (RFC 8684,
+/// sections 3.2, 3.3 and 3.5). Where a turn is over its timer runs, for a minute at most (`timers_run_out`). From then on, by each turn, its
+/// timer runs still, or it is to send again, or a copy of that is under way, and the tick stays by which a copy comes; or a copy was what
+/// arrives next; or the end has a record again, which comes by the same tick (`what_waits_comes`); or there is news (`timers_run_on`), or
+/// nothing is outstanding any longer; or the script has a line less by which a segment is lost or late; or its direction loses it; or the
+/// end is dead, or the path dies by a line. So it is with the first 2^64 - 2 segments of a side.
+pub fn what_is_asked_comes()
+    ensures octets { WhatIsAskedComes octets }
+    ensures values { WhatIsAskedComes values }
 {}
 
 /// A law: by whatever turns, an end keeps what isn't acknowledged yet, so that it can be sent again.

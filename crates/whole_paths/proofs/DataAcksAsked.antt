@@ -1,0 +1,254 @@
+-- What an end asks again that has no record left comes to the peer, whatever is lost.
+use Rattle.std.proofs.Common.{◌≡◌, refl, sym, subst, ap, ◌∙◌, ◌⊎◌, inl, inr, ⊎_elim, ℕ, ◌+◌, ◌-◌, ◌^◌, ◌<◌, ◌≤◌, max, true, false, true≢false, if◌then◌else◌, Bool, Option, Some, None, IfSome, List, [], ◌∷◌, length, arith}
+use Rattle.std.specs.Prelude.{IsSome}
+use Rattle.std.specs.List.{slice_get}
+use Rattle.std.proofs.lemmas.Bool.{cases_lt}
+use Rattle.std.proofs.lemmas.Option.{same_Some}
+use Rattle.sides.specs.declared.side.Side.{Side}
+use Rattle.sides.specs.declared.side.Side.TheVariants.{A, B}
+use Rattle.link_model.specs.declared.flight.Flight.{Flight}
+use Rattle.link_model.specs.State.{LinkState}
+use Rattle.link_model.specs.Steps.{next_number, segments_sent, changed}
+use Rattle.link_model.specs.Fate.{is_stripped, is_altered}
+use Rattle.stream_lanes.specs.Words.{Has}
+use Rattle.path_segments.specs.Spelled.{PlainSegment}
+use Rattle.subflow_send.specs.Records.{Record}
+use Rattle.subflow_tcp.specs.State.{is_some_record, has_records}
+use Rattle.subflow_tcp.specs.States.{is_closed_to_segments, is_dead}
+use Rattle.subflow_tcp.specs.declared.handshake.State.{State}
+use Rattle.subflow_tcp.specs.declared.handshake.State.TheVariants as phase
+use Rattle.path_agenda.specs.Agenda.{emission}
+use Rattle.path_agenda.specs.declared.duty.Duty.{Duty}
+use Rattle.path_agenda.specs.declared.duty.Duty.TheVariants as duties
+use Rattle.path_agenda.specs.declared.duty.AskDuty.TheVariants as ask_duties
+use Rattle.path_agenda.specs.declared.duty.SendDuty.TheVariants as send_duties
+use Rattle.path_core.specs.Codec.{Codec}
+use Rattle.path_core.specs.Emission.{ack_resent, first_record}
+use Rattle.path_core.specs.Handover.{handed}
+use Rattle.path_core.specs.Looking.{first_sends, segment_sent}
+use Rattle.path_core.specs.Octets.{made}
+use Rattle.path_core.specs.OptionsOut.{record_or_ack}
+use Rattle.path_core.specs.Profile.{Profile}
+use Rattle.path_core.specs.State.{PathState, end_at}
+use Rattle.path_core.specs.declared.events.Event.TheVariants as happenings
+use Rattle.world_laws.specs.declared.member.Member.TheVariants.{App, Path}
+use Rattle.world_laws.specs.Actors.{Actor, ActorCrew}
+use Rattle.world_laws.specs.Members.{HoldsOfKind}
+use Rattle.world_laws.specs.Worlds.{WorldState, Turn, after_turn}
+use Rattle.whole_paths.specs.Copies.{IsUnderWay, GoesOnItsWay, CopiesGoOn}
+use Rattle.whole_paths.specs.Copies.{GoesOnItsWay as copy}
+use Rattle.whole_paths.specs.DataAcksAsked.{IsAsking, IsAskedAgain, AskingGoesOn, AsksGoOn, IsAskedAtTheEnd, WhatIsAskedComes}
+use Rattle.whole_paths.specs.DataAcksAsked.IsAskedAgain.{waits, resends, flies}
+use Rattle.whole_paths.specs.DataAcksAsked.{AskingGoesOn as goes}
+use Rattle.whole_paths.specs.Expiries.{IsToSend, IsToSendAgain, PathsGoAgain, GoesAgain, Expires}
+use Rattle.whole_paths.specs.Flights.{IsFirst, IsOnItsWay}
+use Rattle.whole_paths.specs.Flights.{IsOnItsWay as way}
+use Rattle.whole_paths.specs.Harms.{harms_left, as_it_arrives, longest_way, IsOnTime}
+use Rattle.whole_paths.specs.InTime.{ComesFrom, NothingIsOverdue}
+use Rattle.whole_paths.specs.Kept.{IsSameRecord}
+use Rattle.whole_paths.specs.Reasons.{IsOutstanding, IsTimedWhereItWaits}
+use Rattle.whole_paths.specs.Running.{IsRunning, RunsOn, EndsRunOn}
+use Rattle.whole_paths.specs.Running.{RunsOn as run}
+use Rattle.whole_paths.specs.Saying.{SaysWhatCame, HandsOver, PathsHandOver}
+use Rattle.whole_paths.specs.Timers.{TimersAreNear}
+use Rattle.whole_paths.specs.Waits.{IsSettledAtTheEnd}
+use Rattle.whole_paths.proofs.Copies.{copies_leave}
+use Rattle.whole_paths.proofs.Flying.{Frames, FramesStay, frames_stay}
+use Rattle.whole_paths.proofs.InTime.{timer_behind}
+use Rattle.whole_paths.proofs.Links.{each_uses_a_line_or_comes}
+use Rattle.whole_paths.proofs.Reasons.{who_waits_has_a_timer}
+use Rattle.whole_paths.proofs.Resending.{what_runs_out_goes_again}
+use Rattle.whole_paths.proofs.Running.{timers_run_on}
+use Rattle.whole_paths.proofs.Saying.{ToSend, each_segment_says_what_came}
+use Rattle.whole_paths.proofs.Timing.{timers_run_out}
+use Rattle.whole_paths.proofs.Waiting.{no_timer_is_put_off}
+
+same_record : (r : Record) → IsSameRecord r r
+same_record r = record { pos = refl; kind = refl; piece = refl; mapping = refl }
+
+module _ {C : Type 0} where
+  timer_from : (s : Side) (tick : ℕ) (p : PathState C) → ComesFrom p.clock p → (end_at s p).tcp.timing.timer ≡ Some tick → p.clock ≤ tick
+  timer_from A tick p h runs = subst (λ o. IfSome o (λ t. p.clock ≤ t)) runs h.timer_a
+  timer_from B tick p h runs = subst (λ o. IfSome o (λ t. p.clock ≤ t)) runs h.timer_b
+
+  timer_near : (s : Side) (tick : ℕ) (p : PathState C) → TimersAreNear p → (end_at s p).tcp.timing.timer ≡ Some tick → tick ≤ p.clock + 60000
+  timer_near A tick p h runs = subst (λ o. IfSome o (λ t. t ≤ p.clock + 60000)) runs h.a.timer
+  timer_near B tick p h runs = subst (λ o. IfSome o (λ t. t ≤ p.clock + 60000)) runs h.b.timer
+
+  -- ---- one turn of a path
+
+  module _ (k : Codec C) (s : Side) (by_then : ℕ) (p q : PathState C) (frames : Frames p q) where
+    abbrev Next : Type 0
+    Next = AskingGoesOn k s by_then p q
+
+    same_on : q ≡ p → IsAskedAgain k s by_then p → Next
+    same_on same h = goes.on (subst (IsAskedAgain k s by_then) (sym same) h)
+
+    -- the timer runs on, for this or for a record
+    running_on : (tick : ℕ) → tick + longest_way s q.link ≤ by_then → IsRunning tick (end_at s q) → Next
+    running_on tick low h = by (end_at s q).tcp.send.records refl
+      where
+        by : (rs : List Record) → (end_at s q).tcp.send.records ≡ rs → Next
+        by [] none = goes.on (waits tick low h none)
+        by (r ∷ others) is = goes.record_waits r (way.waits tick low (record { timer = h.timer; settled = h.settled; first = r; others = others; records = is; living = h.living })
+            (record { first = r; others = others; records = is; same = same_record r }))
+
+    sending_on : q.clock + longest_way s q.link ≤ by_then → IsToSendAgain s q → Next
+    sending_on low next = by (end_at s q).tcp.send.records refl
+      where
+        by : (rs : List Record) → (end_at s q).tcp.send.records ≡ rs → Next
+        by [] none = goes.on (resends low next none)
+        by (r ∷ others) is = goes.record_waits r (way.resends low next (record { first = r; others = others; records = is; same = same_record r }))
+
+    waits_goes : GoesAgain k p q → ComesFrom p.clock p → (tick : ℕ) → tick + longest_way s p.link ≤ by_then → IsRunning tick (end_at s p) → (end_at s p).tcp.send.records ≡ [] → RunsOn s tick p q → Next
+    waits_goes again past tick low h none (run.on on) = running_on tick (let way = frames.way s in omega (arith, way, low)) on
+    waits_goes again past tick low h none (run.news news) = goes.news news
+    waits_goes again past tick low h none (run.gone gone) = goes.gone gone
+    waits_goes again past tick low h none (run.done done) = goes.done done
+    waits_goes again past tick low h none (run.runs_out at out) = ⊎_elim
+        (λ same. same_on same (waits tick low h none))
+        (λ expired. ⊎_elim (λ same. same_on same (waits tick low h none)) (λ clock. ran_out expired clock) (frames.moves (happenings.Fires s at) out.others out.first out.next))
+        (again.fires s at out)
+      where
+        ran_out : Expires s p q → q.clock ≡ max p.clock at → Next
+        ran_out expired clock = ⊎_elim
+            (λ few. sending_on in_time (expired.again few).next)
+            (λ many. goes.gone (expired.sixth many))
+            (cases_lt (end_at s p).tcp.timing.expiries 5)
+          where
+            in_time : q.clock + longest_way s q.link ≤ by_then
+            in_time =
+                let early = timer_behind s (happenings.Fires s at) tick p out.next h.timer in
+                let from = timer_from s tick p past h.timer in
+                let way = frames.way s in
+                omega (arith, clock, early, from, way, low)
+
+    flown : (x : PlainSegment) → x ≡ ack_resent p.profile s (end_at s p) → q.link ≡ handed k s x p → p.clock + longest_way s p.link ≤ by_then → segments_sent s p.link < 2 ^ 64 - 1 → Next
+    flown x asks taken low few = ⊎_elim
+        (λ less. goes.harmed (subst (λ (l : LinkState C). harms_left l < harms_left p.link) (sym taken) less))
+        (λ comes. ⊎_elim (λ lost. goes.lost x asks taken lost) by comes.1)
+        (each_uses_a_line_or_comes (k.strips p.profile.spelling) (k.alters p.profile.spelling) s (k.makes p.profile.spelling s x) size p.clock p.link few)
+      where
+        size : ℕ
+        size = length (made p.profile.spelling s x)
+
+        after : LinkState C
+        after = handed k s x p
+
+        by : Has (IsOnTime s size p.clock (as_it_arrives (k.strips p.profile.spelling) (k.alters p.profile.spelling) s (k.makes p.profile.spelling s x) p.clock p.link) p.link) after.under_way → Next
+        by has = goes.on (flies has.item (let in_time = has.holds.in_time in omega (arith, in_time, low))
+            (subst (λ (l : LinkState C). Has (λ g. g ≡ has.item) l.under_way) (sym taken) (record { at = has.at; item = has.item; there = has.there; holds = refl }))
+            (record {
+              to = has.holds.to;
+              sender = end_at s p;
+              stripped = is_stripped s (next_number s p.link) p.clock p.link.lines;
+              altered = is_altered s (next_number s p.link) p.link.lines;
+              carried = subst (λ (c : Profile). has.item.carried
+                  ≡ changed (k.strips c.spelling s) (k.alters c.spelling s) (is_stripped s (next_number s p.link) p.clock p.link.lines) (is_altered s (next_number s p.link) p.link.lines)
+                  (k.makes c.spelling s (ack_resent c s (end_at s p)))) (sym frames.profile)
+                  (subst (λ (y : PlainSegment). has.item.carried
+                  ≡ changed (k.strips p.profile.spelling s) (k.alters p.profile.spelling s) (is_stripped s (next_number s p.link) p.clock p.link.lines) (is_altered s (next_number s p.link) p.link.lines)
+                  (k.makes p.profile.spelling s y)) asks has.holds.carried);
+            }))
+
+    -- what goes in the place of the first record
+    abbrev resent : PlainSegment
+    resent = if has_records (end_at s p).tcp then record_or_ack p.profile s (first_record (end_at s p)) (end_at s p) else ack_resent p.profile s (end_at s p)
+
+    resent_asks : (end_at s p).tcp.send.records ≡ [] → resent ≡ ack_resent p.profile s (end_at s p)
+    resent_asks none = ap (λ rs. if is_some_record rs then record_or_ack p.profile s (first_record (end_at s p)) (end_at s p) else ack_resent p.profile s (end_at s p)) none
+
+    abbrev Sent : ToSend → Type 0
+    Sent t = (q ≡ p) ⊎ ((q.link ≡ handed k t.from (segment_sent p t) p) × SaysWhatCame (end_at t.from p) (segment_sent p t))
+
+    -- without a record the acknowledgement is sent that asks
+    sent_so : HandsOver k p q → IsToSend s p → (end_at s p).tcp.send.records ≡ [] → p.clock + longest_way s p.link ≤ by_then → segments_sent s p.link < 2 ^ 64 - 1 → Next
+    sent_so hands is none low few = by (subst (λ ds. IfSome (first_sends ds p) Sent) is hands.sends)
+      where
+        by : (q ≡ p) ⊎ ((q.link ≡ handed k s resent p) × SaysWhatCame (end_at s p) resent) → Next
+        by sent = ⊎_elim (λ same. same_on same (resends low (inr is) none)) (λ taken. flown resent (resent_asks none) taken.0 low few) sent
+
+    resends_goes : GoesAgain k p q → HandsOver k p q → p.clock + longest_way s p.link ≤ by_then → segments_sent s p.link < 2 ^ 64 - 1 → IsToSendAgain s p → (end_at s p).tcp.send.records ≡ [] → Next
+    resends_goes again hands low few (inl is) none = ⊎_elim
+        (λ same. same_on same (resends low (inl is) none))
+        (λ given. sending_on still (inr given.0))
+        (again.gives_back s is)
+      where
+        still : q.clock + longest_way s q.link ≤ by_then
+        still = let clock = frames.stands (duties.Ask (ask_duties.Return s)) (duties.Send (send_duties.Resend s) ∷ emission s) is refl in let way = frames.way s in omega (arith, clock, way, low)
+    resends_goes again hands low few (inr is) none = sent_so hands is none low few
+
+    flies_goes : (f : Flight C) → f.tick ≤ by_then → IsUnderWay f p → IsAsking k s p f → GoesOnItsWay f p q → Next
+    flies_goes f low before h (copy.on there) = goes.on (flies f low there (record {
+      to = h.to;
+      sender = h.sender;
+      stripped = h.stripped;
+      altered = h.altered;
+      carried = subst (λ (c : Profile). f.carried ≡ changed (k.strips c.spelling s) (k.alters c.spelling s) h.stripped h.altered (k.makes c.spelling s (ack_resent c s h.sender))) (sym frames.profile) h.carried;
+    }))
+    flies_goes f low before h (copy.arrives others first next) = goes.arrives f low before h others first next
+    flies_goes f low before h (copy.dies line next is) = goes.dies line next is
+
+    goes_by : EndsRunOn (Path p) (Path q) → GoesAgain k p q → HandsOver k p q → CopiesGoOn (Path p) (Path q) → ComesFrom p.clock p → segments_sent s p.link < 2 ^ 64 - 1 → IsAskedAgain k s by_then p → Next
+    goes_by timers again hands copies past few (waits tick low h none) = waits_goes again past tick low h none (timers s tick h)
+    goes_by timers again hands copies past few (resends low is none) = resends_goes again hands low few is none
+    goes_by timers again hands copies past few (flies f low there h) = flies_goes f low there h (copies f there)
+
+  -- ---- the world
+
+  abbrev ComesInTime : Actor C → Type 0
+  ComesInTime = HoldsOfKind (λ app. Unit {0}) (λ (p : PathState C). ComesFrom p.clock p)
+
+  asks_go_on : (k : Codec C) (m n : Actor C) → EndsRunOn m n → PathsGoAgain k m n → PathsHandOver k m n → CopiesGoOn m n → FramesStay m n → ComesInTime m → AsksGoOn k m n
+  asks_go_on k (App a) (App b) timers again hands copies frames past = tt
+  asks_go_on k (Path p) (Path q) timers again hands copies frames past = λ s by_then few h. goes_by k s by_then p q frames timers again hands copies past few h
+  asks_go_on k (App a) (Path q) timers again hands copies frames past = absurd timers
+  asks_go_on k (Path p) (App b) timers again hands copies frames past = absurd timers
+
+  goes_on_so : (k : Codec C) (w : WorldState C) → NothingIsOverdue w → (turn : Turn) (actor : ℕ) (c : ActorCrew C) → slice_get w.crew actor ≡ Some c
+      → (d : ActorCrew C) × (slice_get (after_turn k turn w).crew actor ≡ Some d) × AsksGoOn k c.member d.member
+  goes_on_so k w past turn actor c there =
+      let timers = timers_run_on k w turn actor c there in
+      let d : ActorCrew C = timers.0 in
+      let again = what_runs_out_goes_again k w turn actor c there in
+      let hands = each_segment_says_what_came k w turn actor c there in
+      let copies = copies_leave k w turn actor c there in
+      let frames = frames_stay k w turn actor c there in (
+        d,
+        timers.1,
+        asks_go_on k c.member d.member timers.2
+            (subst (λ (x : ActorCrew C). PathsGoAgain k c.member x.member) (same_Some again.0 d (sym again.1 ∙ timers.1)) again.2)
+            (subst (λ (x : ActorCrew C). PathsHandOver k c.member x.member) (same_Some hands.0 d (sym hands.1 ∙ timers.1)) hands.2)
+            (subst (λ (x : ActorCrew C). CopiesGoOn c.member x.member) (same_Some copies.0 d (sym copies.1 ∙ timers.1)) copies.2)
+            (subst (λ (x : ActorCrew C). FramesStay c.member x.member) (same_Some frames.0 d (sym frames.1 ∙ timers.1)) frames.2)
+            (past.each actor c there),
+      )
+
+  -- at the end of a turn
+  begins_so : (k : Codec C) (p : PathState C) → IsTimedWhereItWaits p → IsSettledAtTheEnd p → TimersAreNear p → IsAskedAtTheEnd k p
+  begins_so k p timed settled near over s living none out = by (end_at s p).tcp.timing.timer refl (timed over s living out)
+    where
+      alive : (state : State) → is_closed_to_segments state ≡ false → is_dead state ≡ false
+      alive phase.Dead living = absurd (true≢false living)
+      alive _ living = refl
+
+      by : (o : Option ℕ) → (end_at s p).tcp.timing.timer ≡ o → IsSome o → IsAskedAgain k s (p.clock + 60000 + longest_way s p.link) p
+      by None runs some = absurd (true≢false (sym some))
+      by (Some tick) runs some = waits tick (let low = timer_near s tick p near runs in omega (arith, low))
+          (record { timer = runs; settled = settled over s (alive (end_at s p).tcp.state living); living = living }) none
+
+  abbrev OfPaths : (PathState C → Type 0) → Actor C → Type 0
+  OfPaths P = HoldsOfKind (λ app. Unit {0}) P
+
+  member_so : (k : Codec C) (m : Actor C) → OfPaths IsTimedWhereItWaits m → OfPaths IsSettledAtTheEnd m → OfPaths TimersAreNear m → OfPaths (IsAskedAtTheEnd k) m
+  member_so k (App a) timed settled near = tt
+  member_so k (Path p) timed settled near = begins_so k p timed settled near
+
+  pub what_is_asked_comes : (k : Codec C) → WhatIsAskedComes k
+  what_is_asked_comes k = record {
+    begins = λ start turns. record {
+      each = λ actor c there. member_so k c.member ((who_waits_has_a_timer k start turns).each actor c there) (((no_timer_is_put_off k).settled start turns).each actor c there)
+          ((timers_run_out k start turns).each actor c there);
+    };
+    goes_on = goes_on_so k;
+  }

@@ -1,0 +1,10 @@
+use Rattle.path_core.specs.Octets.{octets}
+use Rattle.path_core.specs.Values.{values}
+use Rattle.whole_paths.proofs.DataAcksAsked as asked
+use Rattle.whole_paths.proofs.laws.what_is_asked_comes.Goals as goal
+
+pub returns-clause-octets : goal.returns-clause-octets
+returns-clause-octets c = asked.what_is_asked_comes octets
+
+pub returns-clause-values : goal.returns-clause-values
+returns-clause-values c = asked.what_is_asked_comes values
