@@ -334,6 +334,8 @@ pub fn what_waits_comes()
 /// doesn't go by the mappings of pieces, or goes on to a reset (`IsAstray`).
 pub fn each_record_is_acknowledged()
     ensures { EachRecordIsAcknowledged }
+{}
+
 /// A law: an end without a record asks its peer again, and that comes within a minute and the longest time that a segment is under way,
 /// unless the script harms it.
 ///
