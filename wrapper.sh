@@ -28,9 +28,9 @@ is_current() {
 }
 
 # run_proved WORD..: ends with a run of the proved program. Its heap comes in huge pages where the system gives them to who asks, and grows by 8 MiB at once;
-# a setting of the user's own, also an empty one, stays.
+# the stacks of a round's threads are kept for the next round's. A setting of the user's own, also an empty one, stays.
 run_proved() {
-    export GLIBC_TUNABLES=${GLIBC_TUNABLES-glibc.malloc.hugetlb=1:glibc.malloc.top_pad=8388608}
+    export GLIBC_TUNABLES=${GLIBC_TUNABLES-glibc.malloc.hugetlb=1:glibc.malloc.top_pad=8388608:glibc.pthread.stack_cache_size=536870912}
     exec "$program" "$@"
 }
 

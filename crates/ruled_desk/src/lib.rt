@@ -5,7 +5,8 @@
 //! and no others, those that the book's journal gained.
 //!
 //! The table's rule says which seat has the book and which entries its journal has (`rule`); a step on one of its words keeps it.
-//! A call draws a ticket, waits until it is served, takes the book, enters, puts the book back, and serves the next ticket.
+//! A call passes the book's door, draws a ticket, waits until it is served, takes the book, enters, puts the book back, and serves the
+//! next ticket. One call at a time is past the door.
 #![tactic(auto)]
 
 mod answering;

@@ -9,12 +9,11 @@ use crate::held::Held;
 use crate::rule::{Add, AllParts, BookView, Draw, Look, OnePart, Ruled, Serve, ServeFull};
 use actor_desk::Kept;
 use atomic_table::{Refused, Seat, Table};
-use crossbeam_utils::sync::EventCount;
 use stamped_book::{Book, Stamped};
 use std::alloc::Global;
 use std::marker::Model;
 use std::snapshot::Snapshot;
-use std::sync::Wait;
+use std::sync::{Mutex, MutexGuard, Wait};
 
 /// A seat at the table of a book.
 pub(crate) type BookSeat<O> = Seat<Option<Held<O>>, BookView<O>>;
@@ -23,8 +22,8 @@ pub(crate) type BookSeat<O> = Seat<Option<Held<O>>, BookView<O>>;
 #[derive(Drop)]
 pub struct RuledLock<O: Kept + Drop> {
     table: Table<Option<Held<O>>, BookView<O>, Snapshot<Held<O>>, Ruled, Global>,
-    // Threads sleep at these until their tickets are served, by the tickets modulo 8.
-    bells: [EventCount; 8],
+    // One thread at a time is past the door, from before its ticket is drawn until the next one is served.
+    door: Mutex<()>,
 }
 
 impl<O: Kept + Drop> Model for RuledLock<O> {
@@ -61,20 +60,6 @@ impl<O: Kept> Model for RestingSeat<O> {
     ghost invariant = { λ s. IsAtRest s.seat.me.0 × (s.seat.me.1 ≡ []) };
 }
 
-// Nobody sleeps.
-fn bells() -> [EventCount; 8] {
-    [
-        EventCount::new(),
-        EventCount::new(),
-        EventCount::new(),
-        EventCount::new(),
-        EventCount::new(),
-        EventCount::new(),
-        EventCount::new(),
-        EventCount::new(),
-    ]
-}
-
 // The book of a slot that no table took.
 fn taken_back<O: Answering + Drop>(mut slots: Vec<Option<Held<O>>>) -> Stamped<O>
     requires { (book : Journaled O O.Call O.Reply) × (slots.items ≡ Some book ∷ []) }
@@ -109,7 +94,7 @@ impl<O: Answering + Drop> RuledLock<O> {
             Ok((table, seat)) => Ok((
                 RuledLock {
                     table,
-                    bells: bells(),
+                    door: Mutex::new(()),
                 },
                 RestingSeat { seat },
             )),
@@ -151,7 +136,7 @@ impl<O: Answering + Drop> RuledLock<O> {
         ensures gains { GainsJust self.start result seat.own seat.full }
         ensures sound { O.sound (book_of O.reply_to O.after result) }
     {
-        let RuledLock { table, bells: _ } = self;
+        let RuledLock { table, door: _ } = self;
         let RestingSeat { seat } = seat;
         let mut closed = table.close_with(seat);
         let slot = closed.take(0);
@@ -192,27 +177,9 @@ impl<O: Answering + Drop> RuledLock<O> {
         self.table.shared.load::<Look>(seat, 1) == ticket
     }
 
-    // The ticket that is served.
-    fn served(&self) -> u64 {
-        self.table.shared.peek(1)
-    }
-
-    // Where who waits for the ticket sleeps.
-    fn bell(&self, ticket: u64) -> &EventCount {
-        &self.bells[(ticket % 8) as usize]
-    }
-
-    /// Sleeps until the ticket is served.
-    pub(crate) fn sleep<R: Wait>(&self, rt: &R, ticket: u64) {
-        let key = self.bell(ticket).prepare_wait();
-        if self.served() != ticket {
-            key.wait(rt);
-        }
-    }
-
-    // Wakes who sleeps until the ticket is served that is served now.
-    fn wake(&self) {
-        self.bell(self.served()).notify_all();
+    /// Waits until nobody else is past the door. A thread that runs may go before those that sleep there.
+    pub(crate) fn pass_door<R: Wait>(&self, rt: &R) -> MutexGuard<'_, ()> {
+        self.door.lock(rt)
     }
 
     /// Takes the book out of the slot.
@@ -242,7 +209,6 @@ impl<O: Answering + Drop> RuledLock<O> {
         } else {
             self.table.shared.fetch_add::<Serve>(seat, 1, 1);
         }
-        self.wake();
     }
 
     /// Puts the book back with the entry that it has more, which is the seat's own from then on, and serves the next ticket.

@@ -8,23 +8,14 @@ use crate::answering::Answering;
 use crate::held::Held;
 use crate::lock::{BookSeat, RestingSeat, RuledLock};
 use actor_turn::Gate;
-use crossbeam_utils::Backoff;
 use sides::Object;
 use stamped_book::{Pass, Refusal};
 use std::sync::Wait;
+use std::thread;
 
 impl<O: Answering + Drop> RuledLock<O> {
     ghost use Rattle.ruled_desk.specs.Called.{IsCalled, IsRefused};
     ghost use Rattle.ruled_desk.specs.Rule.{HasTaken, IsAtRest, IsOut, IsWaiting};
-
-    // Lets others go on: for some moments at first, and then until the ticket is served.
-    fn rest<R: Wait>(&self, rt: &R, backoff: &Backoff, ticket: u64) {
-        if backoff.is_completed() {
-            self.sleep(rt, ticket);
-        } else {
-            backoff.snooze();
-        }
-    }
 
     // Waits until the ticket is served. Then the seat has the book.
     fn wait<R: Wait>(&self, rt: &R, seat: &mut BookSeat<O>, ticket: u64)
@@ -33,12 +24,11 @@ impl<O: Answering + Drop> RuledLock<O> {
         ensures table { seat.new.table_id ≡ seat.old.table_id }
         ensures taken { HasTaken seat.old.me seat.new.me }
     {
-        let backoff = Backoff::new();
         for _ in rt.forever() {
             if self.look(seat, ticket) {
                 return;
             }
-            self.rest(rt, &backoff, ticket);
+            thread::yield_now();
         }
         unreachable!()
     }
@@ -128,6 +118,7 @@ impl<O: Answering + Drop> RuledLock<O> {
         ensures stamps { result ≡ Err refusals.Stamps →
             (2 ^ 62 - 1 ≤ pass.old.stamp) ⊎ (seat.new.full ≡ true) }
     {
+        let _past = self.pass_door(rt);
         self.call_at(rt, gate, object, &mut seat.seat, pass, call)
     }
 }
