@@ -115,6 +115,10 @@ record Known (p : PathState Carried) : Type 0 where
   alike : CopiesArriveSo p
   past : ComesFrom p.clock p
 
+-- what came was sent
+edge_sent : (p : PathState Carried) → WasSent p → (s : Side) → is_fin_passed (end_at s p).tcp ≡ false → (end_at s p).tcp.recv.edge ≤ (end_at (peer s) p).tcp.send.nxt
+edge_sent p h s unpassed = h.octets s unpassed
+
 unopening : (state : EndPhase) → 2 ≤ stage state → is_opening state ≡ false
 unopening phase.SynSent high = absurd (omega (arith, high))
 unopening _ high = refl
@@ -175,8 +179,8 @@ module _ (p : PathState Carried) (known : Known p) (s : Side) where
       mapped = first_mapped identity finite told_before;
       acknowledges = ap (λ b. if b then None else Some at_side.tcp.recv.edge) (unopening at_side.tcp.state both_syns);
       edge = known.edge s;
-      unstripped = faithful.unstripped s (next_number s p.link) p.clock;
-      unaltered = faithful.unaltered s (next_number s p.link);
+      unstripped = faithful.whole.strips s (next_number s p.link) p.clock;
+      unaltered = faithful.plain.alters s (next_number s p.link);
     }
 
 -- ---- later, or less
@@ -297,7 +301,7 @@ module _ (p q : PathState Carried) (known : Known p) (faithful : IsFaithful p) (
       → n ≤ (end_at f.to p).tcp.send.nxt
   acked_sent f n there rst acks unpassed =
       let low = acked_low f n there rst acks in
-      let sent = subst (λ t. (end_at (peer f.to) p).tcp.recv.edge ≤ (end_at t p).tcp.send.nxt) (sender_of f.to) (known.was_sent.octets (peer f.to) unpassed) in
+      let sent = subst (λ t. (end_at (peer f.to) p).tcp.recv.edge ≤ (end_at t p).tcp.send.nxt) (sender_of f.to) (edge_sent p known.was_sent (peer f.to) unpassed) in
       omega (arith, low, sent)
 
   -- ---- an answer comes
@@ -418,7 +422,7 @@ module _ (p q : PathState Carried) (known : Known p) (faithful : IsFaithful p) (
         (answer_comes position f there h so opened others first next (omega (arith, enough, some)))
     answer_goes position before enough low some (answer.harmed less) so = goes.held_up (held.harmed less)
     answer_goes position before enough low some (answer.lost x covers taken loses) so = goes.held_up (held.lost (peer s) x taken loses)
-    answer_goes position before enough low some (answer.resets x is taken) so = goes.astray (stray.resets (peer s) x is taken)
+    answer_goes position before enough low some (answer.resets x is taken) so = goes.astray (stray.resets x is taken)
     answer_goes position before enough low some (answer.gone dead) so = goes.held_up (held.gone (peer s) (inr dead))
     answer_goes position before enough low some (answer.dies line next is) so = goes.held_up (held.dies line next is)
 
@@ -426,12 +430,12 @@ module _ (p q : PathState Carried) (known : Known p) (faithful : IsFaithful p) (
     hand_goes : (position before : ℕ) → position ≡ end_of r → before ≤ until → 0 < end_of r → (go : HandGoesOn values (peer s) position before p q) → HandComesSo Bare go → Goes
     hand_goes position before same low some (hand.on h) so = goes.on (in_hand still_opened (hand_later (peer s) (end_of r) before until q low (subst (λ n. IsInHand (peer s) n before q) same h)))
     hand_goes position before same low some (hand.answered h) so = answer_goes position before (omega (arith, same)) low some h so
-    hand_goes position before same low some (hand.reset h) so = goes.astray (stray.reset (peer s) h)
+    hand_goes position before same low some (hand.reset h) so = goes.astray (stray.reset h)
     hand_goes position before same low some (hand.behind_fin h) so = goes.astray (stray.behind_fin (peer s) (inr h))
-    hand_goes position before same low some (hand.dropped h) so = goes.astray (stray.unsure (peer s) h)
+    hand_goes position before same low some (hand.dropped h) so = goes.astray (stray.unsure h)
     hand_goes position before same low some (hand.plain h) so = goes.astray (stray.plain (peer s) (inr h))
-    hand_goes position before same low some (hand.unkeyed h) so = goes.astray (stray.unkeyed (peer s) h)
-    hand_goes position before same low some (hand.infinite h) so = goes.astray (stray.infinite (peer s) (inr h))
+    hand_goes position before same low some (hand.unkeyed h) so = goes.astray (stray.unkeyed h)
+    hand_goes position before same low some (hand.infinite h) so = goes.astray (stray.infinite (inr h))
 
     -- ---- a copy of it comes
 
@@ -601,7 +605,7 @@ module _ (p q : PathState Carried) (known : Known p) (faithful : IsFaithful p) (
 
         by_infinite : (end_at s p).modes.identity ≡ false → (o : Option InfiniteMapping) → (end_at s p).modes.own_infinite ≡ o → Goes
         by_infinite unplain None is = by_told unplain is (is_first_piece s r (end_at s p)) refl
-        by_infinite unplain (Some mapping) is = goes.astray (stray.infinite s (inl (subst (λ o. IsSome o) (sym is) refl)))
+        by_infinite unplain (Some mapping) is = goes.astray (stray.infinite (inl (subst (λ o. IsSome o) (sym is) refl)))
 
         by_plain : (b : Bool) → (end_at s p).modes.identity ≡ b → Goes
         by_plain true is = goes.astray (stray.plain s (inl is))
@@ -613,7 +617,7 @@ module _ (p q : PathState Carried) (known : Known p) (faithful : IsFaithful p) (
         by (subst (λ (o : Option ToSend). IfSome o (λ t. t.from ≡ peer s → IsBareAck (end_at (peer s) p) (segment_sent p t))) sends (acks_first (peer s) living due) own)
       where
         by : IsBareAck (end_at (peer s) p) (segment_sent p t) → Bare (segment_sent p t)
-        by (bare.acks at syn fin payload) = record { from = (let low = known.was_sent.octets s unpassed in omega (arith, at, low)); syn = syn; fin = fin; payload = payload }
+        by (bare.acks at syn fin payload) = record { from = (let low = edge_sent p known.was_sent s unpassed in omega (arith, at, low)); syn = syn; fin = fin; payload = payload }
         by (bare.resets is) = absurd (true≢false (sym is ∙ unreset))
 
     -- unless the peer is dead, or the end is past its FIN

@@ -5,7 +5,6 @@ use Rattle.sides.specs.declared.side.Side.{Side}
 use Rattle.sides.specs.Side.{peer}
 use Rattle.path_segments.specs.Spelled.{PlainSegment}
 use Rattle.link_model.specs.declared.flight.Flight.{Flight}
-use Rattle.link_model.specs.Fate.{is_stripped, is_altered}
 use Rattle.link_model.specs.Steps.{segments_sent}
 use Rattle.subflow_send.specs.Records.{Record, end_of}
 use Rattle.subflow_send.specs.declared.record.RecordKind.TheVariants.{Data}
@@ -22,6 +21,7 @@ use Rattle.path_core.specs.Handover.{handed}
 use Rattle.path_core.specs.MpJoin.{is_joined}
 use Rattle.path_core.specs.Octets.{made}
 use Rattle.path_core.specs.Profile.{Profile}
+use Rattle.path_core.specs.Shown.{AltersNothing}
 use Rattle.path_core.specs.State.{PathState, end_at}
 use Rattle.path_core.specs.Values.{Carried, values}
 use Rattle.path_core.specs.declared.events.Event.TheVariants as happenings
@@ -29,6 +29,7 @@ use Rattle.world_laws.specs.declared.member.Member.TheVariants.{App, Path}
 use Rattle.world_laws.specs.Actors.{Actor, ActorCrew}
 use Rattle.world_laws.specs.Laws.{Always}
 use Rattle.world_laws.specs.Members.{HoldsOfKind}
+use Rattle.world_laws.specs.NeverFalls.{StripsNothing}
 use Rattle.world_laws.specs.Openings.{Start, opened_world}
 use Rattle.world_laws.specs.Promises.{HasRoom, NumbersFit}
 use Rattle.world_laws.specs.Worlds.{WorldState, Turn, after_turn, world_run}
@@ -48,8 +49,8 @@ use Rattle.whole_paths.specs.Waits.{IsNews}
 pub record IsFaithful (p : PathState Carried) : Type 0 where
   pub joined : is_joined p.profile ≡ false
   pub no_sums : p.profile.spelling.checksums ≡ false
-  pub unstripped : (s : Side) (number at : ℕ) → is_stripped s number at p.link.lines ≡ false
-  pub unaltered : (s : Side) (number : ℕ) → is_altered s number p.link.lines ≡ false
+  pub whole : StripsNothing p.link.lines
+  pub plain : AltersNothing p.link.lines
 
 -- ---- an exchange
 
@@ -99,21 +100,21 @@ pub data IsHeldUp (s : Side) (p q : PathState Carried) : Type 0 where
 
 -- an end doesn't go by the mappings of pieces, or goes on to a reset
 pub data IsAstray (s : Side) (r : Record) (p q : PathState Carried) : Type 0 where
-  -- an end is reset next, or the link took a reset, or the segment by which the end refuses a copy or answers it dead
-  reset : (t : Side) → IsToReset t q.agenda → IsAstray s r p q
-  resets : (t : Side) (x : PlainSegment) → (x.rst ≡ true) ⊎ ((answer : Outgoing) × (((end_at t p).treated.answer ≡ Some answer) × (x.rst ≡ answer.rst))) → q.link ≡ handed values t x p
+  -- the peer is reset next, or the link took its reset, or the segment by which it refuses a copy or answers it dead
+  reset : IsToReset (peer s) q.agenda → IsAstray s r p q
+  resets : (x : PlainSegment) → (x.rst ≡ true) ⊎ ((answer : Outgoing) × (((end_at (peer s) p).treated.answer ≡ Some answer) × (x.rst ≡ answer.rst))) → q.link ≡ handed values (peer s) x p
       → IsAstray s r p q
   -- an end is past its peer's FIN
   behind_fin : (t : Side) → AtEither (λ e. is_fin_passed e.tcp ≡ true) t p q → IsAstray s r p q
   -- the peer hasn't both SYNs, or its handshake isn't done, though its RCV.NXT is past the record
   unopened : stage (end_at (peer s) p).tcp.state ≤ 1 → IsAstray s r p q
   half_open : stage (end_at (peer s) p).tcp.state ≤ 2 → end_of r ≤ (end_at (peer s) p).tcp.recv.edge → IsAstray s r p q
-  -- B hasn't both keys, or an end not its peer's key
-  unsure : (t : Side) → IsUnsure t (end_at t q) → IsAstray s r p q
-  unkeyed : (t : Side) → (end_at t q).modes.peer_key ≡ None → IsAstray s r p q
-  -- an end fell back to plain TCP, or sends by an infinite mapping
+  -- as B the peer hasn't both keys, or it hasn't the end's key
+  unsure : IsUnsure (peer s) (end_at (peer s) q) → IsAstray s r p q
+  unkeyed : (end_at (peer s) q).modes.peer_key ≡ None → IsAstray s r p q
+  -- an end fell back to plain TCP, or the end sends by an infinite mapping
   plain : (t : Side) → AtEither (λ e. e.modes.identity ≡ true) t p q → IsAstray s r p q
-  infinite : (t : Side) → IsSome (end_at t p).modes.own_infinite ⊎ IsSome (end_at t p).modes.peer_infinite → IsAstray s r p q
+  infinite : IsSome (end_at s p).modes.own_infinite ⊎ IsSome (end_at (peer s) p).modes.peer_infinite → IsAstray s r p q
   -- a copy that comes to the end lies past its window
   past_window : (f : Flight Carried) → IsUnderWay f p → f.to ≡ s → (end_at s p).tcp.recv.edge + 1048576 ≤ f.carried.segment.position → IsAstray s r p q
   -- the record is A's first piece, which carries both keys
