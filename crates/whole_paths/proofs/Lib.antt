@@ -2,6 +2,7 @@ pub mod Acking
 pub mod Agendas
 pub mod Arrivals
 pub mod Books
+pub mod Breaking
 pub mod Bringing
 pub mod Came
 pub mod Copies
@@ -9,14 +10,17 @@ pub mod Due
 pub mod Duties
 pub mod Flying
 pub mod GoesOn
+pub mod Harmed
 pub mod Hearing
 pub mod InTime
 pub mod Keeping
+pub mod Keyed
 pub mod Knowing
 pub mod Lanes
 pub mod Links
 pub mod Owing
 pub mod Mapping
+pub mod Mild
 pub mod Moving
 pub mod Passing
 pub mod Paying
@@ -33,4 +37,5 @@ pub mod Subflows
 pub mod Timing
 pub mod Treating
 pub mod Turns
+pub mod Unbroken
 pub mod Waiting

@@ -17,6 +17,7 @@ pub mod InTime
 pub mod Kept
 pub mod Lanes
 pub mod Mapped
+pub mod Mild
 pub mod Owed
 pub mod Passed
 pub mod Reasons
