@@ -38,8 +38,9 @@ use Rattle.path_core.specs.Handover.{handed}
 use Rattle.path_core.specs.Octets.{made}
 use Rattle.path_core.specs.OptionsOut.{record_options}
 use Rattle.path_core.specs.Profile.{Profile}
+use Rattle.path_core.specs.Shown.{AltersNothing}
 use Rattle.path_core.specs.State.{PathState, end_at, with_agenda}
-use Rattle.path_core.specs.Steps.{takes, next_round}
+use Rattle.path_core.specs.Steps.{takes, next_round, begins_turn}
 use Rattle.path_core.specs.Duties.{answered}
 use Rattle.path_core.specs.Events.{tick_of, next_event, happens_if}
 use Rattle.path_core.specs.declared.events.Event.{Event}
@@ -48,6 +49,7 @@ use Rattle.world_laws.specs.declared.member.Member.TheVariants.{App, Path}
 use Rattle.world_laws.specs.Actors.{Actor, ActorCrew, member_takes, member_next, is_over}
 use Rattle.world_laws.specs.Members.{HoldsOfKind}
 use Rattle.world_laws.specs.Openings.{Start, opened_world}
+use Rattle.world_laws.specs.NeverFalls.{StripsNothing}
 use Rattle.world_laws.specs.StampedBooks.{answer_to}
 use Rattle.world_laws.specs.Worlds.{WorldState, Turn, after_turn, world_run}
 use Rattle.world_laws.specs.Writes.{PathView}
@@ -148,9 +150,13 @@ module _ {C : Type 0} where
   clock_lasts : Lasts SameClock
   clock_lasts = record { agenda = λ ds p. refl; chains = λ p q r x y. y ∙ x; passes = λ d p. (passed_same d p).clock }
 
+  abbrev pub SameLines : PathState C → PathState C → Type 0
+  SameLines p q = q.link.lines ≡ p.link.lines
+
   -- an event alone moves the clock, to its tick
   pub record Frames (p q : PathState C) : Type 0 where
     pub profile : SameProfile p q
+    pub lines : SameLines p q
     pub way : (s : Side) → longest_way s q.link ≡ longest_way s p.link
     pub stands : (d : Duty) (others : List Duty) → p.agenda ≡ d ∷ others → is_event d ≡ false → SameClock p q
     pub moves : (event : Event) (others : List Duty) → p.agenda ≡ duties.Step step_duties.Events ∷ others → next_event p ≡ Some event → (q ≡ p) ⊎ (q.clock ≡ max p.clock (tick_of event))
@@ -165,9 +171,32 @@ module _ {C : Type 0} where
   link_way k s p q (delivers event due next is) = ap (λ (l : LinkState C). longest_way s l) is
   link_way k s p q (is_cut line next action is) = ap (λ (l : LinkState C). longest_way s l) is
 
-  takes_frames : (k : Codec C) (r : Reply) (p : PathState C) → Frames p (takes k r p)
+  sent_lines : (strip alter : Side → C → C) (from : Side) (carried : C) (size now : ℕ) (link : LinkState C) → (after_send strip alter from carried size now link).lines ≡ link.lines
+  sent_lines strip alter A carried size now link = refl
+  sent_lines strip alter B carried size now link = refl
+
+  link_lines : {d : Duty} (k : Codec C) (p q : PathState C) → LinkStep d k p q → SameLines p q
+  link_lines k p q (stays is) = ap (λ (l : LinkState C). l.lines) is
+  link_lines k p q (hands from carried size still is) = ap (λ (l : LinkState C). l.lines) is ∙ sent_lines (k.strips p.profile.spelling) (k.alters p.profile.spelling) from carried size p.clock p.link
+  link_lines k p q (delivers event due next is) = ap (λ (l : LinkState C). l.lines) is
+  link_lines k p q (is_cut line next action is) = ap (λ (l : LinkState C). l.lines) is
+
+  pub takes_lines : (k : Codec C) (r : Reply) (p : PathState C) → SameLines p (takes k r p)
+  takes_lines k r p = by p.agenda
+    where
+      by : (ds : List Duty) → (takes k r (with_agenda ds p)).link.lines ≡ p.link.lines
+      by [] = refl
+      by (d ∷ ds) =
+          let x : PathState C = with_agenda (d ∷ ds) p in let y : PathState C = answered k d r x in
+          ap (λ (l : LinkState C). l.lines) (settled_lasts LinkStays links_last y.agenda y) ∙ link_lines k x y (link_step k d r x)
+
+  pub begins_lines : (p : PathState C) → SameLines p (begins_turn p)
+  begins_lines p = ap (λ (l : LinkState C). l.lines) (begins_lasts LinkStays links_last p)
+
+  pub takes_frames : (k : Codec C) (r : Reply) (p : PathState C) → Frames p (takes k r p)
   takes_frames k r p = record {
     profile = takes_lasts SameProfile profile_lasts k r p (λ d. ap (λ (v : PathView C). v.profile) (writes_no_more k d r p).same);
+    lines = takes_lines k r p;
     way = λ s. way s p.agenda;
     stands = λ d others is other. subst (λ ds. (takes k r (with_agenda ds p)).clock ≡ p.clock) (sym is) (stand d others other);
     moves = λ event others is next. inr (subst (λ ds. (takes k r (with_agenda ds p)).clock ≡ max p.clock (tick_of event)) (sym is) (move event others next));
@@ -194,6 +223,7 @@ module _ {C : Type 0} where
       let q : PathState C = record p { clock = p.until; until = p.until + 100 } in
       record {
         profile = begins_lasts SameProfile profile_lasts q;
+        lines = begins_lines q;
         way = λ s. ap (λ (l : LinkState C). longest_way s l) (begins_lasts LinkStays links_last q);
         stands = λ d others is other. none d others is;
         moves = λ event others is next. none (duties.Step step_duties.Events) others is;
@@ -217,7 +247,7 @@ module _ {C : Type 0} where
 
   member_stays : (m : Actor C) → FramesStay m m
   member_stays (App a) = tt
-  member_stays (Path p) = record { profile = refl; way = λ s. refl; stands = λ d others is other. refl; moves = λ event others is next. inl refl }
+  member_stays (Path p) = record { profile = refl; lines = refl; way = λ s. refl; stands = λ d others is other. refl; moves = λ event others is next. inl refl }
 
   pub timer_from : (s : Side) (tick : ℕ) (p : PathState C) → ComesFrom p.clock p → (end_at s p).tcp.timing.timer ≡ Some tick → p.clock ≤ tick
   timer_from A tick p h runs = subst (λ o. IfSome o (λ t. p.clock ≤ t)) runs h.timer_a
@@ -290,6 +320,8 @@ module _ {C : Type 0} where
                 says = subst (λ c. IsSaidAt c s r (end_at s p) sent.segment) (sym frames.profile) (same_said p.profile s (end_at s p) r h.first sent.segment h.same (sent.first h.first h.others h.records).1);
                 stripped = is_stripped s (next_number s p.link) p.clock p.link.lines;
                 altered = is_altered s (next_number s p.link) p.link.lines;
+                whole = λ strips. (subst StripsNothing frames.lines strips).strips s (next_number s p.link) p.clock;
+                plain = λ alters. (subst AltersNothing frames.lines alters).alters s (next_number s p.link);
                 carried = subst (λ (c : Profile). has.item.carried
                     ≡ changed (k.strips c.spelling s) (k.alters c.spelling s) (is_stripped s (next_number s p.link) p.clock p.link.lines) (is_altered s (next_number s p.link) p.link.lines)
                     (k.makes c.spelling s sent.segment)) (sym frames.profile) has.holds.carried;
@@ -320,6 +352,8 @@ module _ {C : Type 0} where
         says = subst (λ c. IsSaidAt c s r h.sender h.segment) (sym frames.profile) h.says;
         stripped = h.stripped;
         altered = h.altered;
+        whole = λ strips. h.whole (subst StripsNothing frames.lines strips);
+        plain = λ alters. h.plain (subst AltersNothing frames.lines alters);
         carried = subst (λ (c : Profile). f.carried ≡ changed (k.strips c.spelling s) (k.alters c.spelling s) h.stripped h.altered (k.makes c.spelling s h.segment)) (sym frames.profile) h.carried;
       })),
       so,

@@ -3,6 +3,7 @@ pub mod Acknowledged
 pub mod Agendas
 pub mod Arrivals
 pub mod Books
+pub mod Breaking
 pub mod Bringing
 pub mod Came
 pub mod Closing
@@ -16,10 +17,12 @@ pub mod Duties
 pub mod Exchanges
 pub mod Flying
 pub mod GoesOn
+pub mod Harmed
 pub mod Hearing
 pub mod Hears
 pub mod InTime
 pub mod Keeping
+pub mod Keyed
 pub mod Knowing
 pub mod Lanes
 pub mod Links
@@ -29,6 +32,7 @@ pub mod News
 pub mod NewsBounds
 pub mod Owing
 pub mod Mapping
+pub mod Mild
 pub mod Moving
 pub mod Passing
 pub mod Paying
@@ -47,4 +51,5 @@ pub mod Thirds
 pub mod Timing
 pub mod Treating
 pub mod Turns
+pub mod Unbroken
 pub mod Waiting

@@ -47,12 +47,14 @@ use Rattle.path_core.specs.MpJoin.{is_never, never_joined, keys_begun, opened_by
 use Rattle.path_core.specs.Octets.{made}
 use Rattle.path_core.specs.Profile.{Profile}
 use Rattle.path_core.specs.Standing.{answered_ack_out, after_ack_out}
+use Rattle.path_core.specs.Shown.{AltersNothing}
 use Rattle.path_core.specs.State.{PathState, end_at, goes_on, with_agenda}
 use Rattle.path_core.specs.Steps.{settled, takes, next_round}
 use Rattle.path_core.specs.Treating.{item_of, item_passed, answered_item, answered_heard}
 use Rattle.world_laws.specs.declared.member.Member.TheVariants.{App, Path}
 use Rattle.world_laws.specs.Actors.{Actor, ActorCrew, member_takes, member_next, is_over}
 use Rattle.world_laws.specs.Members.{HoldsOfKind}
+use Rattle.world_laws.specs.NeverFalls.{StripsNothing}
 use Rattle.world_laws.specs.StampedBooks.{answer_to}
 use Rattle.world_laws.specs.Worlds.{WorldState, Turn, after_turn}
 use Rattle.world_laws.specs.Writes.{EndWrites, EndView, Writes, PathView, Only, OnlyAt, nothing, writes, side_of}
@@ -313,6 +315,8 @@ module _ {C : Type 0} where
                 covers = covers;
                 stripped = is_stripped s (next_number s p.link) p.clock p.link.lines;
                 altered = is_altered s (next_number s p.link) p.link.lines;
+                whole = λ strips. (subst StripsNothing frames.lines strips).strips s (next_number s p.link) p.clock;
+                plain = λ alters. (subst AltersNothing frames.lines alters).alters s (next_number s p.link);
                 carried = subst (λ (c : Profile). has.item.carried
                     ≡ changed (k.strips c.spelling s) (k.alters c.spelling s) (is_stripped s (next_number s p.link) p.clock p.link.lines) (is_altered s (next_number s p.link) p.link.lines)
                     (k.makes c.spelling s x)) (sym frames.profile) has.holds.carried;
@@ -354,6 +358,8 @@ module _ {C : Type 0} where
         covers = h.covers;
         stripped = h.stripped;
         altered = h.altered;
+        whole = λ strips. h.whole (subst StripsNothing frames.lines strips);
+        plain = λ alters. h.plain (subst AltersNothing frames.lines alters);
         carried = subst (λ (c : Profile). f.carried ≡ changed (k.strips c.spelling s) (k.alters c.spelling s) h.stripped h.altered (k.makes c.spelling s h.segment)) (sym frames.profile) h.carried;
       })),
       so,

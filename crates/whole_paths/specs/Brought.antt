@@ -123,12 +123,13 @@ module _ {C : Type 0} where
   -- what becomes of it, as the path becomes another one
   pub data StaysThere (s : Side) (pos octet : ℕ) (p q : PathState C) : Type 0 where
     on : IsThere s pos octet q → StaysThere s pos octet p q
-    -- the end is dead, or reset next
+    -- the end is dead, or reset next: for reason 6 alone in a mild connection (Mild)
     gone : is_dead (end_at s q).tcp.state ≡ true → StaysThere s pos octet p q
     reset : IsToReset s q.agenda → StaysThere s pos octet p q
     -- RCV.NXT is past the peer's FIN, behind which no octet of the stream stands
     behind_fin : is_fin_passed (end_at s q).tcp ≡ true → StaysThere s pos octet p q
-    -- the octet's mapping or one before it failed its check, whether the control book is told, or goes by an infinite mapping and isn't
+    -- the octet's mapping or one before it failed its check, whether the control book is told (never in a mild connection), or goes by an infinite
+    -- mapping and isn't
     fails : FailsItsCheck s p → StaysThere s pos octet p q
     fails_untold : q.profile.spelling.checksums ≡ true → reads_mappings (end_at s q).modes.mode ≡ false → (end_at s q).modes.identity ≡ false
         → StaysThere s pos octet p q

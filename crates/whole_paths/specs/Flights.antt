@@ -17,12 +17,14 @@ use Rattle.path_core.specs.End.{PathEnd}
 use Rattle.path_core.specs.Events.{next_event}
 use Rattle.path_core.specs.Handover.{handed}
 use Rattle.path_core.specs.Octets.{made}
+use Rattle.path_core.specs.Shown.{AltersNothing}
 use Rattle.path_core.specs.State.{PathState, end_at}
 use Rattle.path_core.specs.declared.events.Event.TheVariants as happenings
 use Rattle.world_laws.specs.declared.member.Member.TheVariants.{App, Path}
 use Rattle.world_laws.specs.Actors.{Actor, ActorCrew}
 use Rattle.world_laws.specs.Laws.{Always}
 use Rattle.world_laws.specs.Members.{HoldsOfKind}
+use Rattle.world_laws.specs.NeverFalls.{StripsNothing}
 use Rattle.world_laws.specs.Worlds.{WorldState, Turn, after_turn}
 use Rattle.whole_paths.specs.Copies.{IsUnderWay}
 use Rattle.whole_paths.specs.Expiries.{IsSegmentOf, IsSaidAt, IsToSendAgain}
@@ -46,8 +48,11 @@ module _ {C : Type 0} where
     pub of_it : IsSegmentOf r segment
     pub sender : PathEnd
     pub says : IsSaidAt p.profile s r sender segment
+    -- where no line of the path takes options away none were, and where none alters payload the copy's wasn't
     pub stripped : Bool
     pub altered : Bool
+    pub whole : StripsNothing p.link.lines → stripped ≡ false
+    pub plain : AltersNothing p.link.lines → altered ≡ false
     pub carried : f.carried ≡ changed (k.strips p.profile.spelling s) (k.alters p.profile.spelling s) stripped altered (k.makes p.profile.spelling s segment)
 
   -- A copy of it comes by this tick, unless the script harms it: as late as the link may hand on what is sent as the timer runs out, or now,
@@ -67,7 +72,7 @@ module _ {C : Type 0} where
     -- there is news, or a line was used by which a segment is lost or late
     news : IsNews (end_at s p) (end_at s q) → GoesOnTo k s r by p q
     harmed : harms_left q.link < harms_left p.link → GoesOnTo k s r by p q
-    -- the link took its segment, and lost it by the word drawn for it, or since its queue was full
+    -- the link took its segment, and lost it by the word drawn for it, or since its queue was full: never a plain direction (Mild)
     lost : (x : PlainSegment) → IsSegmentOf r x → q.link ≡ handed k s x p → loses s (length (made p.profile.spelling s x)) p.clock p.link ≡ true
         → GoesOnTo k s r by p q
     -- the end is dead, or the line comes next by which the path dies

@@ -44,13 +44,14 @@ module _ {C : Type 0} where
     on : IsInHand s position by q → HandGoesOn k s position by p q
     -- RCV.NXT is past it, and the answer that says so goes the way of each (`WhatIsOwedComes`); or the end sends a reset, or is dead
     answered : AnswerGoesOn k s position by p q → HandGoesOn k s position by p q
-    -- the end is reset next
+    -- the end is reset next: for reason 6 alone in a mild connection (Mild)
     reset : IsToReset s q.agenda → HandGoesOn k s position by p q
     -- RCV.NXT is past the peer's FIN
     behind_fin : is_fin_passed (end_at s q).tcp ≡ true → HandGoesOn k s position by p q
     -- an octet was dropped at B, which hasn't both keys
     dropped : IsUnsure s (end_at s q) → HandGoesOn k s position by p q
-    -- no mapping counts: the side fell back to plain TCP, or hasn't the peer's key, or the peer sends by an infinite mapping
+    -- no mapping counts: the side fell back to plain TCP, or hasn't the peer's key, or the peer sends by an infinite mapping: in a mild
+    -- connection never, once the end may send a DSS (Mild)
     plain : (end_at s q).modes.identity ≡ true → HandGoesOn k s position by p q
     unkeyed : (end_at s q).modes.peer_key ≡ None → HandGoesOn k s position by p q
     infinite : IsSome (end_at s p).modes.peer_infinite → HandGoesOn k s position by p q

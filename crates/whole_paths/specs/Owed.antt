@@ -16,10 +16,12 @@ use Rattle.path_core.specs.Codec.{Codec}
 use Rattle.path_core.specs.Events.{next_event}
 use Rattle.path_core.specs.Handover.{handed}
 use Rattle.path_core.specs.Octets.{made}
+use Rattle.path_core.specs.Shown.{AltersNothing}
 use Rattle.path_core.specs.State.{PathState, end_at}
 use Rattle.path_core.specs.declared.events.Event.TheVariants as happenings
 use Rattle.world_laws.specs.declared.member.Member.TheVariants.{App, Path}
 use Rattle.world_laws.specs.Actors.{Actor, ActorCrew}
+use Rattle.world_laws.specs.NeverFalls.{StripsNothing}
 use Rattle.world_laws.specs.Worlds.{WorldState, Turn, after_turn}
 use Rattle.whole_paths.specs.AsFar.{stage}
 use Rattle.whole_paths.specs.Answered.{CopiesAreAnswered}
@@ -39,8 +41,11 @@ module _ {C : Type 0} where
     pub to : f.to ≡ peer s
     pub segment : PlainSegment
     pub covers : Covers position segment
+    -- where no line of the path takes options away none were, and where none alters payload the copy's wasn't
     pub stripped : Bool
     pub altered : Bool
+    pub whole : StripsNothing p.link.lines → stripped ≡ false
+    pub plain : AltersNothing p.link.lines → altered ≡ false
     pub carried : f.carried ≡ changed (k.strips p.profile.spelling s) (k.alters p.profile.spelling s) stripped altered (k.makes p.profile.spelling s segment)
 
   -- Such a copy comes by this tick, unless the script harms it: as late as the link may hand on what is sent now, where the end owes an
@@ -59,10 +64,11 @@ module _ {C : Type 0} where
         → next_event p ≡ Some (happenings.Arrives (due_of f)) → AnswerGoesOn k s position by p q
     -- a line was used by which a segment is lost or late
     harmed : harms_left q.link < harms_left p.link → AnswerGoesOn k s position by p q
-    -- the link took such a segment, and lost it by the word drawn for it, or since its queue was full
+    -- the link took such a segment, and lost it by the word drawn for it, or since its queue was full: never a plain direction (Mild)
     lost : (x : PlainSegment) → Covers position x → q.link ≡ handed k s x p → loses s (length (made p.profile.spelling s x)) p.clock p.link ≡ true
         → AnswerGoesOn k s position by p q
-    -- the link took a reset in its place, or the segment by which the end refuses a copy or answers it dead
+    -- the link took a reset in its place, or the segment by which the end refuses a copy or answers it dead: on path 0 of a mild connection
+    -- none is refused (Mild)
     resets : (x : PlainSegment) → (x.rst ≡ true) ⊎ ((answer : Outgoing) × (((end_at s p).treated.answer ≡ Some answer) × (x.rst ≡ answer.rst))) → q.link ≡ handed k s x p
         → AnswerGoesOn k s position by p q
     -- the end is dead, or the line comes next by which the path dies

@@ -18,6 +18,7 @@ ghost use Rattle.whole_paths.specs.DataAcksHeard.{EachDataAckCounts, EachDataAck
 ghost use Rattle.whole_paths.specs.Due.{CopiesArriveAsSent};
 ghost use Rattle.whole_paths.specs.Exchanges.{EachRecordIsAcknowledged};
 ghost use Rattle.whole_paths.specs.Expiries.{WhatRunsOutGoesAgain};
+ghost use Rattle.whole_paths.specs.Finish.{HarmsUseLines};
 ghost use Rattle.whole_paths.specs.Flights.{WhatWaitsComes};
 ghost use Rattle.whole_paths.specs.Harms.{EachUsesALineOrComes, PlainDirectionsHandOnAtOnce};
 ghost use Rattle.whole_paths.specs.Hearing.{EachAcknowledgementCounts};
@@ -28,6 +29,7 @@ ghost use Rattle.whole_paths.specs.Lanes.Laws.{LossyLanesEnd, LossyLanesFinish};
 ghost use Rattle.whole_paths.specs.Mapped.{WhatIsToldIsKnown};
 ghost use Rattle.whole_paths.specs.Opening.{EachHandshakeCounts, EachSynCounts};
 ghost use Rattle.whole_paths.specs.News.{EachNewsCounts, NewsIsBounded, NewsNeverFalls};
+ghost use Rattle.whole_paths.specs.Mild.{IsPromisedMildly, KeysAreKnown, LinksAreMild, MappingIsKept, MildScriptsStartMildly, HardlyBreaks};
 ghost use Rattle.whole_paths.specs.Owed.{WhatIsOwedComes};
 ghost use Rattle.whole_paths.specs.Passed.{WhatIsInOrderIsPassed};
 ghost use Rattle.whole_paths.specs.Reasons.{WhoWaitsHasATimer};
@@ -369,11 +371,52 @@ pub fn each_segment_uses_a_line_or_comes()
     ensures at_once { PlainDirectionsHandOnAtOnce (List ℕ) }
 {}
 
+/// A law: where no line of a script speaks of a direction, each segment of a path that is harmed uses a line by which one is lost or late.
+///
+/// A segment is harmed that a link takes, and of which no copy is to come within 400 ticks. By whatever turns, as many are at most as the
+/// script has such lines for the path.
+pub fn harms_use_lines()
+    ensures { HarmsUseLines }
+{}
+
 /// A law: by whatever turn, a copy that is under way on a path is under way still, or it was the path's next event and so arrives, or that
 /// event was the line of the script by which the path dies. Nothing but the script loses segments, as they are sent.
 pub fn a_copy_leaves_by_arriving()
     ensures octets { CopiesLeaveByArriving octets }
     ensures values { CopiesLeaveByArriving values }
+{}
+
+/// A law: where no line takes options away, alters payload or lets a side close at once, both sides go by mappings of pieces, always.
+///
+/// No end falls back to plain TCP or goes by an infinite mapping, none tells a failed check, and no mapping at RCV.NXT fails one (RFC 8684,
+/// sections 3.3.1 and 3.7); of an infinite mapping of the peer's that is said of path 0. A connection by a script whose lines are mild, with
+/// files shorter than 2^31 - 2 octets, begins so. Rates, random loss, jitter, losses, repeats, delays, deaths, priorities and announced
+/// addresses are mild.
+pub fn mild_scripts_keep_mapping()
+    ensures starts { MildScriptsStartMildly }
+    ensures values { IsPromisedMildly values (λ start w. MappingIsKept w) }
+    ensures octets { IsPromisedMildly octets (λ start w. MappingIsKept w) }
+{}
+
+/// A law: there A's end of path 0 has B's key as soon as it has treated the SYN/ACK, and B's has A's where it may send a DSS (RFC 8684,
+/// section 3.1). So each mapping that comes to them then counts.
+pub fn mild_scripts_tell_keys()
+    ensures values { IsPromisedMildly values (λ start w. KeysAreKnown w) }
+    ensures octets { IsPromisedMildly octets (λ start w. KeysAreKnown w) }
+{}
+
+/// A law: there the link of each path changes no segment, always. Where no line tells a rate, random loss or jitter of a direction, each
+/// direction of each path has none, and so loses none and hands each on at once (`each_segment_uses_a_line_or_comes`).
+pub fn mild_links_change_nothing()
+    ensures octets { IsPromisedMildly octets (λ start w. LinksAreMild start.lines w) }
+    ensures values { IsPromisedMildly values (λ start w. LinksAreMild start.lines w) }
+{}
+
+/// A law: there no end of path 0 is to be reset, always, but for reason 6 (RFC 8684, section 3.6), none is refused, and none hears that its
+/// peer closed at once. No mapping gives a position another place, no book refuses what came, and no check fails.
+pub fn mild_scripts_hardly_break()
+    ensures values { IsPromisedMildly values (λ start w. HardlyBreaks w) }
+    ensures octets { IsPromisedMildly octets (λ start w. HardlyBreaks w) }
 {}
 
 /// A law: what arrives as a copy is due, at its tick, at its side and with its number, carries what the copy does. So it is with the first

@@ -21,9 +21,10 @@ mod laws;
 pub use laws::{
     a_copy_leaves_by_arriving, copies_arrive_as_sent, each_acknowledgement_counts,
     each_copy_is_answered_at_once, each_data_ack_counts, each_data_fin_counts,
-    each_handshake_counts, each_news_counts, each_piece_comes_in_order,
-    each_record_is_acknowledged, each_segment_has_a_data_ack, each_segment_says_what_came,
-    each_segment_uses_a_line_or_comes, lossy_lanes_finish, news_is_bounded, news_never_falls,
+    each_handshake_counts, each_news_counts, each_piece_comes_in_order, each_record_is_acknowledged,
+    each_segment_has_a_data_ack, each_segment_says_what_came, each_segment_uses_a_line_or_comes,
+    harms_use_lines, lossy_lanes_finish, mild_links_change_nothing, mild_scripts_hardly_break,
+    mild_scripts_keep_mapping, mild_scripts_tell_keys, news_is_bounded, news_never_falls,
     no_timer_is_put_off, nothing_goes_back, nothing_is_overdue, timers_run_on, timers_run_out,
     what_came_was_sent, what_comes_is_kept, what_is_acknowledged_came, what_is_asked_comes,
     what_is_in_hand_is_acknowledged, what_is_in_order_is_passed, what_is_owed_comes,

@@ -1,6 +1,6 @@
 -- Where no payload is altered no check fails: the octets of a mapping that are all there are those that were sent. So no control book is
 -- told of a failure, and none knows of one.
-use Rattle.world_laws.proofs.Words.{◌≡◌, refl, sym, ◌∙◌, ap, subst, ℕ, ◌&&◌, ◌==◌, not, ⊎_elim, Bool, true, false, if◌then◌else◌, Option, Some, None, List, []}
+use Rattle.world_laws.proofs.Words.{◌≡◌, refl, sym, ◌∙◌, ap, subst, ℕ, suc, ◌&&◌, ◌==◌, not, ⊎_elim, Bool, true, false, if◌then◌else◌, Option, Some, None, List, []}
 use Rattle.world_laws.proofs.Words.{◌∷◌, ◌++◌, length, arith, is_some, or_parts, and_parts, both_ways, false≢true, or_from, same_Some, list_any, slice_get}
 use Rattle.world_laws.proofs.Words.{IfSome, FallEvent, is_infinite, reads_mappings, with_infinite_send, writes_mappings, Fall, goes, fall_step, Side, A, B, JoinSyn}
 use Rattle.world_laws.proofs.Words.{ControlCall, Notice, sole, Control, ReassemblyCall, Record, Pending, may_finish, EndPhase, PlainOption, PlainSegment, Fail}
@@ -23,7 +23,7 @@ use Rattle.world_laws.proofs.Falls.FailedChecks.{fail_asks_so, subflow_acks_so}
 use Rattle.world_laws.proofs.Lanes.Beginning.{each_run_shows}
 use Rattle.world_laws.proofs.Lanes.OfAWorld.{plainly, plainly_free, free_run, Links, WorldShows, PathThere, duo_of, first_duo}
 use Rattle.world_laws.proofs.Lanes.Placing.{failing_alters}
-use Rattle.world_laws.proofs.Lanes.Showing.{OwnIs, OptionShows, FlightShows, PathShows, is_unfinished}
+use Rattle.world_laws.proofs.Lanes.Showing.{OwnIs, ItemShows, OptionShows, FlightShows, PathShows, is_unfinished}
 use Rattle.world_laws.proofs.Promises.Made.{run_fresh}
 use Rattle.world_laws.proofs.Promises.OverOctets.{same_notes_at}
 use Rattle.world_laws.proofs.Weaving.Journals.{books_after}
@@ -62,13 +62,21 @@ app_harmless = elim [ AppDuty.FastClose ↦ λ a. tt | _ ↦ λ a. tt ]
 
 -- ---- a path
 
+-- a thing that was heard is an MP_FAIL
+abbrev pub is_failure : Heard → Bool
+is_failure Heard.Fail = true
+is_failure _ = false
+
 -- what its first duty does comes to something, no mapping at an edge has other octets than its own, no end may send an infinite mapping, and
 -- no copy has an MP_FAIL
 pub record PathPasses (p : PathState Carried) : Type 0 where
   pub settled : IsSettled p
-  sound : (s : Side) → failing_mapping p.profile (end_at s p) ≡ None
+  pub sound : (s : Side) → failing_mapping p.profile (end_at s p) ≡ None
   own : (s : Side) → (end_at s p).treated.infinite_mapping ≡ None
   copies : TellsNoFailure (Path p)
+  -- none heard one, or tells one
+  pub heard_none : (s : Side) → list_any is_failure (end_at s p).treated.items ≡ false
+  pub told_none : (s : Side) → (end_at s p).modes.failed_mapping ≡ None
   -- and each sends with mappings of pieces, or fell back; no FIN is sent where one may be
   pub mapped : (s : Side) → (end_at s p).modes.own_infinite ≡ None
   pub unfinished : (s : Side) → may_finish (end_at s p).tcp.state ≡ true → (end_at s p).tcp.send.finished ≡ false
@@ -177,6 +185,15 @@ no_own : (pair : Option Pair) (pairs : List Pair) (fins : List ℕ) (alters : Bo
 no_own pair pairs fins alters plain None h = refl
 no_own pair pairs fins alters plain (Some mapping) h = absurd (both_ways alters plain h.may)
 
+items_pass : (acks : List AckCopy) (q : Lane) → q.alters ≡ false → (items : List Heard) → Every (ItemShows acks q) items → list_any is_failure items ≡ false
+items_pass acks q plain [] shows = refl
+items_pass acks q plain (item ∷ items) shows =
+    or_from (is_failure item) (list_any is_failure items) (by item (shows.each 0 item refl)) (items_pass acks q plain items (record { each = λ i x there. shows.each (suc i) x there }))
+  where
+    by : (item : Heard) → ItemShows acks q item → is_failure item ≡ false
+    by Heard.Fail is = absurd (both_ways q.alters plain is)
+    by _ is = refl
+
 option_passes : (c : Profile) (s : Side) (window : ℕ) (acks : List AckCopy) (q : Lane) → q.alters ≡ false → (o : PlainOption) → OptionShows c s window acks q o → is_fail o ≡ false
 option_passes c s window acks q plain (Fail place) shows = absurd (both_ways q.alters plain shows)
 option_passes c s window acks q plain _ shows = refl
@@ -202,6 +219,14 @@ module _ (v u : View) (number : ℕ) (p : PathState Carried) (ab ba : Lane) (to_
   mapped A = no_own ab.pair ab.pairs ab.fins ab.alters plain_ab p.a.modes.own_infinite h.a.pairs.0
   mapped B = no_own ba.pair ba.pairs ba.fins ba.alters plain_ba p.b.modes.own_infinite h.b.pairs.0
 
+  heard_none : (s : Side) → list_any is_failure (end_at s p).treated.items ≡ false
+  heard_none A = items_pass ab.acks ba plain_ba p.a.treated.items h.a.treated.items
+  heard_none B = items_pass ba.acks ab plain_ab p.b.treated.items h.b.treated.items
+
+  told_none : (s : Side) → (end_at s p).modes.failed_mapping ≡ None
+  told_none A = unaltered p.a.modes.failed_mapping ab.alters plain_ab h.a.pairs.4
+  told_none B = unaltered p.b.modes.failed_mapping ba.alters plain_ba h.b.pairs.4
+
   finishing : (state : EndPhase) → may_finish state ≡ true → is_unfinished state ≡ true
   finishing EndPhase.Established is = refl
   finishing EndPhase.CloseWait is = refl
@@ -213,7 +238,7 @@ module _ (v u : View) (number : ℕ) (p : PathState Carried) (ab ba : Lane) (to_
   unfinished B is = h.b.sender.unfinished (finishing p.b.tcp.state is)
 
   path_passes : IsSettled p → PathPasses p
-  path_passes settled = record { settled = settled; sound = sound; own = own; copies = copies; mapped = mapped; unfinished = unfinished }
+  path_passes settled = record { settled = settled; sound = sound; own = own; copies = copies; heard_none = heard_none; told_none = told_none; mapped = mapped; unfinished = unfinished }
 
 pub record EachPasses (w : WorldState Carried) : Type 0 where
   pub each : (actor : ℕ) (c : ActorCrew Carried) → slice_get w.crew actor ≡ Some c → MemberPasses c.member

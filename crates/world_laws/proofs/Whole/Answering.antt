@@ -448,19 +448,19 @@ first_calm d ds p stood h = other_calm (asking d) (ask_for values d (with_agenda
 
 settle_holds : (q : PathState Carried) → LeadsWell q → Holds q → Holds (settled q.agenda q)
 settle_holds q leads (Now p h) = Now _ (settled_is q.agenda q leads h)
-settle_holds q leads (Next d ds p now calm does passes) = subst (λ xs. Holds (settled xs q)) (sym now) (by (stands d q) refl)
+settle_holds q leads (Next d ds p between now calm does passes) = subst (λ xs. Holds (settled xs q)) (sym now) (by (stands d q) refl)
   where
     here : with_agenda (d ∷ ds) q ≡ q
     here = ap (λ xs. with_agenda xs q) (sym now)
 
     by : (b : Bool) → stands d q ≡ b → Holds (if b then with_agenda (d ∷ ds) q else settled ds (passed d q))
-    by true is = subst Holds (sym here) (Next d ds q now calm does passes)
+    by true is = subst Holds (sym here) (Next d ds q between now calm does passes)
     by false is = passes is
 
 pub asks_calmly : (p : PathState Carried) → IsSettled p → Holds p → (x : Ask) → asks_of values p ≡ Some x → IsCalm x
 asks_calmly p stood (Now q h) x is = (elim p.agenda as (λ ds. FirstStands ds (with_agenda ds p) → PathIs ds (with_agenda ds p) → asks_first values ds (with_agenda ds p) ≡ Some x → IsCalm x)
     [ [] ↦ λ stood h is. cc | d ∷ ds ↦ λ stood h is. subst IsCalm (same_Some _ x is) (first_calm d ds p stood h) ]) stood h is
-asks_calmly p stood (Next d ds q now calm does passes) x is =
+asks_calmly p stood (Next d ds q between now calm does passes) x is =
     subst IsCalm (same_Some _ x (subst (λ xs. asks_first values xs p ≡ Some x) now is)) (calm (subst (λ xs. FirstStands xs p) now stood))
 
 pub takes_holds : (r : Reply) (p : PathState Carried) → IsSettled p → LeadsWell p → PathPlain p → Holds p → Holds (takes values r p)
@@ -470,7 +470,7 @@ takes_holds r p stood leads plain holds =
     by : Holds p → Holds (answers values p.agenda r p)
     by (Now q h) = (elim p.agenda as (λ ds. FirstStands ds (with_agenda ds p) → Leads ds (with_agenda ds p) → PathIs ds (with_agenda ds p) → Holds (answers values ds r (with_agenda ds p)))
         [ [] ↦ λ stood leads h. Now _ h | d ∷ ds ↦ λ stood leads h. answered_holds d ds r p (record { a = plain.a; b = plain.b; waits = plain.waits }) stood leads h ]) stood leads h
-    by (Next d ds q now calm does passes) = subst (λ xs. Holds (answers values xs r p)) (sym now) (does (subst (λ xs. FirstStands xs p) now stood) r)
+    by (Next d ds q between now calm does passes) = subst (λ xs. Holds (answers values xs r p)) (sym now) (does (subst (λ xs. FirstStands xs p) now stood) r)
 
 -- whatever is left to do
 ended_is : (ds : List Duty) (p : PathState Carried) → PathIs ds p → PathIs start_of_turn (with_agenda start_of_turn p)
@@ -481,7 +481,7 @@ next_holds p over leads (Now q h) =
     let n : PathState Carried = record p { clock = p.until; until = p.until + 100 } in
     let m : PathState Carried = with_agenda start_of_turn n in
     Now _ (settled_is start_of_turn m (started_leads n leads.led) (ended_is p.agenda n (path_alike p.agenda p n refl refl refl refl refl h.copies h)))
-next_holds p over leads (Next d ds q now calm does passes) = let none : [] ≡ d ∷ ds = sym over ∙ now in cc
+next_holds p over leads (Next d ds q between now calm does passes) = let none : [] ≡ d ∷ ds = sym over ∙ now in cc
 
 -- the first turn
 pub starts_holds : (p : PathState Carried) → LeadsWell p → PathIs start_of_turn (with_agenda start_of_turn p) → Holds (begins_turn p)

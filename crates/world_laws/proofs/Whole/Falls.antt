@@ -371,11 +371,42 @@ never_false : (books : StampedBooks) (s : Side) → Never books → (b : Bool) �
 never_false books s never true was = absurd (never s (was refl))
 never_false books s never false was = refl
 
+run_upright_so : (start : Start) (turns : List Turn) → IsPlain start → IsWhole start → Upright (world_run values turns (opened_world start))
+run_upright_so start turns plain whole = run_upright turns (opened_world start) (λ more. each_known start more plain) (λ more. (checks_pass start more plain).finite) (opened_upright start plain whole)
+
 pub sides_never_fall : IsPromisedWhole NeverFalls
 sides_never_fall start turns plain whole s =
     let w : WorldState Carried = world_run values turns (opened_world start) in
-    let h : Upright w = run_upright turns (opened_world start) (λ more. each_known start more plain) (λ more. (checks_pass start more plain).finite) (opened_upright start plain whole) in
+    let h : Upright w = run_upright_so start turns plain whole in
     never_false w.books s h.never (was_ever is_fallen_back s w) (λ is. is)
+
+-- ---- what is known of each path
+
+-- no end is in plain TCP; what path 0 keeps besides
+pub record PathUpright (p : PathState Carried) : Type 0 where
+  pub passes : PathPasses p
+  pub identity : (s : Side) → (end_at s p).modes.identity ≡ false
+  pub holds : is_joined p.profile ≡ false → Holds p
+
+abbrev pub MemberUpright : Actor Carried → Type 0
+MemberUpright (App a) = Unit {0}
+MemberUpright (Path p) = PathUpright p
+
+pub record EachUpright (w : WorldState Carried) : Type 0 where
+  pub each : (actor : ℕ) (c : ActorCrew Carried) → slice_get w.crew actor ≡ Some c → MemberUpright c.member
+
+pub each_upright : IsPromisedWhole EachUpright
+each_upright start turns plain whole = record { each = λ actor c there. by c.member ((each_known start turns plain).each actor c there) (h.crew.each actor c there) }
+  where
+    w : WorldState Carried
+    w = world_run values turns (opened_world start)
+
+    h : Upright w
+    h = run_upright_so start turns plain whole
+
+    by : (m : Actor Carried) → MemberKnown w.books m → MemberStands m → MemberUpright m
+    by (App a) known stands = tt
+    by (Path p) known stands = record { passes = known.passes; identity = no_identity w.books p h.never known; holds = λ first. (stands first).1 }
 
 -- ---- over octets, and by scripts
 
@@ -385,7 +416,7 @@ never_in_octets start turns plain whole fit =
     let h : NeverFalls w = sides_never_fall start turns plain whole in
     subst NeverFalls (sym (run_fresh start turns plain.size fit)) (λ s. h s)
 
-never_strips : (from : Side) (number now : ℕ) (line : ScriptLine) → strips_options line ≡ false → is_stripped_by from number now line ≡ false
+pub never_strips : (from : Side) (number now : ℕ) (line : ScriptLine) → strips_options line ≡ false → is_stripped_by from number now line ≡ false
 never_strips from number now (OnSegment segment Stripped) is = absurd (false≢true (sym is))
 never_strips from number now (StripAll path side tick) is = absurd (false≢true (sym is))
 never_strips from number now line is = refl

@@ -2,7 +2,7 @@
 -- a timer runs out before that the SYN goes out once more.
 use Rattle.world_laws.proofs.Words.{◌≡◌, refl, sym, ◌∙◌, subst, ℕ, ◌&&◌, ◌||◌, ◌==◌, inl, inr, ⊎_elim, Bool, true, false, if◌then◌else◌, Option, Some, None}
 use Rattle.world_laws.proofs.Words.{List, [], ◌∷◌, ◌++◌, length, is_some, or_cases, or_parts, and_parts, both_ways, false≢true, same_Some, FallEvent, Side, A}
-use Rattle.world_laws.proofs.Words.{B, peer, same_side, ControlCall, KeptMapping, SendState, is_dead, Meaning, is_sixth, after_expiry, State, Outgoing}
+use Rattle.world_laws.proofs.Words.{B, peer, same_side, ControlCall, KeptMapping, SendState, is_dead, is_opening, Meaning, is_sixth, after_expiry, State, Outgoing}
 use Rattle.world_laws.proofs.Words.{after_death, meaning_of, is_due, arriving, without, after_delivery, Due, Flight, HeardSegment, meant, LineAction}
 use Rattle.world_laws.proofs.Words.{rest_of_turn, emission, payload_came, announces, withdraws, Duty, SendDuty, AskDuty, key_heard, Ask, Reply, tail_of, stands}
 use Rattle.world_laws.proofs.Words.{ask_for, passed, answered, PathEnd, died, at_tick, PathState, end_at, goes_on, with_end, with_agenda, settled, Carried}
@@ -13,6 +13,7 @@ use Rattle.world_laws.proofs.Words.{Every, if_so}
 use Rattle.std.specs.List.{position}
 use Rattle.path_core.specs.declared.events.Event.{Event}
 use Rattle.world_laws.proofs.Keys.AnswerHeardFirst.{is_accepts, is_apart}
+use Rattle.world_laws.proofs.Keys.AreDrawn.{is_past}
 use Rattle.world_laws.proofs.Keys.Held.{in_removed}
 use Rattle.world_laws.proofs.Keys.WhatWakes.{is_up, next_happens}
 use Rattle.world_laws.proofs.Worlds.Finding.{find_every, one_side}
@@ -42,10 +43,36 @@ IsCalm _ = Unit {0}
 
 -- ---- a path that is so, now or after what is done next
 
+-- the SYN/ACK is treated, or A's SYN goes out again
+abbrev pub is_between : Duty → Bool
+is_between (Duty.Ask (AskDuty.SynAnswered s)) = true
+is_between (Duty.Ask (AskDuty.PeerKey s)) = true
+is_between (Duty.Ask (AskDuty.Return s)) = true
+is_between (Duty.Send (SendDuty.Resend s)) = true
+is_between _ = false
+
+abbrev pub treats_syn_ack : Duty → Bool
+treats_syn_ack (Duty.Ask (AskDuty.SynAnswered s)) = true
+treats_syn_ack (Duty.Ask (AskDuty.PeerKey s)) = true
+treats_syn_ack _ = false
+
+-- by such a duty, the former one where A has the SYN/ACK; and no end goes by an infinite mapping of its peer's
+pub record IsBetween (d : Duty) (p : PathState Carried) : Type 0 where
+  pub duty : is_between d ≡ true
+  pub met : is_past p.a.tcp.state ≡ true → treats_syn_ack d ≡ true
+  pub finite : (s : Side) → (end_at s p).modes.peer_infinite ≡ None
+
 pub data Holds : PathState Carried → Type 0 where
   Now : (p : PathState Carried) → PathIs p.agenda p → Holds p
-  Next : (d : Duty) (ds : List Duty) (p : PathState Carried) → p.agenda ≡ d ∷ ds → (stands d p ≡ true → IsCalm (ask_for values d p)) → (stands d p ≡ true → (r : Reply) → Holds (answered values d r p))
+  Next : (d : Duty) (ds : List Duty) (p : PathState Carried) → IsBetween d p → p.agenda ≡ d ∷ ds → (stands d p ≡ true → IsCalm (ask_for values d p)) → (stands d p ≡ true → (r : Reply) → Holds (answered values d r p))
       → (stands d p ≡ false → Holds (settled ds (passed d p))) → Holds p
+
+opening_unmet : (state : State) → is_opening state ≡ true → is_past state ≡ false
+opening_unmet = elim [ State.SynSent ↦ λ is. refl | _ ↦ λ is. absurd (false≢true is) ]
+
+both_finite : (ds : List Duty) (p : PathState Carried) → PathIs ds p → (s : Side) → (end_at s p).modes.peer_infinite ≡ None
+both_finite ds p h A = h.a.base.finite
+both_finite ds p h B = h.b.base.finite
 
 -- ---- a line of the script
 
@@ -114,6 +141,9 @@ module _ (q : PathState Carried) (h : PathIs (emission A) q) (plain : Plain q.a)
   abbrev resending : List Duty
   resending = Duty.Send (SendDuty.Resend A) ∷ emission A
 
+  again : (d : Duty) (ds : List Duty) → is_between d ≡ true → IsBetween d (with_agenda ds q)
+  again d ds is = record { duty = is; met = λ past. absurd (both_ways _ (opening_unmet q.a.tcp.state opens.state) past); finite = both_finite (emission A) q h }
+
   resends : Holds (with_agenda resending q)
   resends =
       let m : PathState Carried = with_agenda resending q in
@@ -121,12 +151,13 @@ module _ (q : PathState Carried) (h : PathIs (emission A) q) (plain : Plain q.a)
       let o = resend_occasion q.a in
       let f : PathEnd = having_sent o q.clock (resend_of A m) q.a in
       let grows = (having_step A (emission A) m g o q.clock (resend_of A m)).grows in
-      Next (Duty.Send (SendDuty.Resend A)) (emission A) m refl (λ is. tt)
+      Next (Duty.Send (SendDuty.Resend A)) (emission A) m (again (Duty.Send (SendDuty.Resend A)) resending refl) refl (λ is. tt)
       (λ is r. Now _ (sent_fewer A (resend_of A m) (emission A) (emission A) m f (resend_said_is A (emission A) m g plain f.tcp.send grows (inr (refl, opens))) (having_step A (emission A) m g o q.clock (resend_of A m)) (λ x marked. marked) g))
       (λ none. absurd (false≢true (sym none)))
 
   pub gives_back : Holds (with_agenda (Duty.Ask (AskDuty.Return A) ∷ resending) q)
-  gives_back = Next (Duty.Ask (AskDuty.Return A)) resending (with_agenda (Duty.Ask (AskDuty.Return A) ∷ resending) q) refl (λ is. tt) (λ is r. resends) (λ none. resends)
+  gives_back = Next (Duty.Ask (AskDuty.Return A)) resending (with_agenda (Duty.Ask (AskDuty.Return A) ∷ resending) q) (again (Duty.Ask (AskDuty.Return A)) (Duty.Ask (AskDuty.Return A) ∷ resending) refl) refl
+      (λ is. tt) (λ is r. resends) (λ none. resends)
 
 dies_fired : (s : Side) (ds : List Duty) (p : PathState Carried) (h : PathIs ds p) → is_up (end_at s p).tcp ≡ true → Holds (goes_on s (fired_end s ds p h true) (template_fired true s) p)
 dies_fired s ds p h up = Now _ (goes_fewer s ds (template_fired true s) p (fired_end s ds p h true) (fired_step s ds p h up true) (new_fewer ds (template_fired true s) (λ x. refl)) h)
@@ -242,6 +273,10 @@ module _ (ds : List Duty) (p : PathState Carried) (h : PathIs ds p) (heard : Hea
     rest_marked (Mark.SaidBy B) is = absurd (false≢true is)
     rest_marked Mark.Never is = absurd (false≢true is)
 
+    finite_then : (s : Side) → (end_at s (with_end A (judged_end A (Meaning.Accepts n)) p)).modes.peer_infinite ≡ None
+    finite_then A = (copy_base A p.b.tcp.send heard p.a told answer now resets says h.a.base (Meaning.Accepts n) fits).finite
+    finite_then B = h.b.base.finite
+
     abbrev keying : List Duty → PathState Carried
     keying es = goes_on A (judged_end A (Meaning.Accepts n)) es p
 
@@ -255,12 +290,12 @@ module _ (ds : List Duty) (p : PathState Carried) (h : PathIs ds p) (heard : Hea
         by : (o : Option ℕ) → key_heard (items_of false A heard) ≡ o → is_some o ≡ true → PathIs rest (with_end A (with_peer_key o (judged_end A (Meaning.Accepts n))) p) → Holds (keying (Duty.Ask (AskDuty.PeerKey A) ∷ rest))
         by None is some later = absurd (false≢true some)
         by (Some k) is some later =
-            Next (Duty.Ask (AskDuty.PeerKey A)) rest q refl (λ stood. subst (λ (o : Option ℕ). IsCalm (peer_key_ask A o q)) (sym is) tt)
+            Next (Duty.Ask (AskDuty.PeerKey A)) rest q (record { duty = refl; met = λ past. refl; finite = finite_then }) refl (λ stood. subst (λ (o : Option ℕ). IsCalm (peer_key_ask A o q)) (sym is) tt)
             (λ stood r. subst (λ (o : Option ℕ). Holds (answered_peer_key A o r q)) (sym is) (Now _ (path_any rest rest (with_end A (with_peer_key (Some k) (judged_end A (Meaning.Accepts n))) p) later)))
             (λ none. absurd (both_ways _ (or_parts (is_some (key_heard (items_of false A heard))) _ none).0 has_key))
 
     answered_holds : Holds (keying (Duty.Ask (AskDuty.SynAnswered A) ∷ Duty.Ask (AskDuty.PeerKey A) ∷ rest))
-    answered_holds = Next (Duty.Ask (AskDuty.SynAnswered A)) (Duty.Ask (AskDuty.PeerKey A) ∷ rest) _ refl (λ is. tt) (λ is r. key_next) (λ none. absurd (false≢true (sym none)))
+    answered_holds = Next (Duty.Ask (AskDuty.SynAnswered A)) (Duty.Ask (AskDuty.PeerKey A) ∷ rest) _ (record { duty = refl; met = λ past. refl; finite = finite_then }) refl (λ is. tt) (λ is r. key_next) (λ none. absurd (false≢true (sym none)))
 
   pub told_holds : (s : Side) → Comes s → Holds (goes_on s (judged_end s (meaning_of (copy_of heard) (end_at s p).tcp)) (came s (meaning_of (copy_of heard) (end_at s p).tcp)) p)
   told_holds s says = by s says (meaning_of (copy_of heard) (end_at s p).tcp) (means_so (copy_of heard) (end_at s p).tcp)
