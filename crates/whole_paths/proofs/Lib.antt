@@ -8,6 +8,7 @@ pub mod Closing
 pub mod Copies
 pub mod DataAcks
 pub mod DataAcksAsked
+pub mod DataAcksCome
 pub mod DataAcksHeard
 pub mod Due
 pub mod Duties
@@ -21,6 +22,7 @@ pub mod Knowing
 pub mod Lanes
 pub mod Links
 pub mod Opening
+pub mod OpeningConfirmed
 pub mod OpeningSyns
 pub mod Owing
 pub mod Mapping

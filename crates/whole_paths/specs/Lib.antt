@@ -8,6 +8,7 @@ pub mod Closing
 pub mod Copies
 pub mod DataAcks
 pub mod DataAcksAsked
+pub mod DataAcksCome
 pub mod DataAcksHeard
 pub mod Due
 pub mod EndSteps
@@ -22,6 +23,7 @@ pub mod Kept
 pub mod Lanes
 pub mod Mapped
 pub mod Opening
+pub mod OpeningConfirmed
 pub mod Owed
 pub mod Passed
 pub mod Reasons
