@@ -10,6 +10,7 @@ pub mod Closing
 pub mod Copies
 pub mod DataAcks
 pub mod DataAcksAsked
+pub mod DataAcksCome
 pub mod DataAcksHeard
 pub mod Courses
 pub mod Due
@@ -27,6 +28,7 @@ pub mod Knowing
 pub mod Lanes
 pub mod Links
 pub mod Opening
+pub mod OpeningConfirmed
 pub mod OpeningSyns
 pub mod News
 pub mod NewsBounds

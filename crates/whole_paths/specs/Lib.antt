@@ -9,6 +9,7 @@ pub mod Closing
 pub mod Copies
 pub mod DataAcks
 pub mod DataAcksAsked
+pub mod DataAcksCome
 pub mod DataAcksHeard
 pub mod Courses
 pub mod Due
@@ -27,6 +28,7 @@ pub mod Mapped
 pub mod Opening
 pub mod News
 pub mod Mild
+pub mod OpeningConfirmed
 pub mod Owed
 pub mod Passed
 pub mod Reasons

@@ -14,6 +14,7 @@ ghost use Rattle.whole_paths.specs.Closing.{EachDataFinCounts, EachDataFinIsSaid
 ghost use Rattle.whole_paths.specs.Copies.{CopiesLeaveByArriving};
 ghost use Rattle.whole_paths.specs.DataAcks.{EachSegmentHasADataAck};
 ghost use Rattle.whole_paths.specs.DataAcksAsked.{WhatIsAskedComes};
+ghost use Rattle.whole_paths.specs.DataAcksCome.{EachAckComes};
 ghost use Rattle.whole_paths.specs.DataAcksHeard.{EachDataAckCounts, EachDataAckIsSaid};
 ghost use Rattle.whole_paths.specs.Due.{CopiesArriveAsSent};
 ghost use Rattle.whole_paths.specs.Exchanges.{EachRecordIsAcknowledged};
@@ -30,6 +31,7 @@ ghost use Rattle.whole_paths.specs.Mapped.{WhatIsToldIsKnown};
 ghost use Rattle.whole_paths.specs.Opening.{EachHandshakeCounts, EachSynCounts};
 ghost use Rattle.whole_paths.specs.News.{EachNewsCounts, NewsIsBounded, NewsNeverFalls};
 ghost use Rattle.whole_paths.specs.Mild.{IsPromisedMildly, KeysAreKnown, LinksAreMild, MappingIsKept, MildScriptsStartMildly, HardlyBreaks};
+ghost use Rattle.whole_paths.specs.OpeningConfirmed.{EachConfirmationCounts, SignsAreSaid};
 ghost use Rattle.whole_paths.specs.Owed.{WhatIsOwedComes};
 ghost use Rattle.whole_paths.specs.Passed.{WhatIsInOrderIsPassed};
 ghost use Rattle.whole_paths.specs.Reasons.{WhoWaitsHasATimer};
@@ -193,6 +195,18 @@ pub fn each_handshake_counts()
     ensures syns { EachSynCounts }
 {}
 
+/// A law: what confirms Multipath TCP to an end counts, in its turn: both keys let B send a DSS, and the first DSS lets A (RFC 8684, section
+/// 3.1).
+///
+/// Where a copy that the end takes says it, the end hears it once all is treated that the copy says before, and from then on, by each turn,
+/// the end may send a DSS, if it could not before. Or the end is dead, or reset next; or the side fell back to plain TCP; or the control book
+/// was told another key for its own, as none is (`keys_never_differ`). A segment with a DSS says so, and one with both keys (`says`).
+pub fn each_confirmation_counts()
+    ensures octets { EachConfirmationCounts octets }
+    ensures values { EachConfirmationCounts values }
+    ensures says { SignsAreSaid }
+{}
+
 /// A law: each segment that an end sends acknowledges what came of the peer's stream: its Data ACK is the place that the side wants next,
 /// as the end's reassembly book told it last (RFC 8684, section 3.3.2).
 ///
@@ -346,10 +360,12 @@ pub fn each_record_is_acknowledged()
 /// timer runs still, or it is to send again, or a copy of that is under way, and the tick stays by which a copy comes; or a copy was what
 /// arrives next; or the end has a record again, which comes by the same tick (`what_waits_comes`); or there is news (`timers_run_on`), or
 /// nothing is outstanding any longer; or the script has a line less by which a segment is lost or late; or its direction loses it; or the
-/// end is dead, or the path dies by a line. So it is with the first 2^64 - 2 segments of a side.
+/// end is dead, or the path dies by a line. So it is with the first 2^64 - 2 segments of a side. A copy that comes, as of the path that opens
+/// the connection, is taken in the window, and answered before RCV.NXT (`comes`), as a probe is.
 pub fn what_is_asked_comes()
     ensures octets { WhatIsAskedComes octets }
     ensures values { WhatIsAskedComes values }
+    ensures comes { EachAckComes }
 {}
 
 /// A law: by whatever turns, an end keeps what isn't acknowledged yet, so that it can be sent again.
