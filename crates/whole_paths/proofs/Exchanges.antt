@@ -117,7 +117,7 @@ record Known (p : PathState Carried) : Type 0 where
 
 -- what came was sent
 edge_sent : (p : PathState Carried) → WasSent p → (s : Side) → is_fin_passed (end_at s p).tcp ≡ false → (end_at s p).tcp.recv.edge ≤ (end_at (peer s) p).tcp.send.nxt
-edge_sent p h s unpassed = h.octets s unpassed
+edge_sent p h s unpassed = h s
 
 unopening : (state : EndPhase) → 2 ≤ stage state → is_opening state ≡ false
 unopening phase.SynSent high = absurd (omega (arith, high))
@@ -202,6 +202,8 @@ less_covered s position less p f low h = record {
   covers = record { up_to = h.covers.up_to; acknowledged = h.covers.acknowledged; enough = (let enough = h.covers.enough in omega (arith, enough, low)); rst = h.covers.rst };
   stripped = h.stripped;
   altered = h.altered;
+  whole = h.whole;
+  plain = h.plain;
   carried = h.carried;
 }
 
