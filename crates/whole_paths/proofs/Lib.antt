@@ -19,6 +19,7 @@ pub mod Lanes
 pub mod Links
 pub mod News
 pub mod NewsBounds
+pub mod OnePath
 pub mod Owing
 pub mod Mapping
 pub mod Moving
@@ -28,6 +29,7 @@ pub mod Pieces
 pub mod Reasons
 pub mod Resending
 pub mod Rounds
+pub mod Room
 pub mod Running
 pub mod Saying
 pub mod Sent

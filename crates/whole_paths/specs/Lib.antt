@@ -23,6 +23,7 @@ pub mod News
 pub mod Owed
 pub mod Passed
 pub mod Reasons
+pub mod Room
 pub mod Rounds
 pub mod Running
 pub mod Saying
