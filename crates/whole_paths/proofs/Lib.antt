@@ -32,6 +32,7 @@ pub mod OpeningConfirmed
 pub mod OpeningSyns
 pub mod News
 pub mod NewsBounds
+pub mod OnePath
 pub mod Owing
 pub mod Mapping
 pub mod Mild
@@ -43,6 +44,7 @@ pub mod Reasons
 pub mod Reached
 pub mod Resending
 pub mod Rounds
+pub mod Room
 pub mod Running
 pub mod Saying
 pub mod Sent

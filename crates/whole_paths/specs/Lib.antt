@@ -32,6 +32,7 @@ pub mod OpeningConfirmed
 pub mod Owed
 pub mod Passed
 pub mod Reasons
+pub mod Room
 pub mod Rounds
 pub mod Running
 pub mod Saying

@@ -4,7 +4,7 @@ ghost use Rattle.path_core.specs.Values.{Carried, values};
 ghost use Rattle.std.specs.Prelude.{ℕ, List};
 ghost use Rattle.world_laws.specs.Laws.{Always};
 ghost use Rattle.world_laws.specs.Promises.{HoldsAnyway, HoldsAnywayOfOctets};
-ghost use Rattle.whole_paths.specs.Acknowledged.{WhatWasGrantedIsAcknowledged};
+ghost use Rattle.whole_paths.specs.Acknowledged.{WhatWasGrantedIsAcknowledged, WhatWasWrittenIsAcknowledged};
 ghost use Rattle.whole_paths.specs.Answered.{CopiesAreAnswered};
 ghost use Rattle.whole_paths.specs.Arrivals.{EachCopyArrives, EachMappedRecordIsAPiece, EachPieceComesInOrder};
 ghost use Rattle.whole_paths.specs.AsFar.{NothingGoesBack};
@@ -35,6 +35,7 @@ ghost use Rattle.whole_paths.specs.OpeningConfirmed.{EachConfirmationCounts, Sig
 ghost use Rattle.whole_paths.specs.Owed.{WhatIsOwedComes};
 ghost use Rattle.whole_paths.specs.Passed.{WhatIsInOrderIsPassed};
 ghost use Rattle.whole_paths.specs.Reasons.{WhoWaitsHasATimer};
+ghost use Rattle.whole_paths.specs.Room.{WhoIsDoneMayAsk};
 ghost use Rattle.whole_paths.specs.Running.{TimersRunOn};
 ghost use Rattle.whole_paths.specs.Saying.{EachSegmentSaysWhatCame};
 ghost use Rattle.whole_paths.specs.Sent.{WhatCameWasSent};
@@ -262,6 +263,23 @@ pub fn what_came_was_sent()
 pub fn what_was_granted_is_acknowledged()
     ensures values { HoldsAnyway WhatWasGrantedIsAcknowledged }
     ensures octets { HoldsAnywayOfOctets WhatWasGrantedIsAcknowledged }
+{}
+
+/// A law: the congestion window of each end holds a full segment at every moment (RFC 5681, section 3.1), and an open end of which nothing is
+/// outstanding, that sent no FIN and may send a DSS, may ask for bytes.
+pub fn who_is_done_may_ask()
+    ensures octets { WhoIsDoneMayAsk octets }
+    ensures values { WhoIsDoneMayAsk values }
+{}
+
+/// A law: over one path, as its turn is over, all that was written as the round began is acknowledged at a side whose end may ask for bytes
+/// and has nothing outstanding (RFC 8684, section 3.3.2).
+///
+/// Or the path was on standby when it asked for bytes last in this round, or the connection was stopped. What an application writes within
+/// the round may be left for the next one. So where nothing is outstanding any longer, there is nothing left but what is written anew.
+pub fn what_was_written_is_acknowledged()
+    ensures octets { WhatWasWrittenIsAcknowledged octets }
+    ensures values { WhatWasWrittenIsAcknowledged values }
 {}
 
 /// A law: each octet that comes to an end is kept until RCV.NXT passes it (RFC 9293, section 3.10.7.4).

@@ -30,5 +30,6 @@ pub use laws::{
     what_comes_is_kept, what_is_acknowledged_came, what_is_asked_comes,
     what_is_in_hand_is_acknowledged, what_is_in_order_is_passed, what_is_owed_comes,
     what_is_told_is_known, what_runs_out_goes_again, what_waits_comes, what_waits_is_kept,
-    what_was_granted_is_acknowledged, who_waits_has_a_timer,
+    what_was_granted_is_acknowledged, what_was_written_is_acknowledged, who_is_done_may_ask,
+    who_waits_has_a_timer,
 };

@@ -1,0 +1,8 @@
+use Rattle.whole_paths.proofs.OnePath as one_path
+use Rattle.whole_paths.proofs.laws.what_was_written_is_acknowledged.Goals as goal
+
+pub returns-clause-octets : goal.returns-clause-octets
+returns-clause-octets c = one_path.what_was_written_is_acknowledged_in_octets
+
+pub returns-clause-values : goal.returns-clause-values
+returns-clause-values c = one_path.what_was_written_is_acknowledged
