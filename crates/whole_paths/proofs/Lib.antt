@@ -10,6 +10,7 @@ pub mod DataAcks
 pub mod DataAcksAsked
 pub mod DataAcksCome
 pub mod DataAcksHeard
+pub mod DataAcksNow
 pub mod Due
 pub mod Duties
 pub mod Flying

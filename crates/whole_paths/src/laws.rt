@@ -15,6 +15,7 @@ ghost use Rattle.whole_paths.specs.DataAcks.{EachSegmentHasADataAck};
 ghost use Rattle.whole_paths.specs.DataAcksAsked.{WhatIsAskedComes};
 ghost use Rattle.whole_paths.specs.DataAcksCome.{EachAckComes};
 ghost use Rattle.whole_paths.specs.DataAcksHeard.{EachDataAckCounts, EachDataAckIsSaid};
+ghost use Rattle.whole_paths.specs.DataAcksNow.{OnlyPathsAreUpToDate};
 ghost use Rattle.whole_paths.specs.Due.{CopiesArriveAsSent};
 ghost use Rattle.whole_paths.specs.Expiries.{WhatRunsOutGoesAgain};
 ghost use Rattle.whole_paths.specs.Flights.{WhatWaitsComes};
@@ -182,6 +183,15 @@ pub fn each_confirmation_counts()
 pub fn each_segment_has_a_data_ack()
     ensures octets { EachSegmentHasADataAck (List ℕ) }
     ensures values { EachSegmentHasADataAck Carried }
+{}
+
+/// A law: on the only path of a connection each Data ACK is up to date: the end knows the place that its reassembly book wants next, where it
+/// sends a segment that is no reset, where the turn is over, and where an event is next (RFC 8684, section 3.3.2).
+///
+/// So what came in order is acknowledged by the next segment that the end sends (`each_segment_has_a_data_ack`), bytes and DATA_FIN.
+pub fn each_data_ack_is_up_to_date()
+    ensures octets { Always octets OnlyPathsAreUpToDate }
+    ensures values { Always values OnlyPathsAreUpToDate }
 {}
 
 /// A law: each Data ACK that an end takes counts, in its turn: all before its place is acknowledged then to the end (RFC 8684, section
