@@ -1,5 +1,5 @@
 -- On the only path of a connection an end knows what its side received.
-use Rattle.std.proofs.Common.{◌≡◌, refl, sym, subst, ap, ◌∙◌, ◌⊎◌, inl, inr, ⊎_elim, ℕ, zero, suc, ◌+◌, ◌-◌, ◌≤◌, arith, min, Bool, true, false, true≢false, ◌&&◌, ◌||◌, if◌then◌else◌, Option, Some, None, is_some, List, [], ◌∷◌, drop, length, map, set}
+use Rattle.std.proofs.Common.{◌≡◌, refl, sym, subst, ap, ◌∙◌, ◌⊎◌, inl, inr, ⊎_elim, ℕ, zero, suc, ◌+◌, arith, min, Bool, true, false, true≢false, ◌&&◌, ◌||◌, if◌then◌else◌, Option, Some, None, is_some, List, [], ◌∷◌, length, map, set}
 use Rattle.std.specs.Prelude.{IfSome}
 use Rattle.std.specs.List.{slice_get}
 use Rattle.std.proofs.lemmas.Bool.{and_parts}
@@ -8,7 +8,6 @@ use Rattle.sides.specs.declared.side.Side.{Side}
 use Rattle.sides.specs.declared.side.Side.TheVariants.{A, B}
 use Rattle.sides.specs.Side.{peer}
 use Rattle.link_script.specs.Places.{same_side}
-use Rattle.dss_mapping.specs.declared.kept.KeptMapping.{KeptMapping}
 use Rattle.fallback_state.specs.declared.fall.Event.TheVariants as events
 use Rattle.reassembly_book.specs.State.{Arriving, filled, received}
 use Rattle.reassembly_book.specs.Steps.{is_end, next_wanted, after_reading, after_call}
@@ -48,23 +47,22 @@ use Rattle.path_core.specs.Looking.{first_sends, duty_sends, segment_sent}
 use Rattle.path_core.specs.Start.{waiting_path}
 use Rattle.path_core.specs.Standing.{ack_out_ask, answered_ack_out, after_ack_out}
 use Rattle.path_core.specs.State.{PathState, end_at, goes_on, with_agenda}
-use Rattle.path_core.specs.Steps.{settled, takes, next_round}
+use Rattle.path_core.specs.Steps.{settled, takes}
 use Rattle.path_core.specs.Timer.{with_timer_settled}
 use Rattle.path_core.specs.Treating.{item_of, item_passed, answered_item}
 use Rattle.world_laws.specs.Actors.{ActorCrew}
-use Rattle.world_laws.specs.Asking.{May, may, IsAt, IsAsked, asking}
-use Rattle.world_laws.specs.Laws.{Always}
+use Rattle.world_laws.specs.Asking.{May, may, IsAt, asking}
 use Rattle.world_laws.specs.Members.{HoldsOfKind}
 use Rattle.world_laws.specs.Openings.{PathPlan, Start, path_begins, opened_world}
 use Rattle.world_laws.specs.StampedBooks.{answer_to}
-use Rattle.world_laws.specs.Worlds.{WorldState, Turn, all_over, greatest, begins, after_turn, end_round, world_run}
-use Rattle.world_laws.specs.Writes.{EndView, Only, OnlyAt, PathView, nothing, writes, side_of}
+use Rattle.world_laws.specs.Worlds.{WorldState, Turn, all_over, greatest, begins, after_turn, world_run}
+use Rattle.world_laws.specs.Writes.{EndView, Only, PathView, nothing, writes, side_of}
 use Rattle.world_laws.proofs.Asks.AckOutBeforeSending.{Shielded, shielded_calm, takes_shielded, next_shielded, first_shielded}
 use Rattle.world_laws.proofs.Asks.AckOutDuties.{is_asking, is_telling, is_shield, guarded}
 use Rattle.world_laws.proofs.Falls.FailedChecks.{forgets_so, infinite_came_so, fail_answered_so}
 use Rattle.world_laws.proofs.Weaving.Journals.{books_after}
-use Rattle.world_laws.proofs.Worlds.CastLifting.{Has, Stepwise, steps_have, ended_has, each_actor, path_actor}
-use Rattle.world_laws.proofs.Worlds.Casts.{Walker, Cast, Fare, world_of, walking, walked, walks_on, after_a, after_b, after_path, next_cast, first_cast, first_fare, new_walker, walkers_from, opened_is}
+use Rattle.world_laws.proofs.Worlds.CastLifting.{Has, Stepwise, steps_have, ended_has, each_actor}
+use Rattle.world_laws.proofs.Worlds.Casts.{Walker, Cast, Fare, world_of, walking, walked, walks_on, after_path, next_cast, first_cast, first_fare, new_walker, walkers_from, opened_is}
 use Rattle.world_laws.proofs.Writes.Asks.{asks_no_more}
 use Rattle.world_laws.proofs.Writes.Paths.{writes_no_more, passes_no_more}
 use Rattle.world_laws.proofs.Writes.Steps.{unwritten}

@@ -5,6 +5,7 @@ pub mod Books
 pub mod Bringing
 pub mod Came
 pub mod Closing
+pub mod ClosingAsked
 pub mod Copies
 pub mod DataAcks
 pub mod DataAcksAsked
