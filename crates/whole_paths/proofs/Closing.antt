@@ -35,10 +35,10 @@ use Rattle.path_core.specs.End.{PathEnd, died}
 use Rattle.path_core.specs.Fallback.{after_fell, breaks_by, fell_duties, with_plain_ack, after_check_failed}
 use Rattle.path_core.specs.MpJoin.{is_joined}
 use Rattle.path_core.specs.OptionsIn.{items_in, items_of, options_heard}
-use Rattle.path_core.specs.Standing.{answered_ack_out, after_ack_out}
-use Rattle.path_core.specs.State.{PathState, end_at, goes_on, with_agenda}
+use Rattle.path_core.specs.Standing.{answered_ack_out}
+use Rattle.path_core.specs.State.{PathState, end_at, with_agenda}
 use Rattle.path_core.specs.Steps.{settled, takes, next_round}
-use Rattle.path_core.specs.Treating.{item_of, item_passed, item_stands, answered_item}
+use Rattle.path_core.specs.Treating.{item_of, item_passed, answered_item}
 use Rattle.path_core.specs.declared.judged.Judged.{Judged}
 use Rattle.path_core.specs.declared.judged.Judged.TheVariants as judged
 use Rattle.path_store.specs.Receiving.{data_fin_reached}

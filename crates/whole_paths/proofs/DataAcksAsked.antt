@@ -1,5 +1,5 @@
 -- What an end asks again that has no record left comes to the peer, whatever is lost.
-use Rattle.std.proofs.Common.{◌≡◌, refl, sym, subst, ap, ◌∙◌, ◌⊎◌, inl, inr, ⊎_elim, ℕ, ◌+◌, ◌-◌, ◌^◌, ◌<◌, ◌≤◌, max, true, false, true≢false, if◌then◌else◌, Bool, Option, Some, None, IfSome, List, [], ◌∷◌, length, arith}
+use Rattle.std.proofs.Common.{◌≡◌, refl, sym, subst, ap, ◌∙◌, ◌⊎◌, inl, inr, ⊎_elim, ℕ, ◌+◌, ◌-◌, ◌^◌, ◌<◌, ◌≤◌, max, true, false, true≢false, if◌then◌else◌, Option, Some, None, IfSome, List, [], ◌∷◌, length, arith}
 use Rattle.std.specs.Prelude.{IsSome}
 use Rattle.std.specs.List.{slice_get}
 use Rattle.std.proofs.lemmas.Bool.{cases_lt}
@@ -18,7 +18,6 @@ use Rattle.subflow_tcp.specs.States.{is_closed_to_segments, is_dead}
 use Rattle.subflow_tcp.specs.declared.handshake.State.{State}
 use Rattle.subflow_tcp.specs.declared.handshake.State.TheVariants as phase
 use Rattle.path_agenda.specs.Agenda.{emission}
-use Rattle.path_agenda.specs.declared.duty.Duty.{Duty}
 use Rattle.path_agenda.specs.declared.duty.Duty.TheVariants as duties
 use Rattle.path_agenda.specs.declared.duty.AskDuty.TheVariants as ask_duties
 use Rattle.path_agenda.specs.declared.duty.SendDuty.TheVariants as send_duties
@@ -41,12 +40,11 @@ use Rattle.whole_paths.specs.DataAcksAsked.{IsAsking, IsAskedAgain, AskingGoesOn
 use Rattle.whole_paths.specs.DataAcksAsked.IsAskedAgain.{waits, resends, flies}
 use Rattle.whole_paths.specs.DataAcksAsked.{AskingGoesOn as goes}
 use Rattle.whole_paths.specs.Expiries.{IsToSend, IsToSendAgain, PathsGoAgain, GoesAgain, Expires}
-use Rattle.whole_paths.specs.Flights.{IsFirst, IsOnItsWay}
 use Rattle.whole_paths.specs.Flights.{IsOnItsWay as way}
 use Rattle.whole_paths.specs.Harms.{harms_left, as_it_arrives, longest_way, IsOnTime}
 use Rattle.whole_paths.specs.InTime.{ComesFrom, NothingIsOverdue}
 use Rattle.whole_paths.specs.Kept.{IsSameRecord}
-use Rattle.whole_paths.specs.Reasons.{IsOutstanding, IsTimedWhereItWaits}
+use Rattle.whole_paths.specs.Reasons.{IsTimedWhereItWaits}
 use Rattle.whole_paths.specs.Running.{IsRunning, RunsOn, EndsRunOn}
 use Rattle.whole_paths.specs.Running.{RunsOn as run}
 use Rattle.whole_paths.specs.Saying.{SaysWhatCame, HandsOver, PathsHandOver}

@@ -1,5 +1,5 @@
 -- What an acknowledgement is to the open end that it comes to.
-use Rattle.std.proofs.Common.{◌≡◌, refl, sym, ap, ◌∙◌, ℕ, ◌+◌, ◌-◌, ◌<◌, ◌≤◌, arith, nat_lt, nat_le, ◌==◌, Bool, true, false, true≢false, not, ◌&&◌, ◌||◌, if◌then◌else◌, Option, Some, is_none, List, [], length}
+use Rattle.std.proofs.Common.{◌≡◌, refl, sym, ap, ◌∙◌, ℕ, ◌+◌, ◌<◌, ◌≤◌, arith, nat_lt, ◌==◌, Bool, true, false, true≢false, not, ◌&&◌, ◌||◌, if◌then◌else◌, ◌-◌, Option, Some, None, is_none, List, [], length}
 use Rattle.std.specs.Prelude.{option_map}
 use Rattle.std.proofs.lemmas.Bool.{le-leb, lt-ltb, le-ltb, lt-leb, ne_eqb}
 use Rattle.path_segments.specs.Heard.{HeardSegment}
@@ -7,6 +7,9 @@ use Rattle.path_segments.specs.Laws.{meant}
 use Rattle.path_segments.specs.Spelled.{PlainSegment}
 use Rattle.path_segments.specs.declared.position.HeardPosition.TheVariants.{At}
 use Rattle.sides.specs.declared.side.Side.{Side}
+use Rattle.sides.specs.declared.side.Side.TheVariants.{A, B}
+use Rattle.sides.specs.Side.{peer}
+use Rattle.link_model.specs.Steps.{changed, due_of}
 use Rattle.link_model.specs.declared.flight.Flight.{Flight}
 use Rattle.subflow_tcp.specs.declared.handshake.State.{State as EndPhase}
 use Rattle.subflow_tcp.specs.declared.handshake.State.TheVariants as phase
@@ -14,19 +17,23 @@ use Rattle.subflow_tcp.specs.declared.verdicts.Meaning.{Meaning}
 use Rattle.subflow_tcp.specs.declared.verdicts.Meaning.TheVariants as means
 use Rattle.subflow_tcp.specs.Judging.{meaning_of, meaning_at, meaning_connected, meaning_placed, meaning_within, meaning_acknowledging, meaning_outside, is_repeated_syn, is_in_window, ends_in_window, is_at_right_edge, is_acceptable, is_at}
 use Rattle.subflow_tcp.specs.Segments.{Copy, occupied, one_if}
-use Rattle.subflow_tcp.specs.State.{EndState, is_at_limit}
+use Rattle.subflow_tcp.specs.State.{EndState}
 use Rattle.subflow_tcp.specs.States.{is_dead, is_half_open}
 use Rattle.path_core.specs.Arrival.{copy_of, heard_in, acknowledged_in}
+use Rattle.path_core.specs.DataFin.{is_data_fin_owed}
+use Rattle.path_core.specs.Emission.{ack_resent}
 use Rattle.path_core.specs.End.{PathEnd}
 use Rattle.path_core.specs.Judged.{judged_of}
 use Rattle.path_core.specs.OptionsIn.{items_of, options_heard}
+use Rattle.path_core.specs.OptionsOut.{ack_said, carried_said}
+use Rattle.path_core.specs.Profile.{Profile}
 use Rattle.path_core.specs.State.{PathState, end_at}
-use Rattle.path_core.specs.Values.{Carried, as_arrived, values}
+use Rattle.path_core.specs.Values.{Carried, carried_by, as_arrived, values}
 use Rattle.path_core.specs.declared.judged.Judged.TheVariants as judged
 use Rattle.whole_paths.specs.Arrivals.{Arrival}
 use Rattle.whole_paths.specs.AsFar.{stage}
 use Rattle.whole_paths.specs.Brought.{Comes, IsTo}
-use Rattle.whole_paths.specs.DataAcksCome.{IsBare, IsOpen, IsInWindow, AckComes, EachAckComes}
+use Rattle.whole_paths.specs.DataAcksCome.{IsBare, IsOpen, AckComes, EachAckComes, EachAskArrives}
 
 and_false : (b : Bool) → (b && false) ≡ false
 and_false true = refl
@@ -126,3 +133,58 @@ module _ (x : PlainSegment) (p : PathState Carried) (a : Arrival x p) (bare : Is
 
 pub each_ack_comes : EachAckComes
 each_ack_comes x p a bare opened = ack_comes x p a bare opened
+
+-- ---- what an end without a record asks again
+
+sender_of : (s : Side) → peer (peer s) ≡ s
+sender_of A = refl
+sender_of B = refl
+
+ack_bare : (c : Profile) (s : Side) (pos : ℕ) (fin : Option ℕ) (e : PathEnd) → IsBare (ack_said c s pos fin e)
+ack_bare c s pos fin e = record { syn = refl; fin = refl; rst = refl; empty = refl }
+
+carried_bare : (c : Profile) (s : Side) (key : Option ℕ) (e : PathEnd) → IsBare (carried_said c s key e)
+carried_bare c s (Some key) e = record { syn = refl; fin = refl; rst = refl; empty = refl }
+carried_bare c s None e = ack_bare c s e.tcp.send.nxt None e
+
+resent_bare : (c : Profile) (s : Side) (e : PathEnd) (third close fin : Bool) → IsBare (if third then ack_said c s e.tcp.send.nxt None e
+    else (if close then carried_said c s e.notices.carrier e
+    else (if fin then ack_said c s e.tcp.send.nxt e.sending.known_end e
+    else ack_said c s (e.tcp.send.una - 1) None e)))
+resent_bare c s e true close fin = ack_bare c s e.tcp.send.nxt None e
+resent_bare c s e false true fin = carried_bare c s e.notices.carrier e
+resent_bare c s e false false true = ack_bare c s e.tcp.send.nxt e.sending.known_end e
+resent_bare c s e false false false = ack_bare c s (e.tcp.send.una - 1) None e
+
+probe_at : (c : Profile) (s : Side) (e : PathEnd) → e.modes.owes_third ≡ false → e.notices.fast_closed ≡ false → is_data_fin_owed e ≡ false → (ack_resent c s e).position ≡ e.tcp.send.una - 1
+probe_at c s e third close owed =
+    ap (λ b. (if b then ack_said c s e.tcp.send.nxt None e
+    else (if e.notices.fast_closed then carried_said c s e.notices.carrier e
+    else (if is_data_fin_owed e then ack_said c s e.tcp.send.nxt e.sending.known_end e
+    else ack_said c s (e.tcp.send.una - 1) None e))).position) third
+    ∙ ap (λ b. (if b then carried_said c s e.notices.carrier e
+    else (if is_data_fin_owed e then ack_said c s e.tcp.send.nxt e.sending.known_end e
+    else ack_said c s (e.tcp.send.una - 1) None e)).position) close
+    ∙ ap (λ b. (if b then ack_said c s e.tcp.send.nxt e.sending.known_end e else ack_said c s (e.tcp.send.una - 1) None e).position) owed
+
+pub each_ask_arrives : EachAskArrives
+each_ask_arrives s p f h whole same there few arrive others first next path sums =
+    let comes = arrive f there few in record {
+      arrival = record {
+        others = others;
+        first = first;
+        due = due_of f;
+        next = next;
+        flight = comes.first;
+        there = comes.there;
+        carried = comes.same ∙ h.carried
+            ∙ ap (λ b. changed (values.strips p.profile.spelling s) (values.alters p.profile.spelling s) b h.altered (carried_by p.profile.spelling s (ack_resent p.profile s h.sender))) whole
+            ∙ ap (λ b. changed (values.strips p.profile.spelling s) (values.alters p.profile.spelling s) false b (carried_by p.profile.spelling s (ack_resent p.profile s h.sender))) same
+            ∙ ap (λ t. carried_by p.profile.spelling t (ack_resent p.profile s h.sender)) (sym (ap peer h.to ∙ sender_of s));
+        joined = path;
+        no_sums = sums;
+      };
+      due_is = refl;
+      bare = resent_bare p.profile s h.sender h.sender.modes.owes_third h.sender.notices.fast_closed (is_data_fin_owed h.sender);
+      probes = probe_at p.profile s h.sender;
+    }

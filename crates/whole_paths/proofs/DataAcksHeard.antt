@@ -1,5 +1,5 @@
 -- Each Data ACK that an end takes counts.
-use Rattle.std.proofs.Common.{◌≡◌, refl, sym, subst, ap, ◌∙◌, ◌⊎◌, inl, inr, ⊎_elim, ℕ, zero, suc, ◌+◌, ◌-◌, ◌^◌, ◌<◌, ◌≤◌, arith, min, Bool, true, false, true≢false, ◌||◌, if◌then◌else◌, Option, Some, None, is_some, is_none, List, [], ◌∷◌, ◌++◌, length, map}
+use Rattle.std.proofs.Common.{◌≡◌, refl, sym, subst, ap, ◌∙◌, ◌⊎◌, inl, inr, ⊎_elim, ℕ, ◌+◌, ◌-◌, ◌^◌, ◌<◌, arith, min, Bool, true, false, true≢false, ◌||◌, if◌then◌else◌, Option, Some, None, is_none, List, [], ◌∷◌, ◌++◌, length, map}
 use Rattle.std.specs.Prelude.{IsSome, option_map}
 use Rattle.std.specs.List.{list_any, flat_map}
 use Rattle.std.proofs.Math.Bool.{or-true}
@@ -10,8 +10,6 @@ use Rattle.std.proofs.lemmas.Option.{same_Some}
 use Rattle.path_segments.specs.Heard.{HeardSegment}
 use Rattle.path_segments.specs.Laws.{meant, meant_mapping, meant_option}
 use Rattle.sides.specs.declared.side.Side.{Side}
-use Rattle.sides.specs.declared.side.Side.TheVariants.{A, B}
-use Rattle.sides.specs.Side.{peer}
 use Rattle.path_store.specs.declared.infinite_mapping.InfiniteMapping.{InfiniteMapping}
 use Rattle.send_book.specs.State as books
 use Rattle.send_book.specs.State.{acked_len}
@@ -25,17 +23,16 @@ use Rattle.actor_desk.specs.declared.ask.Reply.TheVariants as replies
 use Rattle.actor_desk.specs.Books.{StampedBooks, books_in}
 use Rattle.actor_desk.specs.Desk.{send_of}
 use Rattle.actor_desk.specs.Words.{is_nil, pick}
-use Rattle.path_agenda.specs.Agenda.{start_of_turn, heard_and, payload_came, copy_came}
+use Rattle.path_agenda.specs.Agenda.{start_of_turn, copy_came}
 use Rattle.path_agenda.specs.declared.duty.Duty.{Duty}
 use Rattle.path_agenda.specs.declared.duty.Duty.TheVariants as duties
-use Rattle.path_agenda.specs.declared.duty.AskDuty.TheVariants as ask_duties
 use Rattle.path_agenda.specs.declared.duty.StepDuty.TheVariants as step_duties
 use Rattle.path_agenda.specs.declared.heard.Heard.{Heard}
 use Rattle.path_agenda.specs.declared.heard.Heard.TheVariants as says
 use Rattle.path_core.specs.Arrival.{after_judged, template_of}
 use Rattle.path_core.specs.Choices.{item_at}
 use Rattle.path_core.specs.Codec.{Codec}
-use Rattle.path_core.specs.DataFin.{acked_in, after_acked}
+use Rattle.path_core.specs.DataFin.{acked_in}
 use Rattle.path_core.specs.DssIn.{with_acked, map_items}
 use Rattle.path_core.specs.Duties.{stands, ask_for, passed, answered}
 use Rattle.path_core.specs.End.{PathEnd}
@@ -44,18 +41,15 @@ use Rattle.path_core.specs.OptionsIn.{items_in, items_of, options_heard}
 use Rattle.path_core.specs.Sending.{Sending}
 use Rattle.path_core.specs.State.{PathState, end_at, with_agenda}
 use Rattle.path_core.specs.Steps.{asks_of, settled, takes, next_round}
-use Rattle.path_core.specs.Treating.{item_of, item_passed, item_stands, item_ask, answered_item}
+use Rattle.path_core.specs.Treating.{item_of, item_stands, item_ask, answered_item}
 use Rattle.path_core.specs.declared.judged.Judged.{Judged}
 use Rattle.path_core.specs.declared.judged.Judged.TheVariants as judged
 use Rattle.world_laws.specs.declared.member.Member.TheVariants.{App, Path}
-use Rattle.world_laws.specs.Actors.{Actor, ActorCrew, member_asks, member_takes, member_next, is_over}
+use Rattle.world_laws.specs.Actors.{Actor, member_asks, member_takes, member_next, is_over}
 use Rattle.world_laws.specs.Outcomes.{was_told, note_tells}
 use Rattle.world_laws.specs.Promises.{tells_refusal}
 use Rattle.world_laws.specs.StampedBooks.{answer_to}
-use Rattle.world_laws.specs.Worlds.{crew_after, begins, note_of}
-use Rattle.world_laws.specs.Writes.{EndView, writes, side_of}
-use Rattle.world_laws.proofs.Writes.Paths.{passes_no_more}
-use Rattle.world_laws.proofs.Writes.Steps.{unwritten}
+use Rattle.world_laws.specs.Worlds.{crew_after, note_of}
 use Rattle.whole_paths.specs.AgendaSteps.{is_gone}
 use Rattle.whole_paths.specs.AsFar.{IsStreamAsFar}
 use Rattle.whole_paths.specs.Brought.{Brings, IsToReset}

@@ -7,12 +7,14 @@ pub mod Breaking
 pub mod Bringing
 pub mod Came
 pub mod Closing
+pub mod ClosingAsked
 pub mod Copies
 pub mod DataAcks
 pub mod DataAcksAsked
 pub mod DataAcksCome
 pub mod DataAcksHeard
 pub mod Courses
+pub mod DataAcksNow
 pub mod Due
 pub mod Duties
 pub mod Exchanges

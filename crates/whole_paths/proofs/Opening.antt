@@ -1,5 +1,5 @@
 -- A copy takes the end that it comes to as far as it means.
-use Rattle.std.proofs.Common.{◌≡◌, refl, sym, subst, ap, ◌∙◌, ◌⊎◌, inl, inr, ℕ, ◌+◌, ◌≤◌, arith, le_refl, nat_lt, nat_le, ◌==◌, Bool, true, false, true≢false, ◌&&◌, if◌then◌else◌, Option, Some, None, List, [], ◌∷◌}
+use Rattle.std.proofs.Common.{◌≡◌, refl, sym, subst, ap, ◌∙◌, inl, inr, ℕ, ◌≤◌, arith, le_refl, nat_lt, nat_le, Bool, true, false, true≢false, ◌&&◌, if◌then◌else◌, Option, Some, None, List, [], ◌∷◌}
 use Rattle.path_segments.specs.Heard.{HeardSegment}
 use Rattle.sides.specs.declared.side.Side.{Side}
 use Rattle.subflow_send.specs.Rules.{ack_kind, after_acknowledge, sample_of}

@@ -34,7 +34,7 @@ use Rattle.path_core.specs.Arrival.{after_judged, template_of}
 use Rattle.path_core.specs.Breaking.{answered_break, reset_on}
 use Rattle.path_core.specs.Choices.{is_side_a, item_at}
 use Rattle.path_core.specs.Codec.{Codec}
-use Rattle.path_core.specs.DssIn.{counts, is_clash, after_dss, with_learned, with_skipped, with_data_fin}
+use Rattle.path_core.specs.DssIn.{counts, is_clash, with_learned, with_skipped, with_data_fin}
 use Rattle.path_core.specs.Deliver.{mapping_here, after_check, after_keep, after_pieces}
 use Rattle.path_core.specs.DataFin.{after_pass_fin}
 use Rattle.path_core.specs.Duties.{stands, ask_for, passed, answered}

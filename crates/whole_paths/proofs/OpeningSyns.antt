@@ -1,5 +1,5 @@
 -- What a SYN is to the end that it comes to.
-use Rattle.std.proofs.Common.{◌≡◌, refl, sym, subst, ap, ◌∙◌, ◌⊎◌, inl, inr, ⊎_elim, ℕ, ◌+◌, ◌-◌, ◌<◌, ◌≤◌, arith, nat_lt, nat_le, ◌==◌, Bool, true, false, true≢false, not, ◌&&◌, ◌||◌, if◌then◌else◌, Option, Some, None, is_none, List, [], length}
+use Rattle.std.proofs.Common.{◌≡◌, refl, sym, ap, ◌∙◌, ◌⊎◌, inl, inr, ⊎_elim, ℕ, ◌+◌, ◌<◌, ◌≤◌, arith, nat_lt, nat_le, ◌==◌, Bool, true, false, true≢false, not, ◌&&◌, ◌||◌, if◌then◌else◌, Option, Some, None, is_none, List, [], length}
 use Rattle.std.specs.Prelude.{option_map}
 use Rattle.std.proofs.lemmas.Bool.{le-leb, lt-ltb, lt-leb, ne_eqb}
 use Rattle.path_segments.specs.Heard.{HeardSegment}
@@ -12,7 +12,7 @@ use Rattle.subflow_tcp.specs.declared.handshake.State.{State as EndPhase}
 use Rattle.subflow_tcp.specs.declared.handshake.State.TheVariants as phase
 use Rattle.subflow_tcp.specs.declared.verdicts.Meaning.{Meaning}
 use Rattle.subflow_tcp.specs.declared.verdicts.Meaning.TheVariants as means
-use Rattle.subflow_tcp.specs.Judging.{meaning_of, meaning_at, meaning_opening, meaning_answering, meaning_answer, meaning_connected, meaning_placed, meaning_within, meaning_outside, is_repeated_syn, is_in_window, ends_in_window, is_at_right_edge, is_acceptable}
+use Rattle.subflow_tcp.specs.Judging.{meaning_of, meaning_at, meaning_answering, meaning_answer, meaning_connected, meaning_placed, meaning_within, meaning_outside, is_repeated_syn, is_in_window, ends_in_window, is_at_right_edge, is_acceptable}
 use Rattle.subflow_tcp.specs.Segments.{Copy, occupied, one_if}
 use Rattle.subflow_tcp.specs.State.{EndState, is_at_limit}
 use Rattle.subflow_tcp.specs.States.{is_dead}

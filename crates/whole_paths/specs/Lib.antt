@@ -6,12 +6,14 @@ pub mod AsFar
 pub mod Brought
 pub mod Came
 pub mod Closing
+pub mod ClosingAsked
 pub mod Copies
 pub mod DataAcks
 pub mod DataAcksAsked
 pub mod DataAcksCome
 pub mod DataAcksHeard
 pub mod Courses
+pub mod DataAcksNow
 pub mod Due
 pub mod EndSteps
 pub mod Exchanges

@@ -11,11 +11,13 @@ ghost use Rattle.whole_paths.specs.AsFar.{NothingGoesBack};
 ghost use Rattle.whole_paths.specs.Brought.{WhatComesIsKept};
 ghost use Rattle.whole_paths.specs.Came.{WhatIsAcknowledgedCame};
 ghost use Rattle.whole_paths.specs.Closing.{EachDataFinCounts, EachDataFinIsSaid};
+ghost use Rattle.whole_paths.specs.ClosingAsked.{EachDataFinComes};
 ghost use Rattle.whole_paths.specs.Copies.{CopiesLeaveByArriving};
 ghost use Rattle.whole_paths.specs.DataAcks.{EachSegmentHasADataAck};
 ghost use Rattle.whole_paths.specs.DataAcksAsked.{WhatIsAskedComes};
-ghost use Rattle.whole_paths.specs.DataAcksCome.{EachAckComes};
+ghost use Rattle.whole_paths.specs.DataAcksCome.{EachAckComes, EachAskArrives};
 ghost use Rattle.whole_paths.specs.DataAcksHeard.{EachDataAckCounts, EachDataAckIsSaid};
+ghost use Rattle.whole_paths.specs.DataAcksNow.{OnlyPathsAreUpToDate};
 ghost use Rattle.whole_paths.specs.Due.{CopiesArriveAsSent};
 ghost use Rattle.whole_paths.specs.Exchanges.{EachRecordIsAcknowledged};
 ghost use Rattle.whole_paths.specs.Expiries.{WhatRunsOutGoesAgain};
@@ -218,6 +220,15 @@ pub fn each_segment_has_a_data_ack()
     ensures values { EachSegmentHasADataAck Carried }
 {}
 
+/// A law: on the only path of a connection each Data ACK is up to date: the end knows the place that its reassembly book wants next, where it
+/// sends a segment that is no reset, where the turn is over, and where an event is next (RFC 8684, section 3.3.2).
+///
+/// So what came in order is acknowledged by the next segment that the end sends (`each_segment_has_a_data_ack`), bytes and DATA_FIN.
+pub fn each_data_ack_is_up_to_date()
+    ensures octets { Always octets OnlyPathsAreUpToDate }
+    ensures values { Always values OnlyPathsAreUpToDate }
+{}
+
 /// A law: each Data ACK that an end takes counts, in its turn: all before its place is acknowledged then to the end (RFC 8684, section
 /// 3.3.2), and where it is past all that the side wrote, the DATA_FIN too (section 3.3.3).
 ///
@@ -236,11 +247,14 @@ pub fn each_data_ack_counts()
 ///
 /// Where a copy that the end takes says it, the end hears it once all is treated that the copy says before, and tells the book once the
 /// payload is; from then on, by each turn, it came. Or the end is dead, or reset next, as where the book refuses the end; or the side fell
-/// back to plain TCP, or hasn't the peer's key, so that no DATA_FIN counts. A segment whose DSS maps a DATA_FIN says so (`says`).
+/// back to plain TCP, or hasn't the peer's key, so that no DATA_FIN counts. A segment whose DSS maps a DATA_FIN says so (`says`); and a copy
+/// is taken, and says so, by which an end asks for the Data ACK of its DATA_FIN (`comes`, `what_is_asked_comes`), on the path that opens the
+/// connection.
 pub fn each_data_fin_counts()
     ensures octets { EachDataFinCounts octets }
     ensures values { EachDataFinCounts values }
     ensures says { EachDataFinIsSaid }
+    ensures comes { EachDataFinComes }
 {}
 
 /// A law: nothing is acknowledged that didn't come: SND.UNA of each end that isn't dead lies at its peer's RCV.NXT or below, and so does what
@@ -378,12 +392,13 @@ pub fn each_record_is_acknowledged()
 /// timer runs still, or it is to send again, or a copy of that is under way, and the tick stays by which a copy comes; or a copy was what
 /// arrives next; or the end has a record again, which comes by the same tick (`what_waits_comes`); or there is news (`timers_run_on`), or
 /// nothing is outstanding any longer; or the script has a line less by which a segment is lost or late; or its direction loses it; or the
-/// end is dead, or the path dies by a line. So it is with the first 2^64 - 2 segments of a side. A copy that comes, as of the path that opens
-/// the connection, is taken in the window, and answered before RCV.NXT (`comes`), as a probe is.
+/// end is dead, or the path dies by a line. So it is with the first 2^64 - 2 segments of a side. On the path that opens the connection a copy of
+/// an acknowledgement is taken in the window, and answered before RCV.NXT (`comes`), as a probe is (`arrives`).
 pub fn what_is_asked_comes()
     ensures octets { WhatIsAskedComes octets }
     ensures values { WhatIsAskedComes values }
     ensures comes { EachAckComes }
+    ensures arrives { EachAskArrives }
 {}
 
 /// A law: by whatever turns, an end keeps what isn't acknowledged yet, so that it can be sent again.

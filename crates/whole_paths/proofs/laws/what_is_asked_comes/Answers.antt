@@ -12,3 +12,6 @@ returns-clause-values c = asked.what_is_asked_comes values
 
 pub returns-clause-comes : goal.returns-clause-comes
 returns-clause-comes c = come.each_ack_comes
+
+pub returns-clause-arrives : goal.returns-clause-arrives
+returns-clause-arrives c = come.each_ask_arrives
