@@ -109,14 +109,14 @@ each_more facts (option ∷ options) state =
     let rest = each_more facts options (keyed_seen facts option state) in
     (one.0 ++ rest.0, rest.1 ∙ ap (λ (xs : List OptionValue). xs ++ rest.0) one.1 ∙ append_assoc state.options one.0 rest.0)
 
-pub option_stays : (facts : Facts) (before : List SeenValue) (number : DataNumber) (mapping : Option DssMap) (fin : Bool) (after : List SeenValue) (state : KeyedValue)
+pub option_stays : (facts : Facts) (before : List SeenValue) (ack : Option DataNumber) (mapping : Option DssMap) (fin : Bool) (after : List SeenValue) (state : KeyedValue)
     → (front : List OptionValue) × (back : List OptionValue)
-    × ((keyed_each facts (before ++ Readable (Dss (Some number) mapping fin) ∷ after) state).options ≡ front ++ Dss (Some number) mapping fin ∷ back)
-option_stays facts [] number mapping fin after state =
-    let option = Dss (Some number) mapping fin in
+    × ((keyed_each facts (before ++ Readable (Dss ack mapping fin) ∷ after) state).options ≡ front ++ Dss ack mapping fin ∷ back)
+option_stays facts [] ack mapping fin after state =
+    let option = Dss ack mapping fin in
     let rest = each_more facts after (kept_option option state) in
     (state.options, rest.0, rest.1 ∙ append_assoc state.options (option ∷ []) rest.0)
-option_stays facts (one ∷ before) number mapping fin after state = option_stays facts before number mapping fin after (keyed_seen facts one state)
+option_stays facts (one ∷ before) ack mapping fin after state = option_stays facts before ack mapping fin after (keyed_seen facts one state)
 
 -- the other side's key stays
 key_stays : (side : Side) (keys : CapableKeys) (known : Keys) → key_of (peer side) (with_a side keys known) ≡ key_of (peer side) known

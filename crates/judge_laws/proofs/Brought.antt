@@ -1,5 +1,5 @@
 -- Octets that a segment brings to places.
-use Rattle.std.proofs.Common.{◌≡◌, refl, ap, ◌∙◌, sym, subst, ℕ, ◌-◌, ◌≤◌, Bool, true, false, if◌then◌else◌, Option, Some, option_map, List, [], ◌∷◌, ◌++◌}
+use Rattle.std.proofs.Common.{◌≡◌, refl, ap, ◌∙◌, sym, subst, ℕ, ◌-◌, ◌≤◌, Bool, true, false, ◌==◌, is_some, if◌then◌else◌, Option, Some, None, option_map, List, [], ◌∷◌, ◌++◌}
 use Rattle.std.proofs.Math.ListN.{set}
 use Rattle.std.specs.List.{slice_get}
 use Rattle.sides.specs.declared.side.Side.{Side}
@@ -16,6 +16,8 @@ use Rattle.seen_connections.specs.declared.flow.Belongs.{Belongs}
 use Rattle.seen_connections.specs.declared.flow.Flow.{Flow}
 use Rattle.seen_connections.specs.declared.flow.Opened.{Opened}
 use Rattle.seen_connections.specs.SeenOptions.{SeenValue, seen_options}
+use Rattle.seen_connections.specs.Connections.{key_of}
+use Rattle.seen_streams.specs.declared.told.ToldMapping.{ToldMapping}
 use Rattle.seen_streams.specs.Acks.{Acked}
 use Rattle.seen_streams.specs.Content.{is_between}
 use Rattle.seen_streams.specs.Positions.{position_of}
@@ -29,14 +31,17 @@ use Rattle.judge_laws.specs.Acknowledges.{Acknowledges, WasSeen}
 use Rattle.judge_laws.specs.Brings.{Brings, IsOf, ready_for, taken_by}
 use Rattle.judge_laws.specs.GoesOn.{broke, stream_in}
 use Rattle.judge_laws.specs.Laws.{has_octet}
+use Rattle.judge_laws.specs.Tells.{IsMeant, KeepsMappings, Tells}
 use Rattle.judge_laws.proofs.Acknowledged.{each_key, option_stays}
 use Rattle.judge_laws.proofs.Books.{own_stream, peers_stream, set_there}
-use Rattle.judge_laws.proofs.Positions.{at_acks, at_shows}
+use Rattle.judge_laws.proofs.Flows.{KeyStays, key_flows, told_stay}
+use Rattle.judge_laws.proofs.Keyed.{keys_told}
+use Rattle.judge_laws.proofs.Positions.{at_acks, at_shows, at_tells}
 
 pub some_same : {X : Type 0} → (x y : X) → Some x ≡ Some y → x ≡ y
 some_same x y e = cc
 
-lane_there : (b : Bool) (lane : LaneValue) (lanes : LanesValue)
+pub lane_there : (b : Bool) (lane : LaneValue) (lanes : LanesValue)
     → (if b then (if b then record lanes { opener = lane } else record lanes { other = lane }).opener
     else (if b then record lanes { opener = lane } else record lanes { other = lane }).other) ≡ lane
 lane_there true lane lanes = refl
@@ -92,6 +97,25 @@ module _ (facts : Facts) (position : ℕ) (options : List SeenValue) (keys : Key
       subst (λ (s : StreamValue). WasSeen s known number) (peers_stream facts.side made.stream left.book)
       (at_acks facts position made.options made.keys (stream_at (peer facts.side) before.book) (stream_at facts.side before.book) (own_lane facts before.lanes)
       known number mapping fin front back key among (ap (broke rule.DataAck) (sym own) ∙ kept))
+
+  told_learns : (known : ℕ) (ack : Option DataNumber) (mapping : DssMap) (fin : Bool) (front back : List OptionValue) → first_of facts.side made.keys ≡ Some known
+      → made.options ≡ front ++ Dss ack (Some mapping) fin ∷ back → (mapping.length == 0) ≡ false → is_some mapping.checksum ≡ true
+      → KeepsMappings (stream_at facts.side told.left.book)
+      → (m : ToldMapping) × IsMeant known position mapping fin m × ((own_lane facts told.left.lanes).summed m ≡ true)
+  told_learns known ack mapping fin front back key among finite checksum kept =
+      let own : stream_at facts.side told.left.book ≡ acked.stream = own_stream facts.side acked.stream (gap_counted facts before).book in
+      let lane : own_lane facts told.left.lanes ≡ acked.lane = lane_there facts.is_opener acked.lane (gap_counted facts before).lanes in
+      let is = at_tells facts position made.options made.keys (stream_at (peer facts.side) before.book) (stream_at facts.side before.book) (own_lane facts before.lanes)
+      known ack mapping fin front back key among finite checksum (subst KeepsMappings own kept) in
+      (is.0, is.1, ap (λ (l : LaneValue). l.summed is.0) lane ∙ is.2)
+
+-- the number of place 0 stays, where the key is known
+first_stays : (side : Side) (keys later : Keys) (first : ℕ) → KeyStays keys later → first_of side keys ≡ Some first → first_of side later ≡ Some first
+first_stays side keys later first stays is = by (key_of side keys) (key_of side later) (stays side) is
+  where
+    by : (a b : Option ℕ) → ((k : ℕ) → a ≡ Some k → b ≡ Some k) → option_map first_number a ≡ Some first → option_map first_number b ≡ Some first
+    by None b go e = cc
+    by (Some k) b go e = ap (option_map first_number) (go k refl) ∙ e
 
 -- ---- a segment of a side of a connection
 
@@ -167,9 +191,30 @@ module _ (at : Option Side) (check_sums : Bool) (state : JudgedValue) (packet : 
   segment_acks number stream there kept ack =
       let same : stream_at side left_told.left.book ≡ stream = some_same (stream_at side left_told.left.book) stream (sym stream_is ∙ there) in
       let start = first known it.position options_of it.keys formed in
-      let stays = option_stays known ack.before number ack.mapping ack.fin ack.after start in
+      let stays = option_stays known ack.before (Some number) ack.mapping ack.fin ack.after start in
       subst (λ (s : StreamValue). WasSeen s ack.first number) (peers_stream side (told_formless packet options_of (stream_at side it.book)) it.book)
       (told_acks known it.position options_of it.keys formed ack.first number ack.mapping ack.fin stays.0 stays.1
       (ap (option_map first_number) (each_key known options_of start) ∙ ack.has_first)
       (ap (λ (os : List SeenValue). (keyed_each known os start).options) ack.among ∙ stays.2)
       (ap (broke rule.DataAck) same ∙ kept))
+
+  pub segment_tells : (mapping : DssMap) (fin : Bool) (stream : StreamValue) → stream_in (judged at check_sums state packet seen) connection side ≡ Some stream
+      → KeepsMappings stream → (t : Tells at check_sums state packet seen connection side it mapping fin)
+      → (m : ToldMapping) × IsMeant t.first it.position mapping fin m × ((own_lane known left_told.left.lanes).summed m ≡ true)
+  segment_tells mapping fin stream there kept t =
+      let stream_same : stream_at side left_told.left.book ≡ stream = some_same (stream_at side left_told.left.book) stream (sym stream_is ∙ there) in
+      let start = first known it.position options_of it.keys formed in
+      let stays = option_stays known t.before t.ack (Some mapping) fin t.after start in
+      told_learns known it.position options_of it.keys formed t.first t.ack mapping fin stays.0 stays.1
+      (first_stays side it.keys (keyed_each known options_of start).keys t.first (told_stay it.keys (keyed_each known options_of start).keys (keys_told known options_of start)) t.has_first)
+      (ap (λ (os : List SeenValue). (keyed_each known os start).options) t.among ∙ stays.2) t.is_finite (ap is_some t.has_sum)
+      (subst KeepsMappings (sym stream_same) kept)
+
+  -- its flow, and the lanes that it leaves
+  pub flow_there : slice_get (judged at check_sums state packet seen).seen.flows it.place.flow ≡ Some it.flow
+  flow_there =
+      ap (λ (j : JudgedValue). slice_get j.seen.flows it.place.flow) judged_is
+      ∙ ap (λ (flows : List Flow). slice_get flows it.place.flow) (key_flows it.belongs.connection it.keys.a left_told.keys.a ready.seen) ∙ it.has_flow
+
+  pub lanes_there : slice_get (judged at check_sums state packet seen).lanes it.place.flow ≡ Some left_told.left.lanes
+  lanes_there = lanes_are

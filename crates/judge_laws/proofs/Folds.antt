@@ -220,7 +220,7 @@ module _ {first : Option ℕ} {Q : StreamValue → LaneValue → Type 0} (keep :
   mapped_one_so teller position None state h = h
   mapped_one_so teller position (Some offer) state h = mapped_at_so teller offer (position_near position offer.relative) state h
 
-  mapped_each_so : (teller : Teller) (position : ℕ) (options : List OptionValue) (state : Mapped) → Holds state
+  pub mapped_each_so : (teller : Teller) (position : ℕ) (options : List OptionValue) (state : Mapped) → Holds state
       → Holds (mapped_each teller position options state)
   mapped_each_so teller position [] state h = h
   mapped_each_so teller position (option ∷ options) state h =

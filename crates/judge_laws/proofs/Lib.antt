@@ -17,3 +17,6 @@ pub mod Ends
 pub mod Trying
 pub mod Summed
 pub mod TurnedBit
+pub mod Lanes
+pub mod Learnt
+pub mod Told

@@ -63,14 +63,14 @@ module _ (at : Option Side) (check_sums : Bool) (packets : List Captured) (conne
   abbrev last : JudgedValue
   last = judged_packets at check_sums next (1 + length before + 1) after
 
-  last_is : judged_first at check_sums packets ≡ last
+  pub last_is : judged_first at check_sums packets ≡ last
   last_is =
       ap (judged_first at check_sums) among
       ∙ parts at check_sums nothing_judged 1 (1 + length before) before (packet ∷ after) refl
       ∙ ap (λ (s : Option Seen). judged_packets at check_sums (judged_if_seen at check_sums start (1 + length before) s) (1 + length before + 1) after) has_segment
 
   -- its side's stream behind it goes on to the end
-  stream_behind : (stream : StreamValue) → stream_in (judged_first at check_sums packets) connection side ≡ Some stream
+  pub stream_behind : (stream : StreamValue) → stream_in (judged_first at check_sums packets) connection side ≡ Some stream
       → (s : StreamValue) × (stream_in next connection side ≡ Some s) × GoesOn s stream
   stream_behind stream there =
       let first = stream_there at check_sums start (1 + length before) seen connection side it in

@@ -1,5 +1,5 @@
 -- What a segment leaves at its position: its sender's stream goes on, and its octets come to their places.
-use Rattle.std.proofs.Common.{◌≡◌, refl, ap, ◌∙◌, sym, ℕ, ◌-◌, ◌<◌, ◌≤◌, Bool, true, false, ◌&&◌, ◌||◌, nat_le, nat_lt, is_some, if◌then◌else◌, Option, Some, None, option_map, Result, Ok, Err, List, [], ◌∷◌, ◌++◌, arith, true≢false}
+use Rattle.std.proofs.Common.{◌≡◌, refl, ap, ◌∙◌, sym, subst, ℕ, ◌-◌, ◌<◌, ◌≤◌, Bool, true, false, ◌&&◌, ◌||◌, ◌==◌, nat_le, nat_lt, is_some, if◌then◌else◌, Option, Some, None, option_map, Result, Ok, Err, List, [], ◌∷◌, ◌++◌, arith, true≢false}
 use Rattle.std.specs.List.{slice_get}
 use Rattle.std.proofs.lemmas.Bool.Decides.{nat_tests}
 use Rattle.sides.specs.Side.{peer}
@@ -18,13 +18,15 @@ use Rattle.seen_streams.specs.Mapped.{Mapped}
 use Rattle.seen_streams.specs.Same.{same_mapping}
 use Rattle.seen_streams.specs.Sums.{summed_by, with_sum, with_sums}
 use Rattle.rule_book.specs.Facts.{Facts, first_of, payload_at}
-use Rattle.rule_book.specs.Stream.{acked_each, acked_one, behind_acks, behind_payload, fin_taken, judged_at, mapped_with, summed, within_each}
+use Rattle.rule_book.specs.Stream.{acked_each, acked_one, behind_acks, behind_payload, fin_taken, judged_at, mapped_each, mapped_with, summed, told_in, within_each}
 use Rattle.judge_laws.specs.Acknowledges.{WasSeen}
 use Rattle.judge_laws.specs.GoesOn.{GoesOn, broke}
+use Rattle.judge_laws.specs.Tells.{IsMeant, KeepsMappings}
 use Rattle.judge_laws.proofs.GoesOn.{goes_same}
 use Rattle.judge_laws.proofs.Acknowledged.{acks_seen}
-use Rattle.judge_laws.proofs.Folds.{StepsKeep, acks_so, mapped_so, shown_so, summed_so, taken_so, within_so}
+use Rattle.judge_laws.proofs.Folds.{AcksKeep, StepsKeep, acks_so, mapped_so, shown_so, summed_so, taken_so, within_so}
 use Rattle.judge_laws.proofs.Going.{acking, steps}
+use Rattle.judge_laws.proofs.Learnt.{each_learns, is_among, summed_has}
 use Rattle.judge_laws.proofs.Shown.{kept_before, known_later, octet_shown}
 
 and_first : (a b : Bool) → (a && b) ≡ true → a ≡ true
@@ -87,6 +89,13 @@ acks_places facts (Some first) peers options acked p = acked_places facts first 
 
 -- ---- a segment at a position
 
+-- a mapping that was told stays
+summing : (m : ToldMapping) → AcksKeep (λ (s : StreamValue) (l : LaneValue). l.summed m ≡ true)
+summing m = record {
+  telling = λ l. record { tells = λ rule packet fault s h. h; counts = λ s keys joins mappings sums data_acks h. h };
+  acks = λ place s l h. h;
+}
+
 module _ (facts : Facts) (position : ℕ) (options : List OptionValue) (keys : Keys) (peers stream : StreamValue) (lane : LaneValue) where
   abbrev pub mapped : Mapped
   mapped = mapped_with facts (first_of facts.side keys) position options
@@ -114,20 +123,28 @@ module _ (facts : Facts) (position : ℕ) (options : List OptionValue) (keys : K
   last = judged_at facts position options keys peers stream lane
 
   -- what each step of a rule keeps holds behind the payload, and behind the segment
-  pub behind_so : {Q : StreamValue → LaneValue → Type 0} → StepsKeep (first_of facts.side keys) Q → Q stream lane → Q behind.stream behind.lane
-  behind_so keep h =
-      let first = first_of facts.side keys in
-      let start : Mapped = record { stream = stream; lane = fin_taken facts position lane; learnt = []; has_line = false } in
+  rest_so : {Q : StreamValue → LaneValue → Type 0} → StepsKeep (first_of facts.side keys) Q → Q mapped.stream mapped.lane → Q behind.stream behind.lane
+  rest_so keep h =
       let within = within_each facts position mapped.learnt mapped.stream in
-      let told = within_so (keep.acks.telling mapped.lane) facts position mapped.learnt mapped.stream
-      (mapped_so keep facts first position options start (taken_so keep facts position stream lane h)) in
+      let told = within_so (keep.acks.telling mapped.lane) facts position mapped.learnt mapped.stream h in
       let paid = keep.pays payload facts.packet ended mapped.lane (keep.fins facts.packet within mapped.lane told) in
       shown_so keep comings peers.acknowledged facts.packet 1 (filled.top - 1) ended filled paid
 
-  pub at_so : {Q : StreamValue → LaneValue → Type 0} → StepsKeep (first_of facts.side keys) Q → Q stream lane → Q last.stream last.lane
-  at_so keep h =
+  pub tail_so : {Q : StreamValue → LaneValue → Type 0} → StepsKeep (first_of facts.side keys) Q → Q mapped.stream mapped.lane → Q last.stream last.lane
+  tail_so keep h =
       acks_so keep.acks facts (first_of (peer facts.side) keys) peers options tried
-      (summed_so keep facts (first_of facts.side keys) mapped.learnt behind refl (behind_so keep h))
+      (summed_so keep facts (first_of facts.side keys) mapped.learnt behind refl (rest_so keep h))
+
+  mapping_so : {Q : StreamValue → LaneValue → Type 0} → StepsKeep (first_of facts.side keys) Q → Q stream lane → Q mapped.stream mapped.lane
+  mapping_so keep h =
+      let start : Mapped = record { stream = stream; lane = fin_taken facts position lane; learnt = []; has_line = false } in
+      mapped_so keep facts (first_of facts.side keys) position options start (taken_so keep facts position stream lane h)
+
+  pub behind_so : {Q : StreamValue → LaneValue → Type 0} → StepsKeep (first_of facts.side keys) Q → Q stream lane → Q behind.stream behind.lane
+  behind_so keep h = rest_so keep (mapping_so keep h)
+
+  pub at_so : {Q : StreamValue → LaneValue → Type 0} → StepsKeep (first_of facts.side keys) Q → Q stream lane → Q last.stream last.lane
+  at_so keep h = tail_so keep (mapping_so keep h)
 
   sums_go : GoesOn behind.stream last.stream
   sums_go =
@@ -171,3 +188,24 @@ module _ (facts : Facts) (position : ℕ) (options : List OptionValue) (keys : K
       acks_seen facts first peers number mapping fin front back tried
       (ap (broke rule.DataAck) (sym (ap (λ (f : Option ℕ). (behind_acks facts f peers options tried).stream) known
       ∙ ap (λ (os : List OptionValue). (behind_acks facts (Some first) peers os tried).stream) among)) ∙ kept)
+
+  -- a mapping among the options
+  pub at_tells : (first : ℕ) (ack : Option DataNumber) (mapping : DssMap) (fin : Bool) (front back : List OptionValue) → first_of facts.side keys ≡ Some first
+      → options ≡ front ++ Dss ack (Some mapping) fin ∷ back → (mapping.length == 0) ≡ false → is_some mapping.checksum ≡ true → KeepsMappings last.stream
+      → (m : ToldMapping) × IsMeant first position mapping fin m × (last.lane.summed m ≡ true)
+  at_tells first ack mapping fin front back known among finite checksum kept =
+      let start : Mapped = record { stream = stream; lane = fin_taken facts position lane; learnt = []; has_line = false } in
+      let each = mapped_each (told_in facts first) position (front ++ Dss ack (Some mapping) fin ∷ back) start in
+      let same : mapped ≡ each =
+      ap (λ (f : Option ℕ). mapped_with facts f position options start) known ∙ ap (λ (os : List OptionValue). mapped_each (told_in facts first) position os start) among in
+      let goes = tail_so (steps (first_of facts.side keys) mapped.stream) (goes_same mapped.stream) in
+      let kept_then : KeepsMappings mapped.stream = record {
+        mapping = kept_before mapped.stream last.stream rule.Mapping goes kept.mapping;
+        infinite = kept_before mapped.stream last.stream rule.Infinite goes kept.infinite;
+        data_fin = kept_before mapped.stream last.stream rule.DataFin goes kept.data_fin;
+      } in
+      let learnt = each_learns (told_in facts first) position front ack mapping fin back start finite
+      (subst (λ (state : Mapped). KeepsMappings state.stream) same kept_then) in
+      let among_them = subst (λ (state : Mapped). is_among learnt.0 state.learnt ≡ true) (sym same) learnt.2 in
+      let summed_then = summed_has facts (first_of facts.side keys) first mapped.learnt behind learnt.0 known (ap is_some learnt.1.checksum ∙ checksum) among_them in
+      (learnt.0, learnt.1, acks_so (summing learnt.0) facts (first_of (peer facts.side) keys) peers options tried summed_then)

@@ -260,36 +260,36 @@ some_sum None e = absurd (true≢false (sym e))
 module _ (state : JudgedValue) (connection : ℕ) (side : Side) (stream : StreamValue) (there : stream_in state connection side ≡ Some stream)
     (kept : broke rule.DssSum stream ≡ false) (m : ToldMapping) (octets : List ℕ) (it : IsWhole state connection side m octets) where
   abbrev lane : LaneValue
-  lane = lane_at it.belongs.opener side it.lanes
+  lane = lane_at it.told.belongs.opener side it.told.lanes
 
-  bound_has : IsBound Sums state it.index it.lanes
+  bound_has : IsBound Sums state it.told.index it.told.lanes
       → HasItsSum state connection side m octets
   bound_has bound =
-      let flow : bound.flow ≡ it.flow = some_same bound.flow it.flow (sym bound.has_flow ∙ it.has_flow) in
-      let belongs : bound.belongs ≡ it.belongs = some_same bound.belongs it.belongs (sym bound.has_belongs ∙ ap (λ (f : Flow). f.belongs) flow ∙ it.has_belongs) in
-      let here : bound.belongs.connection ≡ connection = ap (λ (b : Belongs). b.connection) belongs ∙ it.of_connection in
+      let flow : bound.flow ≡ it.told.flow = some_same bound.flow it.told.flow (sym bound.has_flow ∙ it.told.has_flow) in
+      let belongs : bound.belongs ≡ it.told.belongs = some_same bound.belongs it.told.belongs (sym bound.has_belongs ∙ ap (λ (f : Flow). f.belongs) flow ∙ it.told.has_belongs) in
+      let here : bound.belongs.connection ≡ connection = ap (λ (b : Belongs). b.connection) belongs ∙ it.told.of_connection in
       let streams : stream_at side bound.book ≡ stream =
       some_same (stream_at side bound.book) stream
       (sym (ap (option_map (stream_at side)) bound.has_book) ∙ ap (λ (c : ℕ). option_map (stream_at side) (slice_get state.books c)) here ∙ there) in
-      let opener : bound.belongs.opener ≡ it.belongs.opener = ap (λ (b : Belongs). b.opener) belongs in
-      let fits = side_fits bound.keys it.belongs.opener side bound.book it.lanes
-      (subst (λ (o : Side). Fits Sums bound.keys o bound.book it.lanes) opener bound.fits) in
+      let opener : bound.belongs.opener ≡ it.told.belongs.opener = ap (λ (b : Belongs). b.opener) belongs in
+      let fits = side_fits bound.keys it.told.belongs.opener side bound.book it.told.lanes
+      (subst (λ (o : Side). Fits Sums bound.keys o bound.book it.told.lanes) opener bound.fits) in
       let has = whole_has (first_of side bound.keys) (stream_at side bound.book) lane m fits.0 fits.1
-      (ap (broke rule.DssSum) streams ∙ kept) it.was_told it.whole in
+      (ap (broke rule.DssSum) streams ∙ kept) it.told.was_told it.whole in
       record {
         keys = bound.keys;
         first = has.known;
         sum = unwrap_or m.checksum 0;
         has_keys = ap (slice_get state.seen.connections) (sym here) ∙ bound.has_keys;
         has_first = has.has_first;
-        has_sum = some_sum m.checksum (fits.0.with_sums m it.was_told);
+        has_sum = some_sum m.checksum (fits.0.with_sums m it.told.was_told);
         right = ap (λ (os : List ℕ). are_alike (dss_checksum (header_of has.known m) os) (unwrap_or m.checksum 0)) (sym it.are_first) ∙ has.right;
       }
 
-  has_sum_by : (it.lanes ≡ empty_lanes) ⊎ IsBound Sums state it.index it.lanes
+  has_sum_by : (it.told.lanes ≡ empty_lanes) ⊎ IsBound Sums state it.told.index it.told.lanes
       → HasItsSum state connection side m octets
   has_sum_by (inl fresh) =
-      absurd (true≢false (sym it.was_told ∙ ap (λ (l : LanesValue). (lane_at it.belongs.opener side l).summed m) fresh ∙ nothing_whole it.belongs.opener side m))
+      absurd (true≢false (sym it.told.was_told ∙ ap (λ (l : LanesValue). (lane_at it.told.belongs.opener side l).summed m) fresh ∙ nothing_whole it.told.belongs.opener side m))
   has_sum_by (inr bound) = bound_has bound
 
 pub kept_sums : (at : Option Side) (check_sums : Bool) (packets : List Captured) (connection : ℕ) (side : Side) (stream : StreamValue)
@@ -298,4 +298,4 @@ pub kept_sums : (at : Option Side) (check_sums : Bool) (packets : List Captured)
     → HasItsSum (judged_first at check_sums packets) connection side m octets
 kept_sums at check_sums packets connection side stream there kept m octets it =
     has_sum_by (judged_first at check_sums packets) connection side stream there kept m octets it
-    ((first_stand sums_stand at check_sums packets).lanes it.index it.lanes it.has_lanes)
+    ((first_stand sums_stand at check_sums packets).lanes it.told.index it.told.lanes it.told.has_lanes)

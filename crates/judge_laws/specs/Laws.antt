@@ -3,6 +3,7 @@ use Rattle.std.specs.Prelude.{ℕ, ◌≡◌, ◌+◌, ◌<◌, ◌||◌, Bool, 
 use Rattle.sides.specs.declared.side.Side.{Side}
 use Rattle.sides.specs.Side.{peer}
 use Rattle.mptcp_options.specs.declared.dss.DataNumber.{DataNumber}
+use Rattle.mptcp_options.specs.declared.dss.DssMap.{DssMap}
 use Rattle.capture_reader.specs.Captured.{Captured}
 use Rattle.capture_reader.specs.Seen.{Seen, segment_in_packet}
 use Rattle.ones_sum.specs.Words.{with_bit_turned}
@@ -18,7 +19,8 @@ use Rattle.judge_laws.specs.Behind.{judged_first}
 use Rattle.judge_laws.specs.Brings.{Brings, IsOf}
 use Rattle.judge_laws.specs.Ends.{EndsAt}
 use Rattle.judge_laws.specs.GoesOn.{broke, stream_in, StreamsGoOn}
-use Rattle.judge_laws.specs.Summed.{HasItsSum, IsWhole, ShowsMapping}
+use Rattle.judge_laws.specs.Summed.{HasItsSum, IsTold, IsWhole, ShowsMapping}
+use Rattle.judge_laws.specs.Tells.{IsMeant, KeepsMappings, Tells}
 
 -- a place has this octet
 abbrev pub has_octet : StreamValue → ℕ → ℕ → Type 0
@@ -84,6 +86,24 @@ KeptSidesSumRight = (at : Option Side) (check_sums : Bool) (packets : List Captu
     → stream_in (judged_first at check_sums packets) connection side ≡ Some stream → broke rule.DssSum stream ≡ false
     → (mapping : ToldMapping) (octets : List ℕ) → IsWhole (judged_first at check_sums packets) connection side mapping octets
     → HasItsSum (judged_first at check_sums packets) connection side mapping octets
+
+-- a packet among others tells this mapping
+pub record IsTelling (at : Option Side) (check_sums : Bool) (packets : List Captured) (connection : ℕ) (side : Side) (mapping : DssMap) (fin : Bool) : Type 0 where
+  pub before : List Captured
+  pub packet : Captured
+  pub after : List Captured
+  pub seen : Seen
+  pub among : packets ≡ before ++ packet ∷ after
+  pub has_segment : segment_in_packet packet ≡ Some seen
+  pub it : IsOf at check_sums (judged_first at check_sums before) (1 + length before) seen connection side
+  pub tells : Tells at check_sums (judged_first at check_sums before) (1 + length before) seen connection side it mapping fin
+
+-- each mapping with a checksum is learnt as it is meant
+abbrev pub KeptMappingsAreTold : Type 0
+KeptMappingsAreTold = (at : Option Side) (check_sums : Bool) (packets : List Captured) (connection : ℕ) (side : Side) (stream : StreamValue)
+    → stream_in (judged_first at check_sums packets) connection side ≡ Some stream → KeepsMappings stream
+    → (mapping : DssMap) (fin : Bool) (t : IsTelling at check_sums packets connection side mapping fin)
+    → (m : ToldMapping) × IsMeant t.tells.first t.it.position mapping fin m × IsTold (judged_first at check_sums packets) connection side m
 
 -- of two captures that show other octets of one mapping, by one bit
 abbrev pub OneTurnedBitIsNeverKept : Type 0

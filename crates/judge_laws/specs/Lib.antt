@@ -4,4 +4,5 @@ pub mod Ends
 pub mod Summed
 pub mod Brings
 pub mod Acknowledges
+pub mod Tells
 pub mod Laws

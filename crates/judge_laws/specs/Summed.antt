@@ -25,8 +25,8 @@ lane_at A A lanes = lanes.opener
 lane_at B B lanes = lanes.opener
 lane_at opener side lanes = lanes.other
 
--- A mapping with a checksum that a side told on a subflow, all of whose octets came there: these are the ones that came first.
-pub record IsWhole (state : JudgedValue) (connection : ℕ) (side : Side) (mapping : ToldMapping) (octets : List ℕ) : Type 0 where
+-- a mapping with a checksum that a side told on a subflow
+pub record IsTold (state : JudgedValue) (connection : ℕ) (side : Side) (mapping : ToldMapping) : Type 0 where
   pub index : ℕ
   pub flow : Flow
   pub belongs : Belongs
@@ -36,8 +36,12 @@ pub record IsWhole (state : JudgedValue) (connection : ℕ) (side : Side) (mappi
   pub of_connection : belongs.connection ≡ connection
   pub has_lanes : slice_get state.lanes index ≡ Some lanes
   pub was_told : (lane_at belongs.opener side lanes).summed mapping ≡ true
-  pub whole : all_held (lane_at belongs.opener side lanes).octet (natural mapping.position) (octets_of mapping) ≡ true
-  pub are_first : held_octets (lane_at belongs.opener side lanes).octet (natural mapping.position) (octets_of mapping) ≡ octets
+
+-- one all of whose octets came there: these are the ones that came first
+pub record IsWhole (state : JudgedValue) (connection : ℕ) (side : Side) (mapping : ToldMapping) (octets : List ℕ) : Type 0 where
+  pub told : IsTold state connection side mapping
+  pub whole : all_held (lane_at told.belongs.opener side told.lanes).octet (natural mapping.position) (octets_of mapping) ≡ true
+  pub are_first : held_octets (lane_at told.belongs.opener side told.lanes).octet (natural mapping.position) (octets_of mapping) ≡ octets
 
 -- Its side's key is known, whose place 0 has the number `first`, and the checksum that was told is that of its pseudo-header and the
 -- octets; 0000 and ffff are one.

@@ -1,5 +1,5 @@
 //! What is told of a side, as clauses of functions that do nothing.
-ghost use Rattle.judge_laws.specs.Laws.{DataFinsEndStreams, KeptSidesAcknowledgeWhatWasSeen, KeptSidesSentOneStream, KeptSidesSumRight, OctetsStandBeforeDataFins, OneTurnedBitIsNeverKept, PacketsTakeNothingBack, PayloadIsTheStreams, SegmentsTakeNothingBack, WrittenStreamsAreTheirs};
+ghost use Rattle.judge_laws.specs.Laws.{DataFinsEndStreams, KeptMappingsAreTold, KeptSidesAcknowledgeWhatWasSeen, KeptSidesSentOneStream, KeptSidesSumRight, OctetsStandBeforeDataFins, OneTurnedBitIsNeverKept, PacketsTakeNothingBack, PayloadIsTheStreams, SegmentsTakeNothingBack, WrittenStreamsAreTheirs};
 
 /// A law: no segment, and no packets of a capture, take back what was known of a stream: of a place its octet, which places were seen, how
 /// far it is mapped, the place of its DATA_FIN, that an infinite mapping was told, what its side acknowledged, and which rules that side broke.
@@ -39,6 +39,13 @@ pub fn data_fins_end_streams()
 /// the checksum of its pseudo-header and of the octets that came first at its positions (RFC 8684, section 3.3.1).
 pub fn kept_sides_sum_right()
     ensures { KeptSidesSumRight }
+{}
+
+/// A law: each finite mapping with a checksum that a packet tells in a DSS, of a side whose key is known and that hasn't broken `mapping`,
+/// `infinite` nor `data-fin`, is one of those told on its subflow whose sums are right once they are whole (`kept_sides_sum_right`), with the
+/// place, position, length and checksum that its option means (RFC 8684, section 3.3.1).
+pub fn kept_mappings_are_told()
+    ensures { KeptMappingsAreTold }
 {}
 
 /// A law: one turned bit under a checksum is never kept. Of two captures that show the same mapping with a checksum, whose octets that came
