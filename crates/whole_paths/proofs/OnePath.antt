@@ -1,5 +1,5 @@
 -- Over one path all that was written as a round began is acknowledged once its end has nothing outstanding, and may ask for more.
-use Rattle.std.proofs.Common.{◌≡◌, refl, sym, subst, ap, ◌∙◌, ◌⊎◌, ⊎_elim, ℕ, zero, suc, ◌+◌, ◌<◌, ◌≤◌, ◌==◌, ◌&&◌, ◌||◌, min, nat_le, nat_lt, arith, Bool, true, false, true≢false, not, cond, if◌then◌else◌, Ok, Err, Result, Option, Some, None, List, [], ◌∷◌, ◌++◌, count_by, drop, length, length-append, map, set, le_refl}
+use Rattle.std.proofs.Common.{◌≡◌, refl, sym, subst, ap, ◌∙◌, ⊎_elim, ℕ, zero, suc, ◌+◌, ◌<◌, ◌≤◌, ◌==◌, ◌&&◌, ◌||◌, min, nat_le, nat_lt, arith, Bool, true, false, true≢false, not, cond, if◌then◌else◌, Ok, Err, Result, Option, Some, None, List, [], ◌∷◌, ◌++◌, count_by, drop, length, length-append, map, set, le_refl}
 use Rattle.std.specs.List.{position, position_or_len, slice_get}
 use Rattle.std.proofs.lemmas.Bool.{and_parts, cases_eq, eqb-true, ltb-false, or_cases}
 use Rattle.std.proofs.lemmas.Option.{same_Some}
@@ -80,7 +80,9 @@ use Rattle.world_laws.proofs.Writes.Paths.{passes_no_more, writes_no_more}
 use Rattle.world_laws.proofs.Writes.Steps.{Lasts, both_ends, settled_lasts, unwritten}
 use Rattle.whole_paths.specs.Acknowledged.{AllIsAcknowledged, GrantedIsAcknowledged, IsAllAcknowledged, WhatWasGrantedIsAcknowledged, WhatWasWrittenIsAcknowledged, WrittenIsAcknowledged}
 use Rattle.whole_paths.specs.Reasons.{IsOutstanding}
+use Rattle.whole_paths.specs.Room.{HasWindows, WhoIsDoneMayAsk}
 use Rattle.whole_paths.proofs.Acknowledged.{what_was_granted_is_acknowledged, what_was_granted_is_acknowledged_in_octets}
+use Rattle.whole_paths.proofs.Room.{who_is_done_may_ask, who_is_done_may_ask_in_octets}
 
 -- ---- a book
 
@@ -710,7 +712,8 @@ module _ {C : Type 0} where
         by [] is = refl
         by (x ∷ xs) is = absurd (none (IsOutstanding.on_stream x xs is))
 
-    module _ (begun : WorldState C) (order : List ℕ) (plan : PathPlan) (one : start.paths ≡ plan ∷ []) (begins : BeginsRound k start begun) (all : WhatWasGrantedIsAcknowledged (after_steps k order begun)) where
+    module _ (begun : WorldState C) (order : List ℕ) (plan : PathPlan) (one : start.paths ≡ plan ∷ []) (begins : BeginsRound k start begun) (all : WhatWasGrantedIsAcknowledged (after_steps k order begun))
+        (windows : (c : ActorCrew C) → slice_get (after_steps k order begun).crew 2 ≡ Some c → HoldsOfKind (λ app. Unit {0}) HasWindows c.member) where
       abbrev w : WorldState C
       w = after_steps k order begun
 
@@ -722,7 +725,7 @@ module _ {C : Type 0} where
 
       path_acked : (c : ActorCrew C) (m : Actor C) → c.member ≡ m → slice_get w.crew 2 ≡ Some c → HoldsOfKind (λ app. Unit {0}) (WrittenIsAcknowledged begun w) m
       path_acked c (App a) kind there = tt
-      path_acked c (Path p) kind there = λ over s may none.
+      path_acked c (Path p) kind there = λ over s may clear none.
           (let crew : slice_get (world_of round.cast).crew 2 ≡ Some c = ap (λ (v : WorldState C). slice_get v.crew 2) (sym round.is) ∙ there in
           let found = in_map walking round.cast.paths 0 c crew in
           let is_path : Path found.0.path ≡ Path p = ap (λ (y : ActorCrew C). y.member) found.2 ∙ kind in
@@ -730,7 +733,9 @@ module _ {C : Type 0} where
           let zero_is : path_of p ≡ 0 = sym (ap (λ (q : PathState C). path_of q) same) ∙ (round.holds.alone.paths 0 found.0 found.1).1 in
           let listed : notes_at 2 w.crew ≡ found.0.at.list = ap (λ (v : WorldState C). notes_at 2 v.crew) round.is ∙ notes_there round.cast 0 found.0 found.1 refl in
           let granted : AllIsAcknowledged (path_of p) (written_by s w) = subst (HoldsOfKind (λ app. Unit {0}) (GrantedIsAcknowledged w)) kind (all.each 2 c there) s (no_pieces (end_at s p) none) in
-          let refused : last_refused s false (steps_since 2 begun w) ≡ true = subst (λ m. AreDoneAsking m (steps_since 2 begun w)) kind ((asking.grants_are_done k start begun order begins).each 2 c there) over s may in
+          let holds_one : HasWindows p = subst (HoldsOfKind (λ app. Unit {0}) HasWindows) kind (windows c there) in
+          let refused : last_refused s false (steps_since 2 begun w) ≡ true =
+          subst (λ m. AreDoneAsking m (steps_since 2 begun w)) kind ((asking.grants_are_done k start begun order begins).each 2 c there) over s (holds_one.asks s may clear none) in
           let fate : Fate s (length (written_by s begun).written) (drop (length (notes_at 2 begun.crew)) found.0.at.list) (end_at s found.0.path) (send_of s (books_in round.cast.books)) = round.holds.fates 0 found.0 found.1 s in
           fate_acked s (length (written_by s begun).written) (steps_since 2 begun w) (end_at s p) (written_by s w)
           (subst (λ (v : WorldState C). Fate s (length (written_by s begun).written) (steps_since 2 begun w) (end_at s p) (written_by s v)) (sym round.is)
@@ -739,16 +744,18 @@ module _ {C : Type 0} where
           refused none (subst (λ n. AllIsAcknowledged n (written_by s w)) zero_is granted))
 
 -- where it is so at every moment
-written_acked : {C : Type 0} (k : Codec C) → ((start : Start) (turns : List Turn) → HasRoom start → NumbersFit start → WhatWasGrantedIsAcknowledged (world_run k turns (opened_world start))) → WhatWasWrittenIsAcknowledged k
-written_acked {C} k granted start plan begun order one size fit begins c there =
+written_acked : {C : Type 0} (k : Codec C) → ((start : Start) (turns : List Turn) → HasRoom start → NumbersFit start → WhatWasGrantedIsAcknowledged (world_run k turns (opened_world start))) → WhoIsDoneMayAsk k
+    → WhatWasWrittenIsAcknowledged k
+written_acked {C} k granted windows start plan begun order one size fit begins c there =
     let at = reached_at k start begun order begins in
     let steps : List Turn = map (λ actor. Turn.Step actor) order in
     let now : after_steps k order begun ≡ world_run k (at.0 ++ steps) (opened_world start) =
     ap (λ (w : WorldState C). world_run k steps w) at.1 ∙ sym (run_append k at.0 steps (opened_world start)) in
-    path_acked k start begun order plan one begins (subst WhatWasGrantedIsAcknowledged (sym now) (granted start (at.0 ++ steps) size fit)) c c.member refl there
+    path_acked k start begun order plan one begins (subst WhatWasGrantedIsAcknowledged (sym now) (granted start (at.0 ++ steps) size fit))
+    (λ d here. windows start (at.0 ++ steps) size fit 2 d (subst (λ (w : WorldState C). slice_get w.crew 2 ≡ Some d) now here)) c c.member refl there
 
 pub what_was_written_is_acknowledged : WhatWasWrittenIsAcknowledged values
-what_was_written_is_acknowledged = written_acked values (λ start turns size fit. what_was_granted_is_acknowledged start turns size)
+what_was_written_is_acknowledged = written_acked values (λ start turns size fit. what_was_granted_is_acknowledged start turns size) who_is_done_may_ask
 
 pub what_was_written_is_acknowledged_in_octets : WhatWasWrittenIsAcknowledged octets
-what_was_written_is_acknowledged_in_octets = written_acked octets what_was_granted_is_acknowledged_in_octets
+what_was_written_is_acknowledged_in_octets = written_acked octets what_was_granted_is_acknowledged_in_octets who_is_done_may_ask_in_octets

@@ -3,9 +3,9 @@ use Rattle.std.specs.Prelude.{ℕ, ◌≡◌, ◌≤◌, true, false, Some, List
 use Rattle.sides.specs.declared.side.Side.{Side}
 use Rattle.send_book.specs.State.{Sending, acked_len}
 use Rattle.stream_lanes.specs.Marks.{tried}
+use Rattle.subflow_tcp.specs.States.{may_finish}
 use Rattle.actor_desk.specs.declared.ask.Note.{Note}
 use Rattle.path_core.specs.Codec.{Codec}
-use Rattle.path_core.specs.Emission.{may_ask}
 use Rattle.path_core.specs.State.{PathState, end_at, path_of}
 use Rattle.world_laws.specs.Actors.{ActorCrew}
 use Rattle.world_laws.specs.Members.{HoldsOfKind}
@@ -36,9 +36,9 @@ pub data IsAllAcknowledged (s : Side) (steps : List Note) (written : ℕ) (book 
   stopped : book.aborted ≡ true → IsAllAcknowledged s steps written book
 
 module _ {C : Type 0} where
-  -- as the turn of a path is over, all that was written as the round began, at an end that may ask for bytes and has nothing outstanding
+  -- as the turn of a path is over, all that was written as the round began, at an open end that may send a DSS and has nothing outstanding
   abbrev pub WrittenIsAcknowledged : WorldState C → WorldState C → PathState C → Type 0
-  WrittenIsAcknowledged begun w p = p.agenda ≡ [] → (s : Side) → may_ask p.profile s (end_at s p) ≡ true → (IsOutstanding (end_at s p) → ⊥)
+  WrittenIsAcknowledged begun w p = p.agenda ≡ [] → (s : Side) → may_finish (end_at s p).tcp.state ≡ true → (end_at s p).modes.clear ≡ true → (IsOutstanding (end_at s p) → ⊥)
       → IsAllAcknowledged s (steps_since 2 begun w) (length (written_by s begun).written) (written_by s w)
 
   -- in each round of a connection over one path, which is the actor 2

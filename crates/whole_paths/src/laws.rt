@@ -286,8 +286,8 @@ pub fn who_is_done_may_ask()
     ensures values { WhoIsDoneMayAsk values }
 {}
 
-/// A law: over one path, as its turn is over, all that was written as the round began is acknowledged at a side whose end may ask for bytes
-/// and has nothing outstanding (RFC 8684, section 3.3.2).
+/// A law: over one path, as its turn is over, all that was written as the round began is acknowledged at a side whose end is open, may send a
+/// DSS and has nothing outstanding (RFC 8684, section 3.3.2).
 ///
 /// Or the path was on standby when it asked for bytes last in this round, or the connection was stopped. What an application writes within
 /// the round may be left for the next one. So where nothing is outstanding any longer, there is nothing left but what is written anew.

@@ -13,7 +13,8 @@
 //! nothing came that wasn't sent (`what_came_was_sent`). The answer comes to the peer (`what_is_owed_comes`), and the end that takes it
 //! hears it (`each_acknowledgement_counts`). How far the connection is, as one number, never falls (`news_never_falls`), is bounded
 //! (`news_is_bounded`), and rises with all news (`each_news_counts`). Where an end waits for no Data ACK, all that its path was granted is
-//! acknowledged (`what_was_granted_is_acknowledged`).
+//! acknowledged (`what_was_granted_is_acknowledged`). An open end with nothing outstanding may ask for bytes (`who_is_done_may_ask`), and over
+//! one path all is acknowledged then that was written as the round began (`what_was_written_is_acknowledged`).
 #![tactic(auto)]
 
 mod laws;
