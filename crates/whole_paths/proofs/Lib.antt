@@ -52,6 +52,7 @@ pub mod Saying
 pub mod Sent
 pub mod Settling
 pub mod Staying
+pub mod Straying
 pub mod Subflows
 pub mod Thirds
 pub mod Timing

@@ -39,5 +39,6 @@ pub mod Rounds
 pub mod Running
 pub mod Saying
 pub mod Sent
+pub mod Straying
 pub mod Timers
 pub mod Waits

@@ -1,0 +1,54 @@
+-- What may come between in an exchange of a mild connection, where both ends of path 0 are open and may send a DSS.
+use Rattle.std.specs.Prelude.{ℕ, ◌+◌, ◌≡◌, ◌≤◌, ◌⊎◌, true, false, Some, List, slice_get}
+use Rattle.sides.specs.declared.side.Side.{Side}
+use Rattle.sides.specs.Side.{peer}
+use Rattle.path_segments.specs.Spelled.{PlainSegment}
+use Rattle.link_model.specs.declared.flight.Flight.{Flight}
+use Rattle.subflow_send.specs.Records.{Record}
+use Rattle.subflow_tcp.specs.State.{is_fin_passed}
+use Rattle.subflow_tcp.specs.States.{is_dead}
+use Rattle.subflow_tcp.specs.declared.segments.Outgoing.{Outgoing}
+use Rattle.path_agenda.specs.Agenda.{breaks, resets}
+use Rattle.path_core.specs.Handover.{handed}
+use Rattle.path_core.specs.MpJoin.{is_joined}
+use Rattle.path_core.specs.State.{PathState, end_at}
+use Rattle.path_core.specs.Values.{Carried, values}
+use Rattle.world_laws.specs.declared.member.Member.TheVariants.{Path}
+use Rattle.world_laws.specs.Actors.{Actor, ActorCrew}
+use Rattle.world_laws.specs.Openings.{Start, opened_world}
+use Rattle.world_laws.specs.Worlds.{Turn, after_turn, world_run}
+use Rattle.whole_paths.specs.AsFar.{stage}
+use Rattle.whole_paths.specs.Copies.{IsUnderWay}
+use Rattle.whole_paths.specs.Exchanges.{AtEither, IsAstray}
+use Rattle.whole_paths.specs.Mild.{IsMildStart, treats_answer}
+
+-- path 0, whose ends are past the handshake, may send a DSS and aren't dead
+pub record IsOpen (p : PathState Carried) : Type 0 where
+  pub first : is_joined p.profile ≡ false
+  pub past : (s : Side) → 3 ≤ stage (end_at s p).tcp.state
+  pub living : (s : Side) → is_dead (end_at s p).tcp.state ≡ false
+  pub clear : (s : Side) → (end_at s p).modes.clear ≡ true
+
+-- of all that leads an exchange astray this is left
+pub data IsHardlyAstray (s : Side) (p q : PathState Carried) : Type 0 where
+  -- the peer is reset next, as a third copy came whose next byte has no mapping
+  missing : (q.agenda ≡ breaks (peer s) 6) ⊎ (q.agenda ≡ resets (peer s) 6) → IsHardlyAstray s p q
+  -- the link took the peer's reset, or the segment by which it answers a copy dead
+  resets_now : (x : PlainSegment) → (x.rst ≡ true) ⊎ ((answer : Outgoing) × (((end_at (peer s) p).treated.answer ≡ Some answer) × (x.rst ≡ answer.rst)))
+      → q.link ≡ handed values (peer s) x p → IsHardlyAstray s p q
+  -- an end is past its peer's FIN
+  behind_fin : (t : Side) → AtEither (λ e. is_fin_passed e.tcp ≡ true) t p q → IsHardlyAstray s p q
+  -- a copy that comes to the end lies past its window
+  past_window : (f : Flight Carried) → IsUnderWay f p → f.to ≡ s → (end_at s p).tcp.recv.edge + 1048576 ≤ f.carried.segment.position → IsHardlyAstray s p q
+  -- A treats the SYN/ACK
+  treats : treats_answer q.agenda ≡ true → IsHardlyAstray s p q
+
+-- as the path becomes this actor, and is still open
+abbrev pub HardlyStrays : Actor Carried → Actor Carried → Type 0
+HardlyStrays (Path p) (Path q) = IsOpen p → IsOpen q → (s : Side) (r : Record) → IsAstray s r p q → IsHardlyAstray s p q
+HardlyStrays _ _ = Unit {0}
+
+-- by any turn of a mild connection
+abbrev pub OpenEndsHardlyStray : Type 0
+OpenEndsHardlyStray = (start : Start) (turns : List Turn) (turn : Turn) → IsMildStart start → let w = world_run values turns (opened_world start) in
+    (actor : ℕ) (c d : ActorCrew Carried) → slice_get w.crew actor ≡ Some c → slice_get (after_turn values turn w).crew actor ≡ Some d → HardlyStrays c.member d.member
