@@ -25,6 +25,7 @@ pub mod Lanes
 pub mod Links
 pub mod Opening
 pub mod OpeningConfirmed
+pub mod OpeningKeys
 pub mod OpeningSyns
 pub mod Owing
 pub mod Mapping

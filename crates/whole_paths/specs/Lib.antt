@@ -26,6 +26,7 @@ pub mod Lanes
 pub mod Mapped
 pub mod Opening
 pub mod OpeningConfirmed
+pub mod OpeningKeys
 pub mod Owed
 pub mod Passed
 pub mod Reasons

@@ -13,9 +13,9 @@
 //! nothing came that wasn't sent (`what_came_was_sent`). The answer comes to the peer (`what_is_owed_comes`), and the end that takes it
 //! hears it (`each_acknowledgement_counts`).
 //!
-//! So it is with what else an end waits for: that the connection opens (`each_handshake_counts`, `each_confirmation_counts`), Data ACKs
-//! (`each_segment_has_a_data_ack`, `each_data_ack_is_up_to_date`, `each_data_ack_counts`) and the peer's DATA_FIN (`each_data_fin_counts`).
-//! Where no record is left the end asks again, and that comes, too (`what_is_asked_comes`).
+//! So it is with what else an end waits for: that the connection opens (`each_handshake_counts`, `each_segment_shows_keys`,
+//! `each_confirmation_counts`), Data ACKs (`each_segment_has_a_data_ack`, `each_data_ack_is_up_to_date`, `each_data_ack_counts`) and the
+//! peer's DATA_FIN (`each_data_fin_counts`). Where no record is left the end asks again, and that comes, too (`what_is_asked_comes`).
 #![tactic(auto)]
 
 mod laws;
@@ -25,9 +25,10 @@ pub use laws::{
     each_confirmation_counts, each_copy_is_answered_at_once, each_data_ack_counts,
     each_data_ack_is_up_to_date, each_data_fin_counts, each_handshake_counts,
     each_piece_comes_in_order, each_segment_has_a_data_ack, each_segment_says_what_came,
-    each_segment_uses_a_line_or_comes, lossy_lanes_finish, no_timer_is_put_off, nothing_goes_back,
-    nothing_is_overdue, timers_run_on, timers_run_out, what_came_was_sent, what_comes_is_kept,
-    what_is_acknowledged_came, what_is_asked_comes, what_is_in_hand_is_acknowledged,
-    what_is_in_order_is_passed, what_is_owed_comes, what_is_told_is_known,
-    what_runs_out_goes_again, what_waits_comes, what_waits_is_kept, who_waits_has_a_timer,
+    each_segment_shows_keys, each_segment_uses_a_line_or_comes, lossy_lanes_finish,
+    no_timer_is_put_off, nothing_goes_back, nothing_is_overdue, timers_run_on, timers_run_out,
+    what_came_was_sent, what_comes_is_kept, what_is_acknowledged_came, what_is_asked_comes,
+    what_is_in_hand_is_acknowledged, what_is_in_order_is_passed, what_is_owed_comes,
+    what_is_told_is_known, what_runs_out_goes_again, what_waits_comes, what_waits_is_kept,
+    who_waits_has_a_timer,
 };
