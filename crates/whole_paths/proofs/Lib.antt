@@ -31,6 +31,7 @@ pub mod Lanes
 pub mod Links
 pub mod Opening
 pub mod OpeningConfirmed
+pub mod OpeningKeys
 pub mod OpeningSyns
 pub mod News
 pub mod NewsBounds

@@ -31,6 +31,7 @@ pub mod Opening
 pub mod News
 pub mod Mild
 pub mod OpeningConfirmed
+pub mod OpeningKeys
 pub mod Owed
 pub mod Passed
 pub mod Reasons

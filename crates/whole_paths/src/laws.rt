@@ -34,6 +34,7 @@ ghost use Rattle.whole_paths.specs.Opening.{EachHandshakeCounts, EachSynCounts};
 ghost use Rattle.whole_paths.specs.News.{EachNewsCounts, NewsIsBounded, NewsNeverFalls};
 ghost use Rattle.whole_paths.specs.Mild.{IsPromisedMildly, KeysAreKnown, LinksAreMild, MappingIsKept, MildScriptsStartMildly, HardlyBreaks};
 ghost use Rattle.whole_paths.specs.OpeningConfirmed.{EachConfirmationCounts, SignsAreSaid};
+ghost use Rattle.whole_paths.specs.OpeningKeys.{EachSegmentShowsKeys};
 ghost use Rattle.whole_paths.specs.Owed.{WhatIsOwedComes};
 ghost use Rattle.whole_paths.specs.Passed.{WhatIsInOrderIsPassed};
 ghost use Rattle.whole_paths.specs.Reasons.{WhoWaitsHasATimer};
@@ -197,6 +198,16 @@ pub fn each_handshake_counts()
     ensures octets { EachHandshakeCounts octets }
     ensures values { EachHandshakeCounts values }
     ensures syns { EachSynCounts }
+{}
+
+/// A law: until A may send a DSS each acknowledgement that its end sends shows both keys, and so does the first piece (RFC 8684, section
+/// 3.1), so that B gets them with whatever answers its SYN/ACK.
+///
+/// So it is once A knows B's key, as long as the side doesn't fall back to plain TCP. A piece behind the first one, a FIN and a notice have a
+/// DSS in their place; a segment with a SYN has none of it, nor has a reset.
+pub fn each_segment_shows_keys()
+    ensures octets { EachSegmentShowsKeys (List ℕ) }
+    ensures values { EachSegmentShowsKeys Carried }
 {}
 
 /// A law: what confirms Multipath TCP to an end counts, in its turn: both keys let B send a DSS, and the first DSS lets A (RFC 8684, section
