@@ -30,7 +30,8 @@ pub use laws::{
     no_timer_is_put_off, nothing_goes_back, nothing_is_overdue, open_ends_hardly_stray,
     timers_run_on, timers_run_out, what_came_was_sent, what_comes_is_kept,
     what_is_acknowledged_came, what_is_asked_comes, what_is_in_hand_is_acknowledged,
-    what_is_in_order_is_passed, what_is_owed_comes, what_is_told_is_known, what_runs_out_goes_again,
-    what_waits_comes, what_waits_is_kept, what_was_granted_is_acknowledged,
-    what_was_written_is_acknowledged, who_is_done_may_ask, who_waits_has_a_timer,
+    what_is_in_order_is_passed, what_is_owed_comes, what_is_told_is_known,
+    what_runs_out_goes_again, what_waits_comes, what_waits_is_kept,
+    what_was_granted_is_acknowledged, what_was_written_is_acknowledged, who_is_done_may_ask,
+    who_waits_has_a_timer,
 };
