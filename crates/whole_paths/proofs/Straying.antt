@@ -1,5 +1,5 @@
 -- Where both ends of path 0 are open, nearly nothing leads an exchange of a mild connection astray.
-use Rattle.std.proofs.Common.{◌≡◌, refl, subst, ap, ◌∙◌, ◌⊎◌, inl, inr, ⊎_elim, arith, Bool, true, false, not, ◌&&◌, ◌==◌, None, is_some, [], ◌∷◌, ◌++◌}
+use Rattle.std.proofs.Common.{◌≡◌, refl, subst, ap, ◌∙◌, inl, inr, ⊎_elim, arith, Bool, true, false, not, ◌&&◌, ◌==◌, None, is_some, [], ◌∷◌, ◌++◌}
 use Rattle.std.proofs.lemmas.Bool.{both_ways}
 use Rattle.sides.specs.declared.side.Side.{Side}
 use Rattle.sides.specs.declared.side.Side.TheVariants.{A, B}
