@@ -24,7 +24,7 @@ use Rattle.subflow_send.specs.Records.{Record, end_of, occupied}
 use Rattle.subflow_send.specs.declared.record.RecordKind.TheVariants.{Data}
 use Rattle.subflow_tcp.specs.Judging.{ends_in_window, is_acceptable, is_at_right_edge, meaning_of}
 use Rattle.subflow_tcp.specs.Segments.{occupied as occupied_by}
-use Rattle.subflow_tcp.specs.State.{is_at_limit, is_fin_passed}
+use Rattle.subflow_tcp.specs.State.{is_at_limit}
 use Rattle.subflow_tcp.specs.States.{is_dead, is_opening}
 use Rattle.subflow_tcp.specs.declared.handshake.State.{State as EndPhase}
 use Rattle.subflow_tcp.specs.declared.handshake.State.TheVariants as phase
@@ -113,10 +113,6 @@ record Known (p : PathState Carried) : Type 0 where
   link : LinkIs p.link
   alike : CopiesArriveSo p
   past : ComesFrom p.clock p
-
--- what came was sent
-edge_sent : (p : PathState Carried) → WasSent p → (s : Side) → is_fin_passed (end_at s p).tcp ≡ false → (end_at s p).tcp.recv.edge ≤ (end_at (peer s) p).tcp.send.nxt
-edge_sent p h s unpassed = h s
 
 unopening : (state : EndPhase) → 2 ≤ stage state → is_opening state ≡ false
 unopening phase.SynSent high = absurd (omega (arith, high))
@@ -297,12 +293,11 @@ module _ (p q : PathState Carried) (known : Known p) (faithful : IsFaithful p) (
       (λ low. subst (λ o. IfSome o (λ n. n ≤ (end_at (peer f.to) p).tcp.recv.edge)) acks low)
       (under_way (AcksWhatCame p) f p there known.came.copies)
 
-  -- where the sender isn't past the peer's FIN, that is no more than was sent
-  acked_sent : (f : Flight Carried) (n : ℕ) → IsUnderWay f p → f.carried.segment.rst ≡ false → f.carried.segment.acknowledged ≡ Some n → is_fin_passed (end_at (peer f.to) p).tcp ≡ false
-      → n ≤ (end_at f.to p).tcp.send.nxt
-  acked_sent f n there rst acks unpassed =
+  -- and so it was sent
+  acked_sent : (f : Flight Carried) (n : ℕ) → IsUnderWay f p → f.carried.segment.rst ≡ false → f.carried.segment.acknowledged ≡ Some n → n ≤ (end_at f.to p).tcp.send.nxt
+  acked_sent f n there rst acks =
       let low = acked_low f n there rst acks in
-      let sent = subst (λ t. (end_at (peer f.to) p).tcp.recv.edge ≤ (end_at t p).tcp.send.nxt) (sender_of f.to) (edge_sent p known.was_sent (peer f.to) unpassed) in
+      let sent = subst (λ t. (end_at (peer f.to) p).tcp.recv.edge ≤ (end_at t p).tcp.send.nxt) (sender_of f.to) (known.was_sent (peer f.to)) in
       omega (arith, low, sent)
 
   -- ---- an answer comes
@@ -346,8 +341,8 @@ module _ (p q : PathState Carried) (known : Known p) (faithful : IsFaithful p) (
     Heard = (q ≡ p) ⊎ ((position ≤ (end_at s q).tcp.send.una) ⊎ ((r : Record) → IsHeldUp s p q ⊎ IsAstray s r p q))
 
     is_taken : 2 ≤ stage hearer.tcp.state → is_dead hearer.tcp.state ≡ false → f.carried.segment.syn ≡ false → is_acceptable hearer.tcp.recv.edge f.carried.segment.position (copy_of said) ≡ true
-        → 0 < h.covers.up_to → is_fin_passed (end_at (peer listener) p).tcp ≡ false → Heard
-    is_taken opened living syn accepted some unpassed = ⊎_elim (λ same. inl same)
+        → 0 < h.covers.up_to → Heard
+    is_taken opened living syn accepted some = ⊎_elim (λ same. inl same)
         (λ counts. inr (inl (subst (λ t. position ≤ (end_at t q).tcp.send.una) to_sender (let enough = h.covers.enough in omega (arith, enough, counts)))))
         (turn.counts.counts (record {
           copy = is_heard;
@@ -356,7 +351,7 @@ module _ (p q : PathState Carried) (known : Known p) (faithful : IsFaithful p) (
             f.carried.segment.position,
             ap (λ j. judged_of j said.rst (items_of j listener said) (meaning_of (copy_of said) hearer.tcp) hearer) faithful.joined
                 ∙ ap (λ m. judged.As m) (taken_so (copy_of said) hearer.tcp f.carried.segment.position h.covers.up_to opened living (below_limit p known listener) syn unreset refl
-                (ap (λ (o : Option ℕ). heard_position (option_map (λ n. At n) o)) acks_up_to) accepted some (acked_sent f h.covers.up_to there unreset acks_up_to unpassed)),
+                (ap (λ (o : Option ℕ). heard_position (option_map (λ n. At n) o)) acks_up_to) accepted some (acked_sent f h.covers.up_to there unreset acks_up_to)),
           );
         }))
 
@@ -370,17 +365,12 @@ module _ (p q : PathState Carried) (known : Known p) (faithful : IsFaithful p) (
     answer_comes : 0 < position → Heard
     answer_comes some = by_life (subst (λ t. 2 ≤ stage (end_at t p).tcp.state) (sym to_sender) opened) (is_dead hearer.tcp.state) refl
       where
-        by_fin : 2 ≤ stage hearer.tcp.state → is_dead hearer.tcp.state ≡ false → is_acceptable hearer.tcp.recv.edge f.carried.segment.position (copy_of said) ≡ true
-            → (b : Bool) → is_fin_passed (end_at (peer listener) p).tcp ≡ b → Heard
-        by_fin opened living accepted true is = inr (inr (λ r. inr (stray.behind_fin (peer listener) (inl is))))
-        by_fin opened living accepted false is = is_taken opened living syn_is accepted (let enough = h.covers.enough in omega (arith, enough, some)) is
-
         by_window : 2 ≤ stage hearer.tcp.state → is_dead hearer.tcp.state ≡ false → Heard
         by_window opened living = ⊎_elim
-            (λ below. by_fin opened living
+            (λ below. is_taken opened living syn_is
             (ap (λ b. b || (ends_in_window hearer.tcp.recv.edge f.carried.segment.position (occupied_by (copy_of said)) || is_at_right_edge hearer.tcp.recv.edge f.carried.segment.position (length (copy_of said).payload)))
             (ap (λ b. b && nat_lt f.carried.segment.position (hearer.tcp.recv.edge + 1048576)) (le-leb hearer.tcp.recv.edge f.carried.segment.position not_before) ∙ lt-ltb f.carried.segment.position (hearer.tcp.recv.edge + 1048576) below))
-            (is_fin_passed (end_at (peer listener) p).tcp) refl)
+            (let enough = h.covers.enough in omega (arith, enough, some)))
             (λ above. inr (inr (λ r. inr (stray.past_window f there to_sender (subst (λ t. (end_at t p).tcp.recv.edge + 1048576 ≤ f.carried.segment.position) to_sender above)))))
             (cases_lt f.carried.segment.position (hearer.tcp.recv.edge + 1048576))
 
@@ -432,7 +422,7 @@ module _ (p q : PathState Carried) (known : Known p) (faithful : IsFaithful p) (
     hand_goes position before same low some (hand.on h) so = goes.on (in_hand still_opened (hand_later (peer s) (end_of r) before until q low (subst (λ n. IsInHand (peer s) n before q) same h)))
     hand_goes position before same low some (hand.answered h) so = answer_goes position before (omega (arith, same)) low some h so
     hand_goes position before same low some (hand.reset h) so = goes.astray (stray.reset h)
-    hand_goes position before same low some (hand.behind_fin h) so = goes.astray (stray.behind_fin (peer s) (inr h))
+    hand_goes position before same low some (hand.behind_fin h) so = goes.astray (stray.behind_fin h)
     hand_goes position before same low some (hand.dropped h) so = goes.astray (stray.unsure h)
     hand_goes position before same low some (hand.plain h) so = goes.astray (stray.plain (peer s) (inr h))
     hand_goes position before same low some (hand.unkeyed h) so = goes.astray (stray.unkeyed h)
@@ -480,11 +470,10 @@ module _ (p q : PathState Carried) (known : Known p) (faithful : IsFaithful p) (
       carried_header : SameHeader copied f.carried.segment
       carried_header = changed_said p.profile.spelling s copied copy.stripped copy.altered f.carried copy.carried
 
-      answer_low : is_fin_passed (end_at s p).tcp ≡ false → copy.sender.tcp.recv.edge ≤ taker.tcp.send.nxt
-      answer_low unpassed =
-          let from : peer f.to ≡ s = ap peer copy.to ∙ sender_of s in
+      answer_low : copy.sender.tcp.recv.edge ≤ taker.tcp.send.nxt
+      answer_low =
           subst (λ t. copy.sender.tcp.recv.edge ≤ (end_at t p).tcp.send.nxt) copy.to
-          (acked_sent f copy.sender.tcp.recv.edge there (carried_header.rst ∙ copy.of_it.rst) (carried_header.acknowledged ∙ sender_acks) (subst (λ t. is_fin_passed (end_at t p).tcp ≡ false) (sym from) unpassed))
+          (acked_sent f copy.sender.tcp.recv.edge there (carried_header.rst ∙ copy.of_it.rst) (carried_header.acknowledged ∙ sender_acks))
 
       -- RCV.NXT isn't past the record's first position
       starts : is_dead (end_at s p).tcp.state ≡ false → r.pos ≤ taker.tcp.recv.edge
@@ -523,9 +512,9 @@ module _ (p q : PathState Carried) (known : Known p) (faithful : IsFaithful p) (
       record_comes : Goes
       record_comes = by_sender (is_dead (end_at s p).tcp.state) refl
         where
-          takes_so : is_dead (end_at s p).tcp.state ≡ false → is_dead taker.tcp.state ≡ false → 2 ≤ stage taker.tcp.state → taker.tcp.recv.edge < end_of r → is_fin_passed (end_at s p).tcp ≡ false
+          takes_so : is_dead (end_at s p).tcp.state ≡ false → is_dead taker.tcp.state ≡ false → 2 ≤ stage taker.tcp.state → taker.tcp.recv.edge < end_of r
               → taker.modes.identity ≡ false → Takes copied taker
-          takes_so living there_living opened new unpassed unplain =
+          takes_so living there_living opened new unplain =
               let low = starts living in let window = (known.reached (peer s)).window in let octets = few_octets p known s r is_first kind in
               record {
                 opened = opened;
@@ -538,24 +527,19 @@ module _ (p q : PathState Carried) (known : Known p) (faithful : IsFaithful p) (
                 acknowledged = copy.sender.tcp.recv.edge;
                 acknowledges = sender_acks;
                 answered = sent.edge;
-                sent = answer_low unpassed;
+                sent = answer_low;
                 mapped = unplain;
               }
 
-          by_plain : is_dead (end_at s p).tcp.state ≡ false → is_dead taker.tcp.state ≡ false → 2 ≤ stage taker.tcp.state → taker.tcp.recv.edge < end_of r → is_fin_passed (end_at s p).tcp ≡ false
+          by_plain : is_dead (end_at s p).tcp.state ≡ false → is_dead taker.tcp.state ≡ false → 2 ≤ stage taker.tcp.state → taker.tcp.recv.edge < end_of r
               → (b : Bool) → taker.modes.identity ≡ b → Goes
-          by_plain living there_living opened new unpassed true is = goes.astray (stray.plain (peer s) (inl is))
-          by_plain living there_living opened new unpassed false is = arrives_in (takes_so living there_living opened new unpassed is)
-
-          by_fin : is_dead (end_at s p).tcp.state ≡ false → is_dead taker.tcp.state ≡ false → 2 ≤ stage taker.tcp.state → taker.tcp.recv.edge < end_of r
-              → (b : Bool) → is_fin_passed (end_at s p).tcp ≡ b → Goes
-          by_fin living there_living opened new true is = goes.astray (stray.behind_fin s (inl is))
-          by_fin living there_living opened new false is = by_plain living there_living opened new is taker.modes.identity refl
+          by_plain living there_living opened new true is = goes.astray (stray.plain (peer s) (inl is))
+          by_plain living there_living opened new false is = arrives_in (takes_so living there_living opened new is)
 
           by_stage : is_dead (end_at s p).tcp.state ≡ false → is_dead taker.tcp.state ≡ false → taker.tcp.recv.edge < end_of r → Goes
           by_stage living there_living new = ⊎_elim
               (λ low. goes.astray (stray.unopened (omega (arith, low))))
-              (λ opened. by_fin living there_living opened new (is_fin_passed (end_at s p).tcp) refl)
+              (λ opened. by_plain living there_living opened new taker.modes.identity refl)
               (cases_lt (stage taker.tcp.state) 2)
 
           by_opened : is_dead taker.tcp.state ≡ false → end_of r ≤ taker.tcp.recv.edge → Goes
@@ -613,25 +597,21 @@ module _ (p q : PathState Carried) (known : Known p) (faithful : IsFaithful p) (
         by_plain false is = by_infinite is (end_at s p).modes.own_infinite refl
 
     -- what goes from the peer while it owes an acknowledgement
-    acks_bare : is_dead (end_at (peer s) p).tcp.state ≡ false → is_fin_passed (end_at s p).tcp ≡ false → GoesSo Bare (peer s) p
-    acks_bare living unpassed t sends own due unreset =
+    acks_bare : is_dead (end_at (peer s) p).tcp.state ≡ false → GoesSo Bare (peer s) p
+    acks_bare living t sends own due unreset =
         by (subst (λ (o : Option ToSend). IfSome o (λ t. t.from ≡ peer s → IsBareAck (end_at (peer s) p) (segment_sent p t))) sends (acks_first (peer s) living due) own)
       where
         by : IsBareAck (end_at (peer s) p) (segment_sent p t) → Bare (segment_sent p t)
-        by (bare.acks at syn fin payload) = record { from = (let low = edge_sent p known.was_sent s unpassed in omega (arith, at, low)); syn = syn; fin = fin; payload = payload }
+        by (bare.acks at syn fin payload) = record { from = (let low = known.was_sent s in omega (arith, at, low)); syn = syn; fin = fin; payload = payload }
         by (bare.resets is) = absurd (true≢false (sym is ∙ unreset))
 
-    -- unless the peer is dead, or the end is past its FIN
+    -- unless the peer is dead
     if_bare : (GoesSo Bare (peer s) p → Goes) → Goes
     if_bare then_so = by_life (is_dead (end_at (peer s) p).tcp.state) refl
       where
-        by_fin : is_dead (end_at (peer s) p).tcp.state ≡ false → (b : Bool) → is_fin_passed (end_at s p).tcp ≡ b → Goes
-        by_fin living true is = goes.astray (stray.behind_fin s (inl is))
-        by_fin living false is = then_so (acks_bare living is)
-
         by_life : (b : Bool) → is_dead (end_at (peer s) p).tcp.state ≡ b → Goes
         by_life true is = goes.held_up (held.gone (peer s) (inl is))
-        by_life false is = by_fin is (is_fin_passed (end_at s p).tcp) refl
+        by_life false is = then_so (acks_bare is)
 
     hand_on : GoesSo Bare (peer s) p → IsInHand (peer s) (end_of r) until p → 0 < end_of r → Goes
     hand_on was h some = let go = hands.1.1 (peer s) (end_of r) until (few (peer s)) was h in hand_goes (end_of r) until refl (le_refl until) some go.0 go.1

@@ -104,8 +104,8 @@ pub data IsAstray (s : Side) (r : Record) (p q : PathState Carried) : Type 0 whe
   reset : IsToReset (peer s) q.agenda → IsAstray s r p q
   resets : (x : PlainSegment) → (x.rst ≡ true) ⊎ ((answer : Outgoing) × (((end_at (peer s) p).treated.answer ≡ Some answer) × (x.rst ≡ answer.rst))) → q.link ≡ handed values (peer s) x p
       → IsAstray s r p q
-  -- an end is past its peer's FIN
-  behind_fin : (t : Side) → AtEither (λ e. is_fin_passed e.tcp ≡ true) t p q → IsAstray s r p q
+  -- the peer is past the end's FIN
+  behind_fin : is_fin_passed (end_at (peer s) q).tcp ≡ true → IsAstray s r p q
   -- the peer hasn't both SYNs, or its handshake isn't done, though its RCV.NXT is past the record
   unopened : stage (end_at (peer s) p).tcp.state ≤ 1 → IsAstray s r p q
   half_open : stage (end_at (peer s) p).tcp.state ≤ 2 → end_of r ≤ (end_at (peer s) p).tcp.recv.edge → IsAstray s r p q
