@@ -15,7 +15,8 @@
 //!
 //! So it is with what else an end waits for: that the connection opens (`each_handshake_counts`, `each_segment_shows_keys`,
 //! `each_confirmation_counts`), Data ACKs (`each_segment_has_a_data_ack`, `each_data_ack_is_up_to_date`, `each_data_ack_counts`) and the
-//! peer's DATA_FIN (`each_data_fin_counts`). Where no record is left the end asks again, and that comes, too (`what_is_asked_comes`).
+//! peer's DATA_FIN (`each_data_fin_counts`). Where no record is left the end asks again, and that comes, too (`what_is_asked_comes`), and is
+//! answered (`what_wants_an_answer_is_owed_one`).
 #![tactic(auto)]
 
 mod laws;
@@ -30,5 +31,5 @@ pub use laws::{
     what_came_was_sent, what_comes_is_kept, what_is_acknowledged_came, what_is_asked_comes,
     what_is_in_hand_is_acknowledged, what_is_in_order_is_passed, what_is_owed_comes,
     what_is_told_is_known, what_runs_out_goes_again, what_waits_comes, what_waits_is_kept,
-    who_waits_has_a_timer,
+    what_wants_an_answer_is_owed_one, who_waits_has_a_timer,
 };
