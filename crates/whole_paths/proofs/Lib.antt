@@ -6,6 +6,7 @@ pub mod Bringing
 pub mod Came
 pub mod Closing
 pub mod ClosingAsked
+pub mod ClosingFin
 pub mod ClosingOwed
 pub mod Copies
 pub mod DataAcks

@@ -11,6 +11,7 @@ ghost use Rattle.whole_paths.specs.Brought.{WhatComesIsKept};
 ghost use Rattle.whole_paths.specs.Came.{WhatIsAcknowledgedCame};
 ghost use Rattle.whole_paths.specs.Closing.{EachDataFinCounts, EachDataFinIsSaid};
 ghost use Rattle.whole_paths.specs.ClosingAsked.{EachDataFinComes};
+ghost use Rattle.whole_paths.specs.ClosingFin.{EachFinIsPassed};
 ghost use Rattle.whole_paths.specs.ClosingOwed.{WhatWantsAnAnswerIsOwedOne};
 ghost use Rattle.whole_paths.specs.Copies.{CopiesLeaveByArriving};
 ghost use Rattle.whole_paths.specs.DataAcks.{EachSegmentHasADataAck};
@@ -123,6 +124,16 @@ pub fn what_runs_out_goes_again()
 pub fn each_copy_is_answered_at_once()
     ensures octets { Always octets (λ start w. CopiesAreAnswered w) }
     ensures values { Always values (λ start w. CopiesAreAnswered w) }
+{}
+
+/// A law: RCV.NXT moves over a FIN that came as soon as no byte before it is missing (RFC 9293, section 3.10.7.4).
+///
+/// Where a copy that the end takes has the first FIN, or one came before, RCV.NXT is past it, once all is treated that the copy says and
+/// carries; or RCV.NXT is still below it, as bytes before it are missing or can't be placed; or the end is dead, or reset next. The FIN stands
+/// below 2^62.
+pub fn each_fin_is_passed()
+    ensures octets { EachFinIsPassed octets }
+    ensures values { EachFinIsPassed values }
 {}
 
 /// A law: what wants an acknowledgement of a copy that an end takes is owed one at once (RFC 9293, section 3.10.7.4): bytes, a FIN, and of

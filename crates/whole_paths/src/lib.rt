@@ -15,8 +15,8 @@
 //!
 //! So it is with what else an end waits for: that the connection opens (`each_handshake_counts`, `each_segment_shows_keys`,
 //! `each_confirmation_counts`), Data ACKs (`each_segment_has_a_data_ack`, `each_data_ack_is_up_to_date`, `each_data_ack_counts`) and the
-//! peer's DATA_FIN (`each_data_fin_counts`). Where no record is left the end asks again, and that comes, too (`what_is_asked_comes`), and is
-//! answered (`what_wants_an_answer_is_owed_one`).
+//! peer's DATA_FIN and FIN (`each_data_fin_counts`, `each_fin_is_passed`). Where no record is left the end asks again, and that comes, too
+//! (`what_is_asked_comes`), and is answered (`what_wants_an_answer_is_owed_one`).
 #![tactic(auto)]
 
 mod laws;
@@ -24,7 +24,7 @@ mod laws;
 pub use laws::{
     a_copy_leaves_by_arriving, copies_arrive_as_sent, each_acknowledgement_counts,
     each_confirmation_counts, each_copy_is_answered_at_once, each_data_ack_counts,
-    each_data_ack_is_up_to_date, each_data_fin_counts, each_handshake_counts,
+    each_data_ack_is_up_to_date, each_data_fin_counts, each_fin_is_passed, each_handshake_counts,
     each_piece_comes_in_order, each_segment_has_a_data_ack, each_segment_says_what_came,
     each_segment_shows_keys, each_segment_uses_a_line_or_comes, lossy_lanes_finish,
     no_timer_is_put_off, nothing_goes_back, nothing_is_overdue, timers_run_on, timers_run_out,
