@@ -8,6 +8,8 @@ pub mod Bringing
 pub mod Came
 pub mod Closing
 pub mod ClosingAsked
+pub mod ClosingFin
+pub mod ClosingOwed
 pub mod Copies
 pub mod DataAcks
 pub mod DataAcksAsked

@@ -7,6 +7,8 @@ pub mod Brought
 pub mod Came
 pub mod Closing
 pub mod ClosingAsked
+pub mod ClosingFin
+pub mod ClosingOwed
 pub mod Copies
 pub mod DataAcks
 pub mod DataAcksAsked

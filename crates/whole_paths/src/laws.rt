@@ -12,6 +12,8 @@ ghost use Rattle.whole_paths.specs.Brought.{WhatComesIsKept};
 ghost use Rattle.whole_paths.specs.Came.{WhatIsAcknowledgedCame};
 ghost use Rattle.whole_paths.specs.Closing.{EachDataFinCounts, EachDataFinIsSaid};
 ghost use Rattle.whole_paths.specs.ClosingAsked.{EachDataFinComes};
+ghost use Rattle.whole_paths.specs.ClosingFin.{EachFinIsPassed};
+ghost use Rattle.whole_paths.specs.ClosingOwed.{WhatWantsAnAnswerIsOwedOne};
 ghost use Rattle.whole_paths.specs.Copies.{CopiesLeaveByArriving};
 ghost use Rattle.whole_paths.specs.DataAcks.{EachSegmentHasADataAck};
 ghost use Rattle.whole_paths.specs.DataAcksAsked.{WhatIsAskedComes};
@@ -157,6 +159,26 @@ pub fn what_runs_out_goes_again()
 pub fn each_copy_is_answered_at_once()
     ensures octets { Always octets (λ start w. CopiesAreAnswered w) }
     ensures values { Always values (λ start w. CopiesAreAnswered w) }
+{}
+
+/// A law: RCV.NXT moves over a FIN that came as soon as no byte before it is missing (RFC 9293, section 3.10.7.4).
+///
+/// Where a copy that the end takes has the first FIN, or one came before, RCV.NXT is past it, once all is treated that the copy says and
+/// carries; or RCV.NXT is still below it, as bytes before it are missing or can't be placed; or the end is dead, or reset next. The FIN stands
+/// below 2^62.
+pub fn each_fin_is_passed()
+    ensures octets { EachFinIsPassed octets }
+    ensures values { EachFinIsPassed values }
+{}
+
+/// A law: what wants an acknowledgement of a copy that an end takes is owed one at once (RFC 9293, section 3.10.7.4): bytes, a FIN, and of
+/// Multipath TCP a DATA_FIN, both keys and the third MP_JOIN (RFC 8684, sections 3.1, 3.2 and 3.3.3).
+///
+/// So it is with each copy that the end takes, also where it comes again. From then on the answer goes the way of each
+/// (`what_is_owed_comes`).
+pub fn what_wants_an_answer_is_owed_one()
+    ensures octets { WhatWantsAnAnswerIsOwedOne octets }
+    ensures values { WhatWantsAnAnswerIsOwedOne values }
 {}
 
 /// A law: an acknowledgement that an end owes comes to the peer within the longest time that a segment is under way, unless the script harms
