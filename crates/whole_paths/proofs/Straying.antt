@@ -42,7 +42,7 @@ module _ (p q : PathState Carried) (open_p : IsOpen p) (open_q : IsOpen q) (mapp
   strays_so : (s : Side) (r : Record) → IsAstray s r p q → IsHardlyAstray s p q
   strays_so s r (stray.reset is) = resets_so s is
   strays_so s r (stray.resets x is taken) = hardly.resets_now x is taken
-  strays_so s r (stray.behind_fin t is) = hardly.behind_fin t is
+  strays_so s r (stray.behind_fin is) = hardly.behind_fin is
   strays_so s r (stray.unopened low) = absurd (let past = open_p.past (peer s) in omega (arith, past, low))
   strays_so s r (stray.half_open low passed) = absurd (let past = open_p.past (peer s) in omega (arith, past, low))
   strays_so s r (stray.unsure is) = absurd (both_ways (end_at (peer s) q).modes.clear is.clear (open_q.clear (peer s)))

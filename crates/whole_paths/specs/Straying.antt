@@ -19,7 +19,7 @@ use Rattle.world_laws.specs.Openings.{Start, opened_world}
 use Rattle.world_laws.specs.Worlds.{Turn, after_turn, world_run}
 use Rattle.whole_paths.specs.AsFar.{stage}
 use Rattle.whole_paths.specs.Copies.{IsUnderWay}
-use Rattle.whole_paths.specs.Exchanges.{AtEither, IsAstray}
+use Rattle.whole_paths.specs.Exchanges.{IsAstray}
 use Rattle.whole_paths.specs.Mild.{IsMildStart, treats_answer}
 
 -- path 0, whose ends are past the handshake, may send a DSS and aren't dead
@@ -36,8 +36,8 @@ pub data IsHardlyAstray (s : Side) (p q : PathState Carried) : Type 0 where
   -- the link took the peer's reset, or the segment by which it answers a copy dead
   resets_now : (x : PlainSegment) → (x.rst ≡ true) ⊎ ((answer : Outgoing) × (((end_at (peer s) p).treated.answer ≡ Some answer) × (x.rst ≡ answer.rst)))
       → q.link ≡ handed values (peer s) x p → IsHardlyAstray s p q
-  -- an end is past its peer's FIN
-  behind_fin : (t : Side) → AtEither (λ e. is_fin_passed e.tcp ≡ true) t p q → IsHardlyAstray s p q
+  -- the peer is past the end's FIN
+  behind_fin : is_fin_passed (end_at (peer s) q).tcp ≡ true → IsHardlyAstray s p q
   -- a copy that comes to the end lies past its window
   past_window : (f : Flight Carried) → IsUnderWay f p → f.to ≡ s → (end_at s p).tcp.recv.edge + 1048576 ≤ f.carried.segment.position → IsHardlyAstray s p q
   -- A treats the SYN/ACK
