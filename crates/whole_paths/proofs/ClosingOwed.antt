@@ -1,6 +1,5 @@
 -- What wants an acknowledgement is owed one.
-use Rattle.std.proofs.Common.{◌≡◌, refl, sym, subst, ap, ◌∙◌, ◌⊎◌, inl, inr, ⊎_elim, ℕ, ◌<◌, nat_lt, Bool, true, false, true≢false, if◌then◌else◌, List, [], ◌∷◌}
-use Rattle.std.specs.List.{list_any}
+use Rattle.std.proofs.Common.{◌≡◌, refl, sym, subst, ap, ◌∙◌, ◌⊎◌, inl, inr, ℕ, ◌<◌, Bool, true, false, true≢false, if◌then◌else◌, List, [], ◌∷◌}
 use Rattle.std.proofs.lemmas.Bool.{lt-ltb}
 use Rattle.path_segments.specs.Heard.{HeardSegment}
 use Rattle.sides.specs.declared.side.Side.{Side}
@@ -12,7 +11,6 @@ use Rattle.subflow_tcp.specs.State.{EndState}
 use Rattle.subflow_tcp.specs.Taking.{after_established, after_heard_ack, after_hearing, after_occupying, after_payload}
 use Rattle.actor_desk.specs.declared.ask.Reply.{Reply}
 use Rattle.actor_desk.specs.Words.{is_nil, pick}
-use Rattle.path_agenda.specs.Items.{wants_ack}
 use Rattle.path_agenda.specs.declared.duty.Duty.{Duty}
 use Rattle.path_agenda.specs.declared.duty.Duty.TheVariants as duties
 use Rattle.path_agenda.specs.declared.duty.StepDuty.TheVariants as step_duties
