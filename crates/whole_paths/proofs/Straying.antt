@@ -1,28 +1,37 @@
 -- Where both ends of path 0 are open, nearly nothing leads an exchange of a mild connection astray.
-use Rattle.std.proofs.Common.{◌≡◌, refl, subst, ap, ◌∙◌, inl, inr, ⊎_elim, arith, Bool, true, false, not, ◌&&◌, ◌==◌, None, is_some, [], ◌∷◌, ◌++◌}
+use Rattle.std.proofs.Common.{◌≡◌, refl, sym, subst, ap, ◌∙◌, inl, inr, ⊎_elim, arith, ◌≤◌, Bool, true, false, true≢false, not, ◌&&◌, ◌==◌, Some, None, is_some, [], ◌∷◌, ◌++◌}
+use Rattle.std.specs.List.{slice_get}
 use Rattle.std.proofs.lemmas.Bool.{both_ways}
+use Rattle.std.proofs.lemmas.Option.{same_Some}
 use Rattle.sides.specs.declared.side.Side.{Side}
 use Rattle.sides.specs.declared.side.Side.TheVariants.{A, B}
 use Rattle.sides.specs.Side.{peer}
 use Rattle.subflow_send.specs.Records.{Record}
+use Rattle.subflow_tcp.specs.States.{is_dead}
+use Rattle.subflow_tcp.specs.declared.handshake.State.{State}
+use Rattle.subflow_tcp.specs.declared.handshake.State.TheVariants as phase
 use Rattle.path_agenda.specs.Agenda.{breaks, resets}
 use Rattle.path_core.specs.Choices.{is_side_a}
+use Rattle.path_core.specs.MpJoin.{is_joined}
+use Rattle.path_core.specs.Standing.{is_connected}
 use Rattle.path_core.specs.State.{PathState, end_at}
 use Rattle.path_core.specs.Values.{Carried, values}
 use Rattle.world_laws.specs.declared.member.Member.TheVariants.{App, Path}
-use Rattle.world_laws.specs.Actors.{Actor}
+use Rattle.world_laws.specs.Actors.{Actor, ActorCrew}
 use Rattle.world_laws.specs.Members.{HoldsOfKind}
 use Rattle.world_laws.specs.Openings.{opened_world}
 use Rattle.world_laws.specs.Worlds.{WorldState, after_turn, world_run}
 use Rattle.world_laws.proofs.Weaving.WholeRounds.{run_append}
+use Rattle.whole_paths.specs.AsFar.{IsActorAsFar, IsEndAsFar, IsPathAsFar, stage}
 use Rattle.whole_paths.specs.Brought.{IsToReset}
 use Rattle.whole_paths.specs.Brought.IsToReset.{broken, is_reset, stopped}
 use Rattle.whole_paths.specs.Exchanges.{IsAstray}
 use Rattle.whole_paths.specs.Exchanges.{IsAstray as stray}
 use Rattle.whole_paths.specs.Mild.{BreaksForMissing, EndsGoByMappings, EndsHaveKeys, HardlyBreaks, HasKeys, IsHardlyBroken, KeysAreKnown, MappingIsKept}
-use Rattle.whole_paths.specs.Straying.{HardlyStrays, IsHardlyAstray, IsOpen, OpenEndsHardlyStray}
+use Rattle.whole_paths.specs.Straying.{HardlyStrays, IsHardlyAstray, IsOpen, IsOpenBetween, OpenEndsHardlyStray, WholePathsAreOpen}
 use Rattle.whole_paths.specs.Straying.{IsHardlyAstray as hardly}
 use Rattle.whole_paths.proofs.Breaking.{hardly_breaks}
+use Rattle.whole_paths.proofs.GoesOn.{goes_on_so}
 use Rattle.whole_paths.proofs.Keyed.{keys_are_known}
 use Rattle.whole_paths.proofs.Mild.{mapping_is_kept}
 
@@ -74,3 +83,47 @@ open_ends_hardly_stray start turns turn mild actor c d was now =
     let keys : KeysAreKnown v = subst KeysAreKnown same (keys_are_known start (turns ++ turn ∷ []) mild) in
     let breaks_so : HardlyBreaks v = subst HardlyBreaks same (hardly_breaks start (turns ++ turn ∷ []) mild) in
     member_strays c.member d.member ((mapping_is_kept start turns mild).each actor c was) (mapped.each actor d now) (keys.each actor d now) (breaks_so.each actor d now)
+
+-- ---- a path that is whole, and still is later
+
+connected_stage : (state : State) → is_connected state ≡ true → (3 ≤ stage state) × (stage state ≤ 6)
+connected_stage phase.Waiting is = absurd (true≢false (sym is))
+connected_stage phase.Listen is = absurd (true≢false (sym is))
+connected_stage phase.SynSent is = absurd (true≢false (sym is))
+connected_stage phase.SynReceived is = absurd (true≢false (sym is))
+connected_stage phase.Dead is = absurd (true≢false (sym is))
+connected_stage _ is = (omega arith, omega arith)
+
+alive : (state : State) → stage state ≤ 6 → is_dead state ≡ false
+alive phase.Dead low = absurd (omega (arith, low))
+alive _ low = refl
+
+end_far : {C : Type 0} (p q : PathState C) → IsPathAsFar p q → (s : Side) → IsEndAsFar (end_at s p) (end_at s q)
+end_far p q h A = h.a
+end_far p q h B = h.b
+
+open_between : (p q r : PathState Carried) → IsPathAsFar p q → IsPathAsFar q r → ((s : Side) → is_connected (end_at s p).tcp.state ≡ true) → ((s : Side) → (end_at s p).modes.clear ≡ true)
+    → ((s : Side) → is_connected (end_at s r).tcp.state ≡ true) → is_joined q.profile ≡ false → IsOpen q
+open_between p q r before after was clear is first = record {
+  first = first;
+  past = λ s. let low = (connected_stage (end_at s p).tcp.state (was s)).0 in let up = (end_far p q before s).subflow.state in omega (arith, low, up);
+  living = λ s. alive (end_at s q).tcp.state (let high = (connected_stage (end_at s r).tcp.state (is s)).1 in let up = (end_far q r after s).subflow.state in omega (arith, high, up));
+  clear = λ s. (end_far p q before s).clear (clear s);
+}
+
+member_open : (l m n : Actor Carried) (p r : PathState Carried) → l ≡ Path p → n ≡ Path r → IsActorAsFar l m → IsActorAsFar m n → ((s : Side) → is_connected (end_at s p).tcp.state ≡ true)
+    → ((s : Side) → (end_at s p).modes.clear ≡ true) → ((s : Side) → is_connected (end_at s r).tcp.state ≡ true) → IsOpenBetween m
+member_open l (Path q) n p r from to before after was clear is =
+    open_between p q r (subst (λ x. IsActorAsFar x (Path q)) from before) (subst (λ x. IsActorAsFar (Path q) x) to after) was clear is
+member_open l (App a) n p r from to before after was clear is = subst (λ x. IsActorAsFar x (App a)) from before
+
+pub whole_paths_are_open : WholePathsAreOpen
+whole_paths_are_open w more later one other c there =
+    let v : WorldState Carried = world_run values more w in
+    let first = (goes_on_so values w more).crew 2 one.here.crew one.here.there in
+    let then_on = (goes_on_so values v later).crew 2 c there in
+    let last : slice_get (world_run values later v).crew 2 ≡ Some other.here.crew = subst (λ (u : WorldState Carried). slice_get u.crew 2 ≡ Some other.here.crew) (run_append values more later w) other.here.there in
+    member_open one.here.crew.member c.member other.here.crew.member one.path other.path one.here.is other.here.is
+    (subst (λ (x : ActorCrew Carried). IsActorAsFar one.here.crew.member x.member) (same_Some first.0 c (sym first.1 ∙ there)) first.2.member)
+    (subst (λ (x : ActorCrew Carried). IsActorAsFar c.member x.member) (same_Some then_on.0 other.here.crew (sym then_on.1 ∙ last)) then_on.2.member)
+    one.connected one.clear other.connected

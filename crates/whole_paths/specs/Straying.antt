@@ -1,5 +1,5 @@
 -- What may come between in an exchange of a mild connection, where both ends of path 0 are open and may send a DSS.
-use Rattle.std.specs.Prelude.{ℕ, ◌+◌, ◌≡◌, ◌≤◌, ◌⊎◌, true, false, Some, List, slice_get}
+use Rattle.std.specs.Prelude.{ℕ, ◌+◌, ◌≡◌, ◌≤◌, ◌⊎◌, true, false, Some, List, ◌++◌, slice_get}
 use Rattle.sides.specs.declared.side.Side.{Side}
 use Rattle.sides.specs.Side.{peer}
 use Rattle.path_segments.specs.Spelled.{PlainSegment}
@@ -13,13 +13,14 @@ use Rattle.path_core.specs.Handover.{handed}
 use Rattle.path_core.specs.MpJoin.{is_joined}
 use Rattle.path_core.specs.State.{PathState, end_at}
 use Rattle.path_core.specs.Values.{Carried, values}
-use Rattle.world_laws.specs.declared.member.Member.TheVariants.{Path}
+use Rattle.world_laws.specs.declared.member.Member.TheVariants.{App, Path}
 use Rattle.world_laws.specs.Actors.{Actor, ActorCrew}
 use Rattle.world_laws.specs.Openings.{Start, opened_world}
-use Rattle.world_laws.specs.Worlds.{Turn, after_turn, world_run}
+use Rattle.world_laws.specs.Worlds.{WorldState, Turn, after_turn, world_run}
 use Rattle.whole_paths.specs.AsFar.{stage}
 use Rattle.whole_paths.specs.Copies.{IsUnderWay}
 use Rattle.whole_paths.specs.Exchanges.{IsAstray}
+use Rattle.whole_paths.specs.Finish.{IsWhole}
 use Rattle.whole_paths.specs.Mild.{IsMildStart, treats_answer}
 
 -- path 0, whose ends are past the handshake, may send a DSS and aren't dead
@@ -52,3 +53,14 @@ HardlyStrays _ _ = Unit {0}
 abbrev pub OpenEndsHardlyStray : Type 0
 OpenEndsHardlyStray = (start : Start) (turns : List Turn) (turn : Turn) → IsMildStart start → let w = world_run values turns (opened_world start) in
     (actor : ℕ) (c d : ActorCrew Carried) → slice_get w.crew actor ≡ Some c → slice_get (after_turn values turn w).crew actor ≡ Some d → HardlyStrays c.member d.member
+
+-- ---- a path that is whole, and still is later
+
+-- path 0, between two moments at which its ends are open and may send a DSS
+abbrev pub IsOpenBetween : Actor Carried → Type 0
+IsOpenBetween (Path p) = is_joined p.profile ≡ false → IsOpen p
+IsOpenBetween (App a) = ⊥
+
+abbrev pub WholePathsAreOpen : Type 0
+WholePathsAreOpen = (w : WorldState Carried) (more later : List Turn) → IsWhole 0 w → IsWhole 0 (world_run values (more ++ later) w)
+    → (c : ActorCrew Carried) → slice_get (world_run values more w).crew 2 ≡ Some c → IsOpenBetween c.member

@@ -44,7 +44,7 @@ ghost use Rattle.whole_paths.specs.Room.{WhoIsDoneMayAsk};
 ghost use Rattle.whole_paths.specs.Running.{TimersRunOn};
 ghost use Rattle.whole_paths.specs.Saying.{EachSegmentSaysWhatCame};
 ghost use Rattle.whole_paths.specs.Sent.{WhatCameWasSent};
-ghost use Rattle.whole_paths.specs.Straying.{OpenEndsHardlyStray};
+ghost use Rattle.whole_paths.specs.Straying.{OpenEndsHardlyStray, WholePathsAreOpen};
 ghost use Rattle.whole_paths.specs.Timers.{TimersRunOut};
 ghost use Rattle.whole_paths.specs.Waits.{NoTimerIsPutOff};
 
@@ -505,8 +505,11 @@ pub fn mild_scripts_hardly_break()
 /// A law: there an exchange goes astray on path 0 by few things alone, where both ends are past the handshake, may send a DSS and aren't dead,
 /// before a turn and after it: a third copy whose next byte has no mapping, a reset that a link takes, a FIN that an end is past, a copy past
 /// the window, or the SYN/ACK that A still treats. Neither end fell back, and each knows its peer's key.
+///
+/// Such are both ends of path 0 by each turn between two moments at which it is whole (`between`).
 pub fn open_ends_hardly_stray()
-    ensures { OpenEndsHardlyStray }
+    ensures stray { OpenEndsHardlyStray }
+    ensures between { WholePathsAreOpen }
 {}
 
 /// A law: what arrives as a copy is due, at its tick, at its side and with its number, carries what the copy does. So it is with the first
