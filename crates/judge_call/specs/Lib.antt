@@ -1,4 +1,5 @@
 pub mod Status
 pub mod Words
 pub mod Streams
+pub mod Plan
 pub mod Answers

@@ -1,12 +1,12 @@
 //! The judge's call.
 
-ghost use Rattle.std.specs.Prelude.{◌≡◌, ◌∷◌, [], Option, List, map, option_map, IfErr, OnOk, string_bytes};
+ghost use Rattle.std.specs.Prelude.{◌∷◌, [], Option, List, map, option_map, string_bytes};
 ghost use Rattle.outside_kit.specs.Calls as call;
 ghost use Rattle.outside_kit.specs.Calls.{Made};
 ghost use Rattle.capture_verdict.specs.Judging.{judged_capture};
 ghost use Rattle.rule_book.specs.State.{book_of, judged_of};
-ghost use Rattle.judge_call.specs.Answers.{IsAllPut, IsAnswer, IsAnswered, IsShown, IsTold};
-ghost use Rattle.judge_call.specs.Streams.{AddsAll, ArePutIf, IsPutFault};
+ghost use Rattle.judge_call.specs.Answers.{IsAnswer, IsAnswered, IsShown, IsTold};
+ghost use Rattle.judge_call.specs.Plan.{AddsAll, Does, Follows, puts_of, steps_if};
 ghost use Rattle.judge_call.specs.Words.{as_line, line_of};
 
 use crate::line::{CommandLine, read_line};
@@ -51,7 +51,7 @@ fn judge_octets<O: Outside>(
     octets: &[u8],
 ) -> Status
     ensures { (before : Option (List Made)) →
-        AddsAll (call.Load line.now.capture.now ∷ []) before (O.told outside.old).calls
+        AddsAll (Does (call.Load line.now.capture.now) ∷ []) before (O.told outside.old).calls
         → IsShown (as_line line.now)
         (judged_capture line.now.judging.at line.now.judging.check_sums octets.now) before
         (O.told outside.new).calls result }
@@ -71,7 +71,7 @@ fn tell<O: Outside>(
     judged: &Judged<'_>,
 ) -> Status
     ensures { (before : Option (List Made)) →
-        AddsAll (call.Load line.now.capture.now ∷ []) before (O.told outside.old).calls
+        AddsAll (Does (call.Load line.now.capture.now) ∷ []) before (O.told outside.old).calls
         → IsTold (as_line line.now) (judged_of judged.now) before (O.told outside.new).calls result }
 {
     match put_all(alloc, line.streams, outside, judged) {
@@ -80,16 +80,15 @@ fn tell<O: Outside>(
     }
 }
 
-#[tactic(auto, using(crate::proofs::Telling::memory_fault))]
+// The lines, and the streams where that is asked.
 fn put_all<O: Outside>(
     alloc: Global,
     prefix: Option<&str>,
     outside: &mut O,
     judged: &Judged<'_>,
 ) -> Result<(), Status>
-    ensures made { OnOk result (IsAllPut (option_map (λ text. text.now) prefix.entry)
-        (judged_of judged.now) (O.told outside.old).calls (O.told outside.new).calls) }
-    ensures fault { IfErr result (λ status. IsPutFault status (O.told outside.new).calls) }
+    ensures { Follows (puts_of (option_map (λ text. text.now) prefix.entry) (judged_of judged.now))
+        (O.told outside.old).calls (O.told outside.new).calls result }
 {
     let text = report(alloc, judged)?;
     put(outside, Port::Log, text.as_bytes())?;
@@ -103,9 +102,8 @@ fn put_if_asked<O: Outside>(
     outside: &mut O,
     books: &[Book<'_>],
 ) -> Result<(), Status>
-    ensures made { OnOk result (ArePutIf (option_map (λ text. text.now) prefix.entry)
-        (map book_of books.now) (O.told outside.old).calls (O.told outside.new).calls) }
-    ensures fault { IfErr result (λ status. IsPutFault status (O.told outside.new).calls) }
+    ensures { Follows (steps_if (option_map (λ text. text.now) prefix.entry) (map book_of books.now))
+        (O.told outside.old).calls (O.told outside.new).calls result }
 {
     match prefix {
         Some(prefix) => put_streams(alloc, outside, prefix, books),

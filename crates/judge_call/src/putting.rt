@@ -1,8 +1,8 @@
 //! What is put to an outside.
 
-ghost use Rattle.std.specs.Prelude.{◌≡◌, ◌∷◌, [], IfErr, OnOk};
+ghost use Rattle.std.specs.Prelude.{◌∷◌, []};
 ghost use Rattle.outside_kit.specs.Calls as call;
-ghost use Rattle.judge_call.specs.Streams.{AddsAll, IsPutFault};
+ghost use Rattle.judge_call.specs.Plan.{Does, Follows};
 
 use crate::status::Status;
 use outside_kit::{Outside, Port, PutFault};
@@ -13,9 +13,8 @@ use outside_kit::{Outside, Port, PutFault};
 ///
 /// `Put` where the device failed, `Memory` where there is no memory.
 pub(crate) fn bind<O: Outside>(outside: &mut O, port: Port, name: &str) -> Result<(), Status>
-    ensures made { OnOk result (AddsAll (call.Bind port name.now ∷ []) (O.told outside.old).calls
-        (O.told outside.new).calls) }
-    ensures fault { IfErr result (λ status. IsPutFault status (O.told outside.new).calls) }
+    ensures { Follows (Does (call.Bind port name.now) ∷ []) (O.told outside.old).calls
+        (O.told outside.new).calls result }
 {
     match outside.bind(port, name) {
         Ok(()) => Ok(()),
@@ -30,9 +29,8 @@ pub(crate) fn bind<O: Outside>(outside: &mut O, port: Port, name: &str) -> Resul
 ///
 /// `Put` where the device failed, `Memory` where there is no memory; then it may hold a first part of the piece.
 pub(crate) fn put<O: Outside>(outside: &mut O, port: Port, piece: &[u8]) -> Result<(), Status>
-    ensures made { OnOk result (AddsAll (call.Put port piece.now ∷ []) (O.told outside.old).calls
-        (O.told outside.new).calls) }
-    ensures fault { IfErr result (λ status. IsPutFault status (O.told outside.new).calls) }
+    ensures { Follows (Does (call.Put port piece.now) ∷ []) (O.told outside.old).calls
+        (O.told outside.new).calls result }
 {
     match outside.put(port, piece) {
         Ok(()) => Ok(()),

@@ -1,9 +1,10 @@
 //! The streams that both sides of each connection sent.
 
-ghost use Rattle.std.specs.Prelude.{◌≡◌, map, IfErr, IfOk, OnOk, string_bytes};
+ghost use Rattle.std.specs.Prelude.{◌≡◌, map, IfOk, string_bytes};
 ghost use Rattle.rule_book.specs.State.{book_of};
 ghost use Rattle.seen_streams.specs.Shows.{stream_of};
-ghost use Rattle.judge_call.specs.Streams.{stream_name, AreAllPut, AreBothPut, IsPut, IsPutFault};
+ghost use Rattle.judge_call.specs.Plan.{Follows, book_steps, books_steps, stream_steps};
+ghost use Rattle.judge_call.specs.Streams.{stream_name};
 
 use crate::putting::{bind, put};
 use crate::status::Status;
@@ -25,9 +26,8 @@ pub(crate) fn put_streams<O: Outside>(
     prefix: &str,
     books: &[Book<'_>],
 ) -> Result<(), Status>
-    ensures made { OnOk result (AreAllPut prefix.now 0 (map book_of books.now)
-        (O.told outside.old).calls (O.told outside.new).calls) }
-    ensures fault { IfErr result (λ status. IsPutFault status (O.told outside.new).calls) }
+    ensures { Follows (books_steps prefix.now 0 (map book_of books.now)) (O.told outside.old).calls
+        (O.told outside.new).calls result }
 {
     let mut number = 0;
     for book in books {
@@ -38,7 +38,6 @@ pub(crate) fn put_streams<O: Outside>(
 }
 
 // Writes both streams of a connection.
-#[tactic(auto, using(crate::proofs::Telling::memory_fault))]
 fn put_both<O: Outside>(
     alloc: Global,
     outside: &mut O,
@@ -46,9 +45,8 @@ fn put_both<O: Outside>(
     number: usize,
     book: &Book<'_>,
 ) -> Result<(), Status>
-    ensures made { OnOk result (AreBothPut prefix.now number (book_of book.now)
-        (O.told outside.old).calls (O.told outside.new).calls) }
-    ensures fault { IfErr result (λ status. IsPutFault status (O.told outside.new).calls) }
+    ensures { Follows (book_steps prefix.now number (book_of book.now)) (O.told outside.old).calls
+        (O.told outside.new).calls result }
 {
     let name = stream_name(alloc, prefix, number, Side::A)?;
     put_stream(alloc, outside, Port::ReadByB, name.as_str(), &book.a)?;
@@ -65,7 +63,6 @@ fn stream_name(alloc: Global, prefix: &str, number: usize, side: Side) -> Result
 }
 
 // Writes a stream under a name.
-#[tactic(auto, using(crate::proofs::Telling::memory_fault))]
 fn put_stream<O: Outside>(
     alloc: Global,
     outside: &mut O,
@@ -73,9 +70,8 @@ fn put_stream<O: Outside>(
     name: &str,
     stream: &Stream<'_>,
 ) -> Result<(), Status>
-    ensures made { OnOk result (IsPut port name.now (stream_of stream.now).octet
-        (O.told outside.old).calls (O.told outside.new).calls) }
-    ensures fault { IfErr result (λ status. IsPutFault status (O.told outside.new).calls) }
+    ensures { Follows (stream_steps port name.now (stream_of stream.now).octet)
+        (O.told outside.old).calls (O.told outside.new).calls result }
 {
     let octets = sent_by(alloc, stream)?;
     bind(outside, port, name)?;

@@ -16,9 +16,9 @@ returns-in-Err-Block g c = λ before loaded.
     let shown = judged_capture judging.at judging.check_sums c.args.octets.now in
     rw c.in-Err-Block.octet-is
     (shown_block (as_line c.args.line.now) shown before _ c.in-Err-Block.octet
-    (subst (λ fault. Fails fault shown) c.in-Err-Block.field-0-is c.in-Err-Block.ensures.exact))
+    (subst (λ fault. Fails fault shown) c.in-Err-Block.field-0-is c.in-Err-Block.ensures.exact) loaded)
 
 pub returns-in-Err-Memory : goal.returns-in-Err-Memory
 returns-in-Err-Memory g c = λ before loaded.
     let judging = c.args.line.now.judging in
-    memory_shown (as_line c.args.line.now) (judged_capture judging.at judging.check_sums c.args.octets.now) before (g.O.Outside.told c.args.outside.now).calls
+    memory_shown (as_line c.args.line.now) (judged_capture judging.at judging.check_sums c.args.octets.now) before (g.O.Outside.told c.args.outside.now).calls loaded
