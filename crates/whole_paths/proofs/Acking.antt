@@ -56,6 +56,7 @@ use Rattle.world_laws.specs.Members.{HoldsOfKind}
 use Rattle.world_laws.specs.StampedBooks.{answer_to}
 use Rattle.world_laws.specs.Worlds.{WorldState, Turn, after_turn}
 use Rattle.world_laws.proofs.Whole.Ends.{MeansIs, means_so}
+use Rattle.world_laws.specs.Writes.{side_of}
 use Rattle.whole_paths.specs.AgendaSteps.{is_silent}
 use Rattle.whole_paths.specs.Answered.{CopiesAreAnswered, HasAnswered}
 use Rattle.whole_paths.specs.AsFar.{stage}
@@ -73,15 +74,15 @@ use Rattle.whole_paths.specs.Owed.IsAnswered.{owes}
 use Rattle.whole_paths.specs.Owed.{AnswerGoesOn as goes}
 use Rattle.whole_paths.specs.Passed.{HasPassed, WhatIsInOrderIsPassed}
 use Rattle.whole_paths.specs.Saying.{SaysWhatCame, HandsOver, PathsHandOver}
-use Rattle.whole_paths.specs.Saying.{SaysWhatCame as say}
 use Rattle.whole_paths.proofs.Agendas.{own_end}
 use Rattle.whole_paths.proofs.Bringing.{coming_by, comes_so, first_so, what_comes_is_kept}
 use Rattle.whole_paths.proofs.Flying.{Frames, FramesStay, frames_stay}
 use Rattle.whole_paths.proofs.Knowing.{what_is_told_is_known}
 use Rattle.whole_paths.proofs.Passing.{Resets, past_stage, silent_resets}
-use Rattle.whole_paths.proofs.Paying.{StillOwed, Turned, TurnedTo, takes_turned, turned_to, settled_due, past_opening, AnswersComeSo, GoesSo, answers_come_so}
+use Rattle.whole_paths.proofs.Paying.{StillOwed, Turned, TurnedTo, takes_turned, turned_to, settled_due, past_opening, AnswersComeSo, GoesSo, answers_come_so, refusing, sends_on}
 use Rattle.whole_paths.proofs.Paying.{StillOwed as owing}
-use Rattle.whole_paths.proofs.Saying.{ToSend, each_segment_says_what_came}
+use Rattle.whole_paths.proofs.Saying.{AllSpeak, Speaks, ToSend, duty_speaks, each_segment_says_what_came, resets_by}
+use Rattle.whole_paths.proofs.Saying.{Speaks as spoken}
 use Rattle.whole_paths.proofs.Turns.{turn_each}
 use Rattle.whole_paths.proofs.Waiting.{gone_stays}
 
@@ -276,15 +277,21 @@ module _ {C : Type 0} where
       abbrev sent : PlainSegment
       sent = segment_sent p t
 
-      says_so : SaysWhatCame (end_at s p) sent → q.link ≡ handed k s sent p → Then
-      says_so (say.acknowledges is speaks) taken = by (end_at s p).modes.peer_infinite refl
+      says_so : Speaks (end_at s p) sent → Then
+      says_so (spoken.acks is speaks) = by (end_at s p).modes.peer_infinite refl
         where
           by : (o : Option InfiniteMapping) → (end_at s p).modes.peer_infinite ≡ o → Then
           by None finite = absurd (not_short speaks finite)
           by (Some mapping) is = (hand.infinite (ap is_some is), tt)
-      says_so (say.opens state none) taken = absurd (past_opening (end_at s p).tcp.state h.opened state)
-      says_so (say.resets is) taken = (hand.answered (goes.resets sent (inl is) taken), tt)
-      says_so (say.refuses answer is reset) taken = (hand.answered (goes.resets sent (inr (answer, (is, reset))) taken), tt)
+      says_so (spoken.syns state none) = absurd (past_opening (end_at s p).tcp.state h.opened state)
+
+      -- unless it is a reset
+      speaks_so : (d : Duty) (others : List Duty) → p.agenda ≡ d ∷ others → sends_on d ≡ true → side_of d ≡ s → Then
+      speaks_so d others first on side = by (resets_by d) refl
+        where
+          by : (b : Bool) → resets_by d ≡ b → Then
+          by true may = (hand.answered (goes.resets (refusing d s others p.agenda on may side first)), tt)
+          by false none = says_so (subst (λ u. Speaks (end_at u p) (segment_sent p t)) own (subst (λ (o : Option ToSend). AllSpeak o p) (sym (ap (λ ds. first_sends ds p) first) ∙ sends) (duty_speaks d p none)))
 
     module _ (turned : Turned p q) (answered : HasAnswered p) where
       -- unless the end is dead, and stays so
@@ -298,11 +305,11 @@ module _ {C : Type 0} where
       short_goes : Frames p q → KeepsWhatComes k p q → KnowsWhatIsTold k p q → HandsOver k p q → HasPassed p → EndsAreLive p → (end_at s p).tcp.recv.edge < position → StillOwed s p q → Then
       short_goes frames keeps knows hands passed live short (owing.keeps d others first other due) = holds_on turned frames keeps knows d others first (frames.stands d others first other) (due h.due)
       short_goes frames keeps knows hands passed live short (owing.has_died gone) = (hand.answered (goes.gone gone), tt)
-      short_goes frames keeps knows hands passed live short (owing.is_sent t sends own) = if_living (λ living. ⊎_elim
+      short_goes frames keeps knows hands passed live short (owing.is_sent d others first on side t sends own) = if_living (λ living. ⊎_elim
           (λ same. (hand.on (subst (IsInHand s position by_then) (sym same) h), tt))
-          (λ taken. says_so t sends own short live
+          (λ taken. speaks_so t sends own short live
           (subst (λ (o : Option ToSend). IfSome o (λ t. t.from ≡ s → (segment_sent p t).rst ≡ false → piece_of s p ≡ None)) sends (passed s living).sends own)
-          (subst (λ u. SaysWhatCame (end_at u p) (segment_sent p t)) own taken.1) (subst (λ u. q.link ≡ handed k u (segment_sent p t) p) own taken.0))
+          d others first on side)
           (subst (λ (o : Option ToSend). IfSome o (λ t. (q ≡ p) ⊎ ((q.link ≡ handed k t.from (segment_sent p t) p) × SaysWhatCame (end_at t.from p) (segment_sent p t)))) sends hands.sends))
       short_goes frames keeps knows hands passed live short (owing.rests same) = (hand.on (subst (IsInHand s position by_then) (sym same) h), tt)
       short_goes frames keeps knows hands passed live short (owing.is_done is) = if_living (λ living. absurd (true≢false (sym h.due ∙ (answered is s living).ack)))

@@ -208,7 +208,7 @@ module _ {C : Type 0} where
       breaks_follows gone false reason = follows.is_reset may reason
 
       fell_follows : (gone : Bool) (o : Reply) → Follows s gone d ds (fell_duties s o q)
-      fell_follows gone (replies.Control (control_replies.Verdict (verdicts.Went modes.Identity))) = follows.told treats (duties.Ask (ask_duties.GoIdentity s)) refl refl (inl refl)
+      fell_follows gone (replies.Control (control_replies.Verdict (verdicts.Went modes.Identity))) = follows.told treats (duties.Ask (ask_duties.GoIdentity s)) refl refl refl (inl refl)
       fell_follows gone (replies.Control (control_replies.Verdict (verdicts.BreakPath reason))) = breaks_follows gone (end_at s p).treated.asked reason
       fell_follows gone _ = follows.goes_on
 
@@ -234,10 +234,10 @@ module _ {C : Type 0} where
       keys_follow (Some keys) = follows.goes_on
 
       join_follows : (joins : hears_join d ≡ true) (keys : Option KeyPair) (asked : Option JoinSyn) → Next (join_taken s keys asked r q)
-      join_follows joins (Some keys) (Some asked) = follows.told treats (duties.Send (send_duties.SynAck s)) refl refl (inr joins)
-      join_follows joins None (Some asked) = follows.told treats (duties.Send (send_duties.Refuse s)) refl refl (inr joins)
-      join_follows joins (Some keys) None = follows.told treats (duties.Send (send_duties.Refuse s)) refl refl (inr joins)
-      join_follows joins None None = follows.told treats (duties.Send (send_duties.Refuse s)) refl refl (inr joins)
+      join_follows joins (Some keys) (Some asked) = follows.told treats (duties.Send (send_duties.SynAck s)) refl refl refl (inr joins)
+      join_follows joins None (Some asked) = follows.told treats (duties.Send (send_duties.Refuse s)) refl refl refl (inr joins)
+      join_follows joins (Some keys) None = follows.told treats (duties.Send (send_duties.Refuse s)) refl refl refl (inr joins)
+      join_follows joins None None = follows.told treats (duties.Send (send_duties.Refuse s)) refl refl refl (inr joins)
 
       plain_ack_follows : Next (answered_plain_ack k s r q)
       plain_ack_follows = by (breaks_by_ack p.profile (end_at s p))
@@ -247,7 +247,7 @@ module _ {C : Type 0} where
           by false = fell_follows _ r
 
       told_follows : (gone b : Bool) → Follows s gone d ds (told_next s b q)
-      told_follows gone true = follows.told treats (duties.Ask (ask_duties.AckHeard s)) refl refl (inl refl)
+      told_follows gone true = follows.told treats (duties.Ask (ask_duties.AckHeard s)) refl refl refl (inl refl)
       told_follows gone false = follows.goes_on
 
       mapping_follows : Next (answered_mapping k s r q)
@@ -267,7 +267,7 @@ module _ {C : Type 0} where
       item_follows (Some (says.Mapping fin)) = mapping_follows
       item_follows (Some (says.DataFin place)) = fell_follows _ r
       item_follows (Some (says.InfiniteMapping place position)) = fell_follows _ r
-      item_follows (Some says.Fail) = fail_answered_so Next s r q (follows.told treats (duties.Ask (ask_duties.FailHeard s)) refl refl (inl refl)) (fell_follows _ r)
+      item_follows (Some says.Fail) = fail_answered_so Next s r q (follows.told treats (duties.Ask (ask_duties.FailHeard s)) refl refl refl (inl refl)) (fell_follows _ r)
       item_follows (Some (says.FastClose key)) = stopped_follows _ (is_stopped_by r)
       item_follows (Some _) = follows.goes_on
 

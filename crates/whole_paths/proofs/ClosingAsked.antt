@@ -33,7 +33,7 @@ module _ (c : Profile) (s : Side) (e : PathEnd) (place : ℕ) (h : OwesItsEnd pl
   abbrev said : PlainSegment
   said = ack_said c s e.tcp.send.nxt e.sending.known_end e
 
-  asks_so : ack_resent c s e ≡ said
+  pub asks_so : ack_resent c s e ≡ said
   asks_so =
       ap (λ b. if b then ack_said c s e.tcp.send.nxt None e
       else (if e.notices.fast_closed then carried_said c s e.notices.carrier e

@@ -40,10 +40,10 @@ use Rattle.whole_paths.proofs.Saying.{ToSend}
 -- ---- an end that may send a DSS, in no fallback
 
 -- the first option is a DSS with the Data ACK of what the side received
-record HasDataAck (next : ℕ) (options : List PlainOption) : Type 0 where
-  mapping : Option (PathMapping ℕ)
-  others : List PlainOption
-  is : options ≡ Dss (Some next) mapping ∷ others
+pub record HasDataAck (next : ℕ) (options : List PlainOption) : Type 0 where
+  pub mapping : Option (PathMapping ℕ)
+  pub others : List PlainOption
+  pub is : options ≡ Dss (Some next) mapping ∷ others
 
 has : (next : ℕ) (mapping : Option (PathMapping ℕ)) (others : List PlainOption) → HasDataAck next (Dss (Some next) mapping ∷ others)
 has next mapping others = record { mapping = mapping; others = others; is = refl }
@@ -64,7 +64,7 @@ module _ (c : Profile) (s : Side) (e : PathEnd) (clear : e.modes.clear ≡ true)
   infinite_has None options h = h
   infinite_has (Some mapping) options h = has _ _ _
 
-  ack_has : (fin : Option ℕ) → Has (ack_options c s fin e)
+  pub ack_has : (fin : Option ℕ) → Has (ack_options c s fin e)
   ack_has fin = mapped_has [] _ (by e.modes.clear clear)
     where
       by : (b : Bool) → b ≡ true → Has (if b then Dss (Some e.receiving.next) (data_fin_mapping c s fin) ∷ fail_beside fin e.modes else opening_options c s e)

@@ -1,5 +1,5 @@
 -- What an end asks again that has no record left comes to the peer, whatever is lost.
-use Rattle.std.proofs.Common.{◌≡◌, refl, sym, subst, ap, ◌∙◌, ◌⊎◌, inl, inr, ⊎_elim, ℕ, ◌+◌, ◌-◌, ◌^◌, ◌<◌, ◌≤◌, max, false, true≢false, if◌then◌else◌, Option, Some, None, IfSome, List, [], ◌∷◌, length, arith}
+use Rattle.std.proofs.Common.{◌≡◌, refl, sym, subst, ap, ◌∙◌, ◌⊎◌, inl, inr, ⊎_elim, ℕ, ◌+◌, ◌-◌, ◌^◌, ◌<◌, ◌≤◌, max, Bool, false, true≢false, if◌then◌else◌, Option, Some, None, IfSome, List, [], ◌∷◌, length, arith}
 use Rattle.std.specs.Prelude.{IsSome}
 use Rattle.std.specs.List.{slice_get}
 use Rattle.std.proofs.lemmas.Bool.{cases_lt}
@@ -23,20 +23,24 @@ use Rattle.path_agenda.specs.declared.duty.AskDuty.TheVariants as ask_duties
 use Rattle.path_agenda.specs.declared.duty.SendDuty.TheVariants as send_duties
 use Rattle.path_core.specs.Codec.{Codec}
 use Rattle.path_core.specs.Emission.{ack_resent, first_record}
+use Rattle.path_core.specs.End.{PathEnd}
 use Rattle.path_core.specs.Handover.{handed}
 use Rattle.path_core.specs.Looking.{first_sends, segment_sent}
 use Rattle.path_core.specs.Octets.{made}
 use Rattle.path_core.specs.OptionsOut.{record_or_ack}
 use Rattle.path_core.specs.Profile.{Profile}
+use Rattle.path_core.specs.Shown.{AltersNothing}
 use Rattle.path_core.specs.State.{PathState, end_at}
 use Rattle.path_core.specs.declared.events.Event.TheVariants as happenings
 use Rattle.world_laws.specs.declared.member.Member.TheVariants.{App, Path}
 use Rattle.world_laws.specs.Actors.{Actor, ActorCrew}
 use Rattle.world_laws.specs.Members.{HoldsOfKind}
-use Rattle.world_laws.specs.Worlds.{WorldState, Turn, after_turn}
+use Rattle.world_laws.specs.NeverFalls.{StripsNothing}
+use Rattle.world_laws.specs.Openings.{Start, opened_world}
+use Rattle.world_laws.specs.Worlds.{WorldState, Turn, after_turn, world_run}
 use Rattle.whole_paths.specs.Copies.{IsUnderWay, GoesOnItsWay, CopiesGoOn}
 use Rattle.whole_paths.specs.Copies.{GoesOnItsWay as copy}
-use Rattle.whole_paths.specs.DataAcksAsked.{IsAsking, IsAskedAgain, AskingGoesOn, AsksGoOn, IsAskedAtTheEnd, WhatIsAskedComes}
+use Rattle.whole_paths.specs.DataAcksAsked.{IsAsking, IsAskedAgain, AskingGoesOn, IsAskedSo, AskComesSo, AsksGoOn, IsAskedAtTheEnd, WhatIsAskedComes}
 use Rattle.whole_paths.specs.DataAcksAsked.IsAskedAgain.{waits, resends, flies}
 use Rattle.whole_paths.specs.DataAcksAsked.{AskingGoesOn as goes}
 use Rattle.whole_paths.specs.Expiries.{IsToSend, IsToSendAgain, PathsGoAgain, GoesAgain, Expires}
@@ -44,7 +48,7 @@ use Rattle.whole_paths.specs.Flights.{IsOnItsWay as way}
 use Rattle.whole_paths.specs.Harms.{harms_left, as_it_arrives, longest_way, IsOnTime}
 use Rattle.whole_paths.specs.InTime.{ComesFrom, NothingIsOverdue}
 use Rattle.whole_paths.specs.Kept.{IsSameRecord}
-use Rattle.whole_paths.specs.Reasons.{IsTimedWhereItWaits}
+use Rattle.whole_paths.specs.Reasons.{IsOutstanding, IsTimedWhereItWaits}
 use Rattle.whole_paths.specs.Running.{IsRunning, RunsOn, EndsRunOn}
 use Rattle.whole_paths.specs.Running.{RunsOn as run}
 use Rattle.whole_paths.specs.Saying.{SaysWhatCame, HandsOver, PathsHandOver}
@@ -75,43 +79,47 @@ module _ {C : Type 0} where
 
   -- ---- one turn of a path
 
-  module _ (k : Codec C) (s : Side) (by_then : ℕ) (p q : PathState C) (frames : Frames p q) where
+  module _ (k : Codec C) (s : Side) (by_then : ℕ) (p q : PathState C) (frames : Frames p q) (Was : PathEnd → Bool → Bool → Type 0)
+      (was : (end_at s p).tcp.send.records ≡ [] → Was (end_at s p) (is_stripped s (next_number s p.link) p.clock p.link.lines) (is_altered s (next_number s p.link) p.link.lines)) where
     abbrev Next : Type 0
-    Next = AskingGoesOn k s by_then p q
+    Next = (go : AskingGoesOn k s by_then p q) × AskComesSo Was go
 
-    same_on : q ≡ p → IsAskedAgain k s by_then p → Next
-    same_on same h = goes.on (subst (IsAskedAgain k s by_then) (sym same) h)
+    same_on : q ≡ p → (h : IsAskedAgain k s by_then p) → IsAskedSo Was h → Next
+    same_on same h so = let there = subst (λ v. (w : IsAskedAgain k s by_then v) × IsAskedSo Was w) (sym same) (h, so) in (goes.on there.0, there.1)
 
     -- the timer runs on, for this or for a record
     running_on : (tick : ℕ) → tick + longest_way s q.link ≤ by_then → IsRunning tick (end_at s q) → Next
     running_on tick low h = by (end_at s q).tcp.send.records refl
       where
         by : (rs : List Record) → (end_at s q).tcp.send.records ≡ rs → Next
-        by [] none = goes.on (waits tick low h none)
-        by (r ∷ others) is = goes.record_waits r (way.waits tick low (record { timer = h.timer; settled = h.settled; first = r; others = others; records = is; living = h.living })
-            (record { first = r; others = others; records = is; same = same_record r }))
+        by [] none = (goes.on (waits tick low h none), tt)
+        by (r ∷ others) is = (
+          goes.record_waits r (way.waits tick low (record { timer = h.timer; settled = h.settled; first = r; others = others; records = is; living = h.living })
+              (record { first = r; others = others; records = is; same = same_record r })),
+          tt,
+        )
 
     sending_on : q.clock + longest_way s q.link ≤ by_then → IsToSendAgain s q → Next
     sending_on low next = by (end_at s q).tcp.send.records refl
       where
         by : (rs : List Record) → (end_at s q).tcp.send.records ≡ rs → Next
-        by [] none = goes.on (resends low next none)
-        by (r ∷ others) is = goes.record_waits r (way.resends low next (record { first = r; others = others; records = is; same = same_record r }))
+        by [] none = (goes.on (resends low next none), tt)
+        by (r ∷ others) is = (goes.record_waits r (way.resends low next (record { first = r; others = others; records = is; same = same_record r })), tt)
 
     waits_goes : GoesAgain k p q → ComesFrom p.clock p → (tick : ℕ) → tick + longest_way s p.link ≤ by_then → IsRunning tick (end_at s p) → (end_at s p).tcp.send.records ≡ [] → RunsOn s tick p q → Next
     waits_goes again past tick low h none (run.on on) = running_on tick (let way = frames.way s in omega (arith, way, low)) on
-    waits_goes again past tick low h none (run.news news) = goes.news news
-    waits_goes again past tick low h none (run.gone gone) = goes.gone gone
-    waits_goes again past tick low h none (run.done done) = goes.done done
+    waits_goes again past tick low h none (run.news news) = (goes.news news, tt)
+    waits_goes again past tick low h none (run.gone gone) = (goes.gone gone, tt)
+    waits_goes again past tick low h none (run.done done) = (goes.done done, tt)
     waits_goes again past tick low h none (run.runs_out at out) = ⊎_elim
-        (λ same. same_on same (waits tick low h none))
-        (λ expired. ⊎_elim (λ same. same_on same (waits tick low h none)) (λ clock. ran_out expired clock) (frames.moves (happenings.Fires s at) out.others out.first out.next))
+        (λ same. same_on same (waits tick low h none) tt)
+        (λ expired. ⊎_elim (λ same. same_on same (waits tick low h none) tt) (λ clock. ran_out expired clock) (frames.moves (happenings.Fires s at) out.others out.first out.next))
         (again.fires s at out)
       where
         ran_out : Expires s p q → q.clock ≡ max p.clock at → Next
         ran_out expired clock = ⊎_elim
             (λ few. sending_on in_time (expired.again few).next)
-            (λ many. goes.gone (expired.sixth many))
+            (λ many. (goes.gone (expired.sixth many), tt))
             (cases_lt (end_at s p).tcp.timing.expiries 5)
           where
             in_time : q.clock + longest_way s q.link ≤ by_then
@@ -121,10 +129,10 @@ module _ {C : Type 0} where
                 let way = frames.way s in
                 omega (arith, clock, early, from, way, low)
 
-    flown : (x : PlainSegment) → x ≡ ack_resent p.profile s (end_at s p) → q.link ≡ handed k s x p → p.clock + longest_way s p.link ≤ by_then → segments_sent s p.link < 2 ^ 64 - 1 → Next
-    flown x asks taken low few = ⊎_elim
-        (λ less. goes.harmed (subst (λ (l : LinkState C). harms_left l < harms_left p.link) (sym taken) less))
-        (λ comes. ⊎_elim (λ lost. goes.lost x asks taken lost) by comes.1)
+    flown : (x : PlainSegment) → x ≡ ack_resent p.profile s (end_at s p) → q.link ≡ handed k s x p → (end_at s p).tcp.send.records ≡ [] → p.clock + longest_way s p.link ≤ by_then → segments_sent s p.link < 2 ^ 64 - 1 → Next
+    flown x asks taken none low few = ⊎_elim
+        (λ less. (goes.harmed (subst (λ (l : LinkState C). harms_left l < harms_left p.link) (sym taken) less), tt))
+        (λ comes. ⊎_elim (λ lost. (goes.lost x asks taken lost, tt)) by comes.1)
         (each_uses_a_line_or_comes (k.strips p.profile.spelling) (k.alters p.profile.spelling) s (k.makes p.profile.spelling s x) size p.clock p.link few)
       where
         size : ℕ
@@ -134,20 +142,25 @@ module _ {C : Type 0} where
         after = handed k s x p
 
         by : Has (IsOnTime s size p.clock (as_it_arrives (k.strips p.profile.spelling) (k.alters p.profile.spelling) s (k.makes p.profile.spelling s x) p.clock p.link) p.link) after.under_way → Next
-        by has = goes.on (flies has.item (let in_time = has.holds.in_time in omega (arith, in_time, low))
-            (subst (λ (l : LinkState C). Has (λ g. g ≡ has.item) l.under_way) (sym taken) (record { at = has.at; item = has.item; there = has.there; holds = refl }))
-            (record {
-              to = has.holds.to;
-              sender = end_at s p;
-              stripped = is_stripped s (next_number s p.link) p.clock p.link.lines;
-              altered = is_altered s (next_number s p.link) p.link.lines;
-              carried = subst (λ (c : Profile). has.item.carried
-                  ≡ changed (k.strips c.spelling s) (k.alters c.spelling s) (is_stripped s (next_number s p.link) p.clock p.link.lines) (is_altered s (next_number s p.link) p.link.lines)
-                  (k.makes c.spelling s (ack_resent c s (end_at s p)))) (sym frames.profile)
-                  (subst (λ (y : PlainSegment). has.item.carried
-                  ≡ changed (k.strips p.profile.spelling s) (k.alters p.profile.spelling s) (is_stripped s (next_number s p.link) p.clock p.link.lines) (is_altered s (next_number s p.link) p.link.lines)
-                  (k.makes p.profile.spelling s y)) asks has.holds.carried);
-            }))
+        by has = (
+          goes.on (flies has.item (let in_time = has.holds.in_time in omega (arith, in_time, low))
+              (subst (λ (l : LinkState C). Has (λ g. g ≡ has.item) l.under_way) (sym taken) (record { at = has.at; item = has.item; there = has.there; holds = refl }))
+              (record {
+                to = has.holds.to;
+                sender = end_at s p;
+                stripped = is_stripped s (next_number s p.link) p.clock p.link.lines;
+                altered = is_altered s (next_number s p.link) p.link.lines;
+                whole = λ strips. (subst StripsNothing frames.lines strips).strips s (next_number s p.link) p.clock;
+                plain = λ alters. (subst AltersNothing frames.lines alters).alters s (next_number s p.link);
+                carried = subst (λ (c : Profile). has.item.carried
+                    ≡ changed (k.strips c.spelling s) (k.alters c.spelling s) (is_stripped s (next_number s p.link) p.clock p.link.lines) (is_altered s (next_number s p.link) p.link.lines)
+                    (k.makes c.spelling s (ack_resent c s (end_at s p)))) (sym frames.profile)
+                    (subst (λ (y : PlainSegment). has.item.carried
+                    ≡ changed (k.strips p.profile.spelling s) (k.alters p.profile.spelling s) (is_stripped s (next_number s p.link) p.clock p.link.lines) (is_altered s (next_number s p.link) p.link.lines)
+                    (k.makes p.profile.spelling s y)) asks has.holds.carried);
+              })),
+          was none,
+        )
 
     -- what goes in the place of the first record
     abbrev resent : PlainSegment
@@ -164,11 +177,11 @@ module _ {C : Type 0} where
     sent_so hands is none low few = by (subst (λ ds. IfSome (first_sends ds p) Sent) is hands.sends)
       where
         by : (q ≡ p) ⊎ ((q.link ≡ handed k s resent p) × SaysWhatCame (end_at s p) resent) → Next
-        by sent = ⊎_elim (λ same. same_on same (resends low (inr is) none)) (λ taken. flown resent (resent_asks none) taken.0 low few) sent
+        by sent = ⊎_elim (λ same. same_on same (resends low (inr is) none) tt) (λ taken. flown resent (resent_asks none) taken.0 none low few) sent
 
     resends_goes : GoesAgain k p q → HandsOver k p q → p.clock + longest_way s p.link ≤ by_then → segments_sent s p.link < 2 ^ 64 - 1 → IsToSendAgain s p → (end_at s p).tcp.send.records ≡ [] → Next
     resends_goes again hands low few (inl is) none = ⊎_elim
-        (λ same. same_on same (resends low (inl is) none))
+        (λ same. same_on same (resends low (inl is) none) tt)
         (λ given. sending_on still (inr given.0))
         (again.gives_back s is)
       where
@@ -176,36 +189,62 @@ module _ {C : Type 0} where
         still = let clock = frames.stands (duties.Ask (ask_duties.Return s)) (duties.Send (send_duties.Resend s) ∷ emission s) is refl in let way = frames.way s in omega (arith, clock, way, low)
     resends_goes again hands low few (inr is) none = sent_so hands is none low few
 
-    flies_goes : (f : Flight C) → f.tick ≤ by_then → IsUnderWay f p → IsAsking k s p f → GoesOnItsWay f p q → Next
-    flies_goes f low before h (copy.on there) = goes.on (flies f low there (record {
-      to = h.to;
-      sender = h.sender;
-      stripped = h.stripped;
-      altered = h.altered;
-      carried = subst (λ (c : Profile). f.carried ≡ changed (k.strips c.spelling s) (k.alters c.spelling s) h.stripped h.altered (k.makes c.spelling s (ack_resent c s h.sender))) (sym frames.profile) h.carried;
-    }))
-    flies_goes f low before h (copy.arrives others first next) = goes.arrives f low before h others first next
-    flies_goes f low before h (copy.dies line next is) = goes.dies line next is
+    flies_goes : (f : Flight C) → f.tick ≤ by_then → IsUnderWay f p → (h : IsAsking k s p f) → Was h.sender h.stripped h.altered → GoesOnItsWay f p q → Next
+    flies_goes f low before h so (copy.on there) = (
+      goes.on (flies f low there (record {
+        to = h.to;
+        sender = h.sender;
+        stripped = h.stripped;
+        altered = h.altered;
+        whole = λ strips. h.whole (subst StripsNothing frames.lines strips);
+        plain = λ alters. h.plain (subst AltersNothing frames.lines alters);
+        carried = subst (λ (c : Profile). f.carried ≡ changed (k.strips c.spelling s) (k.alters c.spelling s) h.stripped h.altered (k.makes c.spelling s (ack_resent c s h.sender))) (sym frames.profile) h.carried;
+      })),
+      so,
+    )
+    flies_goes f low before h so (copy.arrives others first next) = (goes.arrives f low before h others first next, so)
+    flies_goes f low before h so (copy.dies line next is) = (goes.dies line next is, tt)
 
-    goes_by : EndsRunOn (Path p) (Path q) → GoesAgain k p q → HandsOver k p q → CopiesGoOn (Path p) (Path q) → ComesFrom p.clock p → segments_sent s p.link < 2 ^ 64 - 1 → IsAskedAgain k s by_then p → Next
-    goes_by timers again hands copies past few (waits tick low h none) = waits_goes again past tick low h none (timers s tick h)
-    goes_by timers again hands copies past few (resends low is none) = resends_goes again hands low few is none
-    goes_by timers again hands copies past few (flies f low there h) = flies_goes f low there h (copies f there)
+    goes_by : EndsRunOn (Path p) (Path q) → GoesAgain k p q → HandsOver k p q → CopiesGoOn (Path p) (Path q) → ComesFrom p.clock p → segments_sent s p.link < 2 ^ 64 - 1
+        → (h : IsAskedAgain k s by_then p) → IsAskedSo Was h → Next
+    goes_by timers again hands copies past few (waits tick low h none) so = waits_goes again past tick low h none (timers s tick h)
+    goes_by timers again hands copies past few (resends low is none) so = resends_goes again hands low few is none
+    goes_by timers again hands copies past few (flies f low there h) so = flies_goes f low there h so (copies f there)
 
   -- ---- the world
 
   abbrev ComesInTime : Actor C → Type 0
   ComesInTime = HoldsOfKind (λ app. Unit {0}) (λ (p : PathState C). ComesFrom p.clock p)
 
-  asks_go_on : (k : Codec C) (m n : Actor C) → EndsRunOn m n → PathsGoAgain k m n → PathsHandOver k m n → CopiesGoOn m n → FramesStay m n → ComesInTime m → AsksGoOn k m n
-  asks_go_on k (App a) (App b) timers again hands copies frames past = tt
-  asks_go_on k (Path p) (Path q) timers again hands copies frames past = λ s by_then few h. goes_by k s by_then p q frames timers again hands copies past few h
-  asks_go_on k (App a) (Path q) timers again hands copies frames past = absurd timers
-  asks_go_on k (Path p) (App b) timers again hands copies frames past = absurd timers
+  -- what becomes of what is asked, with what held of each sender, which was so where the end had no record
+  abbrev pub AsksComeSo : (PathEnd → Bool → Bool → Type 0) → Codec C → Actor C → Actor C → Type 0
+  AsksComeSo Was k (Path p) (Path q) = (s : Side) (by_then : ℕ) → segments_sent s p.link < 2 ^ 64 - 1
+      → ((end_at s p).tcp.send.records ≡ [] → Was (end_at s p) (is_stripped s (next_number s p.link) p.clock p.link.lines) (is_altered s (next_number s p.link) p.link.lines))
+      → (h : IsAskedAgain k s by_then p) → IsAskedSo Was h → (go : AskingGoesOn k s by_then p q) × AskComesSo Was go
+  AsksComeSo Was k (App a) (App b) = Unit {0}
+  AsksComeSo Was k _ _ = ⊥
 
-  goes_on_so : (k : Codec C) (w : WorldState C) → NothingIsOverdue w → (turn : Turn) (actor : ℕ) (c : ActorCrew C) → slice_get w.crew actor ≡ Some c
-      → (d : ActorCrew C) × (slice_get (after_turn k turn w).crew actor ≡ Some d) × AsksGoOn k c.member d.member
-  goes_on_so k w past turn actor c there =
+  asks_go_on : (Was : PathEnd → Bool → Bool → Type 0) (k : Codec C) (m n : Actor C) → EndsRunOn m n → PathsGoAgain k m n → PathsHandOver k m n → CopiesGoOn m n → FramesStay m n → ComesInTime m → AsksComeSo Was k m n
+  asks_go_on Was k (App a) (App b) timers again hands copies frames past = tt
+  asks_go_on Was k (Path p) (Path q) timers again hands copies frames past = λ s by_then few was h so. goes_by k s by_then p q frames Was was timers again hands copies past few h so
+  asks_go_on Was k (App a) (Path q) timers again hands copies frames past = absurd timers
+  asks_go_on Was k (Path p) (App b) timers again hands copies frames past = absurd timers
+
+  -- whatever its sender
+  any_asker : {s : Side} {n : ℕ} {p : PathState C} (k : Codec C) (h : IsAskedAgain k s n p) → IsAskedSo (λ e strips alters. Unit {0}) h
+  any_asker k (waits tick low h none) = tt
+  any_asker k (resends low is none) = tt
+  any_asker k (flies f low there h) = tt
+
+  whoever_asks : (k : Codec C) (m n : Actor C) → AsksComeSo (λ e strips alters. Unit {0}) k m n → AsksGoOn k m n
+  whoever_asks k (App a) (App b) h = tt
+  whoever_asks k (Path p) (Path q) h = λ s by_then few way. (h s by_then few (λ none. tt) way (any_asker k way)).0
+  whoever_asks k (App a) (Path q) h = absurd h
+  whoever_asks k (Path p) (App b) h = absurd h
+
+  pub asks_come_so : (Was : PathEnd → Bool → Bool → Type 0) (k : Codec C) (w : WorldState C) → NothingIsOverdue w → (turn : Turn) (actor : ℕ) (c : ActorCrew C) → slice_get w.crew actor ≡ Some c
+      → (d : ActorCrew C) × (slice_get (after_turn k turn w).crew actor ≡ Some d) × AsksComeSo Was k c.member d.member
+  asks_come_so Was k w past turn actor c there =
       let timers = timers_run_on k w turn actor c there in
       let d : ActorCrew C = timers.0 in
       let again = what_runs_out_goes_again k w turn actor c there in
@@ -214,7 +253,7 @@ module _ {C : Type 0} where
       let frames = frames_stay k w turn actor c there in (
         d,
         timers.1,
-        asks_go_on k c.member d.member timers.2
+        asks_go_on Was k c.member d.member timers.2
             (subst (λ (x : ActorCrew C). PathsGoAgain k c.member x.member) (same_Some again.0 d (sym again.1 ∙ timers.1)) again.2)
             (subst (λ (x : ActorCrew C). PathsHandOver k c.member x.member) (same_Some hands.0 d (sym hands.1 ∙ timers.1)) hands.2)
             (subst (λ (x : ActorCrew C). CopiesGoOn c.member x.member) (same_Some copies.0 d (sym copies.1 ∙ timers.1)) copies.2)
@@ -222,31 +261,48 @@ module _ {C : Type 0} where
             (past.each actor c there),
       )
 
+  goes_on_so : (k : Codec C) (w : WorldState C) → NothingIsOverdue w → (turn : Turn) (actor : ℕ) (c : ActorCrew C) → slice_get w.crew actor ≡ Some c
+      → (d : ActorCrew C) × (slice_get (after_turn k turn w).crew actor ≡ Some d) × AsksGoOn k c.member d.member
+  goes_on_so k w past turn actor c there = let go = asks_come_so (λ e strips alters. Unit {0}) k w past turn actor c there in (go.0, go.1, whoever_asks k c.member go.0.member go.2)
+
   -- at the end of a turn
-  begins_so : (k : Codec C) (p : PathState C) → IsTimedWhereItWaits p → IsSettledAtTheEnd p → TimersAreNear p → IsAskedAtTheEnd k p
-  begins_so k p timed settled near over s living none out = by (end_at s p).tcp.timing.timer refl (timed over s living out)
+  abbrev pub AskedAtTheEnd : (PathEnd → Bool → Bool → Type 0) → Codec C → PathState C → Type 0
+  AskedAtTheEnd Was k p = p.agenda ≡ [] → (s : Side) → is_closed_to_segments (end_at s p).tcp.state ≡ false → (end_at s p).tcp.send.records ≡ [] → IsOutstanding (end_at s p)
+      → (h : IsAskedAgain k s (p.clock + 60000 + longest_way s p.link) p) × IsAskedSo Was h
+
+  begins_so : (Was : PathEnd → Bool → Bool → Type 0) (k : Codec C) (p : PathState C) → IsTimedWhereItWaits p → IsSettledAtTheEnd p → TimersAreNear p → AskedAtTheEnd Was k p
+  begins_so Was k p timed settled near over s living none out = by (end_at s p).tcp.timing.timer refl (timed over s living out)
     where
       alive : (state : State) → is_closed_to_segments state ≡ false → is_dead state ≡ false
       alive phase.Dead living = absurd (true≢false living)
       alive _ living = refl
 
-      by : (o : Option ℕ) → (end_at s p).tcp.timing.timer ≡ o → IsSome o → IsAskedAgain k s (p.clock + 60000 + longest_way s p.link) p
+      by : (o : Option ℕ) → (end_at s p).tcp.timing.timer ≡ o → IsSome o → (h : IsAskedAgain k s (p.clock + 60000 + longest_way s p.link) p) × IsAskedSo Was h
       by None runs some = absurd (true≢false (sym some))
-      by (Some tick) runs some = waits tick (let low = timer_near s tick p near runs in omega (arith, low))
-          (record { timer = runs; settled = settled over s (alive (end_at s p).tcp.state living); living = living }) none
+      by (Some tick) runs some = (
+        waits tick (let low = timer_near s tick p near runs in omega (arith, low))
+            (record { timer = runs; settled = settled over s (alive (end_at s p).tcp.state living); living = living }) none,
+        tt,
+      )
 
   abbrev OfPaths : (PathState C → Type 0) → Actor C → Type 0
   OfPaths P = HoldsOfKind (λ app. Unit {0}) P
 
-  member_so : (k : Codec C) (m : Actor C) → OfPaths IsTimedWhereItWaits m → OfPaths IsSettledAtTheEnd m → OfPaths TimersAreNear m → OfPaths (IsAskedAtTheEnd k) m
-  member_so k (App a) timed settled near = tt
-  member_so k (Path p) timed settled near = begins_so k p timed settled near
+  member_so : (Was : PathEnd → Bool → Bool → Type 0) (k : Codec C) (m : Actor C) → OfPaths IsTimedWhereItWaits m → OfPaths IsSettledAtTheEnd m → OfPaths TimersAreNear m → OfPaths (AskedAtTheEnd Was k) m
+  member_so Was k (App a) timed settled near = tt
+  member_so Was k (Path p) timed settled near = begins_so Was k p timed settled near
+
+  pub asked_at_the_end : (Was : PathEnd → Bool → Bool → Type 0) (k : Codec C) (start : Start) (turns : List Turn) (actor : ℕ) (c : ActorCrew C) → slice_get (world_run k turns (opened_world start)).crew actor ≡ Some c
+      → OfPaths (AskedAtTheEnd Was k) c.member
+  asked_at_the_end Was k start turns actor c there = member_so Was k c.member ((who_waits_has_a_timer k start turns).each actor c there) (((no_timer_is_put_off k).settled start turns).each actor c there)
+      ((timers_run_out k start turns).each actor c there)
+
+  asks_at_the_end : (k : Codec C) (m : Actor C) → OfPaths (AskedAtTheEnd (λ e strips alters. Unit {0}) k) m → OfPaths (IsAskedAtTheEnd k) m
+  asks_at_the_end k (App a) h = tt
+  asks_at_the_end k (Path p) h = λ over s living none out. (h over s living none out).0
 
   pub what_is_asked_comes : (k : Codec C) → WhatIsAskedComes k
   what_is_asked_comes k = record {
-    begins = λ start turns. record {
-      each = λ actor c there. member_so k c.member ((who_waits_has_a_timer k start turns).each actor c there) (((no_timer_is_put_off k).settled start turns).each actor c there)
-          ((timers_run_out k start turns).each actor c there);
-    };
+    begins = λ start turns. record { each = λ actor c there. asks_at_the_end k c.member (asked_at_the_end (λ e strips alters. Unit {0}) k start turns actor c there) };
     goes_on = goes_on_so k;
   }

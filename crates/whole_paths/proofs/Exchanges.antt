@@ -103,16 +103,16 @@ use Rattle.whole_paths.proofs.Sent.{what_came_was_sent}
 
 -- ---- what is known of a path at every moment
 
-record Known (p : PathState Carried) : Type 0 where
-  tells : (s : Side) → EndTells p.profile s (end_at s p)
-  behind : (s : Side) (r : Record) (others : List Record) → (end_at s p).tcp.send.records ≡ r ∷ others → r.kind ≡ Data → 0 < r.pos
-  edge : (s : Side) → 0 < (end_at s p).tcp.recv.edge
-  reached : EndsAreReached p
-  came : HasCome p
-  was_sent : WasSent p
-  link : LinkIs p.link
-  alike : CopiesArriveSo p
-  past : ComesFrom p.clock p
+pub record Known (p : PathState Carried) : Type 0 where
+  pub tells : (s : Side) → EndTells p.profile s (end_at s p)
+  pub behind : (s : Side) (r : Record) (others : List Record) → (end_at s p).tcp.send.records ≡ r ∷ others → r.kind ≡ Data → 0 < r.pos
+  pub edge : (s : Side) → 0 < (end_at s p).tcp.recv.edge
+  pub reached : EndsAreReached p
+  pub came : HasCome p
+  pub was_sent : WasSent p
+  pub link : LinkIs p.link
+  pub alike : CopiesArriveSo p
+  pub past : ComesFrom p.clock p
 
 unopening : (state : EndPhase) → 2 ≤ stage state → is_opening state ≡ false
 unopening phase.SynSent high = absurd (omega (arith, high))
@@ -122,7 +122,7 @@ module _ (p : PathState Carried) (known : Known p) (s : Side) where
   abbrev at_side : PathEnd
   at_side = end_at s p
 
-  below_limit : is_at_limit at_side.tcp ≡ false
+  pub below_limit : is_at_limit at_side.tcp ≡ false
   below_limit =
       let nxt : at_side.tcp.send.nxt < 2 ^ 31 = (known.tells s).sender.next in let edge : at_side.tcp.recv.edge < 2 ^ 31 = (known.tells s).edge in
       ap (λ b. b || nat_le (2 ^ 61) at_side.tcp.recv.edge) (lt-leb (2 ^ 61) at_side.tcp.send.nxt (omega (arith, nxt))) ∙ lt-leb (2 ^ 61) at_side.tcp.recv.edge (omega (arith, edge))
@@ -203,7 +203,7 @@ less_covered s position less p f low h = record {
 }
 
 -- with what holds of its segment
-answer_later : (Was : PlainSegment → Type 0) (s : Side) (position less before later : ℕ) (q : PathState Carried) → less ≤ position → before ≤ later → (h : IsAnswered values s position before q) → IsAnsweredSo Was h
+pub answer_later : (Was : PlainSegment → Type 0) (s : Side) (position less before later : ℕ) (q : PathState Carried) → less ≤ position → before ≤ later → (h : IsAnswered values s position before q) → IsAnsweredSo Was h
     → (g : IsAnswered values s less later q) × IsAnsweredSo Was g
 answer_later Was s position less before later q few low (owes in_time opened came due) so = (owes (omega (arith, in_time, low)) opened (omega (arith, came, few)) due, tt)
 answer_later Was s position less before later q few low (flies f in_time there h) so = (flies f (omega (arith, in_time, low)) there (less_covered s position less q f few h), so)
@@ -234,22 +234,22 @@ first_or_acked r e f kept h =
 -- ---- a copy
 
 -- each copy comes at its tick
-all_at : {X : Type 0} (P : X → Type 0) (xs : List X) (i : ℕ) (x : X) → slice_get xs i ≡ Some x → AllByRecursion P xs → P x
+pub all_at : {X : Type 0} (P : X → Type 0) (xs : List X) (i : ℕ) (x : X) → slice_get xs i ≡ Some x → AllByRecursion P xs → P x
 all_at P [] i x there h = cc
 all_at P (y ∷ ys) zero x there h = subst P (same_Some y x there) h.0
 all_at P (y ∷ ys) (suc i) x there h = all_at P ys i x there h.1
 
-under_way : (P : Flight Carried → Type 0) (f : Flight Carried) (p : PathState Carried) → IsUnderWay f p → Every P p.link.under_way → P f
+pub under_way : (P : Flight Carried → Type 0) (f : Flight Carried) (p : PathState Carried) → IsUnderWay f p → Every P p.link.under_way → P f
 under_way P f p there h = subst P there.holds (h.each there.at there.item there.there)
 
 -- what the link does to it leaves the header
-record SameHeader (x y : PlainSegment) : Type 0 where
-  acknowledged : y.acknowledged ≡ x.acknowledged
-  rst : y.rst ≡ x.rst
-  syn : y.syn ≡ x.syn
-  position : y.position ≡ x.position
-  fin : y.fin ≡ x.fin
-  payload : x.payload ≡ [] → y.payload ≡ []
+pub record SameHeader (x y : PlainSegment) : Type 0 where
+  pub acknowledged : y.acknowledged ≡ x.acknowledged
+  pub rst : y.rst ≡ x.rst
+  pub syn : y.syn ≡ x.syn
+  pub position : y.position ≡ x.position
+  pub fin : y.fin ≡ x.fin
+  pub payload : x.payload ≡ [] → y.payload ≡ []
 
 no_bit : (carried : Carried) → carried.segment.payload ≡ [] → (altered carried).segment.payload ≡ []
 no_bit carried none = ap (λ (o : List ℕ). (altered (record carried { segment = record carried.segment { payload = o } })).segment.payload) none
@@ -260,7 +260,7 @@ changed_header true false carried = record { acknowledged = refl; rst = refl; sy
 changed_header false true carried = record { acknowledged = refl; rst = refl; syn = refl; position = refl; fin = refl; payload = no_bit carried }
 changed_header false false carried = record { acknowledged = refl; rst = refl; syn = refl; position = refl; fin = refl; payload = λ none. none }
 
-changed_said : (spelling : Spelling) (s : Side) (x : PlainSegment) (strips alters : Bool) (carried : Carried)
+pub changed_said : (spelling : Spelling) (s : Side) (x : PlainSegment) (strips alters : Bool) (carried : Carried)
     → carried ≡ changed (values.strips spelling s) (values.alters spelling s) strips alters (values.makes spelling s x) → SameHeader x carried.segment
 changed_said spelling s x strips alters carried is = subst (λ (c : Carried). SameHeader x c.segment) (sym is) (changed_header strips alters (carried_by spelling s x))
 
@@ -413,7 +413,7 @@ module _ (p q : PathState Carried) (known : Known p) (faithful : IsFaithful p) (
         (answer_comes position f there h so opened others first next (omega (arith, enough, some)))
     answer_goes position before enough low some (answer.harmed less) so = goes.held_up (held.harmed less)
     answer_goes position before enough low some (answer.lost x covers taken loses) so = goes.held_up (held.lost (peer s) x taken loses)
-    answer_goes position before enough low some (answer.resets x is taken) so = goes.astray (stray.resets x is taken)
+    answer_goes position before enough low some (answer.resets is) so = goes.astray (stray.resets is)
     answer_goes position before enough low some (answer.gone dead) so = goes.held_up (held.gone (peer s) (inr dead))
     answer_goes position before enough low some (answer.dies line next is) so = goes.held_up (held.dies line next is)
 
@@ -599,10 +599,15 @@ module _ (p q : PathState Carried) (known : Known p) (faithful : IsFaithful p) (
     -- what goes from the peer while it owes an acknowledgement
     acks_bare : is_dead (end_at (peer s) p).tcp.state ≡ false → GoesSo Bare (peer s) p
     acks_bare living t sends own due unreset =
-        by (subst (λ (o : Option ToSend). IfSome o (λ t. t.from ≡ peer s → IsBareAck (end_at (peer s) p) (segment_sent p t))) sends (acks_first (peer s) living due) own)
+        by (subst (λ (o : Option ToSend). IfSome o (λ t. t.from ≡ peer s → IsBareAck p.profile (peer s) (end_at (peer s) p) (segment_sent p t))) sends (acks_first (peer s) living due) own)
       where
-        by : IsBareAck (end_at (peer s) p) (segment_sent p t) → Bare (segment_sent p t)
-        by (bare.acks at syn fin payload) = record { from = (let low = known.was_sent s in omega (arith, at, low)); syn = syn; fin = fin; payload = payload }
+        by : IsBareAck p.profile (peer s) (end_at (peer s) p) (segment_sent p t) → Bare (segment_sent p t)
+        by (bare.acks is) = record {
+          from = (let low = known.was_sent s in let at = ap (λ (x : PlainSegment). x.position) is in omega (arith, at, low));
+          syn = ap (λ (x : PlainSegment). x.syn) is;
+          fin = ap (λ (x : PlainSegment). x.fin) is;
+          payload = ap (λ (x : PlainSegment). x.payload) is;
+        }
         by (bare.resets is) = absurd (true≢false (sym is ∙ unreset))
 
     -- unless the peer is dead
@@ -651,12 +656,12 @@ module _ (p : PathState Carried) (past : ComesFrom p.clock p) where
 
 -- ---- the world
 
-record Shown (p : PathState Carried) : Type 0 where
-  tells : (s : Side) → EndTells p.profile s (end_at s p)
-  behind : (s : Side) (r : Record) (others : List Record) → (end_at s p).tcp.send.records ≡ r ∷ others → r.kind ≡ Data → 0 < r.pos
-  edge : (s : Side) → 0 < (end_at s p).tcp.recv.edge
+pub record Shown (p : PathState Carried) : Type 0 where
+  pub tells : (s : Side) → EndTells p.profile s (end_at s p)
+  pub behind : (s : Side) (r : Record) (others : List Record) → (end_at s p).tcp.send.records ≡ r ∷ others → r.kind ≡ Data → 0 < r.pos
+  pub edge : (s : Side) → 0 < (end_at s p).tcp.recv.edge
 
-abbrev OfPaths : (PathState Carried → Type 0) → Actor Carried → Type 0
+abbrev pub OfPaths : (PathState Carried → Type 0) → Actor Carried → Type 0
 OfPaths P = HoldsOfKind (λ app. Unit {0}) P
 
 -- a lane's positions begin behind the SYN
@@ -684,7 +689,7 @@ path_shown c p ab ba told shows = record { tells = tells; behind = behind; edge 
     behind A r others is kind = record_behind A ab r p.a.tcp.send.records others shows.a.sender.pieces is kind
     behind B r others is kind = record_behind B ba r p.b.tcp.send.records others shows.b.sender.pieces is kind
 
-each_shown : (start : Start) (turns : List Turn) → HasRoom start → NumbersFit start → (actor : ℕ) (c : ActorCrew Carried) → slice_get (world_run values turns (opened_world start)).crew actor ≡ Some c → OfPaths Shown c.member
+pub each_shown : (start : Start) (turns : List Turn) → HasRoom start → NumbersFit start → (actor : ℕ) (c : ActorCrew Carried) → slice_get (world_run values turns (opened_world start)).crew actor ≡ Some c → OfPaths Shown c.member
 each_shown start turns size fit =
     let can = anyhow start size in
     let r = each_run_shows start can turns (free_run can.links (anyhow_free start size) turns (opened_world start)) in

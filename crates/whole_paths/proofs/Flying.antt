@@ -218,7 +218,7 @@ module _ {C : Type 0} where
           let x : PathState C = with_agenda (duties.Step step_duties.Events ∷ others) p in let y : PathState C = answered k (duties.Step step_duties.Events) r x in
           settled_lasts SameClock clock_lasts y.agenda y ∙ subst (λ o. (happens_if k o r x).clock ≡ max p.clock (tick_of event)) (sym next) (happens_clock k event r x)
 
-  next_frames : (p : PathState C) → is_nil p.agenda ≡ true → Frames p (next_round p)
+  pub next_frames : (p : PathState C) → is_nil p.agenda ≡ true → Frames p (next_round p)
   next_frames p over =
       let q : PathState C = record p { clock = p.until; until = p.until + 100 } in
       record {

@@ -6,6 +6,7 @@ pub mod Books
 pub mod Breaking
 pub mod Bringing
 pub mod Came
+pub mod Clearing
 pub mod Closing
 pub mod ClosingAsked
 pub mod ClosingFin
@@ -14,9 +15,11 @@ pub mod Copies
 pub mod DataAcks
 pub mod DataAcksAsked
 pub mod DataAcksCome
+pub mod DataAcksExchanged
 pub mod DataAcksHeard
 pub mod Courses
 pub mod DataAcksNow
+pub mod DataAcksOwed
 pub mod Due
 pub mod Duties
 pub mod Exchanges
@@ -63,3 +66,5 @@ pub mod Treating
 pub mod Turns
 pub mod Unbroken
 pub mod Waiting
+pub mod Writers
+pub mod Ends

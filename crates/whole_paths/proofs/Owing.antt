@@ -366,8 +366,8 @@ follows_ready s f d ds next follows own one quiet a = by next follows
     by : (next : List Duty) → Follows s (is_gone f) d ds next → Ready s next f
     by next follow.goes_on = answers a
     by next follow.again = answers (inr (own, (one, (quiet, a))))
-    by next (follow.told treats e side alone (inl silent)) = answers (inr (side, (alone, (silent, a))))
-    by next (follow.told treats e side alone (inr joins)) = absurd (no_join d joins quiet)
+    by next (follow.told treats e side alone named (inl silent)) = answers (inr (side, (alone, (silent, a))))
+    by next (follow.told treats e side alone named (inr joins)) = absurd (no_join d joins quiet)
     by next (follow.left dead) = is_dead_now dead
     by next follow.noted = answers (inr (refl, (refl, (refl, a))))
     by next (follow.broken may reason) = answers (inl refl)
@@ -624,17 +624,17 @@ module _ {C : Type 0} where
 
   -- while an acknowledgement is owed none but this one goes, or a reset
   abbrev Bare : Side → PathState C → ToSend → Type 0
-  Bare s p t = IsBareAck (end_at s p) (segment_sent p t)
+  Bare s p t = IsBareAck p.profile s (end_at s p) (segment_sent p t)
 
   answer_bare : (s : Side) (p : PathState C) → (b : Bool) → (end_at s p).tcp.due.syn_ack ≡ b → (end_at s p).tcp.due.ack ≡ true → ((end_at s p).tcp.due.ack && b) ≡ false
-      → IsBareAck (end_at s p) (if b then syn_ack_said p.profile s (end_at s p) else ack_said p.profile s (end_at s p).tcp.send.nxt None (end_at s p))
+      → IsBareAck p.profile s (end_at s p) (if b then syn_ack_said p.profile s (end_at s p) else ack_said p.profile s (end_at s p).tcp.send.nxt None (end_at s p))
   answer_bare s p true is due both = absurd (true≢false (sym (ap (λ b. b && true) due) ∙ both))
-  answer_bare s p false is due both = bare_by.acks refl refl refl refl
+  answer_bare s p false is due both = bare_by.acks refl
 
   sends_bare : (s : Side) (d : Duty) (p : PathState C) → Sends s (end_at s p) d → (end_at s p).tcp.due.ack ≡ true → IfSome (duty_sends d p) (Bare s p)
-  sends_bare s (duties.Send (send_duties.Acknowledge t)) p is due = subst (λ u. IsBareAck (end_at s p) (ack_said p.profile u (end_at u p).tcp.send.nxt None (end_at u p))) (sym is.0) (bare_by.acks refl refl refl refl)
+  sends_bare s (duties.Send (send_duties.Acknowledge t)) p is due = subst (λ u. IsBareAck p.profile s (end_at s p) (ack_said p.profile u (end_at u p).tcp.send.nxt None (end_at u p))) (sym is.0) (bare_by.acks refl)
   sends_bare s (duties.Send (send_duties.Answer t)) p is due =
-      subst (λ u. IsBareAck (end_at s p) (if (end_at u p).tcp.due.syn_ack then syn_ack_said p.profile u (end_at u p) else ack_said p.profile u (end_at u p).tcp.send.nxt None (end_at u p))) (sym is.0)
+      subst (λ u. IsBareAck p.profile s (end_at s p) (if (end_at u p).tcp.due.syn_ack then syn_ack_said p.profile u (end_at u p) else ack_said p.profile u (end_at u p).tcp.send.nxt None (end_at u p))) (sym is.0)
       (answer_bare s p (end_at s p).tcp.due.syn_ack refl due is.1)
   sends_bare s (duties.Send (send_duties.SynAck t)) p is due = absurd (true≢false (sym due ∙ is.1))
   sends_bare s (duties.Ask (ask_duties.BreakAck t reason)) p is due = tt

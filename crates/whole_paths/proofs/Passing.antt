@@ -157,7 +157,7 @@ passes_on s c f d ds next follows own one up a = by next follows
     by : (next : List Duty) → Follows s (is_gone f) d ds next → Ready s next c f
     by next follow.goes_on = passes up a
     by next follow.again = passes up (inr (own, (one, a)))
-    by next (follow.told treats e side alone silent) = passes up (inr (side, (⊎_elim (λ is. is) (λ joins. absurd (joins_aloud d one joins)) silent, a)))
+    by next (follow.told treats e side alone named silent) = passes up (inr (side, (⊎_elim (λ is. is) (λ joins. absurd (joins_aloud d one joins)) silent, a)))
     by next (follow.left dead) = is_dead_now dead
     by next follow.noted = passes up (inr (refl, (refl, a)))
     by next (follow.broken may reason) = passes up (inl refl)
@@ -173,7 +173,7 @@ follows_let s X t over d ds next follows first tells rest = by next follows
     by : (next : List Duty) → Follows t over d ds next → AllLet s X next
     by next follow.goes_on = rest
     by next follow.again = (first, rest)
-    by next (follow.told treats e side alone silent) = (λ own. absurd (tells treats (sym side ∙ own)), rest)
+    by next (follow.told treats e side alone named silent) = (λ own. absurd (tells treats (sym side ∙ own)), rest)
     by next (follow.left dead) = (λ own. inl refl, rest)
     by next follow.noted = (λ own. inl refl, rest)
     by next (follow.broken may reason) = all_free s X (breaks t reason) refl

@@ -1,5 +1,5 @@
 -- An acknowledgement that an end owes comes to the peer, whatever is lost.
-use Rattle.std.proofs.Common.{◌≡◌, refl, sym, subst, ap, ◌∙◌, ◌⊎◌, inl, inr, ⊎_elim, ℕ, ◌+◌, ◌-◌, ◌^◌, ◌<◌, ◌≤◌, arith, Bool, true, false, true≢false, if◌then◌else◌, Option, Some, None, IfSome, List, [], ◌∷◌, length}
+use Rattle.std.proofs.Common.{◌≡◌, refl, sym, subst, ap, ◌∙◌, ◌⊎◌, ⊎_elim, ℕ, ◌+◌, ◌-◌, ◌^◌, ◌<◌, ◌≤◌, arith, Bool, true, false, true≢false, if◌then◌else◌, Option, Some, None, IfSome, List, [], ◌∷◌, length}
 use Rattle.std.specs.List.{slice_get}
 use Rattle.std.proofs.lemmas.Option.{same_Some}
 use Rattle.path_segments.specs.Spelled.{PlainSegment}
@@ -68,11 +68,11 @@ use Rattle.whole_paths.specs.AsFar.{stage}
 use Rattle.whole_paths.specs.Copies.{IsUnderWay, GoesOnItsWay, CopiesGoOn}
 use Rattle.whole_paths.specs.Copies.{GoesOnItsWay as copy}
 use Rattle.whole_paths.specs.Harms.{harms_left, as_it_arrives, longest_way, IsOnTime}
-use Rattle.whole_paths.specs.Owed.{Covers, IsAnswer, IsAnswered, IsAnsweredSo, AnswerComesSo, AnswerGoesOn, AnswersGoOn, WhatIsOwedComes}
+use Rattle.whole_paths.specs.Owed.{Covers, IsAnswer, IsAnswered, IsAnsweredSo, AnswerComesSo, AnswerGoesOn, AnswersGoOn, IsToRefuse, WhatIsOwedComes}
 use Rattle.whole_paths.specs.Owed.IsAnswered.{owes, flies}
 use Rattle.whole_paths.specs.Owed.{AnswerGoesOn as goes}
+use Rattle.whole_paths.specs.Owed.{IsToRefuse as refuse}
 use Rattle.whole_paths.specs.Saying.{SaysWhatCame, HandsOver, PathsHandOver}
-use Rattle.whole_paths.specs.Saying.{SaysWhatCame as say}
 use Rattle.whole_paths.proofs.Agendas.{own_end}
 use Rattle.whole_paths.proofs.Copies.{copies_leave}
 use Rattle.whole_paths.proofs.Duties.{passed_steps, answered_steps}
@@ -81,7 +81,8 @@ use Rattle.whole_paths.proofs.Links.{each_uses_a_line_or_comes}
 use Rattle.whole_paths.proofs.Moving.{item_tcp}
 use Rattle.whole_paths.proofs.InTime.{is_event}
 use Rattle.whole_paths.proofs.Pieces.{own_only}
-use Rattle.whole_paths.proofs.Saying.{ToSend, each_segment_says_what_came}
+use Rattle.whole_paths.proofs.Saying.{AllSpeak, Speaks, ToSend, duty_speaks, each_segment_says_what_came, resets_by}
+use Rattle.whole_paths.proofs.Saying.{Speaks as spoken}
 use Rattle.whole_paths.proofs.Settling.{sides}
 use Rattle.whole_paths.proofs.Turns.{turn_each}
 use Rattle.whole_paths.proofs.Waiting.{Far, same_far, far_then, gone_stays, path_far}
@@ -115,10 +116,31 @@ opened_owed None e = same_due e e refl
 opened_owed (Some keys) e = elim (is_waiting e.tcp.state) as (λ b. Owed e (record e { tcp = if b then after_begin e.tcp else e.tcp; modes = with_keys keys e.modes }))
     [ true ↦ same_due e _ refl | false ↦ same_due e _ refl ]
 
+-- a segment goes by the duty, and its end goes on
+abbrev pub sends_on : Duty → Bool
+sends_on (duties.Step (step_duties.Data s)) = true
+sends_on (duties.Send (send_duties.BreakReset s reason)) = false
+sends_on (duties.Send (send_duties.Reset s)) = false
+sends_on (duties.Send (send_duties.ResetNoted s)) = false
+sends_on (duties.Send d) = true
+sends_on _ = false
+
+-- such a duty by which a reset may go
+pub refusing : (d : Duty) (s : Side) (others ds : List Duty) → sends_on d ≡ true → resets_by d ≡ true → side_of d ≡ s → ds ≡ d ∷ others → IsToRefuse s ds
+refusing (duties.Send (send_duties.Refuse t)) s others ds sends may own is = refuse.refuses others (subst (λ u. ds ≡ duties.Send (send_duties.Refuse u) ∷ others) own is)
+refusing (duties.Send (send_duties.ResetAnswer t)) s others ds sends may own is = refuse.answers others (subst (λ u. ds ≡ duties.Send (send_duties.ResetAnswer u) ∷ others) own is)
+refusing (duties.Send (send_duties.BreakReset t reason)) s others ds sends may own is = absurd (true≢false (sym sends))
+refusing (duties.Send (send_duties.Reset t)) s others ds sends may own is = absurd (true≢false (sym sends))
+refusing (duties.Send (send_duties.ResetNoted t)) s others ds sends may own is = absurd (true≢false (sym sends))
+refusing (duties.Step (step_duties.Heard t index)) s others ds sends may own is = absurd (true≢false (sym sends))
+refusing (duties.Step (step_duties.PlainAck t)) s others ds sends may own is = absurd (true≢false (sym sends))
+refusing (duties.Step (step_duties.Unmapped t)) s others ds sends may own is = absurd (true≢false (sym sends))
+refusing _ s others ds sends may own is = absurd (true≢false (sym may))
+
 -- unless the duty is to send a segment of this side
-data Pays (o : Option ToSend) (s : Side) (e f : PathEnd) : Type 0 where
-  owed : Owed e f → Pays o s e f
-  paid : (t : ToSend) → o ≡ Some t → t.from ≡ s → Pays o s e f
+data Pays (d : Duty) (o : Option ToSend) (s : Side) (e f : PathEnd) : Type 0 where
+  owed : Owed e f → Pays d o s e f
+  paid : (t : ToSend) → o ≡ Some t → t.from ≡ s → sends_on d ≡ true → side_of d ≡ s → Pays d o s e f
 
 -- both SYNs came
 pub past_opening : (state : State) → 2 ≤ stage state → is_opening state ≡ true → ⊥
@@ -148,12 +170,12 @@ module _ {C : Type 0} where
   things_owed k s None r p = same_due (end_at s p) (end_at s p) refl
   things_owed k s (Some item) r p = thing_owed k s item r p
 
-  data_pays : (k : Codec C) (s : Side) (o : Option Record) (r : Reply) (p : PathState C) → Pays (unsent_sends s o) s (end_at s p) (end_at s (answered_data k s o r p))
-  data_pays k s (Some unsent) r p = paid _ refl refl
-  data_pays k s None r p = elim (grant_in r) as (λ o. Pays None s (end_at s p) (end_at s (answered_grant s o r p)))
+  data_pays : (k : Codec C) (s : Side) (o : Option Record) (r : Reply) (p : PathState C) → Pays (duties.Step (step_duties.Data s)) (unsent_sends s o) s (end_at s p) (end_at s (answered_data k s o r p))
+  data_pays k s (Some unsent) r p = paid _ refl refl refl refl
+  data_pays k s None r p = elim (grant_in r) as (λ o. Pays (duties.Step (step_duties.Data s)) None s (end_at s p) (end_at s (answered_grant s o r p)))
       [ Some grant ↦ owed (calm s (end_at s p) _ p.a p.b refl) | None ↦ owed (calm s (end_at s p) _ p.a p.b refl) ]
 
-  own_pays : (k : Codec C) (d : Duty) (r : Reply) (p : PathState C) → is_event d ≡ false → Pays (duty_sends d p) (side_of d) (end_at (side_of d) p) (end_at (side_of d) (answered k d r p))
+  own_pays : (k : Codec C) (d : Duty) (r : Reply) (p : PathState C) → is_event d ≡ false → Pays d (duty_sends d p) (side_of d) (end_at (side_of d) p) (end_at (side_of d) (answered k d r p))
   own_pays k (duties.Step step_duties.Events) r p other = absurd (true≢false other)
   own_pays k (duties.Ask ask_duties.JoinAgain) r p other = owed (elim (is_never r) as
       (λ b. Owed p.a (if b then goes_on A (never_joined r p.a) (replaced (duties.Ask (ask_duties.Leave A)) p.agenda) p else goes_on A (opened_by (keys_begun r) p.a) (tail_of p.agenda) p).a)
@@ -165,7 +187,10 @@ module _ {C : Type 0} where
       (λ b. Owed (end_at s p) (end_at s (if b then answered_break k s 6 r p else goes_on s (with_plain_ack (after_fell events.PlainAck r (end_at s p))) (fell_duties s r p) p)))
       [ true ↦ break_owed k s 6 r p | false ↦ calm s (end_at s p) (with_plain_ack (after_fell events.PlainAck r (end_at s p))) p.a p.b refl ])
   own_pays k (duties.Step (step_duties.Unmapped s)) r p other = owed (break_owed k s 6 r p)
-  own_pays k (duties.Send d) r p other = let x = sends_own d in paid x.0 x.1.0 x.1.1
+  own_pays k (duties.Send (send_duties.BreakReset s reason)) r p other = owed (here s (end_at s p) (died (end_at s p)) p.a p.b (dies_now refl))
+  own_pays k (duties.Send (send_duties.Reset s)) r p other = owed (here s (end_at s p) (died (end_at s p)) p.a p.b (dies_now refl))
+  own_pays k (duties.Send (send_duties.ResetNoted s)) r p other = owed (here s (end_at s p) (died (end_at s p)) p.a p.b (dies_now refl))
+  own_pays k (duties.Send d) r p other = let x = sends_own d in paid x.0 x.1.0 x.1.1 refl refl
   own_pays k (duties.Silent d) r p other = owed (same_due (end_at (side_of (duties.Silent d)) p) (end_at (side_of (duties.Silent d)) p) refl)
   own_pays k d r p other = owed (only_owed (writes d).own _ _ refl (own_only (side_of d) (writes d) p _ (writes_no_more k d r p)))
 
@@ -178,12 +203,12 @@ module _ {C : Type 0} where
   answered_other_due k (duties.Step step_duties.Events) r p other = absurd (true≢false other)
   answered_other_due k d r p other = other_due (side_of d) (writes d) p _ refl (writes_no_more k d r p)
 
-  answered_pays : (k : Codec C) (s : Side) (d : Duty) (r : Reply) (p : PathState C) → is_event d ≡ false → Pays (duty_sends d p) s (end_at s p) (end_at s (answered k d r p))
+  answered_pays : (k : Codec C) (s : Side) (d : Duty) (r : Reply) (p : PathState C) → is_event d ≡ false → Pays d (duty_sends d p) s (end_at s p) (end_at s (answered k d r p))
   answered_pays k s d r p other =
       let q = answered k d r p in
       ⊎_elim
-      (λ own. subst (λ t. Pays (duty_sends d p) t (end_at t p) (end_at t q)) own (own_pays k d r p other))
-      (λ away. subst (λ t. Pays (duty_sends d p) t (end_at t p) (end_at t q)) away (owed (same_due (end_at (peer (side_of d)) p) (end_at (peer (side_of d)) q) (answered_other_due k d r p other))))
+      (λ own. subst (λ t. Pays d (duty_sends d p) t (end_at t p) (end_at t q)) own (own_pays k d r p other))
+      (λ away. subst (λ t. Pays d (duty_sends d p) t (end_at t p) (end_at t q)) away (owed (same_due (end_at (peer (side_of d)) p) (end_at (peer (side_of d)) q) (answered_other_due k d r p other))))
       (sides s (side_of d))
 
   -- a duty that is passed leaves it
@@ -240,7 +265,7 @@ module _ {C : Type 0} where
   pub data StillOwed (s : Side) (p q : PathState C) : Type 0 where
     keeps : (d : Duty) (others : List Duty) → p.agenda ≡ d ∷ others → is_event d ≡ false → ((end_at s p).tcp.due.ack ≡ true → (end_at s q).tcp.due.ack ≡ true) → StillOwed s p q
     has_died : is_gone (end_at s q) ≡ true → StillOwed s p q
-    is_sent : (t : ToSend) → first_sends p.agenda p ≡ Some t → t.from ≡ s → StillOwed s p q
+    is_sent : (d : Duty) (others : List Duty) → p.agenda ≡ d ∷ others → sends_on d ≡ true → side_of d ≡ s → (t : ToSend) → first_sends p.agenda p ≡ Some t → t.from ≡ s → StillOwed s p q
     is_done : IsDone p → StillOwed s p q
     rests : q ≡ p → StillOwed s p q
 
@@ -254,12 +279,12 @@ module _ {C : Type 0} where
   settled_far k d ds r p s = let q : PathState C = answered k d r (with_agenda (d ∷ ds) p) in settled_lasts AllFar far_lasts q.agenda q s
 
   pays_so : (k : Codec C) (s : Side) (d : Duty) (ds : List Duty) (r : Reply) (p : PathState C) → is_event d ≡ false → let x : PathState C = with_agenda (d ∷ ds) p in
-      Pays (duty_sends d x) s (end_at s x) (end_at s (answered k d r x)) → StillOwed s x (takes k r x)
+      Pays d (duty_sends d x) s (end_at s x) (end_at s (answered k d r x)) → StillOwed s x (takes k r x)
   pays_so k s d ds r p other (owed (still h)) =
       let q : PathState C = answered k d r (with_agenda (d ∷ ds) p) in keeps d ds refl other (λ due. ap (λ (d : Due). d.ack) (settled_lasts SameDue due_lasts q.agenda q s) ∙ h due)
   pays_so k s d ds r p other (owed (dies_now gone)) =
       has_died (gone_stays (end_at s (answered k d r (with_agenda (d ∷ ds) p))) (end_at s (takes k r (with_agenda (d ∷ ds) p))) (settled_far k d ds r p s) gone)
-  pays_so k s d ds r p other (paid t sends own) = is_sent t sends own
+  pays_so k s d ds r p other (paid t sends own on side) = is_sent d ds refl on side t sends own
 
   duty_owing : (k : Codec C) (s : Side) (d : Duty) (ds : List Duty) (r : Reply) (p : PathState C) → let x : PathState C = with_agenda (d ∷ ds) p in StillOwed s x (takes k r x)
   duty_owing k s (duties.Step step_duties.Events) ds r p = is_done (idle_by.next ds refl)
@@ -325,12 +350,19 @@ module _ {C : Type 0} where
         )
 
     -- the segment that it sends says what came
-    says_so : (x : PlainSegment) → SaysWhatCame (end_at s p) x → (x.rst ≡ false → Was x) → q.link ≡ handed k s x p → p.clock + longest_way s p.link ≤ by_then → 2 ≤ stage (end_at s p).tcp.state
+    says_so : (x : PlainSegment) → Speaks (end_at s p) x → (x.rst ≡ false → Was x) → q.link ≡ handed k s x p → p.clock + longest_way s p.link ≤ by_then → 2 ≤ stage (end_at s p).tcp.state
         → position ≤ (end_at s p).tcp.recv.edge → segments_sent s p.link < 2 ^ 64 - 1 → Next
-    says_so x (say.acknowledges is rst) so taken low high came few = flown x (record { up_to = (end_at s p).tcp.recv.edge; acknowledged = is; enough = came; rst = rst }) (so rst) taken low few
-    says_so x (say.opens state none) so taken low high came few = absurd (past_opening (end_at s p).tcp.state high state)
-    says_so x (say.resets is) so taken low high came few = (goes.resets x (inl is) taken, tt)
-    says_so x (say.refuses answer is reset) so taken low high came few = (goes.resets x (inr (answer, (is, reset))) taken, tt)
+    says_so x (spoken.acks is rst) so taken low high came few = flown x (record { up_to = (end_at s p).tcp.recv.edge; acknowledged = is; enough = came; rst = rst }) (so rst) taken low few
+    says_so x (spoken.syns state none) so taken low high came few = absurd (past_opening (end_at s p).tcp.state high state)
+
+    -- unless it is a reset
+    speaks_so : (d : Duty) (others : List Duty) → p.agenda ≡ d ∷ others → sends_on d ≡ true → side_of d ≡ s → (t : ToSend) → first_sends p.agenda p ≡ Some t → t.from ≡ s
+        → (Speaks (end_at s p) (segment_sent p t) → Next) → Next
+    speaks_so d others first on side t sends own then_goes = by (resets_by d) refl
+      where
+        by : (b : Bool) → resets_by d ≡ b → Next
+        by true may = (goes.resets (refusing d s others p.agenda on may side first), tt)
+        by false none = then_goes (subst (λ u. Speaks (end_at u p) (segment_sent p t)) own (subst (λ (o : Option ToSend). AllSpeak o p) (sym (ap (λ ds. first_sends ds p) first) ∙ sends) (duty_speaks d p none)))
 
     owes_goes : StillOwed s p q → HandsOver k p q → HasAnswered p → p.clock + longest_way s p.link ≤ by_then → 2 ≤ stage (end_at s p).tcp.state → position ≤ (end_at s p).tcp.recv.edge
         → (end_at s p).tcp.due.ack ≡ true → segments_sent s p.link < 2 ^ 64 - 1 → Next
@@ -339,9 +371,10 @@ module _ {C : Type 0} where
         let up = (turned.far s).subflow.state in let edge = (turned.far s).subflow.received in
         (goes.on (owes (omega (arith, clock, way, low)) (omega (arith, high, up)) (omega (arith, came, edge)) (h due)), tt)
     owes_goes (has_died gone) hands answered low high came due few = (goes.gone gone, tt)
-    owes_goes (is_sent t sends own) hands answered low high came due few = ⊎_elim
+    owes_goes (is_sent d others first on side t sends own) hands answered low high came due few = ⊎_elim
         (λ same. same_on same (owes low high came due) tt)
-        (λ taken. says_so (segment_sent p t) (subst (λ u. SaysWhatCame (end_at u p) (segment_sent p t)) own taken.1) (λ unreset. was t sends own due unreset) (subst (λ u. q.link ≡ handed k u (segment_sent p t) p) own taken.0) low high came few)
+        (λ taken. speaks_so d others first on side t sends own (λ speaks. says_so (segment_sent p t) speaks (λ unreset. was t sends own due unreset)
+        (subst (λ u. q.link ≡ handed k u (segment_sent p t) p) own taken.0) low high came few))
         (subst (λ (o : Option ToSend). IfSome o (λ t. (q ≡ p) ⊎ ((q.link ≡ handed k t.from (segment_sent p t) p) × SaysWhatCame (end_at t.from p) (segment_sent p t)))) sends hands.sends)
     owes_goes (rests same) hands answered low high came due few = same_on same (owes low high came due) tt
     owes_goes (is_done is) hands answered low high came due few = by (is_dead (end_at s p).tcp.state) refl

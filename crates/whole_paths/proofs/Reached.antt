@@ -252,6 +252,10 @@ past_opening s r others h is behind = ⊎_elim
     (λ high. high)
     (cases_lt (stage s.state) 2)
 
+-- where none is left SND.UNA is SND.NXT
+pub none_left : (s : EndState) → IsReached s → s.send.records ≡ [] → s.send.una ≡ s.send.nxt
+none_left s h is = subst (λ rs. Line s.send.una s.send.nxt (map span_of rs)) is h.lined.line
+
 first_reach : (C : Type 0) (number : ℕ) (start : Start) (plan : PathPlan) (s : Side) → IsReached (end_at s (waiting_path {C = C} (path_begins start number plan) start.lines)).tcp
 first_reach C number start plan A = record { lined = record { within = omega arith; line = (omega arith, refl) }; opening = λ low. refl; window = refl }
 first_reach C number start plan B = record { lined = record { within = omega arith; line = (omega arith, refl) }; opening = λ low. refl; window = refl }

@@ -4,6 +4,7 @@ use Rattle.std.specs.Prelude.{IfSome}
 use Rattle.sides.specs.declared.side.Side.{Side}
 use Rattle.sides.specs.declared.side.Side.TheVariants.{A}
 use Rattle.path_segments.specs.Options.{PlainOption}
+use Rattle.path_segments.specs.Spelled.{PlainSegment}
 use Rattle.subflow_send.specs.Records.{Record}
 use Rattle.subflow_tcp.specs.declared.segments.Outgoing.{Outgoing}
 use Rattle.subflow_tcp.specs.Emitting.{reset_segment}
@@ -42,38 +43,47 @@ use Rattle.whole_paths.proofs.Turns.{turn_each}
 
 -- ---- a segment
 
+-- the segment says so, and is no reset
+pub data Speaks (e : PathEnd) (x : PlainSegment) : Type 0 where
+  acks : x.acknowledged ≡ Some e.tcp.recv.edge → x.rst ≡ false → Speaks e x
+  syns : is_opening e.tcp.state ≡ true → x.acknowledged ≡ None → Speaks e x
+
+speaks_says : (e : PathEnd) (x : PlainSegment) → Speaks e x → SaysWhatCame e x
+speaks_says e x (acks is rst) = acknowledges is rst
+speaks_says e x (syns state none) = opens state none
+
 -- a record, or an acknowledgement in its place
-record_so : (c : Profile) (s : Side) (o : Option Record) (e : PathEnd) → SaysWhatCame e (record_or_ack c s o e)
-record_so c s None e = acknowledges refl refl
+record_so : (c : Profile) (s : Side) (o : Option Record) (e : PathEnd) → Speaks e (record_or_ack c s o e)
+record_so c s None e = acks refl refl
 record_so c s (Some r) e = by (is_opening e.tcp.state) refl
   where
-    by : (b : Bool) → is_opening e.tcp.state ≡ b → SaysWhatCame e (record_said c s r e)
-    by true is = opens is (ap (λ b. if b then None else Some e.tcp.recv.edge) is)
-    by false is = acknowledges (ap (λ b. if b then None else Some e.tcp.recv.edge) is) refl
+    by : (b : Bool) → is_opening e.tcp.state ≡ b → Speaks e (record_said c s r e)
+    by true is = syns is (ap (λ b. if b then None else Some e.tcp.recv.edge) is)
+    by false is = acks (ap (λ b. if b then None else Some e.tcp.recv.edge) is) refl
 
-noted_so : (c : Profile) (s : Side) (o : Option OwnNotice) (e : PathEnd) → SaysWhatCame e (noted_said c s o e)
-noted_so c s None e = acknowledges refl refl
-noted_so c s (Some notice) e = acknowledges refl refl
+noted_so : (c : Profile) (s : Side) (o : Option OwnNotice) (e : PathEnd) → Speaks e (noted_said c s o e)
+noted_so c s None e = acks refl refl
+noted_so c s (Some notice) e = acks refl refl
 
-carried_so : (c : Profile) (s : Side) (o : Option ℕ) (e : PathEnd) → SaysWhatCame e (carried_said c s o e)
-carried_so c s None e = acknowledges refl refl
-carried_so c s (Some key) e = acknowledges refl refl
+carried_so : (c : Profile) (s : Side) (o : Option ℕ) (e : PathEnd) → Speaks e (carried_said c s o e)
+carried_so c s None e = acks refl refl
+carried_so c s (Some key) e = acks refl refl
 
-answer_so : (c : Profile) (s : Side) (e : PathEnd) (b : Bool) → SaysWhatCame e (if b then syn_ack_said c s e else ack_said c s e.tcp.send.nxt None e)
-answer_so c s e true = acknowledges refl refl
-answer_so c s e false = acknowledges refl refl
+answer_so : (c : Profile) (s : Side) (e : PathEnd) (b : Bool) → Speaks e (if b then syn_ack_said c s e else ack_said c s e.tcp.send.nxt None e)
+answer_so c s e true = acks refl refl
+answer_so c s e false = acks refl refl
 
 resent_so : (c : Profile) (s : Side) (e : PathEnd) (records third close fin : Bool)
-    → SaysWhatCame e (if records then record_or_ack c s (first_record e) e
+    → Speaks e (if records then record_or_ack c s (first_record e) e
     else (if third then ack_said c s e.tcp.send.nxt None e
     else (if close then carried_said c s e.notices.carrier e
     else (if fin then ack_said c s e.tcp.send.nxt e.sending.known_end e
     else ack_said c s (e.tcp.send.una - 1) None e))))
 resent_so c s e true third close fin = record_so c s (first_record e) e
-resent_so c s e false true close fin = acknowledges refl refl
+resent_so c s e false true close fin = acks refl refl
 resent_so c s e false false true fin = carried_so c s e.notices.carrier e
-resent_so c s e false false false true = acknowledges refl refl
-resent_so c s e false false false false = acknowledges refl refl
+resent_so c s e false false false true = acks refl refl
+resent_so c s e false false false false = acks refl refl
 
 -- the reset that a copy was answered by
 refusal_so : (c : Profile) (options : List PlainOption) (e : PathEnd) → SaysWhatCame e (segment_of c (outgoing_or e.treated.answer (reset_segment e.tcp)) options [] e)
@@ -96,14 +106,33 @@ always : {T : Type 0} (P : T → Type 0) (o : Option T) → ((t : T) → P t) �
 always P None each = tt
 always P (Some t) each = each t
 
+-- a reset may go by the duty
+abbrev pub resets_by : Duty → Bool
+resets_by (duties.Step (step_duties.Heard s index)) = true
+resets_by (duties.Step (step_duties.PlainAck s)) = true
+resets_by (duties.Step (step_duties.Unmapped s)) = true
+resets_by (duties.Send (send_duties.Refuse s)) = true
+resets_by (duties.Send (send_duties.ResetAnswer s)) = true
+resets_by (duties.Send (send_duties.BreakReset s reason)) = true
+resets_by (duties.Send (send_duties.Reset s)) = true
+resets_by (duties.Send (send_duties.ResetNoted s)) = true
+resets_by _ = false
+
 module _ {C : Type 0} where
+  abbrev pub AllSpeak : Option ToSend → PathState C → Type 0
+  AllSpeak o p = IfSome o (λ (t : ToSend). Speaks (end_at t.from p) (segment_sent p t))
+
   abbrev pub AllSay : Option ToSend → PathState C → Type 0
   AllSay o p = IfSome o (λ (t : ToSend). SaysWhatCame (end_at t.from p) (segment_sent p t))
 
   broken_so : (s : Side) (reason : ℕ) (p : PathState C) → AllSay (broken_by s reason p) p
   broken_so s reason p = elim (end_at s p).treated.asked as (λ b. AllSay (if b then None else send_of (send_duties.BreakReset s reason)) p) [ true ↦ tt | false ↦ resets refl ]
 
-  unsent_so : (s : Side) (o : Option Record) (p : PathState C) → AllSay (unsent_sends s o) p
+  all_say : (o : Option ToSend) (p : PathState C) → AllSpeak o p → AllSay o p
+  all_say None p speaks = tt
+  all_say (Some t) p speaks = speaks_says (end_at t.from p) (segment_sent p t) speaks
+
+  unsent_so : (s : Side) (o : Option Record) (p : PathState C) → AllSpeak (unsent_sends s o) p
   unsent_so s None p = tt
   unsent_so s (Some r) p = record_so p.profile s (first_unsent (end_at s p)) (end_at s p)
 
@@ -111,29 +140,40 @@ module _ {C : Type 0} where
   heard_so s (Some (says.Mapping fin)) p = elim (is_clash (end_at s p)) as (λ b. AllSay (if b then broken_by s 1 p else None) p) [ true ↦ broken_so s 1 p | false ↦ tt ]
   heard_so s _ p = tt
 
+  pub duty_speaks : (d : Duty) (p : PathState C) → resets_by d ≡ false → AllSpeak (duty_sends d p) p
+  duty_speaks (duties.Step (step_duties.Heard s index)) p none = absurd (true≢false none)
+  duty_speaks (duties.Step (step_duties.PlainAck s)) p none = absurd (true≢false none)
+  duty_speaks (duties.Step (step_duties.Unmapped s)) p none = absurd (true≢false none)
+  duty_speaks (duties.Send (send_duties.Refuse s)) p none = absurd (true≢false none)
+  duty_speaks (duties.Send (send_duties.ResetAnswer s)) p none = absurd (true≢false none)
+  duty_speaks (duties.Send (send_duties.BreakReset s reason)) p none = absurd (true≢false none)
+  duty_speaks (duties.Send (send_duties.Reset s)) p none = absurd (true≢false none)
+  duty_speaks (duties.Send (send_duties.ResetNoted s)) p none = absurd (true≢false none)
+  duty_speaks (duties.Step (step_duties.Data s)) p none = unsent_so s (first_unsent (end_at s p)) p
+  duty_speaks (duties.Send (send_duties.Syn s)) p none = record_so p.profile s (first_unsent (end_at s p)) (end_at s p)
+  duty_speaks (duties.Send (send_duties.Again s)) p none = record_so p.profile s (first_record (end_at s p)) (end_at s p)
+  duty_speaks (duties.Send (send_duties.FastClose s)) p none = carried_so p.profile s (end_at s p).notices.carrier (end_at s p)
+  duty_speaks (duties.Send (send_duties.Notice s)) p none = noted_so p.profile s (first_of (end_at s p).notices.queue) (end_at s p)
+  duty_speaks (duties.Send (send_duties.Answer s)) p none = answer_so p.profile s (end_at s p) (end_at s p).tcp.due.syn_ack
+  duty_speaks (duties.Send (send_duties.Resend s)) p none =
+      let e : PathEnd = end_at s p in resent_so p.profile s e (has_records e.tcp) e.modes.owes_third e.notices.fast_closed (is_data_fin_owed e)
+  duty_speaks (duties.Send (send_duties.Update s)) p none = acks refl refl
+  duty_speaks (duties.Send (send_duties.Acknowledge s)) p none = acks refl refl
+  duty_speaks (duties.Send (send_duties.DataFin s)) p none = acks refl refl
+  duty_speaks (duties.Send (send_duties.Fin s)) p none = acks refl refl
+  duty_speaks (duties.Send (send_duties.SynAck s)) p none = acks refl refl
+  duty_speaks _ p none = tt
+
   pub duty_so : (d : Duty) (p : PathState C) → AllSay (duty_sends d p) p
-  duty_so (duties.Step (step_duties.Data s)) p = unsent_so s (first_unsent (end_at s p)) p
   duty_so (duties.Step (step_duties.Heard s index)) p = heard_so s (item_of index (end_at s p)) p
   duty_so (duties.Step (step_duties.PlainAck s)) p = elim (breaks_by_ack p.profile (end_at s p)) as (λ b. AllSay (if b then broken_by s 6 p else None) p) [ true ↦ broken_so s 6 p | false ↦ tt ]
   duty_so (duties.Step (step_duties.Unmapped s)) p = broken_so s 6 p
-  duty_so (duties.Send (send_duties.Syn s)) p = record_so p.profile s (first_unsent (end_at s p)) (end_at s p)
-  duty_so (duties.Send (send_duties.Again s)) p = record_so p.profile s (first_record (end_at s p)) (end_at s p)
-  duty_so (duties.Send (send_duties.FastClose s)) p = carried_so p.profile s (end_at s p).notices.carrier (end_at s p)
-  duty_so (duties.Send (send_duties.Notice s)) p = noted_so p.profile s (first_of (end_at s p).notices.queue) (end_at s p)
   duty_so (duties.Send (send_duties.Refuse s)) p = refusal_so p.profile (reset_options (Some 1)) (end_at s p)
   duty_so (duties.Send (send_duties.ResetAnswer s)) p = refusal_so p.profile [] (end_at s p)
-  duty_so (duties.Send (send_duties.Answer s)) p = answer_so p.profile s (end_at s p) (end_at s p).tcp.due.syn_ack
-  duty_so (duties.Send (send_duties.Resend s)) p =
-      let e : PathEnd = end_at s p in resent_so p.profile s e (has_records e.tcp) e.modes.owes_third e.notices.fast_closed (is_data_fin_owed e)
   duty_so (duties.Send (send_duties.BreakReset s reason)) p = resets refl
   duty_so (duties.Send (send_duties.Reset s)) p = resets refl
   duty_so (duties.Send (send_duties.ResetNoted s)) p = resets refl
-  duty_so (duties.Send (send_duties.Update s)) p = acknowledges refl refl
-  duty_so (duties.Send (send_duties.Acknowledge s)) p = acknowledges refl refl
-  duty_so (duties.Send (send_duties.DataFin s)) p = acknowledges refl refl
-  duty_so (duties.Send (send_duties.Fin s)) p = acknowledges refl refl
-  duty_so (duties.Send (send_duties.SynAck s)) p = acknowledges refl refl
-  duty_so _ p = tt
+  duty_so d p = all_say (duty_sends d p) p (duty_speaks d p refl)
 
   first_so : (ds : List Duty) (p : PathState C) → AllSay (first_sends ds p) p
   first_so [] p = tt

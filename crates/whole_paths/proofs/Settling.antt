@@ -41,19 +41,19 @@ use Rattle.whole_paths.proofs.Agendas.{own_end, gone_end, answered_follows}
 -- ---- agendas
 
 -- the duty settles the timer of this side, or its end is dead then
-abbrev settles : Side → Duty → Bool
+abbrev pub settles : Side → Duty → Bool
 settles s (duties.Silent (silent_duties.Timer t)) = same_side t s
 settles s (duties.Ask (ask_duties.BreakAck t reason)) = same_side t s
 settles s (duties.Send (send_duties.BreakReset t reason)) = same_side t s
 settles s (duties.Send (send_duties.Reset t)) = same_side t s
 settles s _ = false
 
-abbrev settles_in : Side → List Duty → Bool
+abbrev pub settles_in : Side → List Duty → Bool
 settles_in s [] = false
 settles_in s (d ∷ ds) = settles s d || settles_in s ds
 
 -- a duty that gives no end a reason, since it settles the timer, or leaves the ends as they are, or is an event
-abbrev is_calm : Duty → Bool
+abbrev pub is_calm : Duty → Bool
 is_calm (duties.Silent (silent_duties.Timer t)) = true
 is_calm (duties.Ask (ask_duties.BreakAck t reason)) = true
 is_calm (duties.Send (send_duties.BreakReset t reason)) = true
@@ -70,7 +70,7 @@ abbrev ends_rest : Side → Duty → Bool
 ends_rest s d = (may_break d && not (same_side (side_of d) s)) || is_of_both d
 
 -- Behind each duty that may give this side's end a reason one settles the timer, and behind none that may end the rest.
-abbrev is_kept : Side → List Duty → Bool
+abbrev pub is_kept : Side → List Duty → Bool
 is_kept s [] = true
 is_kept s (d ∷ ds) =
     (settles_in s ds || (is_calm d || not (same_side (side_of d) s))) && ((not (settles_in s ds) || not (ends_rest s d)) && is_kept s ds)
@@ -145,6 +145,22 @@ pub record IsSettled (P : PathEnd → Type 0) : Type 0 where
   pub gone : (e : PathEnd) → is_gone e ≡ true → P e
   pub timer : (now : ℕ) (e : PathEnd) → P (with_timer_settled now e)
 
+-- the same, where it only needs to be settled at an end of which this holds
+pub record IsSettledBy (P R : PathEnd → Type 0) : Type 0 where
+  pub seen : (e f : PathEnd) → end_view nothing f ≡ end_view nothing e → P e → P f
+  pub still : (e f : PathEnd) → IsStill e f → P e → P f
+  pub gone : (e : PathEnd) → is_gone e ≡ true → P e
+  pub timer : (now : ℕ) (e : PathEnd) → R e → P (with_timer_settled now e)
+
+-- What holds of an end by what is to be done, so that this holds where its timer is settled for the last time in a turn.
+pub record IsAhead {C : Type 0} (R : PathEnd → Type 0) (F : Side → List Duty → PathState C → Type 0) : Type 0 where
+  pub timer : (s : Side) (ds : List Duty) (p : PathState C) → F s (duties.Silent (silent_duties.Timer s) ∷ ds) p → (settles_in s ds ≡ true) ⊎ R (end_at s p)
+  pub passes : (s : Side) (d : Duty) (ds : List Duty) (p : PathState C) → stands d p ≡ false → F s (d ∷ ds) p → F s ds (passed d p)
+  pub stays : (s : Side) (ds : List Duty) (p : PathState C) → F s ds p → F s ds (with_agenda ds p)
+  pub answers : (k : Codec C) (s : Side) (d : Duty) (ds : List Duty) (r : Reply) (p : PathState C) → is_kept s (d ∷ ds) ≡ true → F s (d ∷ ds) (with_agenda (d ∷ ds) p)
+      → let q = answered k d r (with_agenda (d ∷ ds) p) in F s q.agenda q
+  pub begins : (s : Side) (p : PathState C) → F s start_of_turn (with_agenda start_of_turn p)
+
 module _ (e f : PathEnd) where
   happened_kept : (s t : Side) (ds : List Duty) → Happened t e f ds → is_kept s ds ≡ true
   happened_kept s t ds (happened.both_dead gone a b) = died_kept s (is_dead a.tcp.state) (is_dead b.tcp.state)
@@ -158,15 +174,15 @@ module _ (e f : PathEnd) where
   happened_kept B B ds _ = refl
 
   -- after an event the timer will be settled, or it holds
-  happened_holds : (P : PathEnd → Type 0) → IsSettled P → (t : Side) (ds : List Duty) → Happened t e f ds → P e → (settles_in t ds ≡ true) ⊎ P f
-  happened_holds P rule t ds (happened.nothing still) holds = inr (rule.still e f still holds)
-  happened_holds P rule t ds (happened.answered_dead still) holds = inr (rule.still e f still holds)
-  happened_holds P rule t ds (happened.dead gone) holds = inr (rule.gone f gone)
-  happened_holds P rule t ds (happened.both_dead gone a b) holds = inr (rule.gone f gone)
-  happened_holds P rule A ds (happened.copy count) holds = inl (copy_settles A A count refl)
-  happened_holds P rule B ds (happened.copy count) holds = inl (copy_settles B B count refl)
-  happened_holds P rule A ds _ holds = inl refl
-  happened_holds P rule B ds _ holds = inl refl
+  happened_holds : (P R : PathEnd → Type 0) → IsSettledBy P R → (t : Side) (ds : List Duty) → Happened t e f ds → P e → (settles_in t ds ≡ true) ⊎ P f
+  happened_holds P R rule t ds (happened.nothing still) holds = inr (rule.still e f still holds)
+  happened_holds P R rule t ds (happened.answered_dead still) holds = inr (rule.still e f still holds)
+  happened_holds P R rule t ds (happened.dead gone) holds = inr (rule.gone f gone)
+  happened_holds P R rule t ds (happened.both_dead gone a b) holds = inr (rule.gone f gone)
+  happened_holds P R rule A ds (happened.copy count) holds = inl (copy_settles A A count refl)
+  happened_holds P R rule B ds (happened.copy count) holds = inl (copy_settles B B count refl)
+  happened_holds P R rule A ds _ holds = inl refl
+  happened_holds P R rule B ds _ holds = inl refl
 
 -- ---- what an agenda tells
 
@@ -180,7 +196,7 @@ module _ (s : Side) (d : Duty) (ds : List Duty) (kept : is_kept s (d ∷ ds) ≡
   rest_kept : is_kept s ds ≡ true
   rest_kept = (and_parts second_part (is_kept s ds) (and_parts first_part (second_part && is_kept s ds) kept).1).1
 
-  behind : is_calm d ≡ false → same_side (side_of d) s ≡ true → settles_in s ds ≡ true
+  pub behind : is_calm d ≡ false → same_side (side_of d) s ≡ true → settles_in s ds ≡ true
   behind calm own = by (settles_in s ds) (is_calm d) (same_side (side_of d) s) calm own (and_parts first_part (second_part && is_kept s ds) kept).0
     where
       by : (a c o : Bool) → c ≡ false → o ≡ true → (a || (c || not o)) ≡ true → a ≡ true
@@ -257,7 +273,7 @@ own_follows s gone d ds next follows calm own kept = by next follows
     by : (next : List Duty) → Follows s gone d ds next → (is_kept s next ≡ true) × ((settles_in s next ≡ true) ⊎ (gone ≡ true))
     by next follow.goes_on = (rest, inl later)
     by next follow.again = (kept, inl (settled_later s d ds later))
-    by next (follow.told treats e side one silent) =
+    by next (follow.told treats e side one named silent) =
         (in_front s e ds (later ∙ sym (subst (λ t. same_side t s ≡ true) (sym side) (itself s))) one rest, inl (settled_later s e ds later))
     by next (follow.left dead) = (calm_front s (duties.Ask (ask_duties.Leave s)) ds refl refl refl rest, inl later)
     by next follow.noted = (calm_front s (duties.Ask (ask_duties.Dead s)) ds refl refl refl rest, inl later)
@@ -291,7 +307,7 @@ other_follows t gone d ds next follows own idle kept = by next follows
     by : (next : List Duty) → Follows t gone d ds next → (is_kept (peer t) next ≡ true) × (settles_in (peer t) (d ∷ ds) ≡ true → settles_in (peer t) next ≡ true)
     by next follow.goes_on = (rest, later)
     by next follow.again = (kept, λ is. is)
-    by next (follow.told treats e side one silent) = (
+    by next (follow.told treats e side one named silent) = (
       in_front (peer t) e ds (none (inl (treats_breaks d treats)) ∙ sym (subst (λ r. same_side r (peer t) ≡ false) (sym side) (apart t))) one rest,
       λ is. settled_later (peer t) e ds (later is),
     )
@@ -318,7 +334,7 @@ same_end A B a b = refl
 same_end B A a b = refl
 same_end B B a b = refl
 
-module _ {C : Type 0} (P : PathEnd → Type 0) (rule : IsSettled P) where
+module _ {C : Type 0} (P R : PathEnd → Type 0) (rule : IsSettledBy P R) (F : Side → List Duty → PathState C → Type 0) (ahead : IsAhead R F) where
   -- the timer of this side is settled by one of these, or it holds
   record Ready (s : Side) (ds : List Duty) (p : PathState C) : Type 0 where
     kept : is_kept s ds ≡ true
@@ -326,6 +342,7 @@ module _ {C : Type 0} (P : PathEnd → Type 0) (rule : IsSettled P) where
 
   record Stands (s : Side) (p : PathState C) : Type 0 where
     ready : Ready s p.agenda p
+    front : F s p.agenda p
     loud : is_loud p.agenda ≡ true
 
   other_holds : (t : Side) (w : Writes) (p q : PathState C) → w.other ≡ nothing → OnlyAt t w p q → P (end_at (peer t) p) → P (end_at (peer t) q)
@@ -351,43 +368,46 @@ module _ {C : Type 0} (P : PathEnd → Type 0) (rule : IsSettled P) where
       (λ is. subst (λ x. Ready x (d ∷ ds) p → Ready x ds q) is (pass_other t d ds w p q only none (loose (peer t) d calm)))
       (sides s t)
 
-  pass_timer : (s t : Side) (ds : List Duty) (p : PathState C) → Ready s (duties.Silent (silent_duties.Timer t) ∷ ds) p → Ready s ds (passed (duties.Silent (silent_duties.Timer t)) p)
+  pass_timer : (s t : Side) (ds : List Duty) (p : PathState C) → F s (duties.Silent (silent_duties.Timer t) ∷ ds) p → Ready s (duties.Silent (silent_duties.Timer t) ∷ ds) p → Ready s ds (passed (duties.Silent (silent_duties.Timer t)) p)
   pass_timer s t ds p = ⊎_elim
-      (λ is. subst Kept is (λ h. record {
+      (λ is. subst Kept is (λ f h. record {
         kept = rest_kept t d ds h.kept;
-        holds = inr (subst P (sym (own_end t (with_timer_settled p.clock (end_at t p)) p.a p.b)) (rule.timer p.clock (end_at t p)));
+        holds = ⊎_elim
+            (λ later. inl later)
+            (λ so. inr (subst P (sym (own_end t (with_timer_settled p.clock (end_at t p)) p.a p.b)) (rule.timer p.clock (end_at t p) so)))
+            (ahead.timer t ds p f);
       }))
-      (λ is. subst Kept is (pass_other t d ds (writes d) p (passed d p) (passes_no_more d p) refl (apart t)))
+      (λ is. subst Kept is (λ f. pass_other t d ds (writes d) p (passed d p) (passes_no_more d p) refl (apart t)))
       (sides s t)
     where
       d : Duty
       d = duties.Silent (silent_duties.Timer t)
 
       Kept : Side → Type 0
-      Kept x = Ready x (d ∷ ds) p → Ready x ds (passed d p)
+      Kept x = F x (d ∷ ds) p → Ready x (d ∷ ds) p → Ready x ds (passed d p)
 
-  pass_ready : (s : Side) (d : Duty) (ds : List Duty) (p : PathState C) → stands d p ≡ false → Ready s (d ∷ ds) p → Ready s ds (passed d p)
-  pass_ready s (duties.Silent (silent_duties.Timer t)) ds p passes h = pass_timer s t ds p h
-  pass_ready s (duties.Step step_duties.Events) ds p passes h = record { kept = rest_kept s (duties.Step step_duties.Events) ds h.kept; holds = h.holds }
-  pass_ready s (duties.Ask (ask_duties.BreakAck t reason)) ds p passes h = absurd (true≢false passes)
-  pass_ready s (duties.Ask (ask_duties.Leave t)) ds p passes h = absurd (true≢false passes)
-  pass_ready s (duties.Ask (ask_duties.Dead t)) ds p passes h = absurd (true≢false passes)
-  pass_ready s (duties.Send (send_duties.BreakReset t reason)) ds p passes h = absurd (true≢false passes)
-  pass_ready s (duties.Send (send_duties.Reset t)) ds p passes h = absurd (true≢false passes)
-  pass_ready s (duties.Send (send_duties.ResetAnswer t)) ds p passes h = absurd (true≢false passes)
-  pass_ready s duties.End ds p passes h = absurd (true≢false passes)
-  pass_ready s d ds p passes h = pass_on s (side_of d) d ds (writes d) p (passed d p) (passes_no_more d p) refl refl (itself (side_of d)) h
+  pass_ready : (s : Side) (d : Duty) (ds : List Duty) (p : PathState C) → stands d p ≡ false → F s (d ∷ ds) p → Ready s (d ∷ ds) p → Ready s ds (passed d p)
+  pass_ready s (duties.Silent (silent_duties.Timer t)) ds p passes f h = pass_timer s t ds p f h
+  pass_ready s (duties.Step step_duties.Events) ds p passes f h = record { kept = rest_kept s (duties.Step step_duties.Events) ds h.kept; holds = h.holds }
+  pass_ready s (duties.Ask (ask_duties.BreakAck t reason)) ds p passes f h = absurd (true≢false passes)
+  pass_ready s (duties.Ask (ask_duties.Leave t)) ds p passes f h = absurd (true≢false passes)
+  pass_ready s (duties.Ask (ask_duties.Dead t)) ds p passes f h = absurd (true≢false passes)
+  pass_ready s (duties.Send (send_duties.BreakReset t reason)) ds p passes f h = absurd (true≢false passes)
+  pass_ready s (duties.Send (send_duties.Reset t)) ds p passes f h = absurd (true≢false passes)
+  pass_ready s (duties.Send (send_duties.ResetAnswer t)) ds p passes f h = absurd (true≢false passes)
+  pass_ready s duties.End ds p passes f h = absurd (true≢false passes)
+  pass_ready s d ds p passes f h = pass_on s (side_of d) d ds (writes d) p (passed d p) (passes_no_more d p) refl refl (itself (side_of d)) h
 
   stands_loud : (d : Duty) (ds : List Duty) (p : PathState C) → stands d p ≡ true → is_loud (d ∷ ds) ≡ true
   stands_loud (duties.Silent d) ds p is = absurd (true≢false (sym is))
   stands_loud _ ds p is = refl
 
-  settled_ready : (s : Side) (ds : List Duty) (p : PathState C) → Ready s ds p → Stands s (settled ds p)
-  settled_ready s [] p h = record { ready = record { kept = h.kept; holds = h.holds }; loud = refl }
-  settled_ready s (d ∷ ds) p h = by (stands d p) refl (λ passes. settled_ready s ds (passed d p) (pass_ready s d ds p passes h))
+  settled_ready : (s : Side) (ds : List Duty) (p : PathState C) → F s ds p → Ready s ds p → Stands s (settled ds p)
+  settled_ready s [] p f h = record { ready = record { kept = h.kept; holds = h.holds }; front = ahead.stays s [] p f; loud = refl }
+  settled_ready s (d ∷ ds) p f h = by (stands d p) refl (λ passes. settled_ready s ds (passed d p) (ahead.passes s d ds p passes f) (pass_ready s d ds p passes f h))
     where
       by : (b : Bool) → stands d p ≡ b → (stands d p ≡ false → Stands s (settled ds (passed d p))) → Stands s (if b then with_agenda (d ∷ ds) p else settled ds (passed d p))
-      by true is rest = record { ready = record { kept = h.kept; holds = h.holds }; loud = stands_loud d ds p is }
+      by true is rest = record { ready = record { kept = h.kept; holds = h.holds }; front = ahead.stays s (d ∷ ds) p f; loud = stands_loud d ds p is }
       by false is rest = rest is
 
   -- ---- duties that are answered
@@ -426,7 +446,7 @@ module _ {C : Type 0} (P : PathEnd → Type 0) (rule : IsSettled P) where
   event_holds s t p q next holding = record {
     kept = happened_kept (end_at t p) (end_at t q) s t q.agenda next.0;
     holds = ⊎_elim
-        (λ own. subst (λ x. P (end_at x p) → (settles_in x q.agenda ≡ true) ⊎ P (end_at x q)) own (happened_holds (end_at t p) (end_at t q) P rule t q.agenda next.0) holding)
+        (λ own. subst (λ x. P (end_at x p) → (settles_in x q.agenda ≡ true) ⊎ P (end_at x q)) own (happened_holds (end_at t p) (end_at t q) P R rule t q.agenda next.0) holding)
         (λ other. inr (subst (λ x. P (end_at x p) → P (end_at x q)) other
         (λ held. ⊎_elim (λ gone. rule.gone (end_at (peer t) q) gone) (λ still. rule.still (end_at (peer t) p) (end_at (peer t) q) still held) next.1) holding))
         (sides s t);
@@ -476,12 +496,12 @@ module _ {C : Type 0} (P : PathEnd → Type 0) (rule : IsSettled P) where
   takes_ready k s r p h = by p.agenda h
     where
       by : (ds : List Duty) → Stands s (with_agenda ds p) → Stands s (takes k r (with_agenda ds p))
-      by [] h = settled_ready s [] (with_agenda [] p) h.ready
+      by [] h = settled_ready s [] (with_agenda [] p) h.front h.ready
       by (d ∷ ds) h =
-          let q : PathState C = answered k d r (with_agenda (d ∷ ds) p) in settled_ready s q.agenda q (answer_ready k s d ds r p h.loud h.ready)
+          let q : PathState C = answered k d r (with_agenda (d ∷ ds) p) in settled_ready s q.agenda q (ahead.answers k s d ds r p h.ready.kept h.front) (answer_ready k s d ds r p h.loud h.ready)
 
   begins_ready : (s : Side) (p : PathState C) → Stands s (begins_turn p)
-  begins_ready s p = settled_ready s start_of_turn (with_agenda start_of_turn p) (by s)
+  begins_ready s p = settled_ready s start_of_turn (with_agenda start_of_turn p) (ahead.begins s p) (by s)
     where
       by : (s : Side) → Ready s start_of_turn (with_agenda start_of_turn p)
       by A = record { kept = refl; holds = inl refl }
@@ -508,16 +528,33 @@ module _ {C : Type 0} (P : PathEnd → Type 0) (rule : IsSettled P) where
   member_begins (Path p) h = λ s. begins_ready s (record p { clock = p.until; until = p.until + 100 })
 
   -- where the turn of a path is over it holds at both ends
-  abbrev pub HoldsAtTheEnd : PathState C → Type 0
-  HoldsAtTheEnd p = p.agenda ≡ [] → (s : Side) → P (end_at s p)
+  abbrev pub HoldsBehind : PathState C → Type 0
+  HoldsBehind p = p.agenda ≡ [] → (s : Side) → P (end_at s p)
 
-  member_so : (m : Actor C) → IsStandingMember m → HoldsOfKind (λ app. Unit {0}) HoldsAtTheEnd m
+  member_so : (m : Actor C) → IsStandingMember m → HoldsOfKind (λ app. Unit {0}) HoldsBehind m
   member_so (App a) h = tt
   member_so (Path p) h = λ over s. over_so s p (h s) over
 
-  pub each_turn_settles : (k : Codec C) (start : Start) (turns : List Turn) (actor : ℕ) (c : ActorCrew C) → slice_get (world_run k turns (opened_world start)).crew actor ≡ Some c
-      → HoldsOfKind (λ app. Unit {0}) HoldsAtTheEnd c.member
-  each_turn_settles k start turns actor c there = member_so c.member
+  pub each_turn_ends : (k : Codec C) (start : Start) (turns : List Turn) (actor : ℕ) (c : ActorCrew C) → slice_get (world_run k turns (opened_world start)).crew actor ≡ Some c
+      → HoldsOfKind (λ app. Unit {0}) HoldsBehind c.member
+  each_turn_ends k start turns actor c there = member_so c.member
       ((run_lifted k (λ c. IsStandingMember c.member) (λ books c x asks h. member_stands k (answer_to books x) c.member h) (λ stamp c over h. member_begins c.member h)
       turns (opened_world start)
       (opened_lifted (λ c. IsStandingMember c.member) start tt tt (λ number plan there. λ s. begins_ready s (waiting_path (path_begins start number plan) start.lines)))).each actor c there)
+
+-- ---- where nothing has to hold before
+
+by_timer : (P : PathEnd → Type 0) → IsSettled P → IsSettledBy P (λ e. Unit {0})
+by_timer P rule = record { seen = rule.seen; still = rule.still; gone = rule.gone; timer = λ now e held. rule.timer now e }
+
+module _ {C : Type 0} (P : PathEnd → Type 0) (rule : IsSettled P) where
+  anyhow : IsAhead {C = C} (λ e. Unit {0}) (λ s ds p. Unit {0})
+  anyhow = record { timer = λ s ds p f. inr tt; passes = λ s d ds p passed_by f. tt; stays = λ s ds p f. tt; answers = λ k s d ds r p kept f. tt; begins = λ s p. tt }
+
+  -- where the turn of a path is over it holds at both ends
+  abbrev pub HoldsAtTheEnd : PathState C → Type 0
+  HoldsAtTheEnd p = p.agenda ≡ [] → (s : Side) → P (end_at s p)
+
+  pub each_turn_settles : (k : Codec C) (start : Start) (turns : List Turn) (actor : ℕ) (c : ActorCrew C) → slice_get (world_run k turns (opened_world start)).crew actor ≡ Some c
+      → HoldsOfKind (λ app. Unit {0}) HoldsAtTheEnd c.member
+  each_turn_settles = each_turn_ends P (λ e. Unit {0}) (by_timer P rule) (λ s ds p. Unit {0}) anyhow

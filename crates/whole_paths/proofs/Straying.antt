@@ -1,11 +1,12 @@
 -- Where both ends of path 0 are open, nearly nothing leads an exchange of a mild connection astray.
 use Rattle.std.proofs.Common.{◌≡◌, refl, sym, subst, ap, ◌∙◌, inl, inr, ⊎_elim, arith, ◌≤◌, Bool, true, false, true≢false, not, ◌&&◌, ◌==◌, Some, None, is_some, [], ◌∷◌, ◌++◌}
-use Rattle.std.specs.List.{slice_get}
+use Rattle.std.specs.List.{list_any, slice_get}
 use Rattle.std.proofs.lemmas.Bool.{both_ways}
 use Rattle.std.proofs.lemmas.Option.{same_Some}
 use Rattle.sides.specs.declared.side.Side.{Side}
 use Rattle.sides.specs.declared.side.Side.TheVariants.{A, B}
 use Rattle.sides.specs.Side.{peer}
+use Rattle.stream_lanes.specs.Words.{Every}
 use Rattle.subflow_send.specs.Records.{Record}
 use Rattle.subflow_tcp.specs.States.{is_dead}
 use Rattle.subflow_tcp.specs.declared.handshake.State.{State}
@@ -27,15 +28,19 @@ use Rattle.whole_paths.specs.Brought.{IsToReset}
 use Rattle.whole_paths.specs.Brought.IsToReset.{broken, is_reset, stopped}
 use Rattle.whole_paths.specs.Exchanges.{IsAstray}
 use Rattle.whole_paths.specs.Exchanges.{IsAstray as stray}
-use Rattle.whole_paths.specs.Mild.{BreaksForMissing, EndsGoByMappings, EndsHaveKeys, HardlyBreaks, HasKeys, IsHardlyBroken, KeysAreKnown, MappingIsKept}
+use Rattle.whole_paths.specs.Mild.{BreaksForMissing, EndsGoByMappings, EndsHaveKeys, HardlyBreaks, HasKeys, IsHardlyBroken, KeysAreKnown, MappingIsKept, is_harsh}
+use Rattle.whole_paths.specs.Owed.{IsToRefuse}
+use Rattle.whole_paths.specs.Owed.{IsToRefuse as refuse}
 use Rattle.whole_paths.specs.Straying.{HardlyStrays, IsHardlyAstray, IsOpen, IsOpenBetween, OpenEndsHardlyStray, WholePathsAreOpen}
 use Rattle.whole_paths.specs.Straying.{IsHardlyAstray as hardly}
 use Rattle.whole_paths.proofs.Breaking.{hardly_breaks}
+use Rattle.whole_paths.proofs.Clearing.{Clears, MemberClears, each_clears, never_refuses, never_treats}
 use Rattle.whole_paths.proofs.GoesOn.{goes_on_so}
 use Rattle.whole_paths.proofs.Keyed.{keys_are_known}
 use Rattle.whole_paths.proofs.Mild.{mapping_is_kept}
 
-module _ (p q : PathState Carried) (open_p : IsOpen p) (open_q : IsOpen q) (mapped_p : EndsGoByMappings p) (mapped_q : EndsGoByMappings q) (keys : EndsHaveKeys q) (breaks_so : BreaksForMissing q) where
+module _ (p q : PathState Carried) (open_p : IsOpen p) (open_q : IsOpen q) (mapped_p : EndsGoByMappings p) (mapped_q : EndsGoByMappings q) (keys : EndsHaveKeys q) (breaks_p : BreaksForMissing p) (breaks_so : BreaksForMissing q)
+    (clears_p : (t : Side) → Clears t p.agenda (end_at t p)) (clears : (t : Side) → Clears t q.agenda (end_at t q)) where
   resets_so : (s : Side) → IsToReset (peer s) q.agenda → IsHardlyAstray s p q
   resets_so s (broken reason is) = hardly.missing (inl (is ∙ ap (breaks (peer s)) (breaks_so.broken (peer s) reason is)))
   resets_so s (is_reset reason is) = hardly.missing (inr (is ∙ ap (resets (peer s)) (breaks_so.is_reset (peer s) reason is)))
@@ -44,13 +49,17 @@ module _ (p q : PathState Carried) (open_p : IsOpen p) (open_q : IsOpen q) (mapp
   has_key : (s t : Side) → (end_at t q).modes.peer_key ≡ None → IsHardlyAstray s p q
   has_key s A none = ⊎_elim
       (λ some. absurd (both_ways (is_some q.a.modes.peer_key) (ap is_some none) some))
-      (λ treats. hardly.treats treats)
+      (λ treats. absurd (never_treats q clears open_q.clear treats))
       (keys.a (let past = open_q.past A in omega (arith, past)) (open_q.living A))
   has_key s B none = absurd (both_ways (is_some q.b.modes.peer_key) (ap is_some none) (keys.b (open_q.clear B)))
 
+  refused_so : (s : Side) → IsToRefuse (peer s) p.agenda → IsHardlyAstray s p q
+  refused_so s (refuse.refuses others is) = absurd (true≢false (sym (ap (λ ds. list_any is_harsh ds) is) ∙ breaks_p.duties))
+  refused_so s (refuse.answers others is) = absurd (never_refuses p (peer s) clears_p (open_p.living (peer s)) others is)
+
   strays_so : (s : Side) (r : Record) → IsAstray s r p q → IsHardlyAstray s p q
   strays_so s r (stray.reset is) = resets_so s is
-  strays_so s r (stray.resets x is taken) = hardly.resets_now x is taken
+  strays_so s r (stray.resets is) = refused_so s is
   strays_so s r (stray.behind_fin is) = hardly.behind_fin is
   strays_so s r (stray.unopened low) = absurd (let past = open_p.past (peer s) in omega (arith, past, low))
   strays_so s r (stray.half_open low passed) = absurd (let past = open_p.past (peer s) in omega (arith, past, low))
@@ -70,10 +79,10 @@ module _ (p q : PathState Carried) (open_p : IsOpen p) (open_q : IsOpen q) (mapp
 abbrev OfPaths : (PathState Carried → Type 0) → Actor Carried → Type 0
 OfPaths P = HoldsOfKind (λ app. Unit {0}) P
 
-member_strays : (m n : Actor Carried) → OfPaths EndsGoByMappings m → OfPaths EndsGoByMappings n → OfPaths HasKeys n → OfPaths IsHardlyBroken n → HardlyStrays m n
-member_strays (Path p) (Path q) mapped_p mapped_q keys breaks_so = λ open_p open_q s r is. strays_so p q open_p open_q mapped_p mapped_q (keys open_q.first) (breaks_so open_q.first) s r is
-member_strays (Path p) (App b) mapped_p mapped_q keys breaks_so = tt
-member_strays (App a) n mapped_p mapped_q keys breaks_so = tt
+member_strays : (m n : Actor Carried) → OfPaths EndsGoByMappings m → OfPaths EndsGoByMappings n → OfPaths HasKeys n → OfPaths IsHardlyBroken m → OfPaths IsHardlyBroken n → MemberClears m → MemberClears n → HardlyStrays m n
+member_strays (Path p) (Path q) mapped_p mapped_q keys breaks_p breaks_so clears_p clears = λ open_p open_q s r is. strays_so p q open_p open_q mapped_p mapped_q (keys open_q.first) (breaks_p open_p.first) (breaks_so open_q.first) (clears_p open_p.first) (clears open_q.first) s r is
+member_strays (Path p) (App b) mapped_p mapped_q keys breaks_p breaks_so clears_p clears = tt
+member_strays (App a) n mapped_p mapped_q keys breaks_p breaks_so clears_p clears = tt
 
 pub open_ends_hardly_stray : OpenEndsHardlyStray
 open_ends_hardly_stray start turns turn mild actor c d was now =
@@ -82,7 +91,8 @@ open_ends_hardly_stray start turns turn mild actor c d was now =
     let mapped : MappingIsKept v = subst MappingIsKept same (mapping_is_kept start (turns ++ turn ∷ []) mild) in
     let keys : KeysAreKnown v = subst KeysAreKnown same (keys_are_known start (turns ++ turn ∷ []) mild) in
     let breaks_so : HardlyBreaks v = subst HardlyBreaks same (hardly_breaks start (turns ++ turn ∷ []) mild) in
-    member_strays c.member d.member ((mapping_is_kept start turns mild).each actor c was) (mapped.each actor d now) (keys.each actor d now) (breaks_so.each actor d now)
+    let clears = subst (λ (x : WorldState Carried). Every (λ (y : ActorCrew Carried). MemberClears y.member) x.crew) same (each_clears values start (turns ++ turn ∷ [])) in
+    member_strays c.member d.member ((mapping_is_kept start turns mild).each actor c was) (mapped.each actor d now) (keys.each actor d now) ((hardly_breaks start turns mild).each actor c was) (breaks_so.each actor d now) ((each_clears values start turns).each actor c was) (clears.each actor d now)
 
 -- ---- a path that is whole, and still is later
 

@@ -141,7 +141,7 @@ event_calm (Some (happenings.Fires s tick)) r p first = elim (is_sixth (end_at s
 follow_calm : (s : Side) (gone : Bool) (d : Duty) (ds es : List Duty) → treats_copy d ≡ false → may_break d ≡ false → Calm (d ∷ ds) → Follows s gone d ds es → Calm es
 follow_calm s gone d ds es treats may h follows.goes_on = behind_calm d ds h
 follow_calm s gone d ds es treats may h follows.again = h
-follow_calm s gone d ds es treats may h (follows.told is e own other silent) = absurd (both_ways (treats_copy d) treats is)
+follow_calm s gone d ds es treats may h (follows.told is e own other named silent) = absurd (both_ways (treats_copy d) treats is)
 follow_calm s gone d ds es treats may h (follows.left dead) = behind_calm d ds h
 follow_calm s gone d ds es treats may h follows.noted = behind_calm d ds h
 follow_calm s gone d ds es treats may h (follows.broken is reason) = absurd (both_ways (may_break d) may is)

@@ -57,6 +57,16 @@ abbrev pub hears_join : Duty → Bool
 hears_join (duties.Ask (ask_duties.JoinHeard s)) = true
 hears_join _ = false
 
+-- one duty tells another one in its place: the side falls back, its control book is told of a Data ACK or an MP_FAIL, or a path that joins is
+-- answered or refused
+abbrev pub is_told : Duty → Bool
+is_told (duties.Ask (ask_duties.GoIdentity s)) = true
+is_told (duties.Ask (ask_duties.AckHeard s)) = true
+is_told (duties.Ask (ask_duties.FailHeard s)) = true
+is_told (duties.Send (send_duties.SynAck s)) = true
+is_told (duties.Send (send_duties.Refuse s)) = true
+is_told _ = false
+
 -- by a duty no segment is sent but a reset, nor by one that it tells
 abbrev pub is_silent : Duty → Bool
 is_silent (duties.Ask (ask_duties.JoinHeard s)) = false
@@ -72,7 +82,7 @@ pub data Follows (s : Side) (gone : Bool) (d : Duty) (ds : List Duty) : List Dut
   -- the others; it once more; another one of the side in its place
   goes_on : Follows s gone d ds ds
   again : Follows s gone d ds (d ∷ ds)
-  told : treats_copy d ≡ true → (e : Duty) → side_of e ≡ s → is_of_both e ≡ false → (is_silent e ≡ true) ⊎ (hears_join d ≡ true) → Follows s gone d ds (e ∷ ds)
+  told : treats_copy d ≡ true → (e : Duty) → side_of e ≡ s → is_of_both e ≡ false → is_told e ≡ true → (is_silent e ≡ true) ⊎ (hears_join d ≡ true) → Follows s gone d ds (e ∷ ds)
   -- the end is dead and gives back its bytes, and then tells it
   left : gone ≡ true → Follows s gone d ds (duties.Ask (ask_duties.Leave s) ∷ ds)
   noted : Follows s gone d ds (duties.Ask (ask_duties.Dead s) ∷ ds)

@@ -19,12 +19,14 @@ use Rattle.path_core.specs.End.{PathEnd}
 use Rattle.path_core.specs.Events.{next_event}
 use Rattle.path_core.specs.Handover.{handed}
 use Rattle.path_core.specs.Octets.{made}
+use Rattle.path_core.specs.Shown.{AltersNothing}
 use Rattle.path_core.specs.State.{PathState, end_at}
 use Rattle.path_core.specs.declared.events.Event.TheVariants as happenings
 use Rattle.world_laws.specs.declared.member.Member.TheVariants.{App, Path}
 use Rattle.world_laws.specs.Actors.{Actor, ActorCrew}
 use Rattle.world_laws.specs.Laws.{Always}
 use Rattle.world_laws.specs.Members.{HoldsOfKind}
+use Rattle.world_laws.specs.NeverFalls.{StripsNothing}
 use Rattle.world_laws.specs.Worlds.{WorldState, Turn, after_turn}
 use Rattle.whole_paths.specs.Copies.{IsUnderWay}
 use Rattle.whole_paths.specs.Expiries.{IsToSendAgain}
@@ -40,8 +42,11 @@ module _ {C : Type 0} where
   pub record IsAsking (k : Codec C) (s : Side) (p : PathState C) (f : Flight C) : Type 0 where
     pub to : f.to ≡ peer s
     pub sender : PathEnd
+    -- where no line of the path takes options away none were, and where none alters payload the copy's wasn't
     pub stripped : Bool
     pub altered : Bool
+    pub whole : StripsNothing p.link.lines → stripped ≡ false
+    pub plain : AltersNothing p.link.lines → altered ≡ false
     pub carried : f.carried ≡ changed (k.strips p.profile.spelling s) (k.alters p.profile.spelling s) stripped altered (k.makes p.profile.spelling s (ack_resent p.profile s sender))
 
   -- Such a copy comes by this tick, unless the script harms it: as late as the link may hand on what is sent as the timer runs out, or now,
@@ -71,6 +76,17 @@ module _ {C : Type 0} where
     -- the end is dead, or the line comes next by which the path dies
     gone : is_dead (end_at s q).tcp.state ≡ true → AskingGoesOn k s by p q
     dies : (line : LineLeft) → next_event p ≡ Some (happenings.Takes line) → line.action ≡ actions.Die → AskingGoesOn k s by p q
+
+  -- of a copy under way, that this holds of its sender as it sent it, and of whether the link stripped and altered it
+  abbrev pub IsAskedSo : {k : Codec C} {s : Side} {by : ℕ} {p : PathState C} → (PathEnd → Bool → Bool → Type 0) → IsAskedAgain k s by p → Type 0
+  IsAskedSo Was (flies f low there h) = Was h.sender h.stripped h.altered
+  IsAskedSo Was _ = Unit {0}
+
+  -- and of the copy that arrives
+  abbrev pub AskComesSo : {k : Codec C} {s : Side} {by : ℕ} {p q : PathState C} → (PathEnd → Bool → Bool → Type 0) → AskingGoesOn k s by p q → Type 0
+  AskComesSo Was (on h) = IsAskedSo Was h
+  AskComesSo Was (arrives f low there h others first next) = Was h.sender h.stripped h.altered
+  AskComesSo Was _ = Unit {0}
 
   -- as the path becomes this actor, with fewer than 2^64 - 1 segments sent from the side
   abbrev pub AsksGoOn : Codec C → Actor C → Actor C → Type 0

@@ -11,7 +11,6 @@ use Rattle.subflow_send.specs.declared.record.RecordKind.TheVariants.{Data}
 use Rattle.subflow_tcp.specs.Emitting.{acknowledged_in}
 use Rattle.subflow_tcp.specs.State.{is_fin_passed}
 use Rattle.subflow_tcp.specs.States.{is_closed_to_segments, is_dead}
-use Rattle.subflow_tcp.specs.declared.segments.Outgoing.{Outgoing}
 use Rattle.path_store.specs.declared.lines.LineAction.TheVariants as actions
 use Rattle.path_store.specs.declared.lines.LineLeft.{LineLeft}
 use Rattle.path_core.specs.DssOut.{is_first_piece}
@@ -40,7 +39,7 @@ use Rattle.whole_paths.specs.Copies.{IsUnderWay}
 use Rattle.whole_paths.specs.Flights.{IsFirst, IsOnItsWay, IsSentSo}
 use Rattle.whole_paths.specs.Harms.{harms_left, loses, longest_way}
 use Rattle.whole_paths.specs.InHand.{IsInHand}
-use Rattle.whole_paths.specs.Owed.{IsAnswered, IsAnsweredSo}
+use Rattle.whole_paths.specs.Owed.{IsAnswered, IsAnsweredSo, IsToRefuse}
 use Rattle.whole_paths.specs.Waits.{IsNews}
 
 -- ---- where
@@ -100,10 +99,9 @@ pub data IsHeldUp (s : Side) (p q : PathState Carried) : Type 0 where
 
 -- an end doesn't go by the mappings of pieces, or goes on to a reset
 pub data IsAstray (s : Side) (r : Record) (p q : PathState Carried) : Type 0 where
-  -- the peer is reset next, or the link took its reset, or the segment by which it refuses a copy or answers it dead
+  -- the peer is reset next, or refuses a copy, or answers it by a reset
   reset : IsToReset (peer s) q.agenda → IsAstray s r p q
-  resets : (x : PlainSegment) → (x.rst ≡ true) ⊎ ((answer : Outgoing) × (((end_at (peer s) p).treated.answer ≡ Some answer) × (x.rst ≡ answer.rst))) → q.link ≡ handed values (peer s) x p
-      → IsAstray s r p q
+  resets : IsToRefuse (peer s) p.agenda → IsAstray s r p q
   -- the peer is past the end's FIN
   behind_fin : is_fin_passed (end_at (peer s) q).tcp ≡ true → IsAstray s r p q
   -- the peer hasn't both SYNs, or its handshake isn't done, though its RCV.NXT is past the record

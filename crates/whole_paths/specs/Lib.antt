@@ -13,9 +13,11 @@ pub mod Copies
 pub mod DataAcks
 pub mod DataAcksAsked
 pub mod DataAcksCome
+pub mod DataAcksExchanged
 pub mod DataAcksHeard
 pub mod Courses
 pub mod DataAcksNow
+pub mod DataAcksOwed
 pub mod Due
 pub mod EndSteps
 pub mod Exchanges
@@ -45,3 +47,5 @@ pub mod Sent
 pub mod Straying
 pub mod Timers
 pub mod Waits
+pub mod Writers
+pub mod Ends

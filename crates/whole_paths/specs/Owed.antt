@@ -1,16 +1,16 @@
 -- How an acknowledgement that an end owes comes to the peer, whatever is lost (RFC 9293, section 3.10.7.4).
-use Rattle.std.specs.Prelude.{ℕ, ◌+◌, ◌-◌, ◌^◌, ◌≡◌, ◌<◌, ◌≤◌, ◌⊎◌, Bool, true, false, Some, List, ◌∷◌, length, slice_get}
+use Rattle.std.specs.Prelude.{ℕ, ◌+◌, ◌-◌, ◌^◌, ◌≡◌, ◌<◌, ◌≤◌, Bool, true, false, Some, List, ◌∷◌, length, slice_get}
 use Rattle.sides.specs.declared.side.Side.{Side}
 use Rattle.sides.specs.Side.{peer}
 use Rattle.path_segments.specs.Spelled.{PlainSegment}
 use Rattle.link_model.specs.declared.flight.Flight.{Flight}
 use Rattle.link_model.specs.Steps.{changed, due_of, segments_sent}
 use Rattle.subflow_tcp.specs.States.{is_dead}
-use Rattle.subflow_tcp.specs.declared.segments.Outgoing.{Outgoing}
 use Rattle.path_store.specs.declared.lines.LineAction.TheVariants as actions
 use Rattle.path_store.specs.declared.lines.LineLeft.{LineLeft}
 use Rattle.path_agenda.specs.declared.duty.Duty.{Duty}
 use Rattle.path_agenda.specs.declared.duty.Duty.TheVariants as duties
+use Rattle.path_agenda.specs.declared.duty.SendDuty.TheVariants as send_duties
 use Rattle.path_agenda.specs.declared.duty.StepDuty.TheVariants as step_duties
 use Rattle.path_core.specs.Codec.{Codec}
 use Rattle.path_core.specs.Events.{next_event}
@@ -34,6 +34,11 @@ pub record Covers (position : ℕ) (x : PlainSegment) : Type 0 where
   pub acknowledged : x.acknowledged ≡ Some up_to
   pub enough : position ≤ up_to
   pub rst : x.rst ≡ false
+
+-- this side's end refuses a copy next, or answers it by a reset
+pub data IsToRefuse (s : Side) (ds : List Duty) : Type 0 where
+  refuses : (others : List Duty) → ds ≡ duties.Send (send_duties.Refuse s) ∷ others → IsToRefuse s ds
+  answers : (others : List Duty) → ds ≡ duties.Send (send_duties.ResetAnswer s) ∷ others → IsToRefuse s ds
 
 module _ {C : Type 0} where
   -- what the link makes of such a segment, on its way to the peer
@@ -67,10 +72,8 @@ module _ {C : Type 0} where
     -- the link took such a segment, and lost it by the word drawn for it, or since its queue was full: never a plain direction (Mild)
     lost : (x : PlainSegment) → Covers position x → q.link ≡ handed k s x p → loses s (length (made p.profile.spelling s x)) p.clock p.link ≡ true
         → AnswerGoesOn k s position by p q
-    -- the link took a reset in its place, or the segment by which the end refuses a copy or answers it dead: on path 0 of a mild connection
-    -- none is refused (Mild)
-    resets : (x : PlainSegment) → (x.rst ≡ true) ⊎ ((answer : Outgoing) × (((end_at s p).treated.answer ≡ Some answer) × (x.rst ≡ answer.rst))) → q.link ≡ handed k s x p
-        → AnswerGoesOn k s position by p q
+    -- the end refuses a copy next, or answers one by a reset, as a dead end does, and one that listens
+    resets : IsToRefuse s p.agenda → AnswerGoesOn k s position by p q
     -- the end is dead, or the line comes next by which the path dies
     gone : is_dead (end_at s q).tcp.state ≡ true → AnswerGoesOn k s position by p q
     dies : (line : LineLeft) → next_event p ≡ Some (happenings.Takes line) → line.action ≡ actions.Die → AnswerGoesOn k s position by p q

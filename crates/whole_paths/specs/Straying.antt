@@ -2,14 +2,11 @@
 use Rattle.std.specs.Prelude.{ℕ, ◌+◌, ◌≡◌, ◌≤◌, ◌⊎◌, true, false, Some, List, ◌++◌, slice_get}
 use Rattle.sides.specs.declared.side.Side.{Side}
 use Rattle.sides.specs.Side.{peer}
-use Rattle.path_segments.specs.Spelled.{PlainSegment}
 use Rattle.link_model.specs.declared.flight.Flight.{Flight}
 use Rattle.subflow_send.specs.Records.{Record}
 use Rattle.subflow_tcp.specs.State.{is_fin_passed}
 use Rattle.subflow_tcp.specs.States.{is_dead}
-use Rattle.subflow_tcp.specs.declared.segments.Outgoing.{Outgoing}
 use Rattle.path_agenda.specs.Agenda.{breaks, resets}
-use Rattle.path_core.specs.Handover.{handed}
 use Rattle.path_core.specs.MpJoin.{is_joined}
 use Rattle.path_core.specs.State.{PathState, end_at}
 use Rattle.path_core.specs.Values.{Carried, values}
@@ -21,7 +18,7 @@ use Rattle.whole_paths.specs.AsFar.{stage}
 use Rattle.whole_paths.specs.Copies.{IsUnderWay}
 use Rattle.whole_paths.specs.Exchanges.{IsAstray}
 use Rattle.whole_paths.specs.Finish.{IsWhole}
-use Rattle.whole_paths.specs.Mild.{IsMildStart, treats_answer}
+use Rattle.whole_paths.specs.Mild.{IsMildStart}
 
 -- path 0, whose ends are past the handshake, may send a DSS and aren't dead
 pub record IsOpen (p : PathState Carried) : Type 0 where
@@ -34,15 +31,10 @@ pub record IsOpen (p : PathState Carried) : Type 0 where
 pub data IsHardlyAstray (s : Side) (p q : PathState Carried) : Type 0 where
   -- the peer is reset next, as a third copy came whose next byte has no mapping
   missing : (q.agenda ≡ breaks (peer s) 6) ⊎ (q.agenda ≡ resets (peer s) 6) → IsHardlyAstray s p q
-  -- the link took the peer's reset, or the segment by which it answers a copy dead
-  resets_now : (x : PlainSegment) → (x.rst ≡ true) ⊎ ((answer : Outgoing) × (((end_at (peer s) p).treated.answer ≡ Some answer) × (x.rst ≡ answer.rst)))
-      → q.link ≡ handed values (peer s) x p → IsHardlyAstray s p q
   -- the peer is past the end's FIN
   behind_fin : is_fin_passed (end_at (peer s) q).tcp ≡ true → IsHardlyAstray s p q
   -- a copy that comes to the end lies past its window
   past_window : (f : Flight Carried) → IsUnderWay f p → f.to ≡ s → (end_at s p).tcp.recv.edge + 1048576 ≤ f.carried.segment.position → IsHardlyAstray s p q
-  -- A treats the SYN/ACK
-  treats : treats_answer q.agenda ≡ true → IsHardlyAstray s p q
 
 -- as the path becomes this actor, and is still open
 abbrev pub HardlyStrays : Actor Carried → Actor Carried → Type 0

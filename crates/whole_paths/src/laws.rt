@@ -18,9 +18,12 @@ ghost use Rattle.whole_paths.specs.Copies.{CopiesLeaveByArriving};
 ghost use Rattle.whole_paths.specs.DataAcks.{EachSegmentHasADataAck};
 ghost use Rattle.whole_paths.specs.DataAcksAsked.{WhatIsAskedComes};
 ghost use Rattle.whole_paths.specs.DataAcksCome.{EachAckComes, EachAskArrives};
+ghost use Rattle.whole_paths.specs.DataAcksExchanged.{EachAskIsAnswered};
 ghost use Rattle.whole_paths.specs.DataAcksHeard.{EachDataAckCounts, EachDataAckIsSaid};
 ghost use Rattle.whole_paths.specs.DataAcksNow.{OnlyPathsAreUpToDate};
+ghost use Rattle.whole_paths.specs.DataAcksOwed.{WhatIsOwedHasADataAck};
 ghost use Rattle.whole_paths.specs.Due.{CopiesArriveAsSent};
+ghost use Rattle.whole_paths.specs.Ends.{EndsAreSent};
 ghost use Rattle.whole_paths.specs.Exchanges.{EachRecordIsAcknowledged};
 ghost use Rattle.whole_paths.specs.Expiries.{WhatRunsOutGoesAgain};
 ghost use Rattle.whole_paths.specs.Finish.{HarmsUseLines};
@@ -47,6 +50,7 @@ ghost use Rattle.whole_paths.specs.Sent.{WhatCameWasSent};
 ghost use Rattle.whole_paths.specs.Straying.{OpenEndsHardlyStray, WholePathsAreOpen};
 ghost use Rattle.whole_paths.specs.Timers.{TimersRunOut};
 ghost use Rattle.whole_paths.specs.Waits.{NoTimerIsPutOff};
+ghost use Rattle.whole_paths.specs.Writers.{WritersGoOn};
 
 /// A law: by whatever turns, lawful or not, nothing that an end, a side or an actor has reached goes back, whatever is lost, late,
 /// repeated or altered.
@@ -263,6 +267,16 @@ pub fn each_data_ack_is_up_to_date()
     ensures values { Always values OnlyPathsAreUpToDate }
 {}
 
+/// A law: on the only path of a connection an acknowledgement that an end owes comes with the Data ACK of all that its side received, as
+/// `what_is_owed_comes` says of what it acknowledges (RFC 8684, section 3.3.2).
+///
+/// So it is where the end may send a DSS and didn't fall back to plain TCP. By each turn the end owes it still, or such a segment is under
+/// way, without payload, at SND.NXT or behind what that was, and its Data ACK is at the place that the reassembly book wanted next, or past it.
+pub fn what_is_owed_has_a_data_ack()
+    ensures octets { WhatIsOwedHasADataAck octets }
+    ensures values { WhatIsOwedHasADataAck values }
+{}
+
 /// A law: each Data ACK that an end takes counts, in its turn: all before its place is acknowledged then to the end (RFC 8684, section
 /// 3.3.2), and where it is past all that the side wrote, the DATA_FIN too (section 3.3.3).
 ///
@@ -328,6 +342,21 @@ pub fn who_is_done_may_ask()
 pub fn what_was_written_is_acknowledged()
     ensures octets { WhatWasWrittenIsAcknowledged octets }
     ensures values { WhatWasWrittenIsAcknowledged values }
+{}
+
+/// A law: in each round an application writes what there is room for (RFC 9293, section 3.9.1).
+///
+/// As its turn is over, its file is written and its stream closed, or more is written than was acknowledged as the round began, by all that
+/// a side buffers; or the connection was stopped there.
+pub fn writers_go_on()
+    ensures octets { WritersGoOn octets }
+    ensures values { WritersGoOn values }
+{}
+
+/// A law: where the turn of a path is over, neither end is left with a DATA_FIN or a FIN to send (RFC 8684, section 3.3.3).
+pub fn ends_are_sent()
+    ensures octets { Always octets (λ start w. EndsAreSent w) }
+    ensures values { Always values (λ start w. EndsAreSent w) }
 {}
 
 /// A law: each octet that comes to an end is kept until RCV.NXT passes it (RFC 9293, section 3.10.7.4).
@@ -435,6 +464,20 @@ pub fn what_is_asked_comes()
     ensures arrives { EachAskArrives }
 {}
 
+/// A law: what an end without a record asks is answered with the Data ACK of what the peer's side received by then, on the only path of a
+/// connection, where no segment of the exchange is harmed (RFC 8684, sections 3.3.2 and 3.3.3).
+///
+/// By each turn the exchange goes on in its order, and the tick stays by which the answer comes: the end's DATA_FIN or probe comes to the
+/// peer (`what_is_asked_comes`), which takes it, or answers it as a copy that came before; an acknowledgement goes back whose Data ACK is at
+/// the place that the peer's reassembly book wants as it sends, or past it; and the end hears it, in its turn. Where a turn is over such
+/// an exchange begins, within a minute and the longest time there and back, and once the clock is past its tick the Data ACK is heard
+/// (`in_time`). That is said of a path without checksums where no line takes options away or alters payload. Or the end has a record again, or nothing of it is outstanding; or there is
+/// news, octets of the peer's come in order, a segment is lost or late, or an end dies (`IsHeldUp`); or an end isn't open or doesn't go by
+/// Data ACKs (`IsAwry`).
+pub fn each_ask_is_answered()
+    ensures { EachAskIsAnswered }
+{}
+
 /// A law: by whatever turns, an end keeps what isn't acknowledged yet, so that it can be sent again.
 ///
 /// Each record of its subflow (the SYN, a piece with its mapping, the FIN) stays, at its position and in its order, until SND.UNA reaches
@@ -503,8 +546,8 @@ pub fn mild_scripts_hardly_break()
 {}
 
 /// A law: there an exchange goes astray on path 0 by few things alone, where both ends are past the handshake, may send a DSS and aren't dead,
-/// before a turn and after it: a third copy whose next byte has no mapping, a reset that a link takes, a FIN that an end is past, a copy past
-/// the window, or the SYN/ACK that A still treats. Neither end fell back, and each knows its peer's key.
+/// before a turn and after it: a third copy whose next byte has no mapping, a FIN that an end is past, or a copy past the window. Neither end
+/// fell back, each knows its peer's key, neither treats the SYN/ACK, and none refuses a copy, or answers one by a reset.
 ///
 /// Such are both ends of path 0 by each turn between two moments at which it is whole (`between`).
 pub fn open_ends_hardly_stray()

@@ -1,0 +1,5 @@
+mod Frames
+mod Sayings
+mod Packets
+mod Ipv4
+mod Segments

@@ -1,0 +1,504 @@
+-- The exchange of an ask goes on by each turn, stage by stage, or something comes between.
+use Rattle.std.proofs.Common.{◌≡◌, refl, sym, subst, ap, ◌∙◌, ◌⊎◌, inl, inr, ⊎_elim, ℕ, zero, suc, ◌+◌, ◌-◌, ◌^◌, ◌<◌, ◌≤◌, arith, ◌||◌, Bool, true, false, true≢false, Option, Some, None, IfSome, List, [], ◌∷◌, le_refl}
+use Rattle.std.specs.List.{slice_get, list_any}
+use Rattle.std.proofs.lemmas.Bool.{cases_lt}
+use Rattle.std.proofs.lemmas.Option.{same_Some}
+use Rattle.path_segments.specs.Laws.{meant}
+use Rattle.path_segments.specs.Spelled.{PlainSegment}
+use Rattle.sides.specs.declared.side.Side.{Side}
+use Rattle.sides.specs.Side.{peer}
+use Rattle.link_model.specs.declared.flight.Due.{Due}
+use Rattle.link_model.specs.declared.flight.Flight.{Flight}
+use Rattle.link_model.specs.Fate.{is_stripped, is_altered}
+use Rattle.link_model.specs.Steps.{changed, due_of, next_number, segments_sent}
+use Rattle.subflow_tcp.specs.States.{is_dead}
+use Rattle.actor_desk.specs.Books.{StampedBooks, books_in}
+use Rattle.actor_desk.specs.declared.ask.Note.{Note}
+use Rattle.path_agenda.specs.Items.{wants_ack}
+use Rattle.path_agenda.specs.declared.duty.Duty.{Duty}
+use Rattle.path_agenda.specs.declared.duty.Duty.TheVariants as duties
+use Rattle.path_agenda.specs.declared.duty.StepDuty.TheVariants as step_duties
+use Rattle.path_agenda.specs.declared.heard.Heard.{Heard}
+use Rattle.path_agenda.specs.declared.heard.Heard.TheVariants as says
+use Rattle.path_core.specs.Choices.{item_at}
+use Rattle.path_core.specs.DataFin.{is_data_fin_owed}
+use Rattle.path_core.specs.Emission.{ack_resent}
+use Rattle.path_core.specs.End.{PathEnd}
+use Rattle.path_core.specs.Events.{next_event}
+use Rattle.path_core.specs.MpJoin.{is_joined}
+use Rattle.path_core.specs.OptionsIn.{items_of, options_heard}
+use Rattle.path_core.specs.State.{PathState, end_at}
+use Rattle.path_core.specs.Values.{Carried, carried_by, values}
+use Rattle.path_core.specs.declared.events.Event.TheVariants as happenings
+use Rattle.world_laws.specs.declared.member.Member.TheVariants.{App, Path}
+use Rattle.world_laws.specs.Actors.{Actor, ActorCrew}
+use Rattle.world_laws.specs.Openings.{PathPlan, Start, opened_world}
+use Rattle.world_laws.specs.Promises.{HasRoom, NumbersFit}
+use Rattle.world_laws.specs.Worlds.{Turn, after_turn, world_run}
+use Rattle.whole_paths.specs.AgendaSteps.{event_side}
+use Rattle.whole_paths.specs.Answered.{AcksGoFirst}
+use Rattle.whole_paths.specs.Arrivals.{Arrival, ComesAgain}
+use Rattle.whole_paths.specs.AsFar.{stage}
+use Rattle.whole_paths.specs.Brought.{Comes}
+use Rattle.whole_paths.specs.Came.{AcksWhatCame, HasCome}
+use Rattle.whole_paths.specs.ClosingAsked.{OwesItsEnd, TakesFrom, EndComes}
+use Rattle.whole_paths.specs.ClosingOwed.{OwesAnAnswer, PathsOwe}
+use Rattle.whole_paths.specs.Copies.{IsUnderWay}
+use Rattle.whole_paths.specs.DataAcksAsked.{IsAsking, IsAskedAgain, IsAskedSo, AskingGoesOn, AskComesSo}
+use Rattle.whole_paths.specs.DataAcksAsked.{AskingGoesOn as asking}
+use Rattle.whole_paths.specs.DataAcksAsked.{IsAskedAgain as ways}
+use Rattle.whole_paths.specs.DataAcksCome.{AskArrives, ComesTaken, IsBare, IsInWindow, IsOpen}
+use Rattle.whole_paths.specs.DataAcksExchanged.{IsAskedPlainly, IsInquired, InquiryGoesOn, InquiriesGoOn, InquiriesBegin, InquiriesEnd, EachAskIsAnswered}
+use Rattle.whole_paths.specs.DataAcksExchanged.IsInquired.{asks, answered, heard}
+use Rattle.whole_paths.specs.DataAcksExchanged.{IsAwry as awry}
+use Rattle.whole_paths.specs.DataAcksExchanged.{InquiryGoesOn as goes}
+use Rattle.whole_paths.specs.DataAcksHeard.{HearsDataAcks, IsPastTheEnd, PathsHear, StaysHeard}
+use Rattle.whole_paths.specs.DataAcksHeard.{StaysHeard as stay}
+use Rattle.whole_paths.specs.DataAcksNow.{KnowsWhatCame}
+use Rattle.whole_paths.specs.DataAcksOwed.{IsDataAckFrom, WantsWhereItSends}
+use Rattle.whole_paths.specs.Due.{CopiesArriveSo}
+use Rattle.whole_paths.specs.Exchanges.{IsFaithful}
+use Rattle.whole_paths.specs.Exchanges.{IsHeldUp as held}
+use Rattle.whole_paths.specs.Harms.{longest_way}
+use Rattle.whole_paths.specs.InTime.{ComesFrom}
+use Rattle.whole_paths.specs.Kept.{KeepsWhatWaits, EndsKeepWhatWaits}
+use Rattle.whole_paths.specs.Owed.{AnswerGoesOn, AnswerComesSo, IsAnswer, IsAnswered, IsAnsweredSo}
+use Rattle.whole_paths.specs.Owed.{AnswerGoesOn as answer}
+use Rattle.whole_paths.specs.Owed.IsAnswered.{owes, flies}
+use Rattle.whole_paths.specs.Sent.{WasSent}
+use Rattle.whole_paths.specs.Waits.{IsNews as news}
+use Rattle.whole_paths.proofs.Acking.{HandsComeSo, hands_come_so, same_actor}
+use Rattle.whole_paths.proofs.Arrivals.{sender_of}
+use Rattle.whole_paths.proofs.Came.{what_is_acknowledged_came}
+use Rattle.whole_paths.proofs.ClosingAsked.{asks_so, each_data_fin_comes}
+use Rattle.whole_paths.proofs.ClosingOwed.{what_wants_an_answer_is_owed_one}
+use Rattle.whole_paths.proofs.DataAcksAsked.{AskedAtTheEnd, AsksComeSo, asked_at_the_end, asks_come_so}
+use Rattle.whole_paths.proofs.DataAcksCome.{each_ack_comes, each_ask_arrives}
+use Rattle.whole_paths.proofs.DataAcksHeard.{each_data_ack_counts, each_data_ack_is_said}
+use Rattle.whole_paths.proofs.DataAcksNow.{each_data_ack_is_up_to_date}
+use Rattle.whole_paths.proofs.DataAcksOwed.{data_ack_goes}
+use Rattle.whole_paths.proofs.Due.{LinkMember, copies_arrive_as_sent, each_link}
+use Rattle.whole_paths.proofs.Exchanges.{Known, OfPaths, SameHeader, Shown, all_at, answer_later, below_limit, changed_said, each_shown, under_way}
+use Rattle.whole_paths.proofs.Flying.{Frames, FramesStay, frames_stay, timer_from}
+use Rattle.whole_paths.proofs.InTime.{nothing_is_overdue}
+use Rattle.whole_paths.proofs.Keeping.{what_waits_is_kept}
+use Rattle.whole_paths.proofs.Knowing.{what_is_told_is_known}
+use Rattle.whole_paths.proofs.Owing.{copies_are_answered}
+use Rattle.whole_paths.proofs.Passing.{what_is_in_order_is_passed}
+use Rattle.whole_paths.proofs.Paying.{AnswersComeSo, GoesSo, TurnedTo, answers_come_so, turned_to}
+use Rattle.whole_paths.proofs.Reached.{EndsAreReached, each_is_reached, none_left}
+use Rattle.whole_paths.proofs.Sent.{what_came_was_sent}
+
+item_wants : (index place : ℕ) (items : List Heard) → item_at index items ≡ Some (says.DataFin place) → list_any wants_ack items ≡ true
+item_wants index place [] at = cc
+item_wants zero place (item ∷ items) at = ap (λ i. wants_ack i || list_any wants_ack items) (same_Some item (says.DataFin place) at)
+item_wants (suc n) place (item ∷ items) at = more (wants_ack item) (list_any wants_ack items) (item_wants n place items at)
+  where
+    more : (b c : Bool) → c ≡ true → (b || c) ≡ true
+    more true c is = refl
+    more false c is = is
+
+one_less : (n edge : ℕ) → n ≤ edge → 0 < edge → n - 1 < edge
+one_less zero edge low some = some
+one_less (suc n) edge low some = omega (arith, low)
+
+-- what the laws of one turn say of it, side by side
+record IsTurn (books : StampedBooks) (steps : List Note) (p q : PathState Carried) : Type 0 where
+  kept : (s : Side) → KeepsWhatWaits (end_at s p) (end_at s q)
+  frames : Frames p q
+  far : (s : Side) → (end_at s p).tcp.recv.edge ≤ (end_at s q).tcp.recv.edge
+  later : (s : Side) → stage (end_at s p).tcp.state ≤ stage (end_at s q).tcp.state
+  hears : HearsDataAcks values books steps p q
+  owed : OwesAnAnswer values p q
+  first : AcksGoFirst p
+  knows : KnowsWhatCame (books_in books) p
+
+module _ (books : StampedBooks) (steps : List Note) (p q : PathState Carried) (known : Known p) (faithful : IsFaithful p) (few : (t : Side) → segments_sent t p.link < 2 ^ 64 - 1) (turn : IsTurn books steps p q)
+    (s : Side) (place : ℕ) (fin : Bool) (until : ℕ) where
+  abbrev Ack : PlainSegment → Type 0
+  Ack = IsDataAckFrom (end_at s p).tcp.recv.edge place
+
+  abbrev Plainly : PathEnd → Bool → Bool → Type 0
+  Plainly = IsAskedPlainly (end_at s p).tcp.send.una
+
+  abbrev Goes : Type 0
+  Goes = InquiryGoesOn s place fin until steps p q
+
+  same_goes : q ≡ p → IsInquired s place fin until p → Goes
+  same_goes same h = goes.on (subst (IsInquired s place fin until) (sym same) h)
+
+  -- RCV.NXT of the end stays, or more came; SND.UNA stays, or there is news
+  if_still : ((end_at s q).tcp.recv.edge ≡ (end_at s p).tcp.recv.edge → Goes) → Goes
+  if_still stays = ⊎_elim (λ more. goes.held_up (held.more_came more)) (λ low. stays (let up = turn.far s in omega (arith, low, up))) (cases_lt (end_at s p).tcp.recv.edge (end_at s q).tcp.recv.edge)
+
+  if_unacked : ((end_at s q).tcp.send.una ≡ (end_at s p).tcp.send.una → Goes) → Goes
+  if_unacked stays =
+      ⊎_elim (λ more. goes.held_up (held.news (news.on_subflow more))) (λ low. stays (let up = (turn.kept s).una in omega (arith, low, up))) (cases_lt (end_at s p).tcp.send.una (end_at s q).tcp.send.una)
+
+  -- an end lives, is open, and goes by mappings
+  if_living : (t : Side) → (is_dead (end_at t p).tcp.state ≡ false → Goes) → Goes
+  if_living t then_so = by (is_dead (end_at t p).tcp.state) refl
+    where
+      by : (b : Bool) → is_dead (end_at t p).tcp.state ≡ b → Goes
+      by true is = goes.held_up (held.gone t (inl is))
+      by false is = then_so is
+
+  if_open : (t : Side) → (3 ≤ stage (end_at t p).tcp.state → Goes) → Goes
+  if_open t then_so = ⊎_elim (λ low. goes.awry (awry.unopened t (omega (arith, low)))) (λ high. then_so (omega (arith, high))) (cases_lt (stage (end_at t p).tcp.state) 3)
+
+  if_clear : (t : Side) → ((end_at t p).modes.clear ≡ true → Goes) → Goes
+  if_clear t then_so = by (end_at t p).modes.clear refl
+    where
+      by : (b : Bool) → (end_at t p).modes.clear ≡ b → Goes
+      by true is = then_so is
+      by false is = goes.awry (awry.unclear t is)
+
+  if_mapped : (t : Side) → ((end_at t p).modes.identity ≡ false → Goes) → Goes
+  if_mapped t then_so = by (end_at t p).modes.identity refl
+    where
+      by : (b : Bool) → (end_at t p).modes.identity ≡ b → Goes
+      by true is = goes.awry (awry.plain t (inl is))
+      by false is = then_so is
+
+  numbered : (f : Flight Carried) → IsUnderWay f p → f.number < 2 ^ 64 - 1
+  numbered f there = let low = under_way (λ g. g.number ≤ segments_sent (peer g.to) p.link) f p there known.link.low in let most = few (peer f.to) in omega (arith, low, most)
+
+  tick_from : (f : Flight Carried) → IsUnderWay f p → p.clock ≤ f.tick
+  tick_from f there = subst (λ (g : Flight Carried). p.clock ≤ g.tick) there.holds (all_at (λ (g : Flight Carried). p.clock ≤ g.tick) p.link.under_way there.at there.item there.there known.past.copies)
+
+  -- what a copy acknowledges that is no reset was sent
+  acked_sent : (f : Flight Carried) (n : ℕ) → IsUnderWay f p → f.carried.segment.rst ≡ false → f.carried.segment.acknowledged ≡ Some n → n ≤ (end_at f.to p).tcp.send.nxt
+  acked_sent f n there rst acks =
+      let low : n ≤ (end_at (peer f.to) p).tcp.recv.edge = ⊎_elim
+      (λ is. absurd (true≢false (sym is ∙ rst)))
+      (λ low. subst (λ o. IfSome o (λ n. n ≤ (end_at (peer f.to) p).tcp.recv.edge)) acks low)
+      (under_way (AcksWhatCame p) f p there known.came.copies) in
+      let sent = subst (λ t. (end_at (peer f.to) p).tcp.recv.edge ≤ (end_at t p).tcp.send.nxt) (sender_of f.to) (known.was_sent (peer f.to)) in
+      omega (arith, low, sent)
+
+  opened_so : (t : Side) → 2 ≤ stage (end_at t p).tcp.state → is_dead (end_at t p).tcp.state ≡ false → IsOpen (end_at t p).tcp
+  opened_so t high living = record { opened = high; living = living; below_limit = below_limit p known t }
+
+  -- ---- the Data ACK comes, and is heard
+
+  stays_goes : (next : ℕ) → place ≤ next → StaysHeard s next fin steps q → Goes
+  stays_goes next enough (stay.on h) = goes.on (heard next enough h)
+  stays_goes next enough (stay.gone dead) = goes.held_up (held.gone s (inr dead))
+  stays_goes next enough (stay.reset h) = goes.awry (awry.reset h)
+  stays_goes next enough (stay.plain is) = goes.awry (awry.plain s (inr is))
+  stays_goes next enough (stay.infinite h) = goes.awry (awry.infinite h)
+  stays_goes next enough (stay.refused is) = goes.awry (awry.refused is)
+
+  module _ (f : Flight Carried) (there : IsUnderWay f p) (h : IsAnswer values (peer s) 1 p f) (so : Ack h.segment)
+      (others : List Duty) (first : p.agenda ≡ duties.Step step_duties.Events ∷ others) (next : next_event p ≡ Some (happenings.Arrives (due_of f))) where
+    answer_to : f.to ≡ s
+    answer_to = h.to ∙ sender_of s
+
+    abbrev answer_arrives : Arrival h.segment p
+    answer_arrives = let comes = known.alike f there (numbered f there) in record {
+      others = others;
+      first = first;
+      due = due_of f;
+      next = next;
+      flight = comes.first;
+      there = comes.there;
+      carried = comes.same ∙ h.carried
+          ∙ ap (λ b. changed (values.strips p.profile.spelling (peer s)) (values.alters p.profile.spelling (peer s)) b h.altered (carried_by p.profile.spelling (peer s) h.segment)) (h.whole faithful.whole)
+          ∙ ap (λ b. changed (values.strips p.profile.spelling (peer s)) (values.alters p.profile.spelling (peer s)) false b (carried_by p.profile.spelling (peer s) h.segment)) (h.plain faithful.plain)
+          ∙ ap (λ t. carried_by p.profile.spelling t h.segment) (sym (ap peer h.to ∙ sender_of (peer s)));
+      joined = faithful.joined;
+      no_sums = faithful.no_sums;
+    }
+
+    answer_header : SameHeader h.segment f.carried.segment
+    answer_header = changed_said p.profile.spelling (peer s) h.segment h.stripped h.altered f.carried h.carried
+
+    answer_bare : IsBare h.segment
+    answer_bare = record { syn = so.syn; fin = so.fin; rst = h.covers.rst; empty = so.payload }
+
+    -- it is taken, and says its Data ACK
+    ack_taken : (end_at s p).modes.identity ≡ false → IsInquired s place fin until p → ComesTaken h.segment p → Goes
+    ack_taken mapped still taken =
+        let to : taken.brings.copy.due.to ≡ s = sym (ap event_side taken.brings.copy.next) ∙ ap event_side next ∙ answer_to in
+        ⊎_elim
+        (λ same. same_goes same still)
+        (λ stays. stays_goes so.next so.enough (subst (λ t. StaysHeard t so.next fin steps q) to stays))
+        (turn.hears.tells taken.brings 1 so.next (meant h.segment).window fin
+        (subst (λ segment. item_at 1 (items_of (is_joined p.profile) taken.brings.copy.due.to (options_heard (end_at taken.brings.copy.due.to p) segment)) ≡ Some (says.DataAck so.next (meant h.segment).window)) (sym taken.segment)
+        (each_data_ack_is_said h.segment (end_at taken.brings.copy.due.to p) (is_joined p.profile) taken.brings.copy.due.to so.next so.mapping so.others so.options so.low
+        (subst (λ t. (end_at t p).modes.identity ≡ false) (sym to) mapped))))
+
+    in_window : h.segment.position < (end_at s p).tcp.recv.edge + 1048576 → IsInWindow h.segment (end_at s p).tcp
+    in_window within = record {
+      from = so.from;
+      within = within;
+      acknowledged = h.covers.up_to;
+      acknowledges = h.covers.acknowledged;
+      answered = (let some = h.covers.enough in omega (arith, some));
+      sent = subst (λ t. h.covers.up_to ≤ (end_at t p).tcp.send.nxt) answer_to (acked_sent f h.covers.up_to there (answer_header.rst ∙ h.covers.rst) (answer_header.acknowledged ∙ h.covers.acknowledged));
+    }
+
+    answer_comes : 2 ≤ stage (end_at s p).tcp.state → IsInquired s place fin until p → Goes
+    answer_comes high still = if_living s (λ living. if_mapped s (λ mapped. ⊎_elim
+        (λ within. ack_taken mapped still ((each_ack_comes h.segment p answer_arrives answer_bare (subst (λ t. IsOpen (end_at t p).tcp) (sym answer_to) (opened_so s high living))).taken
+        (subst (λ t. IsInWindow h.segment (end_at t p).tcp) (sym answer_to) (in_window within))))
+        (λ above. goes.awry (awry.past_window f there answer_to (let at = answer_header.position in omega (arith, at, above))))
+        (cases_lt h.segment.position ((end_at s p).tcp.recv.edge + 1048576))))
+
+  -- ---- the answer goes on
+
+  abbrev less_answered : (position : ℕ) (f : Flight Carried) → 1 ≤ position → IsAnswer values (peer s) position p f → IsAnswer values (peer s) 1 p f
+  less_answered position f some h = record {
+    to = h.to;
+    segment = h.segment;
+    covers = record { up_to = h.covers.up_to; acknowledged = h.covers.acknowledged; enough = (let enough = h.covers.enough in omega (arith, enough, some)); rst = h.covers.rst };
+    stripped = h.stripped;
+    altered = h.altered;
+    whole = h.whole;
+    plain = h.plain;
+    carried = h.carried;
+  }
+
+  answer_goes : 2 ≤ stage (end_at s p).tcp.state → IsInquired s place fin until p → (position before : ℕ) → 1 ≤ position → before ≤ until → (go : AnswerGoesOn values (peer s) position before p q) → AnswerComesSo Ack go → Goes
+  answer_goes high still position before some low (answer.on h) so = if_still (λ same. (let later = answer_later Ack (peer s) position 1 before until q some low h so in
+      goes.on (answered (let up = turn.later s in omega (arith, high, up)) later.0 (subst (λ n. IsAnsweredSo (IsDataAckFrom n place) later.0) (sym same) later.1))))
+  answer_goes high still position before some low (answer.arrives f in_time there h others first next) so = answer_comes f there (less_answered position f some h) so others first next high still
+  answer_goes high still position before some low (answer.harmed less) so = goes.held_up (held.harmed less)
+  answer_goes high still position before some low (answer.lost x covers taken loses) so = goes.held_up (held.lost (peer s) x taken loses)
+  answer_goes high still position before some low (answer.resets is) so = goes.awry (awry.resets is)
+  answer_goes high still position before some low (answer.gone dead) so = goes.held_up (held.gone (peer s) (inr dead))
+  answer_goes high still position before some low (answer.dies line next is) so = goes.held_up (held.dies line next is)
+
+  -- ---- what the end asks comes
+
+  module _ (arrival : ℕ) (soon : arrival + longest_way (peer s) p.link ≤ until) (still : IsInquired s place fin until p) (f : Flight Carried) (in_time : f.tick ≤ arrival) (there : IsUnderWay f p)
+      (h : IsAsking values s p f) (so : Plainly h.sender h.stripped h.altered) (hands : HandsComeSo Ack values (Path p) (Path q))
+      (others : List Duty) (first : p.agenda ≡ duties.Step step_duties.Events ∷ others) (next : next_event p ≡ Some (happenings.Arrives (due_of f))) where
+    abbrev x : PlainSegment
+    x = ack_resent p.profile s h.sender
+
+    abbrev taker : PathEnd
+    taker = end_at (peer s) p
+
+    ask_arrives : AskArrives s p f h.sender
+    ask_arrives = each_ask_arrives s p f h so.unstripped so.unaltered there (numbered f there) known.alike others first next faithful.joined faithful.no_sums
+
+    arrives_to : ask_arrives.arrival.due.to ≡ peer s
+    arrives_to = ap (λ (due : Due). due.to) ask_arrives.due_is ∙ h.to
+
+    side_is : (c : Comes values p) → c.due.to ≡ peer s
+    side_is c = sym (ap event_side c.next) ∙ ap event_side next ∙ h.to
+
+    by_clock : (q.clock + longest_way (peer s) q.link ≤ until → Goes) → Goes
+    by_clock then_so = ⊎_elim
+        (λ same. same_goes same still)
+        (λ is. then_so (let from = tick_from f there in let way = turn.frames.way (peer s) in omega (arith, is, from, in_time, way, soon)))
+        (turn.frames.moves (happenings.Arrives (due_of f)) others first next)
+
+    -- before RCV.NXT it is answered
+    comes_before : 2 ≤ stage (end_at s p).tcp.state → 3 ≤ stage taker.tcp.state → is_dead taker.tcp.state ≡ false → x.position < taker.tcp.recv.edge → Goes
+    comes_before high opened living low =
+        let again : ComesAgain p = (each_ack_comes x p ask_arrives.arrival ask_arrives.bare
+        (subst (λ t. IsOpen (end_at t p).tcp) (sym arrives_to) (opened_so (peer s) (omega (arith, opened)) living))).again
+        (subst (λ t. x.position < (end_at t p).tcp.recv.edge) (sym arrives_to) low) in
+        let to : again.copy.due.to ≡ peer s = side_is again.copy in
+        ⊎_elim
+        (λ same. same_goes same still)
+        (λ go. by_clock (λ soon_enough. (let here = subst (λ t. (go : AnswerGoesOn values t (end_at t p).tcp.recv.edge (q.clock + longest_way t q.link) p q) × AnswerComesSo Ack go) to go in
+        answer_goes high still taker.tcp.recv.edge (q.clock + longest_way (peer s) q.link) (let some = known.edge (peer s) in omega (arith, some)) soon_enough here.0 here.1)))
+        (hands.1.0 again.copy again.outside (subst (λ t. 3 ≤ stage (end_at t p).tcp.state) (sym to) opened))
+
+    -- the DATA_FIN is taken in the window
+    fin_comes : 2 ≤ stage (end_at s p).tcp.state → 3 ≤ stage taker.tcp.state → (told : ℕ) → OwesItsEnd told h.sender → TakesFrom h.sender taker → Goes
+    fin_comes high opened told owes_it takes =
+        let e : EndComes told p = each_data_fin_comes s p f h so.unstripped so.unaltered there (numbered f there) known.alike others first next faithful.joined faithful.no_sums told owes_it takes in
+        let to : e.brings.copy.due.to ≡ peer s = side_is e.brings.copy in
+        ⊎_elim
+        (λ same. same_goes same still)
+        (λ due. by_clock (λ soon_enough. goes.on (answered (let up = turn.later s in omega (arith, high, up))
+        (owes soon_enough (let up = turn.later (peer s) in omega (arith, opened, up)) (let some = known.edge (peer s) in let up = turn.far (peer s) in omega (arith, some, up))
+        (subst (λ t. (end_at t q).tcp.due.ack ≡ true) to due)) tt)))
+        (turn.owed.owes e.brings (inr (item_wants e.index told _ e.says)))
+
+    fin_said : (told : ℕ) → OwesItsEnd told h.sender → is_dead taker.tcp.state ≡ false → 3 ≤ stage taker.tcp.state → taker.modes.identity ≡ false → taker.tcp.recv.edge ≤ h.sender.tcp.send.nxt
+        → (end_at s p).tcp.send.una ≤ taker.tcp.recv.edge → TakesFrom h.sender taker
+    fin_said told owes_it living opened mapped from reached =
+        let header : SameHeader x f.carried.segment = changed_said p.profile.spelling s x h.stripped h.altered f.carried h.carried in
+        record {
+          opened = opened_so (peer s) (omega (arith, opened)) living;
+          mapped = mapped;
+          from = from;
+          within = (let at = so.nxt in omega (arith, at, reached));
+          answered = so.edge;
+          sent = subst (λ t. h.sender.tcp.recv.edge ≤ (end_at t p).tcp.send.nxt) h.to (acked_sent f h.sender.tcp.recv.edge there (header.rst ∙ ask_arrives.bare.rst)
+              (header.acknowledged ∙ ap (λ (y : PlainSegment). y.acknowledged) (asks_so p.profile s h.sender told owes_it)));
+        }
+
+    ask_comes : Goes
+    ask_comes = if_living s (λ living. if_living (peer s) (λ there_living. if_open s (λ high. if_open (peer s) (λ opened. if_mapped (peer s) (λ mapped. by (omega (arith, high)) (known.came.una s living) there_living opened mapped so.ends)))))
+      where
+        by : 2 ≤ stage (end_at s p).tcp.state → (end_at s p).tcp.send.una ≤ taker.tcp.recv.edge → is_dead taker.tcp.state ≡ false → 3 ≤ stage taker.tcp.state → taker.modes.identity ≡ false
+            → (is_data_fin_owed h.sender ≡ false) ⊎ ((told : ℕ) × OwesItsEnd told h.sender) → Goes
+        by high low living opened mapped (inl none) = comes_before high opened living
+            (let less = one_less (end_at s p).tcp.send.una taker.tcp.recv.edge low (known.edge (peer s)) in
+            subst (λ n. n < taker.tcp.recv.edge) (sym (ask_arrives.probes so.third so.close none ∙ ap (λ n. n - 1) so.una)) less)
+        by high low living opened mapped (inr owed) = ⊎_elim
+            (λ past. comes_before high opened living (subst (λ n. n < taker.tcp.recv.edge) (sym (ap (λ (y : PlainSegment). y.position) (asks_so p.profile s h.sender owed.0 owed.1))) past))
+            (λ from. fin_comes high opened owed.0 owed.1 (fin_said owed.0 owed.1 living opened mapped from low))
+            (cases_lt h.sender.tcp.send.nxt taker.tcp.recv.edge)
+
+  -- ---- each stage
+
+  -- what the end asks is on its way
+  asking_goes : (arrival : ℕ) → arrival + longest_way (peer s) p.link ≤ until → IsInquired s place fin until p → HandsComeSo Ack values (Path p) (Path q)
+      → (go : AskingGoesOn values s arrival p q) → AskComesSo Plainly go → Goes
+  asking_goes arrival soon still hands (asking.on h) so =
+      if_unacked (λ same. goes.on (asks arrival (let way = turn.frames.way (peer s) in omega (arith, way, soon)) h (subst (λ n. IsAskedSo (IsAskedPlainly n) h) (sym same) so)))
+  asking_goes arrival soon still hands (asking.arrives f in_time there h others first next) so = ask_comes arrival soon still f in_time there h so hands others first next
+  asking_goes arrival soon still hands (asking.record_waits r way) so = goes.record_waits r arrival (omega (arith, soon)) way
+  asking_goes arrival soon still hands (asking.news h) so = goes.held_up (held.news h)
+  asking_goes arrival soon still hands (asking.done none) so = goes.done none
+  asking_goes arrival soon still hands (asking.harmed less) so = goes.held_up (held.harmed less)
+  asking_goes arrival soon still hands (asking.lost x of_it taken loses) so = goes.held_up (held.lost s x taken loses)
+  asking_goes arrival soon still hands (asking.gone dead) so = goes.held_up (held.gone s (inr dead))
+  asking_goes arrival soon still hands (asking.dies line next is) so = goes.held_up (held.dies line next is)
+
+  -- the end asks plainly, as it sends
+  if_plain : (((end_at s p).tcp.send.records ≡ [] → Plainly (end_at s p) (is_stripped s (next_number s p.link) p.clock p.link.lines) (is_altered s (next_number s p.link) p.link.lines)) → Goes) → Goes
+  if_plain then_so = by_third (end_at s p).modes.owes_third refl
+    where
+      plainly : (end_at s p).modes.owes_third ≡ false → (end_at s p).notices.fast_closed ≡ false → (is_data_fin_owed (end_at s p) ≡ false) ⊎ ((told : ℕ) × OwesItsEnd told (end_at s p)) → Goes
+      plainly third close ends = then_so (λ none. record {
+        una = refl;
+        nxt = sym (none_left (end_at s p).tcp (known.reached s) none);
+        third = third;
+        close = close;
+        ends = ends;
+        edge = known.edge s;
+        unstripped = faithful.whole.strips s (next_number s p.link) p.clock;
+        unaltered = faithful.plain.alters s (next_number s p.link);
+      })
+
+      by_end : (end_at s p).modes.owes_third ≡ false → (end_at s p).notices.fast_closed ≡ false → is_data_fin_owed (end_at s p) ≡ true → (end_at s p).modes.clear ≡ true → (end_at s p).modes.identity ≡ false
+          → (o : Option ℕ) → (end_at s p).sending.known_end ≡ o → Goes
+      by_end third close owed clear mapped None is = goes.awry (awry.endless is)
+      by_end third close owed clear mapped (Some told) is = plainly third close (inr (
+        told,
+        record {
+          third = third;
+          close = close;
+          owed = owed;
+          clear = clear;
+          mapped = mapped;
+          end = is;
+          low = (let low : (end_at s p).receiving.next < 2 ^ 31 = (known.tells s).window.next in omega (arith, low));
+          fair = (let low : told < 2 ^ 31 = subst (λ o. IfSome o (λ n. n < 2 ^ 31)) is (known.tells s).stream.known_end in omega (arith, low));
+        },
+      ))
+
+      by_owed : (end_at s p).modes.owes_third ≡ false → (end_at s p).notices.fast_closed ≡ false → (b : Bool) → is_data_fin_owed (end_at s p) ≡ b → Goes
+      by_owed third close false is = plainly third close (inl is)
+      by_owed third close true is = if_clear s (λ clear. if_mapped s (λ mapped. by_end third close is clear mapped (end_at s p).sending.known_end refl))
+
+      by_close : (end_at s p).modes.owes_third ≡ false → (b : Bool) → (end_at s p).notices.fast_closed ≡ b → Goes
+      by_close third true is = goes.awry (awry.close is)
+      by_close third false is = by_owed third is (is_data_fin_owed (end_at s p)) refl
+
+      by_third : (b : Bool) → (end_at s p).modes.owes_third ≡ b → Goes
+      by_third true is = goes.awry (awry.third is)
+      by_third false is = by_close is (end_at s p).notices.fast_closed refl
+
+  -- what goes from the peer while it owes an acknowledgement
+  if_acks : WantsWhereItSends (books_in books) (peer s) place p → (GoesSo Ack (peer s) p → Goes) → Goes
+  if_acks wants then_so = if_living (peer s) (λ living. if_clear (peer s) (λ clear. if_mapped (peer s) (λ mapped. then_so
+      (data_ack_goes (books_in books) (peer s) (end_at s p).tcp.recv.edge place p turn.first turn.knows living clear mapped (known.was_sent s)
+      (let low : (end_at (peer s) p).receiving.next < 2 ^ 31 = (known.tells (peer s)).window.next in omega (arith, low)) wants))))
+
+  inquiry_goes : AsksComeSo Plainly values (Path p) (Path q) → AnswersComeSo Ack values (Path p) (Path q) → HandsComeSo Ack values (Path p) (Path q)
+      → IsPastTheEnd books s place fin → WantsWhereItSends (books_in books) (peer s) place p → IsInquired s place fin until p → Goes
+  inquiry_goes come answers hands past wants (asks arrival soon h so) = if_plain (λ was. (let go = come s arrival (few s) was h so in asking_goes arrival soon (asks arrival soon h so) hands go.0 go.1))
+  inquiry_goes come answers hands past wants (answered high h so) =
+      if_acks wants (λ was. (let go = answers (peer s) 1 until (few (peer s)) was h so in answer_goes high (answered high h so) 1 until (le_refl 1) (le_refl until) go.0 go.1))
+  inquiry_goes come answers hands past wants (heard next enough h) = stays_goes next enough (turn.hears.stays s next fin (λ is. (let far = past is in omega (arith, far, enough))) h)
+
+-- ---- the world
+
+inquiries_go : (books : StampedBooks) (steps : List Note) (m n : Actor Carried) → EndsKeepWhatWaits m n → FramesStay m n → TurnedTo m n → PathsHear values books steps m n → PathsOwe values m n
+    → ((Was : PathEnd → Bool → Bool → Type 0) → AsksComeSo Was values m n) → ((Was : PlainSegment → Type 0) → AnswersComeSo Was values m n) → ((Was : PlainSegment → Type 0) → HandsComeSo Was values m n)
+    → OfPaths Shown m → OfPaths EndsAreReached m → OfPaths HasCome m → OfPaths WasSent m → LinkMember m → OfPaths CopiesArriveSo m → OfPaths (λ p. ComesFrom p.clock p) m → OfPaths AcksGoFirst m
+    → OfPaths (KnowsWhatCame (books_in books)) m → InquiriesGoOn books steps m n
+inquiries_go books steps (App a) (App b) kept frames turned hears owed come answers hands shown reached came was_sent link alike past first knows = tt
+inquiries_go books steps (Path p) (Path q) kept frames turned hears owed come answers hands shown reached came was_sent link alike past first knows = λ faithful s place fin until few at_end wants h.
+    inquiry_goes books steps p q
+    (record { tells = shown.tells; behind = shown.behind; edge = shown.edge; reached = reached; came = came; was_sent = was_sent; link = link; alike = alike; past = past })
+    faithful few
+    (record { kept = kept; frames = frames; far = λ s. (turned.far s).subflow.received; later = λ s. (turned.far s).subflow.state; hears = hears; owed = owed; first = first; knows = knows })
+    s place fin until (come (IsAskedPlainly (end_at s p).tcp.send.una)) (answers (IsDataAckFrom (end_at s p).tcp.recv.edge place)) (hands (IsDataAckFrom (end_at s p).tcp.recv.edge place)) at_end wants h
+inquiries_go books steps (App a) (Path q) kept frames turned hears owed come answers hands shown reached came was_sent link alike past first knows = absurd kept
+inquiries_go books steps (Path p) (App b) kept frames turned hears owed come answers hands shown reached came was_sent link alike past first knows = absurd kept
+
+inquiries_by_turns : (start : Start) (turns : List Turn) (plan : PathPlan) → start.paths ≡ plan ∷ [] → HasRoom start → NumbersFit start → let w = world_run values turns (opened_world start) in
+    (turn : Turn) (actor : ℕ) (c : ActorCrew Carried) → slice_get w.crew actor ≡ Some c
+    → (d : ActorCrew Carried) × (slice_get (after_turn values turn w).crew actor ≡ Some d) × InquiriesGoOn w.books d.list c.member d.member
+inquiries_by_turns start turns plan one size fit turn actor c at =
+    let w = world_run values turns (opened_world start) in
+    let v = after_turn values turn w in
+    let all_answered = copies_are_answered values start turns in
+    let past = nothing_is_overdue values start turns in
+    let hears = each_data_ack_counts values w turn actor c at in
+    let d : ActorCrew Carried = hears.0 in (
+      d,
+      hears.1,
+      inquiries_go w.books d.list c.member d.member
+          (same_actor (λ x. EndsKeepWhatWaits c.member x.member) v actor d hears.1 (what_waits_is_kept values w (turn ∷ []) actor c at))
+          (same_actor (λ x. FramesStay c.member x.member) v actor d hears.1 (frames_stay values w turn actor c at))
+          (same_actor (λ x. TurnedTo c.member x.member) v actor d hears.1 (turned_to values w turn actor c at))
+          hears.2
+          (same_actor (λ x. PathsOwe values c.member x.member) v actor d hears.1 (what_wants_an_answer_is_owed_one values w turn actor c at))
+          (λ Was. same_actor (λ x. AsksComeSo Was values c.member x.member) v actor d hears.1 (asks_come_so Was values w past turn actor c at))
+          (λ Was. same_actor (λ x. AnswersComeSo Was values c.member x.member) v actor d hears.1 (answers_come_so Was values w all_answered turn actor c at))
+          (λ Was. same_actor (λ x. HandsComeSo Was values c.member x.member) v actor d hears.1
+          (hands_come_so Was values w all_answered (what_is_in_order_is_passed values start turns) ((what_is_told_is_known values).live start turns) turn actor c at))
+          (each_shown start turns size fit actor c at) ((each_is_reached values start turns).each actor c at) ((what_is_acknowledged_came start turns).each actor c at) ((what_came_was_sent start turns size).each actor c at)
+          ((each_link values start turns).each actor c at) ((copies_arrive_as_sent values start turns).each actor c at) (past.each actor c at) (all_answered.first actor c at)
+          ((each_data_ack_is_up_to_date values start turns plan one).each actor c at),
+    )
+
+-- ---- how they begin and end
+
+inquiries_begin : (m : Actor Carried) → ((Was : PathEnd → Bool → Bool → Type 0) → OfPaths (AskedAtTheEnd Was values) m) → OfPaths InquiriesBegin m
+inquiries_begin (App a) asked = tt
+inquiries_begin (Path p) asked = λ over s living none out place fin.
+    let h = asked (IsAskedPlainly (end_at s p).tcp.send.una) over s living none out in
+    asks (p.clock + 60000 + longest_way s p.link) (le_refl (p.clock + 60000 + longest_way s p.link + longest_way (peer s) p.link)) h.0 h.1
+
+module _ (p : PathState Carried) (past : ComesFrom p.clock p) where
+  flight_from : (f : Flight Carried) → IsUnderWay f p → p.clock ≤ f.tick
+  flight_from f there = subst (λ (g : Flight Carried). p.clock ≤ g.tick) there.holds (all_at (λ (g : Flight Carried). p.clock ≤ g.tick) p.link.under_way there.at there.item there.there past.copies)
+
+  ask_from : (s : Side) (n : ℕ) → IsAskedAgain values s n p → p.clock ≤ n
+  ask_from s n (ways.waits tick low runs none) = let from = timer_from s tick p past runs.timer in omega (arith, from, low)
+  ask_from s n (ways.resends low is none) = omega (arith, low)
+  ask_from s n (ways.flies f low there h) = let from = flight_from f there in omega (arith, from, low)
+
+  answer_from : (s : Side) (position n : ℕ) → IsAnswered values s position n p → p.clock ≤ n
+  answer_from s position n (owes low opened came due) = omega (arith, low)
+  answer_from s position n (flies f low there h) = let from = flight_from f there in omega (arith, from, low)
+
+  inquiry_ends : InquiriesEnd p
+  inquiry_ends s place fin n (asks arrival soon h so) late = absurd (let from = ask_from s arrival h in omega (arith, from, soon, late))
+  inquiry_ends s place fin n (answered high h so) late = absurd (let from = answer_from (peer s) 1 n h in omega (arith, from, late))
+  inquiry_ends s place fin n (heard next enough h) late = record { next = next; enough = enough; hears = h }
+
+inquiries_end : (m : Actor Carried) → OfPaths (λ p. ComesFrom p.clock p) m → OfPaths InquiriesEnd m
+inquiries_end (App a) past = tt
+inquiries_end (Path p) past = inquiry_ends p past
+
+pub each_ask_is_answered : EachAskIsAnswered
+each_ask_is_answered = record {
+  in_time = λ start turns. record {
+    begin = λ actor c at. inquiries_begin c.member (λ Was. asked_at_the_end Was values start turns actor c at);
+    end = λ actor c at. inquiries_end c.member ((nothing_is_overdue values start turns).each actor c at);
+  };
+  goes_on = inquiries_by_turns;
+}
