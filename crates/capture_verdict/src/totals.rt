@@ -118,7 +118,8 @@ fn add_at(
     lanes: &Lanes,
 )
     requires { totals ≡ slice_get all.old.items belongs.now.connection }
-    ensures { all.new.items ≡ added_at totals flow.now belongs.now (lanes_of lanes.now) all.old.items }
+    ensures { all.new.items ≡
+        added_at totals flow.now belongs.now (lanes_of lanes.now) all.old.items }
 {
     if let Some(totals) = totals {
         all[belongs.connection] = with_flow(flow, belongs.opener, lanes, &totals);

@@ -75,7 +75,8 @@ fn shown_octet(octet: u8) -> char
 
 /// Puts octets as they are shown.
 fn put_octets(text: &mut String, octets: &[u8]) -> Result<(), AllocError>
-    ensures { OnOk result (string_bytes text.new ≡ string_bytes text.old ++ map shown_octet octets.now) }
+    ensures { OnOk result (string_bytes text.new ≡
+        string_bytes text.old ++ map shown_octet octets.now) }
 {
     for octet in octets {
         text.push(shown_octet(*octet))?;

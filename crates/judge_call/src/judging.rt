@@ -102,7 +102,8 @@ fn put_if_asked<O: Outside>(
     outside: &mut O,
     books: &[Book<'_>],
 ) -> Result<(), Status>
-    ensures { Follows (steps_if (option_map (λ text. text.now) prefix.entry) (map book_of books.now))
+    ensures { Follows
+        (steps_if (option_map (λ text. text.now) prefix.entry) (map book_of books.now))
         (O.told outside.old).calls (O.told outside.new).calls result }
 {
     match prefix {

@@ -15,7 +15,8 @@ fn told_of(
     trace: &[Sent],
     sent: &Sent,
 ) -> Result<String, AllocError>
-    ensures { IfOk result (λ text. string_bytes text ≡ told_of checksums initials trace.now sent.now) }
+    ensures { IfOk result (λ text. string_bytes text ≡
+        told_of checksums initials trace.now sent.now) }
 {
     let mut text = String::new(alloc);
     put_place(&mut text, sent)?;

@@ -189,7 +189,8 @@ impl PathState {
 
     /// What becomes of the segment of this number and of these octets, handed over at the path's tick.
     fn fate_now(&self, from: Side, number: u64, octets: &[u8]) -> SegmentFate
-        ensures { result ≡ segment_fate from number (length octets.now) self.now.clock self.now.link }
+        ensures { result ≡
+            segment_fate from number (length octets.now) self.now.clock self.now.link }
     {
         self.link
             .segment_fate(from, number, octets.len() as u64, self.clock.now())
