@@ -122,7 +122,7 @@ side_by_side_end-le from to (p ∷ ps) h =
     (λ (le : p.at ≤ from). rw (eq_true p.at from (omega (arith, h.0))) (side_by_side_end-le (end_of p) to ps h.2))
     (cases_lt from p.at)
 
--- it stands at an index where the next piece begins elsewhere
+-- pieces side by side end at an index where the next piece begins elsewhere
 pub side_by_side_end-here : (end : ℕ) (ps : List Piece) (i : ℕ) (d : Piece) → i < length ps → ((get_or ps i d).at ≡ end → ⊥) → side_by_side_end end (drop i ps) ≡ end
 side_by_side_end-here end ps i d lt other =
     at_drop_more (side_by_side_end end) ps i d lt

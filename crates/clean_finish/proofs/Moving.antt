@@ -1,7 +1,7 @@
 -- Moves of a lane, one list of them after another.
 use Rattle.clean_finish.proofs.Words.{subst, ℕ, suc, zero, Setting, Lane, Stage, Moves}
 
--- so many more: a sum that computes by the first number
+-- the sum of two numbers, which computes by the first one
 abbrev pub more_than : ℕ → ℕ → ℕ
 more_than zero m = m
 more_than (suc n) m = suc (more_than n m)

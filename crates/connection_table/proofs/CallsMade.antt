@@ -33,7 +33,7 @@ failed_then front first plan a b c before cut = record {
         ∙ ap (λ made. made ++ failed cut.failing ∷ []) (map-append succeeded front (first ++ cut.made))
         ∙ append_assoc (map succeeded front) (map succeeded (first ++ cut.made)) (failed cut.failing ∷ [])
 
--- the same behind none of the plan
+-- calls that succeeded, with those of the plan directly behind them
 module _ (front plan : List Call) (a b c : ToldCalls) (before : AddsAll front a b) (cut : AddsToFailed [] plan b c) where
   failed_adds : Adds (map succeeded (front ++ cut.made) ++ failed cut.failing ∷ []) a c
   failed_adds =

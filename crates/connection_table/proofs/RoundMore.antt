@@ -73,7 +73,7 @@ round_more most (counts ∷ rounds) w v x are is next =
     by more false over none = stays over none
     by more true going behind = goes more most refl going behind
 
--- the same by the number of rounds so far
+-- a serial end after n rounds, of one round at least, and one round more is a serial end after n + 1
 pub serial_more : (n : ℕ) → 1 ≤ n → (w v x : Connection) → IsSerialEnd n w v → RoundIfGoing v x → IsSerialEnd (n + 1) w x
 serial_more zero few w v x end next = absurd (omega (arith, few))
 serial_more (suc n) few w v x end next =

@@ -18,7 +18,7 @@ word_sum-append_odd (high ∷ []) low rest odd = omega (arith, word_sum-cons hig
 word_sum-append_odd (high ∷ second ∷ others) low rest odd =
     omega (arith, word_sum-cons high second (others ++ low ∷ rest), word_sum-cons high second others, word_sum-append_odd others low rest (omega arith))
 
--- the same of a part of at least one octet
+-- the sum of words behind an odd number of octets, of a part of at least one octet
 pub word_sum-append_part : (before part : List ℕ) → 1 ≤ length part → length before % 2 ≡ 1
     → word_sum (before ++ part) ≡ word_sum before + get_or part 0 0 + word_sum (take (length part - 1) (drop 1 part))
 word_sum-append_part before [] some odd = absurd (omega arith)

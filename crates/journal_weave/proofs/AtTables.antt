@@ -55,7 +55,7 @@ module _ (top : ℕ) (crew after : List Crew) (books left : StampedBooks) (round
       let high = steps_above t.notes (slice_index_or crew i d).pass.actor (slice_index_or crew i d).member (slice_index_or crew i d).pass.stamp t.made.steps x inside in
       omega (arith, high, known i d within)
 
-  -- so is what a journal gained
+  -- each entry that a journal gained stands above the round's first stamp
   entry_above : (book : ℕ) → book < 6 → (x : Note)
       → IsGained (list_at (by_book (notes_in books)) book) (list_at (by_book (notes_in left)) book) x → top < x.stamp
   entry_above book within x g =

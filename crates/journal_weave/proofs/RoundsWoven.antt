@@ -57,7 +57,7 @@ are_actors crew books begins = from 0 crew (λ i n c is there. (begins.fine.crew
     from first [] numbered = tt
     from first (x ∷ xs) numbered = (numbered 0 first x (omega arith) refl, from (suc first) xs (λ i n c is there. numbered (suc i) n c (omega (arith, is)) there))
 
--- these actors and books were left of a round that began with those
+-- a round that began with some actors and books, and left others
 module _ (crew after : List Crew) (books left : StampedBooks) (begins : Begins (greatest 0 crew) (record { crew = crew; books = books }))
     (whole : IsWholeRound (member_asks octets) (member_takes octets) crew after books left) where
   knows_top : (i : ℕ) (d : Crew) → i < length crew → (slice_index_or crew i d).pass.stamp ≡ greatest 0 crew

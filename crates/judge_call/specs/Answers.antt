@@ -15,7 +15,7 @@ use Rattle.judge_call.specs.Words.{Line}
 abbrev pub plan_of : Line → JudgedValue → List Step
 plan_of line judged = Does (Load line.capture) ∷ puts_of line.streams judged
 
--- it is told whole, with the status that it has, or up to where writing failed or memory ran out
+-- what was judged is told whole, with the status that it has, or up to where writing failed or memory ran out
 abbrev pub IsTold : Line → JudgedValue → Option (List Made) → Option (List Made) → Status → Type 0
 IsTold line judged old new ends.Put = AddsCut (plan_of line judged) ends.Put old new
 IsTold line judged old new ends.Memory = AddsCut (plan_of line judged) ends.Memory old new

@@ -9,7 +9,7 @@ use Rattle.judge_rules.specs.declared.finding.Finding.{Finding}
 use Rattle.judge_rules.specs.declared.finding.Finding.TheVariants.{OtherPlace}
 use Rattle.judge_rules.specs.Clashes.{clash_by, first_clash}
 
--- so many positions that have no other place are passed over
+-- the first clash is that behind a count of positions, none of which has another place
 pub skip : (told : ℕ → Option Told) (p place n m all next after : ℕ)
     → ((q : ℕ) → p ≤ q → q < p + n → clash_by (told q) q (place + (q - p)) ≡ None)
     → all ≡ n + m → next ≡ p + n → after ≡ place + n → first_clash told p place all ≡ first_clash told next after m
@@ -46,7 +46,7 @@ not_begun run q h = by (nat_le run.from q) refl
 is_told : (run : Run) (q : ℕ) → run.from ≤ q → q < run.to → told_by run q ≡ Some (image_in run q)
 is_told run q lo hi = grind arith
 
--- the same place
+-- a position that a run maps to the told place has no clash
 no_clash : (run : Run) (q place : ℕ) → run.from ≤ q → q < run.to → run.image + (q - run.from) ≡ place → clash_by (told_by run q) q place ≡ None
 no_clash run q place lo hi same =
     ap (λ (o : Option Told). clash_by o q place) (is_told run q lo hi)
@@ -92,7 +92,7 @@ module _ (runs : List Run) (run : Run) (position place to begin : ℕ) (behind :
       (first_clash (told_at runs) (begin + 1) (place + (begin - position) + 1) (to - begin - 1))) told_there
       ∙ ap (λ (o : Option Finding). option_or o (first_clash (told_at runs) (begin + 1) (place + (begin - position) + 1) (to - begin - 1))) is
 
-  -- it has the same place, and so have all of the run
+  -- where the first position of a run has no clash, none of its positions has one
   alike : clash_by (told_by run begin) begin (place + (begin - position)) ≡ None → (q : ℕ) → position ≤ q → q < run.to
       → clash_by (told_at runs q) q (place + (q - position)) ≡ None
   alike none q lo hi =

@@ -30,7 +30,7 @@ use Rattle.link_model.proofs.Waits.{ticks_behind, more_wait_longer, later_behind
 
 -- ---- what no line delays
 
--- it is on time, or lost
+-- a segment is on time, or lost
 abbrev IsPlain : Fate → Type 0
 IsPlain f = (f ≡ Fate.OnTime) ⊎ (f ≡ Fate.Lost)
 
@@ -121,7 +121,7 @@ module _ {C : Type 0} (strip alter : Side → C → C) (from : Side) (carried : 
       by_fate (fate_of from number link.lines) (is_lost_at_once from number link) (is_refused from length now link) (plain_told from number link.lines plain)
       (λ lost. ap (λ (f : Fate). is_lost f || is_drawn (shape_of from link.lines).loss (drawn_word link.seed (loss_stream link.path from) (number - 1))) lost)
 
-  -- it goes behind the others where it waits
+  -- a segment goes behind the others of its direction where it waits
   one_behind : AreInOrder link.under_way → WereSentBefore number (free_at from now link) others → waits ≡ waiting_with from length now link
       → (going_to (peer from) (with_flight one link.under_way) ≡ others ++ one ∷ []) × (free_at from now link ≤ one.tick)
   one_behind order before w =

@@ -62,7 +62,7 @@ ceil_below x n most some le = by (cases_lt most (div_ceil x n))
 queue_is_short : (rate : Rate) (w : Waiting) → IsRate rate → w.left ≤ rate.queue → w.left ≤ 100000 * rate.octets
 queue_is_short rate w is room = omega (arith, is.some_octets, is.small_queue, room)
 
--- so few octets
+-- at most a million octets wait before a direction
 pub few_wait : (rate : Option Rate) (w : Waiting) → HasRate rate → HasRoom rate w → w.left ≤ 1000000
 few_wait None w is room = omega (arith, room)
 few_wait (Some rate) w is room = omega (arith, is.small_queue, room)
@@ -135,14 +135,14 @@ mark_more rate now octets w le =
     plus : (now at : ℕ) → at ≤ now → now ≡ at + (now - at)
     plus now at le = omega (arith, le)
 
--- it is handed on in the tick in which its last octet is
+-- a segment is handed on in the tick in which its last octet is
 handed_in : (rate : Rate) (w : Waiting) → 0 < rate.octets → (mark rate w ≤ rate.octets * (w.at + ticks_queued (Some rate) w)) × (rate.octets * (w.at + ticks_queued (Some rate) w) < mark rate w + rate.octets)
 handed_in rate w some =
     let c = div_ceil w.left rate.octets in
     let times = div_ceil_times w.left rate.octets some in
     (omega (arith, times.0, mul-add rate.octets w.at c, mul_comm c rate.octets), omega (arith, times.1, mul-add rate.octets w.at c, mul_comm c rate.octets))
 
--- so many octets from one tick to another
+-- a bound on octets that are handed on from one tick to another, as many a tick
 span : (n first last sum : ℕ) → 0 < n → sum + n * first < n * last + n → sum ≤ n * (last + 1 - first)
 span n first last sum some low =
     let grows : n * (last + 1) ≡ n * last + n * 1 = mul-add n last 1 in

@@ -14,7 +14,7 @@ use Rattle.link_trace.specs.Places.{carried_below, carried_in, grown}
 abbrev carried_count : List Bool → ℕ
 carried_count marks = count_by (λ carried. carried) marks
 
--- so many marks alike, and others behind them
+-- how many are marked, of marks alike and others behind them
 count_run : (n : ℕ) (mark : Bool) (marks : List Bool) → carried_count (replicate n mark ++ marks) ≡ n * cond mark 1 0 + carried_count marks
 count_run n mark marks =
     sum_by-append (λ b. cond b 1 0) (replicate n mark) marks ∙ ap (λ k. k + carried_count marks) (sum_by-replicate (λ b. cond b 1 0) n mark)

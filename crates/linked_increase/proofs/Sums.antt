@@ -38,7 +38,7 @@ window-le-scaled_sum m rows r among =
     let own : m.rtt * m.window / m.rtt ≡ m.window = mul-div_cancel_left m.window r.some_rtt in
     rw own at (term-le-sum_by (λ row. m.rtt * row.window / row.rtt) rows m among)
 
--- so the sum by the row that leads is not 0
+-- the sum by the row that leads is not 0
 pub scaled_sum_some : (m : Row) (rows : List Row) → All IsInRange rows → leader rows ≡ Some m → 0 < scaled_sum m rows
 scaled_sum_some m rows ranges leads =
     let r = leader_in_range rows m ranges leads in

@@ -14,7 +14,7 @@ use Rattle.mptcp_run.specs.Task.{Connection}
 
 -- ---- rounds of a kind
 
--- these are the turns of at most so many rounds from a world on
+-- rounds from a world on, a number of them at most, by what their turns are
 module _ (Are : ℕ → List Turn → Connection → Type 0) (opening : Option (List ℕ)) where
   -- all were made and put, from this world to that one, which has so many rounds behind it
   pub record RoundsPut (most number count : ℕ) (w v : Connection) (before after : Told) : Type 0 where

@@ -30,7 +30,7 @@ flag_passed n m f c cs old (inr one) = ⊎_elim
     (λ rest. inr (record { copy = one.copy; among = rest; has = one.has }))
     one.among
 
--- these segments are on their way
+-- a lane with other segments on their way, or other acknowledgements
 abbrev with_datas : List Copy → Lane → Lane
 with_datas cs w = record w { way = record w.way { datas = cs } }
 

@@ -8,7 +8,7 @@ use Rattle.pace.specs.Laws.{HasRanges}
 use Rattle.pace.proofs.Calming.{first_rounds, later_rounds}
 use Rattle.pace.proofs.Passing.{end_of, arrives, seven, six}
 
--- so many of the rounds, and the rest
+-- the first a of m rounds, and the rest
 record Parts (k : Setting) (a m : ℕ) (w u : Lane) : Type 0 where
   between : Lane
   rest : ℕ

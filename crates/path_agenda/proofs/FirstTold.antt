@@ -9,7 +9,7 @@ module _ {X Y : Type 0} (all : List X → Option Y) (one : X → Option Y) (more
   told_here xs i d y within told =
       at_drop_more all xs i d within ∙ more (get_or xs i d) (drop (i + 1) xs) ∙ ap (λ (t : Option Y). option_or t (all (drop (i + 1) xs))) told
 
-  -- it doesn't, and leaves it to those behind it
+  -- a member that tells nothing leaves it to those behind it
   pub told_later : (xs : List X) (i : ℕ) (d : X) → i < length xs → one (get_or xs i d) ≡ None → all (drop i xs) ≡ all (drop (i + 1) xs)
   told_later xs i d within told =
       at_drop_more all xs i d within ∙ more (get_or xs i d) (drop (i + 1) xs) ∙ ap (λ (t : Option Y). option_or t (all (drop (i + 1) xs))) told

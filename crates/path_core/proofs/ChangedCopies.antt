@@ -25,7 +25,7 @@ module _ (spelling : Spelling) (from : Side) where
   stripped_written : (segment : Segment) → CanWrite segment → CanWrite (changes.stripped segment)
   stripped_written segment can = record { head = can.head; carried = others_can_be_carried segment.options segment.payload can.carried }
 
-  -- the same payload with a bit turned
+  -- a segment, a bit of whose payload is turned
   abbrev with_bit : PlainSegment → PlainSegment
   with_bit s = record s { payload = changes.with_turned_bit s.payload }
 

@@ -38,7 +38,7 @@ module _ (spelling : Spelling) (from : Side) (expected : Expected) where
       (four spelling.path from) (four spelling.path (peer from)) (written spelling from s can))
 
   module _ (s : PlainSegment) (can : CanSay spelling from s) (far : IsFarReset spelling from expected s) where
-    -- the same reset at the position that is expected
+    -- a far reset, at the position that is expected in place of its own
     abbrev moved : PlainSegment
     moved = record s { position = expected.edge }
 
@@ -60,7 +60,7 @@ module _ (spelling : Spelling) (from : Side) (expected : Expected) where
     unfolding spelled
     stripped_position_alone = rw (far_is_nowhere (numbers_of spelling from).initial.0 expected.edge s.position far.ahead far.low) refl
 
-    -- the same reset without its options
+    -- a far reset without its options is heard at no position
     pub far_stripped_heard : IsExpected expected
         → heard_in spelling from expected (changes.text_stripped (addresses_from spelling.path from) (spelled_text spelling from s))
         ≡ Some (unplaced (subflow_number spelling from s.position) (record (meant s) { options = [] }))

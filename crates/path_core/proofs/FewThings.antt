@@ -30,7 +30,7 @@ use Rattle.path_core.specs.FewThings.{is_priority, CopiesSayFew, CopiesHaveFewPr
 
 -- ---- octets
 
--- so many octets in all
+-- how many octets the options have in all
 abbrev total : List (List ℕ) → ℕ
 total [] = 0
 total (octets ∷ others) = length octets + total others
@@ -104,7 +104,7 @@ join_long (Syn backup id token nonce) = omega arith
 join_long (Answer backup id hmac nonce) = omega arith
 join_long (Third hmac) = omega arith
 
--- so many things out of so many octets
+-- few things come of octets: at most three of four octets, or three less than the octets
 abbrev FewOf : ℕ → ℕ → Type 0
 FewOf things octets = (4 * things ≤ 3 * octets) ⊎ (things + 3 ≤ octets)
 

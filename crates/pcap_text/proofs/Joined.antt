@@ -9,6 +9,6 @@ put {a} {x} {given} was puts is = puts ∙ ap (λ (t : List ℕ). t ++ given) wa
 pub three : {last : List ℕ} (a x y z : List ℕ) → last ≡ a ++ x ++ y ++ z → last ≡ a ++ (x ++ (y ++ z))
 three a x y z is = is ∙ append_assoc (a ++ x) y z ∙ append_assoc a x (y ++ z)
 
--- so are four
+-- four parts behind a text, grouped from the right
 pub four : {last : List ℕ} (a x y z w : List ℕ) → last ≡ a ++ x ++ y ++ z ++ w → last ≡ a ++ (x ++ (y ++ (z ++ w)))
 four a x y z w is = is ∙ append_assoc (a ++ x ++ y) z w ∙ append_assoc (a ++ x) y (z ++ w) ∙ append_assoc a x (y ++ (z ++ w))

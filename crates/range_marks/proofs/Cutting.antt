@@ -29,7 +29,7 @@ module _ {M : Type 0} where
   take_nothing zero = refl
   take_nothing (suc n) = refl
 
-  -- so many places of a run, and then the rest, of which so many are dropped or taken
+  -- a run of places with one mark, and the rest behind it, of which some are dropped or taken
   pub drop_run : (n m k : ℕ) (mark : M) (ms : List M) → n ≤ m → k ≡ m - n → drop m (replicate n mark ++ ms) ≡ drop k ms
   drop_run n m k mark ms le e = rw (drop_past (replicate n mark) ms m (omega (arith, length-replicate n mark)), length-replicate, e) refl
 

@@ -12,7 +12,7 @@ module _ {M : Type 0} where
   put zero (suc n) mark (x ∷ xs) = mark ∷ put zero n mark xs
   put (suc lo) n mark (x ∷ xs) = x ∷ put lo n mark xs
 
-  -- it is what is before, the marks, and what is after
+  -- a list with marks put into it is what is before, the marks, and what is after
   put-is : (lo hi n : ℕ) (mark : M) (xs : List M) → hi ≡ lo + n → hi ≤ length xs → take lo xs ++ (replicate n mark ++ drop hi xs) ≡ put lo n mark xs
   put-is zero zero zero mark [] e le = refl
   put-is zero zero zero mark (x ∷ xs) e le = refl

@@ -16,7 +16,7 @@ module _ {M : Type 0} where
   take_sum (suc n) (suc m) (suc k) [] e = refl
   take_sum (suc n) m (suc k) (x ∷ xs) e = ap (λ t. x ∷ t) (take_sum n m k xs (omega arith))
 
-  -- so many places of one run
+  -- places that lie in one run have its mark
   pub run_part : (runs : List (Run M)) (from to j : ℕ) (d : Run M) (a n : ℕ) → LieSideBySide from to runs → j < length runs
       → (get_or runs j d).from ≤ a → a + n ≤ (get_or runs j d).to → take n (drop (a - from) (marks_of runs)) ≡ replicate n (get_or runs j d).mark
   run_part [] from to j d a n side lt begins ends = absurd (omega arith)

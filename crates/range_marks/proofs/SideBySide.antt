@@ -113,7 +113,7 @@ module _ {M : Type 0} where
   neighbours_differ-longer (run ∷ next ∷ third ∷ runs) to (suc zero) d differ e = absurd (omega arith)
   neighbours_differ-longer (run ∷ next ∷ third ∷ runs) to (suc (suc i)) d differ e = (differ.0, neighbours_differ-longer (next ∷ third ∷ runs) to (suc i) d differ.1 (omega arith))
 
-  -- the same of a run that was read there twice
+  -- the last run made longer, where the run that was read and the one written are both the last
   pub marks_of-longer_read : (runs : List (Run M)) (from mid to i : ℕ) (read written : Run M) (mark : M) → LieSideBySide from mid runs → mid ≤ to → length runs ≡ suc i
       → read ≡ get_or runs i read → written ≡ get_or runs i written → read.mark ≡ mark
       → marks_of (set runs i (record written { to = to })) ≡ marks_of runs ++ replicate (to - mid) mark

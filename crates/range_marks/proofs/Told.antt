@@ -104,7 +104,7 @@ module _ {M : Type 0} where
             (cases_lt k from);
       }
 
-  -- the same of a run that was read there
+  -- the first place that has a mark, where the run that has it was read at its index
   pub is_first_where_read : (runs : List (Run M)) (from to place j : ℕ) (run : Run M) (mark : M) → LieSideBySide from to runs → j < length runs → run ≡ get_or runs j run
       → place < run.to → run.mark ≡ mark → ((k : ℕ) (d : Run M) → k < j → place < (get_or runs k d).to → (get_or runs k d).mark ≢ mark)
       → IsFirstWhere (record { forgotten = from; marks = marks_of runs }) place mark (max run.from place)

@@ -44,7 +44,7 @@ none_of-fin : (o : Option ℕ) (at : ℕ) → bytes_of (fin_reply_by o at) ≡ [
 none_of-fin None at = refl
 none_of-fin (Some fin) at = refl
 
--- so many bytes were read, and these places came
+-- the places that came are the bytes that were read, and what the book holds
 record AreFirst (b : Arriving) (came : List (Option ℕ)) (bytes : List ℕ) : Type 0 where
   came_is : came ≡ map Some bytes ++ b.places
   read_is : length bytes ≡ b.read

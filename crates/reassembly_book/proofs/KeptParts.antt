@@ -48,7 +48,7 @@ top-shown read ring capacity beyond known_end aborted b gap e =
     omega (arith, ap length (filled-shown ring beyond gap), length-append (map Some ring) beyond, length-some ring) in
     subst (λ b. received b + length beyond ≡ top b) e at
 
--- so many bytes of the ring are passed over
+-- a ring some of whose first bytes are passed over shows the book after they are read
 pub consumed-shown : (n read : ℕ) (ring : List ℕ) (capacity : ℕ) (beyond : List (Option ℕ)) (known_end : Option ℕ) (aborted : Option Bool)
     → filled beyond ≡ [] → n ≤ length ring
     → as_arriving (read + n) (drop n ring) capacity beyond known_end aborted ≡ after_reading n (as_arriving read ring capacity beyond known_end aborted)

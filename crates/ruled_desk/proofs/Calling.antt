@@ -6,7 +6,7 @@ use Rattle.ruled_desk.specs.Called.{IsCalled, IsRefused}
 use Rattle.ruled_desk.proofs.RuleSteps.{Mine}
 
 module _ {O C R : Type 0} where
-  -- it waits with the ticket that it drew
+  -- a seat waits with the ticket that it drew
   pub is_waiting : (me drawn : Mine O C R) (shown : ℕ) → IsAtRest me.0 → me.1 ≡ [] → IsDrawn me shown drawn → IsWaiting drawn shown
   is_waiting me drawn shown rests light d = record {
     ticket = d.0;

@@ -100,7 +100,7 @@ module _ {O C R : Type 0} where
   abbrev IsLock : TableId → Journaled O C R → Locked O C R → Type 0
   IsLock table start lock = locked table start ≡ lock
 
-  -- the same as contracts see it
+  -- what a seat gained, as contracts see it
   pub gains_seen : (lock : Locked O C R) (table : TableId) (start book held : Journaled O C R) (seat : Seated C R) (at : TableId) (v : View (Journaled O C R) (Entry C R))
       → IsLock table start lock → seated at v.parts v.own v.full ≡ seat → book ≡ held → GainsJust start held v.own v.full
       → GainsJust lock.start book seat.own seat.full

@@ -68,7 +68,7 @@ module _ {A : Type 0} where
   joined_more books riders i d within =
       let e : i + 1 ≡ suc i = omega arith in ap (λ n. all_joined books (take n riders)) e ∙ joined_next books riders i d within
 
--- it is of the tables of the desk still
+-- what is known with a pass is of the tables of the desk still
 pub of_with : (desk : SixLocked) (books : SixKnown) (pass : Option Passed) → AreOf desk books → AreOf desk (known_with books pass)
 of_with desk books None of = of
 of_with desk books (Some pass) of = record {

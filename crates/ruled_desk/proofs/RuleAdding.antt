@@ -6,7 +6,7 @@ use Rattle.ruled_desk.proofs.Weights.{weigh-append, weigh-set}
 use Rattle.ruled_desk.proofs.RuleWords.{last-more, grown-grown, fits-set, holds-alone}
 use Rattle.ruled_desk.proofs.RuleSteps.{Mine}
 
--- the same list with one more at its end tells which
+-- x and y are one where a list with either at its end is the same
 pub same_last : {X : Type 0} (xs : List X) (x y : X) → xs ++ x ∷ [] ≡ xs ++ y ∷ [] → x ≡ y
 same_last [] x y e = cc
 same_last (z ∷ xs) x y e = same_last xs x y cc

@@ -148,7 +148,7 @@ module _ {O C R : Type 0} (start : Journaled O C R) where
         full = here.full;
       }
 
-  -- the same, beside what else is known of the words and slots
+  -- a seat with all parts closes its lock, beside what else is known of words and slots
   pub closes_by : {A B : Type 0} (seat : ℕ) (v : View (Journaled O C R) (Entry C R)) (ws : List ℕ) (xs : List (Option (Journaled O C R))) → 1024 ≤ v.parts → IsAtRest v
       → A × B × Final (Seen (IsRuled start) seat v) ws xs → Closes start v xs
   closes_by seat v ws xs all at_rest t = closes seat v ws xs all at_rest t.2

@@ -44,7 +44,7 @@ behind_short : (words : List (List ℕ)) → ArePlain words → length (behind w
 behind_short [] h = omega arith
 behind_short (word ∷ words) h = omega (arith, length-append (32 ∷ word) (behind words), (plain_long word h.0).1, behind_short words h.1)
 
--- so many words of at most 20 octets
+-- the length of a line of words, each of 20 octets at most
 words_short : (words : List (List ℕ)) (most : ℕ) → ArePlain words → length words ≤ most → length (spaced words) ≤ 21 * most
 words_short [] most h few = omega arith
 words_short (word ∷ words) most h few =

@@ -58,7 +58,7 @@ puts_ended xs a b e h = record { made = tt; cut = h.cut; fault = h.fault; only =
 pub puts_made : {X Y : Type 0} (xs : List Call) (a b : Told) (x : X) (y : Y) → Puts xs a b (Ok x) → Puts xs a b (Ok y)
 puts_made xs a b x y h = record { made = h.made; cut = tt; fault = tt; only = h.only }
 
--- the same plan
+-- the binds and puts of a plan, said of an equal one
 pub puts_by : {X : Type 0} (xs ys : List Call) (a b : Told) (r : Result X Status) → xs ≡ ys → Puts xs a b r → Puts ys a b r
 puts_by xs ys a b r same h = subst (λ plan. Puts plan a b r) same h
 

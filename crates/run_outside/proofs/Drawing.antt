@@ -41,7 +41,7 @@ octets_many seed stream (suc words) =
     length-append (drawn_octets seed stream words) (to_le_bytes w32 (drawn_word seed stream words))
     ∙ ap (λ n. n + 4) (octets_many seed stream words) ∙ omega arith
 
--- so many words, written one after the other
+-- words of a stream, written one after the other
 words_drawn : (seed stream words : ℕ) → words ≤ 2 ^ 32
     → word_bytes (to_le_bytes w32) (next_word 10) words (words_at seed stream 0) ≡ (drawn_octets seed stream words, words_at seed stream words)
 unfolding word_bytes drawn_octets

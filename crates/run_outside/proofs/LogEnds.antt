@@ -19,7 +19,7 @@ use Rattle.run_outside.specs.Reading.{EndsInRound}
 abbrev LogTurns : Type 0
 LogTurns = List logged_turn.Turn
 
--- so it is where the log may end
+-- where the log may end, its turns end with a round
 abbrev MayEnd : Expected → LogTurns → Type 0
 MayEnd (Turns round true) turns = EndsInRound turns
 MayEnd Nothing turns = EndsInRound turns
@@ -80,7 +80,7 @@ read_ends (line ∷ lines) actors width number expected turns all h e =
     by None h later e = absurd cc
     by (Some next) h later e = later next.next (turns ++ turn_list next.turn) h e
 
--- so it is of the turns that a log tells
+-- the turns that a log tells end with a round
 pub log_ends : (actors width : ℕ) (text : List ℕ) (all : LogTurns) → reading actors width text ≡ Ok all → EndsInRound all
 unfolding reading
 log_ends actors width text all e = read_ends (text_lines text) actors width 1 Format [] all tt e

@@ -18,7 +18,7 @@ IsPrefix-refl xs = record { rest = []; whole_is = sym (append-nil xs) }
 pub IsPrefix-append : (xs more : List ℕ) → IsPrefix xs (xs ++ more)
 IsPrefix-append xs more = record { rest = more; whole_is = refl }
 
--- the same before both
+-- a text before a prefix and its whole leaves it a prefix
 pub IsPrefix-behind : (prefix xs ys : List ℕ) → IsPrefix xs ys → IsPrefix (prefix ++ xs) (prefix ++ ys)
 IsPrefix-behind prefix xs ys h = record { rest = h.rest; whole_is = ap (λ zs. prefix ++ zs) h.whole_is ∙ sym (append_assoc prefix xs h.rest) }
 

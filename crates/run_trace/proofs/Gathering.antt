@@ -73,7 +73,7 @@ module _ (order left : List Turn) (start w : WorldState (List ℕ)) (trace : Lis
   all_made is g = let h = subst (λ (ts : List Turn). Gathers order ts start w trace measured place) is g in h.run
 
 module _ (order left : List Turn) (start : WorldState (List ℕ)) (old : Kept) (trace : List Sent) (measured : List Rates) (place : ℕ) where
-  -- so many turns were made
+  -- a world stands behind the turns that were made
   pub stands_here : Gathers order left start old.state trace measured place → old.failed ≡ false → StandsBehind place order start old
   stands_here g stands =
       let e : place + 0 ≡ place = omega arith in

@@ -8,7 +8,7 @@ use Rattle.seen_octets.specs.declared.octet.OtherOctet.{OtherOctet}
 use Rattle.seen_octets.specs.Octets.{AreAlike, IsFirstDifference, IsPiece}
 use Rattle.seen_octets.specs.Others.{other_by, first_other}
 
--- so many places that have no other octet are passed over
+-- the first other octet is that behind a count of places, none of which has one
 skip : (known : ℕ → Option Octet) (place n next : ℕ) (part : List ℕ) → n ≤ length part → next ≡ place + n
     → ((i : ℕ) → i < n → other_by (known (place + i)) (place + i) (get_or part i 0) ≡ None)
     → first_other known place part ≡ first_other known next (drop n part)

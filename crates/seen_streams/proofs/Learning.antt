@@ -7,7 +7,7 @@ use Rattle.seen_streams.specs.State.{LaneValue, StreamValue, counted}
 use Rattle.seen_streams.specs.Mapped.{Mapped, infinite_after, started, with_line}
 use Rattle.seen_streams.specs.Acks.{Acked, ack_counted, acked_by}
 
--- the same with another stream
+-- what is mapped so far, with another stream
 abbrev pub told_in : Mapped → StreamValue → Mapped
 told_in state stream = record state { stream = stream }
 

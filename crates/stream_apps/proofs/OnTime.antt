@@ -34,7 +34,7 @@ replies_keep (r ∷ rs) a = replies_keep rs (app_takes r a) ∙ takes_keeps r a
 
 -- ---- rounds
 
--- so many rounds later
+-- how many rounds are left, a number of rounds later
 abbrev less : ℕ → Option ℕ → Option ℕ
 less zero o = o
 less (suc n) o = less n (a_round_less o)
@@ -49,7 +49,7 @@ none_due : (n : ℕ) → is_due (less n None) ≡ false
 none_due zero = refl
 none_due (suc n) = none_due n
 
--- it is due after as many rounds as were to end before
+-- a stop is due after as many rounds as were to end before
 due_after : (n rounds : ℕ) → (is_due (less n (Some rounds)) ≡ true) ↔ (n ≡ rounds)
 due_after zero rounds = (λ due. sym (eqb-true rounds 0 due), λ is. by (sym is))
   where

@@ -11,7 +11,7 @@ use Rattle.stream_apps.specs.declared.duty.AppDuty.TheVariants.{Write}
 use Rattle.stream_apps.specs.AppSteps.{app_asks_first, app_asks_of, taken_in}
 use Rattle.stream_apps.specs.Apps.{AppState}
 
--- it is written where as many octets are as it has
+-- a file is written where as many octets are as it has
 pub all-written : (written : ℕ) (file : List ℕ) → written ≤ length file → nat_eq written (length file) ≡ is_nil (drop written file)
 all-written zero [] within = refl
 all-written zero (byte ∷ file) within = eqb-zero-suc (length file)

@@ -214,7 +214,7 @@ flight-one una p past =
     ap (λ (n : ℕ). if is_unsent_piece p then 0 else n)
     (less_none (length p.bytes) (acknowledged_in una (piece_record p)) (some_if (nat_lt una (end_of (piece_record p))) (una - p.pos) (omega (arith, past))))
 
--- so are those that follow one another from there on
+-- pieces from SND.UNA on are in flight with all of their octets
 flight-past : (una from nxt : ℕ) (ps : List Piece) (fin : Option Sending) → Follow from nxt (map span_of (map piece_record ps ++ fin_records (nxt - 1) fin)) → una ≤ from
     → sum_by (octets_under_way una) (map piece_record ps) ≡ sum_by piece_under_way ps
 flight-past una from nxt [] fin f past = refl

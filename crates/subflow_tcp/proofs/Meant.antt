@@ -165,7 +165,7 @@ stays-meant State.Closing c s e = at-connected OpensNothing each-stays c s
 stays-meant State.LastAck c s e = at-connected OpensNothing each-stays c s
 stays-meant State.TimeWait c s e = at-connected OpensNothing each-stays c s
 
--- so the FIN of an end that opens isn't pushed
+-- the FIN of an end that opens isn't pushed
 pub open-meant : (c : Copy) (s : EndState) (meaning : Meaning) → IsFinTold s.send.finished s.state → meaning ≡ meaning_of c s → (OpensNothing meaning → ⊥)
     → s.send.finished ≡ false
 open-meant c s meaning told e opens = (elim s.send.finished as (λ b. IsFinTold b s.state → b ≡ false)

@@ -311,7 +311,7 @@ pub written : (run : Run) (d : Data) (text : List ℕ) → d ≡ run_data run �
 written run d text same exact back =
     (exact (ap has_float same ∙ no_float run) ∙ ap compact_text same, back (subst (λ x. depth x ≤ 127) (sym same) (few_levels run)) ∙ ap Some same)
 
--- the same of what a call answers
+-- the text that a call answers is that of the run's object
 pub written_ok : {E : Type 0} (run : Run) (d : Data) (answer : Result (String Global) E) → d ≡ run_data run
     → IfOk answer (λ text. has_float d ≡ false → string_bytes text ≡ compact_text d) → IfOk answer (λ text. depth d ≤ 127 → read (string_bytes text) ≡ Some d)
     → IfOk answer (λ text. IsJsonOf run (string_bytes text))

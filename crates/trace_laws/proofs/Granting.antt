@@ -244,7 +244,7 @@ call_grows B (Ask.Control r c) call d holds is = subst (λ x. Grows B (AskGrants
 call_grows A (Ask.Local step) call d holds is = subst (λ x. Grows A (AskGrants A (Ask.Local step) d) d (after_events (call_events x) d)) (sym is) (unchanged A _ d d refl)
 call_grows B (Ask.Local step) call d holds is = subst (λ x. Grows B (AskGrants B (Ask.Local step) d) d (after_events (call_events x) d)) (sym is) (unchanged B _ d d refl)
 
--- the same books answer the same
+-- equal send books grant an ask the same places
 same_grants : (s : Side) (ask : Ask) (d e : Duo) (place : ℕ) → ((r : Side) → (way r e).send ≡ (way r d).send) → AskGrants s ask e place → AskGrants s ask d place
 same_grants A (Ask.Send A c) d e place same h = (elim c as (λ c. Grants c e.ab place → Grants c d.ab place)
     [ SendCall.Grant path most standby ↦ λ h. subst (λ send. covers place (send_reply send (SendCall.Grant path most standby)) ≡ true) (same A) h | _ ↦ λ h. h ]) h

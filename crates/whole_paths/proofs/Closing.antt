@@ -78,7 +78,7 @@ each_data_fin_is_said x e joined s next place checksum others is low fair mapped
 
 -- ---- what is to be told
 
--- so many ends of the stream were told by the copy
+-- how many ends of the stream the copy told
 abbrev count : PathEnd → ℕ
 count e = length e.treated.fins
 
@@ -205,7 +205,7 @@ module _ {C : Type 0} where
       (λ rest. later rest.1.1 (subst (λ u. count (end_at u p) ≤ count (end_at u (passed d p))) rest.0 (passed_count d p rest.1.0)))
       tell
 
-  -- it stands where there is something to tell
+  -- the duty that tells the first end stands where the copy told one
   first_stands : (s : Side) (d : Duty) (p : PathState C) → TellsFin s d → 0 < count (end_at s p) → stands d p ≡ true
   first_stands s (duties.Ask (ask_duties.HeardFin t zero)) p first some = subst (λ u. is_some (data_fin_of 0 (end_at u p)) ≡ true) (sym first) (first_there (end_at s p).treated.fins some)
   first_stands s (duties.Ask (ask_duties.HeardFin t (suc n))) p first some = absurd first

@@ -120,7 +120,7 @@ all_comes_later {C} k start turns actor c p over there is =
     let until : p.until ≡ round_end k start turns = subst (EndsAt (round_end k start turns)) is ((rounds_end_on_time k start turns).each actor c there) in
     subst (λ n. ComesFrom n p) until (later (nil_so p.agenda ended))
 
--- so a timer can't be waited for past its tick
+-- a timer that runs as a round is over runs to the round's end or later
 pub no_timer_is_late : {C : Type 0} (k : Codec C) (start : Start) (turns : List Turn) (actor : ℕ) (c : ActorCrew C) (p : PathState C) (s : Side) (tick : ℕ)
     → all_over (reached k start turns).crew ≡ true → slice_get (reached k start turns).crew actor ≡ Some c → c.member ≡ Path p
     → (end_at s p).tcp.timing.timer ≡ Some tick → round_end k start turns ≤ tick

@@ -168,7 +168,7 @@ no_fin d is = refl
 
 -- ---- an end
 
--- it knows the place that its side wants next, unless its book was told more since it was asked
+-- an end knows the place that its side wants next, unless the book was told more since it was asked
 record Known (six : SixBooks) (s : Side) (e : PathEnd) : Type 0 where
   now : e.treated.asked ≡ false → is_gone e ≡ false → e.receiving.next ≡ wanted six s
 

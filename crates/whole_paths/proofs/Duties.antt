@@ -255,7 +255,7 @@ module _ {C : Type 0} where
       let after : PathEnd = after_judged p.profile s p.clock x (judged_in (is_joined p.profile) s x e) e in
       side s after p (told_at p.clock s x p) (copy_steps (is_joined p.profile) s p.clock x e after refl refl) refl refl
 
-  -- the same from a path with another clock and another link
+  -- a path's step is one too from a path with another clock and another link
   from_there : (p q r : PathState C) → q.a ≡ p.a → q.b ≡ p.b → PathStep q r → PathStep p r
   from_there p q r a b x = record { a = subst (λ e. EndStep r.clock e r.a) a x.a; b = subst (λ e. EndStep r.clock e r.b) b x.b }
 

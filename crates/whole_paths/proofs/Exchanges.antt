@@ -333,7 +333,7 @@ module _ (p q : PathState Carried) (known : Known p) (faithful : IsFaithful p) (
           ap (λ (o : Option (Flight Carried)). heard_in values listener o p) arrives.there ∙ ap (λ (c : Carried). Some (meant (as_arrived c))) arrives.same);
     }
 
-    -- it is the end's that sent the record
+    -- the answer comes to the end that sent the record
     to_sender : listener ≡ s
     to_sender = h.to ∙ sender_of s
 

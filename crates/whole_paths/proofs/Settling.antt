@@ -145,7 +145,7 @@ pub record IsSettled (P : PathEnd → Type 0) : Type 0 where
   pub gone : (e : PathEnd) → is_gone e ≡ true → P e
   pub timer : (now : ℕ) (e : PathEnd) → P (with_timer_settled now e)
 
--- the same, where it only needs to be settled at an end of which this holds
+-- what is kept by all rules, where a timer is settled only at an end of which R holds
 pub record IsSettledBy (P R : PathEnd → Type 0) : Type 0 where
   pub seen : (e f : PathEnd) → end_view nothing f ≡ end_view nothing e → P e → P f
   pub still : (e f : PathEnd) → IsStill e f → P e → P f

@@ -20,7 +20,7 @@ abbrev pub AllIsAcknowledged : ℕ → Sending → Type 0
 AllIsAcknowledged path b = (place : ℕ) → tried path (slice_get b.marks place) ≡ false
 
 module _ {C : Type 0} where
-  -- so it is at an end that was told of each piece that it was granted
+  -- where an end has no granted piece left, its path tried no byte that isn't acknowledged
   abbrev pub GrantedIsAcknowledged : WorldState C → PathState C → Type 0
   GrantedIsAcknowledged w p = (s : Side) → (end_at s p).sending.granted ≡ [] → AllIsAcknowledged (path_of p) (written_by s w)
 
@@ -28,8 +28,8 @@ module _ {C : Type 0} where
   pub record WhatWasGrantedIsAcknowledged (w : WorldState C) : Type 0 where
     pub each : (actor : ℕ) (c : ActorCrew C) → slice_get w.crew actor ≡ Some c → HoldsOfKind (λ app. Unit {0}) (GrantedIsAcknowledged w) c.member
 
--- So many bytes are acknowledged; or the path was on standby when it asked for bytes last, in these steps; or the connection was stopped
--- there.
+-- As many bytes as were written are acknowledged; or the path was on standby when it asked for bytes last, in these steps; or the
+-- connection was stopped there.
 pub data IsAllAcknowledged (s : Side) (steps : List Note) (written : ℕ) (book : Sending) : Type 0 where
   acknowledged : written ≤ acked_len book.marks → IsAllAcknowledged s steps written book
   standby : last_on_standby s false steps ≡ true → IsAllAcknowledged s steps written book

@@ -40,7 +40,7 @@ abbrev pub TellsFin : Side → Duty → Type 0
 TellsFin s (duties.Ask (ask_duties.HeardFin t zero)) = t ≡ s
 TellsFin s _ = ⊥
 
--- so it is next, or once all is treated that comes before
+-- the book is told next, or once all is treated that comes before
 abbrev pub IsToTell : Side → List Duty → Type 0
 IsToTell s [] = ⊥
 IsToTell s (d ∷ ds) = TellsFin s d ⊎ ((side_of d ≡ s) × ((comes_before_fins d ≡ true) × IsToTell s ds))

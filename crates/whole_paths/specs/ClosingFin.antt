@@ -27,7 +27,7 @@ abbrev pub PassesFin : Side → Duty → Type 0
 PassesFin s (duties.Silent (silent_duties.PassFin t)) = t ≡ s
 PassesFin s _ = ⊥
 
--- so it does next, or once all is treated that comes before
+-- RCV.NXT moves over the FIN next, or once all is treated that comes before
 abbrev pub IsToPass : Side → List Duty → Type 0
 IsToPass s [] = ⊥
 IsToPass s (d ∷ ds) = PassesFin s d ⊎ ((side_of d ≡ s) × ((comes_before_pass d ≡ true) × IsToPass s ds))

@@ -74,7 +74,7 @@ module _ {C : Type 0} where
     pub tells : (b : Brings k p) (index : ℕ) (item : Heard) → Confirms b.copy.due.to item
         → item_at index (items_of (is_joined p.profile) b.copy.due.to (options_heard (end_at b.copy.due.to p) b.copy.segment)) ≡ Some item
         → (q ≡ p) ⊎ ConfirmedOn b.copy.due.to steps q
-    -- it stays so
+    -- an end to which Multipath TCP was confirmed stays so
     pub stays : (s : Side) → IsConfirmed s p → ConfirmedOn s steps q
 
   -- as the path becomes this actor

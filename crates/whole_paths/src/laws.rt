@@ -67,10 +67,10 @@ pub fn nothing_goes_back()
 
 /// A law: how far a connection is, as one number, never falls, by whatever turns, whatever is lost, late, repeated or altered.
 ///
-/// It is the sum of all that `nothing_goes_back` speaks of: at both ends of each path SND.UNA, SND.NXT, RCV.NXT and the state (RFC 9293,
-/// section 3.3), the bytes and DATA_FINs that are acknowledged (RFC 8684, section 3.3), whether a DSS may be sent and the third MP_JOIN
-/// is answered (section 3.2); at each side what is written, received and read, the edge of the window and the ends of both streams; and the
-/// lines of the script that are taken, or by which a segment was lost or late.
+/// The number is the sum of all that `nothing_goes_back` speaks of: at both ends of each path SND.UNA, SND.NXT, RCV.NXT and the state (RFC
+/// 9293, section 3.3), the bytes and DATA_FINs that are acknowledged (RFC 8684, section 3.3), whether a DSS may be sent and the third
+/// MP_JOIN is answered (section 3.2); at each side what is written, received and read, the edge of the window and the ends of both streams;
+/// and the lines of the script that are taken, or by which a segment was lost or late.
 pub fn news_never_falls()
     ensures octets { NewsNeverFalls octets }
     ensures values { NewsNeverFalls values }
@@ -85,8 +85,8 @@ pub fn news_is_bounded()
 
 /// A law: how far a connection is, as one number, rises with all news.
 ///
-/// It does so as SND.UNA of an end rises, a Data ACK acknowledges more, or the SYN, the DATA_FIN or the third MP_JOIN is answered; as an end
-/// dies; as a line of the script is taken; and with each segment that uses a line by which it is lost or late.
+/// News is that SND.UNA of an end rises, a Data ACK acknowledges more, or the SYN, the DATA_FIN or the third MP_JOIN is answered; that an
+/// end dies; that a line of the script is taken; and each segment that uses a line by which it is lost or late.
 pub fn each_news_counts()
     ensures octets { EachNewsCounts octets }
     ensures values { EachNewsCounts values }
@@ -178,7 +178,7 @@ pub fn each_fin_is_passed()
 /// A law: what wants an acknowledgement of a copy that an end takes is owed one at once (RFC 9293, section 3.10.7.4): bytes, a FIN, and of
 /// Multipath TCP a DATA_FIN, both keys and the third MP_JOIN (RFC 8684, sections 3.1, 3.2 and 3.3.3).
 ///
-/// So it is with each copy that the end takes, also where it comes again. From then on the answer goes the way of each
+/// Each copy that the end takes is owed one, also where it comes again. From then on the answer goes the way of each
 /// (`what_is_owed_comes`).
 pub fn what_wants_an_answer_is_owed_one()
     ensures octets { WhatWantsAnAnswerIsOwedOne octets }
@@ -217,9 +217,9 @@ pub fn each_acknowledgement_counts()
 /// A law: each segment of a handshake counts: the SYN makes the end that listens half-open, the SYN/ACK opens the end that sent the SYN, and
 /// any copy that a half-open end takes opens that one (RFC 9293, sections 3.5 and 3.10.7).
 ///
-/// So it is at once, whatever is late or comes again; and each end stays that far, or is dead (`nothing_goes_back`). On a path that joins a
-/// SYN waits for the control book, and the SYN/ACK and the third segment are such only with the HMAC of their side (RFC 8684, section 3.2).
-/// On the path that opens the connection a copy of a SYN means so to its end, and one that comes again is answered (`syns`).
+/// An end is that far at once, whatever is late or comes again, and stays that far, or is dead (`nothing_goes_back`). On a path that joins
+/// a SYN waits for the control book, and the SYN/ACK and the third segment are such only with the HMAC of their side (RFC 8684, section
+/// 3.2). On the path that opens the connection a copy of a SYN means so to its end, and one that comes again is answered (`syns`).
 pub fn each_handshake_counts()
     ensures octets { EachHandshakeCounts octets }
     ensures values { EachHandshakeCounts values }
@@ -229,8 +229,8 @@ pub fn each_handshake_counts()
 /// A law: until A may send a DSS each acknowledgement that its end sends shows both keys, and so does the first piece (RFC 8684, section
 /// 3.1), so that B gets them with whatever answers its SYN/ACK.
 ///
-/// So it is once A knows B's key, as long as the side doesn't fall back to plain TCP. A piece behind the first one, a FIN and a notice have a
-/// DSS in their place; a segment with a SYN has none of it, nor has a reset.
+/// Both keys are shown once A knows B's, as long as the side doesn't fall back to plain TCP. A piece behind the first one, a FIN and a
+/// notice have a DSS in their place; a segment with a SYN has none of it, nor has a reset.
 pub fn each_segment_shows_keys()
     ensures octets { EachSegmentShowsKeys (List ℕ) }
     ensures values { EachSegmentShowsKeys Carried }
@@ -251,7 +251,7 @@ pub fn each_confirmation_counts()
 /// A law: each segment that an end sends acknowledges what came of the peer's stream: its Data ACK is the place that the side wants next,
 /// as the end's reassembly book told it last (RFC 8684, section 3.3.2).
 ///
-/// So it is once the end may send a DSS, and as long as its side doesn't fall back to plain TCP: an acknowledgement, a record for the first
+/// Once the end may send a DSS, and as long as its side doesn't fall back to plain TCP, such are an acknowledgement, a record for the first
 /// time or again, a notice, a DATA_FIN and a FIN. A segment with a SYN has none, nor has a reset.
 pub fn each_segment_has_a_data_ack()
     ensures octets { EachSegmentHasADataAck (List ℕ) }
@@ -261,7 +261,7 @@ pub fn each_segment_has_a_data_ack()
 /// A law: on the only path of a connection each Data ACK is up to date: the end knows the place that its reassembly book wants next, where it
 /// sends a segment that is no reset, where the turn is over, and where an event is next (RFC 8684, section 3.3.2).
 ///
-/// So what came in order is acknowledged by the next segment that the end sends (`each_segment_has_a_data_ack`), bytes and DATA_FIN.
+/// What came in order is acknowledged by the next segment that the end sends (`each_segment_has_a_data_ack`), bytes and DATA_FIN.
 pub fn each_data_ack_is_up_to_date()
     ensures octets { Always octets OnlyPathsAreUpToDate }
     ensures values { Always values OnlyPathsAreUpToDate }
@@ -270,8 +270,8 @@ pub fn each_data_ack_is_up_to_date()
 /// A law: on the only path of a connection an acknowledgement that an end owes comes with the Data ACK of all that its side received, as
 /// `what_is_owed_comes` says of what it acknowledges (RFC 8684, section 3.3.2).
 ///
-/// So it is where the end may send a DSS and didn't fall back to plain TCP. By each turn the end owes it still, or such a segment is under
-/// way, without payload, at SND.NXT or behind what that was, and its Data ACK is at the place that the reassembly book wanted next, or past it.
+/// The end may send a DSS and didn't fall back to plain TCP. By each turn the end owes it still, or such a segment is under way, without
+/// payload, at SND.NXT or behind what that was, and its Data ACK is at the place that the reassembly book wanted next, or past it.
 pub fn what_is_owed_has_a_data_ack()
     ensures octets { WhatIsOwedHasADataAck octets }
     ensures values { WhatIsOwedHasADataAck values }
@@ -450,13 +450,14 @@ pub fn each_record_is_acknowledged()
 /// A law: an end without a record asks its peer again, and that comes within a minute and the longest time that a segment is under way,
 /// unless the script harms it.
 ///
-/// So it waits for the Data ACK of bytes or of a DATA_FIN, for a window, or for what answers its third MP_JOIN or MP_FASTCLOSE (RFC 8684,
-/// sections 3.2, 3.3 and 3.5). Where a turn is over its timer runs, for a minute at most (`timers_run_out`). From then on, by each turn, its
-/// timer runs still, or it is to send again, or a copy of that is under way, and the tick stays by which a copy comes; or a copy was what
-/// arrives next; or the end has a record again, which comes by the same tick (`what_waits_comes`); or there is news (`timers_run_on`), or
-/// nothing is outstanding any longer; or the script has a line less by which a segment is lost or late; or its direction loses it; or the
-/// end is dead, or the path dies by a line. So it is with the first 2^64 - 2 segments of a side. On the path that opens the connection a copy of
-/// an acknowledgement is taken in the window, and answered before RCV.NXT (`comes`), as a probe is (`arrives`).
+/// An end without a record waits for the Data ACK of bytes or of a DATA_FIN, for a window, or for what answers its third MP_JOIN or
+/// MP_FASTCLOSE (RFC 8684, sections 3.2, 3.3 and 3.5). Where a turn is over its timer runs, for a minute at most (`timers_run_out`). From
+/// then on, by each turn, its timer runs still, or it is to send again, or a copy of that is under way, and the tick stays by which a copy
+/// comes; or a copy was what arrives next; or the end has a record again, which comes by the same tick (`what_waits_comes`); or there is
+/// news (`timers_run_on`), or nothing is outstanding any longer; or the script has a line less by which a segment is lost or late; or its
+/// direction loses it; or the end is dead, or the path dies by a line. So it is with the first 2^64 - 2 segments of a side. On the path
+/// that opens the connection a copy of an acknowledgement is taken in the window, and answered before RCV.NXT (`comes`), as a probe is
+/// (`arrives`).
 pub fn what_is_asked_comes()
     ensures octets { WhatIsAskedComes octets }
     ensures values { WhatIsAskedComes values }
@@ -468,12 +469,12 @@ pub fn what_is_asked_comes()
 /// connection, where no segment of the exchange is harmed (RFC 8684, sections 3.3.2 and 3.3.3).
 ///
 /// By each turn the exchange goes on in its order, and the tick stays by which the answer comes: the end's DATA_FIN or probe comes to the
-/// peer (`what_is_asked_comes`), which takes it, or answers it as a copy that came before; an acknowledgement goes back whose Data ACK is at
-/// the place that the peer's reassembly book wants as it sends, or past it; and the end hears it, in its turn. Where a turn is over such
+/// peer (`what_is_asked_comes`), which takes it, or answers it as a copy that came before; an acknowledgement goes back whose Data ACK is
+/// at the place that the peer's reassembly book wants as it sends, or past it; and the end hears it, in its turn. Where a turn is over such
 /// an exchange begins, within a minute and the longest time there and back, and once the clock is past its tick the Data ACK is heard
-/// (`in_time`). That is said of a path without checksums where no line takes options away or alters payload. Or the end has a record again, or nothing of it is outstanding; or there is
-/// news, octets of the peer's come in order, a segment is lost or late, or an end dies (`IsHeldUp`); or an end isn't open or doesn't go by
-/// Data ACKs (`IsAwry`).
+/// (`in_time`). That is said of a path without checksums where no line takes options away or alters payload. Or the end has a record again,
+/// or nothing of it is outstanding; or there is news, octets of the peer's come in order, a segment is lost or late, or an end dies
+/// (`IsHeldUp`); or an end isn't open or doesn't go by Data ACKs (`IsAwry`).
 pub fn each_ask_is_answered()
     ensures { EachAskIsAnswered }
 {}

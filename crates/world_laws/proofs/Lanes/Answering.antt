@@ -34,8 +34,8 @@ use Rattle.world_laws.proofs.Lanes.EndParts.{new_sender, new_pairs}
 abbrev pub BeginsFirst : Side → PathEnd → Lane → Type 0
 BeginsFirst s e p = is_side_a s ≡ true → e.modes.clear ≡ false → (place len : ℕ) → HasMapping p.datas place 1 len → place ≡ 0
 
--- so it is at both ends; where an end may ask for bytes, or is in plain TCP, its lane is open; FINs stand behind the record; and lanes
--- check only where checksums are used
+-- at both ends A's first mapping is at place 0; where an end may ask for bytes, or is in plain TCP, its lane is open; FINs stand behind
+-- the record; lanes check only where checksums are used
 pub record IsReady (p : PathState Carried) (ab ba : Lane) : Type 0 where
   pub first : (s : Side) → BeginsFirst s (end_at s p) (pick s ab ba)
   pub opened : (s : Side) → states.may_finish (end_at s p).tcp.state ≡ true → (pick s ab ba).opened ≡ true

@@ -169,7 +169,7 @@ module _ (start : Start) (can : Carries start) where
   pub fresh_count : (n : ℕ) → n < length (fresh_lanes can.links (suc n))
   fresh_count n = slice_get_within (fresh_lanes can.links (suc n)) n (fresh_lane can.links n) (fresh_there can.links (suc n) n (omega arith))
 
-  -- so many lanes before it
+  -- a path alone: beside its lanes are those of the paths before it, as they begin
   abbrev pub alone : ℕ → Others
   alone number = record {
     links = can.links;

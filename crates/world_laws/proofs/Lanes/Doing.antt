@@ -149,7 +149,7 @@ module _ (span : Span) (piece : List ℕ) (p : Lane) where
   abbrev pub copy_granted : DataCopy
   copy_granted = record { pos = length p.sent; bytes = piece; mapping = Some mapping_granted }
 
-  -- the same with a bit turned, where links alter payload
+  -- a copy of the granted piece with a bit turned, where links alter payload
   abbrev pub altered_copy : DataCopy
   altered_copy = record { pos = length p.sent; bytes = with_bit_turned piece 0 0; mapping = Some mapping_granted }
 

@@ -177,7 +177,7 @@ module _ (start : Start) (can : Carries start) where
     abbrev with_lanes : List Lane → List Lane → Duo
     with_lanes lanes_ab lanes_ba = duo_of can.links six lanes_ab lanes_ba reader_a reader_b
 
-    -- these paths, the first of which has this number, begin a round on lanes that move
+    -- a list of paths, the first of which has this number, begin a round on lanes that move
     pub record AllBegun (first : ℕ) (xs : List (Walker Carried)) (lanes_ab lanes_ba : List Lane) : Type 0 where
       pub ab_after : List Lane
       pub ba_after : List Lane

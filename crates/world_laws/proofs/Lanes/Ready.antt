@@ -38,7 +38,7 @@ open_at zero p ab ba joins stands A may = stands.0
 open_at zero p ab ba joins stands B may = stands.1
 open_at (suc number) p ab ba joins stands s may = joins number refl s may
 
--- so is that of path 0 always
+-- the lanes of path 0 are open always, those of another path where they are said to be
 pub opens_where : (number : ℕ) (p : PathState Carried) (ab ba : Lane) → StandsSo number p ab ba → (s : Side) → ((n : ℕ) → number ≡ suc n → (pick s ab ba).opened ≡ true) → (pick s ab ba).opened ≡ true
 opens_where zero p ab ba stands A joins = stands.0
 opens_where zero p ab ba stands B joins = stands.1

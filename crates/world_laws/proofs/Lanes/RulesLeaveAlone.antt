@@ -103,7 +103,7 @@ module _ (c : Profile) (s : Side) (out back : Lane) where
   pub plain_ack_shows : (e : PathEnd) → Shows e → Shows (with_plain_ack e)
   plain_ack_shows e h = h
 
-  -- so does a byte without a mapping; and no DATA_FIN waits behind bytes
+  -- a byte without a mapping leaves what the lane shows, and no DATA_FIN waits behind bytes
   pub unmapped_shows : (e : PathEnd) → Shows e → Shows (after_pieces e)
   unmapped_shows e h = new_treated (record {
     items = h.treated.items;

@@ -176,7 +176,7 @@ all_tested {X} {P} test (x ∷ xs) h = (elim (test x) as (λ b. Every P (filter 
     put rest zero y e = let same : x ≡ y = cc in subst P same (h.each 0 x refl)
     put rest (suc i) y e = rest.each i y e
 
--- so much more is acknowledged
+-- a lane shows what was sent still as more is acknowledged
 pub heard_sent : (finished : Bool) (nxt heard next : ℕ) (granted : List GrantedPiece) (sent : List Cell) (fins : List ℕ) (pair : Option Pair) → SentShows finished nxt heard granted sent fins pair
     → SentShows finished nxt (max heard next) (filter (is_open (max heard next)) granted) sent fins pair
 heard_sent finished nxt heard next granted sent fins pair h = record {

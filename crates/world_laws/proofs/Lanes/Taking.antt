@@ -140,7 +140,7 @@ module _ (p : Lane) (recv : Receiving) (position : ℕ) (octets : List ℕ) (cou
     is = rw (append-nil p.acks) refl;
   }
 
-  -- the same octets at the end, whose positions count the SYN
+  -- the octets of a copy stand at the end by positions that count the SYN
   same_octets : (edge : ℕ) → edge ≡ suc p.edge → drop edge (by_place position (take count octets)) ≡ drop p.edge (by_place has.item.pos (take count has.item.bytes))
   same_octets edge at =
       ap (λ e. drop e (by_place position (take count octets))) at

@@ -3,7 +3,7 @@ use Rattle.std.specs.List.{All}
 use Rattle.connection_table.specs.ManyRounds.{EachRound, IsSerialEnd, Runs}
 use Rattle.connection_table.proofs.rounds.make_rounds.Given as goal
 
--- so many rounds were made of each
+-- of each connection as many rounds were made as the loop counted
 abbrev pub invariant-loop-round : goal.invariant-loop-round
 invariant-loop-round l = record {
   some : 1 ≤ l._round;
