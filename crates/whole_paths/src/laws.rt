@@ -1,4 +1,7 @@
 //! What is promised of each connection, whatever its paths lose.
+//!
+//! Many clauses ask that a full segment has room beside its options, and that the numbers of the start fit: so it is by each script, with
+//! files shorter than 2^31 - 2 octets. Where a clause stands over `values` alone, or over `Carried`, the segments are values.
 ghost use Rattle.path_core.specs.Octets.{octets};
 ghost use Rattle.path_core.specs.Values.{Carried, values};
 ghost use Rattle.std.specs.Prelude.{ℕ, List};
@@ -306,7 +309,7 @@ pub fn each_data_fin_counts()
 {}
 
 /// A law: nothing is acknowledged that didn't come: SND.UNA of each end that isn't dead lies at its peer's RCV.NXT or below, and so does what
-/// each copy under way to it acknowledges, whatever is lost, late, repeated or altered (RFC 9293, section 3.4).
+/// each copy under way to it acknowledges that is no reset, whatever is lost, late, repeated or altered (RFC 9293, section 3.4).
 pub fn what_is_acknowledged_came()
     ensures { Always values (λ start w. WhatIsAcknowledgedCame w) }
 {}
