@@ -216,7 +216,7 @@ module _ (books : StampedBooks) (steps : List Note) (p q : PathState Carried) (k
     answer_bare : IsBare h.segment
     answer_bare = record { syn = so.syn; fin = so.fin; rst = h.covers.rst; empty = so.payload }
 
-    -- the answer is taken, and says its Data ACK
+    -- it is taken, and says its Data ACK
     ack_taken : (end_at s p).modes.identity ≡ false → IsInquired s place fin until p → ComesTaken h.segment p → Goes
     ack_taken mapped still taken =
         let to : taken.brings.copy.due.to ≡ s = sym (ap event_side taken.brings.copy.next) ∙ ap event_side next ∙ answer_to in

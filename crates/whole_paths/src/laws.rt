@@ -88,8 +88,8 @@ pub fn news_is_bounded()
 
 /// A law: how far a connection is, as one number, rises with all news.
 ///
-/// News is that SND.UNA of an end rises, a Data ACK acknowledges more, or the SYN, the DATA_FIN or the third MP_JOIN is answered; that an
-/// end dies; that a line of the script is taken; and each segment that uses a line by which it is lost or late.
+/// It does so as SND.UNA of an end rises, a Data ACK acknowledges more, or the SYN, the DATA_FIN or the third MP_JOIN is answered; as an end
+/// dies; as a line of the script is taken; and with each segment that uses a line by which it is lost or late.
 pub fn each_news_counts()
     ensures octets { EachNewsCounts octets }
     ensures values { EachNewsCounts values }
