@@ -142,7 +142,7 @@ handed_in rate w some =
     let times = div_ceil_times w.left rate.octets some in
     (omega (arith, times.0, mul-add rate.octets w.at c, mul_comm c rate.octets), omega (arith, times.1, mul-add rate.octets w.at c, mul_comm c rate.octets))
 
--- a bound on octets that are handed on from one tick to another, as many a tick
+-- a bound on the octets that are handed on from one tick to another, n a tick
 span : (n first last sum : ℕ) → 0 < n → sum + n * first < n * last + n → sum ≤ n * (last + 1 - first)
 span n first last sum some low =
     let grows : n * (last + 1) ≡ n * last + n * 1 = mul-add n last 1 in

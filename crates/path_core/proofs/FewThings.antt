@@ -30,7 +30,7 @@ use Rattle.path_core.specs.FewThings.{is_priority, CopiesSayFew, CopiesHaveFewPr
 
 -- ---- octets
 
--- how many octets the options have in all
+-- how many octets some texts have in all
 abbrev total : List (List ℕ) → ℕ
 total [] = 0
 total (octets ∷ others) = length octets + total others
