@@ -50,8 +50,8 @@ pub struct ControlBook {
     paths: [PathState; 16],
     /// The addresses, and which paths are backups.
     addresses: AddressManager<Address>,
-    /// What is still to be told.
-    notices: Notices,
+    /// What is still to be told: 4 KiB, which lie in memory of their own, so that a book is moved cheaply.
+    notices: Box<Notices>,
 }
 
 impl Model for ControlBook {
@@ -66,7 +66,7 @@ impl Model for ControlBook {
           fall = b.fall;
           paths = b.paths;
           addresses = b.addresses;
-          notices = b.notices;
+          notices = b.notices.value;
         } };
 }
 
@@ -89,10 +89,13 @@ impl ControlBook {
             fall: Fall::opening(),
             paths: opening_paths(),
             addresses: AddressManager::new(alloc),
-            notices: Notices {
-                carrier: None,
-                withdrawals: no_withdrawals(),
-            },
+            notices: Box::new(
+                alloc,
+                Notices {
+                    carrier: None,
+                    withdrawals: no_withdrawals(),
+                },
+            )?,
         })
     }
 
