@@ -159,7 +159,7 @@ module _ (c : Copy) (s : EndState) (pos acknowledged : ℕ) where
 -- ---- what it maps
 
 module _ (c : Profile) (t : Side) (next place pos len : ℕ) (checksum : Option ℕ) (behind : 0 < pos) (low : place + len ≤ 2 ^ 62) where
-  fits : is_mapping place pos len ≡ true
+  pub fits : is_mapping place pos len ≡ true
   fits = ap (λ b. b && nat_le (place + len) (2 ^ 62)) (lt-ltb 0 pos behind) ∙ le-leb (place + len) (2 ^ 62) low
 
   abbrev option : HeardOption
@@ -168,7 +168,7 @@ module _ (c : Profile) (t : Side) (next place pos len : ℕ) (checksum : Option 
   kept : KeptMapping
   kept = kept_of c t place pos len false (checksum_heard checksum)
 
-  held_one : flat_map (held_in c t) (option ∷ []) ≡ kept_of c t place pos len false (checksum_heard checksum) ∷ []
+  pub held_one : flat_map (held_in c t) (option ∷ []) ≡ kept_of c t place pos len false (checksum_heard checksum) ∷ []
   held_one = ap (λ b. (if b then kept_of c t place pos len false (checksum_heard checksum) ∷ [] else []) ++ []) fits
 
   says_one : (window : ℕ) → list_any says_mapping (flat_map (items_in false t window) (option ∷ [])) ≡ true

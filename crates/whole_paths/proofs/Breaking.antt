@@ -1,8 +1,8 @@
 -- In a connection where no option is taken away, no payload altered, and no side closes at once, the agenda of path 0 stays calm by each turn.
-use Rattle.std.proofs.Common.{◌≡◌, refl, sym, subst, ap, ◌∙◌, ⊎_elim, ℕ, ◌+◌, ◌==◌, Bool, true, false, true≢false, not, if◌then◌else◌, ◌||◌, Option, Some, None, is_some, List, length, [], ◌∷◌, ◌++◌}
+use Rattle.std.proofs.Common.{◌≡◌, refl, sym, subst, ap, ◌∙◌, ⊎_elim, ℕ, ◌+◌, Bool, true, false, true≢false, if◌then◌else◌, Option, Some, None, is_some, List, length, [], ◌∷◌, ◌++◌}
 use Rattle.std.specs.List.{list_any, slice_get}
 use Rattle.std.specs.Option.{option_map}
-use Rattle.std.proofs.lemmas.Bool.{both_ways, eqb-true, or_from, or_parts}
+use Rattle.std.proofs.lemmas.Bool.{both_ways, or_from, or_parts}
 use Rattle.std.proofs.lemmas.Option.{same_Some}
 use Rattle.sides.specs.declared.side.Side.{Side}
 use Rattle.sides.specs.declared.side.Side.TheVariants.{A, B}
@@ -29,6 +29,8 @@ use Rattle.actor_desk.specs.declared.ask.Ask.TheVariants as asks
 use Rattle.actor_desk.specs.declared.ask.Reply.{Reply}
 use Rattle.path_agenda.specs.Agenda.{stops}
 use Rattle.path_agenda.specs.declared.duty.Duty.{Duty}
+use Rattle.path_agenda.specs.declared.duty.Duty.TheVariants as duties
+use Rattle.path_agenda.specs.declared.duty.StepDuty.TheVariants as step_duties
 use Rattle.path_core.specs.Deliver.{failing_by, failing_mapping, mapping_here}
 use Rattle.path_core.specs.Duties.{ask_for}
 use Rattle.path_core.specs.MpJoin.{is_joined}
@@ -62,9 +64,15 @@ use Rattle.world_laws.proofs.Whole.Happening.{Holds, Now, Next, is_between}
 use Rattle.world_laws.proofs.Worlds.Turns.{turn_so}
 use Rattle.world_laws.proofs.Writes.Asks.{asks_no_more}
 use Rattle.whole_paths.specs.Brought.{FailsItsCheck}
-use Rattle.whole_paths.specs.Mild.{BreaksForMissing, IsHardlyBroken, IsMildStart, IsPromisedMildly, HardlyBreaks}
+use Rattle.whole_paths.specs.Mapped.{EndsAreLive, MappingsAreLive}
+use Rattle.whole_paths.specs.Mild.{BreaksForMissing, EndsHaveKeys, HasKeys, IsHardlyBroken, IsMildStart, IsPromisedMildly, HardlyBreaks, KeysAreKnown}
 use Rattle.whole_paths.proofs.Flying.{takes_frames}
+use Rattle.whole_paths.proofs.Keyed.{keys_are_known}
+use Rattle.whole_paths.proofs.Knowing.{what_is_told_is_known}
+use Rattle.whole_paths.proofs.MappedCopies.{EachMaps, PathMaps, each_maps}
+use Rattle.whole_paths.proofs.NeverUnmapped.{AllAt, begins_at, knows_so, never_at, takes_at}
 use Rattle.whole_paths.proofs.Unbroken.{Calm, FirstFine, FirstKnown, FirstReply, Known, begins_calm, takes_calm}
+use Rattle.whole_paths.proofs.Unmapped.{AtIf}
 
 -- ---- a path
 
@@ -81,8 +89,8 @@ acked_so p d ds is (Next e es q next now calm does passes) between s =
 no_clash : (v : Mappings) → NothingClashes v → clashes_if (first_of v.held) v ≡ false
 no_clash v h = (elim v.held as (λ ks. v.held ≡ ks → clashes_if (first_of ks) v ≡ false) [ [] ↦ λ is. refl | kept ∷ others ↦ λ is. h.each 0 kept (ap (λ ks. slice_get ks 0) is) ]) refl
 
-first_known : (p : PathState Carried) → PathUpright p → EndsAgree (Path p) → is_joined p.profile ≡ false → FirstKnown p.agenda p
-first_known p upright agree first = (elim p.agenda as (λ ds. p.agenda ≡ ds → FirstKnown ds p) [ [] ↦ λ is. tt | d ∷ ds ↦ λ is. by d ds is ]) refl
+first_known : (p : PathState Carried) → PathUpright p → EndsAgree (Path p) → EndsHaveKeys p → AllAt p → is_joined p.profile ≡ false → FirstKnown p.agenda p
+first_known p upright agree keys at first = (elim p.agenda as (λ ds. p.agenda ≡ ds → FirstKnown ds p) [ [] ↦ λ is. tt | d ∷ ds ↦ λ is. by d ds is ]) refl
   where
     by : (d : Duty) (ds : List Duty) → p.agenda ≡ d ∷ ds → Known d p
     by d ds is = record {
@@ -93,6 +101,9 @@ first_known p upright agree first = (elim p.agenda as (λ ds. p.agenda ≡ ds �
       sound = upright.passes.sound;
       heard = upright.passes.heard_none;
       acked = λ between s. acked_so p d ds is (upright.holds first) between s;
+      mapped = λ s same.
+          let now : p.agenda ≡ duties.Step (step_duties.Unmapped s) ∷ ds = is ∙ ap (λ e. e ∷ ds) same in
+          never_at s ds (end_at s p) (knows_so p s ds now upright.identity (upright.holds first) keys) (subst (λ xs. AtIf s xs (end_at s p)) now (at s)) (subst (λ xs. FirstStands xs p) now upright.passes.settled);
     }
 
 abbrev FirstIs : List Duty → PathState Carried → Ask → Type 0
@@ -107,20 +118,24 @@ reply_is books p x (d ∷ ds) is fine =
 
 -- ---- actors
 
-abbrev MemberCalm : Actor Carried → Type 0
-MemberCalm = HoldsOfKind (λ app. Unit {0}) (λ p. is_joined p.profile ≡ false → Calm p.agenda)
+abbrev OfPaths : (PathState Carried → Type 0) → Actor Carried → Type 0
+OfPaths P = HoldsOfKind (λ app. Unit {0}) P
 
-member_takes_calm : (books : StampedBooks) (m : Actor Carried) (x : Ask) → member_asks values m ≡ Some x → tells_refusal (answer_to books x) ≡ false → MemberUpright m → EndsAgree m → MemberCalm m
+abbrev MemberCalm : Actor Carried → Type 0
+MemberCalm = HoldsOfKind (λ app. Unit {0}) (λ p. is_joined p.profile ≡ false → Calm p.agenda × AllAt p)
+
+member_takes_calm : (books : StampedBooks) (m : Actor Carried) (x : Ask) → member_asks values m ≡ Some x → tells_refusal (answer_to books x) ≡ false → MemberUpright m → EndsAgree m → OfPaths HasKeys m → OfPaths EndsAreLive m → OfPaths PathMaps m → MemberCalm m
     → MemberCalm (member_takes values (answer_to books x) m)
-member_takes_calm books (App a) x is fine upright agree h = tt
-member_takes_calm books (Path p) x is fine upright agree h = λ then_first.
+member_takes_calm books (App a) x is fine upright agree keys live maps h = tt
+member_takes_calm books (Path p) x is fine upright agree keys live maps h = λ then_first.
     let first : is_joined p.profile ≡ false = ap is_joined (sym (takes_frames values (answer_to books x) p).profile) ∙ then_first in
     let reply = reply_is books p x p.agenda is fine in
-    takes_calm (books_in books) (answer_to books x) p (first_known p upright agree first) reply.0 reply.1 (h first)
+    let was = h first in let known = first_known p upright agree (keys first) was.1 first in
+    (takes_calm (books_in books) (answer_to books x) p known reply.0 reply.1 was.0, takes_at (answer_to books x) p known upright.identity live maps (upright.holds first) was.1)
 
 member_begins_calm : (m : Actor Carried) → MemberCalm (member_next m)
 member_begins_calm (App a) = tt
-member_begins_calm (Path p) = λ first. begins_calm (record p { clock = p.until; until = p.until + 100 })
+member_begins_calm (Path p) = λ first. let q : PathState Carried = record p { clock = p.until; until = p.until + 100 } in (begins_calm q, begins_at q)
 
 -- ---- a turn
 
@@ -135,6 +150,9 @@ record Facts (w : WorldState Carried) : Type 0 where
   upright : EachUpright w
   agree : MappingsAgree w
   fine : NothingWasRefused w
+  keys : KeysAreKnown w
+  live : MappingsAreLive w
+  maps : EachMaps w
 
 -- the reply to the step that was made last tells no refusal
 step_fine : (w : WorldState Carried) (actor : ℕ) (c : ActorCrew Carried) (x : Ask) → slice_get w.crew actor ≡ Some c → NothingWasRefused (asked values actor (Some x) c w) → tells_refusal (answer_to w.books x) ≡ false
@@ -148,7 +166,8 @@ turn_calm turn w facts fine h =
     (λ actor c x there is fine. record {
       each = λ i d at. ⊎_elim
           (λ here. subst (λ (y : ActorCrew Carried). MemberCalm y.member) here.1
-          (member_takes_calm w.books c.member x is (step_fine w actor c x there fine) (facts.upright.each actor c there) (facts.agree.each actor c there) (h.each actor c there)))
+          (member_takes_calm w.books c.member x is (step_fine w actor c x there fine) (facts.upright.each actor c there) (facts.agree.each actor c there) (facts.keys.each actor c there) (facts.live.each actor c there)
+          (facts.maps.each actor c there) (h.each actor c there)))
           (λ other. h.each i d other.1)
           (in_set w.crew actor (crew_after values x w.books c) i d at);
     })
@@ -165,7 +184,7 @@ run_calm (turn ∷ turns) w ever h = run_calm turns (after_turn values turn w) (
 
 opened_calm : (start : Start) → EachCalm (opened_world start)
 opened_calm start = record {
-  each = (opened_lifted (λ c. MemberCalm c.member) start tt tt (λ number plan there. λ first. begins_calm (waiting_path (path_begins start number plan) start.lines))).each;
+  each = (opened_lifted (λ c. MemberCalm c.member) start tt tt (λ number plan there. λ first. let p : PathState Carried = waiting_path (path_begins start number plan) start.lines in (begins_calm p, begins_at p))).each;
 }
 
 -- ---- who closes at once
@@ -247,7 +266,7 @@ each_open start turns mild = run_lifted values OpenCrew
     first s file = settled_open start_of_app (untouched s start.buffer file (fast_close_of s start.lines)) (ap (λ o. option_map rounds_before o) (mild.stays_open s))
 
 -- no application of such a connection asked for it
-none_noted : (start : Start) (turns : List Turn) → IsMildStart start → (s : Side) → list_any (note_asks_fast_close s) (notes_of s (world_run values turns (opened_world start)).crew) ≡ false
+pub none_noted : (start : Start) (turns : List Turn) → IsMildStart start → (s : Side) → list_any (note_asks_fast_close s) (notes_of s (world_run values turns (opened_world start)).crew) ≡ false
 none_noted start turns mild s = by (slice_get crew (pick s 0 1)) refl
   where
     crew : List (ActorCrew Carried)
@@ -258,13 +277,6 @@ none_noted start turns mild s = by (slice_get crew (pick s 0 1)) refl
     by (Some c) there = ((each_open start turns mild).each (pick s 0 1) c there).1 s
 
 -- ---- the law
-
-not_six : (reason : ℕ) (rest : Bool) → (not (reason == 6) || rest) ≡ false → reason ≡ 6
-not_six reason rest is = eqb-true reason 6 (by (reason == 6) (or_parts (not (reason == 6)) rest is).0)
-  where
-    by : (b : Bool) → not b ≡ false → b ≡ true
-    by true is = refl
-    by false is = absurd (true≢false is)
 
 stops_speak : (s : Side) → speaks (Voice.Aborts s) (stops s) ≡ true
 stops_speak A = refl
@@ -284,8 +296,8 @@ never_fails s p sound h =
 path_breaks : (p : PathState Carried) → ((s : Side) → failing_mapping p.profile (end_at s p) ≡ None) → ((s : Side) → speaks (Voice.Aborts s) p.agenda ≡ true → ⊥) → Calm p.agenda → BreaksForMissing p
 path_breaks p sound silent calm = record {
   duties = calm;
-  broken = λ s reason is. not_six reason _ (subst Calm is calm);
-  is_reset = λ s reason is. not_six reason _ (subst Calm is calm);
+  broken = λ s reason is. absurd (true≢false (subst Calm is calm));
+  is_reset = λ s reason is. absurd (true≢false (subst Calm is calm));
   stopped = λ s is. silent s (ap (speaks (Voice.Aborts s)) is ∙ stops_speak s);
   fails = λ s. never_fails s p (sound s);
 }
@@ -303,12 +315,19 @@ hardly_breaks start turns mild = record {
     w = world_run values turns (opened_world start)
 
     facts : (more : List Turn) → Facts (world_run values more (opened_world start))
-    facts more = record { upright = each_upright start more mild.plain mild.strips; agree = mappings_agree start more mild.plain.size; fine = nothing_refused start more mild.plain }
+    facts more = record {
+      upright = each_upright start more mild.plain mild.strips;
+      agree = mappings_agree start more mild.plain.size;
+      fine = nothing_refused start more mild.plain;
+      keys = keys_are_known start more mild;
+      live = (what_is_told_is_known values).live start more;
+      maps = each_maps start more mild;
+    }
 
     by : (m : Actor Carried) → MemberCalm m → MemberUpright m → StopsAreAsked w m → HardlyBroken m
     by (App a) calm upright asked = tt
     by (Path p) calm upright asked = λ first. path_breaks p upright.passes.sound
-        (λ s spoken. both_ways _ (none_noted start turns mild (peer s)) (asked s spoken)) (calm first)
+        (λ s spoken. both_ways _ (none_noted start turns mild (peer s)) (asked s spoken)) (calm first).0
 
 -- ---- over octets
 

@@ -316,7 +316,7 @@ module _ {C : Type 0} where
   data_quiet k s (Some unsent) r p is = absurd (true≢false (ap is_some is))
   data_quiet k s None r p is = elim (grant_in r) as (λ o. (answered_grant s o r p).link ≡ p.link) [ Some grant ↦ refl | None ↦ refl ]
 
-  quiet_link : (k : Codec C) (d : Duty) (r : Reply) (p : PathState C) → is_event d ≡ false → duty_sends d p ≡ None → (answered k d r p).link ≡ p.link
+  pub quiet_link : (k : Codec C) (d : Duty) (r : Reply) (p : PathState C) → is_event d ≡ false → duty_sends d p ≡ None → (answered k d r p).link ≡ p.link
   quiet_link k (duties.Step step_duties.Events) r p other is = absurd (true≢false other)
   quiet_link k (duties.Step (step_duties.Data s)) r p other is = data_quiet k s (first_unsent (end_at s p)) r p is
   quiet_link k (duties.Step (step_duties.Heard s index)) r p other is = item_quiet k s (item_of index (end_at s p)) r p is

@@ -1,5 +1,5 @@
 -- The DATA_FIN of an end that asks for its Data ACK comes to the peer.
-use Rattle.std.proofs.Common.{◌≡◌, sym, subst, ap, ◌∙◌, ℕ, ◌+◌, ◌-◌, ◌^◌, ◌<◌, ◌≤◌, false, if◌then◌else◌, Option, Some, None, [], ◌∷◌}
+use Rattle.std.proofs.Common.{arith, ◌≡◌, sym, subst, ap, ◌∙◌, ℕ, ◌+◌, ◌-◌, ◌^◌, ◌<◌, ◌≤◌, false, if◌then◌else◌, Option, Some, None, [], ◌∷◌}
 use Rattle.sides.specs.declared.side.Side.{Side}
 use Rattle.sides.specs.declared.side.Side.TheVariants.{A}
 use Rattle.sides.specs.Side.{peer}
@@ -78,7 +78,7 @@ end_so x p place next checksum sender t a to bare position acks options low fair
     window : IsInWindow x (end_at a.due.to p).tcp
     window = subst (λ u. IsInWindow x (end_at u p).tcp) (sym to) (record {
       from = subst (λ n. (end_at t p).tcp.recv.edge ≤ n) (sym position) takes.from;
-      within = subst (λ n. n < (end_at t p).tcp.recv.edge + 1048576) (sym position) takes.within;
+      within = subst (λ n. n ≤ (end_at t p).tcp.recv.edge + 1048576) (sym position) (let inside = takes.within in omega (arith, inside));
       acknowledged = sender.tcp.recv.edge;
       acknowledges = acks;
       answered = takes.answered;

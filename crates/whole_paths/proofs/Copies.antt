@@ -1,5 +1,5 @@
 -- A copy leaves the link of a path by arriving, or with the path.
-use Rattle.std.proofs.Common.{◌≡◌, refl, sym, subst, ap, ◌∙◌, ◌⊎◌, inl, inr, ⊎_elim, ℕ, zero, suc, ◌+◌, ◌<◌, ◌≤◌, ◌&&◌, ◌==◌, nat_lt, arith, Bool, true, false, cond, not, if◌then◌else◌, Option, Some, None, List, [], ◌∷◌, length, position}
+use Rattle.std.proofs.Common.{◌≡◌, refl, sym, subst, ap, ◌∙◌, ◌⊎◌, inl, inr, ⊎_elim, ℕ, zero, suc, ◌+◌, ◌<◌, ◌≤◌, ◌&&◌, ◌==◌, nat_lt, arith, Bool, true, false, true≢false, cond, not, if◌then◌else◌, Option, Some, None, List, [], ◌∷◌, length, position}
 use Rattle.std.specs.List.{slice_get, position_or_len}
 use Rattle.std.proofs.lemmas.Bool.{and_parts, eqb-true, lt-ltb, le-ltb, cases_lt}
 use Rattle.std.proofs.lemmas.Option.{same_Some}
@@ -13,6 +13,9 @@ use Rattle.link_model.specs.Steps.{next_number, arrivals, with_flights, fate_at,
 use Rattle.stream_lanes.specs.Words.{Has}
 use Rattle.path_segments.specs.Heard.{HeardSegment}
 use Rattle.subflow_send.specs.Records.{Record}
+use Rattle.subflow_tcp.specs.States.{is_dead}
+use Rattle.subflow_tcp.specs.declared.handshake.State.{State as EndPhase}
+use Rattle.subflow_tcp.specs.declared.handshake.State.TheVariants as phase
 use Rattle.actor_desk.specs.Words.{tail_of}
 use Rattle.actor_desk.specs.declared.ask.Reply.{Reply}
 use Rattle.path_agenda.specs.Agenda.{leaves, emission, resets}
@@ -34,6 +37,7 @@ use Rattle.path_core.specs.Codec.{Codec}
 use Rattle.path_core.specs.DssIn.{is_clash}
 use Rattle.path_core.specs.Duties.{passed, sent_for, answered}
 use Rattle.path_core.specs.Emission.{Grant, grant_in, answered_grant, answered_data, first_unsent}
+use Rattle.path_core.specs.End.{died}
 use Rattle.path_core.specs.Events.{next_event, after_line, happens_if}
 use Rattle.path_core.specs.Fallback.{breaks_by_ack}
 use Rattle.path_core.specs.MpJoin.{is_never, never_joined, keys_begun, opened_by}
@@ -50,11 +54,25 @@ use Rattle.world_laws.specs.Writes.{OnlyAt, PathView, writes, side_of}
 use Rattle.world_laws.proofs.Falls.FailedChecks.{fail_answered_so}
 use Rattle.world_laws.proofs.Writes.Paths.{writes_no_more}
 use Rattle.world_laws.proofs.Writes.Steps.{Lasts, unwritten, settled_lasts, begins_lasts}
+use Rattle.whole_paths.specs.AsFar.{stage}
+use Rattle.whole_paths.specs.EndSteps.{PathStep}
 use Rattle.whole_paths.specs.Harms.{as_it_arrives}
 use Rattle.whole_paths.specs.Copies.{IsUnderWay, GoesOnItsWay, CopiesGoOn, CopiesLeaveByArriving}
 use Rattle.whole_paths.specs.Copies.GoesOnItsWay.{on, arrives, dies}
+use Rattle.whole_paths.proofs.Duties.{passed_steps}
 use Rattle.whole_paths.proofs.Links.{has_more}
+use Rattle.whole_paths.proofs.Subflows.{steps_up}
 use Rattle.whole_paths.proofs.Turns.{turn_each}
+
+-- ---- an end that is dead
+
+still_dead : (state next : EndPhase) → stage state ≤ stage next → is_dead state ≡ true → is_dead next ≡ true
+still_dead phase.Dead next up dead = by next up
+  where
+    by : (next : EndPhase) → 7 ≤ stage next → is_dead next ≡ true
+    by phase.Dead low = refl
+    by _ low = absurd (omega (arith, low))
+still_dead _ next up dead = absurd (true≢false (sym dead))
 
 -- ---- a link
 
@@ -139,7 +157,7 @@ module _ {C : Type 0} where
     stays : q.link ≡ p.link → LinkStep d k p q
     hands : (s : Side) (carried : C) (size : ℕ) → q.clock ≡ p.clock → q.link ≡ after_send (k.strips p.profile.spelling) (k.alters p.profile.spelling) s carried size p.clock p.link → LinkStep d k p q
     delivers : d ≡ duties.Step step_duties.Events → (due : Due) → next_event p ≡ Some (happenings.Arrives due) → q.link ≡ after_delivery due p.link → LinkStep d k p q
-    is_cut : (line : LineLeft) → next_event p ≡ Some (happenings.Takes line) → line.action ≡ actions.Die → q.link ≡ after_cut p.link → LinkStep d k p q
+    is_cut : (line : LineLeft) → next_event p ≡ Some (happenings.Takes line) → line.action ≡ actions.Die → q.link ≡ after_cut p.link → is_dead q.a.tcp.state ≡ true → LinkStep d k p q
 
   send_step : {any : Duty} (k : Codec C) (d : SendDuty) (p : PathState C) → LinkStep any k p (sent_for k d p)
   send_step k (send_duties.Update s) p = hands s _ _ refl refl
@@ -175,7 +193,7 @@ module _ {C : Type 0} where
   line_step k line p next = by line.action refl
     where
       by : (action : LineAction) → line.action ≡ action → LinkStep (duties.Step step_duties.Events) k p (after_line action (record (at_tick line.tick p) { lines = tail_of p.lines }))
-      by actions.Die is = is_cut line next is refl
+      by actions.Die is = is_cut line next is refl ((elim (is_dead p.a.tcp.state) as (λ b. is_dead p.a.tcp.state ≡ b → is_dead (if b then p.a else died p.a).tcp.state ≡ true) [ true ↦ λ dead. dead | false ↦ λ living. refl ]) refl)
       by (actions.Prio s backup) is = stays refl
       by (actions.Announce s id) is = stays refl
       by (actions.Withdraw s id) is = stays refl
@@ -232,18 +250,29 @@ module _ {C : Type 0} where
       (λ there. on (subst (λ (l : LinkState C). Has (λ g. g ≡ f) l.under_way) (sym is) there))
       (λ arrived. arrives ds (agenda ∙ ap (λ d. d ∷ ds) event) (next ∙ ap (λ x. Some (happenings.Arrives x)) (due_is due f arrived)))
       (delivered due f p.link.under_way h)
-  goes_by k f d ds p q agenda (is_cut line next is cut) h = dies line next is
+  goes_by k f d ds p q agenda (is_cut line next is cut dead) h = dies line next is dead
 
   abbrev pub LinkStays : PathState C → PathState C → Type 0
   LinkStays p q = q.link ≡ p.link
 
+  -- an end that is dead stays so
+  abbrev pub DeadStays : PathState C → PathState C → Type 0
+  DeadStays p q = (s : Side) → is_dead (end_at s p).tcp.state ≡ true → is_dead (end_at s q).tcp.state ≡ true
+
+  pub step_dead : (p q : PathState C) → PathStep p q → DeadStays p q
+  step_dead p q x A = still_dead p.a.tcp.state q.a.tcp.state (steps_up q.clock p.a.tcp q.a.tcp x.a.subflow).state
+  step_dead p q x B = still_dead p.b.tcp.state q.b.tcp.state (steps_up q.clock p.b.tcp q.b.tcp x.b.subflow).state
+
+  pub dead_last : Lasts DeadStays
+  dead_last = record { agenda = λ ds p s dead. dead; chains = λ p q r x y s dead. y s (x s dead); passes = λ d p. step_dead p (passed d p) (passed_steps d p) }
+
   pub links_last : Lasts LinkStays
   links_last = record { agenda = λ ds p. refl; chains = λ p q r x y. y ∙ x; passes = λ d p. passed_link d p }
 
-  goes_further : (f : Flight C) (p q r : PathState C) → r.link ≡ q.link → GoesOnItsWay f p q → GoesOnItsWay f p r
-  goes_further f p q r same (on h) = on (subst (λ (l : LinkState C). Has (λ g. g ≡ f) l.under_way) (sym same) h)
-  goes_further f p q r same (arrives others first next) = arrives others first next
-  goes_further f p q r same (dies line next is) = dies line next is
+  goes_further : (f : Flight C) (p q r : PathState C) → r.link ≡ q.link → DeadStays q r → GoesOnItsWay f p q → GoesOnItsWay f p r
+  goes_further f p q r same still (on h) = on (subst (λ (l : LinkState C). Has (λ g. g ≡ f) l.under_way) (sym same) h)
+  goes_further f p q r same still (arrives others first next) = arrives others first next
+  goes_further f p q r same still (dies line next is dead) = dies line next is (still A dead)
 
   takes_on : (k : Codec C) (r : Reply) (p : PathState C) (f : Flight C) → IsUnderWay f p → GoesOnItsWay f p (takes k r p)
   takes_on k r p f h = by p.agenda h
@@ -252,12 +281,12 @@ module _ {C : Type 0} where
       by [] h = on h
       by (d ∷ ds) h =
           let x : PathState C = record p { agenda = d ∷ ds } in let q : PathState C = answered k d r x in
-          goes_further f x q (takes k r x) (settled_lasts LinkStays links_last q.agenda q) (goes_by k f d ds x q refl (link_step k d r x) h)
+          goes_further f x q (takes k r x) (settled_lasts LinkStays links_last q.agenda q) (settled_lasts DeadStays dead_last q.agenda q) (goes_by k f d ds x q refl (link_step k d r x) h)
 
   next_on : (p : PathState C) (f : Flight C) → IsUnderWay f p → GoesOnItsWay f p (next_round p)
   next_on p f h =
       let q : PathState C = record p { clock = p.until; until = p.until + 100 } in
-      goes_further f p q (next_round p) (begins_lasts LinkStays links_last q) (on h)
+      goes_further f p q (next_round p) (begins_lasts LinkStays links_last q) (begins_lasts DeadStays dead_last q) (on h)
 
   -- ---- the world
 

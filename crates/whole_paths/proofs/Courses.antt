@@ -15,7 +15,7 @@ use Rattle.world_laws.specs.Worlds.{WorldState, Turn, all_over, after_turn, worl
 use Rattle.world_laws.proofs.Rounds.DoneByTheEnd.{rounds_end_on_time}
 use Rattle.world_laws.proofs.Rounds.Lifting.{all_over_each}
 use Rattle.world_laws.proofs.Weaving.WholeRounds.{run_append}
-use Rattle.whole_paths.specs.Courses.{harmed_so_far, counted, round_end, TakesAStep, BeginsARound, course_of, Exchanges}
+use Rattle.whole_paths.specs.Courses.{harmed_so_far, counted, round_end, TakesAStep, BeginsARound, course_of, Exchanges, ExchangesEnd}
 use Rattle.whole_paths.specs.Finish.{harmed, rounds_in}
 use Rattle.whole_paths.specs.InTime.{ComesFrom}
 use Rattle.whole_paths.specs.News.{news, most_news}
@@ -30,7 +30,7 @@ module _ {C : Type 0} (k : Codec C) where
   round_append [] us w r = refl
   round_append (t ∷ ts) us w r = round_append ts us (after_turn k t w) (round_by t w r)
 
-  harmed_append : (number : ℕ) (ts us : List Turn) (w : WorldState C) → harmed k number ts w ≤ harmed k number (ts ++ us) w
+  pub harmed_append : (number : ℕ) (ts us : List Turn) (w : WorldState C) → harmed k number ts w ≤ harmed k number (ts ++ us) w
   harmed_append number [] us w = omega arith
   harmed_append number (t ∷ ts) us w = let rest = harmed_append number ts us (after_turn k t w) in omega (arith, rest)
 
@@ -39,10 +39,10 @@ module _ {C : Type 0} (k : Codec C) where
     at turns = reached k start turns
 
     -- one more turn
-    round_step : (turns : List Turn) (actor : ℕ) → round_end k start (turns ++ Turn.Step actor ∷ []) ≡ round_end k start turns
+    pub round_step : (turns : List Turn) (actor : ℕ) → round_end k start (turns ++ Turn.Step actor ∷ []) ≡ round_end k start turns
     round_step turns actor = ap (λ (r : RoundState C). 100 * (r.number + 1)) (round_append turns (Turn.Step actor ∷ []) (opened_world start) (first_round start))
 
-    round_next : (turns : List Turn) → all_over (at turns).crew ≡ true → round_end k start (turns ++ Turn.Round ∷ []) ≡ round_end k start turns + 100
+    pub round_next : (turns : List Turn) → all_over (at turns).crew ≡ true → round_end k start (turns ++ Turn.Round ∷ []) ≡ round_end k start turns + 100
     round_next turns over =
         let is = ap (λ (r : RoundState C). r.number) (round_append turns (Turn.Round ∷ []) (opened_world start) (first_round start)) in
         let next = one_more (at turns) (round_of k start turns) over in omega (arith, is, next)
@@ -50,15 +50,15 @@ module _ {C : Type 0} (k : Codec C) where
         one_more : (w : WorldState C) (r : RoundState C) → all_over w.crew ≡ true → (next_round w r).number ≡ r.number + 1
         one_more w r over = rw over refl
 
-    counted_up : (turns more : List Turn) → counted k start turns ≤ counted k start (turns ++ more)
+    pub counted_up : (turns more : List Turn) → counted k start turns ≤ counted k start (turns ++ more)
     counted_up turns more =
         let up : news start (at turns) ≤ news start (at (turns ++ more)) = subst (λ (w : WorldState C). news start (at turns) ≤ news start w) (sym (run_append k turns more (opened_world start))) (news_never_falls k start turns more) in
         let harms = harmed_append 0 turns more (opened_world start) in omega (arith, up, harms)
 
-    module _ (most within : ℕ) (Over : List Turn → Type 0) (Waits : ℕ → ℕ → List Turn → Type 0) (few : (turns : List Turn) → news start (at turns) ≤ most_news start)
-        (x : Exchanges k start most within Over Waits) where
+    module _ (Holds : List Turn → Type 0) (most within : ℕ) (Over : List Turn → Type 0) (Waits : ℕ → ℕ → List Turn → Type 0) (x : Exchanges k start Holds most within Over Waits)
+        (few : (turns : List Turn) → news start (at turns) ≤ most_news start) where
       abbrev system : System
-      system = course_of k start most Over Waits
+      system = course_of k start Holds most Over Waits
 
       drives : Drives system (most_news start + most) within
       drives = record {
@@ -77,36 +77,53 @@ module _ {C : Type 0} (k : Codec C) where
         begins = λ v u sound step. x.begins v u step;
       }
 
-      -- lawful turns are a course
-      course_on : (before rest : List Turn) (n : ℕ) → Course system [] n before → AreLawful k rest (at before) → harmed_so_far k start (before ++ rest) ≤ most
-          → Course system [] (n + rounds_in rest) (before ++ rest)
-      course_on before [] n course lawful low =
-          subst (λ ts. Course system [] (n + 0) ts) (sym (append-nil before)) (subst (λ m. Course system [] m before) (omega arith) course)
-      course_on before (Turn.Step actor ∷ rest) n course lawful low =
-          let now : List Turn = before ++ Turn.Step actor ∷ [] in
-          let whole : now ++ rest ≡ before ++ Turn.Step actor ∷ rest = append_assoc before (Turn.Step actor ∷ []) rest in
-          let low_now : harmed_so_far k start (now ++ rest) ≤ most = subst (λ ts. harmed_so_far k start ts ≤ most) (sym whole) low in
-          let fewer = harmed_append 0 now rest (opened_world start) in
-          let step : TakesAStep k start most before now = record { actor = actor; is = refl; few = omega (arith, fewer, low_now) } in
-          subst (λ ts. Course system [] (n + rounds_in rest) ts) whole
-          (course_on now rest n (steps n before now course step) (subst (AreLawful k rest) (sym (run_append k before (Turn.Step actor ∷ []) (opened_world start))) lawful.1) low_now)
-      course_on before (Turn.Round ∷ rest) n course lawful low =
-          let now : List Turn = before ++ Turn.Round ∷ [] in
-          let whole : now ++ rest ≡ before ++ Turn.Round ∷ rest = append_assoc before (Turn.Round ∷ []) rest in
-          let low_now : harmed_so_far k start (now ++ rest) ≤ most = subst (λ ts. harmed_so_far k start ts ≤ most) (sym whole) low in
-          let fewer = harmed_append 0 now rest (opened_world start) in
-          let step : BeginsARound k start most before now = record { over = lawful.0; is = refl; few = omega (arith, fewer, low_now) } in
-          subst (λ ts. Course system [] (n + suc (rounds_in rest)) ts) whole
-          (subst (λ m. Course system [] m (now ++ rest)) (omega arith)
-          (course_on now rest (suc n) (opens n before now course step) (subst (AreLawful k rest) (sym (run_append k before (Turn.Round ∷ []) (opened_world start))) lawful.1) low_now))
+      abbrev HoldAlong : List Turn → List Turn → Type 0
+      HoldAlong before more = (ts us : List Turn) → ts ++ us ≡ more → Holds (before ++ ts)
 
-      -- after rounds enough it is over
-      pub exchanges_end : (turns : List Turn) → AreLawful k turns (opened_world start) → harmed_so_far k start turns ≤ most
-          → ticks_for within (suc (most_news start + most)) < 100 * rounds_in turns → Over turns
-      exchanges_end turns lawful low enough =
-          let course : Course system [] (0 + rounds_in turns) turns = course_on [] turns 0 stays lawful low in
-          what_is_awaited_comes system (most_news start + most) within drives [] (omega arith) (omega arith) (rounds_in turns) turns
-          (subst (λ m. Course system [] m turns) (omega arith) course) enough
+      holds_now : (before more : List Turn) → HoldAlong before more → Holds before
+      holds_now before more hold = subst Holds (append-nil before) (hold [] more refl)
+
+      hold_next : (before more : List Turn) (turn : Turn) → HoldAlong before (turn ∷ more) → HoldAlong (before ++ turn ∷ []) more
+      hold_next before more turn hold ts us is = subst Holds (sym (append_assoc before (turn ∷ []) ts)) (hold (turn ∷ ts) us (ap (λ (xs : List Turn). turn ∷ xs) is))
+
+      -- lawful turns are a course
+      course_on : (first before more : List Turn) (n : ℕ) → Course system first n before → AreLawful k more (at before) → HoldAlong before more → harmed_so_far k start (before ++ more) ≤ most
+          → Course system first (n + rounds_in more) (before ++ more)
+      course_on first before [] n course lawful hold low =
+          subst (λ ts. Course system first (n + 0) ts) (sym (append-nil before)) (subst (λ m. Course system first m before) (omega arith) course)
+      course_on first before (Turn.Step actor ∷ more) n course lawful hold low =
+          let now : List Turn = before ++ Turn.Step actor ∷ [] in
+          let whole : now ++ more ≡ before ++ Turn.Step actor ∷ more = append_assoc before (Turn.Step actor ∷ []) more in
+          let low_now : harmed_so_far k start (now ++ more) ≤ most = subst (λ ts. harmed_so_far k start ts ≤ most) (sym whole) low in
+          let fewer = harmed_append 0 now more (opened_world start) in
+          let then_hold = hold_next before more (Turn.Step actor) hold in
+          let step : TakesAStep k start Holds most before now =
+          record { actor = actor; is = refl; few = omega (arith, fewer, low_now); before = holds_now before (Turn.Step actor ∷ more) hold; after = holds_now now more then_hold } in
+          subst (λ ts. Course system first (n + rounds_in more) ts) whole
+          (course_on first now more n (steps n before now course step) (subst (AreLawful k more) (sym (run_append k before (Turn.Step actor ∷ []) (opened_world start))) lawful.1) then_hold low_now)
+      course_on first before (Turn.Round ∷ more) n course lawful hold low =
+          let now : List Turn = before ++ Turn.Round ∷ [] in
+          let whole : now ++ more ≡ before ++ Turn.Round ∷ more = append_assoc before (Turn.Round ∷ []) more in
+          let low_now : harmed_so_far k start (now ++ more) ≤ most = subst (λ ts. harmed_so_far k start ts ≤ most) (sym whole) low in
+          let fewer = harmed_append 0 now more (opened_world start) in
+          let then_hold = hold_next before more Turn.Round hold in
+          let step : BeginsARound k start Holds most before now =
+          record { over = lawful.0; is = refl; few = omega (arith, fewer, low_now); before = holds_now before (Turn.Round ∷ more) hold; after = holds_now now more then_hold } in
+          subst (λ ts. Course system first (n + suc (rounds_in more)) ts) whole
+          (subst (λ m. Course system first m (now ++ more)) (omega arith)
+          (course_on first now more (suc n) (opens n before now course step) (subst (AreLawful k more) (sym (run_append k before (Turn.Round ∷ []) (opened_world start))) lawful.1) then_hold low_now))
+
+      ends_so : (before more : List Turn) → AreLawful k more (at before) → HoldAlong before more → harmed_so_far k start (before ++ more) ≤ most
+          → ticks_for within (suc (most_news start + most)) < 100 * rounds_in more → Over (before ++ more)
+      ends_so before more lawful hold low enough =
+          let course : Course system before (0 + rounds_in more) (before ++ more) = course_on before before more 0 stays lawful hold low in
+          let fewer = harmed_append 0 before more (opened_world start) in
+          what_is_awaited_comes system (most_news start + most) within (100 * (round_of k start before).number) drives before (omega (arith, fewer, low)) (omega arith) (rounds_in more) (before ++ more)
+          (subst (λ m. Course system before m (before ++ more)) (omega arith) course) enough
+
+    -- after rounds enough it is over
+    pub exchanges_end : ExchangesEnd k start
+    exchanges_end Holds most within Over Waits x few before more = ends_so Holds most within Over Waits x few before more
 
 -- ---- where a round ends
 

@@ -44,6 +44,7 @@ use Rattle.whole_paths.specs.DataAcksAsked.{IsAsking, IsAskedAgain, AskingGoesOn
 use Rattle.whole_paths.specs.DataAcksAsked.IsAskedAgain.{waits, resends, flies}
 use Rattle.whole_paths.specs.DataAcksAsked.{AskingGoesOn as goes}
 use Rattle.whole_paths.specs.Expiries.{IsToSend, IsToSendAgain, PathsGoAgain, GoesAgain, Expires}
+use Rattle.whole_paths.specs.Flights.{IsFirst}
 use Rattle.whole_paths.specs.Flights.{IsOnItsWay as way}
 use Rattle.whole_paths.specs.Harms.{harms_left, as_it_arrives, longest_way, IsOnTime}
 use Rattle.whole_paths.specs.InTime.{ComesFrom, NothingIsOverdue}
@@ -87,27 +88,26 @@ module _ {C : Type 0} where
     same_on : q ≡ p → (h : IsAskedAgain k s by_then p) → IsAskedSo Was h → Next
     same_on same h so = let there = subst (λ v. (w : IsAskedAgain k s by_then v) × IsAskedSo Was w) (sym same) (h, so) in (goes.on there.0, there.1)
 
+    first_of : (r : Record) (others : List Record) → (end_at s q).tcp.send.records ≡ r ∷ others → IsFirst r (end_at s q)
+    first_of r others is = record { first = r; others = others; records = is; same = same_record r }
+
     -- the timer runs on, for this or for a record
-    running_on : (tick : ℕ) → tick + longest_way s q.link ≤ by_then → IsRunning tick (end_at s q) → Next
-    running_on tick low h = by (end_at s q).tcp.send.records refl
+    running_on : (end_at s p).tcp.send.records ≡ [] → (tick : ℕ) → tick + longest_way s q.link ≤ by_then → IsRunning tick (end_at s q) → Next
+    running_on had tick low h = by (end_at s q).tcp.send.records refl
       where
         by : (rs : List Record) → (end_at s q).tcp.send.records ≡ rs → Next
         by [] none = (goes.on (waits tick low h none), tt)
-        by (r ∷ others) is = (
-          goes.record_waits r (way.waits tick low (record { timer = h.timer; settled = h.settled; first = r; others = others; records = is; living = h.living })
-              (record { first = r; others = others; records = is; same = same_record r })),
-          tt,
-        )
+        by (r ∷ others) is = (goes.record_waits r had (first_of r others is) (way.waits tick low (record { timer = h.timer; settled = h.settled; first = r; others = others; records = is; living = h.living }) (first_of r others is)), tt)
 
-    sending_on : q.clock + longest_way s q.link ≤ by_then → IsToSendAgain s q → Next
-    sending_on low next = by (end_at s q).tcp.send.records refl
+    sending_on : (end_at s p).tcp.send.records ≡ [] → q.clock + longest_way s q.link ≤ by_then → IsToSendAgain s q → Next
+    sending_on had low next = by (end_at s q).tcp.send.records refl
       where
         by : (rs : List Record) → (end_at s q).tcp.send.records ≡ rs → Next
         by [] none = (goes.on (resends low next none), tt)
-        by (r ∷ others) is = (goes.record_waits r (way.resends low next (record { first = r; others = others; records = is; same = same_record r })), tt)
+        by (r ∷ others) is = (goes.record_waits r had (first_of r others is) (way.resends low next (first_of r others is)), tt)
 
     waits_goes : GoesAgain k p q → ComesFrom p.clock p → (tick : ℕ) → tick + longest_way s p.link ≤ by_then → IsRunning tick (end_at s p) → (end_at s p).tcp.send.records ≡ [] → RunsOn s tick p q → Next
-    waits_goes again past tick low h none (run.on on) = running_on tick (let way = frames.way s in omega (arith, way, low)) on
+    waits_goes again past tick low h none (run.on on) = running_on none tick (let way = frames.way s in omega (arith, way, low)) on
     waits_goes again past tick low h none (run.news news) = (goes.news news, tt)
     waits_goes again past tick low h none (run.gone gone) = (goes.gone gone, tt)
     waits_goes again past tick low h none (run.done done) = (goes.done done, tt)
@@ -118,7 +118,7 @@ module _ {C : Type 0} where
       where
         ran_out : Expires s p q → q.clock ≡ max p.clock at → Next
         ran_out expired clock = ⊎_elim
-            (λ few. sending_on in_time (expired.again few).next)
+            (λ few. sending_on none in_time (expired.again few).next)
             (λ many. (goes.gone (expired.sixth many), tt))
             (cases_lt (end_at s p).tcp.timing.expiries 5)
           where
@@ -182,7 +182,7 @@ module _ {C : Type 0} where
     resends_goes : GoesAgain k p q → HandsOver k p q → p.clock + longest_way s p.link ≤ by_then → segments_sent s p.link < 2 ^ 64 - 1 → IsToSendAgain s p → (end_at s p).tcp.send.records ≡ [] → Next
     resends_goes again hands low few (inl is) none = ⊎_elim
         (λ same. same_on same (resends low (inl is) none) tt)
-        (λ given. sending_on still (inr given.0))
+        (λ given. sending_on none still (inr given.0))
         (again.gives_back s is)
       where
         still : q.clock + longest_way s q.link ≤ by_then
@@ -203,7 +203,7 @@ module _ {C : Type 0} where
       so,
     )
     flies_goes f low before h so (copy.arrives others first next) = (goes.arrives f low before h others first next, so)
-    flies_goes f low before h so (copy.dies line next is) = (goes.dies line next is, tt)
+    flies_goes f low before h so (copy.dies line next is dead) = (goes.dies line next is dead, tt)
 
     goes_by : EndsRunOn (Path p) (Path q) → GoesAgain k p q → HandsOver k p q → CopiesGoOn (Path p) (Path q) → ComesFrom p.clock p → segments_sent s p.link < 2 ^ 64 - 1
         → (h : IsAskedAgain k s by_then p) → IsAskedSo Was h → Next

@@ -1,7 +1,7 @@
 -- What an acknowledgement is to the open end that it comes to.
-use Rattle.std.proofs.Common.{◌≡◌, refl, sym, ap, ◌∙◌, ℕ, ◌+◌, ◌<◌, ◌≤◌, arith, nat_lt, ◌==◌, Bool, true, false, true≢false, not, ◌&&◌, ◌||◌, if◌then◌else◌, ◌-◌, Option, Some, None, is_none, List, [], length}
+use Rattle.std.proofs.Common.{◌≡◌, refl, sym, ap, ◌∙◌, ⊎_elim, ℕ, ◌+◌, ◌<◌, ◌≤◌, arith, nat_lt, ◌==◌, Bool, true, false, true≢false, not, ◌&&◌, ◌||◌, if◌then◌else◌, ◌-◌, Option, Some, None, is_none, List, [], length}
 use Rattle.std.specs.Prelude.{option_map}
-use Rattle.std.proofs.lemmas.Bool.{le-leb, lt-ltb, le-ltb, lt-leb, ne_eqb}
+use Rattle.std.proofs.lemmas.Bool.{and_from, cases_lt, eq-eqb, le-leb, lt-ltb, le-ltb, lt-leb, ne_eqb, or_right}
 use Rattle.path_segments.specs.Heard.{HeardSegment}
 use Rattle.path_segments.specs.Laws.{meant}
 use Rattle.path_segments.specs.Spelled.{PlainSegment}
@@ -68,13 +68,20 @@ module _ (c : Copy) (s : EndState) (pos : ℕ) (syn : c.syn ≡ false) (fin : c.
       ∙ ap (λ b. if is_half_open s.state && b then means.Unacknowledging else means.Taken pos n) (ne_eqb n 0 (λ none. omega (arith, some, none)))
       ∙ ap (λ b. if b then means.Unacknowledging else means.Taken pos n) (and_false (is_half_open s.state))
 
-  taken_so : (n : ℕ) → s.recv.edge ≤ pos → pos < s.recv.edge + 1048576 → c.acknowledged ≡ Some n → 0 < n → n ≤ s.send.nxt → meaning_of c s ≡ means.Taken pos n
+  -- at the window's edge it may stand too
+  acceptable_so : s.recv.edge ≤ pos → pos ≤ s.recv.edge + 1048576 → is_acceptable s.recv.edge pos c ≡ true
+  acceptable_so from within = ⊎_elim
+      (λ inside.
+      ap (λ b. (b && nat_lt pos (s.recv.edge + 1048576)) || (ends_in_window s.recv.edge pos (occupied c) || is_at_right_edge s.recv.edge pos (length c.payload))) (le-leb s.recv.edge pos from)
+      ∙ ap (λ b. b || (ends_in_window s.recv.edge pos (occupied c) || is_at_right_edge s.recv.edge pos (length c.payload))) (lt-ltb pos (s.recv.edge + 1048576) inside))
+      (λ over. or_right (is_in_window s.recv.edge pos) _ (or_right (ends_in_window s.recv.edge pos (occupied c)) _
+      (and_from (length c.payload == 0) (pos == s.recv.edge + 1048576) (ap (λ (octets : List ℕ). length octets == 0) empty) (eq-eqb pos (s.recv.edge + 1048576) (omega (arith, over, within))))))
+      (cases_lt pos (s.recv.edge + 1048576))
+
+  taken_so : (n : ℕ) → s.recv.edge ≤ pos → pos ≤ s.recv.edge + 1048576 → c.acknowledged ≡ Some n → 0 < n → n ≤ s.send.nxt → meaning_of c s ≡ means.Taken pos n
   taken_so n from within acks some sent =
       placed_so
-      ∙ ap (λ b. if (b && nat_lt pos (s.recv.edge + 1048576)) || (ends_in_window s.recv.edge pos (occupied c) || is_at_right_edge s.recv.edge pos (length c.payload)) then meaning_within pos c s else meaning_outside c)
-      (le-leb s.recv.edge pos from)
-      ∙ ap (λ b. if b || (ends_in_window s.recv.edge pos (occupied c) || is_at_right_edge s.recv.edge pos (length c.payload)) then meaning_within pos c s else meaning_outside c)
-      (lt-ltb pos (s.recv.edge + 1048576) within)
+      ∙ ap (λ b. if b then meaning_within pos c s else meaning_outside c) (acceptable_so from within)
       ∙ ap (λ b. if b then (if pos == s.recv.edge then means.Kills else means.Challenged) else (if c.syn then means.Challenged else meaning_acknowledging c.acknowledged pos s)) rst
       ∙ ap (λ b. if b then means.Challenged else meaning_acknowledging c.acknowledged pos s) syn
       ∙ ap (λ o. meaning_acknowledging o pos s) acks

@@ -9,6 +9,7 @@ use Rattle.actor_desk.specs.Books.{books_in}
 use Rattle.actor_desk.specs.Desk.{SixBooks, reassembly_of}
 use Rattle.path_core.specs.Codec.{Codec}
 use Rattle.path_core.specs.Looking.{segment_sent}
+use Rattle.path_core.specs.OptionsOut.{ack_said}
 use Rattle.path_core.specs.State.{PathState, end_at}
 use Rattle.world_laws.specs.declared.member.Member.TheVariants.{App, Path}
 use Rattle.world_laws.specs.Actors.{Actor, ActorCrew}
@@ -30,10 +31,27 @@ use Rattle.whole_paths.proofs.Saying.{ToSend}
 use Rattle.whole_paths.proofs.Waiting.{gone_stays}
 
 module _ {C : Type 0} where
+  -- a bare acknowledgement at SND.NXT
+  abbrev pub bare_data_ack : (s : Side) (edge last place : ℕ) (p : PathState C) (x : PlainSegment) → (end_at s p).modes.clear ≡ true → (end_at s p).modes.identity ≡ false → edge ≤ (end_at s p).tcp.send.nxt → (end_at s p).tcp.send.nxt ≤ last
+      → (end_at s p).receiving.next < 2 ^ 62 → x ≡ ack_said p.profile s (end_at s p).tcp.send.nxt None (end_at s p) → place ≤ (end_at s p).receiving.next → IsDataAckFrom edge last place x
+  bare_data_ack s edge last place p x clear mapped low high fits is enough = let has = ack_has p.profile s (end_at s p) clear mapped None in record {
+    from = (let at = ap (λ (x : PlainSegment). x.position) is in omega (arith, at, low));
+    up_to = (let at = ap (λ (x : PlainSegment). x.position) is in omega (arith, at, high));
+    syn = ap (λ (x : PlainSegment). x.syn) is;
+    fin = ap (λ (x : PlainSegment). x.fin) is;
+    payload = ap (λ (x : PlainSegment). x.payload) is;
+    next = (end_at s p).receiving.next;
+    mapping = has.mapping;
+    others = has.others;
+    options = ap (λ (x : PlainSegment). x.options) is ∙ has.is;
+    enough = enough;
+    low = fits;
+  }
+
   -- what goes while an acknowledgement is owed
-  pub data_ack_goes : (six : SixBooks) (s : Side) (edge place : ℕ) (p : PathState C) → AcksGoFirst p → KnowsWhatCame six p → is_dead (end_at s p).tcp.state ≡ false
-      → (end_at s p).modes.clear ≡ true → (end_at s p).modes.identity ≡ false → edge ≤ (end_at s p).tcp.send.nxt → (end_at s p).receiving.next < 2 ^ 62 → WantsWhereItSends six s place p → GoesSo (IsDataAckFrom edge place) s p
-  data_ack_goes six s edge place p first knows living clear mapped low fits wanted t sends own due unreset =
+  pub data_ack_goes : (six : SixBooks) (s : Side) (edge last place : ℕ) (p : PathState C) → AcksGoFirst p → KnowsWhatCame six p → is_dead (end_at s p).tcp.state ≡ false
+      → (end_at s p).modes.clear ≡ true → (end_at s p).modes.identity ≡ false → edge ≤ (end_at s p).tcp.send.nxt → (end_at s p).tcp.send.nxt ≤ last → (end_at s p).receiving.next < 2 ^ 62 → WantsWhereItSends six s place p → GoesSo (IsDataAckFrom edge last place) s p
+  data_ack_goes six s edge last place p first knows living clear mapped low high fits wanted t sends own due unreset =
       by (subst (λ (o : Option ToSend). IfSome o (λ t. t.from ≡ s → IsBareAck p.profile s (end_at s p) (segment_sent p t))) sends (first s living due) own)
     where
       up_to_date : (end_at s p).receiving.next ≡ next_wanted (reassembly_of s six)
@@ -41,33 +59,23 @@ module _ {C : Type 0} where
           (λ alive. subst (λ (o : Option ToSend). IfSome o (λ t. is_dead (end_at t.from p).tcp.state ≡ false → (segment_sent p t).rst ≡ false
           → (end_at t.from p).receiving.next ≡ next_wanted (reassembly_of t.from six))) sends knows.sends alive unreset) living
 
-      by : IsBareAck p.profile s (end_at s p) (segment_sent p t) → IsDataAckFrom edge place (segment_sent p t)
-      by (bare.acks is) = (let has = ack_has p.profile s (end_at s p) clear mapped None in record {
-        from = (let at = ap (λ (x : PlainSegment). x.position) is in omega (arith, at, low));
-        syn = ap (λ (x : PlainSegment). x.syn) is;
-        fin = ap (λ (x : PlainSegment). x.fin) is;
-        payload = ap (λ (x : PlainSegment). x.payload) is;
-        next = (end_at s p).receiving.next;
-        mapping = has.mapping;
-        others = has.others;
-        options = ap (λ (x : PlainSegment). x.options) is ∙ has.is;
-        enough = subst (λ n. place ≤ n) (sym up_to_date) (subst (λ (o : Option ToSend). IfSome o (λ t. t.from ≡ s → place ≤ next_wanted (reassembly_of s six))) sends wanted own);
-        low = fits;
-      })
+      by : IsBareAck p.profile s (end_at s p) (segment_sent p t) → IsDataAckFrom edge last place (segment_sent p t)
+      by (bare.acks is) = bare_data_ack s edge last place p (segment_sent p t) clear mapped low high fits is
+          (subst (λ n. place ≤ n) (sym up_to_date) (subst (λ (o : Option ToSend). IfSome o (λ t. t.from ≡ s → (segment_sent p t).rst ≡ false → place ≤ next_wanted (reassembly_of s six))) sends wanted own unreset))
       by (bare.resets is) = absurd (true≢false (sym is ∙ unreset))
 
   data_acks_go : (six : SixBooks) (k : Codec C) (m n : Actor C) → TurnedTo m n → ((Was : PlainSegment → Type 0) → AnswersComeSo Was k m n) → HoldsOfKind (λ app. Unit {0}) AcksGoFirst m
       → HoldsOfKind (λ app. Unit {0}) (KnowsWhatCame six) m → DataAcksGoOn six k m n
   data_acks_go six k (App a) (App b) turned answers first knows = tt
-  data_acks_go six k (Path p) (Path q) turned answers first knows = λ s position by_then edge place few clear mapped low fits wanted h so.
-      by s position by_then edge place few clear mapped low fits wanted h so (is_dead (end_at s p).tcp.state) refl
+  data_acks_go six k (Path p) (Path q) turned answers first knows = λ s position by_then edge last place few clear mapped low high fits wanted h so.
+      by s position by_then edge last place few clear mapped low high fits wanted h so (is_dead (end_at s p).tcp.state) refl
     where
-      by : (s : Side) (position by_then edge place : ℕ) → segments_sent s p.link < 2 ^ 64 - 1 → (end_at s p).modes.clear ≡ true → (end_at s p).modes.identity ≡ false → edge ≤ (end_at s p).tcp.send.nxt
-          → (end_at s p).receiving.next < 2 ^ 62 → WantsWhereItSends six s place p → (h : IsAnswered k s position by_then p) → IsAnsweredSo (IsDataAckFrom edge place) h
-          → (b : Bool) → is_dead (end_at s p).tcp.state ≡ b → (go : AnswerGoesOn k s position by_then p q) × AnswerComesSo (IsDataAckFrom edge place) go
-      by s position by_then edge place few clear mapped low fits wanted h so true dead = (goes.gone (gone_stays (end_at s p) (end_at s q) (turned.far s) dead), tt)
-      by s position by_then edge place few clear mapped low fits wanted h so false living =
-          answers (IsDataAckFrom edge place) s position by_then few (data_ack_goes six s edge place p first knows living clear mapped low fits wanted) h so
+      by : (s : Side) (position by_then edge last place : ℕ) → segments_sent s p.link < 2 ^ 64 - 1 → (end_at s p).modes.clear ≡ true → (end_at s p).modes.identity ≡ false → edge ≤ (end_at s p).tcp.send.nxt → (end_at s p).tcp.send.nxt ≤ last
+          → (end_at s p).receiving.next < 2 ^ 62 → WantsWhereItSends six s place p → (h : IsAnswered k s position by_then p) → IsAnsweredSo (IsDataAckFrom edge last place) h
+          → (b : Bool) → is_dead (end_at s p).tcp.state ≡ b → (go : AnswerGoesOn k s position by_then p q) × AnswerComesSo (IsDataAckFrom edge last place) go
+      by s position by_then edge last place few clear mapped low high fits wanted h so true dead = (goes.gone (gone_stays (end_at s p) (end_at s q) (turned.far s) dead), tt)
+      by s position by_then edge last place few clear mapped low high fits wanted h so false living =
+          answers (IsDataAckFrom edge last place) s position by_then few (data_ack_goes six s edge last place p first knows living clear mapped low high fits wanted) h so
   data_acks_go six k (App a) (Path q) turned answers first knows = absurd turned
   data_acks_go six k (Path p) (App b) turned answers first knows = absurd turned
 

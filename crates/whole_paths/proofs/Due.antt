@@ -174,7 +174,7 @@ module _ {C : Type 0} where
   step_is k p q (stays is) h = subst LinkIs (sym is) h
   step_is k p q (hands from carried size still is) h = subst LinkIs (sym is) (sent_is (k.strips p.profile.spelling) (k.alters p.profile.spelling) from carried size p.clock p.link h)
   step_is k p q (delivers event due next is) h = subst LinkIs (sym is) (delivered_is due p.link h)
-  step_is k p q (is_cut line next action is) h = subst LinkIs (sym is) (record { low = record { each = λ i f there. cc }; most_a = h.most_a; most_b = h.most_b; alike = record { each = λ i f there. cc } })
+  step_is k p q (is_cut line next action is dead) h = subst LinkIs (sym is) (record { low = record { each = λ i f there. cc }; most_a = h.most_a; most_b = h.most_b; alike = record { each = λ i f there. cc } })
 
   -- ---- what arrives
 

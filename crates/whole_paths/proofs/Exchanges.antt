@@ -1,8 +1,8 @@
 -- The exchange of a record goes on by each turn, stage by stage, or something comes between.
-use Rattle.std.proofs.Common.{◌≡◌, refl, sym, subst, ap, ◌∙◌, ◌⊎◌, inl, inr, ⊎_elim, ℕ, zero, suc, ◌+◌, ◌-◌, ◌^◌, ◌<◌, ◌≤◌, arith, max, nat_le, nat_lt, ◌&&◌, ◌||◌, Bool, true, false, true≢false, if◌then◌else◌, Option, Some, None, IfSome, List, [], ◌∷◌, length, le_refl}
+use Rattle.std.proofs.Common.{◌≡◌, refl, sym, subst, ap, ◌∙◌, ◌⊎◌, inl, inr, ⊎_elim, ℕ, zero, suc, ◌+◌, ◌-◌, ◌^◌, ◌<◌, ◌≤◌, arith, max, nat_le, nat_lt, ◌&&◌, ◌||◌, ◌==◌, Bool, true, false, true≢false, if◌then◌else◌, Option, Some, None, IfSome, List, [], ◌∷◌, length, le_refl}
 use Rattle.std.specs.Prelude.{IsSome, option_map}
 use Rattle.std.specs.List.{AllByRecursion, slice_get}
-use Rattle.std.proofs.lemmas.Bool.{cases_lt, le-leb, lt-leb, lt-ltb}
+use Rattle.std.proofs.lemmas.Bool.{and_from, cases_lt, eq-eqb, le-leb, lt-leb, lt-ltb}
 use Rattle.std.proofs.lemmas.Option.{same_Some}
 use Rattle.path_segments.specs.Heard.{HeardSegment}
 use Rattle.path_segments.specs.Laws.{meant}
@@ -22,7 +22,7 @@ use Rattle.stream_lanes.specs.Words.{Every}
 use Rattle.subflow_recv.specs.Receiving.{Receiving}
 use Rattle.subflow_send.specs.Records.{Record, end_of, occupied}
 use Rattle.subflow_send.specs.declared.record.RecordKind.TheVariants.{Data}
-use Rattle.subflow_tcp.specs.Judging.{ends_in_window, is_acceptable, is_at_right_edge, meaning_of}
+use Rattle.subflow_tcp.specs.Judging.{ends_in_window, is_acceptable, is_at_right_edge, is_in_window, meaning_of}
 use Rattle.subflow_tcp.specs.Segments.{occupied as occupied_by}
 use Rattle.subflow_tcp.specs.State.{is_at_limit}
 use Rattle.subflow_tcp.specs.States.{is_dead, is_opening}
@@ -67,7 +67,7 @@ use Rattle.whole_paths.specs.Brought.{Comes}
 use Rattle.whole_paths.specs.Came.{AcksWhatCame, HasCome}
 use Rattle.whole_paths.specs.Copies.{IsUnderWay}
 use Rattle.whole_paths.specs.Due.{CopiesArriveSo}
-use Rattle.whole_paths.specs.Exchanges.{IsFaithful, IsSentWhole, IsBareFrom, IsExchanged, IsHeldUp, IsAstray, ExchangeGoesOn, ExchangesGoOn, ExchangesBegin, ExchangesEnd, EachRecordIsAcknowledged}
+use Rattle.whole_paths.specs.Exchanges.{IsFaithful, IsSentWhole, IsBareWithin, IsExchanged, IsHeldUp, IsAstray, ExchangeGoesOn, ExchangesGoOn, ExchangesBegin, ExchangesEnd, EachRecordIsAcknowledged}
 use Rattle.whole_paths.specs.Exchanges.IsExchanged.{comes, in_hand, answered, acknowledged}
 use Rattle.whole_paths.specs.Exchanges.{IsHeldUp as held}
 use Rattle.whole_paths.specs.Exchanges.{IsAstray as stray}
@@ -113,6 +113,10 @@ pub record Known (p : PathState Carried) : Type 0 where
   pub link : LinkIs p.link
   pub alike : CopiesArriveSo p
   pub past : ComesFrom p.clock p
+
+or_right : (b c : Bool) → c ≡ true → (b || c) ≡ true
+or_right true c is = refl
+or_right false c is = is
 
 unopening : (state : EndPhase) → 2 ≤ stage state → is_opening state ≡ false
 unopening phase.SynSent high = absurd (omega (arith, high))
@@ -180,7 +184,7 @@ module _ (p : PathState Carried) (known : Known p) (s : Side) where
 
 -- ---- later, or less
 
-hand_later : (s : Side) (position before later : ℕ) (q : PathState Carried) → before ≤ later → IsInHand s position before q → IsInHand s position later q
+pub hand_later : (s : Side) (position before later : ℕ) (q : PathState Carried) → before ≤ later → IsInHand s position before q → IsInHand s position later q
 hand_later s position before later q low h = record {
   in_time = let in_time = h.in_time in omega (arith, in_time, low);
   opened = h.opened;
@@ -207,6 +211,11 @@ pub answer_later : (Was : PlainSegment → Type 0) (s : Side) (position less bef
     → (g : IsAnswered values s less later q) × IsAnsweredSo Was g
 answer_later Was s position less before later q few low (owes in_time opened came due) so = (owes (omega (arith, in_time, low)) opened (omega (arith, came, few)) due, tt)
 answer_later Was s position less before later q few low (flies f in_time there h) so = (flies f (omega (arith, in_time, low)) there (less_covered s position less q f few h), so)
+
+bare_later : (s : Side) (position n edge next more : ℕ) (q : PathState Carried) → next ≤ more → (h : IsAnswered values s position n q) → IsAnsweredSo (IsBareWithin edge next) h → IsAnsweredSo (IsBareWithin edge more) h
+bare_later s position n edge next more q up (owes in_time opened came due) so = tt
+bare_later s position n edge next more q up (flies f in_time there h) so =
+    record { from = so.from; up_to = (let low = so.up_to in omega (arith, low, up)); syn = so.syn; fin = so.fin; payload = so.payload }
 
 -- ---- the first record stays so, or is acknowledged
 
@@ -271,14 +280,15 @@ record IsTurn (p q : PathState Carried) : Type 0 where
   kept : (s : Side) → KeepsWhatWaits (end_at s p) (end_at s q)
   frames : Frames p q
   far : (s : Side) → (end_at s p).tcp.recv.edge ≤ (end_at s q).tcp.recv.edge
+  pushed : (s : Side) → (end_at s p).tcp.send.nxt ≤ (end_at s q).tcp.send.nxt
   later : (s : Side) → stage (end_at s p).tcp.state ≤ stage (end_at s q).tcp.state
   counts : Counts values p q
 
 module _ (p q : PathState Carried) (known : Known p) (faithful : IsFaithful p) (few : (t : Side) → segments_sent t p.link < 2 ^ 64 - 1) (turn : IsTurn p q)
-    (s : Side) (acks_first : AcksGoFirst p) (hands : HandsComeSo (IsBareFrom (end_at s p).tcp.recv.edge) values (Path p) (Path q))
-    (answers : AnswersComeSo (IsBareFrom (end_at s p).tcp.recv.edge) values (Path p) (Path q)) where
+    (s : Side) (acks_first : AcksGoFirst p) (hands : HandsComeSo (IsBareWithin (end_at s p).tcp.recv.edge (end_at (peer s) p).tcp.send.nxt) values (Path p) (Path q))
+    (answers : AnswersComeSo (IsBareWithin (end_at s p).tcp.recv.edge (end_at (peer s) p).tcp.send.nxt) values (Path p) (Path q)) where
   abbrev Bare : PlainSegment → Type 0
-  Bare = IsBareFrom (end_at s p).tcp.recv.edge
+  Bare = IsBareWithin (end_at s p).tcp.recv.edge (end_at (peer s) p).tcp.send.nxt
 
   numbered : (f : Flight Carried) → IsUnderWay f p → f.number < 2 ^ 64 - 1
   numbered f there = let low = under_way (λ g. g.number ≤ segments_sent (peer g.to) p.link) f p there known.link.low in let most = few (peer f.to) in omega (arith, low, most)
@@ -362,6 +372,15 @@ module _ (p q : PathState Carried) (known : Known p) (faithful : IsFaithful p) (
     not_before : hearer.tcp.recv.edge ≤ f.carried.segment.position
     not_before = (let at = header.position in subst (λ t. (end_at t p).tcp.recv.edge ≤ f.carried.segment.position) (sym to_sender) (let low = is_bare.from in omega (arith, at, low)))
 
+    -- without payload it may stand at the window's edge
+    at_edge : f.carried.segment.position ≡ hearer.tcp.recv.edge + 1048576 → is_acceptable hearer.tcp.recv.edge f.carried.segment.position (copy_of said) ≡ true
+    at_edge is =
+        or_right (is_in_window hearer.tcp.recv.edge f.carried.segment.position)
+        (ends_in_window hearer.tcp.recv.edge f.carried.segment.position (occupied_by (copy_of said)) || is_at_right_edge hearer.tcp.recv.edge f.carried.segment.position (length (copy_of said).payload))
+        (or_right (ends_in_window hearer.tcp.recv.edge f.carried.segment.position (occupied_by (copy_of said))) (is_at_right_edge hearer.tcp.recv.edge f.carried.segment.position (length (copy_of said).payload))
+        (and_from (length (copy_of said).payload == 0) (f.carried.segment.position == hearer.tcp.recv.edge + 1048576)
+        (ap (λ (o : List ℕ). length o == 0) (header.payload is_bare.payload)) (eq-eqb f.carried.segment.position (hearer.tcp.recv.edge + 1048576) is)))
+
     answer_comes : 0 < position → Heard
     answer_comes some = by_life (subst (λ t. 2 ≤ stage (end_at t p).tcp.state) (sym to_sender) opened) (is_dead hearer.tcp.state) refl
       where
@@ -371,7 +390,10 @@ module _ (p q : PathState Carried) (known : Known p) (faithful : IsFaithful p) (
             (ap (λ b. b || (ends_in_window hearer.tcp.recv.edge f.carried.segment.position (occupied_by (copy_of said)) || is_at_right_edge hearer.tcp.recv.edge f.carried.segment.position (length (copy_of said).payload)))
             (ap (λ b. b && nat_lt f.carried.segment.position (hearer.tcp.recv.edge + 1048576)) (le-leb hearer.tcp.recv.edge f.carried.segment.position not_before) ∙ lt-ltb f.carried.segment.position (hearer.tcp.recv.edge + 1048576) below))
             (let enough = h.covers.enough in omega (arith, enough, some)))
-            (λ above. inr (inr (λ r. inr (stray.past_window f there to_sender (subst (λ t. (end_at t p).tcp.recv.edge + 1048576 ≤ f.carried.segment.position) to_sender above)))))
+            (λ above. ⊎_elim
+            (λ past. inr (inr (λ r. inr (stray.past_window (let edge = ap (λ t. (end_at t p).tcp.recv.edge) to_sender in let at = header.position in let most = is_bare.up_to in omega (arith, past, edge, at, most))))))
+            (λ few. is_taken opened living syn_is (at_edge (omega (arith, above, few))) (let enough = h.covers.enough in omega (arith, enough, some)))
+            (cases_lt (hearer.tcp.recv.edge + 1048576) f.carried.segment.position))
             (cases_lt f.carried.segment.position (hearer.tcp.recv.edge + 1048576))
 
         by_life : 2 ≤ stage hearer.tcp.state → (b : Bool) → is_dead hearer.tcp.state ≡ b → Heard
@@ -399,7 +421,8 @@ module _ (p q : PathState Carried) (known : Known p) (faithful : IsFaithful p) (
 
     is_answered : (position before : ℕ) → end_of r ≤ position → before ≤ until → (h : IsAnswered values (peer s) position before q) → IsAnsweredSo Bare h → Goes
     is_answered position before enough low h so = if_still (λ same. let later = answer_later Bare (peer s) position (end_of r) before until q enough low h so in
-        goes.on (answered still_opened later.0 (subst (λ n. IsAnsweredSo (IsBareFrom n) later.0) (sym same) later.1)))
+        goes.on (answered still_opened later.0 (subst (λ n. IsAnsweredSo (IsBareWithin n (end_at (peer s) q).tcp.send.nxt) later.0) (sym same)
+        (bare_later (peer s) (end_of r) until (end_at s p).tcp.recv.edge (end_at (peer s) p).tcp.send.nxt (end_at (peer s) q).tcp.send.nxt q (turn.pushed (peer s)) later.0 later.1))))
 
     -- the answer goes on
     answer_goes : (position before : ℕ) → end_of r ≤ position → before ≤ until → 0 < end_of r → (go : AnswerGoesOn values (peer s) position before p q) → AnswerComesSo Bare go → Goes
@@ -415,7 +438,7 @@ module _ (p q : PathState Carried) (known : Known p) (faithful : IsFaithful p) (
     answer_goes position before enough low some (answer.lost x covers taken loses) so = goes.held_up (held.lost (peer s) x taken loses)
     answer_goes position before enough low some (answer.resets is) so = goes.astray (stray.resets is)
     answer_goes position before enough low some (answer.gone dead) so = goes.held_up (held.gone (peer s) (inr dead))
-    answer_goes position before enough low some (answer.dies line next is) so = goes.held_up (held.dies line next is)
+    answer_goes position before enough low some (answer.dies line next is dead) so = goes.held_up (held.dies line next is dead)
 
     -- and so does what is in hand
     hand_goes : (position before : ℕ) → position ≡ end_of r → before ≤ until → 0 < end_of r → (go : HandGoesOn values (peer s) position before p q) → HandComesSo Bare go → Goes
@@ -573,7 +596,7 @@ module _ (p q : PathState Carried) (known : Known p) (faithful : IsFaithful p) (
     on_way arrival soon first still (way.harmed less) so = goes.held_up (held.harmed less)
     on_way arrival soon first still (way.lost x of_it taken loses) so = goes.held_up (held.lost s x taken loses)
     on_way arrival soon first still (way.gone dead) so = goes.held_up (held.gone s (inr dead))
-    on_way arrival soon first still (way.dies line next is) so = goes.held_up (held.dies line next is)
+    on_way arrival soon first still (way.dies line next is dead) so = goes.held_up (held.dies line next is dead)
 
     -- where its end sends it with its own mapping
     sends_so : SentGoOn (IsSentWhole p.profile s r) values (Path p) (Path q) → (arrival : ℕ) → arrival + longest_way (peer s) p.link ≤ until → IsFirst r (end_at s p) → IsExchanged s r until p
@@ -604,6 +627,7 @@ module _ (p q : PathState Carried) (known : Known p) (faithful : IsFaithful p) (
         by : IsBareAck p.profile (peer s) (end_at (peer s) p) (segment_sent p t) → Bare (segment_sent p t)
         by (bare.acks is) = record {
           from = (let low = known.was_sent s in let at = ap (λ (x : PlainSegment). x.position) is in omega (arith, at, low));
+          up_to = (let at = ap (λ (x : PlainSegment). x.position) is in omega (arith, at));
           syn = ap (λ (x : PlainSegment). x.syn) is;
           fin = ap (λ (x : PlainSegment). x.fin) is;
           payload = ap (λ (x : PlainSegment). x.payload) is;
@@ -710,8 +734,8 @@ exchanges_go (App a) (App b) kept frames turned sent hands answers counts shown 
 exchanges_go (Path p) (Path q) kept frames turned sent hands answers counts shown reached came was_sent link alike past acks_first = λ faithful s r until kind few h.
     exchange_goes p q
     (record { tells = shown.tells; behind = shown.behind; edge = shown.edge; reached = reached; came = came; was_sent = was_sent; link = link; alike = alike; past = past })
-    faithful few (record { kept = kept; frames = frames; far = λ s. (turned.far s).subflow.received; later = λ s. (turned.far s).subflow.state; counts = counts }) s acks_first (hands (IsBareFrom (end_at s p).tcp.recv.edge))
-    (answers (IsBareFrom (end_at s p).tcp.recv.edge)) r until kind (sent (IsSentWhole p.profile s r)) h
+    faithful few (record { kept = kept; frames = frames; far = λ s. (turned.far s).subflow.received; pushed = λ s. (turned.far s).subflow.pushed; later = λ s. (turned.far s).subflow.state; counts = counts }) s acks_first (hands (IsBareWithin (end_at s p).tcp.recv.edge (end_at (peer s) p).tcp.send.nxt))
+    (answers (IsBareWithin (end_at s p).tcp.recv.edge (end_at (peer s) p).tcp.send.nxt)) r until kind (sent (IsSentWhole p.profile s r)) h
 exchanges_go (App a) (Path q) kept frames turned sent hands answers counts shown reached came was_sent link alike past acks_first = absurd kept
 exchanges_go (Path p) (App b) kept frames turned sent hands answers counts shown reached came was_sent link alike past acks_first = absurd kept
 

@@ -147,7 +147,7 @@ module _ {C : Type 0} where
   abbrev pub SameClock : PathState C → PathState C → Type 0
   SameClock p q = q.clock ≡ p.clock
 
-  clock_lasts : Lasts SameClock
+  pub clock_lasts : Lasts SameClock
   clock_lasts = record { agenda = λ ds p. refl; chains = λ p q r x y. y ∙ x; passes = λ d p. (passed_same d p).clock }
 
   abbrev pub SameLines : PathState C → PathState C → Type 0
@@ -169,7 +169,7 @@ module _ {C : Type 0} where
   link_way k s p q (stays is) = ap (λ (l : LinkState C). longest_way s l) is
   link_way k s p q (hands from carried size still is) = ap (λ (l : LinkState C). longest_way s l) is ∙ sent_way (k.strips p.profile.spelling) (k.alters p.profile.spelling) from s carried size p.clock p.link
   link_way k s p q (delivers event due next is) = ap (λ (l : LinkState C). longest_way s l) is
-  link_way k s p q (is_cut line next action is) = ap (λ (l : LinkState C). longest_way s l) is
+  link_way k s p q (is_cut line next action is dead) = ap (λ (l : LinkState C). longest_way s l) is
 
   sent_lines : (strip alter : Side → C → C) (from : Side) (carried : C) (size now : ℕ) (link : LinkState C) → (after_send strip alter from carried size now link).lines ≡ link.lines
   sent_lines strip alter A carried size now link = refl
@@ -179,7 +179,7 @@ module _ {C : Type 0} where
   link_lines k p q (stays is) = ap (λ (l : LinkState C). l.lines) is
   link_lines k p q (hands from carried size still is) = ap (λ (l : LinkState C). l.lines) is ∙ sent_lines (k.strips p.profile.spelling) (k.alters p.profile.spelling) from carried size p.clock p.link
   link_lines k p q (delivers event due next is) = ap (λ (l : LinkState C). l.lines) is
-  link_lines k p q (is_cut line next action is) = ap (λ (l : LinkState C). l.lines) is
+  link_lines k p q (is_cut line next action is dead) = ap (λ (l : LinkState C). l.lines) is
 
   pub takes_lines : (k : Codec C) (r : Reply) (p : PathState C) → SameLines p (takes k r p)
   takes_lines k r p = by p.agenda
@@ -359,7 +359,7 @@ module _ {C : Type 0} where
       so,
     )
     flies_goes f low before h so (copy.arrives others first next) = (goes.arrives f low before h others first next, so)
-    flies_goes f low before h so (copy.dies line next is) = (goes.dies line next is, tt)
+    flies_goes f low before h so (copy.dies line next is dead) = (goes.dies line next is dead, tt)
 
     goes_by : TimersWaitOn (Path p) (Path q) → GoesAgain k p q → CopiesGoOn (Path p) (Path q) → ComesFrom p.clock p → segments_sent s p.link < 2 ^ 64 - 1 → (way : IsOnItsWay k s r by_then p) → IsSentSo Was way → Next
     goes_by timers again copies past few (waits tick low h first) so = waits_goes again past tick low h first (timers s tick h)

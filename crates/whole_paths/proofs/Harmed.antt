@@ -184,7 +184,7 @@ module _ {C : Type 0} where
   step_uses k p q (stays is) h = subst (λ m. Uses p.clock p.link m) (sym is) (same_uses p.clock p.link p.link refl refl refl refl h)
   step_uses k p q (hands s carried size still is) h = subst (λ m. Uses p.clock p.link m) (sym is) (sent_uses (k.strips p.profile.spelling) (k.alters p.profile.spelling) carried size p.clock p.link h s)
   step_uses k p q (delivers event due next is) h = subst (λ m. Uses p.clock p.link m) (sym is) (same_uses p.clock p.link _ refl refl refl refl h)
-  step_uses k p q (is_cut line next action is) h = subst (λ m. Uses p.clock p.link m) (sym is) (same_uses p.clock p.link _ refl refl refl refl h)
+  step_uses k p q (is_cut line next action is dead) h = subst (λ m. Uses p.clock p.link m) (sym is) (same_uses p.clock p.link _ refl refl refl refl h)
 
   takes_uses : (k : Codec C) (r : Reply) (p : PathState C) → PathUses p (takes k r p)
   takes_uses k r p = by p.agenda
@@ -225,7 +225,7 @@ module _ {C : Type 0} where
   -- ---- many turns
 
   -- no actor comes into being
-  none_stays : (k : Codec C) (turn : Turn) (w : WorldState C) (actor : ℕ) → slice_get w.crew actor ≡ None → slice_get (after_turn k turn w).crew actor ≡ None
+  pub none_stays : (k : Codec C) (turn : Turn) (w : WorldState C) (actor : ℕ) → slice_get w.crew actor ≡ None → slice_get (after_turn k turn w).crew actor ≡ None
   none_stays k (Turn.Step i) w actor none = by (slice_get w.crew i) refl
     where
       asking : (c : ActorCrew C) → slice_get w.crew i ≡ Some c → (o : Option _) → slice_get (asked k i o c w).crew actor ≡ None

@@ -528,14 +528,14 @@ module _ {C : Type 0} where
   link_from k p q (hands s carried size still is) h =
       subst (λ (l : LinkState C). CopiesFrom q.clock l.under_way) (sym is) (sent_from q.clock (k.strips p.profile.spelling) (k.alters p.profile.spelling) s carried size p.clock p.link (omega (arith, still)) h)
   link_from k p q (delivers event due next is) h = subst (λ (l : LinkState C). CopiesFrom q.clock l.under_way) (sym is) (delivered_from q.clock due p.link h)
-  link_from k p q (is_cut line next action is) h = subst (λ (l : LinkState C). CopiesFrom q.clock l.under_way) (sym is) tt
+  link_from k p q (is_cut line next action is dead) h = subst (λ (l : LinkState C). CopiesFrom q.clock l.under_way) (sym is) tt
 
   link_ordered : {d : Duty} (k : Codec C) (p q : PathState C) → LinkStep d k p q → AreInOrder p.link.under_way → AreInOrder q.link.under_way
   link_ordered k p q (stays is) h = subst (λ (l : LinkState C). AreInOrder l.under_way) (sym is) h
   link_ordered k p q (hands s carried size still is) h =
       subst (λ (l : LinkState C). AreInOrder l.under_way) (sym is) (in_order_sent (k.strips p.profile.spelling) (k.alters p.profile.spelling) s carried size p.clock p.link h)
   link_ordered k p q (delivers event due next is) h = subst (λ (l : LinkState C). AreInOrder l.under_way) (sym is) (in_order_delivered due p.link h)
-  link_ordered k p q (is_cut line next action is) h = subst (λ (l : LinkState C). AreInOrder l.under_way) (sym is) tt
+  link_ordered k p q (is_cut line next action is dead) h = subst (λ (l : LinkState C). AreInOrder l.under_way) (sym is) tt
 
   by_link : {d : Duty} (k : Codec C) (p q : PathState C) → InOrder p → ComesFrom q.clock p → PathStep p q → Fewer p q → LinkStep d k p q → InTime q
   by_link k p q order h steps fewer link = on_time p q order h steps fewer (link_ordered k p q link order.copies) (link_from k p q link h.copies)

@@ -84,7 +84,7 @@ data Now (s : Side) (pos : ℕ) (ds : List Duty) (e : PathEnd) : Type 0 where
   fallen : e.modes.identity ≡ true → Now s pos ds e
   keyless : e.modes.peer_key ≡ None → Now s pos ds e
 
-abbrev Live : PathEnd → Type 0
+abbrev pub Live : PathEnd → Type 0
 Live e = AreLive e.receiving.mappings e.tcp.recv.edge
 
 still_known : (s : Side) (pos : ℕ) (ds : List Duty) (e : PathEnd) → (pos < e.tcp.recv.edge) ⊎ IsSome (mapping_at e.receiving.mappings pos) → Now s pos ds e
@@ -99,16 +99,20 @@ first_false true b is = absurd (true≢false is)
 first_false false b is = refl
 
 -- the first mapping that is held is learned
-learned_now : (s : Side) (pos : ℕ) (ds : List Duty) (m : KeptMapping) (e f : PathEnd) → Live e → first_held e.receiving.mappings ≡ Some m → covers pos (run_of m) ≡ true → is_clash e ≡ false
-    → f.tcp.recv.edge ≡ e.tcp.recv.edge → f.receiving.mappings ≡ (with_learned e).receiving.mappings → Now s pos ds f
-learned_now s pos ds m e f live first is clash edge maps = ⊎_elim
-    (λ low. below (let far = live.low in omega (arith, low, far, edge)))
-    (λ high. mapped (subst (λ x. IsSome (mapping_at x pos)) (sym maps) (subst (λ o. IsSome (mapping_at (after_skip_held (learned_if o v)) pos)) (sym first)
+pub learned_so : (pos : ℕ) (m : KeptMapping) (e f : PathEnd) → Live e → first_held e.receiving.mappings ≡ Some m → covers pos (run_of m) ≡ true → is_clash e ≡ false
+    → f.tcp.recv.edge ≡ e.tcp.recv.edge → f.receiving.mappings ≡ (with_learned e).receiving.mappings → (pos < f.tcp.recv.edge) ⊎ IsSome (mapping_at f.receiving.mappings pos)
+learned_so pos m e f live first is clash edge maps = ⊎_elim
+    (λ low. inl (let far = live.low in omega (arith, low, far, edge)))
+    (λ high. inr (subst (λ x. IsSome (mapping_at x pos)) (sym maps) (subst (λ o. IsSome (mapping_at (after_skip_held (learned_if o v)) pos)) (sym first)
     (learned_known m v e.tcp.recv.edge pos live (subst (λ o. clashes_if o v ≡ false) first clash) is high))))
     (cases_lt pos v.forgotten)
   where
     v : Mappings
     v = e.receiving.mappings
+
+learned_now : (s : Side) (pos : ℕ) (ds : List Duty) (m : KeptMapping) (e f : PathEnd) → Live e → first_held e.receiving.mappings ≡ Some m → covers pos (run_of m) ≡ true → is_clash e ≡ false
+    → f.tcp.recv.edge ≡ e.tcp.recv.edge → f.receiving.mappings ≡ (with_learned e).receiving.mappings → Now s pos ds f
+learned_now s pos ds m e f live first is clash edge maps = still_known s pos ds f (learned_so pos m e f live first is clash edge maps)
 
 -- ---- what is heard
 
@@ -255,7 +259,7 @@ module _ {C : Type 0} where
       by (fallen is) = fallen (x.plain ∙ is)
       by (keyless is) = keyless (x.key ∙ is)
 
-  passed_live : (s : Side) (d : Duty) (p : PathState C) → Live (end_at s p) → Live (end_at s (passed d p))
+  pub passed_live : (s : Side) (d : Duty) (p : PathState C) → Live (end_at s p) → Live (end_at s (passed d p))
   passed_live s d p live = live_moves (end_at s p) (end_at s (passed d p)) ((path_far p (passed d p) (passed_steps d p) s).subflow.received) (passed_maps s d p) live
 
   now_so : (s : Side) (pos : ℕ) (p q : PathState C) → Now s pos q.agenda (end_at s q) → StaysMapped s pos p q
@@ -282,7 +286,7 @@ module _ {C : Type 0} where
 
   -- ---- a duty that is answered
 
-  thing_leaves : (k : Codec C) (s : Side) (o : Option Heard) (r : Reply) (p : PathState C) → is_mapping o ≡ false → (end_at s (answered_item k s o r p)).receiving.mappings ≡ (end_at s p).receiving.mappings
+  pub thing_leaves : (k : Codec C) (s : Side) (o : Option Heard) (r : Reply) (p : PathState C) → is_mapping o ≡ false → (end_at s (answered_item k s o r p)).receiving.mappings ≡ (end_at s p).receiving.mappings
   thing_leaves k s None r p no_map = refl
   thing_leaves k s (Some (says.Mapping fin)) r p no_map = absurd (true≢false no_map)
   thing_leaves k s (Some (says.DataAck next window)) r p no_map = ap (λ (f : PathEnd). f.receiving.mappings) (own_end s _ p.a p.b)
@@ -297,7 +301,7 @@ module _ {C : Type 0} where
       (ap (λ (f : PathEnd). f.receiving.mappings) (own_end s _ p.a p.b)) (ap (λ (f : PathEnd). f.receiving.mappings) (own_end s _ p.a p.b))
   thing_leaves k s (Some _) r p no_map = refl
 
-  unmapped_so : (k : Codec C) (d : Duty) (r : Reply) (p : PathState C) → comes_before_keeping d ≡ true → is_heard d ≡ false
+  pub unmapped_so : (k : Codec C) (d : Duty) (r : Reply) (p : PathState C) → comes_before_keeping d ≡ true → is_heard d ≡ false
       → (end_at (side_of d) (answered k d r p)).receiving.mappings ≡ (end_at (side_of d) p).receiving.mappings
   unmapped_so k (duties.Step (step_duties.Heard s index)) r p before heard = absurd (true≢false heard)
   unmapped_so k (duties.Step step_duties.Events) r p before heard = absurd (true≢false (sym before))
@@ -370,7 +374,7 @@ module _ {C : Type 0} where
       let x : PathState C = with_agenda (d ∷ ds) p in let q : PathState C = answered k d r x in
       still_known s pos q.agenda (end_at s q) (known_moves pos (end_at s x) (end_at s q) (answered_maps k s d r x refl) some)
 
-  answered_live : (k : Codec C) (s : Side) (d : Duty) (ds : List Duty) (r : Reply) (p : PathState C) → Live (end_at s p) → Live (end_at s (answered k d r (with_agenda (d ∷ ds) p)))
+  pub answered_live : (k : Codec C) (s : Side) (d : Duty) (ds : List Duty) (r : Reply) (p : PathState C) → Live (end_at s p) → Live (end_at s (answered k d r (with_agenda (d ∷ ds) p)))
   answered_live k s (duties.Step step_duties.Events) ds r p live =
       let d : Duty = duties.Step step_duties.Events in let x : PathState C = with_agenda (d ∷ ds) p in
       live_moves (end_at s x) (end_at s (answered k d r x)) ((path_far x (answered k d r x) (answered_steps k d r x) s).subflow.received) (event_maps k (next_event x) r x s) live

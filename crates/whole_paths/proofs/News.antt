@@ -1,5 +1,5 @@
 -- The number of a connection never falls, and rises with all that counts.
-use Rattle.std.proofs.Common.{◌≡◌, refl, sym, subst, ap, ◌∙◌, ◌⊎◌, inl, inr, ⊎_elim, ℕ, zero, suc, ◌+◌, ◌<◌, ◌≤◌, arith, Bool, true, false, not, ◌&&◌, nat_lt, cond, if◌then◌else◌, is_some, Option, Some, None, List, [], ◌∷◌, ◌++◌, length, length-append, sum_by, le_refl}
+use Rattle.std.proofs.Common.{◌≡◌, refl, sym, subst, ap, ◌∙◌, ◌⊎◌, inl, inr, ⊎_elim, ℕ, zero, suc, ◌+◌, ◌<◌, ◌≤◌, arith, Bool, true, false, true≢false, not, ◌&&◌, nat_lt, cond, if◌then◌else◌, is_some, Option, Some, None, List, [], ◌∷◌, ◌++◌, length, length-append, sum_by, le_refl}
 use Rattle.std.specs.List.{slice_get}
 use Rattle.std.proofs.lemmas.List.Sums.{sum_by-cons}
 use Rattle.std.proofs.lemmas.Option.{same_Some}
@@ -41,8 +41,9 @@ use Rattle.world_laws.proofs.Writes.Steps.{Lasts, takes_lasts, begins_lasts}
 use Rattle.whole_paths.specs.AsFar.{stage, IsEndAsFar, IsPathAsFar, IsSideAsFar}
 use Rattle.whole_paths.specs.EndSteps.{PathStep}
 use Rattle.whole_paths.specs.Harms.{harms_left, is_unused, unused}
-use Rattle.whole_paths.specs.News.{one_if, end_news, side_news, lines_left, path_news, news, NewsNeverFalls, Counts, ActorCounts, EachNewsCounts}
-use Rattle.whole_paths.specs.News.Counts.{at_end, dies, line, harm}
+use Rattle.whole_paths.specs.News.{one_if, end_news, side_news, lines_left, path_news, news, NewsNeverFalls, Counts, ActorCounts, EachGainCounts, EachNewsCounts, Gains}
+use Rattle.whole_paths.specs.News.Counts.{at_end, in_order, sent_more, dies, line, harm}
+use Rattle.whole_paths.specs.News.Gains.{writes, opens, closes, receives, reads, learns}
 use Rattle.whole_paths.specs.Waits.{IsNews}
 use Rattle.whole_paths.specs.Waits.IsNews.{on_subflow, on_stream, data_fin, opened, third}
 use Rattle.whole_paths.proofs.Copies.{link_step, passed_link}
@@ -168,6 +169,16 @@ module _ (e f : PathEnd) (far : IsEndAsFar e f) (x : Third e f) where
       let before : one_if (not e.modes.owes_third) ≡ 0 = ap (λ b. one_if (not b)) owed in let now : one_if (not f.modes.owes_third) ≡ 1 = ap (λ b. one_if (not b)) done in
       omega (arith, up, before, now, other_up)
 
+  end_moved : e.tcp.recv.edge < f.tcp.recv.edge → end_news e < end_news f
+  end_moved more = by_other (
+      let una = far.subflow.acknowledged in let nxt = far.subflow.pushed in let heard = far.stream.heard in
+      omega (arith, una, nxt, more, heard, sent_up, acked_up, came_up, clear_up))
+
+  end_pushed : e.tcp.send.nxt < f.tcp.send.nxt → end_news e < end_news f
+  end_pushed more = by_other (
+      let una = far.subflow.acknowledged in let edge = far.subflow.received in let heard = far.stream.heard in
+      omega (arith, una, more, edge, heard, sent_up, acked_up, came_up, clear_up))
+
   end_dies : is_dead e.tcp.state ≡ false → is_dead f.tcp.state ≡ true → end_news e < end_news f
   end_dies living dead = by_state (let low = living_low e.tcp.state living in let high = dead_high f.tcp.state dead in omega (arith, low, high))
     where
@@ -193,6 +204,35 @@ side_up s v w h =
     let edge = h.send.edge in let read = h.arrival.read in let received = h.arrival.received in
     let known = known_up (reassembly_of s v).known_end (reassembly_of s w).known_end h.arrival.end in
     omega (arith, written, closed, fin, edge, read, received, known)
+
+-- what it gains counts
+side_gains : (s : Side) (v w : SixBooks) → IsSideAsFar s v w → Gains s v w → side_news v s < side_news w s
+side_gains s v w h gain = by gain
+  where
+    written : length (send_of s v).written ≤ length (send_of s w).written
+    written = prefix_up (send_of s v).written (send_of s w).written h.send.written
+
+    closed : one_if (send_of s v).closed ≤ one_if (send_of s w).closed
+    closed = one_up (send_of s v).closed (send_of s w).closed h.send.closed
+
+    fin : one_if (send_of s v).fin ≤ one_if (send_of s w).fin
+    fin = one_up (send_of s v).fin (send_of s w).fin h.send.fin
+
+    known : one_if (is_some (reassembly_of s v).known_end) ≤ one_if (is_some (reassembly_of s w).known_end)
+    known = known_up (reassembly_of s v).known_end (reassembly_of s w).known_end h.arrival.end
+
+    one : (a b : Bool) → a ≡ false → b ≡ true → one_if a < one_if b
+    one false true was is = omega arith
+    one true b was is = absurd (true≢false was)
+    one false false was is = absurd (true≢false (sym is))
+
+    by : Gains s v w → side_news v s < side_news w s
+    by (writes more) = let edge = h.send.edge in let read = h.arrival.read in let arrived = h.arrival.received in omega (arith, more, closed, fin, edge, read, arrived, known)
+    by (opens more) = let read = h.arrival.read in let arrived = h.arrival.received in omega (arith, written, closed, fin, more, read, arrived, known)
+    by (reads more) = let edge = h.send.edge in let arrived = h.arrival.received in omega (arith, written, closed, fin, edge, more, arrived, known)
+    by (closes was is) = let edge = h.send.edge in let read = h.arrival.read in let arrived = h.arrival.received in let more = one _ _ was is in omega (arith, written, more, fin, edge, read, arrived, known)
+    by (receives more) = let edge = h.send.edge in let read = h.arrival.read in omega (arith, written, closed, fin, edge, read, more, known)
+    by (learns was is) = let edge = h.send.edge in let read = h.arrival.read in let arrived = h.arrival.received in let more = one _ _ was is in omega (arith, written, closed, fin, edge, read, arrived, more)
 
 -- ---- lines
 
@@ -402,6 +442,10 @@ module _ {C : Type 0} where
         by : Counts p q → path_news start p < path_news start q
         by (at_end A is) = let more = end_more p.a q.a x.far.a x.onward.thirds.a is in omega (arith, more, b, less, fewer)
         by (at_end B is) = let more = end_more p.b q.b x.far.b x.onward.thirds.b is in omega (arith, more, a, less, fewer)
+        by (in_order A is) = let more = end_moved p.a q.a x.far.a x.onward.thirds.a is in omega (arith, more, b, less, fewer)
+        by (in_order B is) = let more = end_moved p.b q.b x.far.b x.onward.thirds.b is in omega (arith, more, a, less, fewer)
+        by (sent_more A is) = let more = end_pushed p.a q.a x.far.a x.onward.thirds.a is in omega (arith, more, b, less, fewer)
+        by (sent_more B is) = let more = end_pushed p.b q.b x.far.b x.onward.thirds.b is in omega (arith, more, a, less, fewer)
         by (dies A living dead) = let more = end_dies p.a q.a x.far.a x.onward.thirds.a living dead in omega (arith, more, b, less, fewer)
         by (dies B living dead) = let more = end_dies p.b q.b x.far.b x.onward.thirds.b living dead in omega (arith, more, a, less, fewer)
         by (line taken) = omega (arith, taken, a, b, less, most)
@@ -452,6 +496,19 @@ module _ {C : Type 0} where
           let up : ActorUp c.member d.member = subst (λ (x : ActorCrew C). ActorUp c.member x.member) (same_Some found.0 d (sym found.1 ∙ later)) found.2 in
           let crew = sum_more member_news w.crew v.crew crew_up actor c d there later (member_more c.member d.member up (within actor c there) counts) in
           let a = sides_up A in let b = sides_up B in omega (arith, crew, a, b)
+
+      news_gained : (s : Side) → Gains s (books_in w.books) (books_in v.books) → news start w < news start v
+      news_gained s gain = by s (side_gains s (books_in w.books) (books_in v.books) ((goes_on_so k w more).sides s) gain)
+        where
+          crew : sum_by member_news w.crew ≤ sum_by member_news v.crew
+          crew = sum_up member_news w.crew v.crew crew_up
+
+          by : (s : Side) → side_news (books_in w.books) s < side_news (books_in v.books) s → news start w < news start v
+          by A more_a = let b = sides_up B in omega (arith, crew, more_a, b)
+          by B more_b = let a = sides_up A in omega (arith, crew, a, more_b)
+
+  pub each_gain_counts : (k : Codec C) → EachGainCounts k
+  each_gain_counts k start before more s gain = news_gained start k before more s gain
 
   pub news_never_falls : (k : Codec C) → NewsNeverFalls k
   news_never_falls k start before more = news_up start k before more

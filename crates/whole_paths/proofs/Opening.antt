@@ -95,16 +95,16 @@ ack_up n now s = elim (ack_kind n s.send) as (λ kind. stage s.state ≤ stage (
   | Future ↦ le_refl (stage s.state)
 ]
 
-heard_state : (n : ℕ) (hint : Hint) (now : ℕ) (c : Copy) (s : EndState) → (after_heard_ack n hint now c s).state ≡ (after_acknowledgement n now s).state
+pub heard_state : (n : ℕ) (hint : Hint) (now : ℕ) (c : Copy) (s : EndState) → (after_heard_ack n hint now c s).state ≡ (after_acknowledgement n now s).state
 heard_state n hint now c s = elim (is_duplicate (ack_kind n s.send) (told_by hint c) c (after_acknowledgement n now s)) as
     (λ b. (after_telling (told_by hint c) (if b then after_duplicate (after_acknowledgement n now s) else after_interruption (after_acknowledgement n now s))).state ≡ (after_acknowledgement n now s).state)
     [ true ↦ refl | false ↦ refl ]
 
-owing_state : (b : Bool) (s : EndState) → (owing_if b s).state ≡ s.state
+pub owing_state : (b : Bool) (s : EndState) → (owing_if b s).state ≡ s.state
 owing_state true s = refl
 owing_state false s = refl
 
-held_state : (m : Meaning) (payload : List ℕ) (s : EndState) → (with_payload m payload s).state ≡ s.state
+pub held_state : (m : Meaning) (payload : List ℕ) (s : EndState) → (with_payload m payload s).state ≡ s.state
 held_state (means.Taken pos n) [] s = refl
 held_state (means.Taken pos n) (octet ∷ octets) s = refl
 held_state _ payload s = refl

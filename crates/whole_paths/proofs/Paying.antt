@@ -274,7 +274,7 @@ module _ {C : Type 0} where
     pub far : AllFar p q
     pub owing : (s : Side) → StillOwed s p q
 
-  settled_far : (k : Codec C) (d : Duty) (ds : List Duty) (r : Reply) (p : PathState C) (s : Side) → let q : PathState C = answered k d r (with_agenda (d ∷ ds) p) in
+  pub settled_far : (k : Codec C) (d : Duty) (ds : List Duty) (r : Reply) (p : PathState C) (s : Side) → let q : PathState C = answered k d r (with_agenda (d ∷ ds) p) in
       Far (end_at s q) (end_at s (takes k r (with_agenda (d ∷ ds) p)))
   settled_far k d ds r p s = let q : PathState C = answered k d r (with_agenda (d ∷ ds) p) in settled_lasts AllFar far_lasts q.agenda q s
 
@@ -398,7 +398,7 @@ module _ {C : Type 0} where
       so,
     )
     flies_goes f low before h so (copy.arrives others first next) = (goes.arrives f low before h others first next, so)
-    flies_goes f low before h so (copy.dies line next is) = (goes.dies line next is, tt)
+    flies_goes f low before h so (copy.dies line next is dead) = (goes.dies line next is dead, tt)
 
     goes_by : HandsOver k p q → CopiesGoOn (Path p) (Path q) → HasAnswered p → segments_sent s p.link < 2 ^ 64 - 1 → (h : IsAnswered k s position by_then p) → IsAnsweredSo Was h → Next
     goes_by hands copies answered few (owes low high came due) so = owes_goes (turned.owing s) hands answered low high came due few

@@ -1,6 +1,7 @@
--- The first record that isn't acknowledged begins at SND.UNA or before it, and records follow one another; before both SYNs came SND.UNA is 0.
+-- The first record that isn't acknowledged begins at SND.UNA or before it and ends behind it, unless it is empty, and records follow one
+-- another; before both SYNs came SND.UNA is 0.
 use Rattle.std.proofs.Common.{◌≡◌, refl, sym, subst, ap, ◌∙◌, ◌⊎◌, inl, inr, ⊎_elim, ℕ, ◌+◌, ◌<◌, ◌≤◌, ◌&&◌, ◌==◌, nat_lt, nat_le, arith, Bool, true, false, if◌then◌else◌, None, List, [], ◌∷◌, ◌++◌, map}
-use Rattle.std.proofs.lemmas.Bool.{and_parts, cases_lt, ltb-true, leb-true}
+use Rattle.std.proofs.lemmas.Bool.{and_parts, cases_lt, leb-false, leb-true, ltb-true}
 use Rattle.sides.specs.declared.side.Side.{Side}
 use Rattle.sides.specs.declared.side.Side.TheVariants.{A, B}
 use Rattle.subflow_send.specs.declared.record.AckKind.TheVariants.{New, Duplicate, Old, Future}
@@ -47,17 +48,18 @@ use Rattle.whole_paths.proofs.Subflows.{steps_up, ack_up}
 -- ---- records
 
 -- one after another, from one position to another
-abbrev Joined : ℕ → ℕ → List (ℕ × ℕ) → Type 0
+abbrev pub Joined : ℕ → ℕ → List (ℕ × ℕ) → Type 0
 Joined from to [] = from ≡ to
 Joined from to (s ∷ ss) = (s.0 ≡ from) × Joined s.1 to ss
 
-abbrev Line : ℕ → ℕ → List (ℕ × ℕ) → Type 0
+-- from SND.UNA to SND.NXT; a first record without a position may be behind it
+abbrev pub Line : ℕ → ℕ → List (ℕ × ℕ) → Type 0
 Line una nxt [] = una ≡ nxt
-Line una nxt (s ∷ ss) = (s.0 ≤ una) × Joined s.1 nxt ss
+Line una nxt (s ∷ ss) = (s.0 ≤ una) × ((una < s.1) ⊎ (s.1 ≤ s.0)) × Joined s.1 nxt ss
 
-record IsLined (v : SendState) : Type 0 where
-  within : v.una ≤ v.nxt
-  line : Line v.una v.nxt (map span_of v.records)
+pub record IsLined (v : SendState) : Type 0 where
+  pub within : v.una ≤ v.nxt
+  pub line : Line v.una v.nxt (map span_of v.records)
 
 -- only sendings change
 same_line : (v w : SendState) → w.una ≡ v.una → w.nxt ≡ v.nxt → map span_of w.records ≡ map span_of v.records → IsLined v → IsLined w
@@ -72,15 +74,15 @@ joined_uncovered (r ∷ rs) from nxt pos h low high = by (nat_le (end_of r) pos)
   where
     by : (b : Bool) → nat_le (end_of r) pos ≡ b → (end_of r ≤ pos → Line pos nxt (map span_of (uncovered pos rs))) → Line pos nxt (map span_of (if b then uncovered pos rs else r ∷ rs))
     by true is rest = rest (leb-true (end_of r) pos is)
-    by false is rest = (let at = h.0 in omega (arith, at, low), h.1)
+    by false is rest = (let at = h.0 in omega (arith, at, low), inl (leb-false (end_of r) pos is), h.1)
 
 line_uncovered : (rs : List Record) (una nxt pos : ℕ) → Line una nxt (map span_of rs) → una < pos → pos ≤ nxt → Line pos nxt (map span_of (uncovered pos rs))
 line_uncovered [] una nxt pos h above high = absurd (omega (arith, h, above, high))
 line_uncovered (r ∷ rs) una nxt pos h above high = by (nat_le (end_of r) pos) refl
   where
     by : (b : Bool) → nat_le (end_of r) pos ≡ b → Line pos nxt (map span_of (if b then uncovered pos rs else r ∷ rs))
-    by true is = joined_uncovered rs (end_of r) nxt pos h.1 (leb-true (end_of r) pos is) high
-    by false is = (let at = h.0 in omega (arith, at, above), h.1)
+    by true is = joined_uncovered rs (end_of r) nxt pos h.2 (leb-true (end_of r) pos is) high
+    by false is = (let at = h.0 in omega (arith, at, above), inl (leb-false (end_of r) pos is), h.2)
 
 acknowledged_line : (pos : ℕ) (v : SendState) → IsLined v → IsLined (after_acknowledge pos v)
 acknowledged_line pos v h = by (nat_lt v.una pos && nat_le pos v.nxt) refl
@@ -96,8 +98,8 @@ joined_pushed [] x from h = (sym h, refl)
 joined_pushed (r ∷ rs) x from h = (h.0, joined_pushed rs x (end_of r) h.1)
 
 line_pushed : (rs : List Record) (x : Record) (una : ℕ) → Line una x.pos (map span_of rs) → Line una (end_of x) (map span_of (rs ++ x ∷ []))
-line_pushed [] x una h = (omega (arith, h), refl)
-line_pushed (r ∷ rs) x una h = (h.0, joined_pushed rs x (end_of r) h.1)
+line_pushed [] x una h = (omega (arith, h), ⊎_elim (λ more. inl more) (λ none. inr (omega (arith, h, none))) (cases_lt una (end_of x)), refl)
+line_pushed (r ∷ rs) x una h = (h.0, h.1, joined_pushed rs x (end_of r) h.2)
 
 spans_first : (now : ℕ) (rs : List Record) → map span_of (first_sent now rs) ≡ map span_of rs
 spans_first now [] = refl
@@ -224,7 +226,7 @@ step_so now s t (joins window is) = still s t refl (payload_window 1 (unkept Non
 -- ---- an end
 
 pub record IsReached (s : EndState) : Type 0 where
-  lined : IsLined s.send
+  pub lined : IsLined s.send
   -- before both SYNs came nothing is acknowledged
   opening : stage s.state ≤ 1 → s.send.una ≡ 0
   -- the window has 2^20 positions
@@ -245,6 +247,20 @@ steps_reached now s t (more u v steps step) h = step_reached now u t step (steps
 pub first_reached : (s : EndState) (r : Record) (others : List Record) → IsReached s → s.send.records ≡ r ∷ others → r.pos ≤ s.send.una
 first_reached s r others h is = (subst (λ rs. Line s.send.una s.send.nxt (map span_of rs)) is h.lined.line).0
 
+-- and ends behind SND.UNA, unless it is empty
+pub first_left : (s : EndState) (r : Record) (others : List Record) → IsReached s → s.send.records ≡ r ∷ others → (s.send.una < end_of r) ⊎ (end_of r ≤ r.pos)
+first_left s r others h is = (subst (λ rs. Line s.send.una s.send.nxt (map span_of rs)) is h.lined.line).1
+
+joined_up : (rs : List Record) (from to : ℕ) → Joined from to (map span_of rs) → from ≤ to
+joined_up [] from to h = omega (arith, h)
+joined_up (r ∷ rs) from to h = let at = h.0 in let rest = joined_up rs (end_of r) to h.1 in omega (arith, at, rest)
+
+-- and at SND.NXT or before it, if it has a position
+pub first_waits : (s : EndState) (r : Record) (others : List Record) → IsReached s → s.send.records ≡ r ∷ others → r.pos < end_of r → (s.send.una < end_of r) × (end_of r ≤ s.send.nxt)
+first_waits s r others h is some =
+    let line = subst (λ rs. Line s.send.una s.send.nxt (map span_of rs)) is h.lined.line in
+    (⊎_elim (λ less. less) (λ none. absurd (omega (arith, none, some))) (first_left s r others h is), joined_up others (end_of r) s.send.nxt line.2)
+
 -- and where it isn't the SYN both SYNs came
 pub past_opening : (s : EndState) (r : Record) (others : List Record) → IsReached s → s.send.records ≡ r ∷ others → 0 < r.pos → 2 ≤ stage s.state
 past_opening s r others h is behind = ⊎_elim
@@ -257,8 +273,8 @@ pub none_left : (s : EndState) → IsReached s → s.send.records ≡ [] → s.s
 none_left s h is = subst (λ rs. Line s.send.una s.send.nxt (map span_of rs)) is h.lined.line
 
 first_reach : (C : Type 0) (number : ℕ) (start : Start) (plan : PathPlan) (s : Side) → IsReached (end_at s (waiting_path {C = C} (path_begins start number plan) start.lines)).tcp
-first_reach C number start plan A = record { lined = record { within = omega arith; line = (omega arith, refl) }; opening = λ low. refl; window = refl }
-first_reach C number start plan B = record { lined = record { within = omega arith; line = (omega arith, refl) }; opening = λ low. refl; window = refl }
+first_reach C number start plan A = record { lined = record { within = omega arith; line = (omega arith, inl (omega arith), refl) }; opening = λ low. refl; window = refl }
+first_reach C number start plan B = record { lined = record { within = omega arith; line = (omega arith, inl (omega arith), refl) }; opening = λ low. refl; window = refl }
 
 -- ---- a path, and the world
 

@@ -72,6 +72,7 @@ use Rattle.whole_paths.proofs.Duties.{answered_steps, passed_steps}
 record HoldsOne (mss : ℕ) (w : Window) : Type 0 where
   same : w.mss ≡ mss
   least : mss ≤ w.window
+  greatest : w.window ≤ 1048576
   threshold : mss ≤ w.ssthresh
 
 -- that of an end, and of both ends of a path
@@ -82,33 +83,38 @@ record BothRoomy {C : Type 0} (mss : ℕ) (p : PathState C) : Type 0 where
   a : Roomy mss p.a.tcp
   b : Roomy mss p.b.tcp
 
-module _ (mss : ℕ) (small : mss ≤ 1048576) where
+module _ (mss : ℕ) (small : mss ≤ 65535) where
   opens_one : HoldsOne mss (reno.opening mss)
-  opens_one = record { same = refl; least = by (nat_le mss 1095) (nat_le mss 2190); threshold = small }
+  opens_one = record { same = refl; least = by (nat_le mss 1095) (nat_le mss 2190); greatest = few (nat_le mss 1095) (nat_le mss 2190); threshold = omega (arith, small) }
     where
       by : (c d : Bool) → mss ≤ (if c then 4 else (if d then 3 else 2)) * mss
       by true d = omega arith
       by false true = omega arith
       by false false = omega arith
 
+      few : (c d : Bool) → (if c then 4 else (if d then 3 else 2)) * mss ≤ 1048576
+      few true d = omega (arith, small)
+      few false true = omega (arith, small)
+      few false false = omega (arith, small)
+
   grown_one : (count : ℕ) (w : Window) → HoldsOne mss w → HoldsOne mss (reno.grown count w)
-  grown_one count w h = record { same = h.same; least = (let least = h.least in omega (arith, least, small)); threshold = h.threshold }
+  grown_one count w h = record { same = h.same; least = (let least = h.least in omega (arith, least, small)); greatest = omega arith; threshold = h.threshold }
 
   acked_one : (bytes growth : ℕ) (w : Window) → HoldsOne mss w → HoldsOne mss (reno.after_ack bytes growth w)
   acked_one bytes growth w h = by w.in_fast_recovery (nat_lt w.window w.ssthresh)
     where
       by : (c d : Bool) → HoldsOne mss (if c then reno.recovered w else (if d then reno.slowly_started bytes w else reno.grown growth w))
-      by true d = record { same = h.same; least = (let threshold = h.threshold in omega (arith, threshold, small)); threshold = h.threshold }
+      by true d = record { same = h.same; least = (let threshold = h.threshold in omega (arith, threshold, small)); greatest = omega arith; threshold = h.threshold }
       by false true = grown_one (min bytes w.mss) w h
       by false false = grown_one growth w h
 
   third_one : (under_way : ℕ) (w : Window) → HoldsOne mss w → HoldsOne mss (reno.after_third_duplicate under_way w)
   third_one under_way w h =
       let same = h.same in
-      record { same = h.same; least = omega (arith, same, small); threshold = omega (arith, same) }
+      record { same = h.same; least = omega (arith, same, small); greatest = omega arith; threshold = omega (arith, same) }
 
   expired_one : (under_way : ℕ) (again : Bool) (w : Window) → HoldsOne mss w → HoldsOne mss (reno.after_expiry under_way again w)
-  expired_one under_way again w h = record { same = h.same; least = (let same = h.same in omega (arith, same)); threshold = by again }
+  expired_one under_way again w h = record { same = h.same; least = (let same = h.same in omega (arith, same)); greatest = (let same = h.same in omega (arith, same, small)); threshold = by again }
     where
       by : (c : Bool) → mss ≤ (if c then w.ssthresh else reno.ssthresh_after_loss under_way w)
       by true = h.threshold
@@ -203,7 +209,7 @@ module _ (mss : ℕ) (small : mss ≤ 1048576) where
 module _ {C : Type 0} where
   -- each window holds a segment of the path's size
   record PathRoomy (p : PathState C) : Type 0 where
-    small : p.profile.mss ≤ 1048576
+    small : p.profile.mss ≤ 65535
     both : BothRoomy p.profile.mss p
 
   abbrev MemberRoomy : Actor C → Type 0
@@ -212,14 +218,14 @@ module _ {C : Type 0} where
   takes_on : (k : Codec C) (r : Reply) (p : PathState C) → PathRoomy p → PathRoomy (takes k r p)
   takes_on k r p h =
       let same : (takes k r p).profile ≡ p.profile = (takes_keeps k r p).1 in record {
-        small = subst (λ (c : Profile). c.mss ≤ 1048576) (sym same) h.small;
+        small = subst (λ (c : Profile). c.mss ≤ 65535) (sym same) h.small;
         both = subst (λ (c : Profile). BothRoomy c.mss (takes k r p)) (sym same) (takes_roomy p.profile.mss h.small k r p h.both);
       }
 
   begins_on : (p : PathState C) → PathRoomy p → PathRoomy (begins_turn p)
   begins_on p h =
       let same : (begins_turn p).profile ≡ p.profile = (first_keeps p).1 in record {
-        small = subst (λ (c : Profile). c.mss ≤ 1048576) (sym same) h.small;
+        small = subst (λ (c : Profile). c.mss ≤ 65535) (sym same) h.small;
         both = subst (λ (c : Profile). BothRoomy c.mss (begins_turn p)) (sym same) (begins_roomy p.profile.mss h.small p h.both);
       }
 
@@ -239,7 +245,7 @@ module _ {C : Type 0} where
       (λ books c x asks h. member_takes_on k (answer_to books x) c.member h) (λ stamp c over h. member_next_on c.member h) turns (opened_world start)
       (opened_lifted (λ c. MemberRoomy c.member) start tt tt (λ number plan there.
       (let few = fit.size.each number plan there in
-      let small : plan.mss ≤ 1048576 = omega (arith, few) in
+      let small : plan.mss ≤ 65535 = omega (arith, few) in
       begins_on (waiting_path (path_begins start number plan) start.lines) (record { small = small; both = record { a = opens_one plan.mss small; b = opens_one plan.mss small } }))))
 
 -- ---- an end of which nothing is outstanding
@@ -252,9 +258,9 @@ no_records e nothing_left = by e.tcp.send.records refl
     by (r ∷ rs) is = absurd (nothing_left (IsOutstanding.on_subflow r rs is))
 
 may_so : (c : Profile) (s : Side) (e : PathEnd) → HoldsOne c.mss e.tcp.congestion.reno → e.tcp.send.nxt < 2 ^ 61 → e.tcp.recv.edge < 2 ^ 61 → may_finish e.tcp.state ≡ true → e.modes.clear ≡ true
-    → (IsOutstanding e → ⊥) → may_ask c s e ≡ true
-may_so c s e window next edge may clear nothing_left =
-    let none_left : flight e.tcp.send ≡ 0 = ap (λ (rs : List Record). sum_by (octets_under_way e.tcp.send.una) rs) (no_records e nothing_left) in
+    → e.tcp.send.records ≡ [] → may_ask c s e ≡ true
+may_so c s e window next edge may clear no_record =
+    let none_left : flight e.tcp.send ≡ 0 = ap (λ (rs : List Record). sum_by (octets_under_way e.tcp.send.una) rs) no_record in
     let least = window.least in
     let fits : nat_le (payload_size c) (room e.tcp) ≡ true = le-leb (payload_size c) (room e.tcp) (omega (arith, least, none_left)) in
     let limit : is_at_limit e.tcp ≡ false = or_from (nat_le (2 ^ 61) e.tcp.send.nxt) (nat_le (2 ^ 61) e.tcp.recv.edge) (lt-leb (2 ^ 61) e.tcp.send.nxt next) (lt-leb (2 ^ 61) e.tcp.recv.edge edge) in
@@ -270,16 +276,21 @@ module _ (start : Start) (turns : List Turn) (size : HasRoom start) (fit : Numbe
   w = reached values start turns
 
   path_windows : (c : Profile) (p : PathState Carried) → p.profile ≡ c → PathTells c p → PathRoomy p → HasWindows p
-  path_windows c p profile told h = record { least = elim [ A ↦ h.both.a.least | B ↦ h.both.b.least ]; asks = asks }
+  path_windows c p profile told h = record {
+    least = elim [ A ↦ h.both.a.least | B ↦ h.both.b.least ];
+    greatest = elim [ A ↦ h.both.a.greatest | B ↦ h.both.b.greatest ];
+    unsent = unsent;
+    asks = λ s may clear nothing_left. unsent s may clear (no_records (end_at s p) nothing_left);
+  }
     where
-      short : (s : Side) (e : PathEnd) → EndTells c s e → HoldsOne p.profile.mss e.tcp.congestion.reno → may_finish e.tcp.state ≡ true → e.modes.clear ≡ true → (IsOutstanding e → ⊥)
+      short : (s : Side) (e : PathEnd) → EndTells c s e → HoldsOne p.profile.mss e.tcp.congestion.reno → may_finish e.tcp.state ≡ true → e.modes.clear ≡ true → e.tcp.send.records ≡ []
           → may_ask p.profile s e ≡ true
-      short s e tells window may clear nothing_left =
-          let next = tells.sender.next in let edge = tells.edge in may_so p.profile s e window (omega (arith, next)) (omega (arith, edge)) may clear nothing_left
+      short s e tells window may clear no_record =
+          let next = tells.sender.next in let edge = tells.edge in may_so p.profile s e window (omega (arith, next)) (omega (arith, edge)) may clear no_record
 
-      asks : (s : Side) → may_finish (end_at s p).tcp.state ≡ true → (end_at s p).modes.clear ≡ true → (IsOutstanding (end_at s p) → ⊥) → may_ask p.profile s (end_at s p) ≡ true
-      asks A may clear nothing_left = short A p.a told.a h.both.a may clear nothing_left
-      asks B may clear nothing_left = short B p.b told.b h.both.b may clear nothing_left
+      unsent : (s : Side) → may_finish (end_at s p).tcp.state ≡ true → (end_at s p).modes.clear ≡ true → (end_at s p).tcp.send.records ≡ [] → may_ask p.profile s (end_at s p) ≡ true
+      unsent A may clear no_record = short A p.a told.a h.both.a may clear no_record
+      unsent B may clear no_record = short B p.b told.b h.both.b may clear no_record
 
   windows : (actor : ℕ) (c : ActorCrew Carried) → slice_get w.crew actor ≡ Some c → HoldsOfKind (λ app. Unit {0}) HasWindows c.member
   windows actor c there =
@@ -297,7 +308,7 @@ who_is_done_may_ask start turns size fit actor c there = windows start turns siz
 
 member_shown : (m : Actor Carried) → HoldsOfKind (λ app. Unit {0}) HasWindows m → HoldsOfKind (λ app. Unit {0}) HasWindows (shown_member m)
 member_shown (App a) h = tt
-member_shown (Path p) h = record { least = elim [ A ↦ h.least A | B ↦ h.least B ]; asks = elim [ A ↦ h.asks A | B ↦ h.asks B ] }
+member_shown (Path p) h = record { least = elim [ A ↦ h.least A | B ↦ h.least B ]; greatest = elim [ A ↦ h.greatest A | B ↦ h.greatest B ]; unsent = elim [ A ↦ h.unsent A | B ↦ h.unsent B ]; asks = elim [ A ↦ h.asks A | B ↦ h.asks B ] }
 
 pub who_is_done_may_ask_in_octets : WhoIsDoneMayAsk octets
 who_is_done_may_ask_in_octets start turns size fit actor c there =

@@ -11,15 +11,15 @@ ticks_up within n (suc m) below = ⊎_elim
     (λ high. let is : suc m ≡ n = omega (arith, below, high) in subst (λ x. ticks_for within x ≤ ticks_for within (suc m)) is (omega arith))
     (cases_lt n (suc m))
 
-module _ (s : System) (most within : ℕ) (d : Drives s most within) where
-  -- so much news there was, and the next comes by a tick that isn't far
+module _ (s : System) (most within base : ℕ) (d : Drives s most within) where
+  -- so much news there was, and the next comes by a tick that isn't far from the first round's beginning
   record Awaited (v : s.State) : Type 0 where
     count : ℕ
     tick : ℕ
     since : count ≤ s.news v
     waits : (count < s.news v) ⊎ s.Waits count tick v
-    in_time : tick ≤ ticks_for within (suc count)
-    now : s.until v ≤ ticks_for within (suc count) + 100
+    in_time : tick ≤ base + ticks_for within (suc count)
+    now : s.until v ≤ base + ticks_for within (suc count) + 100
 
   -- where it is after so many rounds
   data Where (n : ℕ) (v : s.State) : Type 0 where
@@ -29,7 +29,7 @@ module _ (s : System) (most within : ℕ) (d : Drives s most within) where
 
   record Stands (n : ℕ) (v : s.State) : Type 0 where
     sound : s.Sound v
-    until : s.until v ≡ 100 * n + 100
+    until : s.until v ≡ base + (100 * n + 100)
     where_is : Where n v
 
   -- ---- a step
@@ -64,7 +64,7 @@ module _ (s : System) (most within : ℕ) (d : Drives s most within) where
     until : s.until u ≡ s.until v + 100
     until = d.until_next v u h.sound opening
 
-    anew : s.until v ≤ ticks_for within (s.news u) + 100 → Where (suc n) u
+    anew : s.until v ≤ base + ticks_for within (s.news u) + 100 → Where (suc n) u
     anew soon = ⊎_elim (λ is. over is)
         (λ waits. goes (record {
           count = s.news u;
@@ -87,7 +87,7 @@ module _ (s : System) (most within : ℕ) (d : Drives s most within) where
       where
         by : s.Waits a.count a.tick v → Where (suc n) u
         by waits = ⊎_elim
-            (λ past. after_news a (let more = d.due a.count a.tick v u h.sound opening waits past in omega (arith, more, later)))
+            (λ past. after_news a (d.due a.count a.tick v u h.sound opening a.since waits past))
             (λ still. goes (record {
               count = a.count;
               tick = a.tick;
@@ -101,8 +101,8 @@ module _ (s : System) (most within : ℕ) (d : Drives s most within) where
     open_stands : Stands (suc n) u
     open_stands = record { sound = d.sound_next v u h.sound opening; until = omega (arith, h.until, until); where_is = opened_by h.where_is }
 
-  course_stands : (w : s.State) → s.Sound w → s.until w ≡ 100 → (n : ℕ) (u : s.State) → Course s w n u → Stands n u
-  course_stands w sound is n u stays = record { sound = sound; until = is; where_is = first refl }
+  course_stands : (w : s.State) → s.Sound w → s.until w ≡ base + 100 → (n : ℕ) (u : s.State) → Course s w n u → Stands n u
+  course_stands w sound is n u stays = record { sound = sound; until = omega (arith, is); where_is = first refl }
   course_stands w sound is n u (steps m v x course step) = step_stands n v u (course_stands w sound is n v course) step
   course_stands w sound is n u (opens m v x course opening) = open_stands m v u (course_stands w sound is m v course) opening
 
@@ -118,4 +118,4 @@ module _ (s : System) (most within : ℕ) (d : Drives s most within) where
           absurd (let now = a.now in let is = h.until in omega (arith, up, now, is, enough))
 
 pub what_is_awaited_comes : WhatIsAwaitedComes
-what_is_awaited_comes s most within d w sound is n u course enough = ended s most within d n u (course_stands s most within d w sound is n u course) enough
+what_is_awaited_comes s most within base d w sound is n u course enough = ended s most within base d n u (course_stands s most within base d w sound is n u course) enough

@@ -31,7 +31,7 @@ use Rattle.world_laws.proofs.Worlds.CastLifting.{each_actor}
 use Rattle.whole_paths.specs.Sent.{WasSent, WhatCameWasSent}
 
 -- SND.NXT is behind all bytes that the lane was granted
-next_after : (path : ℕ) (v : View) (finished : Bool) (nxt heard : ℕ) (granted : List GrantedPiece) (sent : List Cell) (fins : List ℕ) (pair : Option Pair) → SentShows finished nxt heard granted sent fins pair
+pub next_after : (path : ℕ) (v : View) (finished : Bool) (nxt heard : ℕ) (granted : List GrantedPiece) (sent : List Cell) (fins : List ℕ) (pair : Option Pair) → SentShows finished nxt heard granted sent fins pair
     → Every (IsFin path v sent) fins → suc (length sent) ≤ nxt
 next_after path v false nxt heard granted sent fins pair h all = let is = h.next refl in omega (arith, is)
 next_after path v true nxt heard granted sent fins pair h all =

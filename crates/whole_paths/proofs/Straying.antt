@@ -69,7 +69,7 @@ module _ (p q : PathState Carried) (open_p : IsOpen p) (open_q : IsOpen q) (mapp
   strays_so s r (stray.plain t (inr is)) = absurd (both_ways (end_at t q).modes.identity (mapped_q t).identity is)
   strays_so s r (stray.infinite (inl is)) = absurd (both_ways (is_some (end_at s p).modes.own_infinite) (ap is_some (mapped_p s).own) is)
   strays_so s r (stray.infinite (inr is)) = absurd (both_ways (is_some (end_at (peer s) p).modes.peer_infinite) (ap is_some ((mapped_p (peer s)).peer open_p.first)) is)
-  strays_so s r (stray.past_window f there to far) = hardly.past_window f there to far
+  strays_so s r (stray.past_window far) = hardly.past_window far
   strays_so s r (stray.first_piece is) = absurd (both_ways _ (ap (λ b. is_side_a s && (not b && r.pos == 1)) (open_p.clear s) ∙ never (is_side_a s)) is)
     where
       never : (b : Bool) → (b && false) ≡ false

@@ -226,4 +226,4 @@ module _ {C : Type 0} where
     fewer = (let less = unused_less B p.link.from_b p.link.lines h.b in omega (arith, less));
   })
   link_harms k d p q (delivers event due next is) h = subst (HarmsFall p.link) (sym is) (record { counted = record { a = h.a; b = h.b }; fewer = le_refl (harms_left p.link) })
-  link_harms k d p q (is_cut line next is cut) h = subst (HarmsFall p.link) (sym cut) (record { counted = record { a = h.a; b = h.b }; fewer = le_refl (harms_left p.link) })
+  link_harms k d p q (is_cut line next is cut dead) h = subst (HarmsFall p.link) (sym cut) (record { counted = record { a = h.a; b = h.b }; fewer = le_refl (harms_left p.link) })

@@ -1,8 +1,7 @@
--- Where no option is taken away, no payload altered, and no side closes at once, no end of path 0 breaks, but where a copy's next byte has no
--- mapping. What a duty makes of the agenda is a table; what it may not make is refuted by what is known of the path and of the reply.
-use Rattle.std.proofs.Common.{◌≡◌, refl, sym, subst, ap, ◌∙◌, ℕ, zero, suc, ◌+◌, ◌==◌, nat_lt, nat_le, Bool, true, false, true≢false, not, if◌then◌else◌, ◌&&◌, ◌||◌, Option, Some, None, is_some, List, [], ◌∷◌, ◌++◌}
+-- Where no option is taken away, no payload altered, and no side closes at once, no end of path 0 breaks. What a duty makes of the agenda is a table; what it may not make is refuted by what is known of the path and of the reply.
+use Rattle.std.proofs.Common.{◌≡◌, refl, sym, subst, ap, ◌∙◌, ℕ, zero, suc, ◌+◌, nat_lt, nat_le, Bool, true, false, true≢false, not, if◌then◌else◌, ◌&&◌, ◌||◌, Option, Some, None, is_some, List, [], ◌∷◌, ◌++◌}
 use Rattle.std.specs.List.{list_any}
-use Rattle.std.proofs.lemmas.Bool.{and_parts, both_ways, or_from, or_parts}
+use Rattle.std.proofs.lemmas.Bool.{and_parts, both_ways, or_parts}
 use Rattle.path_segments.specs.Heard.{HeardSegment}
 use Rattle.sides.specs.declared.side.Side.{Side}
 use Rattle.sides.specs.declared.side.Side.TheVariants.{A, B}
@@ -24,7 +23,7 @@ use Rattle.subflow_tcp.specs.States.{is_dead}
 use Rattle.actor_desk.specs.declared.ask.Reply.{Reply}
 use Rattle.actor_desk.specs.declared.ask.Reply.TheVariants as replies
 use Rattle.actor_desk.specs.Desk.{SixBooks, control_of, reassembly_of, reply_of}
-use Rattle.path_agenda.specs.Agenda.{emission, heard_and, leaves, payload_came, rest_of_turn, resets, start_of_turn, stops}
+use Rattle.path_agenda.specs.Agenda.{emission, heard_and, leaves, payload_came, rest_of_turn, start_of_turn, stops}
 use Rattle.path_agenda.specs.Items.{key_heard, keys_heard}
 use Rattle.path_agenda.specs.declared.duty.Duty.{Duty}
 use Rattle.path_agenda.specs.declared.duty.Duty.TheVariants as duties
@@ -38,7 +37,7 @@ use Rattle.path_store.specs.Passing.{Piece}
 use Rattle.path_store.specs.declared.lines.LineAction.{LineAction}
 use Rattle.path_store.specs.declared.lines.LineAction.TheVariants as actions
 use Rattle.path_core.specs.Arrival.{copy_heard, copy_of, judged_in, template_by, template_of}
-use Rattle.path_core.specs.Breaking.{answered_break, break_ask, reset_on}
+use Rattle.path_core.specs.Breaking.{answered_break, break_ask}
 use Rattle.path_core.specs.Choices.{item_at}
 use Rattle.path_core.specs.DataFin.{answered_fin_heard, answered_plain_fin, data_fin_of, fin_ask, is_fin_set, place_of_fin}
 use Rattle.path_core.specs.Deliver.{answered_piece, failing_mapping, is_placed, piece_ask, piece_of}
@@ -53,7 +52,6 @@ use Rattle.path_core.specs.Modes.{sends_plainly}
 use Rattle.path_core.specs.MpJoin.{is_joined, is_never, join_begun, keys_begun, never_joined, opened_by}
 use Rattle.path_core.specs.OptionsIn.{items_of, options_heard}
 use Rattle.path_core.specs.Profile.{Profile}
-use Rattle.path_core.specs.Standing.{answered_ack_out}
 use Rattle.path_core.specs.State.{PathState, at_tick, end_at, goes_on, left, with_agenda}
 use Rattle.path_core.specs.Steps.{begins_turn, settled, takes}
 use Rattle.path_core.specs.Timer.{template_fired}
@@ -161,8 +159,10 @@ pub record Known (d : Duty) (p : PathState Carried) : Type 0 where
   pub heard : (s : Side) → list_any is_failure (end_at s p).treated.items ≡ false
   -- an acknowledgement of data has a Data ACK
   pub acked : is_between d ≡ false → (s : Side) → (end_at s p).treated.plain_ack ≡ false
+  -- the byte at RCV.NXT never lacks a mapping for the third time
+  pub mapped : (s : Side) → d ≡ duties.Step (step_duties.Unmapped s) → ⊥
 
-none_heard : (items : List Heard) (index : ℕ) → list_any is_failure items ≡ false → item_at index items ≡ Some says.Fail → ⊥
+pub none_heard : (items : List Heard) (index : ℕ) → list_any is_failure items ≡ false → item_at index items ≡ Some says.Fail → ⊥
 none_heard [] index none is = cc
 none_heard (item ∷ items) zero none is = let same : item ≡ says.Fail = cc in true≢false (sym (ap is_failure same) ∙ (or_parts (is_failure item) (list_any is_failure items) none).0)
 none_heard (item ∷ items) (suc index) none is = none_heard items index (or_parts (is_failure item) (list_any is_failure items) none).1 is
@@ -222,7 +222,7 @@ module _ (six : SixBooks) (d : Duty) (ds : List Duty) (p : PathState Carried) wh
       by true is = (behind_calm d ds h, behind_calm d ds h)
       by false is = absurd (true≢false (sym is))
 
-no_plain_ack : (c : Profile) (e : PathEnd) → e.treated.plain_ack ≡ false → plain_ack_stands c e ≡ false
+pub no_plain_ack : (c : Profile) (e : PathEnd) → e.treated.plain_ack ≡ false → plain_ack_stands c e ≡ false
 no_plain_ack c e none = ap (λ (b : Bool). ((b && not (sends_plainly e.modes)) && ((is_joined c && not e.modes.covered) || (is_sure e.modes.mode && nat_le 2 e.modes.plain_acks)))
     || ((b && not (sends_plainly e.modes)) && is_starting e.modes.mode)) none
 
@@ -242,14 +242,12 @@ duty_calm six (duties.Ask (ask_duties.CheckFailed s)) ds p known fine h =
     absurd (both_ways _ (ap is_some (known.sound s)) (and_parts (is_some (failing_mapping p.profile (end_at s p))) _ known.stood).0)
 duty_calm six (duties.Ask (ask_duties.HeardFin s index)) ds p known fine h = (fin_calm six (duties.Ask (ask_duties.HeardFin s index)) ds p s (data_fin_of index (end_at s p)) known.stood fine h).0
 duty_calm six (duties.Ask (ask_duties.SubflowFin s)) ds p known fine h = (fin_calm six (duties.Ask (ask_duties.SubflowFin s)) ds p s (place_of_fin (end_at s p)) known.stood fine h).1
-duty_calm six (duties.Ask (ask_duties.BreakAck s reason)) ds p known fine h = or_from (not (reason == 6)) _ (or_parts (not (reason == 6)) (list_any is_harsh ds) h).0 refl
-duty_calm six (duties.Send (send_duties.BreakReset s reason)) ds p known fine h = refl
+duty_calm six (duties.Ask (ask_duties.BreakAck s reason)) ds p known fine h = absurd (true≢false h)
+duty_calm six (duties.Send (send_duties.BreakReset s reason)) ds p known fine h = absurd (true≢false h)
 duty_calm six (duties.Step (step_duties.Heard s index)) ds p known fine h =
     item_calm six (duties.Step (step_duties.Heard s index)) ds p s index (item_of index (end_at s p)) refl known.asks (known.agrees s) (known.heard s) h
 duty_calm six (duties.Step (step_duties.PlainAck s)) ds p known fine h = absurd (both_ways _ (no_plain_ack p.profile (end_at s p) (known.acked refl s)) known.stood)
-duty_calm six (duties.Step (step_duties.Unmapped s)) ds p known fine h =
-    let x = with_agenda (duties.Step (step_duties.Unmapped s) ∷ ds) p in let r = reply_of six (ask_for values (duties.Step (step_duties.Unmapped s)) x) in
-    elim (end_at s p).treated.asked as (λ b. Calm (if b then answered_ack_out s r (resets s 6) x else reset_on values s (Some 6) (leaves s) x).agenda) [ true ↦ refl | false ↦ refl ]
+duty_calm six (duties.Step (step_duties.Unmapped s)) ds p known fine h = absurd (known.mapped s refl)
 duty_calm six d ds p known fine h =
     let x = with_agenda (d ∷ ds) p in let r = reply_of six (ask_for values d x) in
     follow_calm (side_of d) _ d ds (answered values d r x).agenda refl refl h (answered_follows values d ds r p)

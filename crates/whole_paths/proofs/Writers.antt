@@ -133,7 +133,7 @@ either_stopped : (c : Bool) (x y : Sending) → x.aborted ≡ true → y.aborted
 either_stopped true x y first second = first
 either_stopped false x y first second = second
 
-stopped_after : (b : Sending) (call : SendCall) → b.aborted ≡ true → (after_call b call).aborted ≡ true
+pub stopped_after : (b : Sending) (call : SendCall) → b.aborted ≡ true → (after_call b call).aborted ≡ true
 stopped_after b (calls.Write bytes) is = either_stopped (b.closed || b.aborted) b _ is is
 stopped_after b calls.Close is = either_stopped b.aborted b _ is is
 stopped_after b (calls.Grant asker max stands) is = elim (decision asker max stands b) as (λ r. (given_by asker r b).aborted ≡ true) [ Err why ↦ is | Ok span ↦ is ]
@@ -476,11 +476,11 @@ module _ (buffer acked : ℕ) where
 
 -- ---- what an ask makes of a book
 
-data Changes (b : Sending) : Sending → Type 0 where
+pub data Changes (b : Sending) : Sending → Type 0 where
   stays_so : Changes b b
   by_call : (x : SendCall) → Changes b (after_call b x)
 
-changed_by : (x : Ask) (six : SixBooks) (s : Side) → Changes (send_of s six) (send_of s (after_ask x six))
+pub changed_by : (x : Ask) (six : SixBooks) (s : Side) → Changes (send_of s six) (send_of s (after_ask x six))
 changed_by (asks.Send A x) six A = by_call x
 changed_by (asks.Send A x) six B = stays_so
 changed_by (asks.Send B x) six A = stays_so

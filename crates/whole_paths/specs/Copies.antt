@@ -1,8 +1,9 @@
 -- How a copy leaves the link of a path.
-use Rattle.std.specs.Prelude.{ℕ, ◌≡◌, Some, List, ◌∷◌, slice_get}
+use Rattle.std.specs.Prelude.{ℕ, ◌≡◌, true, Some, List, ◌∷◌, slice_get}
 use Rattle.link_model.specs.declared.flight.Flight.{Flight}
 use Rattle.link_model.specs.Steps.{due_of}
 use Rattle.stream_lanes.specs.Words.{Has}
+use Rattle.subflow_tcp.specs.States.{is_dead}
 use Rattle.path_store.specs.declared.lines.LineLeft.{LineLeft}
 use Rattle.path_store.specs.declared.lines.LineAction.TheVariants as actions
 use Rattle.path_agenda.specs.declared.duty.Duty.{Duty}
@@ -27,8 +28,8 @@ module _ {C : Type 0} where
     on : IsUnderWay f q → GoesOnItsWay f p q
     -- the copy arrives, which was the next event of the path
     arrives : (others : List Duty) → p.agenda ≡ duties.Step step_duties.Events ∷ others → next_event p ≡ Some (happenings.Arrives (due_of f)) → GoesOnItsWay f p q
-    -- the next event was a line of the script by which the path dies
-    dies : (line : LineLeft) → next_event p ≡ Some (happenings.Takes line) → line.action ≡ actions.Die → GoesOnItsWay f p q
+    -- the next event was a line of the script by which the path died, with both its ends
+    dies : (line : LineLeft) → next_event p ≡ Some (happenings.Takes line) → line.action ≡ actions.Die → is_dead q.a.tcp.state ≡ true → GoesOnItsWay f p q
 
   -- with each copy of a path, as the path becomes this actor
   abbrev pub CopiesGoOn : Actor C → Actor C → Type 0

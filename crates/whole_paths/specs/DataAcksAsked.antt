@@ -30,7 +30,7 @@ use Rattle.world_laws.specs.NeverFalls.{StripsNothing}
 use Rattle.world_laws.specs.Worlds.{WorldState, Turn, after_turn}
 use Rattle.whole_paths.specs.Copies.{IsUnderWay}
 use Rattle.whole_paths.specs.Expiries.{IsToSendAgain}
-use Rattle.whole_paths.specs.Flights.{IsOnItsWay}
+use Rattle.whole_paths.specs.Flights.{IsFirst, IsOnItsWay}
 use Rattle.whole_paths.specs.Harms.{harms_left, loses, longest_way}
 use Rattle.whole_paths.specs.InTime.{NothingIsOverdue}
 use Rattle.whole_paths.specs.Reasons.{IsOutstanding}
@@ -63,8 +63,8 @@ module _ {C : Type 0} where
     -- such a copy was what arrives next
     arrives : (f : Flight C) → f.tick ≤ by → IsUnderWay f p → IsAsking k s p f → (others : List Duty) → p.agenda ≡ duties.Step step_duties.Events ∷ others
         → next_event p ≡ Some (happenings.Arrives (due_of f)) → AskingGoesOn k s by p q
-    -- the end has a record again, which comes by the same tick (`WhatWaitsComes`)
-    record_waits : (r : Record) → IsOnItsWay k s r by q → AskingGoesOn k s by p q
+    -- the end, which had none, has a record again, which comes by the same tick (`WhatWaitsComes`)
+    record_waits : (r : Record) → (end_at s p).tcp.send.records ≡ [] → IsFirst r (end_at s q) → IsOnItsWay k s r by q → AskingGoesOn k s by p q
     -- there is news, or nothing of the end is outstanding any longer
     news : IsNews (end_at s p) (end_at s q) → AskingGoesOn k s by p q
     done : (IsOutstanding (end_at s q) → ⊥) → AskingGoesOn k s by p q
@@ -73,9 +73,9 @@ module _ {C : Type 0} where
     -- the link took the segment, and lost it by the word drawn for it, or since its queue was full
     lost : (x : PlainSegment) → x ≡ ack_resent p.profile s (end_at s p) → q.link ≡ handed k s x p → loses s (length (made p.profile.spelling s x)) p.clock p.link ≡ true
         → AskingGoesOn k s by p q
-    -- the end is dead, or the line comes next by which the path dies
+    -- the end is dead, or the line came next by which the path died
     gone : is_dead (end_at s q).tcp.state ≡ true → AskingGoesOn k s by p q
-    dies : (line : LineLeft) → next_event p ≡ Some (happenings.Takes line) → line.action ≡ actions.Die → AskingGoesOn k s by p q
+    dies : (line : LineLeft) → next_event p ≡ Some (happenings.Takes line) → line.action ≡ actions.Die → is_dead q.a.tcp.state ≡ true → AskingGoesOn k s by p q
 
   -- of a copy under way, that this holds of its sender as it sent it, and of whether the link stripped and altered it
   abbrev pub IsAskedSo : {k : Codec C} {s : Side} {by : ℕ} {p : PathState C} → (PathEnd → Bool → Bool → Type 0) → IsAskedAgain k s by p → Type 0

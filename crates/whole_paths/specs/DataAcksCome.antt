@@ -39,10 +39,10 @@ pub record IsOpen (t : EndState) : Type 0 where
   pub living : is_dead t.state ≡ false
   pub below_limit : is_at_limit t ≡ false
 
--- the segment stands at RCV.NXT or behind it, in the window of 2^20 positions, and acknowledges what was sent
+-- the segment stands at RCV.NXT or behind it, in the window of 2^20 positions or at its edge, and acknowledges what was sent
 pub record IsInWindow (x : PlainSegment) (t : EndState) : Type 0 where
   pub from : t.recv.edge ≤ x.position
-  pub within : x.position < t.recv.edge + 1048576
+  pub within : x.position ≤ t.recv.edge + 1048576
   pub acknowledged : ℕ
   pub acknowledges : x.acknowledged ≡ Some acknowledged
   pub answered : 0 < acknowledged

@@ -3,7 +3,6 @@
 use Rattle.std.specs.Prelude.{ℕ, ◌+◌, ◌-◌, ◌^◌, ◌≡◌, ◌<◌, ◌≤◌, ◌⊎◌, Bool, true, false, None, Some, IsSome, List, [], ◌∷◌, slice_get}
 use Rattle.sides.specs.declared.side.Side.{Side}
 use Rattle.sides.specs.Side.{peer}
-use Rattle.link_model.specs.declared.flight.Flight.{Flight}
 use Rattle.link_model.specs.Steps.{segments_sent}
 use Rattle.subflow_send.specs.Records.{Record}
 use Rattle.subflow_tcp.specs.States.{is_closed_to_segments}
@@ -24,12 +23,11 @@ use Rattle.world_laws.specs.Worlds.{WorldState, Turn, after_turn, world_run}
 use Rattle.whole_paths.specs.AsFar.{stage}
 use Rattle.whole_paths.specs.Brought.{IsToReset}
 use Rattle.whole_paths.specs.ClosingAsked.{OwesItsEnd}
-use Rattle.whole_paths.specs.Copies.{IsUnderWay}
 use Rattle.whole_paths.specs.DataAcksAsked.{IsAskedAgain, IsAskedSo}
 use Rattle.whole_paths.specs.DataAcksHeard.{IsHeard, IsPastTheEnd}
 use Rattle.whole_paths.specs.DataAcksOwed.{IsDataAckFrom, WantsWhereItSends}
 use Rattle.whole_paths.specs.Exchanges.{AtEither, IsFaithful, IsHeldUp}
-use Rattle.whole_paths.specs.Flights.{IsOnItsWay}
+use Rattle.whole_paths.specs.Flights.{IsFirst, IsOnItsWay}
 use Rattle.whole_paths.specs.Harms.{longest_way}
 use Rattle.whole_paths.specs.Owed.{IsAnswered, IsAnsweredSo, IsToRefuse}
 use Rattle.whole_paths.specs.Reasons.{IsOutstanding}
@@ -52,7 +50,7 @@ pub data IsInquired (s : Side) (place : ℕ) (fin : Bool) (by : ℕ) (p : PathSt
   -- the end asks, so early that the answer comes in time
   asks : (arrival : ℕ) → arrival + longest_way (peer s) p.link ≤ by → (h : IsAskedAgain values s arrival p) → IsAskedSo (IsAskedPlainly (end_at s p).tcp.send.una) h → IsInquired s place fin by p
   -- the end has both SYNs, and the peer answers so
-  answered : 2 ≤ stage (end_at s p).tcp.state → (h : IsAnswered values (peer s) 1 by p) → IsAnsweredSo (IsDataAckFrom (end_at s p).tcp.recv.edge place) h → IsInquired s place fin by p
+  answered : 2 ≤ stage (end_at s p).tcp.state → (h : IsAnswered values (peer s) 1 by p) → IsAnsweredSo (IsDataAckFrom (end_at s p).tcp.recv.edge (end_at (peer s) p).tcp.send.nxt place) h → IsInquired s place fin by p
   -- the end heard such a Data ACK, or hears it in its turn
   heard : (next : ℕ) → place ≤ next → IsHeard s next fin p → IsInquired s place fin by p
 
@@ -69,12 +67,12 @@ pub data IsAwry (s : Side) (steps : List Note) (p q : PathState Carried) : Type 
   -- an end fell back to plain TCP, or the end sends by an infinite mapping
   plain : (t : Side) → AtEither (λ e. e.modes.identity ≡ true) t p q → IsAwry s steps p q
   infinite : IsSome (end_at s q).modes.own_infinite → IsAwry s steps p q
-  -- the end asks for something else, or its DATA_FIN has no place
+  -- the end asks for something else, or owes a DATA_FIN that has no place
   third : (end_at s p).modes.owes_third ≡ true → IsAwry s steps p q
   close : (end_at s p).notices.fast_closed ≡ true → IsAwry s steps p q
-  endless : (end_at s p).sending.known_end ≡ None → IsAwry s steps p q
-  -- a copy that comes to the end lies past its window
-  past_window : (f : Flight Carried) → IsUnderWay f p → f.to ≡ s → (end_at s p).tcp.recv.edge + 1048576 ≤ f.carried.segment.position → IsAwry s steps p q
+  endless : is_data_fin_owed (end_at s p) ≡ true → (end_at s p).sending.known_end ≡ None → IsAwry s steps p q
+  -- the peer sent more than the end's window has room for
+  past_window : (end_at s p).tcp.recv.edge + 1048576 < (end_at (peer s) p).tcp.send.nxt → IsAwry s steps p q
   -- the send book refused the Data ACK
   refused : was_told tells_refusal steps ≡ true → IsAwry s steps p q
 
@@ -83,8 +81,8 @@ pub data IsAwry (s : Side) (steps : List Note) (p q : PathState Carried) : Type 
 -- as the path becomes another one, and its steps are these
 pub data InquiryGoesOn (s : Side) (place : ℕ) (fin : Bool) (by : ℕ) (steps : List Note) (p q : PathState Carried) : Type 0 where
   on : IsInquired s place fin by q → InquiryGoesOn s place fin by steps p q
-  -- the end has a record again, which comes on its part (`WhatWaitsComes`), or nothing of it is outstanding any longer
-  record_waits : (r : Record) (arrival : ℕ) → arrival ≤ by → IsOnItsWay values s r arrival q → InquiryGoesOn s place fin by steps p q
+  -- the end, which had none, has a record again, which comes on its part (`WhatWaitsComes`), or nothing of it is outstanding any longer
+  record_waits : (r : Record) (arrival : ℕ) → arrival ≤ by → (end_at s p).tcp.send.records ≡ [] → IsFirst r (end_at s q) → IsOnItsWay values s r arrival q → InquiryGoesOn s place fin by steps p q
   done : (IsOutstanding (end_at s q) → ⊥) → InquiryGoesOn s place fin by steps p q
   held_up : IsHeldUp s p q → InquiryGoesOn s place fin by steps p q
   awry : IsAwry s steps p q → InquiryGoesOn s place fin by steps p q

@@ -10,7 +10,7 @@ use Rattle.reassembly_book.specs.Steps.{next_wanted}
 use Rattle.actor_desk.specs.Books.{books_in}
 use Rattle.actor_desk.specs.Desk.{SixBooks, reassembly_of}
 use Rattle.path_core.specs.Codec.{Codec}
-use Rattle.path_core.specs.Looking.{first_sends}
+use Rattle.path_core.specs.Looking.{first_sends, segment_sent}
 use Rattle.path_core.specs.State.{PathState, end_at}
 use Rattle.world_laws.specs.declared.member.Member.TheVariants.{App, Path}
 use Rattle.world_laws.specs.Actors.{Actor, ActorCrew}
@@ -18,10 +18,11 @@ use Rattle.world_laws.specs.Openings.{PathPlan, Start, opened_world}
 use Rattle.world_laws.specs.Worlds.{Turn, after_turn, world_run}
 use Rattle.whole_paths.specs.Owed.{IsAnswered, IsAnsweredSo, AnswerGoesOn, AnswerComesSo}
 
--- the segment acknowledges and nothing more, at this position of its subflow or behind it, and its DSS has a Data ACK of this place or one
--- past it, below 2^62
-pub record IsDataAckFrom (edge place : ℕ) (x : PlainSegment) : Type 0 where
+-- the segment acknowledges and nothing more, between these positions of its subflow, and its DSS has a Data ACK of this place or one past it,
+-- below 2^62
+pub record IsDataAckFrom (edge last place : ℕ) (x : PlainSegment) : Type 0 where
   pub from : edge ≤ x.position
+  pub up_to : x.position ≤ last
   pub syn : x.syn ≡ false
   pub fin : x.fin ≡ false
   pub payload : x.payload ≡ []
@@ -33,17 +34,17 @@ pub record IsDataAckFrom (edge place : ℕ) (x : PlainSegment) : Type 0 where
   pub low : next < 2 ^ 62
 
 module _ {C : Type 0} where
-  -- as this side's end sends, its reassembly book wants this place next, or one past it
+  -- as this side's end sends a segment that is no reset, its reassembly book wants this place next, or one past it
   abbrev pub WantsWhereItSends : SixBooks → Side → ℕ → PathState C → Type 0
-  WantsWhereItSends six s place p = IfSome (first_sends p.agenda p) (λ t. t.from ≡ s → place ≤ next_wanted (reassembly_of s six))
+  WantsWhereItSends six s place p = IfSome (first_sends p.agenda p) (λ t. t.from ≡ s → (segment_sent p t).rst ≡ false → place ≤ next_wanted (reassembly_of s six))
 
   -- The path becomes this actor, with fewer than 2^64 - 1 segments sent from the side. Where its end may send a DSS, didn't fall back to plain
-  -- TCP and is at this position at least, and that is so as it sends, such is the answer that it owes.
+  -- TCP and is between these positions, and that is so as it sends, such is the answer that it owes.
   abbrev pub DataAcksGoOn : SixBooks → Codec C → Actor C → Actor C → Type 0
-  DataAcksGoOn six k (Path p) (Path q) = (s : Side) (position by edge place : ℕ) → segments_sent s p.link < 2 ^ 64 - 1
-      → (end_at s p).modes.clear ≡ true → (end_at s p).modes.identity ≡ false → edge ≤ (end_at s p).tcp.send.nxt → (end_at s p).receiving.next < 2 ^ 62
+  DataAcksGoOn six k (Path p) (Path q) = (s : Side) (position by edge last place : ℕ) → segments_sent s p.link < 2 ^ 64 - 1
+      → (end_at s p).modes.clear ≡ true → (end_at s p).modes.identity ≡ false → edge ≤ (end_at s p).tcp.send.nxt → (end_at s p).tcp.send.nxt ≤ last → (end_at s p).receiving.next < 2 ^ 62
       → WantsWhereItSends six s place p
-      → (h : IsAnswered k s position by p) → IsAnsweredSo (IsDataAckFrom edge place) h → (go : AnswerGoesOn k s position by p q) × AnswerComesSo (IsDataAckFrom edge place) go
+      → (h : IsAnswered k s position by p) → IsAnsweredSo (IsDataAckFrom edge last place) h → (go : AnswerGoesOn k s position by p q) × AnswerComesSo (IsDataAckFrom edge last place) go
   DataAcksGoOn six k (App a) (App b) = Unit {0}
   DataAcksGoOn six k _ _ = ⊥
 

@@ -4,7 +4,6 @@ use Rattle.std.specs.Prelude.{ℕ, ◌+◌, ◌-◌, ◌^◌, ◌≡◌, ◌<◌
 use Rattle.sides.specs.declared.side.Side.{Side}
 use Rattle.sides.specs.Side.{peer}
 use Rattle.path_segments.specs.Spelled.{PlainSegment}
-use Rattle.link_model.specs.declared.flight.Flight.{Flight}
 use Rattle.link_model.specs.Steps.{segments_sent}
 use Rattle.subflow_send.specs.Records.{Record, end_of}
 use Rattle.subflow_send.specs.declared.record.RecordKind.TheVariants.{Data}
@@ -35,7 +34,6 @@ use Rattle.world_laws.specs.Worlds.{WorldState, Turn, after_turn, world_run}
 use Rattle.whole_paths.specs.Arrivals.{HasItsMapping}
 use Rattle.whole_paths.specs.AsFar.{stage}
 use Rattle.whole_paths.specs.Brought.{IsToReset, IsUnsure}
-use Rattle.whole_paths.specs.Copies.{IsUnderWay}
 use Rattle.whole_paths.specs.Flights.{IsFirst, IsOnItsWay, IsSentSo}
 use Rattle.whole_paths.specs.Harms.{harms_left, loses, longest_way}
 use Rattle.whole_paths.specs.InHand.{IsInHand}
@@ -61,9 +59,10 @@ pub record IsSentWhole (c : Profile) (s : Side) (r : Record) (e : PathEnd) (stri
   pub unstripped : stripped ≡ false
   pub unaltered : altered ≡ false
 
--- the segment acknowledges and nothing more, at this position or behind it
-pub record IsBareFrom (edge : ℕ) (x : PlainSegment) : Type 0 where
+-- the segment acknowledges and nothing more, and stands between these positions
+pub record IsBareWithin (edge next : ℕ) (x : PlainSegment) : Type 0 where
   pub from : edge ≤ x.position
+  pub up_to : x.position ≤ next
   pub syn : x.syn ≡ false
   pub fin : x.fin ≡ false
   pub payload : x.payload ≡ []
@@ -75,7 +74,8 @@ pub data IsExchanged (s : Side) (r : Record) (by : ℕ) (p : PathState Carried) 
       → IsExchanged s r by p
   -- the end has both SYNs, and the peer has all of it in hand, or answers that its RCV.NXT is at the end of the record, or past it
   in_hand : 2 ≤ stage (end_at s p).tcp.state → IsInHand (peer s) (end_of r) by p → IsExchanged s r by p
-  answered : 2 ≤ stage (end_at s p).tcp.state → (h : IsAnswered values (peer s) (end_of r) by p) → IsAnsweredSo (IsBareFrom (end_at s p).tcp.recv.edge) h → IsExchanged s r by p
+  answered : 2 ≤ stage (end_at s p).tcp.state → (h : IsAnswered values (peer s) (end_of r) by p)
+      → IsAnsweredSo (IsBareWithin (end_at s p).tcp.recv.edge (end_at (peer s) p).tcp.send.nxt) h → IsExchanged s r by p
   -- SND.UNA is at its end, or past it
   acknowledged : end_of r ≤ (end_at s p).tcp.send.una → IsExchanged s r by p
 
@@ -93,9 +93,9 @@ pub data IsHeldUp (s : Side) (p q : PathState Carried) : Type 0 where
   -- a line was used by which a segment is lost or late, or the link lost one by the word drawn for it, or since its queue was full
   harmed : harms_left q.link < harms_left p.link → IsHeldUp s p q
   lost : (t : Side) (x : PlainSegment) → q.link ≡ handed values t x p → loses t (length (made p.profile.spelling t x)) p.clock p.link ≡ true → IsHeldUp s p q
-  -- an end is dead, or the line comes next by which the path dies
+  -- an end is dead, or the line came next by which the path died
   gone : (t : Side) → AtEither (λ e. is_dead e.tcp.state ≡ true) t p q → IsHeldUp s p q
-  dies : (line : LineLeft) → next_event p ≡ Some (happenings.Takes line) → line.action ≡ actions.Die → IsHeldUp s p q
+  dies : (line : LineLeft) → next_event p ≡ Some (happenings.Takes line) → line.action ≡ actions.Die → is_dead q.a.tcp.state ≡ true → IsHeldUp s p q
 
 -- an end doesn't go by the mappings of pieces, or goes on to a reset
 pub data IsAstray (s : Side) (r : Record) (p q : PathState Carried) : Type 0 where
@@ -113,8 +113,8 @@ pub data IsAstray (s : Side) (r : Record) (p q : PathState Carried) : Type 0 whe
   -- an end fell back to plain TCP, or the end sends by an infinite mapping
   plain : (t : Side) → AtEither (λ e. e.modes.identity ≡ true) t p q → IsAstray s r p q
   infinite : IsSome (end_at s p).modes.own_infinite ⊎ IsSome (end_at (peer s) p).modes.peer_infinite → IsAstray s r p q
-  -- a copy that comes to the end lies past its window
-  past_window : (f : Flight Carried) → IsUnderWay f p → f.to ≡ s → (end_at s p).tcp.recv.edge + 1048576 ≤ f.carried.segment.position → IsAstray s r p q
+  -- the peer sent more than the end's window has room for
+  past_window : (end_at s p).tcp.recv.edge + 1048576 < (end_at (peer s) p).tcp.send.nxt → IsAstray s r p q
   -- the record is A's first piece, which carries both keys
   first_piece : is_first_piece s r (end_at s p) ≡ true → IsAstray s r p q
 

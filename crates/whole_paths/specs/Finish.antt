@@ -1,5 +1,5 @@
 -- When a connection over one path delivers both files, though the path loses, delays and repeats segments.
-use Rattle.std.specs.Prelude.{ℕ, suc, ◌+◌, ◌-◌, ◌*◌, ◌==◌, ◌≡◌, ◌≤◌, ◌⊎◌, max, nat_le, nat_lt, Bool, true, false, not, ◌&&◌, if◌then◌else◌, Option, Some, List, [], ◌∷◌, ◌++◌, length, count_by, slice_get}
+use Rattle.std.specs.Prelude.{ℕ, suc, ◌+◌, ◌-◌, ◌*◌, ◌^◌, ◌==◌, ◌≡◌, ◌<◌, ◌≤◌, ◌⊎◌, max, nat_le, nat_lt, Bool, true, false, not, ◌&&◌, if◌then◌else◌, Option, Some, List, [], ◌∷◌, ◌++◌, length, count_by, slice_get}
 use Rattle.std.specs.Int.{div_ceil}
 use Rattle.std.specs.List.{list_all, list_any}
 use Rattle.sides.specs.declared.side.Side.{Side}
@@ -65,9 +65,19 @@ payload_of mss = max (mss - 28) 1
 abbrev pub segments : ℕ → ℕ → ℕ
 segments mss length = div_ceil length (payload_of mss)
 
+-- no mapping has a checksum, and there are fewer than 2^64 - 1 turns
+pub record IsUnchecked (script : Script) (turns : List Turn) : Type 0 where
+  pub unchecked : script.checksum ≡ false
+  pub few : length turns < 2 ^ 64 - 1
+
+-- how many rounds are enough, by a script, its path, the files of both sides, and how many segments are harmed
+abbrev pub Patience : Type 0
+Patience = Script → PathLine → List ℕ → List ℕ → ℕ → ℕ
+
 -- 80 rounds, 16 for each full segment of either file, and 1,300 for each segment that is harmed: two greatest timeouts of 60,000 ticks
-abbrev pub patience : ℕ → ℕ → ℕ → ℕ → ℕ
-patience mss length_a length_b harmed = 80 + 16 * (segments mss length_a + segments mss length_b) + 1300 * harmed
+abbrev pub patience : Patience
+patience script path file_a file_b harmed =
+    80 + 16 * (segments path.mss (length file_a) + segments path.mss (length file_b)) + 1300 * harmed
 
 -- how many rounds end by these turns
 abbrev pub rounds_in : List Turn → ℕ
@@ -134,33 +144,46 @@ pub record IsMild (script : Script) (path : PathLine) (file_a file_b : List ℕ)
   pub b : length file_b ≤ 16777216
 
 -- the connection of a script and two files before the first step
-abbrev pub opened : Script → List ℕ → List ℕ → WorldState (List ℕ)
+abbrev pub opened : {C : Type 0} → Script → List ℕ → List ℕ → WorldState C
 opened script file_a file_b = opened_world (start_of script file_a file_b)
 
--- how many rounds are enough, by the segments that these turns harm
-abbrev pub enough_for : Script → PathLine → List ℕ → List ℕ → List Turn → ℕ
-enough_for script path file_a file_b turns = patience path.mss (length file_a) (length file_b) (harmed octets 0 turns (opened script file_a file_b))
+module _ {C : Type 0} (k : Codec C) where
+  -- what these turns make of it
+  abbrev pub run_of : Script → List ℕ → List ℕ → List Turn → WorldState C
+  run_of script file_a file_b turns = world_run k turns (opened script file_a file_b)
 
--- once the path is whole at the end of a round, and still whole when so many more have ended, both files are delivered
-abbrev pub WholePathsDeliver : Type 0
-WholePathsDeliver = (script : Script) (path : PathLine) (file_a file_b : List ℕ) (before more : List Turn) → IsMild script path file_a file_b
-    → AreLawful octets (before ++ Turn.Round ∷ more) (opened script file_a file_b)
-    → let w = world_run octets (before ++ Turn.Round ∷ []) (opened script file_a file_b) in
-    IsWhole 0 w → IsWhole 0 (world_run octets more w) → enough_for script path file_a file_b (before ++ Turn.Round ∷ more) ≤ rounds_in more
-    → outcome_of (world_run octets more w).crew ≡ Delivered
+  -- by these turns so many rounds have ended as are enough for the segments that they harm
+  abbrev pub IsEnough : Patience → Script → PathLine → List ℕ → List ℕ → List Turn → ℕ → Type 0
+  IsEnough enough script path file_a file_b turns rounds = enough script path file_a file_b (harmed k 0 turns (opened script file_a file_b)) ≤ rounds
 
--- as soon as so many rounds have ended they are delivered, or an end died, however much is lost
-abbrev pub OnePathEnds : Type 0
-OnePathEnds = (script : Script) (path : PathLine) (file_a file_b : List ℕ) (turns : List Turn) → IsMild script path file_a file_b
-    → AreLawful octets turns (opened script file_a file_b) → enough_for script path file_a file_b turns ≤ rounds_in turns
-    → let w = world_run octets turns (opened script file_a file_b) in (outcome_of w.crew ≡ Delivered) ⊎ AnEndDied 0 w
+  -- Once the path is whole at the end of a round, and still whole when so many more have ended, both files are delivered. It is said of scripts
+  -- and turns that are so besides.
+  abbrev pub WholePathsDeliverWhere : (Script → List Turn → Type 0) → Patience → Type 0
+  WholePathsDeliverWhere Also enough = (script : Script) (path : PathLine) (file_a file_b : List ℕ) (before more : List Turn) → IsMild script path file_a file_b
+      → let turns = before ++ Turn.Round ∷ more in Also script turns → AreLawful k turns (opened script file_a file_b)
+      → IsWhole 0 (run_of script file_a file_b (before ++ Turn.Round ∷ [])) → IsWhole 0 (run_of script file_a file_b turns)
+      → IsEnough enough script path file_a file_b turns (rounds_in more) → outcome_of (run_of script file_a file_b turns).crew ≡ Delivered
 
--- with four harmed segments at most, and no line by which the path dies, no end does
-abbrev pub FewLossesFinish : Type 0
-FewLossesFinish = (script : Script) (path : PathLine) (file_a file_b : List ℕ) (turns : List Turn) → IsMild script path file_a file_b
-    → list_all is_harmless_to_ends script.lines ≡ true → harmed octets 0 turns (opened script file_a file_b) ≤ 4
-    → AreLawful octets turns (opened script file_a file_b) → enough_for script path file_a file_b turns ≤ rounds_in turns
-    → outcome_of (world_run octets turns (opened script file_a file_b)).crew ≡ Delivered
+  -- of all
+  abbrev pub WholePathsDeliver : Patience → Type 0
+  WholePathsDeliver = WholePathsDeliverWhere (λ script turns. Unit {0})
+
+  -- of those without checksums, by turns so few that no count of segments ends
+  abbrev pub UncheckedPathsDeliver : Patience → Type 0
+  UncheckedPathsDeliver = WholePathsDeliverWhere IsUnchecked
+
+  -- as soon as so many rounds have ended they are delivered, or an end died, however much is lost
+  abbrev pub OnePathEnds : Patience → Type 0
+  OnePathEnds enough = (script : Script) (path : PathLine) (file_a file_b : List ℕ) (turns : List Turn) → IsMild script path file_a file_b
+      → AreLawful k turns (opened script file_a file_b) → IsEnough enough script path file_a file_b turns (rounds_in turns)
+      → let w = run_of script file_a file_b turns in (outcome_of w.crew ≡ Delivered) ⊎ AnEndDied 0 w
+
+  -- with four harmed segments at most, and no line by which the path dies, no end does
+  abbrev pub FewLossesFinish : Patience → Type 0
+  FewLossesFinish enough = (script : Script) (path : PathLine) (file_a file_b : List ℕ) (turns : List Turn) → IsMild script path file_a file_b
+      → list_all is_harmless_to_ends script.lines ≡ true → harmed k 0 turns (opened script file_a file_b) ≤ 4
+      → AreLawful k turns (opened script file_a file_b) → IsEnough enough script path file_a file_b turns (rounds_in turns)
+      → outcome_of (run_of script file_a file_b turns).crew ≡ Delivered
 
 -- where no line speaks of a direction, each segment that is harmed uses a line
 abbrev pub HarmsUseLines : Type 0

@@ -75,9 +75,9 @@ module _ {C : Type 0} where
     -- the link took its segment, and lost it by the word drawn for it, or since its queue was full: never a plain direction (Mild)
     lost : (x : PlainSegment) → IsSegmentOf r x → q.link ≡ handed k s x p → loses s (length (made p.profile.spelling s x)) p.clock p.link ≡ true
         → GoesOnTo k s r by p q
-    -- the end is dead, or the line comes next by which the path dies
+    -- the end is dead, or the line came next by which the path died
     gone : is_dead (end_at s q).tcp.state ≡ true → GoesOnTo k s r by p q
-    dies : (line : LineLeft) → next_event p ≡ Some (happenings.Takes line) → line.action ≡ actions.Die → GoesOnTo k s r by p q
+    dies : (line : LineLeft) → next_event p ≡ Some (happenings.Takes line) → line.action ≡ actions.Die → is_dead q.a.tcp.state ≡ true → GoesOnTo k s r by p q
 
   -- of a copy under way, that this holds of its sender, as the link took the copy, and of whether that took its options away, or altered it
   abbrev pub IsSentSo : {k : Codec C} {s : Side} {r : Record} {by : ℕ} {p : PathState C} → (PathEnd → Bool → Bool → Type 0) → IsOnItsWay k s r by p → Type 0

@@ -1,6 +1,6 @@
 -- Connections by whose script no option is taken away, no payload is altered, and no side closes at once: both sides go by mappings, no end
 -- of path 0 breaks, and each copy arrives as it was sent (RFC 8684, sections 3.3.1, 3.5 and 3.7).
-use Rattle.std.specs.Prelude.{ℕ, ◌≡◌, ◌≤◌, ◌==◌, ◌⊎◌, Bool, true, false, not, None, Some, is_some, List, ◌∷◌, slice_get}
+use Rattle.std.specs.Prelude.{ℕ, ◌≡◌, ◌≤◌, ◌⊎◌, Bool, true, false, not, None, Some, is_some, List, ◌∷◌, slice_get}
 use Rattle.std.specs.List.{list_all, list_any}
 use Rattle.sides.specs.declared.side.Side.{Side}
 use Rattle.link_script.specs.declared.script.Script.{Script}
@@ -104,20 +104,19 @@ module _ {C : Type 0} where
 
 -- ---- breaks
 
--- By a harsh duty a side falls back, a path is asked for or refused, or an end is reset for another reason than 6, middlebox interference
--- (RFC 8684, section 3.6).
+-- By a harsh duty a side falls back, a path is asked for or refused, or an end is reset for a reason (RFC 8684, section 3.6).
 abbrev pub is_harsh : Duty → Bool
 is_harsh (duties.Ask (ask_duties.GoIdentity s)) = true
 is_harsh (duties.Ask (ask_duties.FailHeard s)) = true
 is_harsh (duties.Ask (ask_duties.JoinHeard s)) = true
-is_harsh (duties.Ask (ask_duties.BreakAck s reason)) = not (reason == 6)
-is_harsh (duties.Send (send_duties.BreakReset s reason)) = not (reason == 6)
+is_harsh (duties.Ask (ask_duties.BreakAck s reason)) = true
+is_harsh (duties.Send (send_duties.BreakReset s reason)) = true
 is_harsh (duties.Send (send_duties.Refuse s)) = true
 is_harsh _ = false
 
 module _ {C : Type 0} where
-  -- No duty of path 0 is harsh: no end is to be reset but for reason 6, nor is it told that its peer closed at once. No mapping at RCV.NXT
-  -- fails its check.
+  -- No duty of path 0 is harsh: no end is to be reset for a reason, nor is it told that its peer closed at once. No mapping at RCV.NXT fails
+  -- its check.
   pub record BreaksForMissing (p : PathState C) : Type 0 where
     pub duties : list_any is_harsh p.agenda ≡ false
     pub broken : (s : Side) (reason : ℕ) → p.agenda ≡ breaks s reason → reason ≡ 6

@@ -49,6 +49,16 @@ arrived_news b = received b + b.read + one_if (is_some b.known_end)
 abbrev pub side_news : SixBooks → Side → ℕ
 side_news books s = sent_news (send_of s books) + arrived_news (reassembly_of s books)
 
+-- What a side gains: more is written, received without a gap or read, the edge of its peer's window rises, its stream is closed, or it knows
+-- where its peer's ends.
+pub data Gains (s : Side) (v w : SixBooks) : Type 0 where
+  writes : length (send_of s v).written < length (send_of s w).written → Gains s v w
+  opens : (send_of s v).edge < (send_of s w).edge → Gains s v w
+  closes : (send_of s v).closed ≡ false → (send_of s w).closed ≡ true → Gains s v w
+  receives : received (reassembly_of s v) < received (reassembly_of s w) → Gains s v w
+  reads : (reassembly_of s v).read < (reassembly_of s w).read → Gains s v w
+  learns : is_some (reassembly_of s v).known_end ≡ false → is_some (reassembly_of s w).known_end ≡ true → Gains s v w
+
 -- the greatest number that there can be
 abbrev pub most_news : Start → ℕ
 most_news start =
@@ -73,9 +83,11 @@ module _ {C : Type 0} where
   abbrev pub NewsNeverFalls : Codec C → Type 0
   NewsNeverFalls k = (start : Start) (before more : List Turn) → let w = reached k start before in news start w ≤ news start (world_run k more w)
 
-  -- What counts: there is news at an end, or it dies; or a line of the script is taken, or used by a segment.
+  -- What counts: there is news at an end, or its RCV.NXT or SND.NXT rises, or it dies; or a line of the script is taken, or used by a segment.
   pub data Counts (p q : PathState C) : Type 0 where
     at_end : (s : Side) → IsNews (end_at s p) (end_at s q) → Counts p q
+    in_order : (s : Side) → (end_at s p).tcp.recv.edge < (end_at s q).tcp.recv.edge → Counts p q
+    sent_more : (s : Side) → (end_at s p).tcp.send.nxt < (end_at s q).tcp.send.nxt → Counts p q
     dies : (s : Side) → is_dead (end_at s p).tcp.state ≡ false → is_dead (end_at s q).tcp.state ≡ true → Counts p q
     line : length q.lines < length p.lines → Counts p q
     harm : harms_left q.link < harms_left p.link → Counts p q
@@ -89,6 +101,11 @@ module _ {C : Type 0} where
   abbrev pub EachNewsCounts : Codec C → Type 0
   EachNewsCounts k = (start : Start) (before more : List Turn) → let w = reached k start before in let v = world_run k more w in
       (actor : ℕ) (c d : ActorCrew C) → slice_get w.crew actor ≡ Some c → slice_get v.crew actor ≡ Some d → ActorCounts c.member d.member → news start w < news start v
+
+  -- with each gain of a side it rises too
+  abbrev pub EachGainCounts : Codec C → Type 0
+  EachGainCounts k = (start : Start) (before more : List Turn) → let w = reached k start before in let v = world_run k more w in
+      (s : Side) → Gains s (books_in w.books) (books_in v.books) → news start w < news start v
 
   -- There is so much at most: each byte of a file counts eight times over one path, and four times more for each further one.
   abbrev pub NewsIsBounded : Codec C → Type 0

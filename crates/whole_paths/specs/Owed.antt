@@ -74,9 +74,9 @@ module _ {C : Type 0} where
         → AnswerGoesOn k s position by p q
     -- the end refuses a copy next, or answers one by a reset, as a dead end does, and one that listens
     resets : IsToRefuse s p.agenda → AnswerGoesOn k s position by p q
-    -- the end is dead, or the line comes next by which the path dies
+    -- the end is dead, or the line came next by which the path died
     gone : is_dead (end_at s q).tcp.state ≡ true → AnswerGoesOn k s position by p q
-    dies : (line : LineLeft) → next_event p ≡ Some (happenings.Takes line) → line.action ≡ actions.Die → AnswerGoesOn k s position by p q
+    dies : (line : LineLeft) → next_event p ≡ Some (happenings.Takes line) → line.action ≡ actions.Die → is_dead q.a.tcp.state ≡ true → AnswerGoesOn k s position by p q
 
   -- of an answer under way, that this holds of its segment
   abbrev pub IsAnsweredSo : {k : Codec C} {s : Side} {position by : ℕ} {p : PathState C} → (PlainSegment → Type 0) → IsAnswered k s position by p → Type 0

@@ -20,7 +20,7 @@ pub data Course (s : System) (w : s.State) : ℕ → s.State → Type 0 where
   opens : (n : ℕ) (v u : s.State) → Course s w n v → s.Opens v u → Course s w (suc n) u
 
 -- What each step, and each beginning of a round, owes. News grows, and there is so much at most; a wait goes on, or there is news; a round
--- ends before no wait is over that has no news; and as a round begins that isn't over, news comes within so many ticks.
+-- begins past no wait that has no news; and as a round begins that isn't over, news comes within so many ticks.
 pub record Drives (s : System) (most within : ℕ) : Type 0 where
   pub sound_on : (v u : s.State) → s.Sound v → s.Steps v u → s.Sound u
   pub sound_next : (v u : s.State) → s.Sound v → s.Opens v u → s.Sound u
@@ -33,7 +33,7 @@ pub record Drives (s : System) (most within : ℕ) : Type 0 where
   pub few : (v : s.State) → s.Sound v → s.news v ≤ most
   pub waits_on : (n x : ℕ) (v u : s.State) → s.Sound v → s.Steps v u → n ≤ s.news v → s.Waits n x v → (n < s.news u) ⊎ s.Waits n x u
   pub waits_next : (n x : ℕ) (v u : s.State) → s.Sound v → s.Opens v u → n ≤ s.news v → s.Waits n x v → (n < s.news u) ⊎ s.Waits n x u
-  pub due : (n x : ℕ) (v u : s.State) → s.Sound v → s.Opens v u → s.Waits n x v → x < s.until v → n < s.news v
+  pub due : (n x : ℕ) (v u : s.State) → s.Sound v → s.Opens v u → n ≤ s.news v → s.Waits n x v → x < s.until v → n < s.news u
   pub begins : (v u : s.State) → s.Sound v → s.Opens v u → s.Over u ⊎ s.Waits (s.news u) (s.until v + within) u
 
 -- the ticks by which so much news has come, the first round aside
@@ -41,7 +41,7 @@ abbrev pub ticks_for : ℕ → ℕ → ℕ
 ticks_for within zero = 0
 ticks_for within (suc n) = ticks_for within n + (within + 100)
 
--- a wait is over once the rounds for one piece of news more than there can be have passed
+-- from whatever round on, it is over once the rounds for one piece of news more than there can be have passed
 abbrev pub WhatIsAwaitedComes : Type 1
-WhatIsAwaitedComes = (s : System) (most within : ℕ) → Drives s most within → (w : s.State) → s.Sound w → s.until w ≡ 100
+WhatIsAwaitedComes = (s : System) (most within base : ℕ) → Drives s most within → (w : s.State) → s.Sound w → s.until w ≡ base + 100
     → (n : ℕ) (u : s.State) → Course s w n u → ticks_for within (suc most) < 100 * n → s.Over u

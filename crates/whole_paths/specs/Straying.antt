@@ -1,8 +1,7 @@
 -- What may come between in an exchange of a mild connection, where both ends of path 0 are open and may send a DSS.
-use Rattle.std.specs.Prelude.{ℕ, ◌+◌, ◌≡◌, ◌≤◌, ◌⊎◌, true, false, Some, List, ◌++◌, slice_get}
+use Rattle.std.specs.Prelude.{ℕ, ◌+◌, ◌≡◌, ◌<◌, ◌≤◌, ◌⊎◌, true, false, Some, List, ◌++◌, slice_get}
 use Rattle.sides.specs.declared.side.Side.{Side}
 use Rattle.sides.specs.Side.{peer}
-use Rattle.link_model.specs.declared.flight.Flight.{Flight}
 use Rattle.subflow_send.specs.Records.{Record}
 use Rattle.subflow_tcp.specs.State.{is_fin_passed}
 use Rattle.subflow_tcp.specs.States.{is_dead}
@@ -15,7 +14,6 @@ use Rattle.world_laws.specs.Actors.{Actor, ActorCrew}
 use Rattle.world_laws.specs.Openings.{Start, opened_world}
 use Rattle.world_laws.specs.Worlds.{WorldState, Turn, after_turn, world_run}
 use Rattle.whole_paths.specs.AsFar.{stage}
-use Rattle.whole_paths.specs.Copies.{IsUnderWay}
 use Rattle.whole_paths.specs.Exchanges.{IsAstray}
 use Rattle.whole_paths.specs.Finish.{IsWhole}
 use Rattle.whole_paths.specs.Mild.{IsMildStart}
@@ -33,8 +31,8 @@ pub data IsHardlyAstray (s : Side) (p q : PathState Carried) : Type 0 where
   missing : (q.agenda ≡ breaks (peer s) 6) ⊎ (q.agenda ≡ resets (peer s) 6) → IsHardlyAstray s p q
   -- the peer is past the end's FIN
   behind_fin : is_fin_passed (end_at (peer s) q).tcp ≡ true → IsHardlyAstray s p q
-  -- a copy that comes to the end lies past its window
-  past_window : (f : Flight Carried) → IsUnderWay f p → f.to ≡ s → (end_at s p).tcp.recv.edge + 1048576 ≤ f.carried.segment.position → IsHardlyAstray s p q
+  -- the peer sent more than the end's window has room for
+  past_window : (end_at s p).tcp.recv.edge + 1048576 < (end_at (peer s) p).tcp.send.nxt → IsHardlyAstray s p q
 
 -- as the path becomes this actor, and is still open
 abbrev pub HardlyStrays : Actor Carried → Actor Carried → Type 0

@@ -3,19 +3,25 @@
 //! Many clauses ask that a full segment has room beside its options, and that the numbers of the start fit: so it is by each script, with
 //! files shorter than 2^31 - 2 octets. Where a clause stands over `values` alone, or over `Carried`, the segments are values.
 ghost use Rattle.path_core.specs.Octets.{octets};
+ghost use Rattle.path_core.specs.State.{PathState};
 ghost use Rattle.path_core.specs.Values.{Carried, values};
 ghost use Rattle.std.specs.Prelude.{ℕ, List};
 ghost use Rattle.world_laws.specs.Laws.{Always};
 ghost use Rattle.world_laws.specs.Promises.{HoldsAnyway, HoldsAnywayOfOctets};
-ghost use Rattle.whole_paths.specs.Acknowledged.{WhatWasGrantedIsAcknowledged, WhatWasWrittenIsAcknowledged};
+ghost use Rattle.whole_paths.specs.Acknowledged.{WhatIdleEndsWroteIsAcknowledged, WhatWasGrantedIsAcknowledged, WhatWasWrittenIsAcknowledged};
 ghost use Rattle.whole_paths.specs.Answered.{CopiesAreAnswered};
 ghost use Rattle.whole_paths.specs.Arrivals.{EachCopyArrives, EachMappedRecordIsAPiece, EachPieceComesInOrder};
 ghost use Rattle.whole_paths.specs.AsFar.{NothingGoesBack};
+ghost use Rattle.whole_paths.specs.Awaited.{EachWindowComes};
+ghost use Rattle.whole_paths.specs.AnswerWaits.{AnswersAreAwaitedAlways};
+ghost use Rattle.whole_paths.specs.AskStages.{OpenAsksAreAnswered};
+ghost use Rattle.whole_paths.specs.AwaitedThere.{WhatIsAwaitedIsThere};
 ghost use Rattle.whole_paths.specs.Brought.{WhatComesIsKept};
 ghost use Rattle.whole_paths.specs.Came.{WhatIsAcknowledgedCame};
 ghost use Rattle.whole_paths.specs.Closing.{EachDataFinCounts, EachDataFinIsSaid};
 ghost use Rattle.whole_paths.specs.ClosingAsked.{EachDataFinComes};
 ghost use Rattle.whole_paths.specs.ClosingFin.{EachFinIsPassed};
+ghost use Rattle.whole_paths.specs.ClosingKnown.{EachEndIsToldFirst, WhatIsHeardIsWanted, WhoHeardTheEndKnowsIt};
 ghost use Rattle.whole_paths.specs.ClosingOwed.{WhatWantsAnAnswerIsOwedOne};
 ghost use Rattle.whole_paths.specs.Copies.{CopiesLeaveByArriving};
 ghost use Rattle.whole_paths.specs.DataAcks.{EachSegmentHasADataAck};
@@ -25,34 +31,61 @@ ghost use Rattle.whole_paths.specs.DataAcksExchanged.{EachAskIsAnswered};
 ghost use Rattle.whole_paths.specs.DataAcksHeard.{EachDataAckCounts, EachDataAckIsSaid};
 ghost use Rattle.whole_paths.specs.DataAcksNow.{OnlyPathsAreUpToDate};
 ghost use Rattle.whole_paths.specs.DataAcksOwed.{WhatIsOwedHasADataAck};
+ghost use Rattle.whole_paths.specs.DataLeft.{WhatIsLeftIsData};
+ghost use Rattle.whole_paths.specs.Deliveries.{WhoIsToldHasAll};
+ghost use Rattle.whole_paths.specs.Delivery.{WhatIsFinishedIsThere, WhatIsThereIsDelivered, WhatIsThereStays};
 ghost use Rattle.whole_paths.specs.Due.{CopiesArriveAsSent};
+ghost use Rattle.whole_paths.specs.EndedStreams.{WhatEndedIsAcknowledged};
 ghost use Rattle.whole_paths.specs.Ends.{EndsAreSent};
 ghost use Rattle.whole_paths.specs.Exchanges.{EachRecordIsAcknowledged};
 ghost use Rattle.whole_paths.specs.Expiries.{WhatRunsOutGoesAgain};
-ghost use Rattle.whole_paths.specs.Finish.{HarmsUseLines};
+ghost use Rattle.whole_paths.specs.Finish.{HarmsUseLines, UncheckedPathsDeliver};
 ghost use Rattle.whole_paths.specs.Flights.{WhatWaitsComes};
+ghost use Rattle.whole_paths.specs.GoingOn.{RoundsBeginToGoOn, RoundsGoOn, StepsLetItGoOn};
+ghost use Rattle.whole_paths.specs.Halted.{WhoHaltsGoesOnHalting};
 ghost use Rattle.whole_paths.specs.Harms.{EachUsesALineOrComes, PlainDirectionsHandOnAtOnce};
 ghost use Rattle.whole_paths.specs.Hearing.{EachAcknowledgementCounts};
 ghost use Rattle.whole_paths.specs.InHand.{WhatIsInHandIsAcknowledged};
 ghost use Rattle.whole_paths.specs.InTime.{NothingIsOverdue};
 ghost use Rattle.whole_paths.specs.Kept.{WhatWaitsIsKept};
+ghost use Rattle.whole_paths.specs.KnownEnds.{EndsAreKnown, WhatIsClosedIsAcknowledged};
 ghost use Rattle.whole_paths.specs.Lanes.Laws.{LossyLanesEnd, LossyLanesFinish};
+ghost use Rattle.whole_paths.specs.LastFin.{FinsAreLast};
 ghost use Rattle.whole_paths.specs.Mapped.{WhatIsToldIsKnown};
 ghost use Rattle.whole_paths.specs.Opening.{EachHandshakeCounts, EachSynCounts};
-ghost use Rattle.whole_paths.specs.News.{EachNewsCounts, NewsIsBounded, NewsNeverFalls};
+ghost use Rattle.whole_paths.specs.News.{EachGainCounts, EachNewsCounts, NewsIsBounded, NewsNeverFalls};
 ghost use Rattle.whole_paths.specs.Mild.{IsPromisedMildly, KeysAreKnown, LinksAreMild, MappingIsKept, MildScriptsStartMildly, HardlyBreaks};
+ghost use Rattle.whole_paths.specs.Offered.{WhatIsTakenIsOffered};
+ghost use Rattle.whole_paths.specs.OnePathScripts.{DeliversAsItBegins, MildScriptsBeginWithOnePath, OnlyWaysStay, WaysStay};
+ghost use Rattle.whole_paths.specs.OpenAsks.{OpenAsksAreInTime, OpenAsksGoOn, OpenEndsHardlyGoAwry};
+ghost use Rattle.whole_paths.specs.OnlyPaths.{long_patience};
 ghost use Rattle.whole_paths.specs.OpeningConfirmed.{EachConfirmationCounts, SignsAreSaid};
 ghost use Rattle.whole_paths.specs.OpeningKeys.{EachSegmentShowsKeys};
+ghost use Rattle.whole_paths.specs.OverOctets.{FewLossesFinishAsOverValues, OctetsAreAsFarAsValues, OnePathEndsAsOverValues, UncheckedPathsDeliverAsOverValues, WholePathsDeliverAsOverValues};
+ghost use Rattle.whole_paths.specs.OpenCourses.{WhatHoldsUpCounts};
+ghost use Rattle.whole_paths.specs.Outstanding.{WhatIsOutstandingIsAwaited};
+ghost use Rattle.whole_paths.specs.Overruns.{NoEndOverruns};
 ghost use Rattle.whole_paths.specs.Owed.{WhatIsOwedComes};
 ghost use Rattle.whole_paths.specs.Passed.{WhatIsInOrderIsPassed};
+ghost use Rattle.whole_paths.specs.Probes.{EachProbeIsAnswered};
 ghost use Rattle.whole_paths.specs.Reasons.{WhoWaitsHasATimer};
+ghost use Rattle.whole_paths.specs.Received.{HoldsOfOnlyPaths, WhatIsGrantedIsReceived, WhatIsPassedIsPlaced, WhatIsPassedIsReceived};
+ghost use Rattle.whole_paths.specs.RecordWaits.{NoRoundCounts, RecordsAreAwaitedAlways};
 ghost use Rattle.whole_paths.specs.Room.{WhoIsDoneMayAsk};
 ghost use Rattle.whole_paths.specs.Running.{TimersRunOn};
 ghost use Rattle.whole_paths.specs.Saying.{EachSegmentSaysWhatCame};
 ghost use Rattle.whole_paths.specs.Sent.{WhatCameWasSent};
+ghost use Rattle.whole_paths.specs.SentByTurns.{EachTurnSendsOneAtMost};
+ghost use Rattle.whole_paths.specs.Shut.{WhatIsLeftIsPastTheEdge};
+ghost use Rattle.whole_paths.specs.ShutWaits.{ShutWindowsOpenInTime};
+ghost use Rattle.whole_paths.specs.ShutWindows.{ShutWindowsHaveRoom};
 ghost use Rattle.whole_paths.specs.Straying.{OpenEndsHardlyStray, WholePathsAreOpen};
+ghost use Rattle.whole_paths.specs.ThereInTime.{WhatIsThereInTimeIsDelivered};
 ghost use Rattle.whole_paths.specs.Timers.{TimersRunOut};
+ghost use Rattle.whole_paths.specs.Unstopped.{MildPathsAreNeverStopped};
 ghost use Rattle.whole_paths.specs.Waits.{NoTimerIsPutOff};
+ghost use Rattle.whole_paths.specs.WindowWaits.{WindowsAreAwaitedAlways};
+ghost use Rattle.whole_paths.specs.WindowsHeard.{EachWindowCounts};
 ghost use Rattle.whole_paths.specs.Writers.{WritersGoOn};
 
 /// A law: by whatever turns, lawful or not, nothing that an end, a side or an actor has reached goes back, whatever is lost, late,
@@ -79,6 +112,12 @@ pub fn news_never_falls()
     ensures values { NewsNeverFalls values }
 {}
 
+/// A law: each turn sends one segment on each path at most, so that there are no more segments of an end than turns.
+pub fn each_turn_sends_one_at_most()
+    ensures octets { EachTurnSendsOneAtMost octets }
+    ensures values { EachTurnSendsOneAtMost values }
+{}
+
 /// A law: how far a connection is, as one number, is bounded by its files, buffers and paths and by the lines of the script, whatever is lost,
 /// late or repeated, where no payload is altered and the numbers fit.
 pub fn news_is_bounded()
@@ -88,11 +127,18 @@ pub fn news_is_bounded()
 
 /// A law: how far a connection is, as one number, rises with all news.
 ///
-/// It does so as SND.UNA of an end rises, a Data ACK acknowledges more, or the SYN, the DATA_FIN or the third MP_JOIN is answered; as an end
-/// dies; as a line of the script is taken; and with each segment that uses a line by which it is lost or late.
+/// It does so as SND.UNA, SND.NXT or RCV.NXT of an end rises, a Data ACK acknowledges more, or the SYN, the DATA_FIN or the third MP_JOIN
+/// is answered; as an end dies; as a line of the script is taken; and with each segment that uses a line by which it is lost or late.
 pub fn each_news_counts()
     ensures octets { EachNewsCounts octets }
     ensures values { EachNewsCounts values }
+{}
+
+/// A law: with each byte that a side writes, receives without a gap or reads, as the edge of its peer's window rises, as its stream is closed
+/// and as it learns where its peer's ends, that number rises too.
+pub fn each_gain_counts()
+    ensures octets { EachGainCounts octets }
+    ensures values { EachGainCounts values }
 {}
 
 /// A law: no timer of a path ever waits for more than a minute (RFC 6298, section 2).
@@ -293,6 +339,29 @@ pub fn each_data_ack_counts()
     ensures says { EachDataAckIsSaid }
 {}
 
+/// A law: each window that an end is told counts, in its turn: the edge of the side's send book is where the window ends then, or past it, as
+/// the window begins at the place of the Data ACK (RFC 8684, section 3.3.5).
+///
+/// Where a copy that the end takes tells it, the end hears it once all is treated that the copy says before, and from then on, by each turn,
+/// the side may send so far. Or the end is dead, or reset next; or the side fell back to plain TCP, or sends by an infinite mapping; or the
+/// send book refuses the Data ACK, as none does (`nothing_is_refused`). A segment with a DSS says its window with its Data ACK
+/// (`each_data_ack_counts`, `says`).
+pub fn each_window_counts()
+    ensures octets { EachWindowCounts octets }
+    ensures values { EachWindowCounts values }
+{}
+
+/// A law: what the reassembly book of a side takes its end may tell as it sends, as its turn begins with asking how much that is (RFC 8684,
+/// section 3.3.5).
+///
+/// A book takes the bytes behind those that were read, as many as its buffer holds. By each turn, where it takes bytes up to a place, the end
+/// was told so much, or asks before any segment of its goes. So it is at every end whose turn is over, and thus of all that was read as the
+/// turn begins; whatever else happens meanwhile, no end ever tells less of its book again.
+pub fn what_is_taken_is_offered()
+    ensures octets { WhatIsTakenIsOffered octets }
+    ensures values { WhatIsTakenIsOffered values }
+{}
+
 /// A law: each DATA_FIN that an end takes counts, in its turn: the reassembly book of the side is told where the peer's stream ends, and the
 /// peer's DATA_FIN came then (RFC 8684, section 3.3.3).
 ///
@@ -308,6 +377,18 @@ pub fn each_data_fin_counts()
     ensures comes { EachDataFinComes }
 {}
 
+/// A law: where the peer's DATA_FIN came to an end, its side's reassembly book knows where the peer's stream ends, at every moment (RFC 8684,
+/// section 3.3.3).
+///
+/// A DATA_FIN that a copy said, and that counts, came before the end sends a segment that is no reset (`first`). So where all bytes of a
+/// stream are received, the book wants the place behind them as the end sends, which its Data ACK then names (`wanted`).
+pub fn who_heard_the_end_knows_it()
+    ensures octets { Always octets (λ start w. WhoHeardTheEndKnowsIt w) }
+    ensures values { Always values (λ start w. WhoHeardTheEndKnowsIt w) }
+    ensures first { (p : PathState (List ℕ)) → EachEndIsToldFirst p }
+    ensures wanted { WhatIsHeardIsWanted }
+{}
+
 /// A law: nothing is acknowledged that didn't come: SND.UNA of each end that isn't dead lies at its peer's RCV.NXT or below, and so does what
 /// each copy under way to it acknowledges that is no reset, whatever is lost, late, repeated or altered (RFC 9293, section 3.4).
 pub fn what_is_acknowledged_came()
@@ -321,6 +402,17 @@ pub fn what_came_was_sent()
     ensures octets { HoldsAnywayOfOctets WhatCameWasSent }
 {}
 
+/// A law: each byte of a piece that an end was granted, and that its peer's RCV.NXT is past, stands in the reassembly book of the peer's side,
+/// or was read there (RFC 8684, section 3.3.2), whatever is lost, late, repeated or altered (`placed`).
+///
+/// On the only path of a connection by whose script no option is taken away, no payload is altered, and no side closes at once, no byte before
+/// it is missing there (`received`). So a living end that has no record left waits for no Data ACK but of bytes that are received (`left`).
+pub fn what_is_passed_is_received()
+    ensures placed { HoldsAnyway WhatIsPassedIsPlaced }
+    ensures received { HoldsOfOnlyPaths values WhatIsPassedIsReceived }
+    ensures left { HoldsOfOnlyPaths values WhatIsGrantedIsReceived }
+{}
+
 /// A law: where an end waits for no Data ACK, each byte that its path was granted is acknowledged at its side (RFC 8684, section 3.3.2),
 /// whatever is lost, late, repeated or altered, and whichever path was granted it besides.
 ///
@@ -330,21 +422,54 @@ pub fn what_was_granted_is_acknowledged()
     ensures octets { HoldsAnywayOfOctets WhatWasGrantedIsAcknowledged }
 {}
 
-/// A law: the congestion window of each end holds a full segment at every moment (RFC 5681, section 3.1), and an open end of which nothing is
-/// outstanding, that sent no FIN and may send a DSS, may ask for bytes.
+/// A law: the congestion window of each end holds a full segment at every moment, and 2^20 octets at most (RFC 5681, section 3.1), and an open
+/// end without a record, that sent no FIN and may send a DSS, may ask for bytes: so one of which nothing is outstanding.
 pub fn who_is_done_may_ask()
     ensures octets { WhoIsDoneMayAsk octets }
     ensures values { WhoIsDoneMayAsk values }
 {}
 
 /// A law: over one path, as its turn is over, all that was written as the round began is acknowledged at a side whose end is open, may send a
-/// DSS and has nothing outstanding (RFC 8684, section 3.3.2).
+/// DSS and has nothing outstanding (RFC 8684, section 3.3.2); or no bytes, where the peer's window isn't shut (`idle_octets`, `idle_values`).
 ///
 /// Or the path was on standby when it asked for bytes last in this round, or the connection was stopped. What an application writes within
 /// the round may be left for the next one. So where nothing is outstanding any longer, there is nothing left but what is written anew.
 pub fn what_was_written_is_acknowledged()
     ensures octets { WhatWasWrittenIsAcknowledged octets }
     ensures values { WhatWasWrittenIsAcknowledged values }
+    ensures idle_octets { WhatIdleEndsWroteIsAcknowledged octets }
+    ensures idle_values { WhatIdleEndsWroteIsAcknowledged values }
+{}
+
+/// A law: over one path, in each round, what an open end leaves of its stream lies past the edge of its peer's window (RFC 9293, section
+/// 3.8.6.1; RFC 8684, section 3.3.5).
+///
+/// As the path's turn is over, at an end that may ask for bytes and all of whose pieces are acknowledged by Data ACKs, all is acknowledged that
+/// was written as the round began; or the window is shut, and all before the edge that it had as the round began is. Or the path asked on standby
+/// last, or the connection was stopped. An open end that may send a DSS and has no record left may ask (`who_is_done_may_ask`).
+pub fn what_is_left_is_past_the_edge()
+    ensures octets { WhatIsLeftIsPastTheEdge octets }
+    ensures values { WhatIsLeftIsPastTheEdge values }
+{}
+
+/// A law: over one path, as its turn is over, all of a stream is acknowledged whose end the path's end knows, where that may ask for bytes, waits
+/// for no Data ACK of bytes, and its peer's window isn't shut (RFC 8684, section 3.3.3).
+///
+/// So where its DATA_FIN isn't acknowledged it waits for that alone; the peer's side has received all (`both_sides_keep_their_word`), and wants
+/// the place behind it once the DATA_FIN is heard (`who_heard_the_end_knows_it`). Or the path was on standby when it asked for bytes last, or
+/// the connection was stopped.
+pub fn what_ended_is_acknowledged()
+    ensures octets { WhatEndedIsAcknowledged octets }
+    ensures values { WhatEndedIsAcknowledged values }
+{}
+
+/// A law: over one path, as its turn is over, an open end of which something is outstanding, but no record, waits for its peer's window, or for a
+/// Data ACK of what the peer's side received by then, where the connection is mild (RFC 8684, sections 3.3.2 and 3.3.3).
+///
+/// That is the Data ACK of a piece of bytes, all before whose end is received; or that of its DATA_FIN, where all of the stream is. So the peer
+/// answers what the end asks with the Data ACK that it waits for (`open_asks_are_answered`).
+pub fn what_is_awaited_is_there()
+    ensures { WhatIsAwaitedIsThere }
 {}
 
 /// A law: in each round an application writes what there is room for (RFC 9293, section 3.9.1).
@@ -354,6 +479,18 @@ pub fn what_was_written_is_acknowledged()
 pub fn writers_go_on()
     ensures octets { WritersGoOn octets }
     ensures values { WritersGoOn values }
+{}
+
+/// A law: in each round, as the turn of a path is over, an end that may ask for bytes of a stream that was closed as the round began knows
+/// where it ends; or the connection was stopped there.
+///
+/// Where such an end is open, may send a DSS, sends with mappings and has no record left, its DATA_FIN was sent, and is acknowledged, or that is
+/// what the end waits for (`acknowledged`; RFC 8684, section 3.3.3).
+pub fn ends_are_known()
+    ensures octets { EndsAreKnown octets }
+    ensures values { EndsAreKnown values }
+    ensures acknowledged { WhatIsClosedIsAcknowledged values }
+    ensures acknowledged_octets { WhatIsClosedIsAcknowledged octets }
 {}
 
 /// A law: where the turn of a path is over, neither end is left with a DATA_FIN or a FIN to send (RFC 8684, section 3.3.3).
@@ -482,6 +619,48 @@ pub fn each_ask_is_answered()
     ensures { EachAskIsAnswered }
 {}
 
+/// A law: what an end without a record asks is answered with a window up to the place that it waits for, where the peer's book takes so much,
+/// and no segment of the exchange is harmed (RFC 9293, section 3.8.6.1; RFC 8684, section 3.3.5).
+///
+/// By each turn the exchange goes on in its order, as that of each ask (`each_ask_is_answered`), and the tick stays by which the answer comes:
+/// the end's probe or DATA_FIN comes to the peer; an acknowledgement goes back whose window ends at the place or behind it, as the peer knows
+/// as it sends that its book takes 31 bytes more (`what_is_taken_is_offered`); and the end hears it, so that the edge of its send book is at
+/// the place or past it (`each_window_counts`). Where a turn is over such an exchange begins for any place, and once the clock is past its
+/// tick the side may send so far (`in_time`). What may come between is the same as there.
+pub fn each_probe_is_answered()
+    ensures { EachProbeIsAnswered }
+{}
+
+/// A law: a window that an end without a record waits for comes within a minute and the longest time that a segment is under way there and
+/// back, where the peer's book takes so much, unless the script harms a segment of the exchange (RFC 9293, section 3.8.6.1).
+///
+/// Where a turn is over, and the side may not send up to a place past the edge of its send book, the wait for it begins. By each turn it goes
+/// on, and its tick stays, or the edge rose. That is said of the path on which `each_probe_is_answered` says what may come between. In a
+/// round that ends past its tick none is left (`due`). A book takes the bytes behind those that were read, so that an application that has read
+/// all opens the window again.
+pub fn each_window_comes()
+    ensures { EachWindowComes }
+{}
+
+/// A law: in a mild connection over one path, a side that halts at the edge of its peer's window does so by each turn, or bytes are granted to
+/// its path, or its end hears that more is acknowledged (RFC 9293, section 3.8.6.1).
+///
+/// So it is where the end knows that the window is shut, and the side has bytes left that aren't acknowledged, none of which the path tried. The
+/// send book refuses no bytes then but for the window.
+pub fn who_halts_goes_on_halting()
+    ensures { WhoHaltsGoesOnHalting }
+{}
+
+/// A law: between open ends of a mild connection over one path a wait for a window goes on by each turn until something is counted, and it is
+/// never late.
+///
+/// Of what leads the exchange awry nothing is left, where the peer sent no more than the end's window has room for; the edge counts as it
+/// rises. Its side halts all the while (`who_halts_goes_on_halting`). As a round begins, such a wait begins where a side halts whose end has no
+/// record, and the peer's book takes 32 bytes past the edge of its side's send book.
+pub fn windows_are_awaited_always()
+    ensures { WindowsAreAwaitedAlways }
+{}
+
 /// A law: by whatever turns, an end keeps what isn't acknowledged yet, so that it can be sent again.
 ///
 /// Each record of its subflow (the SYN, a piece with its mapping, the FIN) stays, at its position and in its order, until SND.UNA reaches
@@ -507,6 +686,54 @@ pub fn each_segment_uses_a_line_or_comes()
 /// script has such lines for the path.
 pub fn harms_use_lines()
     ensures { HarmsUseLines }
+{}
+
+/// A law: a connection over octets finishes as the same one over segments as values does.
+///
+/// After the same turns these are lawful of the one and of the other, as many segments were harmed, the outcome is one, the path is whole,
+/// or an end of it dead, in both, and both are equally far (`as_far`). What is shown of a connection over segments as values by a mild
+/// script of one path so holds over octets, in as many rounds: that a whole path delivers both files, also where it is said without
+/// checksums alone (`unchecked`), that both are delivered or an end dies, and that few losses end none.
+pub fn octets_finish_as_values_do()
+    ensures as_far { OctetsAreAsFarAsValues }
+    ensures deliver { WholePathsDeliverAsOverValues }
+    ensures unchecked { UncheckedPathsDeliverAsOverValues }
+    ensures end { OnePathEndsAsOverValues }
+    ensures finish { FewLossesFinishAsOverValues }
+{}
+
+/// A law: what is said of mild connections over one path by how they begin holds of each mild script of one path, over octets, too.
+///
+/// Each such script begins mildly, with one path, and each side buffers 4,096 octets at least (`starts`). If between two moments at which path 0 is
+/// whole both files are delivered after rounds enough for all news that there can be and each segment that is harmed, then so it is by these
+/// scripts, without checksums and in fewer than 2^64 - 1 turns, with so many rounds. Both are delivered three rounds after all of both streams
+/// is with the peers (`there`).
+pub fn mild_scripts_deliver_as_they_begin()
+    ensures starts { MildScriptsBeginWithOnePath }
+    ensures there { WhatIsThereInTimeIsDelivered }
+    ensures values { DeliversAsItBegins values }
+    ensures octets { DeliversAsItBegins octets }
+{}
+
+/// A law: on each path a segment from either side is under way as long at most as it was planned, always: for the delay, for the time of a full
+/// queue, and for the greatest jitter. Over an only path these are one time there and back, from either side (`only`).
+pub fn ways_stay()
+    ensures values { WaysStay values }
+    ensures octets { WaysStay octets }
+    ensures only { OnlyWaysStay values }
+    ensures only_octets { OnlyWaysStay octets }
+{}
+
+/// A law: over one path both files are delivered, once the path is whole at the end of a round and is still whole after enough more rounds,
+/// however much is lost, late or repeated.
+///
+/// A path is whole where at both ends both SYNs are acknowledged, neither end is dead, and both may send a DSS (RFC 8684, section 3.1). It is
+/// said of mild scripts, by which no option is taken away, no payload is altered and no side closes at once; without checksums, and of fewer
+/// than 2^64 - 1 turns. Enough rounds are so many that all is acknowledged of which there can be news, one after the other, each within a
+/// greatest timeout, the longest time there and back, and three rounds; and as many more for each segment that is harmed.
+pub fn whole_paths_deliver()
+    ensures octets { UncheckedPathsDeliver octets long_patience }
+    ensures values { UncheckedPathsDeliver values long_patience }
 {}
 
 /// A law: by whatever turn, a copy that is under way on a path is under way still, or it was the path's next event and so arrives, or that
@@ -542,11 +769,44 @@ pub fn mild_links_change_nothing()
     ensures values { IsPromisedMildly values (λ start w. LinksAreMild start.lines w) }
 {}
 
-/// A law: there no end of path 0 is to be reset, always, but for reason 6 (RFC 8684, section 3.6), none is refused, and none hears that its
-/// peer closed at once. No mapping gives a position another place, no book refuses what came, and no check fails.
+/// A law: there no end of path 0 is to be reset for a reason, always (RFC 8684, section 3.6), none is refused, and none hears that its peer
+/// closed at once. A byte at RCV.NXT that is kept has its mapping, no mapping gives a position another place, no book refuses what came, and
+/// no check fails.
 pub fn mild_scripts_hardly_break()
     ensures values { IsPromisedMildly values (λ start w. HardlyBreaks w) }
     ensures octets { IsPromisedMildly octets (λ start w. HardlyBreaks w) }
+{}
+
+/// A law: over one path there no send book is aborted, or given to one path alone, no reassembly book is aborted, and no reader is told of an
+/// abort, always (RFC 8684, section 3.5). No application and no path asks for it.
+pub fn mild_paths_are_never_stopped()
+    ensures { MildPathsAreNeverStopped }
+{}
+
+/// A law: over one path there, whenever an end heard that its DATA_FIN is acknowledged, or sent its FIN and isn't dead: its side's stream is
+/// closed, and the peer's side received all of it and knows where it ends (RFC 8684, section 3.3.3).
+pub fn what_is_finished_is_there()
+    ensures { WhatIsFinishedIsThere }
+{}
+
+/// A law: over one path there, once all of both streams is with the peers, and they know where they end, both files are delivered after three
+/// more rounds, in whatever order the actors go, and stay so (`delivers`). Whatever is there stays there (`stays`).
+pub fn what_is_there_is_delivered()
+    ensures stays { WhatIsThereStays }
+    ensures delivers { WhatIsThereIsDelivered }
+{}
+
+/// A law: over one path there, where nothing is outstanding at an end, the connection goes on within two rounds, unless all of both streams
+/// is with the peers.
+///
+/// As a round begins all of both is there, or of a stream not all is (`begins`); steps leave that so (`steps`). As that round ends, or the next
+/// one, with both ends open: more is written or received, a stream was closed, or a side learned where its peer's ends, which counts
+/// (`each_gain_counts`); or something is outstanding at an end, and bytes aren't acknowledged, if that is a window; or all that was written as
+/// the first of the two rounds began is acknowledged, and in the second one more is written, or the stream is closed (`rounds`).
+pub fn who_waits_for_nothing_goes_on()
+    ensures begins { RoundsBeginToGoOn }
+    ensures steps { StepsLetItGoOn }
+    ensures rounds { RoundsGoOn }
 {}
 
 /// A law: there an exchange goes astray on path 0 by few things alone, where both ends are past the handshake, may send a DSS and aren't dead,
@@ -557,6 +817,117 @@ pub fn mild_scripts_hardly_break()
 pub fn open_ends_hardly_stray()
     ensures stray { OpenEndsHardlyStray }
     ensures between { WholePathsAreOpen }
+{}
+
+/// A law: there the exchange of an ask goes awry on path 0 by two things alone, where both ends are past the handshake, may send a DSS and
+/// aren't dead, before a turn and after it: a third copy whose next byte has no mapping, or a copy past the window.
+///
+/// No end owes a third MP_JOIN, nor has it MP_FASTCLOSE to be answered (RFC 8684, sections 3.2 and 3.5); an end that sent its DATA_FIN knows
+/// where its stream ends; and no book refuses a Data ACK.
+pub fn open_ends_hardly_go_awry()
+    ensures { OpenEndsHardlyGoAwry }
+{}
+
+/// A law: what such an end of the only path asks for, the Data ACK of its DATA_FIN or of a piece (`each_ask_is_answered`), goes on by each
+/// turn to be answered by the same tick, or something comes between that counts: more is heard or sent, the script harms a segment, or an end
+/// dies.
+///
+/// An open end without a record of which anything is outstanding waits for such an answer, or for the peer's window (`in_time`). Where a turn
+/// is over it asks for the answer, within a minute and the longest time there and back, and no round ends past that. That the peer wants the
+/// place where it sends is a premise; two things may lead it awry (`open_ends_hardly_go_awry`).
+pub fn open_asks_go_on()
+    ensures goes_on { OpenAsksGoOn }
+    ensures in_time { IsPromisedMildly values (λ start w. OpenAsksAreInTime w) }
+{}
+
+/// A law: such an ask goes on to be answered, or something comes between that counts, where the bytes are received that it asks for.
+///
+/// The peer's reassembly book has all bytes before the place, but for that of the DATA_FIN, which the peer heard, or what the end asks brings
+/// it. So the peer wants the place as it answers (`who_heard_the_end_knows_it`), and nothing but received bytes is a premise any longer.
+pub fn open_asks_are_answered()
+    ensures { OpenAsksAreAnswered }
+{}
+
+/// A law: a wait for such an answer goes on between open ends of a mild connection over one path until the end is answered, or something is
+/// counted, and it is never late.
+///
+/// So it is while the peer sent no more than the end's window has room for: nothing leads the exchange awry then, between two moments at which
+/// path 0 is open. As a round begins, such a wait begins for an end without a record, for a minute and the longest time there and back.
+pub fn answers_are_awaited_always()
+    ensures { AnswersAreAwaitedAlways }
+{}
+
+/// A law: an open end of path 0 of which something is outstanding as a round is over waits for a record to be acknowledged, for an answer, or
+/// for the peer's window to open; or something was counted in the round.
+///
+/// It waits for an answer where it has no record: for the Data ACK of a piece, which the peer's side received, or, with no piece left and the
+/// window not shut, for that of its DATA_FIN. All bytes before the DATA_FIN are received then, unless some were written in the round. So it is in a
+/// mild connection over one path.
+pub fn what_is_outstanding_is_awaited()
+    ensures { WhatIsOutstandingIsAwaited }
+{}
+
+/// A law: what holds up an exchange between open ends is counted, as news or as a segment of path 0 that is harmed.
+///
+/// An exchange is held up as in `each_record_is_acknowledged`: there is news at the end, or its RCV.NXT rises; a segment uses a line by which
+/// it is lost or late, or the link loses it at random or before a full queue. No end dies while both stay open.
+pub fn what_holds_up_counts()
+    ensures { WhatHoldsUpCounts }
+{}
+
+/// A law: where each turn is over, nothing is counted as the next round begins.
+pub fn no_round_counts()
+    ensures { NoRoundCounts }
+{}
+
+/// A law: a wait for a record of data goes on between open ends of a mild connection without checksums until the record is acknowledged, or
+/// something is counted, and it is never late.
+///
+/// Of what leads an exchange astray (`open_ends_hardly_stray`) nothing is left then. As a round begins such a wait begins, for a minute and the
+/// longest time there and back, where an end that sent no FIN has a record that isn't acknowledged: for that one, or where the peer filled the
+/// end's window and sent its FIN behind, for the peer's first one, which didn't come.
+pub fn records_are_awaited_always()
+    ensures { RecordsAreAwaitedAlways }
+{}
+
+/// A law: the FIN of an end stands behind all else that the end sends: SND.NXT lies right behind it, where that is to be acknowledged, and where
+/// the peer heard of it (RFC 9293, section 3.10.4).
+pub fn fins_are_last()
+    ensures { HoldsAnyway FinsAreLast }
+{}
+
+/// A law: what an open end of path 0 waits for is data, but for its FIN: its first record that isn't acknowledged is one of octets, and SND.UNA
+/// lies before its end. Both SYNs were acknowledged before (RFC 9293, section 3.5).
+pub fn what_is_left_is_data()
+    ensures { WhatIsLeftIsData }
+{}
+
+/// A law: no end of path 0 sends more than its peer's window of 2^20 positions has room for, but its FIN, in a mild connection: SND.NXT lies 2^20
+/// positions past SND.UNA at most, and one more once the FIN is sent (RFC 5681, section 2).
+pub fn no_end_overruns()
+    ensures { NoEndOverruns }
+{}
+
+/// A law: a window that is shut opens as soon as the peer says so: as a round is over, bytes are left and the peer's book takes 32 bytes past
+/// the window's edge, or something was counted in the round.
+///
+/// All before the edge is acknowledged then, so it was received, and by the round's end it is read. It is said of an end of path 0 that has
+/// no record and waits for no Data ACK, in a mild connection over one path with buffers of 32 bytes or more.
+pub fn shut_windows_have_room()
+    ensures { ShutWindowsHaveRoom }
+{}
+
+/// A law: a window that is shut as a round is over opens in time, or something is counted.
+///
+/// Such a wait begins with the next round, for a minute and the longest time there and back, and goes on by each turn
+/// (`windows_are_awaited_always`). So it is in a mild connection over one path with buffers of 32 bytes at least.
+pub fn shut_windows_open_in_time()
+    ensures { ShutWindowsOpenInTime }
+{}
+
+/// A law: who is told the end has all, in a mild connection: once both readers were, both files are delivered.
+pub fn who_is_told_has_all()
+    ensures { WhoIsToldHasAll }
 {}
 
 /// A law: what arrives as a copy is due, at its tick, at its side and with its number, carries what the copy does. So it is with the first

@@ -1,0 +1,148 @@
+-- Where both ends of path 0 are open, nearly nothing leads the exchange of an ask of a mild connection awry.
+use Rattle.std.proofs.Common.{◌≡◌, refl, sym, subst, ap, ◌∙◌, inl, inr, ℕ, arith, Bool, true, false, true≢false, Option, Some, None, is_some, IfSome, List, [], ◌∷◌, ◌++◌}
+use Rattle.std.specs.List.{list_any, slice_get}
+use Rattle.std.proofs.lemmas.Bool.{and_parts, both_ways}
+use Rattle.sides.specs.declared.side.Side.{Side}
+use Rattle.sides.specs.declared.side.Side.TheVariants.{A, B}
+use Rattle.sides.specs.Side.{peer}
+use Rattle.path_agenda.specs.Agenda.{breaks, resets}
+use Rattle.actor_desk.specs.declared.ask.Note.{Note}
+use Rattle.path_core.specs.MpJoin.{is_joined}
+use Rattle.path_core.specs.State.{PathState, end_at}
+use Rattle.path_core.specs.Values.{Carried, values}
+use Rattle.world_laws.specs.declared.member.Member.TheVariants.{App, Path}
+use Rattle.world_laws.specs.AbortCause.{note_asks_fast_close}
+use Rattle.world_laws.specs.Actors.{Actor, ActorCrew}
+use Rattle.world_laws.specs.Members.{HoldsOfKind}
+use Rattle.world_laws.specs.Openings.{Start, opened_world}
+use Rattle.world_laws.specs.Outcomes.{notes_of, notes_or, was_told}
+use Rattle.world_laws.specs.Promises.{NothingWasRefused, tells_refusal}
+use Rattle.world_laws.specs.Worlds.{WorldState, Turn, after_turn, world_run}
+use Rattle.world_laws.proofs.Keys.ByJournals.{Causes, Knows, run_causes, seat_of}
+use Rattle.world_laws.proofs.Keys.Held.{end_is}
+use Rattle.world_laws.proofs.Promises.Made.{nothing_refused}
+use Rattle.world_laws.proofs.Weaving.WholeRounds.{run_append}
+use Rattle.world_laws.proofs.Worlds.CastLifting.{each_actor}
+use Rattle.world_laws.proofs.Worlds.Casts.{Cast, world_of}
+use Rattle.whole_paths.specs.Brought.{IsToReset}
+use Rattle.whole_paths.specs.Brought.IsToReset.{broken, is_reset, stopped}
+use Rattle.whole_paths.specs.DataAcksExchanged.{IsAwry}
+use Rattle.whole_paths.specs.DataAcksExchanged.{IsAwry as awry}
+use Rattle.whole_paths.specs.Mild.{BreaksForMissing, EndsGoByMappings, HardlyBreaks, IsHardlyBroken, IsMildStart, MappingIsKept, is_harsh}
+use Rattle.whole_paths.specs.OpenAsks.{HardlyGoesAwry, IsHardlyAwry, OpenEndsHardlyGoAwry}
+use Rattle.whole_paths.specs.OpenAsks.{IsHardlyAwry as hardly}
+use Rattle.whole_paths.specs.Owed.{IsToRefuse}
+use Rattle.whole_paths.specs.Owed.{IsToRefuse as refuse}
+use Rattle.whole_paths.specs.Straying.{IsOpen}
+use Rattle.whole_paths.proofs.Breaking.{hardly_breaks, none_noted}
+use Rattle.whole_paths.proofs.Clearing.{Clears, MemberClears, each_clears, never_refuses}
+use Rattle.whole_paths.proofs.Endings.{KnowsItsEnd}
+use Rattle.whole_paths.proofs.Mild.{mapping_is_kept}
+use Rattle.whole_paths.proofs.OpenPieces.{MemberKnows, each_knows}
+
+-- ---- no end owes a third MP_JOIN on the path that opens the connection, nor carries a fast close
+
+pub record AsksForItself (joined owes : Bool) (carrier : Option ℕ) : Type 0 where
+  pub third : owes ≡ true → joined ≡ true
+  pub carries : is_some carrier ≡ true → ⊥
+
+abbrev pub EndsAskForThemselves : PathState Carried → Type 0
+EndsAskForThemselves p = (s : Side) → AsksForItself (is_joined p.profile) (end_at s p).modes.owes_third (end_at s p).notices.carrier
+
+abbrev OfPaths : (PathState Carried → Type 0) → Actor Carried → Type 0
+OfPaths P = HoldsOfKind (λ app. Unit {0}) P
+
+no_carrier : (P : Type 0) (o : Option ℕ) → IfSome o (λ key. P) → (P → ⊥) → is_some o ≡ true → ⊥
+no_carrier P None h never is = true≢false (sym is)
+no_carrier P (Some key) h never is = never h
+
+cast_notes : (s : Side) (t : Cast Carried) → notes_of s (world_of t).crew ≡ (seat_of s t).list
+cast_notes = elim [ A ↦ λ t. refl | B ↦ λ t. refl ]
+
+pub ends_ask_for_themselves : (start : Start) (turns : List Turn) → IsMildStart start → (actor : ℕ) (c : ActorCrew Carried) → slice_get (world_run values turns (opened_world start)).crew actor ≡ Some c
+    → OfPaths EndsAskForThemselves c.member
+ends_ask_for_themselves start turns mild =
+    let run = run_causes start turns in
+    subst (λ (v : WorldState Carried). ((s : Side) → list_any (note_asks_fast_close s) (notes_of s v.crew) ≡ false) → (actor : ℕ) (c : ActorCrew Carried) → slice_get v.crew actor ≡ Some c → OfPaths EndsAskForThemselves c.member)
+    (sym run.is) (of_cast run.cast run.holds) (none_noted start turns mild)
+  where
+    one : (t : Cast Carried) → ((s : Side) → list_any (note_asks_fast_close s) (notes_of s (world_of t).crew) ≡ false) → (p : PathState Carried) → Knows start t p → EndsAskForThemselves p
+    one t none p k s = let e = end_is _ false _ _ s p k.is in record {
+      third = e.modes.joins;
+      carries = no_carrier _ (end_at s p).notices.carrier e.carries (λ is. both_ways (list_any (note_asks_fast_close s) (seat_of s t).list) (ap (list_any (note_asks_fast_close s)) (sym (cast_notes s t)) ∙ none s) is);
+    }
+
+    of_cast : (t : Cast Carried) → Causes start t → ((s : Side) → list_any (note_asks_fast_close s) (notes_of s (world_of t).crew) ≡ false)
+        → (actor : ℕ) (c : ActorCrew Carried) → slice_get (world_of t).crew actor ≡ Some c → OfPaths EndsAskForThemselves c.member
+    of_cast t h none = each_actor (λ actor c. OfPaths EndsAskForThemselves c.member) t tt tt (λ number x there. one t none x.path (h.paths.each number x there))
+
+-- ---- a turn
+
+-- what is known of an open path, and of what it becomes
+record IsKnown (steps : List Note) (p q : PathState Carried) : Type 0 where
+  open_p : IsOpen p
+  mapped_p : EndsGoByMappings p
+  mapped_q : EndsGoByMappings q
+  breaks_p : BreaksForMissing p
+  breaks_q : BreaksForMissing q
+  clears : (t : Side) → Clears t p.agenda (end_at t p)
+  alone : EndsAskForThemselves p
+  ends : (s : Side) → KnowsItsEnd (end_at s p)
+  fine : was_told tells_refusal steps ≡ false
+
+-- an end is reset for reason 6 alone
+pub resets_at : (s : Side) (p q : PathState Carried) → BreaksForMissing q → (t : Side) → IsToReset t q.agenda → IsHardlyAwry s p q
+resets_at s p q breaks_q t (broken reason is) = hardly.missing t (inl (is ∙ ap (breaks t) (breaks_q.broken t reason is)))
+resets_at s p q breaks_q t (is_reset reason is) = hardly.missing t (inr (is ∙ ap (resets t) (breaks_q.is_reset t reason is)))
+resets_at s p q breaks_q t (stopped is) = absurd (breaks_q.stopped t is)
+
+module _ (steps : List Note) (p q : PathState Carried) (k : IsKnown steps p q) (s : Side) where
+  resets_so : IsToReset s q.agenda → IsHardlyAwry s p q
+  resets_so is = resets_at s p q k.breaks_q s is
+
+  refused_so : IsToRefuse (peer s) p.agenda → IsHardlyAwry s p q
+  refused_so (refuse.refuses others is) = absurd (true≢false (sym (ap (λ ds. list_any is_harsh ds) is) ∙ k.breaks_p.duties))
+  refused_so (refuse.answers others is) = absurd (never_refuses p (peer s) k.clears (k.open_p.living (peer s)) others is)
+
+  goes_awry_so : IsAwry s steps p q → IsHardlyAwry s p q
+  goes_awry_so (awry.reset is) = resets_so is
+  goes_awry_so (awry.resets is) = refused_so is
+  goes_awry_so (awry.unopened t low) = absurd (let past = k.open_p.past t in omega (arith, past, low))
+  goes_awry_so (awry.unclear t is) = absurd (both_ways (end_at t p).modes.clear is (k.open_p.clear t))
+  goes_awry_so (awry.plain t (inl is)) = absurd (both_ways (end_at t p).modes.identity (k.mapped_p t).identity is)
+  goes_awry_so (awry.plain t (inr is)) = absurd (both_ways (end_at t q).modes.identity (k.mapped_q t).identity is)
+  goes_awry_so (awry.infinite is) = absurd (both_ways (is_some (end_at s q).modes.own_infinite) (ap is_some (k.mapped_q s).own) is)
+  goes_awry_so (awry.third is) = absurd (both_ways (is_joined p.profile) k.open_p.first ((k.alone s).third is))
+  goes_awry_so (awry.close is) = absurd ((k.alone s).carries ((k.ends s).closed is))
+  goes_awry_so (awry.endless owed none) =
+      let sent = (and_parts (end_at s p).sending.fin_sent _ (and_parts _ _ owed).1).0 in absurd (both_ways (is_some (end_at s p).sending.known_end) (ap is_some none) ((k.ends s).ended sent))
+  goes_awry_so (awry.past_window past) = hardly.past_window past
+  goes_awry_so (awry.refused is) = absurd (both_ways (was_told tells_refusal steps) k.fine is)
+
+member_goes : (steps : List Note) (m n : Actor Carried) → OfPaths EndsGoByMappings m → OfPaths EndsGoByMappings n → OfPaths IsHardlyBroken m → OfPaths IsHardlyBroken n → MemberClears m → OfPaths EndsAskForThemselves m → MemberKnows m
+    → was_told tells_refusal steps ≡ false → HardlyGoesAwry steps m n
+member_goes steps (Path p) (Path q) mapped_p mapped_q breaks_p breaks_q clears alone ends fine = λ open_p open_q s is. goes_awry_so steps p q (record {
+  open_p = open_p;
+  mapped_p = mapped_p;
+  mapped_q = mapped_q;
+  breaks_p = breaks_p open_p.first;
+  breaks_q = breaks_q open_q.first;
+  clears = clears open_p.first;
+  alone = alone;
+  ends = ends.knows;
+  fine = fine;
+}) s is
+member_goes steps (Path p) (App b) mapped_p mapped_q breaks_p breaks_q clears alone ends fine = tt
+member_goes steps (App a) n mapped_p mapped_q breaks_p breaks_q clears alone ends fine = tt
+
+pub open_ends_hardly_go_awry : OpenEndsHardlyGoAwry
+open_ends_hardly_go_awry start turns turn mild actor c d was now =
+    let w : WorldState Carried = world_run values turns (opened_world start) in
+    let v : WorldState Carried = after_turn values turn w in
+    let same : world_run values (turns ++ turn ∷ []) (opened_world start) ≡ v = run_append values turns (turn ∷ []) (opened_world start) in
+    let mapped : MappingIsKept v = subst MappingIsKept same (mapping_is_kept start (turns ++ turn ∷ []) mild) in
+    let breaks_q : HardlyBreaks v = subst HardlyBreaks same (hardly_breaks start (turns ++ turn ∷ []) mild) in
+    let fine : NothingWasRefused v = subst NothingWasRefused same (nothing_refused start (turns ++ turn ∷ []) mild.plain) in
+    member_goes d.list c.member d.member ((mapping_is_kept start turns mild).each actor c was) (mapped.each actor d now) ((hardly_breaks start turns mild).each actor c was) (breaks_q.each actor d now)
+    ((each_clears values start turns).each actor c was) (ends_ask_for_themselves start turns mild actor c was) (each_knows start turns mild.plain.size actor c was)
+    (ap (λ o. was_told tells_refusal (notes_or o)) (sym now) ∙ fine actor)

@@ -1,0 +1,235 @@
+-- A wait for a window goes on by each turn between open ends, or something is counted.
+use Rattle.std.proofs.Common.{◌≡◌, sym, subst, ap, ◌∙◌, ◌⊎◌, ⊎_elim, inl, inr, ℕ, ◌+◌, ◌<◌, ◌≤◌, arith, true, false, Some, List, [], ◌∷◌, ◌++◌}
+use Rattle.std.specs.List.{slice_get}
+use Rattle.std.proofs.lemmas.Bool.{cases_lt}
+use Rattle.sides.specs.declared.side.Side.{Side}
+use Rattle.sides.specs.Side.{peer}
+use Rattle.subflow_send.specs.Records.{Record}
+use Rattle.subflow_tcp.specs.States.{is_closed_to_segments, is_dead}
+use Rattle.actor_desk.specs.Books.{books_in}
+use Rattle.actor_desk.specs.Desk.{send_of}
+use Rattle.actor_desk.specs.declared.ask.Note.{Note}
+use Rattle.path_core.specs.State.{PathState, end_at}
+use Rattle.path_core.specs.Values.{Carried, values}
+use Rattle.world_laws.specs.declared.member.Member.TheVariants.{Path}
+use Rattle.world_laws.specs.Actors.{ActorCrew, is_over}
+use Rattle.world_laws.specs.Openings.{PathPlan, Start, opened_world}
+use Rattle.world_laws.specs.RoundDone.{EndsAt, reached}
+use Rattle.world_laws.specs.Worlds.{WorldState, Turn, after_turn}
+use Rattle.world_laws.proofs.Rounds.DoneByTheEnd.{rounds_end_on_time}
+use Rattle.world_laws.proofs.Rounds.Lifting.{all_over_each}
+use Rattle.world_laws.proofs.Weaving.WholeRounds.{run_append}
+use Rattle.whole_paths.specs.Awaited.{AwaitedGoesOn, AwaitingBegins, AwaitingIsDue, IsAwaited}
+use Rattle.whole_paths.specs.Between.{PathsBetween}
+use Rattle.whole_paths.specs.Courses.{counted, round_end}
+use Rattle.whole_paths.specs.Finish.{IsPathAt}
+use Rattle.whole_paths.specs.Flights.{IsFirst}
+use Rattle.whole_paths.specs.Halted.{HaltGoesOn, HaltsGoOn, IsHalted}
+use Rattle.whole_paths.specs.Halted.{HaltGoesOn as halts}
+use Rattle.whole_paths.specs.Harms.{longest_way}
+use Rattle.whole_paths.specs.Mild.{IsMildStart}
+use Rattle.whole_paths.specs.News.{Counts as counts}
+use Rattle.whole_paths.specs.News.{Gains as gains}
+use Rattle.whole_paths.specs.OpenAsks.{HardlyGoesAwry, IsHardlyAwry}
+use Rattle.whole_paths.specs.OpenAsks.{IsHardlyAwry as hardly}
+use Rattle.whole_paths.specs.OpenCourses.{HoldUpsCount, IsOpenAfter, IsOpenNow}
+use Rattle.whole_paths.specs.Probes.{AskTurns, TellsWindow}
+use Rattle.whole_paths.specs.Probes.{AskTurns as goes}
+use Rattle.whole_paths.specs.Reasons.{IsOutstanding as outstanding}
+use Rattle.whole_paths.specs.RecordWaits.{Opens, Steps}
+use Rattle.whole_paths.specs.Timers.{TimersAreNear}
+use Rattle.whole_paths.specs.WindowsHeard.{IsOpenTo}
+use Rattle.whole_paths.specs.WindowWaits.{AwaitsAWindow, HasAShutWindow, IsWindowAwaited, WindowsAreAwaitedAlways}
+use Rattle.whole_paths.proofs.Awaited.{each_window_comes}
+use Rattle.whole_paths.proofs.Counted.{by_news, what_holds_up_counts}
+use Rattle.whole_paths.proofs.Exchanges.{OfPaths, Shown, each_shown}
+use Rattle.whole_paths.proofs.Halting.{who_halts_goes_on_halting}
+use Rattle.whole_paths.proofs.InTime.{nil_so}
+use Rattle.whole_paths.proofs.News.{each_gain_counts}
+use Rattle.whole_paths.proofs.OpenAsks.{open_ends_hardly_go_awry}
+use Rattle.whole_paths.proofs.OpenAsksGoOn.{more_sent}
+use Rattle.whole_paths.proofs.Probes.{later_so}
+use Rattle.whole_paths.proofs.Reached.{EndsAreReached, each_is_reached}
+use Rattle.whole_paths.proofs.RecordWaits.{counts_so, edge_up, here, living_open, path_is, una_up, with_both}
+use Rattle.whole_paths.proofs.RoundBegins.{no_round_counts}
+use Rattle.whole_paths.proofs.Timing.{timers_run_out}
+
+module _ (start : Start) (plan : PathPlan) (one : start.paths ≡ plan ∷ []) (mild : IsMildStart start) (turns : List Turn) (turn : Turn) where
+  abbrev w : WorldState Carried
+  w = reached values start turns
+
+  abbrev v : WorldState Carried
+  v = after_turn values turn w
+
+  abbrev Rises : Type 0
+  Rises = counted values start turns < counted values start (turns ++ turn ∷ [])
+
+  last : reached values start (turns ++ turn ∷ []) ≡ v
+  last = run_append values turns (turn ∷ []) (opened_world start)
+
+  -- between two moments at which path 0 is open
+  module _ (before : IsOpenNow w) (after : IsOpenNow v) where
+    abbrev p : PathState Carried
+    p = before.path
+
+    abbrev q : PathState Carried
+    q = after.path
+
+    -- what holds of each path there
+    at_p : (P : PathState Carried → Type 0) → ((actor : ℕ) (c : ActorCrew Carried) → slice_get w.crew actor ≡ Some c → OfPaths P c.member) → P p
+    at_p P each = subst (OfPaths P) before.here.is (each 2 before.here.crew before.here.there)
+
+    at_q : (P : PathState Carried → Type 0) → ((actor : ℕ) (c : ActorCrew Carried) → slice_get (reached values start (turns ++ turn ∷ [])).crew actor ≡ Some c → OfPaths P c.member) → P q
+    at_q P each = subst (OfPaths P) after.here.is (each 2 after.here.crew (subst (λ (x : WorldState Carried). slice_get x.crew 2 ≡ Some after.here.crew) (sym last) after.here.there))
+
+    -- where there was no record and there is one, that counts
+    sends_counts : (s : Side) (r : Record) → (end_at s p).tcp.send.records ≡ [] → IsFirst r (end_at s q) → Rises
+    sends_counts s r none first = counts_so start mild turns turn before after (counts.sent_more s (more_sent s p q
+        (at_p EndsAreReached (each_is_reached values start turns).each s) (at_q EndsAreReached (each_is_reached values start (turns ++ turn ∷ [])).each s)
+        (at_q Shown (each_shown start (turns ++ turn ∷ []) mild.plain.size mild.fit)) (una_up start mild turns turn before after s) none r first))
+
+    module _ (x : ℕ) (h : IsWindowAwaited (books_in w.books) x p) where
+      abbrev s : Side
+      s = h.side
+
+      abbrev Next : Type 0
+      Next = Rises ⊎ IsWindowAwaited (books_in v.books) x q
+
+      -- the peer sends no more, or that counts
+      if_room : ((end_at (peer s) q).tcp.send.nxt ≤ (end_at s q).tcp.recv.edge + 1048576 → Next) → Next
+      if_room still = ⊎_elim (λ more. inl (counts_so start mild turns turn before after (counts.sent_more (peer s) more)))
+          (λ few. still (let room = h.room in let up = edge_up start mild turns turn before after s in omega (arith, few, room, up)))
+          (cases_lt (end_at (peer s) p).tcp.send.nxt (end_at (peer s) q).tcp.send.nxt)
+
+      strays : IsHardlyAwry s p q → Next
+      strays (hardly.missing t (inl is)) = absurd (after.unbroken t is)
+      strays (hardly.missing t (inr is)) = absurd (after.unreset t is)
+      strays (hardly.past_window past) = absurd (let room = h.room in omega (arith, past, room))
+
+      by_turn : IsHalted (books_in v.books) s q → (steps : List Note) → HardlyGoesAwry steps (Path p) (Path q)
+          → AskTurns (IsAwaited (books_in v.books) s h.place x q ⊎ ((send_of s (books_in w.books)).edge < (send_of s (books_in v.books)).edge)) s x steps p q → Next
+      by_turn halted steps awry (goes.on (inl awaited)) = if_room (λ room. inr (record { side = s; place = h.place; room = room; halted = halted; awaited = awaited }))
+      by_turn halted steps awry (goes.on (inr rose)) = inl (by_news start turns turn (each_gain_counts values start turns (turn ∷ []) s (gains.opens rose)))
+      by_turn halted steps awry (goes.record_waits r arrival low none first way) = inl (sends_counts s r none first)
+      by_turn halted steps awry (goes.done none) = absurd (none (outstanding.shut halted.shut))
+      by_turn halted steps awry (goes.held_up held) = inl (here start mild turns turn before after (λ m n. HoldUpsCount Rises m n)
+          (what_holds_up_counts start turns turn before.here.crew after.here.crew before.here.there after.here.there) before.is_open after.is_open before.few s held)
+      by_turn halted steps awry (goes.awry is) = strays (awry before.is_open after.is_open s is)
+
+      -- the side halts still, or that counts
+      by_halt : (IsHalted (books_in v.books) s q → Next) → Next
+      by_halt still = by ((with_both start mild turns turn before after (λ m n. HaltsGoOn (books_in w.books) (books_in v.books) m n)
+          (who_halts_goes_on_halting start plan turns turn one mild before.here.crew before.here.there)) s h.halted)
+        where
+          by : HaltGoesOn (books_in v.books) s p q → Next
+          by (halts.on halted) = still halted
+          by (halts.sends more) = inl (counts_so start mild turns turn before after (counts.sent_more s more))
+          by (halts.news is) = inl (counts_so start mild turns turn before after (counts.at_end s is))
+
+      goes_on : Next
+      goes_on =
+          let found = each_window_comes.goes_on start turns mild.plain.size mild.fit turn 2 before.here.crew before.here.there in
+          let both = with_both start mild turns turn before after (λ m n. (steps : List Note) × PathsBetween AwaitedGoesOn w.books v.books steps m n × HardlyGoesAwry steps m n)
+          (found.0, found.1, (found.0.list, found.2, open_ends_hardly_go_awry start turns turn mild 2 before.here.crew found.0 before.here.there found.1)) in
+          by_halt (λ halted. by_turn halted both.0 both.2 (both.1 before.faithful s h.place x before.few h.awaited))
+
+-- ---- waits
+
+module _ (start : Start) (plan : PathPlan) (most : ℕ) (one : start.paths ≡ plan ∷ []) (mild : IsMildStart start) where
+  -- at the same path
+  awaited_at : (x : ℕ) (u : WorldState Carried) (a b : PathState Carried) → IsPathAt 0 u a → IsPathAt 0 u b → IsWindowAwaited (books_in u.books) x a → IsWindowAwaited (books_in u.books) x b
+  awaited_at x u a b at there h = subst (IsWindowAwaited (books_in u.books) x) (path_is u a b at there) h
+
+  abbrev Goes : ℕ → List Turn → List Turn → Type 0
+  Goes x v u = (counted values start v < counted values start u) ⊎ AwaitsAWindow start x u
+
+  turn_on : (x : ℕ) (v : List Turn) (turn : Turn) → IsOpenAfter start v → IsOpenAfter start (v ++ turn ∷ []) → AwaitsAWindow start x v → Goes x v (v ++ turn ∷ [])
+  turn_on x v turn before after h = ⊎_elim
+      (λ rises. inl rises)
+      (λ waits. inr (record { path = then_open.path; here = there; waits = subst (λ (y : WorldState Carried). IsWindowAwaited (books_in y.books) x then_open.path) (sym is) waits }))
+      (goes_on start plan one mild v turn before then_open x now)
+    where
+      is : reached values start (v ++ turn ∷ []) ≡ after_turn values turn (reached values start v)
+      is = run_append values v (turn ∷ []) (opened_world start)
+
+      then_open : IsOpenNow (after_turn values turn (reached values start v))
+      then_open = subst IsOpenNow is after
+
+      there : IsPathAt 0 (reached values start (v ++ turn ∷ [])) then_open.path
+      there = subst (λ (y : WorldState Carried). IsPathAt 0 y then_open.path) (sym is) then_open.here
+
+      now : IsWindowAwaited (books_in (reached values start v).books) x before.path
+      now = awaited_at x (reached values start v) h.path before.path h.here before.here h.waits
+
+  steps_on : (x : ℕ) (v u : List Turn) → Steps start most v u → AwaitsAWindow start x v → Goes x v u
+  steps_on x v u step h = subst (λ t. Goes x v t) (sym step.is) (turn_on x v (Turn.Step step.actor) step.before (subst (IsOpenAfter start) step.is step.after) h)
+
+  opens_on : (x : ℕ) (v u : List Turn) → Opens start most v u → AwaitsAWindow start x v → Goes x v u
+  opens_on x v u step h = subst (λ t. Goes x v t) (sym step.is) (turn_on x v Turn.Round step.before (subst (IsOpenAfter start) step.is step.after) h)
+
+  -- ---- as a round begins
+
+  module _ (v u : List Turn) (step : Opens start most v u) where
+    abbrev ended : WorldState Carried
+    ended = reached values start v
+
+    -- what is known of path 0 as the round ends
+    module _ (p : PathState Carried) (at : IsPathAt 0 ended p) where
+      same : step.before.path ≡ p
+      same = path_is ended step.before.path p step.before.here at
+
+      until : p.until ≡ round_end values start v
+      until = subst (EndsAt (round_end values start v)) at.is ((rounds_end_on_time values start v).each 2 at.crew at.there)
+
+      silent : p.agenda ≡ []
+      silent = nil_so p.agenda (subst (λ m. is_over m ≡ true) at.is (all_over_each ended.crew 2 at.crew step.over at.there))
+
+      living : (s : Side) → is_dead (end_at s p).tcp.state ≡ false
+      living = subst (λ (x : PathState Carried). (s : Side) → is_dead (end_at s x).tcp.state ≡ false) same step.before.is_open.living
+
+      unclosed : (s : Side) → is_closed_to_segments (end_at s p).tcp.state ≡ false
+      unclosed = subst (λ (x : PathState Carried). (s : Side) → is_closed_to_segments (end_at s x).tcp.state ≡ false) same
+          (λ s. living_open (end_at s step.before.path).tcp.state (step.before.is_open.past s) (step.before.is_open.living s))
+
+    none_late : (x : ℕ) → AwaitsAWindow start x v → x < round_end values start v → ⊥
+    none_late x h late =
+        let due : AwaitingIsDue (books_in ended.books) h.path = subst (OfPaths (AwaitingIsDue (books_in ended.books))) h.here.is ((each_window_comes.in_time start v).due 2 h.here.crew h.here.there) in
+        let ends = until h.path h.here in
+        due (silent h.path h.here) h.waits.side (living h.path h.here (peer h.waits.side)) h.waits.place x (omega (arith, late, ends)) h.waits.awaited
+
+    wait_begins : (way : ℕ) → HasAShutWindow start way v → AwaitsAWindow start (round_end values start v + (60000 + way)) u
+    wait_begins way h = ⊎_elim
+        (λ rises. absurd (let still = ap (counted values start) step.is ∙ no_round_counts start v step.over in omega (arith, rises, still)))
+        (λ waits. waits)
+        (opens_on (round_end values start v + (60000 + way)) v u step (record { path = h.path; here = h.here; waits = record { side = h.side; place = place; room = h.room; halted = h.halted; awaited = awaited } }))
+      where
+        place : ℕ
+        place = (send_of h.side (books_in ended.books)).edge + 1
+
+        first : ℕ
+        first = h.path.clock + 60000 + longest_way h.side h.path.link + longest_way (peer h.side) h.path.link
+
+        near : TimersAreNear h.path
+        near = subst (OfPaths TimersAreNear) h.here.is ((timers_run_out values start v).each 2 h.here.crew h.here.there)
+
+        begun : AwaitingBegins (books_in ended.books) h.path
+        begun = subst (OfPaths (AwaitingBegins (books_in ended.books))) h.here.is ((each_window_comes.in_time start v).begin 2 h.here.crew h.here.there)
+
+        at_first : IsAwaited (books_in ended.books) h.side place first h.path
+        at_first = begun (silent h.path h.here) h.side (unclosed h.path h.here h.side) h.no_record (outstanding.shut h.halted.shut) place (omega arith) (let takes = h.takes in omega (arith, takes))
+
+        awaited : IsAwaited (books_in ended.books) h.side place (round_end values start v + (60000 + way)) h.path
+        awaited = record {
+          below = at_first.below;
+          probed = later_so (TellsWindow place) (IsOpenTo (books_in ended.books) h.side place) h.side first (round_end values start v + (60000 + way)) h.path
+              (let clock = near.clock in let low = h.near in let ends = until h.path h.here in omega (arith, clock, low, ends)) at_first.probed;
+          offered = at_first.offered;
+        }
+
+pub windows_are_awaited_always : WindowsAreAwaitedAlways
+windows_are_awaited_always start plan most one mild = record {
+  begins = λ way v u step h. wait_begins start plan most one mild v u step way h;
+  on = λ x v u step h. steps_on start plan most one mild x v u step h;
+  next = λ x v u step h. opens_on start plan most one mild x v u step h;
+  due = λ x v u step h late. none_late start plan most one mild v u step x h late;
+}

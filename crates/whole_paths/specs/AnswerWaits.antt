@@ -1,0 +1,59 @@
+-- A wait for the answer of an ask: until its exchange is over by this tick (RFC 8684, section 3.3.2).
+use Rattle.std.specs.Prelude.{ℕ, ◌+◌, ◌≡◌, ◌<◌, ◌≤◌, ◌⊎◌, Bool, List, [], ◌∷◌}
+use Rattle.sides.specs.declared.side.Side.{Side}
+use Rattle.sides.specs.Side.{peer}
+use Rattle.reassembly_book.specs.State.{received}
+use Rattle.actor_desk.specs.Books.{books_in}
+use Rattle.actor_desk.specs.Desk.{reassembly_of}
+use Rattle.path_core.specs.State.{PathState, end_at}
+use Rattle.path_core.specs.Values.{Carried, values}
+use Rattle.world_laws.specs.Openings.{PathPlan, Start}
+use Rattle.world_laws.specs.RoundDone.{reached}
+use Rattle.world_laws.specs.Worlds.{Turn}
+use Rattle.whole_paths.specs.AskStages.{IsAnswerAwaited}
+use Rattle.whole_paths.specs.Courses.{counted, round_end}
+use Rattle.whole_paths.specs.Finish.{IsPathAt}
+use Rattle.whole_paths.specs.Harms.{longest_way}
+use Rattle.whole_paths.specs.Mild.{IsMildStart}
+use Rattle.whole_paths.specs.News.{one_if}
+use Rattle.whole_paths.specs.OpenAsks.{IsUnansweredAt}
+use Rattle.whole_paths.specs.RecordWaits.{Opens, Steps}
+
+module _ (start : Start) where
+  -- After these turns an end of path 0 without a record waits for an answer, and its peer sent no more than the end's window has room for.
+  pub record AwaitsAnAnswer (x : ℕ) (turns : List Turn) : Type 0 where
+    pub path : PathState Carried
+    pub here : IsPathAt 0 (reached values start turns) path
+    pub side : Side
+    pub place : ℕ
+    pub fin : Bool
+    pub by : ℕ
+    pub soon : by ≤ x
+    pub room : (end_at (peer side) path).tcp.send.nxt ≤ (end_at side path).tcp.recv.edge + 1048576
+    pub waits : IsAnswerAwaited (books_in (reached values start turns).books) side place fin by path
+
+  -- Such an end is to be answered by a place all before which its peer's book has, but for the byte of the DATA_FIN, and over the path a segment
+  -- goes for so long at most, there and back.
+  pub record HasAnAsk (way : ℕ) (turns : List Turn) : Type 0 where
+    pub path : PathState Carried
+    pub here : IsPathAt 0 (reached values start turns) path
+    pub side : Side
+    pub place : ℕ
+    pub fin : Bool
+    pub none : (end_at side path).tcp.send.records ≡ []
+    pub unanswered : IsUnansweredAt (books_in (reached values start turns).books) side place fin path
+    pub has : place ≤ received (reassembly_of (peer side) (books_in (reached values start turns).books)) + one_if fin
+    pub room : (end_at (peer side) path).tcp.send.nxt ≤ (end_at side path).tcp.recv.edge + 1048576
+    pub near : longest_way side path.link + longest_way (peer side) path.link ≤ way
+
+  -- As a round begins a wait begins, for a minute and as long as a segment is under way there and back; it goes on by each step, and as the next
+  -- round begins, or something is counted; and no round begins past it.
+  pub record AnswersAreAwaited (most : ℕ) : Type 0 where
+    pub begins : (way : ℕ) (v u : List Turn) → Opens start most v u → HasAnAsk way v → AwaitsAnAnswer (round_end values start v + (60000 + way)) u
+    pub on : (x : ℕ) (v u : List Turn) → Steps start most v u → AwaitsAnAnswer x v → (counted values start v < counted values start u) ⊎ AwaitsAnAnswer x u
+    pub next : (x : ℕ) (v u : List Turn) → Opens start most v u → AwaitsAnAnswer x v → (counted values start v < counted values start u) ⊎ AwaitsAnAnswer x u
+    pub due : (x : ℕ) (v u : List Turn) → Opens start most v u → AwaitsAnAnswer x v → x < round_end values start v → counted values start v < counted values start u
+
+-- in each mild connection over one path
+abbrev pub AnswersAreAwaitedAlways : Type 0
+AnswersAreAwaitedAlways = (start : Start) (plan : PathPlan) (most : ℕ) → start.paths ≡ plan ∷ [] → IsMildStart start → AnswersAreAwaited start most

@@ -1,0 +1,83 @@
+-- Connections over one path by mild scripts: how they begin, how long a segment is under way, and what is said of them by how they begin.
+use Rattle.std.specs.Prelude.{ℕ, suc, ◌+◌, ◌-◌, ◌*◌, ◌/◌, ◌^◌, ◌≡◌, ◌<◌, ◌≤◌, false, Some, List, [], ◌∷◌, ◌++◌, length, slice_get}
+use Rattle.sides.specs.declared.side.Side.{Side}
+use Rattle.sides.specs.declared.side.Side.TheVariants.{A, B}
+use Rattle.sides.specs.Side.{peer}
+use Rattle.link_script.specs.declared.script.PathLine.{PathLine}
+use Rattle.link_script.specs.declared.script.Script.{Script}
+use Rattle.link_script.specs.declared.script.ScriptLine.{ScriptLine}
+use Rattle.link_model.specs.Passage.{shape_of}
+use Rattle.link_model.specs.Steps.{lines_of}
+use Rattle.path_core.specs.Codec.{Codec}
+use Rattle.path_core.specs.State.{PathState}
+use Rattle.path_core.specs.Values.{Carried, values}
+use Rattle.world_laws.specs.declared.outcome.Outcome.TheVariants.{Delivered}
+use Rattle.world_laws.specs.Actors.{ActorCrew}
+use Rattle.world_laws.specs.Members.{HoldsOfKind}
+use Rattle.world_laws.specs.Openings.{PathPlan, Start, opened_world, plan_of, start_of}
+use Rattle.world_laws.specs.Outcomes.{outcome_of}
+use Rattle.world_laws.specs.RoundDone.{reached}
+use Rattle.world_laws.specs.Worlds.{WorldState, Turn, AreLawful}
+use Rattle.whole_paths.specs.Finish.{IsMild, IsPathAt, IsWhole, Patience, UncheckedPathsDeliver, harmed, rounds_in}
+use Rattle.whole_paths.specs.Harms.{full_queue_waits, longest_way}
+use Rattle.whole_paths.specs.Mild.{IsMildStart}
+use Rattle.whole_paths.specs.News.{most_news}
+use Rattle.whole_paths.specs.Rounds.{ticks_for}
+
+-- ---- how they begin
+
+-- It begins mildly, with one path, and each side buffers 4,096 octets at least.
+pub record BeginsWithOnePath (start : Start) (plan : PathPlan) : Type 0 where
+  pub mild : IsMildStart start
+  pub one : start.paths ≡ plan ∷ []
+  pub buffer : 4096 ≤ start.buffer
+
+-- so does the connection of a mild script of one path
+abbrev pub MildScriptsBeginWithOnePath : Type 0
+MildScriptsBeginWithOnePath = (script : Script) (path : PathLine) (file_a file_b : List ℕ) → IsMild script path file_a file_b
+    → BeginsWithOnePath (start_of script file_a file_b) (plan_of script 0 path)
+
+-- ---- how long a segment is under way
+
+-- the ticks for a segment from a side, of a link with this delay and these lines: the delay, those of a full queue, and the greatest jitter
+abbrev pub way_by : Side → ℕ → List ScriptLine → ℕ
+way_by from delay lines = let shape = shape_of from lines in delay + full_queue_waits shape.rate + shape.jitter
+
+-- on each path as it was planned, always
+abbrev pub WaysStay : {C : Type 0} → Codec C → Type 0
+WaysStay {C} k = (start : Start) (turns : List Turn) (number : ℕ) (plan : PathPlan) → slice_get start.paths number ≡ Some plan
+    → (c : ActorCrew C) → slice_get (reached k start turns).crew (2 + number) ≡ Some c
+    → HoldsOfKind (λ app. Unit {0}) (λ (p : PathState C). (s : Side) → longest_way s p.link ≡ way_by s plan.delay (lines_of number start.lines)) c.member
+
+-- there and back, over the first of these paths
+abbrev pub way_there_and_back : List PathPlan → List ScriptLine → ℕ
+way_there_and_back [] lines = 0
+way_there_and_back (plan ∷ plans) lines = way_by A plan.delay (lines_of 0 lines) + way_by B plan.delay (lines_of 0 lines)
+
+-- over the only path that is the longest time there and back, from either side, always
+abbrev pub OnlyWaysStay : {C : Type 0} → Codec C → Type 0
+OnlyWaysStay {C} k = (start : Start) (turns : List Turn) (plan : PathPlan) → start.paths ≡ plan ∷ [] → (p : PathState C) → IsPathAt 0 (reached k start turns) p
+    → (s : Side) → longest_way s p.link + longest_way (peer s) p.link ≡ way_there_and_back start.paths start.lines
+
+-- ---- what is said of a connection by how it begins
+
+-- Without checksums, in fewer than 2^64 - 1 turns: where path 0 is whole, and still is after rounds enough for all news that there can be and
+-- each segment that is harmed, if each comes within so many ticks, it has come to this in so many more.
+abbrev pub ComesWithin : (WorldState Carried → Type 0) → ℕ → (Start → ℕ) → Type 0
+ComesWithin Goal rounds within = (start : Start) (plan : PathPlan) (before more : List Turn) (most : ℕ) → BeginsWithOnePath start plan → start.checksums ≡ false
+    → AreLawful values more (reached values start before) → length (before ++ more) < 2 ^ 64 - 1 → IsWhole 0 (reached values start before)
+    → IsWhole 0 (reached values start (before ++ more)) → harmed values 0 (before ++ more) (opened_world start) ≤ most
+    → ticks_for (within start) (suc (most_news start + most)) + 100 * suc rounds < 100 * rounds_in more → Goal (reached values start (before ++ more))
+
+-- both files are delivered
+abbrev pub DeliversWithin : ℕ → (Start → ℕ) → Type 0
+DeliversWithin = ComesWithin (λ w. outcome_of w.crew ≡ Delivered)
+
+-- so many rounds are enough for it
+abbrev pub rounds_within : ℕ → (Start → ℕ) → Patience
+rounds_within rounds within script path file_a file_b harms =
+    let start = start_of script file_a file_b in ticks_for (within start) (suc (most_news start + harms)) / 100 + rounds + 2
+
+-- what is said so holds of mild scripts of one path
+abbrev pub DeliversAsItBegins : {C : Type 0} → Codec C → Type 0
+DeliversAsItBegins k = (rounds : ℕ) (within : Start → ℕ) → DeliversWithin rounds within → UncheckedPathsDeliver k (rounds_within rounds within)

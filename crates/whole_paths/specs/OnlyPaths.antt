@@ -1,0 +1,14 @@
+-- A path that is whole, and still is after rounds enough, has delivered both files: over one path, without checksums.
+use Rattle.std.specs.Prelude.{ℕ, ◌+◌}
+use Rattle.world_laws.specs.Openings.{Start}
+use Rattle.whole_paths.specs.Finish.{Patience}
+use Rattle.whole_paths.specs.OnePathScripts.{rounds_within, way_there_and_back}
+
+-- the ticks within which there is more news: a greatest timeout of 60,000 ticks, the longest time there and back, and three rounds of 100
+abbrev pub news_within : Start → ℕ
+news_within start = 60000 + way_there_and_back start.paths start.lines + 300
+
+-- Enough rounds for all news that there can be, and for each segment that is harmed. For each byte of a file there are eight pieces of news, and
+-- rounds enough for each; so this is far more than a run takes.
+abbrev pub long_patience : Patience
+long_patience = rounds_within 2 news_within

@@ -1,0 +1,60 @@
+-- A wait for a window: until its exchange is over by this tick (RFC 9293, section 3.8.6.1).
+use Rattle.std.specs.Prelude.{ℕ, ◌+◌, ◌≡◌, ◌<◌, ◌≤◌, ◌⊎◌, List, [], ◌∷◌}
+use Rattle.sides.specs.declared.side.Side.{Side}
+use Rattle.sides.specs.Side.{peer}
+use Rattle.reassembly_book.specs.Steps as arriving
+use Rattle.actor_desk.specs.Books.{books_in}
+use Rattle.actor_desk.specs.Desk.{SixBooks}
+use Rattle.path_core.specs.State.{PathState, end_at}
+use Rattle.path_core.specs.Values.{Carried, values}
+use Rattle.world_laws.specs.Openings.{PathPlan, Start}
+use Rattle.world_laws.specs.Promises.{arrived_at, written_by}
+use Rattle.world_laws.specs.RoundDone.{reached}
+use Rattle.world_laws.specs.Worlds.{Turn}
+use Rattle.whole_paths.specs.Awaited.{IsAwaited}
+use Rattle.whole_paths.specs.Courses.{counted, round_end}
+use Rattle.whole_paths.specs.Finish.{IsPathAt}
+use Rattle.whole_paths.specs.Halted.{IsHalted}
+use Rattle.whole_paths.specs.Harms.{longest_way}
+use Rattle.whole_paths.specs.Mild.{IsMildStart}
+use Rattle.whole_paths.specs.RecordWaits.{Opens, Steps}
+
+-- On a path, a side that halts, a place that it may not send up to yet, and whose window its end waits for; and the peer sent no more than the end's
+-- own window has room for.
+pub record IsWindowAwaited (six : SixBooks) (x : ℕ) (p : PathState Carried) : Type 0 where
+  pub side : Side
+  pub place : ℕ
+  pub room : (end_at (peer side) p).tcp.send.nxt ≤ (end_at side p).tcp.recv.edge + 1048576
+  pub halted : IsHalted six side p
+  pub awaited : IsAwaited six side place x p
+
+-- after these turns, on path 0
+pub record AwaitsAWindow (start : Start) (x : ℕ) (turns : List Turn) : Type 0 where
+  pub path : PathState Carried
+  pub here : IsPathAt 0 (reached values start turns) path
+  pub waits : IsWindowAwaited (books_in (reached values start turns).books) x path
+
+-- A side halts whose end of path 0 has no record; the peer's book takes 32 bytes past the edge of its side's. A segment goes for so long at most,
+-- there and back.
+pub record HasAShutWindow (start : Start) (way : ℕ) (turns : List Turn) : Type 0 where
+  pub path : PathState Carried
+  pub here : IsPathAt 0 (reached values start turns) path
+  pub side : Side
+  pub no_record : (end_at side path).tcp.send.records ≡ []
+  pub halted : IsHalted (books_in (reached values start turns).books) side path
+  pub takes : (written_by side (reached values start turns)).edge + 32 ≤ arriving.edge (arrived_at (peer side) (reached values start turns))
+  pub room : (end_at (peer side) path).tcp.send.nxt ≤ (end_at side path).tcp.recv.edge + 1048576
+  pub near : longest_way side path.link + longest_way (peer side) path.link ≤ way
+
+module _ (start : Start) (most : ℕ) where
+  -- As a round begins a wait begins, for a minute and as long as a segment is under way there and back; it goes on by each step, and as the next
+  -- round begins, or something is counted; and no round begins past it.
+  pub record WindowsAreAwaited : Type 0 where
+    pub begins : (way : ℕ) (v u : List Turn) → Opens start most v u → HasAShutWindow start way v → AwaitsAWindow start (round_end values start v + (60000 + way)) u
+    pub on : (x : ℕ) (v u : List Turn) → Steps start most v u → AwaitsAWindow start x v → (counted values start v < counted values start u) ⊎ AwaitsAWindow start x u
+    pub next : (x : ℕ) (v u : List Turn) → Opens start most v u → AwaitsAWindow start x v → (counted values start v < counted values start u) ⊎ AwaitsAWindow start x u
+    pub due : (x : ℕ) (v u : List Turn) → Opens start most v u → AwaitsAWindow start x v → x < round_end values start v → ⊥
+
+-- in each mild connection over one path
+abbrev pub WindowsAreAwaitedAlways : Type 0
+WindowsAreAwaitedAlways = (start : Start) (plan : PathPlan) (most : ℕ) → start.paths ≡ plan ∷ [] → IsMildStart start → WindowsAreAwaited start most
