@@ -1,7 +1,7 @@
 -- A block that is written is the block that its octets begin with.
 use Rattle.std.proofs.Common.{◌≡◌, refl, ◌∙◌, sym, ap, ℕ, zero, suc, ◌+◌, ◌-◌, ◌%◌, ◌^◌, ◌<◌, ◌≤◌, Bool, true, Option, Some, List, [], ◌∷◌, ◌++◌, length, take, drop, arith, append_assoc, length-append}
 use Rattle.std.specs.Int.{w32, to_be_bytes, from_be_bytes}
-use Rattle.std.specs.Prelude.{slice_range, nat_lt, nat_le, ◌==◌, ◌&&◌, if◌then◌else◌, None, option_and_then, option_map}
+use Rattle.std.specs.Prelude.{slice_range, nat_le, ◌==◌, ◌&&◌, if◌then◌else◌, None, option_and_then, option_map}
 use Rattle.std.proofs.lemmas.Bool.{le-leb, le-ltb, eq-eqb}
 use Rattle.std.proofs.lemmas.List.{take_at, drop_at}
 use Rattle.std.proofs.lemmas.Nat.{from_be_bytes-to_be_bytes_4}

@@ -22,7 +22,7 @@ module _ (checksum : ℕ) (source destination octets : List ℕ) (four : length 
   abbrev packet : List ℕ
   packet = header_with checksum source destination (length octets) ++ octets
 
-  long : length packet ≡ 20 + length octets
+  pub long : length packet ≡ 20 + length octets
   unfolding header_with
   long = omega (arith, length-append (source ++ destination) octets, length-append source destination, four, four_too)
 

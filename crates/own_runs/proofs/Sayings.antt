@@ -1,7 +1,7 @@
 -- What a reader is told by each block of ours.
-use Rattle.std.proofs.Common.{◌≡◌, refl, ◌∙◌, sym, ap, ℕ, ◌+◌, ◌-◌, ◌*◌, ◌/◌, ◌%◌, ◌^◌, ◌<◌, ◌≤◌, Bool, true, Option, Some, List, [], ◌∷◌, ◌++◌, length, replicate, take, drop, arith, append_assoc, length-append}
+use Rattle.std.proofs.Common.{◌≡◌, refl, ◌∙◌, sym, ap, ℕ, ◌+◌, ◌%◌, ◌<◌, ◌≤◌, Bool, true, Some, List, [], ◌∷◌, ◌++◌, length, replicate, take, arith, append_assoc, length-append}
 use Rattle.std.specs.Int.{w32, to_be_bytes}
-use Rattle.std.specs.Prelude.{nat_lt, nat_le, if◌then◌else◌, None, option_and_then, option_map, slice_get}
+use Rattle.std.specs.Prelude.{nat_le, if◌then◌else◌, None, option_and_then, option_map, slice_get}
 use Rattle.std.proofs.lemmas.Bool.{le-leb, le-ltb}
 use Rattle.std.proofs.lemmas.List.{get_or-replicate, length-replicate, replicate_more, take_at}
 use Rattle.std.proofs.lemmas.Option.{slice_get-get_or}

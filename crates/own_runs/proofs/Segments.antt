@@ -1,6 +1,6 @@
 -- The segment that a packet of ours carries is found in it.
-use Rattle.std.proofs.Common.{◌≡◌, refl, ◌∙◌, sym, ap, ℕ, ◌-◌, ◌^◌, ◌<◌, ◌≤◌, Bool, true, false, cond, Option, Some, Result, Ok, Err, List, length, length-drop, arith}
-use Rattle.std.specs.Prelude.{nat_lt, not, ◌==◌, ◌&&◌, ◌||◌, if◌then◌else◌, option_and_then, option_map}
+use Rattle.std.proofs.Common.{◌≡◌, refl, ◌∙◌, sym, ap, ℕ, ◌-◌, ◌^◌, ◌≤◌, Bool, true, false, cond, Some, Result, Ok, Err, List, length, length-drop, arith}
+use Rattle.std.specs.Prelude.{nat_lt, not, ◌==◌, ◌||◌, if◌then◌else◌, option_and_then, option_map}
 use Rattle.std.specs.Result.{result_ok}
 use Rattle.std.proofs.lemmas.Bool.{eqb-true, eq-eqb, le-ltb, lt-ltb, not-false}
 use Rattle.ones_sum.specs.Words.{word_sum, folded, complement}
@@ -13,11 +13,11 @@ use Rattle.segment_wire.specs.Checksum.{covered_sum}
 use Rattle.segment_wire.specs.Laws.{AreAddresses}
 use Rattle.segment_wire.specs.Parts.{parts_meaning}
 use Rattle.segment_wire.specs.Reading.{has_broken_option, has_wrong_checksum, has_wrong_offset, header_len, is_short, segment_in, segment_meaning}
-use Rattle.segment_wire.specs.Segment.{Segment, CanWrite, checksum_field, segment_text}
+use Rattle.segment_wire.specs.Segment.{Segment, checksum_field, segment_text}
 use Rattle.segment_wire.proofs.Again.{segment_meaning-written}
 use Rattle.segment_wire.proofs.Text.{length-octets_with}
 use Rattle.segment_wire.proofs.Sums.{sums_of_ipv4_are_alike}
-use Rattle.capture_reader.specs.Internet.{CarriedValue, carried_by}
+use Rattle.capture_reader.specs.Internet.{CarriedValue}
 use Rattle.capture_reader.specs.Link.{internet_packet}
 use Rattle.capture_reader.specs.Seen as seen
 use Rattle.own_runs.specs.Packets.{raw_packet}

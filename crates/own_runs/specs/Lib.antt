@@ -1,2 +1,4 @@
 pub mod Packets
 pub mod Segments
+pub mod Traces
+pub mod Runs

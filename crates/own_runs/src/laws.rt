@@ -1,6 +1,9 @@
 //! What is read in a capture of ours, as clauses of functions that do nothing.
+ghost use Rattle.judge_rules.specs.declared.finding.Rule.TheVariants.{AddressHmac, DataFin, Fail, Form, Infinite, JoinHmac, Keys};
 ghost use Rattle.own_runs.specs.Packets.{CapturesAreTheirPackets};
+ghost use Rattle.own_runs.specs.Runs.{NoRunBreaks, NoWholeRunBreaks};
 ghost use Rattle.own_runs.specs.Segments.{SegmentsAreFound, WrittenSegmentsAreFound};
+ghost use Rattle.own_runs.specs.Traces.{TracesAreTheirPackets, TracesAreTheirSegments};
 
 /// A law: what is written of a section's blocks is read as a capture of their packets, in order, each a raw IPv4 packet with all its octets.
 /// It holds of blocks that fit their fields, where each packet is of an interface that was named before it in its section.
@@ -14,4 +17,36 @@ pub fn captures_are_their_packets()
 pub fn segments_are_found()
     ensures read { SegmentsAreFound }
     ensures written { WrittenSegmentsAreFound }
+{}
+
+/// A law: the capture that is written of a trace is read as the packets of its segments, in order, each a raw IPv4 packet between the
+/// addresses of its path with all octets of the segment (`packets`); and in each the segment is found as its receiver reads it, between
+/// these addresses, whole and with a good sum (`segments`). It holds of segments that fit a packet (RFC 791, section 3.1), on paths that the
+/// capture names, with ticks of 64 bits and fates that fit a comment.
+pub fn traces_are_their_segments()
+    ensures packets { TracesAreTheirPackets }
+    ensures segments { TracesAreTheirSegments }
+{}
+
+/// A law: in the capture of a run of ours no side is told to break a rule of the judge's on options: each option reads (`form`), MP_CAPABLE
+/// shows the known keys (`keys`, RFC 8684, section 3.1), a join the HMACs of both keys and nonces (`join_hmac`, section 3.2), an ADD_ADDR that
+/// of its address (`address_hmac`, section 3.4.1).
+///
+/// The capture is that of a trace (`traces_are_their_segments`), with sums checked. It holds of every list of turns, lawful or not, whatever the
+/// script takes away or alters, where the numbers of the start fit, and wherever the capture is said to be taken.
+pub fn own_runs_break_no_rule()
+    ensures form { NoRunBreaks Form }
+    ensures keys { NoRunBreaks Keys }
+    ensures join_hmac { NoRunBreaks JoinHmac }
+    ensures address_hmac { NoRunBreaks AddressHmac }
+{}
+
+/// A law: where the script alters no payload and takes no options away, no side is told to break a rule on the end of a stream: the DATA_FIN
+/// stands at one place, and no data behind it (`data_fin`, RFC 8684, section 3.3.3); no infinite mapping is followed by another
+/// (`infinite`, section 3.7). Nor does an MP_FAIL name what is no mapping (`fail`, section 3.7), as there is none. Else as in
+/// `own_runs_break_no_rule`.
+pub fn whole_runs_break_no_rule()
+    ensures data_fin { NoWholeRunBreaks DataFin }
+    ensures infinite { NoWholeRunBreaks Infinite }
+    ensures fail { NoWholeRunBreaks Fail }
 {}

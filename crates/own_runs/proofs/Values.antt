@@ -1,0 +1,69 @@
+-- Options that show what was drawn, as they are written.
+use Rattle.std.proofs.Common.{◌≡◌, refl, ℕ, Bool, true, false, if◌then◌else◌, Some, None, option_map, List}
+use Rattle.std.specs.Prelude.{unwrap_or}
+use Rattle.std.specs.List.{slice_get}
+use Rattle.mptcp_options.specs.declared.capable.CapableKeys.TheVariants.{Both, NoKey, Sender, WithData}
+use Rattle.mptcp_options.specs.declared.join.JoinForm.TheVariants.{Answer, Syn, Third}
+use Rattle.path_segments.specs.Options.{PlainOption, said_option}
+use Rattle.path_segments.specs.declared.segment.PathOption.TheVariants.{AddAddr, Capable, Join, Dss}
+use Rattle.path_segments.specs.declared.spelling.Spelling.{Spelling}
+use Rattle.sides.specs.declared.side.Side.TheVariants.{A, B}
+use Rattle.sides.specs.declared.side.Side.{Side}
+use Rattle.stream_lanes.specs.Words.{Every}
+use Rattle.world_laws.proofs.Keys.AreDrawn.{Deed, Secrets, OptionIs}
+use Rattle.world_laws.proofs.Keys.ToldAreOwn.{with_nonces}
+use Rattle.world_laws.specs.Openings.{PathPlan, Start}
+use Rattle.own_runs.proofs.Own.{Drawn, ValueIs}
+
+-- ---- what was drawn
+
+abbrev pub nonce_at : (PathPlan → ℕ) → List PathPlan → ℕ → ℕ
+nonce_at of plans path = unwrap_or (option_map of (slice_get plans path)) 0
+
+abbrev pub drawn : Start → Drawn
+drawn start = record {
+  key_a = start.key_a;
+  key_b = start.key_b;
+  nonce_a = nonce_at (λ plan. plan.nonce_a) start.paths;
+  nonce_b = nonce_at (λ plan. plan.nonce_b) start.paths;
+  checksums = start.checksums;
+}
+
+-- ---- values
+
+module _ (start : Start) (path : ℕ) (w : Side → Type 0) (did : Deed → Side → Type 0) where
+  abbrev d : Drawn
+  d = drawn start
+
+  abbrev k : Secrets
+  k = with_nonces start.key_a start.key_b true (d.nonce_a path) (d.nonce_b path)
+
+  sure : (joined : Bool) → (if joined then true else true) ≡ true
+  sure true = refl
+  sure false = refl
+
+  value_so : (joined : Bool) (s : Side) (spelling : Spelling) (o : PlainOption) → OptionIs k true w did joined s o → ValueIs d path s (said_option spelling s o)
+  value_so joined A spelling (Capable flag_a flag_c NoKey) h = tt
+  value_so joined A spelling (Capable flag_a flag_c (Sender sender)) h = h.0 (sure joined)
+  value_so joined A spelling (Capable flag_a flag_c (Both sender receiver)) h = h.0 (sure joined)
+  value_so joined A spelling (Capable flag_a flag_c (WithData sender receiver len checksum)) h = h.0 (sure joined)
+  value_so joined B spelling (Capable flag_a flag_c NoKey) h = tt
+  value_so joined B spelling (Capable flag_a flag_c (Sender sender)) h = h.0 (sure joined)
+  value_so joined B spelling (Capable flag_a flag_c (Both sender receiver)) h = h.0 (sure joined)
+  value_so joined B spelling (Capable flag_a flag_c (WithData sender receiver len checksum)) h = h.0 (sure joined)
+  value_so joined A spelling (Join (Syn backup id token nonce)) h = h.1.1 refl
+  value_so joined A spelling (Join (Answer backup id hmac nonce)) h = h.1.1 refl
+  value_so joined A spelling (Join (Third hmac)) h = h.1.1 refl
+  value_so joined B spelling (Join (Syn backup id token nonce)) h = h.1.1 refl
+  value_so joined B spelling (Join (Answer backup id hmac nonce)) h = h.1.1 refl
+  value_so joined B spelling (Join (Third hmac)) h = h.1.1 refl
+  value_so joined A spelling (AddAddr false id address port (Some hmac)) h = h.0 refl
+  value_so joined B spelling (AddAddr false id address port (Some hmac)) h = h.0 refl
+  value_so joined s spelling (AddAddr false id address port None) h = tt
+  value_so joined s spelling (AddAddr true id address port hmac) h = tt
+  value_so joined s spelling (Dss next mapping) h = tt
+  value_so joined s spelling _ h = tt
+
+  pub values_so : (joined : Bool) (s : Side) (spelling : Spelling) (options : List PlainOption) → Every (OptionIs k true w did joined s) options
+      → Every (λ o. ValueIs d path s (said_option spelling s o)) options
+  values_so joined s spelling options h = record { each = λ i o at. value_so joined s spelling o (h.each i o at) }

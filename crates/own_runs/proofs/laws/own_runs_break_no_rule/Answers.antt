@@ -1,0 +1,16 @@
+use Rattle.std.proofs.Common.{refl}
+use Rattle.judge_rules.specs.declared.finding.Rule.TheVariants.{AddressHmac, Form, JoinHmac, Keys}
+use Rattle.own_runs.proofs.Kept.{no_run_breaks}
+use Rattle.own_runs.proofs.laws.own_runs_break_no_rule.Goals as goal
+
+pub returns-clause-form : goal.returns-clause-form
+returns-clause-form c = no_run_breaks Form refl
+
+pub returns-clause-keys : goal.returns-clause-keys
+returns-clause-keys c = no_run_breaks Keys refl
+
+pub returns-clause-join_hmac : goal.returns-clause-join_hmac
+returns-clause-join_hmac c = no_run_breaks JoinHmac refl
+
+pub returns-clause-address_hmac : goal.returns-clause-address_hmac
+returns-clause-address_hmac c = no_run_breaks AddressHmac refl
