@@ -1,5 +1,0 @@
-use Rattle.whole_paths.proofs.Overruns as overruns
-use Rattle.whole_paths.proofs.laws.no_end_overruns.Goals as goal
-
-pub returns : goal.returns
-returns c = overruns.no_end_overruns

@@ -1,5 +1,0 @@
-use Rattle.whole_paths.proofs.RecordWaits as waits
-use Rattle.whole_paths.proofs.laws.records_are_awaited_always.Goals as goal
-
-pub returns : goal.returns
-returns c = waits.records_are_awaited_always

@@ -1,5 +1,0 @@
-use Rattle.whole_paths.proofs.ShutWindows as windows
-use Rattle.whole_paths.proofs.laws.shut_windows_have_room.Goals as goal
-
-pub returns : goal.returns
-returns c = windows.shut_windows_have_room

@@ -1,5 +1,0 @@
-use Rattle.whole_paths.proofs.DataLeft as left
-use Rattle.whole_paths.proofs.laws.what_is_left_is_data.Goals as goal
-
-pub returns : goal.returns
-returns c = left.what_is_left_is_data
