@@ -106,8 +106,6 @@ module _ (start : Start) (plan : PathPlan) (one : start.paths ≡ plan ∷ []) (
       }))
 
       is_awry : IsHardlyAwry s p q → Next
-      is_awry (hardly.missing t (inl is)) = absurd (after.unbroken t is)
-      is_awry (hardly.missing t (inr is)) = absurd (after.unreset t is)
       is_awry (hardly.past_window past) = absurd (omega (arith, past, room))
 
       by_answer : AnswerIsAwaitedOn later s h.place h.fin h.by p q → Next

@@ -60,7 +60,7 @@ use Rattle.whole_paths.specs.Flights.{IsFirst}
 use Rattle.whole_paths.specs.Harms.{longest_way}
 use Rattle.whole_paths.specs.InTime.{ComesFrom}
 use Rattle.whole_paths.specs.Kept.{EndsKeepWhatWaits, KeepsWhatWaits}
-use Rattle.whole_paths.specs.Mild.{BreaksForMissing, EndsGoByMappings, EndsHaveKeys, HardlyBreaks, HasKeys, IsHardlyBroken, IsMildStart, KeysAreKnown, LinkIsMild, MappingIsKept}
+use Rattle.whole_paths.specs.Mild.{IsUnbroken, EndsGoByMappings, EndsHaveKeys, NeverBreaks, HasKeys, IsNeverBroken, IsMildStart, KeysAreKnown, LinkIsMild, MappingIsKept}
 use Rattle.whole_paths.specs.OpenAsks.{HardlyGoesAwry, IsUnansweredAt}
 use Rattle.whole_paths.specs.OpenAsks.IsUnanswered.{data_fin, bytes}
 use Rattle.whole_paths.specs.Reasons.{IsOutstanding}
@@ -70,7 +70,7 @@ use Rattle.whole_paths.specs.Waits.{IsNews}
 use Rattle.whole_paths.specs.Waits.{IsNews as news}
 use Rattle.whole_paths.proofs.Acking.{same_actor}
 use Rattle.whole_paths.proofs.Arrivals.{sender_of}
-use Rattle.whole_paths.proofs.Breaking.{hardly_breaks}
+use Rattle.whole_paths.proofs.Breaking.{never_breaks}
 use Rattle.whole_paths.proofs.Came.{what_is_acknowledged_came}
 use Rattle.whole_paths.proofs.Clearing.{Clears, MemberClears, each_clears, never_treats}
 use Rattle.whole_paths.proofs.Closing.{each_data_fin_counts}
@@ -88,11 +88,12 @@ use Rattle.whole_paths.proofs.InTime.{nothing_is_overdue}
 use Rattle.whole_paths.proofs.Keeping.{what_waits_is_kept}
 use Rattle.whole_paths.proofs.Keyed.{keys_are_known}
 use Rattle.whole_paths.proofs.Mild.{links_are_mild, mapping_is_kept}
-use Rattle.whole_paths.proofs.OpenAsks.{EndsAskForThemselves, ends_ask_for_themselves, open_ends_hardly_go_awry, resets_at}
+use Rattle.whole_paths.proofs.OpenAsks.{EndsAskForThemselves, ends_ask_for_themselves, open_ends_hardly_go_awry}
 use Rattle.whole_paths.proofs.OpenAsksGoOn.{is_outstanding, more_sent, open_segments, past_the_end, same_written, unanswered_goes}
 use Rattle.whole_paths.proofs.OpenPieces.{AgreesWith, EndsAgreeWith, closed_stays, each_knows, ends_agree}
 use Rattle.whole_paths.proofs.Reached.{EndsAreReached, each_is_reached, none_left}
 use Rattle.whole_paths.proofs.Sent.{what_came_was_sent}
+use Rattle.whole_paths.proofs.Straying.{never_resets}
 
 -- ---- what held of a sender
 
@@ -138,7 +139,7 @@ record IsTurn (books : StampedBooks) (later : SixBooks) (steps : List Note) (p q
   kept : (s : Side) → KeepsWhatWaits (end_at s p) (end_at s q)
   mapped_p : EndsGoByMappings p
   mapped_q : EndsGoByMappings q
-  breaks_q : BreaksForMissing q
+  breaks_q : IsUnbroken q
   keys : EndsHaveKeys q
   clears : (t : Side) → Clears t q.agenda (end_at t q)
   alone : EndsAskForThemselves p
@@ -199,7 +200,7 @@ module _ (books : StampedBooks) (later : SixBooks) (steps : List Note) (p q : Pa
   fin_goes : (IsFinHeard (peer s) q → Goes) → FinGoesOn (peer s) q → Goes
   fin_goes then_so (fins.on is) = then_so is
   fin_goes then_so (fins.gone dead) = absurd (both_ways _ (t.open_q.living (peer s)) dead)
-  fin_goes then_so (fins.reset is) = ask.awry (resets_at s p q t.breaks_q (peer s) is)
+  fin_goes then_so (fins.reset is) = absurd (never_resets q t.breaks_q (peer s) is)
   fin_goes then_so (fins.plain is) = absurd (both_ways _ (t.mapped_q (peer s)).identity is)
   fin_goes then_so (fins.unkeyed none) = absurd (has_key (peer s) none)
 
@@ -385,7 +386,7 @@ record IsTurnOf (w : WorldState Carried) (later : SixBooks) (lines : List Script
   link : OfPaths (LinkIsMild lines) m
   mapped_p : OfPaths EndsGoByMappings m
   mapped_q : OfPaths EndsGoByMappings n
-  breaks_q : OfPaths IsHardlyBroken n
+  breaks_q : OfPaths IsNeverBroken n
   keys : OfPaths HasKeys n
   clears : MemberClears n
   alone : OfPaths EndsAskForThemselves m
@@ -465,7 +466,7 @@ turn_of start turns turn plan one mild actor c d was now =
     let size = mild.plain.size in
     let late = nothing_is_overdue values start turns in
     let mapped : MappingIsKept v = subst MappingIsKept same (mapping_is_kept start more mild) in
-    let breaks : HardlyBreaks v = subst HardlyBreaks same (hardly_breaks start more mild) in
+    let breaks : NeverBreaks v = subst NeverBreaks same (never_breaks start more mild) in
     let keys : KeysAreKnown v = subst KeysAreKnown same (keys_are_known start more mild) in
     let clears = subst (λ (x : WorldState Carried). Every (λ (y : ActorCrew Carried). MemberClears y.member) x.crew) same (each_clears values start more) in
     let reached : Each EndsAreReached v = subst (Each EndsAreReached) same (λ i x there. (each_is_reached values start more).each i x there) in

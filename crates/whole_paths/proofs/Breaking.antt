@@ -65,7 +65,7 @@ use Rattle.world_laws.proofs.Worlds.Turns.{turn_so}
 use Rattle.world_laws.proofs.Writes.Asks.{asks_no_more}
 use Rattle.whole_paths.specs.Brought.{FailsItsCheck}
 use Rattle.whole_paths.specs.Mapped.{EndsAreLive, MappingsAreLive}
-use Rattle.whole_paths.specs.Mild.{BreaksForMissing, EndsHaveKeys, HasKeys, IsHardlyBroken, IsMildStart, IsPromisedMildly, HardlyBreaks, KeysAreKnown}
+use Rattle.whole_paths.specs.Mild.{IsUnbroken, EndsHaveKeys, HasKeys, IsNeverBroken, IsMildStart, IsPromisedMildly, NeverBreaks, KeysAreKnown}
 use Rattle.whole_paths.proofs.Flying.{takes_frames}
 use Rattle.whole_paths.proofs.Keyed.{keys_are_known}
 use Rattle.whole_paths.proofs.Knowing.{what_is_told_is_known}
@@ -293,20 +293,20 @@ never_fails : (s : Side) (p : PathState Carried) → failing_mapping p.profile (
 never_fails s p sound h =
     both_ways _ (ap is_some sound) (fails_so p.profile.spelling.checksums (mapping_here (end_at s p)) h.mapping (end_at s p).tcp h.checksums h.here h.there h.wrong)
 
-path_breaks : (p : PathState Carried) → ((s : Side) → failing_mapping p.profile (end_at s p) ≡ None) → ((s : Side) → speaks (Voice.Aborts s) p.agenda ≡ true → ⊥) → Calm p.agenda → BreaksForMissing p
+path_breaks : (p : PathState Carried) → ((s : Side) → failing_mapping p.profile (end_at s p) ≡ None) → ((s : Side) → speaks (Voice.Aborts s) p.agenda ≡ true → ⊥) → Calm p.agenda → IsUnbroken p
 path_breaks p sound silent calm = record {
   duties = calm;
-  broken = λ s reason is. absurd (true≢false (subst Calm is calm));
-  is_reset = λ s reason is. absurd (true≢false (subst Calm is calm));
+  broken = λ s reason is. true≢false (subst Calm is calm);
+  is_reset = λ s reason is. true≢false (subst Calm is calm);
   stopped = λ s is. silent s (ap (speaks (Voice.Aborts s)) is ∙ stops_speak s);
   fails = λ s. never_fails s p (sound s);
 }
 
-abbrev HardlyBroken : Actor Carried → Type 0
-HardlyBroken = HoldsOfKind (λ app. Unit {0}) IsHardlyBroken
+abbrev NeverBroken : Actor Carried → Type 0
+NeverBroken = HoldsOfKind (λ app. Unit {0}) IsNeverBroken
 
-pub hardly_breaks : IsPromisedMildly values (λ start w. HardlyBreaks w)
-hardly_breaks start turns mild = record {
+pub never_breaks : IsPromisedMildly values (λ start w. NeverBreaks w)
+never_breaks start turns mild = record {
   each = λ actor c there. by c.member ((run_calm turns (opened_world start) facts (opened_calm start)).each actor c there) ((each_upright start turns mild.plain mild.strips).each actor c there)
       (stops_are_asked start turns actor c there);
 }
@@ -324,14 +324,14 @@ hardly_breaks start turns mild = record {
       maps = each_maps start more mild;
     }
 
-    by : (m : Actor Carried) → MemberCalm m → MemberUpright m → StopsAreAsked w m → HardlyBroken m
+    by : (m : Actor Carried) → MemberCalm m → MemberUpright m → StopsAreAsked w m → NeverBroken m
     by (App a) calm upright asked = tt
     by (Path p) calm upright asked = λ first. path_breaks p upright.passes.sound
         (λ s spoken. both_ways _ (none_noted start turns mild (peer s)) (asked s spoken)) (calm first).0
 
 -- ---- over octets
 
-shown_breaks : (m : Actor Carried) → HardlyBroken m → HoldsOfKind (λ app. Unit {0}) IsHardlyBroken (shown_member m)
+shown_breaks : (m : Actor Carried) → NeverBroken m → HoldsOfKind (λ app. Unit {0}) IsNeverBroken (shown_member m)
 shown_breaks (App a) h = tt
 shown_breaks (Path p) h = λ first.
     let was = h first in
@@ -343,13 +343,13 @@ shown_breaks (Path p) h = λ first.
       fails = λ s x. was.fails s (record { others = x.others; first = x.first; checksums = x.checksums; mapping = x.mapping; here = x.here; there = x.there; wrong = x.wrong });
     }
 
-world_breaks : (w : WorldState Carried) → HardlyBreaks w → HardlyBreaks (shown_world w)
+world_breaks : (w : WorldState Carried) → NeverBreaks w → NeverBreaks (shown_world w)
 world_breaks w h = record {
   each = λ i c there.
       let found = in_map shown_crew w.crew i c there in
-      subst (λ (y : ActorCrew (List ℕ)). HoldsOfKind (λ app. Unit {0}) IsHardlyBroken y.member) found.2 (shown_breaks found.0.member (h.each i found.0 found.1));
+      subst (λ (y : ActorCrew (List ℕ)). HoldsOfKind (λ app. Unit {0}) IsNeverBroken y.member) found.2 (shown_breaks found.0.member (h.each i found.0 found.1));
 }
 
-pub hardly_breaks_in_octets : IsPromisedMildly octets (λ start w. HardlyBreaks w)
-hardly_breaks_in_octets start turns mild =
-    subst HardlyBreaks (sym (run_fresh start turns mild.plain.size mild.fit)) (world_breaks (world_run values turns (opened_world start)) (hardly_breaks start turns mild))
+pub never_breaks_in_octets : IsPromisedMildly octets (λ start w. NeverBreaks w)
+never_breaks_in_octets start turns mild =
+    subst NeverBreaks (sym (run_fresh start turns mild.plain.size mild.fit)) (world_breaks (world_run values turns (opened_world start)) (never_breaks start turns mild))

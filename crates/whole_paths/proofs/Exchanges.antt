@@ -663,7 +663,7 @@ module _ (p : PathState Carried) (past : ComesFrom p.clock p) where
   flight_from : (f : Flight Carried) → IsUnderWay f p → p.clock ≤ f.tick
   flight_from f there = subst (λ (g : Flight Carried). p.clock ≤ g.tick) there.holds (all_at (λ (g : Flight Carried). p.clock ≤ g.tick) p.link.under_way there.at there.item there.there past.copies)
 
-  way_from : (s : Side) (r : Record) (n : ℕ) → IsOnItsWay values s r n p → p.clock ≤ n
+  pub way_from : (s : Side) (r : Record) (n : ℕ) → IsOnItsWay values s r n p → p.clock ≤ n
   way_from s r n (ways.waits tick low runs first) = let from = timer_from s tick p past runs.timer in omega (arith, from, low)
   way_from s r n (ways.resends low is first) = omega (arith, low)
   way_from s r n (ways.flies f low there copy) = let from = flight_from f there in omega (arith, from, low)

@@ -122,26 +122,27 @@ pub record ShowsFirmly (start : Start) (plain : IsPlain start) (w : WorldState C
   pub holds : Holds duo
   pub unended : BothUnended duo
 
+-- no side ever fell back
+pub never_fallen : (start : Start) (turns : List Turn) (mild : IsMildStart start) (s : Side) → fell_back s (world_run values turns (opened_world start)) ≡ false
+never_fallen start turns mild s = by (fell_back s w) refl
+  where
+    w : WorldState Carried
+    w = world_run values turns (opened_world start)
+
+    by : (b : Bool) → fell_back s w ≡ b → fell_back s w ≡ false
+    by false is = is
+    by true is = absurd (both_ways _ (sides_never_fall start turns mild.plain mild.strips s) (was_wider is_fallback is_fallen_back widens w.books s is))
+
 pub shown_firmly : (start : Start) (turns : List Turn) (mild : IsMildStart start) → ShowsFirmly start mild.plain (world_run values turns (opened_world start))
 shown_firmly start turns mild =
     let can = firmly start mild.plain in
-    let r = each_run_shows start can turns (firm_run can.links start turns (λ s firm. unfallen s)) in
+    let r = each_run_shows start can turns (firm_run can.links start turns (λ s firm. never_fallen start turns mild s)) in
     record {
       duo = after_events r.events (first_duo can.links start);
       shows = r.shows;
       holds = any_held false false (length start.paths) start.buffer start.buffer r.events;
       unended = both_unended false (length start.paths) start.buffer start.buffer r.events (any_held false false (length start.paths) start.buffer start.buffer);
     }
-  where
-    w : WorldState Carried
-    w = world_run values turns (opened_world start)
-
-    unfallen : (s : Side) → fell_back s w ≡ false
-    unfallen s = by (fell_back s w) refl
-      where
-        by : (b : Bool) → fell_back s w ≡ b → fell_back s w ≡ false
-        by false is = is
-        by true is = absurd (both_ways _ (sides_never_fall start turns mild.plain mild.strips s) (was_wider is_fallback is_fallen_back widens w.books s is))
 
 -- ---- the world
 

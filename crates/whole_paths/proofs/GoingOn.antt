@@ -112,7 +112,7 @@ open_behind TimeWait past living none = refl
 
 -- ---- whether all of a stream is there
 
-there_or : (s : Side) (w : WorldState Carried) → IsAllThere s w ⊎ (IsAllThere s w → ⊥)
+pub there_or : (s : Side) (w : WorldState Carried) → IsAllThere s w ⊎ (IsAllThere s w → ⊥)
 there_or s w = by (written_by s w).closed refl (arrived_at (peer s) w).known_end refl
   where
     n : ℕ

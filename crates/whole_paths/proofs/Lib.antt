@@ -7,6 +7,7 @@ pub mod AskStages
 pub mod Awaited
 pub mod AwaitedThere
 pub mod Books
+pub mod Boundaries
 pub mod Breaking
 pub mod Bringing
 pub mod Came
@@ -85,6 +86,7 @@ pub mod Settling
 pub mod ShutWaits
 pub mod Standing
 pub mod Staying
+pub mod StayingWhole
 pub mod Straying
 pub mod Subflows
 pub mod Thirds
@@ -116,4 +118,5 @@ pub mod Pushing
 pub mod LastFin
 pub mod ShutWindows
 pub mod WholeCourses
-pub mod WholePaths
+pub mod Listening
+pub mod Syns

@@ -42,7 +42,7 @@ use Rattle.whole_paths.specs.AsFar.{stage, IsEndAsFar, IsPathAsFar, IsSideAsFar}
 use Rattle.whole_paths.specs.EndSteps.{PathStep}
 use Rattle.whole_paths.specs.Harms.{harms_left, is_unused, unused}
 use Rattle.whole_paths.specs.News.{one_if, end_news, side_news, lines_left, path_news, news, NewsNeverFalls, Counts, ActorCounts, EachGainCounts, EachNewsCounts, Gains}
-use Rattle.whole_paths.specs.News.Counts.{at_end, in_order, sent_more, dies, line, harm}
+use Rattle.whole_paths.specs.News.Counts.{at_end, in_order, sent_more, further, clears, dies, line, harm}
 use Rattle.whole_paths.specs.News.Gains.{writes, opens, closes, receives, reads, learns}
 use Rattle.whole_paths.specs.Waits.{IsNews}
 use Rattle.whole_paths.specs.Waits.IsNews.{on_subflow, on_stream, data_fin, opened, third}
@@ -178,6 +178,12 @@ module _ (e f : PathEnd) (far : IsEndAsFar e f) (x : Third e f) where
   end_pushed more = by_other (
       let una = far.subflow.acknowledged in let edge = far.subflow.received in let heard = far.stream.heard in
       omega (arith, una, more, edge, heard, sent_up, acked_up, came_up, clear_up))
+
+  end_clears : e.modes.clear ≡ false → f.modes.clear ≡ true → end_news e < end_news f
+  end_clears none some = by_other (
+      let una = far.subflow.acknowledged in let nxt = far.subflow.pushed in let edge = far.subflow.received in let heard = far.stream.heard in
+      let before : one_if e.modes.clear ≡ 0 = ap one_if none in let now : one_if f.modes.clear ≡ 1 = ap one_if some in
+      omega (arith, una, nxt, edge, heard, sent_up, acked_up, came_up, before, now))
 
   end_dies : is_dead e.tcp.state ≡ false → is_dead f.tcp.state ≡ true → end_news e < end_news f
   end_dies living dead = by_state (let low = living_low e.tcp.state living in let high = dead_high f.tcp.state dead in omega (arith, low, high))
@@ -446,6 +452,10 @@ module _ {C : Type 0} where
         by (in_order B is) = let more = end_moved p.b q.b x.far.b x.onward.thirds.b is in omega (arith, more, a, less, fewer)
         by (sent_more A is) = let more = end_pushed p.a q.a x.far.a x.onward.thirds.a is in omega (arith, more, b, less, fewer)
         by (sent_more B is) = let more = end_pushed p.b q.b x.far.b x.onward.thirds.b is in omega (arith, more, a, less, fewer)
+        by (further A is) = let more = by_state p.a q.a x.far.a x.onward.thirds.a is in omega (arith, more, b, less, fewer)
+        by (further B is) = let more = by_state p.b q.b x.far.b x.onward.thirds.b is in omega (arith, more, a, less, fewer)
+        by (clears A none some) = let more = end_clears p.a q.a x.far.a x.onward.thirds.a none some in omega (arith, more, b, less, fewer)
+        by (clears B none some) = let more = end_clears p.b q.b x.far.b x.onward.thirds.b none some in omega (arith, more, a, less, fewer)
         by (dies A living dead) = let more = end_dies p.a q.a x.far.a x.onward.thirds.a living dead in omega (arith, more, b, less, fewer)
         by (dies B living dead) = let more = end_dies p.b q.b x.far.b x.onward.thirds.b living dead in omega (arith, more, a, less, fewer)
         by (line taken) = omega (arith, taken, a, b, less, most)

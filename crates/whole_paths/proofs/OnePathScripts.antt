@@ -1,5 +1,5 @@
 -- Connections over one path by mild scripts begin mildly; what is said by how they begin holds of them, and their ways stay.
-use Rattle.std.proofs.Common.{◌≡◌, refl, sym, subst, ap, ◌∙◌, ℕ, suc, ◌+◌, ◌-◌, ◌*◌, ◌/◌, ◌^◌, ◌<◌, ◌≤◌, arith, Option, Some, None, List, [], ◌∷◌, ◌++◌, length, append_assoc, le_refl}
+use Rattle.std.proofs.Common.{◌≡◌, refl, sym, subst, ap, ◌∙◌, ℕ, suc, ◌+◌, ◌-◌, ◌*◌, ◌/◌, ◌^◌, ◌<◌, ◌≤◌, ◌⊎◌, arith, Option, Some, None, List, [], ◌∷◌, ◌++◌, length, append_assoc, le_refl}
 use Rattle.std.specs.List.{slice_get}
 use Rattle.std.proofs.lemmas.Option.{same_Some}
 use Rattle.std.proofs.Math.Nat.{lt-div-mul-add}
@@ -25,10 +25,10 @@ use Rattle.world_laws.specs.StampedBooks.{answer_to}
 use Rattle.world_laws.specs.Worlds.{WorldState, Turn, AreLawful, after_turn, world_run}
 use Rattle.world_laws.proofs.Worlds.Opened.{opened_actors}
 use Rattle.world_laws.proofs.Writes.Steps.{begins_lasts}
-use Rattle.whole_paths.specs.Finish.{IsWhole, harmed, rounds_in}
+use Rattle.whole_paths.specs.Finish.{harmed, rounds_in}
 use Rattle.whole_paths.specs.Harms.{longest_way}
 use Rattle.whole_paths.specs.News.{most_news}
-use Rattle.whole_paths.specs.OnePathScripts.{DeliversAsItBegins, MildScriptsBeginWithOnePath, OnlyWaysStay, WaysStay, rounds_within, way_by, way_there_and_back}
+use Rattle.whole_paths.specs.OnePathScripts.{AnEndDiedEarly, EndsAsItBegins, MildScriptsBeginWithOnePath, OnlyWaysStay, WaysStay, rounds_within, way_by, way_there_and_back}
 use Rattle.whole_paths.specs.Rounds.{ticks_for}
 use Rattle.whole_paths.proofs.Copies.{LinkStays, links_last}
 use Rattle.whole_paths.proofs.Flying.{takes_frames}
@@ -131,12 +131,12 @@ lawful_rest : (ts us : List Turn) (w : WorldState Carried) → AreLawful values 
 lawful_rest [] us w lawful = lawful
 lawful_rest (t ∷ ts) us w lawful = lawful_rest ts us (after_turn values t w) lawful.1
 
-rounds_so : (n more rounds : ℕ) → n / 100 + more + 2 ≤ rounds → n + 100 * suc more < 100 * rounds
-rounds_so n more rounds many = let less = lt-div-mul-add {a = n} {b = 100} (omega arith) in omega (arith, less, many)
+rounds_so : (n rounds : ℕ) → n / 100 + 4 ≤ rounds → n + 300 < 100 * rounds
+rounds_so n rounds many = let less = lt-div-mul-add {a = n} {b = 100} (omega arith) in omega (arith, less, many)
 
-pub delivers_as_it_begins : DeliversAsItBegins values
-delivers_as_it_begins rounds within delivers script path file_a file_b before more mild also lawful first last many =
-    subst Enough same enough also.few (subst (λ ts. AreLawful values ts (opened_world start)) (sym same) lawful) last many
+pub ends_as_it_begins : EndsAsItBegins values
+ends_as_it_begins within ends script path file_a file_b before more mild also lawful first many =
+    subst Enough same enough also.few (subst (λ ts. AreLawful values ts (opened_world start)) (sym same) lawful) many
   where
     start : Start
     start = start_of script file_a file_b
@@ -148,12 +148,12 @@ delivers_as_it_begins rounds within delivers script path file_a file_b before mo
     same = append_assoc before (Turn.Round ∷ []) more
 
     Enough : List Turn → Type 0
-    Enough ts = length ts < 2 ^ 64 - 1 → AreLawful values (begun ++ more) (opened_world start) → IsWhole 0 (reached values start ts)
-        → rounds_within rounds within script path file_a file_b (harmed values 0 ts (opened_world start)) ≤ rounds_in more → outcome_of (reached values start ts).crew ≡ Delivered
+    Enough ts = length ts < 2 ^ 64 - 1 → AreLawful values (begun ++ more) (opened_world start)
+        → rounds_within within script path file_a file_b (harmed values 0 ts (opened_world start)) ≤ rounds_in more
+        → (outcome_of (reached values start ts).crew ≡ Delivered) ⊎ AnEndDiedEarly values start ts
 
     enough : Enough (begun ++ more)
-    enough few going whole many =
+    enough few going many =
         let harms = harmed values 0 (begun ++ more) (opened_world start) in
-        delivers start (plan_of script 0 path) begun more harms (mild_scripts_begin_with_one_path script path file_a file_b mild) also.unchecked
-        (lawful_rest begun more (opened_world start) going) few first whole (le_refl harms)
-        (rounds_so (ticks_for (within start) (suc (most_news start + harms))) rounds (rounds_in more) many)
+        ends start (plan_of script 0 path) begun more harms (mild_scripts_begin_with_one_path script path file_a file_b mild) also.unchecked
+        (lawful_rest begun more (opened_world start) going) few first (le_refl harms) (rounds_so (ticks_for (within start) (suc (most_news start + harms))) (rounds_in more) many)

@@ -1,33 +1,41 @@
--- Over one path both files are delivered while the path is whole: what is said of each start holds of each script, over octets too.
-use Rattle.std.proofs.Common.{subst, ◌+◌, arith, length, ◌++◌}
+-- Over one path both files are delivered once it is whole, or an end dies early: what is said of each start holds of each script, over octets too.
+use Rattle.std.proofs.Common.{◌+◌, arith, le_refl}
 use Rattle.sides.specs.declared.side.Side.TheVariants.{A}
 use Rattle.path_core.specs.Octets.{octets}
 use Rattle.path_core.specs.Values.{values}
 use Rattle.world_laws.specs.Openings.{PathPlan, Start}
 use Rattle.whole_paths.specs.Finish.{UncheckedPathsDeliver}
-use Rattle.whole_paths.specs.OnePathScripts.{BeginsWithOnePath, DeliversWithin, way_there_and_back}
+use Rattle.whole_paths.specs.OnePathScripts.{BeginsWithOnePath, EndsWithin, UncheckedPathsEnd, way_there_and_back}
 use Rattle.whole_paths.specs.OnlyPaths.{long_patience, news_within}
-use Rattle.whole_paths.specs.SentByTurns.{SentAtMost}
-use Rattle.whole_paths.specs.WholeCourses.{WaysAreShort}
-use Rattle.whole_paths.proofs.OnePathScripts.{delivers_as_it_begins, only_ways_stay}
-use Rattle.whole_paths.proofs.OverOctets.{delivers_as_it_begins_in_octets}
-use Rattle.whole_paths.proofs.SentByTurns.{each_turn_sends_one_at_most}
-use Rattle.whole_paths.proofs.WholePaths.{whole_paths_deliver as whole_while_open}
+use Rattle.whole_paths.specs.WholeCourses.{IsAwaited, WaysAreShort}
+use Rattle.whole_paths.specs.WindowWaits.{AwaitsAWindow}
+use Rattle.whole_paths.proofs.OnePathScripts.{ends_as_it_begins, only_ways_stay}
+use Rattle.whole_paths.proofs.OverOctets.{ends_as_it_begins_in_octets}
+use Rattle.whole_paths.proofs.ShutWaits.{shut_windows_open_in_time}
+use Rattle.whole_paths.proofs.ThereInTime.{exchanges_bring_all, what_is_there_in_time_is_delivered, whole_paths_didnt_die}
+use Rattle.whole_paths.proofs.WholeCourses.{exchanges}
 
 ways_short : (start : Start) (plan : PathPlan) → BeginsWithOnePath start plan → WaysAreShort start (way_there_and_back start.paths start.lines)
 ways_short start plan begins turns p here = let is = only_ways_stay values start turns plan begins.one p here A in omega (arith, is)
 
 -- of a start
-only_paths_deliver : DeliversWithin 2 news_within
-only_paths_deliver start plan before more most begins unchecked lawful few whole last low many =
+only_paths_end : EndsWithin news_within
+only_paths_end = what_is_there_in_time_is_delivered news_within (exchanges_bring_all news_within
+    (λ start most n x turns. IsAwaited start (60000 + way_there_and_back start.paths start.lines) (λ n x turns. AwaitsAWindow start x turns) n x turns)
+    (λ start plan most begins. (
     let way = way_there_and_back start.paths start.lines in
     let least = begins.buffer in
-    whole_while_open start plan most way begins.one begins.mild (omega (arith, least)) unchecked (ways_short start plan begins) before more lawful whole last
-    (λ s. let sent = subst (SentAtMost (length (before ++ more))) last.here.is (each_turn_sends_one_at_most values start (before ++ more) 2 last.here.crew last.here.there) s in omega (arith, sent, few))
-    low (omega (arith, many))
+    exchanges start plan most way (60000 + way) (λ n x turns. AwaitsAWindow start x turns) begins.one begins.mild (omega (arith, least)) (ways_short start plan begins) (le_refl (60000 + way))
+    (shut_windows_open_in_time start plan most way begins.one begins.mild (omega (arith, least))))))
+
+pub paths_end : UncheckedPathsEnd values long_patience
+paths_end = ends_as_it_begins news_within only_paths_end
+
+pub paths_end_in_octets : UncheckedPathsEnd octets long_patience
+paths_end_in_octets = ends_as_it_begins_in_octets news_within only_paths_end
 
 pub whole_paths_deliver : UncheckedPathsDeliver values long_patience
-whole_paths_deliver = delivers_as_it_begins 2 news_within only_paths_deliver
+whole_paths_deliver = whole_paths_didnt_die values long_patience paths_end
 
 pub whole_paths_deliver_in_octets : UncheckedPathsDeliver octets long_patience
-whole_paths_deliver_in_octets = delivers_as_it_begins_in_octets 2 news_within only_paths_deliver
+whole_paths_deliver_in_octets = whole_paths_didnt_die octets long_patience paths_end_in_octets

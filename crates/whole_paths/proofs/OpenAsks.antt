@@ -5,7 +5,6 @@ use Rattle.std.proofs.lemmas.Bool.{and_parts, both_ways}
 use Rattle.sides.specs.declared.side.Side.{Side}
 use Rattle.sides.specs.declared.side.Side.TheVariants.{A, B}
 use Rattle.sides.specs.Side.{peer}
-use Rattle.path_agenda.specs.Agenda.{breaks, resets}
 use Rattle.actor_desk.specs.declared.ask.Note.{Note}
 use Rattle.path_core.specs.MpJoin.{is_joined}
 use Rattle.path_core.specs.State.{PathState, end_at}
@@ -24,21 +23,20 @@ use Rattle.world_laws.proofs.Promises.Made.{nothing_refused}
 use Rattle.world_laws.proofs.Weaving.WholeRounds.{run_append}
 use Rattle.world_laws.proofs.Worlds.CastLifting.{each_actor}
 use Rattle.world_laws.proofs.Worlds.Casts.{Cast, world_of}
-use Rattle.whole_paths.specs.Brought.{IsToReset}
-use Rattle.whole_paths.specs.Brought.IsToReset.{broken, is_reset, stopped}
 use Rattle.whole_paths.specs.DataAcksExchanged.{IsAwry}
 use Rattle.whole_paths.specs.DataAcksExchanged.{IsAwry as awry}
-use Rattle.whole_paths.specs.Mild.{BreaksForMissing, EndsGoByMappings, HardlyBreaks, IsHardlyBroken, IsMildStart, MappingIsKept, is_harsh}
+use Rattle.whole_paths.specs.Mild.{IsUnbroken, EndsGoByMappings, NeverBreaks, IsNeverBroken, IsMildStart, MappingIsKept, is_harsh}
 use Rattle.whole_paths.specs.OpenAsks.{HardlyGoesAwry, IsHardlyAwry, OpenEndsHardlyGoAwry}
 use Rattle.whole_paths.specs.OpenAsks.{IsHardlyAwry as hardly}
 use Rattle.whole_paths.specs.Owed.{IsToRefuse}
 use Rattle.whole_paths.specs.Owed.{IsToRefuse as refuse}
 use Rattle.whole_paths.specs.Straying.{IsOpen}
-use Rattle.whole_paths.proofs.Breaking.{hardly_breaks, none_noted}
+use Rattle.whole_paths.proofs.Breaking.{never_breaks, none_noted}
 use Rattle.whole_paths.proofs.Clearing.{Clears, MemberClears, each_clears, never_refuses}
 use Rattle.whole_paths.proofs.Endings.{KnowsItsEnd}
 use Rattle.whole_paths.proofs.Mild.{mapping_is_kept}
 use Rattle.whole_paths.proofs.OpenPieces.{MemberKnows, each_knows}
+use Rattle.whole_paths.proofs.Straying.{never_resets}
 
 -- ---- no end owes a third MP_JOIN on the path that opens the connection, nor carries a fast close
 
@@ -83,29 +81,20 @@ record IsKnown (steps : List Note) (p q : PathState Carried) : Type 0 where
   open_p : IsOpen p
   mapped_p : EndsGoByMappings p
   mapped_q : EndsGoByMappings q
-  breaks_p : BreaksForMissing p
-  breaks_q : BreaksForMissing q
+  breaks_p : IsUnbroken p
+  breaks_q : IsUnbroken q
   clears : (t : Side) → Clears t p.agenda (end_at t p)
   alone : EndsAskForThemselves p
   ends : (s : Side) → KnowsItsEnd (end_at s p)
   fine : was_told tells_refusal steps ≡ false
 
--- an end is reset for reason 6 alone
-pub resets_at : (s : Side) (p q : PathState Carried) → BreaksForMissing q → (t : Side) → IsToReset t q.agenda → IsHardlyAwry s p q
-resets_at s p q breaks_q t (broken reason is) = hardly.missing t (inl (is ∙ ap (breaks t) (breaks_q.broken t reason is)))
-resets_at s p q breaks_q t (is_reset reason is) = hardly.missing t (inr (is ∙ ap (resets t) (breaks_q.is_reset t reason is)))
-resets_at s p q breaks_q t (stopped is) = absurd (breaks_q.stopped t is)
-
 module _ (steps : List Note) (p q : PathState Carried) (k : IsKnown steps p q) (s : Side) where
-  resets_so : IsToReset s q.agenda → IsHardlyAwry s p q
-  resets_so is = resets_at s p q k.breaks_q s is
-
   refused_so : IsToRefuse (peer s) p.agenda → IsHardlyAwry s p q
   refused_so (refuse.refuses others is) = absurd (true≢false (sym (ap (λ ds. list_any is_harsh ds) is) ∙ k.breaks_p.duties))
   refused_so (refuse.answers others is) = absurd (never_refuses p (peer s) k.clears (k.open_p.living (peer s)) others is)
 
   goes_awry_so : IsAwry s steps p q → IsHardlyAwry s p q
-  goes_awry_so (awry.reset is) = resets_so is
+  goes_awry_so (awry.reset is) = absurd (never_resets q k.breaks_q s is)
   goes_awry_so (awry.resets is) = refused_so is
   goes_awry_so (awry.unopened t low) = absurd (let past = k.open_p.past t in omega (arith, past, low))
   goes_awry_so (awry.unclear t is) = absurd (both_ways (end_at t p).modes.clear is (k.open_p.clear t))
@@ -119,7 +108,7 @@ module _ (steps : List Note) (p q : PathState Carried) (k : IsKnown steps p q) (
   goes_awry_so (awry.past_window past) = hardly.past_window past
   goes_awry_so (awry.refused is) = absurd (both_ways (was_told tells_refusal steps) k.fine is)
 
-member_goes : (steps : List Note) (m n : Actor Carried) → OfPaths EndsGoByMappings m → OfPaths EndsGoByMappings n → OfPaths IsHardlyBroken m → OfPaths IsHardlyBroken n → MemberClears m → OfPaths EndsAskForThemselves m → MemberKnows m
+member_goes : (steps : List Note) (m n : Actor Carried) → OfPaths EndsGoByMappings m → OfPaths EndsGoByMappings n → OfPaths IsNeverBroken m → OfPaths IsNeverBroken n → MemberClears m → OfPaths EndsAskForThemselves m → MemberKnows m
     → was_told tells_refusal steps ≡ false → HardlyGoesAwry steps m n
 member_goes steps (Path p) (Path q) mapped_p mapped_q breaks_p breaks_q clears alone ends fine = λ open_p open_q s is. goes_awry_so steps p q (record {
   open_p = open_p;
@@ -141,8 +130,8 @@ open_ends_hardly_go_awry start turns turn mild actor c d was now =
     let v : WorldState Carried = after_turn values turn w in
     let same : world_run values (turns ++ turn ∷ []) (opened_world start) ≡ v = run_append values turns (turn ∷ []) (opened_world start) in
     let mapped : MappingIsKept v = subst MappingIsKept same (mapping_is_kept start (turns ++ turn ∷ []) mild) in
-    let breaks_q : HardlyBreaks v = subst HardlyBreaks same (hardly_breaks start (turns ++ turn ∷ []) mild) in
+    let breaks_q : NeverBreaks v = subst NeverBreaks same (never_breaks start (turns ++ turn ∷ []) mild) in
     let fine : NothingWasRefused v = subst NothingWasRefused same (nothing_refused start (turns ++ turn ∷ []) mild.plain) in
-    member_goes d.list c.member d.member ((mapping_is_kept start turns mild).each actor c was) (mapped.each actor d now) ((hardly_breaks start turns mild).each actor c was) (breaks_q.each actor d now)
+    member_goes d.list c.member d.member ((mapping_is_kept start turns mild).each actor c was) (mapped.each actor d now) ((never_breaks start turns mild).each actor c was) (breaks_q.each actor d now)
     ((each_clears values start turns).each actor c was) (ends_ask_for_themselves start turns mild actor c was) (each_knows start turns mild.plain.size actor c was)
     (ap (λ o. was_told tells_refusal (notes_or o)) (sym now) ∙ fine actor)

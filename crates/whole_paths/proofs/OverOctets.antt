@@ -1,5 +1,5 @@
 -- What is read off a world over octets is read off the world over segments as values that it shows.
-use Rattle.std.proofs.Common.{◌≡◌, refl, sym, subst, ap, ◌∙◌, ◌⊎◌, inl, inr, ◌↔◌, ℕ, ◌+◌, ◌==◌, ◌≤◌, nat_le, nat_lt, Bool, not, if◌then◌else◌, ◌&&◌, ◌||◌, Option, Some, None, List, [], ◌∷◌, ◌++◌, map}
+use Rattle.std.proofs.Common.{◌≡◌, refl, sym, subst, ap, ◌∙◌, ◌⊎◌, inl, inr, ◌↔◌, ℕ, ◌+◌, ◌==◌, ◌≤◌, nat_le, nat_lt, Bool, not, if◌then◌else◌, ◌&&◌, ◌||◌, Option, Some, None, List, [], ◌∷◌, ◌++◌, length, map}
 use Rattle.std.specs.Prelude.{option_map}
 use Rattle.std.specs.List.{list_any, slice_get, sum_by}
 use Rattle.std.proofs.lemmas.List.Sums.{sum_by-cons}
@@ -15,6 +15,8 @@ use Rattle.link_model.specs.Laws.{shown_flight}
 use Rattle.link_model.specs.Steps.{segments_sent}
 use Rattle.stream_lanes.proofs.Lists.{in_map}
 use Rattle.actor_desk.specs.Books.{books_in}
+use Rattle.actor_desk.specs.Desk.{reassembly_of, send_of}
+use Rattle.reassembly_book.specs.State.{received}
 use Rattle.actor_desk.specs.declared.ask.Note.{Note}
 use Rattle.path_core.specs.Octets.{octets}
 use Rattle.path_core.specs.Shown.{octets_of, shown_path}
@@ -37,11 +39,12 @@ use Rattle.world_laws.proofs.Numbers.EveryTurn.{every_list_is_fresh}
 use Rattle.world_laws.proofs.Promises.Made.{run_fresh}
 use Rattle.world_laws.proofs.Promises.OverOctets.{same_notes_of}
 use Rattle.world_laws.proofs.Worlds.Carrying.{run_same}
+use Rattle.whole_paths.specs.Delivery.{AllIsThere}
 use Rattle.whole_paths.specs.Finish.{AnEndDied, IsMild, IsPathAt, IsUnchecked, IsWhole, Patience, WholePathsDeliverWhere, harmed, harms_between, harms_of, is_harmed, rounds_in}
 use Rattle.whole_paths.specs.News.{news, path_news, side_news}
-use Rattle.whole_paths.specs.OnePathScripts.{DeliversAsItBegins, rounds_within}
+use Rattle.whole_paths.specs.OnePathScripts.{AnEndDiedEarly, EndsAsItBegins, rounds_within}
 use Rattle.whole_paths.specs.OverOctets.{FewLossesFinishAsOverValues, IsAsFarAsOverValues, OctetsAreAsFarAsValues, OnePathEndsAsOverValues, UncheckedPathsDeliverAsOverValues, WholePathsDeliverAsOverValues}
-use Rattle.whole_paths.proofs.OnePathScripts.{delivers_as_it_begins, mild_scripts_begin_with_one_path}
+use Rattle.whole_paths.proofs.OnePathScripts.{ends_as_it_begins, mild_scripts_begin_with_one_path}
 
 -- ---- lawful turns
 
@@ -233,6 +236,7 @@ octets_are_as_far_as_values start turns size fit =
       whole = λ number. (λ h. whole_back number w (subst (IsWhole number) run h), λ h. subst (IsWhole number) (sym run) (whole_on number w h));
       died = λ number. (λ h. died_back number w (subst (AnEndDied number) run h), λ h. subst (AnEndDied number) (sym run) (died_on number w h));
       harms = λ number. ap (harmed octets number turns) opens ∙ harmed_shown number turns (opened_world start) fresh;
+      books = ap (λ (v : WorldState (List ℕ)). v.books) run;
       as_far = ap (news start) run ∙ same_news start w;
     }
 
@@ -257,9 +261,6 @@ whole_paths_deliver_as_over_values = deliver_where (λ script turns. Unit {0})
 pub unchecked_paths_deliver_as_over_values : UncheckedPathsDeliverAsOverValues
 unchecked_paths_deliver_as_over_values = deliver_where IsUnchecked
 
-pub delivers_as_it_begins_in_octets : DeliversAsItBegins octets
-delivers_as_it_begins_in_octets rounds within delivers = unchecked_paths_deliver_as_over_values (rounds_within rounds within) (delivers_as_it_begins rounds within delivers)
-
 ended : (start : Start) (turns : List Turn) → IsAsFarAsOverValues start turns → (outcome_of (reached values start turns).crew ≡ Delivered) ⊎ AnEndDied 0 (reached values start turns)
     → (outcome_of (reached octets start turns).crew ≡ Delivered) ⊎ AnEndDied 0 (reached octets start turns)
 ended start turns whole (inl delivered) = inl (whole.outcome ∙ delivered)
@@ -275,3 +276,42 @@ few_losses_finish_as_over_values enough finish script path file_a file_b turns m
     let whole = as_far script path file_a file_b mild turns in
     whole.outcome ∙ finish script path file_a file_b turns mild harmless (subst (λ n. n ≤ 4) (whole.harms 0) few) (whole.lawful.0 lawful)
     (subst (λ n. enough script path file_a file_b n ≤ rounds_in turns) (whole.harms 0) many)
+
+-- ---- ends that died early
+
+-- all of both streams is there by the books alone
+there_by_books : {C D : Type 0} (w : WorldState C) (v : WorldState D) → w.books ≡ v.books → AllIsThere w → AllIsThere v
+there_by_books w v same h = record {
+  of = λ s. record {
+    closed = ap (λ b. (send_of s (books_in b)).closed) (sym same) ∙ (h.of s).closed;
+    received = ap (λ b. received (reassembly_of (peer s) (books_in b))) (sym same) ∙ (h.of s).received ∙ ap (λ b. length (send_of s (books_in b)).written) same;
+    known = ap (λ b. (reassembly_of (peer s) (books_in b)).known_end) (sym same) ∙ (h.of s).known ∙ ap (λ b. Some (length (send_of s (books_in b)).written)) same;
+  };
+}
+
+module _ (script : Script) (path : PathLine) (file_a file_b : List ℕ) (turns : List Turn) (mild : IsMild script path file_a file_b) where
+  abbrev start : Start
+  start = start_of script file_a file_b
+
+  early_on : AnEndDiedEarly values start turns → AnEndDiedEarly octets start turns
+  early_on h =
+      let far = as_far script path file_a file_b mild h.first in
+      record {
+        first = h.first;
+        rest = h.rest;
+        is = h.is;
+        died = (far.died 0).1 h.died;
+        missing = λ all. h.missing (there_by_books (reached octets start h.first) (reached values start h.first) far.books all);
+      }
+
+  ended_on : (outcome_of (reached values start turns).crew ≡ Delivered) ⊎ AnEndDiedEarly values start turns → (outcome_of (reached octets start turns).crew ≡ Delivered) ⊎ AnEndDiedEarly octets start turns
+  ended_on (inl delivered) = inl ((as_far script path file_a file_b mild turns).outcome ∙ delivered)
+  ended_on (inr early) = inr (early_on early)
+
+pub ends_as_it_begins_in_octets : EndsAsItBegins octets
+ends_as_it_begins_in_octets within ends script path file_a file_b before more mild also lawful first many =
+    let whole = as_far script path file_a file_b mild (before ++ Turn.Round ∷ more) in
+    let begun = as_far script path file_a file_b mild (before ++ Turn.Round ∷ []) in
+    ended_on script path file_a file_b (before ++ Turn.Round ∷ more) mild
+    (ends_as_it_begins within ends script path file_a file_b before more mild also (whole.lawful.0 lawful) ((begun.whole 0).0 first)
+    (subst (λ n. rounds_within within script path file_a file_b n ≤ rounds_in more) (whole.harms 0) many))

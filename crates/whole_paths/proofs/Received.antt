@@ -51,11 +51,11 @@ use Rattle.world_laws.proofs.Worlds.CastLifting.{each_actor, path_actor}
 use Rattle.world_laws.proofs.Worlds.Casts.{Walker, walking, world_of}
 use Rattle.world_laws.proofs.Worlds.Turns.{turn_so}
 use Rattle.world_laws.proofs.Writes.Asks.{asks_no_more}
-use Rattle.whole_paths.specs.Mild.{IsHardlyBroken, IsMildStart, is_harsh}
+use Rattle.whole_paths.specs.Mild.{IsNeverBroken, IsMildStart, is_harsh}
 use Rattle.whole_paths.specs.Came.{HasCome}
 use Rattle.whole_paths.specs.Received.{GrantedIsReceived, HoldsOfOnlyPaths, PassedIsPlaced, PassedIsReceived, WhatIsGrantedIsReceived, WhatIsPassedIsPlaced, WhatIsPassedIsReceived}
 use Rattle.whole_paths.proofs.Acknowledged.{always_shown}
-use Rattle.whole_paths.proofs.Breaking.{hardly_breaks}
+use Rattle.whole_paths.proofs.Breaking.{never_breaks}
 use Rattle.whole_paths.proofs.Came.{what_is_acknowledged_came}
 use Rattle.whole_paths.proofs.Reached.{EndsAreReached, each_is_reached, none_left}
 use Rattle.whole_paths.proofs.Sent.{next_after}
@@ -169,7 +169,7 @@ path_asks_none (d ∷ ds) p x calm is = subst IsNoJoinOfB (same_Some (ask_for va
 abbrev OfPaths : (PathState Carried → Type 0) → Actor Carried → Type 0
 OfPaths P = HoldsOfKind (λ app. Unit {0}) P
 
-member_none : (m : Actor Carried) (x : Ask) → OfPaths (λ p. is_joined p.profile ≡ false) m → OfPaths IsHardlyBroken m → member_asks values m ≡ Some x → IsNoJoinOfB x
+member_none : (m : Actor Carried) (x : Ask) → OfPaths (λ p. is_joined p.profile ≡ false) m → OfPaths IsNeverBroken m → member_asks values m ≡ Some x → IsNoJoinOfB x
 member_none (App a) x first breaks is = app_asks_none a.agenda a x is
 member_none (Path p) x first breaks is = path_asks_none p.agenda p x (breaks first).duties is
 
@@ -202,7 +202,7 @@ module _ (start : Start) (plan : PathPlan) (one : start.paths ≡ plan ∷ []) (
   unjoined_turn : (turns : List Turn) (turn : Turn) → IsUnjoined (at turns) → IsUnjoined (after_turn values turn (at turns))
   unjoined_turn turns turn none = turn_so values IsUnjoined turn (at turns) none
       (λ actor c x there asks. subst (λ (six : SixBooks). six.control_b.fall.joined ≡ false) (sym (books_after x c.pass (at turns).books))
-      (unasked x (books_in (at turns).books) (member_none c.member x (each_first turns actor c there) ((hardly_breaks start turns mild).each actor c there) asks) ∙ none))
+      (unasked x (books_in (at turns).books) (member_none c.member x (each_first turns actor c there) ((never_breaks start turns mild).each actor c there) asks) ∙ none))
       (λ over. none)
 
   unjoined_then : (before more : List Turn) → IsUnjoined (at before) → IsUnjoined (world_run values more (at before))

@@ -194,8 +194,6 @@ module _ (start : Start) (mild : IsMildStart start) (turns : List Turn) (turn : 
           inr (record { side = s; awaited = r; is_data = h.is_data; left = left; within = within; ahead = ahead; room = room; exchange = exchange }))))
 
       strays : IsHardlyAstray s p q → Next
-      strays (hardly.missing (inl is)) = absurd (after.unbroken (peer s) is)
-      strays (hardly.missing (inr is)) = absurd (after.unreset (peer s) is)
       strays (hardly.behind_fin behind) = if_ahead (λ ahead. absurd (not_behind ahead behind))
       strays (hardly.past_window past) = absurd (let room = h.room in omega (arith, past, room))
 

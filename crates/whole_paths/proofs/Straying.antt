@@ -11,7 +11,6 @@ use Rattle.subflow_send.specs.Records.{Record}
 use Rattle.subflow_tcp.specs.States.{is_dead}
 use Rattle.subflow_tcp.specs.declared.handshake.State.{State}
 use Rattle.subflow_tcp.specs.declared.handshake.State.TheVariants as phase
-use Rattle.path_agenda.specs.Agenda.{breaks, resets}
 use Rattle.path_core.specs.Choices.{is_side_a}
 use Rattle.path_core.specs.MpJoin.{is_joined}
 use Rattle.path_core.specs.Standing.{is_connected}
@@ -28,24 +27,25 @@ use Rattle.whole_paths.specs.Brought.{IsToReset}
 use Rattle.whole_paths.specs.Brought.IsToReset.{broken, is_reset, stopped}
 use Rattle.whole_paths.specs.Exchanges.{IsAstray}
 use Rattle.whole_paths.specs.Exchanges.{IsAstray as stray}
-use Rattle.whole_paths.specs.Mild.{BreaksForMissing, EndsGoByMappings, EndsHaveKeys, HardlyBreaks, HasKeys, IsHardlyBroken, KeysAreKnown, MappingIsKept, is_harsh}
+use Rattle.whole_paths.specs.Mild.{IsUnbroken, EndsGoByMappings, EndsHaveKeys, NeverBreaks, HasKeys, IsNeverBroken, KeysAreKnown, MappingIsKept, is_harsh}
 use Rattle.whole_paths.specs.Owed.{IsToRefuse}
 use Rattle.whole_paths.specs.Owed.{IsToRefuse as refuse}
 use Rattle.whole_paths.specs.Straying.{HardlyStrays, IsHardlyAstray, IsOpen, IsOpenBetween, OpenEndsHardlyStray, WholePathsAreOpen}
 use Rattle.whole_paths.specs.Straying.{IsHardlyAstray as hardly}
-use Rattle.whole_paths.proofs.Breaking.{hardly_breaks}
+use Rattle.whole_paths.proofs.Breaking.{never_breaks}
 use Rattle.whole_paths.proofs.Clearing.{Clears, MemberClears, each_clears, never_refuses, never_treats}
 use Rattle.whole_paths.proofs.GoesOn.{goes_on_so}
 use Rattle.whole_paths.proofs.Keyed.{keys_are_known}
 use Rattle.whole_paths.proofs.Mild.{mapping_is_kept}
 
-module _ (p q : PathState Carried) (open_p : IsOpen p) (open_q : IsOpen q) (mapped_p : EndsGoByMappings p) (mapped_q : EndsGoByMappings q) (keys : EndsHaveKeys q) (breaks_p : BreaksForMissing p) (breaks_so : BreaksForMissing q)
-    (clears_p : (t : Side) → Clears t p.agenda (end_at t p)) (clears : (t : Side) → Clears t q.agenda (end_at t q)) where
-  resets_so : (s : Side) → IsToReset (peer s) q.agenda → IsHardlyAstray s p q
-  resets_so s (broken reason is) = hardly.missing (inl (is ∙ ap (breaks (peer s)) (breaks_so.broken (peer s) reason is)))
-  resets_so s (is_reset reason is) = hardly.missing (inr (is ∙ ap (resets (peer s)) (breaks_so.is_reset (peer s) reason is)))
-  resets_so s (stopped is) = absurd (breaks_so.stopped (peer s) is)
+-- no end is reset next
+pub never_resets : (q : PathState Carried) → IsUnbroken q → (t : Side) → IsToReset t q.agenda → ⊥
+never_resets q unbroken t (broken reason is) = unbroken.broken t reason is
+never_resets q unbroken t (is_reset reason is) = unbroken.is_reset t reason is
+never_resets q unbroken t (stopped is) = unbroken.stopped t is
 
+module _ (p q : PathState Carried) (open_p : IsOpen p) (open_q : IsOpen q) (mapped_p : EndsGoByMappings p) (mapped_q : EndsGoByMappings q) (keys : EndsHaveKeys q) (breaks_p : IsUnbroken p) (breaks_so : IsUnbroken q)
+    (clears_p : (t : Side) → Clears t p.agenda (end_at t p)) (clears : (t : Side) → Clears t q.agenda (end_at t q)) where
   has_key : (s t : Side) → (end_at t q).modes.peer_key ≡ None → IsHardlyAstray s p q
   has_key s A none = ⊎_elim
       (λ some. absurd (both_ways (is_some q.a.modes.peer_key) (ap is_some none) some))
@@ -58,7 +58,7 @@ module _ (p q : PathState Carried) (open_p : IsOpen p) (open_q : IsOpen q) (mapp
   refused_so s (refuse.answers others is) = absurd (never_refuses p (peer s) clears_p (open_p.living (peer s)) others is)
 
   strays_so : (s : Side) (r : Record) → IsAstray s r p q → IsHardlyAstray s p q
-  strays_so s r (stray.reset is) = resets_so s is
+  strays_so s r (stray.reset is) = absurd (never_resets q breaks_so (peer s) is)
   strays_so s r (stray.resets is) = refused_so s is
   strays_so s r (stray.behind_fin is) = hardly.behind_fin is
   strays_so s r (stray.unopened low) = absurd (let past = open_p.past (peer s) in omega (arith, past, low))
@@ -79,7 +79,7 @@ module _ (p q : PathState Carried) (open_p : IsOpen p) (open_q : IsOpen q) (mapp
 abbrev OfPaths : (PathState Carried → Type 0) → Actor Carried → Type 0
 OfPaths P = HoldsOfKind (λ app. Unit {0}) P
 
-member_strays : (m n : Actor Carried) → OfPaths EndsGoByMappings m → OfPaths EndsGoByMappings n → OfPaths HasKeys n → OfPaths IsHardlyBroken m → OfPaths IsHardlyBroken n → MemberClears m → MemberClears n → HardlyStrays m n
+member_strays : (m n : Actor Carried) → OfPaths EndsGoByMappings m → OfPaths EndsGoByMappings n → OfPaths HasKeys n → OfPaths IsNeverBroken m → OfPaths IsNeverBroken n → MemberClears m → MemberClears n → HardlyStrays m n
 member_strays (Path p) (Path q) mapped_p mapped_q keys breaks_p breaks_so clears_p clears = λ open_p open_q s r is. strays_so p q open_p open_q mapped_p mapped_q (keys open_q.first) (breaks_p open_p.first) (breaks_so open_q.first) (clears_p open_p.first) (clears open_q.first) s r is
 member_strays (Path p) (App b) mapped_p mapped_q keys breaks_p breaks_so clears_p clears = tt
 member_strays (App a) n mapped_p mapped_q keys breaks_p breaks_so clears_p clears = tt
@@ -90,13 +90,13 @@ open_ends_hardly_stray start turns turn mild actor c d was now =
     let same : world_run values (turns ++ turn ∷ []) (opened_world start) ≡ v = run_append values turns (turn ∷ []) (opened_world start) in
     let mapped : MappingIsKept v = subst MappingIsKept same (mapping_is_kept start (turns ++ turn ∷ []) mild) in
     let keys : KeysAreKnown v = subst KeysAreKnown same (keys_are_known start (turns ++ turn ∷ []) mild) in
-    let breaks_so : HardlyBreaks v = subst HardlyBreaks same (hardly_breaks start (turns ++ turn ∷ []) mild) in
+    let breaks_so : NeverBreaks v = subst NeverBreaks same (never_breaks start (turns ++ turn ∷ []) mild) in
     let clears = subst (λ (x : WorldState Carried). Every (λ (y : ActorCrew Carried). MemberClears y.member) x.crew) same (each_clears values start (turns ++ turn ∷ [])) in
-    member_strays c.member d.member ((mapping_is_kept start turns mild).each actor c was) (mapped.each actor d now) (keys.each actor d now) ((hardly_breaks start turns mild).each actor c was) (breaks_so.each actor d now) ((each_clears values start turns).each actor c was) (clears.each actor d now)
+    member_strays c.member d.member ((mapping_is_kept start turns mild).each actor c was) (mapped.each actor d now) (keys.each actor d now) ((never_breaks start turns mild).each actor c was) (breaks_so.each actor d now) ((each_clears values start turns).each actor c was) (clears.each actor d now)
 
 -- ---- a path that is whole, and still is later
 
-connected_stage : (state : State) → is_connected state ≡ true → (3 ≤ stage state) × (stage state ≤ 6)
+pub connected_stage : (state : State) → is_connected state ≡ true → (3 ≤ stage state) × (stage state ≤ 6)
 connected_stage phase.Waiting is = absurd (true≢false (sym is))
 connected_stage phase.Listen is = absurd (true≢false (sym is))
 connected_stage phase.SynSent is = absurd (true≢false (sym is))
@@ -108,7 +108,7 @@ alive : (state : State) → stage state ≤ 6 → is_dead state ≡ false
 alive phase.Dead low = absurd (omega (arith, low))
 alive _ low = refl
 
-end_far : {C : Type 0} (p q : PathState C) → IsPathAsFar p q → (s : Side) → IsEndAsFar (end_at s p) (end_at s q)
+pub end_far : {C : Type 0} (p q : PathState C) → IsPathAsFar p q → (s : Side) → IsEndAsFar (end_at s p) (end_at s q)
 end_far p q h A = h.a
 end_far p q h B = h.b
 

@@ -1,38 +1,38 @@
--- Where all of both streams comes in time, both files are delivered; and it comes where exchanges go on.
-use Rattle.std.proofs.Common.{◌≡◌, refl, sym, subst, ap, ◌∙◌, ⊎_elim, ℕ, ◌+◌, ◌-◌, ◌^◌, ◌<◌, ◌≤◌, arith, true, false, true≢false, Some, List, [], ◌∷◌, ◌++◌, length, length-append, append_assoc}
-use Rattle.std.specs.List.{slice_get}
+-- Where exchanges go on, all of both streams comes in time, or an end died early; and then both files are delivered.
+use Rattle.std.proofs.Common.{◌≡◌, refl, sym, subst, ap, ◌∙◌, ⊎_elim, inl, inr, ◌⊎◌, ℕ, suc, ◌+◌, ◌-◌, ◌*◌, ◌^◌, ◌<◌, ◌≤◌, arith, true, true≢false, List, [], ◌∷◌, ◌++◌, length, length-append, append_assoc}
 use Rattle.std.proofs.lemmas.Bool.{cases_lt}
+use Rattle.std.proofs.lemmas.Option.{same_Some}
+use Rattle.sides.specs.declared.side.Side.TheVariants.{A, B}
 use Rattle.subflow_tcp.specs.declared.handshake.State.{State}
 use Rattle.subflow_tcp.specs.States.{is_dead}
-use Rattle.path_core.specs.MpJoin.{is_joined}
-use Rattle.path_core.specs.Standing.{is_connected}
-use Rattle.path_core.specs.State.{PathState, end_at}
+use Rattle.path_core.specs.Codec.{Codec}
+use Rattle.path_core.specs.State.{end_at}
 use Rattle.path_core.specs.Values.{Carried, values}
-use Rattle.world_laws.specs.declared.member.Member.TheVariants.{App, Path}
-use Rattle.world_laws.specs.Actors.{Actor, ActorCrew}
-use Rattle.world_laws.specs.Members.{HoldsOfKind}
-use Rattle.world_laws.specs.Openings.{PathPlan, Start, opened_world}
+use Rattle.world_laws.specs.declared.member.Member.TheVariants.{Path}
 use Rattle.world_laws.specs.declared.outcome.Outcome.TheVariants.{Delivered}
+use Rattle.world_laws.specs.Actors.{ActorCrew}
+use Rattle.world_laws.specs.Openings.{PathPlan, Start, opened_world}
 use Rattle.world_laws.specs.Outcomes.{outcome_of}
 use Rattle.world_laws.specs.RoundDone.{reached}
-use Rattle.world_laws.specs.Worlds.{WorldState, Turn, AreLawful, after_turn, world_run}
+use Rattle.world_laws.specs.Worlds.{WorldState, Turn, AreLawful, world_run}
 use Rattle.world_laws.proofs.Weaving.WholeRounds.{run_append}
-use Rattle.whole_paths.specs.AsFar.{stage}
+use Rattle.whole_paths.specs.AsFar.{IsActorAsFar, stage}
 use Rattle.whole_paths.specs.Courses.{Exchanges}
 use Rattle.whole_paths.specs.Delivery.{AllIsThere}
-use Rattle.whole_paths.specs.Finish.{IsWhole, harmed, rounds_in}
-use Rattle.whole_paths.specs.OnePathScripts.{BeginsWithOnePath}
+use Rattle.whole_paths.specs.Finish.{AnEndDied, IsWhole, Patience, UncheckedPathsDeliver, harmed, opened, rounds_in}
+use Rattle.whole_paths.specs.News.{most_news}
+use Rattle.whole_paths.specs.OnePathScripts.{AllIsThereWithin, AnEndDiedEarly, BeginsWithOnePath, UncheckedPathsEnd, WhatIsThereInTimeIsDelivered}
 use Rattle.whole_paths.specs.OpenCourses.{IsOpenAfter}
+use Rattle.whole_paths.specs.Rounds.{ticks_for}
 use Rattle.whole_paths.specs.SentByTurns.{SentAtMost}
-use Rattle.whole_paths.specs.Straying.{IsOpen, IsOpenBetween}
-use Rattle.whole_paths.specs.ThereInTime.{AllIsThereWithin, WhatIsThereInTimeIsDelivered}
 use Rattle.whole_paths.proofs.Courses.{harmed_append}
-use Rattle.whole_paths.proofs.Delivery.{what_is_there_is_delivered, what_is_there_stays}
+use Rattle.whole_paths.proofs.Delivery.{what_is_there_is_delivered}
 use Rattle.whole_paths.proofs.GoesOn.{goes_on_so}
-use Rattle.whole_paths.proofs.OpenCourses.{open_exchanges_end}
+use Rattle.whole_paths.proofs.GoingOn.{there_or}
+use Rattle.whole_paths.proofs.OpenCourses.{lawful_parts, open_exchanges_end}
 use Rattle.whole_paths.proofs.SentByTurns.{each_turn_sends_one_at_most}
-use Rattle.whole_paths.proofs.Straying.{whole_paths_are_open}
-use Rattle.whole_paths.proofs.Unstopped.{only_path_opens}
+use Rattle.whole_paths.proofs.StayingWhole.{whole_paths_stay_whole}
+use Rattle.whole_paths.proofs.Straying.{connected_stage, end_far}
 
 -- ---- the last rounds
 
@@ -59,83 +59,93 @@ last_rounds n (Turn.Round ∷ turns) few = ⊎_elim
     (λ enough. with_turn Turn.Round n turns (last_rounds n turns enough))
     (cases_lt (rounds_in turns) n)
 
--- ---- a path that is whole between
+-- ---- a path that was whole
 
-connected_so : (state : State) → 3 ≤ stage state → is_dead state ≡ false → is_connected state ≡ true
-connected_so State.Waiting far living = absurd (omega (arith, far))
-connected_so State.Listen far living = absurd (omega (arith, far))
-connected_so State.SynSent far living = absurd (omega (arith, far))
-connected_so State.SynReceived far living = absurd (omega (arith, far))
-connected_so State.Dead far living = absurd (true≢false living)
-connected_so _ far living = refl
+dead_stage : (state : State) → is_dead state ≡ true → 7 ≤ stage state
+dead_stage State.Dead is = omega arith
+dead_stage _ is = absurd (true≢false (sym is))
 
-whole_so : (w : WorldState Carried) (c : ActorCrew Carried) (m : Actor Carried) → slice_get w.crew 2 ≡ Some c → c.member ≡ m → HoldsOfKind (λ app. Unit {0}) (λ p. is_joined p.profile ≡ false) m → IsOpenBetween m
-    → IsWhole 0 w
-whole_so w c (Path p) there is first between =
-    let opened : IsOpen p = between first in
-    record {
-      path = p;
-      here = record { crew = c; there = there; is = is };
-      connected = λ s. connected_so (end_at s p).tcp.state (opened.past s) (opened.living s);
-      clear = opened.clear;
-    }
-whole_so w c (App a) there is first between = absurd between
+module _ {C : Type 0} (k : Codec C) (w : WorldState C) (more : List Turn) where
+  abbrev later : WorldState C
+  later = world_run k more w
 
-whole_between : (start : Start) (plan : PathPlan) (before first rest : List Turn) → start.paths ≡ plan ∷ [] → IsWhole 0 (reached values start before)
-    → IsWhole 0 (reached values start (before ++ (first ++ rest))) → IsWhole 0 (reached values start (before ++ first))
-whole_between start plan before first rest one whole last =
-    let w : WorldState Carried = reached values start before in
-    let v : WorldState Carried = world_run values first w in
-    let same : reached values start (before ++ first) ≡ v = run_append values before first (opened_world start) in
-    let found = (goes_on_so values w first).crew 2 whole.here.crew whole.here.there in
-    let opens = subst (λ (x : WorldState Carried). (c : ActorCrew Carried) → slice_get x.crew 2 ≡ Some c → HoldsOfKind (λ app. Unit {0}) (λ (p : PathState Carried). is_joined p.profile ≡ false) c.member) same
-    ((only_path_opens start plan (before ++ first) one).each 2) in
-    subst (IsWhole 0) (sym same) (whole_so v found.0 found.0.member found.1 refl (opens found.0 found.1)
-    (whole_paths_are_open w first rest whole (subst (IsWhole 0) (run_append values before (first ++ rest) (opened_world start)) last) found.0 found.1))
+  -- no path is whole of which an end was dead
+  dead_not_whole : AnEndDied 0 w → IsWhole 0 later → ⊥
+  dead_not_whole died whole =
+      let found = (goes_on_so k w more).crew 2 died.here.crew died.here.there in
+      let same : found.0 ≡ whole.here.crew = same_Some found.0 whole.here.crew (sym found.1 ∙ whole.here.there) in
+      let far : IsActorAsFar (Path died.path) (Path whole.path) = subst (λ m. IsActorAsFar m (Path whole.path)) died.here.is
+      (subst (λ m. IsActorAsFar died.here.crew.member m) (ap (λ (c : ActorCrew C). c.member) same ∙ whole.here.is) found.2.member) in
+      let high = dead_stage (end_at died.side died.path).tcp.state died.dead in
+      let up = (end_far died.path whole.path far died.side).subflow.state in
+      let low = (connected_stage (end_at died.side whole.path).tcp.state (whole.connected died.side)).1 in
+      omega (arith, high, up, low)
+
+-- a path that is still whole then has no end that died
+pub whole_paths_didnt_die : {C : Type 0} (k : Codec C) (enough : Patience) → UncheckedPathsEnd k enough → UncheckedPathsDeliver k enough
+whole_paths_didnt_die k enough ends script path file_a file_b before more mild also lawful first last many = ⊎_elim
+    (λ delivered. delivered)
+    (λ early. absurd (dead_not_whole k (world_run k early.first (opened script file_a file_b)) early.rest early.died
+    (subst (IsWhole 0) (ap (λ ts. world_run k ts (opened script file_a file_b)) early.is ∙ run_append k early.first early.rest (opened script file_a file_b)) last)))
+    (ends script path file_a file_b before more mild also lawful first many)
 
 -- ---- delivered in time
 
-lawful_parts : (ts us : List Turn) (w : WorldState Carried) → AreLawful values (ts ++ us) w → AreLawful values ts w × AreLawful values us (world_run values ts w)
-lawful_parts [] us w lawful = (tt, lawful)
-lawful_parts (t ∷ ts) us w lawful = let rest = lawful_parts ts us (after_turn values t w) lawful.1 in ((lawful.0, rest.0), rest.1)
+-- all of both streams is there, or not
+all_there_or : (w : WorldState Carried) → AllIsThere w ⊎ (AllIsThere w → ⊥)
+all_there_or w = ⊎_elim
+    (λ a. ⊎_elim (λ b. inl (record { of = elim [ A ↦ a | B ↦ b ] })) (λ none. inr (λ all. none (all.of B))) (there_or B w))
+    (λ none. inr (λ all. none (all.of A)))
+    (there_or A w)
 
 pub what_is_there_in_time_is_delivered : WhatIsThereInTimeIsDelivered
-what_is_there_in_time_is_delivered within comes start plan before more most begins unchecked lawful few whole last low many =
-    subst (λ ts. Delivers ts) (sym parts.is) (by parts.first parts.rest parts.is parts.last parts.all)
+what_is_there_in_time_is_delivered within comes start plan before more most begins unchecked lawful few whole low many =
+    subst Ends (sym parts.is)
+    (by parts.first parts.rest (subst (λ ts. AreLawful values ts (reached values start before)) parts.is lawful) (subst (λ ts. length (before ++ ts) < 2 ^ 64 - 1) parts.is few)
+    (subst (λ ts. harmed values 0 (before ++ ts) (opened_world start) ≤ most) parts.is low) parts.last (let all = parts.all in omega (arith, many, all)))
   where
-    Delivers : List Turn → Type 0
-    Delivers ts = outcome_of (reached values start (before ++ ts)).crew ≡ Delivered
+    Ends : List Turn → Type 0
+    Ends ts = (outcome_of (reached values start (before ++ ts)).crew ≡ Delivered) ⊎ AnEndDiedEarly values start (before ++ ts)
 
     parts : LastRounds 3 more
     parts = last_rounds 3 more (omega (arith, many))
 
-    by : (first rest : List Turn) → more ≡ first ++ rest → rounds_in rest ≡ 3 → rounds_in more ≡ rounds_in first + 3 → Delivers (first ++ rest)
-    by first rest is three all =
-        let going : AreLawful values (first ++ rest) (reached values start before) = subst (λ ts. AreLawful values ts (reached values start before)) is lawful in
-        let lawfuls = lawful_parts first rest (reached values start before) going in
-        let end : IsWhole 0 (reached values start (before ++ (first ++ rest))) = subst (λ ts. IsWhole 0 (reached values start (before ++ ts))) is last in
-        let same : (before ++ first) ++ rest ≡ before ++ (first ++ rest) = append_assoc before first rest in
-        let harms = harmed_append values 0 (before ++ first) rest (opened_world start) in
-        let low_then : harmed values 0 ((before ++ first) ++ rest) (opened_world start) ≤ most = subst (λ ts. harmed values 0 ts (opened_world start) ≤ most) (ap (λ ts. before ++ ts) is ∙ sym same) low in
-        let whole_length : length ((before ++ first) ++ rest) < 2 ^ 64 - 1 = subst (λ ts. length ts < 2 ^ 64 - 1) (ap (λ ts. before ++ ts) is ∙ sym same) few in
-        let sum : length ((before ++ first) ++ rest) ≡ length (before ++ first) + length rest = length-append (before ++ first) rest in
-        let all_there : AllIsThere (reached values start (before ++ first)) =
-        comes start plan before first most begins unchecked lawfuls.0 (omega (arith, whole_length, sum)) whole (whole_between start plan before first rest begins.one whole end)
-        (omega (arith, harms, low_then)) (omega (arith, many, all)) in
-        subst (λ ts. outcome_of (reached values start ts).crew ≡ Delivered) same
-        (what_is_there_is_delivered start plan (before ++ first) rest begins.one begins.mild all_there
-        (subst (AreLawful values rest) (sym (run_append values before first (opened_world start))) lawfuls.1) (omega (arith, three)))
+    by : (first rest : List Turn) → AreLawful values (first ++ rest) (reached values start before) → length (before ++ (first ++ rest)) < 2 ^ 64 - 1
+        → harmed values 0 (before ++ (first ++ rest)) (opened_world start) ≤ most → rounds_in rest ≡ 3 → ticks_for (within start) (suc (most_news start + most)) < 100 * rounds_in first → Ends (first ++ rest)
+    by first rest going short fewer three enough = ⊎_elim delivered ended (all_there_or (reached values start (before ++ first)))
+      where
+        same : (before ++ first) ++ rest ≡ before ++ (first ++ rest)
+        same = append_assoc before first rest
+
+        then : reached values start (before ++ first) ≡ world_run values first (reached values start before)
+        then = run_append values before first (opened_world start)
+
+        delivered : AllIsThere (reached values start (before ++ first)) → Ends (first ++ rest)
+        delivered all = inl (subst (λ ts. outcome_of (reached values start ts).crew ≡ Delivered) same
+            (what_is_there_is_delivered start plan (before ++ first) rest begins.one begins.mild all
+            (subst (AreLawful values rest) (sym then) (lawful_parts first rest (reached values start before) going).1) (omega (arith, three))))
+
+        all_came : IsWhole 0 (reached values start (before ++ first)) → AllIsThere (reached values start (before ++ first))
+        all_came last =
+            let sum = length-append (before ++ first) rest in let long = ap length same in
+            let harms = harmed_append values 0 (before ++ first) rest (opened_world start) in let all = ap (λ ts. harmed values 0 ts (opened_world start)) same in
+            comes start plan before first most begins unchecked (lawful_parts first rest (reached values start before) going).0 (omega (arith, short, sum, long)) whole last (omega (arith, harms, all, fewer)) enough
+
+        ended : (AllIsThere (reached values start (before ++ first)) → ⊥) → Ends (first ++ rest)
+        ended missing = ⊎_elim
+            (λ last. absurd (missing (all_came (subst (IsWhole 0) (sym then) last))))
+            (λ died. inr (record { first = before ++ first; rest = rest; is = sym same; died = subst (AnEndDied 0) (sym then) died; missing = missing }))
+            (whole_paths_stay_whole values (reached values start before) 0 first whole)
 
 -- ---- from exchanges
 
 -- where exchanges go on until all of both streams is there, it is there in time
 pub exchanges_bring_all : (within : Start → ℕ) (Waits : Start → ℕ → ℕ → ℕ → List Turn → Type 0)
-    → ((start : Start) (plan : PathPlan) (most : ℕ) → BeginsWithOnePath start plan → start.checksums ≡ false
+    → ((start : Start) (plan : PathPlan) (most : ℕ) → BeginsWithOnePath start plan
     → Exchanges values start (IsOpenAfter start) most (within start) (λ turns. AllIsThere (reached values start turns)) (Waits start most))
     → AllIsThereWithin within
 exchanges_bring_all within Waits exchanges start plan before more most begins unchecked lawful few whole last low many =
-    open_exchanges_end start most (within start) (λ turns. AllIsThere (reached values start turns)) (Waits start most) begins.mild unchecked (exchanges start plan most begins unchecked)
-    (λ turns turn all. record { of = λ s. what_is_there_stays start turns (turn ∷ []) begins.mild s (all.of s) })
+    open_exchanges_end start most (within start) (λ turns. AllIsThere (reached values start turns)) (Waits start most) begins.mild unchecked (exchanges start plan most begins)
     before more lawful whole last
     (λ s. let sent = subst (SentAtMost (length (before ++ more))) last.here.is (each_turn_sends_one_at_most values start (before ++ more) 2 last.here.crew last.here.there) s in omega (arith, sent, few))
-    low (omega (arith, many))
+    low many

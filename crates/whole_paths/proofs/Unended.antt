@@ -244,7 +244,7 @@ pub record AreUnended (d : Direction) : Type 0 where
 abbrev pub GoesUnended : Direction → Type 0
 GoesUnended d = d.send.owner ≡ None → AreUnended d
 
-every_set : {X : Type 0} {P : X → Type 0} (xs : List X) (i : ℕ) (y : X) → Every P xs → P y → Every P (set xs i y)
+pub every_set : {X : Type 0} {P : X → Type 0} (xs : List X) (i : ℕ) (y : X) → Every P xs → P y → Every P (set xs i y)
 every_set {X} {P} xs i y h here = record { each = λ k x there. ⊎_elim (λ same. subst P same.1 here) (λ other. h.each k x other.1) (in_set xs i y k x there) }
 
 -- a call that neither acknowledges nor gives the book to a path changes neither, and takes no byte away

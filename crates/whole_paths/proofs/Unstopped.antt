@@ -69,10 +69,10 @@ use Rattle.world_laws.proofs.Writes.Asks.{asks_no_more}
 use Rattle.whole_paths.specs.AgendaSteps.{Follows, Happened, is_told}
 use Rattle.whole_paths.specs.AgendaSteps.{Follows as follows}
 use Rattle.whole_paths.specs.AgendaSteps.{Happened as happened}
-use Rattle.whole_paths.specs.Mild.{BreaksForMissing, IsHardlyBroken, IsMildStart, is_harsh}
+use Rattle.whole_paths.specs.Mild.{IsUnbroken, IsNeverBroken, IsMildStart, is_harsh}
 use Rattle.whole_paths.specs.Unstopped.{MildPathsAreNeverStopped}
 use Rattle.whole_paths.proofs.Agendas.{answered_follows}
-use Rattle.whole_paths.proofs.Breaking.{hardly_breaks}
+use Rattle.whole_paths.proofs.Breaking.{never_breaks}
 use Rattle.whole_paths.proofs.Unbroken.{none_heard}
 
 -- ---- what is asked
@@ -361,7 +361,7 @@ record GoesQuietly (w : WorldState Carried) : Type 0 where
   told : (actor : ℕ) (c : ActorCrew Carried) → slice_get w.crew actor ≡ Some c → was_told tells_stop c.list ≡ false
 
 abbrev MemberFact : Actor Carried → Type 0
-MemberFact = HoldsOfKind (λ app. Unit {0}) (λ p. PathUpright p × BreaksForMissing p)
+MemberFact = HoldsOfKind (λ app. Unit {0}) (λ p. PathUpright p × IsUnbroken p)
 
 record Facts (w : WorldState Carried) : Type 0 where
   each : (actor : ℕ) (c : ActorCrew Carried) → slice_get w.crew actor ≡ Some c → MemberFact c.member
@@ -467,13 +467,13 @@ mild_paths_are_never_stopped start plan turns one mild = record {
     w : WorldState Carried
     w = world_run values turns (opened_world start)
 
-    by : (m : Actor Carried) → MemberUpright m → HoldsOfKind (λ app. Unit {0}) IsHardlyBroken m → HoldsOfKind (λ app. Unit {0}) (λ p. is_joined p.profile ≡ false) m → MemberFact m
+    by : (m : Actor Carried) → MemberUpright m → HoldsOfKind (λ app. Unit {0}) IsNeverBroken m → HoldsOfKind (λ app. Unit {0}) (λ p. is_joined p.profile ≡ false) m → MemberFact m
     by (App a) upright breaks first = tt
     by (Path p) upright breaks first = (upright, breaks first)
 
     facts : (more : List Turn) → Facts (world_run values more (opened_world start))
     facts more = record {
-      each = λ actor c there. by c.member ((each_upright start more mild.plain mild.strips).each actor c there) ((hardly_breaks start more mild).each actor c there) ((only_path_opens start plan more one).each actor c there);
+      each = λ actor c there. by c.member ((each_upright start more mild.plain mild.strips).each actor c there) ((never_breaks start more mild).each actor c there) ((only_path_opens start plan more one).each actor c there);
     }
 
     h : GoesQuietly w

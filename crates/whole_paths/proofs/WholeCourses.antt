@@ -1,74 +1,48 @@
 -- Each wait of a mild connection over one path goes on or something is counted, so that all of both streams is there in the end.
-use Rattle.std.proofs.Common.{◌≡◌, refl, sym, subst, ap, ◌∙◌, ◌⊎◌, ⊎_elim, inl, inr, ℕ, zero, suc, ◌+◌, ◌-◌, ◌*◌, ◌^◌, ◌<◌, ◌≤◌, arith, Bool, true, false, List, [], ◌∷◌, ◌++◌, append_assoc, length}
+use Rattle.std.proofs.Common.{◌≡◌, refl, sym, subst, ap, ◌∙◌, ◌⊎◌, ⊎_elim, inl, inr, ℕ, zero, suc, ◌+◌, ◌*◌, ◌<◌, ◌≤◌, arith, Bool, true, false, List, [], ◌∷◌, ◌++◌, length}
 use Rattle.std.proofs.lemmas.Bool.{both_ways, cases_lt}
 use Rattle.std.proofs.lemmas.Option.{same_Some}
 use Rattle.sides.specs.declared.side.Side.{Side}
 use Rattle.sides.specs.declared.side.Side.TheVariants.{A, B}
 use Rattle.sides.specs.Side.{peer}
-use Rattle.link_model.specs.Steps.{segments_sent}
 use Rattle.send_book.specs.State.{acked_len}
 use Rattle.reassembly_book.specs.State.{received}
 use Rattle.path_core.specs.State.{end_at}
 use Rattle.path_core.specs.Values.{Carried, values}
-use Rattle.world_laws.specs.declared.outcome.Outcome.TheVariants.{Delivered}
 use Rattle.world_laws.specs.Actors.{ActorCrew}
 use Rattle.world_laws.specs.Members.{HoldsOfKind}
 use Rattle.world_laws.specs.Openings.{PathPlan, Start, opened_world}
-use Rattle.world_laws.specs.Outcomes.{outcome_of}
 use Rattle.world_laws.specs.Promises.{arrived_at, written_by}
 use Rattle.world_laws.specs.RoundDone.{reached}
 use Rattle.world_laws.specs.RoundNumbers.{BeginsRound}
-use Rattle.world_laws.specs.Worlds.{AreLawful, Turn, WorldState, all_over, world_run}
+use Rattle.world_laws.specs.Worlds.{Turn, WorldState, all_over, world_run}
 use Rattle.world_laws.proofs.Weaving.WholeRounds.{run_append}
 use Rattle.world_laws.proofs.Promises.Made.{keep_their_word}
 use Rattle.world_laws.proofs.Whole.Falls.{MemberUpright, PathUpright, each_upright}
 use Rattle.whole_paths.specs.AnswerWaits.{AnswersAreAwaited}
-use Rattle.whole_paths.specs.Courses.{Exchanges, counted, harmed_so_far, round_end}
+use Rattle.whole_paths.specs.Courses.{Exchanges, counted, round_end}
 use Rattle.whole_paths.specs.Delivery.{AllIsThere}
-use Rattle.whole_paths.specs.Finish.{IsPathAt, IsWhole, rounds_in}
+use Rattle.whole_paths.specs.Finish.{IsPathAt}
 use Rattle.whole_paths.specs.GoingOn.{IsAboutToGoOn, IsOpenHere, IsWaiting, steps_of}
 use Rattle.whole_paths.specs.GoingOn.IsAboutToGoOn.{this_round, next_round}
 use Rattle.whole_paths.specs.Harms.{longest_way}
 use Rattle.whole_paths.specs.Mild.{IsMildStart}
-use Rattle.whole_paths.specs.News.{most_news}
 use Rattle.whole_paths.specs.OpenAsks.IsUnanswered.{data_fin}
 use Rattle.whole_paths.specs.OpenCourses.{IsOpenAfter}
 use Rattle.whole_paths.specs.Outstanding.{HasOutstanding, WaitsForOne}
 use Rattle.whole_paths.specs.Outstanding.{WaitsForOne as waits}
 use Rattle.whole_paths.specs.RecordWaits.{LeavesRoom, Opens, RecordsAreAwaited, SentNoFin, Steps}
-use Rattle.whole_paths.specs.Rounds.{ticks_for}
 use Rattle.whole_paths.specs.Straying.{IsOpen}
-use Rattle.whole_paths.specs.WholeCourses.{IsAwaited, ShutWindowsOpen, WaysAreShort, WholePathsDeliverIfWindowsOpen}
+use Rattle.whole_paths.specs.WholeCourses.{IsAwaited, ShutWindowsOpen, WaysAreShort}
 use Rattle.whole_paths.specs.WholeCourses.IsAwaited.{turn, piece, answer, window}
 use Rattle.whole_paths.proofs.AnswerWaits.{answers_are_awaited_always}
-use Rattle.whole_paths.proofs.Courses.{counted_up, exchanges_end, harmed_append, round_next, round_step}
-use Rattle.whole_paths.proofs.Delivery.{what_is_there_is_delivered, what_is_there_stays}
+use Rattle.whole_paths.proofs.Courses.{counted_up, round_next, round_step}
+use Rattle.whole_paths.proofs.Delivery.{what_is_there_stays}
 use Rattle.whole_paths.proofs.GoingOn.{rounds_begin_to_go_on, rounds_go_on, steps_let_it_go_on}
-use Rattle.whole_paths.proofs.NewsBounds.{news_is_bounded}
-use Rattle.whole_paths.proofs.OpenCourses.{holds_along, parts}
 use Rattle.whole_paths.proofs.Outstanding.{what_is_outstanding_is_awaited}
 use Rattle.whole_paths.proofs.RecordWaits.{path_is, records_are_awaited_always}
 
 -- ---- rounds
-
--- turns, of which so many rounds are the last
-record LastRounds (late : ℕ) (more : List Turn) : Type 0 where
-  first : List Turn
-  rest : List Turn
-  is : more ≡ first ++ Turn.Round ∷ rest
-  early : rounds_in more ≡ rounds_in first + late
-  end : late ≡ suc (rounds_in rest)
-
-last_rounds : (late : ℕ) (more : List Turn) → 1 ≤ late → late ≤ rounds_in more → LastRounds late more
-last_rounds late [] some enough = absurd (omega (arith, some, enough))
-last_rounds late (Turn.Step actor ∷ more) some enough =
-    let h = last_rounds late more some enough in
-    record { first = Turn.Step actor ∷ h.first; rest = h.rest; is = ap (λ (ts : List Turn). Turn.Step actor ∷ ts) h.is; early = h.early; end = h.end }
-last_rounds late (Turn.Round ∷ more) some enough = ⊎_elim
-    (λ now. record { first = []; rest = more; is = refl; early = omega (arith, now, enough); end = omega (arith, now, enough) })
-    (λ later. (let h = last_rounds late more some later in
-    record { first = Turn.Round ∷ h.first; rest = h.rest; is = ap (λ (ts : List Turn). Turn.Round ∷ ts) h.is; early = (let early = h.early in omega (arith, early)); end = h.end }))
-    (cases_lt (rounds_in more) late)
 
 -- the round in which the connection is about to go on
 record Since (start : Start) (n : ℕ) (turns : List Turn) : Type 0 where
@@ -257,39 +231,3 @@ module _ (start : Start) (plan : PathPlan) (most way within : ℕ) (Waits : ℕ 
     due = λ n x v u step low h late. due_so v u step n x low h late;
     begins = begins_so;
   }
-
-  -- ---- the last three rounds
-
-  module _ (plain : start.checksums ≡ false) (before first rest : List Turn) (lawful : AreLawful values (first ++ Turn.Round ∷ rest) (at before)) (whole : IsWhole 0 (at before))
-      (last : IsWhole 0 (at (before ++ (first ++ Turn.Round ∷ rest)))) (few : (s : Side) → segments_sent s last.path.link < 2 ^ 64 - 1)
-      (low : harmed_so_far values start (before ++ (first ++ Turn.Round ∷ rest)) ≤ most) (enough : ticks_for (within + 300) (suc (most_news start + most)) < 100 * rounds_in first) (three : 3 ≡ suc (rounds_in rest)) where
-    split : AreLawful values first (at before) × AreLawful values (Turn.Round ∷ rest) (world_run values first (at before))
-    split = parts start most (within + 300) Over Awaits mild plain exchanges lasts before first rest lawful whole last few
-
-    same : (before ++ first) ++ Turn.Round ∷ rest ≡ before ++ (first ++ Turn.Round ∷ rest)
-    same = append_assoc before first (Turn.Round ∷ rest)
-
-    all_there : Over (before ++ first)
-    all_there =
-        let fewer = harmed_append values 0 (before ++ first) (Turn.Round ∷ rest) (opened_world start) in
-        let low_then : harmed_so_far values start ((before ++ first) ++ Turn.Round ∷ rest) ≤ most = subst (λ ts. harmed_so_far values start ts ≤ most) (sym same) low in
-        exchanges_end values start (IsOpenAfter start) most (within + 300) Over Awaits exchanges (λ turns. news_is_bounded start turns mild.plain mild.fit) before first split.0
-        (holds_along start most (within + 300) Over Awaits mild plain exchanges lasts before first rest lawful whole last few) (omega (arith, fewer, low_then)) enough
-
-    delivered : outcome_of (at (before ++ (first ++ Turn.Round ∷ rest))).crew ≡ Delivered
-    delivered = subst (λ ts. outcome_of (at ts).crew ≡ Delivered) same
-        (what_is_there_is_delivered start plan (before ++ first) (Turn.Round ∷ rest) one mild all_there
-        (subst (AreLawful values (Turn.Round ∷ rest)) (sym (run_append values before first (opened_world start))) split.1) (omega (arith, three)))
-
-pub whole_paths_deliver_if_windows_open : WholePathsDeliverIfWindowsOpen
-whole_paths_deliver_if_windows_open start plan most way within Waits one mild some plain short long windows before more lawful whole last few low enough =
-    let h = last_rounds 3 more (omega arith) (omega (arith, enough)) in
-    subst Ends (sym h.is)
-    (λ lawful last few low enough. delivered start plan most way within Waits one mild some short long windows plain before h.first h.rest lawful whole last few low
-    (let early = h.early in let count_is = ap rounds_in h.is in omega (arith, enough, early, count_is)) h.end)
-    lawful last few low enough
-  where
-    Ends : List Turn → Type 0
-    Ends turns = AreLawful values turns (reached values start before) → (last : IsWhole 0 (reached values start (before ++ turns))) → ((s : Side) → segments_sent s last.path.link < 2 ^ 64 - 1)
-        → harmed_so_far values start (before ++ turns) ≤ most → ticks_for (within + 300) (suc (most_news start + most)) + 300 < 100 * rounds_in turns
-        → outcome_of (reached values start (before ++ turns)).crew ≡ Delivered

@@ -102,8 +102,6 @@ module _ (start : Start) (plan : PathPlan) (one : start.paths ≡ plan ∷ []) (
           (cases_lt (end_at (peer s) p).tcp.send.nxt (end_at (peer s) q).tcp.send.nxt)
 
       strays : IsHardlyAwry s p q → Next
-      strays (hardly.missing t (inl is)) = absurd (after.unbroken t is)
-      strays (hardly.missing t (inr is)) = absurd (after.unreset t is)
       strays (hardly.past_window past) = absurd (let room = h.room in omega (arith, past, room))
 
       by_turn : IsHalted (books_in v.books) s q → (steps : List Note) → HardlyGoesAwry steps (Path p) (Path q)

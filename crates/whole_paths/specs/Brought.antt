@@ -123,7 +123,7 @@ module _ {C : Type 0} where
   -- what becomes of it, as the path becomes another one
   pub data StaysThere (s : Side) (pos octet : ℕ) (p q : PathState C) : Type 0 where
     on : IsThere s pos octet q → StaysThere s pos octet p q
-    -- the end is dead, or reset next: for reason 6 alone in a mild connection (Mild)
+    -- the end is dead, or reset next, as no end of path 0 of a mild connection is (Mild)
     gone : is_dead (end_at s q).tcp.state ≡ true → StaysThere s pos octet p q
     reset : IsToReset s q.agenda → StaysThere s pos octet p q
     -- RCV.NXT is past the peer's FIN, behind which no octet of the stream stands

@@ -44,7 +44,7 @@ module _ {C : Type 0} where
     on : IsInHand s position by q → HandGoesOn k s position by p q
     -- RCV.NXT is past it, and the answer that says so goes the way of each (`WhatIsOwedComes`); or the end sends a reset, or is dead
     answered : AnswerGoesOn k s position by p q → HandGoesOn k s position by p q
-    -- the end is reset next: for reason 6 alone in a mild connection (Mild)
+    -- the end is reset next, as no end of path 0 of a mild connection is (Mild)
     reset : IsToReset s q.agenda → HandGoesOn k s position by p q
     -- RCV.NXT is past the peer's FIN
     behind_fin : is_fin_passed (end_at s q).tcp ≡ true → HandGoesOn k s position by p q

@@ -65,8 +65,8 @@ pub mod Saying
 pub mod Sent
 pub mod SentByTurns
 pub mod Shut
+pub mod StayingWhole
 pub mod Straying
-pub mod ThereInTime
 pub mod Timers
 pub mod Unstopped
 pub mod Waits
@@ -83,3 +83,4 @@ pub mod Overruns
 pub mod LastFin
 pub mod ShutWindows
 pub mod WholeCourses
+pub mod Syns

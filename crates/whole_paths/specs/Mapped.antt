@@ -65,7 +65,7 @@ module _ {C : Type 0} where
   -- what becomes of it, as the path becomes another one
   pub data StaysMapped (s : Side) (pos : ℕ) (p q : PathState C) : Type 0 where
     on : IsMapped s pos q → StaysMapped s pos p q
-    -- the end is dead, or reset next, as where a mapping gives a position another place: for reason 6 alone in a mild connection (Mild)
+    -- the end is dead, or reset next, as where a mapping gives a position another place: never on path 0 of a mild connection (Mild)
     gone : is_dead (end_at s q).tcp.state ≡ true → StaysMapped s pos p q
     reset : IsToReset s q.agenda → StaysMapped s pos p q
     -- no mapping counts: the side fell back to plain TCP, or hasn't the peer's key, as no end of a mild connection once it may send a DSS

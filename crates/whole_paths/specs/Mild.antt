@@ -117,16 +117,16 @@ is_harsh _ = false
 module _ {C : Type 0} where
   -- No duty of path 0 is harsh: no end is to be reset for a reason, nor is it told that its peer closed at once. No mapping at RCV.NXT fails
   -- its check.
-  pub record BreaksForMissing (p : PathState C) : Type 0 where
+  pub record IsUnbroken (p : PathState C) : Type 0 where
     pub duties : list_any is_harsh p.agenda ≡ false
-    pub broken : (s : Side) (reason : ℕ) → p.agenda ≡ breaks s reason → reason ≡ 6
-    pub is_reset : (s : Side) (reason : ℕ) → p.agenda ≡ resets s reason → reason ≡ 6
+    pub broken : (s : Side) (reason : ℕ) → p.agenda ≡ breaks s reason → ⊥
+    pub is_reset : (s : Side) (reason : ℕ) → p.agenda ≡ resets s reason → ⊥
     pub stopped : (s : Side) → p.agenda ≡ stops s → ⊥
     pub fails : (s : Side) → FailsItsCheck s p → ⊥
 
-  abbrev pub IsHardlyBroken : PathState C → Type 0
-  IsHardlyBroken p = is_joined p.profile ≡ false → BreaksForMissing p
+  abbrev pub IsNeverBroken : PathState C → Type 0
+  IsNeverBroken p = is_joined p.profile ≡ false → IsUnbroken p
 
   -- path 0
-  pub record HardlyBreaks (w : WorldState C) : Type 0 where
-    pub each : (actor : ℕ) (c : ActorCrew C) → slice_get w.crew actor ≡ Some c → HoldsOfKind (λ app. Unit {0}) IsHardlyBroken c.member
+  pub record NeverBreaks (w : WorldState C) : Type 0 where
+    pub each : (actor : ℕ) (c : ActorCrew C) → slice_get w.crew actor ≡ Some c → HoldsOfKind (λ app. Unit {0}) IsNeverBroken c.member

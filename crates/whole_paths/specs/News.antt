@@ -83,11 +83,14 @@ module _ {C : Type 0} where
   abbrev pub NewsNeverFalls : Codec C → Type 0
   NewsNeverFalls k = (start : Start) (before more : List Turn) → let w = reached k start before in news start w ≤ news start (world_run k more w)
 
-  -- What counts: there is news at an end, or its RCV.NXT or SND.NXT rises, or it dies; or a line of the script is taken, or used by a segment.
+  -- What counts: there is news at an end, or its RCV.NXT or SND.NXT rises, or it goes further on the way from the opening on, may send a DSS, or
+  -- dies; or a line of the script is taken, or used by a segment.
   pub data Counts (p q : PathState C) : Type 0 where
     at_end : (s : Side) → IsNews (end_at s p) (end_at s q) → Counts p q
     in_order : (s : Side) → (end_at s p).tcp.recv.edge < (end_at s q).tcp.recv.edge → Counts p q
     sent_more : (s : Side) → (end_at s p).tcp.send.nxt < (end_at s q).tcp.send.nxt → Counts p q
+    further : (s : Side) → stage (end_at s p).tcp.state < stage (end_at s q).tcp.state → Counts p q
+    clears : (s : Side) → (end_at s p).modes.clear ≡ false → (end_at s q).modes.clear ≡ true → Counts p q
     dies : (s : Side) → is_dead (end_at s p).tcp.state ≡ false → is_dead (end_at s q).tcp.state ≡ true → Counts p q
     line : length q.lines < length p.lines → Counts p q
     harm : harms_left q.link < harms_left p.link → Counts p q

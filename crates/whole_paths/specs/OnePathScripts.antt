@@ -1,5 +1,5 @@
 -- Connections over one path by mild scripts: how they begin, how long a segment is under way, and what is said of them by how they begin.
-use Rattle.std.specs.Prelude.{ℕ, suc, ◌+◌, ◌-◌, ◌*◌, ◌/◌, ◌^◌, ◌≡◌, ◌<◌, ◌≤◌, false, Some, List, [], ◌∷◌, ◌++◌, length, slice_get}
+use Rattle.std.specs.Prelude.{ℕ, suc, ◌+◌, ◌-◌, ◌*◌, ◌/◌, ◌^◌, ◌≡◌, ◌<◌, ◌≤◌, ◌⊎◌, false, Some, List, [], ◌∷◌, ◌++◌, length, slice_get}
 use Rattle.sides.specs.declared.side.Side.{Side}
 use Rattle.sides.specs.declared.side.Side.TheVariants.{A, B}
 use Rattle.sides.specs.Side.{peer}
@@ -10,15 +10,16 @@ use Rattle.link_model.specs.Passage.{shape_of}
 use Rattle.link_model.specs.Steps.{lines_of}
 use Rattle.path_core.specs.Codec.{Codec}
 use Rattle.path_core.specs.State.{PathState}
-use Rattle.path_core.specs.Values.{Carried, values}
+use Rattle.path_core.specs.Values.{values}
 use Rattle.world_laws.specs.declared.outcome.Outcome.TheVariants.{Delivered}
 use Rattle.world_laws.specs.Actors.{ActorCrew}
 use Rattle.world_laws.specs.Members.{HoldsOfKind}
 use Rattle.world_laws.specs.Openings.{PathPlan, Start, opened_world, plan_of, start_of}
 use Rattle.world_laws.specs.Outcomes.{outcome_of}
 use Rattle.world_laws.specs.RoundDone.{reached}
-use Rattle.world_laws.specs.Worlds.{WorldState, Turn, AreLawful}
-use Rattle.whole_paths.specs.Finish.{IsMild, IsPathAt, IsWhole, Patience, UncheckedPathsDeliver, harmed, rounds_in}
+use Rattle.world_laws.specs.Worlds.{Turn, AreLawful}
+use Rattle.whole_paths.specs.Delivery.{AllIsThere}
+use Rattle.whole_paths.specs.Finish.{AnEndDied, IsEnough, IsMild, IsPathAt, IsUnchecked, IsWhole, Patience, harmed, opened, rounds_in, run_of}
 use Rattle.whole_paths.specs.Harms.{full_queue_waits, longest_way}
 use Rattle.whole_paths.specs.Mild.{IsMildStart}
 use Rattle.whole_paths.specs.News.{most_news}
@@ -62,22 +63,48 @@ OnlyWaysStay {C} k = (start : Start) (turns : List Turn) (plan : PathPlan) → s
 -- ---- what is said of a connection by how it begins
 
 -- Without checksums, in fewer than 2^64 - 1 turns: where path 0 is whole, and still is after rounds enough for all news that there can be and
--- each segment that is harmed, if each comes within so many ticks, it has come to this in so many more.
-abbrev pub ComesWithin : (WorldState Carried → Type 0) → ℕ → (Start → ℕ) → Type 0
-ComesWithin Goal rounds within = (start : Start) (plan : PathPlan) (before more : List Turn) (most : ℕ) → BeginsWithOnePath start plan → start.checksums ≡ false
+-- each segment that is harmed, if each comes within so many ticks, all of both streams is with the peers.
+abbrev pub AllIsThereWithin : (Start → ℕ) → Type 0
+AllIsThereWithin within = (start : Start) (plan : PathPlan) (before more : List Turn) (most : ℕ) → BeginsWithOnePath start plan → start.checksums ≡ false
     → AreLawful values more (reached values start before) → length (before ++ more) < 2 ^ 64 - 1 → IsWhole 0 (reached values start before)
     → IsWhole 0 (reached values start (before ++ more)) → harmed values 0 (before ++ more) (opened_world start) ≤ most
-    → ticks_for (within start) (suc (most_news start + most)) + 100 * suc rounds < 100 * rounds_in more → Goal (reached values start (before ++ more))
+    → ticks_for (within start) (suc (most_news start + most)) < 100 * rounds_in more → AllIsThere (reached values start (before ++ more))
 
--- both files are delivered
-abbrev pub DeliversWithin : ℕ → (Start → ℕ) → Type 0
-DeliversWithin = ComesWithin (λ w. outcome_of w.crew ≡ Delivered)
+-- after some of these turns an end of path 0 was dead, and not all of both streams was with the peers
+pub record AnEndDiedEarly {C : Type 0} (k : Codec C) (start : Start) (turns : List Turn) : Type 0 where
+  pub first : List Turn
+  pub rest : List Turn
+  pub is : turns ≡ first ++ rest
+  pub died : AnEndDied 0 (reached k start first)
+  pub missing : AllIsThere (reached k start first) → ⊥
 
--- so many rounds are enough for it
-abbrev pub rounds_within : ℕ → (Start → ℕ) → Patience
-rounds_within rounds within script path file_a file_b harms =
-    let start = start_of script file_a file_b in ticks_for (within start) (suc (most_news start + harms)) / 100 + rounds + 2
+-- three rounds later both files are delivered; or an end died early
+abbrev pub EndsWithin : (Start → ℕ) → Type 0
+EndsWithin within = (start : Start) (plan : PathPlan) (before more : List Turn) (most : ℕ) → BeginsWithOnePath start plan → start.checksums ≡ false
+    → AreLawful values more (reached values start before) → length (before ++ more) < 2 ^ 64 - 1 → IsWhole 0 (reached values start before)
+    → harmed values 0 (before ++ more) (opened_world start) ≤ most
+    → ticks_for (within start) (suc (most_news start + most)) + 300 < 100 * rounds_in more
+    → (outcome_of (reached values start (before ++ more)).crew ≡ Delivered) ⊎ AnEndDiedEarly values start (before ++ more)
 
--- what is said so holds of mild scripts of one path
-abbrev pub DeliversAsItBegins : {C : Type 0} → Codec C → Type 0
-DeliversAsItBegins k = (rounds : ℕ) (within : Start → ℕ) → DeliversWithin rounds within → UncheckedPathsDeliver k (rounds_within rounds within)
+abbrev pub WhatIsThereInTimeIsDelivered : Type 0
+WhatIsThereInTimeIsDelivered = (within : Start → ℕ) → AllIsThereWithin within → EndsWithin within
+
+-- ---- what is said of mild scripts of one path
+
+-- so many rounds are enough
+abbrev pub rounds_within : (Start → ℕ) → Patience
+rounds_within within script path file_a file_b harms =
+    let start = start_of script file_a file_b in ticks_for (within start) (suc (most_news start + harms)) / 100 + 4
+
+module _ {C : Type 0} (k : Codec C) where
+  -- Once the path is whole at the end of a round, both files are delivered when so many more have ended; or an end died early. It is said
+  -- without checksums.
+  abbrev pub UncheckedPathsEnd : Patience → Type 0
+  UncheckedPathsEnd enough = (script : Script) (path : PathLine) (file_a file_b : List ℕ) (before more : List Turn) → IsMild script path file_a file_b
+      → let turns = before ++ Turn.Round ∷ more in IsUnchecked script turns → AreLawful k turns (opened script file_a file_b)
+      → IsWhole 0 (run_of k script file_a file_b (before ++ Turn.Round ∷ [])) → IsEnough k enough script path file_a file_b turns (rounds_in more)
+      → (outcome_of (run_of k script file_a file_b turns).crew ≡ Delivered) ⊎ AnEndDiedEarly k (start_of script file_a file_b) turns
+
+  -- what is said of each start holds of such scripts
+  abbrev pub EndsAsItBegins : Type 0
+  EndsAsItBegins = (within : Start → ℕ) → EndsWithin within → UncheckedPathsEnd (rounds_within within)

@@ -11,4 +11,4 @@ news_within start = 60000 + way_there_and_back start.paths start.lines + 300
 -- Enough rounds for all news that there can be, and for each segment that is harmed. For each byte of a file there are eight pieces of news, and
 -- rounds enough for each; so this is far more than a run takes.
 abbrev pub long_patience : Patience
-long_patience = rounds_within 2 news_within
+long_patience = rounds_within news_within

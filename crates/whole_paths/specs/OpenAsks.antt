@@ -1,12 +1,11 @@
 -- What may come between in the exchange of an ask of a mild connection, where both ends of path 0 are open and may send a DSS.
-use Rattle.std.specs.Prelude.{ℕ, ◌+◌, ◌-◌, ◌^◌, ◌≡◌, ◌<◌, ◌≤◌, ◌⊎◌, Bool, true, false, Some, List, [], ◌∷◌, length, slice_get}
+use Rattle.std.specs.Prelude.{ℕ, ◌+◌, ◌-◌, ◌^◌, ◌≡◌, ◌<◌, ◌≤◌, Bool, true, false, Some, List, [], ◌∷◌, length, slice_get}
 use Rattle.sides.specs.declared.side.Side.{Side}
 use Rattle.sides.specs.Side.{peer}
 use Rattle.link_model.specs.Steps.{segments_sent}
 use Rattle.stream_lanes.specs.Words.{Has}
 use Rattle.actor_desk.specs.Books.{books_in}
 use Rattle.actor_desk.specs.Desk.{SixBooks, send_of}
-use Rattle.path_agenda.specs.Agenda.{breaks, resets}
 use Rattle.actor_desk.specs.declared.ask.Note.{Note}
 use Rattle.path_core.specs.Sending.{Sending}
 use Rattle.path_core.specs.State.{PathState, end_at}
@@ -41,8 +40,6 @@ pub data WaitsForAnswer (written : ℕ) (v : Sending) : Type 0 where
 
 -- of all that does this is left
 pub data IsHardlyAwry (s : Side) (p q : PathState Carried) : Type 0 where
-  -- an end is reset next, as a third copy came whose next byte has no mapping
-  missing : (t : Side) → (q.agenda ≡ breaks t 6) ⊎ (q.agenda ≡ resets t 6) → IsHardlyAwry s p q
   -- the peer sent more than the end's window has room for
   past_window : (end_at s p).tcp.recv.edge + 1048576 < (end_at (peer s) p).tcp.send.nxt → IsHardlyAwry s p q
 

@@ -3,7 +3,6 @@
 use Rattle.std.specs.Prelude.{ℕ, suc, ◌+◌, ◌-◌, ◌*◌, ◌^◌, ◌≡◌, ◌<◌, ◌≤◌, false, Some, List, [], ◌∷◌, ◌++◌, slice_get}
 use Rattle.sides.specs.declared.side.Side.{Side}
 use Rattle.link_model.specs.Steps.{segments_sent}
-use Rattle.path_agenda.specs.Agenda.{breaks, resets}
 use Rattle.path_core.specs.State.{PathState}
 use Rattle.path_core.specs.Values.{Carried, values}
 use Rattle.world_laws.specs.declared.member.Member.TheVariants.{Path}
@@ -21,14 +20,12 @@ use Rattle.whole_paths.specs.Straying.{IsOpen}
 
 -- ---- a moment
 
--- Both ends of path 0 are open, and neither is reset next. There are no checksums, no line takes options away or alters payload, and the link
+-- Both ends of path 0 are open. There are no checksums, no line takes options away or alters payload, and the link
 -- took fewer than 2^64 - 1 segments from each side.
 pub record IsOpenNow (w : WorldState Carried) : Type 0 where
   pub path : PathState Carried
   pub here : IsPathAt 0 w path
   pub is_open : IsOpen path
-  pub unbroken : (s : Side) → path.agenda ≡ breaks s 6 → ⊥
-  pub unreset : (s : Side) → path.agenda ≡ resets s 6 → ⊥
   pub faithful : IsFaithful path
   pub few : (s : Side) → segments_sent s path.link < 2 ^ 64 - 1
 
@@ -51,11 +48,11 @@ WhatHoldsUpCounts = (start : Start) (turns : List Turn) (turn : Turn) → let w 
 
 -- ---- the course
 
--- Where exchanges go on between open ends, and what is over stays so, it is over after lawful turns from where path 0 is whole to where it
--- still is, with rounds enough. It is said without checksums, and of fewer than 2^64 - 1 segments from each side.
+-- Where exchanges go on between open ends until something is over, it is over after lawful turns from where path 0 is whole to where it still
+-- is, with rounds enough. It is said without checksums, and of fewer than 2^64 - 1 segments from each side.
 abbrev pub OpenExchangesEnd : Type 1
 OpenExchangesEnd = (start : Start) (most within : ℕ) (Over : List Turn → Type 0) (Waits : ℕ → ℕ → List Turn → Type 0) → IsMildStart start → start.checksums ≡ false
-    → Exchanges values start (IsOpenAfter start) most within Over Waits → ((turns : List Turn) (turn : Turn) → Over turns → Over (turns ++ turn ∷ []))
+    → Exchanges values start (IsOpenAfter start) most within Over Waits
     → (before more : List Turn) → AreLawful values more (reached values start before) → IsWhole 0 (reached values start before)
     → (last : IsWhole 0 (reached values start (before ++ more))) → ((s : Side) → segments_sent s last.path.link < 2 ^ 64 - 1)
-    → harmed_so_far values start (before ++ more) ≤ most → ticks_for within (suc (most_news start + most)) + 100 < 100 * rounds_in more → Over (before ++ more)
+    → harmed_so_far values start (before ++ more) ≤ most → ticks_for within (suc (most_news start + most)) < 100 * rounds_in more → Over (before ++ more)

@@ -17,6 +17,7 @@ pub record IsAsFarAsOverValues (start : Start) (turns : List Turn) : Type 0 wher
   pub whole : (number : ℕ) → IsWhole number (reached octets start turns) ↔ IsWhole number (reached values start turns)
   pub died : (number : ℕ) → AnEndDied number (reached octets start turns) ↔ AnEndDied number (reached values start turns)
   pub harms : (number : ℕ) → harmed octets number turns (opened_world start) ≡ harmed values number turns (opened_world start)
+  pub books : (reached octets start turns).books ≡ (reached values start turns).books
   pub as_far : news start (reached octets start turns) ≡ news start (reached values start turns)
 
 -- where a full segment has room beside its options, and the numbers of the start fit

@@ -1,11 +1,10 @@
 -- What may come between in an exchange of a mild connection, where both ends of path 0 are open and may send a DSS.
-use Rattle.std.specs.Prelude.{ℕ, ◌+◌, ◌≡◌, ◌<◌, ◌≤◌, ◌⊎◌, true, false, Some, List, ◌++◌, slice_get}
+use Rattle.std.specs.Prelude.{ℕ, ◌+◌, ◌≡◌, ◌<◌, ◌≤◌, true, false, Some, List, ◌++◌, slice_get}
 use Rattle.sides.specs.declared.side.Side.{Side}
 use Rattle.sides.specs.Side.{peer}
 use Rattle.subflow_send.specs.Records.{Record}
 use Rattle.subflow_tcp.specs.State.{is_fin_passed}
 use Rattle.subflow_tcp.specs.States.{is_dead}
-use Rattle.path_agenda.specs.Agenda.{breaks, resets}
 use Rattle.path_core.specs.MpJoin.{is_joined}
 use Rattle.path_core.specs.State.{PathState, end_at}
 use Rattle.path_core.specs.Values.{Carried, values}
@@ -27,8 +26,6 @@ pub record IsOpen (p : PathState Carried) : Type 0 where
 
 -- of all that leads an exchange astray this is left
 pub data IsHardlyAstray (s : Side) (p q : PathState Carried) : Type 0 where
-  -- the peer is reset next, as a third copy came whose next byte has no mapping
-  missing : (q.agenda ≡ breaks (peer s) 6) ⊎ (q.agenda ≡ resets (peer s) 6) → IsHardlyAstray s p q
   -- the peer is past the end's FIN
   behind_fin : is_fin_passed (end_at (peer s) q).tcp ≡ true → IsHardlyAstray s p q
   -- the peer sent more than the end's window has room for

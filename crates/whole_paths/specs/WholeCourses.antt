@@ -1,28 +1,21 @@
--- How a mild connection over one path delivers both files while the path is whole, if windows that are shut open.
-use Rattle.std.specs.Prelude.{ℕ, suc, ◌+◌, ◌-◌, ◌*◌, ◌^◌, ◌≡◌, ◌<◌, ◌≤◌, ◌⊎◌, true, false, List, [], ◌∷◌, ◌++◌, length}
-use Rattle.sides.specs.declared.side.Side.{Side}
+-- What a mild connection over one path waits for while the path is whole.
+use Rattle.std.specs.Prelude.{ℕ, ◌+◌, ◌*◌, ◌≡◌, ◌<◌, ◌≤◌, ◌⊎◌, true, List, [], ◌++◌, length}
 use Rattle.sides.specs.declared.side.Side.TheVariants.{A, B}
-use Rattle.link_model.specs.Steps.{segments_sent}
 use Rattle.send_book.specs.State.{acked_len}
 use Rattle.subflow_tcp.specs.States.{may_finish}
 use Rattle.path_core.specs.State.{PathState, end_at}
 use Rattle.path_core.specs.Values.{Carried, values}
-use Rattle.world_laws.specs.declared.outcome.Outcome.TheVariants.{Delivered}
-use Rattle.world_laws.specs.Openings.{PathPlan, Start}
-use Rattle.world_laws.specs.Outcomes.{outcome_of}
+use Rattle.world_laws.specs.Openings.{Start}
 use Rattle.world_laws.specs.Promises.{written_by}
 use Rattle.world_laws.specs.RoundDone.{reached}
 use Rattle.world_laws.specs.RoundNumbers.{BeginsRound}
-use Rattle.world_laws.specs.Worlds.{AreLawful, Turn}
+use Rattle.world_laws.specs.Worlds.{Turn}
 use Rattle.whole_paths.specs.AnswerWaits.{AwaitsAnAnswer}
-use Rattle.whole_paths.specs.Courses.{counted, harmed_so_far, round_end}
-use Rattle.whole_paths.specs.Finish.{IsPathAt, IsWhole, rounds_in}
+use Rattle.whole_paths.specs.Courses.{counted, round_end}
+use Rattle.whole_paths.specs.Finish.{IsPathAt}
 use Rattle.whole_paths.specs.GoingOn.{IsAboutToGoOn, steps_of}
 use Rattle.whole_paths.specs.Harms.{longest_way}
-use Rattle.whole_paths.specs.Mild.{IsMildStart}
-use Rattle.whole_paths.specs.News.{most_news}
 use Rattle.whole_paths.specs.RecordWaits.{AwaitsARecord, LeavesRoom, Opens, SentNoFin, Steps}
-use Rattle.whole_paths.specs.Rounds.{ticks_for}
 
 -- An end of path 0 that may still send its FIN has no record, all bytes are acknowledged that it was granted, and the peer's window is shut, while
 -- bytes of its side aren't acknowledged; and the peer sent no more than the end's own window has room for.
@@ -56,22 +49,3 @@ pub data IsAwaited (start : Start) (within : ℕ) (Waits : ℕ → ℕ → List 
 -- over path 0 a segment goes for so long at most, there and back, at each moment
 abbrev pub WaysAreShort : Start → ℕ → Type 0
 WaysAreShort start way = (turns : List Turn) (p : PathState Carried) → IsPathAt 0 (reached values start turns) p → longest_way A p.link + longest_way B p.link ≤ way
-
--- Between two moments at which path 0 is whole, both files are delivered after rounds enough for all news that there can be and for each segment
--- that is harmed, in a mild connection over one path without checksums and with fewer than 2^64 - 1 segments from each side, if shut windows
--- open.
-abbrev pub WholePathsDeliverIfWindowsOpen : Type 1
-WholePathsDeliverIfWindowsOpen = (start : Start) (plan : PathPlan) (most way within : ℕ) (Waits : ℕ → ℕ → List Turn → Type 0) → start.paths ≡ plan ∷ [] → IsMildStart start → 1 ≤ start.buffer
-    → start.checksums ≡ false → WaysAreShort start way → 60000 + way ≤ within → ShutWindowsOpen start most way within Waits
-    → (before more : List Turn) → AreLawful values more (reached values start before) → IsWhole 0 (reached values start before)
-    → (last : IsWhole 0 (reached values start (before ++ more))) → ((s : Side) → segments_sent s last.path.link < 2 ^ 64 - 1)
-    → harmed_so_far values start (before ++ more) ≤ most → ticks_for (within + 300) (suc (most_news start + most)) + 300 < 100 * rounds_in more
-    → outcome_of (reached values start (before ++ more)).crew ≡ Delivered
-
--- so, as shut windows do open, where each side buffers 32 bytes at least
-abbrev pub WholePathsDeliverBoth : Type 0
-WholePathsDeliverBoth = (start : Start) (plan : PathPlan) (most way : ℕ) → start.paths ≡ plan ∷ [] → IsMildStart start → 32 ≤ start.buffer → start.checksums ≡ false → WaysAreShort start way
-    → (before more : List Turn) → AreLawful values more (reached values start before) → IsWhole 0 (reached values start before)
-    → (last : IsWhole 0 (reached values start (before ++ more))) → ((s : Side) → segments_sent s last.path.link < 2 ^ 64 - 1)
-    → harmed_so_far values start (before ++ more) ≤ most → ticks_for (60000 + way + 300) (suc (most_news start + most)) + 300 < 100 * rounds_in more
-    → outcome_of (reached values start (before ++ more)).crew ≡ Delivered

@@ -14,8 +14,8 @@ ghost use Rattle.whole_paths.specs.GoingOn.{RoundsBeginToGoOn, RoundsGoOn, Steps
 ghost use Rattle.whole_paths.specs.Halted.{WhoHaltsGoesOnHalting};
 ghost use Rattle.whole_paths.specs.Lanes.Laws.{LossyLanesEnd, LossyLanesFinish};
 ghost use Rattle.whole_paths.specs.LastFin.{FinsAreLast};
-ghost use Rattle.whole_paths.specs.Mild.{IsPromisedMildly, KeysAreKnown, LinksAreMild, MappingIsKept, MildScriptsStartMildly, HardlyBreaks};
-ghost use Rattle.whole_paths.specs.OnePathScripts.{DeliversAsItBegins, MildScriptsBeginWithOnePath, OnlyWaysStay, WaysStay};
+ghost use Rattle.whole_paths.specs.Mild.{IsPromisedMildly, KeysAreKnown, LinksAreMild, MappingIsKept, MildScriptsStartMildly, NeverBreaks};
+ghost use Rattle.whole_paths.specs.OnePathScripts.{EndsAsItBegins, MildScriptsBeginWithOnePath, OnlyWaysStay, UncheckedPathsEnd, WaysStay, WhatIsThereInTimeIsDelivered};
 ghost use Rattle.whole_paths.specs.OpenAsks.{OpenAsksAreInTime, OpenAsksGoOn, OpenEndsHardlyGoAwry};
 ghost use Rattle.whole_paths.specs.OnlyPaths.{long_patience};
 ghost use Rattle.whole_paths.specs.OverOctets.{FewLossesFinishAsOverValues, OctetsAreAsFarAsValues, OnePathEndsAsOverValues, UncheckedPathsDeliverAsOverValues, WholePathsDeliverAsOverValues};
@@ -25,105 +25,10 @@ ghost use Rattle.whole_paths.specs.Overruns.{NoEndOverruns};
 ghost use Rattle.whole_paths.specs.RecordWaits.{NoRoundCounts, RecordsAreAwaitedAlways};
 ghost use Rattle.whole_paths.specs.ShutWaits.{ShutWindowsOpenInTime};
 ghost use Rattle.whole_paths.specs.ShutWindows.{ShutWindowsHaveRoom};
+ghost use Rattle.whole_paths.specs.StayingWhole.{WholePathsStayWhole};
 ghost use Rattle.whole_paths.specs.Straying.{OpenEndsHardlyStray, WholePathsAreOpen};
-ghost use Rattle.whole_paths.specs.ThereInTime.{WhatIsThereInTimeIsDelivered};
 ghost use Rattle.whole_paths.specs.Unstopped.{MildPathsAreNeverStopped};
 ghost use Rattle.whole_paths.specs.WindowWaits.{WindowsAreAwaitedAlways};
-
-/// A law: over one path, as its turn is over, all of a stream is acknowledged whose end the path's end knows, where that may ask for bytes, waits
-/// for no Data ACK of bytes, and its peer's window isn't shut (RFC 8684, section 3.3.3).
-///
-/// So where its DATA_FIN isn't acknowledged it waits for that alone; the peer's side has received all (`both_sides_keep_their_word`), and wants
-/// the place behind it once the DATA_FIN is heard (`who_heard_the_end_knows_it`). Or the path was on standby when it asked for bytes last, or
-/// the connection was stopped.
-pub fn what_ended_is_acknowledged()
-    ensures octets { WhatEndedIsAcknowledged octets }
-    ensures values { WhatEndedIsAcknowledged values }
-{}
-
-/// A law: over one path, as its turn is over, an open end of which something is outstanding, but no record, waits for its peer's window, or for a
-/// Data ACK of what the peer's side received by then, where the connection is mild (RFC 8684, sections 3.3.2 and 3.3.3).
-///
-/// That is the Data ACK of a piece of bytes, all before whose end is received; or that of its DATA_FIN, where all of the stream is. So the peer
-/// answers what the end asks with the Data ACK that it waits for (`open_asks_are_answered`).
-pub fn what_is_awaited_is_there()
-    ensures { WhatIsAwaitedIsThere }
-{}
-
-/// A law: in a mild connection over one path, a side that halts at the edge of its peer's window does so by each turn, or bytes are granted to
-/// its path, or its end hears that more is acknowledged (RFC 9293, section 3.8.6.1).
-///
-/// So it is where the end knows that the window is shut, and the side has bytes left that aren't acknowledged, none of which the path tried. The
-/// send book refuses no bytes then but for the window.
-pub fn who_halts_goes_on_halting()
-    ensures { WhoHaltsGoesOnHalting }
-{}
-
-/// A law: between open ends of a mild connection over one path a wait for a window goes on by each turn until something is counted, and it is
-/// never late.
-///
-/// Of what leads the exchange awry nothing is left, where the peer sent no more than the end's window has room for; the edge counts as it
-/// rises. Its side halts all the while (`who_halts_goes_on_halting`). As a round begins, such a wait begins where a side halts whose end has no
-/// record, and the peer's book takes 32 bytes past the edge of its side's send book.
-pub fn windows_are_awaited_always()
-    ensures { WindowsAreAwaitedAlways }
-{}
-
-/// A law: where no line of a script speaks of a direction, each segment of a path that is harmed uses a line by which one is lost or late.
-///
-/// A segment is harmed that a link takes, and of which no copy is to come within 400 ticks. By whatever turns, as many are at most as the
-/// script has such lines for the path.
-pub fn harms_use_lines()
-    ensures { HarmsUseLines }
-{}
-
-/// A law: a connection over octets finishes as the same one over segments as values does.
-///
-/// After the same turns these are lawful of the one and of the other, as many segments were harmed, the outcome is one, the path is whole,
-/// or an end of it dead, in both, and both are equally far (`as_far`). What is shown of a connection over segments as values by a mild
-/// script of one path so holds over octets, in as many rounds: that a whole path delivers both files, also where it is said without
-/// checksums alone (`unchecked`), that both are delivered or an end dies, and that few losses end none.
-pub fn octets_finish_as_values_do()
-    ensures as_far { OctetsAreAsFarAsValues }
-    ensures deliver { WholePathsDeliverAsOverValues }
-    ensures unchecked { UncheckedPathsDeliverAsOverValues }
-    ensures end { OnePathEndsAsOverValues }
-    ensures finish { FewLossesFinishAsOverValues }
-{}
-
-/// A law: what is said of mild connections over one path by how they begin holds of each mild script of one path, over octets, too.
-///
-/// Each such script begins mildly, with one path, and each side buffers 4,096 octets at least (`starts`). If between two moments at which path 0 is
-/// whole both files are delivered after rounds enough for all news that there can be and each segment that is harmed, then so it is by these
-/// scripts, without checksums and in fewer than 2^64 - 1 turns, with so many rounds. Both are delivered three rounds after all of both streams
-/// is with the peers (`there`).
-pub fn mild_scripts_deliver_as_they_begin()
-    ensures starts { MildScriptsBeginWithOnePath }
-    ensures there { WhatIsThereInTimeIsDelivered }
-    ensures values { DeliversAsItBegins values }
-    ensures octets { DeliversAsItBegins octets }
-{}
-
-/// A law: on each path a segment from either side is under way as long at most as it was planned, always: for the delay, for the time of a full
-/// queue, and for the greatest jitter. Over an only path these are one time there and back, from either side (`only`).
-pub fn ways_stay()
-    ensures values { WaysStay values }
-    ensures octets { WaysStay octets }
-    ensures only { OnlyWaysStay values }
-    ensures only_octets { OnlyWaysStay octets }
-{}
-
-/// A law: over one path both files are delivered, once the path is whole at the end of a round and is still whole after enough more rounds,
-/// however much is lost, late or repeated.
-///
-/// A path is whole where at both ends both SYNs are acknowledged, neither end is dead, and both may send a DSS (RFC 8684, section 3.1). It is
-/// said of mild scripts, by which no option is taken away, no payload is altered and no side closes at once; without checksums, and of fewer
-/// than 2^64 - 1 turns. Enough rounds are so many that all is acknowledged of which there can be news, one after the other, each within a
-/// greatest timeout, the longest time there and back, and three rounds; and as many more for each segment that is harmed.
-pub fn whole_paths_deliver()
-    ensures octets { UncheckedPathsDeliver octets long_patience }
-    ensures values { UncheckedPathsDeliver values long_patience }
-{}
 
 /// A law: where no line takes options away, alters payload or lets a side close at once, both sides go by mappings of pieces, always.
 ///
@@ -154,46 +59,20 @@ pub fn mild_links_change_nothing()
 /// A law: there no end of path 0 is to be reset for a reason, always (RFC 8684, section 3.6), none is refused, and none hears that its peer
 /// closed at once. A byte at RCV.NXT that is kept has its mapping, no mapping gives a position another place, no book refuses what came, and
 /// no check fails.
-pub fn mild_scripts_hardly_break()
-    ensures values { IsPromisedMildly values (λ start w. HardlyBreaks w) }
-    ensures octets { IsPromisedMildly octets (λ start w. HardlyBreaks w) }
+pub fn mild_scripts_never_break()
+    ensures values { IsPromisedMildly values (λ start w. NeverBreaks w) }
+    ensures octets { IsPromisedMildly octets (λ start w. NeverBreaks w) }
 {}
 
-/// A law: over one path there no send book is aborted, or given to one path alone, no reassembly book is aborted, and no reader is told of an
-/// abort, always (RFC 8684, section 3.5). No application and no path asks for it.
+/// A law: in a mild connection over one path no send book is aborted, or given to one path alone, no reassembly book is aborted, and no reader
+/// is told of an abort, always (RFC 8684, section 3.5). No application and no path asks for it.
 pub fn mild_paths_are_never_stopped()
     ensures { MildPathsAreNeverStopped }
 {}
 
-/// A law: over one path there, whenever an end heard that its DATA_FIN is acknowledged, or sent its FIN and isn't dead: its side's stream is
-/// closed, and the peer's side received all of it and knows where it ends (RFC 8684, section 3.3.3).
-pub fn what_is_finished_is_there()
-    ensures { WhatIsFinishedIsThere }
-{}
-
-/// A law: over one path there, once all of both streams is with the peers, and they know where they end, both files are delivered after three
-/// more rounds, in whatever order the actors go, and stay so (`delivers`). Whatever is there stays there (`stays`).
-pub fn what_is_there_is_delivered()
-    ensures stays { WhatIsThereStays }
-    ensures delivers { WhatIsThereIsDelivered }
-{}
-
-/// A law: over one path there, where nothing is outstanding at an end, the connection goes on within two rounds, unless all of both streams
-/// is with the peers.
-///
-/// As a round begins all of both is there, or of a stream not all is (`begins`); steps leave that so (`steps`). As that round ends, or the next
-/// one, with both ends open: more is written or received, a stream was closed, or a side learned where its peer's ends, which counts
-/// (`each_gain_counts`); or something is outstanding at an end, and bytes aren't acknowledged, if that is a window; or all that was written as
-/// the first of the two rounds began is acknowledged, and in the second one more is written, or the stream is closed (`rounds`).
-pub fn who_waits_for_nothing_goes_on()
-    ensures begins { RoundsBeginToGoOn }
-    ensures steps { StepsLetItGoOn }
-    ensures rounds { RoundsGoOn }
-{}
-
-/// A law: there an exchange goes astray on path 0 by few things alone, where both ends are past the handshake, may send a DSS and aren't dead,
-/// before a turn and after it: a third copy whose next byte has no mapping, a FIN that an end is past, or a copy past the window. Neither end
-/// fell back, each knows its peer's key, neither treats the SYN/ACK, and none refuses a copy, or answers one by a reset.
+/// A law: in a mild connection an exchange goes astray on path 0 by two things alone, where both ends are past the handshake, may send a DSS and aren't dead,
+/// before a turn and after it: a FIN that an end is past, or more sent than the window has room for. Neither end is to be reset or fell back,
+/// each knows its peer's key, neither treats the SYN/ACK, and none refuses a copy, or answers one by a reset.
 ///
 /// Such are both ends of path 0 by each turn between two moments at which it is whole (`between`).
 pub fn open_ends_hardly_stray()
@@ -201,8 +80,8 @@ pub fn open_ends_hardly_stray()
     ensures between { WholePathsAreOpen }
 {}
 
-/// A law: there the exchange of an ask goes awry on path 0 by two things alone, where both ends are past the handshake, may send a DSS and
-/// aren't dead, before a turn and after it: a third copy whose next byte has no mapping, or a copy past the window.
+/// A law: in a mild connection the exchange of an ask goes awry on path 0 by one thing alone, where both ends are past the handshake, may send a DSS and
+/// aren't dead, before a turn and after it: more sent than the window has room for.
 ///
 /// No end owes a third MP_JOIN, nor has it MP_FASTCLOSE to be answered (RFC 8684, sections 3.2 and 3.5); an end that sent its DATA_FIN knows
 /// where its stream ends; and no book refuses a Data ACK.
@@ -210,43 +89,30 @@ pub fn open_ends_hardly_go_awry()
     ensures { OpenEndsHardlyGoAwry }
 {}
 
-/// A law: what such an end of the only path asks for, the Data ACK of its DATA_FIN or of a piece (`each_ask_is_answered`), goes on by each
-/// turn to be answered by the same tick, or something comes between that counts: more is heard or sent, the script harms a segment, or an end
-/// dies.
-///
-/// An open end without a record of which anything is outstanding waits for such an answer, or for the peer's window (`in_time`). Where a turn
-/// is over it asks for the answer, within a minute and the longest time there and back, and no round ends past that. That the peer wants the
-/// place where it sends is a premise; two things may lead it awry (`open_ends_hardly_go_awry`).
-pub fn open_asks_go_on()
-    ensures goes_on { OpenAsksGoOn }
-    ensures in_time { IsPromisedMildly values (λ start w. OpenAsksAreInTime w) }
+/// A law: the FIN of an end stands behind all else that the end sends: SND.NXT lies right behind it, where that is to be acknowledged, and where
+/// the peer heard of it (RFC 9293, section 3.10.4).
+pub fn fins_are_last()
+    ensures { HoldsAnyway FinsAreLast }
 {}
 
-/// A law: such an ask goes on to be answered, or something comes between that counts, where the bytes are received that it asks for.
-///
-/// The peer's reassembly book has all bytes before the place, but for that of the DATA_FIN, which the peer heard, or what the end asks brings
-/// it. So the peer wants the place as it answers (`who_heard_the_end_knows_it`), and nothing but received bytes is a premise any longer.
-pub fn open_asks_are_answered()
-    ensures { OpenAsksAreAnswered }
+/// A law: what an open end of path 0 waits for is data, but for its FIN: its first record that isn't acknowledged is one of octets, and SND.UNA
+/// lies before its end. Both SYNs were acknowledged before (RFC 9293, section 3.5).
+pub fn what_is_left_is_data()
+    ensures { WhatIsLeftIsData }
 {}
 
-/// A law: a wait for such an answer goes on between open ends of a mild connection over one path until the end is answered, or something is
-/// counted, and it is never late.
-///
-/// So it is while the peer sent no more than the end's window has room for: nothing leads the exchange awry then, between two moments at which
-/// path 0 is open. As a round begins, such a wait begins for an end without a record, for a minute and the longest time there and back.
-pub fn answers_are_awaited_always()
-    ensures { AnswersAreAwaitedAlways }
+/// A law: no end of path 0 sends more than its peer's window of 2^20 positions has room for, but its FIN, in a mild connection: SND.NXT lies 2^20
+/// positions past SND.UNA at most, and one more once the FIN is sent (RFC 5681, section 2).
+pub fn no_end_overruns()
+    ensures { NoEndOverruns }
 {}
 
-/// A law: an open end of path 0 of which something is outstanding as a round is over waits for a record to be acknowledged, for an answer, or
-/// for the peer's window to open; or something was counted in the round.
+/// A law: where no line of a script speaks of a direction, each segment of a path that is harmed uses a line by which one is lost or late.
 ///
-/// It waits for an answer where it has no record: for the Data ACK of a piece, which the peer's side received, or, with no piece left and the
-/// window not shut, for that of its DATA_FIN. All bytes before the DATA_FIN are received then, unless some were written in the round. So it is in a
-/// mild connection over one path.
-pub fn what_is_outstanding_is_awaited()
-    ensures { WhatIsOutstandingIsAwaited }
+/// A segment is harmed that a link takes, and of which no copy is to come within 400 ticks. By whatever turns, as many are at most as the
+/// script has such lines for the path.
+pub fn harms_use_lines()
+    ensures { HarmsUseLines }
 {}
 
 /// A law: what holds up an exchange between open ends is counted, as news or as a segment of path 0 that is harmed.
@@ -272,22 +138,52 @@ pub fn records_are_awaited_always()
     ensures { RecordsAreAwaitedAlways }
 {}
 
-/// A law: the FIN of an end stands behind all else that the end sends: SND.NXT lies right behind it, where that is to be acknowledged, and where
-/// the peer heard of it (RFC 9293, section 3.10.4).
-pub fn fins_are_last()
-    ensures { HoldsAnyway FinsAreLast }
+/// A law: what an open end of the only path of a mild connection asks for, the Data ACK of its DATA_FIN or of a piece (`each_ask_is_answered`), goes on by each
+/// turn to be answered by the same tick, or something comes between that counts: more is heard or sent, the script harms a segment, or an end
+/// dies.
+///
+/// An open end without a record of which anything is outstanding waits for such an answer, or for the peer's window (`in_time`). Where a turn
+/// is over it asks for the answer, within a minute and the longest time there and back, and no round ends past that. That the peer wants the
+/// place where it sends is a premise; one thing may lead it awry (`open_ends_hardly_go_awry`).
+pub fn open_asks_go_on()
+    ensures goes_on { OpenAsksGoOn }
+    ensures in_time { IsPromisedMildly values (λ start w. OpenAsksAreInTime w) }
 {}
 
-/// A law: what an open end of path 0 waits for is data, but for its FIN: its first record that isn't acknowledged is one of octets, and SND.UNA
-/// lies before its end. Both SYNs were acknowledged before (RFC 9293, section 3.5).
-pub fn what_is_left_is_data()
-    ensures { WhatIsLeftIsData }
+/// A law: such an ask goes on to be answered, or something comes between that counts, where the bytes are received that it asks for.
+///
+/// The peer's reassembly book has all bytes before the place, but for that of the DATA_FIN, which the peer heard, or what the end asks brings
+/// it. So the peer wants the place as it answers (`who_heard_the_end_knows_it`), and nothing but received bytes is a premise any longer.
+pub fn open_asks_are_answered()
+    ensures { OpenAsksAreAnswered }
 {}
 
-/// A law: no end of path 0 sends more than its peer's window of 2^20 positions has room for, but its FIN, in a mild connection: SND.NXT lies 2^20
-/// positions past SND.UNA at most, and one more once the FIN is sent (RFC 5681, section 2).
-pub fn no_end_overruns()
-    ensures { NoEndOverruns }
+/// A law: a wait for such an answer goes on between open ends of a mild connection over one path until the end is answered, or something is
+/// counted, and it is never late.
+///
+/// So it is while the peer sent no more than the end's window has room for: nothing leads the exchange awry then, between two moments at which
+/// path 0 is open. As a round begins, such a wait begins for an end without a record, for a minute and the longest time there and back.
+pub fn answers_are_awaited_always()
+    ensures { AnswersAreAwaitedAlways }
+{}
+
+/// A law: in a mild connection over one path, a side that halts at the edge of its peer's window does so by each turn, or bytes are granted to
+/// its path, or its end hears that more is acknowledged (RFC 9293, section 3.8.6.1).
+///
+/// So it is where the end knows that the window is shut, and the side has bytes left that aren't acknowledged, none of which the path tried. The
+/// send book refuses no bytes then but for the window.
+pub fn who_halts_goes_on_halting()
+    ensures { WhoHaltsGoesOnHalting }
+{}
+
+/// A law: between open ends of a mild connection over one path a wait for a window goes on by each turn until something is counted, and it is
+/// never late.
+///
+/// Of what leads the exchange awry nothing is left, where the peer sent no more than the end's window has room for; the edge counts as it
+/// rises. Its side halts all the while (`who_halts_goes_on_halting`). As a round begins, such a wait begins where a side halts whose end has no
+/// record, and the peer's book takes 32 bytes past the edge of its side's send book.
+pub fn windows_are_awaited_always()
+    ensures { WindowsAreAwaitedAlways }
 {}
 
 /// A law: a window that is shut opens as soon as the peer says so: as a round is over, bytes are left and the peer's book takes 32 bytes past
@@ -307,9 +203,124 @@ pub fn shut_windows_open_in_time()
     ensures { ShutWindowsOpenInTime }
 {}
 
+/// A law: over one path, as its turn is over, all of a stream is acknowledged whose end the path's end knows, where that may ask for bytes, waits
+/// for no Data ACK of bytes, and its peer's window isn't shut (RFC 8684, section 3.3.3).
+///
+/// So where its DATA_FIN isn't acknowledged it waits for that alone; the peer's side has received all (`both_sides_keep_their_word`), and wants
+/// the place behind it once the DATA_FIN is heard (`who_heard_the_end_knows_it`). Or the path was on standby when it asked for bytes last, or
+/// the connection was stopped.
+pub fn what_ended_is_acknowledged()
+    ensures octets { WhatEndedIsAcknowledged octets }
+    ensures values { WhatEndedIsAcknowledged values }
+{}
+
+/// A law: over one path, as its turn is over, an open end of which something is outstanding, but no record, waits for its peer's window, or for a
+/// Data ACK of what the peer's side received by then, where the connection is mild (RFC 8684, sections 3.3.2 and 3.3.3).
+///
+/// That is the Data ACK of a piece of bytes, all before whose end is received; or that of its DATA_FIN, where all of the stream is. So the peer
+/// answers what the end asks with the Data ACK that it waits for (`open_asks_are_answered`).
+pub fn what_is_awaited_is_there()
+    ensures { WhatIsAwaitedIsThere }
+{}
+
+/// A law: an open end of path 0 of which something is outstanding as a round is over waits for a record to be acknowledged, for an answer, or
+/// for the peer's window to open; or something was counted in the round.
+///
+/// It waits for an answer where it has no record: for the Data ACK of a piece, which the peer's side received, or, with no piece left and the
+/// window not shut, for that of its DATA_FIN. All bytes before the DATA_FIN are received then, unless some were written in the round. So it is in a
+/// mild connection over one path.
+pub fn what_is_outstanding_is_awaited()
+    ensures { WhatIsOutstandingIsAwaited }
+{}
+
+/// A law: in a mild connection over one path, where nothing is outstanding at an end, it goes on within two rounds, unless all of both
+/// streams is with the peers.
+///
+/// As a round begins all of both is there, or of a stream not all is (`begins`); steps leave that so (`steps`). As that round ends, or the next
+/// one, with both ends open: more is written or received, a stream was closed, or a side learned where its peer's ends, which counts
+/// (`each_gain_counts`); or something is outstanding at an end, and bytes aren't acknowledged, if that is a window; or all that was written as
+/// the first of the two rounds began is acknowledged, and in the second one more is written, or the stream is closed (`rounds`).
+pub fn who_waits_for_nothing_goes_on()
+    ensures begins { RoundsBeginToGoOn }
+    ensures steps { StepsLetItGoOn }
+    ensures rounds { RoundsGoOn }
+{}
+
+/// A law: in a mild connection over one path, whenever an end heard that its DATA_FIN is acknowledged, or sent its FIN and isn't dead, its
+/// side's stream is closed, and the peer's side received all of it and knows where it ends (RFC 8684, section 3.3.3).
+pub fn what_is_finished_is_there()
+    ensures { WhatIsFinishedIsThere }
+{}
+
+/// A law: in a mild connection over one path, once all of both streams is with the peers, and they know where they end, both files are
+/// delivered after three more rounds, in whatever order the actors go, and stay so (`delivers`). Whatever is there stays there (`stays`).
+pub fn what_is_there_is_delivered()
+    ensures stays { WhatIsThereStays }
+    ensures delivers { WhatIsThereIsDelivered }
+{}
+
 /// A law: who is told the end has all, in a mild connection: once both readers were, both files are delivered.
 pub fn who_is_told_has_all()
     ensures { WhoIsToldHasAll }
+{}
+
+/// A law: on each path a segment from either side is under way as long at most as it was planned, always: for the delay, for the time of a full
+/// queue, and for the greatest jitter. Over an only path these are one time there and back, from either side (`only`).
+pub fn ways_stay()
+    ensures values { WaysStay values }
+    ensures octets { WaysStay octets }
+    ensures only { OnlyWaysStay values }
+    ensures only_octets { OnlyWaysStay octets }
+{}
+
+/// A law: by whatever turns, a path that was whole is whole still, or one of its ends is dead (RFC 9293, section 3.3.2).
+///
+/// A path is whole where at both ends both SYNs are acknowledged, neither is dead, and both may send a DSS. An end stays in LAST-ACK or
+/// TIME-WAIT.
+pub fn whole_paths_stay_whole()
+    ensures octets { WholePathsStayWhole octets }
+    ensures values { WholePathsStayWhole values }
+{}
+
+/// A law: a connection over octets finishes as the same one over segments as values does.
+///
+/// After the same turns these are lawful of the one and of the other, as many segments were harmed, the outcome is one, the path is whole,
+/// or an end of it dead, in both, and both are equally far (`as_far`). What is shown of a connection over segments as values by a mild
+/// script of one path so holds over octets, in as many rounds: that a whole path delivers both files, also where it is said without
+/// checksums alone (`unchecked`), that both are delivered or an end dies, and that few losses end none.
+pub fn octets_finish_as_values_do()
+    ensures as_far { OctetsAreAsFarAsValues }
+    ensures deliver { WholePathsDeliverAsOverValues }
+    ensures unchecked { UncheckedPathsDeliverAsOverValues }
+    ensures end { OnePathEndsAsOverValues }
+    ensures finish { FewLossesFinishAsOverValues }
+{}
+
+/// A law: what is said of mild connections over one path by how they begin holds of each mild script of one path, over octets, too.
+///
+/// Each such script begins mildly, with one path, and each side buffers 4,096 octets at least (`starts`). If between two moments at which path 0
+/// is whole all of both streams comes to the peers in time, then both files are delivered three rounds later, or an end died early (`there`).
+/// So it is then by these scripts, without checksums and in fewer than 2^64 - 1 turns.
+pub fn mild_scripts_end_as_they_begin()
+    ensures starts { MildScriptsBeginWithOnePath }
+    ensures there { WhatIsThereInTimeIsDelivered }
+    ensures values { EndsAsItBegins values }
+    ensures octets { EndsAsItBegins octets }
+{}
+
+/// A law: over one path both files are delivered, once the path was whole at the end of a round and enough more rounds have ended, unless an
+/// end dies before all of both streams is with the peers; however much is lost, late or repeated.
+///
+/// A path is whole where at both ends both SYNs are acknowledged, neither end is dead, and both may send a DSS (RFC 8684, section 3.1). If it
+/// is still whole after those rounds, no end died, and both files are delivered (`octets`, `values`). It is said of mild scripts, by which no
+/// option is taken away, no payload is altered and no side closes at once; without checksums, and of fewer than 2^64 - 1 turns. Enough
+/// rounds are so many that all is acknowledged of which there can be news, one after the other, each within a greatest timeout, the longest
+/// time there and back, and three rounds; and as many more for each segment that is harmed.
+pub fn whole_paths_deliver()
+    ensures ends_octets { UncheckedPathsEnd octets long_patience }
+    ensures ends_values { UncheckedPathsEnd values long_patience }
+    ensures octets { UncheckedPathsDeliver octets long_patience }
+    ensures values { UncheckedPathsDeliver values long_patience }
 {}
 
 /// A law: on a lane that loses segments all is acknowledged, or the end gave up, after five rounds or so for each segment and two

@@ -56,6 +56,7 @@ ghost use Rattle.whole_paths.specs.Saying.{EachSegmentSaysWhatCame};
 ghost use Rattle.whole_paths.specs.Sent.{WhatCameWasSent};
 ghost use Rattle.whole_paths.specs.SentByTurns.{EachTurnSendsOneAtMost};
 ghost use Rattle.whole_paths.specs.Shut.{WhatIsLeftIsPastTheEdge};
+ghost use Rattle.whole_paths.specs.Syns.{EachSynComes};
 ghost use Rattle.whole_paths.specs.Timers.{TimersRunOut};
 ghost use Rattle.whole_paths.specs.Waits.{NoTimerIsPutOff};
 ghost use Rattle.whole_paths.specs.WindowsHeard.{EachWindowCounts};
@@ -626,4 +627,13 @@ pub fn a_copy_leaves_by_arriving()
 pub fn copies_arrive_as_sent()
     ensures octets { Always octets (λ start w. CopiesArriveAsSent w) }
     ensures values { Always values (λ start w. CopiesArriveAsSent w) }
+{}
+
+/// A law: the SYN of A on path 0 comes to B while that listens, and the SYN/ACK of B to A while A waits for it, whatever is lost: an end goes
+/// further then (RFC 9293, section 3.5).
+///
+/// Where a turn is over a copy of it comes within a minute and the longest time on its way (`begin`, `end`). By each turn that stays so, or an end
+/// is further, or the exchange is held up by what counts (`goes_on`).
+pub fn each_syn_comes()
+    ensures { EachSynComes }
 {}

@@ -15,6 +15,8 @@
 //! (`news_is_bounded`), and rises with all news (`each_news_counts`). Where an end waits for no Data ACK, all that its path was granted is
 //! acknowledged (`what_was_granted_is_acknowledged`). An open end with nothing outstanding may ask for bytes (`who_is_done_may_ask`), and over
 //! one path all is acknowledged then that was written as the round began (`what_was_written_is_acknowledged`).
+//!
+//! Over one path that stays whole, or whose ends don't die early, all this ends: both files are delivered (`whole_paths_deliver`).
 #![tactic(auto)]
 
 mod delivery_laws;
@@ -22,15 +24,15 @@ mod laws;
 
 pub use delivery_laws::{
     answers_are_awaited_always, fins_are_last, harms_use_lines, lossy_lanes_finish,
-    mild_links_change_nothing, mild_paths_are_never_stopped, mild_scripts_deliver_as_they_begin,
-    mild_scripts_hardly_break, mild_scripts_keep_mapping, mild_scripts_tell_keys, no_end_overruns,
+    mild_links_change_nothing, mild_paths_are_never_stopped, mild_scripts_end_as_they_begin,
+    mild_scripts_keep_mapping, mild_scripts_never_break, mild_scripts_tell_keys, no_end_overruns,
     no_round_counts, octets_finish_as_values_do, open_asks_are_answered, open_asks_go_on,
     open_ends_hardly_go_awry, open_ends_hardly_stray, records_are_awaited_always,
     shut_windows_have_room, shut_windows_open_in_time, ways_stay, what_ended_is_acknowledged,
     what_holds_up_counts, what_is_awaited_is_there, what_is_finished_is_there,
     what_is_left_is_data, what_is_outstanding_is_awaited, what_is_there_is_delivered,
     who_halts_goes_on_halting, who_is_told_has_all, who_waits_for_nothing_goes_on,
-    whole_paths_deliver, windows_are_awaited_always,
+    whole_paths_deliver, whole_paths_stay_whole, windows_are_awaited_always,
 };
 pub use laws::{
     a_copy_leaves_by_arriving, copies_arrive_as_sent, each_acknowledgement_counts,
@@ -39,14 +41,14 @@ pub use laws::{
     each_gain_counts, each_handshake_counts, each_news_counts, each_piece_comes_in_order,
     each_probe_is_answered, each_record_is_acknowledged, each_segment_has_a_data_ack,
     each_segment_says_what_came, each_segment_shows_keys, each_segment_uses_a_line_or_comes,
-    each_turn_sends_one_at_most, each_window_comes, each_window_counts, ends_are_known,
-    ends_are_sent, news_is_bounded, news_never_falls, no_timer_is_put_off, nothing_goes_back,
-    nothing_is_overdue, timers_run_on, timers_run_out, what_came_was_sent, what_comes_is_kept,
-    what_is_acknowledged_came, what_is_asked_comes, what_is_in_hand_is_acknowledged,
-    what_is_in_order_is_passed, what_is_left_is_past_the_edge, what_is_owed_comes,
-    what_is_owed_has_a_data_ack, what_is_passed_is_received, what_is_taken_is_offered,
-    what_is_told_is_known, what_runs_out_goes_again, what_waits_comes, what_waits_is_kept,
-    what_wants_an_answer_is_owed_one, what_was_granted_is_acknowledged,
+    each_syn_comes, each_turn_sends_one_at_most, each_window_comes, each_window_counts,
+    ends_are_known, ends_are_sent, news_is_bounded, news_never_falls, no_timer_is_put_off,
+    nothing_goes_back, nothing_is_overdue, timers_run_on, timers_run_out, what_came_was_sent,
+    what_comes_is_kept, what_is_acknowledged_came, what_is_asked_comes,
+    what_is_in_hand_is_acknowledged, what_is_in_order_is_passed, what_is_left_is_past_the_edge,
+    what_is_owed_comes, what_is_owed_has_a_data_ack, what_is_passed_is_received,
+    what_is_taken_is_offered, what_is_told_is_known, what_runs_out_goes_again, what_waits_comes,
+    what_waits_is_kept, what_wants_an_answer_is_owed_one, what_was_granted_is_acknowledged,
     what_was_written_is_acknowledged, who_heard_the_end_knows_it, who_is_done_may_ask,
     who_waits_has_a_timer, writers_go_on,
 };

@@ -6,3 +6,9 @@ returns-clause-octets c = only_paths.whole_paths_deliver_in_octets
 
 pub returns-clause-values : goal.returns-clause-values
 returns-clause-values c = only_paths.whole_paths_deliver
+
+pub returns-clause-ends_octets : goal.returns-clause-ends_octets
+returns-clause-ends_octets c = only_paths.paths_end_in_octets
+
+pub returns-clause-ends_values : goal.returns-clause-ends_values
+returns-clause-ends_values c = only_paths.paths_end

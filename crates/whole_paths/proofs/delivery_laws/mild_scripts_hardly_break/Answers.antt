@@ -1,8 +1,0 @@
-use Rattle.whole_paths.proofs.Breaking as breaking
-use Rattle.whole_paths.proofs.delivery_laws.mild_scripts_hardly_break.Goals as goal
-
-pub returns-clause-values : goal.returns-clause-values
-returns-clause-values c = breaking.hardly_breaks
-
-pub returns-clause-octets : goal.returns-clause-octets
-returns-clause-octets c = breaking.hardly_breaks_in_octets
